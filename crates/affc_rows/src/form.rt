@@ -109,25 +109,22 @@ fn column_sum(coefs: &[i128], images: &[Form], column: usize) -> Result<i128, Ra
     Ok(total.value)
 }
 
-/// The products of the coefficients with the images' constants, and the form's own constant.
-fn constant_sum(form: &Form, images: &[Form]) -> Result<i128, Range>
-    requires { length images.now ≡ length form.now.coefs }
-    ensures value { IfOk result (λ v. v ≡ dot form.now.coefs (constants_of images.now) +ℤ form.now.constant) }
-    ensures fits { OnOk result (dot_magnitude form.now.coefs (constants_of images.now) + unsigned_abs form.now.constant ≤ 2 ^ 126) }
-    ensures range { OnErr result (2 ^ 126 < dot_magnitude form.now.coefs (constants_of images.now) + unsigned_abs form.now.constant) }
+/// The products of the coefficients with the images' constants.
+fn constant_sum(coefs: &[i128], images: &[Form]) -> Result<Total, Range>
+    requires { length images.now ≡ length coefs.now }
+    ensures value { IfOk result (λ t. t.value ≡ dot coefs.now (constants_of images.now)) }
+    ensures magnitude { IfOk result (λ t. t.magnitude ≡ dot_magnitude coefs.now (constants_of images.now)) }
+    ensures range { OnErr result (2 ^ 126 < dot_magnitude coefs.now (constants_of images.now)) }
 {
     let mut total = Total::zero();
-    for (i, c) in form.coefs.as_slice().iter().enumerate() {
+    for (i, c) in coefs.iter().enumerate() {
         let image = &images[i];
         let Ok(next) = total.add(*c, image.constant) else {
             return Err(Range);
         };
         total = next;
     }
-    let Ok(total) = total.add(form.constant, 1) else {
-        return Err(Range);
-    };
-    Ok(total.value)
+    Ok(total)
 }
 
 /// The coefficients of a composition over so many columns.
@@ -196,7 +193,10 @@ impl Form {
         ensures fits { OnOk result (AllFit (composed_form_magnitudes self.now images.now)) }
         ensures range { IfErr result (λ e. e ≡ FormFault.Range → TooWide (composed_form_magnitudes self.now images.now)) }
     {
-        let Ok(constant) = constant_sum(self, images) else {
+        let Ok(sum) = constant_sum(self.coefs.as_slice(), images) else {
+            return Err(FormFault::Range);
+        };
+        let Ok(sum) = sum.add(self.constant, 1) else {
             return Err(FormFault::Range);
         };
         let columns = match images.first() {
@@ -204,6 +204,9 @@ impl Form {
             None => 0,
         };
         let coefs = composed_coefs(alloc, self.coefs.as_slice(), images, columns)?;
-        Ok(Form { coefs, constant })
+        Ok(Form {
+            coefs,
+            constant: sum.value,
+        })
     }
 }

@@ -3,7 +3,7 @@ use Rattle.std.specs.Prelude.{unsigned_abs, FitsSigned}
 use Rattle.std.specs.Int.{w128}
 use Rattle.std.proofs.lemmas.Int.{ints, to_z-of_z, fits_signed_from_abs}
 use Rattle.affc_rows.specs.Forms.{entry_magnitude}
-use Rattle.affc_rows.proofs.FormLemmas.{mixed-drop, mixed_magnitudes-drop, made_step, wide_forth, wide_back}
+use Rattle.affc_rows.proofs.FormLemmas.{mixed-drop, mixed_magnitudes-drop, made_step, fit_back, wide_back}
 use Rattle.affc_rows.proofs.form.mixed_coefs.Goals as goal
 
 pub loop-i-preserved : goal.loop-i-preserved
@@ -22,6 +22,6 @@ loop-i-preserved c =
     let entry_is = pushed ∙ ap (λ z. c.loop-i.coefs.items ++ z ∷ []) v in
     simp to_z-of_z (record {
       made = made_step _ _ _ _ _ _ entry_is d inv.made;
-      forth = λ w. wide_forth _ _ _ e fit (inv.forth w);
-      back = λ w. inv.back (wide_back _ _ _ e w);
+      fits = λ r. inv.fits (fit_back _ _ _ e fit r);
+      wide = λ w. inv.wide (wide_back _ _ _ e w);
     })
