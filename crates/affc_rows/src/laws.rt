@@ -6,12 +6,10 @@ ghost use Rattle.affc_rows.specs.Forms.{Affine, value, mixed_form, HaveColumns, 
 pub fn value_of_mixture()
     ensures { (s : ℤ) (f : Affine) (t : ℤ) (g : Affine) (x : List ℤ) → length f.coefs ≡ length g.coefs → length f.coefs ≡ length x
         → value (mixed_form s f t g) x ≡ (s *ℤ value f x) +ℤ (t *ℤ value g x) }
-{
-}
+{}
 
 /// The value of a composition is the form's value at the values of the images.
 pub fn value_of_composition()
     ensures { (f : Affine) (images : List Affine) (x : List ℤ) → length images ≡ length f.coefs → HaveColumns (length x) images
         → (length x ≡ columns_of images) → value (composed_form f images) x ≡ value f (values_of images x) }
-{
-}
+{}

@@ -1,8 +1,7 @@
-use Rattle.std.proofs.Common.{arith, rules, ◌≡◌, ◌≤◌, ◌^◌, ◌+ℤ◌, ◌*ℤ◌, ◌+◌, ◌*◌, ◌∙◌, get_or, drop, pos, ap, ◌++◌, ◌∷◌, []}
-use Rattle.std.specs.Prelude.{unsigned_abs, FitsSigned}
+use Rattle.std.proofs.Common.{arith, rules, ◌∙◌, get_or, pos, ap, ◌++◌, ◌∷◌, []}
+use Rattle.std.specs.Prelude.{FitsSigned}
 use Rattle.std.specs.Int.{w128}
-use Rattle.std.proofs.lemmas.Int.{ints, to_z-of_z, fits_signed_from_abs}
-use Rattle.affc_rows.specs.Forms.{entry_magnitude}
+use Rattle.std.proofs.lemmas.Int.{to_z-of_z}
 use Rattle.affc_rows.proofs.FormLemmas.{mixed-drop, mixed_magnitudes-drop, made_step, fit_back, wide_back}
 use Rattle.affc_rows.proofs.form.mixed_coefs.Goals as goal
 
