@@ -134,12 +134,10 @@ pushed slice files new name bytes n v s e none named is = record {
 }
 
 -- what the first file with the name says of a look-up
-pub found_at : (slice files : List NamedFile) (i : ℕ) (name : List ℕ) (file : NamedFile) (bytes : List ℕ)
-    → slice ≡ files → IsFirst slice i name → file ≡ get_or files i file → bytes ≡ file.1.items → held_in files name ≡ Some bytes
-found_at slice files i name file bytes s first is e =
-    let P : List NamedFile → Type 0 = λ x. IsFirst x i name in
-    let f = subst P s first in
-    first-held files i name file f.placed f.before (f.named file) ∙ ap (λ x. Some x.1.items) (sym is) ∙ ap Some (sym e)
+pub found_at : (files : List NamedFile) (i : ℕ) (name : List ℕ) (file : NamedFile) (bytes : List ℕ)
+    → IsFirst files i name → bytes ≡ (get_or files i file).1.items → held_in files name ≡ Some bytes
+found_at files i name file bytes first e =
+    first-held files i name file first.placed first.before (first.named file) ∙ ap Some (sym e)
 
 -- a copy of what is held is what is held
 pub copied_holds : {E : Type 0} (r : Result (Vec ℕ Global) E) (files : List NamedFile) (name bytes : List ℕ) (n : ℕ)

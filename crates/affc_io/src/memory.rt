@@ -1,9 +1,9 @@
 // A folder and two sinks in memory, which tell all that they hold.
-ghost use Rattle.std.specs.Prelude.{◌≡◌, ◌≢◌, ◌<◌, ◌≤◌, [], Some, IfOk, IfErr, IsErrOf, length};
+ghost use Rattle.std.specs.Prelude.{◌≡◌, [], Some};
 ghost use Rattle.affc_io.specs.Memory.{held_in};
 
-use crate::files::{NamedFile, empty, position, store};
-use crate::{Folder, LONGEST_READ, ReadFault, Sink, SinkFault, WriteFault};
+use crate::files::{NamedFile, empty, fetch, store};
+use crate::{Folder, ReadFault, Sink, SinkFault, WriteFault};
 use std::alloc::Global;
 
 /// Files in memory. The calls whose numbers are listed fail, from 0.
@@ -57,14 +57,11 @@ impl Folder for MemFolder {
             self.faults = self.faults.saturating_add(1);
             return Err(ReadFault::Failed);
         }
-        let Some(i) = position(&self.files, name) else {
-            return Err(ReadFault::Missing);
-        };
-        let bytes = copied(alloc, &self.files[i].1);
-        if let Err(ReadFault::Memory) = bytes {
+        let answer = fetch(&self.files, alloc, name);
+        if let Err(ReadFault::Memory) = answer {
             self.shortages = self.shortages.saturating_add(1);
         }
-        bytes
+        answer
     }
 
     fn write(&mut self, name: &str, bytes: &[u8]) -> Result<(), WriteFault> {
@@ -79,18 +76,6 @@ impl Folder for MemFolder {
         }
         Ok(())
     }
-}
-
-// A copy, where it isn't too long for a read.
-fn copied(alloc: Global, bytes: &[u8]) -> Result<Vec<u8>, ReadFault>
-    ensures ok { IfOk result (λ copy. (copy.items ≡ bytes.now) × (length bytes.now ≤ LONGEST_READ)) }
-    ensures long { IsErrOf result ReadFault.Long → LONGEST_READ < length bytes.now }
-    ensures others { IfErr result (λ fault. (fault ≢ ReadFault.Missing) × (fault ≢ ReadFault.Failed)) }
-{
-    if bytes.len() > LONGEST_READ {
-        return Err(ReadFault::Long);
-    }
-    Vec::from_slice(alloc, bytes).map_err(|_| ReadFault::Memory)
 }
 
 /// Takes at most `first` bytes in its first write, then any number. The calls whose numbers are listed fail, from 0.
