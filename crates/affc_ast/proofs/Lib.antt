@@ -3,5 +3,7 @@ pub mod ExampleProofs
 pub mod Stores
 pub mod CopyRuns
 pub mod CopyLaw
+pub mod OneTree
+pub mod FitProofs
 pub mod Readings
 pub mod TurnProofs
