@@ -10,3 +10,6 @@ pub mod text;
 pub mod tree;
 
 pub use sqlite_items::{Boxed, Items};
+
+#[cfg(test)]
+mod tests;
