@@ -61,8 +61,8 @@ abbrev greatest_int64 : Ix
 greatest_int64 = lit 9223372036854775807
 
 -- -2^63 and 2^63 - 1 are numbers of `int64_t`, and those next to them aren't: -(2^63 - 1) - 1, -(2^63 - 1) - 2, 2^63 - 2 + 1, 2^63 - 1 + 1
-abbrev pub Int64HasItsEnds : Type 0
-Int64HasItsEnds =
+abbrev pub NumbersHaveTheirEnds : Type 0
+NumbersHaveTheirEnds =
     (index_value (Sub (Neg greatest_int64) (lit 1)) 0 [] ≡ Ok (negsuc 9223372036854775807)) ×
     (index_value (Sub (Neg greatest_int64) (lit 2)) 0 [] ≡ Err (Overflow 0)) ×
     (index_value (Add (lit 9223372036854775806) (lit 1)) 0 [] ≡ Ok (pos 9223372036854775807)) ×

@@ -1,7 +1,7 @@
 //! What the definitions give at small programs, as laws: `specs/Examples.antt` says each, with values that were
 //! found by hand from the rules.
 
-ghost use Rattle.affc_ast.specs.Examples.{QuotientsRound, RemaindersStartAtZero, LeastAndGreatest, DivisorsAreAtLeastOne, Int64HasItsEnds, NegationsOverflow, ValuesCompute, ValuesWrap, RelationsCompare, FirstFalseEndsTheReading};
+ghost use Rattle.affc_ast.specs.Examples.{QuotientsRound, RemaindersStartAtZero, LeastAndGreatest, DivisorsAreAtLeastOne, NumbersHaveTheirEnds, NegationsOverflow, ValuesCompute, ValuesWrap, RelationsCompare, FirstFalseEndsTheReading};
 ghost use Rattle.affc_ast.specs.Examples.{CopyLoopCopies, OutputsAreOut, CopyLoopTrace, CopyLoopEvents, CompoundAdds, CompoundSubtracts, ValuesAreReadFromTheLeft, ConditionsChoose, LoopsNest, TwoStatementsTakeTurns, TwoStatementsRun, CompoundLoadsFirst, LocalsSeeThoseBefore};
 ghost use Rattle.affc_ast.specs.Examples.{LoadsStayInside, StoresStayInside, SubscriptsStartAtZero, AccessesAreCounted, LoadsFindValues, OwnElementComesFirst, ProductsOverflow, ProductsFit, ContextHasNodes, ValuesHaveNodes, BlocksHaveNodes, ExtentsAreAtLeastOne, FirstExtentEndsTheReading, StepsOverflow};
 ghost use Rattle.affc_ast.specs.Examples.{RangesHoldTheirEnds, SomeDataFit, ConditionsHaveValues};
@@ -13,7 +13,7 @@ pub fn numbers()
     ensures remainders_start_at_zero { RemaindersStartAtZero }
     ensures least_and_greatest { LeastAndGreatest }
     ensures divisors_are_at_least_one { DivisorsAreAtLeastOne }
-    ensures int_64has_its_ends { Int64HasItsEnds }
+    ensures numbers_have_their_ends { NumbersHaveTheirEnds }
     ensures negations_overflow { NegationsOverflow }
     ensures values_compute { ValuesCompute }
     ensures values_wrap { ValuesWrap }

@@ -23,9 +23,11 @@ pub fn readings_agree()
 
 /// A loop makes a turn as long as its condition holds, and then none.
 pub fn loops_turn_while_their_condition_holds()
-    ensures below { (x high : ℤ) → x <ℤ high → turns_of Less x high ≡ suc (turns_of Less (x +ℤ pos 1) high) }
+    ensures below { (x high : ℤ) → x <ℤ high
+        → turns_of Less x high ≡ suc (turns_of Less (x +ℤ pos 1) high) }
     ensures end_below { (x high : ℤ) → high ≤ℤ x → turns_of Less x high ≡ 0 }
-    ensures up_to { (x high : ℤ) → x ≤ℤ high → turns_of LessEqual x high ≡ suc (turns_of LessEqual (x +ℤ pos 1) high) }
+    ensures up_to { (x high : ℤ) → x ≤ℤ high
+        → turns_of LessEqual x high ≡ suc (turns_of LessEqual (x +ℤ pos 1) high) }
     ensures end_up_to { (x high : ℤ) → high <ℤ x → turns_of LessEqual x high ≡ 0 }
 {}
 
@@ -33,7 +35,8 @@ pub fn loops_turn_while_their_condition_holds()
 /// elements stay in order, and two stores in order with the same values are one.
 pub fn stores_are_maps()
     ensures stored { (store : Store) (x : Element) (v : ℕ) → at (with_value store x v) x ≡ Some v }
-    ensures others { (store : Store) (x y : Element) (v : ℕ) → (x ≡ y → ⊥) → at (with_value store x v) y ≡ at store y }
+    ensures others { (store : Store) (x y : Element) (v : ℕ) → (x ≡ y → ⊥)
+        → at (with_value store x v) y ≡ at store y }
     ensures in_order { (store : Store) (x : Element) (v : ℕ) → IsTrue (is_sorted element_cmp store)
         → IsTrue (is_sorted element_cmp (with_value store x v)) }
     ensures one { (a b : Store) → IsTrue (is_sorted element_cmp a) → IsTrue (is_sorted element_cmp b)
