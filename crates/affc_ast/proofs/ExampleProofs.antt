@@ -4,7 +4,7 @@ use denote.Hole.Carrier.{hidden}
 use Rattle.affc_ast.specs.declared.tree.Ix.TheBlock.{shape-the_row-Ix-0, hidden-the_row-Ix-0}
 use Rattle.affc_ast.specs.declared.tree.Stmt.TheBlock.{shape-the_row-Stmt-0, hidden-the_row-Stmt-0}
 use Rattle.affc_ast.specs.declared.tree.Val.TheBlock.{shape-the_row-Val-0, hidden-the_row-Val-0}
-use Rattle.affc_ast.specs.Examples.{QuotientsRound, RemaindersStartAtZero, LeastAndGreatest, DivisorsAreAtLeastOne, NumbersHaveTheirEnds, NegationsOverflow, ValuesCompute, ValuesWrap, RelationsCompare, FirstFalseEndsTheReading, CopyLoopCopies, OutputsAreOut, CopyLoopTrace, CopyLoopEvents, CompoundAdds, CompoundSubtracts, ValuesAreReadFromTheLeft, ConditionsChoose, LoopsNest, TwoStatementsTakeTurns, TwoStatementsRun, CompoundLoadsFirst, LocalsSeeThoseBefore, LoadsStayInside, StoresStayInside, SubscriptsStartAtZero, AccessesAreCounted, LoadsFindValues, OwnElementComesFirst, ProductsOverflow, ProductsFit, ContextHasNodes, ValuesHaveNodes, BlocksHaveNodes, ExtentsAreAtLeastOne, FirstExtentEndsTheReading, StepsOverflow, RangesHoldTheirEnds, ConditionsHaveValues, FollowsInAnotherOrder, FollowsAtOtherPlaces}
+use Rattle.affc_ast.specs.Examples.{QuotientsRound, RemaindersStartAtZero, LeastAndGreatest, DivisorsAreAtLeastOne, NumbersHaveTheirEnds, NegationsOverflow, ValuesCompute, ValuesWrap, RelationsCompare, FirstFalseEndsTheReading, CopyLoopCopies, OutputsAreOut, CopyLoopTrace, CopyLoopEvents, CompoundAdds, CompoundSubtracts, ValuesAreReadFromTheLeft, ConditionsChoose, LoopsNest, TwoStatementsTakeTurns, TwoStatementsRun, CompoundLoadsFirst, LocalsSeeThoseBefore, LoadsStayInside, StoresStayInside, SubscriptsStartAtZero, AccessesAreCounted, StatementsAreCounted, LoadsFindValues, OwnElementComesFirst, ProductsOverflow, ProductsFit, ContextHasNodes, TemporariesHaveNodes, ValuesHaveNodes, BlocksHaveNodes, LocalsHaveNodes, ExtentsAreAtLeastOne, FirstExtentEndsTheReading, StepsOverflow, RangesHoldTheirEnds, ConditionsHaveValues, FollowsInAnotherOrder, FollowsAtOtherPlaces}
 
 pub quotients_round : QuotientsRound
 unfolding shape-the_row-Ix-0 hidden-the_row-Ix-0 shape-the_row-Val-0 hidden-the_row-Val-0 shape-the_row-Stmt-0 hidden-the_row-Stmt-0 hidden
@@ -44,7 +44,7 @@ relations_compare = (refl, refl, refl, refl, refl)
 
 pub first_false_ends_the_reading : FirstFalseEndsTheReading
 unfolding shape-the_row-Ix-0 hidden-the_row-Ix-0 shape-the_row-Val-0 hidden-the_row-Val-0 shape-the_row-Stmt-0 hidden-the_row-Stmt-0 hidden
-first_false_ends_the_reading = (refl, refl)
+first_false_ends_the_reading = (refl, refl, refl, refl)
 
 pub copy_loop_copies : CopyLoopCopies
 unfolding shape-the_row-Ix-0 hidden-the_row-Ix-0 shape-the_row-Val-0 hidden-the_row-Val-0 shape-the_row-Stmt-0 hidden-the_row-Stmt-0 hidden
@@ -169,3 +169,15 @@ follows_in_another_order = record { source_end = _; source_ends = refl; target_e
 pub follows_at_other_places : FollowsAtOtherPlaces
 unfolding shape-the_row-Ix-0 hidden-the_row-Ix-0 shape-the_row-Val-0 hidden-the_row-Val-0 shape-the_row-Stmt-0 hidden-the_row-Stmt-0 hidden
 follows_at_other_places = record { source_end = _; source_ends = refl; target_end = _; target_ends = refl; own_elements = refl; written = refl }
+
+pub statements_are_counted : StatementsAreCounted
+unfolding shape-the_row-Ix-0 hidden-the_row-Ix-0 shape-the_row-Val-0 hidden-the_row-Val-0 shape-the_row-Stmt-0 hidden-the_row-Stmt-0 hidden
+statements_are_counted = (refl, refl)
+
+pub locals_have_nodes : LocalsHaveNodes
+unfolding shape-the_row-Ix-0 hidden-the_row-Ix-0 shape-the_row-Val-0 hidden-the_row-Val-0 shape-the_row-Stmt-0 hidden-the_row-Stmt-0 hidden
+locals_have_nodes = refl
+
+pub temporaries_have_nodes : TemporariesHaveNodes
+unfolding shape-the_row-Ix-0 hidden-the_row-Ix-0 shape-the_row-Val-0 hidden-the_row-Val-0 shape-the_row-Stmt-0 hidden-the_row-Stmt-0 hidden
+temporaries_have_nodes = (refl, refl)

@@ -1,5 +1,5 @@
 -- What the definitions give at small programs. Each value was found by hand from the rules.
-use Rattle.std.specs.Prelude.{◌≡◌, ℕ, ℤ, pos, negsuc, true, false, List, [], ◌∷◌, Some, None, Ok, Err, map, reverse, ◌==◌, if◌then◌else◌}
+use Rattle.std.specs.Prelude.{◌≡◌, ℕ, ℤ, pos, negsuc, true, false, List, [], ◌∷◌, ◌++◌, Some, None, Ok, Err, map, reverse, codes, ◌==◌, if◌then◌else◌}
 use Rattle.affc_ast.specs.declared.tree.ArrayId.{ArrayId}
 use Rattle.affc_ast.specs.declared.tree.Compare.{Compare}
 use Rattle.affc_ast.specs.declared.tree.Decl.{Decl}
@@ -16,11 +16,12 @@ use Rattle.affc_ast.specs.declared.tree.Stmt.{Stmt}
 use Rattle.affc_ast.specs.declared.tree.Stmt.TheVariants.{For, If, Assign, Block}
 use Rattle.affc_ast.specs.declared.tree.Val.TheVariants.{Load, Const, Cast, Bin}
 use Rattle.affc_ast.specs.Cause.{Extent, Overflow, OutOfBounds, Unwritten}
-use Rattle.affc_ast.specs.CopyLoop.{copy_tree}
+use Rattle.affc_ast.specs.CopyLoop.{CopyLoop, copy_tree}
 use Rattle.affc_ast.specs.Fits.{Fits, within_ranges, meets, outputs}
 use Rattle.affc_ast.specs.Follows.{Follows, in_source_order, own_place}
 use Rattle.affc_ast.specs.Index.{index_value, compares, conditions}
 use Rattle.affc_ast.specs.Meaning.{Ended, Stuck, meaning}
+use Rattle.affc_ast.specs.Reads.{Reads}
 use Rattle.affc_ast.specs.Store.{Element, Store, at}
 use Rattle.affc_ast.specs.Trace.{trace, events}
 use Rattle.affc_ast.specs.Values.{operate, complement, shifted, converted}
@@ -111,11 +112,17 @@ too_great = record { rel = Equal; left = Add greatest_int64 (lit 1); right = lit
 abbrev never : Compare
 never = record { rel = Less; left = lit 0; right = lit 0 }
 
--- 0 < 0 && 2^63 - 1 + 1 == 0 is false; with the two exchanged the sum, which is node 1, is read
+abbrev always : Compare
+always = record { rel = LessEqual; left = lit 0; right = lit 0 }
+
+-- 0 < 0 && 2^63 - 1 + 1 == 0 is false; with the two exchanged the sum, which is node 1, is read; behind 0 <= 0, which is
+-- nodes 0 to 2, it is node 4
 abbrev pub FirstFalseEndsTheReading : Type 0
 FirstFalseEndsTheReading =
     (conditions (never ∷ too_great ∷ []) 0 [] ≡ Ok false) ×
-    (conditions (too_great ∷ never ∷ []) 0 [] ≡ Err (Overflow 1))
+    (conditions (too_great ∷ never ∷ []) 0 [] ≡ Err (Overflow 1)) ×
+    (conditions (always ∷ too_great ∷ []) 0 [] ≡ Err (Overflow 4)) ×
+    (conditions (always ∷ always ∷ []) 0 [] ≡ Ok true)
 
 -- ---- Programs over in[N] and out[N], where N is from 0 to 4
 
@@ -285,6 +292,16 @@ AccessesAreCounted =
     ∷ Assign (Some op.Add) output (lit 1 ∷ []) (Bin op.Add (Load input (lit 1 ∷ [])) (Load input (lit 3 ∷ []))) ∷ [])) (pos 3 ∷ []) (three 0 0 0)
     ≡ Stuck (OutOfBounds (instance 1 []) 2) 2
 
+-- two statements in one loop, then out[0] = in[9]; which is S2
+abbrev third_statement : Program
+third_statement =
+    program [] [] (For [] (lit 0) Less (lit 1) (assign output i input i ∷ assign output i input i ∷ []) ∷ assign output (lit 0) input (lit 9) ∷ [])
+
+abbrev pub StatementsAreCounted : Type 0
+StatementsAreCounted =
+    (meaning third_statement (pos 3 ∷ []) (three 0 0 0) ≡ Stuck (OutOfBounds (instance 2 []) 0) 4) ×
+    (trace third_statement (pos 3 ∷ []) ≡ instance 0 (pos 0 ∷ []) ∷ instance 1 (pos 0 ∷ []) ∷ instance 2 [] ∷ [])
+
 -- out[i] = t[i]; where nothing was stored in t
 abbrev pub LoadsFindValues : Type 0
 LoadsFindValues =
@@ -315,6 +332,13 @@ ContextHasNodes =
     meaning (program (record { rel = Greater; left = n; right = lit 0 } ∷ []) [] (far 140737488355328).body) (pos 1 ∷ []) one
     ≡ Stuck (Overflow 9) 2
 
+-- the same with a temporary t[N], whose extent is node 2; and t[2^63 - 1 + N] under the context N > 0, where it is node 5
+abbrev pub TemporariesHaveNodes : Type 0
+TemporariesHaveNodes =
+    (meaning (program [] (array Temp (n ∷ []) ∷ []) (far 140737488355328).body) (pos 1 ∷ []) one ≡ Stuck (Overflow 7) 2) ×
+    (meaning (program (record { rel = Greater; left = n; right = lit 0 } ∷ []) (array Temp (Add greatest_int64 n ∷ []) ∷ []) []) (pos 1 ∷ []) one
+    ≡ Stuck (Overflow 5) 0)
+
 -- if (N > 0) out[0] = in[0] + (uint64_t)(2^63 - 1 + N); the `if` is node 2, its condition 3 to 5, the assignment 6, its
 -- subscript 7, the sum of values 8, the load 9 and 10, the cast 11 and the sum in it 12
 abbrev pub ValuesHaveNodes : Type 0
@@ -330,6 +354,12 @@ BlocksHaveNodes =
     meaning (program [] [] (assign output (lit 0) input (lit 0)
     ∷ Block (record { name = []; value = n } ∷ []) (Assign None output (Add greatest_int64 i ∷ []) (Const 5) ∷ []) ∷ [])) (pos 1 ∷ []) one
     ≡ Stuck (Overflow 9) 2
+
+-- { const int64_t a = N; const int64_t b = 2^63 - 1 + a; } the block is node 2, the values 3 and 4
+abbrev pub LocalsHaveNodes : Type 0
+LocalsHaveNodes =
+    meaning (program [] [] (Block (record { name = []; value = n } ∷ record { name = []; value = Add greatest_int64 i } ∷ []) [] ∷ [])) (pos 1 ∷ []) one
+    ≡ Stuck (Overflow 4) 0
 
 -- in[N] at N = 0
 abbrev pub ExtentsAreAtLeastOne : Type 0
@@ -366,6 +396,31 @@ abbrev pub ConditionsHaveValues : Type 0
 ConditionsHaveValues =
     (meets (record { rel = Equal; left = Mod n (lit 0); right = lit 0 } ∷ []) (pos 3 ∷ []) ≡ false) ×
     (meets (record { rel = Equal; left = Mod n (lit 3); right = lit 0 } ∷ []) (pos 3 ∷ []) ≡ true)
+
+-- ---- Texts
+
+-- #include <stdint.h>
+-- #pragma affc param N 1 4096
+-- void copy(int64_t N, const uint64_t in[N], uint64_t out[N]) {
+--   for (int64_t i = 0; i < N; i++) {
+--     out[i] = in[i];
+--   }
+-- }
+abbrev pub copy_text : List ℕ
+copy_text =
+    codes "#include <stdint.h>\n"
+    ++ codes "#pragma affc param N 1 4096\n"
+    ++ codes "void copy(int64_t N, const uint64_t in[N], uint64_t out[N]) {\n"
+    ++ codes "  for (int64_t i = 0; i < N; i++) {\n"
+    ++ codes "    out[i] = in[i];\n"
+    ++ codes "  }\n"
+    ++ codes "}\n"
+
+abbrev pub copy_named : CopyLoop
+copy_named = record { function = codes "copy"; parameter = codes "N"; input = codes "in"; output = codes "out"; iterator = codes "i"; low = 1; high = 4096 }
+
+abbrev pub CopyTextReads : Type 0
+CopyTextReads = Reads copy_text (copy_tree copy_named)
 
 -- ---- Following
 

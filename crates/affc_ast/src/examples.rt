@@ -3,9 +3,9 @@
 
 ghost use Rattle.affc_ast.specs.Examples.{QuotientsRound, RemaindersStartAtZero, LeastAndGreatest, DivisorsAreAtLeastOne, NumbersHaveTheirEnds, NegationsOverflow, ValuesCompute, ValuesWrap, RelationsCompare, FirstFalseEndsTheReading};
 ghost use Rattle.affc_ast.specs.Examples.{CopyLoopCopies, OutputsAreOut, CopyLoopTrace, CopyLoopEvents, CompoundAdds, CompoundSubtracts, ValuesAreReadFromTheLeft, ConditionsChoose, LoopsNest, TwoStatementsTakeTurns, TwoStatementsRun, CompoundLoadsFirst, LocalsSeeThoseBefore};
-ghost use Rattle.affc_ast.specs.Examples.{LoadsStayInside, StoresStayInside, SubscriptsStartAtZero, AccessesAreCounted, LoadsFindValues, OwnElementComesFirst, ProductsOverflow, ProductsFit, ContextHasNodes, ValuesHaveNodes, BlocksHaveNodes, ExtentsAreAtLeastOne, FirstExtentEndsTheReading, StepsOverflow};
+ghost use Rattle.affc_ast.specs.Examples.{LoadsStayInside, StoresStayInside, SubscriptsStartAtZero, AccessesAreCounted, StatementsAreCounted, LoadsFindValues, OwnElementComesFirst, ProductsOverflow, ProductsFit, ContextHasNodes, TemporariesHaveNodes, ValuesHaveNodes, BlocksHaveNodes, LocalsHaveNodes, ExtentsAreAtLeastOne, FirstExtentEndsTheReading, StepsOverflow};
 ghost use Rattle.affc_ast.specs.Examples.{RangesHoldTheirEnds, SomeDataFit, ConditionsHaveValues};
-ghost use Rattle.affc_ast.specs.Examples.{FollowsInAnotherOrder, FollowsAtOtherPlaces};
+ghost use Rattle.affc_ast.specs.Examples.{CopyTextReads, FollowsInAnotherOrder, FollowsAtOtherPlaces};
 
 /// What expressions, conditions and operations on values give.
 pub fn numbers()
@@ -44,13 +44,16 @@ pub fn stops()
     ensures stores_stay_inside { StoresStayInside }
     ensures subscripts_start_at_zero { SubscriptsStartAtZero }
     ensures accesses_are_counted { AccessesAreCounted }
+    ensures statements_are_counted { StatementsAreCounted }
     ensures loads_find_values { LoadsFindValues }
     ensures own_element_comes_first { OwnElementComesFirst }
     ensures products_overflow { ProductsOverflow }
     ensures products_fit { ProductsFit }
     ensures context_has_nodes { ContextHasNodes }
+    ensures temporaries_have_nodes { TemporariesHaveNodes }
     ensures values_have_nodes { ValuesHaveNodes }
     ensures blocks_have_nodes { BlocksHaveNodes }
+    ensures locals_have_nodes { LocalsHaveNodes }
     ensures extents_are_at_least_one { ExtentsAreAtLeastOne }
     ensures first_extent_ends_the_reading { FirstExtentEndsTheReading }
     ensures steps_overflow { StepsOverflow }
@@ -61,6 +64,11 @@ pub fn data()
     ensures ranges_hold_their_ends { RangesHoldTheirEnds }
     ensures some_data_fit { SomeDataFit }
     ensures conditions_have_values { ConditionsHaveValues }
+{}
+
+/// A text that reads as the tree of a copy loop.
+pub fn texts()
+    ensures { CopyTextReads }
 {}
 
 /// Programs that follow another in another order, and at other places.
