@@ -4,7 +4,7 @@ use denote.Hole.Carrier.{hidden}
 use Rattle.affc_ast.specs.declared.tree.Ix.TheBlock.{shape-the_row-Ix-0, hidden-the_row-Ix-0}
 use Rattle.affc_ast.specs.declared.tree.Stmt.TheBlock.{shape-the_row-Stmt-0, hidden-the_row-Stmt-0}
 use Rattle.affc_ast.specs.declared.tree.Val.TheBlock.{shape-the_row-Val-0, hidden-the_row-Val-0}
-use Rattle.affc_ast.specs.Examples.{QuotientsRound, RemaindersStartAtZero, LeastAndGreatest, DivisorsAreAtLeastOne, NumbersHaveTheirEnds, NegationsOverflow, ValuesCompute, ValuesWrap, RelationsCompare, FirstFalseEndsTheReading, CopyLoopCopies, OutputsAreOut, CopyLoopTrace, CopyLoopEvents, CompoundAdds, CompoundSubtracts, ValuesAreReadFromTheLeft, ConditionsChoose, LoopsNest, TwoStatementsTakeTurns, TwoStatementsRun, CompoundLoadsFirst, LocalsSeeThoseBefore, LoadsStayInside, StoresStayInside, SubscriptsStartAtZero, AccessesAreCounted, StatementsAreCounted, LoadsFindValues, OwnElementComesFirst, ProductsOverflow, ProductsFit, ContextHasNodes, TemporariesHaveNodes, ValuesHaveNodes, BlocksHaveNodes, LocalsHaveNodes, ExtentsAreAtLeastOne, FirstExtentEndsTheReading, StepsOverflow, RangesHoldTheirEnds, ConditionsHaveValues, FollowsInAnotherOrder, FollowsAtOtherPlaces}
+use Rattle.affc_ast.specs.Examples.{QuotientsRound, RemaindersStartAtZero, LeastAndGreatest, DivisorsAreAtLeastOne, NumbersHaveTheirEnds, NegationsOverflow, ValuesCompute, ValuesWrap, RelationsCompare, FirstFalseEndsTheReading, CopyLoopCopies, OutputsAreOut, CopyLoopTrace, CopyLoopEvents, CompoundAdds, CompoundSubtracts, ValuesAreReadFromTheLeft, ConditionsChoose, LoopsNest, TwoStatementsTakeTurns, TwoStatementsRun, CompoundLoadsFirst, LocalsSeeThoseBefore, LoadsStayInside, StoresStayInside, SubscriptsStartAtZero, AccessesAreCounted, StatementsAreCounted, LoadsFindValues, OwnElementComesFirst, ProductsOverflow, ProductsFit, ContextHasNodes, TemporariesHaveNodes, ValuesHaveNodes, BlocksHaveNodes, LocalsHaveNodes, ExtentsAreAtLeastOne, FirstExtentEndsTheReading, ExtentsAreReadInOrder, StepsOverflow, RangesHoldTheirEnds, ConditionsHaveValues, FollowsInAnotherOrder, FollowsAtOtherPlaces}
 
 pub quotients_round : QuotientsRound
 unfolding shape-the_row-Ix-0 hidden-the_row-Ix-0 shape-the_row-Val-0 hidden-the_row-Val-0 shape-the_row-Stmt-0 hidden-the_row-Stmt-0 hidden
@@ -181,3 +181,7 @@ locals_have_nodes = refl
 pub temporaries_have_nodes : TemporariesHaveNodes
 unfolding shape-the_row-Ix-0 hidden-the_row-Ix-0 shape-the_row-Val-0 hidden-the_row-Val-0 shape-the_row-Stmt-0 hidden-the_row-Stmt-0 hidden
 temporaries_have_nodes = (refl, refl)
+
+pub extents_are_read_in_order : ExtentsAreReadInOrder
+unfolding shape-the_row-Ix-0 hidden-the_row-Ix-0 shape-the_row-Val-0 hidden-the_row-Val-0 shape-the_row-Stmt-0 hidden-the_row-Stmt-0 hidden
+extents_are_read_in_order = (refl, refl)

@@ -371,6 +371,12 @@ FirstExtentEndsTheReading =
     meaning (program [] (array Temp (Sub n (lit 1) ∷ Add greatest_int64 n ∷ []) ∷ []) []) (pos 1 ∷ []) one
     ≡ Stuck (Extent 2) 0
 
+-- t[N] and u[N - 1] at N = 1, or u[2^63 - 1 + N], whose extent is node 3
+abbrev pub ExtentsAreReadInOrder : Type 0
+ExtentsAreReadInOrder =
+    (meaning (program [] (array Temp (n ∷ []) ∷ array Temp (Sub n (lit 1) ∷ []) ∷ []) []) (pos 1 ∷ []) one ≡ Stuck (Extent 3) 0) ×
+    (meaning (program [] (array Temp (n ∷ []) ∷ array Temp (Add greatest_int64 n ∷ []) ∷ []) []) (pos 1 ∷ []) one ≡ Stuck (Overflow 3) 0)
+
 -- for (int64_t i = 2^63 - 1; i <= 2^63 - 1; i++) out[0] = in[0]; runs its body, and then can't step
 abbrev pub StepsOverflow : Type 0
 StepsOverflow =

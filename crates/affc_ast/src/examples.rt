@@ -3,7 +3,7 @@
 
 ghost use Rattle.affc_ast.specs.Examples.{QuotientsRound, RemaindersStartAtZero, LeastAndGreatest, DivisorsAreAtLeastOne, NumbersHaveTheirEnds, NegationsOverflow, ValuesCompute, ValuesWrap, RelationsCompare, FirstFalseEndsTheReading};
 ghost use Rattle.affc_ast.specs.Examples.{CopyLoopCopies, OutputsAreOut, CopyLoopTrace, CopyLoopEvents, CompoundAdds, CompoundSubtracts, ValuesAreReadFromTheLeft, ConditionsChoose, LoopsNest, TwoStatementsTakeTurns, TwoStatementsRun, CompoundLoadsFirst, LocalsSeeThoseBefore};
-ghost use Rattle.affc_ast.specs.Examples.{LoadsStayInside, StoresStayInside, SubscriptsStartAtZero, AccessesAreCounted, StatementsAreCounted, LoadsFindValues, OwnElementComesFirst, ProductsOverflow, ProductsFit, ContextHasNodes, TemporariesHaveNodes, ValuesHaveNodes, BlocksHaveNodes, LocalsHaveNodes, ExtentsAreAtLeastOne, FirstExtentEndsTheReading, StepsOverflow};
+ghost use Rattle.affc_ast.specs.Examples.{LoadsStayInside, StoresStayInside, SubscriptsStartAtZero, AccessesAreCounted, StatementsAreCounted, LoadsFindValues, OwnElementComesFirst, ProductsOverflow, ProductsFit, ContextHasNodes, TemporariesHaveNodes, ValuesHaveNodes, BlocksHaveNodes, LocalsHaveNodes, ExtentsAreAtLeastOne, FirstExtentEndsTheReading, ExtentsAreReadInOrder, StepsOverflow};
 ghost use Rattle.affc_ast.specs.Examples.{RangesHoldTheirEnds, SomeDataFit, ConditionsHaveValues};
 ghost use Rattle.affc_ast.specs.Examples.{CopyTextReads, FollowsInAnotherOrder, FollowsAtOtherPlaces};
 
@@ -56,6 +56,7 @@ pub fn stops()
     ensures locals_have_nodes { LocalsHaveNodes }
     ensures extents_are_at_least_one { ExtentsAreAtLeastOne }
     ensures first_extent_ends_the_reading { FirstExtentEndsTheReading }
+    ensures extents_are_read_in_order { ExtentsAreReadInOrder }
     ensures steps_overflow { StepsOverflow }
 {}
 
