@@ -1,1 +1,4 @@
 pub mod Samples
+pub mod Places
+pub mod Decimals
+pub mod Runs

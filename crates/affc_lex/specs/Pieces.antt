@@ -77,6 +77,14 @@ prelude =
 
 -- Tokens before the text that follows them
 
+abbrev pub is_after_hash : Spot → Bool
+is_after_hash AfterHash = true
+is_after_hash _ = false
+
+abbrev pub is_after_include : Spot → Bool
+is_after_include AfterInclude = true
+is_after_include _ = false
+
 -- whether a `>` comes before a line feed and the end of the text
 abbrev pub closes_header : List ℕ → Bool
 closes_header [] = false
@@ -84,8 +92,7 @@ closes_header (b ∷ bs) = b == 62 || (not (is_line_feed b) && closes_header bs)
 
 -- whether a header begins here, behind `#include`
 abbrev pub header_begins : Spot → List ℕ → Bool
-header_begins AfterInclude text = begins (codes "<") text && closes_header text
-header_begins _ text = false
+header_begins spot text = is_after_include spot && begins (codes "<") text && closes_header text
 
 -- whether a mark of this text's first two or three bytes stands here
 abbrev pub longer_mark : List ℕ → List ℕ → Bool
@@ -125,12 +132,15 @@ stands spot (Token kind) bytes after = token_stands spot kind bytes after
 
 -- Spots
 
+abbrev pub later : Spot → Spot
+later spot = if is_on_directive spot then Directive else Inside
+
 abbrev pub after_token : Spot → Kind → List ℕ → Spot
 after_token spot Hash bytes = AfterHash
 after_token spot LineEnd bytes = Fresh
 after_token spot Prelude bytes = if is_on_directive spot then DirectiveFresh else Fresh
-after_token AfterHash Word bytes = if same bytes (codes "include") then AfterInclude else Directive
-after_token spot kind bytes = if is_on_directive spot then Directive else Inside
+after_token spot Word bytes = if is_after_hash spot && same bytes (codes "include") then AfterInclude else later spot
+after_token spot kind bytes = later spot
 
 -- where the text behind a piece stands
 abbrev pub next_spot : Spot → What → List ℕ → Spot
