@@ -53,9 +53,15 @@ is_value bytes = is_number (leading_digits bytes) && same (behind_digits bytes) 
 abbrev pub is_small : List ℕ → Bool
 is_small digits = nat_lt (decimal digits) (2 ^ 64)
 
+-- whether the text ends with its first `>`, and has no line feed
+abbrev pub ends_header : List ℕ → Bool
+ends_header [] = false
+ends_header (b ∷ bs) = if b == 62 then same bs [] else not (is_line_feed b) && ends_header bs
+
 -- from `<` to the first `>`, with no line feed
 abbrev pub is_header : List ℕ → Bool
-is_header bytes = begins (codes "<") bytes && ends_at_first (codes ">") bytes && list_all (λ b. not (is_line_feed b)) bytes
+is_header [] = false
+is_header (b ∷ bs) = b == 60 && ends_header bs
 
 -- ( ) [ ] { } , ; : + - * & | ^ ~ < > = ! %
 -- += -= *= &= |= ^= <= >= == !=   ++ -- && || << >>
@@ -88,7 +94,7 @@ is_after_include _ = false
 -- whether a `>` comes before a line feed and the end of the text
 abbrev pub closes_header : List ℕ → Bool
 closes_header [] = false
-closes_header (b ∷ bs) = b == 62 || (not (is_line_feed b) && closes_header bs)
+closes_header (b ∷ bs) = if b == 62 then true else not (is_line_feed b) && closes_header bs
 
 -- whether a header begins here, behind `#include`
 abbrev pub header_begins : Spot → List ℕ → Bool
