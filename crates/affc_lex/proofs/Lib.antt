@@ -6,3 +6,5 @@ pub mod ByteClasses
 pub mod Lists
 pub mod FirstBytes
 pub mod Literals
+pub mod FoundAt
+pub mod Headers

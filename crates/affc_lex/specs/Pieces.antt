@@ -96,9 +96,13 @@ abbrev pub closes_header : List ℕ → Bool
 closes_header [] = false
 closes_header (b ∷ bs) = if b == 62 then true else not (is_line_feed b) && closes_header bs
 
+abbrev pub opens_header : List ℕ → Bool
+opens_header [] = false
+opens_header (b ∷ bs) = b == 60 && closes_header bs
+
 -- whether a header begins here, behind `#include`
 abbrev pub header_begins : Spot → List ℕ → Bool
-header_begins spot text = is_after_include spot && begins (codes "<") text && closes_header text
+header_begins spot text = is_after_include spot && opens_header text
 
 -- whether a mark of this text's first two or three bytes stands here
 abbrev pub longer_mark : List ℕ → List ℕ → Bool
@@ -123,7 +127,7 @@ abbrev pub token_stands : Spot → Kind → List ℕ → List ℕ → Bool
 token_stands spot Word bytes after = is_word bytes && not (next_is is_letter_or_digit after) && not (begins prelude (bytes ++ after))
 token_stands spot Number bytes after = is_number bytes && is_small bytes && not (next_is is_letter_or_digit after)
 token_stands spot Value bytes after = is_value bytes && is_small (leading_digits bytes) && not (next_is is_letter_or_digit after)
-token_stands spot Header bytes after = header_begins spot bytes && is_header bytes
+token_stands spot Header bytes after = is_after_include spot && is_header bytes
 token_stands spot Hash bytes after = is_fresh spot && same bytes (codes "#")
 token_stands spot LineEnd bytes after = is_on_directive spot && (same bytes (codes "\n") || (same bytes [] && same after []))
 token_stands spot Prelude bytes after = same bytes prelude
