@@ -8,3 +8,5 @@ pub mod FirstBytes
 pub mod Literals
 pub mod FoundAt
 pub mod Headers
+pub mod Sound
+pub mod Complete
