@@ -10,3 +10,4 @@ pub mod FoundAt
 pub mod Headers
 pub mod Sound
 pub mod Complete
+pub mod Once
