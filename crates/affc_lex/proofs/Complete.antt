@@ -20,7 +20,7 @@ use Rattle.affc_lex.proofs.Lists.{by_test, same_is, same_refl, begins_take, begi
 use Rattle.affc_lex.proofs.Literals.{number_digits, value_is, length_at, next_word_digit, suffix_goes_on, literal_small, literal_long, found_number, found_value, stuck_number, stuck_value, long_front}
 use Rattle.affc_lex.proofs.Headers.{header_at_is, header_at_found}
 use Rattle.affc_lex.proofs.FirstBytes.{read_space, read_slash, read_letter, read_digit, read_hash, read_other, read_mark}
-use Rattle.affc_lex.proofs.FoundAt.{OpensHere, LongHere}
+use Rattle.affc_lex.specs.FoundAt.{OpensHere, LongHere}
 
 -- Spaces and comments
 

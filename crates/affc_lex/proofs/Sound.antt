@@ -19,7 +19,7 @@ use Rattle.affc_lex.proofs.Lists.{by_test, same_refl, begins_take, begins_within
 use Rattle.affc_lex.proofs.Literals.{the_number, the_longest, number_within, value_from, literal_small, literal_long}
 use Rattle.affc_lex.proofs.Headers.{header_at_is, header_at_cut}
 use Rattle.affc_lex.proofs.FirstBytes.{read_space, read_slash, read_letter, read_digit, read_hash, read_other}
-use Rattle.affc_lex.proofs.FoundAt.{StandsFor, IsStuck, OpensHere, LongHere, FoundAt}
+use Rattle.affc_lex.specs.FoundAt.{StandsFor, IsStuck, OpensHere, LongHere, FoundAt}
 
 -- nothing begins where none of the seven does
 nothing : (a b c d e f g : Bool) → a ≡ false → b ≡ false → c ≡ false → d ≡ false → e ≡ false → f ≡ false → g ≡ false → not (a || b || c || d || e || f || g) ≡ true
@@ -204,3 +204,7 @@ sound spot b bs =
                 (λ h4.
                     by_test (b == 35) (λ e. subst (λ x. FoundAt spot (x ∷ bs) (read spot (x ∷ bs))) (sym (eqb-true b 35 e)) (hash_found spot bs))
                     (λ h5. subst (FoundAt spot (b ∷ bs)) (sym (read_other spot b bs h1 h2 h3 h4 h5)) (header_or_mark spot b bs _ refl h1 h2 h3 h4 h5))))))
+
+pub sound_at : (spot : Spot) (text : List ℕ) → 0 < length text → FoundAt spot text (read spot text)
+sound_at spot [] some = absurd (omega arith)
+sound_at spot (b ∷ bs) some = sound spot b bs

@@ -6,9 +6,11 @@ ghost use Rattle.affc_lex.specs.declared.token.LexFault.TheVariants.{Memory};
 ghost use Rattle.affc_lex.specs.Lexes.{Lexeme, Lexes, lexemes};
 ghost use Rattle.affc_lex.specs.Faults.{FirstFault};
 
+pub mod cut;
 pub mod examples;
 pub mod piece;
 pub mod scan;
+pub mod scop;
 pub mod token;
 
 use crate::token::{LexFault, Token};

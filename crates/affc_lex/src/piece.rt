@@ -6,6 +6,7 @@ ghost use Rattle.affc_lex.specs.Bytes.{begins, next_is};
 ghost use Rattle.affc_lex.specs.Pieces as pieces;
 ghost use Rattle.affc_lex.specs.Pieces.{prelude};
 ghost use Rattle.affc_lex.specs.Reading as reading;
+ghost use Rattle.affc_lex.specs.FoundAt.{FoundAt};
 
 use crate::scan::{comment_end, digits_length, header_length, is_digit, is_letter, is_letter_or_digit, is_space, line_length, number, word_length};
 use crate::token::Kind;
@@ -262,8 +263,7 @@ fn hash(spot: Spot) -> Found
     if is_fresh(spot) { Found::Piece(What::Token(Kind::Hash), 1) } else { Found::Bad(0) }
 }
 
-/// The next piece of the text, or why none stands there.
-pub fn next_piece(spot: Spot, text: &[u8]) -> Found
+fn read_piece(spot: Spot, text: &[u8]) -> Found
     ensures { result ≡ reading.read spot text.now }
 {
     let [first, after @ ..] = text else {
@@ -282,4 +282,13 @@ pub fn next_piece(spot: Spot, text: &[u8]) -> Found
     } else {
         mark(header_at(spot, text), text)
     }
+}
+
+/// The next piece of the text, or why none stands there.
+pub fn next_piece(spot: Spot, text: &[u8]) -> Found
+    requires { 0 < length text.now }
+    ensures value { result ≡ reading.read spot text.now }
+    ensures found { FoundAt spot text.now result }
+{
+    read_piece(spot, text)
 }
