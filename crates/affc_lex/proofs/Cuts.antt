@@ -1,9 +1,9 @@
 -- A text cut into pieces up to a place, one piece after another.
-use Rattle.std.proofs.Common.{◌≡◌, ℕ, zero, suc, ◌+◌, ◌-◌, ◌<◌, ◌≤◌, Bool, true, false, not, ◌&&◌, List, [], ◌∷◌, ◌++◌, length, take, drop, map, refl, sym, ap, ◌∙◌, subst, arith, append_assoc}
+use Rattle.std.proofs.Common.{◌≡◌, ℕ, ◌+◌, ◌-◌, ◌<◌, ◌≤◌, true, false, List, [], ◌∷◌, ◌++◌, length, take, drop, refl, sym, ap, ◌∙◌, subst, arith, append_assoc}
 use Rattle.std.specs.List.{All}
 use Rattle.std.proofs.lemmas.List.{take-append-drop, append-nil, length-append, length-take-le, drop-drop, drop_all, map-append, length-drop, take_rest}
 use Rattle.std.proofs.lemmas.List.Elements.{All-append, All-nil, All-push}
-use Rattle.std.proofs.lemmas.Bool.{and_from, and_parts, or_right, not_from_false}
+use Rattle.std.proofs.lemmas.Bool.{and_from, and_parts, not_from_false}
 use Rattle.affc_lex.specs.declared.token.Kind.TheVariants.{LineEnd}
 use Rattle.affc_lex.specs.declared.token.Token.{Token}
 use Rattle.affc_lex.specs.declared.piece.What.{What}
@@ -12,10 +12,10 @@ use Rattle.affc_lex.specs.declared.piece.Spot.{Spot}
 use Rattle.affc_lex.specs.declared.piece.Spot.TheVariants.{Fresh}
 use Rattle.affc_lex.specs.declared.piece.Found.{Found}
 use Rattle.affc_lex.specs.Pieces.{Piece, stands, text_of, all_stand, spot_behind, next_spot, is_on_directive}
-use Rattle.affc_lex.specs.Lexes.{Lexeme, lexeme, lexemes, token_at, token_of, tokens_from}
+use Rattle.affc_lex.specs.Lexes.{Lexeme, lexeme, lexemes, token_at, tokens_from}
 use Rattle.affc_lex.specs.Reading.{read}
 use Rattle.affc_lex.specs.FoundAt.{StandsFor}
-use Rattle.affc_lex.specs.Cutting.{made, IsIn, Whole, TokensOf, Stops, StopsSo, fault_of, is_piece}
+use Rattle.affc_lex.specs.Cutting.{made, IsIn, TokensOf, Stops, StopsSo, fault_of, is_piece}
 
 -- Lists of pieces joined
 

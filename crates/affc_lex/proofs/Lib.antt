@@ -12,3 +12,4 @@ pub mod Complete
 pub mod Once
 pub mod Cuts
 pub mod ScopLines
+pub mod Exact

@@ -1,11 +1,12 @@
 -- Tokens left out of a list, from its beginning on.
-use Rattle.std.proofs.Common.{◌≡◌, ℕ, zero, suc, ◌+◌, ◌-◌, ◌<◌, ◌≤◌, Bool, true, false, cond, List, [], ◌∷◌, ◌++◌, length, take, drop, map, set, get_or, refl, sym, ap, ◌∙◌, subst, arith, append_assoc}
+use Rattle.std.proofs.Common.{◌≡◌, ℕ, suc, ◌+◌, ◌-◌, ◌<◌, ◌≤◌, true, false, List, [], ◌∷◌, ◌++◌, length, take, drop, set, get_or, refl, sym, ap, ◌∙◌, subst, arith, append_assoc}
 use Rattle.std.specs.List.{All}
 use Rattle.std.proofs.lemmas.List.{drop_more, drop_all, take_more_set, drop-set-lt, map_push, length-set, append-nil}
 use Rattle.std.proofs.lemmas.List.Elements.{All-take, All-set}
 use Rattle.std.proofs.lemmas.Bool.{cond-true, cond-false}
+use Rattle.affc_lex.specs.declared.token.Kind.TheVariants.{Word}
 use Rattle.affc_lex.specs.declared.token.Token.{Token}
-use Rattle.affc_lex.specs.Lexes.{Lexeme, lexeme, lexemes, begins_scop_line, without_scop_lines}
+use Rattle.affc_lex.specs.Lexes.{lexeme, lexemes, begins_scop_line, without_scop_lines}
 use Rattle.affc_lex.specs.Cutting.{IsIn}
 
 -- of the tokens up to a place, those that stay stand in front; `left` more of the next ones go
@@ -48,7 +49,7 @@ dropped_kept text old now at kept x so inside no_line x_is =
     let front : take (kept + 1) (set now kept x) ≡ take kept now ++ x ∷ [] = take_more_set now kept x (omega (arith, so.behind)) in
     let behind : drop (at + 1) (set now kept x) ≡ drop (at + 1) now = drop-set-lt (at + 1) now kept x (omega (arith, so.behind)) in
     let next : without_scop_lines 0 (lexemes text (drop at now)) ≡ lexeme text x ∷ without_scop_lines 0 (lexemes text (drop (at + 1) now)) =
-        ap (without_scop_lines 0) split ∙ cond-false _ _ _ (ap begins_scop_line (sym split) ∙ no_line) ∙ ap (λ (t : Token). lexeme text t ∷ without_scop_lines 0 (lexemes text (drop (at + 1) now))) (sym x_is) in
+    ap (without_scop_lines 0) split ∙ cond-false _ _ _ (ap begins_scop_line (sym split) ∙ no_line) ∙ ap (λ (t : Token). lexeme text t ∷ without_scop_lines 0 (lexemes text (drop (at + 1) now))) (sym x_is) in
     let joined : lexemes text (take (kept + 1) (set now kept x)) ≡ lexemes text (take kept now) ++ lexeme text x ∷ [] = ap (lexemes text) front ∙ map_push (lexeme text) (take kept now) x in
     record {
       so_far =
@@ -68,3 +69,10 @@ dropped_all text old now at kept left so past =
 
 pub dropped_within : (text : List ℕ) (old now : List Token) (at kept left : ℕ) → Dropped text old now at kept left → All (IsIn (length text)) (take kept now)
 dropped_within text old now at kept left so = All-take (IsIn (length text)) kept now so.within
+
+pub dropped_as : (text : List ℕ) (old now now' : List Token) (at kept kept' left left' : ℕ) → now' ≡ now → kept' ≡ kept → left' ≡ left → Dropped text old now at kept left → Dropped text old now' at kept' left'
+dropped_as text old now now' at kept kept' left left' e f g so =
+    subst (λ ts. Dropped text old ts at kept' left') (sym e) (subst (λ k. Dropped text old now at k left') (sym f) (subst (λ n. Dropped text old now at kept n) (sym g) so))
+
+pub some_token : Token
+some_token = record { kind = Word; start = 0; end = 0 }

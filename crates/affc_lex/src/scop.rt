@@ -1,18 +1,24 @@
 //! The lines `#pragma scop` and `#pragma endscop`, whose tokens are dropped.
 
-ghost use Rattle.std.specs.Prelude.{◌≡◌, ◌&&◌, length, All, slice_range};
-ghost use Rattle.affc_lex.specs.Bytes.{same};
+ghost use Rattle.std.specs.Prelude.{◌≡◌, length, All};
 ghost use Rattle.affc_lex.specs.Lexes as lexes;
-ghost use Rattle.affc_lex.specs.Lexes.{is_word_kind, lexemes};
+ghost use Rattle.affc_lex.specs.Lexes.{lexeme, lexemes};
 ghost use Rattle.affc_lex.specs.Cutting.{IsIn};
 
 use crate::token::{Kind, Token};
 
 fn is_named(text: &[u8], token: Token, name: &[u8]) -> bool
     requires { IsIn (length text.now) token }
-    ensures { result ≡ (is_word_kind token.kind && same (slice_range text.now token.start token.end) name.now) }
+    ensures { result ≡ lexes.is_named name.now (lexeme text.now token) }
 {
     matches!(token.kind, Kind::Word) && &text[token.start..token.end] == name
+}
+
+fn is_scop_name(text: &[u8], token: Token) -> bool
+    requires { IsIn (length text.now) token }
+    ensures { result ≡ lexes.is_scop_name (lexeme text.now token) }
+{
+    is_named(text, token, b"scop") || is_named(text, token, b"endscop")
 }
 
 fn is_hash(kind: Kind) -> bool
@@ -35,7 +41,7 @@ fn begins_scop_line(text: &[u8], tokens: &[Token]) -> bool
         [hash, first, second, last, ..] => {
             is_hash(hash.kind)
                 && is_named(text, *first, b"pragma")
-                && (is_named(text, *second, b"scop") || is_named(text, *second, b"endscop"))
+                && is_scop_name(text, *second)
                 && is_line_end(last.kind)
         }
         _ => false,
@@ -49,7 +55,7 @@ pub fn drop_scop_lines(text: &[u8], tokens: &mut Vec<Token>)
     ensures within { All (IsIn (length text.now)) tokens.new.items }
 {
     let mut kept = 0;
-    let mut left = 0;
+    let mut left: usize = 0;
     for at in 0..tokens.len() {
         if left > 0 {
             left -= 1;

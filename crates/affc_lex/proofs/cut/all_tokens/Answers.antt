@@ -27,10 +27,10 @@ returns c =
     let text = c.args.text.now in
     let l = c.loop-at in
     elim c.if-is_on_directive.branch [
-    | then-is_on_directive+in_ok-add w ↦
-        let items = ap (λ (v : Vec Token Global). v.items) w.tokens-is ∙ w.in_ok-add.ensures in
-        subst (TokensOf text) (sym items) (cut_line_ended text l.at l.spot l.tokens.items l.invariant c.loop-at-test.false (sym w.if-is_on_directive.ensures))
-    | else-is_on_directive w ↦
-        let items = ap (λ (v : Vec Token Global). v.items) w.tokens-is in
-        subst (TokensOf text) (sym items) (cut_ended text l.at l.spot l.tokens.items l.invariant c.loop-at-test.false (sym w.if-is_on_directive.ensures))
+      | then-is_on_directive+in_ok-add w ↦
+          let items = ap (λ (v : Vec Token Global). v.items) w.tokens-is ∙ w.in_ok-add.ensures in
+          subst (TokensOf text) (sym items) (cut_line_ended text l.at l.spot l.tokens.items l.invariant c.loop-at-test.false (sym w.if-is_on_directive.ensures))
+      | else-is_on_directive w ↦
+          let items = ap (λ (v : Vec Token Global). v.items) w.tokens-is in
+          subst (TokensOf text) (sym items) (cut_ended text l.at l.spot l.tokens.items l.invariant c.loop-at-test.false (sym w.if-is_on_directive.ensures))
     ]

@@ -1,4 +1,3 @@
-use Rattle.std.proofs.Common.{length}
 use Rattle.affc_lex.proofs.ScopLines.{Dropped}
 use Rattle.affc_lex.proofs.scop.drop_scop_lines.Given as goal
 
