@@ -11,7 +11,7 @@ ghost use Rattle.affc_ast.specs.Fits.{whole_of};
 ghost use Rattle.affc_ast.specs.Follows.{elements, in_source_order, own_place};
 ghost use Rattle.affc_ast.specs.Index.{index_value};
 ghost use Rattle.affc_ast.specs.Meaning.{State, Ended, meaning, turns_of};
-ghost use Rattle.affc_ast.specs.Reads.{HasRange};
+ghost use Rattle.affc_ast.specs.Reads.{HasRange, ReadsWide};
 ghost use Rattle.affc_ast.specs.Store.{Element, Store, element_cmp, at, with_value};
 ghost use Rattle.affc_ast.specs.Trace.{trace, store_of};
 
@@ -55,4 +55,9 @@ pub fn a_run_is_its_own()
 pub fn copy_loops_compile_themselves()
     ensures { (copy : CopyLoop) → HasRange copy
         → Compiles (copy_tree copy) (copy_tree copy) (λ p. in_source_order) (λ p. own_place) }
+{}
+
+/// One text reads as one program at most.
+pub fn a_text_reads_as_one_program()
+    ensures { (text : List ℕ) (a b : Program) → ReadsWide text a → ReadsWide text b → a ≡ b }
 {}
