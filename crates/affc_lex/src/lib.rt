@@ -3,9 +3,9 @@
 
 ghost use Rattle.std.specs.Prelude.{◌≡◌, List, Option, All, length, IfOk, IfErr, MatchResult};
 ghost use Rattle.affc_lex.specs.declared.token.LexFault.TheVariants.{Memory};
-ghost use Rattle.affc_lex.specs.Lexes.{Lexeme, Lexes, lexemes, is_refused};
+ghost use Rattle.affc_lex.specs.Lexes.{InOrder, IsIn, Lexeme, Lexes, lexemes};
 ghost use Rattle.affc_lex.specs.Faults.{FirstFault, fault_place};
-ghost use Rattle.affc_lex.specs.Cutting.{IsIn, earlier};
+ghost use Rattle.affc_lex.specs.Cutting.{earlier};
 
 pub mod cut;
 pub mod examples;
@@ -68,8 +68,9 @@ fn read_text(alloc: Global, text: &[u8]) -> Result<Vec<Token>, LexFault>
 pub fn lex(alloc: Global, text: &[u8]) -> Result<Vec<Token>, LexFault>
     // What is answered are the text's tokens.
     ensures tokens { IfOk result (λ v. Lexes text.now (lexemes text.now v.items)) }
-    // Each token's bytes are a slice of the text.
+    // Each token's bytes are a slice of the text, behind those of the token before.
     ensures within { IfOk result (λ v. All (IsIn (length text.now)) v.items) }
+    ensures order { IfOk result (λ v. InOrder 0 v.items (length text.now)) }
     // A text that has tokens is answered by these, or by want of memory.
     ensures only { (ts : List Lexeme) → Lexes text.now ts
         → MatchResult result (λ v. lexemes text.now v.items ≡ ts) (λ fault. fault ≡ Memory) }
