@@ -47,7 +47,7 @@ in_order text tokens l =
     let end : 0 + length (text_of l.pieces) ≡ length text = omega (arith, ap length l.spelled) in
     unseen text 0 (length text) tokens
     (subst (λ ts. SeenInOrder 0 ts (length text)) (sym l.its_tokens)
-        (subst (SeenInOrder 0 (without_scop_lines 0 (tokens_from 0 l.pieces))) end (dropped_in_order 0 _ 0 (tokens_from 0 l.pieces) (pieces_in_order 0 l.pieces))))
+    (subst (SeenInOrder 0 (without_scop_lines 0 (tokens_from 0 l.pieces))) end (dropped_in_order 0 _ 0 (tokens_from 0 l.pieces) (pieces_in_order 0 l.pieces))))
 
 pub answered_in_order : (text : List ℕ) (result : Result (Vec Token Global) LexFault) → IfOk result (λ v. Lexes text (lexemes text v.items)) → IfOk result (λ v. InOrder 0 v.items (length text))
 answered_in_order text (Ok v) l = in_order text v.items l
