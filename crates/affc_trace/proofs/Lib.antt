@@ -1,0 +1,2 @@
+pub mod LastStores
+pub mod Legality
