@@ -1,2 +1,10 @@
 pub mod LastStores
 pub mod Legality
+pub mod EndedReads
+pub mod Unwritten
+pub mod Runs
+pub mod EffectRuns
+pub mod TraceEffects
+pub mod Once
+pub mod Reorders
+pub mod Targets

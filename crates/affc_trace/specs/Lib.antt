@@ -1,2 +1,6 @@
 pub mod Law
 pub mod Orders
+pub mod Inverses
+pub mod Target
+pub mod Effects
+pub mod Dataflow

@@ -1,5 +1,6 @@
-//! The order of instances, last stores, and the laws that let a compiler reorder and fold.
+//! The order of instances, the last store before each load, and the laws by which a program may be reordered and folded.
 #![tactic(auto)]
 
-/// A placeholder until the tree is here.
-pub fn nothing() {}
+pub mod schedule;
+
+pub use schedule::{Schedule, TimeMap};
