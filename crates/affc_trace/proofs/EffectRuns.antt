@@ -1,7 +1,7 @@
 -- A run against the effects of a program: what it has stored where it ends, and that an effect finds no value where it is stuck for want of one.
-use Rattle.std.proofs.Common.{◌≡◌, ℕ, zero, suc, ◌+◌, ℤ, pos, ◌+ℤ◌, Bool, true, false, if◌then◌else◌, cond, int_lt, List, [], ◌∷◌, ◌++◌, length, Option, Some, None, Result, Ok, Err, map, flat_map, sum_by, refl, sym, ap, subst, ◌∙◌, inl, inr}
+use Rattle.std.proofs.Common.{◌≡◌, ℕ, zero, suc, ◌+◌, ℤ, pos, ◌+ℤ◌, T, Bool, true, false, if◌then◌else◌, cond, int_lt, List, [], ◌∷◌, ◌++◌, length, Option, Some, None, Result, Ok, Err, map, flat_map, sum_by, refl, sym, ap, subst, ◌∙◌, inl, inr}
 use Rattle.std.specs.Ordering.{eq_by_cmp}
-use Rattle.std.specs.FinMap.Entries.{find-put}
+use Rattle.std.specs.FinMap.Entries.{find-put, is_sorted, is_sorted-put}
 use Rattle.affc_ast.specs.declared.tree.Instance.{Instance}
 use Rattle.affc_ast.specs.declared.tree.Op.{Op}
 use Rattle.affc_ast.specs.declared.tree.ArrayId.{ArrayId}
@@ -77,6 +77,7 @@ module _ (start : Element → Option ℕ) where
     pub run : stores_of same_element start t.written is ≡ Some new
     pub written : t'.written ≡ t.written ++ new
     pub agrees : Agrees t'
+    pub sorted : T (is_sorted element_cmp t.store) → T (is_sorted element_cmp t'.store)
 
   -- how a part of a run stands to these effects
   unfoldable pub Ran : State → List (Effect Element ℕ) → Outcome → Type 0
@@ -87,7 +88,7 @@ module _ (start : Element → Option ℕ) where
   Ran t is (Stuck (OutOfBounds i a) n) = Unit {0}
 
   does_nothing : (t : State) → Agrees t → Does t [] t
-  does_nothing t a = record { new = []; run = refl; written = sym (append_nil t.written); agrees = a }
+  does_nothing t a = record { new = []; run = refl; written = sym (append_nil t.written); agrees = a; sorted = λ h. h }
 
   ran_nothing : (t : State) → Agrees t → Ran t [] (Ended t)
   unfolding Ran
@@ -101,6 +102,7 @@ module _ (start : Element → Option ℕ) where
         (subst (λ w. stores_of same_element start w js ≡ Some b.new) a.written b.run);
     written = b.written ∙ ap (λ w. w ++ b.new) a.written ∙ append_assoc t.written a.new b.new;
     agrees = b.agrees;
+    sorted = λ h. b.sorted (a.sorted h);
   }
   ran_after t t' is js a (Stuck (Unwritten i x) n) b =
       append_none same_element start t.written a.new is js a.run (subst (λ w. stores_of same_element start w js ≡ None) a.written b)
@@ -129,7 +131,7 @@ module _ (start : Element → Option ℕ) where
 
   ran_step : (t : State) (is : List (Effect Element ℕ)) (o : Outcome) → Ran (begun t) is o → Ran t is o
   unfolding Ran
-  ran_step t is (Ended t') d = record { new = d.new; run = d.run; written = d.written; agrees = d.agrees }
+  ran_step t is (Ended t') d = record { new = d.new; run = d.run; written = d.written; agrees = d.agrees; sorted = d.sorted }
   ran_step t is (Stuck (Unwritten i x) n) d = d
   ran_step t is (Stuck (Extent x) n) d = tt
   ran_step t is (Stuck (Overflow x) n) d = tt
@@ -183,6 +185,7 @@ module _ (start : Element → Option ℕ) where
             ∙ ap (λ x. one_entry x (d.value h.0)) h.2 ∙ ap (one_entry stored.0) h.3;
         written = refl;
         agrees = agrees_write (begun t) stored.0 stored.1 g;
+        sorted = λ s. is_sorted-put element_cmp element_cmp_total stored.0 stored.1 t.store s;
       }
   ran_assign op array subs e node scope here t g (Err (Unwritten i x)) k =
       let d : Effect Element ℕ = effect_by (Some (record { op = op; array = array; subs = subs; value = e })) scope.names in

@@ -194,7 +194,7 @@ held_each at (y ∷ xs) vs e x (inr i) =
     let q = and_then_some (all_held at xs) _ _ p.2 in
     held_each at xs q.0 q.1 x i
 
-loads_are_given : {I X V : Type 0} (effect : I → Effect X V) (same : X → X → Bool) (start : X → Option V) (v : I → V) (trace : List I)
+pub loads_are_given : {I X V : Type 0} (effect : I → Effect X V) (same : X → X → Bool) (start : X → Option V) (v : I → V) (trace : List I)
     → stores_of same start [] (map effect trace) ≡ Some (as_stored effect v trace) → LoadsAreGiven effect same start trace
 loads_are_given effect same start v trace run done rest b e x i l =
     let s = source_values same effect v start [] done b rest (subst (λ l. stores_of same start [] (map effect l) ≡ Some (as_stored effect v l)) e run) in

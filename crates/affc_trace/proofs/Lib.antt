@@ -8,3 +8,5 @@ pub mod TraceEffects
 pub mod Once
 pub mod Reorders
 pub mod Targets
+pub mod Contents
+pub mod Composed

@@ -4,7 +4,7 @@ use Rattle.std.specs.Bool.{Decides}
 use Rattle.std.specs.Ordering.{is_lt}
 use Rattle.affc_trace.specs.Law.{Effect, stores_of, as_stored, IsIn, held, all_held, and_then}
 use Rattle.affc_trace.specs.Orders.{AreDistinct, IsReordered}
-use Rattle.affc_trace.specs.Target.{put_in, in_order_of, paired}
+use Rattle.affc_trace.specs.Target.{put_in, in_order_of}
 use Rattle.affc_trace.proofs.LastStores.{and_then_some, get}
 
 module _ {A : Type 0} (cmp : A → A → Ordering) where
@@ -79,35 +79,34 @@ not_head : {V : Type 0} (t : Bool) (u w : V) → (t ≡ true → ⊥) → (if t 
 not_head true u w n = absurd (n refl)
 not_head false u w n = refl
 
-module _ {I X V : Type 0} (same_i : I → I → Bool) (decides : (a b : I) → Decides (same_i a b) (a ≡ b)) (d : V) where
-  pub value_in : List (I × (X × V)) → I → V
-  value_in [] b = d
-  value_in (e ∷ es) b = if same_i b e.0 then e.1.1 else value_in es b
+module _ {I V : Type 0} (same_i : I → I → Bool) (decides : (a b : I) → Decides (same_i a b) (a ≡ b)) (d : V) where
+  -- what stands with an instance in lists of instances and of values
+  pub value_in : List I → List V → I → V
+  value_in [] vs b = d
+  value_in (a ∷ is) [] b = d
+  value_in (a ∷ is) (v ∷ vs) b = if same_i b a then v else value_in is vs b
 
-  module _ (same : X → X → Bool) (effect : I → Effect X V) (start : X → Option V) where
-    tail_values : (a : I) (e : X × V) (ps : List (I × (X × V))) (is : List I) → (¬ (IsIn a is)) → as_stored effect (value_in ps) is ≡ as_stored effect (value_in ((a, e) ∷ ps)) is
+  module _ {X : Type 0} (same : X → X → Bool) (effect : I → Effect X V) (start : X → Option V) where
+    tail_values : (a : I) (v : V) (is : List I) (vs : List V) (js : List I) → (¬ (IsIn a js)) → as_stored effect (value_in is vs) js ≡ as_stored effect (value_in (a ∷ is) (v ∷ vs)) js
     unfolding value_in
-    tail_values a e ps [] n = refl
-    tail_values a e ps (b ∷ is) n =
-        ap (λ u. ((effect b).stores, u) ∷ as_stored effect (value_in ps) is) (sym (not_head (same_i b a) e.1 (value_in ps b) (λ t. n (inl (sym ((decides b a).0 t))))))
-        ∙ ap (λ l. ((effect b).stores, value_in ((a, e) ∷ ps) b) ∷ l) (tail_values a e ps is (λ i. n (inr i)))
+    tail_values a v is vs [] n = refl
+    tail_values a v is vs (b ∷ js) n =
+        ap (λ u. ((effect b).stores, u) ∷ as_stored effect (value_in is vs) js) (sym (not_head (same_i b a) v (value_in is vs b) (λ t. n (inl (sym ((decides b a).0 t))))))
+        ∙ ap (λ l. ((effect b).stores, value_in (a ∷ is) (v ∷ vs) b) ∷ l) (tail_values a v is vs js (λ i. n (inr i)))
 
+    -- the stores of a run of distinct instances, by the values that stand with the instances
     pub stored_values : (w : List (X × V)) (is : List I) (es : List (X × V)) → AreDistinct is → stores_of same start w (map effect is) ≡ Some es
-        → es ≡ as_stored effect (value_in (paired is es)) is
+        → es ≡ as_stored effect (value_in is (map (λ e. e.1) es)) is
     unfolding value_in
     stored_values w [] es n e = sym (ap (get []) e)
     stored_values w (b ∷ is) es n e =
         let p = and_then_some (all_held (held same start w) (effect b).loads) _ _ e in
         let x : X × V = ((effect b).stores, (effect b).value p.0) in
         let q = and_then_some (stores_of same start (w ++ x ∷ []) (map effect is)) _ _ p.2 in
+        let vs : List V = map (λ e. e.1) q.0 in
         let whole : x ∷ q.0 ≡ es = ap (get []) q.2 in
-        let rest : q.0 ≡ as_stored effect (value_in (paired is q.0)) is = stored_values (w ++ x ∷ []) is q.0 n.1 q.1 in
-        let head : x.1 ≡ value_in ((b, x) ∷ paired is q.0) b = sym (at_head (same_i b b) x.1 (value_in (paired is q.0) b) ((decides b b).1 refl)) in
-        subst (λ l. l ≡ as_stored effect (value_in (paired (b ∷ is) l)) (b ∷ is)) whole
+        let rest : q.0 ≡ as_stored effect (value_in is vs) is = stored_values (w ++ x ∷ []) is q.0 n.1 q.1 in
+        let head : x.1 ≡ value_in (b ∷ is) (x.1 ∷ vs) b = sym (at_head (same_i b b) x.1 (value_in is vs b) ((decides b b).1 refl)) in
+        subst (λ l. l ≡ as_stored effect (value_in (b ∷ is) (map (λ e. e.1) l)) (b ∷ is)) whole
           (ap (λ u. ((effect b).stores, u) ∷ q.0) head
-            ∙ ap (λ l. ((effect b).stores, value_in ((b, x) ∷ paired is q.0) b) ∷ l) (rest ∙ tail_values b x (paired is q.0) is n.0))
-
-    -- the pairs of instances and their stores, by that function
-    pub pairs_are : (is : List I) (v : I → V) → paired is (as_stored effect v is) ≡ map (λ b. (b, ((effect b).stores, v b))) is
-    pairs_are [] v = refl
-    pairs_are (b ∷ is) v = ap (λ l. (b, ((effect b).stores, v b)) ∷ l) (pairs_are is v)
+            ∙ ap (λ l. ((effect b).stores, value_in (b ∷ is) (x.1 ∷ vs) b) ∷ l) (rest ∙ tail_values b x.1 is vs is n.0))

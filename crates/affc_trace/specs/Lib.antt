@@ -4,3 +4,4 @@ pub mod Inverses
 pub mod Target
 pub mod Effects
 pub mod Dataflow
+pub mod Laws

@@ -48,8 +48,3 @@ target program schedule p = ordered (λ b. b) schedule p (trace program p)
 pub record IsInOrder {A : Type 0} (cmp : A → A → Ordering) (xs ys : List A) : Type 0 where
   pub reordered : IsReordered xs ys
   pub increasing : (a b : A) → Earlier ys a b → cmp a b ≡ Less
-
-abbrev pub paired : {A B : Type 0} → List A → List B → List (A × B)
-paired [] ys = []
-paired (x ∷ xs) [] = []
-paired (x ∷ xs) (y ∷ ys) = (x, y) ∷ paired xs ys
