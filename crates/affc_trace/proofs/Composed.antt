@@ -19,7 +19,7 @@ use Rattle.affc_trace.specs.declared.schedule.Schedule.{Schedule}
 use Rattle.affc_trace.specs.Law.{Effect, placed, stores_of, as_stored, SameLastStores, HandedIn}
 use Rattle.affc_trace.specs.Orders.{KeepsArrays}
 use Rattle.affc_trace.specs.Target.{ordered, target}
-use Rattle.affc_trace.specs.Effects.{effect, effects, is_plain}
+use Rattle.affc_trace.specs.Effects.{effect, effects, has_no_locals}
 use Rattle.affc_trace.specs.Dataflow.{same_element, OneArray, Legal, Admissible}
 use Rattle.affc_trace.specs.Laws.{IsInContext, KeepsParameters, IsUnwritten, RunsTarget, in_target_order, EqualLastStores, KeepsSources, RunsAsSource, CompilesSource}
 use Rattle.affc_trace.proofs.LastStores.{equal_last_stores}

@@ -11,7 +11,7 @@ use Rattle.affc_trace.specs.declared.schedule.Schedule.{Schedule}
 use Rattle.affc_trace.specs.Law.{Effect, placed, or_else, last_at, held, stores_of, as_stored}
 use Rattle.affc_trace.specs.Target.{target}
 use Rattle.affc_trace.specs.Dataflow.{same_element, Legal}
-use Rattle.affc_trace.specs.Effects.{effect, effects, is_plain}
+use Rattle.affc_trace.specs.Effects.{effect, effects, has_no_locals}
 use Rattle.affc_trace.specs.Laws.{RunOfEffects, EffectsOfTrace, TargetIsReordered, ValuesByInstance}
 use Rattle.affc_trace.proofs.LastStores.{option_map, last_value}
 use Rattle.affc_trace.proofs.Legality.{same_last}
@@ -35,13 +35,13 @@ pub run_of_effects_law : RunOfEffects
 run_of_effects_law program p store end e = let d = done program p store end e in d.run ∙ ap Some (sym d.written)
 
 pub effects_of_trace : EffectsOfTrace
-effects_of_trace program p plain = trace_effects program p (to_T (is_plain program) plain)
+effects_of_trace program p plain = trace_effects program p (to_T (has_no_locals program) plain)
 
 pub target_is_reordered_law : TargetIsReordered
 target_is_reordered_law program schedule p = target_is_reordered program schedule p (once program p)
 
 -- a run that ends, by its trace's instances
-pub ended_run : (program : Program) (p : List ℤ) (store : Store) (end : State) → IsTrue (is_plain program) → meaning program p store ≡ Ended end
+pub ended_run : (program : Program) (p : List ℤ) (store : Store) (end : State) → IsTrue (has_no_locals program) → meaning program p store ≡ Ended end
     → stores_of same_element (at store) [] (map (effect program p) (trace program p)) ≡ Some end.written
 ended_run program p store end plain e =
     ap (stores_of same_element (at store) []) (sym (effects_of_trace program p plain)) ∙ run_of_effects_law program p store end e

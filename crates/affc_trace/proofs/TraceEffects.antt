@@ -1,4 +1,4 @@
--- The effects of a program without blocks are those of its trace's instances.
+-- The effects of a program without locals are those of its trace's instances.
 use Rattle.std.proofs.Common.{◌≡◌, ℕ, ◌+◌, ℤ, T, Bool, true, false, ◌&&◌, if◌then◌else◌, List, [], ◌∷◌, ◌++◌, length, Option, Some, None, map, flat_map, sum_by, refl, sym, ap, subst, ◌∙◌, arith}
 use Rattle.std.specs.Prelude.{slice_get}
 use Rattle.affc_ast.specs.declared.tree.Stmt.{Stmt}
@@ -12,7 +12,7 @@ use Rattle.affc_ast.specs.Fits.{whole, all_hold}
 use Rattle.affc_ast.specs.Trace.{count_from, walk_step, in_walk_order, Assignment, assignments_step, assignments, trace}
 use Rattle.affc_ast.specs.Recursion.{by_stmt, by_each}
 use Rattle.affc_trace.specs.Law.{Effect}
-use Rattle.affc_trace.specs.Effects.{effect_by, effect, each_of, effects_step, effects, plain_step, all_true, is_plain}
+use Rattle.affc_trace.specs.Effects.{effect_by, effect, each_of, effects_step, effects, plain_step, all_true, has_no_locals}
 use Rattle.affc_trace.proofs.LastStores.{map_append, append_nil}
 use Rattle.affc_trace.proofs.EndedReads.{append_assoc}
 use Rattle.affc_trace.proofs.Runs.{PartsAt, parts_left, parts_right, part_count, walk_count, both_true}
@@ -29,8 +29,8 @@ map_if f false xs ys e = refl
 abbrev pub effect_in : List Assignment → List ℤ → Instance → Effect Element ℕ
 effect_in all p b = effect_by (slice_get all b.statement) (p ++ b.iterators)
 
-abbrev pub is_plain_list : List Stmt → Bool
-is_plain_list body = all_true (map (by_stmt plain_step) body)
+abbrev pub no_locals_in : List Stmt → Bool
+no_locals_in body = all_true (map (by_stmt plain_step) body)
 
 module _ (all : List Assignment) (p : List ℤ) where
   mutual
@@ -45,7 +45,8 @@ module _ (all : List Assignment) (p : List ℤ) where
         let n : k + 0 ≡ k = omega arith in
         let found : Some (record { op = op; array = array; subs = subs; value = value }) ≡ slice_get all k = sym (ap (slice_get all) (sym n) ∙ parts 0 _ refl) in
         ap (λ o. effect_by o (p ++ ts) ∷ []) found
-    stmt_effects (s.Block' locals shape body) k ts plain parts = absurd plain
+    stmt_effects (s.Block' [] shape body) k ts plain parts = row_effects body k ts plain parts
+    stmt_effects (s.Block' (l ∷ ls) shape body) k ts plain parts = absurd plain
 
     row_effects : {n : _} (body : Row_of-Stmt n) (k : ℕ) (ts : List ℤ) → T (all_true (by_each plain_step body)) → PartsAt all k (flat_map (λ a. a) (by_each assignments_step body))
         → each_of (by_each effects_step body) (p ++ ts) ≡ map (effect_in all p) (in_walk_order (by_each (walk_step p) body) k ts)
@@ -59,11 +60,11 @@ module _ (all : List Assignment) (p : List ℤ) where
         ∙ ap (λ l. map (effect_in all p) ((by_stmt (walk_step p) x).instances k ts) ++ l) (row_effects rest (k + (by_stmt (walk_step p) x).assigns) ts both.1 right)
         ∙ sym (map_append (effect_in all p) ((by_stmt (walk_step p) x).instances k ts) _)
 
-  list_effects : (body : List Stmt) (k : ℕ) (ts : List ℤ) → T (is_plain_list body) → PartsAt all k (flat_map (by_stmt assignments_step) body)
+  list_effects : (body : List Stmt) (k : ℕ) (ts : List ℤ) → T (no_locals_in body) → PartsAt all k (flat_map (by_stmt assignments_step) body)
       → each_of (map (by_stmt effects_step) body) (p ++ ts) ≡ map (effect_in all p) (in_walk_order (map (by_stmt (walk_step p)) body) k ts)
   list_effects [] k ts plain parts = refl
   list_effects (x ∷ rest) k ts plain parts =
-      let both = both_true (by_stmt plain_step x) (is_plain_list rest) plain in
+      let both = both_true (by_stmt plain_step x) (no_locals_in rest) plain in
       let others : List Assignment = flat_map (by_stmt assignments_step) rest in
       let right : PartsAt all (k + (by_stmt (walk_step p) x).assigns) others =
           subst (λ m. PartsAt all (k + m) others) (sym (walk_count p x ∙ part_count x)) (parts_right all k (by_stmt assignments_step x) others parts) in
@@ -71,7 +72,7 @@ module _ (all : List Assignment) (p : List ℤ) where
       ∙ ap (λ l. map (effect_in all p) ((by_stmt (walk_step p) x).instances k ts) ++ l) (list_effects rest (k + (by_stmt (walk_step p) x).assigns) ts both.1 right)
       ∙ sym (map_append (effect_in all p) ((by_stmt (walk_step p) x).instances k ts) _)
 
-pub trace_effects : (program : Program) (p : List ℤ) → T (is_plain program) → effects program p ≡ map (effect program p) (trace program p)
+pub trace_effects : (program : Program) (p : List ℤ) → T (has_no_locals program) → effects program p ≡ map (effect program p) (trace program p)
 unfolding PartsAt
 trace_effects program p plain =
     let all : List Assignment = assignments program in

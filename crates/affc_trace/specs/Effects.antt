@@ -55,11 +55,11 @@ value_by (Some a) names vs = combining a.op (taking a.value names) vs
 abbrev pub effect_by : Option Assignment → List ℤ → Effect Element ℕ
 effect_by a names = record { loads = loaded_by a names; stores = stored_by a names; value = value_by a names }
 
--- what an instance of a program without blocks of locals does
+-- what an instance of a program without locals does
 abbrev pub effect : Program → List ℤ → Instance → Effect Element ℕ
 effect program p b = effect_by (slice_get (assignments program) b.statement) (p ++ b.iterators)
 
--- ---- what a whole program does, blocks of locals included
+-- ---- what a whole program does, locals included
 
 abbrev pub with_all : List Local → List ℤ → List ℤ
 with_all [] names = names
@@ -81,7 +81,7 @@ effects_step (Block locals body) names = each_of body (with_all locals names)
 abbrev pub effects : Program → List ℤ → List (Effect Element ℕ)
 effects program p = each_of (map (by_stmt effects_step) program.body) p
 
--- ---- programs without blocks of locals, as each without the prelude
+-- ---- programs without locals, as each without the prelude
 
 abbrev pub all_true : List Bool → Bool
 all_true [] = true
@@ -91,7 +91,8 @@ abbrev pub plain_step : Stmt-F Bool → Bool
 plain_step (For iter low rel high body) = all_true body
 plain_step (If conds body) = all_true body
 plain_step (Assign op array subs value) = true
-plain_step (Block locals body) = false
+plain_step (Block [] body) = all_true body
+plain_step (Block (l ∷ ls) body) = false
 
-abbrev pub is_plain : Program → Bool
-is_plain program = all_true (map (by_stmt plain_step) program.body)
+abbrev pub has_no_locals : Program → Bool
+has_no_locals program = all_true (map (by_stmt plain_step) program.body)

@@ -13,7 +13,7 @@ use Rattle.affc_trace.specs.declared.schedule.Schedule.{Schedule}
 use Rattle.affc_trace.specs.Law.{placed, stores_of, as_stored, SameLastStores}
 use Rattle.affc_trace.specs.Orders.{AreDistinct, IsReordered}
 use Rattle.affc_trace.specs.Target.{ordered, target}
-use Rattle.affc_trace.specs.Effects.{effect, effects, is_plain}
+use Rattle.affc_trace.specs.Effects.{effect, effects, has_no_locals}
 use Rattle.affc_trace.specs.Dataflow.{same_element, Legal, Admissible}
 
 -- ---- Premises
@@ -51,9 +51,9 @@ abbrev pub RunOfEffects : Type 0
 RunOfEffects = (program : Program) (p : List ℤ) (store : Store) (end : State)
     → meaning program p store ≡ Ended end → stores_of same_element (at store) [] (effects program p) ≡ Some end.written
 
--- Without blocks of locals these are the effects of the trace's instances.
+-- Without locals these are the effects of the trace's instances.
 abbrev pub EffectsOfTrace : Type 0
-EffectsOfTrace = (program : Program) (p : List ℤ) → IsTrue (is_plain program) → effects program p ≡ map (effect program p) (trace program p)
+EffectsOfTrace = (program : Program) (p : List ℤ) → IsTrue (has_no_locals program) → effects program p ≡ map (effect program p) (trace program p)
 
 -- Each instance stands once in the trace, and once in the target.
 abbrev pub TargetIsReordered : Type 0
@@ -61,7 +61,7 @@ TargetIsReordered = (program : Program) (schedule : Schedule) (p : List ℤ) →
 
 -- What the instances store in a run that ends is a function of the instance.
 abbrev pub ValuesByInstance : Type 0
-ValuesByInstance = (source : Program) (p : List ℤ) (store : Store) (end : State) → IsTrue (is_plain source) → meaning source p store ≡ Ended end
+ValuesByInstance = (source : Program) (p : List ℤ) (store : Store) (end : State) → IsTrue (has_no_locals source) → meaning source p store ≡ Ended end
     → (v : Instance → ℕ) × (end.written ≡ as_stored (effect source p) v (trace source p))
 
 -- The law of last stores: where each load in `order` finds, at the place of its element, a store by the instance that is the
@@ -69,7 +69,7 @@ ValuesByInstance = (source : Program) (p : List ℤ) (store : Store) (end : Stat
 -- values that they store in the source's run.
 abbrev pub EqualLastStores : Type 0
 EqualLastStores = (source : Program) (p : List ℤ) (store : Store) (end : State) (place : Element → Element) (v : Instance → ℕ) (order : List Instance)
-    → IsTrue (is_plain source) → Fits source p store → meaning source p store ≡ Ended end
+    → IsTrue (has_no_locals source) → Fits source p store → meaning source p store ≡ Ended end
     → end.written ≡ as_stored (effect source p) v (trace source p)
     → KeepsParameters source place
     → SameLastStores same_element same_element place (effect source p) (trace source p) order
@@ -78,14 +78,14 @@ EqualLastStores = (source : Program) (p : List ℤ) (store : Store) (end : State
 -- A legal schedule and admissible places give the premise of that law, where the source's run ends.
 abbrev pub KeepsSources : Type 0
 KeepsSources = (source : Program) (schedule : Schedule) (p : List ℤ) (store : Store) (end : State) (place : Element → Element)
-    → IsTrue (is_plain source) → Fits source p store → meaning source p store ≡ Ended end
+    → IsTrue (has_no_locals source) → Fits source p store → meaning source p store ≡ Ended end
     → Legal source schedule p → Admissible source schedule p place → KeepsParameters source place
     → SameLastStores same_element same_element place (effect source p) (trace source p) (target source schedule p)
 
 -- So a printed program that runs the target follows the source, and the output arrays hold the same at both ends.
 abbrev pub RunsAsSource : Type 0
 RunsAsSource = (printed source : Program) (schedule : Schedule) (p : List ℤ) (store : Store) (end : State) (place : Element → Element)
-    → IsTrue (is_plain source) → printed.params ≡ source.params → Fits source p store → meaning source p store ≡ Ended end
+    → IsTrue (has_no_locals source) → printed.params ≡ source.params → Fits source p store → meaning source p store ≡ Ended end
     → Legal source schedule p → Admissible source schedule p place → KeepsParameters source place
     → RunsTarget printed source schedule place p store
     → RunsAs printed source (in_target_order schedule p) place p store
@@ -93,7 +93,7 @@ RunsAsSource = (printed source : Program) (schedule : Schedule) (p : List ℤ) (
 -- The same for all data that fit.
 abbrev pub CompilesSource : Type 0
 CompilesSource = (printed source : Program) (schedule : Schedule) (place : List ℤ → Element → Element)
-    → IsTrue (is_plain source)
+    → IsTrue (has_no_locals source)
     → printed.name ≡ source.name → printed.params ≡ source.params → printed.context ≡ source.context
     → ((p : List ℤ) (store : Store) → Fits source p store → (end : State) × (meaning source p store ≡ Ended end))
     → ((p : List ℤ) → IsInContext source p → Legal source schedule p)

@@ -8,7 +8,7 @@ pub fn run_of_effects()
 {
 }
 
-/// A program without blocks of locals does what its trace's instances do, in order.
+/// A program without locals does what its trace's instances do, in order.
 pub fn effects_of_trace()
     ensures law { EffectsOfTrace }
 {
