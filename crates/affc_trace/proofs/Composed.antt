@@ -62,15 +62,15 @@ handed source p store place fits keeps x u e = ap (at store) (keeps.own x (hande
 pub equal_last_stores_law : EqualLastStores
 equal_last_stores_law source p store end place v order plain fits ended values keeps same =
     equal_last_stores (effect source p) same_element same_element place (at store) (at store) v (trace source p) order
-      (ended_run source p store end plain ended ∙ ap Some values) same (handed source p store place fits keeps)
+    (ended_run source p store end plain ended ∙ ap Some values) same (handed source p store place fits keeps)
 
 pub keeps_sources_law : KeepsSources
 keeps_sources_law source schedule p store end place plain fits ended legal fold keeps =
     let its : Instance → Effect Element ℕ = effect source p in
     let values = values_by_instance source p store end plain ended in
     keeps_sources its same_element same_element same_element_decides same_element_decides OneArray place (at store) (trace source p) (target source schedule p)
-      (target_is_reordered_law source schedule p) legal fold (keeps_arrays source p store place fits keeps)
-      (loads_are_given its same_element (at store) values.0 (trace source p) (ended_run source p store end plain ended ∙ ap Some values.1))
+    (target_is_reordered_law source schedule p) legal fold (keeps_arrays source p store place fits keeps)
+    (loads_are_given its same_element (at store) values.0 (trace source p) (ended_run source p store end plain ended ∙ ap Some values.1))
 
 -- ---- the stores of a run with their instances
 
@@ -115,9 +115,9 @@ same_where : (test : Element → Bool) (s t : Store) → T (is_sorted element_cm
     → ((x : Element) → test x ≡ true → at s x ≡ at t x) → where_key element_cmp test s ≡ where_key element_cmp test t
 same_where test s t g h same =
     same_entries element_cmp element_cmp_total element_cmp_same _ _ (is_sorted-where_key element_cmp test s g) (is_sorted-where_key element_cmp test t h) (λ q.
-      find-where_key element_cmp test q (λ x e. ap test (sym (element_cmp_same q x e))) s
-      ∙ by_test q (test q) refl
-      ∙ sym (find-where_key element_cmp test q (λ x e. ap test (sym (element_cmp_same q x e))) t))
+    find-where_key element_cmp test q (λ x e. ap test (sym (element_cmp_same q x e))) s
+    ∙ by_test q (test q) refl
+    ∙ sym (find-where_key element_cmp test q (λ x e. ap test (sym (element_cmp_same q x e))) t))
   where
     by_test : (q : Element) (b : Bool) → test q ≡ b → cond b (at s q) None ≡ cond b (at t q) None
     by_test q true e = same q e
@@ -131,10 +131,10 @@ runs_as_source printed source schedule p store end place plain params fits ended
     let same = keeps_sources_law source schedule p store end place plain fits ended legal fold keeps in
     let run = equal_last_stores_law source p store end place v (target source schedule p) plain fits ended values.1 keeps same in
     let last = ends printed p store (as_stored (placed place its) v (target source schedule p))
-          (ap (stores_of same_element (at store) []) runs.does ∙ run) (λ c n e. no_other c (runs.only_unwritten c n e)) in
+    (ap (stores_of same_element (at store) []) runs.does ∙ run) (λ c n e. no_other c (runs.only_unwritten c n e)) in
     let sorted : T (is_sorted element_cmp store) = subst T (sym fits.ordered) tt in
     let contents : (x : Element) → x.0 < length (arrays_of source.params) → at last.0.store x ≡ at end.store x =
-          λ x h. same_contents printed source schedule p store end last.0 place v ended last.1 legal values.1 last.2 x (keeps.own x h) (λ y e. alone source place keeps x y h e) in
+    λ x h. same_contents printed source schedule p store end last.0 place v ended last.1 legal values.1 last.2 x (keeps.own x h) (λ y e. alone source place keeps x y h e) in
     record {
       follows = record {
         source_end = end;
@@ -145,8 +145,8 @@ runs_as_source printed source schedule p store end place plain params fits ended
         written = last.2 ∙ sym (in_order source schedule p place v end.written values.1);
       };
       same_outputs =
-        ap (λ ps. filter (λ e. is_output (slice_get (arrays_of ps) e.0.0)) last.0.store) params
-        ∙ same_where (λ x. is_output (slice_get (arrays_of source.params) x.0)) last.0.store end.store
+          ap (λ ps. filter (λ e. is_output (slice_get (arrays_of ps) e.0.0)) last.0.store) params
+          ∙ same_where (λ x. is_output (slice_get (arrays_of source.params) x.0)) last.0.store end.store
           (sorted_at_end printed p store last.0 last.1 sorted) (sorted_at_end source p store end ended sorted) (λ x e. contents x (is_parameter source x e));
     }
 
@@ -156,7 +156,7 @@ compiles_source printed source schedule place plain name params context ends leg
   parameters = params;
   context = context;
   runs = λ p store fits.
-    let end = ends p store fits in
-    let here : IsInContext source p = record { ranges = fits.ranges; context = fits.context } in
-    runs_as_source printed source schedule p store end.0 (place p) plain params fits end.1 (legal p here) (fold p here) (keeps p here) (runs p store fits);
+      let end = ends p store fits in
+      let here : IsInContext source p = record { ranges = fits.ranges; context = fits.context } in
+      runs_as_source printed source schedule p store end.0 (place p) plain params fits end.1 (legal p here) (fold p here) (keeps p here) (runs p store fits);
 }

@@ -47,9 +47,10 @@ ended_run program p store end plain e =
     ap (stores_of same_element (at store) []) (sym (effects_of_trace program p plain)) ∙ run_of_effects_law program p store end e
 
 pub values_by_instance : ValuesByInstance
-values_by_instance source p store end plain e =
-    (value_in same_instance same_instance_decides 0 (trace source p) (map (λ w. w.1) end.written),
-     stored_values same_instance same_instance_decides 0 same_element (effect source p) (at store) [] (trace source p) end.written (once source p) (ended_run source p store end plain e))
+values_by_instance source p store end plain e = (
+  value_in same_instance same_instance_decides 0 (trace source p) (map (λ w. w.1) end.written),
+  stored_values same_instance same_instance_decides 0 same_element (effect source p) (at store) [] (trace source p) end.written (once source p) (ended_run source p store end plain e),
+)
 
 pub held_at_end : (program : Program) (p : List ℤ) (store : Store) (end : State) → meaning program p store ≡ Ended end
     → (x : Element) → at end.store x ≡ held same_element (at store) end.written x
@@ -70,11 +71,11 @@ pub same_contents : (printed source : Program) (schedule : Schedule) (p : List �
 same_contents printed source schedule p store t u place v source_ends ends legal values values' x own alone =
     let its : Instance → Effect Element ℕ = effect source p in
     let last : last_at same_element x u.written ≡ last_at same_element x t.written =
-        ap (last_at same_element x) values'
-        ∙ last_value same_element (placed place its) v (target source schedule p) x
-        ∙ ap (λ z. option_map v (last_at same_element z (map (λ a. (place (its a).stores, a)) (target source schedule p)))) (sym own)
-        ∙ ap (option_map v) (same_last its same_element same_element same_element_decides same_element_decides place (trace source p) (target source schedule p)
-            (target_is_reordered_law source schedule p) legal x alone)
-        ∙ sym (last_value same_element its v (trace source p) x)
-        ∙ ap (last_at same_element x) (sym values) in
+    ap (last_at same_element x) values'
+    ∙ last_value same_element (placed place its) v (target source schedule p) x
+    ∙ ap (λ z. option_map v (last_at same_element z (map (λ a. (place (its a).stores, a)) (target source schedule p)))) (sym own)
+    ∙ ap (option_map v) (same_last its same_element same_element same_element_decides same_element_decides place (trace source p) (target source schedule p)
+    (target_is_reordered_law source schedule p) legal x alone)
+    ∙ sym (last_value same_element its v (trace source p) x)
+    ∙ ap (last_at same_element x) (sym values) in
     held_at_end printed p store u ends x ∙ ap (λ o. or_else o (at store x)) last ∙ sym (held_at_end source p store t source_ends x)

@@ -35,23 +35,30 @@ assigned_unwritten : (op : Option Op) (array : ArrayId) (subs : List Ix) (e : Va
     → all_held (at store) (effect_by (Some (record { op = op; array = array; subs = subs; value = e })) scope.names).loads ≡ None
 assigned_unwritten None array subs e node scope store here i a h =
     elim (bind_err (index_values subs (node + 1) scope.names) _ _ h) [
-      inl q ↦ not_fine (index_values subs (node + 1) scope.names) i a (indices_fine subs scope.names _) q
-    | inr q ↦ elim (bind_err ((value_of e).value _) _ _ q.2) [
-        inl r ↦ value_unwritten e _ i a r
-      | inr r ↦ elim (bind_err (touch scope here _ array q.0) _ _ r.2) [
-          inl u ↦ not_fine (touch scope here _ array q.0) i a (fine_if _ _ (OutOfBounds here _) tt) u
-        | inr u ↦ not_err _ _ u.2 ] ] ]
+      | inl q ↦ not_fine (index_values subs (node + 1) scope.names) i a (indices_fine subs scope.names _) q
+      | inr q ↦ elim (bind_err ((value_of e).value _) _ _ q.2) [
+        | inl r ↦ value_unwritten e _ i a r
+        | inr r ↦ elim (bind_err (touch scope here _ array q.0) _ _ r.2) [
+          | inl u ↦ not_fine (touch scope here _ array q.0) i a (fine_if _ _ (OutOfBounds here _) tt) u
+          | inr u ↦ not_err _ _ u.2
+        ]
+      ]
+    ]
 assigned_unwritten (Some op) array subs e node scope store here i a h =
     elim (bind_err (index_values subs (node + 1) scope.names) _ _ h) [
-      inl q ↦ not_fine (index_values subs (node + 1) scope.names) i a (indices_fine subs scope.names _) q
-    | inr q ↦ elim (bind_err (load scope store here 0 array q.0) _ _ q.2) [
-        inl o ↦ ap (λ o. both_of o (all_held (at store) (loads_of_value e scope.names)))
+      | inl q ↦ not_fine (index_values subs (node + 1) scope.names) i a (indices_fine subs scope.names _) q
+      | inr q ↦ elim (bind_err (load scope store here 0 array q.0) _ _ q.2) [
+        | inl o ↦ ap (λ o. both_of o (all_held (at store) (loads_of_value e scope.names)))
             (ap (λ l. at store (array.0, l)) (are_whole subs scope.names _ q.0 q.1) ∙ load_none scope store here 0 array q.0 i a o)
-      | inr o ↦ elim (bind_err ((value_of e).value _) _ _ o.2) [
-          inl r ↦ ap (both_of (at store (element scope.names array subs))) (value_unwritten e _ i a r) ∙ both_right _
-        | inr r ↦ elim (bind_err (touch scope here _ array q.0) _ _ r.2) [
-            inl u ↦ not_fine (touch scope here _ array q.0) i a (fine_if _ _ (OutOfBounds here _) tt) u
-          | inr u ↦ not_err _ _ u.2 ] ] ] ]
+        | inr o ↦ elim (bind_err ((value_of e).value _) _ _ o.2) [
+          | inl r ↦ ap (both_of (at store (element scope.names array subs))) (value_unwritten e _ i a r) ∙ both_right _
+          | inr r ↦ elim (bind_err (touch scope here _ array q.0) _ _ r.2) [
+            | inl u ↦ not_fine (touch scope here _ array q.0) i a (fine_if _ _ (OutOfBounds here _) tt) u
+            | inr u ↦ not_err _ _ u.2
+          ]
+        ]
+      ]
+    ]
 
 conditions_fine : (cs : List Compare) (names : List ℤ) (node : ℕ) → Fine (conditions cs node names)
 conditions_fine [] names node = tt
@@ -143,18 +150,18 @@ module _ (start : Element → Option ℕ) where
   ran_turns zero node x body f t h a = ran_nothing t a
   ran_turns (suc n) node x body f t h a =
       ran_then t (f x) (flat_map f (count_from n (x +ℤ pos 1))) _ (body x (begun t)) (ran_step t (f x) _ (h x (begun t) a)) (λ t' a'.
-        ran_reading t' t' (flat_map f (count_from n (x +ℤ pos 1))) _ (in_int64 node (x +ℤ pos 1)) (fine_if _ _ (Overflow node) tt) (λ y e.
-          subst (λ z. Ran t' (flat_map f (count_from n (x +ℤ pos 1))) (turns node n z body t')) (ok_if _ _ _ _ e)
-            (ran_turns n node (x +ℤ pos 1) body f t' h a')))
+      ran_reading t' t' (flat_map f (count_from n (x +ℤ pos 1))) _ (in_int64 node (x +ℤ pos 1)) (fine_if _ _ (Overflow node) tt) (λ y e.
+      subst (λ z. Ran t' (flat_map f (count_from n (x +ℤ pos 1))) (turns node n z body t')) (ok_if _ _ _ _ e)
+      (ran_turns n node (x +ℤ pos 1) body f t' h a')))
 
   ran_locals : (ls : List Local) (node : ℕ) (scope : Scope) (t : State) (next : Scope → Outcome) (k : List ℤ → List (Effect Element ℕ))
       → ((inner : Scope) → Ran t (k inner.names) (next inner)) → Ran t (k (with_all ls scope.names)) (reading (with_locals ls node scope) t next)
   ran_locals [] node scope t next k h = h scope
   ran_locals (l ∷ ls) node scope t next k h =
       subst (Ran t (k (with_all (l ∷ ls) scope.names))) (sym (reading_bind (index_value l.value node scope.names) _ t next))
-        (ran_reading t t _ _ (index_value l.value node scope.names) (index_fine l.value scope.names node) (λ x e.
-          subst (λ z. Ran t (k (with_all ls (scope.names ++ z ∷ []))) (reading (with_locals ls (node + nodes_of_ix l.value) (with_local scope x)) t next)) (sym (is_whole l.value scope.names node x e))
-            (ran_locals ls (node + nodes_of_ix l.value) (with_local scope x) t next k h)))
+      (ran_reading t t _ _ (index_value l.value node scope.names) (index_fine l.value scope.names node) (λ x e.
+      subst (λ z. Ran t (k (with_all ls (scope.names ++ z ∷ []))) (reading (with_locals ls (node + nodes_of_ix l.value) (with_local scope x)) t next)) (sym (is_whole l.value scope.names node x e))
+      (ran_locals ls (node + nodes_of_ix l.value) (with_local scope x) t next k h)))
 
   written_cases : (b : Bool) (v : ℕ) (o l s : Option ℕ) → o ≡ or_else l s → cond b (Some v) o ≡ or_else (or_else (if b then Some v else None) l) s
   written_cases true v o l s e = refl
@@ -170,7 +177,7 @@ module _ (start : Element → Option ℕ) where
   none_one : (w : List (Element × ℕ)) (d : Effect Element ℕ) → all_held (held same_element start w) d.loads ≡ None → stores_of same_element start w (d ∷ []) ≡ None
   none_one w d e =
       ap (λ o. and_then o (λ vs. let e : Element × ℕ = (d.stores, d.value vs) in
-          and_then (stores_of same_element start (w ++ e ∷ []) []) (λ es. Some (e ∷ es)))) e
+      and_then (stores_of same_element start (w ++ e ∷ []) []) (λ es. Some (e ∷ es)))) e
 
   ran_assign : (op : Option Op) (array : ArrayId) (subs : List Ix) (e : Val) (node : ℕ) (scope : Scope) (here : Instance) (t : State) → Agrees t
       → (r : Result (Element × ℕ) Cause) → assigned op array subs e node scope t.store here ≡ r
@@ -204,15 +211,15 @@ module _ (start : Element → Option ℕ) where
         let f : ℤ → List (Effect Element ℕ) = λ x. each_of (by_each effects_step body) (scope.names ++ x ∷ []) in
         ran_reading t t _ _ (index_value low (place.node + 1) scope.names) (index_fine low scope.names _) (λ first e.
         ran_reading t t _ _ (index_value high (place.node + 1 + nodes_of_ix low) scope.names) (index_fine high scope.names _) (λ last k.
-          ran_at t (flat_map f (count_from (turns_of rel first last) first)) _ _
-            (ap (λ z. flat_map f (count_from (turns_of rel first z) first)) (sym (is_whole high scope.names _ last k))
-              ∙ ap (λ y. flat_map f (count_from (turns_of rel y (whole high scope.names)) y)) (sym (is_whole low scope.names _ first e)))
-            (ran_turns (turns_of rel first last) place.node first _ f t (λ y u g. body_ran body (inside place _) (with_iterator scope y) u g) a)))
+        ran_at t (flat_map f (count_from (turns_of rel first last) first)) _ _
+        (ap (λ z. flat_map f (count_from (turns_of rel first z) first)) (sym (is_whole high scope.names _ last k))
+        ∙ ap (λ y. flat_map f (count_from (turns_of rel y (whole high scope.names)) y)) (sym (is_whole low scope.names _ first e)))
+        (ran_turns (turns_of rel first last) place.node first _ f t (λ y u g. body_ran body (inside place _) (with_iterator scope y) u g) a)))
     stmt_ran (s.If' conds shape body) place scope t a =
         ran_reading t t _ _ (conditions conds (place.node + 1) scope.names) (conditions_fine conds scope.names _) (λ b e.
-          ran_at t (if b then each_of (by_each effects_step body) scope.names else []) _ _
-            (ap (λ c. if c then each_of (by_each effects_step body) scope.names else []) (sym (conditions_hold conds scope.names _ b e)))
-            (ran_if b t (each_of (by_each effects_step body) scope.names) _ a (body_ran body (inside place _) scope t a)))
+        ran_at t (if b then each_of (by_each effects_step body) scope.names else []) _ _
+        (ap (λ c. if c then each_of (by_each effects_step body) scope.names else []) (sym (conditions_hold conds scope.names _ b e)))
+        (ran_if b t (each_of (by_each effects_step body) scope.names) _ a (body_ran body (inside place _) scope t a)))
     stmt_ran (s.Assign op array subs value) place scope t a =
         ran_assign op array subs value place.node scope _ t a _ refl
     stmt_ran (s.Block' locals shape body) place scope t a =
@@ -223,14 +230,14 @@ module _ (start : Element → Option ℕ) where
     body_ran end_of-Stmt place scope t a = ran_nothing t a
     body_ran (more_of-Stmt x rest) place scope t a =
         ran_then t (by_stmt effects_step x scope.names) (each_of (by_each effects_step rest) scope.names) _ ((part_of x).run place scope t)
-          (stmt_ran x place scope t a) (λ t' a'. body_ran rest (past (part_of x) place) scope t' a')
+        (stmt_ran x place scope t a) (λ t' a'. body_ran rest (past (part_of x) place) scope t' a')
 
   stmts_ran : (body : List Stmt) (place : Position) (scope : Scope) (t : State) → Agrees t
       → Ran t (each_of (map (by_stmt effects_step) body) scope.names) (in_order (map part_of body) place scope t)
   stmts_ran [] place scope t a = ran_nothing t a
   stmts_ran (x ∷ rest) place scope t a =
       ran_then t (by_stmt effects_step x scope.names) (each_of (map (by_stmt effects_step) rest) scope.names) _ ((part_of x).run place scope t)
-        (stmt_ran x place scope t a) (λ t' a'. stmts_ran rest (past (part_of x) place) scope t' a')
+      (stmt_ran x place scope t a) (λ t' a'. stmts_ran rest (past (part_of x) place) scope t' a')
 
 extents_fine : (es : List Ix) (array node : ℕ) (names : List ℤ) → Fine (extents_of array es node names)
 extents_fine [] array node names = tt

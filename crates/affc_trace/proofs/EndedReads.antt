@@ -160,12 +160,15 @@ value_holds (v.Bin' op h (more_of-Val a end_of-Val) g (more_of-Val b end_of-Val)
     let q = bind_ok ((value_of b).value (record s { node = s.node + 1 + (value_of a).nodes; access = s.access + (value_of a).loads })) _ _ p.2 in
     let k = value_holds a (deeper s) p.0 p.1 in
     let l = value_holds b (record s { node = s.node + 1 + (value_of a).nodes; access = s.access + (value_of a).loads }) q.0 q.1 in
-    let names : List ℤ = s.scope.names in
-    (k.0 ++ l.0, all_held_both (at s.store) (loads_of_value a names) (loads_of_value b names) k.0 l.0 k.1 l.1, λ rest.
-      ap (λ vs. then_taking (operate op) (taking a names vs) (taking b names)) (append_assoc k.0 l.0 rest)
-      ∙ ap (λ t. then_taking (operate op) t (taking b names)) (k.2 (l.0 ++ rest))
-      ∙ ap (λ t. then_taking (operate op) (p.0, []) (λ vs. t)) (l.2 rest)
-      ∙ ap (with_rest rest) (same_ok _ _ q.2))
+    let names : List ℤ = s.scope.names in (
+      k.0 ++ l.0,
+      all_held_both (at s.store) (loads_of_value a names) (loads_of_value b names) k.0 l.0 k.1 l.1,
+      λ rest.
+          ap (λ vs. then_taking (operate op) (taking a names vs) (taking b names)) (append_assoc k.0 l.0 rest)
+          ∙ ap (λ t. then_taking (operate op) t (taking b names)) (k.2 (l.0 ++ rest))
+          ∙ ap (λ t. then_taking (operate op) (p.0, []) (λ vs. t)) (l.2 rest)
+          ∙ ap (with_rest rest) (same_ok _ _ q.2),
+    )
 value_holds (v.Shift' left h (more_of-Val a end_of-Val) by) s x e =
     let p = bind_ok ((value_of a).value (deeper s)) _ _ e in
     let r = value_holds a (deeper s) p.0 p.1 in
@@ -189,10 +192,12 @@ assigns None array subs e node scope store here stored h =
     let new = bind_ok ((value_of e).value _) _ _ xs.2 in
     let touched = bind_ok (touch scope here _ array xs.0) _ _ new.2 in
     let r = value_holds e _ new.0 new.1 in
-    let pair : (touched.0, new.0) ≡ stored = same_ok _ _ touched.2 in
-    (r.0, r.1,
+    let pair : (touched.0, new.0) ≡ stored = same_ok _ _ touched.2 in (
+      r.0,
+      r.1,
       ap (λ l. (array.0, l)) (are_whole subs scope.names _ xs.0 xs.1) ∙ touch_is scope here _ array xs.0 touched.0 touched.1 ∙ ap (λ u. u.0) pair,
-      ap (λ vs. (taking e scope.names vs).0) (append_nil_twice r.0) ∙ ap (λ u. u.0) (r.2 []) ∙ ap (λ u. u.1) pair)
+      ap (λ vs. (taking e scope.names vs).0) (append_nil_twice r.0) ∙ ap (λ u. u.0) (r.2 []) ∙ ap (λ u. u.1) pair,
+    )
 assigns (Some op) array subs e node scope store here stored h =
     let xs = bind_ok (index_values subs (node + 1) scope.names) _ _ h in
     let old = bind_ok (load scope store here 0 array xs.0) _ _ xs.2 in
@@ -200,9 +205,10 @@ assigns (Some op) array subs e node scope store here stored h =
     let touched = bind_ok (touch scope here _ array xs.0) _ _ new.2 in
     let r = value_holds e _ new.0 new.1 in
     let pair : (touched.0, operate op old.0 new.0) ≡ stored = same_ok _ _ touched.2 in
-    let subscripts : element scope.names array subs ≡ (array.0, xs.0) = ap (λ l. (array.0, l)) (are_whole subs scope.names _ xs.0 xs.1) in
-    (old.0 ∷ r.0,
+    let subscripts : element scope.names array subs ≡ (array.0, xs.0) = ap (λ l. (array.0, l)) (are_whole subs scope.names _ xs.0 xs.1) in (
+      old.0 ∷ r.0,
       ap (λ o. both_of o (all_held (at store) (loads_of_value e scope.names))) (ap (at store) subscripts ∙ load_is scope store here 0 array xs.0 old.0 old.1)
-      ∙ ap (both_of (Some old.0)) r.1,
+          ∙ ap (both_of (Some old.0)) r.1,
       subscripts ∙ touch_is scope here _ array xs.0 touched.0 touched.1 ∙ ap (λ u. u.0) pair,
-      ap (λ vs. operate op old.0 (taking e scope.names vs).0) (append_nil_twice r.0) ∙ ap (λ u. operate op old.0 u.0) (r.2 []) ∙ ap (λ u. u.1) pair)
+      ap (λ vs. operate op old.0 (taking e scope.names vs).0) (append_nil_twice r.0) ∙ ap (λ u. operate op old.0 u.0) (r.2 []) ∙ ap (λ u. u.1) pair,
+    )

@@ -117,14 +117,14 @@ module _ {I X Y V : Type 0} (effect : I → Effect X V) (same : X → X → Bool
       let effect' : I → Effect Y V = placed place effect in
       let next : List I = before ++ b ∷ [] in
       let values : all_held (held same' start' (as_stored effect' v before)) (effect' b).loads ≡ Some s.0 =
-          all_held_moved _ _ (effect b).loads s.0 s.1 (λ x i u. held_moved before p.0 x u handed (p.3 x i)) in
+      all_held_moved _ _ (effect b).loads s.0 s.1 (λ x i u. held_moved before p.0 x u handed (p.3 x i)) in
       let more = target_values trace target run sames handed next after (e ∙ sym (push_append before b after)) in
       ap (λ o. and_then o (λ vs. let e : Y × V = ((effect' b).stores, (effect' b).value vs) in
-          and_then (stores_of same' start' (as_stored effect' v before ++ e ∷ []) (map effect' after)) (λ es. Some (e ∷ es)))) values
+      and_then (stores_of same' start' (as_stored effect' v before ++ e ∷ []) (map effect' after)) (λ es. Some (e ∷ es)))) values
       ∙ ap (λ u. let e : Y × V = ((effect' b).stores, u) in
-          and_then (stores_of same' start' (as_stored effect' v before ++ e ∷ []) (map effect' after)) (λ es. Some (e ∷ es))) s.2
+      and_then (stores_of same' start' (as_stored effect' v before ++ e ∷ []) (map effect' after)) (λ es. Some (e ∷ es))) s.2
       ∙ ap (λ w. let e : Y × V = ((effect' b).stores, v b) in
-          and_then (stores_of same' start' w (map effect' after)) (λ es. Some (e ∷ es))) (sym (map_append (λ b. ((effect' b).stores, v b)) before (b ∷ [])))
+      and_then (stores_of same' start' w (map effect' after)) (λ es. Some (e ∷ es))) (sym (map_append (λ b. ((effect' b).stores, v b)) before (b ∷ [])))
       ∙ ap (λ o. and_then o (λ es. Some (((effect' b).stores, v b) ∷ es))) more
 
 pub equal_last_stores : {I X Y V : Type 0} → EqualLastStores I X Y V

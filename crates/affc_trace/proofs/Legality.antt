@@ -75,8 +75,9 @@ module _ {I X V : Type 0} (effect : I → Effect X V) (same : X → X → Bool) 
       (inr p.0, p.1, λ d i s. elim i [ inl q ↦ inr (inl (q, p.0)) | inr q ↦ elim (p.2 d q s) [ inl r ↦ inl r | inr r ↦ inr (inr r) ] ])
   last_step a done x None true p e = (inl refl, (decides x (effect a).stores).0 e, λ d i s. elim i [ inl q ↦ inl q | inr q ↦ absurd (p d q s) ])
   last_step a done x None false p e = λ d i s. elim i [
-      inl q ↦ absurd (true≢false (sym ((decides x (effect a).stores).1 (s ∙ ap (λ i. (effect i).stores) q)) ∙ e))
-    | inr q ↦ p d q s ]
+    | inl q ↦ absurd (true≢false (sym ((decides x (effect a).stores).1 (s ∙ ap (λ i. (effect i).stores) q)) ∙ e))
+    | inr q ↦ p d q s
+  ]
 
   pub is_last : (done : List I) (x : X) → IsLast done x (last_store same effect done x)
   unfolding IsLast
@@ -101,9 +102,10 @@ module _ {I X Y V : Type 0} (effect : I → Effect X V) (same : X → X → Bool
   stood_before b c x i s e =
       let apart : c ≢ b = λ q. one_way target c b re.once_in_target e (subst (λ z. Earlier target z c) q (subst (λ z. Earlier target c z) (sym q) e)) in
       elim (either_way trace c b apart (re.no_other c (earlier_is_in target c b e)) (re.no_other b (later_is_in target c b e))) [
-        inl f ↦ f
-      | inr f ↦ absurd (one_way target c b re.once_in_target e
-          (legal b c (λ q. apart (sym q)) (record { element = x; first = inl i; second = inr s; stored = inr s }) f)) ]
+        | inl f ↦ f
+        | inr f ↦ absurd (one_way target c b re.once_in_target e
+            (legal b c (λ q. apart (sym q)) (record { element = x; first = inl i; second = inr s; stored = inr s }) f))
+      ]
 
   -- c stores at the place of x after a, whose value is still to be loaded
   none_between : (done rest : List I) (a b c : I) (x : X) (t : Bool) → same x (effect c).stores ≡ t → trace ≡ done ++ b ∷ rest → IsIn x (effect b).loads
@@ -114,11 +116,12 @@ module _ {I X Y V : Type 0} (effect : I → Effect X V) (same : X → X → Bool
       let stored : x ≡ (effect c).stores = (decides x (effect c).stores).0 t in
       let in_done : IsIn c done = in_front done rest c b (subst AreDistinct e re.once) (subst (λ z. Earlier z c b) e (stood_before b c x i stored before)) in
       elim (p.2 c in_done stored) [
-        inl q ↦ one_way target a c re.once_in_target after (subst (λ z. Earlier target c z) q (subst (λ z. Earlier target z c) (sym q) after))
-      | inr q ↦ one_way target a c re.once_in_target after
-          (legal c a (λ r. one_way target a c re.once_in_target after (subst (λ z. Earlier target c z) r (subst (λ z. Earlier target z c) (sym r) after)))
+        | inl q ↦ one_way target a c re.once_in_target after (subst (λ z. Earlier target c z) q (subst (λ z. Earlier target z c) (sym q) after))
+        | inr q ↦ one_way target a c re.once_in_target after
+            (legal c a (λ r. one_way target a c re.once_in_target after (subst (λ z. Earlier target c z) r (subst (λ z. Earlier target z c) (sym r) after)))
             (record { element = x; first = inr stored; second = inr p.1; stored = inl stored })
-            (subst (λ z. Earlier z c a) (sym e) (still_earlier done (b ∷ rest) c a q))) ]
+            (subst (λ z. Earlier z c a) (sym e) (still_earlier done (b ∷ rest) c a q)))
+      ]
   none_between done rest a b c x false t e i l p after before s =
       fold x (effect c).stores (record {
         distinct = λ q. true≢false (sym ((decides x (effect c).stores).1 q) ∙ t);
@@ -133,7 +136,7 @@ module _ {I X Y V : Type 0} (effect : I → Effect X V) (same : X → X → Bool
       let in_trace : Earlier trace a b = subst (λ z. Earlier z a b) (sym e) (from_front done rest a b d) in
       let apart : a ≢ b = λ r. one_way trace a b re.once in_trace (subst (λ z. Earlier trace z a) r (subst (λ z. Earlier trace a z) (sym r) in_trace)) in
       in_front before after a b (subst AreDistinct e' re.once_in_target) (subst (λ z. Earlier z a b) e'
-        (legal a b apart (record { element = x; first = inr s; second = inl i; stored = inl s }) in_trace))
+      (legal a b apart (record { element = x; first = inr s; second = inl i; stored = inl s }) in_trace))
 
   compared : (done rest before after : List I) (b : I) (x : X) → trace ≡ done ++ b ∷ rest → target ≡ before ++ b ∷ after → IsIn x (effect b).loads
       → (l l' : Option I) → last_store same effect done x ≡ l → IsLast effect same decides done x l → IsLast (placed place effect) same' decides' before (place x) l' → l' ≡ l
@@ -148,16 +151,21 @@ module _ {I X Y V : Type 0} (effect : I → Effect X V) (same : X → X → Bool
       absurd (q a (in_before done rest before after a b x e e' i p.0 p.1) (ap place p.1))
   compared done rest before after b x e e' i (Some a) (Some c) l p q =
       elim (q.2 a (in_before done rest before after a b x e e' i p.0 p.1) (ap place p.1)) [
-        inl r ↦ ap Some (sym r)
-      | inr r ↦ absurd (none_between done rest a b c x (same x (effect c).stores) refl e i l p
-          (subst (λ z. Earlier z a c) (sym e') (still_earlier before (b ∷ after) a c r))
-          (subst (λ z. Earlier z c b) (sym e') (from_front before after c b q.0)) q.1) ]
+        | inl r ↦ ap Some (sym r)
+        | inr r ↦ absurd (none_between done rest a b c x (same x (effect c).stores) refl e i l p
+            (subst (λ z. Earlier z a c) (sym e') (still_earlier before (b ∷ after) a c r))
+            (subst (λ z. Earlier z c b) (sym e') (from_front before after c b q.0)) q.1)
+      ]
 
   pub keeps_sources : SameLastStores same same' place effect trace target
   keeps_sources before after b e' =
-      let r = split_at trace b (re.no_other b (subst (IsIn b) (sym e') (in_rest before after b))) in
-      (r.0, r.1, r.2, λ x i. compared r.0 r.1 before after b x r.2 e' i (last_store same effect r.0 x) (last_store same' (placed place effect) before (place x)) refl
-        (is_last effect same decides r.0 x) (is_last (placed place effect) same' decides' before (place x)))
+      let r = split_at trace b (re.no_other b (subst (IsIn b) (sym e') (in_rest before after b))) in (
+        r.0,
+        r.1,
+        r.2,
+        λ x i. compared r.0 r.1 before after b x r.2 e' i (last_store same effect r.0 x) (last_store same' (placed place effect) before (place x)) refl
+            (is_last effect same decides r.0 x) (is_last (placed place effect) same' decides' before (place x)),
+      )
 
 -- ---- what is left at the end
 
@@ -172,12 +180,14 @@ module _ {I X Y V : Type 0} (effect : I → Effect X V) (same : X → X → Bool
   last_compared x own (Some a) (Some c) p q =
       let stored : x ≡ (effect c).stores = own (effect c).stores q.1 in
       elim (q.2 a (re.kept a p.0) (ap place p.1)) [
-        inl e ↦ ap Some (sym e)
-      | inr after ↦ elim (p.2 c (re.no_other c q.0) stored) [
-          inl e ↦ ap Some e
-        | inr before ↦ absurd (one_way target a c re.once_in_target after
-            (legal c a (λ r. one_way target a c re.once_in_target after (subst (λ z. Earlier target c z) r (subst (λ z. Earlier target z c) (sym r) after)))
-              (record { element = x; first = inr stored; second = inr p.1; stored = inl stored }) before)) ] ]
+        | inl e ↦ ap Some (sym e)
+        | inr after ↦ elim (p.2 c (re.no_other c q.0) stored) [
+          | inl e ↦ ap Some e
+          | inr before ↦ absurd (one_way target a c re.once_in_target after
+              (legal c a (λ r. one_way target a c re.once_in_target after (subst (λ z. Earlier target c z) r (subst (λ z. Earlier target z c) (sym r) after)))
+              (record { element = x; first = inr stored; second = inr p.1; stored = inl stored }) before))
+        ]
+      ]
 
   -- an element that shares its place with no other is last stored by the same instance in both orders
   pub same_last : (x : X) → ((y : X) → place x ≡ place y → x ≡ y) → last_store same' (placed place effect) target (place x) ≡ last_store same effect trace x
@@ -211,5 +221,5 @@ pub same_values : {I X Y V : Type 0} (effect : I → Effect X V) (same : X → X
     → stores_of same' start' [] (map (placed place effect) target) ≡ Some (as_stored (placed place effect) v target)
 same_values effect same same' decides decides' OneArray place start start' v trace target run re legal fold keeps handed =
     equal_last_stores effect same same' place start start' v trace target run
-      (keeps_sources effect same same' decides decides' OneArray place start trace target re legal fold keeps (loads_are_given effect same start v trace run))
-      handed
+    (keeps_sources effect same same' decides decides' OneArray place start trace target re legal fold keeps (loads_are_given effect same start v trace run))
+    handed

@@ -10,3 +10,4 @@ pub mod Reorders
 pub mod Targets
 pub mod Contents
 pub mod Composed
+pub mod ExampleProofs

@@ -33,7 +33,7 @@ distinct_flat_map : {A I : Type 0} (f : A → List I) (xs : List A) → AreDisti
 distinct_flat_map f [] d e n = tt
 distinct_flat_map f (x ∷ xs) d e n =
     distinct_append (f x) (flat_map f xs) (e x) (distinct_flat_map f xs d.1 e n)
-      (λ b i j. let r = in_flat_map f xs b j in d.0 (subst (λ y. IsIn y xs) (sym (n x r.0 b i r.2)) r.1))
+    (λ b i j. let r = in_flat_map f xs b j in d.0 (subst (λ y. IsIn y xs) (sym (n x r.0 b i r.2)) r.1))
 
 from_least : (n : ℕ) (x y : ℤ) → IsIn y (count_from n x) → x ≤ℤ y
 from_least zero x y i = absurd i
@@ -70,6 +70,7 @@ module _ (p : List ℤ) where
 
   mutual
     unfolding Within assigns_of
+
     lies : (x : Stmt) (k : ℕ) (ts : List ℤ) (b : Instance) → IsIn b ((by_stmt (walk_step p) x).instances k ts) → Within k (by_stmt (walk_step p) x).assigns ts b
     lies (s.For' iter low rel high shape body) k ts b i =
         let r = in_flat_map (λ y. in_walk_order (by_each (walk_step p) body) k (ts ++ y ∷ [])) _ b i in
@@ -85,14 +86,15 @@ module _ (p : List ℤ) where
     row_lies (more_of-Stmt x rest) k ts b i =
         let total : assigns_of (more_of-Stmt x rest) ≡ (by_stmt (walk_step p) x).assigns + assigns_of rest = sum_by-cons (λ w. w.assigns) (by_stmt (walk_step p) x) (by_each (walk_step p) rest) in
         elim (in_append ((by_stmt (walk_step p) x).instances k ts) _ b i) [
-          inl j ↦ let w = lies x k ts b j in
-            let l : w.0 < (by_stmt (walk_step p) x).assigns = w.2 in
-            let m : w.0 < assigns_of (more_of-Stmt x rest) = omega arith in (w.0, w.1, m, w.3, w.4)
-        | inr j ↦ let w = row_lies rest (k + (by_stmt (walk_step p) x).assigns) ts b j in
-            let l : w.0 < assigns_of rest = w.2 in
-            let m : (by_stmt (walk_step p) x).assigns + w.0 < assigns_of (more_of-Stmt x rest) = omega arith in
-            let q : b.statement ≡ (k + (by_stmt (walk_step p) x).assigns) + w.0 = w.3 in
-            ((by_stmt (walk_step p) x).assigns + w.0, w.1, m, omega arith, w.4) ]
+          | inl j ↦ let w = lies x k ts b j in
+              let l : w.0 < (by_stmt (walk_step p) x).assigns = w.2 in
+              let m : w.0 < assigns_of (more_of-Stmt x rest) = omega arith in (w.0, w.1, m, w.3, w.4)
+          | inr j ↦ let w = row_lies rest (k + (by_stmt (walk_step p) x).assigns) ts b j in
+              let l : w.0 < assigns_of rest = w.2 in
+              let m : (by_stmt (walk_step p) x).assigns + w.0 < assigns_of (more_of-Stmt x rest) = omega arith in
+              let q : b.statement ≡ (k + (by_stmt (walk_step p) x).assigns) + w.0 = w.3 in
+              ((by_stmt (walk_step p) x).assigns + w.0, w.1, m, omega arith, w.4)
+        ]
 
   distinct_if : (b : Bool) (is : List Instance) → AreDistinct is → AreDistinct (if b then is else [])
   distinct_if true is d = d
@@ -114,7 +116,7 @@ module _ (p : List ℤ) where
     stands_once : (x : Stmt) (k : ℕ) (ts : List ℤ) → AreDistinct ((by_stmt (walk_step p) x).instances k ts)
     stands_once (s.For' iter low rel high shape body) k ts =
         distinct_flat_map (λ y. in_walk_order (by_each (walk_step p) body) k (ts ++ y ∷ [])) _ (from_distinct _ _) (λ y. row_once body k (ts ++ y ∷ []))
-          (λ y z b i j. apart_in_turns k (assigns_of body) ts y z b (row_lies body k (ts ++ y ∷ []) b i) (row_lies body k (ts ++ z ∷ []) b j))
+        (λ y z b i j. apart_in_turns k (assigns_of body) ts y z b (row_lies body k (ts ++ y ∷ []) b i) (row_lies body k (ts ++ z ∷ []) b j))
     stands_once (s.If' conds shape body) k ts = distinct_if (all_hold conds (p ++ ts)) _ (row_once body k ts)
     stands_once (s.Assign op array subs value) k ts = (λ i. i, tt)
     stands_once (s.Block' locals shape body) k ts = row_once body k ts
@@ -123,7 +125,7 @@ module _ (p : List ℤ) where
     row_once end_of-Stmt k ts = tt
     row_once (more_of-Stmt x rest) k ts =
         distinct_append ((by_stmt (walk_step p) x).instances k ts) _ (stands_once x k ts) (row_once rest (k + (by_stmt (walk_step p) x).assigns) ts)
-          (λ b i j. apart_in_number k (by_stmt (walk_step p) x).assigns (assigns_of rest) ts b (lies x k ts b i) (row_lies rest (k + (by_stmt (walk_step p) x).assigns) ts b j))
+        (λ b i j. apart_in_number k (by_stmt (walk_step p) x).assigns (assigns_of rest) ts b (lies x k ts b i) (row_lies rest (k + (by_stmt (walk_step p) x).assigns) ts b j))
 
   list_assigns : List Stmt → ℕ
   list_assigns body = sum_by (λ w. w.assigns) (map (by_stmt (walk_step p)) body)
@@ -134,20 +136,21 @@ module _ (p : List ℤ) where
   list_lies (x ∷ rest) k ts b i =
       let total : list_assigns (x ∷ rest) ≡ (by_stmt (walk_step p) x).assigns + list_assigns rest = sum_by-cons (λ w. w.assigns) (by_stmt (walk_step p) x) (map (by_stmt (walk_step p)) rest) in
       elim (in_append ((by_stmt (walk_step p) x).instances k ts) _ b i) [
-        inl j ↦ let w = lies x k ts b j in
-          let l : w.0 < (by_stmt (walk_step p) x).assigns = w.2 in
-          let m : w.0 < list_assigns (x ∷ rest) = omega arith in (w.0, w.1, m, w.3, w.4)
-      | inr j ↦ let w = list_lies rest (k + (by_stmt (walk_step p) x).assigns) ts b j in
-          let l : w.0 < list_assigns rest = w.2 in
-          let m : (by_stmt (walk_step p) x).assigns + w.0 < list_assigns (x ∷ rest) = omega arith in
-          let q : b.statement ≡ (k + (by_stmt (walk_step p) x).assigns) + w.0 = w.3 in
-          ((by_stmt (walk_step p) x).assigns + w.0, w.1, m, omega arith, w.4) ]
+        | inl j ↦ let w = lies x k ts b j in
+            let l : w.0 < (by_stmt (walk_step p) x).assigns = w.2 in
+            let m : w.0 < list_assigns (x ∷ rest) = omega arith in (w.0, w.1, m, w.3, w.4)
+        | inr j ↦ let w = list_lies rest (k + (by_stmt (walk_step p) x).assigns) ts b j in
+            let l : w.0 < list_assigns rest = w.2 in
+            let m : (by_stmt (walk_step p) x).assigns + w.0 < list_assigns (x ∷ rest) = omega arith in
+            let q : b.statement ≡ (k + (by_stmt (walk_step p) x).assigns) + w.0 = w.3 in
+            ((by_stmt (walk_step p) x).assigns + w.0, w.1, m, omega arith, w.4)
+      ]
 
   list_once : (body : List Stmt) (k : ℕ) (ts : List ℤ) → AreDistinct (in_walk_order (map (by_stmt (walk_step p)) body) k ts)
   list_once [] k ts = tt
   list_once (x ∷ rest) k ts =
       distinct_append ((by_stmt (walk_step p) x).instances k ts) _ (stands_once x k ts) (list_once rest (k + (by_stmt (walk_step p) x).assigns) ts)
-        (λ b i j. apart_in_number k (by_stmt (walk_step p) x).assigns (list_assigns rest) ts b (lies x k ts b i) (list_lies rest (k + (by_stmt (walk_step p) x).assigns) ts b j))
+      (λ b i j. apart_in_number k (by_stmt (walk_step p) x).assigns (list_assigns rest) ts b (lies x k ts b i) (list_lies rest (k + (by_stmt (walk_step p) x).assigns) ts b j))
 
 pub once : (program : Program) (p : List ℤ) → AreDistinct (trace program p)
 once program p = list_once p program.body 0 []

@@ -35,8 +35,8 @@ module _ {A : Type 0} (cmp : A → A → Ordering) where
   put_distinct x [] n d = (n, d)
   put_distinct x (y ∷ ys) n d =
       distinct_if (is_lt (cmp y x)) x y ys (put_in cmp x ys) n d
-        (λ i. elim (from_put x y ys i) [ inl e ↦ n (inl (sym e)) | inr j ↦ d.0 j ])
-        (put_distinct x ys (λ i. n (inr i)) d.1)
+      (λ i. elim (from_put x y ys i) [ inl e ↦ n (inl (sym e)) | inr j ↦ d.0 j ])
+      (put_distinct x ys (λ i. n (inr i)) d.1)
 
   from_order : (a : A) (xs : List A) → IsIn a (in_order_of cmp xs) → IsIn a xs
   from_order a [] i = i
@@ -108,5 +108,5 @@ module _ {I V : Type 0} (same_i : I → I → Bool) (decides : (a b : I) → Dec
         let rest : q.0 ≡ as_stored effect (value_in is vs) is = stored_values (w ++ x ∷ []) is q.0 n.1 q.1 in
         let head : x.1 ≡ value_in (b ∷ is) (x.1 ∷ vs) b = sym (at_head (same_i b b) x.1 (value_in is vs b) ((decides b b).1 refl)) in
         subst (λ l. l ≡ as_stored effect (value_in (b ∷ is) (map (λ e. e.1) l)) (b ∷ is)) whole
-          (ap (λ u. ((effect b).stores, u) ∷ q.0) head
-            ∙ ap (λ l. ((effect b).stores, value_in (b ∷ is) (x.1 ∷ vs) b) ∷ l) (rest ∙ tail_values b x.1 is vs is n.0))
+        (ap (λ u. ((effect b).stores, u) ∷ q.0) head
+        ∙ ap (λ l. ((effect b).stores, value_in (b ∷ is) (x.1 ∷ vs) b) ∷ l) (rest ∙ tail_values b x.1 is vs is n.0))

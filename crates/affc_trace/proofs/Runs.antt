@@ -30,9 +30,9 @@ module _ {X V : Type 0} (same : X → X → Bool) (start : X → Option V) where
       let r = and_then_some (stores_of same start (w ++ x ∷ []) es) _ _ a.2 in
       let n : x ∷ r.0 ≡ new = ap (get []) r.2 in
       let more = stores_append (w ++ x ∷ []) r.0 es fs ws r.1
-            (subst (λ l. stores_of same start l fs ≡ Some ws) (sym (push_append w x r.0)) (subst (λ l. stores_of same start (w ++ l) fs ≡ Some ws) (sym n) q)) in
+      (subst (λ l. stores_of same start l fs ≡ Some ws) (sym (push_append w x r.0)) (subst (λ l. stores_of same start (w ++ l) fs ≡ Some ws) (sym n) q)) in
       ap (λ o. and_then o (λ vs. let x : X × V = (e.stores, e.value vs) in
-          and_then (stores_of same start (w ++ x ∷ []) (es ++ fs)) (λ l. Some (x ∷ l)))) a.1
+      and_then (stores_of same start (w ++ x ∷ []) (es ++ fs)) (λ l. Some (x ∷ l)))) a.1
       ∙ ap (λ o. and_then o (λ l. Some (x ∷ l))) more
       ∙ ap (λ l. Some (l ++ ws)) n
 
@@ -40,7 +40,7 @@ module _ {X V : Type 0} (same : X → X → Bool) (start : X → Option V) where
       → stores_of same start w (e ∷ []) ≡ Some ((e.stores, e.value vs) ∷ [])
   stores_one w e vs h =
       ap (λ o. and_then o (λ vs. let x : X × V = (e.stores, e.value vs) in
-          and_then (stores_of same start (w ++ x ∷ []) []) (λ l. Some (x ∷ l)))) h
+      and_then (stores_of same start (w ++ x ∷ []) []) (λ l. Some (x ∷ l)))) h
 
 or_none : {A : Type 0} (o : Option A) → o ≡ or_else o None
 or_none None = refl
@@ -126,4 +126,3 @@ one_entry x v = Some ((x, v) ∷ [])
 pub both_true : (a b : Bool) → T (a && b) → T a × T b
 both_true true b h = (tt, h)
 both_true false b h = absurd h
-

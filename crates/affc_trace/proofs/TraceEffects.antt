@@ -35,11 +35,12 @@ no_locals_in body = all_true (map (by_stmt plain_step) body)
 module _ (all : List Assignment) (p : List ℤ) where
   mutual
     unfolding PartsAt
+
     stmt_effects : (x : Stmt) (k : ℕ) (ts : List ℤ) → T (by_stmt plain_step x) → PartsAt all k (by_stmt assignments_step x)
         → by_stmt effects_step x (p ++ ts) ≡ map (effect_in all p) ((by_stmt (walk_step p) x).instances k ts)
     stmt_effects (s.For' iter low rel high shape body) k ts plain parts =
         map_flat_map (effect_in all p) (λ y. in_walk_order (by_each (walk_step p) body) k (ts ++ y ∷ [])) (λ y. each_of (by_each effects_step body) ((p ++ ts) ++ y ∷ [])) _ (λ y.
-          ap (each_of (by_each effects_step body)) (append_assoc p ts (y ∷ [])) ∙ row_effects body k (ts ++ y ∷ []) plain parts)
+        ap (each_of (by_each effects_step body)) (append_assoc p ts (y ∷ [])) ∙ row_effects body k (ts ++ y ∷ []) plain parts)
     stmt_effects (s.If' conds shape body) k ts plain parts = map_if _ (all_hold conds (p ++ ts)) _ _ (row_effects body k ts plain parts)
     stmt_effects (s.Assign op array subs value) k ts plain parts =
         let n : k + 0 ≡ k = omega arith in
@@ -55,7 +56,7 @@ module _ (all : List Assignment) (p : List ℤ) where
         let both = both_true (by_stmt plain_step x) (all_true (by_each plain_step rest)) plain in
         let others : List Assignment = flat_map (λ a. a) (by_each assignments_step rest) in
         let right : PartsAt all (k + (by_stmt (walk_step p) x).assigns) others =
-            subst (λ m. PartsAt all (k + m) others) (sym (walk_count p x ∙ part_count x)) (parts_right all k (by_stmt assignments_step x) others parts) in
+        subst (λ m. PartsAt all (k + m) others) (sym (walk_count p x ∙ part_count x)) (parts_right all k (by_stmt assignments_step x) others parts) in
         ap (λ l. l ++ each_of (by_each effects_step rest) (p ++ ts)) (stmt_effects x k ts both.0 (parts_left all k _ others parts))
         ∙ ap (λ l. map (effect_in all p) ((by_stmt (walk_step p) x).instances k ts) ++ l) (row_effects rest (k + (by_stmt (walk_step p) x).assigns) ts both.1 right)
         ∙ sym (map_append (effect_in all p) ((by_stmt (walk_step p) x).instances k ts) _)
@@ -67,7 +68,7 @@ module _ (all : List Assignment) (p : List ℤ) where
       let both = both_true (by_stmt plain_step x) (no_locals_in rest) plain in
       let others : List Assignment = flat_map (by_stmt assignments_step) rest in
       let right : PartsAt all (k + (by_stmt (walk_step p) x).assigns) others =
-          subst (λ m. PartsAt all (k + m) others) (sym (walk_count p x ∙ part_count x)) (parts_right all k (by_stmt assignments_step x) others parts) in
+      subst (λ m. PartsAt all (k + m) others) (sym (walk_count p x ∙ part_count x)) (parts_right all k (by_stmt assignments_step x) others parts) in
       ap (λ l. l ++ each_of (map (by_stmt effects_step) rest) (p ++ ts)) (stmt_effects x k ts both.0 (parts_left all k _ others parts))
       ∙ ap (λ l. map (effect_in all p) ((by_stmt (walk_step p) x).instances k ts) ++ l) (list_effects rest (k + (by_stmt (walk_step p) x).assigns) ts both.1 right)
       ∙ sym (map_append (effect_in all p) ((by_stmt (walk_step p) x).instances k ts) _)

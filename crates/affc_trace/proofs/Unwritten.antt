@@ -52,9 +52,9 @@ module _ {X V : Type 0} (same : X → X → Bool) (start : X → Option V) where
       let r = and_then_some (stores_of same start (w ++ x ∷ []) es) _ _ a.2 in
       let n : x ∷ r.0 ≡ new = ap (get []) r.2 in
       let more = append_none (w ++ x ∷ []) r.0 es fs r.1
-            (subst (λ l. stores_of same start l fs ≡ None) (sym (push_append w x r.0)) (subst (λ l. stores_of same start (w ++ l) fs ≡ None) (sym n) q)) in
+      (subst (λ l. stores_of same start l fs ≡ None) (sym (push_append w x r.0)) (subst (λ l. stores_of same start (w ++ l) fs ≡ None) (sym n) q)) in
       ap (λ o. and_then o (λ vs. let x : X × V = (e.stores, e.value vs) in
-          and_then (stores_of same start (w ++ x ∷ []) (es ++ fs)) (λ ws. Some (x ∷ ws)))) a.1
+      and_then (stores_of same start (w ++ x ∷ []) (es ++ fs)) (λ ws. Some (x ∷ ws)))) a.1
       ∙ ap (λ o. and_then o (λ ws. Some (x ∷ ws))) more
 
 -- ---- reads
@@ -150,31 +150,38 @@ pub load_none : (scope : Scope) (store : Store) (here : Instance) (access : ℕ)
     → load scope store here access array xs ≡ Err (Unwritten i a) → at store (array.0, xs) ≡ None
 load_none scope store here access array xs i a e =
     elim (bind_err (touch scope here access array xs) _ _ e) [
-      inl q ↦ not_fine (touch scope here access array xs) i a (fine_if _ _ (OutOfBounds here access) tt) q
-    | inr q ↦ ap (at store) (touch_is scope here access array xs q.0 q.1) ∙ none_held here access (at store q.0) _ q.2 ]
+      | inl q ↦ not_fine (touch scope here access array xs) i a (fine_if _ _ (OutOfBounds here access) tt) q
+      | inr q ↦ ap (at store) (touch_is scope here access array xs q.0 q.1) ∙ none_held here access (at store q.0) _ q.2
+    ]
 
 pub value_unwritten : (e : Val) (s : Sight) (i : Instance) (a : ℕ) → (value_of e).value s ≡ Err (Unwritten i a) → all_held (at s.store) (loads_of_value e s.scope.names) ≡ None
 value_unwritten (v.Load array subs) s i a e =
     elim (bind_err (index_values subs (s.node + 1) s.scope.names) _ _ e) [
-      inl q ↦ not_fine (index_values subs (s.node + 1) s.scope.names) i a (indices_fine subs s.scope.names _) q
-    | inr q ↦ ap (λ o. both_of o (Some [])) (ap (λ xs. at s.store (array.0, xs)) (are_whole subs s.scope.names _ q.0 q.1) ∙ load_none s.scope s.store s.here s.access array q.0 i a q.2) ]
+      | inl q ↦ not_fine (index_values subs (s.node + 1) s.scope.names) i a (indices_fine subs s.scope.names _) q
+      | inr q ↦ ap (λ o. both_of o (Some [])) (ap (λ xs. at s.store (array.0, xs)) (are_whole subs s.scope.names _ q.0 q.1) ∙ load_none s.scope s.store s.here s.access array q.0 i a q.2)
+    ]
 value_unwritten (v.Const n) s i a e = not_err n _ e
 value_unwritten (v.Cast x) s i a e =
     elim (bind_err (index_value x (s.node + 1) s.scope.names) _ _ e) [
-      inl q ↦ not_fine (index_value x (s.node + 1) s.scope.names) i a (index_fine x s.scope.names _) q
-    | inr q ↦ not_err _ _ q.2 ]
+      | inl q ↦ not_fine (index_value x (s.node + 1) s.scope.names) i a (index_fine x s.scope.names _) q
+      | inr q ↦ not_err _ _ q.2
+    ]
 value_unwritten (v.Not' h (more_of-Val x end_of-Val)) s i a e =
     elim (bind_err ((value_of x).value (deeper s)) _ _ e) [
-      inl q ↦ value_unwritten x (deeper s) i a q
-    | inr q ↦ not_err _ _ q.2 ]
+      | inl q ↦ value_unwritten x (deeper s) i a q
+      | inr q ↦ not_err _ _ q.2
+    ]
 value_unwritten (v.Bin' op h (more_of-Val x end_of-Val) g (more_of-Val y end_of-Val)) s i a e =
     elim (bind_err ((value_of x).value (deeper s)) _ _ e) [
-      inl q ↦ both_none (at s.store) (loads_of_value x s.scope.names) (loads_of_value y s.scope.names) (value_unwritten x (deeper s) i a q)
-    | inr q ↦ elim (bind_err ((value_of y).value (record s { node = s.node + 1 + (value_of x).nodes; access = s.access + (value_of x).loads })) _ _ q.2) [
-        inl r ↦ none_after (at s.store) (loads_of_value x s.scope.names) (loads_of_value y s.scope.names)
-          (value_unwritten y (record s { node = s.node + 1 + (value_of x).nodes; access = s.access + (value_of x).loads }) i a r)
-      | inr r ↦ not_err _ _ r.2 ] ]
+      | inl q ↦ both_none (at s.store) (loads_of_value x s.scope.names) (loads_of_value y s.scope.names) (value_unwritten x (deeper s) i a q)
+      | inr q ↦ elim (bind_err ((value_of y).value (record s { node = s.node + 1 + (value_of x).nodes; access = s.access + (value_of x).loads })) _ _ q.2) [
+        | inl r ↦ none_after (at s.store) (loads_of_value x s.scope.names) (loads_of_value y s.scope.names)
+            (value_unwritten y (record s { node = s.node + 1 + (value_of x).nodes; access = s.access + (value_of x).loads }) i a r)
+        | inr r ↦ not_err _ _ r.2
+      ]
+    ]
 value_unwritten (v.Shift' left h (more_of-Val x end_of-Val) by) s i a e =
     elim (bind_err ((value_of x).value (deeper s)) _ _ e) [
-      inl q ↦ value_unwritten x (deeper s) i a q
-    | inr q ↦ not_err _ _ q.2 ]
+      | inl q ↦ value_unwritten x (deeper s) i a q
+      | inr q ↦ not_err _ _ q.2
+    ]

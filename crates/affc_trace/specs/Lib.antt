@@ -5,3 +5,4 @@ pub mod Target
 pub mod Effects
 pub mod Dataflow
 pub mod Laws
+pub mod Examples

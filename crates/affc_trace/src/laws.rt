@@ -5,47 +5,39 @@ ghost use Rattle.affc_trace.specs.Laws.{RunOfEffects, EffectsOfTrace, TargetIsRe
 /// A run is the fold of the effects of the program's assignments.
 pub fn run_of_effects()
     ensures law { RunOfEffects }
-{
-}
+{}
 
 /// A program without locals does what its trace's instances do, in order.
 pub fn effects_of_trace()
     ensures law { EffectsOfTrace }
-{
-}
+{}
 
 /// The trace and the target have the same instances, each once.
 pub fn target_is_reordered()
     ensures law { TargetIsReordered }
-{
-}
+{}
 
 /// In a run that ends, each instance stores one value.
 pub fn values_by_instance()
     ensures law { ValuesByInstance }
-{
-}
+{}
 
 /// Where each load's last store is by the instance whose value it reads in the source, every value is the source's.
 pub fn equal_last_stores()
     ensures law { EqualLastStores }
-{
-}
+{}
 
 /// A legal schedule and admissible places keep each load's source.
 pub fn keeps_sources()
     ensures law { KeepsSources }
-{
-}
+{}
 
 /// A program that runs the target follows its source and gives the same outputs.
 pub fn runs_as_source()
     ensures law { RunsAsSource }
-{
-}
+{}
 
 /// The same for all data that fit.
 pub fn compiles_source()
     ensures law { CompilesSource }
-{
-}
+{}
