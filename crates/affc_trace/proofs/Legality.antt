@@ -8,56 +8,56 @@ use Rattle.affc_trace.proofs.LastStores.{option_map, and_then_some, last_value, 
 -- ---- before and after in a list
 
 module _ {I : Type 0} where
-  later_is_in : (is : List I) (a b : I) → Earlier is a b → IsIn b is
+  pub later_is_in : (is : List I) (a b : I) → Earlier is a b → IsIn b is
   later_is_in [] a b e = absurd e
   later_is_in (x ∷ is) a b (inl e) = inr e.1
   later_is_in (x ∷ is) a b (inr e) = inr (later_is_in is a b e)
 
-  earlier_is_in : (is : List I) (a b : I) → Earlier is a b → IsIn a is
+  pub earlier_is_in : (is : List I) (a b : I) → Earlier is a b → IsIn a is
   earlier_is_in [] a b e = absurd e
   earlier_is_in (x ∷ is) a b (inl e) = inl e.0
   earlier_is_in (x ∷ is) a b (inr e) = inr (earlier_is_in is a b e)
 
-  one_way : (is : List I) (a b : I) → AreDistinct is → Earlier is a b → Earlier is b a → ⊥
+  pub one_way : (is : List I) (a b : I) → AreDistinct is → Earlier is a b → Earlier is b a → ⊥
   one_way [] a b d e f = e
   one_way (x ∷ is) a b d (inl e) (inl f) = d.0 (subst (λ y. IsIn y is) f.0 e.1)
   one_way (x ∷ is) a b d (inl e) (inr f) = d.0 (subst (λ y. IsIn y is) e.0 (later_is_in is b a f))
   one_way (x ∷ is) a b d (inr e) (inl f) = d.0 (subst (λ y. IsIn y is) f.0 (later_is_in is a b e))
   one_way (x ∷ is) a b d (inr e) (inr f) = one_way is a b d.1 e f
 
-  either_way : (is : List I) (a b : I) → a ≢ b → IsIn a is → IsIn b is → Earlier is a b ⊎ Earlier is b a
+  pub either_way : (is : List I) (a b : I) → a ≢ b → IsIn a is → IsIn b is → Earlier is a b ⊎ Earlier is b a
   either_way [] a b n i j = absurd i
   either_way (x ∷ is) a b n (inl i) (inl j) = absurd (n (i ∙ sym j))
   either_way (x ∷ is) a b n (inl i) (inr j) = inl (inl (i, j))
   either_way (x ∷ is) a b n (inr i) (inl j) = inr (inl (j, i))
   either_way (x ∷ is) a b n (inr i) (inr j) = elim (either_way is a b n i j) [ inl e ↦ inl (inr e) | inr e ↦ inr (inr e) ]
 
-  in_front : (before after : List I) (a b : I) → AreDistinct (before ++ b ∷ after) → Earlier (before ++ b ∷ after) a b → IsIn a before
+  pub in_front : (before after : List I) (a b : I) → AreDistinct (before ++ b ∷ after) → Earlier (before ++ b ∷ after) a b → IsIn a before
   in_front [] after a b d (inl e) = absurd (d.0 e.1)
   in_front [] after a b d (inr e) = absurd (d.0 (later_is_in after a b e))
   in_front (x ∷ before) after a b d (inl e) = inl e.0
   in_front (x ∷ before) after a b d (inr e) = inr (in_front before after a b d.1 e)
 
-  in_rest : (before after : List I) (b : I) → IsIn b (before ++ b ∷ after)
+  pub in_rest : (before after : List I) (b : I) → IsIn b (before ++ b ∷ after)
   in_rest [] after b = inl refl
   in_rest (x ∷ before) after b = inr (in_rest before after b)
 
-  from_front : (before after : List I) (a b : I) → IsIn a before → Earlier (before ++ b ∷ after) a b
+  pub from_front : (before after : List I) (a b : I) → IsIn a before → Earlier (before ++ b ∷ after) a b
   from_front [] after a b i = absurd i
   from_front (x ∷ before) after a b (inl i) = inl (i, in_rest before after b)
   from_front (x ∷ before) after a b (inr i) = inr (from_front before after a b i)
 
-  still_in : (before after : List I) (a : I) → IsIn a before → IsIn a (before ++ after)
+  pub still_in : (before after : List I) (a : I) → IsIn a before → IsIn a (before ++ after)
   still_in [] after a i = absurd i
   still_in (x ∷ before) after a (inl i) = inl i
   still_in (x ∷ before) after a (inr i) = inr (still_in before after a i)
 
-  still_earlier : (before after : List I) (a b : I) → Earlier before a b → Earlier (before ++ after) a b
+  pub still_earlier : (before after : List I) (a b : I) → Earlier before a b → Earlier (before ++ after) a b
   still_earlier [] after a b e = absurd e
   still_earlier (x ∷ before) after a b (inl e) = inl (e.0, still_in before after b e.1)
   still_earlier (x ∷ before) after a b (inr e) = inr (still_earlier before after a b e)
 
-  split_at : (is : List I) (b : I) → IsIn b is → (before : List I) × (after : List I) × (is ≡ before ++ b ∷ after)
+  pub split_at : (is : List I) (b : I) → IsIn b is → (before : List I) × (after : List I) × (is ≡ before ++ b ∷ after)
   split_at [] b i = absurd i
   split_at (x ∷ is) b (inl i) = ([], is, ap (λ y. y ∷ is) (sym i))
   split_at (x ∷ is) b (inr i) = let r = split_at is b i in (x ∷ r.0, r.1, ap (λ l. x ∷ l) r.2)

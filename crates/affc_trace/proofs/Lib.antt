@@ -11,3 +11,7 @@ pub mod Targets
 pub mod Contents
 pub mod Composed
 pub mod ExampleProofs
+pub mod Sorted
+pub mod Depths
+pub mod Recovers
+pub mod Ordered

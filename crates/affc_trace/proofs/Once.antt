@@ -16,7 +16,7 @@ use Rattle.affc_trace.specs.Orders.{AreDistinct}
 use Rattle.affc_trace.proofs.LastStores.{append_nil}
 use Rattle.affc_trace.proofs.EndedReads.{append_assoc}
 
-in_append : {I : Type 0} (xs ys : List I) (a : I) → IsIn a (xs ++ ys) → IsIn a xs ⊎ IsIn a ys
+pub in_append : {I : Type 0} (xs ys : List I) (a : I) → IsIn a (xs ++ ys) → IsIn a xs ⊎ IsIn a ys
 in_append [] ys a i = inr i
 in_append (x ∷ xs) ys a (inl e) = inl (inl e)
 in_append (x ∷ xs) ys a (inr i) = elim (in_append xs ys a i) [ inl j ↦ inl (inr j) | inr j ↦ inr j ]
@@ -25,7 +25,7 @@ distinct_append : {I : Type 0} (xs ys : List I) → AreDistinct xs → AreDistin
 distinct_append [] ys d e n = e
 distinct_append (x ∷ xs) ys d e n = (λ i. elim (in_append xs ys x i) [ inl j ↦ d.0 j | inr j ↦ n x (inl refl) j ], distinct_append xs ys d.1 e (λ a i. n a (inr i)))
 
-in_flat_map : {A I : Type 0} (f : A → List I) (xs : List A) (b : I) → IsIn b (flat_map f xs) → (x : A) × IsIn x xs × IsIn b (f x)
+pub in_flat_map : {A I : Type 0} (f : A → List I) (xs : List A) (b : I) → IsIn b (flat_map f xs) → (x : A) × IsIn x xs × IsIn b (f x)
 in_flat_map f [] b i = absurd i
 in_flat_map f (x ∷ xs) b i = elim (in_append (f x) (flat_map f xs) b i) [ inl j ↦ (x, inl refl, j) | inr j ↦ let r = in_flat_map f xs b j in (r.0, inr r.1, r.2) ]
 
@@ -64,7 +64,7 @@ module _ (p : List ℤ) where
   assigns_of : {n : _} → Row_of-Stmt n → ℕ
   assigns_of body = sum_by (λ w. w.assigns) (by_each (walk_step p) body)
 
-  if_in : (b : Bool) (a : Instance) (is : List Instance) → IsIn a (if b then is else []) → IsIn a is
+  pub if_in : (b : Bool) (a : Instance) (is : List Instance) → IsIn a (if b then is else []) → IsIn a is
   if_in true a is i = i
   if_in false a is i = absurd i
 

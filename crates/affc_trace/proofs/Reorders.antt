@@ -19,7 +19,7 @@ module _ {A : Type 0} (cmp : A → A → Ordering) where
   in_if true a x y ys zs f (inr (inr j)) = inr (f (inr j))
   in_if false a x y ys zs f i = i
 
-  from_put : (x a : A) (ys : List A) → IsIn a (put_in cmp x ys) → (a ≡ x) ⊎ IsIn a ys
+  pub from_put : (x a : A) (ys : List A) → IsIn a (put_in cmp x ys) → (a ≡ x) ⊎ IsIn a ys
   from_put x a [] i = i
   from_put x a (y ∷ ys) i = if_in (is_lt (cmp y x)) a x y ys (put_in cmp x ys) (from_put x a ys) i
 
@@ -38,7 +38,7 @@ module _ {A : Type 0} (cmp : A → A → Ordering) where
       (λ i. elim (from_put x y ys i) [ inl e ↦ n (inl (sym e)) | inr j ↦ d.0 j ])
       (put_distinct x ys (λ i. n (inr i)) d.1)
 
-  from_order : (a : A) (xs : List A) → IsIn a (in_order_of cmp xs) → IsIn a xs
+  pub from_order : (a : A) (xs : List A) → IsIn a (in_order_of cmp xs) → IsIn a xs
   from_order a [] i = i
   from_order a (x ∷ xs) i = elim (from_put x a (in_order_of cmp xs) i) [ inl e ↦ inl e | inr j ↦ inr (from_order a xs j) ]
 

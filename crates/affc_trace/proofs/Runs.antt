@@ -67,12 +67,12 @@ element_cmp_total = then_total (on_total (λ (x : Element). x.0) nat_cmp_total) 
 unfoldable pub PartsAt : List Assignment → ℕ → List Assignment → Type 0
 PartsAt all k as' = (i : ℕ) (a : Assignment) → slice_get as' i ≡ Some a → slice_get all (k + i) ≡ Some a
 
-slice_left : {A : Type 0} (xs ys : List A) (i : ℕ) (x : A) → slice_get xs i ≡ Some x → slice_get (xs ++ ys) i ≡ Some x
+pub slice_left : {A : Type 0} (xs ys : List A) (i : ℕ) (x : A) → slice_get xs i ≡ Some x → slice_get (xs ++ ys) i ≡ Some x
 slice_left [] ys i x e = absurd (subst IsSome (sym e) tt)
 slice_left (y ∷ xs) ys zero x e = e
 slice_left (y ∷ xs) ys (suc i) x e = slice_left xs ys i x e
 
-slice_right : {A : Type 0} (xs ys : List A) (i : ℕ) → slice_get (xs ++ ys) (length xs + i) ≡ slice_get ys i
+pub slice_right : {A : Type 0} (xs ys : List A) (i : ℕ) → slice_get (xs ++ ys) (length xs + i) ≡ slice_get ys i
 slice_right [] ys i = let e : 0 + i ≡ i = omega arith in ap (slice_get ys) e
 slice_right (y ∷ xs) ys i = let e : suc (length xs) + i ≡ suc (length xs + i) = omega arith in ap (slice_get (y ∷ (xs ++ ys))) e ∙ slice_right xs ys i
 
@@ -86,7 +86,7 @@ parts_right all k as' bs h i a e =
     let n : k + length as' + i ≡ k + (length as' + i) = omega arith in
     ap (slice_get all) n ∙ h (length as' + i) a (slice_right as' bs i ∙ e)
 
-length_append : {A : Type 0} (xs ys : List A) → length (xs ++ ys) ≡ length xs + length ys
+pub length_append : {A : Type 0} (xs ys : List A) → length (xs ++ ys) ≡ length xs + length ys
 length_append [] ys = omega arith
 length_append (x ∷ xs) ys = let e : length (xs ++ ys) ≡ length xs + length ys = length_append xs ys in omega arith
 

@@ -26,7 +26,7 @@ tied Less e = absurd (subst T (sym e) tt)
 tied Equal e = refl
 tied Greater e = absurd (subst T (sym e) tt)
 
-both_tied : (r s : Ordering) → ordering_then r s ≡ Equal → (r ≡ Equal) × (s ≡ Equal)
+pub both_tied : (r s : Ordering) → ordering_then r s ≡ Equal → (r ≡ Equal) × (s ≡ Equal)
 both_tied Less s e = absurd (subst (λ o. T (is_eq o)) (sym e) tt)
 both_tied Equal s e = (refl, e)
 both_tied Greater s e = absurd (subst (λ o. T (is_eq o)) (sym e) tt)

@@ -9,10 +9,12 @@ use Rattle.affc_ast.specs.Fits.{Fits, within_ranges, meets}
 use Rattle.affc_ast.specs.Trace.{trace}
 use Rattle.affc_ast.specs.Follows.{Stored}
 use Rattle.affc_ast.specs.Compiles.{RunsAs, Compiles}
+use Rattle.affc_trace.specs.declared.schedule.TimeMap.{TimeMap}
 use Rattle.affc_trace.specs.declared.schedule.Schedule.{Schedule}
+use Rattle.affc_trace.specs.declared.schedule.Schedule.TheVariants.{Time}
 use Rattle.affc_trace.specs.Law.{placed, stores_of, as_stored, SameLastStores}
 use Rattle.affc_trace.specs.Orders.{AreDistinct, IsReordered}
-use Rattle.affc_trace.specs.Target.{ordered, target}
+use Rattle.affc_trace.specs.Target.{time_cmp, ordered, target, IsInOrder, numbers_in, IsScheduleOf}
 use Rattle.affc_trace.specs.Effects.{effect, effects, has_no_locals}
 use Rattle.affc_trace.specs.Dataflow.{same_element, Legal, Admissible}
 
@@ -58,6 +60,13 @@ EffectsOfTrace = (program : Program) (p : List ℤ) → IsTrue (has_no_locals pr
 -- Each instance stands once in the trace, and once in the target.
 abbrev pub TargetIsReordered : Type 0
 TargetIsReordered = (program : Program) (schedule : Schedule) (p : List ℤ) → IsReordered (trace program p) (target program schedule p)
+
+-- Under a schedule of the program that gives times, the target is the one list of the trace's instances in increasing order.
+abbrev pub TargetIsInOrder : Type 0
+TargetIsInOrder = (program : Program) (length_of_time : ℕ) (maps : List TimeMap) (p : List ℤ)
+    → IsScheduleOf program (Time length_of_time maps) → length p ≡ numbers_in program.params
+    → IsInOrder (time_cmp maps p) (trace program p) (target program (Time length_of_time maps) p)
+      × ((order : List Instance) → IsInOrder (time_cmp maps p) (trace program p) order → order ≡ target program (Time length_of_time maps) p)
 
 -- What the instances store in a run that ends is a function of the instance.
 abbrev pub ValuesByInstance : Type 0

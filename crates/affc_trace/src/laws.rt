@@ -1,6 +1,6 @@
 //! What may be concluded about a program that is reordered and folded. Each law is the contract of a function
 //! that does nothing.
-ghost use Rattle.affc_trace.specs.Laws.{RunOfEffects, EffectsOfTrace, TargetIsReordered, ValuesByInstance, EqualLastStores, KeepsSources, RunsAsSource, CompilesSource};
+ghost use Rattle.affc_trace.specs.Laws.{RunOfEffects, EffectsOfTrace, TargetIsReordered, TargetIsInOrder, ValuesByInstance, EqualLastStores, KeepsSources, RunsAsSource, CompilesSource};
 
 /// A run is the fold of the effects of the program's assignments.
 pub fn run_of_effects()
@@ -16,6 +16,12 @@ pub fn effects_of_trace()
 pub fn target_is_reordered()
     ensures law { TargetIsReordered }
 {}
+
+/// The target of times is the one list of the trace's instances in increasing order of time and then of statement.
+pub fn target_is_in_order()
+    ensures law { TargetIsInOrder }
+{
+}
 
 /// In a run that ends, each instance stores one value.
 pub fn values_by_instance()
