@@ -1,8 +1,6 @@
 -- A printed program that runs the target of a legal schedule, at admissible places, runs as its source.
-use Rattle.std.proofs.Common.{◌≡◌, ◌≢◌, ℕ, suc, zero, ◌+◌, ◌<◌, ℤ, T, Bool, true, false, true≢false, if◌then◌else◌, cond, List, [], ◌∷◌, length, Option, Some, None, map, refl, sym, ap, subst, ◌∙◌, arith}
-use Rattle.std.specs.Prelude.{IsTrue, slice_get, is_some, filter}
-use Rattle.std.specs.Ordering.{is_eq}
-use Rattle.std.specs.declared.cmp.Ordering.TheVariants.{Equal}
+use Rattle.std.proofs.Common.{◌≡◌, ℕ, ◌<◌, ℤ, T, Bool, true, false, true≢false, cond, List, [], ◌∷◌, length, Option, Some, None, map, refl, sym, ap, subst, ◌∙◌}
+use Rattle.std.specs.Prelude.{slice_get, is_some, filter}
 use Rattle.std.specs.FinMap.Entries.{is_sorted, same_entries, is_sorted-where_key, find-where_key, where_key}
 use Rattle.std.proofs.lemmas.Option.{slice_get_within}
 use Rattle.affc_ast.specs.declared.tree.Decl.{Decl}
@@ -10,18 +8,17 @@ use Rattle.affc_ast.specs.declared.tree.Instance.{Instance}
 use Rattle.affc_ast.specs.declared.tree.Program.{Program}
 use Rattle.affc_ast.specs.Cause.{Cause, Extent, Overflow, OutOfBounds, Unwritten}
 use Rattle.affc_ast.specs.Store.{Element, Store, at, element_cmp}
-use Rattle.affc_ast.specs.Meaning.{State, Ended, Stuck, meaning, arrays_of}
-use Rattle.affc_ast.specs.Fits.{Fits, has_element, is_output, outputs}
+use Rattle.affc_ast.specs.Meaning.{arrays_of}
+use Rattle.affc_ast.specs.Fits.{Fits, has_element, is_output}
 use Rattle.affc_ast.specs.Trace.{trace, store_of}
-use Rattle.affc_ast.specs.Follows.{Stored, Follows, stores_by, put_at, elements}
-use Rattle.affc_ast.specs.Compiles.{RunsAs, Compiles}
+use Rattle.affc_ast.specs.Follows.{Stored, stores_by, put_at, elements}
 use Rattle.affc_trace.specs.declared.schedule.Schedule.{Schedule}
-use Rattle.affc_trace.specs.Law.{Effect, placed, stores_of, as_stored, SameLastStores, HandedIn}
+use Rattle.affc_trace.specs.Law.{Effect, placed, stores_of, as_stored, HandedIn}
 use Rattle.affc_trace.specs.Orders.{KeepsArrays}
-use Rattle.affc_trace.specs.Target.{ordered, target}
-use Rattle.affc_trace.specs.Effects.{effect, effects, has_no_locals}
-use Rattle.affc_trace.specs.Dataflow.{same_element, OneArray, Legal, Admissible}
-use Rattle.affc_trace.specs.Laws.{IsInContext, KeepsParameters, IsUnwritten, RunsTarget, in_target_order, EqualLastStores, KeepsSources, RunsAsSource, CompilesSource}
+use Rattle.affc_trace.specs.Target.{target}
+use Rattle.affc_trace.specs.Effects.{effect}
+use Rattle.affc_trace.specs.Dataflow.{same_element, OneArray}
+use Rattle.affc_trace.specs.Laws.{IsInContext, KeepsParameters, IsUnwritten, in_target_order, FittingDataIsKept, EqualLastStores, KeepsSources, RunsAsSource, CompilesSource}
 use Rattle.affc_trace.proofs.LastStores.{equal_last_stores}
 use Rattle.affc_trace.proofs.Legality.{keeps_sources, loads_are_given}
 use Rattle.affc_trace.proofs.Runs.{element_cmp_total}
@@ -56,6 +53,9 @@ keeps_arrays source p store place fits keeps = record {
 
 handed : (source : Program) (p : List ℤ) (store : Store) (place : Element → Element) → Fits source p store → KeepsParameters source place → HandedIn place (at store) (at store)
 handed source p store place fits keeps x u e = ap (at store) (keeps.own x (handed_in_parameter source p store fits x u e)) ∙ e
+
+pub fitting_data_is_kept : FittingDataIsKept
+fitting_data_is_kept source p store place fits keeps = (keeps_arrays source p store place fits keeps, handed source p store place fits keeps)
 
 -- ---- the law of last stores, and its premise
 

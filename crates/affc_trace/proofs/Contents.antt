@@ -1,11 +1,11 @@
 -- What the arrays hold at the end of a run.
-use Rattle.std.proofs.Common.{◌≡◌, ℕ, ℤ, T, Bool, true, List, [], ◌∷◌, ◌++◌, Option, Some, None, map, refl, sym, ap, subst, ◌∙◌}
+use Rattle.std.proofs.Common.{◌≡◌, ℕ, ℤ, T, Bool, List, [], Some, map, sym, ap, subst, ◌∙◌}
 use Rattle.std.specs.Prelude.{IsTrue}
 use Rattle.std.specs.FinMap.Entries.{is_sorted}
 use Rattle.affc_ast.specs.declared.tree.Instance.{Instance}
 use Rattle.affc_ast.specs.declared.tree.Program.{Program}
 use Rattle.affc_ast.specs.Store.{Element, Store, at, element_cmp}
-use Rattle.affc_ast.specs.Meaning.{State, Outcome, Ended, Stuck, meaning}
+use Rattle.affc_ast.specs.Meaning.{State, Ended, meaning}
 use Rattle.affc_ast.specs.Trace.{trace}
 use Rattle.affc_trace.specs.declared.schedule.Schedule.{Schedule}
 use Rattle.affc_trace.specs.Law.{Effect, placed, or_else, last_at, held, stores_of, as_stored}

@@ -1,5 +1,5 @@
 -- An instance of the trace has one iterator for each loop round its statement.
-use Rattle.std.proofs.Common.{◌≡◌, ℕ, zero, suc, ◌+◌, ◌<◌, ℤ, Bool, true, false, if◌then◌else◌, List, [], ◌∷◌, ◌++◌, length, map, flat_map, sum_by, Option, Some, None, refl, sym, ap, subst, ◌∙◌, ◌⊎◌, inl, inr, arith}
+use Rattle.std.proofs.Common.{◌≡◌, ℕ, suc, ◌+◌, ℤ, List, [], ◌∷◌, ◌++◌, length, map, sum_by, Some, refl, sym, ap, subst, ◌∙◌, inl, inr, arith}
 use Rattle.std.specs.Prelude.{slice_get}
 use Rattle.std.proofs.lemmas.List.Sums.{sum_by-cons}
 use Rattle.affc_ast.specs.declared.tree.Instance.{Instance}
@@ -61,14 +61,16 @@ module _ (p : List ℤ) where
     row_deep : {n : _} (body : Row_of-Stmt n) (k : ℕ) (ts : List ℤ) (b : Instance) → IsIn b (in_walk_order (by_each (walk_step p) body) k ts) → Deep (each_round (by_each loops_step body) (length ts)) k b
     row_deep end_of-Stmt k ts b i = absurd i
     row_deep (more_of-Stmt x rest) k ts b i = elim (in_append ((by_stmt (walk_step p) x).instances k ts) _ b i) [
-        inl j ↦ first_of (by_stmt loops_step x (length ts)) _ k b (deep x k ts b j)
-      | inr j ↦ second_of (by_stmt loops_step x (length ts)) _ k (by_stmt (walk_step p) x).assigns b (assigns_are x (length ts)) (row_deep rest (k + (by_stmt (walk_step p) x).assigns) ts b j) ]
+      | inl j ↦ first_of (by_stmt loops_step x (length ts)) _ k b (deep x k ts b j)
+      | inr j ↦ second_of (by_stmt loops_step x (length ts)) _ k (by_stmt (walk_step p) x).assigns b (assigns_are x (length ts)) (row_deep rest (k + (by_stmt (walk_step p) x).assigns) ts b j)
+    ]
 
   list_deep : (body : List Stmt) (k : ℕ) (ts : List ℤ) (b : Instance) → IsIn b (in_walk_order (map (by_stmt (walk_step p)) body) k ts) → Deep (each_round (map (by_stmt loops_step) body) (length ts)) k b
   list_deep [] k ts b i = absurd i
   list_deep (x ∷ rest) k ts b i = elim (in_append ((by_stmt (walk_step p) x).instances k ts) _ b i) [
-      inl j ↦ first_of (by_stmt loops_step x (length ts)) _ k b (deep x k ts b j)
-    | inr j ↦ second_of (by_stmt loops_step x (length ts)) _ k (by_stmt (walk_step p) x).assigns b (assigns_are x (length ts)) (list_deep rest (k + (by_stmt (walk_step p) x).assigns) ts b j) ]
+    | inl j ↦ first_of (by_stmt loops_step x (length ts)) _ k b (deep x k ts b j)
+    | inr j ↦ second_of (by_stmt loops_step x (length ts)) _ k (by_stmt (walk_step p) x).assigns b (assigns_are x (length ts)) (list_deep rest (k + (by_stmt (walk_step p) x).assigns) ts b j)
+  ]
 
 pub depth : (program : Program) (p : List ℤ) (b : Instance) → IsIn b (trace program p) → slice_get (loops_round program) b.statement ≡ Some (length b.iterators)
 depth program p b i =

@@ -1,5 +1,5 @@
 -- A run against the effects of a program: what it has stored where it ends, and that an effect finds no value where it is stuck for want of one.
-use Rattle.std.proofs.Common.{◌≡◌, ℕ, zero, suc, ◌+◌, ℤ, pos, ◌+ℤ◌, T, Bool, true, false, if◌then◌else◌, cond, int_lt, List, [], ◌∷◌, ◌++◌, length, Option, Some, None, Result, Ok, Err, map, flat_map, sum_by, refl, sym, ap, subst, ◌∙◌, inl, inr}
+use Rattle.std.proofs.Common.{◌≡◌, ℕ, zero, suc, ◌+◌, ℤ, pos, ◌+ℤ◌, T, Bool, true, false, if◌then◌else◌, cond, int_lt, List, [], ◌∷◌, ◌++◌, length, Option, Some, None, Result, Ok, Err, map, flat_map, refl, sym, ap, subst, ◌∙◌, inl, inr}
 use Rattle.std.specs.Ordering.{eq_by_cmp}
 use Rattle.std.specs.FinMap.Entries.{find-put, is_sorted, is_sorted-put}
 use Rattle.affc_ast.specs.declared.tree.Instance.{Instance}
@@ -14,21 +14,21 @@ use Rattle.affc_ast.specs.declared.tree.Program.{Program}
 use Rattle.affc_ast.specs.declared.tree.Stmt.{Stmt}
 use Rattle.affc_ast.specs.declared.tree.Stmt.TheVariants as s
 use Rattle.affc_ast.specs.declared.tree.Stmt.TheBlock.{Row_of-Stmt, more_of-Stmt, end_of-Stmt}
-use Rattle.affc_ast.specs.Store.{Element, Store, at, with_value, element_cmp}
+use Rattle.affc_ast.specs.Store.{Element, Store, at, element_cmp}
 use Rattle.affc_ast.specs.Cause.{Cause, Extent, Overflow, OutOfBounds, Unwritten, ◌>>=◌}
-use Rattle.affc_ast.specs.Index.{in_int64, conditions, index_value, index_values, nodes_of_ix, nodes_of_compare, compares}
+use Rattle.affc_ast.specs.Index.{in_int64, conditions, index_value, index_values, nodes_of_ix, compares}
 use Rattle.affc_ast.specs.Values.{Scope, load, touch, value_of}
-use Rattle.affc_ast.specs.Meaning.{State, Outcome, Ended, Stuck, Position, Part, then_do, reading, begun, write, past, in_order, with_iterator, with_local, inside, turns_of, turns, with_locals, assigned, own_loads, stmt_step, part_of, extents_of, all_extents, arrays_of, nodes_of_decls, meaning}
-use Rattle.affc_ast.specs.Fits.{whole, all_hold}
-use Rattle.affc_ast.specs.Trace.{count_from, Assignment, loads_of_value, element}
+use Rattle.affc_ast.specs.Meaning.{State, Outcome, Ended, Stuck, Position, then_do, reading, begun, write, past, in_order, with_iterator, with_local, inside, turns_of, turns, with_locals, assigned, stmt_step, part_of, extents_of, all_extents, arrays_of, meaning}
+use Rattle.affc_ast.specs.Fits.{whole}
+use Rattle.affc_ast.specs.Trace.{count_from, loads_of_value, element}
 use Rattle.affc_ast.specs.Recursion.{by_stmt, by_each}
 use Rattle.affc_trace.specs.Law.{Effect, or_else, and_then, last_at, held, all_held, both_of, stores_of}
 use Rattle.affc_trace.specs.Dataflow.{same_element}
 use Rattle.affc_trace.specs.Effects.{effect_by, with_all, each_of, effects_step, effects}
 use Rattle.affc_trace.proofs.LastStores.{append_nil, get, IsSome}
-use Rattle.affc_trace.proofs.EndedReads.{append_assoc, ok_if, is_whole, are_whole, conditions_hold, Assigns, assigns}
+use Rattle.affc_trace.proofs.EndedReads.{append_assoc, ok_if, is_whole, are_whole, conditions_hold, assigns}
 use Rattle.affc_trace.proofs.Runs.{stores_append, stores_one, all_held_same, last_at_push, one_entry, element_cmp_total}
-use Rattle.affc_trace.proofs.Unwritten.{IsOther, Fine, fine_bind, fine_if, bind_err, not_err, not_fine, both_right, none_after, load_none, none_append, append_none, index_fine, indices_fine, value_unwritten}
+use Rattle.affc_trace.proofs.Unwritten.{IsOther, Fine, fine_bind, fine_if, bind_err, not_err, not_fine, both_right, load_none, none_append, append_none, index_fine, indices_fine, value_unwritten}
 
 assigned_unwritten : (op : Option Op) (array : ArrayId) (subs : List Ix) (e : Val) (node : ℕ) (scope : Scope) (store : Store) (here : Instance) (i : Instance) (a : ℕ)
     → assigned op array subs e node scope store here ≡ Err (Unwritten i a)

@@ -1,5 +1,5 @@
 -- What is read in a run that ends is what the trace's definitions say.
-use Rattle.std.proofs.Common.{◌≡◌, ℕ, ◌+◌, ◌^◌, ◌-◌, ℤ, pos, negsuc, ◌+ℤ◌, ◌-ℤ◌, ◌*ℤ◌, neg_ℤ, Bool, true, false, if◌then◌else◌, ◌&&◌, List, [], ◌∷◌, ◌++◌, Option, Some, None, Result, Ok, Err, map, refl, sym, ap, subst, ◌∙◌}
+use Rattle.std.proofs.Common.{◌≡◌, ℕ, ◌+◌, ℤ, ◌+ℤ◌, ◌-ℤ◌, ◌*ℤ◌, neg_ℤ, Bool, true, false, if◌then◌else◌, ◌&&◌, List, [], ◌∷◌, ◌++◌, Option, Some, None, Result, Ok, Err, map, refl, sym, ap, subst, ◌∙◌}
 use Rattle.std.specs.Int.{int_max, int_min}
 use Rattle.affc_ast.specs.declared.tree.Instance.{Instance}
 use Rattle.affc_ast.specs.declared.tree.Op.{Op}
@@ -12,14 +12,14 @@ use Rattle.affc_ast.specs.declared.tree.Val.{Val}
 use Rattle.affc_ast.specs.declared.tree.Val.TheVariants as v
 use Rattle.affc_ast.specs.declared.tree.Val.TheBlock.{more_of-Val, end_of-Val}
 use Rattle.affc_ast.specs.Store.{Element, Store, at}
-use Rattle.affc_ast.specs.Cause.{Cause, Overflow, ◌>>=◌}
-use Rattle.affc_ast.specs.Index.{Index, in_int64, floor_of, ceiling_of, remainder_of, divided, on_one, on_both, index_of, index_value, index_values, compares, conditions, nodes_of_ix, nodes_of_compare}
+use Rattle.affc_ast.specs.Cause.{Cause, ◌>>=◌}
+use Rattle.affc_ast.specs.Index.{in_int64, floor_of, ceiling_of, remainder_of, divided, on_one, on_both, index_of, index_value, index_values, compares, conditions, nodes_of_ix}
 use Rattle.affc_ast.specs.Values.{Scope, Sight, deeper, touch, held as held_there, load, value_of, operate, complement, shifted, converted}
-use Rattle.affc_ast.specs.Meaning.{own_value, own_loads, assigned, combined}
+use Rattle.affc_ast.specs.Meaning.{assigned}
 use Rattle.affc_ast.specs.Fits.{whole, all_hold}
-use Rattle.affc_ast.specs.Trace.{Assignment, element, loads_of_value, own_load, loaded_by}
-use Rattle.affc_trace.specs.Law.{both_of, all_held, and_then}
-use Rattle.affc_trace.specs.Effects.{taking, effect_by, next, then_taking, taken, combining}
+use Rattle.affc_ast.specs.Trace.{Assignment, element, loads_of_value}
+use Rattle.affc_trace.specs.Law.{both_of, all_held}
+use Rattle.affc_trace.specs.Effects.{taking, effect_by, then_taking, taken}
 use Rattle.affc_trace.proofs.LastStores.{and_then_some, get, append_nil}
 
 -- ---- results

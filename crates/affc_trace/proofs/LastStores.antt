@@ -1,5 +1,5 @@
 -- The law of last stores.
-use Rattle.std.proofs.Common.{◌≡◌, Bool, true, false, if◌then◌else◌, List, [], ◌∷◌, ◌++◌, Option, Some, None, map, refl, sym, ap, subst, ◌∙◌, ◌⊎◌, inl, inr}
+use Rattle.std.proofs.Common.{◌≡◌, Bool, true, false, if◌then◌else◌, List, [], ◌∷◌, ◌++◌, Option, Some, None, map, refl, sym, ap, subst, ◌∙◌, inl, inr}
 use Rattle.affc_trace.specs.Law.{Effect, placed, or_else, and_then, both_of, last_at, last_store, held, all_held, stores_of, as_stored, IsIn, SameLastStores, HandedIn, EqualLastStores}
 
 abbrev pub option_map : {A B : Type 0} → (A → B) → Option A → Option B

@@ -1,8 +1,8 @@
 -- Admissible folds and a legal order keep each load's source.
-use Rattle.std.proofs.Common.{◌≡◌, ◌≢◌, Bool, true, false, true≢false, if◌then◌else◌, List, [], ◌∷◌, ◌++◌, Option, Some, None, map, refl, sym, ap, subst, ◌∙◌, ◌⊎◌, inl, inr, ◌↔◌}
+use Rattle.std.proofs.Common.{◌≡◌, ◌≢◌, Bool, true, false, true≢false, if◌then◌else◌, List, [], ◌∷◌, ◌++◌, Option, Some, None, map, refl, sym, ap, subst, ◌∙◌, ◌⊎◌, inl, inr}
 use Rattle.std.specs.Bool.{Decides}
-use Rattle.affc_trace.specs.Law.{Effect, placed, or_else, last_at, last_store, held, all_held, stores_of, as_stored, IsIn, SameLastStores, HandedIn}
-use Rattle.affc_trace.specs.Orders.{Earlier, AreDistinct, IsReordered, Touches, Dependent, Legal, IsSource, StoredBetween, LivePair, Admissible, KeepsArrays}
+use Rattle.affc_trace.specs.Law.{Effect, placed, or_else, last_store, held, all_held, stores_of, as_stored, IsIn, SameLastStores, HandedIn}
+use Rattle.affc_trace.specs.Orders.{Earlier, AreDistinct, IsReordered, Legal, Admissible, KeepsArrays}
 use Rattle.affc_trace.proofs.LastStores.{option_map, and_then_some, last_value, source_values, equal_last_stores}
 
 -- ---- before and after in a list

@@ -1,5 +1,5 @@
 -- Each instance stands once in the trace.
-use Rattle.std.proofs.Common.{◌≡◌, ◌≢◌, ℕ, zero, suc, ◌+◌, ◌<◌, ◌≤◌, ℤ, pos, ◌+ℤ◌, Bool, true, false, if◌then◌else◌, List, [], ◌∷◌, ◌++◌, map, flat_map, sum_by, refl, sym, ap, subst, ◌∙◌, ◌⊎◌, inl, inr, arith, ◌≤ℤ◌}
+use Rattle.std.proofs.Common.{◌≡◌, ℕ, zero, suc, ◌+◌, ◌<◌, ℤ, pos, ◌+ℤ◌, Bool, true, false, if◌then◌else◌, List, [], ◌∷◌, ◌++◌, map, flat_map, sum_by, refl, sym, ap, subst, ◌∙◌, ◌⊎◌, inl, inr, arith, ◌≤ℤ◌}
 use Rattle.std.proofs.lemmas.Int.{ints}
 use Rattle.std.proofs.lemmas.List.Sums.{sum_by-cons}
 use Rattle.affc_ast.specs.declared.tree.Instance.{Instance}
@@ -7,9 +7,8 @@ use Rattle.affc_ast.specs.declared.tree.Stmt.{Stmt}
 use Rattle.affc_ast.specs.declared.tree.Stmt.TheVariants as s
 use Rattle.affc_ast.specs.declared.tree.Stmt.TheBlock.{Row_of-Stmt, more_of-Stmt, end_of-Stmt}
 use Rattle.affc_ast.specs.declared.tree.Program.{Program}
-use Rattle.affc_ast.specs.Meaning.{turns_of}
-use Rattle.affc_ast.specs.Fits.{whole, all_hold}
-use Rattle.affc_ast.specs.Trace.{count_from, Walk, walk_step, in_walk_order, trace}
+use Rattle.affc_ast.specs.Fits.{all_hold}
+use Rattle.affc_ast.specs.Trace.{count_from, walk_step, in_walk_order, trace}
 use Rattle.affc_ast.specs.Recursion.{by_stmt, by_each}
 use Rattle.affc_trace.specs.Law.{IsIn}
 use Rattle.affc_trace.specs.Orders.{AreDistinct}

@@ -1,13 +1,13 @@
 -- The target is the one list of the trace's instances in increasing order.
-use Rattle.std.proofs.Common.{◌≡◌, ◌≢◌, ℕ, zero, suc, ◌+◌, ℤ, List, [], ◌∷◌, ◌++◌, length, Option, Some, None, refl, sym, ap, subst, ◌∙◌, arith}
+use Rattle.std.proofs.Common.{◌≡◌, ◌≢◌, ℕ, zero, suc, ◌+◌, ℤ, List, [], ◌∷◌, ◌++◌, length, Some, refl, sym, ap, subst, ◌∙◌}
 use Rattle.std.specs.Prelude.{slice_get}
 use Rattle.std.specs.declared.cmp.Ordering.TheVariants.{Equal}
-use Rattle.std.specs.Ordering.{ordering_then, nat_cmp, int_cmp}
+use Rattle.std.specs.Ordering.{nat_cmp, int_cmp}
 use Rattle.std.specs.Cmp.{IsTotalOrder, nat_cmp_total, int_cmp_total, then_total, on_total}
 use Rattle.std.specs.Cmp.Lexicographic.{lists_total, slice_cmp}
 use Rattle.std.specs.FinMap.{nat_cmp-IsAntisymmetric, int_cmp-IsAntisymmetric, slice_cmp-IsAntisymmetric}
 use Rattle.std.proofs.lemmas.Option.{none-some, same_Some}
-use Rattle.affc_rows.specs.Forms.{values_of, columns_of}
+use Rattle.affc_rows.specs.Forms.{values_of}
 use Rattle.affc_ast.specs.declared.tree.Instance.{Instance}
 use Rattle.affc_ast.specs.declared.tree.Program.{Program}
 use Rattle.affc_ast.specs.Trace.{trace}
@@ -50,7 +50,7 @@ module _ (program : Program) (n : ℕ) (maps : List TimeMap) (p : List ℤ) (fit
       let statements : a.statement ≡ b.statement = nat_cmp-IsAntisymmetric a.statement b.statement tied.1 in
       let r = map_of (numbers_in program.params) n (loops_round program) maps fits a.statement (length a.iterators) (depth program p a i) in
       let iterators : a.iterators ≡ b.iterators =
-            sym (from_time a i r.0 r.1) ∙ ap (λ t. values_of (r.0).inverse (p ++ t)) times ∙ from_time b j r.0 (sym (ap (slice_get maps) statements) ∙ r.1) in
+      sym (from_time a i r.0 r.1) ∙ ap (λ t. values_of (r.0).inverse (p ++ t)) times ∙ from_time b j r.0 (sym (ap (slice_get maps) statements) ∙ r.1) in
       different (λ u. record { statement = statements u; iterators = iterators u })
 
 pub target_is_in_order : TargetIsInOrder

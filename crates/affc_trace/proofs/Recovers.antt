@@ -1,13 +1,12 @@
 -- Inverse forms give back what the forms have been applied to.
-use Rattle.std.proofs.Common.{◌≡◌, ℕ, zero, suc, ◌+◌, ◌-◌, ◌<◌, ◌≤◌, ℤ, pos, ◌+ℤ◌, ◌*ℤ◌, List, [], ◌∷◌, ◌++◌, length, get_or, Option, Some, None, refl, sym, ap, subst, ◌∙◌, arith, length-append}
+use Rattle.std.proofs.Common.{◌≡◌, ℕ, zero, suc, ◌+◌, ◌-◌, ◌<◌, ℤ, pos, ◌+ℤ◌, ◌*ℤ◌, List, [], ◌∷◌, ◌++◌, length, get_or, Some, refl, sym, ap, subst, ◌∙◌, arith, length-append}
 use Rattle.std.specs.Prelude.{slice_get}
 use Rattle.std.proofs.lemmas.Int.{ints}
 use Rattle.std.proofs.lemmas.List.Elements.{All-cons, All-get_or}
 use Rattle.std.proofs.lemmas.Option.{slice_get_within, none-some, same_Some, get_or_from_slice_get}
-use Rattle.affc_rows.specs.Forms.{Affine, dot, value, values_of, columns_of, HaveColumns, composed_form}
+use Rattle.affc_rows.specs.Forms.{Affine, dot, value, values_of, columns_of, HaveColumns}
 use Rattle.affc_rows.proofs.ValueLemmas.{value-composed}
-use Rattle.affc_trace.specs.declared.schedule.TimeMap.{TimeMap}
-use Rattle.affc_trace.specs.Inverses.{zeros, unit_row, column, columns_from, GivesColumn, AreInverse}
+use Rattle.affc_trace.specs.Inverses.{zeros, unit_row, column, columns_from, AreInverse}
 
 -- ---- columns
 
@@ -93,10 +92,10 @@ columns_of-images n (suc m) forms e = length-unit_row n 0
 first_values : (p x : List ℤ) (n : ℕ) → length p + length x ≡ n → values_of (columns_from n 0 (length p)) (p ++ x) ≡ p
 first_values p x n e =
     each_value (columns_from n 0 (length p)) p (p ++ x) (sym (length-columns_from n 0 (length p))) (λ k g m.
-      let c = column_at n 0 (length p) k g m in
-      let l : length (p ++ x) ≡ n = length-append p x ∙ e in
-      let z : 0 + k ≡ k = omega arith in
-      ap (λ f. value f (p ++ x)) (c.1 ∙ ap (column n) z) ∙ value-column n k (p ++ x) l ∙ get_or-left p x k c.0)
+    let c = column_at n 0 (length p) k g m in
+    let l : length (p ++ x) ≡ n = length-append p x ∙ e in
+    let z : 0 + k ≡ k = omega arith in
+    ap (λ f. value f (p ++ x)) (c.1 ∙ ap (column n) z) ∙ value-column n k (p ++ x) l ∙ get_or-left p x k c.0)
 
 -- a form that has the images' columns put in has the values of the images
 pub recovers : (forms inverse : List Affine) → HaveColumns (columns_of forms) forms → HaveColumns (columns_of forms - length inverse + length forms) inverse → AreInverse forms inverse
@@ -107,20 +106,20 @@ recovers forms inverse shaped inverse_shaped inverts p x same_length whole =
     let first : n - length inverse ≡ length p = omega arith in
     let point : length (p ++ x) ≡ n = length-append p x ∙ whole in
     let at_images : values_of images (p ++ x) ≡ p ++ values_of forms (p ++ x) =
-          values-append (columns_from n 0 (n - length inverse)) forms (p ++ x)
-          ∙ ap (λ m. values_of (columns_from n 0 m) (p ++ x) ++ values_of forms (p ++ x)) first
-          ∙ ap (λ l. l ++ values_of forms (p ++ x)) (first_values p x n whole) in
+    values-append (columns_from n 0 (n - length inverse)) forms (p ++ x)
+    ∙ ap (λ m. values_of (columns_from n 0 m) (p ++ x) ++ values_of forms (p ++ x)) first
+    ∙ ap (λ l. l ++ values_of forms (p ++ x)) (first_values p x n whole) in
     each_value inverse x (p ++ values_of forms (p ++ x)) same_length (λ k g m.
-      let in_range : k < length inverse = slice_get_within inverse k g m in
-      let counts : length images ≡ n - length inverse + length forms = length-append (columns_from n 0 (n - length inverse)) forms ∙ ap (λ u. u + length forms) (length-columns_from n 0 (n - length inverse)) in
-      let width : length g.coefs ≡ n - length inverse + length forms = have inverse _ inverse_shaped k g m in
-      let here : columns_of images ≡ n = columns_of-images n (n - length inverse) forms refl in
-      ap (value g) (sym at_images)
-      ∙ sym (value-composed g images (p ++ x) (counts ∙ sym width) (subst (λ u. HaveColumns u images) (sym point) (columns_have n 0 (n - length inverse) forms shaped)) (point ∙ sym here))
-      ∙ ap (λ f. value f (p ++ x)) (inverts k g m)
-      ∙ value-column (columns_of images) (n - length inverse + k) (p ++ x) (point ∙ sym here)
-      ∙ ap (λ i. get_or (p ++ x) (i + k) (pos 0)) first
-      ∙ get_or-right p x k)
+    let in_range : k < length inverse = slice_get_within inverse k g m in
+    let counts : length images ≡ n - length inverse + length forms = length-append (columns_from n 0 (n - length inverse)) forms ∙ ap (λ u. u + length forms) (length-columns_from n 0 (n - length inverse)) in
+    let width : length g.coefs ≡ n - length inverse + length forms = have inverse _ inverse_shaped k g m in
+    let here : columns_of images ≡ n = columns_of-images n (n - length inverse) forms refl in
+    ap (value g) (sym at_images)
+    ∙ sym (value-composed g images (p ++ x) (counts ∙ sym width) (subst (λ u. HaveColumns u images) (sym point) (columns_have n 0 (n - length inverse) forms shaped)) (point ∙ sym here))
+    ∙ ap (λ f. value f (p ++ x)) (inverts k g m)
+    ∙ value-column (columns_of images) (n - length inverse + k) (p ++ x) (point ∙ sym here)
+    ∙ ap (λ i. get_or (p ++ x) (i + k) (pos 0)) first
+    ∙ get_or-right p x k)
   where
     have : (gs : List Affine) (c : ℕ) → HaveColumns c gs → (k : ℕ) (g : Affine) → slice_get gs k ≡ Some g → length g.coefs ≡ c
     have gs c h k g m = ap (λ f. length f.coefs) (sym (get_or_from_slice_get gs k g g m)) ∙ All-get_or (λ f. length f.coefs ≡ c) gs k g (slice_get_within gs k g m) h

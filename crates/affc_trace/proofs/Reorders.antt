@@ -1,8 +1,8 @@
 -- The target has the trace's instances, each once.
-use Rattle.std.proofs.Common.{◌≡◌, ◌≢◌, ℕ, Bool, true, false, true≢false, if◌then◌else◌, List, [], ◌∷◌, ◌++◌, Option, Some, None, map, refl, sym, ap, subst, ◌∙◌, ◌⊎◌, inl, inr, Ordering}
+use Rattle.std.proofs.Common.{◌≡◌, Bool, true, false, true≢false, if◌then◌else◌, List, [], ◌∷◌, ◌++◌, Option, Some, map, refl, sym, ap, subst, ◌∙◌, ◌⊎◌, inl, inr, Ordering}
 use Rattle.std.specs.Bool.{Decides}
 use Rattle.std.specs.Ordering.{is_lt}
-use Rattle.affc_trace.specs.Law.{Effect, stores_of, as_stored, IsIn, held, all_held, and_then}
+use Rattle.affc_trace.specs.Law.{Effect, stores_of, as_stored, IsIn, held, all_held}
 use Rattle.affc_trace.specs.Orders.{AreDistinct, IsReordered}
 use Rattle.affc_trace.specs.Target.{put_in, in_order_of}
 use Rattle.affc_trace.proofs.LastStores.{and_then_some, get}

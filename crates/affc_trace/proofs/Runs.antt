@@ -1,7 +1,6 @@
 -- Runs in general, and the numbers of a program's statements.
-use Rattle.std.proofs.Common.{◌≡◌, ℕ, zero, suc, ◌+◌, ℤ, pos, ◌+ℤ◌, Bool, true, false, if◌then◌else◌, cond, ◌&&◌, T, List, [], ◌∷◌, ◌++◌, length, Option, Some, None, Result, Ok, Err, map, flat_map, sum_by, refl, sym, ap, subst, ◌∙◌, arith}
+use Rattle.std.proofs.Common.{◌≡◌, ℕ, zero, suc, ◌+◌, ℤ, Bool, true, false, if◌then◌else◌, ◌&&◌, T, List, [], ◌∷◌, ◌++◌, length, Option, Some, None, flat_map, sum_by, refl, sym, ap, subst, ◌∙◌, arith}
 use Rattle.std.specs.Prelude.{slice_get}
-use Rattle.std.specs.Ordering.{nat_cmp, int_cmp}
 use Rattle.std.specs.Cmp.{IsTotalOrder, nat_cmp_total, int_cmp_total, then_total, on_total}
 use Rattle.std.specs.Cmp.Lexicographic.{lists_total}
 use Rattle.std.proofs.lemmas.List.Sums.{sum_by-cons}
@@ -9,8 +8,8 @@ use Rattle.affc_ast.specs.declared.tree.Stmt.{Stmt}
 use Rattle.affc_ast.specs.declared.tree.Stmt.TheVariants as s
 use Rattle.affc_ast.specs.declared.tree.Stmt.TheBlock.{Row_of-Stmt, more_of-Stmt, end_of-Stmt}
 use Rattle.affc_ast.specs.Store.{Element, element_cmp}
-use Rattle.affc_ast.specs.Meaning.{Part, stmt_step, part_of}
-use Rattle.affc_ast.specs.Trace.{Walk, walk_step, Assignment, assignments_step}
+use Rattle.affc_ast.specs.Meaning.{stmt_step, part_of}
+use Rattle.affc_ast.specs.Trace.{walk_step, Assignment, assignments_step}
 use Rattle.affc_ast.specs.Recursion.{by_stmt, by_each}
 use Rattle.affc_trace.specs.Law.{Effect, or_else, and_then, last_at, held, all_held, both_of, stores_of}
 use Rattle.affc_trace.proofs.LastStores.{IsSome, and_then_some, get, push_append, append_nil}

@@ -1,12 +1,11 @@
 -- Insertion puts distinct entries in increasing order, and no other list of them is so.
-use Rattle.std.proofs.Common.{◌≡◌, ◌≢◌, Bool, true, false, if◌then◌else◌, List, [], ◌∷◌, refl, sym, ap, subst, ◌∙◌, ◌⊎◌, inl, inr, Ordering, T}
+use Rattle.std.proofs.Common.{◌≡◌, ◌≢◌, Bool, true, false, if◌then◌else◌, List, [], ◌∷◌, refl, sym, ap, subst, ◌∙◌, inl, inr, Ordering, T}
 use Rattle.std.specs.declared.cmp.Ordering.TheVariants.{Less, Equal, Greater}
 use Rattle.std.specs.Ordering.{is_lt, ordering_reverse}
 use Rattle.std.specs.Cmp.{IsTotalOrder}
 use Rattle.affc_trace.specs.Law.{IsIn}
-use Rattle.affc_trace.specs.Orders.{Earlier, AreDistinct, IsReordered}
+use Rattle.affc_trace.specs.Orders.{Earlier, AreDistinct}
 use Rattle.affc_trace.specs.Target.{put_in, in_order_of, IsInOrder}
-use Rattle.affc_trace.proofs.Legality.{later_is_in}
 use Rattle.affc_trace.proofs.Reorders.{from_put, from_order, is_reordered}
 
 is_less : (r : Ordering) → is_lt r ≡ true → r ≡ Less
@@ -33,14 +32,16 @@ module _ {A : Type 0} (cmp : A → A → Ordering) (total : IsTotalOrder cmp) wh
       → Increasing (if b then y ∷ put_in cmp x ys else x ∷ y ∷ ys)
   put_cases x y ys true e n all rest a c (inl f) =
       elim (from_put cmp x c ys f.1) [
-        inl q ↦ ap (λ z. cmp z c) f.0 ∙ ap (cmp y) q ∙ is_less (cmp y x) e
-      | inr i ↦ all a c (inl (f.0, i)) ]
+        | inl q ↦ ap (λ z. cmp z c) f.0 ∙ ap (cmp y) q ∙ is_less (cmp y x) e
+        | inr i ↦ all a c (inl (f.0, i))
+      ]
   put_cases x y ys true e n all rest a c (inr f) = rest a c f
   put_cases x y ys false e n all rest a c (inl f) =
       let before : cmp x y ≡ Less = total.antisymm x y ∙ ap ordering_reverse (is_greater (cmp y x) e n) in
       ap (λ z. cmp z c) f.0 ∙ elim f.1 [
-        inl q ↦ ap (cmp x) q ∙ before
-      | inr i ↦ total.trans x y c before (all y c (inl (refl, i))) ]
+        | inl q ↦ ap (cmp x) q ∙ before
+        | inr i ↦ total.trans x y c before (all y c (inl (refl, i)))
+      ]
   put_cases x y ys false e n all rest a c (inr f) = all a c f
 
   put_increasing : (x : A) (ys : List A) → ((y : A) → IsIn y ys → cmp y x ≢ Equal) → Increasing ys → Increasing (put_in cmp x ys)
@@ -53,8 +54,8 @@ module _ {A : Type 0} (cmp : A → A → Ordering) (total : IsTotalOrder cmp) wh
   order_increasing [] d n a b f = absurd f
   order_increasing (x ∷ xs) d n a b f =
       put_increasing x (in_order_of cmp xs)
-        (λ y i. let j = from_order cmp y xs i in n y x (inr j) (inl refl) (λ e. d.0 (subst (λ z. IsIn z xs) e j)))
-        (order_increasing xs d.1 (λ a b i j. n a b (inr i) (inr j))) a b f
+      (λ y i. let j = from_order cmp y xs i in n y x (inr j) (inl refl) (λ e. d.0 (subst (λ z. IsIn z xs) e j)))
+      (order_increasing xs d.1 (λ a b i j. n a b (inr i) (inr j))) a b f
 
   pub in_order : (xs : List A) → AreDistinct xs → ((a b : A) → IsIn a xs → IsIn b xs → a ≢ b → cmp a b ≢ Equal) → IsInOrder cmp xs (in_order_of cmp xs)
   in_order xs d n = record { reordered = is_reordered cmp xs d; increasing = order_increasing xs d n }
@@ -68,17 +69,19 @@ module _ {A : Type 0} (cmp : A → A → Ordering) (total : IsTotalOrder cmp) wh
   one_list (y ∷ ys) [] d e f g s t = absurd (f y (inl refl))
   one_list (y ∷ ys) (z ∷ zs) d e f g s t =
       let first : y ≡ z = elim (f y (inl refl)) [
-            inl q ↦ q
-          | inr i ↦ elim (g z (inl refl)) [
-              inl q ↦ sym q
-            | inr j ↦ absurd (not_both y z (s y z (inl (refl, j))) (t z y (inl (refl, i)))) ] ] in
+        | inl q ↦ q
+        | inr i ↦ elim (g z (inl refl)) [
+          | inl q ↦ sym q
+          | inr j ↦ absurd (not_both y z (s y z (inl (refl, j))) (t z y (inl (refl, i))))
+        ]
+      ] in
       let tails : ys ≡ zs = one_list ys zs d.1 e.1
-            (λ a i. elim (f a (inr i)) [ inl q ↦ absurd (d.0 (subst (λ u. IsIn u ys) (q ∙ sym first) i)) | inr j ↦ j ])
-            (λ a i. elim (g a (inr i)) [ inl q ↦ absurd (e.0 (subst (λ u. IsIn u zs) (q ∙ first) i)) | inr j ↦ j ])
-            (λ a b h. s a b (inr h)) (λ a b h. t a b (inr h)) in
+      (λ a i. elim (f a (inr i)) [ inl q ↦ absurd (d.0 (subst (λ u. IsIn u ys) (q ∙ sym first) i)) | inr j ↦ j ])
+      (λ a i. elim (g a (inr i)) [ inl q ↦ absurd (e.0 (subst (λ u. IsIn u zs) (q ∙ first) i)) | inr j ↦ j ])
+      (λ a b h. s a b (inr h)) (λ a b h. t a b (inr h)) in
       ap (λ u. u ∷ ys) first ∙ ap (λ l. z ∷ l) tails
 
   pub only_order : (xs ys zs : List A) → IsInOrder cmp xs ys → IsInOrder cmp xs zs → ys ≡ zs
   only_order xs ys zs h k =
       one_list ys zs h.reordered.once_in_target k.reordered.once_in_target
-        (λ a i. k.reordered.kept a (h.reordered.no_other a i)) (λ a i. h.reordered.kept a (k.reordered.no_other a i)) h.increasing k.increasing
+      (λ a i. k.reordered.kept a (h.reordered.no_other a i)) (λ a i. h.reordered.kept a (k.reordered.no_other a i)) h.increasing k.increasing

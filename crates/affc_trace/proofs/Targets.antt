@@ -1,5 +1,5 @@
 -- The target has the trace's instances, each once; and tests for equal instances and elements.
-use Rattle.std.proofs.Common.{◌≡◌, ℕ, ℤ, Bool, true, T, List, [], ◌∷◌, map, refl, sym, ap, subst, ◌∙◌, Ordering}
+use Rattle.std.proofs.Common.{◌≡◌, ℤ, true, T, List, [], ◌∷◌, map, refl, sym, ap, subst, ◌∙◌, Ordering}
 use Rattle.std.specs.Bool.{Decides}
 use Rattle.std.specs.declared.cmp.Ordering.TheVariants.{Less, Equal, Greater}
 use Rattle.std.specs.Ordering.{is_eq, ordering_then, nat_cmp, int_cmp}

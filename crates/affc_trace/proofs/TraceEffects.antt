@@ -1,5 +1,5 @@
 -- The effects of a program without locals are those of its trace's instances.
-use Rattle.std.proofs.Common.{◌≡◌, ℕ, ◌+◌, ℤ, T, Bool, true, false, ◌&&◌, if◌then◌else◌, List, [], ◌∷◌, ◌++◌, length, Option, Some, None, map, flat_map, sum_by, refl, sym, ap, subst, ◌∙◌, arith}
+use Rattle.std.proofs.Common.{◌≡◌, ℕ, ◌+◌, ℤ, T, Bool, true, false, if◌then◌else◌, List, [], ◌∷◌, ◌++◌, Some, map, flat_map, refl, sym, ap, subst, ◌∙◌, arith}
 use Rattle.std.specs.Prelude.{slice_get}
 use Rattle.affc_ast.specs.declared.tree.Stmt.{Stmt}
 use Rattle.affc_ast.specs.declared.tree.Stmt.TheVariants as s
@@ -7,9 +7,8 @@ use Rattle.affc_ast.specs.declared.tree.Stmt.TheBlock.{Row_of-Stmt, more_of-Stmt
 use Rattle.affc_ast.specs.declared.tree.Program.{Program}
 use Rattle.affc_ast.specs.Store.{Element}
 use Rattle.affc_ast.specs.declared.tree.Instance.{Instance}
-use Rattle.affc_ast.specs.Meaning.{turns_of, part_of}
-use Rattle.affc_ast.specs.Fits.{whole, all_hold}
-use Rattle.affc_ast.specs.Trace.{count_from, walk_step, in_walk_order, Assignment, assignments_step, assignments, trace}
+use Rattle.affc_ast.specs.Fits.{all_hold}
+use Rattle.affc_ast.specs.Trace.{walk_step, in_walk_order, Assignment, assignments_step, assignments, trace}
 use Rattle.affc_ast.specs.Recursion.{by_stmt, by_each}
 use Rattle.affc_trace.specs.Law.{Effect}
 use Rattle.affc_trace.specs.Effects.{effect_by, effect, each_of, effects_step, effects, plain_step, all_true, has_no_locals}

@@ -1,7 +1,6 @@
 -- A run that is stuck at an element without a value: there its effects find none either.
-use Rattle.std.proofs.Common.{◌≡◌, ℕ, ◌+◌, ◌^◌, ◌-◌, ℤ, pos, ◌+ℤ◌, ◌-ℤ◌, ◌*ℤ◌, neg_ℤ, Bool, true, false, if◌then◌else◌, List, [], ◌∷◌, ◌++◌, Option, Some, None, Result, Ok, Err, map, refl, sym, ap, subst, ◌∙◌, ◌⊎◌, inl, inr}
+use Rattle.std.proofs.Common.{◌≡◌, ℕ, ◌+◌, ℤ, Bool, true, false, if◌then◌else◌, List, [], ◌∷◌, ◌++◌, Option, Some, None, Result, Ok, Err, refl, sym, ap, subst, ◌∙◌, ◌⊎◌, inl, inr}
 use Rattle.affc_ast.specs.declared.tree.Instance.{Instance}
-use Rattle.affc_ast.specs.declared.tree.Op.{Op}
 use Rattle.affc_ast.specs.declared.tree.ArrayId.{ArrayId}
 use Rattle.affc_ast.specs.declared.tree.Ix.{Ix}
 use Rattle.affc_ast.specs.declared.tree.Ix.TheVariants as c
@@ -11,9 +10,9 @@ use Rattle.affc_ast.specs.declared.tree.Val.TheVariants as v
 use Rattle.affc_ast.specs.declared.tree.Val.TheBlock.{more_of-Val, end_of-Val}
 use Rattle.affc_ast.specs.Store.{Element, Store, at}
 use Rattle.affc_ast.specs.Cause.{Cause, Extent, Overflow, OutOfBounds, Unwritten, ◌>>=◌}
-use Rattle.affc_ast.specs.Index.{in_int64, index_of, index_value, index_values, nodes_of_ix}
+use Rattle.affc_ast.specs.Index.{index_value, index_values, nodes_of_ix}
 use Rattle.affc_ast.specs.Values.{Scope, Sight, deeper, touch, held as held_there, load, value_of}
-use Rattle.affc_ast.specs.Trace.{loads_of_value, element}
+use Rattle.affc_ast.specs.Trace.{loads_of_value}
 use Rattle.affc_trace.specs.Law.{Effect, both_of, and_then, all_held, held, stores_of}
 use Rattle.affc_trace.proofs.LastStores.{IsSome, and_then_some, get, push_append, append_nil}
 use Rattle.affc_trace.proofs.EndedReads.{are_whole, touch_is}

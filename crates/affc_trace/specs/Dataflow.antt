@@ -1,5 +1,5 @@
 -- Dependences, sources and live pairs of a program, for a schedule at p; and lists of them that compute.
-use Rattle.std.specs.Prelude.{◌≡◌, ◌≢◌, ℕ, nat_eq, ℤ, Bool, true, false, not, ◌&&◌, ◌||◌, if◌then◌else◌, List, [], ◌∷◌, ◌++◌, Option, Some, None, map, flat_map, filter}
+use Rattle.std.specs.Prelude.{◌≡◌, ◌≢◌, ℕ, nat_eq, ℤ, Bool, false, not, ◌&&◌, ◌||◌, if◌then◌else◌, List, [], ◌∷◌, ◌++◌, Option, Some, None, map, flat_map, filter}
 use Rattle.std.specs.declared.cmp.Ordering.{Ordering}
 use Rattle.std.specs.Ordering.{is_eq, ordering_then, nat_cmp, int_cmp}
 use Rattle.std.specs.Cmp.Lexicographic.{slice_cmp}
@@ -8,7 +8,7 @@ use Rattle.affc_ast.specs.declared.tree.Program.{Program}
 use Rattle.affc_ast.specs.Store.{Element, element_cmp}
 use Rattle.affc_ast.specs.Trace.{trace, loads_of, store_of}
 use Rattle.affc_trace.specs.declared.schedule.Schedule.{Schedule}
-use Rattle.affc_trace.specs.Law.{Effect, last_store}
+use Rattle.affc_trace.specs.Law.{last_store}
 use Rattle.affc_trace.specs.Orders.{Earlier, Dependent}
 use Rattle.affc_trace.specs.Orders as orders
 use Rattle.affc_trace.specs.Effects.{effect}

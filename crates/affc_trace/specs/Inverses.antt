@@ -1,5 +1,5 @@
 -- Forms that give back what other forms have been applied to.
-use Rattle.std.specs.Prelude.{◌≡◌, ℕ, zero, suc, ◌+◌, ◌-◌, ◌<◌, ℤ, pos, List, [], ◌∷◌, ◌++◌, length, slice_get, Option, Some}
+use Rattle.std.specs.Prelude.{◌≡◌, ℕ, zero, suc, ◌+◌, ◌-◌, ℤ, pos, List, [], ◌∷◌, ◌++◌, length, slice_get, Some}
 use Rattle.affc_rows.specs.Forms.{Affine, columns_of, composed_form}
 
 abbrev pub zeros : ℕ → List ℤ

@@ -1,5 +1,5 @@
 -- The laws by which a program may be reordered and its arrays folded, at given programs.
-use Rattle.std.specs.Prelude.{◌≡◌, ℕ, ◌<◌, ℤ, IsTrue, List, [], Option, Some, length, map}
+use Rattle.std.specs.Prelude.{◌≡◌, ℕ, ◌<◌, ℤ, IsTrue, List, [], Some, length, map}
 use Rattle.affc_ast.specs.declared.tree.Instance.{Instance}
 use Rattle.affc_ast.specs.declared.tree.Program.{Program}
 use Rattle.affc_ast.specs.Cause.{Cause, Extent, Overflow, OutOfBounds, Unwritten}
@@ -12,11 +12,11 @@ use Rattle.affc_ast.specs.Compiles.{RunsAs, Compiles}
 use Rattle.affc_trace.specs.declared.schedule.TimeMap.{TimeMap}
 use Rattle.affc_trace.specs.declared.schedule.Schedule.{Schedule}
 use Rattle.affc_trace.specs.declared.schedule.Schedule.TheVariants.{Time}
-use Rattle.affc_trace.specs.Law.{placed, stores_of, as_stored, SameLastStores}
-use Rattle.affc_trace.specs.Orders.{AreDistinct, IsReordered}
+use Rattle.affc_trace.specs.Law.{placed, stores_of, as_stored, SameLastStores, HandedIn}
+use Rattle.affc_trace.specs.Orders.{IsReordered, KeepsArrays}
 use Rattle.affc_trace.specs.Target.{time_cmp, ordered, target, IsInOrder, numbers_in, IsScheduleOf}
 use Rattle.affc_trace.specs.Effects.{effect, effects, has_no_locals}
-use Rattle.affc_trace.specs.Dataflow.{same_element, Legal, Admissible}
+use Rattle.affc_trace.specs.Dataflow.{same_element, OneArray, Legal, Admissible}
 
 -- ---- Premises
 
@@ -66,12 +66,18 @@ abbrev pub TargetIsInOrder : Type 0
 TargetIsInOrder = (program : Program) (length_of_time : ℕ) (maps : List TimeMap) (p : List ℤ)
     → IsScheduleOf program (Time length_of_time maps) → length p ≡ numbers_in program.params
     → IsInOrder (time_cmp maps p) (trace program p) (target program (Time length_of_time maps) p)
-      × ((order : List Instance) → IsInOrder (time_cmp maps p) (trace program p) order → order ≡ target program (Time length_of_time maps) p)
+    × ((order : List Instance) → IsInOrder (time_cmp maps p) (trace program p) order → order ≡ target program (Time length_of_time maps) p)
 
 -- What the instances store in a run that ends is a function of the instance.
 abbrev pub ValuesByInstance : Type 0
 ValuesByInstance = (source : Program) (p : List ℤ) (store : Store) (end : State) → IsTrue (has_no_locals source) → meaning source p store ≡ Ended end
     → (v : Instance → ℕ) × (end.written ≡ as_stored (effect source p) v (trace source p))
+
+-- Data that fit are found at their places, each at a place that no other element has, where parameters keep theirs.
+abbrev pub FittingDataIsKept : Type 0
+FittingDataIsKept = (source : Program) (p : List ℤ) (store : Store) (place : Element → Element)
+    → Fits source p store → KeepsParameters source place
+    → KeepsArrays OneArray place (at store) × HandedIn place (at store) (at store)
 
 -- The law of last stores: where each load in `order` finds, at the place of its element, a store by the instance that is the
 -- load's source, or none where it has none, and each element of a parameter array is its own place, all instances store the

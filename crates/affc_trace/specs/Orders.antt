@@ -1,7 +1,7 @@
 -- Two orders of the same instances, and what keeps each load's last store. Live ranges of elements and the conflicts between
 -- them are those of Lefebvre and Feautrier (1998) and of Darte, Schreiber and Villard (2005); that a store whose value is
 -- never loaded counts too is our own.
-use Rattle.std.specs.Prelude.{◌≡◌, ◌≢◌, Bool, List, [], ◌∷◌, ◌++◌, Option, Some, None, map, ◌⊎◌}
+use Rattle.std.specs.Prelude.{◌≡◌, ◌≢◌, Bool, List, [], ◌∷◌, ◌++◌, Option, Some, ◌⊎◌}
 use Rattle.affc_trace.specs.Law.{Effect, last_store, IsIn}
 
 -- a stands before b

@@ -1,5 +1,5 @@
 -- The order in which a schedule runs a program's instances.
-use Rattle.std.specs.Prelude.{◌≡◌, ℕ, zero, suc, ◌+◌, length, ℤ, if◌then◌else◌, List, [], ◌∷◌, ◌++◌, Option, Some, None, map, slice_get}
+use Rattle.std.specs.Prelude.{◌≡◌, ℕ, suc, ◌+◌, length, ℤ, if◌then◌else◌, List, [], ◌∷◌, ◌++◌, Option, Some, None, map, slice_get}
 use Rattle.std.specs.declared.cmp.Ordering.{Ordering}
 use Rattle.std.specs.declared.cmp.Ordering.TheVariants.{Less}
 use Rattle.std.specs.Ordering.{is_lt, ordering_then, nat_cmp, int_cmp}
@@ -15,8 +15,7 @@ use Rattle.affc_ast.specs.Trace.{trace}
 use Rattle.affc_trace.specs.declared.schedule.TimeMap.{TimeMap}
 use Rattle.affc_trace.specs.declared.schedule.Schedule.{Schedule}
 use Rattle.affc_trace.specs.declared.schedule.Schedule.TheVariants.{Source, Time}
-use Rattle.affc_trace.specs.Law.{IsIn}
-use Rattle.affc_trace.specs.Orders.{Earlier, AreDistinct, IsReordered}
+use Rattle.affc_trace.specs.Orders.{Earlier, IsReordered}
 
 abbrev pub time_by : Option TimeMap → List ℤ → List ℤ
 time_by None point = []
