@@ -1,0 +1,5 @@
+pub mod Bases
+pub mod Slices
+pub mod Moduli
+pub mod Folds
+pub mod Laws
