@@ -1,1 +1,4 @@
 pub mod Remainders
+pub mod Separation
+pub mod FoldPlaces
+pub mod Marks

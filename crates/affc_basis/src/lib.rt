@@ -3,6 +3,7 @@
 
 pub mod basis;
 pub mod fold;
+pub mod laws;
 
 pub use basis::{Basis, NotInverse};
 pub use fold::{Fold, Mark, Modulus};
