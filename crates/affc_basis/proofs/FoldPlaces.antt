@@ -45,9 +45,10 @@ length-map f (x ∷ xs) = ap suc_of (length-map f xs)
 module _ (program : Program) (schedule : Schedule) (array n : ℕ) (p : List ℤ) (dimensions : HasDimensions program p array n) where
   both_have : (x y : List ℤ) → StoredBetween (effect program p) same_element (trace program p) (target program schedule p) (array, x) (array, y) → (length x ≡ n) × (length y ≡ n)
   both_have x y s =
-      let reordered = target_is_reordered_law program schedule p in
-      (dimensions s.load x (reordered.no_other s.load (later_is_in (target program schedule p) s.other s.load s.before)) (inl s.loads),
-       dimensions s.other y (reordered.no_other s.other (later_is_in (target program schedule p) s.store s.other s.after)) (inr s.stores))
+      let reordered = target_is_reordered_law program schedule p in (
+        dimensions s.load x (reordered.no_other s.load (later_is_in (target program schedule p) s.other s.load s.before)) (inl s.loads),
+        dimensions s.other y (reordered.no_other s.other (later_is_in (target program schedule p) s.store s.other s.after)) (inr s.stores),
+      )
 
   pub proper_pair : (x y : List ℤ) → LivePair program schedule array p x y → (x ≢ y) × (length x ≡ n) × (length y ≡ n)
   proper_pair x y live =
@@ -57,7 +58,7 @@ module _ (program : Program) (schedule : Schedule) (array n : ℕ) (p : List ℤ
 pub obeying_fold_is_admissible : ObeyingFoldIsAdmissible
 obeying_fold_is_admissible program schedule array p fold dimensions obeys =
     separated (LivePair program schedule array p) p fold.basis.rows (forms_of fold.moduli) (length-map (λ m. m.form) fold.moduli ∙ fold.one_each) obeys
-      fold.basis.inverse fold.basis.square fold.basis.identity (proper_pair program schedule array (length fold.basis.rows) p dimensions)
+    fold.basis.inverse fold.basis.square fold.basis.identity (proper_pair program schedule array (length fold.basis.rows) p dimensions)
 
 -- ---- places
 
@@ -76,7 +77,7 @@ module _ (program : Program) (schedule : Schedule) (folds : List (ArrayId × Fol
       let same_array : y ≡ (x.0, y.1) = λ i. (one i, y.1) in
       let moved : AreLive program schedule p x (x.0, y.1) = subst (AreLive program schedule p x) same_array live in
       let same : folded_by (fold_of folds x.0) p x.1 ≡ folded_by (fold_of folds x.0) p y.1 =
-            ap (λ z. z.1) e ∙ ap (λ a. folded_by (fold_of folds a) p y.1) one in
+      ap (λ z. z.1) e ∙ ap (λ a. folded_by (fold_of folds a) p y.1) one in
       apart_in x.0 x.1 y.1 (fold_of folds x.0) refl moved same
 
 pub admissible_folds_separate : AdmissibleFoldsSeparate
@@ -95,6 +96,6 @@ folds_keep_parameters program folds p proper = record { same_array = λ x. refl;
 pub compiles_folded : CompilesFolded
 compiles_folded printed source schedule folds plain name params context ends legal proper obeys runs =
     compiles_source printed source schedule (place folds) plain name params context ends legal
-      (λ p here. admissible_folds_separate source schedule folds p proper here (λ array fold e.
-        obeying_fold_is_admissible source schedule array p fold (proper.dimensions array fold e p here) (obeys p here array fold e)))
-      (λ p here. folds_keep_parameters source folds p proper) runs
+    (λ p here. admissible_folds_separate source schedule folds p proper here (λ array fold e.
+    obeying_fold_is_admissible source schedule array p fold (proper.dimensions array fold e p here) (obeys p here array fold e)))
+    (λ p here. folds_keep_parameters source folds p proper) runs

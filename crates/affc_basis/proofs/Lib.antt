@@ -2,3 +2,5 @@ pub mod Remainders
 pub mod Separation
 pub mod FoldPlaces
 pub mod Marks
+pub mod WideLemmas
+pub mod Products

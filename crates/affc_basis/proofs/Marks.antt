@@ -28,11 +28,13 @@ pub least_mark_is_need : LeastMarkIsNeed
 least_mark_is_need program schedule array fold k row modulus p pair at at_b obeys mark =
     let n : ℕ = mark.greatest + 1 in
     let InContext : List ℤ → Type 0 = IsInContext program in
-    let pairs : List ℤ → List ℤ → List ℤ → Type 0 = LivePair program schedule array in
-    (n, mark.value_there,
+    let pairs : List ℤ → List ℤ → List ℤ → Type 0 = LivePair program schedule array in (
+      n,
+      mark.value_there,
       record { most = λ q here. up_to (value modulus q) (value modulus p) n (mark.highest q here) mark.value_there; attained = (p, mark.in_context, mark.value_there) },
       record {
         positive = omega arith;
         exceeds = λ q here x y slice. at_most (value modulus q) (value modulus p) n (along row x y) ((obeys q here k row modulus at at_b).1 x y slice) (mark.highest q here) mark.value_there;
         least = least_by (IsInContext program) (LivePair program schedule array) fold.basis.rows k row modulus p mark.in_context mark.greatest pair mark.attains;
-      })
+      },
+    )

@@ -102,7 +102,7 @@ equal_of_multiple x y d h m =
     let s : ℤ = int_rem_euclid y d in
     let apart : r -ℤ s ≡ ((m.0 *ℤ d) -ℤ (a.quotient *ℤ d)) +ℤ (b.quotient *ℤ d) = remainders_apart x y (a.quotient *ℤ d) (b.quotient *ℤ d) r s (m.0 *ℤ d) a.sums b.sums m.1 in
     let multiple : r -ℤ s ≡ ((m.0 -ℤ a.quotient) +ℤ b.quotient) *ℤ d =
-          apart ∙ ap (λ u. u +ℤ (b.quotient *ℤ d)) (sym (sub-mul m.0 a.quotient d)) ∙ sym (add-mul (m.0 -ℤ a.quotient) b.quotient d) in
+    apart ∙ ap (λ u. u +ℤ (b.quotient *ℤ d)) (sym (sub-mul m.0 a.quotient d)) ∙ sym (add-mul (m.0 -ℤ a.quotient) b.quotient d) in
     equal_of_zero r s (small_multiple d (r -ℤ s) h (((m.0 -ℤ a.quotient) +ℤ b.quotient), multiple) (between r s d a.low a.high b.low b.high))
 
 -- ---- along a row

@@ -27,7 +27,7 @@ same_values (r ∷ rows) x y same h =
     ap (λ u. u ∷ values_of rows x) (no_distance r x y same (h zero r refl))
     ∙ ap (λ l. value r y ∷ l) (same_values rows x y same (λ k row e. h (suc k) row e))
 
-square_columns : (n : ℕ) (rows : List Affine) → HaveColumns n rows → length rows ≡ n → columns_of rows ≡ n
+pub square_columns : (n : ℕ) (rows : List Affine) → HaveColumns n rows → length rows ≡ n → columns_of rows ≡ n
 square_columns n [] h e = e
 square_columns n (r ∷ rows) h e = All-get_or (λ f. length f.coefs ≡ n) (r ∷ rows) 0 r (omega arith) h
 
@@ -39,8 +39,8 @@ given_back rows inverse square identity x e =
     let none : columns_of rows - length inverse ≡ 0 = omega arith in
     let width : n ≡ columns_of rows - length inverse + n = omega arith in
     let inverts : AreInverse rows inverse = λ k.
-          subst (λ m. GivesColumn inverse (columns_from (columns_of rows) 0 m ++ rows) m k) (sym none) (λ g at.
-            (identity k (subst (λ m. k < m) each (slice_get_within inverse k g at))).product g at) in
+    subst (λ m. GivesColumn inverse (columns_from (columns_of rows) 0 m ++ rows) m k) (sym none) (λ g at.
+    (identity k (subst (λ m. k < m) each (slice_get_within inverse k g at))).product g at) in
     let whole : 0 + length x ≡ columns_of rows = omega arith in
     recovers rows inverse (subst (λ m. HaveColumns m rows) (sym columns) square.columns) (subst (λ m. HaveColumns m inverse) width square.inverse_columns) inverts [] x (e ∙ sym each) whole
 
@@ -72,17 +72,18 @@ module _ (pairs : List ℤ → List ℤ → Type 0) (p : List ℤ) (rows moduli 
   no_distance_before : (x y : List ℤ) → pairs x y → InLattice p rows moduli (minus x y) → (k j : ℕ) (row : Affine) → j < k → slice_get rows j ≡ Some row → along row x y ≡ 0
   no_distance_before x y pair lattice zero j row h at = absurd (omega arith)
   no_distance_before x y pair lattice (suc k) j row h at = elim (before_or_at j k h) [
-      inl l ↦ no_distance_before x y pair lattice k j row l at
+    | inl l ↦ no_distance_before x y pair lattice k j row l at
     | inr e ↦ no_distance_at x y k row (ap (slice_get rows) (sym e) ∙ at)
-        (record { pair = pair; agrees = λ i r l g. no_distance_before x y pair lattice k i r l g }) lattice ]
+        (record { pair = pair; agrees = λ i r l g. no_distance_before x y pair lattice k i r l g }) lattice
+  ]
 
   pub separated : (inverse : List Affine) → IsSquare rows inverse → AreComponents rows inverse
       → ((x y : List ℤ) → pairs x y → (x ≢ y) × (length x ≡ length rows) × (length y ≡ length rows)) → Separates pairs p rows moduli
   separated inverse square identity proper = record {
     positive = λ k b at.
-      let in_range : k < length rows = subst (λ m. k < m) one_each (slice_get_within moduli k b at) in
-      (exceeds k (get_or rows k b) b (slice_get-get_or rows k b in_range) at).0;
+        let in_range : k < length rows = subst (λ m. k < m) one_each (slice_get_within moduli k b at) in
+        (exceeds k (get_or rows k b) b (slice_get-get_or rows k b in_range) at).0;
     apart = λ x y pair lattice.
-      let q = proper x y pair in
-      q.0 (rows_separate rows inverse square identity x y q.1 q.2 (λ k row at. no_distance_before x y pair lattice (suc k) k row (omega arith) at));
+        let q = proper x y pair in
+        q.0 (rows_separate rows inverse square identity x y q.1 q.2 (λ k row at. no_distance_before x y pair lattice (suc k) k row (omega arith) at));
   }

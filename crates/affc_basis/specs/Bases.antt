@@ -1,5 +1,5 @@
 -- When forms are the rows of a unimodular basis: their product with the inverse forms is the identity.
-use Rattle.std.specs.Prelude.{◌≡◌, ℕ, ◌<◌, ◌≤◌, ℤ, pos, unsigned_abs, List, length, slice_get, Some}
+use Rattle.std.specs.Prelude.{◌≡◌, ℕ, ◌<◌, ◌≤◌, ℤ, pos, ◌+ℤ◌, ◌*ℤ◌, unsigned_abs, Bool, true, false, List, [], ◌∷◌, length, get_or, slice_get, Option, Some, None}
 use Rattle.std.specs.List.{All}
 use Rattle.affc_rows.specs.Forms.{Affine, HaveColumns}
 use Rattle.affc_trace.specs.Inverses.{GivesColumn}
@@ -32,3 +32,28 @@ pub record IsFirstBroken (rows inverse : List Affine) (k : ℕ) : Type 0 where
   pub within : k < length rows
   pub broken : ¬ (IsComponent rows inverse k)
   pub before : (j : ℕ) → j < k → IsComponent rows inverse j
+
+-- ---- How the product is looked at, entry by entry
+
+-- the coefficient of a column, or the constant
+abbrev pub entry_of : Option ℕ → Affine → ℤ
+entry_of None f = f.constant
+entry_of (Some j) f = get_or f.coefs j (pos 0)
+
+abbrev pub entries_of : Option ℕ → List Affine → List ℤ
+entries_of column [] = []
+entries_of column (f ∷ fs) = entry_of column f ∷ entries_of column fs
+
+-- the forms have such a column
+abbrev pub HaveColumn : Option ℕ → List Affine → Type 0
+HaveColumn None forms = Unit {0}
+HaveColumn (Some j) forms = All (λ f. j < length f.coefs) forms
+
+-- an entry of the identity
+abbrev pub identity_entry : Bool → ℤ
+identity_entry true = pos 1
+identity_entry false = pos 0
+
+-- a sum that is kept in two parts
+abbrev pub wide_value : (high low : ℤ) → ℤ
+wide_value high low = (pos 4096 *ℤ high) +ℤ low

@@ -4,6 +4,7 @@
 pub mod basis;
 pub mod fold;
 pub mod laws;
+mod wide;
 
 pub use basis::{Basis, NotInverse};
 pub use fold::{Fold, Mark, Modulus};

@@ -10,11 +10,11 @@ use Rattle.affc_trace.specs.Inverses.{zeros, unit_row, column, columns_from, Are
 
 -- ---- columns
 
-length-zeros : (n : ℕ) → length (zeros n) ≡ n
+pub length-zeros : (n : ℕ) → length (zeros n) ≡ n
 length-zeros zero = refl
 length-zeros (suc n) = ap suc (length-zeros n)
 
-length-unit_row : (n j : ℕ) → length (unit_row n j) ≡ n
+pub length-unit_row : (n j : ℕ) → length (unit_row n j) ≡ n
 length-unit_row zero j = refl
 length-unit_row (suc n) zero = ap suc (length-zeros n)
 length-unit_row (suc n) (suc j) = ap suc (length-unit_row n j)
