@@ -170,3 +170,12 @@ equal_of_in_lattice p (r ∷ rows) (m ∷ moduli) x y positive same h =
     let first : IsMultiple (value m p) (dot r.coefs x -ℤ dot r.coefs y) = subst (IsMultiple (value m p)) (dot-minus r.coefs x y same) (h zero r m refl refl) in
     ap (λ u. u ∷ remainders p rows moduli x) (equal_of_multiple (dot r.coefs x) (dot r.coefs y) (value m p) (positive zero m refl) first)
     ∙ ap (λ l. int_rem_euclid (dot r.coefs y) (value m p) ∷ l) (equal_of_in_lattice p rows moduli x y (λ j c g. positive (suc j) c g) same (λ k row b f g. h (suc k) row b f g))
+
+-- one component of a place
+pub remainder-at : (p : List ℤ) (rows moduli : List Affine) (x : List ℤ) (k : ℕ) (row b : Affine) → slice_get rows k ≡ Some row → slice_get moduli k ≡ Some b
+    → slice_get (remainders p rows moduli x) k ≡ Some (int_rem_euclid (dot row.coefs x) (value b p))
+remainder-at p [] moduli x k row b e f = absurd (none-some row e)
+remainder-at p (r ∷ rows) [] x k row b e f = absurd (none-some b f)
+remainder-at p (r ∷ rows) (m ∷ moduli) x zero row b e f =
+    ap (λ z. Some (int_rem_euclid (dot z.coefs x) (value m p))) (same_Some r row e) ∙ ap (λ z. Some (int_rem_euclid (dot row.coefs x) (value z p))) (same_Some m b f)
+remainder-at p (r ∷ rows) (m ∷ moduli) x (suc k) row b e f = remainder-at p rows moduli x k row b e f

@@ -1,8 +1,9 @@
 -- What a modulus has to be at p, and the lattice of a list of rows and moduli (Darte, Schreiber and Villard 2005).
-use Rattle.std.specs.Prelude.{◌≡◌, ℕ, ◌<◌, ◌≤◌, ℤ, pos, ◌*ℤ◌, ◌≤ℤ◌, ◌<ℤ◌, List, [], ◌∷◌, length, slice_get, Some}
+use Rattle.std.specs.Prelude.{◌≡◌, ℕ, ◌^◌, ◌<◌, ◌≤◌, unsigned_abs, ℤ, pos, ◌*ℤ◌, ◌≤ℤ◌, ◌<ℤ◌, List, [], ◌∷◌, length, slice_get, Some}
 use Rattle.std.specs.Int.{int_rem_euclid}
 use Rattle.affc_rows.specs.Forms.{Affine, dot, value}
-use Rattle.affc_basis.specs.Slices.{Pairs, along, minus, InSlice}
+use Rattle.affc_basis.specs.Bases.{AreWithin}
+use Rattle.affc_basis.specs.Slices.{along, minus, InSlice}
 
 -- each modulus is at least 1 at p
 abbrev pub ArePositive : (p : List ℤ) → List Affine → Type 0
@@ -33,3 +34,12 @@ abbrev pub Exceeds : (pairs : List ℤ → List ℤ → Type 0) (p : List ℤ) �
 Exceeds pairs p rows moduli =
     (k : ℕ) (row b : Affine) → slice_get rows k ≡ Some row → slice_get moduli k ≡ Some b →
     (pos 1 ≤ℤ value b p) × ((x y : List ℤ) → InSlice pairs rows k x y → pos (along row x y) <ℤ value b p)
+
+-- a form that may be a modulus at p: within its limits, and from 1 to 2^60 there
+pub record IsModulusAt (p : List ℤ) (b : Affine) : Type 0 where
+  pub parameters : length p ≡ length b.coefs
+  pub few : length b.coefs ≤ 4
+  pub coefs : AreWithin (2 ^ 30) b.coefs
+  pub constant : unsigned_abs b.constant ≤ 2 ^ 55
+  pub low : pos 1 ≤ℤ value b p
+  pub high : value b p ≤ℤ pos (2 ^ 60)
