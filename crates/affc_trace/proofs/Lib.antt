@@ -15,3 +15,5 @@ pub mod Sorted
 pub mod Depths
 pub mod Recovers
 pub mod Ordered
+pub mod Members
+pub mod Found

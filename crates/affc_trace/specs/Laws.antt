@@ -1,5 +1,5 @@
 -- The laws by which a program may be reordered and its arrays folded, at given programs.
-use Rattle.std.specs.Prelude.{◌≡◌, ℕ, ◌<◌, ℤ, IsTrue, List, [], Some, length, map}
+use Rattle.std.specs.Prelude.{◌≡◌, ◌↔◌, ℕ, ◌<◌, ℤ, IsTrue, List, [], Option, Some, length, map}
 use Rattle.affc_ast.specs.declared.tree.Instance.{Instance}
 use Rattle.affc_ast.specs.declared.tree.Program.{Program}
 use Rattle.affc_ast.specs.Cause.{Cause, Extent, Overflow, OutOfBounds, Unwritten}
@@ -12,11 +12,11 @@ use Rattle.affc_ast.specs.Compiles.{RunsAs, Compiles}
 use Rattle.affc_trace.specs.declared.schedule.TimeMap.{TimeMap}
 use Rattle.affc_trace.specs.declared.schedule.Schedule.{Schedule}
 use Rattle.affc_trace.specs.declared.schedule.Schedule.TheVariants.{Time}
-use Rattle.affc_trace.specs.Law.{placed, stores_of, as_stored, SameLastStores, HandedIn}
+use Rattle.affc_trace.specs.Law.{IsIn, placed, stores_of, as_stored, SameLastStores, HandedIn}
 use Rattle.affc_trace.specs.Orders.{IsReordered, KeepsArrays}
 use Rattle.affc_trace.specs.Target.{time_cmp, ordered, target, IsInOrder, numbers_in, IsScheduleOf}
 use Rattle.affc_trace.specs.Effects.{effect, effects, has_no_locals}
-use Rattle.affc_trace.specs.Dataflow.{same_element, OneArray, Legal, Admissible}
+use Rattle.affc_trace.specs.Dataflow.{same_element, OneArray, Legal, Violates, IsSource, AreLive, Admissible, source, live_pairs, violations}
 
 -- ---- Premises
 
@@ -67,6 +67,22 @@ TargetIsInOrder = (program : Program) (length_of_time : ℕ) (maps : List TimeMa
     → IsScheduleOf program (Time length_of_time maps) → length p ≡ numbers_in program.params
     → IsInOrder (time_cmp maps p) (trace program p) (target program (Time length_of_time maps) p)
     × ((order : List Instance) → IsInOrder (time_cmp maps p) (trace program p) order → order ≡ target program (Time length_of_time maps) p)
+
+-- The lists that compute hold exactly the sources, the live pairs and the dependences that are turned round.
+abbrev pub SourceIsFound : Type 0
+SourceIsFound = (program : Program) (p : List ℤ) (b : Instance) (x : Element) (s : Option Instance)
+    → IsSource program p b x s ↔ (IsIn b (trace program p) × (source program p b x ≡ s))
+
+abbrev pub LivePairsAreFound : Type 0
+LivePairsAreFound = (program : Program) (schedule : Schedule) (p : List ℤ) (x y : Element)
+    → IsIn (x, y) (live_pairs program schedule p) ↔ AreLive program schedule p x y
+
+abbrev pub ViolationsAreFound : Type 0
+ViolationsAreFound = (program : Program) (schedule : Schedule) (p : List ℤ) (a b : Instance)
+    → IsIn (a, b) (violations program schedule p) ↔ Violates program schedule p a b
+
+abbrev pub LegalHasNoViolations : Type 0
+LegalHasNoViolations = (program : Program) (schedule : Schedule) (p : List ℤ) → Legal program schedule p ↔ (violations program schedule p ≡ [])
 
 -- What the instances store in a run that ends is a function of the instance.
 abbrev pub ValuesByInstance : Type 0

@@ -1,6 +1,6 @@
 //! What may be concluded about a program that is reordered and folded. Each law is the contract of a function
 //! that does nothing.
-ghost use Rattle.affc_trace.specs.Laws.{RunOfEffects, EffectsOfTrace, TargetIsReordered, TargetIsInOrder, ValuesByInstance, FittingDataIsKept, EqualLastStores, KeepsSources, RunsAsSource, CompilesSource};
+ghost use Rattle.affc_trace.specs.Laws.{RunOfEffects, EffectsOfTrace, TargetIsReordered, TargetIsInOrder, ValuesByInstance, SourceIsFound, LivePairsAreFound, ViolationsAreFound, LegalHasNoViolations, FittingDataIsKept, EqualLastStores, KeepsSources, RunsAsSource, CompilesSource};
 
 /// A run is the fold of the effects of the program's assignments.
 pub fn run_of_effects()
@@ -20,6 +20,26 @@ pub fn target_is_reordered()
 /// The target of times is the one list of the trace's instances in increasing order of time and then of statement.
 pub fn target_is_in_order()
     ensures law { TargetIsInOrder }
+{}
+
+/// The list of sources holds each load's source.
+pub fn source_is_found()
+    ensures law { SourceIsFound }
+{}
+
+/// The list of live pairs holds exactly these.
+pub fn live_pairs_are_found()
+    ensures law { LivePairsAreFound }
+{}
+
+/// The list of violations holds exactly the dependences that are turned round.
+pub fn violations_are_found()
+    ensures law { ViolationsAreFound }
+{}
+
+/// A schedule is legal exactly where that list is empty.
+pub fn legal_has_no_violations()
+    ensures law { LegalHasNoViolations }
 {}
 
 /// In a run that ends, each instance stores one value.
