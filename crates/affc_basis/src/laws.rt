@@ -1,5 +1,5 @@
 //! What may be concluded about folds. Each law is the contract of a function that does nothing.
-ghost use Rattle.affc_basis.specs.Laws.{RowsSeparate, PlacesMeetInTheLattice, ObeyingFoldIsAdmissible, AdmissibleFoldsSeparate, FoldsKeepParameters, LeastMarkIsNeed, CompilesFolded};
+ghost use Rattle.affc_basis.specs.Laws.{RowsSeparate, PlacesMeetInTheLattice, SliceIsFound, GreatestIsFound, ObeyingFoldIsAdmissible, AdmissibleFoldsSeparate, FoldsKeepParameters, LeastMarkIsNeed, CompilesFolded};
 
 /// A basis loses nothing: elements that lie apart along no row are equal.
 pub fn rows_separate()
@@ -9,6 +9,16 @@ pub fn rows_separate()
 /// Two elements have one place exactly where their difference is in the lattice.
 pub fn places_meet_in_the_lattice()
     ensures law { PlacesMeetInTheLattice }
+{}
+
+/// The list of a slice holds exactly its pairs.
+pub fn slice_is_found()
+    ensures law { SliceIsFound }
+{}
+
+/// The greatest distance of that list is the greatest of the slice.
+pub fn greatest_is_found()
+    ensures law { GreatestIsFound }
 {}
 
 /// Successive moduli that exceed what their rows need make an admissible fold.

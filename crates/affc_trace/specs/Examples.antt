@@ -116,22 +116,22 @@ S0 x = at 0 (pos x)
 abbrev S1 : ℕ → Instance
 S1 x = at 1 (pos x)
 
-abbrev cell : (array x : ℕ) → Element
+abbrev pub cell : (array x : ℕ) → Element
 cell array x = (array, pos x ∷ [])
 
-abbrev two : List ℤ
+abbrev pub two : List ℤ
 two = pos 2 ∷ []
 
 -- ---- A blur: t[i] = in[i] + 1 for i from 0 to N + 1, then out[i] = t[i] + t[i + 1] + t[i + 2] for i from 0 to N - 1
 
-abbrev blur : Program
+abbrev pub blur : Program
 blur = program (Add n (lit 2) ∷ []) (
     each (lit 0) (Add n (lit 2)) (store 2 (i ∷ []) (plus (loaded 0 i) (Const 1)) ∷ [])
     ∷ each (lit 0) n (store 1 (i ∷ []) (plus (plus (loaded 2 i) (loaded 2 (Add i (lit 1)))) (loaded 2 (Add i (lit 2)))) ∷ [])
     ∷ [])
 
 -- time 1; S0: (i); S1: (i + 2)
-abbrev together : Schedule
+abbrev pub together : Schedule
 together = Time 1 (at_i ∷ two_later ∷ [])
 
 -- S0(2) and S1(0) tie at time 2, S0(3) and S1(1) at time 3
