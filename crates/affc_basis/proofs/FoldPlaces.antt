@@ -1,27 +1,21 @@
 -- Folds that obey put elements that are live together at different places.
-use Rattle.std.proofs.Common.{◌≡◌, ◌≢◌, ℕ, suc, ◌<◌, ◌≤◌, ℤ, List, [], ◌∷◌, length, map, refl, sym, ap, subst, ◌∙◌, ◌⊎◌, inl, inr, arith, Option, Some, None, ◌↔◌}
-use Rattle.std.specs.Prelude.{slice_get}
-use Rattle.affc_rows.specs.Forms.{Affine}
+use Rattle.std.proofs.Common.{◌≡◌, ◌≢◌, ℕ, suc, ◌<◌, ℤ, List, [], ◌∷◌, length, map, refl, sym, ap, subst, ◌∙◌, inl, inr, arith, Option, Some, None}
 use Rattle.affc_ast.specs.declared.tree.ArrayId.{ArrayId}
-use Rattle.affc_ast.specs.declared.tree.Instance.{Instance}
 use Rattle.affc_ast.specs.declared.tree.Program.{Program}
 use Rattle.affc_ast.specs.Store.{Element}
 use Rattle.affc_ast.specs.Meaning.{arrays_of}
 use Rattle.affc_ast.specs.Trace.{trace}
 use Rattle.affc_trace.specs.declared.schedule.Schedule.{Schedule}
-use Rattle.affc_trace.specs.Law.{IsIn}
 use Rattle.affc_trace.specs.Orders.{StoredBetween}
 use Rattle.affc_trace.specs.Target.{target}
 use Rattle.affc_trace.specs.Effects.{effect}
 use Rattle.affc_trace.specs.Dataflow.{same_element, AreLive, LivePair, Admissible}
-use Rattle.affc_trace.specs.Laws.{IsInContext, KeepsParameters}
-use Rattle.affc_trace.proofs.Legality.{later_is_in, earlier_is_in}
+use Rattle.affc_trace.specs.Laws.{IsInContext}
+use Rattle.affc_trace.proofs.Legality.{later_is_in}
 use Rattle.affc_trace.proofs.Contents.{target_is_reordered_law}
 use Rattle.affc_trace.proofs.Composed.{compiles_source}
-use Rattle.affc_basis.specs.declared.fold.Modulus.{Modulus}
 use Rattle.affc_basis.specs.declared.fold.Fold.{Fold}
-use Rattle.affc_basis.specs.Slices.{minus}
-use Rattle.affc_basis.specs.Folds.{forms_of, folded, folded_by, IsAdmissible, Obeys, fold_of, place}
+use Rattle.affc_basis.specs.Folds.{forms_of, folded_by, IsAdmissible, fold_of, place}
 use Rattle.affc_basis.specs.Laws.{HasDimensions, AreFoldsOf, RowsSeparate, PlacesMeetInTheLattice, ObeyingFoldIsAdmissible, AdmissibleFoldsSeparate, FoldsKeepParameters, CompilesFolded}
 use Rattle.affc_basis.proofs.Remainders.{in_lattice_of_equal, equal_of_in_lattice}
 use Rattle.affc_basis.proofs.Separation.{rows_separate, separated}

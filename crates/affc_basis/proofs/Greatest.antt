@@ -1,6 +1,6 @@
 -- The greatest distance of a slice is that of the list of its pairs.
-use Rattle.std.proofs.Common.{◌≡◌, ◌≢◌, ℕ, zero, suc, ◌+◌, ◌<◌, ◌≤◌, ℤ, Bool, true, false, true≢false, if◌then◌else◌, List, [], ◌∷◌, take, Option, Some, None, refl, sym, ap, subst, ◌∙◌, ◌⊎◌, inl, inr, arith, ◌↔◌}
-use Rattle.std.specs.Prelude.{slice_get, nat_eq, nat_le, ◌&&◌, filter}
+use Rattle.std.proofs.Common.{◌≡◌, ℕ, zero, suc, ◌<◌, ◌≤◌, ℤ, Bool, true, false, true≢false, if◌then◌else◌, List, [], ◌∷◌, take, Some, refl, sym, ap, subst, ◌∙◌, ◌⊎◌, inl, inr, arith}
+use Rattle.std.specs.Prelude.{slice_get, nat_eq, nat_le, ◌&&◌}
 use Rattle.std.proofs.lemmas.Bool.{eqb-true, eq-eqb, leb-true}
 use Rattle.std.proofs.lemmas.Bool.Decides.{leb_tells}
 use Rattle.std.proofs.lemmas.Option.{same_Some, none-some}
@@ -12,7 +12,7 @@ use Rattle.affc_trace.specs.Law.{IsIn}
 use Rattle.affc_trace.specs.Dataflow.{AreLive, LivePair, live_pairs}
 use Rattle.affc_trace.proofs.Members.{in_filter, to_filter, both_hold, hold_both}
 use Rattle.affc_trace.proofs.Found.{live_pairs_are_found}
-use Rattle.affc_basis.specs.Slices.{along, InSlice, IsGreatest, agree_along, slice_of, greatest_along}
+use Rattle.affc_basis.specs.Slices.{along, InSlice, agree_along, slice_of, greatest_along}
 use Rattle.affc_basis.specs.Laws.{SliceIsFound, GreatestIsFound}
 
 -- ---- rows along which two elements agree
@@ -33,7 +33,7 @@ before_agree [] (suc k) x y h = refl
 before_agree (r ∷ rows) zero x y h = refl
 before_agree (r ∷ rows) (suc k) x y h =
     hold_both (nat_eq (along r x y) 0) (agree_along (take k rows) x y) (eq-eqb (along r x y) 0 (h zero r (omega arith) refl))
-      (before_agree rows k x y (λ j row l at. h (suc j) row (omega arith) at))
+    (before_agree rows k x y (λ j row l at. h (suc j) row (omega arith) at))
 
 -- ---- the greatest distance of a list
 
@@ -41,8 +41,9 @@ at_most : (d n : ℕ) (t : Bool) (m : ℕ) → nat_le d n ≡ t → m ≤ n ⊎ 
 at_most d n true m e (inl h) = h
 at_most d n true m e (inr h) = let l : d ≤ n = leb-true d n e in omega arith
 at_most d n false m e h = elim (leb_tells d n) [
-    inl l ↦ absurd (true≢false (sym l.0 ∙ e))
-  | inr l ↦ elim h [ inl k ↦ omega (arith, l.1) | inr k ↦ omega arith ] ]
+  | inl l ↦ absurd (true≢false (sym l.0 ∙ e))
+  | inr l ↦ elim h [ inl k ↦ omega (arith, l.1) | inr k ↦ omega arith ]
+]
 
 greatest_most : (row : Affine) (es : List (Element × Element)) (e : Element × Element) → IsIn e es → along row e.0.1 e.1.1 ≤ greatest_along row es
 greatest_most row [] e i = absurd i
@@ -75,7 +76,7 @@ module _ (program : Program) (schedule : Schedule) (array : ℕ) (p : List ℤ) 
   pub found_slice : (x y : List ℤ) → InSlice (LivePair program schedule array p) rows k x y → IsIn ((array, x), (array, y)) pairs_in
   found_slice x y s =
       to_filter in_slice (live_pairs program schedule p) ((array, x), (array, y)) ((live_pairs_are_found program schedule p (array, x) (array, y)).1 s.pair)
-        (hold_both (nat_eq array array) (agree_along (take k rows) x y) (eq-eqb array array refl) (before_agree rows k x y s.agrees))
+      (hold_both (nat_eq array array) (agree_along (take k rows) x y) (eq-eqb array array refl) (before_agree rows k x y s.agrees))
 
   -- a pair of the list is of the array, and in the slice
   slice_found : (a b : Element) → IsIn (a, b) pairs_in → (a.0 ≡ array) × (b.0 ≡ array) × InSlice (LivePair program schedule array p) rows k a.1 b.1
@@ -86,7 +87,7 @@ module _ (program : Program) (schedule : Schedule) (array : ℕ) (p : List ℤ) 
       let live : AreLive program schedule p a b = (live_pairs_are_found program schedule p a b).0 f.0 in
       let second : b.0 ≡ array = sym live.one_array ∙ first in
       let here : AreLive program schedule p (array, a.1) (array, b.1) =
-            subst (λ z. AreLive program schedule p (z, a.1) (array, b.1)) first (subst (λ z. AreLive program schedule p a (z, b.1)) second live) in
+      subst (λ z. AreLive program schedule p (z, a.1) (array, b.1)) first (subst (λ z. AreLive program schedule p a (z, b.1)) second live) in
       (first, second, record { pair = here; agrees = agree_before rows k a.1 b.1 tests.1 })
 
 pub slice_is_found : SliceIsFound
@@ -100,6 +101,7 @@ greatest_is_found program schedule array p rows k row =
     record {
       most = λ x y s. greatest_most row pairs ((array, x), (array, y)) (found_slice program schedule array p rows k x y s);
       attained = elim (greatest_attained row pairs) [
-          inl z ↦ inl z
-        | inr a ↦ inr (a.0.0.1, a.0.1.1, (slice_found program schedule array p rows k a.0.0 a.0.1 a.1).2, a.2) ];
+        | inl z ↦ inl z
+        | inr a ↦ inr (a.0.0.1, a.0.1.1, (slice_found program schedule array p rows k a.0.0 a.0.1 a.1).2, a.2)
+      ];
     }

@@ -1,15 +1,11 @@
 -- A true mark is of a modulus that is needed.
-use Rattle.std.proofs.Common.{◌≡◌, ℕ, zero, suc, ◌+◌, ◌<◌, ◌≤◌, ℤ, pos, ◌≤ℤ◌, ◌<ℤ◌, List, refl, sym, ap, subst, ◌∙◌, ◌⊎◌, inl, inr, arith, Option, Some, None}
-use Rattle.std.specs.Prelude.{slice_get}
+use Rattle.std.proofs.Common.{◌≡◌, ℕ, ◌+◌, ◌<◌, ℤ, pos, ◌≤ℤ◌, ◌<ℤ◌, List, ap, ◌⊎◌, inl, inr, arith, Option, Some, None}
 use Rattle.std.proofs.lemmas.Int.{ints}
 use Rattle.affc_rows.specs.Forms.{Affine, value}
-use Rattle.affc_ast.specs.declared.tree.Program.{Program}
-use Rattle.affc_trace.specs.declared.schedule.Schedule.{Schedule}
 use Rattle.affc_trace.specs.Dataflow.{LivePair}
 use Rattle.affc_trace.specs.Laws.{IsInContext}
-use Rattle.affc_basis.specs.declared.fold.Fold.{Fold}
 use Rattle.affc_basis.specs.Slices.{along, InSlice}
-use Rattle.affc_basis.specs.Folds.{AttainsBy, IsNeed, IsLeastMark, IsGreatestValue}
+use Rattle.affc_basis.specs.Folds.{AttainsBy}
 use Rattle.affc_basis.specs.Laws.{LeastMarkIsNeed}
 
 at_most : (u v : ℤ) (n d : ℕ) → pos d <ℤ u → u ≤ℤ v → v ≡ pos n → d < n

@@ -1,9 +1,9 @@
 -- A form with the rows put in, entry by entry.
-use Rattle.std.proofs.Common.{◌≡◌, ◌≢◌, ℕ, zero, suc, ◌+◌, ◌<◌, ◌≤◌, ℤ, pos, ◌+ℤ◌, Bool, true, false, List, [], ◌∷◌, length, get_or, Option, Some, None, refl, sym, ap, subst, ◌∙◌, ◌⊎◌, inl, inr, arith, nat_eq}
+use Rattle.std.proofs.Common.{◌≡◌, ◌≢◌, ℕ, zero, suc, ◌+◌, ◌<◌, ℤ, pos, ◌+ℤ◌, false, List, [], ◌∷◌, length, get_or, Option, Some, None, refl, sym, ap, subst, ◌∙◌, inl, inr, arith, nat_eq}
 use Rattle.std.proofs.lemmas.Int.{ints}
 use Rattle.std.proofs.lemmas.Bool.Decides.{eqb_tells}
 use Rattle.std.proofs.lemmas.List.{ext_get_or}
-use Rattle.affc_rows.specs.Forms.{Affine, dot, column_of, constants_of, composed, composed_form, columns_of, HaveColumns}
+use Rattle.affc_rows.specs.Forms.{Affine, dot, column_of, constants_of, composed, composed_form, columns_of}
 use Rattle.affc_rows.proofs.ValueLemmas.{length-composed}
 use Rattle.affc_trace.specs.Inverses.{zeros, unit_row, column}
 use Rattle.affc_trace.proofs.Recovers.{length-unit_row}
@@ -48,8 +48,9 @@ unit_row-other (suc n) (suc k) (suc i) h = unit_row-other n k i (λ e. h (ap suc
 
 unit_row-at : (n k i : ℕ) → i < n → get_or (unit_row n k) i (pos 0) ≡ identity_entry (nat_eq i k)
 unit_row-at n k i h = elim (eqb_tells i k) [
-    inl e ↦ ap (λ m. get_or (unit_row n k) m (pos 0)) e.1 ∙ unit_row-same n k (subst (λ m. m < n) e.1 h) ∙ ap identity_entry (sym e.0)
-  | inr e ↦ unit_row-other n k i e.1 ∙ ap identity_entry (sym e.0) ]
+  | inl e ↦ ap (λ m. get_or (unit_row n k) m (pos 0)) e.1 ∙ unit_row-same n k (subst (λ m. m < n) e.1 h) ∙ ap identity_entry (sym e.0)
+  | inr e ↦ unit_row-other n k i e.1 ∙ ap identity_entry (sym e.0)
+]
 
 composed-at : (cs : List ℤ) (rows : List Affine) (j n i : ℕ) → i < n → get_or (composed cs rows j n) i (pos 0) ≡ dot cs (column_of (j + i) rows)
 composed-at cs rows j zero i h = absurd (omega arith)
@@ -82,11 +83,11 @@ module _ (g : Affine) (rows : List Affine) (k : ℕ) (whole : columns_of rows �
   pub column_of_entries : HasNoConstant → ((j : ℕ) → j < length rows → HasEntry j) → composed_form g rows ≡ column (columns_of rows) k
   column_of_entries none each =
       let coefs : composed g.coefs rows 0 (columns_of rows) ≡ unit_row (columns_of rows) k =
-            ext_get_or (pos 0) _ _ (length-composed g.coefs rows 0 (columns_of rows) ∙ sym (length-unit_row (columns_of rows) k)) (λ j h.
-              let in_range : j < length rows = omega (arith, h, whole, length-composed g.coefs rows 0 (columns_of rows)) in
-              at_column j in_range ∙ each j in_range ∙ sym (unit_row-at (columns_of rows) k j (omega (arith, whole)))) in
+      ext_get_or (pos 0) _ _ (length-composed g.coefs rows 0 (columns_of rows) ∙ sym (length-unit_row (columns_of rows) k)) (λ j h.
+      let in_range : j < length rows = omega (arith, h, whole, length-composed g.coefs rows 0 (columns_of rows)) in
+      at_column j in_range ∙ each j in_range ∙ sym (unit_row-at (columns_of rows) k j (omega (arith, whole)))) in
       let constant : dot g.coefs (constants_of rows) +ℤ g.constant ≡ pos 0 =
-            both (dot g.coefs (constants_of rows)) g.constant (ap (dot g.coefs) (sym (entries_of-constants rows)) ∙ none) no_constant in
+      both (dot g.coefs (constants_of rows)) g.constant (ap (dot g.coefs) (sym (entries_of-constants rows)) ∙ none) no_constant in
       λ i. record { coefs = coefs i; constant = constant i }
     where
       both : (a b : ℤ) → a ≡ pos 0 → b ≡ pos 0 → a +ℤ b ≡ pos 0

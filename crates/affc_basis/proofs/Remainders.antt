@@ -1,11 +1,11 @@
 -- Two elements have one place exactly where their difference is in the lattice.
-use Rattle.std.proofs.Common.{◌≡◌, ℕ, zero, suc, ◌+◌, ◌-◌, ◌*◌, ◌/◌, ◌%◌, ◌<◌, ◌≤◌, ℤ, pos, negsuc, ◌+ℤ◌, ◌-ℤ◌, ◌*ℤ◌, neg_ℤ, ◌≤ℤ◌, ◌<ℤ◌, List, [], ◌∷◌, length, refl, sym, ap, subst, ◌∙◌, ◌⊎◌, inl, inr, arith}
-use Rattle.std.specs.Prelude.{slice_get, unsigned_abs, Some, None}
+use Rattle.std.proofs.Common.{◌≡◌, ℕ, zero, suc, ◌+◌, ◌-◌, ◌*◌, ◌/◌, ◌%◌, ◌<◌, ℤ, pos, negsuc, ◌+ℤ◌, ◌-ℤ◌, ◌*ℤ◌, neg_ℤ, ◌≤ℤ◌, ◌<ℤ◌, List, [], ◌∷◌, length, refl, sym, ap, subst, ◌∙◌, arith}
+use Rattle.std.specs.Prelude.{slice_get, unsigned_abs, Some}
 use Rattle.std.specs.Int.{int_rem_euclid}
 use Rattle.std.proofs.lemmas.Int.{ints, unsigned_abs-mul}
 use Rattle.std.proofs.lemmas.Option.{same_Some, none-some}
 use Rattle.affc_rows.specs.Forms.{Affine, dot, value}
-use Rattle.affc_rows.proofs.IntLemmas.{add-mul, mul-add, neg-mul, one-mul}
+use Rattle.affc_rows.proofs.IntLemmas.{add-mul, mul-add, neg-mul}
 use Rattle.affc_basis.specs.Slices.{minus}
 use Rattle.affc_basis.specs.Moduli.{ArePositive, remainders, IsMultiple, InLattice}
 

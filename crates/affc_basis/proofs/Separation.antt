@@ -1,15 +1,15 @@
 -- A basis separates elements, and moduli that exceed each slice's distances keep pairs apart.
-use Rattle.std.proofs.Common.{◌≡◌, ◌≢◌, ℕ, zero, suc, ◌+◌, ◌-◌, ◌<◌, ◌≤◌, ℤ, pos, ◌+ℤ◌, ◌-ℤ◌, ◌≤ℤ◌, ◌<ℤ◌, List, [], ◌∷◌, ◌++◌, length, get_or, refl, sym, ap, subst, ◌∙◌, ◌⊎◌, inl, inr, arith}
-use Rattle.std.specs.Prelude.{slice_get, unsigned_abs, Some, None}
+use Rattle.std.proofs.Common.{◌≡◌, ◌≢◌, ℕ, zero, suc, ◌+◌, ◌-◌, ◌<◌, ℤ, ◌+ℤ◌, ◌-ℤ◌, List, [], ◌∷◌, ◌++◌, length, get_or, refl, sym, ap, subst, ◌∙◌, ◌⊎◌, inl, inr, arith}
+use Rattle.std.specs.Prelude.{slice_get, unsigned_abs, Some}
 use Rattle.std.proofs.lemmas.Int.{ints}
 use Rattle.std.proofs.lemmas.List.Elements.{All-get_or}
 use Rattle.std.proofs.lemmas.Option.{slice_get_within, slice_get-get_or}
 use Rattle.affc_rows.specs.Forms.{Affine, dot, value, values_of, columns_of, HaveColumns}
 use Rattle.affc_trace.specs.Inverses.{columns_from, GivesColumn, AreInverse}
 use Rattle.affc_trace.proofs.Recovers.{recovers}
-use Rattle.affc_basis.specs.Bases.{IsSquare, IsComponent, AreComponents}
+use Rattle.affc_basis.specs.Bases.{IsSquare, AreComponents}
 use Rattle.affc_basis.specs.Slices.{minus, along, InSlice}
-use Rattle.affc_basis.specs.Moduli.{IsMultiple, InLattice, Separates, Exceeds}
+use Rattle.affc_basis.specs.Moduli.{InLattice, Separates, Exceeds}
 use Rattle.affc_basis.proofs.Remainders.{dot-minus, small_multiple}
 
 -- ---- a basis separates

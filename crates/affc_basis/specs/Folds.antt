@@ -1,12 +1,11 @@
 -- Folds: where an element is put, when a fold is admissible, and what its marks say.
-use Rattle.std.specs.Prelude.{◌≡◌, ℕ, ◌+◌, ◌<◌, ◌≤◌, ℤ, pos, ◌≤ℤ◌, nat_eq, if◌then◌else◌, List, [], ◌∷◌, length, map, Option, Some, None, slice_get, ◌⊎◌}
+use Rattle.std.specs.Prelude.{◌≡◌, ℕ, ◌+◌, ◌<◌, ◌≤◌, ℤ, pos, ◌≤ℤ◌, nat_eq, if◌then◌else◌, List, [], ◌∷◌, map, Option, Some, None, ◌⊎◌}
 use Rattle.affc_rows.specs.Forms.{Affine, value}
 use Rattle.affc_ast.specs.declared.tree.ArrayId.{ArrayId}
 use Rattle.affc_ast.specs.Store.{Element}
-use Rattle.affc_basis.specs.declared.basis.Basis.{Basis}
 use Rattle.affc_basis.specs.declared.fold.Modulus.{Modulus}
 use Rattle.affc_basis.specs.declared.fold.Fold.{Fold}
-use Rattle.affc_basis.specs.Slices.{Pairs, along, InSlice, IsGreatest}
+use Rattle.affc_basis.specs.Slices.{along, InSlice, IsGreatest}
 use Rattle.affc_basis.specs.Moduli.{remainders, InLattice, Separates, Exceeds}
 
 abbrev pub forms_of : List Modulus → List Affine

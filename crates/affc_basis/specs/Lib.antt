@@ -3,3 +3,4 @@ pub mod Slices
 pub mod Moduli
 pub mod Folds
 pub mod Laws
+pub mod Examples

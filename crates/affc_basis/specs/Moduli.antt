@@ -1,5 +1,5 @@
 -- What a modulus has to be at p, and the lattice of a list of rows and moduli (Darte, Schreiber and Villard 2005).
-use Rattle.std.specs.Prelude.{◌≡◌, ℕ, ◌^◌, ◌<◌, ◌≤◌, unsigned_abs, ℤ, pos, ◌*ℤ◌, ◌≤ℤ◌, ◌<ℤ◌, List, [], ◌∷◌, length, slice_get, Some}
+use Rattle.std.specs.Prelude.{◌≡◌, ℕ, ◌^◌, ◌≤◌, unsigned_abs, ℤ, pos, ◌*ℤ◌, ◌≤ℤ◌, ◌<ℤ◌, List, [], ◌∷◌, length, slice_get, Some}
 use Rattle.std.specs.Int.{int_rem_euclid}
 use Rattle.affc_rows.specs.Forms.{Affine, dot, value}
 use Rattle.affc_basis.specs.Bases.{AreWithin}

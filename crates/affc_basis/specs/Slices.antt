@@ -1,6 +1,6 @@
 -- How far apart live pairs lie along the rows of a basis. The rows are looked at one after another, as the successive moduli
 -- of Lefebvre and Feautrier (1998).
-use Rattle.std.specs.Prelude.{◌≡◌, ℕ, ◌<◌, ◌≤◌, ℤ, pos, ◌-ℤ◌, unsigned_abs, Bool, true, ◌&&◌, nat_eq, nat_le, if◌then◌else◌, List, [], ◌∷◌, take, filter, slice_get, Some, ◌⊎◌}
+use Rattle.std.specs.Prelude.{◌≡◌, ℕ, ◌<◌, ◌≤◌, ℤ, ◌-ℤ◌, unsigned_abs, Bool, true, ◌&&◌, nat_eq, nat_le, if◌then◌else◌, List, [], ◌∷◌, take, filter, slice_get, Some, ◌⊎◌}
 use Rattle.affc_rows.specs.Forms.{Affine, dot}
 use Rattle.affc_ast.specs.Store.{Element}
 

@@ -2,6 +2,7 @@
 #![tactic(auto)]
 
 pub mod basis;
+pub mod examples;
 pub mod fold;
 pub mod laws;
 mod wide;

@@ -1,7 +1,6 @@
 -- The lists of sources, live pairs and violations hold exactly these.
-use Rattle.std.proofs.Common.{◌≡◌, ◌≢◌, ℕ, Bool, true, false, true≢false, ℤ, List, [], ◌∷◌, ◌++◌, map, flat_map, Option, Some, None, refl, sym, ap, subst, ◌∙◌, ◌⊎◌, inl, inr, ◌↔◌}
+use Rattle.std.proofs.Common.{◌≡◌, ◌≢◌, Bool, true, false, true≢false, ℤ, List, [], map, flat_map, Option, Some, None, refl, sym, ap, subst, ◌∙◌, ◌⊎◌, inl, inr}
 use Rattle.std.specs.Prelude.{filter, not, nat_eq, ◌&&◌, ◌||◌}
-use Rattle.std.specs.Bool.{Decides}
 use Rattle.std.proofs.lemmas.Bool.{eqb-true, eq-eqb}
 use Rattle.affc_ast.specs.declared.tree.Instance.{Instance}
 use Rattle.affc_ast.specs.declared.tree.Program.{Program}
@@ -9,12 +8,12 @@ use Rattle.affc_ast.specs.Store.{Element}
 use Rattle.affc_ast.specs.Trace.{trace, loads_of, store_of}
 use Rattle.affc_trace.specs.declared.schedule.Schedule.{Schedule}
 use Rattle.affc_trace.specs.Law.{IsIn, last_store}
-use Rattle.affc_trace.specs.Orders.{Earlier, AreDistinct, IsReordered, Dependent, StoredBetween}
+use Rattle.affc_trace.specs.Orders.{Earlier, AreDistinct, Dependent, StoredBetween}
 use Rattle.affc_trace.specs.Effects.{effect}
 use Rattle.affc_trace.specs.Target.{target}
-use Rattle.affc_trace.specs.Dataflow.{same_element, same_instance, OneArray, Legal, Violates, IsSource, AreLive, up_to, past, is_among, source, between, rivals, stored_pairs, live_pairs, are_dependent, violations}
+use Rattle.affc_trace.specs.Dataflow.{same_element, same_instance, OneArray, Legal, Violates, AreLive, up_to, past, is_among, source, between, rivals, stored_pairs, live_pairs, are_dependent, violations}
 use Rattle.affc_trace.specs.Laws.{SourceIsFound, LivePairsAreFound, ViolationsAreFound, LegalHasNoViolations}
-use Rattle.affc_trace.proofs.Legality.{later_is_in, earlier_is_in, one_way, in_rest}
+use Rattle.affc_trace.proofs.Legality.{later_is_in, one_way, in_rest}
 use Rattle.affc_trace.proofs.Once.{once, in_append, in_flat_map}
 use Rattle.affc_trace.proofs.Contents.{target_is_reordered_law}
 use Rattle.affc_trace.proofs.Targets.{same_element_decides, same_instance_decides}
@@ -23,11 +22,12 @@ use Rattle.affc_trace.proofs.Members.{to_first, to_second, to_flat_map, in_map, 
 -- ---- sources
 
 pub source_is_found : SourceIsFound
-source_is_found program p b x s =
-    (λ h. let inside : IsIn b (trace program p) = subst (IsIn b) (sym h.2) (in_rest h.0 h.1 b) in
+source_is_found program p b x s = (
+  λ h. let inside : IsIn b (trace program p) = subst (IsIn b) (sym h.2) (in_rest h.0 h.1 b) in
       let here : up_to b (trace program p) ≡ h.0 = ap (up_to b) h.2 ∙ up_to_split h.0 h.1 b (subst AreDistinct h.2 (once program p)) in
       (inside, ap (λ done. last_store same_element (effect program p) done x) here ∙ h.3),
-     λ h. (up_to b (trace program p), past b (trace program p), split_up_to (trace program p) b h.0, h.1))
+  λ h. (up_to b (trace program p), past b (trace program p), split_up_to (trace program p) b h.0, h.1),
+)
 
 -- ---- live pairs
 
@@ -92,9 +92,9 @@ module _ (program : Program) (schedule : Schedule) (p : List ℤ) where
       let stored : IsIn y places = subst (λ z. IsIn z places) (sym h.stores) (to_map (store_of program p) (past h.store (up_to h.load (target program schedule p))) h.other c_in) in
       let rival : IsIn y (rivals x places) = to_filter (is_rival x) places y stored (is_rival_of x y one n) in
       let found : IsIn y (rivals x (map (store_of program p) (between (source program p h.load x) h.load (target program schedule p)))) =
-            subst (λ s. IsIn y (rivals x (map (store_of program p) (between s h.load (target program schedule p))))) (sym f.1) rival in
+      subst (λ s. IsIn y (rivals x (map (store_of program p) (between s h.load (target program schedule p))))) (sym f.1) rival in
       to_flat_map pairs_of (trace program p) h.load (x, y) f.0
-        (to_flat_map (pairs_of_load h.load) (loads_of program p h.load) x (x, y) h.loads (to_map (λ (z : Element). (x, z)) _ y found))
+      (to_flat_map (pairs_of_load h.load) (loads_of program p h.load) x (x, y) h.loads (to_map (λ (z : Element). (x, z)) _ y found))
 
   turned : Element × Element → Element × Element
   turned e = (e.1, e.0)
@@ -102,20 +102,22 @@ module _ (program : Program) (schedule : Schedule) (p : List ℤ) where
   pub live_found : (x y : Element) → IsIn (x, y) (live_pairs program schedule p) → AreLive program schedule p x y
   unfolding turned
   live_found x y i = elim (in_append (stored_pairs program schedule p) _ (x, y) i) [
-      inl j ↦ (let s = from_stored x y j in record { distinct = s.distinct; one_array = s.one_array; between = inl s.stored })
+    | inl j ↦ (let s = from_stored x y j in record { distinct = s.distinct; one_array = s.one_array; between = inl s.stored })
     | inr j ↦ (let m = in_map turned (stored_pairs program schedule p) (x, y) j in
         let same_x : x ≡ m.0.1 = ap (λ e. e.0) m.2 in
         let same_y : y ≡ m.0.0 = ap (λ e. e.1) m.2 in
         let s = from_stored m.0.0 m.0.1 m.1 in
         subst (λ z. AreLive program schedule p z y) (sym same_x) (subst (AreLive program schedule p m.0.1) (sym same_y)
-          (record { distinct = λ e. s.distinct (sym e); one_array = sym s.one_array; between = inr s.stored }))) ]
+        (record { distinct = λ e. s.distinct (sym e); one_array = sym s.one_array; between = inr s.stored })))
+  ]
 
   pub found_live : (x y : Element) → AreLive program schedule p x y → IsIn (x, y) (live_pairs program schedule p)
   unfolding turned
   found_live x y live = elim live.between [
-      inl s ↦ to_first (stored_pairs program schedule p) _ (x, y) (to_stored x y live.one_array live.distinct s)
+    | inl s ↦ to_first (stored_pairs program schedule p) _ (x, y) (to_stored x y live.one_array live.distinct s)
     | inr s ↦ to_second (stored_pairs program schedule p) _ (x, y)
-        (to_map turned (stored_pairs program schedule p) (y, x) (to_stored y x (sym live.one_array) (λ e. live.distinct (sym e)) s)) ]
+        (to_map turned (stored_pairs program schedule p) (y, x) (to_stored y x (sym live.one_array) (λ e. live.distinct (sym e)) s))
+  ]
 
 pub live_pairs_are_found : LivePairsAreFound
 live_pairs_are_found program schedule p x y = (live_found program schedule p x y, found_live program schedule p x y)
@@ -125,10 +127,12 @@ live_pairs_are_found program schedule p x y = (live_found program schedule p x y
 module _ (program : Program) (p : List ℤ) (a b : Instance) where
   dependent_is : are_dependent program p a b ≡ true → Dependent (effect program p) a b
   dependent_is e = elim (either_holds (same_element (store_of program p a) (store_of program p b) || is_among same_element (store_of program p a) (loads_of program p b)) _ e) [
-      inl f ↦ elim (either_holds (same_element (store_of program p a) (store_of program p b)) _ f) [
-        inl g ↦ record { element = store_of program p a; first = inr refl; second = inr ((same_element_decides _ _).0 g); stored = inl refl }
-      | inr g ↦ record { element = store_of program p a; first = inr refl; second = inl (among_is_in same_element same_element_decides _ _ g); stored = inl refl } ]
-    | inr f ↦ record { element = store_of program p b; first = inl (among_is_in same_element same_element_decides _ _ f); second = inr refl; stored = inr refl } ]
+    | inl f ↦ elim (either_holds (same_element (store_of program p a) (store_of program p b)) _ f) [
+      | inl g ↦ record { element = store_of program p a; first = inr refl; second = inr ((same_element_decides _ _).0 g); stored = inl refl }
+      | inr g ↦ record { element = store_of program p a; first = inr refl; second = inl (among_is_in same_element same_element_decides _ _ g); stored = inl refl }
+    ]
+    | inr f ↦ record { element = store_of program p b; first = inl (among_is_in same_element same_element_decides _ _ f); second = inr refl; stored = inr refl }
+  ]
 
   by_first : (x : Element) → x ≡ store_of program p a → IsIn x (loads_of program p b) ⊎ (x ≡ store_of program p b) → are_dependent program p a b ≡ true
   by_first x e (inl i) = holds_first (same_element (store_of program p a) (store_of program p b) || is_among same_element (store_of program p a) (loads_of program p b)) _
@@ -166,7 +170,7 @@ module _ (program : Program) (schedule : Schedule) (p : List ℤ) where
         dependent = dependent_is program p m.0 t.0 tests.0;
         earlier = earlier;
         not_earlier = λ e. not_true (is_among same_instance m.0 (up_to t.0 (target program schedule p))) tests.1
-          (in_is_among same_instance same_instance_decides m.0 _ (earlier_is_before (target program schedule p) reordered.once_in_target t.0 (reordered.kept t.0 t.1) m.0 e));
+            (in_is_among same_instance same_instance_decides m.0 _ (earlier_is_before (target program schedule p) reordered.once_in_target t.0 (reordered.kept t.0 t.1) m.0 e));
       }))
 
   pub found_violation : (a b : Instance) → Violates program schedule p a b → IsIn (a, b) (violations program schedule p)
@@ -175,8 +179,8 @@ module _ (program : Program) (schedule : Schedule) (p : List ℤ) where
       let b_in = later_is_in (trace program p) a b v.earlier in
       let a_in = earlier_is_before (trace program p) (once program p) b b_in a v.earlier in
       let test = hold_both (are_dependent program p a b) (not (is_among same_instance a (up_to b (target program schedule p)))) (is_dependent program p a b v.dependent)
-            (true_not (is_among same_instance a (up_to b (target program schedule p))) (λ e. v.not_earlier
-              (before_is_earlier (target program schedule p) reordered.once_in_target b (reordered.kept b b_in) a (among_is_in same_instance same_instance_decides a _ e)))) in
+      (true_not (is_among same_instance a (up_to b (target program schedule p))) (λ e. v.not_earlier
+      (before_is_earlier (target program schedule p) reordered.once_in_target b (reordered.kept b b_in) a (among_is_in same_instance same_instance_decides a _ e)))) in
       to_flat_map violations_of (trace program p) b (a, b) b_in (to_map (λ (z : Instance). (z, b)) _ a (to_filter (is_turned b) (up_to b (trace program p)) a a_in test))
 
   kept_or_not : (a b : Instance) → IsIn b (target program schedule p) → (t : Bool) → is_among same_instance a (up_to b (target program schedule p)) ≡ t
@@ -190,7 +194,7 @@ module _ (program : Program) (schedule : Schedule) (p : List ℤ) where
   legal_by_list none a b different dependent earlier =
       let b_in = (target_is_reordered_law program schedule p).kept b (later_is_in (trace program p) a b earlier) in
       kept_or_not a b b_in (is_among same_instance a (up_to b (target program schedule p))) refl (λ n.
-        subst (IsIn (a, b)) none (found_violation a b (record { different = different; dependent = dependent; earlier = earlier; not_earlier = n })))
+      subst (IsIn (a, b)) none (found_violation a b (record { different = different; dependent = dependent; earlier = earlier; not_earlier = n })))
 
   pub list_of_legal : Legal program schedule p → violations program schedule p ≡ []
   list_of_legal legal = no_members (violations program schedule p) (λ e i.

@@ -7,7 +7,6 @@ use Rattle.affc_trace.specs.Law.{IsIn}
 use Rattle.affc_trace.specs.Orders.{Earlier, AreDistinct}
 use Rattle.affc_trace.specs.Dataflow.{same_instance, up_to, past, is_among}
 use Rattle.affc_trace.proofs.Legality.{later_is_in, earlier_is_in, one_way, either_way, in_front, in_rest, from_front, still_earlier}
-use Rattle.affc_trace.proofs.Once.{in_append}
 use Rattle.affc_trace.proofs.Targets.{same_instance_decides}
 
 -- ---- members
@@ -44,8 +43,9 @@ filter_cases p x false zs a e i = inr i
 pub in_filter : {A : Type 0} (p : A → Bool) (xs : List A) (a : A) → IsIn a (filter p xs) → IsIn a xs × (p a ≡ true)
 in_filter p [] a i = absurd i
 in_filter p (x ∷ xs) a i = elim (filter_cases p x (p x) (filter p xs) a refl i) [
-    inl q ↦ (inl q.0, ap p q.0 ∙ q.1)
-  | inr j ↦ (let r = in_filter p xs a j in (inr r.0, r.1)) ]
+  | inl q ↦ (inl q.0, ap p q.0 ∙ q.1)
+  | inr j ↦ (let r = in_filter p xs a j in (inr r.0, r.1))
+]
 
 filter_keeps : {A : Type 0} (p : A → Bool) (x : A) (t : Bool) (zs : List A) (a : A) → p x ≡ t → p a ≡ true → (a ≡ x) ⊎ IsIn a zs → IsIn a (if t then x ∷ zs else zs)
 filter_keeps p x true zs a e f (inl q) = inl q
@@ -179,5 +179,6 @@ module _ (is : List Instance) (distinct : AreDistinct is) (a b : Instance) (b_in
       let c_in = earlier_is_before is distinct b b_in c f in
       let apart : a ≢ c = λ q. one_way is a c distinct e (subst (λ z. Earlier is z a) q (subst (λ z. Earlier is a z) (sym q) e)) in
       later_is_past (up_to b is) a c front (elim (either_way (up_to b is) a c apart a_in c_in) [
-          inl g ↦ g
-        | inr g ↦ absurd (one_way is a c distinct e (earlier_inside is distinct b b_in c a g)) ])
+        | inl g ↦ g
+        | inr g ↦ absurd (one_way is a c distinct e (earlier_inside is distinct b b_in c a g))
+      ])

@@ -1,4 +1,4 @@
-use Rattle.std.proofs.Common.{◌≡◌, subst, ◌∙◌}
+use Rattle.std.proofs.Common.{subst}
 use Rattle.affc_basis.specs.Bases.{AreComponents}
 use Rattle.affc_basis.proofs.basis.given.Goals as goal
 

@@ -1,4 +1,4 @@
-use Rattle.std.proofs.Common.{rules, ◌≡◌, ◌+ℤ◌, ◌∙◌, arith, ap, get_or, pos, FitsSigned}
+use Rattle.std.proofs.Common.{rules, ◌∙◌, arith, get_or, pos, FitsSigned}
 use Rattle.std.specs.Int.{w128}
 use Rattle.std.proofs.lemmas.Int.{to_z-of_z}
 use Rattle.affc_rows.proofs.FormLemmas.{dot_step}

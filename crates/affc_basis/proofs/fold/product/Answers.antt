@@ -1,4 +1,4 @@
-use Rattle.std.proofs.Common.{rules, ◌≡◌, ◌≤◌, ◌*ℤ◌, ◌^◌, FitsSigned, lit<, arith, ap, ◌∙◌}
+use Rattle.std.proofs.Common.{rules, ◌≤◌, ◌*ℤ◌, ◌^◌, FitsSigned, lit<, arith, ap}
 use Rattle.std.specs.Int.{w64, w128}
 use Rattle.std.specs.Prelude.{unsigned_abs}
 use Rattle.std.proofs.lemmas.Int.{ints, to_z-of_z, fits_signed_mul}

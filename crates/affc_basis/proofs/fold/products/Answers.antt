@@ -1,4 +1,4 @@
-use Rattle.std.proofs.Common.{rules, ◌≡◌, ◌<◌, ◌≤◌, ◌+◌, ◌*◌, ◌^◌, ◌+ℤ◌, ◌*ℤ◌, get_or, pos, to_z, FitsSigned, arith, ap, refl, ◌∙◌}
+use Rattle.std.proofs.Common.{rules, ◌<◌, ◌^◌, ◌+ℤ◌, get_or, pos, to_z, FitsSigned, arith, ap, refl}
 use Rattle.std.specs.Int.{w64, w128}
 use Rattle.std.proofs.lemmas.Int.{to_z-of_z}
 use Rattle.affc_rows.proofs.FormLemmas.{dot_step}
@@ -16,6 +16,6 @@ loop-i-preserved c =
     let fits : FitsSigned w128 ((to_z w128 c.loop-i.sum-bits) +ℤ c.product-sum.result) = sum_fits ((to_z w128 c.loop-i.sum-bits) +ℤ c.product-sum.result) c.loop-i.i size in_point in
     simp to_z-of_z (record {
       sum = dot_step c.loop-i.i c.args.coefs.now c.args.point.now (get_or c.args.point.now c.loop-i.i (pos 0)) ((to_z w128 c.loop-i.sum-bits) +ℤ c.product-sum.result) (to_z w128 c.loop-i.sum-bits) _ (omega arith) (omega arith) refl
-        (ap (λ u. (to_z w128 c.loop-i.sum-bits) +ℤ u) value) c.loop-i.invariant.sum;
+          (ap (λ u. (to_z w128 c.loop-i.sum-bits) +ℤ u) value) c.loop-i.invariant.sum;
       size = size;
     })

@@ -1,9 +1,9 @@
-use Rattle.std.proofs.Common.{rules, ◌≡◌, ◌<◌, ℕ, ℤ, List, length, get_or, FitsSigned, arith, refl, sym, ap, ◌∙◌, Some}
+use Rattle.std.proofs.Common.{rules, ◌≡◌, ◌<◌, length, get_or, FitsSigned, arith, refl, sym, ap, ◌∙◌, Some}
 use Rattle.std.specs.Prelude.{slice_get, option_map}
 use Rattle.std.specs.Int.{w64, w128, int_rem_euclid}
 use Rattle.std.proofs.lemmas.Int.{to_z-of_z}
 use Rattle.std.proofs.lemmas.Option.{slice_get_read, slice_get-map}
-use Rattle.affc_rows.specs.Forms.{Affine, dot, value}
+use Rattle.affc_rows.specs.Forms.{dot}
 use Rattle.affc_basis.specs.Folds.{forms_of}
 use Rattle.affc_basis.proofs.Remainders.{remainder-at}
 use Rattle.affc_basis.proofs.fold.Fold.place.Goals as goal
@@ -27,5 +27,5 @@ returns c =
     let at_form : slice_get (forms_of moduli) k ≡ Some modulus.form = slice_get-map (λ m. m.form) moduli k ∙ ap (option_map (λ m. m.form)) at_modulus in
     let along : c.products-along.result ≡ dot row.coefs c.args.element.now = c.products-along.ensures.value ∙ ap (λ l. dot l c.args.element.now) (c.as_slice-3.ensures ∙ ap (λ v. v.coefs) c.row.view_is) in
     simp to_z-of_z (
-      remainder-at c.args.p.now rows (forms_of moduli) c.args.element.now k row modulus.form at_row at_form
-      ∙ ap Some (sym (reduced ∙ ap (λ u. int_rem_euclid u c.modulus_at.result) along ∙ ap (int_rem_euclid (dot row.coefs c.args.element.now)) c.modulus_at.ensures.value)))
+    remainder-at c.args.p.now rows (forms_of moduli) c.args.element.now k row modulus.form at_row at_form
+    ∙ ap Some (sym (reduced ∙ ap (λ u. int_rem_euclid u c.modulus_at.result) along ∙ ap (int_rem_euclid (dot row.coefs c.args.element.now)) c.modulus_at.ensures.value)))
