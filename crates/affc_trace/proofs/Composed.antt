@@ -18,7 +18,7 @@ use Rattle.affc_trace.specs.Orders.{KeepsArrays}
 use Rattle.affc_trace.specs.Target.{target}
 use Rattle.affc_trace.specs.Effects.{effect}
 use Rattle.affc_trace.specs.Dataflow.{same_element, OneArray}
-use Rattle.affc_trace.specs.Laws.{IsInContext, KeepsParameters, IsUnwritten, in_target_order, FittingDataIsKept, EqualLastStores, KeepsSources, RunsAsSource, CompilesSource}
+use Rattle.affc_trace.specs.Laws.{IsInContext, HoldsParameters, LeavesParameters, KeepsParameters, IsUnwritten, in_target_order, FittingDataIsKept, EqualLastStores, KeepsSources, RunsAsSource, CompilesSource}
 use Rattle.affc_trace.proofs.LastStores.{equal_last_stores}
 use Rattle.affc_trace.proofs.Legality.{keeps_sources, loads_are_given}
 use Rattle.affc_trace.proofs.Runs.{element_cmp_total}
@@ -33,9 +33,8 @@ some_decl : (o : Option Decl) (x : Element) (p : List ℤ) → has_element o x p
 some_decl None x p e = absurd (true≢false (sym e))
 some_decl (Some d) x p e = (d, refl)
 
--- an element that is handed in is one of a parameter array
-handed_in_parameter : (source : Program) (p : List ℤ) (store : Store) → Fits source p store → (x : Element) (u : ℕ) → at store x ≡ Some u → x.0 < length (arrays_of source.params)
-handed_in_parameter source p store fits x u e =
+pub holds_parameters : (source : Program) (p : List ℤ) (store : Store) → Fits source p store → HoldsParameters source store
+holds_parameters source p store fits x u e =
     let d = some_decl (slice_get (arrays_of source.params) x.0) x p (sym (fits.exactly x) ∙ ap is_some e) in
     slice_get_within (arrays_of source.params) x.0 d.0 d.1
 
@@ -45,31 +44,33 @@ alone source place keeps x y in_parameter e =
     let n : x.0 ≡ y.0 = sym (keeps.same_array x) ∙ ap (λ z. z.0) e ∙ keeps.same_array y in
     sym (keeps.own x in_parameter) ∙ e ∙ keeps.own y (subst (λ m. m < length (arrays_of source.params)) n in_parameter)
 
-keeps_arrays : (source : Program) (p : List ℤ) (store : Store) (place : Element → Element) → Fits source p store → KeepsParameters source place → KeepsArrays OneArray place (at store)
-keeps_arrays source p store place fits keeps = record {
+keeps_arrays : (source : Program) (store : Store) (place : Element → Element) → HoldsParameters source store → KeepsParameters source place → KeepsArrays OneArray place (at store)
+keeps_arrays source store place holds keeps = record {
   apart = λ x y e. sym (keeps.same_array x) ∙ ap (λ z. z.0) e ∙ keeps.same_array y;
-  own = λ x y u h e. alone source place keeps x y (handed_in_parameter source p store fits x u h) e;
+  own = λ x y u h e. alone source place keeps x y (holds x u h) e;
 }
 
-handed : (source : Program) (p : List ℤ) (store : Store) (place : Element → Element) → Fits source p store → KeepsParameters source place → HandedIn place (at store) (at store)
-handed source p store place fits keeps x u e = ap (at store) (keeps.own x (handed_in_parameter source p store fits x u e)) ∙ e
+handed : (source : Program) (store : Store) (place : Element → Element) → HoldsParameters source store → LeavesParameters source place → HandedIn place (at store) (at store)
+handed source store place holds leaves x u e = ap (at store) (leaves x (holds x u e)) ∙ e
 
 pub fitting_data_is_kept : FittingDataIsKept
-fitting_data_is_kept source p store place fits keeps = (keeps_arrays source p store place fits keeps, handed source p store place fits keeps)
+fitting_data_is_kept source p store place fits keeps =
+    let holds = holds_parameters source p store fits in
+    (holds, keeps_arrays source store place holds keeps, handed source store place holds keeps.own)
 
 -- ---- the law of last stores, and its premise
 
 pub equal_last_stores_law : EqualLastStores
-equal_last_stores_law source p store end place v order plain fits ended values keeps same =
+equal_last_stores_law source p store end place v order plain holds ended values leaves same =
     equal_last_stores (effect source p) same_element same_element place (at store) (at store) v (trace source p) order
-    (ended_run source p store end plain ended ∙ ap Some values) same (handed source p store place fits keeps)
+    (ended_run source p store end plain ended ∙ ap Some values) same (handed source store place holds leaves)
 
 pub keeps_sources_law : KeepsSources
-keeps_sources_law source schedule p store end place plain fits ended legal fold keeps =
+keeps_sources_law source schedule p store end place plain holds ended legal fold keeps =
     let its : Instance → Effect Element ℕ = effect source p in
     let values = values_by_instance source p store end plain ended in
     keeps_sources its same_element same_element same_element_decides same_element_decides OneArray place (at store) (trace source p) (target source schedule p)
-    (target_is_reordered_law source schedule p) legal fold (keeps_arrays source p store place fits keeps)
+    (target_is_reordered_law source schedule p) legal fold (keeps_arrays source store place holds keeps)
     (loads_are_given its same_element (at store) values.0 (trace source p) (ended_run source p store end plain ended ∙ ap Some values.1))
 
 -- ---- the stores of a run with their instances
@@ -128,8 +129,9 @@ runs_as_source printed source schedule p store end place plain params fits ended
     let its : Instance → Effect Element ℕ = effect source p in
     let values = values_by_instance source p store end plain ended in
     let v : Instance → ℕ = values.0 in
-    let same = keeps_sources_law source schedule p store end place plain fits ended legal fold keeps in
-    let run = equal_last_stores_law source p store end place v (target source schedule p) plain fits ended values.1 keeps same in
+    let holds = holds_parameters source p store fits in
+    let same = keeps_sources_law source schedule p store end place plain holds ended legal fold keeps in
+    let run = equal_last_stores_law source p store end place v (target source schedule p) plain holds ended values.1 keeps.own same in
     let last = ends printed p store (as_stored (placed place its) v (target source schedule p))
     (ap (stores_of same_element (at store) []) runs.does ∙ run) (λ c n e. no_other c (runs.only_unwritten c n e)) in
     let sorted : T (is_sorted element_cmp store) = subst T (sym fits.ordered) tt in

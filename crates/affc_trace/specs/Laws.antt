@@ -25,10 +25,18 @@ pub record IsInContext (program : Program) (p : List ℤ) : Type 0 where
   pub ranges : IsTrue (within_ranges program.params p)
   pub context : IsTrue (meets program.context p)
 
--- arrays stay apart, and each element of a parameter array is its own place
+-- only elements of parameter arrays have a value, as in each store that fits
+abbrev pub HoldsParameters : Program → Store → Type 0
+HoldsParameters program store = (x : Element) (v : ℕ) → at store x ≡ Some v → x.0 < length (arrays_of program.params)
+
+-- each element of a parameter array is its own place
+abbrev pub LeavesParameters : Program → (Element → Element) → Type 0
+LeavesParameters program place = (x : Element) → x.0 < length (arrays_of program.params) → place x ≡ x
+
+-- and arrays stay apart
 pub record KeepsParameters (program : Program) (place : Element → Element) : Type 0 where
   pub same_array : (x : Element) → (place x).0 ≡ x.0
-  pub own : (x : Element) → x.0 < length (arrays_of program.params) → place x ≡ x
+  pub own : LeavesParameters program place
 
 abbrev pub IsUnwritten : Cause → Type 0
 IsUnwritten (Unwritten instance access) = Unit {0}
@@ -89,27 +97,28 @@ abbrev pub ValuesByInstance : Type 0
 ValuesByInstance = (source : Program) (p : List ℤ) (store : Store) (end : State) → IsTrue (has_no_locals source) → meaning source p store ≡ Ended end
     → (v : Instance → ℕ) × (end.written ≡ as_stored (effect source p) v (trace source p))
 
--- Data that fit are found at their places, each at a place that no other element has, where parameters keep theirs.
+-- Data that fit give values to parameter arrays alone, and so they are found at their places, each at a place that no other
+-- element has, where parameters keep theirs.
 abbrev pub FittingDataIsKept : Type 0
 FittingDataIsKept = (source : Program) (p : List ℤ) (store : Store) (place : Element → Element)
     → Fits source p store → KeepsParameters source place
-    → KeepsArrays OneArray place (at store) × HandedIn place (at store) (at store)
+    → HoldsParameters source store × KeepsArrays OneArray place (at store) × HandedIn place (at store) (at store)
 
 -- The law of last stores: where each load in `order` finds, at the place of its element, a store by the instance that is the
 -- load's source, or none where it has none, and each element of a parameter array is its own place, all instances store the
 -- values that they store in the source's run.
 abbrev pub EqualLastStores : Type 0
 EqualLastStores = (source : Program) (p : List ℤ) (store : Store) (end : State) (place : Element → Element) (v : Instance → ℕ) (order : List Instance)
-    → IsTrue (has_no_locals source) → Fits source p store → meaning source p store ≡ Ended end
+    → IsTrue (has_no_locals source) → HoldsParameters source store → meaning source p store ≡ Ended end
     → end.written ≡ as_stored (effect source p) v (trace source p)
-    → KeepsParameters source place
+    → LeavesParameters source place
     → SameLastStores same_element same_element place (effect source p) (trace source p) order
     → stores_of same_element (at store) [] (map (placed place (effect source p)) order) ≡ Some (as_stored (placed place (effect source p)) v order)
 
 -- A legal schedule and admissible places give the premise of that law, where the source's run ends.
 abbrev pub KeepsSources : Type 0
 KeepsSources = (source : Program) (schedule : Schedule) (p : List ℤ) (store : Store) (end : State) (place : Element → Element)
-    → IsTrue (has_no_locals source) → Fits source p store → meaning source p store ≡ Ended end
+    → IsTrue (has_no_locals source) → HoldsParameters source store → meaning source p store ≡ Ended end
     → Legal source schedule p → Admissible source schedule p place → KeepsParameters source place
     → SameLastStores same_element same_element place (effect source p) (trace source p) (target source schedule p)
 
