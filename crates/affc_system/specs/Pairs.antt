@@ -1,5 +1,5 @@
 -- Pairs of elements, as the integer points of a system and the subscripts of two elements at each.
-use Rattle.std.specs.Prelude.{◌≡◌, ℕ, ◌^◌, ◌≤◌, List, length, ℤ, ◌≤ℤ◌, unsigned_abs}
+use Rattle.std.specs.Prelude.{◌≡◌, ℕ, ◌^◌, ◌≤◌, List, length, ℤ, unsigned_abs}
 use Rattle.std.specs.List.{All}
 use Rattle.affc_rows.specs.Forms.{Affine}
 use Rattle.affc_system.specs.Systems.{Rows, IsPoint}

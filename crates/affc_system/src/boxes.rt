@@ -59,6 +59,15 @@ impl BoxOf {
     }
 }
 
+impl Clone for BoxOf {
+    ghost is_clone = { λ b copy. copy ≡ b };
+
+    fn clone(&self) -> Result<BoxOf, AllocError> {
+        let ranges = self.ranges.clone()?;
+        Ok(BoxOf { ranges })
+    }
+}
+
 /// The least and the greatest sum of products over some ranges, and the greatest sum of the products' magnitudes.
 #[derive(Clone, Copy)]
 struct Span {
@@ -70,6 +79,59 @@ struct Span {
     ghost limited: { magnitude ≤ 2 ^ 126 },
 }
 
+/// The span of a constant.
+fn constant_span(constant: i128) -> Result<Span, Range>
+    ensures least { IfOk result (λ s. s.least ≡ constant) }
+    ensures greatest { IfOk result (λ s. s.greatest ≡ constant) }
+    ensures magnitude { IfOk result (λ s. s.magnitude ≡ unsigned_abs constant) }
+    ensures range { OnErr result (2 ^ 126 < unsigned_abs constant) }
+{
+    let magnitude = constant.unsigned_abs();
+    if magnitude > MOST_MAGNITUDE {
+        return Err(Range);
+    }
+    Ok(Span {
+        least: constant,
+        greatest: constant,
+        magnitude,
+    })
+}
+
+/// The end of a range at which the product is greatest, or least.
+fn end(greatest: bool, c: i128, range: (i64, i64)) -> i64
+    ensures value { result ≡ end_of greatest c range }
+    ensures within { unsigned_abs result ≤ reach range }
+{
+    let (low, high) = range;
+    if (c < 0) == greatest { low } else { high }
+}
+
+/// The sum of magnitudes with that of one column more.
+fn wider(magnitude: u128, c: i128, reach: u64) -> Result<u128, Range>
+    requires { magnitude ≤ 2 ^ 126 }
+    ensures value { IfOk result (λ m. m ≡ magnitude + unsigned_abs c * reach) }
+    ensures fits { OnOk result (magnitude + unsigned_abs c * reach ≤ 2 ^ 126) }
+    ensures range { OnErr result (2 ^ 126 < magnitude + unsigned_abs c * reach) }
+{
+    let Some(more) = c.unsigned_abs().checked_mul(u128::from(reach)) else {
+        return Err(Range);
+    };
+    if more > MOST_MAGNITUDE - magnitude {
+        return Err(Range);
+    }
+    Ok(magnitude + more)
+}
+
+/// A sum with one product more, whose second factor has at most a given magnitude.
+fn plus_product(sum: i128, c: i128, x: i64, reach: u64) -> i128
+    requires within { unsigned_abs x ≤ reach }
+    requires room { unsigned_abs sum + unsigned_abs c * reach ≤ 2 ^ 126 }
+    ensures value { result ≡ sum +ℤ (c *ℤ x) }
+    ensures within { unsigned_abs result ≤ unsigned_abs sum + unsigned_abs c * reach }
+{
+    sum + c * i128::from(x)
+}
+
 /// The span with one column more.
 fn with_column(span: Span, c: i128, range: (i64, i64)) -> Result<Span, Range>
     ensures least { IfOk result (λ s. s.least ≡ span.least +ℤ (c *ℤ end_of false c range)) }
@@ -77,39 +139,27 @@ fn with_column(span: Span, c: i128, range: (i64, i64)) -> Result<Span, Range>
     ensures magnitude { IfOk result (λ s. s.magnitude ≡ span.magnitude + unsigned_abs c * reach range) }
     ensures range { OnErr result (2 ^ 126 < span.magnitude + unsigned_abs c * reach range) }
 {
-    let (low, high) = range;
-    let reach = low.unsigned_abs().max(high.unsigned_abs());
-    let Some(magnitude) = c.unsigned_abs().checked_mul(u128::from(reach)) else {
+    let reach = range.0.unsigned_abs().max(range.1.unsigned_abs());
+    let Ok(magnitude) = wider(span.magnitude, c, reach) else {
         return Err(Range);
     };
-    if magnitude > MOST_MAGNITUDE - span.magnitude {
-        return Err(Range);
-    }
-    let (low, high) = (i128::from(low), i128::from(high));
-    let (least, greatest) = if c < 0 { (high, low) } else { (low, high) };
     Ok(Span {
-        least: span.least + c * least,
-        greatest: span.greatest + c * greatest,
-        magnitude: span.magnitude + magnitude,
+        least: plus_product(span.least, c, end(false, c, range), reach),
+        greatest: plus_product(span.greatest, c, end(true, c, range), reach),
+        magnitude,
     })
 }
 
-/// The span of a form's coefficients over the ranges, begun with its constant.
-fn span_of(coefs: &[i128], constant: i128, ranges: &[(i64, i64)]) -> Result<Span, Range>
+/// The span of a row of coefficients over the ranges, begun with a constant.
+fn row_span(coefs: &[i128], constant: i128, ranges: &[(i64, i64)]) -> Result<Span, Range>
     requires { length coefs.now ≡ length ranges.now }
-    ensures least { IfOk result (λ s. s.least ≡ constant +ℤ dot coefs.now (corner false coefs.now ranges.now)) }
-    ensures greatest { IfOk result (λ s. s.greatest ≡ constant +ℤ dot coefs.now (corner true coefs.now ranges.now)) }
+    ensures least { IfOk result (λ s. s.least ≡ dot coefs.now (corner false coefs.now ranges.now) +ℤ constant) }
+    ensures greatest { IfOk result (λ s. s.greatest ≡ dot coefs.now (corner true coefs.now ranges.now) +ℤ constant) }
     ensures fits { OnOk result (unsigned_abs constant + box_magnitude coefs.now ranges.now ≤ 2 ^ 126) }
     ensures range { OnErr result (2 ^ 126 < unsigned_abs constant + box_magnitude coefs.now ranges.now) }
 {
-    let size = constant.unsigned_abs();
-    if size > MOST_MAGNITUDE {
+    let Ok(mut span) = constant_span(constant) else {
         return Err(Range);
-    }
-    let mut span = Span {
-        least: constant,
-        greatest: constant,
-        magnitude: size,
     };
     for (i, c) in coefs.iter().enumerate() {
         let Ok(next) = with_column(span, *c, ranges[i]) else {
@@ -118,6 +168,17 @@ fn span_of(coefs: &[i128], constant: i128, ranges: &[(i64, i64)]) -> Result<Span
         span = next;
     }
     Ok(span)
+}
+
+/// The span of a form over the ranges.
+fn form_span(form: &Form, ranges: &[(i64, i64)]) -> Result<Span, Range>
+    requires { length ranges.now ≡ length form.now.coefs }
+    ensures least { IfOk result (λ s. s.least ≡ value form.now (corner false form.now.coefs ranges.now)) }
+    ensures greatest { IfOk result (λ s. s.greatest ≡ value form.now (corner true form.now.coefs ranges.now)) }
+    ensures fits { OnOk result (unsigned_abs form.now.constant + box_magnitude form.now.coefs ranges.now ≤ 2 ^ 126) }
+    ensures range { OnErr result (2 ^ 126 < unsigned_abs form.now.constant + box_magnitude form.now.coefs ranges.now) }
+{
+    row_span(form.coefs.as_slice(), form.constant, ranges)
 }
 
 /// The least and the greatest value of the form over the box: one range for each column of the form.
@@ -131,7 +192,7 @@ pub fn interval(form: &Form, ranges: &BoxOf) -> Result<(i128, i128), Range>
     ensures fits { OnOk result ((x : List ℤ) → IsCorner ranges.now x → magnitude form.now x ≤ 2 ^ 126) }
     ensures range { OnErr result ((x : List ℤ) × IsCorner ranges.now x × (2 ^ 126 < magnitude form.now x)) }
 {
-    let Ok(span) = span_of(form.coefs.as_slice(), form.constant, ranges.ranges()) else {
+    let Ok(span) = form_span(form, ranges.ranges()) else {
         return Err(Range);
     };
     Ok((span.least, span.greatest))

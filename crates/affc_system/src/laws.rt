@@ -8,11 +8,9 @@ ghost use Rattle.affc_system.specs.Boxes.{IsBox, InBox, IsCorner};
 pub fn point_of_longer_system()
     ensures { (system : Rows) (row : Affine) (point : List ℤ)
         → IsPoint (record system { rows = system.rows ++ row ∷ [] }) point ↔ (IsPoint system point × (pos 0 ≤ℤ value row point)) }
-{
-}
+{}
 
 /// The corners of a box lie in it.
 pub fn corner_in_box()
     ensures { (ranges : List (ℤ × ℤ)) (point : List ℤ) → IsBox ranges → IsCorner ranges point → InBox ranges point }
-{
-}
+{}

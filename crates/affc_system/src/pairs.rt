@@ -2,7 +2,6 @@
 ghost use Rattle.std.specs.List.{All};
 ghost use Rattle.affc_system.specs.Pairs.{IsSubscript};
 
-
 use crate::boxes::BoxOf;
 use crate::system::System;
 use affc_rows::Form;

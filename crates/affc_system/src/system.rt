@@ -1,11 +1,11 @@
 //! Systems.
-ghost use Rattle.std.specs.Prelude.{◌≡◌, ℕ, ◌+◌, ◌-◌, ◌*◌, ◌^◌, ◌<◌, ◌≤◌, ◌↔◌, ◌++◌, ◌∷◌, [], pos, ◌≤ℤ◌, unsigned_abs, IfOk, IfErr, OnOk, OnErr, IsTrue, length};
+ghost use Rattle.std.specs.Prelude.{◌≡◌, ℕ, ◌+◌, ◌-◌, ◌*◌, ◌^◌, ◌<◌, ◌≤◌, ◌↔◌, ◌++◌, ◌∷◌, [], pos, ◌≤ℤ◌, ◌+ℤ◌, ◌*ℤ◌, unsigned_abs, IfOk, IfErr, OnOk, OnErr, IsTrue, length};
 ghost use Rattle.std.specs.List.{All};
-ghost use Rattle.affc_rows.specs.Forms.{value};
-ghost use Rattle.affc_system.specs.Systems.{FitsRow, IsRow, IsPoint};
+ghost use Rattle.affc_rows.specs.Forms.{dot, value};
+ghost use Rattle.affc_system.specs.Systems.{FitsRow, IsRow, Meets, IsPoint};
 
 use affc_rows::{Form, Total};
-use std::alloc::Global;
+use std::alloc::{AllocError, Global};
 use std::marker::Model;
 use thiserror::Error;
 
@@ -42,6 +42,18 @@ impl Model for System {
     ghost invariant = { λ s. (length s.rows.items ≤ 1024) × (s.columns ≤ 128) × All (IsRow s.columns) s.rows.items };
 }
 
+impl Clone for System {
+    ghost is_clone = { λ s copy. copy ≡ s };
+
+    fn clone(&self) -> Result<System, AllocError> {
+        let rows = self.rows.clone()?;
+        Ok(System {
+            columns: self.columns,
+            rows,
+        })
+    }
+}
+
 /// Why a row isn't added.
 #[derive(Debug, Clone, Copy, PartialEq, Eq, Error)]
 pub enum RowFault {
@@ -65,6 +77,34 @@ pub fn fits_row(row: &Form) -> bool
             .all(|c| c.unsigned_abs() <= MOST_COEFFICIENT)
 }
 
+/// The sum with one product more, of a coefficient within the limits and any `i64`.
+fn with_term(sum: Total, c: i128, x: i64) -> Total
+    requires small { unsigned_abs c ≤ 2 ^ 40 }
+    requires room { sum.magnitude ≤ 127 * 2 ^ 103 }
+    ensures value { result.value ≡ sum.value +ℤ (c *ℤ x) }
+    ensures magnitude { result.magnitude ≤ sum.magnitude + 2 ^ 103 }
+{
+    let Ok(next) = sum.add(c, i128::from(x)) else {
+        unreachable!()
+    };
+    next
+}
+
+/// The sum of the products of a row's coefficients with a point of machine integers, which never overflows.
+fn sum_at(coefs: &[i128], point: &[i64]) -> Total
+    requires small { All (λ c. unsigned_abs c ≤ 2 ^ 40) coefs.now }
+    requires width { length coefs.now ≡ length point.now }
+    requires few { length point.now ≤ 128 }
+    ensures value { result.value ≡ dot coefs.now point.now }
+    ensures magnitude { result.magnitude ≤ 2 ^ 110 }
+{
+    let mut sum = Total::zero();
+    for (i, c) in coefs.iter().enumerate() {
+        sum = with_term(sum, *c, point[i]);
+    }
+    sum
+}
+
 /// The value of a row at a point of machine integers, which never overflows.
 fn value_at(row: &Form, point: &[i64]) -> i128
     requires fits { FitsRow row.now }
@@ -72,14 +112,17 @@ fn value_at(row: &Form, point: &[i64]) -> i128
     requires few { length point.now ≤ 128 }
     ensures { result ≡ value row.now point.now }
 {
-    let mut sum = Total::zero();
-    for (i, c) in row.coefs.as_slice().iter().enumerate() {
-        let Ok(next) = sum.add(*c, i128::from(point[i])) else {
-            unreachable!()
-        };
-        sum = next;
-    }
-    sum.value + row.constant
+    sum_at(row.coefs.as_slice(), point).value + row.constant
+}
+
+/// Whether the row is at least 0 at the point.
+fn meets(row: &Form, point: &[i64]) -> bool
+    requires fits { FitsRow row.now }
+    requires width { length row.now.coefs ≡ length point.now }
+    requires few { length point.now ≤ 128 }
+    ensures { IsTrue result ↔ Meets point.now row.now }
+{
+    value_at(row, point) >= 0
 }
 
 impl System {
@@ -140,8 +183,9 @@ impl System {
         requires { length point.now ≡ self.now.columns }
         ensures { IsTrue result ↔ IsPoint self.now point.now }
     {
-        for row in &self.rows {
-            if value_at(row, point) < 0 {
+        let rows = self.rows.as_slice();
+        for row in rows {
+            if !meets(row, point) {
                 return false;
             }
         }
