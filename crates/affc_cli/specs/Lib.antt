@@ -1,0 +1,5 @@
+pub mod Command
+pub mod Outside
+pub mod Refusal
+pub mod Fold
+pub mod Promise
