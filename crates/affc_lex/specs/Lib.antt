@@ -1,0 +1,4 @@
+pub mod Bytes
+pub mod Pieces
+pub mod Lexes
+pub mod Faults
