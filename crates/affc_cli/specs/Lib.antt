@@ -1,3 +1,5 @@
+pub mod Stand
+pub mod Text
 pub mod Command
 pub mod Outside
 pub mod Refusal
