@@ -1,3 +1,6 @@
 pub mod Telling
 pub mod Running
 pub mod Stretch
+pub mod Lettered
+pub mod Printed
+pub mod Reading

@@ -75,6 +75,25 @@ in_part name before out text r promised took = record {
   err_is = sym (grown-nil before.err.taken)
 }
 
+-- all was written
+pub done_runs : (name : List ℕ) (before now : Outside) (text bytes : List ℕ)
+    → FoldPromises name before.folder.held text [] → bytes ≡ text → now.out.taken ≡ grown before.out.taken bytes
+    → now.err.taken ≡ before.err.taken → Keeps before now → Runs (Fold name) before now 0
+done_runs name before now text bytes promised is took same keeps = record {
+  answers = (0, lit< tt, refl);
+  keeps = keeps;
+  done = λ _. record {
+    text = text;
+    report = [];
+    promised = promised;
+    out = took ∙ ap (grown before.out.taken) is;
+    err = same ∙ sym (grown-nil before.err.taken)
+  };
+  short = λ e. absurd (omega arith);
+  failed = λ e. absurd (omega arith);
+  refused = λ other _ _. absurd (other refl)
+}
+
 -- a write failed
 pub failed_runs : {T : Type 0} (name : List ℕ) (before now : Outside) (text : List ℕ) (r : Result T PutFault)
     → FoldPromises name before.folder.held text [] → now.out.taken ≡ grown before.out.taken (put_of r text)

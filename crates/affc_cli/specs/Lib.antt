@@ -1,5 +1,6 @@
-pub mod Stand
+pub mod Symbols
 pub mod Text
+pub mod Copies
 pub mod Command
 pub mod Outside
 pub mod Refusal

@@ -1,7 +1,7 @@
 -- The printed text of a loop that copies one array into another.
 use Rattle.std.specs.Prelude.{ℕ, List, ◌++◌, codes}
 use Rattle.std.specs.Fmt.{decimal}
-use Rattle.affc_cli.specs.Stand.{CopyLoop}
+use Rattle.affc_ast.specs.CopyLoop.{CopyLoop}
 
 -- as `++`, grouped to the right
 infixr 20 ◌then◌
@@ -42,7 +42,3 @@ head_text c =
 -- The printed text: two spaces a level, and braces round the loop's body.
 unfoldable pub printed_text : CopyLoop → List ℕ
 printed_text c = head_text c then codes " {\n" then assign_text c.input c.output c.iterator then codes "  }\n}\n"
-
--- The same without the braces.
-unfoldable pub bare_text : CopyLoop → List ℕ
-bare_text c = head_text c then codes "\n" then assign_text c.input c.output c.iterator then codes "}\n"

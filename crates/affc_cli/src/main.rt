@@ -1,9 +1,12 @@
 // affc folds the temporary arrays of affine loop nests. So far it takes one loop that copies an array.
 #![tactic(auto)]
 
+mod copy_loop;
 mod fold;
+mod print;
 mod refusal;
 mod serve;
+mod symbols;
 mod words;
 
 use affc_io::{StdFolder, StdSink};

@@ -1,5 +1,5 @@
 use Rattle.std.proofs.Common.{refl, arith}
-use Rattle.affc_cli.proofs.Running.{refused_runs, failed_runs, short_runs}
+use Rattle.affc_cli.proofs.Running.{done_runs, refused_runs, failed_runs, short_runs}
 use Rattle.affc_cli.proofs.serve.run_fold.Goals as goal
 
 pub returns-in-Err : goal.returns-in-Err
@@ -25,4 +25,13 @@ returns g c =
       folder = c.in-Ok.ensures.keeps;
       out = record { faults = c.put_all.ensures.faults; shortages = c.put_all.ensures.shortages };
       err = c.tell-in-Memory.ensures.counts
+    })
+
+pub returns-in-Ok-put_all : goal.returns-in-Ok-put_all
+returns-in-Ok-put_all g c =
+    done_runs c.args.name.now _ _ _ c.as_bytes.result.now c.in-Ok.ensures.ok c.as_bytes.ensures.value c.in-Ok-put_all.ensures.taken refl
+    (record {
+      folder = c.in-Ok.ensures.keeps;
+      out = record { faults = c.put_all.ensures.faults; shortages = c.put_all.ensures.shortages };
+      err = record { faults = omega arith; shortages = omega arith }
     })

@@ -1,0 +1,22 @@
+-- Tokens without their places.
+use Rattle.std.specs.Prelude.{◌≡◌, ℕ, List, map}
+use Rattle.affc_lex.specs.Lexes.{Lexeme, Lexes}
+use Rattle.affc_ast.specs.Reads.{Symbol, symbol}
+use Rattle.affc_cli.specs.declared.symbols.Symbol.{Symbol as CodeSymbol}
+
+abbrev pub shown : CodeSymbol → Symbol
+shown s = record { kind = s.0; bytes = s.1.now }
+
+abbrev pub all_shown : List CodeSymbol → List Symbol
+all_shown symbols = map shown symbols
+
+-- The text has tokens, which are these.
+pub record HasSymbols (text : List ℕ) (symbols : List Symbol) : Type 0 where
+  pub tokens : List Lexeme
+  pub its_tokens : Lexes text tokens
+  pub its_symbols : map symbol tokens ≡ symbols
+  pub no_others : (others : List Lexeme) → Lexes text others → tokens ≡ others
+
+-- the text has no tokens
+pub record HasNone (text : List ℕ) : Type 0 where
+  pub none : (tokens : List Lexeme) → Lexes text tokens → ⊥
