@@ -4,3 +4,5 @@ pub mod Stretch
 pub mod Lettered
 pub mod Printed
 pub mod Reading
+pub mod Tokens
+pub mod Shown

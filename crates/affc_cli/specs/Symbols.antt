@@ -1,5 +1,6 @@
 -- Tokens without their places.
-use Rattle.std.specs.Prelude.{◌≡◌, ℕ, List, map}
+use Rattle.std.specs.Prelude.{◌≡◌, ◌≤◌, ℕ, List, length, map}
+use Rattle.affc_lex.specs.declared.token.Token.{Token}
 use Rattle.affc_lex.specs.Lexes.{Lexeme, Lexes}
 use Rattle.affc_ast.specs.Reads.{Symbol, symbol}
 use Rattle.affc_cli.specs.declared.symbols.Symbol.{Symbol as CodeSymbol}
@@ -9,6 +10,11 @@ shown s = record { kind = s.0; bytes = s.1.now }
 
 abbrev pub all_shown : List CodeSymbol → List Symbol
 all_shown symbols = map shown symbols
+
+-- the token's place lies in the text
+pub record LiesIn (text : List ℕ) (token : Token) : Type 0 where
+  pub starts : token.start ≤ token.end
+  pub ends : token.end ≤ length text
 
 -- The text has tokens, which are these.
 pub record HasSymbols (text : List ℕ) (symbols : List Symbol) : Type 0 where

@@ -1,15 +1,22 @@
 // The tokens of a text without their places.
-ghost use Rattle.std.specs.Prelude.{◌≡◌, ◌≤◌, ◌++◌, ◌↔◌, ℕ, List, length, IfOk, MatchOption, IsTrue, Some, slice_get};
+ghost use Rattle.std.specs.Prelude.{◌≡◌, ◌≤◌, ◌++◌, ◌↔◌, ℕ, List, length, IfOk, MatchOption, IsTrue, Some, slice_get, slice_range};
 ghost use Rattle.affc_ast.specs.Reads.{Symbol as SpecSymbol};
-ghost use Rattle.affc_cli.specs.Symbols.{shown, all_shown, HasSymbols, HasNone};
+ghost use Rattle.affc_cli.specs.Symbols.{shown, all_shown, LiesIn, HasSymbols, HasNone};
 
 use affc_lex::lex;
-use affc_lex::token::{Kind, LexFault};
+use affc_lex::token::{Kind, LexFault, Token};
 use std::alloc::{AllocError, Global};
 
 /// A token's kind and its bytes.
 #[derive(Clone, Copy, Debug)]
 pub struct Symbol<'a>(pub Kind, pub &'a [u8]);
+
+fn bytes_of<'a>(text: &'a [u8], token: &Token) -> &'a [u8]
+    requires { LiesIn text.now token.now }
+    ensures { result.now ≡ slice_range text.now token.now.start token.now.end }
+{
+    &text[token.start..token.end]
+}
 
 /// The tokens of the text, where it has tokens.
 pub fn symbols(alloc: Global, text: &[u8]) -> Result<Option<Vec<Symbol<'_>>>, AllocError>
@@ -18,11 +25,13 @@ pub fn symbols(alloc: Global, text: &[u8]) -> Result<Option<Vec<Symbol<'_>>>, Al
     let tokens = match lex(alloc, text) {
         Ok(tokens) => tokens,
         Err(LexFault::Memory) => return Err(AllocError),
-        Err(_) => return Ok(None),
+        Err(LexFault::BadByte(_) | LexFault::OpenComment(_) | LexFault::LongNumber(_)) => {
+            return Ok(None);
+        }
     };
     let mut symbols = Vec::new(alloc);
     for token in &tokens {
-        symbols.push(Symbol(token.kind, &text[token.start..token.end]))?;
+        symbols.push(Symbol(token.kind, bytes_of(text, token)))?;
     }
     Ok(Some(symbols))
 }
