@@ -11,7 +11,7 @@ pub record RunsAs (target source : Program) (ordered : List Stored → List Stor
   pub same_outputs : outputs target follows.target_end.store ≡ outputs source follows.source_end.store
 
 -- `target` has the name, the parameters with their ranges and the context of `source`, and it runs as `source` for
--- all data that fit. The order and the places may depend on the values of the parameters.
+-- all data that fit. The order and the places may depend on the values of the parameters, and on nothing else.
 pub record Compiles (target source : Program) (ordered : List ℤ → List Stored → List Stored) (place : List ℤ → Element → Element) : Type 0 where
   pub name : target.name ≡ source.name
   pub parameters : target.params ≡ source.params

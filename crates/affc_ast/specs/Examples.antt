@@ -17,7 +17,7 @@ use Rattle.affc_ast.specs.declared.tree.Stmt.TheVariants.{For, Assign, Block}
 use Rattle.affc_ast.specs.declared.tree.Val.TheVariants.{Load}
 use Rattle.affc_ast.specs.Cause.{Extent, Overflow, OutOfBounds, Unwritten}
 use Rattle.affc_ast.specs.CopyLoop.{copy_tree}
-use Rattle.affc_ast.specs.Fits.{within_ranges, meets, outputs}
+use Rattle.affc_ast.specs.Fits.{Fits, within_ranges, meets, outputs}
 use Rattle.affc_ast.specs.Index.{index_value, conditions}
 use Rattle.affc_ast.specs.Meaning.{Ended, Stuck, meaning}
 use Rattle.affc_ast.specs.Store.{Element, Store, at}
@@ -123,7 +123,7 @@ abbrev cell : (array x : ℕ) → Element
 cell array x = (array, pos x ∷ [])
 
 -- in holds 7 8 9, and out holds a b c
-abbrev three : (a b c : ℕ) → Store
+abbrev pub three : (a b c : ℕ) → Store
 three a b c = (cell 0 0, 7) ∷ (cell 0 1, 8) ∷ (cell 0 2, 9) ∷ (cell 1 0, a) ∷ (cell 1 1, b) ∷ (cell 1 2, c) ∷ []
 
 -- in holds 7, and out holds 1
@@ -132,7 +132,7 @@ one = (cell 0 0, 7) ∷ (cell 1 0, 1) ∷ []
 
 -- ---- Runs that end
 
-abbrev copying : Program
+abbrev pub copying : Program
 copying = copy_tree (record { function = []; parameter = []; input = []; output = []; iterator = []; low = 1; high = 4 })
 
 -- the copy loop ends with out = 7 8 9, after three turns and three assignments
@@ -251,6 +251,10 @@ RangesHoldTheirEnds =
     (within_ranges copying.params (pos 4 ∷ []) ≡ true) ×
     (within_ranges copying.params (pos 5 ∷ []) ≡ false) ×
     (within_ranges copying.params [] ≡ false)
+
+-- in = 7 8 9 and out = 0 0 0 fit it at N = 3
+abbrev pub SomeDataFit : Type 0
+SomeDataFit = Fits copying (pos 3 ∷ []) (three 0 0 0)
 
 -- affc_mod(N, 0) == 0 has no value, and isn't met
 abbrev pub ConditionsHaveValues : Type 0

@@ -8,7 +8,7 @@
 --         OUT[I] = IN[I];
 --       }
 --     }
-use Rattle.std.specs.Prelude.{◌≡◌, ℕ, ◌≤◌, Bool, true, false, not, ◌&&◌, ◌||◌, if◌then◌else◌, List, [], ◌∷◌, ◌++◌, length, map, codes, IsTrue}
+use Rattle.std.specs.Prelude.{◌≡◌, ℕ, ◌≤◌, Bool, true, false, not, ◌||◌, List, [], ◌∷◌, ◌++◌, length, map, codes, IsTrue}
 use Rattle.std.specs.List.{list_all, list_any}
 use Rattle.affc_lex.specs.declared.token.Kind.{Kind}
 use Rattle.affc_lex.specs.declared.token.Kind.TheVariants.{Word, Number, Header, Hash, LineEnd, Mark}

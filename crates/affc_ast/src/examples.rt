@@ -1,7 +1,7 @@
 //! What the definitions give at small programs, as laws: `specs/Examples.antt` says each, with values that were
 //! found by hand from the rules.
 
-ghost use Rattle.affc_ast.specs.Examples.{QuotientsRound, RemaindersStartAtZero, DivisorsAreAtLeastOne, NegationsOverflow, ValuesWrap, FirstFalseEndsTheReading, CopyLoopCopies, OutputsAreOut, CopyLoopTrace, CopyLoopEvents, CompoundAdds, TwoStatementsTakeTurns, TwoStatementsRun, CompoundLoadsFirst, LocalsSeeThoseBefore, LoadsStayInside, StoresStayInside, LoadsFindValues, OwnElementComesFirst, ProductsOverflow, ProductsFit, ContextHasNodes, ExtentsAreAtLeastOne, FirstExtentEndsTheReading, StepsOverflow, RangesHoldTheirEnds, ConditionsHaveValues};
+ghost use Rattle.affc_ast.specs.Examples.{QuotientsRound, RemaindersStartAtZero, DivisorsAreAtLeastOne, NegationsOverflow, ValuesWrap, FirstFalseEndsTheReading, CopyLoopCopies, OutputsAreOut, CopyLoopTrace, CopyLoopEvents, CompoundAdds, TwoStatementsTakeTurns, TwoStatementsRun, CompoundLoadsFirst, LocalsSeeThoseBefore, LoadsStayInside, StoresStayInside, LoadsFindValues, OwnElementComesFirst, ProductsOverflow, ProductsFit, ContextHasNodes, ExtentsAreAtLeastOne, FirstExtentEndsTheReading, StepsOverflow, RangesHoldTheirEnds, SomeDataFit, ConditionsHaveValues};
 
 /// What expressions, conditions and operations on values give.
 pub fn numbers()
@@ -43,5 +43,6 @@ pub fn stops()
 /// Which values of the parameters fit.
 pub fn data()
     ensures ranges_hold_their_ends { RangesHoldTheirEnds }
+    ensures some_data_fit { SomeDataFit }
     ensures conditions_have_values { ConditionsHaveValues }
 {}
