@@ -1,1 +1,13 @@
 pub mod Samples
+pub mod Places
+pub mod Decimals
+pub mod Runs
+pub mod ByteClasses
+pub mod Lists
+pub mod FirstBytes
+pub mod Literals
+pub mod FoundAt
+pub mod Headers
+pub mod Sound
+pub mod Complete
+pub mod Once

@@ -2,3 +2,4 @@ pub mod Bytes
 pub mod Pieces
 pub mod Lexes
 pub mod Faults
+pub mod Reading

@@ -8,6 +8,7 @@ ghost use Rattle.affc_lex.specs.Faults.{FirstFault};
 
 pub mod examples;
 pub mod piece;
+pub mod scan;
 pub mod token;
 
 use crate::token::{LexFault, Token};
