@@ -2,7 +2,9 @@
 use Rattle.std.proofs.Common.{◌≡◌, ◌≢◌, ◌<◌, ◌≤◌, ◌+◌, ◌*◌, ◌-◌, ◌/◌, ◌%◌, ◌^◌, ◌&&◌, ◌||◌, ◌==◌, ℕ, zero, suc, Bool, true, false, not, List, [], ◌∷◌, ◌++◌, length, fold, get_or, codes, IsTrue, Result, Ok, drop, refl, ap, sym, subst, ◌∙◌, append_assoc, arith, rules}
 use Rattle.std.specs.List.{list_all, list_any}
 use Rattle.std.specs.Fmt.{decimal}
+use Rattle.std.specs.Str.{IsUtf8}
 use Rattle.std.specs.Str.Parse.{ParsesUnsigned}
+use Rattle.std.proofs.lemmas.Str.{IsUtf8-from_ascii}
 use Rattle.std.proofs.lemmas.Bool.{eqb-true, leb-true, le-leb}
 use Rattle.std.proofs.lemmas.Bool.Decides.{nat_tests}
 use Rattle.std.proofs.lemmas.Fmt.{digits_decimal, digits_value-decimal, decimal-digits_value, decimal_nonempty, decimal_digit, first_decimal, length-decimal-le}
@@ -66,6 +68,18 @@ no_prelude w c rest word other unlike =
 pub record IsName (w : List ℕ) : Type 0 where
   pub word : is_word w ≡ true
   pub other : same (codes "static") w ≡ false
+
+-- words are text
+letter_is_ascii : (b : ℕ) → is_letter_or_digit b ≡ true → b < 128
+letter_is_ascii b h = grind (arith, nat_tests)
+
+letters_are_ascii : (bs : List ℕ) → list_all is_letter_or_digit bs ≡ true → (i : ℕ) → get_or bs i 0 < 128
+letters_are_ascii [] h i = omega arith
+letters_are_ascii (b ∷ bs) h zero = letter_is_ascii b (left_true (is_letter_or_digit b) (list_all is_letter_or_digit bs) h)
+letters_are_ascii (b ∷ bs) h (suc i) = letters_are_ascii bs (right_true (is_letter_or_digit b) (list_all is_letter_or_digit bs) h) i
+
+pub letters_are_text : (bs : List ℕ) → list_all is_letter_or_digit bs ≡ true → IsUtf8 bs
+letters_are_text bs h = IsUtf8-from_ascii bs (letters_are_ascii bs h)
 
 -- ---- Numbers
 
@@ -143,3 +157,12 @@ no_leading_zero (b ∷ c ∷ bs) h first =
 -- a number is spelled in one way
 pub decimal-value_of : (ds : List ℕ) → is_number ds ≡ true → value_of ds < 2 ^ 64 → decimal (value_of ds) ≡ ds
 decimal-value_of ds h lt = decimal-digits_value numerals ds (digits_of_number ds h) (some_digits ds h) (no_leading_zero ds h) lt
+
+pub number_is_text : (ds : List ℕ) → is_number ds ≡ true → IsUtf8 ds
+number_is_text ds h = letters_are_text ds (letters_of_digits ds (digits_of_number ds h))
+
+-- what a number is parsed as
+pub number_parsed : {E : Type 0} (ds text : List ℕ) (r : Result ℕ E) → text ≡ ds → ParsesUnsigned 64 10 text r → is_number ds ≡ true → value_of ds < 2 ^ 64
+    → r ≡ Ok (value_of ds)
+number_parsed ds text r e h is small =
+    parse_gives numerals 64 ds r (rw e at h) (digits_of_number ds is) (some_digits ds is) small

@@ -6,3 +6,7 @@ pub mod Printed
 pub mod Reading
 pub mod Tokens
 pub mod Shown
+pub mod NameLemmas
+pub mod FormLemmas
+pub mod Hashes
+pub mod Found

@@ -10,6 +10,7 @@ use Rattle.affc_lex.specs.Lexes.{Lexeme, Lexes, tokens_from, begins_scop_line, w
 use Rattle.affc_ast.specs.CopyLoop.{CopyLoop, copy_tree}
 use Rattle.affc_ast.specs.Names.{is_reserved, all_different}
 use Rattle.affc_ast.specs.Reads.{Symbol, symbol, is_plain, HasRange, names_of, ReadsWide, copy_symbols, include_line, param_line, function_line, for_line, assign_line}
+use Rattle.affc_cli.specs.Copies.{KeepsRules}
 use Rattle.affc_cli.specs.Text.{printed_text}
 use Rattle.affc_cli.proofs.Stretch.{Stretch, symbols-tokens, left_true, right_true}
 use Rattle.affc_cli.proofs.Lettered.{true_or_false, value_of-decimal, not_true}
@@ -80,12 +81,6 @@ lexes_stretch {text = text} {symbols = symbols} s none = record {
   unrefused = ap not (unrefused text s.plain);
   its_tokens = sym (none_dropped (tokens_from 0 s.pieces) (ap has_scop (symbols-tokens 0 s.pieces ∙ s.its_symbols) ∙ none))
 }
-
--- The rules of the form on names and numbers.
-pub record KeepsRules (c : CopyLoop) : Type 0 where
-  pub range : HasRange c
-  pub different : IsTrue (all_different (names_of c))
-  pub unreserved : IsTrue (not (list_any is_reserved (names_of c)))
 
 pub printed_reads : (c : CopyLoop) → HasWords c → KeepsRules c → ReadsWide (printed_text c) (copy_tree c)
 unfolding lexes_stretch

@@ -1,10 +1,10 @@
 -- Lists of tokens without their places.
-use Rattle.std.proofs.Common.{◌≡◌, ◌<◌, ◌≤◌, ◌+◌, ℕ, zero, suc, List, [], ◌∷◌, ◌++◌, length, get_or, take, drop, map, refl, ap, sym, ◌∙◌, arith}
-use Rattle.std.proofs.lemmas.List.{take_all}
+use Rattle.std.proofs.Common.{◌≡◌, ◌<◌, ◌≤◌, ◌+◌, ◌⊎◌, inl, inr, ◌↔◌, IsTrue, Bool, true, false, ℕ, zero, suc, List, [], ◌∷◌, ◌++◌, length, get_or, take, drop, map, refl, ap, sym, ◌∙◌, arith}
+use Rattle.std.proofs.lemmas.List.{take_all, append_cancel_left}
 use Rattle.affc_lex.specs.declared.token.Token.{Token}
 use Rattle.affc_lex.specs.Lexes.{lexeme, lexemes}
 use Rattle.affc_ast.specs.Reads.{Symbol, symbol}
-use Rattle.affc_cli.specs.Symbols.{shown, all_shown}
+use Rattle.affc_cli.specs.Symbols.{shown, all_shown, OneOf}
 use Rattle.affc_cli.specs.declared.symbols.Symbol.{Symbol as CodeSymbol}
 
 first_same : (a b : Symbol) (xs ys : List Symbol) → a ∷ xs ≡ b ∷ ys → a ≡ b
@@ -39,3 +39,33 @@ pub symbols_all : (text : List ℕ) (ts items : List Token) (i : ℕ) (symbols :
     → all_shown symbols ≡ map (λ t. symbol (lexeme text t)) (take i items) → map symbol (lexemes text ts) ≡ all_shown symbols
 symbols_all text ts items i symbols same all e =
     symbols-lexemes text ts ∙ ap (map (λ t. symbol (lexeme text t))) (sym same ∙ sym (take_all i items all)) ∙ sym e
+
+-- ---- Lists that are one of two
+
+-- behind a line that stands there
+pub step : (s line r : List Symbol) (t : Bool → List Symbol) (b : Bool) → s ≡ line ++ r → (IsTrue b ↔ OneOf r t) → IsTrue b ↔ OneOf s (λ braces. line ++ t braces)
+step s line r t b e h = (λ holds. elim (h.0 holds) [ inl x ↦ inl (e ∙ ap (λ y. line ++ y) x) | inr x ↦ inr (e ∙ ap (λ y. line ++ y) x) ], back)
+  where
+    back : OneOf s (λ braces. line ++ t braces) → IsTrue b
+    back (inl x) = h.1 (inl (append_cancel_left line r (t true) (sym e ∙ x)))
+    back (inr x) = h.1 (inr (append_cancel_left line r (t false) (sym e ∙ x)))
+
+-- where the line doesn't stand there
+pub stop : (s line : List Symbol) (t : Bool → List Symbol) → ((rest : List Symbol) → s ≡ line ++ rest → ⊥) → IsTrue false ↔ OneOf s (λ braces. line ++ t braces)
+stop s line t h = (λ holds. cc, back)
+  where
+    back : OneOf s (λ braces. line ++ t braces) → IsTrue false
+    back (inl x) = absurd (h (t true) x)
+    back (inr x) = absurd (h (t false) x)
+
+-- the same lists, said in another way
+pub regrouped : (s : List Symbol) (t u : Bool → List Symbol) (b : Bool) → ((braces : Bool) → t braces ≡ u braces) → (IsTrue b ↔ OneOf s t) → IsTrue b ↔ OneOf s u
+regrouped s t u b e h = (λ holds. elim (h.0 holds) [ inl x ↦ inl (x ∙ e true) | inr x ↦ inr (x ∙ e false) ], back)
+  where
+    back : OneOf s u → IsTrue b
+    back (inl x) = h.1 (inl (x ∙ sym (e true)))
+    back (inr x) = h.1 (inr (x ∙ sym (e false)))
+
+-- one list behind another
+pub joined : (s front rest end : List Symbol) (b : Bool) → s ≡ front ++ rest → (IsTrue b ↔ (rest ≡ end)) → IsTrue b ↔ (s ≡ front ++ end)
+joined s front rest end b e h = (λ holds. e ∙ ap (λ x. front ++ x) (h.0 holds), λ x. h.1 (append_cancel_left front rest end (sym e ∙ x)))

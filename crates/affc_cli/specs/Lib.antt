@@ -1,6 +1,8 @@
 pub mod Symbols
 pub mod Text
 pub mod Copies
+pub mod Kept
+pub mod Parsed
 pub mod Command
 pub mod Outside
 pub mod Refusal

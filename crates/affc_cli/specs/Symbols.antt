@@ -1,5 +1,5 @@
 -- Tokens without their places.
-use Rattle.std.specs.Prelude.{◌≡◌, ◌≤◌, ℕ, List, length, map}
+use Rattle.std.specs.Prelude.{◌≡◌, ◌≤◌, ◌⊎◌, ℕ, Bool, true, false, List, length, map}
 use Rattle.affc_lex.specs.declared.token.Token.{Token}
 use Rattle.affc_lex.specs.Lexes.{Lexeme, Lexes}
 use Rattle.affc_ast.specs.Reads.{Symbol, symbol}
@@ -10,6 +10,10 @@ shown s = record { kind = s.0; bytes = s.1.now }
 
 abbrev pub all_shown : List CodeSymbol → List Symbol
 all_shown symbols = map shown symbols
+
+-- the list is the one or the other
+abbrev pub OneOf : List Symbol → (Bool → List Symbol) → Type 0
+OneOf symbols lists = (symbols ≡ lists true) ⊎ (symbols ≡ lists false)
 
 -- the token's place lies in the text
 pub record LiesIn (text : List ℕ) (token : Token) : Type 0 where

@@ -3,6 +3,9 @@
 
 mod copy_loop;
 mod fold;
+mod form;
+mod names;
+mod parse;
 mod print;
 mod refusal;
 mod serve;

@@ -25,9 +25,9 @@ pub fn symbols(alloc: Global, text: &[u8]) -> Result<Option<Vec<Symbol<'_>>>, Al
     let tokens = match lex(alloc, text) {
         Ok(tokens) => tokens,
         Err(LexFault::Memory) => return Err(AllocError),
-        Err(LexFault::BadByte(_) | LexFault::OpenComment(_) | LexFault::LongNumber(_)) => {
-            return Ok(None);
-        }
+        Err(LexFault::BadByte(_)) => return Ok(None),
+        Err(LexFault::OpenComment(_)) => return Ok(None),
+        Err(LexFault::LongNumber(_)) => return Ok(None),
     };
     let mut symbols = Vec::new(alloc);
     for token in &tokens {
@@ -53,9 +53,11 @@ fn is_same(a: &Symbol<'_>, b: &Symbol<'_>) -> bool
 }
 
 fn are_same(a: &[Symbol<'_>], b: &[Symbol<'_>]) -> bool
-    requires { length a.now ≡ length b.now }
     ensures { IsTrue result ↔ (all_shown a.now ≡ all_shown b.now) }
 {
+    if a.len() != b.len() {
+        return false;
+    }
     for (i, symbol) in a.iter().enumerate() {
         if !is_same(symbol, &b[i]) {
             return false;
@@ -75,4 +77,14 @@ pub fn after<'s, 'a>(symbols: &'s [Symbol<'a>], front: &[Symbol<'_>]) -> Option<
     }
     let (first, rest) = symbols.split_at(front.len());
     if are_same(first, front) { Some(rest) } else { None }
+}
+
+/// Whether these are the tokens of the one list and then those of the other.
+pub fn are_joined(symbols: &[Symbol<'_>], front: &[Symbol<'_>], end: &[Symbol<'_>]) -> bool
+    ensures { IsTrue result ↔ (all_shown symbols.now ≡ all_shown front.now ++ all_shown end.now) }
+{
+    match after(symbols, front) {
+        Some(rest) => are_same(rest, end),
+        None => false,
+    }
 }

@@ -15,3 +15,12 @@ returns c = record {
     c.deref-token-items.ensures.value c.loop-token-test.false c.loop-token.invariant;
   no_others = λ others lexes. c.in-Ok.ensures.only others lexes
 }
+
+pub returns-in-Err-BadByte : goal.returns-in-Err-BadByte
+returns-in-Err-BadByte c = record { none = λ ts lexes. let e = c.in-Err-BadByte.ensures.only ts lexes in cc }
+
+pub returns-in-Err-OpenComment : goal.returns-in-Err-OpenComment
+returns-in-Err-OpenComment c = record { none = λ ts lexes. let e = c.in-Err-OpenComment.ensures.only ts lexes in cc }
+
+pub returns-in-Err-LongNumber : goal.returns-in-Err-LongNumber
+returns-in-Err-LongNumber c = record { none = λ ts lexes. let e = c.in-Err-LongNumber.ensures.only ts lexes in cc }
