@@ -10,3 +10,4 @@ pub mod NameLemmas
 pub mod FormLemmas
 pub mod Hashes
 pub mod Found
+pub mod Folded

@@ -35,11 +35,11 @@ begins-symbols (a ∷ b ∷ []) = refl
 begins-symbols (a ∷ b ∷ c ∷ []) = refl
 begins-symbols (a ∷ b ∷ c ∷ d ∷ others) = refl
 
-or_left : (a b : Bool) → (a || b) ≡ false → a ≡ false
+pub or_left : (a b : Bool) → (a || b) ≡ false → a ≡ false
 or_left true b h = h
 or_left false b h = refl
 
-or_right : (a b : Bool) → (a || b) ≡ false → b ≡ false
+pub or_right : (a b : Bool) → (a || b) ≡ false → b ≡ false
 or_right true b h = cc
 or_right false b h = h
 

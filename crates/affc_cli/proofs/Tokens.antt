@@ -68,11 +68,16 @@ kept size zero (t ∷ ts) all =
     chosen false xs ys p q = q
 kept size (suc left) (t ∷ ts) all = kept size left ts all.1
 
+-- all tokens of the text, with those of the lines that are dropped
+pub all_tokens_of_text : (text : List ℕ) (ts : List Lexeme) (lexes : Lexes text ts) → AreTokens (length text) (tokens_from 0 lexes.pieces)
+all_tokens_of_text text ts lexes =
+    let fits : length (text_of lexes.pieces) ≡ length text = ap length (sym lexes.spelled) in
+    tokens_of_pieces (length text) 0 Fresh lexes.pieces [] lexes.standing (omega arith)
+
 pub tokens_of_text : (text : List ℕ) (ts : List Lexeme) → Lexes text ts → AreTokens (length text) ts
 tokens_of_text text ts lexes =
-    let fits : length (text_of lexes.pieces) ≡ length text = ap length (sym lexes.spelled) in
     let P : List Lexeme → Type 0 = λ x. AreTokens (length text) x in
-    subst P (sym lexes.its_tokens) (kept (length text) 0 (tokens_from 0 lexes.pieces) (tokens_of_pieces (length text) 0 Fresh lexes.pieces [] lexes.standing (omega arith)))
+    subst P (sym lexes.its_tokens) (kept (length text) 0 (tokens_from 0 lexes.pieces) (all_tokens_of_text text ts lexes))
 
 pub lies_in_at : (text : List ℕ) (items : List Token) (i : ℕ) (d : Token) → AreTokens (length text) (lexemes text items)
     → i < length items → LiesIn text (get_or items i d)
