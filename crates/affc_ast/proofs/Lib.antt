@@ -7,3 +7,4 @@ pub mod OneTree
 pub mod FitProofs
 pub mod Readings
 pub mod TurnProofs
+pub mod CopyText

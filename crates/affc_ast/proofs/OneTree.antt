@@ -1,6 +1,7 @@
 -- Tokens are those of one program at most.
 use Rattle.std.proofs.Common.{◌≡◌, ℕ, zero, suc, Bool, List, [], ◌∷◌, map, sym, ap, ◌∙◌}
 use Rattle.affc_lex.specs.Bytes.{decimal}
+use Rattle.affc_lex.proofs.Exact.{one_list}
 use Rattle.affc_ast.specs.declared.tree.Program.{Program}
 use Rattle.affc_ast.specs.CopyLoop.{CopyLoop, copy_tree}
 use Rattle.affc_ast.specs.Reads.{Symbol, symbol, include_line, param_line, function_line, for_line, copy_symbols, ReadsWide}
@@ -62,3 +63,7 @@ one_tree text a b first second same =
     ∙ ap copy_tree (same_copy first.copy second.copy first.low first.high second.low second.high first.braces second.braces
     (sym first.spelled ∙ ap (map symbol) same ∙ second.spelled) first.is_low first.is_high second.is_low second.is_high)
     ∙ sym second.tree
+
+-- two readings of one text
+pub one_program : (text : List ℕ) (a b : Program) → ReadsWide text a → ReadsWide text b → a ≡ b
+one_program text a b first second = one_tree text a b first second (one_list text first.tokens second.tokens first.its_tokens second.its_tokens)

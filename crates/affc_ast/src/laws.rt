@@ -11,7 +11,7 @@ ghost use Rattle.affc_ast.specs.Fits.{whole_of};
 ghost use Rattle.affc_ast.specs.Follows.{elements, in_source_order, own_place};
 ghost use Rattle.affc_ast.specs.Index.{index_value};
 ghost use Rattle.affc_ast.specs.Meaning.{State, Ended, meaning, turns_of};
-ghost use Rattle.affc_ast.specs.Reads.{HasRange};
+ghost use Rattle.affc_ast.specs.Reads.{HasRange, ReadsWide};
 ghost use Rattle.affc_ast.specs.Store.{Element, Store, element_cmp, at, with_value};
 ghost use Rattle.affc_ast.specs.Trace.{trace, store_of};
 
@@ -23,9 +23,11 @@ pub fn readings_agree()
 
 /// A loop makes a turn as long as its condition holds, and then none.
 pub fn loops_turn_while_their_condition_holds()
-    ensures below { (x high : ℤ) → x <ℤ high → turns_of Less x high ≡ suc (turns_of Less (x +ℤ pos 1) high) }
+    ensures below { (x high : ℤ) → x <ℤ high
+        → turns_of Less x high ≡ suc (turns_of Less (x +ℤ pos 1) high) }
     ensures end_below { (x high : ℤ) → high ≤ℤ x → turns_of Less x high ≡ 0 }
-    ensures up_to { (x high : ℤ) → x ≤ℤ high → turns_of LessEqual x high ≡ suc (turns_of LessEqual (x +ℤ pos 1) high) }
+    ensures up_to { (x high : ℤ) → x ≤ℤ high
+        → turns_of LessEqual x high ≡ suc (turns_of LessEqual (x +ℤ pos 1) high) }
     ensures end_up_to { (x high : ℤ) → high <ℤ x → turns_of LessEqual x high ≡ 0 }
 {}
 
@@ -33,7 +35,8 @@ pub fn loops_turn_while_their_condition_holds()
 /// elements stay in order, and two stores in order with the same values are one.
 pub fn stores_are_maps()
     ensures stored { (store : Store) (x : Element) (v : ℕ) → at (with_value store x v) x ≡ Some v }
-    ensures others { (store : Store) (x y : Element) (v : ℕ) → (x ≡ y → ⊥) → at (with_value store x v) y ≡ at store y }
+    ensures others { (store : Store) (x y : Element) (v : ℕ) → (x ≡ y → ⊥)
+        → at (with_value store x v) y ≡ at store y }
     ensures in_order { (store : Store) (x : Element) (v : ℕ) → IsTrue (is_sorted element_cmp store)
         → IsTrue (is_sorted element_cmp (with_value store x v)) }
     ensures one { (a b : Store) → IsTrue (is_sorted element_cmp a) → IsTrue (is_sorted element_cmp b)
@@ -52,4 +55,9 @@ pub fn a_run_is_its_own()
 pub fn copy_loops_compile_themselves()
     ensures { (copy : CopyLoop) → HasRange copy
         → Compiles (copy_tree copy) (copy_tree copy) (λ p. in_source_order) (λ p. own_place) }
+{}
+
+/// One text reads as one program at most.
+pub fn a_text_reads_as_one_program()
+    ensures { (text : List ℕ) (a b : Program) → ReadsWide text a → ReadsWide text b → a ≡ b }
 {}

@@ -1,11 +1,11 @@
 -- What files in memory hold after one of them changes.
-use Rattle.std.proofs.Common.{◌≡◌, ◌≢◌, ◌<◌, ◌≤◌, ◌+◌, ◌++◌, Result, Ok, Err, IfOk, ℕ, zero, suc, List, [], ◌∷◌, Option, None, Some, Bool, true, false, cond, length, take, get_or, Vec, String, string_bytes, refl, sym, ap, ◌∙◌, subst, arith, add-one, inl}
+use Rattle.std.proofs.Common.{◌≡◌, ◌≢◌, ◌<◌, ◌≤◌, ◌+◌, ◌++◌, Result, Ok, Err, IfOk, ℕ, zero, suc, List, [], ◌∷◌, Option, None, Some, Bool, true, false, cond, length, take, get_or, Vec, String, string_bytes, refl, sym, ap, ◌∙◌, subst, arith, add-one}
 use Rattle.std.proofs.Math.ListN.{set}
 use Rattle.std.specs.Str.{bytes_eq}
 use Rattle.std.specs.declared.alloc.Global.{Global}
 use Rattle.std.proofs.lemmas.Slice.Eq.{bytes_eq-Decides}
 use Rattle.affc_io.specs.Memory.{NamedFile, held_in, IsFirst}
-use Rattle.affc_io.specs.Files.{IsLeft}
+use Rattle.affc_io.specs.Parts.{emptied}
 
 same_name : (xs ys : List ℕ) → xs ≡ ys → bytes_eq xs ys ≡ true
 same_name xs ys e = (bytes_eq-Decides xs ys).1 e
@@ -99,14 +99,18 @@ not_name text name own b e fails same h =
 -- the first file with the name has other bytes now
 pub record Refilled (files : List NamedFile) (i : ℕ) (name : List ℕ) (file : NamedFile) (v : Vec ℕ Global) : Type 0 where
   pub at_name : held_in (set files i (file.0, v)) name ≡ Some v.items
+  pub if_empty : v.items ≡ [] → held_in (set files i (file.0, v)) name ≡ emptied (held_in files name)
   pub others : (other : List ℕ) → other ≢ name → held_in (set files i (file.0, v)) other ≡ held_in files other
 
 refilled_at : (files : List NamedFile) (i : ℕ) (name : List ℕ) (file : NamedFile) (v : Vec ℕ Global)
     → IsFirst files i name → file ≡ get_or files i file → Refilled files i name file v
 refilled_at files i name file v first is =
-    let named : string_bytes file.0 ≡ name = ap (λ f. string_bytes f.0) is ∙ first.named file
+    let named : string_bytes file.0 ≡ name = ap (λ f. string_bytes f.0) is ∙ first.named file in
+    let held : held_in (set files i (file.0, v)) name ≡ Some v.items =
+    set-held files i name file.0 v first.placed first.before named
     in record {
-      at_name = set-held files i name file.0 v first.placed first.before named;
+      at_name = held;
+      if_empty = λ e. held ∙ ap Some e ∙ sym (ap emptied (first-held files i name file first.placed first.before (first.named file)));
       others = λ other ne. set-other files i name other file.0 v file (first.named file) named ne;
     }
 
@@ -114,11 +118,6 @@ pub refilled : (slice files : List NamedFile) (i : ℕ) (name : List ℕ) (file 
     → slice ≡ files → IsFirst slice i name → file ≡ get_or files i file → Refilled files i name file v
 refilled slice files i name file v e first is =
     let P : List NamedFile → Type 0 = λ s. IsFirst s i name in refilled_at files i name file v (subst P e first) is
-
--- nothing of the bytes is a front of them
-pub left_empty : {files : List NamedFile} {i : ℕ} {name : List ℕ} {file : NamedFile} {v : Vec ℕ Global} (bytes : List ℕ)
-    → Refilled files i name file v → v.items ≡ [] → IsLeft (Some (held_in files)) (Some (held_in (set files i (file.0, v)))) name bytes
-left_empty bytes r e = inl ([], (r.at_name ∙ ap Some e, (bytes, refl)))
 
 -- a file more, of a name that wasn't held
 pub record Pushed (files new : List NamedFile) (name bytes : List ℕ) : Type 0 where

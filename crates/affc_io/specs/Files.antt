@@ -27,10 +27,6 @@ abbrev pub TooLong : Option Files → List ℕ → ℕ → ℕ → Type 0
 TooLong None name before now = Rose before now
 TooLong (Some files) name before now = (bytes : List ℕ) × ((files name ≡ Some bytes) × (LONGEST_READ < length bytes))
 
--- the count stays, where the folder tells what it holds
-abbrev pub StaysWhereTold : Option Files → ℕ → ℕ → Type 0
-StaysWhereTold held before now = IfSome held (λ _. now ≡ before)
-
 -- After a write that failed, the name holds a front of the bytes, or isn't held, as before.
 abbrev pub IsLeft : Option Files → Option Files → List ℕ → List ℕ → Type 0
 IsLeft old None name bytes = Unit {0}

@@ -1,5 +1,6 @@
--- What the folder and the sinks in memory keep.
-use Rattle.std.specs.Prelude.{ℕ, List}
+-- What the folder and the sinks in memory keep, and what their calls do with it.
+use Rattle.std.specs.Prelude.{ℕ, List, [], ◌==◌, Bool, min, Option, None, Some, if◌then◌else◌}
+use Rattle.std.specs.List.{list_any}
 use Rattle.affc_io.specs.Memory.{NamedFile}
 use Rattle.affc_io.specs.declared.memory.MemFolder.{MemFolder}
 use Rattle.affc_io.specs.declared.memory.MemSink.{MemSink}
@@ -17,6 +18,12 @@ folder_fails folder = folder.fails.items
 abbrev pub folder_calls : MemFolder → ℕ
 folder_calls folder = folder.calls
 
+abbrev pub folder_faults : MemFolder → ℕ
+folder_faults folder = folder.faults
+
+abbrev pub folder_shortages : MemFolder → ℕ
+folder_shortages folder = folder.shortages
+
 -- the bytes taken so far
 abbrev pub mem_bytes : MemSink → List ℕ
 mem_bytes sink = sink.bytes.items
@@ -33,6 +40,28 @@ mem_fails sink = sink.fails.items
 abbrev pub mem_calls : MemSink → ℕ
 mem_calls sink = sink.calls
 
+abbrev pub mem_faults : MemSink → ℕ
+mem_faults sink = sink.faults
+
+abbrev pub mem_shortages : MemSink → ℕ
+mem_shortages sink = sink.shortages
+
 -- the bytes taken so far
 abbrev pub sure_bytes : SureSink → List ℕ
 sure_bytes sink = sink.bytes.items
+
+abbrev pub sure_shortages : SureSink → ℕ
+sure_shortages sink = sink.shortages
+
+-- the call with this number is one of those that fail
+abbrev pub is_listed : List ℕ → ℕ → Bool
+is_listed fails call = list_any (λ listed. listed == call) fails
+
+-- how many of so many bytes the write with this number takes: of the first at most `first`, of the others all
+abbrev pub share_of : ℕ → ℕ → ℕ → ℕ
+share_of first call len = if call == 0 then min len first else len
+
+-- a file that is there is empty, and none is made
+abbrev pub emptied : Option (List ℕ) → Option (List ℕ)
+emptied None = None
+emptied (Some bytes) = Some []

@@ -1,7 +1,7 @@
 // A folder of named files.
 ghost use Rattle.std.specs.Prelude.{◌≡◌, ◌≢◌, ◌≤◌, List, ℕ, Option, length, is_some, IfOk, IfErr, OnOk, IsErrOf};
-ghost use Rattle.affc_io.specs.Count.{Rose};
-ghost use Rattle.affc_io.specs.Files.{Files, held_under, NotHeld, Holds, TooLong, StaysWhereTold, IsLeft};
+ghost use Rattle.affc_io.specs.Count.{Rose, StaysWhereTold};
+ghost use Rattle.affc_io.specs.Files.{Files, held_under, NotHeld, Holds, TooLong, IsLeft};
 
 use std::alloc::Global;
 use thiserror::Error;

@@ -1,9 +1,14 @@
-// A folder and two sinks in memory, which tell all that they hold.
-ghost use Rattle.std.specs.Prelude.{◌≡◌, [], Some};
+// A folder and two sinks in memory, which tell all that they hold. Their calls say exactly what they do.
+ghost use Rattle.std.specs.Prelude.{◌≡◌, ◌≢◌, ◌≤◌, ◌↔◌, ◌++◌, [], Some, None, List, ℕ, IfOk, IfErr, OnOk, IsErrOf, IsTrue, length};
+ghost use Rattle.affc_io.specs.Answers.{read_failed, read_short, write_failed, write_short, sink_failed, sink_short};
+ghost use Rattle.affc_io.specs.Count.{raised, counted};
+ghost use Rattle.affc_io.specs.Files.{TooLong};
 ghost use Rattle.affc_io.specs.Memory.{held_in};
+ghost use Rattle.affc_io.specs.Parts.{folder_files, folder_fails, folder_calls, folder_faults, folder_shortages, mem_bytes, mem_first, mem_fails, mem_calls, mem_faults, mem_shortages, sure_bytes, sure_shortages, is_listed, share_of, emptied};
+ghost use Rattle.affc_io.specs.Taken.{taken_of};
 
 use crate::files::{NamedFile, empty, fetch, store};
-use crate::{Folder, ReadFault, Sink, SinkFault, WriteFault};
+use crate::{Folder, LONGEST_READ, ReadFault, Sink, SinkFault, WriteFault};
 use std::alloc::Global;
 
 /// Files in memory. The calls whose numbers are listed fail, from 0.
@@ -17,16 +22,13 @@ pub struct MemFolder {
 }
 
 impl MemFolder {
-    ghost use Rattle.affc_io.specs.Parts.{folder_files, folder_fails, folder_calls};
-
     /// Of files with the same name the first counts.
     pub fn new(files: Vec<(String, Vec<u8>)>, fails: Vec<u64>) -> MemFolder
         ensures files { folder_files result ≡ files.items }
-        ensures held { ⟦<MemFolder as Folder>⟧.held result ≡ Some (held_in files.items) }
         ensures fails { folder_fails result ≡ fails.items }
         ensures calls { folder_calls result ≡ 0 }
-        ensures faults { ⟦<MemFolder as Folder>⟧.faults result ≡ 0 }
-        ensures shortages { ⟦<MemFolder as Folder>⟧.shortages result ≡ 0 }
+        ensures faults { folder_faults result ≡ 0 }
+        ensures shortages { folder_shortages result ≡ 0 }
     {
         MemFolder {
             files,
@@ -46,14 +48,25 @@ impl MemFolder {
 }
 
 impl Folder for MemFolder {
-    ghost held = { λ f. Some (held_in f.files.items) };
+    ghost held = { λ folder. Some (held_in (folder_files folder)) };
 
-    ghost faults = { λ f. f.faults };
+    ghost faults = { folder_faults };
 
-    ghost shortages = { λ f. f.shortages };
+    ghost shortages = { folder_shortages };
 
-    fn read(&mut self, alloc: Global, name: &str) -> Result<Vec<u8>, ReadFault> {
-        if is_listed(&self.fails, &mut self.calls) {
+    fn read(&mut self, alloc: Global, name: &str) -> Result<Vec<u8>, ReadFault>
+        ensures failed { IsErrOf result ReadFault.Failed ↔ IsTrue (is_listed (folder_fails self.old) (folder_calls self.old)) }
+        ensures ok { IfOk result (λ bytes. held_in (folder_files self.old) name.now ≡ Some bytes.items) }
+        ensures fits { IfOk result (λ bytes. length bytes.items ≤ LONGEST_READ) }
+        ensures missing { IsErrOf result ReadFault.Missing → held_in (folder_files self.old) name.now ≡ None }
+        ensures long { IsErrOf result ReadFault.Long → TooLong (Some (held_in (folder_files self.old))) name.now 0 0 }
+        ensures files { folder_files self.new ≡ folder_files self.old }
+        ensures fails { folder_fails self.new ≡ folder_fails self.old }
+        ensures calls { folder_calls self.new ≡ raised (folder_calls self.old) }
+        ensures faults { folder_faults self.new ≡ counted (read_failed result) (folder_faults self.old) }
+        ensures shortages { folder_shortages self.new ≡ counted (read_short result) (folder_shortages self.old) }
+    {
+        if next_fails(&self.fails, &mut self.calls) {
             self.faults = self.faults.saturating_add(1);
             return Err(ReadFault::Failed);
         }
@@ -64,8 +77,18 @@ impl Folder for MemFolder {
         answer
     }
 
-    fn write(&mut self, name: &str, bytes: &[u8]) -> Result<(), WriteFault> {
-        if is_listed(&self.fails, &mut self.calls) {
+    fn write(&mut self, name: &str, bytes: &[u8]) -> Result<(), WriteFault>
+        ensures failed { IsErrOf result WriteFault.Failed ↔ IsTrue (is_listed (folder_fails self.old) (folder_calls self.old)) }
+        ensures ok { OnOk result (held_in (folder_files self.new) name.now ≡ Some bytes.now) }
+        ensures err { IfErr result (λ _. held_in (folder_files self.new) name.now ≡ emptied (held_in (folder_files self.old) name.now)) }
+        ensures others { (other : List ℕ) → other ≢ name.now →
+            held_in (folder_files self.new) other ≡ held_in (folder_files self.old) other }
+        ensures fails { folder_fails self.new ≡ folder_fails self.old }
+        ensures calls { folder_calls self.new ≡ raised (folder_calls self.old) }
+        ensures faults { folder_faults self.new ≡ counted (write_failed result) (folder_faults self.old) }
+        ensures shortages { folder_shortages self.new ≡ counted (write_short result) (folder_shortages self.old) }
+    {
+        if next_fails(&self.fails, &mut self.calls) {
             self.faults = self.faults.saturating_add(1);
             empty(&mut self.files, name);
             return Err(WriteFault::Failed);
@@ -76,6 +99,16 @@ impl Folder for MemFolder {
         }
         Ok(())
     }
+}
+
+// Whether this call is listed. The next call has the next number.
+fn next_fails(fails: &[u64], calls: &mut u64) -> bool
+    ensures listed { result ≡ is_listed fails.now calls.old }
+    ensures calls { calls.new ≡ raised calls.old }
+{
+    let listed = fails.contains(calls);
+    *calls = calls.saturating_add(1);
+    listed
 }
 
 /// Takes at most `first` bytes in its first write, then any number. The calls whose numbers are listed fail, from 0.
@@ -90,16 +123,13 @@ pub struct MemSink {
 }
 
 impl MemSink {
-    ghost use Rattle.affc_io.specs.Parts.{mem_bytes, mem_first, mem_fails, mem_calls};
-
     pub fn new(alloc: Global, first: usize, fails: Vec<u64>) -> MemSink
         ensures bytes { mem_bytes result ≡ [] }
-        ensures taken { ⟦<MemSink as Sink>⟧.taken result ≡ Some [] }
         ensures first { mem_first result ≡ first }
         ensures fails { mem_fails result ≡ fails.items }
         ensures calls { mem_calls result ≡ 0 }
-        ensures faults { ⟦<MemSink as Sink>⟧.faults result ≡ 0 }
-        ensures shortages { ⟦<MemSink as Sink>⟧.shortages result ≡ 0 }
+        ensures faults { mem_faults result ≡ 0 }
+        ensures shortages { mem_shortages result ≡ 0 }
     {
         MemSink {
             bytes: Vec::new(alloc),
@@ -119,36 +149,40 @@ impl MemSink {
     }
 }
 
-// Whether this call is listed. The next call has the next number.
-pub(crate) fn is_listed(fails: &[u64], calls: &mut u64) -> bool {
-    let listed = fails.contains(calls);
-    *calls = calls.saturating_add(1);
-    listed
+// How many bytes of so many the write with this number takes.
+fn share(first: usize, call: u64, len: usize) -> usize
+    ensures { result ≡ share_of first call len }
+{
+    if call == 0 { len.min(first) } else { len }
 }
 
 impl Sink for MemSink {
-    ghost taken = { λ s. Some s.bytes.items };
+    ghost taken = { λ sink. Some (mem_bytes sink) };
 
-    ghost faults = { λ s. s.faults };
+    ghost faults = { mem_faults };
 
-    ghost shortages = { λ s. s.shortages };
+    ghost shortages = { mem_shortages };
 
-    fn write(&mut self, bytes: &[u8]) -> Result<usize, SinkFault> {
-        let is_first = self.calls == 0;
-        if is_listed(&self.fails, &mut self.calls) {
+    fn write(&mut self, bytes: &[u8]) -> Result<usize, SinkFault>
+        ensures failed { IsErrOf result SinkFault.Failed ↔ IsTrue (is_listed (mem_fails self.old) (mem_calls self.old)) }
+        ensures count { IfOk result (λ n. n ≡ share_of (mem_first self.old) (mem_calls self.old) (length bytes.now)) }
+        ensures bytes { mem_bytes self.new ≡ mem_bytes self.old ++ taken_of result bytes.now }
+        ensures first { mem_first self.new ≡ mem_first self.old }
+        ensures fails { mem_fails self.new ≡ mem_fails self.old }
+        ensures calls { mem_calls self.new ≡ raised (mem_calls self.old) }
+        ensures faults { mem_faults self.new ≡ counted (sink_failed result bytes.now) (mem_faults self.old) }
+        ensures shortages { mem_shortages self.new ≡ counted (sink_short result) (mem_shortages self.old) }
+    {
+        let count = share(self.first, self.calls, bytes.len());
+        if next_fails(&self.fails, &mut self.calls) {
             self.faults = self.faults.saturating_add(1);
             return Err(SinkFault::Failed);
         }
-        let count = if is_first {
-            bytes.len().min(self.first)
-        } else {
-            bytes.len()
-        };
         if self.bytes.extend_from_slice(&bytes[..count]).is_err() {
             self.shortages = self.shortages.saturating_add(1);
             return Err(SinkFault::Memory);
         }
-        if count == 0 {
+        if count == 0 && !bytes.is_empty() {
             self.faults = self.faults.saturating_add(1);
         }
         Ok(count)
@@ -163,12 +197,9 @@ pub struct SureSink {
 }
 
 impl SureSink {
-    ghost use Rattle.affc_io.specs.Parts.{sure_bytes};
-
     pub fn new(alloc: Global) -> SureSink
         ensures bytes { sure_bytes result ≡ [] }
-        ensures taken { ⟦<SureSink as Sink>⟧.taken result ≡ Some [] }
-        ensures shortages { ⟦<SureSink as Sink>⟧.shortages result ≡ 0 }
+        ensures shortages { sure_shortages result ≡ 0 }
     {
         SureSink {
             bytes: Vec::new(alloc),
@@ -185,13 +216,18 @@ impl SureSink {
 }
 
 impl Sink for SureSink {
-    ghost taken = { λ s. Some s.bytes.items };
+    ghost taken = { λ sink. Some (sure_bytes sink) };
 
     ghost faults = { λ _. 0 };
 
-    ghost shortages = { λ s. s.shortages };
+    ghost shortages = { sure_shortages };
 
-    fn write(&mut self, bytes: &[u8]) -> Result<usize, SinkFault> {
+    fn write(&mut self, bytes: &[u8]) -> Result<usize, SinkFault>
+        ensures whole { IfOk result (λ n. n ≡ length bytes.now) }
+        ensures bytes { sure_bytes self.new ≡ sure_bytes self.old ++ taken_of result bytes.now }
+        ensures memory { IfErr result (λ fault. fault ≡ SinkFault.Memory) }
+        ensures shortages { sure_shortages self.new ≡ counted (sink_short result) (sure_shortages self.old) }
+    {
         if self.bytes.extend_from_slice(bytes).is_err() {
             self.shortages = self.shortages.saturating_add(1);
             return Err(SinkFault::Memory);

@@ -1,6 +1,7 @@
 // A sink for bytes.
-ghost use Rattle.std.specs.Prelude.{◌≡◌, ◌≢◌, ◌≤◌, ◌<◌, ◌+◌, ◌++◌, List, ℕ, Option, length, take, drop, IfOk, IsErrOf};
-ghost use Rattle.affc_io.specs.Count.{Rose};
+ghost use Rattle.std.specs.Prelude.{◌≡◌, ◌≢◌, ◌≤◌, ◌<◌, ◌+◌, ◌++◌, List, ℕ, Option, length, take, drop, IfOk, IsErrOf, IsFalse};
+ghost use Rattle.affc_io.specs.Answers.{sink_failed};
+ghost use Rattle.affc_io.specs.Count.{Rose, StaysWhereTold};
 ghost use Rattle.affc_io.specs.Front.{IsFront};
 ghost use Rattle.affc_io.specs.Taken.{grown, taken_of};
 
@@ -35,7 +36,10 @@ pub trait Sink {
         ensures stalled { IfOk result (λ n. n ≡ 0 → 0 < length bytes.now → Rose (faults self.old) (faults self.new)) }
         ensures failed { IsErrOf result SinkFault.Failed → Rose (faults self.old) (faults self.new) }
         ensures memory { IsErrOf result SinkFault.Memory → Rose (shortages self.old) (shortages self.new) }
-        // no shortage is counted but the calls that answered it
+        // a sink that tells counts no fault but the calls that failed or took none of a piece that isn't empty
+        ensures settled { IsFalse (sink_failed result bytes.now) →
+            StaysWhereTold (taken self.old) (faults self.old) (faults self.new) }
+        // and no shortage is counted but the calls that answered it
         ensures ample { result ≢ Err SinkFault.Memory → shortages self.new ≡ shortages self.old };
 }
 
@@ -48,5 +52,4 @@ pub fn pieces_join()
     ensures front { (bytes : List ℕ) → (n : ℕ) → IsFront bytes (take n bytes) }
     ensures front_within { (bytes more front : List ℕ) → IsFront bytes front → IsFront (bytes ++ more) front }
     ensures front_after { (before bytes front : List ℕ) → IsFront bytes front → IsFront (before ++ bytes) (before ++ front) }
-{
-}
+{}

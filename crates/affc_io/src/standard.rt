@@ -110,8 +110,10 @@ impl<P: Print> Sink for StdSink<P> {
 
     fn write(&mut self, bytes: &[u8]) -> Result<usize, SinkFault> {
         let answer = self.stream.write_some(bytes).map_err(|_| SinkFault::Failed);
-        if let Err(_) | Ok(0) = answer {
-            self.faults = self.faults.saturating_add(1);
+        match answer {
+            Ok(0) if bytes.is_empty() => {}
+            Ok(0) | Err(_) => self.faults = self.faults.saturating_add(1),
+            Ok(_) => {}
         }
         answer
     }

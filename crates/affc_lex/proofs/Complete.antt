@@ -1,26 +1,24 @@
 -- What stands is what `read` answers, whatever the text goes on with.
-use Rattle.std.proofs.Common.{◌≡◌, ◌⊎◌, inl, inr, ⊎_elim, ℕ, zero, suc, ◌+◌, ◌<◌, ◌≤◌, ◌^◌, Bool, true, false, not, ◌&&◌, ◌||◌, ◌==◌, cond, List, [], ◌∷◌, ◌++◌, length, take, drop, Option, Some, None, codes, refl, sym, ap, ◌∙◌, subst, arith, append_assoc}
+use Rattle.std.proofs.Common.{◌≡◌, ◌⊎◌, inl, inr, ⊎_elim, ℕ, suc, ◌+◌, ◌<◌, ◌≤◌, ◌^◌, true, false, not, ◌&&◌, ◌||◌, ◌==◌, List, [], ◌∷◌, ◌++◌, length, take, drop, Option, Some, None, codes, refl, sym, ap, ◌∙◌, subst, arith, append_assoc}
 use Rattle.std.specs.List.{list_all, prefix_len}
 use Rattle.std.specs.Option.{is_some}
-use Rattle.std.proofs.lemmas.List.{take_at, drop_at, take-append-drop, length-append}
-use Rattle.std.proofs.lemmas.Bool.{and_parts, and_from, and_left, or_left, or_right, or_cases, or_parts, cond-true, cond-false, eqb-true, eqb-false, ne_eqb, false≢true, true≢false, not-true, not_from_true, not_from_false, ltb-true, ltb-false, false_from_ne_true}
-use Rattle.affc_lex.specs.declared.token.Kind.{Kind}
+use Rattle.std.proofs.lemmas.List.{take_at, length-append}
+use Rattle.std.proofs.lemmas.Bool.{and_parts, and_from, or_left, or_right, or_cases, or_parts, cond-true, cond-false, eqb-true, eqb-false, ne_eqb, false≢true, true≢false, not-true, false_from_ne_true}
 use Rattle.affc_lex.specs.declared.token.Kind.TheVariants.{Word, Number, Value, Header, Hash, LineEnd, Prelude, Mark}
 use Rattle.affc_lex.specs.declared.piece.What.{What}
 use Rattle.affc_lex.specs.declared.piece.What.TheVariants.{Space, Comment, Token}
 use Rattle.affc_lex.specs.declared.piece.Spot.{Spot}
-use Rattle.affc_lex.specs.declared.piece.Found.{Found}
 use Rattle.affc_lex.specs.declared.piece.Found.TheVariants.{Piece, Bad, Open, Long}
-use Rattle.affc_lex.specs.Bytes.{is_digit, is_letter, is_letter_or_digit, is_line_feed, is_space, among, same, begins, next_is, contains, ends_at_first, decimal}
+use Rattle.affc_lex.specs.Bytes.{is_digit, is_letter, is_letter_or_digit, is_line_feed, is_space, among, same, begins, next_is, ends_at_first, decimal}
 use Rattle.affc_lex.specs.Pieces.{stands, is_line_comment, is_block_comment, is_number, is_value, is_small, is_mark, is_word, is_header, is_fresh, is_on_directive, leading_digits, prelude, header_begins, longer_mark, is_after_include}
 use Rattle.affc_lex.specs.Faults.{piece_begins, is_longest_literal}
-use Rattle.affc_lex.specs.Reading.{read, space, comment, block_comment, word, number_length, literal, literal_of, hash, mark, mark_of, mark_length, one_byte_mark, two_byte_mark, three_byte_mark, header_at, first_place, other_than_line_feed}
+use Rattle.affc_lex.specs.Reading.{read, comment, block_comment, number_length, literal_of, mark, mark_of, mark_length, two_byte_mark, three_byte_mark, header_at, first_place, other_than_line_feed}
 use Rattle.affc_lex.proofs.ByteClasses.{all_marks, begins_mark, pairs_begin, doubles_begin, triples_begin}
-use Rattle.affc_lex.proofs.Lists.{by_test, same_is, same_refl, begins_take, begins_within, begins_splits, begins_append, run_at, run_stops, ends_placed, contains_is}
+use Rattle.affc_lex.proofs.Lists.{by_test, same_is, begins_splits, begins_append, run_at, ends_placed, contains_is}
 use Rattle.affc_lex.proofs.Literals.{number_digits, value_is, length_at, next_word_digit, suffix_goes_on, literal_small, literal_long, found_number, found_value, stuck_number, stuck_value, long_front}
 use Rattle.affc_lex.proofs.Headers.{header_at_is, header_at_found}
-use Rattle.affc_lex.proofs.FirstBytes.{read_space, read_slash, read_letter, read_digit, read_hash, read_other, read_mark}
-use Rattle.affc_lex.proofs.FoundAt.{OpensHere, LongHere}
+use Rattle.affc_lex.proofs.FirstBytes.{read_space, read_letter, read_digit, read_other, read_mark}
+use Rattle.affc_lex.specs.FoundAt.{OpensHere, LongHere}
 
 -- Spaces and comments
 
@@ -242,6 +240,7 @@ no_mark spot b bs none =
     no_three [] = refl
     no_three (c ∷ []) = refl
     no_three (c ∷ d ∷ cs) = false_from_ne_true _ (λ h. false≢true (sym none ∙ first_of_mark b (c ∷ d ∷ []) h))
+
     no_two : (cs : List ℕ) → two_byte_mark (b ∷ cs) ≡ false
     no_two [] = refl
     no_two (c ∷ cs) = false_from_ne_true _ (λ h. false≢true (sym none ∙ first_of_mark b (c ∷ []) h))
@@ -257,14 +256,14 @@ complete_nothing spot b bs e =
     let one = or_parts (next_is is_space text) (begins (codes "//") text) two.0 in
     by_test (b == 47)
     (λ slash.
-        let b_is = eqb-true b 47 slash in
-        ap (λ x. read spot (x ∷ bs)) b_is ∙ no_comment bs (subst (λ x. begins (codes "//") (x ∷ bs) ≡ false) b_is one.1) (subst (λ x. begins (codes "/*") (x ∷ bs) ≡ false) b_is two.1))
+    let b_is = eqb-true b 47 slash in
+    ap (λ x. read spot (x ∷ bs)) b_is ∙ no_comment bs (subst (λ x. begins (codes "//") (x ∷ bs) ≡ false) b_is one.1) (subst (λ x. begins (codes "/*") (x ∷ bs) ≡ false) b_is two.1))
     (λ no_slash.
-        by_test (b == 35)
-        (λ is_hash.
-            let b_is = eqb-true b 35 is_hash in
-            ap (λ x. read spot (x ∷ bs)) b_is ∙ cond-false _ _ _ (subst (λ x. (begins (codes "#") (x ∷ bs) && is_fresh spot) ≡ false) b_is six.1))
-        (λ no_hash. read_other spot b bs one.0 no_slash three.1 four.1 no_hash ∙ no_mark spot b bs five.1))
+    by_test (b == 35)
+    (λ is_hash.
+    let b_is = eqb-true b 35 is_hash in
+    ap (λ x. read spot (x ∷ bs)) b_is ∙ cond-false _ _ _ (subst (λ x. (begins (codes "#") (x ∷ bs) && is_fresh spot) ≡ false) b_is six.1))
+    (λ no_hash. read_other spot b bs one.0 no_slash three.1 four.1 no_hash ∙ no_mark spot b bs five.1))
 
 -- a number or value with a letter, digit or `_` behind it: what `read` answers, also where the number is too large
 abbrev pub StuckOr : Spot → List ℕ → ℕ → Type 0
@@ -290,15 +289,15 @@ pub complete_stuck : (spot : Spot) (bytes after : List ℕ) → is_longest_liter
 complete_stuck spot bytes after longest stuck =
     ⊎_elim
     (λ value.
-        let parts = value_is bytes value in
-        let ds = leading_digits bytes in
-        let whole : bytes ++ after ≡ ds ++ (codes "ULL" ++ after) = ap (λ zs. zs ++ after) parts.1 ∙ append_assoc ds (codes "ULL") after in
-        let long : length ds + 3 ≡ length bytes = sym (ap length parts.1 ∙ length-append ds (codes "ULL")) in
-        subst (λ zs. StuckOr spot zs (length bytes)) (sym whole) (subst (StuckOr spot (ds ++ (codes "ULL" ++ after))) long (stuck_value_of spot ds after parts.0 stuck)))
+    let parts = value_is bytes value in
+    let ds = leading_digits bytes in
+    let whole : bytes ++ after ≡ ds ++ (codes "ULL" ++ after) = ap (λ zs. zs ++ after) parts.1 ∙ append_assoc ds (codes "ULL") after in
+    let long : length ds + 3 ≡ length bytes = sym (ap length parts.1 ∙ length-append ds (codes "ULL")) in
+    subst (λ zs. StuckOr spot zs (length bytes)) (sym whole) (subst (StuckOr spot (ds ++ (codes "ULL" ++ after))) long (stuck_value_of spot ds after parts.0 stuck)))
     (λ number.
-        let parts = and_parts (is_number bytes && not (begins (codes "ULL") after)) (same bytes (codes "0") || not (next_is is_digit after)) number in
-        let front = and_parts (is_number bytes) (not (begins (codes "ULL") after)) parts.0 in
-        stuck_number_of spot bytes after front.0 (not-true _ front.1) parts.1 stuck)
+    let parts = and_parts (is_number bytes && not (begins (codes "ULL") after)) (same bytes (codes "0") || not (next_is is_digit after)) number in
+    let front = and_parts (is_number bytes) (not (begins (codes "ULL") after)) parts.0 in
+    stuck_number_of spot bytes after front.0 (not-true _ front.1) parts.1 stuck)
     (or_cases (is_value bytes) (is_number bytes && not (begins (codes "ULL") after) && (same bytes (codes "0") || not (next_is is_digit after))) longest)
 
 pub literal_some : (bytes after : List ℕ) → is_longest_literal bytes after ≡ true → 0 < length bytes

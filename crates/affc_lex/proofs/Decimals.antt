@@ -1,8 +1,7 @@
 -- The number that digits write, digit by digit.
-use Rattle.std.proofs.Common.{◌≡◌, ℕ, ◌+◌, ◌-◌, ◌*◌, ◌<◌, ◌≤◌, List, [], ◌∷◌, ◌++◌, IsTrue, length, get_or, take, drop, refl, sym, ap, ◌∙◌, subst, arith, fold}
-use Rattle.std.specs.List.{list_all}
+use Rattle.std.proofs.Common.{◌≡◌, ℕ, ◌+◌, ◌-◌, ◌*◌, ◌<◌, ◌≤◌, List, [], ◌∷◌, ◌++◌, length, get_or, take, drop, refl, sym, ap, ◌∙◌, subst, arith, fold}
 use Rattle.std.proofs.lemmas.List.{take_more, take-append-drop, take_all}
-use Rattle.affc_lex.specs.Bytes.{decimal, is_digit}
+use Rattle.affc_lex.specs.Bytes.{decimal}
 
 abbrev pub digit_step : ℕ → ℕ → ℕ
 digit_step n b = 10 * n + (b - 48)

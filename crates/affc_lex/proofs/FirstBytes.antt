@@ -1,9 +1,8 @@
 -- Where `read` goes, by the first byte.
-use Rattle.std.proofs.Common.{◌≡◌, ℕ, Bool, true, false, ◌&&◌, ◌==◌, List, [], ◌∷◌, codes, refl, sym, ap, ◌∙◌}
+use Rattle.std.proofs.Common.{◌≡◌, ℕ, true, false, ◌==◌, List, ◌∷◌, refl, ◌∙◌}
 use Rattle.std.proofs.lemmas.Bool.{cond-true, cond-false}
 use Rattle.affc_lex.specs.declared.piece.Spot.{Spot}
-use Rattle.affc_lex.specs.declared.piece.Found.{Found}
-use Rattle.affc_lex.specs.Bytes.{is_digit, is_letter, is_space, among}
+use Rattle.affc_lex.specs.Bytes.{is_digit, is_letter, is_space}
 use Rattle.affc_lex.specs.Reading.{read, space, comment, word, literal, hash, mark, header_at}
 use Rattle.affc_lex.proofs.ByteClasses.{letter_not_space, letter_not_slash, digit_not_space, digit_not_slash, digit_not_letter, BeginsMark}
 

@@ -6,8 +6,10 @@ pub mod ByteClasses
 pub mod Lists
 pub mod FirstBytes
 pub mod Literals
-pub mod FoundAt
 pub mod Headers
 pub mod Sound
 pub mod Complete
 pub mod Once
+pub mod Cuts
+pub mod ScopLines
+pub mod Exact

@@ -1,13 +1,11 @@
 -- Texts cut in two, runs of bytes that pass a test, and the first place of a text in another.
-use Rattle.std.proofs.Common.{◌≡◌, ℕ, zero, suc, ◌+◌, ◌<◌, ◌≤◌, Bool, true, false, not, ◌&&◌, ◌||◌, ◌==◌, cond, List, [], ◌∷◌, ◌++◌, length, take, drop, Option, Some, None, codes, refl, sym, ap, ◌∙◌, subst, arith, nat_eq, rules}
+use Rattle.std.proofs.Common.{◌≡◌, ℕ, zero, suc, ◌+◌, ◌≤◌, Bool, true, false, not, ◌&&◌, ◌||◌, ◌==◌, List, [], ◌∷◌, ◌++◌, length, take, drop, Option, Some, None, refl, sym, ap, ◌∙◌, subst, arith}
 use Rattle.std.specs.List.{list_all, prefix_len}
 use Rattle.std.specs.Option.{option_map, is_some}
-use Rattle.std.specs.Cmp.Lexicographic.{pointwise}
-use Rattle.std.proofs.lemmas.List.{take_at, drop_at, take-append-drop}
-use Rattle.std.proofs.lemmas.Bool.{and_parts, and_from, and_left, cond_both, cond-true, cond-false, eqb-true, eq-eqb, false≢true, true≢false, not-true, not_from_false, not_from_true, cases_Bool, false_from_ne_true}
+use Rattle.std.proofs.lemmas.List.{take_at}
+use Rattle.std.proofs.lemmas.Bool.{and_parts, and_from, cond_both, cond-true, cond-false, eqb-true, eq-eqb, false≢true, not-true, not_from_false, false_from_ne_true}
 use Rattle.affc_lex.specs.Bytes.{begins, next_is, same, contains, ends_at_first}
 use Rattle.affc_lex.specs.Reading.{first_place}
-use Rattle.affc_lex.proofs.Runs.{run_passes}
 
 -- a test with the case that it is in
 pub by_test : {A : Type 0} (b : Bool) → (b ≡ true → A) → (b ≡ false → A) → A
@@ -105,7 +103,7 @@ some_same : (m n : ℕ) → ◌≡◌ {A = Option ℕ} (Some m) (Some n) → m �
 some_same m n e = ap predecessor e
 
 -- what a place one further on tells of the rest
-later_place : (o : Option ℕ) (n : ℕ) → option_map suc o ≡ Some n → (m : ℕ) × (o ≡ Some m) × (n ≡ suc m)
+pub later_place : (o : Option ℕ) (n : ℕ) → option_map suc o ≡ Some n → (m : ℕ) × (o ≡ Some m) × (n ≡ suc m)
 later_place None n e = cc
 later_place (Some m) n e = (m, refl, sym (some_same (suc m) n e))
 
@@ -123,30 +121,30 @@ place_ends x p [] n e = cc
 place_ends x p (b ∷ bs) n e =
     by_test (begins (x ∷ p) (b ∷ bs))
     (λ here.
-        let first : n ≡ 0 = sym (some_same 0 n (sym (cond-true _ _ _ here) ∙ e)) in
-        let length_is : length (x ∷ p) ≡ n + length (x ∷ p) = omega arith in
-        let front : take (n + length (x ∷ p)) (b ∷ bs) ≡ x ∷ p = ap (λ k. take k (b ∷ bs)) (sym length_is) ∙ begins_take (x ∷ p) (b ∷ bs) here in
-        (ap (ends_at_first (x ∷ p)) front ∙ ends_at_self x p, omega (arith, begins_within (x ∷ p) (b ∷ bs) here)))
+    let first : n ≡ 0 = sym (some_same 0 n (sym (cond-true _ _ _ here) ∙ e)) in
+    let length_is : length (x ∷ p) ≡ n + length (x ∷ p) = omega arith in
+    let front : take (n + length (x ∷ p)) (b ∷ bs) ≡ x ∷ p = ap (λ k. take k (b ∷ bs)) (sym length_is) ∙ begins_take (x ∷ p) (b ∷ bs) here in
+    (ap (ends_at_first (x ∷ p)) front ∙ ends_at_self x p, omega (arith, begins_within (x ∷ p) (b ∷ bs) here)))
     (λ elsewhere.
-        let further = later_place (first_place (begins (x ∷ p)) bs) n (sym (cond-false _ _ _ elsewhere) ∙ e) in
-        let rest = place_ends x p bs further.0 further.1 in
-        let length_is : suc (further.0 + length (x ∷ p)) ≡ n + length (x ∷ p) = omega (arith, further.2) in
-        let not_here : begins (x ∷ p) (b ∷ take (further.0 + length (x ∷ p)) bs) ≡ false =
-            false_from_ne_true _ (λ here. false≢true (sym elsewhere ∙ begins_longer (x ∷ p) (b ∷ bs) (suc (further.0 + length (x ∷ p))) here)) in
-        (ap (λ k. ends_at_first (x ∷ p) (take k (b ∷ bs))) (sym length_is) ∙ cond-false _ _ _ not_here ∙ rest.0, omega (arith, rest.1, further.2)))
+    let further = later_place (first_place (begins (x ∷ p)) bs) n (sym (cond-false _ _ _ elsewhere) ∙ e) in
+    let rest = place_ends x p bs further.0 further.1 in
+    let length_is : suc (further.0 + length (x ∷ p)) ≡ n + length (x ∷ p) = omega (arith, further.2) in
+    let not_here : begins (x ∷ p) (b ∷ take (further.0 + length (x ∷ p)) bs) ≡ false =
+    false_from_ne_true _ (λ here. false≢true (sym elsewhere ∙ begins_longer (x ∷ p) (b ∷ bs) (suc (further.0 + length (x ∷ p))) here)) in
+    (ap (λ k. ends_at_first (x ∷ p) (take k (b ∷ bs))) (sym length_is) ∙ cond-false _ _ _ not_here ∙ rest.0, omega (arith, rest.1, further.2)))
 
 pub ends_placed : (p xs after : List ℕ) → ends_at_first p xs ≡ true → (n : ℕ) × (first_place (begins p) (xs ++ after) ≡ Some n) × (length xs ≡ n + length p)
 ends_placed p [] after e = absurd (false≢true e)
 ends_placed p (b ∷ bs) after e =
     by_test (begins p (b ∷ bs))
     (λ here.
-        let whole : p ≡ b ∷ bs = same_is p (b ∷ bs) (sym (cond-true _ _ _ here) ∙ e) in
-        let found : begins p (b ∷ (bs ++ after)) ≡ true = ap (begins p) (ap (λ q. q ++ after) (sym whole)) ∙ begins_append p after in
-        (0, cond-true _ _ _ found, omega (arith, ap length whole)))
+    let whole : p ≡ b ∷ bs = same_is p (b ∷ bs) (sym (cond-true _ _ _ here) ∙ e) in
+    let found : begins p (b ∷ (bs ++ after)) ≡ true = ap (begins p) (ap (λ q. q ++ after) (sym whole)) ∙ begins_append p after in
+    (0, cond-true _ _ _ found, omega (arith, ap length whole)))
     (λ elsewhere.
-        let rest = ends_placed p bs after (sym (cond-false _ _ _ elsewhere) ∙ e) in
-        let not_here : begins p (b ∷ (bs ++ after)) ≡ false = begins_front p (b ∷ bs) after (omega (arith, rest.2)) ∙ elsewhere in
-        (suc rest.0, cond-false _ _ _ not_here ∙ ap (option_map suc) rest.1, omega (arith, rest.2)))
+    let rest = ends_placed p bs after (sym (cond-false _ _ _ elsewhere) ∙ e) in
+    let not_here : begins p (b ∷ (bs ++ after)) ≡ false = begins_front p (b ∷ bs) after (omega (arith, rest.2)) ∙ elsewhere in
+    (suc rest.0, cond-false _ _ _ not_here ∙ ap (option_map suc) rest.1, omega (arith, rest.2)))
 
 pub contains_is : (p xs : List ℕ) → contains p xs ≡ is_some (first_place (begins p) xs)
 contains_is p [] = refl

@@ -1,16 +1,15 @@
 -- Numbers and values at the beginning of a text.
-use Rattle.std.proofs.Common.{◌≡◌, ℕ, zero, suc, ◌+◌, ◌<◌, ◌≤◌, ◌^◌, Bool, true, false, not, ◌&&◌, ◌||◌, ◌==◌, cond, List, [], ◌∷◌, ◌++◌, length, take, drop, codes, refl, sym, ap, ◌∙◌, subst, arith, append_assoc}
+use Rattle.std.proofs.Common.{◌≡◌, ℕ, suc, ◌+◌, ◌≤◌, ◌^◌, true, false, not, ◌&&◌, ◌||◌, ◌==◌, List, [], ◌∷◌, ◌++◌, length, take, drop, codes, refl, sym, ap, ◌∙◌, subst, arith, append_assoc}
 use Rattle.std.specs.List.{list_all, prefix_len}
-use Rattle.std.proofs.lemmas.List.{take_at, drop_at, take-append-drop, take-take, length-append}
-use Rattle.std.proofs.lemmas.Bool.{and_parts, and_from, cond_both, cond-true, cond-false, eqb-true, eq-eqb, false≢true, true≢false, not-true, not_from_false, ltb-true, ltb-false, le-ltb, or_from, or_parts, or_right, or_cases, false_from_ne_true}
+use Rattle.std.proofs.lemmas.List.{take_at, drop_at, take-take, length-append}
+use Rattle.std.proofs.lemmas.Bool.{and_parts, and_from, cond_both, cond-true, cond-false, false≢true, true≢false, not-true, not_from_false, le-ltb, or_parts, or_right}
 use Rattle.affc_lex.specs.declared.token.Kind.TheVariants.{Number, Value}
 use Rattle.affc_lex.specs.declared.piece.What.TheVariants.{Token}
-use Rattle.affc_lex.specs.declared.piece.Found.{Found}
-use Rattle.affc_lex.specs.declared.piece.Found.TheVariants.{Piece, Bad, Open, Long}
+use Rattle.affc_lex.specs.declared.piece.Found.TheVariants.{Piece, Bad, Long}
 use Rattle.affc_lex.specs.Bytes.{is_digit, is_letter, is_letter_or_digit, same, begins, next_is, decimal}
 use Rattle.affc_lex.specs.Pieces.{is_number, is_value, is_small, leading_digits, behind_digits}
 use Rattle.affc_lex.specs.Reading.{number_length, literal, literal_of}
-use Rattle.affc_lex.proofs.Lists.{by_test, run_at, run_least, run_stops, same_is, same_refl, begins_append, begins_splits, begins_take}
+use Rattle.affc_lex.proofs.Lists.{by_test, run_at, run_least, run_stops, same_is, begins_append, begins_splits}
 use Rattle.affc_lex.proofs.Runs.{run_passes, run_within}
 use Rattle.affc_lex.proofs.Decimals.{decimal_take}
 
@@ -74,9 +73,9 @@ length_at d ds after e stops =
     by_test (d == 48)
     (λ zero_first. cond-true _ _ _ zero_first ∙ ap (λ zs. suc (length zs)) (sym (zero_alone d ds e zero_first)))
     (λ other.
-        let not_zero : same (d ∷ ds) (codes "0") ≡ false = ap (λ t. t && same ds []) other in
-        let no_digit : not (next_is is_digit after) ≡ true = sym (ap (λ t. t || not (next_is is_digit after)) not_zero) ∙ stops in
-        cond-false _ _ _ other ∙ run_at is_digit (d ∷ ds) after (number_digits (d ∷ ds) e) no_digit)
+    let not_zero : same (d ∷ ds) (codes "0") ≡ false = ap (λ t. t && same ds []) other in
+    let no_digit : not (next_is is_digit after) ≡ true = sym (ap (λ t. t || not (next_is is_digit after)) not_zero) ∙ stops in
+    cond-false _ _ _ other ∙ run_at is_digit (d ∷ ds) after (number_digits (d ∷ ds) e) no_digit)
 
 -- What `literal` finds
 
@@ -117,8 +116,8 @@ the_number d bs digit =
     cond_both (d == 48) 1 (prefix_len is_digit (d ∷ bs)) (λ n. is_number (take n (d ∷ bs)) ≡ true)
     (λ _. digit)
     (λ nonzero.
-        let more : suc (prefix_len is_digit bs) ≡ prefix_len is_digit (d ∷ bs) = (let one : suc (prefix_len is_digit bs) ≡ 1 + prefix_len is_digit bs = omega arith in one ∙ sym (cond-true _ _ _ digit)) in
-        subst (λ n. is_number (take n (d ∷ bs)) ≡ true) more (number_from d (take (prefix_len is_digit bs) bs) digit nonzero (run_passes is_digit bs)))
+    let more : suc (prefix_len is_digit bs) ≡ prefix_len is_digit (d ∷ bs) = (let one : suc (prefix_len is_digit bs) ≡ 1 + prefix_len is_digit bs = omega arith in one ∙ sym (cond-true _ _ _ digit)) in
+    subst (λ n. is_number (take n (d ∷ bs)) ≡ true) more (number_from d (take (prefix_len is_digit bs) bs) digit nonzero (run_passes is_digit bs)))
 
 -- no number is longer
 pub the_longest : (d : ℕ) (bs : List ℕ) → is_digit d ≡ true → (same (take (number_length d (d ∷ bs)) (d ∷ bs)) (codes "0") || not (next_is is_digit (drop (number_length d (d ∷ bs)) (d ∷ bs)))) ≡ true
@@ -136,9 +135,9 @@ long_front d ds after number long =
     let text = d ∷ ds ++ after in
     let n = number_length d text in
     let reaches : length (d ∷ ds) ≤ n =
-        cond_both (d == 48) 1 (prefix_len is_digit text) (λ k. length (d ∷ ds) ≤ k)
-        (λ zero_first. omega (arith, ap length (zero_alone d ds number zero_first)))
-        (λ _. run_least is_digit (d ∷ ds) after (number_digits (d ∷ ds) number)) in
+    cond_both (d == 48) 1 (prefix_len is_digit text) (λ k. length (d ∷ ds) ≤ k)
+    (λ zero_first. omega (arith, ap length (zero_alone d ds number zero_first)))
+    (λ _. run_least is_digit (d ∷ ds) after (number_digits (d ∷ ds) number)) in
     let front : take (length (d ∷ ds)) (take n text) ≡ d ∷ ds = take-take (length (d ∷ ds)) n text reaches ∙ take_at (d ∷ ds) after (length (d ∷ ds)) refl in
     let large : decimal (d ∷ ds) ≤ decimal (take n text) = subst (λ zs. decimal zs ≤ decimal (take n text)) front (decimal_take (take n text) (length (d ∷ ds))) in
     literal_long n d text refl (le-ltb (decimal (take n text)) (2 ^ 64) (omega arith))

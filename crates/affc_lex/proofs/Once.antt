@@ -1,15 +1,12 @@
 -- One text is cut into pieces in one way only.
-use Rattle.std.proofs.Common.{◌≡◌, ◌⊎◌, inl, inr, ⊎_elim, ℕ, zero, suc, ◌+◌, ◌<◌, ◌≤◌, ◌^◌, Bool, true, false, not, ◌&&◌, List, [], ◌∷◌, ◌++◌, length, take, drop, codes, refl, sym, ap, ◌∙◌, subst, arith, append_assoc}
-use Rattle.std.proofs.lemmas.List.{take_at, append-nil, append_cancel_left, length-append}
-use Rattle.std.proofs.lemmas.Bool.{and_parts, and_from, false≢true, true≢false, not-true}
-use Rattle.affc_lex.specs.declared.token.Kind.TheVariants.{LineEnd}
+use Rattle.std.proofs.Common.{◌≡◌, ◌⊎◌, inl, inr, ⊎_elim, ℕ, true, List, [], ◌∷◌, ◌++◌, length, take, refl, sym, ap, ◌∙◌, subst, arith, append_assoc}
+use Rattle.std.proofs.lemmas.List.{take_at, append_cancel_left}
+use Rattle.std.proofs.lemmas.Bool.{and_parts}
 use Rattle.affc_lex.specs.declared.piece.What.{What}
-use Rattle.affc_lex.specs.declared.piece.What.TheVariants.{Token}
 use Rattle.affc_lex.specs.declared.piece.Spot.{Spot}
-use Rattle.affc_lex.specs.declared.piece.Spot.TheVariants.{Fresh}
 use Rattle.affc_lex.specs.declared.piece.Found.{Found}
-use Rattle.affc_lex.specs.declared.piece.Found.TheVariants.{Piece as found_piece, Bad, Open, Long}
-use Rattle.affc_lex.specs.Pieces.{Piece, stands, text_of, all_stand, spot_behind, next_spot, is_on_directive}
+use Rattle.affc_lex.specs.declared.piece.Found.TheVariants.{Piece as found_piece}
+use Rattle.affc_lex.specs.Pieces.{Piece, stands, text_of, all_stand, spot_behind, next_spot}
 use Rattle.affc_lex.specs.Reading.{read}
 use Rattle.affc_lex.proofs.Complete.{complete, complete_empty}
 

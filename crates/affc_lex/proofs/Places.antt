@@ -1,5 +1,5 @@
 -- The first place at which a test of what begins there passes.
-use Rattle.std.proofs.Common.{◌≡◌, ℕ, suc, ◌+◌, ◌<◌, ◌≤◌, Bool, true, false, cond, List, [], ◌∷◌, length, get_or, drop, Option, Some, None, refl, sym, ap, ◌∙◌, arith}
+use Rattle.std.proofs.Common.{◌≡◌, ℕ, suc, ◌+◌, ◌<◌, ◌≤◌, Bool, true, false, List, length, drop, Option, Some, None, refl, ap, ◌∙◌, arith}
 use Rattle.std.specs.Option.{option_map}
 use Rattle.std.proofs.lemmas.List.{drop_more, drop_all}
 use Rattle.std.proofs.lemmas.Bool.{cond-true, cond-false}

@@ -1,25 +1,23 @@
 -- What `read` answers is so: the piece stands, or the fault.
-use Rattle.std.proofs.Common.{◌≡◌, ◌⊎◌, inl, inr, ℕ, zero, suc, ◌+◌, ◌<◌, ◌≤◌, ◌^◌, Bool, true, false, not, ◌&&◌, ◌||◌, ◌==◌, cond, List, [], ◌∷◌, ◌++◌, length, take, drop, Option, Some, None, codes, refl, sym, ap, ◌∙◌, subst, arith, append_assoc}
-use Rattle.std.specs.List.{list_all, prefix_len}
+use Rattle.std.proofs.Common.{◌≡◌, inl, inr, ℕ, suc, ◌+◌, ◌<◌, ◌≤◌, Bool, true, false, not, ◌&&◌, ◌||◌, ◌==◌, List, [], ◌∷◌, ◌++◌, length, take, drop, Option, Some, None, codes, refl, sym, ap, ◌∙◌, subst, arith, append_assoc}
+use Rattle.std.specs.List.{prefix_len}
 use Rattle.std.specs.Option.{is_some}
-use Rattle.std.proofs.lemmas.List.{take_at, drop_at, take-append-drop, length-append, length-take-le, drop-drop}
-use Rattle.std.proofs.lemmas.Bool.{and_parts, and_from, and_left, and_right, or_left, or_right, or_from, cond_both, cond-true, cond-false, eqb-true, eqb-false, ne_eqb, false≢true, true≢false, not-true, not_from_true, not_from_false, ltb-false}
-use Rattle.affc_lex.specs.declared.token.Kind.TheVariants.{Word, Number, Value, Header, Hash, LineEnd, Prelude, Mark}
-use Rattle.affc_lex.specs.declared.piece.What.{What}
+use Rattle.std.proofs.lemmas.List.{take_at, take-append-drop, length-append, length-take-le}
+use Rattle.std.proofs.lemmas.Bool.{and_parts, and_from, and_left, or_left, or_right, or_from, cond_both, cond-true, cond-false, eqb-true, eqb-false, ne_eqb, false≢true, not_from_false, ltb-false}
+use Rattle.affc_lex.specs.declared.token.Kind.TheVariants.{Word, Hash, LineEnd, Prelude, Mark}
 use Rattle.affc_lex.specs.declared.piece.What.TheVariants.{Space, Comment, Token}
 use Rattle.affc_lex.specs.declared.piece.Spot.{Spot}
-use Rattle.affc_lex.specs.declared.piece.Found.{Found}
-use Rattle.affc_lex.specs.declared.piece.Found.TheVariants.{Piece, Bad, Open, Long}
-use Rattle.affc_lex.specs.Bytes.{is_digit, is_letter, is_letter_or_digit, is_line_feed, is_space, same, begins, next_is, contains, ends_at_first, decimal}
-use Rattle.affc_lex.specs.Pieces.{stands, is_number, is_value, is_small, is_mark, is_word, is_header, is_fresh, is_on_directive, leading_digits, prelude, header_begins, longer_mark, is_after_include}
-use Rattle.affc_lex.specs.Faults.{piece_begins, is_longest_literal}
-use Rattle.affc_lex.specs.Reading.{read, space, comment, block_comment, word, number_length, literal, literal_of, hash, mark, mark_of, mark_length, one_byte_mark, two_byte_mark, three_byte_mark, header_at, first_place, other_than_line_feed}
+use Rattle.affc_lex.specs.declared.piece.Found.TheVariants.{Piece, Bad}
+use Rattle.affc_lex.specs.Bytes.{is_digit, is_letter, is_letter_or_digit, is_line_feed, is_space, same, begins, next_is}
+use Rattle.affc_lex.specs.Pieces.{stands, is_value, is_small, is_mark, is_word, is_fresh, is_on_directive, leading_digits, prelude, header_begins}
+use Rattle.affc_lex.specs.Faults.{piece_begins}
+use Rattle.affc_lex.specs.Reading.{read, space, comment, block_comment, word, number_length, literal, literal_of, hash, mark, mark_of, mark_length, two_byte_mark, three_byte_mark, header_at, first_place, other_than_line_feed}
 use Rattle.affc_lex.proofs.Runs.{run_passes, run_within}
 use Rattle.affc_lex.proofs.Lists.{by_test, same_refl, begins_take, begins_within, begins_splits, run_stops, place_ends, contains_is}
 use Rattle.affc_lex.proofs.Literals.{the_number, the_longest, number_within, value_from, literal_small, literal_long}
 use Rattle.affc_lex.proofs.Headers.{header_at_is, header_at_cut}
-use Rattle.affc_lex.proofs.FirstBytes.{read_space, read_slash, read_letter, read_digit, read_hash, read_other}
-use Rattle.affc_lex.proofs.FoundAt.{StandsFor, IsStuck, OpensHere, LongHere, FoundAt}
+use Rattle.affc_lex.proofs.FirstBytes.{read_space, read_letter, read_digit, read_other}
+use Rattle.affc_lex.specs.FoundAt.{FoundAt}
 
 -- nothing begins where none of the seven does
 nothing : (a b c d e f g : Bool) → a ≡ false → b ≡ false → c ≡ false → d ≡ false → e ≡ false → f ≡ false → g ≡ false → not (a || b || c || d || e || f || g) ≡ true
@@ -36,8 +34,8 @@ space_found : (spot : Spot) (b : ℕ) (bs : List ℕ) → is_space b ≡ true �
 space_found spot b bs e =
     cond_both (is_line_feed b && is_on_directive spot) (Piece (Token LineEnd) 1) (Piece Space 1) (FoundAt spot (b ∷ bs))
     (λ both.
-        let parts = and_parts (is_line_feed b) (is_on_directive spot) both in
-        record { some = omega arith; within = omega arith; standing = and_from _ _ parts.1 (or_left _ _ (and_from (b == 10) true parts.0 refl)) })
+    let parts = and_parts (is_line_feed b) (is_on_directive spot) both in
+    record { some = omega arith; within = omega arith; standing = and_from _ _ parts.1 (or_left _ _ (and_from (b == 10) true parts.0 refl)) })
     (λ not_both. record { some = omega arith; within = omega arith; standing = and_from _ _ e (not_from_false _ not_both) })
 
 -- Comments
@@ -47,9 +45,9 @@ line_found spot inside =
     let n = prefix_len other_than_line_feed inside in
     let more : suc (suc n) ≡ 2 + n = omega arith in
     let cut : (take (suc (suc n)) (47 ∷ 47 ∷ inside) ≡ take (2 + n) (47 ∷ 47 ∷ inside)) × (drop (suc (suc n)) (47 ∷ 47 ∷ inside) ≡ drop (2 + n) (47 ∷ 47 ∷ inside)) =
-        (ap (λ k. take k (47 ∷ 47 ∷ inside)) more, ap (λ k. drop k (47 ∷ 47 ∷ inside)) more) in
+    (ap (λ k. take k (47 ∷ 47 ∷ inside)) more, ap (λ k. drop k (47 ∷ 47 ∷ inside)) more) in
     let here : stands spot Comment (take (suc (suc n)) (47 ∷ 47 ∷ inside)) (drop (suc (suc n)) (47 ∷ 47 ∷ inside)) ≡ true =
-        or_left _ _ (and_from _ _ (run_passes other_than_line_feed inside) (run_stops other_than_line_feed inside)) in
+    or_left _ _ (and_from _ _ (run_passes other_than_line_feed inside) (run_stops other_than_line_feed inside)) in
     record {
       some = omega arith;
       within = omega (arith, run_within other_than_line_feed inside);
@@ -74,12 +72,12 @@ slash_found spot (c ∷ inside) =
     by_test (c == 47)
     (λ slash. subst (FoundAt spot (47 ∷ c ∷ inside)) (sym (cond-true _ _ _ slash)) (subst (λ x. FoundAt spot (47 ∷ x ∷ inside) (Piece Comment (2 + prefix_len other_than_line_feed inside))) (sym (eqb-true c 47 slash)) (line_found spot inside)))
     (λ no_slash.
-        by_test (c == 42)
-        (λ star. subst (FoundAt spot (47 ∷ c ∷ inside)) (sym (cond-false _ _ _ no_slash ∙ cond-true _ _ _ star)) (subst (λ x. FoundAt spot (47 ∷ x ∷ inside) (block_comment (first_place (begins (codes "*/")) inside))) (sym (eqb-true c 42 star)) (block_found spot inside _ refl)))
-        (λ no_star.
-            let lone : not (piece_begins spot (47 ∷ c ∷ inside)) ≡ true =
-                nothing _ _ _ _ _ _ _ refl (and_left (47 == c) true (turned c 47 no_slash)) (and_left (42 == c) true (turned c 42 no_star)) refl refl refl refl in
-            subst (FoundAt spot (47 ∷ c ∷ inside)) (sym (cond-false _ _ _ no_slash ∙ cond-false _ _ _ no_star)) (inl (refl, lone))))
+    by_test (c == 42)
+    (λ star. subst (FoundAt spot (47 ∷ c ∷ inside)) (sym (cond-false _ _ _ no_slash ∙ cond-true _ _ _ star)) (subst (λ x. FoundAt spot (47 ∷ x ∷ inside) (block_comment (first_place (begins (codes "*/")) inside))) (sym (eqb-true c 42 star)) (block_found spot inside _ refl)))
+    (λ no_star.
+    let lone : not (piece_begins spot (47 ∷ c ∷ inside)) ≡ true =
+    nothing _ _ _ _ _ _ _ refl (and_left (47 == c) true (turned c 47 no_slash)) (and_left (42 == c) true (turned c 42 no_star)) refl refl refl refl in
+    subst (FoundAt spot (47 ∷ c ∷ inside)) (sym (cond-false _ _ _ no_slash ∙ cond-false _ _ _ no_star)) (inl (refl, lone))))
 
 -- Words
 
@@ -88,16 +86,16 @@ word_found spot b bs e =
     cond_both (begins prelude (b ∷ bs)) (Piece (Token Prelude) 426) (Piece (Token Word) (prefix_len is_letter_or_digit (b ∷ bs))) (FoundAt spot (b ∷ bs))
     (λ here. record { some = omega arith; within = begins_within prelude (b ∷ bs) here; standing = ap (λ zs. same zs prelude) (begins_take prelude (b ∷ bs) here) ∙ same_refl prelude })
     (λ elsewhere.
-        let text = b ∷ bs in
-        let n = prefix_len is_letter_or_digit text in
-        let goes : is_letter_or_digit b ≡ true = or_left (is_letter b) (is_digit b) e in
-        let more : suc (prefix_len is_letter_or_digit bs) ≡ n = (let one : suc (prefix_len is_letter_or_digit bs) ≡ 1 + prefix_len is_letter_or_digit bs = omega arith in one ∙ sym (cond-true _ _ _ goes)) in
-        let spelled : is_word (take n text) ≡ true = subst (λ k. is_word (take k text) ≡ true) more (and_from _ _ e (run_passes is_letter_or_digit bs)) in
-        record {
-          some = omega arith;
-          within = run_within is_letter_or_digit text;
-          standing = and_from _ _ (and_from _ _ spelled (run_stops is_letter_or_digit text)) (not_from_false _ (ap (begins prelude) (take-append-drop n text) ∙ elsewhere));
-        })
+    let text = b ∷ bs in
+    let n = prefix_len is_letter_or_digit text in
+    let goes : is_letter_or_digit b ≡ true = or_left (is_letter b) (is_digit b) e in
+    let more : suc (prefix_len is_letter_or_digit bs) ≡ n = (let one : suc (prefix_len is_letter_or_digit bs) ≡ 1 + prefix_len is_letter_or_digit bs = omega arith in one ∙ sym (cond-true _ _ _ goes)) in
+    let spelled : is_word (take n text) ≡ true = subst (λ k. is_word (take k text) ≡ true) more (and_from _ _ e (run_passes is_letter_or_digit bs)) in
+    record {
+      some = omega arith;
+      within = run_within is_letter_or_digit text;
+      standing = and_from _ _ (and_from _ _ spelled (run_stops is_letter_or_digit text)) (not_from_false _ (ap (begins prelude) (take-append-drop n text) ∙ elsewhere));
+    })
 
 -- Numbers and values
 
@@ -105,7 +103,7 @@ cut_value : (n : ℕ) (text : List ℕ) → n ≤ length text → begins (codes 
 cut_value n text within e =
     let rest = drop 3 (drop n text) in
     let whole : text ≡ (take n text ++ codes "ULL") ++ rest =
-        sym (take-append-drop n text) ∙ ap (λ zs. take n text ++ zs) (begins_splits (codes "ULL") (drop n text) e) ∙ sym (append_assoc (take n text) (codes "ULL") rest) in
+    sym (take-append-drop n text) ∙ ap (λ zs. take n text ++ zs) (begins_splits (codes "ULL") (drop n text) e) ∙ sym (append_assoc (take n text) (codes "ULL") rest) in
     let front : length (take n text ++ codes "ULL") ≡ n + 3 = omega (arith, length-append (take n text) (codes "ULL"), length-take-le n text within) in
     (ap (take (n + 3)) whole ∙ take_at (take n text ++ codes "ULL") rest (n + 3) front, omega (arith, ap length whole, length-append (take n text ++ codes "ULL") rest))
 
@@ -118,25 +116,25 @@ literal_of_found spot d bs digit small =
     let some : 0 < n = cond_both (d == 48) 1 (prefix_len is_digit text) (λ k. 0 < k) (λ _. omega arith) (λ _. (let one : prefix_len is_digit text ≡ 1 + prefix_len is_digit bs = cond-true _ _ _ digit in omega arith)) in
     by_test (begins (codes "ULL") (drop n text))
     (λ suffix.
-        let cut = cut_value n text within suffix in
-        let value = value_from (take n text) number in
-        by_test (next_is is_letter_or_digit (drop (n + 3) text))
-        (λ stuck. subst (FoundAt spot text) (sym (cond-true _ _ _ suffix ∙ cond-true _ _ _ stuck)) (inr (record { within = cut.1; longest = or_left _ _ (ap is_value cut.0 ∙ value.0); stuck = stuck })))
-        (λ ended.
-            subst (FoundAt spot text) (sym (cond-true _ _ _ suffix ∙ cond-false _ _ _ ended))
-            (record {
-              some = omega arith;
-              within = cut.1;
-              standing = and_from _ _ (and_from _ _ (ap is_value cut.0 ∙ value.0) (ap is_small (ap leading_digits cut.0 ∙ value.1) ∙ small)) (not_from_false _ ended);
-            })))
+    let cut = cut_value n text within suffix in
+    let value = value_from (take n text) number in
+    by_test (next_is is_letter_or_digit (drop (n + 3) text))
+    (λ stuck. subst (FoundAt spot text) (sym (cond-true _ _ _ suffix ∙ cond-true _ _ _ stuck)) (inr (record { within = cut.1; longest = or_left _ _ (ap is_value cut.0 ∙ value.0); stuck = stuck })))
+    (λ ended.
+    subst (FoundAt spot text) (sym (cond-true _ _ _ suffix ∙ cond-false _ _ _ ended))
+    (record {
+      some = omega arith;
+      within = cut.1;
+      standing = and_from _ _ (and_from _ _ (ap is_value cut.0 ∙ value.0) (ap is_small (ap leading_digits cut.0 ∙ value.1) ∙ small)) (not_from_false _ ended);
+    })))
     (λ no_suffix.
-        by_test (next_is is_letter_or_digit (drop n text))
-        (λ stuck.
-            subst (FoundAt spot text) (sym (cond-false _ _ _ no_suffix ∙ cond-true _ _ _ stuck))
-            (inr (record { within = within; longest = or_right _ _ (and_from _ _ (and_from _ _ number (not_from_false _ no_suffix)) (the_longest d bs digit)); stuck = stuck })))
-        (λ ended.
-            subst (FoundAt spot text) (sym (cond-false _ _ _ no_suffix ∙ cond-false _ _ _ ended))
-            (record { some = some; within = within; standing = and_from _ _ (and_from _ _ number small) (not_from_false _ ended) })))
+    by_test (next_is is_letter_or_digit (drop n text))
+    (λ stuck.
+    subst (FoundAt spot text) (sym (cond-false _ _ _ no_suffix ∙ cond-true _ _ _ stuck))
+    (inr (record { within = within; longest = or_right _ _ (and_from _ _ (and_from _ _ number (not_from_false _ no_suffix)) (the_longest d bs digit)); stuck = stuck })))
+    (λ ended.
+    subst (FoundAt spot text) (sym (cond-false _ _ _ no_suffix ∙ cond-false _ _ _ ended))
+    (record { some = some; within = within; standing = and_from _ _ (and_from _ _ number small) (not_from_false _ ended) })))
 
 literal_found : (spot : Spot) (d : ℕ) (bs : List ℕ) → is_digit d ≡ true → FoundAt spot (d ∷ bs) (literal d (d ∷ bs))
 literal_found spot d bs digit =
@@ -161,25 +159,27 @@ mark_found spot b bs no_space no_slash no_letter no_digit no_hash no_header =
     by_test (three_byte_mark (b ∷ bs))
     (λ three. subst (λ n. FoundAt spot (b ∷ bs) (mark_of n)) (sym (cond-true _ _ _ three)) (of_three bs no_header three))
     (λ no_three.
-        by_test (two_byte_mark (b ∷ bs))
-        (λ two. subst (λ n. FoundAt spot (b ∷ bs) (mark_of n)) (sym (cond-false _ _ _ no_three ∙ cond-true _ _ _ two)) (of_two bs no_header no_three two))
-        (λ no_two.
-            by_test (is_mark (b ∷ []))
-            (λ one. subst (λ n. FoundAt spot (b ∷ bs) (mark_of n)) (sym (cond-false _ _ _ no_three ∙ cond-false _ _ _ no_two ∙ cond-true _ _ _ one)) (of_one bs no_header no_three no_two one))
-            (λ no_one.
-                let lone : not (piece_begins spot (b ∷ bs)) ≡ true =
-                    nothing _ _ _ _ _ _ _ no_space (and_left _ _ (turned b 47 no_slash)) (and_left _ _ (turned b 47 no_slash)) no_letter no_digit no_one (and_left _ _ (and_left _ _ (turned b 35 no_hash))) in
-                let here : FoundAt spot (b ∷ bs) (Bad 0) = inl (refl, lone) in
-                subst (λ n. FoundAt spot (b ∷ bs) (mark_of n)) (sym (cond-false _ _ _ no_three ∙ cond-false _ _ _ no_two ∙ cond-false _ _ _ no_one)) here)))
+    by_test (two_byte_mark (b ∷ bs))
+    (λ two. subst (λ n. FoundAt spot (b ∷ bs) (mark_of n)) (sym (cond-false _ _ _ no_three ∙ cond-true _ _ _ two)) (of_two bs no_header no_three two))
+    (λ no_two.
+    by_test (is_mark (b ∷ []))
+    (λ one. subst (λ n. FoundAt spot (b ∷ bs) (mark_of n)) (sym (cond-false _ _ _ no_three ∙ cond-false _ _ _ no_two ∙ cond-true _ _ _ one)) (of_one bs no_header no_three no_two one))
+    (λ no_one.
+    let lone : not (piece_begins spot (b ∷ bs)) ≡ true =
+    nothing _ _ _ _ _ _ _ no_space (and_left _ _ (turned b 47 no_slash)) (and_left _ _ (turned b 47 no_slash)) no_letter no_digit no_one (and_left _ _ (and_left _ _ (turned b 35 no_hash))) in
+    let here : FoundAt spot (b ∷ bs) (Bad 0) = inl (refl, lone) in
+    subst (λ n. FoundAt spot (b ∷ bs) (mark_of n)) (sym (cond-false _ _ _ no_three ∙ cond-false _ _ _ no_two ∙ cond-false _ _ _ no_one)) here)))
   where
     of_three : (cs : List ℕ) → header_begins spot (b ∷ cs) ≡ false → three_byte_mark (b ∷ cs) ≡ true → FoundAt spot (b ∷ cs) (Piece (Token Mark) 3)
     of_three [] none e = absurd (false≢true e)
     of_three (c ∷ []) none e = absurd (false≢true e)
     of_three (c ∷ d ∷ cs) none e = record { some = omega arith; within = omega arith; standing = and_from _ _ (and_from _ _ e refl) (not_from_false _ none) }
+
     of_two : (cs : List ℕ) → header_begins spot (b ∷ cs) ≡ false → three_byte_mark (b ∷ cs) ≡ false → two_byte_mark (b ∷ cs) ≡ true → FoundAt spot (b ∷ cs) (Piece (Token Mark) 2)
     of_two [] none no_three e = absurd (false≢true e)
     of_two (c ∷ []) none no_three e = record { some = omega arith; within = omega arith; standing = and_from _ _ (and_from _ _ e refl) (not_from_false _ none) }
     of_two (c ∷ d ∷ cs) none no_three e = record { some = omega arith; within = omega arith; standing = and_from _ _ (and_from _ _ e (not_from_false _ no_three)) (not_from_false _ none) }
+
     of_one : (cs : List ℕ) → header_begins spot (b ∷ cs) ≡ false → three_byte_mark (b ∷ cs) ≡ false → two_byte_mark (b ∷ cs) ≡ false → is_mark (b ∷ []) ≡ true → FoundAt spot (b ∷ cs) (Piece (Token Mark) 1)
     of_one [] none no_three no_two e = record { some = omega arith; within = omega arith; standing = and_from _ _ (and_from _ _ e refl) (not_from_false _ none) }
     of_one (c ∷ []) none no_three no_two e = record { some = omega arith; within = omega arith; standing = and_from _ _ (and_from _ _ e (not_from_false _ no_two)) (not_from_false _ none) }
@@ -196,11 +196,15 @@ pub sound : (spot : Spot) (b : ℕ) (bs : List ℕ) → FoundAt spot (b ∷ bs) 
 sound spot b bs =
     by_test (is_space b) (λ e. subst (FoundAt spot (b ∷ bs)) (sym (read_space spot b bs e)) (space_found spot b bs e))
     (λ h1.
-        by_test (b == 47) (λ e. subst (λ x. FoundAt spot (x ∷ bs) (read spot (x ∷ bs))) (sym (eqb-true b 47 e)) (slash_found spot bs))
-        (λ h2.
-            by_test (is_letter b) (λ e. subst (FoundAt spot (b ∷ bs)) (sym (read_letter spot b bs e)) (word_found spot b bs e))
-            (λ h3.
-                by_test (is_digit b) (λ e. subst (FoundAt spot (b ∷ bs)) (sym (read_digit spot b bs e)) (literal_found spot b bs e))
-                (λ h4.
-                    by_test (b == 35) (λ e. subst (λ x. FoundAt spot (x ∷ bs) (read spot (x ∷ bs))) (sym (eqb-true b 35 e)) (hash_found spot bs))
-                    (λ h5. subst (FoundAt spot (b ∷ bs)) (sym (read_other spot b bs h1 h2 h3 h4 h5)) (header_or_mark spot b bs _ refl h1 h2 h3 h4 h5))))))
+    by_test (b == 47) (λ e. subst (λ x. FoundAt spot (x ∷ bs) (read spot (x ∷ bs))) (sym (eqb-true b 47 e)) (slash_found spot bs))
+    (λ h2.
+    by_test (is_letter b) (λ e. subst (FoundAt spot (b ∷ bs)) (sym (read_letter spot b bs e)) (word_found spot b bs e))
+    (λ h3.
+    by_test (is_digit b) (λ e. subst (FoundAt spot (b ∷ bs)) (sym (read_digit spot b bs e)) (literal_found spot b bs e))
+    (λ h4.
+    by_test (b == 35) (λ e. subst (λ x. FoundAt spot (x ∷ bs) (read spot (x ∷ bs))) (sym (eqb-true b 35 e)) (hash_found spot bs))
+    (λ h5. subst (FoundAt spot (b ∷ bs)) (sym (read_other spot b bs h1 h2 h3 h4 h5)) (header_or_mark spot b bs _ refl h1 h2 h3 h4 h5))))))
+
+pub sound_at : (spot : Spot) (text : List ℕ) → 0 < length text → FoundAt spot text (read spot text)
+sound_at spot [] some = absurd (omega arith)
+sound_at spot (b ∷ bs) some = sound spot b bs

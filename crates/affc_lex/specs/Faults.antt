@@ -1,5 +1,5 @@
 -- The faults of a text that has no tokens.
-use Rattle.std.specs.Prelude.{◌≡◌, ◌⊎◌, ℕ, ◌+◌, ◌≤◌, ◌^◌, Bool, not, ◌&&◌, ◌||◌, ◌==◌, List, [], ◌∷◌, ◌++◌, length, codes, IsTrue, true, false}
+use Rattle.std.specs.Prelude.{◌≡◌, ◌⊎◌, ℕ, ◌+◌, ◌≤◌, ◌^◌, Bool, not, ◌&&◌, ◌||◌, List, [], ◌∷◌, ◌++◌, length, codes, IsTrue}
 use Rattle.affc_lex.specs.declared.token.LexFault.{LexFault}
 use Rattle.affc_lex.specs.declared.token.LexFault.TheVariants.{BadByte, OpenComment, LongNumber, Memory}
 use Rattle.affc_lex.specs.declared.piece.Spot.{Spot}

@@ -1,9 +1,8 @@
 -- What the next piece of a text is, found from its first bytes on. The public contract speaks of the pieces that stand, and of none of this.
-use Rattle.std.specs.Prelude.{ℕ, suc, ◌+◌, Bool, true, false, not, ◌&&◌, ◌||◌, ◌==◌, List, [], ◌∷◌, ◌++◌, take, drop, length, codes, Option, Some, None, if◌then◌else◌}
+use Rattle.std.specs.Prelude.{ℕ, suc, ◌+◌, Bool, false, not, ◌&&◌, ◌==◌, List, [], ◌∷◌, take, drop, length, codes, Option, Some, None, if◌then◌else◌}
 use Rattle.std.specs.List.{prefix_len}
 use Rattle.std.specs.Option.{option_map}
 use Rattle.affc_lex.specs.declared.token.Kind.TheVariants.{Word, Number, Value, Header, Hash, LineEnd, Prelude, Mark}
-use Rattle.affc_lex.specs.declared.piece.What.{What}
 use Rattle.affc_lex.specs.declared.piece.What.TheVariants.{Space, Comment, Token}
 use Rattle.affc_lex.specs.declared.piece.Spot.{Spot}
 use Rattle.affc_lex.specs.declared.piece.Found.{Found}

@@ -6,8 +6,12 @@ ghost use Rattle.affc_lex.specs.Bytes.{begins, next_is};
 ghost use Rattle.affc_lex.specs.Pieces as pieces;
 ghost use Rattle.affc_lex.specs.Pieces.{prelude};
 ghost use Rattle.affc_lex.specs.Reading as reading;
+ghost use Rattle.affc_lex.specs.FoundAt.{FoundAt};
 
-use crate::scan::{comment_end, digits_length, header_length, is_digit, is_letter, is_letter_or_digit, is_space, line_length, number, word_length};
+use crate::scan::{
+    comment_end, digits_length, header_length, is_digit, is_letter, is_letter_or_digit, is_space,
+    line_length, number, word_length,
+};
 use crate::token::Kind;
 
 /// What a piece of a text is.
@@ -48,7 +52,8 @@ pub enum Found {
 }
 
 /// The functions that a printed program may call.
-const PRELUDE: &[u8] = b"static inline int64_t affc_min(int64_t a, int64_t b) { return a < b ? a : b; }\n\
+const PRELUDE: &[u8] =
+    b"static inline int64_t affc_min(int64_t a, int64_t b) { return a < b ? a : b; }\n\
 static inline int64_t affc_max(int64_t a, int64_t b) { return a > b ? a : b; }\n\
 static inline int64_t affc_floord(int64_t a, int64_t b) { return a / b - (a % b < 0); }\n\
 static inline int64_t affc_ceild(int64_t a, int64_t b) { return a / b + (a % b > 0); }\n\
@@ -75,7 +80,11 @@ fn is_after_hash(spot: Spot) -> bool
 fn later(spot: Spot) -> Spot
     ensures { result ≡ pieces.later spot }
 {
-    if is_on_directive(spot) { Spot::Directive } else { Spot::Inside }
+    if is_on_directive(spot) {
+        Spot::Directive
+    } else {
+        Spot::Inside
+    }
 }
 
 fn after_token(spot: Spot, kind: Kind, bytes: &[u8]) -> Spot
@@ -215,7 +224,8 @@ fn two_byte_mark(text: &[u8]) -> bool
     ensures { result ≡ reading.two_byte_mark text.now }
 {
     match text {
-        [a, b, ..] => (*b == 61 && b"+-*&|^<>=!".contains(a)) || (*a == *b && b"+-&|<>".contains(a)),
+        [a, b, ..] => (*b == 61 && b"+-*&|^<>=!".contains(a))
+            || (*a == *b && b"+-&|<>".contains(a)),
         _ => false,
     }
 }
@@ -259,11 +269,14 @@ fn mark(header: Option<usize>, text: &[u8]) -> Found
 fn hash(spot: Spot) -> Found
     ensures { result ≡ reading.hash spot }
 {
-    if is_fresh(spot) { Found::Piece(What::Token(Kind::Hash), 1) } else { Found::Bad(0) }
+    if is_fresh(spot) {
+        Found::Piece(What::Token(Kind::Hash), 1)
+    } else {
+        Found::Bad(0)
+    }
 }
 
-/// The next piece of the text, or why none stands there.
-pub fn next_piece(spot: Spot, text: &[u8]) -> Found
+fn read_piece(spot: Spot, text: &[u8]) -> Found
     ensures { result ≡ reading.read spot text.now }
 {
     let [first, after @ ..] = text else {
@@ -282,4 +295,13 @@ pub fn next_piece(spot: Spot, text: &[u8]) -> Found
     } else {
         mark(header_at(spot, text), text)
     }
+}
+
+/// The next piece of the text, or why none stands there.
+pub fn next_piece(spot: Spot, text: &[u8]) -> Found
+    requires { 0 < length text.now }
+    ensures value { result ≡ reading.read spot text.now }
+    ensures found { FoundAt spot text.now result }
+{
+    read_piece(spot, text)
 }

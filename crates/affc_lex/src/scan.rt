@@ -85,7 +85,10 @@ pub fn comment_end(inside: &[u8]) -> Option<usize>
 fn is_refused(text: &[u8]) -> bool
     ensures { result ≡ lexes.is_refused text.now }
 {
-    matches!(text, [b'\\', b'\n', ..] | [b'\\', b'\r', ..] | [b'?', b'?', b'/', ..])
+    matches!(
+        text,
+        [b'\\', b'\n', ..] | [b'\\', b'\r', ..] | [b'?', b'?', b'/', ..]
+    )
 }
 
 /// Where the first sequence begins that no text may have.

@@ -1,5 +1,5 @@
 -- What an answer on the next piece says of the text, in the words of the public definitions.
-use Rattle.std.proofs.Common.{◌≡◌, ◌⊎◌, ℕ, ◌<◌, ◌≤◌, ◌^◌, Bool, true, false, not, List, ◌++◌, length, take, drop, codes}
+use Rattle.std.specs.Prelude.{◌≡◌, ◌⊎◌, ℕ, ◌<◌, ◌≤◌, ◌^◌, true, not, List, ◌++◌, length, take, drop, codes}
 use Rattle.affc_lex.specs.declared.piece.What.{What}
 use Rattle.affc_lex.specs.declared.piece.Spot.{Spot}
 use Rattle.affc_lex.specs.declared.piece.Found.{Found}
