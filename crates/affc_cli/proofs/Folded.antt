@@ -43,7 +43,7 @@ has_words text c parsed =
       output = named c 3 free (omega arith) w.output;
       iterator = named c 4 free (omega arith) w.iterator;
       low = record { some = omega (arith, range.least); small = omega (arith, range.ordered, range.greatest) };
-      high = record { some = omega (arith, range.least, range.ordered); small = omega (arith, range.greatest) }
+      high = record { some = omega (arith, range.least, range.ordered); small = omega (arith, range.greatest) };
     }
 
 pub folded : (source text : List ℕ) (c : CopyLoop) → IsParsed source c → text ≡ printed_text c
@@ -54,9 +54,9 @@ folded source text c parsed is law = record {
     source_reads = parsed.reads;
     target = copy_tree c;
     target_reads = reads;
-    compiles = law c parsed.rules.range
+    compiles = law c parsed.rules.range;
   };
-  printed = record { copy = c; is_tree = refl; is_text = is }
+  printed = record { copy = c; is_tree = refl; is_text = is };
 }
   where
     reads : ReadsWide text (copy_tree c)

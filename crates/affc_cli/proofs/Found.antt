@@ -72,13 +72,13 @@ words_of c h =
       parameter = left_true (is_word c.parameter) _ h1;
       input = left_true (is_word c.input) _ h2;
       output = left_true (is_word c.output) _ h3;
-      iterator = left_true (is_word c.iterator) true h4
+      iterator = left_true (is_word c.iterator) true h4;
     }
 
 all_words : (c : CopyLoop) → AreWords c → list_all is_word (names_of c) ≡ true
 all_words c w =
     both_true (is_word c.function) _ w.function (both_true (is_word c.parameter) _ w.parameter (both_true (is_word c.input) _ w.input
-      (both_true (is_word c.output) _ w.output (both_true (is_word c.iterator) true w.iterator refl))))
+    (both_true (is_word c.output) _ w.output (both_true (is_word c.iterator) true w.iterator refl))))
 
 -- ---- The tokens of a text are spelled well
 
@@ -110,12 +110,12 @@ spelled_well text ts c low high lexes one =
         parameter = spelled_at (map symbol ts) 8 (word c.parameter) all p.parameter;
         input = spelled_at (map symbol ts) 20 (word c.input) all p.input;
         output = spelled_at (map symbol ts) 26 (word c.output) all p.output;
-        iterator = spelled_at (map symbol ts) 35 (word c.iterator) all p.iterator
+        iterator = spelled_at (map symbol ts) 35 (word c.iterator) all p.iterator;
       });
       low_is_number = at_low.0;
       low_is_small = at_low.1;
       high_is_number = at_high.0;
-      high_is_small = at_high.1
+      high_is_small = at_high.1;
     }
 
 -- ---- The two lines with `#`
@@ -126,20 +126,28 @@ two_hashes c low high braces s = counted braces
   where
     w : AreWords c
     w = words_of c s.words
+
     hf : hashes c.function ≡ 0
     hf = no_hashes c.function (letters_of_word c.function (words_of c s.words).function)
+
     hn : hashes c.parameter ≡ 0
     hn = no_hashes c.parameter (letters_of_word c.parameter (words_of c s.words).parameter)
+
     ha : hashes c.input ≡ 0
     ha = no_hashes c.input (letters_of_word c.input (words_of c s.words).input)
+
     hb : hashes c.output ≡ 0
     hb = no_hashes c.output (letters_of_word c.output (words_of c s.words).output)
+
     hi : hashes c.iterator ≡ 0
     hi = no_hashes c.iterator (letters_of_word c.iterator (words_of c s.words).iterator)
+
     hl : hashes low ≡ 0
     hl = no_hashes low (letters_of_digits low (digits_of_number low s.low_is_number))
+
     hh : hashes high ≡ 0
     hh = no_hashes high (letters_of_digits high (digits_of_number high s.high_is_number))
+
     counted : (b : Bool) → hashes_in (copy_symbols c low high b) ≡ 2
     counted true = rw (hf, hn, ha, hb, hi, hl, hh) refl
     counted false = rw (hf, hn, ha, hb, hi, hl, hh) refl
@@ -160,10 +168,13 @@ undropped_of text ts lexes simple two = chosen (kept_or_fewer (length text) (tok
   where
     kept_two : hashes_in (map symbol (without_scop_lines 0 (tokens_from 0 lexes.pieces))) ≡ 2
     kept_two = ap (λ x. hashes_in (map symbol x)) (sym lexes.its_tokens) ∙ two
+
     all_two : hashes_in (map symbol (tokens_from 0 lexes.pieces)) ≡ 2
     all_two = sym (hashes_of_text text ts lexes simple.plain) ∙ simple.two_lines
+
     too_few : (a b : ℕ) → a ≡ 2 → b ≡ 2 → suc a ≤ b → ⊥
     too_few a b ea eb le = omega arith
+
     chosen : (without_scop_lines 0 (tokens_from 0 lexes.pieces) ≡ tokens_from 0 lexes.pieces)
         ⊎ (suc (hashes_in (map symbol (without_scop_lines 0 (tokens_from 0 lexes.pieces)))) ≤ hashes_in (map symbol (tokens_from 0 lexes.pieces)))
         → ts ≡ tokens_from 0 lexes.pieces
@@ -187,7 +198,7 @@ simple_of text p reads =
       size = reads.size;
       plain = r.plain;
       two_lines = hashes_of_text text r.tokens r.its_tokens r.plain ∙ ap (λ x. hashes_in (map symbol x)) (sym r.undropped)
-        ∙ hashes_of_one (map symbol r.tokens) r.copy r.low r.high one (spelled_well text r.tokens r.copy r.low r.high r.its_tokens one)
+          ∙ hashes_of_one (map symbol r.tokens) r.copy r.low r.high one (spelled_well text r.tokens r.copy r.low r.high r.its_tokens one);
     }
 
 pub copy_of : (text : List ℕ) (p : Program) (ss : List Symbol) (found : CopyLoop) → Reads text p → HasSymbols text ss → Finds ss found → IsCopy ss found
@@ -198,14 +209,14 @@ copy_of text p ss found reads has finds =
     let One : List Symbol → Type 0 = λ x. OneOf x (copy_symbols r.copy r.low r.high) in
     let here = subst One same one in
     let loop : found ≡ record r.copy { low = decimal r.low; high = decimal r.high } =
-      finds.is_found r.copy r.low r.high here (spelled_well text r.tokens r.copy r.low r.high r.its_tokens one) in
+    finds.is_found r.copy r.low r.high here (spelled_well text r.tokens r.copy r.low r.high r.its_tokens one) in
     let is : found ≡ r.copy = loop ∙ numbers r.copy r.low r.high r.is_low r.is_high in
     let Is : CopyLoop → Type 0 = λ c. IsCopy ss c in
     subst Is (sym is) (record {
       low = r.low;
       high = r.high;
       one = here;
-      rules = record { range = r.range; different = r.different; unreserved = r.unreserved }
+      rules = record { range = r.range; different = r.different; unreserved = r.unreserved };
     })
   where
     numbers : (c : CopyLoop) (low high : List ℕ) → decimal low ≡ c.low → decimal high ≡ c.high
@@ -222,7 +233,7 @@ parsed text ss found simple has finds copy =
     record {
       reads = record { size = simple.size; reads = with_braces undropped (ap (λ (c : CopyLoop). c.low) loop) (ap (λ (c : CopyLoop). c.high) loop) one };
       words = spelled.words;
-      rules = copy.rules
+      rules = copy.rules;
     }
   where
     read : (braces : Bool) → has.tokens ≡ tokens_from 0 has.its_tokens.pieces → found.low ≡ decimal copy.low → found.high ≡ decimal copy.high
@@ -242,8 +253,9 @@ parsed text ss found simple has finds copy =
       range = copy.rules.range;
       different = copy.rules.different;
       unreserved = copy.rules.unreserved;
-      tree = refl
+      tree = refl;
     }
+
     with_braces : has.tokens ≡ tokens_from 0 has.its_tokens.pieces → found.low ≡ decimal copy.low → found.high ≡ decimal copy.high
         → OneOf (map symbol has.tokens) (copy_symbols found copy.low copy.high) → ReadsWide text (copy_tree found)
     with_braces undropped el eh (inl e) = read true undropped el eh e
@@ -257,6 +269,7 @@ copy_is ss c low high s r spelled rules at_low at_high = (forth, back)
   where
     forth : IsTrue (s && r) → IsCopy ss c
     forth h = record { low = low; high = high; one = spelled.0 (left_true s r h); rules = rules.0 (right_true s r h) }
+
     back : IsCopy ss c → IsTrue (s && r)
     back k =
         let p = placed ss c k.low k.high k.one in

@@ -66,9 +66,11 @@ no_comment (b ∷ bs) after h plain =
   where
     line_opens : (b : ℕ) (bs after : List ℕ) → is_line_comment (b ∷ bs) after ≡ true → (47 == b) ≡ true
     line_opens b bs after e = left_true (47 == b) _ (left_true (begins (codes "//") (b ∷ bs)) _ (left_true _ _ e))
+
     block_opens : (b : ℕ) (bs : List ℕ) → is_block_comment (b ∷ bs) ≡ true → (47 == b) ≡ true
     block_opens b [] e = cc
     block_opens b (c ∷ bs) e = turned b (left_true (b == 47) _ (left_true (same (b ∷ c ∷ []) (codes "/*")) _ e))
+
     opens : (x y : Bool) → (x || y) ≡ true → (x ≡ true → (47 == b) ≡ true) → (y ≡ true → (47 == b) ≡ true) → ⊥
     opens true y e p q = no_slash b (left_true (is_plain b) (list_all is_plain bs) plain) (p refl)
     opens false y e p q = no_slash b (left_true (is_plain b) (list_all is_plain bs) plain) (q e)
@@ -132,7 +134,7 @@ kept_or_fewer size (t ∷ ts) all =
     chosen : (b : Bool) → (b ≡ true → hashes t.bytes ≡ 1) → hashes_in (map symbol (without_scop_lines 3 ts)) ≤ hashes_in (map symbol ts)
         → (without_scop_lines 0 ts ≡ ts) ⊎ (suc (hashes_in (map symbol (without_scop_lines 0 ts))) ≤ hashes_in (map symbol ts))
         → let chosen_tokens = if b then without_scop_lines 3 ts else t ∷ without_scop_lines 0 ts in
-          (chosen_tokens ≡ t ∷ ts) ⊎ (suc (hashes_in (map symbol chosen_tokens)) ≤ hashes t.bytes + hashes_in (map symbol ts))
+        (chosen_tokens ≡ t ∷ ts) ⊎ (suc (hashes_in (map symbol chosen_tokens)) ≤ hashes t.bytes + hashes_in (map symbol ts))
     chosen true one less rest = let is_one = one refl in inr (omega (arith, is_one, less))
     chosen false one less (inl e) = inl (ap (λ x. t ∷ x) e)
     chosen false one less (inr h) = inr (omega (arith, h))

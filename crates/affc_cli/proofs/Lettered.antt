@@ -62,7 +62,7 @@ pub no_prelude : (w : List ℕ) (c : ℕ) (rest : List ℕ) → is_word w ≡ tr
     → begins prelude (w ++ c ∷ rest) ≡ false
 no_prelude w c rest word other unlike =
     not_true (begins prelude (w ++ c ∷ rest)) (λ h.
-      true_or_false (sym (same_word (codes "static") (drop 7 prelude) w 32 c rest refl refl (letters_of_word w word) other h) ∙ unlike))
+    true_or_false (sym (same_word (codes "static") (drop 7 prelude) w 32 c rest refl refl (letters_of_word w word) other h) ∙ unlike))
 
 -- a word that isn't reserved
 pub record IsName (w : List ℕ) : Type 0 where
@@ -134,7 +134,7 @@ decimal_is_number n pos lt = number_of_digits (decimal n) (digits_of_decimal n l
     number_of_digits (b ∷ c ∷ bs) all some first =
         both_true (is_digit b && not (b == 48)) (list_all is_digit (c ∷ bs))
         (both_true (is_digit b) (not (b == 48)) (left_true (is_digit b) (list_all is_digit (c ∷ bs)) all)
-          (ap not (not_true (b == 48) (λ e. let same_byte : b ≡ 48 = eqb-true b 48 e in omega arith))))
+        (ap not (not_true (b == 48) (λ e. let same_byte : b ≡ 48 = eqb-true b 48 e in omega arith))))
         (right_true (is_digit b) (list_all is_digit (c ∷ bs)) all)
 
 pub digits_of_number : (ds : List ℕ) → is_number ds ≡ true → AreDigits ds

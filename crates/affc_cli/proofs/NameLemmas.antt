@@ -72,6 +72,7 @@ ends-ends_with part (x ∷ xs) = elim (lt_or_le (length xs) (length part)) [ inl
         let nothing : length (x ∷ xs) - length part ≡ 0 = omega arith in
         ap (λ n. bytes_eq part (drop n (x ∷ xs))) nothing ∙ same-bytes_eq part (x ∷ xs)
         ∙ sym (or-false (same part (x ∷ xs))) ∙ ap (λ b. same part (x ∷ xs) || b) (sym (longer_no_end part xs lt))
+
     later : length part ≤ length xs → ends_with nat_eq xs part ≡ ends part xs → ends_with nat_eq (x ∷ xs) part ≡ ends part (x ∷ xs)
     later le rest =
         let one_more : length (x ∷ xs) - length part ≡ suc (length xs - length part) = omega arith in
@@ -160,8 +161,9 @@ rules_are c r d u range different kept = (forth, back)
     forth h = let all = three r d u h in record {
       range = range.0 all.0;
       different = sym different ∙ all.1;
-      unreserved = ap not (sym (kept-any (names_of c)) ∙ sym kept ∙ all.2)
+      unreserved = ap not (sym (kept-any (names_of c)) ∙ sym kept ∙ all.2);
     }
+
     back : KeepsRules c → IsTrue ((r && d) && not u)
     back k =
         let is_range : r ≡ true = range.1 k.range in

@@ -33,10 +33,10 @@ named w c rest name other leads = record {
   pieces = token Word w ∷ [];
   spelled = append-nil w;
   standing = both_true _ true (both_true (is_word w && not (is_letter_or_digit c)) (not (begins prelude (w ++ c ∷ rest)))
-    (both_true (is_word w) (not (is_letter_or_digit c)) name.word (ap not other)) (ap not (no_prelude w c rest name.word other name.other))) refl;
+      (both_true (is_word w) (not (is_letter_or_digit c)) name.word (ap not other)) (ap not (no_prelude w c rest name.word other name.other))) refl;
   leads = leads;
   its_symbols = refl;
-  plain = letters_are_plain w (letters_of_word w name.word)
+  plain = letters_are_plain w (letters_of_word w name.word);
 }
 
 -- a number before a byte that isn't of it
@@ -46,11 +46,11 @@ numbered n c rest range other = record {
   pieces = token Number (decimal n) ∷ [];
   spelled = append-nil (decimal n);
   standing = both_true _ true (both_true (is_number (decimal n) && is_small (decimal n)) (not (is_letter_or_digit c))
-    (both_true (is_number (decimal n)) (is_small (decimal n)) (decimal_is_number n range.some range.small)
+      (both_true (is_number (decimal n)) (is_small (decimal n)) (decimal_is_number n range.some range.small)
       (ap (λ x. nat_lt x (2 ^ 64)) (value_of-decimal n range.small) ∙ lt-ltb n (2 ^ 64) range.small)) (ap not other)) refl;
   leads = refl;
   its_symbols = refl;
-  plain = digits_are_plain (decimal n) (digits_of_decimal n range.small)
+  plain = digits_are_plain (decimal n) (digits_of_decimal n range.small);
 }
 
 -- one space
@@ -64,12 +64,12 @@ lead : (rest : List ℕ) → Stretch Fresh (codes "#include <stdint.h>\n#pragma 
     Directive rest
 lead rest = record {
   pieces = token Hash (codes "#") ∷ token Word (codes "include") ∷ space ∷ token Header (codes "<stdint.h>") ∷ token LineEnd (codes "\n")
-    ∷ token Hash (codes "#") ∷ token Word (codes "pragma") ∷ space ∷ token Word (codes "affc") ∷ space ∷ token Word (codes "param") ∷ space ∷ [];
+      ∷ token Hash (codes "#") ∷ token Word (codes "pragma") ∷ space ∷ token Word (codes "affc") ∷ space ∷ token Word (codes "param") ∷ space ∷ [];
   spelled = refl;
   standing = refl;
   leads = refl;
   its_symbols = refl;
-  plain = refl
+  plain = refl;
 }
 
 end_of_line : (rest : List ℕ) → Stretch Directive (codes "\n") (line_end ∷ []) Fresh rest
@@ -123,7 +123,11 @@ void_ rest = record { pieces = token Word (codes "void") ∷ space ∷ []; spell
 first_parameter : (rest : List ℕ) → Stretch Inside (codes "(int64_t ") (mark (codes "(") ∷ word (codes "int64_t") ∷ []) Inside rest
 first_parameter rest = record {
   pieces = token Mark (codes "(") ∷ token Word (codes "int64_t") ∷ space ∷ [];
-  spelled = refl; standing = refl; leads = refl; its_symbols = refl; plain = refl
+  spelled = refl;
+  standing = refl;
+  leads = refl;
+  its_symbols = refl;
+  plain = refl;
 }
 
 -- `, const uint64_t `
@@ -131,32 +135,44 @@ second_parameter : (rest : List ℕ)
     → Stretch Inside (codes ", const uint64_t ") (mark (codes ",") ∷ word (codes "const") ∷ word (codes "uint64_t") ∷ []) Inside rest
 second_parameter rest = record {
   pieces = token Mark (codes ",") ∷ space ∷ token Word (codes "const") ∷ space ∷ token Word (codes "uint64_t") ∷ space ∷ [];
-  spelled = refl; standing = refl; leads = refl; its_symbols = refl; plain = refl
+  spelled = refl;
+  standing = refl;
+  leads = refl;
+  its_symbols = refl;
+  plain = refl;
 }
 
 -- `[`
 bracket : (rest : List ℕ) → Stretch Inside (codes "[") (mark (codes "[") ∷ []) Inside rest
 bracket rest = record {
   pieces = token Mark (codes "[") ∷ [];
-  spelled = refl; standing = rw (lone 91 refl refl refl rest) refl; leads = refl; its_symbols = refl; plain = refl
+  spelled = refl;
+  standing = rw (lone 91 refl refl refl rest) refl;
+  leads = refl;
+  its_symbols = refl;
+  plain = refl;
 }
 
 -- `], `
 third_parameter : (rest : List ℕ) → Stretch Inside (codes "], ") (mark (codes "]") ∷ mark (codes ",") ∷ []) Inside rest
 third_parameter rest = record {
   pieces = token Mark (codes "]") ∷ token Mark (codes ",") ∷ space ∷ [];
-  spelled = refl; standing = rw (lone 44 refl refl refl (32 ∷ rest)) refl; leads = refl; its_symbols = refl; plain = refl
+  spelled = refl;
+  standing = rw (lone 44 refl refl refl (32 ∷ rest)) refl;
+  leads = refl;
+  its_symbols = refl;
+  plain = refl;
 }
 
 input_stretch : (f n a : List ℕ) (rest : List ℕ) → IsName f → IsName n → IsName a
     → Stretch Fresh (input_text f n a)
     (word (codes "void") ∷ word f ∷ mark (codes "(") ∷ word (codes "int64_t") ∷ word n ∷ mark (codes ",") ∷ word (codes "const") ∷ word (codes "uint64_t")
-      ∷ word a ∷ mark (codes "[") ∷ word n ∷ mark (codes "]") ∷ mark (codes ",") ∷ [])
+    ∷ word a ∷ mark (codes "[") ∷ word n ∷ mark (codes "]") ∷ mark (codes ",") ∷ [])
     Inside rest
 unfolding input_text
 input_stretch f n a rest hf hn ha =
     join (void_ _) (join (named f 40 _ hf refl refl) (join (first_parameter _) (join (named n 44 _ hn refl refl)
-      (join (second_parameter _) (join (named a 91 _ ha refl refl) (join (bracket _) (join (named n 93 _ hn refl refl) (third_parameter rest))))))))
+    (join (second_parameter _) (join (named a 91 _ ha refl refl) (join (bracket _) (join (named n 93 _ hn refl refl) (third_parameter rest))))))))
 
 -- `uint64_t `
 array : (rest : List ℕ) → Stretch Inside (codes "uint64_t ") (word (codes "uint64_t") ∷ []) Inside rest
@@ -166,7 +182,11 @@ array rest = record { pieces = token Word (codes "uint64_t") ∷ space ∷ []; s
 body : (rest : List ℕ) → Stretch Inside (codes "]) {\n") (mark (codes "]") ∷ mark (codes ")") ∷ mark (codes "{") ∷ []) Fresh rest
 body rest = record {
   pieces = token Mark (codes "]") ∷ token Mark (codes ")") ∷ space ∷ token Mark (codes "{") ∷ line_feed ∷ [];
-  spelled = refl; standing = rw (lone 123 refl refl refl (10 ∷ rest)) refl; leads = refl; its_symbols = refl; plain = refl
+  spelled = refl;
+  standing = rw (lone 123 refl refl refl (10 ∷ rest)) refl;
+  leads = refl;
+  its_symbols = refl;
+  plain = refl;
 }
 
 output_stretch : (n b : List ℕ) (rest : List ℕ) → IsName n → IsName b
@@ -180,42 +200,62 @@ output_stretch n b rest hn hb =
 for_ : (rest : List ℕ) → Stretch Fresh (codes "  for (int64_t ") (word (codes "for") ∷ mark (codes "(") ∷ word (codes "int64_t") ∷ []) Inside rest
 for_ rest = record {
   pieces = space ∷ space ∷ token Word (codes "for") ∷ space ∷ token Mark (codes "(") ∷ token Word (codes "int64_t") ∷ space ∷ [];
-  spelled = refl; standing = refl; leads = refl; its_symbols = refl; plain = refl
+  spelled = refl;
+  standing = refl;
+  leads = refl;
+  its_symbols = refl;
+  plain = refl;
 }
 
 -- ` = 0; `
 from_zero : (rest : List ℕ) → Stretch Inside (codes " = 0; ") (mark (codes "=") ∷ number (codes "0") ∷ mark (codes ";") ∷ []) Inside rest
 from_zero rest = record {
   pieces = space ∷ token Mark (codes "=") ∷ space ∷ token Number (codes "0") ∷ token Mark (codes ";") ∷ space ∷ [];
-  spelled = refl; standing = rw (lone 59 refl refl refl (32 ∷ rest)) refl; leads = refl; its_symbols = refl; plain = refl
+  spelled = refl;
+  standing = rw (lone 59 refl refl refl (32 ∷ rest)) refl;
+  leads = refl;
+  its_symbols = refl;
+  plain = refl;
 }
 
 -- ` < `
 below : (rest : List ℕ) → Stretch Inside (codes " < ") (mark (codes "<") ∷ []) Inside rest
 below rest = record {
   pieces = space ∷ token Mark (codes "<") ∷ space ∷ [];
-  spelled = refl; standing = rw (spaced_less rest) refl; leads = refl; its_symbols = refl; plain = refl
+  spelled = refl;
+  standing = rw (spaced_less rest) refl;
+  leads = refl;
+  its_symbols = refl;
+  plain = refl;
 }
 
 -- `; `
 then_ : (rest : List ℕ) → Stretch Inside (codes "; ") (mark (codes ";") ∷ []) Inside rest
 then_ rest = record {
   pieces = token Mark (codes ";") ∷ space ∷ [];
-  spelled = refl; standing = rw (lone 59 refl refl refl (32 ∷ rest)) refl; leads = refl; its_symbols = refl; plain = refl
+  spelled = refl;
+  standing = rw (lone 59 refl refl refl (32 ∷ rest)) refl;
+  leads = refl;
+  its_symbols = refl;
+  plain = refl;
 }
 
 -- `++)`
 step : (rest : List ℕ) → Stretch Inside (codes "++)") (mark (codes "++") ∷ mark (codes ")") ∷ []) Inside rest
 step rest = record {
   pieces = token Mark (codes "++") ∷ token Mark (codes ")") ∷ [];
-  spelled = refl; standing = rw (lone 41 refl refl refl rest) refl; leads = refl; its_symbols = refl; plain = refl
+  spelled = refl;
+  standing = rw (lone 41 refl refl refl rest) refl;
+  leads = refl;
+  its_symbols = refl;
+  plain = refl;
 }
 
 loop_stretch : (i n : List ℕ) (rest : List ℕ) → IsName i → IsName n → Stretch Fresh (loop_text i n) (for_line i n) Inside rest
 unfolding loop_text for_line
 loop_stretch i n rest hi hn =
     join (for_ _) (join (named i 32 _ hi refl refl) (join (from_zero _) (join (named i 32 _ hi refl refl) (join (below _)
-      (join (named n 59 _ hn refl refl) (join (then_ _) (join (named i 43 _ hi refl refl) (step rest))))))))
+    (join (named n 59 _ hn refl refl) (join (then_ _) (join (named i 43 _ hi refl refl) (step rest))))))))
 
 -- the assignment's indent
 indent : (rest : List ℕ) → Stretch Fresh (codes "    ") [] Fresh rest
@@ -225,21 +265,29 @@ indent rest = record { pieces = space ∷ space ∷ space ∷ space ∷ []; spel
 assigned : (rest : List ℕ) → Stretch Inside (codes "] = ") (mark (codes "]") ∷ mark (codes "=") ∷ []) Inside rest
 assigned rest = record {
   pieces = token Mark (codes "]") ∷ space ∷ token Mark (codes "=") ∷ space ∷ [];
-  spelled = refl; standing = rw (spaced_equals rest) refl; leads = refl; its_symbols = refl; plain = refl
+  spelled = refl;
+  standing = rw (spaced_equals rest) refl;
+  leads = refl;
+  its_symbols = refl;
+  plain = refl;
 }
 
 -- `];`
 end_of_assign : (rest : List ℕ) → Stretch Inside (codes "];\n") (mark (codes "]") ∷ mark (codes ";") ∷ []) Fresh rest
 end_of_assign rest = record {
   pieces = token Mark (codes "]") ∷ token Mark (codes ";") ∷ line_feed ∷ [];
-  spelled = refl; standing = rw (lone 59 refl refl refl (10 ∷ rest)) refl; leads = refl; its_symbols = refl; plain = refl
+  spelled = refl;
+  standing = rw (lone 59 refl refl refl (10 ∷ rest)) refl;
+  leads = refl;
+  its_symbols = refl;
+  plain = refl;
 }
 
 assign_stretch : (a b i : List ℕ) (rest : List ℕ) → IsName a → IsName b → IsName i → Stretch Fresh (assign_text a b i) (assign_line b i a) Fresh rest
 unfolding assign_text assign_line
 assign_stretch a b i rest ha hb hi =
     join (indent _) (join (named b 91 _ hb refl refl) (join (bracket _) (join (named i 93 _ hi refl refl) (join (assigned _)
-      (join (named a 91 _ ha refl refl) (join (bracket _) (join (named i 93 _ hi refl refl) (end_of_assign rest))))))))
+    (join (named a 91 _ ha refl refl) (join (bracket _) (join (named i 93 _ hi refl refl) (end_of_assign rest))))))))
 
 -- the names and numbers of the loop
 pub record HasWords (c : CopyLoop) : Type 0 where
@@ -260,19 +308,27 @@ unfolding head_text head_symbols function_line include_line param_line
 head_stretch c rest w =
     join (range_stretch c.parameter c.low c.high _ w.parameter w.low w.high)
     (join (input_stretch c.function c.parameter c.input _ w.function w.parameter w.input)
-      (join (output_stretch c.parameter c.output _ w.parameter w.output) (loop_stretch c.iterator c.parameter rest w.iterator w.parameter)))
+    (join (output_stretch c.parameter c.output _ w.parameter w.output) (loop_stretch c.iterator c.parameter rest w.iterator w.parameter)))
 
 -- ` {`
 opening : (rest : List ℕ) → Stretch Inside (codes " {\n") (mark (codes "{") ∷ []) Fresh rest
 opening rest = record {
   pieces = space ∷ token Mark (codes "{") ∷ line_feed ∷ [];
-  spelled = refl; standing = rw (lone 123 refl refl refl (10 ∷ rest)) refl; leads = refl; its_symbols = refl; plain = refl
+  spelled = refl;
+  standing = rw (lone 123 refl refl refl (10 ∷ rest)) refl;
+  leads = refl;
+  its_symbols = refl;
+  plain = refl;
 }
 
 closing : Stretch Fresh (codes "  }\n}\n") (mark (codes "}") ∷ mark (codes "}") ∷ []) Fresh []
 closing = record {
   pieces = space ∷ space ∷ token Mark (codes "}") ∷ line_feed ∷ token Mark (codes "}") ∷ line_feed ∷ [];
-  spelled = refl; standing = refl; leads = refl; its_symbols = refl; plain = refl
+  spelled = refl;
+  standing = refl;
+  leads = refl;
+  its_symbols = refl;
+  plain = refl;
 }
 
 pub printed_stretch : (c : CopyLoop) → HasWords c → Stretch Fresh (printed_text c) (copy_symbols c (decimal c.low) (decimal c.high) true) Fresh []

@@ -79,7 +79,7 @@ lexes_stretch {text = text} {symbols = symbols} s none = record {
   standing = s.standing;
   ended = ap (λ spot. not (is_on_directive spot)) s.leads;
   unrefused = ap not (unrefused text s.plain);
-  its_tokens = sym (none_dropped (tokens_from 0 s.pieces) (ap has_scop (symbols-tokens 0 s.pieces ∙ s.its_symbols) ∙ none))
+  its_tokens = sym (none_dropped (tokens_from 0 s.pieces) (ap has_scop (symbols-tokens 0 s.pieces ∙ s.its_symbols) ∙ none));
 }
 
 pub printed_reads : (c : CopyLoop) → HasWords c → KeepsRules c → ReadsWide (printed_text c) (copy_tree c)
@@ -101,5 +101,5 @@ printed_reads c words rules =
       range = rules.range;
       different = rules.different;
       unreserved = rules.unreserved;
-      tree = refl
+      tree = refl;
     }

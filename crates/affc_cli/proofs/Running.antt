@@ -25,7 +25,7 @@ refused_at Read name before now cause out told keeps = record {
   done = λ e. absurd (omega arith);
   short = λ e. absurd (omega arith);
   failed = λ e. absurd (omega arith);
-  refused = λ _ _ _. record { refusal = Read; is_status = refl; cause = cause; out = out; told = told }
+  refused = λ _ _ _. record { refusal = Read; is_status = refl; cause = cause; out = out; told = told };
 }
 refused_at Long name before now cause out told keeps = record {
   answers = (1, lit< tt, refl);
@@ -33,7 +33,7 @@ refused_at Long name before now cause out told keeps = record {
   done = λ e. absurd (omega arith);
   short = λ e. absurd (omega arith);
   failed = λ e. absurd (omega arith);
-  refused = λ _ _ _. record { refusal = Long; is_status = refl; cause = cause; out = out; told = told }
+  refused = λ _ _ _. record { refusal = Long; is_status = refl; cause = cause; out = out; told = told };
 }
 refused_at Memory name before now cause out told keeps = record {
   answers = (2, lit< tt, refl);
@@ -41,7 +41,7 @@ refused_at Memory name before now cause out told keeps = record {
   done = λ e. absurd (omega arith);
   short = λ _. inl (record { out = out; told = told });
   failed = λ e. absurd (omega arith);
-  refused = λ _ other _. absurd (other refl)
+  refused = λ _ other _. absurd (other refl);
 }
 refused_at Unbuilt name before now cause out told keeps = record {
   answers = (4, lit< tt, refl);
@@ -49,7 +49,7 @@ refused_at Unbuilt name before now cause out told keeps = record {
   done = λ e. absurd (omega arith);
   short = λ e. absurd (omega arith);
   failed = λ e. absurd (omega arith);
-  refused = λ _ _ _. record { refusal = Unbuilt; is_status = refl; cause = cause; out = out; told = told }
+  refused = λ _ _ _. record { refusal = Unbuilt; is_status = refl; cause = cause; out = out; told = told };
 }
 
 pub refused_runs : (refusal : Refusal) (name : List ℕ) (before now : Outside) (status : ℕ) → status ≡ status_of refusal
@@ -72,7 +72,7 @@ in_part name before out text r promised took = record {
   to_err = [];
   up_to = inl (front_of_put r text, refl);
   out_is = took;
-  err_is = sym (grown-nil before.err.taken)
+  err_is = sym (grown-nil before.err.taken);
 }
 
 -- all was written
@@ -87,11 +87,11 @@ done_runs name before now text bytes promised is took same keeps = record {
     report = [];
     promised = promised;
     out = took ∙ ap (grown before.out.taken) is;
-    err = same ∙ sym (grown-nil before.err.taken)
+    err = same ∙ sym (grown-nil before.err.taken);
   };
   short = λ e. absurd (omega arith);
   failed = λ e. absurd (omega arith);
-  refused = λ other _ _. absurd (other refl)
+  refused = λ other _ _. absurd (other refl);
 }
 
 -- a write failed
@@ -105,7 +105,7 @@ failed_runs name before now text r promised took same rose keeps = record {
   done = λ e. absurd (omega arith);
   short = λ e. absurd (omega arith);
   failed = λ _. record { written = stopped; fault = inr (inl rose) };
-  refused = λ _ _ other. absurd (other refl)
+  refused = λ _ _ other. absurd (other refl);
 }
   where
     stopped : WrittenInPart (Fold name) before now.out.taken now.err.taken
@@ -126,10 +126,10 @@ short_at name before now text r promised took told rose keeps = record {
     err = before.err.taken;
     written = in_part name before now.out.taken text r promised took;
     told = told;
-    short = inr (inl rose)
+    short = inr (inl rose);
   });
   failed = λ e. absurd (omega arith);
-  refused = λ _ other _. absurd (other refl)
+  refused = λ _ other _. absurd (other refl);
 }
 
 pub short_runs : {T : Type 0} (name : List ℕ) (before now : Outside) (status : ℕ) (text : List ℕ) (r : Result T PutFault) → status ≡ 9

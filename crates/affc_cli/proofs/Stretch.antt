@@ -74,11 +74,11 @@ join {spot = spot} {mid = mid} {next = next} {a = a} {b = b} {ks = ks} {ls = ls}
   pieces = s.pieces ++ t.pieces;
   spelled = text-append s.pieces t.pieces ∙ ap (λ x. x ++ text_of t.pieces) s.spelled ∙ ap (λ x. a ++ x) t.spelled;
   standing = stand-append spot s.pieces t.pieces after
-    (ap (λ x. all_stand spot s.pieces (x ++ after)) t.spelled ∙ s.standing)
-    (ap (λ x. all_stand x t.pieces after) s.leads ∙ t.standing);
+      (ap (λ x. all_stand spot s.pieces (x ++ after)) t.spelled ∙ s.standing)
+      (ap (λ x. all_stand x t.pieces after) s.leads ∙ t.standing);
   leads = spot-append spot s.pieces t.pieces ∙ ap (λ x. spot_behind x t.pieces) s.leads ∙ t.leads;
   its_symbols = symbols-append s.pieces t.pieces ∙ ap (λ x. x ++ symbols_of t.pieces) s.its_symbols ∙ ap (λ x. ks ++ x) t.its_symbols;
-  plain = all-append is_plain a b s.plain t.plain
+  plain = all-append is_plain a b s.plain t.plain;
 }
 
 -- places apart, the tokens of the pieces are these

@@ -47,7 +47,7 @@ told_part start before mid now front piece line fault counts had took cause is_f
   front = front ++ take fault.written piece;
   is_front = is_front;
   taken = took ∙ ap (λ o. grown o (take fault.written piece)) had ∙ grown-grown start front (take fault.written piece);
-  whole = inr (falters fault.cause before mid now counts cause)
+  whole = inr (falters fault.cause before mid now counts cause);
 }
 
 -- the first of three pieces
@@ -77,7 +77,7 @@ told_third before mid late now a b c (Ok x) counts had then_had took cause = rec
   front = a ++ b ++ c;
   is_front = ([], append-nil (a ++ b ++ c));
   taken = took ∙ ap (λ o. grown o c) (then_had ∙ ap (λ o. grown o b) had ∙ grown-grown before.taken a b) ∙ grown-grown before.taken (a ++ b) c;
-  whole = inl refl
+  whole = inl refl;
 }
 told_third before mid late now a b c (Err fault) counts had then_had took cause =
     told_part before.taken before late now (a ++ b) c (a ++ b ++ c) fault counts

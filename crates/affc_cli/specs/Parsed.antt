@@ -25,7 +25,7 @@ pub record AreSpelled (c : CopyLoop) (low high : List ℕ) : Type 0 where
 -- Where these are the tokens of a copy loop, `found` is that loop.
 pub record Finds (symbols : List Symbol) (found : CopyLoop) : Type 0 where
   pub is_found : (c : CopyLoop) (low high : List ℕ) → OneOf symbols (copy_symbols c low high) → AreSpelled c low high
-    → found ≡ record c { low = decimal low; high = decimal high }
+      → found ≡ record c { low = decimal low; high = decimal high }
 
 -- These are the tokens of the loop, which keeps the rules.
 pub record IsCopy (symbols : List Symbol) (c : CopyLoop) : Type 0 where

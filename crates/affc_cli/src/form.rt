@@ -37,7 +37,12 @@ fn param_line<'a>(n: &'a [u8], low: &'a [u8], high: &'a [u8]) -> [Symbol<'a>; 8]
 }
 
 #[tactic(auto, unfolding(affc_ast::specs::Reads::function_line))]
-fn function_line<'a>(f: &'a [u8], n: &'a [u8], input: &'a [u8], output: &'a [u8]) -> [Symbol<'a>; 20]
+fn function_line<'a>(
+    f: &'a [u8],
+    n: &'a [u8],
+    input: &'a [u8],
+    output: &'a [u8],
+) -> [Symbol<'a>; 20]
     ensures { all_shown result ≡ function_line f.now n.now input.now output.now }
 {
     [

@@ -10,6 +10,8 @@ mod print;
 mod refusal;
 mod serve;
 mod symbols;
+#[cfg(test)]
+mod tests;
 mod words;
 
 use affc_io::{StdFolder, StdSink};

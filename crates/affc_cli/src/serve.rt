@@ -44,13 +44,15 @@ fn run_fold<F: Folder, O: Sink, E: Sink>(
 ) -> u8
     ensures { Runs (Fold name.now)
         (record {
-            folder = record { held = F.held folder.old; faults = F.faults folder.old; shortages = F.shortages folder.old };
-            out = record { taken = O.taken out.old; faults = O.faults out.old; shortages = O.shortages out.old };
-            err = record { taken = E.taken err.old; faults = E.faults err.old; shortages = E.shortages err.old } })
+          folder = record { held = F.held folder.old; faults = F.faults folder.old; shortages = F.shortages folder.old };
+          out = record { taken = O.taken out.old; faults = O.faults out.old; shortages = O.shortages out.old };
+          err = record { taken = E.taken err.old; faults = E.faults err.old; shortages = E.shortages err.old };
+        })
         (record {
-            folder = record { held = F.held folder.new; faults = F.faults folder.new; shortages = F.shortages folder.new };
-            out = record { taken = O.taken out.new; faults = O.faults out.new; shortages = O.shortages out.new };
-            err = record { taken = E.taken err.new; faults = E.faults err.new; shortages = E.shortages err.new } })
+          folder = record { held = F.held folder.new; faults = F.faults folder.new; shortages = F.shortages folder.new };
+          out = record { taken = O.taken out.new; faults = O.faults out.new; shortages = O.shortages out.new };
+          err = record { taken = E.taken err.new; faults = E.faults err.new; shortages = E.shortages err.new };
+        })
         result }
 {
     let text = match folded(alloc, name, folder) {
@@ -82,13 +84,15 @@ pub fn serve<F: Folder, O: Sink, E: Sink>(
 ) -> u8
     ensures { Serves (texts_of words.now)
         (record {
-            folder = record { held = F.held folder.old; faults = F.faults folder.old; shortages = F.shortages folder.old };
-            out = record { taken = O.taken out.old; faults = O.faults out.old; shortages = O.shortages out.old };
-            err = record { taken = E.taken err.old; faults = E.faults err.old; shortages = E.shortages err.old } })
+          folder = record { held = F.held folder.old; faults = F.faults folder.old; shortages = F.shortages folder.old };
+          out = record { taken = O.taken out.old; faults = O.faults out.old; shortages = O.shortages out.old };
+          err = record { taken = E.taken err.old; faults = E.faults err.old; shortages = E.shortages err.old };
+        })
         (record {
-            folder = record { held = F.held folder.new; faults = F.faults folder.new; shortages = F.shortages folder.new };
-            out = record { taken = O.taken out.new; faults = O.faults out.new; shortages = O.shortages out.new };
-            err = record { taken = E.taken err.new; faults = E.faults err.new; shortages = E.shortages err.new } })
+          folder = record { held = F.held folder.new; faults = F.faults folder.new; shortages = F.shortages folder.new };
+          out = record { taken = O.taken out.new; faults = O.faults out.new; shortages = O.shortages out.new };
+          err = record { taken = E.taken err.new; faults = E.faults err.new; shortages = E.shortages err.new };
+        })
         result }
 {
     match fold_source(words) {

@@ -76,7 +76,11 @@ pub fn after<'s, 'a>(symbols: &'s [Symbol<'a>], front: &[Symbol<'_>]) -> Option<
         return None;
     }
     let (first, rest) = symbols.split_at(front.len());
-    if are_same(first, front) { Some(rest) } else { None }
+    if are_same(first, front) {
+        Some(rest)
+    } else {
+        None
+    }
 }
 
 /// Whether these are the tokens of the one list and then those of the other.

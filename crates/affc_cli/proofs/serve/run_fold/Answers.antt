@@ -14,7 +14,7 @@ returns-in-Fault g c =
     (record {
       folder = c.in-Ok.ensures.keeps;
       out = record { faults = c.put_all.ensures.faults; shortages = c.put_all.ensures.shortages };
-      err = record { faults = omega arith; shortages = omega arith }
+      err = record { faults = omega arith; shortages = omega arith };
     })
 
 pub returns : goal.returns
@@ -24,7 +24,7 @@ returns g c =
     (record {
       folder = c.in-Ok.ensures.keeps;
       out = record { faults = c.put_all.ensures.faults; shortages = c.put_all.ensures.shortages };
-      err = c.tell-in-Memory.ensures.counts
+      err = c.tell-in-Memory.ensures.counts;
     })
 
 pub returns-in-Ok-put_all : goal.returns-in-Ok-put_all
@@ -33,5 +33,5 @@ returns-in-Ok-put_all g c =
     (record {
       folder = c.in-Ok.ensures.keeps;
       out = record { faults = c.put_all.ensures.faults; shortages = c.put_all.ensures.shortages };
-      err = record { faults = omega arith; shortages = omega arith }
+      err = record { faults = omega arith; shortages = omega arith };
     })

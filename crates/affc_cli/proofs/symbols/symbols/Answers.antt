@@ -12,8 +12,8 @@ returns c = record {
   tokens = _;
   its_tokens = c.in-Ok.ensures.tokens;
   its_symbols = symbols_all c.args.text.now c.in-Ok.tokens.items c.deref-token-items.result.now c.loop-token.token-index c.loop-token.symbols.items
-    c.deref-token-items.ensures.value c.loop-token-test.false c.loop-token.invariant;
-  no_others = λ others lexes. c.in-Ok.ensures.only others lexes
+      c.deref-token-items.ensures.value c.loop-token-test.false c.loop-token.invariant;
+  no_others = λ others lexes. c.in-Ok.ensures.only others lexes;
 }
 
 pub returns-in-Err-BadByte : goal.returns-in-Err-BadByte
