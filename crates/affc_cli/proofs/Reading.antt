@@ -18,9 +18,12 @@ use Rattle.affc_cli.proofs.Printed.{HasWords, printed_stretch}
 
 -- ---- No lines are dropped
 
+abbrev pub is_named : List ℕ → Symbol → Bool
+is_named name s = is_word_kind s.kind && same s.bytes name
+
 pub begins_scop : List Symbol → Bool
 begins_scop (hash ∷ first ∷ second ∷ last ∷ others) =
-    is_hash hash.kind && (is_word_kind first.kind && same first.bytes (codes "pragma")) && (is_word_kind second.kind && (same second.bytes (codes "scop") || same second.bytes (codes "endscop"))) && is_line_end last.kind
+    is_hash hash.kind && is_named (codes "pragma") first && (is_named (codes "scop") second || is_named (codes "endscop") second) && is_line_end last.kind
 begins_scop _ = false
 
 pub has_scop : List Symbol → Bool
