@@ -1,0 +1,6 @@
+pub mod Grammar
+pub mod Draft
+pub mod Names
+pub mod Limits
+pub mod Printed
+pub mod Reads
