@@ -16,6 +16,14 @@ pub record Symbol : Type 0 where
   pub kind : Kind
   pub bytes : List ℕ
 
+abbrev pub is_word : Kind → Bool
+is_word Word = true
+is_word _ = false
+
+abbrev pub is_mark : Kind → Bool
+is_mark Mark = true
+is_mark _ = false
+
 -- the bytes of a Word, and of a Number
 abbrev pub Name : Type 0
 Name = List ℕ
@@ -360,13 +368,9 @@ pragmas_symbols no_pragmas = []
 pragmas_symbols (and_range ps w low high line) = pragmas_symbols ps ++ (pragma_symbols (codes "param") ++ word w ∷ (int_symbols low ++ (int_symbols high ++ line_symbols line)))
 pragmas_symbols (and_context ps cs line) = pragmas_symbols ps ++ (pragma_symbols (codes "context") ++ (conds_symbols cs ++ line_symbols line))
 
-abbrev pub is_word : Kind → Bool
-is_word Word = true
-is_word _ = false
-
 -- whether a Word stands directly before a "(", which in conditions is a call
 abbrev pub has_call : List Symbol → Bool
-has_call (f ∷ open_bracket ∷ others) = (is_word f.kind && same open_bracket.bytes (codes "(")) || has_call (open_bracket ∷ others)
+has_call (f ∷ open_bracket ∷ others) = (is_word f.kind && is_mark open_bracket.kind && same open_bracket.bytes (codes "(")) || has_call (open_bracket ∷ others)
 has_call _ = false
 
 abbrev pub context_calls : PragmasText → Bool

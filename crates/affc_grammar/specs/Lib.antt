@@ -4,3 +4,4 @@ pub mod Names
 pub mod Limits
 pub mod Printed
 pub mod Reads
+pub mod Reader

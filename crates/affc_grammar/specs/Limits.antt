@@ -6,7 +6,7 @@ use Rattle.affc_lex.specs.declared.token.Kind.TheVariants.{Word, Number, Value, 
 use Rattle.affc_lex.specs.Bytes.{same}
 use Rattle.affc_grammar.specs.declared.fault.LimitName.{LimitName}
 use Rattle.affc_grammar.specs.declared.fault.LimitName.TheVariants.{Tokens, Run, Depth, Items, Parameters, Range, Loops, Statements, Empty, Accesses, Dimensions, Comparisons, Literal, Coefficient}
-use Rattle.affc_grammar.specs.Grammar.{Symbol, Name}
+use Rattle.affc_grammar.specs.Grammar.{Symbol, Name, is_word, is_mark}
 use Rattle.affc_grammar.specs.Draft.{IxDraft, literal, name, negated, sum, difference, product, grouped, chosen, divided, CompareDraft, ValueDraft, load, constant, cast, complement, binary, shift, LocalDraft, StmtsDraft, no_stmts, and_stmt, StmtDraft, for_loop, if_all, assign, block, DeclDraft, ParamDraft, number_param, array_param, PragmaDraft, range, context, TextDraft}
 
 pub record Limits : Type 0 where
@@ -63,21 +63,21 @@ at_if false at = []
 
 -- ---- Shape, looked at before the grammar
 
-abbrev pub is_bytes : List ℕ → Symbol → Bool
-is_bytes bytes s = same s.bytes bytes
-
-abbrev pub is_opening : Symbol → Bool
-is_opening s = is_bytes (codes "(") s || is_bytes (codes "[") s || is_bytes (codes "{") s
-
-abbrev pub is_closing : Symbol → Bool
-is_closing s = is_bytes (codes ")") s || is_bytes (codes "]") s || is_bytes (codes "}") s
-
 abbrev pub is_line_end : Kind → Bool
 is_line_end LineEnd = true
 is_line_end _ = false
 
+abbrev pub is_opening : Symbol → Bool
+is_opening s = is_mark s.kind && (same s.bytes (codes "(") || same s.bytes (codes "[") || same s.bytes (codes "{"))
+
+abbrev pub is_closing : Symbol → Bool
+is_closing s = is_mark s.kind && (same s.bytes (codes ")") || same s.bytes (codes "]") || same s.bytes (codes "}"))
+
 abbrev pub is_separator : Symbol → Bool
-is_separator s = is_bytes (codes ";") s || is_bytes (codes "{") s || is_bytes (codes "}") s || is_line_end s.kind
+is_separator s = is_line_end s.kind || (is_mark s.kind && (same s.bytes (codes ";") || same s.bytes (codes "{") || same s.bytes (codes "}")))
+
+abbrev pub is_item : Symbol → Bool
+is_item s = is_word s.kind && (same s.bytes (codes "for") || same s.bytes (codes "if"))
 
 -- What a counter is behind a token.
 
@@ -92,7 +92,7 @@ abbrev pub count_open : ℕ → Symbol → ℕ
 count_open n s = if is_opening s then n + 1 else (if is_closing s then n - 1 else n)
 
 abbrev pub count_item : ℕ → Symbol → ℕ
-count_item n s = if is_bytes (codes "for") s || is_bytes (codes "if") s then n + 1 else n
+count_item n s = if is_item s then n + 1 else n
 
 -- the tokens behind which the counter is above the limit; the first token has the number `at`
 abbrev pub tokens_past : (ℕ → Symbol → ℕ) → (limit at count : ℕ) → List Symbol → List ℕ
