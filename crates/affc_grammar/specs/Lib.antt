@@ -5,3 +5,4 @@ pub mod Limits
 pub mod Printed
 pub mod Reads
 pub mod Reader
+pub mod Reading

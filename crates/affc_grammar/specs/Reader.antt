@@ -47,12 +47,35 @@ on test past = either test past fail
 
 -- again and again past a token that passes the test, at most so many times
 unfoldable pub many : {T A K : Type 0} → (T → Option K) → (K → A → Reader T A) → ℕ → A → Reader T A
-many test next zero left = give left
-many test next (suc n) left = either test (λ k. after (next k left) (many test next n)) (give left)
+many test turn zero left = give left
+many test turn (suc n) left = either test (λ k. after (turn k left) (many test turn n)) (give left)
 
 -- as often as it can be
 unfoldable pub all : {T A K : Type 0} → (T → Option K) → (K → A → Reader T A) → A → Reader T A
-all test next left ts = many test next (length ts) left ts
+all test turn left ts = many test turn (length ts) left ts
+
+-- what a turn gives: something to go on with, or the whole
+pub data Turn (A C : Type 0) : Type 0 where
+  going : A → Turn A C
+  done : C → Turn A C
+
+-- again and again past a token that passes the test, until the whole is read
+unfoldable pub tries : {T A C K : Type 0} → (T → Option K) → (K → A → Reader T (Turn A C)) → ℕ → A → Reader T C
+tries test turn zero left = fail
+tries test turn (suc n) left = on test (λ k. after (turn k left) (elim [ going a ↦ tries test turn n a | done c ↦ give c ]))
+
+unfoldable pub until : {T A C K : Type 0} → (T → Option K) → (K → A → Reader T (Turn A C)) → A → Reader T C
+until test turn left ts = tries test turn (length ts) left ts
+
+-- behind a bracket that was opened where so many could be
+unfoldable pub inside : {T A : Type 0} → (ℕ → Reader T A) → ℕ → Reader T A
+inside p zero = deep
+inside p (suc room) = p room
+
+-- this, at the end of the text
+unfoldable pub finished : {T A : Type 0} → A → Reader T A
+finished a [] = Ok (a, [])
+finished a (x ∷ ts) = Err (At (x ∷ ts))
 
 -- Counting open brackets: `next n t` are open behind the token where n were open before.
 -- at most `limit` are open at any time, where n are open now
