@@ -6,3 +6,4 @@ pub mod Printed
 pub mod Reads
 pub mod Reader
 pub mod Reading
+pub mod Verdict
