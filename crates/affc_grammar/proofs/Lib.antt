@@ -1,3 +1,4 @@
 pub mod Readers
 pub mod Rule
-mod Trial
+pub mod Tests
+pub mod Rules

@@ -1,6 +1,6 @@
 -- What any reader by the first token obeys: what is left is an end of what was given, and nothing past the first token that is left was looked at.
 use Rattle.std.proofs.Common.{◌≡◌, ◌≢◌, ℕ, zero, suc, ◌+◌, ◌≤◌, ◌<◌, Bool, true, false, List, [], ◌∷◌, ◌++◌, length, Option, Some, None, Result, Ok, Err, refl, sym, ap, ◌∙◌, subst, ◌⊎◌, inl, inr, arith, append_assoc, append-nil, length-append}
-use Rattle.affc_grammar.specs.Reader.{Stop, At, Deep, Read, Reader, then_read, on_some, give, fail, deep, after, either, many, all}
+use Rattle.affc_grammar.specs.Reader.{Stop, At, Deep, Read, Reader, then_read, on_some, Turn, going, done, give, fail, deep, after, either, many, all, tries, until, and_on, finished}
 
 pub then_ok : {T A B : Type 0} (r : Read T A) (f : A → Reader T B) (y : B × List T) → then_read r f ≡ Ok y → (a : A) × (us : List T) × (r ≡ Ok (a, us)) × (f a us ≡ Ok y)
 then_ok (Ok x) f y e = (x.0, x.1, refl, e)
@@ -230,3 +230,101 @@ module _ {T A K : Type 0} (test : T → Option K) (next : K → A → Reader T A
 
 pub is_all : {T A K : Type 0} {test : T → Option K} {next : K → A → Reader T A} → ((x : T) (k : K) → test x ≡ Some k → (left : A) → IsReader (next k left)) → (left : A) → IsReader (all test next left)
 is_all {T} {A} {K} {test} {next} r left = is_all_at test next r left
+
+-- ---- Until the whole is read
+
+pub is_and_on : {T A C : Type 0} {again : A → Reader T C} → ((a : A) → IsReader (again a)) → (s : Turn A C) → IsReader (and_on again s)
+is_and_on h (going a) = h a
+is_and_on h (done c) = is_give c
+
+module _ {T A C K : Type 0} (test : T → Option K) (turn : K → A → Reader T (Turn A C)) (r : (x : T) (k : K) → test x ≡ Some k → (left : A) → IsReader (turn k left)) where
+  is_tries : (n : ℕ) (left : A) → IsReader (tries test turn n left)
+  unfolding tries
+  is_tries zero left = is_fail
+  is_tries (suc n) left = is_either (λ x k q. is_after (r x k q left) (is_and_on (is_tries n))) is_fail
+
+  fewer_then : (x : T) (k : K) → test x ≡ Some k → (left : A) (ts : List T) (s : Turn A C) (us : List T) → turn k left ts ≡ Ok (s, us) → length us ≤ length ts
+  fewer_then x k q left ts s us e = let m = (r x k q left).ok_left ts s us e in omega (arith, ap length m.1, length-append m.0 us)
+
+  next_enough : (m n : ℕ) (us : List T) → ((a : A) → tries test turn m a us ≡ tries test turn n a us) → (s : Turn A C) → and_on (tries test turn m) s us ≡ and_on (tries test turn n) s us
+  next_enough m n us h (going a) = h a
+  next_enough m n us h (done c) = refl
+
+  tries_at : (m n : ℕ) (left : A) (x : T) (ts : List T) → ((a : A) (us : List T) → length us ≤ length ts → tries test turn m a us ≡ tries test turn n a us) → (o : Option K) → test x ≡ o
+      → on_some o (λ k. after (turn k left) (and_on (tries test turn m)) ts) (fail (x ∷ ts)) ≡ on_some o (λ k. after (turn k left) (and_on (tries test turn n)) ts) (fail {A = C} (x ∷ ts))
+  unfolding after
+  tries_at m n left x ts h None q = refl
+  tries_at m n left x ts h (Some k) q = then_same (turn k left ts) _ _ (λ s us e. next_enough m n us (λ a. h a us (fewer_then x k q left ts s us e)) s)
+
+  tries_empty : (n : ℕ) (left : A) → tries test turn n left [] ≡ Err (At [])
+  unfolding tries either fail
+  tries_empty zero left = refl
+  tries_empty (suc n) left = refl
+
+  tries_enough : (m n : ℕ) (left : A) (ts : List T) → length ts ≤ m → length ts ≤ n → tries test turn m left ts ≡ tries test turn n left ts
+  unfolding tries either
+  tries_enough m n left [] p q = tries_empty m left ∙ sym (tries_empty n left)
+  tries_enough zero n left (x ∷ ts) p q = absurd (omega arith)
+  tries_enough (suc m) zero left (x ∷ ts) p q = absurd (omega arith)
+  tries_enough (suc m) (suc n) left (x ∷ ts) p q = tries_at m n left x ts (λ a us few. tries_enough m n a us (omega arith) (omega arith)) (test x) refl
+
+  is_until_at : (left : A) → IsReader (until test turn left)
+  unfolding until
+  is_until_at left = record {
+    ok_left = λ ts a rest e. (is_tries (length ts) left).ok_left ts a rest e;
+    at_left = λ ts rest e. (is_tries (length ts) left).at_left ts rest e;
+    ok_same = λ xs t ys zs w a e.
+      let n = length (xs ++ t ∷ ys) + length (xs ++ t ∷ zs) in
+      tries_enough (length (xs ++ t ∷ zs)) n left (xs ++ t ∷ zs) (omega arith) (omega arith)
+      ∙ (is_tries n left).ok_same xs t ys zs w a (tries_enough n (length (xs ++ t ∷ ys)) left (xs ++ t ∷ ys) (omega arith) (omega arith) ∙ e);
+    at_same = λ xs t ys zs w e.
+      let n = length (xs ++ t ∷ ys) + length (xs ++ t ∷ zs) in
+      tries_enough (length (xs ++ t ∷ zs)) n left (xs ++ t ∷ zs) (omega arith) (omega arith)
+      ∙ (is_tries n left).at_same xs t ys zs w (tries_enough n (length (xs ++ t ∷ ys)) left (xs ++ t ∷ ys) (omega arith) (omega arith) ∙ e);
+  }
+
+  -- one turn, and the others
+  pub until_going : (left : A) (x : T) (ts : List T) (k : K) (a : A) (us : List T) → test x ≡ Some k → turn k left ts ≡ Ok (going a, us) → until test turn left (x ∷ ts) ≡ until test turn a us
+  unfolding until tries either after
+  until_going left x ts k a us e h = rw (e, h) (tries_enough (length ts) (length us) a us (fewer_then x k e left ts (going a) us h) (omega arith))
+
+  pub until_done : (left : A) (x : T) (ts : List T) (k : K) (c : C) (us : List T) → test x ≡ Some k → turn k left ts ≡ Ok (done c, us) → until test turn left (x ∷ ts) ≡ Ok (c, us)
+  unfolding until tries either after give
+  until_done left x ts k c us e h = rw (e, h)
+
+pub is_until : {T A C K : Type 0} {test : T → Option K} {turn : K → A → Reader T (Turn A C)} → ((x : T) (k : K) → test x ≡ Some k → (left : A) → IsReader (turn k left)) → (left : A) → IsReader (until test turn left)
+is_until {T} {A} {C} {K} {test} {turn} r left = is_until_at test turn r left
+
+module _ {T A : Type 0} (a : A) where
+  ended : (ts : List T) (b : A) (rest : List T) → finished a ts ≡ Ok (b, rest) → (used : List T) × (ts ≡ used ++ rest)
+  unfolding finished
+  ended [] b rest e = ([], (same_ok a [] b rest e).1)
+  ended (x ∷ ts) b rest e = absurd (cc)
+
+  stopped : (ts rest : List T) → finished a ts ≡ Err (At rest) → (used : List T) × (ts ≡ used ++ rest)
+  unfolding finished
+  stopped [] rest e = absurd (cc)
+  stopped (x ∷ ts) rest e = ([], same_at {T = T} {A = A} (x ∷ ts) rest e)
+
+  not_ended : (xs : List T) (t : T) (ys : List T) (r : A × List T) → finished a (xs ++ t ∷ ys) ≡ Ok r → ⊥
+  unfolding finished
+  not_ended [] t ys r e = cc
+  not_ended (x ∷ xs) t ys r e = cc
+
+  stops_here : (xs : List T) (t : T) (ys : List T) → finished a (xs ++ t ∷ ys) ≡ Err (At (xs ++ t ∷ ys))
+  unfolding finished
+  stops_here [] t ys = refl
+  stops_here (x ∷ xs) t ys = refl
+
+  finished_is : IsReader (finished {T = T} a)
+  finished_is = record {
+    ok_left = ended;
+    at_left = stopped;
+    ok_same = λ xs t ys zs w b e. absurd (not_ended xs t ys (b, w ++ t ∷ ys) e);
+    at_same = λ xs t ys zs w e.
+      let all_same : xs ++ t ∷ ys ≡ w ++ t ∷ ys = same_at {T = T} {A = A} (xs ++ t ∷ ys) (w ++ t ∷ ys) (sym (stops_here xs t ys) ∙ e) in
+      stops_here xs t zs ∙ ap (λ l. Err (At (l ++ t ∷ zs))) (same_front xs w (t ∷ ys) all_same);
+  }
+
+pub is_finished : {T A : Type 0} (a : A) → IsReader (finished {T = T} a)
+is_finished {T} a = finished_is {T = T} a

@@ -59,10 +59,15 @@ pub data Turn (A C : Type 0) : Type 0 where
   going : A → Turn A C
   done : C → Turn A C
 
+-- behind a turn
+abbrev pub and_on : {T A C : Type 0} → (A → Reader T C) → Turn A C → Reader T C
+and_on again (going a) = again a
+and_on again (done c) = give c
+
 -- again and again past a token that passes the test, until the whole is read
 unfoldable pub tries : {T A C K : Type 0} → (T → Option K) → (K → A → Reader T (Turn A C)) → ℕ → A → Reader T C
 tries test turn zero left = fail
-tries test turn (suc n) left = on test (λ k. after (turn k left) (elim [ going a ↦ tries test turn n a | done c ↦ give c ]))
+tries test turn (suc n) left = on test (λ k. after (turn k left) (and_on (tries test turn n)))
 
 unfoldable pub until : {T A C K : Type 0} → (T → Option K) → (K → A → Reader T (Turn A C)) → A → Reader T C
 until test turn left ts = tries test turn (length ts) left ts
