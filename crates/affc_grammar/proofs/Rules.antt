@@ -5,12 +5,13 @@ use Rattle.affc_ast.specs.declared.tree.Op.TheVariants.{Add, Sub, Mul, And, Or, 
 use Rattle.affc_ast.specs.declared.tree.Rel.{Rel}
 use Rattle.affc_ast.specs.declared.tree.Rel.TheVariants.{Less, LessEqual, Greater, GreaterEqual, Equal}
 use Rattle.affc_grammar.specs.Grammar as g
-use Rattle.affc_grammar.specs.Grammar.{Symbol, Name, Digits, LineText, line_feed, text_end, Choice, minimum, Rounding, down, word, number, mark, is_divisor, IxText, TermText, FactorText, AtomText, DimsText, CondsText, CondText, ValueText, StepText, LocalsText, StmtsText, StmtText, SimpleText, BodyText, ParamText, ParamsText, NamesText, DeclsText, FunctionText, IntText, PragmasText, Text, ix_symbols, term_symbols, factor_symbols, atom_symbols, dims_symbols, conds_symbols, cond_symbols, value_symbols, step_symbols, locals_symbols, stmts_symbols, stmt_symbols, simple_symbols, body_symbols, param_symbols, params_symbols, names_symbols, decls_symbols, function_symbols, int_symbols, pragmas_symbols, text_symbols, rel_mark, op_mark, shift_mark, bound_mark, assign_mark, choice_name, rounding_name}
+use Rattle.affc_grammar.specs.Grammar.{Symbol, Name, Digits, LineText, line_feed, text_end, Choice, minimum, Rounding, down, word, number, mark, is_divisor, IxText, TermText, FactorText, AtomText, DimsText, CondsText, CondText, ValueText, StepText, LocalsText, StmtsText, StmtText, SimpleText, BodyText, ParamText, ParamsText, NamesText, DeclsText, FunctionText, IntText, PragmasText, Text, ix_symbols, term_symbols, factor_symbols, atom_symbols, dims_symbols, conds_symbols, cond_symbols, value_symbols, step_symbols, locals_symbols, stmts_symbols, stmt_symbols, simple_symbols, body_symbols, param_symbols, params_symbols, names_symbols, decls_symbols, function_symbols, int_symbols, pragmas_symbols, text_symbols, rel_mark, op_mark, shift_mark, bound_mark, assign_mark, choice_name, rounding_name, dim_symbols, const_symbols, pragma_symbols, line_symbols, context_calls}
+use Rattle.affc_lex.specs.Bytes.{same}
 use Rattle.affc_grammar.specs.Limits.{count_open}
 use Rattle.affc_grammar.specs.Reader.{Reader, give, fail, deep, after, either, on, all, Turn, going, done, until, inside, finished}
-use Rattle.affc_grammar.specs.Reading.{choose, Callee, of_choice, of_rounding, callee_name, callees, read_call, read_called, read_named, read_atom, read_factor, times_more, read_factors, read_term, joined, sum_more, read_terms, read_sum, ix_inside, read_ix, dims_more, read_dims, Half, condition, expression, Mixed, conditions, index, read_compared, read_closed, read_half, only_condition, read_cond, and_more, read_ands, read_half_more, mixed_inside, read_conds}
-use Rattle.affc_grammar.proofs.Rule.{Rule, give_rule, fail_rule, deep_rule, after_rule, nested_rule, then_rule, refront, either_rule, on_rule, all_rule, until_rule, finished_rule, raise}
-use Rattle.affc_grammar.proofs.Tests.{mark_test, word_test, any_word_test, any_number_test, any_value_test, hash_test, header_test, prelude_test, line_test, sum_test, shift_test, bound_test, rel_test, assign_test, one_test, divisor_test, shift_number_test, op_test, first_symbol, first_test, callee_is, head_word, head_is, sign_mark}
+use Rattle.affc_grammar.specs.Reading.{choose, Callee, of_choice, of_rounding, callee_name, callees, read_call, read_called, read_named, read_atom, read_factor, times_more, read_factors, read_term, joined, sum_more, read_terms, read_sum, ix_inside, read_ix, dims_more, read_dims, Half, condition, expression, Mixed, conditions, index, read_compared, read_closed, read_half, only_condition, read_cond, and_more, read_ands, read_half_more, mixed_inside, read_conds, is_type_name, read_parens, read_plain, complements, read_tildes, read_primary, op_of, op_more, shift_sign, shift_more, read_operands, read_level, value_inside, read_value, read_step, Head, for_head, if_head, Heads, head, and_head, with_body, under, and_one, whole, read_for, read_if, read_assign, head_words, read_head, assigned_under, read_worded, First, a_word, a_brace, first_of, read_body, read_under, read_simple, read_stmt, stmt_more, Block, local_behind, block_stmt, block_word, block_more, stmts_inside, block_inside, read_array, read_param, param_more, read_params, name_more, read_names, Inside, decl_behind, inside_stmt, inside_word, inside_more, read_inside, read_function, read_int, pragma_more, read_without, read_text, holding}
+use Rattle.affc_grammar.proofs.Rule.{Rule, give_rule, fail_rule, deep_rule, after_rule, nested_rule, then_rule, refront, either_rule, on_rule, all_rule, until_rule, finished_rule, raise, turn_spelled}
+use Rattle.affc_grammar.proofs.Tests.{mark_test, word_test, any_word_test, any_number_test, any_value_test, hash_test, header_test, prelude_test, line_test, sum_test, shift_test, bound_test, rel_test, assign_test, one_test, divisor_test, shift_number_test, op_test, first_symbol, first_test, callee_is, head_word, head_is, sign_mark, same_bytes, holding_is}
 
 -- a text is a whole of a rule where nothing was read before
 abbrev pub Whole : {C : Type 0} → (room at : ℕ) → (C → List Symbol) → Reader Symbol C → Type 0
@@ -187,3 +188,181 @@ mixed_inside_rule calls (suc room) = raise (after_rule (half_rule (ix_inside_rul
 
 conds_rule : (calls : Bool) (room : ℕ) → Whole room 0 conds_symbols (read_conds calls room)
 conds_rule calls room = after_rule (cond_rule (ix_inside_rule calls room) (mixed_inside_rule calls room)) (ands_rule (ix_inside_rule calls room) (mixed_inside_rule calls room))
+
+inside_rule : {C : Type 0} {spelled : C → List Symbol} {p : ℕ → Reader Symbol C} → ((room : ℕ) → Whole room 0 spelled (p room)) → (room : ℕ) → Whole room 1 spelled (inside p room)
+unfolding inside
+inside_rule rule zero = deep_rule (rule 0).can
+inside_rule rule (suc room) = raise (rule room)
+
+-- ---- Values
+
+type_name_symbols : {calls : Bool} {n : ℕ} (v : ValueText calls n) → is_type_name v ≡ true → value_symbols v ≡ word (codes "uint64_t") ∷ []
+type_name_symbols (g.complement v) e = absurd (cc)
+type_name_symbols (g.load w g.no_dims) e = ap (λ b. word b ∷ []) (same_bytes w (codes "uint64_t") e)
+type_name_symbols (g.load w (g.and_dim ds a)) e = absurd (cc)
+type_name_symbols (g.constant bytes) e = absurd (cc)
+type_name_symbols (g.parens v) e = absurd (cc)
+type_name_symbols (g.cast a) e = absurd (cc)
+type_name_symbols (g.operand v) e = type_name_symbols v e
+type_name_symbols (g.binary a op h b) e = absurd (cc)
+type_name_symbols (g.shift v left by h) e = absurd (cc)
+
+abbrev tilde_symbols : ℕ → List Symbol
+tilde_symbols zero = []
+tilde_symbols (suc n) = tilde_symbols n ++ mark (codes "~") ∷ []
+
+complement_symbols : {calls : Bool} (n : ℕ) (v : ValueText calls 0) (r : List Symbol) → tilde_symbols n ++ (value_symbols v ++ r) ≡ value_symbols (complements n v) ++ r
+complement_symbols zero v r = refl
+complement_symbols (suc n) v r = append_assoc (tilde_symbols n) (mark (codes "~") ∷ []) (value_symbols v ++ r) ∙ complement_symbols n (g.complement v) r
+
+tildes_rule : {room : ℕ} → Whole room 0 tilde_symbols read_tildes
+tildes_rule = all_rule (mark_test (codes "~")) (λ k n. refl) (λ _ n. give_rule (suc n) (λ r. sym (append_assoc (tilde_symbols n) (mark (codes "~") ∷ []) r))) zero
+
+module _ {calls : Bool} {room : ℕ} {inner : Reader Symbol (ValueText calls 6)} (rule : Whole room 1 value_symbols inner) where
+  parens_rule : (v : ValueText calls 6) (b : Bool) → is_type_name v ≡ b → Rule count_open room 0 0 value_symbols (λ r. mark (codes "(") ∷ (value_symbols v ++ mark (codes ")") ∷ r)) (read_parens calls room v b)
+  parens_rule v true e =
+      either_rule (mark_test (codes "(")) open_paren
+      (λ _. after_rule (ix_inside_rule calls room) λ a. on_rule tt (mark_test (codes ")")) close_paren λ _. give_rule (g.cast a) (λ r. ap (λ l. mark (codes "(") ∷ (l ++ mark (codes ")") ∷ mark (codes "(") ∷ (ix_symbols a ++ mark (codes ")") ∷ r))) (type_name_symbols v e) ∙ simp append_assoc))
+      (give_rule (g.parens v) (λ r. simp append_assoc))
+  parens_rule v false e = give_rule (g.parens v) (λ r. simp append_assoc)
+
+  plain_rule : Whole room 0 value_symbols (read_plain calls room inner)
+  plain_rule =
+      either_rule any_value_test (λ k n. refl) (λ bytes. give_rule (g.constant bytes) (λ r. refl))
+      (either_rule any_word_test (λ k n. refl) (λ w. after_rule (dims_rule calls room) λ ds. give_rule (g.load w ds) (λ r. refl))
+      (on_rule tt (mark_test (codes "(")) open_paren λ _. after_rule rule λ v. on_rule tt (mark_test (codes ")")) close_paren λ _. parens_rule v (is_type_name v) refl))
+
+  primary_rule : Whole room 0 value_symbols (read_primary calls room inner)
+  primary_rule = after_rule tildes_rule λ n. after_rule plain_rule λ v. give_rule (complements n v) (λ r. complement_symbols n v r)
+
+ops_rule : {calls : Bool} {room : ℕ} (n : ℕ) {level : Reader Symbol (ValueText calls n)} → Whole room 0 value_symbols level → (a : ValueText calls n) → Rule count_open room 0 0 value_symbols (λ r. value_symbols a ++ r) (all (op_of n) (op_more n level) (g.operand a))
+ops_rule n rule a = all_rule (op_test n) (λ k m. flat_op k.0 (m + 0)) (λ op b. after_rule rule λ c. give_rule (g.binary b op.0 op.1 c) (λ r. simp append_assoc)) (g.operand a)
+
+operands_rule : {calls : Bool} {room : ℕ} (n : ℕ) {level : Reader Symbol (ValueText calls n)} → Whole room 0 value_symbols level → (a : ValueText calls n) → Rule count_open room 0 0 value_symbols (λ r. value_symbols a ++ r) (read_operands n level a)
+operands_rule zero rule a = ops_rule zero rule a
+operands_rule (suc zero) rule a = ops_rule (suc zero) rule a
+operands_rule (suc (suc zero)) rule a = all_rule shift_test (λ k m. flat_shift k (m + 0)) (λ left b. on_rule (codes "1", refl) shift_number_test (λ k m. refl) λ by. give_rule (g.shift b left by.0 by.1) (λ r. simp append_assoc)) (g.operand a)
+operands_rule (suc (suc (suc n))) rule a = ops_rule (suc (suc (suc n))) rule a
+
+level_rule : {calls : Bool} {room : ℕ} {primary : Reader Symbol (ValueText calls 0)} → Whole room 0 value_symbols primary → (n : ℕ) → Whole room 0 value_symbols (read_level primary n)
+level_rule rule zero = rule
+level_rule rule (suc n) = after_rule (level_rule rule n) (operands_rule n (level_rule rule n))
+
+abbrev no_value : {calls : Bool} → ValueText calls 6
+no_value = g.operand (g.operand (g.operand (g.operand (g.operand (g.operand (g.constant (codes "0ULL")))))))
+
+value_inside_rule : (calls : Bool) (room : ℕ) → Whole room 1 value_symbols (value_inside calls room)
+unfolding value_inside
+value_inside_rule calls zero = deep_rule (no_value, value_symbols (no_value {calls = calls}), refl)
+value_inside_rule calls (suc room) = raise (level_rule (primary_rule (value_inside_rule calls room)) 6)
+
+value_rule : (calls : Bool) (room : ℕ) → Whole room 0 value_symbols (read_value calls room)
+value_rule calls room = level_rule (primary_rule (value_inside_rule calls room)) 6
+
+-- ---- Statements
+
+step_rule : {room : ℕ} (at : ℕ) → Whole room at step_symbols read_step
+step_rule at =
+    either_rule (mark_test (codes "++")) (λ k n. refl) (λ _. on_rule [] any_word_test (λ k n. refl) λ w. give_rule (g.up_then w) (λ r. refl))
+    (on_rule [] any_word_test (λ k n. refl) λ w.
+    either_rule (mark_test (codes "++")) (λ k n. refl) (λ _. give_rule (g.then_up w) (λ r. refl))
+    (on_rule tt (mark_test (codes "+=")) (λ k n. refl) λ _. on_rule tt one_test (λ k n. refl) λ _. give_rule (g.up_by_one w) (λ r. refl)))
+
+abbrev head_symbols : {calls : Bool} → Head calls → List Symbol
+head_symbols (for_head iterator low tested strict high step) =
+    word (codes "for") ∷ mark (codes "(") ∷ word (codes "int64_t") ∷ word iterator ∷ mark (codes "=") ∷ (ix_symbols low ++ mark (codes ";") ∷ word tested ∷ mark (bound_mark strict) ∷ (ix_symbols high ++ mark (codes ";") ∷ (step_symbols step ++ mark (codes ")") ∷ [])))
+head_symbols (if_head cs) = word (codes "if") ∷ mark (codes "(") ∷ (conds_symbols cs ++ mark (codes ")") ∷ [])
+
+abbrev heads_symbols : {calls : Bool} → Heads calls → List Symbol
+heads_symbols (head h) = head_symbols h
+heads_symbols (and_head hs h) = heads_symbols hs ++ head_symbols h
+
+abbrev before_symbols : {calls : Bool} → Option (Heads calls) → List Symbol
+before_symbols None = []
+before_symbols (Some hs) = heads_symbols hs
+
+with_body_symbols : {calls : Bool} (h : Head calls) (body : BodyText calls) → simple_symbols (with_body h body) ≡ head_symbols h ++ body_symbols body
+with_body_symbols (for_head iterator low tested strict high step) body = simp append_assoc
+with_body_symbols (if_head cs) body = simp append_assoc
+
+under_symbols : {calls : Bool} (hs : Heads calls) (body : BodyText calls) → simple_symbols (under hs body) ≡ heads_symbols hs ++ body_symbols body
+under_symbols (head h) body = with_body_symbols h body
+under_symbols (and_head hs h) body = under_symbols hs (g.bare (with_body h body)) ∙ ap (λ l. heads_symbols hs ++ l) (with_body_symbols h body) ∙ sym (append_assoc (heads_symbols hs) (head_symbols h) (body_symbols body))
+
+whole_symbols : {calls : Bool} (hs : Option (Heads calls)) (s : SimpleText calls) (r : List Symbol) → before_symbols hs ++ (simple_symbols s ++ r) ≡ simple_symbols (whole hs s) ++ r
+whole_symbols None s r = refl
+whole_symbols (Some hs) s r = sym (append_assoc (heads_symbols hs) (simple_symbols s) r) ∙ ap (λ l. l ++ r) (sym (under_symbols hs (g.bare s)))
+
+and_one_symbols : {calls : Bool} (hs : Option (Heads calls)) (h : Head calls) (r : List Symbol) → before_symbols hs ++ (head_symbols h ++ r) ≡ heads_symbols (and_one hs h) ++ r
+and_one_symbols None h r = refl
+and_one_symbols (Some hs) h r = sym (append_assoc (heads_symbols hs) (head_symbols h) r)
+
+for_rule : (calls : Bool) (room : ℕ) → Rule count_open room 1 0 head_symbols (λ r. word (codes "for") ∷ mark (codes "(") ∷ r) (read_for calls room)
+for_rule calls room =
+    on_rule tt (word_test (codes "int64_t")) (λ k n. refl) λ _. on_rule [] any_word_test (λ k n. refl) λ iterator. on_rule tt (mark_test (codes "=")) (λ k n. refl) λ _. after_rule (ix_inside_rule calls room) λ low. on_rule tt (mark_test (codes ";")) (λ k n. refl) λ _.
+    on_rule [] any_word_test (λ k n. refl) λ tested. on_rule true bound_test (λ k n. flat_bound k (n + 1)) λ strict. after_rule (ix_inside_rule calls room) λ high. on_rule tt (mark_test (codes ";")) (λ k n. refl) λ _.
+    after_rule (step_rule 1) λ step. on_rule tt (mark_test (codes ")")) close_paren λ _. give_rule (for_head iterator low tested strict high step) (λ r. simp append_assoc)
+
+if_rule : (calls : Bool) (room : ℕ) → Rule count_open room 1 0 head_symbols (λ r. word (codes "if") ∷ mark (codes "(") ∷ r) (read_if calls room)
+if_rule calls room = after_rule (inside_rule (conds_rule calls) room) λ cs. on_rule tt (mark_test (codes ")")) close_paren λ _. give_rule (if_head cs) (λ r. simp append_assoc)
+
+head_rule : (calls : Bool) (room : ℕ) (is_for : Bool) → Rule count_open room 1 0 head_symbols (λ r. word (head_word is_for) ∷ mark (codes "(") ∷ r) (read_head calls room is_for)
+head_rule calls room true = for_rule calls room
+head_rule calls room false = if_rule calls room
+
+assign_rule : (calls : Bool) (room : ℕ) (w : Name) → Rule count_open room 0 0 simple_symbols (λ r. word w ∷ r) (read_assign calls room w)
+assign_rule calls room w =
+    after_rule (dims_rule calls room) λ ds. on_rule None assign_test (λ k n. flat_assign k (n + 0)) λ op. after_rule (value_rule calls room) λ v. on_rule tt (mark_test (codes ";")) (λ k n. refl) λ _. give_rule (g.assign w ds op v) (λ r. simp append_assoc)
+
+abbrev progress_symbols : {calls : Bool} → Turn (Heads calls) (SimpleText calls) → List Symbol
+progress_symbols = turn_spelled heads_symbols simple_symbols
+
+assigned_rule : (calls : Bool) (room : ℕ) (hs : Option (Heads calls)) (w : Name) → Rule count_open room 0 0 progress_symbols (λ r. before_symbols hs ++ word w ∷ r) (assigned_under calls room hs w)
+assigned_rule calls room hs w = nested_rule (λ r. before_symbols hs ++ r) (λ r. word w ∷ r) (λ x y. refl) (assign_rule calls room w) λ s. give_rule (done (whole hs s)) (λ r. whole_symbols hs s r)
+
+worded_rule : (calls : Bool) (room : ℕ) (hs : Option (Heads calls)) (w : Name) (o : Option Bool) → choose head_words w ≡ o → Rule count_open room 0 0 progress_symbols (λ r. before_symbols hs ++ word w ∷ r) (read_worded calls room hs w o)
+worded_rule calls room hs w None e = assigned_rule calls room hs w
+worded_rule calls room hs w (Some is_for) e =
+    either_rule (mark_test (codes "(")) open_paren
+    (λ _. nested_rule (λ r. before_symbols hs ++ r) (λ r. word w ∷ mark (codes "(") ∷ r) (λ x y. refl)
+    (subst (λ v. Rule count_open room 1 0 head_symbols (λ r. word v ∷ mark (codes "(") ∷ r) (read_head calls room is_for)) (sym (head_is w is_for e)) (head_rule calls room is_for))
+    (λ h. give_rule (going (and_one hs h)) (λ r. and_one_symbols hs h r)))
+    (assigned_rule calls room hs w)
+
+abbrev first_depth : First → ℕ
+first_depth (a_word w) = 0
+first_depth a_brace = 1
+
+first_counts : (k : First) (n : ℕ) → count_open (n + 0) (first_symbol k) ≡ n + first_depth k
+first_counts (a_word w) n = refl
+first_counts a_brace n = open_brace tt n
+
+-- statements and the "}" behind them
+abbrev closed_symbols : {calls : Bool} → StmtsText calls → List Symbol
+closed_symbols ss = stmts_symbols ss ++ mark (codes "}") ∷ []
+
+module _ (calls : Bool) (room : ℕ) {body : Reader Symbol (StmtsText calls)} {block : Reader Symbol (StmtText calls)} (body_rule : Rule count_open room 1 0 closed_symbols (λ r. r) body) (block_rule : Rule count_open room 1 0 stmt_symbols (λ r. mark (codes "{") ∷ r) block) where
+  under_body_rule : (k : First) (hs : Heads calls) → Rule count_open room (first_depth k) 0 progress_symbols (λ r. heads_symbols hs ++ first_symbol k ∷ r) (read_body calls room body k hs)
+  under_body_rule (a_word w) hs = worded_rule calls room (Some hs) w (choose head_words w) refl
+  under_body_rule a_brace hs =
+      after_rule body_rule λ ss. give_rule (done (under hs (g.braces ss))) (λ r. sym (ap (λ l. l ++ r) (under_symbols hs (g.braces ss)) ∙ append_assoc (heads_symbols hs) (mark (codes "{") ∷ closed_symbols ss) r))
+
+  under_rule : (s : Turn (Heads calls) (SimpleText calls)) → Rule count_open room 0 0 simple_symbols (λ r. progress_symbols s ++ r) (read_under calls room body s)
+  under_rule (going hs) = until_rule first_test first_counts under_body_rule (λ hs. (under hs (g.braces g.no_stmts), mark (codes "{") ∷ mark (codes "}") ∷ [], under_symbols hs (g.braces g.no_stmts))) hs
+  under_rule (done s) = give_rule s (λ r. refl)
+
+  simple_rule : (w : Name) → Rule count_open room 0 0 simple_symbols (λ r. word w ∷ r) (read_simple calls room body w)
+  simple_rule w = then_rule (λ x y. refl) (worded_rule calls room None w (choose head_words w) refl) under_rule
+
+  stmt_rule : (k : First) → Rule count_open room (first_depth k) 0 stmt_symbols (λ r. first_symbol k ∷ r) (read_stmt calls room body block k)
+  stmt_rule (a_word w) = then_rule (λ x y. refl) (simple_rule w) λ s. give_rule (g.simple s) (λ r. refl)
+  stmt_rule a_brace = block_rule
+
+  stmts_rule : Whole room 0 stmts_symbols (all first_of (stmt_more calls room body block) g.no_stmts)
+  stmts_rule = all_rule first_test first_counts (λ k ss. nested_rule (λ r. stmts_symbols ss ++ r) (λ r. first_symbol k ∷ r) (λ x y. refl) (stmt_rule k) λ s. give_rule (g.and_stmt ss s) (λ r. sym (append_assoc (stmts_symbols ss) (stmt_symbols s) r))) g.no_stmts
+
+  abbrev block_symbols : Block calls → List Symbol
+  block_symbols b = locals_symbols b.locals ++ stmts_symbols b.stmts
+
+  block_stmt_rule : (ls : LocalsText calls) (ss : StmtsText calls) (k : First) → Rule count_open room (first_depth k) 0 block_symbols (λ r. (locals_symbols ls ++ stmts_symbols ss) ++ first_symbol k ∷ r) (block_stmt calls room body block ls ss k)
+  block_stmt_rule ls ss k = nested_rule (λ r. (locals_symbols ls ++ stmts_symbols ss) ++ r) (λ r. first_symbol k ∷ r) (λ x y. refl) (stmt_rule k) λ s. give_rule (record { locals = ls; stmts = g.and_stmt ss s }) (λ r. simp append_assoc)
