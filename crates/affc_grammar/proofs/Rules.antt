@@ -7,11 +7,13 @@ use Rattle.affc_ast.specs.declared.tree.Rel.TheVariants.{Less, LessEqual, Greate
 use Rattle.affc_grammar.specs.Grammar as g
 use Rattle.affc_grammar.specs.Grammar.{Symbol, Name, Digits, LineText, line_feed, text_end, Choice, minimum, Rounding, down, word, number, mark, is_divisor, IxText, TermText, FactorText, AtomText, DimsText, CondsText, CondText, ValueText, StepText, LocalsText, StmtsText, StmtText, SimpleText, BodyText, ParamText, ParamsText, NamesText, DeclsText, FunctionText, IntText, PragmasText, Text, ix_symbols, term_symbols, factor_symbols, atom_symbols, dims_symbols, conds_symbols, cond_symbols, value_symbols, step_symbols, locals_symbols, stmts_symbols, stmt_symbols, simple_symbols, body_symbols, param_symbols, params_symbols, names_symbols, decls_symbols, function_symbols, int_symbols, pragmas_symbols, text_symbols, rel_mark, op_mark, shift_mark, bound_mark, assign_mark, choice_name, rounding_name, dim_symbols, const_symbols, pragma_symbols, line_symbols, context_calls}
 use Rattle.affc_lex.specs.Bytes.{same}
+use Rattle.affc_lex.specs.Pieces.{prelude}
+use Rattle.affc_lex.specs.declared.token.Kind.TheVariants.{Word, Number, Value, Header, Hash, LineEnd, Prelude, Mark}
 use Rattle.affc_grammar.specs.Limits.{count_open}
 use Rattle.affc_grammar.specs.Reader.{Reader, give, fail, deep, after, either, on, all, Turn, going, done, until, inside, finished}
 use Rattle.affc_grammar.specs.Reading.{choose, Callee, of_choice, of_rounding, callee_name, callees, read_call, read_called, read_named, read_atom, read_factor, times_more, read_factors, read_term, joined, sum_more, read_terms, read_sum, ix_inside, read_ix, dims_more, read_dims, Half, condition, expression, Mixed, conditions, index, read_compared, read_closed, read_half, only_condition, read_cond, and_more, read_ands, read_half_more, mixed_inside, read_conds, is_type_name, read_parens, read_plain, complements, read_tildes, read_primary, op_of, op_more, shift_sign, shift_more, read_operands, read_level, value_inside, read_value, read_step, Head, for_head, if_head, Heads, head, and_head, with_body, under, and_one, whole, read_for, read_if, read_assign, head_words, read_head, assigned_under, read_worded, First, a_word, a_brace, first_of, read_body, read_under, read_simple, read_stmt, stmt_more, Block, local_behind, block_stmt, block_word, block_more, stmts_inside, block_inside, read_array, read_param, param_more, read_params, name_more, read_names, Inside, decl_behind, inside_stmt, inside_word, inside_more, read_inside, read_function, read_int, pragma_more, read_without, read_text, holding}
 use Rattle.affc_grammar.proofs.Rule.{Rule, give_rule, fail_rule, deep_rule, after_rule, nested_rule, then_rule, refront, either_rule, on_rule, all_rule, until_rule, finished_rule, raise, turn_spelled}
-use Rattle.affc_grammar.proofs.Tests.{mark_test, word_test, any_word_test, any_number_test, any_value_test, hash_test, header_test, prelude_test, line_test, sum_test, shift_test, bound_test, rel_test, assign_test, one_test, divisor_test, shift_number_test, op_test, first_symbol, first_test, callee_is, head_word, head_is, sign_mark, same_bytes, holding_is}
+use Rattle.affc_grammar.proofs.Tests.{mark_test, word_test, any_word_test, any_number_test, any_value_test, hash_test, header_test, prelude_test, line_test, sum_test, shift_test, bound_test, rel_test, assign_test, one_test, divisor_test, shift_number_test, op_test, first_symbol, first_test, callee_is, head_word, head_is, sign_mark, same_bytes, holding_is, line_bytes}
 
 -- a text is a whole of a rule where nothing was read before
 abbrev pub Whole : {C : Type 0} → (room at : ℕ) → (C → List Symbol) → Reader Symbol C → Type 0
@@ -361,8 +363,113 @@ module _ (calls : Bool) (room : ℕ) {body : Reader Symbol (StmtsText calls)} {b
   stmts_rule : Whole room 0 stmts_symbols (all first_of (stmt_more calls room body block) g.no_stmts)
   stmts_rule = all_rule first_test first_counts (λ k ss. nested_rule (λ r. stmts_symbols ss ++ r) (λ r. first_symbol k ∷ r) (λ x y. refl) (stmt_rule k) λ s. give_rule (g.and_stmt ss s) (λ r. sym (append_assoc (stmts_symbols ss) (stmt_symbols s) r))) g.no_stmts
 
-  abbrev block_symbols : Block calls → List Symbol
-  block_symbols b = locals_symbols b.locals ++ stmts_symbols b.stmts
+abbrev block_symbols : {calls : Bool} → Block calls → List Symbol
+block_symbols b = locals_symbols b.locals ++ stmts_symbols b.stmts
 
+local_rule : (room : ℕ) (ls : LocalsText true) → Rule count_open room 0 0 block_symbols (λ r. (locals_symbols ls ++ []) ++ word (codes "const") ∷ word (codes "int64_t") ∷ r) (local_behind room ls)
+local_rule room ls =
+    on_rule [] any_word_test (λ k n. refl) λ w. on_rule tt (mark_test (codes "=")) (λ k n. refl) λ _. after_rule (ix_rule true room) λ a. on_rule tt (mark_test (codes ";")) (λ k n. refl) λ _.
+    give_rule (record { locals = g.and_local refl ls w a; stmts = g.no_stmts }) (λ r. simp (append_assoc, append-nil))
+
+module _ (calls : Bool) (room : ℕ) {body : Reader Symbol (StmtsText calls)} {block : Reader Symbol (StmtText calls)} (body_rule : Rule count_open room 1 0 closed_symbols (λ r. r) body) (block_rule : Rule count_open room 1 0 stmt_symbols (λ r. mark (codes "{") ∷ r) block) where
   block_stmt_rule : (ls : LocalsText calls) (ss : StmtsText calls) (k : First) → Rule count_open room (first_depth k) 0 block_symbols (λ r. (locals_symbols ls ++ stmts_symbols ss) ++ first_symbol k ∷ r) (block_stmt calls room body block ls ss k)
-  block_stmt_rule ls ss k = nested_rule (λ r. (locals_symbols ls ++ stmts_symbols ss) ++ r) (λ r. first_symbol k ∷ r) (λ x y. refl) (stmt_rule k) λ s. give_rule (record { locals = ls; stmts = g.and_stmt ss s }) (λ r. simp append_assoc)
+  block_stmt_rule ls ss k = nested_rule (λ r. (locals_symbols ls ++ stmts_symbols ss) ++ r) (λ r. first_symbol k ∷ r) (λ x y. refl) (stmt_rule calls room body_rule block_rule k) λ s. give_rule (record { locals = ls; stmts = g.and_stmt ss s }) (λ r. simp append_assoc)
+
+block_word_rule : (calls : Bool) (room : ℕ) {body : Reader Symbol (StmtsText calls)} {block : Reader Symbol (StmtText calls)} → Rule count_open room 1 0 closed_symbols (λ r. r) body → Rule count_open room 1 0 stmt_symbols (λ r. mark (codes "{") ∷ r) block
+    → (ls : LocalsText calls) (ss : StmtsText calls) (w : Name) (b : Bool) → same w (codes "const") ≡ b → Rule count_open room 0 0 block_symbols (λ r. (locals_symbols ls ++ stmts_symbols ss) ++ word w ∷ r) (block_word calls room body block ls ss w b)
+block_word_rule true room {body} {block} body_rule block_rule ls g.no_stmts w true e =
+    either_rule (word_test (codes "int64_t")) (λ k n. refl)
+    (λ _. subst (λ v. Rule count_open room 0 0 block_symbols (λ r. (locals_symbols ls ++ []) ++ word v ∷ word (codes "int64_t") ∷ r) (local_behind room ls)) (sym (same_bytes w (codes "const") e)) (local_rule room ls))
+    (block_stmt_rule true room body_rule block_rule ls g.no_stmts (a_word w))
+block_word_rule true room body_rule block_rule ls g.no_stmts w false e = block_stmt_rule true room body_rule block_rule ls g.no_stmts (a_word w)
+block_word_rule true room body_rule block_rule ls (g.and_stmt ss s) w b e = block_stmt_rule true room body_rule block_rule ls (g.and_stmt ss s) (a_word w)
+block_word_rule false room body_rule block_rule ls ss w b e = block_stmt_rule false room body_rule block_rule ls ss (a_word w)
+
+block_more_rule : (calls : Bool) (room : ℕ) {body : Reader Symbol (StmtsText calls)} {block : Reader Symbol (StmtText calls)} → Rule count_open room 1 0 closed_symbols (λ r. r) body → Rule count_open room 1 0 stmt_symbols (λ r. mark (codes "{") ∷ r) block
+    → (k : First) (b : Block calls) → Rule count_open room (first_depth k) 0 block_symbols (λ r. block_symbols b ++ first_symbol k ∷ r) (block_more calls room body block k b)
+block_more_rule calls room body_rule block_rule (a_word w) b = block_word_rule calls room body_rule block_rule b.locals b.stmts w (same w (codes "const")) refl
+block_more_rule calls room body_rule block_rule a_brace b = block_stmt_rule calls room body_rule block_rule b.locals b.stmts a_brace
+
+mutual
+  unfolding stmts_inside
+  stmts_inside_rule : (calls : Bool) (room : ℕ) → Rule count_open room 1 0 closed_symbols (λ r. r) (stmts_inside calls room)
+  stmts_inside_rule calls zero = deep_rule (g.no_stmts, mark (codes "}") ∷ [], refl)
+  stmts_inside_rule calls (suc room) =
+      after_rule (raise (stmts_rule calls room (stmts_inside_rule calls room) (block_inside_rule calls room))) λ ss. on_rule tt (mark_test (codes "}")) close_brace λ _. give_rule ss (λ r. sym (append_assoc (stmts_symbols ss) (mark (codes "}") ∷ []) r))
+
+  block_inside_rule : (calls : Bool) (room : ℕ) → Rule count_open room 1 0 stmt_symbols (λ r. mark (codes "{") ∷ r) (block_inside calls room)
+  block_inside_rule calls zero = deep_rule (g.block g.no_locals g.no_stmts, mark (codes "}") ∷ [], refl)
+  block_inside_rule calls (suc room) =
+      after_rule (raise (all_rule first_test first_counts (block_more_rule calls room (stmts_inside_rule calls room) (block_inside_rule calls room)) (record { locals = g.no_locals; stmts = g.no_stmts }))) λ b. on_rule tt (mark_test (codes "}")) close_brace λ _. give_rule (g.block b.locals b.stmts) (λ r. simp append_assoc)
+
+-- ---- The function
+
+array_rule : (calls : Bool) (room : ℕ) (is_const : Bool) → Rule count_open room 0 0 param_symbols (λ r. const_symbols is_const ++ word (codes "uint64_t") ∷ r) (read_array calls room is_const)
+array_rule calls room is_const =
+    on_rule [] any_word_test (λ k n. refl) λ w. on_rule tt (mark_test (codes "[")) open_square λ _. after_rule (ix_inside_rule calls room) λ a. on_rule tt (mark_test (codes "]")) close_square λ _. after_rule (dims_rule calls room) λ ds.
+    give_rule (g.array_param is_const w a ds) (λ r. simp append_assoc)
+
+param_rule : (calls : Bool) (room : ℕ) → Whole room 0 param_symbols (read_param calls room)
+param_rule calls room =
+    either_rule (word_test (codes "int64_t")) (λ k n. refl) (λ _. on_rule [] any_word_test (λ k n. refl) λ w. give_rule (g.number_param w) (λ r. refl))
+    (either_rule (word_test (codes "const")) (λ k n. refl) (λ _. on_rule tt (word_test (codes "uint64_t")) (λ k n. refl) λ _. array_rule calls room true)
+    (on_rule tt (word_test (codes "uint64_t")) (λ k n. refl) λ _. array_rule calls room false))
+
+params_rule : (calls : Bool) (room : ℕ) → Whole room 0 params_symbols (read_params calls room)
+params_rule calls room = after_rule (param_rule calls room) λ a. all_rule (mark_test (codes ",")) (λ k n. refl) (λ _ ps. after_rule (param_rule calls room) λ b. give_rule (g.and_param ps b) (λ r. simp append_assoc)) (g.param a)
+
+names_rule : (calls : Bool) (room : ℕ) (w : Name) → Rule count_open room 0 0 names_symbols (λ r. word w ∷ r) (read_names calls room w)
+names_rule calls room w =
+    after_rule (dims_rule calls room) λ ds. all_rule (mark_test (codes ",")) (λ k n. refl)
+    (λ _ ns. on_rule [] any_word_test (λ k n. refl) λ v. after_rule (dims_rule calls room) λ es. give_rule (g.and_array ns v es) (λ r. simp append_assoc)) (g.one_array w ds)
+
+abbrev inside_symbols : {calls : Bool} → Inside calls → List Symbol
+inside_symbols i = decls_symbols i.decls ++ stmts_symbols i.stmts
+
+module _ (calls : Bool) (room : ℕ) where
+  decl_rule : (ds : DeclsText calls) (w : Name) → Rule count_open room 0 0 inside_symbols (λ r. (decls_symbols ds ++ []) ++ word (codes "uint64_t") ∷ word w ∷ r) (decl_behind calls room ds w)
+  decl_rule ds w =
+      nested_rule (λ r. (decls_symbols ds ++ []) ++ word (codes "uint64_t") ∷ r) (λ r. word w ∷ r) (λ x y. refl) (names_rule calls room w) λ ns. on_rule tt (mark_test (codes ";")) (λ k n. refl) λ _.
+      give_rule (record { decls = g.and_decl ds ns; stmts = g.no_stmts }) (λ r. simp (append_assoc, append-nil))
+
+  inside_stmt_rule : (ds : DeclsText calls) (ss : StmtsText calls) (k : First) → Rule count_open room (first_depth k) 0 inside_symbols (λ r. (decls_symbols ds ++ stmts_symbols ss) ++ first_symbol k ∷ r) (inside_stmt calls room ds ss k)
+  inside_stmt_rule ds ss k = nested_rule (λ r. (decls_symbols ds ++ stmts_symbols ss) ++ r) (λ r. first_symbol k ∷ r) (λ x y. refl) (stmt_rule calls room (stmts_inside_rule calls room) (block_inside_rule calls room) k) λ s. give_rule (record { decls = ds; stmts = g.and_stmt ss s }) (λ r. simp append_assoc)
+
+  inside_word_rule : (ds : DeclsText calls) (ss : StmtsText calls) (w : Name) (b : Bool) → same w (codes "uint64_t") ≡ b → Rule count_open room 0 0 inside_symbols (λ r. (decls_symbols ds ++ stmts_symbols ss) ++ word w ∷ r) (inside_word calls room ds ss w b)
+  inside_word_rule ds g.no_stmts w true e =
+      either_rule any_word_test (λ k n. refl)
+      (λ u. subst (λ v. Rule count_open room 0 0 inside_symbols (λ r. (decls_symbols ds ++ []) ++ word v ∷ word u ∷ r) (decl_behind calls room ds u)) (sym (same_bytes w (codes "uint64_t") e)) (decl_rule ds u))
+      (inside_stmt_rule ds g.no_stmts (a_word w))
+  inside_word_rule ds g.no_stmts w false e = inside_stmt_rule ds g.no_stmts (a_word w)
+  inside_word_rule ds (g.and_stmt ss s) w b e = inside_stmt_rule ds (g.and_stmt ss s) (a_word w)
+
+  inside_more_rule : (k : First) (i : Inside calls) → Rule count_open room (first_depth k) 0 inside_symbols (λ r. inside_symbols i ++ first_symbol k ∷ r) (inside_more calls room k i)
+  inside_more_rule (a_word w) i = inside_word_rule i.decls i.stmts w (same w (codes "uint64_t")) refl
+  inside_more_rule a_brace i = inside_stmt_rule i.decls i.stmts a_brace
+
+  read_inside_rule : Whole room 0 inside_symbols (read_inside calls room)
+  read_inside_rule = all_rule first_test first_counts inside_more_rule (record { decls = g.no_decls; stmts = g.no_stmts })
+
+function_rule : (calls : Bool) (room : ℕ) → Whole room 0 function_symbols (read_function calls room)
+function_rule calls room =
+    on_rule tt (word_test (codes "void")) (λ k n. refl) λ _. on_rule [] any_word_test (λ k n. refl) λ w. on_rule tt (mark_test (codes "(")) open_paren λ _. after_rule (inside_rule (params_rule calls) room) λ ps. on_rule tt (mark_test (codes ")")) close_paren λ _.
+    on_rule tt (mark_test (codes "{")) open_brace λ _. after_rule (inside_rule (read_inside_rule calls) room) λ i. on_rule tt (mark_test (codes "}")) close_brace λ _.
+    give_rule (record { name = w; params = ps; decls = i.decls; stmts = i.stmts }) (λ r. simp append_assoc)
+
+-- ---- The text
+
+int_rule : {room : ℕ} → Whole room 0 int_symbols read_int
+int_rule =
+    either_rule (mark_test (codes "-")) (λ k n. refl) (λ _. on_rule [] any_number_test (λ k n. refl) λ digits. give_rule (record { negative = true; digits = digits }) (λ r. refl))
+    (on_rule [] any_number_test (λ k n. refl) λ digits. give_rule (record { negative = false; digits = digits }) (λ r. refl))
+
+line_symbol : (line : LineText) → line_symbols line ≡ record { kind = LineEnd; bytes = line_bytes line } ∷ []
+line_symbol line_feed = refl
+line_symbol text_end = refl
+
+pragma_rule : (room : ℕ) (k : Unit {0}) (ps : PragmasText) → Rule count_open room 0 0 pragmas_symbols (λ r. pragmas_symbols ps ++ record { kind = Hash; bytes = codes "#" } ∷ r) (pragma_more room k ps)
+pragma_rule room k ps =
+    on_rule tt (word_test (codes "pragma")) (λ k n. refl) λ _. on_rule tt (word_test (codes "affc")) (λ k n. refl) λ _.
+    either_rule (word_test (codes "param")) (λ k n. refl)
+    (λ _. on_rule [] any_word_test (λ k n. refl) λ w. after_rule int_rule λ low. after_rule int_rule λ high. on_rule line_feed line_test (λ k n. refl) λ line. give_rule (g.and_range ps w low high line) (λ r. rw line_symbol (simp append_assoc)))
+    (on_rule tt (word_test (codes "context")) (λ k n. refl) λ _. after_rule (conds_rule true room) λ cs. on_rule line_feed line_test (λ k n. refl) λ line. give_rule (g.and_context ps cs line) (λ r. rw line_symbol (simp append_assoc)))
