@@ -1,11 +1,11 @@
 -- Each reader of specs/Reading is a reader of its rule.
-use Rattle.std.proofs.Common.{◌≡◌, ℕ, zero, suc, ◌+◌, ◌-◌, Bool, true, false, ◌==◌, List, [], ◌∷◌, ◌++◌, Option, Some, None, refl, sym, ap, ◌∙◌, subst, codes, IsTrue, arith, append_assoc, append-nil}
+use Rattle.std.proofs.Common.{◌≡◌, ℕ, zero, suc, ◌+◌, ◌-◌, Bool, true, false, not, ◌||◌, ◌==◌, List, [], ◌∷◌, ◌++◌, Option, Some, None, refl, sym, ap, ◌∙◌, subst, codes, IsTrue, arith, append_assoc, append-nil}
 use Rattle.affc_ast.specs.declared.tree.Op.{Op}
 use Rattle.affc_ast.specs.declared.tree.Op.TheVariants.{Add, Sub, Mul, And, Or, Xor}
 use Rattle.affc_ast.specs.declared.tree.Rel.{Rel}
 use Rattle.affc_ast.specs.declared.tree.Rel.TheVariants.{Less, LessEqual, Greater, GreaterEqual, Equal}
 use Rattle.affc_grammar.specs.Grammar as g
-use Rattle.affc_grammar.specs.Grammar.{Symbol, Name, Digits, LineText, line_feed, text_end, Choice, minimum, Rounding, down, word, number, mark, is_divisor, IxText, TermText, FactorText, AtomText, DimsText, CondsText, CondText, ValueText, StepText, LocalsText, StmtsText, StmtText, SimpleText, BodyText, ParamText, ParamsText, NamesText, DeclsText, FunctionText, IntText, PragmasText, Text, ix_symbols, term_symbols, factor_symbols, atom_symbols, dims_symbols, conds_symbols, cond_symbols, value_symbols, step_symbols, locals_symbols, stmts_symbols, stmt_symbols, simple_symbols, body_symbols, param_symbols, params_symbols, names_symbols, decls_symbols, function_symbols, int_symbols, pragmas_symbols, text_symbols, rel_mark, op_mark, shift_mark, bound_mark, assign_mark, choice_name, rounding_name, dim_symbols, const_symbols, pragma_symbols, line_symbols, context_calls}
+use Rattle.affc_grammar.specs.Grammar.{Symbol, Name, Digits, LineText, line_feed, text_end, Choice, minimum, Rounding, down, word, number, mark, is_divisor, IxText, TermText, FactorText, AtomText, DimsText, CondsText, CondText, ValueText, StepText, LocalsText, StmtsText, StmtText, SimpleText, BodyText, ParamText, ParamsText, NamesText, DeclsText, FunctionText, IntText, PragmasText, Text, ix_symbols, term_symbols, factor_symbols, atom_symbols, dims_symbols, conds_symbols, cond_symbols, value_symbols, step_symbols, locals_symbols, stmts_symbols, stmt_symbols, simple_symbols, body_symbols, param_symbols, params_symbols, names_symbols, decls_symbols, function_symbols, int_symbols, pragmas_symbols, text_symbols, rel_mark, op_mark, shift_mark, bound_mark, assign_mark, choice_name, rounding_name, dim_symbols, const_symbols, pragma_symbols, line_symbols, context_calls, prelude_symbols}
 use Rattle.affc_lex.specs.Bytes.{same}
 use Rattle.affc_lex.specs.Pieces.{prelude}
 use Rattle.affc_lex.specs.declared.token.Kind.TheVariants.{Word, Number, Value, Header, Hash, LineEnd, Prelude, Mark}
@@ -473,3 +473,25 @@ pragma_rule room k ps =
     either_rule (word_test (codes "param")) (λ k n. refl)
     (λ _. on_rule [] any_word_test (λ k n. refl) λ w. after_rule int_rule λ low. after_rule int_rule λ high. on_rule line_feed line_test (λ k n. refl) λ line. give_rule (g.and_range ps w low high line) (λ r. rw line_symbol (simp append_assoc)))
     (on_rule tt (word_test (codes "context")) (λ k n. refl) λ _. after_rule (conds_rule true room) λ cs. on_rule line_feed line_test (λ k n. refl) λ line. give_rule (g.and_context ps cs line) (λ r. rw line_symbol (simp append_assoc)))
+
+-- the text up to the lines before the prelude
+abbrev begun : LineText → PragmasText → List Symbol → List Symbol
+begun line ps r = record { kind = Hash; bytes = codes "#" } ∷ word (codes "include") ∷ record { kind = Header; bytes = codes "<stdint.h>" } ∷ record { kind = LineEnd; bytes = line_bytes line } ∷ (pragmas_symbols ps ++ r)
+
+text_is : (line : LineText) (ps : PragmasText) (b : Bool) (h : IsTrue (b || not (context_calls ps))) (f : FunctionText b) → begun line ps (prelude_symbols b ++ (function_symbols f ++ [])) ≡ text_symbols (record { line = line; pragmas = ps; has_prelude = b; calls_allowed = h; function = f })
+text_is line_feed ps b h f = rw append-nil
+text_is text_end ps b h f = rw append-nil
+
+with_prelude_rule : (room : ℕ) (line : LineText) (ps : PragmasText) → Rule count_open room 0 0 text_symbols (λ r. begun line ps (record { kind = Prelude; bytes = prelude } ∷ r)) (after (read_function true room) λ f. finished (record { line = line; pragmas = ps; has_prelude = true; calls_allowed = refl; function = f }))
+with_prelude_rule room line ps = after_rule (function_rule true room) λ f. finished_rule (record { line = line; pragmas = ps; has_prelude = true; calls_allowed = refl; function = f }) (text_is line ps true refl f)
+
+without_rule : (room : ℕ) (line : LineText) (ps : PragmasText) (o : Option (IsTrue (not (context_calls ps)))) → Rule count_open room 0 0 text_symbols (begun line ps) (read_without room line ps o)
+without_rule room line ps None = fail_rule (let c = (with_prelude_rule room line ps).can in (c.0, record { kind = Prelude; bytes = prelude } ∷ c.1, c.2))
+without_rule room line ps (Some h) = after_rule (function_rule false room) λ f. finished_rule (record { line = line; pragmas = ps; has_prelude = false; calls_allowed = h; function = f }) (text_is line ps false h f)
+
+pub text_rule : (room : ℕ) → Whole room 0 text_symbols (read_text room)
+unfolding read_text
+text_rule room =
+    on_rule tt hash_test (λ k n. refl) λ _. on_rule tt (word_test (codes "include")) (λ k n. refl) λ _. on_rule tt header_test (λ k n. refl) λ _. on_rule line_feed line_test (λ k n. refl) λ line.
+    after_rule (all_rule hash_test (λ k n. refl) (pragma_rule room) g.no_pragmas) λ ps.
+    either_rule prelude_test (λ k n. refl) (λ _. with_prelude_rule room line ps) (without_rule room line ps (holding (not (context_calls ps))))
