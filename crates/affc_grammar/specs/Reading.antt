@@ -10,7 +10,7 @@ use Rattle.affc_ast.specs.declared.tree.Rel.{Rel}
 use Rattle.affc_ast.specs.declared.tree.Rel.TheVariants.{Less, LessEqual, Greater, GreaterEqual, Equal}
 use Rattle.affc_grammar.specs.Grammar as g
 use Rattle.affc_grammar.specs.Grammar.{Symbol, Name, Digits, LineText, line_feed, text_end, Choice, minimum, maximum, remainder, Rounding, down, up, choice_name, rounding_name, is_divisor, is_shift, is_word, is_mark, op_mark, assign_mark, level_of, IxText, TermText, FactorText, AtomText, DimsText, CondsText, CondText, ValueText, StepText, LocalsText, StmtsText, StmtText, SimpleText, BodyText, ParamText, ParamsText, NamesText, DeclsText, FunctionText, IntText, PragmasText, Text, context_calls}
-use Rattle.affc_grammar.specs.Reader.{Reader, give, fail, deep, after, either, on, all, Turn, going, done, until, inside, finished}
+use Rattle.affc_grammar.specs.Reader.{Reader, give, fail, deep, after, either, on, all, Turn, going, done, until, and_on, inside, finished}
 
 -- ---- Tests of one token
 
@@ -390,9 +390,9 @@ abbrev pub read_body : (prelude : Bool) → (room : ℕ) → Reader Symbol (Stmt
 read_body prelude room body (a_word w) hs = read_worded prelude room (Some hs) w (choose head_words w)
 read_body prelude room body a_brace hs = after body λ ss. give (done (under hs (g.braces ss)))
 
+-- behind heads, or behind an assignment
 abbrev pub read_under : (prelude : Bool) → (room : ℕ) → Reader Symbol (StmtsText prelude) → Turn (Heads prelude) (SimpleText prelude) → Reader Symbol (SimpleText prelude)
-read_under prelude room body (going hs) = until first_of (read_body prelude room body) hs
-read_under prelude room body (done s) = give s
+read_under prelude room body = and_on (until first_of (read_body prelude room body))
 
 -- behind the first Word of a statement
 abbrev pub read_simple : (prelude : Bool) → (room : ℕ) → Reader Symbol (StmtsText prelude) → Name → Reader Symbol (SimpleText prelude)
