@@ -2,3 +2,5 @@ pub mod Readers
 pub mod Rule
 pub mod Tests
 pub mod Rules
+pub mod Done
+pub mod Complete

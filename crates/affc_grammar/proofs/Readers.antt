@@ -292,6 +292,14 @@ module _ {T A C K : Type 0} (test : T → Option K) (turn : K → A → Reader T
   unfolding until tries either after give
   until_done left x ts k c us e h = rw (e, h)
 
+  pub until_is : (left : A) (x : T) (ts : List T) (k : K) → test x ≡ Some k → until test turn left (x ∷ ts) ≡ after (turn k left) (and_on (until test turn)) ts
+  unfolding until tries either after
+  until_is left x ts k e = rw e (then_same (turn k left ts) _ _ (λ s us h. next_until ts us s (fewer_then x k e left ts s us h)))
+    where
+      next_until : (ts us : List T) (s : Turn A C) → length us ≤ length ts → and_on (tries test turn (length ts)) s us ≡ and_on (until test turn) s us
+      next_until ts us (going a) few = tries_enough (length ts) (length us) a us few (omega arith)
+      next_until ts us (done c) few = refl
+
 pub is_until : {T A C K : Type 0} {test : T → Option K} {turn : K → A → Reader T (Turn A C)} → ((x : T) (k : K) → test x ≡ Some k → (left : A) → IsReader (turn k left)) → (left : A) → IsReader (until test turn left)
 is_until {T} {A} {C} {K} {test} {turn} r left = is_until_at test turn r left
 
