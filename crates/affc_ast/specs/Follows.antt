@@ -21,21 +21,29 @@ stores_by (x ∷ xs) (w ∷ ws) = record { instance = x; element = w.0; value = 
 abbrev pub elements : List (Element × ℕ) → List Element
 elements written = map (λ w. w.0) written
 
--- the order in which the source runs its instances
-abbrev pub in_source_order : List Stored → List Stored
+-- an order in which another run makes these stores
+abbrev pub Order : Type 0
+Order = List Stored → List Stored
+
+-- the order in which the source makes them
+abbrev pub in_source_order : Order
 in_source_order stores = stores
 
+-- where another run puts each element
+abbrev pub Places : Type 0
+Places = Element → Element
+
 -- the place of an element of an array that isn't folded
-abbrev pub own_place : Element → Element
+abbrev pub own_place : Places
 own_place x = x
 
-abbrev pub put_at : (Element → Element) → Stored → Element × ℕ
+abbrev pub put_at : Places → Stored → Element × ℕ
 put_at place s = (place s.element, s.value)
 
 -- `target` follows `source` with these values of the parameters and from this store: both runs end, the run of
 -- `source` stores once for each instance of its trace, in this order and at the instance's own element, and the
 -- run of `target` stores the same values, in the order that `ordered` puts them in, each at the place of its element.
-pub record Follows (target source : Program) (ordered : List Stored → List Stored) (place : Element → Element) (p : List ℤ) (store : Store) : Type 0 where
+pub record Follows (target source : Program) (ordered : Order) (place : Places) (p : List ℤ) (store : Store) : Type 0 where
   pub source_end : State
   pub source_ends : meaning source p store ≡ Ended source_end
   pub target_end : State

@@ -9,4 +9,6 @@ pub mod Trace
 pub mod Follows
 pub mod Compiles
 pub mod CopyLoop
+pub mod Names
+pub mod Reads
 pub mod Examples

@@ -107,7 +107,9 @@ turns_of _ low high = 0
 abbrev pub turns : (node : ℕ) → (count : ℕ) → ℤ → (body : ℤ → State → Outcome) → State → Outcome
 turns node zero x body state = Ended state
 turns node (suc count) x body state =
-    then_do (body x (begun state)) (λ after. reading (in_int64 node (x +ℤ pos 1)) after (λ next. turns node count next body after))
+    then_do (body x (begun state)) (λ after.
+    reading (in_int64 node (x +ℤ pos 1)) after (λ next.
+    turns node count next body after))
 
 -- ---- Assignments
 

@@ -5,7 +5,11 @@
 #![tactic(auto)]
 
 pub mod examples;
+pub mod laws;
 pub mod text;
 pub mod tree;
 
 pub use sqlite_items::{Boxed, Items};
+
+#[cfg(test)]
+mod tests;

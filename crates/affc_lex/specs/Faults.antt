@@ -1,5 +1,5 @@
 -- The faults of a text that has no tokens.
-use Rattle.std.specs.Prelude.{◌≡◌, ◌⊎◌, ℕ, ◌+◌, ◌≤◌, ◌^◌, Bool, not, ◌&&◌, ◌||◌, ◌==◌, List, [], ◌∷◌, ◌++◌, length, codes, IsTrue, true, false}
+use Rattle.std.specs.Prelude.{◌≡◌, ◌⊎◌, ℕ, ◌+◌, ◌≤◌, ◌^◌, Bool, not, ◌&&◌, ◌||◌, List, [], ◌∷◌, ◌++◌, length, codes, IsTrue}
 use Rattle.affc_lex.specs.declared.token.LexFault.{LexFault}
 use Rattle.affc_lex.specs.declared.token.LexFault.TheVariants.{BadByte, OpenComment, LongNumber, Memory}
 use Rattle.affc_lex.specs.declared.piece.Spot.{Spot}
@@ -24,7 +24,7 @@ spot front = spot_behind Fresh front.pieces
 -- whether a space, a comment or a token begins here
 abbrev pub piece_begins : Spot → List ℕ → Bool
 piece_begins here text =
-    next_is is_space text || begins (codes "//") text || begins (codes "/*") text || next_is is_letter text || next_is is_digit text || next_is (λ b. is_mark (b ∷ [])) text || (is_fresh here && begins (codes "#") text)
+    next_is is_space text || begins (codes "//") text || begins (codes "/*") text || next_is is_letter text || next_is is_digit text || next_is (λ b. is_mark (b ∷ [])) text || (begins (codes "#") text && is_fresh here)
 
 -- whether these bytes are the longest number or value that can be taken before this text
 abbrev pub is_longest_literal : List ℕ → List ℕ → Bool

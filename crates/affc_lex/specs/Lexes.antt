@@ -51,10 +51,16 @@ abbrev pub is_word_kind : Kind → Bool
 is_word_kind Word = true
 is_word_kind _ = false
 
+-- whether this is the Word of these bytes
+abbrev pub is_named : List ℕ → Lexeme → Bool
+is_named name token = is_word_kind token.kind && same token.bytes name
+
+abbrev pub is_scop_name : Lexeme → Bool
+is_scop_name token = is_named (codes "scop") token || is_named (codes "endscop") token
+
 -- whether the tokens begin with those of `#pragma scop` or `#pragma endscop`, up to the line's end
 abbrev pub begins_scop_line : List Lexeme → Bool
-begins_scop_line (hash ∷ first ∷ second ∷ last ∷ others) =
-    is_hash hash.kind && (is_word_kind first.kind && same first.bytes (codes "pragma")) && (is_word_kind second.kind && (same second.bytes (codes "scop") || same second.bytes (codes "endscop"))) && is_line_end last.kind
+begins_scop_line (hash ∷ first ∷ second ∷ last ∷ others) = is_hash hash.kind && is_named (codes "pragma") first && is_scop_name second && is_line_end last.kind
 begins_scop_line _ = false
 
 -- the tokens without those of such lines; `left` more of the first ones belong to one

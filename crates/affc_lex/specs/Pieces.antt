@@ -53,9 +53,15 @@ is_value bytes = is_number (leading_digits bytes) && same (behind_digits bytes) 
 abbrev pub is_small : List ℕ → Bool
 is_small digits = nat_lt (decimal digits) (2 ^ 64)
 
+-- whether the text ends with its first `>`, and has no line feed
+abbrev pub ends_header : List ℕ → Bool
+ends_header [] = false
+ends_header (b ∷ bs) = if b == 62 then same bs [] else not (is_line_feed b) && ends_header bs
+
 -- from `<` to the first `>`, with no line feed
 abbrev pub is_header : List ℕ → Bool
-is_header bytes = begins (codes "<") bytes && ends_at_first (codes ">") bytes && list_all (λ b. not (is_line_feed b)) bytes
+is_header [] = false
+is_header (b ∷ bs) = b == 60 && ends_header bs
 
 -- ( ) [ ] { } , ; : + - * & | ^ ~ < > = ! %
 -- += -= *= &= |= ^= <= >= == !=   ++ -- && || << >>
@@ -77,15 +83,26 @@ prelude =
 
 -- Tokens before the text that follows them
 
+abbrev pub is_after_hash : Spot → Bool
+is_after_hash AfterHash = true
+is_after_hash _ = false
+
+abbrev pub is_after_include : Spot → Bool
+is_after_include AfterInclude = true
+is_after_include _ = false
+
 -- whether a `>` comes before a line feed and the end of the text
 abbrev pub closes_header : List ℕ → Bool
 closes_header [] = false
-closes_header (b ∷ bs) = b == 62 || (not (is_line_feed b) && closes_header bs)
+closes_header (b ∷ bs) = if b == 62 then true else not (is_line_feed b) && closes_header bs
+
+abbrev pub opens_header : List ℕ → Bool
+opens_header [] = false
+opens_header (b ∷ bs) = b == 60 && closes_header bs
 
 -- whether a header begins here, behind `#include`
 abbrev pub header_begins : Spot → List ℕ → Bool
-header_begins AfterInclude text = begins (codes "<") text && closes_header text
-header_begins _ text = false
+header_begins spot text = is_after_include spot && opens_header text
 
 -- whether a mark of this text's first two or three bytes stands here
 abbrev pub longer_mark : List ℕ → List ℕ → Bool
@@ -110,7 +127,7 @@ abbrev pub token_stands : Spot → Kind → List ℕ → List ℕ → Bool
 token_stands spot Word bytes after = is_word bytes && not (next_is is_letter_or_digit after) && not (begins prelude (bytes ++ after))
 token_stands spot Number bytes after = is_number bytes && is_small bytes && not (next_is is_letter_or_digit after)
 token_stands spot Value bytes after = is_value bytes && is_small (leading_digits bytes) && not (next_is is_letter_or_digit after)
-token_stands spot Header bytes after = header_begins spot bytes && is_header bytes
+token_stands spot Header bytes after = is_after_include spot && is_header bytes
 token_stands spot Hash bytes after = is_fresh spot && same bytes (codes "#")
 token_stands spot LineEnd bytes after = is_on_directive spot && (same bytes (codes "\n") || (same bytes [] && same after []))
 token_stands spot Prelude bytes after = same bytes prelude
@@ -125,12 +142,15 @@ stands spot (Token kind) bytes after = token_stands spot kind bytes after
 
 -- Spots
 
+abbrev pub later : Spot → Spot
+later spot = if is_on_directive spot then Directive else Inside
+
 abbrev pub after_token : Spot → Kind → List ℕ → Spot
 after_token spot Hash bytes = AfterHash
 after_token spot LineEnd bytes = Fresh
 after_token spot Prelude bytes = if is_on_directive spot then DirectiveFresh else Fresh
-after_token AfterHash Word bytes = if same bytes (codes "include") then AfterInclude else Directive
-after_token spot kind bytes = if is_on_directive spot then Directive else Inside
+after_token spot Word bytes = if is_after_hash spot && same bytes (codes "include") then AfterInclude else later spot
+after_token spot kind bytes = later spot
 
 -- where the text behind a piece stands
 abbrev pub next_spot : Spot → What → List ℕ → Spot

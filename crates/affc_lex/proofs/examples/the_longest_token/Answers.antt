@@ -1,10 +1,7 @@
 -- Each text's pieces.
-use Rattle.std.proofs.Common.{List, [], ◌∷◌, ◌++◌, refl, codes}
-use Rattle.affc_lex.specs.declared.token.Kind.TheVariants.{Word, Number, Value, Header, Hash, LineEnd, Prelude, Mark}
-use Rattle.affc_lex.specs.Pieces.{Piece, prelude}
-use Rattle.affc_lex.specs.Lexes.{Lexeme, Lexes, token_of}
-use Rattle.affc_lex.specs.Faults.{Front, NothingAt, StuckAt, RefusedAt, OpenAt, LongAt}
-use Rattle.affc_lex.proofs.Samples.{blank, comment, kept}
+use Rattle.std.proofs.Common.{[], ◌∷◌, refl, codes}
+use Rattle.affc_lex.specs.declared.token.Kind.TheVariants.{Word, Number, Value, Mark}
+use Rattle.affc_lex.proofs.Samples.{kept}
 use Rattle.affc_lex.proofs.examples.the_longest_token.Goals as goal
 
 pub returns-clause-marks : goal.returns-clause-marks

@@ -1,10 +1,8 @@
 -- Each text's pieces.
-use Rattle.std.proofs.Common.{List, [], ◌∷◌, ◌++◌, refl, codes}
-use Rattle.affc_lex.specs.declared.token.Kind.TheVariants.{Word, Number, Value, Header, Hash, LineEnd, Prelude, Mark}
-use Rattle.affc_lex.specs.Pieces.{Piece, prelude}
-use Rattle.affc_lex.specs.Lexes.{Lexeme, Lexes, token_of}
-use Rattle.affc_lex.specs.Faults.{Front, NothingAt, StuckAt, RefusedAt, OpenAt, LongAt}
-use Rattle.affc_lex.proofs.Samples.{blank, comment, kept}
+use Rattle.std.proofs.Common.{[], ◌∷◌, refl, codes}
+use Rattle.affc_lex.specs.declared.token.Kind.TheVariants.{Word, Hash, LineEnd, Prelude}
+use Rattle.affc_lex.specs.Pieces.{prelude}
+use Rattle.affc_lex.proofs.Samples.{blank, kept}
 use Rattle.affc_lex.proofs.examples.the_prelude.Goals as goal
 
 pub returns-clause-whole : goal.returns-clause-whole
