@@ -4,17 +4,13 @@ use Rattle.std.specs.Prelude.{◌≡◌, ℕ, zero, suc, ◌+◌, Bool, true, fa
 use Rattle.std.specs.List.{flat_map}
 use Rattle.affc_lex.specs.declared.token.Kind.{Kind}
 use Rattle.affc_lex.specs.declared.token.Kind.TheVariants.{Word, Number, Value, Header, Hash, LineEnd, Prelude, Mark}
+pub use Rattle.affc_ast.specs.Reads.{Symbol, symbol, word, number, mark}
 use Rattle.affc_lex.specs.Bytes.{same, decimal}
 use Rattle.affc_lex.specs.Pieces.{prelude}
 use Rattle.affc_ast.specs.declared.tree.Op.{Op}
 use Rattle.affc_ast.specs.declared.tree.Op.TheVariants.{Add, Sub, Mul, And, Or, Xor}
 use Rattle.affc_ast.specs.declared.tree.Rel.{Rel}
 use Rattle.affc_ast.specs.declared.tree.Rel.TheVariants.{Less, LessEqual, Greater, GreaterEqual, Equal}
-
--- a token without its place
-pub record Symbol : Type 0 where
-  pub kind : Kind
-  pub bytes : List ℕ
 
 abbrev pub is_word : Kind → Bool
 is_word Word = true
@@ -30,15 +26,6 @@ Name = List ℕ
 
 abbrev pub Digits : Type 0
 Digits = List ℕ
-
-abbrev pub word : Name → Symbol
-word name = record { kind = Word; bytes = name }
-
-abbrev pub number : Digits → Symbol
-number digits = record { kind = Number; bytes = digits }
-
-abbrev pub mark : List ℕ → Symbol
-mark bytes = record { kind = Mark; bytes = bytes }
 
 -- the end of a `#` line is a line feed, or the end of the text
 pub data LineText : Type 0 where

@@ -1,7 +1,8 @@
 -- The rules on names, and the tree of a text whose names keep them. Names are looked at in the order of the text, and the first that is refused is the answer.
 use Rattle.std.specs.Prelude.{ℕ, zero, suc, ◌+◌, Bool, true, false, not, ◌&&◌, ◌||◌, ◌==◌, List, [], ◌∷◌, ◌++◌, length, drop, map, codes, Option, Some, None, is_some, Result, Ok, Err, ℤ, pos, count_by, if◌then◌else◌}
 use Rattle.std.specs.List.{list_any, find, flat_map}
-use Rattle.affc_lex.specs.Bytes.{same, begins, contains}
+use Rattle.affc_lex.specs.Bytes.{same, begins}
+use Rattle.affc_ast.specs.Names.{is_reserved}
 use Rattle.affc_lex.specs.Pieces.{is_number}
 use Rattle.affc_ast.specs.declared.tree.NameId.{NameId}
 use Rattle.affc_ast.specs.declared.tree.ArrayId.{ArrayId}
@@ -23,29 +24,6 @@ use Rattle.affc_grammar.specs.declared.fault.NameWhy.{NameWhy}
 use Rattle.affc_grammar.specs.declared.fault.NameWhy.TheVariants.{Unknown, Twice, Reserved, Const, Kind, NoRange}
 use Rattle.affc_grammar.specs.Grammar.{Name, Choice, minimum, maximum, remainder, Rounding, down, up}
 use Rattle.affc_grammar.specs.Draft.{IxDraft, literal, name, negated, sum, difference, product, grouped, chosen, divided, CompareDraft, ValueDraft, load, constant, cast, complement, binary, shift, LocalDraft, WordDraft, HeadDraft, StmtsDraft, no_stmts, and_stmt, StmtDraft, for_loop, if_all, assign, block, DeclDraft, ParamDraft, number_param, array_param, PragmaDraft, range, context, TextDraft}
-
--- ---- Names that are reserved
-
--- the keywords of C11 (6.4.1), each between spaces
-abbrev pub keywords : List ℕ
-keywords =
-    codes " auto break case char const continue default do double else enum extern float for goto if inline int long register restrict return short signed sizeof static struct switch typedef union unsigned void volatile while "
-    ++ codes "_Alignas _Alignof _Atomic _Bool _Complex _Generic _Imaginary _Noreturn _Static_assert _Thread_local "
-
--- whether the list has this word, between spaces
-abbrev pub is_listed : List ℕ → Name → Bool
-is_listed list w = contains (32 ∷ (w ++ 32 ∷ [])) list
-
-abbrev pub ends_in : List ℕ → List ℕ → Bool
-ends_in tail [] = false
-ends_in tail (b ∷ bs) = same tail (b ∷ bs) || ends_in tail bs
-
--- a keyword, a name of C's headers or of the prelude, or `main`
-abbrev pub is_reserved : Name → Bool
-is_reserved w =
-    is_listed keywords w || begins (codes "_") w || begins (codes "affc_") w || ends_in (codes "_t") w
-    || begins (codes "INT") w || begins (codes "UINT") w || begins (codes "PTRDIFF_") w || begins (codes "SIG_ATOMIC_") w || begins (codes "SIZE_") w || begins (codes "WCHAR_") w || begins (codes "WINT_") w
-    || same w (codes "main")
 
 -- affc_t0, affc_t1, ..
 abbrev pub is_time_name : Name → Bool

@@ -7,14 +7,11 @@ use Rattle.affc_lex.specs.Bytes.{contains}
 use Rattle.affc_lex.specs.Pieces.{prelude}
 use Rattle.affc_lex.specs.Lexes.{Lexeme, Lexes}
 use Rattle.affc_ast.specs.declared.tree.Program.{Program}
-use Rattle.affc_grammar.specs.Grammar.{Symbol, Text, text_symbols}
+use Rattle.affc_grammar.specs.Grammar.{Symbol, symbol, Text, text_symbols}
 use Rattle.affc_grammar.specs.Draft.{TextDraft, text_draft}
 use Rattle.affc_grammar.specs.Names.{Refusal, program_tree}
 use Rattle.affc_grammar.specs.Limits.{Limits, limits_of, wide_limits, Passed, least, passes, shape_passed, products_of_names, passed}
 use Rattle.affc_grammar.specs.Printed.{printed}
-
-abbrev pub symbol : Lexeme → Symbol
-symbol token = record { kind = token.kind; bytes = token.bytes }
 
 abbrev pub symbols : List Lexeme → List Symbol
 symbols tokens = map symbol tokens

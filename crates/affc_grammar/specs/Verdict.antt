@@ -8,7 +8,8 @@ use Rattle.affc_grammar.specs.declared.fault.NameWhy.{NameWhy}
 use Rattle.affc_grammar.specs.declared.fault.LimitName.{LimitName}
 use Rattle.affc_grammar.specs.Grammar.{Symbol, Text}
 use Rattle.affc_grammar.specs.Draft.{text_draft}
-use Rattle.affc_grammar.specs.Names.{Refusal, ends_in}
+use Rattle.affc_ast.specs.Names.{ends}
+use Rattle.affc_grammar.specs.Names.{Refusal}
 use Rattle.affc_grammar.specs.Limits.{Limits, Passed, least, shape_passed, limits_of}
 use Rattle.affc_grammar.specs.Reads.{TextFault, name_refused, not_affine, limit_passed, tree_of, has_prelude}
 use Rattle.affc_grammar.specs.Reader.{Stop, At, Deep, Read, give, fail, deep, after, either, many, all, tries, until, inside, finished}
@@ -18,7 +19,7 @@ use Rattle.affc_grammar.specs.Reading.{ix_inside, mixed_inside, value_inside, st
 abbrev pub kind_of : List ℕ → Kind
 kind_of piece =
     if next_is is_letter piece then Word
-    else (if next_is is_digit piece then (if ends_in (codes "ULL") piece then Value else Number)
+    else (if next_is is_digit piece then (if ends (codes "ULL") piece then Value else Number)
     else (if same piece (codes "#") then Hash
     else (if same piece (codes "\n") then LineEnd
     else (if same piece (codes "<stdint.h>") then Header else Mark))))
