@@ -4,3 +4,4 @@ pub mod Tests
 pub mod Rules
 pub mod Done
 pub mod Complete
+pub mod CompleteValues
