@@ -5,3 +5,4 @@ pub mod Rules
 pub mod Done
 pub mod Complete
 pub mod CompleteValues
+pub mod CompleteStatements
