@@ -6,3 +6,4 @@ pub mod Done
 pub mod Complete
 pub mod CompleteValues
 pub mod CompleteStatements
+pub mod CompleteText
