@@ -7,3 +7,4 @@ pub mod Complete
 pub mod CompleteValues
 pub mod CompleteStatements
 pub mod CompleteText
+pub mod Laws

@@ -59,9 +59,14 @@ abbrev pub of_shape : Limits → List Symbol → Option Passed → Verdict
 of_shape limits ss (Some p) = limit p.at p.which
 of_shape limits ss None = of_read limits (length ss) (read_text limits.depth ss)
 
-unfoldable pub verdict : List Symbol → Verdict
-unfolding give fail deep after either many all tries until inside finished ix_inside mixed_inside value_inside stmts_inside read_text
+-- limits on the tokens come before the grammar, and this before names, products and the other limits
+abbrev pub verdict : List Symbol → Verdict
 verdict ss = let limits = limits_of (has_prelude ss) in of_shape limits ss (least (shape_passed limits ss))
+
+-- what is opened where a verdict is computed
+unfoldable pub computing : Unit {0}
+unfolding give fail deep after either many all tries until inside finished ix_inside mixed_inside value_inside stmts_inside read_text
+computing = tt
 
 abbrev pub is_read : Verdict → Bool
 is_read (reads tree) = true
