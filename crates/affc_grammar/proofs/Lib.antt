@@ -8,3 +8,4 @@ pub mod CompleteValues
 pub mod CompleteStatements
 pub mod CompleteText
 pub mod Laws
+pub mod Verdicts

@@ -47,10 +47,15 @@ pub record Passed : Type 0 where
 abbrev pub passed_at : LimitName → List ℕ → List Passed
 passed_at which places = map (λ at. record { at = at; which = which }) places
 
+-- the first of two at one place, else the one at the lesser place
+abbrev pub nearer : Passed → Option Passed → Option Passed
+nearer p None = Some p
+nearer p (Some q) = if nat_le p.at q.at then Some p else Some q
+
 -- the one at the least place; of several there, the first of the list
 abbrev pub least : List Passed → Option Passed
 least [] = None
-least (p ∷ ps) = elim (least ps) [ None ↦ Some p | Some q ↦ if nat_le p.at q.at then Some p else Some q ]
+least (p ∷ ps) = nearer p (least ps)
 
 abbrev pub passes : Option ℕ → ℕ → Bool
 passes None n = false
