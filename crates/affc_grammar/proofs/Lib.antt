@@ -7,5 +7,5 @@ pub mod Complete
 pub mod CompleteValues
 pub mod CompleteStatements
 pub mod CompleteText
-pub mod Laws
+pub mod Texts
 pub mod Verdicts

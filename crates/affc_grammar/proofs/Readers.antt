@@ -77,8 +77,8 @@ is_give b = record {
   ok_left = λ ts a rest e. ([], (same_ok b ts a rest e).1);
   at_left = λ ts rest e. absurd (cc);
   ok_same = λ xs t ys zs w a e.
-    let same = same_ok b (xs ++ t ∷ ys) a (w ++ t ∷ ys) e in
-    (λ i. Ok (same.0 i, same_front xs w (t ∷ ys) same.1 i ++ t ∷ zs));
+      let same = same_ok b (xs ++ t ∷ ys) a (w ++ t ∷ ys) e in
+      (λ i. Ok (same.0 i, same_front xs w (t ∷ ys) same.1 i ++ t ∷ zs));
   at_same = λ xs t ys zs w e. absurd (cc);
 }
 
@@ -90,18 +90,18 @@ pub is_after : {T A B : Type 0} {p : Reader T A} {f : A → Reader T B} → IsRe
 unfolding after
 is_after {T} {A} {B} {p} {f} r s = record {
   ok_left = λ ts a rest e.
-    let k = then_ok (p ts) f (a, rest) e in
-    let m = r.ok_left ts k.0 k.1 k.2 in
-    let n = (s k.0).ok_left k.1 a rest k.3 in
-    (m.0 ++ n.0, joined ts m.0 k.1 n.0 rest m.1 n.1);
+      let k = then_ok (p ts) f (a, rest) e in
+      let m = r.ok_left ts k.0 k.1 k.2 in
+      let n = (s k.0).ok_left k.1 a rest k.3 in
+      (m.0 ++ n.0, joined ts m.0 k.1 n.0 rest m.1 n.1);
   at_left = λ ts rest e. at_left_then ts rest (then_at (p ts) f rest e);
   ok_same = λ xs t ys zs w a e.
-    let k = then_ok (p (xs ++ t ∷ ys)) f (a, w ++ t ∷ ys) e in
-    let n = (s k.0).ok_left k.1 a (w ++ t ∷ ys) k.3 in
-    let split : k.1 ≡ (n.0 ++ w) ++ t ∷ ys = n.1 ∙ sym (append_assoc n.0 w (t ∷ ys)) in
-    let first = r.ok_same xs t ys zs (n.0 ++ w) k.0 (k.2 ∙ ap (λ l. Ok (k.0, l)) split) in
-    let second = (s k.0).ok_same (n.0 ++ w) t ys zs w a (ap (f k.0) (sym split) ∙ k.3) in
-    ap (λ r. then_read r f) first ∙ second;
+      let k = then_ok (p (xs ++ t ∷ ys)) f (a, w ++ t ∷ ys) e in
+      let n = (s k.0).ok_left k.1 a (w ++ t ∷ ys) k.3 in
+      let split : k.1 ≡ (n.0 ++ w) ++ t ∷ ys = n.1 ∙ sym (append_assoc n.0 w (t ∷ ys)) in
+      let first = r.ok_same xs t ys zs (n.0 ++ w) k.0 (k.2 ∙ ap (λ l. Ok (k.0, l)) split) in
+      let second = (s k.0).ok_same (n.0 ++ w) t ys zs w a (ap (f k.0) (sym split) ∙ k.3) in
+      ap (λ r. then_read r f) first ∙ second;
   at_same = λ xs t ys zs w e. at_same_then xs t ys zs w (then_at (p (xs ++ t ∷ ys)) f (w ++ t ∷ ys) e);
 }
   where
@@ -209,13 +209,13 @@ module _ {T A K : Type 0} (test : T → Option K) (next : K → A → Reader T A
     ok_left = λ ts a rest e. (is_many (length ts) left).ok_left ts a rest e;
     at_left = λ ts rest e. (is_many (length ts) left).at_left ts rest e;
     ok_same = λ xs t ys zs w a e.
-      let n = length (xs ++ t ∷ ys) + length (xs ++ t ∷ zs) in
-      enough (length (xs ++ t ∷ zs)) n left (xs ++ t ∷ zs) (omega arith) (omega arith)
-      ∙ (is_many n left).ok_same xs t ys zs w a (enough n (length (xs ++ t ∷ ys)) left (xs ++ t ∷ ys) (omega arith) (omega arith) ∙ e);
+        let n = length (xs ++ t ∷ ys) + length (xs ++ t ∷ zs) in
+        enough (length (xs ++ t ∷ zs)) n left (xs ++ t ∷ zs) (omega arith) (omega arith)
+        ∙ (is_many n left).ok_same xs t ys zs w a (enough n (length (xs ++ t ∷ ys)) left (xs ++ t ∷ ys) (omega arith) (omega arith) ∙ e);
     at_same = λ xs t ys zs w e.
-      let n = length (xs ++ t ∷ ys) + length (xs ++ t ∷ zs) in
-      enough (length (xs ++ t ∷ zs)) n left (xs ++ t ∷ zs) (omega arith) (omega arith)
-      ∙ (is_many n left).at_same xs t ys zs w (enough n (length (xs ++ t ∷ ys)) left (xs ++ t ∷ ys) (omega arith) (omega arith) ∙ e);
+        let n = length (xs ++ t ∷ ys) + length (xs ++ t ∷ zs) in
+        enough (length (xs ++ t ∷ zs)) n left (xs ++ t ∷ zs) (omega arith) (omega arith)
+        ∙ (is_many n left).at_same xs t ys zs w (enough n (length (xs ++ t ∷ ys)) left (xs ++ t ∷ ys) (omega arith) (omega arith) ∙ e);
   }
 
   -- one turn, and the others
@@ -274,13 +274,13 @@ module _ {T A C K : Type 0} (test : T → Option K) (turn : K → A → Reader T
     ok_left = λ ts a rest e. (is_tries (length ts) left).ok_left ts a rest e;
     at_left = λ ts rest e. (is_tries (length ts) left).at_left ts rest e;
     ok_same = λ xs t ys zs w a e.
-      let n = length (xs ++ t ∷ ys) + length (xs ++ t ∷ zs) in
-      tries_enough (length (xs ++ t ∷ zs)) n left (xs ++ t ∷ zs) (omega arith) (omega arith)
-      ∙ (is_tries n left).ok_same xs t ys zs w a (tries_enough n (length (xs ++ t ∷ ys)) left (xs ++ t ∷ ys) (omega arith) (omega arith) ∙ e);
+        let n = length (xs ++ t ∷ ys) + length (xs ++ t ∷ zs) in
+        tries_enough (length (xs ++ t ∷ zs)) n left (xs ++ t ∷ zs) (omega arith) (omega arith)
+        ∙ (is_tries n left).ok_same xs t ys zs w a (tries_enough n (length (xs ++ t ∷ ys)) left (xs ++ t ∷ ys) (omega arith) (omega arith) ∙ e);
     at_same = λ xs t ys zs w e.
-      let n = length (xs ++ t ∷ ys) + length (xs ++ t ∷ zs) in
-      tries_enough (length (xs ++ t ∷ zs)) n left (xs ++ t ∷ zs) (omega arith) (omega arith)
-      ∙ (is_tries n left).at_same xs t ys zs w (tries_enough n (length (xs ++ t ∷ ys)) left (xs ++ t ∷ ys) (omega arith) (omega arith) ∙ e);
+        let n = length (xs ++ t ∷ ys) + length (xs ++ t ∷ zs) in
+        tries_enough (length (xs ++ t ∷ zs)) n left (xs ++ t ∷ zs) (omega arith) (omega arith)
+        ∙ (is_tries n left).at_same xs t ys zs w (tries_enough n (length (xs ++ t ∷ ys)) left (xs ++ t ∷ ys) (omega arith) (omega arith) ∙ e);
   }
 
   -- one turn, and the others
@@ -330,8 +330,8 @@ module _ {T A : Type 0} (a : A) where
     at_left = stopped;
     ok_same = λ xs t ys zs w b e. absurd (not_ended xs t ys (b, w ++ t ∷ ys) e);
     at_same = λ xs t ys zs w e.
-      let all_same : xs ++ t ∷ ys ≡ w ++ t ∷ ys = same_at {T = T} {A = A} (xs ++ t ∷ ys) (w ++ t ∷ ys) (sym (stops_here xs t ys) ∙ e) in
-      stops_here xs t zs ∙ ap (λ l. Err (At (l ++ t ∷ zs))) (same_front xs w (t ∷ ys) all_same);
+        let all_same : xs ++ t ∷ ys ≡ w ++ t ∷ ys = same_at {T = T} {A = A} (xs ++ t ∷ ys) (w ++ t ∷ ys) (sym (stops_here xs t ys) ∙ e) in
+        stops_here xs t zs ∙ ap (λ l. Err (At (l ++ t ∷ zs))) (same_front xs w (t ∷ ys) all_same);
   }
 
 pub is_finished : {T A : Type 0} (a : A) → IsReader (finished {T = T} a)

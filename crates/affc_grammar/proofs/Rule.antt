@@ -26,8 +26,8 @@ unfolding give
 give_rule {T} {C} {next} {room} {at} {spelled} {front} c e = record {
   reader = is_give c;
   sound = λ ts b rest h.
-    let s = same_ok c ts b rest h in
-    e ts ∙ (λ i. spelled (s.0 i) ++ s.1 i);
+      let s = same_ok c ts b rest h in
+      e ts ∙ (λ i. spelled (s.0 i) ++ s.1 i);
   started = λ ts rest h. absurd (cc);
   can = (c, [], sym (append-nil (spelled c)) ∙ sym (e []));
   shallow = λ k ts w. w;
@@ -66,13 +66,13 @@ unfolding after
 after_rule {T} {A} {C} {next} {room} {start} {middle} {end} {part} {spelled} {front} {p} {f} rule others = record {
   reader = is_after rule.reader (λ a. (others a).reader);
   sound = λ ts c rest h.
-    let k = then_ok (p ts) f (c, rest) h in
-    ap front (rule.sound ts k.0 k.1 k.2) ∙ (others k.0).sound k.1 c rest k.3;
+      let k = then_ok (p ts) f (c, rest) h in
+      ap front (rule.sound ts k.0 k.1 k.2) ∙ (others k.0).sound k.1 c rest k.3;
   started = λ ts rest h. started_at ts rest (then_at (p ts) f rest h);
   can =
-    let a = rule.can.0 in
-    let c = (others a).can in
-    (c.0, part a ++ c.1, c.2);
+      let a = rule.can.0 in
+      let c = (others a).can in
+      (c.0, part a ++ c.1, c.2);
   shallow = λ k ts w. keeps_then next (k + room) (k + middle) (k + end) (p ts) f (rule.shallow k ts w) (λ a us v. (others a).shallow k us v);
 }
   where
@@ -93,13 +93,13 @@ unfolding after
 nested_rule {T} {A} {C} {next} {room} {start} {middle} {end} {part} {spelled} far near {p} {f} natural rule others = record {
   reader = is_after rule.reader (λ a. (others a).reader);
   sound = λ ts c rest h.
-    let k = then_ok (p ts) f (c, rest) h in
-    ap far (rule.sound ts k.0 k.1 k.2) ∙ (others k.0).sound k.1 c rest k.3;
+      let k = then_ok (p ts) f (c, rest) h in
+      ap far (rule.sound ts k.0 k.1 k.2) ∙ (others k.0).sound k.1 c rest k.3;
   started = λ ts rest h. started_at ts rest (then_at (p ts) f rest h);
   can =
-    let a = rule.can in
-    let c = (others a.0).can in
-    (c.0, a.1 ++ c.1, c.2 ∙ ap far (ap (λ l. l ++ c.1) a.2 ∙ natural a.1 c.1));
+      let a = rule.can in
+      let c = (others a.0).can in
+      (c.0, a.1 ++ c.1, c.2 ∙ ap far (ap (λ l. l ++ c.1) a.2 ∙ natural a.1 c.1));
   shallow = λ k ts w. keeps_then next (k + room) (k + middle) (k + end) (p ts) f (rule.shallow k ts w) (λ a us v. (others a).shallow k us v);
 }
   where
@@ -260,8 +260,8 @@ raise {T} {C} {next} {room} {start} {end} {spelled} {front} {p} rule = record {
   started = rule.started;
   can = rule.can;
   shallow = λ k ts w.
-    let e : (n : ℕ) → suc k + n ≡ k + suc n = λ n. omega arith in
-    let before : Within next (suc k + room) (suc k + start) ts = subst (λ l. Within next l (suc k + start) ts) (sym (e room)) (subst (λ n. Within next (k + suc room) n ts) (sym (e start)) w) in
-    let behind : Keeps next (suc k + room) (suc k + end) (p ts) = rule.shallow (suc k) ts before in
-    subst (λ l. Keeps next l (k + suc end) (p ts)) (e room) (subst (λ n. Keeps next (suc k + room) n (p ts)) (e end) behind);
+      let e : (n : ℕ) → suc k + n ≡ k + suc n = λ n. omega arith in
+      let before : Within next (suc k + room) (suc k + start) ts = subst (λ l. Within next l (suc k + start) ts) (sym (e room)) (subst (λ n. Within next (k + suc room) n ts) (sym (e start)) w) in
+      let behind : Keeps next (suc k + room) (suc k + end) (p ts) = rule.shallow (suc k) ts before in
+      subst (λ l. Keeps next l (k + suc end) (p ts)) (e room) (subst (λ n. Keeps next (suc k + room) n (p ts)) (e end) behind);
 }

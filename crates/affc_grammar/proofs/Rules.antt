@@ -415,6 +415,7 @@ block_more_rule calls room body_rule block_rule a_brace b = block_stmt_rule call
 
 mutual
   unfolding stmts_inside
+
   pub stmts_inside_rule : (calls : Bool) (room : ℕ) → Rule count_open room 1 0 closed_symbols (λ r. r) (stmts_inside calls room)
   stmts_inside_rule calls zero = deep_rule (g.no_stmts, mark (codes "}") ∷ [], refl)
   stmts_inside_rule calls (suc room) =

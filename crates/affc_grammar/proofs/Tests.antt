@@ -55,10 +55,10 @@ pub kind_test : {K : Type 0} (is_kind : Kind → Bool) (kind : Kind) (f : List �
     → IsTest (of_kind is_kind f) (λ k. record { kind = kind; bytes = spelled k })
 kind_test is_kind kind f spelled unique its only passes = record {
   only = λ s k e.
-    let parts = of_kind_parts is_kind f s k e in
-    let kinds = unique s.kind parts.0 in
-    let texts = only s.bytes k parts.1 in
-    (λ i. record { kind = kinds i; bytes = texts i });
+      let parts = of_kind_parts is_kind f s k e in
+      let kinds = unique s.kind parts.0 in
+      let texts = only s.bytes k parts.1 in
+      (λ i. record { kind = kinds i; bytes = texts i });
   passes = λ k. rw its (passes k);
 }
 

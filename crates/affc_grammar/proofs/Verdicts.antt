@@ -12,7 +12,7 @@ use Rattle.affc_grammar.specs.Reads.{Derives, TextFault, name_refused, not_affin
 use Rattle.affc_grammar.specs.Reader.{Stop, At, Deep, Read}
 use Rattle.affc_grammar.specs.Reading.{read_text}
 use Rattle.affc_grammar.specs.Verdict.{Verdict, reads, syntax, name, product, limit, of_tree, of_read, of_shape, verdict}
-use Rattle.affc_grammar.proofs.Laws.{within_limit, enough_room, text_read, text_spelled, stops_at}
+use Rattle.affc_grammar.proofs.Texts.{within_limit, enough_room, text_read, text_spelled, stops_at}
 
 -- ---- No limit is passed
 

@@ -6,8 +6,9 @@ use Rattle.affc_lex.specs.Bytes.{same, is_digit, is_letter, next_is}
 use Rattle.affc_ast.specs.declared.tree.Program.{Program}
 use Rattle.affc_grammar.specs.declared.fault.NameWhy.{NameWhy}
 use Rattle.affc_grammar.specs.declared.fault.LimitName.{LimitName}
-use Rattle.affc_grammar.specs.Grammar.{Symbol, Text}
+use Rattle.affc_grammar.specs.Grammar.{Symbol, Text, prelude_symbols, text_symbols}
 use Rattle.affc_grammar.specs.Draft.{text_draft}
+use Rattle.affc_grammar.specs.Printed.{printed}
 use Rattle.affc_ast.specs.Names.{ends}
 use Rattle.affc_grammar.specs.Names.{Refusal}
 use Rattle.affc_grammar.specs.Limits.{Limits, Passed, least, shape_passed, limits_of}
@@ -72,6 +73,27 @@ abbrev pub is_read : Verdict → Bool
 is_read (reads tree) = true
 is_read _ = false
 
--- a function with these statements over one parameter N from 1 to 4, an input and an output; its statements begin with symbol 32
+abbrev pub no_program : Program
+no_program = record { name = []; params = []; context = []; temps = []; body = []; prelude = false }
+
+abbrev pub program_of : Verdict → Program
+program_of (reads tree) = tree
+program_of _ = no_program
+
+-- the text that is printed for the tree of these symbols
+abbrev pub reprinted : List Symbol → List Symbol
+reprinted ss = text_symbols (printed (program_of (verdict ss)))
+
+abbrev pub head_lines : List ℕ
+head_lines = codes "# include <stdint.h> \n # pragma affc param N 1 4 \n "
+
+abbrev pub function_head : List ℕ
+function_head = codes "void f ( int64_t N , const uint64_t in [ N ] , uint64_t out [ N ] ) { "
+
+-- a function with these statements over a parameter N from 1 to 4, an input and an output; its statements begin with symbol 32
 abbrev pub around : List ℕ → List Symbol
-around body = line (codes "# include <stdint.h> \n # pragma affc param N 1 4 \n void f ( int64_t N , const uint64_t in [ N ] , uint64_t out [ N ] ) { " ++ body ++ codes " }")
+around body = line (head_lines ++ function_head ++ body ++ codes " }")
+
+-- the same with the prelude; its statements begin with symbol 33
+abbrev pub with_prelude : List ℕ → List Symbol
+with_prelude body = line head_lines ++ prelude_symbols true ++ line (function_head ++ body ++ codes " }")

@@ -2,4 +2,6 @@
 //! and the limits. The parser and the printer stand on these definitions; here is no reader of bytes.
 #![tactic(auto)]
 
+pub mod examples;
 pub mod fault;
+pub mod laws;
