@@ -1,5 +1,5 @@
 -- Readers: from a list of tokens, by the first one that is left. They are for any kind of tokens.
-use Rattle.std.specs.Prelude.{◌≡◌, ℕ, zero, suc, ◌≤◌, List, [], ◌∷◌, length, Option, Some, None, Result, Ok, Err}
+use Rattle.std.specs.Prelude.{ℕ, zero, suc, ◌≤◌, List, [], ◌∷◌, length, Option, Some, None, Result, Ok, Err}
 
 -- where reading stops: before these tokens, or with too many brackets open
 pub data Stop (T : Type 0) : Type 0 where
