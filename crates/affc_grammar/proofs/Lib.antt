@@ -1,4 +1,4 @@
-pub mod Readers
+pub mod Closed
 pub mod Rule
 pub mod Tests
 pub mod Rules

@@ -9,7 +9,7 @@ use Rattle.affc_grammar.specs.Limits.{Limits, count_open, is_opening, is_closing
 use Rattle.affc_grammar.specs.Reads.{Derives, ReadsBy, TextFault, tree_of, symbols, has_prelude}
 use Rattle.affc_grammar.specs.Reader.{At, Deep, Read, Reader, fail, on_some, after, either, finished, Within}
 use Rattle.affc_grammar.specs.Reading.{read_text, read_without, holding}
-use Rattle.affc_grammar.proofs.Readers.{then_ok, same_ok}
+use Rattle.affc_grammar.proofs.Closed.{then_ok, same_ok}
 use Rattle.affc_grammar.proofs.Rule.{Keeps}
 use Rattle.affc_grammar.proofs.Rules.{text_rule}
 use Rattle.affc_grammar.proofs.Done.{IsDone}
