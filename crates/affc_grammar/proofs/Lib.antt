@@ -9,3 +9,4 @@ pub mod CompleteStatements
 pub mod CompleteText
 pub mod Texts
 pub mod Verdicts
+pub mod CopyLoops

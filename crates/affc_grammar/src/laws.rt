@@ -2,6 +2,7 @@
 
 ghost use Rattle.std.specs.Prelude.{◌≡◌, ◌+◌, ℕ, List, length, Ok, Err, ◌↔◌};
 ghost use Rattle.affc_ast.specs.declared.tree.Program.{Program};
+ghost use Rattle.affc_ast.specs.Reads as copy;
 ghost use Rattle.affc_grammar.specs.declared.fault.NameWhy.{NameWhy};
 ghost use Rattle.affc_grammar.specs.Grammar.{Symbol, Text, text_symbols, StopsAt};
 ghost use Rattle.affc_grammar.specs.Draft.{text_draft};
@@ -28,4 +29,10 @@ pub fn verdicts_are_right()
     // The symbols are those of a text of the grammar, in which this name is the first that is refused.
     ensures refused { (ss : List Symbol) (at : ℕ) (why : NameWhy) → verdict ss ≡ name at why
         → ((c : Text) × (ss ≡ text_symbols c) × (tree_of (limits_of (has_prelude ss)) (text_draft c) ≡ Err (name_refused (record { at = at; why = why })))) }
+{}
+
+/// A text of a copy loop reads as the program as which it reads by the tree's own definition.
+pub fn copy_loops_read()
+    ensures plain { (text : List ℕ) (tree : Program) → copy.Reads text tree → Reads text tree }
+    ensures wide { (text : List ℕ) (tree : Program) → copy.ReadsWide text tree → ReadsWide text tree }
 {}
