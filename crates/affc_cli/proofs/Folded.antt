@@ -1,19 +1,19 @@
 -- What is printed compiles what was read.
-use Rattle.std.proofs.Common.{◌≡◌, ◌<◌, ◌≤◌, ◌^◌, ◌||◌, ◌&&◌, ℕ, zero, suc, Bool, true, false, not, List, [], ◌∷◌, length, get_or, codes, refl, ap, sym, subst, ◌∙◌, arith}
+use Rattle.std.proofs.Common.{◌≡◌, ◌<◌, ℕ, zero, suc, Bool, true, false, List, [], ◌∷◌, length, get_or, codes, refl, sym, subst, arith}
 use Rattle.std.specs.List.{list_any}
 use Rattle.std.proofs.lemmas.Bool.{not-true}
-use Rattle.affc_lex.specs.Bytes.{same, begins}
+use Rattle.affc_lex.specs.Bytes.{same}
 use Rattle.affc_lex.specs.Pieces.{is_word}
 use Rattle.affc_ast.specs.Compiles.{Compiles}
 use Rattle.affc_ast.specs.CopyLoop.{CopyLoop, copy_tree}
 use Rattle.affc_ast.specs.Follows.{in_source_order, own_place}
-use Rattle.affc_ast.specs.Names.{keywords, reserved_beginnings, ends, is_reserved}
+use Rattle.affc_ast.specs.Names.{keywords, ends, is_reserved}
 use Rattle.affc_ast.specs.Reads.{HasRange, ReadsWide, names_of}
 use Rattle.affc_cli.specs.Fold.{FoldsTo}
 use Rattle.affc_cli.specs.Parsed.{IsParsed}
 use Rattle.affc_cli.specs.Text.{printed_text}
 use Rattle.affc_cli.proofs.Found.{words_of}
-use Rattle.affc_cli.proofs.Lettered.{IsName, IsNumber}
+use Rattle.affc_cli.proofs.Lettered.{IsName}
 use Rattle.affc_cli.proofs.Printed.{HasWords}
 use Rattle.affc_cli.proofs.Reading.{printed_reads, or_left, or_right}
 
