@@ -12,10 +12,10 @@ use Rattle.affc_lex.specs.declared.piece.Spot.{Spot}
 use Rattle.affc_lex.specs.declared.piece.Spot.TheVariants.{Fresh}
 use Rattle.affc_lex.specs.declared.piece.Found.{Found}
 use Rattle.affc_lex.specs.Pieces.{Piece, stands, text_of, all_stand, spot_behind, next_spot, is_on_directive}
-use Rattle.affc_lex.specs.Lexes.{Lexeme, lexeme, lexemes, token_at, tokens_from}
+use Rattle.affc_lex.specs.Lexes.{IsIn, Lexeme, lexeme, lexemes, token_at, tokens_from}
 use Rattle.affc_lex.specs.Reading.{read}
 use Rattle.affc_lex.specs.FoundAt.{StandsFor}
-use Rattle.affc_lex.specs.Cutting.{made, IsIn, TokensOf, Stops, StopsSo, fault_of, is_piece}
+use Rattle.affc_lex.specs.Cutting.{made, TokensOf, Stops, StopsSo, fault_of, is_piece}
 
 -- Lists of pieces joined
 

@@ -13,3 +13,4 @@ pub mod Once
 pub mod Cuts
 pub mod ScopLines
 pub mod Exact
+pub mod Order

@@ -6,8 +6,7 @@ use Rattle.std.proofs.lemmas.List.Elements.{All-take, All-set}
 use Rattle.std.proofs.lemmas.Bool.{cond-true, cond-false}
 use Rattle.affc_lex.specs.declared.token.Kind.TheVariants.{Word}
 use Rattle.affc_lex.specs.declared.token.Token.{Token}
-use Rattle.affc_lex.specs.Lexes.{lexeme, lexemes, begins_scop_line, without_scop_lines}
-use Rattle.affc_lex.specs.Cutting.{IsIn}
+use Rattle.affc_lex.specs.Lexes.{IsIn, lexeme, lexemes, begins_scop_line, without_scop_lines}
 
 -- of the tokens up to a place, those that stay stand in front; `left` more of the next ones go
 pub record Dropped (text : List ℕ) (old now : List Token) (at kept left : ℕ) : Type 0 where

@@ -9,7 +9,7 @@ use Rattle.affc_lex.specs.declared.piece.Spot.TheVariants.{Fresh}
 use Rattle.affc_lex.specs.declared.piece.Found.{Found}
 use Rattle.affc_lex.specs.declared.piece.Found.TheVariants.{Piece as a_piece, Bad, Open, Long}
 use Rattle.affc_lex.specs.Pieces.{Piece, text_of, all_stand, spot_behind, is_on_directive}
-use Rattle.affc_lex.specs.Lexes.{lexemes, tokens_from}
+use Rattle.affc_lex.specs.Lexes.{IsIn, lexemes, tokens_from}
 use Rattle.affc_lex.specs.Faults.{Front, place, spot, fault_place}
 use Rattle.affc_lex.specs.Reading.{read}
 
@@ -17,10 +17,6 @@ use Rattle.affc_lex.specs.Reading.{read}
 abbrev pub made : What → ℕ → ℕ → List Token
 made (of_kind kind) start end = record { kind = kind; start = start; end = end } ∷ []
 made _ start end = []
-
--- the token's bytes stand in a text of this length
-abbrev pub IsIn : ℕ → Token → Type 0
-IsIn n token = (token.start ≤ token.end) × (token.end ≤ n)
 
 -- The whole text is cut into pieces that stand.
 pub record Whole (text : List ℕ) : Type 0 where

@@ -1,5 +1,5 @@
 -- The tokens of a text.
-use Rattle.std.specs.Prelude.{◌≡◌, ℕ, suc, zero, ◌+◌, Bool, true, false, not, ◌&&◌, ◌||◌, List, [], ◌∷◌, ◌++◌, length, map, codes, IsTrue, slice_range, if◌then◌else◌}
+use Rattle.std.specs.Prelude.{◌≡◌, ℕ, suc, zero, ◌+◌, ◌≤◌, Bool, true, false, not, ◌&&◌, ◌||◌, List, [], ◌∷◌, ◌++◌, length, map, codes, IsTrue, slice_range, if◌then◌else◌}
 use Rattle.affc_lex.specs.declared.token.Kind.{Kind}
 use Rattle.affc_lex.specs.declared.token.Kind.TheVariants.{Word, Hash, LineEnd}
 use Rattle.affc_lex.specs.declared.token.Token.{Token}
@@ -22,6 +22,15 @@ lexeme text token = record { kind = token.kind; bytes = slice_range text token.s
 
 abbrev pub lexemes : List ℕ → List Token → List Lexeme
 lexemes text tokens = map (lexeme text) tokens
+
+-- the token's bytes stand in a text of this length
+abbrev pub IsIn : ℕ → Token → Type 0
+IsIn n token = (token.start ≤ token.end) × (token.end ≤ n)
+
+-- the tokens stand one behind another, from the first place up to the second
+abbrev pub InOrder : ℕ → List Token → ℕ → Type 0
+InOrder from [] to = from ≤ to
+InOrder from (t ∷ ts) to = (from ≤ t.start) × (t.start ≤ t.end) × InOrder t.end ts to
 
 -- Tokens of pieces
 

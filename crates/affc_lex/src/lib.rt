@@ -3,9 +3,9 @@
 
 ghost use Rattle.std.specs.Prelude.{◌≡◌, List, Option, All, length, IfOk, IfErr, MatchResult};
 ghost use Rattle.affc_lex.specs.declared.token.LexFault.TheVariants.{Memory};
-ghost use Rattle.affc_lex.specs.Lexes.{Lexeme, Lexes, lexemes, is_refused};
+ghost use Rattle.affc_lex.specs.Lexes.{InOrder, IsIn, Lexeme, Lexes, lexemes};
 ghost use Rattle.affc_lex.specs.Faults.{FirstFault, fault_place};
-ghost use Rattle.affc_lex.specs.Cutting.{IsIn, earlier};
+ghost use Rattle.affc_lex.specs.Cutting.{earlier};
 
 pub mod cut;
 pub mod examples;
@@ -68,8 +68,9 @@ fn read_text(alloc: Global, text: &[u8]) -> Result<Vec<Token>, LexFault>
 pub fn lex(alloc: Global, text: &[u8]) -> Result<Vec<Token>, LexFault>
     // What is answered are the text's tokens.
     ensures tokens { IfOk result (λ v. Lexes text.now (lexemes text.now v.items)) }
-    // Each token's bytes are a slice of the text.
+    // Each token's bytes are a slice of the text, behind those of the token before.
     ensures within { IfOk result (λ v. All (IsIn (length text.now)) v.items) }
+    ensures order { IfOk result (λ v. InOrder 0 v.items (length text.now)) }
     // A text that has tokens is answered by these, or by want of memory.
     ensures only { (ts : List Lexeme) → Lexes text.now ts
         → MatchResult result (λ v. lexemes text.now v.items ≡ ts) (λ fault. fault ≡ Memory) }
@@ -77,4 +78,57 @@ pub fn lex(alloc: Global, text: &[u8]) -> Result<Vec<Token>, LexFault>
     ensures fault { IfErr result (FirstFault text.now) }
 {
     read_text(alloc, text)
+}
+
+#[cfg(test)]
+mod tests {
+    use super::*;
+    use std::alloc::AllocError;
+    use std::test::Fail;
+
+    /// Each token as the first letters of its kind and its text.
+    fn shown(alloc: Global, text: &[u8]) -> Result<String, AllocError> {
+        match lex(alloc, text) {
+            Ok(tokens) => {
+                let mut line = String::new(alloc);
+                for token in &tokens {
+                    let part = format!(in alloc;
+                        "{:?} {}..{} ",
+                        token.kind, token.start, token.end
+                    )?;
+                    line.push_str(&part)?;
+                }
+                Ok(line)
+            }
+            Err(fault) => format!(in alloc; "{fault}"),
+        }
+    }
+
+    #[test]
+    fn tokens_and_faults(rt: HostRuntime) -> Result<(), Fail> {
+        let rows: [(&str, &str); 8] = [
+            ("", ""),
+            (
+                "#pragma scop\ni+++j",
+                "Word 13..14 Mark 14..16 Mark 16..17 Word 17..18 ",
+            ),
+            (
+                "#include <a.h>",
+                "Hash 0..1 Word 1..8 Header 9..14 LineEnd 14..14 ",
+            ),
+            ("18446744073709551615ULL//", "Value 0..23 "),
+            (
+                "18446744073709551616ULL",
+                "the number at byte 0 is too large",
+            ),
+            ("x = 3U;", "no token, space or comment goes on at byte 5"),
+            ("x /* y", "the comment at byte 2 has no end"),
+            ("/*\\\n*/ @", "no token, space or comment goes on at byte 2"),
+        ];
+        for (text, want) in rows {
+            let line = shown(rt.alloc(), text.as_bytes())?;
+            assert_eq!(rt; line.as_str(), want);
+        }
+        Ok(())
+    }
 }

@@ -2,8 +2,7 @@
 
 ghost use Rattle.std.specs.Prelude.{◌≡◌, length, All};
 ghost use Rattle.affc_lex.specs.Lexes as lexes;
-ghost use Rattle.affc_lex.specs.Lexes.{lexeme, lexemes};
-ghost use Rattle.affc_lex.specs.Cutting.{IsIn};
+ghost use Rattle.affc_lex.specs.Lexes.{IsIn, lexeme, lexemes};
 
 use crate::token::{Kind, Token};
 

@@ -1,0 +1,18 @@
+// What the compiler asks of the outside: a folder of named files, and sinks for bytes.
+#![tactic(auto)]
+
+mod files;
+mod folder;
+mod memory;
+mod put;
+mod sink;
+mod standard;
+
+pub use folder::{Folder, LONGEST_READ, ReadFault, WriteFault};
+pub use memory::{MemFolder, MemSink, SureSink};
+pub use put::{PutCause, PutFault, put_all};
+pub use sink::{Sink, SinkFault, pieces_join};
+pub use standard::{StdFolder, StdSink};
+
+#[cfg(test)]
+mod tests;

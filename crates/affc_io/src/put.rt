@@ -1,0 +1,51 @@
+// A whole piece, in as many writes as it takes.
+ghost use Rattle.std.specs.Prelude.{◌≡◌, ◌≤◌, ◌<◌, length, IfErr};
+ghost use Rattle.affc_io.specs.Count.{Rose};
+ghost use Rattle.affc_io.specs.Taken.{grown};
+ghost use Rattle.affc_io.specs.Put.{IsCausedBy, put_of};
+
+use crate::{Sink, SinkFault};
+use thiserror::Error;
+
+/// Why a piece wasn't taken whole.
+#[derive(Clone, Copy, Debug, PartialEq, Eq, Error)]
+pub enum PutCause {
+    /// A write failed, or took none of the bytes.
+    #[error("the bytes could not be written")]
+    Fault,
+    #[error("out of memory")]
+    Memory,
+}
+
+/// How many bytes of the piece were taken, and why no more.
+#[derive(Clone, Copy, Debug, PartialEq, Eq, Error)]
+#[error("{cause} after {written} bytes")]
+pub struct PutFault {
+    pub written: usize,
+    pub cause: PutCause,
+}
+
+/// Writes the whole piece. Takes no memory of its own.
+pub fn put_all<S: Sink>(sink: &mut S, bytes: &[u8]) -> Result<(), PutFault>
+    ensures faults { S.faults sink.old ≤ S.faults sink.new }
+    ensures shortages { S.shortages sink.old ≤ S.shortages sink.new }
+    ensures taken { S.taken sink.new ≡ grown (S.taken sink.old) (put_of result bytes.now) }
+    ensures bound { IfErr result (λ fault. fault.written < length bytes.now) }
+    ensures cause { IfErr result (λ fault. IsCausedBy fault.cause
+        (Rose (S.faults sink.old) (S.faults sink.new))
+        (Rose (S.shortages sink.old) (S.shortages sink.new))) }
+{
+    let mut written = 0;
+    while written < bytes.len() {
+        let cause = match sink.write(&bytes[written..]) {
+            Ok(0) | Err(SinkFault::Failed) => PutCause::Fault,
+            Err(SinkFault::Memory) => PutCause::Memory,
+            Ok(count) => {
+                written += count;
+                continue;
+            }
+        };
+        return Err(PutFault { written, cause });
+    }
+    Ok(())
+}

@@ -1,0 +1,55 @@
+// A sink for bytes.
+ghost use Rattle.std.specs.Prelude.{◌≡◌, ◌≢◌, ◌≤◌, ◌<◌, ◌+◌, ◌++◌, List, ℕ, Option, length, take, drop, IfOk, IsErrOf, IsFalse};
+ghost use Rattle.affc_io.specs.Answers.{sink_failed};
+ghost use Rattle.affc_io.specs.Count.{Rose, StaysWhereTold};
+ghost use Rattle.affc_io.specs.Front.{IsFront};
+ghost use Rattle.affc_io.specs.Taken.{grown, taken_of};
+
+use thiserror::Error;
+
+/// Why a sink took nothing.
+#[derive(Clone, Copy, Debug, PartialEq, Eq, Error)]
+pub enum SinkFault {
+    #[error("the bytes could not be written")]
+    Failed,
+    #[error("out of memory")]
+    Memory,
+}
+
+/// Where bytes go, one after the other.
+pub trait Sink {
+    /// The bytes taken so far, where the sink tells them.
+    ghost taken: { Self → Option (List ℕ) };
+
+    /// How many faults the sink has counted.
+    ghost faults: { Self → ℕ };
+
+    /// How many calls have answered `Memory`.
+    ghost shortages: { Self → ℕ };
+
+    /// How many of the bytes, from the front, were taken.
+    fn write(&mut self, bytes: &[u8]) -> Result<usize, SinkFault>
+        ensures faults { faults self.old ≤ faults self.new }
+        ensures shortages { shortages self.old ≤ shortages self.new }
+        ensures bound { IfOk result (λ n. n ≤ length bytes.now) }
+        ensures taken { taken self.new ≡ grown (taken self.old) (taken_of result bytes.now) }
+        ensures stalled { IfOk result (λ n. n ≡ 0 → 0 < length bytes.now → Rose (faults self.old) (faults self.new)) }
+        ensures failed { IsErrOf result SinkFault.Failed → Rose (faults self.old) (faults self.new) }
+        ensures memory { IsErrOf result SinkFault.Memory → Rose (shortages self.old) (shortages self.new) }
+        // a sink that tells counts no fault but the calls that failed or took none of a piece that isn't empty
+        ensures settled { IsFalse (sink_failed result bytes.now) →
+            StaysWhereTold (taken self.old) (faults self.old) (faults self.new) }
+        // and no shortage is counted but the calls that answered it
+        ensures ample { result ≢ Err SinkFault.Memory → shortages self.new ≡ shortages self.old };
+}
+
+/// Laws of what sinks take, for whoever writes a text in pieces: call it where they are needed.
+pub fn pieces_join()
+    ensures grown { (taken : Option (List ℕ)) → (first next : List ℕ) →
+        grown (grown taken first) next ≡ grown taken (first ++ next) }
+    ensures parts { (taken : Option (List ℕ)) → (bytes : List ℕ) → (m n : ℕ) →
+        grown (grown taken (take m bytes)) (take n (drop m bytes)) ≡ grown taken (take (m + n) bytes) }
+    ensures front { (bytes : List ℕ) → (n : ℕ) → IsFront bytes (take n bytes) }
+    ensures front_within { (bytes more front : List ℕ) → IsFront bytes front → IsFront (bytes ++ more) front }
+    ensures front_after { (before bytes front : List ℕ) → IsFront bytes front → IsFront (before ++ bytes) (before ++ front) }
+{}
