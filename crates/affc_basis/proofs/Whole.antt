@@ -38,9 +38,10 @@ module _ (program : Program) (schedule : Schedule) (array : ℕ) (p : List ℤ) 
   both_inside : (x y : List ℤ) → StoredBetween (effect program p) same_element (trace program p) (target program schedule p) (array, x) (array, y) → (k : ℕ) (b : Affine) → slice_get moduli k ≡ Some b
       → ((pos 0 ≤ℤ get_or x k (pos 0)) × (get_or x k (pos 0) <ℤ value b p)) × ((pos 0 ≤ℤ get_or y k (pos 0)) × (get_or y k (pos 0) <ℤ value b p))
   both_inside x y s k b at =
-      let reordered = target_is_reordered_law program schedule p in
-      (inside s.load x (reordered.no_other s.load (later_is_in (target program schedule p) s.other s.load s.before)) (inl s.loads) k b at,
-       inside s.other y (reordered.no_other s.other (later_is_in (target program schedule p) s.store s.other s.after)) (inr s.stores) k b at)
+      let reordered = target_is_reordered_law program schedule p in (
+        inside s.load x (reordered.no_other s.load (later_is_in (target program schedule p) s.other s.load s.before)) (inl s.loads) k b at,
+        inside s.other y (reordered.no_other s.other (later_is_in (target program schedule p) s.store s.other s.after)) (inr s.stores) k b at,
+      )
 
   pair_inside : (x y : List ℤ) → LivePair program schedule array p x y → (k : ℕ) (b : Affine) → slice_get moduli k ≡ Some b
       → ((pos 0 ≤ℤ get_or x k (pos 0)) × (get_or x k (pos 0) <ℤ value b p)) × ((pos 0 ≤ℤ get_or y k (pos 0)) × (get_or y k (pos 0) <ℤ value b p))
@@ -48,12 +49,14 @@ module _ (program : Program) (schedule : Schedule) (array : ℕ) (p : List ℤ) 
 
 pub whole_array_obeys : WholeArrayObeys
 whole_array_obeys program schedule array p fold dimensions own_rows positive inside k row b at at_b =
-    let n : ℕ = length fold.basis.rows in
-    (positive k b at_b, λ x y s.
-      let lengths = proper_pair program schedule array n p dimensions x y s.pair in
-      let same : length x ≡ length y = lengths.1 ∙ sym lengths.2 in
-      let long : length (minus x y) ≡ n = length-minus x y same ∙ lengths.1 in
-      let here = pair_inside program schedule array p (forms_of fold.moduli) inside x y s.pair k b at_b in
-      let distance : along row x y ≡ unsigned_abs (get_or x k (pos 0) -ℤ get_or y k (pos 0)) =
-            ap (λ r. along r x y) (own_rows k row at) ∙ ap unsigned_abs (dot-unit_row n k (minus x y) long ∙ minus-at x y k same) in
-      subst (λ d. pos d <ℤ value b p) (sym distance) (between (get_or x k (pos 0)) (get_or y k (pos 0)) (value b p) here.0.0 here.0.1 here.1.0 here.1.1))
+    let n : ℕ = length fold.basis.rows in (
+      positive k b at_b,
+      λ x y s.
+          let lengths = proper_pair program schedule array n p dimensions x y s.pair in
+          let same : length x ≡ length y = lengths.1 ∙ sym lengths.2 in
+          let long : length (minus x y) ≡ n = length-minus x y same ∙ lengths.1 in
+          let here = pair_inside program schedule array p (forms_of fold.moduli) inside x y s.pair k b at_b in
+          let distance : along row x y ≡ unsigned_abs (get_or x k (pos 0) -ℤ get_or y k (pos 0)) =
+          ap (λ r. along r x y) (own_rows k row at) ∙ ap unsigned_abs (dot-unit_row n k (minus x y) long ∙ minus-at x y k same) in
+          subst (λ d. pos d <ℤ value b p) (sym distance) (between (get_or x k (pos 0)) (get_or y k (pos 0)) (value b p) here.0.0 here.0.1 here.1.0 here.1.1),
+    )
