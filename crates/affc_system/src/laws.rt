@@ -1,0 +1,16 @@
+//! What follows from the definitions. Each law is the contract of a function that does nothing.
+ghost use Rattle.std.specs.Prelude.{◌≡◌, ◌↔◌, ◌∷◌, [], ◌++◌, ℤ, pos, ◌≤ℤ◌, List};
+ghost use Rattle.affc_rows.specs.Forms.{Affine, value};
+ghost use Rattle.affc_system.specs.Systems.{Rows, IsPoint};
+ghost use Rattle.affc_system.specs.Boxes.{IsBox, InBox, IsCorner};
+
+/// A point of a system with one row more is a point of the system at which that row is at least 0.
+pub fn point_of_longer_system()
+    ensures { (system : Rows) (row : Affine) (point : List ℤ)
+        → IsPoint (record system { rows = system.rows ++ row ∷ [] }) point ↔ (IsPoint system point × (pos 0 ≤ℤ value row point)) }
+{}
+
+/// The corners of a box lie in it.
+pub fn corner_in_box()
+    ensures { (ranges : List (ℤ × ℤ)) (point : List ℤ) → IsBox ranges → IsCorner ranges point → InBox ranges point }
+{}

@@ -1,0 +1,11 @@
+//! Systems of rows over numbered columns, boxes, and pairs of elements.
+#![tactic(auto)]
+
+pub mod boxes;
+pub mod laws;
+pub mod pairs;
+pub mod system;
+
+pub use boxes::{BoxOf, interval};
+pub use pairs::PairSystem;
+pub use system::{RowFault, System, fits_row};
