@@ -1,0 +1,6 @@
+pub mod Multiples
+pub mod Proofs
+pub mod Chain
+pub mod Rational
+pub mod Eliminations
+pub mod Answers
