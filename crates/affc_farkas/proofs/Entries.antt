@@ -48,7 +48,7 @@ sum-drop columns rows by i j fit there le lt =
     let o = one-mul (entry_of (multiple_sum columns rows q) j) in
     rw add-one (e ∙ m ∙ ap (λ z. (pos p.1 *ℤ entry_of (row_at columns rows p.0) j) +ℤ z) o)
 
-zeros-at : (n j : ℕ) → slice_index_or (replicate n (pos 0) ++ pos 0 ∷ []) j (pos 0) ≡ pos 0
+pub zeros-at : (n j : ℕ) → slice_index_or (replicate n (pos 0) ++ pos 0 ∷ []) j (pos 0) ≡ pos 0
 zeros-at zero zero = refl
 zeros-at zero (suc j) = refl
 zeros-at (suc n) zero = refl

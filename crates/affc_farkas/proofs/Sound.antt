@@ -76,7 +76,7 @@ cancelled (c ∷ cs) k (x ∷ xs) h =
     let r = cancelled cs k xs (λ j lt. h (suc j) (omega arith)) in
     sum_zero _ _ e r
 
-dot-cancelled : (f : Affine) (xs : List ℤ) → ((j : ℕ) → j < length f.coefs → entry_of f j ≡ pos 0) → dot f.coefs xs ≡ pos 0
+pub dot-cancelled : (f : Affine) (xs : List ℤ) → ((j : ℕ) → j < length f.coefs → entry_of f j ≡ pos 0) → dot f.coefs xs ≡ pos 0
 dot-cancelled f xs h = cancelled f.coefs f.constant xs h
 
 quotients : (g : ℤ) (cs : List ℤ) (k : ℤ) (ds : List ℤ) (l : ℤ) (xs : List ℤ) → length cs ≡ length ds → length ds ≡ length xs

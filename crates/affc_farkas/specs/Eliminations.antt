@@ -30,15 +30,12 @@ mixed_weights s [] t vs = []
 mixed_weights s (w ∷ ws) t [] = []
 mixed_weights s (w ∷ ws) t (v ∷ vs) = (s * w + t * v) ∷ mixed_weights s ws t vs
 
--- the weights of the row that cancels the column between two rows, before they are divided: the factors are the least positive whole ones
-pub record AreMixed (rows : List Affine) (column : ℕ) (first second before : List ℕ) : Type 0 where
-  pub s : ℕ
-  pub t : ℕ
-  pub g : ℕ
-  pub greatest : IsGcd (unsigned_abs (combined rows first column)) (unsigned_abs (combined rows second column)) g
-  pub first_factor : g * s ≡ unsigned_abs (combined rows second column)
-  pub second_factor : g * t ≡ unsigned_abs (combined rows first column)
-  pub sums : before ≡ mixed_weights s first t second
+-- the least positive whole factors that make a and b one number: s a = t b
+pub record AreFactors (a b s t : ℕ) : Type 0 where
+  pub divisor : ℕ
+  pub greatest : IsGcd a b divisor
+  pub first : divisor * s ≡ b
+  pub second : divisor * t ≡ a
 
 -- weights divided by their greatest common divisor
 pub record AreDivided (before weights : List ℕ) : Type 0 where
@@ -52,11 +49,23 @@ abbrev pub HasFrom : ℕ → List ℕ → Type 0
 HasFrom bound [] = ⊥
 HasFrom bound (w ∷ ws) = (bound ≤ w) ⊎ HasFrom bound ws
 
--- the row of a pair: the weights that cancel the column, in least terms
-pub record IsAdded (rows : List Affine) (table : List (List ℕ)) (p : Pair) (weights : List ℕ) : Type 0 where
-  pub before : List ℕ
-  pub mixed : AreMixed rows p.column (slice_index_or table p.first []) (slice_index_or table p.second []) before
-  pub divided : AreDivided before weights
+-- the weights of the row that cancels a column between two rows: factors of the two, and then the division
+pub record IsAdded (rows : List Affine) (column : ℕ) (first second weights : List ℕ) : Type 0 where
+  pub s : ℕ
+  pub t : ℕ
+  pub factors : AreFactors (unsigned_abs (combined rows first column)) (unsigned_abs (combined rows second column)) s t
+  pub divided : AreDivided (mixed_weights s first t second) weights
+
+-- some weight passes 128 bits before the division, or 2^53 after it
+abbrev pub PassesLimit : List ℕ → Type 0
+PassesLimit before = HasFrom (2 ^ 127) before ⊎ ((weights : List ℕ) × AreDivided before weights × HasFrom (2 ^ 53 + 1) weights)
+
+-- the row that cancels a column between two rows has a weight that passes a limit
+pub record IsWide (rows : List Affine) (column : ℕ) (first second : List ℕ) : Type 0 where
+  pub s : ℕ
+  pub t : ℕ
+  pub factors : AreFactors (unsigned_abs (combined rows first column)) (unsigned_abs (combined rows second column)) s t
+  pub passes : PassesLimit (mixed_weights s first t second)
 
 -- the rules for a pair after those that were made: it names two rows that are there, the first positive and the second negative in its
 -- column; every other column that was cancelled is 0 in both; and no pair that was made equals it
@@ -73,18 +82,17 @@ pub record IsNext (columns : ℕ) (rows : List Affine) (made : List Pair) (table
 pub data IsTable (columns : ℕ) (rows : List Affine) : List Pair → List (List ℕ) → Type 0 where
   none : IsTable columns rows [] (owns (length rows) (length rows))
   more : (made : List Pair) (table : List (List ℕ)) (p : Pair) (weights : List ℕ) → IsTable columns rows made table
-      → IsNext columns rows made table p → IsAdded rows table p weights → IsTable columns rows (made ++ p ∷ []) (table ++ weights ∷ [])
+      → IsNext columns rows made table p
+      → IsAdded rows p.column (slice_index_or table p.first []) (slice_index_or table p.second []) weights → IsTable columns rows (made ++ p ∷ []) (table ++ weights ∷ [])
 
 -- the pairs are an elimination of the rows
 pub record IsElimination (columns : ℕ) (rows : List Affine) (made : List Pair) : Type 0 where
   pub table : List (List ℕ)
   pub is_table : IsTable columns rows made table
 
--- the pairs with this one after them are an elimination, and in its row a weight passes 128 bits before the division, or 2^53 after it
+-- the pairs with this one after them are an elimination, in whose last row a weight passes a limit
 pub record IsTooWide (columns : ℕ) (rows : List Affine) (made : List Pair) (next : Pair) : Type 0 where
   pub table : List (List ℕ)
   pub is_table : IsTable columns rows made table
   pub is_next : IsNext columns rows made table next
-  pub before : List ℕ
-  pub mixed : AreMixed rows next.column (slice_index_or table next.first []) (slice_index_or table next.second []) before
-  pub wide : HasFrom (2 ^ 127) before ⊎ ((weights : List ℕ) × AreDivided before weights × HasFrom (2 ^ 53 + 1) weights)
+  pub wide : IsWide rows next.column (slice_index_or table next.first []) (slice_index_or table next.second [])

@@ -1,10 +1,10 @@
 //! The rows that cuts and splits add, in a chain of frames on the stack, so that no memory is taken.
-ghost use Rattle.std.specs.Prelude.{◌≡◌, ℕ, ◌+◌, ◌-◌, ◌*◌, ◌^◌, ◌<◌, ◌≤◌, ◌++◌, ◌∷◌, [], min, unsigned_abs, length, false, pos, ◌-ℤ◌};
+ghost use Rattle.std.specs.Prelude.{◌≡◌, ℕ, ◌+◌, ◌-◌, ◌*◌, ◌^◌, ◌<◌, ◌≤◌, ◌++◌, ◌∷◌, [], min, unsigned_abs, length, false, pos, ◌-ℤ◌, ◌*ℤ◌};
 ghost use Rattle.std.specs.List.{All};
 ghost use Rattle.affc_farkas.specs.Multiples.{entry_of, row_at};
 ghost use Rattle.affc_farkas.specs.Proofs.{low_row, high_row};
 ghost use Rattle.affc_farkas.specs.Chain.{frame_row, rows_of, IsChain};
-ghost use Rattle.affc_system.specs.Systems.{IsRow};
+ghost use Rattle.affc_system.specs.Systems.{FitsRow, IsRow};
 
 use affc_rows::Form;
 use affc_system::System;
@@ -33,6 +33,26 @@ pub(crate) fn entry(row: &Form, column: usize) -> i128
     } else {
         row.constant
     }
+}
+
+/// The entry at a place of a row that keeps the limits.
+pub(crate) fn small_entry(row: &Form, column: usize) -> i128
+    requires fits { FitsRow row.now }
+    requires column_in { column ≤ length row.now.coefs }
+    ensures value { result ≡ entry_of row.now column }
+    ensures small { unsigned_abs result ≤ 2 ^ 60 }
+{
+    entry(row, column)
+}
+
+/// A multiple of an entry.
+pub(crate) fn multiple(times: u64, entry: i128) -> i128
+    requires times_small { times ≤ 2 ^ 53 }
+    requires entry_small { unsigned_abs entry ≤ 2 ^ 60 }
+    ensures value { result ≡ pos times *ℤ entry }
+    ensures small { unsigned_abs result ≤ 2 ^ 113 }
+{
+    i128::from(times) * entry
 }
 
 /// The entry of a frame's row at a place.

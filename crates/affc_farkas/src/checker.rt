@@ -6,7 +6,7 @@ ghost use Rattle.affc_farkas.specs.Chain.{frame_row, rows_of, IsChain};
 ghost use Rattle.affc_system.specs.Systems.{IsRow, HasNoPoint};
 ghost use Rattle.affc_farkas.specs.Proofs.{IsLeaf, IsCut, low_row, high_row, IsValid, ValidProof};
 
-use crate::chain::{Added, count, entry, entry_at, with_cut, with_high, with_low};
+use crate::chain::{Added, count, entry_at, multiple, small_entry, with_cut, with_high, with_low};
 use crate::proof::Proof;
 use affc_rows::Form;
 use affc_system::{System, fits_row};
@@ -16,16 +16,6 @@ const MOST_COEFFICIENT: u128 = 1 << 40;
 const MOST_CONSTANT: u128 = 1 << 60;
 
 const FAR: u128 = 1 << 64;
-
-/// A multiple of an entry.
-fn multiple(times: u64, entry: i128) -> i128
-    requires times_small { times ≤ 2 ^ 53 }
-    requires entry_small { unsigned_abs entry ≤ 2 ^ 60 }
-    ensures value { result ≡ pos times *ℤ entry }
-    ensures small { unsigned_abs result ≤ 2 ^ 113 }
-{
-    i128::from(times) * entry
-}
 
 /// The entry of the sum of these multiples at a place.
 fn sum_at(by: &[(u32, u64)], added: &Added, system: &System, column: usize) -> i128
@@ -89,22 +79,12 @@ fn divides(by: &[(u32, u64)], g: i64, row: &Form, added: &Added, system: &System
     ensures { IsTrue result ↔ ((j : ℕ) → j < system.now.columns → entry_of (multiple_sum system.now.columns (rows_of system.now.rows added.now) by.now) j ≡ g *ℤ entry_of row.now j) }
 {
     for column in 0..system.columns() {
-        let part = times(g, small_entry(row, system, column as usize));
+        let part = times(g, small_entry(row, column as usize));
         if sum_at(by, added, system, column as usize) != part {
             return false;
         }
     }
     true
-}
-
-/// The entry of a row that keeps the limits.
-fn small_entry(row: &Form, system: &System, column: usize) -> i128
-    requires row { IsRow system.now.columns row.now }
-    requires column_in { column ≤ system.now.columns }
-    ensures value { result ≡ entry_of row.now column }
-    ensures small { unsigned_abs result ≤ 2 ^ 60 }
-{
-    entry(row, column)
 }
 
 /// Whether each coefficient keeps its limit.

@@ -5,7 +5,7 @@ ghost use Rattle.affc_rows.specs.Forms.{dot, dot_magnitude, value, magnitude, mi
 
 use crate::total::{Range, Total};
 use smallvec::SmallVec;
-use std::alloc::Global;
+use std::alloc::{AllocError, Global};
 use std::marker::Model;
 use thiserror::Error;
 
@@ -24,6 +24,18 @@ impl Model for Form {
     ghost Value = { Affine };
 
     ghost view = { λ f. record { coefs = f.coefs.items; constant = f.constant } };
+}
+
+impl Clone for Form {
+    ghost is_clone = { λ f copy. copy ≡ f };
+
+    fn clone(&self) -> Result<Form, AllocError> {
+        let coefs = SmallVec::from_slice(*self.coefs.allocator(), self.coefs.as_slice())?;
+        Ok(Form {
+            coefs,
+            constant: self.constant,
+        })
+    }
 }
 
 /// Why no form is made.

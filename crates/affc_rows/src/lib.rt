@@ -10,3 +10,6 @@ pub mod total;
 
 pub use form::{Form, FormFault};
 pub use total::{Range, Total};
+
+#[cfg(test)]
+mod tests;

@@ -182,14 +182,18 @@ fn added(
     ensures width { IfOk result (λ o. IfSome o (λ f. length f.coefs ≡ system.now.columns)) }
     ensures memory { OnErr result (result ≡ Err Stop.Memory) }
 {
-    let _columns = system.columns();
+    let columns = system.columns();
     let rows = system.rows();
     let next: &Form = &rows[row];
-    match next.scale_add(alloc, i128::from(times), form, 1) {
-        Ok(sum) => Ok(Some(sum)),
-        Err(FormFault::Range) => Ok(None),
-        Err(FormFault::Memory) => Err(Stop::Memory),
+    let sum = match next.scale_add(alloc, i128::from(times), form, 1) {
+        Ok(sum) => sum,
+        Err(FormFault::Range) => return Ok(None),
+        Err(FormFault::Memory) => return Err(Stop::Memory),
+    };
+    if sum.coefs.len() != columns as usize {
+        return Ok(None);
     }
+    Ok(Some(sum))
 }
 
 /// The sum of these multiples of rows, which stand in order. `None` where they don't, or where a number is too great.

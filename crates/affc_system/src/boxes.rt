@@ -59,6 +59,15 @@ impl BoxOf {
     }
 }
 
+impl Clone for BoxOf {
+    ghost is_clone = { λ b copy. copy ≡ b };
+
+    fn clone(&self) -> Result<BoxOf, AllocError> {
+        let ranges = self.ranges.clone()?;
+        Ok(BoxOf { ranges })
+    }
+}
+
 /// The least and the greatest sum of products over some ranges, and the greatest sum of the products' magnitudes.
 #[derive(Clone, Copy)]
 struct Span {

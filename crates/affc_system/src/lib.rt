@@ -9,3 +9,6 @@ pub mod system;
 pub use boxes::{BoxOf, interval};
 pub use pairs::PairSystem;
 pub use system::{RowFault, System, fits_row};
+
+#[cfg(test)]
+mod tests;

@@ -5,7 +5,7 @@ ghost use Rattle.affc_rows.specs.Forms.{dot, value};
 ghost use Rattle.affc_system.specs.Systems.{FitsRow, IsRow, Meets, IsPoint};
 
 use affc_rows::{Form, Total};
-use std::alloc::Global;
+use std::alloc::{AllocError, Global};
 use std::marker::Model;
 use thiserror::Error;
 
@@ -40,6 +40,18 @@ impl Model for System {
     ghost view = { λ s. record { columns = s.columns; rows = s.rows.items } };
 
     ghost invariant = { λ s. (length s.rows.items ≤ 1024) × (s.columns ≤ 128) × All (IsRow s.columns) s.rows.items };
+}
+
+impl Clone for System {
+    ghost is_clone = { λ s copy. copy ≡ s };
+
+    fn clone(&self) -> Result<System, AllocError> {
+        let rows = self.rows.clone()?;
+        Ok(System {
+            columns: self.columns,
+            rows,
+        })
+    }
 }
 
 /// Why a row isn't added.

@@ -1,0 +1,14 @@
+pub mod Recursion
+pub mod Store
+pub mod Cause
+pub mod Index
+pub mod Values
+pub mod Meaning
+pub mod Fits
+pub mod Trace
+pub mod Follows
+pub mod Compiles
+pub mod CopyLoop
+pub mod Names
+pub mod Reads
+pub mod Examples

@@ -1,0 +1,79 @@
+//! What the definitions give at small programs, as laws: `specs/Examples.antt` says each, with values that were
+//! found by hand from the rules.
+
+ghost use Rattle.affc_ast.specs.Examples.{QuotientsRound, RemaindersStartAtZero, LeastAndGreatest, DivisorsAreAtLeastOne, NumbersHaveTheirEnds, NegationsOverflow, ValuesCompute, ValuesWrap, RelationsCompare, FirstFalseEndsTheReading};
+ghost use Rattle.affc_ast.specs.Examples.{CopyLoopCopies, OutputsAreOut, CopyLoopTrace, CopyLoopEvents, CompoundAdds, CompoundSubtracts, ValuesAreReadFromTheLeft, ConditionsChoose, LoopsNest, TwoStatementsTakeTurns, TwoStatementsRun, CompoundLoadsFirst, LocalsSeeThoseBefore};
+ghost use Rattle.affc_ast.specs.Examples.{LoadsStayInside, StoresStayInside, SubscriptsStartAtZero, AccessesAreCounted, StatementsAreCounted, LoadsFindValues, OwnElementComesFirst, ProductsOverflow, ProductsFit, ContextHasNodes, TemporariesHaveNodes, ValuesHaveNodes, BlocksHaveNodes, LocalsHaveNodes, ExtentsAreAtLeastOne, FirstExtentEndsTheReading, ExtentsAreReadInOrder, StepsOverflow};
+ghost use Rattle.affc_ast.specs.Examples.{RangesHoldTheirEnds, SomeDataFit, ConditionsHaveValues};
+ghost use Rattle.affc_ast.specs.Examples.{CopyTextReads, FollowsInAnotherOrder, FollowsAtOtherPlaces};
+
+/// What expressions, conditions and operations on values give.
+pub fn numbers()
+    ensures quotients_round { QuotientsRound }
+    ensures remainders_start_at_zero { RemaindersStartAtZero }
+    ensures least_and_greatest { LeastAndGreatest }
+    ensures divisors_are_at_least_one { DivisorsAreAtLeastOne }
+    ensures numbers_have_their_ends { NumbersHaveTheirEnds }
+    ensures negations_overflow { NegationsOverflow }
+    ensures values_compute { ValuesCompute }
+    ensures values_wrap { ValuesWrap }
+    ensures relations_compare { RelationsCompare }
+    ensures first_false_ends_the_reading { FirstFalseEndsTheReading }
+{}
+
+/// Runs that end, with their traces and events.
+pub fn runs()
+    ensures copy_loop_copies { CopyLoopCopies }
+    ensures outputs_are_out { OutputsAreOut }
+    ensures copy_loop_trace { CopyLoopTrace }
+    ensures copy_loop_events { CopyLoopEvents }
+    ensures compound_adds { CompoundAdds }
+    ensures compound_subtracts { CompoundSubtracts }
+    ensures values_are_read_from_the_left { ValuesAreReadFromTheLeft }
+    ensures conditions_choose { ConditionsChoose }
+    ensures loops_nest { LoopsNest }
+    ensures two_statements_take_turns { TwoStatementsTakeTurns }
+    ensures two_statements_run { TwoStatementsRun }
+    ensures compound_loads_first { CompoundLoadsFirst }
+    ensures locals_see_those_before { LocalsSeeThoseBefore }
+{}
+
+/// Runs that are stuck, each with its cause, its place and its steps.
+pub fn stops()
+    ensures loads_stay_inside { LoadsStayInside }
+    ensures stores_stay_inside { StoresStayInside }
+    ensures subscripts_start_at_zero { SubscriptsStartAtZero }
+    ensures accesses_are_counted { AccessesAreCounted }
+    ensures statements_are_counted { StatementsAreCounted }
+    ensures loads_find_values { LoadsFindValues }
+    ensures own_element_comes_first { OwnElementComesFirst }
+    ensures products_overflow { ProductsOverflow }
+    ensures products_fit { ProductsFit }
+    ensures context_has_nodes { ContextHasNodes }
+    ensures temporaries_have_nodes { TemporariesHaveNodes }
+    ensures values_have_nodes { ValuesHaveNodes }
+    ensures blocks_have_nodes { BlocksHaveNodes }
+    ensures locals_have_nodes { LocalsHaveNodes }
+    ensures extents_are_at_least_one { ExtentsAreAtLeastOne }
+    ensures first_extent_ends_the_reading { FirstExtentEndsTheReading }
+    ensures extents_are_read_in_order { ExtentsAreReadInOrder }
+    ensures steps_overflow { StepsOverflow }
+{}
+
+/// Which values of the parameters and which stores fit.
+pub fn data()
+    ensures ranges_hold_their_ends { RangesHoldTheirEnds }
+    ensures some_data_fit { SomeDataFit }
+    ensures conditions_have_values { ConditionsHaveValues }
+{}
+
+/// A text that reads as the tree of a copy loop.
+pub fn texts()
+    ensures { CopyTextReads }
+{}
+
+/// Programs that follow another in another order, and at other places.
+pub fn following()
+    ensures follows_in_another_order { FollowsInAnotherOrder }
+    ensures follows_at_other_places { FollowsAtOtherPlaces }
+{}

@@ -1,0 +1,159 @@
+use crate::text::Text;
+use sqlite_items::{Boxed, Items};
+
+/// A name that is visible where it stands: the number parameters in order of declaration, then the
+/// enclosing iterators and locals from the outermost on, numbered from 0.
+#[derive(Clone, Copy, PartialEq, Eq, Debug)]
+pub struct NameId(pub u32);
+
+/// An array: the array parameters in order of declaration, then the temporaries, numbered from 0.
+#[derive(Clone, Copy, PartialEq, Eq, Debug)]
+pub struct ArrayId(pub u32);
+
+/// A whole-number expression: a bound, a subscript, an extent, a side of a comparison.
+#[derive(Debug, Drop)]
+pub enum Ix {
+    Lit(i64),
+    Name(NameId),
+    Neg(Boxed<Ix>),
+    Add(Boxed<Ix>, Boxed<Ix>),
+    Sub(Boxed<Ix>, Boxed<Ix>),
+    Mul(Boxed<Ix>, Boxed<Ix>),
+    Min(Boxed<Ix>, Boxed<Ix>),
+    Max(Boxed<Ix>, Boxed<Ix>),
+    /// The quotient by a number of at least 1, rounded down.
+    Floord(Boxed<Ix>, i64),
+    /// The quotient by a number of at least 1, rounded up.
+    Ceild(Boxed<Ix>, i64),
+    /// The remainder from 0 to the second less 1.
+    Mod(Boxed<Ix>, Boxed<Ix>),
+}
+
+/// An operation on two values.
+#[derive(Clone, Copy, PartialEq, Eq, Debug)]
+pub enum Op {
+    Add,
+    Sub,
+    Mul,
+    And,
+    Or,
+    Xor,
+}
+
+/// A value: a `uint64_t`.
+#[derive(Debug, Drop)]
+pub enum Val {
+    Load {
+        array: ArrayId,
+        subs: Items<Ix>,
+    },
+    Const(u64),
+    /// `(uint64_t)(..)`.
+    Cast(Ix),
+    Not(Boxed<Val>),
+    Bin {
+        op: Op,
+        left: Boxed<Val>,
+        right: Boxed<Val>,
+    },
+    /// `<<` where `left`, else `>>`, by 0 to 63 bits.
+    Shift {
+        left: bool,
+        value: Boxed<Val>,
+        by: u8,
+    },
+}
+
+#[derive(Clone, Copy, PartialEq, Eq, Debug)]
+pub enum Rel {
+    Less,
+    LessEqual,
+    Greater,
+    GreaterEqual,
+    Equal,
+}
+
+/// A condition of an `if` or of a `context` line.
+#[derive(Debug, Drop)]
+pub struct Compare {
+    pub rel: Rel,
+    pub left: Ix,
+    pub right: Ix,
+}
+
+/// A local of a block, `const int64_t name = value;`.
+#[derive(Debug, Drop)]
+pub struct Local {
+    pub name: Text,
+    pub value: Ix,
+}
+
+#[derive(Debug, Drop)]
+pub enum Stmt {
+    /// `rel` is `Less` or `LessEqual`, and the step is 1.
+    For {
+        iter: Text,
+        low: Ix,
+        rel: Rel,
+        high: Ix,
+        body: Items<Stmt>,
+    },
+    /// The body runs where all conditions hold.
+    If {
+        conds: Items<Compare>,
+        body: Items<Stmt>,
+    },
+    /// `op` is `None` for `=`.
+    Assign {
+        op: Option<Op>,
+        array: ArrayId,
+        subs: Items<Ix>,
+        value: Val,
+    },
+    Block {
+        locals: Items<Local>,
+        body: Items<Stmt>,
+    },
+}
+
+#[derive(Clone, Copy, PartialEq, Eq, Debug)]
+pub enum Role {
+    Input,
+    Output,
+    Temp,
+}
+
+/// An array: one extent for each dimension.
+#[derive(Debug, Drop)]
+pub struct Decl {
+    pub name: Text,
+    pub role: Role,
+    pub extents: Items<Ix>,
+}
+
+#[derive(Debug, Drop)]
+pub enum Param {
+    /// A number with its declared range, both ends included.
+    Number { name: Text, low: i64, high: i64 },
+    Array(Decl),
+}
+
+#[derive(Debug, Drop)]
+pub struct Program {
+    pub name: Text,
+    pub params: Items<Param>,
+    /// What the parameters meet, beside their ranges.
+    pub context: Items<Compare>,
+    pub temps: Items<Decl>,
+    pub body: Items<Stmt>,
+    /// Whether the text has the prelude, the five functions that `Min` to `Mod` call.
+    pub prelude: bool,
+}
+
+/// One run of an assignment: the statement's number, in the order of the text from 0, and the values of
+/// the iterators round it, from the outermost.
+#[derive(Debug, Drop)]
+pub struct Instance {
+    pub statement: u32,
+    pub iterators: Items<i64>,
+}

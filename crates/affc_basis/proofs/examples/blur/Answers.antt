@@ -1,0 +1,5 @@
+use Rattle.affc_basis.proofs.ExampleProofs as x
+use Rattle.affc_basis.proofs.examples.blur.Goals as goal
+
+pub returns : goal.returns
+returns c = record { needs_two = x.blur_needs_two; three_obeys = x.three_obeys; two_is_too_few = x.two_is_too_few; three_is_least = x.three_is_least }

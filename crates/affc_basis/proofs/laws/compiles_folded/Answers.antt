@@ -1,0 +1,5 @@
+use Rattle.affc_basis.proofs.FoldPlaces.{compiles_folded}
+use Rattle.affc_basis.proofs.laws.compiles_folded.Goals as goal
+
+pub returns : goal.returns
+returns c = record { law = compiles_folded }

@@ -1,0 +1,5 @@
+use Rattle.affc_basis.proofs.Marks.{least_mark_is_need}
+use Rattle.affc_basis.proofs.laws.least_mark_is_need.Goals as goal
+
+pub returns : goal.returns
+returns c = record { law = least_mark_is_need }

@@ -1,0 +1,6 @@
+pub mod Bases
+pub mod Slices
+pub mod Moduli
+pub mod Folds
+pub mod Laws
+pub mod Examples

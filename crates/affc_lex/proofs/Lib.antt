@@ -1,0 +1,16 @@
+pub mod Samples
+pub mod Places
+pub mod Decimals
+pub mod Runs
+pub mod ByteClasses
+pub mod Lists
+pub mod FirstBytes
+pub mod Literals
+pub mod Headers
+pub mod Sound
+pub mod Complete
+pub mod Once
+pub mod Cuts
+pub mod ScopLines
+pub mod Exact
+pub mod Order

@@ -1,0 +1,134 @@
+//! The tokens of a source text.
+#![tactic(auto)]
+
+ghost use Rattle.std.specs.Prelude.{◌≡◌, List, Option, All, length, IfOk, IfErr, MatchResult};
+ghost use Rattle.affc_lex.specs.declared.token.LexFault.TheVariants.{Memory};
+ghost use Rattle.affc_lex.specs.Lexes.{InOrder, IsIn, Lexeme, Lexes, lexemes};
+ghost use Rattle.affc_lex.specs.Faults.{FirstFault, fault_place};
+ghost use Rattle.affc_lex.specs.Cutting.{earlier};
+
+pub mod cut;
+pub mod examples;
+pub mod laws;
+pub mod piece;
+pub mod scan;
+pub mod scop;
+pub mod token;
+
+use crate::cut::all_tokens;
+use crate::scan::first_refused;
+use crate::scop::drop_scop_lines;
+use crate::token::{LexFault, Token};
+use std::alloc::Global;
+
+fn place(fault: &LexFault) -> usize
+    ensures { result ≡ fault_place fault.now }
+{
+    match fault {
+        LexFault::BadByte(at) | LexFault::OpenComment(at) | LexFault::LongNumber(at) => *at,
+        LexFault::Memory => 0,
+    }
+}
+
+/// The fault, or the first refused sequence where that comes before.
+fn first_of(fault: LexFault, refused: Option<usize>) -> LexFault
+    ensures { result ≡ earlier fault refused }
+{
+    match refused {
+        Some(at) => {
+            if at < place(&fault) {
+                LexFault::BadByte(at)
+            } else {
+                fault
+            }
+        }
+        None => fault,
+    }
+}
+
+fn read_text(alloc: Global, text: &[u8]) -> Result<Vec<Token>, LexFault>
+    ensures tokens { IfOk result (λ v. Lexes text.now (lexemes text.now v.items)) }
+    ensures within { IfOk result (λ v. All (IsIn (length text.now)) v.items) }
+    ensures fault { IfErr result (FirstFault text.now) }
+{
+    let refused = first_refused(text);
+    match all_tokens(alloc, text) {
+        Ok(mut tokens) => match refused {
+            Some(at) => Err(LexFault::BadByte(at)),
+            None => {
+                drop_scop_lines(text, &mut tokens);
+                Ok(tokens)
+            }
+        },
+        Err(fault) => Err(first_of(fault, refused)),
+    }
+}
+
+/// The tokens of the text, in their order, or the first fault in it.
+pub fn lex(alloc: Global, text: &[u8]) -> Result<Vec<Token>, LexFault>
+    // What is answered are the text's tokens.
+    ensures tokens { IfOk result (λ v. Lexes text.now (lexemes text.now v.items)) }
+    // Each token's bytes are a slice of the text, behind those of the token before.
+    ensures within { IfOk result (λ v. All (IsIn (length text.now)) v.items) }
+    ensures order { IfOk result (λ v. InOrder 0 v.items (length text.now)) }
+    // A text that has tokens is answered by these, or by want of memory.
+    ensures only { (ts : List Lexeme) → Lexes text.now ts
+        → MatchResult result (λ v. lexemes text.now v.items ≡ ts) (λ fault. fault ≡ Memory) }
+    // A fault other than want of memory stands in the text, and none stands before it.
+    ensures fault { IfErr result (FirstFault text.now) }
+{
+    read_text(alloc, text)
+}
+
+#[cfg(test)]
+mod tests {
+    use super::*;
+    use std::alloc::AllocError;
+    use std::test::Fail;
+
+    /// Each token as the first letters of its kind and its text.
+    fn shown(alloc: Global, text: &[u8]) -> Result<String, AllocError> {
+        match lex(alloc, text) {
+            Ok(tokens) => {
+                let mut line = String::new(alloc);
+                for token in &tokens {
+                    let part = format!(in alloc;
+                        "{:?} {}..{} ",
+                        token.kind, token.start, token.end
+                    )?;
+                    line.push_str(&part)?;
+                }
+                Ok(line)
+            }
+            Err(fault) => format!(in alloc; "{fault}"),
+        }
+    }
+
+    #[test]
+    fn tokens_and_faults(rt: HostRuntime) -> Result<(), Fail> {
+        let rows: [(&str, &str); 8] = [
+            ("", ""),
+            (
+                "#pragma scop\ni+++j",
+                "Word 13..14 Mark 14..16 Mark 16..17 Word 17..18 ",
+            ),
+            (
+                "#include <a.h>",
+                "Hash 0..1 Word 1..8 Header 9..14 LineEnd 14..14 ",
+            ),
+            ("18446744073709551615ULL//", "Value 0..23 "),
+            (
+                "18446744073709551616ULL",
+                "the number at byte 0 is too large",
+            ),
+            ("x = 3U;", "no token, space or comment goes on at byte 5"),
+            ("x /* y", "the comment at byte 2 has no end"),
+            ("/*\\\n*/ @", "no token, space or comment goes on at byte 2"),
+        ];
+        for (text, want) in rows {
+            let line = shown(rt.alloc(), text.as_bytes())?;
+            assert_eq!(rt; line.as_str(), want);
+        }
+        Ok(())
+    }
+}

@@ -1,0 +1,5 @@
+use Rattle.affc_trace.proofs.ExampleProofs as x
+use Rattle.affc_trace.proofs.examples.blur.Goals as goal
+
+pub returns : goal.returns
+returns c = record { takes_turns = x.blur_takes_turns; sources = x.blur_sources; live_pairs = x.blur_live_pairs; is_legal = x.blur_is_legal; folded_follows = x.folded_blur_follows; folded_does = x.folded_blur_does }
