@@ -163,9 +163,9 @@ leaf_valid system rows next bs by m p w fit inside below good same =
     let there = same.back (length rows) all in
     let rest_width : length rest.coefs ≡ columns = multiple_sum-width columns rows corner p.fit r.there in
     let e : multiple_sum columns rows m ≡ mixed_form (pos 1) sum (pos 1) rest =
-        same.sums columns rows ∙ sum_of_both columns rows by corner rest_width ∙ ap (λ f. mixed_form (pos 1) f (pos 1) rest) (sum_shared columns system.rows rows (length system.rows) by p.own inside) in
+    same.sums columns rows ∙ sum_of_both columns rows by corner rest_width ∙ ap (λ f. mixed_form (pos 1) f (pos 1) rest) (sum_shared columns system.rows rows (length system.rows) by p.own inside) in
     let zeros : mixed (pos 1) sum.coefs (pos 1) rest.coefs ≡ replicate columns (pos 0) =
-        ap (λ q. mixed (pos 1) sum.coefs (pos 1) q) r.coefs ∙ cancelled sum.coefs ∙ ap (λ n. replicate n (pos 0)) width in
+    ap (λ q. mixed (pos 1) sum.coefs (pos 1) q) r.coefs ∙ cancelled sum.coefs ∙ ap (λ n. replicate n (pos 0)) width in
     let k = (pos 1 *ℤ sum.constant) +ℤ (pos 1 *ℤ rest.constant) in
     record {
       multipliers = good;

@@ -6,3 +6,4 @@ pub mod Sums
 pub mod Corners
 pub mod Splits
 pub mod Whole
+pub mod BoxRows

@@ -146,3 +146,11 @@ high_part_ready columns bs next left j at r room there l h =
 pub part_points : (bs : List Bound) (j : ℕ) (at : ℤ) (r : ℕ) → j < length bs → (bound_at bs j).low ≤ℤ at → at <ℤ (bound_at bs j).high
     → (size (lowered bs j at r) ≤ size bs) × (size (raised bs j at r) ≤ size bs)
 part_points bs j at r h l u = let e = halves_points bs j at r r h l u in (omega arith, omega arith)
+
+-- no point of the box is before its low corner
+pub corner_least : (system : Rows) (bs : List Bound) (xs : List ℤ) → All IsBound bs → xs ≡ lows bs → IsPoint system xs → IsLeast system bs xs
+corner_least system bs xs r e p = record {
+  inside = subst (λ ys. Inside bs ys) (sym e) (lows_inside bs r);
+  meets = p;
+  least = λ z q _. subst (λ ys. LexLe ys z) (sym e) (lows_least bs z q);
+}

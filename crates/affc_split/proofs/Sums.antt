@@ -81,7 +81,7 @@ pub insert_same : (a : List (ℕ × ℕ)) (i : ℕ) (p : ℕ × ℕ) (rest : Lis
 insert_same a i p rest =
     let e : insert a i p ++ rest ≡ take i a ++ p ∷ (drop i a ++ rest) = append_assoc (take i a) (p ∷ drop i a) rest in
     let g : p ∷ take i a ++ (drop i a ++ rest) ≡ p ∷ a ++ rest =
-        ap (λ l. p ∷ l) (sym (append_assoc (take i a) (drop i a) rest) ∙ ap (λ l. l ++ rest) (take-append-drop i a)) in
+    ap (λ l. p ∷ l) (sym (append_assoc (take i a) (drop i a) rest) ∙ ap (λ l. l ++ rest) (take-append-drop i a)) in
     subst (λ l. SameSum l (a ++ p ∷ rest)) (sym e)
     (same_trans (take i a ++ p ∷ (drop i a ++ rest)) (p ∷ take i a ++ (drop i a ++ rest)) (a ++ p ∷ rest) (front (take i a) (drop i a ++ rest) p)
     (subst (λ l. SameSum l (a ++ p ∷ rest)) (sym g) (same_sym (a ++ p ∷ rest) (p ∷ a ++ rest) (front a rest p))))

@@ -4,16 +4,17 @@ ghost use Rattle.std.specs.Bool.{OnTrue};
 ghost use Rattle.std.specs.List.{All};
 ghost use Rattle.affc_rows.specs.Forms.{mixed_form};
 ghost use Rattle.affc_farkas.specs.Multiples.{row_at, zero_row, multiple_sum, AreMultipliers};
+ghost use Rattle.affc_split.specs.Answers.{IsLeafProof};
 ghost use Rattle.affc_split.specs.Bounds.{IsBound, FitsSum, top_value};
 ghost use Rattle.affc_split.specs.Leaves.{corner_row, corner_rows, SameSum};
 ghost use Rattle.affc_split.specs.Search.{IsEmpty};
 
 use crate::bounds::Bound;
 use crate::budget::Stop;
-use affc_farkas::proof::MOST_MULTIPLIER;
-use affc_farkas::{Multipliers, Proof};
 use crate::simplex::find_sum;
 use crate::tops::top_of;
+use affc_farkas::proof::MOST_MULTIPLIER;
+use affc_farkas::{Multipliers, Proof};
 use affc_rows::{Form, FormFault};
 use affc_system::System;
 use smallvec::SmallVec;
@@ -134,6 +135,7 @@ pub(crate) fn row_leaf(
     requires there { row < length system.now.rows }
     requires below { top_value (row_at system.now.columns system.now.rows row) bounds.now <ℤ pos 0 }
     ensures answer { IfOk result (λ p. IsEmpty system.now bounds.now next p.value) }
+    ensures leaf { IfOk result (λ p. IsLeafProof p.value) }
     ensures memory { OnErr result (result ≡ Err Stop.Memory) }
 {
     let _columns = system.columns();
@@ -266,6 +268,7 @@ fn leaf_of(
     requires sum { form.now ≡ multiple_sum system.now.columns system.now.rows by.now }
     requires there { All (λ p. p.0 < length system.now.rows) by.now }
     ensures answer { IfOk result (λ o. IfSome o (λ p. IsEmpty system.now bounds.now next p.value)) }
+    ensures leaf { IfOk result (λ o. IfSome o (λ p. IsLeafProof p.value)) }
     ensures memory { OnErr result (result ≡ Err Stop.Memory) }
 {
     let _columns = system.columns();
@@ -294,6 +297,7 @@ fn sum_leaf(
     requires width { length bounds.now ≡ system.now.columns }
     requires ranges { All IsBound bounds.now }
     ensures answer { IfOk result (λ o. IfSome o (λ p. IsEmpty system.now bounds.now next p.value)) }
+    ensures leaf { IfOk result (λ o. IfSome o (λ p. IsLeafProof p.value)) }
     ensures memory { OnErr result (result ≡ Err Stop.Memory) }
 {
     match sum_of(alloc, system, found)? {
@@ -313,6 +317,7 @@ pub(crate) fn found_leaf(
     requires width { length bounds.now ≡ system.now.columns }
     requires ranges { All IsBound bounds.now }
     ensures answer { IfOk result (λ o. IfSome o (λ p. IsEmpty system.now bounds.now next p.value)) }
+    ensures leaf { IfOk result (λ o. IfSome o (λ p. IsLeafProof p.value)) }
     ensures memory { OnErr result (result ≡ Err Stop.Memory) }
 {
     let Ok(found) = find_sum(alloc, system, bounds) else {

@@ -2,15 +2,16 @@
 #![tactic(auto)]
 
 pub mod bounds;
+mod boxed;
 pub mod budget;
 pub mod decision;
 mod leaves;
 mod parts;
 mod places;
-mod simplex;
 pub mod search;
+mod simplex;
 mod tops;
 
 pub use budget::{Budget, Stop};
-pub use decision::decide;
+pub use decision::{decide, within_reach};
 pub use search::Answer;

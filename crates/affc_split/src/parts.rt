@@ -138,7 +138,12 @@ pub(crate) fn high_part(
 
 /// The one point of a box of one point.
 #[inline(never)]
-pub(crate) fn single(alloc: Global, system: &System, bounds: &[Bound], next: u32) -> Result<Found, Stop>
+pub(crate) fn single(
+    alloc: Global,
+    system: &System,
+    bounds: &[Bound],
+    next: u32,
+) -> Result<Found, Stop>
     requires width { length bounds.now ≡ system.now.columns }
     requires ranges { All IsBound bounds.now }
     requires single { AllSingle bounds.now }
@@ -217,7 +222,7 @@ pub(crate) fn low_kept(
 }
 
 /// The form that is one column.
-fn unit_form(alloc: Global, columns: u32, j: usize) -> Result<Form, AllocError>
+pub(crate) fn unit_form(alloc: Global, columns: u32, j: usize) -> Result<Form, AllocError>
     requires { j < columns }
     ensures coefs { IfOk result (λ f. f.coefs ≡ unit j (columns - (j + 1))) }
     ensures constant { IfOk result (λ f. f.constant ≡ pos 0) }
@@ -279,7 +284,12 @@ pub(crate) fn joined(
 
 /// The low corner of a box, where every row is at least 0 there: no point of the box is before it.
 #[inline(never)]
-pub(crate) fn at_lows(alloc: Global, system: &System, bounds: &[Bound], next: u32) -> Result<Option<Found>, Stop>
+pub(crate) fn at_lows(
+    alloc: Global,
+    system: &System,
+    bounds: &[Bound],
+    next: u32,
+) -> Result<Option<Found>, Stop>
     requires width { length bounds.now ≡ system.now.columns }
     requires ranges { All IsBound bounds.now }
     ensures answer { IfOk result (λ o. IfSome o (λ a. IsFound system.now bounds.now next a)) }

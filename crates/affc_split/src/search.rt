@@ -7,7 +7,10 @@ ghost use Rattle.affc_split.specs.Search.{IsFound, Ready};
 use crate::bounds::{Bound, first_free};
 use crate::budget::{Budget, Stop};
 use crate::leaves::{found_leaf, row_leaf};
-use crate::parts::{at_lows, high_box, high_part, high_point, joined, low_box, low_kept, low_part, low_point, middle_of, single};
+use crate::parts::{
+    at_lows, high_box, high_part, high_point, joined, low_box, low_kept, low_part, low_point,
+    middle_of, single,
+};
 use crate::places::{find_place, is_below};
 use crate::tops::broken;
 use affc_farkas::Proof;
@@ -50,6 +53,9 @@ pub(crate) fn search(
     ensures stop { IfErr result (λ e. e ≡ Stop.Budget → budget.new.limit ≡ Some budget.new.spent) }
 {
     budget.open()?;
+    if let Some(proof) = found_leaf(alloc, system, bounds, next)? {
+        return Ok(Found::Empty(proof));
+    }
     inside(alloc, system, bounds, next, left, spare, budget)
 }
 
@@ -120,9 +126,6 @@ pub(crate) fn inside(
                 };
             }
         }
-    }
-    if let Some(proof) = found_leaf(alloc, system, bounds, next)? {
-        return Ok(Found::Empty(proof));
     }
     let Some(j) = first_free(bounds) else {
         return single(alloc, system, bounds, next);

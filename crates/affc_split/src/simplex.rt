@@ -253,11 +253,7 @@ fn row_of(variable: usize, columns: usize) -> Option<u32> {
 }
 
 /// The rows whose sum a broken line is, where nothing can help it, with the rows in order.
-fn rows_of(
-    alloc: Global,
-    tableau: &Tableau,
-    line: &Line,
-) -> Result<Vec<(u32, u128)>, AllocError> {
+fn rows_of(alloc: Global, tableau: &Tableau, line: &Line) -> Result<Vec<(u32, u128)>, AllocError> {
     let mut rows = Vec::new(alloc);
     if let Some(row) = row_of(line.basic, tableau.columns) {
         rows.push((row, line.divisor.unsigned_abs()))?;

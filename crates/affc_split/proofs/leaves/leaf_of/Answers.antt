@@ -3,6 +3,7 @@ use Rattle.std.specs.List.{All}
 use Rattle.affc_rows.specs.Forms.{Affine}
 use Rattle.affc_system.specs.Systems.{IsRow}
 use Rattle.affc_farkas.specs.Multiples.{multiple_sum}
+use Rattle.affc_split.specs.Answers.{IsLeafProof}
 use Rattle.affc_split.specs.Bounds.{top_value}
 use Rattle.affc_split.specs.Leaves.{corner_rows, SameSum}
 use Rattle.affc_split.specs.Search.{IsEmpty}
@@ -26,3 +27,6 @@ returns-clause-answer c =
       valid = λ rs p. leaf_valid c.args.system.now rs c.args.next bounds by c.in-Ok.by p c.requires.width fit c.requires.there below c.in-Ok.ensures.good same;
       plain = tt;
     })
+
+pub returns-clause-leaf : goal.returns-clause-leaf
+returns-clause-leaf c = subst IsLeafProof (sym c.in-Ok-new.ensures.ok) tt

@@ -4,6 +4,7 @@ use Rattle.std.specs.List.{All}
 use Rattle.affc_rows.specs.Forms.{Affine}
 use Rattle.affc_system.specs.Systems.{IsRow}
 use Rattle.affc_farkas.specs.Multiples.{row_at, zero_row, multiple_sum}
+use Rattle.affc_split.specs.Answers.{IsLeafProof}
 use Rattle.affc_split.specs.Bounds.{top_value}
 use Rattle.affc_split.specs.Leaves.{corner_rows, SameSum}
 use Rattle.affc_split.specs.Search.{IsEmpty}
@@ -27,7 +28,7 @@ returns-clause-answer c =
     let width : length (row_at columns rows c.args.row).coefs ≡ columns = (fit c.args.row (zero_row columns) c.requires.there).width in
     let e = sum_of_one columns rows c.args.row width in
     let q : c.as_slice.result.now ≡ (multiple_sum columns rows one).coefs =
-        c.as_slice.ensures ∙ ap (λ (g : Affine). g.coefs) (c.form.view_is ∙ c.index-rows-row.is ∙ ap (λ l. slice_index_or l c.args.row c.index-rows-row.result) c.rows-rows.ensures.rows ∙ other_default rows c.args.row c.index-rows-row.result (zero_row columns) c.requires.there ∙ sym e) in
+    c.as_slice.ensures ∙ ap (λ (g : Affine). g.coefs) (c.form.view_is ∙ c.index-rows-row.is ∙ ap (λ l. slice_index_or l c.args.row c.index-rows-row.result) c.rows-rows.ensures.rows ∙ other_default rows c.args.row c.index-rows-row.result (zero_row columns) c.requires.there ∙ sym e) in
     let inside = All-cons (λ p. p.0 < length rows) (c.args.row, 1) [] c.requires.there (All-nil (λ p. p.0 < length rows)) in
     let below : top_value (multiple_sum columns rows one) bounds <ℤ pos 0 = subst (λ f. top_value f bounds <ℤ pos 0) (sym e) c.requires.below in
     let same = subst (λ cs. SameSum c.in-Ok.by ((c.args.row, 1) ∷ corner_rows cs bounds)) q c.in-Ok.ensures.same in
@@ -36,3 +37,6 @@ returns-clause-answer c =
       valid = λ rs p. leaf_valid c.args.system.now rs c.args.next bounds one c.in-Ok.by p c.requires.width fit inside below c.in-Ok.ensures.good same;
       plain = tt;
     })
+
+pub returns-clause-leaf : goal.returns-clause-leaf
+returns-clause-leaf c = subst IsLeafProof (sym c.in-Ok-new.ensures.ok) tt
