@@ -1,19 +1,22 @@
 -- What is printed compiles what was read.
-use Rattle.std.proofs.Common.{◌≡◌, ◌<◌, ◌≤◌, ◌^◌, ◌||◌, ◌&&◌, ℕ, zero, suc, Bool, true, false, not, List, [], ◌∷◌, length, get_or, codes, refl, ap, sym, subst, ◌∙◌, arith}
+use Rattle.std.proofs.Common.{◌≡◌, ◌<◌, ℕ, zero, suc, Bool, true, false, List, [], ◌∷◌, length, get_or, codes, refl, sym, subst, arith}
 use Rattle.std.specs.List.{list_any}
 use Rattle.std.proofs.lemmas.Bool.{not-true}
-use Rattle.affc_lex.specs.Bytes.{same, begins}
+use Rattle.affc_lex.specs.Bytes.{same}
 use Rattle.affc_lex.specs.Pieces.{is_word}
 use Rattle.affc_ast.specs.Compiles.{Compiles}
 use Rattle.affc_ast.specs.CopyLoop.{CopyLoop, copy_tree}
 use Rattle.affc_ast.specs.Follows.{in_source_order, own_place}
-use Rattle.affc_ast.specs.Names.{keywords, reserved_beginnings, ends, is_reserved}
-use Rattle.affc_ast.specs.Reads.{HasRange, ReadsWide, names_of}
+use Rattle.affc_ast.specs.Names.{keywords, ends, is_reserved}
+use Rattle.affc_ast.specs.Reads as copy
+use Rattle.affc_ast.specs.Reads.{HasRange, names_of}
+use Rattle.affc_ast.specs.declared.tree.Program.{Program}
+use Rattle.affc_grammar.specs.Reads.{Reads, ReadsWide}
 use Rattle.affc_cli.specs.Fold.{FoldsTo}
 use Rattle.affc_cli.specs.Parsed.{IsParsed}
 use Rattle.affc_cli.specs.Text.{printed_text}
 use Rattle.affc_cli.proofs.Found.{words_of}
-use Rattle.affc_cli.proofs.Lettered.{IsName, IsNumber}
+use Rattle.affc_cli.proofs.Lettered.{IsName}
 use Rattle.affc_cli.proofs.Printed.{HasWords}
 use Rattle.affc_cli.proofs.Reading.{printed_reads, or_left, or_right}
 
@@ -47,11 +50,13 @@ has_words text c parsed =
     }
 
 pub folded : (source text : List ℕ) (c : CopyLoop) → IsParsed source c → text ≡ printed_text c
+    → ((t : List ℕ) (tree : Program) → copy.Reads t tree → Reads t tree)
+    → ((t : List ℕ) (tree : Program) → copy.ReadsWide t tree → ReadsWide t tree)
     → ((copy : CopyLoop) → HasRange copy → Compiles (copy_tree copy) (copy_tree copy) (λ _. in_source_order) (λ _. own_place)) → FoldsTo source text
-folded source text c parsed is law = record {
+folded source text c parsed is plain wide law = record {
   compiles = record {
     source = copy_tree c;
-    source_reads = parsed.reads;
+    source_reads = plain source (copy_tree c) parsed.reads;
     target = copy_tree c;
     target_reads = reads;
     compiles = law c parsed.rules.range;
@@ -60,4 +65,5 @@ folded source text c parsed is law = record {
 }
   where
     reads : ReadsWide text (copy_tree c)
-    reads = let P : List ℕ → Type 0 = λ x. ReadsWide x (copy_tree c) in subst P (sym is) (printed_reads c (has_words source c parsed) parsed.rules)
+    reads = let P : List ℕ → Type 0 = λ x. ReadsWide x (copy_tree c) in
+        subst P (sym is) (wide (printed_text c) (copy_tree c) (printed_reads c (has_words source c parsed) parsed.rules))

@@ -1,11 +1,11 @@
 -- The tokens of a copy loop's text, regrouped.
-use Rattle.std.proofs.Common.{◌≡◌, ◌⊎◌, inl, inr, ◌↔◌, IsTrue, Bool, true, false, ℕ, List, [], ◌∷◌, ◌++◌, codes, refl, ap, sym, ◌∙◌, append_assoc}
+use Rattle.std.proofs.Common.{◌≡◌, inl, inr, ◌↔◌, IsTrue, Bool, ℕ, List, [], ◌∷◌, ◌++◌, codes, ap, sym, ◌∙◌, append_assoc}
 use Rattle.affc_lex.specs.declared.token.Kind.{Kind}
 use Rattle.affc_lex.specs.declared.token.Kind.TheVariants.{Word, Mark}
 use Rattle.affc_ast.specs.CopyLoop.{CopyLoop}
-use Rattle.affc_ast.specs.Reads.{Symbol, mark, word, include_line, param_line, function_line, for_line, assign_line, body_lines, copy_symbols}
+use Rattle.affc_ast.specs.Reads.{Symbol, mark, include_line, param_line, function_line, for_line, assign_line, body_lines, copy_symbols}
 use Rattle.affc_cli.specs.Symbols.{OneOf}
-use Rattle.affc_cli.proofs.Shown.{step, stop, regrouped}
+use Rattle.affc_cli.proofs.Shown.{regrouped}
 
 abbrev pub body_of : CopyLoop → Bool → List Symbol
 body_of c braces = body_lines braces (assign_line c.output c.iterator c.input) ++ mark (codes "}") ∷ []

@@ -1,22 +1,21 @@
 -- The copy loop that stands among the tokens of a text.
-use Rattle.std.proofs.Common.{◌≡◌, ◌<◌, ◌≤◌, ◌+◌, ◌^◌, ◌&&◌, ◌==◌, ◌⊎◌, inl, inr, ◌↔◌, IsTrue, ℕ, zero, suc, Bool, true, false, not, List, [], ◌∷◌, ◌++◌, Option, Some, None, length, map, codes, count_by, slice_get, refl, ap, sym, subst, ◌∙◌, arith}
+use Rattle.std.proofs.Common.{◌≡◌, ◌<◌, ◌≤◌, ◌^◌, ◌&&◌, ◌⊎◌, inl, inr, ◌↔◌, IsTrue, ℕ, zero, suc, Bool, true, false, List, [], ◌∷◌, Some, length, map, slice_get, refl, ap, sym, subst, ◌∙◌, arith}
 use Rattle.std.specs.List.{list_all}
 use Rattle.std.specs.Str.{IsUtf8}
 use Rattle.std.proofs.lemmas.Bool.{ltb-true}
 use Rattle.affc_lex.specs.declared.piece.Spot.TheVariants.{Fresh}
-use Rattle.affc_lex.specs.Bytes.{decimal, same}
-use Rattle.affc_lex.specs.Pieces.{is_word, is_number, is_small, text_of}
+use Rattle.affc_lex.specs.Bytes.{decimal}
+use Rattle.affc_lex.specs.Pieces.{is_word, is_number, is_small}
 use Rattle.affc_lex.specs.Lexes.{Lexeme, Lexes, tokens_from, without_scop_lines}
 use Rattle.affc_ast.specs.declared.tree.Program.{Program}
 use Rattle.affc_ast.specs.CopyLoop.{CopyLoop, copy_tree}
-use Rattle.affc_ast.specs.Names.{is_reserved}
 use Rattle.affc_ast.specs.Reads.{Symbol, symbol, word, number, is_plain, names_of, copy_symbols, include_line, param_line, function_line, for_line, assign_line, Reads, ReadsWide}
 use Rattle.affc_cli.specs.Copies.{KeepsRules}
 use Rattle.affc_cli.specs.Parsed.{IsSimple, AreSpelled, Finds, IsCopy, IsParsed}
-use Rattle.affc_cli.specs.Symbols.{OneOf, HasSymbols, HasNone}
-use Rattle.affc_cli.proofs.Stretch.{left_true, right_true, both_true, symbols_of, symbols-tokens}
-use Rattle.affc_cli.proofs.Lettered.{letters_of_word, letters_are_text, letters_of_digits, digits_of_number, IsName, IsNumber}
-use Rattle.affc_cli.proofs.Tokens.{IsSpelled, IsToken, AreTokens, tokens_of_text, all_tokens_of_text}
+use Rattle.affc_cli.specs.Symbols.{OneOf, HasSymbols}
+use Rattle.affc_cli.proofs.Stretch.{left_true, right_true, both_true, symbols-tokens}
+use Rattle.affc_cli.proofs.Lettered.{letters_of_word, letters_are_text, letters_of_digits, digits_of_number}
+use Rattle.affc_cli.proofs.Tokens.{IsSpelled, AreTokens, tokens_of_text, all_tokens_of_text}
 use Rattle.affc_cli.proofs.Hashes.{hashes, hashes_in, no_hashes, hashes-text, kept_or_fewer}
 
 -- ---- Names and numbers at their places

@@ -1,5 +1,5 @@
 -- The bytes `#` of a text and of its tokens.
-use Rattle.std.proofs.Common.{◌≡◌, ◌<◌, ◌≤◌, ◌+◌, ◌&&◌, ◌||◌, ◌==◌, ◌⊎◌, inl, inr, ℕ, zero, suc, Bool, true, false, not, List, [], ◌∷◌, ◌++◌, length, map, codes, count_by, if◌then◌else◌, refl, ap, sym, subst, ◌∙◌, arith}
+use Rattle.std.proofs.Common.{◌≡◌, ◌≤◌, ◌+◌, ◌||◌, ◌==◌, ◌⊎◌, inl, inr, ℕ, zero, suc, Bool, true, false, List, [], ◌∷◌, ◌++◌, map, codes, count_by, if◌then◌else◌, refl, ap, sym, ◌∙◌, arith}
 use Rattle.std.specs.List.{list_all}
 use Rattle.std.proofs.lemmas.Bool.{eqb-true}
 use Rattle.std.proofs.lemmas.List.Sums.{sum_by-append}
@@ -10,11 +10,11 @@ use Rattle.affc_lex.specs.declared.piece.What.TheVariants.{Space, Comment, Token
 use Rattle.affc_lex.specs.declared.piece.Spot.{Spot}
 use Rattle.affc_lex.specs.Bytes.{is_space, is_letter_or_digit, same, begins}
 use Rattle.affc_lex.specs.Pieces.{Piece, text_of, stands, all_stand, next_spot, is_line_comment, is_block_comment}
-use Rattle.affc_lex.specs.Lexes.{Lexeme, begins_scop_line, without_scop_lines, is_hash, is_word_kind, is_line_end}
+use Rattle.affc_lex.specs.Lexes.{Lexeme, begins_scop_line, without_scop_lines, is_hash}
 use Rattle.affc_ast.specs.Reads.{Symbol, symbol, is_plain}
 use Rattle.affc_cli.proofs.Stretch.{symbols_at, symbols_of, left_true, right_true, both_true}
 use Rattle.affc_cli.proofs.Lettered.{true_or_false, not_true}
-use Rattle.affc_cli.proofs.Tokens.{IsSpelled, IsToken, AreTokens}
+use Rattle.affc_cli.proofs.Tokens.{IsSpelled, AreTokens}
 
 abbrev pub hashes : List ℕ → ℕ
 hashes bytes = count_by (λ b. b == 35) bytes

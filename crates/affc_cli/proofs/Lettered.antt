@@ -1,16 +1,16 @@
 -- Words and numbers, and what may stand behind them.
-use Rattle.std.proofs.Common.{◌≡◌, ◌≢◌, ◌<◌, ◌≤◌, ◌+◌, ◌*◌, ◌-◌, ◌/◌, ◌%◌, ◌^◌, ◌&&◌, ◌||◌, ◌==◌, ℕ, zero, suc, Bool, true, false, not, List, [], ◌∷◌, ◌++◌, length, fold, get_or, codes, IsTrue, Result, Ok, drop, refl, ap, sym, subst, ◌∙◌, append_assoc, arith, rules}
-use Rattle.std.specs.List.{list_all, list_any}
+use Rattle.std.proofs.Common.{◌≡◌, ◌<◌, ◌+◌, ◌*◌, ◌-◌, ◌^◌, ◌&&◌, ◌||◌, ◌==◌, ℕ, zero, suc, Bool, true, false, not, List, [], ◌∷◌, ◌++◌, length, fold, get_or, codes, Result, Ok, drop, refl, ap, sym, ◌∙◌, arith, rules}
+use Rattle.std.specs.List.{list_all}
 use Rattle.std.specs.Fmt.{decimal}
 use Rattle.std.specs.Str.{IsUtf8}
 use Rattle.std.specs.Str.Parse.{ParsesUnsigned}
 use Rattle.std.proofs.lemmas.Str.{IsUtf8-from_ascii}
-use Rattle.std.proofs.lemmas.Bool.{eqb-true, leb-true, le-leb}
+use Rattle.std.proofs.lemmas.Bool.{eqb-true}
 use Rattle.std.proofs.lemmas.Bool.Decides.{nat_tests}
-use Rattle.std.proofs.lemmas.Fmt.{digits_decimal, digits_value-decimal, decimal-digits_value, decimal_nonempty, decimal_digit, first_decimal, length-decimal-le}
+use Rattle.std.proofs.lemmas.Fmt.{digits_decimal, digits_value-decimal, decimal-digits_value, decimal_nonempty, first_decimal}
 use Rattle.std.proofs.lemmas.Str.Parse.{IsDigitsTest, FoldsDigits, IsNumeralModel, numerals_by_fold, parse_gives}
-use Rattle.affc_lex.specs.Bytes.{is_letter, is_digit, is_letter_or_digit, is_within, same, begins, next_is, decimal as value_of}
-use Rattle.affc_lex.specs.Pieces.{is_word, is_number, is_small, prelude}
+use Rattle.affc_lex.specs.Bytes.{is_letter, is_digit, is_letter_or_digit, same, begins, decimal as value_of}
+use Rattle.affc_lex.specs.Pieces.{is_word, is_number, prelude}
 use Rattle.affc_ast.specs.Reads.{is_plain}
 use Rattle.affc_cli.proofs.Stretch.{both_true, left_true, right_true}
 

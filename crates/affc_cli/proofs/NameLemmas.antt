@@ -1,5 +1,5 @@
 -- Tests of names, as the code makes them and as they are defined.
-use Rattle.std.proofs.Common.{◌≡◌, ◌<◌, ◌≤◌, ◌+◌, ◌-◌, ◌&&◌, ◌||◌, ◌==◌, ℕ, zero, suc, Bool, true, false, not, nat_eq, List, [], ◌∷◌, length, map, take, drop, codes, refl, ap, sym, ◌∙◌, arith, Bor, ◌⊎◌, inl, inr, ◌↔◌, IsTrue}
+use Rattle.std.proofs.Common.{◌≡◌, ◌<◌, ◌≤◌, ◌-◌, ◌&&◌, ◌||◌, ◌==◌, ℕ, zero, suc, Bool, true, false, not, nat_eq, List, [], ◌∷◌, length, map, drop, codes, refl, ap, sym, ◌∙◌, arith, Bor, ◌⊎◌, inl, inr, ◌↔◌, IsTrue}
 use Rattle.std.specs.List.{list_any, starts_with, ends_with}
 use Rattle.std.specs.Str.{bytes_eq}
 use Rattle.std.proofs.Math.Bool.{or-false}

@@ -1,6 +1,5 @@
 -- The printed text has the tokens of the form.
-use Rattle.std.proofs.Common.{◌≡◌, ◌<◌, ◌≤◌, ◌^◌, ◌&&◌, ◌||◌, ◌==◌, ℕ, Bool, true, false, not, nat_lt, List, [], ◌∷◌, ◌++◌, codes, refl, ap, sym, ◌∙◌}
-use Rattle.std.specs.List.{list_all}
+use Rattle.std.proofs.Common.{◌≡◌, ◌^◌, ◌&&◌, ◌||◌, ◌==◌, ℕ, Bool, true, false, not, nat_lt, List, [], ◌∷◌, ◌++◌, codes, refl, ap, ◌∙◌}
 use Rattle.std.specs.Fmt.{decimal}
 use Rattle.std.proofs.lemmas.Bool.{lt-ltb}
 use Rattle.std.proofs.lemmas.List.{append-nil}
@@ -9,11 +8,11 @@ use Rattle.affc_lex.specs.declared.token.Kind.TheVariants.{Word, Number, Header,
 use Rattle.affc_lex.specs.declared.piece.What.TheVariants.{Space, Token as of_kind}
 use Rattle.affc_lex.specs.declared.piece.Spot.{Spot}
 use Rattle.affc_lex.specs.declared.piece.Spot.TheVariants.{Fresh, Inside, Directive}
-use Rattle.affc_lex.specs.Bytes.{among, is_letter_or_digit, same, begins, decimal as value_of}
+use Rattle.affc_lex.specs.Bytes.{among, is_letter_or_digit, begins}
 use Rattle.affc_lex.specs.Pieces.{Piece, is_mark, is_word, is_number, is_small, prelude, longer_mark, next_spot}
 use Rattle.affc_ast.specs.CopyLoop.{CopyLoop}
 use Rattle.affc_ast.specs.Reads.{Symbol, word, number, mark, hash, header, line_end, include_line, param_line, function_line, for_line, assign_line, copy_symbols}
-use Rattle.affc_cli.specs.Text.{◌then◌, range_text, input_text, output_text, loop_text, assign_text, head_text, printed_text}
+use Rattle.affc_cli.specs.Text.{range_text, input_text, output_text, loop_text, assign_text, head_text, printed_text}
 use Rattle.affc_cli.proofs.Stretch.{Stretch, join, both_true}
 use Rattle.affc_cli.proofs.Lettered.{IsName, IsNumber, letters_are_plain, letters_of_word, no_prelude, value_of-decimal, digits_of_decimal, decimal_is_number, digits_are_plain}
 

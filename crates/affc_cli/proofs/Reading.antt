@@ -1,15 +1,14 @@
 -- The printed text reads as its tree.
-use Rattle.std.proofs.Common.{◌≡◌, ◌<◌, ◌≤◌, ◌^◌, ◌&&◌, ◌||◌, ◌==◌, ℕ, zero, suc, Bool, true, false, not, List, [], ◌∷◌, ◌++◌, map, codes, IsTrue, refl, ap, sym, ◌∙◌, arith}
-use Rattle.std.specs.List.{list_all, list_any}
+use Rattle.std.proofs.Common.{◌≡◌, ◌&&◌, ◌||◌, ◌==◌, ℕ, Bool, true, false, not, List, [], ◌∷◌, map, codes, refl, ap, sym, ◌∙◌}
+use Rattle.std.specs.List.{list_all}
 use Rattle.std.specs.Fmt.{decimal}
 use Rattle.std.proofs.lemmas.Bool.{eqb-true}
 use Rattle.affc_lex.specs.declared.piece.Spot.TheVariants.{Fresh}
-use Rattle.affc_lex.specs.Bytes.{same, begins}
+use Rattle.affc_lex.specs.Bytes.{same}
 use Rattle.affc_lex.specs.Pieces.{is_on_directive}
 use Rattle.affc_lex.specs.Lexes.{Lexeme, Lexes, tokens_from, begins_scop_line, without_scop_lines, is_hash, is_word_kind, is_line_end, is_refused, contains_refused}
 use Rattle.affc_ast.specs.CopyLoop.{CopyLoop, copy_tree}
-use Rattle.affc_ast.specs.Names.{is_reserved, all_different}
-use Rattle.affc_ast.specs.Reads.{Symbol, symbol, is_plain, HasRange, names_of, ReadsWide, copy_symbols, include_line, param_line, function_line, for_line, assign_line}
+use Rattle.affc_ast.specs.Reads.{Symbol, symbol, is_plain, ReadsWide, copy_symbols, include_line, param_line, function_line, for_line, assign_line}
 use Rattle.affc_cli.specs.Copies.{KeepsRules}
 use Rattle.affc_cli.specs.Text.{printed_text}
 use Rattle.affc_cli.proofs.Stretch.{Stretch, symbols-tokens, left_true, right_true}

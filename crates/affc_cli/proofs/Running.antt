@@ -1,7 +1,6 @@
 -- How a command ends, from what its steps said.
-use Rattle.std.proofs.Common.{◌≡◌, ◌≢◌, ◌≤◌, ◌⊎◌, ◌++◌, ℕ, List, [], ◌∷◌, Option, Result, Ok, Err, Contains, refl, ap, sym, subst, ◌∙◌, inl, inr, arith, lit<}
+use Rattle.std.proofs.Common.{◌≡◌, ℕ, List, [], Option, Result, refl, ap, sym, subst, ◌∙◌, inl, inr, arith, lit<}
 use Rattle.affc_io.specs.Count.{Rose}
-use Rattle.affc_io.specs.Front.{IsFront}
 use Rattle.affc_io.specs.Put.{put_of}
 use Rattle.affc_io.specs.Taken.{grown}
 use Rattle.affc_io.specs.declared.put.PutFault.{PutFault}

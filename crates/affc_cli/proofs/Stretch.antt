@@ -1,12 +1,11 @@
 -- Stretches of a text that are made of pieces.
-use Rattle.std.proofs.Common.{◌≡◌, ◌+◌, ◌&&◌, ◌||◌, ◌==◌, ℕ, zero, suc, Bool, true, false, not, List, [], ◌∷◌, ◌++◌, length, map, IsTrue, refl, ap, sym, subst, ◌∙◌, append_assoc}
+use Rattle.std.proofs.Common.{◌≡◌, ◌+◌, ◌&&◌, ℕ, Bool, true, false, List, [], ◌∷◌, ◌++◌, length, map, refl, ap, sym, ◌∙◌, append_assoc}
 use Rattle.std.specs.List.{list_all}
-use Rattle.affc_lex.specs.declared.token.Kind.{Kind}
 use Rattle.affc_lex.specs.declared.piece.What.{What}
 use Rattle.affc_lex.specs.declared.piece.What.TheVariants.{Space, Comment, Token as of_kind}
 use Rattle.affc_lex.specs.declared.piece.Spot.{Spot}
 use Rattle.affc_lex.specs.Pieces.{Piece, text_of, all_stand, stands, next_spot, spot_behind}
-use Rattle.affc_lex.specs.Lexes.{Lexeme, tokens_from, token_at}
+use Rattle.affc_lex.specs.Lexes.{tokens_from, token_at}
 use Rattle.affc_ast.specs.Reads.{Symbol, symbol, is_plain}
 
 abbrev pub symbols_at : What → List ℕ → List Symbol

@@ -1,5 +1,5 @@
 -- What the tokens of a text are.
-use Rattle.std.proofs.Common.{◌≡◌, ◌<◌, ◌≤◌, ◌+◌, ◌&&◌, ℕ, zero, suc, Bool, true, false, not, List, [], ◌∷◌, ◌++◌, length, get_or, map, codes, if◌then◌else◌, refl, ap, sym, subst, ◌∙◌, arith, length-append}
+use Rattle.std.proofs.Common.{◌≡◌, ◌<◌, ◌≤◌, ◌+◌, ◌&&◌, ℕ, zero, suc, Bool, true, false, not, List, [], ◌∷◌, ◌++◌, length, get_or, codes, if◌then◌else◌, refl, ap, sym, subst, arith, length-append}
 use Rattle.affc_lex.specs.declared.token.Kind.{Kind}
 use Rattle.affc_lex.specs.declared.token.Kind.TheVariants.{Word, Number, Value, Header, Hash, LineEnd, Prelude, Mark}
 use Rattle.affc_lex.specs.declared.token.Token.{Token}
@@ -7,9 +7,9 @@ use Rattle.affc_lex.specs.declared.piece.What.{What}
 use Rattle.affc_lex.specs.declared.piece.What.TheVariants.{Space, Comment, Token as of_kind}
 use Rattle.affc_lex.specs.declared.piece.Spot.{Spot}
 use Rattle.affc_lex.specs.declared.piece.Spot.TheVariants.{Fresh}
-use Rattle.affc_lex.specs.Bytes.{is_letter_or_digit, same, begins, next_is}
-use Rattle.affc_lex.specs.Pieces.{Piece, is_word, is_number, is_small, is_fresh, prelude, text_of, stands, all_stand, token_stands, next_spot}
-use Rattle.affc_lex.specs.Lexes.{Lexeme, Lexes, lexeme, lexemes, tokens_from, token_at, begins_scop_line, without_scop_lines}
+use Rattle.affc_lex.specs.Bytes.{is_letter_or_digit, same, next_is}
+use Rattle.affc_lex.specs.Pieces.{Piece, is_word, is_number, is_small, is_fresh, text_of, stands, all_stand, token_stands, next_spot}
+use Rattle.affc_lex.specs.Lexes.{Lexeme, Lexes, lexemes, tokens_from, token_at, begins_scop_line, without_scop_lines}
 use Rattle.affc_cli.specs.Symbols.{LiesIn}
 use Rattle.affc_cli.proofs.Stretch.{left_true, right_true}
 

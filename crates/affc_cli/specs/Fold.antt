@@ -3,8 +3,9 @@ use Rattle.std.specs.Prelude.{◌≡◌, ℕ, List}
 use Rattle.affc_ast.specs.Compiles.{CompilesText}
 use Rattle.affc_ast.specs.CopyLoop.{CopyLoop, copy_tree}
 use Rattle.affc_ast.specs.Follows.{in_source_order, own_place}
-use Rattle.affc_ast.specs.Reads.{Reads, ReadsWide}
+use Rattle.affc_ast.specs.Reads as copy
 use Rattle.affc_ast.specs.declared.tree.Program.{Program}
+use Rattle.affc_grammar.specs.Reads.{Reads, ReadsWide}
 use Rattle.affc_cli.specs.Text.{printed_text}
 
 -- the text is that which is printed of the tree
@@ -21,4 +22,4 @@ pub record FoldsTo (source text : List ℕ) : Type 0 where
 
 -- the source reads as no program of the form that can be compiled
 pub record IsUnread (source : List ℕ) : Type 0 where
-  pub unread : (tree : Program) → Reads source tree → ⊥
+  pub unread : (tree : Program) → copy.Reads source tree → ⊥

@@ -1,5 +1,5 @@
 -- What a text of a copy loop has.
-use Rattle.std.specs.Prelude.{◌≡◌, ◌≤◌, ◌==◌, ℕ, Bool, true, List, length, IsTrue, count_by}
+use Rattle.std.specs.Prelude.{◌≡◌, ◌≤◌, ◌==◌, ℕ, true, List, length, count_by}
 use Rattle.std.specs.List.{list_all}
 use Rattle.affc_lex.specs.Bytes.{decimal}
 use Rattle.affc_lex.specs.Pieces.{is_word, is_number, is_small}

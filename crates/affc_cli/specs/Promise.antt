@@ -5,7 +5,7 @@ use Rattle.affc_io.specs.Front.{IsFront}
 use Rattle.affc_io.specs.Taken.{grown}
 use Rattle.affc_cli.specs.Command.{Command, Fold, command_of}
 use Rattle.affc_cli.specs.Fold.{FoldsTo}
-use Rattle.affc_cli.specs.Outside.{Outside, FolderState, SinkState, Keeps, Told, SomeFault, SomeShortage}
+use Rattle.affc_cli.specs.Outside.{Outside, FolderState, Keeps, Told, SomeFault, SomeShortage}
 use Rattle.affc_cli.specs.Refusal.{status_of, line_of, FoldCause}
 use Rattle.affc_cli.specs.declared.refusal.Refusal.{Refusal}
 use Rattle.affc_cli.specs.declared.refusal.Refusal.TheVariants.{Words, Memory}

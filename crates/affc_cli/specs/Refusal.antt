@@ -1,5 +1,5 @@
 -- Why a command is refused, and the line that says so.
-use Rattle.std.specs.Prelude.{◌⊎◌, ℕ, List, [], ◌∷◌, ◌++◌, Option, codes}
+use Rattle.std.specs.Prelude.{◌⊎◌, ℕ, List, ◌++◌, Option, codes}
 use Rattle.affc_io.specs.Count.{Rose}
 use Rattle.affc_io.specs.Files.{Files, Holds, NotHeld, TooLong}
 use Rattle.affc_cli.specs.Fold.{IsUnread}

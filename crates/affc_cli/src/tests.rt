@@ -16,6 +16,9 @@ const SPACED: &str =
 const SPACED_PRINTED: &str =
     "#include <stdint.h>\n#pragma affc param n_1 7 16777216\nvoid Move(int64_t n_1, const uint64_t a[n_1], uint64_t b[n_1]) {\n  for (int64_t k = 0; k < n_1; k++) {\n    b[k] = a[k];\n  }\n}\n";
 
+const BLUR: &str =
+    "#include <stdint.h>\n#pragma affc param N 1 4096\nvoid blur(int64_t N, const uint64_t in[N + 2], uint64_t out[N]) {\n  uint64_t t[N + 2];\n  for (int64_t i = 0; i < N + 2; i++)\n    t[i] = in[i] + 1ULL;\n  for (int64_t i = 0; i < N; i++)\n    out[i] = t[i] + t[i + 1] + t[i + 2];\n}\n";
+
 // What a call leaves: the status, and what the two sinks took.
 #[derive(Drop)]
 struct Outcome {
@@ -168,6 +171,7 @@ fn near_misses_are_unbuilt(rt: HostRuntime) -> Result<(), Fail> {
         assert_eq!(rt; done.out.len(), 0);
         assert_eq!(rt; done.err.as_slice(), b"affc: unbuilt\n".as_slice());
     }
+    assert_eq!(rt; plain(rt.alloc(), "fold copy.c", BLUR)?.status, 14);
     Ok(())
 }
 
@@ -220,22 +224,51 @@ fn each_failure_outside_has_its_status(rt: HostRuntime) -> Result<(), Fail> {
         assert_eq!(rt; done.status, status, "with {told}");
         assert_eq!(rt; done.err.as_slice(), told.as_bytes());
     }
-    let mut folder = folder_of(alloc, source, Vec::new(alloc))?;
-    let mut out = MemSink::new(alloc, 5, [1].to_vec(alloc)?);
-    let cut = served(
+    Ok(())
+}
+
+// Serves `fold copy.c` with an output that takes `first` bytes at first and fails at one call.
+fn cut(alloc: Global, first: usize, fails: u64) -> Result<Outcome, AllocError> {
+    let mut folder = folder_of(
+        alloc,
+        Vec::from_slice(alloc, COPY.as_bytes())?,
+        Vec::new(alloc),
+    )?;
+    let mut out = MemSink::new(alloc, first, Vec::from_slice(alloc, &[fails])?);
+    served(
         alloc,
         "fold copy.c",
         &mut folder,
         &mut out,
         &mut sure_sink(alloc),
-    )?;
-    assert_eq!(rt; cut.status, 10);
-    assert_eq!(rt; cut.out.as_slice(), b"#incl".as_slice());
-    assert_eq!(rt; cut.err.len(), 0);
-    let mut err = MemSink::new(alloc, 4, [1].to_vec(alloc)?);
-    let half = served(alloc, "fold", &mut folder, &mut sure_sink(alloc), &mut err)?;
-    assert_eq!(rt; half.status, 2);
-    assert_eq!(rt; half.err.as_slice(), b"affc".as_slice());
+    )
+}
+
+#[test]
+fn failed_writes_leave_a_front(rt: HostRuntime) -> Result<(), Fail> {
+    for (first, fails, taken) in [(5, 1, "#incl"), (5, 0, ""), (0, 9, "")] {
+        let done = cut(rt.alloc(), first, fails)?;
+        assert_eq!(rt; done.status, 10, "at call {fails}");
+        assert_eq!(rt; done.out.as_slice(), taken.as_bytes());
+        assert_eq!(rt; done.err.len(), 0);
+    }
+    Ok(())
+}
+
+// Serves `fold` alone with an error stream that takes 4 bytes at first and fails at one call.
+fn told(alloc: Global, fails: u64) -> Result<Outcome, AllocError> {
+    let mut folder = folder_of(alloc, Vec::new(alloc), Vec::new(alloc))?;
+    let mut err = MemSink::new(alloc, 4, Vec::from_slice(alloc, &[fails])?);
+    served(alloc, "fold", &mut folder, &mut sure_sink(alloc), &mut err)
+}
+
+#[test]
+fn a_failed_line_leaves_the_status(rt: HostRuntime) -> Result<(), Fail> {
+    for (fails, taken) in [(1, "affc"), (0, "")] {
+        let done = told(rt.alloc(), fails)?;
+        assert_eq!(rt; done.status, 2, "at call {fails}");
+        assert_eq!(rt; done.err.as_slice(), taken.as_bytes());
+    }
     Ok(())
 }
 

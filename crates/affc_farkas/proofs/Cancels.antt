@@ -1,5 +1,5 @@
 -- The row of a pair: its entries, and what it says of the two rows.
-use Rattle.std.proofs.Common.{◌≡◌, ◌≢◌, ℕ, zero, suc, ◌+◌, ◌*◌, ◌<◌, ◌≤◌, List, [], ◌∷◌, ◌++◌, length, map, get_or, ℤ, pos, negsuc, ◌+ℤ◌, ◌*ℤ◌, neg_ℤ, ◌≤ℤ◌, ◌<ℤ◌, refl, sym, ap, subst, ◌∙◌, inl, inr, arith}
+use Rattle.std.proofs.Common.{◌≡◌, ℕ, zero, suc, ◌+◌, ◌*◌, ◌<◌, ◌≤◌, List, [], ◌∷◌, length, map, get_or, ℤ, pos, negsuc, ◌+ℤ◌, ◌*ℤ◌, neg_ℤ, ◌≤ℤ◌, ◌<ℤ◌, refl, sym, ap, subst, ◌∙◌, arith}
 use Rattle.std.specs.Prelude.{unsigned_abs}
 use Rattle.std.proofs.lemmas.Int.{ints}
 use Rattle.std.proofs.lemmas.List.{length-map, ext_get_or, get_or_append_left, get_or_push}
@@ -9,7 +9,7 @@ use Rattle.affc_rows.proofs.IntLemmas.{mul-add, mul_assoc, neg-mul}
 use Rattle.affc_rows.proofs.ValueLemmas.{dot-mixed, length-mixed}
 use Rattle.affc_farkas.specs.Multiples.{entry_of}
 use Rattle.affc_farkas.specs.Rational.{scaled_value}
-use Rattle.affc_farkas.specs.Eliminations.{combined, mixed_weights, AreFactors, AreDivided, IsAdded}
+use Rattle.affc_farkas.specs.Eliminations.{combined, mixed_weights, IsAdded}
 use Rattle.affc_farkas.specs.Sums.{IsSum}
 use Rattle.affc_farkas.specs.Steps.{LeaveRoomAt}
 use Rattle.affc_farkas.proofs.Between.{cancel}

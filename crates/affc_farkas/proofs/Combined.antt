@@ -1,16 +1,14 @@
 -- Entries of sums of multiples of the input's rows.
-use Rattle.std.proofs.Common.{◌≡◌, ℕ, zero, suc, ◌+◌, ◌*◌, ◌^◌, ◌<◌, ◌≤◌, List, [], ◌∷◌, ◌++◌, length, map, drop, get_or, ℤ, pos, ◌+ℤ◌, ◌*ℤ◌, refl, sym, ap, subst, ◌∙◌, arith, length-append, inl, inr}
+use Rattle.std.proofs.Common.{◌≡◌, ℕ, ◌+◌, ◌<◌, ◌≤◌, List, [], ◌∷◌, ◌++◌, length, map, drop, get_or, ℤ, pos, ◌+ℤ◌, ◌*ℤ◌, sym, ap, subst, ◌∙◌, arith, inl, inr}
 use Rattle.std.proofs.lemmas.Bool.{cases_lt}
 use Rattle.std.specs.List.{All}
 use Rattle.std.proofs.lemmas.Int.{ints}
-use Rattle.std.proofs.lemmas.List.{get_or-map, length-map, get_or_append_left, get_or_push, length_push}
+use Rattle.std.proofs.lemmas.List.{get_or-map, length-map, get_or_append_left, get_or_push}
 use Rattle.std.proofs.lemmas.List.Elements.{All-weaker}
 use Rattle.affc_rows.specs.Forms.{Affine, dot}
 use Rattle.affc_rows.proofs.FormLemmas.{dot-drop, dot-end}
 use Rattle.affc_system.specs.Systems.{FitsRow, IsRow}
 use Rattle.affc_farkas.specs.Multiples.{entry_of}
-use Rattle.affc_farkas.specs.Eliminations.{combined}
-use Rattle.affc_farkas.specs.Sums.{IsSum}
 
 pub combined-drop : (rows : List Affine) (ws : List ℕ) (j i : ℕ) (d : Affine) → length ws ≡ length rows → i < length ws
     → dot (drop i (map pos ws)) (drop i (map (λ f. entry_of f j) rows))

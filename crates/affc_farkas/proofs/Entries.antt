@@ -1,14 +1,13 @@
 -- The entries of sums of multiples.
-use Rattle.std.proofs.Common.{◌≡◌, ℕ, zero, suc, ◌+◌, ◌*◌, ◌^◌, ◌<◌, ◌≤◌, List, [], ◌∷◌, ◌++◌, length, map, neg_ℤ, true, false, drop, replicate, slice_index_or, ℤ, pos, negsuc, ◌+ℤ◌, ◌*ℤ◌, refl, sym, ap, subst, ◌∙◌, arith, add-one, lit≤}
+use Rattle.std.proofs.Common.{◌≡◌, ℕ, zero, suc, ◌+◌, ◌^◌, ◌<◌, ◌≤◌, List, [], ◌∷◌, ◌++◌, length, map, neg_ℤ, true, false, drop, replicate, slice_index_or, ℤ, pos, negsuc, ◌+ℤ◌, ◌*ℤ◌, refl, sym, ap, subst, ◌∙◌, arith, add-one}
 use Rattle.std.proofs.Math.Seq.{drop-cons}
-use Rattle.std.proofs.lemmas.Int.{ints, unsigned_abs-mul}
-use Rattle.std.proofs.lemmas.Nat.{mul-le}
+use Rattle.std.proofs.lemmas.Int.{ints}
 use Rattle.std.proofs.lemmas.List.Elements.{All-drop, All-tail, All-head, All-map, All-nil, All-cons}
 use Rattle.std.specs.Prelude.{unsigned_abs}
 use Rattle.std.specs.List.{All}
 use lib.IntN.{+ℤ_assoc}
 use Rattle.affc_rows.specs.Forms.{Affine, mixed, mixed_form}
-use Rattle.affc_rows.proofs.IntLemmas.{one-mul, abs-add}
+use Rattle.affc_rows.proofs.IntLemmas.{one-mul}
 use Rattle.affc_system.specs.Systems.{IsRow}
 use Rattle.affc_farkas.specs.Multiples.{zero_row, row_at, multiple_sum, entry_of}
 use Rattle.affc_farkas.specs.Chain.{frame_row}

@@ -1,15 +1,13 @@
 -- What the tests of the checker say.
-use Rattle.std.proofs.Common.{◌≡◌, ℕ, ◌+◌, ◌<◌, ◌≤◌, Bool, true, false, List, [], ◌∷◌, ◌++◌, length, ℤ, pos, ◌+ℤ◌, ◌*ℤ◌, ◌<ℤ◌, ◌≤ℤ◌, refl, sym, ap, subst, ◌∙◌, arith}
+use Rattle.std.proofs.Common.{◌≡◌, ℕ, ◌<◌, ◌≤◌, true, List, [], ◌∷◌, ◌++◌, length, ℤ, pos, ◌+ℤ◌, ◌*ℤ◌, ◌<ℤ◌, ◌≤ℤ◌, sym, ap, subst, ◌∙◌, arith}
 use Rattle.std.proofs.lemmas.Int.{ints}
 use Rattle.std.specs.List.{All}
 use lib.Signed.{lt_z}
 use Rattle.affc_rows.specs.Forms.{Affine}
-use Rattle.affc_system.specs.Systems.{IsRow}
 use Rattle.affc_farkas.specs.Multiples.{multiple_sum, entry_of, IsRising, AreMultipliers}
-use Rattle.affc_farkas.specs.Proofs.{IsLeaf, IsCut}
+use Rattle.affc_farkas.specs.Proofs.{IsLeaf}
 use Rattle.std.proofs.Common.{length-append, ◌^◌}
 use Rattle.std.proofs.lemmas.List.Elements.{All-push, All-nil, All-cons, All-head, All-tail}
-use Rattle.std.proofs.lemmas.List.{get_or_default}
 use Rattle.std.proofs.Common.{◌-◌, slice_index_or, ltb}
 use Rattle.std.proofs.lemmas.Bool.Decides.{nat_tests}
 

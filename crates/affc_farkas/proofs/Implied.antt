@@ -1,7 +1,7 @@
 -- A row implies another where both are parallel and its constant is the less, and a constant at least 0 is implied by nothing.
-use Rattle.std.proofs.Common.{◌≡◌, ℕ, zero, suc, ◌+◌, ◌*◌, ◌<◌, ◌≤◌, List, [], ◌∷◌, ◌++◌, length, get_or, ℤ, pos, negsuc, ◌+ℤ◌, ◌*ℤ◌, neg_ℤ, ◌≤ℤ◌, ◌<ℤ◌, refl, sym, ap, subst, ◌∙◌, arith}
+use Rattle.std.proofs.Common.{◌≡◌, ℕ, suc, ◌<◌, List, [], ◌∷◌, length, get_or, ℤ, pos, ◌+ℤ◌, ◌*ℤ◌, neg_ℤ, ◌≤ℤ◌, sym, ap, subst, ◌∙◌, arith}
 use Rattle.std.proofs.lemmas.Int.{ints}
-use lib.IntN.{*ℤ_comm, *ℤ-zero, zero-*ℤ}
+use lib.IntN.{*ℤ_comm, *ℤ-zero}
 use Rattle.affc_rows.specs.Forms.{Affine, dot}
 use Rattle.affc_rows.proofs.IntLemmas.{mul-add, mul_assoc, neg-mul}
 use Rattle.affc_farkas.specs.Multiples.{entry_of}

@@ -1,19 +1,18 @@
 -- The input's rows as rows of an elimination.
-use Rattle.std.proofs.Common.{◌≡◌, ◌≢◌, ◌⊎◌, ℕ, zero, suc, ◌+◌, ◌*◌, ◌^◌, ◌<◌, ◌≤◌, Bool, true, false, List, [], ◌∷◌, ◌++◌, length, map, set, take, get_or, replicate, ℤ, pos, ◌+ℤ◌, ◌*ℤ◌, ◌≤ℤ◌, refl, sym, ap, subst, ◌∙◌, inl, inr, arith, add-one}
+use Rattle.std.proofs.Common.{◌≡◌, ◌⊎◌, ℕ, zero, suc, ◌+◌, ◌^◌, ◌<◌, ◌≤◌, Bool, true, false, List, [], ◌∷◌, length, map, set, take, get_or, replicate, ℤ, pos, ◌+ℤ◌, ◌*ℤ◌, ◌≤ℤ◌, refl, sym, ap, subst, ◌∙◌, arith, add-one}
 use Rattle.std.proofs.lemmas.Int.{ints}
 use Rattle.std.specs.List.{All, Contains}
 use Rattle.std.proofs.lemmas.List.{get_or-replicate, length-replicate, length-set, get_or_push, get_or-map, length-map}
-use Rattle.std.proofs.lemmas.List.Elements.{All-nil, All-weaker, All-more, All-from_get_or, All-replicate, All-set}
+use Rattle.std.proofs.lemmas.List.Elements.{All-nil, All-weaker, All-more, All-replicate, All-set}
 use lib.IntN.{zero-*ℤ}
 use Rattle.affc_rows.specs.Forms.{Affine, dot}
 use Rattle.affc_rows.proofs.IntLemmas.{one-mul}
 use Rattle.affc_system.specs.Systems.{IsRow}
 use Rattle.affc_farkas.specs.Multiples.{entry_of}
 use Rattle.affc_farkas.specs.Rational.{scaled_value}
-use Rattle.affc_farkas.specs.Eliminations.{combined, own, owns, IsTable, none}
+use Rattle.affc_farkas.specs.Eliminations.{own, owns, none}
 use Rattle.affc_farkas.specs.Sums.{IsSum}
 use Rattle.affc_farkas.specs.Steps.{IsIn, IsLeft, IsPlain, AreRising, AllMet, IsState}
-use Rattle.affc_farkas.specs.declared.pair.Pair.{Pair}
 use Rattle.affc_farkas.specs.declared.kept.Kept.{Kept}
 use Rattle.affc_farkas.proofs.Tables.{in_more, length-owns, all_among}
 

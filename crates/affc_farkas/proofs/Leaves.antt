@@ -1,16 +1,15 @@
 -- The leaf that a row makes which holds nowhere.
-use Rattle.std.proofs.Common.{◌≡◌, ℕ, zero, suc, ◌+◌, ◌*◌, ◌^◌, ◌<◌, ◌≤◌, List, [], ◌∷◌, ◌++◌, length, map, drop, get_or, ℤ, pos, ◌+ℤ◌, ◌*ℤ◌, ◌<ℤ◌, refl, sym, ap, subst, ◌∙◌, arith, append_assoc, add-one}
+use Rattle.std.proofs.Common.{◌≡◌, ℕ, zero, suc, ◌+◌, ◌^◌, ◌<◌, ◌≤◌, List, [], ◌∷◌, ◌++◌, length, map, drop, get_or, ℤ, pos, ◌+ℤ◌, ◌*ℤ◌, ◌<ℤ◌, refl, sym, ap, subst, ◌∙◌, arith, append_assoc}
 use Rattle.std.specs.List.{All}
 use Rattle.std.proofs.lemmas.Int.{ints}
 use Rattle.std.proofs.lemmas.List.{length_push, length-append, get_or_at, drop_all}
 use Rattle.std.proofs.lemmas.List.Elements.{All-nil, All-cons, All-head, All-tail, All-weaker}
 use lib.IntN.{zero-*ℤ}
-use Rattle.affc_rows.specs.Forms.{Affine, dot, mixed_form}
+use Rattle.affc_rows.specs.Forms.{Affine, dot}
 use Rattle.affc_rows.proofs.IntLemmas.{one-mul}
 use Rattle.affc_system.specs.Systems.{IsRow}
 use Rattle.affc_farkas.specs.Multiples.{zero_row, row_at, multiple_sum, entry_of, IsRising, AreMultipliers}
 use Rattle.affc_farkas.specs.Proofs.{IsLeaf}
-use Rattle.affc_farkas.specs.Eliminations.{combined}
 use Rattle.affc_farkas.specs.Sums.{sparse}
 use Rattle.affc_farkas.specs.Steps.{IsContradiction}
 use Rattle.affc_farkas.specs.declared.kept.Kept.{Kept}

@@ -1,14 +1,14 @@
 -- From a value of one column to a point: one step back through an elimination.
-use Rattle.std.proofs.Common.{◌≡◌, ℕ, zero, suc, ◌+◌, ◌*◌, ◌<◌, ◌≤◌, List, [], ◌∷◌, length, map, set, get_or, ℤ, pos, negsuc, ◌+ℤ◌, ◌*ℤ◌, neg_ℤ, ◌≤ℤ◌, ◌<ℤ◌, refl, sym, ap, subst, ◌∙◌, arith}
+use Rattle.std.proofs.Common.{◌≡◌, ℕ, zero, suc, ◌<◌, List, [], ◌∷◌, length, map, set, get_or, ℤ, pos, negsuc, ◌+ℤ◌, ◌*ℤ◌, ◌≤ℤ◌, refl, sym, ap, subst, ◌∙◌, arith}
 use Rattle.std.proofs.lemmas.Int.{ints}
-use lib.IntN.{*ℤ_comm, *ℤ-zero, zero-*ℤ}
+use lib.IntN.{*ℤ-zero}
 use Rattle.affc_rows.specs.Forms.{Affine, dot, mixed_form}
 use Rattle.affc_rows.proofs.IntLemmas.{mul-add, mul_assoc}
 use Rattle.affc_rows.proofs.ValueLemmas.{dot-mixed}
 use Rattle.std.specs.List.{All}
 use Rattle.std.proofs.lemmas.List.Elements.{All-nil, All-cons, All-head, All-tail}
 use Rattle.affc_farkas.specs.Rational.{scaled_value, RationalPoint}
-use Rattle.affc_farkas.proofs.Between.{Each, MeetsAt, HoldsFlat, AllLeaveRoom, Value, value_between, swap, cancel, nonneg_product}
+use Rattle.affc_farkas.proofs.Between.{Each, MeetsAt, HoldsFlat, AllLeaveRoom, value_between, swap, nonneg_product}
 
 dot-scale : (s : ℤ) (cs xs : List ℤ) → dot cs (map (λ z. s *ℤ z) xs) ≡ s *ℤ dot cs xs
 dot-scale s [] xs = sym (*ℤ-zero s)

@@ -1,16 +1,16 @@
 -- A system with a valid proof has no integer point.
-use Rattle.std.proofs.Common.{◌≡◌, ℕ, zero, suc, ◌+◌, ◌*◌, ◌<◌, ◌≤◌, List, [], ◌∷◌, ◌++◌, length, map, replicate, slice_index_or, ℤ, pos, negsuc, ◌+ℤ◌, ◌-ℤ◌, ◌*ℤ◌, neg_ℤ, ◌≤ℤ◌, ◌<ℤ◌, refl, sym, ap, subst, ◌∙◌, arith}
+use Rattle.std.proofs.Common.{◌≡◌, ℕ, zero, suc, ◌+◌, ◌*◌, ◌<◌, List, [], ◌∷◌, ◌++◌, length, map, replicate, slice_index_or, ℤ, pos, negsuc, ◌+ℤ◌, ◌-ℤ◌, ◌*ℤ◌, neg_ℤ, ◌≤ℤ◌, ◌<ℤ◌, refl, sym, ap, subst, ◌∙◌, arith}
 use Rattle.std.proofs.lemmas.Int.{ints, by_lt_z}
 use Rattle.std.proofs.lemmas.List.Elements.{All-push, All-head, All-tail}
 use Rattle.std.specs.List.{All}
 use borrow.Author.Differences.{up, down, product_is}
-use Rattle.affc_rows.specs.Forms.{Affine, value, dot, mixed, mixed_form}
+use Rattle.affc_rows.specs.Forms.{Affine, value, dot}
 use Rattle.affc_rows.proofs.IntLemmas.{mul-add, mul_assoc, mul-nonneg, one-mul, neg-mul}
 use lib.IntN.{*ℤ-zero, zero-*ℤ}
 use Rattle.affc_rows.proofs.ValueLemmas.{value-mixed, length-mixed}
-use Rattle.affc_system.specs.Systems.{Rows, IsRow, Meets, IsPoint, HasNoPoint}
+use Rattle.affc_system.specs.Systems.{Rows, IsRow, Meets, HasNoPoint}
 use Rattle.affc_farkas.specs.Multiples.{zero_row, row_at, multiple_sum, entry_of}
-use Rattle.affc_farkas.specs.Proofs.{IsLeaf, IsCut, low_row, high_row, IsValid, ValidProof}
+use Rattle.affc_farkas.specs.Proofs.{low_row, high_row, IsValid, ValidProof}
 use Rattle.affc_farkas.specs.declared.proof.Proof.{Proof, Leaf, Cut', Split'}
 
 both : (w a b r : ℤ) → w ≡ a +ℤ b → pos 0 ≤ℤ a → b ≡ r → pos 0 ≤ℤ r → pos 0 ≤ℤ w

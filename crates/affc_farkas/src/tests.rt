@@ -45,25 +45,39 @@ fn leaf(alloc: Global, pairs: &[(u32, u64)]) -> Result<Proof, Fail> {
     Ok(Proof::Leaf(multipliers(alloc, pairs)?))
 }
 
-/// The answer of elimination as a word.
-fn outcome(alloc: Global, system: &System) -> Result<&'static str, Fail> {
-    Ok(match refute(alloc, system)? {
+/// The answer of elimination, with what a look at it shows.
+#[derive(Debug, Clone, Copy, PartialEq, Eq)]
+enum Outcome {
+    Refuted,
+    Stands,
+    TooMany,
+    TooWide,
+    Wrong,
+}
+
+fn answer_of(alloc: Global, system: &System) -> Result<Outcome, AllocError> {
+    let answer = refute(alloc, system)?;
+    Ok(match answer {
         Refutation::Refuted(by) => {
-            if check(system, &Proof::Leaf(by)) {
-                "refuted"
+            let proof = Proof::Leaf(by);
+            if check(system, &proof) {
+                Outcome::Refuted
             } else {
-                "wrong"
+                Outcome::Wrong
             }
         }
-        Refutation::Stands => "stands",
+        Refutation::Stands => Outcome::Stands,
         Refutation::TooMany { made } => {
             if made.len() == 4096 {
-                "too many"
+                Outcome::TooMany
             } else {
-                "wrong"
+                Outcome::Wrong
             }
         }
-        Refutation::TooWide { .. } => "too wide",
+        Refutation::TooWide {
+            made: _made,
+            next: _next,
+        } => Outcome::TooWide,
     })
 }
 
@@ -155,15 +169,18 @@ fn small_systems(rt: HostRuntime) -> Result<(), Fail> {
     let alloc = rt.alloc();
     let big: i128 = 1 << 40;
     for (rows, want) in [
-        ([].as_slice(), "stands"),
-        ([[1, 0, -3], [-1, 0, 2]].as_slice(), "refuted"),
-        ([[2, 0, -1], [-2, 0, 1]].as_slice(), "stands"),
-        ([[0, 0, -1]].as_slice(), "refuted"),
+        ([].as_slice(), Outcome::Stands),
+        ([[1, 0, -3], [-1, 0, 2]].as_slice(), Outcome::Refuted),
+        ([[2, 0, -1], [-2, 0, 1]].as_slice(), Outcome::Stands),
+        ([[0, 0, -1]].as_slice(), Outcome::Refuted),
         (
             [[0, 0, 0], [1, 1, 0], [2, 2, -1], [-1, -1, 0]].as_slice(),
-            "refuted",
+            Outcome::Refuted,
         ),
-        ([[1, -1, 0], [-1, 2, 0], [0, -1, -1]].as_slice(), "refuted"),
+        (
+            [[1, -1, 0], [-1, 2, 0], [0, -1, -1]].as_slice(),
+            Outcome::Refuted,
+        ),
         (
             [
                 [big, 1 - big, 0],
@@ -172,11 +189,11 @@ fn small_systems(rt: HostRuntime) -> Result<(), Fail> {
                 [-7, big, -1],
             ]
             .as_slice(),
-            "too wide",
+            Outcome::TooWide,
         ),
     ] {
         let system = plane(alloc, rows)?;
-        assert_eq!(rt; outcome(alloc, &system)?, want, "{} rows", rows.len());
+        assert_eq!(rt; answer_of(alloc, &system)?, want, "{} rows", rows.len());
     }
     Ok(())
 }
@@ -185,13 +202,15 @@ fn small_systems(rt: HostRuntime) -> Result<(), Fail> {
 fn many_rows(rt: HostRuntime) -> Result<(), Fail> {
     let alloc = rt.alloc();
     let mut system = System::new(alloc, 2);
-    for i in 0..130 {
-        let slope = if i % 4 < 2 { i + 1 } else { -i - 1 };
-        let row = form(alloc, &[if i % 2 == 0 { 1 } else { -1 }, slope], 1000)?;
+    for i in 0u8..130 {
+        let step = i128::from(i) + 1;
+        let sign = if i % 2 == 0 { 1 } else { -1 };
+        let slope = if i % 4 < 2 { step } else { -step };
+        let row = form(alloc, &[sign, slope], 1000)?;
         assert_eq!(rt; system.columns(), 2);
         system.push(row)?;
     }
-    assert_eq!(rt; outcome(alloc, &system)?, "too many");
+    assert_eq!(rt; answer_of(alloc, &system)?, Outcome::TooMany);
     Ok(())
 }
 
@@ -202,7 +221,7 @@ fn wide_and_empty(rt: HostRuntime) -> Result<(), Fail> {
     let row = form(alloc, &[], -1)?;
     assert_eq!(rt; empty.columns(), 0);
     empty.push(row)?;
-    assert_eq!(rt; outcome(alloc, &empty)?, "refuted");
+    assert_eq!(rt; answer_of(alloc, &empty)?, Outcome::Refuted);
     let mut wide = System::new(alloc, 17);
     for (sign, constant) in [(1, -2), (-1, 1)] {
         let row = form(
@@ -213,6 +232,6 @@ fn wide_and_empty(rt: HostRuntime) -> Result<(), Fail> {
         assert_eq!(rt; wide.columns(), 17);
         wide.push(row)?;
     }
-    assert_eq!(rt; outcome(alloc, &wide)?, "refuted");
+    assert_eq!(rt; answer_of(alloc, &wide)?, Outcome::Refuted);
     Ok(())
 }

@@ -1,4 +1,3 @@
-use Rattle.std.proofs.Common.{◌≡◌, List, ◌++◌, ℕ, ap, ◌∙◌}
 use Rattle.affc_cli.specs.Copies.{loop_of}
 use Rattle.affc_cli.proofs.Shown.{step, stop}
 use Rattle.affc_cli.proofs.FormLemmas.{to_copy, param_of, function_of, for_of, body_of}

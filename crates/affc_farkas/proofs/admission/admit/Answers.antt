@@ -1,4 +1,3 @@
-use Rattle.std.proofs.Common.{arith, rules, ◌≡◌}
 use Rattle.affc_farkas.proofs.Admitted.{met_always}
 use Rattle.affc_farkas.proofs.admission.admit.Goals as goal
 

@@ -1,7 +1,7 @@
-use Rattle.std.proofs.Common.{arith, rules, ◌≡◌, ◌∙◌, sym, ap, subst, pos, get_or, ◌*ℤ◌, ◌≤ℤ◌, refl}
+use Rattle.std.proofs.Common.{rules, ◌∙◌, ap, subst, ◌*ℤ◌, ◌≤ℤ◌, refl}
 use Rattle.std.specs.Prelude.{FitsSigned, MatchBool}
 use Rattle.std.specs.Int.{w128}
-use Rattle.std.proofs.lemmas.Int.{ints, to_z-of_z}
+use Rattle.std.proofs.lemmas.Int.{to_z-of_z}
 use mir.Val.{to_z, of_z}
 use Rattle.affc_farkas.proofs.Implied.{implied_lists, implied_back}
 use Rattle.affc_farkas.proofs.admission.compare.Goals as goal

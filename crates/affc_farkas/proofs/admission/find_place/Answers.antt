@@ -1,4 +1,4 @@
-use Rattle.std.proofs.Common.{arith, rules, ◌≡◌, sym}
+use Rattle.std.proofs.Common.{sym}
 use Rattle.affc_farkas.proofs.admission.find_place.Goals as goal
 
 pub returns-in-Weaker : goal.returns-in-Weaker

@@ -1,8 +1,7 @@
-use Rattle.std.proofs.Common.{arith, rules, ◌≡◌, ◌++◌, ◌∷◌, [], ◌<◌, length, get_or, subst}
+use Rattle.std.proofs.Common.{◌≡◌, ◌++◌, ◌∷◌, [], ◌<◌, length, get_or, subst}
 use Rattle.affc_farkas.specs.Admissions.{Implies}
 use Rattle.affc_farkas.specs.declared.kept.Kept.{Kept}
 use Rattle.std.specs.List.{remove}
-use Rattle.affc_farkas.specs.Steps.{AreRising}
 use Rattle.affc_farkas.proofs.Lists.{on_ok}
 use Rattle.affc_farkas.proofs.Admitted.{IsMet, AreAmong, KeepsRising, met_beside, met_instead, among_beside, among_instead, rising_beside, rising_instead}
 use Rattle.affc_farkas.proofs.admission.insert.Goals as goal

@@ -1,9 +1,8 @@
-use Rattle.std.proofs.Common.{arith, rules, ◌≡◌, ◌∙◌, sym, ap, subst, pos, get_or, ◌*ℤ◌, ◌≤ℤ◌, ℤ, Bool, true, false, refl}
+use Rattle.std.proofs.Common.{arith, ◌≡◌, ◌∙◌, sym, subst, ◌≤ℤ◌, ℤ, Bool, true, false, refl}
 use Rattle.std.specs.Prelude.{FitsSigned, MatchBool}
 use Rattle.std.specs.Int.{w128}
 use Rattle.std.proofs.lemmas.Int.{ints, to_z-of_z}
 use lib.Signed.{le_z}
-use mir.Val.{to_z, of_z}
 use Rattle.affc_farkas.proofs.admission.is_at_most.Goals as goal
 
 ordered' : (b : Bool) (l r : ℤ) → b ≡ le_z l r → MatchBool b (l ≤ℤ r) (r ≤ℤ l)

@@ -1,8 +1,8 @@
-use Rattle.std.proofs.Common.{arith, rules, ◌≡◌, ◌∙◌, sym, ap, subst, below_more, pos, get_or, ◌*ℤ◌}
+use Rattle.std.proofs.Common.{rules, ◌∙◌, sym, ap, subst, below_more, pos, get_or}
 use Rattle.std.specs.Prelude.{FitsSigned}
 use Rattle.std.specs.Int.{w128}
-use Rattle.std.proofs.lemmas.Int.{ints, to_z-of_z}
-use mir.Val.{to_z, of_z}
+use Rattle.std.proofs.lemmas.Int.{to_z-of_z}
+use mir.Val.{to_z}
 use Rattle.affc_farkas.proofs.admission.is_parallel.Goals as goal
 
 pub loop-j-preserved : goal.loop-j-preserved

@@ -1,7 +1,7 @@
-use Rattle.std.proofs.Common.{arith, rules, refl, ◌≡◌, ◌<ℤ◌, pos, sym, subst, ℤ, true}
-use Rattle.std.specs.Prelude.{unsigned_abs, FitsSigned, IsTrue}
+use Rattle.std.proofs.Common.{arith, rules}
+use Rattle.std.specs.Prelude.{FitsSigned, IsTrue}
 use Rattle.std.specs.Int.{w128}
-use Rattle.std.proofs.lemmas.Int.{ints, to_z-of_z, fits_signed_from_abs}
+use Rattle.std.proofs.lemmas.Int.{to_z-of_z, fits_signed_from_abs}
 use Rattle.affc_farkas.specs.Chain.{rows_of}
 use Rattle.affc_farkas.proofs.Exact.{leaf_exact}
 use Rattle.affc_farkas.proofs.checker.is_leaf.Goals as goal

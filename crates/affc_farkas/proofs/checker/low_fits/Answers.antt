@@ -1,5 +1,5 @@
-use Rattle.std.proofs.Common.{arith, rules, refl, ◌≡◌, ◌∙◌, sym, ap, subst, ℤ, true, false}
-use Rattle.std.specs.Prelude.{FitsSigned, IsTrue}
+use Rattle.std.proofs.Common.{sym, subst, true}
+use Rattle.std.specs.Prelude.{FitsSigned}
 use Rattle.std.specs.Int.{w128}
 use Rattle.std.proofs.lemmas.Int.{to_z-of_z}
 use Rattle.affc_system.specs.Systems.{IsRow}

@@ -1,4 +1,4 @@
-use Rattle.std.proofs.Common.{arith, rules, ◌≡◌, ◌<◌, ◌∙◌, ap, sym, subst, length, get_or, true, false, ℕ, []}
+use Rattle.std.proofs.Common.{◌≡◌, ◌<◌, ◌∙◌, ap, sym, subst, length, get_or, true, false, ℕ, []}
 use Rattle.std.proofs.lemmas.List.{length-set}
 use Rattle.affc_farkas.specs.Rational.{RationalPoint}
 use Rattle.affc_farkas.specs.Steps.{IsState}

@@ -1,4 +1,4 @@
-use Rattle.std.proofs.Common.{arith, rules, ◌≡◌, sym, subst, get_or}
+use Rattle.std.proofs.Common.{rules, ◌≡◌, sym, subst, get_or}
 use Rattle.affc_farkas.proofs.Inputs.{own_sum}
 use Rattle.affc_farkas.proofs.elimination.input.Goals as goal
 

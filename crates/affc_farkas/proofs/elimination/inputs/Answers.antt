@@ -1,5 +1,4 @@
-use Rattle.std.proofs.Common.{arith, rules, ◌≡◌, ◌≤◌, ◌<◌, length, take, subst, pos, ◌≤ℤ◌}
-use Rattle.std.specs.List.{All}
+use Rattle.std.proofs.Common.{arith, ◌≡◌, ◌≤◌, length, pos, ◌≤ℤ◌}
 use Rattle.affc_farkas.specs.Rational.{scaled_value}
 use Rattle.affc_farkas.proofs.Lists.{take_whole}
 use Rattle.affc_farkas.proofs.Inputs.{inputs_more, inputs_state}

@@ -1,4 +1,4 @@
-use Rattle.std.proofs.Common.{arith, rules, ◌≡◌, ◌≤◌, ◌∙◌, sym, subst, ap, length}
+use Rattle.std.proofs.Common.{◌≡◌, ◌≤◌, ◌∙◌, sym, subst, ap, length}
 use Rattle.std.specs.List.{All}
 use Rattle.affc_system.specs.Systems.{IsRow}
 use Rattle.affc_farkas.specs.Proofs.{IsLeaf}

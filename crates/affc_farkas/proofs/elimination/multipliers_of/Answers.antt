@@ -1,4 +1,4 @@
-use Rattle.std.proofs.Common.{arith, rules, ◌≡◌, sym, subst}
+use Rattle.std.proofs.Common.{arith, sym, subst}
 use Rattle.affc_rows.proofs.FormLemmas.{made_end}
 use Rattle.affc_farkas.specs.Multiples.{AreMultipliers}
 use Rattle.affc_farkas.proofs.Leaves.{sparse_end, sparse_multipliers}

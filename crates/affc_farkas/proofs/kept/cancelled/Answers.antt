@@ -1,4 +1,4 @@
-use Rattle.std.proofs.Common.{arith, rules, ◌≡◌, ◌∙◌, sym, subst, pos, ◌<ℤ◌}
+use Rattle.std.proofs.Common.{arith, sym, subst, pos, ◌<ℤ◌}
 use Rattle.affc_farkas.specs.Eliminations.{HasFrom}
 use Rattle.affc_farkas.proofs.Weights.{some_weight}
 use Rattle.affc_farkas.proofs.kept.cancelled.Goals as goal

@@ -1,4 +1,4 @@
-use Rattle.std.proofs.Common.{arith, rules, ◌≡◌, ◌∙◌, ◌≤◌, ◌^◌, ◌+◌, ◌/◌, ◌<◌, List, ℕ, length, map, ap, subst, inl}
+use Rattle.std.proofs.Common.{◌≡◌, ◌∙◌, ◌^◌, ◌+◌, ◌/◌, ℕ, length, map, ap, subst}
 use Prim.Native.Nat.{◌∣◌}
 use Rattle.std.specs.List.{All}
 use Rattle.std.proofs.lemmas.List.{length-map}

@@ -1,8 +1,8 @@
-use Rattle.std.proofs.Common.{arith, rules, refl, ◌≡◌, ◌≤◌, ◌^◌, ◌+ℤ◌, ◌*ℤ◌, ◌+◌, ◌*◌, ◌∙◌, get_or, drop, pos, ap, length}
+use Rattle.std.proofs.Common.{arith, ◌≤◌, ◌^◌, ◌+ℤ◌, ◌*ℤ◌, ◌+◌, ◌*◌, ◌∙◌, get_or, pos, ap}
 use Rattle.std.specs.Prelude.{unsigned_abs, FitsSigned}
 use Rattle.std.specs.Int.{w128}
-use Rattle.std.proofs.lemmas.Int.{ints, to_z-of_z, fits_signed_from_abs}
-use mir.Val.{to_z, of_z}
+use Rattle.std.proofs.lemmas.Int.{to_z-of_z, fits_signed_from_abs}
+use mir.Val.{to_z}
 use Rattle.affc_rows.proofs.IntLemmas.{abs-add}
 use Rattle.affc_farkas.specs.Multiples.{entry_of}
 use Rattle.affc_farkas.proofs.Entries.{part_step}

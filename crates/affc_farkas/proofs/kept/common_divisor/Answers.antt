@@ -1,4 +1,4 @@
-use Rattle.std.proofs.Common.{arith, rules, ◌≡◌, get_or, refl, take, ℕ, subst, sym}
+use Rattle.std.proofs.Common.{arith, refl, subst, sym}
 use Prim.Native.Nat.{◌∣◌}
 use Rattle.std.specs.List.{All}
 use Rattle.std.proofs.lemmas.List.{take_all}

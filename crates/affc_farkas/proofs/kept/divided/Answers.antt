@@ -1,4 +1,4 @@
-use Rattle.std.proofs.Common.{arith, rules, ◌<◌}
+use Rattle.std.proofs.Common.{arith}
 use Rattle.affc_farkas.proofs.Weights.{divided_wide}
 use Rattle.affc_farkas.proofs.kept.divided.Goals as goal
 

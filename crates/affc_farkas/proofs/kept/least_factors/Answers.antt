@@ -1,4 +1,4 @@
-use Rattle.std.proofs.Common.{arith, rules}
+use Rattle.std.proofs.Common.{arith}
 use Rattle.affc_farkas.proofs.Weights.{gcd_not_zero, factors_are, factor_positive}
 use Rattle.affc_farkas.proofs.kept.least_factors.Goals as goal
 

@@ -1,4 +1,4 @@
-use Rattle.std.proofs.Common.{arith, rules, ◌≡◌, ◌<◌, length}
+use Rattle.std.proofs.Common.{arith}
 use Rattle.affc_farkas.proofs.Exact.{above_exact}
 use Rattle.affc_farkas.proofs.proof.is_above.Goals as goal
 

@@ -1,8 +1,8 @@
-use Rattle.std.proofs.Common.{arith, rules, ◌≡◌, ◌≤◌, ◌≤ℤ◌, pos, sym, subst, take, get_or, length}
+use Rattle.std.proofs.Common.{arith, ◌≤◌, sym, subst, length}
 use Rattle.std.specs.List.{All}
 use Rattle.std.proofs.lemmas.List.{take_all}
 use Rattle.std.proofs.lemmas.List.Elements.{All-more}
-use Rattle.affc_farkas.specs.Steps.{AllMet, LeaveRoomAt, AreRising}
+use Rattle.affc_farkas.specs.Steps.{LeaveRoomAt, AreRising}
 use Rattle.affc_farkas.proofs.Crossed.{under_more}
 use Rattle.affc_farkas.proofs.steps.cross.Goals as goal
 

@@ -1,4 +1,4 @@
-use Rattle.std.proofs.Common.{arith, rules, ◌≡◌, ◌⊎◌, ◌+◌, ◌<◌, ◌≤ℤ◌, ◌<ℤ◌, ◌∙◌, ℤ, pos, List, length, sym, ap}
+use Rattle.std.proofs.Common.{arith, ◌≡◌, ◌⊎◌, ◌+◌, ◌<◌, ◌≤ℤ◌, ◌<ℤ◌, ℤ, pos, List, length, ap}
 use Rattle.std.specs.List.{All, Contains}
 use Rattle.std.proofs.lemmas.List.{length_push}
 use Rattle.std.proofs.lemmas.List.Elements.{All-contains}
@@ -6,7 +6,7 @@ use Rattle.affc_farkas.specs.Multiples.{entry_of}
 use Rattle.affc_farkas.specs.Rational.{scaled_value}
 use Rattle.affc_farkas.specs.Steps.{IsState, IsPlain, IsSide, AreRising, AllMet, LeaveRoomAt}
 use Rattle.affc_farkas.proofs.Lists.{on_ok, on_both}
-use Rattle.affc_farkas.proofs.Tables.{pair_state, pair_elimination, pair_too_wide}
+use Rattle.affc_farkas.proofs.Tables.{pair_state, pair_elimination}
 use Rattle.affc_farkas.proofs.Cancels.{leaves_room}
 use Rattle.affc_farkas.proofs.steps.cross_pair.Goals as goal
 

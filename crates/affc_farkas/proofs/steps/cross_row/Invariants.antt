@@ -1,4 +1,4 @@
-use Rattle.std.proofs.Common.{◌≡◌, ◌≤ℤ◌, pos, ℤ, ℕ, List, length, take}
+use Rattle.std.proofs.Common.{◌≡◌, ◌≤ℤ◌, pos, ℤ, List, length, take}
 use Rattle.std.specs.List.{All}
 use Rattle.affc_farkas.specs.Steps.{AllMet, LeaveRoomAt, IsState}
 use Rattle.affc_farkas.proofs.Crossed.{AreBefore, AreNotAbove}

@@ -1,4 +1,4 @@
-use Rattle.std.proofs.Common.{arith, rules, ◌≡◌, sym, subst}
+use Rattle.std.proofs.Common.{sym, subst}
 use Rattle.affc_farkas.specs.Steps.{IsState}
 use Rattle.affc_farkas.proofs.Eliminated.{step_state, step_point}
 use Rattle.affc_farkas.proofs.steps.eliminate.Goals as goal

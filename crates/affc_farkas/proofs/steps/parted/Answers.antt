@@ -1,5 +1,4 @@
-use Rattle.std.proofs.Common.{arith, rules, ◌≡◌, ◌<ℤ◌, pos, sym, subst, List, []}
-use Rattle.std.proofs.lemmas.Int.{ints, to_z-of_z}
+use Rattle.std.proofs.Common.{rules, ◌≡◌, ◌<ℤ◌, pos, sym, subst, []}
 use Rattle.affc_farkas.specs.Multiples.{entry_of}
 use Rattle.affc_farkas.specs.Steps.{AreParted}
 use Rattle.affc_farkas.proofs.Parted.{part_none, part_flat, part_positive, part_negative}

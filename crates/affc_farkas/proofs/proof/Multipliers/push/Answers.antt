@@ -1,4 +1,4 @@
-use Rattle.std.proofs.Common.{arith, rules, ◌≡◌, ◌<◌, ◌≤◌, ◌^◌, sym, subst, length}
+use Rattle.std.proofs.Common.{arith, rules, ◌<◌, sym, subst}
 use Rattle.std.specs.List.{All}
 use Rattle.affc_farkas.specs.Multiples.{AreMultipliers}
 use Rattle.affc_farkas.proofs.Exact.{more_multipliers}

@@ -1,0 +1,12 @@
+pub mod Closed
+pub mod Rule
+pub mod Tests
+pub mod Rules
+pub mod Done
+pub mod Complete
+pub mod CompleteValues
+pub mod CompleteStatements
+pub mod CompleteText
+pub mod Texts
+pub mod Verdicts
+pub mod CopyLoops
