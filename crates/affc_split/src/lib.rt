@@ -10,6 +10,8 @@ mod parts;
 mod places;
 pub mod search;
 mod simplex;
+#[cfg(test)]
+mod tests;
 mod tops;
 
 pub use budget::{Budget, Stop};

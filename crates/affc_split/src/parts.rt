@@ -159,6 +159,7 @@ pub(crate) fn single(
 }
 
 /// The least point of the lower half is that of the box.
+#[inline(never)]
 pub(crate) fn low_point(
     point: Vec<i64>,
     system: &System,
@@ -178,6 +179,7 @@ pub(crate) fn low_point(
 }
 
 /// The least point of the upper half is that of the box where the lower half has none.
+#[inline(never)]
 pub(crate) fn high_point(
     point: Vec<i64>,
     low: Box<Proof>,
@@ -200,6 +202,7 @@ pub(crate) fn high_point(
 }
 
 /// The least point of the lower part is that of the box where the upper part has none.
+#[inline(never)]
 pub(crate) fn low_kept(
     point: Vec<i64>,
     high: Box<Proof>,

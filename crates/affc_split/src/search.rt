@@ -31,6 +31,15 @@ pub(crate) enum Found {
     Point(Vec<i64>),
 }
 
+/// Ends a search: the proof of a part is let go outside the frame of the search, which is small so that it can be deep.
+#[inline(never)]
+fn stopped(proof: Box<Proof>, stop: Stop) -> Result<Found, Stop>
+    ensures { result ≡ Err stop }
+{
+    drop(proof);
+    Err(stop)
+}
+
 /// Searches a box for its least point.
 #[cycle(search)]
 #[tactic(auto, using(crate::proofs::Halves::some_points))]
@@ -103,11 +112,14 @@ pub(crate) fn inside(
                     left,
                     spare - 1,
                     budget,
-                )? {
-                    Found::Point(point) => Ok(high_point(
+                ) {
+                    Ok(Found::Point(point)) => Ok(high_point(
                         point, proof, system, bounds, j, at, next,
                     )),
-                    Found::Empty(rest) => joined(alloc, proof, rest, system, bounds, j, at, next),
+                    Ok(Found::Empty(rest)) => {
+                        joined(alloc, proof, rest, system, bounds, j, at, next)
+                    }
+                    Err(stop) => stopped(proof, stop),
                 };
             }
             if is_below(system, high.as_slice(), found.row) {
@@ -120,9 +132,14 @@ pub(crate) fn inside(
                     left,
                     spare - 1,
                     budget,
-                )? {
-                    Found::Point(point) => Ok(low_kept(point, proof, system, bounds, j, at, next)),
-                    Found::Empty(rest) => joined(alloc, rest, proof, system, bounds, j, at, next),
+                ) {
+                    Ok(Found::Point(point)) => {
+                        Ok(low_kept(point, proof, system, bounds, j, at, next))
+                    }
+                    Ok(Found::Empty(rest)) => {
+                        joined(alloc, rest, proof, system, bounds, j, at, next)
+                    }
+                    Err(stop) => stopped(proof, stop),
                 };
             }
         }
@@ -144,7 +161,10 @@ pub(crate) fn inside(
         Found::Point(point) => return Ok(low_point(point, system, bounds, j, at, next)),
         Found::Empty(low) => low,
     };
-    let half = high_box(alloc, system, bounds, j, at, next, left)?;
+    let half = match high_box(alloc, system, bounds, j, at, next, left) {
+        Ok(half) => half,
+        Err(stop) => return stopped(low, stop),
+    };
     let high = match search(
         alloc,
         system,
@@ -153,9 +173,10 @@ pub(crate) fn inside(
         left - 1,
         spare,
         budget,
-    )? {
-        Found::Point(point) => return Ok(high_point(point, low, system, bounds, j, at, next)),
-        Found::Empty(high) => high,
+    ) {
+        Ok(Found::Point(point)) => return Ok(high_point(point, low, system, bounds, j, at, next)),
+        Ok(Found::Empty(high)) => high,
+        Err(stop) => return stopped(low, stop),
     };
     joined(alloc, low, high, system, bounds, j, at, next)
 }
