@@ -1,0 +1,171 @@
+//! Blocks of text that say a system, a box and what is expected of them.
+ghost use Rattle.std.specs.Prelude.{◌≡◌, IfOk, IfSome, length};
+
+use affc_rows::Form;
+use affc_system::{BoxOf, RowFault, System};
+use smallvec::SmallVec;
+use std::alloc::{AllocError, Global};
+use thiserror::Error;
+
+/// Why a line isn't taken.
+#[derive(Debug, Drop, Clone, Copy, PartialEq, Eq, Error)]
+pub enum Fault {
+    #[error("malformed")]
+    Malformed,
+    #[error("out of memory")]
+    Memory,
+}
+
+/// A block of which some lines are read.
+#[derive(Drop)]
+pub struct Block {
+    pub columns: u32,
+    pub rows: usize,
+    pub system: System,
+    pub ranges: Option<BoxOf>,
+}
+
+/// What a line adds.
+#[derive(Drop)]
+pub enum Line {
+    Nothing,
+    Empty,
+    Point(Vec<i64>),
+}
+
+/// A whole number that a word says.
+fn number(word: &str) -> Result<i64, Fault> {
+    match word.parse::<i64>() {
+        Ok(number) => Ok(number),
+        Err(_) => Err(Fault::Malformed),
+    }
+}
+
+/// The whole numbers that words say.
+fn numbers(alloc: Global, words: &[&str]) -> Result<Vec<i64>, Fault> {
+    let mut found = Vec::new(alloc);
+    for word in words {
+        let n = number(word)?;
+        let Ok(()) = found.push(n) else {
+            return Err(Fault::Memory);
+        };
+    }
+    Ok(found)
+}
+
+/// A block's first line.
+fn begin(alloc: Global, columns: &str, rows: &str) -> Result<Block, Fault> {
+    let columns = number(columns)?;
+    let rows = number(rows)?;
+    if !(0..=128).contains(&columns) || !(0..=1024).contains(&rows) {
+        return Err(Fault::Malformed);
+    }
+    Ok(Block {
+        columns: columns as u32,
+        rows: rows as usize,
+        system: System::new(alloc, columns as u32),
+        ranges: None,
+    })
+}
+
+/// The box of a block.
+fn box_of(alloc: Global, ends: &[i64], columns: u32) -> Result<BoxOf, Fault> {
+    let mut ranges = BoxOf::new(alloc);
+    let mut rest = ends;
+    for _ in 0..columns {
+        let [low, high, more @ ..] = rest else {
+            return Err(Fault::Malformed);
+        };
+        if *low > *high {
+            return Err(Fault::Malformed);
+        }
+        let Ok(()) = ranges.push(*low, *high) else {
+            return Err(Fault::Memory);
+        };
+        rest = more;
+    }
+    if !rest.is_empty() {
+        return Err(Fault::Malformed);
+    }
+    Ok(ranges)
+}
+
+/// A row of coefficients and a constant.
+fn row_of(alloc: Global, entries: &[i64]) -> Result<Form, Fault> {
+    let [front @ .., constant] = entries else {
+        return Err(Fault::Malformed);
+    };
+    let mut coefs = SmallVec::new(alloc);
+    for c in front {
+        let Ok(()) = coefs.push(i128::from(*c)) else {
+            return Err(Fault::Memory);
+        };
+    }
+    Ok(Form {
+        coefs,
+        constant: i128::from(*constant),
+    })
+}
+
+/// Adds a row to a block.
+fn add_row(alloc: Global, block: &mut Block, entries: &[i64]) -> Result<(), Fault> {
+    let row = row_of(alloc, entries)?;
+    if row.coefs.len() != block.system.columns() as usize || block.system.rows().len() >= block.rows {
+        return Err(Fault::Malformed);
+    }
+    match block.system.push(row) {
+        Ok(()) => Ok(()),
+        Err(RowFault::Memory) => Err(Fault::Memory),
+        Err(_) => Err(Fault::Malformed),
+    }
+}
+
+/// A line of numbers: the box's ranges have come before.
+fn add_numbers(alloc: Global, block: &mut Option<Block>, words: &[&str]) -> Result<(), Fault> {
+    let entries = numbers(alloc, words)?;
+    match block {
+        Some(block) => match &block.ranges {
+            Some(_) => add_row(alloc, block, entries.as_slice()),
+            None => Err(Fault::Malformed),
+        },
+        None => Err(Fault::Malformed),
+    }
+}
+
+/// Adds the box to a block.
+fn add_ranges(alloc: Global, block: &mut Option<Block>, words: &[&str]) -> Result<(), Fault> {
+    let ends = numbers(alloc, words)?;
+    match block {
+        Some(block) => {
+            let ranges = box_of(alloc, ends.as_slice(), block.columns)?;
+            block.ranges = Some(ranges);
+            Ok(())
+        }
+        None => Err(Fault::Malformed),
+    }
+}
+
+/// Reads a line into a block.
+pub fn read_line(alloc: Global, block: &mut Option<Block>, line: &str) -> Result<Line, Fault> {
+    let words: Vec<&str> = match line.split_whitespace().collect(alloc) {
+        Ok(words) => words,
+        Err(_) => return Err(Fault::Memory),
+    };
+    match words.as_slice() {
+        [] => Ok(Line::Nothing),
+        ["system", _name, "columns", columns, "rows", rows] => {
+            *block = Some(begin(alloc, columns, rows)?);
+            Ok(Line::Nothing)
+        }
+        ["ranges", ends @ ..] => {
+            add_ranges(alloc, block, ends)?;
+            Ok(Line::Nothing)
+        }
+        ["expect", "empty"] => Ok(Line::Empty),
+        ["expect", "point", point @ ..] => Ok(Line::Point(numbers(alloc, point)?)),
+        entries => {
+            add_numbers(alloc, block, entries)?;
+            Ok(Line::Nothing)
+        }
+    }
+}

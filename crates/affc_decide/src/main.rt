@@ -1,0 +1,153 @@
+//! Reads systems over boxes, decides each, and prints what it found and what it cost.
+#![tactic(auto)]
+
+mod block;
+
+use affc_farkas::Proof;
+use affc_split::{Answer, Budget, decide, within_reach};
+use block::{Block, Fault, Line, read_line};
+use std::alloc::Global;
+use std::io;
+use std::io::{BufRead, BufReader};
+use std::process::ExitCode;
+
+/// The most boxes that are opened for one system.
+const LIMIT: u64 = 1_000_000;
+
+/// What the answers were.
+#[derive(Clone, Copy)]
+struct Totals {
+    empty: u64,
+    points: u64,
+    stopped: u64,
+    units: u64,
+    wrong: u64,
+}
+
+/// How many leaves, cuts and splits a proof has.
+fn nodes(proof: &Proof) -> u64 {
+    match proof {
+        Proof::Leaf(_) => 1,
+        Proof::Cut { rest, .. } => nodes(rest).saturating_add(1),
+        Proof::Split { low, high, .. } => nodes(low).saturating_add(nodes(high)).saturating_add(1),
+    }
+}
+
+/// Whether two points are the same.
+fn same(first: &[i64], second: &[i64]) -> bool {
+    first.len() == second.len() && first.iter().zip(second.iter()).all(|(a, b)| *a == *b)
+}
+
+/// Prints an answer, and says whether it is the one that is expected.
+fn print_answer(rt: &impl Print, answer: &Answer, spent: u64, expected: &Line) -> io::Result<bool> {
+    match answer {
+        Answer::Empty(proof) => {
+            let count = nodes(proof);
+            println!(rt; "empty {spent} {count}")?;
+            Ok(matches!(expected, Line::Empty))
+        }
+        Answer::Point(point) => {
+            print!(rt; "point")?;
+            for x in point {
+                print!(rt; " {x}")?;
+            }
+            println!(rt; " {spent}")?;
+            match expected {
+                Line::Point(wanted) => Ok(same(point.as_slice(), wanted.as_slice())),
+                _ => Ok(false),
+            }
+        }
+    }
+}
+
+/// Decides a block.
+fn settle(
+    rt: &(impl Print + AllocGlobal),
+    block: &Block,
+    expected: &Line,
+    totals: &mut Totals,
+) -> io::Result<bool> {
+    let Some(ranges) = &block.ranges else {
+        return Ok(false);
+    };
+    let whole = block.system.rows().len() == block.rows;
+    if !whole || ranges.ranges().len() != block.system.columns() as usize || !within_reach(ranges) {
+        return Ok(false);
+    }
+    let mut budget = Budget::new(Some(LIMIT));
+    let found = decide(rt.alloc(), &block.system, ranges, &mut budget);
+    let spent = budget.spent();
+    totals.units = totals.units.saturating_add(spent);
+    match found {
+        Ok(answer) => {
+            if !print_answer(rt, &answer, spent, expected)? {
+                totals.wrong = totals.wrong.saturating_add(1);
+            }
+            match answer {
+                Answer::Empty(_) => totals.empty = totals.empty.saturating_add(1),
+                Answer::Point(_) => totals.points = totals.points.saturating_add(1),
+            }
+        }
+        Err(_) => {
+            println!(rt; "stopped {spent}")?;
+            totals.stopped = totals.stopped.saturating_add(1);
+        }
+    }
+    Ok(true)
+}
+
+/// Takes a line. Answers whether it is well formed.
+fn take(
+    rt: &(impl Print + AllocGlobal),
+    block: &mut Option<Block>,
+    line: &str,
+    totals: &mut Totals,
+) -> io::Result<bool> {
+    match read_line(rt.alloc(), block, line) {
+        Ok(Line::Nothing) => Ok(true),
+        Ok(expected) => match block {
+            Some(block) => settle(rt, block, &expected, totals),
+            None => Ok(false),
+        },
+        Err(Fault::Malformed) => Ok(false),
+        Err(Fault::Memory) => Ok(false),
+    }
+}
+
+/// Reads all lines. Answers the number of the first line that is malformed.
+fn run(rt: &HostRuntime, totals: &mut Totals) -> io::Result<Option<u64>> {
+    let mut block = None;
+    let mut count = 0u64;
+    for line in BufReader::new(rt.alloc(), rt.reader())?.lines(rt.alloc()) {
+        count = count.saturating_add(1);
+        if !take(rt, &mut block, line?.as_str(), totals)? {
+            return Ok(Some(count));
+        }
+    }
+    Ok(None)
+}
+
+fn main(rt: HostRuntime) -> io::Result<ExitCode> {
+    let mut totals = Totals {
+        empty: 0,
+        points: 0,
+        stopped: 0,
+        units: 0,
+        wrong: 0,
+    };
+    if let Some(line) = run(&rt, &mut totals)? {
+        eprintln!(rt; "line {line} is malformed")?;
+        return Ok(ExitCode::from(2));
+    }
+    let Totals {
+        empty,
+        points,
+        stopped,
+        units,
+        wrong,
+    } = totals;
+    println!(rt;
+        "{empty} empty, {points} points, {stopped} stopped, {units} units, {wrong} not as expected"
+    )?;
+    Ok(ExitCode::SUCCESS)
+}

@@ -1,0 +1,20 @@
+use Rattle.std.proofs.Common.{◌≡◌, ◌+◌, ◌*◌, ◌≤◌, subst, length, IfOk, ◌⊎◌}
+use Rattle.affc_farkas.specs.Proofs.{ValidProof}
+use Rattle.affc_split.specs.Answers.{with_box, IsLeafProof, IsHard, IfEmpty, IfPoint}
+use Rattle.affc_split.specs.Points.{points, IsLeastPoint}
+use Rattle.affc_split.proofs.decision.decide.Goals as goal
+
+pub returns-clause-empty : goal.returns-clause-empty
+returns-clause-empty c = subst (λ rs. IfOk c.decided.result (λ a. IfEmpty a (λ p. ValidProof (with_box c.args.system.now rs) p))) c.ranges-ranges.ensures.ranges c.decided.ensures.empty
+
+pub returns-clause-leaf : goal.returns-clause-leaf
+returns-clause-leaf c = subst (λ rs. length c.args.system.now.rows + 2 * c.args.system.now.columns ≤ 1024 → IfOk c.decided.result (λ a. IfEmpty a (λ p. IsLeafProof p ⊎ IsHard (with_box c.args.system.now rs)))) c.ranges-ranges.ensures.ranges c.decided.ensures.leaf
+
+pub returns-clause-point : goal.returns-clause-point
+returns-clause-point c = subst (λ rs. IfOk c.decided.result (λ a. IfPoint a (IsLeastPoint c.args.system.now rs))) c.ranges-ranges.ensures.ranges c.decided.ensures.point
+
+pub returns-clause-cost : goal.returns-clause-cost
+returns-clause-cost c = subst (λ rs. c.decided.new.budget.spent + 1 ≤ c.args.budget.now.spent + 2 * points rs) c.ranges-ranges.ensures.ranges c.decided.ensures.cost
+
+pub returns-clause-unit : goal.returns-clause-unit
+returns-clause-unit c = subst (λ rs. length c.args.system.now.rows + 2 * c.args.system.now.columns ≤ 1024 → (c.decided.new.budget.spent ≤ c.args.budget.now.spent + 1) ⊎ IsHard (with_box c.args.system.now rs)) c.ranges-ranges.ensures.ranges c.decided.ensures.unit

@@ -1,0 +1,5 @@
+use Rattle.std.proofs.Common.{arith, ◌≤◌, ◌+◌, inl, inr}
+use Rattle.affc_split.proofs.decision.decided.Goals as goal
+
+pub returns-clause-unit : goal.returns-clause-unit
+returns-clause-unit c = λ few. elim (c.in_ok-answer.ensures.unit few) [ inl h ↦ inl (omega (arith, h, c.in_ok-open.ensures.step)) | inr k ↦ inr k ]

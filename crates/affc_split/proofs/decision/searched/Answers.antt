@@ -1,0 +1,22 @@
+use Rattle.std.proofs.Common.{◌≡◌, ◌∙◌, ap, sym, subst, length}
+use Rattle.std.specs.List.{All}
+use Rattle.affc_system.specs.Systems.{IsRow}
+use Rattle.affc_farkas.specs.Proofs.{ValidProof}
+use Rattle.affc_split.specs.Answers.{with_box}
+use Rattle.affc_split.specs.Bounds.{ranges_of}
+use Rattle.affc_split.specs.Points.{IsLeastPoint}
+use Rattle.affc_split.specs.Search.{IsFound}
+use Rattle.affc_split.proofs.Whole.{whole_valid, ranges_back}
+use Rattle.affc_split.proofs.decision.searched.Goals as goal
+
+pub returns-in-Empty-clause-empty : goal.returns-in-Empty-clause-empty
+returns-in-Empty-clause-empty c =
+    let fit = subst (λ rs. All (IsRow c.args.system.now.columns) rs) c.rows-rows.ensures.rows c.rows-rows.ensures.fit in
+    let a = subst (λ f. IsFound c.args.system.now c.args.bounds.now c.args.next f) c.in-Empty.is c.in_ok-proof.ensures.answer in
+    subst (λ p. ValidProof (with_box c.args.system.now c.args.ranges.now) p) (sym c.into_inner.ensures)
+    (whole_valid c.args.system.now c.args.ranges.now c.args.bounds.now c.args.next c.in-Empty.proof.value c.requires.columns c.requires.reach fit c.requires.bounds c.requires.next a)
+
+pub returns-in-Point-clause-point : goal.returns-in-Point-clause-point
+returns-in-Point-clause-point c =
+    let a = subst (λ f. IsFound c.args.system.now c.args.bounds.now c.args.next f) c.in-Point.is c.in_ok-proof.ensures.answer in
+    subst (λ rs. IsLeastPoint c.args.system.now rs c.in-Point.point.items) (ap ranges_of c.requires.bounds ∙ ranges_back (length c.args.system.now.rows) c.args.ranges.now) a

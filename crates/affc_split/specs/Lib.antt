@@ -1,0 +1,6 @@
+pub mod Budgets
+pub mod Points
+pub mod Answers
+pub mod Bounds
+pub mod Leaves
+pub mod Search

@@ -1,0 +1,76 @@
+//! Budgets.
+ghost use Rattle.std.specs.Prelude.{◌≡◌, ℕ, ◌+◌, ◌-◌, ◌*◌, ◌^◌, ◌<◌, ◌≤◌, OnOk, OnErr, IsNone, Some};
+ghost use Rattle.affc_split.specs.Budgets.{Account, Within};
+
+use std::marker::Model;
+use thiserror::Error;
+
+/// How many boxes may be opened, if that is counted, and how many were. A unit is one box.
+#[derive(Drop)]
+pub struct Budget {
+    limit: Option<u64>,
+    spent: u64,
+}
+
+impl Model for Budget {
+    ghost use Rattle.affc_split.specs.Budgets.{Account, Within};
+
+    ghost Value = { Account };
+
+    ghost view = { λ b. record { limit = b.limit; spent = b.spent } };
+
+    ghost invariant = { λ b. Within (record { limit = b.limit; spent = b.spent }) };
+}
+
+/// Why there is no decision.
+#[derive(Debug, Clone, Copy, PartialEq, Eq, Error)]
+pub enum Stop {
+    #[error("the budget is spent")]
+    Budget,
+    #[error("out of memory")]
+    Memory,
+}
+
+impl Budget {
+    /// A budget of which nothing is spent. Without a limit nothing is counted.
+    pub fn new(limit: Option<u64>) -> Budget
+        ensures { result ≡ record { limit = limit; spent = 0 } }
+    {
+        Budget { limit, spent: 0 }
+    }
+
+    /// The limit.
+    pub fn limit(&self) -> Option<u64>
+        ensures { result ≡ self.now.limit }
+    {
+        self.limit
+    }
+
+    /// What is spent.
+    pub fn spent(&self) -> u64
+        ensures { result ≡ self.now.spent }
+    {
+        self.spent
+    }
+
+    /// Takes a unit for a box that is opened, where one is left or none is counted.
+    pub(crate) fn open(&mut self) -> Result<(), Stop>
+        ensures limit { self.new.limit ≡ self.old.limit }
+        ensures uncounted { IsNone self.old.limit → self.new.spent ≡ self.old.spent }
+        ensures grows { self.old.spent ≤ self.new.spent }
+        ensures step { self.new.spent ≤ self.old.spent + 1 }
+        ensures counted { OnOk result ((l : ℕ) → self.old.limit ≡ Some l → self.new.spent ≡ self.old.spent + 1) }
+        ensures fits { OnOk result (self.old.limit ≡ Some self.old.spent → ⊥) }
+        ensures stop { OnErr result (self.old.limit ≡ Some self.new.spent) }
+        ensures budget { OnErr result (result ≡ Err Stop.Budget) }
+        ensures kept { Within self.new }
+    {
+        if let Some(limit) = self.limit {
+            if self.spent == limit {
+                return Err(Stop::Budget);
+            }
+            self.spent += 1;
+        }
+        Ok(())
+    }
+}

@@ -1,0 +1,255 @@
+//! The decision.
+ghost use Rattle.std.specs.Prelude.{◌≡◌, ℕ, ℤ, List, ◌+◌, ◌-◌, ◌*◌, ◌^◌, ◌<◌, ◌≤◌, ◌⊎◌, pos, IfOk, IfErr, IfSome, IfNone, IsTrue, ◌↔◌, OnOk, OnErr, IsNone, Some, Err, length};
+ghost use Rattle.std.specs.List.{All};
+ghost use Rattle.affc_system.specs.Boxes.{IsBox};
+ghost use Rattle.affc_system.specs.Pairs.{WithinReach};
+ghost use Rattle.affc_farkas.specs.Proofs.{ValidProof};
+ghost use Rattle.affc_split.specs.Answers.{with_box, SplitsAtZero, IsLeafProof, IsHard, IfEmpty, IfPoint};
+ghost use Rattle.affc_split.specs.Points.{points, IsLeastPoint};
+ghost use Rattle.affc_split.specs.Bounds.{IsBound, size};
+ghost use Rattle.affc_split.specs.Search.{IsEmpty, Ready, box_bounds};
+
+use crate::bounds::Bound;
+use crate::boxed::refuted;
+use crate::budget::{Budget, Stop};
+use crate::leaves::{found_leaf, row_leaf};
+use crate::search::{Answer, Found, inside};
+use crate::tops::broken;
+use affc_farkas::Proof;
+use affc_system::system::MOST_ROWS;
+use affc_system::{BoxOf, System};
+use std::alloc::{AllocError, Global};
+
+/// The most uneven splits on the way to a part of the box.
+const SPARE: u32 = 100;
+
+/// The bounds of a box whose rows come after those of the system.
+fn bounds_of(alloc: Global, ranges: &[(i64, i64)], rows: u32) -> Result<Vec<Bound>, AllocError>
+    requires few { length ranges.now ≤ 128 }
+    requires rows { rows ≤ 1024 }
+    ensures { IfOk result (λ v. v.items ≡ box_bounds rows ranges.now) }
+{
+    let mut bounds = Vec::new(alloc);
+    for (j, range) in ranges.iter().enumerate() {
+        bounds.push(Bound {
+            low: range.0,
+            high: range.1,
+            low_row: rows + 2 * j as u32,
+            high_row: rows + 2 * j as u32 + 1,
+        })?;
+    }
+    Ok(bounds)
+}
+
+/// The bounds of the whole box, ready to be searched.
+fn whole(alloc: Global, system: &System, ranges: &[(i64, i64)]) -> Result<Vec<Bound>, Stop>
+    requires columns { length ranges.now ≡ system.now.columns }
+    requires ordered { IsBox ranges.now }
+    requires reach { All WithinReach ranges.now }
+    ensures value { IfOk result (λ v. v.items ≡ box_bounds (length system.now.rows) ranges.now) }
+    ensures ready { IfOk result (λ v. Ready system.now.columns v.items (length system.now.rows + 2 * system.now.columns) (62 * system.now.columns)) }
+    ensures count { IfOk result (λ v. size v.items ≡ points ranges.now) }
+    ensures memory { OnErr result (result ≡ Err Stop.Memory) }
+{
+    let _columns = system.columns();
+    let rows = system.rows().len() as u32;
+    let Ok(bounds) = bounds_of(alloc, ranges, rows) else {
+        return Err(Stop::Memory);
+    };
+    Ok(bounds)
+}
+
+/// Whether both ends of a range are within 2^60.
+fn range_fits(range: (i64, i64)) -> bool
+    ensures { IsTrue result ↔ WithinReach range }
+{
+    range.0.unsigned_abs() <= 1 << 60 && range.1.unsigned_abs() <= 1 << 60
+}
+
+/// Whether a box is one that `decide` takes: all ends within 2^60.
+pub fn within_reach(ranges: &BoxOf) -> bool
+    ensures { IsTrue result ↔ All WithinReach ranges.now }
+{
+    ranges.ranges().iter().all(|r| range_fits(*r))
+}
+
+/// A leaf for the whole box, found at once.
+fn whole_leaf(
+    alloc: Global,
+    system: &System,
+    bounds: &[Bound],
+    next: u32,
+) -> Result<Option<Box<Proof>>, Stop>
+    requires width { length bounds.now ≡ system.now.columns }
+    requires ranges { All IsBound bounds.now }
+    ensures answer { IfOk result (λ o. IfSome o (λ p. IsEmpty system.now bounds.now next p.value)) }
+    ensures leaf { IfOk result (λ o. IfSome o (λ p. IsLeafProof p.value)) }
+    ensures memory { OnErr result (result ≡ Err Stop.Memory) }
+{
+    match broken(system, bounds) {
+        Some(row) => Ok(Some(row_leaf(alloc, system, bounds, row, next)?)),
+        None => found_leaf(alloc, system, bounds, next),
+    }
+}
+
+/// A leaf for the whole box. `None` where none is found, and elimination can't find one.
+fn root_leaf(
+    alloc: Global,
+    system: &System,
+    ranges: &[(i64, i64)],
+    bounds: &[Bound],
+    next: u32,
+) -> Result<Option<Proof>, Stop>
+    requires columns { length ranges.now ≡ system.now.columns }
+    requires reach { All WithinReach ranges.now }
+    requires ranges { All IsBound bounds.now }
+    requires bounds { bounds.now ≡ box_bounds (length system.now.rows) ranges.now }
+    requires width { length bounds.now ≡ system.now.columns }
+    requires next { next ≡ length system.now.rows + 2 * system.now.columns }
+    ensures valid { IfOk result (λ o. IfSome o (λ p. ValidProof (with_box system.now ranges.now) p)) }
+    ensures leaf { IfOk result (λ o. IfSome o IsLeafProof) }
+    ensures hard { length system.now.rows + 2 * system.now.columns ≤ 1024 → IfOk result (λ o. IfNone o (IsHard (with_box system.now ranges.now))) }
+    ensures memory { OnErr result (result ≡ Err Stop.Memory) }
+{
+    let _columns = system.columns();
+    let _rows = system.rows();
+    if let Some(leaf) = whole_leaf(alloc, system, bounds, next)? {
+        return Ok(Some(Box::into_inner(leaf)));
+    }
+    if next <= MOST_ROWS as u32 {
+        return refuted(alloc, system, ranges);
+    }
+    Ok(None)
+}
+
+/// What is found in the whole box, after it is opened and has no leaf.
+fn searched(
+    alloc: Global,
+    system: &System,
+    ranges: &[(i64, i64)],
+    bounds: &[Bound],
+    next: u32,
+    left: u32,
+    budget: &mut Budget,
+) -> Result<Answer, Stop>
+    requires columns { length ranges.now ≡ system.now.columns }
+    requires reach { All WithinReach ranges.now }
+    requires bounds { bounds.now ≡ box_bounds (length system.now.rows) ranges.now }
+    requires next { next ≡ length system.now.rows + 2 * system.now.columns }
+    requires ready { Ready system.now.columns bounds.now next left }
+    requires spare { (next + left) + 100 < 2 ^ 32 }
+    requires count { size bounds.now ≡ points ranges.now }
+    ensures empty { IfOk result (λ a. IfEmpty a (λ p. ValidProof (with_box system.now ranges.now) p)) }
+    ensures plain { IfOk result (λ a. IfEmpty a SplitsAtZero) }
+    ensures point { IfOk result (λ a. IfPoint a (IsLeastPoint system.now ranges.now)) }
+    ensures limit { budget.new.limit ≡ budget.old.limit }
+    ensures uncounted { IsNone budget.old.limit → budget.new.spent ≡ budget.old.spent }
+    ensures grows { budget.old.spent ≤ budget.new.spent }
+    ensures cost { budget.new.spent + 2 ≤ budget.old.spent + 2 * points ranges.now }
+    ensures stop { IfErr result (λ e. e ≡ Stop.Budget → budget.new.limit ≡ Some budget.new.spent) }
+{
+    let _rows = system.rows();
+    match inside(alloc, system, bounds, next, left, SPARE, budget)? {
+        Found::Empty(proof) => Ok(Answer::Empty(Box::into_inner(proof))),
+        Found::Point(point) => Ok(Answer::Point(point)),
+    }
+}
+
+/// The decision after the whole box is opened.
+#[tactic(auto, using(crate::proofs::Halves::some_in_ranges))]
+fn opened(
+    alloc: Global,
+    system: &System,
+    ranges: &[(i64, i64)],
+    budget: &mut Budget,
+) -> Result<Answer, Stop>
+    requires columns { length ranges.now ≡ system.now.columns }
+    requires ordered { IsBox ranges.now }
+    requires reach { All WithinReach ranges.now }
+    ensures empty { IfOk result (λ a. IfEmpty a (λ p. ValidProof (with_box system.now ranges.now) p)) }
+    ensures plain { IfOk result (λ a. IfEmpty a SplitsAtZero) }
+    ensures leaf { length system.now.rows + 2 * system.now.columns ≤ 1024 → IfOk result (λ a. IfEmpty a (λ p. IsLeafProof p ⊎ IsHard (with_box system.now ranges.now))) }
+    ensures point { IfOk result (λ a. IfPoint a (IsLeastPoint system.now ranges.now)) }
+    ensures limit { budget.new.limit ≡ budget.old.limit }
+    ensures uncounted { IsNone budget.old.limit → budget.new.spent ≡ budget.old.spent }
+    ensures grows { budget.old.spent ≤ budget.new.spent }
+    ensures cost { budget.new.spent + 2 ≤ budget.old.spent + 2 * points ranges.now }
+    ensures unit { length system.now.rows + 2 * system.now.columns ≤ 1024 → (budget.new.spent ≤ budget.old.spent) ⊎ IsHard (with_box system.now ranges.now) }
+    ensures stop { IfErr result (λ e. e ≡ Stop.Budget → budget.new.limit ≡ Some budget.new.spent) }
+{
+    let columns = system.columns();
+    let next = system.rows().len() as u32 + 2 * columns;
+    let bounds = whole(alloc, system, ranges)?;
+    if let Some(leaf) = root_leaf(alloc, system, ranges, bounds.as_slice(), next)? {
+        return Ok(Answer::Empty(leaf));
+    }
+    let answer = searched(
+        alloc,
+        system,
+        ranges,
+        bounds.as_slice(),
+        next,
+        62 * columns,
+        budget,
+    )?;
+    Ok(answer)
+}
+
+/// The decision over a list of ranges.
+#[tactic(auto, using(crate::proofs::Halves::some_in_ranges))]
+fn decided(
+    alloc: Global,
+    system: &System,
+    ranges: &[(i64, i64)],
+    budget: &mut Budget,
+) -> Result<Answer, Stop>
+    requires columns { length ranges.now ≡ system.now.columns }
+    requires ordered { IsBox ranges.now }
+    requires reach { All WithinReach ranges.now }
+    ensures empty { IfOk result (λ a. IfEmpty a (λ p. ValidProof (with_box system.now ranges.now) p)) }
+    ensures plain { IfOk result (λ a. IfEmpty a SplitsAtZero) }
+    ensures leaf { length system.now.rows + 2 * system.now.columns ≤ 1024 → IfOk result (λ a. IfEmpty a (λ p. IsLeafProof p ⊎ IsHard (with_box system.now ranges.now))) }
+    ensures point { IfOk result (λ a. IfPoint a (IsLeastPoint system.now ranges.now)) }
+    ensures limit { budget.new.limit ≡ budget.old.limit }
+    ensures uncounted { IsNone budget.old.limit → budget.new.spent ≡ budget.old.spent }
+    ensures counted { OnOk result ((l : ℕ) → budget.old.limit ≡ Some l → budget.old.spent + 1 ≤ budget.new.spent) }
+    ensures cost { budget.new.spent + 1 ≤ budget.old.spent + 2 * points ranges.now }
+    ensures unit { length system.now.rows + 2 * system.now.columns ≤ 1024 → (budget.new.spent ≤ budget.old.spent + 1) ⊎ IsHard (with_box system.now ranges.now) }
+    ensures first { budget.old.limit ≡ Some budget.old.spent → result ≡ Err Stop.Budget }
+    ensures stop { IfErr result (λ e. e ≡ Stop.Budget → budget.new.limit ≡ Some budget.new.spent) }
+{
+    budget.open()?;
+    let answer = opened(alloc, system, ranges, budget)?;
+    Ok(answer)
+}
+
+/// Whether the system has an integer point in the box: a proof that it has none, or the lexicographically least one.
+///
+/// The rows of the box come after those of the system, column by column, low before high.
+pub fn decide(
+    alloc: Global,
+    system: &System,
+    ranges: &BoxOf,
+    budget: &mut Budget,
+) -> Result<Answer, Stop>
+    requires columns { length ranges.now ≡ system.now.columns }
+    requires reach { All WithinReach ranges.now }
+
+    // The answer.
+    ensures empty { IfOk result (λ a. IfEmpty a (λ p. ValidProof (with_box system.now ranges.now) p)) }
+    ensures plain { IfOk result (λ a. IfEmpty a SplitsAtZero) }
+    ensures leaf { length system.now.rows + 2 * system.now.columns ≤ 1024 → IfOk result (λ a. IfEmpty a (λ p. IsLeafProof p ⊎ IsHard (with_box system.now ranges.now))) }
+    ensures point { IfOk result (λ a. IfPoint a (IsLeastPoint system.now ranges.now)) }
+
+    // The budget.
+    ensures limit { budget.new.limit ≡ budget.old.limit }
+    ensures uncounted { IsNone budget.old.limit → budget.new.spent ≡ budget.old.spent }
+    ensures counted { OnOk result ((l : ℕ) → budget.old.limit ≡ Some l → budget.old.spent + 1 ≤ budget.new.spent) }
+    ensures cost { budget.new.spent + 1 ≤ budget.old.spent + 2 * points ranges.now }
+    ensures unit { length system.now.rows + 2 * system.now.columns ≤ 1024 → (budget.new.spent ≤ budget.old.spent + 1) ⊎ IsHard (with_box system.now ranges.now) }
+    ensures first { budget.old.limit ≡ Some budget.old.spent → result ≡ Err Stop.Budget }
+    ensures stop { IfErr result (λ e. e ≡ Stop.Budget → budget.new.limit ≡ Some budget.new.spent) }
+{
+    let ranges = ranges.ranges();
+    decided(alloc, system, ranges, budget)
+}

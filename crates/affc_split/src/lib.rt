@@ -1,0 +1,19 @@
+//! The decision whether a system has an integer point in a box: a proof that it has none, or its least one.
+#![tactic(auto)]
+
+pub mod bounds;
+mod boxed;
+pub mod budget;
+pub mod decision;
+mod leaves;
+mod parts;
+mod places;
+pub mod search;
+mod simplex;
+#[cfg(test)]
+mod tests;
+mod tops;
+
+pub use budget::{Budget, Stop};
+pub use decision::{decide, within_reach};
+pub use search::Answer;
