@@ -1,0 +1,9 @@
+pub mod Cells
+pub mod Places
+pub mod Order
+pub mod Loads
+pub mod Writes
+pub mod Shifts
+pub mod Agrees
+pub mod Stored
+pub mod LoadCounts

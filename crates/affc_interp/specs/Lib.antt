@@ -1,0 +1,5 @@
+pub mod Layout
+pub mod Seen
+pub mod Budget
+pub mod Machines
+pub mod Runs

@@ -1,0 +1,9 @@
+//! The interpreter: a program run on data, exactly as its meaning says.
+#![tactic(auto)]
+
+mod fault;
+mod index;
+pub mod laws;
+mod machine;
+mod memory;
+mod value;
