@@ -7,3 +7,7 @@ pub mod Shifts
 pub mod Agrees
 pub mod Stored
 pub mod LoadCounts
+pub mod Loops
+pub mod Turns
+pub mod Execs
+pub mod Adds

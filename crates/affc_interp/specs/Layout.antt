@@ -1,5 +1,5 @@
 -- Arrays in flat buffers, each with its elements in order, the last subscript running fastest.
-use Rattle.std.specs.Prelude.{◌≡◌, ℕ, zero, suc, ◌+◌, ◌*◌, ◌<◌, ℤ, pos, ◌<ℤ◌, int_lt, int_le, nat_lt, ◌&&◌, if◌then◌else◌, List, [], ◌∷◌, ◌++◌, length, get_or, map, Option, Some, None}
+use Rattle.std.specs.Prelude.{◌≡◌, ℕ, zero, suc, ◌+◌, ◌*◌, ◌<◌, ℤ, pos, ◌<ℤ◌, int_lt, int_le, nat_lt, ◌&&◌, if◌then◌else◌, List, [], ◌∷◌, ◌++◌, length, get_or, drop, map, Option, Some, None}
 use Rattle.affc_ast.specs.Meaning.{at_least_zero}
 use Rattle.affc_ast.specs.Store.{Element, Store}
 use Rattle.affc_interp.specs.declared.memory.Buffer.{Buffer}
@@ -87,3 +87,22 @@ place_from size k (x ∷ xs) (n ∷ ns) = place_from size (place_step size k x n
 -- the number of the cell, where the element lies within the array
 abbrev pub place_of : (extents : List (List ℤ)) → (array : ℕ) → (subscripts : List ℤ) → Option ℕ
 place_of extents array xs = place_from (size_of (get_or extents array [])) (Some 0) xs (get_or extents array [])
+
+-- ---- Values that are given
+
+-- so many cells, the first of them with these values
+abbrev pub given_cells : (count : ℕ) → List ℕ → List (Option ℕ)
+given_cells zero vs = []
+given_cells (suc count) [] = None ∷ given_cells count []
+given_cells (suc count) (v ∷ vs) = Some v ∷ given_cells count vs
+
+-- the elements with these subscripts, each with its value, as long as there are values
+abbrev pub given_to : (array : ℕ) → (subscripts : List (List ℤ)) → (values : List ℕ) → Store
+given_to array [] vs = []
+given_to array (xs ∷ xss) [] = []
+given_to array (xs ∷ xss) (v ∷ vs) = ((array, xs), v) ∷ given_to array xss vs
+
+-- what arrays with these extents hold that are given these values, from this number on
+abbrev pub start_of : (array : ℕ) → (extents : List (List ℤ)) → (values : List (List ℕ)) → Store
+start_of array [] vss = []
+start_of array (ns ∷ rest) vss = given_to array (subscripts_of ns) (get_or vss 0 []) ++ start_of (suc array) rest (drop 1 vss)

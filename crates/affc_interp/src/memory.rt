@@ -1,8 +1,8 @@
-ghost use Rattle.std.specs.Prelude.{◌≡◌, ◌+◌, ◌^◌, ◌<◌, ℤ, List, [], Some, None, Ok, get_or, slice_set, sum_by, length, pos, ◌≤ℤ◌, ◌<ℤ◌, int_le, int_lt, ◌&&◌, if◌then◌else◌};
+ghost use Rattle.std.specs.Prelude.{◌≡◌, ◌+◌, ◌^◌, ◌<◌, ℤ, List, [], Some, None, Ok, get_or, slice_set, slice_get, sum_by, length, pos, ◌≤ℤ◌, ◌<ℤ◌, int_le, int_lt, ◌&&◌, if◌then◌else◌, ◌++◌, ◌∷◌, IfOk, IfSome, OnOk};
 ghost use Rattle.affc_ast.specs.Index.{nodes_of_ix, index_values};
 ghost use Rattle.affc_ast.specs.Meaning.{at_least_zero};
 ghost use Rattle.affc_ast.specs.Store.{at, with_value};
-ghost use Rattle.affc_interp.specs.Layout.{place_step, place_from, place_of, cell_at, extents_in, size_of, AreWhole};
+ghost use Rattle.affc_interp.specs.Layout.{place_step, place_from, place_of, cell_at, extents_in, size_of, subscripts_of, given_cells, given_to, AreLengths, AreWhole};
 ghost use Rattle.affc_ast.specs.Values.{load, touch};
 ghost use Rattle.affc_ast.specs.declared.tree.Instance.{Instance};
 ghost use Rattle.affc_interp.specs.Seen.{as_reading, read_then, as_value, loaded, scope_at, Reaches};
@@ -10,6 +10,7 @@ ghost use Rattle.affc_interp.specs.Seen.{as_reading, read_then, as_value, loaded
 use crate::fault::Fault;
 use crate::index::{eval, node_count};
 use affc_ast::tree::{ArrayId, Instance, Ix};
+use std::alloc::{AllocError, Global};
 use std::marker::Model;
 
 /// An array: its extents, and a cell for each element, the last subscript running fastest. A cell is
@@ -191,5 +192,67 @@ impl Memory {
     {
         let buffer = &mut self.buffers[array.0 as usize];
         set_cell(&mut buffer.cells, place, v);
+    }
+}
+
+// How many elements an array with these extents has, if a `usize` can hold it.
+fn size(extents: &[i64]) -> Option<usize>
+    ensures { IfSome result (λ n. n ≡ size_of extents.now) }
+{
+    match extents {
+        [] => Some(1),
+        [n, rest @ ..] => {
+            let inner = size(rest)?;
+            length_of(*n)?.checked_mul(inner)
+        }
+    }
+}
+
+fn length_of(n: i64) -> Option<usize>
+    ensures { IfSome result (λ m. m ≡ at_least_zero n) }
+{
+    if n < 0 { Some(0) } else { Some(n.unsigned_abs() as usize) }
+}
+
+fn given_at(values: &[u64], k: usize) -> Option<u64>
+    ensures { result ≡ slice_get values.now k }
+{
+    match values.get(k) {
+        Some(v) => Some(*v),
+        None => None,
+    }
+}
+
+#[tactic(auto, using(crate::proofs::Adds::given_push))]
+fn filled(alloc: Global, size: usize, values: &[u64]) -> Result<Vec<Option<u64>>, AllocError>
+    ensures { IfOk result (λ v. v.items ≡ given_cells size values.now) }
+{
+    let mut cells = Vec::with_capacity(alloc, size)?;
+    for k in 0..size {
+        cells.push(given_at(values, k))?;
+    }
+    Ok(cells)
+}
+
+impl Memory {
+    /// No arrays.
+    pub fn new(alloc: Global) -> Memory
+        ensures { result ≡ record { extents = []; store = [] } }
+    {
+        Memory { buffers: Vec::new(alloc) }
+    }
+
+    /// One array more, whose first elements have these values.
+    pub fn add(&mut self, alloc: Global, extents: Vec<i64>, values: &[u64]) -> Result<(), AllocError>
+        requires { AreLengths extents.items }
+        ensures extents { OnOk result (self.new.extents ≡ self.old.extents ++ extents.items ∷ []) }
+        ensures store { OnOk result (self.new.store ≡ self.old.store ++ given_to (length self.old.extents) (subscripts_of extents.items) values.now) }
+    {
+        let Some(size) = size(extents.as_slice()) else {
+            return Err(AllocError);
+        };
+        let cells = filled(alloc, size, values)?;
+        self.buffers.push(Buffer { extents, cells })?;
+        Ok(())
     }
 }
