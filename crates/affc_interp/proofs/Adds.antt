@@ -8,7 +8,7 @@ use Rattle.affc_interp.specs.Layout.{size_of, subscripts_of, elements_of, extent
 use Rattle.affc_interp.proofs.Places.{length_subscripts}
 use Rattle.affc_interp.proofs.Order.{as_many}
 
-nothing_more : {A : Type 0} (xs : List A) → xs ++ [] ≡ xs
+pub nothing_more : {A : Type 0} (xs : List A) → xs ++ [] ≡ xs
 nothing_more [] = refl
 nothing_more (x ∷ xs) = ap (λ l. x ∷ l) (nothing_more xs)
 
@@ -19,7 +19,7 @@ both_stores (x ∷ xs) ys [] ds e = absurd (omega arith)
 both_stores (x ∷ xs) ys (None ∷ cs) ds e = both_stores xs ys cs ds (omega arith)
 both_stores (x ∷ xs) ys (Some v ∷ cs) ds e = ap (λ l. (x, v) ∷ l) (both_stores xs ys cs ds (omega arith))
 
-none_given : (a : ℕ) (xss : List (List ℤ)) → given_to a xss [] ≡ []
+pub none_given : (a : ℕ) (xss : List (List ℤ)) → given_to a xss [] ≡ []
 none_given a [] = refl
 none_given a (xs ∷ xss) = refl
 

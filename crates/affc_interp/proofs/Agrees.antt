@@ -42,7 +42,7 @@ then_same limit (Ended s) f g grows same =
     ] refl
 then_same limit (Stuck c n) f g grows same = elim (nat_le n limit) as (λ (t : Bool). (if t then Err (StuckBy c) else Err OutOfSteps) ≡ after (if t then Err (StuckBy c) else Err OutOfSteps) g) [ true ↦ refl | false ↦ refl ]
 
-read_same : {A : Type 0} (limit : ℕ) (r : Result A Cause) (s : State) (f : A → Outcome) (g : A → Run) → s.steps ≤ limit → ((x : A) → within_limit limit (f x) ≡ g x) → within_limit limit (reading r s f) ≡ stuck_or r g
+pub read_same : {A : Type 0} (limit : ℕ) (r : Result A Cause) (s : State) (f : A → Outcome) (g : A → Run) → s.steps ≤ limit → ((x : A) → within_limit limit (f x) ≡ g x) → within_limit limit (reading r s f) ≡ stuck_or r g
 read_same limit (Ok x) s f g h same = same x
 read_same limit (Err c) s f g h same = ap (λ (t : Bool). if t then Err (StuckBy c) else Err OutOfSteps) (le-leb s.steps limit h)
 
@@ -66,13 +66,13 @@ AllAgree [] [] = Unit {0}
 AllAgree (p ∷ ps) (q ∷ qs) = Agrees p q × AllAgree ps qs
 AllAgree _ _ = ⊥
 
-all_nodes : (ps : List Part) (qs : List Exec) → AllAgree ps qs → sum_by (λ q. q.nodes) qs ≡ nodes_in ps
+pub all_nodes : (ps : List Part) (qs : List Exec) → AllAgree ps qs → sum_by (λ q. q.nodes) qs ≡ nodes_in ps
 all_nodes [] [] h = refl
 all_nodes [] (q ∷ qs) h = absurd h
 all_nodes (p ∷ ps) [] h = absurd h
 all_nodes (p ∷ ps) (q ∷ qs) h = sum_by-cons (λ q. q.nodes) q qs ∙ (λ i. h.0.nodes i + all_nodes ps qs h.1 i) ∙ sym (sum_by-cons (λ p. p.nodes) p ps)
 
-all_assigns : (ps : List Part) (qs : List Exec) → AllAgree ps qs → sum_by (λ q. q.assigns) qs ≡ assigns_in ps
+pub all_assigns : (ps : List Part) (qs : List Exec) → AllAgree ps qs → sum_by (λ q. q.assigns) qs ≡ assigns_in ps
 all_assigns [] [] h = refl
 all_assigns [] (q ∷ qs) h = absurd h
 all_assigns (p ∷ ps) [] h = absurd h
@@ -193,9 +193,15 @@ mutual
   agree_each end_of-Stmt = tt
   agree_each (more_of-Stmt x rest) = (agrees x, agree_each rest)
 
-all_agree : (body : List Stmt) → AllAgree (map part_of body) (map exec_of body)
+pub all_agree : (body : List Stmt) → AllAgree (map part_of body) (map exec_of body)
 all_agree [] = tt
 all_agree (x ∷ xs) = (agrees x, all_agree xs)
 
 pub runs_cut : (limit : ℕ) (body : List Stmt) (here : Position) (scope : Scope) (store : Store) → within_limit limit (in_order (map part_of body) here scope (record { store = store; written = []; steps = 0 })) ≡ all_of limit (map exec_of body) here scope store 0
 runs_cut limit body here scope store = all_same (map part_of body) (map exec_of body) (all_agree body) limit here scope (record { store = store; written = []; steps = 0 }) (omega arith)
+
+pub run_nodes : (body : List Stmt) → sum_by (λ q. q.nodes) (map exec_of body) ≡ nodes_in (map part_of body)
+run_nodes body = all_nodes (map part_of body) (map exec_of body) (all_agree body)
+
+pub run_assigns : (body : List Stmt) → sum_by (λ q. q.assigns) (map exec_of body) ≡ assigns_in (map part_of body)
+run_assigns body = all_assigns (map part_of body) (map exec_of body) (all_agree body)

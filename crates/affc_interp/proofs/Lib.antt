@@ -11,3 +11,5 @@ pub mod Loops
 pub mod Turns
 pub mod Execs
 pub mod Adds
+pub mod Declares
+pub mod RunIs

@@ -3,3 +3,5 @@ pub mod Seen
 pub mod Budget
 pub mod Machines
 pub mod Runs
+pub mod Arrays
+pub mod Begun

@@ -183,3 +183,14 @@ pub fn compare_sum(conds: &[Compare]) -> u32
         [c, rest @ ..] => 1 + node_count(&c.left) + node_count(&c.right) + compare_sum(rest),
     }
 }
+
+/// How many nodes the expressions have.
+pub fn node_sum(es: &[Ix]) -> u32
+    requires { sum_by nodes_of_ix es.now < 2 ^ 32 }
+    ensures { result ≡ sum_by nodes_of_ix es.now }
+{
+    match es {
+        [] => 0,
+        [e, rest @ ..] => node_count(e) + node_sum(rest),
+    }
+}

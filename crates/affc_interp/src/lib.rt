@@ -6,4 +6,5 @@ mod index;
 pub mod laws;
 mod machine;
 mod memory;
+pub mod run;
 mod value;

@@ -10,9 +10,9 @@ ghost use Rattle.affc_interp.specs.Seen.{as_reading, scope_at, as_value, Stores}
 ghost use Rattle.affc_interp.specs.Machines.{Finishes, Steps, Declares, scope_of, position, turn_of};
 
 use crate::fault::{Fault, Halt};
-use crate::index::{all_hold, compare_sum, eval, node_count};
+use crate::index::{all_hold, compare_sum, eval, node_count, node_sum};
 use crate::memory::Memory;
-use crate::value::{load_count, node_sum, operated, value, value_nodes};
+use crate::value::{load_count, operated, value, value_nodes};
 use affc_ast::tree::{ArrayId, Compare, Instance, Ix, Local, Op, Rel, Stmt, Val};
 
 /// A run: the values of the visible names, the assignment that was begun last, the arrays, and how many
@@ -264,9 +264,10 @@ impl Machine {
         Ok(())
     }
 
+    /// The statements one after another, from the numbers of the next node and the next assignment on.
     #[tactic(auto, using(crate::proofs::Execs::exec_steps))]
     #[cycle(exec)]
-    fn exec_all(&mut self, body: &[Stmt], node: u32, statement: u32) -> Result<(), Halt>
+    pub fn exec_all(&mut self, body: &[Stmt], node: u32, statement: u32) -> Result<(), Halt>
         requires nodes { node + nodes_among (map exec_of body.now) < 2 ^ 32 }
         requires assigns { statement + assigns_among (map exec_of body.now) < 2 ^ 32 }
         requires within { all_within (map exec_of body.now) (length self.old.memory.extents) ≡ true }

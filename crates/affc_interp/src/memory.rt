@@ -1,15 +1,16 @@
-ghost use Rattle.std.specs.Prelude.{◌≡◌, ◌+◌, ◌^◌, ◌<◌, ℤ, List, [], Some, None, Ok, get_or, slice_set, slice_get, sum_by, length, pos, ◌≤ℤ◌, ◌<ℤ◌, int_le, int_lt, ◌&&◌, if◌then◌else◌, ◌++◌, ◌∷◌, IfOk, IfSome, OnOk};
+ghost use Rattle.std.specs.Prelude.{◌≡◌, ◌+◌, ◌^◌, ◌<◌, ℤ, List, [], Some, None, Ok, get_or, slice_set, slice_get, drop, sum_by, length, pos, ◌≤ℤ◌, ◌<ℤ◌, int_le, int_lt, ◌&&◌, if◌then◌else◌, ◌++◌, ◌∷◌, IfOk, IfSome, OnOk};
 ghost use Rattle.affc_ast.specs.Index.{nodes_of_ix, index_values};
-ghost use Rattle.affc_ast.specs.Meaning.{at_least_zero};
+ghost use Rattle.affc_ast.specs.Meaning.{at_least_zero, extents_of, all_extents, arrays_of, nodes_of_decls};
 ghost use Rattle.affc_ast.specs.Store.{at, with_value};
 ghost use Rattle.affc_interp.specs.Layout.{place_step, place_from, place_of, cell_at, extents_in, size_of, subscripts_of, given_cells, given_to, AreLengths, AreWhole};
 ghost use Rattle.affc_ast.specs.Values.{load, touch};
 ghost use Rattle.affc_ast.specs.declared.tree.Instance.{Instance};
+ghost use Rattle.affc_interp.specs.Arrays.{AreExtents, Declared, AllDeclared, values_in};
 ghost use Rattle.affc_interp.specs.Seen.{as_reading, read_then, as_value, loaded, scope_at, Reaches};
 
-use crate::fault::Fault;
-use crate::index::{eval, node_count};
-use affc_ast::tree::{ArrayId, Instance, Ix};
+use crate::fault::{Fault, Halt};
+use crate::index::{eval, node_count, node_sum};
+use affc_ast::tree::{ArrayId, Decl, Instance, Ix, Param};
 use std::alloc::{AllocError, Global};
 use std::marker::Model;
 
@@ -254,5 +255,87 @@ impl Memory {
         let cells = filled(alloc, size, values)?;
         self.buffers.push(Buffer { extents, cells })?;
         Ok(())
+    }
+}
+
+// The extents of an array, read up to the first that is below 1.
+fn extents_from(alloc: Global, array: u32, es: &[Ix], node: u32, names: &[i64]) -> Result<Vec<i64>, Halt>
+    requires { node + sum_by nodes_of_ix es.now < 2 ^ 32 }
+    ensures { AreExtents result (extents_of array es.now node names.now) }
+{
+    match es {
+        [] => Ok(Vec::new(alloc)),
+        [e, rest @ ..] => {
+            let n = eval(e, node, names)?;
+            if n < 1 {
+                return Err(Halt::Fault(Fault::Extent(array)));
+            }
+            let mut ns = extents_from(alloc, array, rest, node + node_count(e), names)?;
+            ns.insert(0, n)?;
+            Ok(ns)
+        }
+    }
+}
+
+fn first_values(arrays: &[Vec<u64>]) -> &[u64]
+    ensures { result.now ≡ get_or (values_in arrays.now) 0 [] }
+{
+    match arrays {
+        [] => &[],
+        [values, ..] => values.as_slice(),
+    }
+}
+
+fn other_values(arrays: &[Vec<u64>]) -> &[Vec<u64>]
+    ensures { values_in result.now ≡ drop 1 (values_in arrays.now) }
+{
+    match arrays {
+        [] => arrays,
+        [_, others @ ..] => others,
+    }
+}
+
+impl Memory {
+    // One array more, whose first elements have these values.
+    fn declare(&mut self, alloc: Global, array: u32, extents: &[Ix], node: u32, names: &[i64], values: &[u64]) -> Result<(), Halt>
+        requires { node + sum_by nodes_of_ix extents.now < 2 ^ 32 }
+        ensures { Declared result self.old self.new values.now (extents_of array extents.now node names.now) }
+    {
+        let ns = extents_from(alloc, array, extents, node, names)?;
+        self.add(alloc, ns, values)?;
+        Ok(())
+    }
+
+    /// The array parameters, from this number on, with the values of each.
+    pub fn declare_params(&mut self, alloc: Global, array: u32, params: &[Param], node: u32, names: &[i64], arrays: &[Vec<u64>]) -> Result<(), Halt>
+        requires nodes { node + nodes_of_decls (arrays_of params.now) < 2 ^ 32 }
+        requires arrays { array + length (arrays_of params.now) < 2 ^ 32 }
+        ensures { AllDeclared result self.old self.new (values_in arrays.now) (all_extents array (arrays_of params.now) node names.now) }
+    {
+        match params {
+            [] => Ok(()),
+            [Param::Number { .. }, rest @ ..] => self.declare_params(alloc, array, rest, node, names, arrays),
+            [Param::Array(d), rest @ ..] => {
+                let extents = d.extents.as_slice();
+                self.declare(alloc, array, extents, node, names, first_values(arrays))?;
+                self.declare_params(alloc, array + 1, rest, node + node_sum(extents), names, other_values(arrays))
+            }
+        }
+    }
+
+    /// Arrays without values.
+    pub fn declare_temps(&mut self, alloc: Global, array: u32, temps: &[Decl], node: u32, names: &[i64]) -> Result<(), Halt>
+        requires nodes { node + nodes_of_decls temps.now < 2 ^ 32 }
+        requires arrays { array + length temps.now < 2 ^ 32 }
+        ensures { AllDeclared result self.old self.new [] (all_extents array temps.now node names.now) }
+    {
+        match temps {
+            [] => Ok(()),
+            [d, rest @ ..] => {
+                let extents = d.extents.as_slice();
+                self.declare(alloc, array, extents, node, names, &[])?;
+                self.declare_temps(alloc, array + 1, rest, node + node_sum(extents), names)
+            }
+        }
     }
 }

@@ -4,20 +4,9 @@ ghost use Rattle.affc_ast.specs.Values.{value_of, operate, complement, shifted, 
 ghost use Rattle.affc_interp.specs.Seen.{as_value, sight_at};
 
 use crate::fault::Fault;
-use crate::index::{eval, node_count};
+use crate::index::{eval, node_count, node_sum};
 use crate::memory::Memory;
 use affc_ast::tree::{ArrayId, Instance, Ix, Op, Val};
-
-/// How many nodes the expressions have.
-pub fn node_sum(es: &[Ix]) -> u32
-    requires { sum_by nodes_of_ix es.now < 2 ^ 32 }
-    ensures { result ≡ sum_by nodes_of_ix es.now }
-{
-    match es {
-        [] => 0,
-        [e, rest @ ..] => node_count(e) + node_sum(rest),
-    }
-}
 
 /// How many nodes the value has.
 #[tactic(auto, using(affc_ast::proofs::Outs::val_outs))]
