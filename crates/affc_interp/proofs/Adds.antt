@@ -1,8 +1,7 @@
 -- What the arrays hold once one more is there.
-use Rattle.std.proofs.Common.{◌≡◌, ℕ, zero, suc, ◌+◌, ◌<◌, ℤ, List, [], ◌∷◌, ◌++◌, length, map, get_or, Option, Some, None, refl, sym, ap, subst, ◌∙◌, arith, append_assoc}
+use Rattle.std.proofs.Common.{◌≡◌, ℕ, zero, suc, ◌+◌, ℤ, List, [], ◌∷◌, ◌++◌, length, map, Option, Some, None, refl, sym, ap, ◌∙◌, arith, append_assoc}
 use Rattle.std.specs.Prelude.{slice_get}
-use Rattle.std.proofs.lemmas.List.{length-map}
-use Rattle.affc_ast.specs.Store.{Element, Store}
+use Rattle.affc_ast.specs.Store.{Element}
 use Rattle.affc_interp.specs.declared.memory.Buffer.{Buffer}
 use Rattle.affc_interp.specs.Layout.{size_of, subscripts_of, elements_of, extents_in, cells_in, with_cells, store_of, given_cells, given_to, AreLengths, AreWhole, Held, held_in}
 use Rattle.affc_interp.proofs.Places.{length_subscripts}
@@ -72,8 +71,8 @@ store_push bs b vs w e =
     (λ i. with_cells ((ap (elements_of 0) (extents_push bs b) ∙ elements_push 0 (extents_in bs) ns) i) (cells_push bs b i))
     ∙ both_stores (elements_of 0 (extents_in bs)) (map (λ xs. (0 + a, xs)) (subscripts_of ns)) (cells_in bs) b.cells.items (as_many 0 bs w)
     ∙ (let z : 0 + a ≡ a = omega arith in
-       let cs : b.cells.items ≡ given_cells (length (subscripts_of ns)) vs = e ∙ ap (λ n. given_cells n vs) (sym (length_subscripts ns)) in
-       λ i. store_of bs ++ with_cells (map (λ xs. (z i, xs)) (subscripts_of ns)) (cs i))
+    let cs : b.cells.items ≡ given_cells (length (subscripts_of ns)) vs = e ∙ ap (λ n. given_cells n vs) (sym (length_subscripts ns)) in
+    λ i. store_of bs ++ with_cells (map (λ xs. (z i, xs)) (subscripts_of ns)) (cs i))
     ∙ ap (λ l. store_of bs ++ l) (given_is a (subscripts_of ns) vs)
 
 pub store_added : (bs : List Buffer) (b : Buffer) (vs : List ℕ) (seen : Held) → held_in bs ≡ seen → AreWhole bs → b.cells.items ≡ given_cells (size_of b.extents.items) vs

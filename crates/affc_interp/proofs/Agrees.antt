@@ -1,19 +1,18 @@
 -- A run with so many steps is the meaning, cut where the steps are used up.
-use Rattle.std.proofs.Common.{◌≡◌, ℕ, zero, suc, ◌+◌, ◌<◌, ◌≤◌, ℤ, pos, ◌+ℤ◌, Bool, true, false, if◌then◌else◌, List, [], ◌∷◌, ◌++◌, map, Option, Result, Ok, Err, refl, sym, ap, subst, ◌∙◌, arith}
+use Rattle.std.proofs.Common.{◌≡◌, ℕ, zero, suc, ◌+◌, ◌<◌, ◌≤◌, ℤ, pos, ◌+ℤ◌, Bool, true, false, if◌then◌else◌, List, [], ◌∷◌, map, Result, Ok, Err, refl, sym, ap, ◌∙◌, arith}
 use Rattle.std.specs.Prelude.{nat_lt, nat_le, sum_by}
 use Rattle.std.proofs.lemmas.List.Sums.{sum_by-cons}
 use borrow.Author.Tests.{ltb-true, ltb-false, leb-true, leb-false, le-leb, lt-leb}
 use Rattle.affc_ast.specs.declared.tree.Stmt.{Stmt}
 use Rattle.affc_ast.specs.declared.tree.Stmt.TheVariants as s
 use Rattle.affc_ast.specs.declared.tree.Stmt.TheBlock.{Row_of-Stmt, more_of-Stmt, end_of-Stmt}
-use Rattle.affc_ast.specs.declared.tree.Instance.{Instance}
 use Rattle.affc_ast.specs.Cause.{Cause}
 use Rattle.affc_ast.specs.Index.{index_value, in_int64, nodes_of_ix, nodes_of_compare, conditions}
 use Rattle.affc_ast.specs.Meaning.{State, Outcome, Ended, Stuck, then_do, reading, begun, write, Position, Part, nodes_in, assigns_in, past, inside, in_order, with_iterator, turns_of, turns, assigned, with_locals, nodes_of_locals, stmt_step, part_of}
-use Rattle.affc_ast.specs.Recursion.{by_stmt, by_each}
+use Rattle.affc_ast.specs.Recursion.{by_each}
 use Rattle.affc_ast.specs.Store.{Element, Store, with_value}
-use Rattle.affc_ast.specs.Values.{Scope, value_of}
-use Rattle.affc_interp.specs.Budget.{Stop, StuckBy, OutOfSteps, Run, after, stuck_or, step, Exec, beyond, all_of, turns_within, exec_step, exec_of}
+use Rattle.affc_ast.specs.Values.{Scope}
+use Rattle.affc_interp.specs.Budget.{StuckBy, OutOfSteps, Run, after, stuck_or, step, Exec, beyond, all_of, turns_within, exec_step, exec_of}
 use Rattle.affc_interp.specs.Runs.{steps_of, within_limit}
 
 -- ---- Outcomes
@@ -100,7 +99,7 @@ turns_grow node zero x body grows s = omega arith
 turns_grow node (suc count) x body grows s =
     let b = grows x (begun s) in
     grown (body x (begun s)) (λ t. reading (in_int64 node (x +ℤ pos 1)) t (λ next. turns node count next body t)) s.steps (omega arith)
-      (λ t. read_grows (in_int64 node (x +ℤ pos 1)) t (λ next. turns node count next body t) (λ next. turns_grow node count next body grows t))
+    (λ t. read_grows (in_int64 node (x +ℤ pos 1)) t (λ next. turns node count next body t) (λ next. turns_grow node count next body grows t))
 
 turns_same : (limit node count : ℕ) (x : ℤ) (body : ℤ → State → Outcome) (within : ℤ → Store → ℕ → Run) → ((y : ℤ) (s : State) → s.steps ≤ steps_of (body y s))
     → ((y : ℤ) (s : State) → s.steps ≤ limit → within_limit limit (body y s) ≡ within y s.store s.steps) → (s : State) → s.steps ≤ limit
@@ -110,10 +109,10 @@ turns_same limit node (suc count) x body within grows same s le =
     let rest : State → Outcome = λ t. reading (in_int64 node (x +ℤ pos 1)) t (λ next. turns node count next body t) in
     let rest_grows : (t : State) → t.steps ≤ steps_of (rest t) = λ t. read_grows (in_int64 node (x +ℤ pos 1)) t (λ next. turns node count next body t) (λ next. turns_grow node count next body grows t) in
     step_same limit s.steps (then_do (body x (begun s)) rest) (λ n. after (within x s.store n) (λ left m. stuck_or (in_int64 node (x +ℤ pos 1)) (λ next. turns_within limit node count next within left m))) (grown (body x (begun s)) rest (s.steps + 1) (grows x (begun s)) rest_grows)
-      (λ le'.
-        then_same limit (body x (begun s)) rest (λ left m. stuck_or (in_int64 node (x +ℤ pos 1)) (λ next. turns_within limit node count next within left m)) rest_grows
-          (λ t h. read_same limit (in_int64 node (x +ℤ pos 1)) t (λ next. turns node count next body t) (λ next. turns_within limit node count next within t.store t.steps) h (λ next. turns_same limit node count next body within grows same t h))
-        ∙ ap (λ r. after r (λ left m. stuck_or (in_int64 node (x +ℤ pos 1)) (λ next. turns_within limit node count next within left m))) (same x (begun s) le'))
+    (λ le'.
+    then_same limit (body x (begun s)) rest (λ left m. stuck_or (in_int64 node (x +ℤ pos 1)) (λ next. turns_within limit node count next within left m)) rest_grows
+    (λ t h. read_same limit (in_int64 node (x +ℤ pos 1)) t (λ next. turns node count next body t) (λ next. turns_within limit node count next within t.store t.steps) h (λ next. turns_same limit node count next body within grows same t h))
+    ∙ ap (λ r. after r (λ left m. stuck_or (in_int64 node (x +ℤ pos 1)) (λ next. turns_within limit node count next within left m))) (same x (begun s) le'))
 
 -- ---- Statements
 
@@ -137,8 +136,8 @@ assign_same : (limit : ℕ) (r : Result (Element × ℕ) Cause) (state : State)
     → within_limit limit (reading r (begun state) (λ stored. Ended (write stored.0 stored.1 (begun state)))) ≡ step limit state.steps (λ n. stuck_or r (λ stored. Ok (with_value state.store stored.0 stored.1, n)))
 assign_same limit r state =
     step_same limit state.steps (reading r (begun state) (λ stored. Ended (write stored.0 stored.1 (begun state)))) (λ n. stuck_or r (λ stored. Ok (with_value state.store stored.0 stored.1, n))) (assign_more r state)
-      (λ le. read_same limit r (begun state) (λ stored. Ended (write stored.0 stored.1 (begun state))) (λ stored. Ok (with_value state.store stored.0 stored.1, state.steps + 1)) le
-        (λ x. ap (λ (t : Bool). if t then Ok (with_value state.store x.0 x.1, state.steps + 1) else Err OutOfSteps) (le-leb (state.steps + 1) limit le)))
+    (λ le. read_same limit r (begun state) (λ stored. Ended (write stored.0 stored.1 (begun state))) (λ stored. Ok (with_value state.store stored.0 stored.1, state.steps + 1)) le
+    (λ x. ap (λ (t : Bool). if t then Ok (with_value state.store x.0 x.1, state.steps + 1) else Err OutOfSteps) (le-leb (state.steps + 1) limit le)))
 
 mutual
   pub agrees : (stmt : Stmt) → Agrees (part_of stmt) (exec_of stmt)
@@ -158,7 +157,7 @@ mutual
             read_same limit (index_value low (here.node + 1) scope.names) state _ _ le (λ first.
             read_same limit (index_value high (here.node + 1 + nodes_of_ix low) scope.names) state _ _ le (λ last.
             turns_same limit here.node (turns_of rel first last) first (λ x. in_order ps (inside here head) (with_iterator scope x)) (λ x. all_of limit qs (inside here head) (with_iterator scope x))
-              (λ y s. all_grow ps qs h (inside here head) (with_iterator scope y) s) (λ y s l. all_same ps qs h limit (inside here head) (with_iterator scope y) s l) state le));
+            (λ y s. all_grow ps qs h (inside here head) (with_iterator scope y) s) (λ y s l. all_same ps qs h limit (inside here head) (with_iterator scope y) s l) state le));
       }
   agrees (s.If' conds shape body) =
       let ps : List Part = by_each stmt_step body in
@@ -172,11 +171,11 @@ mutual
         same = λ limit here scope state le. read_same limit (conditions conds (here.node + 1) scope.names) state _ _ le (λ t. chosen_same limit t state (in_order ps (inside here head) scope state) _ le (all_same ps qs h limit (inside here head) scope state le));
       }
   agrees (s.Assign op array subs value) = record {
-        nodes = refl;
-        assigns = refl;
-        grows = λ here scope state. assign_grows (assigned op array subs value here.node scope state.store (record { statement = here.statement; iterators = scope.iterators })) state;
-        same = λ limit here scope state le. assign_same limit (assigned op array subs value here.node scope state.store (record { statement = here.statement; iterators = scope.iterators })) state;
-      }
+    nodes = refl;
+    assigns = refl;
+    grows = λ here scope state. assign_grows (assigned op array subs value here.node scope state.store (record { statement = here.statement; iterators = scope.iterators })) state;
+    same = λ limit here scope state le. assign_same limit (assigned op array subs value here.node scope state.store (record { statement = here.statement; iterators = scope.iterators })) state;
+  }
   agrees (s.Block' locals shape body) =
       let ps : List Part = by_each stmt_step body in
       let qs : List Exec = by_each exec_step body in

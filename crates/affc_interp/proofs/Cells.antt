@@ -1,12 +1,12 @@
 -- Values of elements that stand in their order, as a store.
-use Rattle.std.proofs.Common.{◌≡◌, ◌≢◌, ℕ, zero, suc, ◌+◌, ◌<◌, ◌≤◌, Bool, true, false, cond, List, [], ◌∷◌, ◌++◌, length, get_or, set, map, Option, Some, None, Ordering, refl, sym, ap, ◌∙◌, arith}
+use Rattle.std.proofs.Common.{◌≡◌, ℕ, zero, suc, ◌<◌, cond, List, [], ◌∷◌, ◌++◌, length, get_or, set, map, Option, Some, None, Ordering, refl, ap, ◌∙◌, arith}
 use Rattle.std.specs.declared.cmp.Ordering.TheVariants.{Less, Equal, Greater}
-use Rattle.std.specs.Cmp.{IsTotalOrder, tied_itself}
+use Rattle.std.specs.Cmp.{tied_itself}
 use Rattle.std.specs.FinMap.Entries.{find, put, by_order}
 use Rattle.std.specs.Ordering.{is_eq, ordering_reverse}
-use Rattle.affc_ast.specs.Store.{Element, Store, element_cmp, at, with_value}
+use Rattle.affc_ast.specs.Store.{Element, element_cmp}
 use Rattle.affc_ast.proofs.Stores.{element_cmp_total}
-use Rattle.affc_interp.specs.Layout.{entry, with_cells}
+use Rattle.affc_interp.specs.Layout.{with_cells}
 
 module _ {A : Type 0} (R : A → A → Ordering) where
   abbrev pub IsBefore : A → List A → Type 0

@@ -1,5 +1,5 @@
 -- Arrays declared one after another.
-use Rattle.std.proofs.Common.{◌≡◌, ℕ, suc, ◌+◌, ℤ, List, [], ◌∷◌, ◌++◌, length, get_or, drop, Result, Ok, Err, refl, sym, ap, subst, ◌∙◌, arith, append_assoc, length-append}
+use Rattle.std.proofs.Common.{◌≡◌, ℕ, suc, ◌+◌, ℤ, List, [], ◌∷◌, ◌++◌, length, get_or, drop, Result, Ok, Err, sym, ap, subst, ◌∙◌, arith, append_assoc, length-append}
 use Rattle.std.specs.Prelude.{sum_by}
 use Rattle.affc_ast.specs.declared.tree.Decl.{Decl}
 use Rattle.affc_ast.specs.Cause.{Cause, ◌>>=◌}
@@ -41,9 +41,10 @@ module _ (d : Decl) (ds : List Decl) (a node : ℕ) (names : List ℤ) where
   declared_both (Ok u) old mid new vss m em one more =
       let ns : List ℤ = one.0 in
       let es : List (List ℤ) = more.0 in
-      let long : length mid.extents ≡ suc (length old.extents) = ap length one.2 ∙ length-append old.extents (ns ∷ []) ∙ plus_one (length old.extents) in
-      (ns ∷ es,
-       both_read ns es one.1 (ap (λ n. all_extents (a + 1) ds n names) (sym em) ∙ more.1),
-       more.2 ∙ ap (λ l. l ++ es) one.2 ∙ append_assoc old.extents (ns ∷ []) es,
-       more.3 ∙ (λ i. one.3 i ++ start_of (long i) es (drop 1 vss)) ∙ append_assoc old.store (given_to (length old.extents) (subscripts_of ns) (get_or vss 0 [])) (start_of (suc (length old.extents)) es (drop 1 vss)))
+      let long : length mid.extents ≡ suc (length old.extents) = ap length one.2 ∙ length-append old.extents (ns ∷ []) ∙ plus_one (length old.extents) in (
+        ns ∷ es,
+        both_read ns es one.1 (ap (λ n. all_extents (a + 1) ds n names) (sym em) ∙ more.1),
+        more.2 ∙ ap (λ l. l ++ es) one.2 ∙ append_assoc old.extents (ns ∷ []) es,
+        more.3 ∙ (λ i. one.3 i ++ start_of (long i) es (drop 1 vss)) ∙ append_assoc old.store (given_to (length old.extents) (subscripts_of ns) (get_or vss 0 [])) (start_of (suc (length old.extents)) es (drop 1 vss)),
+      )
   declared_both (Err h) old mid new vss m em one more = later_stops h one.0 one.1 (subst (λ (n : ℕ). StopsAs h (all_extents (a + 1) ds n names)) em more)

@@ -1,12 +1,12 @@
 -- What a load gives, by the cell of its element.
-use Rattle.std.proofs.Common.{◌≡◌, ℕ, zero, suc, ◌+◌, ◌*◌, ◌<◌, ◌≤◌, ℤ, pos, Bool, true, false, if◌then◌else◌, List, [], ◌∷◌, length, get_or, map, Option, Some, None, Result, Ok, Err, refl, sym, ap, subst, ◌∙◌, arith, ◌⊎◌, inl, inr}
+use Rattle.std.proofs.Common.{◌≡◌, ℕ, zero, suc, ◌+◌, ◌*◌, ◌<◌, ◌≤◌, ℤ, Bool, true, false, if◌then◌else◌, List, [], ◌∷◌, length, get_or, Option, Some, None, Result, Ok, Err, refl, sym, ap, subst, ◌∙◌, arith, ◌⊎◌, inl, inr}
 use Rattle.std.specs.Prelude.{nat_lt, MatchOption}
 use borrow.Author.Tests.{ltb-true, ltb-false}
 use Rattle.std.proofs.lemmas.List.{length-map, get_or_past}
 use Rattle.affc_ast.specs.declared.tree.ArrayId.{ArrayId}
 use Rattle.affc_ast.specs.declared.tree.Instance.{Instance}
 use Rattle.affc_ast.specs.Cause.{Cause, OutOfBounds, ◌>>=◌}
-use Rattle.affc_ast.specs.Store.{Element, Store, at}
+use Rattle.affc_ast.specs.Store.{Element, at}
 use Rattle.affc_ast.specs.Values.{is_within, held, load, touch}
 use Rattle.affc_interp.specs.declared.memory.Buffer.{Buffer}
 use Rattle.affc_interp.specs.Layout.{size_of, place_of, extents_in, store_of, Held, held_in, cell_at, AreLengths, AreWhole}

@@ -1,11 +1,11 @@
 -- The turns of a loop, one at a time.
-use Rattle.std.proofs.Common.{◌≡◌, ℕ, zero, suc, ◌+◌, ◌-◌, ◌<◌, ℤ, pos, ◌+ℤ◌, Bool, true, false, if◌then◌else◌, List, Result, Ok, Err, refl, sym, ap, subst, ◌∙◌, arith}
+use Rattle.std.proofs.Common.{◌≡◌, ℕ, suc, ◌+◌, ◌-◌, ◌<◌, ℤ, pos, ◌+ℤ◌, Bool, true, false, if◌then◌else◌, Result, Ok, Err, refl, ap, ◌∙◌, arith}
 use Rattle.std.specs.Prelude.{nat_lt}
 use Rattle.std.proofs.lemmas.Int.{ints}
 use Rattle.affc_ast.specs.Cause.{Cause, Overflow}
 use Rattle.affc_ast.specs.Index.{in_int64, is_int64}
 use Rattle.affc_ast.specs.Store.{Store}
-use Rattle.affc_interp.specs.Budget.{Run, Stop, StuckBy, OutOfSteps, after, stuck_or, step, once, turns_within}
+use Rattle.affc_interp.specs.Budget.{Run, OutOfSteps, after, stuck_or, once, turns_within}
 
 -- a number that was read is one of int64_t
 pub read_so : (node : ℕ) (z y : ℤ) → ◌≡◌ {A = Result ℤ Cause} (Ok y) (in_int64 node z) → (is_int64 z ≡ true) × (y ≡ z)

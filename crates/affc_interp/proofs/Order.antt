@@ -1,17 +1,17 @@
 -- The elements of all arrays stand in the order of a store.
-use Rattle.std.proofs.Common.{◌≡◌, ℕ, zero, suc, ◌+◌, ◌*◌, ◌<◌, ◌≤◌, ℤ, pos, negsuc, Bool, true, false, cond, List, [], ◌∷◌, ◌++◌, length, get_or, set, map, Option, Some, None, Ordering, refl, sym, ap, subst, ◌∙◌, arith, length-append}
+use Rattle.std.proofs.Common.{◌≡◌, ℕ, zero, suc, ◌+◌, ◌<◌, ◌≤◌, ℤ, pos, true, cond, List, [], ◌∷◌, ◌++◌, length, get_or, map, Option, Some, None, Ordering, refl, sym, ap, ◌∙◌, arith, length-append}
 use Rattle.std.proofs.lemmas.Bool.Decides.{nat_tests}
 use Rattle.std.proofs.lemmas.List.{length-map}
 use Rattle.std.specs.Cmp.{tied_itself, nat_cmp_total, int_cmp_total}
 use Rattle.std.specs.Cmp.Lexicographic.{slice_cmp}
-use Rattle.std.specs.declared.cmp.Ordering.TheVariants.{Less, Equal, Greater}
+use Rattle.std.specs.declared.cmp.Ordering.TheVariants.{Less, Greater}
 use Rattle.std.specs.FinMap.Entries.{find}
 use Rattle.std.specs.Ordering.{is_eq, nat_cmp, int_cmp, ordering_then}
 use Rattle.affc_ast.specs.Meaning.{at_least_zero}
-use Rattle.affc_ast.specs.Store.{Element, Store, element_cmp, at, with_value}
+use Rattle.affc_ast.specs.Store.{Element, element_cmp, at}
 use Rattle.affc_ast.specs.Values.{is_within}
 use Rattle.affc_interp.specs.declared.memory.Buffer.{Buffer}
-use Rattle.affc_interp.specs.Layout.{size_of, behind_each, subscripts_of, elements_of, extents_in, cells_in, store_of, with_cells, entry, AreWhole}
+use Rattle.affc_interp.specs.Layout.{size_of, behind_each, subscripts_of, elements_of, extents_in, cells_in, store_of, with_cells, AreWhole}
 use Rattle.affc_interp.proofs.Cells.{IsBefore, AreInOrder, AreBefore, before_both, in_order_both, in_order_map, find_cell}
 use Rattle.affc_interp.proofs.Places.{row, row_below, subscripts_at, length_subscripts, base, elements_at, cells_at, cell_lists}
 
@@ -71,7 +71,7 @@ pub elements_in_order : (i : ℕ) (extents : List (List ℤ)) → AreInOrder ele
 elements_in_order i [] = tt
 elements_in_order i (ns ∷ rest) =
     in_order_both element_cmp (map (λ xs. (i, xs)) (subscripts_of ns)) (elements_of (suc i) rest)
-      (in_order_map lists element_cmp (λ xs. (i, xs)) (same_array i) (subscripts_of ns) (subscripts_in_order ns)) (elements_in_order (suc i) rest) (array_before i (subscripts_of ns) rest)
+    (in_order_map lists element_cmp (λ xs. (i, xs)) (same_array i) (subscripts_of ns) (subscripts_in_order ns)) (elements_in_order (suc i) rest) (array_before i (subscripts_of ns) rest)
 
 -- ---- Cells
 

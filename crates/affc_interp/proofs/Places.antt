@@ -1,15 +1,15 @@
 -- Where the cell of an element lies.
-use Rattle.std.proofs.Common.{◌≡◌, ℕ, zero, suc, ◌+◌, ◌*◌, ◌-◌, ◌<◌, ◌≤◌, ℤ, pos, negsuc, Bool, true, false, cond, ◌&&◌, if◌then◌else◌, int_le, int_lt, List, [], ◌∷◌, ◌++◌, length, get_or, set, map, Option, Some, None, Ordering, refl, sym, ap, subst, ◌∙◌, arith, length-append}
-use Rattle.std.specs.Prelude.{nat_lt, ◌<ℤ◌}
+use Rattle.std.proofs.Common.{◌≡◌, ℕ, zero, suc, ◌+◌, ◌*◌, ◌<◌, ◌≤◌, ℤ, pos, negsuc, Bool, true, false, ◌&&◌, if◌then◌else◌, int_le, List, [], ◌∷◌, ◌++◌, length, get_or, map, Option, Some, None, refl, sym, ap, subst, ◌∙◌, arith, length-append}
+use Rattle.std.specs.Prelude.{nat_lt}
 use Rattle.std.proofs.lemmas.Bool.Decides.{nat_tests}
 use borrow.Author.Tests.{ltb-true, lt-ltb}
-use Rattle.std.proofs.lemmas.List.{length-map, get_or_append_left, get_or-append-add, get_or-map, get_or_default}
+use Rattle.std.proofs.lemmas.List.{length-map, get_or_append_left, get_or-append-add, get_or-map}
 use Rattle.std.proofs.Math.Nat.{mul-le-mul_left}
 use Rattle.affc_ast.specs.Meaning.{at_least_zero}
 use Rattle.affc_ast.specs.Values.{is_within}
 use Rattle.affc_ast.specs.Store.{Element}
 use Rattle.affc_interp.specs.declared.memory.Buffer.{Buffer}
-use Rattle.affc_interp.specs.Layout.{size_of, behind_each, subscripts_of, place_step, place_from, AreLengths, AreWhole, elements_of, extents_in, cells_in}
+use Rattle.affc_interp.specs.Layout.{size_of, behind_each, subscripts_of, place_from, AreLengths, AreWhole, elements_of, extents_in, cells_in}
 
 -- ---- Sizes
 

@@ -1,5 +1,5 @@
 -- A run within a number of steps, by what its machine does.
-use Rattle.std.proofs.Common.{◌≡◌, ℕ, suc, ◌+◌, ℤ, List, [], ◌∷◌, ◌++◌, length, length-append, map, Option, Result, Ok, Err, refl, sym, ap, subst, ◌∙◌, arith}
+use Rattle.std.proofs.Common.{◌≡◌, ℕ, suc, ◌+◌, ℤ, List, [], ◌∷◌, ◌++◌, length, length-append, map, Option, Ok, Err, refl, sym, ap, subst, ◌∙◌, arith}
 use Rattle.std.specs.Prelude.{MatchOption, sum_by}
 use Rattle.affc_ast.specs.declared.tree.Decl.{Decl}
 use Rattle.affc_ast.specs.declared.tree.Param.{Param}
@@ -16,7 +16,6 @@ use Rattle.affc_interp.specs.declared.run.RunFault.{RunFault}
 use Rattle.affc_ast.specs.declared.tree.Program.{Program}
 use Rattle.affc_ast.specs.Meaning.{State, arrays_of, extents_of, all_extents, part_of, meaning}
 use Rattle.affc_ast.specs.Store.{Store}
-use Rattle.affc_ast.specs.Values.{Scope}
 use Rattle.affc_interp.specs.Budget.{Run, Stop, stuck_or, all_of, exec_of}
 use Rattle.affc_interp.specs.Machines.{Finishes, Halts, scope_of, position}
 use Rattle.affc_interp.specs.Runs.{within_limit, start, start_in, array_count, temps_node, body_node}
@@ -52,7 +51,7 @@ module _ (limit : ℕ) (program : Program) (p : List ℤ) (values : List (List �
       ∙ ap (λ r. stuck_or r (λ given. stuck_or (all_extents (length (arrays_of program.params)) program.temps (temps_node program) p) (λ own. body_run given own))) b.2
       ∙ ap (λ r. stuck_or r (λ own. body_run b.0 own)) b.3
       ∙ (let st : start program p values ≡ m.memory.store = ap (λ r. start_in r values) b.2 ∙ sym b.5 in
-         λ i. all_of (sym b.7 i) (map exec_of program.body) (position (sym b.8 i) 0) (sym b.4 i) (st i) (sym b.6 i))
+      λ i. all_of (sym b.7 i) (map exec_of program.body) (position (sym b.8 i) 0) (sym b.4 i) (st i) (sym b.6 i))
 
   sliced : (m : Machine) (node : ℕ) (slice : List Stmt) → slice ≡ program.body → Begins (Ok (m, node)) program p values limit → outcome ≡ all_of m.limit (map exec_of slice) (position node 0) (scope_of m) m.memory.store m.steps
   sliced m node slice e b = from_machine m node b ∙ ap (λ l. all_of m.limit (map exec_of l) (position node 0) (scope_of m) m.memory.store m.steps) (sym e)
@@ -115,12 +114,13 @@ pub begins_ok : (program : Program) (p : List ℤ) (values : List (List ℕ)) (l
     → AllDeclared (Ok tt) m0 m1 arrays (all_extents 0 (arrays_of params) 0 n1) → AllDeclared (Ok tt) m1 m2 [] (all_extents a temps t n2)
     → scope_of m ≡ record { names = p; iterators = []; extents = m2.extents } → m.memory.store ≡ m2.store → m.steps ≡ 0 → m.limit ≡ limit → Begins (Ok (m, node)) program p values limit
 begins_ok program p values limit params temps n1 n2 arrays a t node m0 m1 m2 m ep et en1 en2 ev ea ett en e0 d1 d2 scope store steps lim = (
-    d1.0,
-    d2.0,
-    (λ i. all_extents 0 (arrays_of (sym ep i)) 0 (sym en1 i)) ∙ d1.1,
-    (λ i. all_extents (sym (ea ∙ ap (λ l. length (arrays_of l)) ep) i) (sym et i) (sym ett i) (sym en2 i)) ∙ d2.1,
-    scope ∙ ap (λ e. record { names = p; iterators = []; extents = e }) (d2.2 ∙ ap (λ l. l ++ d2.0) (d1.2 ∙ ap (λ h. h.extents ++ d1.0) e0)),
-    store ∙ d2.3 ∙ ap (λ l. m1.store ++ l) (nothing_started (length m1.extents) d2.0) ∙ nothing_more m1.store ∙ d1.3 ∙ ap (λ h. h.store ++ start_of (length h.extents) d1.0 arrays) e0 ∙ ap (λ v. start_of 0 d1.0 v) ev,
-    steps,
-    lim,
-    en)
+  d1.0,
+  d2.0,
+  (λ i. all_extents 0 (arrays_of (sym ep i)) 0 (sym en1 i)) ∙ d1.1,
+  (λ i. all_extents (sym (ea ∙ ap (λ l. length (arrays_of l)) ep) i) (sym et i) (sym ett i) (sym en2 i)) ∙ d2.1,
+  scope ∙ ap (λ e. record { names = p; iterators = []; extents = e }) (d2.2 ∙ ap (λ l. l ++ d2.0) (d1.2 ∙ ap (λ h. h.extents ++ d1.0) e0)),
+  store ∙ d2.3 ∙ ap (λ l. m1.store ++ l) (nothing_started (length m1.extents) d2.0) ∙ nothing_more m1.store ∙ d1.3 ∙ ap (λ h. h.store ++ start_of (length h.extents) d1.0 arrays) e0 ∙ ap (λ v. start_of 0 d1.0 v) ev,
+  steps,
+  lim,
+  en,
+)

@@ -1,5 +1,5 @@
 -- A loop's turns, in the machine that makes them.
-use Rattle.std.proofs.Common.{◌≡◌, ℕ, ◌+◌, ◌-◌, ◌<◌, ℤ, pos, ◌+ℤ◌, true, List, length, map, Result, Ok, Err, refl, sym, ap, subst, ◌∙◌, arith}
+use Rattle.std.proofs.Common.{◌≡◌, ℕ, ◌+◌, ◌-◌, ◌<◌, ℤ, pos, ◌+ℤ◌, true, List, Ok, sym, ap, ◌∙◌}
 use Rattle.affc_ast.specs.declared.tree.Stmt.{Stmt}
 use Rattle.affc_ast.specs.Index.{is_int64}
 use Rattle.affc_ast.specs.Store.{Store}
@@ -15,7 +15,7 @@ abbrev pub GoesOn : (node inner statement count : ℕ) → ℤ → List Stmt →
 GoesOn node inner statement count first body m0 k m1 =
     (is_int64 (first +ℤ pos k) ≡ true) × (scope_of m1 ≡ scope_of m0) × (m1.limit ≡ m0.limit)
     × (turns_within m0.limit node count first (turn_of m0.limit body inner statement (scope_of m0)) m0.memory.store m0.steps
-        ≡ turns_within m0.limit node (count - k) (first +ℤ pos k) (turn_of m0.limit body inner statement (scope_of m0)) m1.memory.store m1.steps)
+    ≡ turns_within m0.limit node (count - k) (first +ℤ pos k) (turn_of m0.limit body inner statement (scope_of m0)) m1.memory.store m1.steps)
 
 module _ (node inner statement count k : ℕ) (first x : ℤ) (body : List Stmt) (m0 m1 : Machine) (less : k < count) (is : x ≡ first +ℤ pos k) (inv : GoesOn node inner statement count first body m0 k m1) where
   abbrev turned : Run
@@ -31,7 +31,8 @@ module _ (node inner statement count k : ℕ) (first x : ℤ) (body : List Stmt)
     ap is_int64 (sym (next_one first k) ∙ ap (λ z. z +ℤ pos 1) (sym is)) ∙ next,
     run.1 ∙ inv.1,
     run.2 ∙ inv.2,
-    split ∙ ap (λ r. after r (turns_within m0.limit node (count - (k + 1)) (first +ℤ pos (k + 1)) (turn_of m0.limit body inner statement (scope_of m0)))) run.0)
+    split ∙ ap (λ r. after r (turns_within m0.limit node (count - (k + 1)) (first +ℤ pos (k + 1)) (turn_of m0.limit body inner statement (scope_of m0)))) run.0,
+  )
 
   stops_too : (m2 : Machine) (h : Halt) (r t : Run) (g : Store → ℕ → Run) → t ≡ after r g → Halts m2 h r → Halts m2 h t
   stops_too m2 (halt.Fault f) r t g e q = e ∙ ap (λ s. after s g) q

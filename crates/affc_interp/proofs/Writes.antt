@@ -1,13 +1,13 @@
 -- What the arrays hold once a cell is set.
-use Rattle.std.proofs.Common.{◌≡◌, ℕ, zero, suc, ◌+◌, ◌*◌, ◌<◌, ◌≤◌, ℤ, pos, Bool, true, false, if◌then◌else◌, List, [], ◌∷◌, ◌++◌, length, get_or, set, map, ◌-◌, Option, Some, None, refl, sym, ap, subst, ◌∙◌, arith}
-use Rattle.std.proofs.lemmas.List.{length-map, length-set, map-set, set-append_left, set-append_right, get_or_default}
+use Rattle.std.proofs.Common.{◌≡◌, ℕ, zero, suc, ◌+◌, ◌<◌, ℤ, Bool, true, false, if◌then◌else◌, List, [], ◌∷◌, ◌++◌, length, get_or, set, ◌-◌, Option, Some, None, refl, sym, ap, subst, ◌∙◌, arith}
+use Rattle.std.proofs.lemmas.List.{length-map, length-set, set-append_left, set-append_right, get_or_default}
 use Rattle.std.specs.FinMap.Entries.{put}
-use Rattle.affc_ast.specs.Store.{Element, Store, element_cmp, with_value}
+use Rattle.affc_ast.specs.Store.{element_cmp, with_value}
 use Rattle.affc_ast.specs.Values.{is_within}
 use Rattle.affc_interp.specs.declared.memory.Buffer.{Buffer}
 use Rattle.affc_interp.specs.Layout.{size_of, place_of, extents_in, elements_of, cells_in, store_of, with_cells, AreLengths, AreWhole, Held, held_in}
 use Rattle.affc_interp.proofs.Cells.{put_cell}
-use Rattle.affc_interp.proofs.Places.{row, row_below, base, cell_lists}
+use Rattle.affc_interp.proofs.Places.{row, row_below, base}
 use Rattle.affc_interp.proofs.Order.{elements_in_order, as_many, base_below, element_is}
 use Rattle.affc_interp.proofs.Loads.{place_in}
 

@@ -2,10 +2,9 @@
 use Rattle.std.specs.Prelude.{◌≡◌, ℕ, ◌++◌, ℤ, List, [], length, Option, Some, None, MatchOption, Result, Ok, Err}
 use Rattle.affc_ast.specs.declared.tree.Instance.{Instance}
 use Rattle.affc_ast.specs.declared.tree.Program.{Program}
-use Rattle.affc_ast.specs.Cause.{Cause, Extent, Overflow, OutOfBounds, Unwritten}
+use Rattle.affc_ast.specs.Cause.{Extent, Overflow, OutOfBounds, Unwritten}
 use Rattle.affc_ast.specs.Meaning.{arrays_of, all_extents}
 use Rattle.affc_ast.specs.Store.{Store}
-use Rattle.affc_interp.specs.declared.fault.Fault.TheVariants as f
 use Rattle.affc_interp.specs.declared.fault.Halt.{Halt}
 use Rattle.affc_interp.specs.declared.fault.Halt.TheVariants as halt
 use Rattle.affc_interp.specs.declared.machine.Machine.{Machine}

@@ -1,7 +1,7 @@
 -- A run that takes no more than so many steps: what its parts do, for the clauses of the parts.
 --
 -- It says what the meaning says, without the list of stores, and stops where the steps are used up.
-use Rattle.std.specs.Prelude.{◌≡◌, ℕ, zero, suc, ◌+◌, ℤ, pos, ◌+ℤ◌, nat_lt, if◌then◌else◌, ◌&&◌, Bool, true, List, [], ◌∷◌, ◌++◌, Option, Result, Ok, Err, sum_by}
+use Rattle.std.specs.Prelude.{ℕ, zero, suc, ◌+◌, ℤ, pos, ◌+ℤ◌, nat_lt, if◌then◌else◌, ◌&&◌, Bool, true, List, [], ◌∷◌, Option, Result, Ok, Err, sum_by}
 use Rattle.affc_ast.specs.declared.tree.ArrayId.{ArrayId}
 use Rattle.affc_ast.specs.declared.tree.Compare.{Compare}
 use Rattle.affc_ast.specs.declared.tree.Instance.{Instance}
@@ -16,7 +16,7 @@ use Rattle.affc_ast.specs.Cause.{Cause}
 use Rattle.affc_ast.specs.Index.{nodes_of_ix, index_value, in_int64, nodes_of_compare, conditions}
 use Rattle.affc_ast.specs.Meaning.{Position, turns_of, assigned, nodes_of_locals, with_iterator, with_locals, inside}
 use Rattle.affc_ast.specs.Recursion.{by_stmt}
-use Rattle.affc_ast.specs.Store.{Element, Store, with_value}
+use Rattle.affc_ast.specs.Store.{Store, with_value}
 use Rattle.affc_ast.specs.Values.{Scope, value_of}
 
 -- why a run stops before its end

@@ -1,5 +1,5 @@
 -- Arrays in flat buffers, each with its elements in order, the last subscript running fastest.
-use Rattle.std.specs.Prelude.{◌≡◌, ℕ, zero, suc, ◌+◌, ◌*◌, ◌<◌, ℤ, pos, ◌<ℤ◌, int_lt, int_le, nat_lt, ◌&&◌, if◌then◌else◌, List, [], ◌∷◌, ◌++◌, length, get_or, drop, map, Option, Some, None}
+use Rattle.std.specs.Prelude.{◌≡◌, ℕ, zero, suc, ◌+◌, ◌*◌, ℤ, pos, ◌<ℤ◌, int_lt, int_le, nat_lt, ◌&&◌, if◌then◌else◌, List, [], ◌∷◌, ◌++◌, length, get_or, drop, map, Option, Some, None}
 use Rattle.affc_ast.specs.Meaning.{at_least_zero}
 use Rattle.affc_ast.specs.Store.{Element, Store}
 use Rattle.affc_interp.specs.declared.memory.Buffer.{Buffer}

@@ -49,4 +49,3 @@ pub record IsCounted (program : Program) : Type 0 where
   pub nodes : node_total program < 2 ^ 32
   pub assigns : assigns_in (map part_of program.body) < 2 ^ 32
   pub within : all_within (map exec_of program.body) (array_count program) ≡ true
-

@@ -61,13 +61,21 @@ fn name_value(names: &[i64], x: u32) -> i64
 fn floor(node: u32, x: i64, n: i64) -> Result<i64, u32>
     ensures { as_reading result ≡ divided node floor_of x n }
 {
-    if n < 1 { Err(node) } else { Ok(x.div_euclid(n)) }
+    if n < 1 {
+        Err(node)
+    } else {
+        Ok(x.div_euclid(n))
+    }
 }
 
 fn remainder(node: u32, x: i64, n: i64) -> Result<i64, u32>
     ensures { as_reading result ≡ divided node remainder_of x n }
 {
-    if n < 1 { Err(node) } else { Ok(x.rem_euclid(n)) }
+    if n < 1 {
+        Err(node)
+    } else {
+        Ok(x.rem_euclid(n))
+    }
 }
 
 fn rounded_up(x: i64, n: i64) -> i64
@@ -84,7 +92,11 @@ fn rounded_up(x: i64, n: i64) -> i64
 fn ceiling(node: u32, x: i64, n: i64) -> Result<i64, u32>
     ensures { as_reading result ≡ divided node ceiling_of x n }
 {
-    if n < 1 { Err(node) } else { Ok(rounded_up(x, n)) }
+    if n < 1 {
+        Err(node)
+    } else {
+        Ok(rounded_up(x, n))
+    }
 }
 
 /// The value of an expression whose first node has this number, or the node that overflows.

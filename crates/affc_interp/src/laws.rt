@@ -10,5 +10,4 @@ ghost use Rattle.affc_interp.specs.Runs.{within_limit};
 /// A run that counts its steps is the meaning, cut where the steps are used up.
 pub fn runs_are_cut_at_their_limit()
     ensures { (limit : ℕ) (body : List Stmt) (here : Position) (scope : Scope) (store : Store) → within_limit limit (in_order (map part_of body) here scope (record { store = store; written = []; steps = 0 })) ≡ all_of limit (map exec_of body) here scope store 0 }
-{
-}
+{}

@@ -29,11 +29,20 @@ pub struct Machine {
 fn next_step(steps: u64, limit: u64) -> Result<u64, Halt>
     ensures { Steps result steps limit }
 {
-    if steps < limit { Ok(steps + 1) } else { Err(Halt::Steps) }
+    if steps < limit {
+        Ok(steps + 1)
+    } else {
+        Err(Halt::Steps)
+    }
 }
 
 // What `op=` loads before its value is read.
-fn own_load(op: Option<Op>, array: ArrayId, place: Option<usize>, memory: &Memory) -> Result<u64, Fault>
+fn own_load(
+    op: Option<Op>,
+    array: ArrayId,
+    place: Option<usize>,
+    memory: &Memory,
+) -> Result<u64, Fault>
     ensures { (names : List ℤ) (here : Instance) (xs : List ℤ) → place ≡ place_of memory.now.extents array.0 xs → as_value here result ≡ own_value op (scope_at names memory.now here) memory.now.store here array xs }
 {
     match op {
@@ -100,7 +109,16 @@ impl Machine {
     {
         self.steps = next_step(self.steps, self.limit)?;
         self.here.statement = statement;
-        let (cell, v) = stored(op, array, subs, e, node, self.names.as_slice(), &self.memory, &self.here)?;
+        let (cell, v) = stored(
+            op,
+            array,
+            subs,
+            e,
+            node,
+            self.names.as_slice(),
+            &self.memory,
+            &self.here,
+        )?;
         self.memory.write(array, cell, v);
         Ok(())
     }
@@ -176,8 +194,19 @@ fn statement_nodes(s: &Stmt) -> u32
     ensures { result ≡ (exec_of s.now).nodes }
 {
     let (head, body) = match s {
-        Stmt::Assign { op: _, array: _, subs, value } => return 1 + node_sum(subs.as_slice()) + value_nodes(value),
-        Stmt::For { iter: _, low, rel: _, high, body } => (1 + node_count(low) + node_count(high), body),
+        Stmt::Assign {
+            op: _,
+            array: _,
+            subs,
+            value,
+        } => return 1 + node_sum(subs.as_slice()) + value_nodes(value),
+        Stmt::For {
+            iter: _,
+            low,
+            rel: _,
+            high,
+            body,
+        } => (1 + node_count(low) + node_count(high), body),
         Stmt::If { conds, body } => (1 + compare_sum(conds.as_slice()), body),
         Stmt::Block { locals, body } => (1 + local_sum(locals.as_slice()), body),
     };
@@ -214,15 +243,44 @@ impl Machine {
         ensures { Finishes result self.old self.new ((exec_of s.now).run self.old.limit (position node statement) (scope_of self.old) self.old.memory.store self.old.steps) }
     {
         match s {
-            Stmt::For { iter: _, low, rel, high, body } => self.exec_for(low, *rel, high, body.as_slice(), node, statement),
-            Stmt::If { conds, body } => self.exec_if(conds.as_slice(), body.as_slice(), node, statement),
-            Stmt::Assign { op, array, subs, value } => self.assign(*op, *array, subs.as_slice(), value, node, statement),
-            Stmt::Block { locals, body } => self.exec_block(locals.as_slice(), body.as_slice(), node, statement),
+            Stmt::For {
+                iter: _,
+                low,
+                rel,
+                high,
+                body,
+            } => self.exec_for(low, *rel, high, body.as_slice(), node, statement),
+            Stmt::If { conds, body } => self.exec_if(
+                conds.as_slice(),
+                body.as_slice(),
+                node,
+                statement,
+            ),
+            Stmt::Assign {
+                op,
+                array,
+                subs,
+                value,
+            } => self.assign(*op, *array, subs.as_slice(), value, node, statement),
+            Stmt::Block { locals, body } => self.exec_block(
+                locals.as_slice(),
+                body.as_slice(),
+                node,
+                statement,
+            ),
         }
     }
 
     #[cycle(exec)]
-    fn exec_for(&mut self, low: &Ix, rel: Rel, high: &Ix, body: &[Stmt], node: u32, statement: u32) -> Result<(), Halt>
+    fn exec_for(
+        &mut self,
+        low: &Ix,
+        rel: Rel,
+        high: &Ix,
+        body: &[Stmt],
+        node: u32,
+        statement: u32,
+    ) -> Result<(), Halt>
         requires nodes { node + (1 + nodes_of_ix low.now + nodes_of_ix high.now + nodes_among (map exec_of body.now)) < 2 ^ 32 }
         requires assigns { statement + assigns_among (map exec_of body.now) < 2 ^ 32 }
         requires within { all_within (map exec_of body.now) (length self.old.memory.extents) ≡ true }
@@ -232,11 +290,24 @@ impl Machine {
         let left = node_count(low);
         let last = eval(high, node + 1 + left, self.names.as_slice())?;
         let inner = node + (1 + left + node_count(high));
-        self.turn(turn_count(rel, first, last), first, body, node, inner, statement)
+        self.turn(
+            turn_count(rel, first, last),
+            first,
+            body,
+            node,
+            inner,
+            statement,
+        )
     }
 
     #[cycle(exec)]
-    fn exec_if(&mut self, conds: &[Compare], body: &[Stmt], node: u32, statement: u32) -> Result<(), Halt>
+    fn exec_if(
+        &mut self,
+        conds: &[Compare],
+        body: &[Stmt],
+        node: u32,
+        statement: u32,
+    ) -> Result<(), Halt>
         requires nodes { node + (1 + sum_by nodes_of_compare conds.now + nodes_among (map exec_of body.now)) < 2 ^ 32 }
         requires assigns { statement + assigns_among (map exec_of body.now) < 2 ^ 32 }
         requires within { all_within (map exec_of body.now) (length self.old.memory.extents) ≡ true }
@@ -251,7 +322,13 @@ impl Machine {
     }
 
     #[cycle(exec)]
-    fn exec_block(&mut self, locals: &[Local], body: &[Stmt], node: u32, statement: u32) -> Result<(), Halt>
+    fn exec_block(
+        &mut self,
+        locals: &[Local],
+        body: &[Stmt],
+        node: u32,
+        statement: u32,
+    ) -> Result<(), Halt>
         requires nodes { node + (1 + nodes_of_locals locals.now + nodes_among (map exec_of body.now)) < 2 ^ 32 }
         requires assigns { statement + assigns_among (map exec_of body.now) < 2 ^ 32 }
         requires within { all_within (map exec_of body.now) (length self.old.memory.extents) ≡ true }
@@ -301,7 +378,14 @@ impl Machine {
 
     // One turn, with the step that it takes and the iterator's step after it.
     #[cycle(exec)]
-    fn step_turn(&mut self, x: i64, body: &[Stmt], node: u32, inner: u32, statement: u32) -> Result<(), Halt>
+    fn step_turn(
+        &mut self,
+        x: i64,
+        body: &[Stmt],
+        node: u32,
+        inner: u32,
+        statement: u32,
+    ) -> Result<(), Halt>
         requires nodes { inner + nodes_among (map exec_of body.now) < 2 ^ 32 }
         requires assigns { statement + assigns_among (map exec_of body.now) < 2 ^ 32 }
         requires within { all_within (map exec_of body.now) (length self.old.memory.extents) ≡ true }
@@ -315,7 +399,15 @@ impl Machine {
     }
 
     #[cycle(exec)]
-    fn turn(&mut self, count: u128, first: i64, body: &[Stmt], node: u32, inner: u32, statement: u32) -> Result<(), Halt>
+    fn turn(
+        &mut self,
+        count: u128,
+        first: i64,
+        body: &[Stmt],
+        node: u32,
+        inner: u32,
+        statement: u32,
+    ) -> Result<(), Halt>
         requires nodes { inner + nodes_among (map exec_of body.now) < 2 ^ 32 }
         requires assigns { statement + assigns_among (map exec_of body.now) < 2 ^ 32 }
         requires within { all_within (map exec_of body.now) (length self.old.memory.extents) ≡ true }

@@ -42,7 +42,11 @@ impl Model for Memory {
 fn inner(x: i64, extent: i64) -> Option<u64>
     ensures { result ≡ (if int_le (pos 0) x && int_lt x extent then Some (at_least_zero x) else None) }
 {
-    if 0 <= x && x < extent { Some(x.unsigned_abs()) } else { None }
+    if 0 <= x && x < extent {
+        Some(x.unsigned_abs())
+    } else {
+        None
+    }
 }
 
 fn step(size: usize, place: Option<usize>, x: i64, extent: i64) -> Option<usize>
@@ -51,7 +55,11 @@ fn step(size: usize, place: Option<usize>, x: i64, extent: i64) -> Option<usize>
     let place = place?;
     let x = inner(x, extent)?;
     let next = (place as u128) * (extent.unsigned_abs() as u128) + (x as u128);
-    if next < size as u128 { Some(next as usize) } else { None }
+    if next < size as u128 {
+        Some(next as usize)
+    } else {
+        None
+    }
 }
 
 // The place of an element, whose first subscripts have led so far. All subscripts are read.
@@ -105,7 +113,12 @@ fn cell(buffers: &[Buffer], array: usize, place: usize) -> Option<u64>
     }
 }
 
-fn load_from(buffers: &[Buffer], array: usize, place: Option<usize>, access: u32) -> Result<u64, Fault>
+fn load_from(
+    buffers: &[Buffer],
+    array: usize,
+    place: Option<usize>,
+    access: u32,
+) -> Result<u64, Fault>
     ensures { (here : Instance) → as_value here result ≡ loaded buffers.now array place here access }
 {
     match place {
@@ -139,13 +152,26 @@ fn size_at(buffers: &[Buffer], array: usize) -> usize
 
 impl Memory {
     /// The number of the element's cell in its array, if the element lies within it.
-    pub fn place(&self, array: ArrayId, subs: &[Ix], node: u32, names: &[i64]) -> Result<Option<usize>, u32>
+    pub fn place(
+        &self,
+        array: ArrayId,
+        subs: &[Ix],
+        node: u32,
+        names: &[i64],
+    ) -> Result<Option<usize>, u32>
         requires { node + sum_by nodes_of_ix subs.now < 2 ^ 32 }
         ensures { as_reading result ≡ read_then (index_values subs.now node names.now) (λ xs. Ok (place_of self.now.extents array.0 xs)) }
     {
         let buffers = self.buffers.as_slice();
         let array = array.0 as usize;
-        place_on(size_at(buffers, array), Some(0), subs, extents_at(buffers, array), node, names)
+        place_on(
+            size_at(buffers, array),
+            Some(0),
+            subs,
+            extents_at(buffers, array),
+            node,
+            names,
+        )
     }
 
     /// What the access of this number loads, where its subscripts lead to this place.
@@ -212,7 +238,11 @@ fn size(extents: &[i64]) -> Option<usize>
 fn length_of(n: i64) -> Option<usize>
     ensures { IfSome result (λ m. m ≡ at_least_zero n) }
 {
-    if n < 0 { Some(0) } else { Some(n.unsigned_abs() as usize) }
+    if n < 0 {
+        Some(0)
+    } else {
+        Some(n.unsigned_abs() as usize)
+    }
 }
 
 fn given_at(values: &[u64], k: usize) -> Option<u64>
@@ -240,11 +270,18 @@ impl Memory {
     pub fn new(alloc: Global) -> Memory
         ensures { result ≡ record { extents = []; store = [] } }
     {
-        Memory { buffers: Vec::new(alloc) }
+        Memory {
+            buffers: Vec::new(alloc),
+        }
     }
 
     /// One array more, whose first elements have these values.
-    pub fn add(&mut self, alloc: Global, extents: Vec<i64>, values: &[u64]) -> Result<(), AllocError>
+    pub fn add(
+        &mut self,
+        alloc: Global,
+        extents: Vec<i64>,
+        values: &[u64],
+    ) -> Result<(), AllocError>
         requires { AreLengths extents.items }
         ensures extents { OnOk result (self.new.extents ≡ self.old.extents ++ extents.items ∷ []) }
         ensures store { OnOk result (self.new.store ≡ self.old.store ++ given_to (length self.old.extents) (subscripts_of extents.items) values.now) }
@@ -259,7 +296,13 @@ impl Memory {
 }
 
 // The extents of an array, read up to the first that is below 1.
-fn extents_from(alloc: Global, array: u32, es: &[Ix], node: u32, names: &[i64]) -> Result<Vec<i64>, Halt>
+fn extents_from(
+    alloc: Global,
+    array: u32,
+    es: &[Ix],
+    node: u32,
+    names: &[i64],
+) -> Result<Vec<i64>, Halt>
     requires { node + sum_by nodes_of_ix es.now < 2 ^ 32 }
     ensures { AreExtents result (extents_of array es.now node names.now) }
 {
@@ -297,7 +340,15 @@ fn other_values(arrays: &[Vec<u64>]) -> &[Vec<u64>]
 
 impl Memory {
     // One array more, whose first elements have these values.
-    fn declare(&mut self, alloc: Global, array: u32, extents: &[Ix], node: u32, names: &[i64], values: &[u64]) -> Result<(), Halt>
+    fn declare(
+        &mut self,
+        alloc: Global,
+        array: u32,
+        extents: &[Ix],
+        node: u32,
+        names: &[i64],
+        values: &[u64],
+    ) -> Result<(), Halt>
         requires { node + sum_by nodes_of_ix extents.now < 2 ^ 32 }
         ensures { Declared result self.old self.new values.now (extents_of array extents.now node names.now) }
     {
@@ -307,24 +358,48 @@ impl Memory {
     }
 
     /// The array parameters, from this number on, with the values of each.
-    pub fn declare_params(&mut self, alloc: Global, array: u32, params: &[Param], node: u32, names: &[i64], arrays: &[Vec<u64>]) -> Result<(), Halt>
+    pub fn declare_params(
+        &mut self,
+        alloc: Global,
+        array: u32,
+        params: &[Param],
+        node: u32,
+        names: &[i64],
+        arrays: &[Vec<u64>],
+    ) -> Result<(), Halt>
         requires nodes { node + nodes_of_decls (arrays_of params.now) < 2 ^ 32 }
         requires arrays { array + length (arrays_of params.now) < 2 ^ 32 }
         ensures { AllDeclared result self.old self.new (values_in arrays.now) (all_extents array (arrays_of params.now) node names.now) }
     {
         match params {
             [] => Ok(()),
-            [Param::Number { .. }, rest @ ..] => self.declare_params(alloc, array, rest, node, names, arrays),
+            [Param::Number { .. }, rest @ ..] => self.declare_params(
+                alloc, array, rest, node, names, arrays,
+            ),
             [Param::Array(d), rest @ ..] => {
                 let extents = d.extents.as_slice();
                 self.declare(alloc, array, extents, node, names, first_values(arrays))?;
-                self.declare_params(alloc, array + 1, rest, node + node_sum(extents), names, other_values(arrays))
+                self.declare_params(
+                    alloc,
+                    array + 1,
+                    rest,
+                    node + node_sum(extents),
+                    names,
+                    other_values(arrays),
+                )
             }
         }
     }
 
     /// Arrays without values.
-    pub fn declare_temps(&mut self, alloc: Global, array: u32, temps: &[Decl], node: u32, names: &[i64]) -> Result<(), Halt>
+    pub fn declare_temps(
+        &mut self,
+        alloc: Global,
+        array: u32,
+        temps: &[Decl],
+        node: u32,
+        names: &[i64],
+    ) -> Result<(), Halt>
         requires nodes { node + nodes_of_decls temps.now < 2 ^ 32 }
         requires arrays { array + length temps.now < 2 ^ 32 }
         ensures { AllDeclared result self.old self.new [] (all_extents array temps.now node names.now) }

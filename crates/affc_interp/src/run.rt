@@ -102,9 +102,22 @@ fn begin(alloc: Global, program: &Program, feed: &Feed, limit: u64) -> Result<(M
     let names = Vec::from_slice(alloc, feed.params.as_slice())?;
     let mut memory = Memory::new(alloc);
     let params = program.params.as_slice();
-    memory.declare_params(alloc, 0, params, 0, names.as_slice(), feed.arrays.as_slice())?;
+    memory.declare_params(
+        alloc,
+        0,
+        params,
+        0,
+        names.as_slice(),
+        feed.arrays.as_slice(),
+    )?;
     let temps = param_nodes(params) + compare_sum(program.context.as_slice());
-    memory.declare_temps(alloc, array_params(params), program.temps.as_slice(), temps, names.as_slice())?;
+    memory.declare_temps(
+        alloc,
+        array_params(params),
+        program.temps.as_slice(),
+        temps,
+        names.as_slice(),
+    )?;
     let body = temps + decl_nodes(program.temps.as_slice());
     let machine = fresh(alloc, names, memory, limit);
     Ok((machine, body))
@@ -153,13 +166,25 @@ pub fn run(alloc: Global, program: &Program, feed: &Feed, steps: u64) -> Result<
 fn stored(machine: Machine) -> Store
     ensures { result ≡ machine.memory.store }
 {
-    let Machine { names: _, here: _, memory, steps: _, limit: _ } = machine;
+    let Machine {
+        names: _,
+        here: _,
+        memory,
+        steps: _,
+        limit: _,
+    } = machine;
     Store { memory }
 }
 
 fn stopped(machine: Machine, halt: Halt) -> RunFault
     ensures { SaysSo halt machine.here result }
 {
-    let Machine { names: _, here, memory: _, steps: _, limit: _ } = machine;
+    let Machine {
+        names: _,
+        here,
+        memory: _,
+        steps: _,
+        limit: _,
+    } = machine;
     fault_at(halt, here)
 }

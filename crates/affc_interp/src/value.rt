@@ -20,7 +20,11 @@ pub fn value_nodes(v: &Val) -> u32
         Val::Cast(e) => 1 + node_count(e),
         Val::Not(a) => 1 + value_nodes(a.get()),
         Val::Bin { op: _, left, right } => 1 + value_nodes(left.get()) + value_nodes(right.get()),
-        Val::Shift { left: _, value, by: _ } => 1 + value_nodes(value.get()),
+        Val::Shift {
+            left: _,
+            value,
+            by: _,
+        } => 1 + value_nodes(value.get()),
     }
 }
 
@@ -36,7 +40,11 @@ pub fn load_count(v: &Val) -> u32
         Val::Cast(_) => 0,
         Val::Not(a) => load_count(a.get()),
         Val::Bin { op: _, left, right } => load_count(left.get()) + load_count(right.get()),
-        Val::Shift { left: _, value, by: _ } => load_count(value.get()),
+        Val::Shift {
+            left: _,
+            value,
+            by: _,
+        } => load_count(value.get()),
     }
 }
 
@@ -94,7 +102,14 @@ pub fn value(
     ensures { as_value here.now result ≡ (value_of v.now).value (sight_at node access names.now memory.now here.now) }
 {
     match v {
-        Val::Load { array, subs } => memory.load(*array, subs.as_slice(), node + 1, access, names, here),
+        Val::Load { array, subs } => memory.load(
+            *array,
+            subs.as_slice(),
+            node + 1,
+            access,
+            names,
+            here,
+        ),
         Val::Const(n) => Ok(*n),
         Val::Cast(e) => {
             let x = eval(e, node + 1, names)?;

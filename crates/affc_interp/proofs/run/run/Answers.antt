@@ -1,4 +1,4 @@
-use Rattle.std.proofs.Common.{◌≡◌, ◌+◌, ◌^◌, ◌<◌, ◌∙◌, ap, sym, subst, map, length, Ok, arith}
+use Rattle.std.proofs.Common.{◌≡◌, ◌+◌, ◌^◌, ◌<◌, ◌∙◌, ap, sym, map, Ok, arith}
 use Rattle.affc_ast.specs.Meaning.{nodes_in, assigns_in, part_of}
 use Rattle.affc_interp.specs.Arrays.{values_in}
 use Rattle.affc_interp.specs.Budget.{exec_of, nodes_among, assigns_among, all_within}
@@ -36,4 +36,4 @@ returns-in-Ok-exec_all c =
 pub returns-in-Err-exec_all : goal.returns-in-Err-exec_all
 returns-in-Err-exec_all c =
     stopped c.args.steps c.args.program.now c.args.feed.now.params.items (values_in c.args.feed.now.arrays.items) c.in-Ok.begun.0 c.exec_all.new.self c.in-Ok.begun.1 c.in-Err-exec_all.halt c.stopped.result c.as_slice.result.now c.as_slice.ensures c.in-Ok.ensures
-      c.in-Err-exec_all.ensures c.stopped.ensures
+    c.in-Err-exec_all.ensures c.stopped.ensures

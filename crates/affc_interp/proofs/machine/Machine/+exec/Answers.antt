@@ -20,7 +20,7 @@ turn-loop-k-preserved t c =
     let fx : FitsSigned w64 c.value_at-x.result = search rules in
     let is : to_z w64 (of_z w64 c.value_at-x.result) ≡ to_z w64 (of_z w64 c.args.first) +ℤ pos c.loop-k.k = to_z-of_z fx ∙ c.value_at-x.ensures in
     goes_on c.args.node c.args.inner c.args.statement c.args.count c.loop-k.k (to_z w64 (of_z w64 c.args.first)) (to_z w64 (of_z w64 c.value_at-x.result)) c.args.body.now c.args.self.now c.loop-k.self
-      c.loop-k-test.true is c.loop-k.invariant c.step_turn.new.self c.in_ok-step_turn.ensures.run c.in_ok-step_turn.ensures.next
+    c.loop-k-test.true is c.loop-k.invariant c.step_turn.new.self c.in_ok-step_turn.ensures.run c.in_ok-step_turn.ensures.next
 
 pub turn-returns-in_err-step_turn : goal.turn-returns-in_err-step_turn
 turn-returns-in_err-step_turn t c =
@@ -28,7 +28,7 @@ turn-returns-in_err-step_turn t c =
     let fx : FitsSigned w64 c.value_at-x.result = search rules in
     let is : to_z w64 (of_z w64 c.value_at-x.result) ≡ to_z w64 (of_z w64 c.args.first) +ℤ pos c.loop-k.k = to_z-of_z fx ∙ c.value_at-x.ensures in
     rw (q.1, q.2) (subst (λ (f : ℤ). Halts c.step_turn.new.self c.in_err-step_turn.field-0.0 (turns_within c.args.self.now.limit c.args.node c.args.count f (turn_of c.args.self.now.limit c.args.body.now c.args.inner c.args.statement (scope_of c.args.self.now)) c.args.self.now.memory.store c.args.self.now.steps)) (to_z-of_z c.ranges.first) (stops c.args.node c.args.inner c.args.statement c.args.count c.loop-k.k (to_z w64 (of_z w64 c.args.first)) (to_z w64 (of_z w64 c.value_at-x.result)) c.args.body.now c.args.self.now c.loop-k.self
-      c.loop-k-test.true is c.loop-k.invariant c.step_turn.new.self c.in_err-step_turn.field-0.0 c.in_err-step_turn.ensures.run))
+    c.loop-k-test.true is c.loop-k.invariant c.step_turn.new.self c.in_err-step_turn.field-0.0 c.in_err-step_turn.ensures.run))
 
 pub exec-exec_for-requires : goal.exec-exec_for-requires
 exec-exec_for-requires t c =

@@ -1,4 +1,4 @@
-use Rattle.std.proofs.Common.{◌≡◌, ◌∙◌, sym, ap, subst, get_or, Ok, Some, []}
+use Rattle.std.proofs.Common.{◌∙◌, sym, ap, subst, get_or, Ok, Some, []}
 use Rattle.affc_ast.specs.Index.{index_values}
 use Rattle.affc_interp.specs.Layout.{AreWhole, extents_in, size_of, place_from}
 use Rattle.affc_interp.specs.Seen.{read_then}

@@ -1,4 +1,4 @@
-use Rattle.std.proofs.Common.{◌≡◌, ◌∙◌, sym, ap}
+use Rattle.std.proofs.Common.{◌∙◌, sym, ap}
 use Rattle.affc_interp.specs.Seen.{loaded}
 use Rattle.affc_interp.proofs.Loads.{load_at}
 use Rattle.affc_interp.proofs.memory.Memory.read.Goals as goal
