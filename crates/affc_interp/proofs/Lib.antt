@@ -1,0 +1,15 @@
+pub mod Cells
+pub mod Places
+pub mod Order
+pub mod Loads
+pub mod Writes
+pub mod Shifts
+pub mod Agrees
+pub mod Stored
+pub mod LoadCounts
+pub mod Loops
+pub mod Turns
+pub mod Execs
+pub mod Adds
+pub mod Declares
+pub mod RunIs

@@ -1,0 +1,67 @@
+use Rattle.std.proofs.Common.{rules, subst, ℤ, ◌≡◌, ◌+◌, ◌+ℤ◌, pos, ◌∙◌, ap, sym, map, length, arith, to_z, of_z, to_z-of_z, FitsSigned, w64}
+use Rattle.std.proofs.lemmas.Result.{err_from_is_err_and}
+use Rattle.std.specs.Prelude.{sum_by}
+use Rattle.affc_ast.specs.Index.{nodes_of_ix, nodes_of_compare}
+use Rattle.affc_ast.specs.Meaning.{nodes_of_locals}
+use Rattle.affc_interp.specs.Budget.{Exec, exec_of, all_within, nodes_among, assigns_among, turns_within}
+use Rattle.affc_interp.specs.Machines.{Finishes, Halts, turn_of, scope_of, position}
+use Rattle.affc_interp.proofs.Execs.{parts_of, for_is, if_is, block_is}
+use Rattle.affc_interp.proofs.Turns.{goes_on, stops}
+use Rattle.affc_interp.proofs.machine.Machine.+exec.Goals as goal
+
+pub exec_all-exec_all-requires : goal.exec_all-exec_all-requires
+exec_all-exec_all-requires t c =
+    let p = parts_of c.args.body.now c.s-item.result (length c.exec.new.self.memory.extents) c.in-len1-up.len_at_least c.s-item.is in
+    let within = ap (λ s. all_within (map exec_of c.args.body.now) (length s.extents)) c.in_ok-exec-in-len1-up.ensures.1 ∙ c.requires.within in
+    (omega arith, (omega arith, (omega arith, p.others within)))
+
+pub turn-loop-k-preserved : goal.turn-loop-k-preserved
+turn-loop-k-preserved t c =
+    let fx : FitsSigned w64 c.value_at-x.result = search rules in
+    let is : to_z w64 (of_z w64 c.value_at-x.result) ≡ to_z w64 (of_z w64 c.args.first) +ℤ pos c.loop-k.k = to_z-of_z fx ∙ c.value_at-x.ensures in
+    goes_on c.args.node c.args.inner c.args.statement c.args.count c.loop-k.k (to_z w64 (of_z w64 c.args.first)) (to_z w64 (of_z w64 c.value_at-x.result)) c.args.body.now c.args.self.now c.loop-k.self
+    c.loop-k-test.true is c.loop-k.invariant c.step_turn.new.self c.in_ok-step_turn.ensures.run c.in_ok-step_turn.ensures.next
+
+pub turn-returns-in_err-step_turn : goal.turn-returns-in_err-step_turn
+turn-returns-in_err-step_turn t c =
+    let q = err_from_is_err_and c.from_residual.result c.from_residual.ensures.1 in
+    let fx : FitsSigned w64 c.value_at-x.result = search rules in
+    let is : to_z w64 (of_z w64 c.value_at-x.result) ≡ to_z w64 (of_z w64 c.args.first) +ℤ pos c.loop-k.k = to_z-of_z fx ∙ c.value_at-x.ensures in
+    rw (q.1, q.2) (subst (λ (f : ℤ). Halts c.step_turn.new.self c.in_err-step_turn.field-0.0 (turns_within c.args.self.now.limit c.args.node c.args.count f (turn_of c.args.self.now.limit c.args.body.now c.args.inner c.args.statement (scope_of c.args.self.now)) c.args.self.now.memory.store c.args.self.now.steps)) (to_z-of_z c.ranges.first) (stops c.args.node c.args.inner c.args.statement c.args.count c.loop-k.k (to_z w64 (of_z w64 c.args.first)) (to_z w64 (of_z w64 c.value_at-x.result)) c.args.body.now c.args.self.now c.loop-k.self
+    c.loop-k-test.true is c.loop-k.invariant c.step_turn.new.self c.in_err-step_turn.field-0.0 c.in_err-step_turn.ensures.run))
+
+pub exec-exec_for-requires : goal.exec-exec_for-requires
+exec-exec_for-requires t c =
+    let e = for_is c.args.s.now c.in-For.iter c.in-For.low c.in-For.rel c.in-For.high c.in-For.body c.as_slice.result.now c.in-For.is c.as_slice.ensures in
+    let n : (exec_of c.args.s.now).nodes ≡ 1 + nodes_of_ix c.in-For.low + nodes_of_ix c.in-For.high + nodes_among (map exec_of c.as_slice.result.now) = ap (λ x. x.nodes) e in
+    let a : (exec_of c.args.s.now).assigns ≡ assigns_among (map exec_of c.as_slice.result.now) = ap (λ x. x.assigns) e in
+    (omega arith, (omega arith, (omega arith, ap (λ x. x.within (length c.args.self.now.memory.extents)) (sym e) ∙ c.requires.within)))
+
+pub exec-returns-in-For : goal.exec-returns-in-For
+exec-returns-in-For t c =
+    let e = for_is c.args.s.now c.in-For.iter c.in-For.low c.in-For.rel c.in-For.high c.in-For.body c.as_slice.result.now c.in-For.is c.as_slice.ensures in
+    subst (λ (x : Exec). Finishes c.exec_for.result c.args.self.now c.exec_for.new.self (x.run c.args.self.now.limit (position c.args.node c.args.statement) (scope_of c.args.self.now) c.args.self.now.memory.store c.args.self.now.steps)) (sym e) c.exec_for.ensures
+
+pub exec-exec_if-requires : goal.exec-exec_if-requires
+exec-exec_if-requires t c =
+    let e = if_is c.args.s.now c.in-If.conds c.as_slice-in-If.result.now c.in-If.body c.as_slice-in-If-2.result.now c.in-If.is c.as_slice-in-If.ensures c.as_slice-in-If-2.ensures in
+    let n : (exec_of c.args.s.now).nodes ≡ 1 + sum_by nodes_of_compare c.as_slice-in-If.result.now + nodes_among (map exec_of c.as_slice-in-If-2.result.now) = ap (λ x. x.nodes) e in
+    let a : (exec_of c.args.s.now).assigns ≡ assigns_among (map exec_of c.as_slice-in-If-2.result.now) = ap (λ x. x.assigns) e in
+    (omega arith, (omega arith, (omega arith, ap (λ x. x.within (length c.args.self.now.memory.extents)) (sym e) ∙ c.requires.within)))
+
+pub exec-returns-in-If : goal.exec-returns-in-If
+exec-returns-in-If t c =
+    let e = if_is c.args.s.now c.in-If.conds c.as_slice-in-If.result.now c.in-If.body c.as_slice-in-If-2.result.now c.in-If.is c.as_slice-in-If.ensures c.as_slice-in-If-2.ensures in
+    subst (λ (x : Exec). Finishes c.exec_if.result c.args.self.now c.exec_if.new.self (x.run c.args.self.now.limit (position c.args.node c.args.statement) (scope_of c.args.self.now) c.args.self.now.memory.store c.args.self.now.steps)) (sym e) c.exec_if.ensures
+
+pub exec-exec_block-requires : goal.exec-exec_block-requires
+exec-exec_block-requires t c =
+    let e = block_is c.args.s.now c.in-Block.locals c.as_slice-in-Block.result.now c.in-Block.body c.as_slice-in-Block-2.result.now c.in-Block.is c.as_slice-in-Block.ensures c.as_slice-in-Block-2.ensures in
+    let n : (exec_of c.args.s.now).nodes ≡ 1 + nodes_of_locals c.as_slice-in-Block.result.now + nodes_among (map exec_of c.as_slice-in-Block-2.result.now) = ap (λ x. x.nodes) e in
+    let a : (exec_of c.args.s.now).assigns ≡ assigns_among (map exec_of c.as_slice-in-Block-2.result.now) = ap (λ x. x.assigns) e in
+    (omega arith, (omega arith, (omega arith, ap (λ x. x.within (length c.args.self.now.memory.extents)) (sym e) ∙ c.requires.within)))
+
+pub exec-returns-in-Block : goal.exec-returns-in-Block
+exec-returns-in-Block t c =
+    let e = block_is c.args.s.now c.in-Block.locals c.as_slice-in-Block.result.now c.in-Block.body c.as_slice-in-Block-2.result.now c.in-Block.is c.as_slice-in-Block.ensures c.as_slice-in-Block-2.ensures in
+    subst (λ (x : Exec). Finishes c.exec_block.result c.args.self.now c.exec_block.new.self (x.run c.args.self.now.limit (position c.args.node c.args.statement) (scope_of c.args.self.now) c.args.self.now.memory.store c.args.self.now.steps)) (sym e) c.exec_block.ensures

@@ -1,0 +1,13 @@
+//! Laws of the definitions. The functions do nothing: each says by its contract what is so.
+ghost use Rattle.std.specs.Prelude.{◌≡◌, ℕ, List, [], map};
+ghost use Rattle.affc_ast.specs.declared.tree.Stmt.{Stmt};
+ghost use Rattle.affc_ast.specs.Meaning.{Position, part_of, in_order};
+ghost use Rattle.affc_ast.specs.Store.{Store};
+ghost use Rattle.affc_ast.specs.Values.{Scope};
+ghost use Rattle.affc_interp.specs.Budget.{exec_of, all_of};
+ghost use Rattle.affc_interp.specs.Runs.{within_limit};
+
+/// A run that counts its steps is the meaning, cut where the steps are used up.
+pub fn runs_are_cut_at_their_limit()
+    ensures { (limit : ℕ) (body : List Stmt) (here : Position) (scope : Scope) (store : Store) → within_limit limit (in_order (map part_of body) here scope (record { store = store; written = []; steps = 0 })) ≡ all_of limit (map exec_of body) here scope store 0 }
+{}
