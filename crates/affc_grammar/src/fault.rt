@@ -1,0 +1,38 @@
+//! What can be wrong with a text whose tokens follow the grammar.
+
+/// Why a name is refused. Where several reasons hold, the first of these is given.
+#[derive(Clone, Copy, Debug, PartialEq, Eq, Drop)]
+pub enum NameWhy {
+    /// Nothing visible has the name.
+    Unknown,
+    /// It is declared, or given a range, while another thing of that name is visible.
+    Twice,
+    /// C or the prelude keeps the name for itself.
+    Reserved,
+    /// A store to an input.
+    Const,
+    /// A thing of another kind, another number of subscripts, or a `for` whose three words differ.
+    Kind,
+    /// A number parameter without a line that gives its range.
+    NoRange,
+}
+
+/// A limit that a text passes. Where several are passed at one place, the first of these is given.
+#[derive(Clone, Copy, Debug, PartialEq, Eq, Drop)]
+pub enum LimitName {
+    Size,
+    Tokens,
+    Run,
+    Depth,
+    Items,
+    Parameters,
+    Range,
+    Loops,
+    Statements,
+    Empty,
+    Accesses,
+    Dimensions,
+    Comparisons,
+    Literal,
+    Coefficient,
+}
