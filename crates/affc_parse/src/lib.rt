@@ -1,0 +1,5 @@
+//! The parser: the one program that a text reads as, or the first thing wrong with it, at its byte.
+#![tactic(auto)]
+
+pub mod shape;
+pub mod symbol;
