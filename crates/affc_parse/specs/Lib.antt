@@ -1,2 +1,4 @@
 pub mod Symbols
 pub mod Shape
+pub mod Drafts
+pub mod Places
