@@ -1,6 +1,7 @@
 //! The parser: the one program that a text reads as, or the first thing wrong with it, at its byte.
 #![tactic(auto)]
 
+pub mod ahead;
 pub mod draft;
 pub mod forms;
 pub mod shape;

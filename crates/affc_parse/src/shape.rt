@@ -7,7 +7,7 @@ ghost use Rattle.affc_grammar.specs.Limits.{limits_of, least, shape_passed};
 ghost use Rattle.affc_parse.specs.Symbols.{seen, passed_seen};
 ghost use Rattle.affc_parse.specs.Shape as shape;
 
-use crate::symbol::{Symbol, is, is_mark, is_mark_kind, is_word_kind};
+use crate::symbol::{Symbol, is, is_mark_kind, is_word_kind};
 use affc_grammar::fault::LimitName;
 use affc_lex::token::Kind;
 

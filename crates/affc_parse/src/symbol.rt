@@ -1,16 +1,19 @@
-//! Tokens with their text, as the grammar has them.
+//! Tokens with their text, as the grammar has them, and what stands first in a list of them.
 
-ghost use Rattle.std.specs.Prelude.{◌≡◌, ◌&&◌};
-ghost use Rattle.affc_lex.specs.Bytes.{same};
+ghost use Rattle.std.specs.Prelude.{◌≡◌, ◌&&◌, map, None, Some, MatchOption};
+ghost use Rattle.affc_lex.specs.Bytes as bytes;
 ghost use Rattle.affc_grammar.specs.Grammar as grammar;
+ghost use Rattle.affc_parse.specs.Numbers.{number_of};
 
 use affc_lex::token::Kind;
 
-/// A token of a text, with its bytes.
-#[derive(Clone, Copy, Debug, Drop)]
+/// A token of a text, with its bytes; of a Number and a Value also the number that its digits write.
+#[derive(Clone, Copy, Drop)]
 pub struct Symbol<'a> {
     pub kind: Kind,
     pub text: &'a str,
+    pub value: u64,
+    pub ghost valued: { value ≡ number_of kind text.now },
 }
 
 pub(crate) fn is_word_kind(kind: Kind) -> bool
@@ -27,21 +30,7 @@ pub(crate) fn is_mark_kind(kind: Kind) -> bool
 
 /// Whether the texts are the same.
 pub(crate) fn is(text: &str, other: &[u8]) -> bool
-    ensures { result ≡ same text.now other.now }
+    ensures { result ≡ bytes.same text.now other.now }
 {
     text.as_bytes() == other
-}
-
-/// Whether it is this mark.
-pub(crate) fn is_mark(symbol: &Symbol<'_>, bytes: &[u8]) -> bool
-    ensures { result ≡ (grammar.is_mark symbol.now.kind && same symbol.now.text.now bytes.now) }
-{
-    is_mark_kind(symbol.kind) && is(symbol.text, bytes)
-}
-
-/// Whether it is this word.
-pub(crate) fn is_word(symbol: &Symbol<'_>, bytes: &[u8]) -> bool
-    ensures { result ≡ (grammar.is_word symbol.now.kind && same symbol.now.text.now bytes.now) }
-{
-    is_word_kind(symbol.kind) && is(symbol.text, bytes)
 }
