@@ -1,11 +1,14 @@
 -- What the grammar sees of a draft, by one step: the lemmas that `search` and `grind` take.
-use Rattle.std.proofs.Common.{◌≡◌, refl}
+use Rattle.std.proofs.Common.{◌≡◌, ℕ, refl, ap, ◌∙◌}
 use denote.Hole.Carrier.{out, shown}
 use Rattle.affc_grammar.specs.Draft as d
 use Rattle.affc_parse.specs.declared.draft.IxDraft.{IxDraft, out-IxDraft, map-IxDraft, the_lemmas as ix_lemmas}
 use Rattle.affc_parse.specs.declared.draft.IxDraft.TheVariants as c
 use Rattle.affc_parse.specs.declared.draft.IxDraft.TheBlock.{more_of-IxDraft, end_of-IxDraft, shown-the_row-IxDraft-0}
-use Rattle.affc_parse.specs.Drafts.{ix, ix_node}
+use Rattle.affc_parse.specs.declared.draft.IxDraft.TheOpen.{IxDraft-F}
+use Rattle.affc_parse.specs.declared.draft.Choice.{Choice}
+use Rattle.affc_parse.specs.declared.draft.Rounding.{Rounding}
+use Rattle.affc_parse.specs.Drafts.{ix, ix_node, choice, rounding}
 
 pub ix_out : (e : IxDraft) → ix e ≡ ix_node (map-IxDraft IxDraft d.IxDraft ix (out-IxDraft e))
 unfolding out-IxDraft out shown-the_row-IxDraft-0 shown
@@ -20,3 +23,31 @@ ix_out (c.Chosen' at f s (more_of-IxDraft a end_of-IxDraft) t (more_of-IxDraft b
 ix_out (c.Divided' at f s (more_of-IxDraft a end_of-IxDraft) by_at by) = refl
 
 pub ruleset ix_outs = (ix_lemmas, ix_out)
+
+-- At a node as code makes it.
+
+abbrev node_of : IxDraft-F IxDraft → d.IxDraft
+node_of l = ix_node (map-IxDraft IxDraft d.IxDraft ix l)
+
+pub ix-Negated : (at : ℕ) (a : IxDraft) → ix (c.Negated at a) ≡ d.negated at (ix a)
+ix-Negated at a = ix_out (c.Negated at a) ∙ ap node_of (c.outs-Negated at a)
+
+pub ix-Sum : (a b : IxDraft) → ix (c.Sum a b) ≡ d.sum (ix a) (ix b)
+ix-Sum a b = ix_out (c.Sum a b) ∙ ap node_of (c.outs-Sum a b)
+
+pub ix-Difference : (a b : IxDraft) → ix (c.Difference a b) ≡ d.difference (ix a) (ix b)
+ix-Difference a b = ix_out (c.Difference a b) ∙ ap node_of (c.outs-Difference a b)
+
+pub ix-Product : (at : ℕ) (a b : IxDraft) → ix (c.Product at a b) ≡ d.product at (ix a) (ix b)
+ix-Product at a b = ix_out (c.Product at a b) ∙ ap node_of (c.outs-Product at a b)
+
+pub ix-Grouped : (at : ℕ) (a : IxDraft) → ix (c.Grouped at a) ≡ d.grouped at (ix a)
+ix-Grouped at a = ix_out (c.Grouped at a) ∙ ap node_of (c.outs-Grouped at a)
+
+pub ix-Chosen : (at : ℕ) (f : Choice) (a b : IxDraft) → ix (c.Chosen at f a b) ≡ d.chosen at (choice f) (ix a) (ix b)
+ix-Chosen at f a b = ix_out (c.Chosen at f a b) ∙ ap node_of (c.outs-Chosen at f a b)
+
+pub ix-Divided : (at : ℕ) (f : Rounding) (a : IxDraft) (by_at by : ℕ) → ix (c.Divided at f a by_at by) ≡ d.divided at (rounding f) (ix a) by_at by
+ix-Divided at f a by_at by = ix_out (c.Divided at f a by_at by) ∙ ap node_of (c.outs-Divided at f a by_at by)
+
+pub ruleset ix_made = (ix-Negated, ix-Sum, ix-Difference, ix-Product, ix-Grouped, ix-Chosen, ix-Divided)

@@ -3,6 +3,7 @@
 
 pub mod ahead;
 pub mod draft;
+pub mod expression;
 pub mod forms;
 pub mod shape;
 pub mod symbol;
