@@ -109,7 +109,7 @@ first_joined false false false true at T R D I t r e i which p =
     ∙ ap (λ w. Some (fault at w)) same
 first_joined false false false false at T R D I t r e i which p = absurd (cc)
 
-next_of : (xs : List code.Symbol) (at : ℕ) (d : code.Symbol) → at < length xs → drop at xs ≡ get_or xs at d ∷ drop (at + 1) xs
+pub next_of : (xs : List code.Symbol) (at : ℕ) (d : code.Symbol) → at < length xs → drop at xs ≡ get_or xs at d ∷ drop (at + 1) xs
 next_of xs at d lt = drop-cons xs at d lt ∙ ap (λ n. get_or xs at d ∷ drop n xs) (sym (add-one at))
 
 pub step : (limits : Counts) (at : ℕ) (counts : Counts) (s : Symbol) (ss : List Symbol) → first_above limits (counts_behind counts s) ≡ None

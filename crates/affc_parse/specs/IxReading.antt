@@ -1,17 +1,14 @@
 -- Reading drafts of whole-number expressions. Only the crate's private clauses cite it: `end` is the number behind the last token, so that the first
 -- of some tokens at the text's end has the number `end - length tokens`.
-use Rattle.std.specs.Prelude.{◌≡◌, ℕ, zero, suc, ◌-◌, Bool, true, false, List, [], ◌∷◌, length, map, codes, Option, Some, None, Result, Ok, Err, if◌then◌else◌}
-use Rattle.std.specs.Borrow.{Bor}
+use Rattle.std.specs.Prelude.{◌≡◌, ℕ, zero, suc, ◌-◌, Bool, true, false, List, [], ◌∷◌, length, drop, codes, Option, Some, None, Result, Ok, Err, if◌then◌else◌}
 use Rattle.affc_lex.specs.Bytes.{decimal}
 use Rattle.affc_grammar.specs.Grammar as g
 use Rattle.affc_grammar.specs.Grammar.{Symbol, Name, is_divisor}
 use Rattle.affc_grammar.specs.Draft.{IxDraft, literal, name, negated, sum, difference, product, grouped, chosen, divided}
 use Rattle.affc_grammar.specs.Reader.{Stop, At, Deep, Read, Reader, then_read}
 use Rattle.affc_grammar.specs.Reading.{this_mark, any_word, of_kind, is_number_kind, Callee, of_choice, of_rounding, sum_sign}
-use Rattle.affc_parse.specs.declared.symbol.Symbol as code
 use Rattle.affc_parse.specs.declared.ahead.Stop as stop
 use Rattle.affc_parse.specs.declared.ahead.Stop.TheVariants as s
-use Rattle.affc_parse.specs.Symbols.{seen}
 use Rattle.affc_parse.specs.Callees.{callee}
 use Rattle.affc_parse.specs.Ahead.{past, number_value, divisor_value}
 
@@ -25,14 +22,15 @@ closed mark a ts = on_past (past (this_mark mark) ts) (λ _ us. Ok (a, us)) (Err
 
 -- ---- What a function answers, where memory is enough
 
-abbrev pub Fails : {D : Type 0} → stop.Stop → Read Symbol D → Type 0
-Fails s.Memory read = Unit {0}
-Fails s.Deep read = read ≡ Err Deep
-Fails (s.At rest) read = read ≡ Err (At (map seen rest.now))
+abbrev pub Fails : {D : Type 0} → List Symbol → stop.Stop → Read Symbol D → Type 0
+Fails ss s.Memory read = Unit {0}
+Fails ss s.Deep read = read ≡ Err Deep
+Fails ss (s.At next) read = read ≡ Err (At (drop next ss))
 
-abbrev pub Gives : {T D : Type 0} → (T → D) → Result (T × Bor (List code.Symbol)) stop.Stop → Read Symbol D → Type 0
-Gives see (Ok r) read = read ≡ Ok (see r.0, map seen r.1.now)
-Gives see (Err f) read = Fails f read
+-- of all symbols, what was read and the number of the symbol behind it
+abbrev pub Gives : {T D : Type 0} → List Symbol → (T → D) → Result (T × ℕ) stop.Stop → Read Symbol D → Type 0
+Gives ss see (Ok r) read = read ≡ Ok (see r.0, drop r.1 ss)
+Gives ss see (Err f) read = Fails ss f read
 
 -- ---- Again and again
 
@@ -42,6 +40,12 @@ more test turn (suc n) left ts = on_past (past test ts) (λ k us. then_read (tur
 
 unfoldable pub all_more : {A K : Type 0} → (Symbol → Option K) → (K → A → Reader Symbol A) → A → Reader Symbol A
 all_more test turn left ts = more test turn (length ts) left ts
+
+abbrev pub itself : ℕ → ℕ
+itself n = n
+
+abbrev pub divisor : Reader Symbol ℕ
+divisor ts = on_past (past divisor_value ts) (λ by us. Ok (by, us)) (Err (At ts))
 
 -- ---- Expressions; `inner` reads one behind an opened bracket
 
@@ -58,7 +62,7 @@ abbrev pub rounding_call : (end at : ℕ) → Reader Symbol IxDraft → g.Roundi
 rounding_call end at inner f us =
     then_read (inner us) (λ a vs.
     on_past (past (this_mark (codes ",")) vs) (λ _ ws.
-    on_past (past divisor_value ws) (λ by xs. closed (codes ")") (divided at f a (end - length ws) by) xs) (Err (At ws))) (Err (At vs)))
+    then_read (divisor ws) (λ by xs. closed (codes ")") (divided at f a (end - length ws) by) xs)) (Err (At vs)))
 
 abbrev pub call : (end at : ℕ) → Reader Symbol IxDraft → Callee → Reader Symbol IxDraft
 call end at inner (of_choice f) = choice_call at inner f

@@ -1,6 +1,6 @@
 //! What stands first among tokens, and the tokens behind it.
 
-ghost use Rattle.std.specs.Prelude.{◌≡◌, map, None, Some, MatchOption, MatchResult, is_some};
+ghost use Rattle.std.specs.Prelude.{◌≡◌, ◌<◌, ◌+◌, ◌∷◌, [], drop, length, map, None, Some, MatchOption, MatchResult, is_some};
 ghost use Rattle.affc_lex.specs.Bytes as bytes;
 ghost use Rattle.affc_grammar.specs.Reading as tests;
 ghost use Rattle.affc_parse.specs.Symbols.{seen};
@@ -26,90 +26,121 @@ fn is_mark(symbol: &Symbol<'_>, mark: &[u8]) -> bool
     is_mark_kind(symbol.kind) && same(mark, symbol.text)
 }
 
+/// The token of this number, where it is one.
+pub(crate) fn first<'a, 't>(symbols: &'a [Symbol<'t>], at: usize) -> Option<&'a Symbol<'t>>
+    ensures { MatchOption result
+        (drop at (map seen symbols.now) ≡ [])
+        (λ s. (drop at (map seen symbols.now) ≡ seen s.now ∷ drop (at + 1) (map seen symbols.now)) × (at < length symbols.now)) }
+{
+    if at < symbols.len() {
+        Some(&symbols[at])
+    } else {
+        None
+    }
+}
+
 /// Behind this mark.
-pub(crate) fn past_mark<'a, 't>(mark: &[u8], tokens: &'a [Symbol<'t>]) -> Option<&'a [Symbol<'t>]>
+pub(crate) fn past_mark(mark: &[u8], symbols: &[Symbol<'_>], at: usize) -> Option<usize>
     ensures { MatchOption result
-        (ahead.past (tests.this_mark mark.now) (map seen tokens.now) ≡ None)
-        (λ rest. ahead.past (tests.this_mark mark.now) (map seen tokens.now) ≡ Some (tt, map seen rest.now)) }
+        (ahead.past (tests.this_mark mark.now) (drop at (map seen symbols.now)) ≡ None)
+        (λ next. ahead.past (tests.this_mark mark.now) (drop at (map seen symbols.now)) ≡ Some (tt, drop next (map seen symbols.now))) }
 {
-    match tokens {
-        [first, rest @ ..] => {
-            if is_mark(first, mark) {
-                Some(rest)
+    match first(symbols, at) {
+        Some(symbol) => {
+            if is_mark(symbol, mark) {
+                Some(at + 1)
             } else {
                 None
             }
         }
+        None => None,
+    }
+}
+
+fn number(symbol: &Symbol<'_>) -> Option<u64>
+    ensures { result ≡ ahead.number_value (seen symbol.now) }
+{
+    match symbol.kind {
+        Kind::Number => Some(symbol.value),
         _ => None,
     }
 }
 
-/// The number of a Number, and the tokens behind it.
-pub(crate) fn past_number<'a, 't>(tokens: &'a [Symbol<'t>]) -> Option<(u64, &'a [Symbol<'t>])>
+/// The number of a Number, and the place behind it.
+pub(crate) fn past_number(symbols: &[Symbol<'_>], at: usize) -> Option<(u64, usize)>
     ensures { MatchOption result
-        (ahead.past ahead.number_value (map seen tokens.now) ≡ None)
-        (λ r. ahead.past ahead.number_value (map seen tokens.now) ≡ Some (r.0, map seen r.1.now)) }
+        (ahead.past ahead.number_value (drop at (map seen symbols.now)) ≡ None)
+        (λ r. ahead.past ahead.number_value (drop at (map seen symbols.now)) ≡ Some (r.0, drop r.1 (map seen symbols.now))) }
 {
-    match tokens {
-        [first, rest @ ..] => match first.kind {
-            Kind::Number => Some((first.value, rest)),
-            _ => None,
-        },
-        _ => None,
-    }
-}
-
-/// A Word, and the tokens behind it.
-pub(crate) fn past_word<'a, 't>(tokens: &'a [Symbol<'t>]) -> Option<(&'t str, &'a [Symbol<'t>])>
-    ensures { MatchOption result
-        (ahead.past tests.any_word (map seen tokens.now) ≡ None)
-        (λ r. ahead.past tests.any_word (map seen tokens.now) ≡ Some (r.0.now, map seen r.1.now)) }
-{
-    match tokens {
-        [first, rest @ ..] => {
-            if is_word_kind(first.kind) {
-                Some((first.text, rest))
-            } else {
-                None
-            }
-        }
-        _ => None,
-    }
-}
-
-/// The number of a Number of at least 1, and the tokens behind it.
-pub(crate) fn past_divisor<'a, 't>(tokens: &'a [Symbol<'t>]) -> Option<(u64, &'a [Symbol<'t>])>
-    ensures { MatchOption result
-        (ahead.past ahead.divisor_value (map seen tokens.now) ≡ None)
-        (λ r. ahead.past ahead.divisor_value (map seen tokens.now) ≡ Some (r.0, map seen r.1.now)) }
-{
-    match tokens {
-        [first, rest @ ..] => match first.kind {
-            Kind::Number => {
-                if 1 <= first.value {
-                    Some((first.value, rest))
-                } else {
-                    None
-                }
-            }
-            _ => None,
-        },
-        _ => None,
-    }
-}
-
-/// Behind a `+` or a `-`, and whether it is a `+`.
-pub(crate) fn past_sign<'a, 't>(tokens: &'a [Symbol<'t>]) -> Option<(bool, &'a [Symbol<'t>])>
-    ensures { MatchOption result
-        (ahead.past tests.sum_sign (map seen tokens.now) ≡ None)
-        (λ r. ahead.past tests.sum_sign (map seen tokens.now) ≡ Some (r.0, map seen r.1.now)) }
-{
-    match tokens {
-        [first, rest @ ..] => match sign(first) {
-            Some(is_plus) => Some((is_plus, rest)),
+    match first(symbols, at) {
+        Some(symbol) => match number(symbol) {
+            Some(value) => Some((value, at + 1)),
             None => None,
         },
+        None => None,
+    }
+}
+
+/// A Word, and the place behind it.
+pub(crate) fn past_word<'t>(symbols: &[Symbol<'t>], at: usize) -> Option<(&'t str, usize)>
+    ensures { MatchOption result
+        (ahead.past tests.any_word (drop at (map seen symbols.now)) ≡ None)
+        (λ r. ahead.past tests.any_word (drop at (map seen symbols.now)) ≡ Some (r.0.now, drop r.1 (map seen symbols.now))) }
+{
+    match first(symbols, at) {
+        Some(symbol) => {
+            if is_word_kind(symbol.kind) {
+                Some((symbol.text, at + 1))
+            } else {
+                None
+            }
+        }
+        None => None,
+    }
+}
+
+fn divisor(symbol: &Symbol<'_>) -> Option<u64>
+    ensures { result ≡ ahead.divisor_value (seen symbol.now) }
+{
+    match symbol.kind {
+        Kind::Number => {
+            if 1 <= symbol.value {
+                Some(symbol.value)
+            } else {
+                None
+            }
+        }
         _ => None,
+    }
+}
+
+/// The number of a Number of at least 1, and the place behind it.
+pub(crate) fn past_divisor(symbols: &[Symbol<'_>], at: usize) -> Option<(u64, usize)>
+    ensures { MatchOption result
+        (ahead.past ahead.divisor_value (drop at (map seen symbols.now)) ≡ None)
+        (λ r. ahead.past ahead.divisor_value (drop at (map seen symbols.now)) ≡ Some (r.0, drop r.1 (map seen symbols.now))) }
+{
+    match first(symbols, at) {
+        Some(symbol) => match divisor(symbol) {
+            Some(value) => Some((value, at + 1)),
+            None => None,
+        },
+        None => None,
+    }
+}
+
+/// Whether a `+` or a `-` is a `+`, and the place behind it.
+pub(crate) fn past_sign(symbols: &[Symbol<'_>], at: usize) -> Option<(bool, usize)>
+    ensures { MatchOption result
+        (ahead.past tests.sum_sign (drop at (map seen symbols.now)) ≡ None)
+        (λ r. ahead.past tests.sum_sign (drop at (map seen symbols.now)) ≡ Some (r.0, drop r.1 (map seen symbols.now))) }
+{
+    match first(symbols, at) {
+        Some(symbol) => match sign(symbol) {
+            Some(is_plus) => Some((is_plus, at + 1)),
+            None => None,
+        },
+        None => None,
     }
 }
 
@@ -154,39 +185,36 @@ pub(crate) fn callee_of(prelude: bool, word: &str) -> Option<Callee>
     }
 }
 
-/// Why nothing was read: the tokens from the first that cannot stand on are left.
-#[derive(Drop)]
-pub(crate) enum Stop<'a, 't> {
+/// Why nothing was read: the number of the first token that cannot stand on, or behind the last.
+#[derive(Clone, Copy, Drop)]
+pub(crate) enum Stop {
     Memory,
     Deep,
-    At(&'a [Symbol<'t>]),
+    At(usize),
 }
 
-impl<'a, 't> From<AllocError> for Stop<'a, 't> {
+impl From<AllocError> for Stop {
     ghost use Rattle.affc_parse.specs.declared.ahead.Stop.TheVariants.{Memory};
     ghost use Rattle.std.specs.Prelude.{◌≡◌};
 
     ghost from_gives = { λ _ e. e ≡ Memory };
 
-    fn from(_: AllocError) -> Stop<'a, 't> {
+    fn from(_: AllocError) -> Stop {
         Stop::Memory
     }
 }
 
-/// What was read, and the tokens behind it.
-pub(crate) type Answer<'a, 't, T> = Result<(T, &'a [Symbol<'t>]), Stop<'a, 't>>;
+/// What was read, and the number of the token behind it.
+pub(crate) type Answer<T> = Result<(T, usize), Stop>;
 
 /// Behind this mark, which has to stand here.
-pub(crate) fn behind<'a, 't>(
-    mark: &[u8],
-    tokens: &'a [Symbol<'t>],
-) -> Result<&'a [Symbol<'t>], Stop<'a, 't>>
+pub(crate) fn behind(mark: &[u8], symbols: &[Symbol<'_>], at: usize) -> Result<usize, Stop>
     ensures { MatchResult result
-        (λ rest. ahead.past (tests.this_mark mark.now) (map seen tokens.now) ≡ Some (tt, map seen rest.now))
-        (λ f. (f ≡ stop.At tokens.entry) × (ahead.past (tests.this_mark mark.now) (map seen tokens.now) ≡ None)) }
+        (λ next. ahead.past (tests.this_mark mark.now) (drop at (map seen symbols.now)) ≡ Some (tt, drop next (map seen symbols.now)))
+        (λ f. (f ≡ stop.At at) × (ahead.past (tests.this_mark mark.now) (drop at (map seen symbols.now)) ≡ None)) }
 {
-    match past_mark(mark, tokens) {
-        Some(rest) => Ok(rest),
-        None => Err(Stop::At(tokens)),
+    match past_mark(mark, symbols, at) {
+        Some(next) => Ok(next),
+        None => Err(Stop::At(at)),
     }
 }
