@@ -1,5 +1,5 @@
 -- Loops of readers of drafts, and that a reader leaves no more tokens than it was given.
-use Rattle.std.proofs.Common.{◌≡◌, ℕ, zero, suc, ◌+◌, ◌-◌, Bool, codes, ◌≤◌, ◌<◌, List, [], ◌∷◌, length, get_or, drop, map, Option, Some, None, Result, Ok, Err, refl, sym, ap, ◌∙◌, arith}
+use Rattle.std.proofs.Common.{◌≡◌, ℕ, zero, suc, ◌+◌, ◌-◌, Bool, codes, ◌≤◌, ◌<◌, List, [], ◌∷◌, length, get_or, drop, map, Option, Some, None, Result, Ok, Err, refl, sym, ap, ◌∙◌, arith, length-drop}
 use Rattle.std.proofs.lemmas.List.{length-map, drop-map}
 use Rattle.affc_grammar.specs.Grammar.{Symbol}
 use Rattle.affc_grammar.specs.Draft.{IxDraft, literal, name, negated, product, grouped, chosen, divided}
@@ -175,3 +175,43 @@ pub inside_left : (prelude : Bool) (end room : ℕ) → Shrinks (inside prelude 
 unfolding inside
 inside_left prelude end zero ts = left_fail Deep (length ts)
 inside_left prelude end (suc room) ts = expression_left prelude end (inside prelude end room) (inside_left prelude end room) ts
+
+-- ---- The two loops, as the code runs them
+
+module _ (prelude : Bool) (end room : ℕ) (symbols : List code.Symbol) (left : IxDraft) (n b : ℕ) where
+  pub factors_err : (f : stop.Stop) → past (this_mark (codes "*")) (drop n (map seen symbols)) ≡ Some (tt, drop b (map seen symbols)) → Fails (map seen symbols) f (times prelude end (inside prelude end room) tt left (drop b (map seen symbols)))
+      → Fails (map seen symbols) f (factors prelude end (inside prelude end room) left (drop n (map seen symbols)))
+  factors_err f e q = loop_stop (this_mark (codes "*")) (times prelude end (inside prelude end room)) (times_left prelude end (inside prelude end room) (inside_left prelude end room)) (map seen symbols) left _ tt _ f e q
+
+  pub factors_on : (x : IxDraft) (r : ℕ) → past (this_mark (codes "*")) (drop n (map seen symbols)) ≡ Some (tt, drop b (map seen symbols)) → times prelude end (inside prelude end room) tt left (drop b (map seen symbols)) ≡ Ok (x, drop r (map seen symbols))
+      → factors prelude end (inside prelude end room) left (drop n (map seen symbols)) ≡ factors prelude end (inside prelude end room) x (drop r (map seen symbols))
+  factors_on x r e q = loop_on (this_mark (codes "*")) (times prelude end (inside prelude end room)) (times_left prelude end (inside prelude end room) (inside_left prelude end room)) left _ tt _ x _ e q
+
+  pub factors_end : past (this_mark (codes "*")) (drop n (map seen symbols)) ≡ None → factors prelude end (inside prelude end room) left (drop n (map seen symbols)) ≡ Ok (left, drop n (map seen symbols))
+  factors_end e = loop_end (this_mark (codes "*")) (times prelude end (inside prelude end room)) (times_left prelude end (inside prelude end room) (inside_left prelude end room)) left _ e
+
+  pub terms_err : (k : Bool) (f : stop.Stop) → past sum_sign (drop n (map seen symbols)) ≡ Some (k, drop b (map seen symbols)) → Fails (map seen symbols) f (added prelude end (inside prelude end room) k left (drop b (map seen symbols)))
+      → Fails (map seen symbols) f (terms prelude end (inside prelude end room) left (drop n (map seen symbols)))
+  terms_err k f e q = loop_stop sum_sign (added prelude end (inside prelude end room)) (added_left prelude end (inside prelude end room) (inside_left prelude end room)) (map seen symbols) left _ k _ f e q
+
+  pub terms_on : (k : Bool) (x : IxDraft) (r : ℕ) → past sum_sign (drop n (map seen symbols)) ≡ Some (k, drop b (map seen symbols)) → added prelude end (inside prelude end room) k left (drop b (map seen symbols)) ≡ Ok (x, drop r (map seen symbols))
+      → terms prelude end (inside prelude end room) left (drop n (map seen symbols)) ≡ terms prelude end (inside prelude end room) x (drop r (map seen symbols))
+  terms_on k x r e q = loop_on sum_sign (added prelude end (inside prelude end room)) (added_left prelude end (inside prelude end room) (inside_left prelude end room)) left _ k _ x _ e q
+
+  pub terms_end : past sum_sign (drop n (map seen symbols)) ≡ None → terms prelude end (inside prelude end room) left (drop n (map seen symbols)) ≡ Ok (left, drop n (map seen symbols))
+  terms_end e = loop_end sum_sign (added prelude end (inside prelude end room)) (added_left prelude end (inside prelude end room) (inside_left prelude end room)) left _ e
+
+  less_left : (r : ℕ) → length (drop b (map seen symbols)) < length (drop n (map seen symbols)) → length (drop r (map seen symbols)) ≤ length (drop b (map seen symbols)) → length symbols - r < length symbols - n
+  less_left r p q =
+      let all : length (map seen symbols) ≡ length symbols = length-map symbols seen in
+      let m = length-drop n (map seen symbols) in
+      let k = length-drop r (map seen symbols) in
+      omega (arith, p, q, all, m, k)
+
+  pub factors_less : (x : IxDraft) (r : ℕ) → past (this_mark (codes "*")) (drop n (map seen symbols)) ≡ Some (tt, drop b (map seen symbols)) → times prelude end (inside prelude end room) tt left (drop b (map seen symbols)) ≡ Ok (x, drop r (map seen symbols))
+      → length symbols - r < length symbols - n
+  factors_less x r e q = less_left r (past_shorter (this_mark (codes "*")) _ tt _ e) (times_left prelude end (inside prelude end room) (inside_left prelude end room) tt left _ x _ q)
+
+  pub terms_less : (k : Bool) (x : IxDraft) (r : ℕ) → past sum_sign (drop n (map seen symbols)) ≡ Some (k, drop b (map seen symbols)) → added prelude end (inside prelude end room) k left (drop b (map seen symbols)) ≡ Ok (x, drop r (map seen symbols))
+      → length symbols - r < length symbols - n
+  terms_less k x r e q = less_left r (past_shorter sum_sign _ k _ e) (added_left prelude end (inside prelude end room) (inside_left prelude end room) k left _ x _ q)
