@@ -6,3 +6,4 @@ pub mod ExampleProofs
 pub mod Marks
 pub mod WideLemmas
 pub mod Products
+pub mod Whole

@@ -88,7 +88,7 @@ multiple_of_equal x y d h e =
 remainders_apart : (x y p q r s m : ℤ) → x ≡ p +ℤ r → y ≡ q +ℤ s → x -ℤ y ≡ m → r -ℤ s ≡ (m -ℤ p) +ℤ q
 remainders_apart x y p q r s m e f g = omega (arith, ints)
 
-between : (r s d : ℤ) → pos 0 ≤ℤ r → r <ℤ d → pos 0 ≤ℤ s → s <ℤ d → pos (unsigned_abs (r -ℤ s)) <ℤ d
+pub between : (r s d : ℤ) → pos 0 ≤ℤ r → r <ℤ d → pos 0 ≤ℤ s → s <ℤ d → pos (unsigned_abs (r -ℤ s)) <ℤ d
 between r s d a b c e = omega (arith, ints)
 
 equal_of_zero : (r s : ℤ) → r -ℤ s ≡ pos 0 → r ≡ s

@@ -1,5 +1,5 @@
 //! What may be concluded about folds. Each law is the contract of a function that does nothing.
-ghost use Rattle.affc_basis.specs.Laws.{RowsSeparate, PlacesMeetInTheLattice, SliceIsFound, GreatestIsFound, ObeyingFoldIsAdmissible, AdmissibleFoldsSeparate, FoldsKeepParameters, LeastMarkIsNeed, CompilesFolded};
+ghost use Rattle.affc_basis.specs.Laws.{RowsSeparate, PlacesMeetInTheLattice, SliceIsFound, GreatestIsFound, ObeyingFoldIsAdmissible, WholeArrayObeys, AdmissibleFoldsSeparate, FoldsKeepParameters, LeastMarkIsNeed, CompilesFolded};
 
 /// A basis loses nothing: elements that lie apart along no row are equal.
 pub fn rows_separate()
@@ -24,6 +24,11 @@ pub fn greatest_is_found()
 /// Successive moduli that exceed what their rows need make an admissible fold.
 pub fn obeying_fold_is_admissible()
     ensures law { ObeyingFoldIsAdmissible }
+{}
+
+/// An array that is left whole obeys.
+pub fn whole_array_obeys()
+    ensures law { WholeArrayObeys }
 {}
 
 /// No elements that are live together have one place, where each fold is admissible.

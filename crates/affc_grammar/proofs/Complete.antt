@@ -1,17 +1,14 @@
 -- What is spelled so is read: of each rule, before any tokens that do not go on with it.
-use Rattle.std.proofs.Common.{◌≡◌, ℕ, zero, suc, ◌+◌, Bool, true, false, not, ◌||◌, ◌==◌, List, [], ◌∷◌, ◌++◌, Option, Some, None, refl, sym, ap, ◌∙◌, subst, codes, IsTrue, append_assoc, append-nil}
+use Rattle.std.proofs.Common.{◌≡◌, ℕ, zero, suc, Bool, true, false, List, [], ◌∷◌, ◌++◌, Option, Some, None, refl, sym, subst, codes, append_assoc}
 use mathlib.Core.Bool.{Bool-set}
-use Rattle.affc_ast.specs.declared.tree.Op.{Op}
-use Rattle.affc_ast.specs.declared.tree.Op.TheVariants.{Add, Sub, Mul, And, Or, Xor}
 use Rattle.affc_ast.specs.declared.tree.Rel.{Rel}
 use Rattle.affc_ast.specs.declared.tree.Rel.TheVariants.{Less, LessEqual, Greater, GreaterEqual, Equal}
 use Rattle.affc_grammar.specs.Grammar as g
 use Rattle.affc_grammar.specs.Grammar.{Symbol, Name, Choice, Rounding, word, number, mark, is_divisor, IxText, TermText, FactorText, AtomText, DimsText, CondsText, CondText, ix_symbols, term_symbols, factor_symbols, atom_symbols, dims_symbols, dim_symbols, conds_symbols, cond_symbols, rel_mark, choice_name, rounding_name}
-use Rattle.affc_grammar.specs.Reader.{Reader, give, deep, after, either, on, all, inside}
-use Rattle.affc_grammar.specs.Reading.{this_mark, any_word, any_number, choose, Callee, of_choice, of_rounding, callee_name, callees, read_call, read_called, read_named, read_atom, read_factor, times_more, read_factors, read_term, sum_sign, joined, sum_more, read_terms, read_sum, ix_inside, read_ix, dims_more, read_dims, Half, condition, expression, Mixed, conditions, index, rel_of, read_compared, read_closed, read_half, only_condition, read_cond, and_more, read_ands, read_half_more, mixed_inside, read_conds}
-use Rattle.affc_grammar.proofs.Readers.{IsReader}
+use Rattle.affc_grammar.specs.Reader.{Reader, give, after, all, inside, IsReader}
+use Rattle.affc_grammar.specs.Reading.{this_mark, choose, Callee, of_choice, of_rounding, callee_name, callees, read_call, read_called, read_named, read_atom, read_factor, times_more, read_term, sum_sign, sum_more, read_terms, read_sum, ix_inside, dims_more, read_dims, Half, condition, expression, Mixed, conditions, rel_of, read_compared, read_half, and_more, read_half_more, mixed_inside, read_conds}
 use Rattle.affc_grammar.proofs.Tests.{divisor_test, rel_test, callee_passes}
-use Rattle.affc_grammar.proofs.Rules.{Whole, ix_inside_rule, times_rule, plus_rule, dim_rule, and_rule, mixed_inside_rule}
+use Rattle.affc_grammar.proofs.Rules.{ix_inside_rule, times_rule, plus_rule, dim_rule, and_rule, mixed_inside_rule}
 use Rattle.affc_grammar.proofs.Done.{Gets, NotNext, gets_give, gets_deep, gets_after, gets_on, gets_other, gets_end, gets_turn, gets_turn_then, gets_both}
 
 pub regroup : {A : Type 0} {p : Reader Symbol A} {a : A} {rest : List Symbol} (xs ys zs : List Symbol) → Gets p (xs ++ (ys ++ zs)) a rest → Gets p ((xs ++ ys) ++ zs) a rest

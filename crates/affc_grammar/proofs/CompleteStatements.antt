@@ -1,14 +1,13 @@
 -- Statements that are spelled so are read.
-use Rattle.std.proofs.Common.{◌≡◌, ℕ, zero, suc, ◌+◌, Bool, true, false, ◌==◌, List, [], ◌∷◌, ◌++◌, Option, Some, None, refl, sym, ap, ◌∙◌, subst, codes, IsTrue, append_assoc}
+use Rattle.std.proofs.Common.{◌≡◌, ℕ, zero, suc, Bool, true, false, List, [], ◌∷◌, ◌++◌, Option, Some, None, refl, sym, subst, codes, append_assoc}
 use mathlib.Core.Bool.{Bool-set}
 use Rattle.affc_lex.specs.Bytes.{same}
 use Rattle.affc_ast.specs.declared.tree.Op.{Op}
 use Rattle.affc_ast.specs.declared.tree.Op.TheVariants.{Add, Sub, Mul, And, Or, Xor}
 use Rattle.affc_grammar.specs.Grammar as g
 use Rattle.affc_grammar.specs.Grammar.{Symbol, Name, word, number, mark, IxText, DimsText, ValueText, StepText, LocalsText, StmtsText, StmtText, SimpleText, BodyText, ix_symbols, dims_symbols, dim_symbols, conds_symbols, value_symbols, step_symbols, locals_symbols, stmts_symbols, stmt_symbols, simple_symbols, body_symbols, bound_mark, assign_mark}
-use Rattle.affc_grammar.specs.Reader.{Reader, give, deep, after, either, on, all, Turn, going, done, until, and_on, inside}
-use Rattle.affc_grammar.specs.Reading.{this_mark, this_word, any_word, choose, read_step, Head, for_head, if_head, Heads, head, and_head, with_body, under, and_one, whole, read_for, read_if, read_conds, read_assign, head_words, assigned_under, read_worded, First, a_word, a_brace, first_of, read_body, read_under, read_simple, read_stmt, stmt_more, Block, local_behind, block_stmt, block_word, block_more, stmts_inside, block_inside}
-use Rattle.affc_grammar.proofs.Readers.{IsReader}
+use Rattle.affc_grammar.specs.Reader.{Reader, give, after, on, all, done, until, IsReader}
+use Rattle.affc_grammar.specs.Reading.{this_mark, this_word, choose, read_step, Head, for_head, if_head, Heads, with_body, under, and_one, whole, read_for, head_words, assigned_under, read_worded, First, a_word, a_brace, first_of, read_body, read_under, read_stmt, stmt_more, Block, block_stmt, block_word, block_more, stmts_inside, block_inside}
 use Rattle.affc_grammar.proofs.Tests.{bound_test, assign_test, first_symbol, first_test}
 use Rattle.affc_grammar.proofs.Rules.{under_body_rule, stmt_more_rule, block_more_rule, stmts_inside_rule, block_inside_rule}
 use Rattle.affc_grammar.proofs.Done.{Gets, NotNext, gets_give, gets_deep, gets_after, gets_on, gets_other, gets_end, gets_turn, gets_until}

@@ -1,15 +1,14 @@
 -- Functions and texts that are spelled so are read.
-use Rattle.std.proofs.Common.{◌≡◌, ℕ, zero, suc, ◌+◌, Bool, true, false, not, ◌||◌, ◌==◌, List, [], ◌∷◌, ◌++◌, Option, Some, None, refl, sym, ap, ◌∙◌, subst, codes, IsTrue, append_assoc, append-nil}
+use Rattle.std.proofs.Common.{◌≡◌, ℕ, Bool, true, false, not, ◌||◌, List, [], ◌∷◌, ◌++◌, Some, refl, sym, ap, subst, codes, IsTrue, append-nil}
 use mathlib.Core.Bool.{Bool-set}
-use Rattle.affc_lex.specs.declared.token.Kind.TheVariants.{Word, Number, Value, Header, Hash, LineEnd, Prelude, Mark}
+use Rattle.affc_lex.specs.declared.token.Kind.TheVariants.{Prelude}
 use Rattle.affc_lex.specs.Bytes.{same}
 use Rattle.affc_lex.specs.Pieces.{prelude}
 use Rattle.affc_grammar.specs.Grammar as g
 use Rattle.affc_grammar.specs.Grammar.{Symbol, Name, LineText, line_feed, text_end, word, number, mark, IxText, DimsText, StmtsText, StmtText, ParamText, ParamsText, NamesText, DeclsText, FunctionText, IntText, PragmasText, Text, ix_symbols, dim_symbols, dims_symbols, conds_symbols, stmts_symbols, stmt_symbols, param_symbols, params_symbols, names_symbols, decls_symbols, function_symbols, int_symbols, line_symbols, pragmas_symbols, prelude_symbols, text_symbols, context_calls}
-use Rattle.affc_grammar.specs.Reader.{Reader, give, deep, after, either, on, all, inside, finished}
-use Rattle.affc_grammar.specs.Reading.{this_mark, this_word, any_word, hash, line_end, the_prelude, holding, First, a_word, a_brace, first_of, stmts_inside, block_inside, read_array, read_param, param_more, read_params, name_more, read_names, Inside, decl_behind, inside_stmt, inside_word, inside_more, read_inside, read_function, read_int, pragma_more, read_without, read_text}
-use Rattle.affc_grammar.proofs.Readers.{IsReader}
-use Rattle.affc_grammar.proofs.Tests.{line_test, first_test, line_bytes, holding_is}
+use Rattle.affc_grammar.specs.Reader.{Reader, on, all, IsReader}
+use Rattle.affc_grammar.specs.Reading.{this_mark, any_word, hash, line_end, First, a_word, first_of, read_array, read_param, param_more, read_params, name_more, read_names, Inside, inside_stmt, inside_word, inside_more, read_function, read_int, pragma_more, read_without, read_text}
+use Rattle.affc_grammar.proofs.Tests.{first_test, holding_is}
 use Rattle.affc_grammar.proofs.Rules.{param_more_rule, name_more_rule, inside_more_rule, pragma_rule}
 use Rattle.affc_grammar.proofs.Done.{Gets, NotNext, gets_give, gets_after, gets_on, gets_other, gets_end, gets_turn, gets_finished}
 use Rattle.affc_grammar.proofs.Complete.{EndsIx, regroup, ix_inside_gets, dims_gets, conds_gets, inside_room}

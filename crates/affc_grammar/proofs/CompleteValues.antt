@@ -1,15 +1,14 @@
 -- Values that are spelled so are read.
-use Rattle.std.proofs.Common.{◌≡◌, ℕ, zero, suc, ◌+◌, Bool, true, false, ◌==◌, List, [], ◌∷◌, ◌++◌, Option, Some, None, refl, sym, ap, ◌∙◌, subst, codes, IsTrue, arith}
+use Rattle.std.proofs.Common.{◌≡◌, ℕ, zero, suc, Bool, true, false, ◌==◌, List, [], ◌∷◌, ◌++◌, Some, refl, sym, subst, codes, IsTrue, arith}
 use Rattle.std.proofs.lemmas.Bool.{eqb-true}
 use Rattle.affc_ast.specs.declared.tree.Op.{Op}
 use Rattle.affc_ast.specs.declared.tree.Op.TheVariants.{Add, Sub, Mul, And, Or, Xor}
 use Rattle.affc_grammar.specs.Grammar as g
 use Rattle.affc_grammar.specs.Grammar.{Symbol, Name, word, number, mark, ValueText, ix_symbols, dims_symbols, value_symbols, op_mark, shift_mark, level_of}
-use Rattle.affc_grammar.specs.Reader.{Reader, give, deep, after, either, on, all}
-use Rattle.affc_grammar.specs.Reading.{this_mark, any_word, any_value, is_type_name, read_parens, read_plain, complements, read_primary, op_of, op_more, shift_sign, shift_more, read_operands, read_level, value_inside, read_value, read_dims, ix_inside}
-use Rattle.affc_grammar.proofs.Readers.{IsReader}
+use Rattle.affc_grammar.specs.Reader.{Reader, give, after, all, IsReader}
+use Rattle.affc_grammar.specs.Reading.{this_mark, is_type_name, read_parens, read_plain, complements, read_primary, op_of, op_more, shift_sign, shift_more, read_operands, read_level, value_inside, read_value}
 use Rattle.affc_grammar.proofs.Tests.{op_test, shift_test, shift_number_test}
-use Rattle.affc_grammar.proofs.Rules.{Whole, tilde_rule, op_rule, shift_rule, level_rule, primary_rule, value_inside_rule}
+use Rattle.affc_grammar.proofs.Rules.{tilde_rule, op_rule, shift_rule, level_rule, primary_rule, value_inside_rule}
 use Rattle.affc_grammar.proofs.Done.{Gets, NotNext, gets_give, gets_deep, gets_after, gets_on, gets_other, gets_end, gets_turn, gets_turn_then}
 use Rattle.affc_grammar.proofs.Complete.{regroup, ix_inside_gets, dims_gets}
 

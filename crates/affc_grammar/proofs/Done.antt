@@ -1,7 +1,7 @@
 -- A reader that reads all of what is given, up to what is left; that it runs out of room is let through.
-use Rattle.std.proofs.Common.{◌≡◌, ℕ, zero, suc, ◌≤◌, List, [], ◌∷◌, ◌++◌, length, Option, Some, None, Result, Ok, Err, refl, sym, ap, ◌∙◌, subst}
-use Rattle.affc_grammar.specs.Reader.{Stop, At, Deep, Read, Reader, then_read, on_some, Turn, going, done, give, fail, deep, after, either, many, all, tries, until, and_on, finished}
-use Rattle.affc_grammar.proofs.Readers.{IsReader, all_is, until_is}
+use Rattle.std.proofs.Common.{◌≡◌, List, [], ◌∷◌, Option, Some, None, Ok, Err, refl, sym, ◌∙◌, subst}
+use Rattle.affc_grammar.specs.Reader.{At, Deep, Read, Reader, then_read, on_some, Turn, give, deep, after, either, many, all, until, and_on, finished, IsReader}
+use Rattle.affc_grammar.proofs.Closed.{all_is, until_is}
 
 abbrev pub IsDone : {T A : Type 0} → A → List T → Read T A → Type 0
 IsDone a rest (Ok x) = x ≡ (a, rest)

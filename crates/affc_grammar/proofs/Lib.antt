@@ -1,4 +1,4 @@
-pub mod Readers
+pub mod Closed
 pub mod Rule
 pub mod Tests
 pub mod Rules
@@ -9,3 +9,4 @@ pub mod CompleteStatements
 pub mod CompleteText
 pub mod Texts
 pub mod Verdicts
+pub mod CopyLoops

@@ -1,8 +1,8 @@
 -- A reader of a rule: what it reads is spelled so, what it passed before it stopped begins something of the rule, and it runs out of room only where too many
 -- brackets are open. Closed under giving, failing, one after another, the first token, and repetition.
-use Rattle.std.proofs.Common.{◌≡◌, ℕ, zero, suc, ◌+◌, ◌≤◌, List, [], ◌∷◌, ◌++◌, length, Option, Some, None, Result, Ok, Err, refl, sym, ap, ◌∙◌, subst, ◌⊎◌, inl, inr, arith, append_assoc, append-nil}
-use Rattle.affc_grammar.specs.Reader.{Stop, At, Deep, Read, Reader, then_read, on_some, Turn, going, done, give, fail, deep, after, either, many, all, tries, until, and_on, finished, Within}
-use Rattle.affc_grammar.proofs.Readers.{IsReader, is_give, is_fail, is_deep, is_after, is_either, is_all, is_until, is_finished, then_ok, then_at, same_ok, same_at, same_front}
+use Rattle.std.proofs.Common.{◌≡◌, ℕ, zero, suc, ◌+◌, ◌≤◌, List, [], ◌∷◌, ◌++◌, length, Option, Some, None, Ok, Err, refl, sym, ap, ◌∙◌, subst, ◌⊎◌, inl, inr, arith, append_assoc, append-nil}
+use Rattle.affc_grammar.specs.Reader.{At, Deep, Read, Reader, then_read, on_some, Turn, going, done, give, fail, deep, after, either, many, all, tries, until, and_on, finished, Within, IsReader}
+use Rattle.affc_grammar.proofs.Closed.{is_give, is_fail, is_deep, is_after, is_either, is_all, is_until, is_finished, then_ok, then_at, same_ok, same_at, same_front}
 
 abbrev pub Keeps : {T A : Type 0} → (ℕ → T → ℕ) → (limit n : ℕ) → Read T A → Type 0
 Keeps next limit n (Ok x) = Within next limit n x.1

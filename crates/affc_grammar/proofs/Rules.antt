@@ -8,12 +8,12 @@ use Rattle.affc_grammar.specs.Grammar as g
 use Rattle.affc_grammar.specs.Grammar.{Symbol, Name, Digits, LineText, line_feed, text_end, Choice, minimum, Rounding, down, word, number, mark, is_divisor, IxText, TermText, FactorText, AtomText, DimsText, CondsText, CondText, ValueText, level_of, StepText, LocalsText, StmtsText, StmtText, SimpleText, BodyText, ParamText, ParamsText, NamesText, DeclsText, FunctionText, IntText, PragmasText, Text, ix_symbols, term_symbols, factor_symbols, atom_symbols, dims_symbols, conds_symbols, cond_symbols, value_symbols, step_symbols, locals_symbols, stmts_symbols, stmt_symbols, simple_symbols, body_symbols, param_symbols, params_symbols, names_symbols, decls_symbols, function_symbols, int_symbols, pragmas_symbols, text_symbols, rel_mark, op_mark, shift_mark, bound_mark, assign_mark, choice_name, rounding_name, dim_symbols, const_symbols, pragma_symbols, line_symbols, context_calls, prelude_symbols}
 use Rattle.affc_lex.specs.Bytes.{same}
 use Rattle.affc_lex.specs.Pieces.{prelude}
-use Rattle.affc_lex.specs.declared.token.Kind.TheVariants.{Word, Number, Value, Header, Hash, LineEnd, Prelude, Mark}
+use Rattle.affc_lex.specs.declared.token.Kind.TheVariants.{Header, Hash, LineEnd, Prelude}
 use Rattle.affc_grammar.specs.Limits.{count_open}
-use Rattle.affc_grammar.specs.Reader.{Reader, give, fail, deep, after, either, on, all, Turn, going, done, until, inside, finished}
-use Rattle.affc_grammar.specs.Reading.{choose, Callee, of_choice, of_rounding, callee_name, callees, read_call, read_called, read_named, read_atom, read_factor, times_more, read_factors, read_term, joined, sum_more, read_terms, read_sum, ix_inside, read_ix, dims_more, read_dims, Half, condition, expression, Mixed, conditions, index, read_compared, read_closed, read_half, only_condition, read_cond, and_more, read_ands, read_half_more, mixed_inside, read_conds, is_type_name, read_parens, read_plain, complements, read_tildes, read_primary, op_of, op_more, shift_sign, shift_more, read_operands, read_level, value_inside, read_value, read_step, Head, for_head, if_head, Heads, head, and_head, with_body, under, and_one, whole, read_for, read_if, read_assign, head_words, read_head, assigned_under, read_worded, First, a_word, a_brace, first_of, read_body, read_under, read_simple, read_stmt, stmt_more, Block, local_behind, block_stmt, block_word, block_more, stmts_inside, block_inside, read_array, read_param, param_more, read_params, name_more, read_names, Inside, decl_behind, inside_stmt, inside_word, inside_more, read_inside, read_function, read_int, pragma_more, read_without, read_text, holding}
+use Rattle.affc_grammar.specs.Reader.{Reader, give, after, all, Turn, going, done, inside, finished}
+use Rattle.affc_grammar.specs.Reading.{choose, Callee, of_choice, of_rounding, callee_name, callees, read_call, read_called, read_named, read_atom, read_factor, times_more, read_factors, read_term, joined, sum_more, read_terms, read_sum, ix_inside, read_ix, dims_more, read_dims, Half, condition, expression, Mixed, conditions, index, read_compared, read_closed, read_half, only_condition, read_cond, and_more, read_ands, read_half_more, mixed_inside, read_conds, is_type_name, read_parens, read_plain, complements, read_tildes, read_primary, op_of, op_more, shift_more, read_operands, read_level, value_inside, read_value, read_step, Head, for_head, if_head, Heads, head, and_head, with_body, under, and_one, whole, read_for, read_if, read_assign, head_words, read_head, assigned_under, read_worded, First, a_word, a_brace, first_of, read_body, read_under, read_simple, read_stmt, stmt_more, Block, local_behind, block_stmt, block_word, block_more, stmts_inside, block_inside, read_array, read_param, param_more, read_params, name_more, read_names, Inside, decl_behind, inside_stmt, inside_word, inside_more, read_inside, read_function, read_int, pragma_more, read_without, read_text, holding}
 use Rattle.affc_grammar.proofs.Rule.{Rule, give_rule, fail_rule, deep_rule, after_rule, nested_rule, then_rule, refront, either_rule, on_rule, all_rule, until_rule, finished_rule, raise, turn_spelled}
-use Rattle.affc_grammar.proofs.Tests.{mark_test, word_test, any_word_test, any_number_test, any_value_test, hash_test, header_test, prelude_test, line_test, sum_test, shift_test, bound_test, rel_test, assign_test, one_test, divisor_test, shift_number_test, op_test, first_symbol, first_test, callee_is, head_word, head_is, sign_mark, same_bytes, holding_is, line_bytes}
+use Rattle.affc_grammar.proofs.Tests.{mark_test, word_test, any_word_test, any_number_test, any_value_test, hash_test, header_test, prelude_test, line_test, sum_test, shift_test, bound_test, rel_test, assign_test, one_test, divisor_test, shift_number_test, op_test, first_symbol, first_test, callee_is, head_word, head_is, sign_mark, same_bytes, line_bytes}
 
 -- a text is a whole of a rule where nothing was read before
 abbrev pub Whole : {C : Type 0} → (room at : ℕ) → (C → List Symbol) → Reader Symbol C → Type 0

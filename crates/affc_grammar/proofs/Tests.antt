@@ -1,5 +1,5 @@
 -- The tests of one token: what passes is spelled so.
-use Rattle.std.proofs.Common.{◌≡◌, ℕ, zero, suc, ◌+◌, ◌-◌, Bool, true, false, ◌&&◌, ◌==◌, List, [], ◌∷◌, ◌++◌, Option, Some, None, refl, sym, ap, ◌∙◌, subst, codes, IsTrue, cond, arith}
+use Rattle.std.proofs.Common.{◌≡◌, ℕ, suc, Bool, true, false, ◌==◌, List, [], ◌∷◌, Option, Some, None, refl, sym, ap, ◌∙◌, codes, IsTrue, cond}
 use mathlib.Core.Bool.{Bool-set}
 use Rattle.std.proofs.lemmas.Bool.{eqb-true, eq-eqb, and_parts, and_from}
 use Rattle.affc_lex.specs.declared.token.Kind.{Kind}
@@ -8,9 +8,8 @@ use Rattle.affc_lex.specs.Bytes.{same}
 use Rattle.affc_lex.specs.Pieces.{prelude}
 use Rattle.affc_ast.specs.declared.tree.Op.{Op}
 use Rattle.affc_ast.specs.declared.tree.Op.TheVariants.{Add, Sub, Mul, And, Or, Xor}
-use Rattle.affc_ast.specs.declared.tree.Rel.{Rel}
 use Rattle.affc_ast.specs.declared.tree.Rel.TheVariants.{Less, LessEqual, Greater, GreaterEqual, Equal}
-use Rattle.affc_grammar.specs.Grammar.{Symbol, Name, Digits, LineText, line_feed, text_end, Choice, minimum, maximum, remainder, Rounding, down, up, word, number, mark, is_word, is_mark, is_divisor, is_shift, op_mark, rel_mark, shift_mark, bound_mark, assign_mark, level_of}
+use Rattle.affc_grammar.specs.Grammar.{Symbol, Name, LineText, line_feed, text_end, minimum, maximum, remainder, down, up, word, number, mark, is_word, is_mark, is_divisor, is_shift, op_mark, rel_mark, shift_mark, bound_mark, assign_mark, level_of}
 use Rattle.affc_grammar.specs.Reading.{choose, the_bytes, of_kind, this_mark, this_word, any_word, any_number, any_value, is_number_kind, is_value_kind, is_hash_kind, is_header_kind, is_line_kind, is_prelude_kind, hash, header, the_prelude, line_end, holding, with_proof, divisor, shift_number, Callee, of_choice, of_rounding, callee_name, callees, sum_sign, rel_of, ops, at_level, op_of, shift_sign, one, bound_of, assign_of, head_words, First, a_word, a_brace, first_of, brace_or_none, word_or}
 use Rattle.affc_grammar.proofs.Rule.{IsTest}
 

@@ -1,16 +1,15 @@
 -- Reading a text of the grammar: one text at most has given symbols, a text is read where the room is enough, and where reading stops no text goes on.
-use Rattle.std.proofs.Common.{◌≡◌, ◌≢◌, ℕ, zero, suc, ◌+◌, ◌-◌, ◌≤◌, Bool, true, false, not, nat_lt, IsTrue, List, [], ◌∷◌, ◌++◌, length, map, Option, Some, None, Result, Ok, Err, refl, sym, ap, ◌∙◌, subst, if◌then◌else◌, arith, append_assoc, append-nil}
+use Rattle.std.proofs.Common.{◌≡◌, ℕ, ◌+◌, ◌-◌, ◌≤◌, Bool, true, false, not, nat_lt, IsTrue, List, [], ◌∷◌, ◌++◌, length, Option, Some, None, Result, Ok, Err, refl, sym, ap, ◌∙◌, subst, if◌then◌else◌, arith, append-nil}
 use Rattle.std.proofs.lemmas.Bool.{ltb-false}
-use Rattle.affc_lex.specs.Lexes.{Lexeme, Lexes}
 use Rattle.affc_lex.proofs.Exact.{one_list}
 use Rattle.affc_ast.specs.declared.tree.Program.{Program}
-use Rattle.affc_grammar.specs.Grammar.{Symbol, LineText, PragmasText, Text, text_symbols, context_calls, Begins, Refuses, StopsAt}
+use Rattle.affc_grammar.specs.Grammar.{Symbol, LineText, PragmasText, Text, text_symbols, context_calls, Refuses, StopsAt}
 use Rattle.affc_grammar.specs.Draft.{text_draft}
-use Rattle.affc_grammar.specs.Limits.{Limits, limits_of, wide_limits, count_open, is_opening, is_closing, tokens_past, at_if}
+use Rattle.affc_grammar.specs.Limits.{Limits, count_open, is_opening, is_closing, tokens_past, at_if}
 use Rattle.affc_grammar.specs.Reads.{Derives, ReadsBy, TextFault, tree_of, symbols, has_prelude}
-use Rattle.affc_grammar.specs.Reader.{Stop, At, Deep, Read, Reader, give, fail, deep, on_some, after, either, on, all, finished, Within}
+use Rattle.affc_grammar.specs.Reader.{At, Deep, Read, Reader, fail, on_some, after, either, finished, Within}
 use Rattle.affc_grammar.specs.Reading.{read_text, read_without, holding}
-use Rattle.affc_grammar.proofs.Readers.{then_ok, same_ok}
+use Rattle.affc_grammar.proofs.Closed.{then_ok, same_ok}
 use Rattle.affc_grammar.proofs.Rule.{Keeps}
 use Rattle.affc_grammar.proofs.Rules.{text_rule}
 use Rattle.affc_grammar.proofs.Done.{IsDone}

@@ -1,15 +1,14 @@
 -- Verdicts are what the definitions say.
-use Rattle.std.proofs.Common.{◌≡◌, ℕ, zero, suc, ◌+◌, ◌-◌, ◌≤◌, Bool, true, false, cond, nat_le, List, [], ◌∷◌, ◌++◌, length, map, Option, Some, None, Result, Ok, Err, refl, sym, ap, ◌∙◌, subst, ◌⊎◌, inl, inr, arith, length-append}
+use Rattle.std.proofs.Common.{◌≡◌, ℕ, ◌+◌, ◌-◌, Bool, true, false, cond, nat_le, List, [], ◌∷◌, ◌++◌, length, Option, Some, None, Result, Ok, Err, refl, ap, ◌∙◌, subst, ◌⊎◌, inl, inr, arith, length-append}
 use Rattle.affc_ast.specs.declared.tree.Program.{Program}
 use Rattle.affc_grammar.specs.declared.fault.NameWhy.{NameWhy}
 use Rattle.affc_grammar.specs.declared.fault.LimitName.{LimitName}
 use Rattle.affc_grammar.specs.declared.fault.LimitName.TheVariants.{Tokens, Run, Depth, Items}
 use Rattle.affc_grammar.specs.Grammar.{Symbol, Text, text_symbols, StopsAt}
 use Rattle.affc_grammar.specs.Draft.{text_draft}
-use Rattle.affc_grammar.specs.Names.{Refusal}
 use Rattle.affc_grammar.specs.Limits.{Limits, limits_of, Passed, passed_at, nearer, least, shape_passed, tokens_past, count_token, count_run, count_open, count_item}
 use Rattle.affc_grammar.specs.Reads.{Derives, TextFault, name_refused, not_affine, limit_passed, tree_of, has_prelude}
-use Rattle.affc_grammar.specs.Reader.{Stop, At, Deep, Read}
+use Rattle.affc_grammar.specs.Reader.{At, Deep, Read}
 use Rattle.affc_grammar.specs.Reading.{read_text}
 use Rattle.affc_grammar.specs.Verdict.{Verdict, reads, syntax, name, product, limit, of_tree, of_read, of_shape, verdict}
 use Rattle.affc_grammar.proofs.Texts.{within_limit, enough_room, text_read, text_spelled, stops_at}

@@ -1,9 +1,8 @@
 -- The grammar of programs. Each type is a rule and each of its cases a way to write it; `.._symbols` is how it is written. The line of the
 -- grammar stands above the type: "a" is this token, [ a ] is a or nothing, { a } is any number of a, a | b is a or b.
-use Rattle.std.specs.Prelude.{◌≡◌, ℕ, zero, suc, ◌+◌, Bool, true, false, not, ◌&&◌, ◌||◌, ◌==◌, nat_le, List, [], ◌∷◌, ◌++◌, codes, IsTrue, Option, Some, None, if◌then◌else◌}
-use Rattle.std.specs.List.{flat_map}
+use Rattle.std.specs.Prelude.{◌≡◌, ℕ, suc, Bool, true, false, not, ◌&&◌, ◌||◌, ◌==◌, nat_le, List, [], ◌∷◌, ◌++◌, codes, IsTrue, Option, Some, None, if◌then◌else◌}
 use Rattle.affc_lex.specs.declared.token.Kind.{Kind}
-use Rattle.affc_lex.specs.declared.token.Kind.TheVariants.{Word, Number, Value, Header, Hash, LineEnd, Prelude, Mark}
+use Rattle.affc_lex.specs.declared.token.Kind.TheVariants.{Word, Value, Header, Hash, LineEnd, Prelude, Mark}
 pub use Rattle.affc_ast.specs.Reads.{Symbol, symbol, word, number, mark}
 use Rattle.affc_lex.specs.Bytes.{same, decimal}
 use Rattle.affc_lex.specs.Pieces.{prelude}

@@ -1,6 +1,6 @@
 -- The rules on names, and the tree of a text whose names keep them. Names are looked at in the order of the text, and the first that is refused is the answer.
-use Rattle.std.specs.Prelude.{ℕ, zero, suc, ◌+◌, Bool, true, false, not, ◌&&◌, ◌||◌, ◌==◌, List, [], ◌∷◌, ◌++◌, length, drop, map, codes, Option, Some, None, is_some, Result, Ok, Err, ℤ, pos, count_by, if◌then◌else◌}
-use Rattle.std.specs.List.{list_any, find, flat_map}
+use Rattle.std.specs.Prelude.{ℕ, Bool, true, false, not, ◌&&◌, ◌==◌, List, [], ◌∷◌, ◌++◌, length, drop, codes, Option, Some, None, is_some, Result, Ok, Err, ℤ, pos, count_by, if◌then◌else◌}
+use Rattle.std.specs.List.{list_any, find}
 use Rattle.affc_lex.specs.Bytes.{same, begins}
 use Rattle.affc_ast.specs.Names.{is_reserved}
 use Rattle.affc_lex.specs.Pieces.{is_number}
@@ -15,7 +15,7 @@ use Rattle.affc_ast.specs.declared.tree.Local.{Local}
 use Rattle.affc_ast.specs.declared.tree.Stmt.{Stmt}
 use Rattle.affc_ast.specs.declared.tree.Stmt.TheVariants as stmt
 use Rattle.affc_ast.specs.declared.tree.Role.{Role}
-use Rattle.affc_ast.specs.declared.tree.Role.TheVariants.{Input, Output, Temp}
+use Rattle.affc_ast.specs.declared.tree.Role.TheVariants.{Input}
 use Rattle.affc_ast.specs.declared.tree.Decl.{Decl}
 use Rattle.affc_ast.specs.declared.tree.Param.{Param}
 use Rattle.affc_ast.specs.declared.tree.Param.TheVariants.{Number, Array}
@@ -23,7 +23,7 @@ use Rattle.affc_ast.specs.declared.tree.Program.{Program}
 use Rattle.affc_grammar.specs.declared.fault.NameWhy.{NameWhy}
 use Rattle.affc_grammar.specs.declared.fault.NameWhy.TheVariants.{Unknown, Twice, Reserved, Const, Kind, NoRange}
 use Rattle.affc_grammar.specs.Grammar.{Name, Choice, minimum, maximum, remainder, Rounding, down, up}
-use Rattle.affc_grammar.specs.Draft.{IxDraft, literal, name, negated, sum, difference, product, grouped, chosen, divided, CompareDraft, ValueDraft, load, constant, cast, complement, binary, shift, LocalDraft, WordDraft, HeadDraft, StmtsDraft, no_stmts, and_stmt, StmtDraft, for_loop, if_all, assign, block, DeclDraft, ParamDraft, number_param, array_param, PragmaDraft, range, context, TextDraft}
+use Rattle.affc_grammar.specs.Draft.{IxDraft, literal, name, negated, sum, difference, product, grouped, chosen, divided, CompareDraft, ValueDraft, load, constant, cast, complement, binary, shift, LocalDraft, HeadDraft, StmtsDraft, no_stmts, and_stmt, StmtDraft, for_loop, if_all, assign, block, DeclDraft, ParamDraft, number_param, array_param, PragmaDraft, range, context, TextDraft}
 
 -- affc_t0, affc_t1, ..
 abbrev pub is_time_name : Name → Bool

@@ -2,7 +2,7 @@
 --
 -- What no text can say (a negative literal, a shift past 63, a divisor below 1, a call without the prelude, an `if` without conditions, an array parameter without
 -- extents, a number of nothing) is written as something else here; no text reads as a tree with such a part.
-use Rattle.std.specs.Prelude.{◌≡◌, ℕ, zero, suc, ◌+◌, Bool, true, false, not, ◌||◌, List, [], ◌∷◌, ◌++◌, map, codes, IsTrue, refl, Option, Some, None, ℤ, pos, negsuc, nat_abs, slice_get, unwrap_or, if◌then◌else◌, decimal as digits_of}
+use Rattle.std.specs.Prelude.{◌+◌, Bool, true, false, not, ◌||◌, List, [], ◌∷◌, ◌++◌, map, codes, IsTrue, refl, Option, Some, None, ℤ, pos, negsuc, nat_abs, slice_get, unwrap_or, decimal as digits_of}
 use Rattle.affc_ast.specs.declared.tree.NameId.{NameId}
 use Rattle.affc_ast.specs.declared.tree.ArrayId.{ArrayId}
 use Rattle.affc_ast.specs.declared.tree.Ix.{Ix}

@@ -1,5 +1,5 @@
 -- Readers: from a list of tokens, by the first one that is left. They are for any kind of tokens.
-use Rattle.std.specs.Prelude.{◌≡◌, ℕ, zero, suc, ◌≤◌, List, [], ◌∷◌, length, Option, Some, None, Result, Ok, Err}
+use Rattle.std.specs.Prelude.{◌≡◌, ℕ, zero, suc, ◌≤◌, List, [], ◌∷◌, ◌++◌, length, Option, Some, None, Result, Ok, Err}
 
 -- where reading stops: before these tokens, or with too many brackets open
 pub data Stop (T : Type 0) : Type 0 where
@@ -87,3 +87,10 @@ finished a (x ∷ ts) = Err (At (x ∷ ts))
 abbrev pub Within : {T : Type 0} → (ℕ → T → ℕ) → (limit n : ℕ) → List T → Type 0
 Within next limit n [] = n ≤ limit
 Within next limit n (t ∷ ts) = (n ≤ limit) × Within next limit (next n t) ts
+
+-- What any reader by the first token obeys: what is left is an end of what was given, and nothing past the first token that is left was looked at.
+pub record IsReader {T A : Type 0} (p : Reader T A) : Type 0 where
+  pub ok_left : (ts : List T) (a : A) (rest : List T) → p ts ≡ Ok (a, rest) → (used : List T) × (ts ≡ used ++ rest)
+  pub at_left : (ts rest : List T) → p ts ≡ Err (At rest) → (used : List T) × (ts ≡ used ++ rest)
+  pub ok_same : (xs : List T) (t : T) (ys zs w : List T) (a : A) → p (xs ++ t ∷ ys) ≡ Ok (a, w ++ t ∷ ys) → p (xs ++ t ∷ zs) ≡ Ok (a, w ++ t ∷ zs)
+  pub at_same : (xs : List T) (t : T) (ys zs w : List T) → p (xs ++ t ∷ ys) ≡ Err (At (w ++ t ∷ ys)) → p (xs ++ t ∷ zs) ≡ Err (At (w ++ t ∷ zs))

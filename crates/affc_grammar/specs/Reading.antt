@@ -1,7 +1,7 @@
 -- Reading a text of the grammar by one token of foresight. `room` is how many brackets may be open at once.
-use Rattle.std.specs.Prelude.{◌≡◌, ℕ, zero, suc, Bool, true, false, not, ◌&&◌, ◌||◌, ◌==◌, List, [], ◌∷◌, codes, IsTrue, refl, Option, Some, None, if◌then◌else◌}
+use Rattle.std.specs.Prelude.{ℕ, zero, suc, Bool, true, false, not, ◌==◌, List, [], ◌∷◌, codes, IsTrue, refl, Option, Some, None, if◌then◌else◌}
 use Rattle.affc_lex.specs.declared.token.Kind.{Kind}
-use Rattle.affc_lex.specs.declared.token.Kind.TheVariants.{Word, Number, Value, Header, Hash, LineEnd, Prelude, Mark}
+use Rattle.affc_lex.specs.declared.token.Kind.TheVariants.{Number, Value, Header, Hash, LineEnd, Prelude}
 use Rattle.affc_lex.specs.Bytes.{same}
 use Rattle.affc_lex.specs.Pieces.{prelude as prelude_bytes}
 use Rattle.affc_ast.specs.declared.tree.Op.{Op}

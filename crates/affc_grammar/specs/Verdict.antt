@@ -1,7 +1,7 @@
 -- What is answered of a text, by its symbols: for examples, where it computes.
-use Rattle.std.specs.Prelude.{◌≡◌, ℕ, zero, suc, ◌+◌, ◌-◌, Bool, true, false, ◌==◌, ◌||◌, List, [], ◌∷◌, ◌++◌, length, codes, Option, Some, None, Result, Ok, Err, if◌then◌else◌}
+use Rattle.std.specs.Prelude.{ℕ, ◌-◌, Bool, true, false, ◌==◌, List, [], ◌∷◌, ◌++◌, length, codes, Option, Some, None, Result, Ok, Err, if◌then◌else◌}
 use Rattle.affc_lex.specs.declared.token.Kind.{Kind}
-use Rattle.affc_lex.specs.declared.token.Kind.TheVariants.{Word, Number, Value, Header, Hash, LineEnd, Prelude, Mark}
+use Rattle.affc_lex.specs.declared.token.Kind.TheVariants.{Word, Number, Value, Header, Hash, LineEnd, Mark}
 use Rattle.affc_lex.specs.Bytes.{same, is_digit, is_letter, next_is}
 use Rattle.affc_ast.specs.declared.tree.Program.{Program}
 use Rattle.affc_grammar.specs.declared.fault.NameWhy.{NameWhy}
@@ -10,10 +10,9 @@ use Rattle.affc_grammar.specs.Grammar.{Symbol, Text, prelude_symbols, text_symbo
 use Rattle.affc_grammar.specs.Draft.{text_draft}
 use Rattle.affc_grammar.specs.Printed.{printed}
 use Rattle.affc_ast.specs.Names.{ends}
-use Rattle.affc_grammar.specs.Names.{Refusal}
 use Rattle.affc_grammar.specs.Limits.{Limits, Passed, least, shape_passed, limits_of}
 use Rattle.affc_grammar.specs.Reads.{TextFault, name_refused, not_affine, limit_passed, tree_of, has_prelude}
-use Rattle.affc_grammar.specs.Reader.{Stop, At, Deep, Read, give, fail, deep, after, either, many, all, tries, until, inside, finished}
+use Rattle.affc_grammar.specs.Reader.{At, Deep, Read, give, fail, deep, after, either, many, all, tries, until, inside, finished}
 use Rattle.affc_grammar.specs.Reading.{ix_inside, mixed_inside, value_inside, stmts_inside, read_text}
 
 -- the kind of a piece of a line, by its first byte

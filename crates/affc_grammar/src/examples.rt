@@ -8,6 +8,7 @@ ghost use Rattle.affc_grammar.specs.declared.fault.LimitName.TheVariants.{Parame
 ghost use Rattle.affc_grammar.specs.Grammar.{word, mark, text_symbols};
 ghost use Rattle.affc_grammar.specs.Limits.{tokens_past, count_run, count_open, count_item};
 ghost use Rattle.affc_grammar.specs.Printed.{printed};
+ghost use Rattle.affc_grammar.specs.Reads.{WellNamed};
 ghost use Rattle.affc_grammar.specs.Verdict.{line, around, with_prelude, reprinted, verdict, is_read, reads, syntax, name, product, limit};
 
 /// Which symbols are a text of the grammar, and where those of others stop.
@@ -117,6 +118,7 @@ pub fn shape()
 
 /// What is printed has the fewest parentheses, and reads as what was printed.
 pub fn printing()
+    ensures well_named { WellNamed (copy_tree (record { function = codes "f"; parameter = codes "N"; input = codes "in"; output = codes "out"; iterator = codes "i"; low = 1; high = 4 })) }
     ensures copy_loop { verdict (text_symbols (printed (copy_tree (record { function = codes "f"; parameter = codes "N"; input = codes "in"; output = codes "out"; iterator = codes "i"; low = 1; high = 4 })))) ≡ reads (copy_tree (record { function = codes "f"; parameter = codes "N"; input = codes "in"; output = codes "out"; iterator = codes "i"; low = 1; high = 4 })) }
     ensures sums { reprinted (around (codes "out [ N - ( N - 1 ) ] = in [ N - 1 - 1 ] ;")) ≡ around (codes "out [ N - ( N - 1 ) ] = in [ N - 1 - 1 ] ;") }
     ensures shifts { reprinted (around (codes "out [ 0 ] = ( in [ 0 ] & 1ULL ) << 3 ;")) ≡ around (codes "out [ 0 ] = ( in [ 0 ] & 1ULL ) << 3 ;") }

@@ -1,12 +1,15 @@
 //! What holds of every text: each function here is a statement, proved.
 
-ghost use Rattle.std.specs.Prelude.{◌≡◌, ◌+◌, ℕ, List, length, Ok, Err, ◌↔◌};
+ghost use Rattle.std.specs.Prelude.{◌≡◌, ◌+◌, ℕ, List, [], length, Ok, Err, ◌↔◌};
 ghost use Rattle.affc_ast.specs.declared.tree.Program.{Program};
+ghost use Rattle.affc_ast.specs.Reads as copy;
 ghost use Rattle.affc_grammar.specs.declared.fault.NameWhy.{NameWhy};
 ghost use Rattle.affc_grammar.specs.Grammar.{Symbol, Text, text_symbols, StopsAt};
 ghost use Rattle.affc_grammar.specs.Draft.{text_draft};
-ghost use Rattle.affc_grammar.specs.Limits.{limits_of};
+ghost use Rattle.affc_grammar.specs.Limits.{limits_of, tokens_past, count_open};
 ghost use Rattle.affc_grammar.specs.Reads.{Reads, ReadsWide, Derives, tree_of, name_refused, has_prelude};
+ghost use Rattle.affc_grammar.specs.Reader.{At, Deep, Within};
+ghost use Rattle.affc_grammar.specs.Reading.{read_text};
 ghost use Rattle.affc_grammar.specs.Verdict.{verdict, reads, syntax, name};
 
 /// One text reads as one program at most.
@@ -20,6 +23,18 @@ pub fn one_text()
     ensures { (a b : Text) → text_symbols a ≡ text_symbols b → a ≡ b }
 {}
 
+/// The reading of symbols by one token of foresight, with room for so many open brackets at once, is exact.
+pub fn texts_are_read()
+    ensures spelled { (room : ℕ) (ss : List Symbol) (c : Text) (rest : List Symbol) → read_text room ss ≡ Ok (c, rest) → ss ≡ text_symbols c }
+    ensures read { (room : ℕ) (c : Text) → Within count_open room 0 (text_symbols c) → read_text room (text_symbols c) ≡ Ok (c, []) }
+    // It stops at the first place at which no text of the grammar goes on.
+    ensures stopped { (room : ℕ) (ss rest : List Symbol) → read_text room ss ≡ Err (At rest) → StopsAt ss rest }
+    // The room of the open brackets is enough, whatever the symbols are.
+    ensures enough { (room : ℕ) (ss : List Symbol) → Within count_open room 0 ss → read_text room ss ≡ Err Deep → ⊥ }
+    // No more are open where the limit on open brackets isn't passed.
+    ensures within { (limit : ℕ) (ss : List Symbol) → tokens_past count_open limit 0 0 ss ≡ [] → Within count_open limit 0 ss }
+{}
+
 /// A verdict is what the definitions say.
 pub fn verdicts_are_right()
     ensures read { (ss : List Symbol) (tree : Program) → (verdict ss ≡ reads tree) ↔ Derives (limits_of (has_prelude ss)) ss tree }
@@ -28,4 +43,10 @@ pub fn verdicts_are_right()
     // The symbols are those of a text of the grammar, in which this name is the first that is refused.
     ensures refused { (ss : List Symbol) (at : ℕ) (why : NameWhy) → verdict ss ≡ name at why
         → ((c : Text) × (ss ≡ text_symbols c) × (tree_of (limits_of (has_prelude ss)) (text_draft c) ≡ Err (name_refused (record { at = at; why = why })))) }
+{}
+
+/// A text of a copy loop reads as the program as which it reads by the tree's own definition.
+pub fn copy_loops_read()
+    ensures plain { (text : List ℕ) (tree : Program) → copy.Reads text tree → Reads text tree }
+    ensures wide { (text : List ℕ) (tree : Program) → copy.ReadsWide text tree → ReadsWide text tree }
 {}

@@ -5,3 +5,4 @@
 pub mod examples;
 pub mod fault;
 pub mod laws;
+pub mod readers;

@@ -33,7 +33,7 @@ this_one x d e = omega (arith, ints)
 later : (x d y : ℤ) → d ≡ y → (pos 0 *ℤ x) +ℤ d ≡ y
 later x d y e = omega (arith, ints)
 
-dot-unit_row : (n j : ℕ) (xs : List ℤ) → length xs ≡ n → dot (unit_row n j) xs ≡ get_or xs j (pos 0)
+pub dot-unit_row : (n j : ℕ) (xs : List ℤ) → length xs ≡ n → dot (unit_row n j) xs ≡ get_or xs j (pos 0)
 dot-unit_row zero j [] e = refl
 dot-unit_row zero j (x ∷ xs) e = absurd (omega arith)
 dot-unit_row (suc n) j [] e = absurd (omega arith)

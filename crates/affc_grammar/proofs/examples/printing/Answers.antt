@@ -1,5 +1,7 @@
 -- By computation.
-use Rattle.std.proofs.Common.{refl}
+use Rattle.std.proofs.Common.{refl, codes}
+use Rattle.affc_ast.specs.CopyLoop.{copy_tree}
+use Rattle.affc_grammar.specs.Printed.{printed}
 use Rattle.std.specs.Fmt.{digits}
 use denote.Hole.Carrier.{hidden}
 use Rattle.affc_ast.specs.declared.tree.Ix.TheBlock.{shape-the_row-Ix-0, hidden-the_row-Ix-0}
@@ -7,6 +9,16 @@ use Rattle.affc_ast.specs.declared.tree.Stmt.TheBlock.{shape-the_row-Stmt-0, hid
 use Rattle.affc_ast.specs.declared.tree.Val.TheBlock.{shape-the_row-Val-0, hidden-the_row-Val-0}
 use Rattle.affc_grammar.specs.Verdict.{computing}
 use Rattle.affc_grammar.proofs.examples.printing.Goals as goal
+
+pub returns-clause-well_named : goal.returns-clause-well_named
+unfolding computing shape-the_row-Ix-0 hidden-the_row-Ix-0 shape-the_row-Val-0 hidden-the_row-Val-0 shape-the_row-Stmt-0 hidden-the_row-Stmt-0 hidden digits
+returns-clause-well_named c = record {
+  written = printed (copy_tree (record { function = codes "f"; parameter = codes "N"; input = codes "in"; output = codes "out"; iterator = codes "i"; low = 1; high = 4 }));
+  its_tree = refl;
+  its_products = refl;
+  printed_shape = refl;
+  printed_limits = refl;
+}
 
 pub returns-clause-copy_loop : goal.returns-clause-copy_loop
 unfolding computing shape-the_row-Ix-0 hidden-the_row-Ix-0 shape-the_row-Val-0 hidden-the_row-Val-0 shape-the_row-Stmt-0 hidden-the_row-Stmt-0 hidden digits

@@ -1,6 +1,6 @@
 -- What any reader by the first token obeys: what is left is an end of what was given, and nothing past the first token that is left was looked at.
-use Rattle.std.proofs.Common.{◌≡◌, ◌≢◌, ℕ, zero, suc, ◌+◌, ◌≤◌, ◌<◌, Bool, true, false, List, [], ◌∷◌, ◌++◌, length, Option, Some, None, Result, Ok, Err, refl, sym, ap, ◌∙◌, subst, ◌⊎◌, inl, inr, arith, append_assoc, append-nil, length-append}
-use Rattle.affc_grammar.specs.Reader.{Stop, At, Deep, Read, Reader, then_read, on_some, Turn, going, done, give, fail, deep, after, either, many, all, tries, until, and_on, finished}
+use Rattle.std.proofs.Common.{◌≡◌, ℕ, zero, suc, ◌+◌, ◌≤◌, List, [], ◌∷◌, ◌++◌, length, Option, Some, None, Ok, Err, refl, sym, ap, ◌∙◌, ◌⊎◌, inl, inr, arith, append_assoc, length-append}
+use Rattle.affc_grammar.specs.Reader.{At, Deep, Read, Reader, then_read, on_some, Turn, going, done, give, fail, deep, after, either, many, all, tries, until, and_on, finished, IsReader}
 
 pub then_ok : {T A B : Type 0} (r : Read T A) (f : A → Reader T B) (y : B × List T) → then_read r f ≡ Ok y → (a : A) × (us : List T) × (r ≡ Ok (a, us)) × (f a us ≡ Ok y)
 then_ok (Ok x) f y e = (x.0, x.1, refl, e)
@@ -46,12 +46,6 @@ same_front (x ∷ xs) (y ∷ w) ys e =
     let tails : xs ++ ys ≡ w ++ ys = cc in
     let rest : xs ≡ w = same_front xs w ys tails in
     cc
-
-pub record IsReader {T A : Type 0} (p : Reader T A) : Type 0 where
-  pub ok_left : (ts : List T) (a : A) (rest : List T) → p ts ≡ Ok (a, rest) → (used : List T) × (ts ≡ used ++ rest)
-  pub at_left : (ts rest : List T) → p ts ≡ Err (At rest) → (used : List T) × (ts ≡ used ++ rest)
-  pub ok_same : (xs : List T) (t : T) (ys zs w : List T) (a : A) → p (xs ++ t ∷ ys) ≡ Ok (a, w ++ t ∷ ys) → p (xs ++ t ∷ zs) ≡ Ok (a, w ++ t ∷ zs)
-  pub at_same : (xs : List T) (t : T) (ys zs w : List T) → p (xs ++ t ∷ ys) ≡ Err (At (w ++ t ∷ ys)) → p (xs ++ t ∷ zs) ≡ Err (At (w ++ t ∷ zs))
 
 pub is_fail : {T A : Type 0} → IsReader {T = T} {A = A} fail
 unfolding fail

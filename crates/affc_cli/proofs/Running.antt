@@ -1,0 +1,140 @@
+-- How a command ends, from what its steps said.
+use Rattle.std.proofs.Common.{◌≡◌, ℕ, List, [], Option, Result, refl, ap, sym, subst, ◌∙◌, inl, inr, arith, lit<}
+use Rattle.affc_io.specs.Count.{Rose}
+use Rattle.affc_io.specs.Put.{put_of}
+use Rattle.affc_io.specs.Taken.{grown}
+use Rattle.affc_io.specs.declared.put.PutFault.{PutFault}
+use Rattle.affc_cli.specs.Command.{Fold}
+use Rattle.affc_cli.specs.Outside.{Outside, Keeps, Told}
+use Rattle.affc_cli.specs.Promise.{FoldPromises, WrittenInPart, Runs}
+use Rattle.affc_cli.specs.Refusal.{status_of, line_of, FoldCause}
+use Rattle.affc_cli.specs.declared.refusal.Refusal.{Refusal}
+use Rattle.affc_cli.specs.declared.refusal.Refusal.TheVariants.{Words, Read, Long, Memory, Unbuilt}
+use Rattle.affc_cli.proofs.Telling.{grown-nil, front_of_put}
+
+-- what a refusal ends with
+refused_at : (refusal : Refusal) (name : List ℕ) (before now : Outside)
+    → FoldCause refusal name before.folder now.folder → now.out.taken ≡ before.out.taken
+    → Told before.err.taken before.err now.err (line_of refusal name) → Keeps before now
+    → Runs (Fold name) before now (status_of refusal)
+refused_at Words name before now cause out told keeps = absurd cause
+refused_at Read name before now cause out told keeps = record {
+  answers = (1, lit< tt, refl);
+  keeps = keeps;
+  done = λ e. absurd (omega arith);
+  short = λ e. absurd (omega arith);
+  failed = λ e. absurd (omega arith);
+  refused = λ _ _ _. record { refusal = Read; is_status = refl; cause = cause; out = out; told = told };
+}
+refused_at Long name before now cause out told keeps = record {
+  answers = (1, lit< tt, refl);
+  keeps = keeps;
+  done = λ e. absurd (omega arith);
+  short = λ e. absurd (omega arith);
+  failed = λ e. absurd (omega arith);
+  refused = λ _ _ _. record { refusal = Long; is_status = refl; cause = cause; out = out; told = told };
+}
+refused_at Memory name before now cause out told keeps = record {
+  answers = (2, lit< tt, refl);
+  keeps = keeps;
+  done = λ e. absurd (omega arith);
+  short = λ _. inl (record { out = out; told = told });
+  failed = λ e. absurd (omega arith);
+  refused = λ _ other _. absurd (other refl);
+}
+refused_at Unbuilt name before now cause out told keeps = record {
+  answers = (4, lit< tt, refl);
+  keeps = keeps;
+  done = λ e. absurd (omega arith);
+  short = λ e. absurd (omega arith);
+  failed = λ e. absurd (omega arith);
+  refused = λ _ _ _. record { refusal = Unbuilt; is_status = refl; cause = cause; out = out; told = told };
+}
+
+pub refused_runs : (refusal : Refusal) (name : List ℕ) (before now : Outside) (status : ℕ) → status ≡ status_of refusal
+    → FoldCause refusal name before.folder now.folder → now.out.taken ≡ before.out.taken
+    → Told before.err.taken before.err now.err (line_of refusal name) → Keeps before now
+    → Runs (Fold name) before now status
+refused_runs refusal name before now status is cause out told keeps =
+    let P : ℕ → Type 0 = λ n. Runs (Fold name) before now n in
+    subst P (sym is) (refused_at refusal name before now cause out told keeps)
+
+-- a front of the text went out
+in_part : {T : Type 0} (name : List ℕ) (before : Outside) (out : Option (List ℕ)) (text : List ℕ) (r : Result T PutFault)
+    → FoldPromises name before.folder.held text [] → out ≡ grown before.out.taken (put_of r text)
+    → WrittenInPart (Fold name) before out before.err.taken
+in_part name before out text r promised took = record {
+  text = text;
+  report = [];
+  promised = promised;
+  to_out = put_of r text;
+  to_err = [];
+  up_to = inl (front_of_put r text, refl);
+  out_is = took;
+  err_is = sym (grown-nil before.err.taken);
+}
+
+-- all was written
+pub done_runs : (name : List ℕ) (before now : Outside) (text bytes : List ℕ)
+    → FoldPromises name before.folder.held text [] → bytes ≡ text → now.out.taken ≡ grown before.out.taken bytes
+    → now.err.taken ≡ before.err.taken → Keeps before now → Runs (Fold name) before now 0
+done_runs name before now text bytes promised is took same keeps = record {
+  answers = (0, lit< tt, refl);
+  keeps = keeps;
+  done = λ _. record {
+    text = text;
+    report = [];
+    promised = promised;
+    out = took ∙ ap (grown before.out.taken) is;
+    err = same ∙ sym (grown-nil before.err.taken);
+  };
+  short = λ e. absurd (omega arith);
+  failed = λ e. absurd (omega arith);
+  refused = λ other _ _. absurd (other refl);
+}
+
+-- a write failed
+pub failed_runs : {T : Type 0} (name : List ℕ) (before now : Outside) (text : List ℕ) (r : Result T PutFault)
+    → FoldPromises name before.folder.held text [] → now.out.taken ≡ grown before.out.taken (put_of r text)
+    → now.err.taken ≡ before.err.taken → Rose before.out.faults now.out.faults → Keeps before now
+    → Runs (Fold name) before now 10
+failed_runs name before now text r promised took same rose keeps = record {
+  answers = (3, lit< tt, refl);
+  keeps = keeps;
+  done = λ e. absurd (omega arith);
+  short = λ e. absurd (omega arith);
+  failed = λ _. record { written = stopped; fault = inr (inl rose) };
+  refused = λ _ _ other. absurd (other refl);
+}
+  where
+    stopped : WrittenInPart (Fold name) before now.out.taken now.err.taken
+    stopped =
+        let P : Option (List ℕ) → Type 0 = λ err. WrittenInPart (Fold name) before now.out.taken err in
+        subst P (sym same) (in_part name before now.out.taken text r promised took)
+
+-- out was short of memory
+short_at : {T : Type 0} (name : List ℕ) (before now : Outside) (text : List ℕ) (r : Result T PutFault)
+    → FoldPromises name before.folder.held text [] → now.out.taken ≡ grown before.out.taken (put_of r text)
+    → Told before.err.taken before.err now.err (line_of Memory name) → Rose before.out.shortages now.out.shortages → Keeps before now
+    → Runs (Fold name) before now 9
+short_at name before now text r promised took told rose keeps = record {
+  answers = (2, lit< tt, refl);
+  keeps = keeps;
+  done = λ e. absurd (omega arith);
+  short = λ _. inr (record {
+    err = before.err.taken;
+    written = in_part name before now.out.taken text r promised took;
+    told = told;
+    short = inr (inl rose);
+  });
+  failed = λ e. absurd (omega arith);
+  refused = λ _ other _. absurd (other refl);
+}
+
+pub short_runs : {T : Type 0} (name : List ℕ) (before now : Outside) (status : ℕ) (text : List ℕ) (r : Result T PutFault) → status ≡ 9
+    → FoldPromises name before.folder.held text [] → now.out.taken ≡ grown before.out.taken (put_of r text)
+    → Told before.err.taken before.err now.err (line_of Memory name) → Rose before.out.shortages now.out.shortages → Keeps before now
+    → Runs (Fold name) before now status
+short_runs name before now status text r is promised took told rose keeps =
+    let P : ℕ → Type 0 = λ n. Runs (Fold name) before now n in
+    subst P (sym is) (short_at name before now text r promised took told rose keeps)

@@ -1,0 +1,21 @@
+use Rattle.std.proofs.Common.{codes, arith}
+use Rattle.affc_cli.proofs.Telling.{told_first, told_second, told_third}
+use Rattle.affc_cli.proofs.refusal.put_line.Goals as goal
+
+pub returns-in_default-clause-told : goal.returns-in_default-clause-told
+returns-in_default-clause-told g c =
+    told_first _ _ c.args.head.now c.args.name.now (codes "\n") c.in_default.field-0 (record { faults = omega arith; shortages = omega arith })
+    (rw c.as_bytes.ensures.value at c.in_default.ensures.taken) c.in_default.ensures.cause
+
+pub returns-in_default-put_all-clause-told : goal.returns-in_default-put_all-clause-told
+returns-in_default-put_all-clause-told g c =
+    told_second _ (record { taken = g.E.Sink.taken c.put_all.new.sink; faults = g.E.Sink.faults c.put_all.new.sink; shortages = g.E.Sink.shortages c.put_all.new.sink }) _
+    c.args.head.now c.args.name.now (codes "\n") c.in_default-put_all.field-0 (record { faults = c.put_all.ensures.faults; shortages = c.put_all.ensures.shortages })
+    (rw c.as_bytes.ensures.value at c.in-Ok.ensures.taken) (rw c.as_bytes-2.ensures.value at c.in_default-put_all.ensures.taken) c.in_default-put_all.ensures.cause
+
+pub returns-clause-told : goal.returns-clause-told
+returns-clause-told g c =
+    told_third _ (record { taken = g.E.Sink.taken c.put_all.new.sink; faults = g.E.Sink.faults c.put_all.new.sink; shortages = g.E.Sink.shortages c.put_all.new.sink })
+    (record { taken = g.E.Sink.taken c.put_all-2.new.sink; faults = g.E.Sink.faults c.put_all-2.new.sink; shortages = g.E.Sink.shortages c.put_all-2.new.sink }) _
+    c.args.head.now c.args.name.now (codes "\n") c.put_all-3.result (record { faults = omega (arith, c.put_all.ensures.faults, c.put_all-2.ensures.faults); shortages = omega (arith, c.put_all.ensures.shortages, c.put_all-2.ensures.shortages) })
+    (rw c.as_bytes.ensures.value at c.in-Ok.ensures.taken) (rw c.as_bytes-2.ensures.value at c.in-Ok-put_all.ensures.taken) c.put_all-3.ensures.taken c.put_all-3.ensures.cause

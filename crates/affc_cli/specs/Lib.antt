@@ -1,0 +1,10 @@
+pub mod Symbols
+pub mod Text
+pub mod Copies
+pub mod Kept
+pub mod Parsed
+pub mod Command
+pub mod Outside
+pub mod Refusal
+pub mod Fold
+pub mod Promise

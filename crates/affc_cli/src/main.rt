@@ -1,0 +1,42 @@
+// affc folds the temporary arrays of affine loop nests. So far it takes one loop that copies an array.
+#![tactic(auto)]
+
+mod copy_loop;
+mod fold;
+mod form;
+mod names;
+mod parse;
+mod print;
+mod refusal;
+mod serve;
+mod symbols;
+#[cfg(test)]
+mod tests;
+mod words;
+
+use affc_io::{StdFolder, StdSink};
+use serve::serve;
+use std::process::ExitCode;
+use std::{env, io};
+
+// The words after the program's name.
+fn arguments(rt: &HostRuntime) -> io::Result<Vec<String>> {
+    let mut words = Vec::new(rt.alloc());
+    for word in env::args(rt)?.skip(1) {
+        words.push(word)?;
+    }
+    Ok(words)
+}
+
+fn main(rt: HostRuntime) -> ExitCode {
+    let alloc = rt.alloc();
+    let mut out = StdSink::new(rt.stdout());
+    let mut err = StdSink::new(rt.stderr());
+    let words = match arguments(&rt) {
+        Ok(words) => words,
+        // Words that are no text, or that can't be had, are no command form, and so are no words.
+        Err(_) => Vec::new(alloc),
+    };
+    let mut folder = StdFolder::new(rt);
+    ExitCode::from(serve(alloc, &words, &mut folder, &mut out, &mut err))
+}

@@ -1,0 +1,17 @@
+pub mod Sound
+pub mod Entries
+pub mod Exact
+pub mod Lists
+pub mod Weights
+pub mod Combined
+pub mod Between
+pub mod Points
+pub mod Implied
+pub mod Admitted
+pub mod Cancels
+pub mod Tables
+pub mod Crossed
+pub mod Parted
+pub mod Eliminated
+pub mod Leaves
+pub mod Inputs

@@ -1,0 +1,9 @@
+pub mod Multiples
+pub mod Proofs
+pub mod Chain
+pub mod Rational
+pub mod Eliminations
+pub mod Sums
+pub mod Steps
+pub mod Admissions
+pub mod Answers

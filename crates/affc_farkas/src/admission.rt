@@ -1,0 +1,201 @@
+//! Rows that come to those that are left: only those that say something new.
+ghost use Rattle.std.specs.Prelude.{◌≡◌, ◌≢◌, ◌⊎◌, ℕ, ℤ, List, [], ◌∷◌, ◌++◌, ◌+◌, ◌<◌, ◌≤◌, ◌*ℤ◌, ◌≤ℤ◌, ◌<ℤ◌, pos, length, slice_index_or, unsigned_abs, IsTrue, MatchBool, IfSome, IfNone, IfErr, OnOk};
+ghost use Rattle.std.specs.List.{All, Contains, remove};
+ghost use Rattle.affc_farkas.specs.Multiples.{entry_of};
+ghost use Rattle.affc_farkas.specs.Rational.{scaled_value};
+ghost use Rattle.affc_farkas.specs.Steps.{AreRising, AllMet, IsPlain};
+ghost use Rattle.affc_farkas.specs.Admissions.{IsShape, IsRelation, IsPlace, IsRefused};
+
+use crate::kept::{Kept, Stop};
+use affc_rows::Form;
+
+/// What a row says beside another row.
+#[derive(Clone, Copy)]
+pub(crate) enum Relation {
+    /// Nothing is known.
+    Apart,
+    /// The other row implies it.
+    Weaker,
+    /// It implies the other row.
+    Stronger,
+}
+
+/// Where a row goes among others.
+#[derive(Clone, Copy)]
+pub(crate) enum Place {
+    /// One of them implies it.
+    Nowhere,
+    /// It implies this one.
+    Instead(usize),
+    /// It stands beside them.
+    Beside,
+}
+
+/// Where a row holds.
+#[derive(Clone, Copy)]
+pub(crate) enum Shape {
+    /// It isn't 0 in this column.
+    Plain(usize),
+    /// It has no coefficients, and holds everywhere.
+    Always,
+    /// It has no coefficients, and holds nowhere.
+    Never,
+}
+
+/// The first column in which a row isn't 0.
+fn lead(row: &Form) -> Option<usize>
+    ensures some { IfSome result (λ j. (j < length row.now.coefs) × (entry_of row.now j ≢ pos 0)) }
+    ensures none { IfNone result ((j : ℕ) → j < length row.now.coefs → entry_of row.now j ≡ pos 0) }
+{
+    let coefs = row.coefs.as_slice();
+    for (j, entry) in coefs.iter().enumerate() {
+        if *entry != 0 {
+            return Some(j);
+        }
+    }
+    None
+}
+
+/// Whether and where a row holds.
+fn find_shape(row: &Form) -> Shape
+    ensures { IsShape row.now result }
+{
+    match lead(row) {
+        Some(lead) => Shape::Plain(lead),
+        None => {
+            if row.constant < 0 {
+                Shape::Never
+            } else {
+                Shape::Always
+            }
+        }
+    }
+}
+
+/// Whether `m` times each entry of the first list is seen to be `n` times that of the second.
+fn is_parallel(first: &[i128], m: i128, second: &[i128], n: i128) -> bool
+    requires { length first.now ≡ length second.now }
+    ensures { IsTrue result → ((j : ℕ) → j < length first.now → slice_index_or first.now j (pos 0) *ℤ m ≡ slice_index_or second.now j (pos 0) *ℤ n) }
+{
+    for (j, entry) in first.iter().enumerate() {
+        let (Some(left), Some(right)) = (entry.checked_mul(m), second[j].checked_mul(n)) else {
+            return false;
+        };
+        if left != right {
+            return false;
+        }
+    }
+    true
+}
+
+/// Positive factors that make two entries of one sign equal.
+fn factors_of(a: i128, b: i128) -> Option<(i128, i128)>
+    ensures { IfSome result (λ p. (pos 1 ≤ℤ p.0) × (pos 1 ≤ℤ p.1)) }
+{
+    if a > 0 && b > 0 {
+        Some((b, a))
+    } else if a < 0 && b < 0 && a > i128::MIN && b > i128::MIN {
+        Some((-b, -a))
+    } else {
+        None
+    }
+}
+
+/// Whether `m` times the first number is at most `n` times the second, where both products are known.
+fn is_at_most(first: i128, m: i128, second: i128, n: i128) -> Option<bool>
+    ensures { IfSome result (λ b. MatchBool b ((first *ℤ m) ≤ℤ (second *ℤ n)) ((second *ℤ n) ≤ℤ (first *ℤ m))) }
+{
+    let (Some(left), Some(right)) = (first.checked_mul(m), second.checked_mul(n)) else {
+        return None;
+    };
+    Some(left <= right)
+}
+
+/// What the second row says beside the first, given a column in which the second isn't 0.
+fn compare(first: &Form, second: &Form, lead: usize) -> Relation
+    requires widths { length first.now.coefs ≡ length second.now.coefs }
+    requires lead_in { lead < length second.now.coefs }
+    ensures { IsRelation first.now second.now result }
+{
+    let coefs = first.coefs.as_slice();
+    let others = second.coefs.as_slice();
+    let Some((m, n)) = factors_of(coefs[lead], others[lead]) else {
+        return Relation::Apart;
+    };
+    if !is_parallel(coefs, m, others, n) {
+        return Relation::Apart;
+    }
+    match is_at_most(first.constant, m, second.constant, n) {
+        Some(true) => Relation::Weaker,
+        Some(false) => Relation::Stronger,
+        None => Relation::Apart,
+    }
+}
+
+/// Where a row goes among others.
+fn find_place(others: &[Kept], row: &Form, lead: usize) -> Place
+    requires widths { All (λ k. length k.row.coefs ≡ length row.now.coefs) others.now }
+    requires lead_in { lead < length row.now.coefs }
+    ensures { IsPlace others.now row.now result }
+{
+    for (i, kept) in others.iter().enumerate() {
+        match compare(&kept.row, row, lead) {
+            Relation::Apart => {}
+            Relation::Weaker => return Place::Nowhere,
+            Relation::Stronger => return Place::Instead(i),
+        }
+    }
+    Place::Beside
+}
+
+/// Adds a row after the others.
+fn append(others: &mut Vec<Kept>, kept: Kept) -> Result<(), Stop>
+    ensures ok { OnOk result (others.new.items ≡ others.old.items ++ kept ∷ []) }
+    ensures refused { IfErr result (λ s. IsRefused kept s) }
+{
+    let Ok(()) = others.push(kept) else {
+        return Err(Stop::Memory);
+    };
+    Ok(())
+}
+
+/// Takes one of the others away, and adds a row after the rest.
+fn replace(others: &mut Vec<Kept>, i: usize, kept: Kept) -> Result<(), Stop>
+    requires { i < length others.old.items }
+    ensures ok { OnOk result (others.new.items ≡ remove others.old.items i ++ kept ∷ []) }
+    ensures refused { IfErr result (λ s. IsRefused kept s) }
+{
+    let _weaker = others.remove(i);
+    append(others, kept)
+}
+
+/// Adds a row to others, in the place of one that it implies, and not where one of them implies it.
+fn insert(others: &mut Vec<Kept>, kept: Kept, lead: usize) -> Result<(), Stop>
+    requires widths { All (λ k. length k.row.coefs ≡ length kept.row.coefs) others.old.items }
+    requires lead_in { lead < length kept.row.coefs }
+    ensures met { OnOk result ((x : List ℤ) → (d : ℤ) → pos 1 ≤ℤ d → AllMet x d others.new.items → AllMet x d others.old.items × (pos 0 ≤ℤ scaled_value kept.row x d)) }
+    ensures among { OnOk result (All (λ k. Contains others.old.items k ⊎ (k ≡ kept)) others.new.items) }
+    ensures rising { OnOk result (AreRising others.old.items → All (λ k. k.number < kept.number) others.old.items → AreRising others.new.items) }
+    ensures refused { IfErr result (λ s. IsRefused kept s) }
+{
+    match find_place(others.as_slice(), &kept.row, lead) {
+        Place::Nowhere => Ok(()),
+        Place::Instead(i) => replace(others, i, kept),
+        Place::Beside => append(others, kept),
+    }
+}
+
+/// Adds a row to others unless it holds at every point; a row that holds nowhere ends the elimination.
+pub(crate) fn admit(others: &mut Vec<Kept>, kept: Kept) -> Result<(), Stop>
+    requires { All (λ k. length k.row.coefs ≡ length kept.row.coefs) others.old.items }
+    ensures met { OnOk result ((x : List ℤ) → (d : ℤ) → pos 1 ≤ℤ d → AllMet x d others.new.items → AllMet x d others.old.items × (pos 0 ≤ℤ scaled_value kept.row x d)) }
+    ensures among { OnOk result (All (λ k. Contains others.old.items k ⊎ ((k ≡ kept) × IsPlain kept.row)) others.new.items) }
+    ensures rising { OnOk result (AreRising others.old.items → All (λ k. k.number < kept.number) others.old.items → AreRising others.new.items) }
+    ensures refused { IfErr result (λ s. IsRefused kept s) }
+{
+    match find_shape(&kept.row) {
+        Shape::Plain(lead) => insert(others, kept, lead),
+        Shape::Never => Err(Stop::Refuted(kept)),
+        Shape::Always => Ok(()),
+    }
+}

@@ -1,0 +1,18 @@
+-- Points of systems with more rows.
+use Rattle.std.proofs.Common.{◌++◌, List, length, ℤ, subst}
+use Rattle.std.specs.List.{All}
+use Rattle.std.proofs.lemmas.List.Elements.{All-append, All-take, All-drop}
+use Rattle.std.proofs.Math.Seq.{drop-append_seam, take-append_seam}
+use Rattle.affc_rows.specs.Forms.{Affine}
+use Rattle.affc_system.specs.Systems.{Rows, Meets, IsPoint}
+
+-- a point that meets further rows is a point of the system with these rows behind its own
+pub point_of_more_rows : (s : Rows) (more : List Affine) (x : List ℤ) → IsPoint s x → All (Meets x) more → IsPoint (record s { rows = s.rows ++ more }) x
+point_of_more_rows s more x p h = record { width = p.width; meets = All-append (Meets x) s.rows more p.meets h }
+
+-- and the other way round
+pub point_of_fewer_rows : (s : Rows) (more : List Affine) (x : List ℤ) → IsPoint (record s { rows = s.rows ++ more }) x → IsPoint s x × All (Meets x) more
+point_of_fewer_rows s more x p =
+    let front = subst (All (Meets x)) (take-append_seam s.rows more) (All-take (Meets x) (length s.rows) (s.rows ++ more) p.meets) in
+    let back = subst (All (Meets x)) (drop-append_seam s.rows more) (All-drop (Meets x) (length s.rows) (s.rows ++ more) p.meets) in
+    (record { width = p.width; meets = front }, back)
