@@ -1,13 +1,12 @@
 -- The first limit on the shape that is passed is found in one pass.
-use Rattle.std.proofs.Common.{◌≡◌, ℕ, zero, suc, ◌+◌, ◌-◌, ◌≤◌, ◌<◌, Bool, true, false, cond, if◌then◌else◌, nat_le, nat_lt, List, [], ◌∷◌, ◌++◌, length, get_or, drop, map, Option, Some, None, refl, sym, ap, ◌∙◌, subst, arith, append_assoc, drop-cons, add-one}
+use Rattle.std.proofs.Common.{◌≡◌, ℕ, suc, ◌+◌, ◌-◌, ◌≤◌, ◌<◌, Bool, true, false, cond, if◌then◌else◌, nat_le, nat_lt, List, [], ◌∷◌, ◌++◌, length, get_or, drop, map, Option, Some, None, refl, sym, ap, ◌∙◌, subst, arith, append_assoc, drop-cons, add-one}
 use Rattle.std.specs.Option.{IfSome}
-use Rattle.std.proofs.lemmas.List.{drop-map}
 use Rattle.std.proofs.lemmas.Bool.{cond-true, cond-false}
 use Rattle.std.proofs.lemmas.Bool.Decides.{nat_tests}
 use Rattle.affc_grammar.specs.declared.fault.LimitName.{LimitName}
 use Rattle.affc_grammar.specs.declared.fault.LimitName.TheVariants.{Tokens, Run, Depth, Items}
 use Rattle.affc_grammar.specs.Grammar.{Symbol}
-use Rattle.affc_grammar.specs.Limits.{Limits, Passed, passed_at, at_if, nearer, least, tokens_past, count_token, count_run, count_open, count_item, is_separator, is_opening, is_closing, is_item}
+use Rattle.affc_grammar.specs.Limits.{Passed, passed_at, at_if, nearer, least, tokens_past, count_token, count_run, count_open, count_item, is_separator, is_opening, is_closing, is_item}
 use Rattle.affc_parse.specs.declared.shape.Counts.{Counts}
 use Rattle.affc_parse.specs.declared.symbol.Symbol as code
 use Rattle.affc_parse.specs.Symbols.{seen}

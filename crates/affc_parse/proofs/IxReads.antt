@@ -1,11 +1,11 @@
 -- Loops of readers of drafts, and that a reader leaves no more tokens than it was given.
-use Rattle.std.proofs.Common.{◌≡◌, ℕ, zero, suc, ◌+◌, ◌-◌, Bool, codes, ◌≤◌, ◌<◌, List, [], ◌∷◌, length, get_or, drop, map, Option, Some, None, Result, Ok, Err, refl, sym, ap, ◌∙◌, arith, length-drop}
+use Rattle.std.proofs.Common.{◌≡◌, ℕ, zero, suc, ◌+◌, ◌-◌, Bool, codes, ◌≤◌, ◌<◌, List, [], ◌∷◌, length, get_or, drop, map, Option, Some, None, Ok, Err, refl, sym, ap, ◌∙◌, arith, length-drop}
 use Rattle.std.proofs.lemmas.List.{length-map, drop-map}
 use Rattle.affc_grammar.specs.Grammar.{Symbol}
 use Rattle.affc_grammar.specs.Draft.{IxDraft, literal, name, negated, product, grouped, chosen, divided}
 use Rattle.affc_grammar.specs.Reader.{Stop, At, Deep, Read, Reader, then_read}
 use Rattle.affc_grammar.specs.Reading.{Callee, of_choice, of_rounding, this_mark, any_word, sum_sign}
-use Rattle.affc_grammar.proofs.Readers.{then_ok, then_same}
+use Rattle.affc_grammar.proofs.Closed.{then_ok, then_same}
 use Rattle.affc_parse.specs.declared.ahead.Stop as stop
 use Rattle.affc_parse.specs.declared.ahead.Stop.TheVariants as s
 use Rattle.affc_parse.specs.declared.symbol.Symbol as code
@@ -13,7 +13,7 @@ use Rattle.affc_parse.specs.Symbols.{seen}
 use Rattle.affc_parse.proofs.Counting.{next_of}
 use Rattle.affc_parse.specs.Ahead.{past, with_rest, number_value, divisor_value}
 use Rattle.affc_parse.specs.Callees.{callee}
-use Rattle.affc_parse.specs.IxReading.{on_past, closed, Fails, more, all_more, group, choice_call, rounding_call, divisor, call, called, atom, factor, times, factors, term, joined, added, terms, expression, inside}
+use Rattle.affc_parse.specs.IxReading.{on_past, closed, Fails, more, all_more, group, divisor, call, called, atom, factor, times, factors, term, joined, added, terms, expression, inside}
 
 pub ruleset lengths = (length-map)
 

@@ -1,5 +1,4 @@
 -- The grammar's draft that the parser's draft is.
-use Rattle.std.specs.Prelude.{ℕ, List, [], ◌∷◌, map, Option}
 use Rattle.affc_grammar.specs.Grammar as g
 use Rattle.affc_grammar.specs.Draft as d
 use Rattle.affc_parse.specs.declared.draft.Choice.{Choice}

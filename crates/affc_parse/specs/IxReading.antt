@@ -1,12 +1,11 @@
 -- Reading drafts of whole-number expressions. Only the crate's private clauses cite it: `end` is the number behind the last token, so that the first
 -- of some tokens at the text's end has the number `end - length tokens`.
-use Rattle.std.specs.Prelude.{◌≡◌, ℕ, zero, suc, ◌-◌, Bool, true, false, List, [], ◌∷◌, length, drop, codes, Option, Some, None, Result, Ok, Err, if◌then◌else◌}
-use Rattle.affc_lex.specs.Bytes.{decimal}
+use Rattle.std.specs.Prelude.{◌≡◌, ℕ, zero, suc, ◌-◌, Bool, true, false, List, length, drop, codes, Option, Some, None, Result, Ok, Err}
 use Rattle.affc_grammar.specs.Grammar as g
 use Rattle.affc_grammar.specs.Grammar.{Symbol, Name, is_divisor}
 use Rattle.affc_grammar.specs.Draft.{IxDraft, literal, name, negated, sum, difference, product, grouped, chosen, divided}
-use Rattle.affc_grammar.specs.Reader.{Stop, At, Deep, Read, Reader, then_read}
-use Rattle.affc_grammar.specs.Reading.{this_mark, any_word, of_kind, is_number_kind, Callee, of_choice, of_rounding, sum_sign}
+use Rattle.affc_grammar.specs.Reader.{At, Deep, Read, Reader, then_read}
+use Rattle.affc_grammar.specs.Reading.{this_mark, any_word, Callee, of_choice, of_rounding, sum_sign}
 use Rattle.affc_parse.specs.declared.ahead.Stop as stop
 use Rattle.affc_parse.specs.declared.ahead.Stop.TheVariants as s
 use Rattle.affc_parse.specs.Callees.{callee}

@@ -1,5 +1,5 @@
 -- One pass over the tokens for the limits on their shape.
-use Rattle.std.specs.Prelude.{◌≡◌, ℕ, ◌+◌, ◌<◌, ◌^◌, nat_lt, List, [], ◌++◌, Option, Some, None, if◌then◌else◌}
+use Rattle.std.specs.Prelude.{ℕ, ◌<◌, ◌^◌, nat_lt, List, ◌++◌, Option, Some, None, if◌then◌else◌}
 use Rattle.affc_grammar.specs.declared.fault.LimitName.{LimitName}
 use Rattle.affc_grammar.specs.declared.fault.LimitName.TheVariants.{Tokens, Run, Depth, Items}
 use Rattle.affc_grammar.specs.Grammar.{Symbol}

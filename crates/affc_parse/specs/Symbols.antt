@@ -1,5 +1,4 @@
 -- What the grammar's definitions see of the parser's types.
-use Rattle.std.specs.Prelude.{List, map}
 use Rattle.affc_grammar.specs.Grammar as g
 use Rattle.affc_grammar.specs.Limits as l
 use Rattle.affc_parse.specs.declared.symbol.Symbol.{Symbol}

@@ -125,7 +125,14 @@ fn negated(alloc: Global, at: usize, a: IxDraft) -> Result<IxDraft, AllocError>
 
 /// Behind the `(` of a group.
 #[cycle(ix)]
-fn group(alloc: Global, prelude: bool, room: u32, at: usize, symbols: &[Symbol<'_>], next: usize) -> Answer<IxDraft>
+fn group(
+    alloc: Global,
+    prelude: bool,
+    room: u32,
+    at: usize,
+    symbols: &[Symbol<'_>],
+    next: usize,
+) -> Answer<IxDraft>
     ensures { Gives (map seen symbols.now) ix result (reading.group at (reading.inside prelude (length symbols.now) room) (drop next (map seen symbols.now))) }
 {
     let (a, next) = inside(alloc, prelude, room, symbols, next)?;
@@ -135,7 +142,15 @@ fn group(alloc: Global, prelude: bool, room: u32, at: usize, symbols: &[Symbol<'
 
 /// Behind the `(` of `affc_min`, `affc_max` or `affc_mod`.
 #[cycle(ix)]
-fn choice_call(alloc: Global, prelude: bool, room: u32, at: usize, choice: Choice, symbols: &[Symbol<'_>], next: usize) -> Answer<IxDraft>
+fn choice_call(
+    alloc: Global,
+    prelude: bool,
+    room: u32,
+    at: usize,
+    choice: Choice,
+    symbols: &[Symbol<'_>],
+    next: usize,
+) -> Answer<IxDraft>
     ensures { Gives (map seen symbols.now) ix result (reading.choice_call at (reading.inside prelude (length symbols.now) room) (drafts.choice choice) (drop next (map seen symbols.now))) }
 {
     let (a, next) = inside(alloc, prelude, room, symbols, next)?;
@@ -157,7 +172,15 @@ fn divisor(symbols: &[Symbol<'_>], next: usize) -> Answer<u64>
 
 /// Behind the `(` of `affc_floord` or `affc_ceild`.
 #[cycle(ix)]
-fn rounding_call(alloc: Global, prelude: bool, room: u32, at: usize, rounding: Rounding, symbols: &[Symbol<'_>], next: usize) -> Answer<IxDraft>
+fn rounding_call(
+    alloc: Global,
+    prelude: bool,
+    room: u32,
+    at: usize,
+    rounding: Rounding,
+    symbols: &[Symbol<'_>],
+    next: usize,
+) -> Answer<IxDraft>
     ensures { Gives (map seen symbols.now) ix result (reading.rounding_call (length symbols.now) at (reading.inside prelude (length symbols.now) room) (drafts.rounding rounding) (drop next (map seen symbols.now))) }
 {
     let (a, next) = inside(alloc, prelude, room, symbols, next)?;
@@ -170,7 +193,15 @@ fn rounding_call(alloc: Global, prelude: bool, room: u32, at: usize, rounding: R
 
 /// Behind a name.
 #[cycle(ix)]
-fn called(alloc: Global, prelude: bool, room: u32, at: usize, word: &str, symbols: &[Symbol<'_>], next: usize) -> Answer<IxDraft>
+fn called(
+    alloc: Global,
+    prelude: bool,
+    room: u32,
+    at: usize,
+    word: &str,
+    symbols: &[Symbol<'_>],
+    next: usize,
+) -> Answer<IxDraft>
     ensures { Gives (map seen symbols.now) ix result (reading.called (length symbols.now) at (reading.inside prelude (length symbols.now) room) word.now (callees.callee prelude word.now) (drop next (map seen symbols.now))) }
 {
     match callee_of(prelude, word) {
@@ -180,8 +211,12 @@ fn called(alloc: Global, prelude: bool, room: u32, at: usize, word: &str, symbol
         }
         Some(f) => match past_mark(b"(", symbols, next) {
             Some(next) => match f {
-                Callee::OfChoice(choice) => choice_call(alloc, prelude, room, at, choice, symbols, next),
-                Callee::OfRounding(rounding) => rounding_call(alloc, prelude, room, at, rounding, symbols, next),
+                Callee::OfChoice(choice) => choice_call(
+                    alloc, prelude, room, at, choice, symbols, next,
+                ),
+                Callee::OfRounding(rounding) => rounding_call(
+                    alloc, prelude, room, at, rounding, symbols, next,
+                ),
             },
             None => {
                 let a = name(alloc, at, word)?;
@@ -192,7 +227,13 @@ fn called(alloc: Global, prelude: bool, room: u32, at: usize, word: &str, symbol
 }
 
 #[cycle(ix)]
-fn atom(alloc: Global, prelude: bool, room: u32, symbols: &[Symbol<'_>], next: usize) -> Answer<IxDraft>
+fn atom(
+    alloc: Global,
+    prelude: bool,
+    room: u32,
+    symbols: &[Symbol<'_>],
+    next: usize,
+) -> Answer<IxDraft>
     ensures { Gives (map seen symbols.now) ix result (reading.atom prelude (length symbols.now) (reading.inside prelude (length symbols.now) room) (drop next (map seen symbols.now))) }
 {
     let at = number_of_first(symbols, next);
@@ -209,7 +250,13 @@ fn atom(alloc: Global, prelude: bool, room: u32, symbols: &[Symbol<'_>], next: u
 }
 
 #[cycle(ix)]
-fn factor(alloc: Global, prelude: bool, room: u32, symbols: &[Symbol<'_>], next: usize) -> Answer<IxDraft>
+fn factor(
+    alloc: Global,
+    prelude: bool,
+    room: u32,
+    symbols: &[Symbol<'_>],
+    next: usize,
+) -> Answer<IxDraft>
     ensures { Gives (map seen symbols.now) ix result (reading.factor prelude (length symbols.now) (reading.inside prelude (length symbols.now) room) (drop next (map seen symbols.now))) }
 {
     match past_mark(b"-", symbols, next) {
@@ -225,7 +272,14 @@ fn factor(alloc: Global, prelude: bool, room: u32, symbols: &[Symbol<'_>], next:
 
 /// Behind a `*`.
 #[cycle(ix)]
-fn multiplied(alloc: Global, prelude: bool, room: u32, left: IxDraft, symbols: &[Symbol<'_>], next: usize) -> Answer<IxDraft>
+fn multiplied(
+    alloc: Global,
+    prelude: bool,
+    room: u32,
+    left: IxDraft,
+    symbols: &[Symbol<'_>],
+    next: usize,
+) -> Answer<IxDraft>
     ensures { Gives (map seen symbols.now) ix result (reading.times prelude (length symbols.now) (reading.inside prelude (length symbols.now) room) tt (ix left) (drop next (map seen symbols.now))) }
 {
     let at = number_of_first(symbols, next).saturating_sub(1);
@@ -236,7 +290,14 @@ fn multiplied(alloc: Global, prelude: bool, room: u32, left: IxDraft, symbols: &
 
 /// Further factors, where they follow.
 #[cycle(ix)]
-fn factors(alloc: Global, prelude: bool, room: u32, left: IxDraft, symbols: &[Symbol<'_>], next: usize) -> Answer<IxDraft>
+fn factors(
+    alloc: Global,
+    prelude: bool,
+    room: u32,
+    left: IxDraft,
+    symbols: &[Symbol<'_>],
+    next: usize,
+) -> Answer<IxDraft>
     ensures { Gives (map seen symbols.now) ix result (reading.factors prelude (length symbols.now) (reading.inside prelude (length symbols.now) room) (ix left) (drop next (map seen symbols.now))) }
 {
     let mut left = left;
@@ -250,7 +311,13 @@ fn factors(alloc: Global, prelude: bool, room: u32, left: IxDraft, symbols: &[Sy
 }
 
 #[cycle(ix)]
-fn term(alloc: Global, prelude: bool, room: u32, symbols: &[Symbol<'_>], next: usize) -> Answer<IxDraft>
+fn term(
+    alloc: Global,
+    prelude: bool,
+    room: u32,
+    symbols: &[Symbol<'_>],
+    next: usize,
+) -> Answer<IxDraft>
     ensures { Gives (map seen symbols.now) ix result (reading.term prelude (length symbols.now) (reading.inside prelude (length symbols.now) room) (drop next (map seen symbols.now))) }
 {
     let (a, next) = factor(alloc, prelude, room, symbols, next)?;
@@ -259,7 +326,15 @@ fn term(alloc: Global, prelude: bool, room: u32, symbols: &[Symbol<'_>], next: u
 
 /// Behind a `+` or a `-`.
 #[cycle(ix)]
-fn added(alloc: Global, prelude: bool, room: u32, is_plus: bool, left: IxDraft, symbols: &[Symbol<'_>], next: usize) -> Answer<IxDraft>
+fn added(
+    alloc: Global,
+    prelude: bool,
+    room: u32,
+    is_plus: bool,
+    left: IxDraft,
+    symbols: &[Symbol<'_>],
+    next: usize,
+) -> Answer<IxDraft>
     ensures { Gives (map seen symbols.now) ix result (reading.added prelude (length symbols.now) (reading.inside prelude (length symbols.now) room) is_plus (ix left) (drop next (map seen symbols.now))) }
 {
     let (a, next) = term(alloc, prelude, room, symbols, next)?;
@@ -269,7 +344,14 @@ fn added(alloc: Global, prelude: bool, room: u32, is_plus: bool, left: IxDraft, 
 
 /// Further terms, where they follow.
 #[cycle(ix)]
-fn terms(alloc: Global, prelude: bool, room: u32, left: IxDraft, symbols: &[Symbol<'_>], next: usize) -> Answer<IxDraft>
+fn terms(
+    alloc: Global,
+    prelude: bool,
+    room: u32,
+    left: IxDraft,
+    symbols: &[Symbol<'_>],
+    next: usize,
+) -> Answer<IxDraft>
     ensures { Gives (map seen symbols.now) ix result (reading.terms prelude (length symbols.now) (reading.inside prelude (length symbols.now) room) (ix left) (drop next (map seen symbols.now))) }
 {
     let mut left = left;
@@ -283,7 +365,13 @@ fn terms(alloc: Global, prelude: bool, room: u32, left: IxDraft, symbols: &[Symb
 }
 
 #[cycle(ix)]
-pub(crate) fn expression(alloc: Global, prelude: bool, room: u32, symbols: &[Symbol<'_>], next: usize) -> Answer<IxDraft>
+pub(crate) fn expression(
+    alloc: Global,
+    prelude: bool,
+    room: u32,
+    symbols: &[Symbol<'_>],
+    next: usize,
+) -> Answer<IxDraft>
     ensures { Gives (map seen symbols.now) ix result (reading.expression prelude (length symbols.now) (reading.inside prelude (length symbols.now) room) (drop next (map seen symbols.now))) }
 {
     let (a, next) = term(alloc, prelude, room, symbols, next)?;
@@ -293,7 +381,13 @@ pub(crate) fn expression(alloc: Global, prelude: bool, room: u32, symbols: &[Sym
 /// Behind a bracket that was opened where `room` could be.
 #[cycle(ix)]
 #[tactic(auto, unfolding(crate::specs::IxReading::inside))]
-pub(crate) fn inside(alloc: Global, prelude: bool, room: u32, symbols: &[Symbol<'_>], next: usize) -> Answer<IxDraft>
+pub(crate) fn inside(
+    alloc: Global,
+    prelude: bool,
+    room: u32,
+    symbols: &[Symbol<'_>],
+    next: usize,
+) -> Answer<IxDraft>
     ensures { Gives (map seen symbols.now) ix result (reading.inside prelude (length symbols.now) room (drop next (map seen symbols.now))) }
 {
     if room == 0 {

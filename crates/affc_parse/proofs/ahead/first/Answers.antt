@@ -1,5 +1,3 @@
-use Rattle.std.proofs.Common.{◌≡◌, ◌<◌, ◌+◌, ◌∷◌, drop, length, map}
-use Rattle.affc_parse.specs.Symbols.{seen}
 use Rattle.affc_parse.proofs.IxReads.{first_is}
 use Rattle.affc_parse.proofs.ahead.first.Goals as goal
 

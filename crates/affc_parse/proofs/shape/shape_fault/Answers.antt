@@ -1,5 +1,5 @@
 use Rattle.std.proofs.Common.{ap, sym, ◌∙◌}
-use Rattle.affc_grammar.specs.Limits.{least, limits_of}
+use Rattle.affc_grammar.specs.Limits.{least}
 use Rattle.affc_parse.specs.Shape.{passed_from, nothing, counts_behind}
 use Rattle.affc_parse.specs.Symbols.{seen}
 use Rattle.std.proofs.Common.{map}
