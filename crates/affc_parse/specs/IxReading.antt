@@ -19,6 +19,12 @@ on_past (Some r) next other = next r.0 r.1
 abbrev pub closed : {A : Type 0} → List ℕ → A → Reader Symbol A
 closed mark a ts = on_past (past (this_mark mark) ts) (λ _ us. Ok (a, us)) (Err (At ts))
 
+-- what was read, seen in another way
+abbrev pub mapped : {A D : Type 0} → (A → D) → Read Symbol A → Read Symbol D
+mapped f (Ok x) = Ok (f x.0, x.1)
+mapped f (Err (At ts)) = Err (At ts)
+mapped f (Err Deep) = Err Deep
+
 -- ---- What a function answers, where memory is enough
 
 abbrev pub Fails : {D : Type 0} → List Symbol → stop.Stop → Read Symbol D → Type 0
