@@ -1,19 +1,22 @@
 -- The drafts that are read are those of the grammar's expressions, read by the grammar.
-use Rattle.std.proofs.Common.{◌≡◌, ℕ, zero, suc, ◌+◌, ◌-◌, Bool, true, false, codes, ◌≤◌, ◌<◌, List, [], ◌∷◌, ◌++◌, length, Option, Some, None, IsTrue, if◌then◌else◌, Result, Ok, Err, refl, sym, ap, ◌∙◌, arith, length-append}
+use Rattle.std.proofs.Common.{◌≡◌, ℕ, zero, suc, ◌+◌, ◌-◌, Bool, true, false, codes, ◌≤◌, ◌<◌, List, [], ◌∷◌, ◌++◌, length, drop, map, length-drop, Option, Some, None, IsTrue, if◌then◌else◌, Result, Ok, Err, refl, sym, ap, ◌∙◌, arith, length-append}
 use Rattle.std.specs.Option.{option_map, is_some}
 use Rattle.affc_lex.specs.Bytes.{decimal}
 use Rattle.affc_grammar.specs.Grammar as g
-use Rattle.affc_grammar.specs.Grammar.{Symbol, Name, is_divisor, IxText, TermText, FactorText, AtomText, mark, ix_symbols, term_symbols, factor_symbols, atom_symbols}
-use Rattle.affc_grammar.specs.Draft.{IxDraft, literal, name, negated, sum, difference, product, grouped, chosen, divided, ix_draft, term_draft, factor_draft, atom_draft}
+use Rattle.affc_grammar.specs.Grammar.{Symbol, Name, is_divisor, IxText, TermText, FactorText, AtomText, DimsText, mark, dims_symbols, ix_symbols, term_symbols, factor_symbols, atom_symbols}
+use Rattle.affc_grammar.specs.Draft.{IxDraft, literal, name, negated, sum, difference, product, grouped, chosen, divided, ix_draft, term_draft, factor_draft, atom_draft, dims_draft}
 use Rattle.affc_grammar.specs.Limits.{count_open}
 use Rattle.affc_grammar.specs.Reader.{Stop, At, Deep, Read, Reader, then_read, on_some, give, fail, deep, after, either, on, many, all}
 use Rattle.affc_grammar.specs.Reading as r
 use Rattle.affc_grammar.specs.Reading.{Callee, of_choice, of_rounding, this_mark, any_word, any_number, sum_sign, of_kind, is_number_kind, choose, callees, ix_inside}
-use Rattle.affc_grammar.proofs.Rules.{Whole, atom_rule, factor_rule, times_rule, factors_rule, term_rule, plus_rule, terms_rule, ix_inside_rule}
+use Rattle.affc_grammar.proofs.Rules.{Whole, atom_rule, factor_rule, times_rule, factors_rule, term_rule, plus_rule, terms_rule, ix_inside_rule, dim_rule}
 use Rattle.affc_grammar.proofs.Tests.{sign_mark}
+use Rattle.std.proofs.lemmas.List.{length-map}
+use Rattle.affc_parse.specs.declared.symbol.Symbol as code
+use Rattle.affc_parse.specs.Symbols.{seen}
 use Rattle.affc_parse.specs.Ahead.{past, with_rest, number_value, divisor_value}
 use Rattle.affc_parse.specs.Callees.{callee}
-use Rattle.affc_parse.specs.IxReading.{mapped, on_past, closed, more, all_more, group, choice_call, rounding_call, divisor, call, called, atom, factor, times, factors, term, joined, added, terms, expression, inside}
+use Rattle.affc_parse.specs.IxReading.{mapped, on_past, closed, more, all_more, group, choice_call, rounding_call, divisor, call, called, atom, factor, times, factors, term, joined, added, terms, expression, inside, dim, dims}
 
 mapped_then : {A B D E : Type 0} (x : Read Symbol A) (d : A → D) (f : A → Reader Symbol B) (h : D → Reader Symbol E) (e : B → E) → ((a : A) (us : List Symbol) → x ≡ Ok (a, us) → h (d a) us ≡ mapped e (f a us)) → then_read (mapped d x) h ≡ mapped e (then_read x f)
 mapped_then (Ok x) d f h e k = k x.0 x.1 refl
@@ -320,3 +323,57 @@ pub inside_is : (prelude : Bool) (end room : ℕ) → Draws end ix_draft (inside
 unfolding inside ix_inside deep
 inside_is prelude end zero ts le = refl
 inside_is prelude end (suc room) ts le = expression_is end (ix_inside prelude room) (inside prelude end room) (ix_inside_rule prelude room) (inside_is prelude end room) ts le
+
+-- ---- Dimensions
+
+module _ (prelude : Bool) (end room : ℕ) where
+  dim_is : (p : ℕ) (k : Unit {0}) (left : DimsText prelude) (ts us : List Symbol) → past (this_mark (codes "[")) ts ≡ Some (k, us) → Placed end p (length (dims_symbols left)) ts → dim prelude end room k (dims_draft p left) us ≡ mapped (dims_draft p) (r.dims_more prelude room k left us)
+  unfolding after
+  dim_is p k left ts us c here =
+      let one = past_one (this_mark (codes "[")) ts k us c in
+      let le = here.within in
+      let e = here.place in
+      let less : length us ≤ end = omega arith in
+      let place : end - length us ≡ p + length (dims_symbols left) + 1 = omega arith in
+      then_is (inside prelude end room us) (ix_inside prelude room us) (ix_draft (end - length us)) _ _ (dims_draft p) (inside_is prelude end room us less) (λ a vs q.
+          closed_is (codes "]") (g.and_dim left a) _ (dims_draft p) vs (λ i. dims_draft p left ++ ix_draft (place i) a ∷ []))
+
+  dim_keeps : (p : ℕ) (k : Unit {0}) (left : DimsText prelude) (ts us : List Symbol) → past (this_mark (codes "[")) ts ≡ Some (k, us) → Placed end p (length (dims_symbols left)) ts → (b : DimsText prelude) (vs : List Symbol) → r.dims_more prelude room k left us ≡ Ok (b, vs) → Placed end p (length (dims_symbols b)) vs
+  dim_keeps p k left ts us c here b vs q =
+      let one = past_one (this_mark (codes "[")) ts k us c in
+      let le = here.within in
+      let e = here.place in
+      let whole = (dim_rule prelude room k left).sound us b vs q in
+      let count = ap length whole in
+      let front = length-append (dims_symbols left) (mark (codes "[") ∷ us) in
+      let back = length-append (dims_symbols b) vs in
+      record { within = omega arith; place = omega arith }
+
+  pub dims_is : Draws end dims_draft (dims prelude end room) (r.read_dims prelude room)
+  dims_is ts le = all_is (this_mark (codes "[")) (r.dims_more prelude room) (dim prelude end room) (dims_draft (end - length ts)) (λ left us. Placed end (end - length ts) (length (dims_symbols left)) us) (dim_is (end - length ts)) (dim_keeps (end - length ts)) g.no_dims ts (record { within = le; place = omega arith })
+
+-- ---- At the token of a number
+
+at_number : (symbols : List code.Symbol) (n : ℕ) → n ≤ length symbols → length symbols - length (drop n (map seen symbols)) ≡ n
+at_number symbols n le =
+    let all : length (map seen symbols) ≡ length symbols = length-map symbols seen in
+    let m = length-drop n (map seen symbols) in
+    omega (arith, le, all, m)
+
+no_longer : (symbols : List code.Symbol) (n : ℕ) → length (drop n (map seen symbols)) ≤ length symbols
+no_longer symbols n =
+    let all : length (map seen symbols) ≡ length symbols = length-map symbols seen in
+    let m = length-drop n (map seen symbols) in
+    omega (arith, all, m)
+
+pub expression_exact : (prelude : Bool) (room : ℕ) (symbols : List code.Symbol) (n : ℕ) → n ≤ length symbols
+    → expression prelude (length symbols) (inside prelude (length symbols) room) (drop n (map seen symbols)) ≡ mapped (ix_draft n) (r.read_ix prelude room (drop n (map seen symbols)))
+expression_exact prelude room symbols n le =
+    expression_is (length symbols) (ix_inside prelude room) (inside prelude (length symbols) room) (ix_inside_rule prelude room) (inside_is prelude (length symbols) room) (drop n (map seen symbols)) (no_longer symbols n)
+    ∙ ap (λ at. mapped (ix_draft at) (r.read_ix prelude room (drop n (map seen symbols)))) (at_number symbols n le)
+
+pub dims_exact : (prelude : Bool) (room : ℕ) (symbols : List code.Symbol) (n : ℕ) → n ≤ length symbols
+    → dims prelude (length symbols) room (drop n (map seen symbols)) ≡ mapped (dims_draft n) (r.read_dims prelude room (drop n (map seen symbols)))
+dims_exact prelude room symbols n le =
+    dims_is prelude (length symbols) room (drop n (map seen symbols)) (no_longer symbols n)
+    ∙ ap (λ at. mapped (dims_draft at) (r.read_dims prelude room (drop n (map seen symbols)))) (at_number symbols n le)

@@ -1,6 +1,6 @@
 -- Loops of readers of drafts, and that a reader leaves no more tokens than it was given.
-use Rattle.std.proofs.Common.{◌≡◌, ℕ, zero, suc, ◌+◌, ◌-◌, Bool, codes, ◌≤◌, ◌<◌, List, [], ◌∷◌, length, get_or, drop, map, Option, Some, None, Ok, Err, refl, sym, ap, ◌∙◌, arith, length-drop}
-use Rattle.std.proofs.lemmas.List.{length-map, drop-map}
+use Rattle.std.proofs.Common.{◌≡◌, ℕ, zero, suc, ◌+◌, ◌-◌, Bool, codes, ◌≤◌, ◌<◌, List, [], ◌∷◌, ◌++◌, length, get_or, drop, map, Option, Some, None, Ok, Err, refl, sym, ap, ◌∙◌, arith, length-drop}
+use Rattle.std.proofs.lemmas.List.{length-map, drop-map, map-append}
 use Rattle.affc_grammar.specs.Grammar.{Symbol}
 use Rattle.affc_grammar.specs.Draft.{IxDraft, literal, name, negated, product, grouped, chosen, divided}
 use Rattle.affc_grammar.specs.Reader.{Stop, At, Deep, Read, Reader, then_read}
@@ -13,9 +13,11 @@ use Rattle.affc_parse.specs.Symbols.{seen}
 use Rattle.affc_parse.proofs.Counting.{next_of}
 use Rattle.affc_parse.specs.Ahead.{past, with_rest, number_value, divisor_value}
 use Rattle.affc_parse.specs.Callees.{callee}
-use Rattle.affc_parse.specs.IxReading.{on_past, closed, Fails, more, all_more, group, divisor, call, called, atom, factor, times, factors, term, joined, added, terms, expression, inside}
+use Rattle.affc_parse.specs.IxReading.{on_past, closed, Fails, more, all_more, group, divisor, call, called, atom, factor, times, factors, term, joined, added, terms, expression, inside, dim, more_dims}
 
 pub ruleset lengths = (length-map)
+
+pub ruleset lists = (map-append)
 
 -- the symbols from one on
 pub first_is : (ss : List code.Symbol) (at : ℕ) (x : code.Symbol) → at < length ss → x ≡ get_or ss at x → drop at (map seen ss) ≡ seen x ∷ drop (at + 1) (map seen ss)
@@ -178,6 +180,13 @@ inside_left prelude end (suc room) ts = expression_left prelude end (inside prel
 
 -- ---- The two loops, as the code runs them
 
+less_left : (symbols : List code.Symbol) (n b r : ℕ) → length (drop b (map seen symbols)) < length (drop n (map seen symbols)) → length (drop r (map seen symbols)) ≤ length (drop b (map seen symbols)) → length symbols - r < length symbols - n
+less_left symbols n b r p q =
+    let all : length (map seen symbols) ≡ length symbols = length-map symbols seen in
+    let m = length-drop n (map seen symbols) in
+    let k = length-drop r (map seen symbols) in
+    omega (arith, p, q, all, m, k)
+
 module _ (prelude : Bool) (end room : ℕ) (symbols : List code.Symbol) (left : IxDraft) (n b : ℕ) where
   pub factors_err : (f : stop.Stop) → past (this_mark (codes "*")) (drop n (map seen symbols)) ≡ Some (tt, drop b (map seen symbols)) → Fails (map seen symbols) f (times prelude end (inside prelude end room) tt left (drop b (map seen symbols)))
       → Fails (map seen symbols) f (factors prelude end (inside prelude end room) left (drop n (map seen symbols)))
@@ -201,17 +210,31 @@ module _ (prelude : Bool) (end room : ℕ) (symbols : List code.Symbol) (left : 
   pub terms_end : past sum_sign (drop n (map seen symbols)) ≡ None → terms prelude end (inside prelude end room) left (drop n (map seen symbols)) ≡ Ok (left, drop n (map seen symbols))
   terms_end e = loop_end sum_sign (added prelude end (inside prelude end room)) (added_left prelude end (inside prelude end room) (inside_left prelude end room)) left _ e
 
-  less_left : (r : ℕ) → length (drop b (map seen symbols)) < length (drop n (map seen symbols)) → length (drop r (map seen symbols)) ≤ length (drop b (map seen symbols)) → length symbols - r < length symbols - n
-  less_left r p q =
-      let all : length (map seen symbols) ≡ length symbols = length-map symbols seen in
-      let m = length-drop n (map seen symbols) in
-      let k = length-drop r (map seen symbols) in
-      omega (arith, p, q, all, m, k)
-
   pub factors_less : (x : IxDraft) (r : ℕ) → past (this_mark (codes "*")) (drop n (map seen symbols)) ≡ Some (tt, drop b (map seen symbols)) → times prelude end (inside prelude end room) tt left (drop b (map seen symbols)) ≡ Ok (x, drop r (map seen symbols))
       → length symbols - r < length symbols - n
-  factors_less x r e q = less_left r (past_shorter (this_mark (codes "*")) _ tt _ e) (times_left prelude end (inside prelude end room) (inside_left prelude end room) tt left _ x _ q)
+  factors_less x r e q = less_left symbols n b r (past_shorter (this_mark (codes "*")) _ tt _ e) (times_left prelude end (inside prelude end room) (inside_left prelude end room) tt left _ x _ q)
 
   pub terms_less : (k : Bool) (x : IxDraft) (r : ℕ) → past sum_sign (drop n (map seen symbols)) ≡ Some (k, drop b (map seen symbols)) → added prelude end (inside prelude end room) k left (drop b (map seen symbols)) ≡ Ok (x, drop r (map seen symbols))
       → length symbols - r < length symbols - n
-  terms_less k x r e q = less_left r (past_shorter sum_sign _ k _ e) (added_left prelude end (inside prelude end room) (inside_left prelude end room) k left _ x _ q)
+  terms_less k x r e q = less_left symbols n b r (past_shorter sum_sign _ k _ e) (added_left prelude end (inside prelude end room) (inside_left prelude end room) k left _ x _ q)
+
+-- ---- Dimensions
+
+dim_left : (prelude : Bool) (end room : ℕ) (u : Unit {0}) (ds : List IxDraft) → Shrinks (dim prelude end room u ds)
+dim_left prelude end room u ds ts = left_then (inside prelude end room ts) _ (length ts) (inside_left prelude end room ts) (λ a. closed_left (codes "]") (ds ++ a ∷ []))
+
+module _ (prelude : Bool) (end room : ℕ) (symbols : List code.Symbol) (left : List IxDraft) (n b : ℕ) where
+  pub dims_err : (f : stop.Stop) → past (this_mark (codes "[")) (drop n (map seen symbols)) ≡ Some (tt, drop b (map seen symbols)) → Fails (map seen symbols) f (dim prelude end room tt left (drop b (map seen symbols)))
+      → Fails (map seen symbols) f (more_dims prelude end room left (drop n (map seen symbols)))
+  dims_err f e q = loop_stop (this_mark (codes "[")) (dim prelude end room) (dim_left prelude end room) (map seen symbols) left _ tt _ f e q
+
+  pub dims_on : (x : List IxDraft) (r : ℕ) → past (this_mark (codes "[")) (drop n (map seen symbols)) ≡ Some (tt, drop b (map seen symbols)) → dim prelude end room tt left (drop b (map seen symbols)) ≡ Ok (x, drop r (map seen symbols))
+      → more_dims prelude end room left (drop n (map seen symbols)) ≡ more_dims prelude end room x (drop r (map seen symbols))
+  dims_on x r e q = loop_on (this_mark (codes "[")) (dim prelude end room) (dim_left prelude end room) left _ tt _ x _ e q
+
+  pub dims_end : past (this_mark (codes "[")) (drop n (map seen symbols)) ≡ None → more_dims prelude end room left (drop n (map seen symbols)) ≡ Ok (left, drop n (map seen symbols))
+  dims_end e = loop_end (this_mark (codes "[")) (dim prelude end room) (dim_left prelude end room) left _ e
+
+  pub dims_less : (x : List IxDraft) (r : ℕ) → past (this_mark (codes "[")) (drop n (map seen symbols)) ≡ Some (tt, drop b (map seen symbols)) → dim prelude end room tt left (drop b (map seen symbols)) ≡ Ok (x, drop r (map seen symbols))
+      → length symbols - r < length symbols - n
+  dims_less x r e q = less_left symbols n b r (past_shorter (this_mark (codes "[")) _ tt _ e) (dim_left prelude end room tt left _ x _ q)

@@ -1,6 +1,6 @@
 -- Reading drafts of whole-number expressions. Only the crate's private clauses cite it: `end` is the number behind the last token, so that the first
 -- of some tokens at the text's end has the number `end - length tokens`.
-use Rattle.std.specs.Prelude.{◌≡◌, ℕ, zero, suc, ◌-◌, Bool, true, false, List, length, drop, codes, Option, Some, None, Result, Ok, Err}
+use Rattle.std.specs.Prelude.{[], ◌∷◌, ◌++◌, ◌≡◌, ℕ, zero, suc, ◌-◌, Bool, true, false, List, length, drop, codes, Option, Some, None, Result, Ok, Err}
 use Rattle.affc_grammar.specs.Grammar as g
 use Rattle.affc_grammar.specs.Grammar.{Symbol, Name, is_divisor}
 use Rattle.affc_grammar.specs.Draft.{IxDraft, literal, name, negated, sum, difference, product, grouped, chosen, divided}
@@ -114,3 +114,14 @@ expression prelude end inner ts = then_read (term prelude end inner ts) (terms p
 unfoldable pub inside : (prelude : Bool) (end : ℕ) → (room : ℕ) → Reader Symbol IxDraft
 inside prelude end zero ts = Err Deep
 inside prelude end (suc room) ts = expression prelude end (inside prelude end room) ts
+
+-- ---- Dimensions
+
+abbrev pub dim : (prelude : Bool) (end room : ℕ) → Unit {0} → List IxDraft → Reader Symbol (List IxDraft)
+dim prelude end room _ ds us = then_read (inside prelude end room us) (λ a vs. closed (codes "]") (ds ++ a ∷ []) vs)
+
+abbrev pub more_dims : (prelude : Bool) (end room : ℕ) → List IxDraft → Reader Symbol (List IxDraft)
+more_dims prelude end room = all_more (this_mark (codes "[")) (dim prelude end room)
+
+abbrev pub dims : (prelude : Bool) (end room : ℕ) → Reader Symbol (List IxDraft)
+dims prelude end room = more_dims prelude end room []

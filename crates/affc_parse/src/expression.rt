@@ -1,9 +1,10 @@
 //! Reading whole-number expressions. `room` is how many brackets may still be opened, `next` is the number of the next token.
 
-ghost use Rattle.std.specs.Prelude.{◌≡◌, ◌-◌, drop, length, map, IfOk};
+ghost use Rattle.std.specs.Prelude.{◌≡◌, ◌-◌, ◌≤◌, drop, length, map, IfOk};
 ghost use Rattle.affc_parse.specs.Drafts as drafts;
 ghost use Rattle.affc_parse.specs.Drafts.{ix};
 ghost use Rattle.affc_grammar.specs.Draft as d;
+ghost use Rattle.affc_grammar.specs.Reading as grammar;
 ghost use Rattle.affc_parse.specs.Symbols.{seen};
 ghost use Rattle.affc_parse.specs.IxReading as reading;
 ghost use Rattle.affc_parse.specs.IxReading.{Gives};
@@ -15,7 +16,7 @@ use crate::ahead::{
 };
 use crate::draft::{Choice, IxDraft, Rounding};
 use crate::symbol::Symbol;
-use affc_ast::Boxed;
+use affc_ast::{Boxed, Items};
 use affc_ast::text::Text;
 use std::alloc::{AllocError, Global};
 
@@ -394,4 +395,53 @@ pub(crate) fn inside(
         return Err(Stop::Deep);
     }
     expression(alloc, prelude, room - 1, symbols, next)
+}
+
+/// Behind the `[` of a dimension.
+#[tactic(auto, using(crate::proofs::IxReads::lists))]
+fn dim(
+    alloc: Global,
+    prelude: bool,
+    room: u32,
+    dims: Items<IxDraft>,
+    symbols: &[Symbol<'_>],
+    next: usize,
+) -> Answer<Items<IxDraft>>
+    ensures { Gives (map seen symbols.now) (map ix) result (reading.dim prelude (length symbols.now) room tt (map ix dims) (drop next (map seen symbols.now))) }
+{
+    let (a, next) = inside(alloc, prelude, room, symbols, next)?;
+    let next = behind(b"]", symbols, next)?;
+    let mut dims = dims;
+    dims.push(a)?;
+    Ok((dims, next))
+}
+
+/// The dimensions that stand here, in drafts.
+fn drawn_dims(alloc: Global, prelude: bool, room: u32, symbols: &[Symbol<'_>], next: usize) -> Answer<Items<IxDraft>>
+    ensures { Gives (map seen symbols.now) (map ix) result (reading.dims prelude (length symbols.now) room (drop next (map seen symbols.now))) }
+{
+    let mut dims = Items::new(alloc);
+    let mut next = next;
+    while let Some(behind) = past_mark(b"[", symbols, next) {
+        let (longer, rest) = dim(alloc, prelude, room, dims, symbols, behind)?;
+        dims = longer;
+        next = rest;
+    }
+    Ok((dims, next))
+}
+
+/// The expression that stands at the token of this number, and the number behind it.
+pub(crate) fn read_expression(alloc: Global, prelude: bool, room: u32, symbols: &[Symbol<'_>], next: usize) -> Answer<IxDraft>
+    requires { next ≤ length symbols.now }
+    ensures { Gives (map seen symbols.now) ix result (reading.mapped (d.ix_draft next) (grammar.read_ix prelude room (drop next (map seen symbols.now)))) }
+{
+    expression(alloc, prelude, room, symbols, next)
+}
+
+/// The dimensions that stand at the token of this number, and the number behind them.
+pub(crate) fn read_dims(alloc: Global, prelude: bool, room: u32, symbols: &[Symbol<'_>], next: usize) -> Answer<Items<IxDraft>>
+    requires { next ≤ length symbols.now }
+    ensures { Gives (map seen symbols.now) (map ix) result (reading.mapped (d.dims_draft next) (grammar.read_dims prelude room (drop next (map seen symbols.now)))) }
+{
+    drawn_dims(alloc, prelude, room, symbols, next)
 }
