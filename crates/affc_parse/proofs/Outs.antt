@@ -1,5 +1,5 @@
 -- What the grammar sees of a draft, by one step: the lemmas that `search` and `grind` take.
-use Rattle.std.proofs.Common.{◌≡◌, ℕ, refl, ap, ◌∙◌}
+use Rattle.std.proofs.Common.{◌≡◌, ℕ, ◌∷◌, map, refl, sym, ap, ◌∙◌}
 use denote.Hole.Carrier.{out, shown}
 use Rattle.affc_grammar.specs.Draft as d
 use Rattle.affc_parse.specs.declared.draft.IxDraft.{IxDraft, out-IxDraft, map-IxDraft, the_lemmas as ix_lemmas}
@@ -8,7 +8,14 @@ use Rattle.affc_parse.specs.declared.draft.IxDraft.TheBlock.{more_of-IxDraft, en
 use Rattle.affc_parse.specs.declared.draft.IxDraft.TheOpen.{IxDraft-F}
 use Rattle.affc_parse.specs.declared.draft.Choice.{Choice}
 use Rattle.affc_parse.specs.declared.draft.Rounding.{Rounding}
-use Rattle.affc_parse.specs.Drafts.{ix, ix_node, choice, rounding}
+use Rattle.affc_parse.specs.declared.draft.ValueDraft.{ValueDraft, out-ValueDraft, map-ValueDraft, the_lemmas as value_lemmas}
+use Rattle.affc_parse.specs.declared.draft.ValueDraft.TheVariants as v
+use Rattle.affc_parse.specs.declared.draft.ValueDraft.TheBlock.{more_of-ValueDraft, end_of-ValueDraft, shown-the_row-ValueDraft-0}
+use Rattle.affc_parse.specs.declared.draft.StmtDraft.{StmtDraft, out-StmtDraft, map-StmtDraft, the_lemmas as stmt_lemmas}
+use Rattle.affc_parse.specs.declared.draft.StmtDraft.TheVariants as s
+use Rattle.affc_parse.specs.declared.draft.StmtDraft.TheOpen as layer_s
+use Rattle.affc_parse.specs.declared.draft.StmtDraft.TheBlock.{Row_of-StmtDraft, more_of-StmtDraft, end_of-StmtDraft, items-the_row-StmtDraft, items_shown-the_row-StmtDraft-0}
+use Rattle.affc_parse.specs.Drafts.{ix, ix_node, choice, rounding, value, value_node, stmt, each_stmt, stmt_node}
 
 pub ix_out : (e : IxDraft) → ix e ≡ ix_node (map-IxDraft IxDraft d.IxDraft ix (out-IxDraft e))
 unfolding out-IxDraft out shown-the_row-IxDraft-0 shown
@@ -51,3 +58,29 @@ pub ix-Divided : (at : ℕ) (f : Rounding) (a : IxDraft) (by_at by : ℕ) → ix
 ix-Divided at f a by_at by = ix_out (c.Divided at f a by_at by) ∙ ap node_of (c.outs-Divided at f a by_at by)
 
 pub ruleset ix_made = (ix-Negated, ix-Sum, ix-Difference, ix-Product, ix-Grouped, ix-Chosen, ix-Divided)
+
+-- ---- Values and statements
+
+pub value_out : (e : ValueDraft) → value e ≡ value_node (map-ValueDraft ValueDraft d.ValueDraft value (out-ValueDraft e))
+unfolding out-ValueDraft out shown-the_row-ValueDraft-0 shown
+value_out (v.Load at w subs) = refl
+value_out (v.Constant n) = refl
+value_out (v.Cast a) = refl
+value_out (v.Complement' s (more_of-ValueDraft a end_of-ValueDraft)) = refl
+value_out (v.Binary' op s (more_of-ValueDraft a end_of-ValueDraft) t (more_of-ValueDraft b end_of-ValueDraft)) = refl
+value_out (v.Shift' left s (more_of-ValueDraft a end_of-ValueDraft) by) = refl
+
+pub ruleset value_outs = (value_lemmas, value_out)
+
+each_is : {n : _} (body : Row_of-StmtDraft n) → each_stmt body ≡ map stmt (items-the_row-StmtDraft n body)
+each_is end_of-StmtDraft = refl
+each_is (more_of-StmtDraft x rest) = ap (λ l. stmt x ∷ l) (each_is rest)
+
+pub stmt_out : (x : StmtDraft) → stmt x ≡ stmt_node (map-StmtDraft StmtDraft d.StmtDraft stmt (out-StmtDraft x))
+unfolding out-StmtDraft out
+stmt_out (s.For' h shape body) = ap (λ l. stmt_node (layer_s.For h l)) (each_is body ∙ ap (map stmt) (sym (items_shown-the_row-StmtDraft-0 shape body)))
+stmt_out (s.If' at conds shape body) = ap (λ l. stmt_node (layer_s.If at conds l)) (each_is body ∙ ap (map stmt) (sym (items_shown-the_row-StmtDraft-0 shape body)))
+stmt_out (s.Assign w subs op a) = refl
+stmt_out (s.Block' locals shape body) = ap (λ l. stmt_node (layer_s.Block locals l)) (each_is body ∙ ap (map stmt) (sym (items_shown-the_row-StmtDraft-0 shape body)))
+
+pub ruleset stmt_outs = (stmt_lemmas, stmt_out)
