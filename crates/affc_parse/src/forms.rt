@@ -1,11 +1,12 @@
 //! What is asked of whole-number expressions: products, literals.
 
-ghost use Rattle.std.specs.Prelude.{◌≡◌};
-ghost use Rattle.affc_grammar.specs.Limits.{literals_past};
-ghost use Rattle.affc_parse.specs.Drafts.{ix};
+ghost use Rattle.std.specs.List.{flat_map};
+ghost use Rattle.std.specs.Prelude.{map, ◌≡◌};
+ghost use Rattle.affc_grammar.specs.Limits.{literals_past, products_in, value_texts};
+ghost use Rattle.affc_parse.specs.Drafts.{ix, value};
 ghost use Rattle.affc_parse.specs.Places as places;
 
-use crate::draft::IxDraft;
+use crate::draft::{IxDraft, ValueDraft};
 
 /// The first, or the second where there is no first.
 pub(crate) fn first_of(a: Option<usize>, b: Option<usize>) -> Option<usize>
@@ -120,4 +121,69 @@ pub fn literal_past(limit: u64, e: &IxDraft) -> Option<usize>
             place_if(limit < *by, *by_at),
         ),
     }
+}
+
+/// The least place of a literal above the limit in any of the expressions.
+pub fn literal_past_each(limit: u64, es: &[IxDraft]) -> Option<usize>
+    ensures { result ≡ places.least (flat_map (literals_past limit) (map ix es.now)) }
+{
+    let mut found = None;
+    for e in es {
+        found = lesser(found, literal_past(limit, e));
+    }
+    found
+}
+
+/// The least place of a literal above the limit in the expressions of a value.
+#[tactic(auto, using(crate::proofs::Outs::value_outs, crate::proofs::PlaceLaws::value_laws))]
+pub fn value_literal_past(limit: u64, e: &ValueDraft) -> Option<usize>
+    ensures { result ≡ places.least (flat_map (literals_past limit) (value_texts (value e.now))) }
+{
+    match e {
+        ValueDraft::Load { subs, .. } => literal_past_each(limit, subs.as_slice()),
+        ValueDraft::Constant(_) => None,
+        ValueDraft::Cast(a) => literal_past(limit, a),
+        ValueDraft::Complement(of) => value_literal_past(limit, of.get()),
+        ValueDraft::Binary { left, right, .. } => lesser(
+            value_literal_past(limit, left.get()),
+            value_literal_past(limit, right.get()),
+        ),
+        ValueDraft::Shift { of, .. } => value_literal_past(limit, of.get()),
+    }
+}
+
+/// The `*` of the first product both of whose sides hold names, of any of the expressions.
+pub fn product_of_each(es: &[IxDraft]) -> Option<usize>
+    ensures { result ≡ places.first (flat_map products_in (map ix es.now)) }
+{
+    let mut found = None;
+    for e in es {
+        found = first_of(found, first_product(e));
+    }
+    found
+}
+
+/// The `*` of the first product both of whose sides hold names, in the expressions of a value.
+#[tactic(auto, using(crate::proofs::Outs::value_outs, crate::proofs::PlaceLaws::first_value_laws))]
+pub fn product_of_value(e: &ValueDraft) -> Option<usize>
+    ensures { result ≡ places.first (flat_map products_in (value_texts (value e.now))) }
+{
+    match e {
+        ValueDraft::Load { subs, .. } => product_of_each(subs.as_slice()),
+        ValueDraft::Constant(_) => None,
+        ValueDraft::Cast(a) => first_product(a),
+        ValueDraft::Complement(of) => product_of_value(of.get()),
+        ValueDraft::Binary { left, right, .. } => {
+            first_of(product_of_value(left.get()), product_of_value(right.get()))
+        }
+        ValueDraft::Shift { of, .. } => product_of_value(of.get()),
+    }
+}
+
+/// The `*` of the first product both of whose sides hold names.
+pub fn first_product(e: &IxDraft) -> Option<usize>
+    ensures { result ≡ places.first (products_in (ix e.now)) }
+{
+    let factors = products(e);
+    factors.first_refused
 }
