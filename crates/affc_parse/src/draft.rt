@@ -1,0 +1,185 @@
+//! The tree of a text before its names are looked up. `at` is the number of a token, from 0.
+
+use affc_ast::text::Text;
+use affc_ast::tree::{Op, Rel, Role};
+use affc_ast::{Boxed, Items};
+
+/// `affc_min`, `affc_max`, `affc_mod`.
+#[derive(Clone, Copy, Debug, PartialEq, Eq, Drop)]
+pub enum Choice {
+    Minimum,
+    Maximum,
+    Remainder,
+}
+
+/// `affc_floord`, `affc_ceild`.
+#[derive(Clone, Copy, Debug, PartialEq, Eq, Drop)]
+pub enum Rounding {
+    Down,
+    Up,
+}
+
+/// A whole-number expression.
+#[derive(Drop)]
+pub enum IxDraft {
+    Literal {
+        at: usize,
+        value: u64,
+    },
+    Name {
+        at: usize,
+        name: Text,
+    },
+    Negated {
+        at: usize,
+        of: Boxed<IxDraft>,
+    },
+    Sum(Boxed<IxDraft>, Boxed<IxDraft>),
+    Difference(Boxed<IxDraft>, Boxed<IxDraft>),
+    /// `at` is the number of the `*`.
+    Product {
+        at: usize,
+        left: Boxed<IxDraft>,
+        right: Boxed<IxDraft>,
+    },
+    /// In parentheses, which leave no mark in the tree.
+    Grouped {
+        at: usize,
+        inside: Boxed<IxDraft>,
+    },
+    Chosen {
+        at: usize,
+        choice: Choice,
+        left: Boxed<IxDraft>,
+        right: Boxed<IxDraft>,
+    },
+    Divided {
+        at: usize,
+        rounding: Rounding,
+        of: Boxed<IxDraft>,
+        by_at: usize,
+        by: u64,
+    },
+}
+
+/// A comparison of a condition.
+#[derive(Drop)]
+pub struct CompareDraft {
+    pub rel: Rel,
+    pub left: IxDraft,
+    pub right: IxDraft,
+}
+
+/// A value: a `uint64_t`.
+#[derive(Drop)]
+pub enum ValueDraft {
+    Load {
+        at: usize,
+        name: Text,
+        subs: Items<IxDraft>,
+    },
+    Constant(u64),
+    Cast(IxDraft),
+    Complement(Boxed<ValueDraft>),
+    Binary {
+        op: Op,
+        left: Boxed<ValueDraft>,
+        right: Boxed<ValueDraft>,
+    },
+    Shift {
+        left: bool,
+        of: Boxed<ValueDraft>,
+        by: u64,
+    },
+}
+
+/// A word, and the number of its token.
+#[derive(Drop)]
+pub struct WordDraft {
+    pub at: usize,
+    pub name: Text,
+}
+
+/// A local of a block; `at` is the number of its name.
+#[derive(Drop)]
+pub struct LocalDraft {
+    pub at: usize,
+    pub name: Text,
+    pub value: IxDraft,
+}
+
+/// What stands before the body of a `for`; `at` is the number of the word `for`.
+#[derive(Drop)]
+pub struct HeadDraft {
+    pub at: usize,
+    pub iterator: WordDraft,
+    pub low: IxDraft,
+    pub tested: WordDraft,
+    pub rel: Rel,
+    pub high: IxDraft,
+    pub stepped: WordDraft,
+}
+
+#[derive(Drop)]
+pub enum StmtDraft {
+    For {
+        head: HeadDraft,
+        body: Items<StmtDraft>,
+    },
+    /// `at` is the number of the word `if`.
+    If {
+        at: usize,
+        conds: Items<CompareDraft>,
+        body: Items<StmtDraft>,
+    },
+    Assign {
+        array: WordDraft,
+        subs: Items<IxDraft>,
+        op: Option<Op>,
+        value: ValueDraft,
+    },
+    Block {
+        locals: Items<LocalDraft>,
+        body: Items<StmtDraft>,
+    },
+}
+
+#[derive(Drop)]
+pub struct DeclDraft {
+    pub word: WordDraft,
+    pub role: Role,
+    pub extents: Items<IxDraft>,
+}
+
+#[derive(Drop)]
+pub enum ParamDraft {
+    Number(WordDraft),
+    Array(DeclDraft),
+}
+
+/// A line before the function.
+#[derive(Drop)]
+pub enum PragmaDraft {
+    /// `low_at` is the number of the first token of the first bound; the bounds are below 2^64 in magnitude.
+    Range {
+        word: WordDraft,
+        low_at: usize,
+        low: i128,
+        high: i128,
+    },
+    /// `at` is the number of the word `context`.
+    Context {
+        at: usize,
+        conds: Items<CompareDraft>,
+    },
+}
+
+#[derive(Drop)]
+pub struct TextDraft {
+    pub pragmas: Items<PragmaDraft>,
+    pub has_prelude: bool,
+    pub function: WordDraft,
+    pub params: Items<ParamDraft>,
+    pub temps: Items<DeclDraft>,
+    pub body: Items<StmtDraft>,
+}
