@@ -1,0 +1,5 @@
+//! Programs as text.
+#![tactic(auto)]
+
+pub mod examples;
+mod index;
