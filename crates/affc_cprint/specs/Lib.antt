@@ -1,3 +1,4 @@
 pub mod Layout
+pub mod Adds
 pub mod Places
 pub mod Seen

@@ -1,8 +1,7 @@
 -- What is written for an expression where it stands.
-use Rattle.std.specs.Prelude.{ℕ, Bool, true, false, List, [], map, codes}
-use Rattle.std.specs.Borrow.{Bor}
-use Rattle.affc_grammar.specs.Grammar.{Name}
-use Rattle.affc_grammar.specs.Printed.{Names, IxWritten}
+use Rattle.std.specs.Prelude.{ℕ, Bool, true, false, List, [], codes, ℤ, nat_abs, decimal as digits_of}
+use Rattle.affc_grammar.specs.Grammar.{is_divisor}
+use Rattle.affc_grammar.specs.Printed.{IxWritten}
 use Rattle.affc_cprint.specs.declared.index.Place.{Place}
 use Rattle.affc_cprint.specs.declared.index.Place.TheVariants.{Whole, RightOfSum, LeftOfProduct, RightOfProduct, UnderMinus}
 use Rattle.affc_cprint.specs.Layout.{◌then◌, ix_layout, term_layout, factor_layout, atom_layout}
@@ -38,3 +37,8 @@ is_factor _ = false
 abbrev pub is_negated : Place → Bool
 is_negated UnderMinus = true
 is_negated _ = false
+
+-- whether a quotient by this number is written
+abbrev pub divides : (prelude : Bool) → ℤ → Bool
+divides true by = is_divisor (digits_of (nat_abs by))
+divides false by = false

@@ -1,5 +1,4 @@
 //! Programs as text.
 #![tactic(auto)]
-
 pub mod examples;
 mod index;
