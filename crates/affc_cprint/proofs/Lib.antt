@@ -2,3 +2,4 @@ pub mod Numbers
 pub mod Writes
 pub mod Nodes
 pub mod Places
+pub mod ReadBack

@@ -3,7 +3,7 @@ use Rattle.std.proofs.Common.{◌≡◌, ℕ, List, ◌++◌, ap, ◌∙◌, Boo
 use Rattle.std.proofs.lemmas.List.{append-nil}
 use Rattle.affc_ast.proofs.Outs.{ix_outs}
 use Rattle.affc_grammar.specs.Grammar.{Digits, IxText, TermText, AtomText, Choice, chosen, choice_name, Rounding, divided, rounding_name, is_divisor}
-use Rattle.affc_grammar.specs.Printed.{IxWritten, sum_written, product_written, atom_written, call_written, nothing_written, chosen_written, divided_by, divided_written, holding}
+use Rattle.affc_grammar.specs.Printed.{IxWritten, sum_written, product_written, call_written, nothing_written, chosen_written, divided_by, divided_written, holding}
 use Rattle.affc_cprint.specs.declared.index.Place.{Place}
 use Rattle.affc_cprint.specs.declared.index.Place.TheVariants.{Whole, RightOfSum, LeftOfProduct, RightOfProduct, UnderMinus}
 use Rattle.affc_cprint.specs.Layout.{◌then◌, ix_layout, term_layout, atom_layout}
@@ -46,7 +46,7 @@ pub no_choice_at : (prelude : Bool) (place : Place) (f : Choice) (a b : IxText p
 no_choice_at true place f a b h = cc
 no_choice_at false place f a b h = nothing_at _ place
 
-some_held : (b : Bool) → b ≡ true → is_some (holding b) ≡ true
+pub some_held : (b : Bool) → b ≡ true → is_some (holding b) ≡ true
 some_held true h = refl
 some_held false h = cc
 

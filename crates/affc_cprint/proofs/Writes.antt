@@ -1,5 +1,5 @@
 -- Pieces of text added one behind the other.
-use Rattle.std.proofs.Common.{◌≡◌, ℕ, List, ◌++◌, Result, Ok, Err, OnOk, refl, sym, ap, ◌∙◌, append_assoc}
+use Rattle.std.proofs.Common.{◌≡◌, ℕ, List, ◌++◌, Result, Ok, Err, OnOk, sym, ap, ◌∙◌, append_assoc}
 use Rattle.affc_cprint.specs.Adds.{Adds}
 
 infixr 20 ◌next◌

@@ -4,7 +4,7 @@ use Rattle.std.specs.Prelude.{ℕ, zero, suc, Bool, true, false, List, [], ◌++
 use Rattle.affc_lex.specs.Pieces.{prelude}
 use Rattle.affc_ast.specs.declared.tree.Program.{Program}
 use Rattle.affc_grammar.specs.Grammar.{IxText, term, plus, minus, TermText, factor, times, FactorText, atom, negated, AtomText, literal, name, grouped, chosen, divided, DimsText, no_dims, and_dim, CondsText, cond, and_cond, CondText, all_of, compared, ValueText, complement, load, constant, parens, cast, operand, binary, shift, StepText, then_up, up_then, up_by_one, LocalsText, no_locals, and_local, StmtsText, no_stmts, and_stmt, StmtText, simple, block, SimpleText, for_loop, if_all, assign, BodyText, braces, bare, ParamText, number_param, array_param, ParamsText, param, and_param, NamesText, one_array, and_array, DeclsText, no_decls, and_decl, FunctionText, IntText, LineText, line_feed, text_end, PragmasText, no_pragmas, and_range, and_context, choice_name, rounding_name, rel_mark, op_mark, shift_mark, bound_mark, assign_mark}
-use Rattle.affc_grammar.specs.Printed.{Names, params_text, ranges_text, context_text, function_text}
+use Rattle.affc_grammar.specs.Printed.{params_text, ranges_text, context_text, function_text}
 
 -- as `++`, grouped to the right
 infixr 20 ◌then◌

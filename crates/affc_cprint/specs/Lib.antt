@@ -2,3 +2,4 @@ pub mod Layout
 pub mod Adds
 pub mod Places
 pub mod Seen
+pub mod Sees

@@ -1,6 +1,5 @@
 -- What a contract sees of the code's values.
-use Rattle.std.specs.Prelude.{ℕ, List, map}
-use Rattle.std.specs.Borrow.{Bor}
+use Rattle.std.specs.Prelude.{map}
 use Rattle.affc_cprint.specs.declared.index.Names.{Names}
 use Rattle.affc_grammar.specs.Printed as printed
 

@@ -2,3 +2,4 @@
 #![tactic(auto)]
 pub mod examples;
 mod index;
+pub mod laws;

@@ -1,4 +1,4 @@
-use Rattle.std.proofs.Common.{◌≡◌, ℤ, rules, true, nat_abs}
+use Rattle.std.proofs.Common.{◌≡◌, rules, true, nat_abs}
 use Rattle.affc_ast.specs.Recursion.{by_ix}
 use Rattle.affc_grammar.specs.Grammar.{plus, minus, times, minimum, maximum, remainder, down, up}
 use Rattle.affc_grammar.specs.Printed.{ix_step}
