@@ -31,4 +31,3 @@ abbrev mutual
   AtomFits (grouped a) = IxFits a
   AtomFits (chosen _ f a b) = IxFits a × IxFits b
   AtomFits (divided _ f a by _) = IxFits a × (value_of by < 2 ^ 64)
-

@@ -97,7 +97,13 @@ fn is_divided(prelude: bool, by: i64) -> bool
 }
 
 #[tactic(auto, using(crate::proofs::Places::at_places))]
-pub fn ix(out: &mut String, prelude: bool, names: &Names<'_>, e: &Ix, place: Place) -> Result<(), AllocError>
+pub fn ix(
+    out: &mut String,
+    prelude: bool,
+    names: &Names<'_>,
+    e: &Ix,
+    place: Place,
+) -> Result<(), AllocError>
     ensures { OnOk result (Adds (string_bytes out.old) (string_bytes out.new) (ix_at place (by_ix (ix_step prelude (seen names.now)) e.now))) }
 {
     let inside = place.is_inside();
@@ -195,4 +201,3 @@ pub fn ix(out: &mut String, prelude: bool, names: &Names<'_>, e: &Ix, place: Pla
         }
     }
 }
-
