@@ -1,0 +1,5 @@
+pub mod Numbers
+pub mod Writes
+pub mod Nodes
+pub mod Places
+pub mod ReadBack

@@ -1,0 +1,21 @@
+-- By computation.
+use Rattle.std.proofs.Common.{refl}
+use Rattle.std.specs.Fmt.{digits}
+use denote.Hole.Carrier.{hidden}
+use Rattle.affc_ast.specs.declared.tree.Ix.TheBlock.{shape-the_row-Ix-0, hidden-the_row-Ix-0}
+use Rattle.affc_ast.specs.declared.tree.Stmt.TheBlock.{shape-the_row-Stmt-0, hidden-the_row-Stmt-0}
+use Rattle.affc_ast.specs.declared.tree.Val.TheBlock.{shape-the_row-Val-0, hidden-the_row-Val-0}
+use Rattle.affc_grammar.specs.Verdict.{computing}
+use Rattle.affc_cprint.proofs.examples.layout.Goals as goal
+
+pub returns-clause-copy_loop : goal.returns-clause-copy_loop
+unfolding computing shape-the_row-Ix-0 hidden-the_row-Ix-0 shape-the_row-Val-0 hidden-the_row-Val-0 shape-the_row-Stmt-0 hidden-the_row-Stmt-0 hidden digits
+returns-clause-copy_loop c = refl
+
+pub returns-clause-expressions : goal.returns-clause-expressions
+unfolding computing shape-the_row-Ix-0 hidden-the_row-Ix-0 shape-the_row-Val-0 hidden-the_row-Val-0 shape-the_row-Stmt-0 hidden-the_row-Stmt-0 hidden digits
+returns-clause-expressions c = refl
+
+pub returns-clause-blocks : goal.returns-clause-blocks
+unfolding computing shape-the_row-Ix-0 hidden-the_row-Ix-0 shape-the_row-Val-0 hidden-the_row-Val-0 shape-the_row-Stmt-0 hidden-the_row-Stmt-0 hidden digits
+returns-clause-blocks c = refl

@@ -1,0 +1,5 @@
+pub mod Layout
+pub mod Adds
+pub mod Places
+pub mod Seen
+pub mod Sees

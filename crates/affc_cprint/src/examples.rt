@@ -1,0 +1,17 @@
+//! Printed texts: each function here is a statement, proved by computation.
+
+ghost use Rattle.std.specs.Prelude.{◌≡◌, ◌++◌, codes};
+ghost use Rattle.affc_ast.specs.CopyLoop.{copy_tree};
+ghost use Rattle.affc_grammar.specs.Verdict.{around, with_prelude, program_of, verdict};
+ghost use Rattle.affc_lex.specs.Pieces.{prelude};
+ghost use Rattle.affc_cprint.specs.Layout.{printed_text};
+
+/// Whole texts.
+pub fn layout()
+    ensures copy_loop { printed_text (copy_tree (record { function = codes "f"; parameter = codes "N"; input = codes "in"; output = codes "out"; iterator = codes "i"; low = 1; high = 4 }))
+        ≡ codes "#include <stdint.h>\n#pragma affc param N 1 4\nvoid f(int64_t N, const uint64_t in[N], uint64_t out[N]) {\n  for (int64_t i = 0; i < N; i++) {\n    out[i] = in[i];\n  }\n}\n" }
+    ensures expressions { printed_text (program_of (verdict (around (codes "uint64_t t [ 3 ] ; if ( N < 2 && ( N - ( N - 1 ) ) >= - ( - N ) ) t [ N - 1 ] += ~ ( in [ 3 * ( - N ) ] + 1ULL ) << 3 ;"))))
+        ≡ codes "#include <stdint.h>\n#pragma affc param N 1 4\nvoid f(int64_t N, const uint64_t in[N], uint64_t out[N]) {\n  uint64_t t[3];\n  if (N < 2 && N - (N - 1) >= -(-N)) {\n    t[N - 1] += ~(in[3 * (-N)] + 1ULL) << 3;\n  }\n}\n" }
+    ensures blocks { printed_text (program_of (verdict (with_prelude (codes "{ const int64_t a = affc_min ( N , 1 ) ; out [ affc_floord ( a , 2 ) ] = ( uint64_t ) ( - a ) ; }"))))
+        ≡ codes "#include <stdint.h>\n#pragma affc param N 1 4\n" ++ prelude ++ codes "void f(int64_t N, const uint64_t in[N], uint64_t out[N]) {\n  {\n    const int64_t a = affc_min(N, 1);\n    out[affc_floord(a, 2)] = (uint64_t)(-a);\n  }\n}\n" }
+{}

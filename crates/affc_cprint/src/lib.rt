@@ -1,0 +1,6 @@
+//! Programs as text.
+#![tactic(auto)]
+
+pub mod examples;
+mod index;
+pub mod laws;
