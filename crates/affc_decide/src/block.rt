@@ -110,7 +110,8 @@ fn row_of(alloc: Global, entries: &[i64]) -> Result<Form, Fault> {
 /// Adds a row to a block.
 fn add_row(alloc: Global, block: &mut Block, entries: &[i64]) -> Result<(), Fault> {
     let row = row_of(alloc, entries)?;
-    if row.coefs.len() != block.system.columns() as usize || block.system.rows().len() >= block.rows {
+    if row.coefs.len() != block.system.columns() as usize || block.system.rows().len() >= block.rows
+    {
         return Err(Fault::Malformed);
     }
     match block.system.push(row) {

@@ -92,11 +92,11 @@ fn integers_decide(rt: HostRuntime) -> Result<(), Fail> {
 #[test]
 fn deep_search(rt: HostRuntime) -> Result<(), Fail> {
     let reach: i64 = 1 << 60;
-    let mut system = System::new(rt.alloc(), 64);
-    let ranges = cube(rt.alloc(), 64, -reach, reach)?;
-    add(rt.alloc(), &mut system, &[6; 64], -3)?;
-    add(rt.alloc(), &mut system, &[-6; 64], 3)?;
-    let found = outcome(rt.alloc(), &system, &ranges, Some(4200))?;
-    assert_eq!(rt; found.as_str(), "the budget is spent, 4200");
+    let mut system = System::new(rt.alloc(), 16);
+    let ranges = cube(rt.alloc(), 16, -reach, reach)?;
+    add(rt.alloc(), &mut system, &[6; 16], -3)?;
+    add(rt.alloc(), &mut system, &[-6; 16], 3)?;
+    let found = outcome(rt.alloc(), &system, &ranges, Some(1100))?;
+    assert_eq!(rt; found.as_str(), "the budget is spent, 1100");
     Ok(())
 }
