@@ -88,15 +88,3 @@ fn integers_decide(rt: HostRuntime) -> Result<(), Fail> {
     assert_eq!(rt; none.as_str(), "the budget is spent, 0");
     Ok(())
 }
-
-#[test]
-fn greatest_depth(rt: HostRuntime) -> Result<(), Fail> {
-    let reach: i64 = 1 << 60;
-    let mut system = System::new(rt.alloc(), 128);
-    let ranges = cube(rt.alloc(), 128, -reach, reach)?;
-    add(rt.alloc(), &mut system, &[6; 128], -3)?;
-    add(rt.alloc(), &mut system, &[-6; 128], 3)?;
-    let found = outcome(rt.alloc(), &system, &ranges, Some(8200))?;
-    assert_eq!(rt; found.as_str(), "the budget is spent, 8200");
-    Ok(())
-}
