@@ -121,8 +121,8 @@ module _ {A D K : Type 0} (test : Symbol → Option K) (turn : K → A → Reade
   more_is (suc n) left ts p =
       either_mapped test (λ k. after (turn k left) (many test turn n)) (give left) (λ k us. then_read (drawn k (d left) us) (more test drawn n)) (Ok (d left, ts)) d ts
       (λ k us e.
-          ap (λ x. then_read x (more test drawn n)) (same k left ts us e p)
-          ∙ mapped_then (turn k left us) d (many test turn n) (more test drawn n) d (λ a vs q. more_is n a vs (keeps k left ts us e p a vs q)))
+      ap (λ x. then_read x (more test drawn n)) (same k left ts us e p)
+      ∙ mapped_then (turn k left us) d (many test turn n) (more test drawn n) d (λ a vs q. more_is n a vs (keeps k left ts us e p a vs q)))
       refl
 
   all_is : (left : A) (ts : List Symbol) → P left ts → all_more test drawn (d left) ts ≡ mapped d (all test turn left ts)
@@ -155,32 +155,32 @@ module _ (end : ℕ) {room : ℕ} (inner : Reader Symbol (IxText true)) (drawn :
   unfolding after
   choice_is at f us le e =
       then_is (drawn us) (inner us) (ix_draft (end - length us)) _ _ (atom_draft at) (h us le) (λ a vs q.
-          either_mapped (this_mark (codes ",")) _ fail _ (Err (At vs)) (atom_draft at) vs
-          (λ k ws c.
-              let one = past_one (this_mark (codes ",")) vs k ws c in
-              let whole = rule.sound us a vs q in
-              let count : length us ≡ length (ix_symbols a) + length vs = ap length whole ∙ length-append (ix_symbols a) vs in
-              let less : length ws ≤ end = omega arith in
-              let place : end - length ws ≡ at + 2 + length (ix_symbols a) + 1 = omega arith in
-              then_is (drawn ws) (inner ws) (ix_draft (end - length ws)) _ _ (atom_draft at) (h ws less) (λ b xs p.
-                  closed_is (codes ")") (g.chosen refl f a b) _ (atom_draft at) xs (λ i. chosen at f (ix_draft (e i) a) (ix_draft (place i) b))))
-          (failed (atom_draft at) vs))
+      either_mapped (this_mark (codes ",")) _ fail _ (Err (At vs)) (atom_draft at) vs
+      (λ k ws c.
+      let one = past_one (this_mark (codes ",")) vs k ws c in
+      let whole = rule.sound us a vs q in
+      let count : length us ≡ length (ix_symbols a) + length vs = ap length whole ∙ length-append (ix_symbols a) vs in
+      let less : length ws ≤ end = omega arith in
+      let place : end - length ws ≡ at + 2 + length (ix_symbols a) + 1 = omega arith in
+      then_is (drawn ws) (inner ws) (ix_draft (end - length ws)) _ _ (atom_draft at) (h ws less) (λ b xs p.
+      closed_is (codes ")") (g.chosen refl f a b) _ (atom_draft at) xs (λ i. chosen at f (ix_draft (e i) a) (ix_draft (place i) b))))
+      (failed (atom_draft at) vs))
 
   rounding_is : (at : ℕ) (f : g.Rounding) (us : List Symbol) → length us ≤ end → end - length us ≡ at + 2 → rounding_call end at drawn f us ≡ mapped (atom_draft at) (r.read_call inner (of_rounding f) us)
   unfolding after
   rounding_is at f us le e =
       then_is (drawn us) (inner us) (ix_draft (end - length us)) _ _ (atom_draft at) (h us le) (λ a vs q.
-          either_mapped (this_mark (codes ",")) _ fail _ (Err (At vs)) (atom_draft at) vs
-          (λ k ws c.
-              let one = past_one (this_mark (codes ",")) vs k ws c in
-              let whole = rule.sound us a vs q in
-              let count : length us ≡ length (ix_symbols a) + length vs = ap length whole ∙ length-append (ix_symbols a) vs in
-              let place : end - length ws ≡ at + 2 + length (ix_symbols a) + 1 = omega arith in
-              then_past (past divisor_value ws) ws (λ by xs. closed (codes ")") (divided at f (ix_draft (end - length us) a) (end - length ws) by) xs)
-              ∙ either_turned r.divisor divisor_value (λ (p : Divisor). decimal p.0) divisor_turned _ fail (λ by xs. closed (codes ")") (divided at f (ix_draft (end - length us) a) (end - length ws) by) xs) (Err (At ws)) (atom_draft at) ws
-                (λ by xs p. closed_is (codes ")") (g.divided refl f a by.0 by.1) _ (atom_draft at) xs (λ i. divided at f (ix_draft (e i) a) (place i) (decimal by.0)))
-                (failed (atom_draft at) ws))
-          (failed (atom_draft at) vs))
+      either_mapped (this_mark (codes ",")) _ fail _ (Err (At vs)) (atom_draft at) vs
+      (λ k ws c.
+      let one = past_one (this_mark (codes ",")) vs k ws c in
+      let whole = rule.sound us a vs q in
+      let count : length us ≡ length (ix_symbols a) + length vs = ap length whole ∙ length-append (ix_symbols a) vs in
+      let place : end - length ws ≡ at + 2 + length (ix_symbols a) + 1 = omega arith in
+      then_past (past divisor_value ws) ws (λ by xs. closed (codes ")") (divided at f (ix_draft (end - length us) a) (end - length ws) by) xs)
+      ∙ either_turned r.divisor divisor_value (λ (p : Divisor). decimal p.0) divisor_turned _ fail (λ by xs. closed (codes ")") (divided at f (ix_draft (end - length us) a) (end - length ws) by) xs) (Err (At ws)) (atom_draft at) ws
+      (λ by xs p. closed_is (codes ")") (g.divided refl f a by.0 by.1) _ (atom_draft at) xs (λ i. divided at f (ix_draft (e i) a) (place i) (decimal by.0)))
+      (failed (atom_draft at) ws))
+      (failed (atom_draft at) vs))
 
   call_is : (at : ℕ) (f : Callee) (us : List Symbol) → length us ≤ end → end - length us ≡ at + 2 → call end at drawn f us ≡ mapped (atom_draft at) (r.read_call inner f us)
   call_is at (of_choice f) us le e = choice_is at f us le e
@@ -192,10 +192,10 @@ module _ (end : ℕ) {room : ℕ} (inner : Reader Symbol (IxText true)) (drawn :
   called_is at w (Some f) us le e =
       either_mapped (this_mark (codes "(")) (λ _. r.read_call inner f) (give (g.name w)) (λ _ vs. call end at drawn f vs) (Ok (name at w, us)) (atom_draft at) us
       (λ k vs c.
-          let one = past_one (this_mark (codes "(")) us k vs c in
-          let less : length vs ≤ end = omega arith in
-          let place : end - length vs ≡ at + 2 = omega arith in
-          call_is at f vs less place)
+      let one = past_one (this_mark (codes "(")) us k vs c in
+      let less : length vs ≤ end = omega arith in
+      let place : end - length vs ≡ at + 2 = omega arith in
+      call_is at f vs less place)
       refl
 
 named_is : (end : ℕ) (prelude : Bool) {room : ℕ} (inner : Reader Symbol (IxText prelude)) (drawn : Reader Symbol IxDraft) → Whole room 1 ix_symbols inner → Draws end ix_draft drawn inner
@@ -216,18 +216,18 @@ module _ (end : ℕ) {prelude : Bool} {room : ℕ} (inner : Reader Symbol (IxTex
       let at = end - length ts in
       either_turned any_number number_value decimal number_turned (λ digits. give (g.literal digits)) _ (λ n us. Ok (literal at n, us)) _ (atom_draft at) ts (λ digits us c. refl)
       (either_mapped any_word (λ w. r.read_named prelude inner w) _ (λ w us. called end at drawn w (callee prelude w) us) _ (atom_draft at) ts
-          (λ w us c.
-              let one = past_one any_word ts w us c in
-              let less : length us ≤ end = omega arith in
-              let place : end - length us ≡ end - length ts + 1 = omega arith in
-              named_is end prelude inner drawn rule h at w us less place)
+      (λ w us c.
+      let one = past_one any_word ts w us c in
+      let less : length us ≤ end = omega arith in
+      let place : end - length us ≡ end - length ts + 1 = omega arith in
+      named_is end prelude inner drawn rule h at w us less place)
       (either_mapped (this_mark (codes "(")) _ fail (λ _ us. group at drawn us) (Err (At ts)) (atom_draft at) ts
-          (λ k us c.
-              let one = past_one (this_mark (codes "(")) ts k us c in
-              let less : length us ≤ end = omega arith in
-              let place : end - length us ≡ end - length ts + 1 = omega arith in
-              group_is at us less place)
-          (failed (atom_draft at) ts)))
+      (λ k us c.
+      let one = past_one (this_mark (codes "(")) ts k us c in
+      let less : length us ≤ end = omega arith in
+      let place : end - length us ≡ end - length ts + 1 = omega arith in
+      group_is at us less place)
+      (failed (atom_draft at) ts)))
 
   factor_is : Draws end factor_draft (factor prelude end drawn) (r.read_factor prelude inner)
   unfolding after give
@@ -235,11 +235,11 @@ module _ (end : ℕ) {prelude : Bool} {room : ℕ} (inner : Reader Symbol (IxTex
       let at = end - length ts in
       either_mapped (this_mark (codes "-")) _ _ (λ _ us. then_read (atom prelude end drawn us) (λ a vs. Ok (negated at a, vs))) _ (factor_draft at) ts
       (λ k us c.
-          let one = past_one (this_mark (codes "-")) ts k us c in
-          let less : length us ≤ end = omega arith in
-          let place : end - length us ≡ end - length ts + 1 = omega arith in
-          ap (λ x. then_read x (λ a vs. Ok (negated at a, vs))) (atom_is us less)
-          ∙ mapped_then (r.read_atom prelude inner us) (atom_draft (end - length us)) _ _ (factor_draft at) (λ a vs q. (λ i. Ok (negated at (atom_draft (place i) a), vs))))
+      let one = past_one (this_mark (codes "-")) ts k us c in
+      let less : length us ≤ end = omega arith in
+      let place : end - length us ≡ end - length ts + 1 = omega arith in
+      ap (λ x. then_read x (λ a vs. Ok (negated at a, vs))) (atom_is us less)
+      ∙ mapped_then (r.read_atom prelude inner us) (atom_draft (end - length us)) _ _ (factor_draft at) (λ a vs q. (λ i. Ok (negated at (atom_draft (place i) a), vs))))
       (atom_is ts le ∙ sym (lifted (r.read_atom prelude inner ts) g.atom (atom_draft at) (factor_draft at) (λ a. refl)))
 
   times_is : (p : ℕ) (k : Unit {0}) (left : TermText prelude) (ts us : List Symbol) → past (this_mark (codes "*")) ts ≡ Some (k, us) → Placed end p (length (term_symbols left)) ts → times prelude end drawn k (term_draft p left) us ≡ mapped (term_draft p) (r.times_more prelude inner k left us)
@@ -274,10 +274,10 @@ module _ (end : ℕ) {prelude : Bool} {room : ℕ} (inner : Reader Symbol (IxTex
       let at = end - length ts in
       ap (λ x. then_read x (factors prelude end drawn)) (factor_is ts le)
       ∙ mapped_then (r.read_factor prelude inner ts) (factor_draft at) (r.read_factors prelude inner) (factors prelude end drawn) (term_draft at) (λ a us q.
-          let whole = (factor_rule rule).sound ts a us q in
-          let count = ap length whole in
-          let parts = length-append (factor_symbols a) us in
-          factors_is at a us (record { within = omega arith; place = omega arith }))
+      let whole = (factor_rule rule).sound ts a us q in
+      let count = ap length whole in
+      let parts = length-append (factor_symbols a) us in
+      factors_is at a us (record { within = omega arith; place = omega arith }))
 
   joined_is : (p n m : ℕ) (is_plus : Bool) (left : IxText prelude) (b : TermText prelude) → n ≡ p + length (ix_symbols left) + 1 → joined is_plus (ix_draft p left) (term_draft n b) ≡ ix_draft p (r.joined is_plus left b)
   joined_is p n m true left b e = λ i. sum (ix_draft p left) (term_draft (e i) b)
@@ -314,10 +314,10 @@ module _ (end : ℕ) {prelude : Bool} {room : ℕ} (inner : Reader Symbol (IxTex
       let at = end - length ts in
       ap (λ x. then_read x (terms prelude end drawn)) (term_is ts le)
       ∙ mapped_then (r.read_term prelude inner ts) (term_draft at) (r.read_terms prelude inner) (terms prelude end drawn) (ix_draft at) (λ a us q.
-          let whole = (term_rule rule).sound ts a us q in
-          let count = ap length whole in
-          let parts = length-append (term_symbols a) us in
-          terms_is at a us (record { within = omega arith; place = omega arith }))
+      let whole = (term_rule rule).sound ts a us q in
+      let count = ap length whole in
+      let parts = length-append (term_symbols a) us in
+      terms_is at a us (record { within = omega arith; place = omega arith }))
 
 pub inside_is : (prelude : Bool) (end room : ℕ) → Draws end ix_draft (inside prelude end room) (ix_inside prelude room)
 unfolding inside ix_inside deep
@@ -336,7 +336,7 @@ module _ (prelude : Bool) (end room : ℕ) where
       let less : length us ≤ end = omega arith in
       let place : end - length us ≡ p + length (dims_symbols left) + 1 = omega arith in
       then_is (inside prelude end room us) (ix_inside prelude room us) (ix_draft (end - length us)) _ _ (dims_draft p) (inside_is prelude end room us less) (λ a vs q.
-          closed_is (codes "]") (g.and_dim left a) _ (dims_draft p) vs (λ i. dims_draft p left ++ ix_draft (place i) a ∷ []))
+      closed_is (codes "]") (g.and_dim left a) _ (dims_draft p) vs (λ i. dims_draft p left ++ ix_draft (place i) a ∷ []))
 
   dim_keeps : (p : ℕ) (k : Unit {0}) (left : DimsText prelude) (ts us : List Symbol) → past (this_mark (codes "[")) ts ≡ Some (k, us) → Placed end p (length (dims_symbols left)) ts → (b : DimsText prelude) (vs : List Symbol) → r.dims_more prelude room k left us ≡ Ok (b, vs) → Placed end p (length (dims_symbols b)) vs
   dim_keeps p k left ts us c here b vs q =

@@ -16,8 +16,8 @@ use crate::ahead::{
 };
 use crate::draft::{Choice, IxDraft, Rounding};
 use crate::symbol::Symbol;
-use affc_ast::{Boxed, Items};
 use affc_ast::text::Text;
+use affc_ast::{Boxed, Items};
 use std::alloc::{AllocError, Global};
 
 /// The number of the first of the tokens that are left.
@@ -417,7 +417,13 @@ fn dim(
 }
 
 /// The dimensions that stand here, in drafts.
-fn drawn_dims(alloc: Global, prelude: bool, room: u32, symbols: &[Symbol<'_>], next: usize) -> Answer<Items<IxDraft>>
+fn drawn_dims(
+    alloc: Global,
+    prelude: bool,
+    room: u32,
+    symbols: &[Symbol<'_>],
+    next: usize,
+) -> Answer<Items<IxDraft>>
     ensures { Gives (map seen symbols.now) (map ix) result (reading.dims prelude (length symbols.now) room (drop next (map seen symbols.now))) }
 {
     let mut dims = Items::new(alloc);
@@ -431,7 +437,13 @@ fn drawn_dims(alloc: Global, prelude: bool, room: u32, symbols: &[Symbol<'_>], n
 }
 
 /// The expression that stands at the token of this number, and the number behind it.
-pub(crate) fn read_expression(alloc: Global, prelude: bool, room: u32, symbols: &[Symbol<'_>], next: usize) -> Answer<IxDraft>
+pub(crate) fn read_expression(
+    alloc: Global,
+    prelude: bool,
+    room: u32,
+    symbols: &[Symbol<'_>],
+    next: usize,
+) -> Answer<IxDraft>
     requires { next ≤ length symbols.now }
     ensures { Gives (map seen symbols.now) ix result (reading.mapped (d.ix_draft next) (grammar.read_ix prelude room (drop next (map seen symbols.now)))) }
 {
@@ -439,7 +451,13 @@ pub(crate) fn read_expression(alloc: Global, prelude: bool, room: u32, symbols: 
 }
 
 /// The dimensions that stand at the token of this number, and the number behind them.
-pub(crate) fn read_dims(alloc: Global, prelude: bool, room: u32, symbols: &[Symbol<'_>], next: usize) -> Answer<Items<IxDraft>>
+pub(crate) fn read_dims(
+    alloc: Global,
+    prelude: bool,
+    room: u32,
+    symbols: &[Symbol<'_>],
+    next: usize,
+) -> Answer<Items<IxDraft>>
     requires { next ≤ length symbols.now }
     ensures { Gives (map seen symbols.now) (map ix) result (reading.mapped (d.dims_draft next) (grammar.read_dims prelude room (drop next (map seen symbols.now)))) }
 {
