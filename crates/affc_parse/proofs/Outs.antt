@@ -1,5 +1,5 @@
 -- What the grammar sees of a draft, by one step: the lemmas that `search` and `grind` take.
-use Rattle.std.proofs.Common.{◌≡◌, ℕ, ◌∷◌, map, refl, sym, ap, ◌∙◌}
+use Rattle.std.proofs.Common.{◌≡◌, ℕ, ◌∷◌, map, refl, sym, ap, ◌∙◌, List}
 use denote.Hole.Carrier.{out, shown}
 use Rattle.affc_grammar.specs.Draft as d
 use Rattle.affc_parse.specs.declared.draft.IxDraft.{IxDraft, out-IxDraft, map-IxDraft, the_lemmas as ix_lemmas}
@@ -14,8 +14,12 @@ use Rattle.affc_parse.specs.declared.draft.ValueDraft.TheBlock.{more_of-ValueDra
 use Rattle.affc_parse.specs.declared.draft.StmtDraft.{StmtDraft, out-StmtDraft, map-StmtDraft, the_lemmas as stmt_lemmas}
 use Rattle.affc_parse.specs.declared.draft.StmtDraft.TheVariants as s
 use Rattle.affc_parse.specs.declared.draft.StmtDraft.TheOpen as layer_s
+use Rattle.affc_parse.specs.declared.draft.StmtDraft.TheOpen.{StmtDraft-F}
+use Rattle.affc_parse.specs.declared.draft.HeadDraft.{HeadDraft}
+use Rattle.affc_parse.specs.declared.draft.CompareDraft.{CompareDraft}
+use Rattle.affc_parse.specs.declared.draft.LocalDraft.{LocalDraft}
 use Rattle.affc_parse.specs.declared.draft.StmtDraft.TheBlock.{Row_of-StmtDraft, more_of-StmtDraft, end_of-StmtDraft, items-the_row-StmtDraft, items_shown-the_row-StmtDraft-0}
-use Rattle.affc_parse.specs.Drafts.{ix, ix_node, choice, rounding, value, value_node, stmt, each_stmt, stmt_node}
+use Rattle.affc_parse.specs.Drafts.{ix, ix_node, choice, rounding, value, value_node, stmt, each_stmt, stmt_node, head, compare, local, stmts_of}
 
 pub ix_out : (e : IxDraft) → ix e ≡ ix_node (map-IxDraft IxDraft d.IxDraft ix (out-IxDraft e))
 unfolding out-IxDraft out shown-the_row-IxDraft-0 shown
@@ -84,3 +88,17 @@ stmt_out (s.Assign w subs op a) = refl
 stmt_out (s.Block' locals shape body) = ap (λ l. stmt_node (layer_s.Block locals l)) (each_is body ∙ ap (map stmt) (sym (items_shown-the_row-StmtDraft-0 shape body)))
 
 pub ruleset stmt_outs = (stmt_lemmas, stmt_out)
+
+abbrev stmt_of : StmtDraft-F StmtDraft → d.StmtDraft
+stmt_of l = stmt_node (map-StmtDraft StmtDraft d.StmtDraft stmt l)
+
+pub stmt-For : (h : HeadDraft) (body : List StmtDraft) → stmt (s.For h body) ≡ d.for_loop (head h) (stmts_of (map stmt body))
+stmt-For h body = stmt_out (s.For h body) ∙ ap stmt_of (s.outs-For h body)
+
+pub stmt-If : (at : ℕ) (conds : List CompareDraft) (body : List StmtDraft) → stmt (s.If at conds body) ≡ d.if_all at (map compare conds) (stmts_of (map stmt body))
+stmt-If at conds body = stmt_out (s.If at conds body) ∙ ap stmt_of (s.outs-If at conds body)
+
+pub stmt-Block : (locals : List LocalDraft) (body : List StmtDraft) → stmt (s.Block locals body) ≡ d.block (map local locals) (stmts_of (map stmt body))
+stmt-Block locals body = stmt_out (s.Block locals body) ∙ ap stmt_of (s.outs-Block locals body)
+
+pub ruleset stmt_made = (stmt-For, stmt-If, stmt-Block)

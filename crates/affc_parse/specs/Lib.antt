@@ -6,3 +6,4 @@ pub mod Drafts
 pub mod Places
 pub mod Callees
 pub mod IxReading
+pub mod Bodies

@@ -88,7 +88,7 @@ pub fn products(e: &IxDraft) -> Factors
     }
 }
 
-fn place_if(passed: bool, at: usize) -> Option<usize>
+pub(crate) fn place_if(passed: bool, at: usize) -> Option<usize>
     ensures { result ≡ places.place_if passed at }
 {
     if passed { Some(at) } else { None }

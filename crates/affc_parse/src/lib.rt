@@ -2,6 +2,7 @@
 #![tactic(auto)]
 
 pub(crate) mod ahead;
+pub mod bodies;
 pub mod draft;
 pub(crate) mod expression;
 pub mod forms;
