@@ -3,3 +3,5 @@ pub mod Writes
 pub mod Nodes
 pub mod Places
 pub mod ReadBack
+pub mod Chains
+pub mod Levels

@@ -3,3 +3,5 @@ pub mod Adds
 pub mod Places
 pub mod Seen
 pub mod Sees
+pub mod Statements
+pub mod Levels

@@ -4,3 +4,4 @@
 pub mod examples;
 mod index;
 pub mod laws;
+mod value;
