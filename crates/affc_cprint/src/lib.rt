@@ -5,3 +5,4 @@ pub mod examples;
 mod index;
 pub mod laws;
 mod value;
+mod stmt;

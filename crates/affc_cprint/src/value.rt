@@ -106,7 +106,7 @@ fn amount(out: &mut String, by: u8) -> Result<(), AllocError>
     if by <= 63 { decimal(out, by as u64) } else { push(out, "0") }
 }
 
-fn array(out: &mut String, names: &Names<'_>, id: ArrayId) -> Result<(), AllocError>
+pub fn array(out: &mut String, names: &Names<'_>, id: ArrayId) -> Result<(), AllocError>
     ensures { OnOk result (Adds (string_bytes out.old) (string_bytes out.new) (array_name (seen names.now) id)) }
 {
     push(out, name_of(names.arrays.as_slice(), id.0))

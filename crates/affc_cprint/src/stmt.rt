@@ -1,0 +1,108 @@
+// Conditions, locals and statements.
+ghost use Rattle.std.specs.Prelude.{◌≡◌, OnOk, string_bytes, codes, map};
+ghost use Rattle.affc_ast.specs.Recursion.{by_stmt};
+ghost use Rattle.affc_grammar.specs.Grammar.{rel_mark, assign_mark, bound_mark};
+ghost use Rattle.affc_grammar.specs.Printed.{is_less, cond_text, conds_text, stmt_step};
+ghost use Rattle.affc_cprint.specs.Adds.{Adds};
+ghost use Rattle.affc_cprint.specs.Seen.{seen};
+ghost use Rattle.affc_cprint.specs.Layout.{◌then◌, cond_layout, conds_layout, indent, stmt_layout};
+ghost use Rattle.affc_cprint.specs.Statements.{head_layout, locals_added, with_locals};
+
+use crate::index::{Names, Place, dims, ix, push};
+use crate::value::{Level, array, value};
+use affc_ast::tree::{Compare, Ix, Local, Op, Rel, Stmt};
+use std::alloc::AllocError;
+
+fn relation(out: &mut String, rel: Rel) -> Result<(), AllocError>
+    ensures { OnOk result (Adds (string_bytes out.old) (string_bytes out.new) (codes " " then rel_mark rel then codes " ")) }
+{
+    match rel {
+        Rel::Less => push(out, " < "),
+        Rel::LessEqual => push(out, " <= "),
+        Rel::Greater => push(out, " > "),
+        Rel::GreaterEqual => push(out, " >= "),
+        Rel::Equal => push(out, " == "),
+    }
+}
+
+// Of a loop, whose test is `<` or `<=`.
+fn bound(out: &mut String, rel: Rel) -> Result<(), AllocError>
+    ensures { OnOk result (Adds (string_bytes out.old) (string_bytes out.new) (codes " " then bound_mark (is_less rel) then codes " ")) }
+{
+    match rel {
+        Rel::Less => push(out, " < "),
+        Rel::LessEqual => push(out, " <= "),
+        Rel::Greater => push(out, " <= "),
+        Rel::GreaterEqual => push(out, " <= "),
+        Rel::Equal => push(out, " <= "),
+    }
+}
+
+fn assignment(out: &mut String, op: Option<Op>) -> Result<(), AllocError>
+    ensures { OnOk result (Adds (string_bytes out.old) (string_bytes out.new) (codes " " then assign_mark op then codes " ")) }
+{
+    match op {
+        None => push(out, " = "),
+        Some(Op::Mul) => push(out, " *= "),
+        Some(Op::Add) => push(out, " += "),
+        Some(Op::Sub) => push(out, " -= "),
+        Some(Op::And) => push(out, " &= "),
+        Some(Op::Xor) => push(out, " ^= "),
+        Some(Op::Or) => push(out, " |= "),
+    }
+}
+
+#[tactic(auto, using(std::proofs::Common::append_assoc))]
+fn cond(out: &mut String, prelude: bool, names: &Names<'_>, c: &Compare) -> Result<(), AllocError>
+    ensures { OnOk result (Adds (string_bytes out.old) (string_bytes out.new) (cond_layout (cond_text prelude (seen names.now) c.now))) }
+{
+    ix(out, prelude, names, &c.left, Place::Whole)?;
+    relation(out, c.rel)?;
+    ix(out, prelude, names, &c.right, Place::Whole)
+}
+
+#[tactic(auto, using(crate::proofs::Chains::conditions))]
+pub fn conds(out: &mut String, prelude: bool, names: &Names<'_>, conds: &[Compare]) -> Result<(), AllocError>
+    ensures { OnOk result (Adds (string_bytes out.old) (string_bytes out.new) (conds_layout (conds_text prelude (seen names.now) conds.now))) }
+{
+    match conds {
+        [] => push(out, "0 < 0"),
+        [c, rest @ ..] => {
+            cond(out, prelude, names, c)?;
+            for c in rest {
+                push(out, " && ")?;
+                cond(out, prelude, names, c)?;
+            }
+            Ok(())
+        }
+    }
+}
+
+// Two spaces for each level.
+#[tactic(auto, using(crate::proofs::Chains::indent_more))]
+pub fn indent(out: &mut String, level: usize) -> Result<(), AllocError>
+    ensures { OnOk result (Adds (string_bytes out.old) (string_bytes out.new) (indent level)) }
+{
+    if level == 0 {
+        return Ok(());
+    }
+    push(out, "  ")?;
+    indent(out, level - 1)
+}
+
+#[tactic(auto, using(std::proofs::Common::append_assoc))]
+fn head(out: &mut String, prelude: bool, names: &Names<'_>, i: &str, low: &Ix, rel: Rel, high: &Ix) -> Result<(), AllocError>
+    ensures { OnOk result (Adds (string_bytes out.old) (string_bytes out.new) (head_layout prelude (seen names.now) i.now low.now rel high.now)) }
+{
+    push(out, "for (int64_t ")?;
+    push(out, i)?;
+    push(out, " = ")?;
+    ix(out, prelude, names, low, Place::Whole)?;
+    push(out, "; ")?;
+    push(out, i)?;
+    bound(out, rel)?;
+    ix(out, prelude, names, high, Place::Whole)?;
+    push(out, "; ")?;
+    push(out, i)?;
+    push(out, "++) {\n")
+}
