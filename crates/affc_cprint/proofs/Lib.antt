@@ -5,3 +5,4 @@ pub mod Places
 pub mod ReadBack
 pub mod Chains
 pub mod Levels
+pub mod Arms

@@ -1,13 +1,17 @@
 -- What statements, conditions and locals add to the text, one behind the other.
-use Rattle.std.specs.Prelude.{ℕ, suc, Bool, true, false, List, [], ◌∷◌, map, codes}
+use Rattle.std.specs.Prelude.{ℕ, suc, Bool, true, false, List, [], ◌∷◌, map, codes, Option}
 use Rattle.std.specs.List.{flat_map}
 use Rattle.affc_ast.specs.declared.tree.Ix.{Ix}
 use Rattle.affc_ast.specs.declared.tree.Compare.{Compare}
 use Rattle.affc_ast.specs.declared.tree.Local.{Local}
+use Rattle.affc_ast.specs.declared.tree.ArrayId.{ArrayId}
+use Rattle.affc_ast.specs.declared.tree.Op.{Op}
 use Rattle.affc_ast.specs.declared.tree.Rel.{Rel}
-use Rattle.affc_grammar.specs.Grammar.{Name, StmtText, bound_mark}
-use Rattle.affc_grammar.specs.Printed.{Names, ix_text, cond_text, is_less, and_number}
-use Rattle.affc_cprint.specs.Layout.{◌then◌, ix_layout, cond_layout, indent, stmt_layout}
+use Rattle.affc_ast.specs.declared.tree.Stmt.{Stmt}
+use Rattle.affc_ast.specs.declared.tree.Val.{Val}
+use Rattle.affc_grammar.specs.Grammar.{Name, StmtText, bound_mark, assign_mark}
+use Rattle.affc_grammar.specs.Printed.{Names, ix_text, cond_text, value_text, stmt_text, array_name, is_less, and_number}
+use Rattle.affc_cprint.specs.Layout.{◌then◌, ix_layout, value_layout, cond_layout, indent, stmt_layout}
 
 -- a subscript or an extent
 abbrev pub dim_added : (prelude : Bool) → Names → Ix → List ℕ
@@ -43,3 +47,12 @@ abbrev pub head_layout : (prelude : Bool) → Names → Name → Ix → Rel → 
 head_layout prelude names i low rel high =
     codes "for (int64_t " then i then codes " = " then ix_layout (ix_text prelude names low) then codes "; " then i then codes " " then bound_mark (is_less rel) then codes " "
     then ix_layout (ix_text prelude names high) then codes "; " then i then codes "++) {\n"
+
+-- an assignment
+abbrev pub assign_layout : (prelude : Bool) → Names → Option Op → ArrayId → List Ix → Val → List ℕ
+assign_layout prelude names op id subs v =
+    array_name names id then flat_map (dim_added prelude names) subs then codes " " then assign_mark op then codes " " then value_layout (value_text prelude names v) then codes ";\n"
+
+-- a statement of a body, in a line of its own
+abbrev pub line_added : (prelude : Bool) → (level : ℕ) → Names → Stmt → List ℕ
+line_added prelude level names s = indent level then stmt_layout level (stmt_text prelude s names)

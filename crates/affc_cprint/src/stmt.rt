@@ -1,16 +1,18 @@
 // Conditions, locals and statements.
-ghost use Rattle.std.specs.Prelude.{◌≡◌, OnOk, string_bytes, codes, map};
+ghost use Rattle.std.specs.Prelude.{◌≡◌, ◌+◌, OnOk, IfOk, string_bytes, codes, map};
 ghost use Rattle.affc_ast.specs.Recursion.{by_stmt};
 ghost use Rattle.affc_grammar.specs.Grammar.{rel_mark, assign_mark, bound_mark};
 ghost use Rattle.affc_grammar.specs.Printed.{is_less, cond_text, conds_text, stmt_step};
 ghost use Rattle.affc_cprint.specs.Adds.{Adds};
 ghost use Rattle.affc_cprint.specs.Seen.{seen};
 ghost use Rattle.affc_cprint.specs.Layout.{◌then◌, cond_layout, conds_layout, indent, stmt_layout};
-ghost use Rattle.affc_cprint.specs.Statements.{head_layout, locals_added, with_locals};
+ghost use Rattle.affc_grammar.specs.Printed.{and_number};
+ghost use Rattle.affc_cprint.specs.Statements.{head_layout, assign_layout, local_added, locals_added, with_locals};
 
 use crate::index::{Names, Place, dims, ix, push};
 use crate::value::{Level, array, value};
-use affc_ast::tree::{Compare, Ix, Local, Op, Rel, Stmt};
+use affc_ast::tree::ArrayId;
+use affc_ast::tree::{Compare, Ix, Local, Op, Rel, Stmt, Val};
 use std::alloc::AllocError;
 
 fn relation(out: &mut String, rel: Rel) -> Result<(), AllocError>
@@ -105,4 +107,68 @@ fn head(out: &mut String, prelude: bool, names: &Names<'_>, i: &str, low: &Ix, r
     push(out, "; ")?;
     push(out, i)?;
     push(out, "++) {\n")
+}
+
+// A local, which is written with the prelude only.
+fn local(out: &mut String, prelude: bool, names: &Names<'_>, l: &Local, level: usize) -> Result<(), AllocError>
+    ensures { OnOk result (Adds (string_bytes out.old) (string_bytes out.new) (local_added prelude level (seen names.now) l.now)) }
+{
+    if !prelude {
+        return Ok(());
+    }
+    indent(out, level)?;
+    push(out, "const int64_t ")?;
+    push(out, l.name.as_str())?;
+    push(out, " = ")?;
+    ix(out, prelude, names, &l.value, Place::Whole)?;
+    push(out, ";\n")
+}
+
+// Brings a name in sight.
+fn show<'a>(names: &mut Names<'a>, name: &'a str) -> Result<(), AllocError>
+    ensures { OnOk result (seen names.new ≡ and_number (seen names.old) name.now) }
+{
+    names.numbers.push(name)?;
+    Ok(())
+}
+
+// Locals in order; each is in sight behind itself.
+fn locals<'a>(out: &mut String, prelude: bool, names: &mut Names<'a>, locals: &'a [Local], level: usize) -> Result<(), AllocError>
+    ensures { OnOk result (Adds (string_bytes out.old) (string_bytes out.new) (locals_added prelude level (seen names.old) locals.now) × (seen names.new ≡ with_locals (seen names.old) locals.now)) }
+{
+    match locals {
+        [] => Ok(()),
+        [l, rest @ ..] => {
+            local(out, prelude, names, l, level)?;
+            show(names, l.name.as_str())?;
+            crate::stmt::locals(out, prelude, names, rest, level)
+        }
+    }
+}
+
+fn assign(out: &mut String, prelude: bool, names: &Names<'_>, op: Option<Op>, id: ArrayId, subs: &[Ix], v: &Val) -> Result<(), AllocError>
+    ensures { OnOk result (Adds (string_bytes out.old) (string_bytes out.new) (assign_layout prelude (seen names.now) op id subs.now v.now)) }
+{
+    array(out, names, id)?;
+    dims(out, prelude, names, subs)?;
+    assignment(out, op)?;
+    value(out, prelude, names, v, Level::Or)?;
+    push(out, ";\n")
+}
+
+// The end of a body.
+fn end(out: &mut String, level: usize) -> Result<(), AllocError>
+    ensures { OnOk result (Adds (string_bytes out.old) (string_bytes out.new) (indent level then codes "}\n")) }
+{
+    indent(out, level)?;
+    push(out, "}\n")
+}
+
+fn deeper(level: usize) -> Result<usize, AllocError>
+    ensures { IfOk result (λ n. n ≡ level + 1) }
+{
+    match level.checked_add(1) {
+        Some(n) => Ok(n),
+        None => Err(AllocError),
+    }
 }
