@@ -1,6 +1,7 @@
 -- The pieces in which locals and statements are written.
-use Rattle.std.proofs.Common.{◌≡◌, ℕ, suc, Bool, true, false, List, [], ◌∷◌, ◌++◌, map, codes, Option, refl, sym, ap, ◌∙◌, append_assoc, rules, arith}
+use Rattle.std.proofs.Common.{◌≡◌, ℕ, suc, Bool, true, false, List, [], ◌∷◌, ◌++◌, map, take, length, codes, Option, refl, sym, ap, ◌∙◌, append_assoc, rules, arith}
 use Rattle.std.specs.List.{flat_map}
+use Rattle.std.proofs.lemmas.List.{append-nil}
 use Rattle.affc_ast.specs.declared.tree.ArrayId.{ArrayId}
 use Rattle.affc_ast.specs.declared.tree.Compare.{Compare}
 use Rattle.affc_ast.specs.declared.tree.Ix.{Ix}
@@ -14,10 +15,10 @@ use Rattle.affc_ast.specs.declared.tree.Stmt.TheOpen as layer
 use Rattle.affc_ast.specs.declared.tree.Stmt.TheOpen.{Stmt-F}
 use Rattle.affc_ast.specs.Recursion.{by_stmt}
 use Rattle.affc_ast.proofs.Outs.{by_stmt_out}
-use Rattle.affc_grammar.specs.Grammar.{Name, StmtText, no_stmts, no_locals, bound_mark}
-use Rattle.affc_grammar.specs.Printed.{Names, ix_text, conds_text, and_number, is_less, stmt_step, stmt_text, stmts_text, locals_text}
-use Rattle.affc_cprint.specs.Layout.{◌then◌, ix_layout, conds_layout, indent, locals_layout, stmts_layout, stmt_layout}
-use Rattle.affc_cprint.specs.Statements.{head_layout, assign_layout, local_added, locals_added, with_locals, stmt_added, stmts_added, line_added, dim_added}
+use Rattle.affc_grammar.specs.Grammar.{Name, StmtText, no_stmts, no_locals, bound_mark, assign_mark}
+use Rattle.affc_grammar.specs.Printed.{Names, array_name, value_text, ix_text, conds_text, and_number, is_less, stmt_step, stmt_text, stmts_text, locals_text}
+use Rattle.affc_cprint.specs.Layout.{◌then◌, ix_layout, value_layout, conds_layout, indent, locals_layout, stmts_layout, stmt_layout}
+use Rattle.affc_cprint.specs.Statements.{first_numbers, head_layout, assign_layout, local_added, locals_added, with_locals, stmt_added, stmts_added, line_added, dim_added}
 use Rattle.affc_cprint.proofs.Chains.{dims_are, stmts_are, locals_are, locals_names}
 
 six : (a b c d e f : List ℕ) → a then b then c then d then e then f ≡ (a ++ (b ++ (c ++ (d ++ e)))) ++ f
@@ -76,3 +77,55 @@ for_pieces prelude level names s iter low rel high body slice is same =
       (stmts_layout (suc level) (stmts_text (and_number names iter) no_stmts (map (stmt_text prelude) body))) (indent level) (codes "}\n")
     ∙ ap (λ t. (head_layout prelude names iter low rel high ++ t) ++ (indent level then codes "}\n")) (lines_are prelude (suc level) (and_number names iter) body)
     ∙ ap (λ b. (head_layout prelude names iter low rel high ++ flat_map (line_added prelude (suc level) (and_number names iter)) b) ++ (indent level then codes "}\n")) (sym same)
+
+if_grouped : (a cs q o body n z : List ℕ) → a then cs then q then (o then body then n then z) ≡ ((a ++ (cs ++ (q then o))) ++ body) ++ (n then z)
+if_grouped a cs q o body n z = simp append_assoc
+
+pub if_pieces : (prelude : Bool) (level : ℕ) (names : Names) (s : Stmt) (conds cs : List Compare) (body slice : List Stmt) → s ≡ If conds body → cs ≡ conds → slice ≡ body
+    → stmt_layout level (stmt_text prelude s names) ≡ ((codes "if (" ++ (conds_layout (conds_text prelude names cs) ++ codes ") {\n")) ++ flat_map (line_added prelude (suc level) names) slice) ++ (indent level then codes "}\n")
+if_pieces prelude level names s conds cs body slice is these same =
+    ap (λ x. stmt_layout level (stmt_text prelude x names)) is
+    ∙ ap (λ (g : Names → StmtText prelude). stmt_layout level (g names)) (if_here (stmt_step prelude) conds body)
+    ∙ if_grouped (codes "if (") (conds_layout (conds_text prelude names conds)) (codes ")") (codes " {\n") (stmts_layout (suc level) (stmts_text names no_stmts (map (stmt_text prelude) body))) (indent level) (codes "}\n")
+    ∙ ap (λ t. ((codes "if (" ++ (conds_layout (conds_text prelude names conds) ++ codes ") {\n")) ++ t) ++ (indent level then codes "}\n")) (lines_are prelude (suc level) names body)
+    ∙ ap (λ b. ((codes "if (" ++ (conds_layout (conds_text prelude names conds) ++ codes ") {\n")) ++ flat_map (line_added prelude (suc level) names) b) ++ (indent level then codes "}\n")) (sym same)
+    ∙ ap (λ c. ((codes "if (" ++ (conds_layout (conds_text prelude names c) ++ codes ") {\n")) ++ flat_map (line_added prelude (suc level) names) slice) ++ (indent level then codes "}\n")) (sym these)
+
+block_grouped : (a ls body n z : List ℕ) → a then ls then body then n then z ≡ ((a ++ ls) ++ body) ++ (n then z)
+block_grouped a ls body n z = simp append_assoc
+
+pub block_pieces : (prelude : Bool) (level : ℕ) (names : Names) (s : Stmt) (ls these : List Local) (body slice : List Stmt) → s ≡ Block ls body → these ≡ ls → slice ≡ body
+    → stmt_layout level (stmt_text prelude s names) ≡ ((codes "{\n" ++ locals_added prelude (suc level) names these) ++ flat_map (line_added prelude (suc level) (with_locals names these)) slice) ++ (indent level then codes "}\n")
+block_pieces prelude level names s ls these body slice is those same =
+    let r = locals_text prelude names no_locals ls in
+    ap (λ x. stmt_layout level (stmt_text prelude x names)) is
+    ∙ ap (λ (g : Names → StmtText prelude). stmt_layout level (g names)) (block_here (stmt_step prelude) ls body)
+    ∙ block_grouped (codes "{\n") (locals_layout (suc level) r.0) (stmts_layout (suc level) (stmts_text r.1 no_stmts (map (stmt_text prelude) body))) (indent level) (codes "}\n")
+    ∙ ap (λ t. ((codes "{\n" ++ t) ++ stmts_layout (suc level) (stmts_text r.1 no_stmts (map (stmt_text prelude) body))) ++ (indent level then codes "}\n")) (locals_are prelude (suc level) names ls)
+    ∙ ap (λ t. ((codes "{\n" ++ locals_added prelude (suc level) names ls) ++ t) ++ (indent level then codes "}\n")) (lines_are prelude (suc level) r.1 body)
+    ∙ ap (λ ns. ((codes "{\n" ++ locals_added prelude (suc level) names ls) ++ flat_map (line_added prelude (suc level) ns) body) ++ (indent level then codes "}\n")) (locals_names prelude names ls)
+    ∙ ap (λ b. ((codes "{\n" ++ locals_added prelude (suc level) names ls) ++ flat_map (line_added prelude (suc level) (with_locals names ls)) b) ++ (indent level then codes "}\n")) (sym same)
+    ∙ ap (λ t. ((codes "{\n" ++ locals_added prelude (suc level) names t) ++ flat_map (line_added prelude (suc level) (with_locals names t)) slice) ++ (indent level then codes "}\n")) (sym those)
+
+pub assign_pieces : (prelude : Bool) (level : ℕ) (names : Names) (s : Stmt) (op : Option Op) (id : ArrayId) (subs slice : List Ix) (v : Val) → s ≡ Assign op id subs v → slice ≡ subs
+    → stmt_layout level (stmt_text prelude s names) ≡ assign_layout prelude names op id slice v
+assign_pieces prelude level names s op id subs slice v is same =
+    ap (λ x. stmt_layout level (stmt_text prelude x names)) is
+    ∙ ap (λ t. array_name names id then t then codes " " then assign_mark op then codes " " then value_layout (value_text prelude names v) then codes ";\n") (dims_are prelude names subs)
+    ∙ ap (λ es. assign_layout prelude names op id es v) (sym same)
+
+-- ---- Names that go out of sight
+
+with_names : (names : Names) (xs : List Local) → with_locals names xs ≡ record names { numbers = names.numbers ++ map (λ l. l.name) xs }
+with_names names [] = ap (λ ns. record names { numbers = ns }) (sym (append-nil names.numbers))
+with_names names (l ∷ xs) = with_names (and_number names l.name) xs ∙ ap (λ ns. record names { numbers = ns }) (append_assoc names.numbers (l.name ∷ []) (map (λ l. l.name) xs))
+
+front_of : (xs ys : List Name) → take (length xs) (xs ++ ys) ≡ xs
+front_of [] ys = refl
+front_of (x ∷ xs) ys = ap (λ t. x ∷ t) (front_of xs ys)
+
+pub iterator_gone : (names : Names) (w : Name) → first_numbers (length names.numbers) (and_number names w) ≡ names
+iterator_gone names w = ap (λ ns. record names { numbers = ns }) (front_of names.numbers (w ∷ []))
+
+pub locals_gone : (names : Names) (xs : List Local) → first_numbers (length names.numbers) (with_locals names xs) ≡ names
+locals_gone names xs = ap (first_numbers (length names.numbers)) (with_names names xs) ∙ ap (λ ns. record names { numbers = ns }) (front_of names.numbers (map (λ l. l.name) xs))

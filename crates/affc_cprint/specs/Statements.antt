@@ -1,5 +1,5 @@
 -- What statements, conditions and locals add to the text, one behind the other.
-use Rattle.std.specs.Prelude.{ℕ, suc, Bool, true, false, List, [], ◌∷◌, map, codes, Option}
+use Rattle.std.specs.Prelude.{ℕ, suc, Bool, true, false, List, [], ◌∷◌, map, take, codes, Option}
 use Rattle.std.specs.List.{flat_map}
 use Rattle.affc_ast.specs.declared.tree.Ix.{Ix}
 use Rattle.affc_ast.specs.declared.tree.Compare.{Compare}
@@ -56,3 +56,7 @@ assign_layout prelude names op id subs v =
 -- a statement of a body, in a line of its own
 abbrev pub line_added : (prelude : Bool) → (level : ℕ) → Names → Stmt → List ℕ
 line_added prelude level names s = indent level then stmt_layout level (stmt_text prelude s names)
+
+-- the first so many numbers, and the arrays
+abbrev pub first_numbers : ℕ → Names → Names
+first_numbers n names = record names { numbers = take n names.numbers }

@@ -1,13 +1,12 @@
 // Conditions, locals and statements.
-ghost use Rattle.std.specs.Prelude.{◌≡◌, ◌+◌, OnOk, IfOk, string_bytes, codes, map};
-ghost use Rattle.affc_ast.specs.Recursion.{by_stmt};
+ghost use Rattle.std.specs.Prelude.{◌≡◌, ◌+◌, OnOk, IfOk, string_bytes, codes, length};
 ghost use Rattle.affc_grammar.specs.Grammar.{rel_mark, assign_mark, bound_mark};
-ghost use Rattle.affc_grammar.specs.Printed.{is_less, cond_text, conds_text, stmt_step};
+ghost use Rattle.affc_grammar.specs.Printed.{is_less, cond_text, conds_text, stmt_text};
 ghost use Rattle.affc_cprint.specs.Adds.{Adds};
 ghost use Rattle.affc_cprint.specs.Seen.{seen};
 ghost use Rattle.affc_cprint.specs.Layout.{◌then◌, cond_layout, conds_layout, indent, stmt_layout};
 ghost use Rattle.affc_grammar.specs.Printed.{and_number};
-ghost use Rattle.affc_cprint.specs.Statements.{head_layout, assign_layout, local_added, locals_added, with_locals};
+ghost use Rattle.affc_cprint.specs.Statements.{first_numbers, head_layout, assign_layout, local_added, locals_added, with_locals};
 
 use crate::index::{Names, Place, dims, ix, push};
 use crate::value::{Level, array, value};
@@ -170,5 +169,64 @@ fn deeper(level: usize) -> Result<usize, AllocError>
     match level.checked_add(1) {
         Some(n) => Ok(n),
         None => Err(AllocError),
+    }
+}
+
+fn held(names: &Names<'_>) -> usize
+    ensures { result ≡ length (seen names.now).numbers }
+{
+    names.numbers.len()
+}
+
+// Takes the later names out of sight.
+fn restore(names: &mut Names<'_>, held: usize)
+    ensures { seen names.new ≡ first_numbers held (seen names.old) }
+{
+    names.numbers.truncate(held)
+}
+
+/// A statement behind its indent. The names in sight are those from before.
+pub fn stmt<'a>(out: &mut String, prelude: bool, names: &mut Names<'a>, s: &'a Stmt, level: usize) -> Result<(), AllocError>
+    ensures { OnOk result (Adds (string_bytes out.old) (string_bytes out.new) (stmt_layout level (stmt_text prelude s.now (seen names.old))) × (seen names.new ≡ seen names.old)) }
+{
+    match s {
+        Stmt::For { iter, low, rel, high, body } => {
+            head(out, prelude, names, iter.as_str(), low, *rel, high)?;
+            let inner = deeper(level)?;
+            let held = held(names);
+            show(names, iter.as_str())?;
+            for line in body.as_slice() {
+                indent(out, inner)?;
+                stmt(out, prelude, names, line, inner)?;
+            }
+            restore(names, held);
+            end(out, level)
+        }
+        Stmt::If { conds: cs, body } => {
+            push(out, "if (")?;
+            conds(out, prelude, names, cs.as_slice())?;
+            push(out, ") {\n")?;
+            let inner = deeper(level)?;
+            for inside in body.as_slice() {
+                indent(out, inner)?;
+                stmt(out, prelude, names, inside, inner)?;
+            }
+            end(out, level)
+        }
+        Stmt::Assign { op, array: id, subs, value: v } => {
+            assign(out, prelude, names, *op, *id, subs.as_slice(), v)
+        }
+        Stmt::Block { locals: ls, body } => {
+            push(out, "{\n")?;
+            let inner = deeper(level)?;
+            let held = held(names);
+            locals(out, prelude, names, ls.as_slice(), inner)?;
+            for part in body.as_slice() {
+                indent(out, inner)?;
+                stmt(out, prelude, names, part, inner)?;
+            }
+            restore(names, held);
+            end(out, level)
+        }
     }
 }
