@@ -179,6 +179,7 @@ fn held(names: &Names<'_>) -> usize
 }
 
 // Takes the later names out of sight.
+#[tactic(auto, using(crate::proofs::Arms::taken))]
 fn restore(names: &mut Names<'_>, held: usize)
     ensures { seen names.new ≡ first_numbers held (seen names.old) }
 {
