@@ -20,7 +20,7 @@ use Rattle.affc_grammar.specs.Printed.{Names, array_name, value_text, ix_text, c
 use Rattle.affc_cprint.specs.Adds.{Adds}
 use Rattle.affc_cprint.proofs.Writes.{◌next◌}
 use Rattle.affc_cprint.specs.Layout.{◌then◌, ix_layout, value_layout, conds_layout, indent, locals_layout, stmts_layout, stmt_layout}
-use Rattle.affc_cprint.specs.Statements.{first_numbers, head_layout, assign_layout, local_added, locals_added, with_locals, stmt_added, stmts_added, line_added, dim_added}
+use Rattle.affc_cprint.specs.Statements.{first_numbers, head_layout, assign_layout, local_added, locals_added, with_locals, stmts_added, line_added}
 use Rattle.affc_cprint.proofs.Chains.{dims_are, stmts_are, locals_are, locals_names}
 
 six : (a b c d e f : List ℕ) → a then b then c then d then e then f ≡ (a ++ (b ++ (c ++ (d ++ e)))) ++ f
@@ -76,7 +76,7 @@ for_pieces prelude level names s iter low rel high body slice is same =
     ap (λ x. stmt_layout level (stmt_text prelude x names)) is
     ∙ ap (λ (g : Names → StmtText prelude). stmt_layout level (g names)) (for_here (stmt_step prelude) iter low rel high body)
     ∙ for_grouped (codes "for (int64_t ") iter (codes " = ") (ix_layout (ix_text prelude names low)) (codes "; ") iter (codes " ") (bound_mark (is_less rel)) (codes " ") (ix_layout (ix_text prelude names high)) (codes "; ") iter (codes "++") (codes ")") (codes " {\n")
-      (stmts_layout (suc level) (stmts_text (and_number names iter) no_stmts (map (stmt_text prelude) body))) (indent level) (codes "}\n")
+    (stmts_layout (suc level) (stmts_text (and_number names iter) no_stmts (map (stmt_text prelude) body))) (indent level) (codes "}\n")
     ∙ ap (λ t. (head_layout prelude names iter low rel high ++ t) ++ (indent level then codes "}\n")) (lines_are prelude (suc level) (and_number names iter) body)
     ∙ ap (λ b. (head_layout prelude names iter low rel high ++ flat_map (line_added prelude (suc level) (and_number names iter)) b) ++ (indent level then codes "}\n")) (sym same)
 
@@ -151,12 +151,12 @@ pub for_exit : {A E : Type 0} (r : Result A E) {o0 o1 o2 : List ℕ} (o3 : List 
 for_exit r o3 prelude level names s iter w v low rel high body slice n1 n2 n3 inner held i is same ws vs deep count before shown loop kept past gone fin =
     let q : inner ≡ suc level = omega arith in
     let lines : flat_map (line_added prelude inner n1) (take i slice) ≡ flat_map (line_added prelude (suc level) (and_number names iter)) slice
-        = ap (λ k. flat_map (line_added prelude k n1) (take i slice)) q ∙ ap (λ n. flat_map (line_added prelude (suc level) n) (take i slice)) (shown ∙ ap (and_number names) vs)
-        ∙ ap (flat_map (line_added prelude (suc level) (and_number names iter))) (take_all i slice past) in
+    = ap (λ k. flat_map (line_added prelude k n1) (take i slice)) q ∙ ap (λ n. flat_map (line_added prelude (suc level) n) (take i slice)) (shown ∙ ap (and_number names) vs)
+    ∙ ap (flat_map (line_added prelude (suc level) (and_number names iter))) (take_all i slice past) in
     let tree : stmt_layout level (stmt_text prelude s names) ≡ (head_layout prelude names w low rel high ++ flat_map (line_added prelude inner n1) (take i slice)) ++ (indent level then codes "}\n")
-        = for_pieces prelude level names s iter low rel high body slice is same
-        ∙ ap (λ x. (head_layout prelude names x low rel high ++ flat_map (line_added prelude (suc level) (and_number names iter)) slice) ++ (indent level then codes "}\n")) (sym ws)
-        ∙ ap (λ t. (head_layout prelude names w low rel high ++ t) ++ (indent level then codes "}\n")) (sym lines) in
+    = for_pieces prelude level names s iter low rel high body slice is same
+    ∙ ap (λ x. (head_layout prelude names x low rel high ++ flat_map (line_added prelude (suc level) (and_number names iter)) slice) ++ (indent level then codes "}\n")) (sym ws)
+    ∙ ap (λ t. (head_layout prelude names w low rel high ++ t) ++ (indent level then codes "}\n")) (sym lines) in
     let back : n3 ≡ names = gone ∙ ap (first_numbers held) (kept ∙ shown) ∙ ap (λ k. first_numbers k (and_number names v)) count ∙ iterator_gone names v in
     ends_with r o3 (indent level then codes "}\n") (stmt_layout level (stmt_text prelude s names)) (before next loop) fin tree back
 
@@ -168,10 +168,10 @@ pub if_exit : {A E : Type 0} (r : Result A E) {o0 o1 o2 : List ℕ} (o3 : List �
 if_exit r o3 prelude level names s conds cs body slice n1 inner i is these same deep before loop kept past fin =
     let q : inner ≡ suc level = omega arith in
     let lines : flat_map (line_added prelude inner names) (take i slice) ≡ flat_map (line_added prelude (suc level) names) slice
-        = ap (λ k. flat_map (line_added prelude k names) (take i slice)) q ∙ ap (flat_map (line_added prelude (suc level) names)) (take_all i slice past) in
+    = ap (λ k. flat_map (line_added prelude k names) (take i slice)) q ∙ ap (flat_map (line_added prelude (suc level) names)) (take_all i slice past) in
     let tree : stmt_layout level (stmt_text prelude s names) ≡ ((codes "if (" ++ (conds_layout (conds_text prelude names cs) ++ codes ") {\n")) ++ flat_map (line_added prelude inner names) (take i slice)) ++ (indent level then codes "}\n")
-        = if_pieces prelude level names s conds cs body slice is these same
-        ∙ ap (λ t. ((codes "if (" ++ (conds_layout (conds_text prelude names cs) ++ codes ") {\n")) ++ t) ++ (indent level then codes "}\n")) (sym lines) in
+    = if_pieces prelude level names s conds cs body slice is these same
+    ∙ ap (λ t. ((codes "if (" ++ (conds_layout (conds_text prelude names cs) ++ codes ") {\n")) ++ t) ++ (indent level then codes "}\n")) (sym lines) in
     ends_with r o3 (indent level then codes "}\n") (stmt_layout level (stmt_text prelude s names)) (before next loop) fin tree kept
 
 pub block_exit : {A E : Type 0} (r : Result A E) {o0 o1 o2 : List ℕ} (o3 : List ℕ) (prelude : Bool) (level : ℕ) (names : Names) (s : Stmt) (ls these : List Local) (body slice : List Stmt) (n1 n2 n3 : Names) (inner held i : ℕ)
@@ -182,12 +182,12 @@ pub block_exit : {A E : Type 0} (r : Result A E) {o0 o1 o2 : List ℕ} (o3 : Lis
 block_exit r o3 prelude level names s ls these body slice n1 n2 n3 inner held i is those same deep count before shown loop kept past gone fin =
     let q : inner ≡ suc level = omega arith in
     let lines : flat_map (line_added prelude inner n1) (take i slice) ≡ flat_map (line_added prelude (suc level) (with_locals names these)) slice
-        = ap (λ k. flat_map (line_added prelude k n1) (take i slice)) q ∙ ap (λ n. flat_map (line_added prelude (suc level) n) (take i slice)) shown
-        ∙ ap (flat_map (line_added prelude (suc level) (with_locals names these))) (take_all i slice past) in
+    = ap (λ k. flat_map (line_added prelude k n1) (take i slice)) q ∙ ap (λ n. flat_map (line_added prelude (suc level) n) (take i slice)) shown
+    ∙ ap (flat_map (line_added prelude (suc level) (with_locals names these))) (take_all i slice past) in
     let tree : stmt_layout level (stmt_text prelude s names) ≡ ((codes "{\n" ++ locals_added prelude inner names these) ++ flat_map (line_added prelude inner n1) (take i slice)) ++ (indent level then codes "}\n")
-        = block_pieces prelude level names s ls these body slice is those same
-        ∙ ap (λ k. ((codes "{\n" ++ locals_added prelude k names these) ++ flat_map (line_added prelude (suc level) (with_locals names these)) slice) ++ (indent level then codes "}\n")) (sym q)
-        ∙ ap (λ t. ((codes "{\n" ++ locals_added prelude inner names these) ++ t) ++ (indent level then codes "}\n")) (sym lines) in
+    = block_pieces prelude level names s ls these body slice is those same
+    ∙ ap (λ k. ((codes "{\n" ++ locals_added prelude k names these) ++ flat_map (line_added prelude (suc level) (with_locals names these)) slice) ++ (indent level then codes "}\n")) (sym q)
+    ∙ ap (λ t. ((codes "{\n" ++ locals_added prelude inner names these) ++ t) ++ (indent level then codes "}\n")) (sym lines) in
     let back : n3 ≡ names = gone ∙ ap (first_numbers held) (kept ∙ shown) ∙ ap (λ k. first_numbers k (with_locals names these)) count ∙ locals_gone names these in
     ends_with r o3 (indent level then codes "}\n") (stmt_layout level (stmt_text prelude s names)) (before next loop) fin tree back
 

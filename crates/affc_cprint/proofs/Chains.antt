@@ -87,7 +87,7 @@ pub conds_end : {o0 o1 o2 : List ℕ} (prelude : Bool) (names : Names) (cs : Lis
 conds_end {o0 = o0} prelude names cs x i some first past before loop =
     let rest = take (length cs - 1) (drop 1 cs) in
     let whole : conds_layout (conds_text prelude names cs) ≡ cond_layout (cond_text prelude names x) ++ flat_map (cond_added prelude names) rest
-        = ap (λ l. conds_layout (conds_text prelude names l)) (first_and_rest cs x some first) ∙ conds_are prelude names x rest in
+    = ap (λ l. conds_layout (conds_text prelude names l)) (first_and_rest cs x some first) ∙ conds_are prelude names x rest in
     record { is = (before next loop).is ∙ ap (λ l. o0 ++ (cond_layout (cond_text prelude names x) ++ flat_map (cond_added prelude names) l)) (take_all i rest past) ∙ ap (λ t. o0 ++ t) (sym whole) }
 
 regrouped : (a b c d e f g h i j k l m : List ℕ) → a then b then c then d then e then f then g then h then i then j then k then l then m

@@ -10,7 +10,7 @@ use Rattle.affc_ast.specs.Recursion.{by_val}
 use Rattle.affc_ast.specs.declared.tree.Op.{Op}
 use Rattle.affc_ast.specs.declared.tree.Op.TheVariants as op
 use Rattle.affc_ast.proofs.Outs.{val_outs}
-use Rattle.affc_grammar.specs.Grammar.{Digits, ValueText, load, binary, shift, op_mark, shift_mark, level_of, is_shift}
+use Rattle.affc_grammar.specs.Grammar.{Digits, ValueText, load, binary, op_mark, shift_mark, level_of, is_shift}
 use Rattle.affc_grammar.specs.Printed.{Names, array_name, dims_text, value_step, ValueWritten, primary_written, times_written, plus_written, shift_written, and_written, xor_written, or_written, binary_written, shift_by, holding}
 use Rattle.affc_cprint.specs.declared.value.Level.{Level}
 use Rattle.affc_cprint.specs.declared.value.Level.TheVariants.{Primary, Product, Sum, Shifted, And, Xor, Or}
@@ -107,8 +107,10 @@ pub shift_at_level : {prelude : Bool} (level : Level) (left : Bool) (a : ValueWr
     → value_at level (shift_written (shift_by left a.level_3 (digits_of by) (holding (is_shift (digits_of by)))))
     ≡ bracketed (nat_lt (number_of level) 3) (value_at Shifted a then codes " " then shift_mark left then codes " " then amount_layout by)
 shift_at_level level left a by =
-    rw (shift_at level (shift_by left a.level_3 (digits_of by) (holding (is_shift (digits_of by)))),
-        shifted_by left a.level_3 (digits_of by) (is_shift (digits_of by)) refl (holding (is_shift (digits_of by))) (held (is_shift (digits_of by)))) refl
+    rw (
+      shift_at level (shift_by left a.level_3 (digits_of by) (holding (is_shift (digits_of by)))),
+      shifted_by left a.level_3 (digits_of by) (is_shift (digits_of by)) refl (holding (is_shift (digits_of by))) (held (is_shift (digits_of by))),
+    ) refl
 
 -- a load, and its subscripts
 pub load_pieces : (prelude : Bool) (names : Names) (level : Level) (v : Val) (id : ArrayId) (subs slice : List Ix) → v ≡ Load id subs → slice ≡ subs

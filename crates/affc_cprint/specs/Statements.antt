@@ -1,5 +1,5 @@
 -- What statements, conditions and locals add to the text, one behind the other.
-use Rattle.std.specs.Prelude.{ℕ, suc, Bool, true, false, List, [], ◌∷◌, map, take, codes, Option}
+use Rattle.std.specs.Prelude.{ℕ, Bool, true, false, List, [], ◌∷◌, take, codes, Option}
 use Rattle.std.specs.List.{flat_map}
 use Rattle.affc_ast.specs.declared.tree.Ix.{Ix}
 use Rattle.affc_ast.specs.declared.tree.Compare.{Compare}

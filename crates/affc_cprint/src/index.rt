@@ -205,7 +205,12 @@ pub fn ix(
 }
 
 // Subscripts or extents, each in its brackets.
-pub fn dims(out: &mut String, prelude: bool, names: &Names<'_>, subs: &[Ix]) -> Result<(), AllocError>
+pub fn dims(
+    out: &mut String,
+    prelude: bool,
+    names: &Names<'_>,
+    subs: &[Ix],
+) -> Result<(), AllocError>
     ensures { OnOk result (Adds (string_bytes out.old) (string_bytes out.new) (flat_map (dim_added prelude (seen names.now)) subs.now)) }
 {
     for e in subs {

@@ -4,5 +4,5 @@
 pub mod examples;
 mod index;
 pub mod laws;
-mod value;
 mod stmt;
+mod value;

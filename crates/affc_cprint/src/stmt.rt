@@ -10,8 +10,7 @@ ghost use Rattle.affc_cprint.specs.Statements.{first_numbers, head_layout, assig
 
 use crate::index::{Names, Place, dims, ix, push};
 use crate::value::{Level, array, value};
-use affc_ast::tree::ArrayId;
-use affc_ast::tree::{Compare, Ix, Local, Op, Rel, Stmt, Val};
+use affc_ast::tree::{ArrayId, Compare, Ix, Local, Op, Rel, Stmt, Val};
 use std::alloc::AllocError;
 
 fn relation(out: &mut String, rel: Rel) -> Result<(), AllocError>
@@ -63,7 +62,12 @@ fn cond(out: &mut String, prelude: bool, names: &Names<'_>, c: &Compare) -> Resu
 }
 
 #[tactic(auto, using(crate::proofs::Chains::conditions))]
-pub fn conds(out: &mut String, prelude: bool, names: &Names<'_>, conds: &[Compare]) -> Result<(), AllocError>
+pub fn conds(
+    out: &mut String,
+    prelude: bool,
+    names: &Names<'_>,
+    conds: &[Compare],
+) -> Result<(), AllocError>
     ensures { OnOk result (Adds (string_bytes out.old) (string_bytes out.new) (conds_layout (conds_text prelude (seen names.now) conds.now))) }
 {
     match conds {
@@ -92,7 +96,15 @@ pub fn indent(out: &mut String, level: usize) -> Result<(), AllocError>
 }
 
 #[tactic(auto, using(std::proofs::Common::append_assoc))]
-fn head(out: &mut String, prelude: bool, names: &Names<'_>, i: &str, low: &Ix, rel: Rel, high: &Ix) -> Result<(), AllocError>
+fn head(
+    out: &mut String,
+    prelude: bool,
+    names: &Names<'_>,
+    i: &str,
+    low: &Ix,
+    rel: Rel,
+    high: &Ix,
+) -> Result<(), AllocError>
     ensures { OnOk result (Adds (string_bytes out.old) (string_bytes out.new) (head_layout prelude (seen names.now) i.now low.now rel high.now)) }
 {
     push(out, "for (int64_t ")?;
@@ -109,7 +121,13 @@ fn head(out: &mut String, prelude: bool, names: &Names<'_>, i: &str, low: &Ix, r
 }
 
 // A local, which is written with the prelude only.
-fn local(out: &mut String, prelude: bool, names: &Names<'_>, l: &Local, level: usize) -> Result<(), AllocError>
+fn local(
+    out: &mut String,
+    prelude: bool,
+    names: &Names<'_>,
+    l: &Local,
+    level: usize,
+) -> Result<(), AllocError>
     ensures { OnOk result (Adds (string_bytes out.old) (string_bytes out.new) (local_added prelude level (seen names.now) l.now)) }
 {
     if !prelude {
@@ -132,7 +150,13 @@ fn show<'a>(names: &mut Names<'a>, name: &'a str) -> Result<(), AllocError>
 }
 
 // Locals in order; each is in sight behind itself.
-fn locals<'a>(out: &mut String, prelude: bool, names: &mut Names<'a>, locals: &'a [Local], level: usize) -> Result<(), AllocError>
+fn locals<'a>(
+    out: &mut String,
+    prelude: bool,
+    names: &mut Names<'a>,
+    locals: &'a [Local],
+    level: usize,
+) -> Result<(), AllocError>
     ensures { OnOk result (Adds (string_bytes out.old) (string_bytes out.new) (locals_added prelude level (seen names.old) locals.now) × (seen names.new ≡ with_locals (seen names.old) locals.now)) }
 {
     match locals {
@@ -145,7 +169,15 @@ fn locals<'a>(out: &mut String, prelude: bool, names: &mut Names<'a>, locals: &'
     }
 }
 
-fn assign(out: &mut String, prelude: bool, names: &Names<'_>, op: Option<Op>, id: ArrayId, subs: &[Ix], v: &Val) -> Result<(), AllocError>
+fn assign(
+    out: &mut String,
+    prelude: bool,
+    names: &Names<'_>,
+    op: Option<Op>,
+    id: ArrayId,
+    subs: &[Ix],
+    v: &Val,
+) -> Result<(), AllocError>
     ensures { OnOk result (Adds (string_bytes out.old) (string_bytes out.new) (assign_layout prelude (seen names.now) op id subs.now v.now)) }
 {
     array(out, names, id)?;
@@ -187,11 +219,23 @@ fn restore(names: &mut Names<'_>, held: usize)
 }
 
 /// A statement behind its indent. The names in sight are those from before.
-pub fn stmt<'a>(out: &mut String, prelude: bool, names: &mut Names<'a>, s: &'a Stmt, level: usize) -> Result<(), AllocError>
+pub fn stmt<'a>(
+    out: &mut String,
+    prelude: bool,
+    names: &mut Names<'a>,
+    s: &'a Stmt,
+    level: usize,
+) -> Result<(), AllocError>
     ensures { OnOk result (Adds (string_bytes out.old) (string_bytes out.new) (stmt_layout level (stmt_text prelude s.now (seen names.old))) × (seen names.new ≡ seen names.old)) }
 {
     match s {
-        Stmt::For { iter, low, rel, high, body } => {
+        Stmt::For {
+            iter,
+            low,
+            rel,
+            high,
+            body,
+        } => {
             head(out, prelude, names, iter.as_str(), low, *rel, high)?;
             let inner = deeper(level)?;
             let held = held(names);
@@ -214,9 +258,12 @@ pub fn stmt<'a>(out: &mut String, prelude: bool, names: &mut Names<'a>, s: &'a S
             }
             end(out, level)
         }
-        Stmt::Assign { op, array: id, subs, value: v } => {
-            assign(out, prelude, names, *op, *id, subs.as_slice(), v)
-        }
+        Stmt::Assign {
+            op,
+            array: id,
+            subs,
+            value: v,
+        } => { assign(out, prelude, names, *op, *id, subs.as_slice(), v) }
         Stmt::Block { locals: ls, body } => {
             push(out, "{\n")?;
             let inner = deeper(level)?;

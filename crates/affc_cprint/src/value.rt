@@ -95,7 +95,11 @@ fn operator(out: &mut String, op: Op) -> Result<(), AllocError>
 fn shift_operator(out: &mut String, left: bool) -> Result<(), AllocError>
     ensures { OnOk result (Adds (string_bytes out.old) (string_bytes out.new) (codes " " then shift_mark left then codes " ")) }
 {
-    if left { push(out, " << ") } else { push(out, " >> ") }
+    if left {
+        push(out, " << ")
+    } else {
+        push(out, " >> ")
+    }
 }
 
 // A shift past 63, which no text has, is written as one by 0.
@@ -103,7 +107,11 @@ fn shift_operator(out: &mut String, left: bool) -> Result<(), AllocError>
 fn amount(out: &mut String, by: u8) -> Result<(), AllocError>
     ensures { OnOk result (Adds (string_bytes out.old) (string_bytes out.new) (amount_layout by)) }
 {
-    if by <= 63 { decimal(out, by as u64) } else { push(out, "0") }
+    if by <= 63 {
+        decimal(out, by as u64)
+    } else {
+        push(out, "0")
+    }
 }
 
 pub fn array(out: &mut String, names: &Names<'_>, id: ArrayId) -> Result<(), AllocError>
@@ -113,7 +121,13 @@ pub fn array(out: &mut String, names: &Names<'_>, id: ArrayId) -> Result<(), All
 }
 
 #[tactic(auto, using(crate::proofs::Levels::at_levels))]
-pub fn value(out: &mut String, prelude: bool, names: &Names<'_>, v: &Val, level: Level) -> Result<(), AllocError>
+pub fn value(
+    out: &mut String,
+    prelude: bool,
+    names: &Names<'_>,
+    v: &Val,
+    level: Level,
+) -> Result<(), AllocError>
     ensures { OnOk result (Adds (string_bytes out.old) (string_bytes out.new) (value_at level (by_val (value_step prelude (seen names.now)) v.now))) }
 {
     match v {
