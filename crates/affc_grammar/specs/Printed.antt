@@ -116,25 +116,25 @@ ix_step prelude names (ix.Ceild a by) = divided_written prelude up a.whole by
 abbrev pub ix_text : (prelude : Bool) → Names → Ix → IxText prelude
 ix_text prelude names e = (by_ix (ix_step prelude names) e).whole
 
+abbrev pub and_dims : (prelude : Bool) → Names → DimsText prelude → List Ix → DimsText prelude
+and_dims prelude names ds [] = ds
+and_dims prelude names ds (e ∷ es) = and_dims prelude names (and_dim ds (ix_text prelude names e)) es
+
 abbrev pub dims_text : (prelude : Bool) → Names → List Ix → DimsText prelude
-dims_text prelude names es = and_dims no_dims es
-  where
-    and_dims : DimsText prelude → List Ix → DimsText prelude
-    and_dims ds [] = ds
-    and_dims ds (e ∷ es) = and_dims (and_dim ds (ix_text prelude names e)) es
+dims_text prelude names es = and_dims prelude names no_dims es
 
 -- ---- Conditions
 
 abbrev pub cond_text : (prelude : Bool) → Names → Compare → CondText prelude
 cond_text prelude names c = compared (ix_text prelude names c.left) c.rel (ix_text prelude names c.right)
 
+abbrev pub and_conds : (prelude : Bool) → Names → CondsText prelude → List Compare → CondsText prelude
+and_conds prelude names ds [] = ds
+and_conds prelude names ds (c ∷ cs) = and_conds prelude names (and_cond ds (cond_text prelude names c)) cs
+
 abbrev pub conds_text : (prelude : Bool) → Names → List Compare → CondsText prelude
 conds_text prelude names [] = cond (compared nothing_written.whole Less nothing_written.whole)
-conds_text prelude names (c ∷ cs) = and_conds (cond (cond_text prelude names c)) cs
-  where
-    and_conds : CondsText prelude → List Compare → CondsText prelude
-    and_conds ds [] = ds
-    and_conds ds (c ∷ cs) = and_conds (and_cond ds (cond_text prelude names c)) cs
+conds_text prelude names (c ∷ cs) = and_conds prelude names (cond (cond_text prelude names c)) cs
 
 -- ---- Values
 

@@ -1,10 +1,10 @@
 -- When a text reads as a program.
-use Rattle.std.specs.Prelude.{◌≡◌, ℕ, zero, suc, Bool, true, false, List, [], ◌∷◌, length, map, Option, Some, None, Result, Ok, Err}
-use Rattle.std.specs.List.{list_any}
+use Rattle.std.specs.Prelude.{◌≡◌, ℕ, zero, suc, Bool, true, false, ◌&&◌, IsTrue, List, [], ◌∷◌, length, map, Option, Some, None, Result, Ok, Err}
+use Rattle.std.specs.List.{list_any, list_all}
 use Rattle.affc_lex.specs.declared.token.Kind.{Kind}
-use Rattle.affc_lex.specs.declared.token.Kind.TheVariants.{Prelude}
+use Rattle.affc_lex.specs.declared.token.Kind.TheVariants.{Word, Number, Value, Prelude}
 use Rattle.affc_lex.specs.Bytes.{contains}
-use Rattle.affc_lex.specs.Pieces.{prelude}
+use Rattle.affc_lex.specs.Pieces.{prelude, is_word, is_number, is_value, is_small, leading_digits}
 use Rattle.affc_lex.specs.Lexes.{Lexeme, Lexes}
 use Rattle.affc_ast.specs.declared.tree.Program.{Program}
 use Rattle.affc_grammar.specs.Grammar.{Symbol, symbol, Text, text_symbols}
@@ -74,9 +74,18 @@ Reads = ReadsBy limits_of
 abbrev pub ReadsWide : List ℕ → Program → Type 0
 ReadsWide = ReadsBy (λ _. wide_limits)
 
--- Some text of the grammar keeps the rules on names and products and has this tree, and the text that is printed keeps the wide limits.
+-- whether a token of this kind can have these bytes
+abbrev pub can_have : Kind → List ℕ → Bool
+can_have Word bytes = is_word bytes
+can_have Number bytes = is_number bytes && is_small bytes
+can_have Value bytes = is_value bytes && is_small (leading_digits bytes)
+can_have _ bytes = true
+
+-- Some tokens are those of a text of the grammar that keeps the rules on names and products and has this tree, and the text that is printed keeps the
+-- wide limits.
 pub record WellNamed (tree : Program) : Type 0 where
   pub written : Text
+  pub tokens : IsTrue (list_all (λ s. can_have s.kind s.bytes) (text_symbols written))
   pub its_tree : program_tree (text_draft written) ≡ Ok tree
   pub its_products : products_of_names (text_draft written) ≡ []
   pub printed_shape : shape_passed wide_limits (text_symbols (printed tree)) ≡ []

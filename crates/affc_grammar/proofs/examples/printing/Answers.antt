@@ -14,6 +14,7 @@ pub returns-clause-well_named : goal.returns-clause-well_named
 unfolding computing shape-the_row-Ix-0 hidden-the_row-Ix-0 shape-the_row-Val-0 hidden-the_row-Val-0 shape-the_row-Stmt-0 hidden-the_row-Stmt-0 hidden digits
 returns-clause-well_named c = record {
   written = printed (copy_tree (record { function = codes "f"; parameter = codes "N"; input = codes "in"; output = codes "out"; iterator = codes "i"; low = 1; high = 4 }));
+  tokens = refl;
   its_tree = refl;
   its_products = refl;
   printed_shape = refl;
