@@ -1,9 +1,0 @@
-use Rattle.std.proofs.Common.{map, subst}
-use Rattle.affc_parse.specs.Symbols.{seen}
-use Rattle.affc_parse.specs.Drafts.{ix}
-use Rattle.affc_parse.specs.IxReading.{Gives}
-use Rattle.affc_parse.proofs.IxExact.{expression_exact}
-use Rattle.affc_parse.proofs.expression.read_expression.Goals as goal
-
-pub returns : goal.returns
-returns c = subst (Gives (map seen c.args.symbols.now) ix c.expression.result) (expression_exact c.args.prelude c.args.room c.args.symbols.now c.args.next c.requires) c.expression.ensures

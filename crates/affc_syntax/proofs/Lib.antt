@@ -1,0 +1,2 @@
+pub mod IxExact
+pub mod IxReads

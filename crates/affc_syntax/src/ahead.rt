@@ -1,0 +1,220 @@
+//! What stands first among tokens, and the tokens behind it.
+
+ghost use Rattle.std.specs.Prelude.{◌≡◌, ◌<◌, ◌+◌, ◌∷◌, [], drop, length, map, None, Some, MatchOption, MatchResult, is_some};
+ghost use Rattle.affc_lex.specs.Bytes as bytes;
+ghost use Rattle.affc_grammar.specs.Reading as tests;
+ghost use Rattle.affc_draft.specs.Symbols.{seen};
+ghost use Rattle.affc_syntax.specs.Ahead as ahead;
+ghost use Rattle.affc_syntax.specs.Callees as callees;
+ghost use Rattle.affc_syntax.specs.declared.ahead.Stop.TheVariants as stop;
+ghost use Rattle.std.specs.Option.{option_map};
+
+use affc_draft::draft::{Choice, Rounding};
+use affc_draft::symbol::{Symbol, is_mark_kind, is_word_kind};
+use affc_lex::token::Kind;
+use std::alloc::AllocError;
+
+fn same(a: &[u8], b: &str) -> bool
+    ensures { result ≡ bytes.same a.now b.now }
+{
+    a == b.as_bytes()
+}
+
+fn is_mark(symbol: &Symbol<'_>, mark: &[u8]) -> bool
+    ensures { result ≡ is_some (tests.this_mark mark.now (seen symbol.now)) }
+{
+    is_mark_kind(symbol.kind) && same(mark, symbol.text)
+}
+
+/// The token of this number, where it is one.
+pub(crate) fn first<'a, 't>(symbols: &'a [Symbol<'t>], at: usize) -> Option<&'a Symbol<'t>>
+    ensures { MatchOption result
+        (drop at (map seen symbols.now) ≡ [])
+        (λ s. (drop at (map seen symbols.now) ≡ seen s.now ∷ drop (at + 1) (map seen symbols.now)) × (at < length symbols.now)) }
+{
+    if at < symbols.len() {
+        Some(&symbols[at])
+    } else {
+        None
+    }
+}
+
+/// Behind this mark.
+pub(crate) fn past_mark(mark: &[u8], symbols: &[Symbol<'_>], at: usize) -> Option<usize>
+    ensures { MatchOption result
+        (ahead.past (tests.this_mark mark.now) (drop at (map seen symbols.now)) ≡ None)
+        (λ next. ahead.past (tests.this_mark mark.now) (drop at (map seen symbols.now)) ≡ Some (tt, drop next (map seen symbols.now))) }
+{
+    match first(symbols, at) {
+        Some(symbol) => {
+            if is_mark(symbol, mark) {
+                Some(at + 1)
+            } else {
+                None
+            }
+        }
+        None => None,
+    }
+}
+
+fn number(symbol: &Symbol<'_>) -> Option<u64>
+    ensures { result ≡ ahead.number_value (seen symbol.now) }
+{
+    match symbol.kind {
+        Kind::Number => Some(symbol.value),
+        _ => None,
+    }
+}
+
+/// The number of a Number, and the place behind it.
+pub(crate) fn past_number(symbols: &[Symbol<'_>], at: usize) -> Option<(u64, usize)>
+    ensures { MatchOption result
+        (ahead.past ahead.number_value (drop at (map seen symbols.now)) ≡ None)
+        (λ r. ahead.past ahead.number_value (drop at (map seen symbols.now)) ≡ Some (r.0, drop r.1 (map seen symbols.now))) }
+{
+    match first(symbols, at) {
+        Some(symbol) => match number(symbol) {
+            Some(value) => Some((value, at + 1)),
+            None => None,
+        },
+        None => None,
+    }
+}
+
+/// A Word, and the place behind it.
+pub(crate) fn past_word<'t>(symbols: &[Symbol<'t>], at: usize) -> Option<(&'t str, usize)>
+    ensures { MatchOption result
+        (ahead.past tests.any_word (drop at (map seen symbols.now)) ≡ None)
+        (λ r. ahead.past tests.any_word (drop at (map seen symbols.now)) ≡ Some (r.0.now, drop r.1 (map seen symbols.now))) }
+{
+    match first(symbols, at) {
+        Some(symbol) => {
+            if is_word_kind(symbol.kind) {
+                Some((symbol.text, at + 1))
+            } else {
+                None
+            }
+        }
+        None => None,
+    }
+}
+
+fn divisor(symbol: &Symbol<'_>) -> Option<u64>
+    ensures { result ≡ ahead.divisor_value (seen symbol.now) }
+{
+    match symbol.kind {
+        Kind::Number => {
+            if 1 <= symbol.value {
+                Some(symbol.value)
+            } else {
+                None
+            }
+        }
+        _ => None,
+    }
+}
+
+/// The number of a Number of at least 1, and the place behind it.
+pub(crate) fn past_divisor(symbols: &[Symbol<'_>], at: usize) -> Option<(u64, usize)>
+    ensures { MatchOption result
+        (ahead.past ahead.divisor_value (drop at (map seen symbols.now)) ≡ None)
+        (λ r. ahead.past ahead.divisor_value (drop at (map seen symbols.now)) ≡ Some (r.0, drop r.1 (map seen symbols.now))) }
+{
+    match first(symbols, at) {
+        Some(symbol) => match divisor(symbol) {
+            Some(value) => Some((value, at + 1)),
+            None => None,
+        },
+        None => None,
+    }
+}
+
+/// Whether a `+` or a `-` is a `+`, and the place behind it.
+pub(crate) fn past_sign(symbols: &[Symbol<'_>], at: usize) -> Option<(bool, usize)>
+    ensures { MatchOption result
+        (ahead.past tests.sum_sign (drop at (map seen symbols.now)) ≡ None)
+        (λ r. ahead.past tests.sum_sign (drop at (map seen symbols.now)) ≡ Some (r.0, drop r.1 (map seen symbols.now))) }
+{
+    match first(symbols, at) {
+        Some(symbol) => match sign(symbol) {
+            Some(is_plus) => Some((is_plus, at + 1)),
+            None => None,
+        },
+        None => None,
+    }
+}
+
+fn sign(symbol: &Symbol<'_>) -> Option<bool>
+    ensures { result ≡ tests.sum_sign (seen symbol.now) }
+{
+    if !is_mark_kind(symbol.kind) {
+        None
+    } else if same(b"+", symbol.text) {
+        Some(true)
+    } else if same(b"-", symbol.text) {
+        Some(false)
+    } else {
+        None
+    }
+}
+
+/// What a name calls.
+#[derive(Clone, Copy, Drop)]
+pub(crate) enum Callee {
+    OfChoice(Choice),
+    OfRounding(Rounding),
+}
+
+pub(crate) fn callee_of(prelude: bool, word: &str) -> Option<Callee>
+    ensures { option_map callees.callee_seen result ≡ callees.callee prelude word.now }
+{
+    if !prelude {
+        None
+    } else if same(b"affc_min", word) {
+        Some(Callee::OfChoice(Choice::Minimum))
+    } else if same(b"affc_max", word) {
+        Some(Callee::OfChoice(Choice::Maximum))
+    } else if same(b"affc_mod", word) {
+        Some(Callee::OfChoice(Choice::Remainder))
+    } else if same(b"affc_floord", word) {
+        Some(Callee::OfRounding(Rounding::Down))
+    } else if same(b"affc_ceild", word) {
+        Some(Callee::OfRounding(Rounding::Up))
+    } else {
+        None
+    }
+}
+
+/// Why nothing was read: the number of the first token that cannot stand on, or behind the last.
+#[derive(Clone, Copy, Drop)]
+pub(crate) enum Stop {
+    Memory,
+    Deep,
+    At(usize),
+}
+
+impl From<AllocError> for Stop {
+    ghost use Rattle.affc_syntax.specs.declared.ahead.Stop.TheVariants.{Memory};
+    ghost use Rattle.std.specs.Prelude.{◌≡◌};
+
+    ghost from_gives = { λ _ e. e ≡ Memory };
+
+    fn from(_: AllocError) -> Stop {
+        Stop::Memory
+    }
+}
+
+/// What was read, and the number of the token behind it.
+pub(crate) type Answer<T> = Result<(T, usize), Stop>;
+
+/// Behind this mark, which has to stand here.
+pub(crate) fn behind(mark: &[u8], symbols: &[Symbol<'_>], at: usize) -> Result<usize, Stop>
+    ensures { MatchResult result
+        (λ next. ahead.past (tests.this_mark mark.now) (drop at (map seen symbols.now)) ≡ Some (tt, drop next (map seen symbols.now)))
+        (λ f. (f ≡ stop.At at) × (ahead.past (tests.this_mark mark.now) (drop at (map seen symbols.now)) ≡ None)) }
+{
+    match past_mark(mark, symbols, at) {
+        Some(next) => Ok(next),
+        None => Err(Stop::At(at)),
+    }
+}
