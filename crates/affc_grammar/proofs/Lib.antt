@@ -10,3 +10,4 @@ pub mod CompleteText
 pub mod Texts
 pub mod Verdicts
 pub mod CopyLoops
+pub mod Named

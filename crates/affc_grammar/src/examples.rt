@@ -119,6 +119,7 @@ pub fn shape()
 /// What is printed has the fewest parentheses, and reads as what was printed.
 pub fn printing()
     ensures well_named { WellNamed (copy_tree (record { function = codes "f"; parameter = codes "N"; input = codes "in"; output = codes "out"; iterator = codes "i"; low = 1; high = 4 })) }
+    ensures spaced_name { WellNamed (copy_tree (record { function = codes "f g"; parameter = codes "N"; input = codes "in"; output = codes "out"; iterator = codes "i"; low = 1; high = 4 })) → ⊥ }
     ensures copy_loop { verdict (text_symbols (printed (copy_tree (record { function = codes "f"; parameter = codes "N"; input = codes "in"; output = codes "out"; iterator = codes "i"; low = 1; high = 4 })))) ≡ reads (copy_tree (record { function = codes "f"; parameter = codes "N"; input = codes "in"; output = codes "out"; iterator = codes "i"; low = 1; high = 4 })) }
     ensures sums { reprinted (around (codes "out [ N - ( N - 1 ) ] = in [ N - 1 - 1 ] ;")) ≡ around (codes "out [ N - ( N - 1 ) ] = in [ N - 1 - 1 ] ;") }
     ensures shifts { reprinted (around (codes "out [ 0 ] = ( in [ 0 ] & 1ULL ) << 3 ;")) ≡ around (codes "out [ 0 ] = ( in [ 0 ] & 1ULL ) << 3 ;") }

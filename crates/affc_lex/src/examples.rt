@@ -61,6 +61,7 @@ pub fn bad_bytes()
     ensures letter { StuckAt (codes "3U") 1 }
     ensures letter_behind_a_value { StuckAt (codes "3ULLx") 4 }
     ensures second_zero { StuckAt (codes "00") 1 }
+    ensures changed_prelude { NothingAt (codes "static inline int64_t affc_min(int64_t a, int64_t b) { return a < b ? a : b; }\n" ++ codes "static inline int64_t affc_max(int64_t a, int64_t b) { return a > b ? a : b; }\n" ++ codes "static inline int64_t affc_floord(int64_t a, int64_t b) { return a / b - (a % c < 0); }\n" ++ codes "static inline int64_t affc_ceild(int64_t a, int64_t b) { return a / b + (a % b > 0); }\n" ++ codes "static inline int64_t affc_mod(int64_t a, int64_t b) { return a % b + (a % b < 0 ? b : 0); }\n") 68 }
     ensures backslash { RefusedAt (codes "/*\\\n*/") 2 }
     ensures backslash_and_return { RefusedAt (codes "// \\\r\n") 3 }
     ensures trigraph { RefusedAt (codes "/*??/*/") 2 }

@@ -7,6 +7,8 @@ use denote.Hole.Carrier.{hidden}
 use Rattle.affc_ast.specs.declared.tree.Ix.TheBlock.{shape-the_row-Ix-0, hidden-the_row-Ix-0}
 use Rattle.affc_ast.specs.declared.tree.Stmt.TheBlock.{shape-the_row-Stmt-0, hidden-the_row-Stmt-0}
 use Rattle.affc_ast.specs.declared.tree.Val.TheBlock.{shape-the_row-Val-0, hidden-the_row-Val-0}
+use Rattle.std.proofs.lemmas.Bool.{false≢true}
+use Rattle.affc_grammar.proofs.Named.{name_is_word}
 use Rattle.affc_grammar.specs.Verdict.{computing}
 use Rattle.affc_grammar.proofs.examples.printing.Goals as goal
 
@@ -20,6 +22,9 @@ returns-clause-well_named c = record {
   printed_shape = refl;
   printed_limits = refl;
 }
+
+pub returns-clause-spaced_name : goal.returns-clause-spaced_name
+returns-clause-spaced_name c = λ w. false≢true (name_is_word (copy_tree (record { function = codes "f g"; parameter = codes "N"; input = codes "in"; output = codes "out"; iterator = codes "i"; low = 1; high = 4 })) w)
 
 pub returns-clause-copy_loop : goal.returns-clause-copy_loop
 unfolding computing shape-the_row-Ix-0 hidden-the_row-Ix-0 shape-the_row-Val-0 hidden-the_row-Val-0 shape-the_row-Stmt-0 hidden-the_row-Stmt-0 hidden digits
