@@ -2,4 +2,6 @@ pub mod Layout
 pub mod Adds
 pub mod Places
 pub mod Seen
-pub mod Sees
+pub mod Statements
+pub mod Levels
+pub mod Programs

@@ -3,6 +3,8 @@ ghost use Rattle.std.specs.Prelude.{◌≡◌, OnOk, string_bytes, slice_get, un
 ghost use Rattle.affc_ast.specs.Recursion.{by_ix};
 ghost use Rattle.affc_grammar.specs.Printed.{ix_step, number_name};
 ghost use Rattle.affc_cprint.specs.Adds.{Adds};
+ghost use Rattle.std.specs.List.{flat_map};
+ghost use Rattle.affc_cprint.specs.Statements.{dim_added};
 ghost use Rattle.affc_cprint.specs.Seen.{seen};
 ghost use Rattle.affc_cprint.specs.Places.{ix_at, opened, closed, is_inside, is_factor, is_negated, divides};
 
@@ -40,7 +42,7 @@ impl Place {
     }
 }
 
-fn push(out: &mut String, text: &str) -> Result<(), AllocError>
+pub fn push(out: &mut String, text: &str) -> Result<(), AllocError>
     ensures { OnOk result (Adds (string_bytes out.old) (string_bytes out.new) text.now) }
 {
     out.push_str(text)
@@ -200,4 +202,21 @@ pub fn ix(
             close(out, negated)
         }
     }
+}
+
+// Subscripts or extents, each in its brackets.
+pub fn dims(
+    out: &mut String,
+    prelude: bool,
+    names: &Names<'_>,
+    subs: &[Ix],
+) -> Result<(), AllocError>
+    ensures { OnOk result (Adds (string_bytes out.old) (string_bytes out.new) (flat_map (dim_added prelude (seen names.now)) subs.now)) }
+{
+    for e in subs {
+        push(out, "[")?;
+        ix(out, prelude, names, e, Place::Whole)?;
+        push(out, "]")?;
+    }
+    Ok(())
 }

@@ -1,0 +1,48 @@
+-- What is written for a value where it stands.
+use Rattle.std.specs.Prelude.{ℕ, Bool, List, codes, decimal as digits_of, if◌then◌else◌}
+use Rattle.affc_ast.specs.declared.tree.Op.{Op}
+use Rattle.affc_ast.specs.declared.tree.Op.TheVariants as op
+use Rattle.affc_grammar.specs.Grammar.{is_shift}
+use Rattle.affc_grammar.specs.Printed.{ValueWritten}
+use Rattle.affc_cprint.specs.declared.value.Level.{Level}
+use Rattle.affc_cprint.specs.declared.value.Level.TheVariants.{Primary, Product, Sum, Shifted, And, Xor, Or}
+use Rattle.affc_cprint.specs.Layout.{value_layout}
+
+abbrev pub value_at : {prelude : Bool} → Level → ValueWritten prelude → List ℕ
+value_at Primary w = value_layout w.level_0
+value_at Product w = value_layout w.level_1
+value_at Sum w = value_layout w.level_2
+value_at Shifted w = value_layout w.level_3
+value_at And w = value_layout w.level_4
+value_at Xor w = value_layout w.level_5
+value_at Or w = value_layout w.level_6
+
+abbrev pub number_of : Level → ℕ
+number_of Primary = 0
+number_of Product = 1
+number_of Sum = 2
+number_of Shifted = 3
+number_of And = 4
+number_of Xor = 5
+number_of Or = 6
+
+-- the levels of an operator's operands
+abbrev pub op_left : Op → Level
+op_left op.Mul = Product
+op_left op.Add = Sum
+op_left op.Sub = Sum
+op_left op.And = And
+op_left op.Xor = Xor
+op_left op.Or = Or
+
+abbrev pub op_right : Op → Level
+op_right op.Mul = Primary
+op_right op.Add = Product
+op_right op.Sub = Product
+op_right op.And = Shifted
+op_right op.Xor = And
+op_right op.Or = Xor
+
+-- a shift past 63 is written as one by 0
+abbrev pub amount_layout : ℕ → List ℕ
+amount_layout by = if is_shift (digits_of by) then digits_of by else codes "0"
