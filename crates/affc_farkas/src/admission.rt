@@ -72,13 +72,35 @@ fn find_shape(row: &Form) -> Shape
     }
 }
 
+/// The product, where it is known: most factors are small, and need no test of the product.
+fn product(a: i128, m: i128) -> Option<i128>
+    ensures { IfSome result (λ p. p ≡ a *ℤ m) }
+{
+    match (i64::try_from(a), i64::try_from(m)) {
+        (Ok(a), Ok(m)) => Some(i128::from(a) * i128::from(m)),
+        _ => a.checked_mul(m),
+    }
+}
+
+/// Whether the entries of both lists have the same signs.
+fn same_signs(first: &[i128], second: &[i128]) -> bool
+    requires { length first.now ≡ length second.now }
+{
+    for (j, entry) in first.iter().enumerate() {
+        if entry.signum() != second[j].signum() {
+            return false;
+        }
+    }
+    true
+}
+
 /// Whether `m` times each entry of the first list is seen to be `n` times that of the second.
 fn is_parallel(first: &[i128], m: i128, second: &[i128], n: i128) -> bool
     requires { length first.now ≡ length second.now }
     ensures { IsTrue result → ((j : ℕ) → j < length first.now → slice_index_or first.now j (pos 0) *ℤ m ≡ slice_index_or second.now j (pos 0) *ℤ n) }
 {
     for (j, entry) in first.iter().enumerate() {
-        let (Some(left), Some(right)) = (entry.checked_mul(m), second[j].checked_mul(n)) else {
+        let (Some(left), Some(right)) = (product(*entry, m), product(second[j], n)) else {
             return false;
         };
         if left != right {
@@ -105,7 +127,7 @@ fn factors_of(a: i128, b: i128) -> Option<(i128, i128)>
 fn is_at_most(first: i128, m: i128, second: i128, n: i128) -> Option<bool>
     ensures { IfSome result (λ b. MatchBool b ((first *ℤ m) ≤ℤ (second *ℤ n)) ((second *ℤ n) ≤ℤ (first *ℤ m))) }
 {
-    let (Some(left), Some(right)) = (first.checked_mul(m), second.checked_mul(n)) else {
+    let (Some(left), Some(right)) = (product(first, m), product(second, n)) else {
         return None;
     };
     Some(left <= right)
@@ -119,6 +141,9 @@ fn compare(first: &Form, second: &Form, lead: usize) -> Relation
 {
     let coefs = first.coefs.as_slice();
     let others = second.coefs.as_slice();
+    if !same_signs(coefs, others) {
+        return Relation::Apart;
+    }
     let Some((m, n)) = factors_of(coefs[lead], others[lead]) else {
         return Relation::Apart;
     };
