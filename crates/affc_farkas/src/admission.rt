@@ -207,20 +207,31 @@ fn compare(first: &Form, second: &Form, lead: usize) -> Relation
     }
 }
 
+/// The first place, from this one on, at which the mark stands; past the end where there is none.
+fn next_place(marks: &[u64], mark: u64, from: usize) -> usize
+    ensures { from ≤ result }
+{
+    let mut i = from;
+    while i < marks.len() && marks[i] != mark {
+        i += 1;
+    }
+    i
+}
+
 /// Where a row goes among others, given their marks and its own: it is compared with those alone that share its mark.
 fn find_place(others: &[Kept], marks: &[u64], row: &Form, mark: u64, lead: usize) -> Place
     requires widths { All (λ k. length k.row.coefs ≡ length row.now.coefs) others.now }
     requires lead_in { lead < length row.now.coefs }
     ensures { IsPlace others.now row.now result }
 {
-    for (i, other) in marks.iter().enumerate() {
-        if *other == mark && i < others.len() {
-            match compare(&others[i].row, row, lead) {
-                Relation::Apart => {}
-                Relation::Weaker => return Place::Nowhere,
-                Relation::Stronger => return Place::Instead(i),
-            }
+    let mut i = next_place(marks, mark, 0);
+    while i < others.len() && i < marks.len() {
+        match compare(&others[i].row, row, lead) {
+            Relation::Apart => {}
+            Relation::Weaker => return Place::Nowhere,
+            Relation::Stronger => return Place::Instead(i),
         }
+        i = next_place(marks, mark, i + 1);
     }
     Place::Beside
 }
