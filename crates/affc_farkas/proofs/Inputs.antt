@@ -12,7 +12,10 @@ use Rattle.affc_farkas.specs.Multiples.{entry_of}
 use Rattle.affc_farkas.specs.Rational.{scaled_value}
 use Rattle.affc_farkas.specs.Eliminations.{own, owns, none}
 use Rattle.affc_farkas.specs.Sums.{IsSum}
-use Rattle.affc_farkas.specs.Steps.{IsIn, IsLeft, IsPlain, AreRising, AllMet, IsState}
+use Rattle.affc_farkas.specs.Steps.{IsIn, IsLeft, IsPlain, AreRising, AllMet, IsState, IsStop}
+use Rattle.affc_farkas.specs.Admissions.{IsRefused}
+use Rattle.affc_farkas.specs.declared.kept.Stop.{Stop}
+use Rattle.affc_farkas.specs.declared.kept.Stop.TheVariants.{Memory, Refuted, TooMany, TooWide}
 use Rattle.affc_farkas.specs.declared.kept.Kept.{Kept}
 use Rattle.affc_farkas.proofs.Tables.{in_more, length-owns, all_among}
 
@@ -108,3 +111,12 @@ inputs_state columns rows i live e h = record {
   next_rising = h.rising;
   closed = All-nil (λ q. (q.column < columns) × (get_or (replicate columns true) q.column false ≡ false));
 }
+
+-- why a row isn't admitted is why the elimination ends
+pub refused_stop : (columns : ℕ) (rows : List Affine) (kept : Kept) (stop : Stop) → IsSum columns rows kept.weights.items kept.row → IsRefused kept stop → IsStop columns rows [] stop
+refused_stop columns rows kept Memory s h = tt
+refused_stop columns rows kept (Refuted k) s h =
+    let sum = subst (λ q. IsSum columns rows q.weights.items q.row) (sym h.0) s in
+    record { sum = sum; zeros = λ j lt. h.1 j (omega (arith, lt, sum.width)); negative = h.2 }
+refused_stop columns rows kept TooMany s h = absurd h
+refused_stop columns rows kept (TooWide next) s h = absurd h

@@ -15,3 +15,4 @@ pub mod Parted
 pub mod Eliminated
 pub mod Leaves
 pub mod Inputs
+pub mod Chains

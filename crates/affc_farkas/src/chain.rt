@@ -3,13 +3,15 @@ ghost use Rattle.std.specs.Prelude.{◌≡◌, ℕ, ◌+◌, ◌-◌, ◌*◌, �
 ghost use Rattle.std.specs.List.{All};
 ghost use Rattle.affc_farkas.specs.Multiples.{entry_of, row_at};
 ghost use Rattle.affc_farkas.specs.Proofs.{low_row, high_row};
-ghost use Rattle.affc_farkas.specs.Chain.{frame_row, rows_of, IsChain};
+ghost use Rattle.affc_farkas.specs.Chain.{frame_row, rows_of, IsChain, IsFront};
 ghost use Rattle.affc_system.specs.Systems.{FitsRow, IsRow};
 
 use affc_rows::Form;
 use affc_system::System;
 
 /// The rows that stand above a part of a proof, the newest first.
+///
+/// Each frame also has a link to one further back, so that a row is found in a number of steps that grows with the logarithm of the depth.
 #[derive(Clone, Copy)]
 pub(crate) enum Added<'a> {
     Nothing,
@@ -19,6 +21,7 @@ pub(crate) enum Added<'a> {
         constant: i128,
         number: u64,
         before: &'a Added<'a>,
+        far: &'a Added<'a>,
     },
 }
 
@@ -82,8 +85,8 @@ pub(crate) fn count(added: &Added, system: &System) -> u64
     }
 }
 
-/// The entry of the row with this number at a place.
-pub(crate) fn entry_at(added: &Added, system: &System, number: u32, column: usize) -> i128
+/// The entry of the row with this number, which the chain adds, at a place.
+fn added_entry(added: &Added, system: &System, number: u32, column: usize) -> i128
     requires chain { IsChain system.now.columns system.now.rows added.now }
     requires there { number < length (rows_of system.now.rows added.now) }
     requires column_in { column ≤ system.now.columns }
@@ -98,13 +101,60 @@ pub(crate) fn entry_at(added: &Added, system: &System, number: u32, column: usiz
             constant,
             number: own,
             before,
+            far,
         } => {
             if *own == u64::from(number) {
                 frame_entry(form, *negated, *constant, column)
+            } else if u64::from(number) < count(far, system) {
+                added_entry(far, system, number, column)
             } else {
-                entry_at(before, system, number, column)
+                added_entry(before, system, number, column)
             }
         }
+    }
+}
+
+/// The entry of the row with this number at a place.
+pub(crate) fn entry_at(added: &Added, system: &System, number: u32, column: usize) -> i128
+    requires chain { IsChain system.now.columns system.now.rows added.now }
+    requires there { number < length (rows_of system.now.rows added.now) }
+    requires column_in { column ≤ system.now.columns }
+    ensures value { result ≡ entry_of (row_at system.now.columns (rows_of system.now.rows added.now) number) column }
+    ensures small { unsigned_abs result ≤ 2 ^ 60 }
+{
+    let rows = system.rows();
+    if (number as usize) < rows.len() {
+        small_entry(&rows[number as usize], column)
+    } else {
+        added_entry(added, system, number, column)
+    }
+}
+
+/// A chain that this one goes on from: two steps along the links of its first frame where the two are equally long, else itself.
+///
+/// With these links, `k` frames back are reached in a number of steps that grows with the logarithm of `k`.
+fn far_back<'a>(before: &'a Added<'a>, system: &System) -> &'a Added<'a>
+    requires { IsChain system.now.columns system.now.rows before.now }
+    ensures chain { IsChain system.now.columns system.now.rows result.now }
+    ensures front { IsFront (rows_of system.now.rows result.now) (rows_of system.now.rows before.now) }
+{
+    let Added::More { number, far, .. } = before else {
+        return before;
+    };
+    let Added::More {
+        number: middle,
+        far: last,
+        ..
+    } = &**far
+    else {
+        return before;
+    };
+    let first_step = number.saturating_sub(*middle);
+    let second_step = middle.saturating_add(1).saturating_sub(count(last, system));
+    if first_step == second_step {
+        &**last
+    } else {
+        before
     }
 }
 
@@ -123,6 +173,7 @@ pub(crate) fn with_cut<'a>(row: &'a Form, before: &'a Added<'a>, system: &System
         constant: row.constant,
         number: count(before, system),
         before,
+        far: far_back(&*before, system),
     }
 }
 
@@ -148,6 +199,7 @@ pub(crate) fn with_low<'a>(
         constant: below,
         number: count(before, system),
         before,
+        far: far_back(&*before, system),
     }
 }
 
@@ -173,5 +225,6 @@ pub(crate) fn with_high<'a>(
         constant: above,
         number: count(before, system),
         before,
+        far: far_back(&*before, system),
     }
 }

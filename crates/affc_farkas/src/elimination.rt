@@ -88,11 +88,12 @@ fn inputs(alloc: Global, rows: &[Form], columns: usize) -> Result<Vec<Kept>, Sto
     ensures stop { IfErr result (λ s. IsStop columns rows.now [] s) }
 {
     let mut live = Vec::new(alloc);
+    let mut marks = Vec::new(alloc);
     for i in 0..rows.len() {
         let Ok(kept) = input(alloc, rows, columns, i) else {
             return Err(Stop::Memory);
         };
-        match admit(&mut live, kept) {
+        match admit(&mut live, &mut marks, kept) {
             Ok(()) => {}
             Err(stop) => return Err(stop),
         }

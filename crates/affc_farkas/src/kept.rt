@@ -97,7 +97,9 @@ pub(crate) fn mixed(
     ensures ok { IfOk result (λ v. v.items ≡ mixed_weights s first.now t second.now) }
     ensures wide { IfErr result (λ e. e ≡ WeightFault.Wide → HasFrom (2 ^ 127) (mixed_weights s first.now t second.now)) }
 {
-    let mut sums = Vec::new(alloc);
+    let Ok(mut sums) = Vec::with_capacity(alloc, first.len()) else {
+        return Err(WeightFault::Memory);
+    };
     for (i, w) in first.iter().enumerate() {
         let Some(sum) = mixed_weight(s, *w, t, second[i]) else {
             return Err(WeightFault::Wide);
@@ -120,7 +122,9 @@ pub(crate) fn divided(
     ensures small { IfOk result (λ v. All (λ w. w ≤ 2 ^ 53) v.items) }
     ensures wide { IfErr result (λ e. e ≡ WeightFault.Wide → HasFrom (2 ^ 53 + 1) (map (λ w. w / divisor) before.now)) }
 {
-    let mut weights = Vec::new(alloc);
+    let Ok(mut weights) = Vec::with_capacity(alloc, before.len()) else {
+        return Err(WeightFault::Memory);
+    };
     for weight in before {
         let part = *weight / divisor;
         if part > MOST_WEIGHT {

@@ -6,7 +6,7 @@ ghost use Rattle.std.specs.List.{All, Contains};
 ghost use Rattle.affc_farkas.specs.Multiples.{entry_of};
 ghost use Rattle.affc_farkas.specs.Steps.{AllMet, LeaveRoomAt, AreParted, IsReady, IsState, IsStop, AreEarlier};
 
-use crate::admission::admit;
+use crate::admission::{admit, marks_of};
 use crate::chain::entry;
 use crate::kept::{Kept, Stop, WeightFault, cancelled};
 use crate::pair::Pair;
@@ -68,6 +68,7 @@ fn cross_pair(
     second: &Kept,
     made: &mut Vec<Pair>,
     next: &mut Vec<Kept>,
+    marks: &mut Vec<u64>,
 ) -> Result<(), Stop>
     requires ready { IsReady step.now.columns step.now.rows.now step.now.column step.now.free.now step.now.positive.items step.now.negative.items }
     requires first_in { Contains step.now.positive.items first.now }
@@ -106,7 +107,7 @@ fn cross_pair(
     if made.len() == MOST_PAIRS {
         return Err(Stop::TooMany);
     }
-    admit(next, kept)
+    admit(next, marks, kept)
 }
 
 /// Adds the pairs of a positive row with each negative one.
@@ -116,6 +117,7 @@ fn cross_row(
     first: &Kept,
     made: &mut Vec<Pair>,
     next: &mut Vec<Kept>,
+    marks: &mut Vec<u64>,
 ) -> Result<(), Stop>
     requires ready { IsReady step.now.columns step.now.rows.now step.now.column step.now.free.now step.now.positive.items step.now.negative.items }
     requires first_in { Contains step.now.positive.items first.now }
@@ -129,7 +131,7 @@ fn cross_row(
 {
     let negative = step.negative.as_slice();
     for second in negative {
-        match cross_pair(alloc, &*step, first, second, made, next) {
+        match cross_pair(alloc, &*step, first, second, made, next, marks) {
             Ok(()) => {}
             Err(stop) => return Err(stop),
         }
@@ -143,6 +145,7 @@ pub(crate) fn cross(
     step: &Crossing,
     made: &mut Vec<Pair>,
     next: &mut Vec<Kept>,
+    marks: &mut Vec<u64>,
 ) -> Result<(), Stop>
     requires ready { IsReady step.now.columns step.now.rows.now step.now.column step.now.free.now step.now.positive.items step.now.negative.items }
     requires state { IsState step.now.columns step.now.rows.now step.now.free.now made.old.items step.now.positive.items step.now.negative.items next.old.items }
@@ -154,7 +157,7 @@ pub(crate) fn cross(
 {
     let positive = step.positive.as_slice();
     for first in positive {
-        match cross_row(alloc, &*step, first, made, next) {
+        match cross_row(alloc, &*step, first, made, next, marks) {
             Ok(()) => {}
             Err(stop) => return Err(stop),
         }
@@ -193,6 +196,9 @@ pub(crate) fn eliminate(
         negative,
     } = parts;
     let mut next = flat;
+    let Ok(mut marks) = marks_of(alloc, next.as_slice()) else {
+        return Err(Stop::Memory);
+    };
     let step = Crossing {
         rows: &*rows,
         columns,
@@ -201,7 +207,7 @@ pub(crate) fn eliminate(
         positive,
         negative,
     };
-    match cross(alloc, &step, made, &mut next) {
+    match cross(alloc, &step, made, &mut next, &mut marks) {
         Ok(()) => Ok(next),
         Err(stop) => Err(stop),
     }

@@ -145,18 +145,23 @@ fn splits_on_nothing(rt: HostRuntime) -> Result<(), Fail> {
 fn nested_ten_thousand_deep(rt: HostRuntime) -> Result<(), Fail> {
     let alloc = rt.alloc();
     let system = plane(alloc, &[[1, 0, -3], [-1, 0, 2]])?;
-    let mut proof = leaf(alloc, &[(0, 1), (1, 1)])?;
-    for _ in 0..5_000 {
+    let mut proof = leaf(alloc, &[(1, 1), (5_001, 1)])?;
+    for i in 0..5_000 {
         proof = Proof::Cut {
             by: multipliers(alloc, &[(0, 1)])?,
             g: 1,
             row: form(alloc, &[1, 0], -3)?,
             rest: Box::new(alloc, proof)?,
         };
+        let first = if i == 4_999 {
+            [(0, 1), (1, 1)]
+        } else {
+            [(1, 1), (3, 1)]
+        };
         proof = Proof::Split {
             form: form(alloc, &[0, 1], 0)?,
             at: 0,
-            low: Box::new(alloc, leaf(alloc, &[(0, 1), (1, 1)])?)?,
+            low: Box::new(alloc, leaf(alloc, &first)?)?,
             high: Box::new(alloc, proof)?,
         };
     }

@@ -1,4 +1,4 @@
-use Rattle.std.proofs.Common.{arith, ◌≡◌, ◌∙◌, sym, subst, ◌≤ℤ◌, ℤ, Bool, true, false, refl}
+use Rattle.std.proofs.Common.{rules, arith, ◌≡◌, ◌∙◌, subst, ◌≤ℤ◌, ℤ, Bool, true, false, refl}
 use Rattle.std.specs.Prelude.{FitsSigned, MatchBool}
 use Rattle.std.specs.Int.{w128}
 use Rattle.std.proofs.lemmas.Int.{ints, to_z-of_z}
@@ -20,6 +20,6 @@ returns c =
     let fn : FitsSigned w128 c.args.n = c.ranges.n in
     let e = c.in-Some-Some.ensures in
     let e' = c.in-Some-Some.ensures' in
-    let fl : FitsSigned w128 c.in-Some-Some.left = subst (FitsSigned w128) (sym e.1) e.0 in
-    let fr : FitsSigned w128 c.in-Some-Some.right = subst (FitsSigned w128) (sym e'.1) e'.0 in
-    ordered _ _ _ _ (to_z-of_z w128 c.in-Some-Some.left fl ∙ simp to_z-of_z at e.1) (to_z-of_z w128 c.in-Some-Some.right fr ∙ simp to_z-of_z at e'.1)
+    let fl : FitsSigned w128 c.in-Some-Some.left = search rules in
+    let fr : FitsSigned w128 c.in-Some-Some.right = search rules in
+    ordered _ _ _ _ (to_z-of_z w128 c.in-Some-Some.left fl ∙ simp to_z-of_z at e) (to_z-of_z w128 c.in-Some-Some.right fr ∙ simp to_z-of_z at e')

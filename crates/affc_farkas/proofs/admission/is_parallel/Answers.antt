@@ -1,4 +1,4 @@
-use Rattle.std.proofs.Common.{rules, ◌∙◌, sym, ap, subst, below_more, pos, get_or}
+use Rattle.std.proofs.Common.{rules, ◌∙◌, sym, ap, below_more, pos, get_or}
 use Rattle.std.specs.Prelude.{FitsSigned}
 use Rattle.std.specs.Int.{w128}
 use Rattle.std.proofs.lemmas.Int.{to_z-of_z}
@@ -13,8 +13,8 @@ loop-j-preserved c =
     let fb : FitsSigned w128 (get_or c.args.second.now c.loop-j.j (pos 0)) = search rules in
     let e = c.in-Some-Some.ensures in
     let e' = c.in-Some-Some.ensures' in
-    let fl : FitsSigned w128 c.in-Some-Some.left = subst (FitsSigned w128) (sym e.1) e.0 in
-    let fr : FitsSigned w128 c.in-Some-Some.right = subst (FitsSigned w128) (sym e'.1) e'.0 in
+    let fl : FitsSigned w128 c.in-Some-Some.left = search rules in
+    let fr : FitsSigned w128 c.in-Some-Some.right = search rules in
     let same = sym (to_z-of_z w128 c.in-Some-Some.left fl) ∙ ap (to_z w128) c.if-left-right.false ∙ to_z-of_z w128 c.in-Some-Some.right fr in
     let inv = simp to_z-of_z at c.loop-j.invariant in
-    simp to_z-of_z (below_more _ _ inv (sym (simp to_z-of_z at e.1) ∙ same ∙ simp to_z-of_z at e'.1))
+    simp to_z-of_z (below_more _ _ inv (sym (simp to_z-of_z at e) ∙ same ∙ simp to_z-of_z at e'))
