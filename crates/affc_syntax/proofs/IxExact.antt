@@ -260,3 +260,9 @@ pub dims_exact : (prelude : Bool) (room : ℕ) (symbols : List code.Symbol) (n :
 dims_exact prelude room symbols n le =
     dims_is prelude (length symbols) room (drop n (map seen symbols)) (no_longer symbols n)
     ∙ ap (λ at. mapped (dims_draft at) (r.read_dims prelude room (drop n (map seen symbols)))) (at_number symbols n le)
+
+pub inside_exact : (prelude : Bool) (room : ℕ) (symbols : List code.Symbol) (n : ℕ) → n ≤ length symbols
+    → inside prelude (length symbols) room (drop n (map seen symbols)) ≡ mapped (ix_draft n) (ix_inside prelude room (drop n (map seen symbols)))
+inside_exact prelude room symbols n le =
+    inside_is prelude (length symbols) room (drop n (map seen symbols)) (no_longer symbols n)
+    ∙ ap (λ at. mapped (ix_draft at) (ix_inside prelude room (drop n (map seen symbols)))) (at_number symbols n le)

@@ -1,11 +1,14 @@
 //! Reading conditions: comparisons between `&&`, and conditions in parentheses, which become part of the one list.
 
-ghost use Rattle.std.specs.Prelude.{◌≡◌, ◌++◌, drop, length, map, IfOk};
+ghost use Rattle.std.specs.Prelude.{◌≡◌, ◌++◌, ◌≤◌, drop, length, map, IfOk};
 ghost use Rattle.affc_draft.specs.Drafts.{compare, ix};
 ghost use Rattle.affc_draft.specs.Symbols.{seen};
+ghost use Rattle.affc_grammar.specs.Draft as d;
+ghost use Rattle.affc_grammar.specs.Reading as grammar;
 ghost use Rattle.affc_syntax.specs.CondReading as reading;
 ghost use Rattle.affc_syntax.specs.CondReading.{mixed_seen};
 ghost use Rattle.affc_syntax.specs.IxReading.{inside as ix_inside};
+ghost use Rattle.affc_syntax.specs.Readers as readers;
 ghost use Rattle.affc_syntax.specs.Readers.{Gives};
 
 use crate::ahead::{Answer, Stop, behind, past_mark, past_relation};
@@ -223,7 +226,7 @@ fn mixed_inside(
 }
 
 /// The conditions that stand here, in one list.
-pub fn read_conds(
+pub fn conditions(
     alloc: Global,
     prelude: bool,
     room: u32,
@@ -234,4 +237,18 @@ pub fn read_conds(
 {
     let (conds, next) = condition(alloc, prelude, room, symbols, next)?;
     more_conditions(alloc, prelude, room, conds, symbols, next)
+}
+
+/// The conditions that stand at the token of this number, in one list, and the number behind them.
+pub fn read_conds(
+    alloc: Global,
+    prelude: bool,
+    room: u32,
+    symbols: &[Symbol<'_>],
+    next: usize,
+) -> Answer<Items<CompareDraft>>
+    requires { next ≤ length symbols.now }
+    ensures { Gives (map seen symbols.now) (map compare) result (readers.mapped (d.conds_draft next) (grammar.read_conds prelude room (drop next (map seen symbols.now)))) }
+{
+    conditions(alloc, prelude, room, symbols, next)
 }

@@ -452,6 +452,20 @@ pub fn read_expression(
     expression(alloc, prelude, room, symbols, next)
 }
 
+/// The expression that stands at the token of this number, behind a bracket that was opened where `room` could be, and the number behind it.
+pub fn read_inside(
+    alloc: Global,
+    prelude: bool,
+    room: u32,
+    symbols: &[Symbol<'_>],
+    next: usize,
+) -> Answer<IxDraft>
+    requires { next ≤ length symbols.now }
+    ensures { Gives (map seen symbols.now) ix result (readers.mapped (d.ix_draft next) (grammar.ix_inside prelude room (drop next (map seen symbols.now)))) }
+{
+    inside(alloc, prelude, room, symbols, next)
+}
+
 /// The dimensions that stand at the token of this number, and the number behind them.
 pub fn read_dims(
     alloc: Global,

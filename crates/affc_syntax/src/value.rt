@@ -4,6 +4,8 @@ ghost use Rattle.std.specs.Prelude.{◌≡◌, ◌-◌, ◌+◌, ◌≤◌, drop
 ghost use Rattle.affc_draft.specs.Drafts.{ix, value};
 ghost use Rattle.affc_draft.specs.Symbols.{seen};
 ghost use Rattle.affc_grammar.specs.Draft as d;
+ghost use Rattle.affc_grammar.specs.Reading as grammar;
+ghost use Rattle.affc_syntax.specs.Readers as readers;
 ghost use Rattle.affc_syntax.specs.Readers.{Gives};
 ghost use Rattle.affc_syntax.specs.ValueReading as reading;
 ghost use Rattle.affc_syntax.specs.ValueReading.{value_inside as inner};
@@ -351,7 +353,7 @@ fn value_inside(
 }
 
 /// The value that stands here.
-pub fn read_value(
+pub fn whole_value(
     alloc: Global,
     prelude: bool,
     room: u32,
@@ -361,4 +363,18 @@ pub fn read_value(
     ensures { Gives (map seen symbols.now) value result (reading.value prelude (length symbols.now) room (drop next (map seen symbols.now))) }
 {
     value_level(alloc, prelude, room, LOOSEST, symbols, next)
+}
+
+/// The value that stands at the token of this number, and the number behind it.
+pub fn read_value(
+    alloc: Global,
+    prelude: bool,
+    room: u32,
+    symbols: &[Symbol<'_>],
+    next: usize,
+) -> Answer<ValueDraft>
+    requires { next ≤ length symbols.now }
+    ensures { Gives (map seen symbols.now) value result (readers.mapped (d.value_draft next) (grammar.read_value prelude room (drop next (map seen symbols.now)))) }
+{
+    whole_value(alloc, prelude, room, symbols, next)
 }
