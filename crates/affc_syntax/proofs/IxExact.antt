@@ -1,84 +1,22 @@
 -- The drafts that are read are those of the grammar's expressions, read by the grammar.
-use Rattle.std.proofs.Common.{◌≡◌, ℕ, zero, suc, ◌+◌, ◌-◌, Bool, true, false, codes, ◌≤◌, ◌<◌, List, [], ◌∷◌, ◌++◌, length, drop, map, length-drop, Option, Some, None, IsTrue, if◌then◌else◌, Result, Ok, Err, refl, sym, ap, ◌∙◌, arith, length-append}
+use Rattle.std.proofs.Common.{◌≡◌, ℕ, zero, suc, ◌+◌, ◌-◌, Bool, true, false, codes, ◌≤◌, List, [], ◌∷◌, ◌++◌, length, drop, map, Option, Some, None, IsTrue, if◌then◌else◌, Ok, Err, refl, sym, ap, ◌∙◌, arith, length-append}
 use Rattle.std.specs.Option.{option_map, is_some}
 use Rattle.affc_lex.specs.Bytes.{decimal}
 use Rattle.affc_grammar.specs.Grammar as g
 use Rattle.affc_grammar.specs.Grammar.{Symbol, Name, is_divisor, IxText, TermText, FactorText, AtomText, DimsText, mark, dims_symbols, ix_symbols, term_symbols, factor_symbols, atom_symbols}
 use Rattle.affc_grammar.specs.Draft.{IxDraft, literal, name, negated, sum, difference, product, grouped, chosen, divided, ix_draft, term_draft, factor_draft, atom_draft, dims_draft}
-use Rattle.affc_grammar.specs.Limits.{count_open}
-use Rattle.affc_grammar.specs.Reader.{Stop, At, Deep, Read, Reader, then_read, on_some, give, fail, deep, after, either, on, many, all}
+use Rattle.affc_grammar.specs.Reader.{At, Reader, then_read, give, fail, deep, after, on}
 use Rattle.affc_grammar.specs.Reading as r
 use Rattle.affc_grammar.specs.Reading.{Callee, of_choice, of_rounding, this_mark, any_word, any_number, sum_sign, of_kind, is_number_kind, choose, callees, ix_inside}
-use Rattle.affc_grammar.proofs.Rules.{Whole, atom_rule, factor_rule, times_rule, factors_rule, term_rule, plus_rule, terms_rule, ix_inside_rule, dim_rule}
+use Rattle.affc_grammar.proofs.Rules.{Whole, factor_rule, times_rule, term_rule, plus_rule, ix_inside_rule, dim_rule}
 use Rattle.affc_grammar.proofs.Tests.{sign_mark}
-use Rattle.std.proofs.lemmas.List.{length-map}
 use Rattle.affc_draft.specs.declared.symbol.Symbol as code
 use Rattle.affc_draft.specs.Symbols.{seen}
-use Rattle.affc_syntax.specs.Ahead.{past, with_rest, number_value, divisor_value}
+use Rattle.affc_syntax.specs.Ahead.{past, number_value, divisor_value}
 use Rattle.affc_syntax.specs.Callees.{callee}
-use Rattle.affc_syntax.specs.IxReading.{mapped, on_past, closed, more, all_more, group, choice_call, rounding_call, divisor, call, called, atom, factor, times, factors, term, joined, added, terms, expression, inside, dim, dims}
-
-mapped_then : {A B D E : Type 0} (x : Read Symbol A) (d : A → D) (f : A → Reader Symbol B) (h : D → Reader Symbol E) (e : B → E) → ((a : A) (us : List Symbol) → x ≡ Ok (a, us) → h (d a) us ≡ mapped e (f a us)) → then_read (mapped d x) h ≡ mapped e (then_read x f)
-mapped_then (Ok x) d f h e k = k x.0 x.1 refl
-mapped_then (Err (At ts)) d f h e k = refl
-mapped_then (Err Deep) d f h e k = refl
-
-then_is : {A B D E : Type 0} (y : Read Symbol D) (x : Read Symbol A) (d : A → D) (f : A → Reader Symbol B) (h : D → Reader Symbol E) (e : B → E) → y ≡ mapped d x → ((a : A) (us : List Symbol) → x ≡ Ok (a, us) → h (d a) us ≡ mapped e (f a us)) → then_read y h ≡ mapped e (then_read x f)
-then_is y x d f h e q k = ap (λ z. then_read z h) q ∙ mapped_then x d f h e k
-
--- by the first token, as the grammar's readers go
-either_past : {A K : Type 0} (test : Symbol → Option K) (next : K → Reader Symbol A) (other : Reader Symbol A) (ts : List Symbol) → either test next other ts ≡ on_past (past test ts) next (other ts)
-unfolding either
-either_past test next other [] = refl
-either_past {A} {K} test next other (x ∷ ts) = of_test (test x)
-  where
-    of_test : (o : Option K) → on_some o (λ k. next k ts) (other (x ∷ ts)) ≡ on_past (with_rest ts o) next (other (x ∷ ts))
-    of_test None = refl
-    of_test (Some k) = refl
-
-past_mapped : {K A D : Type 0} (o : Option (K × List Symbol)) (f : K → Reader Symbol A) (h : K → Reader Symbol D) (e : A → D) (x : Read Symbol A) (y : Read Symbol D) → ((k : K) (us : List Symbol) → o ≡ Some (k, us) → h k us ≡ mapped e (f k us)) → y ≡ mapped e x → on_past o h y ≡ mapped e (on_past o f x)
-past_mapped None f h e x y k q = q
-past_mapped (Some p) f h e x y k q = k p.0 p.1 refl
-
--- by the first token, on both sides
-either_mapped : {K A D : Type 0} (test : Symbol → Option K) (f : K → Reader Symbol A) (other : Reader Symbol A) (h : K → Reader Symbol D) (y : Read Symbol D) (e : A → D) (ts : List Symbol) → ((k : K) (us : List Symbol) → past test ts ≡ Some (k, us) → h k us ≡ mapped e (f k us)) → y ≡ mapped e (other ts) → on_past (past test ts) h y ≡ mapped e (either test f other ts)
-either_mapped test f other h y e ts k q = past_mapped (past test ts) f h e (other ts) y k q ∙ ap (mapped e) (sym (either_past test f other ts))
-
-some_pair : {K : Type 0} (k : K) (us : List Symbol) (l : K) (vs : List Symbol) → ◌≡◌ {A = Option (K × List Symbol)} (Some (k, us)) (Some (l, vs)) → us ≡ vs
-some_pair {K} k us l vs e = let pair : ◌≡◌ {A = K × List Symbol} (k, us) (l, vs) = cc in ap (λ p. p.1) pair
-
-past_one : {K : Type 0} (test : Symbol → Option K) (ts : List Symbol) (k : K) (us : List Symbol) → past test ts ≡ Some (k, us) → length ts ≡ length us + 1
-past_one test [] k us e = absurd (cc)
-past_one {K} test (x ∷ ts) k us e = of_test (test x) e
-  where
-    of_test : (o : Option K) → with_rest ts o ≡ Some (k, us) → suc (length ts) ≡ length us + 1
-    of_test None e = absurd (cc)
-    of_test (Some l) e = omega (arith, ap length (some_pair l ts k us e))
-
-failed : {A D : Type 0} (e : A → D) (ts : List Symbol) → ◌≡◌ {A = Read Symbol D} (Err (At ts)) (mapped e (fail ts))
-unfolding fail
-failed e ts = refl
-
--- where the two sides take the token in another way
-past_turned : {K L : Type 0} (test : Symbol → Option K) (turned : Symbol → Option L) (c : K → L) → ((x : Symbol) → turned x ≡ option_map c (test x)) → (ts : List Symbol) → past turned ts ≡ option_map (λ p. (c p.0, p.1)) (past test ts)
-past_turned test turned c same [] = refl
-past_turned {K} test turned c same (x ∷ ts) = ap (with_rest ts) (same x) ∙ of_test (test x)
-  where
-    of_test : (o : Option K) → with_rest ts (option_map c o) ≡ option_map (λ p. (c p.0, p.1)) (with_rest ts o)
-    of_test None = refl
-    of_test (Some k) = refl
-
-turned_mapped : {K L A D : Type 0} (o : Option (K × List Symbol)) (c : K → L) (f : K → Reader Symbol A) (h : L → Reader Symbol D) (e : A → D) (x : Read Symbol A) (y : Read Symbol D) → ((k : K) (us : List Symbol) → o ≡ Some (k, us) → h (c k) us ≡ mapped e (f k us)) → y ≡ mapped e x
-    → on_past (option_map (λ p. (c p.0, p.1)) o) h y ≡ mapped e (on_past o f x)
-turned_mapped None c f h e x y k q = q
-turned_mapped (Some p) c f h e x y k q = k p.0 p.1 refl
-
-either_turned : {K L A D : Type 0} (test : Symbol → Option K) (turned : Symbol → Option L) (c : K → L) → ((x : Symbol) → turned x ≡ option_map c (test x)) → (f : K → Reader Symbol A) (other : Reader Symbol A) (h : L → Reader Symbol D) (y : Read Symbol D) (e : A → D) (ts : List Symbol)
-    → ((k : K) (us : List Symbol) → past test ts ≡ Some (k, us) → h (c k) us ≡ mapped e (f k us)) → y ≡ mapped e (other ts) → on_past (past turned ts) h y ≡ mapped e (either test f other ts)
-either_turned test turned c same f other h y e ts k q =
-    ap (λ o. on_past o h y) (past_turned test turned c same ts)
-    ∙ turned_mapped (past test ts) c f h e (other ts) y k q
-    ∙ ap (mapped e) (sym (either_past test f other ts))
+use Rattle.affc_syntax.specs.Readers.{mapped, closed}
+use Rattle.affc_syntax.specs.IxReading.{group, choice_call, rounding_call, call, called, atom, factor, times, factors, term, joined, added, terms, expression, inside, dim, dims}
+use Rattle.affc_syntax.proofs.Draws.{Draws, Placed, mapped_then, then_is, either_mapped, past_one, failed, either_turned, closed_is, all_is, lifted, then_past, at_number, no_longer}
 
 number_turned : (x : Symbol) → number_value x ≡ option_map decimal (any_number x)
 number_turned x = by_kind (is_number_kind x.kind)
@@ -87,7 +25,7 @@ number_turned x = by_kind (is_number_kind x.kind)
     by_kind true = refl
     by_kind false = refl
 
-holding_some : (b : Bool) → is_some (r.holding b) ≡ b
+pub holding_some : (b : Bool) → is_some (r.holding b) ≡ b
 holding_some true = refl
 holding_some false = refl
 
@@ -105,50 +43,7 @@ divisor_turned x = by_kind (is_number_kind x.kind)
     by_kind true = ap (λ b. if b then Some (decimal x.bytes) else None) (sym (holding_some (is_divisor x.bytes))) ∙ divisor_of x.bytes (r.holding (is_divisor x.bytes))
     by_kind false = refl
 
--- a mark that closes what was read
-closed_is : {A D : Type 0} (bytes : List ℕ) (a : A) (b : D) (e : A → D) (ts : List Symbol) → b ≡ e a → closed bytes b ts ≡ mapped e (on (this_mark bytes) (λ _. give a) ts)
-unfolding give fail
-closed_is bytes a b e ts q = either_mapped (this_mark bytes) (λ _. give a) fail (λ _ us. Ok (b, us)) (Err (At ts)) e ts (λ k us p. ap (λ x. Ok (x, us)) q) refl
-
--- ---- Loops
-
-module _ {A D K : Type 0} (test : Symbol → Option K) (turn : K → A → Reader Symbol A) (drawn : K → D → Reader Symbol D) (d : A → D) (P : A → List Symbol → Type 0)
-    (same : (k : K) (left : A) (ts us : List Symbol) → past test ts ≡ Some (k, us) → P left ts → drawn k (d left) us ≡ mapped d (turn k left us))
-    (keeps : (k : K) (left : A) (ts us : List Symbol) → past test ts ≡ Some (k, us) → P left ts → (b : A) (vs : List Symbol) → turn k left us ≡ Ok (b, vs) → P b vs) where
-  more_is : (n : ℕ) (left : A) (ts : List Symbol) → P left ts → more test drawn n (d left) ts ≡ mapped d (many test turn n left ts)
-  unfolding many give after
-  more_is zero left ts p = refl
-  more_is (suc n) left ts p =
-      either_mapped test (λ k. after (turn k left) (many test turn n)) (give left) (λ k us. then_read (drawn k (d left) us) (more test drawn n)) (Ok (d left, ts)) d ts
-      (λ k us e.
-      ap (λ x. then_read x (more test drawn n)) (same k left ts us e p)
-      ∙ mapped_then (turn k left us) d (many test turn n) (more test drawn n) d (λ a vs q. more_is n a vs (keeps k left ts us e p a vs q)))
-      refl
-
-  all_is : (left : A) (ts : List Symbol) → P left ts → all_more test drawn (d left) ts ≡ mapped d (all test turn left ts)
-  unfolding all all_more
-  all_is left ts p = more_is (length ts) left ts p
-
 -- ---- Expressions
-
--- what a reader of drafts is to the grammar's
-abbrev pub Draws : {A D : Type 0} → (end : ℕ) → (ℕ → A → D) → Reader Symbol D → Reader Symbol A → Type 0
-Draws end draft q p = (ts : List Symbol) → length ts ≤ end → q ts ≡ mapped (draft (end - length ts)) (p ts)
-
--- so many tokens stand between this number and those that are left
-record Placed (end p n : ℕ) (ts : List Symbol) : Type 0 where
-  within : length ts ≤ end
-  place : end - length ts ≡ p + n
-
-lifted : {A B D : Type 0} (x : Read Symbol A) (c : A → B) (d : A → D) (e : B → D) → ((a : A) → e (c a) ≡ d a) → mapped e (then_read x (λ a. give (c a))) ≡ mapped d x
-unfolding give
-lifted (Ok x) c d e h = ap (λ b. Ok (b, x.1)) (h x.0)
-lifted (Err (At ts)) c d e h = refl
-lifted (Err Deep) c d e h = refl
-
-then_past : {D : Type 0} (o : Option (ℕ × List Symbol)) (ts : List Symbol) (f : ℕ → Reader Symbol D) → then_read (on_past o (λ by us. Ok (by, us)) (Err (At ts))) f ≡ on_past o f (Err (At ts))
-then_past None ts f = refl
-then_past (Some p) ts f = refl
 
 module _ (end : ℕ) {room : ℕ} (inner : Reader Symbol (IxText true)) (drawn : Reader Symbol IxDraft) (rule : Whole room 1 ix_symbols inner) (h : Draws end ix_draft drawn inner) where
   choice_is : (at : ℕ) (f : g.Choice) (us : List Symbol) → length us ≤ end → end - length us ≡ at + 2 → choice_call at drawn f us ≡ mapped (atom_draft at) (r.read_call inner (of_choice f) us)
@@ -229,7 +124,7 @@ module _ (end : ℕ) {prelude : Bool} {room : ℕ} (inner : Reader Symbol (IxTex
       group_is at us less place)
       (failed (atom_draft at) ts)))
 
-  factor_is : Draws end factor_draft (factor prelude end drawn) (r.read_factor prelude inner)
+  pub factor_is : Draws end factor_draft (factor prelude end drawn) (r.read_factor prelude inner)
   unfolding after give
   factor_is ts le =
       let at = end - length ts in
@@ -265,10 +160,10 @@ module _ (end : ℕ) {prelude : Bool} {room : ℕ} (inner : Reader Symbol (IxTex
       let back = length-append (term_symbols b) vs in
       record { within = omega arith; place = omega arith }
 
-  factors_is : (p : ℕ) (a : FactorText prelude) (ts : List Symbol) → Placed end p (length (factor_symbols a)) ts → factors prelude end drawn (factor_draft p a) ts ≡ mapped (term_draft p) (r.read_factors prelude inner a ts)
+  pub factors_is : (p : ℕ) (a : FactorText prelude) (ts : List Symbol) → Placed end p (length (factor_symbols a)) ts → factors prelude end drawn (factor_draft p a) ts ≡ mapped (term_draft p) (r.read_factors prelude inner a ts)
   factors_is p a ts here = all_is (this_mark (codes "*")) (r.times_more prelude inner) (times prelude end drawn) (term_draft p) (λ left us. Placed end p (length (term_symbols left)) us) (times_is p) (times_keeps p) (g.factor a) ts here
 
-  term_is : Draws end term_draft (term prelude end drawn) (r.read_term prelude inner)
+  pub term_is : Draws end term_draft (term prelude end drawn) (r.read_term prelude inner)
   unfolding after
   term_is ts le =
       let at = end - length ts in
@@ -305,7 +200,7 @@ module _ (end : ℕ) {prelude : Bool} {room : ℕ} (inner : Reader Symbol (IxTex
       let back = length-append (ix_symbols b) vs in
       record { within = omega arith; place = omega arith }
 
-  terms_is : (p : ℕ) (a : TermText prelude) (ts : List Symbol) → Placed end p (length (term_symbols a)) ts → terms prelude end drawn (term_draft p a) ts ≡ mapped (ix_draft p) (r.read_terms prelude inner a ts)
+  pub terms_is : (p : ℕ) (a : TermText prelude) (ts : List Symbol) → Placed end p (length (term_symbols a)) ts → terms prelude end drawn (term_draft p a) ts ≡ mapped (ix_draft p) (r.read_terms prelude inner a ts)
   terms_is p a ts here = all_is sum_sign (r.sum_more prelude inner) (added prelude end drawn) (ix_draft p) (λ left us. Placed end p (length (ix_symbols left)) us) (added_is p) (added_keeps p) (g.term a) ts here
 
   pub expression_is : Draws end ix_draft (expression prelude end drawn) (r.read_sum prelude inner)
@@ -354,18 +249,6 @@ module _ (prelude : Bool) (end room : ℕ) where
 
 -- ---- At the token of a number
 
-at_number : (symbols : List code.Symbol) (n : ℕ) → n ≤ length symbols → length symbols - length (drop n (map seen symbols)) ≡ n
-at_number symbols n le =
-    let all : length (map seen symbols) ≡ length symbols = length-map symbols seen in
-    let m = length-drop n (map seen symbols) in
-    omega (arith, le, all, m)
-
-no_longer : (symbols : List code.Symbol) (n : ℕ) → length (drop n (map seen symbols)) ≤ length symbols
-no_longer symbols n =
-    let all : length (map seen symbols) ≡ length symbols = length-map symbols seen in
-    let m = length-drop n (map seen symbols) in
-    omega (arith, all, m)
-
 pub expression_exact : (prelude : Bool) (room : ℕ) (symbols : List code.Symbol) (n : ℕ) → n ≤ length symbols
     → expression prelude (length symbols) (inside prelude (length symbols) room) (drop n (map seen symbols)) ≡ mapped (ix_draft n) (r.read_ix prelude room (drop n (map seen symbols)))
 expression_exact prelude room symbols n le =
@@ -377,3 +260,9 @@ pub dims_exact : (prelude : Bool) (room : ℕ) (symbols : List code.Symbol) (n :
 dims_exact prelude room symbols n le =
     dims_is prelude (length symbols) room (drop n (map seen symbols)) (no_longer symbols n)
     ∙ ap (λ at. mapped (dims_draft at) (r.read_dims prelude room (drop n (map seen symbols)))) (at_number symbols n le)
+
+pub inside_exact : (prelude : Bool) (room : ℕ) (symbols : List code.Symbol) (n : ℕ) → n ≤ length symbols
+    → inside prelude (length symbols) room (drop n (map seen symbols)) ≡ mapped (ix_draft n) (ix_inside prelude room (drop n (map seen symbols)))
+inside_exact prelude room symbols n le =
+    inside_is prelude (length symbols) room (drop n (map seen symbols)) (no_longer symbols n)
+    ∙ ap (λ at. mapped (ix_draft at) (ix_inside prelude room (drop n (map seen symbols)))) (at_number symbols n le)

@@ -1,2 +1,9 @@
+pub mod CondExact
+pub mod CondReads
+pub mod Draws
 pub mod IxExact
 pub mod IxReads
+pub mod Readers
+pub mod ValueExact
+pub mod ValueMade
+pub mod ValueReads

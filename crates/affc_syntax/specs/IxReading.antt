@@ -1,53 +1,14 @@
--- Reading drafts of whole-number expressions. Only the crate's private clauses cite it: `end` is the number behind the last token, so that the first
--- of some tokens at the text's end has the number `end - length tokens`.
-use Rattle.std.specs.Prelude.{[], ◌∷◌, ◌++◌, ◌≡◌, ℕ, zero, suc, ◌-◌, Bool, true, false, List, length, drop, codes, Option, Some, None, Result, Ok, Err}
+-- Reading drafts of whole-number expressions and dimensions. `end` is the number behind the last token, so that the first of some tokens at the
+-- text's end has the number `end - length tokens`.
+use Rattle.std.specs.Prelude.{[], ◌∷◌, ◌++◌, ℕ, zero, suc, ◌-◌, Bool, true, false, List, length, codes, Option, Some, None, Ok, Err}
 use Rattle.affc_grammar.specs.Grammar as g
 use Rattle.affc_grammar.specs.Grammar.{Symbol, Name, is_divisor}
 use Rattle.affc_grammar.specs.Draft.{IxDraft, literal, name, negated, sum, difference, product, grouped, chosen, divided}
-use Rattle.affc_grammar.specs.Reader.{At, Deep, Read, Reader, then_read}
+use Rattle.affc_grammar.specs.Reader.{At, Deep, Reader, then_read}
 use Rattle.affc_grammar.specs.Reading.{this_mark, any_word, Callee, of_choice, of_rounding, sum_sign}
-use Rattle.affc_syntax.specs.declared.ahead.Stop as stop
-use Rattle.affc_syntax.specs.declared.ahead.Stop.TheVariants as s
 use Rattle.affc_syntax.specs.Callees.{callee}
 use Rattle.affc_syntax.specs.Ahead.{past, number_value, divisor_value}
-
-abbrev pub on_past : {K A : Type 0} → Option (K × List Symbol) → (K → Reader Symbol A) → Read Symbol A → Read Symbol A
-on_past None next other = other
-on_past (Some r) next other = next r.0 r.1
-
--- behind this mark, with what was read before it
-abbrev pub closed : {A : Type 0} → List ℕ → A → Reader Symbol A
-closed mark a ts = on_past (past (this_mark mark) ts) (λ _ us. Ok (a, us)) (Err (At ts))
-
--- what was read, seen in another way
-abbrev pub mapped : {A D : Type 0} → (A → D) → Read Symbol A → Read Symbol D
-mapped f (Ok x) = Ok (f x.0, x.1)
-mapped f (Err (At ts)) = Err (At ts)
-mapped f (Err Deep) = Err Deep
-
--- ---- What a function answers, where memory is enough
-
-abbrev pub Fails : {D : Type 0} → List Symbol → stop.Stop → Read Symbol D → Type 0
-Fails ss s.Memory read = Unit {0}
-Fails ss s.Deep read = read ≡ Err Deep
-Fails ss (s.At next) read = read ≡ Err (At (drop next ss))
-
--- of all symbols, what was read and the number of the symbol behind it
-abbrev pub Gives : {T D : Type 0} → List Symbol → (T → D) → Result (T × ℕ) stop.Stop → Read Symbol D → Type 0
-Gives ss see (Ok r) read = read ≡ Ok (see r.0, drop r.1 ss)
-Gives ss see (Err f) read = Fails ss f read
-
--- ---- Again and again
-
-abbrev pub more : {A K : Type 0} → (Symbol → Option K) → (K → A → Reader Symbol A) → ℕ → A → Reader Symbol A
-more test turn zero left ts = Ok (left, ts)
-more test turn (suc n) left ts = on_past (past test ts) (λ k us. then_read (turn k left us) (more test turn n)) (Ok (left, ts))
-
-unfoldable pub all_more : {A K : Type 0} → (Symbol → Option K) → (K → A → Reader Symbol A) → A → Reader Symbol A
-all_more test turn left ts = more test turn (length ts) left ts
-
-abbrev pub itself : ℕ → ℕ
-itself n = n
+use Rattle.affc_syntax.specs.Readers.{on_past, closed, all_more}
 
 abbrev pub divisor : Reader Symbol ℕ
 divisor ts = on_past (past divisor_value ts) (λ by us. Ok (by, us)) (Err (At ts))

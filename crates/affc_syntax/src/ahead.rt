@@ -2,13 +2,16 @@
 
 ghost use Rattle.std.specs.Prelude.{◌≡◌, ◌<◌, ◌+◌, ◌∷◌, [], drop, length, map, None, Some, MatchOption, MatchResult, is_some};
 ghost use Rattle.affc_lex.specs.Bytes as bytes;
+ghost use Rattle.affc_grammar.specs.Grammar as grammar;
 ghost use Rattle.affc_grammar.specs.Reading as tests;
 ghost use Rattle.affc_draft.specs.Symbols.{seen};
 ghost use Rattle.affc_syntax.specs.Ahead as ahead;
 ghost use Rattle.affc_syntax.specs.Callees as callees;
+ghost use Rattle.affc_syntax.specs.ValueTests as values;
 ghost use Rattle.affc_syntax.specs.declared.ahead.Stop.TheVariants as stop;
 ghost use Rattle.std.specs.Option.{option_map};
 
+use affc_ast::tree::{Op, Rel};
 use affc_draft::draft::{Choice, Rounding};
 use affc_draft::symbol::{Symbol, is_mark_kind, is_word_kind};
 use affc_lex::token::Kind;
@@ -27,7 +30,7 @@ fn is_mark(symbol: &Symbol<'_>, mark: &[u8]) -> bool
 }
 
 /// The token of this number, where it is one.
-pub(crate) fn first<'a, 't>(symbols: &'a [Symbol<'t>], at: usize) -> Option<&'a Symbol<'t>>
+pub fn first<'a, 't>(symbols: &'a [Symbol<'t>], at: usize) -> Option<&'a Symbol<'t>>
     ensures { MatchOption result
         (drop at (map seen symbols.now) ≡ [])
         (λ s. (drop at (map seen symbols.now) ≡ seen s.now ∷ drop (at + 1) (map seen symbols.now)) × (at < length symbols.now)) }
@@ -40,7 +43,7 @@ pub(crate) fn first<'a, 't>(symbols: &'a [Symbol<'t>], at: usize) -> Option<&'a 
 }
 
 /// Behind this mark.
-pub(crate) fn past_mark(mark: &[u8], symbols: &[Symbol<'_>], at: usize) -> Option<usize>
+pub fn past_mark(mark: &[u8], symbols: &[Symbol<'_>], at: usize) -> Option<usize>
     ensures { MatchOption result
         (ahead.past (tests.this_mark mark.now) (drop at (map seen symbols.now)) ≡ None)
         (λ next. ahead.past (tests.this_mark mark.now) (drop at (map seen symbols.now)) ≡ Some (tt, drop next (map seen symbols.now))) }
@@ -67,7 +70,7 @@ fn number(symbol: &Symbol<'_>) -> Option<u64>
 }
 
 /// The number of a Number, and the place behind it.
-pub(crate) fn past_number(symbols: &[Symbol<'_>], at: usize) -> Option<(u64, usize)>
+pub fn past_number(symbols: &[Symbol<'_>], at: usize) -> Option<(u64, usize)>
     ensures { MatchOption result
         (ahead.past ahead.number_value (drop at (map seen symbols.now)) ≡ None)
         (λ r. ahead.past ahead.number_value (drop at (map seen symbols.now)) ≡ Some (r.0, drop r.1 (map seen symbols.now))) }
@@ -82,7 +85,7 @@ pub(crate) fn past_number(symbols: &[Symbol<'_>], at: usize) -> Option<(u64, usi
 }
 
 /// A Word, and the place behind it.
-pub(crate) fn past_word<'t>(symbols: &[Symbol<'t>], at: usize) -> Option<(&'t str, usize)>
+pub fn past_word<'t>(symbols: &[Symbol<'t>], at: usize) -> Option<(&'t str, usize)>
     ensures { MatchOption result
         (ahead.past tests.any_word (drop at (map seen symbols.now)) ≡ None)
         (λ r. ahead.past tests.any_word (drop at (map seen symbols.now)) ≡ Some (r.0.now, drop r.1 (map seen symbols.now))) }
@@ -115,7 +118,7 @@ fn divisor(symbol: &Symbol<'_>) -> Option<u64>
 }
 
 /// The number of a Number of at least 1, and the place behind it.
-pub(crate) fn past_divisor(symbols: &[Symbol<'_>], at: usize) -> Option<(u64, usize)>
+pub fn past_divisor(symbols: &[Symbol<'_>], at: usize) -> Option<(u64, usize)>
     ensures { MatchOption result
         (ahead.past ahead.divisor_value (drop at (map seen symbols.now)) ≡ None)
         (λ r. ahead.past ahead.divisor_value (drop at (map seen symbols.now)) ≡ Some (r.0, drop r.1 (map seen symbols.now))) }
@@ -130,7 +133,7 @@ pub(crate) fn past_divisor(symbols: &[Symbol<'_>], at: usize) -> Option<(u64, us
 }
 
 /// Whether a `+` or a `-` is a `+`, and the place behind it.
-pub(crate) fn past_sign(symbols: &[Symbol<'_>], at: usize) -> Option<(bool, usize)>
+pub fn past_sign(symbols: &[Symbol<'_>], at: usize) -> Option<(bool, usize)>
     ensures { MatchOption result
         (ahead.past tests.sum_sign (drop at (map seen symbols.now)) ≡ None)
         (λ r. ahead.past tests.sum_sign (drop at (map seen symbols.now)) ≡ Some (r.0, drop r.1 (map seen symbols.now))) }
@@ -158,14 +161,198 @@ fn sign(symbol: &Symbol<'_>) -> Option<bool>
     }
 }
 
+fn relation(symbol: &Symbol<'_>) -> Option<Rel>
+    ensures { result ≡ tests.rel_of (seen symbol.now) }
+{
+    if !is_mark_kind(symbol.kind) {
+        None
+    } else if same(b"<", symbol.text) {
+        Some(Rel::Less)
+    } else if same(b"<=", symbol.text) {
+        Some(Rel::LessEqual)
+    } else if same(b">", symbol.text) {
+        Some(Rel::Greater)
+    } else if same(b">=", symbol.text) {
+        Some(Rel::GreaterEqual)
+    } else if same(b"==", symbol.text) {
+        Some(Rel::Equal)
+    } else {
+        None
+    }
+}
+
+/// What a mark compares by, and the place behind it.
+pub fn past_relation(symbols: &[Symbol<'_>], at: usize) -> Option<(Rel, usize)>
+    ensures { MatchOption result
+        (ahead.past tests.rel_of (drop at (map seen symbols.now)) ≡ None)
+        (λ r. ahead.past tests.rel_of (drop at (map seen symbols.now)) ≡ Some (r.0, drop r.1 (map seen symbols.now))) }
+{
+    match first(symbols, at) {
+        Some(symbol) => match relation(symbol) {
+            Some(rel) => Some((rel, at + 1)),
+            None => None,
+        },
+        None => None,
+    }
+}
+
+fn constant(symbol: &Symbol<'_>) -> Option<u64>
+    ensures { result ≡ values.constant_value (seen symbol.now) }
+{
+    match symbol.kind {
+        Kind::Value => Some(symbol.value),
+        _ => None,
+    }
+}
+
+/// The number of a Value, and the place behind it.
+pub fn past_constant(symbols: &[Symbol<'_>], at: usize) -> Option<(u64, usize)>
+    ensures { MatchOption result
+        (ahead.past values.constant_value (drop at (map seen symbols.now)) ≡ None)
+        (λ r. ahead.past values.constant_value (drop at (map seen symbols.now)) ≡ Some (r.0, drop r.1 (map seen symbols.now))) }
+{
+    match first(symbols, at) {
+        Some(symbol) => match constant(symbol) {
+            Some(value) => Some((value, at + 1)),
+            None => None,
+        },
+        None => None,
+    }
+}
+
+fn places(symbol: &Symbol<'_>) -> Option<u64>
+    ensures { result ≡ values.shift_value (seen symbol.now) }
+{
+    match symbol.kind {
+        Kind::Number => {
+            if symbol.value <= 63 {
+                Some(symbol.value)
+            } else {
+                None
+            }
+        }
+        _ => None,
+    }
+}
+
+/// The number of a Number from 0 to 63, and the place behind it.
+pub fn past_places(symbols: &[Symbol<'_>], at: usize) -> Option<(u64, usize)>
+    ensures { MatchOption result
+        (ahead.past values.shift_value (drop at (map seen symbols.now)) ≡ None)
+        (λ r. ahead.past values.shift_value (drop at (map seen symbols.now)) ≡ Some (r.0, drop r.1 (map seen symbols.now))) }
+{
+    match first(symbols, at) {
+        Some(symbol) => match places(symbol) {
+            Some(by) => Some((by, at + 1)),
+            None => None,
+        },
+        None => None,
+    }
+}
+
+fn shift(symbol: &Symbol<'_>) -> Option<bool>
+    ensures { result ≡ tests.shift_sign (seen symbol.now) }
+{
+    if !is_mark_kind(symbol.kind) {
+        None
+    } else if same(b"<<", symbol.text) {
+        Some(true)
+    } else if same(b">>", symbol.text) {
+        Some(false)
+    } else {
+        None
+    }
+}
+
+/// Whether a `<<` or a `>>` is a `<<`, and the place behind it.
+pub fn past_shift(symbols: &[Symbol<'_>], at: usize) -> Option<(bool, usize)>
+    ensures { MatchOption result
+        (ahead.past tests.shift_sign (drop at (map seen symbols.now)) ≡ None)
+        (λ r. ahead.past tests.shift_sign (drop at (map seen symbols.now)) ≡ Some (r.0, drop r.1 (map seen symbols.now))) }
+{
+    match first(symbols, at) {
+        Some(symbol) => match shift(symbol) {
+            Some(left) => Some((left, at + 1)),
+            None => None,
+        },
+        None => None,
+    }
+}
+
+fn operation(text: &str) -> Option<Op>
+    ensures { result ≡ tests.choose tests.ops text.now }
+{
+    if same(b"*", text) {
+        Some(Op::Mul)
+    } else if same(b"+", text) {
+        Some(Op::Add)
+    } else if same(b"-", text) {
+        Some(Op::Sub)
+    } else if same(b"&", text) {
+        Some(Op::And)
+    } else if same(b"^", text) {
+        Some(Op::Xor)
+    } else if same(b"|", text) {
+        Some(Op::Or)
+    } else {
+        None
+    }
+}
+
+/// How loosely an operator binds.
+fn level_of(op: Op) -> u32
+    ensures { result ≡ grammar.level_of op }
+{
+    match op {
+        Op::Mul => 1,
+        Op::Add | Op::Sub => 2,
+        Op::And => 4,
+        Op::Xor => 5,
+        Op::Or => 6,
+    }
+}
+
+fn operation_of(level: u32, symbol: &Symbol<'_>) -> Option<Op>
+    ensures { result ≡ values.op_at level (seen symbol.now) }
+{
+    if !is_mark_kind(symbol.kind) {
+        return None;
+    }
+    match operation(symbol.text) {
+        Some(op) => {
+            if level_of(op) == level {
+                Some(op)
+            } else {
+                None
+            }
+        }
+        None => None,
+    }
+}
+
+/// An operator of this level, and the place behind it.
+pub fn past_operation(level: u32, symbols: &[Symbol<'_>], at: usize) -> Option<(Op, usize)>
+    ensures { MatchOption result
+        (ahead.past (values.op_at level) (drop at (map seen symbols.now)) ≡ None)
+        (λ r. ahead.past (values.op_at level) (drop at (map seen symbols.now)) ≡ Some (r.0, drop r.1 (map seen symbols.now))) }
+{
+    match first(symbols, at) {
+        Some(symbol) => match operation_of(level, symbol) {
+            Some(op) => Some((op, at + 1)),
+            None => None,
+        },
+        None => None,
+    }
+}
+
 /// What a name calls.
 #[derive(Clone, Copy, Drop)]
-pub(crate) enum Callee {
+pub enum Callee {
     OfChoice(Choice),
     OfRounding(Rounding),
 }
 
-pub(crate) fn callee_of(prelude: bool, word: &str) -> Option<Callee>
+pub fn callee_of(prelude: bool, word: &str) -> Option<Callee>
     ensures { option_map callees.callee_seen result ≡ callees.callee prelude word.now }
 {
     if !prelude {
@@ -186,8 +373,8 @@ pub(crate) fn callee_of(prelude: bool, word: &str) -> Option<Callee>
 }
 
 /// Why nothing was read: the number of the first token that cannot stand on, or behind the last.
-#[derive(Clone, Copy, Drop)]
-pub(crate) enum Stop {
+#[derive(Clone, Copy, Debug, PartialEq, Eq, Drop)]
+pub enum Stop {
     Memory,
     Deep,
     At(usize),
@@ -205,10 +392,10 @@ impl From<AllocError> for Stop {
 }
 
 /// What was read, and the number of the token behind it.
-pub(crate) type Answer<T> = Result<(T, usize), Stop>;
+pub type Answer<T> = Result<(T, usize), Stop>;
 
 /// Behind this mark, which has to stand here.
-pub(crate) fn behind(mark: &[u8], symbols: &[Symbol<'_>], at: usize) -> Result<usize, Stop>
+pub fn behind(mark: &[u8], symbols: &[Symbol<'_>], at: usize) -> Result<usize, Stop>
     ensures { MatchResult result
         (λ next. ahead.past (tests.this_mark mark.now) (drop at (map seen symbols.now)) ≡ Some (tt, drop next (map seen symbols.now)))
         (λ f. (f ≡ stop.At at) × (ahead.past (tests.this_mark mark.now) (drop at (map seen symbols.now)) ≡ None)) }

@@ -7,22 +7,23 @@ ghost use Rattle.affc_grammar.specs.Draft as d;
 ghost use Rattle.affc_grammar.specs.Reading as grammar;
 ghost use Rattle.affc_draft.specs.Symbols.{seen};
 ghost use Rattle.affc_syntax.specs.IxReading as reading;
-ghost use Rattle.affc_syntax.specs.IxReading.{Gives};
+ghost use Rattle.affc_syntax.specs.Readers as readers;
+ghost use Rattle.affc_syntax.specs.Readers.{Gives};
 ghost use Rattle.affc_syntax.specs.Callees as callees;
 
 use crate::ahead::{
     Answer, Callee, Stop, behind, callee_of, past_divisor, past_mark, past_number, past_sign,
     past_word,
 };
-use affc_draft::draft::{Choice, IxDraft, Rounding};
-use affc_draft::symbol::Symbol;
 use affc_ast::text::Text;
 use affc_ast::{Boxed, Items};
+use affc_draft::draft::{Choice, IxDraft, Rounding};
+use affc_draft::symbol::Symbol;
 use std::alloc::{AllocError, Global};
 
 /// The number of the first of the tokens that are left.
-#[tactic(auto, using(crate::proofs::IxReads::lengths))]
-pub(crate) fn number_of_first(symbols: &[Symbol<'_>], next: usize) -> usize
+#[tactic(auto, using(crate::proofs::Readers::lengths))]
+pub fn number_of_first(symbols: &[Symbol<'_>], next: usize) -> usize
     ensures { result ≡ (length symbols.now) - length (drop next (map seen symbols.now)) }
 {
     let left = symbols.len().saturating_sub(next);
@@ -39,7 +40,7 @@ fn name(alloc: Global, at: usize, word: &str) -> Result<IxDraft, AllocError>
 
 /// Behind this mark, with what was read before it.
 fn closed(mark: &[u8], a: IxDraft, symbols: &[Symbol<'_>], next: usize) -> Answer<IxDraft>
-    ensures { Gives (map seen symbols.now) ix result (reading.closed mark.now (ix a) (drop next (map seen symbols.now))) }
+    ensures { Gives (map seen symbols.now) ix result (readers.closed mark.now (ix a) (drop next (map seen symbols.now))) }
 {
     let next = behind(mark, symbols, next)?;
     Ok((a, next))
@@ -109,7 +110,7 @@ fn divided(
 }
 
 #[tactic(auto, using(affc_draft::proofs::Outs::ix_made))]
-fn grouped(alloc: Global, at: usize, a: IxDraft) -> Result<IxDraft, AllocError>
+pub(crate) fn grouped(alloc: Global, at: usize, a: IxDraft) -> Result<IxDraft, AllocError>
     ensures { IfOk result (λ c. ix c ≡ d.grouped at (ix a)) }
 {
     let inside = Boxed::new(alloc, a)?;
@@ -163,7 +164,7 @@ fn choice_call(
 
 /// A Number of at least 1.
 fn divisor(symbols: &[Symbol<'_>], next: usize) -> Answer<u64>
-    ensures { Gives (map seen symbols.now) reading.itself result (reading.divisor (drop next (map seen symbols.now))) }
+    ensures { Gives (map seen symbols.now) readers.itself result (reading.divisor (drop next (map seen symbols.now))) }
 {
     match past_divisor(symbols, next) {
         Some((by, next)) => Ok((by, next)),
@@ -291,7 +292,7 @@ fn multiplied(
 
 /// Further factors, where they follow.
 #[cycle(ix)]
-fn factors(
+pub(crate) fn factors(
     alloc: Global,
     prelude: bool,
     room: u32,
@@ -345,7 +346,7 @@ fn added(
 
 /// Further terms, where they follow.
 #[cycle(ix)]
-fn terms(
+pub(crate) fn terms(
     alloc: Global,
     prelude: bool,
     room: u32,
@@ -365,8 +366,9 @@ fn terms(
     Ok((left, next))
 }
 
+/// The expression that stands here.
 #[cycle(ix)]
-pub(crate) fn expression(
+pub fn expression(
     alloc: Global,
     prelude: bool,
     room: u32,
@@ -382,7 +384,7 @@ pub(crate) fn expression(
 /// Behind a bracket that was opened where `room` could be.
 #[cycle(ix)]
 #[tactic(auto, unfolding(crate::specs::IxReading::inside))]
-pub(crate) fn inside(
+pub fn inside(
     alloc: Global,
     prelude: bool,
     room: u32,
@@ -398,7 +400,7 @@ pub(crate) fn inside(
 }
 
 /// Behind the `[` of a dimension.
-#[tactic(auto, using(crate::proofs::IxReads::lists))]
+#[tactic(auto, using(crate::proofs::Readers::lists))]
 fn dim(
     alloc: Global,
     prelude: bool,
@@ -416,8 +418,8 @@ fn dim(
     Ok((dims, next))
 }
 
-/// The dimensions that stand here, in drafts.
-fn drawn_dims(
+/// The dimensions that stand here.
+pub fn dims(
     alloc: Global,
     prelude: bool,
     room: u32,
@@ -437,7 +439,7 @@ fn drawn_dims(
 }
 
 /// The expression that stands at the token of this number, and the number behind it.
-pub(crate) fn read_expression(
+pub fn read_expression(
     alloc: Global,
     prelude: bool,
     room: u32,
@@ -445,13 +447,27 @@ pub(crate) fn read_expression(
     next: usize,
 ) -> Answer<IxDraft>
     requires { next ≤ length symbols.now }
-    ensures { Gives (map seen symbols.now) ix result (reading.mapped (d.ix_draft next) (grammar.read_ix prelude room (drop next (map seen symbols.now)))) }
+    ensures { Gives (map seen symbols.now) ix result (readers.mapped (d.ix_draft next) (grammar.read_ix prelude room (drop next (map seen symbols.now)))) }
 {
     expression(alloc, prelude, room, symbols, next)
 }
 
+/// The expression that stands at the token of this number, behind a bracket that was opened where `room` could be, and the number behind it.
+pub fn read_inside(
+    alloc: Global,
+    prelude: bool,
+    room: u32,
+    symbols: &[Symbol<'_>],
+    next: usize,
+) -> Answer<IxDraft>
+    requires { next ≤ length symbols.now }
+    ensures { Gives (map seen symbols.now) ix result (readers.mapped (d.ix_draft next) (grammar.ix_inside prelude room (drop next (map seen symbols.now)))) }
+{
+    inside(alloc, prelude, room, symbols, next)
+}
+
 /// The dimensions that stand at the token of this number, and the number behind them.
-pub(crate) fn read_dims(
+pub fn read_dims(
     alloc: Global,
     prelude: bool,
     room: u32,
@@ -459,7 +475,7 @@ pub(crate) fn read_dims(
     next: usize,
 ) -> Answer<Items<IxDraft>>
     requires { next ≤ length symbols.now }
-    ensures { Gives (map seen symbols.now) (map ix) result (reading.mapped (d.dims_draft next) (grammar.read_dims prelude room (drop next (map seen symbols.now)))) }
+    ensures { Gives (map seen symbols.now) (map ix) result (readers.mapped (d.dims_draft next) (grammar.read_dims prelude room (drop next (map seen symbols.now)))) }
 {
-    drawn_dims(alloc, prelude, room, symbols, next)
+    dims(alloc, prelude, room, symbols, next)
 }

@@ -1,5 +1,9 @@
 //! From tokens to the tree of a text before its names are looked up, or the first token at which no text of the grammar goes on.
 #![tactic(auto)]
 
-pub(crate) mod ahead;
-pub(crate) mod expression;
+pub mod ahead;
+pub mod condition;
+pub mod expression;
+#[cfg(test)]
+mod tests;
+pub mod value;

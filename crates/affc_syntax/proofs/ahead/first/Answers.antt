@@ -1,4 +1,4 @@
-use Rattle.affc_syntax.proofs.IxReads.{first_is}
+use Rattle.affc_syntax.proofs.Readers.{first_is}
 use Rattle.affc_syntax.proofs.ahead.first.Goals as goal
 
 pub returns-then-at-symbols : goal.returns-then-at-symbols

@@ -1,9 +1,9 @@
 use Rattle.std.proofs.Common.{map, subst}
 use Rattle.affc_draft.specs.Symbols.{seen}
 use Rattle.affc_draft.specs.Drafts.{ix}
-use Rattle.affc_syntax.specs.IxReading.{Gives}
+use Rattle.affc_syntax.specs.Readers.{Gives}
 use Rattle.affc_syntax.proofs.IxExact.{dims_exact}
 use Rattle.affc_syntax.proofs.expression.read_dims.Goals as goal
 
 pub returns : goal.returns
-returns c = subst (Gives (map seen c.args.symbols.now) (map ix) c.drawn_dims.result) (dims_exact c.args.prelude c.args.room c.args.symbols.now c.args.next c.requires) c.drawn_dims.ensures
+returns c = subst (Gives (map seen c.args.symbols.now) (map ix) c.dims.result) (dims_exact c.args.prelude c.args.room c.args.symbols.now c.args.next c.requires) c.dims.ensures

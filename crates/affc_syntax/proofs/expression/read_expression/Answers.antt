@@ -1,7 +1,7 @@
 use Rattle.std.proofs.Common.{map, subst}
 use Rattle.affc_draft.specs.Symbols.{seen}
 use Rattle.affc_draft.specs.Drafts.{ix}
-use Rattle.affc_syntax.specs.IxReading.{Gives}
+use Rattle.affc_syntax.specs.Readers.{Gives}
 use Rattle.affc_syntax.proofs.IxExact.{expression_exact}
 use Rattle.affc_syntax.proofs.expression.read_expression.Goals as goal
 

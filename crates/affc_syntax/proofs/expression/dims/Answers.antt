@@ -2,7 +2,7 @@ use Rattle.std.proofs.Common.{length, map, sym, ◌∙◌}
 use Rattle.std.proofs.lemmas.Result.{err_from_is_err_and}
 use Rattle.affc_draft.specs.Drafts.{ix}
 use Rattle.affc_syntax.proofs.IxReads.{dims_err, dims_on, dims_end, dims_less}
-use Rattle.affc_syntax.proofs.expression.drawn_dims.Goals as goal
+use Rattle.affc_syntax.proofs.expression.dims.Goals as goal
 
 pub returns-in_err-longer : goal.returns-in_err-longer
 returns-in_err-longer c =

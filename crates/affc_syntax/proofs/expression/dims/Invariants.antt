@@ -1,8 +1,8 @@
-use Rattle.std.proofs.Common.{◌≡◌, ◌-◌, length, drop, map, []}
+use Rattle.std.proofs.Common.{◌≡◌, ◌-◌, length, drop, map}
 use Rattle.affc_draft.specs.Symbols.{seen}
 use Rattle.affc_draft.specs.Drafts.{ix}
 use Rattle.affc_syntax.specs.IxReading as reading
-use Rattle.affc_syntax.proofs.expression.drawn_dims.Given as goal
+use Rattle.affc_syntax.proofs.expression.dims.Given as goal
 
 abbrev pub invariant-loop-behind : goal.invariant-loop-behind
 invariant-loop-behind l =
