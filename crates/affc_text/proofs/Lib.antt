@@ -1,0 +1,2 @@
+pub mod StmtReads
+pub mod TextReads
