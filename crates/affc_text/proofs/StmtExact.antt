@@ -301,7 +301,7 @@ module _ (prelude : Bool) (end room : ℕ) (body : Reader Symbol (StmtsText prel
       let back = length-append (progress_symbols t) vs in
       on_heads_is at t vs (record { within = omega arith; place = omega arith }))
 
-  statement_is : (at : ℕ) (first : First) (ts us : List Symbol) → past first_of ts ≡ Some (first, us) → length ts ≤ end → end - length ts ≡ at
+  pub statement_is : (at : ℕ) (first : First) (ts us : List Symbol) → past first_of ts ≡ Some (first, us) → length ts ≤ end → end - length ts ≡ at
       → statement prelude end room drawn_body drawn_inner first us ≡ mapped (stmt_draft at) (r.read_stmt prelude room body inner first us)
   unfolding after
   statement_is at (a_word w) ts us c le e =
@@ -355,8 +355,8 @@ local_or_stmt : (end room : ℕ) (body : Reader Symbol (StmtsText true)) (inner 
     → past first_of ts ≡ Some (a_word w, us) → length ts ≤ end → end - length ts ≡ p + length (locals_symbols ls) + 0
     → block_stmt true end room drawn_body drawn_inner (a_word w) (block_of p (record { locals = ls; stmts = g.no_stmts })) us ≡ mapped (block_of p) (r.block_stmt true room body inner ls g.no_stmts (a_word w) us)
     → (if b then on_past (past (this_word (codes "int64_t")) us) (λ _ vs. local_behind end room (block_of p (record { locals = ls; stmts = g.no_stmts })) vs) (block_stmt true end room drawn_body drawn_inner (a_word w) (block_of p (record { locals = ls; stmts = g.no_stmts })) us)
-      else block_stmt true end room drawn_body drawn_inner (a_word w) (block_of p (record { locals = ls; stmts = g.no_stmts })) us)
-      ≡ mapped (block_of p) (r.block_word true room body inner ls g.no_stmts w b us)
+    else block_stmt true end room drawn_body drawn_inner (a_word w) (block_of p (record { locals = ls; stmts = g.no_stmts })) us)
+    ≡ mapped (block_of p) (r.block_word true room body inner ls g.no_stmts w b us)
 local_or_stmt end room body inner drawn_body drawn_inner p ls w false ts us c le e other = other
 local_or_stmt end room body inner drawn_body drawn_inner p ls w true ts us c le e other =
     let one = past_one first_of ts (a_word w) us c in

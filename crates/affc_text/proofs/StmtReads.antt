@@ -1,5 +1,6 @@
 -- The readers of statements leave no more tokens than they were given, and reading until the whole is read, as the code goes on.
 use Rattle.std.proofs.Common.{◌≡◌, nat_eq, ℕ, zero, suc, ◌+◌, ◌-◌, Bool, true, false, codes, ◌≤◌, ◌<◌, List, [], ◌∷◌, ◌++◌, length, drop, map, Option, Some, None, Result, Ok, Err, if◌then◌else◌, refl, sym, ap, ◌∙◌, arith}
+use Rattle.std.proofs.Math.Dec.{eqb-suc-zero}
 use Rattle.std.proofs.lemmas.List.{map-append}
 use Rattle.affc_grammar.specs.Grammar.{Symbol, Name}
 use Rattle.affc_grammar.specs.Draft as d
@@ -40,7 +41,7 @@ some_after ss x (y ∷ ys) = some_after (d.and_stmt ss x) y ys
 
 pub is_none_is : (xs : List StmtDraft) → nat_eq (length xs) 0 ≡ is_none (stmts xs)
 is_none_is [] = refl
-is_none_is (x ∷ xs) = sym (some_after d.no_stmts (stmt x) (map stmt xs))
+is_none_is (x ∷ xs) = eqb-suc-zero (length xs) ∙ sym (some_after d.no_stmts (stmt x) (map stmt xs))
 
 pub covered_last : (hs : List Head) (h : Head) (s : d.StmtDraft) → covered (hs ++ h ∷ []) s ≡ covered hs (with_head h (d.and_stmt d.no_stmts s))
 covered_last [] h s = refl
@@ -108,13 +109,13 @@ module _ {A C K : Type 0} (test : Symbol → Option K) (turn : K → A → Reade
   until_stop ss left ts k us s.Deep e q = until_err left ts k us Deep e q
   until_stop ss left ts k us (s.At rest) e q = until_err left ts k us _ e q
 
+  behind_turn : (n : ℕ) → ((a : A) → Shrinks (tries_more test turn n a)) → (r : Turn A C) → Shrinks (going_on (tries_more test turn n) r)
+  behind_turn n again (going a) = again a
+  behind_turn n again (done c) = λ us. left_give c us (length us) (omega arith)
+
   tries_left : (n : ℕ) (left : A) → Shrinks (tries_more test turn n left)
   tries_left zero left ts = left_fail (At ts) (length ts)
-  tries_left (suc n) left ts = on_test test (λ k us. then_read (turn k left us) (going_on (tries_more test turn n))) (Err (At ts)) ts (λ k us. left_then (turn k left us) (going_on (tries_more test turn n)) (length us) (h k left us) after) (left_fail (At ts) (length ts))
-    where
-      after : (r : Turn A C) → Shrinks (going_on (tries_more test turn n) r)
-      after (going a) = tries_left n a
-      after (done c) = λ us. left_give c us (length us) (omega arith)
+  tries_left (suc n) left ts = on_test test (λ k us. then_read (turn k left us) (going_on (tries_more test turn n))) (Err (At ts)) ts (λ k us. left_then (turn k left us) (going_on (tries_more test turn n)) (length us) (h k left us) (behind_turn n (tries_left n))) (left_fail (At ts) (length ts))
 
   pub until_left : (left : A) → Shrinks (until_done test turn left)
   unfolding until_done
@@ -243,52 +244,52 @@ mutual
 -- ---- The loops, as the code runs them
 
 module _ (prelude : Bool) (room : ℕ) (symbols : List code.Symbol) (n b : ℕ) (first : First) (e : past first_of (drop n (map seen symbols)) ≡ Some (first, drop b (map seen symbols))) where
-  abbrev end : ℕ
-  end = length symbols
+  abbrev text_end : ℕ
+  text_end = length symbols
 
   abbrev body : Reader Symbol d.StmtsDraft
-  body = stmts_inside prelude end room
+  body = stmts_inside prelude text_end room
 
   abbrev inner : Reader Symbol d.StmtDraft
-  inner = block_inside prelude end room
+  inner = block_inside prelude text_end room
 
-  turn_shrinks : (k : First) (hs : Heads) → Shrinks (body_turn prelude end room body k hs)
-  turn_shrinks = body_turn_left prelude end room body inner (stmts_inside_left prelude end room) (block_inside_left prelude end room)
+  turn_shrinks : (k : First) (hs : Heads) → Shrinks (body_turn prelude text_end room body k hs)
+  turn_shrinks = body_turn_left prelude text_end room body inner (stmts_inside_left prelude text_end room) (block_inside_left prelude text_end room)
 
-  more_shrinks : (k : First) (ss : d.StmtsDraft) → Shrinks (stmt_more prelude end room body inner k ss)
-  more_shrinks = stmt_more_left prelude end room body inner (stmts_inside_left prelude end room) (block_inside_left prelude end room)
+  more_shrinks : (k : First) (ss : d.StmtsDraft) → Shrinks (stmt_more prelude text_end room body inner k ss)
+  more_shrinks = stmt_more_left prelude text_end room body inner (stmts_inside_left prelude text_end room) (block_inside_left prelude text_end room)
 
-  block_shrinks : (k : First) (bl : Block) → Shrinks (block_more prelude end room body inner k bl)
-  block_shrinks = block_more_left prelude end room body inner (stmts_inside_left prelude end room) (block_inside_left prelude end room)
+  block_shrinks : (k : First) (bl : Block) → Shrinks (block_more prelude text_end room body inner k bl)
+  block_shrinks = block_more_left prelude text_end room body inner (stmts_inside_left prelude text_end room) (block_inside_left prelude text_end room)
 
-  pub heads_err : (hs : Heads) (f : stop.Stop) → Fails (map seen symbols) f (body_turn prelude end room body first hs (drop b (map seen symbols))) → Fails (map seen symbols) f (under_heads prelude end room body hs (drop n (map seen symbols)))
-  heads_err hs f q = until_stop first_of (body_turn prelude end room body) turn_shrinks (map seen symbols) hs _ first _ f e q
+  pub heads_err : (hs : Heads) (f : stop.Stop) → Fails (map seen symbols) f (body_turn prelude text_end room body first hs (drop b (map seen symbols))) → Fails (map seen symbols) f (under_heads prelude text_end room body hs (drop n (map seen symbols)))
+  heads_err hs f q = until_stop first_of (body_turn prelude text_end room body) turn_shrinks (map seen symbols) hs _ first _ f e q
 
-  pub heads_on : (hs x : Heads) (r : ℕ) → body_turn prelude end room body first hs (drop b (map seen symbols)) ≡ Ok (going x, drop r (map seen symbols)) → under_heads prelude end room body hs (drop n (map seen symbols)) ≡ under_heads prelude end room body x (drop r (map seen symbols))
-  heads_on hs x r q = until_on first_of (body_turn prelude end room body) turn_shrinks hs _ first _ x _ e q
+  pub heads_on : (hs x : Heads) (r : ℕ) → body_turn prelude text_end room body first hs (drop b (map seen symbols)) ≡ Ok (going x, drop r (map seen symbols)) → under_heads prelude text_end room body hs (drop n (map seen symbols)) ≡ under_heads prelude text_end room body x (drop r (map seen symbols))
+  heads_on hs x r q = until_on first_of (body_turn prelude text_end room body) turn_shrinks hs _ first _ x _ e q
 
-  pub heads_done : (hs : Heads) (c : d.StmtDraft) (r : ℕ) → body_turn prelude end room body first hs (drop b (map seen symbols)) ≡ Ok (done c, drop r (map seen symbols)) → under_heads prelude end room body hs (drop n (map seen symbols)) ≡ Ok (c, drop r (map seen symbols))
-  heads_done hs c r q = until_whole first_of (body_turn prelude end room body) turn_shrinks hs _ first _ c _ e q
+  pub heads_done : (hs : Heads) (c : d.StmtDraft) (r : ℕ) → body_turn prelude text_end room body first hs (drop b (map seen symbols)) ≡ Ok (done c, drop r (map seen symbols)) → under_heads prelude text_end room body hs (drop n (map seen symbols)) ≡ Ok (c, drop r (map seen symbols))
+  heads_done hs c r q = until_whole first_of (body_turn prelude text_end room body) turn_shrinks hs _ first _ c _ e q
 
-  pub heads_less : (hs x : Heads) (r : ℕ) → body_turn prelude end room body first hs (drop b (map seen symbols)) ≡ Ok (going x, drop r (map seen symbols)) → length symbols - r < length symbols - n
+  pub heads_less : (hs x : Heads) (r : ℕ) → body_turn prelude text_end room body first hs (drop b (map seen symbols)) ≡ Ok (going x, drop r (map seen symbols)) → length symbols - r < length symbols - n
   heads_less hs x r q = less_left symbols n b r (past_shorter first_of _ first _ e) (turn_shrinks first hs _ (going x) _ q)
 
-  pub stmts_err : (left : d.StmtsDraft) (f : stop.Stop) → Fails (map seen symbols) f (stmt_more prelude end room body inner first left (drop b (map seen symbols))) → Fails (map seen symbols) f (read_stmts prelude end room left (drop n (map seen symbols)))
-  stmts_err left f q = loop_stop first_of (stmt_more prelude end room body inner) more_shrinks (map seen symbols) left _ first _ f e q
+  pub stmts_err : (left : d.StmtsDraft) (f : stop.Stop) → Fails (map seen symbols) f (stmt_more prelude text_end room body inner first left (drop b (map seen symbols))) → Fails (map seen symbols) f (read_stmts prelude text_end room left (drop n (map seen symbols)))
+  stmts_err left f q = loop_stop first_of (stmt_more prelude text_end room body inner) more_shrinks (map seen symbols) left _ first _ f e q
 
-  pub stmts_on : (left x : d.StmtsDraft) (r : ℕ) → stmt_more prelude end room body inner first left (drop b (map seen symbols)) ≡ Ok (x, drop r (map seen symbols)) → read_stmts prelude end room left (drop n (map seen symbols)) ≡ read_stmts prelude end room x (drop r (map seen symbols))
-  stmts_on left x r q = loop_on first_of (stmt_more prelude end room body inner) more_shrinks left _ first _ x _ e q
+  pub stmts_on : (left x : d.StmtsDraft) (r : ℕ) → stmt_more prelude text_end room body inner first left (drop b (map seen symbols)) ≡ Ok (x, drop r (map seen symbols)) → read_stmts prelude text_end room left (drop n (map seen symbols)) ≡ read_stmts prelude text_end room x (drop r (map seen symbols))
+  stmts_on left x r q = loop_on first_of (stmt_more prelude text_end room body inner) more_shrinks left _ first _ x _ e q
 
-  pub stmts_less : (left x : d.StmtsDraft) (r : ℕ) → stmt_more prelude end room body inner first left (drop b (map seen symbols)) ≡ Ok (x, drop r (map seen symbols)) → length symbols - r < length symbols - n
+  pub stmts_less : (left x : d.StmtsDraft) (r : ℕ) → stmt_more prelude text_end room body inner first left (drop b (map seen symbols)) ≡ Ok (x, drop r (map seen symbols)) → length symbols - r < length symbols - n
   stmts_less left x r q = less_left symbols n b r (past_shorter first_of _ first _ e) (more_shrinks first left _ x _ q)
 
-  pub items_err : (left : Block) (f : stop.Stop) → Fails (map seen symbols) f (block_more prelude end room body inner first left (drop b (map seen symbols))) → Fails (map seen symbols) f (items prelude end room left (drop n (map seen symbols)))
-  items_err left f q = loop_stop first_of (block_more prelude end room body inner) block_shrinks (map seen symbols) left _ first _ f e q
+  pub items_err : (left : Block) (f : stop.Stop) → Fails (map seen symbols) f (block_more prelude text_end room body inner first left (drop b (map seen symbols))) → Fails (map seen symbols) f (items prelude text_end room left (drop n (map seen symbols)))
+  items_err left f q = loop_stop first_of (block_more prelude text_end room body inner) block_shrinks (map seen symbols) left _ first _ f e q
 
-  pub items_on : (left x : Block) (r : ℕ) → block_more prelude end room body inner first left (drop b (map seen symbols)) ≡ Ok (x, drop r (map seen symbols)) → items prelude end room left (drop n (map seen symbols)) ≡ items prelude end room x (drop r (map seen symbols))
-  items_on left x r q = loop_on first_of (block_more prelude end room body inner) block_shrinks left _ first _ x _ e q
+  pub items_on : (left x : Block) (r : ℕ) → block_more prelude text_end room body inner first left (drop b (map seen symbols)) ≡ Ok (x, drop r (map seen symbols)) → items prelude text_end room left (drop n (map seen symbols)) ≡ items prelude text_end room x (drop r (map seen symbols))
+  items_on left x r q = loop_on first_of (block_more prelude text_end room body inner) block_shrinks left _ first _ x _ e q
 
-  pub items_less : (left x : Block) (r : ℕ) → block_more prelude end room body inner first left (drop b (map seen symbols)) ≡ Ok (x, drop r (map seen symbols)) → length symbols - r < length symbols - n
+  pub items_less : (left x : Block) (r : ℕ) → block_more prelude text_end room body inner first left (drop b (map seen symbols)) ≡ Ok (x, drop r (map seen symbols)) → length symbols - r < length symbols - n
   items_less left x r q = less_left symbols n b r (past_shorter first_of _ first _ e) (block_shrinks first left _ x _ q)
 
 module _ (prelude : Bool) (room : ℕ) (symbols : List code.Symbol) (n : ℕ) (e : past first_of (drop n (map seen symbols)) ≡ None) where
@@ -300,3 +301,8 @@ module _ (prelude : Bool) (room : ℕ) (symbols : List code.Symbol) (n : ℕ) (e
 
   pub items_end : (left : Block) → items prelude (length symbols) room left (drop n (map seen symbols)) ≡ Ok (left, drop n (map seen symbols))
   items_end left = loop_end first_of (block_more prelude (length symbols) room (stmts_inside prelude (length symbols) room) (block_inside prelude (length symbols) room)) (block_more_left prelude (length symbols) room (stmts_inside prelude (length symbols) room) (block_inside prelude (length symbols) room) (stmts_inside_left prelude (length symbols) room) (block_inside_left prelude (length symbols) room)) left _ e
+
+pub conds_inside_on : (prelude : Bool) (end room : ℕ) (ts : List Symbol) → (room ≡ 0 → ⊥) → conds prelude end (room - 1) ts ≡ conds_inside prelude end room ts
+unfolding conds_inside
+conds_inside_on prelude end zero ts n = absurd (n refl)
+conds_inside_on prelude end (suc room) ts n = let e : suc room - 1 ≡ room = omega arith in ap (λ m. conds prelude end m ts) e

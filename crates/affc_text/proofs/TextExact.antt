@@ -36,7 +36,7 @@ use Rattle.affc_text.specs.Answers.{IsRead}
 use Rattle.affc_text.specs.Parts.{Inside, no_inside, Function, Lines, no_lines}
 use Rattle.affc_text.specs.StmtReading.{named, ends_line, is_none, is_first_word, statement, stmts_inside, block_inside}
 use Rattle.affc_text.specs.TextReading.{array, param, param_more, more_params, params, params_inside, temp, temp_more, more_temps, decl_behind, inside_stmt, may_be_decl, inside_more, inner, function_inside, function_behind, function, int, line_closed, range_behind, taken, context_behind, line_more, more_lines, ended, rest, lines_behind, include_behind, text}
-use Rattle.affc_text.proofs.StmtExact.{on_is, drawn_then, never, statement_is, stmts_inside_is, block_inside_is}
+use Rattle.affc_text.proofs.StmtExact.{on_is, drawn_then, statement_is, stmts_inside_is, block_inside_is}
 
 mapped_give : {A D E : Type 0} (x : Read Symbol A) (f : A → D) (c : D → E) → then_read (mapped f x) (λ a us. Ok (c a, us)) ≡ mapped (λ a. c (f a)) x
 mapped_give (Ok x) f c = refl
@@ -69,7 +69,7 @@ module _ (prelude : Bool) (end room : ℕ) where
       let whole = length-append (ix_symbols a) (mark (codes "]") ∷ []) in
       let others_at : end - length xs ≡ n + 1 + length (dim_symbols a) = omega arith in
       then_is (ix.dims prelude end room xs) (r.read_dims prelude room xs) (dims_draft (end - length xs)) _ _ (param_draft at) (dims_is prelude end room xs fewer) (λ ds ys q.
-      (λ i. Ok (array_param (record { word = word_draft (e i) w; role = array_role is_const; extents = ix_draft (first_at i) a ∷ dims_draft (others_at i) ds }), ys))))))) 
+      (λ i. Ok (array_param (record { word = word_draft (e i) w; role = array_role is_const; extents = ix_draft (first_at i) a ∷ dims_draft (others_at i) ds }), ys)))))))
 
   param_is : Draws end param_draft (param prelude end room) (r.read_param prelude room)
   unfolding give
@@ -204,8 +204,8 @@ module _ (prelude : Bool) (end room p : ℕ) where
   decl_or_stmt : (ds : DeclsText prelude) (w : Name) (b : Bool) (ts us : List Symbol) → past first_of ts ≡ Some (a_word w, us) → length ts ≤ end → end - length ts ≡ p + length (decls_symbols ds) + 0
       → inside_stmt prelude end room (a_word w) (inside_of p (record { decls = ds; stmts = g.no_stmts })) us ≡ mapped (inside_of p) (r.inside_stmt prelude room ds g.no_stmts (a_word w) us)
       → (if b then on_past (past any_word us) (λ v vs. decl_behind prelude end room (inside_of p (record { decls = ds; stmts = g.no_stmts })) v vs) (inside_stmt prelude end room (a_word w) (inside_of p (record { decls = ds; stmts = g.no_stmts })) us)
-        else inside_stmt prelude end room (a_word w) (inside_of p (record { decls = ds; stmts = g.no_stmts })) us)
-        ≡ mapped (inside_of p) (r.inside_word prelude room ds g.no_stmts w b us)
+      else inside_stmt prelude end room (a_word w) (inside_of p (record { decls = ds; stmts = g.no_stmts })) us)
+      ≡ mapped (inside_of p) (r.inside_word prelude room ds g.no_stmts w b us)
   decl_or_stmt ds w false ts us c le e other = other
   decl_or_stmt ds w true ts us c le e other =
       let one = past_one first_of ts (a_word w) us c in
@@ -419,7 +419,7 @@ without_is end room line ps false (Some h) ts s le e = rest_is end room line ps 
 
 lines_behind_is : (end room : ℕ) (line : LineText) (ps : PragmasText) (ts : List Symbol) → length ts ≤ end → end - length ts ≡ length (include_symbols line) + length (pragmas_symbols ps)
     → lines_behind end room (lines_of (length (include_symbols line)) ps) ts
-      ≡ mapped text_draft (either the_prelude (λ _. after (r.read_function true room) λ f. finished (record { line = line; pragmas = ps; has_prelude = true; calls_allowed = refl; function = f })) (r.read_without room line ps (holding (not (context_calls ps)))) ts)
+    ≡ mapped text_draft (either the_prelude (λ _. after (r.read_function true room) λ f. finished (record { line = line; pragmas = ps; has_prelude = true; calls_allowed = refl; function = f })) (r.read_without room line ps (holding (not (context_calls ps)))) ts)
 lines_behind_is end room line ps ts le e =
     either_mapped the_prelude _ _ (λ _ us. rest end room true (lines_of (length (include_symbols line)) ps) us) _ text_draft ts
     (λ k us c.

@@ -21,7 +21,7 @@ use Rattle.affc_syntax.proofs.CondReads.{conds_left}
 use Rattle.affc_text.specs.Calls.{begins_call}
 use Rattle.affc_text.specs.Parts.{Inside, Lines}
 use Rattle.affc_text.specs.StmtReading.{named, ends_line, statement, stmts_inside, block_inside}
-use Rattle.affc_text.specs.TextReading.{array, param, param_more, more_params, temp, temp_more, more_temps, decl_behind, inside_stmt, may_be_decl, inside_more, inner, int, line_closed, range_behind, taken, context_behind, line_more, more_lines}
+use Rattle.affc_text.specs.TextReading.{array, param, param_more, more_params, params, params_inside, temp, temp_more, more_temps, decl_behind, inside_stmt, may_be_decl, inside_more, inner, int, line_closed, range_behind, taken, context_behind, line_more, more_lines}
 use Rattle.affc_text.proofs.StmtReads.{named_left, statement_left, stmts_inside_left, block_inside_left}
 
 module _ (prelude : Bool) (end room : ℕ) where
@@ -112,3 +112,40 @@ pub call_step : (n : ℕ) (ts : List Symbol) → has_call (take (suc (suc n)) ts
 call_step n [] = refl
 call_step n (x ∷ []) = refl
 call_step n (x ∷ y ∷ ts) = refl
+
+pub params_inside_on : (prelude : Bool) (end room : ℕ) (ts : List Symbol) → (room ≡ 0 → ⊥) → params prelude end (room - 1) ts ≡ params_inside prelude end room ts
+unfolding params_inside
+params_inside_on prelude end zero ts n = absurd (n refl)
+params_inside_on prelude end (suc room) ts n = let e : suc room - 1 ≡ room = omega arith in ap (λ m. params prelude end m ts) e
+
+drop_next : (n : ℕ) (ts : List Symbol) → drop 1 (drop n ts) ≡ drop (n + 1) ts
+drop_next zero ts = refl
+drop_next (suc n) [] = let e : suc n + 1 ≡ suc (n + 1) = omega arith in ap (λ m. drop {A = Symbol} m []) (sym e)
+drop_next (suc n) (x ∷ ts) = let e : suc n + 1 ≡ suc (n + 1) = omega arith in drop_next n ts ∙ ap (λ m. drop m (x ∷ ts)) (sym e)
+
+pub call_on : (left at : ℕ) (ss : List Symbol) → 1 < left → has_call (take left (drop at ss)) ≡ begins_call (drop at ss) || has_call (take (left - 1) (drop (at + 1) ss))
+call_on zero at ss p = absurd (omega arith)
+call_on (suc zero) at ss p = absurd (omega arith)
+call_on (suc (suc n)) at ss p =
+    let e : suc n ≡ suc (suc n) - 1 = omega arith in
+    call_step n (drop at ss) ∙ (λ i. begins_call (drop at ss) || has_call (take (e i) (drop_next at ss i)))
+
+pub call_here : (left at : ℕ) (ss : List Symbol) → 1 < left → true ≡ begins_call (drop at ss) → has_call (take left (drop at ss)) ≡ true
+call_here left at ss p b = call_on left at ss p ∙ ap (λ x. x || has_call (take (left - 1) (drop (at + 1) ss))) (sym b)
+
+pub call_later : (left at : ℕ) (ss : List Symbol) → 1 < left → false ≡ begins_call (drop at ss) → has_call (take (left - 1) (drop (at + 1) ss)) ≡ has_call (take left (drop at ss))
+call_later left at ss p b = sym (call_on left at ss p ∙ ap (λ x. x || has_call (take (left - 1) (drop (at + 1) ss))) (sym b))
+
+pub calls_start : (symbols : List code.Symbol) (from to : ℕ) → has_call (take ((length symbols - length (drop to (map seen symbols))) - (length symbols - length (drop from (map seen symbols)))) (drop from (map seen symbols))) ≡ has_call (taken (drop from (map seen symbols)) (drop to (map seen symbols)))
+calls_start symbols from to =
+    let all = length-map symbols seen in
+    let one = length-drop from (map seen symbols) in
+    let two = length-drop to (map seen symbols) in
+    let e : (length symbols - length (drop to (map seen symbols))) - (length symbols - length (drop from (map seen symbols))) ≡ length (drop from (map seen symbols)) - length (drop to (map seen symbols)) = omega arith in
+    ap (λ n. has_call (take n (drop from (map seen symbols)))) e
+
+pub no_call_behind : (symbols : List code.Symbol) (left at : ℕ) → length symbols ≤ at → has_call (take left (drop at (map seen symbols))) ≡ false
+no_call_behind symbols left at p =
+    let all = length-map symbols seen in
+    let one = length-drop at (map seen symbols) in
+    no_call_empty left (drop at (map seen symbols)) (omega arith)

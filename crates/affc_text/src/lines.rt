@@ -15,7 +15,7 @@ use affc_ast::Items;
 use affc_draft::draft::PragmaDraft;
 use affc_draft::symbol::{Symbol, is, is_mark_kind, is_word_kind};
 use affc_syntax::ahead::{Answer, Stop, first, past_mark, past_number};
-use affc_syntax::condition::read_conds;
+use affc_syntax::condition::conditions;
 use affc_syntax::expression::number_of_first;
 use std::alloc::Global;
 
@@ -61,19 +61,15 @@ fn range_behind(alloc: Global, lines: Lines, symbols: &[Symbol<'_>], next: usize
     Ok((Lines { pragmas, calls }, next))
 }
 
-fn is_open(symbol: &Symbol<'_>) -> bool
-    ensures { result ≡ calls.is_open (seen symbol.now) }
-{
-    is_mark_kind(symbol.kind) && is(symbol.text, b"(")
-}
-
 /// Whether a Word stands here, directly before a `(`.
 fn begins_call(symbols: &[Symbol<'_>], at: usize) -> bool
     ensures { result ≡ calls.begins_call (drop at (map seen symbols.now)) }
 {
     match first(symbols, at) {
         Some(word) => match first(symbols, at + 1) {
-            Some(open) => is_word_kind(word.kind) && is_open(open),
+            Some(open) => {
+                is_word_kind(word.kind) && is_mark_kind(open.kind) && is(open.text, b"(")
+            }
             None => false,
         },
         None => false,
@@ -109,7 +105,7 @@ fn context_behind(
     ensures { Gives (map seen symbols.now) lines_seen result (reading.context_behind (length symbols.now) room (lines_seen lines) (drop next (map seen symbols.now))) }
 {
     let at = number_before(symbols, next);
-    let (conds, rest) = read_conds(alloc, true, room, symbols, next)?;
+    let (conds, rest) = conditions(alloc, true, room, symbols, next)?;
     let end = behind_line(symbols, rest)?;
     let Lines { mut pragmas, calls } = lines;
     pragmas.push(PragmaDraft::Context { at, conds })?;

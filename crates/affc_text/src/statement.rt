@@ -19,9 +19,9 @@ use affc_ast::Items;
 use affc_draft::draft::{CompareDraft, HeadDraft, IxDraft, LocalDraft, StmtDraft, WordDraft};
 use affc_draft::symbol::Symbol;
 use affc_syntax::ahead::{Answer, Stop, behind, past_mark};
-use affc_syntax::condition::read_conds;
+use affc_syntax::condition::conditions;
 use affc_syntax::expression::{dims, expression, inside};
-use affc_syntax::value::read_value;
+use affc_syntax::value::whole_value;
 use std::alloc::{AllocError, Global};
 
 /// What stands before a body.
@@ -69,7 +69,7 @@ fn conds_inside(
     if room == 0 {
         return Err(Stop::Deep);
     }
-    read_conds(alloc, prelude, room - 1, symbols, next)
+    conditions(alloc, prelude, room - 1, symbols, next)
 }
 
 // ---- Heads
@@ -272,7 +272,7 @@ fn assigned(
     let array = drafted(alloc, at, name)?;
     let (subs, next) = dims(alloc, prelude, room, symbols, next)?;
     let (op, next) = assignment(symbols, next)?;
-    let (value, next) = read_value(alloc, prelude, room, symbols, next)?;
+    let (value, next) = whole_value(alloc, prelude, room, symbols, next)?;
     let next = behind(b";", symbols, next)?;
     Ok((
         StmtDraft::Assign {

@@ -103,6 +103,7 @@ pub fn read_text(alloc: Global, room: u32, symbols: &[Symbol<'_>]) -> Result<Tex
     match drafted(alloc, room, symbols) {
         Ok((text, _)) => Ok(text),
         Err(Stop::At(next)) => Err(Stop::At(number_of_first(symbols, next))),
-        Err(stop) => Err(stop),
+        Err(Stop::Deep) => Err(Stop::Deep),
+        Err(Stop::Memory) => Err(Stop::Memory),
     }
 }
