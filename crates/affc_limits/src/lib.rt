@@ -9,5 +9,7 @@ mod lines;
 mod parts;
 mod rests;
 pub mod shape;
+#[cfg(test)]
+mod tests;
 pub mod texts;
 mod whole;

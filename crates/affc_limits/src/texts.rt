@@ -17,7 +17,7 @@ use std::alloc::{AllocError, Global};
 
 /// What is looked for in whole-number expressions.
 #[derive(Clone, Copy, Drop)]
-pub enum Rule {
+pub(crate) enum Rule {
     /// The `*` of the first product both of whose sides hold names.
     Products,
     /// The least place of a literal above this.
@@ -213,7 +213,7 @@ fn in_decls(rule: Rule, items: &[DeclDraft]) -> Result<Option<usize>, AllocError
 
 /// What is found in all expressions of a text.
 #[tactic(auto, using(crate::proofs::TextLaws::text_laws))]
-pub fn in_text(rule: Rule, draft: &TextDraft) -> Result<Option<usize>, AllocError>
+pub(crate) fn in_text(rule: Rule, draft: &TextDraft) -> Result<Option<usize>, AllocError>
     ensures found { IfOk result (λ p. p ≡ spec.found rule (affine_texts (text draft.now))) }
     ensures sure { IsTrue (takes_none rule) → IsOk result }
 {
