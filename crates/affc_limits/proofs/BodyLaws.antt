@@ -1,7 +1,8 @@
 -- What statements hold, one after another.
-use Rattle.std.proofs.Common.{◌≡◌, ℕ, zero, suc, ◌+◌, Bool, true, false, not, ◌||◌, nat_lt, ◌≤◌, drop, map, List, [], ◌∷◌, ◌++◌, length, Option, Some, None, refl, sym, ap, ◌∙◌, length-append}
+use Rattle.std.proofs.Common.{◌≡◌, ℕ, ◌+◌, ◌-◌, ◌==◌, ◌&&◌, nat_le, Bool, true, not, nat_lt, ◌≤◌, drop, map, List, [], ◌∷◌, ◌++◌, length, Option, Some, None, refl, sym, ap, ◌∙◌, length-append, arith}
+use Rattle.std.proofs.lemmas.Bool.Decides.{nat_tests}
 use Rattle.affc_grammar.specs.Draft as d
-use Rattle.affc_grammar.specs.Limits.{assigned, assigned_in, empty_bodies, empty_bodies_in, has_assignment, at_if}
+use Rattle.affc_grammar.specs.Limits.{assigned, assigned_in, empty_bodies, empty_bodies_in, has_assignment, loops_past, loops_past_in, at_if}
 use Rattle.affc_limits.specs.declared.bodies.Bodies.{Bodies}
 use Rattle.std.proofs.lemmas.List.{drop_all}
 use Rattle.affc_ast.specs.declared.tree.Op.{Op}
@@ -13,7 +14,7 @@ use Rattle.affc_draft.specs.declared.draft.LocalDraft.{LocalDraft}
 use Rattle.affc_draft.proofs.Outs.{stmt-For, stmt-If, stmt-Block}
 use Rattle.affc_draft.specs.Drafts.{stmts_of, stmts_after, stmt, head, compare, local}
 use Rattle.affc_limits.specs.Places.{least, lesser, place_if}
-use Rattle.affc_limits.specs.Bodies.{bodies, all_bodies, both, under, on_with, no_bodies}
+use Rattle.affc_limits.specs.Bodies.{bodies, both, under_if, under_for, on_with, no_bodies}
 use Rattle.affc_limits.proofs.PlaceLaws.{any-append, least-append, least_if}
 
 -- how many assignments there are doesn't depend on what stands round them
@@ -32,45 +33,81 @@ mutual
   same_count_in n m (d.assign w subs (Some op) v) = refl
   same_count_in n m (d.block ls body) = same_count n m body
 
-abbrev of_stmts : d.StmtsDraft → Bodies
-of_stmts ss = record { assigns = has_assignment ss; empty = least (empty_bodies ss) }
+-- one loop more round statements is one fewer that is left
+one_fewer : (limit n : ℕ) → nat_le limit (n + 1) ≡ nat_le (limit - 1) n
+one_fewer limit n = grind (arith, nat_tests)
 
-of_more : (ss : d.StmtsDraft) (s : d.StmtDraft) → of_stmts (d.and_stmt ss s) ≡ both (of_stmts ss) (bodies s)
-of_more ss s = λ i. record { assigns = any-append (assigned 0 ss) (assigned_in 0 s) i; empty = least-append (empty_bodies ss) (empty_bodies_in s) i }
+mutual
+  fewer : (limit n : ℕ) (ss : d.StmtsDraft) → loops_past limit (n + 1) ss ≡ loops_past (limit - 1) n ss
+  fewer limit n d.no_stmts = refl
+  fewer limit n (d.and_stmt ss s) = λ i. fewer limit n ss i ++ fewer_in limit n s i
 
-of_after : (ss : d.StmtsDraft) (xs : List d.StmtDraft) → on_with (of_stmts ss) xs ≡ of_stmts (stmts_after ss xs)
-of_after ss [] = refl
-of_after ss (x ∷ xs) = ap (λ a. on_with a xs) (sym (of_more ss x)) ∙ of_after (d.and_stmt ss x) xs
+  fewer_in : (limit n : ℕ) (s : d.StmtDraft) → loops_past_in limit (n + 1) s ≡ loops_past_in (limit - 1) n s
+  fewer_in limit n (d.for_loop h body) = λ i. at_if (one_fewer limit n i && has_assignment body) h.at ++ fewer limit (n + 1) body i
+  fewer_in limit n (d.if_all at cs body) = fewer limit n body
+  fewer_in limit n (d.assign w subs op v) = refl
+  fewer_in limit n (d.block ls body) = fewer limit n body
 
-pub bodies-for : (h : d.HeadDraft) (xs : List d.StmtDraft) → bodies (d.for_loop h (stmts_of xs)) ≡ under h.at (on_with no_bodies xs)
-bodies-for h xs =
-    (λ i. record { assigns = has_assignment (stmts_of xs); empty = (least-append (at_if (not (has_assignment (stmts_of xs))) h.at) (empty_bodies (stmts_of xs)) ∙ ap (λ o. lesser o (least (empty_bodies (stmts_of xs)))) (least_if (not (has_assignment (stmts_of xs))) h.at)) i })
-    ∙ ap (under h.at) (sym (of_after d.no_stmts xs))
+abbrev of_stmts : ℕ → d.StmtsDraft → Bodies
+of_stmts left ss = record { assigns = has_assignment ss; empty = least (empty_bodies ss); loops = least (loops_past left 0 ss) }
 
-pub bodies-if : (at : ℕ) (cs : List d.CompareDraft) (xs : List d.StmtDraft) → bodies (d.if_all at cs (stmts_of xs)) ≡ under at (on_with no_bodies xs)
-bodies-if at cs xs =
-    (λ i. record { assigns = nat_lt 0 (same_count (0 + length cs) 0 (stmts_of xs) i); empty = (least-append (at_if (not (has_assignment (stmts_of xs))) at) (empty_bodies (stmts_of xs)) ∙ ap (λ o. lesser o (least (empty_bodies (stmts_of xs)))) (least_if (not (has_assignment (stmts_of xs))) at)) i })
-    ∙ ap (under at) (sym (of_after d.no_stmts xs))
+of_more : (left : ℕ) (ss : d.StmtsDraft) (s : d.StmtDraft) → of_stmts left (d.and_stmt ss s) ≡ both (of_stmts left ss) (bodies left s)
+of_more left ss s = λ i. record { assigns = any-append (assigned 0 ss) (assigned_in 0 s) i; empty = least-append (empty_bodies ss) (empty_bodies_in s) i; loops = least-append (loops_past left 0 ss) (loops_past_in left 0 s) i }
 
-pub bodies-block : (ls : List d.LocalDraft) (xs : List d.StmtDraft) → bodies (d.block ls (stmts_of xs)) ≡ on_with no_bodies xs
-bodies-block ls xs = sym (of_after d.no_stmts xs)
+of_after : (left : ℕ) (ss : d.StmtsDraft) (xs : List d.StmtDraft) → on_with left (of_stmts left ss) xs ≡ of_stmts left (stmts_after ss xs)
+of_after left ss [] = refl
+of_after left ss (x ∷ xs) = ap (λ a. on_with left a xs) (sym (of_more left ss x)) ∙ of_after left (d.and_stmt ss x) xs
 
-pub bodies-assign : (w : d.WordDraft) (subs : List d.IxDraft) (op : Option Op) (v : d.ValueDraft) → bodies (d.assign w subs op v) ≡ record { assigns = true; empty = None }
-bodies-assign w subs None v = refl
-bodies-assign w subs (Some op) v = refl
+-- a place that is passed by a test, before those behind it
+if_before : (b : Bool) (at : ℕ) (ns : List ℕ) → least (at_if b at ++ ns) ≡ lesser (place_if b at) (least ns)
+if_before b at ns = least-append (at_if b at) ns ∙ ap (λ o. lesser o (least ns)) (least_if b at)
+
+none_left : (left : ℕ) → nat_le left 0 ≡ (left == 0)
+none_left left = grind (arith, nat_tests)
+
+pub bodies-for : (left : ℕ) (h : d.HeadDraft) (xs : List d.StmtDraft) → bodies left (d.for_loop h (stmts_of xs)) ≡ under_for left h.at (on_with (left - 1) no_bodies xs)
+bodies-for left h xs =
+    let body = stmts_of xs in
+    (λ i. record {
+      assigns = has_assignment body;
+      empty = if_before (not (has_assignment body)) h.at (empty_bodies body) i;
+      loops = if_before (nat_le left 0 && has_assignment body) h.at (loops_past left 1 body) i;
+    })
+    ∙ (λ i. record {
+      assigns = has_assignment body;
+      empty = lesser (place_if (not (has_assignment body)) h.at) (least (empty_bodies body));
+      loops = lesser (place_if (none_left left i && has_assignment body) h.at) (least (fewer left 0 body i));
+    })
+    ∙ ap (under_for left h.at) (sym (of_after (left - 1) d.no_stmts xs))
+
+pub bodies-if : (left at : ℕ) (cs : List d.CompareDraft) (xs : List d.StmtDraft) → bodies left (d.if_all at cs (stmts_of xs)) ≡ under_if at (on_with left no_bodies xs)
+bodies-if left at cs xs =
+    let body = stmts_of xs in
+    (λ i. record { assigns = nat_lt 0 (same_count (0 + length cs) 0 body i); empty = if_before (not (has_assignment body)) at (empty_bodies body) i; loops = least (loops_past left 0 body) })
+    ∙ ap (under_if at) (sym (of_after left d.no_stmts xs))
+
+pub bodies-block : (left : ℕ) (ls : List d.LocalDraft) (xs : List d.StmtDraft) → bodies left (d.block ls (stmts_of xs)) ≡ on_with left no_bodies xs
+bodies-block left ls xs = sym (of_after left d.no_stmts xs)
+
+pub bodies-assign : (left : ℕ) (w : d.WordDraft) (subs : List d.IxDraft) (op : Option Op) (v : d.ValueDraft) → bodies left (d.assign w subs op v) ≡ record { assigns = true; empty = None; loops = None }
+bodies-assign left w subs None v = refl
+bodies-assign left w subs (Some op) v = refl
 
 pub ruleset body_laws = (bodies-for, bodies-if, bodies-block, bodies-assign)
 
 -- ---- In the code's loops
 
-pub inside_is : (a : Bodies) (xs body : List code.StmtDraft) (i : ℕ) → length xs ≤ i → on_with a (map stmt (drop i xs)) ≡ on_with no_bodies (map stmt xs) → xs ≡ body → a ≡ on_with no_bodies (map stmt body)
-inside_is a xs body i le kept same = ap (λ l. on_with a (map stmt l)) (sym (drop_all i xs le)) ∙ kept ∙ ap (λ l. on_with no_bodies (map stmt l)) same
+pub inside_is : (left : ℕ) (a : Bodies) (xs body : List code.StmtDraft) (i : ℕ) → length xs ≤ i → on_with left a (map stmt (drop i xs)) ≡ on_with left no_bodies (map stmt xs) → xs ≡ body → a ≡ on_with left no_bodies (map stmt body)
+inside_is left a xs body i le kept same = ap (λ l. on_with left a (map stmt l)) (sym (drop_all i xs le)) ∙ kept ∙ ap (λ l. on_with left no_bodies (map stmt l)) same
 
-pub of_for : (x : code.StmtDraft) (h : HeadDraft) (body : List code.StmtDraft) → x ≡ s.For h body → under h.at (on_with no_bodies (map stmt body)) ≡ bodies (stmt x)
-of_for x h body is = sym (bodies-for (head h) (map stmt body)) ∙ ap bodies (sym (stmt-For h body)) ∙ ap (λ y. bodies (stmt y)) (sym is)
+pub of_for : (left : ℕ) (x : code.StmtDraft) (h : HeadDraft) (body : List code.StmtDraft) → x ≡ s.For h body → under_for left h.at (on_with (left - 1) no_bodies (map stmt body)) ≡ bodies left (stmt x)
+of_for left x h body is = sym (bodies-for left (head h) (map stmt body)) ∙ ap (bodies left) (sym (stmt-For h body)) ∙ ap (λ y. bodies left (stmt y)) (sym is)
 
-pub of_if : (x : code.StmtDraft) (at : ℕ) (conds : List CompareDraft) (body : List code.StmtDraft) → x ≡ s.If at conds body → under at (on_with no_bodies (map stmt body)) ≡ bodies (stmt x)
-of_if x at conds body is = sym (bodies-if at (map compare conds) (map stmt body)) ∙ ap bodies (sym (stmt-If at conds body)) ∙ ap (λ y. bodies (stmt y)) (sym is)
+pub of_if : (left : ℕ) (x : code.StmtDraft) (at : ℕ) (conds : List CompareDraft) (body : List code.StmtDraft) → x ≡ s.If at conds body → under_if at (on_with left no_bodies (map stmt body)) ≡ bodies left (stmt x)
+of_if left x at conds body is = sym (bodies-if left at (map compare conds) (map stmt body)) ∙ ap (bodies left) (sym (stmt-If at conds body)) ∙ ap (λ y. bodies left (stmt y)) (sym is)
 
-pub of_block : (x : code.StmtDraft) (locals : List LocalDraft) (body : List code.StmtDraft) → x ≡ s.Block locals body → on_with no_bodies (map stmt body) ≡ bodies (stmt x)
-of_block x locals body is = sym (bodies-block (map local locals) (map stmt body)) ∙ ap bodies (sym (stmt-Block locals body)) ∙ ap (λ y. bodies (stmt y)) (sym is)
+pub of_block : (left : ℕ) (x : code.StmtDraft) (locals : List LocalDraft) (body : List code.StmtDraft) → x ≡ s.Block locals body → on_with left no_bodies (map stmt body) ≡ bodies left (stmt x)
+of_block left x locals body is = sym (bodies-block left (map local locals) (map stmt body)) ∙ ap (bodies left) (sym (stmt-Block locals body)) ∙ ap (λ y. bodies left (stmt y)) (sym is)
+
+pub of_all : (left : ℕ) (xs : List d.StmtDraft) → on_with left no_bodies xs ≡ of_stmts left (stmts_of xs)
+of_all left xs = of_after left d.no_stmts xs

@@ -1,3 +1,9 @@
 pub mod Counting
 pub mod PlaceLaws
 pub mod BodyLaws
+pub mod WholeLaws
+pub mod TextLaws
+pub mod PartLaws
+pub mod AssignmentLaws
+pub mod LineLaws
+pub mod NearestLaws

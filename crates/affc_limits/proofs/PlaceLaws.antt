@@ -22,7 +22,7 @@ any-append (x ∷ xs) ys = some_of (length (xs ++ ys)) ∙ sym (ap (λ b. b || n
     some_of : (n : ℕ) → nat_lt 0 (suc n) ≡ true
     some_of n = grind (arith, nat_tests)
 
-lesser_assoc : (a b c : Option ℕ) → lesser a (lesser b c) ≡ lesser (lesser a b) c
+pub lesser_assoc : (a b c : Option ℕ) → lesser a (lesser b c) ≡ lesser (lesser a b) c
 lesser_assoc None b c = refl
 lesser_assoc (Some a) None c = refl
 lesser_assoc (Some a) (Some b) None = both (nat_le a b)

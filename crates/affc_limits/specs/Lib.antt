@@ -1,3 +1,10 @@
 pub mod Shape
 pub mod Places
 pub mod Bodies
+pub mod Digits
+pub mod Texts
+pub mod Parts
+pub mod Rests
+pub mod Assignments
+pub mod Lines
+pub mod Nearest

@@ -1,17 +1,29 @@
-//! What is asked of statements.
+//! What is asked of statements and the loops round them.
 
-ghost use Rattle.std.specs.Prelude.{◌≡◌};
+ghost use Rattle.std.specs.Prelude.{◌≡◌, map};
 ghost use Rattle.affc_draft.specs.Drafts.{stmt};
 ghost use Rattle.affc_limits.specs.Bodies as spec;
 
-use affc_draft::draft::StmtDraft;
 use crate::forms::{lesser, place_if};
+use affc_draft::draft::StmtDraft;
 
-/// Whether statements hold an assignment, and the least place of a `for` or `if` in them that holds none.
+/// Whether statements hold an assignment, the least place of a `for` or `if` in them that holds none, and the least
+/// place of a `for` that is one too many round an assignment.
 #[derive(Clone, Copy, Drop)]
-pub struct Bodies {
+pub(crate) struct Bodies {
     pub assigns: bool,
     pub empty: Option<usize>,
+    pub loops: Option<usize>,
+}
+
+fn none() -> Bodies
+    ensures { result ≡ spec.no_bodies }
+{
+    Bodies {
+        assigns: false,
+        empty: None,
+        loops: None,
+    }
 }
 
 fn both(a: Bodies, b: Bodies) -> Bodies
@@ -20,57 +32,79 @@ fn both(a: Bodies, b: Bodies) -> Bodies
     Bodies {
         assigns: a.assigns || b.assigns,
         empty: lesser(a.empty, b.empty),
+        loops: lesser(a.loops, b.loops),
     }
 }
 
-fn under(at: usize, inside: Bodies) -> Bodies
-    ensures { result ≡ spec.under at inside }
+/// The least place of a word without an assignment inside, where this word stands round so much.
+fn empty_at(at: usize, inside: Bodies) -> Option<usize>
+    ensures { result ≡ spec.empty_at at inside }
+{
+    lesser(place_if(!inside.assigns, at), inside.empty)
+}
+
+fn under_if(at: usize, inside: Bodies) -> Bodies
+    ensures { result ≡ spec.under_if at inside }
 {
     Bodies {
         assigns: inside.assigns,
-        empty: lesser(place_if(!inside.assigns, at), inside.empty),
+        empty: empty_at(at, inside),
+        loops: inside.loops,
     }
 }
 
-/// What the rule on empty bodies asks of a statement.
+fn under_for(left: usize, at: usize, inside: Bodies) -> Bodies
+    ensures { result ≡ spec.under_for left at inside }
+{
+    Bodies {
+        assigns: inside.assigns,
+        empty: empty_at(at, inside),
+        loops: lesser(place_if(left == 0 && inside.assigns, at), inside.loops),
+    }
+}
+
+/// What the rules on bodies ask of a statement, where `left` loops more may stand round an assignment.
 #[tactic(auto, using(affc_draft::proofs::Outs::stmt_outs, crate::proofs::BodyLaws::body_laws))]
-pub fn bodies_of(s: &StmtDraft) -> Bodies
-    ensures { result ≡ spec.bodies (stmt s.now) }
+fn bodies_of(left: usize, s: &StmtDraft) -> Bodies
+    ensures { result ≡ spec.bodies left (stmt s.now) }
 {
     match s {
         StmtDraft::For { head, body } => {
-            let mut inside = Bodies {
-                assigns: false,
-                empty: None,
-            };
+            let fewer = left.saturating_sub(1);
+            let mut inside = none();
             for first in body.as_slice() {
-                inside = both(inside, bodies_of(first));
+                inside = both(inside, bodies_of(fewer, first));
             }
-            under(head.at, inside)
+            under_for(left, head.at, inside)
         }
         StmtDraft::If { at, body, .. } => {
-            let mut inside = Bodies {
-                assigns: false,
-                empty: None,
-            };
+            let mut inside = none();
             for second in body.as_slice() {
-                inside = both(inside, bodies_of(second));
+                inside = both(inside, bodies_of(left, second));
             }
-            under(*at, inside)
+            under_if(*at, inside)
         }
         StmtDraft::Assign { .. } => Bodies {
             assigns: true,
             empty: None,
+            loops: None,
         },
         StmtDraft::Block { body, .. } => {
-            let mut inside = Bodies {
-                assigns: false,
-                empty: None,
-            };
+            let mut inside = none();
             for third in body.as_slice() {
-                inside = both(inside, bodies_of(third));
+                inside = both(inside, bodies_of(left, third));
             }
             inside
         }
     }
+}
+
+pub(crate) fn bodies_of_all(left: usize, body: &[StmtDraft]) -> Bodies
+    ensures { result ≡ spec.all_bodies left (map stmt body.now) }
+{
+    let mut inside = none();
+    for item in body {
+        inside = both(inside, bodies_of(left, item));
+    }
+    inside
 }

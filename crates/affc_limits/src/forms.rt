@@ -96,7 +96,7 @@ pub(crate) fn place_if(passed: bool, at: usize) -> Option<usize>
 
 /// The least place of a literal above the limit.
 #[tactic(auto, using(affc_draft::proofs::Outs::ix_outs, crate::proofs::PlaceLaws::least_laws))]
-pub fn literal_past(limit: u64, e: &IxDraft) -> Option<usize>
+pub(crate) fn literal_past(limit: u64, e: &IxDraft) -> Option<usize>
     ensures { result ≡ places.least (literals_past limit (ix e.now)) }
 {
     match e {
@@ -123,65 +123,8 @@ pub fn literal_past(limit: u64, e: &IxDraft) -> Option<usize>
     }
 }
 
-/// The least place of a literal above the limit in any of the expressions.
-pub fn literal_past_each(limit: u64, es: &[IxDraft]) -> Option<usize>
-    ensures { result ≡ places.least (flat_map (literals_past limit) (map ix es.now)) }
-{
-    let mut found = None;
-    for e in es {
-        found = lesser(found, literal_past(limit, e));
-    }
-    found
-}
-
-/// The least place of a literal above the limit in the expressions of a value.
-#[tactic(auto, using(affc_draft::proofs::Outs::value_outs, crate::proofs::PlaceLaws::value_laws))]
-pub fn value_literal_past(limit: u64, e: &ValueDraft) -> Option<usize>
-    ensures { result ≡ places.least (flat_map (literals_past limit) (value_texts (value e.now))) }
-{
-    match e {
-        ValueDraft::Load { subs, .. } => literal_past_each(limit, subs.as_slice()),
-        ValueDraft::Constant(_) => None,
-        ValueDraft::Cast(a) => literal_past(limit, a),
-        ValueDraft::Complement(of) => value_literal_past(limit, of.get()),
-        ValueDraft::Binary { left, right, .. } => lesser(
-            value_literal_past(limit, left.get()),
-            value_literal_past(limit, right.get()),
-        ),
-        ValueDraft::Shift { of, .. } => value_literal_past(limit, of.get()),
-    }
-}
-
-/// The `*` of the first product both of whose sides hold names, of any of the expressions.
-pub fn product_of_each(es: &[IxDraft]) -> Option<usize>
-    ensures { result ≡ places.first (flat_map products_in (map ix es.now)) }
-{
-    let mut found = None;
-    for e in es {
-        found = first_of(found, first_product(e));
-    }
-    found
-}
-
-/// The `*` of the first product both of whose sides hold names, in the expressions of a value.
-#[tactic(auto, using(affc_draft::proofs::Outs::value_outs, crate::proofs::PlaceLaws::first_value_laws))]
-pub fn product_of_value(e: &ValueDraft) -> Option<usize>
-    ensures { result ≡ places.first (flat_map products_in (value_texts (value e.now))) }
-{
-    match e {
-        ValueDraft::Load { subs, .. } => product_of_each(subs.as_slice()),
-        ValueDraft::Constant(_) => None,
-        ValueDraft::Cast(a) => first_product(a),
-        ValueDraft::Complement(of) => product_of_value(of.get()),
-        ValueDraft::Binary { left, right, .. } => {
-            first_of(product_of_value(left.get()), product_of_value(right.get()))
-        }
-        ValueDraft::Shift { of, .. } => product_of_value(of.get()),
-    }
-}
-
 /// The `*` of the first product both of whose sides hold names.
-pub fn first_product(e: &IxDraft) -> Option<usize>
+pub(crate) fn first_product_in(e: &IxDraft) -> Option<usize>
     ensures { result ≡ places.first (products_in (ix e.now)) }
 {
     let factors = products(e);

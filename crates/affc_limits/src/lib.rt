@@ -1,6 +1,15 @@
 //! The limits on a text: those on its tokens, and those on its tree before names are looked up.
 #![tactic(auto)]
 
-pub mod bodies;
-pub mod forms;
+mod assignments;
+mod bodies;
+mod forms;
+pub mod limits;
+mod lines;
+mod parts;
+mod rests;
 pub mod shape;
+#[cfg(test)]
+mod tests;
+pub mod texts;
+mod whole;

@@ -7,8 +7,8 @@ ghost use Rattle.affc_grammar.specs.Limits.{limits_of, least, shape_passed};
 ghost use Rattle.affc_draft.specs.Symbols.{seen, passed_seen};
 ghost use Rattle.affc_limits.specs.Shape as shape;
 
-use affc_draft::symbol::{Symbol, is, is_mark_kind, is_word_kind};
 use affc_draft::passed::Passed;
+use affc_draft::symbol::{Symbol, is, is_mark_kind, is_word_kind};
 use affc_grammar::fault::LimitName;
 use affc_lex::token::Kind;
 

@@ -1,0 +1,107 @@
+//! The limits on assignments: how many, how many accesses each has, and how many comparisons stand round it.
+
+ghost use Rattle.std.specs.Prelude.{◌≡◌, ◌-◌, map, drop, fold, filter, nat_lt};
+ghost use Rattle.affc_grammar.specs.Limits.{assigned, assigned_in, loads_in};
+ghost use Rattle.affc_draft.specs.Drafts.{stmt, stmts_of, value};
+ghost use Rattle.affc_limits.specs.Assignments as spec;
+ghost use Rattle.affc_limits.specs.Assignments.{count_one, no_tally};
+
+use crate::forms::{lesser, place_if};
+use crate::rests::Rest;
+use affc_ast::tree::Op;
+use affc_draft::draft::{StmtDraft, ValueDraft};
+
+/// How many assignments more are within their limit, and the least place of one past it, of one that has too many
+/// accesses, and of one under too many comparisons.
+#[derive(Clone, Copy, Drop)]
+pub(crate) struct Tally {
+    pub statements: Rest,
+    pub accesses: Option<usize>,
+    pub comparisons: Option<usize>,
+}
+
+fn with_one(tally: Tally, at: usize, accesses: bool, comparisons: bool) -> Tally
+    ensures { result ≡ spec.with_one tally at accesses comparisons }
+{
+    Tally {
+        statements: tally.statements.next(at),
+        accesses: lesser(tally.accesses, place_if(accesses, at)),
+        comparisons: lesser(tally.comparisons, place_if(comparisons, at)),
+    }
+}
+
+/// How many loads more there is room for behind those of a value.
+#[tactic(auto, using(affc_draft::proofs::Outs::value_outs))]
+fn room_behind(room: usize, v: &ValueDraft) -> usize
+    ensures { result ≡ room - loads_in (value v.now) }
+{
+    match v {
+        ValueDraft::Load { .. } => room.saturating_sub(1),
+        ValueDraft::Constant(_) => room,
+        ValueDraft::Cast(_) => room,
+        ValueDraft::Complement(of) => room_behind(room, of.get()),
+        ValueDraft::Binary { left, right, .. } => {
+            room_behind(room_behind(room, left.get()), right.get())
+        }
+        ValueDraft::Shift { of, .. } => room_behind(room, of.get()),
+    }
+}
+
+fn is_crowded(op: &Option<Op>, v: &ValueDraft) -> bool
+    ensures { result ≡ spec.is_crowded op.now (loads_in (value v.now)) }
+{
+    match op {
+        None => room_behind(16, v) == 0,
+        Some(_) => room_behind(15, v) == 0,
+    }
+}
+
+/// With the assignments of a statement, where so many comparisons stand round it.
+fn with_stmt(tally: Tally, comparisons: usize, s: &StmtDraft) -> Tally
+    ensures { result ≡ fold count_one tally (assigned_in comparisons (stmt s.now)) }
+{
+    match s {
+        StmtDraft::For { body, .. } => {
+            let mut counted = tally;
+            for first in body.as_slice() {
+                counted = with_stmt(counted, comparisons, first);
+            }
+            counted
+        }
+        StmtDraft::If { conds, body, .. } => {
+            let round = comparisons.saturating_add(conds.len());
+            let mut counted = tally;
+            for second in body.as_slice() {
+                counted = with_stmt(counted, round, second);
+            }
+            counted
+        }
+        StmtDraft::Assign {
+            array,
+            op,
+            value,
+            ..
+        } => with_one(tally, array.at, is_crowded(op, value), 32 < comparisons),
+        StmtDraft::Block { body, .. } => {
+            let mut counted = tally;
+            for third in body.as_slice() {
+                counted = with_stmt(counted, comparisons, third);
+            }
+            counted
+        }
+    }
+}
+
+pub(crate) fn tally_of(body: &[StmtDraft]) -> Tally
+    ensures { result ≡ fold count_one no_tally (assigned 0 (stmts_of (map stmt body.now))) }
+{
+    let mut counted = Tally {
+        statements: Rest::of(64),
+        accesses: None,
+        comparisons: None,
+    };
+    for item in body {
+        counted = with_stmt(counted, 0, item);
+    }
+    counted
+}

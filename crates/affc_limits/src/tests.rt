@@ -1,0 +1,58 @@
+// What no clause says: that the calls succeed with ample memory, for numbers of any size.
+use crate::limits::limit_fault;
+use crate::parts::large_part;
+use crate::texts::first_product;
+use affc_ast::text::Text;
+use affc_ast::{Boxed, Items};
+use affc_draft::draft::{IxDraft, TextDraft, WordDraft};
+use std::alloc::{AllocError, Global};
+use std::test::Fail;
+
+/// A product of seventeen numbers, with the value 2^544.
+fn huge(alloc: Global, at: usize) -> Result<IxDraft, AllocError> {
+    let value = 4294967296;
+    let mut product = IxDraft::Literal { at, value };
+    for _ in 0..16 {
+        let left = Boxed::new(alloc, product)?;
+        let right = Boxed::new(alloc, IxDraft::Literal { at, value })?;
+        product = IxDraft::Product { at, left, right };
+    }
+    Ok(product)
+}
+
+/// A number that is small, though parts of it are huge.
+fn cancelled(alloc: Global) -> Result<IxDraft, AllocError> {
+    let left = Boxed::new(alloc, huge(alloc, 3)?)?;
+    let right = Boxed::new(alloc, huge(alloc, 9)?)?;
+    let inside = Boxed::new(alloc, IxDraft::Difference(left, right))?;
+    let grouped = Boxed::new(alloc, IxDraft::Grouped { at: 2, inside })?;
+    let five = Boxed::new(alloc, IxDraft::Literal { at: 0, value: 5 })?;
+    Ok(IxDraft::Sum(five, grouped))
+}
+
+#[test]
+fn only_the_huge_part_is_large(rt: HostRuntime) -> Result<(), Fail> {
+    let alloc = rt.alloc();
+    let expression = cancelled(alloc)?;
+    assert_eq!(rt; large_part(alloc, &expression)?, Some(3));
+    Ok(())
+}
+
+#[test]
+fn a_text_without_statements_passes_no_limit(rt: HostRuntime) -> Result<(), Fail> {
+    let alloc = rt.alloc();
+    let name = Text::from_str(alloc, "f")?;
+    let draft = TextDraft {
+        pragmas: Items::new(alloc),
+        has_prelude: false,
+        function: WordDraft { at: 1, name },
+        params: Items::new(alloc),
+        temps: Items::new(alloc),
+        body: Items::new(alloc),
+    };
+    assert_eq!(rt; first_product(&draft), None);
+    for has_prelude in [false, true] {
+        assert_eq!(rt; limit_fault(alloc, has_prelude, &draft)?, None);
+    }
+    Ok(())
+}
