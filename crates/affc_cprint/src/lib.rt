@@ -7,8 +7,11 @@ ghost use Rattle.affc_cprint.specs.Layout.{printed_text};
 
 pub mod examples;
 mod index;
+pub mod laws;
 mod program;
 mod stmt;
+#[cfg(test)]
+mod tests;
 mod value;
 
 use affc_ast::tree::Program;
