@@ -1,5 +1,5 @@
 -- The printed text of a well named program reads as the program.
-use Rattle.std.proofs.Common.{◌≡◌, ℕ, Bool, true, false, List, [], ◌∷◌, ◌++◌, codes, refl, sym, ap, subst, ◌∙◌, append_assoc}
+use Rattle.std.proofs.Common.{◌≡◌, Bool, true, false, List, [], ◌∷◌, ◌++◌, codes, refl, sym, ap, subst, ◌∙◌, append_assoc}
 use Rattle.std.proofs.lemmas.Bool.{and_parts, and_from}
 use Rattle.std.proofs.lemmas.List.Folds.{list_all-append}
 use Rattle.std.specs.List.{list_all}
@@ -40,9 +40,6 @@ printed_reads p w =
             ∙ ap (λ faults. within_limits (least faults) p) w.printed_limits;
       };
     }
-
-pub reads_back : (p : Program) (text : List ℕ) → text ≡ printed_text p → WellNamed p → ReadsWide text p
-reads_back p text e w = subst (λ t. ReadsWide t p) (sym e) (printed_reads p w)
 
 -- ---- The printed text decides
 
