@@ -63,15 +63,15 @@ kept_have zero (t ∷ ts) h =
     chosen false xs ys p q = q
 kept_have (suc left) (t ∷ ts) h = kept_have left ts (and_parts (can_have t.kind t.bytes) (list_all (λ s. can_have s.kind s.bytes) (map symbol ts)) h).1
 
-tokens_have : (text : List ℕ) (ts : List Lexeme) → Lexes text ts → AllHave (map symbol ts)
+pub tokens_have : (text : List ℕ) (ts : List Lexeme) → Lexes text ts → AllHave (map symbol ts)
 tokens_have text ts l = subst (λ us. AllHave (map symbol us)) (sym l.its_tokens) (kept_have 0 (tokens_from 0 l.pieces) (pieces_have 0 Fresh l.pieces [] l.standing))
 
 -- ---- The rules that a tree keeps
 
-record KeepsAll (r : Result Program Refusal) (places : List ℕ) (faults : List Passed) (p : Program) : Type 0 where
-  its_tree : r ≡ Ok p
-  its_products : places ≡ []
-  limits : faults ≡ []
+pub record KeepsAll (r : Result Program Refusal) (places : List ℕ) (faults : List Passed) (p : Program) : Type 0 where
+  pub its_tree : r ≡ Ok p
+  pub its_products : places ≡ []
+  pub limits : faults ≡ []
 
 nearer_some : (x : Passed) (o : Option Passed) → nearer x o ≡ None → ⊥
 nearer_some x None e = cc
@@ -81,7 +81,7 @@ nearer_some x (Some y) e = of _ e
     of true e = cc
     of false e = cc
 
-keeps_all : (r : Result Program Refusal) (places : List ℕ) (faults : List Passed) (p : Program) → named r (λ tree. affine places (within_limits (least faults) tree)) ≡ Ok p → KeepsAll r places faults p
+pub keeps_all : (r : Result Program Refusal) (places : List ℕ) (faults : List Passed) (p : Program) → named r (λ tree. affine places (within_limits (least faults) tree)) ≡ Ok p → KeepsAll r places faults p
 keeps_all (Err x) places faults p e = absurd (cc)
 keeps_all (Ok tree) (at ∷ places) faults p e = absurd (cc)
 keeps_all (Ok tree) [] (x ∷ faults) p e = of (nearer x (least faults)) refl e
