@@ -21,3 +21,4 @@ pub mod Parts
 pub mod Calls
 pub mod Products
 pub mod Whole
+pub mod Converse

@@ -5,14 +5,15 @@ use Rattle.std.proofs.lemmas.List.{append-nil}
 use Rattle.affc_ast.specs.declared.tree.Compare.{Compare}
 use Rattle.affc_ast.specs.declared.tree.Decl.{Decl}
 use Rattle.affc_ast.specs.declared.tree.Ix.{Ix}
+use Rattle.affc_ast.specs.declared.tree.Local.{Local}
 use Rattle.affc_ast.specs.declared.tree.Param.{Param}
 use Rattle.affc_ast.specs.declared.tree.Param.TheVariants.{Number, Array}
 use Rattle.affc_ast.specs.declared.tree.Program.{Program}
 use Rattle.affc_grammar.specs.Grammar.{Name, ParamsText, param, and_param, DeclsText, no_decls, and_decl, one_array, PragmasText, no_pragmas, and_range, line_feed, no_stmts}
-use Rattle.affc_grammar.specs.Printed.{Names, no_names, and_param_name, and_array_name, param_text, and_params, params_text, dims_text, decls_text, int_text, ranges_text, context_text, conds_text, function_text, stmts_text, stmt_text, array_text, ix_text, is_input}
+use Rattle.affc_grammar.specs.Printed.{Names, no_names, and_param_name, and_array_name, and_number, param_text, and_params, params_text, dims_text, decls_text, int_text, ranges_text, context_text, conds_text, function_text, stmts_text, stmt_text, array_text, ix_text, is_input}
 use Rattle.affc_cprint.specs.Adds.{Adds}
 use Rattle.affc_cprint.specs.Layout.{◌then◌, params_layout, param_layout, decls_layout, pragmas_layout, int_layout, conds_layout, prelude_layout, function_layout, pragmas_of, printed_text, stmts_layout, const_layout, ix_layout}
-use Rattle.affc_cprint.specs.Statements.{dim_added, line_added}
+use Rattle.affc_cprint.specs.Statements.{dim_added, local_added, locals_added, with_locals, line_added}
 use Rattle.affc_cprint.specs.Programs.{range_added, context_added, params_added, with_param_names, decls_added, with_array_names, function_head, function_added}
 use Rattle.affc_cprint.proofs.Chains.{dims_are}
 use Rattle.affc_cprint.proofs.Arms.{lines_are}
@@ -147,11 +148,19 @@ decls_step {o = o} {o' = o'} prelude names n' temps i d w lt is named adds shown
     grouped : (a b c d e f : List ℕ) → (a ++ (b then c then d then e)) ++ f ≡ a ++ (b then c then d then e then f)
     grouped a b c d e f = simp append_assoc
 
-pub decls_end : {o t : List ℕ} {m : Names} (prelude : Bool) (names : Names) (temps : List Decl) (i : ℕ) → length temps ≤ i
-    → (o ++ decls_added prelude names (drop i temps) ≡ t) × (with_array_names names (drop i temps) ≡ m) → (o ≡ t) × (names ≡ m)
-decls_end {o = o} prelude names temps i past before =
-    let none = past_end temps i past in
-    (sym (append-nil o) ∙ ap (λ ds. o ++ decls_added prelude names ds) (sym none) ∙ before.0, ap (with_array_names names) (sym none) ∙ before.1)
+-- one more local
+pub locals_step : {o o' t : List ℕ} {m : Names} (prelude : Bool) (level : ℕ) (names n' : Names) (ls : List Local) (i : ℕ) (l : Local) (w : Name) → i < length ls → l ≡ get_or ls i l → w ≡ l.name
+    → Adds o o' (local_added prelude level names l) → n' ≡ and_number names w
+    → (o ++ locals_added prelude level names (drop i ls) ≡ t) × (with_locals names (drop i ls) ≡ m)
+    → (o' ++ locals_added prelude level n' (drop (i + 1) ls) ≡ t) × (with_locals n' (drop (i + 1) ls) ≡ m)
+locals_step {o = o} {o' = o'} prelude level names n' ls i l w lt is named adds shown before =
+    let here : drop i ls ≡ l ∷ drop (i + 1) ls = left_at ls i l lt is in
+    let sees : n' ≡ and_number names l.name = shown ∙ ap (and_number names) named in
+    let rest = locals_added prelude level (and_number names l.name) (drop (i + 1) ls) in (
+      ap (λ n. o' ++ locals_added prelude level n (drop (i + 1) ls)) sees ∙ ap (λ x. x ++ rest) adds.is ∙ append_assoc o (local_added prelude level names l) rest
+          ∙ ap (λ ds. o ++ locals_added prelude level names ds) (sym here) ∙ before.0,
+      ap (λ n. with_locals n (drop (i + 1) ls)) sees ∙ ap (with_locals names) (sym here) ∙ before.1,
+    )
 
 array_of : (prelude : Bool) (names : Names) (d : Decl) (es : List Ix) → 1 ≤ length es
     → param_layout (array_text prelude names d es) ≡ (const_layout (is_input d.role) ++ (codes "uint64_t " ++ d.name)) ++ flat_map (dim_added prelude names) es

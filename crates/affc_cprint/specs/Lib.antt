@@ -5,3 +5,4 @@ pub mod Seen
 pub mod Statements
 pub mod Levels
 pub mod Programs
+pub mod KeepsRules

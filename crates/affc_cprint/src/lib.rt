@@ -1,14 +1,17 @@
 //! Programs as text.
 #![tactic(auto)]
 
-ghost use Rattle.std.specs.Prelude.{◌≡◌, IfOk};
+ghost use Rattle.std.specs.Prelude.{◌≡◌, ◌↔◌, IfOk};
 ghost use Rattle.affc_grammar.specs.Reads.{ReadsWide, WellNamed};
 ghost use Rattle.affc_cprint.specs.Layout.{printed_text};
 
 pub mod examples;
 mod index;
+pub mod laws;
 mod program;
 mod stmt;
+#[cfg(test)]
+mod tests;
 mod value;
 
 use affc_ast::tree::Program;
@@ -22,10 +25,9 @@ pub struct Memory;
 
 /// The text of a program in its one layout: two spaces for each level, one statement, brace or declaration in a
 /// line, and the fewest parentheses.
-#[tactic(auto, using(crate::proofs::Whole::reads_back))]
 pub fn print(alloc: Global, program: &Program) -> Result<Vec<u8>, Memory>
     ensures text { IfOk result (λ v. v.items ≡ printed_text program.now) }
-    ensures reads { IfOk result (λ v. WellNamed program.now → ReadsWide v.items program.now) }
+    ensures reads { IfOk result (λ v. WellNamed program.now ↔ ReadsWide v.items program.now) }
 {
     match program::text(alloc, program) {
         Ok(text) => Ok(text.into_bytes()),

@@ -154,19 +154,16 @@ fn locals<'a>(
     out: &mut String,
     prelude: bool,
     names: &mut Names<'a>,
-    locals: &'a [Local],
+    list: &'a [Local],
     level: usize,
 ) -> Result<(), AllocError>
-    ensures { OnOk result (Adds (string_bytes out.old) (string_bytes out.new) (locals_added prelude level (seen names.old) locals.now) × (seen names.new ≡ with_locals (seen names.old) locals.now)) }
+    ensures { OnOk result (Adds (string_bytes out.old) (string_bytes out.new) (locals_added prelude level (seen names.old) list.now) × (seen names.new ≡ with_locals (seen names.old) list.now)) }
 {
-    match locals {
-        [] => Ok(()),
-        [l, rest @ ..] => {
-            local(out, prelude, names, l, level)?;
-            show(names, l.name.as_str())?;
-            crate::stmt::locals(out, prelude, names, rest, level)
-        }
+    for one in list {
+        local(out, prelude, names, one, level)?;
+        show(names, one.name.as_str())?;
     }
+    Ok(())
 }
 
 fn assign(

@@ -19,3 +19,15 @@ returns-clause-expressions c = refl
 pub returns-clause-blocks : goal.returns-clause-blocks
 unfolding computing shape-the_row-Ix-0 hidden-the_row-Ix-0 shape-the_row-Val-0 hidden-the_row-Val-0 shape-the_row-Stmt-0 hidden-the_row-Stmt-0 hidden digits
 returns-clause-blocks c = refl
+
+pub returns-clause-parentheses : goal.returns-clause-parentheses
+unfolding computing shape-the_row-Ix-0 hidden-the_row-Ix-0 shape-the_row-Val-0 hidden-the_row-Val-0 shape-the_row-Stmt-0 hidden-the_row-Stmt-0 hidden digits
+returns-clause-parentheses c = refl
+
+pub returns-clause-parentheses_again : goal.returns-clause-parentheses_again
+unfolding computing shape-the_row-Ix-0 hidden-the_row-Ix-0 shape-the_row-Val-0 hidden-the_row-Val-0 shape-the_row-Stmt-0 hidden-the_row-Stmt-0 hidden digits
+returns-clause-parentheses_again c = refl
+
+pub returns-clause-context : goal.returns-clause-context
+unfolding computing shape-the_row-Ix-0 hidden-the_row-Ix-0 shape-the_row-Val-0 hidden-the_row-Val-0 shape-the_row-Stmt-0 hidden-the_row-Stmt-0 hidden digits
+returns-clause-context c = refl
