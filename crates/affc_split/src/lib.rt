@@ -4,6 +4,7 @@
 pub mod bounds;
 mod boxed;
 pub mod budget;
+mod cuts;
 pub mod decision;
 mod leaves;
 mod parts;

@@ -26,7 +26,7 @@ fn set_entry(entries: &mut [i128], place: usize, value: i128) {
 }
 
 /// The greatest common divisor of two numbers that aren't negative.
-fn common_divisor(first: u128, second: u128) -> u128 {
+pub(crate) fn common_divisor(first: u128, second: u128) -> u128 {
     let mut a = first;
     let mut b = second;
     for _ in 0..200u32 {
