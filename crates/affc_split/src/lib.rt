@@ -11,8 +11,6 @@ mod parts;
 mod places;
 pub mod search;
 mod simplex;
-#[cfg(test)]
-mod tests;
 mod tops;
 
 pub use budget::{Budget, Stop};

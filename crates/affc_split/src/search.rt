@@ -106,6 +106,7 @@ fn opened_half(
 
 /// Opens the lower half of a box.
 #[inline(never)]
+#[tactic(auto, using(crate::proofs::Halves::halves_points))]
 fn opened_low(
     alloc: Global,
     system: &System,
@@ -123,7 +124,7 @@ fn opened_low(
     requires half { ((at -ℤ (bound_at bounds.now j).low) +ℤ (at -ℤ (bound_at bounds.now j).low)) ≤ℤ ((bound_at bounds.now j).high -ℤ (bound_at bounds.now j).low) }
     ensures half { IfOk result (λ h. IsHalf system.now (lowered bounds.now j at next) (next + 1) (left - 1) h) }
     ensures fuel { 1 ≤ left }
-    ensures count { IfOk result (λ h. size (lowered bounds.now j at next) + size (raised bounds.now j at next) ≡ size bounds.now) }
+    ensures count { size (lowered bounds.now j at next) + size (raised bounds.now j at next) ≡ size bounds.now }
     ensures limit { budget.new.limit ≡ budget.old.limit }
     ensures uncounted { IsNone budget.old.limit → budget.new.spent ≡ budget.old.spent }
     ensures grows { budget.old.spent ≤ budget.new.spent }
@@ -232,24 +233,53 @@ pub(crate) fn inside(
         Look::Free(j) => j,
     };
     let at = middle_of(bounds, j);
+    match lower(alloc, system, bounds, j, at, next, left, spare, budget)? {
+        Found::Point(point) => Ok(low_point(point, system, bounds, j, at, next)),
+        Found::Empty(low) => upper(alloc, system, bounds, j, at, low, next, left, spare, budget),
+    }
+}
+
+/// Searches the lower half of a box.
+#[cycle(search)]
+#[inline(never)]
+#[tactic(auto, using(crate::proofs::Halves::some_points))]
+fn lower(
+    alloc: Global,
+    system: &System,
+    bounds: &[Bound],
+    j: usize,
+    at: i64,
+    next: u32,
+    left: u32,
+    spare: u32,
+    budget: &mut Budget,
+) -> Result<Found, Stop>
+    requires ready { Ready system.now.columns bounds.now next left }
+    requires free { FirstFree bounds.now j }
+    requires spare { (next + left) + spare < 2 ^ 32 }
+    requires low_in { (bound_at bounds.now j).low ≤ℤ at }
+    requires high_in { at <ℤ (bound_at bounds.now j).high }
+    requires half { ((at -ℤ (bound_at bounds.now j).low) +ℤ (at -ℤ (bound_at bounds.now j).low)) ≤ℤ ((bound_at bounds.now j).high -ℤ (bound_at bounds.now j).low) }
+    ensures answer { IfOk result (λ a. IsFound system.now (lowered bounds.now j at next) (next + 1) a) }
+    ensures fuel { 1 ≤ left }
+    ensures count { size (lowered bounds.now j at next) + size (raised bounds.now j at next) ≡ size bounds.now }
+    ensures limit { budget.new.limit ≡ budget.old.limit }
+    ensures uncounted { IsNone budget.old.limit → budget.new.spent ≡ budget.old.spent }
+    ensures grows { budget.old.spent ≤ budget.new.spent }
+    ensures cost { budget.new.spent + 1 ≤ budget.old.spent + 2 * size (lowered bounds.now j at next) }
+    ensures stop { IfErr result (λ e. e ≡ Stop.Budget → budget.new.limit ≡ Some budget.new.spent) }
+{
     match opened_low(alloc, system, bounds, j, at, next, left, budget)? {
-        Half::Leaf(low) => { upper(alloc, system, bounds, j, at, low, next, left, spare, budget) }
-        Half::Open(half) => {
-            match inside(
-                alloc,
-                system,
-                half.as_slice(),
-                next + 1,
-                left - 1,
-                spare,
-                budget,
-            )? {
-                Found::Point(point) => Ok(low_point(point, system, bounds, j, at, next)),
-                Found::Empty(low) => {
-                    upper(alloc, system, bounds, j, at, low, next, left, spare, budget)
-                }
-            }
-        }
+        Half::Leaf(low) => Ok(Found::Empty(low)),
+        Half::Open(half) => inside(
+            alloc,
+            system,
+            half.as_slice(),
+            next + 1,
+            left - 1,
+            spare,
+            budget,
+        ),
     }
 }
 
