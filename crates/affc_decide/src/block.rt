@@ -16,11 +16,15 @@ pub enum Fault {
     Memory,
 }
 
+/// The most boxes that are opened for a system whose block says no limit.
+const LIMIT: u64 = 1_000_000;
+
 /// A block of which some lines are read.
 #[derive(Drop)]
 pub struct Block {
     pub columns: u32,
     pub rows: usize,
+    pub limit: u64,
     pub system: System,
     pub ranges: Option<BoxOf>,
 }
@@ -31,6 +35,7 @@ pub enum Line {
     Nothing,
     Empty,
     Point(Vec<i64>),
+    Stopped,
 }
 
 /// A whole number that a word says.
@@ -63,6 +68,7 @@ fn begin(alloc: Global, columns: &str, rows: &str) -> Result<Block, Fault> {
     Ok(Block {
         columns: columns as u32,
         rows: rows as usize,
+        limit: LIMIT,
         system: System::new(alloc, columns as u32),
         ranges: None,
     })
@@ -147,6 +153,18 @@ fn add_ranges(alloc: Global, block: &mut Option<Block>, words: &[&str]) -> Resul
     }
 }
 
+/// Says the limit of a block.
+fn set_limit(block: &mut Option<Block>, limit: &str) -> Result<(), Fault> {
+    let limit = number(limit)?;
+    match block {
+        Some(block) if limit >= 0 => {
+            block.limit = limit as u64;
+            Ok(())
+        }
+        _ => Err(Fault::Malformed),
+    }
+}
+
 /// Reads a line into a block.
 pub fn read_line(alloc: Global, block: &mut Option<Block>, line: &str) -> Result<Line, Fault> {
     let words: Vec<&str> = match line.split_whitespace().collect(alloc) {
@@ -163,7 +181,12 @@ pub fn read_line(alloc: Global, block: &mut Option<Block>, line: &str) -> Result
             add_ranges(alloc, block, ends)?;
             Ok(Line::Nothing)
         }
+        ["limit", limit] => {
+            set_limit(block, limit)?;
+            Ok(Line::Nothing)
+        }
         ["expect", "empty"] => Ok(Line::Empty),
+        ["expect", "stopped"] => Ok(Line::Stopped),
         ["expect", "point", point @ ..] => Ok(Line::Point(numbers(alloc, point)?)),
         entries => {
             add_numbers(alloc, block, entries)?;

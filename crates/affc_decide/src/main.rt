@@ -11,9 +11,6 @@ use std::io;
 use std::io::{BufRead, BufReader};
 use std::process::ExitCode;
 
-/// The most boxes that are opened for one system.
-const LIMIT: u64 = 1_000_000;
-
 /// What the answers were.
 #[derive(Clone, Copy)]
 struct Totals {
@@ -74,7 +71,7 @@ fn settle(
     if !whole || ranges.ranges().len() != block.system.columns() as usize || !within_reach(ranges) {
         return Ok(false);
     }
-    let mut budget = Budget::new(Some(LIMIT));
+    let mut budget = Budget::new(Some(block.limit));
     let found = decide(rt.alloc(), &block.system, ranges, &mut budget);
     let spent = budget.spent();
     totals.units = totals.units.saturating_add(spent);

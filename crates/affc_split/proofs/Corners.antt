@@ -42,7 +42,7 @@ negated_zeros : (m : ℕ) → map neg_ℤ (replicate m (pos 0)) ≡ replicate m 
 negated_zeros zero = refl
 negated_zeros (suc m) = ap (λ l. pos 0 ∷ l) (negated_zeros m)
 
-negated_unit : (o m : ℕ) → map neg_ℤ (unit o m) ≡ replicate o (pos 0) ++ negsuc 0 ∷ replicate m (pos 0)
+pub negated_unit : (o m : ℕ) → map neg_ℤ (unit o m) ≡ replicate o (pos 0) ++ negsuc 0 ∷ replicate m (pos 0)
 negated_unit zero m = ap (λ l. negsuc 0 ∷ l) (negated_zeros m)
 negated_unit (suc o) m = ap (λ l. pos 0 ∷ l) (negated_unit o m)
 

@@ -32,7 +32,7 @@ top-end (c ∷ cs) bs (suc n) h = top-end cs bs n (omega arith)
 step_up : (c lo x : ℤ) (w u v : ℤ) → pos 0 ≤ℤ w → w ≡ u +ℤ v → v ≡ neg_ℤ (c *ℤ lo) → u ≡ c *ℤ x → (c *ℤ lo) ≤ℤ (c *ℤ x)
 step_up c lo x w u v h e f g = omega (arith, ints)
 
-grows : (n : ℕ) (lo x : ℤ) → lo ≤ℤ x → (pos n *ℤ lo) ≤ℤ (pos n *ℤ x)
+pub grows : (n : ℕ) (lo x : ℤ) → lo ≤ℤ x → (pos n *ℤ lo) ≤ℤ (pos n *ℤ x)
 grows n lo x h =
     let d : pos 0 ≤ℤ (x +ℤ neg_ℤ lo) = omega (arith, ints) in
     let e = mul-add (pos n) x (neg_ℤ lo) in

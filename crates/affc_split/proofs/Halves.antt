@@ -83,3 +83,13 @@ some_points (b ∷ bs) = one_each (gap b) (size bs) (some_points bs)
 pub some_in_ranges : (rs : List (ℤ × ℤ)) → 1 ≤ points rs
 some_in_ranges [] = omega arith
 some_in_ranges (r ∷ rs) = one_each (unsigned_abs (r.1 -ℤ r.0)) (points rs) (some_in_ranges rs)
+
+-- a box with a free column has two points or more
+pub two_points : (bs : List Bound) (j : ℕ) → FirstFree bs j → 2 ≤ size bs
+two_points bs j f =
+    let at = (bound_at bs j).low in
+    let here : at ≤ℤ at = omega (arith, ints) in
+    let e = halves_points bs j at 0 0 f.there here f.free in
+    let a = some_points (lowered bs j at 0) in
+    let b = some_points (raised bs j at 0) in
+    omega (arith, e, a, b)

@@ -7,3 +7,5 @@ pub mod Corners
 pub mod Splits
 pub mod Whole
 pub mod BoxRows
+pub mod Divisions
+pub mod Boxes

@@ -20,19 +20,19 @@ use Rattle.affc_split.specs.Search.{PlacedBound, Placed, IsEmpty}
 use Rattle.affc_farkas.proofs.Entries.{negated_row}
 
 -- an old row stays where it is, and the new one stands at the end
-kept_row : (columns : ℕ) (rows : List Affine) (r : Affine) (k : ℕ) → k < length rows → row_at columns (rows ++ r ∷ []) k ≡ row_at columns rows k
+pub kept_row : (columns : ℕ) (rows : List Affine) (r : Affine) (k : ℕ) → k < length rows → row_at columns (rows ++ r ∷ []) k ≡ row_at columns rows k
 kept_row columns rows r k h = get_or_append_left rows (r ∷ []) (zero_row columns) k h
 
-new_row : (columns : ℕ) (rows : List Affine) (r : Affine) (n : ℕ) → length rows ≡ n → row_at columns (rows ++ r ∷ []) n ≡ r
+pub new_row : (columns : ℕ) (rows : List Affine) (r : Affine) (n : ℕ) → length rows ≡ n → row_at columns (rows ++ r ∷ []) n ≡ r
 new_row columns rows r n h = ap (row_at columns (rows ++ r ∷ [])) (sym h) ∙ get_or-append_seam rows r [] (zero_row columns)
 
-longer : (rows : List Affine) (r : Affine) → length (rows ++ r ∷ []) ≡ length rows + 1
+pub longer : (rows : List Affine) (r : Affine) → length (rows ++ r ∷ []) ≡ length rows + 1
 longer rows r = length-append rows (r ∷ [])
 
 in_longer : (rows : List Affine) (r : Affine) (k : ℕ) → k < length rows → k < length (rows ++ r ∷ [])
 in_longer rows r k h = let e = longer rows r in omega arith
 
-kept_bound : (columns : ℕ) (rows : List Affine) (r : Affine) (j : ℕ) (b : Bound) → PlacedBound columns rows j b → PlacedBound columns (rows ++ r ∷ []) j b
+pub kept_bound : (columns : ℕ) (rows : List Affine) (r : Affine) (j : ℕ) (b : Bound) → PlacedBound columns rows j b → PlacedBound columns (rows ++ r ∷ []) j b
 kept_bound columns rows r j b p = record {
   low_there = in_longer rows r b.low_row p.low_there;
   low_coefs = ap (λ (q : Affine). q.coefs) (kept_row columns rows r b.low_row p.low_there) ∙ p.low_coefs;

@@ -107,7 +107,7 @@ placed_later columns n j front (r ∷ rs) e (suc k) h =
     subst (λ i. PlacedBound columns (front ++ low ∷ high ∷ rest) i (bound_at (box_bounds (n + 2) rs) k)) z
     (subst (λ q. PlacedBound columns q (suc j + k) (bound_at (box_bounds (n + 2) rs) k)) (append_assoc front (low ∷ high ∷ []) rest) p)
 
-len_rows : (columns j : ℕ) (rs : List (ℤ × ℤ)) → length (box_rows columns j rs) ≡ 2 * length rs
+pub len_rows : (columns j : ℕ) (rs : List (ℤ × ℤ)) → length (box_rows columns j rs) ≡ 2 * length rs
 len_rows columns j [] = refl
 len_rows columns j (r ∷ rs) = let h = len_rows columns (suc j) rs in omega arith
 

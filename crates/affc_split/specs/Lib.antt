@@ -4,3 +4,4 @@ pub mod Answers
 pub mod Bounds
 pub mod Leaves
 pub mod Search
+pub mod Cuts

@@ -9,9 +9,13 @@ use Rattle.affc_farkas.specs.declared.proof.Proof.{Proof}
 use Rattle.affc_split.specs.declared.bounds.Bound.{Bound}
 use Rattle.affc_split.specs.declared.search.Found.{Found}
 use Rattle.affc_split.specs.declared.search.Found.TheVariants.{Empty, Point}
+use Rattle.affc_split.specs.declared.search.Half.{Half}
+use Rattle.affc_split.specs.declared.search.Half.TheVariants.{Leaf, Open}
+use Rattle.affc_split.specs.declared.search.Look.{Look}
+use Rattle.affc_split.specs.declared.search.Look.TheVariants.{Known, Free}
 use Rattle.affc_split.specs.Points.{IsLeastPoint}
 use Rattle.affc_split.specs.Answers.{unit, SplitsAtZero}
-use Rattle.affc_split.specs.Bounds.{IsBound, Inside, Fuel, bound_at, ranges_of}
+use Rattle.affc_split.specs.Bounds.{IsBound, Inside, Fuel, FirstFree, bound_at, ranges_of}
 
 -- the rows with the bound's numbers say the bound
 pub record PlacedBound (columns : ℕ) (rows : List Affine) (j : ℕ) (b : Bound) : Type 0 where
@@ -54,6 +58,21 @@ pub record Ready (columns : ℕ) (bounds : List Bound) (next left : ℕ) : Type 
   pub ranges : All IsBound bounds
   pub fuel : Fuel left bounds
   pub room : next + left < 2 ^ 32
+
+-- an open half of a box: no point is there, or it is this part, ready to be searched
+abbrev pub IsHalf : Rows → List Bound → ℕ → ℕ → Half → Type 0
+IsHalf system part next left (Leaf p) = IsEmpty system part next p.value
+IsHalf system part next left (Open v) = (v.items ≡ part) × Ready system.columns part next left
+
+-- what is found in the box, or its first free column
+abbrev pub IsLook : Rows → List Bound → ℕ → Look → Type 0
+IsLook system bounds next (Known f) = IsFound system bounds next f
+IsLook system bounds next (Free j) = FirstFree bounds j
+
+-- P holds, where the box is to be halved
+abbrev pub IfFree : Look → Type 0 → Type 0
+IfFree (Known f) P = Unit {0}
+IfFree (Free j) P = P
 
 -- the bounds of a box, where its rows have the numbers from n on
 abbrev pub box_bounds : ℕ → List (ℤ × ℤ) → List Bound

@@ -1,6 +1,7 @@
 //! A system with the rows of its box, and elimination there.
 ghost use Rattle.std.specs.Prelude.{◌≡◌, ℕ, ℤ, List, ◌+◌, ◌-◌, ◌*◌, ◌^◌, ◌<◌, ◌≤◌, ◌∷◌, ◌++◌, [], pos, neg_ℤ, map, IfOk, IfSome, IfNone, OnOk, OnErr, Err, length};
 ghost use Rattle.std.specs.List.{All};
+ghost use Rattle.affc_system.specs.Systems.{FitsRow};
 ghost use Rattle.affc_farkas.specs.Proofs.{ValidProof};
 ghost use Rattle.affc_split.specs.Answers.{unit, range_rows, with_box, IsLeafProof, IsHard};
 
@@ -14,7 +15,7 @@ use smallvec::SmallVec;
 use std::alloc::{AllocError, Global};
 
 /// A copy of a row.
-fn copy_of(alloc: Global, row: &Form) -> Result<Form, AllocError>
+pub(crate) fn copy_of(alloc: Global, row: &Form) -> Result<Form, AllocError>
     ensures { IfOk result (λ f. f ≡ row.now) }
 {
     let Ok(coefs) = SmallVec::from_slice(alloc, row.coefs.as_slice()) else {
@@ -27,9 +28,10 @@ fn copy_of(alloc: Global, row: &Form) -> Result<Form, AllocError>
 }
 
 /// Adds a row that keeps the limits.
-fn push_row(boxed: &mut System, row: Form) -> Result<(), AllocError>
+pub(crate) fn push_row(boxed: &mut System, row: Form) -> Result<(), AllocError>
     requires { length row.coefs ≡ boxed.old.columns }
-    ensures { OnOk result (boxed.new ≡ record boxed.old { rows = boxed.old.rows ++ row ∷ [] }) }
+    ensures value { OnOk result (boxed.new ≡ record boxed.old { rows = boxed.old.rows ++ row ∷ [] }) }
+    ensures fits { OnOk result (FitsRow row) }
 {
     let Ok(()) = boxed.push(row) else {
         return Err(AllocError);
@@ -103,7 +105,11 @@ fn system_copy(alloc: Global, system: &System) -> Result<System, AllocError>
 }
 
 /// The system with the rows of the box.
-fn boxed_system(alloc: Global, system: &System, ranges: &[(i64, i64)]) -> Result<System, AllocError>
+pub(crate) fn boxed_system(
+    alloc: Global,
+    system: &System,
+    ranges: &[(i64, i64)],
+) -> Result<System, AllocError>
     requires { length ranges.now ≡ system.now.columns }
     ensures { IfOk result (λ s. s ≡ with_box system.now ranges.now) }
 {

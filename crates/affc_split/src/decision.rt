@@ -10,18 +10,16 @@ ghost use Rattle.affc_split.specs.Bounds.{IsBound, size};
 ghost use Rattle.affc_split.specs.Search.{IsEmpty, Ready, box_bounds};
 
 use crate::bounds::Bound;
-use crate::boxed::refuted;
+use crate::boxed::{boxed_system, refuted};
 use crate::budget::{Budget, Stop};
+use crate::cuts::{has_cut, with_cuts};
 use crate::leaves::{found_leaf, row_leaf};
-use crate::search::{Answer, Found, inside};
+use crate::search::{Answer, Found, SPARE, inside};
 use crate::tops::broken;
 use affc_farkas::Proof;
 use affc_system::system::MOST_ROWS;
 use affc_system::{BoxOf, System};
 use std::alloc::{AllocError, Global};
-
-/// The most uneven splits on the way to a part of the box.
-const SPARE: u32 = 100;
 
 /// The bounds of a box whose rows come after those of the system.
 fn bounds_of(alloc: Global, ranges: &[(i64, i64)], rows: u32) -> Result<Vec<Bound>, AllocError>
@@ -122,6 +120,44 @@ fn root_leaf(
     Ok(None)
 }
 
+/// What is found in the whole box with the cuts of the system's rows.
+#[tactic(auto, using(crate::proofs::Halves::some_in_ranges))]
+fn cut_and_searched(
+    alloc: Global,
+    system: &System,
+    ranges: &[(i64, i64)],
+    bounds: &[Bound],
+    next: u32,
+    left: u32,
+    budget: &mut Budget,
+) -> Result<Answer, Stop>
+    requires columns { length ranges.now ≡ system.now.columns }
+    requires reach { All WithinReach ranges.now }
+    requires bounds { bounds.now ≡ box_bounds (length system.now.rows) ranges.now }
+    requires next { next ≡ length system.now.rows + 2 * system.now.columns }
+    requires ready { Ready system.now.columns bounds.now next left }
+    requires left { left ≤ 8000 }
+    requires few { next ≤ 1024 }
+    requires count { size bounds.now ≡ points ranges.now }
+    ensures empty { IfOk result (λ a. IfEmpty a (λ p. ValidProof (with_box system.now ranges.now) p)) }
+    ensures plain { IfOk result (λ a. IfEmpty a SplitsAtZero) }
+    ensures point { IfOk result (λ a. IfPoint a (IsLeastPoint system.now ranges.now)) }
+    ensures limit { budget.new.limit ≡ budget.old.limit }
+    ensures uncounted { IsNone budget.old.limit → budget.new.spent ≡ budget.old.spent }
+    ensures grows { budget.old.spent ≤ budget.new.spent }
+    ensures cost { budget.new.spent + 2 ≤ budget.old.spent + 2 * points ranges.now }
+    ensures stop { IfErr result (λ e. e ≡ Stop.Budget → budget.new.limit ≡ Some budget.new.spent) }
+{
+    let count = system.rows().len();
+    let Ok(boxed) = boxed_system(alloc, system, ranges) else {
+        return Err(Stop::Memory);
+    };
+    match with_cuts(alloc, boxed, bounds, 0, count, next, left, budget)? {
+        Found::Empty(proof) => Ok(Answer::Empty(Box::into_inner(proof))),
+        Found::Point(point) => Ok(Answer::Point(point)),
+    }
+}
+
 /// What is found in the whole box, after it is opened and has no leaf.
 fn searched(
     alloc: Global,
@@ -138,6 +174,7 @@ fn searched(
     requires next { next ≡ length system.now.rows + 2 * system.now.columns }
     requires ready { Ready system.now.columns bounds.now next left }
     requires spare { (next + left) + 100 < 2 ^ 32 }
+    requires left { left ≤ 8000 }
     requires count { size bounds.now ≡ points ranges.now }
     ensures empty { IfOk result (λ a. IfEmpty a (λ p. ValidProof (with_box system.now ranges.now) p)) }
     ensures plain { IfOk result (λ a. IfEmpty a SplitsAtZero) }
@@ -149,6 +186,10 @@ fn searched(
     ensures stop { IfErr result (λ e. e ≡ Stop.Budget → budget.new.limit ≡ Some budget.new.spent) }
 {
     let _rows = system.rows();
+    if next < MOST_ROWS as u32 && has_cut(system) {
+        let answer = cut_and_searched(alloc, system, ranges, bounds, next, left, budget)?;
+        return Ok(answer);
+    }
     match inside(alloc, system, bounds, next, left, SPARE, budget)? {
         Found::Empty(proof) => Ok(Answer::Empty(Box::into_inner(proof))),
         Found::Point(point) => Ok(Answer::Point(point)),

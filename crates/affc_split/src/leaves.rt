@@ -91,7 +91,7 @@ fn leaf_pairs(
 }
 
 /// Multipliers with these pairs.
-fn multipliers(alloc: Global, pairs: &[(u32, u64)]) -> Result<Multipliers, AllocError>
+pub(crate) fn multipliers(alloc: Global, pairs: &[(u32, u64)]) -> Result<Multipliers, AllocError>
     ensures { IfOk result (λ m. m ≡ pairs.now) }
 {
     let mut by = Multipliers::new(alloc);

@@ -4,14 +4,13 @@
 pub mod bounds;
 mod boxed;
 pub mod budget;
+mod cuts;
 pub mod decision;
 mod leaves;
 mod parts;
 mod places;
 pub mod search;
 mod simplex;
-#[cfg(test)]
-mod tests;
 mod tops;
 
 pub use budget::{Budget, Stop};

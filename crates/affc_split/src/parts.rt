@@ -15,9 +15,11 @@ use smallvec::SmallVec;
 use std::alloc::{AllocError, Global};
 
 /// The middle of a free column.
+#[tactic(auto, using(crate::proofs::Halves::two_points))]
 pub(crate) fn middle_of(bounds: &[Bound], j: usize) -> i64
     requires ranges { All IsBound bounds.now }
     requires free { FirstFree bounds.now j }
+    ensures two { 2 ≤ size bounds.now }
     ensures low_in { (bound_at bounds.now j).low ≤ℤ result }
     ensures high_in { result <ℤ (bound_at bounds.now j).high }
     ensures low_half { ((result -ℤ (bound_at bounds.now j).low) +ℤ (result -ℤ (bound_at bounds.now j).low)) ≤ℤ ((bound_at bounds.now j).high -ℤ (bound_at bounds.now j).low) }

@@ -4,6 +4,7 @@
 //! too many, nothing is found.
 
 use crate::bounds::Bound;
+use affc_rows::Form;
 use affc_system::System;
 use std::alloc::{AllocError, Global};
 
@@ -26,7 +27,7 @@ fn set_entry(entries: &mut [i128], place: usize, value: i128) {
 }
 
 /// The greatest common divisor of two numbers that aren't negative.
-fn common_divisor(first: u128, second: u128) -> u128 {
+pub(crate) fn common_divisor(first: u128, second: u128) -> u128 {
     let mut a = first;
     let mut b = second;
     for _ in 0..200u32 {
@@ -221,17 +222,40 @@ fn exchange(tableau: &mut Tableau, row: usize, column: usize, value: i128) -> Op
     Some(())
 }
 
-/// The tableau with the columns at the low ends of their ranges.
+/// The least value of a row over the box, where all numbers fit.
+fn least_value(row: &Form, bounds: &[Bound]) -> Option<i128> {
+    let mut sum = row.constant;
+    for (j, c) in row.coefs.as_slice().iter().enumerate() {
+        if *c != 0 {
+            let bound = bounds.get(j)?;
+            let end = if *c > 0 { bound.low } else { bound.high };
+            sum = sum.checked_add(c.checked_mul(i128::from(end))?)?;
+        }
+    }
+    Some(sum)
+}
+
+/// Whether a row is at least 0 in the whole box: then no sum needs it.
+fn is_idle(row: &Form, bounds: &[Bound]) -> bool {
+    match least_value(row, bounds) {
+        Some(value) => value >= 0,
+        None => false,
+    }
+}
+
+/// The tableau of the rows that can be below 0, with the columns at the low ends of their ranges.
 fn tableau_of(alloc: Global, system: &System, bounds: &[Bound]) -> Result<Tableau, AllocError> {
     let columns = bounds.len();
     let mut lines = Vec::new(alloc);
     for (i, row) in system.rows().iter().enumerate() {
-        lines.push(Line {
-            basic: columns.saturating_add(i),
-            divisor: 1,
-            entries: Vec::from_slice(alloc, row.coefs.as_slice())?,
-            constant: row.constant,
-        })?;
+        if !is_idle(row, bounds) {
+            lines.push(Line {
+                basic: columns.saturating_add(i),
+                divisor: 1,
+                entries: Vec::from_slice(alloc, row.coefs.as_slice())?,
+                constant: row.constant,
+            })?;
+        }
     }
     let mut others = Vec::new(alloc);
     let mut values = Vec::new(alloc);
