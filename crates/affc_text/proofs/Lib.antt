@@ -1,0 +1,4 @@
+pub mod StmtReads
+pub mod TextReads
+pub mod StmtExact
+pub mod TextExact
