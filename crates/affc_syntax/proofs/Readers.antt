@@ -126,6 +126,12 @@ module _ {A K : Type 0} (test : Symbol → Option K) (turn : K → A → Reader 
 pub closed_left : {A : Type 0} (mark : List ℕ) (a : A) → Shrinks (closed mark a)
 closed_left mark a ts = on_test (this_mark mark) (λ _ us. Ok (a, us)) (Err (At ts)) ts (λ _ us. left_give a us (length us) (omega arith)) (left_fail (At ts) (length ts))
 
+-- what fails does so with anything behind it
+pub fails_then : {A B : Type 0} (ss : List Symbol) (f : stop.Stop) (r : Read Symbol A) (g : A → Reader Symbol B) → Fails ss f r → Fails ss f (then_read r g)
+fails_then ss s.Memory r g e = tt
+fails_then ss s.Deep r g e = ap (λ x. then_read x g) e
+fails_then ss (s.At next) r g e = ap (λ x. then_read x g) e
+
 -- ---- At the numbers of symbols
 
 pub less_left : (symbols : List code.Symbol) (n b r : ℕ) → length (drop b (map seen symbols)) < length (drop n (map seen symbols)) → length (drop r (map seen symbols)) ≤ length (drop b (map seen symbols)) → length symbols - r < length symbols - n

@@ -14,7 +14,7 @@ use Rattle.affc_syntax.specs.Readers.{Fails}
 use Rattle.affc_syntax.specs.IxReading.{inside, dims}
 use Rattle.affc_syntax.specs.ValueTests.{constant_value, shift_value, op_at}
 use Rattle.affc_syntax.specs.ValueReading.{is_type_at, cast_of, behind_parens, complements, tilde, more_tildes, loaded, parens, plain, primary, shifted, more_shifts, combined, more_operations, more_operands, value_level, value_inside, value}
-use Rattle.affc_syntax.proofs.Readers.{Shrinks, left_give, left_fail, left_then, past_shorter, on_test, loop_on, loop_end, loop_stop, all_left, closed_left, less_left}
+use Rattle.affc_syntax.proofs.Readers.{Shrinks, left_give, left_fail, left_then, past_shorter, on_test, loop_on, loop_end, loop_stop, all_left, closed_left, fails_then, less_left}
 use Rattle.affc_syntax.proofs.IxReads.{inside_left, dims_left}
 
 cast_left : (prelude : Bool) (end room : ℕ) → Shrinks (cast_of prelude end room)
@@ -111,14 +111,17 @@ module _ (prelude : Bool) (end room level : ℕ) where
   more = more_operations level (level_at prelude end room (level - 1))
 
   module _ (symbols : List code.Symbol) (left : ValueDraft) (n b : ℕ) (op : Op) (e : past (op_at level) (drop n (map seen symbols)) ≡ Some (op, drop b (map seen symbols))) where
-    pub operations_err : (f : stop.Stop) → Fails (map seen symbols) f (turn op left (drop b (map seen symbols))) → Fails (map seen symbols) f (more left (drop n (map seen symbols)))
-    operations_err f q = loop_stop (op_at level) turn turn_left (map seen symbols) left _ op _ f e q
+    pub operations_err : (f : stop.Stop) → Fails (map seen symbols) f (level_at prelude end room (level - 1) (drop b (map seen symbols))) → Fails (map seen symbols) f (more left (drop n (map seen symbols)))
+    operations_err f q = loop_stop (op_at level) turn turn_left (map seen symbols) left _ op _ f e (fails_then (map seen symbols) f _ _ q)
 
-    pub operations_on : (x : ValueDraft) (r : ℕ) → turn op left (drop b (map seen symbols)) ≡ Ok (x, drop r (map seen symbols)) → more left (drop n (map seen symbols)) ≡ more x (drop r (map seen symbols))
-    operations_on x r q = loop_on (op_at level) turn turn_left left _ op _ x _ e q
+    turn_is : (right : ValueDraft) (r : ℕ) → level_at prelude end room (level - 1) (drop b (map seen symbols)) ≡ Ok (right, drop r (map seen symbols)) → turn op left (drop b (map seen symbols)) ≡ Ok (binary op left right, drop r (map seen symbols))
+    turn_is right r q = ap (λ x. then_read x (λ b vs. Ok (binary op left b, vs))) q
 
-    pub operations_less : (x : ValueDraft) (r : ℕ) → turn op left (drop b (map seen symbols)) ≡ Ok (x, drop r (map seen symbols)) → length symbols - r < length symbols - n
-    operations_less x r q = less_left symbols n b r (past_shorter (op_at level) _ op _ e) (turn_left op left _ x _ q)
+    pub operations_on : (right x : ValueDraft) (r : ℕ) → level_at prelude end room (level - 1) (drop b (map seen symbols)) ≡ Ok (right, drop r (map seen symbols)) → x ≡ binary op left right → more left (drop n (map seen symbols)) ≡ more x (drop r (map seen symbols))
+    operations_on right x r q is = loop_on (op_at level) turn turn_left left _ op _ (binary op left right) _ e (turn_is right r q) ∙ ap (λ v. more v (drop r (map seen symbols))) (sym is)
+
+    pub operations_less : (right : ValueDraft) (r : ℕ) → level_at prelude end room (level - 1) (drop b (map seen symbols)) ≡ Ok (right, drop r (map seen symbols)) → length symbols - r < length symbols - n
+    operations_less right r q = less_left symbols n b r (past_shorter (op_at level) _ op _ e) (turn_left op left _ (binary op left right) _ (turn_is right r q))
 
   pub operations_end : (left : ValueDraft) (ts : List Symbol) → past (op_at level) ts ≡ None → more left ts ≡ Ok (left, ts)
   operations_end left ts e = loop_end (op_at level) turn turn_left left ts e

@@ -25,6 +25,9 @@ use std::alloc::{AllocError, Global};
 /// The highest level of operators, that of `|`.
 const LOOSEST: u32 = 6;
 
+/// The level of shifts.
+const SHIFTS: u32 = 3;
+
 #[tactic(auto, using(crate::proofs::ValueMade::value_made))]
 fn binary(alloc: Global, op: Op, a: ValueDraft, b: ValueDraft) -> Result<ValueDraft, AllocError>
     ensures { IfOk result (λ v. value v ≡ d.binary op (value a) (value b)) }
@@ -250,71 +253,6 @@ fn more_shifts(
     Ok((left, next))
 }
 
-/// Behind an operator of this level.
-#[cycle(value)]
-fn combined(
-    alloc: Global,
-    prelude: bool,
-    room: u32,
-    level: u32,
-    op: Op,
-    left: ValueDraft,
-    symbols: &[Symbol<'_>],
-    next: usize,
-) -> Answer<ValueDraft>
-    requires { 1 ≤ level }
-    ensures { Gives (map seen symbols.now) value result (reading.combined (reading.value_level (reading.primary prelude (length symbols.now) room (inner prelude (length symbols.now) room)) (level - 1)) op (value left) (drop next (map seen symbols.now))) }
-{
-    let (b, next) = value_level(alloc, prelude, room, level - 1, symbols, next)?;
-    let v = binary(alloc, op, left, b)?;
-    Ok((v, next))
-}
-
-/// Further operations of this level, where they follow.
-#[cycle(value)]
-fn more_operations(
-    alloc: Global,
-    prelude: bool,
-    room: u32,
-    level: u32,
-    a: ValueDraft,
-    symbols: &[Symbol<'_>],
-    next: usize,
-) -> Answer<ValueDraft>
-    requires { 1 ≤ level }
-    ensures { Gives (map seen symbols.now) value result (reading.more_operations level (reading.value_level (reading.primary prelude (length symbols.now) room (inner prelude (length symbols.now) room)) (level - 1)) (value a) (drop next (map seen symbols.now))) }
-{
-    let mut left = a;
-    let mut next = next;
-    while let Some((op, behind)) = past_operation(level, symbols, next) {
-        let (longer, rest) = combined(alloc, prelude, room, level, op, left, symbols, behind)?;
-        left = longer;
-        next = rest;
-    }
-    Ok((left, next))
-}
-
-/// Further operands of this level, where they follow.
-#[cycle(value)]
-fn more_operands(
-    alloc: Global,
-    prelude: bool,
-    room: u32,
-    level: u32,
-    a: ValueDraft,
-    symbols: &[Symbol<'_>],
-    next: usize,
-) -> Answer<ValueDraft>
-    requires { 1 ≤ level }
-    ensures { Gives (map seen symbols.now) value result (reading.more_operands level (reading.value_level (reading.primary prelude (length symbols.now) room (inner prelude (length symbols.now) room)) (level - 1)) (value a) (drop next (map seen symbols.now))) }
-{
-    if level == 3 {
-        more_shifts(alloc, a, symbols, next)
-    } else {
-        more_operations(alloc, prelude, room, level, a, symbols, next)
-    }
-}
-
 /// A value with operators of this level and of tighter ones.
 #[cycle(value)]
 fn value_level(
@@ -331,7 +269,17 @@ fn value_level(
         return primary(alloc, prelude, room, symbols, next);
     }
     let (a, next) = value_level(alloc, prelude, room, level - 1, symbols, next)?;
-    more_operands(alloc, prelude, room, level, a, symbols, next)
+    if level == SHIFTS {
+        return more_shifts(alloc, a, symbols, next);
+    }
+    let mut left = a;
+    let mut next = next;
+    while let Some((op, behind)) = past_operation(level, symbols, next) {
+        let (right, rest) = value_level(alloc, prelude, room, level - 1, symbols, behind)?;
+        left = binary(alloc, op, left, right)?;
+        next = rest;
+    }
+    Ok((left, next))
 }
 
 /// Behind a bracket that was opened where `room` could be.
