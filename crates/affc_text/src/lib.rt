@@ -8,3 +8,6 @@ mod statement;
 mod text;
 
 pub use text::read_text;
+
+#[cfg(test)]
+mod tests;
