@@ -22,3 +22,4 @@ pub mod Hits
 pub mod Moves
 pub mod Starts
 pub mod Counting
+pub mod ExampleProofs

@@ -12,3 +12,4 @@ pub mod Feeds
 pub mod Outputs
 pub mod Earlier
 pub mod Counts
+pub mod Examples

@@ -3,6 +3,7 @@
 
 mod context;
 pub mod counted;
+pub mod examples;
 mod extents;
 mod fault;
 pub mod feed;
