@@ -11,7 +11,7 @@ pub nothing_more : {A : Type 0} (xs : List A) → xs ++ [] ≡ xs
 nothing_more [] = refl
 nothing_more (x ∷ xs) = ap (λ l. x ∷ l) (nothing_more xs)
 
-both_stores : (xs ys : List Element) (cs ds : List (Option ℕ)) → length cs ≡ length xs → with_cells (xs ++ ys) (cs ++ ds) ≡ with_cells xs cs ++ with_cells ys ds
+pub both_stores : (xs ys : List Element) (cs ds : List (Option ℕ)) → length cs ≡ length xs → with_cells (xs ++ ys) (cs ++ ds) ≡ with_cells xs cs ++ with_cells ys ds
 both_stores [] ys [] ds e = refl
 both_stores [] ys (c ∷ cs) ds e = absurd (omega arith)
 both_stores (x ∷ xs) ys [] ds e = absurd (omega arith)

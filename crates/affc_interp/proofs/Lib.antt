@@ -13,3 +13,13 @@ pub mod Execs
 pub mod Adds
 pub mod Declares
 pub mod RunIs
+pub mod Numerals
+pub mod DataLines
+pub mod Wholes
+pub mod Feeds
+pub mod OutputLines
+pub mod Hits
+pub mod Moves
+pub mod Starts
+pub mod Counting
+pub mod ExampleProofs

@@ -18,9 +18,10 @@ use Rattle.affc_ast.specs.Meaning.{State, arrays_of, extents_of, all_extents, pa
 use Rattle.affc_ast.specs.Store.{Store}
 use Rattle.affc_interp.specs.Budget.{Run, Stop, stuck_or, all_of, exec_of}
 use Rattle.affc_interp.specs.Machines.{Finishes, Halts, scope_of, position}
-use Rattle.affc_interp.specs.Runs.{within_limit, start, start_in, array_count, temps_node, body_node}
+use Rattle.affc_interp.specs.Runs.{within_limit, start, array_count, temps_node, body_node}
 use Rattle.affc_interp.specs.Arrays.{StopsAs, AllDeclared}
 use Rattle.affc_interp.specs.Begun.{Begins, with_extents, SaysSo, Answers, halt_of, stop_of}
+use Rattle.affc_interp.proofs.Moves.{each_is}
 use Rattle.affc_interp.proofs.Agrees.{read_same, all_same, all_agree}
 
 pub run_is : (limit : ℕ) (program : Program) (p : List ℤ) (store : Store) → within_limit limit (meaning program p store)
@@ -50,7 +51,7 @@ module _ (limit : ℕ) (program : Program) (p : List ℤ) (values : List (List �
       outcome_is
       ∙ ap (λ r. stuck_or r (λ given. stuck_or (all_extents (length (arrays_of program.params)) program.temps (temps_node program) p) (λ own. body_run given own))) b.2
       ∙ ap (λ r. stuck_or r (λ own. body_run b.0 own)) b.3
-      ∙ (let st : start program p values ≡ m.memory.store = ap (λ r. start_in r values) b.2 ∙ sym b.5 in
+      ∙ (let st : start program p values ≡ m.memory.store = ap (λ es. start_of 0 es values) (each_is 0 (arrays_of program.params) 0 p b.0 b.2) ∙ sym b.5 in
       λ i. all_of (sym b.7 i) (map exec_of program.body) (position (sym b.8 i) 0) (sym b.4 i) (st i) (sym b.6 i))
 
   sliced : (m : Machine) (node : ℕ) (slice : List Stmt) → slice ≡ program.body → Begins (Ok (m, node)) program p values limit → outcome ≡ all_of m.limit (map exec_of slice) (position node 0) (scope_of m) m.memory.store m.steps

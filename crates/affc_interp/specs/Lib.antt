@@ -1,7 +1,15 @@
 pub mod Layout
+pub mod DataText
 pub mod Seen
 pub mod Budget
 pub mod Machines
 pub mod Runs
 pub mod Arrays
 pub mod Begun
+pub mod Scans
+pub mod Wholes
+pub mod Feeds
+pub mod Outputs
+pub mod Earlier
+pub mod Counts
+pub mod Examples

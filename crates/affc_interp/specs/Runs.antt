@@ -1,9 +1,10 @@
 -- What a run with so many steps answers.
-use Rattle.std.specs.Prelude.{◌≡◌, ℕ, ◌+◌, ◌^◌, ◌<◌, nat_le, if◌then◌else◌, true, ℤ, List, [], length, map, sum_by, Result, Ok, Err}
+use Rattle.std.specs.Prelude.{◌≡◌, ℕ, ◌+◌, ◌^◌, ◌<◌, nat_le, if◌then◌else◌, true, ℤ, pos, suc, List, [], ◌∷◌, length, map, sum_by, Result, Ok, Err}
+use Rattle.affc_ast.specs.declared.tree.Decl.{Decl}
 use Rattle.affc_ast.specs.declared.tree.Program.{Program}
 use Rattle.affc_ast.specs.Cause.{Cause}
 use Rattle.affc_ast.specs.Index.{nodes_of_compare}
-use Rattle.affc_ast.specs.Meaning.{Outcome, Ended, Stuck, arrays_of, all_extents, nodes_of_decls, nodes_in, assigns_in, part_of}
+use Rattle.affc_ast.specs.Meaning.{Outcome, Ended, Stuck, arrays_of, extents_of, nodes_of_decls, nodes_in, assigns_in, part_of}
 use Rattle.affc_ast.specs.Store.{Store}
 use Rattle.affc_interp.specs.Budget.{Run, StuckBy, OutOfSteps, exec_of, all_within}
 use Rattle.affc_interp.specs.Layout.{start_of}
@@ -19,15 +20,20 @@ within_limit limit (Stuck cause steps) = if nat_le steps limit then Err (StuckBy
 
 -- ---- Programs
 
--- What the arrays hold at first: the elements of the array parameters, each array's in order, the last subscript
--- running fastest, with the values that are given. Where an extent has no value or is below 1 there is nothing;
--- the run is stuck then, before it touches an element.
-abbrev pub start_in : Result (List (List ℤ)) Cause → (values : List (List ℕ)) → Store
-start_in (Ok extents) values = start_of 0 extents values
-start_in (Err cause) values = []
+-- an array's extents; where one has no value or is below 1, the array has no elements
+abbrev pub own_extents : Result (List ℤ) Cause → List ℤ
+own_extents (Ok extents) = extents
+own_extents (Err cause) = pos 0 ∷ []
 
+-- those of each array, from this number on
+abbrev pub each_extents : (array : ℕ) → List Decl → (p : List ℤ) → List (List ℤ)
+each_extents array [] p = []
+each_extents array (d ∷ ds) p = own_extents (extents_of array d.extents 0 p) ∷ each_extents (suc array) ds p
+
+-- What the arrays hold at first: the elements of the array parameters, each array's in order, the last subscript
+-- running fastest, with the values that are given.
 abbrev pub start : Program → (p : List ℤ) → (values : List (List ℕ)) → Store
-start program p values = start_in (all_extents 0 (arrays_of program.params) 0 p) values
+start program p values = start_of 0 (each_extents 0 (arrays_of program.params) p) values
 
 -- how many arrays the program has
 abbrev pub array_count : Program → ℕ

@@ -1,10 +1,19 @@
 //! The interpreter: a program run on data, exactly as its meaning says.
 #![tactic(auto)]
 
+mod context;
+pub mod counted;
+pub mod examples;
+mod extents;
 mod fault;
+pub mod feed;
 mod index;
 pub mod laws;
+mod line;
+pub mod lines;
 mod machine;
 mod memory;
 pub mod run;
+#[cfg(test)]
+mod tests;
 mod value;

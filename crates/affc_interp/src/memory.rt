@@ -2,7 +2,7 @@ ghost use Rattle.std.specs.Prelude.{◌≡◌, ◌+◌, ◌^◌, ◌<◌, ℤ, L
 ghost use Rattle.affc_ast.specs.Index.{nodes_of_ix, index_values};
 ghost use Rattle.affc_ast.specs.Meaning.{at_least_zero, extents_of, all_extents, arrays_of, nodes_of_decls};
 ghost use Rattle.affc_ast.specs.Store.{at, with_value};
-ghost use Rattle.affc_interp.specs.Layout.{place_step, place_from, place_of, cell_at, extents_in, size_of, subscripts_of, given_cells, given_to, AreLengths, AreWhole};
+ghost use Rattle.affc_interp.specs.Layout.{place_step, place_from, place_of, cell_at, extents_in, size_of, subscripts_of, given_cells, given_to, AreLengths, AreWhole, held_in};
 ghost use Rattle.affc_ast.specs.Values.{load, touch};
 ghost use Rattle.affc_ast.specs.declared.tree.Instance.{Instance};
 ghost use Rattle.affc_interp.specs.Arrays.{AreExtents, Declared, AllDeclared, values_in};
@@ -209,6 +209,14 @@ impl Memory {
         let _ = here;
         let place = self.place(array, subs, node, names)?;
         self.read(array, place, access)
+    }
+
+    /// The arrays themselves.
+    pub fn buffers(&self) -> &[Buffer]
+        ensures held { self.now ≡ held_in result.now }
+        ensures whole { AreWhole result.now }
+    {
+        self.buffers.as_slice()
     }
 
     /// Gives the cell at this place of an array a value.

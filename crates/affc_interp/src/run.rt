@@ -6,6 +6,7 @@ ghost use Rattle.affc_interp.specs.Runs.{within_limit, start, IsCounted};
 ghost use Rattle.affc_interp.specs.Begun.{Begins, SaysSo, Answers};
 
 use crate::fault::{Fault, Halt};
+use crate::feed::Feed;
 use crate::index::{compare_sum, node_sum};
 use crate::machine::Machine;
 use crate::memory::Memory;
@@ -14,18 +15,10 @@ use affc_ast::tree::{Decl, Instance, Param, Program};
 use std::alloc::Global;
 use std::marker::Model;
 
-/// What a program is run on: a value for each number parameter, and the elements of each array parameter,
-/// the last subscript running fastest.
-#[derive(Debug, Drop)]
-pub struct Feed {
-    pub params: Vec<i64>,
-    pub arrays: Vec<Vec<u64>>,
-}
-
 /// What the arrays hold when a run has ended.
 #[derive(Debug, Drop)]
 pub struct Store {
-    memory: Memory,
+    pub(crate) memory: Memory,
 }
 
 impl Model for Store {

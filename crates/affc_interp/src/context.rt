@@ -1,0 +1,192 @@
+// The conditions on the parameters, which are read as whole numbers.
+ghost use Rattle.std.specs.Prelude.{◌≡◌, ◌+ℤ◌, ◌-ℤ◌, ◌*ℤ◌, neg_ℤ, pos, ◌≤ℤ◌, IfOk, get_or, ◌&&◌};
+ghost use Rattle.affc_ast.specs.Fits as fits;
+ghost use Rattle.affc_ast.specs.Index.{compares, floor_of, ceiling_of, remainder_of};
+ghost use Rattle.affc_interp.specs.Wholes.{in_int128, quotient, wide_of, IsWhole, is_met};
+
+use affc_ast::tree::{Compare, Ix, Rel};
+
+/// Why an expression gives no whole number here.
+#[derive(Clone, Copy, Debug, PartialEq, Eq)]
+pub enum NoWhole {
+    /// A divisor in it is below 1.
+    Undefined,
+    /// A number in it takes more than 128 bits.
+    Wide,
+}
+
+fn sum(x: i128, y: i128) -> Result<i128, NoWhole>
+    ensures { result ≡ in_int128 (x +ℤ y) }
+{
+    x.checked_add(y).ok_or(NoWhole::Wide)
+}
+
+fn difference(x: i128, y: i128) -> Result<i128, NoWhole>
+    ensures { result ≡ in_int128 (x -ℤ y) }
+{
+    x.checked_sub(y).ok_or(NoWhole::Wide)
+}
+
+fn product(x: i128, y: i128) -> Result<i128, NoWhole>
+    ensures { result ≡ in_int128 (x *ℤ y) }
+{
+    x.checked_mul(y).ok_or(NoWhole::Wide)
+}
+
+fn negated(x: i128) -> Result<i128, NoWhole>
+    ensures { result ≡ in_int128 (neg_ℤ x) }
+{
+    x.checked_neg().ok_or(NoWhole::Wide)
+}
+
+fn floor(x: i128, n: i64) -> Result<i128, NoWhole>
+    ensures { result ≡ quotient floor_of x n }
+{
+    if n < 1 {
+        Err(NoWhole::Undefined)
+    } else {
+        Ok(x.div_euclid(i128::from(n)))
+    }
+}
+
+fn rounded_up(x: i128, n: i128) -> i128
+    requires { pos 1 ≤ℤ n }
+    ensures { result ≡ ceiling_of x n }
+{
+    if x > 0 {
+        (x - 1).div_euclid(n) + 1
+    } else {
+        x / n
+    }
+}
+
+fn ceiling(x: i128, n: i64) -> Result<i128, NoWhole>
+    ensures { result ≡ quotient ceiling_of x n }
+{
+    if n < 1 {
+        Err(NoWhole::Undefined)
+    } else {
+        Ok(rounded_up(x, i128::from(n)))
+    }
+}
+
+fn remainder(x: i128, n: i128) -> Result<i128, NoWhole>
+    ensures { result ≡ quotient remainder_of x n }
+{
+    if n < 1 {
+        Err(NoWhole::Undefined)
+    } else {
+        Ok(x.rem_euclid(n))
+    }
+}
+
+fn named(names: &[i64], x: u32) -> i128
+    ensures { result ≡ get_or names.now x (pos 0) }
+{
+    match names.get(x as usize) {
+        Some(v) => i128::from(*v),
+        None => 0,
+    }
+}
+
+// The value of an expression.
+#[tactic(auto, using(affc_ast::proofs::Outs::ix_outs))]
+fn whole(e: &Ix, names: &[i64]) -> Result<i128, NoWhole>
+    ensures { result ≡ wide_of e.now names.now }
+{
+    match e {
+        Ix::Lit(n) => Ok(i128::from(*n)),
+        Ix::Name(x) => Ok(named(names, x.0)),
+        Ix::Neg(a) => {
+            let x = whole(a.get(), names)?;
+            negated(x)
+        }
+        Ix::Add(a, b) => {
+            let x = whole(a.get(), names)?;
+            let y = whole(b.get(), names)?;
+            sum(x, y)
+        }
+        Ix::Sub(a, b) => {
+            let x = whole(a.get(), names)?;
+            let y = whole(b.get(), names)?;
+            difference(x, y)
+        }
+        Ix::Mul(a, b) => {
+            let x = whole(a.get(), names)?;
+            let y = whole(b.get(), names)?;
+            product(x, y)
+        }
+        Ix::Min(a, b) => {
+            let x = whole(a.get(), names)?;
+            let y = whole(b.get(), names)?;
+            Ok(x.min(y))
+        }
+        Ix::Max(a, b) => {
+            let x = whole(a.get(), names)?;
+            let y = whole(b.get(), names)?;
+            Ok(x.max(y))
+        }
+        Ix::Floord(a, n) => {
+            let x = whole(a.get(), names)?;
+            floor(x, *n)
+        }
+        Ix::Ceild(a, n) => {
+            let x = whole(a.get(), names)?;
+            ceiling(x, *n)
+        }
+        Ix::Mod(a, b) => {
+            let x = whole(a.get(), names)?;
+            let y = whole(b.get(), names)?;
+            remainder(x, y)
+        }
+    }
+}
+
+fn compare(rel: Rel, x: i128, y: i128) -> bool
+    ensures { result ≡ compares rel x y }
+{
+    match rel {
+        Rel::Less => x < y,
+        Rel::LessEqual => x <= y,
+        Rel::Greater => y < x,
+        Rel::GreaterEqual => y <= x,
+        Rel::Equal => x == y,
+    }
+}
+
+// Whether both sides have a value, and it holds.
+fn is_met(c: &Compare, p: &[i64]) -> Result<bool, NoWhole>
+    ensures { IfOk result (λ b. b ≡ is_met c.now p.now) }
+{
+    met(c.rel, whole(&c.left, p), whole(&c.right, p))
+}
+
+fn met(rel: Rel, left: Result<i128, NoWhole>, right: Result<i128, NoWhole>) -> Result<bool, NoWhole>
+    ensures { (x y : fits.Whole) → IsWhole left x → IsWhole right y → IfOk result (λ b. b ≡ (x.defined && y.defined && compares rel x.value y.value)) }
+{
+    match left {
+        Ok(x) => match right {
+            Ok(y) => Ok(compare(rel, x, y)),
+            Err(NoWhole::Undefined) => Ok(false),
+            Err(NoWhole::Wide) => Err(NoWhole::Wide),
+        },
+        Err(NoWhole::Undefined) => Ok(false),
+        Err(NoWhole::Wide) => Err(NoWhole::Wide),
+    }
+}
+
+/// Whether the parameters meet all conditions.
+pub fn meets(conds: &[Compare], p: &[i64]) -> Result<bool, NoWhole>
+    ensures { IfOk result (λ b. b ≡ fits.meets conds.now p.now) }
+{
+    match conds {
+        [] => Ok(true),
+        [c, rest @ ..] => {
+            if is_met(c, p)? {
+                meets(rest, p)
+            } else {
+                Ok(false)
+            }
+        }
+    }
+}
