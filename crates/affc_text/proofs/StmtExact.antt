@@ -6,35 +6,15 @@ use Rattle.affc_grammar.specs.Grammar as g
 use Rattle.affc_grammar.specs.Grammar.{Symbol, Name, mark, word, IxText, StepText, LocalsText, StmtsText, StmtText, SimpleText, BodyText, ix_symbols, dims_symbols, conds_symbols, step_symbols, locals_symbols, stmts_symbols}
 use Rattle.affc_grammar.specs.Draft as d
 use Rattle.affc_grammar.specs.Draft.{StmtDraft, StmtsDraft, and_stmt, no_stmts, WordDraft, word_draft, ix_draft, dims_draft, conds_draft, value_draft, step_draft, bound_rel, head_draft, head_length, locals_draft, stmts_draft, stmt_draft, simple_draft, body_draft}
-<<<<<<< HEAD
-use Rattle.affc_grammar.specs.Reader.{At, Deep, Read, Reader, then_read, give, fail, deep, after, either, on, all, Turn, going, done, tries, until, and_on, inside}
-use Rattle.affc_grammar.specs.Reading as r
-use Rattle.affc_grammar.specs.Reading.{this_mark, this_word, any_word, one, bound_of, assign_of, choose, head_words, First, a_word, a_brace, first_of}
-use Rattle.affc_grammar.specs.Reading.{stmts_inside as grammar_stmts, block_inside as grammar_block}
-use Rattle.affc_grammar.proofs.Rules.{ix_inside_rule, dims_rule, conds_rule, inside_rule, step_rule, head_symbols, heads_symbols, before_symbols, progress_symbols, worded_rule, under_body_rule, closed_symbols, stmt_more_rule, block_symbols, block_more_rule, stmts_inside_rule, block_inside_rule}
-=======
 use Rattle.affc_grammar.specs.Reader.{At, Reader, then_read, give, fail, deep, after, on, all, Turn, going, done, tries, until, and_on, inside}
 use Rattle.affc_grammar.specs.Reading as r
 use Rattle.affc_grammar.specs.Reading.{this_mark, this_word, any_word, one, bound_of, assign_of, choose, head_words, First, a_word, a_brace, first_of}
 use Rattle.affc_grammar.specs.Reading.{stmts_inside as grammar_stmts, block_inside as grammar_block}
 use Rattle.affc_grammar.proofs.Rules.{ix_inside_rule, dims_rule, head_symbols, heads_symbols, before_symbols, progress_symbols, worded_rule, under_body_rule, closed_symbols, stmt_more_rule, block_symbols, block_more_rule, stmts_inside_rule, block_inside_rule}
->>>>>>> b3d253d07f7b89dd1f83bd1f5f0e56b32b5c1915
 use Rattle.affc_grammar.proofs.Rule.{Rule}
 use Rattle.affc_grammar.proofs.Tests.{first_symbol}
 use Rattle.affc_grammar.specs.Limits.{count_open}
 use Rattle.affc_syntax.specs.Ahead.{past}
-<<<<<<< HEAD
-use Rattle.affc_syntax.specs.Readers.{on_past, mapped, closed, all_more}
-use Rattle.affc_syntax.specs.IxReading as ix
-use Rattle.affc_syntax.specs.CondReading.{conds}
-use Rattle.affc_syntax.specs.ValueReading.{value}
-use Rattle.affc_syntax.proofs.Draws.{Draws, Placed, mapped_then, then_is, either_mapped, past_one, failed, closed_is, all_is, lifted}
-use Rattle.affc_syntax.proofs.IxExact.{expression_is, inside_is, dims_is}
-use Rattle.affc_syntax.proofs.CondExact.{conds_is}
-use Rattle.affc_syntax.proofs.ValueExact.{value_is}
-use Rattle.affc_text.specs.Parts.{Head, for_head, if_head, Heads, Block, no_items, with_head, covered, under, and_one, whole}
-use Rattle.affc_text.specs.StmtReading.{conds_inside, expression, compared, assignment, named, stepped, step, tested, for_behind, if_behind, head_behind, assigned, assigned_under, worded, body_turn, going_on, tries_more, until_done, under_heads, simple, statement, stmt_more, is_none, local_behind, block_stmt, may_be_local, block_more, stmts_inside, block_inside}
-=======
 use Rattle.affc_syntax.specs.Readers.{on_past, mapped, all_more}
 use Rattle.affc_syntax.specs.IxReading as ix
 use Rattle.affc_syntax.specs.ValueReading.{value}
@@ -44,7 +24,6 @@ use Rattle.affc_syntax.proofs.CondExact.{conds_is}
 use Rattle.affc_syntax.proofs.ValueExact.{value_is}
 use Rattle.affc_text.specs.Parts.{Head, for_head, if_head, Heads, Block, no_items, with_head, under, and_one, whole}
 use Rattle.affc_text.specs.StmtReading.{conds_inside, expression, named, stepped, step, tested, for_behind, if_behind, head_behind, assigned, assigned_under, worded, body_turn, going_on, tries_more, until_done, under_heads, simple, statement, stmt_more, is_none, local_behind, block_stmt, block_more, stmts_inside, block_inside}
->>>>>>> b3d253d07f7b89dd1f83bd1f5f0e56b32b5c1915
 use Rattle.affc_text.proofs.StmtReads.{covered_last}
 
 -- ---- A token, and what is read behind it

@@ -1,19 +1,11 @@
 -- The readers of statements leave no more tokens than they were given, and reading until the whole is read, as the code goes on.
-<<<<<<< HEAD
-use Rattle.std.proofs.Common.{◌≡◌, nat_eq, ℕ, zero, suc, ◌+◌, ◌-◌, Bool, true, false, codes, ◌≤◌, ◌<◌, List, [], ◌∷◌, ◌++◌, length, drop, map, Option, Some, None, Result, Ok, Err, if◌then◌else◌, refl, sym, ap, ◌∙◌, arith}
-=======
 use Rattle.std.proofs.Common.{◌≡◌, nat_eq, ℕ, zero, suc, ◌-◌, Bool, true, false, codes, ◌≤◌, ◌<◌, List, [], ◌∷◌, ◌++◌, length, drop, map, Option, Some, None, Ok, Err, if◌then◌else◌, refl, sym, ap, ◌∙◌, arith}
->>>>>>> b3d253d07f7b89dd1f83bd1f5f0e56b32b5c1915
 use Rattle.std.proofs.Math.Dec.{eqb-suc-zero}
 use Rattle.std.proofs.lemmas.List.{map-append}
 use Rattle.affc_grammar.specs.Grammar.{Symbol, Name}
 use Rattle.affc_grammar.specs.Draft as d
 use Rattle.affc_grammar.specs.Draft.{IxDraft, CompareDraft, WordDraft, word_draft, bound_rel}
-<<<<<<< HEAD
-use Rattle.affc_grammar.specs.Reader.{Stop, At, Deep, Read, Reader, then_read, Turn, going, done}
-=======
 use Rattle.affc_grammar.specs.Reader.{Stop, At, Deep, Reader, then_read, Turn, going, done}
->>>>>>> b3d253d07f7b89dd1f83bd1f5f0e56b32b5c1915
 use Rattle.affc_grammar.specs.Reading.{this_mark, this_word, any_word, one, bound_of, assign_of, choose, head_words, First, a_word, a_brace, first_of}
 use Rattle.affc_grammar.proofs.Closed.{then_same}
 use Rattle.affc_draft.specs.declared.draft.StmtDraft.{StmtDraft}
@@ -23,11 +15,7 @@ use Rattle.affc_draft.specs.Drafts.{stmt, stmts_after, stmts_of}
 use Rattle.affc_syntax.specs.declared.ahead.Stop as stop
 use Rattle.affc_syntax.specs.declared.ahead.Stop.TheVariants as s
 use Rattle.affc_syntax.specs.Ahead.{past, with_rest}
-<<<<<<< HEAD
-use Rattle.affc_syntax.specs.Readers.{on_past, closed, Fails, all_more}
-=======
 use Rattle.affc_syntax.specs.Readers.{on_past, Fails}
->>>>>>> b3d253d07f7b89dd1f83bd1f5f0e56b32b5c1915
 use Rattle.affc_syntax.specs.IxReading as ix
 use Rattle.affc_syntax.specs.CondReading.{conds}
 use Rattle.affc_syntax.specs.ValueReading.{value}

@@ -1,9 +1,5 @@
 -- The drafts of the function, of the lines and of the text that are read are those of the grammar's, read by the grammar.
-<<<<<<< HEAD
-use Rattle.std.proofs.Common.{◌≡◌, ℕ, zero, suc, ◌+◌, ◌-◌, Bool, true, false, not, ◌&&◌, ◌||◌, codes, ◌≤◌, List, [], ◌∷◌, ◌++◌, length, length-drop, take, drop, map, Option, Some, None, IsTrue, Ok, Err, if◌then◌else◌, pos, neg_ℤ, refl, sym, ap, ◌∙◌, subst, arith, length-append, append_assoc}
-=======
 use Rattle.std.proofs.Common.{◌≡◌, ℕ, zero, suc, ◌+◌, ◌-◌, Bool, true, false, not, ◌&&◌, ◌||◌, codes, ◌≤◌, List, [], ◌∷◌, ◌++◌, length, length-drop, take, drop, map, Option, Some, None, IsTrue, Ok, Err, if◌then◌else◌, pos, neg_ℤ, refl, sym, ap, ◌∙◌, arith, length-append, append_assoc}
->>>>>>> b3d253d07f7b89dd1f83bd1f5f0e56b32b5c1915
 use Rattle.std.specs.Option.{option_map, is_some}
 use Rattle.affc_lex.specs.Bytes.{same, decimal}
 use Rattle.affc_ast.specs.declared.tree.Role.TheVariants.{Input, Output, Temp}
@@ -14,27 +10,16 @@ use Rattle.affc_grammar.specs.Draft.{StmtsDraft, and_stmt, no_stmts, DeclDraft, 
 use Rattle.affc_grammar.specs.Reader.{At, Deep, Read, Reader, then_read, give, fail, deep, after, either, on, all, inside, finished}
 use Rattle.affc_grammar.specs.Reading as r
 use Rattle.affc_grammar.specs.Reading.{this_mark, this_word, any_word, any_number, is_number_kind, hash, header, the_prelude, line_end, First, a_word, a_brace, first_of, read_text, holding}
-<<<<<<< HEAD
-use Rattle.affc_grammar.proofs.Rules.{ix_inside_rule, dims_rule, conds_rule, inside_rule, param_rule, param_more_rule, params_rule, name_more_rule, names_rule, inside_symbols, inside_more_rule, read_inside_rule, function_rule, int_rule, pragma_rule, stmts_inside_rule, block_inside_rule}
-=======
 use Rattle.affc_grammar.proofs.Rules.{ix_inside_rule, dims_rule, conds_rule, inside_rule, param_rule, param_more_rule, params_rule, name_more_rule, inside_symbols, inside_more_rule, pragma_rule, stmts_inside_rule, block_inside_rule}
->>>>>>> b3d253d07f7b89dd1f83bd1f5f0e56b32b5c1915
 use Rattle.affc_grammar.proofs.Rule.{Rule, all_rule}
 use Rattle.affc_grammar.proofs.Tests.{first_symbol, hash_test}
 use Rattle.affc_grammar.specs.Limits.{count_open}
 use Rattle.affc_lex.specs.declared.token.Kind.TheVariants.{Hash}
 use Rattle.affc_syntax.specs.Ahead.{past, number_value}
-<<<<<<< HEAD
-use Rattle.affc_syntax.specs.Readers.{on_past, mapped, closed, all_more}
-use Rattle.affc_syntax.specs.IxReading as ix
-use Rattle.affc_syntax.specs.CondReading.{conds}
-use Rattle.affc_syntax.proofs.Draws.{Draws, Placed, mapped_then, then_is, either_mapped, either_turned, past_one, failed, closed_is, all_is}
-=======
 use Rattle.affc_syntax.specs.Readers.{on_past, mapped}
 use Rattle.affc_syntax.specs.IxReading as ix
 use Rattle.affc_syntax.specs.CondReading.{conds}
 use Rattle.affc_syntax.proofs.Draws.{Draws, Placed, then_is, either_mapped, either_turned, past_one, failed, closed_is, all_is}
->>>>>>> b3d253d07f7b89dd1f83bd1f5f0e56b32b5c1915
 use Rattle.affc_syntax.proofs.IxExact.{inside_is, dims_is}
 use Rattle.affc_syntax.proofs.CondExact.{conds_is}
 use Rattle.std.proofs.lemmas.List.{length-map}
@@ -49,13 +34,8 @@ use Rattle.affc_draft.specs.Symbols.{seen}
 use Rattle.affc_syntax.specs.declared.ahead.Stop.TheVariants as s
 use Rattle.affc_text.specs.Answers.{IsRead}
 use Rattle.affc_text.specs.Parts.{Inside, no_inside, Function, Lines, no_lines}
-<<<<<<< HEAD
-use Rattle.affc_text.specs.StmtReading.{named, ends_line, is_none, is_first_word, statement, stmts_inside, block_inside}
-use Rattle.affc_text.specs.TextReading.{array, param, param_more, more_params, params, params_inside, temp, temp_more, more_temps, decl_behind, inside_stmt, may_be_decl, inside_more, inner, function_inside, function_behind, function, int, line_closed, range_behind, taken, context_behind, line_more, more_lines, ended, rest, lines_behind, include_behind, text}
-=======
 use Rattle.affc_text.specs.StmtReading.{named, ends_line, is_none, statement, stmts_inside, block_inside}
 use Rattle.affc_text.specs.TextReading.{array, param, param_more, params, params_inside, temp, temp_more, more_temps, decl_behind, inside_stmt, inside_more, inner, function_inside, function, int, line_closed, range_behind, taken, context_behind, line_more, more_lines, ended, rest, lines_behind, include_behind, text}
->>>>>>> b3d253d07f7b89dd1f83bd1f5f0e56b32b5c1915
 use Rattle.affc_text.proofs.StmtExact.{on_is, drawn_then, statement_is, stmts_inside_is, block_inside_is}
 
 mapped_give : {A D E : Type 0} (x : Read Symbol A) (f : A → D) (c : D → E) → then_read (mapped f x) (λ a us. Ok (c a, us)) ≡ mapped (λ a. c (f a)) x

@@ -1,27 +1,10 @@
 -- The readers of the function and of the lines before it leave no more tokens than they were given, and their loops, as the code runs them.
-<<<<<<< HEAD
-use Rattle.std.proofs.Common.{◌≡◌, ℕ, zero, suc, ◌+◌, ◌-◌, Bool, true, false, ◌||◌, codes, ◌≤◌, ◌<◌, List, [], ◌∷◌, ◌++◌, length, take, drop, map, length-drop, Option, Some, None, Ok, Err, if◌then◌else◌, neg_ℤ, pos, refl, sym, ap, ◌∙◌, arith}
-=======
 use Rattle.std.proofs.Common.{◌≡◌, ℕ, zero, suc, ◌+◌, ◌-◌, Bool, true, false, ◌||◌, codes, ◌≤◌, ◌<◌, List, [], ◌∷◌, ◌++◌, length, take, drop, map, length-drop, Err, if◌then◌else◌, neg_ℤ, pos, refl, sym, ap, ◌∙◌, arith}
->>>>>>> b3d253d07f7b89dd1f83bd1f5f0e56b32b5c1915
 use Rattle.std.proofs.lemmas.List.{length-map}
 use Rattle.affc_ast.specs.declared.tree.Role.{Role}
 use Rattle.affc_ast.specs.declared.tree.Role.TheVariants.{Input, Output, Temp}
 use Rattle.affc_grammar.specs.Grammar.{Symbol, Name, has_call}
 use Rattle.affc_grammar.specs.Draft.{WordDraft, word_draft, and_stmt, DeclDraft, ParamDraft, number_param, array_param, range, context}
-<<<<<<< HEAD
-use Rattle.affc_grammar.specs.Reader.{At, Deep, Reader}
-use Rattle.affc_grammar.specs.Reading.{this_mark, this_word, any_word, hash, First, first_of}
-use Rattle.affc_draft.specs.declared.symbol.Symbol as code
-use Rattle.affc_draft.specs.Symbols.{seen}
-use Rattle.affc_syntax.specs.declared.ahead.Stop as stop
-use Rattle.affc_syntax.specs.Ahead.{past, number_value}
-use Rattle.affc_syntax.specs.Readers.{closed, Fails}
-use Rattle.affc_syntax.specs.IxReading as ix
-use Rattle.affc_syntax.specs.CondReading.{conds}
-use Rattle.affc_syntax.specs.Readers.{on_past}
-use Rattle.affc_syntax.proofs.Readers.{Left, Shrinks, left_give, left_fail, left_then, on_test, past_shorter, loop_on, loop_end, loop_stop, all_left, closed_left, less_left}
-=======
 use Rattle.affc_grammar.specs.Reader.{At}
 use Rattle.affc_grammar.specs.Reading.{this_mark, this_word, any_word, First}
 use Rattle.affc_draft.specs.declared.symbol.Symbol as code
@@ -31,17 +14,12 @@ use Rattle.affc_syntax.specs.IxReading as ix
 use Rattle.affc_syntax.specs.CondReading.{conds}
 use Rattle.affc_syntax.specs.Readers.{on_past}
 use Rattle.affc_syntax.proofs.Readers.{Left, Shrinks, left_give, left_fail, left_then, on_test, all_left, closed_left}
->>>>>>> b3d253d07f7b89dd1f83bd1f5f0e56b32b5c1915
 use Rattle.affc_syntax.proofs.IxReads.{inside_left, dims_left}
 use Rattle.affc_syntax.proofs.CondReads.{conds_left}
 use Rattle.affc_text.specs.Calls.{begins_call}
 use Rattle.affc_text.specs.Parts.{Inside, Lines}
 use Rattle.affc_text.specs.StmtReading.{named, ends_line, statement, stmts_inside, block_inside}
-<<<<<<< HEAD
-use Rattle.affc_text.specs.TextReading.{array, param, param_more, more_params, params, params_inside, temp, temp_more, more_temps, decl_behind, inside_stmt, may_be_decl, inside_more, inner, int, line_closed, range_behind, taken, context_behind, line_more, more_lines}
-=======
 use Rattle.affc_text.specs.TextReading.{array, param, param_more, params, params_inside, temp, temp_more, more_temps, decl_behind, inside_stmt, may_be_decl, inside_more, int, line_closed, range_behind, taken, context_behind, line_more}
->>>>>>> b3d253d07f7b89dd1f83bd1f5f0e56b32b5c1915
 use Rattle.affc_text.proofs.StmtReads.{named_left, statement_left, stmts_inside_left, block_inside_left}
 
 module _ (prelude : Bool) (end room : ℕ) where

@@ -1,9 +1,5 @@
 -- What reading a text answers.
-<<<<<<< HEAD
-use Rattle.std.specs.Prelude.{◌≡◌, ◌≤◌, ℕ, List, [], length, drop, map, Result, Ok, Err}
-=======
 use Rattle.std.specs.Prelude.{◌≡◌, ◌≤◌, ℕ, List, [], length, drop, Result, Ok, Err}
->>>>>>> b3d253d07f7b89dd1f83bd1f5f0e56b32b5c1915
 use Rattle.affc_draft.specs.Drafts as drafts
 use Rattle.affc_draft.specs.declared.draft.TextDraft.{TextDraft}
 use Rattle.affc_grammar.specs.Grammar.{Symbol, Text}

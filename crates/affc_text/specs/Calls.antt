@@ -1,9 +1,5 @@
 -- Calls among tokens.
-<<<<<<< HEAD
-use Rattle.std.specs.Prelude.{Bool, false, ◌&&◌, List, [], ◌∷◌, codes}
-=======
 use Rattle.std.specs.Prelude.{Bool, false, ◌&&◌, List, ◌∷◌, codes}
->>>>>>> b3d253d07f7b89dd1f83bd1f5f0e56b32b5c1915
 use Rattle.affc_lex.specs.Bytes.{same}
 use Rattle.affc_grammar.specs.Grammar.{Symbol, is_word, is_mark}
 

@@ -1,9 +1,5 @@
 -- What statements are read by, and what stands in a text, in drafts of the grammar.
-<<<<<<< HEAD
-use Rattle.std.specs.Prelude.{Bool, false, ℕ, List, [], ◌∷◌, ◌++◌, Option, Some, None, map, ◌≡◌}
-=======
 use Rattle.std.specs.Prelude.{Bool, false, ℕ, List, [], ◌∷◌, ◌++◌, Option, Some, None, map}
->>>>>>> b3d253d07f7b89dd1f83bd1f5f0e56b32b5c1915
 use Rattle.affc_grammar.specs.Draft as d
 use Rattle.affc_grammar.specs.Reader as reader
 use Rattle.affc_grammar.specs.Reading as g

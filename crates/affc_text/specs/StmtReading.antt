@@ -1,22 +1,13 @@
 -- Reading drafts of statements. Only the crate's private clauses cite it: `end` is the number behind the last token, so that the first of some tokens at
 -- the text's end has the number `end - length tokens`.
-<<<<<<< HEAD
-use Rattle.std.specs.Prelude.{[], ◌∷◌, ◌++◌, ◌≡◌, ℕ, zero, suc, ◌-◌, Bool, true, false, ◌&&◌, List, length, codes, Option, Some, None, Result, Ok, Err, if◌then◌else◌}
-=======
 use Rattle.std.specs.Prelude.{[], ◌∷◌, ◌++◌, ℕ, zero, suc, ◌-◌, Bool, true, false, ◌&&◌, List, length, codes, Option, Some, None, Ok, Err, if◌then◌else◌}
->>>>>>> b3d253d07f7b89dd1f83bd1f5f0e56b32b5c1915
 use Rattle.std.specs.Option.{option_map}
 use Rattle.affc_lex.specs.Bytes.{same}
 use Rattle.affc_ast.specs.declared.tree.Op.{Op}
 use Rattle.affc_ast.specs.declared.tree.Rel.{Rel}
 use Rattle.affc_grammar.specs.Grammar.{Symbol, Name}
-<<<<<<< HEAD
-use Rattle.affc_grammar.specs.Draft.{IxDraft, CompareDraft, ValueDraft, WordDraft, HeadDraft, StmtsDraft, no_stmts, and_stmt, StmtDraft, assign, block, word_draft, bound_rel}
-use Rattle.affc_grammar.specs.Reader.{At, Deep, Read, Reader, then_read, Turn, going, done}
-=======
 use Rattle.affc_grammar.specs.Draft.{IxDraft, CompareDraft, WordDraft, StmtsDraft, no_stmts, and_stmt, StmtDraft, assign, block, word_draft, bound_rel}
 use Rattle.affc_grammar.specs.Reader.{At, Deep, Reader, then_read, Turn, going, done}
->>>>>>> b3d253d07f7b89dd1f83bd1f5f0e56b32b5c1915
 use Rattle.affc_grammar.specs.Reading.{this_mark, this_word, any_word, line_end, one, bound_of, assign_of, choose, head_words, First, a_word, a_brace, first_of}
 use Rattle.affc_syntax.specs.Ahead.{past}
 use Rattle.affc_syntax.specs.Readers.{on_past, closed, all_more}

@@ -1,14 +1,5 @@
 -- Reading drafts of the function, of the lines before it and of the text. Only the crate's private clauses cite it: `end` is the number behind the last
 -- token, so that the first of some tokens at the text's end has the number `end - length tokens`.
-<<<<<<< HEAD
-use Rattle.std.specs.Prelude.{[], ◌∷◌, ◌++◌, ◌≡◌, ℕ, zero, suc, ◌-◌, Bool, true, false, ◌&&◌, ◌||◌, List, length, take, codes, Option, Some, None, Result, Ok, Err, if◌then◌else◌, ℤ, pos, neg_ℤ}
-use Rattle.affc_ast.specs.declared.tree.Role.{Role}
-use Rattle.affc_ast.specs.declared.tree.Role.TheVariants.{Input, Output, Temp}
-use Rattle.affc_grammar.specs.Grammar.{Symbol, Name, has_call}
-use Rattle.affc_grammar.specs.Draft.{WordDraft, word_draft, StmtsDraft, no_stmts, and_stmt, DeclDraft, ParamDraft, number_param, array_param, PragmaDraft, range, context, TextDraft}
-use Rattle.affc_grammar.specs.Reader.{At, Deep, Read, Reader, then_read}
-use Rattle.affc_grammar.specs.Reading.{this_mark, this_word, any_word, hash, header, the_prelude, First, a_word, a_brace, first_of}
-=======
 use Rattle.std.specs.Prelude.{[], ◌∷◌, ◌++◌, ℕ, zero, suc, ◌-◌, Bool, true, false, ◌&&◌, ◌||◌, List, length, take, codes, Ok, Err, if◌then◌else◌, ℤ, pos, neg_ℤ}
 use Rattle.affc_ast.specs.declared.tree.Role.{Role}
 use Rattle.affc_ast.specs.declared.tree.Role.TheVariants.{Input, Output, Temp}
@@ -16,7 +7,6 @@ use Rattle.affc_grammar.specs.Grammar.{Symbol, Name, has_call}
 use Rattle.affc_grammar.specs.Draft.{WordDraft, word_draft, StmtsDraft, and_stmt, DeclDraft, ParamDraft, number_param, array_param, range, context, TextDraft}
 use Rattle.affc_grammar.specs.Reader.{At, Deep, Reader, then_read}
 use Rattle.affc_grammar.specs.Reading.{this_mark, this_word, any_word, hash, header, the_prelude, First, first_of}
->>>>>>> b3d253d07f7b89dd1f83bd1f5f0e56b32b5c1915
 use Rattle.affc_syntax.specs.Ahead.{past, number_value}
 use Rattle.affc_syntax.specs.Readers.{on_past, closed, all_more}
 use Rattle.affc_syntax.specs.IxReading as ix

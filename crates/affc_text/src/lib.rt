@@ -8,9 +8,6 @@ mod statement;
 mod text;
 
 pub use text::read_text;
-<<<<<<< HEAD
-=======
 
 #[cfg(test)]
 mod tests;
->>>>>>> b3d253d07f7b89dd1f83bd1f5f0e56b32b5c1915

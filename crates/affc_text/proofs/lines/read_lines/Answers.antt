@@ -1,8 +1,4 @@
-<<<<<<< HEAD
-use Rattle.std.proofs.Common.{length, map, codes, sym, ◌∙◌}
-=======
 use Rattle.std.proofs.Common.{length, map, sym, ◌∙◌}
->>>>>>> b3d253d07f7b89dd1f83bd1f5f0e56b32b5c1915
 use Rattle.std.proofs.lemmas.Result.{err_from_is_err_and}
 use Rattle.affc_draft.specs.Symbols.{seen}
 use Rattle.affc_text.specs.Parts.{lines_seen}

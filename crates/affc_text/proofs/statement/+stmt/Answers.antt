@@ -1,8 +1,4 @@
-<<<<<<< HEAD
-use Rattle.std.proofs.Common.{length, drop, map, Ok, ap, sym, ◌∙◌}
-=======
 use Rattle.std.proofs.Common.{drop, map, Ok, ap, sym, ◌∙◌}
->>>>>>> b3d253d07f7b89dd1f83bd1f5f0e56b32b5c1915
 use Rattle.std.proofs.lemmas.Result.{err_from_is_err_and}
 use Rattle.affc_text.specs.Parts.{first_seen, heads_seen, turn_seen, block_seen, stmts}
 use Rattle.affc_draft.specs.Drafts.{stmt}
