@@ -12,6 +12,7 @@ ghost use Rattle.affc_syntax.specs.declared.ahead.Stop.TheVariants as stop;
 ghost use Rattle.affc_text.specs.StmtReading as reading;
 ghost use Rattle.affc_text.specs.Parts.{first_seen};
 
+use crate::prelude::PRELUDE;
 use affc_ast::text::Text;
 use affc_ast::tree::{Op, Rel};
 use affc_draft::draft::WordDraft;
@@ -20,14 +21,6 @@ use affc_lex::token::Kind;
 use affc_syntax::ahead::{Answer, Stop, first, past_mark, past_word};
 use affc_syntax::expression::number_of_first;
 use std::alloc::{AllocError, Global};
-
-/// The bytes of the one token that the prelude is.
-const PRELUDE: &[u8] =
-    b"static inline int64_t affc_min(int64_t a, int64_t b) { return a < b ? a : b; }\n\
-static inline int64_t affc_max(int64_t a, int64_t b) { return a > b ? a : b; }\n\
-static inline int64_t affc_floord(int64_t a, int64_t b) { return a / b - (a % b < 0); }\n\
-static inline int64_t affc_ceild(int64_t a, int64_t b) { return a / b + (a % b > 0); }\n\
-static inline int64_t affc_mod(int64_t a, int64_t b) { return a % b + (a % b < 0 ? b : 0); }\n";
 
 fn same(a: &[u8], b: &str) -> bool
     ensures { result ≡ bytes.same a.now b.now }
