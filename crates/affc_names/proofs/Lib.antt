@@ -1,0 +1,9 @@
+pub mod Tables
+pub mod ReservedTests
+pub mod Each
+pub mod Statements
+pub mod Refusals
+pub mod LineLaws
+pub mod Params
+pub mod Programs
+pub mod Kept

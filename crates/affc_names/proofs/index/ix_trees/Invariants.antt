@@ -1,0 +1,8 @@
+use Rattle.std.proofs.Common.{◌≡◌, Ok, map, take}
+use Rattle.affc_grammar.specs.Names as names
+use Rattle.affc_draft.specs.Drafts as drafts
+use Rattle.affc_names.specs.Stored as stored
+use Rattle.affc_names.proofs.index.ix_trees.Given as goal
+
+abbrev pub invariant-loop-draft : goal.invariant-loop-draft
+invariant-loop-draft l = names.each (names.ix_tree l.scope) (map stored.ix (map drafts.ix (take l.draft-index l.drafts))) ≡ Ok l.trees

@@ -1,0 +1,13 @@
+pub mod Reserved
+pub mod Things
+pub mod Visible
+pub mod Table
+pub mod Inside
+pub mod Ranged
+pub mod Stored
+pub mod Gives
+pub mod Locals
+pub mod Kinds
+pub mod Ranges
+pub mod Answers
+pub mod Shifts

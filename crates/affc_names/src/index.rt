@@ -1,0 +1,174 @@
+//! Trees of whole-number expressions.
+
+ghost use Rattle.std.specs.Prelude.{◌≡◌, pos, map, IfOk};
+ghost use Rattle.affc_names.specs.Things.{thing_seen};
+ghost use Rattle.std.specs.Option.{option_map};
+ghost use Rattle.affc_grammar.specs.Names as names;
+ghost use Rattle.affc_ast.specs.declared.tree.Ix.TheVariants as trees;
+ghost use Rattle.affc_draft.specs.Drafts as seen;
+ghost use Rattle.affc_names.specs.Stored as stored;
+ghost use Rattle.affc_names.specs.Gives.{Gives};
+
+use crate::fault::NameFault;
+use crate::scope::{Scope, Thing};
+use crate::why::why_number;
+use affc_ast::tree::{Ix, NameId};
+use affc_ast::{Boxed, Items};
+use affc_draft::draft::{Choice, IxDraft, Rounding};
+use std::alloc::{AllocError, Global};
+
+fn number_id(thing: Option<Thing>) -> NameId
+    ensures { result ≡ names.number_id (option_map thing_seen thing) }
+{
+    match thing {
+        Some(Thing::Number { id, .. }) => NameId(id),
+        _ => NameId(0),
+    }
+}
+
+fn number_named(scope: &Scope, at: usize, name: &str) -> Result<NameId, NameFault>
+    ensures { Gives result (names.number_named scope.now at name.now) }
+{
+    let thing = scope.find(name);
+    match why_number(scope, name, thing) {
+        None => Ok(number_id(thing)),
+        Some(why) => Err(NameFault::Refused { at, why }),
+    }
+}
+
+/// A number as a tree holds it; one that is too large is cut.
+fn stored(value: u64) -> i64
+    ensures { result ≡ pos (stored.number value) }
+{
+    if value < (1 << 63) {
+        value as i64
+    } else {
+        i64::MAX
+    }
+}
+
+fn both(alloc: Global, a: Ix, b: Ix) -> Result<(Boxed<Ix>, Boxed<Ix>), AllocError>
+    ensures { IfOk result (λ r. r ≡ (a, b)) }
+{
+    let a = Boxed::new(alloc, a)?;
+    let b = Boxed::new(alloc, b)?;
+    Ok((a, b))
+}
+
+fn chosen(alloc: Global, choice: Choice, a: Ix, b: Ix) -> Result<Ix, AllocError>
+    ensures { IfOk result (λ x. x ≡ names.choice_tree (seen.choice choice) a b) }
+{
+    let (a, b) = both(alloc, a, b)?;
+    match choice {
+        Choice::Minimum => Ok(Ix::Min(a, b)),
+        Choice::Maximum => Ok(Ix::Max(a, b)),
+        Choice::Remainder => Ok(Ix::Mod(a, b)),
+    }
+}
+
+fn divided(alloc: Global, rounding: Rounding, a: Ix, by: u64) -> Result<Ix, AllocError>
+    ensures { IfOk result (λ x. x ≡ names.rounding_tree (seen.rounding rounding) a (pos (stored.number by))) }
+{
+    let a = Boxed::new(alloc, a)?;
+    let by = stored(by);
+    match rounding {
+        Rounding::Down => Ok(Ix::Floord(a, by)),
+        Rounding::Up => Ok(Ix::Ceild(a, by)),
+    }
+}
+
+fn negated(alloc: Global, a: Ix) -> Result<Ix, AllocError>
+    ensures { IfOk result (λ x. x ≡ trees.Neg a) }
+{
+    Ok(Ix::Neg(Boxed::new(alloc, a)?))
+}
+
+fn sum(alloc: Global, a: Ix, b: Ix) -> Result<Ix, AllocError>
+    ensures { IfOk result (λ x. x ≡ trees.Add a b) }
+{
+    let (a, b) = both(alloc, a, b)?;
+    Ok(Ix::Add(a, b))
+}
+
+fn difference(alloc: Global, a: Ix, b: Ix) -> Result<Ix, AllocError>
+    ensures { IfOk result (λ x. x ≡ trees.Sub a b) }
+{
+    let (a, b) = both(alloc, a, b)?;
+    Ok(Ix::Sub(a, b))
+}
+
+fn product(alloc: Global, a: Ix, b: Ix) -> Result<Ix, AllocError>
+    ensures { IfOk result (λ x. x ≡ trees.Mul a b) }
+{
+    let (a, b) = both(alloc, a, b)?;
+    Ok(Ix::Mul(a, b))
+}
+
+#[tactic(auto, using(affc_draft::proofs::Outs::ix_outs))]
+pub(crate) fn ix_tree(alloc: Global, scope: &Scope, draft: &IxDraft) -> Result<Ix, NameFault>
+    ensures { Gives result (names.ix_tree scope.now (stored.ix (seen.ix draft.now))) }
+{
+    match draft {
+        IxDraft::Literal { value, .. } => Ok(Ix::Lit(stored(*value))),
+        IxDraft::Name { at, name } => {
+            let id = number_named(scope, *at, name.as_str())?;
+            Ok(Ix::Name(id))
+        }
+        IxDraft::Negated { of, .. } => {
+            let a = ix_tree(alloc, scope, of.get())?;
+            Ok(negated(alloc, a)?)
+        }
+        IxDraft::Sum(left, right) => {
+            let a = ix_tree(alloc, scope, left.get())?;
+            let b = ix_tree(alloc, scope, right.get())?;
+            Ok(sum(alloc, a, b)?)
+        }
+        IxDraft::Difference(left, right) => {
+            let a = ix_tree(alloc, scope, left.get())?;
+            let b = ix_tree(alloc, scope, right.get())?;
+            Ok(difference(alloc, a, b)?)
+        }
+        IxDraft::Product { left, right, .. } => {
+            let a = ix_tree(alloc, scope, left.get())?;
+            let b = ix_tree(alloc, scope, right.get())?;
+            Ok(product(alloc, a, b)?)
+        }
+        IxDraft::Grouped { inside, .. } => ix_tree(alloc, scope, inside.get()),
+        IxDraft::Chosen {
+            choice,
+            left,
+            right,
+            ..
+        } => {
+            let a = ix_tree(alloc, scope, left.get())?;
+            let b = ix_tree(alloc, scope, right.get())?;
+            Ok(chosen(alloc, *choice, a, b)?)
+        }
+        IxDraft::Divided {
+            rounding,
+            of,
+            by,
+            ..
+        } => {
+            let a = ix_tree(alloc, scope, of.get())?;
+            Ok(divided(alloc, *rounding, a, *by)?)
+        }
+    }
+}
+
+/// Each of the expressions, in order.
+#[tactic(auto, using(crate::proofs::Each::each_turn, crate::proofs::Each::each_stops))]
+pub(crate) fn ix_trees(
+    alloc: Global,
+    scope: &Scope,
+    drafts: &[IxDraft],
+) -> Result<Items<Ix>, NameFault>
+    ensures { Gives result (names.each (names.ix_tree scope.now) (map stored.ix (map seen.ix drafts.now))) }
+{
+    let mut trees = Items::new(alloc);
+    for draft in drafts {
+        let tree = ix_tree(alloc, scope, draft)?;
+        trees.push(tree)?;
+    }
+    Ok(trees)
+}

@@ -1,0 +1,12 @@
+//! The tree of a text whose names keep the rules, or the first name that is refused.
+#![tactic(auto)]
+
+pub mod fault;
+mod index;
+mod lines;
+pub mod program;
+mod reserved;
+mod scope;
+mod statement;
+mod value;
+mod why;

@@ -1,0 +1,125 @@
+//! Trees of conditions and of values.
+
+ghost use Rattle.std.specs.Prelude.{◌≡◌, map};
+ghost use Rattle.std.specs.Option.{option_map};
+ghost use Rattle.affc_grammar.specs.Names as names;
+ghost use Rattle.affc_draft.specs.Drafts as seen;
+ghost use Rattle.affc_names.specs.Things.{thing_seen};
+ghost use Rattle.affc_names.specs.Stored as stored;
+ghost use Rattle.affc_names.specs.Gives.{Gives};
+
+use crate::fault::NameFault;
+use crate::index::{ix_tree, ix_trees};
+use crate::scope::{Scope, Thing};
+use crate::why::why_array;
+use affc_ast::tree::{ArrayId, Compare, Val};
+use affc_ast::{Boxed, Items};
+use affc_draft::draft::{CompareDraft, ValueDraft};
+use std::alloc::Global;
+
+fn array_id(thing: Option<Thing>) -> ArrayId
+    ensures { result ≡ names.array_id (option_map thing_seen thing) }
+{
+    match thing {
+        Some(Thing::Array { id, .. }) => ArrayId(id),
+        _ => ArrayId(0),
+    }
+}
+
+pub(crate) fn array_named(
+    scope: &Scope,
+    at: usize,
+    name: &str,
+    is_store: bool,
+    subscripts: usize,
+) -> Result<ArrayId, NameFault>
+    ensures { Gives result (names.array_named scope.now at name.now is_store subscripts) }
+{
+    let thing = scope.find(name);
+    match why_array(scope, name, is_store, subscripts, thing) {
+        None => Ok(array_id(thing)),
+        Some(why) => Err(NameFault::Refused { at, why }),
+    }
+}
+
+pub(crate) fn compare_tree(
+    alloc: Global,
+    scope: &Scope,
+    draft: &CompareDraft,
+) -> Result<Compare, NameFault>
+    ensures { Gives result (names.compare_tree scope.now (stored.compare (seen.compare draft.now))) }
+{
+    let left = ix_tree(alloc, scope, &draft.left)?;
+    let right = ix_tree(alloc, scope, &draft.right)?;
+    Ok(Compare {
+        rel: draft.rel,
+        left,
+        right,
+    })
+}
+
+/// Each of the conditions, in order.
+#[tactic(auto, using(crate::proofs::Each::each_turn, crate::proofs::Each::each_stops))]
+pub(crate) fn compare_trees(
+    alloc: Global,
+    scope: &Scope,
+    drafts: &[CompareDraft],
+) -> Result<Items<Compare>, NameFault>
+    ensures { Gives result (names.each (names.compare_tree scope.now) (map stored.compare (map seen.compare drafts.now))) }
+{
+    let mut trees = Items::new(alloc);
+    for draft in drafts {
+        let tree = compare_tree(alloc, scope, draft)?;
+        trees.push(tree)?;
+    }
+    Ok(trees)
+}
+
+/// The bits of a shift as a tree holds them.
+fn bits(by: u64) -> u8
+    ensures { result ≡ stored.bits by }
+{
+    if by < 256 { by as u8 } else { 0 }
+}
+
+#[tactic(auto, using(affc_draft::proofs::Outs::value_outs, crate::proofs::Each::lengths))]
+pub(crate) fn value_tree(alloc: Global, scope: &Scope, draft: &ValueDraft) -> Result<Val, NameFault>
+    ensures { Gives result (names.value_tree scope.now (stored.value (seen.value draft.now))) }
+{
+    match draft {
+        ValueDraft::Load { at, name, subs } => {
+            let array = array_named(scope, *at, name.as_str(), false, subs.len())?;
+            let subs = ix_trees(alloc, scope, subs.as_slice())?;
+            Ok(Val::Load { array, subs })
+        }
+        ValueDraft::Constant(value) => Ok(Val::Const(*value)),
+        ValueDraft::Cast(inside) => {
+            let inside = ix_tree(alloc, scope, inside)?;
+            Ok(Val::Cast(inside))
+        }
+        ValueDraft::Complement(of) => {
+            let of = value_tree(alloc, scope, of.get())?;
+            Ok(Val::Not(Boxed::new(alloc, of)?))
+        }
+        ValueDraft::Binary { op, left, right } => {
+            let left = value_tree(alloc, scope, left.get())?;
+            let right = value_tree(alloc, scope, right.get())?;
+            let left = Boxed::new(alloc, left)?;
+            let right = Boxed::new(alloc, right)?;
+            Ok(Val::Bin {
+                op: *op,
+                left,
+                right,
+            })
+        }
+        ValueDraft::Shift { left, of, by } => {
+            let value = value_tree(alloc, scope, of.get())?;
+            let value = Boxed::new(alloc, value)?;
+            Ok(Val::Shift {
+                left: *left,
+                value,
+                by: bits(*by),
+            })
+        }
+    }
+}

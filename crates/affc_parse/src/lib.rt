@@ -1,0 +1,7 @@
+//! The program that a text is, or why it is none.
+#![tactic(auto)]
+
+pub mod fault;
+mod place;
+mod symbols;
+mod tokens;
