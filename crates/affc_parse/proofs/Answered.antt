@@ -16,7 +16,7 @@ use Rattle.affc_parse.proofs.ShownBack.{spelled_back}
 use Rattle.affc_parse.proofs.ShownShape.{shape_same, prelude_same}
 use Rattle.affc_parse.proofs.WrittenShifts.{text_shifts}
 
-none_passed : (ps : List Passed) → least ps ≡ None → ps ≡ []
+pub none_passed : (ps : List Passed) → least ps ≡ None → ps ≡ []
 none_passed [] e = refl
 none_passed (p ∷ ps) e = absurd (some (least ps) e)
   where
@@ -52,11 +52,11 @@ limit_wrong limits c tree q e p l =
 
 -- ---- A text of the grammar that keeps the limits has no number that is cut
 
-no_append : {A : Type 0} (xs ys : List A) → xs ++ ys ≡ [] → (xs ≡ []) × (ys ≡ [])
+pub no_append : {A : Type 0} (xs ys : List A) → xs ++ ys ≡ [] → (xs ≡ []) × (ys ≡ [])
 no_append [] ys e = (refl, e)
 no_append (x ∷ xs) ys e = absurd (cc)
 
-no_place : (which : LimitName) (places : List ℕ) → passed_at which places ≡ [] → places ≡ []
+pub no_place : (which : LimitName) (places : List ℕ) → passed_at which places ≡ [] → places ≡ []
 no_place which [] e = refl
 no_place which (p ∷ ps) e = absurd (cc)
 

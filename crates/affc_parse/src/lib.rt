@@ -3,5 +3,9 @@
 
 pub mod fault;
 mod place;
+mod program;
+mod size;
 mod symbols;
 mod tokens;
+
+pub use program::parse;
