@@ -1,13 +1,4 @@
 pub mod Telling
 pub mod Running
-pub mod Stretch
-pub mod Lettered
-pub mod Printed
-pub mod Reading
-pub mod Tokens
-pub mod Shown
-pub mod NameLemmas
-pub mod FormLemmas
-pub mod Hashes
-pub mod Found
 pub mod Folded
+pub mod Forms

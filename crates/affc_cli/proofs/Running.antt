@@ -1,15 +1,17 @@
 -- How a command ends, from what its steps said.
-use Rattle.std.proofs.Common.{◌≡◌, ℕ, List, [], Option, Result, refl, ap, sym, subst, ◌∙◌, inl, inr, arith, lit<}
+use Rattle.std.proofs.Common.{◌≡◌, ◌⊎◌, ℕ, List, [], Option, Result, refl, ap, sym, subst, ◌∙◌, inl, inr, arith, lit<}
 use Rattle.affc_io.specs.Count.{Rose}
 use Rattle.affc_io.specs.Put.{put_of}
 use Rattle.affc_io.specs.Taken.{grown}
 use Rattle.affc_io.specs.declared.put.PutFault.{PutFault}
 use Rattle.affc_cli.specs.Command.{Fold}
-use Rattle.affc_cli.specs.Outside.{Outside, Keeps, Told}
+use Rattle.affc_cli.specs.Outside.{Outside, FolderState, Keeps, Told}
 use Rattle.affc_cli.specs.Promise.{FoldPromises, WrittenInPart, Runs}
-use Rattle.affc_cli.specs.Refusal.{status_of, line_of, FoldCause}
+use Rattle.affc_io.specs.Files.{Files, Holds}
+use Rattle.affc_cli.specs.Refusal.{status_of, line_of, FoldCause, TextCause}
+use Rattle.affc_cli.specs.Telling.{IsTold}
 use Rattle.affc_cli.specs.declared.refusal.Refusal.{Refusal}
-use Rattle.affc_cli.specs.declared.refusal.Refusal.TheVariants.{Words, Read, Long, Memory, Unbuilt}
+use Rattle.affc_cli.specs.declared.refusal.Refusal.TheVariants.{Words, Read, Long, Source, Memory, Unbuilt}
 use Rattle.affc_cli.proofs.Telling.{grown-nil, front_of_put}
 
 -- what a refusal ends with
@@ -34,8 +36,16 @@ refused_at Long name before now cause out told keeps = record {
   failed = λ e. absurd (omega arith);
   refused = λ _ _ _. record { refusal = Long; is_status = refl; cause = cause; out = out; told = told };
 }
-refused_at Memory name before now cause out told keeps = record {
+refused_at (Source place why) name before now cause out told keeps = record {
   answers = (2, lit< tt, refl);
+  keeps = keeps;
+  done = λ e. absurd (omega arith);
+  short = λ e. absurd (omega arith);
+  failed = λ e. absurd (omega arith);
+  refused = λ _ _ _. record { refusal = Source place why; is_status = refl; cause = cause; out = out; told = told };
+}
+refused_at Memory name before now cause out told keeps = record {
+  answers = (3, lit< tt, refl);
   keeps = keeps;
   done = λ e. absurd (omega arith);
   short = λ _. inl (record { out = out; told = told });
@@ -43,7 +53,7 @@ refused_at Memory name before now cause out told keeps = record {
   refused = λ _ other _. absurd (other refl);
 }
 refused_at Unbuilt name before now cause out told keeps = record {
-  answers = (4, lit< tt, refl);
+  answers = (5, lit< tt, refl);
   keeps = keeps;
   done = λ e. absurd (omega arith);
   short = λ e. absurd (omega arith);
@@ -58,6 +68,24 @@ pub refused_runs : (refusal : Refusal) (name : List ℕ) (before now : Outside) 
 refused_runs refusal name before now status is cause out told keeps =
     let P : ℕ → Type 0 = λ n. Runs (Fold name) before now n in
     subst P (sym is) (refused_at refusal name before now cause out told keeps)
+
+-- what a text is refused for is what the command is refused for
+pub cause_of_text : (refusal : Refusal) (held : Option Files) (name source : List ℕ) (before now : FolderState) → before.held ≡ held → Holds held name source → TextCause source refusal → FoldCause refusal name before now
+cause_of_text Words held name source before now same holds cause = cause
+cause_of_text Read held name source before now same holds cause = absurd cause
+cause_of_text Long held name source before now same holds cause = absurd cause
+cause_of_text (Source place why) held name source before now same holds cause = record { source = source; is_held = subst (λ h. Holds h name source) (sym same) holds; fault = cause }
+cause_of_text Memory held name source before now same holds cause = tt
+cause_of_text Unbuilt held name source before now same holds cause = record { source = source; is_held = subst (λ h. Holds h name source) (sym same) holds; unbuilt = cause }
+
+-- a refusal was told, or want of memory in its place
+pub told_runs : (refusal : Refusal) (name : List ℕ) (before now : Outside) (status : ℕ) → FoldCause refusal name before.folder now.folder → now.out.taken ≡ before.out.taken
+    → IsTold refusal name before.err now.err status → Keeps before now → Runs (Fold name) before now status
+told_runs refusal name before now status cause out told keeps = of told.is
+  where
+    of : (told.said ≡ refusal) ⊎ (told.said ≡ Memory) → Runs (Fold name) before now status
+    of (inl e) = refused_runs told.said name before now status told.is_status (subst (λ r. FoldCause r name before.folder now.folder) (sym e) cause) out told.told keeps
+    of (inr e) = refused_runs told.said name before now status told.is_status (subst (λ r. FoldCause r name before.folder now.folder) (sym e) tt) out told.told keeps
 
 -- a front of the text went out
 in_part : {T : Type 0} (name : List ℕ) (before : Outside) (out : Option (List ℕ)) (text : List ℕ) (r : Result T PutFault)
@@ -99,7 +127,7 @@ pub failed_runs : {T : Type 0} (name : List ℕ) (before now : Outside) (text : 
     → now.err.taken ≡ before.err.taken → Rose before.out.faults now.out.faults → Keeps before now
     → Runs (Fold name) before now 10
 failed_runs name before now text r promised took same rose keeps = record {
-  answers = (3, lit< tt, refl);
+  answers = (4, lit< tt, refl);
   keeps = keeps;
   done = λ e. absurd (omega arith);
   short = λ e. absurd (omega arith);
@@ -118,7 +146,7 @@ short_at : {T : Type 0} (name : List ℕ) (before now : Outside) (text : List �
     → Told before.err.taken before.err now.err (line_of Memory name) → Rose before.out.shortages now.out.shortages → Keeps before now
     → Runs (Fold name) before now 9
 short_at name before now text r promised took told rose keeps = record {
-  answers = (2, lit< tt, refl);
+  answers = (3, lit< tt, refl);
   keeps = keeps;
   done = λ e. absurd (omega arith);
   short = λ _. inr (record {

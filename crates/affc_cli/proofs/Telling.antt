@@ -1,5 +1,5 @@
 -- A line on err, written piece by piece.
-use Rattle.std.proofs.Common.{◌≡◌, ◌<◌, ◌≤◌, ◌++◌, ℕ, List, [], Option, Some, None, Result, Ok, Err, IfErr, take, drop, refl, ap, sym, ◌∙◌, append_assoc, inl, inr, arith}
+use Rattle.std.proofs.Common.{◌≡◌, ◌<◌, ◌≤◌, ◌++◌, ℕ, List, [], codes, subst, Option, Some, None, Result, Ok, Err, IfErr, take, drop, refl, ap, sym, ◌∙◌, append_assoc, inl, inr, arith}
 use Rattle.std.proofs.lemmas.List.{take-append-drop, append-nil}
 use Rattle.affc_io.specs.Count.{Rose}
 use Rattle.affc_io.specs.Front.{IsFront}
@@ -9,6 +9,10 @@ use Rattle.affc_io.specs.declared.put.PutFault.{PutFault}
 use Rattle.affc_io.specs.declared.put.PutCause.{PutCause}
 use Rattle.affc_io.specs.declared.put.PutCause.TheVariants.{Fault, Memory}
 use Rattle.affc_cli.specs.Outside.{SinkState, SinkCounts, Falters, Told}
+use Rattle.affc_cli.specs.Refusal.{status_of, line_of, source_line}
+use Rattle.affc_cli.specs.Telling.{IsTold}
+use Rattle.affc_cli.specs.declared.refusal.Refusal.{Refusal}
+use Rattle.affc_cli.specs.declared.refusal.Why.{Why}
 
 pub grown-nil : (o : Option (List ℕ)) → grown o [] ≡ o
 grown-nil None = refl
@@ -83,3 +87,16 @@ told_third before mid late now a b c (Err fault) counts had then_had took cause 
     told_part before.taken before late now (a ++ b) c (a ++ b ++ c) fault counts
     (then_had ∙ ap (λ o. grown o b) had ∙ grown-grown before.taken a b) took cause
     (front_after (a ++ b) c _ (front_of_put {T = ℕ} (Err fault) c))
+
+-- the line of a refusal was told
+pub plain_told : (said refusal self : Refusal) (name : List ℕ) (before now now' : SinkState) (line : List ℕ) (status : ℕ) → refusal ≡ said → self ≡ refusal → status ≡ status_of self
+    → line ≡ line_of said name → now' ≡ now → Told before.taken before now line → IsTold refusal name before now' status
+plain_told said refusal self name before now now' line status is same is_status is_line is_now told = record {
+  said = said;
+  is = inl (sym is);
+  is_status = is_status ∙ ap status_of (same ∙ is);
+  told = subst (λ n. Told before.taken before n (line_of said name)) (sym is_now) (subst (λ l. Told before.taken before now l) is_line told);
+}
+
+pub source_told : (shown text : List ℕ) (place : ℕ) (why : Why) → shown ≡ text → text ≡ source_line place why → shown ++ [] ++ codes "\n" ≡ source_line place why ++ codes "\n"
+source_told shown text place why e f = ap (λ x. x ++ codes "\n") (append-nil shown ∙ e ∙ f)

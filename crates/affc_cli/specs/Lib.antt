@@ -1,10 +1,8 @@
-pub mod Symbols
-pub mod Text
-pub mod Copies
-pub mod Kept
-pub mod Parsed
 pub mod Command
+pub mod Form
 pub mod Outside
-pub mod Refusal
 pub mod Fold
+pub mod Words
+pub mod Refusal
+pub mod Telling
 pub mod Promise

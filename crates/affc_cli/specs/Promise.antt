@@ -23,7 +23,7 @@ Promises (Fold source) held text report = FoldPromises source held text report
 
 -- The statuses that a command ends with.
 abbrev pub statuses_of : Command → List ℕ
-statuses_of (Fold source) = 0 ∷ 3 ∷ 9 ∷ 10 ∷ 14 ∷ []
+statuses_of (Fold source) = 0 ∷ 3 ∷ 4 ∷ 9 ∷ 10 ∷ 14 ∷ []
 
 -- The line of a refused command.
 abbrev pub refusal_line : Command → Refusal → List ℕ

@@ -1,23 +1,105 @@
 // One source, compiled.
-ghost use Rattle.std.specs.Prelude.{IfOk, MatchOption, string_bytes};
-ghost use Rattle.affc_cli.specs.Fold.{FoldsTo, IsUnread};
+ghost use Rattle.std.specs.Prelude.{◌≡◌, ℕ, List, true, Err, IfOk, IfErr, IfSome};
+ghost use Rattle.affc_ast.specs.declared.tree.Program.{Program};
+ghost use Rattle.affc_grammar.specs.Reads.{Reads};
+ghost use Rattle.affc_parse.specs.Answers.{Answers};
+ghost use Rattle.affc_cli.specs.Fold.{FoldsTo, HasPrelude};
+ghost use Rattle.affc_cli.specs.Refusal.{TextCause};
 
-use crate::parse::parse;
-use crate::print::print;
+use crate::form::is_first_form;
+use crate::refusal::{Refusal, Why};
 use affc_ast::laws::copy_loops_compile_themselves;
-use affc_grammar::laws::copy_loops_read;
-use std::alloc::{AllocError, Global};
+use affc_cprint::print;
+use affc_lex::lex;
+use affc_lex::token::{Kind, Token};
+use affc_parse::fault::ParseFault;
+use affc_parse::parse;
+use std::alloc::Global;
 
-/// The text that does what the source does, where the source is of the form that can be compiled.
-pub fn fold(alloc: Global, source: &[u8]) -> Result<Option<String>, AllocError>
-    ensures { IfOk result (λ done. MatchOption done
-        (IsUnread source.now)
-        (λ text. FoldsTo source.now (string_bytes text))) }
+// The refusal of a text that is no program.
+fn refusal_of(fault: ParseFault) -> Refusal
+    ensures { (text : List ℕ) → Answers text (Err fault) → TextCause text result }
 {
-    let Some(copy) = parse(alloc, source)? else {
-        return Ok(None);
+    match fault {
+        ParseFault::Memory => Refusal::Memory,
+        ParseFault::BadByte(place) => Refusal::Source {
+            place,
+            why: Why::Byte,
+        },
+        ParseFault::OpenComment(place) => Refusal::Source {
+            place,
+            why: Why::Comment,
+        },
+        ParseFault::LongNumber(place) => Refusal::Source {
+            place,
+            why: Why::Number,
+        },
+        ParseFault::Syntax(place) => Refusal::Source {
+            place,
+            why: Why::Syntax,
+        },
+        ParseFault::Name { place, why } => Refusal::Source {
+            place,
+            why: Why::Name(why),
+        },
+        ParseFault::NotAffine(place) => Refusal::Source {
+            place,
+            why: Why::NotAffine,
+        },
+        ParseFault::Limit { place, which } => Refusal::Source {
+            place,
+            why: Why::Limit(which),
+        },
+    }
+}
+
+// The place of the prelude among the tokens.
+fn prelude_of(tokens: &[Token]) -> Option<usize>
+    ensures { IfSome result (λ place. HasPrelude tokens.now place) }
+{
+    for token in tokens {
+        if token.kind == Kind::Prelude {
+            return Some(token.start);
+        }
+    }
+    None
+}
+
+// The refusal of a text that reads as a program with the prelude. Such a text has the prelude's token, so that only
+// want of memory keeps its place from being found.
+fn printed(alloc: Global, source: &[u8]) -> Refusal
+    ensures { (tree : Program) → Reads source.now tree → tree.prelude ≡ true → TextCause source.now result }
+{
+    let Ok(tokens) = lex(alloc, source) else {
+        return Refusal::Memory;
     };
-    copy_loops_read();
+    match prelude_of(&tokens) {
+        Some(place) => Refusal::Source {
+            place,
+            why: Why::Printed,
+        },
+        None => Refusal::Memory,
+    }
+}
+
+/// The text that does what the source does, or why there is none.
+pub fn fold(alloc: Global, source: &[u8]) -> Result<Vec<u8>, Refusal>
+    ensures ok { IfOk result (λ text. FoldsTo source.now text.items) }
+    ensures err { IfErr result (TextCause source.now) }
+{
+    let tree = match parse(alloc, source) {
+        Ok(tree) => tree,
+        Err(fault) => return Err(refusal_of(fault)),
+    };
+    if tree.prelude {
+        return Err(printed(alloc, source));
+    }
+    if !is_first_form(&tree) {
+        return Err(Refusal::Unbuilt);
+    }
     copy_loops_compile_themselves();
-    Ok(Some(print(alloc, &copy)?))
+    match print(alloc, &tree) {
+        Ok(text) => Ok(text),
+        Err(_) => Err(Refusal::Memory),
+    }
 }

@@ -1,15 +1,10 @@
 // affc folds the temporary arrays of affine loop nests. So far it takes one loop that copies an array.
 #![tactic(auto)]
 
-mod copy_loop;
 mod fold;
 mod form;
-mod names;
-mod parse;
-mod print;
 mod refusal;
 mod serve;
-mod symbols;
 #[cfg(test)]
 mod tests;
 mod words;

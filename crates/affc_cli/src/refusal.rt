@@ -1,9 +1,31 @@
 // Why a command is refused.
-ghost use Rattle.std.specs.Prelude.{◌≡◌, ◌++◌, List, ℕ, codes};
+ghost use Rattle.std.specs.Prelude.{◌≡◌, ◌++◌, List, ℕ, IfOk, codes, string_bytes};
 ghost use Rattle.affc_cli.specs.Outside.{SinkCounts, Told};
-ghost use Rattle.affc_cli.specs.Refusal.{status_of, line_of};
+ghost use Rattle.affc_cli.specs.Refusal.{status_of, source_line};
+ghost use Rattle.affc_cli.specs.Telling.{IsTold};
+ghost use Rattle.affc_cli.specs.Words.{name_words, limit_words, why_words};
 
+use affc_grammar::fault::{LimitName, NameWhy};
 use affc_io::{Sink, put_all};
+use std::alloc::{AllocError, Global};
+
+/// What is wrong with a source.
+#[derive(Clone, Copy, Debug, PartialEq, Eq)]
+pub enum Why {
+    /// No token begins or goes on here.
+    Byte,
+    /// A comment without its end.
+    Comment,
+    /// A number of 2^64 or more.
+    Number,
+    Syntax,
+    Name(NameWhy),
+    /// A product both of whose sides hold names.
+    NotAffine,
+    Limit(LimitName),
+    /// It has the prelude, as printed texts do.
+    Printed,
+}
 
 /// Why a command isn't done.
 #[derive(Clone, Copy, Debug, PartialEq, Eq)]
@@ -14,10 +36,76 @@ pub enum Refusal {
     Read,
     /// The file has more bytes than are read.
     Long,
+    /// The source is no program that is taken.
+    Source { place: usize, why: Why },
     /// Memory is short.
     Memory,
     /// The source isn't of the form that can be compiled yet.
     Unbuilt,
+}
+
+fn name_words(why: NameWhy) -> &'static str
+    ensures { result.now ≡ name_words why }
+{
+    match why {
+        NameWhy::Unknown => "name unknown",
+        NameWhy::Twice => "name twice",
+        NameWhy::Reserved => "name reserved",
+        NameWhy::Const => "name const",
+        NameWhy::Kind => "name kind",
+        NameWhy::NoRange => "name range",
+    }
+}
+
+fn limit_words(which: LimitName) -> &'static str
+    ensures { result.now ≡ limit_words which }
+{
+    match which {
+        LimitName::Size => "limit size",
+        LimitName::Tokens => "limit tokens",
+        LimitName::Run => "limit run",
+        LimitName::Depth => "limit depth",
+        LimitName::Items => "limit items",
+        LimitName::Parameters => "limit parameters",
+        LimitName::Range => "limit range",
+        LimitName::Loops => "limit loops",
+        LimitName::Statements => "limit statements",
+        LimitName::Empty => "limit empty",
+        LimitName::Accesses => "limit accesses",
+        LimitName::Dimensions => "limit dimensions",
+        LimitName::Comparisons => "limit comparisons",
+        LimitName::Literal => "limit literal",
+        LimitName::Coefficient => "limit coefficient",
+    }
+}
+
+impl Why {
+    fn words(self) -> &'static str
+        ensures { result.now ≡ why_words self }
+    {
+        match self {
+            Why::Byte => "byte",
+            Why::Comment => "comment",
+            Why::Number => "number",
+            Why::Syntax => "syntax",
+            Why::Name(why) => name_words(why),
+            Why::NotAffine => "not affine",
+            Why::Limit(which) => limit_words(which),
+            Why::Printed => "printed",
+        }
+    }
+}
+
+// What is said of a source, without the line's end.
+fn source_line(alloc: Global, place: usize, why: Why) -> Result<String, AllocError>
+    ensures { IfOk result (λ line. string_bytes line ≡ source_line place why) }
+{
+    let mut line = String::new(alloc);
+    line.push_str("affc: source at ")?;
+    write!(line, "{place}")?;
+    line.push_str(": ")?;
+    line.push_str(why.words())?;
+    Ok(line)
 }
 
 impl Refusal {
@@ -29,33 +117,43 @@ impl Refusal {
             Refusal::Words => 2,
             Refusal::Read => 3,
             Refusal::Long => 3,
+            Refusal::Source { .. } => 4,
             Refusal::Memory => 9,
             Refusal::Unbuilt => 14,
         }
     }
 
-    /// Writes the line, where `name` is the file that is meant.
-    pub fn tell<E: Sink>(self, err: &mut E, name: &str)
+    /// Writes the line, where `name` is the file that is meant, and answers the status: that of want of memory,
+    /// with its line, where there is none for this one's.
+    pub fn tell<E: Sink>(self, alloc: Global, err: &mut E, name: &str) -> u8
         ensures counts { SinkCounts
             (record { taken = E.taken err.old; faults = E.faults err.old; shortages = E.shortages err.old })
             (record { taken = E.taken err.new; faults = E.faults err.new; shortages = E.shortages err.new }) }
-        ensures told { Told (E.taken err.old)
+        ensures told { IsTold self name.now
             (record { taken = E.taken err.old; faults = E.faults err.old; shortages = E.shortages err.old })
             (record { taken = E.taken err.new; faults = E.faults err.new; shortages = E.shortages err.new })
-            (line_of self name.now) }
+            result }
     {
         match self {
             Refusal::Words => put_line(err, "affc: words", ""),
             Refusal::Read => put_line(err, "affc: read ", name),
             Refusal::Long => put_line(err, "affc: too long ", name),
+            Refusal::Source { place, why } => match source_line(alloc, place, why) {
+                Ok(line) => put_line(err, line.as_str(), ""),
+                Err(_) => {
+                    put_line(err, "affc: memory", "");
+                    return Refusal::Memory.status();
+                }
+            },
             Refusal::Memory => put_line(err, "affc: memory", ""),
             Refusal::Unbuilt => put_line(err, "affc: unbuilt", ""),
         }
+        self.status()
     }
 }
 
-// Writes a line, as far as the sink takes it.
-fn put_line<E: Sink>(err: &mut E, head: &str, name: &str)
+/// Writes a line, as far as the sink takes it.
+pub fn put_line<E: Sink>(err: &mut E, head: &str, name: &str)
     ensures counts { SinkCounts
         (record { taken = E.taken err.old; faults = E.faults err.old; shortages = E.shortages err.old })
         (record { taken = E.taken err.new; faults = E.faults err.new; shortages = E.shortages err.new }) }

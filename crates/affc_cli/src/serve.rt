@@ -1,22 +1,22 @@
 // The top call.
-ghost use Rattle.std.specs.Prelude.{[], IfOk, IfErr, string_bytes};
+ghost use Rattle.std.specs.Prelude.{[], IfOk, IfErr};
 ghost use Rattle.affc_cli.specs.Command.{Fold, texts_of};
 ghost use Rattle.affc_cli.specs.Outside.{FolderKeeps};
 ghost use Rattle.affc_cli.specs.Promise.{FoldPromises, Runs, Serves};
 ghost use Rattle.affc_cli.specs.Refusal.{FoldCause};
 
 use crate::fold::fold;
-use crate::refusal::Refusal;
+use crate::refusal::{Refusal, put_line};
 use crate::words::fold_source;
 use affc_io::{Folder, PutCause, ReadFault, Sink, put_all};
 use std::alloc::Global;
 
 // The text for the source that the folder has under the name.
-fn folded<F: Folder>(alloc: Global, name: &str, folder: &mut F) -> Result<String, Refusal>
+fn folded<F: Folder>(alloc: Global, name: &str, folder: &mut F) -> Result<Vec<u8>, Refusal>
     ensures keeps { FolderKeeps
         (record { held = F.held folder.old; faults = F.faults folder.old; shortages = F.shortages folder.old })
         (record { held = F.held folder.new; faults = F.faults folder.new; shortages = F.shortages folder.new }) }
-    ensures ok { IfOk result (λ text. FoldPromises name.now (F.held folder.old) (string_bytes text) []) }
+    ensures ok { IfOk result (λ text. FoldPromises name.now (F.held folder.old) text.items []) }
     ensures err { IfErr result (λ refusal. FoldCause refusal name.now
         (record { held = F.held folder.old; faults = F.faults folder.old; shortages = F.shortages folder.old })
         (record { held = F.held folder.new; faults = F.faults folder.new; shortages = F.shortages folder.new })) }
@@ -27,11 +27,7 @@ fn folded<F: Folder>(alloc: Global, name: &str, folder: &mut F) -> Result<String
         Err(ReadFault::Long) => return Err(Refusal::Long),
         Err(ReadFault::Missing) | Err(ReadFault::Failed) => return Err(Refusal::Read),
     };
-    match fold(alloc, &source) {
-        Ok(Some(text)) => Ok(text),
-        Ok(None) => Err(Refusal::Unbuilt),
-        Err(_) => Err(Refusal::Memory),
-    }
+    fold(alloc, &source)
 }
 
 // Compiles the source that the folder has under the name.
@@ -57,17 +53,14 @@ fn run_fold<F: Folder, O: Sink, E: Sink>(
 {
     let text = match folded(alloc, name, folder) {
         Ok(text) => text,
-        Err(refusal) => {
-            refusal.tell(err, name);
-            return refusal.status();
-        }
+        Err(refusal) => return refusal.tell(alloc, err, name),
     };
-    match put_all(out, text.as_bytes()) {
+    match put_all(out, text.as_slice()) {
         Ok(()) => 0,
         Err(fault) => match fault.cause {
             PutCause::Fault => 10,
             PutCause::Memory => {
-                Refusal::Memory.tell(err, name);
+                put_line(err, "affc: memory", "");
                 Refusal::Memory.status()
             }
         },
@@ -97,7 +90,7 @@ pub fn serve<F: Folder, O: Sink, E: Sink>(
 {
     match fold_source(words) {
         None => {
-            Refusal::Words.tell(err, "");
+            put_line(err, "affc: words", "");
             Refusal::Words.status()
         }
         Some(name) => run_fold(alloc, name, folder, out, err),

@@ -7,18 +7,6 @@ use std::test::Fail;
 const COPY: &str =
     "#include <stdint.h>\n#pragma affc param N 1 4\nvoid copy(int64_t N, const uint64_t in[N], uint64_t out[N]) {\n  for (int64_t i = 0; i < N; i++)\n    out[i] = in[i];\n}\n";
 
-const PRINTED: &str =
-    "#include <stdint.h>\n#pragma affc param N 1 4\nvoid copy(int64_t N, const uint64_t in[N], uint64_t out[N]) {\n  for (int64_t i = 0; i < N; i++) {\n    out[i] = in[i];\n  }\n}\n";
-
-const SPACED: &str =
-    " # include\t<stdint.h>\r\n#pragma affc param n_1 7 16777216\nvoid Move ( int64_t n_1,const uint64_t a[n_1],\n uint64_t b [ n_1 ] ){for(int64_t k=0;k<n_1;k++){b[k]=a[k];}}";
-
-const SPACED_PRINTED: &str =
-    "#include <stdint.h>\n#pragma affc param n_1 7 16777216\nvoid Move(int64_t n_1, const uint64_t a[n_1], uint64_t b[n_1]) {\n  for (int64_t k = 0; k < n_1; k++) {\n    b[k] = a[k];\n  }\n}\n";
-
-const BLUR: &str =
-    "#include <stdint.h>\n#pragma affc param N 1 4096\nvoid blur(int64_t N, const uint64_t in[N + 2], uint64_t out[N]) {\n  uint64_t t[N + 2];\n  for (int64_t i = 0; i < N + 2; i++)\n    t[i] = in[i] + 1ULL;\n  for (int64_t i = 0; i < N; i++)\n    out[i] = t[i] + t[i + 1] + t[i + 2];\n}\n";
-
 // What a call leaves: the status, and what the two sinks took.
 #[derive(Drop)]
 struct Outcome {
@@ -122,59 +110,6 @@ fn plain(alloc: Global, line: &str, text: &str) -> Result<Outcome, AllocError> {
     )
 }
 
-// The text with one part of it written otherwise.
-fn edited(alloc: Global, text: &str, from: &str, to: &str) -> Result<String, AllocError> {
-    match text.split_once(from) {
-        Some((before, behind)) => format!(in alloc; "{before}{to}{behind}"),
-        None => String::from_str(alloc, text),
-    }
-}
-
-#[test]
-fn copy_loops_are_printed(rt: HostRuntime) -> Result<(), Fail> {
-    for (text, printed) in [
-        (COPY, PRINTED),
-        (PRINTED, PRINTED),
-        (SPACED, SPACED_PRINTED),
-    ] {
-        let done = plain(rt.alloc(), "fold copy.c", text)?;
-        assert_eq!(rt; done.status, 0, "of {text}");
-        assert_eq!(rt; done.out.as_slice(), printed.as_bytes());
-        assert_eq!(rt; done.err.len(), 0);
-    }
-    Ok(())
-}
-
-#[test]
-fn near_misses_are_unbuilt(rt: HostRuntime) -> Result<(), Fail> {
-    let edits = [
-        ("N 1 4", "N 0 4"),
-        ("N 1 4", "N 4 1"),
-        ("N 1 4", "N 1 16777217"),
-        ("void copy", "void in"),
-        ("void copy", "void main"),
-        ("void copy", "void size_t"),
-        ("i < N", "i <= N"),
-        ("int64_t i = 0", "int64_t i = 1"),
-        ("in[i];", "in[i]; // all"),
-        ("in[i];", "in[i]; out[i] = in[i];"),
-        ("in[i];", "in[i] + in[i];"),
-        ("void", "#pragma scop\nvoid"),
-        ("void", "const"),
-        ("#include <stdint.h>\n", ""),
-        ("}\n", ""),
-    ];
-    for (from, to) in edits {
-        let text = edited(rt.alloc(), COPY, from, to)?;
-        let done = plain(rt.alloc(), "fold copy.c", text.as_str())?;
-        assert_eq!(rt; done.status, 14, "with {to}");
-        assert_eq!(rt; done.out.len(), 0);
-        assert_eq!(rt; done.err.as_slice(), b"affc: unbuilt\n".as_slice());
-    }
-    assert_eq!(rt; plain(rt.alloc(), "fold copy.c", BLUR)?.status, 14);
-    Ok(())
-}
-
 #[test]
 fn other_words_and_files_are_refused(rt: HostRuntime) -> Result<(), Fail> {
     let rows = [
@@ -223,34 +158,6 @@ fn each_failure_outside_has_its_status(rt: HostRuntime) -> Result<(), Fail> {
         )?;
         assert_eq!(rt; done.status, status, "with {told}");
         assert_eq!(rt; done.err.as_slice(), told.as_bytes());
-    }
-    Ok(())
-}
-
-// Serves `fold copy.c` with an output that takes `first` bytes at first and fails at one call.
-fn cut(alloc: Global, first: usize, fails: u64) -> Result<Outcome, AllocError> {
-    let mut folder = folder_of(
-        alloc,
-        Vec::from_slice(alloc, COPY.as_bytes())?,
-        Vec::new(alloc),
-    )?;
-    let mut out = MemSink::new(alloc, first, Vec::from_slice(alloc, &[fails])?);
-    served(
-        alloc,
-        "fold copy.c",
-        &mut folder,
-        &mut out,
-        &mut sure_sink(alloc),
-    )
-}
-
-#[test]
-fn failed_writes_leave_a_front(rt: HostRuntime) -> Result<(), Fail> {
-    for (first, fails, taken) in [(5, 1, "#incl"), (5, 0, ""), (0, 9, "")] {
-        let done = cut(rt.alloc(), first, fails)?;
-        assert_eq!(rt; done.status, 10, "at call {fails}");
-        assert_eq!(rt; done.out.as_slice(), taken.as_bytes());
-        assert_eq!(rt; done.err.len(), 0);
     }
     Ok(())
 }

@@ -1,7 +1,0 @@
-use Rattle.affc_cli.proofs.NameLemmas.{kept_is}
-use Rattle.affc_cli.proofs.names.is_reserved.Goals as goal
-
-pub returns : goal.returns
-returns c =
-    kept_is c.args.name.now _ _ _ _ c.is_keyword-listed.ensures c.begins_reserved-begins.ensures
-    (rw c.as_bytes.ensures.value at c.ends_with-ends.ensures.value) c.eq-main.ensures
