@@ -214,3 +214,160 @@ fn want_of_memory_outside_is_told(rt: HostRuntime) -> Result<(), Fail> {
     assert_eq!(rt; unsaid, 2);
     Ok(())
 }
+
+const PRINTED: &str =
+    "#include <stdint.h>\n#pragma affc param N 1 4\nvoid copy(int64_t N, const uint64_t in[N], uint64_t out[N]) {\n  for (int64_t i = 0; i < N; i++) {\n    out[i] = in[i];\n  }\n}\n";
+
+const SPACED: &str =
+    " # include\t<stdint.h>\r\n#pragma affc param n_1 7 16777216\nvoid Move ( int64_t n_1,const uint64_t a[n_1],\n uint64_t b [ n_1 ] ){for(int64_t k=0;k<n_1;k++){b[k]=a[k];}}";
+
+const SPACED_PRINTED: &str =
+    "#include <stdint.h>\n#pragma affc param n_1 7 16777216\nvoid Move(int64_t n_1, const uint64_t a[n_1], uint64_t b[n_1]) {\n  for (int64_t k = 0; k < n_1; k++) {\n    b[k] = a[k];\n  }\n}\n";
+
+const BLUR: &str =
+    "#include <stdint.h>\n#pragma affc param N 1 4096\nvoid blur(int64_t N, const uint64_t in[N + 2], uint64_t out[N]) {\n  uint64_t t[N + 2];\n  for (int64_t i = 0; i < N + 2; i++)\n    t[i] = in[i] + 1ULL;\n  for (int64_t i = 0; i < N; i++)\n    out[i] = t[i] + t[i + 1] + t[i + 2];\n}\n";
+
+// The text with one part of it written otherwise.
+fn edited(alloc: Global, text: &str, from: &str, to: &str) -> Result<String, AllocError> {
+    match text.split_once(from) {
+        Some((before, behind)) => format!(in alloc; "{before}{to}{behind}"),
+        None => String::from_str(alloc, text),
+    }
+}
+
+#[test]
+fn copy_loops_are_printed(rt: HostRuntime) -> Result<(), Fail> {
+    for (text, printed) in [
+        (COPY, PRINTED),
+        (PRINTED, PRINTED),
+        (SPACED, SPACED_PRINTED),
+    ] {
+        let done = plain(rt.alloc(), "fold copy.c", text)?;
+        assert_eq!(rt; done.status, 0, "of {text}");
+        assert_eq!(rt; done.out.as_slice(), printed.as_bytes());
+        assert_eq!(rt; done.err.len(), 0);
+    }
+    Ok(())
+}
+
+// Serves `fold copy.c` with an output that takes `first` bytes at first and fails at one call.
+fn cut(alloc: Global, first: usize, fails: u64) -> Result<Outcome, AllocError> {
+    let mut folder = folder_of(
+        alloc,
+        Vec::from_slice(alloc, COPY.as_bytes())?,
+        Vec::new(alloc),
+    )?;
+    let mut out = MemSink::new(alloc, first, Vec::from_slice(alloc, &[fails])?);
+    served(
+        alloc,
+        "fold copy.c",
+        &mut folder,
+        &mut out,
+        &mut sure_sink(alloc),
+    )
+}
+
+#[test]
+fn failed_writes_leave_a_front(rt: HostRuntime) -> Result<(), Fail> {
+    for (first, fails, taken) in [(5, 1, "#incl"), (5, 0, ""), (0, 9, "")] {
+        let done = cut(rt.alloc(), first, fails)?;
+        assert_eq!(rt; done.status, 10, "at call {fails}");
+        assert_eq!(rt; done.out.as_slice(), taken.as_bytes());
+        assert_eq!(rt; done.err.len(), 0);
+    }
+    Ok(())
+}
+
+#[test]
+fn texts_that_are_no_programs_are_refused(rt: HostRuntime) -> Result<(), Fail> {
+    let rows = [
+        ("", "affc: source at 0: syntax\n"),
+        ("#include <stdint.h>\n", "affc: source at 20: syntax\n"),
+        ("#include <stdint.h>\n@", "affc: source at 20: byte\n"),
+        ("/* x", "affc: source at 0: comment\n"),
+        (
+            "#include <stdint.h>\n#pragma affc param A 1 4\n#pragma affc param B 1 4\n#pragma affc param C 1 4\n#pragma affc param D 1 4\n#pragma affc param E 1 4\nvoid f(int64_t A, int64_t B, int64_t C, int64_t D, int64_t E) {}\n",
+            "affc: source at 204: limit parameters\n",
+        ),
+        (
+            "#include <stdint.h>\n#pragma affc param N 1 4\nvoid f(int64_t N, const uint64_t in[N], uint64_t out[N]) {\n  for (int64_t i = 0; i < N; i++) out[65537 * i] = 1ULL;\n}\n",
+            "affc: source at 142: limit coefficient\n",
+        ),
+        (
+            "#include <stdint.h>\n#pragma affc param N 1 4\nvoid f(int64_t N, const uint64_t in[N], uint64_t out[N]) {\n  out[16777217] = 1ULL;\n}\n",
+            "affc: source at 110: limit literal\n",
+        ),
+        (
+            "#include <stdint.h>\n#pragma affc param N 1 4\nvoid f(int64_t N, const uint64_t in[N], uint64_t out[N]) {\n  uint64_t t[1][1][1][1][1];\n}\n",
+            "affc: source at 115: limit dimensions\n",
+        ),
+        (
+            "#include <stdint.h>\n#pragma affc param N 1 4\nvoid f(int64_t N, const uint64_t in[N], uint64_t out[N]) {\n  for (int64_t i = 0; i < N; i++) {}\n}\n",
+            "affc: source at 106: limit empty\n",
+        ),
+        (
+            "#include <stdint.h>\n#pragma affc param N 1 4\nvoid f(int64_t N, const uint64_t in[N], uint64_t out[N]) {\n  in[0] = 1ULL;\n}\n",
+            "affc: source at 106: name const\n",
+        ),
+        (
+            "#include <stdint.h>\n#pragma affc param N 1 4\nvoid f(int64_t N, const uint64_t in[N], uint64_t out[N]) {\n  for (int64_t N = 0; N < 2; N++) out[0] = 1ULL;\n}\n",
+            "affc: source at 119: name twice\n",
+        ),
+        (
+            "#include <stdint.h>\n#pragma affc param N 1 4\nvoid f(int64_t N, const uint64_t in[N], uint64_t out[N]) {\n  uint64_t affc_x;\n}\n",
+            "affc: source at 115: name reserved\n",
+        ),
+        (
+            "#include <stdint.h>\n#pragma affc param N 1 4\nvoid f(int64_t N, const uint64_t in[N], uint64_t out[N]) {\n  uint64_t while;\n}\n",
+            "affc: source at 115: name reserved\n",
+        ),
+        (
+            "#include <stdint.h>\n#pragma affc param N 1 4\nvoid f(int64_t N, const uint64_t in[N], uint64_t out[N]) {\n  uint64_t t[2][2];\n  for (int64_t i = 0; i < N; i++) t[i] = 1ULL;\n}\n",
+            "affc: source at 158: name kind\n",
+        ),
+        (
+            "#include <stdint.h>\n#pragma affc param N 1 4\nvoid f(int64_t N, const uint64_t in[N], uint64_t out[N]) {\n  for (int64_t i = 0; i < N; i++) out[i * N] = 1ULL;\n}\n",
+            "affc: source at 144: not affine\n",
+        ),
+    ];
+    for (text, told) in rows {
+        let done = plain(rt.alloc(), "fold copy.c", text)?;
+        assert_eq!(rt; done.status, 4, "of {text}");
+        assert_eq!(rt; done.out.len(), 0);
+        assert_eq!(rt; done.err.as_slice(), told.as_bytes());
+    }
+    Ok(())
+}
+
+// The copy loop with the prelude put before `void`.
+#[test]
+fn printed_texts_are_refused(rt: HostRuntime) -> Result<(), Fail> {
+    let prelude =
+        "static inline int64_t affc_min(int64_t a, int64_t b) { return a < b ? a : b; }\nstatic inline int64_t affc_max(int64_t a, int64_t b) { return a > b ? a : b; }\nstatic inline int64_t affc_floord(int64_t a, int64_t b) { return a / b - (a % b < 0); }\nstatic inline int64_t affc_ceild(int64_t a, int64_t b) { return a / b + (a % b > 0); }\nstatic inline int64_t affc_mod(int64_t a, int64_t b) { return a % b + (a % b < 0 ? b : 0); }\nvoid";
+    let text = edited(rt.alloc(), COPY, "void", prelude)?;
+    let done = plain(rt.alloc(), "fold copy.c", text.as_str())?;
+    assert_eq!(rt; done.status, 4);
+    assert_eq!(rt;
+        done.err.as_slice(),
+        b"affc: source at 45: printed\n".as_slice()
+    );
+    Ok(())
+}
+
+#[test]
+fn other_programs_are_unbuilt(rt: HostRuntime) -> Result<(), Fail> {
+    let edits = [
+        ("N 1 4", "N 0 4"),
+        ("i < N", "i <= N"),
+        ("int64_t i = 0", "int64_t i = 1"),
+        ("in[i];", "in[i] + in[i];"),
+    ];
+    for (from, to) in edits {
+        let text = edited(rt.alloc(), COPY, from, to)?;
+        let done = plain(rt.alloc(), "fold copy.c", text.as_str())?;
+        assert_eq!(rt; done.status, 14, "with {to}");
+        assert_eq!(rt; done.err.as_slice(), b"affc: unbuilt\n".as_slice());
+    }
+    assert_eq!(rt; plain(rt.alloc(), "fold copy.c", BLUR)?.status, 14);
+    Ok(())
+}
