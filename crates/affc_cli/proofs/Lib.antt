@@ -1,4 +1,8 @@
+pub mod Named
+pub mod Accesses
 pub mod Telling
-pub mod Running
+pub mod Ending
+pub mod Executed
+pub mod Reading
 pub mod Folded
 pub mod Forms

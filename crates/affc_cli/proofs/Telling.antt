@@ -1,6 +1,7 @@
 -- A line on err, written piece by piece.
-use Rattle.std.proofs.Common.{◌≡◌, ◌<◌, ◌≤◌, ◌++◌, ℕ, List, [], codes, subst, Option, Some, None, Result, Ok, Err, IfErr, take, drop, refl, ap, sym, ◌∙◌, append_assoc, inl, inr, arith}
+use Rattle.std.proofs.Common.{Vec, ◌≡◌, ◌<◌, ◌≤◌, ◌++◌, ℕ, List, [], codes, subst, Option, Some, None, Result, Ok, Err, IfErr, take, drop, refl, ap, sym, ◌∙◌, append_assoc, inl, inr, arith}
 use Rattle.std.proofs.lemmas.List.{take-append-drop, append-nil}
+use Rattle.std.specs.declared.alloc.Global.{Global}
 use Rattle.affc_io.specs.Count.{Rose}
 use Rattle.affc_io.specs.Front.{IsFront}
 use Rattle.affc_io.specs.Put.{put_of, IsCausedBy}
@@ -9,10 +10,10 @@ use Rattle.affc_io.specs.declared.put.PutFault.{PutFault}
 use Rattle.affc_io.specs.declared.put.PutCause.{PutCause}
 use Rattle.affc_io.specs.declared.put.PutCause.TheVariants.{Fault, Memory}
 use Rattle.affc_cli.specs.Outside.{SinkState, SinkCounts, Falters, Told}
-use Rattle.affc_cli.specs.Refusal.{status_of, line_of, source_line}
-use Rattle.affc_cli.specs.Telling.{IsTold}
+use Rattle.affc_cli.specs.Refusal.{status_of, line_of}
+use Rattle.affc_cli.specs.Telling.{IsTold, Ends}
 use Rattle.affc_cli.specs.declared.refusal.Refusal.{Refusal}
-use Rattle.affc_cli.specs.declared.refusal.Why.{Why}
+use Rattle.affc_cli.specs.declared.refusal.Refusal.TheVariants.{Memory as Short}
 
 pub grown-nil : (o : Option (List ℕ)) → grown o [] ≡ o
 grown-nil None = refl
@@ -89,14 +90,47 @@ told_third before mid late now a b c (Err fault) counts had then_had took cause 
     (front_after (a ++ b) c _ (front_of_put {T = ℕ} (Err fault) c))
 
 -- the line of a refusal was told
-pub plain_told : (said refusal self : Refusal) (name : List ℕ) (before now now' : SinkState) (line : List ℕ) (status : ℕ) → refusal ≡ said → self ≡ refusal → status ≡ status_of self
+pub plain_told : (said refusal : Refusal) (name : List ℕ) (before now now' : SinkState) (line : List ℕ) (status : ℕ) → refusal ≡ said → status ≡ status_of refusal
     → line ≡ line_of said name → now' ≡ now → Told before.taken before now line → IsTold refusal name before now' status
-plain_told said refusal self name before now now' line status is same is_status is_line is_now told = record {
+plain_told said refusal name before now now' line status is is_status is_line is_now told = record {
   said = said;
   is = inl (sym is);
-  is_status = is_status ∙ ap status_of (same ∙ is);
+  is_status = is_status ∙ ap status_of is;
   told = subst (λ n. Told before.taken before n (line_of said name)) (sym is_now) (subst (λ l. Told before.taken before now l) is_line told);
 }
 
-pub source_told : (shown text : List ℕ) (place : ℕ) (why : Why) → shown ≡ text → text ≡ source_line place why → shown ++ [] ++ codes "\n" ≡ source_line place why ++ codes "\n"
-source_told shown text place why e f = ap (λ x. x ++ codes "\n") (append-nil shown ∙ e ∙ f)
+-- that of want of memory was, in its place
+pub memory_told : (refusal : Refusal) (name : List ℕ) (before now : SinkState) (status : ℕ) → status ≡ 9 → Told before.taken before now (line_of Short name) → IsTold refusal name before now status
+memory_told refusal name before now status is told = record { said = Short; is = inr refl; is_status = is; told = told }
+
+-- a line that was made first
+pub made_line : (shown text line : List ℕ) → shown ≡ text → text ≡ line → shown ++ [] ++ codes "\n" ≡ line ++ codes "\n"
+made_line shown text line e f = ap (λ x. x ++ codes "\n") (append-nil shown ∙ e ∙ f)
+
+-- ---- A command's text, put whole or in part
+
+pub failed_ends : {T : Type 0} (made : Result (Vec ℕ Global) Refusal) (text : Vec ℕ Global) (name slice : List ℕ) (r : Result T PutFault) (out now_out err : SinkState)
+    → made ≡ Ok text → slice ≡ text.items → now_out.taken ≡ grown out.taken (put_of r slice) → Rose out.faults now_out.faults
+    → Ends made name out now_out err err 10
+failed_ends made text name slice r out now_out err is same took fault =
+    subst (λ m. Ends m name out now_out err err 10) (sym is) (inr (inr (record {
+      is_status = refl;
+      front = put_of r slice;
+      is_front = subst (λ l. IsFront l (put_of r slice)) same (front_of_put r slice);
+      taken = took;
+      fault = fault;
+      silent = refl;
+    })))
+
+pub short_ends : {T : Type 0} (made : Result (Vec ℕ Global) Refusal) (text : Vec ℕ Global) (name slice : List ℕ) (r : Result T PutFault) (out now_out err now_err : SinkState) (status : ℕ)
+    → made ≡ Ok text → slice ≡ text.items → now_out.taken ≡ grown out.taken (put_of r slice) → Rose out.shortages now_out.shortages
+    → status ≡ 9 → Told err.taken err now_err (line_of Short []) → Ends made name out now_out err now_err status
+short_ends made text name slice r out now_out err now_err status is same took short is_status told =
+    subst (λ m. Ends m name out now_out err now_err status) (sym is) (inr (inl (record {
+      is_status = is_status;
+      front = put_of r slice;
+      is_front = subst (λ l. IsFront l (put_of r slice)) same (front_of_put r slice);
+      taken = took;
+      short = short;
+      told = told;
+    })))

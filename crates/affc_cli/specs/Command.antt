@@ -6,6 +6,7 @@ use Rattle.std.specs.declared.alloc.Global.{Global}
 -- The command forms.
 pub data Command : Type 0 where
   Fold : (source : List ℕ) → Command
+  Run : (source feed : List ℕ) (steps : ℕ) → Command
 
 -- the bytes of each word
 abbrev pub texts_of : List (String Global) → List (List ℕ)
@@ -22,4 +23,6 @@ command_of [] = None
 command_of (word ∷ []) = None
 command_of (word ∷ source ∷ []) =
     if bytes_eq word (codes "fold") && is_operand source then Some (Fold source) else None
-command_of (word ∷ source ∷ more ∷ rest) = None
+command_of (word ∷ source ∷ feed ∷ []) =
+    if bytes_eq word (codes "run") && is_operand source && is_operand feed then Some (Run source feed 10000000) else None
+command_of (word ∷ source ∷ feed ∷ more ∷ rest) = None

@@ -1,8 +1,11 @@
 pub mod Command
+pub mod Seen
 pub mod Form
 pub mod Outside
 pub mod Fold
 pub mod Words
+pub mod Stuck
+pub mod Run
 pub mod Refusal
 pub mod Telling
 pub mod Promise

@@ -3,10 +3,11 @@ use Rattle.std.specs.Prelude.{◌≡◌, ◌≢◌, ◌⊎◌, ℕ, List, [], �
 use Rattle.affc_io.specs.Files.{Files, Holds}
 use Rattle.affc_io.specs.Front.{IsFront}
 use Rattle.affc_io.specs.Taken.{grown}
-use Rattle.affc_cli.specs.Command.{Command, Fold, command_of}
+use Rattle.affc_cli.specs.Command.{Command, Fold, Run, command_of}
 use Rattle.affc_cli.specs.Fold.{FoldsTo}
 use Rattle.affc_cli.specs.Outside.{Outside, FolderState, Keeps, Told, SomeFault, SomeShortage}
-use Rattle.affc_cli.specs.Refusal.{status_of, line_of, FoldCause}
+use Rattle.affc_cli.specs.Refusal.{status_of, line_of, FoldCause, HeldTexts, RunCause, file_of}
+use Rattle.affc_cli.specs.Run.{RunsTo}
 use Rattle.affc_cli.specs.declared.refusal.Refusal.{Refusal}
 use Rattle.affc_cli.specs.declared.refusal.Refusal.TheVariants.{Words, Memory}
 
@@ -17,21 +18,32 @@ pub record FoldPromises (name : List ℕ) (held : Option Files) (text report : L
   pub folds_to : FoldsTo source text
   pub no_report : report ≡ []
 
+-- The text is what the output arrays hold when the source that one name held has run on the data text that the other
+-- held, where the folder tells what it holds; the report is empty.
+pub record RunPromises (source feed : List ℕ) (limit : ℕ) (held : Option Files) (text report : List ℕ) : Type 0 where
+  pub texts : HeldTexts held source feed
+  pub runs_to : RunsTo texts.source_text texts.feed_text limit text
+  pub no_report : report ≡ []
+
 -- The pieces of status 0: the text for out, then the report for err.
 abbrev pub Promises : Command → Option Files → (text report : List ℕ) → Type 0
 Promises (Fold source) held text report = FoldPromises source held text report
+Promises (Run source feed limit) held text report = RunPromises source feed limit held text report
 
 -- The statuses that a command ends with.
 abbrev pub statuses_of : Command → List ℕ
 statuses_of (Fold source) = 0 ∷ 3 ∷ 4 ∷ 9 ∷ 10 ∷ 14 ∷ []
+statuses_of (Run source feed limit) = 0 ∷ 3 ∷ 4 ∷ 5 ∷ 9 ∷ 10 ∷ 12 ∷ 13 ∷ []
 
 -- The line of a refused command.
 abbrev pub refusal_line : Command → Refusal → List ℕ
 refusal_line (Fold source) refusal = line_of refusal source
+refusal_line (Run source feed limit) refusal = line_of refusal (file_of refusal source feed)
 
 -- When a command is refused so.
 abbrev pub Cause : Command → Refusal → FolderState → FolderState → Type 0
 Cause (Fold source) refusal before now = FoldCause refusal source before now
+Cause (Run source feed limit) refusal before now = RunCause refusal source feed limit before now
 
 -- All pieces were written, and nothing else.
 pub record Written (command : Command) (before now : Outside) : Type 0 where

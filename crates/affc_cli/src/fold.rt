@@ -1,57 +1,18 @@
 // One source, compiled.
-ghost use Rattle.std.specs.Prelude.{◌≡◌, ℕ, List, true, Err, IfOk, IfErr, IfSome};
+ghost use Rattle.std.specs.Prelude.{◌≡◌, true, IfOk, IfErr, IfSome};
 ghost use Rattle.affc_ast.specs.declared.tree.Program.{Program};
 ghost use Rattle.affc_grammar.specs.Reads.{Reads};
-ghost use Rattle.affc_parse.specs.Answers.{Answers};
 ghost use Rattle.affc_cli.specs.Fold.{FoldsTo, HasPrelude};
 ghost use Rattle.affc_cli.specs.Refusal.{TextCause};
 
 use crate::form::is_first_form;
 use crate::refusal::{Refusal, Why};
+use crate::source::program_of;
 use affc_ast::laws::copy_loops_compile_themselves;
 use affc_cprint::print;
 use affc_lex::lex;
 use affc_lex::token::{Kind, Token};
-use affc_parse::fault::ParseFault;
-use affc_parse::parse;
 use std::alloc::Global;
-
-// The refusal of a text that is no program.
-fn refusal_of(fault: ParseFault) -> Refusal
-    ensures { (text : List ℕ) → Answers text (Err fault) → TextCause text result }
-{
-    match fault {
-        ParseFault::Memory => Refusal::Memory,
-        ParseFault::BadByte(place) => Refusal::Source {
-            place,
-            why: Why::Byte,
-        },
-        ParseFault::OpenComment(place) => Refusal::Source {
-            place,
-            why: Why::Comment,
-        },
-        ParseFault::LongNumber(place) => Refusal::Source {
-            place,
-            why: Why::Number,
-        },
-        ParseFault::Syntax(place) => Refusal::Source {
-            place,
-            why: Why::Syntax,
-        },
-        ParseFault::Name { place, why } => Refusal::Source {
-            place,
-            why: Why::Name(why),
-        },
-        ParseFault::NotAffine(place) => Refusal::Source {
-            place,
-            why: Why::NotAffine,
-        },
-        ParseFault::Limit { place, which } => Refusal::Source {
-            place,
-            why: Why::Limit(which),
-        },
-    }
-}
 
 // The place of the prelude among the tokens.
 fn prelude_of(tokens: &[Token]) -> Option<usize>
@@ -87,9 +48,9 @@ pub fn fold(alloc: Global, source: &[u8]) -> Result<Vec<u8>, Refusal>
     ensures ok { IfOk result (λ text. FoldsTo source.now text.items) }
     ensures err { IfErr result (TextCause source.now) }
 {
-    let tree = match parse(alloc, source) {
+    let tree = match program_of(alloc, source) {
         Ok(tree) => tree,
-        Err(fault) => return Err(refusal_of(fault)),
+        Err(refusal) => return Err(refusal),
     };
     if tree.prelude {
         return Err(printed(alloc, source));

@@ -1,16 +1,25 @@
-// affc folds the temporary arrays of affine loop nests. So far it takes one loop that copies an array.
+// affc folds the temporary arrays of affine loop nests, so far of one loop that copies an array, and runs programs.
 #![tactic(auto)]
 
 mod fold;
 mod form;
+#[cfg(test)]
+mod kernels;
 mod refusal;
+mod run;
 mod serve;
+mod source;
+mod stuck;
 #[cfg(test)]
 mod tests;
+#[cfg(test)]
+mod tests_run;
 mod words;
 
 use affc_io::{StdFolder, StdSink};
+use refusal::tell_short;
 use serve::serve;
+use std::io::ErrorKind;
 use std::process::ExitCode;
 use std::{env, io};
 
@@ -29,6 +38,9 @@ fn main(rt: HostRuntime) -> ExitCode {
     let mut err = StdSink::new(rt.stderr());
     let words = match arguments(&rt) {
         Ok(words) => words,
+        Err(error) if error.kind() == ErrorKind::OutOfMemory => {
+            return ExitCode::from(tell_short(&mut err));
+        }
         // Words that are no text, or that can't be had, are no command form, and so are no words.
         Err(_) => Vec::new(alloc),
     };

@@ -1,10 +1,11 @@
 // Why a command is refused.
 ghost use Rattle.std.specs.Prelude.{◌≡◌, ◌++◌, List, ℕ, IfOk, codes, string_bytes};
 ghost use Rattle.affc_cli.specs.Outside.{SinkCounts, Told};
-ghost use Rattle.affc_cli.specs.Refusal.{status_of, source_line};
+ghost use Rattle.affc_cli.specs.Refusal.{status_of, source_line, data_line};
 ghost use Rattle.affc_cli.specs.Telling.{IsTold};
 ghost use Rattle.affc_cli.specs.Words.{name_words, limit_words, why_words};
 
+use affc_ast::text::Text;
 use affc_grammar::fault::{LimitName, NameWhy};
 use affc_io::{Sink, put_all};
 use std::alloc::{AllocError, Global};
@@ -28,18 +29,28 @@ pub enum Why {
 }
 
 /// Why a command isn't done.
-#[derive(Clone, Copy, Debug, PartialEq, Eq)]
+#[derive(Debug, Drop)]
 pub enum Refusal {
     /// The words are no command form.
     Words,
-    /// The file can't be read.
+    /// The source's file can't be read.
     Read,
-    /// The file has more bytes than are read.
+    /// It has more bytes than are read.
     Long,
+    /// The data's file can't be read.
+    ReadData,
+    /// It has more bytes than are read.
+    LongData,
     /// The source is no program that is taken.
     Source { place: usize, why: Why },
+    /// The run is stuck, as the line says.
+    Stuck(Text),
     /// Memory is short.
     Memory,
+    /// The run takes more steps than it may.
+    Steps,
+    /// The first line of the data that is wrong, counted from 1.
+    Data(u64),
     /// The source isn't of the form that can be compiled yet.
     Unbuilt,
 }
@@ -96,6 +107,16 @@ impl Why {
     }
 }
 
+// What is said of data, without the line's end.
+fn data_line(alloc: Global, number: u64) -> Result<String, AllocError>
+    ensures { IfOk result (λ line. string_bytes line ≡ data_line number) }
+{
+    let mut line = String::new(alloc);
+    line.push_str("affc: data line ")?;
+    write!(line, "{number}")?;
+    Ok(line)
+}
+
 // What is said of a source, without the line's end.
 fn source_line(alloc: Global, place: usize, why: Why) -> Result<String, AllocError>
     ensures { IfOk result (λ line. string_bytes line ≡ source_line place why) }
@@ -110,26 +131,28 @@ fn source_line(alloc: Global, place: usize, why: Why) -> Result<String, AllocErr
 
 impl Refusal {
     /// The exit status.
-    pub fn status(self) -> u8
-        ensures { result ≡ status_of self }
+    pub fn status(&self) -> u8
+        ensures { result ≡ status_of self.now }
     {
         match self {
             Refusal::Words => 2,
-            Refusal::Read => 3,
-            Refusal::Long => 3,
-            Refusal::Source { .. } => 4,
+            Refusal::Read | Refusal::Long | Refusal::ReadData | Refusal::LongData => 3,
+            Refusal::Source { place: _, why: _ } => 4,
+            Refusal::Stuck(_) => 5,
             Refusal::Memory => 9,
+            Refusal::Steps => 12,
+            Refusal::Data(_) => 13,
             Refusal::Unbuilt => 14,
         }
     }
 
     /// Writes the line, where `name` is the file that is meant, and answers the status: that of want of memory,
     /// with its line, where there is none for this one's.
-    pub fn tell<E: Sink>(self, alloc: Global, err: &mut E, name: &str) -> u8
+    pub fn tell<E: Sink>(&self, alloc: Global, err: &mut E, name: &str) -> u8
         ensures counts { SinkCounts
             (record { taken = E.taken err.old; faults = E.faults err.old; shortages = E.shortages err.old })
             (record { taken = E.taken err.new; faults = E.faults err.new; shortages = E.shortages err.new }) }
-        ensures told { IsTold self name.now
+        ensures told { IsTold self.now name.now
             (record { taken = E.taken err.old; faults = E.faults err.old; shortages = E.shortages err.old })
             (record { taken = E.taken err.new; faults = E.faults err.new; shortages = E.shortages err.new })
             result }
@@ -138,18 +161,38 @@ impl Refusal {
             Refusal::Words => put_line(err, "affc: words", ""),
             Refusal::Read => put_line(err, "affc: read ", name),
             Refusal::Long => put_line(err, "affc: too long ", name),
-            Refusal::Source { place, why } => match source_line(alloc, place, why) {
+            Refusal::ReadData => put_line(err, "affc: read ", name),
+            Refusal::LongData => put_line(err, "affc: too long ", name),
+            Refusal::Source { place, why } => match source_line(alloc, *place, *why) {
                 Ok(line) => put_line(err, line.as_str(), ""),
-                Err(_) => {
-                    put_line(err, "affc: memory", "");
-                    return Refusal::Memory.status();
-                }
+                Err(_) => return tell_short(err),
             },
+            Refusal::Stuck(line) => put_line(err, line.as_str(), ""),
             Refusal::Memory => put_line(err, "affc: memory", ""),
+            Refusal::Steps => put_line(err, "affc: steps", ""),
+            Refusal::Data(number) => match data_line(alloc, *number) {
+                Ok(line) => put_line(err, line.as_str(), ""),
+                Err(_) => return tell_short(err),
+            },
             Refusal::Unbuilt => put_line(err, "affc: unbuilt", ""),
         }
         self.status()
     }
+}
+
+/// Says that memory is short, and answers the status.
+pub fn tell_short<E: Sink>(err: &mut E) -> u8
+    ensures counts { SinkCounts
+        (record { taken = E.taken err.old; faults = E.faults err.old; shortages = E.shortages err.old })
+        (record { taken = E.taken err.new; faults = E.faults err.new; shortages = E.shortages err.new }) }
+    ensures told { Told (E.taken err.old)
+        (record { taken = E.taken err.old; faults = E.faults err.old; shortages = E.shortages err.old })
+        (record { taken = E.taken err.new; faults = E.faults err.new; shortages = E.shortages err.new })
+        (codes "affc: memory\n") }
+    ensures status { result ≡ 9 }
+{
+    put_line(err, "affc: memory", "");
+    Refusal::Memory.status()
 }
 
 /// Writes a line, as far as the sink takes it.

@@ -9,10 +9,10 @@ const COPY: &str =
 
 // What a call leaves: the status, and what the two sinks took.
 #[derive(Drop)]
-struct Outcome {
-    status: u8,
-    out: Vec<u8>,
-    err: Vec<u8>,
+pub struct Outcome {
+    pub status: u8,
+    pub out: Vec<u8>,
+    pub err: Vec<u8>,
 }
 
 // A sink that has no memory.
@@ -77,7 +77,7 @@ fn folder_of(alloc: Global, bytes: Vec<u8>, fails: Vec<u64>) -> Result<MemFolder
 }
 
 // Serves the line's words over these three.
-fn served<F: Folder>(
+pub fn served<F: Folder>(
     alloc: Global,
     line: &str,
     folder: &mut F,
@@ -93,7 +93,7 @@ fn served<F: Folder>(
     })
 }
 
-fn sure_sink(alloc: Global) -> MemSink {
+pub fn sure_sink(alloc: Global) -> MemSink {
     MemSink::new(alloc, usize::MAX, Vec::new(alloc))
 }
 

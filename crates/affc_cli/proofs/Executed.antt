@@ -1,0 +1,123 @@
+-- What a run answers, and what a source and data are refused for.
+use Rattle.std.proofs.Common.{◌≡◌, ◌≤◌, ◌<◌, ℕ, Bool, true, false, if◌then◌else◌, nat_le, List, Option, Some, None, MatchOption, Ok, Err, refl, sym, ap, subst, ◌∙◌, inl, inr, leb-true}
+use Rattle.std.proofs.lemmas.Bool.{leb-false}
+use Rattle.affc_ast.specs.Cause.{Cause}
+use Rattle.affc_ast.specs.Fits.{outputs}
+use Rattle.affc_ast.specs.Meaning.{State, Outcome, Ended, Stuck}
+use Rattle.affc_ast.specs.Store.{Store}
+use Rattle.affc_interp.specs.Budget.{Run, Stop, StuckBy, OutOfSteps}
+use Rattle.affc_interp.specs.DataText.{output_text}
+use Rattle.affc_interp.specs.Runs.{within_limit, steps_of}
+use Rattle.affc_cli.specs.Refusal.{TextCause, UnreadCause}
+use Rattle.affc_cli.specs.Run.{Runnable, outcome, RunsTo, RunTextCause}
+use Rattle.affc_cli.specs.Telling.{RefusesStop}
+use Rattle.affc_cli.specs.declared.refusal.Refusal.{Refusal}
+use Rattle.affc_cli.specs.declared.refusal.Refusal.TheVariants.{Words, Read, Long, ReadData, LongData, Source, Stuck as StuckRun, Memory, Steps, Data, Unbuilt}
+
+-- ---- A run that is cut at a limit
+
+-- it ended within the limit
+record EndsAt (outcome : Outcome) (limit : ℕ) (store : Store) : Type 0 where
+  last : State
+  ends : outcome ≡ Ended last
+  within : last.steps ≤ limit
+  holds : last.store ≡ store
+
+pair_of : (a b : Store × ℕ) → ◌≡◌ {A = Run} (Ok a) (Ok b) → a ≡ b
+pair_of a b e = cc
+
+ends_at : (o : Outcome) (limit : ℕ) (store : Store) (steps : ℕ) → within_limit limit o ≡ Ok (store, steps) → EndsAt o limit store
+ends_at (Ended state) limit store steps e = of (nat_le state.steps limit) refl e
+  where
+    of : (b : Bool) → nat_le state.steps limit ≡ b → ◌≡◌ {A = Run} (if b then Ok (state.store, state.steps) else Err OutOfSteps) (Ok (store, steps)) → EndsAt (Ended state) limit store
+    of true is e = record { last = state; ends = refl; within = leb-true state.steps limit is; holds = ap (λ (p : Store × ℕ). p.0) (pair_of (state.store, state.steps) (store, steps) e) }
+    of false is e = absurd (cc)
+ends_at (Stuck cause n) limit store steps e = of (nat_le n limit) e
+  where
+    of : (b : Bool) → ◌≡◌ {A = Run} (if b then Err (StuckBy cause) else Err OutOfSteps) (Ok (store, steps)) → EndsAt (Stuck cause n) limit store
+    of true e = absurd (cc)
+    of false e = absurd (cc)
+
+-- it is stuck within the limit
+record StuckAt (outcome : Outcome) (limit : ℕ) (cause : Cause) : Type 0 where
+  steps : ℕ
+  stuck : outcome ≡ Stuck cause steps
+  within : steps ≤ limit
+
+stuck_at : (o : Outcome) (limit : ℕ) (cause : Cause) → within_limit limit o ≡ Err (StuckBy cause) → StuckAt o limit cause
+stuck_at (Ended state) limit cause e = of (nat_le state.steps limit) e
+  where
+    of : (b : Bool) → ◌≡◌ {A = Run} (if b then Ok (state.store, state.steps) else Err OutOfSteps) (Err (StuckBy cause)) → StuckAt (Ended state) limit cause
+    of true e = absurd (cc)
+    of false e = absurd (cc)
+stuck_at (Stuck other n) limit cause e = of (nat_le n limit) refl e
+  where
+    of : (b : Bool) → nat_le n limit ≡ b → ◌≡◌ {A = Run} (if b then Err (StuckBy other) else Err OutOfSteps) (Err (StuckBy cause)) → StuckAt (Stuck other n) limit cause
+    of true is e = record { steps = n; stuck = let same : other ≡ cause = cc in ap (λ c. Stuck c n) same; within = leb-true n limit is }
+    of false is e = absurd (cc)
+
+takes_more : (o : Outcome) (limit : ℕ) → within_limit limit o ≡ Err OutOfSteps → limit < steps_of o
+takes_more (Ended state) limit e = of (nat_le state.steps limit) refl e
+  where
+    of : (b : Bool) → nat_le state.steps limit ≡ b → ◌≡◌ {A = Run} (if b then Ok (state.store, state.steps) else Err OutOfSteps) (Err OutOfSteps) → limit < state.steps
+    of true is e = absurd (cc)
+    of false is e = leb-false state.steps limit is
+takes_more (Stuck cause n) limit e = of (nat_le n limit) refl e
+  where
+    of : (b : Bool) → nat_le n limit ≡ b → ◌≡◌ {A = Run} (if b then Err (StuckBy cause) else Err OutOfSteps) (Err OutOfSteps) → limit < n
+    of true is e = absurd (cc)
+    of false is e = leb-false n limit is
+
+-- ---- What `run` answers
+
+pub runs_to : (source feed : List ℕ) (limit : ℕ) (text : List ℕ) (of : Runnable source feed) (store : Store) (steps : ℕ)
+    → within_limit limit (outcome of) ≡ Ok (store, steps) → text ≡ output_text of.tree (outputs of.tree store) → RunsTo source feed limit text
+runs_to source feed limit text of store steps answered written =
+    let e = ends_at (outcome of) limit store steps answered in
+    record {
+      of = of;
+      last = e.last;
+      ends = e.ends;
+      within = e.within;
+      written = written ∙ ap (λ s. output_text of.tree (outputs of.tree s)) (sym e.holds);
+    }
+
+pub run_refused : (source feed : List ℕ) (limit : ℕ) (of : Runnable source feed) (stop : Option Stop) (refusal : Refusal)
+    → MatchOption stop (Unit {0}) (λ s. within_limit limit (outcome of) ≡ Err s) → RefusesStop stop of.tree of.p refusal
+    → RunTextCause source feed limit refusal
+run_refused source feed limit of None refusal answered is = subst (RunTextCause source feed limit) (sym is) tt
+run_refused source feed limit of (Some OutOfSteps) refusal answered is =
+    subst (RunTextCause source feed limit) (sym is) (record { of = of; more = takes_more (outcome of) limit answered })
+run_refused source feed limit of (Some (StuckBy cause)) refusal answered (inl is) =
+    let s = stuck_at (outcome of) limit cause answered in
+    subst (RunTextCause source feed limit) (sym is)
+    (record { of = of; cause = cause; steps = s.steps; stuck = s.stuck; within = s.within; its_line = refl })
+run_refused source feed limit of (Some (StuckBy cause)) refusal answered (inr is) = subst (RunTextCause source feed limit) (sym is) tt
+
+-- ---- Texts that are no programs
+
+pub unread_run : (refusal : Refusal) (source feed : List ℕ) (limit : ℕ) → UnreadCause source refusal → RunTextCause source feed limit refusal
+unread_run Words source feed limit cause = cause
+unread_run Read source feed limit cause = cause
+unread_run Long source feed limit cause = cause
+unread_run ReadData source feed limit cause = cause
+unread_run LongData source feed limit cause = cause
+unread_run (Source place why) source feed limit cause = cause
+unread_run (StuckRun line) source feed limit cause = absurd cause
+unread_run Memory source feed limit cause = tt
+unread_run Steps source feed limit cause = absurd cause
+unread_run (Data number) source feed limit cause = absurd cause
+unread_run Unbuilt source feed limit cause = cause
+
+pub unread_fold : (refusal : Refusal) (source : List ℕ) → UnreadCause source refusal → TextCause source refusal
+unread_fold Words source cause = cause
+unread_fold Read source cause = cause
+unread_fold Long source cause = cause
+unread_fold ReadData source cause = cause
+unread_fold LongData source cause = cause
+unread_fold (Source place why) source cause = cause.0
+unread_fold (StuckRun line) source cause = cause
+unread_fold Memory source cause = tt
+unread_fold Steps source cause = cause
+unread_fold (Data number) source cause = cause
+unread_fold Unbuilt source cause = absurd cause

@@ -1,0 +1,16 @@
+use Rattle.affc_cli.proofs.Reading.{texts, run_promised, run_caused}
+use Rattle.affc_cli.proofs.serve.ran.Goals as goal
+
+pub returns-clause-ok : goal.returns-clause-ok
+returns-clause-ok g c =
+    run_promised _ c.args.source.now c.args.feed.now c.args.limit
+    (texts _ _ c.args.source.now c.args.feed.now c.in-Ok.source.items c.deref.result.now c.in-Ok-feed_of.feed.items c.deref-2.result.now
+    c.in-Ok.ensures.ok c.deref.ensures.value c.in-Ok.ensures.keeps.names c.in-Ok-feed_of.ensures.ok c.deref-2.ensures.value)
+    c.run_text.result c.run_text.ensures.ok
+
+pub returns-clause-err : goal.returns-clause-err
+returns-clause-err g c =
+    run_caused c.args.source.now c.args.feed.now c.args.limit _ _
+    (texts _ _ c.args.source.now c.args.feed.now c.in-Ok.source.items c.deref.result.now c.in-Ok-feed_of.feed.items c.deref-2.result.now
+    c.in-Ok.ensures.ok c.deref.ensures.value c.in-Ok.ensures.keeps.names c.in-Ok-feed_of.ensures.ok c.deref-2.ensures.value)
+    c.run_text.result c.run_text.ensures.err

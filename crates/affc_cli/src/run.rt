@@ -1,0 +1,41 @@
+// One source, run on data.
+ghost use Rattle.std.specs.Prelude.{IfOk, IfErr};
+ghost use Rattle.affc_cli.specs.Run.{RunsTo, RunTextCause};
+
+use crate::refusal::Refusal;
+use crate::source::program_of;
+use crate::stuck::refusal_of;
+use affc_interp::counted::is_counted;
+use affc_interp::feed::{FeedFault, read_feed};
+use affc_interp::lines::lines;
+use affc_interp::run::run;
+use std::alloc::Global;
+
+/// What the output arrays hold when the source has run on the data, a line for each, or why there is nothing.
+pub fn run_text(alloc: Global, source: &[u8], feed: &[u8], limit: u64) -> Result<Vec<u8>, Refusal>
+    ensures ok { IfOk result (λ text. RunsTo source.now feed.now limit text.items) }
+    ensures err { IfErr result (RunTextCause source.now feed.now limit) }
+{
+    let program = match program_of(alloc, source) {
+        Ok(program) => program,
+        Err(refusal) => return Err(refusal),
+    };
+    if !is_counted(&program) {
+        return Err(Refusal::Memory);
+    }
+    let given = match read_feed(alloc, feed, &program) {
+        Ok(given) => given,
+        Err(FeedFault::Line(number)) => return Err(Refusal::Data(number)),
+        Err(FeedFault::Memory) => return Err(Refusal::Memory),
+    };
+    let store = match run(alloc, &program, &given, limit) {
+        Ok(store) => store,
+        Err(fault) => {
+            return Err(refusal_of(alloc, &program, given.params.as_slice(), &fault));
+        }
+    };
+    match lines(alloc, &program, &store) {
+        Ok(text) => Ok(text),
+        Err(_) => Err(Refusal::Memory),
+    }
+}
