@@ -1,12 +1,13 @@
 -- How a command ends, from what its steps said.
-use Rattle.std.proofs.Common.{◌≡◌, ◌⊎◌, ℕ, List, [], Option, Result, refl, ap, sym, subst, ◌∙◌, inl, inr, arith, lit<}
+use Rattle.std.proofs.Common.{◌≡◌, ◌⊎◌, ℕ, List, [], Option, Some, None, Result, refl, ap, sym, subst, ◌∙◌, inl, inr, arith, lit<}
+use Rattle.std.specs.Prelude.{Contains, MatchOption}
 use Rattle.affc_io.specs.Count.{Rose}
 use Rattle.affc_io.specs.Put.{put_of}
 use Rattle.affc_io.specs.Taken.{grown}
 use Rattle.affc_io.specs.declared.put.PutFault.{PutFault}
-use Rattle.affc_cli.specs.Command.{Fold}
-use Rattle.affc_cli.specs.Outside.{Outside, FolderState, Keeps, Told}
-use Rattle.affc_cli.specs.Promise.{FoldPromises, WrittenInPart, Runs}
+use Rattle.affc_cli.specs.Command.{Command, Fold, Run, command_of}
+use Rattle.affc_cli.specs.Outside.{Outside, FolderState, SinkState, Keeps, Told}
+use Rattle.affc_cli.specs.Promise.{FoldPromises, WrittenInPart, WordsRefused, Runs, Serves, statuses_of}
 use Rattle.affc_io.specs.Files.{Files, Holds}
 use Rattle.affc_cli.specs.Refusal.{status_of, line_of, FoldCause, TextCause}
 use Rattle.affc_cli.specs.Telling.{IsTold}
@@ -166,3 +167,56 @@ pub short_runs : {T : Type 0} (name : List ℕ) (before now : Outside) (status :
 short_runs name before now status text r is promised took told rose keeps =
     let P : ℕ → Type 0 = λ n. Runs (Fold name) before now n in
     subst P (sym is) (short_at name before now text r promised took told rose keeps)
+
+-- ---- A command that isn't built yet, and want of memory for the words
+
+not_built_at : (said : Refusal) (source feed : List ℕ) (steps : ℕ) (before now : Outside) → (said ≡ Unbuilt) ⊎ (said ≡ Memory) → now.out.taken ≡ before.out.taken
+    → Told before.err.taken before.err now.err (line_of said source) → Keeps before now → Runs (Run source feed steps) before now (status_of said)
+not_built_at said source feed steps before now (inl e) out told keeps = subst (λ r. Runs (Run source feed steps) before now (status_of r)) (sym e) (record {
+  answers = (1, lit< tt, refl);
+  keeps = keeps;
+  done = λ e. absurd (omega arith);
+  short = λ e. absurd (omega arith);
+  failed = λ e. absurd (omega arith);
+  refused = λ _ _ _. record { refusal = Unbuilt; is_status = refl; cause = tt; out = out; told = subst (λ r. Told before.err.taken before.err now.err (line_of r source)) e told };
+})
+not_built_at said source feed steps before now (inr e) out told keeps = subst (λ r. Runs (Run source feed steps) before now (status_of r)) (sym e) (record {
+  answers = (0, lit< tt, refl);
+  keeps = keeps;
+  done = λ e. absurd (omega arith);
+  short = λ _. inl (record { out = out; told = subst (λ r. Told before.err.taken before.err now.err (line_of r source)) e told });
+  failed = λ e. absurd (omega arith);
+  refused = λ _ other _. absurd (other refl);
+})
+
+pub not_built_runs : (source feed : List ℕ) (steps : ℕ) (before now : Outside) (status : ℕ) → now.out.taken ≡ before.out.taken
+    → IsTold Unbuilt source before.err now.err status → Keeps before now → Runs (Run source feed steps) before now status
+not_built_runs source feed steps before now status out told keeps =
+    let P : ℕ → Type 0 = λ n. Runs (Run source feed steps) before now n in
+    subst P (sym told.is_status) (not_built_at told.said source feed steps before now told.is out told.told keeps)
+
+-- what memory was wanting for
+pub short_serves : (words : List (List ℕ)) (before now : Outside) (status : ℕ) → status ≡ status_of Memory → now.folder ≡ before.folder → now.out ≡ before.out
+    → Told before.err.taken before.err now.err (line_of Memory []) → Keeps before now → Serves words before now status
+short_serves words before now status is folder out told keeps = go (command_of words)
+  where
+    short : (command : Command) → Contains (statuses_of command) status → Runs command before now status
+    short command among = record {
+      answers = among;
+      keeps = keeps;
+      done = λ e. absurd (omega arith);
+      short = λ _. inl (record { out = ap (λ (o : SinkState). o.taken) out; told = told });
+      failed = λ e. absurd (omega arith);
+      refused = λ _ other _. absurd (other is);
+    }
+
+    go : (o : Option Command) → MatchOption o (WordsRefused before now status) (λ command. Runs command before now status)
+    go None = record { said = Memory; is = inr refl; answers = is; keeps = keeps; folder = folder; out = out; told = told }
+    go (Some (Fold source)) = short (Fold source) (3, lit< tt, sym is)
+    go (Some (Run source feed steps)) = short (Run source feed steps) (0, lit< tt, sym is)
+
+pub run_serves : (words : List (List ℕ)) (source feed : List ℕ) (steps : ℕ) (before now : Outside) (status : ℕ) → Some (Run source feed steps) ≡ command_of words
+    → now.out.taken ≡ before.out.taken → IsTold Unbuilt source before.err now.err status → Keeps before now → Serves words before now status
+run_serves words source feed steps before now status is out told keeps =
+    let P : Option Command → Type 0 = λ o. MatchOption o (WordsRefused before now status) (λ command. Runs command before now status) in
+    subst P is (not_built_runs source feed steps before now status out told keeps)

@@ -3,12 +3,12 @@ use Rattle.std.specs.Prelude.{◌≡◌, ◌≢◌, ◌⊎◌, ℕ, List, [], �
 use Rattle.affc_io.specs.Files.{Files, Holds}
 use Rattle.affc_io.specs.Front.{IsFront}
 use Rattle.affc_io.specs.Taken.{grown}
-use Rattle.affc_cli.specs.Command.{Command, Fold, command_of}
+use Rattle.affc_cli.specs.Command.{Command, Fold, Run, command_of}
 use Rattle.affc_cli.specs.Fold.{FoldsTo}
 use Rattle.affc_cli.specs.Outside.{Outside, FolderState, Keeps, Told, SomeFault, SomeShortage}
 use Rattle.affc_cli.specs.Refusal.{status_of, line_of, FoldCause}
 use Rattle.affc_cli.specs.declared.refusal.Refusal.{Refusal}
-use Rattle.affc_cli.specs.declared.refusal.Refusal.TheVariants.{Words, Memory}
+use Rattle.affc_cli.specs.declared.refusal.Refusal.TheVariants.{Words, Read, Long, Source, Memory, Unbuilt}
 
 -- The text does what the source does that the name held, where the folder tells what it holds; the report is empty.
 pub record FoldPromises (name : List ℕ) (held : Option Files) (text report : List ℕ) : Type 0 where
@@ -20,18 +20,31 @@ pub record FoldPromises (name : List ℕ) (held : Option Files) (text report : L
 -- The pieces of status 0: the text for out, then the report for err.
 abbrev pub Promises : Command → Option Files → (text report : List ℕ) → Type 0
 Promises (Fold source) held text report = FoldPromises source held text report
+Promises (Run source feed steps) held text report = ⊥
 
 -- The statuses that a command ends with.
 abbrev pub statuses_of : Command → List ℕ
 statuses_of (Fold source) = 0 ∷ 3 ∷ 4 ∷ 9 ∷ 10 ∷ 14 ∷ []
+statuses_of (Run source feed steps) = 9 ∷ 14 ∷ []
 
 -- The line of a refused command.
 abbrev pub refusal_line : Command → Refusal → List ℕ
 refusal_line (Fold source) refusal = line_of refusal source
+refusal_line (Run source feed steps) refusal = line_of refusal source
+
+-- A command that isn't built yet is refused for that, or for want of memory.
+abbrev pub NotBuilt : Refusal → Type 0
+NotBuilt Words = ⊥
+NotBuilt Read = ⊥
+NotBuilt Long = ⊥
+NotBuilt (Source place why) = ⊥
+NotBuilt Memory = Unit {0}
+NotBuilt Unbuilt = Unit {0}
 
 -- When a command is refused so.
 abbrev pub Cause : Command → Refusal → FolderState → FolderState → Type 0
 Cause (Fold source) refusal before now = FoldCause refusal source before now
+Cause (Run source feed steps) refusal before now = NotBuilt refusal
 
 -- All pieces were written, and nothing else.
 pub record Written (command : Command) (before now : Outside) : Type 0 where
@@ -90,15 +103,17 @@ pub record Runs (command : Command) (before now : Outside) (status : ℕ) : Type
   pub failed : status ≡ 10 → Failed command before now
   pub refused : status ≢ 0 → status ≢ 9 → status ≢ 10 → IsRefused command before now status
 
--- What words get that are no command form: status 2 and its line.
+-- What words get that are no command form: status 2 and its line, or those of want of memory.
 pub record WordsRefused (before now : Outside) (status : ℕ) : Type 0 where
-  pub answers : status ≡ status_of Words
+  pub said : Refusal
+  pub is : (said ≡ Words) ⊎ (said ≡ Memory)
+  pub answers : status ≡ status_of said
   pub keeps : Keeps before now
   pub folder : now.folder ≡ before.folder
   pub out : now.out ≡ before.out
-  pub told : Told before.err.taken before.err now.err (line_of Words [])
+  pub told : Told before.err.taken before.err now.err (line_of said [])
 
--- What the program does: the command that the words stand for, and status 2 exactly where they stand for none.
+-- What the program does: the command that the words stand for, and status 2 only where they stand for none.
 abbrev pub Serves : (words : List (List ℕ)) → (before now : Outside) → (status : ℕ) → Type 0
 Serves words before now status =
     MatchOption (command_of words) (WordsRefused before now status) (λ command. Runs command before now status)

@@ -1,12 +1,15 @@
 // affc folds the temporary arrays of affine loop nests. So far it takes one loop that copies an array.
 #![tactic(auto)]
 
+mod examples;
 mod fold;
 mod form;
 mod refusal;
 mod serve;
 #[cfg(test)]
 mod tests;
+#[cfg(test)]
+mod tests_words;
 mod words;
 
 use affc_io::{StdFolder, StdSink};

@@ -7,7 +7,7 @@ ghost use Rattle.affc_cli.specs.Refusal.{FoldCause};
 
 use crate::fold::fold;
 use crate::refusal::{Refusal, put_line};
-use crate::words::fold_source;
+use crate::words::{Command, command_of};
 use affc_io::{Folder, PutCause, ReadFault, Sink, put_all};
 use std::alloc::Global;
 
@@ -88,11 +88,16 @@ pub fn serve<F: Folder, O: Sink, E: Sink>(
         })
         result }
 {
-    match fold_source(words) {
-        None => {
+    match command_of(alloc, words) {
+        Err(_) => {
+            put_line(err, "affc: memory", "");
+            Refusal::Memory.status()
+        }
+        Ok(None) => {
             put_line(err, "affc: words", "");
             Refusal::Words.status()
         }
-        Some(name) => run_fold(alloc, name, folder, out, err),
+        Ok(Some(Command::Fold { source })) => run_fold(alloc, source, folder, out, err),
+        Ok(Some(Command::Run { source, .. })) => Refusal::Unbuilt.tell(alloc, err, source),
     }
 }
