@@ -1,11 +1,11 @@
 -- How a command ends, from what it made and what became of that at the two sinks.
-use Rattle.std.proofs.Common.{Vec, ◌≡◌, ◌≢◌, ◌⊎◌, ℕ, List, [], Option, Result, Ok, Err, IfOk, IfErr, Contains, refl, ap, sym, subst, ◌∙◌, inl, inr, arith, lit<}
+use Rattle.std.proofs.Common.{Vec, ◌≡◌, ◌≢◌, ◌⊎◌, ℕ, List, [], Option, None, Some, MatchOption, Result, Ok, Err, IfOk, IfErr, Contains, refl, ap, sym, subst, ◌∙◌, inl, inr, arith, lit<}
 use Rattle.std.specs.declared.alloc.Global.{Global}
 use Rattle.affc_io.specs.Front.{IsFront}
 use Rattle.affc_io.specs.Taken.{grown}
-use Rattle.affc_cli.specs.Command.{Command, Fold, Run}
-use Rattle.affc_cli.specs.Outside.{Outside, FolderState, Keeps, Told}
-use Rattle.affc_cli.specs.Promise.{FoldPromises, RunPromises, Promises, Cause, statuses_of, refusal_line, WrittenInPart, Runs}
+use Rattle.affc_cli.specs.Command.{Command, Fold, Run, command_of}
+use Rattle.affc_cli.specs.Outside.{Outside, FolderState, SinkState, Keeps, Told}
+use Rattle.affc_cli.specs.Promise.{FoldPromises, RunPromises, Promises, Cause, statuses_of, refusal_line, WrittenInPart, Runs, WordsRefused, Serves}
 use Rattle.affc_cli.specs.Refusal.{status_of, line_of, FoldCause, RunCause, file_of}
 use Rattle.affc_cli.specs.Telling.{IsTold, IsPut, IsPutShort, IsPutFailed, Ends}
 use Rattle.affc_cli.specs.declared.refusal.Refusal.{Refusal}
@@ -242,3 +242,26 @@ pub run_ends : (source feed : List ℕ) (limit : ℕ) (name : List ℕ) (before 
     → Ends made name before.out now.out before.err now.err status → Keeps before now → Runs (Run source feed limit) before now status
 run_ends source feed limit name before now status made promised cause is ends keeps =
     ends_runs (Run source feed limit) name before now status made promised (run_caused source feed limit name before now made cause is) ends keeps
+
+-- ---- Words that are no command form, and want of memory for the words
+
+pub words_serves : (words : List (List ℕ)) (before now : Outside) (status : ℕ) → None ≡ command_of words → status ≡ 2 → now.folder ≡ before.folder → now.out ≡ before.out
+    → Told before.err.taken before.err now.err (line_of Words []) → Keeps before now → Serves words before now status
+words_serves words before now status none is folder out told keeps =
+    let P : Option Command → Type 0 = λ o. MatchOption o (WordsRefused before now status) (λ command. Runs command before now status) in
+    subst P none (record { said = Words; is = inl refl; answers = is; keeps = keeps; folder = folder; out = out; told = told })
+
+pub short_serves : (words : List (List ℕ)) (before now : Outside) (status : ℕ) → status ≡ 9 → now.folder ≡ before.folder → now.out ≡ before.out
+    → Told before.err.taken before.err now.err (line_of Memory []) → Keeps before now → Serves words before now status
+short_serves words before now status is folder out told keeps = go (command_of words)
+  where
+    go : (o : Option Command) → MatchOption o (WordsRefused before now status) (λ command. Runs command before now status)
+    go None = record { said = Memory; is = inr refl; answers = is; keeps = keeps; folder = folder; out = out; told = told }
+    go (Some command) = record {
+      answers = subst (Contains (statuses_of command)) (sym is) (ends_with_9 command);
+      keeps = keeps;
+      done = λ e. absurd (omega arith);
+      short = λ _. inl (record { out = ap (λ (o : SinkState). o.taken) out; told = told });
+      failed = λ e. absurd (omega arith);
+      refused = λ _ other _. absurd (other is);
+    }

@@ -6,3 +6,6 @@ pub mod Executed
 pub mod Reading
 pub mod Folded
 pub mod Forms
+pub mod Clap
+pub mod Commands
+pub mod Numbers

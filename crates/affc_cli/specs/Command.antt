@@ -1,6 +1,9 @@
 -- The words of the command line.
-use Rattle.std.specs.Prelude.{Bool, false, not, ◌&&◌, ◌==◌, ℕ, List, [], ◌∷◌, map, Option, Some, None, codes, if◌then◌else◌, String, string_bytes}
+use Rattle.std.specs.Prelude.{Bool, true, not, ◌&&◌, ◌==◌, ℕ, nat_le, List, [], ◌∷◌, length, map, filter, Option, Some, None, option_map, option_and_then, find, codes, if◌then◌else◌, String, string_bytes}
+use Rattle.std.specs.Char.{is_ascii_digit}
+use Rattle.std.specs.List.{list_all, list_any, before_first, after_first}
 use Rattle.std.specs.Str.{bytes_eq}
+use Rattle.std.specs.Str.Parse.{digits_value}
 use Rattle.std.specs.declared.alloc.Global.{Global}
 
 -- The command forms.
@@ -12,17 +15,124 @@ pub data Command : Type 0 where
 abbrev pub texts_of : List (String Global) → List (List ℕ)
 texts_of words = map string_bytes words
 
--- a word that isn't empty and doesn't begin with `-`
-abbrev pub is_operand : List ℕ → Bool
-is_operand [] = false
-is_operand (first ∷ rest) = not (first == 45)
+-- ---- A word that stands before the first `--`
 
--- What the words stand for, if they are one of the command forms: `fold SRC`.
+-- an operand, `--name` or `--name=value`, `--` itself, or a word with a hyphen in front that is none of these
+pub data Word : Type 0 where
+  Operand : Word
+  Named : (name : List ℕ) (value : Option (List ℕ)) → Word
+  End : Word
+  Stray : Word
+
+abbrev pub is_equals : ℕ → Bool
+is_equals b = b == 61
+
+-- what stands behind the first `=`
+abbrev pub value_in : List ℕ → Option (List ℕ)
+value_in text = if list_any is_equals text then Some (after_first is_equals text) else None
+
+-- a word by what follows its two hyphens
+abbrev pub behind_two : List ℕ → Word
+behind_two [] = End
+behind_two (b ∷ rest) = Named (before_first is_equals (b ∷ rest)) (value_in (b ∷ rest))
+
+-- a word by what follows its first hyphen
+abbrev pub behind_one : List ℕ → Word
+behind_one [] = Stray
+behind_one (b ∷ rest) = if b == 45 then behind_two rest else Stray
+
+abbrev pub word_of : List ℕ → Word
+word_of [] = Operand
+word_of (b ∷ rest) = if b == 45 then behind_one rest else Operand
+
+-- ---- Words taken apart
+
+-- The operands, and the options, each a name and its value.
+pub record Parts : Type 0 where
+  pub operands : List (List ℕ)
+  pub options : List (List ℕ × List ℕ)
+
+abbrev pub with_operand : List ℕ → Option Parts → Option Parts
+with_operand word None = None
+with_operand word (Some p) = Some (record { operands = word ∷ p.operands; options = p.options })
+
+abbrev pub with_option : List ℕ → List ℕ → Option Parts → Option Parts
+with_option name value None = None
+with_option name value (Some p) = Some (record { operands = p.operands; options = (name, value) ∷ p.options })
+
+-- A word with the words behind it. `before` is the name of an option that waits for its value; `apart` takes the words behind.
+abbrev pub by_word : (before : Option (List ℕ)) → Word → (word : List ℕ) (behind : List (List ℕ)) → (apart : Option (List ℕ) → Option Parts) → Option Parts
+by_word (Some name) Operand word behind apart = with_option name word (apart None)
+by_word (Some name) _ word behind apart = None
+by_word None Operand word behind apart = with_operand word (apart None)
+by_word None (Named name (Some value)) word behind apart = with_option name value (apart None)
+by_word None (Named name None) word behind apart = apart (Some name)
+by_word None End word behind apart = Some (record { operands = behind; options = [] })
+by_word None Stray word behind apart = None
+
+-- The operands and the options of these words: `--name value` and `--name=value` are options, all words behind `--` are operands, and no other word begins with a hyphen.
+abbrev pub parts_of : (before : Option (List ℕ)) → List (List ℕ) → Option Parts
+parts_of None [] = Some (record { operands = []; options = [] })
+parts_of (Some name) [] = None
+parts_of before (word ∷ behind) = by_word before (word_of word) word behind (λ waiting. parts_of waiting behind)
+
+-- ---- The forms
+
+abbrev pub among : List ℕ → List (List ℕ) → Bool
+among name names = list_any (λ n. bytes_eq n name) names
+
+-- the names without this one
+abbrev pub without : List ℕ → List (List ℕ) → List (List ℕ)
+without name names = filter (λ n. not (bytes_eq n name)) names
+
+-- each option has one of these names, and no two have the same
+abbrev pub are_options : List (List ℕ) → List (List ℕ × List ℕ) → Bool
+are_options names [] = true
+are_options names (o ∷ options) = among o.0 names && are_options (without o.0 names) options
+
+-- the value of the option of this name
+abbrev pub value_of : List ℕ → List (List ℕ × List ℕ) → Option (List ℕ)
+value_of name options = option_map (λ o. o.1) (find (λ o. bytes_eq o.0 name) options)
+
+-- one to nineteen decimal digits that write a number from 1 to the most
+abbrev pub number_to : (most : ℕ) → List ℕ → Option ℕ
+number_to most text =
+    let n = digits_value 10 text in
+    if nat_le 1 (length text) && nat_le (length text) 19 && list_all is_ascii_digit text && nat_le 1 n && nat_le n most then Some n else None
+
+-- the N of `--steps N`
+abbrev pub steps_of : Option (List ℕ) → Option ℕ
+steps_of None = Some 10000000
+steps_of (Some text) = number_to 1000000000000 text
+
+-- `fold SRC`
+abbrev pub fold_of : (operands : List (List ℕ)) (options : List (List ℕ × List ℕ)) → Option Command
+fold_of (source ∷ []) options = if are_options [] options then Some (Fold source) else None
+fold_of _ options = None
+
+-- `run SRC DATA [--steps N]`
+abbrev pub run_of : (operands : List (List ℕ)) (options : List (List ℕ × List ℕ)) → Option Command
+run_of (source ∷ feed ∷ []) options =
+    if are_options (codes "steps" ∷ []) options
+    then option_map (Run source feed) (steps_of (value_of (codes "steps") options)) else None
+run_of _ options = None
+
+abbrev pub form_of : (name : List ℕ) → Parts → Option Command
+form_of name parts =
+    if bytes_eq name (codes "fold") then fold_of parts.operands parts.options
+    else if bytes_eq name (codes "run") then run_of parts.operands parts.options
+    else None
+
+abbrev pub is_empty : List ℕ → Bool
+is_empty word = length word == 0
+
+-- what a name with the words behind it stands for
+abbrev pub answer : (name : List ℕ) → (words : List (List ℕ)) → Option Command
+answer name words = option_and_then (form_of name) (parts_of None words)
+
+-- What the words stand for, if they are one of the command forms: no word is empty, the first is the command's name, and the others are its operands and options.
 abbrev pub command_of : List (List ℕ) → Option Command
 command_of [] = None
-command_of (word ∷ []) = None
-command_of (word ∷ source ∷ []) =
-    if bytes_eq word (codes "fold") && is_operand source then Some (Fold source) else None
-command_of (word ∷ source ∷ feed ∷ []) =
-    if bytes_eq word (codes "run") && is_operand source && is_operand feed then Some (Run source feed 10000000) else None
-command_of (word ∷ source ∷ feed ∷ more ∷ rest) = None
+command_of (name ∷ words) =
+    if list_any is_empty words then None
+    else answer name words

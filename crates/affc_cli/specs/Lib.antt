@@ -1,4 +1,6 @@
 pub mod Command
+pub mod Examples
+pub mod Parsed
 pub mod Seen
 pub mod Form
 pub mod Outside

@@ -102,15 +102,17 @@ pub record Runs (command : Command) (before now : Outside) (status : ℕ) : Type
   pub failed : status ≡ 10 → Failed command before now
   pub refused : status ≢ 0 → status ≢ 9 → status ≢ 10 → IsRefused command before now status
 
--- What words get that are no command form: status 2 and its line.
+-- What words get that are no command form: status 2 and its line, or those of want of memory.
 pub record WordsRefused (before now : Outside) (status : ℕ) : Type 0 where
-  pub answers : status ≡ status_of Words
+  pub said : Refusal
+  pub is : (said ≡ Words) ⊎ (said ≡ Memory)
+  pub answers : status ≡ status_of said
   pub keeps : Keeps before now
   pub folder : now.folder ≡ before.folder
   pub out : now.out ≡ before.out
-  pub told : Told before.err.taken before.err now.err (line_of Words [])
+  pub told : Told before.err.taken before.err now.err (line_of said [])
 
--- What the program does: the command that the words stand for, and status 2 exactly where they stand for none.
+-- What the program does: the command that the words stand for, and status 2 only where they stand for none.
 abbrev pub Serves : (words : List (List ℕ)) → (before now : Outside) → (status : ℕ) → Type 0
 Serves words before now status =
     MatchOption (command_of words) (WordsRefused before now status) (λ command. Runs command before now status)

@@ -1,4 +1,4 @@
--- What the words ask for, seen as a command.
+-- A command as the code has it.
 use Rattle.affc_cli.specs.Command as spec
 use Rattle.affc_cli.specs.declared.words.Command.{Command}
 use Rattle.affc_cli.specs.declared.words.Command.TheVariants.{Fold, Run}

@@ -1,6 +1,7 @@
 // affc folds the temporary arrays of affine loop nests, so far of one loop that copies an array, and runs programs.
 #![tactic(auto)]
 
+mod examples;
 mod fold;
 mod form;
 #[cfg(test)]
@@ -14,6 +15,8 @@ mod stuck;
 mod tests;
 #[cfg(test)]
 mod tests_run;
+#[cfg(test)]
+mod tests_words;
 mod words;
 
 use affc_io::{StdFolder, StdSink};

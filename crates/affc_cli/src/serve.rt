@@ -212,18 +212,21 @@ pub fn serve<F: Folder, O: Sink, E: Sink>(
         })
         result }
 {
-    match command_of(words) {
-        None => {
+    match command_of(alloc, words) {
+        Err(_) => tell_short(err),
+        Ok(None) => {
             put_line(err, "affc: words", "");
             Refusal::Words.status()
         }
-        Some(Command::Fold { source }) => run_fold(alloc, source, folder, out, err),
-        Some(
-            Command::Run {
-                source,
-                feed,
-                steps,
-            },
+        Ok(Some(Command::Fold { source })) => run_fold(alloc, source, folder, out, err),
+        Ok(
+            Some(
+                Command::Run {
+                    source,
+                    feed,
+                    steps,
+                },
+            ),
         ) => run_data(alloc, source, feed, steps, folder, out, err),
     }
 }

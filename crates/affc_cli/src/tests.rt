@@ -62,7 +62,8 @@ impl Folder for ShortFolder {
     }
 }
 
-fn words_of(alloc: Global, line: &str) -> Result<Vec<String>, AllocError> {
+// The line's words, cut at each space.
+pub fn words_of(alloc: Global, line: &str) -> Result<Vec<String>, AllocError> {
     let mut words = Vec::new(alloc);
     for word in line.split(' ') {
         words.push(String::from_str(alloc, word)?)?;
@@ -119,6 +120,8 @@ fn other_words_and_files_are_refused(rt: HostRuntime) -> Result<(), Fail> {
         ("fold -", 2, "affc: words\n"),
         ("fold a b", 2, "affc: words\n"),
         ("fold a b c", 2, "affc: words\n"),
+        ("fold a --budget 0", 2, "affc: words\n"),
+        ("big 63", 2, "affc: words\n"),
         ("unfold copy.c", 2, "affc: words\n"),
         ("fold absent.c", 3, "affc: read absent.c\n"),
     ];

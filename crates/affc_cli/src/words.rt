@@ -1,9 +1,19 @@
 // The words of the command line.
-ghost use Rattle.std.specs.Prelude.{◌≡◌, option_map};
-ghost use Rattle.affc_cli.specs.Command.{texts_of, is_operand, command_of};
+ghost use Rattle.std.specs.Prelude.{◌≡◌, IfOk, true, codes, option_map};
+ghost use Rattle.std.specs.List.{list_all, list_any};
+ghost use Rattle.std.specs.Char.{is_ascii_digit};
+ghost use Rattle.clap.specs.Words.{app_of, is_simple};
+ghost use Rattle.clap.specs.Faults.{is_simple_and_free};
+ghost use Rattle.affc_cli.specs.Command.{answer, texts_of, is_empty, number_to, steps_of, command_of};
+ghost use Rattle.affc_cli.specs.Parsed.{Parses, fold_app, is_clean, run_app};
 ghost use Rattle.affc_cli.specs.Seen.{seen};
 
+use clap::error::ErrorKind;
+use clap::{Arg, ArgMatches};
+use std::alloc::{AllocError, Global};
+
 /// What the words ask for.
+#[derive(Clone, Copy, Debug)]
 pub enum Command<'a> {
     Fold {
         source: &'a str,
@@ -15,41 +25,151 @@ pub enum Command<'a> {
     },
 }
 
-fn is_operand(word: &str) -> bool
-    ensures { result ≡ is_operand word.now }
+fn are_digits(text: &str) -> bool
+    ensures { result ≡ list_all is_ascii_digit text.now }
 {
-    match word.as_bytes().first() {
-        None => false,
-        Some(first) => *first != b'-',
+    text.bytes().all(|b| b.is_ascii_digit())
+}
+
+// One to nineteen digits that write a number from 1 to the most.
+fn number_to(most: u64, text: &str) -> Option<u64>
+    ensures { result ≡ number_to most text.now }
+{
+    if text.len() > 19 || !are_digits(text) {
+        return None;
+    }
+    match text.parse::<u64>() {
+        Ok(n) if n >= 1 && n <= most => Some(n),
+        _ => None,
     }
 }
 
-/// The command that the words are, if they are one.
-pub fn command_of<'a>(words: &'a [String]) -> Option<Command<'a>>
-    ensures { option_map seen result ≡ command_of (texts_of words.now) }
+fn steps_of(value: Option<&str>) -> Option<u64>
+    ensures { result ≡ steps_of (option_map (λ s. s.now) value.entry) }
 {
-    match words {
-        [word, source] => {
-            if word.as_str() == "fold" && is_operand(source.as_str()) {
-                Some(Command::Fold {
-                    source: source.as_str(),
-                })
-            } else {
-                None
-            }
+    match value {
+        None => Some(10_000_000),
+        Some(text) => number_to(1_000_000_000_000, text),
+    }
+}
+
+fn has_empty(words: &[String]) -> bool
+    ensures { result ≡ list_any is_empty (texts_of words.now) }
+{
+    for word in words {
+        if word.is_empty() {
+            return true;
         }
-        [word, source, feed] => {
-            let is_run = word.as_str() == "run";
-            if is_run && is_operand(source.as_str()) && is_operand(feed.as_str()) {
-                Some(Command::Run {
-                    source: source.as_str(),
-                    feed: feed.as_str(),
-                    steps: 10_000_000,
-                })
-            } else {
-                None
-            }
+    }
+    false
+}
+
+// Whether no word before the first `--` begins with one hyphen.
+fn is_clean(words: &[String]) -> bool
+    ensures { result ≡ is_clean (texts_of words.now) }
+{
+    for word in words {
+        match word.as_bytes() {
+            [b'-', b'-'] => return true,
+            [b'-', b'-', ..] => {}
+            [b'-', ..] => return false,
+            _ => {}
         }
-        _ => None,
+    }
+    true
+}
+
+// What the words come to by a form's clap command, if it takes them.
+fn parsed<'a>(
+    form: clap::Command<'a>,
+    words: &'a [String],
+) -> Result<Option<ArgMatches<'a>>, AllocError>
+    requires simple { is_simple (app_of form) ≡ true }
+    requires free { is_simple_and_free (app_of form) ≡ true }
+    ensures { IfOk result (Parses (app_of form.entry) (texts_of words.entry.now)) }
+{
+    match form.try_get_matches_from(words) {
+        Ok(matches) => Ok(Some(matches)),
+        Err(error) => match error.kind() {
+            ErrorKind::OutOfMemory => Err(AllocError),
+            _ => Ok(None),
+        },
+    }
+}
+
+// `fold SRC`
+fn fold_form<'a>(alloc: Global) -> Result<clap::Command<'a>, AllocError>
+    ensures { IfOk result (λ form. app_of form ≡ fold_app) }
+{
+    clap::Command::new(alloc, "fold")
+        .no_binary_name(true)
+        .disable_help_flag(true)
+        .arg(Arg::new(alloc, "source").required(true))
+}
+
+fn read_fold<'a>(alloc: Global, words: &'a [String]) -> Result<Option<Command<'a>>, AllocError>
+    requires { is_clean (texts_of words.now) ≡ true }
+    ensures { IfOk result (λ found. option_map seen found ≡ answer (codes "fold") (texts_of words.entry.now)) }
+{
+    let form = fold_form(alloc)?;
+    let Some(matches) = parsed(form, words)? else {
+        return Ok(None);
+    };
+    let Some(source) = matches.get_str("source") else {
+        return Ok(None);
+    };
+    Ok(Some(Command::Fold { source }))
+}
+
+// `run SRC DATA [--steps N]`
+fn run_form<'a>(alloc: Global) -> Result<clap::Command<'a>, AllocError>
+    ensures { IfOk result (λ form. app_of form ≡ run_app) }
+{
+    clap::Command::new(alloc, "run")
+        .no_binary_name(true)
+        .disable_help_flag(true)
+        .arg(Arg::new(alloc, "source").required(true))?
+        .arg(Arg::new(alloc, "data").required(true))?
+        .arg(Arg::new(alloc, "steps").long("steps"))
+}
+
+fn read_run<'a>(alloc: Global, words: &'a [String]) -> Result<Option<Command<'a>>, AllocError>
+    requires { is_clean (texts_of words.now) ≡ true }
+    ensures { IfOk result (λ found. option_map seen found ≡ answer (codes "run") (texts_of words.entry.now)) }
+{
+    let form = run_form(alloc)?;
+    let Some(matches) = parsed(form, words)? else {
+        return Ok(None);
+    };
+    let Some(source) = matches.get_str("source") else {
+        return Ok(None);
+    };
+    let Some(feed) = matches.get_str("data") else {
+        return Ok(None);
+    };
+    let Some(steps) = steps_of(matches.get_str("steps")) else {
+        return Ok(None);
+    };
+    Ok(Some(Command::Run {
+        source,
+        feed,
+        steps,
+    }))
+}
+
+/// What the words stand for, if they are one of the command forms. It fails for want of memory alone.
+pub fn command_of<'a>(alloc: Global, words: &'a [String]) -> Result<Option<Command<'a>>, AllocError>
+    ensures { IfOk result (λ found. option_map seen found ≡ command_of (texts_of words.entry.now)) }
+{
+    let [name, behind @ ..] = words else {
+        return Ok(None);
+    };
+    if has_empty(behind) || !is_clean(behind) {
+        return Ok(None);
+    }
+    match name.as_str() {
+        "fold" => read_fold(alloc, behind),
+        "run" => read_run(alloc, behind),
+        _ => Ok(None),
     }
 }

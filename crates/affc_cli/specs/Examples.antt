@@ -1,0 +1,97 @@
+-- What words stand for, at examples.
+use Rattle.std.specs.Prelude.{◌≡◌, true, is_none, List, [], ◌∷◌, ℕ, map, Some, codes}
+use Rattle.std.specs.List.{list_all}
+use Rattle.affc_cli.specs.Command.{Fold, Run, command_of}
+
+abbrev pub Words : Type 0
+Words = List (List ℕ)
+
+abbrev pub AreNone : List Words → Type 0
+AreNone lists = list_all (λ words. is_none (command_of words)) lists ≡ true
+
+-- too few words, or too many
+abbrev pub CountsAreRight : Type 0
+CountsAreRight = AreNone (
+    []
+    ∷ (codes "fold" ∷ [])
+    ∷ (codes "fold" ∷ codes "a" ∷ codes "b" ∷ [])
+    ∷ (codes "fold" ∷ codes "a" ∷ codes "b" ∷ codes "c" ∷ [])
+    ∷ (codes "fold" ∷ codes "--" ∷ [])
+    ∷ (codes "run" ∷ codes "a" ∷ [])
+    ∷ (codes "run" ∷ codes "a" ∷ codes "b" ∷ codes "c" ∷ [])
+    ∷ [])
+
+-- an unknown name, or a word that asks for help or a version
+abbrev pub NamesAreKnown : Type 0
+NamesAreKnown = AreNone (
+    (codes "unfold" ∷ codes "a" ∷ [])
+    ∷ (codes "help" ∷ [])
+    ∷ (codes "--help" ∷ [])
+    ∷ (codes "fold" ∷ codes "--help" ∷ [])
+    ∷ (codes "fold" ∷ codes "-h" ∷ [])
+    ∷ (codes "run" ∷ codes "a" ∷ codes "b" ∷ codes "--version" ∷ [])
+    ∷ (codes "run" ∷ codes "a" ∷ codes "b" ∷ codes "-V" ∷ [])
+    ∷ [])
+
+-- an empty word or value, or a word with a hyphen in front that is no option
+abbrev pub WordsAreWhole : Type 0
+WordsAreWhole = AreNone (
+    ([] ∷ [])
+    ∷ (codes "fold" ∷ [] ∷ [])
+    ∷ (codes "fold" ∷ codes "--" ∷ [] ∷ [])
+    ∷ (codes "fold" ∷ codes "-" ∷ [])
+    ∷ (codes "fold" ∷ codes "-x" ∷ [])
+    ∷ (codes "run" ∷ codes "a" ∷ codes "b" ∷ codes "--steps=" ∷ [])
+    ∷ (codes "run" ∷ codes "a" ∷ codes "b" ∷ codes "--steps" ∷ [] ∷ [])
+    ∷ [])
+
+-- an option that the form hasn't, twice, without its value, or with one that is no such number
+abbrev pub OptionsAreTheForms : Type 0
+OptionsAreTheForms = AreNone (
+    (codes "fold" ∷ codes "a" ∷ codes "--steps" ∷ codes "5" ∷ [])
+    ∷ (codes "run" ∷ codes "a" ∷ codes "b" ∷ codes "--step=5" ∷ [])
+    ∷ (codes "run" ∷ codes "a" ∷ codes "b" ∷ codes "--steps" ∷ [])
+    ∷ (codes "run" ∷ codes "a" ∷ codes "--steps" ∷ codes "--" ∷ codes "b" ∷ [])
+    ∷ (codes "run" ∷ codes "--steps=5" ∷ codes "a" ∷ codes "b" ∷ codes "--steps=5" ∷ [])
+    ∷ (codes "run" ∷ codes "a" ∷ codes "b" ∷ codes "--steps" ∷ codes "0" ∷ [])
+    ∷ (codes "run" ∷ codes "a" ∷ codes "b" ∷ codes "--steps" ∷ codes "-5" ∷ [])
+    ∷ (codes "run" ∷ codes "a" ∷ codes "b" ∷ codes "--steps=-5" ∷ [])
+    ∷ (codes "run" ∷ codes "a" ∷ codes "b" ∷ codes "--steps=+5" ∷ [])
+    ∷ (codes "run" ∷ codes "a" ∷ codes "b" ∷ codes "--steps=5=5" ∷ [])
+    ∷ (codes "run" ∷ codes "a" ∷ codes "b" ∷ codes "--steps=1000000000001" ∷ [])
+    ∷ (codes "run" ∷ codes "a" ∷ codes "b" ∷ codes "--steps=00000000000000000007" ∷ [])
+    ∷ [])
+
+-- words behind `--` are operands, whatever they begin with
+abbrev pub OperandsFollowTheEnd : Type 0
+OperandsFollowTheEnd = map command_of (
+    (codes "fold" ∷ codes "a" ∷ [])
+    ∷ (codes "fold" ∷ codes "a" ∷ codes "--" ∷ [])
+    ∷ (codes "fold" ∷ codes "--" ∷ codes "-" ∷ [])
+    ∷ (codes "fold" ∷ codes "--" ∷ codes "--" ∷ [])
+    ∷ (codes "fold" ∷ codes "help" ∷ [])
+    ∷ (codes "run" ∷ codes "--" ∷ codes "-a" ∷ codes "-b" ∷ [])
+    ∷ (codes "run" ∷ codes "a" ∷ codes "b" ∷ codes "--" ∷ [])
+    ∷ [])
+    ≡ Some (Fold (codes "a"))
+    ∷ Some (Fold (codes "a"))
+    ∷ Some (Fold (codes "-"))
+    ∷ Some (Fold (codes "--"))
+    ∷ Some (Fold (codes "help"))
+    ∷ Some (Run (codes "-a") (codes "-b") 10000000)
+    ∷ Some (Run (codes "a") (codes "b") 10000000)
+    ∷ []
+
+-- an option stands anywhere before `--`, with its value in the same word or the next
+abbrev pub OptionsStandAnywhere : Type 0
+OptionsStandAnywhere = map command_of (
+    (codes "run" ∷ codes "a" ∷ codes "--steps=5" ∷ codes "b" ∷ [])
+    ∷ (codes "run" ∷ codes "--steps" ∷ codes "5" ∷ codes "a" ∷ codes "b" ∷ [])
+    ∷ (codes "run" ∷ codes "a" ∷ codes "b" ∷ codes "--steps" ∷ codes "007" ∷ [])
+    ∷ (codes "run" ∷ codes "a" ∷ codes "--steps=1000000000000" ∷ codes "--" ∷ codes "--steps=5" ∷ [])
+    ∷ [])
+    ≡ Some (Run (codes "a") (codes "b") 5)
+    ∷ Some (Run (codes "a") (codes "b") 5)
+    ∷ Some (Run (codes "a") (codes "b") 7)
+    ∷ Some (Run (codes "a") (codes "--steps=5") 1000000000000)
+    ∷ []

@@ -1,0 +1,43 @@
+-- The command forms as clap commands, and what these make of words.
+use Rattle.std.specs.Prelude.{◌≡◌, Bool, true, false, List, [], ◌∷◌, ℕ, Option, Some, None, codes}
+use Rattle.clap.specs.Faults.{fault_of}
+use Rattle.clap.specs.Matches.{found_of}
+use Rattle.clap.specs.Simple.{App, matches_of, new_rule, new_shape}
+use Rattle.clap.specs.Walk.{Rule, rows_of}
+use Rattle.clap.specs.declared.parser.matches.ArgMatches.{ArgMatches}
+use Rattle.affc_cli.specs.Command.{Word, Operand, Named, End, Stray, word_of}
+
+-- The matches where the words have no fault, and nothing where they have one.
+abbrev pub Parses : App → List (List ℕ) → Option ArgMatches → Type 0
+Parses app words None = fault_of app words ≡ [] → ⊥
+Parses app words (Some m) = (fault_of app words ≡ []) × (rows_of (found_of m) ≡ matches_of app words)
+
+-- a word that has to be there
+abbrev pub operand_rule : (id : List ℕ) → Rule
+operand_rule id = record (new_rule id) { required = true }
+
+-- `--name value`
+abbrev pub option_rule : (name : List ℕ) → Rule
+option_rule name = record (new_rule name) { long = Some name }
+
+abbrev pub app_with : (name : List ℕ) → List Rule → App
+app_with name rules = record { top = record (new_shape name) { rules = rules; no_binary_name = true; disable_help_flag = true }; subs = [] }
+
+-- `fold SRC`
+abbrev pub fold_app : App
+fold_app = app_with (codes "fold") (operand_rule (codes "source") ∷ [])
+
+-- `run SRC DATA [--steps N]`
+abbrev pub run_app : App
+run_app = app_with (codes "run") (operand_rule (codes "source") ∷ operand_rule (codes "data") ∷ option_rule (codes "steps") ∷ [])
+
+abbrev pub clean_by : Word → (behind : Bool) → Bool
+clean_by Operand behind = behind
+clean_by (Named name value) behind = behind
+clean_by End behind = true
+clean_by Stray behind = false
+
+-- no word before the first `--` begins with one hyphen alone
+abbrev pub is_clean : List (List ℕ) → Bool
+is_clean [] = true
+is_clean (word ∷ behind) = clean_by (word_of word) (is_clean behind)
