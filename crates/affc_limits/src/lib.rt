@@ -3,6 +3,7 @@
 
 mod assignments;
 mod bodies;
+mod coefficients;
 mod forms;
 pub mod limits;
 mod lines;
@@ -11,5 +12,6 @@ mod rests;
 pub mod shape;
 #[cfg(test)]
 mod tests;
+mod terms;
 pub mod texts;
 mod whole;

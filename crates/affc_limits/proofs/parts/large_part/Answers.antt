@@ -1,7 +1,6 @@
 use Rattle.std.proofs.Common.{◌≡◌, true, is_some, sym, ap, ◌∙◌}
 use Rattle.affc_draft.specs.Drafts.{ix}
-use Rattle.affc_limits.specs.Places.{lesser}
-use Rattle.affc_limits.proofs.PartLaws.{none_large, large_by_names}
+use Rattle.affc_limits.proofs.PartLaws.{none_large}
 use Rattle.affc_limits.proofs.parts.large_part.Goals as goal
 
 pub returns-then-is_some : goal.returns-then-is_some
@@ -10,7 +9,4 @@ returns-then-is_some c =
     sym (none_large (ix c.args.e.now) (ap is_some (sym c.size.ensures.value) ∙ h))
 
 pub returns : goal.returns
-returns c =
-    c.lesser.ensures
-    ∙ (λ i. lesser ((c.in_ok-by_constant.ensures i).past) (c.in_ok-by_name.ensures i))
-    ∙ sym (large_by_names (ix c.args.e.now))
+returns c = c.in_ok-whole.ensures.past
