@@ -12,14 +12,8 @@ ghost use Rattle.affc_cprint.specs.Programs.{range_added, context_added, params_
 use crate::index::{Names, decimal, dims, push};
 use crate::stmt::{conds, indent, stmt};
 use affc_ast::tree::{Compare, Decl, Ix, Param, Program, Role, Stmt};
+use affc_lex::prelude::PRELUDE;
 use std::alloc::{AllocError, Global};
-
-const PRELUDE: &str =
-    "static inline int64_t affc_min(int64_t a, int64_t b) { return a < b ? a : b; }\n\
-static inline int64_t affc_max(int64_t a, int64_t b) { return a > b ? a : b; }\n\
-static inline int64_t affc_floord(int64_t a, int64_t b) { return a / b - (a % b < 0); }\n\
-static inline int64_t affc_ceild(int64_t a, int64_t b) { return a / b + (a % b > 0); }\n\
-static inline int64_t affc_mod(int64_t a, int64_t b) { return a % b + (a % b < 0 ? b : 0); }\n";
 
 // ---- Lines before the function
 

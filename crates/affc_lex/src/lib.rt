@@ -11,6 +11,7 @@ pub mod cut;
 pub mod examples;
 pub mod laws;
 pub mod piece;
+pub mod prelude;
 pub mod scan;
 pub mod scop;
 pub mod token;

@@ -2,12 +2,12 @@
 
 ghost use Rattle.std.specs.Prelude.{◌≡◌, ◌+◌, ◌<◌, ◌≤◌, ◌^◌, ◌==◌, length, IsTrue, true};
 ghost use Rattle.affc_lex.specs.Bytes as bytes;
-ghost use Rattle.affc_lex.specs.Bytes.{begins, next_is};
+ghost use Rattle.affc_lex.specs.Bytes.{next_is};
 ghost use Rattle.affc_lex.specs.Pieces as pieces;
-ghost use Rattle.affc_lex.specs.Pieces.{prelude};
 ghost use Rattle.affc_lex.specs.Reading as reading;
 ghost use Rattle.affc_lex.specs.FoundAt.{FoundAt};
 
+use crate::prelude::begins_prelude;
 use crate::scan::{
     comment_end, digits_length, header_length, is_digit, is_letter, is_letter_or_digit, is_space,
     line_length, number, word_length,
@@ -50,14 +50,6 @@ pub enum Found {
     /// A number of 2^64 or more begins here.
     Long,
 }
-
-/// The functions that a printed program may call.
-const PRELUDE: &[u8] =
-    b"static inline int64_t affc_min(int64_t a, int64_t b) { return a < b ? a : b; }\n\
-static inline int64_t affc_max(int64_t a, int64_t b) { return a > b ? a : b; }\n\
-static inline int64_t affc_floord(int64_t a, int64_t b) { return a / b - (a % b < 0); }\n\
-static inline int64_t affc_ceild(int64_t a, int64_t b) { return a / b + (a % b > 0); }\n\
-static inline int64_t affc_mod(int64_t a, int64_t b) { return a % b + (a % b < 0 ? b : 0); }\n";
 
 pub fn is_on_directive(spot: Spot) -> bool
     ensures { result ≡ pieces.is_on_directive spot }
@@ -135,12 +127,6 @@ fn comment(after: &[u8]) -> Found
         },
         _ => Found::Bad(0),
     }
-}
-
-fn begins_prelude(text: &[u8]) -> bool
-    ensures { result ≡ begins prelude text.now }
-{
-    text.starts_with(PRELUDE)
 }
 
 fn word(text: &[u8]) -> Found

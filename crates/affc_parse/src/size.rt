@@ -5,7 +5,7 @@ ghost use Rattle.affc_lex.specs.Bytes.{contains};
 ghost use Rattle.affc_lex.specs.Pieces.{prelude};
 ghost use Rattle.affc_parse.specs.Answers as answers;
 
-use affc_text::begins_prelude;
+use affc_lex::prelude::begins_prelude;
 
 /// The most bytes of a text without the prelude.
 pub(crate) const MOST_BYTES: usize = 1048576;

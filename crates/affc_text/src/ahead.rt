@@ -12,11 +12,11 @@ ghost use Rattle.affc_syntax.specs.declared.ahead.Stop.TheVariants as stop;
 ghost use Rattle.affc_text.specs.StmtReading as reading;
 ghost use Rattle.affc_text.specs.Parts.{first_seen};
 
-use crate::prelude::PRELUDE;
 use affc_ast::text::Text;
 use affc_ast::tree::{Op, Rel};
 use affc_draft::draft::WordDraft;
 use affc_draft::symbol::{Symbol, is_mark_kind, is_word_kind};
+use affc_lex::prelude::PRELUDE;
 use affc_lex::token::Kind;
 use affc_syntax::ahead::{Answer, Stop, first, past_mark, past_word};
 use affc_syntax::expression::number_of_first;
@@ -145,7 +145,7 @@ pub(crate) fn behind_header(symbols: &[Symbol<'_>], at: usize) -> Result<usize, 
 fn is_prelude(symbol: &Symbol<'_>) -> bool
     ensures { result ≡ is_some (tests.the_prelude (seen symbol.now)) }
 {
-    matches!(symbol.kind, Kind::Prelude) && same(PRELUDE, symbol.text)
+    matches!(symbol.kind, Kind::Prelude) && same(PRELUDE.as_bytes(), symbol.text)
 }
 
 /// Behind the prelude.

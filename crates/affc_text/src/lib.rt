@@ -4,11 +4,9 @@
 mod ahead;
 mod function;
 mod lines;
-mod prelude;
 mod statement;
 mod text;
 
-pub use prelude::begins_prelude;
 pub use text::read_text;
 
 #[cfg(test)]

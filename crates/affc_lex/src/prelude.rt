@@ -1,12 +1,12 @@
-//! The bytes of the prelude.
+//! The functions that a printed program may call.
 
 ghost use Rattle.std.specs.Prelude.{◌≡◌};
 ghost use Rattle.affc_lex.specs.Bytes.{begins};
 ghost use Rattle.affc_lex.specs.Pieces.{prelude};
 
 /// The bytes of the one token that the prelude is.
-pub(crate) const PRELUDE: &[u8] =
-    b"static inline int64_t affc_min(int64_t a, int64_t b) { return a < b ? a : b; }\n\
+pub const PRELUDE: &str =
+    "static inline int64_t affc_min(int64_t a, int64_t b) { return a < b ? a : b; }\n\
 static inline int64_t affc_max(int64_t a, int64_t b) { return a > b ? a : b; }\n\
 static inline int64_t affc_floord(int64_t a, int64_t b) { return a / b - (a % b < 0); }\n\
 static inline int64_t affc_ceild(int64_t a, int64_t b) { return a / b + (a % b > 0); }\n\
@@ -16,5 +16,5 @@ static inline int64_t affc_mod(int64_t a, int64_t b) { return a % b + (a % b < 0
 pub fn begins_prelude(text: &[u8]) -> bool
     ensures { result ≡ begins prelude text.now }
 {
-    text.starts_with(PRELUDE)
+    text.starts_with(PRELUDE.as_bytes())
 }
