@@ -1,17 +1,21 @@
 -- Terms, and the coefficients that they write.
-use Rattle.std.proofs.Common.{◌≡◌, ℕ, zero, suc, ◌+◌, ◌*◌, ◌<◌, ◌≤◌, Bool, true, false, not, ◌&&◌, ◌||◌, cond, nat_lt, List, [], ◌∷◌, ◌++◌, length, take, get_or, Option, Some, None, ℤ, pos, ◌+ℤ◌, ◌*ℤ◌, nat_abs, refl, sym, ap, ◌∙◌, arith, add-one}
+use Rattle.std.proofs.Common.{◌≡◌, ℕ, zero, suc, ◌+◌, ◌*◌, ◌<◌, ◌≤◌, Bool, true, false, not, ◌&&◌, ◌||◌, cond, nat_lt, List, [], ◌∷◌, ◌++◌, length, take, get_or, min, Option, Some, None, ℤ, pos, ◌+ℤ◌, ◌*ℤ◌, nat_abs, lit<, refl, sym, ap, ◌∙◌, arith, add-one}
 use Rattle.std.proofs.Math.ListN.{set}
 use Rattle.std.proofs.Math.Seq.{take-suc}
 use Rattle.std.proofs.lemmas.Bool.{false≢true}
+use Rattle.std.proofs.lemmas.Bool.Decides.{nat_tests}
+use Rattle.std.proofs.Math.Nat.{zero-mul, mul-zero, mul-one, mul-le-mul}
+use Rattle.affc_limits.proofs.WholeLaws.{capped_above}
 use Rattle.std.proofs.lemmas.List.Folds.{list_any-append}
-use Rattle.std.proofs.lemmas.Int.{ints}
+use Rattle.std.proofs.lemmas.Int.{ints, unsigned_abs-mul}
 use Rattle.std.proofs.Math.IntN.{zero-*ℤ, *ℤ_comm}
 use Rattle.affc_rows.proofs.IntLemmas.{add-mul, mul_assoc}
 use Rattle.affc_lex.specs.Bytes.{same}
 use Rattle.affc_lex.proofs.Lists.{same_is, same_refl}
 use Rattle.affc_grammar.specs.Grammar.{Name}
 use Rattle.affc_limits.specs.declared.terms.Term.{Term}
-use Rattle.affc_limits.specs.Terms.{has, IsAt, are_apart, AreApart, at_name, coefficient, scaled, is_large, any_large}
+use Rattle.affc_limits.specs.Digits.{capped}
+use Rattle.affc_limits.specs.Terms.{has, IsAt, are_apart, AreApart, at_name, coefficient, scaled, is_large, any_large, size_of, is_large_by, any_large_by}
 
 and_not : (a b : Bool) → (not a && b) ≡ true → (a ≡ false) × (b ≡ true)
 and_not true b e = absurd (false≢true e)
@@ -183,3 +187,57 @@ some_term s (x ∷ xs) w a e = by_test (same x.name w) refl (some_term s xs w (a
         let l : is_large s x.number ≡ true = ap (is_large s) (sym (own x xs (apart_parts x xs a).0)) ∙ ap (λ v. is_large s (coefficient v (x ∷ xs))) n ∙ e in
         ap (λ b. b || any_large s xs) l
     by_test false f later = or_true (is_large s x.number) (later (ap (is_large s) (sym (others w x xs f)) ∙ e))
+
+-- ---- Large numbers by cut-off ones
+
+cut_size : (z : ℤ) → nat_abs (capped z) ≡ min (nat_abs z) 4294967296
+cut_size z = grind (arith, ints)
+
+cut_product : (a b : ℕ) → nat_lt 65536 (min a 4294967296 * min b 4294967296) ≡ nat_lt 65536 (a * b)
+cut_product zero b = ap (nat_lt 65536) (zero-mul (min b 4294967296) ∙ sym (zero-mul b))
+cut_product (suc a) zero = ap (nat_lt 65536) (mul-zero (min (suc a) 4294967296) ∙ sym (mul-zero (suc a)))
+cut_product (suc a) (suc b) = by_size (nat_lt 4294967296 (suc a)) refl (nat_lt 4294967296 (suc b)) refl
+  where
+    small_min : (n : ℕ) → n ≤ 4294967296 → min n 4294967296 ≡ n
+    small_min n h = omega arith
+
+    large_min : (n : ℕ) → 4294967296 < n → min n 4294967296 ≡ 4294967296
+    large_min n h = omega arith
+
+    above : (n : ℕ) → 65536 < n → nat_lt 65536 n ≡ true
+    above n h = grind (arith, nat_tests)
+
+    wide : (m n : ℕ) → 0 < n → 4294967296 ≤ m → 65536 < m * n
+    wide m n h k = let l : 4294967296 * 1 ≤ m * n = mul-le-mul k h in omega (arith, l)
+
+    wide_right : (m n : ℕ) → 0 < m → 4294967296 ≤ n → 65536 < m * n
+    wide_right m n h k = let l : 1 * 4294967296 ≤ m * n = mul-le-mul h k in omega (arith, l)
+
+    is_below : (n : ℕ) → nat_lt 4294967296 n ≡ false → n ≤ 4294967296
+    is_below n e = grind (arith, nat_tests)
+
+    is_above : (n : ℕ) → nat_lt 4294967296 n ≡ true → 4294967296 < n
+    is_above n e = grind (arith, nat_tests)
+
+    some : (n : ℕ) → 0 < min (suc n) 4294967296
+    some n = omega arith
+
+    by_size : (s : Bool) → nat_lt 4294967296 (suc a) ≡ s → (t : Bool) → nat_lt 4294967296 (suc b) ≡ t → nat_lt 65536 (min (suc a) 4294967296 * min (suc b) 4294967296) ≡ nat_lt 65536 (suc a * suc b)
+    by_size false e false f = λ i. nat_lt 65536 (small_min (suc a) (is_below (suc a) e) i * small_min (suc b) (is_below (suc b) f) i)
+    by_size true e t f =
+        above (min (suc a) 4294967296 * min (suc b) 4294967296) (wide (min (suc a) 4294967296) (min (suc b) 4294967296) (some b) (omega (arith, large_min (suc a) (is_above (suc a) e))))
+        ∙ sym (above (suc a * suc b) (wide (suc a) (suc b) (omega arith) (omega (arith, is_above (suc a) e))))
+    by_size false e true f =
+        above (min (suc a) 4294967296 * min (suc b) 4294967296) (wide_right (min (suc a) 4294967296) (min (suc b) 4294967296) (some a) (omega (arith, large_min (suc b) (is_above (suc b) f))))
+        ∙ sym (above (suc a * suc b) (wide_right (suc a) (suc b) (omega arith) (omega (arith, is_above (suc b) f))))
+
+is-by : (s : Option ℤ) (z : ℤ) → is_large_by (size_of s) z ≡ is_large s z
+is-by None z = ap (nat_lt 65536) (mul-one (nat_abs (capped z))) ∙ capped_above 65536 z (lit< tt)
+is-by (Some s) z =
+    (λ i. nat_lt 65536 (cut_size z i * cut_size s i))
+    ∙ cut_product (nat_abs z) (nat_abs s)
+    ∙ ap (nat_lt 65536) (sym (unsigned_abs-mul z s))
+
+pub any-by : (s : Option ℤ) (ts : List Term) → any_large_by (size_of s) ts ≡ any_large s ts
+any-by s [] = refl
+any-by s (x ∷ xs) = λ i. is-by s x.number i || any-by s xs i

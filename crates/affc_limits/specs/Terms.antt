@@ -1,9 +1,10 @@
 -- Terms: names with numbers, and the coefficients that they write.
-use Rattle.std.specs.Prelude.{◌≡◌, ℕ, ◌<◌, Bool, true, not, ◌&&◌, nat_lt, List, [], ◌∷◌, length, get_or, Option, Some, None, ℤ, pos, ◌+ℤ◌, ◌*ℤ◌, nat_abs, if◌then◌else◌}
+use Rattle.std.specs.Prelude.{◌≡◌, ℕ, ◌*◌, ◌<◌, Bool, true, not, ◌&&◌, nat_lt, List, [], ◌∷◌, length, get_or, Option, Some, None, ℤ, pos, ◌+ℤ◌, ◌*ℤ◌, nat_abs, if◌then◌else◌}
 use Rattle.std.specs.List.{list_any}
 use Rattle.affc_lex.specs.Bytes.{same}
 use Rattle.affc_grammar.specs.Grammar.{Name}
 use Rattle.affc_limits.specs.declared.terms.Term.{Term}
+use Rattle.affc_limits.specs.Digits.{capped}
 
 -- whether a name has a term
 abbrev pub has : Name → List Term → Bool
@@ -40,3 +41,15 @@ is_large s z = nat_lt 65536 (nat_abs (scaled s z))
 
 abbrev pub any_large : Option ℤ → List Term → Bool
 any_large s ts = list_any (λ t. is_large s t.number) ts
+
+-- the same by numbers that are cut off at 2^32
+
+abbrev pub size_of : Option ℤ → ℕ
+size_of None = 1
+size_of (Some s) = nat_abs (capped s)
+
+abbrev pub is_large_by : (size : ℕ) → ℤ → Bool
+is_large_by size z = nat_lt 65536 (nat_abs (capped z) * size)
+
+abbrev pub any_large_by : (size : ℕ) → List Term → Bool
+any_large_by size ts = list_any (λ t. is_large_by size t.number) ts

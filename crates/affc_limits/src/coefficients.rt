@@ -1,6 +1,6 @@
 //! Coefficients of names.
 
-ghost use Rattle.std.specs.Prelude.{◌≡◌, ◌+ℤ◌, ◌*ℤ◌, ◌↔◌, pos, neg_ℤ, nat_abs, nat_lt, true, IfOk};
+ghost use Rattle.std.specs.Prelude.{◌≡◌, ◌+ℤ◌, ◌*ℤ◌, ◌≤◌, ◌↔◌, pos, neg_ℤ, nat_abs, nat_lt, true, IfOk};
 ghost use Rattle.affc_grammar.specs.Grammar.{Name};
 ghost use Rattle.affc_limits.specs.Terms as spec;
 ghost use Rattle.affc_limits.specs.Coefficients.{number_of};
@@ -11,21 +11,31 @@ use affc_ast::Items;
 use affc_ast::text::Text;
 use std::alloc::{AllocError, Global};
 
-/// Whether a number times the scale is above 2^16 in magnitude.
-fn is_large(scale: &Option<Whole>, number: &Whole) -> bool
-    ensures { result ≡ spec.is_large scale.now number.now }
+/// The magnitude of the scale, cut off at 2^32.
+fn size_of(scale: &Option<Whole>) -> u128
+    ensures size { result ≡ spec.size_of scale.now }
+    ensures within { result ≤ 4294967296 }
 {
     match scale {
-        None => number.is_above(65536),
-        Some(by) => 65536 < number.capped().unsigned_abs() * by.capped().unsigned_abs(),
+        None => 1,
+        Some(by) => by.capped().unsigned_abs(),
     }
 }
 
-fn any_large(scale: &Option<Whole>, terms: &[Term]) -> bool
-    ensures { result ≡ spec.any_large scale.now terms.now }
+/// Whether a number times this size is above 2^16 in magnitude.
+fn is_large(size: u128, number: &Whole) -> bool
+    requires { size ≤ 4294967296 }
+    ensures { result ≡ spec.is_large_by size number.now }
 {
+    65536 < number.capped().unsigned_abs() * size
+}
+
+fn any_large(scale: &Option<Whole>, terms: &[Term]) -> bool
+    ensures { result ≡ spec.any_large_by (spec.size_of scale.now) terms.now }
+{
+    let size = size_of(scale);
     for term in terms {
-        if is_large(scale, &term.number) {
+        if is_large(size, &term.number) {
             return true;
         }
     }
