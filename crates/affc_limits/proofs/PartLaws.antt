@@ -1,9 +1,8 @@
 -- Large parts, name by name.
-use Rattle.std.proofs.Common.{◌≡◌, ℕ, ◌+◌, ◌*◌, ◌≤◌, Bool, true, false, ◌||◌, cond, nat_le, nat_lt, List, [], ◌∷◌, ◌++◌, flat_map, Option, Some, None, is_some, ℤ, pos, ◌+ℤ◌, ◌-ℤ◌, ◌*ℤ◌, neg_ℤ, nat_abs, ◌⊎◌, inl, inr, refl, sym, ap, ◌∙◌, subst, arith}
+use Rattle.std.proofs.Common.{◌≡◌, ℕ, ◌+◌, ◌*◌, ◌≤◌, min, Bool, true, false, ◌||◌, cond, nat_le, nat_lt, List, [], ◌∷◌, ◌++◌, Option, Some, None, is_some, ℤ, pos, ◌+ℤ◌, ◌-ℤ◌, ◌*ℤ◌, neg_ℤ, nat_abs, ◌⊎◌, inl, inr, refl, sym, ap, ◌∙◌, subst, arith}
 use Rattle.std.specs.List.{list_any}
 use Rattle.std.proofs.lemmas.Bool.{false≢true}
 use Rattle.std.proofs.lemmas.Bool.Decides.{nat_tests}
-use Rattle.std.proofs.lemmas.List.{append-nil}
 use Rattle.std.proofs.lemmas.Int.{ints, unsigned_abs-mul}
 use Rattle.std.proofs.Math.IntN.{zero-*ℤ, *ℤ-zero}
 use Rattle.std.proofs.Math.Nat.{mul-le-mul}
@@ -134,9 +133,9 @@ pub large_is : (e : d.IxDraft) (b : Bool) → (b ≡ true → (w : Name) × (nat
     → (nat_lt 16777216 (nat_abs (constant_of e)) || b) ≡ is_large e
 large_is e b there back =
     ap (λ x. nat_lt 16777216 (nat_abs (constant_of e)) || x) (
-      both_ways b (list_any (coefficient_large e) (names_in e))
-      (λ t. let f = there t in any_at (coefficient_large e) (names_in e) f.0 (large_in e f.0 f.1) f.1)
-      (λ t. let f = any_from (coefficient_large e) (names_in e) t in back f.0 f.2)
+    both_ways b (list_any (coefficient_large e) (names_in e))
+    (λ t. let f = there t in any_at (coefficient_large e) (names_in e) f.0 (large_in e f.0 f.1) f.1)
+    (λ t. let f = any_from (coefficient_large e) (names_in e) t in back f.0 f.2)
     )
 
 -- ---- Sizes
@@ -305,3 +304,75 @@ of_grouped x at inside f is h = subst (λ e. IsForm e f) (sym (ap ix is ∙ ix-G
 
 pub of_chosen : (x : code.IxDraft) (at : ℕ) (k : Choice) (left right : code.IxDraft) (f : Form) → x ≡ c.Chosen at k left right → IsForm (d.chosen at (choice k) (ix left) (ix right)) f → IsForm (ix x) f
 of_chosen x at k left right f is h = subst (λ e. IsForm e f) (sym (ap ix is ∙ ix-Chosen at k left right)) h
+
+-- ---- Behind a place that was found
+
+pub lesser-none : (a : Option ℕ) → lesser a None ≡ a
+lesser-none None = refl
+lesser-none (Some n) = refl
+
+abbrev AllFrom : ℕ → List ℕ → Type 0
+AllFrom n [] = Unit
+AllFrom n (m ∷ ms) = (n ≤ m) × AllFrom n ms
+
+from_later : (k n : ℕ) (ms : List ℕ) → k ≤ n → AllFrom n ms → AllFrom k ms
+from_later k n [] h a = tt
+from_later k n (m ∷ ms) h a = (let l = a.0 in omega (arith, l), from_later k n ms h a.1)
+
+from_both : (n : ℕ) (xs ys : List ℕ) → AllFrom n xs → AllFrom n ys → AllFrom n (xs ++ ys)
+from_both n [] ys a b = b
+from_both n (x ∷ xs) ys a b = (a.0, from_both n xs ys a.1 b)
+
+from_if : (n : ℕ) (t : Bool) (at : ℕ) → n ≤ at → AllFrom n (at_if t at)
+from_if n true at h = (h, tt)
+from_if n false at h = tt
+
+first_from : (e : d.IxDraft) → p.least_token e ≤ first_token e
+first_from (d.literal at n) = omega arith
+first_from (d.name at w) = omega arith
+first_from (d.negated at a) = omega arith
+first_from (d.sum a b) = omega (arith, first_from a)
+first_from (d.difference a b) = omega (arith, first_from a)
+first_from (d.product at a b) = omega (arith, first_from a)
+first_from (d.grouped at a) = omega arith
+first_from (d.chosen at f' a b) = omega arith
+first_from (d.divided at f' a by_at by) = omega arith
+
+-- of a part that begins there, and of those inside
+from_one : (n : ℕ) (t : Bool) (at k : ℕ) (xs : List ℕ) → n ≤ at → n ≤ k → AllFrom k xs → AllFrom n (at_if t at ++ xs)
+from_one n t at k xs h l a = from_both n (at_if t at) xs (from_if n t at h) (from_later n k xs l a)
+
+from_two : (n : ℕ) (t : Bool) (at k m : ℕ) (xs ys : List ℕ) → n ≤ at → n ≤ k → n ≤ m → AllFrom k xs → AllFrom m ys → AllFrom n (at_if t at ++ xs ++ ys)
+from_two n t at k m xs ys h l j a b = from_both n (at_if t at ++ xs) ys (from_one n t at k xs h l a) (from_later n m ys j b)
+
+parts_from : (e : d.IxDraft) → AllFrom (p.least_token e) (large_parts e)
+parts_from (d.literal at n) = from_if at (is_large (d.literal at n)) at (omega arith)
+parts_from (d.name at w) = from_if at (is_large (d.name at w)) at (omega arith)
+parts_from (d.negated at a) = from_one (min at (p.least_token a)) (is_large (d.negated at a)) at (p.least_token a) (large_parts a) (omega arith) (omega arith) (parts_from a)
+parts_from (d.sum a b) = from_two (min (p.least_token a) (p.least_token b)) (is_large (d.sum a b)) (first_token a) (p.least_token a) (p.least_token b) (large_parts a) (large_parts b) (omega (arith, first_from a)) (omega arith) (omega arith) (parts_from a) (parts_from b)
+parts_from (d.difference a b) = from_two (min (p.least_token a) (p.least_token b)) (is_large (d.difference a b)) (first_token a) (p.least_token a) (p.least_token b) (large_parts a) (large_parts b) (omega (arith, first_from a)) (omega arith) (omega arith) (parts_from a) (parts_from b)
+parts_from (d.product at a b) = from_two (min (p.least_token a) (p.least_token b)) (is_large (d.product at a b)) (first_token a) (p.least_token a) (p.least_token b) (large_parts a) (large_parts b) (omega (arith, first_from a)) (omega arith) (omega arith) (parts_from a) (parts_from b)
+parts_from (d.grouped at a) = from_one (min at (p.least_token a)) (is_large (d.grouped at a)) at (p.least_token a) (large_parts a) (omega arith) (omega arith) (parts_from a)
+parts_from (d.chosen at f' a b) =
+    let n = min at (min (p.least_token a) (p.least_token b)) in
+    from_both n (large_parts a) (large_parts b) (from_later n (p.least_token a) (large_parts a) (omega arith) (parts_from a)) (from_later n (p.least_token b) (large_parts b) (omega arith) (parts_from b))
+parts_from (d.divided at f' a by_at by) = from_later (min at (p.least_token a)) (p.least_token a) (large_parts a) (omega arith) (parts_from a)
+
+found_before : (n k : ℕ) (ms : List ℕ) → n ≤ k → AllFrom k ms → lesser (Some n) (least ms) ≡ Some n
+found_before n k [] h a = refl
+found_before n k (m ∷ ms) h a =
+    let l : n ≤ m = (let b = a.0 in omega (arith, b)) in
+    lesser_assoc (Some n) (Some m) (least ms)
+    ∙ ap (λ o. lesser o (least ms)) (kept n m l)
+    ∙ found_before n k ms h a.1
+  where
+    kept : (n m : ℕ) → n ≤ m → lesser (Some n) (Some m) ≡ Some n
+    kept n m h = grind (arith, nat_tests)
+
+-- an expression that begins behind a place has no part before it
+pub none_before : (before : Option ℕ) (e : d.IxDraft) → p.is_found_by before (p.least_token e) ≡ true → before ≡ lesser before (least (large_parts e))
+none_before None e h = absurd (false≢true h)
+none_before (Some n) e h = sym (found_before n (p.least_token e) (large_parts e) (within n (p.least_token e) h) (parts_from e))
+  where
+    within : (n m : ℕ) → nat_le n m ≡ true → n ≤ m
+    within n m h = grind (arith, nat_tests)

@@ -139,10 +139,10 @@ more_turn w s own was more i t number new lt is n kept made =
     ∙ (λ j. kept j +ℤ at_name t.name (n j) w)
     ∙ sym (plus_assoc was (scaled s (coefficient w (take i more))) (at_name t.name (scaled s t.number) w))
     ∙ ap (λ z. was +ℤ z) (
-      ap (λ z. scaled s (coefficient w (take i more)) +ℤ z) (sym (at_name-scaled s t.name t.number w))
-      ∙ sym (scaled-add s (coefficient w (take i more)) (at_name t.name t.number w))
-      ∙ ap (scaled s) (sym (coefficient-append w (take i more) t))
-      ∙ ap (λ l. scaled s (coefficient w l)) (ap (λ x. take i more ++ x ∷ []) is ∙ sym (take-suc more i t lt) ∙ ap (λ n. take n more) (sym (add-one i)))
+    ap (λ z. scaled s (coefficient w (take i more)) +ℤ z) (sym (at_name-scaled s t.name t.number w))
+    ∙ sym (scaled-add s (coefficient w (take i more)) (at_name t.name t.number w))
+    ∙ ap (scaled s) (sym (coefficient-append w (take i more) t))
+    ∙ ap (λ l. scaled s (coefficient w l)) (ap (λ x. take i more ++ x ∷ []) is ∙ sym (take-suc more i t lt) ∙ ap (λ n. take n more) (sym (add-one i)))
     )
 
 -- ---- Large coefficients

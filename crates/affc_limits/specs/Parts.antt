@@ -1,5 +1,5 @@
 -- Parts of expressions that are large, by their constants and coefficients.
-use Rattle.std.specs.Prelude.{◌≡◌, ℕ, ◌+◌, ◌*◌, ◌≤◌, nat_le, Option, Some, None, IfSome, ℤ, if◌then◌else◌}
+use Rattle.std.specs.Prelude.{◌≡◌, ℕ, ◌+◌, ◌*◌, ◌≤◌, min, nat_le, Bool, false, Option, Some, None, IfSome, ℤ, if◌then◌else◌}
 use Rattle.affc_grammar.specs.Grammar.{Name}
 use Rattle.affc_grammar.specs.Draft as d
 use Rattle.affc_grammar.specs.Limits.{constant_of, coefficient_of, first_token, large_parts}
@@ -51,3 +51,19 @@ pub record HasForm (e : d.IxDraft) (first : ℕ) (constant : ℤ) (coefficients 
 pub record IsForm (e : d.IxDraft) (f : Form) : Type 0 where
   pub has : HasForm e f.first f.constant (number_of f.coefficients)
   pub past : f.past ≡ least (large_parts e)
+
+-- the least number of a token with which a part begins
+abbrev pub least_token : d.IxDraft → ℕ
+least_token (d.literal at n) = at
+least_token (d.name at w) = at
+least_token (d.negated at a) = min at (least_token a)
+least_token (d.sum a b) = min (least_token a) (least_token b)
+least_token (d.difference a b) = min (least_token a) (least_token b)
+least_token (d.product at a b) = min (least_token a) (least_token b)
+least_token (d.grouped at a) = min at (least_token a)
+least_token (d.chosen at f a b) = min at (min (least_token a) (least_token b))
+least_token (d.divided at f a by_at by) = min at (least_token a)
+
+abbrev pub is_found_by : (before : Option ℕ) → (at : ℕ) → Bool
+is_found_by None at = false
+is_found_by (Some found) at = nat_le found at

@@ -10,8 +10,8 @@ mod lines;
 mod parts;
 mod rests;
 pub mod shape;
+mod terms;
 #[cfg(test)]
 mod tests;
-mod terms;
 pub mod texts;
 mod whole;

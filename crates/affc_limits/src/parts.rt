@@ -101,12 +101,7 @@ fn is_past(constant: &Whole, coefficients: &Coefficients) -> bool
 }
 
 /// A part, given what was found inside it.
-fn form_of(
-    first: usize,
-    constant: Whole,
-    coefficients: Coefficients,
-    inside: Option<usize>,
-) -> Form
+fn form_of(first: usize, constant: Whole, coefficients: Coefficients, inside: Option<usize>) -> Form
     ensures { (e : grammar.IxDraft) → HasForm e first constant (number_of coefficients) → lesser (place_if (is_large e) first) inside ≡ least (large_parts e) → IsForm e result }
 {
     let past = lesser(place_if(is_past(&constant, &coefficients), first), inside);
@@ -229,13 +224,56 @@ fn formed(alloc: Global, e: &IxDraft) -> Result<Form, AllocError>
     }
 }
 
-/// The least first token of a part whose constant or a coefficient is large.
-pub(crate) fn large_part(alloc: Global, e: &IxDraft) -> Result<Option<usize>, AllocError>
-    ensures { IfOk result (λ p. p ≡ least (large_parts (ix e.now))) }
+/// The least number of a token with which a part begins.
+#[tactic(auto, using(affc_draft::proofs::Outs::ix_outs))]
+fn least_token(e: &IxDraft) -> usize
+    ensures { result ≡ spec.least_token (ix e.now) }
+{
+    match e {
+        IxDraft::Literal { at, .. } => *at,
+        IxDraft::Name { at, .. } => *at,
+        IxDraft::Negated { at, of } => (*at).min(least_token(of.get())),
+        IxDraft::Sum(a, b) => least_token(a.get()).min(least_token(b.get())),
+        IxDraft::Difference(a, b) => least_token(a.get()).min(least_token(b.get())),
+        IxDraft::Product { left, right, .. } => {
+            least_token(left.get()).min(least_token(right.get()))
+        }
+        IxDraft::Grouped { at, inside } => (*at).min(least_token(inside.get())),
+        IxDraft::Chosen {
+            at,
+            left,
+            right,
+            ..
+        } => (*at).min(least_token(left.get()).min(least_token(right.get()))),
+        IxDraft::Divided { at, of, .. } => (*at).min(least_token(of.get())),
+    }
+}
+
+/// Whether a place was found that is no later than this one.
+fn is_found_by(before: Option<usize>, at: usize) -> bool
+    ensures { result ≡ spec.is_found_by before at }
+{
+    match before {
+        None => false,
+        Some(found) => found <= at,
+    }
+}
+
+/// The least first token of a part whose constant or a coefficient is large, and of a place that was found before. An
+/// expression that begins behind that place is not looked at.
+pub(crate) fn large_part(
+    alloc: Global,
+    before: Option<usize>,
+    e: &IxDraft,
+) -> Result<Option<usize>, AllocError>
+    ensures { IfOk result (λ p. p ≡ lesser before (least (large_parts (ix e.now)))) }
 {
     if size(e).is_some() {
-        return Ok(None);
+        return Ok(before);
+    }
+    if is_found_by(before, least_token(e)) {
+        return Ok(before);
     }
     let whole = formed(alloc, e)?;
-    Ok(whole.past)
+    Ok(lesser(before, whole.past))
 }

@@ -1,4 +1,4 @@
-use Rattle.std.proofs.Common.{◌+ℤ◌, ap, ◌∙◌}
+use Rattle.std.proofs.Common.{◌+ℤ◌, ◌∙◌}
 use Rattle.affc_grammar.specs.Draft as d
 use Rattle.affc_limits.proofs.PartLaws.{past_of_two, past-sum}
 use Rattle.affc_limits.proofs.parts.sum.Goals as goal

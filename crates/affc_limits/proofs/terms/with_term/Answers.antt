@@ -1,5 +1,4 @@
 use Rattle.std.proofs.Common.{◌≡◌, ◌+ℤ◌, false, get_or, subst, sym, ap, ◌∙◌}
-use Rattle.std.proofs.Math.ListN.{set}
 use Rattle.affc_limits.specs.Terms.{has, IsAt, AreApart}
 use Rattle.affc_limits.proofs.TermLaws.{with_new, with_own, apart-append, apart-set}
 use Rattle.affc_limits.proofs.terms.with_term.Goals as goal
