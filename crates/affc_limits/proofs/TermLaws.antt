@@ -128,6 +128,12 @@ with_own w n v ts new i d number more e at f is =
     ∙ coefficient-set w ts i d (record { name = v; number = number }) more at.0 (at.1 d ∙ sym e) f
     ∙ ap (λ m. coefficient w ts +ℤ at_name m more w) e
 
+-- without terms, all numbers are 0
+pub nothing_times : (w : Name) (s : Option ℤ) (ts : List Term) (by : ℤ) → ts ≡ [] → scaled s (coefficient w ts) ≡ scaled s (coefficient w ts) *ℤ by
+nothing_times w s ts by e =
+    let z : scaled s (coefficient w ts) ≡ pos 0 = ap (λ l. scaled s (coefficient w l)) e ∙ scaled-zero s in
+    z ∙ sym (ap (λ y. y *ℤ by) z ∙ zero-*ℤ by)
+
 -- ---- In the code's loops
 
 -- one term more of the others

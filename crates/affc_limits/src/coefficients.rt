@@ -67,6 +67,9 @@ impl Coefficients {
     pub fn times(self, alloc: Global, by: &Whole) -> Result<Coefficients, AllocError>
         ensures { IfOk result (λ c. (w : Name) → number_of c w ≡ number_of self w *ℤ by.now) }
     {
+        if self.terms.is_empty() {
+            return Ok(self);
+        }
         let Coefficients { scale, terms } = self;
         let scale = Some(scaled(alloc, &scale, by)?);
         Ok(Coefficients { scale, terms })
