@@ -7,6 +7,7 @@ mod lines;
 pub mod program;
 mod reserved;
 mod scope;
+pub mod spread;
 mod statement;
 mod value;
 mod why;
