@@ -1,4 +1,6 @@
 // What no clause says: that texts are printed so, that commands succeed, and what each failure outside leaves.
+mod edges;
+
 use crate::serve::serve;
 use affc_io::{Folder, MemFolder, MemSink, ReadFault, Sink, SinkFault, WriteFault};
 use std::alloc::{AllocError, Global};

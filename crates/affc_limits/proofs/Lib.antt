@@ -3,6 +3,7 @@ pub mod PlaceLaws
 pub mod BodyLaws
 pub mod WholeLaws
 pub mod TextLaws
+pub mod TermLaws
 pub mod PartLaws
 pub mod AssignmentLaws
 pub mod LineLaws

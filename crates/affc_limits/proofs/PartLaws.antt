@@ -1,9 +1,8 @@
 -- Large parts, name by name.
-use Rattle.std.proofs.Common.{◌≡◌, ℕ, ◌+◌, ◌*◌, ◌≤◌, Bool, true, false, ◌||◌, cond, nat_le, nat_lt, List, [], ◌∷◌, ◌++◌, flat_map, Option, Some, None, is_some, ℤ, pos, ◌+ℤ◌, ◌-ℤ◌, ◌*ℤ◌, neg_ℤ, nat_abs, ◌⊎◌, inl, inr, refl, sym, ap, ◌∙◌, subst, arith}
+use Rattle.std.proofs.Common.{◌≡◌, ℕ, ◌+◌, ◌*◌, ◌≤◌, min, Bool, true, false, ◌||◌, cond, nat_le, nat_lt, List, [], ◌∷◌, ◌++◌, Option, Some, None, is_some, ℤ, pos, ◌+ℤ◌, ◌-ℤ◌, ◌*ℤ◌, neg_ℤ, nat_abs, ◌⊎◌, inl, inr, refl, sym, ap, ◌∙◌, subst, arith}
 use Rattle.std.specs.List.{list_any}
 use Rattle.std.proofs.lemmas.Bool.{false≢true}
 use Rattle.std.proofs.lemmas.Bool.Decides.{nat_tests}
-use Rattle.std.proofs.lemmas.List.{append-nil}
 use Rattle.std.proofs.lemmas.Int.{ints, unsigned_abs-mul}
 use Rattle.std.proofs.Math.IntN.{zero-*ℤ, *ℤ-zero}
 use Rattle.std.proofs.Math.Nat.{mul-le-mul}
@@ -18,11 +17,11 @@ use Rattle.affc_draft.specs.declared.draft.IxDraft as code
 use Rattle.affc_draft.specs.declared.draft.IxDraft.TheVariants as c
 use Rattle.affc_draft.specs.declared.draft.Choice.{Choice}
 use Rattle.affc_draft.specs.Drafts.{ix, choice}
-use Rattle.affc_draft.proofs.Outs.{ix-Product, ix-Chosen}
+use Rattle.affc_draft.proofs.Outs.{ix-Grouped, ix-Chosen}
 use Rattle.affc_limits.specs.declared.parts.Form.{Form}
 use Rattle.affc_limits.specs.Places.{least, lesser, place_if}
 use Rattle.affc_limits.specs.Parts as p
-use Rattle.affc_limits.specs.Parts.{parts_where, is_large_by, past_by_names}
+use Rattle.affc_limits.specs.Parts.{IsForm}
 use Rattle.affc_limits.proofs.PlaceLaws.{least-append, least_if, lesser_assoc}
 
 -- ---- The least of two tests' places
@@ -32,19 +31,6 @@ lesser_comm None None = refl
 lesser_comm None (Some b) = refl
 lesser_comm (Some a) None = refl
 lesser_comm (Some a) (Some b) = grind (arith, nat_tests)
-
--- two pairs, crosswise
-medial : (a b c e : Option ℕ) → lesser (lesser a b) (lesser c e) ≡ lesser (lesser a c) (lesser b e)
-medial a b c e =
-    sym (lesser_assoc a b (lesser c e))
-    ∙ ap (lesser a) (lesser_assoc b c e ∙ ap (λ o. lesser o e) (lesser_comm b c) ∙ sym (lesser_assoc c b e))
-    ∙ lesser_assoc a c (lesser b e)
-
-place-or : (s t : Bool) (at : ℕ) → place_if (s || t) at ≡ lesser (place_if s at) (place_if t at)
-place-or true true at = grind (arith, nat_tests)
-place-or true false at = refl
-place-or false true at = refl
-place-or false false at = refl
 
 one_inside : (t : Bool) (at : ℕ) (xs : List ℕ) → least (at_if t at ++ xs) ≡ lesser (place_if t at) (least xs)
 one_inside t at xs = least-append (at_if t at) xs ∙ ap (λ o. lesser o (least xs)) (least_if t at)
@@ -58,57 +44,6 @@ two_inside t at xs ys =
 none_inside : (t : Bool) (at : ℕ) → least (at_if t at) ≡ lesser (place_if t at) None
 none_inside true at = refl
 none_inside false at = refl
-
-one_or : (s t : Bool) (at : ℕ) (xs ys zs : List ℕ) → least xs ≡ lesser (least ys) (least zs)
-    → least (at_if (s || t) at ++ xs) ≡ lesser (least (at_if s at ++ ys)) (least (at_if t at ++ zs))
-one_or s t at xs ys zs e =
-    one_inside (s || t) at xs
-    ∙ (λ i. lesser (place-or s t at i) (e i))
-    ∙ medial (place_if s at) (place_if t at) (least ys) (least zs)
-    ∙ sym (λ i. lesser (one_inside s at ys i) (one_inside t at zs i))
-
-two_or : (s t : Bool) (at : ℕ) (xs ys zs xs' ys' zs' : List ℕ) → least xs ≡ lesser (least ys) (least zs) → least xs' ≡ lesser (least ys') (least zs')
-    → least (at_if (s || t) at ++ xs ++ xs') ≡ lesser (least (at_if s at ++ ys ++ ys')) (least (at_if t at ++ zs ++ zs'))
-two_or s t at xs ys zs xs' ys' zs' e f =
-    two_inside (s || t) at xs xs'
-    ∙ (λ i. lesser (place-or s t at i) (lesser (e i) (f i)))
-    ∙ ap (lesser (lesser (place_if s at) (place_if t at))) (medial (least ys) (least zs) (least ys') (least zs'))
-    ∙ medial (place_if s at) (place_if t at) (lesser (least ys) (least ys')) (lesser (least zs) (least zs'))
-    ∙ sym (λ i. lesser (two_inside s at ys ys' i) (two_inside t at zs zs' i))
-
-where_or : (f h : d.IxDraft → Bool) (e : d.IxDraft) → least (parts_where (λ a. f a || h a) e) ≡ lesser (least (parts_where f e)) (least (parts_where h e))
-where_or f h (d.literal at n) = least_if (f (d.literal at n) || h (d.literal at n)) at ∙ place-or (f (d.literal at n)) (h (d.literal at n)) at ∙ sym (λ i. lesser (least_if (f (d.literal at n)) at i) (least_if (h (d.literal at n)) at i))
-where_or f h (d.name at w) = least_if (f (d.name at w) || h (d.name at w)) at ∙ place-or (f (d.name at w)) (h (d.name at w)) at ∙ sym (λ i. lesser (least_if (f (d.name at w)) at i) (least_if (h (d.name at w)) at i))
-where_or f h (d.negated at a) = one_or (f (d.negated at a)) (h (d.negated at a)) at (parts_where (λ x. f x || h x) a) (parts_where f a) (parts_where h a) (where_or f h a)
-where_or f h (d.sum a b) = two_or (f (d.sum a b)) (h (d.sum a b)) (first_token a) (parts_where (λ x. f x || h x) a) (parts_where f a) (parts_where h a) (parts_where (λ x. f x || h x) b) (parts_where f b) (parts_where h b) (where_or f h a) (where_or f h b)
-where_or f h (d.difference a b) = two_or (f (d.difference a b)) (h (d.difference a b)) (first_token a) (parts_where (λ x. f x || h x) a) (parts_where f a) (parts_where h a) (parts_where (λ x. f x || h x) b) (parts_where f b) (parts_where h b) (where_or f h a) (where_or f h b)
-where_or f h (d.product at a b) = two_or (f (d.product at a b)) (h (d.product at a b)) (first_token a) (parts_where (λ x. f x || h x) a) (parts_where f a) (parts_where h a) (parts_where (λ x. f x || h x) b) (parts_where f b) (parts_where h b) (where_or f h a) (where_or f h b)
-where_or f h (d.grouped at a) = one_or (f (d.grouped at a)) (h (d.grouped at a)) at (parts_where (λ x. f x || h x) a) (parts_where f a) (parts_where h a) (where_or f h a)
-where_or f h (d.chosen at f' a b) =
-    least-append (parts_where (λ x. f x || h x) a) (parts_where (λ x. f x || h x) b)
-    ∙ (λ i. lesser (where_or f h a i) (where_or f h b i))
-    ∙ medial (least (parts_where f a)) (least (parts_where h a)) (least (parts_where f b)) (least (parts_where h b))
-    ∙ sym (λ i. lesser (least-append (parts_where f a) (parts_where f b) i) (least-append (parts_where h a) (parts_where h b) i))
-where_or f h (d.divided at f' a by_at by) = where_or f h a
-
-where_none : (e : d.IxDraft) → parts_where (λ a. false) e ≡ []
-where_none (d.literal at n) = refl
-where_none (d.name at w) = refl
-where_none (d.negated at a) = where_none a
-where_none (d.sum a b) = λ i. where_none a i ++ where_none b i
-where_none (d.difference a b) = λ i. where_none a i ++ where_none b i
-where_none (d.product at a b) = λ i. where_none a i ++ where_none b i
-where_none (d.grouped at a) = where_none a
-where_none (d.chosen at f' a b) = λ i. where_none a i ++ where_none b i
-where_none (d.divided at f' a by_at by) = where_none a
-
--- some test of several
-where_any : (h : Name → d.IxDraft → Bool) (ws : List Name) (e : d.IxDraft) → least (parts_where (λ a. list_any (λ w. h w a) ws) e) ≡ least (flat_map (λ w. parts_where (h w) e) ws)
-where_any h [] e = ap least (where_none e)
-where_any h (w ∷ ws) e =
-    where_or (h w) (λ a. list_any (λ v. h v a) ws) e
-    ∙ ap (lesser (least (parts_where (h w) e))) (where_any h ws e)
-    ∙ sym (least-append (parts_where (h w) e) (flat_map (λ v. parts_where (h v) e) ws))
 
 -- ---- Names that stand in a list
 
@@ -147,9 +82,6 @@ both_ways true true f h = refl
 both_ways true false f h = sym (f refl)
 both_ways false true f h = h refl
 both_ways false false f h = refl
-
-abbrev Within : List Name → List Name → Type 0
-Within xs ys = (w : Name) → IsIn w xs → IsIn w ys
 
 -- a name that an expression doesn't hold has no coefficient there
 zero_or_in : (w : Name) (e : d.IxDraft) → (coefficient_of w e ≡ pos 0) ⊎ IsIn w (names_in e)
@@ -196,37 +128,15 @@ large_in a w h = of_case (zero_or_in w a)
     of_case (inl e) = absurd (false≢true (sym (ap (λ z. nat_lt 65536 (nat_abs z)) e) ∙ h))
     of_case (inr m) = m
 
-any_within : (a : d.IxDraft) (ws : List Name) → Within (names_in a) ws → list_any (coefficient_large a) (names_in a) ≡ list_any (coefficient_large a) ws
-any_within a ws sub =
-    both_ways (list_any (coefficient_large a) (names_in a)) (list_any (coefficient_large a) ws)
-    (λ e. let f = any_from (coefficient_large a) (names_in a) e in any_at (coefficient_large a) ws f.0 (sub f.0 f.1) f.2)
-    (λ e. let f = any_from (coefficient_large a) ws e in any_at (coefficient_large a) (names_in a) f.0 (large_in a f.0 f.2) f.2)
-
-any_or : (c : Bool) (k : Name → Bool) (w : Name) (ws : List Name) → list_any (λ v. c || k v) (w ∷ ws) ≡ (c || list_any k (w ∷ ws))
-any_or true k w ws = refl
-any_or false k w ws = refl
-
-same_test : (a : d.IxDraft) (w : Name) (ws : List Name) → Within (names_in a) (w ∷ ws) → is_large a ≡ list_any (λ v. is_large_by v a) (w ∷ ws)
-same_test a w ws sub =
-    ap (λ b. nat_lt 16777216 (nat_abs (constant_of a)) || b) (any_within a (w ∷ ws) sub)
-    ∙ sym (any_or (nat_lt 16777216 (nat_abs (constant_of a))) (coefficient_large a) w ws)
-
-by_names : (w : Name) (ws : List Name) (e : d.IxDraft) → Within (names_in e) (w ∷ ws) → large_parts e ≡ parts_where (λ a. list_any (λ v. is_large_by v a) (w ∷ ws)) e
-by_names w ws (d.literal at n) sub = ap (λ b. at_if b at) (same_test (d.literal at n) w ws sub)
-by_names w ws (d.name at v) sub = ap (λ b. at_if b at) (same_test (d.name at v) w ws sub)
-by_names w ws (d.negated at a) sub = λ i. at_if (same_test (d.negated at a) w ws sub i) at ++ by_names w ws a sub i
-by_names w ws (d.sum a b) sub = λ i. at_if (same_test (d.sum a b) w ws sub i) (first_token a) ++ by_names w ws a (λ v m. sub v (in_left v (names_in a) (names_in b) m)) i ++ by_names w ws b (λ v m. sub v (in_right v (names_in a) (names_in b) m)) i
-by_names w ws (d.difference a b) sub = λ i. at_if (same_test (d.difference a b) w ws sub i) (first_token a) ++ by_names w ws a (λ v m. sub v (in_left v (names_in a) (names_in b) m)) i ++ by_names w ws b (λ v m. sub v (in_right v (names_in a) (names_in b) m)) i
-by_names w ws (d.product at a b) sub = λ i. at_if (same_test (d.product at a b) w ws sub i) (first_token a) ++ by_names w ws a (λ v m. sub v (in_left v (names_in a) (names_in b) m)) i ++ by_names w ws b (λ v m. sub v (in_right v (names_in a) (names_in b) m)) i
-by_names w ws (d.grouped at a) sub = λ i. at_if (same_test (d.grouped at a) w ws sub i) at ++ by_names w ws a sub i
-by_names w ws (d.chosen at f' a b) sub = λ i. by_names w ws a (λ v m. sub v (in_left v (names_in a) (names_in b) m)) i ++ by_names w ws b (λ v m. sub v (in_right v (names_in a) (names_in b) m)) i
-by_names w ws (d.divided at f' a by_at by) sub = by_names w ws a sub
-
-pub large_by_names : (e : d.IxDraft) → least (large_parts e) ≡ lesser (least (parts_where (is_large_by []) e)) (past_by_names e (names_in e))
-large_by_names e =
-    ap least (by_names [] (names_in e) e (λ v m. inr m))
-    ∙ where_any is_large_by ([] ∷ names_in e) e
-    ∙ least-append (parts_where (is_large_by []) e) (flat_map (λ w. parts_where (is_large_by w) e) (names_in e))
+-- an expression is large where its constant is or some coefficient
+pub large_is : (e : d.IxDraft) (b : Bool) → (b ≡ true → (w : Name) × (nat_lt 65536 (nat_abs (coefficient_of w e)) ≡ true)) → ((w : Name) → nat_lt 65536 (nat_abs (coefficient_of w e)) ≡ true → b ≡ true)
+    → (nat_lt 16777216 (nat_abs (constant_of e)) || b) ≡ is_large e
+large_is e b there back =
+    ap (λ x. nat_lt 16777216 (nat_abs (constant_of e)) || x) (
+    both_ways b (list_any (coefficient_large e) (names_in e))
+    (λ t. let f = there t in any_at (coefficient_large e) (names_in e) f.0 (large_in e f.0 f.1) f.1)
+    (λ t. let f = any_from (coefficient_large e) (names_in e) t in back f.0 f.2)
+    )
 
 -- ---- Sizes
 
@@ -355,73 +265,114 @@ none_large e h = by_size (p.size e) refl h
 
 -- ---- By nodes
 
-of_leaf : (w : Name) (e : d.IxDraft) (at : ℕ) → least (at_if (is_large_by w e) at) ≡ lesser (place_if (is_large_by w e) at) None
-of_leaf w e at = none_inside (is_large_by w e) at
+pub past-literal : (at n : ℕ) → lesser (place_if (is_large (d.literal at n)) at) None ≡ least (large_parts (d.literal at n))
+past-literal at n = sym (none_inside (is_large (d.literal at n)) at)
 
-pub form-literal : (w : Name) (at n : ℕ) → p.form w (d.literal at n) ≡ p.literal at n
-form-literal w at n = λ i. record { first = at; constant = pos n; coefficient = pos 0; past = of_leaf w (d.literal at n) at i }
+pub past-name : (at : ℕ) (w : Name) → lesser (place_if (is_large (d.name at w)) at) None ≡ least (large_parts (d.name at w))
+past-name at w = sym (none_inside (is_large (d.name at w)) at)
 
-pub form-name : (w : Name) (at : ℕ) (v : Name) → p.form w (d.name at v) ≡ p.name at (same v w)
-form-name w at v = λ i. record { first = at; constant = pos 0; coefficient = coefficient_of w (d.name at v); past = of_leaf w (d.name at v) at i }
+pub past-negated : (at : ℕ) (a : d.IxDraft) → lesser (place_if (is_large (d.negated at a)) at) (least (large_parts a)) ≡ least (large_parts (d.negated at a))
+past-negated at a = sym (one_inside (is_large (d.negated at a)) at (large_parts a))
 
-pub form-negated : (w : Name) (at : ℕ) (a : d.IxDraft) → p.form w (d.negated at a) ≡ p.negated at (p.form w a)
-form-negated w at a = λ i. record { first = at; constant = neg_ℤ (constant_of a); coefficient = neg_ℤ (coefficient_of w a); past = one_inside (is_large_by w (d.negated at a)) at (parts_where (is_large_by w) a) i }
+pub past-grouped : (at : ℕ) (a : d.IxDraft) → lesser (place_if (is_large (d.grouped at a)) at) (least (large_parts a)) ≡ least (large_parts (d.grouped at a))
+past-grouped at a = sym (one_inside (is_large (d.grouped at a)) at (large_parts a))
 
-pub form-sum : (w : Name) (a b : d.IxDraft) → p.form w (d.sum a b) ≡ p.sum (p.form w a) (p.form w b)
-form-sum w a b = λ i. record {
-  first = first_token a;
-  constant = constant_of a +ℤ constant_of b;
-  coefficient = coefficient_of w a +ℤ coefficient_of w b;
-  past = two_inside (is_large_by w (d.sum a b)) (first_token a) (parts_where (is_large_by w) a) (parts_where (is_large_by w) b) i;
-}
+pub past-sum : (a b : d.IxDraft) → lesser (place_if (is_large (d.sum a b)) (first_token a)) (lesser (least (large_parts a)) (least (large_parts b))) ≡ least (large_parts (d.sum a b))
+past-sum a b = sym (two_inside (is_large (d.sum a b)) (first_token a) (large_parts a) (large_parts b))
 
-pub form-difference : (w : Name) (a b : d.IxDraft) → p.form w (d.difference a b) ≡ p.difference (p.form w a) (p.form w b)
-form-difference w a b = λ i. record {
-  first = first_token a;
-  constant = constant_of a -ℤ constant_of b;
-  coefficient = coefficient_of w a -ℤ coefficient_of w b;
-  past = two_inside (is_large_by w (d.difference a b)) (first_token a) (parts_where (is_large_by w) a) (parts_where (is_large_by w) b) i;
-}
+pub past-difference : (a b : d.IxDraft) → lesser (place_if (is_large (d.difference a b)) (first_token a)) (lesser (least (large_parts a)) (least (large_parts b))) ≡ least (large_parts (d.difference a b))
+past-difference a b = sym (two_inside (is_large (d.difference a b)) (first_token a) (large_parts a) (large_parts b))
 
-pub form-product : (w : Name) (at : ℕ) (a b : d.IxDraft) → p.form w (d.product at a b) ≡ p.product (p.form w a) (p.form w b)
-form-product w at a b = λ i. record {
-  first = first_token a;
-  constant = constant_of a *ℤ constant_of b;
-  coefficient = (coefficient_of w a *ℤ constant_of b) +ℤ (constant_of a *ℤ coefficient_of w b);
-  past = two_inside (is_large_by w (d.product at a b)) (first_token a) (parts_where (is_large_by w) a) (parts_where (is_large_by w) b) i;
-}
+pub past-product : (at : ℕ) (a b : d.IxDraft) → lesser (place_if (is_large (d.product at a b)) (first_token a)) (lesser (least (large_parts a)) (least (large_parts b))) ≡ least (large_parts (d.product at a b))
+past-product at a b = sym (two_inside (is_large (d.product at a b)) (first_token a) (large_parts a) (large_parts b))
 
-pub form-grouped : (w : Name) (at : ℕ) (a : d.IxDraft) → p.form w (d.grouped at a) ≡ p.form_of at (constant_of a) (coefficient_of w a) (least (parts_where (is_large_by w) a))
-form-grouped w at a = λ i. record { first = at; constant = constant_of a; coefficient = coefficient_of w a; past = one_inside (is_large_by w (d.grouped at a)) at (parts_where (is_large_by w) a) i }
+pub past-chosen : (at : ℕ) (f : g.Choice) (a b : d.IxDraft) → lesser (least (large_parts a)) (least (large_parts b)) ≡ least (large_parts (d.chosen at f a b))
+past-chosen at f a b = sym (least-append (large_parts a) (large_parts b))
 
-pub form-chosen : (w : Name) (at : ℕ) (f' : g.Choice) (a b : d.IxDraft) → p.form w (d.chosen at f' a b) ≡ p.opaque at (lesser (least (parts_where (is_large_by w) a)) (least (parts_where (is_large_by w) b)))
-form-chosen w at f' a b = λ i. record { first = at; constant = pos 0; coefficient = pos 0; past = least-append (parts_where (is_large_by w) a) (parts_where (is_large_by w) b) i }
+pub minus_is : (a b : ℤ) → a +ℤ neg_ℤ b ≡ a -ℤ b
+minus_is a b = omega (arith, ints)
 
-pub of_product : (w : Name) (x : code.IxDraft) (at : ℕ) (left right : code.IxDraft) (a b : Form) → x ≡ c.Product at left right → a ≡ p.form w (ix left) → b ≡ p.form w (ix right) → p.product a b ≡ p.form w (ix x)
-of_product w x at left right a b is e f =
-    (λ i. p.product (e i) (f i))
-    ∙ sym (form-product w at (ix left) (ix right))
-    ∙ ap (p.form w) (sym (ix-Product at left right) ∙ sym (ap ix is))
+-- of two parts, the first of which begins the whole
+pub past_of_two : (e x y : d.IxDraft) (a b : Form) (inside : Option ℕ) → IsForm x a → IsForm y b → inside ≡ lesser a.past b.past
+    → lesser (place_if (is_large e) a.first) inside ≡ lesser (place_if (is_large e) (first_token x)) (lesser (least (large_parts x)) (least (large_parts y)))
+past_of_two e x y a b inside f g is =
+    ap (λ n. lesser (place_if (is_large e) n) inside) f.has.first_is
+    ∙ ap (lesser (place_if (is_large e) (first_token x))) (is ∙ (λ i. lesser (f.past i) (g.past i)))
 
-pub of_chosen : (w : Name) (x : code.IxDraft) (at : ℕ) (f : Choice) (left right : code.IxDraft) (a b : Form) → x ≡ c.Chosen at f left right → a ≡ p.form w (ix left) → b ≡ p.form w (ix right) → p.opaque at (lesser a.past b.past) ≡ p.form w (ix x)
-of_chosen w x at f left right a b is e h =
-    (λ i. p.opaque at (lesser ((e i).past) ((h i).past)))
-    ∙ sym (form-chosen w at (choice f) (ix left) (ix right))
-    ∙ ap (p.form w) (sym (ix-Chosen at f left right) ∙ sym (ap ix is))
+pub of_grouped : (x : code.IxDraft) (at : ℕ) (inside : code.IxDraft) (f : Form) → x ≡ c.Grouped at inside → IsForm (d.grouped at (ix inside)) f → IsForm (ix x) f
+of_grouped x at inside f is h = subst (λ e. IsForm e f) (sym (ap ix is ∙ ix-Grouped at inside)) h
 
-pub ruleset form_laws = (form-literal, form-name, form-negated, form-sum, form-difference, form-product, form-grouped, form-chosen)
+pub of_chosen : (x : code.IxDraft) (at : ℕ) (k : Choice) (left right : code.IxDraft) (f : Form) → x ≡ c.Chosen at k left right → IsForm (d.chosen at (choice k) (ix left) (ix right)) f → IsForm (ix x) f
+of_chosen x at k left right f is h = subst (λ e. IsForm e f) (sym (ap ix is ∙ ix-Chosen at k left right)) h
 
--- ---- By names
+-- ---- Behind a place that was found
 
-pub names-append : (e : d.IxDraft) (xs ys : List Name) → past_by_names e (xs ++ ys) ≡ lesser (past_by_names e xs) (past_by_names e ys)
-names-append e [] ys = refl
-names-append e (x ∷ xs) ys =
-    least-append (parts_where (is_large_by x) e) (flat_map (λ w. parts_where (is_large_by w) e) (xs ++ ys))
-    ∙ ap (lesser (least (parts_where (is_large_by x) e))) (names-append e xs ys)
-    ∙ lesser_assoc (least (parts_where (is_large_by x) e)) (past_by_names e xs) (past_by_names e ys)
-    ∙ ap (λ o. lesser o (past_by_names e ys)) (sym (least-append (parts_where (is_large_by x) e) (flat_map (λ w. parts_where (is_large_by w) e) xs)))
+pub lesser-none : (a : Option ℕ) → lesser a None ≡ a
+lesser-none None = refl
+lesser-none (Some n) = refl
 
-pub names-one : (e : d.IxDraft) (w : Name) → past_by_names e (w ∷ []) ≡ least (parts_where (is_large_by w) e)
-names-one e w = ap least (append-nil (parts_where (is_large_by w) e))
+abbrev AllFrom : ℕ → List ℕ → Type 0
+AllFrom n [] = Unit
+AllFrom n (m ∷ ms) = (n ≤ m) × AllFrom n ms
 
-pub ruleset named_laws = (names-append, names-one)
+from_later : (k n : ℕ) (ms : List ℕ) → k ≤ n → AllFrom n ms → AllFrom k ms
+from_later k n [] h a = tt
+from_later k n (m ∷ ms) h a = (let l = a.0 in omega (arith, l), from_later k n ms h a.1)
+
+from_both : (n : ℕ) (xs ys : List ℕ) → AllFrom n xs → AllFrom n ys → AllFrom n (xs ++ ys)
+from_both n [] ys a b = b
+from_both n (x ∷ xs) ys a b = (a.0, from_both n xs ys a.1 b)
+
+from_if : (n : ℕ) (t : Bool) (at : ℕ) → n ≤ at → AllFrom n (at_if t at)
+from_if n true at h = (h, tt)
+from_if n false at h = tt
+
+first_from : (e : d.IxDraft) → p.least_token e ≤ first_token e
+first_from (d.literal at n) = omega arith
+first_from (d.name at w) = omega arith
+first_from (d.negated at a) = omega arith
+first_from (d.sum a b) = omega (arith, first_from a)
+first_from (d.difference a b) = omega (arith, first_from a)
+first_from (d.product at a b) = omega (arith, first_from a)
+first_from (d.grouped at a) = omega arith
+first_from (d.chosen at f' a b) = omega arith
+first_from (d.divided at f' a by_at by) = omega arith
+
+-- of a part that begins there, and of those inside
+from_one : (n : ℕ) (t : Bool) (at k : ℕ) (xs : List ℕ) → n ≤ at → n ≤ k → AllFrom k xs → AllFrom n (at_if t at ++ xs)
+from_one n t at k xs h l a = from_both n (at_if t at) xs (from_if n t at h) (from_later n k xs l a)
+
+from_two : (n : ℕ) (t : Bool) (at k m : ℕ) (xs ys : List ℕ) → n ≤ at → n ≤ k → n ≤ m → AllFrom k xs → AllFrom m ys → AllFrom n (at_if t at ++ xs ++ ys)
+from_two n t at k m xs ys h l j a b = from_both n (at_if t at ++ xs) ys (from_one n t at k xs h l a) (from_later n m ys j b)
+
+parts_from : (e : d.IxDraft) → AllFrom (p.least_token e) (large_parts e)
+parts_from (d.literal at n) = from_if at (is_large (d.literal at n)) at (omega arith)
+parts_from (d.name at w) = from_if at (is_large (d.name at w)) at (omega arith)
+parts_from (d.negated at a) = from_one (min at (p.least_token a)) (is_large (d.negated at a)) at (p.least_token a) (large_parts a) (omega arith) (omega arith) (parts_from a)
+parts_from (d.sum a b) = from_two (min (p.least_token a) (p.least_token b)) (is_large (d.sum a b)) (first_token a) (p.least_token a) (p.least_token b) (large_parts a) (large_parts b) (omega (arith, first_from a)) (omega arith) (omega arith) (parts_from a) (parts_from b)
+parts_from (d.difference a b) = from_two (min (p.least_token a) (p.least_token b)) (is_large (d.difference a b)) (first_token a) (p.least_token a) (p.least_token b) (large_parts a) (large_parts b) (omega (arith, first_from a)) (omega arith) (omega arith) (parts_from a) (parts_from b)
+parts_from (d.product at a b) = from_two (min (p.least_token a) (p.least_token b)) (is_large (d.product at a b)) (first_token a) (p.least_token a) (p.least_token b) (large_parts a) (large_parts b) (omega (arith, first_from a)) (omega arith) (omega arith) (parts_from a) (parts_from b)
+parts_from (d.grouped at a) = from_one (min at (p.least_token a)) (is_large (d.grouped at a)) at (p.least_token a) (large_parts a) (omega arith) (omega arith) (parts_from a)
+parts_from (d.chosen at f' a b) =
+    let n = min at (min (p.least_token a) (p.least_token b)) in
+    from_both n (large_parts a) (large_parts b) (from_later n (p.least_token a) (large_parts a) (omega arith) (parts_from a)) (from_later n (p.least_token b) (large_parts b) (omega arith) (parts_from b))
+parts_from (d.divided at f' a by_at by) = from_later (min at (p.least_token a)) (p.least_token a) (large_parts a) (omega arith) (parts_from a)
+
+found_before : (n k : ℕ) (ms : List ℕ) → n ≤ k → AllFrom k ms → lesser (Some n) (least ms) ≡ Some n
+found_before n k [] h a = refl
+found_before n k (m ∷ ms) h a =
+    let l : n ≤ m = (let b = a.0 in omega (arith, b)) in
+    lesser_assoc (Some n) (Some m) (least ms)
+    ∙ ap (λ o. lesser o (least ms)) (kept n m l)
+    ∙ found_before n k ms h a.1
+  where
+    kept : (n m : ℕ) → n ≤ m → lesser (Some n) (Some m) ≡ Some n
+    kept n m h = grind (arith, nat_tests)
+
+-- an expression that begins behind a place has no part before it
+pub none_before : (before : Option ℕ) (e : d.IxDraft) → p.is_found_by before (p.least_token e) ≡ true → before ≡ lesser before (least (large_parts e))
+none_before None e h = absurd (false≢true h)
+none_before (Some n) e h = sym (found_before n (p.least_token e) (large_parts e) (within n (p.least_token e) h) (parts_from e))
+  where
+    within : (n m : ℕ) → nat_le n m ≡ true → n ≤ m
+    within n m h = grind (arith, nat_tests)

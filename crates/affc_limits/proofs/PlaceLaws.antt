@@ -95,7 +95,7 @@ least_turn f es i e lt is =
     ∙ ap (λ l. least (flat_map f l)) (sym (map-append ix (take i es) (e ∷ [])))
     ∙ ap (λ l. least (flat_map f (map ix l))) (ap (λ x. take i es ++ x ∷ []) is ∙ sym (take-suc es i e lt) ∙ ap (λ n. take n es) (sym (add-one i)))
 
-first_assoc : (a b c : Option ℕ) → first_of a (first_of b c) ≡ first_of (first_of a b) c
+pub first_assoc : (a b c : Option ℕ) → first_of a (first_of b c) ≡ first_of (first_of a b) c
 first_assoc None b c = refl
 first_assoc (Some a) b c = refl
 

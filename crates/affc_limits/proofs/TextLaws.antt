@@ -1,5 +1,5 @@
 -- What is found in several expressions, one after another.
-use Rattle.std.proofs.Common.{◌≡◌, ℕ, ◌≤◌, List, [], ◌∷◌, ◌++◌, length, map, drop, fold, flat_map, Option, None, refl, sym, ap, ◌∙◌, append_assoc}
+use Rattle.std.proofs.Common.{◌≡◌, ℕ, ◌≤◌, List, [], ◌∷◌, ◌++◌, length, map, drop, fold, flat_map, Option, Some, None, refl, sym, ap, ◌∙◌, append_assoc}
 use Rattle.std.proofs.lemmas.List.{drop_all, append-nil}
 use Rattle.affc_ast.specs.declared.tree.Op.{Op}
 use Rattle.affc_grammar.specs.Draft as d
@@ -16,8 +16,8 @@ use Rattle.affc_draft.proofs.Outs.{stmt-For, stmt-If, stmt-Block}
 use Rattle.affc_draft.specs.Drafts.{stmts_of, stmts_after, stmt, ix, compare, local, value}
 use Rattle.affc_limits.specs.declared.texts.Rule.{Rule}
 use Rattle.affc_limits.specs.declared.texts.Rule.TheVariants.{Products, Literals, Coefficients}
-use Rattle.affc_limits.specs.Texts.{places_in, place_of, pick, found, step}
-use Rattle.affc_limits.proofs.PlaceLaws.{first-both, least-both}
+use Rattle.affc_limits.specs.Texts.{places_in, place_of, pick, found, with_found, step}
+use Rattle.affc_limits.proofs.PlaceLaws.{first-both, least-both, first_assoc, lesser_assoc}
 
 pub found-append : (rule : Rule) (xs ys : List d.IxDraft) → found rule (xs ++ ys) ≡ pick rule (found rule xs) (found rule ys)
 found-append Products xs ys = first-both _ xs ys
@@ -32,25 +32,48 @@ found-nil (Coefficients alloc) = refl
 pub found-one : (rule : Rule) (x : d.IxDraft) → found rule (x ∷ []) ≡ place_of rule (places_in rule x)
 found-one rule x = ap (place_of rule) (append-nil (places_in rule x))
 
-pub found-pair : (rule : Rule) (x y : d.IxDraft) → found rule (x ∷ y ∷ []) ≡ pick rule (found rule (x ∷ [])) (found rule (y ∷ []))
-found-pair rule x y = found-append rule (x ∷ []) (y ∷ [])
+pick_assoc : (rule : Rule) (a b c : Option ℕ) → pick rule a (pick rule b c) ≡ pick rule (pick rule a b) c
+pick_assoc Products a b c = first_assoc a b c
+pick_assoc (Literals limit) a b c = lesser_assoc a b c
+pick_assoc (Coefficients alloc) a b c = lesser_assoc a b c
+
+pick-none : (rule : Rule) (a : Option ℕ) → pick rule a None ≡ a
+pick-none Products None = refl
+pick-none Products (Some n) = refl
+pick-none (Literals limit) None = refl
+pick-none (Literals limit) (Some n) = refl
+pick-none (Coefficients alloc) None = refl
+pick-none (Coefficients alloc) (Some n) = refl
+
+pub with-nil : (rule : Rule) (a : Option ℕ) → with_found rule a [] ≡ a
+with-nil rule a = ap (pick rule a) (found-nil rule) ∙ pick-none rule a
+
+pub with-append : (rule : Rule) (a : Option ℕ) (xs ys : List d.IxDraft) → with_found rule a (xs ++ ys) ≡ with_found rule (with_found rule a xs) ys
+with-append rule a xs ys = ap (pick rule a) (found-append rule xs ys) ∙ pick_assoc rule a (found rule xs) (found rule ys)
+
+pub with-none : (rule : Rule) (xs : List d.IxDraft) → with_found rule None xs ≡ found rule xs
+with-none Products xs = refl
+with-none (Literals limit) xs = refl
+with-none (Coefficients alloc) xs = refl
+
+pub with-one : (rule : Rule) (a : Option ℕ) (x : d.IxDraft) → with_found rule a (x ∷ []) ≡ pick rule a (place_of rule (places_in rule x))
+with-one rule a x = ap (pick rule a) (found-one rule x)
+
+pub with-pair : (rule : Rule) (a : Option ℕ) (x y : d.IxDraft) → with_found rule a (x ∷ y ∷ []) ≡ with_found rule (with_found rule a (x ∷ [])) (y ∷ [])
+with-pair rule a x y = with-append rule a (x ∷ []) (y ∷ [])
 
 -- the expressions of things, one after another
-pub found-all : {B : Type 0} (rule : Rule) (texts : B → List d.IxDraft) (front : List d.IxDraft) (bs : List B) → fold (step rule texts) (found rule front) bs ≡ found rule (front ++ flat_map texts bs)
-found-all rule texts front [] = ap (found rule) (sym (append-nil front))
-found-all rule texts front (b ∷ bs) =
-    ap (λ a. fold (step rule texts) a bs) (sym (found-append rule front (texts b)))
-    ∙ found-all rule texts (front ++ texts b) bs
-    ∙ ap (found rule) (append_assoc front (texts b) (flat_map texts bs))
+pub with-all : {B : Type 0} (rule : Rule) (texts : B → List d.IxDraft) (a : Option ℕ) (bs : List B) → fold (step rule texts) a bs ≡ with_found rule a (flat_map texts bs)
+with-all rule texts a [] = sym (with-nil rule a)
+with-all rule texts a (b ∷ bs) = with-all rule texts (with_found rule a (texts b)) bs ∙ sym (with-append rule a (texts b) (flat_map texts bs))
 
 -- behind the code's loop
-pub gathered : {B C : Type 0} (rule : Rule) (texts : B → List d.IxDraft) (seen : C → B) (xs : List C) (i : ℕ) (at : Option ℕ) → length xs ≤ i
-    → fold (step rule texts) at (map seen (drop i xs)) ≡ fold (step rule texts) None (map seen xs) → at ≡ found rule (flat_map texts (map seen xs))
-gathered rule texts seen xs i at le kept =
+pub gathered : {B C : Type 0} (rule : Rule) (texts : B → List d.IxDraft) (seen : C → B) (xs : List C) (i : ℕ) (start at : Option ℕ) → length xs ≤ i
+    → fold (step rule texts) at (map seen (drop i xs)) ≡ fold (step rule texts) start (map seen xs) → at ≡ with_found rule start (flat_map texts (map seen xs))
+gathered rule texts seen xs i start at le kept =
     ap (λ l. fold (step rule texts) at (map seen l)) (sym (drop_all i xs le))
     ∙ kept
-    ∙ ap (λ a. fold (step rule texts) a (map seen xs)) (sym (found-nil rule))
-    ∙ found-all rule texts [] (map seen xs)
+    ∙ with-all rule texts start (map seen xs)
 
 -- each thing holds one expression
 pub singles : {B : Type 0} (text : B → d.IxDraft) (bs : List B) → flat_map (λ b. text b ∷ []) bs ≡ map text bs
@@ -70,40 +93,47 @@ texts_of xs = texts_after d.no_stmts xs
 
 -- ---- Statements
 
-pub of_for : (rule : Rule) (x : code.StmtDraft) (h : HeadDraft) (body : List code.StmtDraft) → x ≡ s.For h body
-    → pick rule (found rule (ix h.low ∷ ix h.high ∷ [])) (found rule (flat_map stmt_texts (map stmt body))) ≡ found rule (stmt_texts (stmt x))
-of_for rule x h body is =
-    sym (found-append rule (ix h.low ∷ ix h.high ∷ []) (flat_map stmt_texts (map stmt body)))
-    ∙ ap (λ l. found rule (ix h.low ∷ ix h.high ∷ l)) (sym (texts_of (map stmt body)))
-    ∙ ap (λ y. found rule (stmt_texts y)) (sym (stmt-For h body))
-    ∙ ap (λ y. found rule (stmt_texts (stmt y))) (sym is)
+pub of_for : (rule : Rule) (a : Option ℕ) (x : code.StmtDraft) (h : HeadDraft) (body : List code.StmtDraft) → x ≡ s.For h body
+    → with_found rule (with_found rule a (ix h.low ∷ ix h.high ∷ [])) (flat_map stmt_texts (map stmt body)) ≡ with_found rule a (stmt_texts (stmt x))
+of_for rule a x h body is =
+    sym (with-append rule a (ix h.low ∷ ix h.high ∷ []) (flat_map stmt_texts (map stmt body)))
+    ∙ ap (λ l. with_found rule a (ix h.low ∷ ix h.high ∷ l)) (sym (texts_of (map stmt body)))
+    ∙ ap (λ y. with_found rule a (stmt_texts y)) (sym (stmt-For h body))
+    ∙ ap (λ y. with_found rule a (stmt_texts (stmt y))) (sym is)
 
-pub of_if : (rule : Rule) (x : code.StmtDraft) (at : ℕ) (conds : List CompareDraft) (body : List code.StmtDraft) → x ≡ s.If at conds body
-    → pick rule (found rule (flat_map sides (map compare conds))) (found rule (flat_map stmt_texts (map stmt body))) ≡ found rule (stmt_texts (stmt x))
-of_if rule x at conds body is =
-    sym (found-append rule (flat_map sides (map compare conds)) (flat_map stmt_texts (map stmt body)))
-    ∙ ap (λ l. found rule (flat_map sides (map compare conds) ++ l)) (sym (texts_of (map stmt body)))
-    ∙ ap (λ y. found rule (stmt_texts y)) (sym (stmt-If at conds body))
-    ∙ ap (λ y. found rule (stmt_texts (stmt y))) (sym is)
+pub of_if : (rule : Rule) (a : Option ℕ) (x : code.StmtDraft) (at : ℕ) (conds : List CompareDraft) (body : List code.StmtDraft) → x ≡ s.If at conds body
+    → with_found rule (with_found rule a (flat_map sides (map compare conds))) (flat_map stmt_texts (map stmt body)) ≡ with_found rule a (stmt_texts (stmt x))
+of_if rule a x at conds body is =
+    sym (with-append rule a (flat_map sides (map compare conds)) (flat_map stmt_texts (map stmt body)))
+    ∙ ap (λ l. with_found rule a (flat_map sides (map compare conds) ++ l)) (sym (texts_of (map stmt body)))
+    ∙ ap (λ y. with_found rule a (stmt_texts y)) (sym (stmt-If at conds body))
+    ∙ ap (λ y. with_found rule a (stmt_texts (stmt y))) (sym is)
 
-pub of_block : (rule : Rule) (x : code.StmtDraft) (locals : List LocalDraft) (body : List code.StmtDraft) → x ≡ s.Block locals body
-    → pick rule (found rule (map (λ l. l.value) (map local locals))) (found rule (flat_map stmt_texts (map stmt body))) ≡ found rule (stmt_texts (stmt x))
-of_block rule x locals body is =
-    sym (found-append rule (map (λ l. l.value) (map local locals)) (flat_map stmt_texts (map stmt body)))
-    ∙ ap (λ l. found rule (map (λ l. l.value) (map local locals) ++ l)) (sym (texts_of (map stmt body)))
-    ∙ ap (λ y. found rule (stmt_texts y)) (sym (stmt-Block locals body))
-    ∙ ap (λ y. found rule (stmt_texts (stmt y))) (sym is)
+pub of_block : (rule : Rule) (a : Option ℕ) (x : code.StmtDraft) (locals : List LocalDraft) (body : List code.StmtDraft) → x ≡ s.Block locals body
+    → with_found rule (with_found rule a (map (λ l. l.value) (map local locals))) (flat_map stmt_texts (map stmt body)) ≡ with_found rule a (stmt_texts (stmt x))
+of_block rule a x locals body is =
+    sym (with-append rule a (map (λ l. l.value) (map local locals)) (flat_map stmt_texts (map stmt body)))
+    ∙ ap (λ l. with_found rule a (map (λ l. l.value) (map local locals) ++ l)) (sym (texts_of (map stmt body)))
+    ∙ ap (λ y. with_found rule a (stmt_texts y)) (sym (stmt-Block locals body))
+    ∙ ap (λ y. with_found rule a (stmt_texts (stmt y))) (sym is)
 
-pub of_assign : (rule : Rule) (x : code.StmtDraft) (w : WordDraft) (subs : List IxDraft) (op : Option Op) (v : ValueDraft) → x ≡ s.Assign w subs op v
-    → pick rule (found rule (map ix subs)) (found rule (value_texts (value v))) ≡ found rule (stmt_texts (stmt x))
-of_assign rule x w subs op v is =
-    sym (found-append rule (map ix subs) (value_texts (value v)))
-    ∙ ap (λ y. found rule (stmt_texts (stmt y))) (sym is)
+pub of_assign : (rule : Rule) (a : Option ℕ) (x : code.StmtDraft) (w : WordDraft) (subs : List IxDraft) (op : Option Op) (v : ValueDraft) → x ≡ s.Assign w subs op v
+    → with_found rule (with_found rule a (map ix subs)) (value_texts (value v)) ≡ with_found rule a (stmt_texts (stmt x))
+of_assign rule a x w subs op v is =
+    sym (with-append rule a (map ix subs) (value_texts (value v)))
+    ∙ ap (λ y. with_found rule a (stmt_texts (stmt y))) (sym is)
 
-pub ruleset one_laws = (found-one)
+-- the four parts of a text
+pub whole_text : (rule : Rule) (lines params temps body : List d.IxDraft) → with_found rule (with_found rule (with_found rule (with_found rule None lines) params) temps) body ≡ found rule (lines ++ params ++ temps ++ body)
+whole_text rule lines params temps body =
+    sym (
+    sym (with-none rule (lines ++ params ++ temps ++ body))
+    ∙ with-append rule None (lines ++ params ++ temps) body
+    ∙ ap (λ o. with_found rule o body) (with-append rule None (lines ++ params) temps ∙ ap (λ o. with_found rule o temps) (with-append rule None lines params))
+    )
 
-pub ruleset pair_laws = (found-pair)
+pub ruleset one_laws = (with-one)
 
-pub ruleset value_laws = (found-nil, found-append)
+pub ruleset pair_laws = (with-pair)
 
-pub ruleset text_laws = (found-append)
+pub ruleset value_laws = (with-nil, with-append)

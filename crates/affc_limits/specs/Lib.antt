@@ -3,6 +3,8 @@ pub mod Places
 pub mod Bodies
 pub mod Digits
 pub mod Texts
+pub mod Terms
+pub mod Coefficients
 pub mod Parts
 pub mod Rests
 pub mod Assignments

@@ -26,9 +26,13 @@ pick (Coefficients alloc) a b = lesser a b
 abbrev pub found : Rule → List d.IxDraft → Option ℕ
 found rule es = place_of rule (flat_map (places_in rule) es)
 
+-- what is found in expressions, with what was found before
+abbrev pub with_found : Rule → (before : Option ℕ) → List d.IxDraft → Option ℕ
+with_found rule before es = pick rule before (found rule es)
+
 -- what is found with the expressions of one thing more
 abbrev pub step : {B : Type 0} → Rule → (B → List d.IxDraft) → Option ℕ → B → Option ℕ
-step rule texts a b = pick rule a (found rule (texts b))
+step rule texts a b = with_found rule a (texts b)
 
 -- whether the answer takes no memory
 abbrev pub takes_none : Rule → Bool

@@ -3,12 +3,14 @@
 
 mod assignments;
 mod bodies;
+mod coefficients;
 mod forms;
 pub mod limits;
 mod lines;
 mod parts;
 mod rests;
 pub mod shape;
+mod terms;
 #[cfg(test)]
 mod tests;
 pub mod texts;

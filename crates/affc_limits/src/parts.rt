@@ -1,15 +1,19 @@
 //! Parts of whole-number expressions whose constant or a coefficient is large.
 
-ghost use Rattle.std.specs.Prelude.{◌≡◌, [], ◌∷◌, flat_map, IfOk};
-ghost use Rattle.affc_grammar.specs.Limits.{large_parts, names_in};
+ghost use Rattle.std.specs.Prelude.{◌≡◌, ℕ, pos, IfOk};
+ghost use Rattle.affc_grammar.specs.Draft as grammar;
+ghost use Rattle.affc_grammar.specs.Grammar.{Name};
+ghost use Rattle.affc_grammar.specs.Limits.{coefficient_of, constant_of, is_large, large_parts};
 ghost use Rattle.affc_draft.specs.Drafts.{ix};
+ghost use Rattle.affc_limits.specs.Coefficients.{number_of};
 ghost use Rattle.affc_limits.specs.Parts as spec;
-ghost use Rattle.affc_limits.specs.Places.{least};
+ghost use Rattle.affc_limits.specs.Parts.{HasForm, IsForm};
+ghost use Rattle.affc_limits.specs.Places.{least, lesser, place_if};
 
 use crate::forms::{lesser, place_if};
+use crate::terms::Coefficients;
 use crate::whole::Whole;
 use affc_draft::draft::IxDraft;
-use affc_draft::symbol::is;
 use std::alloc::{AllocError, Global};
 
 /// The size, where it is small.
@@ -80,120 +84,128 @@ fn size(e: &IxDraft) -> Option<u64>
     }
 }
 
-/// The first token of an expression, its constant and its coefficient of a name, and the least first token of a part
-/// at which either is large.
+/// An expression: its first token, its constant, its coefficients, and the least first token of a part that is large.
 #[derive(Drop)]
 struct Form {
     first: usize,
     constant: Whole,
-    coefficient: Whole,
+    coefficients: Coefficients,
     past: Option<usize>,
 }
 
-/// A part, given what was found inside it.
-fn form_of(first: usize, constant: Whole, coefficient: Whole, inside: Option<usize>) -> Form
-    ensures { result ≡ spec.form_of first constant coefficient inside }
+/// Whether the constant or a coefficient is large.
+fn is_past(constant: &Whole, coefficients: &Coefficients) -> bool
+    ensures { (e : grammar.IxDraft) → constant.now ≡ constant_of e → ((w : Name) → number_of coefficients.now w ≡ coefficient_of w e) → result ≡ is_large e }
 {
-    let is_large = constant.is_above(16777216) || coefficient.is_above(65536);
+    constant.is_above(16777216) || coefficients.has_large()
+}
+
+/// A part, given what was found inside it.
+fn form_of(first: usize, constant: Whole, coefficients: Coefficients, inside: Option<usize>) -> Form
+    ensures { (e : grammar.IxDraft) → HasForm e first constant (number_of coefficients) → lesser (place_if (is_large e) first) inside ≡ least (large_parts e) → IsForm e result }
+{
+    let past = lesser(place_if(is_past(&constant, &coefficients), first), inside);
     Form {
         first,
         constant,
-        coefficient,
-        past: lesser(place_if(is_large, first), inside),
+        coefficients,
+        past,
     }
 }
 
 /// A part that is taken to be no form, such as a choice.
 fn opaque(alloc: Global, first: usize, inside: Option<usize>) -> Form
-    ensures { result ≡ spec.opaque first inside }
+    ensures first { result.first ≡ first }
+    ensures constant { result.constant ≡ pos 0 }
+    ensures coefficients { (w : Name) → number_of result.coefficients w ≡ pos 0 }
+    ensures past { result.past ≡ inside }
 {
     Form {
         first,
         constant: Whole::zero(alloc),
-        coefficient: Whole::zero(alloc),
+        coefficients: Coefficients::none(alloc),
         past: inside,
     }
 }
 
 fn literal(alloc: Global, at: usize, value: u64) -> Result<Form, AllocError>
-    ensures { IfOk result (λ p. p ≡ spec.literal at value) }
+    ensures { IfOk result (IsForm (grammar.literal at value)) }
 {
     let constant = Whole::from_u64(alloc, value)?;
-    Ok(form_of(at, constant, Whole::zero(alloc), None))
+    Ok(form_of(at, constant, Coefficients::none(alloc), None))
 }
 
-fn name(alloc: Global, at: usize, is_it: bool) -> Result<Form, AllocError>
-    ensures { IfOk result (λ p. p ≡ spec.name at is_it) }
+fn name(alloc: Global, at: usize, name: &str) -> Result<Form, AllocError>
+    ensures { IfOk result (IsForm (grammar.name at name.now)) }
 {
-    let coefficient = Whole::from_u64(alloc, if is_it { 1 } else { 0 })?;
-    Ok(form_of(at, Whole::zero(alloc), coefficient, None))
+    let coefficients = Coefficients::one(alloc, name)?;
+    Ok(form_of(at, Whole::zero(alloc), coefficients, None))
 }
 
 fn negated(alloc: Global, at: usize, a: Form) -> Result<Form, AllocError>
-    ensures { IfOk result (λ p. p ≡ spec.negated at a) }
+    ensures { IfOk result (λ f. (x : grammar.IxDraft) → IsForm x a → IsForm (grammar.negated at x) f) }
 {
     let constant = a.constant.negated(alloc)?;
-    let coefficient = a.coefficient.negated(alloc)?;
-    Ok(form_of(at, constant, coefficient, a.past))
+    let coefficients = a.coefficients.negated(alloc)?;
+    Ok(form_of(at, constant, coefficients, a.past))
 }
 
 fn sum(alloc: Global, a: Form, b: Form) -> Result<Form, AllocError>
-    ensures { IfOk result (λ p. p ≡ spec.sum a b) }
+    ensures { IfOk result (λ f. (x y : grammar.IxDraft) → IsForm x a → IsForm y b → IsForm (grammar.sum x y) f) }
 {
     let constant = a.constant.plus(alloc, &b.constant)?;
-    let coefficient = a.coefficient.plus(alloc, &b.coefficient)?;
-    Ok(form_of(a.first, constant, coefficient, lesser(a.past, b.past)))
+    let coefficients = a.coefficients.plus(alloc, b.coefficients)?;
+    Ok(form_of(a.first, constant, coefficients, lesser(a.past, b.past)))
 }
 
 fn difference(alloc: Global, a: Form, b: Form) -> Result<Form, AllocError>
-    ensures { IfOk result (λ p. p ≡ spec.difference a b) }
+    ensures { IfOk result (λ f. (x y : grammar.IxDraft) → IsForm x a → IsForm y b → IsForm (grammar.difference x y) f) }
 {
     let constant = a.constant.minus(alloc, &b.constant)?;
-    let coefficient = a.coefficient.minus(alloc, &b.coefficient)?;
-    Ok(form_of(a.first, constant, coefficient, lesser(a.past, b.past)))
+    let coefficients = a.coefficients.plus(alloc, b.coefficients.negated(alloc)?)?;
+    Ok(form_of(a.first, constant, coefficients, lesser(a.past, b.past)))
 }
 
 fn product(alloc: Global, a: Form, b: Form) -> Result<Form, AllocError>
-    ensures { IfOk result (λ p. p ≡ spec.product a b) }
+    ensures { IfOk result (λ f. (at : ℕ) (x y : grammar.IxDraft) → IsForm x a → IsForm y b → IsForm (grammar.product at x y) f) }
 {
     let constant = a.constant.times(alloc, &b.constant)?;
-    let left = a.coefficient.times(alloc, &b.constant)?;
-    let right = a.constant.times(alloc, &b.coefficient)?;
-    let coefficient = left.plus(alloc, &right)?;
-    Ok(form_of(a.first, constant, coefficient, lesser(a.past, b.past)))
+    let left = a.coefficients.times(alloc, &b.constant)?;
+    let right = b.coefficients.times(alloc, &a.constant)?;
+    let coefficients = left.plus(alloc, right)?;
+    Ok(form_of(a.first, constant, coefficients, lesser(a.past, b.past)))
 }
 
-/// An expression, by its constant and its coefficient of this name.
-#[tactic(auto, using(affc_draft::proofs::Outs::ix_outs, crate::proofs::PartLaws::form_laws))]
-fn form_by(alloc: Global, of: &[u8], e: &IxDraft) -> Result<Form, AllocError>
-    ensures { IfOk result (λ p. p ≡ spec.form of.now (ix e.now)) }
+/// An expression and each of its parts, once.
+#[tactic(auto, using(affc_draft::proofs::Outs::ix_outs))]
+fn formed(alloc: Global, e: &IxDraft) -> Result<Form, AllocError>
+    ensures { IfOk result (IsForm (ix e.now)) }
 {
     match e {
         IxDraft::Literal { at, value } => literal(alloc, *at, *value),
-        IxDraft::Name { at, name: own } => name(alloc, *at, is(own.as_str(), of)),
-        IxDraft::Negated { at, of: inside } => {
-            let a = form_by(alloc, of, inside.get())?;
+        IxDraft::Name { at, name: own } => name(alloc, *at, own.as_str()),
+        IxDraft::Negated { at, of } => {
+            let a = formed(alloc, of.get())?;
             negated(alloc, *at, a)
         }
         IxDraft::Sum(left, right) => {
-            let a = form_by(alloc, of, left.get())?;
-            let b = form_by(alloc, of, right.get())?;
+            let a = formed(alloc, left.get())?;
+            let b = formed(alloc, right.get())?;
             sum(alloc, a, b)
         }
         IxDraft::Difference(left, right) => {
-            let a = form_by(alloc, of, left.get())?;
-            let b = form_by(alloc, of, right.get())?;
+            let a = formed(alloc, left.get())?;
+            let b = formed(alloc, right.get())?;
             difference(alloc, a, b)
         }
         IxDraft::Product { left, right, .. } => {
-            let a = form_by(alloc, of, left.get())?;
-            let b = form_by(alloc, of, right.get())?;
-            let form = product(alloc, a, b)?;
-            Ok(form)
+            let a = formed(alloc, left.get())?;
+            let b = formed(alloc, right.get())?;
+            product(alloc, a, b)
         }
         IxDraft::Grouped { at, inside } => {
-            let a = form_by(alloc, of, inside.get())?;
-            Ok(form_of(*at, a.constant, a.coefficient, a.past))
+            let a = formed(alloc, inside.get())?;
+            Ok(form_of(*at, a.constant, a.coefficients, a.past))
         }
         IxDraft::Chosen {
             at,
@@ -201,70 +213,67 @@ fn form_by(alloc: Global, of: &[u8], e: &IxDraft) -> Result<Form, AllocError>
             right,
             ..
         } => {
-            let a = form_by(alloc, of, left.get())?;
-            let b = form_by(alloc, of, right.get())?;
+            let a = formed(alloc, left.get())?;
+            let b = formed(alloc, right.get())?;
             Ok(opaque(alloc, *at, lesser(a.past, b.past)))
         }
-        IxDraft::Divided { at, of: inside, .. } => {
-            let a = form_by(alloc, of, inside.get())?;
+        IxDraft::Divided { at, of, .. } => {
+            let a = formed(alloc, of.get())?;
             Ok(opaque(alloc, *at, a.past))
         }
     }
 }
 
-/// The least first token of a part of the whole that is large by its constant or by its coefficient of a name in `e`.
-#[tactic(auto, using(affc_draft::proofs::Outs::ix_outs, crate::proofs::PartLaws::named_laws))]
-fn large_by_name(alloc: Global, whole: &IxDraft, e: &IxDraft) -> Result<Option<usize>, AllocError>
-    ensures { IfOk result (λ p. p ≡ spec.past_by_names (ix whole.now) (names_in (ix e.now))) }
+/// The least number of a token with which a part begins.
+#[tactic(auto, using(affc_draft::proofs::Outs::ix_outs))]
+fn least_token(e: &IxDraft) -> usize
+    ensures { result ≡ spec.least_token (ix e.now) }
 {
     match e {
-        IxDraft::Literal { .. } => Ok(None),
-        IxDraft::Name { name: own, .. } => {
-            let found = form_by(alloc, own.as_str().as_bytes(), whole)?;
-            Ok(found.past)
+        IxDraft::Literal { at, .. } => *at,
+        IxDraft::Name { at, .. } => *at,
+        IxDraft::Negated { at, of } => (*at).min(least_token(of.get())),
+        IxDraft::Sum(a, b) => least_token(a.get()).min(least_token(b.get())),
+        IxDraft::Difference(a, b) => least_token(a.get()).min(least_token(b.get())),
+        IxDraft::Product { left, right, .. } => {
+            least_token(left.get()).min(least_token(right.get()))
         }
-        IxDraft::Negated { of, .. } => large_by_name(alloc, whole, of.get()),
-        IxDraft::Sum(a, b) => {
-            let left = large_by_name(alloc, whole, a.get())?;
-            let right = large_by_name(alloc, whole, b.get())?;
-            Ok(lesser(left, right))
-        }
-        IxDraft::Difference(a, b) => {
-            let left = large_by_name(alloc, whole, a.get())?;
-            let right = large_by_name(alloc, whole, b.get())?;
-            Ok(lesser(left, right))
-        }
-        IxDraft::Product {
-            left: a,
-            right: b,
-            ..
-        } => {
-            let left = large_by_name(alloc, whole, a.get())?;
-            let right = large_by_name(alloc, whole, b.get())?;
-            Ok(lesser(left, right))
-        }
-        IxDraft::Grouped { inside, .. } => large_by_name(alloc, whole, inside.get()),
+        IxDraft::Grouped { at, inside } => (*at).min(least_token(inside.get())),
         IxDraft::Chosen {
-            left: a,
-            right: b,
+            at,
+            left,
+            right,
             ..
-        } => {
-            let left = large_by_name(alloc, whole, a.get())?;
-            let right = large_by_name(alloc, whole, b.get())?;
-            Ok(lesser(left, right))
-        }
-        IxDraft::Divided { of, .. } => large_by_name(alloc, whole, of.get()),
+        } => (*at).min(least_token(left.get()).min(least_token(right.get()))),
+        IxDraft::Divided { at, of, .. } => (*at).min(least_token(of.get())),
     }
 }
 
-/// The least first token of a part whose constant or a coefficient is large.
-pub(crate) fn large_part(alloc: Global, e: &IxDraft) -> Result<Option<usize>, AllocError>
-    ensures { IfOk result (λ p. p ≡ least (large_parts (ix e.now))) }
+/// Whether a place was found that is no later than this one.
+fn is_found_by(before: Option<usize>, at: usize) -> bool
+    ensures { result ≡ spec.is_found_by before at }
+{
+    match before {
+        None => false,
+        Some(found) => found <= at,
+    }
+}
+
+/// The least first token of a part whose constant or a coefficient is large, and of a place that was found before. An
+/// expression that begins behind that place is not looked at.
+pub(crate) fn large_part(
+    alloc: Global,
+    before: Option<usize>,
+    e: &IxDraft,
+) -> Result<Option<usize>, AllocError>
+    ensures { IfOk result (λ p. p ≡ lesser before (least (large_parts (ix e.now)))) }
 {
     if size(e).is_some() {
-        return Ok(None);
+        return Ok(before);
     }
-    let by_constant = form_by(alloc, b"", e)?;
-    let by_name = large_by_name(alloc, e, e)?;
-    Ok(lesser(by_constant.past, by_name))
+    if is_found_by(before, least_token(e)) {
+        return Ok(before);
+    }
+    let whole = formed(alloc, e)?;
+    Ok(lesser(before, whole.past))
 }

@@ -34,7 +34,7 @@ fn cancelled(alloc: Global) -> Result<IxDraft, AllocError> {
 fn only_the_huge_part_is_large(rt: HostRuntime) -> Result<(), Fail> {
     let alloc = rt.alloc();
     let expression = cancelled(alloc)?;
-    assert_eq!(rt; large_part(alloc, &expression)?, Some(3));
+    assert_eq!(rt; large_part(alloc, None, &expression)?, Some(3));
     Ok(())
 }
 

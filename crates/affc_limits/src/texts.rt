@@ -26,202 +26,230 @@ pub(crate) enum Rule {
     Coefficients(Global),
 }
 
-fn pick(rule: Rule, a: Option<usize>, b: Option<usize>) -> Option<usize>
-    ensures { result ≡ spec.pick rule a b }
-{
-    match rule {
-        Rule::Products => first_of(a, b),
-        Rule::Literals(_) => lesser(a, b),
-        Rule::Coefficients(_) => lesser(a, b),
-    }
-}
-
 #[tactic(auto, using(crate::proofs::TextLaws::one_laws))]
-fn in_one(rule: Rule, e: &IxDraft) -> Result<Option<usize>, AllocError>
-    ensures found { IfOk result (λ p. p ≡ spec.found rule (ix e.now ∷ [])) }
+fn in_one(rule: Rule, before: Option<usize>, e: &IxDraft) -> Result<Option<usize>, AllocError>
+    ensures found { IfOk result (λ p. p ≡ spec.with_found rule before (ix e.now ∷ [])) }
     ensures sure { IsTrue (takes_none rule) → IsOk result }
 {
     match rule {
-        Rule::Products => Ok(first_product_in(e)),
-        Rule::Literals(limit) => Ok(literal_past(limit, e)),
-        Rule::Coefficients(alloc) => large_part(alloc, e),
+        Rule::Products => Ok(first_of(before, first_product_in(e))),
+        Rule::Literals(limit) => Ok(lesser(before, literal_past(limit, e))),
+        Rule::Coefficients(alloc) => large_part(alloc, before, e),
     }
 }
 
 #[tactic(auto, using(crate::proofs::TextLaws::pair_laws))]
-fn in_pair(rule: Rule, a: &IxDraft, b: &IxDraft) -> Result<Option<usize>, AllocError>
-    ensures found { IfOk result (λ p. p ≡ spec.found rule (ix a.now ∷ ix b.now ∷ [])) }
+fn in_pair(
+    rule: Rule,
+    before: Option<usize>,
+    a: &IxDraft,
+    b: &IxDraft,
+) -> Result<Option<usize>, AllocError>
+    ensures found { IfOk result (λ p. p ≡ spec.with_found rule before (ix a.now ∷ ix b.now ∷ [])) }
     ensures sure { IsTrue (takes_none rule) → IsOk result }
 {
-    let left = in_one(rule, a)?;
-    let right = in_one(rule, b)?;
-    Ok(pick(rule, left, right))
+    let left = in_one(rule, before, a)?;
+    in_one(rule, left, b)
 }
 
-fn in_each(rule: Rule, items: &[IxDraft]) -> Result<Option<usize>, AllocError>
-    ensures found { IfOk result (λ p. p ≡ spec.found rule (map ix items.now)) }
+fn in_each(
+    rule: Rule,
+    before: Option<usize>,
+    items: &[IxDraft],
+) -> Result<Option<usize>, AllocError>
+    ensures found { IfOk result (λ p. p ≡ spec.with_found rule before (map ix items.now)) }
     ensures sure { IsTrue (takes_none rule) → IsOk result }
 {
-    let mut found = None;
+    let mut found = before;
     for item in items {
-        found = pick(rule, found, in_one(rule, item)?);
+        found = in_one(rule, found, item)?;
     }
     Ok(found)
 }
 
 #[tactic(auto, using(affc_draft::proofs::Outs::value_outs, crate::proofs::TextLaws::value_laws))]
-fn in_value(rule: Rule, v: &ValueDraft) -> Result<Option<usize>, AllocError>
-    ensures found { IfOk result (λ p. p ≡ spec.found rule (value_texts (value v.now))) }
+fn in_value(rule: Rule, before: Option<usize>, v: &ValueDraft) -> Result<Option<usize>, AllocError>
+    ensures found { IfOk result (λ p. p ≡ spec.with_found rule before (value_texts (value v.now))) }
     ensures sure { IsTrue (takes_none rule) → IsOk result }
 {
     match v {
-        ValueDraft::Load { subs, .. } => in_each(rule, subs.as_slice()),
-        ValueDraft::Constant(_) => Ok(None),
-        ValueDraft::Cast(a) => in_one(rule, a),
-        ValueDraft::Complement(of) => in_value(rule, of.get()),
+        ValueDraft::Load { subs, .. } => in_each(rule, before, subs.as_slice()),
+        ValueDraft::Constant(_) => Ok(before),
+        ValueDraft::Cast(a) => in_one(rule, before, a),
+        ValueDraft::Complement(of) => in_value(rule, before, of.get()),
         ValueDraft::Binary { left, right, .. } => {
-            let before = in_value(rule, left.get())?;
-            let behind = in_value(rule, right.get())?;
-            Ok(pick(rule, before, behind))
+            let first = in_value(rule, before, left.get())?;
+            in_value(rule, first, right.get())
         }
-        ValueDraft::Shift { of, .. } => in_value(rule, of.get()),
+        ValueDraft::Shift { of, .. } => in_value(rule, before, of.get()),
     }
 }
 
-fn in_conds(rule: Rule, items: &[CompareDraft]) -> Result<Option<usize>, AllocError>
-    ensures found { IfOk result (λ p. p ≡ spec.found rule (flat_map sides (map compare items.now))) }
+fn in_conds(
+    rule: Rule,
+    before: Option<usize>,
+    items: &[CompareDraft],
+) -> Result<Option<usize>, AllocError>
+    ensures found { IfOk result (λ p. p ≡ spec.with_found rule before (flat_map sides (map compare items.now))) }
     ensures sure { IsTrue (takes_none rule) → IsOk result }
 {
-    let mut found = None;
+    let mut found = before;
     for item in items {
-        found = pick(rule, found, in_pair(rule, &item.left, &item.right)?);
+        found = in_pair(rule, found, &item.left, &item.right)?;
     }
     Ok(found)
 }
 
-fn in_locals(rule: Rule, items: &[LocalDraft]) -> Result<Option<usize>, AllocError>
-    ensures found { IfOk result (λ p. p ≡ spec.found rule (map (λ l. l.value) (map local items.now))) }
+fn in_locals(
+    rule: Rule,
+    before: Option<usize>,
+    items: &[LocalDraft],
+) -> Result<Option<usize>, AllocError>
+    ensures found { IfOk result (λ p. p ≡ spec.with_found rule before (map (λ l. l.value) (map local items.now))) }
     ensures sure { IsTrue (takes_none rule) → IsOk result }
 {
-    let mut found = None;
+    let mut found = before;
     for item in items {
-        found = pick(rule, found, in_one(rule, &item.value)?);
+        found = in_one(rule, found, &item.value)?;
     }
     Ok(found)
 }
 
-fn in_stmt(rule: Rule, s: &StmtDraft) -> Result<Option<usize>, AllocError>
-    ensures found { IfOk result (λ p. p ≡ spec.found rule (stmt_texts (stmt s.now))) }
+fn in_stmt(rule: Rule, before: Option<usize>, s: &StmtDraft) -> Result<Option<usize>, AllocError>
+    ensures found { IfOk result (λ p. p ≡ spec.with_found rule before (stmt_texts (stmt s.now))) }
     ensures sure { IsTrue (takes_none rule) → IsOk result }
 {
     match s {
         StmtDraft::For { head, body } => {
-            let bounds = in_pair(rule, &head.low, &head.high)?;
-            let mut inside = None;
+            let bounds = in_pair(rule, before, &head.low, &head.high)?;
+            let mut inside = bounds;
             for first in body.as_slice() {
-                inside = pick(rule, inside, in_stmt(rule, first)?);
+                inside = in_stmt(rule, inside, first)?;
             }
-            Ok(pick(rule, bounds, inside))
+            Ok(inside)
         }
         StmtDraft::If { conds, body, .. } => {
-            let tests = in_conds(rule, conds.as_slice())?;
-            let mut inside = None;
+            let tests = in_conds(rule, before, conds.as_slice())?;
+            let mut inside = tests;
             for second in body.as_slice() {
-                inside = pick(rule, inside, in_stmt(rule, second)?);
+                inside = in_stmt(rule, inside, second)?;
             }
-            Ok(pick(rule, tests, inside))
+            Ok(inside)
         }
         StmtDraft::Assign { subs, value, .. } => {
-            let stored = in_each(rule, subs.as_slice())?;
-            let loaded = in_value(rule, value)?;
-            Ok(pick(rule, stored, loaded))
+            let stored = in_each(rule, before, subs.as_slice())?;
+            let loaded = in_value(rule, stored, value)?;
+            Ok(loaded)
         }
         StmtDraft::Block { locals, body } => {
-            let values = in_locals(rule, locals.as_slice())?;
-            let mut inside = None;
+            let values = in_locals(rule, before, locals.as_slice())?;
+            let mut inside = values;
             for third in body.as_slice() {
-                inside = pick(rule, inside, in_stmt(rule, third)?);
+                inside = in_stmt(rule, inside, third)?;
             }
-            Ok(pick(rule, values, inside))
+            Ok(inside)
         }
     }
 }
 
-fn in_stmts(rule: Rule, items: &[StmtDraft]) -> Result<Option<usize>, AllocError>
-    ensures found { IfOk result (λ p. p ≡ spec.found rule (stmts_texts (stmts_of (map stmt items.now)))) }
+fn in_stmts(
+    rule: Rule,
+    before: Option<usize>,
+    items: &[StmtDraft],
+) -> Result<Option<usize>, AllocError>
+    ensures found { IfOk result (λ p. p ≡ spec.with_found rule before (stmts_texts (stmts_of (map stmt items.now)))) }
     ensures sure { IsTrue (takes_none rule) → IsOk result }
 {
-    let mut found = None;
+    let mut found = before;
     for item in items {
-        found = pick(rule, found, in_stmt(rule, item)?);
+        found = in_stmt(rule, found, item)?;
     }
     Ok(found)
 }
 
-fn in_pragma(rule: Rule, line: &PragmaDraft) -> Result<Option<usize>, AllocError>
-    ensures found { IfOk result (λ p. p ≡ spec.found rule (pragma_texts (pragma line.now))) }
+fn in_pragma(
+    rule: Rule,
+    before: Option<usize>,
+    line: &PragmaDraft,
+) -> Result<Option<usize>, AllocError>
+    ensures found { IfOk result (λ p. p ≡ spec.with_found rule before (pragma_texts (pragma line.now))) }
     ensures sure { IsTrue (takes_none rule) → IsOk result }
 {
     match line {
-        PragmaDraft::Range { .. } => Ok(None),
-        PragmaDraft::Context { conds, .. } => in_conds(rule, conds.as_slice()),
+        PragmaDraft::Range { .. } => Ok(before),
+        PragmaDraft::Context { conds, .. } => in_conds(rule, before, conds.as_slice()),
     }
 }
 
-fn in_param(rule: Rule, one: &ParamDraft) -> Result<Option<usize>, AllocError>
-    ensures found { IfOk result (λ p. p ≡ spec.found rule (param_texts (param one.now))) }
+fn in_param(
+    rule: Rule,
+    before: Option<usize>,
+    one: &ParamDraft,
+) -> Result<Option<usize>, AllocError>
+    ensures found { IfOk result (λ p. p ≡ spec.with_found rule before (param_texts (param one.now))) }
     ensures sure { IsTrue (takes_none rule) → IsOk result }
 {
     match one {
-        ParamDraft::Number(_) => Ok(None),
-        ParamDraft::Array(array) => in_each(rule, array.extents.as_slice()),
+        ParamDraft::Number(_) => Ok(before),
+        ParamDraft::Array(array) => in_each(rule, before, array.extents.as_slice()),
     }
 }
 
-fn in_pragmas(rule: Rule, items: &[PragmaDraft]) -> Result<Option<usize>, AllocError>
-    ensures found { IfOk result (λ p. p ≡ spec.found rule (flat_map pragma_texts (map pragma items.now))) }
+fn in_pragmas(
+    rule: Rule,
+    before: Option<usize>,
+    items: &[PragmaDraft],
+) -> Result<Option<usize>, AllocError>
+    ensures found { IfOk result (λ p. p ≡ spec.with_found rule before (flat_map pragma_texts (map pragma items.now))) }
     ensures sure { IsTrue (takes_none rule) → IsOk result }
 {
-    let mut found = None;
+    let mut found = before;
     for item in items {
-        found = pick(rule, found, in_pragma(rule, item)?);
-    }
-    Ok(found)
-}
-
-fn in_params(rule: Rule, items: &[ParamDraft]) -> Result<Option<usize>, AllocError>
-    ensures found { IfOk result (λ p. p ≡ spec.found rule (flat_map param_texts (map param items.now))) }
-    ensures sure { IsTrue (takes_none rule) → IsOk result }
-{
-    let mut found = None;
-    for item in items {
-        found = pick(rule, found, in_param(rule, item)?);
+        found = in_pragma(rule, found, item)?;
     }
     Ok(found)
 }
 
-fn in_decls(rule: Rule, items: &[DeclDraft]) -> Result<Option<usize>, AllocError>
-    ensures found { IfOk result (λ p. p ≡ spec.found rule (flat_map (λ d. d.extents) (map decl items.now))) }
+fn in_params(
+    rule: Rule,
+    before: Option<usize>,
+    items: &[ParamDraft],
+) -> Result<Option<usize>, AllocError>
+    ensures found { IfOk result (λ p. p ≡ spec.with_found rule before (flat_map param_texts (map param items.now))) }
     ensures sure { IsTrue (takes_none rule) → IsOk result }
 {
-    let mut found = None;
+    let mut found = before;
     for item in items {
-        found = pick(rule, found, in_each(rule, item.extents.as_slice())?);
+        found = in_param(rule, found, item)?;
+    }
+    Ok(found)
+}
+
+fn in_decls(
+    rule: Rule,
+    before: Option<usize>,
+    items: &[DeclDraft],
+) -> Result<Option<usize>, AllocError>
+    ensures found { IfOk result (λ p. p ≡ spec.with_found rule before (flat_map (λ d. d.extents) (map decl items.now))) }
+    ensures sure { IsTrue (takes_none rule) → IsOk result }
+{
+    let mut found = before;
+    for item in items {
+        found = in_each(rule, found, item.extents.as_slice())?;
     }
     Ok(found)
 }
 
 /// What is found in all expressions of a text.
-#[tactic(auto, using(crate::proofs::TextLaws::text_laws))]
 pub(crate) fn in_text(rule: Rule, draft: &TextDraft) -> Result<Option<usize>, AllocError>
     ensures found { IfOk result (λ p. p ≡ spec.found rule (affine_texts (text draft.now))) }
     ensures sure { IsTrue (takes_none rule) → IsOk result }
 {
-    let lines = in_pragmas(rule, draft.pragmas.as_slice())?;
-    let params = in_params(rule, draft.params.as_slice())?;
-    let temps = in_decls(rule, draft.temps.as_slice())?;
-    let body = in_stmts(rule, draft.body.as_slice())?;
-    Ok(pick(rule, pick(rule, pick(rule, lines, params), temps), body))
+    let lines = in_pragmas(rule, None, draft.pragmas.as_slice())?;
+    let params = in_params(rule, lines, draft.params.as_slice())?;
+    let temps = in_decls(rule, params, draft.temps.as_slice())?;
+    let body = in_stmts(rule, temps, draft.body.as_slice())?;
+    Ok(body)
 }
 
 /// The `*` of the first product both of whose sides hold names.

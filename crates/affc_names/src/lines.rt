@@ -12,6 +12,7 @@ ghost use Rattle.affc_names.specs.Ranges.{lines_of, texts, GiveSameRanges, line_
 
 use crate::fault::NameFault;
 use crate::scope::Scope;
+use crate::spread::Spread;
 use crate::value::compare_trees;
 use crate::why::why_ranged;
 use affc_ast::Items;
@@ -21,7 +22,7 @@ use indexmap::{IndexMap, IndexSet};
 use std::alloc::{AllocError, Global};
 
 /// The ranges that names are given, where each has its first.
-pub(crate) type Ranges = IndexMap<String, (i64, i64)>;
+pub(crate) type Ranges = IndexMap<String, (i64, i64), Spread>;
 
 /// The bound of a range as a tree holds it; one that is too large is cut.
 fn bound(value: i128) -> i64
@@ -79,17 +80,21 @@ fn add_line(alloc: Global, ranges: &mut Ranges, line: &PragmaDraft) -> Result<()
     }
 }
 
-pub(crate) fn ranges_of(alloc: Global, lines: &[PragmaDraft]) -> Result<Ranges, AllocError>
+pub(crate) fn ranges_of(
+    alloc: Global,
+    spread: Spread,
+    lines: &[PragmaDraft],
+) -> Result<Ranges, AllocError>
     ensures { IfOk result (λ r. GiveSameRanges (lines_of r.entries) (map stored.pragma (map seen.pragma lines.now))) }
 {
-    let mut ranges = IndexMap::new(alloc);
+    let mut ranges = IndexMap::with_hasher(alloc, spread);
     for line in lines {
         add_line(alloc, &mut ranges, line)?;
     }
     Ok(ranges)
 }
 
-fn is_among(names: &IndexSet<String>, name: &str) -> bool
+fn is_among(names: &IndexSet<String, Spread>, name: &str) -> bool
     ensures { result ≡ list_any (same name.now) (texts names.now.keys) }
 {
     names.contains(name)
@@ -99,7 +104,7 @@ fn is_among(names: &IndexSet<String>, name: &str) -> bool
 fn note_range(
     alloc: Global,
     scope: &Scope,
-    earlier: &mut IndexSet<String>,
+    earlier: &mut IndexSet<String, Spread>,
     word: &WordDraft,
 ) -> Result<(), NameFault>
     ensures allowed { Gives result (names.allowed (names.why_ranged scope.now (texts earlier.old.keys) word.now.name (names.thing_of scope.now word.now.name)) word.now.at (Ok tt)) }
@@ -121,7 +126,7 @@ fn note_range(
 fn add_conditions(
     alloc: Global,
     scope: &Scope,
-    earlier: &mut IndexSet<String>,
+    earlier: &mut IndexSet<String, Spread>,
     line: &PragmaDraft,
 ) -> Result<Items<Compare>, NameFault>
     ensures conditions { Gives result (line_tree scope.now (texts earlier.old.keys) (stored.pragma (seen.pragma line.now))) }
@@ -139,13 +144,14 @@ fn add_conditions(
 /// The conditions of all lines, where no name is refused.
 pub(crate) fn conditions(
     alloc: Global,
+    spread: Spread,
     scope: &Scope,
     lines: &[PragmaDraft],
 ) -> Result<Items<Compare>, NameFault>
     ensures { Gives result (names.pragmas_tree scope.now [] (map stored.pragma (map seen.pragma lines.now))) }
 {
     let mut conditions = Items::new(alloc);
-    let mut earlier = IndexSet::new(alloc);
+    let mut earlier = IndexSet::with_hasher(alloc, spread);
     for line in lines {
         let more = add_conditions(alloc, scope, &mut earlier, line)?;
         conditions.append(more)?;

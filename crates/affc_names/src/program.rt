@@ -14,6 +14,7 @@ use crate::fault::NameFault;
 use crate::index::ix_trees;
 use crate::lines::{Ranges, conditions, range_of, ranges_of};
 use crate::scope::Scope;
+use crate::spread::Spread;
 use crate::statement::{allowed, stmts_tree};
 use crate::why::{why_declared, why_function};
 use affc_ast::Items;
@@ -153,11 +154,11 @@ fn add_function_beneath(alloc: Global, scope: &mut Scope, name: &str) -> Result<
 }
 
 /// What lines before the function see, where parameters may have one name: of each name the last.
-fn last_of_each(alloc: Global, draft: &TextDraft) -> Result<Scope, AllocError>
+fn last_of_each(alloc: Global, spread: Spread, draft: &TextDraft) -> Result<Scope, AllocError>
     ensures { IfOk result (λ scope. AreAlike scope (names.with_params (names.outermost (seen.text draft.now)) (map seen.param draft.now.params))) }
 {
     let params = draft.params.as_slice();
-    let mut scope = Scope::new(alloc, draft.has_prelude);
+    let mut scope = Scope::new(alloc, spread, draft.has_prelude);
     let mut left = params.len();
     while 0 < left {
         left -= 1;
@@ -168,12 +169,17 @@ fn last_of_each(alloc: Global, draft: &TextDraft) -> Result<Scope, AllocError>
 }
 
 /// Of a text in which a parameter is refused: the first name that is.
-fn first_refused(alloc: Global, draft: &TextDraft, fault: NameFault) -> Result<Program, NameFault>
+fn first_refused(
+    alloc: Global,
+    spread: Spread,
+    draft: &TextDraft,
+    fault: NameFault,
+) -> Result<Program, NameFault>
     requires { Fails fault (names.params_tree (names.outermost (seen.text draft.now)) (map seen.pragma draft.now.pragmas) (map seen.param draft.now.params)) }
     ensures { Answers result (seen.text draft.now) }
 {
-    let scope = last_of_each(alloc, draft)?;
-    conditions(alloc, &scope, draft.pragmas.as_slice())?;
+    let scope = last_of_each(alloc, spread, draft)?;
+    conditions(alloc, spread, &scope, draft.pragmas.as_slice())?;
     let function = &draft.function;
     allowed(why_function(&scope, function.name.as_str()), function.at)?;
     Err(fault)
@@ -182,13 +188,14 @@ fn first_refused(alloc: Global, draft: &TextDraft, fault: NameFault) -> Result<P
 /// What stands behind the parameters, and the lines before them.
 fn with_params(
     alloc: Global,
+    spread: Spread,
     scope: &mut Scope,
     draft: &TextDraft,
     params: Items<Param>,
 ) -> Result<Program, NameFault>
     ensures { Gives result (tree_behind scope.old (Ok params) (stored.text (seen.text draft.now))) }
 {
-    let context = conditions(alloc, scope, draft.pragmas.as_slice())?;
+    let context = conditions(alloc, spread, scope, draft.pragmas.as_slice())?;
     let function = &draft.function;
     allowed(why_function(scope, function.name.as_str()), function.at)?;
     let temps = add_temps(alloc, scope, draft.temps.as_slice())?;
@@ -205,15 +212,19 @@ fn with_params(
 }
 
 /// The tree of a draft, or the first of its names that is refused. Numbers that a tree can't hold are cut in it: a
-/// draft with such a number passes a limit.
-pub fn program_of(alloc: Global, draft: &TextDraft) -> Result<Program, NameFault>
+/// draft with such a number passes a limit. Names are looked up in tables that are hashed by `spread`.
+pub fn program_of(
+    alloc: Global,
+    spread: Spread,
+    draft: &TextDraft,
+) -> Result<Program, NameFault>
     ensures { Answers result (seen.text draft.now) }
 {
-    let ranges = ranges_of(alloc, draft.pragmas.as_slice())?;
-    let mut scope = Scope::new(alloc, draft.has_prelude);
+    let ranges = ranges_of(alloc, spread, draft.pragmas.as_slice())?;
+    let mut scope = Scope::new(alloc, spread, draft.has_prelude);
     scope.add_function(alloc, draft.function.name.as_str())?;
     match add_params(alloc, &mut scope, &ranges, draft.params.as_slice()) {
-        Ok(params) => with_params(alloc, &mut scope, draft, params),
-        Err(fault) => first_refused(alloc, draft, fault),
+        Ok(params) => with_params(alloc, spread, &mut scope, draft, params),
+        Err(fault) => first_refused(alloc, spread, draft, fault),
     }
 }

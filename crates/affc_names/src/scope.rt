@@ -10,6 +10,7 @@ ghost use Rattle.affc_names.specs.Things.{thing_seen};
 ghost use Rattle.affc_names.specs.Visible.{without, thing_in};
 ghost use Rattle.affc_names.specs.Table.{latest_first, AreApart};
 
+use crate::spread::Spread;
 use affc_ast::tree::Role;
 use indexmap::IndexMap;
 use std::alloc::{AllocError, Global};
@@ -32,7 +33,7 @@ pub(crate) enum Thing {
 
 /// A name is added to those of a table, where it isn't there.
 fn insert(
-    things: &mut IndexMap<String, Thing>,
+    things: &mut IndexMap<String, Thing, Spread>,
     alloc: Global,
     name: &str,
     thing: Thing,
@@ -50,7 +51,7 @@ fn insert(
 }
 
 /// The thing that was added last, which is there no longer.
-fn pop(things: &mut IndexMap<String, Thing>) -> Option<Thing>
+fn pop(things: &mut IndexMap<String, Thing, Spread>) -> Option<Thing>
     ensures { MatchOption result
         ((latest_first things.old.entries ≡ []) × (things.new.entries ≡ things.old.entries))
         (λ thing. (w : Name) × (latest_first things.old.entries ≡ record { name = w; thing = thing_seen thing } ∷ latest_first things.new.entries)) }
@@ -63,7 +64,7 @@ fn pop(things: &mut IndexMap<String, Thing>) -> Option<Thing>
 #[derive(Drop)]
 pub(crate) struct Scope {
     has_prelude: bool,
-    things: IndexMap<String, Thing>,
+    things: IndexMap<String, Thing, Spread>,
     numbers: u32,
     arrays: u32,
 }
@@ -82,12 +83,12 @@ impl Model for Scope {
 
 impl Scope {
     /// Nothing is visible.
-    pub(crate) fn new(alloc: Global, has_prelude: bool) -> Scope
+    pub(crate) fn new(alloc: Global, spread: Spread, has_prelude: bool) -> Scope
         ensures { result ≡ record { has_prelude = has_prelude; visible = [] } }
     {
         Scope {
             has_prelude,
-            things: IndexMap::new(alloc),
+            things: IndexMap::with_hasher(alloc, spread),
             numbers: 0,
             arrays: 0,
         }

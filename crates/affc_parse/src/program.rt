@@ -28,6 +28,7 @@ use affc_limits::shape::shape_fault;
 use affc_limits::texts::first_product;
 use affc_names::fault::NameFault;
 use affc_names::program::program_of;
+use affc_names::spread::Spread;
 use affc_syntax::ahead::Stop;
 use affc_text::read_text;
 use std::alloc::Global;
@@ -121,7 +122,7 @@ fn tree_of(
     requires written { IsWritten (lexemes text.now tokens.now) (drafts.text draft.now) }
     ensures { Answers text.now result }
 {
-    match program_of(alloc, draft) {
+    match program_of(alloc, Spread::by(text), draft) {
         Ok(tree) => affine(alloc, text, tokens, prelude, draft, tree),
         Err(NameFault::Memory) => Err(ParseFault::Memory),
         Err(NameFault::Refused { at, why }) => Err(ParseFault::Name {

@@ -1,8 +1,8 @@
-use Rattle.std.proofs.Common.{◌≡◌, [], ◌∷◌, map, drop, fold, None}
+use Rattle.std.proofs.Common.{◌≡◌, [], ◌∷◌, map, drop, fold}
 use Rattle.affc_grammar.specs.Draft as d
 use Rattle.affc_draft.specs.Drafts.{ix}
 use Rattle.affc_limits.specs.Texts.{step}
 use Rattle.affc_limits.proofs.texts.in_each.Given as goal
 
 abbrev pub invariant-loop-item : goal.invariant-loop-item
-invariant-loop-item l = fold (step l.rule (λ (e : d.IxDraft). e ∷ [])) l.found (map ix (drop l.item-index l.items)) ≡ fold (step l.rule (λ (e : d.IxDraft). e ∷ [])) None (map ix l.items)
+invariant-loop-item l = fold (step l.rule (λ (e : d.IxDraft). e ∷ [])) l.found (map ix (drop l.item-index l.items)) ≡ fold (step l.rule (λ (e : d.IxDraft). e ∷ [])) l.fn.before (map ix l.items)

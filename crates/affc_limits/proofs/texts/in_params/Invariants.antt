@@ -1,8 +1,8 @@
-use Rattle.std.proofs.Common.{◌≡◌, map, drop, fold, None}
+use Rattle.std.proofs.Common.{◌≡◌, map, drop, fold}
 use Rattle.affc_grammar.specs.Limits.{param_texts}
 use Rattle.affc_draft.specs.Drafts.{param}
 use Rattle.affc_limits.specs.Texts.{step}
 use Rattle.affc_limits.proofs.texts.in_params.Given as goal
 
 abbrev pub invariant-loop-item : goal.invariant-loop-item
-invariant-loop-item l = fold (step l.rule param_texts) l.found (map param (drop l.item-index l.items)) ≡ fold (step l.rule param_texts) None (map param l.items)
+invariant-loop-item l = fold (step l.rule param_texts) l.found (map param (drop l.item-index l.items)) ≡ fold (step l.rule param_texts) l.fn.before (map param l.items)

@@ -1,8 +1,8 @@
-use Rattle.std.proofs.Common.{◌≡◌, map, drop, fold, None}
+use Rattle.std.proofs.Common.{◌≡◌, map, drop, fold}
 use Rattle.affc_grammar.specs.Limits.{pragma_texts}
 use Rattle.affc_draft.specs.Drafts.{pragma}
 use Rattle.affc_limits.specs.Texts.{step}
 use Rattle.affc_limits.proofs.texts.in_pragmas.Given as goal
 
 abbrev pub invariant-loop-item : goal.invariant-loop-item
-invariant-loop-item l = fold (step l.rule pragma_texts) l.found (map pragma (drop l.item-index l.items)) ≡ fold (step l.rule pragma_texts) None (map pragma l.items)
+invariant-loop-item l = fold (step l.rule pragma_texts) l.found (map pragma (drop l.item-index l.items)) ≡ fold (step l.rule pragma_texts) l.fn.before (map pragma l.items)

@@ -1,0 +1,10 @@
+use Rattle.std.proofs.Common.{◌≡◌, take, ◌+ℤ◌}
+use Rattle.affc_grammar.specs.Grammar.{Name}
+use Rattle.affc_limits.specs.Terms.{AreApart, coefficient, scaled}
+use Rattle.affc_limits.proofs.terms.with_terms.Given as goal
+
+abbrev pub invariant-loop-term : goal.invariant-loop-term
+invariant-loop-term l = record {
+  sums : (w : Name) → coefficient w l.terms ≡ coefficient w l.fn.terms +ℤ scaled l.scale (coefficient w (take l.term-index l.more));
+  apart : AreApart l.fn.terms → AreApart l.terms;
+}
