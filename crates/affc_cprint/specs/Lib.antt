@@ -6,3 +6,5 @@ pub mod Statements
 pub mod Levels
 pub mod Programs
 pub mod KeepsRules
+pub mod Known
+pub mod Sights

@@ -7,8 +7,10 @@ ghost use Rattle.affc_cprint.specs.Layout.{printed_text};
 
 pub mod examples;
 mod index;
+mod known;
 pub mod laws;
 mod program;
+mod sight;
 mod stmt;
 #[cfg(test)]
 mod tests;

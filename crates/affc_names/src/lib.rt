@@ -5,7 +5,7 @@ pub mod fault;
 mod index;
 mod lines;
 pub mod program;
-mod reserved;
+pub mod reserved;
 mod scope;
 mod statement;
 mod value;

@@ -98,7 +98,7 @@ fn begins_reserved(name: &str) -> bool
 }
 
 /// Whether the name is kept for the language or its library.
-pub(crate) fn is_reserved(name: &str) -> bool
+pub fn is_reserved(name: &str) -> bool
     ensures { result ≡ names.is_reserved name.now }
 {
     let listed = is_keyword(name);
@@ -132,7 +132,7 @@ fn is_number(bytes: &[u8]) -> bool
 }
 
 /// `affc_t0`, `affc_t1`, ..
-pub(crate) fn is_time_name(name: &str) -> bool
+pub fn is_time_name(name: &str) -> bool
     ensures { result ≡ is_time_name name.now }
 {
     match name.as_bytes() {
