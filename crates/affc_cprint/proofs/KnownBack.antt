@@ -39,6 +39,7 @@ use Rattle.affc_cprint.proofs.Sees.{then_is, Sees, not_static}
 use Rattle.affc_cprint.proofs.ReadBack.{IsBack, add_back, sub_back, mul_back, neg_back, lit_back, name_back, choice_back, rounding_back}
 use Rattle.affc_cprint.proofs.ReadBackValues.{Each, each_length, AreBack, AreComparesBack, dims_again, conds_again, not_here, bin_here, shift_here, IsValueBack, ValueBack, primary_back, shift_back, both_back, shift_reads, constant_back}
 use Rattle.affc_cprint.proofs.ReadBackStatements.{LocalsBack, StmtBack, scope_after, declared_name, for_again, if_again, block_again, assign_again}
+use Rattle.affc_cprint.proofs.Products.{none_is}
 use Rattle.affc_cprint.proofs.Knows.{NumberAt, ArrayAt, Knows, new_is, knows_number}
 use Rattle.affc_cprint.proofs.Induction.{IxCases, every_ix, ValCases, every_val, StmtCases, every_stmt}
 
@@ -227,10 +228,6 @@ bound_is Equal h = absurd (false≢true h)
 pub some_is : {A : Type 0} (xs : List A) → not (is_none xs) ≡ true → xs ≡ [] → ⊥
 some_is [] h e = false≢true h
 some_is (x ∷ xs) h e = cc
-
-pub none_is : {A : Type 0} (xs : List A) → is_none xs ≡ true → xs ≡ []
-none_is [] h = refl
-none_is (x ∷ xs) h = absurd (false≢true h)
 
 after_prelude : (scope : Scope) (ls : List Local) → (scope_after scope ls).has_prelude ≡ scope.has_prelude
 after_prelude scope [] = refl

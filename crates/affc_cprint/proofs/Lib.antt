@@ -25,6 +25,7 @@ pub mod Products
 pub mod Whole
 pub mod Converse
 pub mod Sighted
+pub mod Plains
 pub mod Induction
 pub mod KnownBack
 pub mod KnownPrograms

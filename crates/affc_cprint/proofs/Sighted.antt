@@ -16,6 +16,7 @@ use Rattle.affc_cprint.proofs.Induction.{every_stmt}
 use Rattle.affc_cprint.proofs.Knows.{Knows}
 use Rattle.affc_cprint.proofs.KnownPrograms.{program_speaks}
 use Rattle.affc_cprint.proofs.KnownFromTexts.{program_from}
+use Rattle.affc_cprint.proofs.Products.{plain_is}
 
 known_iterator : (prelude : Bool) (w : Bor Name) (s : Bor Sight) → known_in prelude (view.Iterator w s) ≡ and_iterator (known_in prelude s.now) w.now
 known_iterator prelude w s = refl
@@ -24,7 +25,7 @@ known_locals : (prelude : Bool) (ls : Bor (List Local)) (s : Bor Sight) → know
 known_locals prelude ls s = refl
 
 -- where a head is known, what is known of the body decides
-with_head : (head body : Bool) (r t : Bool) → r ≡ true → head ≡ r → t ≡ body → t ≡ (head && body)
+pub with_head : (head body : Bool) (r t : Bool) → r ≡ true → head ≡ r → t ≡ body → t ≡ (head && body)
 with_head true body r t on e f = f
 with_head false body true t on e f = absurd (cc)
 with_head false body false t on e f = absurd (cc)

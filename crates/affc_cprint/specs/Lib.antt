@@ -8,3 +8,4 @@ pub mod Programs
 pub mod KeepsRules
 pub mod Known
 pub mod Sights
+pub mod Plain

@@ -9,6 +9,7 @@ pub mod examples;
 mod index;
 mod known;
 pub mod laws;
+mod plain;
 mod program;
 mod sight;
 mod stmt;
