@@ -26,6 +26,9 @@ pub mod Whole
 pub mod Converse
 pub mod Sighted
 pub mod Plains
+pub mod Counts
+pub mod Shapes
+pub mod ShapeParts
 pub mod Induction
 pub mod KnownBack
 pub mod KnownPrograms

@@ -9,3 +9,4 @@ pub mod KeepsRules
 pub mod Known
 pub mod Sights
 pub mod Plain
+pub mod Shape

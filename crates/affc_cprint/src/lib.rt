@@ -11,6 +11,7 @@ mod known;
 pub mod laws;
 mod plain;
 mod program;
+mod shape;
 mod sight;
 mod stmt;
 #[cfg(test)]
