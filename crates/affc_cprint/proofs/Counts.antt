@@ -34,7 +34,7 @@ no_rest : (b : Bool) (at : ℕ) (rest : List ℕ) → at_if b at ++ rest ≡ [] 
 no_rest true at rest e = absurd (cc)
 no_rest false at rest e = e
 
-not_below : (a b : ℕ) → nat_lt a b ≡ false → b ≤ a
+pub not_below : (a b : ℕ) → nat_lt a b ≡ false → b ≤ a
 not_below a b e = elim (order a b) [ inl h ↦ absurd (false≢true (sym e ∙ lt-ltb a b h)) | inr h ↦ h ]
   where
     order : (a b : ℕ) → (a < b) ⊎ (b ≤ a)

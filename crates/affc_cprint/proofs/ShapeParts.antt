@@ -11,7 +11,9 @@ use Rattle.affc_ast.specs.declared.tree.Rel.{Rel}
 use Rattle.affc_ast.specs.declared.tree.Rel.TheVariants.{Less, LessEqual, Greater, GreaterEqual, Equal}
 use Rattle.affc_ast.specs.declared.tree.Ix.{Ix}
 use Rattle.affc_ast.specs.declared.tree.Ix.TheVariants as ix
+use Rattle.affc_ast.specs.declared.tree.Ix.TheOpen.{Ix-F}
 use Rattle.affc_ast.specs.declared.tree.Val.{Val}
+use Rattle.affc_ast.specs.declared.tree.Val.TheOpen.{Val-F}
 use Rattle.affc_ast.specs.declared.tree.Val.TheVariants as val
 use Rattle.affc_ast.specs.Recursion.{by_ix, by_val}
 use Rattle.affc_grammar.specs.Grammar.{Name, Digits, Symbol, word, number, mark, rel_mark, op_mark, shift_mark, Choice, minimum, maximum, remainder, choice_name, Rounding, down, up, rounding_name, is_divisor, is_shift, IxText, term, plus, minus, TermText, factor, times, FactorText, atom, negated, AtomText, literal, name, grouped, chosen, divided, DimsText, no_dims, and_dim, CondsText, cond, and_cond, compared, ValueText, complement, load, constant, parens, cast, operand, binary, shift, ix_symbols, term_symbols, factor_symbols, atom_symbols, dims_symbols, dim_symbols, conds_symbols, cond_symbols, value_symbols}
@@ -30,7 +32,7 @@ use Rattle.affc_cprint.specs.Shape.{capped, larger, beside, and_tokens, brackete
 use Rattle.affc_cprint.proofs.Nodes.{neg_here, add_here, sub_here, mul_here, min_here, max_here, mod_here, floord_here, ceild_here}
 use Rattle.affc_cprint.proofs.ReadBackValues.{not_here, bin_here, shift_here}
 use Rattle.affc_cprint.proofs.Induction.{IxCases, every_ix, ValCases, every_val}
-use Rattle.affc_cprint.proofs.Counts.{IsPlain, Row, no_row, row_both, plain_row, row_more, AreBrackets, row_in_brackets}
+use Rattle.affc_cprint.proofs.Counts.{not_below, IsPlain, Row, no_row, row_both, plain_row, row_more, AreBrackets, row_in_brackets}
 
 -- ---- Rows and what is counted of them
 
@@ -47,14 +49,6 @@ capped_plus a b = omega arith
 larger_is : (a b : ℕ) → larger a b ≡ max a b
 larger_is a b = of (nat_lt a b) refl
   where
-    not_below : (a b : ℕ) → nat_lt a b ≡ false → b ≤ a
-    not_below a zero e = omega arith
-    not_below zero (suc b) e = absurd (false≢true (sym e ∙ lt-ltb zero (suc b) (omega arith)))
-    not_below (suc a) (suc b) e = let h = not_below a b (below a b ∙ e) in omega (arith, h)
-      where
-        below : (a b : ℕ) → nat_lt a b ≡ nat_lt (suc a) (suc b)
-        below a b = refl
-
     of : (c : Bool) → nat_lt a b ≡ c → (if c then b else a) ≡ max a b
     of true e = let h = ltb-true a b e in omega (arith, h)
     of false e = let h = not_below a b e in omega (arith, h)
@@ -128,3 +122,159 @@ square = record { opens = refl; closes = refl; no_opening = refl; open_run = ref
 pub record AreQuiet (names : Names) : Type 0 where
   pub numbers : (id : NameId) → is_item (word (number_name names id)) ≡ false
   pub arrays : (id : ArrayId) → is_item (word (array_name names id)) ≡ false
+
+-- ---- Expressions
+
+-- what is written at each place spans what is counted there
+pub record IxSpans {prelude : Bool} (w : IxWritten prelude) (s : IxExtent) : Type 0 where
+  pub whole : Spans (ix_symbols w.whole) (placed Whole s)
+  pub right_of_sum : Spans (term_symbols w.right_of_sum) (placed RightOfSum s)
+  pub left_of_product : Spans (term_symbols w.left_of_product) (placed LeftOfProduct s)
+  pub right_of_product : Spans (factor_symbols w.right_of_product) (placed RightOfProduct s)
+  pub under_minus : Spans (atom_symbols w.under_minus) (placed UnderMinus s)
+
+in_round : (ss : List Symbol) (e : Extent) → Spans ss e → Spans (mark (codes "(") ∷ (ss ++ mark (codes ")") ∷ [])) (bracketed e)
+in_round ss e h = spans_brackets (mark (codes "(")) (mark (codes ")")) ss e round h
+
+sum_spans : {prelude : Bool} (t : IxText prelude) (e : Extent) → Spans (ix_symbols t) e → IxSpans (sum_written t) (record { extent = e; binding = Sum })
+sum_spans t e h = let i = in_round (ix_symbols t) e h in record { whole = h; right_of_sum = i; left_of_product = i; right_of_product = i; under_minus = i }
+
+product_spans : {prelude : Bool} (t : TermText prelude) (e : Extent) → Spans (term_symbols t) e → IxSpans (product_written t) (record { extent = e; binding = Product })
+product_spans t e h = let i = in_round (term_symbols t) e h in record { whole = h; right_of_sum = h; left_of_product = h; right_of_product = i; under_minus = i }
+
+atom_spans : {prelude : Bool} (t : AtomText prelude) (e : Extent) → Spans (atom_symbols t) e → IxSpans (atom_written t) (record { extent = e; binding = Atom })
+atom_spans t e h = record { whole = h; right_of_sum = h; left_of_product = h; right_of_product = h; under_minus = h }
+
+call_spans : {prelude : Bool} (t : AtomText prelude) (e : Extent) → Spans (atom_symbols t) e → IxSpans (call_written t) (record { extent = e; binding = Call })
+call_spans t e h = let i = in_round (atom_symbols t) e h in record { whole = h; right_of_sum = h; left_of_product = h; right_of_product = h; under_minus = i }
+
+nothing_spans : (prelude : Bool) → IxSpans {prelude = prelude} nothing_written spec.one_token
+nothing_spans prelude = atom_spans (literal (codes "0")) (record { tokens = 1; depth = 0 }) (spans_one (number (codes "0")) (plain_number (codes "0")))
+
+plain_choice : (f : Choice) → IsPlain (word (choice_name f))
+plain_choice minimum = plain_word (codes "affc_min") refl
+plain_choice maximum = plain_word (codes "affc_max") refl
+plain_choice remainder = plain_word (codes "affc_mod") refl
+
+plain_rounding : (f : Rounding) → IsPlain (word (rounding_name f))
+plain_rounding down = plain_word (codes "affc_floord") refl
+plain_rounding up = plain_word (codes "affc_ceild") refl
+
+call_row : (s : Symbol) (ss : List Symbol) (a : Extent) → IsPlain s → Spans ss a → Spans (s ∷ ss) (and_tokens 1 a)
+call_row s ss a p q =
+    let t = q.tokens in
+    record { count = 1 + q.count; deep = q.deep; row = row_more q.count q.deep s ss p q.row; tokens = omega (arith, t); depth = q.depth }
+
+chosen_spans : (prelude : Bool) (f : Choice) (v w : IxWritten prelude) (a b : IxExtent) → IxSpans v a → IxSpans w b → IxSpans (chosen_written prelude f v.whole w.whole) (spec.choice prelude a b)
+chosen_spans true f v w a b p q =
+    let inside : Spans (ix_symbols v.whole ++ mark (codes ",") ∷ ix_symbols w.whole) (and_tokens 1 (beside (placed Whole a) (placed Whole b))) =
+    spans_joined (mark (codes ",")) (ix_symbols v.whole) (ix_symbols w.whole) (placed Whole a) (placed Whole b) (record { separator = refl; opening = refl; closing = refl; item = refl }) p.whole q.whole in
+    let all = in_round (ix_symbols v.whole ++ mark (codes ",") ∷ ix_symbols w.whole) (and_tokens 1 (beside (placed Whole a) (placed Whole b))) inside in
+    let grouped_so : (ix_symbols v.whole ++ mark (codes ",") ∷ ix_symbols w.whole) ++ mark (codes ")") ∷ [] ≡ ix_symbols v.whole ++ mark (codes ",") ∷ (ix_symbols w.whole ++ mark (codes ")") ∷ []) = append_assoc (ix_symbols v.whole) (mark (codes ",") ∷ ix_symbols w.whole) (mark (codes ")") ∷ []) in
+    call_spans (chosen refl f v.whole w.whole) (and_tokens 1 (bracketed (and_tokens 1 (beside (placed Whole a) (placed Whole b)))))
+    (call_row (word (choice_name f)) (mark (codes "(") ∷ (ix_symbols v.whole ++ mark (codes ",") ∷ (ix_symbols w.whole ++ mark (codes ")") ∷ []))) (bracketed (and_tokens 1 (beside (placed Whole a) (placed Whole b)))) (plain_choice f)
+    (subst (λ l. Spans (mark (codes "(") ∷ l) (bracketed (and_tokens 1 (beside (placed Whole a) (placed Whole b))))) grouped_so all))
+chosen_spans false f v w a b p q = nothing_spans false
+
+divided_spans : (prelude : Bool) (f : Rounding) (v : IxWritten prelude) (a : IxExtent) (by : ℤ) → IxSpans v a → IxSpans (divided_written prelude f v.whole by) (spec.quotient (divides prelude by) a)
+divided_spans false f v a by p = nothing_spans false
+divided_spans true f v a by p = of (digits_of (nat_abs by)) (is_divisor (digits_of (nat_abs by))) refl (holding (is_divisor (digits_of (nat_abs by)))) refl
+  where
+    of : (ds : Digits) (b : Bool) → is_divisor ds ≡ b → (o : Option (IsTrue (is_divisor ds))) → o ≡ holding (is_divisor ds) → IxSpans (divided_by ds o f v.whole) (spec.quotient b a)
+    of ds true e (Some d) q =
+        let two : Spans (ix_symbols v.whole ++ mark (codes ",") ∷ number ds ∷ []) (and_tokens 2 (placed Whole a)) =
+        let t = p.whole.tokens in
+        let more = row_both p.whole.count 2 p.whole.deep 0 (ix_symbols v.whole) (mark (codes ",") ∷ number ds ∷ []) p.whole.row (row_more 1 0 (mark (codes ",")) (number ds ∷ []) (record { separator = refl; opening = refl; closing = refl; item = refl }) (plain_row (number ds) (plain_number ds))) in
+        let same : max p.whole.deep 0 ≡ p.whole.deep = omega arith in
+        record { count = p.whole.count + 2; deep = p.whole.deep; row = subst (λ m. Row (p.whole.count + 2) m (ix_symbols v.whole ++ mark (codes ",") ∷ number ds ∷ [])) same more; tokens = omega (arith, t); depth = p.whole.depth } in
+        let all = in_round (ix_symbols v.whole ++ mark (codes ",") ∷ number ds ∷ []) (and_tokens 2 (placed Whole a)) two in
+        let grouped_so : (ix_symbols v.whole ++ mark (codes ",") ∷ number ds ∷ []) ++ mark (codes ")") ∷ [] ≡ ix_symbols v.whole ++ mark (codes ",") ∷ number ds ∷ mark (codes ")") ∷ [] = append_assoc (ix_symbols v.whole) (mark (codes ",") ∷ number ds ∷ []) (mark (codes ")") ∷ []) in
+        call_spans (divided refl f v.whole ds d) (and_tokens 1 (bracketed (and_tokens 2 (placed Whole a))))
+        (call_row (word (rounding_name f)) (mark (codes "(") ∷ (ix_symbols v.whole ++ mark (codes ",") ∷ number ds ∷ mark (codes ")") ∷ [])) (bracketed (and_tokens 2 (placed Whole a))) (plain_rounding f)
+        (subst (λ l. Spans (mark (codes "(") ∷ l) (bracketed (and_tokens 2 (placed Whole a)))) grouped_so all))
+    of ds false e (Some d) q = absurd (false≢true (sym e ∙ d))
+    of ds true e None q = absurd (some_off (is_divisor ds) e q)
+      where
+        some_off : (b : Bool) → b ≡ true → None ≡ holding b → ⊥
+        some_off true h r = cc
+        some_off false h r = false≢true h
+    of ds false e None q = nothing_spans true
+
+module _ (prelude : Bool) (names : Names) (quiet : AreQuiet names) where
+  abbrev step : Ix-F (IxWritten prelude) → IxWritten prelude
+  step = printed.ix_step prelude names
+
+  abbrev Measures : Ix → Type 0
+  Measures e = IxSpans (by_ix step e) (ix_extent prelude e)
+
+  -- by one node
+  at_node : (e : Ix) (w : IxWritten prelude) (s : IxExtent) → by_ix step e ≡ w → ix_extent prelude e ≡ s → IxSpans w s → Measures e
+  at_node e w s p q h = subst (λ z. IxSpans z (ix_extent prelude e)) (sym p) (subst (IxSpans w) (sym q) h)
+
+  mark_between : (bytes : List ℕ) → IsPlain (mark bytes) → (xs ys : List Symbol) (a b : Extent) → Spans xs a → Spans ys b → Spans (xs ++ mark bytes ∷ ys) (and_tokens 1 (beside a b))
+  mark_between bytes p xs ys a b q r = spans_joined (mark bytes) xs ys a b p q r
+
+  ix_measures : IxCases Measures
+  ix_measures = record {
+    lit = λ n. atom_spans (literal (digits_of (nat_abs n))) (record { tokens = 1; depth = 0 }) (spans_one (number (digits_of (nat_abs n))) (plain_number (digits_of (nat_abs n))));
+    name = λ id. atom_spans (name (number_name names id)) (record { tokens = 1; depth = 0 }) (spans_one (word (number_name names id)) (plain_word (number_name names id) (quiet.numbers id)));
+    neg = λ a f. at_node (ix.Neg a) _ _ (neg_here step a) (neg_here (spec.ix_step prelude) a)
+        (sum_spans (term (factor (negated (by_ix step a).under_minus))) (and_tokens 1 (placed UnderMinus (ix_extent prelude a)))
+        (call_row (mark (codes "-")) (atom_symbols (by_ix step a).under_minus) (placed UnderMinus (ix_extent prelude a)) (record { separator = refl; opening = refl; closing = refl; item = refl }) f.under_minus));
+    add = λ a b f g. at_node (ix.Add a b) _ _ (add_here step a b) (add_here (spec.ix_step prelude) a b)
+        (sum_spans (plus (by_ix step a).whole (by_ix step b).right_of_sum) (and_tokens 1 (beside (placed Whole (ix_extent prelude a)) (placed RightOfSum (ix_extent prelude b))))
+        (mark_between (codes "+") (record { separator = refl; opening = refl; closing = refl; item = refl }) (ix_symbols (by_ix step a).whole) (term_symbols (by_ix step b).right_of_sum) (placed Whole (ix_extent prelude a)) (placed RightOfSum (ix_extent prelude b)) f.whole g.right_of_sum));
+    sub = λ a b f g. at_node (ix.Sub a b) _ _ (sub_here step a b) (sub_here (spec.ix_step prelude) a b)
+        (sum_spans (minus (by_ix step a).whole (by_ix step b).right_of_sum) (and_tokens 1 (beside (placed Whole (ix_extent prelude a)) (placed RightOfSum (ix_extent prelude b))))
+        (mark_between (codes "-") (record { separator = refl; opening = refl; closing = refl; item = refl }) (ix_symbols (by_ix step a).whole) (term_symbols (by_ix step b).right_of_sum) (placed Whole (ix_extent prelude a)) (placed RightOfSum (ix_extent prelude b)) f.whole g.right_of_sum));
+    mul = λ a b f g. at_node (ix.Mul a b) _ _ (mul_here step a b) (mul_here (spec.ix_step prelude) a b)
+        (product_spans (times (by_ix step a).left_of_product (by_ix step b).right_of_product) (and_tokens 1 (beside (placed LeftOfProduct (ix_extent prelude a)) (placed RightOfProduct (ix_extent prelude b))))
+        (mark_between (codes "*") (record { separator = refl; opening = refl; closing = refl; item = refl }) (term_symbols (by_ix step a).left_of_product) (factor_symbols (by_ix step b).right_of_product) (placed LeftOfProduct (ix_extent prelude a)) (placed RightOfProduct (ix_extent prelude b)) f.left_of_product g.right_of_product));
+    min = λ a b f g. at_node (ix.Min a b) _ _ (min_here step a b) (min_here (spec.ix_step prelude) a b) (chosen_spans prelude minimum (by_ix step a) (by_ix step b) (ix_extent prelude a) (ix_extent prelude b) f g);
+    max = λ a b f g. at_node (ix.Max a b) _ _ (max_here step a b) (max_here (spec.ix_step prelude) a b) (chosen_spans prelude maximum (by_ix step a) (by_ix step b) (ix_extent prelude a) (ix_extent prelude b) f g);
+    remainder = λ a b f g. at_node (ix.Mod a b) _ _ (mod_here step a b) (mod_here (spec.ix_step prelude) a b) (chosen_spans prelude remainder (by_ix step a) (by_ix step b) (ix_extent prelude a) (ix_extent prelude b) f g);
+    floord = λ a by f. at_node (ix.Floord a by) _ _ (floord_here step a by) (floord_here (spec.ix_step prelude) a by) (divided_spans prelude down (by_ix step a) (ix_extent prelude a) by f);
+    ceild = λ a by f. at_node (ix.Ceild a by) _ _ (ceild_here step a by) (ceild_here (spec.ix_step prelude) a by) (divided_spans prelude up (by_ix step a) (ix_extent prelude a) by f);
+  }
+
+  pub ix_spans : (e : Ix) → Spans (ix_symbols (ix_text prelude names e)) (whole prelude e)
+  ix_spans e = (every_ix Measures ix_measures e).whole
+
+  -- ---- Subscripts and conditions
+
+  pub dims_span : (ds : DimsText prelude) (ss : List Symbol) (a : Extent) (es : List Ix) → Spans (ss ++ dims_symbols ds) a → Spans (ss ++ dims_symbols (and_dims prelude names ds es)) (dims_behind prelude a es)
+  dims_span ds ss a [] h = h
+  dims_span ds ss a (e ∷ es) h =
+      let text = ix_text prelude names e in
+      let one = spans_brackets (mark (codes "[")) (mark (codes "]")) (ix_symbols text) (whole prelude e) square (ix_spans e) in
+      dims_span (and_dim ds text) ss (beside a (bracketed (whole prelude e))) es
+      (subst (λ l. Spans l (beside a (bracketed (whole prelude e)))) (append_assoc ss (dims_symbols ds) (dim_symbols text)) (spans_both (ss ++ dims_symbols ds) (dim_symbols text) a (bracketed (whole prelude e)) h one))
+
+  plain_rel : (rel : Rel) → IsPlain (mark (rel_mark rel))
+  plain_rel Less = record { separator = refl; opening = refl; closing = refl; item = refl }
+  plain_rel LessEqual = record { separator = refl; opening = refl; closing = refl; item = refl }
+  plain_rel Greater = record { separator = refl; opening = refl; closing = refl; item = refl }
+  plain_rel GreaterEqual = record { separator = refl; opening = refl; closing = refl; item = refl }
+  plain_rel Equal = record { separator = refl; opening = refl; closing = refl; item = refl }
+
+  compare_spans : (c : Compare) → Spans (cond_symbols (cond_text prelude names c)) (compare_extent prelude c)
+  compare_spans c = mark_between (rel_mark c.rel) (plain_rel c.rel) (ix_symbols (ix_text prelude names c.left)) (ix_symbols (ix_text prelude names c.right)) (whole prelude c.left) (whole prelude c.right) (ix_spans c.left) (ix_spans c.right)
+
+  conds_span : (ds : CondsText prelude) (a : Extent) (cs : List Compare) → Spans (conds_symbols ds) a → Spans (conds_symbols (and_conds prelude names ds cs)) (compares_behind prelude a cs)
+  conds_span ds a [] h = h
+  conds_span ds a (c ∷ cs) h =
+      conds_span (and_cond ds (cond_text prelude names c)) (and_tokens 1 (beside a (compare_extent prelude c))) cs
+      (mark_between (codes "&&") (record { separator = refl; opening = refl; closing = refl; item = refl }) (conds_symbols ds) (cond_symbols (cond_text prelude names c)) a (compare_extent prelude c) h (compare_spans c))
+
+  pub conds_spans : (cs : List Compare) → Spans (conds_symbols (conds_text prelude names cs)) (conds_extent prelude cs)
+  conds_spans [] =
+      let zero_text = number (codes "0") in
+      let p = plain_number (codes "0") in
+      record {
+        count = 3;
+        deep = 0;
+        row = row_more 2 0 zero_text (mark (codes "<") ∷ zero_text ∷ []) p (row_more 1 0 (mark (codes "<")) (zero_text ∷ []) (record { separator = refl; opening = refl; closing = refl; item = refl }) (plain_row zero_text p));
+        tokens = refl;
+        depth = refl;
+      }
+  conds_spans (c ∷ cs) = conds_span (cond (cond_text prelude names c)) (compare_extent prelude c) cs (compare_spans c)
