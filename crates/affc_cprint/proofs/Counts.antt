@@ -186,3 +186,66 @@ row_in_brackets first last a d ss b r =
           (adds_both count_item 0 0 ss (last ∷ []) r.item (one_added count_item 0 last (λ n. ap (λ x. if x then n + 1 else n) b.close_item ∙ (omega arith))));
       brackets = brackets_rise first last d ss b.opens b.closes b.no_opening r.brackets;
     }
+
+-- ---- Lines and what ends with them
+
+pub any_tokens : (ss : List Symbol) → Adds count_token (length ss) ss
+any_tokens [] = none_added count_token
+any_tokens (s ∷ ss) = record {
+  behind = λ n. let r = (any_tokens ss).behind (n + 1) in omega (arith, r);
+  most = λ n. let r = (any_tokens ss).most (n + 1) in omega (arith, r);
+}
+
+pub count_is : (k : ℕ) (ss : List Symbol) → Adds count_token k ss → length ss ≡ k
+count_is k ss a = let p = a.behind 0 in let q = (any_tokens ss).behind 0 in omega (arith, p, q)
+
+pub adds_after : (next : ℕ → Symbol → ℕ) (k n : ℕ) (xs ys : List Symbol) → Adds next k xs → after next n (xs ++ ys) ≡ after next (n + k) ys
+adds_after next k n xs ys a = after_both next n xs ys ∙ ap (λ m. after next m ys) (a.behind n)
+
+pub adds_most : (next : ℕ → Symbol → ℕ) (k n : ℕ) (xs ys : List Symbol) → Adds next k xs → highest next n (xs ++ ys) ≡ max (n + k) (highest next (n + k) ys)
+adds_most next k n xs ys a = highest_both next n xs ys ∙ ap (λ m. max m (highest next (after next n xs) ys)) (a.most n) ∙ ap (λ m. max (n + k) (highest next m ys)) (a.behind n)
+
+-- a run and the token that ends it
+pub run_ends : (k : ℕ) (ss : List Symbol) (s : Symbol) → is_separator s ≡ true → Adds count_run k ss → Runs k (ss ++ s ∷ [])
+run_ends k ss s e a =
+    let zero_so : count_run (0 + k) s ≡ 0 = ap (λ b. if b then 0 else 0 + k + 1) e in
+    let m = adds_most count_run k 0 ss (s ∷ []) a in
+    record {
+      behind = adds_after count_run k 0 ss (s ∷ []) a ∙ zero_so;
+      most = m ∙ (omega (arith, zero_so));
+    }
+
+pub no_runs : Runs 0 []
+no_runs = record { behind = refl; most = refl }
+
+-- a token that is no bracket
+pub record NoBracket (s : Symbol) : Type 0 where
+  pub opening : is_opening s ≡ false
+  pub closing : is_closing s ≡ false
+
+pub bracket_kept : (n : ℕ) (s : Symbol) → NoBracket s → count_open n s ≡ n
+bracket_kept n s p = ap (λ b. if b then n + 1 else (if is_closing s then n - 1 else n)) p.opening ∙ ap (λ b. if b then n - 1 else n) p.closing
+
+pub rises_one : (s : Symbol) → NoBracket s → Rises count_open 0 (s ∷ [])
+rises_one s p = one_risen count_open s (λ n. bracket_kept n s p)
+
+pub rises_more : (k : ℕ) (s : Symbol) (ss : List Symbol) → NoBracket s → Rises count_open k ss → Rises count_open k (s ∷ ss)
+rises_more k s ss p r =
+    let e : max 0 k ≡ k = omega arith in
+    subst (λ m. Rises count_open m (s ∷ ss)) e (rises_both count_open 0 k (s ∷ []) ss (rises_one s p) r)
+
+pub rises_within : (k : ℕ) (first last : Symbol) (ss : List Symbol) → is_opening first ≡ true → is_closing last ≡ true → is_opening last ≡ false → Rises count_open k ss → Rises count_open (k + 1) (first ∷ (ss ++ last ∷ []))
+rises_within k first last ss a b c r = brackets_rise first last k ss a b c r
+
+pub items_more : (k : ℕ) (s : Symbol) (ss : List Symbol) → is_item s ≡ false → Adds count_item k ss → Adds count_item k (s ∷ ss)
+items_more k s ss e a =
+    let same : 0 + k ≡ k = omega arith in
+    subst (λ m. Adds count_item m (s ∷ ss)) same (adds_both count_item 0 k (s ∷ []) ss (one_added count_item 0 s (λ n. ap (λ b. if b then n + 1 else n) e ∙ (omega arith))) a)
+
+pub run_more : (k : ℕ) (s : Symbol) (ss : List Symbol) → is_separator s ≡ false → Adds count_run k ss → Adds count_run (1 + k) (s ∷ ss)
+run_more k s ss e a = adds_both count_run 1 k (s ∷ []) ss (one_added count_run 1 s (λ n. ap (λ b. if b then 0 else n + 1) e)) a
+
+pub items_one : (k : ℕ) (s : Symbol) (ss : List Symbol) → is_item s ≡ true → Adds count_item k ss → Adds count_item (k + 1) (s ∷ ss)
+items_one k s ss e a =
+    let same : 1 + k ≡ k + 1 = omega arith in
+    subst (λ m. Adds count_item m (s ∷ ss)) same (adds_both count_item 1 k (s ∷ []) ss (one_added count_item 1 s (λ n. ap (λ b. if b then n + 1 else n) e)) a)

@@ -29,6 +29,7 @@ pub mod Plains
 pub mod Counts
 pub mod Shapes
 pub mod ShapeParts
+pub mod ShapeStatements
 pub mod Induction
 pub mod KnownBack
 pub mod KnownPrograms

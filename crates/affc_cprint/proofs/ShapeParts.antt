@@ -46,7 +46,7 @@ pub record Spans (ss : List Symbol) (e : Extent) : Type 0 where
 capped_plus : (a b : ℕ) → capped (a + b) ≡ capped (capped a + capped b)
 capped_plus a b = omega arith
 
-larger_is : (a b : ℕ) → larger a b ≡ max a b
+pub larger_is : (a b : ℕ) → larger a b ≡ max a b
 larger_is a b = of (nat_lt a b) refl
   where
     of : (c : Bool) → nat_lt a b ≡ c → (if c then b else a) ≡ max a b
@@ -200,6 +200,14 @@ divided_spans true f v a by p = of (digits_of (nat_abs by)) (is_divisor (digits_
         some_off false h r = false≢true h
     of ds false e None q = nothing_spans true
 
+-- a mark between two parts
+between : (bytes : List ℕ) → IsPlain (mark bytes) → (xs ys : List Symbol) (a b : Extent) → Spans xs a → Spans ys b → Spans (xs ++ mark bytes ∷ ys) (and_tokens 1 (beside a b))
+between bytes p xs ys a b q r = spans_joined (mark bytes) xs ys a b p q r
+
+shift_plain : (left : Bool) → IsPlain (mark (shift_mark left))
+shift_plain true = record { separator = refl; opening = refl; closing = refl; item = refl }
+shift_plain false = record { separator = refl; opening = refl; closing = refl; item = refl }
+
 module _ (prelude : Bool) (names : Names) (quiet : AreQuiet names) where
   abbrev step : Ix-F (IxWritten prelude) → IxWritten prelude
   step = printed.ix_step prelude names
@@ -211,9 +219,6 @@ module _ (prelude : Bool) (names : Names) (quiet : AreQuiet names) where
   at_node : (e : Ix) (w : IxWritten prelude) (s : IxExtent) → by_ix step e ≡ w → ix_extent prelude e ≡ s → IxSpans w s → Measures e
   at_node e w s p q h = subst (λ z. IxSpans z (ix_extent prelude e)) (sym p) (subst (IxSpans w) (sym q) h)
 
-  mark_between : (bytes : List ℕ) → IsPlain (mark bytes) → (xs ys : List Symbol) (a b : Extent) → Spans xs a → Spans ys b → Spans (xs ++ mark bytes ∷ ys) (and_tokens 1 (beside a b))
-  mark_between bytes p xs ys a b q r = spans_joined (mark bytes) xs ys a b p q r
-
   ix_measures : IxCases Measures
   ix_measures = record {
     lit = λ n. atom_spans (literal (digits_of (nat_abs n))) (record { tokens = 1; depth = 0 }) (spans_one (number (digits_of (nat_abs n))) (plain_number (digits_of (nat_abs n))));
@@ -223,13 +228,13 @@ module _ (prelude : Bool) (names : Names) (quiet : AreQuiet names) where
         (call_row (mark (codes "-")) (atom_symbols (by_ix step a).under_minus) (placed UnderMinus (ix_extent prelude a)) (record { separator = refl; opening = refl; closing = refl; item = refl }) f.under_minus));
     add = λ a b f g. at_node (ix.Add a b) _ _ (add_here step a b) (add_here (spec.ix_step prelude) a b)
         (sum_spans (plus (by_ix step a).whole (by_ix step b).right_of_sum) (and_tokens 1 (beside (placed Whole (ix_extent prelude a)) (placed RightOfSum (ix_extent prelude b))))
-        (mark_between (codes "+") (record { separator = refl; opening = refl; closing = refl; item = refl }) (ix_symbols (by_ix step a).whole) (term_symbols (by_ix step b).right_of_sum) (placed Whole (ix_extent prelude a)) (placed RightOfSum (ix_extent prelude b)) f.whole g.right_of_sum));
+        (between (codes "+") (record { separator = refl; opening = refl; closing = refl; item = refl }) (ix_symbols (by_ix step a).whole) (term_symbols (by_ix step b).right_of_sum) (placed Whole (ix_extent prelude a)) (placed RightOfSum (ix_extent prelude b)) f.whole g.right_of_sum));
     sub = λ a b f g. at_node (ix.Sub a b) _ _ (sub_here step a b) (sub_here (spec.ix_step prelude) a b)
         (sum_spans (minus (by_ix step a).whole (by_ix step b).right_of_sum) (and_tokens 1 (beside (placed Whole (ix_extent prelude a)) (placed RightOfSum (ix_extent prelude b))))
-        (mark_between (codes "-") (record { separator = refl; opening = refl; closing = refl; item = refl }) (ix_symbols (by_ix step a).whole) (term_symbols (by_ix step b).right_of_sum) (placed Whole (ix_extent prelude a)) (placed RightOfSum (ix_extent prelude b)) f.whole g.right_of_sum));
+        (between (codes "-") (record { separator = refl; opening = refl; closing = refl; item = refl }) (ix_symbols (by_ix step a).whole) (term_symbols (by_ix step b).right_of_sum) (placed Whole (ix_extent prelude a)) (placed RightOfSum (ix_extent prelude b)) f.whole g.right_of_sum));
     mul = λ a b f g. at_node (ix.Mul a b) _ _ (mul_here step a b) (mul_here (spec.ix_step prelude) a b)
         (product_spans (times (by_ix step a).left_of_product (by_ix step b).right_of_product) (and_tokens 1 (beside (placed LeftOfProduct (ix_extent prelude a)) (placed RightOfProduct (ix_extent prelude b))))
-        (mark_between (codes "*") (record { separator = refl; opening = refl; closing = refl; item = refl }) (term_symbols (by_ix step a).left_of_product) (factor_symbols (by_ix step b).right_of_product) (placed LeftOfProduct (ix_extent prelude a)) (placed RightOfProduct (ix_extent prelude b)) f.left_of_product g.right_of_product));
+        (between (codes "*") (record { separator = refl; opening = refl; closing = refl; item = refl }) (term_symbols (by_ix step a).left_of_product) (factor_symbols (by_ix step b).right_of_product) (placed LeftOfProduct (ix_extent prelude a)) (placed RightOfProduct (ix_extent prelude b)) f.left_of_product g.right_of_product));
     min = λ a b f g. at_node (ix.Min a b) _ _ (min_here step a b) (min_here (spec.ix_step prelude) a b) (chosen_spans prelude minimum (by_ix step a) (by_ix step b) (ix_extent prelude a) (ix_extent prelude b) f g);
     max = λ a b f g. at_node (ix.Max a b) _ _ (max_here step a b) (max_here (spec.ix_step prelude) a b) (chosen_spans prelude maximum (by_ix step a) (by_ix step b) (ix_extent prelude a) (ix_extent prelude b) f g);
     remainder = λ a b f g. at_node (ix.Mod a b) _ _ (mod_here step a b) (mod_here (spec.ix_step prelude) a b) (chosen_spans prelude remainder (by_ix step a) (by_ix step b) (ix_extent prelude a) (ix_extent prelude b) f g);
@@ -258,13 +263,13 @@ module _ (prelude : Bool) (names : Names) (quiet : AreQuiet names) where
   plain_rel Equal = record { separator = refl; opening = refl; closing = refl; item = refl }
 
   compare_spans : (c : Compare) → Spans (cond_symbols (cond_text prelude names c)) (compare_extent prelude c)
-  compare_spans c = mark_between (rel_mark c.rel) (plain_rel c.rel) (ix_symbols (ix_text prelude names c.left)) (ix_symbols (ix_text prelude names c.right)) (whole prelude c.left) (whole prelude c.right) (ix_spans c.left) (ix_spans c.right)
+  compare_spans c = between (rel_mark c.rel) (plain_rel c.rel) (ix_symbols (ix_text prelude names c.left)) (ix_symbols (ix_text prelude names c.right)) (whole prelude c.left) (whole prelude c.right) (ix_spans c.left) (ix_spans c.right)
 
   conds_span : (ds : CondsText prelude) (a : Extent) (cs : List Compare) → Spans (conds_symbols ds) a → Spans (conds_symbols (and_conds prelude names ds cs)) (compares_behind prelude a cs)
   conds_span ds a [] h = h
   conds_span ds a (c ∷ cs) h =
       conds_span (and_cond ds (cond_text prelude names c)) (and_tokens 1 (beside a (compare_extent prelude c))) cs
-      (mark_between (codes "&&") (record { separator = refl; opening = refl; closing = refl; item = refl }) (conds_symbols ds) (cond_symbols (cond_text prelude names c)) a (compare_extent prelude c) h (compare_spans c))
+      (between (codes "&&") (record { separator = refl; opening = refl; closing = refl; item = refl }) (conds_symbols ds) (cond_symbols (cond_text prelude names c)) a (compare_extent prelude c) h (compare_spans c))
 
   pub conds_spans : (cs : List Compare) → Spans (conds_symbols (conds_text prelude names cs)) (conds_extent prelude cs)
   conds_spans [] =
@@ -278,3 +283,95 @@ module _ (prelude : Bool) (names : Names) (quiet : AreQuiet names) where
         depth = refl;
       }
   conds_spans (c ∷ cs) = conds_span (cond (cond_text prelude names c)) (compare_extent prelude c) cs (compare_spans c)
+
+-- ---- Values
+
+pub record ValSpans {prelude : Bool} (w : ValueWritten prelude) (s : ValExtent) : Type 0 where
+  pub level_0 : Spans (value_symbols w.level_0) (at_level level.Primary s)
+  pub level_1 : Spans (value_symbols w.level_1) (at_level level.Product s)
+  pub level_2 : Spans (value_symbols w.level_2) (at_level level.Sum s)
+  pub level_3 : Spans (value_symbols w.level_3) (at_level level.Shifted s)
+  pub level_4 : Spans (value_symbols w.level_4) (at_level level.And s)
+  pub level_5 : Spans (value_symbols w.level_5) (at_level level.Xor s)
+  pub level_6 : Spans (value_symbols w.level_6) (at_level level.Or s)
+
+module _ {prelude : Bool} where
+  primary_spans : (t : ValueText prelude 0) (e : Extent) → Spans (value_symbols t) e → ValSpans (primary_written t) (record { extent = e; level = 0 })
+  primary_spans t e h = record { level_0 = h; level_1 = h; level_2 = h; level_3 = h; level_4 = h; level_5 = h; level_6 = h }
+
+  times_spans : (t : ValueText prelude 1) (e : Extent) → Spans (value_symbols t) e → ValSpans (times_written t) (record { extent = e; level = 1 })
+  times_spans t e h = record { level_0 = in_round (value_symbols t) e h; level_1 = h; level_2 = h; level_3 = h; level_4 = h; level_5 = h; level_6 = h }
+
+  plus_spans : (t : ValueText prelude 2) (e : Extent) → Spans (value_symbols t) e → ValSpans (plus_written t) (record { extent = e; level = 2 })
+  plus_spans t e h = let i = in_round (value_symbols t) e h in record { level_0 = i; level_1 = i; level_2 = h; level_3 = h; level_4 = h; level_5 = h; level_6 = h }
+
+  shift_spans : (t : ValueText prelude 3) (e : Extent) → Spans (value_symbols t) e → ValSpans (shift_written t) (record { extent = e; level = 3 })
+  shift_spans t e h = let i = in_round (value_symbols t) e h in record { level_0 = i; level_1 = i; level_2 = i; level_3 = h; level_4 = h; level_5 = h; level_6 = h }
+
+  and_spans : (t : ValueText prelude 4) (e : Extent) → Spans (value_symbols t) e → ValSpans (and_written t) (record { extent = e; level = 4 })
+  and_spans t e h = let i = in_round (value_symbols t) e h in record { level_0 = i; level_1 = i; level_2 = i; level_3 = i; level_4 = h; level_5 = h; level_6 = h }
+
+  xor_spans : (t : ValueText prelude 5) (e : Extent) → Spans (value_symbols t) e → ValSpans (xor_written t) (record { extent = e; level = 5 })
+  xor_spans t e h = let i = in_round (value_symbols t) e h in record { level_0 = i; level_1 = i; level_2 = i; level_3 = i; level_4 = i; level_5 = h; level_6 = h }
+
+  or_spans : (t : ValueText prelude 6) (e : Extent) → Spans (value_symbols t) e → ValSpans (or_written t) (record { extent = e; level = 6 })
+  or_spans t e h = let i = in_round (value_symbols t) e h in record { level_0 = i; level_1 = i; level_2 = i; level_3 = i; level_4 = i; level_5 = i; level_6 = h }
+
+  binary_spans : (op : Op) (v w : ValueWritten prelude) (a b : ValExtent) → ValSpans v a → ValSpans w b → ValSpans (binary_written op v w) (spec.binary op a b)
+  binary_spans Mul v w a b p q = times_spans _ _ (between (op_mark Mul) (record { separator = refl; opening = refl; closing = refl; item = refl }) _ _ _ _ p.level_1 q.level_0)
+  binary_spans Add v w a b p q = plus_spans _ _ (between (op_mark Add) (record { separator = refl; opening = refl; closing = refl; item = refl }) _ _ _ _ p.level_2 q.level_1)
+  binary_spans Sub v w a b p q = plus_spans _ _ (between (op_mark Sub) (record { separator = refl; opening = refl; closing = refl; item = refl }) _ _ _ _ p.level_2 q.level_1)
+  binary_spans And v w a b p q = and_spans _ _ (between (op_mark And) (record { separator = refl; opening = refl; closing = refl; item = refl }) _ _ _ _ p.level_4 q.level_3)
+  binary_spans Xor v w a b p q = xor_spans _ _ (between (op_mark Xor) (record { separator = refl; opening = refl; closing = refl; item = refl }) _ _ _ _ p.level_5 q.level_4)
+  binary_spans Or v w a b p q = or_spans _ _ (between (op_mark Or) (record { separator = refl; opening = refl; closing = refl; item = refl }) _ _ _ _ p.level_6 q.level_5)
+
+  amount_spans : (left : Bool) (t : ValueText prelude 3) (ds : Digits) (o : Option (IsTrue (is_shift ds))) (e : Extent) → Spans (value_symbols t) e → Spans (value_symbols (shift_by left t ds o)) (and_tokens 2 e)
+  amount_spans left t ds o e h = of o
+    where
+      two : (digits : Digits) → Spans (value_symbols t ++ mark (shift_mark left) ∷ number digits ∷ []) (and_tokens 2 e)
+      two digits =
+          let n = h.tokens in
+          let same : max h.deep 0 ≡ h.deep = omega arith in
+          let more = row_both h.count 2 h.deep 0 (value_symbols t) (mark (shift_mark left) ∷ number digits ∷ []) h.row (row_more 1 0 (mark (shift_mark left)) (number digits ∷ []) (shift_plain left) (plain_row (number digits) (plain_number digits))) in
+          record { count = h.count + 2; deep = h.deep; row = subst (λ m. Row (h.count + 2) m (value_symbols t ++ mark (shift_mark left) ∷ number digits ∷ [])) same more; tokens = omega (arith, n); depth = h.depth }
+
+      of : (o : Option (IsTrue (is_shift ds))) → Spans (value_symbols (shift_by left t ds o)) (and_tokens 2 e)
+      of None = two (codes "0")
+      of (Some d) = two ds
+
+module _ (prelude : Bool) (names : Names) (quiet : AreQuiet names) where
+  abbrev step_v : Val-F (ValueWritten prelude) → ValueWritten prelude
+  step_v = printed.value_step prelude names
+
+  abbrev Weighs : Val → Type 0
+  Weighs v = ValSpans (by_val step_v v) (val_extent prelude v)
+
+  at_value : (v : Val) (w : ValueWritten prelude) (s : ValExtent) → by_val step_v v ≡ w → val_extent prelude v ≡ s → ValSpans w s → Weighs v
+  at_value v w s p q h = subst (λ z. ValSpans z (val_extent prelude v)) (sym p) (subst (ValSpans w) (sym q) h)
+
+  cast_spans : (e : Ix) → Spans (value_symbols (cast (ix_text prelude names e))) (and_tokens 3 (bracketed (whole prelude e)))
+  cast_spans e =
+      let text = ix_text prelude names e in
+      let w = word (codes "uint64_t") in
+      let first = in_round (w ∷ []) (record { tokens = 1; depth = 0 }) (spans_one w (plain_word (codes "uint64_t") refl)) in
+      let q = in_round (ix_symbols text) (whole prelude e) (ix_spans prelude names quiet e) in
+      let t = first.tokens in let u = q.tokens in let v = first.depth in let x = q.depth in
+      let row = row_both first.count q.count first.deep q.deep (mark (codes "(") ∷ w ∷ mark (codes ")") ∷ []) (mark (codes "(") ∷ (ix_symbols text ++ mark (codes ")") ∷ [])) first.row q.row in
+      record { count = first.count + q.count; deep = max first.deep q.deep; row = row; tokens = omega (arith, t, u); depth = omega (arith, v, x) }
+
+  val_measures : ValCases Weighs
+  val_measures = record {
+    load = λ id subs. primary_spans (load (array_name names id) (dims_text prelude names subs)) (dims_behind prelude (record { tokens = 1; depth = 0 }) subs)
+        (dims_span prelude names quiet no_dims (word (array_name names id) ∷ []) (record { tokens = 1; depth = 0 }) subs (spans_one (word (array_name names id)) (plain_word (array_name names id) (quiet.arrays id))));
+    const = λ n. primary_spans (constant (digits_of n ++ codes "ULL")) (record { tokens = 1; depth = 0 }) (spans_one _ (record { separator = refl; opening = refl; closing = refl; item = refl }));
+    cast = λ e. primary_spans (cast (ix_text prelude names e)) (and_tokens 3 (bracketed (whole prelude e))) (cast_spans e);
+    not = λ a f. at_value (val.Not a) _ _ (not_here step_v a) (not_here (spec.val_step prelude) a)
+        (primary_spans (complement (by_val step_v a).level_0) (and_tokens 1 (at_level level.Primary (val_extent prelude a)))
+        (call_row (mark (codes "~")) (value_symbols (by_val step_v a).level_0) (at_level level.Primary (val_extent prelude a)) (record { separator = refl; opening = refl; closing = refl; item = refl }) f.level_0));
+    bin = λ op a b f g. at_value (val.Bin op a b) _ _ (bin_here step_v op a b) (bin_here (spec.val_step prelude) op a b) (binary_spans op (by_val step_v a) (by_val step_v b) (val_extent prelude a) (val_extent prelude b) f g);
+    shift = λ left a by f. at_value (val.Shift left a by) _ _ (shift_here step_v left a by) (shift_here (spec.val_step prelude) left a by)
+        (shift_spans _ (and_tokens 2 (at_level level.Shifted (val_extent prelude a))) (amount_spans left (by_val step_v a).level_3 (digits_of by) (holding (is_shift (digits_of by))) (at_level level.Shifted (val_extent prelude a)) f.level_3));
+  }
+
+  pub val_spans : (v : Val) → Spans (value_symbols (value_text prelude names v)) (at_level level.Or (val_extent prelude v))
+  val_spans v = (every_val Weighs val_measures v).level_6

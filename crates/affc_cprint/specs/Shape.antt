@@ -4,6 +4,7 @@ use Rattle.std.specs.Prelude.{ℕ, ◌+◌, ◌-◌, ◌^◌, Bool, true, false,
 use Rattle.affc_ast.specs.declared.tree.Ix.{Ix}
 use Rattle.affc_ast.specs.declared.tree.Ix.TheOpen as ix
 use Rattle.affc_ast.specs.declared.tree.Ix.TheOpen.{Ix-F}
+use Rattle.affc_ast.specs.declared.tree.Op.{Op}
 use Rattle.affc_ast.specs.declared.tree.Compare.{Compare}
 use Rattle.affc_ast.specs.declared.tree.Local.{Local}
 use Rattle.affc_ast.specs.declared.tree.Val.{Val}
@@ -140,12 +141,15 @@ conds_extent prelude (c ∷ cs) = compares_behind prelude (compare_extent prelud
 abbrev pub at_level : Level → ValExtent → Extent
 at_level level v = bracketed_if (nat_lt (number_of level) v.level) v.extent
 
+abbrev pub binary : Op → ValExtent → ValExtent → ValExtent
+binary op a b = record { extent = and_tokens 1 (beside (at_level (op_left op) a) (at_level (op_right op) b)); level = level_of op }
+
 abbrev pub val_step : (prelude : Bool) → Val-F ValExtent → ValExtent
 val_step prelude (val.Load id subs) = record { extent = dims_behind prelude (record { tokens = 1; depth = 0 }) subs; level = 0 }
 val_step prelude (val.Const n) = record { extent = record { tokens = 1; depth = 0 }; level = 0 }
 val_step prelude (val.Cast e) = record { extent = and_tokens 3 (bracketed (whole prelude e)); level = 0 }
 val_step prelude (val.Not a) = record { extent = and_tokens 1 (at_level Primary a); level = 0 }
-val_step prelude (val.Bin op a b) = record { extent = and_tokens 1 (beside (at_level (op_left op) a) (at_level (op_right op) b)); level = level_of op }
+val_step prelude (val.Bin op a b) = binary op a b
 val_step prelude (val.Shift left a by) = record { extent = and_tokens 2 (at_level Shifted a); level = 3 }
 
 abbrev pub val_extent : (prelude : Bool) → Val → ValExtent
