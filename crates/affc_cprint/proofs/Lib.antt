@@ -30,6 +30,7 @@ pub mod Counts
 pub mod Shapes
 pub mod ShapeParts
 pub mod ShapeStatements
+pub mod ShapePrograms
 pub mod Induction
 pub mod KnownBack
 pub mod KnownPrograms

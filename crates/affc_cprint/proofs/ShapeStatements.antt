@@ -15,7 +15,7 @@ use Rattle.affc_ast.specs.declared.tree.Local.{Local}
 use Rattle.affc_ast.specs.declared.tree.Val.{Val}
 use Rattle.affc_ast.specs.declared.tree.Stmt.{Stmt}
 use Rattle.affc_ast.specs.declared.tree.Stmt.TheVariants as stmt
-use Rattle.affc_grammar.specs.Grammar.{Name, Symbol, word, mark, bound_mark, assign_mark, op_mark, LocalsText, no_locals, and_local, StmtsText, no_stmts, and_stmt, StmtText, simple, block, for_loop, if_all, assign, braces, then_up, ix_symbols, dims_symbols, conds_symbols, value_symbols, locals_symbols, stmts_symbols, stmt_symbols}
+use Rattle.affc_grammar.specs.Grammar.{Name, Symbol, word, mark, bound_mark, assign_mark, op_mark, LocalsText, no_locals, and_local, StmtsText, no_stmts, and_stmt, StmtText, simple, block, for_loop, if_all, assign, braces, then_up, no_dims, ix_symbols, dims_symbols, conds_symbols, value_symbols, locals_symbols, stmts_symbols, stmt_symbols}
 use Rattle.affc_grammar.specs.Limits.{count_token, count_run, count_open, count_item, is_separator, is_opening, is_closing, is_item}
 use Rattle.affc_grammar.specs.Printed as printed
 use Rattle.affc_grammar.specs.Printed.{Names, array_name, and_number, ix_text, dims_text, conds_text, value_text, is_less, local_text, locals_text, stmts_text, stmt_text}
@@ -28,12 +28,13 @@ use Rattle.affc_cprint.specs.Shape as spec
 use Rattle.affc_cprint.specs.Shape.{capped, larger, nothing, whole, dims_behind, conds_extent, at_level, val_extent, both, line, deeper, worded, closed, all_behind, locals_behind, for_head, if_head, assign_line, block_head, stmt_shape, stmts_behind}
 use Rattle.affc_cprint.specs.declared.value.Level.TheVariants as level
 use Rattle.affc_cprint.proofs.Arms.{for_here, if_here, block_here}
+use Rattle.affc_cprint.proofs.Chains.{locals_names}
 use Rattle.affc_cprint.proofs.Spelled.{off, not_true, never}
 use Rattle.affc_cprint.proofs.Sees.{same_is}
 use Rattle.affc_cprint.proofs.ReadBackValues.{Each}
 use Rattle.affc_cprint.proofs.Induction.{StmtCases, every_stmt}
-use Rattle.affc_cprint.proofs.Counts.{Adds, Rises, Runs, adds_both, rises_both, runs_both, none_added, none_risen, no_runs, any_tokens, count_is, adds_after, adds_most, run_ends, NoBracket, rises_one, rises_more, rises_within, items_more, items_one, run_more, IsPlain, Row, row_more, no_row}
-use Rattle.affc_cprint.proofs.ShapeParts.{Spans, AreQuiet, larger_is, spans_both, plain_word, ix_spans, dims_span, conds_spans, val_spans}
+use Rattle.affc_cprint.proofs.Counts.{Adds, Rises, Runs, adds_both, rises_both, runs_both, none_added, none_risen, no_runs, any_tokens, count_is, adds_after, adds_most, run_ends, NoBracket, rises_one, rises_more, rises_within, items_more, items_one, run_more, IsPlain, Row, row_both, row_more, no_row}
+use Rattle.affc_cprint.proofs.ShapeParts.{Spans, AreQuiet, larger_is, spans_both, spans_one as one_word, plain_word, ix_spans, dims_span, conds_spans, val_spans}
 
 pub record Numbers : Type 0 where
   pub tokens : ℕ
@@ -354,7 +355,7 @@ module _ (hs bs : List Symbol) (h b : Numbers) (head : Counted hs h) (body : Cou
 
 -- ---- Names that are in sight
 
-quiet_end : (names : Names) (w : Name) → AreQuiet names → is_item (word w) ≡ false → AreQuiet (and_number names w)
+pub quiet_end : (names : Names) (w : Name) → AreQuiet names → is_item (word w) ≡ false → AreQuiet (and_number names w)
 quiet_end names w q h = record { numbers = λ id. of names.numbers id.0 (λ i. q.numbers (record { 0 = i })); arrays = q.arrays }
   where
     of : (xs : List Name) (i : ℕ) → ((j : ℕ) → is_item (word (unwrap_or (slice_get xs j) [])) ≡ false) → is_item (word (unwrap_or (slice_get (xs ++ w ∷ []) i) [])) ≡ false
@@ -362,3 +363,196 @@ quiet_end names w q h = record { numbers = λ id. of names.numbers id.0 (λ i. q
     of [] (suc i) f = refl
     of (x ∷ xs) zero f = f zero
     of (x ∷ xs) (suc i) f = of xs i (λ j. f (suc j))
+
+-- ---- Several
+
+joined_assoc : (a b c : Numbers) → joined (joined a b) c ≡ joined a (joined b c)
+joined_assoc a b c =
+    let t : a.tokens + b.tokens + c.tokens ≡ a.tokens + (b.tokens + c.tokens) = omega arith in
+    let r : max (max a.run b.run) c.run ≡ max a.run (max b.run c.run) = omega arith in
+    let d : max (max a.depth b.depth) c.depth ≡ max a.depth (max b.depth c.depth) = omega arith in
+    let i : a.items + b.items + c.items ≡ a.items + (b.items + c.items) = omega arith in
+    λ j. record { tokens = t j; run = r j; depth = d j; items = i j }
+
+joined_none : (a : Numbers) → joined a none ≡ a
+joined_none a =
+    let t : a.tokens + 0 ≡ a.tokens = omega arith in
+    let r : max a.run 0 ≡ a.run = omega arith in
+    let d : max a.depth 0 ≡ a.depth = omega arith in
+    let i : a.items + 0 ≡ a.items = omega arith in
+    λ j. record { tokens = t j; run = r j; depth = d j; items = i j }
+
+-- tokens behind others, and the shape of all
+pub record Behind (ss : List Symbol) (before : Numbers) (all : Shape) : Type 0 where
+  pub numbers : Numbers
+  pub counted : Counted ss numbers
+  pub fits : Fits all (joined before numbers)
+
+pub none_behind : (a : Shape) (n : Numbers) → Fits a n → Behind [] n a
+none_behind a n h = record { numbers = none; counted = nothing_counted; fits = subst (Fits a) (sym (joined_none n)) h }
+
+pub one_behind : (ss ts : List Symbol) (n m : Numbers) (a b : Shape) → Behind ss n a → Counted ts m → Fits b m → Behind (ss ++ ts) n (both a b)
+one_behind ss ts n m a b p c f = record {
+  numbers = joined p.numbers m;
+  counted = counted_both ss ts p.numbers m p.counted c;
+  fits = subst (Fits (both a b)) (joined_assoc n p.numbers m) (fits_both a b (joined n p.numbers) m p.fits f);
+}
+
+pub spans_fit : (more : ℕ) (ss : List Symbol) (e : Extent) (s : Spans ss e) → Fits (line more e) (line_of more s.count s.deep)
+spans_fit more ss e s = fits_line more e s.count s.deep s.tokens s.depth
+
+-- a line with so many tokens before a part
+pub part_line : (front : List Symbol) (k : ℕ) (ss : List Symbol) (e : Extent) (last : Symbol) (s : Spans ss e) → is_separator last ≡ true → NoBracket last → is_item last ≡ false → Row (k + s.count) s.deep (front ++ ss)
+    → Counted ((front ++ ss) ++ last ∷ []) (line_of k s.count s.deep)
+part_line front k ss e last s a b c r =
+    let same : k + s.count ≡ s.count + k = omega arith in
+    line_counted (front ++ ss) last k s.count s.deep a b c (subst (λ n. Row n s.deep (front ++ ss)) same r)
+
+plain_assign : (o : Option Op) → IsPlain (mark (assign_mark o))
+plain_assign None = record { separator = refl; opening = refl; closing = refl; item = refl }
+plain_assign (Some op.Mul) = record { separator = refl; opening = refl; closing = refl; item = refl }
+plain_assign (Some op.Add) = record { separator = refl; opening = refl; closing = refl; item = refl }
+plain_assign (Some op.Sub) = record { separator = refl; opening = refl; closing = refl; item = refl }
+plain_assign (Some op.And) = record { separator = refl; opening = refl; closing = refl; item = refl }
+plain_assign (Some op.Xor) = record { separator = refl; opening = refl; closing = refl; item = refl }
+plain_assign (Some op.Or) = record { separator = refl; opening = refl; closing = refl; item = refl }
+
+-- ---- Locals
+
+one_local : (names : Names) (quiet : AreQuiet names) (l : Local) → is_item (word l.name) ≡ false
+    → Shapes (word (codes "const") ∷ word (codes "int64_t") ∷ word l.name ∷ mark (codes "=") ∷ (ix_symbols (ix_text true names l.value) ++ mark (codes ";") ∷ [])) (line 4 (whole true l.value))
+one_local names quiet l plain =
+    let s = ix_spans true names quiet l.value in
+    let text = ix_symbols (ix_text true names l.value) in
+    record {
+      numbers = line_of 4 s.count s.deep;
+      fits = spans_fit 4 text (whole true l.value) s;
+      counted = part_line (word (codes "const") ∷ word (codes "int64_t") ∷ word l.name ∷ mark (codes "=") ∷ []) 4 text (whole true l.value) (mark (codes ";")) s refl (record { opening = refl; closing = refl }) refl
+          (subst (λ n. Row n s.deep (word (codes "const") ∷ word (codes "int64_t") ∷ word l.name ∷ mark (codes "=") ∷ text)) (four s.count)
+          (row_more _ _ (word (codes "const")) _ (plain_word (codes "const") refl) (row_more _ _ (word (codes "int64_t")) _ (plain_word (codes "int64_t") refl) (row_more _ _ (word l.name) _ (plain_word l.name plain)
+          (row_more s.count s.deep (mark (codes "=")) text (record { separator = refl; opening = refl; closing = refl; item = refl }) s.row)))));
+    }
+  where
+    four : (n : ℕ) → 1 + (1 + (1 + (1 + n))) ≡ 4 + n
+    four n = omega arith
+
+record LocalsShapes {prelude : Bool} (c : LocalsText prelude) (before : Numbers) (all : Shape) (names : Names) : Type 0 where
+  here : Behind (locals_symbols c) before all
+  quiet : AreQuiet names
+
+locals_shapes : (prelude : Bool) (k : Known) (before : List Local) (names : Names) → AreQuiet names → (c : LocalsText prelude) (n : Numbers) (a : Shape) → Behind (locals_symbols c) n a → (ls : List Local) → locals_known k before ls ≡ true
+    → LocalsShapes (locals_text prelude names c ls).0 n (locals_behind prelude a ls) (with_locals names ls)
+locals_shapes true k before names quiet c n a b [] h = record { here = b; quiet = quiet }
+locals_shapes false k before names quiet c n a b [] h = record { here = b; quiet = quiet }
+locals_shapes true k before names quiet c n a b (l ∷ ls) h =
+    let p = and_parts (local_known (and_locals k before) l) (locals_known k (before ++ l ∷ []) ls) h in
+    let q = and_parts (is_new (and_locals k before) false l.name) (ix_known (and_locals k before) l.value) p.0 in
+    let plain = new_no_item (and_locals k before) false l.name q.0 in
+    let s = one_local names quiet l plain in
+    locals_shapes true k (before ++ l ∷ []) (and_number names l.name) (quiet_end names l.name quiet plain) (and_local refl c l.name (ix_text true names l.value)) n (both a (line 4 (whole true l.value)))
+    (one_behind (locals_symbols c) _ n s.numbers a (line 4 (whole true l.value)) b s.counted s.fits) ls p.1
+locals_shapes false k before names quiet c n a b (l ∷ ls) h =
+    let p = and_parts (local_known (and_locals k before) l) (locals_known k (before ++ l ∷ []) ls) h in
+    let q = and_parts (is_new (and_locals k before) false l.name) (ix_known (and_locals k before) l.value) p.0 in
+    let r = locals_shapes false k (before ++ l ∷ []) (and_number names l.name) (quiet_end names l.name quiet (new_no_item (and_locals k before) false l.name q.0)) c n a b ls p.1 in
+    record { here = r.here; quiet = r.quiet }
+
+-- ---- Statements
+
+module _ (prelude : Bool) where
+  abbrev Weighs : Stmt → Type 0
+  Weighs s = (k : Known) (names : Names) → AreQuiet names → stmt_known s k ≡ true → Shapes (stmt_symbols (stmt_text prelude s names)) (stmt_shape prelude s)
+
+  pub body_shapes : (k : Known) (names : Names) → AreQuiet names → (t : StmtsText prelude) (n : Numbers) (a : Shape) → Behind (stmts_symbols t) n a → (body : List Stmt) → Each Weighs body → stmts_known k body ≡ true
+      → Behind (stmts_symbols (stmts_text names t (map (stmt_text prelude) body))) n (stmts_behind prelude a body)
+  body_shapes k names quiet t n a b [] f h = b
+  body_shapes k names quiet t n a b (s ∷ body) f h =
+      let p = and_parts (stmt_known s k) (stmts_known k body) h in
+      let r = f.0 k names quiet p.0 in
+      body_shapes k names quiet (and_stmt t (stmt_text prelude s names)) n (both a (stmt_shape prelude s)) (one_behind (stmts_symbols t) (stmt_symbols (stmt_text prelude s names)) n r.numbers a (stmt_shape prelude s) b r.counted r.fits) body f.1 p.1
+
+  loop_weighs : (iter : Name) (low : Ix) (rel : Rel) (high : Ix) (body : List Stmt) → Each Weighs body → Weighs (stmt.For iter low rel high body)
+  loop_weighs iter low rel high body f k names quiet h =
+      let whole_so : (for_known k iter low rel high && stmts_known (and_iterator k iter) body) ≡ true = ap (λ (g : Known → Bool). g k) (sym (for_here known.stmt_step iter low rel high body)) ∙ h in
+      let p = and_parts (for_known k iter low rel high) (stmts_known (and_iterator k iter) body) whole_so in
+      let q = and_parts (is_new k true iter) (is_bound rel && (ix_known k low && ix_known k high)) p.0 in
+      let plain = new_no_item k true iter q.0 in
+      let inner = and_number names iter in
+      let bt = stmts_text {prelude = prelude} inner no_stmts (map (stmt_text prelude) body) in
+      let s = ix_spans prelude names quiet low in
+      let t = ix_spans prelude names quiet high in
+      let ls = ix_symbols (ix_text prelude names low) in
+      let hs = ix_symbols (ix_text prelude names high) in
+      let head : Numbers = joined (joined (line_of 5 s.count s.deep) (line_of 2 t.count t.deep)) (line_of 3 0 0) in
+      let fits_head : Fits (for_head prelude low high) head = fits_both (both (line 5 (whole prelude low)) (line 2 (whole prelude high))) (line 3 nothing) _ _
+      (fits_both (line 5 (whole prelude low)) (line 2 (whole prelude high)) _ _ (spans_fit 5 ls (whole prelude low) s) (spans_fit 2 hs (whole prelude high) t)) (fits_line 3 nothing 0 0 refl refl) in
+      let b = body_shapes (and_iterator k iter) inner (quiet_end names iter quiet plain) no_stmts head (for_head prelude low high) (none_behind (for_head prelude low high) head fits_head) body f p.1 in
+      subst (λ (g : Names → StmtText prelude). Shapes (stmt_symbols (g names)) (stmt_shape prelude (stmt.For iter low rel high body))) (sym (for_here (printed.stmt_step prelude) iter low rel high body))
+      (subst (Shapes (stmt_symbols {prelude = prelude} (simple (for_loop iter (ix_text prelude names low) iter (is_less rel) (ix_text prelude names high) (then_up iter) (braces bt))))) (sym (for_here (spec.stmt_step prelude) iter low rel high body)) (record {
+        numbers = worded_of (closed_of (joined head b.numbers));
+        fits = fits_worded (closed (stmts_behind prelude (for_head prelude low high) body)) _ (fits_closed (stmts_behind prelude (for_head prelude low high) body) _ b.fits);
+        counted = loop_counted iter (is_less rel) plain ls hs (stmts_symbols bt) s.count s.deep t.count t.deep s.row t.row b.numbers b.counted;
+      }))
+
+  test_weighs : (cs : List Compare) (body : List Stmt) → Each Weighs body → Weighs (stmt.If cs body)
+  test_weighs cs body f k names quiet h =
+      let whole_so : (if_known k cs && stmts_known k body) ≡ true = ap (λ (g : Known → Bool). g k) (sym (if_here known.stmt_step cs body)) ∙ h in
+      let p = and_parts (if_known k cs) (stmts_known k body) whole_so in
+      let bt = stmts_text {prelude = prelude} names no_stmts (map (stmt_text prelude) body) in
+      let s = conds_spans prelude names quiet cs in
+      let ss = conds_symbols (conds_text prelude names cs) in
+      let head : Numbers = line_of 3 s.count s.deep in
+      let b = body_shapes k names quiet no_stmts head (if_head prelude cs) (none_behind (if_head prelude cs) head (spans_fit 3 ss (conds_extent prelude cs) s)) body f p.1 in
+      subst (λ (g : Names → StmtText prelude). Shapes (stmt_symbols (g names)) (stmt_shape prelude (stmt.If cs body))) (sym (if_here (printed.stmt_step prelude) cs body))
+      (subst (Shapes (stmt_symbols {prelude = prelude} (simple (if_all (conds_text prelude names cs) (braces bt))))) (sym (if_here (spec.stmt_step prelude) cs body)) (record {
+        numbers = worded_of (closed_of (joined head b.numbers));
+        fits = fits_worded (closed (stmts_behind prelude (if_head prelude cs) body)) _ (fits_closed (stmts_behind prelude (if_head prelude cs) body) _ b.fits);
+        counted = test_counted ss (stmts_symbols bt) s.count s.deep s.row b.numbers b.counted;
+      }))
+
+  assign_weighs : (o : Option Op) (id : ArrayId) (subs : List Ix) (v : Val) → Weighs (stmt.Assign o id subs v)
+  assign_weighs o id subs v k names quiet h =
+      let w = word (array_name names id) in
+      let ds = dims_symbols (dims_text prelude names subs) in
+      let vs = value_symbols (value_text prelude names v) in
+      let one : Extent = record { tokens = 1; depth = 0 } in
+      let s = dims_span prelude names quiet no_dims (w ∷ []) one subs (one_word w (plain_word (array_name names id) (quiet.arrays id))) in
+      let t = val_spans prelude names quiet v in
+      let a = s.tokens in let b = t.tokens in let c = s.depth in let d = t.depth in
+      let e = larger_is (dims_behind prelude one subs).depth (at_level level.Or (val_extent prelude v)).depth in
+      let size : s.count + (1 + t.count) ≡ s.count + t.count + 1 = omega arith in
+      let row : Row (s.count + t.count + 1) (max s.deep t.deep) ((w ∷ ds) ++ mark (assign_mark o) ∷ vs) =
+      subst (λ n. Row n (max s.deep t.deep) ((w ∷ ds) ++ mark (assign_mark o) ∷ vs)) size (row_both s.count (1 + t.count) s.deep t.deep (w ∷ ds) (mark (assign_mark o) ∷ vs) s.row (row_more t.count t.deep (mark (assign_mark o)) vs (plain_assign o) t.row)) in
+      let all = line_counted ((w ∷ ds) ++ mark (assign_mark o) ∷ vs) (mark (codes ";")) 1 (s.count + t.count) (max s.deep t.deep) refl (record { opening = refl; closing = refl }) refl row in
+      record {
+        numbers = line_of 1 (s.count + t.count) (max s.deep t.deep);
+        fits = fits_line 1 (spec.beside (dims_behind prelude one subs) (at_level level.Or (val_extent prelude v))) (s.count + t.count) (max s.deep t.deep) (omega (arith, a, b)) (omega (arith, c, d, e));
+        counted = subst (λ l. Counted l (line_of 1 (s.count + t.count) (max s.deep t.deep))) (ap (λ z. w ∷ z) (append_assoc ds (mark (assign_mark o) ∷ vs) (mark (codes ";") ∷ []))) all;
+      }
+
+  block_weighs : (ls : List Local) (body : List Stmt) → Each Weighs body → Weighs (stmt.Block ls body)
+  block_weighs ls body f k names quiet h =
+      let whole_so : (block_known k ls && stmts_known (and_locals k ls) body) ≡ true = ap (λ (g : Known → Bool). g k) (sym (block_here known.stmt_step ls body)) ∙ h in
+      let p = and_parts (block_known k ls) (stmts_known (and_locals k ls) body) whole_so in
+      let q = and_parts (k.prelude || is_none ls) (locals_known k [] ls) p.0 in
+      let r = locals_text prelude names no_locals ls in
+      let first : Numbers = line_of 0 0 0 in
+      let l = locals_shapes prelude k [] names quiet no_locals first (line 0 nothing) (none_behind (line 0 nothing) first (fits_line 0 nothing 0 0 refl refl)) ls q.1 in
+      let bt = stmts_text {prelude = prelude} (with_locals names ls) no_stmts (map (stmt_text prelude) body) in
+      let head : Numbers = joined first l.here.numbers in
+      let b = body_shapes (and_locals k ls) (with_locals names ls) l.quiet no_stmts head (block_head prelude ls) (none_behind (block_head prelude ls) head l.here.fits) body f p.1 in
+      let same : r.1 ≡ with_locals names ls = locals_names prelude names ls in
+      subst (λ (g : Names → StmtText prelude). Shapes (stmt_symbols (g names)) (stmt_shape prelude (stmt.Block ls body))) (sym (block_here (printed.stmt_step prelude) ls body))
+      (subst (λ n. Shapes (stmt_symbols {prelude = prelude} (block r.0 (stmts_text n no_stmts (map (stmt_text prelude) body)))) (stmt_shape prelude (stmt.Block ls body))) (sym same)
+      (subst (Shapes (stmt_symbols {prelude = prelude} (block r.0 bt))) (sym (block_here (spec.stmt_step prelude) ls body)) (record {
+        numbers = closed_of (joined head b.numbers);
+        fits = fits_closed (stmts_behind prelude (block_head prelude ls) body) _ b.fits;
+        counted = block_counted (locals_symbols r.0) (stmts_symbols bt) l.here.numbers b.numbers l.here.counted b.counted;
+      })))
+
+  pub stmt_weighs : (s : Stmt) → Weighs s
+  stmt_weighs s = every_stmt Weighs (record { loop = loop_weighs; test = test_weighs; assign = assign_weighs; block = block_weighs }) s
+
+  pub all_weigh : (xs : List Stmt) → Each Weighs xs
+  all_weigh [] = tt
+  all_weigh (x ∷ xs) = (stmt_weighs x, all_weigh xs)

@@ -17,7 +17,7 @@ use Rattle.affc_cprint.proofs.Knows.{Knows}
 use Rattle.affc_cprint.proofs.KnownPrograms.{program_speaks}
 use Rattle.affc_cprint.proofs.KnownFromTexts.{program_from}
 use Rattle.affc_cprint.proofs.Products.{plain_is}
-use Rattle.affc_cprint.proofs.ShapeStatements.{block_counted}
+use Rattle.affc_cprint.proofs.ShapePrograms
 
 known_iterator : (prelude : Bool) (w : Bor Name) (s : Bor Sight) → known_in prelude (view.Iterator w s) ≡ and_iterator (known_in prelude s.now) w.now
 known_iterator prelude w s = refl

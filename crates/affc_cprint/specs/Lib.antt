@@ -10,3 +10,4 @@ pub mod Known
 pub mod Sights
 pub mod Plain
 pub mod Shape
+pub mod Work

@@ -292,7 +292,7 @@ fn is_number(param: &Param) -> bool
     matches!(param, Param::Number { .. })
 }
 
-fn number_count(params: &[Param]) -> u64
+pub fn number_count(params: &[Param]) -> u64
     ensures { result ≡ known.number_count params.now }
 {
     let mut count = 0;

@@ -17,6 +17,7 @@ mod stmt;
 #[cfg(test)]
 mod tests;
 mod value;
+mod work;
 
 use affc_ast::tree::Program;
 use std::alloc::Global;

@@ -6,13 +6,13 @@ use crate::index::{Place, is_divided};
 use crate::value::{Level, left_of, level_of, right_of};
 use affc_ast::tree::{Compare, Decl, Ix, Local, Param, Program, Role, Stmt, Val};
 
-fn plus(a: u64, b: u64) -> u64
+pub fn plus(a: u64, b: u64) -> u64
     ensures { result ≡ spec.plus a b }
 {
     a.saturating_add(b)
 }
 
-fn larger(a: u64, b: u64) -> u64
+pub fn larger(a: u64, b: u64) -> u64
     ensures { result ≡ spec.larger a b }
 {
     if a < b { b } else { a }
