@@ -31,6 +31,7 @@ pub mod Shapes
 pub mod ShapeParts
 pub mod ShapeStatements
 pub mod ShapePrograms
+pub mod Works
 pub mod Induction
 pub mod KnownBack
 pub mod KnownPrograms
