@@ -32,6 +32,7 @@ pub mod ShapeParts
 pub mod ShapeStatements
 pub mod ShapePrograms
 pub mod Works
+pub mod Decides
 pub mod Induction
 pub mod KnownBack
 pub mod KnownPrograms

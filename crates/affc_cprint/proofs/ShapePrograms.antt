@@ -324,17 +324,17 @@ program_shapes p h =
 
 -- ---- The limits on the tokens
 
-kept_below : (n s limit : ℕ) → s ≡ capped n → limit ≤ 16777216 → nat_le s limit ≡ true → n ≤ limit
+pub kept_below : (n s limit : ℕ) → s ≡ capped n → limit ≤ 16777216 → nat_le s limit ≡ true → n ≤ limit
 kept_below n s limit e small h = let le = leb-true s limit h in omega (arith, e, small, le)
 
-below_kept : (n s limit : ℕ) → s ≡ capped n → n ≤ limit → nat_le s limit ≡ true
+pub below_kept : (n s limit : ℕ) → s ≡ capped n → n ≤ limit → nat_le s limit ≡ true
 below_kept n s limit e le = le-leb s limit (omega (arith, e, le))
 
-no_faults : {A B : Type 0} (f : A → B) (xs : List A) → map f xs ≡ [] → xs ≡ []
+pub no_faults : {A B : Type 0} (f : A → B) (xs : List A) → map f xs ≡ [] → xs ≡ []
 no_faults f [] e = refl
 no_faults f (x ∷ xs) e = absurd (cc)
 
-none_of_both : {A : Type 0} (xs ys : List A) → xs ++ ys ≡ [] → (xs ≡ []) × (ys ≡ [])
+pub none_of_both : {A : Type 0} (xs ys : List A) → xs ++ ys ≡ [] → (xs ≡ []) × (ys ≡ [])
 none_of_both [] ys e = (refl, e)
 none_of_both (x ∷ xs) ys e = absurd (cc)
 

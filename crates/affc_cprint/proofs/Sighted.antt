@@ -12,12 +12,6 @@ use Rattle.affc_cprint.specs.declared.sight.Sight.TheViews as view
 use Rattle.affc_cprint.specs.Known.{Known, and_iterator, and_locals, for_known, if_known, block_known, stmt_step, stmt_known, stmts_known}
 use Rattle.affc_cprint.specs.Sights.{known_in}
 use Rattle.affc_cprint.proofs.Arms.{for_here, if_here, block_here}
-use Rattle.affc_cprint.proofs.Induction.{every_stmt}
-use Rattle.affc_cprint.proofs.Knows.{Knows}
-use Rattle.affc_cprint.proofs.KnownPrograms.{program_speaks}
-use Rattle.affc_cprint.proofs.KnownFromTexts.{program_from}
-use Rattle.affc_cprint.proofs.Products.{plain_is}
-use Rattle.affc_cprint.proofs.ShapePrograms
 
 known_iterator : (prelude : Bool) (w : Bor Name) (s : Bor Sight) → known_in prelude (view.Iterator w s) ≡ and_iterator (known_in prelude s.now) w.now
 known_iterator prelude w s = refl

@@ -59,7 +59,7 @@ loads_are scope (shift left a by) v e =
 
 -- ---- Statements
 
-abbrev many : Assigned → Bool
+abbrev pub many : Assigned → Bool
 many a = nat_lt 16 a.accesses
 
 pub record Busy (as' : ℕ → List Assigned) (places : (limit n : ℕ) → List ℕ) (w : Work) : Type 0 where

@@ -11,3 +11,4 @@ pub mod Sights
 pub mod Plain
 pub mod Shape
 pub mod Work
+pub mod Kept
