@@ -29,7 +29,7 @@ use Rattle.affc_cprint.proofs.ReadBackValues.{Each, each_append, each_split, one
 use Rattle.affc_cprint.proofs.ReadBackTexts.{ProgramBack, inside_of, names_of, sees_inside}
 use Rattle.affc_cprint.proofs.Parts.{program_parts}
 
-abbrev calls_step : Ix-F Bool → Bool
+abbrev pub calls_step : Ix-F Bool → Bool
 calls_step (layer.Lit n) = false
 calls_step (layer.Name id) = false
 calls_step (layer.Neg a) = a
@@ -42,7 +42,7 @@ calls_step (layer.Mod a b) = true
 calls_step (layer.Floord a by) = true
 calls_step (layer.Ceild a by) = true
 
-abbrev calls_in : Ix → Bool
+abbrev pub calls_in : Ix → Bool
 calls_in e = by_ix calls_step e
 
 -- whether a "(" comes first
@@ -129,10 +129,10 @@ module _ {prelude : Bool} (scope : Scope) where
 
 -- ---- Conditions
 
-abbrev calls_beside : Compare → Bool
+abbrev pub calls_beside : Compare → Bool
 calls_beside c = calls_in c.left || calls_in c.right
 
-abbrev any_calls : List Compare → Bool
+abbrev pub any_calls : List Compare → Bool
 any_calls cs = list_any calls_beside cs
 
 or_false : (b : Bool) → (b || false) ≡ b
@@ -178,14 +178,14 @@ both_off : (a b : Bool) → (a || b) ≡ false → (a ≡ false) × (b ≡ false
 both_off true b e = absurd (false≢true (sym e))
 both_off false b e = (refl, e)
 
-quiet_lines : (c : PragmasText) (at : ℕ) → context_calls c ≡ false → Each QuietLine (pragmas_draft at c)
+pub quiet_lines : (c : PragmasText) (at : ℕ) → context_calls c ≡ false → Each QuietLine (pragmas_draft at c)
 quiet_lines no_pragmas at h = tt
 quiet_lines (and_range ps w low high line) at h = each_append QuietLine (pragmas_draft at ps) _ (quiet_lines ps at h) (tt, tt)
 quiet_lines (and_context ps cs line) at h =
     let p = both_off (context_calls ps) (has_call (conds_symbols cs)) h in
     each_append QuietLine (pragmas_draft at ps) _ (quiet_lines ps at p.0) ((cs, _, refl, p.1), tt)
 
-quiet_context : (inside : Scope) (ps : List PragmaDraft) (earlier : List Name) (xs : List Compare) → Each QuietLine ps → pragmas_tree inside earlier ps ≡ Ok xs → any_calls xs ≡ false
+pub quiet_context : (inside : Scope) (ps : List PragmaDraft) (earlier : List Name) (xs : List Compare) → Each QuietLine ps → pragmas_tree inside earlier ps ≡ Ok xs → any_calls xs ≡ false
 quiet_context inside [] earlier xs f e = sym (ap any_calls (ok_of e))
 quiet_context inside (draft.range w low_at low high ∷ ps) earlier xs f e =
     quiet_context inside ps (w.name ∷ earlier) xs f.1 (allowed_ok (why_ranged inside earlier w.name (thing_of inside w.name)) w.at _ xs e).1
@@ -200,7 +200,7 @@ ranges_quiet c [] = refl
 ranges_quiet c (Number w low high ∷ qs) = ranges_quiet (and_range c w (int_text low) (int_text high) line_feed) qs
 ranges_quiet c (Array d ∷ qs) = ranges_quiet c qs
 
-printed_quiet : (p : Program) → ProgramBack p → any_calls p.context ≡ false → context_calls (pragmas_of p) ≡ false
+pub printed_quiet : (p : Program) → ProgramBack p → any_calls p.context ≡ false → context_calls (pragmas_of p) ≡ false
 printed_quiet p b none =
     ap (λ n. context_calls (context_text n (ranges_text no_pragmas p.params) p.context)) (param_names_are true p.params) ∙ of p.context b.context none
   where

@@ -141,29 +141,29 @@ module _ (prelude : Bool) (scope : Scope) (names : Names) (sees : Sees scope nam
   abbrev pub IsBack : Ix → Type 0
   IsBack e = Back scope (by_ix (ix_step prelude names) e) e
 
-  add_back : (x y e : Ix) → ix.Add x y ≡ e → IsBack x → IsBack y → IsBack e
+  pub add_back : (x y e : Ix) → ix.Add x y ≡ e → IsBack x → IsBack y → IsBack e
   add_back x y e is bx by = subst IsBack is (subst (λ w. Back scope w (ix.Add x y)) (sym (add_here (ix_step prelude names) x y))
       (sum_back scope (plus (by_ix (ix_step prelude names) x).whole (by_ix (ix_step prelude names) y).right_of_sum) (ix.Add x y) (λ at. then_is _ _ x _ (bx.whole at) (then_is _ _ y _ (by.right_of_sum _) refl))
       (stand_both (ix_symbols (by_ix (ix_step prelude names) x).whole) (mark (codes "+") ∷ term_symbols (by_ix (ix_step prelude names) y).right_of_sum) bx.whole_stands by.right_of_sum_stands)))
 
-  sub_back : (x y e : Ix) → ix.Sub x y ≡ e → IsBack x → IsBack y → IsBack e
+  pub sub_back : (x y e : Ix) → ix.Sub x y ≡ e → IsBack x → IsBack y → IsBack e
   sub_back x y e is bx by = subst IsBack is (subst (λ w. Back scope w (ix.Sub x y)) (sym (sub_here (ix_step prelude names) x y))
       (sum_back scope (minus (by_ix (ix_step prelude names) x).whole (by_ix (ix_step prelude names) y).right_of_sum) (ix.Sub x y) (λ at. then_is _ _ x _ (bx.whole at) (then_is _ _ y _ (by.right_of_sum _) refl))
       (stand_both (ix_symbols (by_ix (ix_step prelude names) x).whole) (mark (codes "-") ∷ term_symbols (by_ix (ix_step prelude names) y).right_of_sum) bx.whole_stands by.right_of_sum_stands)))
 
-  mul_back : (x y e : Ix) → ix.Mul x y ≡ e → IsBack x → IsBack y → IsBack e
+  pub mul_back : (x y e : Ix) → ix.Mul x y ≡ e → IsBack x → IsBack y → IsBack e
   mul_back x y e is bx by = subst IsBack is (subst (λ w. Back scope w (ix.Mul x y)) (sym (mul_here (ix_step prelude names) x y))
       (product_back scope (times (by_ix (ix_step prelude names) x).left_of_product (by_ix (ix_step prelude names) y).right_of_product) (ix.Mul x y) (λ at. then_is _ _ x _ (bx.left_of_product at) (then_is _ _ y _ (by.right_of_product _) refl))
       (stand_both (term_symbols (by_ix (ix_step prelude names) x).left_of_product) (mark (codes "*") ∷ factor_symbols (by_ix (ix_step prelude names) y).right_of_product) bx.left_of_product_stands by.right_of_product_stands)))
 
-  neg_back : (x e : Ix) → ix.Neg x ≡ e → IsBack x → IsBack e
+  pub neg_back : (x e : Ix) → ix.Neg x ≡ e → IsBack x → IsBack e
   neg_back x e is bx = subst IsBack is (subst (λ w. Back scope w (ix.Neg x)) (sym (neg_here (ix_step prelude names) x))
       (sum_back scope (term (factor (negated (by_ix (ix_step prelude names) x).under_minus))) (ix.Neg x) (λ at. then_is _ _ x _ (bx.under_minus _) refl) bx.under_minus_stands))
 
-  lit_back : (n : ℕ) (e : Ix) → n < 2 ^ 64 → ix.Lit (pos n) ≡ e → IsBack e
+  pub lit_back : (n : ℕ) (e : Ix) → n < 2 ^ 64 → ix.Lit (pos n) ≡ e → IsBack e
   lit_back n e small is = subst IsBack is (atom_back scope (literal (digits_of n)) (ix.Lit (pos n)) (λ at. ap (λ m. Ok (ix.Lit (pos m))) (value_of-decimal n small)) (symbol_of_numeral (digits_of n) [] (decimal_is_numeral n small) refl))
 
-  name_back : (id : NameId) (w : Name) (at : ℕ) (e : Ix) → number_named scope at w ≡ Ok id → is_word w ≡ true → ix.Name id ≡ e → IsBack e
+  pub name_back : (id : NameId) (w : Name) (at : ℕ) (e : Ix) → number_named scope at w ≡ Ok id → is_word w ≡ true → ix.Name id ≡ e → IsBack e
   name_back id w at e named word_is is =
       let b = number_back scope names sees at w id named in
       let good : IsName (number_name names id) = record { is = ap is_word b.same_name ∙ word_is; other = ap (same (codes "static")) b.same_name ∙ b.other } in
@@ -171,7 +171,7 @@ module _ (prelude : Bool) (scope : Scope) (names : Names) (sees : Sees scope nam
       (symbol_of_name (number_name names id) [] good refl))
 
   -- a call, which stands only with the prelude
-  choice_back : IsTrue prelude → (f : Choice) (x y e : Ix) → choice_tree f x y ≡ e → IsBack x → IsBack y → IsBack e
+  pub choice_back : IsTrue prelude → (f : Choice) (x y e : Ix) → choice_tree f x y ≡ e → IsBack x → IsBack y → IsBack e
   choice_back on minimum x y e is bx by = subst IsBack is (subst (λ w. Back scope w (ix.Min x y)) (sym (min_here (ix_step prelude names) x y))
       (with_prelude prelude on scope minimum (by_ix (ix_step prelude names) x) (by_ix (ix_step prelude names) y) x y bx by))
   choice_back on maximum x y e is bx by = subst IsBack is (subst (λ w. Back scope w (ix.Max x y)) (sym (max_here (ix_step prelude names) x y))
@@ -179,7 +179,7 @@ module _ (prelude : Bool) (scope : Scope) (names : Names) (sees : Sees scope nam
   choice_back on remainder x y e is bx by = subst IsBack is (subst (λ w. Back scope w (ix.Mod x y)) (sym (mod_here (ix_step prelude names) x y))
       (with_prelude prelude on scope remainder (by_ix (ix_step prelude names) x) (by_ix (ix_step prelude names) y) x y bx by))
 
-  rounding_back : IsTrue prelude → (f : Rounding) (n : ℕ) → n < 2 ^ 64 → nat_le 1 n ≡ true → (x e : Ix) → rounding_tree f x (pos n) ≡ e → IsBack x → IsBack e
+  pub rounding_back : IsTrue prelude → (f : Rounding) (n : ℕ) → n < 2 ^ 64 → nat_le 1 n ≡ true → (x e : Ix) → rounding_tree f x (pos n) ≡ e → IsBack x → IsBack e
   rounding_back on down n small some x e is bx = subst IsBack is (subst (λ w. Back scope w (ix.Floord x (pos n))) (sym (floord_here (ix_step prelude names) x (pos n)))
       (quotient_back prelude on scope down n small some (by_ix (ix_step prelude names) x) x bx))
   rounding_back on up n small some x e is bx = subst IsBack is (subst (λ w. Back scope w (ix.Ceild x (pos n))) (sym (ceild_here (ix_step prelude names) x (pos n)))

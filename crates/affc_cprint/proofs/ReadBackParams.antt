@@ -17,6 +17,7 @@ use Rattle.affc_cprint.specs.Programs.{with_param_names}
 use Rattle.affc_cprint.proofs.Numbers.{value_of-decimal}
 use Rattle.affc_cprint.proofs.Spelled.{AllHave, AllStand, have_parts, stand_both, IsName, symbol_of_name, symbol_of_numeral, decimal_is_numeral, not_true, never}
 use Rattle.affc_cprint.proofs.Sees.{ok_of, both_ok, then_is, allowed_ok, allowed_is, same_is, same_self, declared_none, Sees, sees_number, sees_array}
+use Rattle.affc_cprint.proofs.Visible.{IsVisible, other_thing, some_true, new_is_seen, still_visible, declared_apart}
 use Rattle.affc_cprint.proofs.ReadBack.{word_of_symbol, number_of_symbol, ix_back}
 use Rattle.affc_cprint.proofs.ReadBackValues.{Each, each_append, each_length, dims_back, dims_again}
 use Rattle.affc_cprint.proofs.ReadBackStatements.{IxBack, declared_name}
@@ -44,36 +45,6 @@ int_again (negsuc n) h =
     let one : n + 1 ≡ suc n = omega arith in
     let small : n + 1 < 2 ^ 64 = subst (λ k. k < 2 ^ 64) (sym one) h in
     (ap (λ k. neg_ℤ (pos k)) (value_of-decimal (n + 1) small ∙ one), symbol_of_numeral (digits_of (n + 1)) [] (decimal_is_numeral (n + 1) small) refl)
-
--- ---- What was declared stays visible
-
-abbrev pub IsVisible : Scope → Name → Type 0
-IsVisible scope w = is_some (thing_of scope w) ≡ true
-
--- a thing of another name changes nothing
-pub other_thing : (scope : Scope) (v w : Name) (thing : Thing) → same v w ≡ false → thing_of (with_thing scope v thing) w ≡ thing_of scope w
-other_thing scope v w thing h = ap (λ b. elim (if b then Some (record { name = v; thing = thing }) else find (λ x. same x.name w) scope.visible) as (λ x. Option Thing) [ None ↦ None | Some x ↦ Some x.thing ]) h
-
-pub some_true : {A : Type 0} (o : Option A) (a : A) → o ≡ Some a → is_some o ≡ true
-some_true o a e = ap is_some e
-
-pub new_is_seen : (scope : Scope) (v : Name) (thing : Thing) → thing_of (with_thing scope v thing) v ≡ Some thing
-new_is_seen scope v thing = ap (λ b. elim (if b then Some (record { name = v; thing = thing }) else find (λ x. same x.name v) scope.visible) as (λ x. Option Thing) [ None ↦ None | Some x ↦ Some x.thing ]) (same_self v)
-
-pub still_visible : (scope : Scope) (v w : Name) (thing : Thing) → IsVisible scope w → IsVisible (with_thing scope v thing) w
-still_visible scope v w thing h = of (same v w) refl
-  where
-    of : (b : Bool) → same v w ≡ b → IsVisible (with_thing scope v thing) w
-    of true e = ap (λ x. is_some (thing_of (with_thing scope v thing) x)) (sym (same_is v w e)) ∙ ap is_some (new_is_seen scope v thing)
-    of false e = ap is_some (other_thing scope v w thing e) ∙ h
-
--- a name that is visible isn't one that may be declared
-pub declared_apart : (scope : Scope) (it : Bool) (v w : Name) → why_declared scope it v ≡ None → IsVisible scope w → (same v w ≡ false) × (same w v ≡ false)
-declared_apart scope it v w declared visible =
-    let none = (declared_none scope it v declared).0 in (
-      not_true (same v w) (λ e. never visible (ap (λ x. is_some (thing_of scope x)) (sym (same_is v w e)) ∙ none)),
-      not_true (same w v) (λ e. never visible (ap (λ x. is_some (thing_of scope x)) (same_is w v e) ∙ none)),
-    )
 
 -- ---- Parameters of a tree
 
@@ -118,13 +89,13 @@ found_later prelude scope names (Array d ∷ qs) w t b e =
 -- ---- Parameters that are read
 
 -- a parameter comes from a text
-record FromParam (prelude : Bool) (q : ParamDraft) : Type 0 where
-  text : ParamText prelude
-  at : ℕ
-  is : param_draft at text ≡ q
-  have : AllHave (param_symbols text)
+pub record FromParam (prelude : Bool) (q : ParamDraft) : Type 0 where
+  pub text : ParamText prelude
+  pub at : ℕ
+  pub is : param_draft at text ≡ q
+  pub have : AllHave (param_symbols text)
 
-params_from_text : {prelude : Bool} (c : ParamsText prelude) (at : ℕ) → AllHave (params_symbols c) → Each (FromParam prelude) (params_draft at c)
+pub params_from_text : {prelude : Bool} (c : ParamsText prelude) (at : ℕ) → AllHave (params_symbols c) → Each (FromParam prelude) (params_draft at c)
 params_from_text (param a) at have = (record { text = a; at = at; is = refl; have = have }, tt)
 params_from_text {prelude = prelude} (and_param ps a) at have =
     let h = have_parts (params_symbols ps) (mark (codes ",") ∷ param_symbols a) have in
@@ -177,7 +148,7 @@ record ParamsRead (prelude : Bool) (scope : Scope) (names : Names) (ds : List Pa
   back : ParamsBack prelude scope names qs
   after : with_params scope ds ≡ scope_params scope qs
 
-some_range : (at : ℕ) (w : Name) (r : Option (ℤ × ℤ)) (q : Param) → number_tree at w r ≡ Ok q → (low : ℤ) × (high : ℤ) × (r ≡ Some (low, high)) × (q ≡ Number w low high)
+pub some_range : (at : ℕ) (w : Name) (r : Option (ℤ × ℤ)) (q : Param) → number_tree at w r ≡ Ok q → (low : ℤ) × (high : ℤ) × (r ≡ Some (low, high)) × (q ≡ Number w low high)
 some_range at w None q e = absurd (cc)
 some_range at w (Some r) q e = (r.0, r.1, refl, sym (ok_of e))
 

@@ -37,24 +37,24 @@ abbrev pub scope_after : Scope → List Local → Scope
 scope_after scope [] = scope
 scope_after scope (l ∷ ls) = scope_after (with_number false scope l.name) ls
 
-sees_after : (scope : Scope) (names : Names) (xs : List Local) → Sees scope names → Sees (scope_after scope xs) (with_locals names xs)
+pub sees_after : (scope : Scope) (names : Names) (xs : List Local) → Sees scope names → Sees (scope_after scope xs) (with_locals names xs)
 sees_after scope names [] sees = sees
 sees_after scope names (l ∷ ls) sees = sees_after (with_number false scope l.name) (and_number names l.name) ls (sees_number false scope names l.name sees)
 
-abbrev LocalsBack : (prelude : Bool) → Scope → Names → List Local → Type 0
+abbrev pub LocalsBack : (prelude : Bool) → Scope → Names → List Local → Type 0
 LocalsBack prelude scope names [] = Unit {0}
 LocalsBack prelude scope names (l ∷ ls) = (why_declared scope false l.name ≡ None) × IsName l.name × IxBack prelude scope names l.value × LocalsBack prelude (with_number false scope l.name) (and_number names l.name) ls
 
-record SplitLocals (scope : Scope) (ls : List LocalDraft) (l : LocalDraft) (r : List Local × Scope) : Type 0 where
-  front : List Local
-  mid : Scope
-  front_ok : locals_tree scope ls ≡ Ok (front, mid)
-  value : Ix
-  declared : why_declared mid false l.name ≡ None
-  value_ok : ix_tree mid l.value ≡ Ok value
-  all : r ≡ (front ++ record { name = l.name; value = value } ∷ [], with_number false mid l.name)
+pub record SplitLocals (scope : Scope) (ls : List LocalDraft) (l : LocalDraft) (r : List Local × Scope) : Type 0 where
+  pub front : List Local
+  pub mid : Scope
+  pub front_ok : locals_tree scope ls ≡ Ok (front, mid)
+  pub value : Ix
+  pub declared : why_declared mid false l.name ≡ None
+  pub value_ok : ix_tree mid l.value ≡ Ok value
+  pub all : r ≡ (front ++ record { name = l.name; value = value } ∷ [], with_number false mid l.name)
 
-locals_split : (scope : Scope) (ls : List LocalDraft) (l : LocalDraft) (r : List Local × Scope) → locals_tree scope (ls ++ l ∷ []) ≡ Ok r → SplitLocals scope ls l r
+pub locals_split : (scope : Scope) (ls : List LocalDraft) (l : LocalDraft) (r : List Local × Scope) → locals_tree scope (ls ++ l ∷ []) ≡ Ok r → SplitLocals scope ls l r
 locals_split scope [] l r e =
     let a = allowed_ok (why_declared scope false l.name) l.at _ r e in
     let p = both_ok (ix_tree scope l.value) _ r a.1 in
@@ -95,7 +95,7 @@ locals_join scope (k ∷ ls) l front mid value e declared value_ok =
     (then_is (locals_tree (with_number false scope k.name) (ls ++ l ∷ [])) _ (q.0.0 ++ record { name = l.name; value = value } ∷ [], with_number false q.0.1 l.name) _ rest
     (ap (λ t. Ok (t.0 ++ record { name = l.name; value = value } ∷ [], with_number false t.1 l.name)) same)))
 
-after_snoc : (scope : Scope) (xs : List Local) (x : Local) → scope_after scope (xs ++ x ∷ []) ≡ with_number false (scope_after scope xs) x.name
+pub after_snoc : (scope : Scope) (xs : List Local) (x : Local) → scope_after scope (xs ++ x ∷ []) ≡ with_number false (scope_after scope xs) x.name
 after_snoc scope [] x = refl
 after_snoc scope (l ∷ ls) x = after_snoc (with_number false scope l.name) ls x
 
@@ -192,7 +192,7 @@ rel_again : (rel : Rel) (strict : Bool) → rel ≡ bound_rel strict → bound_r
 rel_again rel true e = ap (λ r. bound_rel (is_less r)) e ∙ sym e
 rel_again rel false e = ap (λ r. bound_rel (is_less r)) e ∙ sym e
 
-for_again : (prelude : Bool) (scope : Scope) (names : Names) (iter : Name) (low : Ix) (rel : Rel) (high : Ix) (body : List Stmt) (strict : Bool) → why_declared scope true iter ≡ None → IsName iter
+pub for_again : (prelude : Bool) (scope : Scope) (names : Names) (iter : Name) (low : Ix) (rel : Rel) (high : Ix) (body : List Stmt) (strict : Bool) → why_declared scope true iter ≡ None → IsName iter
     → IxBack prelude scope names low → IxBack prelude scope names high → rel ≡ bound_rel strict → Each (StmtBack prelude (with_number true scope iter) (and_number names iter)) body
     → StmtBack prelude scope names (For iter low rel high body)
 for_again prelude scope names iter low rel high body strict declared name bl bh is_rel bs =
@@ -215,7 +215,7 @@ for_again prelude scope names iter low rel high body strict declared name bl bh 
           (symbol_of_name iter (mark (codes "++") ∷ mark (codes ")") ∷ body_symbols (braces bt)) name (stand_both (stmts_symbols bt) (mark (codes "}") ∷ []) b.stands refl)))));
     })
 
-if_again : (prelude : Bool) (scope : Scope) (names : Names) (sees : Sees scope names) (cs : List Compare) (body : List Stmt) → CondsBack prelude scope names sees (conds_text prelude names cs) cs → Each (StmtBack prelude scope names) body
+pub if_again : (prelude : Bool) (scope : Scope) (names : Names) (sees : Sees scope names) (cs : List Compare) (body : List Stmt) → CondsBack prelude scope names sees (conds_text prelude names cs) cs → Each (StmtBack prelude scope names) body
     → StmtBack prelude scope names (If cs body)
 if_again prelude scope names sees cs body c bs =
     let ct = conds_text prelude names cs in
@@ -226,7 +226,7 @@ if_again prelude scope names sees cs body c bs =
       stands = stand_both (conds_symbols ct) (mark (codes ")") ∷ body_symbols (braces bt)) c.stands (stand_both (stmts_symbols bt) (mark (codes "}") ∷ []) b.stands refl);
     })
 
-block_again : (prelude : Bool) (scope : Scope) (names : Names) (ls : List Local) (body : List Stmt) → LocalsBack prelude scope names ls → (ls ≡ []) ⊎ (prelude ≡ true)
+pub block_again : (prelude : Bool) (scope : Scope) (names : Names) (ls : List Local) (body : List Stmt) → LocalsBack prelude scope names ls → (ls ≡ []) ⊎ (prelude ≡ true)
     → Each (StmtBack prelude (scope_after scope ls) (with_locals names ls)) body → StmtBack prelude scope names (Block ls body)
 block_again prelude scope names ls body lb on bs =
     let r = locals_text prelude names no_locals ls in
@@ -239,7 +239,7 @@ block_again prelude scope names ls body lb on bs =
       stands = stand_both (locals_symbols r.0) (stmts_symbols bt ++ mark (codes "}") ∷ []) l.stands (stand_both (stmts_symbols bt) (mark (codes "}") ∷ []) b.stands refl);
     })
 
-assign_again : (prelude : Bool) (scope : Scope) (names : Names) (sees : Sees scope names) (op : Option Op) (id : ArrayId) (subs : List Ix) (v : Val) (w : Name) (count : ℕ) → array_name names id ≡ w → IsName w → ((at : ℕ) → array_named scope at w true count ≡ Ok id) → count ≡ length subs
+pub assign_again : (prelude : Bool) (scope : Scope) (names : Names) (sees : Sees scope names) (op : Option Op) (id : ArrayId) (subs : List Ix) (v : Val) (w : Name) (count : ℕ) → array_name names id ≡ w → IsName w → ((at : ℕ) → array_named scope at w true count ≡ Ok id) → count ≡ length subs
     → DimsBack prelude scope names sees (dims_text prelude names subs) subs → ReadsValue scope (value_text prelude names v) v → StmtBack prelude scope names (Assign op id subs v)
 assign_again prelude scope names sees op id subs v w count is name found counted d r =
     let dt = dims_text prelude names subs in

@@ -24,10 +24,11 @@ use Rattle.affc_cprint.proofs.LexedPrograms.{LinesStand}
 use Rattle.affc_cprint.proofs.Places.{some_held}
 use Rattle.affc_cprint.proofs.Programs.{param_names_are, decl_names_from}
 use Rattle.affc_cprint.proofs.Sees.{ok_of, both_ok, then_is, allowed_ok, allowed_is, same_self, declared_none, first_none, not_static, new_or_old, Sees, sees_array}
+use Rattle.affc_cprint.proofs.Visible.{IsVisible, new_is_seen, still_visible, declared_apart}
 use Rattle.affc_cprint.proofs.ReadBack.{word_of_symbol}
 use Rattle.affc_cprint.proofs.ReadBackValues.{Each, each_append, each_length, dims_back, dims_again, IsCompareBack, conds_back, conds_again}
 use Rattle.affc_cprint.proofs.ReadBackStatements.{declared_name, StmtBack, stmts_back, stmts_again}
-use Rattle.affc_cprint.proofs.ReadBackParams.{FitsInt, int_fits, int_again, IsVisible, new_is_seen, still_visible, declared_apart, found_later, Extents, ParamsBack, RangesFit, scope_params, sees_params, HasRange, params_back, params_nonempty, params_again, params_scope, params_stand}
+use Rattle.affc_cprint.proofs.ReadBackParams.{FitsInt, int_fits, int_again, found_later, Extents, ParamsBack, RangesFit, scope_params, sees_params, HasRange, params_back, params_nonempty, params_again, params_scope, params_stand}
 
 -- ---- Declarations
 
@@ -45,17 +46,17 @@ abbrev pub TempsBack : (prelude : Bool) → Scope → Names → List Decl → Ty
 TempsBack prelude scope names [] = Unit {0}
 TempsBack prelude scope names (d ∷ ds) = TempBack prelude scope names d × TempsBack prelude (with_array scope d.name d.role (length d.extents)) (and_array_name names d.name) ds
 
-sees_temps : (scope : Scope) (names : Names) (ds : List Decl) → Sees scope names → Sees (scope_temps scope ds) (with_array_names names ds)
+pub sees_temps : (scope : Scope) (names : Names) (ds : List Decl) → Sees scope names → Sees (scope_temps scope ds) (with_array_names names ds)
 sees_temps scope names [] sees = sees
 sees_temps scope names (d ∷ ds) sees = sees_temps (with_array scope d.name d.role (length d.extents)) (and_array_name names d.name) ds (sees_array scope names d.name d.role (length d.extents) sees)
 
 -- a declaration comes from a text
-record FromTemp (prelude : Bool) (q : DeclDraft) : Type 0 where
-  name : Name
-  dims : DimsText prelude
-  at : ℕ
-  is : temp_draft at name dims ≡ q
-  have : AllHave (word name ∷ dims_symbols dims)
+pub record FromTemp (prelude : Bool) (q : DeclDraft) : Type 0 where
+  pub name : Name
+  pub dims : DimsText prelude
+  pub at : ℕ
+  pub is : temp_draft at name dims ≡ q
+  pub have : AllHave (word name ∷ dims_symbols dims)
 
 names_from_text : {prelude : Bool} (c : NamesText prelude) (at : ℕ) → AllHave (names_symbols c) → Each (FromTemp prelude) (names_draft at c)
 names_from_text (one_array w dims) at have = (record { name = w; dims = dims; at = at; is = refl; have = have }, tt)
@@ -64,7 +65,7 @@ names_from_text {prelude = prelude} (and_array ns w dims) at have =
     let here = at + length (names_symbols ns) + 1 in
     each_append (FromTemp prelude) (names_draft at ns) (temp_draft here w dims ∷ []) (names_from_text ns at h.0) (record { name = w; dims = dims; at = here; is = refl; have = h.1 }, tt)
 
-decls_from_text : {prelude : Bool} (c : DeclsText prelude) (at : ℕ) → AllHave (decls_symbols c) → Each (FromTemp prelude) (decls_draft at c)
+pub decls_from_text : {prelude : Bool} (c : DeclsText prelude) (at : ℕ) → AllHave (decls_symbols c) → Each (FromTemp prelude) (decls_draft at c)
 decls_from_text no_decls at have = tt
 decls_from_text {prelude = prelude} (and_decl ds ns) at have =
     let h = have_parts (decls_symbols ds) (word (codes "uint64_t") ∷ (names_symbols ns ++ mark (codes ";") ∷ [])) have in
@@ -157,7 +158,7 @@ lines_from_text (and_context ps cs line) at have =
     let l = have_parts (conds_symbols cs) (line_symbols line) h.1 in
     each_append FromLine (pragmas_draft at ps) _ (lines_from_text ps at h.0) ((cs, _, refl, l.0), tt)
 
-ranges_fit : (ps : List PragmaDraft) → Each FromLine ps → RangesFit ps
+pub ranges_fit : (ps : List PragmaDraft) → Each FromLine ps → RangesFit ps
 ranges_fit [] f w low high e = absurd (cc)
 ranges_fit (draft.range v low_at l u ∷ ps) f w low high e = of (same v.name w) e (ranges_fit ps f.1 w low high)
   where

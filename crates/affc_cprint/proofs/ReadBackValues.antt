@@ -206,7 +206,7 @@ module _ {prelude : Bool} (scope : Scope) where
   inside : (t : ValueText prelude 6) (v : Val) → ReadsValue scope t v → ReadsValue scope (parens t) v
   inside t v r = record { reads = λ at. r.reads (at + 1); stands = in_parentheses (value_symbols t) r.stands }
 
-  primary_back : (t : ValueText prelude 0) (v : Val) → ReadsValue scope t v → ValueBack scope (primary_written t) v
+  pub primary_back : (t : ValueText prelude 0) (v : Val) → ReadsValue scope t v → ValueBack scope (primary_written t) v
   primary_back t v r =
       let r1 = up t v r in let r2 = up _ v r1 in let r3 = up _ v r2 in let r4 = up _ v r3 in let r5 = up _ v r4 in let r6 = up _ v r5 in
       record { level_0 = r; level_1 = r1; level_2 = r2; level_3 = r3; level_4 = r4; level_5 = r5; level_6 = r6 }
@@ -222,7 +222,7 @@ module _ {prelude : Bool} (scope : Scope) where
       let l0 = inside _ v r6 in
       record { level_0 = l0; level_1 = up _ v l0; level_2 = r; level_3 = r3; level_4 = r4; level_5 = r5; level_6 = r6 }
 
-  shift_back : (t : ValueText prelude 3) (v : Val) → ReadsValue scope t v → ValueBack scope (shift_written t) v
+  pub shift_back : (t : ValueText prelude 3) (v : Val) → ReadsValue scope t v → ValueBack scope (shift_written t) v
   shift_back t v r =
       let r4 = up t v r in let r5 = up _ v r4 in let r6 = up _ v r5 in
       let l0 = inside _ v r6 in let l1 = up _ v l0 in
@@ -251,7 +251,7 @@ module _ {prelude : Bool} (scope : Scope) where
     stands = stand_both (value_symbols a) (mark (op_mark op) ∷ value_symbols b) ra.stands rb.stands;
   }
 
-  both_back : (op : Op) (a b : ValueWritten prelude) (x y : Val) → ValueBack scope a x → ValueBack scope b y → ValueBack scope (binary_written op a b) (val.Bin op x y)
+  pub both_back : (op : Op) (a b : ValueWritten prelude) (x y : Val) → ValueBack scope a x → ValueBack scope b y → ValueBack scope (binary_written op a b) (val.Bin op x y)
   both_back Mul a b x y p q = times_back _ _ (binary_reads Mul refl a.level_1 b.level_0 x y p.level_1 q.level_0)
   both_back Add a b x y p q = plus_back _ _ (binary_reads Add refl a.level_2 b.level_1 x y p.level_2 q.level_1)
   both_back Sub a b x y p q = plus_back _ _ (binary_reads Sub refl a.level_2 b.level_1 x y p.level_2 q.level_1)
@@ -259,7 +259,7 @@ module _ {prelude : Bool} (scope : Scope) where
   both_back Xor a b x y p q = xor_back _ _ (binary_reads Xor refl a.level_5 b.level_4 x y p.level_5 q.level_4)
   both_back Or a b x y p q = or_back _ _ (binary_reads Or refl a.level_6 b.level_5 x y p.level_6 q.level_5)
 
-  shift_reads : (left : Bool) (n : ℕ) → n ≤ 63 → (a : ValueText prelude 3) (x : Val) → ReadsValue scope a x → ReadsValue scope (shift_by left a (digits_of n) (holding (is_shift (digits_of n)))) (val.Shift left x n)
+  pub shift_reads : (left : Bool) (n : ℕ) → n ≤ 63 → (a : ValueText prelude 3) (x : Val) → ReadsValue scope a x → ReadsValue scope (shift_by left a (digits_of n) (holding (is_shift (digits_of n)))) (val.Shift left x n)
   shift_reads left n most a x r =
       let small : n < 2 ^ 64 = omega (arith, most) in
       of_held (digits_of n) (value_of-decimal n small) (decimal_is_numeral n small) (holding (is_shift (digits_of n))) (some_held (is_shift (digits_of n)) (shift_of n small ∙ le-leb n 63 most))
@@ -291,7 +291,7 @@ module _ (prelude : Bool) (scope : Scope) (names : Names) (sees : Sees scope nam
         stands = symbol_of_name (array_name names p.0) (dims_symbols (dims_text prelude names q.0)) good d.stands;
       }))
 
-  constant_back : (n : ℕ) → n < 2 ^ 64 → IsValueBack (val.Const n)
+  pub constant_back : (n : ℕ) → n < 2 ^ 64 → IsValueBack (val.Const n)
   constant_back n small =
       let c = decimal_is_constant n small in
       primary_back scope (constant (digits_of n ++ codes "ULL")) (val.Const n) (record {

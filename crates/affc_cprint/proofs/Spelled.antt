@@ -116,7 +116,7 @@ pub record IsName (w : List ℕ) : Type 0 where
   pub is : is_word w ≡ true
   pub other : same (codes "static") w ≡ false
 
-off : (b : Bool) → not b ≡ true → b ≡ false
+pub off : (b : Bool) → not b ≡ true → b ≡ false
 off true h = absurd (false≢true h)
 off false h = refl
 

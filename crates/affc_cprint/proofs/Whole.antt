@@ -70,7 +70,7 @@ prelude_has : (b : Bool) → AllHave (prelude_symbols b)
 prelude_has true = refl
 prelude_has false = refl
 
-text_has : (t : Text) → LinesStand t.pragmas → AllStand (function_symbols t.function) → AllHave (text_symbols t)
+pub text_has : (t : Text) → LinesStand t.pragmas → AllStand (function_symbols t.function) → AllHave (text_symbols t)
 text_has t lines function =
     have_both (include_symbols t.line) (pragmas_symbols t.pragmas ++ (prelude_symbols t.has_prelude ++ function_symbols t.function)) (line_has t.line)
     (have_both (pragmas_symbols t.pragmas) (prelude_symbols t.has_prelude ++ function_symbols t.function) (lines_have t.pragmas lines)

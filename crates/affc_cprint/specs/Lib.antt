@@ -6,3 +6,9 @@ pub mod Statements
 pub mod Levels
 pub mod Programs
 pub mod KeepsRules
+pub mod Known
+pub mod Sights
+pub mod Plain
+pub mod Shape
+pub mod Work
+pub mod Kept

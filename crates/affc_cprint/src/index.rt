@@ -23,19 +23,19 @@ pub enum Place {
 }
 
 impl Place {
-    fn is_inside(self) -> bool
+    pub fn is_inside(self) -> bool
         ensures { result ≡ is_inside self }
     {
         !matches!(self, Place::Whole)
     }
 
-    fn is_factor(self) -> bool
+    pub fn is_factor(self) -> bool
         ensures { result ≡ is_factor self }
     {
         matches!(self, Place::RightOfProduct | Place::UnderMinus)
     }
 
-    fn is_negated(self) -> bool
+    pub fn is_negated(self) -> bool
         ensures { result ≡ is_negated self }
     {
         matches!(self, Place::UnderMinus)
@@ -92,7 +92,7 @@ fn number(out: &mut String, names: &Names<'_>, id: NameId) -> Result<(), AllocEr
 
 // Whether a quotient by this number is written.
 #[tactic(auto, using(crate::proofs::Numbers::divisor_of))]
-fn is_divided(prelude: bool, by: i64) -> bool
+pub fn is_divided(prelude: bool, by: i64) -> bool
     ensures { result ≡ divides prelude by }
 {
     prelude && by != 0

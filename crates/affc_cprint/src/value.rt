@@ -25,7 +25,7 @@ pub enum Level {
 }
 
 impl Level {
-    fn number(self) -> u8
+    pub fn number(self) -> u8
         ensures { result ≡ number_of self }
     {
         match self {
@@ -40,7 +40,7 @@ impl Level {
     }
 }
 
-fn level_of(op: Op) -> u8
+pub fn level_of(op: Op) -> u8
     ensures { result ≡ level_of op }
 {
     match op {
@@ -53,7 +53,7 @@ fn level_of(op: Op) -> u8
     }
 }
 
-fn left_of(op: Op) -> Level
+pub fn left_of(op: Op) -> Level
     ensures { result ≡ op_left op }
 {
     match op {
@@ -66,7 +66,7 @@ fn left_of(op: Op) -> Level
     }
 }
 
-fn right_of(op: Op) -> Level
+pub fn right_of(op: Op) -> Level
     ensures { result ≡ op_right op }
 {
     match op {
