@@ -49,18 +49,19 @@ pub enum MultiplierFault {
 /// A proof that a system has no integer point.
 ///
 /// A leaf's multiples sum to a constant below 0. A cut divides the sum of multiples by `g`, rounds the constant down, and adds the
-/// row. A split has one proof for the points at which the form is at most `at`, and one for those at which it is more.
+/// row. A split has one proof for the points at which the form is at most `at`, and one for those at which it is more. Forms are boxed,
+/// so that a level of a deep proof takes little stack as it is checked and let go.
 #[derive(Drop)]
 pub enum Proof {
     Leaf(Multipliers),
     Cut {
         by: Multipliers,
         g: i64,
-        row: Form,
+        row: Box<Form>,
         rest: Box<Proof>,
     },
     Split {
-        form: Form,
+        form: Box<Form>,
         at: i64,
         low: Box<Proof>,
         high: Box<Proof>,
