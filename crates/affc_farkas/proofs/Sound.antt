@@ -118,8 +118,7 @@ sound (Leaf by) columns rows x l fit meets v =
     let w = multiple_sum-width columns rows by fit v.there in
     let e = dot-cancelled (multiple_sum columns rows by) x (λ j k. v.cancels j (omega arith)) in
     leaf_absurd _ _ e h v.negative
-sound (Cut' by g boxed p rest) columns rows x l fit meets v =
-    let row = boxed.value in
+sound (Cut' by g row p rest) columns rows x l fit meets v =
     let c = v.0 in
     let h = multiple_sum-meets columns rows x by l fit meets c.there in
     let w = c.row_fits.width ∙ sym l in
@@ -128,8 +127,7 @@ sound (Cut' by g boxed p rest) columns rows x l fit meets v =
     let h' = subst (λ z. pos 0 ≤ℤ (z +ℤ (multiple_sum columns rows by).constant)) e h in
     let m = cut_at g _ (dot row.coefs x) row.constant _ refl c.divisor h' c.floor_high in
     sound rest columns (rows ++ row ∷ []) x l (All-push (IsRow columns) rows row fit c.row_fits) (All-push (Meets x) rows row meets m) v.1
-sound (Split' boxed at p low q high) columns rows x l fit meets v =
-    let form = boxed.value in
+sound (Split' form at p low q high) columns rows x l fit meets v =
     let w : length form.coefs ≡ length x = v.1.width ∙ sym l in
     by_lt_z at (value form x)
     (λ above. sound high columns (rows ++ high_row form at ∷ []) x l (All-push (IsRow columns) rows (high_row form at) fit v.1)

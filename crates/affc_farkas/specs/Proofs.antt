@@ -35,10 +35,10 @@ high_row form at = record { coefs = form.coefs; constant = (form.constant -ℤ a
 -- next numbers and keep the limits of a system's rows
 abbrev pub IsValid : ℕ → Proof → List Affine → Type 0
 IsValid columns (Leaf by) rows = IsLeaf columns rows by
-IsValid columns (Cut' by g row p rest) rows = IsCut columns rows by g row.value × IsValid columns rest (rows ++ row.value ∷ [])
+IsValid columns (Cut' by g row p rest) rows = IsCut columns rows by g row × IsValid columns rest (rows ++ row ∷ [])
 IsValid columns (Split' form at p low q high) rows =
-    IsRow columns (low_row form.value at) × IsRow columns (high_row form.value at)
-    × IsValid columns low (rows ++ low_row form.value at ∷ []) × IsValid columns high (rows ++ high_row form.value at ∷ [])
+    IsRow columns (low_row form at) × IsRow columns (high_row form at)
+    × IsValid columns low (rows ++ low_row form at ∷ []) × IsValid columns high (rows ++ high_row form at ∷ [])
 
 -- a valid proof for a system
 abbrev pub ValidProof : Rows → Proof → Type 0

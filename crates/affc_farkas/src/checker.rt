@@ -235,7 +235,7 @@ fn check_from(proof: &Proof, added: &Added, system: &System) -> bool
             if !is_cut(by.pairs(), *g, row, added, system) {
                 return false;
             }
-            let next = with_cut(&**row, &*added, system);
+            let next = with_cut(&*row, &*added, system);
             check_from(rest, &next, system)
         }
         Proof::Split {
@@ -247,11 +247,11 @@ fn check_from(proof: &Proof, added: &Added, system: &System) -> bool
             let Some((below, above)) = split_constants(form, *at, system) else {
                 return false;
             };
-            let under = with_low(&**form, *at, below, &*added, system);
+            let under = with_low(&*form, *at, below, &*added, system);
             if !check_from(low, &under, system) {
                 return false;
             }
-            let over = with_high(&**form, *at, above, &*added, system);
+            let over = with_high(&*form, *at, above, &*added, system);
             check_from(high, &over, system)
         }
     }

@@ -113,7 +113,7 @@ fn leaves_and_cuts(rt: HostRuntime) -> Result<(), Fail> {
         let proof = Proof::Cut {
             by: multipliers(alloc, &[(0, 1)])?,
             g,
-            row: Box::new(alloc, form(alloc, &[1, 0], -1)?)?,
+            row: form(alloc, &[1, 0], -1)?,
             rest: Box::new(alloc, leaf(alloc, &[(1, 1), last])?)?,
         };
         assert_eq!(rt; check(&half, &proof), want);
@@ -131,7 +131,7 @@ fn splits_on_nothing(rt: HostRuntime) -> Result<(), Fail> {
         ([0].as_slice(), 0, false),
     ] {
         let proof = Proof::Split {
-            form: Box::new(alloc, form(alloc, coefs, 0)?)?,
+            form: form(alloc, coefs, 0)?,
             at,
             low: Box::new(alloc, leaf(alloc, &[(0, 1), (1, 1)])?)?,
             high: Box::new(alloc, leaf(alloc, &[(2, 1)])?)?,
@@ -150,7 +150,7 @@ fn nested_ten_thousand_deep(rt: HostRuntime) -> Result<(), Fail> {
         proof = Proof::Cut {
             by: multipliers(alloc, &[(0, 1)])?,
             g: 1,
-            row: Box::new(alloc, form(alloc, &[1, 0], -3)?)?,
+            row: form(alloc, &[1, 0], -3)?,
             rest: Box::new(alloc, proof)?,
         };
         let first = if i == 4_999 {
@@ -159,7 +159,7 @@ fn nested_ten_thousand_deep(rt: HostRuntime) -> Result<(), Fail> {
             [(1, 1), (3, 1)]
         };
         proof = Proof::Split {
-            form: Box::new(alloc, form(alloc, &[0, 1], 0)?)?,
+            form: form(alloc, &[0, 1], 0)?,
             at: 0,
             low: Box::new(alloc, leaf(alloc, &first)?)?,
             high: Box::new(alloc, proof)?,

@@ -146,15 +146,11 @@ pub cut_empty : (system : Rows) (i : ℕ) (g : ℤ) (cut : Affine) (bs : List Bo
 cut_empty system i g cut bs next rest (Leaf by) fit d f n a b = absurd b
 cut_empty system i g cut bs next rest (Split' form at p low u high) fit d f n a b = absurd b
 cut_empty system i g cut bs next rest (Cut' by h row p after) fit d f n a b =
-    let whole : Proof = Cut' ((i, 1) ∷ []) g row p rest in
+    let whole : Proof = Cut' ((i, 1) ∷ []) g cut p rest in
     let same : Cut' by h row p after ≡ whole =
-    ap (λ m. Cut' m h row p after) b.0 ∙ ap (λ m. Cut' ((i, 1) ∷ []) m row p after) b.1 ∙ ap (λ m. Cut' ((i, 1) ∷ []) g row p m) b.3 in
-    let said = sym b.2 in
+    ap (λ m. Cut' m h row p after) b.0 ∙ ap (λ m. Cut' ((i, 1) ∷ []) m row p after) b.1 ∙ ap (λ m. Cut' ((i, 1) ∷ []) g m p after) b.2 ∙ ap (λ m. Cut' ((i, 1) ∷ []) g cut p m) b.3 in
     subst (λ w. IsEmpty system bs next w) (sym same) (record {
       none = λ x inside point. a.none x inside (cut_meets system i g cut x d point);
-      valid = λ rows placed. (
-        subst (λ z. IsCut system.columns rows ((i, 1) ∷ []) g z) said (is_cut system rows next bs i g cut fit placed d f),
-        subst (λ z. IsValid system.columns rest (rows ++ z ∷ [])) said (a.valid (rows ++ cut ∷ []) (cut_placed system rows next bs cut placed n f)),
-      );
+      valid = λ rows placed. (is_cut system rows next bs i g cut fit placed d f, a.valid (rows ++ cut ∷ []) (cut_placed system rows next bs cut placed n f));
       plain = a.plain;
     })

@@ -32,7 +32,7 @@ with_box system ranges = record system { rows = system.rows ++ box_rows system.c
 abbrev pub SplitsAtZero : Proof → Type 0
 SplitsAtZero (Leaf by) = Unit {0}
 SplitsAtZero (Cut' by g row p rest) = SplitsAtZero rest
-SplitsAtZero (Split' form at p low q high) = (form.value.constant ≡ pos 0) × SplitsAtZero low × SplitsAtZero high
+SplitsAtZero (Split' form at p low q high) = (form.constant ≡ pos 0) × SplitsAtZero low × SplitsAtZero high
 
 -- P holds of the proof, where the answer is one
 abbrev pub IfEmpty : Answer → (Proof → Type 0) → Type 0

@@ -20,5 +20,5 @@ pub record IsCutOf (system : Rows) (i : ℕ) (g : ℤ) (cut : Affine) : Type 0 w
 -- the proof is this cut before the rest
 abbrev pub IsCutBefore : List (ℕ × ℕ) → ℤ → Affine → Proof → Proof → Type 0
 IsCutBefore by g row rest (Leaf m) = ⊥
-IsCutBefore by g row rest (Cut' m h cut p after) = (m ≡ by) × (h ≡ g) × (cut.value ≡ row) × (after ≡ rest)
+IsCutBefore by g row rest (Cut' m h cut p after) = (m ≡ by) × (h ≡ g) × (cut ≡ row) × (after ≡ rest)
 IsCutBefore by g row rest (Split' form at p low q high) = ⊥

@@ -148,9 +148,6 @@ fn cut_proof(alloc: Global, cut: Quotient, rest: Box<Proof>) -> Result<Box<Proof
     let Ok(by) = multipliers(alloc, &[(number as u32, 1)]) else {
         return Err(Stop::Memory);
     };
-    let Ok(row) = Box::new(alloc, row) else {
-        return Err(Stop::Memory);
-    };
     let Ok(proof) = Box::new(alloc, Proof::Cut { by, g, row, rest }) else {
         return Err(Stop::Memory);
     };

@@ -249,16 +249,6 @@ pub(crate) fn unit_form(alloc: Global, columns: u32, j: usize) -> Result<Form, A
     Ok(Form { coefs, constant: 0 })
 }
 
-/// The form that is one column, in a box of its own.
-fn boxed_form(alloc: Global, columns: u32, j: usize) -> Result<Box<Form>, AllocError>
-    requires { j < columns }
-    ensures coefs { IfOk result (λ f. f.value.coefs ≡ unit j (columns - (j + 1))) }
-    ensures constant { IfOk result (λ f. f.value.constant ≡ pos 0) }
-{
-    let form = unit_form(alloc, columns, j)?;
-    Ok(Box::new(alloc, form)?)
-}
-
 /// The proof of a box from those of its halves.
 #[inline(never)]
 pub(crate) fn joined(
@@ -282,7 +272,7 @@ pub(crate) fn joined(
     ensures memory { OnErr result (result ≡ Err Stop.Memory) }
 {
     let _rows = system.rows();
-    let Ok(form) = boxed_form(alloc, system.columns(), j) else {
+    let Ok(form) = unit_form(alloc, system.columns(), j) else {
         return Err(Stop::Memory);
     };
     let split = Proof::Split {
