@@ -1,5 +1,6 @@
 //! Blocks of text that say a system, a box and what is expected of them.
-ghost use Rattle.std.specs.Prelude.{◌≡◌, IfOk, IfSome, length};
+ghost use Rattle.std.specs.Prelude.{◌≡◌, IfOk, OnErr, Err};
+ghost use Rattle.affc_decide.specs.Words.{Says, SaysNone};
 
 use affc_rows::Form;
 use affc_system::{BoxOf, RowFault, System};
@@ -39,7 +40,11 @@ pub enum Line {
 }
 
 /// A whole number that a word says.
-fn number(word: &str) -> Result<i64, Fault> {
+fn number(word: &str) -> Result<i64, Fault>
+    ensures said { IfOk result (λ n. Says word.now n) }
+    ensures none { OnErr result (SaysNone word.now) }
+    ensures fault { OnErr result (result ≡ Err Fault.Malformed) }
+{
     match word.parse::<i64>() {
         Ok(number) => Ok(number),
         Err(_) => Err(Fault::Malformed),

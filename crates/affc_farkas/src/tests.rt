@@ -141,30 +141,52 @@ fn splits_on_nothing(rt: HostRuntime) -> Result<(), Fail> {
     Ok(())
 }
 
-#[test]
-fn nested_ten_thousand_deep(rt: HostRuntime) -> Result<(), Fail> {
-    let alloc = rt.alloc();
-    let system = plane(alloc, &[[1, 0, -3], [-1, 0, 2]])?;
+/// A proof after a cut that adds the system's first row again.
+fn after_cut(alloc: Global, rest: Proof) -> Result<Proof, Fail> {
+    let by = multipliers(alloc, &[(0, 1)])?;
+    let row = form(alloc, &[1, 0], -3)?;
+    let rest = Box::new(alloc, rest)?;
+    Ok(Proof::Cut {
+        by,
+        g: 1,
+        row,
+        rest,
+    })
+}
+
+/// A proof as the upper side of a split on the second column, whose lower side is this leaf.
+fn beside_leaf(alloc: Global, low: Proof, high: Proof) -> Result<Proof, Fail> {
+    let form = form(alloc, &[0, 1], 0)?;
+    let low = Box::new(alloc, low)?;
+    let high = Box::new(alloc, high)?;
+    Ok(Proof::Split {
+        form,
+        at: 0,
+        low,
+        high,
+    })
+}
+
+/// A proof of 5,000 cuts and 5,000 splits in turn, whose innermost leaf names the row of the innermost cut.
+fn deep_proof(alloc: Global) -> Result<Proof, Fail> {
     let mut proof = leaf(alloc, &[(1, 1), (5_001, 1)])?;
     for i in 0..5_000 {
-        proof = Proof::Cut {
-            by: multipliers(alloc, &[(0, 1)])?,
-            g: 1,
-            row: form(alloc, &[1, 0], -3)?,
-            rest: Box::new(alloc, proof)?,
-        };
         let first = if i == 4_999 {
             [(0, 1), (1, 1)]
         } else {
             [(1, 1), (3, 1)]
         };
-        proof = Proof::Split {
-            form: form(alloc, &[0, 1], 0)?,
-            at: 0,
-            low: Box::new(alloc, leaf(alloc, &first)?)?,
-            high: Box::new(alloc, proof)?,
-        };
+        let low = leaf(alloc, &first)?;
+        proof = beside_leaf(alloc, low, after_cut(alloc, proof)?)?;
     }
+    Ok(proof)
+}
+
+#[test]
+fn nested_ten_thousand_deep(rt: HostRuntime) -> Result<(), Fail> {
+    let alloc = rt.alloc();
+    let system = plane(alloc, &[[1, 0, -3], [-1, 0, 2]])?;
+    let proof = deep_proof(alloc)?;
     assert!(rt; check(&system, &proof));
     Ok(())
 }
@@ -203,18 +225,32 @@ fn small_systems(rt: HostRuntime) -> Result<(), Fail> {
     Ok(())
 }
 
+/// A row of a fan of lines with all signs.
+fn fan_row(alloc: Global, i: u8) -> Result<Form, AllocError>
+    ensures { IfOk result (λ f. length f.coefs ≡ 2) }
+{
+    let step = i128::from(i) + 1;
+    let sign = if i % 2 == 0 { 1 } else { -1 };
+    let slope = if i % 4 < 2 { step } else { -step };
+    form(alloc, &[sign, slope], 1000)
+}
+
+/// A system of 130 rows, each pair of which meets.
+fn fan(alloc: Global) -> Result<System, Fail> {
+    let mut system = System::new(alloc, 2);
+    for i in 0u8..130 {
+        let row = fan_row(alloc, i)?;
+        if system.columns() == 2 {
+            system.push(row)?;
+        }
+    }
+    Ok(system)
+}
+
 #[test]
 fn many_rows(rt: HostRuntime) -> Result<(), Fail> {
     let alloc = rt.alloc();
-    let mut system = System::new(alloc, 2);
-    for i in 0u8..130 {
-        let step = i128::from(i) + 1;
-        let sign = if i % 2 == 0 { 1 } else { -1 };
-        let slope = if i % 4 < 2 { step } else { -step };
-        let row = form(alloc, &[sign, slope], 1000)?;
-        assert_eq!(rt; system.columns(), 2);
-        system.push(row)?;
-    }
+    let system = fan(alloc)?;
     assert_eq!(rt; answer_of(alloc, &system)?, Outcome::TooMany);
     Ok(())
 }

@@ -9,3 +9,4 @@ pub mod Whole
 pub mod BoxRows
 pub mod Divisions
 pub mod Boxes
+pub mod Openings

@@ -5,3 +5,5 @@ pub mod Bounds
 pub mod Leaves
 pub mod Search
 pub mod Cuts
+pub mod Openings
+pub mod Searches

@@ -1,6 +1,6 @@
 //! Budgets.
 ghost use Rattle.std.specs.Prelude.{◌≡◌, ℕ, ◌+◌, ◌-◌, ◌*◌, ◌^◌, ◌<◌, ◌≤◌, OnOk, OnErr, IsNone, Some};
-ghost use Rattle.affc_split.specs.Budgets.{Account, Within};
+ghost use Rattle.affc_split.specs.Budgets.{Account, Within, IsUnit};
 
 use std::marker::Model;
 use thiserror::Error;
@@ -59,7 +59,7 @@ impl Budget {
         ensures uncounted { IsNone self.old.limit → self.new.spent ≡ self.old.spent }
         ensures grows { self.old.spent ≤ self.new.spent }
         ensures step { self.new.spent ≤ self.old.spent + 1 }
-        ensures counted { OnOk result ((l : ℕ) → self.old.limit ≡ Some l → self.new.spent ≡ self.old.spent + 1) }
+        ensures counted { OnOk result (IsUnit self.old self.new) }
         ensures fits { OnOk result (self.old.limit ≡ Some self.old.spent → ⊥) }
         ensures stop { OnErr result (self.old.limit ≡ Some self.new.spent) }
         ensures budget { OnErr result (result ≡ Err Stop.Budget) }

@@ -4,9 +4,10 @@ ghost use Rattle.std.specs.Bool.{OnTrue};
 ghost use Rattle.std.specs.List.{All};
 ghost use Rattle.affc_system.specs.Systems.{IsRow};
 ghost use Rattle.affc_farkas.specs.Multiples.{row_at};
-ghost use Rattle.affc_split.specs.Bounds.{size};
+ghost use Rattle.affc_split.specs.Bounds.{ranges_of, size};
 ghost use Rattle.affc_split.specs.Cuts.{IsDivided, IsCutOf, IsCutBefore};
 ghost use Rattle.affc_split.specs.Search.{IsFound, Ready};
+ghost use Rattle.affc_split.specs.Searches.{AreFewer, Searched};
 
 use crate::bounds::Bound;
 use crate::boxed::{copy_of, push_row};
@@ -191,6 +192,7 @@ fn rooted(
     ensures uncounted { IsNone budget.old.limit → budget.new.spent ≡ budget.old.spent }
     ensures grows { budget.old.spent ≤ budget.new.spent }
     ensures cost { budget.new.spent + 2 ≤ budget.old.spent + 2 * size bounds.now }
+    ensures opened { IfOk result (λ a. Searched 0 (ranges_of bounds.now) budget.old budget.new (AreFewer 0 a)) }
     ensures stop { IfErr result (λ e. e ≡ Stop.Budget → budget.new.limit ≡ Some budget.new.spent) }
 {
     if let Some(proof) = found_leaf(alloc, system, bounds, next)? {
@@ -219,6 +221,7 @@ pub(crate) fn with_cuts(
     ensures uncounted { IsNone budget.old.limit → budget.new.spent ≡ budget.old.spent }
     ensures grows { budget.old.spent ≤ budget.new.spent }
     ensures cost { budget.new.spent + 2 ≤ budget.old.spent + 2 * size bounds.now }
+    ensures opened { IfOk result (λ a. Searched 0 (ranges_of bounds.now) budget.old budget.new (AreFewer 0 a)) }
     ensures stop { IfErr result (λ e. e ≡ Stop.Budget → budget.new.limit ≡ Some budget.new.spent) }
 {
     if next < MOST_ROWS as u32 {

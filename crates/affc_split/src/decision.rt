@@ -7,7 +7,9 @@ ghost use Rattle.affc_farkas.specs.Proofs.{ValidProof};
 ghost use Rattle.affc_split.specs.Answers.{with_box, SplitsAtZero, IsLeafProof, IsHard, IfEmpty, IfPoint};
 ghost use Rattle.affc_split.specs.Points.{points, IsLeastPoint};
 ghost use Rattle.affc_split.specs.Bounds.{IsBound, size};
+ghost use Rattle.affc_split.specs.Openings.{Opened};
 ghost use Rattle.affc_split.specs.Search.{IsEmpty, Ready, box_bounds};
+ghost use Rattle.affc_split.specs.Searches.{AreFewerFor, Searched};
 
 use crate::bounds::Bound;
 use crate::boxed::{boxed_system, refuted};
@@ -146,6 +148,7 @@ fn cut_and_searched(
     ensures uncounted { IsNone budget.old.limit → budget.new.spent ≡ budget.old.spent }
     ensures grows { budget.old.spent ≤ budget.new.spent }
     ensures cost { budget.new.spent + 2 ≤ budget.old.spent + 2 * points ranges.now }
+    ensures opened { IfOk result (λ a. Searched 0 ranges.now budget.old budget.new (AreFewerFor a)) }
     ensures stop { IfErr result (λ e. e ≡ Stop.Budget → budget.new.limit ≡ Some budget.new.spent) }
 {
     let count = system.rows().len();
@@ -183,6 +186,7 @@ fn searched(
     ensures uncounted { IsNone budget.old.limit → budget.new.spent ≡ budget.old.spent }
     ensures grows { budget.old.spent ≤ budget.new.spent }
     ensures cost { budget.new.spent + 2 ≤ budget.old.spent + 2 * points ranges.now }
+    ensures opened { IfOk result (λ a. Searched 0 ranges.now budget.old budget.new (AreFewerFor a)) }
     ensures stop { IfErr result (λ e. e ≡ Stop.Budget → budget.new.limit ≡ Some budget.new.spent) }
 {
     let _rows = system.rows();
@@ -215,6 +219,7 @@ fn opened(
     ensures uncounted { IsNone budget.old.limit → budget.new.spent ≡ budget.old.spent }
     ensures grows { budget.old.spent ≤ budget.new.spent }
     ensures cost { budget.new.spent + 2 ≤ budget.old.spent + 2 * points ranges.now }
+    ensures opened { IfOk result (λ a. Searched 0 ranges.now budget.old budget.new (AreFewerFor a)) }
     ensures unit { length system.now.rows + 2 * system.now.columns ≤ 1024 → (budget.new.spent ≤ budget.old.spent) ⊎ IsHard (with_box system.now ranges.now) }
     ensures stop { IfErr result (λ e. e ≡ Stop.Budget → budget.new.limit ≡ Some budget.new.spent) }
 {
@@ -255,6 +260,7 @@ fn decided(
     ensures uncounted { IsNone budget.old.limit → budget.new.spent ≡ budget.old.spent }
     ensures counted { OnOk result ((l : ℕ) → budget.old.limit ≡ Some l → budget.old.spent + 1 ≤ budget.new.spent) }
     ensures cost { budget.new.spent + 1 ≤ budget.old.spent + 2 * points ranges.now }
+    ensures opened { IfOk result (λ a. Searched 1 ranges.now budget.old budget.new (AreFewerFor a)) }
     ensures unit { length system.now.rows + 2 * system.now.columns ≤ 1024 → (budget.new.spent ≤ budget.old.spent + 1) ⊎ IsHard (with_box system.now ranges.now) }
     ensures first { budget.old.limit ≡ Some budget.old.spent → result ≡ Err Stop.Budget }
     ensures stop { IfErr result (λ e. e ≡ Stop.Budget → budget.new.limit ≡ Some budget.new.spent) }
@@ -287,6 +293,7 @@ pub fn decide(
     ensures uncounted { IsNone budget.old.limit → budget.new.spent ≡ budget.old.spent }
     ensures counted { OnOk result ((l : ℕ) → budget.old.limit ≡ Some l → budget.old.spent + 1 ≤ budget.new.spent) }
     ensures cost { budget.new.spent + 1 ≤ budget.old.spent + 2 * points ranges.now }
+    ensures opened { IfOk result (λ a. Opened ranges.now budget.old budget.new a) }
     ensures unit { length system.now.rows + 2 * system.now.columns ≤ 1024 → (budget.new.spent ≤ budget.old.spent + 1) ⊎ IsHard (with_box system.now ranges.now) }
     ensures first { budget.old.limit ≡ Some budget.old.spent → result ≡ Err Stop.Budget }
     ensures stop { IfErr result (λ e. e ≡ Stop.Budget → budget.new.limit ≡ Some budget.new.spent) }

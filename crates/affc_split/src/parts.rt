@@ -3,7 +3,9 @@ ghost use Rattle.std.specs.Prelude.{◌≡◌, ℕ, ℤ, List, ◌+◌, ◌-◌,
 ghost use Rattle.std.specs.List.{All};
 ghost use Rattle.affc_split.specs.Answers.{unit};
 ghost use Rattle.affc_split.specs.Bounds.{IsBound, size, FirstFree, AllSingle, lowered, raised, bound_at, top_value};
+ghost use Rattle.affc_split.specs.Openings.{nodes};
 ghost use Rattle.affc_split.specs.Search.{IsFound, IsLeast, Ready};
+ghost use Rattle.affc_split.specs.Searches.{HasNodes};
 
 use crate::bounds::{Bound, low_ends, lower_half, middle, upper_half};
 use crate::budget::Stop;
@@ -174,7 +176,8 @@ pub(crate) fn low_point(
     requires low_in { (bound_at bounds.now j).low ≤ℤ at }
     requires high_in { at <ℤ (bound_at bounds.now j).high }
     requires least { IsLeast system.now (lowered bounds.now j at next) point.items }
-    ensures { IsFound system.now bounds.now next result }
+    ensures answer { IsFound system.now bounds.now next result }
+    ensures same { result ≡ Found.Point point }
 {
     let _rows = system.rows();
     Found::Point(point)
@@ -196,7 +199,8 @@ pub(crate) fn high_point(
     requires high_in { at <ℤ (bound_at bounds.now j).high }
     requires none { IsFound system.now (lowered bounds.now j at next) (next + 1) (Found.Empty low) }
     requires least { IsLeast system.now (raised bounds.now j at next) point.items }
-    ensures { IsFound system.now bounds.now next result }
+    ensures answer { IsFound system.now bounds.now next result }
+    ensures same { result ≡ Found.Point point }
 {
     let _rows = system.rows();
     drop(low);
@@ -219,7 +223,8 @@ pub(crate) fn low_kept(
     requires high_in { at <ℤ (bound_at bounds.now j).high }
     requires none { IsFound system.now (raised bounds.now j at next) (next + 1) (Found.Empty high) }
     requires least { IsLeast system.now (lowered bounds.now j at next) point.items }
-    ensures { IsFound system.now bounds.now next result }
+    ensures answer { IsFound system.now bounds.now next result }
+    ensures same { result ≡ Found.Point point }
 {
     let _rows = system.rows();
     drop(high);
@@ -269,6 +274,7 @@ pub(crate) fn joined(
     requires low { IsFound system.now (lowered bounds.now j at next) (next + 1) (Found.Empty low) }
     requires high { IsFound system.now (raised bounds.now j at next) (next + 1) (Found.Empty high) }
     ensures answer { IfOk result (λ a. IsFound system.now bounds.now next a) }
+    ensures nodes { IfOk result (λ a. HasNodes ((nodes low.value + nodes high.value) + 1) a) }
     ensures memory { OnErr result (result ≡ Err Stop.Memory) }
 {
     let _rows = system.rows();

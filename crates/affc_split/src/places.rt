@@ -17,7 +17,6 @@ pub(crate) struct Place {
     pub row: usize,
     pub column: usize,
     pub at: i64,
-    pub lower: bool,
 }
 
 /// The quotient rounded down.
@@ -32,20 +31,16 @@ fn floor_div(a: i128, b: i128) -> Option<i128> {
 }
 
 /// Where a row with this greatest value, coefficient and range leaves a part of the range empty.
-fn place_of(top: i128, c: i128, bound: Bound) -> Option<(i64, bool)> {
-    let slack = top.checked_add(0)?;
-    if c > 0 {
+fn place_of(top: i128, c: i128, bound: Bound) -> Option<i64> {
+    let at = if c > 0 {
         // x >= high - top / c
-        let steps = floor_div(slack, c)?;
-        let least = i128::from(bound.high).checked_sub(steps)?;
-        let at = i64::try_from(least.checked_sub(1)?).ok()?;
-        Some((at, true))
+        let steps = floor_div(top, c)?;
+        i128::from(bound.high).checked_sub(steps)?.checked_sub(1)?
     } else {
-        let steps = floor_div(slack, c.checked_neg()?)?;
-        let most = i128::from(bound.low).checked_add(steps)?;
-        let at = i64::try_from(most).ok()?;
-        Some((at, false))
-    }
+        let steps = floor_div(top, c.checked_neg()?)?;
+        i128::from(bound.low).checked_add(steps)?
+    };
+    i64::try_from(at).ok()
 }
 
 /// A part that one row leaves empty.
@@ -64,13 +59,12 @@ fn place_in(row: &Form, number: usize, bounds: &[Bound]) -> Option<Place>
         let bound = bounds[column];
         let c = coefs[column];
         if c != 0 && bound.low < bound.high {
-            if let Some((at, lower)) = place_of(top, c, bound) {
+            if let Some(at) = place_of(top, c, bound) {
                 if bound.low <= at && at < bound.high {
                     return Some(Place {
                         row: number,
                         column,
                         at,
-                        lower,
                     });
                 }
             }

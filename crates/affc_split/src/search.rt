@@ -1,9 +1,12 @@
 //! The search through the parts of a box.
-ghost use Rattle.std.specs.Prelude.{◌≡◌, ℕ, ℤ, List, ◌+◌, ◌-◌, ◌*◌, ◌^◌, ◌<◌, ◌≤◌, ◌+ℤ◌, ◌-ℤ◌, ◌≤ℤ◌, ◌<ℤ◌, pos, IfOk, IfErr, IfSome, IfNone, OnErr, IsNone, Some, Err, length};
+ghost use Rattle.std.specs.Prelude.{◌≡◌, ℕ, ℤ, List, ◌+◌, ◌-◌, ◌*◌, ◌^◌, ◌<◌, ◌≤◌, ◌+ℤ◌, ◌-ℤ◌, ◌≤ℤ◌, ◌<ℤ◌, pos, IfOk, IfErr, IfSome, IfNone, OnOk, OnErr, IsNone, Some, Err, length};
 ghost use Rattle.std.specs.List.{All};
 ghost use Rattle.affc_farkas.specs.Multiples.{row_at};
-ghost use Rattle.affc_split.specs.Bounds.{IsBound, FirstFree, size, bound_at, lowered, raised, top_value};
+ghost use Rattle.affc_split.specs.Bounds.{IsBound, FirstFree, size, bound_at, lowered, raised, ranges_of, top_value};
+ghost use Rattle.affc_split.specs.Budgets.{IsUnit};
+ghost use Rattle.affc_split.specs.Openings.{nodes};
 ghost use Rattle.affc_split.specs.Search.{IsFound, IsHalf, IsLook, IfFree, Ready};
+ghost use Rattle.affc_split.specs.Searches.{AreFewer, Searched, IfKnown};
 
 use crate::bounds::{Bound, first_free};
 use crate::budget::{Budget, Stop};
@@ -95,6 +98,7 @@ fn opened_half(
     ensures uncounted { IsNone budget.old.limit → budget.new.spent ≡ budget.old.spent }
     ensures grows { budget.old.spent ≤ budget.new.spent }
     ensures step { budget.new.spent ≤ budget.old.spent + 1 }
+    ensures counted { OnOk result (IsUnit budget.old budget.new) }
     ensures stop { IfErr result (λ e. e ≡ Stop.Budget → budget.new.limit ≡ Some budget.new.spent) }
 {
     budget.open()?;
@@ -129,6 +133,7 @@ fn opened_low(
     ensures uncounted { IsNone budget.old.limit → budget.new.spent ≡ budget.old.spent }
     ensures grows { budget.old.spent ≤ budget.new.spent }
     ensures step { budget.new.spent ≤ budget.old.spent + 1 }
+    ensures counted { OnOk result (IsUnit budget.old budget.new) }
     ensures stop { IfErr result (λ e. e ≡ Stop.Budget → budget.new.limit ≡ Some budget.new.spent) }
 {
     let half = low_box(alloc, system, bounds, j, at, next, left)?;
@@ -159,6 +164,7 @@ fn opened_high(
     ensures uncounted { IsNone budget.old.limit → budget.new.spent ≡ budget.old.spent }
     ensures grows { budget.old.spent ≤ budget.new.spent }
     ensures step { budget.new.spent ≤ budget.old.spent + 1 }
+    ensures counted { OnOk result (IsUnit budget.old budget.new) }
     ensures stop { IfErr result (λ e. e ≡ Stop.Budget → budget.new.limit ≡ Some budget.new.spent) }
 {
     let half = high_box(alloc, system, bounds, j, at, next, left)?;
@@ -187,6 +193,7 @@ fn looked(
     ensures grows { budget.old.spent ≤ budget.new.spent }
     ensures free { IfOk result (λ a. IfFree a (budget.new.spent ≡ budget.old.spent)) }
     ensures cost { budget.new.spent + 2 ≤ budget.old.spent + 2 * size bounds.now }
+    ensures opened { IfOk result (λ a. IfKnown a (λ f. Searched 0 (ranges_of bounds.now) budget.old budget.new (AreFewer 0 f))) }
     ensures stop { IfErr result (λ e. e ≡ Stop.Budget → budget.new.limit ≡ Some budget.new.spent) }
 {
     if let Some(found) = settled(alloc, system, bounds, next)? {
@@ -226,6 +233,7 @@ pub(crate) fn inside(
     ensures uncounted { IsNone budget.old.limit → budget.new.spent ≡ budget.old.spent }
     ensures grows { budget.old.spent ≤ budget.new.spent }
     ensures cost { budget.new.spent + 2 ≤ budget.old.spent + 2 * size bounds.now }
+    ensures opened { IfOk result (λ a. Searched 0 (ranges_of bounds.now) budget.old budget.new (AreFewer 0 a)) }
     ensures stop { IfErr result (λ e. e ≡ Stop.Budget → budget.new.limit ≡ Some budget.new.spent) }
 {
     let j = match looked(alloc, system, bounds, next, left, spare, budget)? {
@@ -267,6 +275,7 @@ fn lower(
     ensures uncounted { IsNone budget.old.limit → budget.new.spent ≡ budget.old.spent }
     ensures grows { budget.old.spent ≤ budget.new.spent }
     ensures cost { budget.new.spent + 1 ≤ budget.old.spent + 2 * size (lowered bounds.now j at next) }
+    ensures opened { IfOk result (λ a. Searched 1 (ranges_of (lowered bounds.now j at next)) budget.old budget.new (AreFewer 0 a)) }
     ensures stop { IfErr result (λ e. e ≡ Stop.Budget → budget.new.limit ≡ Some budget.new.spent) }
 {
     match opened_low(alloc, system, bounds, j, at, next, left, budget)? {
@@ -312,6 +321,7 @@ fn upper(
     ensures uncounted { IsNone budget.old.limit → budget.new.spent ≡ budget.old.spent }
     ensures grows { budget.old.spent ≤ budget.new.spent }
     ensures cost { budget.new.spent + 1 ≤ budget.old.spent + 2 * size (raised bounds.now j at next) }
+    ensures opened { IfOk result (λ a. Searched 1 (ranges_of (raised bounds.now j at next)) budget.old budget.new (AreFewer (nodes low.value + 1) a)) }
     ensures stop { IfErr result (λ e. e ≡ Stop.Budget → budget.new.limit ≡ Some budget.new.spent) }
 {
     match opened_high(alloc, system, bounds, j, at, next, left, budget) {
@@ -357,6 +367,7 @@ fn narrowed(
     ensures grows { budget.old.spent ≤ budget.new.spent }
     ensures none { IfOk result (λ o. IfNone o (budget.new.spent ≡ budget.old.spent)) }
     ensures cost { budget.new.spent + 2 ≤ budget.old.spent + 2 * size bounds.now }
+    ensures opened { IfOk result (λ o. IfSome o (λ a. Searched 0 (ranges_of bounds.now) budget.old budget.new (AreFewer 0 a))) }
     ensures stop { IfErr result (λ e. e ≡ Stop.Budget → budget.new.limit ≡ Some budget.new.spent) }
 {
     let Some(place) = find_place(system, bounds) else {
@@ -432,6 +443,7 @@ fn above(
     ensures uncounted { IsNone budget.old.limit → budget.new.spent ≡ budget.old.spent }
     ensures grows { budget.old.spent ≤ budget.new.spent }
     ensures cost { budget.new.spent + 2 ≤ budget.old.spent + 2 * size bounds.now }
+    ensures opened { IfOk result (λ a. Searched 0 (ranges_of bounds.now) budget.old budget.new (AreFewer 0 a)) }
     ensures stop { IfErr result (λ e. e ≡ Stop.Budget → budget.new.limit ≡ Some budget.new.spent) }
 {
     let j = place.column;
@@ -474,6 +486,7 @@ fn below(
     ensures uncounted { IsNone budget.old.limit → budget.new.spent ≡ budget.old.spent }
     ensures grows { budget.old.spent ≤ budget.new.spent }
     ensures cost { budget.new.spent + 2 ≤ budget.old.spent + 2 * size bounds.now }
+    ensures opened { IfOk result (λ a. Searched 0 (ranges_of bounds.now) budget.old budget.new (AreFewer 0 a)) }
     ensures stop { IfErr result (λ e. e ≡ Stop.Budget → budget.new.limit ≡ Some budget.new.spent) }
 {
     let j = place.column;

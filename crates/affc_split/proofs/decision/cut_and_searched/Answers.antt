@@ -9,6 +9,7 @@ use Rattle.affc_split.specs.Points.{IsLeastPoint}
 use Rattle.affc_split.specs.Search.{IsFound, IsLeast, IsEmpty}
 use Rattle.affc_split.proofs.Whole.{len_rows, ranges_back}
 use Rattle.affc_split.proofs.Boxes.{boxed_least, boxed_valid}
+use Rattle.affc_split.proofs.Openings.{empty_answer, point_answer}
 use Rattle.affc_split.proofs.decision.cut_and_searched.Goals as goal
 
 pub with_cuts-requires-clause-next : goal.with_cuts-requires-clause-next
@@ -38,3 +39,13 @@ returns-in-Point-clause-point c =
     let a = subst (λ f. IsFound c.in-Ok.boxed c.args.bounds.now c.args.next f) c.in-Point.is c.in_ok-proof.ensures.answer in
     let b = subst (λ s. IsLeast s c.args.bounds.now x) c.in-Ok.ensures a in
     boxed_least system ranges x (subst (λ rs. IsLeastPoint (with_box system ranges) rs x) (ap ranges_of c.requires.bounds ∙ ranges_back (length system.rows) ranges) b)
+
+pub returns-in-Empty-clause-opened : goal.returns-in-Empty-clause-opened
+returns-in-Empty-clause-opened c =
+    empty_answer c.args.ranges.now (ranges_of c.args.bounds.now) c.args.budget.now _ c.in-Empty.proof c.into_inner.result c.in_ok-proof.field-0
+    (ap ranges_of c.requires.bounds ∙ ranges_back (length c.args.system.now.rows) c.args.ranges.now) c.in-Empty.is c.into_inner.ensures c.in_ok-proof.ensures.opened
+
+pub returns-in-Point-clause-opened : goal.returns-in-Point-clause-opened
+returns-in-Point-clause-opened c =
+    point_answer c.args.ranges.now (ranges_of c.args.bounds.now) c.args.budget.now _ c.in-Point.point c.in_ok-proof.field-0
+    (ap ranges_of c.requires.bounds ∙ ranges_back (length c.args.system.now.rows) c.args.ranges.now) c.in-Point.is c.in_ok-proof.ensures.opened

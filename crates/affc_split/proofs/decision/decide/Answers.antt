@@ -2,6 +2,8 @@ use Rattle.std.proofs.Common.{◌≡◌, ◌+◌, ◌*◌, ◌≤◌, subst, len
 use Rattle.affc_farkas.specs.Proofs.{ValidProof}
 use Rattle.affc_split.specs.Answers.{with_box, IsLeafProof, IsHard, IfEmpty, IfPoint}
 use Rattle.affc_split.specs.Points.{points, IsLeastPoint}
+use Rattle.affc_split.specs.Openings.{Opened}
+use Rattle.affc_split.proofs.Openings.{whole_opened}
 use Rattle.affc_split.proofs.decision.decide.Goals as goal
 
 pub returns-clause-empty : goal.returns-clause-empty
@@ -18,3 +20,7 @@ returns-clause-cost c = subst (λ rs. c.decided.new.budget.spent + 1 ≤ c.args.
 
 pub returns-clause-unit : goal.returns-clause-unit
 returns-clause-unit c = subst (λ rs. length c.args.system.now.rows + 2 * c.args.system.now.columns ≤ 1024 → (c.decided.new.budget.spent ≤ c.args.budget.now.spent + 1) ⊎ IsHard (with_box c.args.system.now rs)) c.ranges-ranges.ensures.ranges c.decided.ensures.unit
+
+pub returns-clause-opened : goal.returns-clause-opened
+returns-clause-opened c = subst (λ rs. IfOk c.decided.result (Opened rs c.args.budget.now c.decided.new.budget)) c.ranges-ranges.ensures.ranges
+    (whole_opened c.args.system.now _ c.args.budget.now c.decided.new.budget c.decided.result c.decided.ensures.point c.decided.ensures.opened)
