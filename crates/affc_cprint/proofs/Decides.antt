@@ -175,12 +175,13 @@ module _ (d : TextDraft) (p : Program) (reads : program_tree d ≡ Ok p) where
       let mapped = length-map (assigned 0 d.body) (λ (x : Assigned). x.at) in
       let statements = few_dropped 64 (map (λ x. x.at) (assigned 0 d.body)) (no_faults _ _ e8.1) in
       let loops = busy.within wide_limits.loops 0 (omega arith) (no_faults _ _ e9.1) in
-      let free : w.crowded ≡ false = busy.crowded 0 ∙ many_none (assigned 0 d.body) (no_faults _ _ (no_faults _ _ e6.1)) in
-      (and_from _ _ (and_from _ _ (le-leb (number_count p.params) 4 (omega (arith, count, four))) (le-leb (length p.context) 16 (omega (arith, sixteen))))
-      (and_from _ _ (and_from _ _ (few_params _ d.pragmas d.params p.params ranges parts.params wides.0) (few_temps _ d.temps (p.temps, parts.inner) parts.temps wides.1))
-      (and_from _ _ (and_from _ _ (below_kept (length (assigned 0 d.body)) w.statements 64 (busy.statements 0) (omega (arith, mapped, statements))) (below_kept busy.nest w.loops wide_limits.loops busy.loops (omega (arith, loops))))
-      (ap (λ b. if b then false else true) free))),
-      no_faults _ _ e2.1)
+      let free : w.crowded ≡ false = busy.crowded 0 ∙ many_none (assigned 0 d.body) (no_faults _ _ (no_faults _ _ e6.1)) in (
+        and_from _ _ (and_from _ _ (le-leb (number_count p.params) 4 (omega (arith, count, four))) (le-leb (length p.context) 16 (omega (arith, sixteen))))
+            (and_from _ _ (and_from _ _ (few_params _ d.pragmas d.params p.params ranges parts.params wides.0) (few_temps _ d.temps (p.temps, parts.inner) parts.temps wides.1))
+            (and_from _ _ (and_from _ _ (below_kept (length (assigned 0 d.body)) w.statements 64 (busy.statements 0) (omega (arith, mapped, statements))) (below_kept busy.nest w.loops wide_limits.loops busy.loops (omega (arith, loops))))
+            (ap (λ b. if b then false else true) free))),
+        no_faults _ _ e2.1,
+      )
 
 -- ---- The program
 

@@ -225,7 +225,7 @@ module _ (iter : Name) (strict : Bool) (plain : is_item (word iter) ≡ false) (
   loop_brackets =
       let inner = rises_more _ (word (codes "int64_t")) _ (word_bracket (codes "int64_t")) (rises_more _ (word iter) _ (word_bracket iter) (rises_more _ (mark (codes "=")) _ (record { opening = refl; closing = refl })
       (rises_both count_open ld _ ls _ low.brackets (rises_more _ semicolon _ (record { opening = refl; closing = refl }) (rises_more _ (word iter) _ (word_bracket iter) (rises_more _ (mark (bound_mark strict)) _ (bound_bracket strict)
-      (rises_both count_open hd _ hs _ high.brackets (rises_more _ semicolon _ (record { opening = refl; closing = refl }) (rises_more _ (word iter) _ (word_bracket iter) (rises_more 0 (mark (codes "++")) [] (record { opening = refl; closing = refl }) (none_risen count_open)))))))))) ) in
+      (rises_both count_open hd _ hs _ high.brackets (rises_more _ semicolon _ (record { opening = refl; closing = refl }) (rises_more _ (word iter) _ (word_bracket iter) (rises_more 0 (mark (codes "++")) [] (record { opening = refl; closing = refl }) (none_risen count_open))))))))))) in
       let round = rises_within _ (mark (codes "(")) (mark (codes ")")) between_brackets refl refl refl inner in
       let curly = rises_within b.depth (mark (codes "{")) (mark (codes "}")) bs refl refl refl body.brackets in
       let all = rises_more _ (word (codes "for")) _ (word_bracket (codes "for")) (rises_both count_open _ _ (mark (codes "(") ∷ (between_brackets ++ mark (codes ")") ∷ [])) loop_tail round curly) in

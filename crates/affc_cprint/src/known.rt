@@ -118,8 +118,7 @@ fn value_known(v: &Val, prelude: bool, sight: &Sight<'_>) -> bool
     match v {
         Val::Load { array, subs } => {
             let subs = subs.as_slice();
-            has_array(sight, array.0 as usize, false, subs.len())
-                && ixs_known(subs, prelude, sight)
+            has_array(sight, array.0 as usize, false, subs.len()) && ixs_known(subs, prelude, sight)
         }
         Val::Const(n) => is_constant(*n),
         Val::Cast(e) => ix_known(e, prelude, sight),
@@ -168,8 +167,7 @@ fn for_known(
     ensures { result ≡ known.for_known (known_in prelude sight.now) iterator.now low.now rel high.now }
 {
     is_new(prelude, sight, true, iterator)
-        && (is_bound(rel)
-            && (ix_known(low, prelude, sight) && ix_known(high, prelude, sight)))
+        && (is_bound(rel) && (ix_known(low, prelude, sight) && ix_known(high, prelude, sight)))
 }
 
 fn if_known(conds: &[Compare], prelude: bool, sight: &Sight<'_>) -> bool
@@ -178,13 +176,7 @@ fn if_known(conds: &[Compare], prelude: bool, sight: &Sight<'_>) -> bool
     !conds.is_empty() && compares_known(conds, prelude, sight)
 }
 
-fn assign_known(
-    array: usize,
-    subs: &[Ix],
-    value: &Val,
-    prelude: bool,
-    sight: &Sight<'_>,
-) -> bool
+fn assign_known(array: usize, subs: &[Ix], value: &Val, prelude: bool, sight: &Sight<'_>) -> bool
     ensures { result ≡ known.assign_known (known_in prelude sight.now) array subs.now value.now }
 {
     has_array(sight, array, true, subs.len())
@@ -222,7 +214,10 @@ fn stmt_known<'a>(s: &'a Stmt, prelude: bool, sight: &'a Sight<'a>) -> bool
                 && stmts_known(body.as_slice(), prelude, sight)
         }
         Stmt::Assign {
-            array, subs, value, ..
+            array,
+            subs,
+            value,
+            ..
         } => assign_known(array.0 as usize, subs.as_slice(), value, prelude, sight),
         Stmt::Block { locals, body } => {
             block_known(locals.as_slice(), prelude, sight)
@@ -305,12 +300,7 @@ pub fn number_count(params: &[Param]) -> u64
 }
 
 // What is in sight behind some parameters, of which so many are numbers, and some temporaries.
-fn behind<'a>(
-    function: &'a str,
-    params: &'a [Param],
-    temps: &'a [Decl],
-    numbers: u64,
-) -> Sight<'a>
+fn behind<'a>(function: &'a str, params: &'a [Param], temps: &'a [Decl], numbers: u64) -> Sight<'a>
     requires { numbers ≡ known.number_count params.now }
     ensures { (prelude : Bool) → known_in prelude result ≡ known.known_behind prelude function.now params.now temps.now }
 {
@@ -377,12 +367,7 @@ fn temp_behind<'a>(
 }
 
 // Temporaries in order; each is in sight behind itself.
-fn temps_known<'a>(
-    prelude: bool,
-    function: &'a str,
-    params: &'a [Param],
-    temps: &'a [Decl],
-) -> bool
+fn temps_known<'a>(prelude: bool, function: &'a str, params: &'a [Param], temps: &'a [Decl]) -> bool
     ensures { result ≡ known.temps_known prelude function.now params.now [] temps.now }
 {
     let numbers = number_count(params);

@@ -149,7 +149,10 @@ fn stmt_plain(s: &Stmt) -> bool
 {
     match s {
         Stmt::For {
-            low, high, body, ..
+            low,
+            high,
+            body,
+            ..
         } => is_plain(low) && (is_plain(high) && stmts_plain(body.as_slice())),
         Stmt::If { conds, body } => {
             compares_plain(conds.as_slice()) && stmts_plain(body.as_slice())

@@ -401,7 +401,10 @@ fn assign_line(prelude: bool, subs: &[Ix], value: &Val) -> Shape
     ensures { result ≡ spec.assign_line prelude subs.now value.now }
 {
     let place = dims_behind(prelude, some_tokens(1), subs);
-    line(1, beside(place, at_level(Level::Or, val_extent(prelude, value))))
+    line(
+        1,
+        beside(place, at_level(Level::Or, val_extent(prelude, value))),
+    )
 }
 
 fn block_head(prelude: bool, locals: &[Local]) -> Shape
@@ -417,12 +420,11 @@ fn stmt_shape(prelude: bool, s: &Stmt) -> Shape
 {
     match s {
         Stmt::For {
-            low, high, body, ..
-        } => worded(closed(stmts_behind(
-            prelude,
-            for_head(prelude, low, high),
-            body.as_slice(),
-        ))),
+            low,
+            high,
+            body,
+            ..
+        } => worded(closed(stmts_behind(prelude, for_head(prelude, low, high), body.as_slice()))),
         Stmt::If { conds, body } => worded(closed(stmts_behind(
             prelude,
             if_head(prelude, conds.as_slice()),

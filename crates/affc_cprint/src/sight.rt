@@ -115,13 +115,7 @@ fn one_takes(ds: &[Decl], at: usize, is_store: bool, count: usize) -> bool
     }
 }
 
-fn array_takes(
-    params: &[Param],
-    temps: &[Decl],
-    id: usize,
-    is_store: bool,
-    count: usize,
-) -> bool
+fn array_takes(params: &[Param], temps: &[Decl], id: usize, is_store: bool, count: usize) -> bool
     ensures { result ≡ takes is_store count (slice_get (param_arrays params.now ++ temps.now) id) }
 {
     let mut left = id;

@@ -70,7 +70,11 @@ fn looped(a: Work) -> Work
 {
     Work {
         statements: a.statements,
-        loops: if 0 < a.statements { plus(a.loops, 1) } else { 0 },
+        loops: if 0 < a.statements {
+            plus(a.loops, 1)
+        } else {
+            0
+        },
         crowded: a.crowded,
     }
 }
@@ -156,7 +160,8 @@ pub fn program_fits(program: &Program) -> bool
     ensures { result ≡ spec.program_fits program.now }
 {
     let params = program.params.as_slice();
-    number_count(params) <= 4 && program.context.len() <= 16
+    number_count(params) <= 4
+        && program.context.len() <= 16
         && ((params_fit(params) && temps_fit(program.temps.as_slice()))
             && is_bounded(stmts_behind(no_work(), program.body.as_slice())))
 }
