@@ -213,11 +213,7 @@ fn with_params(
 
 /// The tree of a draft, or the first of its names that is refused. Numbers that a tree can't hold are cut in it: a
 /// draft with such a number passes a limit. Names are looked up in tables that are hashed by `spread`.
-pub fn program_of(
-    alloc: Global,
-    spread: Spread,
-    draft: &TextDraft,
-) -> Result<Program, NameFault>
+pub fn program_of(alloc: Global, spread: Spread, draft: &TextDraft) -> Result<Program, NameFault>
     ensures { Answers result (seen.text draft.now) }
 {
     let ranges = ranges_of(alloc, spread, draft.pragmas.as_slice())?;
