@@ -7,4 +7,3 @@ pub mod Sums
 pub mod Steps
 pub mod Admissions
 pub mod Answers
-pub mod Turns

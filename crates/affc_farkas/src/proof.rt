@@ -1,13 +1,11 @@
 //! Proofs that a system has no integer point.
-ghost use Rattle.std.specs.Prelude.{◌≡◌, ℕ, ◌+◌, ◌-◌, ◌*◌, ◌^◌, ◌<◌, ◌≤◌, ◌↔◌, ◌++◌, ◌∷◌, [], IfOk, IfErr, OnOk, OnErr, IsTrue, length};
+ghost use Rattle.std.specs.Prelude.{◌≡◌, ℕ, ◌+◌, ◌-◌, ◌*◌, ◌^◌, ◌<◌, ◌≤◌, ◌↔◌, ◌++◌, ◌∷◌, [], IfErr, OnOk, OnErr, IsTrue, length};
 ghost use Rattle.std.specs.List.{All};
 ghost use Rattle.affc_farkas.specs.Multiples.{IsRising, AreMultipliers};
-ghost use Rattle.affc_farkas.specs.Turns.{turns, IsEnd};
 
 use affc_rows::Form;
 use std::alloc::Global;
 use std::marker::Model;
-use std::mem;
 use thiserror::Error;
 
 /// The most multipliers of one sum.
@@ -52,6 +50,7 @@ pub enum MultiplierFault {
 ///
 /// A leaf's multiples sum to a constant below 0. A cut divides the sum of multiples by `g`, rounds the constant down, and adds the
 /// row. A split has one proof for the points at which the form is at most `at`, and one for those at which it is more.
+#[derive(Drop)]
 pub enum Proof {
     Leaf(Multipliers),
     Cut {
@@ -66,56 +65,6 @@ pub enum Proof {
         low: Box<Proof>,
         high: Box<Proof>,
     },
-}
-
-/// Takes the last part out of a proof, and puts another proof in its place. A leaf has no parts: then the other one comes back.
-fn turned(proof: &mut Proof, other: Box<Proof>) -> Result<Box<Proof>, Box<Proof>>
-    ensures less { IfOk result (λ last. 2 * turns last.value + turns proof.new < 2 * turns proof.old + turns other.value) }
-    ensures back { IfErr result (λ back. back ≡ other) }
-    ensures leaf { OnErr result (IsEnd proof.new) }
-{
-    match proof {
-        Proof::Leaf(_) => Err(other),
-        Proof::Cut { rest, .. } => Ok(mem::replace(rest, other)),
-        Proof::Split { high, .. } => Ok(mem::replace(high, other)),
-    }
-}
-
-/// A loop, so that the depth of a proof takes no stack: a split is turned until its lower side is a leaf.
-impl Drop for Proof {
-    fn drop(mut self) {
-        loop {
-            match self {
-                Proof::Leaf(_) => return,
-                Proof::Cut {
-                    by: _,
-                    g: _,
-                    row: _,
-                    rest,
-                } => self = Box::into_inner(rest),
-                Proof::Split {
-                    form,
-                    at,
-                    mut low,
-                    high,
-                } => match turned(&mut low, high) {
-                    Ok(last) => {
-                        self = Proof::Split {
-                            form,
-                            at,
-                            low: last,
-                            high: low,
-                        };
-                    }
-                    Err(high) => {
-                        self = Box::into_inner(low);
-                        let Proof::Leaf(_) = self else { unreachable!() };
-                        self = Box::into_inner(high);
-                    }
-                },
-            }
-        }
-    }
 }
 
 /// Whether a row number is above each of these.
