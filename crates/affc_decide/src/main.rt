@@ -4,11 +4,11 @@
 mod block;
 
 use affc_farkas::Proof;
-use affc_split::{Answer, Budget, decide, within_reach};
+use affc_split::{Answer, Budget, Stop, decide, within_reach};
 use block::{Block, Fault, Line, read_line};
 use std::alloc::Global;
 use std::io;
-use std::io::{BufRead, BufReader};
+use std::io::{BufRead, BufReader, ErrorKind};
 use std::process::ExitCode;
 
 /// What the answers were.
@@ -85,7 +85,8 @@ fn settle(
                 Answer::Point(_) => totals.points = totals.points.saturating_add(1),
             }
         }
-        Err(_) => {
+        Err(Stop::Memory) => return Err(io::Error::from(ErrorKind::OutOfMemory)),
+        Err(Stop::Budget) => {
             println!(rt; "stopped {spent}")?;
             totals.stopped = totals.stopped.saturating_add(1);
         }
@@ -107,7 +108,7 @@ fn take(
             None => Ok(false),
         },
         Err(Fault::Malformed) => Ok(false),
-        Err(Fault::Memory) => Ok(false),
+        Err(Fault::Memory) => Err(io::Error::from(ErrorKind::OutOfMemory)),
     }
 }
 
