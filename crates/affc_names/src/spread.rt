@@ -2,7 +2,7 @@
 
 use std::hash::{BuildHasher, DefaultHasher, Hasher};
 
-/// Spreads names by all bytes of the text that they stand in. A text whose names fall together can't be made: with each
+/// Spreads names by all bytes of the text that they stand in. A text whose names fall together is hard to make: with each
 /// name that it changes, all of them are spread in another way.
 #[derive(Clone, Copy, Drop)]
 pub struct Spread {
