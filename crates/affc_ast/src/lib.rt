@@ -10,6 +10,3 @@ pub mod text;
 pub mod tree;
 
 pub use sqlite_items::{Boxed, Items};
-
-#[cfg(test)]
-mod tests;

@@ -9,8 +9,6 @@ mod kept;
 pub mod pair;
 pub mod proof;
 mod steps;
-#[cfg(test)]
-mod tests;
 
 pub use checker::check;
 pub use elimination::{Refutation, refute};

@@ -13,6 +13,3 @@ pub use memory::{MemFolder, MemSink, SureSink};
 pub use put::{PutCause, PutFault, put_all};
 pub use sink::{Sink, SinkFault, pieces_join};
 pub use standard::{StdFolder, StdSink};
-
-#[cfg(test)]
-mod tests;

@@ -10,6 +10,3 @@ pub mod total;
 
 pub use form::{Form, FormFault};
 pub use total::{Range, Total};
-
-#[cfg(test)]
-mod tests;

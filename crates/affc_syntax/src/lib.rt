@@ -4,6 +4,4 @@
 pub mod ahead;
 pub mod condition;
 pub mod expression;
-#[cfg(test)]
-mod tests;
 pub mod value;

@@ -9,6 +9,3 @@ pub mod system;
 pub use boxes::{BoxOf, interval};
 pub use pairs::PairSystem;
 pub use system::{RowFault, System, fits_row};
-
-#[cfg(test)]
-mod tests;

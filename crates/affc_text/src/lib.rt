@@ -8,6 +8,3 @@ mod statement;
 mod text;
 
 pub use text::read_text;
-
-#[cfg(test)]
-mod tests;

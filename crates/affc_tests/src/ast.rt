@@ -1,5 +1,5 @@
-// What no clause says: that the calls succeed with ample memory.
-use crate::text::Text;
+//! What no clause says: that the calls succeed with ample memory.
+use affc_ast::text::Text;
 use std::test::Fail;
 
 #[test]

@@ -1,21 +1,12 @@
 //! Proofs and eliminations whose outcome is known from outside.
 ghost use Rattle.std.specs.Prelude.{◌≡◌, IfOk, length};
 
-use crate::checker::check;
-use crate::elimination::{Refutation, refute};
-use crate::proof::{MultiplierFault, Multipliers, Proof};
+use crate::forms::form;
+use affc_farkas::{MultiplierFault, Multipliers, Proof, Refutation, check, refute};
 use affc_rows::Form;
 use affc_system::System;
-use smallvec::SmallVec;
 use std::alloc::{AllocError, Global};
 use std::test::Fail;
-
-fn form(alloc: Global, coefs: &[i128], constant: i128) -> Result<Form, AllocError>
-    ensures { IfOk result (λ f. f.coefs ≡ coefs.now) }
-{
-    let coefs = SmallVec::from_slice(alloc, coefs)?;
-    Ok(Form { coefs, constant })
-}
 
 /// A system over two columns.
 fn plane(alloc: Global, rows: &[[i128; 3]]) -> Result<System, Fail> {

@@ -1,26 +1,11 @@
 //! Texts whose drafts are known from outside.
 
-use crate::read_text;
+use crate::symbols::{mark, word};
 use affc_draft::symbol::Symbol;
 use affc_lex::token::Kind;
 use affc_syntax::ahead::Stop;
+use affc_text::read_text;
 use std::alloc::Global;
-
-fn word<'t>(text: &'t str) -> Symbol<'t> {
-    Symbol {
-        kind: Kind::Word,
-        text,
-        value: 0,
-    }
-}
-
-fn mark<'t>(text: &'t str) -> Symbol<'t> {
-    Symbol {
-        kind: Kind::Mark,
-        text,
-        value: 0,
-    }
-}
 
 fn header<'t>(text: &'t str) -> Symbol<'t> {
     Symbol {

@@ -1,19 +1,10 @@
 //! Systems and boxes whose outcome is known from outside.
-ghost use Rattle.std.specs.Prelude.{◌≡◌, IfOk, length};
 
-use crate::boxes::{BoxOf, interval};
-use crate::system::{RowFault, System};
-use affc_rows::{Form, Range};
-use smallvec::SmallVec;
+use crate::forms::form;
+use affc_rows::Range;
+use affc_system::{BoxOf, RowFault, System, interval};
 use std::alloc::{AllocError, Global};
 use std::test::Fail;
-
-fn form(alloc: Global, coefs: &[i128], constant: i128) -> Result<Form, AllocError>
-    ensures { IfOk result (λ f. f.coefs ≡ coefs.now) }
-{
-    let coefs = SmallVec::from_slice(alloc, coefs)?;
-    Ok(Form { coefs, constant })
-}
 
 /// What `push` answers of one row, on a system without rows.
 fn pushed(

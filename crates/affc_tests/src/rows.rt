@@ -1,21 +1,10 @@
 //! Values, mixtures and compositions whose outcome is known from outside.
-ghost use Rattle.std.specs.Prelude.{◌≡◌, IfOk};
 
-use crate::form::Form;
-use crate::total::Range;
-use smallvec::SmallVec;
-use std::alloc::{AllocError, Global};
+use crate::forms::form;
+use affc_rows::Range;
 use std::test::Fail;
 
 const HUGE: i128 = 1 << 125;
-
-fn form(alloc: Global, coefs: &[i128], constant: i128) -> Result<Form, AllocError>
-    ensures coefs { IfOk result (λ f. f.coefs ≡ coefs.now) }
-    ensures constant { IfOk result (λ f. f.constant ≡ constant) }
-{
-    let coefs = SmallVec::from_slice(alloc, coefs)?;
-    Ok(Form { coefs, constant })
-}
 
 #[test]
 fn values(rt: HostRuntime) -> Result<(), Fail> {

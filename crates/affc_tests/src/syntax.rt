@@ -3,31 +3,16 @@
 ghost use Rattle.std.specs.Prelude.{◌≡◌};
 ghost use Rattle.affc_lex.specs.Bytes.{decimal};
 
-use crate::ahead::Stop;
-use crate::condition::read_conds;
-use crate::value::read_value;
+use crate::symbols::{mark, word};
 use affc_ast::tree::Op;
 use affc_draft::draft::ValueDraft;
 use affc_draft::symbol::Symbol;
 use affc_lex::token::Kind;
+use affc_syntax::ahead::Stop;
+use affc_syntax::condition::read_conds;
+use affc_syntax::value::read_value;
 use std::alloc::Global;
 use std::test::Fail;
-
-fn word<'t>(text: &'t str) -> Symbol<'t> {
-    Symbol {
-        kind: Kind::Word,
-        text,
-        value: 0,
-    }
-}
-
-fn mark<'t>(text: &'t str) -> Symbol<'t> {
-    Symbol {
-        kind: Kind::Mark,
-        text,
-        value: 0,
-    }
-}
 
 fn number<'t>(text: &'t str, value: u64) -> Symbol<'t>
     requires { value ≡ decimal text.now }

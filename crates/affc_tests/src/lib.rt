@@ -1,0 +1,25 @@
+//! Calls whose answers are known from outside, crate by crate: that they succeed with ample memory, and what no clause says.
+//!
+//! They stand together, since the tests of a crate are built with a second proof of all of it.
+#![tactic(auto)]
+
+#[cfg(test)]
+mod ast;
+#[cfg(test)]
+mod farkas;
+#[cfg(test)]
+mod forms;
+#[cfg(test)]
+mod io;
+#[cfg(test)]
+mod lex;
+#[cfg(test)]
+mod rows;
+#[cfg(test)]
+mod symbols;
+#[cfg(test)]
+mod syntax;
+#[cfg(test)]
+mod system;
+#[cfg(test)]
+mod text;
