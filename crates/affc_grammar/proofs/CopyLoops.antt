@@ -21,7 +21,7 @@ use Rattle.affc_ast.specs.declared.tree.Rel.TheVariants.{Less}
 use Rattle.affc_ast.specs.declared.tree.Stmt.TheVariants as stmt
 use Rattle.affc_ast.specs.declared.tree.Val.TheVariants as val
 use Rattle.affc_ast.specs.declared.tree.Param.TheVariants.{Number, Array}
-use Rattle.affc_grammar.specs.Names.{function, number, array, Visible, Scope, thing_of, why_declared, why_number, why_array, why_repeated, why_ranged, first_reason, is_refused_word, is_time_name, range_of, number_id, array_id, stmts_tree, head_tree, number_tree, params_tree, Checked, ◌>>=◌, allowed, each, number_named, array_named, program_tree, ix_tree}
+use Rattle.affc_grammar.specs.Names.{function, number, array, Visible, Scope, thing_of, why_declared, why_number, why_array, why_other, why_repeated, why_ranged, first_reason, is_refused_word, is_time_name, range_of, number_id, array_id, stmts_tree, head_tree, number_tree, params_tree, Checked, ◌>>=◌, allowed, each, number_named, array_named, program_tree, ix_tree}
 use Rattle.affc_grammar.specs.declared.fault.LimitName.TheVariants.{Tokens, Run, Depth, Items, Parameters, Range, Loops, Statements, Empty, Accesses, Dimensions, Comparisons, Literal, Coefficient}
 use Rattle.affc_grammar.specs.Limits.{limits_of, Passed, passed_at, least, passes, passed, shape_passed, tokens_past, count_item, is_item, at_if, is_range, large_parts, products_of_names}
 use Rattle.affc_grammar.specs.Reads.{Derives, Reads, ReadsWide, named, affine, within_limits, tree_of, symbols, has_prelude}
@@ -213,7 +213,7 @@ store_ok vs at w id e r =
     ∙ allowed_ok at (Ok (record { 0 = id })) (three_reasons (is_refused_word (of vs) false w) Reserved Const Kind (unrefused vs false w r)) refl
 
 repeated_ok : (vs : List Visible) (w : Name) → why_repeated (of vs) w w ≡ None
-repeated_ok vs w = ap (λ t. cond t None (first_reason ((not (is_some (thing_of (of vs) w)), Unknown) ∷ (is_refused_word (of vs) false w, Reserved) ∷ (true, Kind) ∷ []))) (bytes_same w)
+repeated_ok vs w = ap (λ t. cond t None (why_other (of vs) w (thing_of (of vs) w))) (bytes_same w)
 
 -- ---- The scopes of a copy loop
 

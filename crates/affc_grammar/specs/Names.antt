@@ -98,11 +98,15 @@ why_array scope w is_store count (Some function) = first_reason ((is_refused_wor
 why_array scope w is_store count (Some (number id it)) = first_reason ((is_refused_word scope it w, Reserved) ∷ (true, Kind) ∷ [])
 why_array scope w is_store count (Some (array id role n)) = first_reason ((is_refused_word scope false w, Reserved) ∷ (is_store && is_input role, Const) ∷ (not (n == count), Kind) ∷ [])
 
+-- of a name that is not the iterator of its `for`
+abbrev pub why_other : Scope → Name → Option Thing → Option NameWhy
+why_other scope w None = Some Unknown
+why_other scope w (Some (number id it)) = first_reason ((is_refused_word scope it w, Reserved) ∷ (true, Kind) ∷ [])
+why_other scope w (Some thing) = first_reason ((is_refused_word scope false w, Reserved) ∷ (true, Kind) ∷ [])
+
 -- of the second and the third word of a `for`, given its first word
 abbrev pub why_repeated : Scope → (iterator : Name) → Name → Option NameWhy
-why_repeated scope iterator w =
-    if same iterator w then None
-    else first_reason ((not (is_some (thing_of scope w)), Unknown) ∷ (is_refused_word scope false w, Reserved) ∷ (true, Kind) ∷ [])
+why_repeated scope iterator w = if same iterator w then None else why_other scope w (thing_of scope w)
 
 -- of a name that is given a range; `earlier` are the names that were given one before
 abbrev pub why_ranged : Scope → (earlier : List Name) → Name → Option Thing → Option NameWhy

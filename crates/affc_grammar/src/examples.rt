@@ -1,15 +1,20 @@
 //! Which texts are read, and what is wrong with others, by their symbols: each function here is a statement, proved
 //! by computation. A symbol has a space on either side, and symbols are numbered from 0.
 
-ghost use Rattle.std.specs.Prelude.{◌≡◌, ◌∷◌, [], true, codes, replicate};
+ghost use Rattle.std.specs.Prelude.{◌≡◌, ◌∷◌, ◌++◌, [], true, false, codes, replicate, flat_map, Some, None, pos};
 ghost use Rattle.affc_ast.specs.CopyLoop.{copy_tree};
+ghost use Rattle.affc_ast.specs.declared.tree.Ix.TheVariants as ix;
+ghost use Rattle.affc_ast.specs.declared.tree.Val.TheVariants as val;
+ghost use Rattle.affc_ast.specs.declared.tree.Stmt.TheVariants as stmt;
+ghost use Rattle.affc_ast.specs.declared.tree.Op.TheVariants as op;
+ghost use Rattle.affc_ast.specs.declared.tree.Rel.TheVariants.{Less, LessEqual, Greater, Equal};
 ghost use Rattle.affc_grammar.specs.declared.fault.NameWhy.TheVariants.{Unknown, Twice, Reserved, Const, Kind, NoRange};
-ghost use Rattle.affc_grammar.specs.declared.fault.LimitName.TheVariants.{Parameters, Range, Loops, Empty, Accesses, Dimensions, Comparisons, Literal, Coefficient};
+ghost use Rattle.affc_grammar.specs.declared.fault.LimitName.TheVariants.{Run, Depth, Items, Parameters, Range, Loops, Statements, Empty, Accesses, Dimensions, Comparisons, Literal, Coefficient};
 ghost use Rattle.affc_grammar.specs.Grammar.{word, mark, text_symbols};
 ghost use Rattle.affc_grammar.specs.Limits.{tokens_past, count_run, count_open, count_item};
 ghost use Rattle.affc_grammar.specs.Printed.{printed};
 ghost use Rattle.affc_grammar.specs.Reads.{WellNamed};
-ghost use Rattle.affc_grammar.specs.Verdict.{line, around, with_prelude, reprinted, verdict, is_read, reads, syntax, name, product, limit};
+ghost use Rattle.affc_grammar.specs.Verdict.{line, around, with_prelude, reprinted, verdict, is_read, program_of, reads, syntax, name, product, limit};
 
 /// Which symbols are a text of the grammar, and where those of others stop.
 pub fn grammar()
@@ -26,6 +31,13 @@ pub fn grammar()
     ensures calls_with_the_prelude { is_read (verdict (with_prelude (codes "out [ affc_min ( N , 1 ) ] = 0ULL ;"))) ≡ true }
     ensures divisors_are_at_least_one { verdict (with_prelude (codes "out [ affc_floord ( N , 0 ) ] = 0ULL ;")) ≡ syntax 39 }
     ensures divisors_are_numbers { verdict (with_prelude (codes "out [ affc_ceild ( N , 2 + 1 ) ] = 0ULL ;")) ≡ syntax 40 }
+    ensures steps_by_a_sum { is_read (verdict (around (codes "for ( int64_t i = 0 ; i <= 1 ; i += 1 ) out [ i ] = 0ULL ;"))) ≡ true }
+    ensures loops_go_up { verdict (around (codes "for ( int64_t i = 3 ; i > 0 ; i ++ ) out [ i ] = 0ULL ;")) ≡ syntax 40 }
+    ensures one_minus_before_an_atom { verdict (around (codes "out [ - - N ] = 0ULL ;")) ≡ syntax 35 }
+    ensures minus_a_negation { is_read (verdict (around (codes "out [ N - - 1 ] = 0ULL ;"))) ≡ true }
+    ensures arrays_have_a_dimension { verdict (line (codes "# include <stdint.h> \n void f ( uint64_t t ) { }")) ≡ syntax 9 }
+    ensures shifts_of_63 { is_read (verdict (around (codes "out [ 0 ] = in [ 0 ] << 63 >> 0 ;"))) ≡ true }
+    ensures divisors_of_one { is_read (verdict (with_prelude (codes "out [ affc_floord ( N , 1 ) ] = 0ULL ;"))) ≡ true }
 {}
 
 /// Statements, and the words that begin them.
@@ -57,6 +69,7 @@ pub fn names()
     ensures range_of_an_array { verdict (line (codes "# include <stdint.h> \n # pragma affc param N 1 4 \n void f ( uint64_t N [ 1 ] ) { }")) ≡ name 8 Kind }
     ensures no_range { verdict (line (codes "# include <stdint.h> \n void f ( int64_t N ) { }")) ≡ name 8 NoRange }
     ensures temporaries_aren_t_seen_before { verdict (line (codes "# include <stdint.h> \n # pragma affc param N 1 4 \n # pragma affc context t < N \n void f ( int64_t N ) { uint64_t t ; }")) ≡ name 16 Unknown }
+    ensures latest_of_a_name { verdict (line (codes "# include <stdint.h> \n # pragma affc param N 1 4 \n void f ( int64_t N , uint64_t N [ 1 ] ) { }")) ≡ name 8 Kind }
 {}
 
 /// Names of other kinds, inputs and reserved names.
@@ -73,6 +86,10 @@ pub fn kinds()
     ensures time_iterators { is_read (verdict (with_prelude (codes "for ( int64_t affc_t0 = 0 ; affc_t0 < 1 ; affc_t0 ++ ) out [ affc_t0 ] = 0ULL ;"))) ≡ true }
     ensures no_time_locals { verdict (with_prelude (codes "{ const int64_t affc_t0 = 0 ; }")) ≡ name 36 Reserved }
     ensures no_time_iterators_without_the_prelude { verdict (around (codes "for ( int64_t affc_t0 = 0 ; affc_t0 < 1 ; affc_t0 ++ ) out [ affc_t0 ] = 0ULL ;")) ≡ name 35 Reserved }
+    ensures const_before_kind { verdict (around (codes "in = 1ULL ;")) ≡ name 32 Const }
+    ensures twice_before_reserved { verdict (with_prelude (codes "for ( int64_t affc_t0 = 0 ; affc_t0 < 1 ; affc_t0 ++ ) { { const int64_t affc_t0 = 1 ; } }")) ≡ name 51 Twice }
+    ensures other_time_iterators { verdict (with_prelude (codes "for ( int64_t affc_t0 = 0 ; affc_t0 < 1 ; affc_t0 ++ ) for ( int64_t affc_t1 = 0 ; affc_t0 < 1 ; affc_t1 ++ ) out [ 0 ] = 0ULL ;")) ≡ name 54 Kind }
+    ensures time_names_have_no_leading_zero { verdict (with_prelude (codes "for ( int64_t affc_t00 = 0 ; affc_t00 < 1 ; affc_t00 ++ ) out [ 0 ] = 0ULL ;")) ≡ name 36 Reserved }
 {}
 
 /// Products, literals and coefficients of affine texts.
@@ -90,6 +107,9 @@ pub fn forms()
     ensures large_coefficient { verdict (around (codes "out [ 65537 * N ] = 1ULL ;")) ≡ limit 34 Coefficient }
     ensures large_part { verdict (around (codes "out [ N - ( 65536 * N + N ) ] = 1ULL ;")) ≡ limit 36 Coefficient }
     ensures literals_with_the_prelude { is_read (verdict (with_prelude (codes "out [ 16777217 * N ] = 1ULL ;"))) ≡ true }
+    ensures product_in_a_call { verdict (with_prelude (codes "out [ affc_max ( N * N , 1 ) ] = 0ULL ;")) ≡ product 38 }
+    ensures greatest_divisor { is_read (verdict (with_prelude (codes "out [ affc_floord ( N , 4611686018427387904 ) ] = 0ULL ;"))) ≡ true }
+    ensures large_divisor { verdict (with_prelude (codes "out [ affc_floord ( N , 4611686018427387905 ) ] = 0ULL ;")) ≡ limit 39 Literal }
 {}
 
 /// Limits at their edges.
@@ -106,6 +126,13 @@ pub fn limits()
     ensures four_dimensions { is_read (verdict (around (codes "uint64_t t [ 1 ] [ 1 ] [ 1 ] [ 1 ] ;"))) ≡ true }
     ensures five_dimensions { verdict (around (codes "uint64_t t [ 1 ] [ 1 ] [ 1 ] [ 1 ] [ 1 ] ;")) ≡ limit 33 Dimensions }
     ensures comparisons_of_lines { verdict (line (codes "# include <stdint.h> \n # pragma affc param N 1 4 \n # pragma affc context N < 9 && N < 9 && N < 9 && N < 9 && N < 9 && N < 9 && N < 9 && N < 9 && N < 9 && N < 9 && N < 9 && N < 9 && N < 9 && N < 9 && N < 9 && N < 9 \n # pragma affc context N < 9 \n void f ( int64_t N ) { }")) ≡ limit 83 Comparisons }
+    ensures high_end_too_far { verdict (line (codes "# include <stdint.h> \n # pragma affc param N 0 16777217 \n void f ( int64_t N ) { }")) ≡ limit 9 Range }
+    ensures empty_if { verdict (around (codes "if ( N < 2 ) { }")) ≡ limit 32 Empty }
+    ensures statements_of_a_text { is_read (verdict (around (codes "uint64_t t ; " ++ flat_map (λ b. codes "t = 0ULL ; ") (replicate 64 true)))) ≡ true }
+    ensures too_many_statements { verdict (around (codes "uint64_t t ; " ++ flat_map (λ b. codes "t = 0ULL ; ") (replicate 65 true))) ≡ limit 291 Statements }
+    ensures comparisons_of_ifs { is_read (verdict (around (codes "if ( N < 9 " ++ flat_map (λ b. codes "&& N < 9 ") (replicate 15 true) ++ codes ") if ( N < 9 " ++ flat_map (λ b. codes "&& N < 9 ") (replicate 15 true) ++ codes ") out [ 0 ] = 0ULL ;"))) ≡ true }
+    ensures too_many_comparisons_of_ifs { verdict (around (codes "if ( N < 9 " ++ flat_map (λ b. codes "&& N < 9 ") (replicate 16 true) ++ codes ") if ( N < 9 " ++ flat_map (λ b. codes "&& N < 9 ") (replicate 15 true) ++ codes ") out [ 0 ] = 0ULL ;")) ≡ limit 168 Comparisons }
+    ensures thirteenth_loop { verdict (with_prelude (codes "for ( int64_t i0 = 0 ; i0 < 1 ; i0 ++ ) " ++ codes "for ( int64_t i1 = 0 ; i1 < 1 ; i1 ++ ) " ++ codes "for ( int64_t i2 = 0 ; i2 < 1 ; i2 ++ ) " ++ codes "for ( int64_t i3 = 0 ; i3 < 1 ; i3 ++ ) " ++ codes "for ( int64_t i4 = 0 ; i4 < 1 ; i4 ++ ) " ++ codes "for ( int64_t i5 = 0 ; i5 < 1 ; i5 ++ ) " ++ codes "for ( int64_t i6 = 0 ; i6 < 1 ; i6 ++ ) " ++ codes "for ( int64_t i7 = 0 ; i7 < 1 ; i7 ++ ) " ++ codes "for ( int64_t i8 = 0 ; i8 < 1 ; i8 ++ ) " ++ codes "for ( int64_t i9 = 0 ; i9 < 1 ; i9 ++ ) " ++ codes "for ( int64_t j0 = 0 ; j0 < 1 ; j0 ++ ) " ++ codes "for ( int64_t j1 = 0 ; j1 < 1 ; j1 ++ ) " ++ codes "for ( int64_t j2 = 0 ; j2 < 1 ; j2 ++ ) " ++ codes "out [ 0 ] = 0ULL ;")) ≡ limit 201 Loops }
 {}
 
 /// Limits on the tokens, at their edges.
@@ -114,6 +141,18 @@ pub fn shape()
     ensures depth { tokens_past count_open 64 0 0 (replicate 65 (mark (codes "("))) ≡ 64 ∷ [] }
     ensures any_mark_closes { tokens_past count_open 0 0 0 (mark (codes ")") ∷ mark (codes "[") ∷ mark (codes ")") ∷ mark (codes "{") ∷ []) ≡ 1 ∷ 3 ∷ [] }
     ensures items { tokens_past count_item 256 0 0 (replicate 257 (word (codes "for"))) ≡ 256 ∷ [] }
+    ensures runs_begin_anew { tokens_past count_run 1 0 0 (word (codes "x") ∷ mark (codes ";") ∷ word (codes "x") ∷ word (codes "x") ∷ []) ≡ 3 ∷ [] }
+    ensures run_of_a_text { verdict (replicate 2049 (word (codes "x"))) ≡ limit 2048 Run }
+    ensures depth_of_a_text { verdict (replicate 65 (mark (codes "("))) ≡ limit 64 Depth }
+    ensures items_of_a_text { verdict (replicate 257 (word (codes "for"))) ≡ limit 256 Items }
+{}
+
+/// Which trees texts have.
+pub fn trees()
+    ensures calls { (program_of (verdict (with_prelude (codes "out [ affc_min ( N , 1 ) ] = ( uint64_t ) ( affc_max ( affc_mod ( N , 2 ) , affc_floord ( N , 3 ) - affc_ceild ( N , 4 ) ) ) ;")))).body ≡ stmt.Assign None (record { 0 = 1 }) (ix.Min (ix.Name (record { 0 = 0 })) (ix.Lit (pos 1)) ∷ []) (val.Cast (ix.Max (ix.Mod (ix.Name (record { 0 = 0 })) (ix.Lit (pos 2))) (ix.Sub (ix.Floord (ix.Name (record { 0 = 0 })) (pos 3)) (ix.Ceild (ix.Name (record { 0 = 0 })) (pos 4))))) ∷ [] }
+    ensures operators { (program_of (verdict (around (codes "out [ 0 ] -= 1ULL | 2ULL ^ 3ULL & 4ULL + 5ULL * 6ULL - 7ULL >> 8 ;")))).body ≡ stmt.Assign (Some op.Sub) (record { 0 = 1 }) (ix.Lit (pos 0) ∷ []) (val.Bin op.Or (val.Const 1) (val.Bin op.Xor (val.Const 2) (val.Bin op.And (val.Const 3) (val.Shift false (val.Bin op.Sub (val.Bin op.Add (val.Const 4) (val.Bin op.Mul (val.Const 5) (val.Const 6))) (val.Const 7)) 8)))) ∷ [] }
+    ensures numbers { (program_of (verdict (with_prelude (codes "uint64_t t ; for ( int64_t i = 0 ; i < N ; i ++ ) { { const int64_t a = i ; t = in [ a ] ; } for ( int64_t j = i ; j <= N ; j ++ ) out [ j ] = t ; }")))).body ≡ stmt.For (codes "i") (ix.Lit (pos 0)) Less (ix.Name (record { 0 = 0 })) (stmt.Block (record { name = codes "a"; value = ix.Name (record { 0 = 1 }) } ∷ []) (stmt.Assign None (record { 0 = 2 }) [] (val.Load (record { 0 = 0 }) (ix.Name (record { 0 = 2 }) ∷ [])) ∷ []) ∷ stmt.For (codes "j") (ix.Name (record { 0 = 1 })) LessEqual (ix.Name (record { 0 = 0 })) (stmt.Assign None (record { 0 = 1 }) (ix.Name (record { 0 = 2 }) ∷ []) (val.Load (record { 0 = 2 }) []) ∷ []) ∷ []) ∷ [] }
+    ensures context_in_order { (program_of (verdict (line (codes "# include <stdint.h> \n # pragma affc param N 1 4 \n # pragma affc context N < 4 && N > 1 \n # pragma affc context N == 2 \n void f ( int64_t N ) { }")))).context ≡ record { rel = Less; left = ix.Name (record { 0 = 0 }); right = ix.Lit (pos 4) } ∷ record { rel = Greater; left = ix.Name (record { 0 = 0 }); right = ix.Lit (pos 1) } ∷ record { rel = Equal; left = ix.Name (record { 0 = 0 }); right = ix.Lit (pos 2) } ∷ [] }
 {}
 
 /// What is printed has the fewest parentheses, and reads as what was printed.
@@ -128,4 +167,5 @@ pub fn printing()
     ensures negations { reprinted (around (codes "out [ - ( N + 1 ) ] = in [ - ( - N ) ] ;")) ≡ around (codes "out [ - ( N + 1 ) ] = in [ - ( - N ) ] ;") }
     ensures products { reprinted (around (codes "out [ 3 * ( - N ) ] = ( uint64_t ) ( - N ) ;")) ≡ around (codes "out [ 3 * ( - N ) ] = ( uint64_t ) ( - N ) ;") }
     ensures braces { reprinted (around (codes "if ( ( ( N ) > 1 ) ) out [ 0 ] = ( ( in [ 0 ] ) ) ;")) ≡ around (codes "if ( N > 1 ) { out [ 0 ] = in [ 0 ] ; }") }
+    ensures calls_under_minus { reprinted (with_prelude (codes "out [ - ( affc_min ( N , 1 ) ) ] = 0ULL ;")) ≡ with_prelude (codes "out [ - ( affc_min ( N , 1 ) ) ] = 0ULL ;") }
 {}

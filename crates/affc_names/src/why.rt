@@ -119,6 +119,7 @@ pub(crate) fn why_repeated(scope: &Scope, iterator: &str, name: &str) -> Option<
     }
     match scope.find(name) {
         None => Some(NameWhy::Unknown),
+        Some(Thing::Number { is_iterator, .. }) => why_other(scope, is_iterator, name),
         Some(_) => why_other(scope, false, name),
     }
 }

@@ -54,3 +54,15 @@ returns-clause-large_part c = refl
 pub returns-clause-literals_with_the_prelude : goal.returns-clause-literals_with_the_prelude
 unfolding computing
 returns-clause-literals_with_the_prelude c = refl
+
+pub returns-clause-product_in_a_call : goal.returns-clause-product_in_a_call
+unfolding computing
+returns-clause-product_in_a_call c = refl
+
+pub returns-clause-greatest_divisor : goal.returns-clause-greatest_divisor
+unfolding computing
+returns-clause-greatest_divisor c = refl
+
+pub returns-clause-large_divisor : goal.returns-clause-large_divisor
+unfolding computing
+returns-clause-large_divisor c = refl

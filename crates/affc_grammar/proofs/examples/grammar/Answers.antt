@@ -54,3 +54,31 @@ returns-clause-divisors_are_at_least_one c = refl
 pub returns-clause-divisors_are_numbers : goal.returns-clause-divisors_are_numbers
 unfolding computing
 returns-clause-divisors_are_numbers c = refl
+
+pub returns-clause-steps_by_a_sum : goal.returns-clause-steps_by_a_sum
+unfolding computing
+returns-clause-steps_by_a_sum c = refl
+
+pub returns-clause-loops_go_up : goal.returns-clause-loops_go_up
+unfolding computing
+returns-clause-loops_go_up c = refl
+
+pub returns-clause-one_minus_before_an_atom : goal.returns-clause-one_minus_before_an_atom
+unfolding computing
+returns-clause-one_minus_before_an_atom c = refl
+
+pub returns-clause-minus_a_negation : goal.returns-clause-minus_a_negation
+unfolding computing
+returns-clause-minus_a_negation c = refl
+
+pub returns-clause-arrays_have_a_dimension : goal.returns-clause-arrays_have_a_dimension
+unfolding computing
+returns-clause-arrays_have_a_dimension c = refl
+
+pub returns-clause-shifts_of_63 : goal.returns-clause-shifts_of_63
+unfolding computing
+returns-clause-shifts_of_63 c = refl
+
+pub returns-clause-divisors_of_one : goal.returns-clause-divisors_of_one
+unfolding computing
+returns-clause-divisors_of_one c = refl

@@ -50,3 +50,19 @@ returns-clause-no_time_locals c = refl
 pub returns-clause-no_time_iterators_without_the_prelude : goal.returns-clause-no_time_iterators_without_the_prelude
 unfolding computing
 returns-clause-no_time_iterators_without_the_prelude c = refl
+
+pub returns-clause-const_before_kind : goal.returns-clause-const_before_kind
+unfolding computing
+returns-clause-const_before_kind c = refl
+
+pub returns-clause-twice_before_reserved : goal.returns-clause-twice_before_reserved
+unfolding computing
+returns-clause-twice_before_reserved c = refl
+
+pub returns-clause-time_names_have_no_leading_zero : goal.returns-clause-time_names_have_no_leading_zero
+unfolding computing
+returns-clause-time_names_have_no_leading_zero c = refl
+
+pub returns-clause-other_time_iterators : goal.returns-clause-other_time_iterators
+unfolding computing
+returns-clause-other_time_iterators c = refl

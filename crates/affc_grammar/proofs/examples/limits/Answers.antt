@@ -50,3 +50,31 @@ returns-clause-five_dimensions c = refl
 pub returns-clause-comparisons_of_lines : goal.returns-clause-comparisons_of_lines
 unfolding computing
 returns-clause-comparisons_of_lines c = refl
+
+pub returns-clause-high_end_too_far : goal.returns-clause-high_end_too_far
+unfolding computing
+returns-clause-high_end_too_far c = refl
+
+pub returns-clause-empty_if : goal.returns-clause-empty_if
+unfolding computing
+returns-clause-empty_if c = refl
+
+pub returns-clause-statements_of_a_text : goal.returns-clause-statements_of_a_text
+unfolding computing
+returns-clause-statements_of_a_text c = refl
+
+pub returns-clause-too_many_statements : goal.returns-clause-too_many_statements
+unfolding computing
+returns-clause-too_many_statements c = refl
+
+pub returns-clause-comparisons_of_ifs : goal.returns-clause-comparisons_of_ifs
+unfolding computing
+returns-clause-comparisons_of_ifs c = refl
+
+pub returns-clause-too_many_comparisons_of_ifs : goal.returns-clause-too_many_comparisons_of_ifs
+unfolding computing
+returns-clause-too_many_comparisons_of_ifs c = refl
+
+pub returns-clause-thirteenth_loop : goal.returns-clause-thirteenth_loop
+unfolding computing
+returns-clause-thirteenth_loop c = refl

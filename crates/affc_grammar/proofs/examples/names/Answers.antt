@@ -58,3 +58,7 @@ returns-clause-no_range c = refl
 pub returns-clause-temporaries_aren_t_seen_before : goal.returns-clause-temporaries_aren_t_seen_before
 unfolding computing
 returns-clause-temporaries_aren_t_seen_before c = refl
+
+pub returns-clause-latest_of_a_name : goal.returns-clause-latest_of_a_name
+unfolding computing
+returns-clause-latest_of_a_name c = refl

@@ -57,3 +57,7 @@ returns-clause-products c = refl
 pub returns-clause-braces : goal.returns-clause-braces
 unfolding computing shape-the_row-Ix-0 hidden-the_row-Ix-0 shape-the_row-Val-0 hidden-the_row-Val-0 shape-the_row-Stmt-0 hidden-the_row-Stmt-0 hidden digits
 returns-clause-braces c = refl
+
+pub returns-clause-calls_under_minus : goal.returns-clause-calls_under_minus
+unfolding computing shape-the_row-Ix-0 hidden-the_row-Ix-0 shape-the_row-Val-0 hidden-the_row-Val-0 shape-the_row-Stmt-0 hidden-the_row-Stmt-0 hidden digits
+returns-clause-calls_under_minus c = refl

@@ -18,3 +18,19 @@ returns-clause-any_mark_closes c = refl
 pub returns-clause-items : goal.returns-clause-items
 unfolding computing
 returns-clause-items c = refl
+
+pub returns-clause-runs_begin_anew : goal.returns-clause-runs_begin_anew
+unfolding computing
+returns-clause-runs_begin_anew c = refl
+
+pub returns-clause-run_of_a_text : goal.returns-clause-run_of_a_text
+unfolding computing
+returns-clause-run_of_a_text c = refl
+
+pub returns-clause-depth_of_a_text : goal.returns-clause-depth_of_a_text
+unfolding computing
+returns-clause-depth_of_a_text c = refl
+
+pub returns-clause-items_of_a_text : goal.returns-clause-items_of_a_text
+unfolding computing
+returns-clause-items_of_a_text c = refl
