@@ -1,10 +1,23 @@
 -- Each example computes.
-use Rattle.std.proofs.Common.{refl}
+use Rattle.std.proofs.Common.{◌≡◌, ℕ, List, [], ◌∷◌, refl, ap, inl, inr, arith, sym}
 use denote.Hole.Carrier.{hidden}
 use Rattle.affc_ast.specs.declared.tree.Ix.TheBlock.{shape-the_row-Ix-0, hidden-the_row-Ix-0}
 use Rattle.affc_ast.specs.declared.tree.Val.TheBlock.{shape-the_row-Val-0, hidden-the_row-Val-0}
 use Rattle.affc_ast.specs.declared.tree.Stmt.TheBlock.{shape-the_row-Stmt-0, hidden-the_row-Stmt-0}
-use Rattle.affc_trace.specs.Examples.{BlurTakesTurns, BlurSources, BlurLivePairs, BlurIsLegal, FoldedBlurFollows, FoldedBlurDoes, NumberDecidesTies, TieIsIllegal, BackwardsIsIllegal, ScalarHasOneElement}
+use Rattle.affc_ast.specs.declared.tree.Instance.{Instance}
+use Rattle.affc_trace.specs.Law.{IsIn}
+use Rattle.affc_trace.specs.Examples.{S0, S1, BlurTakesTurns, BlurSources, BlurLivePairs, BlurIsLegal, BlurHasItsMaps, LoadsDependOnNothing, FoldedBlurFollows, FoldedBlurDoes, NumberDecidesTies, TieIsIllegal, FirstComponentDecides, TiesStayAsTheyStood, OrdersKeepInstances, BackwardsIsIllegal, OwnStoreComesAfter, HandedInIsNoSource, LoopsAreCounted, LocalsAreSeen, ScalarHasOneElement}
+
+one_is_not_two : ◌≡◌ {A = ℕ} 1 2 → ⊥
+one_is_not_two e = omega arith
+
+zero_is_not_one : ◌≡◌ {A = ℕ} 0 1 → ⊥
+zero_is_not_one e = omega arith
+
+-- another statement than the one of the list
+is_another : (a b : Instance) → (a.statement ≡ b.statement → ⊥) → IsIn a (b ∷ []) → ⊥
+is_another a b h (inl e) = h (ap (λ c. c.statement) e)
+is_another a b h (inr i) = i
 
 pub blur_takes_turns : BlurTakesTurns
 unfolding shape-the_row-Ix-0 hidden-the_row-Ix-0 shape-the_row-Val-0 hidden-the_row-Val-0 shape-the_row-Stmt-0 hidden-the_row-Stmt-0 hidden
@@ -22,6 +35,18 @@ pub blur_is_legal : BlurIsLegal
 unfolding shape-the_row-Ix-0 hidden-the_row-Ix-0 shape-the_row-Val-0 hidden-the_row-Val-0 shape-the_row-Stmt-0 hidden-the_row-Stmt-0 hidden
 blur_is_legal = refl
 
+pub blur_has_its_maps : BlurHasItsMaps
+unfolding shape-the_row-Ix-0 hidden-the_row-Ix-0 shape-the_row-Val-0 hidden-the_row-Val-0 shape-the_row-Stmt-0 hidden-the_row-Stmt-0 hidden
+blur_has_its_maps = (
+  (record { columns = refl; components = refl; iterators = refl }, (record { columns = refl; components = refl; iterators = refl }, tt)),
+  λ h. h.1,
+  λ h. one_is_not_two h.0.components,
+)
+
+pub loads_depend_on_nothing : LoadsDependOnNothing
+unfolding shape-the_row-Ix-0 hidden-the_row-Ix-0 shape-the_row-Val-0 hidden-the_row-Val-0 shape-the_row-Stmt-0 hidden-the_row-Stmt-0 hidden
+loads_depend_on_nothing = (refl, refl)
+
 pub folded_blur_follows : FoldedBlurFollows
 unfolding shape-the_row-Ix-0 hidden-the_row-Ix-0 shape-the_row-Val-0 hidden-the_row-Val-0 shape-the_row-Stmt-0 hidden-the_row-Stmt-0 hidden
 folded_blur_follows = record { source_end = _; source_ends = refl; target_end = _; target_ends = refl; own_elements = refl; written = refl }
@@ -38,9 +63,41 @@ pub tie_is_illegal : TieIsIllegal
 unfolding shape-the_row-Ix-0 hidden-the_row-Ix-0 shape-the_row-Val-0 hidden-the_row-Val-0 shape-the_row-Stmt-0 hidden-the_row-Stmt-0 hidden
 tie_is_illegal = refl
 
+pub first_component_decides : FirstComponentDecides
+unfolding shape-the_row-Ix-0 hidden-the_row-Ix-0 shape-the_row-Val-0 hidden-the_row-Val-0 shape-the_row-Stmt-0 hidden-the_row-Stmt-0 hidden
+first_component_decides = refl
+
+pub ties_stay_as_they_stood : TiesStayAsTheyStood
+unfolding shape-the_row-Ix-0 hidden-the_row-Ix-0 shape-the_row-Val-0 hidden-the_row-Val-0 shape-the_row-Stmt-0 hidden-the_row-Stmt-0 hidden
+ties_stay_as_they_stood = refl
+
+pub orders_keep_instances : OrdersKeepInstances
+orders_keep_instances = (
+  λ r. r.once_in_target.0 (inr (inl refl)),
+  λ r. r.once.0 (inr (inl refl)),
+  λ r. is_another (S0 0) (S1 0) zero_is_not_one (r.kept (S0 0) (inl refl)),
+  λ r. is_another (S1 0) (S0 0) (λ e. zero_is_not_one (sym e)) (r.no_other (S1 0) (inl refl)),
+)
+
 pub backwards_is_illegal : BackwardsIsIllegal
 unfolding shape-the_row-Ix-0 hidden-the_row-Ix-0 shape-the_row-Val-0 hidden-the_row-Val-0 shape-the_row-Stmt-0 hidden-the_row-Stmt-0 hidden
 backwards_is_illegal = (refl, refl)
+
+pub own_store_comes_after : OwnStoreComesAfter
+unfolding shape-the_row-Ix-0 hidden-the_row-Ix-0 shape-the_row-Val-0 hidden-the_row-Val-0 shape-the_row-Stmt-0 hidden-the_row-Stmt-0 hidden
+own_store_comes_after = refl
+
+pub handed_in_is_no_source : HandedInIsNoSource
+unfolding shape-the_row-Ix-0 hidden-the_row-Ix-0 shape-the_row-Val-0 hidden-the_row-Val-0 shape-the_row-Stmt-0 hidden-the_row-Stmt-0 hidden
+handed_in_is_no_source = (refl, refl)
+
+pub loops_are_counted : LoopsAreCounted
+unfolding shape-the_row-Ix-0 hidden-the_row-Ix-0 shape-the_row-Val-0 hidden-the_row-Val-0 shape-the_row-Stmt-0 hidden-the_row-Stmt-0 hidden
+loops_are_counted = refl
+
+pub locals_are_seen : LocalsAreSeen
+unfolding shape-the_row-Ix-0 hidden-the_row-Ix-0 shape-the_row-Val-0 hidden-the_row-Val-0 shape-the_row-Stmt-0 hidden-the_row-Stmt-0 hidden
+locals_are_seen = (refl, refl)
 
 pub scalar_has_one_element : ScalarHasOneElement
 unfolding shape-the_row-Ix-0 hidden-the_row-Ix-0 shape-the_row-Val-0 hidden-the_row-Val-0 shape-the_row-Stmt-0 hidden-the_row-Stmt-0 hidden

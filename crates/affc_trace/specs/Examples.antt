@@ -4,7 +4,7 @@ use Rattle.std.specs.Int.{int_rem_euclid}
 use Rattle.std.proofs.Common.{subst, lit≤}
 use Rattle.std.proofs.lemmas.List.Elements.{All-nil, All-cons}
 use Rattle.std.proofs.lemmas.Option.{same_Some, none-some}
-use Rattle.affc_rows.specs.Forms.{Affine, HaveColumns, composed_form}
+use Rattle.affc_rows.specs.Forms.{Affine, HaveColumns, columns_of, composed_form}
 use Rattle.affc_ast.specs.declared.tree.Decl.{Decl}
 use Rattle.affc_ast.specs.declared.tree.Instance.{Instance}
 use Rattle.affc_ast.specs.declared.tree.Ix.{Ix}
@@ -16,7 +16,7 @@ use Rattle.affc_ast.specs.declared.tree.Rel.TheVariants.{Less}
 use Rattle.affc_ast.specs.declared.tree.Role.{Role}
 use Rattle.affc_ast.specs.declared.tree.Role.TheVariants.{Input, Output, Temp}
 use Rattle.affc_ast.specs.declared.tree.Stmt.{Stmt}
-use Rattle.affc_ast.specs.declared.tree.Stmt.TheVariants.{For, Assign}
+use Rattle.affc_ast.specs.declared.tree.Stmt.TheVariants.{For, If, Assign, Block}
 use Rattle.affc_ast.specs.declared.tree.Val.{Val}
 use Rattle.affc_ast.specs.declared.tree.Val.TheVariants.{Load, Const, Bin}
 use Rattle.affc_ast.specs.Store.{Element, Store}
@@ -25,8 +25,9 @@ use Rattle.affc_trace.specs.declared.schedule.TimeMap.{TimeMap}
 use Rattle.affc_trace.specs.declared.schedule.Schedule.{Schedule}
 use Rattle.affc_trace.specs.declared.schedule.Schedule.TheVariants.{Source, Time}
 use Rattle.affc_trace.specs.Inverses.{column, GivesColumn}
-use Rattle.affc_trace.specs.Target.{target}
-use Rattle.affc_trace.specs.Effects.{effect, effects}
+use Rattle.affc_trace.specs.Orders.{IsReordered}
+use Rattle.affc_trace.specs.Target.{target, loops_round, IsScheduleOf}
+use Rattle.affc_trace.specs.Effects.{effect, effects, has_no_locals}
 use Rattle.affc_trace.specs.Law.{placed}
 use Rattle.affc_trace.specs.Dataflow.{source, live_pairs, violations}
 use Rattle.affc_trace.specs.Laws.{in_target_order}
@@ -40,9 +41,9 @@ of_i constant factor = record { coefs = pos 0 ∷ factor ∷ []; constant = cons
 pub two_columns : (f : Affine) → length f.coefs ≡ 2 → HaveColumns 2 (f ∷ [])
 two_columns f e = All-cons (λ g. length g.coefs ≡ 2) f [] e (All-nil (λ g. length g.coefs ≡ 2))
 
-pub undone : (f g : Affine) → length f.coefs ≡ 2 → composed_form g (column 2 0 ∷ f ∷ []) ≡ column 2 1 → (k : ℕ) → GivesColumn (g ∷ []) (column 2 0 ∷ f ∷ []) 1 k
-undone f g n e zero h same = subst (λ h. composed_form h (column 2 0 ∷ f ∷ []) ≡ column 2 1) (same_Some g h same) e
-undone f g n e (suc k) h same = absurd (none-some h same)
+pub undone : (images : List Affine) (g : Affine) → composed_form g images ≡ column (columns_of images) 1 → (k : ℕ) → GivesColumn (g ∷ []) images 1 k
+undone images g e zero h same = subst (λ h. composed_form h images ≡ column (columns_of images) 1) (same_Some g h same) e
+undone images g e (suc k) h same = absurd (none-some h same)
 
 -- the time tuple (constant + factor i), where i is constant' + factor' t0
 abbrev timed : (constant factor constant' factor' : ℤ)
@@ -53,7 +54,7 @@ timed constant factor constant' factor' e = record {
   shaped = two_columns (of_i constant factor) refl;
   inverse_shaped = two_columns (of_i constant' factor') refl;
   at_least_iterators = lit≤ tt;
-  inverts = undone (of_i constant factor) (of_i constant' factor') refl e;
+  inverts = undone (column 2 0 ∷ of_i constant factor ∷ []) (of_i constant' factor') e;
 }
 
 -- (i), (i + 1), (i + 2) and (-i)
@@ -68,6 +69,32 @@ two_later = timed (pos 2) (pos 1) (negsuc 1) (pos 1) refl
 
 abbrev backwards : TimeMap
 backwards = timed (pos 0) (negsuc 0) (pos 0) (negsuc 0) refl
+
+-- (10 - i)
+abbrev late_backwards : TimeMap
+late_backwards = timed (pos 10) (negsuc 0) (pos 10) (negsuc 0) refl
+
+-- the time tuple (factor i, factor' i), where i is back t0 + back' t1
+abbrev back_from : (back back' : ℤ) → Affine
+back_from back back' = record { coefs = pos 0 ∷ back ∷ back' ∷ []; constant = pos 0 }
+
+abbrev timed_twice : (factor factor' back back' : ℤ)
+    → composed_form (back_from back back') (column 2 0 ∷ of_i (pos 0) factor ∷ of_i (pos 0) factor' ∷ []) ≡ column 2 1 → TimeMap
+timed_twice factor factor' back back' e = record {
+  forms = of_i (pos 0) factor ∷ of_i (pos 0) factor' ∷ [];
+  inverse = back_from back back' ∷ [];
+  shaped = All-cons (λ g. length g.coefs ≡ 2) (of_i (pos 0) factor) (of_i (pos 0) factor' ∷ []) refl (two_columns (of_i (pos 0) factor') refl);
+  inverse_shaped = All-cons (λ g. length g.coefs ≡ 3) (back_from back back') [] refl (All-nil (λ g. length g.coefs ≡ 3));
+  at_least_iterators = lit≤ tt;
+  inverts = undone (column 2 0 ∷ of_i (pos 0) factor ∷ of_i (pos 0) factor' ∷ []) (back_from back back') e;
+}
+
+-- (i, 0) and (0, i)
+abbrev first_i : TimeMap
+first_i = timed_twice (pos 1) (pos 0) (pos 1) (pos 0) refl
+
+abbrev second_i : TimeMap
+second_i = timed_twice (pos 0) (pos 1) (pos 0) (pos 1) refl
 
 -- ---- Programs
 
@@ -110,10 +137,10 @@ program temporary body = record {
 abbrev at : (statement : ℕ) → ℤ → Instance
 at statement x = record { statement = statement; iterators = x ∷ [] }
 
-abbrev S0 : ℕ → Instance
+abbrev pub S0 : ℕ → Instance
 S0 x = at 0 (pos x)
 
-abbrev S1 : ℕ → Instance
+abbrev pub S1 : ℕ → Instance
 S1 x = at 1 (pos x)
 
 abbrev pub cell : (array x : ℕ) → Element
@@ -151,6 +178,19 @@ BlurLivePairs = live_pairs blur together two ≡ blur_pairs ++ map (λ e. (e.1, 
 
 abbrev pub BlurIsLegal : Type 0
 BlurIsLegal = violations blur together two ≡ []
+
+-- a map for each statement, with as many components as the schedule says
+abbrev pub BlurHasItsMaps : Type 0
+BlurHasItsMaps =
+    IsScheduleOf blur together
+    × (IsScheduleOf blur (Time 1 (at_i ∷ [])) → ⊥)
+    × (IsScheduleOf blur (Time 2 (at_i ∷ two_later ∷ [])) → ⊥)
+
+-- S1 may run backwards: its instances load the same elements, and neither stores what the other touches
+abbrev pub LoadsDependOnNothing : Type 0
+LoadsDependOnNothing =
+    (target blur (Time 1 (at_i ∷ late_backwards ∷ [])) two ≡ S0 0 ∷ S0 1 ∷ S0 2 ∷ S0 3 ∷ S1 1 ∷ S1 0 ∷ [])
+    × (violations blur (Time 1 (at_i ∷ late_backwards ∷ [])) two ≡ [])
 
 -- t[i] stands at i mod 3
 abbrev modulo_three : Element → Element
@@ -201,6 +241,22 @@ NumberDecidesTies = target (through_one (lit 0 ∷ [])) (Time 1 (at_i ∷ one_la
 abbrev pub TieIsIllegal : Type 0
 TieIsIllegal = violations (through_one (lit 0 ∷ [])) (Time 1 (at_i ∷ one_later ∷ [])) two ≡ (S1 0, S0 1) ∷ []
 
+-- times (i, 0) and (0, i): the first component decides, and then the second
+abbrev pub FirstComponentDecides : Type 0
+FirstComponentDecides = target (through_one (lit 0 ∷ [])) (Time 2 (first_i ∷ second_i ∷ [])) two ≡ S0 0 ∷ S1 0 ∷ S1 1 ∷ S0 1 ∷ []
+
+-- without maps all times are equal: the number decides, and then the instances stay as they stood
+abbrev pub TiesStayAsTheyStood : Type 0
+TiesStayAsTheyStood = target (through_one (lit 0 ∷ [])) (Time 0 []) two ≡ S0 0 ∷ S0 1 ∷ S1 0 ∷ S1 1 ∷ []
+
+-- a list that has an instance twice, one too few or one too many is no other order of a list
+abbrev pub OrdersKeepInstances : Type 0
+OrdersKeepInstances =
+    (IsReordered (S0 0 ∷ S1 0 ∷ []) (S1 0 ∷ S0 0 ∷ S1 0 ∷ []) → ⊥)
+    × (IsReordered (S0 0 ∷ S1 0 ∷ S0 0 ∷ []) (S1 0 ∷ S0 0 ∷ []) → ⊥)
+    × (IsReordered (S0 0 ∷ S1 0 ∷ []) (S1 0 ∷ []) → ⊥)
+    × (IsReordered (S0 0 ∷ []) (S1 0 ∷ S0 0 ∷ []) → ⊥)
+
 -- ---- A chain: t[i + 1] = t[i] + in[i] for i from 0 to N - 1, after t[0] = in[0]
 
 abbrev chain : Program
@@ -214,6 +270,39 @@ abbrev pub BackwardsIsIllegal : Type 0
 BackwardsIsIllegal =
     (target chain (Time 1 (at_i ∷ backwards ∷ [])) two ≡ S1 1 ∷ S0 0 ∷ S1 0 ∷ [])
     × (violations chain (Time 1 (at_i ∷ backwards ∷ [])) two ≡ (S1 0, S1 1) ∷ [])
+
+-- S1(0) stores t[1] only after it has loaded t[0], so one element is enough
+abbrev pub OwnStoreComesAfter : Type 0
+OwnStoreComesAfter = live_pairs chain Source two ≡ []
+
+-- ---- A sum: out[i] += in[i] for i from 0 to N - 1. S0(1) loads out[1], which is handed in and has no source.
+
+abbrev add_up : Program
+add_up = program (lit 1 ∷ []) (each (lit 0) n (Assign (Some op.Add) (record { 0 = 1 }) (i ∷ []) (loaded 0 i) ∷ []) ∷ [])
+
+abbrev pub HandedInIsNoSource : Type 0
+HandedInIsNoSource = (source add_up two (S0 1) (cell 1 1) ≡ None) × (live_pairs add_up Source two ≡ [])
+
+-- ---- Loops round statements: two, one inside the other, then statements under an `if`, in no loop and in a block
+
+abbrev touch : Stmt
+touch = store 2 (lit 0 ∷ []) (Const 1)
+
+abbrev nest : Program
+nest = program (lit 1 ∷ []) (
+    each (lit 0) n (touch ∷ each (lit 0) n (touch ∷ []) ∷ If (record { rel = Less; left = lit 0; right = n } ∷ []) (touch ∷ []) ∷ [])
+    ∷ touch
+    ∷ Block [] (each (lit 0) n (touch ∷ []) ∷ [])
+    ∷ [])
+
+abbrev pub LoopsAreCounted : Type 0
+LoopsAreCounted = loops_round nest ≡ 1 ∷ 2 ∷ 1 ∷ 0 ∷ 1 ∷ []
+
+-- a block without locals is plain, and a local anywhere inside is seen
+abbrev pub LocalsAreSeen : Type 0
+LocalsAreSeen =
+    (has_no_locals nest ≡ true)
+    × (has_no_locals (program [] (each (lit 0) n (If [] (Block (record { name = []; value = n } ∷ []) [] ∷ []) ∷ []) ∷ [])) ≡ false)
 
 -- ---- A scalar: { t = in[i]; out[i] = t; }
 
