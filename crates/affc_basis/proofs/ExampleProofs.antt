@@ -14,7 +14,7 @@ use Rattle.affc_trace.proofs.Found.{live_pairs_are_found}
 use Rattle.affc_basis.specs.Slices.{along, minus}
 use Rattle.affc_basis.specs.Moduli.{IsMultiple}
 use Rattle.affc_basis.specs.Folds.{forms_of}
-use Rattle.affc_basis.specs.Examples.{x0, onto, PlaceOfFour, PlacesOfTheBlur, BlurNeedsTwo, ThreeObeys, TwoIsTooFew, ThreeIsLeast}
+use Rattle.affc_basis.specs.Examples.{x0, onto, PlaceOfFour, PlacesOfTheBlur, RowsHaveTheirModuli, SlicesAreSuccessive, BlurNeedsTwo, ThreeObeys, TwoIsTooFew, ThreeIsLeast}
 use Rattle.affc_basis.proofs.Greatest.{greatest_is_found}
 
 pub place_of_four : PlaceOfFour
@@ -22,6 +22,12 @@ place_of_four = (refl, refl)
 
 pub places_of_the_blur : PlacesOfTheBlur
 places_of_the_blur = (refl, refl)
+
+pub rows_have_their_moduli : RowsHaveTheirModuli
+rows_have_their_moduli = refl
+
+pub slices_are_successive : SlicesAreSuccessive
+slices_are_successive = (refl, refl, refl, refl, refl)
 
 pub blur_needs_two : BlurNeedsTwo
 unfolding shape-the_row-Ix-0 hidden-the_row-Ix-0 shape-the_row-Val-0 hidden-the_row-Val-0 shape-the_row-Stmt-0 hidden-the_row-Stmt-0 hidden

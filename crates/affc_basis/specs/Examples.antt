@@ -5,6 +5,7 @@ use Rattle.std.proofs.lemmas.List.Elements.{All-nil, All-cons}
 use Rattle.std.proofs.lemmas.Option.{same_Some}
 use Rattle.affc_rows.specs.Forms.{Affine, HaveColumns, composed_form}
 use Rattle.affc_ast.specs.declared.tree.ArrayId.{ArrayId}
+use Rattle.affc_ast.specs.Store.{Element}
 use Rattle.affc_trace.specs.Examples.{blur, together, two, cell}
 use Rattle.affc_trace.specs.Inverses.{column}
 use Rattle.affc_trace.specs.Dataflow.{LivePair}
@@ -13,7 +14,8 @@ use Rattle.affc_basis.specs.declared.basis.Basis.{Basis}
 use Rattle.affc_basis.specs.declared.fold.Mark.TheVariants.{Bound}
 use Rattle.affc_basis.specs.declared.fold.Fold.{Fold}
 use Rattle.affc_basis.specs.Bases.{AreWithin, HaveCoefsWithin, AreComponents}
-use Rattle.affc_basis.specs.Slices.{IsGreatest}
+use Rattle.affc_basis.specs.Slices.{IsGreatest, slice_of, greatest_along}
+use Rattle.affc_basis.specs.Moduli.{remainders}
 use Rattle.affc_basis.specs.Folds.{folded, place, IsAdmissible, Obeys, IsLeastMark}
 
 -- ---- The basis (x0), with the inverse (y0)
@@ -62,6 +64,39 @@ folds = (record { 0 = 2 }, onto 3) ∷ []
 -- t[4] stands at t[1], and in[4] where it is
 abbrev pub PlacesOfTheBlur : Type 0
 PlacesOfTheBlur = (place folds two (cell 2 4) ≡ cell 2 1) × (place folds two (cell 0 4) ≡ cell 0 4)
+
+-- ---- Two rows, over two dimensions
+
+abbrev first_row : Affine
+first_row = record { coefs = pos 1 ∷ pos 0 ∷ []; constant = pos 0 }
+
+abbrev second_row : Affine
+second_row = record { coefs = pos 0 ∷ pos 1 ∷ []; constant = pos 0 }
+
+abbrev two_rows : List Affine
+two_rows = first_row ∷ second_row ∷ []
+
+abbrev number : ℕ → Affine
+number n = record { coefs = pos 0 ∷ []; constant = pos n }
+
+abbrev spot : (x y : ℕ) → Element
+spot x y = (2, pos x ∷ pos y ∷ [])
+
+-- along each row by its own modulus: 7 mod 3 is 1, and -1 mod 5 is 4
+abbrev pub RowsHaveTheirModuli : Type 0
+RowsHaveTheirModuli = remainders two two_rows (number 3 ∷ number 5 ∷ []) (pos 7 ∷ negsuc 0 ∷ []) ≡ pos 1 ∷ pos 4 ∷ []
+
+abbrev two_pairs : List (Element × Element)
+two_pairs = (spot 0 0, spot 0 3) ∷ (spot 0 0, spot 1 5) ∷ []
+
+-- elements that lie apart along the first row are no pair of the second row's slice
+abbrev pub SlicesAreSuccessive : Type 0
+SlicesAreSuccessive =
+    (slice_of two_pairs 2 two_rows 0 ≡ two_pairs)
+    × (slice_of two_pairs 2 two_rows 1 ≡ (spot 0 0, spot 0 3) ∷ [])
+    × (slice_of two_pairs 1 two_rows 0 ≡ [])
+    × (greatest_along first_row two_pairs ≡ 1)
+    × (greatest_along second_row two_pairs ≡ 5)
 
 -- ---- The blur at times i and i + 2: t[i] and t[i + 2] are live together, and nothing farther apart
 
