@@ -20,7 +20,6 @@ pub enum Rounding {
 }
 
 /// A whole-number expression.
-#[derive(Drop)]
 pub enum IxDraft {
     Literal {
         at: usize,
@@ -62,6 +61,48 @@ pub enum IxDraft {
     },
 }
 
+/// A loop down the left operands, so that a long chain of operators takes no stack.
+impl Drop for IxDraft {
+    fn drop(mut self) {
+        loop {
+            match self {
+                IxDraft::Literal { at: _, value: _ } => return,
+                IxDraft::Name { at: _, name: _ } => return,
+                IxDraft::Negated { at: _, of } => self = of.into_inner(),
+                IxDraft::Sum(left, right) => {
+                    right.into_inner();
+                    self = left.into_inner();
+                }
+                IxDraft::Difference(left, right) => {
+                    right.into_inner();
+                    self = left.into_inner();
+                }
+                IxDraft::Product { at: _, left, right } => {
+                    right.into_inner();
+                    self = left.into_inner();
+                }
+                IxDraft::Grouped { at: _, inside } => self = inside.into_inner(),
+                IxDraft::Chosen {
+                    at: _,
+                    choice: _,
+                    left,
+                    right,
+                } => {
+                    right.into_inner();
+                    self = left.into_inner();
+                }
+                IxDraft::Divided {
+                    at: _,
+                    rounding: _,
+                    of,
+                    by_at: _,
+                    by: _,
+                } => self = of.into_inner(),
+            }
+        }
+    }
+}
+
 /// A comparison of a condition.
 #[derive(Drop)]
 pub struct CompareDraft {
@@ -71,7 +112,6 @@ pub struct CompareDraft {
 }
 
 /// A value: a `uint64_t`.
-#[derive(Drop)]
 pub enum ValueDraft {
     Load {
         at: usize,
@@ -91,6 +131,29 @@ pub enum ValueDraft {
         of: Boxed<ValueDraft>,
         by: u64,
     },
+}
+
+/// A loop down the left operands, so that a long chain of operators takes no stack.
+impl Drop for ValueDraft {
+    fn drop(mut self) {
+        loop {
+            match self {
+                ValueDraft::Load {
+                    at: _,
+                    name: _,
+                    subs: _,
+                } => return,
+                ValueDraft::Constant(_) => return,
+                ValueDraft::Cast(_) => return,
+                ValueDraft::Complement(of) => self = of.into_inner(),
+                ValueDraft::Binary { op: _, left, right } => {
+                    right.into_inner();
+                    self = left.into_inner();
+                }
+                ValueDraft::Shift { left: _, of, by: _ } => self = of.into_inner(),
+            }
+        }
+    }
 }
 
 /// A word, and the number of its token.
