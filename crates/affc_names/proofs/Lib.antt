@@ -1,6 +1,7 @@
 pub mod Tables
 pub mod ReservedTests
 pub mod Each
+pub mod Chains
 pub mod Statements
 pub mod Refusals
 pub mod LineLaws

@@ -9,5 +9,6 @@ pub mod Gives
 pub mod Locals
 pub mod Kinds
 pub mod Ranges
+pub mod Chains
 pub mod Answers
 pub mod Shifts

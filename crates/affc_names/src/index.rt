@@ -6,9 +6,11 @@ ghost use Rattle.std.specs.Option.{option_map};
 ghost use Rattle.affc_grammar.specs.Names as names;
 ghost use Rattle.affc_ast.specs.declared.tree.Ix.TheVariants as trees;
 ghost use Rattle.affc_draft.specs.Drafts as seen;
+ghost use Rattle.affc_names.specs.Chains.{IsOperand, joined_trees, step_tree};
 ghost use Rattle.affc_names.specs.Stored as stored;
 ghost use Rattle.affc_names.specs.Gives.{Gives};
 
+use crate::chain::{IxStep, Join, ix_chain};
 use crate::fault::NameFault;
 use crate::scope::{Scope, Thing};
 use crate::why::why_number;
@@ -83,29 +85,22 @@ fn negated(alloc: Global, a: Ix) -> Result<Ix, AllocError>
     Ok(Ix::Neg(Boxed::new(alloc, a)?))
 }
 
-fn sum(alloc: Global, a: Ix, b: Ix) -> Result<Ix, AllocError>
-    ensures { IfOk result (λ x. x ≡ trees.Add a b) }
+fn joined(alloc: Global, join: Join, a: Ix, b: Ix) -> Result<Ix, AllocError>
+    ensures { IfOk result (λ x. x ≡ joined_trees join a b) }
 {
     let (a, b) = both(alloc, a, b)?;
-    Ok(Ix::Add(a, b))
+    match join {
+        Join::Plus => Ok(Ix::Add(a, b)),
+        Join::Minus => Ok(Ix::Sub(a, b)),
+        Join::Times { .. } => Ok(Ix::Mul(a, b)),
+    }
 }
 
-fn difference(alloc: Global, a: Ix, b: Ix) -> Result<Ix, AllocError>
-    ensures { IfOk result (λ x. x ≡ trees.Sub a b) }
-{
-    let (a, b) = both(alloc, a, b)?;
-    Ok(Ix::Sub(a, b))
-}
-
-fn product(alloc: Global, a: Ix, b: Ix) -> Result<Ix, AllocError>
-    ensures { IfOk result (λ x. x ≡ trees.Mul a b) }
-{
-    let (a, b) = both(alloc, a, b)?;
-    Ok(Ix::Mul(a, b))
-}
-
+/// An expression with no operator between two parts of it.
+#[cycle(ix)]
 #[tactic(auto, using(affc_draft::proofs::Outs::ix_outs))]
-pub(crate) fn ix_tree(alloc: Global, scope: &Scope, draft: &IxDraft) -> Result<Ix, NameFault>
+fn operand_tree(alloc: Global, scope: &Scope, draft: &IxDraft) -> Result<Ix, NameFault>
+    requires { IsOperand (seen.ix draft.now) }
     ensures { Gives result (names.ix_tree scope.now (stored.ix (seen.ix draft.now))) }
 {
     match draft {
@@ -117,21 +112,6 @@ pub(crate) fn ix_tree(alloc: Global, scope: &Scope, draft: &IxDraft) -> Result<I
         IxDraft::Negated { of, .. } => {
             let a = ix_tree(alloc, scope, of.get())?;
             Ok(negated(alloc, a)?)
-        }
-        IxDraft::Sum(left, right) => {
-            let a = ix_tree(alloc, scope, left.get())?;
-            let b = ix_tree(alloc, scope, right.get())?;
-            Ok(sum(alloc, a, b)?)
-        }
-        IxDraft::Difference(left, right) => {
-            let a = ix_tree(alloc, scope, left.get())?;
-            let b = ix_tree(alloc, scope, right.get())?;
-            Ok(difference(alloc, a, b)?)
-        }
-        IxDraft::Product { left, right, .. } => {
-            let a = ix_tree(alloc, scope, left.get())?;
-            let b = ix_tree(alloc, scope, right.get())?;
-            Ok(product(alloc, a, b)?)
         }
         IxDraft::Grouped { inside, .. } => ix_tree(alloc, scope, inside.get()),
         IxDraft::Chosen {
@@ -153,7 +133,32 @@ pub(crate) fn ix_tree(alloc: Global, scope: &Scope, draft: &IxDraft) -> Result<I
             let a = ix_tree(alloc, scope, of.get())?;
             Ok(divided(alloc, *rounding, a, *by)?)
         }
+        IxDraft::Sum(..) => unreachable!(),
+        IxDraft::Difference(..) => unreachable!(),
+        IxDraft::Product { .. } => unreachable!(),
     }
+}
+
+/// The tree of what comes before a step, and the step.
+#[cycle(ix)]
+fn with_step(alloc: Global, scope: &Scope, tree: Ix, step: &IxStep<'_>) -> Result<Ix, NameFault>
+    ensures { Gives result (step_tree scope.now tree step.now) }
+{
+    let right = ix_tree(alloc, scope, step.right)?;
+    Ok(joined(alloc, step.join, tree, right)?)
+}
+
+/// A chain of operators is walked by a loop, so that the recursion is as deep as brackets are.
+#[cycle(ix)]
+pub(crate) fn ix_tree(alloc: Global, scope: &Scope, draft: &IxDraft) -> Result<Ix, NameFault>
+    ensures { Gives result (names.ix_tree scope.now (stored.ix (seen.ix draft.now))) }
+{
+    let chain = ix_chain(alloc, draft)?;
+    let mut tree = operand_tree(alloc, scope, chain.first)?;
+    for step in chain.steps.as_slice() {
+        tree = with_step(alloc, scope, tree, step)?;
+    }
+    Ok(tree)
 }
 
 /// Each of the expressions, in order.

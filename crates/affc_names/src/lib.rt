@@ -1,6 +1,7 @@
 //! The tree of a text whose names keep the rules, or the first name that is refused.
 #![tactic(auto)]
 
+mod chain;
 pub mod fault;
 mod index;
 mod lines;

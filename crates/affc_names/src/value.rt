@@ -5,9 +5,11 @@ ghost use Rattle.std.specs.Option.{option_map};
 ghost use Rattle.affc_grammar.specs.Names as names;
 ghost use Rattle.affc_draft.specs.Drafts as seen;
 ghost use Rattle.affc_names.specs.Things.{thing_seen};
+ghost use Rattle.affc_names.specs.Chains.{IsValueOperand, value_step_tree};
 ghost use Rattle.affc_names.specs.Stored as stored;
 ghost use Rattle.affc_names.specs.Gives.{Gives};
 
+use crate::chain::{ValueStep, value_chain};
 use crate::fault::NameFault;
 use crate::index::{ix_tree, ix_trees};
 use crate::scope::{Scope, Thing};
@@ -82,8 +84,10 @@ fn bits(by: u64) -> u8
     if by < 256 { by as u8 } else { 0 }
 }
 
+/// A value with no `~`, no shift and no operator outside parentheses.
 #[tactic(auto, using(affc_draft::proofs::Outs::value_outs, crate::proofs::Each::lengths))]
-pub(crate) fn value_tree(alloc: Global, scope: &Scope, draft: &ValueDraft) -> Result<Val, NameFault>
+fn operand_tree(alloc: Global, scope: &Scope, draft: &ValueDraft) -> Result<Val, NameFault>
+    requires { IsValueOperand (seen.value draft.now) }
     ensures { Gives result (names.value_tree scope.now (stored.value (seen.value draft.now))) }
 {
     match draft {
@@ -97,14 +101,35 @@ pub(crate) fn value_tree(alloc: Global, scope: &Scope, draft: &ValueDraft) -> Re
             let inside = ix_tree(alloc, scope, inside)?;
             Ok(Val::Cast(inside))
         }
-        ValueDraft::Complement(of) => {
-            let of = value_tree(alloc, scope, of.get())?;
-            Ok(Val::Not(Boxed::new(alloc, of)?))
+        ValueDraft::Complement(_) => unreachable!(),
+        ValueDraft::Binary { .. } => unreachable!(),
+        ValueDraft::Shift { .. } => unreachable!(),
+    }
+}
+
+/// The tree of what comes before a step, and the step.
+#[cycle(value)]
+fn with_step(
+    alloc: Global,
+    scope: &Scope,
+    tree: Val,
+    step: &ValueStep<'_>,
+) -> Result<Val, NameFault>
+    ensures { Gives result (value_step_tree scope.now tree step.now) }
+{
+    match step {
+        ValueStep::Complement => Ok(Val::Not(Boxed::new(alloc, tree)?)),
+        ValueStep::Shift { left, by } => {
+            let value = Boxed::new(alloc, tree)?;
+            Ok(Val::Shift {
+                left: *left,
+                value,
+                by: bits(*by),
+            })
         }
-        ValueDraft::Binary { op, left, right } => {
-            let left = value_tree(alloc, scope, left.get())?;
-            let right = value_tree(alloc, scope, right.get())?;
-            let left = Boxed::new(alloc, left)?;
+        ValueStep::Binary { op, right } => {
+            let right = value_tree(alloc, scope, right)?;
+            let left = Boxed::new(alloc, tree)?;
             let right = Boxed::new(alloc, right)?;
             Ok(Val::Bin {
                 op: *op,
@@ -112,14 +137,18 @@ pub(crate) fn value_tree(alloc: Global, scope: &Scope, draft: &ValueDraft) -> Re
                 right,
             })
         }
-        ValueDraft::Shift { left, of, by } => {
-            let value = value_tree(alloc, scope, of.get())?;
-            let value = Boxed::new(alloc, value)?;
-            Ok(Val::Shift {
-                left: *left,
-                value,
-                by: bits(*by),
-            })
-        }
     }
+}
+
+/// A chain of operators is walked by a loop, so that the recursion is as deep as brackets are.
+#[cycle(value)]
+pub(crate) fn value_tree(alloc: Global, scope: &Scope, draft: &ValueDraft) -> Result<Val, NameFault>
+    ensures { Gives result (names.value_tree scope.now (stored.value (seen.value draft.now))) }
+{
+    let chain = value_chain(alloc, draft)?;
+    let mut tree = operand_tree(alloc, scope, chain.first)?;
+    for step in chain.steps.as_slice() {
+        tree = with_step(alloc, scope, tree, step)?;
+    }
+    Ok(tree)
 }
