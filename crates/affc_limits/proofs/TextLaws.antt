@@ -17,7 +17,7 @@ use Rattle.affc_draft.specs.Drafts.{stmts_of, stmts_after, stmt, ix, compare, lo
 use Rattle.affc_limits.specs.declared.texts.Rule.{Rule}
 use Rattle.affc_limits.specs.declared.texts.Rule.TheVariants.{Products, Literals, Coefficients}
 use Rattle.affc_limits.specs.Texts.{places_in, place_of, pick, found, with_found, step}
-use Rattle.affc_limits.proofs.PlaceLaws.{first-both, least-both, first_assoc, lesser_assoc}
+use Rattle.affc_limits.proofs.PlaceLaws.{first-both, least-both, first_assoc, lesser_assoc, lesser-again}
 
 pub found-append : (rule : Rule) (xs ys : List d.IxDraft) → found rule (xs ++ ys) ≡ pick rule (found rule xs) (found rule ys)
 found-append Products xs ys = first-both _ xs ys
@@ -37,7 +37,7 @@ pick_assoc Products a b c = first_assoc a b c
 pick_assoc (Literals limit) a b c = lesser_assoc a b c
 pick_assoc (Coefficients alloc) a b c = lesser_assoc a b c
 
-pick-none : (rule : Rule) (a : Option ℕ) → pick rule a None ≡ a
+pub pick-none : (rule : Rule) (a : Option ℕ) → pick rule a None ≡ a
 pick-none Products None = refl
 pick-none Products (Some n) = refl
 pick-none (Literals limit) None = refl
@@ -45,11 +45,25 @@ pick-none (Literals limit) (Some n) = refl
 pick-none (Coefficients alloc) None = refl
 pick-none (Coefficients alloc) (Some n) = refl
 
+-- what was found before the first part was found before the second too
+pick-again : (rule : Rule) (a b c : Option ℕ) → pick rule (pick rule a b) (pick rule a c) ≡ pick rule (pick rule a b) c
+pick-again Products None b c = refl
+pick-again Products (Some n) b c = refl
+pick-again (Literals limit) a b c = lesser-again a b c
+pick-again (Coefficients alloc) a b c = lesser-again a b c
+
 pub with-nil : (rule : Rule) (a : Option ℕ) → with_found rule a [] ≡ a
 with-nil rule a = ap (pick rule a) (found-nil rule) ∙ pick-none rule a
 
 pub with-append : (rule : Rule) (a : Option ℕ) (xs ys : List d.IxDraft) → with_found rule a (xs ++ ys) ≡ with_found rule (with_found rule a xs) ys
 with-append rule a xs ys = ap (pick rule a) (found-append rule xs ys) ∙ pick_assoc rule a (found rule xs) (found rule ys)
+
+-- the two parts, and what was found behind them
+pub with-behind : (rule : Rule) (a k : Option ℕ) (xs ys : List d.IxDraft)
+    → pick rule (with_found rule a xs) (pick rule (with_found rule a ys) k) ≡ pick rule (with_found rule a (xs ++ ys)) k
+with-behind rule a k xs ys =
+    pick_assoc rule (with_found rule a xs) (with_found rule a ys) k
+    ∙ ap (λ o. pick rule o k) (pick-again rule a (found rule xs) (found rule ys) ∙ sym (with-append rule a xs ys))
 
 pub with-none : (rule : Rule) (xs : List d.IxDraft) → with_found rule None xs ≡ found rule xs
 with-none Products xs = refl
@@ -136,4 +150,4 @@ pub ruleset one_laws = (with-one)
 
 pub ruleset pair_laws = (with-pair)
 
-pub ruleset value_laws = (with-nil, with-append)
+pub ruleset value_laws = (with-nil, with-behind, pick-none)

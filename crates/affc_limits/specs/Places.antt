@@ -2,6 +2,7 @@
 use Rattle.std.specs.Prelude.{ℕ, nat_le, Bool, true, false, ◌&&◌, ◌||◌, List, [], ◌∷◌, Option, Some, None, if◌then◌else◌}
 use Rattle.affc_grammar.specs.Draft as d
 use Rattle.affc_grammar.specs.Limits.{products_in, holds_names}
+use Rattle.affc_limits.specs.declared.forms.Behind.{Behind}
 use Rattle.affc_limits.specs.declared.forms.Factors.{Factors}
 
 abbrev pub first : List ℕ → Option ℕ
@@ -37,3 +38,15 @@ both_products a b = record { has_names = a.has_names || b.has_names; first_refus
 -- of the two sides of a product
 abbrev pub product_products : ℕ → Factors → Factors → Factors
 product_products at a b = record { has_names = a.has_names || b.has_names; first_refused = first_of (first_of a.first_refused (place_if (a.has_names && b.has_names) at)) b.first_refused }
+
+-- of an operand and of what stands behind it
+abbrev pub closed : Factors → Behind → Factors
+closed a k = record { has_names = a.has_names || k.has_names; first_refused = first_of a.first_refused (if a.has_names then k.if_named else k.if_bare) }
+
+-- behind the operand stands one part more
+abbrev pub before_part : Factors → Behind → Behind
+before_part a k = record { has_names = a.has_names || k.has_names; if_named = first_of a.first_refused k.if_named; if_bare = (closed a k).first_refused }
+
+-- and a "*" in front of it
+abbrev pub before_side : ℕ → Factors → Behind → Behind
+before_side at a k = record { has_names = a.has_names || k.has_names; if_named = first_of (place_if a.has_names at) (first_of a.first_refused k.if_named); if_bare = (closed a k).first_refused }

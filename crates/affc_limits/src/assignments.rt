@@ -30,20 +30,25 @@ fn with_one(tally: Tally, at: usize, accesses: bool, comparisons: bool) -> Tally
     }
 }
 
-/// How many loads more there is room for behind those of a value.
+/// How many loads more there is room for behind those of a value. The recursion is into right operands alone.
 #[tactic(auto, using(affc_draft::proofs::Outs::value_outs))]
 fn room_behind(room: usize, v: &ValueDraft) -> usize
     ensures { result ≡ room - loads_in (value v.now) }
 {
-    match v {
-        ValueDraft::Load { .. } => room.saturating_sub(1),
-        ValueDraft::Constant(_) => room,
-        ValueDraft::Cast(_) => room,
-        ValueDraft::Complement(of) => room_behind(room, of.get()),
-        ValueDraft::Binary { left, right, .. } => {
-            room_behind(room_behind(room, left.get()), right.get())
+    let mut here = v;
+    let mut room = room;
+    loop {
+        match here {
+            ValueDraft::Load { .. } => return room.saturating_sub(1),
+            ValueDraft::Constant(_) => return room,
+            ValueDraft::Cast(_) => return room,
+            ValueDraft::Complement(of) => here = of.get(),
+            ValueDraft::Binary { left, right, .. } => {
+                room = room_behind(room, right.get());
+                here = left.get();
+            }
+            ValueDraft::Shift { of, .. } => here = of.get(),
         }
-        ValueDraft::Shift { of, .. } => room_behind(room, of.get()),
     }
 }
 

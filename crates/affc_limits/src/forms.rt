@@ -38,53 +38,101 @@ pub struct Factors {
     pub first_refused: Option<usize>,
 }
 
-/// Of two parts.
-fn of_both(a: Factors, b: Factors) -> Factors
-    ensures { result ≡ places.both_products a b }
-{
-    Factors {
-        has_names: a.has_names || b.has_names,
-        first_refused: first_of(a.first_refused, b.first_refused),
-    }
+/// What stands behind an operand: whether it holds names, and the `*` of the first product there both of whose sides do,
+/// where the operand holds names and where it holds none.
+#[derive(Clone, Copy, Drop)]
+struct Behind {
+    has_names: bool,
+    if_named: Option<usize>,
+    if_bare: Option<usize>,
 }
 
-fn of_product(at: usize, a: Factors, b: Factors) -> Factors
-    ensures { result ≡ places.product_products at a b }
+/// What the operand and what stands behind it are together.
+fn closed(operand: Factors, behind: Behind) -> Factors
+    ensures { result ≡ places.closed operand behind }
 {
-    let here = if a.has_names && b.has_names {
-        Some(at)
+    let rest = if operand.has_names {
+        behind.if_named
     } else {
-        None
+        behind.if_bare
     };
     Factors {
-        has_names: a.has_names || b.has_names,
-        first_refused: first_of(first_of(a.first_refused, here), b.first_refused),
+        has_names: operand.has_names || behind.has_names,
+        first_refused: first_of(operand.first_refused, rest),
     }
 }
 
-/// What the rule on products asks of an expression.
+/// One part more.
+fn before_part(part: Factors, behind: Behind) -> Behind
+    ensures { result ≡ places.before_part part behind }
+{
+    let rest = closed(part, behind);
+    Behind {
+        has_names: rest.has_names,
+        if_named: first_of(part.first_refused, behind.if_named),
+        if_bare: rest.first_refused,
+    }
+}
+
+/// One part more, with a `*` in front of it.
+fn before_side(at: usize, side: Factors, behind: Behind) -> Behind
+    ensures { result ≡ places.before_side at side behind }
+{
+    let rest = before_part(side, behind);
+    Behind {
+        has_names: rest.has_names,
+        if_named: first_of(place_if(side.has_names, at), rest.if_named),
+        if_bare: rest.if_bare,
+    }
+}
+
+/// What the rule on products asks of an expression. The recursion is into right operands alone.
 #[tactic(auto, using(affc_draft::proofs::Outs::ix_outs, crate::proofs::PlaceLaws::product_laws))]
 pub fn products(e: &IxDraft) -> Factors
     ensures { result ≡ places.products (ix e.now) }
 {
-    match e {
-        IxDraft::Literal { .. } => Factors {
-            has_names: false,
-            first_refused: None,
-        },
-        IxDraft::Name { .. } => Factors {
-            has_names: true,
-            first_refused: None,
-        },
-        IxDraft::Negated { of, .. } => products(of.get()),
-        IxDraft::Sum(a, b) => of_both(products(a.get()), products(b.get())),
-        IxDraft::Difference(a, b) => of_both(products(a.get()), products(b.get())),
-        IxDraft::Product { at, left, right } => {
-            of_product(*at, products(left.get()), products(right.get()))
+    let mut here = e;
+    let mut behind = Behind {
+        has_names: false,
+        if_named: None,
+        if_bare: None,
+    };
+    loop {
+        match here {
+            IxDraft::Literal { .. } => {
+                let operand = Factors {
+                    has_names: false,
+                    first_refused: None,
+                };
+                return closed(operand, behind);
+            }
+            IxDraft::Name { .. } => {
+                let operand = Factors {
+                    has_names: true,
+                    first_refused: None,
+                };
+                return closed(operand, behind);
+            }
+            IxDraft::Negated { of, .. } => here = of.get(),
+            IxDraft::Sum(left, right) => {
+                behind = before_part(products(right.get()), behind);
+                here = left.get();
+            }
+            IxDraft::Difference(left, right) => {
+                behind = before_part(products(right.get()), behind);
+                here = left.get();
+            }
+            IxDraft::Product { at, left, right } => {
+                behind = before_side(*at, products(right.get()), behind);
+                here = left.get();
+            }
+            IxDraft::Grouped { inside, .. } => here = inside.get(),
+            IxDraft::Chosen { left, right, .. } => {
+                behind = before_part(products(right.get()), behind);
+                here = left.get();
+            }
+            IxDraft::Divided { of, .. } => here = of.get(),
         }
-        IxDraft::Grouped { inside, .. } => products(inside.get()),
-        IxDraft::Chosen { left, right, .. } => of_both(products(left.get()), products(right.get())),
-        IxDraft::Divided { of, .. } => products(of.get()),
     }
 }
 
@@ -94,32 +142,42 @@ pub(crate) fn place_if(passed: bool, at: usize) -> Option<usize>
     if passed { Some(at) } else { None }
 }
 
-/// The least place of a literal above the limit.
+/// The least place of a literal above the limit. The recursion is into right operands alone.
 #[tactic(auto, using(affc_draft::proofs::Outs::ix_outs, crate::proofs::PlaceLaws::least_laws))]
 pub(crate) fn literal_past(limit: u64, e: &IxDraft) -> Option<usize>
     ensures { result ≡ places.least (literals_past limit (ix e.now)) }
 {
-    match e {
-        IxDraft::Literal { at, value } => place_if(limit < *value, *at),
-        IxDraft::Name { .. } => None,
-        IxDraft::Negated { of, .. } => literal_past(limit, of.get()),
-        IxDraft::Sum(a, b) => lesser(literal_past(limit, a.get()), literal_past(limit, b.get())),
-        IxDraft::Difference(a, b) => {
-            lesser(literal_past(limit, a.get()), literal_past(limit, b.get()))
+    let mut here = e;
+    let mut behind = None;
+    loop {
+        match here {
+            IxDraft::Literal { at, value } => {
+                return lesser(place_if(limit < *value, *at), behind);
+            }
+            IxDraft::Name { .. } => return behind,
+            IxDraft::Negated { of, .. } => here = of.get(),
+            IxDraft::Sum(left, right) => {
+                behind = lesser(literal_past(limit, right.get()), behind);
+                here = left.get();
+            }
+            IxDraft::Difference(left, right) => {
+                behind = lesser(literal_past(limit, right.get()), behind);
+                here = left.get();
+            }
+            IxDraft::Product { left, right, .. } => {
+                behind = lesser(literal_past(limit, right.get()), behind);
+                here = left.get();
+            }
+            IxDraft::Grouped { inside, .. } => here = inside.get(),
+            IxDraft::Chosen { left, right, .. } => {
+                behind = lesser(literal_past(limit, right.get()), behind);
+                here = left.get();
+            }
+            IxDraft::Divided { of, by_at, by, .. } => {
+                behind = lesser(place_if(limit < *by, *by_at), behind);
+                here = of.get();
+            }
         }
-        IxDraft::Product { left, right, .. } => lesser(
-            literal_past(limit, left.get()),
-            literal_past(limit, right.get()),
-        ),
-        IxDraft::Grouped { inside, .. } => literal_past(limit, inside.get()),
-        IxDraft::Chosen { left, right, .. } => lesser(
-            literal_past(limit, left.get()),
-            literal_past(limit, right.get()),
-        ),
-        IxDraft::Divided { of, by_at, by, .. } => lesser(
-            literal_past(limit, of.get()),
-            place_if(limit < *by, *by_at),
-        ),
     }
 }
 

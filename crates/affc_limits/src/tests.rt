@@ -4,7 +4,7 @@ use crate::parts::large_part;
 use crate::texts::first_product;
 use affc_ast::text::Text;
 use affc_ast::{Boxed, Items};
-use affc_draft::draft::{IxDraft, TextDraft, WordDraft};
+use affc_draft::draft::{IxDraft, StmtDraft, TextDraft, ValueDraft, WordDraft};
 use std::alloc::{AllocError, Global};
 use std::test::Fail;
 
@@ -38,21 +38,64 @@ fn only_the_huge_part_is_large(rt: HostRuntime) -> Result<(), Fail> {
     Ok(())
 }
 
-#[test]
-fn a_text_without_statements_passes_no_limit(rt: HostRuntime) -> Result<(), Fail> {
-    let alloc = rt.alloc();
+/// A text with these statements alone.
+fn text(alloc: Global, has_prelude: bool, body: Items<StmtDraft>) -> Result<TextDraft, AllocError> {
     let name = Text::from_str(alloc, "f")?;
-    let draft = TextDraft {
+    Ok(TextDraft {
         pragmas: Items::new(alloc),
-        has_prelude: false,
+        has_prelude,
         function: WordDraft { at: 1, name },
         params: Items::new(alloc),
         temps: Items::new(alloc),
-        body: Items::new(alloc),
-    };
-    assert_eq!(rt; first_product(&draft), None);
+        body,
+    })
+}
+
+#[test]
+fn a_text_without_statements_passes_no_limit(rt: HostRuntime) -> Result<(), Fail> {
+    let alloc = rt.alloc();
     for has_prelude in [false, true] {
+        let draft = text(alloc, has_prelude, Items::new(alloc))?;
+        assert_eq!(rt; first_product(&draft), None);
         assert_eq!(rt; limit_fault(alloc, has_prelude, &draft)?, None);
     }
+    Ok(())
+}
+
+/// A sum as long as a text can have it.
+fn long_sum(alloc: Global) -> Result<IxDraft, AllocError> {
+    let mut sum = IxDraft::Literal { at: 0, value: 1 };
+    for at in 1..32768 {
+        let left = Boxed::new(alloc, sum)?;
+        let right = Boxed::new(alloc, IxDraft::Literal { at, value: 1 })?;
+        sum = IxDraft::Sum(left, right);
+    }
+    Ok(sum)
+}
+
+/// A value under as many `~` as a text can have.
+fn long_complement(alloc: Global, inside: ValueDraft) -> Result<ValueDraft, AllocError> {
+    let mut value = inside;
+    for _ in 0..65536 {
+        value = ValueDraft::Complement(Boxed::new(alloc, value)?);
+    }
+    Ok(value)
+}
+
+#[test]
+fn chains_of_the_greatest_length_take_no_stack(rt: HostRuntime) -> Result<(), Fail> {
+    let alloc = rt.alloc();
+    let name = Text::from_str(alloc, "t")?;
+    let value = long_complement(alloc, ValueDraft::Cast(long_sum(alloc)?))?;
+    let mut body = Items::new(alloc);
+    body.push(StmtDraft::Assign {
+        array: WordDraft { at: 5, name },
+        subs: Items::new(alloc),
+        op: None,
+        value,
+    })?;
+    let draft = text(alloc, true, body)?;
+    assert_eq!(rt; first_product(&draft), None);
+    assert_eq!(rt; limit_fault(alloc, true, &draft)?, None);
     Ok(())
 }

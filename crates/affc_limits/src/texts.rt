@@ -67,21 +67,44 @@ fn in_each(
     Ok(found)
 }
 
+/// What is found first, or least, of two.
+fn pick(rule: Rule, a: Option<usize>, b: Option<usize>) -> Option<usize>
+    ensures { result ≡ spec.pick rule a b }
+{
+    match rule {
+        Rule::Products => first_of(a, b),
+        Rule::Literals(_) => lesser(a, b),
+        Rule::Coefficients(_) => lesser(a, b),
+    }
+}
+
+/// The recursion is into right operands alone.
 #[tactic(auto, using(affc_draft::proofs::Outs::value_outs, crate::proofs::TextLaws::value_laws))]
 fn in_value(rule: Rule, before: Option<usize>, v: &ValueDraft) -> Result<Option<usize>, AllocError>
     ensures found { IfOk result (λ p. p ≡ spec.with_found rule before (value_texts (value v.now))) }
     ensures sure { IsTrue (takes_none rule) → IsOk result }
 {
-    match v {
-        ValueDraft::Load { subs, .. } => in_each(rule, before, subs.as_slice()),
-        ValueDraft::Constant(_) => Ok(before),
-        ValueDraft::Cast(a) => in_one(rule, before, a),
-        ValueDraft::Complement(of) => in_value(rule, before, of.get()),
-        ValueDraft::Binary { left, right, .. } => {
-            let first = in_value(rule, before, left.get())?;
-            in_value(rule, first, right.get())
+    let mut here = v;
+    let mut behind = None;
+    loop {
+        match here {
+            ValueDraft::Load { subs, .. } => {
+                let found = in_each(rule, before, subs.as_slice())?;
+                return Ok(pick(rule, found, behind));
+            }
+            ValueDraft::Constant(_) => return Ok(pick(rule, before, behind)),
+            ValueDraft::Cast(a) => {
+                let found = in_one(rule, before, a)?;
+                return Ok(pick(rule, found, behind));
+            }
+            ValueDraft::Complement(of) => here = of.get(),
+            ValueDraft::Binary { left, right, .. } => {
+                let found = in_value(rule, before, right.get())?;
+                behind = pick(rule, found, behind);
+                here = left.get();
+            }
+            ValueDraft::Shift { of, .. } => here = of.get(),
         }
-        ValueDraft::Shift { of, .. } => in_value(rule, before, of.get()),
     }
 }
 

@@ -7,6 +7,7 @@ use Rattle.affc_ast.specs.declared.tree.Val.{Val}
 use Rattle.affc_grammar.specs.Draft as d
 use Rattle.affc_grammar.specs.Names.{Checked, Refusal, Scope, ◌>>=◌, ix_tree, value_tree}
 use Rattle.affc_draft.specs.Drafts.{ix, value}
+use Rattle.affc_draft.proofs.Nodes.{nodes, value_nodes}
 use Rattle.affc_names.specs.declared.chain.Join.{Join}
 use Rattle.affc_names.specs.declared.chain.Join.TheVariants.{Plus, Minus, Times}
 use Rattle.affc_names.specs.declared.chain.IxStep.{IxStep}
@@ -88,18 +89,6 @@ module _ {A S : Type 0} (f : A → S → A) (size : A → ℕ) (own : S → ℕ)
 
 -- ---- Expressions
 
--- how many nodes an expression has
-abbrev pub nodes : d.IxDraft → ℕ
-nodes (d.literal at n) = 1
-nodes (d.name at w) = 1
-nodes (d.negated at a) = 1 + nodes a
-nodes (d.sum a b) = 1 + (nodes a + nodes b)
-nodes (d.difference a b) = 1 + (nodes a + nodes b)
-nodes (d.product at a b) = 1 + (nodes a + nodes b)
-nodes (d.grouped at a) = 1 + nodes a
-nodes (d.chosen at f a b) = 1 + (nodes a + nodes b)
-nodes (d.divided at f a by_at by) = 1 + nodes a
-
 pub larger : (a : d.IxDraft) (s : IxStep) → nodes a + nodes (ix s.right.now) < nodes (with_step a s)
 larger a s = by s.join (ix s.right.now)
   where
@@ -139,15 +128,6 @@ pub ix_step_smaller : (whole a : d.IxDraft) (ss : List IxStep) (i : ℕ) (s : Ix
 ix_step_smaller = step_smaller with_step nodes (λ s. nodes (ix s.right.now)) larger
 
 -- ---- Values
-
--- how many nodes a value has, those of whole-number expressions left out
-abbrev pub value_nodes : d.ValueDraft → ℕ
-value_nodes (d.load at w subs) = 1
-value_nodes (d.constant n) = 1
-value_nodes (d.cast a) = 1
-value_nodes (d.complement a) = 1 + value_nodes a
-value_nodes (d.binary op a b) = 1 + (value_nodes a + value_nodes b)
-value_nodes (d.shift left a by) = 1 + value_nodes a
 
 -- how many nodes a step has
 abbrev pub step_nodes : ValueStep → ℕ

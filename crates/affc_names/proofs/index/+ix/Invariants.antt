@@ -3,7 +3,8 @@ use Rattle.affc_grammar.specs.Names as names
 use Rattle.affc_draft.specs.Drafts as seen
 use Rattle.affc_names.specs.Chains.{step_tree}
 use Rattle.affc_names.specs.Stored as stored
-use Rattle.affc_names.proofs.Chains.{nodes, followed}
+use Rattle.affc_draft.proofs.Nodes.{nodes}
+use Rattle.affc_names.proofs.Chains.{followed}
 use Rattle.affc_names.proofs.index.+ix.Given as goal
 
 abbrev pub decreases-ix_tree : goal.decreases-ix_tree

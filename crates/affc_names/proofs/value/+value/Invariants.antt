@@ -3,7 +3,8 @@ use Rattle.affc_grammar.specs.Names as names
 use Rattle.affc_draft.specs.Drafts as seen
 use Rattle.affc_names.specs.Chains.{value_step_tree}
 use Rattle.affc_names.specs.Stored as stored
-use Rattle.affc_names.proofs.Chains.{value_nodes, step_nodes, followed}
+use Rattle.affc_draft.proofs.Nodes.{value_nodes}
+use Rattle.affc_names.proofs.Chains.{step_nodes, followed}
 use Rattle.affc_names.proofs.value.+value.Given as goal
 
 abbrev pub decreases-value_tree : goal.decreases-value_tree
