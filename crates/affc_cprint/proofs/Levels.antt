@@ -12,8 +12,8 @@ use Rattle.affc_ast.specs.declared.tree.Op.TheVariants as op
 use Rattle.affc_ast.proofs.Outs.{val_outs}
 use Rattle.affc_grammar.specs.Grammar.{Digits, ValueText, load, binary, op_mark, shift_mark, level_of, is_shift}
 use Rattle.affc_grammar.specs.Printed.{Names, array_name, dims_text, value_step, ValueWritten, primary_written, times_written, plus_written, shift_written, and_written, xor_written, or_written, binary_written, shift_by, holding}
-use Rattle.affc_cprint.specs.declared.value.Level.{Level}
-use Rattle.affc_cprint.specs.declared.value.Level.TheVariants.{Primary, Product, Sum, Shifted, And, Xor, Or}
+use Rattle.affc_cprint.specs.declared.brackets.Level.{Level}
+use Rattle.affc_cprint.specs.declared.brackets.Level.TheVariants.{Primary, Product, Sum, Shifted, And, Xor, Or}
 use Rattle.affc_cprint.specs.Layout.{◌then◌, value_layout}
 use Rattle.affc_cprint.specs.Places.{bracketed}
 use Rattle.affc_cprint.specs.Statements.{dim_added}

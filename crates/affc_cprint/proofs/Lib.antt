@@ -5,7 +5,6 @@ pub mod Places
 pub mod ReadBack
 pub mod Sees
 pub mod Visible
-pub mod Knows
 pub mod Chains
 pub mod Levels
 pub mod Arms
@@ -24,17 +23,3 @@ pub mod Calls
 pub mod Products
 pub mod Whole
 pub mod Converse
-pub mod Sighted
-pub mod Plains
-pub mod Counts
-pub mod Shapes
-pub mod ShapeParts
-pub mod ShapeStatements
-pub mod ShapePrograms
-pub mod Works
-pub mod Decides
-pub mod Induction
-pub mod KnownBack
-pub mod KnownPrograms
-pub mod KnownFrom
-pub mod KnownFromTexts

@@ -4,8 +4,8 @@ use Rattle.std.proofs.lemmas.List.{append-nil}
 use Rattle.affc_ast.proofs.Outs.{ix_outs}
 use Rattle.affc_grammar.specs.Grammar.{Digits, IxText, TermText, AtomText, Choice, chosen, choice_name, Rounding, divided, rounding_name, is_divisor}
 use Rattle.affc_grammar.specs.Printed.{IxWritten, sum_written, product_written, call_written, nothing_written, chosen_written, divided_by, divided_written, holding}
-use Rattle.affc_cprint.specs.declared.index.Place.{Place}
-use Rattle.affc_cprint.specs.declared.index.Place.TheVariants.{Whole, RightOfSum, LeftOfProduct, RightOfProduct, UnderMinus}
+use Rattle.affc_cprint.specs.declared.brackets.Place.{Place}
+use Rattle.affc_cprint.specs.declared.brackets.Place.TheVariants.{Whole, RightOfSum, LeftOfProduct, RightOfProduct, UnderMinus}
 use Rattle.affc_cprint.specs.Layout.{◌then◌, ix_layout, term_layout, atom_layout}
 use Rattle.affc_cprint.specs.Places.{ix_at, bracketed, opened, closed, is_inside, is_factor, is_negated, divides}
 

@@ -4,29 +4,20 @@ use Rattle.std.proofs.lemmas.Bool.{false≢true, lt-ltb}
 use Rattle.std.proofs.lemmas.List.Folds.{list_all-append}
 use Rattle.std.specs.List.{list_all, flat_map}
 use Rattle.affc_ast.specs.declared.tree.Ix.{Ix}
-use Rattle.affc_ast.specs.declared.tree.Ix.TheOpen as layer
-use Rattle.affc_ast.specs.declared.tree.Ix.TheOpen.{Ix-F}
 use Rattle.affc_ast.specs.declared.tree.Compare.{Compare}
 use Rattle.affc_ast.specs.declared.tree.Local.{Local}
 use Rattle.affc_ast.specs.declared.tree.Val.{Val}
-use Rattle.affc_ast.specs.declared.tree.Val.TheOpen as layer_v
-use Rattle.affc_ast.specs.declared.tree.Val.TheOpen.{Val-F}
 use Rattle.affc_ast.specs.declared.tree.Stmt.{Stmt}
 use Rattle.affc_ast.specs.declared.tree.Stmt.TheVariants.{For}
-use Rattle.affc_ast.specs.declared.tree.Stmt.TheOpen as layer_s
-use Rattle.affc_ast.specs.declared.tree.Stmt.TheOpen.{Stmt-F}
 use Rattle.affc_ast.specs.declared.tree.Decl.{Decl}
 use Rattle.affc_ast.specs.declared.tree.Param.{Param}
-use Rattle.affc_ast.specs.declared.tree.Param.TheVariants.{Number, Array}
 use Rattle.affc_ast.specs.declared.tree.Program.{Program}
-use Rattle.affc_ast.specs.Recursion.{by_ix, by_val, by_stmt}
+use Rattle.affc_ast.specs.Recursion.{by_stmt}
 use Rattle.affc_grammar.specs.Grammar.{Name, Choice, minimum, maximum, remainder, Rounding, down, up}
 use Rattle.affc_grammar.specs.Draft.{IxDraft, literal, name, negated, sum, difference, product, grouped, chosen, divided, CompareDraft, ValueDraft, load, constant, cast, complement, binary, shift, LocalDraft, StmtsDraft, no_stmts, and_stmt, StmtDraft, for_loop, if_all, assign, block, DeclDraft, ParamDraft, number_param, array_param, PragmaDraft, range, context, TextDraft}
 use Rattle.affc_grammar.specs.Names.{Scope, each, number_named, array_named, why_declared, why_repeated, with_number, ix_tree, compare_tree, value_tree, locals_tree, head_tree, stmts_tree, stmt_tree, choice_tree, rounding_tree, thing_of, why_ranged, decl_tree, number_tree, range_of, param_tree, params_tree, temps_tree, with_param, with_array, pragmas_tree, program_tree}
 use Rattle.affc_grammar.specs.Limits.{at_if, sides, value_texts, stmts_texts, stmt_texts, pragma_texts, param_texts, affine_texts, names_in, holds_names, products_in, products_of_names, literals_past, wide_limits}
-use Rattle.affc_cprint.specs.declared.plain.Form.{Form}
-use Rattle.affc_cprint.specs.Known.{is_none}
-use Rattle.affc_cprint.specs.Plain.{is_within, both, product as product_form, quotient, form_step, form, is_plain, compare_passes, value_step, value_passes, local_passes, stmt_step, stmt_passes, decl_passes, param_passes, program_passes}
+use Rattle.affc_cprint.specs.Forms.{is_none, Form, is_within, both, product as product_form, quotient, form_step, form, compare_passes, value_step, value_passes, local_passes, stmt_step, stmt_passes, decl_passes, param_passes, program_passes}
 use Rattle.affc_cprint.proofs.Nodes.{neg_here, add_here, sub_here, mul_here, min_here, max_here, mod_here, floord_here, ceild_here}
 use Rattle.affc_cprint.proofs.Arms.{for_here, if_here, block_here}
 use Rattle.affc_cprint.proofs.Sees.{ok_of, both_ok, allowed_ok}
@@ -35,7 +26,7 @@ use Rattle.affc_cprint.proofs.Parts.{program_parts}
 
 -- ---- Lists of places
 
-none_append : {A : Type 0} (xs ys : List A) → is_none (xs ++ ys) ≡ (is_none xs && is_none ys)
+pub none_append : {A : Type 0} (xs ys : List A) → is_none (xs ++ ys) ≡ (is_none xs && is_none ys)
 none_append [] ys = refl
 none_append (x ∷ xs) ys = refl
 
@@ -57,13 +48,13 @@ none_if false at = refl
 -- ---- Expressions: whether a name stands in one, and whether no product has names on both sides
 
 -- the literals of an expression that pass the limit
-abbrev large : IxDraft → List ℕ
+abbrev pub large : IxDraft → List ℕ
 large d = literals_past wide_limits.literal d
 
-record Same (d : IxDraft) (f : Form) : Type 0 where
-  named : holds_names d ≡ f.named
-  affine : is_none (products_in d) ≡ f.affine
-  small : is_none (large d) ≡ f.small
+pub record Same (d : IxDraft) (f : Form) : Type 0 where
+  pub named : holds_names d ≡ f.named
+  pub affine : is_none (products_in d) ≡ f.affine
+  pub small : is_none (large d) ≡ f.small
 
 same_both : (a b d : IxDraft) (f g : Form) → names_in d ≡ names_in a ++ names_in b → products_in d ≡ products_in a ++ products_in b → large d ≡ large a ++ large b → Same a f → Same b g → Same d (both f g)
 same_both a b d f g ns ps ls p q = record {
@@ -100,7 +91,7 @@ rounding_form : (f : Rounding) (x : Ix) (n : ℤ) → quotient (form x) (is_with
 rounding_form down x n = sym (floord_here form_step x n)
 rounding_form up x n = sym (ceild_here form_step x n)
 
-ix_same : (scope : Scope) (d : IxDraft) (e : Ix) → ix_tree scope d ≡ Ok e → Same d (form e)
+pub ix_same : (scope : Scope) (d : IxDraft) (e : Ix) → ix_tree scope d ≡ Ok e → Same d (form e)
 ix_same scope (literal at n) e h = subst (λ z. Same (literal at n) (form z)) (ok_of h) (record { named = refl; affine = refl; small = none_if (nat_lt wide_limits.literal n) at })
 ix_same scope (name at w) e h =
     let p = both_ok (number_named scope at w) _ e h in
@@ -321,29 +312,3 @@ affine_same scope d e h = (ix_same scope d e h).affine
 -- Where one text has no product of names, another one that is read as the same program has none.
 pub products_again : (c d : TextDraft) (p : Program) → program_tree c ≡ Ok p → program_tree d ≡ Ok p → products_of_names c ≡ [] → products_of_names d ≡ []
 products_again c d p e f none = none_is (products_of_names d) (program_same products_in is_affine affine_same d p f ∙ sym (program_same products_in is_affine affine_same c p e) ∙ none_of (products_of_names c) none)
-
--- ---- Products and literals
-
-abbrev refused : IxDraft → List ℕ
-refused d = products_in d ++ large d
-
-plain_same : (scope : Scope) (d : IxDraft) (e : Ix) → ix_tree scope d ≡ Ok e → is_none (refused d) ≡ is_plain e
-plain_same scope d e h =
-    let s = ix_same scope d e h in
-    none_append (products_in d) (large d) ∙ ap (λ b. b && is_none (large d)) s.affine ∙ ap (λ b. (form e).affine && b) s.small
-
-shuffled : (a b c d : Bool) → ((a && b) && (c && d)) ≡ ((a && c) && (b && d))
-shuffled true true c d = refl
-shuffled true false true d = refl
-shuffled true false false d = refl
-shuffled false b c d = refl
-
-none_both : (f g : IxDraft → List ℕ) (ds : List IxDraft) → is_none (flat_map (λ d. f d ++ g d) ds) ≡ (is_none (flat_map f ds) && is_none (flat_map g ds))
-none_both f g [] = refl
-none_both f g (d ∷ ds) =
-    none_append (f d ++ g d) (flat_map (λ x. f x ++ g x) ds) ∙ ap (λ b. b && is_none (flat_map (λ x. f x ++ g x) ds)) (none_append (f d) (g d)) ∙ ap (λ b. (is_none (f d) && is_none (g d)) && b) (none_both f g ds)
-    ∙ shuffled (is_none (f d)) (is_none (g d)) (is_none (flat_map f ds)) (is_none (flat_map g ds))
-    ∙ ap (λ b. b && (is_none (g d) && is_none (flat_map g ds))) (sym (none_append (f d) (flat_map f ds))) ∙ ap (λ b. is_none (flat_map f (d ∷ ds)) && b) (sym (none_append (g d) (flat_map g ds)))
-
-pub plain_is : (d : TextDraft) (p : Program) → program_tree d ≡ Ok p → program_passes is_plain p ≡ (is_none (products_of_names d) && is_none (flat_map (literals_past wide_limits.literal) (affine_texts d)))
-plain_is d p e = sym (program_same refused is_plain plain_same d p e) ∙ none_both products_in large (affine_texts d)

@@ -1,9 +1,8 @@
 -- Parameters, their ranges and declarations that are read are printed as ones that are read so, and whose tokens a text can have.
-use Rattle.std.proofs.Common.{◌≡◌, ℕ, zero, suc, ◌+◌, ◌^◌, ◌<◌, Bool, true, false, List, [], ◌∷◌, ◌++◌, length, codes, Option, Some, None, is_some, Ok, ℤ, pos, negsuc, neg_ℤ, refl, sym, ap, subst, ◌∙◌, arith, append_assoc, if◌then◌else◌}
+use Rattle.std.proofs.Common.{◌≡◌, ℕ, zero, suc, ◌+◌, ◌^◌, ◌<◌, Bool, true, false, List, [], ◌∷◌, ◌++◌, length, codes, Option, Some, None, Ok, ℤ, pos, negsuc, neg_ℤ, refl, sym, ap, subst, ◌∙◌, arith, append_assoc, if◌then◌else◌}
 use Rattle.std.proofs.lemmas.List.{append-nil}
-use Rattle.std.specs.List.{find}
 use Rattle.std.specs.Fmt.{decimal as digits_of}
-use Rattle.affc_lex.specs.Bytes.{same, decimal as value_of}
+use Rattle.affc_lex.specs.Bytes.{decimal as value_of}
 use Rattle.affc_ast.specs.declared.tree.Ix.{Ix}
 use Rattle.affc_ast.specs.declared.tree.Decl.{Decl}
 use Rattle.affc_ast.specs.declared.tree.Param.{Param}
@@ -11,13 +10,13 @@ use Rattle.affc_ast.specs.declared.tree.Param.TheVariants.{Number, Array}
 use Rattle.affc_grammar.specs.Grammar.{Name, word, number as number_symbol, mark, ParamText, number_param, array_param, ParamsText, param, and_param, IntText, DimsText, IxText, ix_symbols, dims_symbols, dim_symbols, const_symbols, param_symbols, params_symbols, int_symbols}
 use Rattle.affc_grammar.specs.Draft as draft
 use Rattle.affc_grammar.specs.Draft.{ParamDraft, DeclDraft, PragmaDraft, word_draft, ix_draft, dims_draft, conds_draft, param_draft, params_draft, temp_draft, names_draft, decls_draft, int_value, pragmas_draft, array_role}
-use Rattle.affc_grammar.specs.Names.{Thing, Scope, each, thing_of, why_declared, with_thing, with_number, with_array, ix_tree, decl_tree, number_tree, range_of, param_tree, params_tree, with_param, with_params}
+use Rattle.affc_grammar.specs.Names.{Thing, Scope, each, thing_of, why_declared, with_number, with_array, ix_tree, decl_tree, number_tree, range_of, param_tree, params_tree, with_param, with_params}
 use Rattle.affc_grammar.specs.Printed.{Names, no_names, and_number, and_array_name, and_param_name, ix_text, dims_text, is_input, array_text, param_text, and_params, params_text, int_text}
 use Rattle.affc_cprint.specs.Programs.{with_param_names}
 use Rattle.affc_cprint.proofs.Numbers.{value_of-decimal}
-use Rattle.affc_cprint.proofs.Spelled.{AllHave, AllStand, have_parts, stand_both, IsName, symbol_of_name, symbol_of_numeral, decimal_is_numeral, not_true, never}
-use Rattle.affc_cprint.proofs.Sees.{ok_of, both_ok, then_is, allowed_ok, allowed_is, same_is, same_self, declared_none, Sees, sees_number, sees_array}
-use Rattle.affc_cprint.proofs.Visible.{IsVisible, other_thing, some_true, new_is_seen, still_visible, declared_apart}
+use Rattle.affc_cprint.proofs.Spelled.{AllHave, AllStand, have_parts, stand_both, IsName, symbol_of_name, symbol_of_numeral, decimal_is_numeral}
+use Rattle.affc_cprint.proofs.Sees.{ok_of, both_ok, then_is, allowed_ok, allowed_is, Sees, sees_number, sees_array}
+use Rattle.affc_cprint.proofs.Visible.{other_thing, some_true, declared_apart}
 use Rattle.affc_cprint.proofs.ReadBack.{word_of_symbol, number_of_symbol, ix_back}
 use Rattle.affc_cprint.proofs.ReadBackValues.{Each, each_append, each_length, dims_back, dims_again}
 use Rattle.affc_cprint.proofs.ReadBackStatements.{IxBack, declared_name}

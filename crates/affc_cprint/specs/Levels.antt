@@ -4,8 +4,8 @@ use Rattle.affc_ast.specs.declared.tree.Op.{Op}
 use Rattle.affc_ast.specs.declared.tree.Op.TheVariants as op
 use Rattle.affc_grammar.specs.Grammar.{is_shift}
 use Rattle.affc_grammar.specs.Printed.{ValueWritten}
-use Rattle.affc_cprint.specs.declared.value.Level.{Level}
-use Rattle.affc_cprint.specs.declared.value.Level.TheVariants.{Primary, Product, Sum, Shifted, And, Xor, Or}
+use Rattle.affc_cprint.specs.declared.brackets.Level.{Level}
+use Rattle.affc_cprint.specs.declared.brackets.Level.TheVariants.{Primary, Product, Sum, Shifted, And, Xor, Or}
 use Rattle.affc_cprint.specs.Layout.{value_layout}
 
 abbrev pub value_at : {prelude : Bool} → Level → ValueWritten prelude → List ℕ

@@ -6,9 +6,4 @@ pub mod Statements
 pub mod Levels
 pub mod Programs
 pub mod KeepsRules
-pub mod Known
-pub mod Sights
-pub mod Plain
-pub mod Shape
-pub mod Work
-pub mod Kept
+pub mod Forms

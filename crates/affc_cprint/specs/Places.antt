@@ -2,8 +2,8 @@
 use Rattle.std.specs.Prelude.{ℕ, Bool, true, false, List, [], codes, ℤ, nat_abs, decimal as digits_of}
 use Rattle.affc_grammar.specs.Grammar.{is_divisor}
 use Rattle.affc_grammar.specs.Printed.{IxWritten}
-use Rattle.affc_cprint.specs.declared.index.Place.{Place}
-use Rattle.affc_cprint.specs.declared.index.Place.TheVariants.{Whole, RightOfSum, LeftOfProduct, RightOfProduct, UnderMinus}
+use Rattle.affc_cprint.specs.declared.brackets.Place.{Place}
+use Rattle.affc_cprint.specs.declared.brackets.Place.TheVariants.{Whole, RightOfSum, LeftOfProduct, RightOfProduct, UnderMinus}
 use Rattle.affc_cprint.specs.Layout.{◌then◌, ix_layout, term_layout, factor_layout, atom_layout}
 
 abbrev pub ix_at : {prelude : Bool} → Place → IxWritten prelude → List ℕ

@@ -6,41 +6,11 @@ ghost use Rattle.affc_cprint.specs.Adds.{Adds};
 ghost use Rattle.std.specs.List.{flat_map};
 ghost use Rattle.affc_cprint.specs.Statements.{dim_added};
 ghost use Rattle.affc_cprint.specs.Seen.{seen};
-ghost use Rattle.affc_cprint.specs.Places.{ix_at, opened, closed, is_inside, is_factor, is_negated, divides};
+ghost use Rattle.affc_cprint.specs.Places.{ix_at, opened, closed};
 
+use crate::brackets::{Place, is_divided};
 use affc_ast::tree::{Ix, NameId};
 use std::alloc::AllocError;
-
-// Where an expression stands.
-#[derive(Clone, Copy, Debug)]
-pub enum Place {
-    // by itself, or left of `+` and `-`
-    Whole,
-    RightOfSum,
-    LeftOfProduct,
-    RightOfProduct,
-    UnderMinus,
-}
-
-impl Place {
-    pub fn is_inside(self) -> bool
-        ensures { result ≡ is_inside self }
-    {
-        !matches!(self, Place::Whole)
-    }
-
-    pub fn is_factor(self) -> bool
-        ensures { result ≡ is_factor self }
-    {
-        matches!(self, Place::RightOfProduct | Place::UnderMinus)
-    }
-
-    pub fn is_negated(self) -> bool
-        ensures { result ≡ is_negated self }
-    {
-        matches!(self, Place::UnderMinus)
-    }
-}
 
 pub fn push(out: &mut String, text: &str) -> Result<(), AllocError>
     ensures { OnOk result (Adds (string_bytes out.old) (string_bytes out.new) text.now) }
@@ -88,14 +58,6 @@ fn number(out: &mut String, names: &Names<'_>, id: NameId) -> Result<(), AllocEr
     ensures { OnOk result (Adds (string_bytes out.old) (string_bytes out.new) (number_name (seen names.now) id)) }
 {
     push(out, name_of(names.numbers.as_slice(), id.0))
-}
-
-// Whether a quotient by this number is written.
-#[tactic(auto, using(crate::proofs::Numbers::divisor_of))]
-pub fn is_divided(prelude: bool, by: i64) -> bool
-    ensures { result ≡ divides prelude by }
-{
-    prelude && by != 0
 }
 
 #[tactic(auto, using(crate::proofs::Places::at_places))]

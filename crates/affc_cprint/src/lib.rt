@@ -1,24 +1,19 @@
 //! Programs as text.
 #![tactic(auto)]
 
-ghost use Rattle.std.specs.Prelude.{◌≡◌, ◌↔◌, IfOk, IsTrue};
+ghost use Rattle.std.specs.Prelude.{◌≡◌, ◌↔◌, IfOk};
 ghost use Rattle.affc_grammar.specs.Reads.{ReadsWide, WellNamed};
 ghost use Rattle.affc_cprint.specs.Layout.{printed_text};
-ghost use Rattle.affc_cprint.specs.Kept.{is_kept};
 
+pub mod brackets;
 pub mod examples;
 mod index;
-mod known;
 pub mod laws;
-mod plain;
 mod program;
-mod shape;
-mod sight;
 mod stmt;
 #[cfg(test)]
 mod tests;
 mod value;
-mod work;
 
 use affc_ast::tree::Program;
 use std::alloc::Global;
@@ -39,19 +34,4 @@ pub fn print(alloc: Global, program: &Program) -> Result<Vec<u8>, Memory>
         Ok(text) => Ok(text.into_bytes()),
         Err(_) => Err(Memory),
     }
-}
-
-fn is_kept(program: &Program) -> bool
-    ensures { result ≡ is_kept program.now }
-{
-    known::program_known(program)
-        && (plain::program_plain(program)
-            && (work::program_fits(program) && shape::shape_is_bounded(program)))
-}
-
-/// Whether the text that is printed of a program reads as it. It takes no memory.
-pub fn well_named(program: &Program) -> bool
-    ensures { IsTrue result ↔ WellNamed program.now }
-{
-    is_kept(program)
 }

@@ -8,8 +8,9 @@ ghost use Rattle.affc_cprint.specs.Layout.{◌then◌, cond_layout, conds_layout
 ghost use Rattle.affc_grammar.specs.Printed.{and_number};
 ghost use Rattle.affc_cprint.specs.Statements.{first_numbers, head_layout, assign_layout, local_added, locals_added, with_locals};
 
-use crate::index::{Names, Place, dims, ix, push};
-use crate::value::{Level, array, value};
+use crate::brackets::{Level, Place};
+use crate::index::{Names, dims, ix, push};
+use crate::value::{array, value};
 use affc_ast::tree::{ArrayId, Compare, Ix, Local, Op, Rel, Stmt, Val};
 use std::alloc::AllocError;
 

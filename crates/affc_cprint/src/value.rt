@@ -1,83 +1,17 @@
 // Values.
 ghost use Rattle.std.specs.Prelude.{◌≡◌, OnOk, string_bytes, codes, nat_lt, decimal as digits_of};
 ghost use Rattle.affc_ast.specs.Recursion.{by_val};
-ghost use Rattle.affc_grammar.specs.Grammar.{op_mark, shift_mark, level_of};
+ghost use Rattle.affc_grammar.specs.Grammar.{op_mark, shift_mark};
 ghost use Rattle.affc_grammar.specs.Printed.{value_step, array_name};
 ghost use Rattle.affc_cprint.specs.Adds.{Adds};
 ghost use Rattle.affc_cprint.specs.Seen.{seen};
 ghost use Rattle.affc_cprint.specs.Layout.{◌then◌};
-ghost use Rattle.affc_cprint.specs.Levels.{value_at, number_of, op_left, op_right, amount_layout};
+ghost use Rattle.affc_cprint.specs.Levels.{value_at, amount_layout};
 
-use crate::index::{Names, Place, close, decimal, dims, ix, name_of, open, push};
+use crate::brackets::{Level, Place, left_of, level_of, right_of};
+use crate::index::{Names, close, decimal, dims, ix, name_of, open, push};
 use affc_ast::tree::{ArrayId, Op, Val};
 use std::alloc::AllocError;
-
-// How tightly binds what stands round a value: there a looser value has brackets.
-#[derive(Clone, Copy, Debug)]
-pub enum Level {
-    Primary,
-    Product,
-    Sum,
-    Shifted,
-    And,
-    Xor,
-    Or,
-}
-
-impl Level {
-    pub fn number(self) -> u8
-        ensures { result ≡ number_of self }
-    {
-        match self {
-            Level::Primary => 0,
-            Level::Product => 1,
-            Level::Sum => 2,
-            Level::Shifted => 3,
-            Level::And => 4,
-            Level::Xor => 5,
-            Level::Or => 6,
-        }
-    }
-}
-
-pub fn level_of(op: Op) -> u8
-    ensures { result ≡ level_of op }
-{
-    match op {
-        Op::Mul => 1,
-        Op::Add => 2,
-        Op::Sub => 2,
-        Op::And => 4,
-        Op::Xor => 5,
-        Op::Or => 6,
-    }
-}
-
-pub fn left_of(op: Op) -> Level
-    ensures { result ≡ op_left op }
-{
-    match op {
-        Op::Mul => Level::Product,
-        Op::Add => Level::Sum,
-        Op::Sub => Level::Sum,
-        Op::And => Level::And,
-        Op::Xor => Level::Xor,
-        Op::Or => Level::Or,
-    }
-}
-
-pub fn right_of(op: Op) -> Level
-    ensures { result ≡ op_right op }
-{
-    match op {
-        Op::Mul => Level::Primary,
-        Op::Add => Level::Product,
-        Op::Sub => Level::Product,
-        Op::And => Level::Shifted,
-        Op::Xor => Level::And,
-        Op::Or => Level::Xor,
-    }
-}
 
 fn operator(out: &mut String, op: Op) -> Result<(), AllocError>
     ensures { OnOk result (Adds (string_bytes out.old) (string_bytes out.new) (codes " " then op_mark op then codes " ")) }

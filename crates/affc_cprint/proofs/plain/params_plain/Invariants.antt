@@ -1,7 +1,0 @@
-use Rattle.std.proofs.Common.{◌≡◌, drop}
-use Rattle.std.specs.List.{list_all}
-use Rattle.affc_cprint.specs.Plain as spec
-use Rattle.affc_cprint.proofs.plain.params_plain.Given as goal
-
-abbrev pub invariant-loop-param : goal.invariant-loop-param
-invariant-loop-param l = list_all (spec.param_passes spec.is_plain) (drop l.param-index l.params) ≡ list_all (spec.param_passes spec.is_plain) l.params

@@ -1,6 +1,0 @@
-use Rattle.std.proofs.Common.{◌≡◌, drop}
-use Rattle.affc_cprint.specs.Shape.{params_behind}
-use Rattle.affc_cprint.proofs.shape.params_behind.Given as goal
-
-abbrev pub invariant-loop-param : goal.invariant-loop-param
-invariant-loop-param l = params_behind l.prelude l.all (drop l.param-index l.params) ≡ params_behind l.prelude l.initial.all l.params

@@ -1,6 +1,0 @@
-use Rattle.std.proofs.Common.{◌≡◌, drop}
-use Rattle.affc_cprint.specs.Shape.{ranges_behind}
-use Rattle.affc_cprint.proofs.shape.ranges_behind.Given as goal
-
-abbrev pub invariant-loop-param : goal.invariant-loop-param
-invariant-loop-param l = ranges_behind l.all (drop l.param-index l.params) ≡ ranges_behind l.initial.all l.params

@@ -1,0 +1,16 @@
+pub mod Knows
+pub mod Sighted
+pub mod Plains
+pub mod Counts
+pub mod Shapes
+pub mod ShapeParts
+pub mod ShapeStatements
+pub mod ShapePrograms
+pub mod Works
+pub mod Decides
+pub mod Induction
+pub mod KnownBack
+pub mod KnownPrograms
+pub mod KnownFrom
+pub mod KnownFromTexts
+pub mod Literals

@@ -1,0 +1,94 @@
+// What no clause says: programs that are well named, and one for each reason why one isn't.
+use crate::well_named;
+use affc_ast::text::Text;
+use affc_ast::tree::{Decl, Ix, NameId, Param, Program, Role};
+use affc_ast::{Boxed, Items};
+use std::alloc::{AllocError, Global};
+use std::test::Fail;
+
+// A function that does nothing, of a number `N` from -1 to this and an array `out` with this extent.
+fn idle(alloc: Global, name: &str, high: i64, extent: Ix) -> Result<Program, AllocError> {
+    let mut params = Items::new(alloc);
+    let number = Text::from_str(alloc, "N")?;
+    params.push(Param::Number {
+        name: number,
+        low: -1,
+        high,
+    })?;
+    let mut extents = Items::new(alloc);
+    extents.push(extent)?;
+    let array = Text::from_str(alloc, "out")?;
+    params.push(Param::Array(Decl {
+        name: array,
+        role: Role::Output,
+        extents,
+    }))?;
+    let name = Text::from_str(alloc, name)?;
+    Ok(Program {
+        name,
+        params,
+        context: Items::new(alloc),
+        temps: Items::new(alloc),
+        body: Items::new(alloc),
+        prelude: false,
+    })
+}
+
+fn number() -> Ix {
+    Ix::Name(NameId(0))
+}
+
+fn product(alloc: Global, a: Ix, b: Ix) -> Result<Ix, AllocError> {
+    let left = Boxed::new(alloc, a)?;
+    let right = Boxed::new(alloc, b)?;
+    Ok(Ix::Mul(left, right))
+}
+
+// `-(-(.. N))`, with so many signs.
+fn negated(alloc: Global, times: u32) -> Result<Ix, AllocError> {
+    let mut inner = number();
+    for _ in 0..times {
+        inner = Ix::Neg(Boxed::new(alloc, inner)?);
+    }
+    Ok(inner)
+}
+
+#[test]
+fn a_program_is_well_named(rt: HostRuntime) -> Result<(), Fail> {
+    let alloc = rt.alloc();
+    let program = idle(alloc, "f", 4, number())?;
+    assert!(rt; well_named(&program));
+    Ok(())
+}
+
+#[test]
+fn a_reserved_name_is_refused(rt: HostRuntime) -> Result<(), Fail> {
+    let alloc = rt.alloc();
+    let program = idle(alloc, "static", 4, number())?;
+    assert!(rt; !well_named(&program));
+    Ok(())
+}
+
+#[test]
+fn a_product_of_names_is_refused(rt: HostRuntime) -> Result<(), Fail> {
+    let alloc = rt.alloc();
+    let program = idle(alloc, "f", 4, product(alloc, number(), number())?)?;
+    assert!(rt; !well_named(&program));
+    Ok(())
+}
+
+#[test]
+fn a_range_past_the_limit_is_refused(rt: HostRuntime) -> Result<(), Fail> {
+    let alloc = rt.alloc();
+    let program = idle(alloc, "f", 16777217, number())?;
+    assert!(rt; !well_named(&program));
+    Ok(())
+}
+
+#[test]
+fn brackets_past_the_limit_are_refused(rt: HostRuntime) -> Result<(), Fail> {
+    let alloc = rt.alloc();
+    let program = idle(alloc, "f", 4, negated(alloc, 258)?)?;
+    assert!(rt; !well_named(&program));
+    Ok(())
+}
