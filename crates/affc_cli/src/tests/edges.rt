@@ -34,6 +34,7 @@ fn counts_are_reached_and_passed(rt: HostRuntime) -> Result<(), Fail> {
     const BODY: &str = "#include <stdint.h>\nvoid f(uint64_t out[1]) {\n";
     const INPUT: &str = "#include <stdint.h>\nvoid f(const uint64_t in[1]) {\n";
     const SUBSCRIPT: &str = "#include <stdint.h>\nvoid f(uint64_t out[1]) {\nout[";
+    const TEMPORARY: &str = "#include <stdint.h>\nvoid f(uint64_t out[1]) {\nuint64_t t";
     const ONE: &str = "#include <stdint.h>\nvoid f(uint64_t out[1]) {\nout[0] = 1ULL";
     const COMPLEMENT: &str = "#include <stdint.h>\nvoid f(uint64_t out[1]) {\nout[0] = ~1ULL";
     let rows = [
@@ -42,6 +43,12 @@ fn counts_are_reached_and_passed(rt: HostRuntime) -> Result<(), Fail> {
             63,
             [SUBSCRIPT, "(", "0", ")", "] = 1ULL; }"],
             "affc: source at 112: limit depth\n",
+        ),
+        (4, [TEMPORARY, "[1]", "; out[0] = 1ULL; }", "", ""], READS),
+        (
+            5,
+            [TEMPORARY, "[1]", "; out[0] = 1ULL; }", "", ""],
+            "affc: source at 55: limit dimensions\n",
         ),
         (64, [BODY, FOR_FOUR, "", "", "}"], READS),
         (
