@@ -125,6 +125,12 @@ fn stuck_runs_say_why(rt: HostRuntime) -> Result<(), Fail> {
             "param N 16777216\narray out 0\n",
             "affc: overflow at node 16\n",
         ),
+        // a step past the greatest number, at the loop
+        (
+            "#include <stdint.h>\nstatic inline int64_t affc_min(int64_t a, int64_t b) { return a < b ? a : b; }\nstatic inline int64_t affc_max(int64_t a, int64_t b) { return a > b ? a : b; }\nstatic inline int64_t affc_floord(int64_t a, int64_t b) { return a / b - (a % b < 0); }\nstatic inline int64_t affc_ceild(int64_t a, int64_t b) { return a / b + (a % b > 0); }\nstatic inline int64_t affc_mod(int64_t a, int64_t b) { return a % b + (a % b < 0 ? b : 0); }\nvoid f(uint64_t out[1]) {\n  for (int64_t i = 4611686018427387904 + 4611686018427387902; i <= 4611686018427387904 + 4611686018427387903; i++) {\n    out[0] = 1ULL;\n  }\n}\n",
+            "array out 0\n",
+            "affc: overflow at node 1\n",
+        ),
     ];
     for (source, feed, told) in rows {
         let done = ran(rt.alloc(), "run a.c a.data", source, feed)?;
