@@ -295,6 +295,10 @@ fn texts_that_are_no_programs_are_refused(rt: HostRuntime) -> Result<(), Fail> {
             "affc: source at 204: limit parameters\n",
         ),
         (
+            "#include <stdint.h>\n#pragma affc param while 1 4\nvoid f(int64_t while) {}\n",
+            "affc: source at 39: name reserved\n",
+        ),
+        (
             "#include <stdint.h>\n#pragma affc param N 1 4\nvoid f(int64_t N, const uint64_t in[N], uint64_t out[N]) {\n  for (int64_t i = 0; i < N; i++) out[65537 * i] = 1ULL;\n}\n",
             "affc: source at 142: limit coefficient\n",
         ),
@@ -344,12 +348,12 @@ fn texts_that_are_no_programs_are_refused(rt: HostRuntime) -> Result<(), Fail> {
     Ok(())
 }
 
-// The copy loop with the prelude put before `void`.
+// The printed copy loop with the prelude put before `void`.
 #[test]
 fn printed_texts_are_refused(rt: HostRuntime) -> Result<(), Fail> {
     let prelude =
         "static inline int64_t affc_min(int64_t a, int64_t b) { return a < b ? a : b; }\nstatic inline int64_t affc_max(int64_t a, int64_t b) { return a > b ? a : b; }\nstatic inline int64_t affc_floord(int64_t a, int64_t b) { return a / b - (a % b < 0); }\nstatic inline int64_t affc_ceild(int64_t a, int64_t b) { return a / b + (a % b > 0); }\nstatic inline int64_t affc_mod(int64_t a, int64_t b) { return a % b + (a % b < 0 ? b : 0); }\nvoid";
-    let text = edited(rt.alloc(), COPY, "void", prelude)?;
+    let text = edited(rt.alloc(), PRINTED, "void", prelude)?;
     let done = plain(rt.alloc(), "fold copy.c", text.as_str())?;
     assert_eq!(rt; done.status, 4);
     assert_eq!(rt;

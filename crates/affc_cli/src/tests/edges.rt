@@ -35,6 +35,9 @@ fn counts_are_reached_and_passed(rt: HostRuntime) -> Result<(), Fail> {
     const INPUT: &str = "#include <stdint.h>\nvoid f(const uint64_t in[1]) {\n";
     const SUBSCRIPT: &str = "#include <stdint.h>\nvoid f(uint64_t out[1]) {\nout[";
     const TEMPORARY: &str = "#include <stdint.h>\nvoid f(uint64_t out[1]) {\nuint64_t t";
+    const CONDITION: &str = "#include <stdint.h>\nvoid f(uint64_t out[1]) {\nif (0 < 1";
+    const WIDE_SUBSCRIPT: &str =
+        "#include <stdint.h>\nstatic inline int64_t affc_min(int64_t a, int64_t b) { return a < b ? a : b; }\nstatic inline int64_t affc_max(int64_t a, int64_t b) { return a > b ? a : b; }\nstatic inline int64_t affc_floord(int64_t a, int64_t b) { return a / b - (a % b < 0); }\nstatic inline int64_t affc_ceild(int64_t a, int64_t b) { return a / b + (a % b > 0); }\nstatic inline int64_t affc_mod(int64_t a, int64_t b) { return a % b + (a % b < 0 ? b : 0); }\nvoid f(uint64_t out[1]) {\nout[";
     const ONE: &str = "#include <stdint.h>\nvoid f(uint64_t out[1]) {\nout[0] = 1ULL";
     const COMPLEMENT: &str = "#include <stdint.h>\nvoid f(uint64_t out[1]) {\nout[0] = ~1ULL";
     let rows = [
@@ -43,6 +46,42 @@ fn counts_are_reached_and_passed(rt: HostRuntime) -> Result<(), Fail> {
             63,
             [SUBSCRIPT, "(", "0", ")", "] = 1ULL; }"],
             "affc: source at 112: limit depth\n",
+        ),
+        (
+            254,
+            [WIDE_SUBSCRIPT, "(", "0", ")", "] = 1ULL; }"],
+            "affc: source at 20: printed\n",
+        ),
+        (
+            255,
+            [WIDE_SUBSCRIPT, "(", "0", ")", "] = 1ULL; }"],
+            "affc: source at 730: limit depth\n",
+        ),
+        (
+            1048576,
+            ["", " ", "", "", ""],
+            "affc: source at 1048576: syntax\n",
+        ),
+        (
+            1048577,
+            ["", " ", "", "", ""],
+            "affc: source at 1048576: limit size\n",
+        ),
+        (64, [BODY, "out[0] = 1ULL;\n", "", "", "}"], READS),
+        (
+            65,
+            [BODY, "out[0] = 1ULL;\n", "", "", "}"],
+            "affc: source at 1006: limit statements\n",
+        ),
+        (
+            31,
+            [CONDITION, " && 0 < 1", ") out[0] = 1ULL; }", "", ""],
+            READS,
+        ),
+        (
+            32,
+            [CONDITION, " && 0 < 1", ") out[0] = 1ULL; }", "", ""],
+            "affc: source at 345: limit comparisons\n",
         ),
         (4, [TEMPORARY, "[1]", "; out[0] = 1ULL; }", "", ""], READS),
         (
@@ -132,6 +171,11 @@ fn names_and_limits_are_told_at_their_bytes(rt: HostRuntime) -> Result<(), Fail>
             "affc: source at 162: name unknown\n",
         ),
         ("in[i] = in[k];", "affc: source at 138: name const\n"),
+        ("while[0] = 1ULL;", "affc: source at 138: name unknown\n"),
+        (
+            "for (int64_t while = 0; while < N; while++) out[0] = 1ULL;",
+            "affc: source at 151: name reserved\n",
+        ),
         (
             "{ for (int64_t j = 0; j < N; j++) out[j] = 1ULL; out[j] = 1ULL; }",
             "affc: source at 191: name unknown\n",
