@@ -1,7 +1,8 @@
 -- What is printed of a copy loop that was read compiles what was read.
-use Rattle.std.proofs.Common.{◌≡◌, ◌≤◌, ◌+◌, ◌-◌, ◌^◌, ◌&&◌, ℕ, Bool, true, false, not, nat_le, nat_lt, List, [], ◌∷◌, ◌++◌, length, Option, Some, None, Ok, ℤ, pos, nat_abs, int_le, refl, sym, ap, subst, ◌∙◌, arith, if◌then◌else◌}
-use Rattle.std.proofs.lemmas.Bool.{and_parts, false≢true, leb-true, le-leb, le-ltb}
-use Rattle.std.specs.List.{list_all}
+use Rattle.std.proofs.Common.{◌≡◌, ◌≤◌, ◌+◌, ◌-◌, ◌^◌, ◌&&◌, ◌||◌, ℕ, Bool, true, false, not, nat_le, nat_lt, List, [], ◌∷◌, ◌++◌, length, Option, Some, None, Ok, ℤ, pos, nat_abs, int_le, refl, sym, ap, subst, ◌∙◌, arith, if◌then◌else◌}
+use Rattle.std.proofs.lemmas.Bool.{and_parts, false≢true, leb-true, le-leb, le-ltb, or_left, or_right}
+use Rattle.std.proofs.lemmas.List.Folds.{list_any-append}
+use Rattle.std.specs.List.{list_all, list_any}
 use Rattle.std.specs.Fmt.{digits}
 use denote.Hole.Carrier.{hidden}
 use Rattle.affc_lex.specs.Bytes.{same}
@@ -17,12 +18,12 @@ use Rattle.affc_ast.specs.declared.tree.Param.TheVariants.{Number, Array}
 use Rattle.affc_ast.specs.declared.tree.Program.{Program}
 use Rattle.affc_grammar.specs.declared.fault.LimitName.{LimitName}
 use Rattle.affc_grammar.specs.declared.fault.LimitName.TheVariants.{Range}
-use Rattle.affc_grammar.specs.Grammar.{Name, Symbol, text_symbols}
+use Rattle.affc_grammar.specs.Grammar.{Name, Symbol, Text, include_symbols, pragmas_symbols, prelude_symbols, function_symbols, text_symbols}
 use Rattle.affc_grammar.specs.Draft.{ParamDraft, number_param, array_param, PragmaDraft, range, context, text_draft, int_value}
 use Rattle.affc_grammar.specs.Names.{Scope, number_tree, range_of, why_declared, decl_tree, param_tree, params_tree, with_param, program_tree}
 use Rattle.affc_grammar.specs.Limits.{wide_limits, limits_of, Passed, passed_at, at_if, passed, shape_passed, tokens_past, count_token, count_run, count_open, count_item, is_separator, is_opening, is_closing, is_item, is_range, ranges_past, products_of_names}
 use Rattle.affc_grammar.specs.Printed.{printed, int_text}
-use Rattle.affc_grammar.specs.Reads.{symbols, has_prelude, can_have, WellNamed, Reads, ReadsWide}
+use Rattle.affc_grammar.specs.Reads.{symbols, is_prelude, has_prelude, can_have, WellNamed, Reads, ReadsWide}
 use Rattle.affc_grammar.specs.Verdict.{computing}
 use Rattle.affc_cprint.specs.Layout.{printed_text}
 use Rattle.affc_cprint.proofs.Sees.{ok_of, both_ok, allowed_ok}
@@ -33,7 +34,8 @@ use Rattle.std.specs.Prelude.{option_map}
 use Rattle.std.proofs.lemmas.Option.{slice_get-map}
 use Rattle.affc_lex.specs.declared.token.Token.{Token}
 use Rattle.affc_lex.specs.Lexes.{Lexes, lexeme, lexemes}
-use Rattle.affc_cli.specs.Fold.{IsFirstForm, FoldsTo, HasPrelude, IsPrinted}
+use Rattle.affc_lex.proofs.Exact.{one_list}
+use Rattle.affc_cli.specs.Fold.{IsFirstForm, FoldsTo, ReadsPrinted, HasPrelude, IsPrinted, holds_prelude}
 
 -- ---- What a text that reads keeps
 
@@ -222,11 +224,42 @@ folded source text tree r form is reads law =
 
 -- ---- The prelude's token
 
-pub printed_at : (source : List ℕ) (tokens : List Token) (place : ℕ) → Lexes source (lexemes source tokens) → HasPrelude tokens place → (tree : Program) → Reads source tree → tree.prelude ≡ true → IsPrinted source place
-printed_at source tokens place lexes has tree reads on = record {
-  tree = tree;
-  reads = reads;
-  with_prelude = on;
+any_left : {X : Type 0} (p : X → Bool) (xs ys : List X) → list_any p xs ≡ true → list_any p (xs ++ ys) ≡ true
+any_left p xs ys h = list_any-append p xs ys ∙ or_left (list_any p xs) (list_any p ys) h
+
+any_right : {X : Type 0} (p : X → Bool) (xs ys : List X) → list_any p ys ≡ true → list_any p (xs ++ ys) ≡ true
+any_right p xs ys h = list_any-append p xs ys ∙ or_right (list_any p xs) (list_any p ys) h
+
+-- a text of the grammar with the prelude has the prelude's token
+text_has : (t : Text) → t.has_prelude ≡ true → has_prelude (text_symbols t) ≡ true
+text_has t on =
+    let p : Symbol → Bool = λ s. is_prelude s.kind in
+    let here : list_any p (prelude_symbols t.has_prelude) ≡ true = ap (λ b. list_any p (prelude_symbols b)) on in
+    any_right p (include_symbols t.line) _
+    (any_right p (pragmas_symbols t.pragmas) _ (any_left p (prelude_symbols t.has_prelude) (function_symbols t.function) here))
+
+same_kinds : (source : List ℕ) (tokens : List Token) → holds_prelude tokens ≡ has_prelude (symbols (lexemes source tokens))
+same_kinds source [] = refl
+same_kinds source (t ∷ ts) = ap (λ b. is_prelude t.kind || b) (same_kinds source ts)
+
+-- so the tokens of a text that reads as a program with the prelude hold it
+pub tokens_hold : (source : List ℕ) (tokens : List Token) → Lexes source (lexemes source tokens) → ReadsPrinted source → holds_prelude tokens ≡ true
+tokens_hold source tokens lexes printed =
+    let r = printed.reads in
+    let t = r.derives.written in
+    let d = text_draft t in
+    let limits = limits_of (has_prelude (symbols r.tokens)) in
+    let k = keeps_all (program_tree d) (products_of_names d) (passed limits d) printed.tree r.derives.its_tree in
+    let parts = program_parts d printed.tree k.its_tree in
+    let on : t.has_prelude ≡ true = sym parts.prelude ∙ printed.with_prelude in
+    let same : symbols (lexemes source tokens) ≡ text_symbols t = ap symbols (one_list source (lexemes source tokens) r.tokens lexes r.lexes) ∙ r.derives.spelled in
+    same_kinds source tokens ∙ ap has_prelude same ∙ text_has t on
+
+pub printed_at : (source : List ℕ) (tokens : List Token) (place : ℕ) → Lexes source (lexemes source tokens) → HasPrelude tokens place → ReadsPrinted source → IsPrinted source place
+printed_at source tokens place lexes has printed = record {
+  tree = printed.tree;
+  reads = printed.reads;
+  with_prelude = printed.with_prelude;
   tokens = lexemes source tokens;
   lexes = lexes;
   number = has.number;

@@ -1,5 +1,6 @@
 -- What `fold` makes of a source, and what is wrong with others.
-use Rattle.std.specs.Prelude.{◌≡◌, ℕ, ◌≤◌, true, false, List, Some, Err, slice_get}
+use Rattle.std.specs.Prelude.{◌≡◌, ℕ, ◌≤◌, Bool, true, false, List, Some, Err, slice_get}
+use Rattle.std.specs.List.{list_any}
 use Rattle.affc_lex.specs.declared.token.Kind.TheVariants.{Prelude}
 use Rattle.affc_lex.specs.declared.token.Token.{Token}
 use Rattle.affc_lex.specs.Lexes.{Lexeme, Lexes}
@@ -7,7 +8,7 @@ use Rattle.affc_ast.specs.Compiles.{CompilesText}
 use Rattle.affc_ast.specs.CopyLoop.{CopyLoop, copy_tree}
 use Rattle.affc_ast.specs.Follows.{in_source_order, own_place}
 use Rattle.affc_ast.specs.declared.tree.Program.{Program}
-use Rattle.affc_grammar.specs.Reads.{Reads, ReadsWide}
+use Rattle.affc_grammar.specs.Reads.{Reads, ReadsWide, is_prelude}
 use Rattle.affc_parse.specs.Answers.{Answers}
 use Rattle.affc_parse.specs.declared.fault.ParseFault.TheVariants.{BadByte, OpenComment, LongNumber, Syntax, Name, NotAffine, Limit}
 use Rattle.affc_cprint.specs.Layout.{printed_text}
@@ -33,6 +34,12 @@ pub record IsUnbuilt (source : List ℕ) : Type 0 where
   pub plain : tree.prelude ≡ false
   pub other : IsFirstForm tree → ⊥
 
+-- the source reads as a program with the prelude
+pub record ReadsPrinted (source : List ℕ) : Type 0 where
+  pub tree : Program
+  pub reads : Reads source tree
+  pub with_prelude : tree.prelude ≡ true
+
 -- the source reads as a program with the prelude, as printed texts may, and the prelude stands at the place
 pub record IsPrinted (source : List ℕ) (place : ℕ) : Type 0 where
   pub tree : Program
@@ -45,6 +52,10 @@ pub record IsPrinted (source : List ℕ) (place : ℕ) : Type 0 where
   pub is_in : slice_get tokens number ≡ Some token
   pub kind : token.kind ≡ Prelude
   pub its_place : place ≡ token.start
+
+-- whether one of these tokens is the prelude
+abbrev pub holds_prelude : List Token → Bool
+holds_prelude tokens = list_any (λ t. is_prelude t.kind) tokens
 
 -- the prelude stands at the place, among these tokens
 pub record HasPrelude (tokens : List Token) (place : ℕ) : Type 0 where

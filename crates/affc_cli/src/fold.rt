@@ -1,8 +1,6 @@
 // One source, compiled.
-ghost use Rattle.std.specs.Prelude.{◌≡◌, true, IfOk, IfErr, IfSome};
-ghost use Rattle.affc_ast.specs.declared.tree.Program.{Program};
-ghost use Rattle.affc_grammar.specs.Reads.{Reads};
-ghost use Rattle.affc_cli.specs.Fold.{FoldsTo, HasPrelude};
+ghost use Rattle.std.specs.Prelude.{IsTrue, IfOk, IfErr};
+ghost use Rattle.affc_cli.specs.Fold.{FoldsTo, HasPrelude, ReadsPrinted, holds_prelude};
 ghost use Rattle.affc_cli.specs.Refusal.{TextCause};
 
 use crate::form::is_first_form;
@@ -14,32 +12,30 @@ use affc_lex::lex;
 use affc_lex::token::{Kind, Token};
 use std::alloc::Global;
 
-// The place of the prelude among the tokens.
-fn prelude_of(tokens: &[Token]) -> Option<usize>
-    ensures { IfSome result (λ place. HasPrelude tokens.now place) }
+// The place of the prelude, which is one of the tokens.
+fn prelude_of(tokens: &[Token]) -> usize
+    requires { IsTrue (holds_prelude tokens.now) }
+    ensures { HasPrelude tokens.now result }
 {
     for token in tokens {
         if token.kind == Kind::Prelude {
-            return Some(token.start);
+            return token.start;
         }
     }
-    None
+    unreachable!()
 }
 
-// The refusal of a text that reads as a program with the prelude. Such a text has the prelude's token, so that only
-// want of memory keeps its place from being found.
+// The refusal of a text that reads as a program with the prelude, at the prelude's token.
 fn printed(alloc: Global, source: &[u8]) -> Refusal
-    ensures { (tree : Program) → Reads source.now tree → tree.prelude ≡ true → TextCause source.now result }
+    requires { ReadsPrinted source.now }
+    ensures { TextCause source.now result }
 {
-    let Ok(tokens) = lex(alloc, source) else {
-        return Refusal::Memory;
-    };
-    match prelude_of(&tokens) {
-        Some(place) => Refusal::Source {
-            place,
+    match lex(alloc, source) {
+        Ok(tokens) => Refusal::Source {
+            place: prelude_of(&tokens),
             why: Why::Printed,
         },
-        None => Refusal::Memory,
+        Err(_) => Refusal::Memory,
     }
 }
 

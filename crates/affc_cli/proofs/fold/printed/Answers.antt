@@ -1,9 +1,12 @@
-use Rattle.std.proofs.Common.{subst}
-use Rattle.affc_cli.specs.Fold.{HasPrelude}
-use Rattle.affc_cli.proofs.Folded.{printed_at}
+use Rattle.std.proofs.Common.{ap, subst, ◌∙◌}
+use Rattle.affc_cli.specs.Fold.{HasPrelude, holds_prelude}
+use Rattle.affc_cli.proofs.Folded.{tokens_hold, printed_at}
 use Rattle.affc_cli.proofs.fold.printed.Goals as goal
 
-pub returns-in-Some : goal.returns-in-Some
-returns-in-Some c =
-    let has : HasPrelude c.in-Ok.tokens.items c.in-Some.place = subst (λ l. HasPrelude l c.in-Some.place) c.deref.ensures.value c.in-Some.ensures in
-    printed_at c.args.source.now c.in-Ok.tokens.items c.in-Some.place c.in-Ok.ensures.tokens has
+pub prelude_of-requires : goal.prelude_of-requires
+prelude_of-requires c = ap holds_prelude c.deref.ensures.value ∙ tokens_hold c.args.source.now c.in-Ok.tokens.items c.in-Ok.ensures.tokens c.requires
+
+pub returns-in-Ok : goal.returns-in-Ok
+returns-in-Ok c =
+    let has : HasPrelude c.in-Ok.tokens.items c.prelude_of.result = subst (λ l. HasPrelude l c.prelude_of.result) c.deref.ensures.value c.prelude_of.ensures in
+    printed_at c.args.source.now c.in-Ok.tokens.items c.prelude_of.result c.in-Ok.ensures.tokens has c.requires
