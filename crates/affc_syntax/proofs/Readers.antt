@@ -1,6 +1,6 @@
 -- Loops of readers of drafts, and that a reader leaves no more tokens than it was given: for any readers.
-use Rattle.std.proofs.Common.{◌≡◌, ℕ, zero, suc, ◌+◌, ◌-◌, ◌≤◌, ◌<◌, List, [], ◌∷◌, length, get_or, drop, map, Option, Some, None, Ok, Err, refl, sym, ap, ◌∙◌, arith, length-drop, drop-cons, add-one}
-use Rattle.std.proofs.lemmas.List.{length-map, drop-map, map-append}
+use Rattle.std.proofs.Common.{◌≡◌, ℕ, zero, suc, ◌+◌, ◌-◌, ◌≤◌, ◌<◌, min, List, [], ◌∷◌, length, get_or, drop, map, Option, Some, None, Result, Ok, Err, refl, sym, ap, subst, ◌∙◌, arith, length-drop, drop-cons, add-one}
+use Rattle.std.proofs.lemmas.List.{length-map, drop-map, drop_min, map-append}
 use Rattle.affc_grammar.specs.Grammar.{Symbol}
 use Rattle.affc_grammar.specs.Reader.{Stop, At, Deep, Read, Reader, then_read}
 use Rattle.affc_grammar.specs.Reading.{this_mark}
@@ -10,7 +10,7 @@ use Rattle.affc_syntax.specs.declared.ahead.Stop.TheVariants as s
 use Rattle.affc_draft.specs.declared.symbol.Symbol as code
 use Rattle.affc_draft.specs.Symbols.{seen}
 use Rattle.affc_syntax.specs.Ahead.{past, with_rest}
-use Rattle.affc_syntax.specs.Readers.{on_past, closed, Fails, more, all_more}
+use Rattle.affc_syntax.specs.Readers.{on_past, closed, Fails, Gives, counted, more, all_more}
 
 pub ruleset lengths = (length-map)
 
@@ -140,3 +140,16 @@ less_left symbols n b r p q =
     let m = length-drop n (map seen symbols) in
     let k = length-drop r (map seen symbols) in
     omega (arith, p, q, all, m, k)
+
+-- a number behind the last symbol leaves as little as that of the end
+pub same_left : (symbols : List code.Symbol) (n : ℕ) → drop n (map seen symbols) ≡ drop (min n (length symbols)) (map seen symbols)
+same_left symbols n = sym (ap (λ l. drop (min n l) (map seen symbols)) (sym (length-map symbols seen)) ∙ drop_min n (map seen symbols))
+
+pub gives_counted : {T D : Type 0} (symbols : List code.Symbol) (see : T → D) (r : Result (T × ℕ) stop.Stop) (read : Read Symbol D) → Gives (map seen symbols) see r read → Gives (map seen symbols) see (counted (length symbols) r) read
+gives_counted symbols see (Ok r) read e = e ∙ ap (λ l. Ok (see r.0, l)) (same_left symbols r.1)
+gives_counted symbols see (Err (s.At n)) read e = e ∙ ap (λ l. Err (At l)) (same_left symbols n)
+gives_counted symbols see (Err s.Deep) read e = e
+gives_counted symbols see (Err s.Memory) read e = e
+
+pub counted_gives : {T D : Type 0} (symbols : List code.Symbol) (see : T → D) (r q : Result (T × ℕ) stop.Stop) (read : Read Symbol D) → q ≡ counted (length symbols) r → Gives (map seen symbols) see r read → Gives (map seen symbols) see q read
+counted_gives symbols see r q read e g = subst (λ x. Gives (map seen symbols) see x read) (sym e) (gives_counted symbols see r read g)

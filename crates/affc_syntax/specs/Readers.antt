@@ -1,5 +1,5 @@
 -- Readers of drafts, from a list of tokens; `Gives` is what a function of the code answers where such a reader says what is read.
-use Rattle.std.specs.Prelude.{◌≡◌, ℕ, zero, suc, List, length, drop, Option, Some, None, Result, Ok, Err}
+use Rattle.std.specs.Prelude.{◌≡◌, ◌≤◌, ℕ, zero, suc, List, length, drop, min, Option, Some, None, Result, Ok, Err}
 use Rattle.affc_grammar.specs.Grammar.{Symbol}
 use Rattle.affc_grammar.specs.Reader.{At, Deep, Read, Reader, then_read}
 use Rattle.affc_grammar.specs.Reading.{this_mark}
@@ -32,6 +32,20 @@ Fails ss (s.At next) read = read ≡ Err (At (drop next ss))
 abbrev pub Gives : {T D : Type 0} → List Symbol → (T → D) → Result (T × ℕ) stop.Stop → Read Symbol D → Type 0
 Gives ss see (Ok r) read = read ≡ Ok (see r.0, drop r.1 ss)
 Gives ss see (Err f) read = Fails ss f read
+
+-- the number behind what was read, or that of the fault, is at most the number behind the last symbol
+abbrev pub IsWithin : {S T : Type 0} → List S → Result (T × ℕ) stop.Stop → Type 0
+IsWithin ss (Ok r) = r.1 ≤ length ss
+IsWithin ss (Err (s.At n)) = n ≤ length ss
+IsWithin ss (Err s.Deep) = Unit {0}
+IsWithin ss (Err s.Memory) = Unit {0}
+
+-- with each number behind the last symbol as that of its end
+abbrev pub counted : {T : Type 0} → (end : ℕ) → Result (T × ℕ) stop.Stop → Result (T × ℕ) stop.Stop
+counted end (Ok r) = Ok (r.0, min r.1 end)
+counted end (Err (s.At n)) = Err (s.At (min n end))
+counted end (Err s.Deep) = Err s.Deep
+counted end (Err s.Memory) = Err s.Memory
 
 -- ---- Again and again
 

@@ -7,6 +7,7 @@ ghost use Rattle.affc_grammar.specs.Reading as tests;
 ghost use Rattle.affc_draft.specs.Symbols.{seen};
 ghost use Rattle.affc_syntax.specs.Ahead as ahead;
 ghost use Rattle.affc_syntax.specs.Callees as callees;
+ghost use Rattle.affc_syntax.specs.Readers as readers;
 ghost use Rattle.affc_syntax.specs.ValueTests as values;
 ghost use Rattle.affc_syntax.specs.declared.ahead.Stop.TheVariants as stop;
 ghost use Rattle.std.specs.Option.{option_map};
@@ -403,5 +404,17 @@ pub fn behind(mark: &[u8], symbols: &[Symbol<'_>], at: usize) -> Result<usize, S
     match past_mark(mark, symbols, at) {
         Some(next) => Ok(next),
         None => Err(Stop::At(at)),
+    }
+}
+
+/// The same, with a number behind the last token as that of the end.
+pub(crate) fn counted<T: Drop>(symbols: &[Symbol<'_>], answer: Answer<T>) -> Answer<T>
+    ensures { result ≡ readers.counted (length symbols.now) answer }
+{
+    match answer {
+        Ok((read, next)) => Ok((read, next.min(symbols.len()))),
+        Err(Stop::At(next)) => Err(Stop::At(next.min(symbols.len()))),
+        Err(Stop::Deep) => Err(Stop::Deep),
+        Err(Stop::Memory) => Err(Stop::Memory),
     }
 }

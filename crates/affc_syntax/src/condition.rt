@@ -11,7 +11,7 @@ ghost use Rattle.affc_syntax.specs.IxReading.{inside as ix_inside};
 ghost use Rattle.affc_syntax.specs.Readers as readers;
 ghost use Rattle.affc_syntax.specs.Readers.{Gives};
 
-use crate::ahead::{Answer, Stop, behind, past_mark, past_relation};
+use crate::ahead::{Answer, Stop, behind, counted, past_mark, past_relation};
 use crate::expression::{expression, factors, grouped, number_of_first, terms};
 use affc_ast::Items;
 use affc_ast::tree::Rel;
@@ -248,7 +248,9 @@ pub fn read_conds(
     next: usize,
 ) -> Answer<Items<CompareDraft>>
     requires { next ≤ length symbols.now }
-    ensures { Gives (map seen symbols.now) (map compare) result (readers.mapped (d.conds_draft next) (grammar.read_conds prelude room (drop next (map seen symbols.now)))) }
+    ensures read { Gives (map seen symbols.now) (map compare) result (readers.mapped (d.conds_draft next) (grammar.read_conds prelude room (drop next (map seen symbols.now)))) }
+    ensures within { readers.IsWithin symbols.now result }
 {
-    conditions(alloc, prelude, room, symbols, next)
+    let answer = conditions(alloc, prelude, room, symbols, next);
+    counted(symbols, answer)
 }

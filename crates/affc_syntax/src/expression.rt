@@ -12,8 +12,8 @@ ghost use Rattle.affc_syntax.specs.Readers.{Gives};
 ghost use Rattle.affc_syntax.specs.Callees as callees;
 
 use crate::ahead::{
-    Answer, Callee, Stop, behind, callee_of, past_divisor, past_mark, past_number, past_sign,
-    past_word,
+    Answer, Callee, Stop, behind, callee_of, counted, past_divisor, past_mark, past_number,
+    past_sign, past_word,
 };
 use affc_ast::text::Text;
 use affc_ast::{Boxed, Items};
@@ -447,9 +447,11 @@ pub fn read_expression(
     next: usize,
 ) -> Answer<IxDraft>
     requires { next ≤ length symbols.now }
-    ensures { Gives (map seen symbols.now) ix result (readers.mapped (d.ix_draft next) (grammar.read_ix prelude room (drop next (map seen symbols.now)))) }
+    ensures read { Gives (map seen symbols.now) ix result (readers.mapped (d.ix_draft next) (grammar.read_ix prelude room (drop next (map seen symbols.now)))) }
+    ensures within { readers.IsWithin symbols.now result }
 {
-    expression(alloc, prelude, room, symbols, next)
+    let answer = expression(alloc, prelude, room, symbols, next);
+    counted(symbols, answer)
 }
 
 /// The expression that stands at the token of this number, behind a bracket that was opened where `room` could be, and the number behind it.
@@ -461,9 +463,11 @@ pub fn read_inside(
     next: usize,
 ) -> Answer<IxDraft>
     requires { next ≤ length symbols.now }
-    ensures { Gives (map seen symbols.now) ix result (readers.mapped (d.ix_draft next) (grammar.ix_inside prelude room (drop next (map seen symbols.now)))) }
+    ensures read { Gives (map seen symbols.now) ix result (readers.mapped (d.ix_draft next) (grammar.ix_inside prelude room (drop next (map seen symbols.now)))) }
+    ensures within { readers.IsWithin symbols.now result }
 {
-    inside(alloc, prelude, room, symbols, next)
+    let answer = inside(alloc, prelude, room, symbols, next);
+    counted(symbols, answer)
 }
 
 /// The dimensions that stand at the token of this number, and the number behind them.
@@ -475,7 +479,9 @@ pub fn read_dims(
     next: usize,
 ) -> Answer<Items<IxDraft>>
     requires { next ≤ length symbols.now }
-    ensures { Gives (map seen symbols.now) (map ix) result (readers.mapped (d.dims_draft next) (grammar.read_dims prelude room (drop next (map seen symbols.now)))) }
+    ensures read { Gives (map seen symbols.now) (map ix) result (readers.mapped (d.dims_draft next) (grammar.read_dims prelude room (drop next (map seen symbols.now)))) }
+    ensures within { readers.IsWithin symbols.now result }
 {
-    dims(alloc, prelude, room, symbols, next)
+    let answer = dims(alloc, prelude, room, symbols, next);
+    counted(symbols, answer)
 }

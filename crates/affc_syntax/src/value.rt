@@ -11,8 +11,8 @@ ghost use Rattle.affc_syntax.specs.ValueReading as reading;
 ghost use Rattle.affc_syntax.specs.ValueReading.{value_inside as inner};
 
 use crate::ahead::{
-    Answer, Stop, behind, past_constant, past_mark, past_operation, past_places, past_shift,
-    past_word,
+    Answer, Stop, behind, counted, past_constant, past_mark, past_operation, past_places,
+    past_shift, past_word,
 };
 use crate::expression::{dims, inside, number_of_first};
 use affc_ast::Boxed;
@@ -322,7 +322,9 @@ pub fn read_value(
     next: usize,
 ) -> Answer<ValueDraft>
     requires { next ≤ length symbols.now }
-    ensures { Gives (map seen symbols.now) value result (readers.mapped (d.value_draft next) (grammar.read_value prelude room (drop next (map seen symbols.now)))) }
+    ensures read { Gives (map seen symbols.now) value result (readers.mapped (d.value_draft next) (grammar.read_value prelude room (drop next (map seen symbols.now)))) }
+    ensures within { readers.IsWithin symbols.now result }
 {
-    whole_value(alloc, prelude, room, symbols, next)
+    let answer = whole_value(alloc, prelude, room, symbols, next);
+    counted(symbols, answer)
 }

@@ -3,7 +3,10 @@ use Rattle.affc_draft.specs.Symbols.{seen}
 use Rattle.affc_draft.specs.Drafts.{compare}
 use Rattle.affc_syntax.specs.Readers.{Gives}
 use Rattle.affc_syntax.proofs.CondExact.{conds_exact}
+use Rattle.affc_syntax.proofs.Readers.{counted_gives}
 use Rattle.affc_syntax.proofs.condition.read_conds.Goals as goal
 
-pub returns : goal.returns
-returns c = subst (Gives (map seen c.args.symbols.now) (map compare) c.conditions.result) (conds_exact c.args.prelude c.args.room c.args.symbols.now c.args.next c.requires) c.conditions.ensures
+pub returns-clause-read : goal.returns-clause-read
+returns-clause-read c =
+    counted_gives c.args.symbols.now (map compare) c.conditions-answer.result c.counted.result _ c.counted.ensures
+    (subst (Gives (map seen c.args.symbols.now) (map compare) c.conditions-answer.result) (conds_exact c.args.prelude c.args.room c.args.symbols.now c.args.next c.requires) c.conditions-answer.ensures)

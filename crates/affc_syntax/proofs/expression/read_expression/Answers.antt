@@ -3,7 +3,10 @@ use Rattle.affc_draft.specs.Symbols.{seen}
 use Rattle.affc_draft.specs.Drafts.{ix}
 use Rattle.affc_syntax.specs.Readers.{Gives}
 use Rattle.affc_syntax.proofs.IxExact.{expression_exact}
+use Rattle.affc_syntax.proofs.Readers.{counted_gives}
 use Rattle.affc_syntax.proofs.expression.read_expression.Goals as goal
 
-pub returns : goal.returns
-returns c = subst (Gives (map seen c.args.symbols.now) ix c.expression.result) (expression_exact c.args.prelude c.args.room c.args.symbols.now c.args.next c.requires) c.expression.ensures
+pub returns-clause-read : goal.returns-clause-read
+returns-clause-read c =
+    counted_gives c.args.symbols.now ix c.expression-answer.result c.counted.result _ c.counted.ensures
+    (subst (Gives (map seen c.args.symbols.now) ix c.expression-answer.result) (expression_exact c.args.prelude c.args.room c.args.symbols.now c.args.next c.requires) c.expression-answer.ensures)
