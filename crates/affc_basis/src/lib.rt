@@ -5,8 +5,6 @@ pub mod basis;
 pub mod examples;
 pub mod fold;
 pub mod laws;
-#[cfg(test)]
-mod tests;
 mod wide;
 
 pub use basis::{Basis, NotInverse};

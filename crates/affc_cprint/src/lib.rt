@@ -11,8 +11,6 @@ mod index;
 pub mod laws;
 mod program;
 mod stmt;
-#[cfg(test)]
-mod tests;
 mod value;
 
 use affc_ast::tree::Program;

@@ -14,6 +14,4 @@ pub mod lines;
 mod machine;
 mod memory;
 pub mod run;
-#[cfg(test)]
-mod tests;
 mod value;

@@ -11,7 +11,5 @@ mod parts;
 mod rests;
 pub mod shape;
 mod terms;
-#[cfg(test)]
-mod tests;
 pub mod texts;
 mod whole;

@@ -6,13 +6,21 @@
 #[cfg(test)]
 mod ast;
 #[cfg(test)]
+mod basis;
+#[cfg(test)]
+mod cprint;
+#[cfg(test)]
 mod farkas;
 #[cfg(test)]
 mod forms;
 #[cfg(test)]
+mod interp;
+#[cfg(test)]
 mod io;
 #[cfg(test)]
 mod lex;
+#[cfg(test)]
+mod limits;
 #[cfg(test)]
 mod rows;
 #[cfg(test)]
@@ -23,3 +31,5 @@ mod syntax;
 mod system;
 #[cfg(test)]
 mod text;
+#[cfg(test)]
+mod wellnamed;

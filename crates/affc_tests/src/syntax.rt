@@ -48,8 +48,8 @@ fn conditions_join_one_list(rt: HostRuntime) {
 /// The loosest operator of the value that stands there, and the number of the token behind it.
 fn loosest(alloc: Global, symbols: &[Symbol<'_>]) -> Result<(Option<Op>, usize), Stop> {
     let (v, next) = read_value(alloc, false, 2, symbols, 0)?;
-    match v {
-        ValueDraft::Binary { op, .. } => Ok((Some(op), next)),
+    match &v {
+        ValueDraft::Binary { op, .. } => Ok((Some(*op), next)),
         _ => Ok((None, next)),
     }
 }
@@ -82,11 +82,11 @@ fn a_type_in_brackets_begins_a_cast(rt: HostRuntime) -> Result<(), Fail> {
     let (open, close, i) = (mark("("), mark(")"), word("i"));
     let cast = [open, word("uint64_t"), close, open, i, close];
     let (v, next) = read_value(rt.alloc(), false, 1, &cast, 0)?;
-    assert!(rt; matches!(v, ValueDraft::Cast(_)));
+    assert!(rt; matches!(&v, ValueDraft::Cast(_)));
     assert_eq!(rt; next, 6);
     let twice = [open, open, word("uint64_t"), close, close, open, i, close];
     let (v, next) = read_value(rt.alloc(), false, 2, &twice, 0)?;
-    assert!(rt; matches!(v, ValueDraft::Load { .. }));
+    assert!(rt; matches!(&v, ValueDraft::Load { .. }));
     assert_eq!(rt; next, 5);
     Ok(())
 }

@@ -9,8 +9,6 @@ mod known;
 mod plain;
 mod shape;
 mod sight;
-#[cfg(test)]
-mod tests;
 mod work;
 
 use affc_ast::tree::Program;

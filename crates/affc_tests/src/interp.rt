@@ -1,11 +1,11 @@
-// What no clause says: which texts are data, by examples from outside, and that the calls succeed.
-use crate::counted::is_counted;
-use crate::feed::{FeedFault, read_feed};
-use crate::lines::lines;
-use crate::run::run;
+//! What no clause says: which texts are data, by examples from outside, and that the calls succeed.
 use affc_ast::Items;
 use affc_ast::text::Text;
 use affc_ast::tree::{Decl, Ix, NameId, Param, Program, Role};
+use affc_interp::counted::is_counted;
+use affc_interp::feed::{FeedFault, read_feed};
+use affc_interp::lines::lines;
+use affc_interp::run::run;
 use std::alloc::{AllocError, Global};
 use std::test::Fail;
 

@@ -3,8 +3,8 @@ ghost use Rattle.std.specs.Prelude.{◌≡◌, ◌∷◌, [], IfOk, length, pos}
 ghost use Rattle.affc_rows.specs.Forms.{HaveColumns};
 ghost use Rattle.affc_basis.specs.Bases.{AreWithin, HaveCoefsWithin};
 
-use crate::basis::{NotInverse, given};
-use crate::fold::{Fold, Mark, Modulus};
+use affc_basis::basis::given;
+use affc_basis::{Fold, Mark, Modulus, NotInverse};
 use affc_rows::Form;
 use smallvec::SmallVec;
 use sqlite_items::Items;

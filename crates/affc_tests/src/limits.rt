@@ -1,18 +1,19 @@
-// What no clause says: that the calls succeed with ample memory, for numbers of any size.
-use crate::limits::limit_fault;
-use crate::parts::large_part;
-use crate::texts::first_product;
+//! What no clause says: that the calls succeed with ample memory, for numbers of any size.
 use affc_ast::text::Text;
 use affc_ast::{Boxed, Items};
 use affc_draft::draft::{IxDraft, StmtDraft, TextDraft, ValueDraft, WordDraft};
+use affc_draft::passed::Passed;
+use affc_grammar::fault::LimitName;
+use affc_limits::limits::limit_fault;
+use affc_limits::texts::first_product;
 use std::alloc::{AllocError, Global};
 use std::test::Fail;
 
-/// A product of seventeen numbers, with the value 2^544.
+/// A product of twenty-three literals, with the value 2^552.
 fn huge(alloc: Global, at: usize) -> Result<IxDraft, AllocError> {
-    let value = 4294967296;
+    let value = 16777216;
     let mut product = IxDraft::Literal { at, value };
-    for _ in 0..16 {
+    for _ in 0..22 {
         let left = Boxed::new(alloc, product)?;
         let right = Boxed::new(alloc, IxDraft::Literal { at, value })?;
         product = IxDraft::Product { at, left, right };
@@ -30,14 +31,6 @@ fn cancelled(alloc: Global) -> Result<IxDraft, AllocError> {
     Ok(IxDraft::Sum(five, grouped))
 }
 
-#[test]
-fn only_the_huge_part_is_large(rt: HostRuntime) -> Result<(), Fail> {
-    let alloc = rt.alloc();
-    let expression = cancelled(alloc)?;
-    assert_eq!(rt; large_part(alloc, None, &expression)?, Some(3));
-    Ok(())
-}
-
 /// A text with these statements alone.
 fn text(alloc: Global, has_prelude: bool, body: Items<StmtDraft>) -> Result<TextDraft, AllocError> {
     let name = Text::from_str(alloc, "f")?;
@@ -49,6 +42,32 @@ fn text(alloc: Global, has_prelude: bool, body: Items<StmtDraft>) -> Result<Text
         temps: Items::new(alloc),
         body,
     })
+}
+
+/// A statement with this value.
+fn stored(alloc: Global, value: ValueDraft) -> Result<Items<StmtDraft>, AllocError> {
+    let name = Text::from_str(alloc, "t")?;
+    let mut body = Items::new(alloc);
+    body.push(StmtDraft::Assign {
+        array: WordDraft { at: 5, name },
+        subs: Items::new(alloc),
+        op: None,
+        value,
+    })?;
+    Ok(body)
+}
+
+#[test]
+fn only_the_huge_part_is_large(rt: HostRuntime) -> Result<(), Fail> {
+    let alloc = rt.alloc();
+    let body = stored(alloc, ValueDraft::Cast(cancelled(alloc)?))?;
+    let draft = text(alloc, false, body)?;
+    let fault = Passed {
+        at: 3,
+        which: LimitName::Coefficient,
+    };
+    assert_eq!(rt; limit_fault(alloc, false, &draft)?, Some(fault));
+    Ok(())
 }
 
 #[test]
@@ -85,16 +104,8 @@ fn long_complement(alloc: Global, inside: ValueDraft) -> Result<ValueDraft, Allo
 #[test]
 fn chains_of_the_greatest_length_take_no_stack(rt: HostRuntime) -> Result<(), Fail> {
     let alloc = rt.alloc();
-    let name = Text::from_str(alloc, "t")?;
     let value = long_complement(alloc, ValueDraft::Cast(long_sum(alloc)?))?;
-    let mut body = Items::new(alloc);
-    body.push(StmtDraft::Assign {
-        array: WordDraft { at: 5, name },
-        subs: Items::new(alloc),
-        op: None,
-        value,
-    })?;
-    let draft = text(alloc, true, body)?;
+    let draft = text(alloc, true, stored(alloc, value)?)?;
     assert_eq!(rt; first_product(&draft), None);
     assert_eq!(rt; limit_fault(alloc, true, &draft)?, None);
     Ok(())

@@ -1,8 +1,8 @@
-// What no clause says: programs that are well named, and one for each reason why one isn't.
-use crate::well_named;
+//! What no clause says: programs that are well named, and one for each reason why one isn't.
 use affc_ast::text::Text;
 use affc_ast::tree::{Decl, Ix, NameId, Param, Program, Role};
 use affc_ast::{Boxed, Items};
+use affc_wellnamed::well_named;
 use std::alloc::{AllocError, Global};
 use std::test::Fail;
 

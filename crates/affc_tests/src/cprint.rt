@@ -1,8 +1,8 @@
-// What no clause says: that programs are printed with ample memory.
-use crate::{Memory, print};
+//! What no clause says: that programs are printed with ample memory.
 use affc_ast::Items;
 use affc_ast::text::Text;
 use affc_ast::tree::{Param, Program};
+use affc_cprint::{Memory, print};
 use std::test::Fail;
 
 #[test]
