@@ -1,11 +1,11 @@
 //! What no clause says: which texts are data, by examples from outside, and that the calls succeed.
 use affc_ast::Items;
 use affc_ast::text::Text;
-use affc_ast::tree::{Decl, Ix, NameId, Param, Program, Role};
+use affc_ast::tree::{ArrayId, Decl, Ix, NameId, Op, Param, Program, Rel, Role, Stmt, Val};
 use affc_interp::counted::is_counted;
 use affc_interp::feed::{FeedFault, read_feed};
 use affc_interp::lines::lines;
-use affc_interp::run::run;
+use affc_interp::run::{RunFault, run};
 use std::alloc::{AllocError, Global};
 use std::test::Fail;
 
@@ -101,6 +101,110 @@ fn data_texts(rt: HostRuntime) -> Result<(), Fail> {
     ];
     for (text, want) in rows {
         assert_eq!(rt; wrong_line(rt.alloc(), &program, text), want, "{text}");
+    }
+    Ok(())
+}
+
+#[test]
+fn faults_have_messages(rt: HostRuntime) -> Result<(), Fail> {
+    let text = format!(in rt.alloc(); "{}; {}", FeedFault::Line(3), FeedFault::Memory)?;
+    assert_eq!(rt; text.as_str(), "line 3 of the data is wrong; out of memory");
+    Ok(())
+}
+
+// The iterator of the one loop, as a subscript.
+fn at_i(alloc: Global) -> Result<Items<Ix>, AllocError> {
+    let mut subs = Items::new(alloc);
+    subs.push(Ix::Name(NameId(1)))?;
+    Ok(subs)
+}
+
+// `for (int64_t i = low; i < N; i++) out[i] ^= in[i];`
+fn xored(alloc: Global, low: i64) -> Result<Program, AllocError> {
+    let mut body = Items::new(alloc);
+    body.push(Stmt::Assign {
+        op: Some(Op::Xor),
+        array: ArrayId(1),
+        subs: at_i(alloc)?,
+        value: Val::Load {
+            array: ArrayId(0),
+            subs: at_i(alloc)?,
+        },
+    })?;
+    let mut program = idle(alloc)?;
+    program.body.push(Stmt::For {
+        iter: Text::from_str(alloc, "i")?,
+        low: Ix::Lit(low),
+        rel: Rel::Less,
+        high: Ix::Name(NameId(0)),
+        body,
+    })?;
+    Ok(program)
+}
+
+/// Why a run stops: the first iterator and the access of `OutOfBounds`.
+#[derive(Debug, Clone, Copy, PartialEq, Eq)]
+enum Stopped {
+    OutOfBounds(Option<i64>, u32),
+    Steps,
+    Other,
+}
+
+fn why_of(fault: RunFault) -> Stopped {
+    match fault {
+        RunFault::OutOfBounds { instance, access } => {
+            Stopped::OutOfBounds(instance.iterators.get(0).copied(), access)
+        }
+        RunFault::Steps => Stopped::Steps,
+        _ => Stopped::Other,
+    }
+}
+
+// The lines of a run of `xored` from `low` on at N = 2, with so many steps, or why it stops.
+fn ran(alloc: Global, low: i64, steps: u64) -> Result<Result<Vec<u8>, Stopped>, AllocError> {
+    let program = xored(alloc, low)?;
+    if !is_counted(&program) {
+        return Ok(Err(Stopped::Other));
+    }
+    let data = b"param N 2\narray in 7 8\narray out 1 2\n";
+    let Ok(feed) = read_feed(alloc, data, &program) else {
+        return Ok(Err(Stopped::Other));
+    };
+    match run(alloc, &program, &feed, steps) {
+        Ok(store) => Ok(Ok(lines(alloc, &program, &store)?)),
+        Err(fault) => Ok(Err(why_of(fault))),
+    }
+}
+
+#[test]
+fn runs_end(rt: HostRuntime) -> Result<(), Fail> {
+    let rows = [
+        (0, 4, "array out 6 10\n"),
+        (1, 2, "array out 1 10\n"),
+        (2, 0, "array out 1 2\n"),
+    ];
+    for (low, steps, want) in rows {
+        let Ok(text) = ran(rt.alloc(), low, steps)? else {
+            panic!(rt; "the run from {low} ends");
+        };
+        assert_eq!(rt; text.as_slice(), want.as_bytes(), "from {low}");
+    }
+    Ok(())
+}
+
+#[test]
+fn runs_stop(rt: HostRuntime) -> Result<(), Fail> {
+    let rows = [
+        (0, 3, Stopped::Steps),
+        (-1, 1, Stopped::Steps),
+        // `out[-1]` is loaded before `in[-1]`
+        (-1, 2, Stopped::OutOfBounds(Some(-1), 0)),
+    ];
+    for (low, steps, want) in rows {
+        let Err(why) = ran(rt.alloc(), low, steps)? else {
+            panic!(rt; "the run from {low} stops");
+        };
+        assert_eq!(rt; why, want, "from {low} with {steps}");
     }
     Ok(())
 }
