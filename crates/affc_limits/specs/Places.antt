@@ -31,6 +31,10 @@ place_if false at = None
 abbrev pub products : d.IxDraft → Factors
 products e = record { has_names = holds_names e; first_refused = first (products_in e) }
 
+-- of an expression without operators
+abbrev pub atom : (has_names : Bool) → Factors
+atom b = record { has_names = b; first_refused = None }
+
 -- of two parts
 abbrev pub both_products : Factors → Factors → Factors
 both_products a b = record { has_names = a.has_names || b.has_names; first_refused = first_of a.first_refused b.first_refused }

@@ -38,6 +38,16 @@ pub struct Factors {
     pub first_refused: Option<usize>,
 }
 
+/// Of an expression without operators.
+fn atom(has_names: bool) -> Factors
+    ensures { result ≡ places.atom has_names }
+{
+    Factors {
+        has_names,
+        first_refused: None,
+    }
+}
+
 /// What stands behind an operand: whether it holds names, and the `*` of the first product there both of whose sides do,
 /// where the operand holds names and where it holds none.
 #[derive(Clone, Copy, Drop)]
@@ -99,20 +109,8 @@ pub fn products(e: &IxDraft) -> Factors
     };
     loop {
         match here {
-            IxDraft::Literal { .. } => {
-                let operand = Factors {
-                    has_names: false,
-                    first_refused: None,
-                };
-                return closed(operand, behind);
-            }
-            IxDraft::Name { .. } => {
-                let operand = Factors {
-                    has_names: true,
-                    first_refused: None,
-                };
-                return closed(operand, behind);
-            }
+            IxDraft::Literal { .. } => return closed(atom(false), behind),
+            IxDraft::Name { .. } => return closed(atom(true), behind),
             IxDraft::Negated { of, .. } => here = of.get(),
             IxDraft::Sum(left, right) => {
                 behind = before_part(products(right.get()), behind);
