@@ -11,7 +11,7 @@ pub struct NameId(pub u32);
 pub struct ArrayId(pub u32);
 
 /// A whole-number expression: a bound, a subscript, an extent, a side of a comparison.
-#[derive(Debug, Drop)]
+#[derive(Debug)]
 pub enum Ix {
     Lit(i64),
     Name(NameId),
@@ -29,6 +29,45 @@ pub enum Ix {
     Mod(Boxed<Ix>, Boxed<Ix>),
 }
 
+/// A loop down the left operands, so that a long chain of operators takes no stack.
+impl Drop for Ix {
+    fn drop(mut self) {
+        loop {
+            match self {
+                Ix::Lit(_) => return,
+                Ix::Name(_) => return,
+                Ix::Neg(of) => self = of.into_inner(),
+                Ix::Add(left, right) => {
+                    right.into_inner();
+                    self = left.into_inner();
+                }
+                Ix::Sub(left, right) => {
+                    right.into_inner();
+                    self = left.into_inner();
+                }
+                Ix::Mul(left, right) => {
+                    right.into_inner();
+                    self = left.into_inner();
+                }
+                Ix::Min(left, right) => {
+                    right.into_inner();
+                    self = left.into_inner();
+                }
+                Ix::Max(left, right) => {
+                    right.into_inner();
+                    self = left.into_inner();
+                }
+                Ix::Floord(of, _) => self = of.into_inner(),
+                Ix::Ceild(of, _) => self = of.into_inner(),
+                Ix::Mod(left, right) => {
+                    right.into_inner();
+                    self = left.into_inner();
+                }
+            }
+        }
+    }
+}
+
 /// An operation on two values.
 #[derive(Clone, Copy, PartialEq, Eq, Debug)]
 pub enum Op {
@@ -41,7 +80,7 @@ pub enum Op {
 }
 
 /// A value: a `uint64_t`.
-#[derive(Debug, Drop)]
+#[derive(Debug)]
 pub enum Val {
     Load {
         array: ArrayId,
@@ -62,6 +101,29 @@ pub enum Val {
         value: Boxed<Val>,
         by: u8,
     },
+}
+
+/// A loop down the left operands, so that a long chain of operators takes no stack.
+impl Drop for Val {
+    fn drop(mut self) {
+        loop {
+            match self {
+                Val::Load { array: _, subs: _ } => return,
+                Val::Const(_) => return,
+                Val::Cast(_) => return,
+                Val::Not(of) => self = of.into_inner(),
+                Val::Bin { op: _, left, right } => {
+                    right.into_inner();
+                    self = left.into_inner();
+                }
+                Val::Shift {
+                    left: _,
+                    value,
+                    by: _,
+                } => self = value.into_inner(),
+            }
+        }
+    }
 }
 
 #[derive(Clone, Copy, PartialEq, Eq, Debug)]
