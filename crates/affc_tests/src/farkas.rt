@@ -1,25 +1,12 @@
 //! Proofs and eliminations whose outcome is known from outside.
 ghost use Rattle.std.specs.Prelude.{◌≡◌, IfOk, length};
 
-use crate::forms::form;
+use crate::forms::{form, plane};
 use affc_farkas::{MultiplierFault, Multipliers, Proof, Refutation, check, refute};
 use affc_rows::Form;
 use affc_system::System;
 use std::alloc::{AllocError, Global};
 use std::test::Fail;
-
-/// A system over two columns.
-fn plane(alloc: Global, rows: &[[i128; 3]]) -> Result<System, Fail> {
-    let mut system = System::new(alloc, 2);
-    for row in rows {
-        let [x, y, constant] = *row;
-        let made = form(alloc, &[x, y], constant)?;
-        if system.columns() == 2 {
-            system.push(made)?;
-        }
-    }
-    Ok(system)
-}
 
 fn multipliers(alloc: Global, pairs: &[(u32, u64)]) -> Result<Multipliers, MultiplierFault> {
     let mut by = Multipliers::new(alloc);

@@ -22,7 +22,13 @@ mod lex;
 #[cfg(test)]
 mod limits;
 #[cfg(test)]
+mod names;
+#[cfg(test)]
+mod parse;
+#[cfg(test)]
 mod rows;
+#[cfg(test)]
+mod split;
 #[cfg(test)]
 mod symbols;
 #[cfg(test)]

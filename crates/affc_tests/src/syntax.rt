@@ -10,6 +10,7 @@ use affc_draft::symbol::Symbol;
 use affc_lex::token::Kind;
 use affc_syntax::ahead::Stop;
 use affc_syntax::condition::read_conds;
+use affc_syntax::expression::{read_dims, read_expression, read_inside};
 use affc_syntax::value::read_value;
 use std::alloc::Global;
 use std::test::Fail;
@@ -88,5 +89,20 @@ fn a_type_in_brackets_begins_a_cast(rt: HostRuntime) -> Result<(), Fail> {
     let (v, next) = read_value(rt.alloc(), false, 2, &twice, 0)?;
     assert!(rt; matches!(&v, ValueDraft::Load { .. }));
     assert_eq!(rt; next, 5);
+    Ok(())
+}
+
+#[test]
+fn expressions_end_where_no_operator_follows(rt: HostRuntime) -> Result<(), Fail> {
+    let (open, close, a) = (mark("["), mark("]"), word("a"));
+    let sum = [a, mark("+"), a, mark("*"), a, close];
+    let (_, next) = read_expression(rt.alloc(), false, 1, &sum, 0)?;
+    assert_eq!(rt; next, 5);
+    let (_, next) = read_inside(rt.alloc(), false, 1, &sum, 2)?;
+    assert_eq!(rt; next, 5);
+    let two = [open, a, close, open, a, close, a];
+    let (dims, next) = read_dims(rt.alloc(), false, 1, &two, 0)?;
+    assert_eq!(rt; dims.len(), 2);
+    assert_eq!(rt; next, 6);
     Ok(())
 }
