@@ -1,4 +1,5 @@
-//! Calls whose answers are known from outside, crate by crate: that they succeed with ample memory, and what no clause says.
+//! Calls of the language's crates whose answers are known from outside: that they succeed with ample memory, and what no
+//! clause says.
 //!
 //! They stand together, since the tests of a crate are built with a second proof of all of it.
 #![tactic(auto)]
@@ -6,13 +7,7 @@
 #[cfg(test)]
 mod ast;
 #[cfg(test)]
-mod basis;
-#[cfg(test)]
 mod cprint;
-#[cfg(test)]
-mod farkas;
-#[cfg(test)]
-mod forms;
 #[cfg(test)]
 mod interp;
 #[cfg(test)]
@@ -26,15 +21,9 @@ mod names;
 #[cfg(test)]
 mod parse;
 #[cfg(test)]
-mod rows;
-#[cfg(test)]
-mod split;
-#[cfg(test)]
 mod symbols;
 #[cfg(test)]
 mod syntax;
-#[cfg(test)]
-mod system;
 #[cfg(test)]
 mod text;
 #[cfg(test)]

@@ -6,7 +6,7 @@ use Rattle.affc_rows.specs.Forms.{Affine}
 use Rattle.affc_basis.specs.declared.fold.Modulus.{Modulus}
 use Rattle.affc_basis.specs.Folds.{forms_of}
 use Rattle.affc_basis.specs.Moduli.{IsModulusAt}
-use Rattle.affc_tests.proofs.basis.place.Goals as goal
+use Rattle.affc_integer_tests.proofs.basis.place.Goals as goal
 
 -- N + n
 abbrev more : ℕ → Affine
