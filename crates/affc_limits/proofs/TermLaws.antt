@@ -1,7 +1,6 @@
 -- Terms, and the coefficients that they write.
-use Rattle.std.proofs.Common.{◌≡◌, ℕ, zero, suc, ◌+◌, ◌*◌, ◌<◌, ◌≤◌, Bool, true, false, not, ◌&&◌, ◌||◌, cond, nat_lt, List, [], ◌∷◌, ◌++◌, length, take, get_or, min, Option, Some, None, ℤ, pos, ◌+ℤ◌, ◌*ℤ◌, nat_abs, lit<, refl, sym, ap, ◌∙◌, arith, add-one}
+use Rattle.std.proofs.Common.{◌≡◌, ℕ, zero, suc, ◌*◌, ◌<◌, ◌≤◌, Bool, true, false, not, ◌&&◌, ◌||◌, cond, nat_lt, List, [], ◌∷◌, ◌++◌, length, get_or, min, Option, Some, None, ℤ, pos, ◌+ℤ◌, ◌*ℤ◌, nat_abs, lit<, refl, sym, ap, ◌∙◌, arith}
 use Rattle.std.proofs.Math.ListN.{set}
-use Rattle.std.proofs.Math.Seq.{take-suc}
 use Rattle.std.proofs.lemmas.Bool.{false≢true}
 use Rattle.std.proofs.lemmas.Bool.Decides.{nat_tests}
 use Rattle.std.proofs.Math.Nat.{zero-mul, mul-zero, mul-one, mul-le-mul}
@@ -117,16 +116,12 @@ apart-append (x ∷ xs) t a e =
     let p = or_parts (same x.name t.name) (has t.name xs) e in
     apart_with x (xs ++ t ∷ []) (list_any-append (λ y. same y.name x.name) xs (t ∷ []) ∙ (λ i. q.0 i || (other_way x.name t.name p.0 i || false))) (apart-append xs t q.1 p.1)
 
--- with so much more at a name, in a new term or in its own
-
-pub with_new : (w n v : Name) (ts new : List Term) (number : ℤ) → v ≡ n → new ≡ ts ++ record { name = v; number = number } ∷ [] → coefficient w new ≡ coefficient w ts +ℤ at_name n number w
-with_new w n v ts new number e is = ap (coefficient w) is ∙ coefficient-append w ts (record { name = v; number = number }) ∙ ap (λ m. coefficient w ts +ℤ at_name m number w) e
-
-pub with_own : (w n v : Name) (ts new : List Term) (i : ℕ) (d : Term) (number more : ℤ) → v ≡ n → IsAt n ts i → number ≡ (get_or ts i d).number +ℤ more → new ≡ set ts i (record { name = v; number = number }) → coefficient w new ≡ coefficient w ts +ℤ at_name n more w
-with_own w n v ts new i d number more e at f is =
-    ap (coefficient w) is
-    ∙ coefficient-set w ts i d (record { name = v; number = number }) more at.0 (at.1 d ∙ sym e) f
-    ∙ ap (λ m. coefficient w ts +ℤ at_name m more w) e
+-- with so much more at a name that has a term
+pub with_own : (w : Name) (ts new : List Term) (i : ℕ) (d t : Term) (number : ℤ) → IsAt t.name ts i → number ≡ t.number +ℤ (get_or ts i d).number → new ≡ set ts i (record { name = t.name; number = number }) → coefficient w new ≡ coefficient w ts +ℤ at_name t.name t.number w
+with_own w ts new i d t number at f is = ap (coefficient w) is ∙ coefficient-set w ts i d (record { name = t.name; number = number }) t.number at.0 (at.1 d) (f ∙ in_turn t.number (get_or ts i d).number)
+  where
+    in_turn : (a b : ℤ) → a +ℤ b ≡ b +ℤ a
+    in_turn a b = omega (arith, ints)
 
 -- without terms, all numbers are 0
 pub nothing_times : (w : Name) (s : Option ℤ) (ts : List Term) (by : ℤ) → ts ≡ [] → scaled s (coefficient w ts) ≡ scaled s (coefficient w ts) *ℤ by
@@ -136,20 +131,61 @@ nothing_times w s ts by e =
 
 -- ---- In the code's loops
 
--- one term more of the others
-pub more_turn : (w : Name) (s : Option ℤ) (own : List Term) (was : ℤ) (more : List Term) (i : ℕ) (t : Term) (number : ℤ) (new : ℤ) → i < length more → t ≡ get_or more i t → number ≡ scaled s t.number
-    → coefficient w own ≡ was +ℤ scaled s (coefficient w (take i more)) → new ≡ coefficient w own +ℤ at_name t.name number w
-    → new ≡ was +ℤ scaled s (coefficient w (take (i + 1) more))
-more_turn w s own was more i t number new lt is n kept made =
-    made
-    ∙ (λ j. kept j +ℤ at_name t.name (n j) w)
-    ∙ sym (plus_assoc was (scaled s (coefficient w (take i more))) (at_name t.name (scaled s t.number) w))
-    ∙ ap (λ z. was +ℤ z) (
-    ap (λ z. scaled s (coefficient w (take i more)) +ℤ z) (sym (at_name-scaled s t.name t.number w))
-    ∙ sym (scaled-add s (coefficient w (take i more)) (at_name t.name t.number w))
-    ∙ ap (scaled s) (sym (coefficient-append w (take i more) t))
-    ∙ ap (λ l. scaled s (coefficient w l)) (ap (λ x. take i more ++ x ∷ []) is ∙ sym (take-suc more i t lt) ∙ ap (λ n. take n more) (sym (add-one i)))
+-- one term fewer of the others
+pub more_turn : (w : Name) (s : Option ℤ) (own : ℤ) (more rest : List Term) (t : Term) (number new total : ℤ) → more ≡ rest ++ t ∷ [] → number ≡ scaled s t.number → new ≡ own +ℤ at_name t.name number w
+    → own +ℤ scaled s (coefficient w more) ≡ total
+    → new +ℤ scaled s (coefficient w rest) ≡ total
+more_turn w s own more rest t number new total is n made kept =
+    (λ i. (made ∙ ap (λ z. own +ℤ at_name t.name z w) n) i +ℤ scaled s (coefficient w rest))
+    ∙ plus_inside own (at_name t.name (scaled s t.number) w) (scaled s (coefficient w rest))
+    ∙ sym (plus_assoc own (scaled s (coefficient w rest)) (at_name t.name (scaled s t.number) w))
+    ∙ ap (λ z. own +ℤ z) (
+    ap (λ z. scaled s (coefficient w rest) +ℤ z) (sym (at_name-scaled s t.name t.number w))
+    ∙ sym (scaled-add s (coefficient w rest) (at_name t.name t.number w))
+    ∙ ap (scaled s) (sym (ap (coefficient w) is ∙ coefficient-append w rest t))
     )
+    ∙ kept
+
+-- no term is left
+pub none_left : (w : Name) (s : Option ℤ) (own : ℤ) (more : List Term) (total : ℤ) → more ≡ [] → own +ℤ scaled s (coefficient w more) ≡ total → own ≡ total
+none_left w s own more total e kept = sym (plus_none own) ∙ ap (λ z. own +ℤ z) (sym (ap (λ l. scaled s (coefficient w l)) e ∙ scaled-zero s)) ∙ kept
+
+-- Each of two lists has one term of a name at most, and no name is in both.
+pub record AreParted (terms made : List Term) : Type 0 where
+  pub terms_apart : AreApart terms
+  pub made_apart : AreApart made
+  pub parted : (w : Name) → has w terms ≡ true → has w made ≡ false
+
+apart_last : (rest : List Term) (t : Term) → AreApart (rest ++ t ∷ []) → AreApart rest × (has t.name rest ≡ false)
+apart_last [] t a = (refl, refl)
+apart_last (x ∷ xs) t a =
+    let p = apart_parts x (xs ++ t ∷ []) a in
+    let h = or_parts (has x.name xs) (same t.name x.name || false) (sym (list_any-append (λ y. same y.name x.name) xs (t ∷ [])) ∙ p.0) in
+    let later = apart_last xs t p.1 in (
+      apart_with x xs h.0 later.0,
+      (λ i. other_way t.name x.name (or_parts (same t.name x.name) false h.1).0 i || later.1 i),
+    )
+
+-- the last term of the one list behind those of the other
+pub parted_turn : (terms rest made new : List Term) (t u : Term) → terms ≡ rest ++ t ∷ [] → u.name ≡ t.name → new ≡ made ++ u ∷ [] → AreParted terms made → AreParted rest new
+parted_turn terms rest made new t u is n made_is p =
+    let last = apart_last rest t (ap are_apart (sym is) ∙ p.terms_apart) in
+    record {
+      terms_apart = last.0;
+      made_apart = ap are_apart made_is ∙ apart-append made u p.made_apart (ap (λ v. has v made) n ∙ p.parted t.name (ap (has t.name) is ∙ list_any-append (λ y. same y.name t.name) rest (t ∷ []) ∙ or_right (has t.name rest) (ap (λ b. b || false) (same_refl t.name))));
+      parted = λ w h.
+          ap (has w) made_is
+          ∙ list_any-append (λ y. same y.name w) made (u ∷ [])
+          ∙ (λ i. p.parted w (ap (has w) is ∙ list_any-append (λ y. same y.name w) rest (t ∷ []) ∙ ap (λ b. b || (same t.name w || false)) h) i || ((ap (λ v. same v w) n ∙ not_last w (same t.name w) refl h) i || false));
+    }
+  where
+    or_right : (a : Bool) {b : Bool} → b ≡ true → (a || b) ≡ true
+    or_right true e = refl
+    or_right false e = e
+
+    not_last : (w : Name) (b : Bool) → same t.name w ≡ b → has w rest ≡ true → b ≡ false
+    not_last w false e h = refl
+    not_last w true e h = absurd (false≢true (sym (apart_last rest t (ap are_apart (sym is) ∙ p.terms_apart)).1 ∙ ap (λ v. has v rest) (same_is t.name w e) ∙ h))
 
 -- ---- Large coefficients
 

@@ -5,7 +5,7 @@ ghost use Rattle.affc_grammar.specs.Grammar.{Name};
 ghost use Rattle.affc_limits.specs.Terms as spec;
 ghost use Rattle.affc_limits.specs.Coefficients.{number_of};
 
-use crate::terms::{Coefficients, Term, scaled, with_terms};
+use crate::terms::{Coefficients, Term, all_times, scaled, with_terms};
 use crate::whole::Whole;
 use affc_ast::Items;
 use affc_ast::text::Text;
@@ -91,7 +91,7 @@ impl Coefficients {
         let Coefficients { scale, terms } = self;
         match scale {
             None => Ok(terms),
-            Some(_) => with_terms(alloc, Items::new(alloc), terms.as_slice(), &scale),
+            Some(by) => all_times(alloc, terms, &by),
         }
     }
 
@@ -103,7 +103,8 @@ impl Coefficients {
             return Ok(self);
         }
         let own = self.spread(alloc)?;
-        let terms = with_terms(alloc, own, other.terms.as_slice(), &other.scale)?;
+        let Coefficients { scale, terms } = other;
+        let terms = with_terms(alloc, own, terms, &scale)?;
         Ok(Coefficients { scale: None, terms })
     }
 

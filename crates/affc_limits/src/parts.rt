@@ -153,7 +153,7 @@ fn negated(alloc: Global, at: usize, a: Form) -> Result<Form, AllocError>
 fn sum(alloc: Global, a: Form, b: Form) -> Result<Form, AllocError>
     ensures { IfOk result (λ f. (x y : grammar.IxDraft) → IsForm x a → IsForm y b → IsForm (grammar.sum x y) f) }
 {
-    let constant = a.constant.plus(alloc, &b.constant)?;
+    let constant = a.constant.plus(&b.constant)?;
     let coefficients = a.coefficients.plus(alloc, b.coefficients)?;
     Ok(form_of(a.first, constant, coefficients, lesser(a.past, b.past)))
 }
@@ -161,7 +161,7 @@ fn sum(alloc: Global, a: Form, b: Form) -> Result<Form, AllocError>
 fn difference(alloc: Global, a: Form, b: Form) -> Result<Form, AllocError>
     ensures { IfOk result (λ f. (x y : grammar.IxDraft) → IsForm x a → IsForm y b → IsForm (grammar.difference x y) f) }
 {
-    let constant = a.constant.minus(alloc, &b.constant)?;
+    let constant = a.constant.minus(&b.constant)?;
     let coefficients = a.coefficients.plus(alloc, b.coefficients.negated(alloc)?)?;
     Ok(form_of(a.first, constant, coefficients, lesser(a.past, b.past)))
 }

@@ -1,6 +1,6 @@
 //! Terms: names with numbers.
 
-ghost use Rattle.std.specs.Prelude.{◌≡◌, ◌+ℤ◌, false, IfOk, MatchOption};
+ghost use Rattle.std.specs.Prelude.{◌≡◌, ◌+ℤ◌, ◌*ℤ◌, false, IfOk, MatchOption};
 ghost use Rattle.affc_grammar.specs.Grammar.{Name};
 ghost use Rattle.affc_limits.specs.Terms as spec;
 
@@ -46,30 +46,25 @@ pub(crate) fn scaled(
     ensures { IfOk result (λ z. z ≡ spec.scaled scale.now number.now) }
 {
     match scale {
-        None => number.plus(alloc, &Whole::zero(alloc)),
+        None => Whole::zero(alloc).plus(number),
         Some(by) => number.times(alloc, by),
     }
 }
 
-/// With so much more at a name.
-fn with_term(
-    alloc: Global,
-    mut terms: Items<Term>,
-    name: &str,
-    number: Whole,
-) -> Result<Items<Term>, AllocError>
-    ensures sums { IfOk result (λ r. (w : Name) → spec.coefficient w r ≡ spec.coefficient w terms +ℤ spec.at_name name.now number w) }
+/// With one term more, where its name may have a term.
+fn with_term(mut terms: Items<Term>, term: Term) -> Result<Items<Term>, AllocError>
+    ensures sums { IfOk result (λ r. (w : Name) → spec.coefficient w r ≡ spec.coefficient w terms +ℤ spec.at_name term.name term.number w) }
     ensures apart { IfOk result (λ r. spec.AreApart terms → spec.AreApart r) }
 {
-    let own = Text::from_str(alloc, name)?;
-    match position(terms.as_slice(), name) {
+    match position(terms.as_slice(), term.name.as_str()) {
         None => {
-            terms.push(Term { name: own, number })?;
+            terms.push(term)?;
             Ok(terms)
         }
         Some(i) => {
-            let number = terms.as_slice()[i].number.plus(alloc, &number)?;
-            terms.set(i, Term { name: own, number });
+            let Term { name, number } = term;
+            let number = number.plus(&terms.as_slice()[i].number)?;
+            terms.set(i, Term { name, number });
             Ok(terms)
         }
     }
@@ -79,15 +74,34 @@ fn with_term(
 pub(crate) fn with_terms(
     alloc: Global,
     mut terms: Items<Term>,
-    more: &[Term],
+    mut more: Items<Term>,
     scale: &Option<Whole>,
 ) -> Result<Items<Term>, AllocError>
-    ensures sums { IfOk result (λ r. (w : Name) → spec.coefficient w r ≡ spec.coefficient w terms +ℤ spec.scaled scale.now (spec.coefficient w more.now)) }
+    ensures sums { IfOk result (λ r. (w : Name) → spec.coefficient w r ≡ spec.coefficient w terms +ℤ spec.scaled scale.now (spec.coefficient w more)) }
     ensures apart { IfOk result (λ r. spec.AreApart terms → spec.AreApart r) }
 {
-    for term in more {
-        let number = scaled(alloc, scale, &term.number)?;
-        terms = with_term(alloc, terms, term.name.as_str(), number)?;
+    while let Some(term) = more.pop() {
+        let Term { name, number } = term;
+        let number = scaled(alloc, scale, &number)?;
+        terms = with_term(terms, Term { name, number })?;
     }
     Ok(terms)
+}
+
+/// Terms, each times a number.
+pub(crate) fn all_times(
+    alloc: Global,
+    mut terms: Items<Term>,
+    by: &Whole,
+) -> Result<Items<Term>, AllocError>
+    ensures sums { IfOk result (λ r. (w : Name) → spec.coefficient w r ≡ spec.coefficient w terms *ℤ by.now) }
+    ensures apart { IfOk result (λ r. spec.AreApart terms → spec.AreApart r) }
+{
+    let mut made = Items::new(alloc);
+    while let Some(term) = terms.pop() {
+        let Term { name, number } = term;
+        let number = number.times(alloc, by)?;
+        made.push(Term { name, number })?;
+    }
+    Ok(made)
 }
