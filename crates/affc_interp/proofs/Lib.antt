@@ -23,3 +23,6 @@ pub mod Moves
 pub mod Starts
 pub mod Counting
 pub mod ExampleProofs
+pub mod Rows
+pub mod Later
+pub mod Bodies

@@ -15,22 +15,54 @@ fn plus(x: u64, y: u64) -> u64
     x.saturating_add(y)
 }
 
+// The recursion is into second operands alone.
 #[tactic(auto, using(affc_ast::proofs::Outs::ix_outs))]
 fn ix_nodes(e: &Ix) -> u64
     ensures { result ≡ capped (nodes_of_ix e.now) }
 {
-    match e {
-        Ix::Lit(_) => 1,
-        Ix::Name(_) => 1,
-        Ix::Neg(a) => plus(1, ix_nodes(a.get())),
-        Ix::Floord(a, _) => plus(1, ix_nodes(a.get())),
-        Ix::Ceild(a, _) => plus(1, ix_nodes(a.get())),
-        Ix::Add(a, b) => plus(plus(1, ix_nodes(a.get())), ix_nodes(b.get())),
-        Ix::Sub(a, b) => plus(plus(1, ix_nodes(a.get())), ix_nodes(b.get())),
-        Ix::Mul(a, b) => plus(plus(1, ix_nodes(a.get())), ix_nodes(b.get())),
-        Ix::Min(a, b) => plus(plus(1, ix_nodes(a.get())), ix_nodes(b.get())),
-        Ix::Max(a, b) => plus(plus(1, ix_nodes(a.get())), ix_nodes(b.get())),
-        Ix::Mod(a, b) => plus(plus(1, ix_nodes(a.get())), ix_nodes(b.get())),
+    let mut here = e;
+    let mut count = 0;
+    loop {
+        match here {
+            Ix::Lit(_) => return plus(count, 1),
+            Ix::Name(_) => return plus(count, 1),
+            Ix::Neg(a) => {
+                count = plus(count, 1);
+                here = a.get();
+            }
+            Ix::Floord(a, _) => {
+                count = plus(count, 1);
+                here = a.get();
+            }
+            Ix::Ceild(a, _) => {
+                count = plus(count, 1);
+                here = a.get();
+            }
+            Ix::Add(a, b) => {
+                count = plus(plus(count, 1), ix_nodes(b.get()));
+                here = a.get();
+            }
+            Ix::Sub(a, b) => {
+                count = plus(plus(count, 1), ix_nodes(b.get()));
+                here = a.get();
+            }
+            Ix::Mul(a, b) => {
+                count = plus(plus(count, 1), ix_nodes(b.get()));
+                here = a.get();
+            }
+            Ix::Min(a, b) => {
+                count = plus(plus(count, 1), ix_nodes(b.get()));
+                here = a.get();
+            }
+            Ix::Max(a, b) => {
+                count = plus(plus(count, 1), ix_nodes(b.get()));
+                here = a.get();
+            }
+            Ix::Mod(a, b) => {
+                count = plus(plus(count, 1), ix_nodes(b.get()));
+                here = a.get();
+            }
+        }
     }
 }
 
@@ -55,34 +87,49 @@ fn compare_nodes_among(conds: &[Compare]) -> u64
     }
 }
 
+// The recursion is into second operands alone.
 #[tactic(auto, using(affc_ast::proofs::Outs::val_outs))]
 fn val_nodes(v: &Val) -> u64
     ensures { result ≡ capped ((value_of v.now).nodes) }
 {
-    match v {
-        Val::Load { array: _, subs } => plus(1, ix_nodes_among(subs.as_slice())),
-        Val::Const(_) => 1,
-        Val::Cast(e) => plus(1, ix_nodes(e)),
-        Val::Not(a) => plus(1, val_nodes(a.get())),
-        Val::Bin { op: _, left, right } => plus(
-            plus(1, val_nodes(left.get())),
-            val_nodes(right.get()),
-        ),
-        Val::Shift {
-            left: _,
-            value,
-            by: _,
-        } => plus(1, val_nodes(value.get())),
+    let mut here = v;
+    let mut count = 0;
+    loop {
+        match here {
+            Val::Load { array: _, subs } => return plus(
+                plus(count, 1),
+                ix_nodes_among(subs.as_slice()),
+            ),
+            Val::Const(_) => return plus(count, 1),
+            Val::Cast(e) => return plus(plus(count, 1), ix_nodes(e)),
+            Val::Not(a) => {
+                count = plus(count, 1);
+                here = a.get();
+            }
+            Val::Bin { op: _, left, right } => {
+                count = plus(plus(count, 1), val_nodes(right.get()));
+                here = left.get();
+            }
+            Val::Shift {
+                left: _,
+                value,
+                by: _,
+            } => {
+                count = plus(count, 1);
+                here = value.get();
+            }
+        }
     }
 }
 
 fn local_nodes_among(locals: &[Local]) -> u64
     ensures { result ≡ capped (nodes_of_locals locals.now) }
 {
-    match locals {
-        [] => 0,
-        [l, rest @ ..] => plus(ix_nodes(&l.value), local_nodes_among(rest)),
+    let mut count = 0;
+    for l in locals {
+        count = plus(count, ix_nodes(&l.value));
     }
+    count
 }
 
 // How many nodes the statement has.
@@ -117,19 +164,21 @@ fn stmt_nodes(s: &Stmt) -> u64
 fn stmt_nodes_among(body: &[Stmt]) -> u64
     ensures { result ≡ capped (nodes_among (map exec_of body.now)) }
 {
-    match body {
-        [] => 0,
-        [s, rest @ ..] => plus(stmt_nodes(s), stmt_nodes_among(rest)),
+    let mut count = 0;
+    for s in body {
+        count = plus(count, stmt_nodes(s));
     }
+    count
 }
 
 fn decl_nodes_among(decls: &[Decl]) -> u64
     ensures { result ≡ capped (nodes_of_decls decls.now) }
 {
-    match decls {
-        [] => 0,
-        [d, rest @ ..] => plus(ix_nodes_among(d.extents.as_slice()), decl_nodes_among(rest)),
+    let mut count = 0;
+    for d in decls {
+        count = plus(count, ix_nodes_among(d.extents.as_slice()));
     }
+    count
 }
 
 fn param_nodes_among(params: &[Param]) -> u64
@@ -194,10 +243,12 @@ fn stmt_within(s: &Stmt, arrays: u64) -> bool
 fn body_within(body: &[Stmt], arrays: u64) -> bool
     ensures { result ≡ all_within (map exec_of body.now) arrays }
 {
-    match body {
-        [] => true,
-        [s, rest @ ..] => stmt_within(s, arrays) && body_within(rest, arrays),
+    for s in body {
+        if !stmt_within(s, arrays) {
+            return false;
+        }
     }
+    true
 }
 
 /// Whether the program can be run: all numbers of its nodes, arrays and assignments are below 2^32, and each

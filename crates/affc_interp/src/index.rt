@@ -1,27 +1,60 @@
-ghost use Rattle.std.specs.Prelude.{◌≡◌, ◌≤ℤ◌, ◌+◌, ◌^◌, ◌<◌, ◌+ℤ◌, ◌-ℤ◌, ◌*ℤ◌, neg_ℤ, pos, get_or, sum_by};
+ghost use Rattle.std.specs.Prelude.{◌≡◌, ◌≤ℤ◌, ◌+◌, ◌^◌, ◌<◌, ◌≤◌, ◌+ℤ◌, ◌-ℤ◌, ◌*ℤ◌, neg_ℤ, pos, get_or, sum_by, ℕ, Ok, MatchOption, suc};
 ghost use Rattle.affc_ast.specs.Index.{nodes_of_ix, index_value, in_int64, divided, floor_of, ceiling_of, remainder_of, compares, nodes_of_compare, conditions};
 ghost use Rattle.affc_interp.specs.Seen.{as_reading};
+ghost use Rattle.affc_interp.specs.Operands as row;
+ghost use Rattle.affc_interp.specs.Operands.{operators};
 
 use affc_ast::tree::{Compare, Ix, Rel};
 
-/// How many nodes the expression has.
+/// How many nodes the expression has. The recursion is into second operands alone.
 #[tactic(auto, using(affc_ast::proofs::Outs::ix_outs))]
 pub fn node_count(e: &Ix) -> u32
     requires { nodes_of_ix e.now < 2 ^ 32 }
     ensures { result ≡ nodes_of_ix e.now }
 {
-    match e {
-        Ix::Lit(_) => 1,
-        Ix::Name(_) => 1,
-        Ix::Neg(a) => 1 + node_count(a.get()),
-        Ix::Floord(a, _) => 1 + node_count(a.get()),
-        Ix::Ceild(a, _) => 1 + node_count(a.get()),
-        Ix::Add(a, b) => 1 + node_count(a.get()) + node_count(b.get()),
-        Ix::Sub(a, b) => 1 + node_count(a.get()) + node_count(b.get()),
-        Ix::Mul(a, b) => 1 + node_count(a.get()) + node_count(b.get()),
-        Ix::Min(a, b) => 1 + node_count(a.get()) + node_count(b.get()),
-        Ix::Max(a, b) => 1 + node_count(a.get()) + node_count(b.get()),
-        Ix::Mod(a, b) => 1 + node_count(a.get()) + node_count(b.get()),
+    let mut here = e;
+    let mut count = 0;
+    loop {
+        match here {
+            Ix::Lit(_) => return count + 1,
+            Ix::Name(_) => return count + 1,
+            Ix::Neg(a) => {
+                count += 1;
+                here = a.get();
+            }
+            Ix::Floord(a, _) => {
+                count += 1;
+                here = a.get();
+            }
+            Ix::Ceild(a, _) => {
+                count += 1;
+                here = a.get();
+            }
+            Ix::Add(a, b) => {
+                count += 1 + node_count(b.get());
+                here = a.get();
+            }
+            Ix::Sub(a, b) => {
+                count += 1 + node_count(b.get());
+                here = a.get();
+            }
+            Ix::Mul(a, b) => {
+                count += 1 + node_count(b.get());
+                here = a.get();
+            }
+            Ix::Min(a, b) => {
+                count += 1 + node_count(b.get());
+                here = a.get();
+            }
+            Ix::Max(a, b) => {
+                count += 1 + node_count(b.get());
+                here = a.get();
+            }
+            Ix::Mod(a, b) => {
+                count += 1 + node_count(b.get());
+                here = a.get();
+            }
+        }
     }
 }
 
@@ -99,57 +132,163 @@ fn ceiling(node: u32, x: i64, n: i64) -> Result<i64, u32>
     }
 }
 
-/// The value of an expression whose first node has this number, or the node that overflows.
+// ---- Operators in a row: each stands in the first operand of the next. They are gone along by loops, however many there are.
+
+/// The first operand of the outermost operator, if there is one.
 #[tactic(auto, using(affc_ast::proofs::Outs::ix_outs))]
+fn first_operand(e: &Ix) -> Option<&Ix>
+    ensures { MatchOption result (operators e.now ≡ 0) (λ a. (a.now ≡ row.first_operand e.now) × (operators e.now ≡ suc (operators a.now))) }
+{
+    match e {
+        Ix::Lit(_) => None,
+        Ix::Name(_) => None,
+        Ix::Neg(a) => Some(a.get()),
+        Ix::Add(a, _) => Some(a.get()),
+        Ix::Sub(a, _) => Some(a.get()),
+        Ix::Mul(a, _) => Some(a.get()),
+        Ix::Min(a, _) => Some(a.get()),
+        Ix::Max(a, _) => Some(a.get()),
+        Ix::Floord(a, _) => Some(a.get()),
+        Ix::Ceild(a, _) => Some(a.get()),
+        Ix::Mod(a, _) => Some(a.get()),
+    }
+}
+
+/// What stands so many first operands down.
+fn below(e: &Ix, count: u32) -> &Ix
+    requires { count ≤ operators e.now }
+    ensures { result.now ≡ row.below row.first_operand count e.now }
+{
+    let mut here = e;
+    for _ in 0..count {
+        let Some(a) = first_operand(here) else {
+            unreachable!();
+        };
+        here = a;
+    }
+    here
+}
+
+/// How many operators stand in a row, and what stands below them all.
+fn innermost(e: &Ix) -> (u32, &Ix)
+    requires { operators e.now < 2 ^ 32 }
+    ensures count { result.0 ≡ operators e.now }
+    ensures atom { result.1.now ≡ row.below row.first_operand (operators e.now) e.now }
+    ensures plain { operators result.1.now ≡ 0 }
+{
+    let mut here = e;
+    let mut count = 0;
+    while let Some(a) = first_operand(here) {
+        here = a;
+        count += 1;
+    }
+    (count, here)
+}
+
+/// The value of an expression without operators.
+#[tactic(auto, using(affc_ast::proofs::Outs::ix_outs))]
+fn atom_value(e: &Ix, names: &[i64]) -> i64
+    requires { operators e.now ≡ 0 }
+    ensures { (node : ℕ) → index_value e.now node names.now ≡ Ok result }
+{
+    match e {
+        Ix::Lit(n) => *n,
+        Ix::Name(x) => name_value(names, x.0),
+        Ix::Neg(_) => unreachable!(),
+        Ix::Add(..) => unreachable!(),
+        Ix::Sub(..) => unreachable!(),
+        Ix::Mul(..) => unreachable!(),
+        Ix::Min(..) => unreachable!(),
+        Ix::Max(..) => unreachable!(),
+        Ix::Floord(..) => unreachable!(),
+        Ix::Ceild(..) => unreachable!(),
+        Ix::Mod(..) => unreachable!(),
+    }
+}
+
+/// The value of an expression whose first node has this number, or the node that overflows. The recursion is into second
+/// operands, and into halves of a row of operators.
+#[cycle(eval)]
 pub fn eval(e: &Ix, node: u32, names: &[i64]) -> Result<i64, u32>
     requires { node + nodes_of_ix e.now < 2 ^ 32 }
     ensures { as_reading result ≡ index_value e.now node names.now }
 {
+    let (count, atom) = innermost(e);
+    let x = atom_value(atom, names);
+    outwards(e, count, x, node, names)
+}
+
+/// The value of an expression, from that of what stands so many first operands down.
+#[cycle(eval)]
+fn outwards(e: &Ix, count: u32, x: i64, node: u32, names: &[i64]) -> Result<i64, u32>
+    requires nodes { node + nodes_of_ix e.now < 2 ^ 32 }
+    requires count { count ≤ operators e.now }
+    requires inner { index_value (row.below row.first_operand count e.now) (node + count) names.now ≡ Ok x }
+    ensures { as_reading result ≡ index_value e.now node names.now }
+{
+    if count == 0 {
+        return Ok(x);
+    }
+    if count == 1 {
+        return outermost(e, x, node, names);
+    }
+    let half = count / 2;
+    let middle = below(e, half);
+    let y = outwards(middle, count - half, x, node + half, names)?;
+    outwards(e, half, y, node, names)
+}
+
+/// The value of an expression, from that of its first operand.
+#[tactic(auto, using(affc_ast::proofs::Outs::ix_outs))]
+#[cycle(eval)]
+fn outermost(e: &Ix, x: i64, node: u32, names: &[i64]) -> Result<i64, u32>
+    requires nodes { node + nodes_of_ix e.now < 2 ^ 32 }
+    requires operator { 1 ≤ operators e.now }
+    requires inner { index_value (row.first_operand e.now) (node + 1) names.now ≡ Ok x }
+    ensures { as_reading result ≡ index_value e.now node names.now }
+{
     match e {
-        Ix::Lit(n) => Ok(*n),
-        Ix::Name(x) => Ok(name_value(names, x.0)),
-        Ix::Neg(a) => {
-            let x = eval(a.get(), node + 1, names)?;
-            negated(node, x)
-        }
+        Ix::Lit(_) => unreachable!(),
+        Ix::Name(_) => unreachable!(),
+        Ix::Neg(_) => negated(node, x),
         Ix::Add(a, b) => {
-            let x = eval(a.get(), node + 1, names)?;
-            let y = eval(b.get(), node + 1 + node_count(a.get()), names)?;
+            let y = second(a.get(), b.get(), node, names)?;
             sum(node, x, y)
         }
         Ix::Sub(a, b) => {
-            let x = eval(a.get(), node + 1, names)?;
-            let y = eval(b.get(), node + 1 + node_count(a.get()), names)?;
+            let y = second(a.get(), b.get(), node, names)?;
             difference(node, x, y)
         }
         Ix::Mul(a, b) => {
-            let x = eval(a.get(), node + 1, names)?;
-            let y = eval(b.get(), node + 1 + node_count(a.get()), names)?;
+            let y = second(a.get(), b.get(), node, names)?;
             product(node, x, y)
         }
         Ix::Min(a, b) => {
-            let x = eval(a.get(), node + 1, names)?;
-            let y = eval(b.get(), node + 1 + node_count(a.get()), names)?;
+            let y = second(a.get(), b.get(), node, names)?;
             Ok(x.min(y))
         }
         Ix::Max(a, b) => {
-            let x = eval(a.get(), node + 1, names)?;
-            let y = eval(b.get(), node + 1 + node_count(a.get()), names)?;
+            let y = second(a.get(), b.get(), node, names)?;
             Ok(x.max(y))
         }
-        Ix::Floord(a, n) => {
-            let x = eval(a.get(), node + 1, names)?;
-            floor(node, x, *n)
-        }
-        Ix::Ceild(a, n) => {
-            let x = eval(a.get(), node + 1, names)?;
-            ceiling(node, x, *n)
-        }
+        Ix::Floord(_, n) => floor(node, x, *n),
+        Ix::Ceild(_, n) => ceiling(node, x, *n),
         Ix::Mod(a, b) => {
-            let x = eval(a.get(), node + 1, names)?;
-            let y = eval(b.get(), node + 1 + node_count(a.get()), names)?;
+            let y = second(a.get(), b.get(), node, names)?;
             remainder(node, x, y)
         }
+    }
+}
+
+/// The value of an operator's second operand. Nodes are counted only where one of them overflows.
+#[cycle(eval)]
+fn second(a: &Ix, b: &Ix, node: u32, names: &[i64]) -> Result<i64, u32>
+    requires { node + (1 + nodes_of_ix a.now + nodes_of_ix b.now) < 2 ^ 32 }
+    ensures { as_reading result ≡ index_value b.now (node + 1 + nodes_of_ix a.now) names.now }
+{
+    match eval(b, 0, names) {
+        Ok(y) => Ok(y),
+        Err(fault) => Err(node + 1 + node_count(a) + fault),
     }
 }
 

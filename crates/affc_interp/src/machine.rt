@@ -181,10 +181,11 @@ fn local_sum(locals: &[Local]) -> u32
     requires { nodes_of_locals locals.now < 2 ^ 32 }
     ensures { result ≡ nodes_of_locals locals.now }
 {
-    match locals {
-        [] => 0,
-        [l, rest @ ..] => node_count(&l.value) + local_sum(rest),
+    let mut count = 0;
+    for l in locals {
+        count += node_count(&l.value);
     }
+    count
 }
 
 /// How many nodes the statement has.
@@ -213,6 +214,28 @@ fn statement_nodes(s: &Stmt) -> u32
     let mut count = head;
     for inner in body.as_slice() {
         count += statement_nodes(inner);
+    }
+    count
+}
+
+fn nodes_of_all(body: &[Stmt]) -> u32
+    requires { nodes_among (map exec_of body.now) < 2 ^ 32 }
+    ensures { result ≡ nodes_among (map exec_of body.now) }
+{
+    let mut count = 0;
+    for s in body {
+        count += statement_nodes(s);
+    }
+    count
+}
+
+fn assigns_of_all(body: &[Stmt]) -> u32
+    requires { assigns_among (map exec_of body.now) < 2 ^ 32 }
+    ensures { result ≡ assigns_among (map exec_of body.now) }
+{
+    let mut count = 0;
+    for s in body {
+        count += assign_count(s);
     }
     count
 }
@@ -341,7 +364,8 @@ impl Machine {
         Ok(())
     }
 
-    /// The statements one after another, from the numbers of the next node and the next assignment on.
+    /// The statements one after another, from the numbers of the next node and the next assignment on. The recursion is into
+    /// halves.
     #[tactic(auto, using(crate::proofs::Execs::exec_steps))]
     #[cycle(exec)]
     pub fn exec_all(&mut self, body: &[Stmt], node: u32, statement: u32) -> Result<(), Halt>
@@ -352,9 +376,12 @@ impl Machine {
     {
         match body {
             [] => Ok(()),
-            [s, rest @ ..] => {
-                self.exec(s, node, statement)?;
-                self.exec_all(rest, node + statement_nodes(s), statement + assign_count(s))
+            [s] => self.exec(s, node, statement),
+            _ => {
+                let (first, others) = body.split_at(body.len() / 2);
+                self.exec_all(first, node, statement)?;
+                let node = node + nodes_of_all(first);
+                self.exec_all(others, node, statement + assigns_of_all(first))
             }
         }
     }

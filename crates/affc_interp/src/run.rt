@@ -81,10 +81,11 @@ fn decl_nodes(decls: &[Decl]) -> u32
     requires { nodes_of_decls decls.now < 2 ^ 32 }
     ensures { result ≡ nodes_of_decls decls.now }
 {
-    match decls {
-        [] => 0,
-        [d, rest @ ..] => node_sum(d.extents.as_slice()) + decl_nodes(rest),
+    let mut count = 0;
+    for d in decls {
+        count += node_sum(d.extents.as_slice());
     }
+    count
 }
 
 // The machine before its first step, and the number of the body's first node.

@@ -3,17 +3,74 @@ use Rattle.std.proofs.lemmas.Result.{err_from_is_err_and}
 use Rattle.std.specs.Prelude.{sum_by}
 use Rattle.affc_ast.specs.Index.{nodes_of_ix, nodes_of_compare}
 use Rattle.affc_ast.specs.Meaning.{nodes_of_locals}
-use Rattle.affc_interp.specs.Budget.{Exec, exec_of, all_within, nodes_among, assigns_among, turns_within}
+use Rattle.affc_interp.specs.Budget.{Exec, after, exec_of, all_of, all_within, nodes_among, assigns_among, turns_within}
 use Rattle.affc_interp.specs.Machines.{Finishes, Halts, turn_of, scope_of, position}
-use Rattle.affc_interp.proofs.Execs.{parts_of, for_is, if_is, block_is}
+use Rattle.affc_interp.proofs.Execs.{for_is, if_is, block_is}
+use Rattle.affc_interp.proofs.Bodies.{halves, stops_after, goes_on_after}
 use Rattle.affc_interp.proofs.Turns.{goes_on, stops}
 use Rattle.affc_interp.proofs.machine.Machine.+exec.Goals as goal
 
 pub exec_all-exec_all-requires : goal.exec_all-exec_all-requires
 exec_all-exec_all-requires t c =
-    let p = parts_of c.args.body.now c.s-item.result (length c.exec.new.self.memory.extents) c.in-len1-up.len_at_least c.s-item.is in
-    let within = ap (λ s. all_within (map exec_of c.args.body.now) (length s.extents)) c.in_ok-exec-in-len1-up.ensures.1 ∙ c.requires.within in
-    (omega arith, (omega arith, (omega arith, p.others within)))
+    let body = c.args.body.now in
+    let first = c.split_at.result.0.now in
+    let others = c.split_at.result.1.now in
+    let f = c.split_at.ensures.front_len in
+    let g = c.split_at.ensures.back_len in
+    let l = c.in_default.len_at_least in
+    let p = halves body first others (length c.args.self.now.memory.extents) c.split_at.ensures.by_index.0 (omega (arith, f, l)) (omega (arith, g, l)) in
+    let n = p.nodes in
+    let a = p.assigns in
+    let s = p.some in
+    let o = p.some_other in
+    (omega (arith, n, o), (omega (arith, n), (omega (arith, a), p.first_within c.requires.within)))
+
+pub exec_all-exec_all-requires-in_default : goal.exec_all-exec_all-requires-in_default
+exec_all-exec_all-requires-in_default t c =
+    let body = c.args.body.now in
+    let first = c.split_at.result.0.now in
+    let others = c.split_at.result.1.now in
+    let f = c.split_at.ensures.front_len in
+    let g = c.split_at.ensures.back_len in
+    let l = c.in_default.len_at_least in
+    let p = halves body first others (length c.args.self.now.memory.extents) c.split_at.ensures.by_index.0 (omega (arith, f, l)) (omega (arith, g, l)) in
+    let n = p.nodes in
+    let a = p.assigns in
+    let s = p.some in
+    let o = p.some_other in
+    let nodes = c.nodes_of_all.ensures in
+    let assigns = c.assigns_of_all.ensures in
+    let within = ap (λ x. all_within (map exec_of others) (length x.extents)) c.in_ok-exec_all-in_default.ensures.1 ∙ p.others_within c.requires.within in
+    (omega (arith, n, s), (omega (arith, n, nodes), (omega (arith, a, assigns), within)))
+
+pub exec_all-returns-in_err-exec_all-in_default : goal.exec_all-returns-in_err-exec_all-in_default
+exec_all-returns-in_err-exec_all-in_default t c =
+    let body = c.args.body.now in
+    let first = c.split_at.result.0.now in
+    let others = c.split_at.result.1.now in
+    let f = c.split_at.ensures.front_len in
+    let g = c.split_at.ensures.back_len in
+    let l = c.in_default.len_at_least in
+    let p = halves body first others (length c.args.self.now.memory.extents) c.split_at.ensures.by_index.0 (omega (arith, f, l)) (omega (arith, g, l)) in
+    let q = err_from_is_err_and c.from_residual.result c.from_residual.ensures.1 in
+    let m = c.args.self.now in
+    rw (q.1, q.2) (stops_after c.exec_all.new.self c.in_err-exec_all-in_default.field-0.0 _ _ _ (p.run m.limit c.args.node c.args.statement (scope_of m) m.memory.store m.steps) c.in_err-exec_all-in_default.ensures)
+
+pub exec_all-returns-in_ok-exec_all-in_default : goal.exec_all-returns-in_ok-exec_all-in_default
+exec_all-returns-in_ok-exec_all-in_default t c =
+    let body = c.args.body.now in
+    let first = c.split_at.result.0.now in
+    let others = c.split_at.result.1.now in
+    let f = c.split_at.ensures.front_len in
+    let g = c.split_at.ensures.back_len in
+    let l = c.in_default.len_at_least in
+    let p = halves body first others (length c.args.self.now.memory.extents) c.split_at.ensures.by_index.0 (omega (arith, f, l)) (omega (arith, g, l)) in
+    let m = c.args.self.now in
+    goes_on_after c.exec_all-in_default.result m c.exec_all.new.self c.exec_all-in_default.new.self _ _ (map exec_of others) (c.args.node + c.nodes_of_all.result) (c.args.statement + c.assigns_of_all.result)
+    (p.run m.limit c.args.node c.args.statement (scope_of m) m.memory.store m.steps
+    ∙ (λ i. after (all_of m.limit (map exec_of first) (position c.args.node c.args.statement) (scope_of m) m.memory.store m.steps)
+    (all_of m.limit (map exec_of others) (position (c.args.node + sym c.nodes_of_all.ensures i) (c.args.statement + sym c.assigns_of_all.ensures i)) (scope_of m))))
+    c.in_ok-exec_all-in_default.ensures c.exec_all-in_default.ensures
 
 pub turn-loop-k-preserved : goal.turn-loop-k-preserved
 turn-loop-k-preserved t c =

@@ -1,0 +1,11 @@
+use Rattle.std.proofs.Common.{◌∙◌, sym, ap, arith}
+use Rattle.affc_interp.specs.Operands.{below, first_operand, operators}
+use Rattle.affc_interp.proofs.index.innermost.Goals as goal
+
+pub loop-a-preserved : goal.loop-a-preserved
+loop-a-preserved c =
+    let e = c.in-Some.ensures in
+    record {
+      count = let i = c.loop-a.invariant.count in omega (arith, e, i);
+      same = ap (below first_operand (operators c.in-Some.a.now)) e.0 ∙ sym (ap (λ n. below first_operand n c.loop-a.here.now) e.1) ∙ c.loop-a.invariant.same;
+    }
