@@ -62,6 +62,7 @@ impl Budget {
         ensures counted { OnOk result (IsUnit self.old self.new) }
         ensures fits { OnOk result (self.old.limit ≡ Some self.old.spent → ⊥) }
         ensures stop { OnErr result (self.old.limit ≡ Some self.new.spent) }
+        ensures unspent { OnErr result (self.new.spent ≡ self.old.spent) }
         ensures budget { OnErr result (result ≡ Err Stop.Budget) }
         ensures kept { Within self.new }
     {

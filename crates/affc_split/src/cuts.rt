@@ -194,6 +194,7 @@ fn rooted(
     ensures cost { budget.new.spent + 2 ≤ budget.old.spent + 2 * size bounds.now }
     ensures opened { IfOk result (λ a. Searched 0 (ranges_of bounds.now) budget.old budget.new (AreFewer 0 a)) }
     ensures stop { IfErr result (λ e. e ≡ Stop.Budget → budget.new.limit ≡ Some budget.new.spent) }
+    ensures short { IfErr result (λ e. e ≡ Stop.Budget → budget.new.spent + 3 ≤ budget.old.spent + 2 * size bounds.now) }
 {
     if let Some(proof) = found_leaf(alloc, system, bounds, next)? {
         return Ok(Found::Empty(proof));
@@ -223,6 +224,7 @@ pub(crate) fn with_cuts(
     ensures cost { budget.new.spent + 2 ≤ budget.old.spent + 2 * size bounds.now }
     ensures opened { IfOk result (λ a. Searched 0 (ranges_of bounds.now) budget.old budget.new (AreFewer 0 a)) }
     ensures stop { IfErr result (λ e. e ≡ Stop.Budget → budget.new.limit ≡ Some budget.new.spent) }
+    ensures short { IfErr result (λ e. e ≡ Stop.Budget → budget.new.spent + 3 ≤ budget.old.spent + 2 * size bounds.now) }
 {
     if next < MOST_ROWS as u32 {
         if let Some(cut) = next_cut(alloc, &system, from, count)? {

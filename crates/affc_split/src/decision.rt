@@ -150,6 +150,7 @@ fn cut_and_searched(
     ensures cost { budget.new.spent + 2 ≤ budget.old.spent + 2 * points ranges.now }
     ensures opened { IfOk result (λ a. Searched 0 ranges.now budget.old budget.new (AreFewerFor a)) }
     ensures stop { IfErr result (λ e. e ≡ Stop.Budget → budget.new.limit ≡ Some budget.new.spent) }
+    ensures short { IfErr result (λ e. e ≡ Stop.Budget → budget.new.spent + 3 ≤ budget.old.spent + 2 * points ranges.now) }
 {
     let count = system.rows().len();
     let Ok(boxed) = boxed_system(alloc, system, ranges) else {
@@ -188,6 +189,7 @@ fn searched(
     ensures cost { budget.new.spent + 2 ≤ budget.old.spent + 2 * points ranges.now }
     ensures opened { IfOk result (λ a. Searched 0 ranges.now budget.old budget.new (AreFewerFor a)) }
     ensures stop { IfErr result (λ e. e ≡ Stop.Budget → budget.new.limit ≡ Some budget.new.spent) }
+    ensures short { IfErr result (λ e. e ≡ Stop.Budget → budget.new.spent + 3 ≤ budget.old.spent + 2 * points ranges.now) }
 {
     let _rows = system.rows();
     if next < MOST_ROWS as u32 && has_cut(system) {
@@ -222,6 +224,8 @@ fn opened(
     ensures opened { IfOk result (λ a. Searched 0 ranges.now budget.old budget.new (AreFewerFor a)) }
     ensures unit { length system.now.rows + 2 * system.now.columns ≤ 1024 → (budget.new.spent ≤ budget.old.spent) ⊎ IsHard (with_box system.now ranges.now) }
     ensures stop { IfErr result (λ e. e ≡ Stop.Budget → budget.new.limit ≡ Some budget.new.spent) }
+    ensures hard { length system.now.rows + 2 * system.now.columns ≤ 1024 → IfErr result (λ e. e ≡ Stop.Budget → IsHard (with_box system.now ranges.now)) }
+    ensures short { IfErr result (λ e. e ≡ Stop.Budget → budget.new.spent + 3 ≤ budget.old.spent + 2 * points ranges.now) }
 {
     let columns = system.columns();
     let next = system.rows().len() as u32 + 2 * columns;
@@ -258,12 +262,15 @@ fn decided(
     ensures point { IfOk result (λ a. IfPoint a (IsLeastPoint system.now ranges.now)) }
     ensures limit { budget.new.limit ≡ budget.old.limit }
     ensures uncounted { IsNone budget.old.limit → budget.new.spent ≡ budget.old.spent }
+    ensures grows { budget.old.spent ≤ budget.new.spent }
     ensures counted { OnOk result ((l : ℕ) → budget.old.limit ≡ Some l → budget.old.spent + 1 ≤ budget.new.spent) }
     ensures cost { budget.new.spent + 1 ≤ budget.old.spent + 2 * points ranges.now }
     ensures opened { IfOk result (λ a. Searched 1 ranges.now budget.old budget.new (AreFewerFor a)) }
     ensures unit { length system.now.rows + 2 * system.now.columns ≤ 1024 → (budget.new.spent ≤ budget.old.spent + 1) ⊎ IsHard (with_box system.now ranges.now) }
     ensures first { budget.old.limit ≡ Some budget.old.spent → result ≡ Err Stop.Budget }
     ensures stop { IfErr result (λ e. e ≡ Stop.Budget → budget.new.limit ≡ Some budget.new.spent) }
+    ensures short { IfErr result (λ e. e ≡ Stop.Budget → budget.new.spent + 2 ≤ budget.old.spent + 2 * points ranges.now) }
+    ensures hard { length system.now.rows + 2 * system.now.columns ≤ 1024 → IfErr result (λ e. e ≡ Stop.Budget → (budget.old.limit ≡ Some budget.old.spent) ⊎ IsHard (with_box system.now ranges.now)) }
 {
     budget.open()?;
     let answer = opened(alloc, system, ranges, budget)?;
@@ -291,12 +298,15 @@ pub fn decide(
     // The budget.
     ensures limit { budget.new.limit ≡ budget.old.limit }
     ensures uncounted { IsNone budget.old.limit → budget.new.spent ≡ budget.old.spent }
+    ensures grows { budget.old.spent ≤ budget.new.spent }
     ensures counted { OnOk result ((l : ℕ) → budget.old.limit ≡ Some l → budget.old.spent + 1 ≤ budget.new.spent) }
     ensures cost { budget.new.spent + 1 ≤ budget.old.spent + 2 * points ranges.now }
     ensures opened { IfOk result (λ a. Opened ranges.now budget.old budget.new a) }
     ensures unit { length system.now.rows + 2 * system.now.columns ≤ 1024 → (budget.new.spent ≤ budget.old.spent + 1) ⊎ IsHard (with_box system.now ranges.now) }
     ensures first { budget.old.limit ≡ Some budget.old.spent → result ≡ Err Stop.Budget }
     ensures stop { IfErr result (λ e. e ≡ Stop.Budget → budget.new.limit ≡ Some budget.new.spent) }
+    ensures short { IfErr result (λ e. e ≡ Stop.Budget → budget.new.spent + 2 ≤ budget.old.spent + 2 * points ranges.now) }
+    ensures hard { length system.now.rows + 2 * system.now.columns ≤ 1024 → IfErr result (λ e. e ≡ Stop.Budget → (budget.old.limit ≡ Some budget.old.spent) ⊎ IsHard (with_box system.now ranges.now)) }
 {
     let ranges = ranges.ranges();
     decided(alloc, system, ranges, budget)

@@ -100,6 +100,7 @@ fn opened_half(
     ensures step { budget.new.spent ≤ budget.old.spent + 1 }
     ensures counted { OnOk result (IsUnit budget.old budget.new) }
     ensures stop { IfErr result (λ e. e ≡ Stop.Budget → budget.new.limit ≡ Some budget.new.spent) }
+    ensures unspent { IfErr result (λ e. e ≡ Stop.Budget → budget.new.spent ≡ budget.old.spent) }
 {
     budget.open()?;
     match found_leaf(alloc, system, half.as_slice(), next)? {
@@ -135,6 +136,7 @@ fn opened_low(
     ensures step { budget.new.spent ≤ budget.old.spent + 1 }
     ensures counted { OnOk result (IsUnit budget.old budget.new) }
     ensures stop { IfErr result (λ e. e ≡ Stop.Budget → budget.new.limit ≡ Some budget.new.spent) }
+    ensures unspent { IfErr result (λ e. e ≡ Stop.Budget → budget.new.spent ≡ budget.old.spent) }
 {
     let half = low_box(alloc, system, bounds, j, at, next, left)?;
     let opened = opened_half(alloc, system, half, next + 1, left - 1, budget)?;
@@ -166,6 +168,7 @@ fn opened_high(
     ensures step { budget.new.spent ≤ budget.old.spent + 1 }
     ensures counted { OnOk result (IsUnit budget.old budget.new) }
     ensures stop { IfErr result (λ e. e ≡ Stop.Budget → budget.new.limit ≡ Some budget.new.spent) }
+    ensures unspent { IfErr result (λ e. e ≡ Stop.Budget → budget.new.spent ≡ budget.old.spent) }
 {
     let half = high_box(alloc, system, bounds, j, at, next, left)?;
     let opened = opened_half(alloc, system, half, next + 1, left - 1, budget)?;
@@ -195,6 +198,7 @@ fn looked(
     ensures cost { budget.new.spent + 2 ≤ budget.old.spent + 2 * size bounds.now }
     ensures opened { IfOk result (λ a. IfKnown a (λ f. Searched 0 (ranges_of bounds.now) budget.old budget.new (AreFewer 0 f))) }
     ensures stop { IfErr result (λ e. e ≡ Stop.Budget → budget.new.limit ≡ Some budget.new.spent) }
+    ensures short { IfErr result (λ e. e ≡ Stop.Budget → budget.new.spent + 3 ≤ budget.old.spent + 2 * size bounds.now) }
 {
     if let Some(found) = settled(alloc, system, bounds, next)? {
         return Ok(Look::Known(found));
@@ -235,6 +239,7 @@ pub(crate) fn inside(
     ensures cost { budget.new.spent + 2 ≤ budget.old.spent + 2 * size bounds.now }
     ensures opened { IfOk result (λ a. Searched 0 (ranges_of bounds.now) budget.old budget.new (AreFewer 0 a)) }
     ensures stop { IfErr result (λ e. e ≡ Stop.Budget → budget.new.limit ≡ Some budget.new.spent) }
+    ensures short { IfErr result (λ e. e ≡ Stop.Budget → budget.new.spent + 3 ≤ budget.old.spent + 2 * size bounds.now) }
 {
     let j = match looked(alloc, system, bounds, next, left, spare, budget)? {
         Look::Known(found) => return Ok(found),
@@ -277,6 +282,7 @@ fn lower(
     ensures cost { budget.new.spent + 1 ≤ budget.old.spent + 2 * size (lowered bounds.now j at next) }
     ensures opened { IfOk result (λ a. Searched 1 (ranges_of (lowered bounds.now j at next)) budget.old budget.new (AreFewer 0 a)) }
     ensures stop { IfErr result (λ e. e ≡ Stop.Budget → budget.new.limit ≡ Some budget.new.spent) }
+    ensures short { IfErr result (λ e. e ≡ Stop.Budget → budget.new.spent + 2 ≤ budget.old.spent + 2 * size (lowered bounds.now j at next)) }
 {
     match opened_low(alloc, system, bounds, j, at, next, left, budget)? {
         Half::Leaf(low) => Ok(Found::Empty(low)),
@@ -323,6 +329,7 @@ fn upper(
     ensures cost { budget.new.spent + 1 ≤ budget.old.spent + 2 * size (raised bounds.now j at next) }
     ensures opened { IfOk result (λ a. Searched 1 (ranges_of (raised bounds.now j at next)) budget.old budget.new (AreFewer (nodes low.value + 1) a)) }
     ensures stop { IfErr result (λ e. e ≡ Stop.Budget → budget.new.limit ≡ Some budget.new.spent) }
+    ensures short { IfErr result (λ e. e ≡ Stop.Budget → budget.new.spent + 2 ≤ budget.old.spent + 2 * size (raised bounds.now j at next)) }
 {
     match opened_high(alloc, system, bounds, j, at, next, left, budget) {
         Ok(Half::Leaf(high)) => joined(alloc, low, high, system, bounds, j, at, next),
@@ -369,6 +376,7 @@ fn narrowed(
     ensures cost { budget.new.spent + 2 ≤ budget.old.spent + 2 * size bounds.now }
     ensures opened { IfOk result (λ o. IfSome o (λ a. Searched 0 (ranges_of bounds.now) budget.old budget.new (AreFewer 0 a))) }
     ensures stop { IfErr result (λ e. e ≡ Stop.Budget → budget.new.limit ≡ Some budget.new.spent) }
+    ensures short { IfErr result (λ e. e ≡ Stop.Budget → budget.new.spent + 3 ≤ budget.old.spent + 2 * size bounds.now) }
 {
     let Some(place) = find_place(system, bounds) else {
         return Ok(None);
@@ -445,6 +453,7 @@ fn above(
     ensures cost { budget.new.spent + 2 ≤ budget.old.spent + 2 * size bounds.now }
     ensures opened { IfOk result (λ a. Searched 0 (ranges_of bounds.now) budget.old budget.new (AreFewer 0 a)) }
     ensures stop { IfErr result (λ e. e ≡ Stop.Budget → budget.new.limit ≡ Some budget.new.spent) }
+    ensures short { IfErr result (λ e. e ≡ Stop.Budget → budget.new.spent + 3 ≤ budget.old.spent + 2 * size bounds.now) }
 {
     let j = place.column;
     let at = place.at;
@@ -488,6 +497,7 @@ fn below(
     ensures cost { budget.new.spent + 2 ≤ budget.old.spent + 2 * size bounds.now }
     ensures opened { IfOk result (λ a. Searched 0 (ranges_of bounds.now) budget.old budget.new (AreFewer 0 a)) }
     ensures stop { IfErr result (λ e. e ≡ Stop.Budget → budget.new.limit ≡ Some budget.new.spent) }
+    ensures short { IfErr result (λ e. e ≡ Stop.Budget → budget.new.spent + 3 ≤ budget.old.spent + 2 * size bounds.now) }
 {
     let j = place.column;
     let at = place.at;

@@ -1,8 +1,9 @@
-use Rattle.std.proofs.Common.{◌≡◌, ◌+◌, ◌*◌, ◌≤◌, subst, length, IfOk, ◌⊎◌}
+use Rattle.std.proofs.Common.{◌≡◌, ◌+◌, ◌*◌, ◌≤◌, subst, length, IfOk, IfErr, Some, ◌⊎◌}
 use Rattle.affc_farkas.specs.Proofs.{ValidProof}
 use Rattle.affc_split.specs.Answers.{with_box, IsLeafProof, IsHard, IfEmpty, IfPoint}
 use Rattle.affc_split.specs.Points.{points, IsLeastPoint}
 use Rattle.affc_split.specs.Openings.{Opened}
+use Rattle.affc_split.specs.declared.budget.Stop.TheVariants.{Budget}
 use Rattle.affc_split.proofs.Openings.{whole_opened}
 use Rattle.affc_split.proofs.decision.decide.Goals as goal
 
@@ -24,3 +25,9 @@ returns-clause-unit c = subst (λ rs. length c.args.system.now.rows + 2 * c.args
 pub returns-clause-opened : goal.returns-clause-opened
 returns-clause-opened c = subst (λ rs. IfOk c.decided.result (Opened rs c.args.budget.now c.decided.new.budget)) c.ranges-ranges.ensures.ranges
     (whole_opened c.args.system.now _ c.args.budget.now c.decided.new.budget c.decided.result c.decided.ensures.point c.decided.ensures.opened)
+
+pub returns-clause-short : goal.returns-clause-short
+returns-clause-short c = subst (λ rs. IfErr c.decided.result (λ e. e ≡ Budget → c.decided.new.budget.spent + 2 ≤ c.args.budget.now.spent + 2 * points rs)) c.ranges-ranges.ensures.ranges c.decided.ensures.short
+
+pub returns-clause-hard : goal.returns-clause-hard
+returns-clause-hard c = subst (λ rs. length c.args.system.now.rows + 2 * c.args.system.now.columns ≤ 1024 → IfErr c.decided.result (λ e. e ≡ Budget → (c.args.budget.now.limit ≡ Some c.args.budget.now.spent) ⊎ IsHard (with_box c.args.system.now rs))) c.ranges-ranges.ensures.ranges c.decided.ensures.hard
