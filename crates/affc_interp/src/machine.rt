@@ -246,14 +246,13 @@ impl Machine {
         requires { node + nodes_of_locals locals.now < 2 ^ 32 }
         ensures { Declares result self.old self.new (with_locals locals.now node (scope_of self.old)) }
     {
-        match locals {
-            [] => Ok(()),
-            [l, rest @ ..] => {
-                let x = eval(&l.value, node, self.names.as_slice())?;
-                self.names.push(x)?;
-                self.declare(rest, node + node_count(&l.value))
-            }
+        let mut here = node;
+        for l in locals {
+            let x = eval(&l.value, here, self.names.as_slice())?;
+            self.names.push(x)?;
+            here += node_count(&l.value);
         }
+        Ok(())
     }
 
     // One statement.

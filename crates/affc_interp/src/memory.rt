@@ -412,13 +412,14 @@ impl Memory {
         requires arrays { array + length temps.now < 2 ^ 32 }
         ensures { AllDeclared result self.old self.new [] (all_extents array temps.now node names.now) }
     {
-        match temps {
-            [] => Ok(()),
-            [d, rest @ ..] => {
-                let extents = d.extents.as_slice();
-                self.declare(alloc, array, extents, node, names, &[])?;
-                self.declare_temps(alloc, array + 1, rest, node + node_sum(extents), names)
-            }
+        let mut number = array;
+        let mut first = node;
+        for d in temps {
+            let extents = d.extents.as_slice();
+            self.declare(alloc, number, extents, first, names, &[])?;
+            number += 1;
+            first += node_sum(extents);
         }
+        Ok(())
     }
 }
