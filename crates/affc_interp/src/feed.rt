@@ -1,4 +1,4 @@
-ghost use Rattle.std.specs.Prelude.{◌≡◌, ◌+◌, ◌^◌, ◌<◌, ◌==◌, ◌&&◌, length, IfOk};
+ghost use Rattle.std.specs.Prelude.{◌≡◌, ◌+◌, ◌^◌, ◌<◌, ◌==◌, ◌&&◌, false, length, IfOk, Ok};
 ghost use Rattle.affc_ast.specs.Fits.{meets};
 ghost use Rattle.affc_ast.specs.Meaning.{arrays_of, nodes_of_decls};
 ghost use Rattle.affc_interp.specs.Arrays.{values_in};
@@ -109,7 +109,8 @@ fn read_lines<'t>(
 
 // Whether nothing is left of the text, and the context is met.
 fn is_whole(rest: &[u8], context: &[Compare], p: &[i64]) -> Result<bool, FeedFault>
-    ensures { SaysWhole result ((length rest.now == 0) && meets context.now p.now) }
+    ensures says { SaysWhole result ((length rest.now == 0) && meets context.now p.now) }
+    ensures longer { 0 < length rest.now → result ≡ Ok false }
 {
     if !rest.is_empty() {
         return Ok(false);
