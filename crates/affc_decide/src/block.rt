@@ -1,5 +1,6 @@
 //! Blocks of text that say a system, a box and what is expected of them.
-ghost use Rattle.std.specs.Prelude.{◌≡◌, IfOk, OnErr, Err};
+ghost use Rattle.std.specs.Prelude.{◌≡◌, ℕ, pos, ◌≤◌, ◌<◌, [], ◌∷◌, ◌++◌, length, IfOk, IfErr, OnOk, OnErr, Some, None, Err};
+ghost use Rattle.affc_rows.specs.Forms.{Affine};
 ghost use Rattle.affc_decide.specs.Words.{Says, SaysNone};
 
 use affc_rows::Form;
@@ -64,7 +65,12 @@ fn numbers(alloc: Global, words: &[&str]) -> Result<Vec<i64>, Fault> {
 }
 
 /// A block's first line.
-fn begin(alloc: Global, columns: &str, rows: &str) -> Result<Block, Fault> {
+fn begin(alloc: Global, columns: &str, rows: &str) -> Result<Block, Fault>
+    ensures said { IfOk result (λ b. Says columns.now (pos b.columns) × Says rows.now (pos b.rows)) }
+    ensures small { IfOk result (λ b. (b.columns ≤ 128) × (b.rows ≤ 1024)) }
+    ensures fresh { IfOk result (λ b. (b.limit ≡ 1000000) × (b.system ≡ record { columns = b.columns; rows = [] }) × (b.ranges ≡ None)) }
+    ensures fault { OnErr result (result ≡ Err Fault.Malformed) }
+{
     let columns = number(columns)?;
     let rows = number(rows)?;
     if !(0..=128).contains(&columns) || !(0..=1024).contains(&rows) {
@@ -102,7 +108,10 @@ fn box_of(alloc: Global, ends: &[i64], columns: u32) -> Result<BoxOf, Fault> {
 }
 
 /// A row of coefficients and a constant.
-fn row_of(alloc: Global, entries: &[i64]) -> Result<Form, Fault> {
+fn row_of(alloc: Global, entries: &[i64]) -> Result<Form, Fault>
+    ensures entries { IfOk result (λ f. f.coefs ++ f.constant ∷ [] ≡ entries.now) }
+    ensures none { IfErr result (λ e. e ≡ Fault.Malformed → entries.now ≡ []) }
+{
     let [front @ .., constant] = entries else {
         return Err(Fault::Malformed);
     };
@@ -119,7 +128,11 @@ fn row_of(alloc: Global, entries: &[i64]) -> Result<Form, Fault> {
 }
 
 /// Adds a row to a block.
-fn add_row(alloc: Global, block: &mut Block, entries: &[i64]) -> Result<(), Fault> {
+fn add_row(alloc: Global, block: &mut Block, entries: &[i64]) -> Result<(), Fault>
+    ensures added { OnOk result ((f : Affine) × (f.coefs ++ f.constant ∷ [] ≡ entries.now) × (block.new ≡ record block.old { system = record block.old.system { rows = block.old.system.rows ++ f ∷ [] } })) }
+    ensures room { OnOk result (length block.old.system.rows < block.old.rows) }
+    ensures kept { OnErr result (block.new ≡ block.old) }
+{
     let row = row_of(alloc, entries)?;
     if row.coefs.len() != block.system.columns() as usize
         || block.system.rows().len() >= block.rows
@@ -134,7 +147,9 @@ fn add_row(alloc: Global, block: &mut Block, entries: &[i64]) -> Result<(), Faul
 }
 
 /// A line of numbers: the box's ranges have come before.
-fn add_numbers(alloc: Global, block: &mut Option<Block>, words: &[&str]) -> Result<(), Fault> {
+fn add_numbers(alloc: Global, block: &mut Option<Block>, words: &[&str]) -> Result<(), Fault>
+    ensures kept { OnErr result (block.new ≡ block.old) }
+{
     let entries = numbers(alloc, words)?;
     match block {
         Some(block) => match &block.ranges {
@@ -146,7 +161,9 @@ fn add_numbers(alloc: Global, block: &mut Option<Block>, words: &[&str]) -> Resu
 }
 
 /// Adds the box to a block.
-fn add_ranges(alloc: Global, block: &mut Option<Block>, words: &[&str]) -> Result<(), Fault> {
+fn add_ranges(alloc: Global, block: &mut Option<Block>, words: &[&str]) -> Result<(), Fault>
+    ensures kept { OnErr result (block.new ≡ block.old) }
+{
     let ends = numbers(alloc, words)?;
     match block {
         Some(block) => {
@@ -159,7 +176,12 @@ fn add_ranges(alloc: Global, block: &mut Option<Block>, words: &[&str]) -> Resul
 }
 
 /// Says the limit of a block.
-fn set_limit(block: &mut Option<Block>, limit: &str) -> Result<(), Fault> {
+fn set_limit(block: &mut Option<Block>, limit: &str) -> Result<(), Fault>
+    ensures said { OnOk result ((b : Block) × (l : ℕ) × (block.old ≡ Some b) × Says limit.now (pos l) × (block.new ≡ Some (record b { limit = l }))) }
+    ensures none { OnErr result ((b : Block) (l : ℕ) → block.old ≡ Some b → Says limit.now (pos l) → ⊥) }
+    ensures fault { OnErr result (result ≡ Err Fault.Malformed) }
+    ensures kept { OnErr result (block.new ≡ block.old) }
+{
     let limit = number(limit)?;
     match block {
         Some(block) if limit >= 0 => {
@@ -171,7 +193,9 @@ fn set_limit(block: &mut Option<Block>, limit: &str) -> Result<(), Fault> {
 }
 
 /// Reads a line into a block.
-pub fn read_line(alloc: Global, block: &mut Option<Block>, line: &str) -> Result<Line, Fault> {
+pub fn read_line(alloc: Global, block: &mut Option<Block>, line: &str) -> Result<Line, Fault>
+    ensures kept { OnErr result (block.new ≡ block.old) }
+{
     let words: Vec<&str> = match line.split_whitespace().collect(alloc) {
         Ok(words) => words,
         Err(_) => return Err(Fault::Memory),
