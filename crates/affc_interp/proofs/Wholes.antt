@@ -1,14 +1,16 @@
 -- What is read in 128 bits is the whole number of the expression.
-use Rattle.std.proofs.Common.{◌≡◌, ℤ, pos, negsuc, ◌+ℤ◌, ◌-ℤ◌, ◌*ℤ◌, neg_ℤ, Bool, true, false, ◌&&◌, if◌then◌else◌, int_lt, List, Result, Ok, Err, refl, sym, ap, subst, arith}
+use Rattle.std.proofs.Common.{◌≡◌, ◌≤◌, ℤ, pos, negsuc, ◌+ℤ◌, ◌-ℤ◌, ◌*ℤ◌, neg_ℤ, Bool, true, false, ◌&&◌, if◌then◌else◌, int_lt, List, Result, Ok, Err, refl, sym, ap, subst, arith}
+use denote.Hole.Carrier.{out, shown}
 use Rattle.std.specs.Int.{int_max, int_min}
 use Rattle.std.proofs.lemmas.Bool.Decides.{nat_tests}
-use Rattle.affc_ast.specs.declared.tree.Ix.{Ix}
-use Rattle.affc_ast.specs.declared.tree.Ix.TheBlock.{more_of-Ix, end_of-Ix}
+use Rattle.affc_ast.specs.declared.tree.Ix.{Ix, out-Ix}
+use Rattle.affc_ast.specs.declared.tree.Ix.TheBlock.{more_of-Ix, end_of-Ix, shown-the_row-Ix-0}
 use Rattle.affc_ast.specs.declared.tree.Ix.TheVariants as c
 use Rattle.affc_ast.specs.Fits.{Whole, whole_on_one, whole_on_both, is_divisor, whole_of}
 use Rattle.affc_ast.specs.Index.{floor_of, ceiling_of, remainder_of}
 use Rattle.affc_interp.specs.declared.context.NoWhole.{NoWhole}
 use Rattle.affc_interp.specs.declared.context.NoWhole.TheVariants.{Undefined, Wide}
+use Rattle.affc_interp.specs.Operands.{first_operand, operators}
 use Rattle.affc_interp.specs.Wholes.{is_int128, in_int128, quotient, with_one, wide_of, IsWhole}
 
 abbrev is_number : ℤ → Whole
@@ -71,3 +73,21 @@ wide_is (c.Mod' s (more_of-Ix a end_of-Ix) t (more_of-Ix b end_of-Ix)) names =
 
 pub read_so : (e : Ix) (names : List ℤ) (r : Result ℤ NoWhole) → r ≡ wide_of e names → IsWhole r (whole_of e names)
 read_so e names r h = subst (λ s. IsWhole s (whole_of e names)) (sym h) (wide_is e names)
+
+with_stuck : (r : Result ℤ NoWhole) (f : ℤ → Result ℤ NoWhole) (why : NoWhole) → r ≡ Err why → with_one r f ≡ Err why
+with_stuck r f why e = ap (λ q. with_one q f) e
+
+-- an expression whose first operand has no value has none, for the same reason
+pub wide_stuck : (e : Ix) (names : List ℤ) (why : NoWhole) → 1 ≤ operators e → wide_of (first_operand e) names ≡ Err why → wide_of e names ≡ Err why
+unfolding out-Ix out shown-the_row-Ix-0 shown
+wide_stuck (c.Lit n) names why h e = absurd (omega arith)
+wide_stuck (c.Name x) names why h e = absurd (omega arith)
+wide_stuck (c.Neg' s (more_of-Ix a end_of-Ix)) names why h e = with_stuck _ _ why e
+wide_stuck (c.Floord' s (more_of-Ix a end_of-Ix) d) names why h e = with_stuck _ _ why e
+wide_stuck (c.Ceild' s (more_of-Ix a end_of-Ix) d) names why h e = with_stuck _ _ why e
+wide_stuck (c.Add' s (more_of-Ix a end_of-Ix) t (more_of-Ix b end_of-Ix)) names why h e = with_stuck _ _ why e
+wide_stuck (c.Sub' s (more_of-Ix a end_of-Ix) t (more_of-Ix b end_of-Ix)) names why h e = with_stuck _ _ why e
+wide_stuck (c.Mul' s (more_of-Ix a end_of-Ix) t (more_of-Ix b end_of-Ix)) names why h e = with_stuck _ _ why e
+wide_stuck (c.Min' s (more_of-Ix a end_of-Ix) t (more_of-Ix b end_of-Ix)) names why h e = with_stuck _ _ why e
+wide_stuck (c.Max' s (more_of-Ix a end_of-Ix) t (more_of-Ix b end_of-Ix)) names why h e = with_stuck _ _ why e
+wide_stuck (c.Mod' s (more_of-Ix a end_of-Ix) t (more_of-Ix b end_of-Ix)) names why h e = with_stuck _ _ why e

@@ -2,7 +2,7 @@
 use Rattle.std.specs.Prelude.{◌≡◌, ℕ, pos, negsuc, List, [], ◌∷◌, None, Ok, Err, true, codes}
 use Rattle.affc_ast.specs.declared.tree.Decl.{Decl}
 use Rattle.affc_ast.specs.declared.tree.Ix.{Ix, Lit, Name, Add, Floord, Mod}
-use Rattle.affc_ast.specs.declared.tree.Param.TheVariants.{Number, Array}
+use Rattle.affc_ast.specs.declared.tree.Param.TheVariants.{Array}
 use Rattle.affc_ast.specs.declared.tree.Program.{Program}
 use Rattle.affc_ast.specs.declared.tree.Rel.TheVariants.{LessEqual}
 use Rattle.affc_ast.specs.declared.tree.Role.TheVariants.{Input, Output}

@@ -1,9 +1,12 @@
 // The conditions on the parameters, which are read as whole numbers.
-ghost use Rattle.std.specs.Prelude.{◌≡◌, ◌+ℤ◌, ◌-ℤ◌, ◌*ℤ◌, neg_ℤ, pos, ◌≤ℤ◌, IfOk, get_or, ◌&&◌};
+ghost use Rattle.std.specs.Prelude.{◌≡◌, ◌≤◌, ◌+ℤ◌, ◌-ℤ◌, ◌*ℤ◌, neg_ℤ, pos, ◌≤ℤ◌, Ok, IfOk, get_or, ◌&&◌};
 ghost use Rattle.affc_ast.specs.Fits as fits;
 ghost use Rattle.affc_ast.specs.Index.{compares, floor_of, ceiling_of, remainder_of};
+ghost use Rattle.affc_interp.specs.Operands as row;
+ghost use Rattle.affc_interp.specs.Operands.{operators};
 ghost use Rattle.affc_interp.specs.Wholes.{in_int128, quotient, wide_of, IsWhole, is_met};
 
+use crate::index::first_operand;
 use affc_ast::tree::{Compare, Ix, Rel};
 
 /// Why an expression gives no whole number here.
@@ -89,53 +92,77 @@ fn named(names: &[i64], x: u32) -> i128
     }
 }
 
-// The value of an expression.
+// The value of an expression without operators.
 #[tactic(auto, using(affc_ast::proofs::Outs::ix_outs))]
+fn atom(e: &Ix, names: &[i64]) -> i128
+    requires { operators e.now ≡ 0 }
+    ensures { wide_of e.now names.now ≡ Ok result }
+{
+    match e {
+        Ix::Lit(n) => i128::from(*n),
+        Ix::Name(x) => named(names, x.0),
+        Ix::Neg(_) => unreachable!(),
+        Ix::Add(..) => unreachable!(),
+        Ix::Sub(..) => unreachable!(),
+        Ix::Mul(..) => unreachable!(),
+        Ix::Min(..) => unreachable!(),
+        Ix::Max(..) => unreachable!(),
+        Ix::Floord(..) => unreachable!(),
+        Ix::Ceild(..) => unreachable!(),
+        Ix::Mod(..) => unreachable!(),
+    }
+}
+
+// The value of an expression. A frame is small, since a row of operators may be as long as a line.
+#[cycle(whole)]
 fn whole(e: &Ix, names: &[i64]) -> Result<i128, NoWhole>
     ensures { result ≡ wide_of e.now names.now }
 {
-    match e {
-        Ix::Lit(n) => Ok(i128::from(*n)),
-        Ix::Name(x) => Ok(named(names, x.0)),
-        Ix::Neg(a) => {
-            let x = whole(a.get(), names)?;
-            negated(x)
+    match first_operand(e) {
+        None => Ok(atom(e, names)),
+        Some(a) => {
+            let x = whole(a, names)?;
+            outermost(e, x, names)
         }
-        Ix::Add(a, b) => {
-            let x = whole(a.get(), names)?;
+    }
+}
+
+// The value of an expression, from that of its first operand.
+#[tactic(auto, using(affc_ast::proofs::Outs::ix_outs))]
+#[cycle(whole)]
+#[inline(never)]
+fn outermost(e: &Ix, x: i128, names: &[i64]) -> Result<i128, NoWhole>
+    requires operator { 1 ≤ operators e.now }
+    requires inner { wide_of (row.first_operand e.now) names.now ≡ Ok x }
+    ensures { result ≡ wide_of e.now names.now }
+{
+    match e {
+        Ix::Lit(_) => unreachable!(),
+        Ix::Name(_) => unreachable!(),
+        Ix::Neg(_) => negated(x),
+        Ix::Add(_, b) => {
             let y = whole(b.get(), names)?;
             sum(x, y)
         }
-        Ix::Sub(a, b) => {
-            let x = whole(a.get(), names)?;
+        Ix::Sub(_, b) => {
             let y = whole(b.get(), names)?;
             difference(x, y)
         }
-        Ix::Mul(a, b) => {
-            let x = whole(a.get(), names)?;
+        Ix::Mul(_, b) => {
             let y = whole(b.get(), names)?;
             product(x, y)
         }
-        Ix::Min(a, b) => {
-            let x = whole(a.get(), names)?;
+        Ix::Min(_, b) => {
             let y = whole(b.get(), names)?;
             Ok(x.min(y))
         }
-        Ix::Max(a, b) => {
-            let x = whole(a.get(), names)?;
+        Ix::Max(_, b) => {
             let y = whole(b.get(), names)?;
             Ok(x.max(y))
         }
-        Ix::Floord(a, n) => {
-            let x = whole(a.get(), names)?;
-            floor(x, *n)
-        }
-        Ix::Ceild(a, n) => {
-            let x = whole(a.get(), names)?;
-            ceiling(x, *n)
-        }
-        Ix::Mod(a, b) => {
-            let x = whole(a.get(), names)?;
+        Ix::Floord(_, n) => floor(x, *n),
+        Ix::Ceild(_, n) => ceiling(x, *n),
+        Ix::Mod(_, b) => {
             let y = whole(b.get(), names)?;
             remainder(x, y)
         }

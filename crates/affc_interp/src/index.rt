@@ -136,7 +136,7 @@ fn ceiling(node: u32, x: i64, n: i64) -> Result<i64, u32>
 
 /// The first operand of the outermost operator, if there is one.
 #[tactic(auto, using(affc_ast::proofs::Outs::ix_outs))]
-fn first_operand(e: &Ix) -> Option<&Ix>
+pub(crate) fn first_operand(e: &Ix) -> Option<&Ix>
     ensures { MatchOption result (operators e.now ≡ 0) (λ a. (a.now ≡ row.first_operand e.now) × (operators e.now ≡ suc (operators a.now))) }
 {
     match e {
