@@ -4,15 +4,15 @@ use denote.Hole.Carrier.{hidden}
 use Rattle.affc_ast.specs.declared.tree.Ix.TheBlock.{shape-the_row-Ix-0, hidden-the_row-Ix-0}
 use Rattle.affc_ast.specs.declared.tree.Stmt.TheBlock.{shape-the_row-Stmt-0, hidden-the_row-Stmt-0}
 use Rattle.affc_ast.specs.declared.tree.Val.TheBlock.{shape-the_row-Val-0, hidden-the_row-Val-0}
-use Rattle.affc_ast.specs.Examples.{QuotientsRound, RemaindersStartAtZero, LeastAndGreatest, DivisorsAreAtLeastOne, NumbersHaveTheirEnds, NegationsOverflow, ValuesCompute, ValuesWrap, RelationsCompare, FirstFalseEndsTheReading, CopyLoopCopies, OutputsAreOut, CopyLoopTrace, CopyLoopEvents, CompoundAdds, CompoundSubtracts, ValuesAreReadFromTheLeft, ConditionsChoose, LoopsNest, TwoStatementsTakeTurns, TwoStatementsRun, CompoundLoadsFirst, LocalsSeeThoseBefore, LoadsStayInside, StoresStayInside, SubscriptsStartAtZero, AccessesAreCounted, StatementsAreCounted, LoadsFindValues, OwnElementComesFirst, ProductsOverflow, ProductsFit, ContextHasNodes, TemporariesHaveNodes, ValuesHaveNodes, BlocksHaveNodes, LocalsHaveNodes, ExtentsAreAtLeastOne, FirstExtentEndsTheReading, ExtentsAreReadInOrder, StepsOverflow, RangesHoldTheirEnds, ConditionsHaveValues, FollowsInAnotherOrder, FollowsAtOtherPlaces}
+use Rattle.affc_ast.specs.Examples.{QuotientsRound, RemaindersStartAtZero, LeastAndGreatest, DivisorsAreAtLeastOne, NumbersHaveTheirEnds, NegationsOverflow, ValuesCompute, ValuesWrap, RelationsCompare, FirstFalseEndsTheReading, CopyLoopCopies, OutputsAreOut, CopyLoopTrace, CopyLoopEvents, CompoundAdds, CompoundSubtracts, ValuesAreReadFromTheLeft, ConditionsChoose, LoopsNest, TwoStatementsTakeTurns, TwoStatementsRun, CompoundLoadsFirst, LocalsSeeThoseBefore, LoadsStayInside, StoresStayInside, SubscriptsStartAtZero, AccessesAreCounted, StatementsAreCounted, LoadsFindValues, OwnElementComesFirst, ProductsOverflow, ProductsFit, ContextHasNodes, TemporariesHaveNodes, ValuesHaveNodes, BlocksHaveNodes, LocalsHaveNodes, ExtentsAreAtLeastOne, FirstExtentEndsTheReading, ExtentsAreReadInOrder, StepsOverflow, RangesHoldTheirEnds, ConditionsHaveValues, ContextsHaveNoLimit, FollowsInAnotherOrder, FollowsAtOtherPlaces}
 
 pub quotients_round : QuotientsRound
 unfolding shape-the_row-Ix-0 hidden-the_row-Ix-0 shape-the_row-Val-0 hidden-the_row-Val-0 shape-the_row-Stmt-0 hidden-the_row-Stmt-0 hidden
-quotients_round = (refl, refl, refl)
+quotients_round = (refl, refl, refl, refl, refl)
 
 pub remainders_start_at_zero : RemaindersStartAtZero
 unfolding shape-the_row-Ix-0 hidden-the_row-Ix-0 shape-the_row-Val-0 hidden-the_row-Val-0 shape-the_row-Stmt-0 hidden-the_row-Stmt-0 hidden
-remainders_start_at_zero = (refl, refl, refl)
+remainders_start_at_zero = (refl, refl, refl, refl)
 
 pub least_and_greatest : LeastAndGreatest
 unfolding shape-the_row-Ix-0 hidden-the_row-Ix-0 shape-the_row-Val-0 hidden-the_row-Val-0 shape-the_row-Stmt-0 hidden-the_row-Stmt-0 hidden
@@ -32,7 +32,7 @@ negations_overflow = refl
 
 pub values_compute : ValuesCompute
 unfolding shape-the_row-Ix-0 hidden-the_row-Ix-0 shape-the_row-Val-0 hidden-the_row-Val-0 shape-the_row-Stmt-0 hidden-the_row-Stmt-0 hidden
-values_compute = (refl, refl, refl, refl, refl, refl, refl)
+values_compute = (refl, refl, refl, refl, refl, refl, refl, refl)
 
 pub values_wrap : ValuesWrap
 unfolding shape-the_row-Ix-0 hidden-the_row-Ix-0 shape-the_row-Val-0 hidden-the_row-Val-0 shape-the_row-Stmt-0 hidden-the_row-Stmt-0 hidden
@@ -156,11 +156,15 @@ steps_overflow = refl
 
 pub ranges_hold_their_ends : RangesHoldTheirEnds
 unfolding shape-the_row-Ix-0 hidden-the_row-Ix-0 shape-the_row-Val-0 hidden-the_row-Val-0 shape-the_row-Stmt-0 hidden-the_row-Stmt-0 hidden
-ranges_hold_their_ends = (refl, refl, refl, refl)
+ranges_hold_their_ends = (refl, refl, refl, refl, refl, refl)
 
 pub conditions_have_values : ConditionsHaveValues
 unfolding shape-the_row-Ix-0 hidden-the_row-Ix-0 shape-the_row-Val-0 hidden-the_row-Val-0 shape-the_row-Stmt-0 hidden-the_row-Stmt-0 hidden
 conditions_have_values = (refl, refl)
+
+pub contexts_have_no_limit : ContextsHaveNoLimit
+unfolding shape-the_row-Ix-0 hidden-the_row-Ix-0 shape-the_row-Val-0 hidden-the_row-Val-0 shape-the_row-Stmt-0 hidden-the_row-Stmt-0 hidden
+contexts_have_no_limit = refl
 
 pub follows_in_another_order : FollowsInAnotherOrder
 unfolding shape-the_row-Ix-0 hidden-the_row-Ix-0 shape-the_row-Val-0 hidden-the_row-Val-0 shape-the_row-Stmt-0 hidden-the_row-Stmt-0 hidden

@@ -8,3 +8,5 @@ pub mod FitProofs
 pub mod Readings
 pub mod TurnProofs
 pub mod CopyText
+pub mod RuleProofs
+pub mod CounterProofs

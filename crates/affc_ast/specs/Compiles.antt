@@ -11,7 +11,8 @@ pub record RunsAs (target source : Program) (ordered : Order) (place : Places) (
   pub same_outputs : outputs target follows.target_end.store ≡ outputs source follows.source_end.store
 
 -- `target` has the name, the parameters with their ranges and the context of `source`, and it runs as `source` for
--- all data that fit. The order and the places may depend on the values of the parameters, and on nothing else.
+-- all data that fit. The order and the places are chosen by the values of the parameters alone; an `Order` may look at
+-- the stores, and need not keep them all.
 pub record Compiles (target source : Program) (ordered : List ℤ → Order) (place : List ℤ → Places) : Type 0 where
   pub name : target.name ≡ source.name
   pub parameters : target.params ≡ source.params

@@ -28,23 +28,26 @@ use Rattle.affc_ast.specs.Values.{operate, complement, shifted, converted}
 
 -- ---- Numbers
 
-abbrev lit : ℕ → Ix
+abbrev pub lit : ℕ → Ix
 lit n = Lit (pos n)
 
 abbrev minus_one : Ix
 minus_one = Lit (negsuc 0)
 
--- affc_floord(-1, 2) is -1, affc_ceild(-1, 2) is 0, affc_ceild(5, 2) is 3
+-- affc_floord(-1, 2) is -1, affc_ceild(-1, 2) is 0, affc_ceild(5, 2) is 3, affc_ceild(4, 2) is 2, affc_ceild(-4, 2) is -2
 abbrev pub QuotientsRound : Type 0
 QuotientsRound =
     (index_value (Floord minus_one (pos 2)) 0 [] ≡ Ok (negsuc 0)) ×
     (index_value (Ceild minus_one (pos 2)) 0 [] ≡ Ok (pos 0)) ×
-    (index_value (Ceild (lit 5) (pos 2)) 0 [] ≡ Ok (pos 3))
+    (index_value (Ceild (lit 5) (pos 2)) 0 [] ≡ Ok (pos 3)) ×
+    (index_value (Ceild (lit 4) (pos 2)) 0 [] ≡ Ok (pos 2)) ×
+    (index_value (Ceild (Lit (negsuc 3)) (pos 2)) 0 [] ≡ Ok (negsuc 1))
 
--- affc_mod(-1, 5) is 4, affc_mod(7, 5) is 2, affc_mod(7, 1) is 0
+-- affc_mod(-1, 5) is 4, affc_mod(-5, 5) is 0, affc_mod(7, 5) is 2, affc_mod(7, 1) is 0
 abbrev pub RemaindersStartAtZero : Type 0
 RemaindersStartAtZero =
     (index_value (Mod minus_one (lit 5)) 0 [] ≡ Ok (pos 4)) ×
+    (index_value (Mod (Lit (negsuc 4)) (lit 5)) 0 [] ≡ Ok (pos 0)) ×
     (index_value (Mod (lit 7) (lit 5)) 0 [] ≡ Ok (pos 2)) ×
     (index_value (Mod (lit 7) (lit 1)) 0 [] ≡ Ok (pos 0))
 
@@ -58,7 +61,7 @@ LeastAndGreatest =
 abbrev pub DivisorsAreAtLeastOne : Type 0
 DivisorsAreAtLeastOne = index_value (Add (lit 1) (Mod (lit 7) (lit 0))) 10 [] ≡ Err (Overflow 12)
 
-abbrev greatest_int64 : Ix
+abbrev pub greatest_int64 : Ix
 greatest_int64 = lit 9223372036854775807
 
 -- -2^63 and 2^63 - 1 are numbers of `int64_t`, and those next to them aren't: -(2^63 - 1) - 1, -(2^63 - 1) - 2, 2^63 - 2 + 1, 2^63 - 1 + 1
@@ -73,13 +76,14 @@ NumbersHaveTheirEnds =
 abbrev pub NegationsOverflow : Type 0
 NegationsOverflow = index_value (Neg (Lit (negsuc 9223372036854775807))) 0 [] ≡ Err (Overflow 0)
 
--- 7 - 2, 12 & 10, 12 | 10, 12 ^ 10, 3 << 2, 13 >> 2, (uint64_t)(5)
+-- 7 - 2, 12 & 10, 12 | 10, 12 ^ 10, ~5, 3 << 2, 13 >> 2, (uint64_t)(5)
 abbrev pub ValuesCompute : Type 0
 ValuesCompute =
     (operate op.Sub 7 2 ≡ 5) ×
     (operate op.And 12 10 ≡ 8) ×
     (operate op.Or 12 10 ≡ 14) ×
     (operate op.Xor 12 10 ≡ 6) ×
+    (complement 5 ≡ 18446744073709551610) ×
     (shifted true 3 2 ≡ 12) ×
     (shifted false 13 2 ≡ 3) ×
     (converted (pos 5) ≡ 5)
@@ -109,10 +113,10 @@ RelationsCompare =
 abbrev too_great : Compare
 too_great = record { rel = Equal; left = Add greatest_int64 (lit 1); right = lit 0 }
 
-abbrev never : Compare
+abbrev pub never : Compare
 never = record { rel = Less; left = lit 0; right = lit 0 }
 
-abbrev always : Compare
+abbrev pub always : Compare
 always = record { rel = LessEqual; left = lit 0; right = lit 0 }
 
 -- 0 < 0 && 2^63 - 1 + 1 == 0 is false; with the two exchanged the sum, which is node 1, is read; behind 0 <= 0, which is
@@ -126,25 +130,25 @@ FirstFalseEndsTheReading =
 
 -- ---- Programs over in[N] and out[N], where N is from 0 to 4
 
-abbrev n : Ix
+abbrev pub n : Ix
 n = Name (record { 0 = 0 })
 
-abbrev i : Ix
+abbrev pub i : Ix
 i = Name (record { 0 = 1 })
 
-abbrev input : ArrayId
+abbrev pub input : ArrayId
 input = record { 0 = 0 }
 
-abbrev output : ArrayId
+abbrev pub output : ArrayId
 output = record { 0 = 1 }
 
-abbrev temporary : ArrayId
+abbrev pub temporary : ArrayId
 temporary = record { 0 = 2 }
 
-abbrev array : Role → List Ix → Decl
+abbrev pub array : Role → List Ix → Decl
 array role extents = record { name = []; role = role; extents = extents }
 
-abbrev program : (context : List Compare) → (temps : List Decl) → (body : List Stmt) → Program
+abbrev pub program : (context : List Compare) → (temps : List Decl) → (body : List Stmt) → Program
 program context temps body = record {
   name = [];
   params = Number [] (pos 0) (pos 4) ∷ Array (array Input (n ∷ [])) ∷ Array (array Output (n ∷ [])) ∷ [];
@@ -159,17 +163,17 @@ abbrev each : Stmt → Stmt
 each s = For [] (lit 0) Less n (s ∷ [])
 
 -- array[subscript] = from[at];
-abbrev assign : ArrayId → Ix → ArrayId → Ix → Stmt
+abbrev pub assign : ArrayId → Ix → ArrayId → Ix → Stmt
 assign array subscript from at = Assign None array (subscript ∷ []) (Load from (at ∷ []))
 
 -- array[subscript] += from[at];
 abbrev increase : ArrayId → Ix → ArrayId → Ix → Stmt
 increase array subscript from at = Assign (Some op.Add) array (subscript ∷ []) (Load from (at ∷ []))
 
-abbrev instance : (statement : ℕ) → List ℤ → Instance
+abbrev pub instance : (statement : ℕ) → List ℤ → Instance
 instance statement iterators = record { statement = statement; iterators = iterators }
 
-abbrev cell : (array x : ℕ) → Element
+abbrev pub cell : (array x : ℕ) → Element
 cell array x = (array, pos x ∷ [])
 
 -- in holds 7 8 9, and out holds a b c
@@ -177,7 +181,7 @@ abbrev pub three : (a b c : ℕ) → Store
 three a b c = (cell 0 0, 7) ∷ (cell 0 1, 8) ∷ (cell 0 2, 9) ∷ (cell 1 0, a) ∷ (cell 1 1, b) ∷ (cell 1 2, c) ∷ []
 
 -- in holds 7, and out holds 1
-abbrev one : Store
+abbrev pub one : Store
 one = (cell 0 0, 7) ∷ (cell 1 0, 1) ∷ []
 
 -- ---- Runs that end
@@ -385,13 +389,15 @@ StepsOverflow =
 
 -- ---- Data
 
--- the copy loop takes N from 1 to 4
+-- the copy loop takes N from 1 to 4, and no other number
 abbrev pub RangesHoldTheirEnds : Type 0
 RangesHoldTheirEnds =
     (within_ranges copying.params (pos 1 ∷ []) ≡ true) ×
     (within_ranges copying.params (pos 4 ∷ []) ≡ true) ×
+    (within_ranges copying.params (pos 0 ∷ []) ≡ false) ×
     (within_ranges copying.params (pos 5 ∷ []) ≡ false) ×
-    (within_ranges copying.params [] ≡ false)
+    (within_ranges copying.params [] ≡ false) ×
+    (within_ranges copying.params (pos 1 ∷ pos 1 ∷ []) ≡ false)
 
 -- in = 7 8 9 and out = 0 0 0 fit it at N = 3
 abbrev pub SomeDataFit : Type 0
@@ -402,6 +408,10 @@ abbrev pub ConditionsHaveValues : Type 0
 ConditionsHaveValues =
     (meets (record { rel = Equal; left = Mod n (lit 0); right = lit 0 } ∷ []) (pos 3 ∷ []) ≡ false) ×
     (meets (record { rel = Equal; left = Mod n (lit 3); right = lit 0 } ∷ []) (pos 3 ∷ []) ≡ true)
+
+-- 2^63 - 1 + N > 2^63 - 1 at N = 1, in whole numbers without limit
+abbrev pub ContextsHaveNoLimit : Type 0
+ContextsHaveNoLimit = meets (record { rel = Greater; left = Add greatest_int64 n; right = greatest_int64 } ∷ []) (pos 1 ∷ []) ≡ true
 
 -- ---- Texts
 
@@ -431,17 +441,17 @@ CopyTextReads = Reads copy_text (copy_tree copy_named)
 -- ---- Following
 
 -- for (i = 0; i < 2; i++) out[1 - i] = in[1 - i]; makes the copies in the other order
-abbrev backwards : Program
+abbrev pub backwards : Program
 backwards = program [] [] (For [] (lit 0) Less (lit 2) (assign output (Sub (lit 1) i) input (Sub (lit 1) i) ∷ []) ∷ [])
 
-abbrev two : (a b : ℕ) → Store
+abbrev pub two : (a b : ℕ) → Store
 two a b = (cell 0 0, 7) ∷ (cell 0 1, 8) ∷ (cell 1 0, a) ∷ (cell 1 1, b) ∷ []
 
 abbrev pub FollowsInAnotherOrder : Type 0
 FollowsInAnotherOrder = Follows backwards copying reverse own_place (pos 2 ∷ []) (two 0 0)
 
 -- uint64_t t[extent]; for (i = 0; i < N; i++) { t[at] = in[i]; out[i] = t[at]; }
-abbrev through : (extent at : Ix) → Program
+abbrev pub through : (extent at : Ix) → Program
 through extent at = program [] (array Temp (extent ∷ []) ∷ []) (For [] (lit 0) Less n (assign temporary at input i ∷ assign output i temporary at ∷ []) ∷ [])
 
 -- each element of t at place 0

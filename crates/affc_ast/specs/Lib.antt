@@ -12,3 +12,5 @@ pub mod CopyLoop
 pub mod Names
 pub mod Reads
 pub mod Examples
+pub mod Rules
+pub mod Counterexamples

@@ -1,5 +1,6 @@
--- Which texts read as which programs. So far this is said of the texts of one form: a loop that copies one array
--- into another.
+-- Which texts of one form, a loop that copies one array into another, read as which programs. `affc_grammar` says
+-- it of every text by the whole grammar, and its law `copy_loops_read` says that a text which reads as a program
+-- here reads as the same program there.
 --
 --     #include <stdint.h>
 --     #pragma affc param N LOW HIGH

@@ -1,11 +1,13 @@
-//! What the definitions give at small programs, as laws: `specs/Examples.antt` says each, with values that were
-//! found by hand from the rules.
+//! What the definitions give at small programs, as laws: `specs/Examples.antt`, `specs/Rules.antt` and
+//! `specs/Counterexamples.antt` say each, with values that were found by hand from the rules.
 
 ghost use Rattle.affc_ast.specs.Examples.{QuotientsRound, RemaindersStartAtZero, LeastAndGreatest, DivisorsAreAtLeastOne, NumbersHaveTheirEnds, NegationsOverflow, ValuesCompute, ValuesWrap, RelationsCompare, FirstFalseEndsTheReading};
 ghost use Rattle.affc_ast.specs.Examples.{CopyLoopCopies, OutputsAreOut, CopyLoopTrace, CopyLoopEvents, CompoundAdds, CompoundSubtracts, ValuesAreReadFromTheLeft, ConditionsChoose, LoopsNest, TwoStatementsTakeTurns, TwoStatementsRun, CompoundLoadsFirst, LocalsSeeThoseBefore};
 ghost use Rattle.affc_ast.specs.Examples.{LoadsStayInside, StoresStayInside, SubscriptsStartAtZero, AccessesAreCounted, StatementsAreCounted, LoadsFindValues, OwnElementComesFirst, ProductsOverflow, ProductsFit, ContextHasNodes, TemporariesHaveNodes, ValuesHaveNodes, BlocksHaveNodes, LocalsHaveNodes, ExtentsAreAtLeastOne, FirstExtentEndsTheReading, ExtentsAreReadInOrder, StepsOverflow};
-ghost use Rattle.affc_ast.specs.Examples.{RangesHoldTheirEnds, SomeDataFit, ConditionsHaveValues};
+ghost use Rattle.affc_ast.specs.Examples.{RangesHoldTheirEnds, SomeDataFit, ConditionsHaveValues, ContextsHaveNoLimit};
 ghost use Rattle.affc_ast.specs.Examples.{CopyTextReads, FollowsInAnotherOrder, FollowsAtOtherPlaces};
+ghost use Rattle.affc_ast.specs.Rules.{LeftSidesComeFirst, LeftLoadsComeFirst, LowerBoundsComeFirst, LeftSubscriptsComeFirst, SubscriptsComeBeforeValues, ValuesComeBeforeStores, UnwrittenLoadsAreCounted, SubscriptsHaveTheirExtents, LastSubscriptsRunFastest, ValuesAreStored, EachFormHasItsNodes};
+ghost use Rattle.affc_ast.specs.Counterexamples.{OrdersDiffer, ValuesDiffer, PlacesDiffer, OwnElementsDiffer, OutputsDiffer, NamesDiffer, RangesDiffer, ContextsDiffer, RunsDiffer};
 
 /// What expressions, conditions and operations on values give.
 pub fn numbers()
@@ -65,6 +67,7 @@ pub fn data()
     ensures ranges_hold_their_ends { RangesHoldTheirEnds }
     ensures some_data_fit { SomeDataFit }
     ensures conditions_have_values { ConditionsHaveValues }
+    ensures contexts_have_no_limit { ContextsHaveNoLimit }
 {}
 
 /// A text that reads as the tree of a copy loop.
@@ -76,4 +79,36 @@ pub fn texts()
 pub fn following()
     ensures follows_in_another_order { FollowsInAnotherOrder }
     ensures follows_at_other_places { FollowsAtOtherPlaces }
+{}
+
+/// Which fault comes first, how many nodes each form has, where two dimensions end, and how elements are ordered.
+pub fn rules()
+    ensures left_sides_come_first { LeftSidesComeFirst }
+    ensures left_loads_come_first { LeftLoadsComeFirst }
+    ensures lower_bounds_come_first { LowerBoundsComeFirst }
+    ensures left_subscripts_come_first { LeftSubscriptsComeFirst }
+    ensures subscripts_come_before_values { SubscriptsComeBeforeValues }
+    ensures values_come_before_stores { ValuesComeBeforeStores }
+    ensures unwritten_loads_are_counted { UnwrittenLoadsAreCounted }
+    ensures subscripts_have_their_extents { SubscriptsHaveTheirExtents }
+    ensures last_subscripts_run_fastest { LastSubscriptsRunFastest }
+    ensures values_are_stored { ValuesAreStored }
+    ensures each_form_has_its_nodes { EachFormHasItsNodes }
+{}
+
+/// Programs that don't follow another, or don't run as it.
+pub fn not_following()
+    ensures orders_differ { OrdersDiffer }
+    ensures values_differ { ValuesDiffer }
+    ensures places_differ { PlacesDiffer }
+    ensures own_elements_differ { OwnElementsDiffer }
+    ensures outputs_differ { OutputsDiffer }
+{}
+
+/// Programs that don't compile another.
+pub fn not_compiling()
+    ensures names_differ { NamesDiffer }
+    ensures ranges_differ { RangesDiffer }
+    ensures contexts_differ { ContextsDiffer }
+    ensures runs_differ { RunsDiffer }
 {}
