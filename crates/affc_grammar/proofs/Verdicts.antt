@@ -161,3 +161,40 @@ name_refused_there ss at why e = shaped (shape_case (its_limits ss) ss (least (s
     shaped : ((p : Passed) × (least (shape_passed (its_limits ss) ss) ≡ Some p) × (limit p.at p.which ≡ name at why)) ⊎ ((shape_passed (its_limits ss) ss ≡ []) × (of_read (its_limits ss) (length ss) (read_text (its_limits ss).depth ss) ≡ name at why)) → (c : Text) × (ss ≡ text_symbols c) × (tree_of (its_limits ss) (text_draft c) ≡ Err (name_refused (record { at = at; why = why })))
     shaped (inl k) = absurd (no_limit_name k.0 at why k.2)
     shaped (inr k) = read (read_case (its_limits ss) ss k.0 (read_text (its_limits ss).depth ss) refl (name at why) k.1)
+
+no_limit_product : (p : Passed) (at : ℕ) → limit p.at p.which ≡ product at → ⊥
+no_limit_product p at e = cc
+
+pub product_there : (ss : List Symbol) (at : ℕ) → verdict ss ≡ product at → (c : Text) × (ss ≡ text_symbols c) × (tree_of (its_limits ss) (text_draft c) ≡ Err (not_affine at))
+product_there ss at e = shaped (shape_case (its_limits ss) ss (least (shape_passed (its_limits ss) ss)) refl (product at) e)
+  where
+    read : Judged (its_limits ss) ss (product at) ⊎ ((rest : List Symbol) × (read_text (its_limits ss).depth ss ≡ Err (At rest)) × (syntax (length ss - length rest) ≡ product at)) → (c : Text) × (ss ≡ text_symbols c) × (tree_of (its_limits ss) (text_draft c) ≡ Err (not_affine at))
+    read (inl k) = (k.0, k.1, tree_product (tree_of (its_limits ss) (text_draft k.0)) at k.2)
+    read (inr k) = absurd (let no_text = k.2 in cc)
+
+    shaped : ((p : Passed) × (least (shape_passed (its_limits ss) ss) ≡ Some p) × (limit p.at p.which ≡ product at)) ⊎ ((shape_passed (its_limits ss) ss ≡ []) × (of_read (its_limits ss) (length ss) (read_text (its_limits ss).depth ss) ≡ product at)) → (c : Text) × (ss ≡ text_symbols c) × (tree_of (its_limits ss) (text_draft c) ≡ Err (not_affine at))
+    shaped (inl k) = absurd (no_limit_product k.0 at k.2)
+    shaped (inr k) = read (read_case (its_limits ss) ss k.0 (read_text (its_limits ss).depth ss) refl (product at) k.1)
+
+-- a limit of the tokens, or one of the text where none of those is passed
+abbrev pub LimitOf : List Symbol → ℕ → LimitName → Type 0
+LimitOf ss at which =
+    (least (shape_passed (its_limits ss) ss) ≡ Some (record { at = at; which = which }))
+    ⊎ ((shape_passed (its_limits ss) ss ≡ []) × ((c : Text) × (ss ≡ text_symbols c) × (tree_of (its_limits ss) (text_draft c) ≡ Err (limit_passed (record { at = at; which = which })))))
+
+same_passed : (o : Option Passed) (p : Passed) (at : ℕ) (which : LimitName) → o ≡ Some p → limit p.at p.which ≡ limit at which → o ≡ Some (record { at = at; which = which })
+same_passed o p at which q e =
+    let places : p.at ≡ at = cc in
+    let names : p.which ≡ which = cc in
+    q ∙ (λ i. Some (record { at = places i; which = names i }))
+
+pub limit_there : (ss : List Symbol) (at : ℕ) (which : LimitName) → verdict ss ≡ limit at which → LimitOf ss at which
+limit_there ss at which e = shaped (shape_case (its_limits ss) ss (least (shape_passed (its_limits ss) ss)) refl (limit at which) e)
+  where
+    read : (shape_passed (its_limits ss) ss ≡ []) → Judged (its_limits ss) ss (limit at which) ⊎ ((rest : List Symbol) × (read_text (its_limits ss).depth ss ≡ Err (At rest)) × (syntax (length ss - length rest) ≡ limit at which)) → LimitOf ss at which
+    read shape (inl k) = inr (shape, (k.0, k.1, tree_limit (tree_of (its_limits ss) (text_draft k.0)) at which k.2))
+    read shape (inr k) = absurd (let no_text = k.2 in cc)
+
+    shaped : ((p : Passed) × (least (shape_passed (its_limits ss) ss) ≡ Some p) × (limit p.at p.which ≡ limit at which)) ⊎ ((shape_passed (its_limits ss) ss ≡ []) × (of_read (its_limits ss) (length ss) (read_text (its_limits ss).depth ss) ≡ limit at which)) → LimitOf ss at which
+    shaped (inl k) = inl (same_passed (least (shape_passed (its_limits ss) ss)) k.0 at which k.1 k.2)
+    shaped (inr k) = read k.0 (read_case (its_limits ss) ss k.0 (read_text (its_limits ss).depth ss) refl (limit at which) k.1)

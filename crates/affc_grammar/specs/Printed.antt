@@ -1,4 +1,5 @@
--- The text as which a program is printed. It has the fewest parentheses, braces round every body, and names from the tree.
+-- The text as which a program is printed. It has braces round every body, names from the tree, and parentheses round an operand whose operator binds looser
+-- (on the right, also as tightly), round a negation except by itself and left of "+" and "-", and round a call under a minus.
 --
 -- What no text can say (a negative literal, a shift past 63, a divisor below 1, a call without the prelude, an `if` without conditions, an array parameter without
 -- extents, a number of nothing) is written as something else here; no text reads as a tree with such a part.
@@ -53,7 +54,7 @@ holding false = None
 
 -- ---- Whole-number expressions
 
--- an expression at each place where one stands, in parentheses where they are needed
+-- an expression at each place where one stands, in parentheses or without
 pub record IxWritten (prelude : Bool) : Type 0 where
   -- by itself, or left of "+" and "-"
   pub whole : IxText prelude

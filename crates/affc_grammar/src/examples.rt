@@ -2,6 +2,7 @@
 //! by computation. A symbol has a space on either side, and symbols are numbered from 0.
 
 ghost use Rattle.std.specs.Prelude.{◌≡◌, ◌∷◌, ◌++◌, [], true, false, codes, replicate, flat_map, Some, None, pos};
+ghost use Rattle.affc_lex.specs.declared.token.Kind.TheVariants.{LineEnd};
 ghost use Rattle.affc_ast.specs.CopyLoop.{copy_tree};
 ghost use Rattle.affc_ast.specs.declared.tree.Ix.TheVariants as ix;
 ghost use Rattle.affc_ast.specs.declared.tree.Val.TheVariants as val;
@@ -10,11 +11,11 @@ ghost use Rattle.affc_ast.specs.declared.tree.Op.TheVariants as op;
 ghost use Rattle.affc_ast.specs.declared.tree.Rel.TheVariants.{Less, LessEqual, Greater, Equal};
 ghost use Rattle.affc_grammar.specs.declared.fault.NameWhy.TheVariants.{Unknown, Twice, Reserved, Const, Kind, NoRange};
 ghost use Rattle.affc_grammar.specs.declared.fault.LimitName.TheVariants.{Run, Depth, Items, Parameters, Range, Loops, Statements, Empty, Accesses, Dimensions, Comparisons, Literal, Coefficient};
-ghost use Rattle.affc_grammar.specs.Grammar.{word, mark, text_symbols};
+ghost use Rattle.affc_grammar.specs.Grammar.{word, mark, prelude_symbols, text_symbols};
 ghost use Rattle.affc_grammar.specs.Limits.{tokens_past, count_run, count_open, count_item};
 ghost use Rattle.affc_grammar.specs.Printed.{printed};
 ghost use Rattle.affc_grammar.specs.Reads.{WellNamed};
-ghost use Rattle.affc_grammar.specs.Verdict.{line, around, with_prelude, reprinted, verdict, is_read, program_of, reads, syntax, name, product, limit};
+ghost use Rattle.affc_grammar.specs.Verdict.{head_lines, line, around, with_prelude, reprinted, verdict, is_read, program_of, reads, syntax, name, product, limit};
 
 /// Which symbols are a text of the grammar, and where those of others stop.
 pub fn grammar()
@@ -29,6 +30,7 @@ pub fn grammar()
     ensures calls_want_the_prelude { verdict (around (codes "out [ affc_min ( N , 1 ) ] = 0ULL ;")) ≡ syntax 35 }
     ensures calls_before_the_function { verdict (line (codes "# include <stdint.h> \n # pragma affc param N 1 4 \n # pragma affc context affc_mod ( N , 2 ) == 0 \n void f ( int64_t N , const uint64_t in [ N ] , uint64_t out [ N ] ) { }")) ≡ syntax 25 }
     ensures calls_with_the_prelude { is_read (verdict (with_prelude (codes "out [ affc_min ( N , 1 ) ] = 0ULL ;"))) ≡ true }
+    ensures calls_on_lines { is_read (verdict (line (codes "# include <stdint.h> \n # pragma affc param N 1 4 \n # pragma affc context affc_mod ( N , 2 ) == 0 \n") ++ prelude_symbols true ++ line (codes "void f ( int64_t N ) { }"))) ≡ true }
     ensures divisors_are_at_least_one { verdict (with_prelude (codes "out [ affc_floord ( N , 0 ) ] = 0ULL ;")) ≡ syntax 39 }
     ensures divisors_are_numbers { verdict (with_prelude (codes "out [ affc_ceild ( N , 2 + 1 ) ] = 0ULL ;")) ≡ syntax 40 }
     ensures steps_by_a_sum { is_read (verdict (around (codes "for ( int64_t i = 0 ; i <= 1 ; i += 1 ) out [ i ] = 0ULL ;"))) ≡ true }
@@ -38,6 +40,16 @@ pub fn grammar()
     ensures arrays_have_a_dimension { verdict (line (codes "# include <stdint.h> \n void f ( uint64_t t ) { }")) ≡ syntax 9 }
     ensures shifts_of_63 { is_read (verdict (around (codes "out [ 0 ] = in [ 0 ] << 63 >> 0 ;"))) ≡ true }
     ensures divisors_of_one { is_read (verdict (with_prelude (codes "out [ affc_floord ( N , 1 ) ] = 0ULL ;"))) ≡ true }
+{}
+
+/// Where texts stop that leave something out, or have something where it may not stand.
+pub fn texts_are_refused()
+    ensures a_parameter_is_needed { verdict (line (codes "# include <stdint.h> \n void f ( ) { }")) ≡ syntax 7 }
+    ensures no_const_numbers { verdict (line (codes "# include <stdint.h> \n void f ( const int64_t N ) { }")) ≡ syntax 8 }
+    ensures declarations_stand_first { verdict (around (codes "out [ 0 ] = 0ULL ; uint64_t t ;")) ≡ syntax 40 }
+    ensures locals_stand_first { verdict (with_prelude (codes "{ out [ 0 ] = 0ULL ; const int64_t a = 1 ; }")) ≡ syntax 42 }
+    ensures nothing_behind_the_function { verdict (around (codes "} x")) ≡ syntax 33 }
+    ensures numbers_are_no_values { verdict (around (codes "out [ 0 ] = 1 ;")) ≡ syntax 37 }
 {}
 
 /// Statements, and the words that begin them.
@@ -72,10 +84,23 @@ pub fn names()
     ensures latest_of_a_name { verdict (line (codes "# include <stdint.h> \n # pragma affc param N 1 4 \n void f ( int64_t N , uint64_t N [ 1 ] ) { }")) ≡ name 8 Kind }
 {}
 
+/// Which things are visible to a name: the function, what was declared before it, and nothing else.
+pub fn names_are_seen()
+    ensures function_on_lines { verdict (line (codes "# include <stdint.h> \n # pragma affc context f < 1 \n void f ( uint64_t t [ 1 ] ) { }")) ≡ name 8 Kind }
+    ensures function_is_no_array { verdict (around (codes "f = 1ULL ;")) ≡ name 32 Kind }
+    ensures function_is_no_number { verdict (around (codes "out [ f ] = 1ULL ;")) ≡ name 34 Kind }
+    ensures later_parameters { verdict (line (head_lines ++ codes "void f ( uint64_t t [ N ] , int64_t N ) { }")) ≡ name 18 Unknown }
+    ensures earlier_temporaries { verdict (around (codes "uint64_t s , t [ s ] ;")) ≡ name 37 Kind }
+    ensures own_value { verdict (with_prelude (codes "{ const int64_t a = a ; }")) ≡ name 38 Unknown }
+    ensures temporary_twice { verdict (around (codes "uint64_t in ;")) ≡ name 33 Twice }
+    ensures parameter_twice { verdict (line (head_lines ++ codes "void f ( int64_t N , int64_t N ) { }")) ≡ name 19 Twice }
+{}
+
 /// Names of other kinds, inputs and reserved names.
 pub fn kinds()
     ensures stores_to_inputs { verdict (around (codes "in [ N ] = 1ULL ;")) ≡ name 32 Const }
     ensures numbers_of_subscripts { verdict (around (codes "uint64_t t [ 1 ] [ 2 ] ; t [ 0 ] = 0ULL ;")) ≡ name 41 Kind }
+    ensures subscripts_of_loads { verdict (around (codes "out [ 0 ] = in ;")) ≡ name 37 Kind }
     ensures an_array_is_no_number { verdict (around (codes "out [ in ] = 1ULL ;")) ≡ name 34 Kind }
     ensures a_number_is_no_array { verdict (around (codes "out [ 0 ] = N ;")) ≡ name 37 Kind }
     ensures keywords { verdict (around (codes "uint64_t while ;")) ≡ name 33 Reserved }
@@ -85,11 +110,31 @@ pub fn kinds()
     ensures reserved_on_a_line { verdict (line (codes "# include <stdint.h> \n # pragma affc param while 1 4 \n void f ( int64_t while ) { }")) ≡ name 8 Reserved }
     ensures time_iterators { is_read (verdict (with_prelude (codes "for ( int64_t affc_t0 = 0 ; affc_t0 < 1 ; affc_t0 ++ ) out [ affc_t0 ] = 0ULL ;"))) ≡ true }
     ensures no_time_locals { verdict (with_prelude (codes "{ const int64_t affc_t0 = 0 ; }")) ≡ name 36 Reserved }
+    ensures no_time_temporaries { verdict (with_prelude (codes "uint64_t affc_t0 ;")) ≡ name 34 Reserved }
+    ensures no_time_parameters { verdict (line (codes "# include <stdint.h> \n # pragma affc param affc_t0 1 4 \n") ++ prelude_symbols true ++ line (codes "void f ( int64_t affc_t0 ) { }")) ≡ name 8 Reserved }
     ensures no_time_iterators_without_the_prelude { verdict (around (codes "for ( int64_t affc_t0 = 0 ; affc_t0 < 1 ; affc_t0 ++ ) out [ affc_t0 ] = 0ULL ;")) ≡ name 35 Reserved }
     ensures const_before_kind { verdict (around (codes "in = 1ULL ;")) ≡ name 32 Const }
     ensures twice_before_reserved { verdict (with_prelude (codes "for ( int64_t affc_t0 = 0 ; affc_t0 < 1 ; affc_t0 ++ ) { { const int64_t affc_t0 = 1 ; } }")) ≡ name 51 Twice }
     ensures other_time_iterators { verdict (with_prelude (codes "for ( int64_t affc_t0 = 0 ; affc_t0 < 1 ; affc_t0 ++ ) for ( int64_t affc_t1 = 0 ; affc_t0 < 1 ; affc_t1 ++ ) out [ 0 ] = 0ULL ;")) ≡ name 54 Kind }
     ensures time_names_have_no_leading_zero { verdict (with_prelude (codes "for ( int64_t affc_t00 = 0 ; affc_t00 < 1 ; affc_t00 ++ ) out [ 0 ] = 0ULL ;")) ≡ name 36 Reserved }
+{}
+
+/// Where products of names are found, and the first of several.
+pub fn products_are_found()
+    ensures in_lows { verdict (around (codes "for ( int64_t i = N * N ; i < 1 ; i ++ ) out [ 0 ] = 0ULL ;")) ≡ product 38 }
+    ensures in_highs { verdict (around (codes "for ( int64_t i = 0 ; i < N * N ; i ++ ) out [ 0 ] = 0ULL ;")) ≡ product 42 }
+    ensures in_left_sides { verdict (around (codes "if ( N * N < 1 ) out [ 0 ] = 0ULL ;")) ≡ product 35 }
+    ensures in_right_sides { verdict (around (codes "if ( 1 < N * N ) out [ 0 ] = 0ULL ;")) ≡ product 37 }
+    ensures in_loads { verdict (around (codes "out [ 0 ] = 1ULL + ~ in [ N * N ] << 1 ;")) ≡ product 43 }
+    ensures in_casts { verdict (around (codes "out [ 0 ] = ( uint64_t ) ( N * N ) ;")) ≡ product 42 }
+    ensures in_temporaries { verdict (around (codes "uint64_t t [ N * N ] ;")) ≡ product 36 }
+    ensures in_parameters { verdict (line (head_lines ++ codes "void f ( int64_t N , uint64_t t [ N * N ] ) { }")) ≡ product 22 }
+    ensures in_contexts { verdict (line (head_lines ++ codes "# pragma affc context N * N < 9 \n void f ( int64_t N ) { }")) ≡ product 17 }
+    ensures in_locals { verdict (with_prelude (codes "{ const int64_t a = N * N ; }")) ≡ product 39 }
+    ensures in_bodies { verdict (around (codes "if ( N < 2 ) { { out [ N * N ] = 0ULL ; } }")) ≡ product 43 }
+    ensures in_parts { verdict (around (codes "out [ 1 - ( 2 + - ( N * N ) ) ] = 0ULL ;")) ≡ product 42 }
+    ensures first_of_two { verdict (around (codes "out [ N * N * N ] = 0ULL ;")) ≡ product 35 }
+    ensures in_quotients { verdict (with_prelude (codes "out [ affc_floord ( N * N , 2 ) ] = 0ULL ;")) ≡ product 38 }
 {}
 
 /// Products, literals and coefficients of affine texts.
@@ -135,6 +180,17 @@ pub fn limits()
     ensures thirteenth_loop { verdict (with_prelude (codes "for ( int64_t i0 = 0 ; i0 < 1 ; i0 ++ ) " ++ codes "for ( int64_t i1 = 0 ; i1 < 1 ; i1 ++ ) " ++ codes "for ( int64_t i2 = 0 ; i2 < 1 ; i2 ++ ) " ++ codes "for ( int64_t i3 = 0 ; i3 < 1 ; i3 ++ ) " ++ codes "for ( int64_t i4 = 0 ; i4 < 1 ; i4 ++ ) " ++ codes "for ( int64_t i5 = 0 ; i5 < 1 ; i5 ++ ) " ++ codes "for ( int64_t i6 = 0 ; i6 < 1 ; i6 ++ ) " ++ codes "for ( int64_t i7 = 0 ; i7 < 1 ; i7 ++ ) " ++ codes "for ( int64_t i8 = 0 ; i8 < 1 ; i8 ++ ) " ++ codes "for ( int64_t i9 = 0 ; i9 < 1 ; i9 ++ ) " ++ codes "for ( int64_t j0 = 0 ; j0 < 1 ; j0 ++ ) " ++ codes "for ( int64_t j1 = 0 ; j1 < 1 ; j1 ++ ) " ++ codes "for ( int64_t j2 = 0 ; j2 < 1 ; j2 ++ ) " ++ codes "out [ 0 ] = 0ULL ;")) ≡ limit 201 Loops }
 {}
 
+/// What limits count, and which of several is answered.
+pub fn limits_are_counted()
+    ensures differences_add_up { verdict (around (codes "out [ 65536 * N - ( - N ) ] = 0ULL ;")) ≡ limit 34 Coefficient }
+    ensures literal_in_a_wide_sum { verdict (with_prelude (codes "out [ N + 4611686018427387905 ] = 0ULL ;")) ≡ limit 37 Literal }
+    ensures stores_are_accesses { verdict (around (codes "out [ 0 ] = in [ 0 ] " ++ flat_map (λ b. codes "+ in [ 0 ] ") (replicate 15 true) ++ codes ";")) ≡ limit 32 Accesses }
+    ensures parameters_have_dimensions { verdict (line (codes "# include <stdint.h> \n void f ( uint64_t t [ 1 ] [ 1 ] [ 1 ] [ 1 ] [ 1 ] ) { }")) ≡ limit 8 Dimensions }
+    ensures least_place { verdict (around (codes "out [ 16777217 ] = 1ULL ; for ( int64_t i = 0 ; i < N ; i ++ ) { }")) ≡ limit 34 Literal }
+    ensures inner_empty { verdict (around (codes "for ( int64_t i = 0 ; i < N ; i ++ ) { out [ 0 ] = 0ULL ; if ( N < 2 ) { } }")) ≡ limit 54 Empty }
+    ensures wide_comparisons { is_read (verdict (with_prelude (codes "if ( N < 9 " ++ flat_map (λ b. codes "&& N < 9 ") (replicate 32 true) ++ codes ") out [ 0 ] = 0ULL ;"))) ≡ true }
+{}
+
 /// Limits on the tokens, at their edges.
 pub fn shape()
     ensures run { tokens_past count_run 2048 0 0 (replicate 2049 (word (codes "x"))) ≡ 2048 ∷ [] }
@@ -145,6 +201,8 @@ pub fn shape()
     ensures run_of_a_text { verdict (replicate 2049 (word (codes "x"))) ≡ limit 2048 Run }
     ensures depth_of_a_text { verdict (replicate 65 (mark (codes "("))) ≡ limit 64 Depth }
     ensures items_of_a_text { verdict (replicate 257 (word (codes "for"))) ≡ limit 256 Items }
+    ensures separators { tokens_past count_run 1 0 0 (word (codes "x") ∷ mark (codes "{") ∷ word (codes "x") ∷ mark (codes "}") ∷ word (codes "x") ∷ record { kind = LineEnd; bytes = codes "\n" } ∷ word (codes "x") ∷ []) ≡ [] }
+    ensures first_of_the_table { verdict (replicate 1984 (word (codes "x")) ++ replicate 65 (mark (codes "("))) ≡ limit 2048 Run }
 {}
 
 /// Which trees texts have.
@@ -155,7 +213,7 @@ pub fn trees()
     ensures context_in_order { (program_of (verdict (line (codes "# include <stdint.h> \n # pragma affc param N 1 4 \n # pragma affc context N < 4 && N > 1 \n # pragma affc context N == 2 \n void f ( int64_t N ) { }")))).context ≡ record { rel = Less; left = ix.Name (record { 0 = 0 }); right = ix.Lit (pos 4) } ∷ record { rel = Greater; left = ix.Name (record { 0 = 0 }); right = ix.Lit (pos 1) } ∷ record { rel = Equal; left = ix.Name (record { 0 = 0 }); right = ix.Lit (pos 2) } ∷ [] }
 {}
 
-/// What is printed has the fewest parentheses, and reads as what was printed.
+/// Where parentheses are printed, and that what is printed reads as what was printed.
 pub fn printing()
     ensures well_named { WellNamed (copy_tree (record { function = codes "f"; parameter = codes "N"; input = codes "in"; output = codes "out"; iterator = codes "i"; low = 1; high = 4 })) }
     ensures spaced_name { WellNamed (copy_tree (record { function = codes "f g"; parameter = codes "N"; input = codes "in"; output = codes "out"; iterator = codes "i"; low = 1; high = 4 })) → ⊥ }

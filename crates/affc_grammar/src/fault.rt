@@ -5,13 +5,14 @@
 pub enum NameWhy {
     /// Nothing visible has the name.
     Unknown,
-    /// It is declared, or given a range, while another thing of that name is visible.
+    /// It is declared while a thing of that name is visible, or given a range by a second line.
     Twice,
     /// C or the prelude keeps the name for itself.
     Reserved,
     /// A store to an input.
     Const,
-    /// A thing of another kind, another number of subscripts, or a `for` whose three words differ.
+    /// A thing of another kind, another number of subscripts, or a second or third word of a `for` that is visible and
+    /// isn't its iterator.
     Kind,
     /// A number parameter without a line that gives its range.
     NoRange,

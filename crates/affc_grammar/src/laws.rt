@@ -1,16 +1,17 @@
 //! What holds of every text: each function here is a statement, proved.
 
-ghost use Rattle.std.specs.Prelude.{◌≡◌, ◌+◌, ℕ, List, [], length, Ok, Err, ◌↔◌};
+ghost use Rattle.std.specs.Prelude.{◌≡◌, ◌⊎◌, ◌+◌, ℕ, List, [], length, Some, Ok, Err, ◌↔◌};
 ghost use Rattle.affc_ast.specs.declared.tree.Program.{Program};
 ghost use Rattle.affc_ast.specs.Reads as copy;
 ghost use Rattle.affc_grammar.specs.declared.fault.NameWhy.{NameWhy};
+ghost use Rattle.affc_grammar.specs.declared.fault.LimitName.{LimitName};
 ghost use Rattle.affc_grammar.specs.Grammar.{Symbol, Text, text_symbols, StopsAt};
 ghost use Rattle.affc_grammar.specs.Draft.{text_draft};
-ghost use Rattle.affc_grammar.specs.Limits.{limits_of, tokens_past, count_open};
-ghost use Rattle.affc_grammar.specs.Reads.{Reads, ReadsWide, Derives, tree_of, name_refused, has_prelude};
+ghost use Rattle.affc_grammar.specs.Limits.{limits_of, least, shape_passed, tokens_past, count_open};
+ghost use Rattle.affc_grammar.specs.Reads.{Reads, ReadsWide, Derives, tree_of, name_refused, not_affine, limit_passed, has_prelude};
 ghost use Rattle.affc_grammar.specs.Reader.{At, Deep, Within};
 ghost use Rattle.affc_grammar.specs.Reading.{read_text};
-ghost use Rattle.affc_grammar.specs.Verdict.{verdict, reads, syntax, name};
+ghost use Rattle.affc_grammar.specs.Verdict.{verdict, reads, syntax, name, product, limit};
 
 /// One text reads as one program at most.
 pub fn one_program()
@@ -43,6 +44,13 @@ pub fn verdicts_are_right()
     // The symbols are those of a text of the grammar, in which this name is the first that is refused.
     ensures refused { (ss : List Symbol) (at : ℕ) (why : NameWhy) → verdict ss ≡ name at why
         → ((c : Text) × (ss ≡ text_symbols c) × (tree_of (limits_of (has_prelude ss)) (text_draft c) ≡ Err (name_refused (record { at = at; why = why })))) }
+    // They are those of a text of the grammar whose names are all right, and this product of names is its first.
+    ensures not_affine { (ss : List Symbol) (at : ℕ) → verdict ss ≡ product at
+        → ((c : Text) × (ss ≡ text_symbols c) × (tree_of (limits_of (has_prelude ss)) (text_draft c) ≡ Err (not_affine at))) }
+    // Of the limits on the tokens this is the one passed at the least place, or none of them is passed, and it is the one of a text of the grammar.
+    ensures passed { (ss : List Symbol) (at : ℕ) (which : LimitName) → verdict ss ≡ limit at which
+        → (least (shape_passed (limits_of (has_prelude ss)) ss) ≡ Some (record { at = at; which = which }))
+        ⊎ ((shape_passed (limits_of (has_prelude ss)) ss ≡ []) × ((c : Text) × (ss ≡ text_symbols c) × (tree_of (limits_of (has_prelude ss)) (text_draft c) ≡ Err (limit_passed (record { at = at; which = which }))))) }
 {}
 
 /// A text of a copy loop reads as the program as which it reads by the tree's own definition.

@@ -82,3 +82,7 @@ returns-clause-shifts_of_63 c = refl
 pub returns-clause-divisors_of_one : goal.returns-clause-divisors_of_one
 unfolding computing
 returns-clause-divisors_of_one c = refl
+
+pub returns-clause-calls_on_lines : goal.returns-clause-calls_on_lines
+unfolding computing
+returns-clause-calls_on_lines c = refl

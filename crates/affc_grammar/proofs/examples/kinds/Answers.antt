@@ -66,3 +66,15 @@ returns-clause-time_names_have_no_leading_zero c = refl
 pub returns-clause-other_time_iterators : goal.returns-clause-other_time_iterators
 unfolding computing
 returns-clause-other_time_iterators c = refl
+
+pub returns-clause-subscripts_of_loads : goal.returns-clause-subscripts_of_loads
+unfolding computing
+returns-clause-subscripts_of_loads c = refl
+
+pub returns-clause-no_time_temporaries : goal.returns-clause-no_time_temporaries
+unfolding computing
+returns-clause-no_time_temporaries c = refl
+
+pub returns-clause-no_time_parameters : goal.returns-clause-no_time_parameters
+unfolding computing
+returns-clause-no_time_parameters c = refl

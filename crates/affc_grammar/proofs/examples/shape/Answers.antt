@@ -34,3 +34,11 @@ returns-clause-depth_of_a_text c = refl
 pub returns-clause-items_of_a_text : goal.returns-clause-items_of_a_text
 unfolding computing
 returns-clause-items_of_a_text c = refl
+
+pub returns-clause-separators : goal.returns-clause-separators
+unfolding computing
+returns-clause-separators c = refl
+
+pub returns-clause-first_of_the_table : goal.returns-clause-first_of_the_table
+unfolding computing
+returns-clause-first_of_the_table c = refl
