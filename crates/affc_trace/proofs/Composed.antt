@@ -18,7 +18,7 @@ use Rattle.affc_trace.specs.Orders.{KeepsArrays}
 use Rattle.affc_trace.specs.Target.{target}
 use Rattle.affc_trace.specs.Effects.{effect}
 use Rattle.affc_trace.specs.Dataflow.{same_element, OneArray}
-use Rattle.affc_trace.specs.Laws.{IsInContext, HoldsParameters, LeavesParameters, KeepsParameters, IsUnwritten, in_target_order, FittingDataIsKept, EqualLastStores, KeepsSources, RunsAsSource, CompilesSource}
+use Rattle.affc_trace.specs.Laws.{IsInContext, HoldsParameters, LeavesParameters, KeepsParameters, IsUnwritten, in_target_order, FittingDataIsKept, LoadsWithoutSource, EqualLastStores, KeepsSources, RunsAsSource, CompilesSource}
 use Rattle.affc_trace.proofs.LastStores.{equal_last_stores}
 use Rattle.affc_trace.proofs.Legality.{keeps_sources, loads_are_given}
 use Rattle.affc_trace.proofs.Runs.{element_cmp_total}
@@ -72,6 +72,12 @@ keeps_sources_law source schedule p store end place plain holds ended legal fold
     keeps_sources its same_element same_element same_element_decides same_element_decides OneArray place (at store) (trace source p) (target source schedule p)
     (target_is_reordered_law source schedule p) legal fold (keeps_arrays source store place holds keeps)
     (loads_are_given its same_element (at store) values.0 (trace source p) (ended_run source p store end plain ended ∙ ap Some values.1))
+
+pub loads_without_source : LoadsWithoutSource
+loads_without_source source p store end b x plain holds ended loaded s =
+    let values = values_by_instance source p store end plain ended in
+    let given = loads_are_given (effect source p) same_element (at store) values.0 (trace source p) (ended_run source p store end plain ended ∙ ap Some values.1) s.0 s.1 b s.2 x loaded s.3 in
+    (holds x given.0 given.1, given)
 
 -- ---- the stores of a run with their instances
 

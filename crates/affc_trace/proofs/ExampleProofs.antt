@@ -1,12 +1,14 @@
 -- Each example computes.
-use Rattle.std.proofs.Common.{◌≡◌, ℕ, List, [], ◌∷◌, refl, ap, inl, inr, arith, sym}
+use Rattle.std.proofs.Common.{◌≡◌, ℕ, List, [], ◌∷◌, refl, ap, inl, inr, arith, sym, subst}
 use denote.Hole.Carrier.{hidden}
 use Rattle.affc_ast.specs.declared.tree.Ix.TheBlock.{shape-the_row-Ix-0, hidden-the_row-Ix-0}
 use Rattle.affc_ast.specs.declared.tree.Val.TheBlock.{shape-the_row-Val-0, hidden-the_row-Val-0}
 use Rattle.affc_ast.specs.declared.tree.Stmt.TheBlock.{shape-the_row-Stmt-0, hidden-the_row-Stmt-0}
 use Rattle.affc_ast.specs.declared.tree.Instance.{Instance}
+use Rattle.affc_ast.specs.Meaning.{Outcome, Ended, Stuck}
 use Rattle.affc_trace.specs.Law.{IsIn}
-use Rattle.affc_trace.specs.Examples.{S0, S1, BlurTakesTurns, BlurSources, BlurLivePairs, BlurIsLegal, BlurHasItsMaps, LoadsDependOnNothing, FoldedBlurFollows, FoldedBlurDoes, NumberDecidesTies, TieIsIllegal, FirstComponentDecides, TiesStayAsTheyStood, OrdersKeepInstances, BackwardsIsIllegal, OwnStoreComesAfter, HandedInIsNoSource, LoopsAreCounted, LocalsAreSeen, ScalarHasOneElement}
+use Rattle.affc_trace.specs.Laws.{IsUnwritten}
+use Rattle.affc_trace.specs.Examples.{S0, S1, BlurTakesTurns, BlurSources, BlurLivePairs, BlurIsLegal, BlurHasItsMaps, LoadsDependOnNothing, FoldedBlurFollows, FoldedBlurDoes, NumberDecidesTies, TieIsIllegal, FirstComponentDecides, TiesStayAsTheyStood, OrdersKeepInstances, BackwardsIsIllegal, OwnStoreComesAfter, HandedInIsNoSource, LoopsAreCounted, LocalsAreSeen, ScalarHasOneElement, StuckForAValueRunsTarget, StuckOutOfBoundsDoesNot}
 
 one_is_not_two : ◌≡◌ {A = ℕ} 1 2 → ⊥
 one_is_not_two e = omega arith
@@ -102,3 +104,16 @@ locals_are_seen = (refl, refl)
 pub scalar_has_one_element : ScalarHasOneElement
 unfolding shape-the_row-Ix-0 hidden-the_row-Ix-0 shape-the_row-Val-0 hidden-the_row-Val-0 shape-the_row-Stmt-0 hidden-the_row-Stmt-0 hidden
 scalar_has_one_element = (refl, refl)
+
+-- stuck, if at all, for want of a value
+abbrev IsAtMostUnwritten : Outcome → Type 0
+IsAtMostUnwritten (Ended end) = Unit {0}
+IsAtMostUnwritten (Stuck cause steps) = IsUnwritten cause
+
+pub stuck_for_a_value : StuckForAValueRunsTarget
+unfolding shape-the_row-Ix-0 hidden-the_row-Ix-0 shape-the_row-Val-0 hidden-the_row-Val-0 shape-the_row-Stmt-0 hidden-the_row-Stmt-0 hidden
+stuck_for_a_value = ((_, refl), record { does = refl; only_unwritten = λ cause steps e. subst IsAtMostUnwritten e tt })
+
+pub stuck_out_of_bounds : StuckOutOfBoundsDoesNot
+unfolding shape-the_row-Ix-0 hidden-the_row-Ix-0 shape-the_row-Val-0 hidden-the_row-Val-0 shape-the_row-Stmt-0 hidden-the_row-Stmt-0 hidden
+stuck_out_of_bounds = ((_, refl), λ r. r.only_unwritten _ _ refl)

@@ -14,13 +14,14 @@ use Rattle.affc_ast.specs.Trace.{trace}
 use Rattle.affc_trace.specs.declared.schedule.TimeMap.{TimeMap}
 use Rattle.affc_trace.specs.declared.schedule.Schedule.TheVariants.{Time}
 use Rattle.affc_trace.specs.Law.{IsIn}
-use Rattle.affc_trace.specs.Target.{time_by, time_of, time_cmp, IsMapOf, AreMapsOf, IsScheduleOf, numbers_in, loops_round}
-use Rattle.affc_trace.specs.Laws.{TargetIsInOrder}
+use Rattle.affc_trace.specs.Target.{time_by, time_of, time_cmp, target, IsMapOf, AreMapsOf, IsScheduleOf, numbers_in, loops_round}
+use Rattle.affc_trace.specs.Laws.{TargetIsInOrder, TargetIsByTime}
+use Rattle.affc_trace.proofs.Legality.{earlier_is_in, later_is_in}
 use Rattle.affc_trace.proofs.Targets.{both_tied}
 use Rattle.affc_trace.proofs.Once.{once}
 use Rattle.affc_trace.proofs.Depths.{depth}
 use Rattle.affc_trace.proofs.Recovers.{recovers}
-use Rattle.affc_trace.proofs.Sorted.{in_order, only_order}
+use Rattle.affc_trace.proofs.Sorted.{in_order, only_order, less_is_earlier}
 
 pub time_cmp_total : (maps : List TimeMap) (p : List ℤ) → IsTotalOrder (time_cmp maps p)
 time_cmp_total maps p = then_total (on_total (time_of maps p) (lists_total int_cmp_total)) (on_total (λ (b : Instance). b.statement) nat_cmp_total)
@@ -57,3 +58,11 @@ pub target_is_in_order : TargetIsInOrder
 target_is_in_order program n maps p fits numbers =
     let sorted = in_order (time_cmp maps p) (time_cmp_total maps p) (trace program p) (once program p) (apart program n maps p fits numbers) in
     (sorted, λ order h. only_order (time_cmp maps p) (time_cmp_total maps p) (trace program p) order _ h sorted)
+
+pub target_is_by_time : TargetIsByTime
+target_is_by_time program n maps p a b fits numbers =
+    let sorted = (target_is_in_order program n maps p fits numbers).0 in
+    let ordered : List Instance = target program (Time n maps) p in (
+      λ e. (sorted.reordered.no_other a (earlier_is_in ordered a b e), sorted.reordered.no_other b (later_is_in ordered a b e), sorted.increasing a b e),
+      λ h. less_is_earlier (time_cmp maps p) (time_cmp_total maps p) (trace program p) ordered sorted a b h.0 h.1 h.2,
+    )

@@ -6,6 +6,7 @@ use Rattle.std.specs.Cmp.{IsTotalOrder}
 use Rattle.affc_trace.specs.Law.{IsIn}
 use Rattle.affc_trace.specs.Orders.{Earlier, AreDistinct}
 use Rattle.affc_trace.specs.Target.{put_in, in_order_of, IsInOrder}
+use Rattle.affc_trace.proofs.Legality.{either_way}
 use Rattle.affc_trace.proofs.Reorders.{from_put, from_order, is_reordered}
 
 is_less : (r : Ordering) → is_lt r ≡ true → r ≡ Less
@@ -85,3 +86,12 @@ module _ {A : Type 0} (cmp : A → A → Ordering) (total : IsTotalOrder cmp) wh
   only_order xs ys zs h k =
       one_list ys zs h.reordered.once_in_target k.reordered.once_in_target
       (λ a i. k.reordered.kept a (h.reordered.no_other a i)) (λ a i. h.reordered.kept a (k.reordered.no_other a i)) h.increasing k.increasing
+
+  -- of two entries, the one that is less stands before the other
+  pub less_is_earlier : (xs ys : List A) → IsInOrder cmp xs ys → (a b : A) → IsIn a xs → IsIn b xs → cmp a b ≡ Less → Earlier ys a b
+  less_is_earlier xs ys h a b i j less =
+      let apart : a ≢ b = λ e. not_both a b less (ap (λ z. cmp z a) (sym e) ∙ ap (cmp a) e ∙ less) in
+      elim (either_way ys a b apart (h.reordered.kept a i) (h.reordered.kept b j)) [
+        | inl e ↦ e
+        | inr e ↦ absurd (not_both a b less (h.increasing b a e))
+      ]

@@ -39,7 +39,7 @@ pub record Violates (program : Program) (schedule : Schedule) (p : List ℤ) (a 
   pub earlier : Earlier (trace program p) a b
   pub not_earlier : ¬ (Earlier (target program schedule p) a b)
 
--- the last instance before b in the trace that stores x, or None where x is handed in
+-- the last instance before b in the trace that stores x, or None where no store of x comes before b
 abbrev pub IsSource : Program → (p : List ℤ) → Instance → Element → Option Instance → Type 0
 IsSource program p b x s = orders.IsSource (effect program p) same_element (trace program p) b x s
 

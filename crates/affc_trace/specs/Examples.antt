@@ -19,7 +19,9 @@ use Rattle.affc_ast.specs.declared.tree.Stmt.{Stmt}
 use Rattle.affc_ast.specs.declared.tree.Stmt.TheVariants.{For, If, Assign, Block}
 use Rattle.affc_ast.specs.declared.tree.Val.{Val}
 use Rattle.affc_ast.specs.declared.tree.Val.TheVariants.{Load, Const, Bin}
+use Rattle.affc_ast.specs.Cause.{OutOfBounds, Unwritten}
 use Rattle.affc_ast.specs.Store.{Element, Store}
+use Rattle.affc_ast.specs.Meaning.{Stuck, meaning}
 use Rattle.affc_ast.specs.Follows.{Follows}
 use Rattle.affc_trace.specs.declared.schedule.TimeMap.{TimeMap}
 use Rattle.affc_trace.specs.declared.schedule.Schedule.{Schedule}
@@ -30,7 +32,7 @@ use Rattle.affc_trace.specs.Target.{target, loops_round, IsScheduleOf}
 use Rattle.affc_trace.specs.Effects.{effect, effects, has_no_locals}
 use Rattle.affc_trace.specs.Law.{placed}
 use Rattle.affc_trace.specs.Dataflow.{source, live_pairs, violations}
-use Rattle.affc_trace.specs.Laws.{in_target_order}
+use Rattle.affc_trace.specs.Laws.{RunsTarget, in_target_order}
 
 -- ---- Times of a statement in one loop, in a program with one parameter
 
@@ -310,3 +312,21 @@ abbrev pub ScalarHasOneElement : Type 0
 ScalarHasOneElement =
     (source (through_one []) two (S1 1) (2, []) ≡ Some (S0 1))
     × (live_pairs (through_one []) Source two ≡ [])
+
+-- ---- Programs that are stuck, as their own targets
+
+-- where `in` holds nothing, S0(0) of the scalar finds no value, and this is no bar
+abbrev pub StuckForAValueRunsTarget : Type 0
+StuckForAValueRunsTarget =
+    ((steps : ℕ) × (meaning (through_one []) two [] ≡ Stuck (Unwritten (S0 0) 0) steps))
+    × RunsTarget (through_one []) (through_one []) Source (λ x. x) two []
+
+-- t[i] = 1 for i from 0 to N - 1, where t has one element
+abbrev past_the_end : Program
+past_the_end = program (lit 1 ∷ []) (each (lit 0) n (store 2 (i ∷ []) (Const 1) ∷ []) ∷ [])
+
+-- S0(1) stores outside of t, and this is one
+abbrev pub StuckOutOfBoundsDoesNot : Type 0
+StuckOutOfBoundsDoesNot =
+    ((steps : ℕ) × (meaning past_the_end two [] ≡ Stuck (OutOfBounds (S0 1) 0) steps))
+    × (RunsTarget past_the_end past_the_end Source (λ x. x) two [] → ⊥)

@@ -1,5 +1,6 @@
 -- The laws by which a program may be reordered and its arrays folded, at given programs.
-use Rattle.std.specs.Prelude.{◌≡◌, ◌↔◌, ℕ, ◌<◌, ℤ, IsTrue, List, [], Option, Some, length, map}
+use Rattle.std.specs.Prelude.{◌≡◌, ◌↔◌, ℕ, ◌<◌, ℤ, IsTrue, List, [], Option, Some, None, length, map}
+use Rattle.std.specs.declared.cmp.Ordering.TheVariants.{Less}
 use Rattle.affc_ast.specs.declared.tree.Instance.{Instance}
 use Rattle.affc_ast.specs.declared.tree.Program.{Program}
 use Rattle.affc_ast.specs.Cause.{Cause, Extent, Overflow, OutOfBounds, Unwritten}
@@ -13,7 +14,7 @@ use Rattle.affc_trace.specs.declared.schedule.TimeMap.{TimeMap}
 use Rattle.affc_trace.specs.declared.schedule.Schedule.{Schedule}
 use Rattle.affc_trace.specs.declared.schedule.Schedule.TheVariants.{Time}
 use Rattle.affc_trace.specs.Law.{IsIn, placed, stores_of, as_stored, SameLastStores, HandedIn}
-use Rattle.affc_trace.specs.Orders.{IsReordered, KeepsArrays}
+use Rattle.affc_trace.specs.Orders.{Earlier, IsReordered, KeepsArrays}
 use Rattle.affc_trace.specs.Target.{time_cmp, ordered, target, IsInOrder, numbers_in, IsScheduleOf}
 use Rattle.affc_trace.specs.Effects.{effect, effects, has_no_locals}
 use Rattle.affc_trace.specs.Dataflow.{same_element, OneArray, Legal, Violates, IsSource, AreLive, Admissible, source, live_pairs, violations}
@@ -76,6 +77,14 @@ TargetIsInOrder = (program : Program) (length_of_time : ℕ) (maps : List TimeMa
     → IsInOrder (time_cmp maps p) (trace program p) (target program (Time length_of_time maps) p)
     × ((order : List Instance) → IsInOrder (time_cmp maps p) (trace program p) order → order ≡ target program (Time length_of_time maps) p)
 
+-- Under such a schedule, an instance stands before another in the target exactly where both are in the trace and it is less: by
+-- time, and then by the statement's number.
+abbrev pub TargetIsByTime : Type 0
+TargetIsByTime = (program : Program) (length_of_time : ℕ) (maps : List TimeMap) (p : List ℤ) (a b : Instance)
+    → IsScheduleOf program (Time length_of_time maps) → length p ≡ numbers_in program.params
+    → Earlier (target program (Time length_of_time maps) p) a b
+    ↔ (IsIn a (trace program p) × IsIn b (trace program p) × (time_cmp maps p a b ≡ Less))
+
 -- The lists that compute hold exactly the sources, the live pairs and the dependences that are turned round.
 abbrev pub SourceIsFound : Type 0
 SourceIsFound = (program : Program) (p : List ℤ) (b : Instance) (x : Element) (s : Option Instance)
@@ -103,6 +112,14 @@ abbrev pub FittingDataIsKept : Type 0
 FittingDataIsKept = (source : Program) (p : List ℤ) (store : Store) (place : Element → Element)
     → Fits source p store → KeepsParameters source place
     → HoldsParameters source store × KeepsArrays OneArray place (at store) × HandedIn place (at store) (at store)
+
+-- Where the run ends and parameter arrays alone hold values at the start, a load without a source is of an element of a
+-- parameter array, which is handed in with a value.
+abbrev pub LoadsWithoutSource : Type 0
+LoadsWithoutSource = (source : Program) (p : List ℤ) (store : Store) (end : State) (b : Instance) (x : Element)
+    → IsTrue (has_no_locals source) → HoldsParameters source store → meaning source p store ≡ Ended end
+    → IsIn x (effect source p b).loads → IsSource source p b x None
+    → (x.0 < length (arrays_of source.params)) × ((v : ℕ) × (at store x ≡ Some v))
 
 -- The law of last stores: where each load in `order` finds, at the place of its element, a store by the instance that is the
 -- load's source, or none where it has none, and each element of a parameter array is its own place, all instances store the

@@ -36,7 +36,7 @@ module _ {I X V : Type 0} (effect : I → Effect X V) where
   Legal trace target = (a b : I) → a ≢ b → Dependent a b → Earlier trace a b → Earlier target a b
 
   module _ (same : X → X → Bool) where
-    -- the last instance before b that stores x (the last write of Feautrier 1991), or None where x is handed in
+    -- the last instance before b that stores x (the last write of Feautrier 1991), or None where no store of x comes before b
     abbrev pub IsSource : List I → I → X → Option I → Type 0
     IsSource trace b x s = (done : List I) × (rest : List I) × (trace ≡ done ++ b ∷ rest) × (last_store same effect done x ≡ s)
 

@@ -1,6 +1,6 @@
 //! What may be concluded about a program that is reordered and folded. Each law is the contract of a function
 //! that does nothing.
-ghost use Rattle.affc_trace.specs.Laws.{RunOfEffects, EffectsOfTrace, TargetIsReordered, TargetIsInOrder, ValuesByInstance, SourceIsFound, LivePairsAreFound, ViolationsAreFound, LegalHasNoViolations, FittingDataIsKept, EqualLastStores, KeepsSources, RunsAsSource, CompilesSource};
+ghost use Rattle.affc_trace.specs.Laws.{RunOfEffects, EffectsOfTrace, TargetIsReordered, TargetIsInOrder, TargetIsByTime, ValuesByInstance, LoadsWithoutSource, SourceIsFound, LivePairsAreFound, ViolationsAreFound, LegalHasNoViolations, FittingDataIsKept, EqualLastStores, KeepsSources, RunsAsSource, CompilesSource};
 
 /// A run is the fold of the effects of the program's assignments.
 pub fn run_of_effects()
@@ -20,6 +20,11 @@ pub fn target_is_reordered()
 /// The target of times is the one list of the trace's instances in increasing order of time and then of statement.
 pub fn target_is_in_order()
     ensures law { TargetIsInOrder }
+{}
+
+/// One instance stands before another in that target exactly where it is less, by time and then by statement.
+pub fn target_is_by_time()
+    ensures law { TargetIsByTime }
 {}
 
 /// The list of sources holds each load's source.
@@ -50,6 +55,11 @@ pub fn values_by_instance()
 /// Arrays that are handed in are found at their places, which they share with nothing.
 pub fn fitting_data_is_kept()
     ensures law { FittingDataIsKept }
+{}
+
+/// A load without a source is of an element that is handed in.
+pub fn loads_without_source()
+    ensures law { LoadsWithoutSource }
 {}
 
 /// Where each load's last store is by the instance whose value it reads in the source, every value is the source's.
