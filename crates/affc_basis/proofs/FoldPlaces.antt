@@ -16,7 +16,7 @@ use Rattle.affc_trace.proofs.Contents.{target_is_reordered_law}
 use Rattle.affc_trace.proofs.Composed.{compiles_source}
 use Rattle.affc_basis.specs.declared.fold.Fold.{Fold}
 use Rattle.affc_basis.specs.Folds.{forms_of, folded_by, IsAdmissible, fold_of, place}
-use Rattle.affc_basis.specs.Laws.{HasDimensions, AreFoldsOf, RowsSeparate, PlacesMeetInTheLattice, ObeyingFoldIsAdmissible, AdmissibleFoldsSeparate, FoldsKeepParameters, CompilesFolded}
+use Rattle.affc_basis.specs.Laws.{HasDimensions, AreFoldsOf, RowsSeparate, PlacesMeetInTheLattice, ObeyingFoldSeparates, ObeyingFoldIsAdmissible, AdmissibleFoldsSeparate, FoldsKeepParameters, CompilesFolded}
 use Rattle.affc_basis.proofs.Remainders.{in_lattice_of_equal, equal_of_in_lattice}
 use Rattle.affc_basis.proofs.Separation.{rows_separate, separated}
 
@@ -49,10 +49,20 @@ module _ (program : Program) (schedule : Schedule) (array n : ℕ) (p : List ℤ
       let lengths : (length x ≡ n) × (length y ≡ n) = elim live.between [ inl s ↦ both_have x y s | inr s ↦ (let r = both_have y x s in (r.1, r.0)) ] in
       (λ e. live.distinct (ap (λ z. (array, z)) e), lengths.0, lengths.1)
 
+pub obeying_fold_separates : (pairs : List ℤ → List ℤ → List ℤ → Type 0) → ObeyingFoldSeparates pairs
+obeying_fold_separates pairs fold p proper obeys =
+    let separates : IsAdmissible (pairs p) fold p =
+    separated (pairs p) p fold.basis.rows (forms_of fold.moduli) (length-map (λ m. m.form) fold.moduli ∙ fold.one_each) obeys
+    fold.basis.inverse fold.basis.square fold.basis.identity proper in (
+      separates,
+      λ x y pair same.
+          let q = proper x y pair in
+          separates.apart x y pair (in_lattice_of_equal p fold.basis.rows (forms_of fold.moduli) x y separates.positive (q.1 ∙ sym q.2) same),
+    )
+
 pub obeying_fold_is_admissible : ObeyingFoldIsAdmissible
 obeying_fold_is_admissible program schedule array p fold dimensions obeys =
-    separated (LivePair program schedule array p) p fold.basis.rows (forms_of fold.moduli) (length-map (λ m. m.form) fold.moduli ∙ fold.one_each) obeys
-    fold.basis.inverse fold.basis.square fold.basis.identity (proper_pair program schedule array (length fold.basis.rows) p dimensions)
+    (obeying_fold_separates (LivePair program schedule array) fold p (proper_pair program schedule array (length fold.basis.rows) p dimensions) obeys).0
 
 -- ---- places
 

@@ -1,8 +1,10 @@
 -- Folds: where an element is put, when a fold is admissible, and what its marks say.
-use Rattle.std.specs.Prelude.{◌≡◌, ℕ, ◌+◌, ◌<◌, ◌≤◌, ℤ, pos, ◌≤ℤ◌, nat_eq, if◌then◌else◌, List, [], ◌∷◌, map, Option, Some, None, ◌⊎◌}
+use Rattle.std.specs.Prelude.{◌≡◌, ℕ, ◌+◌, ◌<◌, ◌≤◌, ℤ, pos, ◌≤ℤ◌, ◌<ℤ◌, nat_eq, if◌then◌else◌, List, [], ◌∷◌, map, Option, Some, None, ◌⊎◌}
 use Rattle.affc_rows.specs.Forms.{Affine, value}
 use Rattle.affc_ast.specs.declared.tree.ArrayId.{ArrayId}
 use Rattle.affc_ast.specs.Store.{Element}
+use Rattle.affc_basis.specs.declared.fold.Mark.{Mark}
+use Rattle.affc_basis.specs.declared.fold.Mark.TheVariants.{Least, Bound}
 use Rattle.affc_basis.specs.declared.fold.Modulus.{Modulus}
 use Rattle.affc_basis.specs.declared.fold.Fold.{Fold}
 use Rattle.affc_basis.specs.Slices.{along, InSlice, IsGreatest}
@@ -37,6 +39,11 @@ pub record IsNeed (InContext : List ℤ → Type 0) (pairs : List ℤ → List �
   pub exceeds : (p : List ℤ) → InContext p → (x y : List ℤ) → InSlice (pairs p) rows k x y → along row x y < n
   pub least : (n ≡ 1) ⊎ ((p : List ℤ) × InContext p × (x : List ℤ) × (y : List ℤ) × InSlice (pairs p) rows k x y × (along row x y + 1 ≡ n))
 
+-- a modulus that is enough for the row: at each p of the context it is at least 1, and greater than each distance in the slice
+abbrev pub IsEnough : (InContext : List ℤ → Type 0) (pairs : List ℤ → List ℤ → List ℤ → Type 0) → List Affine → (k : ℕ) → (row modulus : Affine) → Type 0
+IsEnough InContext pairs rows k row modulus =
+    (p : List ℤ) → InContext p → (pos 1 ≤ℤ value modulus p) × ((x y : List ℤ) → InSlice (pairs p) rows k x y → pos (along row x y) <ℤ value modulus p)
+
 -- the pair of a mark, at the p of the mark: it has the greatest distance of the slice, and stands there unless this is 0
 abbrev pub AttainsBy : (pairs : List ℤ → List ℤ → Type 0) → List Affine → (k : ℕ) → (row : Affine) → Option (List ℤ × List ℤ) → (greatest : ℕ) → Type 0
 AttainsBy pairs rows k row None greatest = greatest ≡ 0
@@ -50,6 +57,15 @@ pub record IsLeastMark (InContext : List ℤ → Type 0) (pairs : List ℤ → L
   pub is_greatest : IsGreatest (pairs p) rows k row greatest
   pub value_there : value modulus p ≡ pos (greatest + 1)
   pub attains : AttainsBy (pairs p) rows k row pair greatest
+
+-- what a mark says of its modulus; that it is a bound says nothing
+abbrev pub IsTrueOf : (InContext : List ℤ → Type 0) (pairs : List ℤ → List ℤ → List ℤ → Type 0) → List Affine → (k : ℕ) → (row modulus : Affine) → Mark → Type 0
+IsTrueOf InContext pairs rows k row modulus (Least p pair) = IsLeastMark InContext pairs rows k row modulus p pair
+IsTrueOf InContext pairs rows k row modulus Bound = Unit {0}
+
+-- the mark of a row's modulus is true
+abbrev pub IsTrueMark : (InContext : List ℤ → Type 0) (pairs : List ℤ → List ℤ → List ℤ → Type 0) → List Affine → (k : ℕ) → (row : Affine) → Modulus → Type 0
+IsTrueMark InContext pairs rows k row m = IsTrueOf InContext pairs rows k row m.form m.mark
 
 -- ---- Stored cost
 

@@ -9,7 +9,7 @@ use Rattle.affc_basis.specs.Slices.{along, minus, InSlice}
 abbrev pub ArePositive : (p : List ℤ) → List Affine → Type 0
 ArePositive p moduli = (k : ℕ) (b : Affine) → slice_get moduli k ≡ Some b → pos 1 ≤ℤ value b p
 
--- the remainder along each row, from 0 to its modulus less 1
+-- the remainder along each row, from 0 to its modulus less 1 where the modulus is at least 1
 abbrev pub remainders : (p : List ℤ) → List Affine → List Affine → List ℤ → List ℤ
 remainders p [] moduli x = []
 remainders p (row ∷ rows) [] x = []

@@ -1,5 +1,15 @@
 //! What may be concluded about folds. Each law is the contract of a function that does nothing.
-ghost use Rattle.affc_basis.specs.Laws.{RowsSeparate, PlacesMeetInTheLattice, SliceIsFound, GreatestIsFound, ObeyingFoldIsAdmissible, WholeArrayObeys, AdmissibleFoldsSeparate, FoldsKeepParameters, LeastMarkIsNeed, CompilesFolded};
+ghost use Rattle.std.specs.Prelude.{List, ℤ};
+ghost use Rattle.affc_basis.specs.Laws.{RowsSeparate, PlacesMeetInTheLattice, SliceIsFound, GreatestIsFound, ObeyingFoldSeparates, ObeyingFoldIsAdmissible, WholeArrayObeys, AdmissibleFoldsSeparate, FoldsKeepParameters, LeastMarkIsNeed, NeedIsLeast, ObeyingIsEnough, CompilesFolded};
+
+/// Conflicts over a context: which elements of an array, by their subscripts, are to have different places. The live
+/// pairs of a program are such pairs; the laws over `C` hold of any.
+pub trait Conflicts {
+    /// The values of the parameters that may be.
+    ghost in_context: { List ℤ → Type 0 };
+    /// The pairs, at values of the parameters.
+    ghost pairs: { List ℤ → List ℤ → List ℤ → Type 0 };
+}
 
 /// A basis loses nothing: elements that lie apart along no row are equal.
 pub fn rows_separate()
@@ -21,7 +31,12 @@ pub fn greatest_is_found()
     ensures law { GreatestIsFound }
 {}
 
-/// Successive moduli that exceed what their rows need make an admissible fold.
+/// Successive moduli that exceed what their rows need keep the elements of any pairs apart.
+pub fn obeying_fold_separates<C: Conflicts>()
+    ensures law { ObeyingFoldSeparates C.pairs }
+{}
+
+/// And so those that are live together.
 pub fn obeying_fold_is_admissible()
     ensures law { ObeyingFoldIsAdmissible }
 {}
@@ -41,9 +56,19 @@ pub fn folds_keep_parameters()
     ensures law { FoldsKeepParameters }
 {}
 
-/// A modulus with a true mark is what its row needs.
-pub fn least_mark_is_need()
-    ensures law { LeastMarkIsNeed }
+/// A modulus that is enough and has a true mark is what its row needs, whatever the pairs are.
+pub fn least_mark_is_need<C: Conflicts>()
+    ensures law { LeastMarkIsNeed C.in_context C.pairs }
+{}
+
+/// No smaller modulus than the need is enough.
+pub fn need_is_least<C: Conflicts>()
+    ensures law { NeedIsLeast C.in_context C.pairs }
+{}
+
+/// The moduli of a fold that obeys are enough.
+pub fn obeying_is_enough<C: Conflicts>()
+    ensures law { ObeyingIsEnough C.in_context C.pairs }
 {}
 
 /// A program that runs the target of a legal schedule, at the places of folds that obey, compiles its source.
