@@ -14,7 +14,7 @@ use Rattle.affc_trace.proofs.Found.{live_pairs_are_found}
 use Rattle.affc_basis.specs.Slices.{along, minus}
 use Rattle.affc_basis.specs.Moduli.{IsMultiple}
 use Rattle.affc_basis.specs.Folds.{forms_of}
-use Rattle.affc_basis.specs.Examples.{x0, onto, PlaceOfFour, PlacesOfTheBlur, RowsHaveTheirModuli, SlicesAreSuccessive, BlurNeedsTwo, ThreeObeys, TwoIsTooFew, ThreeIsLeast}
+use Rattle.affc_basis.specs.Examples.{x0, onto, PlaceOfFour, PlacesOfTheBlur, PlaceBySecondFold, RowsHaveTheirModuli, SlicesAreSuccessive, BlurNeedsTwo, ThreeObeys, TwoIsTooFew, ThreeIsLeast}
 use Rattle.affc_basis.proofs.Greatest.{greatest_is_found}
 
 pub place_of_four : PlaceOfFour
@@ -22,6 +22,9 @@ place_of_four = (refl, refl)
 
 pub places_of_the_blur : PlacesOfTheBlur
 places_of_the_blur = (refl, refl)
+
+pub place_by_second_fold : PlaceBySecondFold
+place_by_second_fold = refl
 
 pub rows_have_their_moduli : RowsHaveTheirModuli
 rows_have_their_moduli = refl
@@ -64,14 +67,14 @@ in_lattice (suc k) row b at at_b = absurd (none-some row at)
 pub two_is_too_few : TwoIsTooFew
 two_is_too_few admissible = admissible.apart (pos 0 ∷ []) (pos 2 ∷ []) ends_are_live in_lattice
 
-nothing_along : (q : List ℤ) → dot (pos 0 ∷ []) q ≡ pos 0
+pub nothing_along : (q : List ℤ) → dot (pos 0 ∷ []) q ≡ pos 0
 nothing_along [] = refl
 nothing_along (x ∷ xs) = zero_times x
   where
     zero_times : (x : ℤ) → (pos 0 *ℤ x) +ℤ pos 0 ≡ pos 0
     zero_times x = omega (arith, ints)
 
-constant_stays : (d v : ℤ) → d ≡ pos 0 → v ≡ pos 3 → (d +ℤ pos 3) ≤ℤ v
+pub constant_stays : (d v : ℤ) → d ≡ pos 0 → v ≡ pos 3 → (d +ℤ pos 3) ≤ℤ v
 constant_stays d v e f = omega (arith, ints)
 
 pub three_is_least : ThreeIsLeast

@@ -3,6 +3,10 @@ pub mod Separation
 pub mod FoldPlaces
 pub mod Greatest
 pub mod ExampleProofs
+pub mod BlurContext
+pub mod MarkExamples
+pub mod CostExamples
+pub mod PremiseExamples
 pub mod Marks
 pub mod WideLemmas
 pub mod Products

@@ -1,5 +1,5 @@
 -- What the definitions give at small folds. Each value was found by hand from the rules.
-use Rattle.std.specs.Prelude.{◌≡◌, ℕ, zero, suc, ◌≤◌, pos, negsuc, List, [], ◌∷◌, length, Some, refl, unsigned_abs}
+use Rattle.std.specs.Prelude.{◌≡◌, ℕ, zero, suc, ◌*◌, ◌≤◌, ℤ, pos, negsuc, List, [], ◌∷◌, length, Option, Some, None, refl, unsigned_abs}
 use Rattle.std.proofs.Common.{subst, lit≤, arith}
 use Rattle.std.proofs.lemmas.List.Elements.{All-nil, All-cons}
 use Rattle.std.proofs.lemmas.Option.{same_Some}
@@ -11,12 +11,14 @@ use Rattle.affc_trace.specs.Inverses.{column}
 use Rattle.affc_trace.specs.Dataflow.{LivePair}
 use Rattle.affc_trace.specs.Laws.{IsInContext}
 use Rattle.affc_basis.specs.declared.basis.Basis.{Basis}
-use Rattle.affc_basis.specs.declared.fold.Mark.TheVariants.{Bound}
+use Rattle.affc_basis.specs.declared.fold.Mark.TheVariants.{Least, Bound}
+use Rattle.affc_basis.specs.declared.fold.Modulus.{Modulus}
 use Rattle.affc_basis.specs.declared.fold.Fold.{Fold}
 use Rattle.affc_basis.specs.Bases.{AreWithin, HaveCoefsWithin, AreComponents}
 use Rattle.affc_basis.specs.Slices.{IsGreatest, slice_of, greatest_along}
 use Rattle.affc_basis.specs.Moduli.{remainders}
-use Rattle.affc_basis.specs.Folds.{folded, place, IsAdmissible, Obeys, IsLeastMark}
+use Rattle.affc_basis.specs.Folds.{folded, place, IsAdmissible, Obeys, IsNeed, IsEnough, IsLeastMark, IsTrueMark, AreGreatestValues, IsCost}
+use Rattle.affc_basis.specs.Laws.{AreFoldsOf, LiesWithin}
 
 -- ---- The basis (x0), with the inverse (y0)
 
@@ -50,9 +52,17 @@ whole = record {
   identity = identity;
 }
 
+-- a number, as a form over one parameter
+abbrev pub number : ℕ → Affine
+number n = record { coefs = pos 0 ∷ []; constant = pos n }
+
+-- the fold of one dimension by this modulus
+abbrev pub by_modulus : Affine → Fold
+by_modulus b = record { basis = whole; moduli = record { form = b; mark = Bound } ∷ []; one_each = refl }
+
 -- the fold of one dimension onto n elements
 abbrev pub onto : ℕ → Fold
-onto n = record { basis = whole; moduli = record { form = record { coefs = pos 0 ∷ []; constant = pos n }; mark = Bound } ∷ []; one_each = refl }
+onto n = by_modulus (number n)
 
 -- 4 mod 3 is 1, -1 mod 3 is 2
 abbrev pub PlaceOfFour : Type 0
@@ -65,19 +75,24 @@ folds = (record { 0 = 2 }, onto 3) ∷ []
 abbrev pub PlacesOfTheBlur : Type 0
 PlacesOfTheBlur = (place folds two (cell 2 4) ≡ cell 2 1) × (place folds two (cell 0 4) ≡ cell 0 4)
 
+-- that another array has a fold, which stands first, changes nothing
+abbrev pub PlaceBySecondFold : Type 0
+PlaceBySecondFold = place ((record { 0 = 3 }, onto 2) ∷ folds) two (cell 2 4) ≡ cell 2 1
+
+-- t is the third array, after two parameter arrays, and has one dimension
+abbrev pub FoldsOfTheBlur : Type 0
+FoldsOfTheBlur = AreFoldsOf blur folds
+
 -- ---- Two rows, over two dimensions
 
-abbrev first_row : Affine
+abbrev pub first_row : Affine
 first_row = record { coefs = pos 1 ∷ pos 0 ∷ []; constant = pos 0 }
 
 abbrev second_row : Affine
 second_row = record { coefs = pos 0 ∷ pos 1 ∷ []; constant = pos 0 }
 
-abbrev two_rows : List Affine
+abbrev pub two_rows : List Affine
 two_rows = first_row ∷ second_row ∷ []
-
-abbrev number : ℕ → Affine
-number n = record { coefs = pos 0 ∷ []; constant = pos n }
 
 abbrev spot : (x y : ℕ) → Element
 spot x y = (2, pos x ∷ pos y ∷ [])
@@ -98,6 +113,24 @@ SlicesAreSuccessive =
     × (greatest_along first_row two_pairs ≡ 1)
     × (greatest_along second_row two_pairs ≡ 5)
 
+-- one pair, which lies apart along the second row alone
+abbrev pub OnePair : (p : List ℤ) → List ℤ → List ℤ → Type 0
+OnePair p x y = (x ≡ pos 0 ∷ pos 0 ∷ []) × (y ≡ pos 0 ∷ pos 3 ∷ [])
+
+abbrev pub NoPair : (p : List ℤ) → List ℤ → List ℤ → Type 0
+NoPair p x y = ⊥
+
+abbrev pub IsLeastAlongFirst : Affine → Option (List ℤ × List ℤ) → Type 0
+IsLeastAlongFirst modulus pair = IsLeastMark (λ p. p ≡ two) OnePair two_rows 0 first_row modulus two pair
+
+-- where nothing lies apart along a row 1 is enough; 0 isn't, even where there is no pair
+abbrev pub OneIsEnough : Type 0
+OneIsEnough = IsEnough (λ p. p ≡ two) OnePair two_rows 0 first_row (number 1) × (IsEnough (λ p. p ≡ two) NoPair two_rows 0 first_row (number 0) → ⊥)
+
+-- the first row needs no more than 1, which no pair shows
+abbrev pub OneHasNoPair : Type 0
+OneHasNoPair = IsLeastAlongFirst (number 1) None × (IsLeastAlongFirst (number 1) (Some (pos 0 ∷ pos 0 ∷ [], pos 0 ∷ pos 3 ∷ [])) → ⊥)
+
 -- ---- The blur at times i and i + 2: t[i] and t[i + 2] are live together, and nothing farther apart
 
 abbrev pub BlurNeedsTwo : Type 0
@@ -113,3 +146,62 @@ TwoIsTooFew = ¬ (IsAdmissible (LivePair blur together 2 two) (onto 2) two)
 -- the modulus 3 is least, as t[0] and t[2] show at N = 2
 abbrev pub ThreeIsLeast : Type 0
 ThreeIsLeast = IsLeastMark (IsInContext blur) (LivePair blur together 2) (x0 ∷ []) 0 x0 (record { coefs = pos 0 ∷ []; constant = pos 3 }) two (Some (pos 0 ∷ [], pos 2 ∷ []))
+
+abbrev pub BlurNeeds : ℕ → Type 0
+BlurNeeds n = IsNeed (IsInContext blur) (LivePair blur together 2) (x0 ∷ []) 0 x0 n
+
+-- so the row needs 3; 2 is too few, and 4 is more than is needed
+abbrev pub BlurNeedsThree : Type 0
+BlurNeedsThree = BlurNeeds 3 × (BlurNeeds 2 → ⊥) × (BlurNeeds 4 → ⊥)
+
+abbrev pub IsEnoughForTheBlur : Affine → Type 0
+IsEnoughForTheBlur modulus = IsEnough (IsInContext blur) (LivePair blur together 2) (x0 ∷ []) 0 x0 modulus
+
+-- any modulus from 3 on is enough, and 2 isn't
+abbrev pub ThreeIsEnough : Type 0
+ThreeIsEnough = IsEnoughForTheBlur (number 3) × IsEnoughForTheBlur (number 4) × (IsEnoughForTheBlur (number 2) → ⊥)
+
+abbrev pub IsTrueOfTheBlur : Modulus → Type 0
+IsTrueOfTheBlur m = IsTrueMark (IsInContext blur) (LivePair blur together 2) (x0 ∷ []) 0 x0 m
+
+abbrev pub marked : ℕ → Option (List ℤ × List ℤ) → Modulus
+marked n pair = record { form = number n; mark = Least two pair }
+
+-- t[0] and t[1] are live together too, but don't lie farthest apart; and a bound may be any form
+abbrev pub MarksOfTheBlur : Type 0
+MarksOfTheBlur =
+    IsTrueOfTheBlur (marked 3 (Some (pos 0 ∷ [], pos 2 ∷ [])))
+    × (IsTrueOfTheBlur (marked 3 (Some (pos 0 ∷ [], pos 1 ∷ []))) → ⊥)
+    × (IsTrueOfTheBlur (marked 3 None) → ⊥)
+    × (IsTrueOfTheBlur (marked 2 (Some (pos 0 ∷ [], pos 1 ∷ []))) → ⊥)
+    × IsTrueOfTheBlur (record { form = number 7; mark = Bound })
+
+-- the form N + 2
+abbrev pub two_more : Affine
+two_more = record { coefs = pos 1 ∷ []; constant = pos 2 }
+
+-- each subscript of t is below N + 2
+abbrev pub BlurLiesWithin : Type 0
+BlurLiesWithin = LiesWithin blur two 2 (two_more ∷ [])
+
+-- ---- Greatest values where N is from 1 to 4
+
+-- the form N + 1
+abbrev pub one_more : Affine
+one_more = record { coefs = pos 1 ∷ []; constant = pos 1 }
+
+abbrev pub FiveAndThreeAreGreatest : Type 0
+FiveAndThreeAreGreatest =
+    AreGreatestValues (IsInContext blur) (one_more ∷ number 3 ∷ []) (5 ∷ 3 ∷ [])
+    × (AreGreatestValues (IsInContext blur) (one_more ∷ number 3 ∷ []) (4 ∷ 3 ∷ []) → ⊥)
+    × (AreGreatestValues (IsInContext blur) (one_more ∷ number 3 ∷ []) (6 ∷ 3 ∷ []) → ⊥)
+    × (AreGreatestValues (IsInContext blur) (one_more ∷ number 3 ∷ []) (5 ∷ []) → ⊥)
+
+-- a stored cost: the number of elements of an array with these extents
+abbrev pub elements : List ℕ → ℕ
+elements [] = 1
+elements (n ∷ ns) = n * elements ns
+
+-- the fold costs what it costs at N = 4
+abbrev pub CostOfOneMore : Type 0
+CostOfOneMore = IsCost elements (IsInContext blur) (by_modulus one_more) 5 × (IsCost elements (IsInContext blur) (by_modulus one_more) 4 → ⊥)
