@@ -1,5 +1,5 @@
 -- What the row of the blur's fold needs, and which marks are true.
-use Rattle.std.proofs.Common.{◌≡◌, ℕ, ◌+◌, ◌<◌, ◌≤◌, ℤ, pos, ◌+ℤ◌, ◌≤ℤ◌, ◌<ℤ◌, List, [], ◌∷◌, refl, sym, ap, subst, ◌∙◌, ◌⊎◌, inl, inr, arith, lit≤, Some, None}
+use Rattle.std.proofs.Common.{true≢false, ◌≡◌, ℕ, ◌+◌, ◌<◌, ◌≤◌, ℤ, pos, ◌+ℤ◌, ◌≤ℤ◌, ◌<ℤ◌, List, [], ◌∷◌, refl, sym, ap, ◌∙◌, inl, inr, arith, lit≤}
 use Rattle.std.proofs.lemmas.Int.{ints}
 use denote.Hole.Carrier.{hidden}
 use Rattle.affc_ast.specs.declared.tree.Ix.TheBlock.{shape-the_row-Ix-0, hidden-the_row-Ix-0}
@@ -10,10 +10,10 @@ use Rattle.affc_trace.specs.Examples.{blur, together, two}
 use Rattle.affc_trace.specs.Dataflow.{LivePair}
 use Rattle.affc_trace.specs.Laws.{IsInContext}
 use Rattle.affc_basis.specs.Slices.{along, InSlice, IsGreatest}
-use Rattle.affc_basis.specs.Examples.{x0, number, first_row, OnePair, OneIsEnough, OneHasNoPair, BlurNeedsThree, IsEnoughForTheBlur, ThreeIsEnough, MarksOfTheBlur}
+use Rattle.affc_basis.specs.Examples.{x0, number, one_more, first_row, OnlyTwoIsGreatest, MarksElsewhere, OnePair, OneIsEnough, OneHasNoPair, BlurNeedsThree, IsEnoughForTheBlur, ThreeIsEnough, MarksOfTheBlur}
 use Rattle.affc_basis.proofs.Greatest.{greatest_is_found}
 use Rattle.affc_basis.proofs.BlurContext.{in_context, by_context}
-use Rattle.affc_basis.proofs.ExampleProofs.{blur_needs_two, ends_are_live, three_is_least, constant_stays, nothing_along}
+use Rattle.affc_basis.proofs.ExampleProofs.{blur_needs_two, ends_are_live, three_is_least, nothing_along}
 
 abbrev AreTwoApart : List ℤ → Type 0
 AreTwoApart p = IsGreatest (LivePair blur together 2 p) (x0 ∷ []) 0 x0 2
@@ -33,6 +33,24 @@ two_is_in_context = in_context 2 refl
 
 ends_in_slice : InSlice (LivePair blur together 2 two) (x0 ∷ []) 0 (pos 0 ∷ []) (pos 2 ∷ [])
 ends_in_slice = record { pair = ends_are_live; agrees = λ j row h at. absurd (omega arith) }
+
+one_too_few : ◌≤◌ 2 1 → ⊥
+one_too_few h = omega arith
+
+three_too_many : (d : ℕ) → d ≤ 2 → d ≡ 3 → ⊥
+three_too_many d h e = omega arith
+
+three_not_zero : ◌≡◌ {A = ℕ} 3 0 → ⊥
+three_not_zero e = omega arith
+
+pub only_two_is_greatest : OnlyTwoIsGreatest
+only_two_is_greatest = (
+  λ g. one_too_few (g.most (pos 0 ∷ []) (pos 2 ∷ []) ends_in_slice),
+  λ g. elim g.attained [
+    | inl e ↦ three_not_zero e
+    | inr f ↦ three_too_many (along x0 f.0 f.1) (blur_needs_two.most f.0 f.1 f.2) f.3
+  ],
+)
 
 below : (d : ℕ) → d ≤ 2 → d < 3
 below d h = omega arith
@@ -98,13 +116,27 @@ farther g e f = omega arith
 at_zero : (g : ℕ) → g + 1 ≡ 1 → 1 ≤ g → ⊥
 at_zero g e f = omega arith
 
+too_great : (g : ℕ) → g + 1 ≡ 4 → 2 ≡ g → ⊥
+too_great g e f = omega arith
+
 pub marks_of_the_blur : MarksOfTheBlur
 marks_of_the_blur = (
   three_is_least,
   λ m. nearer m.greatest (one_less 3 m.greatest m.value_there) m.attains.1,
   λ m. no_pair m.greatest (one_less 3 m.greatest m.value_there) m.attains,
   λ m. farther m.greatest (one_less 2 m.greatest m.value_there) (m.is_greatest.most (pos 0 ∷ []) (pos 2 ∷ []) ends_in_slice),
+  λ m. too_great m.greatest (one_less 4 m.greatest m.value_there) m.attains.1,
   tt,
+)
+
+not_highest : (u v : ℤ) → u ≡ pos 5 → v ≡ pos 3 → u ≤ℤ v → ⊥
+not_highest u v e f h = omega (arith, ints)
+
+pub marks_elsewhere : MarksElsewhere
+unfolding shape-the_row-Ix-0 hidden-the_row-Ix-0 shape-the_row-Val-0 hidden-the_row-Val-0 shape-the_row-Stmt-0 hidden-the_row-Stmt-0 hidden
+marks_elsewhere = (
+  λ m. not_highest (value one_more (pos 4 ∷ [])) (value one_more two) refl refl (m.highest (pos 4 ∷ []) (in_context 4 refl)),
+  λ m. true≢false (sym m.in_context.ranges),
 )
 
 along_of_pair : (p x y : List ℤ) → OnePair p x y → along first_row x y ≡ 0

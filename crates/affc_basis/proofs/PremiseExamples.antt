@@ -9,7 +9,6 @@ use Rattle.affc_ast.specs.declared.tree.Ix.TheBlock.{shape-the_row-Ix-0, hidden-
 use Rattle.affc_ast.specs.declared.tree.Val.TheBlock.{shape-the_row-Val-0, hidden-the_row-Val-0}
 use Rattle.affc_ast.specs.declared.tree.Stmt.TheBlock.{shape-the_row-Stmt-0, hidden-the_row-Stmt-0}
 use Rattle.affc_rows.specs.Forms.{Affine, value}
-use Rattle.affc_ast.specs.declared.tree.Instance.{Instance}
 use Rattle.affc_trace.specs.Examples.{blur, two, S0, S1}
 use Rattle.affc_trace.specs.Orders.{Touches}
 use Rattle.affc_trace.specs.Effects.{effect}

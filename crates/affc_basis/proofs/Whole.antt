@@ -1,24 +1,20 @@
 -- An array whose moduli are its extents obeys.
-use Rattle.std.proofs.Common.{◌≡◌, ℕ, zero, suc, ◌+◌, ◌<◌, ℤ, pos, ◌-ℤ◌, ◌≤ℤ◌, ◌<ℤ◌, List, [], ◌∷◌, length, get_or, refl, sym, ap, subst, ◌∙◌, ◌⊎◌, inl, inr, arith, Some}
+use Rattle.std.proofs.Common.{◌≡◌, ℕ, zero, suc, ℤ, pos, ◌-ℤ◌, ◌≤ℤ◌, ◌<ℤ◌, List, [], ◌∷◌, length, get_or, refl, sym, ap, subst, ◌∙◌, inl, inr, arith, Some}
 use Rattle.std.specs.Prelude.{slice_get, unsigned_abs}
-use Rattle.affc_rows.specs.Forms.{Affine, dot, value}
-use Rattle.affc_ast.specs.declared.tree.Instance.{Instance}
+use Rattle.affc_rows.specs.Forms.{Affine, value}
 use Rattle.affc_ast.specs.declared.tree.Program.{Program}
 use Rattle.affc_ast.specs.Trace.{trace}
 use Rattle.affc_trace.specs.declared.schedule.Schedule.{Schedule}
-use Rattle.affc_trace.specs.Inverses.{unit_row, column}
-use Rattle.affc_trace.specs.Law.{IsIn}
 use Rattle.affc_trace.specs.Orders.{StoredBetween}
 use Rattle.affc_trace.specs.Effects.{effect}
 use Rattle.affc_trace.specs.Target.{target}
 use Rattle.affc_trace.specs.Dataflow.{same_element, LivePair}
-use Rattle.affc_trace.proofs.Legality.{later_is_in, earlier_is_in}
+use Rattle.affc_trace.proofs.Legality.{later_is_in}
 use Rattle.affc_trace.proofs.Contents.{target_is_reordered_law}
 use Rattle.affc_trace.proofs.Recovers.{dot-unit_row}
-use Rattle.affc_basis.specs.declared.fold.Fold.{Fold}
 use Rattle.affc_basis.specs.Slices.{minus, along}
 use Rattle.affc_basis.specs.Folds.{forms_of}
-use Rattle.affc_basis.specs.Laws.{HasDimensions, LiesWithin, WholeArrayObeys}
+use Rattle.affc_basis.specs.Laws.{LiesWithin, WholeArrayObeys}
 use Rattle.affc_basis.proofs.Remainders.{between}
 use Rattle.affc_basis.proofs.FoldPlaces.{proper_pair}
 

@@ -56,6 +56,13 @@ whole = record {
 abbrev pub number : ℕ → Affine
 number n = record { coefs = pos 0 ∷ []; constant = pos n }
 
+-- N + 1 and N + 2
+abbrev pub one_more : Affine
+one_more = record { coefs = pos 1 ∷ []; constant = pos 1 }
+
+abbrev pub two_more : Affine
+two_more = record { coefs = pos 1 ∷ []; constant = pos 2 }
+
 -- the fold of one dimension by this modulus
 abbrev pub by_modulus : Affine → Fold
 by_modulus b = record { basis = whole; moduli = record { form = b; mark = Bound } ∷ []; one_each = refl }
@@ -136,6 +143,9 @@ OneHasNoPair = IsLeastAlongFirst (number 1) None × (IsLeastAlongFirst (number 1
 abbrev pub BlurNeedsTwo : Type 0
 BlurNeedsTwo = IsGreatest (LivePair blur together 2 two) (x0 ∷ []) 0 x0 2
 
+abbrev pub OnlyTwoIsGreatest : Type 0
+OnlyTwoIsGreatest = (IsGreatest (LivePair blur together 2 two) (x0 ∷ []) 0 x0 1 → ⊥) × (IsGreatest (LivePair blur together 2 two) (x0 ∷ []) 0 x0 3 → ⊥)
+
 abbrev pub ThreeObeys : Type 0
 ThreeObeys = Obeys (LivePair blur together 2 two) (onto 3) two
 
@@ -174,21 +184,20 @@ MarksOfTheBlur =
     × (IsTrueOfTheBlur (marked 3 (Some (pos 0 ∷ [], pos 1 ∷ []))) → ⊥)
     × (IsTrueOfTheBlur (marked 3 None) → ⊥)
     × (IsTrueOfTheBlur (marked 2 (Some (pos 0 ∷ [], pos 1 ∷ []))) → ⊥)
+    × (IsTrueOfTheBlur (marked 4 (Some (pos 0 ∷ [], pos 2 ∷ []))) → ⊥)
     × IsTrueOfTheBlur (record { form = number 7; mark = Bound })
 
--- the form N + 2
-abbrev pub two_more : Affine
-two_more = record { coefs = pos 1 ∷ []; constant = pos 2 }
+-- N + 1 is 3 at N = 2, but greater at N = 4; and N = 5 is outside of the context
+abbrev pub MarksElsewhere : Type 0
+MarksElsewhere =
+    (IsTrueOfTheBlur (record { form = one_more; mark = Least two (Some (pos 0 ∷ [], pos 2 ∷ [])) }) → ⊥)
+    × (IsTrueOfTheBlur (record { form = number 3; mark = Least (pos 5 ∷ []) (Some (pos 0 ∷ [], pos 2 ∷ [])) }) → ⊥)
 
 -- each subscript of t is below N + 2
 abbrev pub BlurLiesWithin : Type 0
 BlurLiesWithin = LiesWithin blur two 2 (two_more ∷ [])
 
 -- ---- Greatest values where N is from 1 to 4
-
--- the form N + 1
-abbrev pub one_more : Affine
-one_more = record { coefs = pos 1 ∷ []; constant = pos 1 }
 
 abbrev pub FiveAndThreeAreGreatest : Type 0
 FiveAndThreeAreGreatest =

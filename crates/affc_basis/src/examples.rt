@@ -1,6 +1,6 @@
 //! What the definitions give at small folds, as laws: `specs/Examples.antt` says each, with values that were found
 //! by hand from the rules.
-ghost use Rattle.affc_basis.specs.Examples.{PlaceOfFour, PlacesOfTheBlur, PlaceBySecondFold, FoldsOfTheBlur, RowsHaveTheirModuli, SlicesAreSuccessive, BlurNeedsTwo, ThreeObeys, TwoIsTooFew, ThreeIsLeast, BlurNeedsThree, ThreeIsEnough, MarksOfTheBlur, OneIsEnough, OneHasNoPair, BlurLiesWithin, FiveAndThreeAreGreatest, CostOfOneMore};
+ghost use Rattle.affc_basis.specs.Examples.{PlaceOfFour, PlacesOfTheBlur, PlaceBySecondFold, FoldsOfTheBlur, RowsHaveTheirModuli, SlicesAreSuccessive, BlurNeedsTwo, OnlyTwoIsGreatest, ThreeObeys, TwoIsTooFew, ThreeIsLeast, BlurNeedsThree, ThreeIsEnough, MarksOfTheBlur, MarksElsewhere, OneIsEnough, OneHasNoPair, BlurLiesWithin, FiveAndThreeAreGreatest, CostOfOneMore};
 
 /// Where elements are put.
 pub fn places()
@@ -18,6 +18,7 @@ pub fn slices()
 /// What the blur of affc_trace needs.
 pub fn blur()
     ensures needs_two { BlurNeedsTwo }
+    ensures only_two { OnlyTwoIsGreatest }
     ensures three_obeys { ThreeObeys }
     ensures two_is_too_few { TwoIsTooFew }
     ensures three_is_least { ThreeIsLeast }
@@ -28,6 +29,7 @@ pub fn marks()
     ensures needs_three { BlurNeedsThree }
     ensures three_is_enough { ThreeIsEnough }
     ensures of_the_blur { MarksOfTheBlur }
+    ensures elsewhere { MarksElsewhere }
     ensures one_is_enough { OneIsEnough }
     ensures one_has_no_pair { OneHasNoPair }
 {}
