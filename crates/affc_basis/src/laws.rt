@@ -5,9 +5,9 @@ ghost use Rattle.affc_basis.specs.Laws.{RowsSeparate, PlacesMeetInTheLattice, Sl
 /// Conflicts over a context: which elements of an array, by their subscripts, are to have different places. The live
 /// pairs of a program are such pairs; the laws over `C` hold of any.
 pub trait Conflicts {
-    /// The values of the parameters that may be.
+    /// Which values of the parameters are in the context.
     ghost in_context: { List ℤ → Type 0 };
-    /// The pairs, at values of the parameters.
+    /// Which two elements are a pair, at values of the parameters.
     ghost pairs: { List ℤ → List ℤ → List ℤ → Type 0 };
 }
 
@@ -36,7 +36,7 @@ pub fn obeying_fold_separates<C: Conflicts>()
     ensures law { ObeyingFoldSeparates C.pairs }
 {}
 
-/// And so those that are live together.
+/// And so they make a fold that is admissible for live pairs.
 pub fn obeying_fold_is_admissible()
     ensures law { ObeyingFoldIsAdmissible }
 {}
