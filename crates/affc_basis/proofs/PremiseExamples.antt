@@ -14,7 +14,8 @@ use Rattle.affc_trace.specs.Orders.{Touches}
 use Rattle.affc_trace.specs.Effects.{effect}
 use Rattle.affc_basis.specs.declared.fold.Fold.{Fold}
 use Rattle.affc_basis.specs.Folds.{fold_of}
-use Rattle.affc_basis.specs.Examples.{onto, folds, FoldsOfTheBlur, two_more, BlurLiesWithin}
+use Rattle.affc_basis.specs.Examples.{onto, folds, FoldsOfTheBlur, one_more, two_more, BlurLiesWithin}
+use Rattle.affc_basis.specs.Laws.{AreFoldsOf, LiesWithin}
 
 -- ---- the fold
 
@@ -44,15 +45,22 @@ one_dimension p (suc zero) is x (inr e) = ap (λ z. length z.1) e
 one_dimension p (suc (suc k)) is x (inl i) = absurd i
 one_dimension p (suc (suc k)) is x (inr e) = absurd (two_is_not_zero (ap (λ z. z.0) e))
 
-pub folds_of_the_blur : FoldsOfTheBlur
+are_folds : AreFoldsOf blur folds
 unfolding shape-the_row-Ix-0 hidden-the_row-Ix-0 shape-the_row-Val-0 hidden-the_row-Val-0 shape-the_row-Stmt-0 hidden-the_row-Stmt-0 hidden
-folds_of_the_blur = record {
+are_folds = record {
   temporary = λ array fold e. subst (λ a. 2 ≤ a) (only_fold array fold e).0 (lit≤ tt);
   dimensions = λ array fold e p here b x i touched.
       let only = only_fold array fold e in
       subst (λ f. length x ≡ length f.basis.rows) only.1
       (one_dimension p b.statement b.iterators x (subst (λ a. Touches (effect blur p) b (a, x)) (sym only.0) touched));
 }
+
+not_temporary : ◌≤◌ 2 1 → ⊥
+not_temporary h = omega arith
+
+pub folds_of_the_blur : FoldsOfTheBlur
+unfolding shape-the_row-Ix-0 hidden-the_row-Ix-0 shape-the_row-Val-0 hidden-the_row-Val-0 shape-the_row-Stmt-0 hidden-the_row-Stmt-0 hidden
+folds_of_the_blur = (are_folds, λ proper. not_temporary (proper.temporary 1 (onto 3) refl))
 
 -- ---- the extent, at N = 2
 
@@ -82,12 +90,22 @@ by_second i h x (inl (inr (inr (inl e)))) = inside (i + 2) (omega arith) x (ap (
 by_second i h x (inl (inr (inr (inr j)))) = absurd j
 by_second i h x (inr e) = absurd (two_is_not_one (ap (λ z. z.0) e))
 
+lies_within : LiesWithin blur two 2 (two_more ∷ [])
+unfolding shape-the_row-Ix-0 hidden-the_row-Ix-0 shape-the_row-Val-0 hidden-the_row-Val-0 shape-the_row-Stmt-0 hidden-the_row-Stmt-0 hidden
+lies_within b x (inl e) touched = by_first 0 (lit≤ tt) x (subst (λ c. Touches (effect blur two) c (2, x)) e touched)
+lies_within b x (inr (inl e)) touched = by_first 1 (lit≤ tt) x (subst (λ c. Touches (effect blur two) c (2, x)) e touched)
+lies_within b x (inr (inr (inl e))) touched = by_first 2 (lit≤ tt) x (subst (λ c. Touches (effect blur two) c (2, x)) e touched)
+lies_within b x (inr (inr (inr (inl e)))) touched = by_first 3 (lit≤ tt) x (subst (λ c. Touches (effect blur two) c (2, x)) e touched)
+lies_within b x (inr (inr (inr (inr (inl e))))) touched = by_second 0 (lit≤ tt) x (subst (λ c. Touches (effect blur two) c (2, x)) e touched)
+lies_within b x (inr (inr (inr (inr (inr (inl e)))))) touched = by_second 1 (lit≤ tt) x (subst (λ c. Touches (effect blur two) c (2, x)) e touched)
+lies_within b x (inr (inr (inr (inr (inr (inr i)))))) touched = absurd i
+
+three_is_past : (v : ℤ) → v ≡ pos 3 → pos 3 <ℤ v → ⊥
+three_is_past v e h = omega (arith, ints)
+
 pub blur_lies_within : BlurLiesWithin
 unfolding shape-the_row-Ix-0 hidden-the_row-Ix-0 shape-the_row-Val-0 hidden-the_row-Val-0 shape-the_row-Stmt-0 hidden-the_row-Stmt-0 hidden
-blur_lies_within b x (inl e) touched = by_first 0 (lit≤ tt) x (subst (λ c. Touches (effect blur two) c (2, x)) e touched)
-blur_lies_within b x (inr (inl e)) touched = by_first 1 (lit≤ tt) x (subst (λ c. Touches (effect blur two) c (2, x)) e touched)
-blur_lies_within b x (inr (inr (inl e))) touched = by_first 2 (lit≤ tt) x (subst (λ c. Touches (effect blur two) c (2, x)) e touched)
-blur_lies_within b x (inr (inr (inr (inl e)))) touched = by_first 3 (lit≤ tt) x (subst (λ c. Touches (effect blur two) c (2, x)) e touched)
-blur_lies_within b x (inr (inr (inr (inr (inl e))))) touched = by_second 0 (lit≤ tt) x (subst (λ c. Touches (effect blur two) c (2, x)) e touched)
-blur_lies_within b x (inr (inr (inr (inr (inr (inl e)))))) touched = by_second 1 (lit≤ tt) x (subst (λ c. Touches (effect blur two) c (2, x)) e touched)
-blur_lies_within b x (inr (inr (inr (inr (inr (inr i)))))) touched = absurd i
+blur_lies_within = (
+  lies_within,
+  λ within. three_is_past (value one_more two) refl (within (S0 3) (pos 3 ∷ []) (inr (inr (inr (inl refl)))) (inr refl) 0 one_more refl).1,
+)

@@ -86,9 +86,9 @@ PlacesOfTheBlur = (place folds two (cell 2 4) ≡ cell 2 1) × (place folds two 
 abbrev pub PlaceBySecondFold : Type 0
 PlaceBySecondFold = place ((record { 0 = 3 }, onto 2) ∷ folds) two (cell 2 4) ≡ cell 2 1
 
--- t is the third array, after two parameter arrays, and has one dimension
+-- t is the third array, after two parameter arrays, and has one dimension; `out` is none to be folded
 abbrev pub FoldsOfTheBlur : Type 0
-FoldsOfTheBlur = AreFoldsOf blur folds
+FoldsOfTheBlur = AreFoldsOf blur folds × (AreFoldsOf blur ((record { 0 = 1 }, onto 3) ∷ []) → ⊥)
 
 -- ---- Two rows, over two dimensions
 
@@ -143,6 +143,7 @@ OneHasNoPair = IsLeastAlongFirst (number 1) None × (IsLeastAlongFirst (number 1
 abbrev pub BlurNeedsTwo : Type 0
 BlurNeedsTwo = IsGreatest (LivePair blur together 2 two) (x0 ∷ []) 0 x0 2
 
+-- and neither 1 nor 3 is the greatest distance
 abbrev pub OnlyTwoIsGreatest : Type 0
 OnlyTwoIsGreatest = (IsGreatest (LivePair blur together 2 two) (x0 ∷ []) 0 x0 1 → ⊥) × (IsGreatest (LivePair blur together 2 two) (x0 ∷ []) 0 x0 3 → ⊥)
 
@@ -193,9 +194,9 @@ MarksElsewhere =
     (IsTrueOfTheBlur (record { form = one_more; mark = Least two (Some (pos 0 ∷ [], pos 2 ∷ [])) }) → ⊥)
     × (IsTrueOfTheBlur (record { form = number 3; mark = Least (pos 5 ∷ []) (Some (pos 0 ∷ [], pos 2 ∷ [])) }) → ⊥)
 
--- each subscript of t is below N + 2
+-- each subscript of t is below N + 2, and not each below N + 1
 abbrev pub BlurLiesWithin : Type 0
-BlurLiesWithin = LiesWithin blur two 2 (two_more ∷ [])
+BlurLiesWithin = LiesWithin blur two 2 (two_more ∷ []) × (LiesWithin blur two 2 (one_more ∷ []) → ⊥)
 
 -- ---- Greatest values where N is from 1 to 4
 
