@@ -1,7 +1,9 @@
 //! Blocks of text that say a system, a box and what is expected of them.
-ghost use Rattle.std.specs.Prelude.{◌≡◌, ℕ, pos, ◌≤◌, ◌<◌, [], ◌∷◌, ◌++◌, length, IfOk, IfErr, OnOk, OnErr, Some, None, Err};
+ghost use Rattle.std.specs.Prelude.{◌≡◌, ℕ, ℤ, pos, codes, ◌≤◌, [], ◌∷◌, ◌++◌, length, List, IfOk, IfErr, OnOk, OnErr, Option, Some, Err};
 ghost use Rattle.affc_rows.specs.Forms.{Affine};
+ghost use Rattle.affc_system.specs.Boxes.{IsBox};
 ghost use Rattle.affc_decide.specs.Words.{Says, SaysNone};
+ghost use Rattle.affc_decide.specs.Blocks.{texts_of, Say, ends_of, Limit, Row, AddsRow, IsTaken, Takes, TakesNone, TakesLine, TakesNoLine, begun};
 
 use affc_rows::Form;
 use affc_system::{BoxOf, RowFault, System};
@@ -53,7 +55,10 @@ fn number(word: &str) -> Result<i64, Fault>
 }
 
 /// The whole numbers that words say.
-fn numbers(alloc: Global, words: &[&str]) -> Result<Vec<i64>, Fault> {
+fn numbers(alloc: Global, words: &[&str]) -> Result<Vec<i64>, Fault>
+    ensures said { IfOk result (λ found. Say (texts_of words.now) found.items) }
+    ensures none { IfErr result (λ e. e ≡ Fault.Malformed → (said : List ℤ) → Say (texts_of words.now) said → ⊥) }
+{
     let mut found = Vec::new(alloc);
     for word in words {
         let n = number(word)?;
@@ -68,7 +73,8 @@ fn numbers(alloc: Global, words: &[&str]) -> Result<Vec<i64>, Fault> {
 fn begin(alloc: Global, columns: &str, rows: &str) -> Result<Block, Fault>
     ensures said { IfOk result (λ b. Says columns.now (pos b.columns) × Says rows.now (pos b.rows)) }
     ensures small { IfOk result (λ b. (b.columns ≤ 128) × (b.rows ≤ 1024)) }
-    ensures fresh { IfOk result (λ b. (b.limit ≡ 1000000) × (b.system ≡ record { columns = b.columns; rows = [] }) × (b.ranges ≡ None)) }
+    ensures fresh { IfOk result (λ b. b ≡ begun b.columns b.rows) }
+    ensures none { OnErr result ((c r : ℕ) → Says columns.now (pos c) → Says rows.now (pos r) → c ≤ 128 → r ≤ 1024 → ⊥) }
     ensures fault { OnErr result (result ≡ Err Fault.Malformed) }
 {
     let columns = number(columns)?;
@@ -86,23 +92,26 @@ fn begin(alloc: Global, columns: &str, rows: &str) -> Result<Block, Fault>
 }
 
 /// The box of a block.
-fn box_of(alloc: Global, ends: &[i64], columns: u32) -> Result<BoxOf, Fault> {
+fn box_of(alloc: Global, ends: &[i64], columns: u32) -> Result<BoxOf, Fault>
+    ensures ends { IfOk result (λ ranges. ends_of ranges ≡ ends.now) }
+    ensures ordered { IfOk result (λ ranges. IsBox ranges) }
+    ensures width { IfOk result (λ ranges. length ranges ≡ columns) }
+    ensures none { IfErr result (λ e. e ≡ Fault.Malformed → (ranges : List (ℤ × ℤ)) → ends_of ranges ≡ ends.now → IsBox ranges → length ranges ≡ columns → ⊥) }
+{
+    let count = columns as usize;
+    if ends.len() != 2 * count {
+        return Err(Fault::Malformed);
+    }
     let mut ranges = BoxOf::new(alloc);
-    let mut rest = ends;
-    for _ in 0..columns {
-        let [low, high, more @ ..] = rest else {
-            return Err(Fault::Malformed);
-        };
-        if *low > *high {
+    for i in 0..count {
+        let low = ends[2 * i];
+        let high = ends[2 * i + 1];
+        if low > high {
             return Err(Fault::Malformed);
         }
-        let Ok(()) = ranges.push(*low, *high) else {
+        let Ok(()) = ranges.push(low, high) else {
             return Err(Fault::Memory);
         };
-        rest = more;
-    }
-    if !rest.is_empty() {
-        return Err(Fault::Malformed);
     }
     Ok(ranges)
 }
@@ -129,12 +138,13 @@ fn row_of(alloc: Global, entries: &[i64]) -> Result<Form, Fault>
 
 /// Adds a row to a block.
 fn add_row(alloc: Global, block: &mut Block, entries: &[i64]) -> Result<(), Fault>
-    ensures added { OnOk result ((f : Affine) × (f.coefs ++ f.constant ∷ [] ≡ entries.now) × (block.new ≡ record block.old { system = record block.old.system { rows = block.old.system.rows ++ f ∷ [] } })) }
-    ensures room { OnOk result (length block.old.system.rows < block.old.rows) }
+    ensures added { OnOk result ((f : Affine) × (f.coefs ++ f.constant ∷ [] ≡ entries.now) × AddsRow block.old f (Some block.new)) }
+    ensures none { IfErr result (λ e. e ≡ Fault.Malformed → (f : Affine) (after : Option Block) → f.coefs ++ f.constant ∷ [] ≡ entries.now → AddsRow block.old f after → ⊥) }
     ensures kept { OnErr result (block.new ≡ block.old) }
 {
     let row = row_of(alloc, entries)?;
-    if row.coefs.len() != block.system.columns() as usize
+    if block.ranges.is_none()
+        || row.coefs.len() != block.system.columns() as usize
         || block.system.rows().len() >= block.rows
     {
         return Err(Fault::Malformed);
@@ -146,25 +156,41 @@ fn add_row(alloc: Global, block: &mut Block, entries: &[i64]) -> Result<(), Faul
     }
 }
 
-/// A line of numbers: the box's ranges have come before.
+/// A line of numbers: a row, which the ranges have to come before.
 fn add_numbers(alloc: Global, block: &mut Option<Block>, words: &[&str]) -> Result<(), Fault>
+    ensures taken { OnOk result (Takes (texts_of words.now) block.old Line.Nothing block.new) }
+    ensures none { IfErr result (λ e. e ≡ Fault.Malformed → (row : Affine) (added : Line) (after : Option Block) → Say (texts_of words.now) (row.coefs ++ row.constant ∷ []) → IsTaken (Row row) block.old added after → ⊥) }
     ensures kept { OnErr result (block.new ≡ block.old) }
 {
     let entries = numbers(alloc, words)?;
     match block {
-        Some(block) => match &block.ranges {
-            Some(_) => add_row(alloc, block, entries.as_slice()),
-            None => Err(Fault::Malformed),
-        },
+        Some(block) => add_row(alloc, block, entries.as_slice()),
         None => Err(Fault::Malformed),
     }
 }
 
-/// Adds the box to a block.
-fn add_ranges(alloc: Global, block: &mut Option<Block>, words: &[&str]) -> Result<(), Fault>
+/// A block's first line, behind its first word.
+fn read_system(alloc: Global, block: &mut Option<Block>, more: &[&str]) -> Result<(), Fault>
+    ensures taken { OnOk result (Takes (codes "system" ∷ texts_of more.now) block.old Line.Nothing block.new) }
+    ensures none { IfErr result (λ e. e ≡ Fault.Malformed → TakesNone (codes "system" ∷ texts_of more.now) block.old) }
     ensures kept { OnErr result (block.new ≡ block.old) }
 {
-    let ends = numbers(alloc, words)?;
+    match more {
+        [_name, "columns", columns, "rows", rows] => {
+            *block = Some(begin(alloc, columns, rows)?);
+            Ok(())
+        }
+        _ => Err(Fault::Malformed),
+    }
+}
+
+/// Sets the box of a block.
+fn set_ranges(alloc: Global, block: &mut Option<Block>, more: &[&str]) -> Result<(), Fault>
+    ensures taken { OnOk result (Takes (codes "ranges" ∷ texts_of more.now) block.old Line.Nothing block.new) }
+    ensures none { IfErr result (λ e. e ≡ Fault.Malformed → TakesNone (codes "ranges" ∷ texts_of more.now) block.old) }
+    ensures kept { OnErr result (block.new ≡ block.old) }
+{
+    let ends = numbers(alloc, more)?;
     match block {
         Some(block) => {
             let ranges = box_of(alloc, ends.as_slice(), block.columns)?;
@@ -175,10 +201,10 @@ fn add_ranges(alloc: Global, block: &mut Option<Block>, words: &[&str]) -> Resul
     }
 }
 
-/// Says the limit of a block.
+/// Sets the limit of a block.
 fn set_limit(block: &mut Option<Block>, limit: &str) -> Result<(), Fault>
-    ensures said { OnOk result ((b : Block) × (l : ℕ) × (block.old ≡ Some b) × Says limit.now (pos l) × (block.new ≡ Some (record b { limit = l }))) }
-    ensures none { OnErr result ((b : Block) (l : ℕ) → block.old ≡ Some b → Says limit.now (pos l) → ⊥) }
+    ensures taken { OnOk result ((l : ℕ) × Says limit.now (pos l) × IsTaken (Limit l) block.old Line.Nothing block.new) }
+    ensures none { OnErr result ((l : ℕ) (added : Line) (after : Option Block) → Says limit.now (pos l) → IsTaken (Limit l) block.old added after → ⊥) }
     ensures fault { OnErr result (result ≡ Err Fault.Malformed) }
     ensures kept { OnErr result (block.new ≡ block.old) }
 {
@@ -192,34 +218,62 @@ fn set_limit(block: &mut Option<Block>, limit: &str) -> Result<(), Fault>
     }
 }
 
+/// A line of a limit, behind its first word.
+fn read_limit(block: &mut Option<Block>, more: &[&str]) -> Result<(), Fault>
+    ensures taken { OnOk result (Takes (codes "limit" ∷ texts_of more.now) block.old Line.Nothing block.new) }
+    ensures none { IfErr result (λ e. e ≡ Fault.Malformed → TakesNone (codes "limit" ∷ texts_of more.now) block.old) }
+    ensures kept { OnErr result (block.new ≡ block.old) }
+{
+    match more {
+        [limit] => set_limit(block, limit),
+        _ => Err(Fault::Malformed),
+    }
+}
+
+/// What is expected, behind the line's first word.
+fn expected(alloc: Global, more: &[&str]) -> Result<Line, Fault>
+    ensures taken { IfOk result (λ added. (before : Option Block) → Takes (codes "expect" ∷ texts_of more.now) before added before) }
+    ensures none { IfErr result (λ e. e ≡ Fault.Malformed → (before : Option Block) → TakesNone (codes "expect" ∷ texts_of more.now) before) }
+{
+    let [first, point @ ..] = more else {
+        return Err(Fault::Malformed);
+    };
+    match *first {
+        "empty" if point.is_empty() => Ok(Line::Empty),
+        "stopped" if point.is_empty() => Ok(Line::Stopped),
+        "point" => Ok(Line::Point(numbers(alloc, point)?)),
+        _ => Err(Fault::Malformed),
+    }
+}
+
+/// Reads a line's words into a block.
+fn read_words(alloc: Global, block: &mut Option<Block>, words: &[&str]) -> Result<Line, Fault>
+    ensures taken { IfOk result (λ added. Takes (texts_of words.now) block.old added block.new) }
+    ensures none { IfErr result (λ e. e ≡ Fault.Malformed → TakesNone (texts_of words.now) block.old) }
+    ensures kept { OnErr result (block.new ≡ block.old) }
+{
+    let [first, more @ ..] = words else {
+        return Ok(Line::Nothing);
+    };
+    match *first {
+        "system" => read_system(alloc, block, more)?,
+        "ranges" => set_ranges(alloc, block, more)?,
+        "limit" => read_limit(block, more)?,
+        "expect" => return expected(alloc, more),
+        _ => add_numbers(alloc, block, words)?,
+    }
+    Ok(Line::Nothing)
+}
+
 /// Reads a line into a block.
 pub fn read_line(alloc: Global, block: &mut Option<Block>, line: &str) -> Result<Line, Fault>
+    ensures taken { IfOk result (λ added. TakesLine line.now block.old added block.new) }
+    ensures none { IfErr result (λ e. e ≡ Fault.Malformed → TakesNoLine line.now block.old) }
     ensures kept { OnErr result (block.new ≡ block.old) }
 {
     let words: Vec<&str> = match line.split_whitespace().collect(alloc) {
         Ok(words) => words,
         Err(_) => return Err(Fault::Memory),
     };
-    match words.as_slice() {
-        [] => Ok(Line::Nothing),
-        ["system", _name, "columns", columns, "rows", rows] => {
-            *block = Some(begin(alloc, columns, rows)?);
-            Ok(Line::Nothing)
-        }
-        ["ranges", ends @ ..] => {
-            add_ranges(alloc, block, ends)?;
-            Ok(Line::Nothing)
-        }
-        ["limit", limit] => {
-            set_limit(block, limit)?;
-            Ok(Line::Nothing)
-        }
-        ["expect", "empty"] => Ok(Line::Empty),
-        ["expect", "stopped"] => Ok(Line::Stopped),
-        ["expect", "point", point @ ..] => Ok(Line::Point(numbers(alloc, point)?)),
-        entries => {
-            add_numbers(alloc, block, entries)?;
-            Ok(Line::Nothing)
-        }
-    }
+    read_words(alloc, block, words.as_slice())
 }

@@ -3,6 +3,9 @@
 
 mod block;
 
+ghost use Rattle.std.specs.Prelude.{◌≡◌, ◌≢◌, ◌↔◌, ◌⊎◌, IfOk, IsTrue, IsSomeAnd};
+ghost use Rattle.affc_decide.specs.Blocks.{IsExpected, IsReady, TakesLine, TakesNoLine};
+
 use affc_farkas::Proof;
 use affc_split::{Answer, Budget, Stop, decide, within_reach};
 use block::{Block, Fault, Line, read_line};
@@ -31,12 +34,16 @@ fn nodes(proof: &Proof) -> u64 {
 }
 
 /// Whether two points are the same.
-fn same(first: &[i64], second: &[i64]) -> bool {
-    first.len() == second.len() && first.iter().zip(second.iter()).all(|(a, b)| *a == *b)
+fn same(first: &[i64], second: &[i64]) -> bool
+    ensures { IsTrue result ↔ (first.now ≡ second.now) }
+{
+    first == second
 }
 
 /// Prints an answer, and says whether it is the one that is expected.
-fn print_answer(rt: &impl Print, answer: &Answer, spent: u64, expected: &Line) -> io::Result<bool> {
+fn print_answer(rt: &impl Print, answer: &Answer, spent: u64, expected: &Line) -> io::Result<bool>
+    ensures { IfOk result (λ fine. IsTrue fine ↔ IsExpected answer.now expected.now) }
+{
     match answer {
         Answer::Empty(proof) => {
             let count = nodes(proof);
@@ -57,13 +64,15 @@ fn print_answer(rt: &impl Print, answer: &Answer, spent: u64, expected: &Line) -
     }
 }
 
-/// Decides a block.
+/// Decides a block. Answers whether it is whole.
 fn settle(
     rt: &(impl Print + AllocGlobal),
     block: &Block,
     expected: &Line,
     totals: &mut Totals,
-) -> io::Result<bool> {
+) -> io::Result<bool>
+    ensures { IfOk result (λ fine. IsTrue fine ↔ IsReady block.now) }
+{
     let Some(ranges) = &block.ranges else {
         return Ok(false);
     };
@@ -100,7 +109,10 @@ fn take(
     block: &mut Option<Block>,
     line: &str,
     totals: &mut Totals,
-) -> io::Result<bool> {
+) -> io::Result<bool>
+    ensures taken { IfOk result (λ fine. IsTrue fine → (added : Line) × TakesLine line.now block.old added block.new × ((added ≡ Line.Nothing) ⊎ IsSomeAnd block.new IsReady)) }
+    ensures malformed { IfOk result (λ fine. ¬ (IsTrue fine) → TakesNoLine line.now block.old ⊎ ((added : Line) × TakesLine line.now block.old added block.new × (added ≢ Line.Nothing) × ¬ (IsSomeAnd block.new IsReady))) }
+{
     match read_line(rt.alloc(), block, line) {
         Ok(Line::Nothing) => Ok(true),
         Ok(expected) => match block {
