@@ -1,5 +1,5 @@
 -- Whole numbers as they are read in 128 bits, for the clauses of the parts.
-use Rattle.std.specs.Prelude.{◌≡◌, ◌^◌, ℤ, pos, negsuc, ◌+ℤ◌, ◌-ℤ◌, ◌*ℤ◌, neg_ℤ, nat_lt, int_lt, if◌then◌else◌, Bool, true, false, ◌&&◌, List, get_or, Result, Ok, Err}
+use Rattle.std.specs.Prelude.{◌≡◌, ◌^◌, ℤ, pos, negsuc, ◌+ℤ◌, ◌-ℤ◌, ◌*ℤ◌, neg_ℤ, nat_lt, int_lt, if◌then◌else◌, Bool, true, false, ◌&&◌, ◌||◌, is_ok, List, [], ◌∷◌, get_or, Result, Ok, Err}
 use Rattle.std.specs.Int.{int_max, int_min}
 use Rattle.affc_ast.specs.declared.tree.Compare.{Compare}
 use Rattle.affc_ast.specs.declared.tree.Ix.{Ix}
@@ -59,3 +59,21 @@ IsWhole (Err Wide) w = Unit {0}
 -- both sides have a value, and it holds
 abbrev pub is_met : Compare → (p : List ℤ) → Bool
 is_met c p = (whole_of c.left p).defined && (whole_of c.right p).defined && holds c p
+
+-- a number in it takes more than 128 bits
+abbrev pub is_wide : Result ℤ NoWhole → Bool
+is_wide (Err Wide) = true
+is_wide _ = false
+
+-- the left side is too wide, or it has a value and the right side is too wide
+abbrev pub either_wide : (left right : Result ℤ NoWhole) → Bool
+either_wide left right = is_wide left || (is_ok left && is_wide right)
+
+-- a side of the condition that is looked at is too wide
+abbrev pub has_wide_side : Compare → (p : List ℤ) → Bool
+has_wide_side c p = either_wide (wide_of c.left p) (wide_of c.right p)
+
+-- a condition that is looked at has a side that is too wide: the ones before it are met
+abbrev pub has_wide : List Compare → (p : List ℤ) → Bool
+has_wide [] p = false
+has_wide (c ∷ cs) p = has_wide_side c p || (is_met c p && has_wide cs p)

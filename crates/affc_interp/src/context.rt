@@ -1,10 +1,11 @@
 // The conditions on the parameters, which are read as whole numbers.
-ghost use Rattle.std.specs.Prelude.{◌≡◌, ◌≤◌, ◌+ℤ◌, ◌-ℤ◌, ◌*ℤ◌, neg_ℤ, pos, ◌≤ℤ◌, Ok, IfOk, get_or, ◌&&◌};
+ghost use Rattle.std.specs.Prelude.{◌≡◌, ◌≤◌, ◌+ℤ◌, ◌-ℤ◌, ◌*ℤ◌, neg_ℤ, pos, ◌≤ℤ◌, Ok, IfOk, IfErr, is_err, get_or, ◌&&◌};
 ghost use Rattle.affc_ast.specs.Fits as fits;
 ghost use Rattle.affc_ast.specs.Index.{compares, floor_of, ceiling_of, remainder_of};
+ghost use Rattle.affc_interp.specs.declared.context.NoWhole.TheVariants.{Wide};
 ghost use Rattle.affc_interp.specs.Operands as row;
 ghost use Rattle.affc_interp.specs.Operands.{operators};
-ghost use Rattle.affc_interp.specs.Wholes.{in_int128, quotient, wide_of, IsWhole, is_met};
+ghost use Rattle.affc_interp.specs.Wholes.{in_int128, quotient, wide_of, IsWhole, is_met, either_wide, has_wide_side, has_wide};
 
 use crate::index::first_operand;
 use affc_ast::tree::{Compare, Ix, Rel};
@@ -183,13 +184,17 @@ fn compare(rel: Rel, x: i128, y: i128) -> bool
 
 // Whether both sides have a value, and it holds.
 fn is_met(c: &Compare, p: &[i64]) -> Result<bool, NoWhole>
-    ensures { IfOk result (λ b. b ≡ is_met c.now p.now) }
+    ensures met { IfOk result (λ b. b ≡ is_met c.now p.now) }
+    ensures wide { is_err result ≡ has_wide_side c.now p.now }
+    ensures kind { IfErr result (λ e. e ≡ Wide) }
 {
     met(c.rel, whole(&c.left, p), whole(&c.right, p))
 }
 
 fn met(rel: Rel, left: Result<i128, NoWhole>, right: Result<i128, NoWhole>) -> Result<bool, NoWhole>
-    ensures { (x y : fits.Whole) → IsWhole left x → IsWhole right y → IfOk result (λ b. b ≡ (x.defined && y.defined && compares rel x.value y.value)) }
+    ensures met { (x y : fits.Whole) → IsWhole left x → IsWhole right y → IfOk result (λ b. b ≡ (x.defined && y.defined && compares rel x.value y.value)) }
+    ensures wide { is_err result ≡ either_wide left right }
+    ensures kind { IfErr result (λ e. e ≡ Wide) }
 {
     match left {
         Ok(x) => match right {
@@ -202,9 +207,12 @@ fn met(rel: Rel, left: Result<i128, NoWhole>, right: Result<i128, NoWhole>) -> R
     }
 }
 
-/// Whether the parameters meet all conditions.
+/// Whether the parameters meet all conditions. It is an error where a condition that is looked at has a number that
+/// takes more than 128 bits.
 pub fn meets(conds: &[Compare], p: &[i64]) -> Result<bool, NoWhole>
-    ensures { IfOk result (λ b. b ≡ fits.meets conds.now p.now) }
+    ensures met { IfOk result (λ b. b ≡ fits.meets conds.now p.now) }
+    ensures wide { is_err result ≡ has_wide conds.now p.now }
+    ensures kind { IfErr result (λ e. e ≡ Wide) }
 {
     match conds {
         [] => Ok(true),

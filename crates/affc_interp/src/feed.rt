@@ -1,8 +1,9 @@
-ghost use Rattle.std.specs.Prelude.{◌≡◌, ◌+◌, ◌^◌, ◌<◌, ◌==◌, ◌&&◌, false, length, IfOk, Ok};
+ghost use Rattle.std.specs.Prelude.{◌≡◌, ◌+◌, ◌^◌, ◌<◌, ◌==◌, ◌&&◌, false, length, IfOk, is_err, Ok};
 ghost use Rattle.affc_ast.specs.Fits.{meets};
 ghost use Rattle.affc_ast.specs.Meaning.{arrays_of, nodes_of_decls};
 ghost use Rattle.affc_interp.specs.Arrays.{values_in};
 ghost use Rattle.affc_interp.specs.Feeds.{ReadsLines, AnswersFeed, SaysWhole};
+ghost use Rattle.affc_interp.specs.Wholes.{has_wide};
 
 use crate::context::{NoWhole, meets};
 use crate::extents::element_count;
@@ -111,6 +112,7 @@ fn read_lines<'t>(
 fn is_whole(rest: &[u8], context: &[Compare], p: &[i64]) -> Result<bool, FeedFault>
     ensures says { SaysWhole result ((length rest.now == 0) && meets context.now p.now) }
     ensures longer { 0 < length rest.now → result ≡ Ok false }
+    ensures wide { is_err result ≡ ((length rest.now == 0) && has_wide context.now p.now) }
 {
     if !rest.is_empty() {
         return Ok(false);
