@@ -1,7 +1,7 @@
 //! What the definitions give at small programs, as laws: `specs/Examples.antt` says each, with values that were
 //! found by hand from the rules.
 
-ghost use Rattle.affc_interp.specs.Examples.{StepsAreEnough, DataIsTheStart, FloorsAndRemainders, ElementsAreCounted, ValuesStandInOrder, OutputsAreWritten};
+ghost use Rattle.affc_interp.specs.Examples.{StepsAreEnough, DataIsTheStart, FloorsAndRemainders, ElementsAreCounted, ValuesStandInOrder, OutputsAreWritten, DataIsRead, UnmetContextIsWrong, NumbersAreTooWide};
 
 /// Runs within their steps.
 pub fn runs()
@@ -15,4 +15,7 @@ pub fn texts()
     ensures elements_are_counted { ElementsAreCounted }
     ensures values_stand_in_order { ValuesStandInOrder }
     ensures outputs_are_written { OutputsAreWritten }
+    ensures data_is_read { DataIsRead }
+    ensures unmet_context_is_wrong { UnmetContextIsWrong }
+    ensures numbers_are_too_wide { NumbersAreTooWide }
 {}
