@@ -11,6 +11,8 @@ ghost use Rattle.affc_lex.specs.Faults.{OpenAt, LongAt, NothingAt, RefusedAt, St
 pub fn the_longest_token()
     ensures marks { Lexes (codes "i+++j")
         (token_of Word (codes "i") 0 ∷ token_of Mark (codes "++") 1 ∷ token_of Mark (codes "+") 3 ∷ token_of Word (codes "j") 4 ∷ []) }
+    ensures minus_signs { Lexes (codes "i---j")
+        (token_of Word (codes "i") 0 ∷ token_of Mark (codes "--") 1 ∷ token_of Mark (codes "-") 3 ∷ token_of Word (codes "j") 4 ∷ []) }
     ensures three_bytes { Lexes (codes ">>=<<") (token_of Mark (codes ">>=") 0 ∷ token_of Mark (codes "<<") 3 ∷ []) }
     ensures value { Lexes (codes "18446744073709551615ULL") (token_of Value (codes "18446744073709551615ULL") 0 ∷ []) }
     ensures zero { Lexes (codes "0*0ULL") (token_of Number (codes "0") 0 ∷ token_of Mark (codes "*") 1 ∷ token_of Value (codes "0ULL") 2 ∷ []) }
@@ -21,6 +23,7 @@ pub fn the_longest_token()
 pub fn no_tokens()
     ensures empty { Lexes [] [] }
     ensures carriage_return { Lexes (codes "a\r\nb") (token_of Word (codes "a") 0 ∷ token_of Word (codes "b") 3 ∷ []) }
+    ensures tab { Lexes (codes "a\tb") (token_of Word (codes "a") 0 ∷ token_of Word (codes "b") 2 ∷ []) }
     ensures any_byte { Lexes (codes "/*" ++ 195 ∷ 169 ∷ codes "*/;") (token_of Mark (codes ";") 6 ∷ []) }
     ensures stars { Lexes (codes "/*/ ***/") [] }
     ensures to_the_line_feed { Lexes (codes "// /* \nx") (token_of Word (codes "x") 7 ∷ []) }
@@ -33,12 +36,16 @@ pub fn lines_with_hash()
         (token_of Hash (codes "#") 0 ∷ token_of Word (codes "include") 1 ∷ token_of Header (codes "<stdint.h>") 9 ∷ token_of LineEnd (codes "\n") 19 ∷ []) }
     ensures no_header { Lexes (codes "#include <a")
         (token_of Hash (codes "#") 0 ∷ token_of Word (codes "include") 1 ∷ token_of Mark (codes "<") 9 ∷ token_of Word (codes "a") 10 ∷ token_of LineEnd [] 11 ∷ []) }
+    ensures no_header_past_the_line { Lexes (codes "#include <a\n>")
+        (token_of Hash (codes "#") 0 ∷ token_of Word (codes "include") 1 ∷ token_of Mark (codes "<") 9 ∷ token_of Word (codes "a") 10 ∷ token_of LineEnd (codes "\n") 11 ∷ token_of Mark (codes ">") 12 ∷ []) }
     ensures no_header_elsewhere { Lexes (codes "# <a>\n")
         (token_of Hash (codes "#") 0 ∷ token_of Mark (codes "<") 2 ∷ token_of Word (codes "a") 3 ∷ token_of Mark (codes ">") 4 ∷ token_of LineEnd (codes "\n") 5 ∷ []) }
     ensures after_a_comment { Lexes (codes "/* \n */#") (token_of Hash (codes "#") 7 ∷ token_of LineEnd [] 8 ∷ []) }
     ensures on_the_next_line { Lexes (codes "x\n #") (token_of Word (codes "x") 0 ∷ token_of Hash (codes "#") 3 ∷ token_of LineEnd [] 4 ∷ []) }
     ensures comment_in_the_line { Lexes (codes "#/*\n*/a\nb")
         (token_of Hash (codes "#") 0 ∷ token_of Word (codes "a") 6 ∷ token_of LineEnd (codes "\n") 7 ∷ token_of Word (codes "b") 8 ∷ []) }
+    ensures comment_to_the_line_feed { Lexes (codes "#//a\n#")
+        (token_of Hash (codes "#") 0 ∷ token_of LineEnd (codes "\n") 4 ∷ token_of Hash (codes "#") 5 ∷ token_of LineEnd [] 6 ∷ []) }
     ensures scop_is_dropped { Lexes (codes "#pragma scop\nx") (token_of Word (codes "x") 13 ∷ []) }
     ensures endscop_is_dropped { Lexes (codes " # pragma /**/ endscop") [] }
     ensures other_lines_stay { Lexes (codes "#pragma scop 1\n")
@@ -50,6 +57,8 @@ pub fn the_prelude()
     ensures whole { Lexes prelude (token_of Prelude prelude 0 ∷ []) }
     ensures in_a_line { Lexes (codes "x " ++ prelude) (token_of Word (codes "x") 0 ∷ token_of Prelude prelude 2 ∷ []) }
     ensures then_a_hash { Lexes (prelude ++ codes "#") (token_of Prelude prelude 0 ∷ token_of Hash (codes "#") 426 ∷ token_of LineEnd [] 427 ∷ []) }
+    ensures in_a_line_with_hash { Lexes (codes "#" ++ prelude ++ codes "#")
+        (token_of Hash (codes "#") 0 ∷ token_of Prelude prelude 1 ∷ token_of Hash (codes "#") 427 ∷ token_of LineEnd [] 428 ∷ []) }
     ensures changed { Lexes (codes "static inline") (token_of Word (codes "static") 0 ∷ token_of Word (codes "inline") 7 ∷ []) }
 {}
 

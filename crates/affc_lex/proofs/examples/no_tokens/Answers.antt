@@ -10,6 +10,9 @@ returns-clause-empty c = record { pieces = []; spelled = refl; standing = refl; 
 pub returns-clause-carriage_return : goal.returns-clause-carriage_return
 returns-clause-carriage_return c = record { pieces = kept Word (codes "a") ∷ blank 13 ∷ blank 10 ∷ kept Word (codes "b") ∷ []; spelled = refl; standing = refl; ended = refl; unrefused = refl; its_tokens = refl }
 
+pub returns-clause-tab : goal.returns-clause-tab
+returns-clause-tab c = record { pieces = kept Word (codes "a") ∷ blank 9 ∷ kept Word (codes "b") ∷ []; spelled = refl; standing = refl; ended = refl; unrefused = refl; its_tokens = refl }
+
 pub returns-clause-any_byte : goal.returns-clause-any_byte
 returns-clause-any_byte c = record { pieces = comment (codes "/*" ++ 195 ∷ 169 ∷ codes "*/") ∷ kept Mark (codes ";") ∷ []; spelled = refl; standing = refl; ended = refl; unrefused = refl; its_tokens = refl }
 

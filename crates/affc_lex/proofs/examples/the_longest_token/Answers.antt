@@ -7,6 +7,9 @@ use Rattle.affc_lex.proofs.examples.the_longest_token.Goals as goal
 pub returns-clause-marks : goal.returns-clause-marks
 returns-clause-marks c = record { pieces = kept Word (codes "i") ∷ kept Mark (codes "++") ∷ kept Mark (codes "+") ∷ kept Word (codes "j") ∷ []; spelled = refl; standing = refl; ended = refl; unrefused = refl; its_tokens = refl }
 
+pub returns-clause-minus_signs : goal.returns-clause-minus_signs
+returns-clause-minus_signs c = record { pieces = kept Word (codes "i") ∷ kept Mark (codes "--") ∷ kept Mark (codes "-") ∷ kept Word (codes "j") ∷ []; spelled = refl; standing = refl; ended = refl; unrefused = refl; its_tokens = refl }
+
 pub returns-clause-three_bytes : goal.returns-clause-three_bytes
 returns-clause-three_bytes c = record { pieces = kept Mark (codes ">>=") ∷ kept Mark (codes "<<") ∷ []; spelled = refl; standing = refl; ended = refl; unrefused = refl; its_tokens = refl }
 

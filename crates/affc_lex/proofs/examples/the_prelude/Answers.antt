@@ -14,5 +14,8 @@ returns-clause-in_a_line c = record { pieces = kept Word (codes "x") ∷ blank 3
 pub returns-clause-then_a_hash : goal.returns-clause-then_a_hash
 returns-clause-then_a_hash c = record { pieces = kept Prelude prelude ∷ kept Hash (codes "#") ∷ kept LineEnd [] ∷ []; spelled = refl; standing = refl; ended = refl; unrefused = refl; its_tokens = refl }
 
+pub returns-clause-in_a_line_with_hash : goal.returns-clause-in_a_line_with_hash
+returns-clause-in_a_line_with_hash c = record { pieces = kept Hash (codes "#") ∷ kept Prelude prelude ∷ kept Hash (codes "#") ∷ kept LineEnd [] ∷ []; spelled = refl; standing = refl; ended = refl; unrefused = refl; its_tokens = refl }
+
 pub returns-clause-changed : goal.returns-clause-changed
 returns-clause-changed c = record { pieces = kept Word (codes "static") ∷ blank 32 ∷ kept Word (codes "inline") ∷ []; spelled = refl; standing = refl; ended = refl; unrefused = refl; its_tokens = refl }
