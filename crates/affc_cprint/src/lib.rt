@@ -23,7 +23,8 @@ use thiserror::Error;
 pub struct Memory;
 
 /// The text of a program in its one layout: two spaces for each level, one statement, brace or declaration in a
-/// line, and the fewest parentheses.
+/// line, and parentheses where an operator binds looser, round a negation except by itself and left of + and -,
+/// and round a call under a minus.
 pub fn print(alloc: Global, program: &Program) -> Result<Vec<u8>, Memory>
     ensures text { IfOk result (λ v. v.items ≡ printed_text program.now) }
     ensures reads { IfOk result (λ v. WellNamed program.now ↔ ReadsWide v.items program.now) }
