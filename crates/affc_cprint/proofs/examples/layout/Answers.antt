@@ -31,3 +31,7 @@ returns-clause-parentheses_again c = refl
 pub returns-clause-context : goal.returns-clause-context
 unfolding computing shape-the_row-Ix-0 hidden-the_row-Ix-0 shape-the_row-Val-0 hidden-the_row-Val-0 shape-the_row-Stmt-0 hidden-the_row-Stmt-0 hidden digits
 returns-clause-context c = refl
+
+pub returns-clause-negations : goal.returns-clause-negations
+unfolding computing shape-the_row-Ix-0 hidden-the_row-Ix-0 shape-the_row-Val-0 hidden-the_row-Val-0 shape-the_row-Stmt-0 hidden-the_row-Stmt-0 hidden digits
+returns-clause-negations c = refl
