@@ -1,6 +1,6 @@
 //! What stands first among tokens, and the tokens behind it.
 
-ghost use Rattle.std.specs.Prelude.{◌≡◌, ◌<◌, ◌+◌, ◌∷◌, [], drop, length, map, None, Some, MatchOption, MatchResult, is_some};
+ghost use Rattle.std.specs.Prelude.{◌≡◌, ◌<◌, ◌≤◌, ◌+◌, ◌∷◌, [], drop, length, map, None, Some, IfOk, IfSome, MatchOption, MatchResult, is_some};
 ghost use Rattle.affc_lex.specs.Bytes as bytes;
 ghost use Rattle.affc_grammar.specs.Grammar as grammar;
 ghost use Rattle.affc_grammar.specs.Reading as tests;
@@ -45,9 +45,10 @@ pub fn first<'a, 't>(symbols: &'a [Symbol<'t>], at: usize) -> Option<&'a Symbol<
 
 /// Behind this mark.
 pub fn past_mark(mark: &[u8], symbols: &[Symbol<'_>], at: usize) -> Option<usize>
-    ensures { MatchOption result
+    ensures rest { MatchOption result
         (ahead.past (tests.this_mark mark.now) (drop at (map seen symbols.now)) ≡ None)
         (λ next. ahead.past (tests.this_mark mark.now) (drop at (map seen symbols.now)) ≡ Some (tt, drop next (map seen symbols.now))) }
+    ensures next { IfSome result (λ next. (next ≡ at + 1) × (next ≤ length symbols.now)) }
 {
     match first(symbols, at) {
         Some(symbol) => {
@@ -72,9 +73,10 @@ fn number(symbol: &Symbol<'_>) -> Option<u64>
 
 /// The number of a Number, and the place behind it.
 pub fn past_number(symbols: &[Symbol<'_>], at: usize) -> Option<(u64, usize)>
-    ensures { MatchOption result
+    ensures rest { MatchOption result
         (ahead.past ahead.number_value (drop at (map seen symbols.now)) ≡ None)
         (λ r. ahead.past ahead.number_value (drop at (map seen symbols.now)) ≡ Some (r.0, drop r.1 (map seen symbols.now))) }
+    ensures next { IfSome result (λ r. (r.1 ≡ at + 1) × (r.1 ≤ length symbols.now)) }
 {
     match first(symbols, at) {
         Some(symbol) => match number(symbol) {
@@ -87,9 +89,10 @@ pub fn past_number(symbols: &[Symbol<'_>], at: usize) -> Option<(u64, usize)>
 
 /// A Word, and the place behind it.
 pub fn past_word<'t>(symbols: &[Symbol<'t>], at: usize) -> Option<(&'t str, usize)>
-    ensures { MatchOption result
+    ensures rest { MatchOption result
         (ahead.past tests.any_word (drop at (map seen symbols.now)) ≡ None)
         (λ r. ahead.past tests.any_word (drop at (map seen symbols.now)) ≡ Some (r.0.now, drop r.1 (map seen symbols.now))) }
+    ensures next { IfSome result (λ r. (r.1 ≡ at + 1) × (r.1 ≤ length symbols.now)) }
 {
     match first(symbols, at) {
         Some(symbol) => {
@@ -120,9 +123,10 @@ fn divisor(symbol: &Symbol<'_>) -> Option<u64>
 
 /// The number of a Number of at least 1, and the place behind it.
 pub fn past_divisor(symbols: &[Symbol<'_>], at: usize) -> Option<(u64, usize)>
-    ensures { MatchOption result
+    ensures rest { MatchOption result
         (ahead.past ahead.divisor_value (drop at (map seen symbols.now)) ≡ None)
         (λ r. ahead.past ahead.divisor_value (drop at (map seen symbols.now)) ≡ Some (r.0, drop r.1 (map seen symbols.now))) }
+    ensures next { IfSome result (λ r. (r.1 ≡ at + 1) × (r.1 ≤ length symbols.now)) }
 {
     match first(symbols, at) {
         Some(symbol) => match divisor(symbol) {
@@ -135,9 +139,10 @@ pub fn past_divisor(symbols: &[Symbol<'_>], at: usize) -> Option<(u64, usize)>
 
 /// Whether a `+` or a `-` is a `+`, and the place behind it.
 pub fn past_sign(symbols: &[Symbol<'_>], at: usize) -> Option<(bool, usize)>
-    ensures { MatchOption result
+    ensures rest { MatchOption result
         (ahead.past tests.sum_sign (drop at (map seen symbols.now)) ≡ None)
         (λ r. ahead.past tests.sum_sign (drop at (map seen symbols.now)) ≡ Some (r.0, drop r.1 (map seen symbols.now))) }
+    ensures next { IfSome result (λ r. (r.1 ≡ at + 1) × (r.1 ≤ length symbols.now)) }
 {
     match first(symbols, at) {
         Some(symbol) => match sign(symbol) {
@@ -184,9 +189,10 @@ fn relation(symbol: &Symbol<'_>) -> Option<Rel>
 
 /// What a mark compares by, and the place behind it.
 pub fn past_relation(symbols: &[Symbol<'_>], at: usize) -> Option<(Rel, usize)>
-    ensures { MatchOption result
+    ensures rest { MatchOption result
         (ahead.past tests.rel_of (drop at (map seen symbols.now)) ≡ None)
         (λ r. ahead.past tests.rel_of (drop at (map seen symbols.now)) ≡ Some (r.0, drop r.1 (map seen symbols.now))) }
+    ensures next { IfSome result (λ r. (r.1 ≡ at + 1) × (r.1 ≤ length symbols.now)) }
 {
     match first(symbols, at) {
         Some(symbol) => match relation(symbol) {
@@ -208,9 +214,10 @@ fn constant(symbol: &Symbol<'_>) -> Option<u64>
 
 /// The number of a Value, and the place behind it.
 pub fn past_constant(symbols: &[Symbol<'_>], at: usize) -> Option<(u64, usize)>
-    ensures { MatchOption result
+    ensures rest { MatchOption result
         (ahead.past values.constant_value (drop at (map seen symbols.now)) ≡ None)
         (λ r. ahead.past values.constant_value (drop at (map seen symbols.now)) ≡ Some (r.0, drop r.1 (map seen symbols.now))) }
+    ensures next { IfSome result (λ r. (r.1 ≡ at + 1) × (r.1 ≤ length symbols.now)) }
 {
     match first(symbols, at) {
         Some(symbol) => match constant(symbol) {
@@ -238,9 +245,10 @@ fn places(symbol: &Symbol<'_>) -> Option<u64>
 
 /// The number of a Number from 0 to 63, and the place behind it.
 pub fn past_places(symbols: &[Symbol<'_>], at: usize) -> Option<(u64, usize)>
-    ensures { MatchOption result
+    ensures rest { MatchOption result
         (ahead.past values.shift_value (drop at (map seen symbols.now)) ≡ None)
         (λ r. ahead.past values.shift_value (drop at (map seen symbols.now)) ≡ Some (r.0, drop r.1 (map seen symbols.now))) }
+    ensures next { IfSome result (λ r. (r.1 ≡ at + 1) × (r.1 ≤ length symbols.now)) }
 {
     match first(symbols, at) {
         Some(symbol) => match places(symbol) {
@@ -267,9 +275,10 @@ fn shift(symbol: &Symbol<'_>) -> Option<bool>
 
 /// Whether a `<<` or a `>>` is a `<<`, and the place behind it.
 pub fn past_shift(symbols: &[Symbol<'_>], at: usize) -> Option<(bool, usize)>
-    ensures { MatchOption result
+    ensures rest { MatchOption result
         (ahead.past tests.shift_sign (drop at (map seen symbols.now)) ≡ None)
         (λ r. ahead.past tests.shift_sign (drop at (map seen symbols.now)) ≡ Some (r.0, drop r.1 (map seen symbols.now))) }
+    ensures next { IfSome result (λ r. (r.1 ≡ at + 1) × (r.1 ≤ length symbols.now)) }
 {
     match first(symbols, at) {
         Some(symbol) => match shift(symbol) {
@@ -333,9 +342,10 @@ fn operation_of(level: u32, symbol: &Symbol<'_>) -> Option<Op>
 
 /// An operator of this level, and the place behind it.
 pub fn past_operation(level: u32, symbols: &[Symbol<'_>], at: usize) -> Option<(Op, usize)>
-    ensures { MatchOption result
+    ensures rest { MatchOption result
         (ahead.past (values.op_at level) (drop at (map seen symbols.now)) ≡ None)
         (λ r. ahead.past (values.op_at level) (drop at (map seen symbols.now)) ≡ Some (r.0, drop r.1 (map seen symbols.now))) }
+    ensures next { IfSome result (λ r. (r.1 ≡ at + 1) × (r.1 ≤ length symbols.now)) }
 {
     match first(symbols, at) {
         Some(symbol) => match operation_of(level, symbol) {
@@ -397,9 +407,10 @@ pub type Answer<T> = Result<(T, usize), Stop>;
 
 /// Behind this mark, which has to stand here.
 pub fn behind(mark: &[u8], symbols: &[Symbol<'_>], at: usize) -> Result<usize, Stop>
-    ensures { MatchResult result
+    ensures rest { MatchResult result
         (λ next. ahead.past (tests.this_mark mark.now) (drop at (map seen symbols.now)) ≡ Some (tt, drop next (map seen symbols.now)))
         (λ f. (f ≡ stop.At at) × (ahead.past (tests.this_mark mark.now) (drop at (map seen symbols.now)) ≡ None)) }
+    ensures next { IfOk result (λ next. (next ≡ at + 1) × (next ≤ length symbols.now)) }
 {
     match past_mark(mark, symbols, at) {
         Some(next) => Ok(next),

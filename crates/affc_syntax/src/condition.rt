@@ -226,7 +226,7 @@ fn mixed_inside(
 }
 
 /// The conditions that stand here, in one list.
-pub fn conditions(
+pub(crate) fn conditions(
     alloc: Global,
     prelude: bool,
     room: u32,

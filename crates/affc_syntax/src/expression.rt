@@ -368,7 +368,7 @@ pub(crate) fn terms(
 
 /// The expression that stands here.
 #[cycle(ix)]
-pub fn expression(
+pub(crate) fn expression(
     alloc: Global,
     prelude: bool,
     room: u32,
@@ -384,7 +384,7 @@ pub fn expression(
 /// Behind a bracket that was opened where `room` could be.
 #[cycle(ix)]
 #[tactic(auto, unfolding(crate::specs::IxReading::inside))]
-pub fn inside(
+pub(crate) fn inside(
     alloc: Global,
     prelude: bool,
     room: u32,
@@ -419,7 +419,7 @@ fn dim(
 }
 
 /// The dimensions that stand here.
-pub fn dims(
+pub(crate) fn dims(
     alloc: Global,
     prelude: bool,
     room: u32,

@@ -4,4 +4,5 @@
 pub mod ahead;
 pub mod condition;
 pub mod expression;
+pub mod here;
 pub mod value;

@@ -301,7 +301,7 @@ fn value_inside(
 }
 
 /// The value that stands here.
-pub fn whole_value(
+pub(crate) fn whole_value(
     alloc: Global,
     prelude: bool,
     room: u32,

@@ -18,7 +18,7 @@ use affc_ast::tree::Role;
 use affc_draft::draft::{DeclDraft, ParamDraft, StmtDraft, WordDraft};
 use affc_draft::symbol::Symbol;
 use affc_syntax::ahead::{Answer, Stop, behind, past_mark, past_word};
-use affc_syntax::expression::{dims, inside};
+use affc_syntax::here::{dims_here, inside_here};
 use std::alloc::Global;
 
 /// What was read of the function's braces.
@@ -53,9 +53,9 @@ fn array(
 {
     let (word, next) = named(alloc, symbols, next)?;
     let next = behind(b"[", symbols, next)?;
-    let (first, next) = inside(alloc, prelude, room, symbols, next)?;
+    let (first, next) = inside_here(alloc, prelude, room, symbols, next)?;
     let next = behind(b"]", symbols, next)?;
-    let (others, next) = dims(alloc, prelude, room, symbols, next)?;
+    let (others, next) = dims_here(alloc, prelude, room, symbols, next)?;
     let mut extents = Items::new(alloc);
     extents.push(first)?;
     extents.append(others)?;
@@ -164,7 +164,7 @@ fn temp(
 ) -> Answer<Items<DeclDraft>>
     ensures { Gives (map seen symbols.now) (map decl) result (reading.temp prelude (length symbols.now) room (map decl temps) (drafts.word word) (drop next (map seen symbols.now))) }
 {
-    let (extents, next) = dims(alloc, prelude, room, symbols, next)?;
+    let (extents, next) = dims_here(alloc, prelude, room, symbols, next)?;
     let mut temps = temps;
     temps.push(DeclDraft {
         word,

@@ -19,9 +19,7 @@ use affc_ast::Items;
 use affc_draft::draft::{CompareDraft, HeadDraft, IxDraft, LocalDraft, StmtDraft, WordDraft};
 use affc_draft::symbol::Symbol;
 use affc_syntax::ahead::{Answer, Stop, behind, past_mark};
-use affc_syntax::condition::conditions;
-use affc_syntax::expression::{dims, expression, inside};
-use affc_syntax::value::whole_value;
+use affc_syntax::here::{conditions_here, dims_here, expression_here, inside_here, value_here};
 use std::alloc::{AllocError, Global};
 
 /// What stands before a body.
@@ -69,7 +67,7 @@ fn conds_inside(
     if room == 0 {
         return Err(Stop::Deep);
     }
-    conditions(alloc, prelude, room - 1, symbols, next)
+    conditions_here(alloc, prelude, room - 1, symbols, next)
 }
 
 // ---- Heads
@@ -115,7 +113,7 @@ fn tested(
 {
     let (tested, next) = named(alloc, symbols, next)?;
     let (rel, next) = compared(symbols, next)?;
-    let (high, next) = inside(alloc, prelude, room, symbols, next)?;
+    let (high, next) = inside_here(alloc, prelude, room, symbols, next)?;
     let next = behind(b";", symbols, next)?;
     let (stepped, next) = step(alloc, symbols, next)?;
     let next = behind(b")", symbols, next)?;
@@ -145,7 +143,7 @@ fn for_behind(
     let next = behind_word(b"int64_t", symbols, next)?;
     let (iterator, next) = named(alloc, symbols, next)?;
     let next = behind(b"=", symbols, next)?;
-    let (low, next) = inside(alloc, prelude, room, symbols, next)?;
+    let (low, next) = inside_here(alloc, prelude, room, symbols, next)?;
     let next = behind(b";", symbols, next)?;
     tested(alloc, prelude, room, at, iterator, low, symbols, next)
 }
@@ -270,9 +268,9 @@ fn assigned(
     ensures { Gives (map seen symbols.now) stmt result (reading.assigned prelude (length symbols.now) room at name.now (drop next (map seen symbols.now))) }
 {
     let array = drafted(alloc, at, name)?;
-    let (subs, next) = dims(alloc, prelude, room, symbols, next)?;
+    let (subs, next) = dims_here(alloc, prelude, room, symbols, next)?;
     let (op, next) = assignment(symbols, next)?;
-    let (value, next) = whole_value(alloc, prelude, room, symbols, next)?;
+    let (value, next) = value_here(alloc, prelude, room, symbols, next)?;
     let next = behind(b";", symbols, next)?;
     Ok((
         StmtDraft::Assign {
@@ -495,7 +493,7 @@ fn local_behind(
 {
     let (word, next) = named(alloc, symbols, next)?;
     let next = behind(b"=", symbols, next)?;
-    let (value, next) = expression(alloc, true, room, symbols, next)?;
+    let (value, next) = expression_here(alloc, true, room, symbols, next)?;
     let next = behind(b";", symbols, next)?;
     let WordDraft { at, name } = word;
     let Block { mut locals, stmts } = block;

@@ -10,16 +10,16 @@ use Rattle.affc_syntax.proofs.condition.+conds.Goals as goal
 pub more_conditions-returns-in_err-longer : goal.more_conditions-returns-in_err-longer
 more_conditions-returns-in_err-longer t c =
     let p = err_from_is_err_and c.from_residual.result c.from_residual.ensures.1 in
-    rw (p.1, p.2, ← c.loop-behind.invariant) (ands_err c.args.prelude (length c.args.symbols.now) c.args.room c.args.symbols.now (map compare c.loop-behind.conds) c.loop-behind.next c.in-Some.behind c.in-Some.ensures _ c.in_err-longer.ensures)
+    rw (p.1, p.2, ← c.loop-behind.invariant) (ands_err c.args.prelude (length c.args.symbols.now) c.args.room c.args.symbols.now (map compare c.loop-behind.conds) c.loop-behind.next c.in-Some.behind c.in-Some.ensures.rest _ c.in_err-longer.ensures)
 
 pub more_conditions-loop-behind-smaller : goal.more_conditions-loop-behind-smaller
-more_conditions-loop-behind-smaller t c = ands_less c.args.prelude (length c.args.symbols.now) c.args.room c.args.symbols.now (map compare c.loop-behind.conds) c.loop-behind.next c.in-Some.behind c.in-Some.ensures (map compare c.in_ok-longer.longer) c.in_ok-longer.rest c.in_ok-longer.ensures
+more_conditions-loop-behind-smaller t c = ands_less c.args.prelude (length c.args.symbols.now) c.args.room c.args.symbols.now (map compare c.loop-behind.conds) c.loop-behind.next c.in-Some.behind c.in-Some.ensures.rest (map compare c.in_ok-longer.longer) c.in_ok-longer.rest c.in_ok-longer.ensures
 
 pub more_conditions-loop-behind-preserved : goal.more_conditions-loop-behind-preserved
-more_conditions-loop-behind-preserved t c = sym (ands_on c.args.prelude (length c.args.symbols.now) c.args.room c.args.symbols.now (map compare c.loop-behind.conds) c.loop-behind.next c.in-Some.behind c.in-Some.ensures (map compare c.in_ok-longer.longer) c.in_ok-longer.rest c.in_ok-longer.ensures) ∙ c.loop-behind.invariant
+more_conditions-loop-behind-preserved t c = sym (ands_on c.args.prelude (length c.args.symbols.now) c.args.room c.args.symbols.now (map compare c.loop-behind.conds) c.loop-behind.next c.in-Some.behind c.in-Some.ensures.rest (map compare c.in_ok-longer.longer) c.in_ok-longer.rest c.in_ok-longer.ensures) ∙ c.loop-behind.invariant
 
 pub more_conditions-returns : goal.more_conditions-returns
-more_conditions-returns t c = sym c.loop-behind.invariant ∙ ands_end c.args.prelude (length c.args.symbols.now) c.args.room (map compare c.loop-behind.conds) _ c.in_default.ensures
+more_conditions-returns t c = sym c.loop-behind.invariant ∙ ands_end c.args.prelude (length c.args.symbols.now) c.args.room (map compare c.loop-behind.conds) _ c.in_default.ensures.rest
 
 pub mixed_inside-returns : goal.mixed_inside-returns
 mixed_inside-returns t c =

@@ -14,13 +14,13 @@ value_level-loop-op-init t c =
 pub value_level-returns-in_err-right : goal.value_level-returns-in_err-right
 value_level-returns-in_err-right t c =
     let p = err_from_is_err_and c.from_residual-in_err-right.result c.from_residual-in_err-right.ensures.1 in
-    rw (p.1, p.2, ← c.loop-op.invariant) (operations_err c.args.prelude (length c.args.symbols.now) c.args.room c.args.level c.args.symbols.now (value c.loop-op.left) c.loop-op.next c.in-Some.behind c.in-Some.op c.in-Some.ensures _ c.in_err-right.ensures)
+    rw (p.1, p.2, ← c.loop-op.invariant) (operations_err c.args.prelude (length c.args.symbols.now) c.args.room c.args.level c.args.symbols.now (value c.loop-op.left) c.loop-op.next c.in-Some.behind c.in-Some.op c.in-Some.ensures.rest _ c.in_err-right.ensures)
 
 pub value_level-loop-op-smaller : goal.value_level-loop-op-smaller
-value_level-loop-op-smaller t c = operations_less c.args.prelude (length c.args.symbols.now) c.args.room c.args.level c.args.symbols.now (value c.loop-op.left) c.loop-op.next c.in-Some.behind c.in-Some.op c.in-Some.ensures (value c.in_ok-right.right) c.in_ok-right.rest c.in_ok-right.ensures
+value_level-loop-op-smaller t c = operations_less c.args.prelude (length c.args.symbols.now) c.args.room c.args.level c.args.symbols.now (value c.loop-op.left) c.loop-op.next c.in-Some.behind c.in-Some.op c.in-Some.ensures.rest (value c.in_ok-right.right) c.in_ok-right.rest c.in_ok-right.ensures
 
 pub value_level-loop-op-preserved : goal.value_level-loop-op-preserved
-value_level-loop-op-preserved t c = sym (operations_on c.args.prelude (length c.args.symbols.now) c.args.room c.args.level c.args.symbols.now (value c.loop-op.left) c.loop-op.next c.in-Some.behind c.in-Some.op c.in-Some.ensures (value c.in_ok-right.right) (value c.in_ok-left.left) c.in_ok-right.rest c.in_ok-right.ensures c.in_ok-left.ensures) ∙ c.loop-op.invariant
+value_level-loop-op-preserved t c = sym (operations_on c.args.prelude (length c.args.symbols.now) c.args.room c.args.level c.args.symbols.now (value c.loop-op.left) c.loop-op.next c.in-Some.behind c.in-Some.op c.in-Some.ensures.rest (value c.in_ok-right.right) (value c.in_ok-left.left) c.in_ok-right.rest c.in_ok-right.ensures c.in_ok-left.ensures) ∙ c.loop-op.invariant
 
 pub value_level-returns : goal.value_level-returns
-value_level-returns t c = sym c.loop-op.invariant ∙ operations_end c.args.prelude (length c.args.symbols.now) c.args.room c.args.level (value c.loop-op.left) _ c.in_default.ensures
+value_level-returns t c = sym c.loop-op.invariant ∙ operations_end c.args.prelude (length c.args.symbols.now) c.args.room c.args.level (value c.loop-op.left) _ c.in_default.ensures.rest

@@ -7,9 +7,9 @@ use Rattle.affc_syntax.proofs.value.tildes.Goals as goal
 
 pub loop-behind-preserved : goal.loop-behind-preserved
 loop-behind-preserved c = (
-  sym (tildes_on c.loop-behind.count _ _ c.in-Some.ensures) ∙ c.loop-behind.invariant.0,
-  omega (arith, c.loop-behind.invariant.1, past_shorter (this_mark (codes "~")) (drop c.loop-behind.next (map seen c.args.symbols.now)) tt (drop c.in-Some.behind (map seen c.args.symbols.now)) c.in-Some.ensures),
+  sym (tildes_on c.loop-behind.count _ _ c.in-Some.ensures.rest) ∙ c.loop-behind.invariant.0,
+  omega (arith, c.loop-behind.invariant.1, past_shorter (this_mark (codes "~")) (drop c.loop-behind.next (map seen c.args.symbols.now)) tt (drop c.in-Some.behind (map seen c.args.symbols.now)) c.in-Some.ensures.rest),
 )
 
 pub returns : goal.returns
-returns c = sym c.loop-behind.invariant.0 ∙ tildes_end c.loop-behind.count _ c.in_default.ensures
+returns c = sym c.loop-behind.invariant.0 ∙ tildes_end c.loop-behind.count _ c.in_default.ensures.rest

@@ -11,15 +11,15 @@ use Rattle.affc_text.proofs.function.more_temps.Goals as goal
 pub returns-in_err-longer : goal.returns-in_err-longer
 returns-in_err-longer c =
     let p = err_from_is_err_and c.from_residual.result c.from_residual.ensures.1 in
-    rw (p.1, p.2, ← c.loop-behind.invariant) (loop_stop (this_mark (codes ",")) (temp_more c.args.prelude (length c.args.symbols.now) c.args.room) (temp_more_left c.args.prelude (length c.args.symbols.now) c.args.room) (map seen c.args.symbols.now) (map decl c.loop-behind.temps) _ tt _ _ c.in-Some.ensures c.in_err-longer.ensures)
+    rw (p.1, p.2, ← c.loop-behind.invariant) (loop_stop (this_mark (codes ",")) (temp_more c.args.prelude (length c.args.symbols.now) c.args.room) (temp_more_left c.args.prelude (length c.args.symbols.now) c.args.room) (map seen c.args.symbols.now) (map decl c.loop-behind.temps) _ tt _ _ c.in-Some.ensures.rest c.in_err-longer.ensures)
 
 pub loop-behind-smaller : goal.loop-behind-smaller
 loop-behind-smaller c =
-    less_left c.args.symbols.now c.loop-behind.next c.in-Some.behind c.in_ok-longer.rest (past_shorter (this_mark (codes ",")) _ tt _ c.in-Some.ensures)
+    less_left c.args.symbols.now c.loop-behind.next c.in-Some.behind c.in_ok-longer.rest (past_shorter (this_mark (codes ",")) _ tt _ c.in-Some.ensures.rest)
     (temp_more_left c.args.prelude (length c.args.symbols.now) c.args.room tt (map decl c.loop-behind.temps) _ (map decl c.in_ok-longer.longer) _ c.in_ok-longer.ensures)
 
 pub loop-behind-preserved : goal.loop-behind-preserved
-loop-behind-preserved c = sym (loop_on (this_mark (codes ",")) (temp_more c.args.prelude (length c.args.symbols.now) c.args.room) (temp_more_left c.args.prelude (length c.args.symbols.now) c.args.room) (map decl c.loop-behind.temps) _ tt _ (map decl c.in_ok-longer.longer) _ c.in-Some.ensures c.in_ok-longer.ensures) ∙ c.loop-behind.invariant
+loop-behind-preserved c = sym (loop_on (this_mark (codes ",")) (temp_more c.args.prelude (length c.args.symbols.now) c.args.room) (temp_more_left c.args.prelude (length c.args.symbols.now) c.args.room) (map decl c.loop-behind.temps) _ tt _ (map decl c.in_ok-longer.longer) _ c.in-Some.ensures.rest c.in_ok-longer.ensures) ∙ c.loop-behind.invariant
 
 pub returns : goal.returns
-returns c = sym c.loop-behind.invariant ∙ loop_end (this_mark (codes ",")) (temp_more c.args.prelude (length c.args.symbols.now) c.args.room) (temp_more_left c.args.prelude (length c.args.symbols.now) c.args.room) (map decl c.loop-behind.temps) _ c.in_default.ensures
+returns c = sym c.loop-behind.invariant ∙ loop_end (this_mark (codes ",")) (temp_more c.args.prelude (length c.args.symbols.now) c.args.room) (temp_more_left c.args.prelude (length c.args.symbols.now) c.args.room) (map decl c.loop-behind.temps) _ c.in_default.ensures.rest

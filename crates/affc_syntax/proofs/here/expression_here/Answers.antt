@@ -1,0 +1,6 @@
+use Rattle.affc_draft.specs.Drafts.{ix}
+use Rattle.affc_syntax.proofs.Readers.{counted_gives}
+use Rattle.affc_syntax.proofs.here.expression_here.Goals as goal
+
+pub returns-clause-read : goal.returns-clause-read
+returns-clause-read c = counted_gives c.args.symbols.now ix c.expression-answer.result c.counted.result _ c.counted.ensures c.expression-answer.ensures
