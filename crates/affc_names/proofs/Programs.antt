@@ -41,7 +41,7 @@ same_ok (Err q) n a h e = absurd (cc)
 pub answers_of : (c : d.TextDraft) (r : Result Program NameFault) → Gives r (program_tree (stored.text c)) → Answers r c
 answers_of c (Ok tree) g = record {
   named = same_ok (program_tree (stored.text c)) (program_tree c) tree (program_same c) g;
-  its_tree = λ h. ap program_tree (sym h) ∙ g;
+  its_tree = g;
 }
 answers_of c (Err Memory) g = tt
 answers_of c (Err (Refused at why)) g = same_err (program_tree (stored.text c)) (program_tree c) _ (program_same c) g

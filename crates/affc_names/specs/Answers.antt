@@ -8,10 +8,10 @@ use Rattle.affc_names.specs.Stored as stored
 use Rattle.affc_names.specs.declared.fault.NameFault.{NameFault}
 use Rattle.affc_names.specs.declared.fault.NameFault.TheVariants.{Memory, Refused}
 
--- No name is refused; this is the tree, where it can hold all numbers of the draft.
+-- No name is refused, and this is the tree, with each number as a tree can hold it: of a draft whose numbers it can all hold, the draft's own.
 pub record IsNamed (c : TextDraft) (tree : Program) : Type 0 where
   pub named : IsOk (program_tree c)
-  pub its_tree : stored.text c ≡ c → program_tree c ≡ Ok tree
+  pub its_tree : program_tree (stored.text c) ≡ Ok tree
 
 abbrev pub Answers : Result Program NameFault → TextDraft → Type 0
 Answers (Ok tree) c = IsNamed c tree

@@ -211,8 +211,9 @@ fn with_params(
     })
 }
 
-/// The tree of a draft, or the first of its names that is refused. Numbers that a tree can't hold are cut in it: a
-/// draft with such a number passes a limit. Names are looked up in tables that are hashed by `spread`.
+/// The tree of a draft, or the first of its names that is refused. A number that a tree can't hold is cut: one of
+/// 2^63 or more is 2^63 - 1 in the tree, such a bound of a range is 0, and so is a shift by 256 or more. All else is as
+/// in the draft. A text with such a number passes a limit. Names are looked up in tables that are hashed by `spread`.
 pub fn program_of(alloc: Global, spread: Spread, draft: &TextDraft) -> Result<Program, NameFault>
     ensures { Answers result (seen.text draft.now) }
 {

@@ -136,7 +136,7 @@ pub tree_answer : (text : List ℕ) (ls : List Lexeme) (d : TextDraft) (tree : P
     → None ≡ first (products_of_names d) → None ≡ least (passed (limits_of b) d) → Answers text (Ok tree)
 tree_answer text ls d tree b shape same w n f l =
     let least_none : least (passed (limits_of b) (text_draft w.written)) ≡ None = ap (λ x. least (passed (limits_of b) x)) (sym w.its_draft) ∙ sym l in
-    let its_tree : program_tree d ≡ Ok tree = n.its_tree (subst (λ x. stored.text x ≡ x) (sym w.its_draft) (written_kept b w.written least_none)) in
+    let its_tree : program_tree d ≡ Ok tree = ap program_tree (sym (subst (λ x. stored.text x ≡ x) (sym w.its_draft) (written_kept b w.written least_none))) ∙ n.its_tree in
     is_read text ls w.written tree shape w.spelled
     (tree_read (limits_with ls) (text_draft w.written) tree (ap program_tree (sym w.its_draft) ∙ its_tree) (ap products_of_names (sym w.its_draft) ∙ none_first (products_of_names d) f)
     (ap (λ x. least (passed x (text_draft w.written))) (sym same) ∙ least_none))
