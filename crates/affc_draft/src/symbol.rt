@@ -1,4 +1,4 @@
-//! Tokens with their text, as the grammar has them, and what stands first in a list of them.
+//! Tokens with their text, as the grammar has them, and tests of their kind and text.
 
 ghost use Rattle.std.specs.Prelude.{◌≡◌, ◌&&◌, map, None, Some, MatchOption};
 ghost use Rattle.affc_lex.specs.Bytes as bytes;
