@@ -1,8 +1,9 @@
 -- The rows of a box hold in it.
-use Rattle.std.proofs.Common.{◌≡◌, ◌≢◌, ℕ, zero, suc, ◌+◌, ◌-◌, ◌*◌, ◌^◌, ◌<◌, ◌≤◌, List, [], ◌∷◌, ◌++◌, length, replicate, map, slice_index_or, ℤ, pos, negsuc, ◌+ℤ◌, ◌-ℤ◌, ◌*ℤ◌, ◌≤ℤ◌, ◌<ℤ◌, neg_ℤ, refl, sym, ap, subst, ◌∙◌, arith, append_assoc}
+use Rattle.std.proofs.Common.{◌≡◌, ◌≢◌, ◌↔◌, ℕ, zero, suc, ◌+◌, ◌-◌, ◌*◌, ◌^◌, ◌<◌, ◌≤◌, Result, Ok, Err, List, [], ◌∷◌, ◌++◌, length, replicate, map, slice_index_or, ℤ, pos, negsuc, ◌+ℤ◌, ◌-ℤ◌, ◌*ℤ◌, ◌≤ℤ◌, ◌<ℤ◌, neg_ℤ, refl, sym, ap, subst, ◌∙◌, arith, append_assoc}
 use Rattle.std.proofs.lemmas.Int.{ints}
 use Rattle.std.proofs.lemmas.List.{get_or_append_left, length-append}
-use Rattle.std.proofs.lemmas.List.Elements.{All-nil, All-cons, All-append}
+use Rattle.std.proofs.lemmas.List.Elements.{All-nil, All-cons, All-head, All-tail, All-append}
+use Rattle.std.specs.Prelude.{IfOk}
 use Rattle.std.specs.List.{All}
 use lib.IntN.{*ℤ_comm, zero-*ℤ}
 use Rattle.affc_rows.specs.Forms.{Affine, dot, value}
@@ -10,10 +11,15 @@ use Rattle.affc_rows.proofs.IntLemmas.{one-mul, neg-mul}
 use Rattle.affc_system.specs.Systems.{Rows, IsRow, IsPoint, Meets}
 use Rattle.affc_system.specs.Boxes.{InBox}
 use Rattle.affc_system.specs.Pairs.{WithinReach}
+use Rattle.affc_system.proofs.SystemLemmas.{point_of_more_rows, point_of_fewer_rows}
 use Rattle.affc_farkas.specs.Proofs.{ValidProof}
 use Rattle.affc_farkas.specs.declared.proof.Proof.{Proof}
+use Rattle.affc_farkas.proofs.Sound.{sound_system}
+use Rattle.affc_split.specs.declared.budget.Stop.{Stop}
+use Rattle.affc_split.specs.declared.search.Answer.{Answer}
+use Rattle.affc_split.specs.declared.search.Answer.TheVariants as answer
 use Rattle.affc_split.specs.declared.bounds.Bound.{Bound}
-use Rattle.affc_split.specs.Answers.{unit, box_rows, with_box}
+use Rattle.affc_split.specs.Answers.{unit, box_rows, with_box, IfEmpty}
 use Rattle.affc_split.specs.Bounds.{ranges_of}
 use Rattle.affc_split.specs.Points.{IsLeastPoint}
 use Rattle.affc_split.specs.Search.{Placed, IsLeast, IsEmpty, box_bounds}
@@ -42,6 +48,17 @@ low_holds v z low e h = omega (arith, ints)
 high_holds : (v z high : ℤ) → v ≡ neg_ℤ z → z ≤ℤ high → pos 0 ≤ℤ (v +ℤ high)
 high_holds v z high e h = omega (arith, ints)
 
+-- the value of a column's row, and of the negated one
+column_value : (front : List ℤ) (m : ℕ) (z : ℤ) (zs : List ℤ) → dot (unit (length front) m) (front ++ z ∷ zs) ≡ z
+column_value front m z zs = dot-unit (pos 1) front m z zs ∙ one-mul z
+
+negated_value : (front : List ℤ) (m : ℕ) (z : ℤ) (zs : List ℤ) → dot (map neg_ℤ (unit (length front) m)) (front ++ z ∷ zs) ≡ neg_ℤ z
+negated_value front m z zs =
+    ap (λ cs. dot cs (front ++ z ∷ zs)) (negated_unit (length front) m) ∙ dot-unit (negsuc 0) front m z zs ∙ neg-mul (pos 1) z ∙ ap neg_ℤ (one-mul z)
+
+next_column : (front : List ℤ) (z : ℤ) → length (front ++ z ∷ []) ≡ suc (length front)
+next_column front z = let e = length-append front (z ∷ []) in omega arith
+
 box_meets : (columns : ℕ) (front : List ℤ) (rs : List (ℤ × ℤ)) (zs : List ℤ) → InBox rs zs → All (Meets (front ++ zs)) (box_rows columns (length front) rs)
 box_meets columns front [] zs h = All-nil (Meets (front ++ zs))
 box_meets columns front (r ∷ rs) [] h = absurd h
@@ -51,14 +68,58 @@ box_meets columns front (r ∷ rs) (z ∷ zs) h =
     let point = front ++ z ∷ zs in
     let low : Affine = record { coefs = unit j m; constant = neg_ℤ r.0 } in
     let high : Affine = record { coefs = map neg_ℤ (unit j m); constant = r.1 } in
-    let up : dot (unit j m) point ≡ z = dot-unit (pos 1) front m z zs ∙ one-mul z in
-    let down : dot (map neg_ℤ (unit j m)) point ≡ neg_ℤ z =
-    ap (λ cs. dot cs point) (negated_unit j m) ∙ dot-unit (negsuc 0) front m z zs ∙ neg-mul (pos 1) z ∙ ap neg_ℤ (one-mul z) in
-    let s : (length (front ++ z ∷ [])) ≡ suc j = let e = length-append front (z ∷ []) in omega arith in
     let rest : All (Meets point) (box_rows columns (suc j) rs) =
-    subst (λ n. All (Meets point) (box_rows columns n rs)) s (subst (λ w. All (Meets w) (box_rows columns (length (front ++ z ∷ [])) rs)) (append_assoc front (z ∷ []) zs) (box_meets columns (front ++ z ∷ []) rs zs h.2)) in
-    All-cons (Meets point) low (high ∷ box_rows columns (suc j) rs) (low_holds _ z r.0 up h.0)
-    (All-cons (Meets point) high (box_rows columns (suc j) rs) (high_holds _ z r.1 down h.1) rest)
+    subst (λ n. All (Meets point) (box_rows columns n rs)) (next_column front z)
+    (subst (λ w. All (Meets w) (box_rows columns (length (front ++ z ∷ [])) rs)) (append_assoc front (z ∷ []) zs) (box_meets columns (front ++ z ∷ []) rs zs h.2)) in
+    All-cons (Meets point) low (high ∷ box_rows columns (suc j) rs) (low_holds _ z r.0 (column_value front m z zs) h.0)
+    (All-cons (Meets point) high (box_rows columns (suc j) rs) (high_holds _ z r.1 (negated_value front m z zs) h.1) rest)
+
+low_from : (v z low : ℤ) → v ≡ z → pos 0 ≤ℤ (v +ℤ neg_ℤ low) → low ≤ℤ z
+low_from v z low e h = omega (arith, ints)
+
+high_from : (v z high : ℤ) → v ≡ neg_ℤ z → pos 0 ≤ℤ (v +ℤ high) → z ≤ℤ high
+high_from v z high e h = omega (arith, ints)
+
+-- and a point at which they hold lies in it
+meets_box : (columns : ℕ) (front : List ℤ) (rs : List (ℤ × ℤ)) (zs : List ℤ) → length rs ≡ length zs → All (Meets (front ++ zs)) (box_rows columns (length front) rs) → InBox rs zs
+meets_box columns front [] [] e h = tt
+meets_box columns front [] (z ∷ zs) e h = absurd (omega arith)
+meets_box columns front (r ∷ rs) [] e h = absurd (omega arith)
+meets_box columns front (r ∷ rs) (z ∷ zs) e h =
+    let j = length front in
+    let m = columns - (j + 1) in
+    let point = front ++ z ∷ zs in
+    let low : Affine = record { coefs = unit j m; constant = neg_ℤ r.0 } in
+    let high : Affine = record { coefs = map neg_ℤ (unit j m); constant = r.1 } in
+    let more = box_rows columns (suc j) rs in
+    let after : All (Meets point) (high ∷ more) = All-tail (Meets point) low (high ∷ more) h in
+    let rest : All (Meets ((front ++ z ∷ []) ++ zs)) (box_rows columns (length (front ++ z ∷ [])) rs) =
+    subst (λ w. All (Meets w) (box_rows columns (length (front ++ z ∷ [])) rs)) (sym (append_assoc front (z ∷ []) zs))
+    (subst (λ n. All (Meets point) (box_rows columns n rs)) (sym (next_column front z)) (All-tail (Meets point) high more after)) in (
+      low_from _ z r.0 (column_value front m z zs) (All-head (Meets point) low (high ∷ more) h),
+      high_from _ z r.1 (negated_value front m z zs) (All-head (Meets point) high more after),
+      meets_box columns (front ++ z ∷ []) rs zs (omega arith) rest,
+    )
+
+-- the points of the system with the rows of the box are those of the system in the box
+pub box_rows_are_the_box : (system : Rows) (rs : List (ℤ × ℤ)) (x : List ℤ) → length rs ≡ system.columns → IsPoint (with_box system rs) x ↔ (IsPoint system x × InBox rs x)
+box_rows_are_the_box system rs x w = (
+  λ p. let parts = point_of_fewer_rows system (box_rows system.columns 0 rs) x p in (parts.0, meets_box system.columns [] rs x (w ∙ sym p.width) parts.1),
+  λ p. point_of_more_rows system (box_rows system.columns 0 rs) x p.0 (box_meets system.columns [] rs x p.1),
+)
+
+-- a valid proof of the whole box says that the system has no point in it
+none_in_box : (system : Rows) (rs : List (ℤ × ℤ)) (p : Proof) → length rs ≡ system.columns → All WithinReach rs → All (IsRow system.columns) system.rows
+    → ValidProof (with_box system rs) p → (x : List ℤ) → InBox rs x → IsPoint system x → ⊥
+none_in_box system rs p w h fit v x inside k =
+    sound_system (with_box system rs) p (whole_placed system rs w h fit).fit v x
+    (point_of_more_rows system (box_rows system.columns 0 rs) x k (box_meets system.columns [] rs x inside))
+
+pub none_answer : (system : Rows) (rs : List (ℤ × ℤ)) (r : Result Answer Stop) → length rs ≡ system.columns → All WithinReach rs → All (IsRow system.columns) system.rows
+    → IfOk r (λ a. IfEmpty a (λ p. ValidProof (with_box system rs) p)) → IfOk r (λ a. IfEmpty a (λ _. (x : List ℤ) → InBox rs x → IsPoint system x → ⊥))
+none_answer system rs (Err e) w h fit v = tt
+none_answer system rs (Ok (answer.Empty p)) w h fit v = none_in_box system rs p w h fit v
+none_answer system rs (Ok (answer.Point x)) w h fit v = tt
 
 -- the least point with the rows of the box is that of the system
 pub boxed_least : (system : Rows) (rs : List (ℤ × ℤ)) (x : List ℤ) → IsLeastPoint (with_box system rs) rs x → IsLeastPoint system rs x

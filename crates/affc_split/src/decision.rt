@@ -1,7 +1,8 @@
 //! The decision.
 ghost use Rattle.std.specs.Prelude.{◌≡◌, ℕ, ℤ, List, ◌+◌, ◌-◌, ◌*◌, ◌^◌, ◌<◌, ◌≤◌, ◌⊎◌, pos, IfOk, IfErr, IfSome, IfNone, IsTrue, ◌↔◌, OnOk, OnErr, IsNone, Some, Err, length};
 ghost use Rattle.std.specs.List.{All};
-ghost use Rattle.affc_system.specs.Boxes.{IsBox};
+ghost use Rattle.affc_system.specs.Systems.{IsPoint};
+ghost use Rattle.affc_system.specs.Boxes.{IsBox, InBox};
 ghost use Rattle.affc_system.specs.Pairs.{WithinReach};
 ghost use Rattle.affc_farkas.specs.Proofs.{ValidProof};
 ghost use Rattle.affc_split.specs.Answers.{with_box, SplitsAtZero, IsLeafProof, IsHard, IfEmpty, IfPoint};
@@ -290,6 +291,7 @@ pub fn decide(
     requires reach { All WithinReach ranges.now }
 
     // The answer.
+    ensures none { IfOk result (λ a. IfEmpty a (λ _. (x : List ℤ) → InBox ranges.now x → IsPoint system.now x → ⊥)) }
     ensures empty { IfOk result (λ a. IfEmpty a (λ p. ValidProof (with_box system.now ranges.now) p)) }
     ensures plain { IfOk result (λ a. IfEmpty a SplitsAtZero) }
     ensures leaf { length system.now.rows + 2 * system.now.columns ≤ 1024 → IfOk result (λ a. IfEmpty a (λ p. IsLeafProof p ⊎ IsHard (with_box system.now ranges.now))) }
@@ -308,6 +310,7 @@ pub fn decide(
     ensures short { IfErr result (λ e. e ≡ Stop.Budget → budget.new.spent + 2 ≤ budget.old.spent + 2 * points ranges.now) }
     ensures hard { length system.now.rows + 2 * system.now.columns ≤ 1024 → IfErr result (λ e. e ≡ Stop.Budget → (budget.old.limit ≡ Some budget.old.spent) ⊎ IsHard (with_box system.now ranges.now)) }
 {
+    let _rows = system.rows();
     let ranges = ranges.ranges();
     decided(alloc, system, ranges, budget)
 }

@@ -1,14 +1,23 @@
 use Rattle.std.proofs.Common.{◌≡◌, ◌+◌, ◌*◌, ◌≤◌, subst, length, IfOk, IfErr, Some, ◌⊎◌}
+use Rattle.std.specs.List.{All}
+use Rattle.affc_system.specs.Systems.{IsRow}
 use Rattle.affc_farkas.specs.Proofs.{ValidProof}
 use Rattle.affc_split.specs.Answers.{with_box, IsLeafProof, IsHard, IfEmpty, IfPoint}
 use Rattle.affc_split.specs.Points.{points, IsLeastPoint}
 use Rattle.affc_split.specs.Openings.{Opened}
 use Rattle.affc_split.specs.declared.budget.Stop.TheVariants.{Budget}
+use Rattle.affc_split.proofs.Boxes.{none_answer}
 use Rattle.affc_split.proofs.Openings.{whole_opened}
 use Rattle.affc_split.proofs.decision.decide.Goals as goal
 
 pub returns-clause-empty : goal.returns-clause-empty
 returns-clause-empty c = subst (λ rs. IfOk c.decided.result (λ a. IfEmpty a (λ p. ValidProof (with_box c.args.system.now rs) p))) c.ranges-ranges.ensures.ranges c.decided.ensures.empty
+
+pub returns-clause-none : goal.returns-clause-none
+returns-clause-none c =
+    let fit = subst (λ z. All (IsRow c.args.system.now.columns) z) c.rows-rows.ensures.rows c.rows-rows.ensures.fit in
+    let valid = subst (λ rs. IfOk c.decided.result (λ a. IfEmpty a (λ p. ValidProof (with_box c.args.system.now rs) p))) c.ranges-ranges.ensures.ranges c.decided.ensures.empty in
+    none_answer c.args.system.now c.args.ranges.now c.decided.result c.requires.columns c.requires.reach fit valid
 
 pub returns-clause-leaf : goal.returns-clause-leaf
 returns-clause-leaf c = subst (λ rs. length c.args.system.now.rows + 2 * c.args.system.now.columns ≤ 1024 → IfOk c.decided.result (λ a. IfEmpty a (λ p. IsLeafProof p ⊎ IsHard (with_box c.args.system.now rs)))) c.ranges-ranges.ensures.ranges c.decided.ensures.leaf
