@@ -10,3 +10,4 @@ pub mod BoxRows
 pub mod Divisions
 pub mod Boxes
 pub mod Openings
+pub mod Orders

@@ -50,8 +50,8 @@ IsLeafProof (Leaf by) = Unit {0}
 IsLeafProof (Cut' by g row p rest) = ⊥
 IsLeafProof (Split' form at p low q high) = ⊥
 
--- where elimination can't show that the rows have no point: some rational point meets them all, or an elimination of them has 4,096
--- pairs, or the row of its next pair is too wide
+-- a rational point meets the rows, or some elimination of them reaches a limit (it has 4,096 pairs, or the row of its next pair is too
+-- wide), though another may refute them
 abbrev pub IsHard : Rows → Type 0
 IsHard system = RationalPoint system.columns system.rows
     ⊎ ((made : List Pair) × (IsElimination system.columns system.rows made × (length made ≡ 4096)))

@@ -7,3 +7,4 @@ pub mod Search
 pub mod Cuts
 pub mod Openings
 pub mod Searches
+pub mod Examples

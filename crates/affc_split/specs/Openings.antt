@@ -27,12 +27,13 @@ AreDistinct (b ∷ bs) = All (λ c. c ≢ b) bs × AreDistinct bs
 abbrev pub IsUpTo : List ℤ → List (ℤ × ℤ) → Type 0
 IsUpTo x box = InBox box x ⊎ ((z : List ℤ) → InBox box z → LexLe z x)
 
--- what boxes are opened for: each part of a proof takes one at most, and none lies behind the point
+-- beside a proof the boxes are no more than its nodes; beside a point each of them holds it or lies before it
 abbrev pub AreNeeded : Answer → List (List (ℤ × ℤ)) → Type 0
 AreNeeded (Empty p) boxes = length boxes ≤ nodes p
 AreNeeded (Point x) boxes = All (IsUpTo x.items) boxes
 
--- the boxes that a call opens, with a unit for each where units are counted: the whole box, and then parts of it, none twice and none without need
+-- the boxes that a call opens, with a unit for each where units are counted: the whole box, and then parts of it, none twice; beside a
+-- proof no more than its nodes, and beside a point none behind it
 pub record Opened (whole : List (ℤ × ℤ)) (before after : Account) (answer : Answer) : Type 0 where
   pub others : List (List (ℤ × ℤ))
   pub distinct : AreDistinct (whole ∷ others)

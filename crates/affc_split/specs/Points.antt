@@ -3,7 +3,7 @@ use Rattle.std.specs.Prelude.{◌≡◌, ℕ, ◌+◌, ◌*◌, List, [], ◌∷
 use Rattle.affc_system.specs.Systems.{Rows, IsPoint}
 use Rattle.affc_system.specs.Boxes.{InBox}
 
--- how many integer points a box has
+-- how many integer points a box has, where each of its ranges has its ends in order
 abbrev pub points : List (ℤ × ℤ) → ℕ
 points [] = 1
 points (r ∷ rs) = (unsigned_abs (r.1 -ℤ r.0) + 1) * points rs

@@ -93,7 +93,7 @@ fn whole_leaf(
     }
 }
 
-/// A leaf for the whole box. `None` where none is found, and elimination can't find one.
+/// A leaf for the whole box, where one is found.
 fn root_leaf(
     alloc: Global,
     system: &System,

@@ -6,6 +6,7 @@ mod boxed;
 pub mod budget;
 mod cuts;
 pub mod decision;
+pub mod examples;
 pub mod laws;
 mod leaves;
 mod parts;
