@@ -16,3 +16,5 @@ pub mod Eliminated
 pub mod Leaves
 pub mod Inputs
 pub mod Chains
+pub mod Rationals
+pub mod ExampleProofs

@@ -38,7 +38,7 @@ len_replicate : (n : ℕ) → length (replicate n (pos 0)) ≡ n
 len_replicate zero = refl
 len_replicate (suc n) = ap suc (len_replicate n)
 
-dot-zeros : (n : ℕ) (xs : List ℤ) → dot (replicate n (pos 0)) xs ≡ pos 0
+pub dot-zeros : (n : ℕ) (xs : List ℤ) → dot (replicate n (pos 0)) xs ≡ pos 0
 dot-zeros zero xs = refl
 dot-zeros (suc n) [] = refl
 dot-zeros (suc n) (x ∷ xs) = let e = dot-zeros n xs in omega (arith, ints)

@@ -56,7 +56,7 @@ pub record IsAdded (rows : List Affine) (column : ℕ) (first second weights : L
   pub factors : AreFactors (unsigned_abs (combined rows first column)) (unsigned_abs (combined rows second column)) s t
   pub divided : AreDivided (mixed_weights s first t second) weights
 
--- some weight passes 128 bits before the division, or 2^53 after it
+-- some weight is at least 2^127 before the division, or greater than 2^53 after it
 abbrev pub PassesLimit : List ℕ → Type 0
 PassesLimit before = HasFrom (2 ^ 127) before ⊎ ((weights : List ℕ) × AreDivided before weights × HasFrom (2 ^ 53 + 1) weights)
 

@@ -7,3 +7,4 @@ pub mod Sums
 pub mod Steps
 pub mod Admissions
 pub mod Answers
+pub mod Examples
