@@ -310,6 +310,7 @@ pub fn decide(
     ensures short { IfErr result (λ e. e ≡ Stop.Budget → budget.new.spent + 2 ≤ budget.old.spent + 2 * points ranges.now) }
     ensures hard { length system.now.rows + 2 * system.now.columns ≤ 1024 → IfErr result (λ e. e ≡ Stop.Budget → (budget.old.limit ≡ Some budget.old.spent) ⊎ IsHard (with_box system.now ranges.now)) }
 {
+    // The rows keep a system's limits; what a proof says of integer points rests on that.
     let _rows = system.rows();
     let ranges = ranges.ranges();
     decided(alloc, system, ranges, budget)
