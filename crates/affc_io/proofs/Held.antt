@@ -1,10 +1,10 @@
 -- What files in memory hold after one of them changes.
-use Rattle.std.proofs.Common.{◌≡◌, ◌≢◌, ◌<◌, ◌≤◌, ◌+◌, ◌++◌, Result, Ok, Err, IfOk, ℕ, zero, suc, List, [], ◌∷◌, Option, None, Some, Bool, true, false, cond, length, take, get_or, Vec, String, string_bytes, refl, sym, ap, ◌∙◌, subst, arith, add-one}
+use Rattle.std.proofs.Common.{◌≡◌, ◌≢◌, ◌<◌, ◌≤◌, ◌+◌, ◌++◌, Result, Ok, Err, IfOk, ℕ, zero, suc, List, [], ◌∷◌, map, Option, None, Some, Bool, true, false, cond, length, take, get_or, Vec, String, string_bytes, refl, sym, ap, ◌∙◌, subst, arith, add-one}
 use Rattle.std.proofs.Math.ListN.{set}
 use Rattle.std.specs.Str.{bytes_eq}
 use Rattle.std.specs.declared.alloc.Global.{Global}
 use Rattle.std.proofs.lemmas.Slice.Eq.{bytes_eq-Decides}
-use Rattle.affc_io.specs.Memory.{NamedFile, held_in, IsFirst}
+use Rattle.affc_io.specs.Memory.{NamedFile, held_in, IsFirst, named_bytes, stored}
 use Rattle.affc_io.specs.Parts.{emptied}
 
 same_name : (xs ys : List ℕ) → xs ≡ ys → bytes_eq xs ys ≡ true
@@ -63,6 +63,23 @@ push-other [] name other n v e ne = rw (other_name (string_bytes n) other (λ h.
 push-other (file ∷ files) name other n v e ne =
     ap (cond (bytes_eq (string_bytes file.0) other) (Some file.1.items)) (push-other files name other n v e ne)
 
+pub set-stored : (files : List NamedFile) (i : ℕ) (name : List ℕ) (n : String Global) (v : Vec ℕ Global) (d : NamedFile)
+    → i < length files → held_in (take i files) name ≡ None → string_bytes n ≡ name → string_bytes (get_or files i d).0 ≡ name
+    → map named_bytes (set files i (n, v)) ≡ stored (map named_bytes files) name v.items
+set-stored [] i name n v d lt none e was = absurd (omega arith)
+set-stored (file ∷ files) zero name n v d lt none e was = rw (same_name _ _ was, e) refl
+set-stored (file ∷ files) (suc i) name n v d lt none e was =
+    let p = none_of (bytes_eq (string_bytes file.0) name) file.1.items (held_in (take i files) name) none
+    in rw (p.0) (ap (λ l. named_bytes file ∷ l) (set-stored files i name n v d (omega arith) p.1 e was))
+
+pub push-stored : (files : List NamedFile) (name : List ℕ) (n : String Global) (v : Vec ℕ Global)
+    → held_in files name ≡ None → string_bytes n ≡ name
+    → map named_bytes (files ++ (n, v) ∷ []) ≡ stored (map named_bytes files) name v.items
+push-stored [] name n v none e = ap (λ l. (l, v.items) ∷ []) e
+push-stored (file ∷ files) name n v none e =
+    let p = none_of (bytes_eq (string_bytes file.0) name) file.1.items (held_in files name) none
+    in rw (p.0) (ap (λ l. named_bytes file ∷ l) (push-stored files name n v p.1 e))
+
 step-none : (files : List NamedFile) (i : ℕ) (name : List ℕ) (d : NamedFile)
     → i < length files → held_in (take i files) name ≡ None → string_bytes (get_or files i d).0 ≢ name
     → held_in (take (suc i) files) name ≡ None
@@ -101,6 +118,7 @@ pub record Refilled (files : List NamedFile) (i : ℕ) (name : List ℕ) (file :
   pub at_name : held_in (set files i (file.0, v)) name ≡ Some v.items
   pub if_empty : v.items ≡ [] → held_in (set files i (file.0, v)) name ≡ emptied (held_in files name)
   pub others : (other : List ℕ) → other ≢ name → held_in (set files i (file.0, v)) other ≡ held_in files other
+  pub order : map named_bytes (set files i (file.0, v)) ≡ stored (map named_bytes files) name v.items
 
 refilled_at : (files : List NamedFile) (i : ℕ) (name : List ℕ) (file : NamedFile) (v : Vec ℕ Global)
     → IsFirst files i name → file ≡ get_or files i file → Refilled files i name file v
@@ -112,6 +130,7 @@ refilled_at files i name file v first is =
       at_name = held;
       if_empty = λ e. held ∙ ap Some e ∙ sym (ap emptied (first-held files i name file first.placed first.before (first.named file)));
       others = λ other ne. set-other files i name other file.0 v file (first.named file) named ne;
+      order = set-stored files i name file.0 v file first.placed first.before named (first.named file);
     }
 
 pub refilled : (slice files : List NamedFile) (i : ℕ) (name : List ℕ) (file : NamedFile) (v : Vec ℕ Global)
@@ -123,6 +142,7 @@ refilled slice files i name file v e first is =
 pub record Pushed (files new : List NamedFile) (name bytes : List ℕ) : Type 0 where
   pub at_name : held_in new name ≡ Some bytes
   pub others : (other : List ℕ) → other ≢ name → held_in new other ≡ held_in files other
+  pub order : map named_bytes new ≡ stored (map named_bytes files) name bytes
 
 pub pushed : (slice files new : List NamedFile) (name bytes : List ℕ) (n : String Global) (v : Vec ℕ Global)
     → slice ≡ files → new ≡ files ++ (n, v) ∷ [] → held_in slice name ≡ None → string_bytes n ≡ name → v.items ≡ bytes
@@ -130,6 +150,7 @@ pub pushed : (slice files new : List NamedFile) (name bytes : List ℕ) (n : Str
 pushed slice files new name bytes n v s e none named is = record {
   at_name = rw e (push-held files name n v (ap (λ f. held_in f name) (sym s) ∙ none) named ∙ ap Some is);
   others = λ other ne. rw e (push-other files name other n v named ne);
+  order = rw (e, sym is) (push-stored files name n v (ap (λ f. held_in f name) (sym s) ∙ none) named);
 }
 
 -- what the first file with the name says of a look-up

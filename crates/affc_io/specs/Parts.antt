@@ -24,6 +24,10 @@ folder_faults folder = folder.faults
 abbrev pub folder_shortages : MemFolder → ℕ
 folder_shortages folder = folder.shortages
 
+-- how many reads there were
+abbrev pub folder_reads : MemFolder → ℕ
+folder_reads folder = folder.reads
+
 -- the bytes taken so far
 abbrev pub mem_bytes : MemSink → List ℕ
 mem_bytes sink = sink.bytes.items

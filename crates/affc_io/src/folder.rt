@@ -1,6 +1,6 @@
 // A folder of named files.
 ghost use Rattle.std.specs.Prelude.{◌≡◌, ◌≢◌, ◌≤◌, List, ℕ, Option, length, is_some, IfOk, IfErr, OnOk, IsErrOf};
-ghost use Rattle.affc_io.specs.Count.{Rose, StaysWhereTold};
+ghost use Rattle.affc_io.specs.Count.{Rose, StaysWhereTold, raised};
 ghost use Rattle.affc_io.specs.Files.{Files, held_under, NotHeld, Holds, TooLong, IsLeft};
 
 use std::alloc::Global;
@@ -31,6 +31,11 @@ pub enum WriteFault {
     Memory,
 }
 
+/// The limit in figures, as a law.
+pub fn longest_read()
+    ensures { LONGEST_READ ≡ 67108864 }
+{}
+
 /// Files under names. Each name is any text, and holds bytes or nothing.
 pub trait Folder {
     /// What each name holds, where the folder tells it.
@@ -41,6 +46,9 @@ pub trait Folder {
 
     /// How many calls have answered `Memory`.
     ghost shortages: { Self → ℕ };
+
+    /// How many calls of `read` there were.
+    ghost reads: { Self → ℕ };
 
     /// What the name holds.
     fn read(&mut self, alloc: Global, name: &str) -> Result<Vec<u8>, ReadFault>
@@ -59,7 +67,8 @@ pub trait Folder {
         ensures settled { result ≢ Err ReadFault.Failed →
             StaysWhereTold (held self.old) (faults self.old) (faults self.new) }
         // and no shortage is counted but the calls that answered it
-        ensures ample { result ≢ Err ReadFault.Memory → shortages self.new ≡ shortages self.old };
+        ensures ample { result ≢ Err ReadFault.Memory → shortages self.new ≡ shortages self.old }
+        ensures reads { reads self.new ≡ raised (reads self.old) };
 
     /// Makes the name hold the bytes.
     fn write(&mut self, name: &str, bytes: &[u8]) -> Result<(), WriteFault>
@@ -74,5 +83,6 @@ pub trait Folder {
         ensures memory { IsErrOf result WriteFault.Memory → Rose (shortages self.old) (shortages self.new) }
         ensures settled { result ≢ Err WriteFault.Failed →
             StaysWhereTold (held self.old) (faults self.old) (faults self.new) }
-        ensures ample { result ≢ Err WriteFault.Memory → shortages self.new ≡ shortages self.old };
+        ensures ample { result ≢ Err WriteFault.Memory → shortages self.new ≡ shortages self.old }
+        ensures reads { reads self.new ≡ reads self.old };
 }

@@ -8,7 +8,7 @@ mod put;
 mod sink;
 mod standard;
 
-pub use folder::{Folder, LONGEST_READ, ReadFault, WriteFault};
+pub use folder::{Folder, LONGEST_READ, ReadFault, WriteFault, longest_read};
 pub use memory::{MemFolder, MemSink, SureSink};
 pub use put::{PutCause, PutFault, put_all};
 pub use sink::{Sink, SinkFault, pieces_join};

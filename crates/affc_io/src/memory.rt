@@ -1,10 +1,10 @@
 // A folder and two sinks in memory, which tell all that they hold. Their calls say exactly what they do.
-ghost use Rattle.std.specs.Prelude.{◌≡◌, ◌≢◌, ◌≤◌, ◌↔◌, ◌++◌, [], Some, None, List, ℕ, IfOk, IfErr, OnOk, IsErrOf, IsTrue, length};
+ghost use Rattle.std.specs.Prelude.{◌≡◌, ◌≢◌, ◌≤◌, ◌↔◌, ◌++◌, [], Some, None, List, ℕ, IfOk, IfErr, OnOk, IsErrOf, IsTrue, length, map};
 ghost use Rattle.affc_io.specs.Answers.{read_failed, read_short, write_failed, write_short, sink_failed, sink_short};
 ghost use Rattle.affc_io.specs.Count.{raised, counted};
 ghost use Rattle.affc_io.specs.Files.{TooLong};
-ghost use Rattle.affc_io.specs.Memory.{held_in};
-ghost use Rattle.affc_io.specs.Parts.{folder_files, folder_fails, folder_calls, folder_faults, folder_shortages, mem_bytes, mem_first, mem_fails, mem_calls, mem_faults, mem_shortages, sure_bytes, sure_shortages, is_listed, share_of, emptied};
+ghost use Rattle.affc_io.specs.Memory.{held_in, named_bytes, stored};
+ghost use Rattle.affc_io.specs.Parts.{folder_files, folder_fails, folder_calls, folder_faults, folder_shortages, folder_reads, mem_bytes, mem_first, mem_fails, mem_calls, mem_faults, mem_shortages, sure_bytes, sure_shortages, is_listed, share_of, emptied};
 ghost use Rattle.affc_io.specs.Taken.{taken_of};
 
 use crate::files::{NamedFile, empty, fetch, store};
@@ -19,6 +19,7 @@ pub struct MemFolder {
     calls: u64,
     faults: u64,
     shortages: u64,
+    reads: u64,
 }
 
 impl MemFolder {
@@ -29,6 +30,7 @@ impl MemFolder {
         ensures calls { folder_calls result ≡ 0 }
         ensures faults { folder_faults result ≡ 0 }
         ensures shortages { folder_shortages result ≡ 0 }
+        ensures reads { folder_reads result ≡ 0 }
     {
         MemFolder {
             files,
@@ -36,6 +38,7 @@ impl MemFolder {
             calls: 0,
             faults: 0,
             shortages: 0,
+            reads: 0,
         }
     }
 
@@ -54,6 +57,8 @@ impl Folder for MemFolder {
 
     ghost shortages = { folder_shortages };
 
+    ghost reads = { folder_reads };
+
     fn read(&mut self, alloc: Global, name: &str) -> Result<Vec<u8>, ReadFault>
         ensures failed { IsErrOf result ReadFault.Failed ↔ IsTrue (is_listed (folder_fails self.old) (folder_calls self.old)) }
         ensures ok { IfOk result (λ bytes. held_in (folder_files self.old) name.now ≡ Some bytes.items) }
@@ -65,7 +70,9 @@ impl Folder for MemFolder {
         ensures calls { folder_calls self.new ≡ raised (folder_calls self.old) }
         ensures faults { folder_faults self.new ≡ counted (read_failed result) (folder_faults self.old) }
         ensures shortages { folder_shortages self.new ≡ counted (read_short result) (folder_shortages self.old) }
+        ensures reads { folder_reads self.new ≡ raised (folder_reads self.old) }
     {
+        self.reads = self.reads.saturating_add(1);
         if next_fails(&self.fails, &mut self.calls) {
             self.faults = self.faults.saturating_add(1);
             return Err(ReadFault::Failed);
@@ -87,6 +94,8 @@ impl Folder for MemFolder {
         ensures calls { folder_calls self.new ≡ raised (folder_calls self.old) }
         ensures faults { folder_faults self.new ≡ counted (write_failed result) (folder_faults self.old) }
         ensures shortages { folder_shortages self.new ≡ counted (write_short result) (folder_shortages self.old) }
+        ensures reads { folder_reads self.new ≡ folder_reads self.old }
+        ensures order { OnOk result (map named_bytes (folder_files self.new) ≡ stored (map named_bytes (folder_files self.old)) name.now bytes.now) }
     {
         if next_fails(&self.fails, &mut self.calls) {
             self.faults = self.faults.saturating_add(1);

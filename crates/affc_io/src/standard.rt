@@ -13,17 +13,20 @@ pub struct StdFolder<R> {
     files: R,
     faults: u64,
     shortages: u64,
+    reads: u64,
 }
 
 impl<R: Files> StdFolder<R> {
     pub fn new(files: R) -> StdFolder<R>
         ensures faults { ⟦<StdFolder<R> as Folder>⟧.faults result ≡ 0 }
         ensures shortages { ⟦<StdFolder<R> as Folder>⟧.shortages result ≡ 0 }
+        ensures reads { ⟦<StdFolder<R> as Folder>⟧.reads result ≡ 0 }
     {
         StdFolder {
             files,
             faults: 0,
             shortages: 0,
+            reads: 0,
         }
     }
 }
@@ -62,7 +65,10 @@ impl<R: Files> Folder for StdFolder<R> {
 
     ghost shortages = { λ f. f.shortages };
 
+    ghost reads = { λ f. f.reads };
+
     fn read(&mut self, alloc: Global, name: &str) -> Result<Vec<u8>, ReadFault> {
+        self.reads = self.reads.saturating_add(1);
         let answer = read_answer(contents(&self.files, alloc, name));
         match answer {
             Ok(_) => {}
