@@ -1,13 +1,17 @@
 -- How a command ends, from what it made and what became of that at the two sinks.
-use Rattle.std.proofs.Common.{Vec, ◌≡◌, ◌≢◌, ◌⊎◌, ℕ, List, [], Option, None, Some, MatchOption, Result, Ok, Err, IfOk, IfErr, Contains, refl, ap, sym, subst, ◌∙◌, inl, inr, arith, lit<}
+use Rattle.std.proofs.Common.{Vec, String, ◌≡◌, ◌≢◌, ◌≤◌, ◌⊎◌, ℕ, List, [], Option, None, Some, MatchOption, Result, Ok, Err, IfOk, IfErr, OnOk, Contains, refl, ap, sym, subst, ◌∙◌, inl, inr, arith, lit<}
 use Rattle.std.specs.declared.alloc.Global.{Global}
+use Rattle.std.specs.IoError.{error_kind}
+use Rattle.std.specs.declared.io.Error.{Error}
+use Rattle.std.specs.declared.io.ErrorKind.{ErrorKind}
+use Rattle.std.specs.declared.io.ErrorKind.TheVariants.{OutOfMemory}
 use Rattle.affc_io.specs.Front.{IsFront}
 use Rattle.affc_io.specs.Taken.{grown}
-use Rattle.affc_cli.specs.Command.{Command, Fold, Run, command_of}
-use Rattle.affc_cli.specs.Outside.{Outside, FolderState, SinkState, Keeps, Told}
-use Rattle.affc_cli.specs.Promise.{FoldPromises, RunPromises, Promises, Cause, statuses_of, refusal_line, WrittenInPart, Runs, WordsRefused, Serves}
+use Rattle.affc_cli.specs.Command.{Command, Fold, Run, command_of, texts_of}
+use Rattle.affc_cli.specs.Outside.{Outside, FolderState, SinkState, Keeps, Told, IsRead, IsReadAtMost}
+use Rattle.affc_cli.specs.Promise.{FoldPromises, RunPromises, Promises, Cause, files_of, statuses_of, refusal_line, WrittenInPart, Runs, IsSaid, WordsRefused, Serves, ServesGiven}
 use Rattle.affc_cli.specs.Refusal.{status_of, line_of, FoldCause, RunCause, file_of}
-use Rattle.affc_cli.specs.Telling.{IsTold, IsPut, IsPutShort, IsPutFailed, Ends}
+use Rattle.affc_cli.specs.Telling.{IsTold, IsPut, IsPutShort, IsPutFailed, Ends, HasRead}
 use Rattle.affc_cli.specs.declared.refusal.Refusal.{Refusal}
 use Rattle.affc_cli.specs.declared.refusal.Refusal.TheVariants.{Words, Read, Long, ReadData, LongData, Source, Stuck, Memory, Steps, Data, Unbuilt}
 use Rattle.affc_cli.proofs.Telling.{grown-nil}
@@ -65,6 +69,10 @@ memory_cause : (command : Command) (before now : FolderState) → Cause command 
 memory_cause (Fold source) before now = tt
 memory_cause (Run source feed limit) before now = tt
 
+-- want of memory in place of a refusal
+memory_reads : (command : Command) (before now : FolderState) → IsReadAtMost (files_of command) before now → HasRead command Memory before now
+memory_reads command before now few = record { exact = λ other. absurd (other refl); few = few }
+
 ends_with_0 : (command : Command) → Contains (statuses_of command) 0
 ends_with_0 (Fold source) = (0, lit< tt, refl)
 ends_with_0 (Run source feed limit) = (0, lit< tt, refl)
@@ -104,54 +112,63 @@ ends_with (Run source feed limit) Unbuilt before now cause = absurd cause
 -- ---- Refused
 
 refused_runs : (command : Command) (refusal : Refusal) (before now : Outside) (status : ℕ) → status ≡ status_of refusal
-    → Cause command refusal before.folder now.folder → now.out.taken ≡ before.out.taken
+    → Cause command refusal before.folder now.folder → HasRead command refusal before.folder now.folder → now.out.taken ≡ before.out.taken
     → Told before.err.taken before.err now.err (refusal_line command refusal) → Keeps before now
     → Runs command before now status
-refused_runs command refusal before now status is cause out told keeps = record {
+refused_runs command refusal before now status is cause reads out told keeps = record {
   answers = subst (Contains (statuses_of command)) (sym is) (ends_with command refusal before.folder now.folder cause);
   keeps = keeps;
   done = λ e. absurd (not_zero refusal (sym is ∙ e));
   short = λ e. inl (record {
+    reads = reads.few;
     out = out;
     told = subst (Told before.err.taken before.err now.err) (ap (refusal_line command) (is_memory refusal (sym is ∙ e)) ∙ short_line command) told;
   });
   failed = λ e. absurd (not_ten refusal (sym is ∙ e));
-  refused = λ _ _ _. record { refusal = refusal; is_status = is; cause = cause; out = out; told = told };
+  refused = λ _ other _. record {
+    refusal = refusal;
+    is_status = is;
+    cause = cause;
+    reads = reads.exact (λ e. other (is ∙ ap status_of e));
+    out = out;
+    told = told;
+  };
 }
 
 -- the refusal was told, or want of memory in its place
 told_runs : (command : Command) (refusal : Refusal) (name : List ℕ) (before now : Outside) (status : ℕ)
-    → Cause command refusal before.folder now.folder → line_of refusal name ≡ refusal_line command refusal
+    → Cause command refusal before.folder now.folder → HasRead command refusal before.folder now.folder → line_of refusal name ≡ refusal_line command refusal
     → now.out.taken ≡ before.out.taken → IsTold refusal name before.err now.err status → Keeps before now → Runs command before now status
-told_runs command refusal name before now status cause line out told keeps = of told.is
+told_runs command refusal name before now status cause reads line out told keeps = of told.is
   where
     of : (told.said ≡ refusal) ⊎ (told.said ≡ Memory) → Runs command before now status
     of (inl e) =
-        refused_runs command refusal before now status (told.is_status ∙ ap status_of e) cause out
+        refused_runs command refusal before now status (told.is_status ∙ ap status_of e) cause reads out
         (subst (Told before.err.taken before.err now.err) (ap (λ r. line_of r name) e ∙ line) told.told) keeps
     of (inr e) =
-        refused_runs command Memory before now status (told.is_status ∙ ap status_of e) (memory_cause command before.folder now.folder) out
+        refused_runs command Memory before now status (told.is_status ∙ ap status_of e) (memory_cause command before.folder now.folder) (memory_reads command before.folder now.folder reads.few) out
         (subst (Told before.err.taken before.err now.err) (ap (λ r. line_of r name) e ∙ memory_line command name) told.told) keeps
 
 -- ---- Written
 
 -- a front of the text went out
-in_part : (command : Command) (before : Outside) (text front : List ℕ) (out : Option (List ℕ)) → Promises command before.folder.held text []
-    → IsFront text front → out ≡ grown before.out.taken front → WrittenInPart command before out before.err.taken
-in_part command before text front out promised is_front took = record {
+in_part : (command : Command) (before now : Outside) (text front : List ℕ) → Promises command before.folder.held text [] → IsRead (files_of command) before.folder now.folder
+    → IsFront text front → front ≢ text → now.out.taken ≡ grown before.out.taken front → WrittenInPart command before now
+in_part command before now text front promised reads is_front cut took = record {
   text = text;
   report = [];
   promised = promised;
-  to_out = front;
-  to_err = [];
-  up_to = inl (is_front, refl);
-  out_is = took;
-  err_is = sym (grown-nil before.err.taken);
+  reads = reads;
+  front = front;
+  is_front = is_front;
+  cut = cut;
+  out = took;
 }
 
 put_runs : (command : Command) (before now : Outside) (status : ℕ) (text : List ℕ) → Promises command before.folder.held text []
+    → IsRead (files_of command) before.folder now.folder
     → IsPut text before.out now.out before.err now.err status → Keeps before now → Runs command before now status
-put_runs command before now status text promised put keeps =
+put_runs command before now status text promised reads put keeps =
     let is = put.is_status in
     record {
       answers = subst (Contains (statuses_of command)) (sym is) (ends_with_0 command);
@@ -160,6 +177,7 @@ put_runs command before now status text promised put keeps =
         text = text;
         report = [];
         promised = promised;
+        reads = reads;
         out = put.taken;
         err = put.silent ∙ sym (grown-nil before.err.taken);
       };
@@ -169,26 +187,27 @@ put_runs command before now status text promised put keeps =
     }
 
 short_runs : (command : Command) (before now : Outside) (status : ℕ) (text : List ℕ) → Promises command before.folder.held text []
+    → IsRead (files_of command) before.folder now.folder
     → IsPutShort text before.out now.out before.err now.err status → Keeps before now → Runs command before now status
-short_runs command before now status text promised put keeps =
+short_runs command before now status text promised reads put keeps =
     let is = put.is_status in
     record {
       answers = subst (Contains (statuses_of command)) (sym is) (ends_with_9 command);
       keeps = keeps;
       done = λ e. absurd (omega arith);
       short = λ _. inr (record {
-        err = before.err.taken;
-        written = in_part command before text put.front now.out.taken promised put.is_front put.taken;
+        written = in_part command before now text put.front promised reads put.is_front put.cut put.taken;
+        short = put.short;
         told = put.told;
-        short = inr (inl put.short);
       });
       failed = λ e. absurd (omega arith);
       refused = λ _ other _. absurd (other is);
     }
 
 failed_runs : (command : Command) (before now : Outside) (status : ℕ) (text : List ℕ) → Promises command before.folder.held text []
+    → IsRead (files_of command) before.folder now.folder
     → IsPutFailed text before.out now.out before.err now.err status → Keeps before now → Runs command before now status
-failed_runs command before now status text promised put keeps =
+failed_runs command before now status text promised reads put keeps =
     let is = put.is_status in
     record {
       answers = subst (Contains (statuses_of command)) (sym is) (ends_with_10 command);
@@ -196,72 +215,107 @@ failed_runs command before now status text promised put keeps =
       done = λ e. absurd (omega arith);
       short = λ e. absurd (omega arith);
       failed = λ _. record {
-        written =
-            subst (WrittenInPart command before now.out.taken) (sym put.silent)
-            (in_part command before text put.front now.out.taken promised put.is_front put.taken);
-        fault = inr (inl put.fault);
+        written = in_part command before now text put.front promised reads put.is_front put.cut put.taken;
+        fault = put.fault;
+        silent = put.silent;
       };
       refused = λ _ _ other. absurd (other is);
     }
 
 -- ---- Both
 
--- what a command's refusal needs: its cause, and the line of the file that is meant
+-- what a command's refusal needs: its cause, how often the folder was read, and the line of the file that is meant
 abbrev IsCaused : Command → (name : List ℕ) → (before now : Outside) → Refusal → Type 0
-IsCaused command name before now refusal = Cause command refusal before.folder now.folder × (line_of refusal name ≡ refusal_line command refusal)
+IsCaused command name before now refusal =
+    Cause command refusal before.folder now.folder × (HasRead command refusal before.folder now.folder × (line_of refusal name ≡ refusal_line command refusal))
 
 ends_runs : (command : Command) (name : List ℕ) (before now : Outside) (status : ℕ) (made : Result (Vec ℕ Global) Refusal)
-    → IfOk made (λ text. Promises command before.folder.held text.items []) → IfErr made (IsCaused command name before now)
+    → IfOk made (λ text. Promises command before.folder.held text.items []) → OnOk made (IsRead (files_of command) before.folder now.folder)
+    → IfErr made (IsCaused command name before now)
     → Ends made name before.out now.out before.err now.err status → Keeps before now → Runs command before now status
-ends_runs command name before now status (Ok text) promised cause (inl put) keeps = put_runs command before now status text.items promised put keeps
-ends_runs command name before now status (Ok text) promised cause (inr (inl put)) keeps = short_runs command before now status text.items promised put keeps
-ends_runs command name before now status (Ok text) promised cause (inr (inr put)) keeps = failed_runs command before now status text.items promised put keeps
-ends_runs command name before now status (Err refusal) promised cause told keeps =
-    told_runs command refusal name before now status cause.0 cause.1 told.untouched told.told keeps
+ends_runs command name before now status (Ok text) promised reads cause (inl put) keeps = put_runs command before now status text.items promised reads put keeps
+ends_runs command name before now status (Ok text) promised reads cause (inr (inl put)) keeps = short_runs command before now status text.items promised reads put keeps
+ends_runs command name before now status (Ok text) promised reads cause (inr (inr put)) keeps = failed_runs command before now status text.items promised reads put keeps
+ends_runs command name before now status (Err refusal) promised reads cause told keeps =
+    told_runs command refusal name before now status cause.0 cause.1.0 cause.1.1 told.untouched told.told keeps
 
-fold_caused : (name : List ℕ) (before now : Outside) (made : Result (Vec ℕ Global) Refusal)
+-- one of one file
+one_of_one : 1 ≤ 1
+one_of_one = omega arith
+
+fold_caused : (name : List ℕ) (before now : Outside) (made : Result (Vec ℕ Global) Refusal) → IsRead 1 before.folder now.folder
     → IfErr made (λ refusal. FoldCause refusal name before.folder now.folder) → IfErr made (IsCaused (Fold name) name before now)
-fold_caused name before now (Ok text) cause = tt
-fold_caused name before now (Err refusal) cause = (cause, refl)
+fold_caused name before now (Ok text) reads cause = tt
+fold_caused name before now (Err refusal) reads cause = (cause, (record { exact = λ _. reads; few = (1, (one_of_one, reads)) }, refl))
+
+fold_read : (before now : Outside) (made : Result (Vec ℕ Global) Refusal) → IsRead 1 before.folder now.folder → OnOk made (IsRead 1 before.folder now.folder)
+fold_read before now (Ok text) reads = reads
+fold_read before now (Err refusal) reads = tt
 
 run_caused : (source feed : List ℕ) (limit : ℕ) (name : List ℕ) (before now : Outside) (made : Result (Vec ℕ Global) Refusal)
-    → IfErr made (λ refusal. RunCause refusal source feed limit before.folder now.folder) → IfErr made (λ refusal. name ≡ file_of refusal source feed)
+    → IfErr made (λ refusal. RunCause refusal source feed limit before.folder now.folder)
+    → IfErr made (λ refusal. HasRead (Run source feed limit) refusal before.folder now.folder) → IfErr made (λ refusal. name ≡ file_of refusal source feed)
     → IfErr made (IsCaused (Run source feed limit) name before now)
-run_caused source feed limit name before now (Ok text) cause is = tt
-run_caused source feed limit name before now (Err refusal) cause is = (cause, ap (line_of refusal) is)
+run_caused source feed limit name before now (Ok text) cause reads is = tt
+run_caused source feed limit name before now (Err refusal) cause reads is = (cause, (reads, ap (line_of refusal) is))
 
 pub fold_ends : (name : List ℕ) (before now : Outside) (status : ℕ) (made : Result (Vec ℕ Global) Refusal)
     → IfOk made (λ text. FoldPromises name before.folder.held text.items []) → IfErr made (λ refusal. FoldCause refusal name before.folder now.folder)
+    → IsRead 1 before.folder now.folder
     → Ends made name before.out now.out before.err now.err status → Keeps before now → Runs (Fold name) before now status
-fold_ends name before now status made promised cause ends keeps =
-    ends_runs (Fold name) name before now status made promised (fold_caused name before now made cause) ends keeps
+fold_ends name before now status made promised cause reads ends keeps =
+    ends_runs (Fold name) name before now status made promised (fold_read before now made reads) (fold_caused name before now made reads cause) ends keeps
 
 pub run_ends : (source feed : List ℕ) (limit : ℕ) (name : List ℕ) (before now : Outside) (status : ℕ) (made : Result (Vec ℕ Global) Refusal)
-    → IfOk made (λ text. RunPromises source feed limit before.folder.held text.items [])
-    → IfErr made (λ refusal. RunCause refusal source feed limit before.folder now.folder) → IfErr made (λ refusal. name ≡ file_of refusal source feed)
+    → IfOk made (λ text. RunPromises source feed limit before.folder.held text.items []) → OnOk made (IsRead 2 before.folder now.folder)
+    → IfErr made (λ refusal. RunCause refusal source feed limit before.folder now.folder)
+    → IfErr made (λ refusal. HasRead (Run source feed limit) refusal before.folder now.folder) → IfErr made (λ refusal. name ≡ file_of refusal source feed)
     → Ends made name before.out now.out before.err now.err status → Keeps before now → Runs (Run source feed limit) before now status
-run_ends source feed limit name before now status made promised cause is ends keeps =
-    ends_runs (Run source feed limit) name before now status made promised (run_caused source feed limit name before now made cause is) ends keeps
+run_ends source feed limit name before now status made promised reads cause refused_reads is ends keeps =
+    ends_runs (Run source feed limit) name before now status made promised reads (run_caused source feed limit name before now made cause refused_reads is) ends keeps
 
 -- ---- Words that are no command form, and want of memory for the words
 
-pub words_serves : (words : List (List ℕ)) (before now : Outside) (status : ℕ) → None ≡ command_of words → status ≡ 2 → now.folder ≡ before.folder → now.out ≡ before.out
-    → Told before.err.taken before.err now.err (line_of Words []) → Keeps before now → Serves words before now status
-words_serves words before now status none is folder out told keeps =
-    let P : Option Command → Type 0 = λ o. MatchOption o (WordsRefused before now status) (λ command. Runs command before now status) in
-    subst P none (record { said = Words; is = inl refl; answers = is; keeps = keeps; folder = folder; out = out; told = told })
+pub said : (refusal : Refusal) (before now : Outside) (status : ℕ) → status ≡ status_of refusal → now.folder ≡ before.folder → now.out ≡ before.out
+    → Told before.err.taken before.err now.err (line_of refusal []) → Keeps before now → IsSaid refusal before now status
+said refusal before now status is folder out told keeps = record { is_status = is; keeps = keeps; folder = folder; out = out; told = told }
 
-pub short_serves : (words : List (List ℕ)) (before now : Outside) (status : ℕ) → status ≡ 9 → now.folder ≡ before.folder → now.out ≡ before.out
-    → Told before.err.taken before.err now.err (line_of Memory []) → Keeps before now → Serves words before now status
-short_serves words before now status is folder out told keeps = go (command_of words)
+pub words_serves : (words : List (List ℕ)) (before now : Outside) (status : ℕ) → None ≡ command_of words → IsSaid Words before now status → Serves words before now status
+words_serves words before now status none is =
+    let P : Option Command → Type 0 = λ o. MatchOption o (WordsRefused before now status) (λ command. Runs command before now status) in
+    subst P none (inl is)
+
+pub short_serves : (words : List (List ℕ)) (before now : Outside) (status : ℕ) → IsSaid Memory before now status → Serves words before now status
+short_serves words before now status is = go (command_of words)
   where
     go : (o : Option Command) → MatchOption o (WordsRefused before now status) (λ command. Runs command before now status)
-    go None = record { said = Memory; is = inr refl; answers = is; keeps = keeps; folder = folder; out = out; told = told }
-    go (Some command) = record {
-      answers = subst (Contains (statuses_of command)) (sym is) (ends_with_9 command);
-      keeps = keeps;
+    go None = inr is
+    go (Some command) = let nine : status ≡ 9 = is.is_status in record {
+      answers = subst (Contains (statuses_of command)) (sym nine) (ends_with_9 command);
+      keeps = is.keeps;
       done = λ e. absurd (omega arith);
-      short = λ _. inl (record { out = ap (λ (o : SinkState). o.taken) out; told = told });
+      short = λ _. inl (record {
+        reads = (0, (omega arith, ap (λ (f : FolderState). f.reads) is.folder));
+        out = ap (λ (o : SinkState). o.taken) is.out;
+        told = is.told;
+      });
       failed = λ e. absurd (omega arith);
-      refused = λ _ other _. absurd (other is);
+      refused = λ _ other _. absurd (other nine);
     }
+
+-- ---- Words as the system gives them
+
+pub served_given : (given : Result (Vec (String Global) Global) Error) (words : Vec (String Global) Global) (slice : List (String Global)) (before now : Outside) (status : ℕ)
+    → given ≡ Ok words → slice ≡ words.items → Serves (texts_of slice) before now status → ServesGiven given before now status
+served_given given words slice before now status is same serves =
+    subst (λ w. ServesGiven w before now status) (sym is) (subst (λ l. Serves (texts_of l) before now status) same serves)
+
+pub short_given : (given : Result (Vec (String Global) Global) Error) (error : Error) (kind : ErrorKind) (before now : Outside) (status : ℕ)
+    → given ≡ Err error → kind ≡ error_kind error → kind ≡ OutOfMemory → IsSaid Memory before now status → ServesGiven given before now status
+short_given given error kind before now status is its short said_so =
+    subst (λ w. ServesGiven w before now status) (sym is) (record { short = λ _. said_so; others = λ other. absurd (other (sym its ∙ short)) })
+
+pub words_given : (given : Result (Vec (String Global) Global) Error) (error : Error) (kind : ErrorKind) (before now : Outside) (status : ℕ)
+    → given ≡ Err error → kind ≡ error_kind error → kind ≢ OutOfMemory → IsSaid Words before now status → ServesGiven given before now status
+words_given given error kind before now status is its other said_so =
+    subst (λ w. ServesGiven w before now status) (sym is) (record { short = λ e. absurd (other (its ∙ e)); others = λ _. said_so })

@@ -4,6 +4,7 @@ pub mod Telling
 pub mod Ending
 pub mod Executed
 pub mod Reading
+pub mod ReadCounts
 pub mod Folded
 pub mod Forms
 pub mod Clap

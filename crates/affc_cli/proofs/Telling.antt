@@ -1,6 +1,6 @@
 -- A line on err, written piece by piece.
-use Rattle.std.proofs.Common.{Vec, ◌≡◌, ◌<◌, ◌≤◌, ◌++◌, ℕ, List, [], codes, subst, Option, Some, None, Result, Ok, Err, IfErr, take, drop, refl, ap, sym, ◌∙◌, append_assoc, inl, inr, arith}
-use Rattle.std.proofs.lemmas.List.{take-append-drop, append-nil}
+use Rattle.std.proofs.Common.{Vec, ◌≡◌, ◌≢◌, ◌<◌, ◌≤◌, ◌++◌, ℕ, List, [], codes, subst, Option, Some, None, Result, Ok, Err, IfErr, length, take, drop, refl, ap, sym, ◌∙◌, append_assoc, inl, inr, arith}
+use Rattle.std.proofs.lemmas.List.{take-append-drop, append-nil, length-take}
 use Rattle.std.specs.declared.alloc.Global.{Global}
 use Rattle.affc_io.specs.Count.{Rose}
 use Rattle.affc_io.specs.Front.{IsFront}
@@ -109,27 +109,33 @@ made_line shown text line e f = ap (λ x. x ++ codes "\n") (append-nil shown ∙
 
 -- ---- A command's text, put whole or in part
 
-pub failed_ends : {T : Type 0} (made : Result (Vec ℕ Global) Refusal) (text : Vec ℕ Global) (name slice : List ℕ) (r : Result T PutFault) (out now_out err : SinkState)
-    → made ≡ Ok text → slice ≡ text.items → now_out.taken ≡ grown out.taken (put_of r slice) → Rose out.faults now_out.faults
+-- a front that a put left off within the piece isn't the piece
+cut_of : (fault : PutFault) (piece : List ℕ) → fault.written < length piece → take fault.written piece ≢ piece
+cut_of fault piece within e = let same : length (take fault.written piece) ≡ length piece = ap length e in absurd (omega (arith, same, length-take fault.written piece, within))
+
+pub failed_ends : (made : Result (Vec ℕ Global) Refusal) (text : Vec ℕ Global) (name slice : List ℕ) (fault : PutFault) (out now_out err : SinkState)
+    → made ≡ Ok text → slice ≡ text.items → now_out.taken ≡ grown out.taken (take fault.written slice) → fault.written < length slice → Rose out.faults now_out.faults
     → Ends made name out now_out err err 10
-failed_ends made text name slice r out now_out err is same took fault =
+failed_ends made text name slice fault out now_out err is same took within failed =
     subst (λ m. Ends m name out now_out err err 10) (sym is) (inr (inr (record {
       is_status = refl;
-      front = put_of r slice;
-      is_front = subst (λ l. IsFront l (put_of r slice)) same (front_of_put r slice);
+      front = take fault.written slice;
+      is_front = subst (λ l. IsFront l (take fault.written slice)) same (front_of_put {T = ℕ} (Err fault) slice);
+      cut = λ e. cut_of fault slice within (e ∙ sym same);
       taken = took;
-      fault = fault;
+      fault = failed;
       silent = refl;
     })))
 
-pub short_ends : {T : Type 0} (made : Result (Vec ℕ Global) Refusal) (text : Vec ℕ Global) (name slice : List ℕ) (r : Result T PutFault) (out now_out err now_err : SinkState) (status : ℕ)
-    → made ≡ Ok text → slice ≡ text.items → now_out.taken ≡ grown out.taken (put_of r slice) → Rose out.shortages now_out.shortages
+pub short_ends : (made : Result (Vec ℕ Global) Refusal) (text : Vec ℕ Global) (name slice : List ℕ) (fault : PutFault) (out now_out err now_err : SinkState) (status : ℕ)
+    → made ≡ Ok text → slice ≡ text.items → now_out.taken ≡ grown out.taken (take fault.written slice) → fault.written < length slice → Rose out.shortages now_out.shortages
     → status ≡ 9 → Told err.taken err now_err (line_of Short []) → Ends made name out now_out err now_err status
-short_ends made text name slice r out now_out err now_err status is same took short is_status told =
+short_ends made text name slice fault out now_out err now_err status is same took within short is_status told =
     subst (λ m. Ends m name out now_out err now_err status) (sym is) (inr (inl (record {
       is_status = is_status;
-      front = put_of r slice;
-      is_front = subst (λ l. IsFront l (put_of r slice)) same (front_of_put r slice);
+      front = take fault.written slice;
+      is_front = subst (λ l. IsFront l (take fault.written slice)) same (front_of_put {T = ℕ} (Err fault) slice);
+      cut = λ e. cut_of fault slice within (e ∙ sym same);
       taken = took;
       short = short;
       told = told;

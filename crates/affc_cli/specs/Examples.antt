@@ -38,6 +38,7 @@ abbrev pub WordsAreWhole : Type 0
 WordsAreWhole = AreNone (
     ([] ∷ [])
     ∷ (codes "fold" ∷ [] ∷ [])
+    ∷ (codes "run" ∷ [] ∷ codes "b" ∷ [])
     ∷ (codes "fold" ∷ codes "--" ∷ [] ∷ [])
     ∷ (codes "fold" ∷ codes "-" ∷ [])
     ∷ (codes "fold" ∷ codes "-x" ∷ [])
@@ -49,6 +50,7 @@ WordsAreWhole = AreNone (
 abbrev pub OptionsAreTheForms : Type 0
 OptionsAreTheForms = AreNone (
     (codes "fold" ∷ codes "a" ∷ codes "--steps" ∷ codes "5" ∷ [])
+    ∷ (codes "fold" ∷ codes "a" ∷ codes "--=b" ∷ [])
     ∷ (codes "run" ∷ codes "a" ∷ codes "b" ∷ codes "--step=5" ∷ [])
     ∷ (codes "run" ∷ codes "a" ∷ codes "b" ∷ codes "--steps" ∷ [])
     ∷ (codes "run" ∷ codes "a" ∷ codes "--steps" ∷ codes "--" ∷ codes "b" ∷ [])
@@ -88,10 +90,14 @@ OptionsStandAnywhere = map command_of (
     (codes "run" ∷ codes "a" ∷ codes "--steps=5" ∷ codes "b" ∷ [])
     ∷ (codes "run" ∷ codes "--steps" ∷ codes "5" ∷ codes "a" ∷ codes "b" ∷ [])
     ∷ (codes "run" ∷ codes "a" ∷ codes "b" ∷ codes "--steps" ∷ codes "007" ∷ [])
+    ∷ (codes "run" ∷ codes "a" ∷ codes "b" ∷ codes "--steps" ∷ codes "1" ∷ [])
+    ∷ (codes "run" ∷ codes "a" ∷ codes "b" ∷ codes "--steps" ∷ codes "0000000000000000007" ∷ [])
     ∷ (codes "run" ∷ codes "a" ∷ codes "--steps=1000000000000" ∷ codes "--" ∷ codes "--steps=5" ∷ [])
     ∷ [])
     ≡ Some (Run (codes "a") (codes "b") 5)
     ∷ Some (Run (codes "a") (codes "b") 5)
+    ∷ Some (Run (codes "a") (codes "b") 7)
+    ∷ Some (Run (codes "a") (codes "b") 1)
     ∷ Some (Run (codes "a") (codes "b") 7)
     ∷ Some (Run (codes "a") (codes "--steps=5") 1000000000000)
     ∷ []

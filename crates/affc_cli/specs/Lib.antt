@@ -9,5 +9,5 @@ pub mod Words
 pub mod Stuck
 pub mod Run
 pub mod Refusal
-pub mod Telling
 pub mod Promise
+pub mod Telling

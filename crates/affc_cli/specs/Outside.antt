@@ -1,15 +1,16 @@
 -- The outside at one moment, and what becomes of it in a call.
-use Rattle.std.specs.Prelude.{◌≡◌, ◌≤◌, ◌⊎◌, ℕ, List, Option}
-use Rattle.affc_io.specs.Count.{Rose}
+use Rattle.std.specs.Prelude.{◌≡◌, ◌≤◌, ◌⊎◌, ℕ, zero, suc, List, Option}
+use Rattle.affc_io.specs.Count.{Rose, raised}
 use Rattle.affc_io.specs.Files.{Files}
 use Rattle.affc_io.specs.Front.{IsFront}
 use Rattle.affc_io.specs.Taken.{grown}
 
--- A folder: what its names hold, where it tells that, and its counts of faults and of wants of memory.
+-- A folder: what its names hold, where it tells that, and its counts of faults, of wants of memory and of reads.
 pub record FolderState : Type 0 where
   pub held : Option Files
   pub faults : ℕ
   pub shortages : ℕ
+  pub reads : ℕ
 
 -- A sink: what it has taken, where it tells that, and its counts of faults and of wants of memory.
 pub record SinkState : Type 0 where
@@ -38,6 +39,19 @@ pub record Keeps (before now : Outside) : Type 0 where
   pub out : SinkCounts before.out now.out
   pub err : SinkCounts before.err now.err
 
+-- the count of reads after so many more
+abbrev pub reads_after : (times : ℕ) → (reads : ℕ) → ℕ
+reads_after zero reads = reads
+reads_after (suc times) reads = raised (reads_after times reads)
+
+-- In this call the folder was read so many times.
+abbrev pub IsRead : (times : ℕ) → FolderState → FolderState → Type 0
+IsRead times before now = now.reads ≡ reads_after times before.reads
+
+-- In this call the folder was read at most so many times.
+abbrev pub IsReadAtMost : (most : ℕ) → FolderState → FolderState → Type 0
+IsReadAtMost most before now = (times : ℕ) × ((times ≤ most) × IsRead times before now)
+
 -- In this call a write to the sink failed, or was short of memory.
 abbrev pub Falters : SinkState → SinkState → Type 0
 Falters before now = Rose before.faults now.faults ⊎ Rose before.shortages now.shortages
@@ -48,17 +62,3 @@ pub record Told (start : Option (List ℕ)) (before now : SinkState) (line : Lis
   pub is_front : IsFront line front
   pub taken : now.taken ≡ grown start front
   pub whole : (front ≡ line) ⊎ Falters before now
-
--- a fault was counted in this call
-abbrev pub SomeFault : Outside → Outside → Type 0
-SomeFault before now =
-    Rose before.folder.faults now.folder.faults
-    ⊎ Rose before.out.faults now.out.faults
-    ⊎ Rose before.err.faults now.err.faults
-
--- want of memory was counted in this call, by a folder or a sink
-abbrev pub SomeShortage : Outside → Outside → Type 0
-SomeShortage before now =
-    Rose before.folder.shortages now.folder.shortages
-    ⊎ Rose before.out.shortages now.out.shortages
-    ⊎ Rose before.err.shortages now.err.shortages

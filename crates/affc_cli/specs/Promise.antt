@@ -1,15 +1,21 @@
 -- What the program promises, by the status that it ends with.
-use Rattle.std.specs.Prelude.{◌≡◌, ◌≢◌, ◌⊎◌, ℕ, List, [], ◌∷◌, Option, MatchOption, Contains}
+use Rattle.std.specs.Prelude.{◌≡◌, ◌≢◌, ◌⊎◌, ℕ, List, [], ◌∷◌, Option, MatchOption, Result, Ok, Err, Contains, String, Vec}
+use Rattle.std.specs.declared.alloc.Global.{Global}
+use Rattle.std.specs.IoError.{error_kind}
+use Rattle.std.specs.declared.io.Error.{Error}
+use Rattle.std.specs.declared.io.ErrorKind.{ErrorKind}
+use Rattle.std.specs.declared.io.ErrorKind.TheVariants.{OutOfMemory}
+use Rattle.affc_io.specs.Count.{Rose}
 use Rattle.affc_io.specs.Files.{Files, Holds}
 use Rattle.affc_io.specs.Front.{IsFront}
 use Rattle.affc_io.specs.Taken.{grown}
-use Rattle.affc_cli.specs.Command.{Command, Fold, Run, command_of}
+use Rattle.affc_cli.specs.Command.{Command, Fold, Run, command_of, texts_of}
 use Rattle.affc_cli.specs.Fold.{FoldsTo}
-use Rattle.affc_cli.specs.Outside.{Outside, FolderState, Keeps, Told, SomeFault, SomeShortage}
+use Rattle.affc_cli.specs.Outside.{Outside, FolderState, Keeps, Told, IsRead, IsReadAtMost}
 use Rattle.affc_cli.specs.Refusal.{status_of, line_of, FoldCause, HeldTexts, RunCause, file_of}
 use Rattle.affc_cli.specs.Run.{RunsTo}
 use Rattle.affc_cli.specs.declared.refusal.Refusal.{Refusal}
-use Rattle.affc_cli.specs.declared.refusal.Refusal.TheVariants.{Words, Memory}
+use Rattle.affc_cli.specs.declared.refusal.Refusal.TheVariants.{Words, Read, Long, Memory}
 
 -- The text does what the source does that the name held, where the folder tells what it holds; the report is empty.
 pub record FoldPromises (name : List ℕ) (held : Option Files) (text report : List ℕ) : Type 0 where
@@ -40,79 +46,103 @@ abbrev pub refusal_line : Command → Refusal → List ℕ
 refusal_line (Fold source) refusal = line_of refusal source
 refusal_line (Run source feed limit) refusal = line_of refusal (file_of refusal source feed)
 
+-- How many files a command reads.
+abbrev pub files_of : Command → ℕ
+files_of (Fold source) = 1
+files_of (Run source feed limit) = 2
+
+-- How often a command that is refused so reads the folder: `run` stops at its source where that isn't read.
+abbrev pub reads_of : Command → Refusal → ℕ
+reads_of (Fold source) refusal = 1
+reads_of (Run source feed limit) Read = 1
+reads_of (Run source feed limit) Long = 1
+reads_of (Run source feed limit) refusal = 2
+
 -- When a command is refused so.
 abbrev pub Cause : Command → Refusal → FolderState → FolderState → Type 0
 Cause (Fold source) refusal before now = FoldCause refusal source before now
 Cause (Run source feed limit) refusal before now = RunCause refusal source feed limit before now
 
--- All pieces were written, and nothing else.
+-- Each file was read once, all pieces were written, and nothing else.
 pub record Written (command : Command) (before now : Outside) : Type 0 where
   pub text : List ℕ
   pub report : List ℕ
   pub promised : Promises command before.folder.held text report
+  pub reads : IsRead (files_of command) before.folder now.folder
   pub out : now.out.taken ≡ grown before.out.taken text
   pub err : now.err.taken ≡ grown before.err.taken report
 
--- The pieces up to some place: a front of the text, or the text and a front of the report.
-abbrev pub UpTo : (text report out err : List ℕ) → Type 0
-UpTo text report out err = (IsFront text out × (err ≡ [])) ⊎ ((out ≡ text) × IsFront report err)
-
--- The pieces were written up to some place. `out` and `err` are what the two sinks have taken then.
-pub record WrittenInPart (command : Command) (before : Outside) (out err : Option (List ℕ)) : Type 0 where
+-- Each file was read once, and a front of the text was written, which isn't the whole.
+pub record WrittenInPart (command : Command) (before now : Outside) : Type 0 where
   pub text : List ℕ
   pub report : List ℕ
   pub promised : Promises command before.folder.held text report
-  pub to_out : List ℕ
-  pub to_err : List ℕ
-  pub up_to : UpTo text report to_out to_err
-  pub out_is : out ≡ grown before.out.taken to_out
-  pub err_is : err ≡ grown before.err.taken to_err
+  pub reads : IsRead (files_of command) before.folder now.folder
+  pub front : List ℕ
+  pub is_front : IsFront text front
+  pub cut : front ≢ text
+  pub out : now.out.taken ≡ grown before.out.taken front
 
 -- Nothing went to out, and err got the line of a refusal that has this status and its cause.
 pub record IsRefused (command : Command) (before now : Outside) (status : ℕ) : Type 0 where
   pub refusal : Refusal
   pub is_status : status ≡ status_of refusal
   pub cause : Cause command refusal before.folder now.folder
+  pub reads : IsRead (reads_of command refusal) before.folder now.folder
   pub out : now.out.taken ≡ before.out.taken
   pub told : Told before.err.taken before.err now.err (refusal_line command refusal)
 
 -- Memory was short before the first piece was begun; nothing went to out, and err got the line.
-pub record ShortBefore (before now : Outside) : Type 0 where
+pub record ShortBefore (command : Command) (before now : Outside) : Type 0 where
+  pub reads : IsReadAtMost (files_of command) before.folder now.folder
   pub out : now.out.taken ≡ before.out.taken
   pub told : Told before.err.taken before.err now.err (line_of Memory [])
 
--- A sink was short of memory while a piece was written; err got the line behind that.
+-- out was short of memory while a piece was written; err got the line behind that.
 pub record ShortWithin (command : Command) (before now : Outside) : Type 0 where
-  pub err : Option (List ℕ)
-  pub written : WrittenInPart command before now.out.taken err
-  pub told : Told err before.err now.err (line_of Memory [])
-  pub short : SomeShortage before now
+  pub written : WrittenInPart command before now
+  pub short : Rose before.out.shortages now.out.shortages
+  pub told : Told before.err.taken before.err now.err (line_of Memory [])
 
--- A write failed; the pieces end there, and no line is written.
+-- A write to out failed; the pieces end there, and no line is written.
 pub record Failed (command : Command) (before now : Outside) : Type 0 where
-  pub written : WrittenInPart command before now.out.taken now.err.taken
-  pub fault : SomeFault before now
+  pub written : WrittenInPart command before now
+  pub fault : Rose before.out.faults now.out.faults
+  pub silent : now.err.taken ≡ before.err.taken
 
 -- What a command does, by its status: done, short of memory, failed in writing, or refused.
 pub record Runs (command : Command) (before now : Outside) (status : ℕ) : Type 0 where
   pub answers : Contains (statuses_of command) status
   pub keeps : Keeps before now
   pub done : status ≡ 0 → Written command before now
-  pub short : status ≡ 9 → ShortBefore before now ⊎ ShortWithin command before now
+  pub short : status ≡ 9 → ShortBefore command before now ⊎ ShortWithin command before now
   pub failed : status ≡ 10 → Failed command before now
   pub refused : status ≢ 0 → status ≢ 9 → status ≢ 10 → IsRefused command before now status
 
--- What words get that are no command form: status 2 and its line, or those of want of memory.
-pub record WordsRefused (before now : Outside) (status : ℕ) : Type 0 where
-  pub said : Refusal
-  pub is : (said ≡ Words) ⊎ (said ≡ Memory)
-  pub answers : status ≡ status_of said
+-- Nothing was read, nothing went to out, and err got this refusal's line.
+pub record IsSaid (said : Refusal) (before now : Outside) (status : ℕ) : Type 0 where
+  pub is_status : status ≡ status_of said
   pub keeps : Keeps before now
   pub folder : now.folder ≡ before.folder
   pub out : now.out ≡ before.out
   pub told : Told before.err.taken before.err now.err (line_of said [])
 
+-- What words get that are no command form: status 2 and its line, or those of want of memory.
+abbrev pub WordsRefused : (before now : Outside) → (status : ℕ) → Type 0
+WordsRefused before now status = IsSaid Words before now status ⊎ IsSaid Memory before now status
+
 -- What the program does: the command that the words stand for, and status 2 only where they stand for none.
 abbrev pub Serves : (words : List (List ℕ)) → (before now : Outside) → (status : ℕ) → Type 0
 Serves words before now status =
     MatchOption (command_of words) (WordsRefused before now status) (λ command. Runs command before now status)
+
+-- Where the system gives no words: want of memory for them is told, and any other reason is answered as words that are
+-- no command form.
+pub record GivesNone (kind : ErrorKind) (before now : Outside) (status : ℕ) : Type 0 where
+  pub short : kind ≡ OutOfMemory → IsSaid Memory before now status
+  pub others : kind ≢ OutOfMemory → IsSaid Words before now status
+
+-- What the program does with the words that the system gives, or with none.
+abbrev pub ServesGiven : Result (Vec (String Global) Global) Error → (before now : Outside) → (status : ℕ) → Type 0
+ServesGiven (Ok words) before now status = Serves (texts_of words.items) before now status
+ServesGiven (Err error) before now status = GivesNone (error_kind error) before now status

@@ -1,5 +1,5 @@
 -- What is told of a refusal, and how a command ends at the two sinks.
-use Rattle.std.specs.Prelude.{Vec, ◌≡◌, ◌⊎◌, ℕ, ℤ, List, [], Option, Some, None, Result, Ok, Err}
+use Rattle.std.specs.Prelude.{Vec, ◌≡◌, ◌≢◌, ◌⊎◌, ℕ, ℤ, List, [], Option, Some, None, Result, Ok, Err}
 use Rattle.std.specs.declared.alloc.Global.{Global}
 use Rattle.affc_ast.specs.declared.tree.Program.{Program}
 use Rattle.affc_interp.specs.Budget.{Stop, StuckBy, OutOfSteps}
@@ -7,7 +7,9 @@ use Rattle.affc_io.specs.Count.{Rose}
 use Rattle.affc_io.specs.Files.{NotHeld, TooLong}
 use Rattle.affc_io.specs.Front.{IsFront}
 use Rattle.affc_io.specs.Taken.{grown}
-use Rattle.affc_cli.specs.Outside.{FolderState, SinkState, Told}
+use Rattle.affc_cli.specs.Outside.{FolderState, SinkState, Told, IsRead, IsReadAtMost}
+use Rattle.affc_cli.specs.Command.{Command}
+use Rattle.affc_cli.specs.Promise.{files_of, reads_of}
 use Rattle.affc_cli.specs.Refusal.{status_of, line_of}
 use Rattle.affc_cli.specs.Stuck.{stuck_line}
 use Rattle.affc_cli.specs.declared.refusal.Refusal.{Refusal}
@@ -34,20 +36,22 @@ pub record IsPut (text : List ℕ) (out now_out err now_err : SinkState) (status
   pub taken : now_out.taken ≡ grown out.taken text
   pub silent : now_err.taken ≡ err.taken
 
--- out was short of memory behind a front of the text, and that was told
+-- out was short of memory behind a front of the text, which isn't the whole, and that was told
 pub record IsPutShort (text : List ℕ) (out now_out err now_err : SinkState) (status : ℕ) : Type 0 where
   pub is_status : status ≡ 9
   pub front : List ℕ
   pub is_front : IsFront text front
+  pub cut : front ≢ text
   pub taken : now_out.taken ≡ grown out.taken front
   pub short : Rose out.shortages now_out.shortages
   pub told : Told err.taken err now_err (line_of Memory [])
 
--- a write to out failed behind a front of the text, and nothing was told
+-- a write to out failed behind a front of the text, which isn't the whole, and nothing was told
 pub record IsPutFailed (text : List ℕ) (out now_out err now_err : SinkState) (status : ℕ) : Type 0 where
   pub is_status : status ≡ 10
   pub front : List ℕ
   pub is_front : IsFront text front
+  pub cut : front ≢ text
   pub taken : now_out.taken ≡ grown out.taken front
   pub fault : Rose out.faults now_out.faults
   pub silent : now_err.taken ≡ err.taken
@@ -78,3 +82,8 @@ UnheldData ReadData name before now = Rose before.faults now.faults ⊎ NotHeld 
 UnheldData LongData name before now = TooLong before.held name before.faults now.faults
 UnheldData Memory name before now = Unit {0}
 UnheldData _ name before now = ⊥
+
+-- how often the folder was read when a command is refused so; want of memory may come at any time
+pub record HasRead (command : Command) (refusal : Refusal) (before now : FolderState) : Type 0 where
+  pub exact : refusal ≢ Memory → IsRead (reads_of command refusal) before now
+  pub few : IsReadAtMost (files_of command) before now

@@ -20,9 +20,7 @@ mod tests_words;
 mod words;
 
 use affc_io::{StdFolder, StdSink};
-use refusal::tell_short;
-use serve::serve;
-use std::io::ErrorKind;
+use serve::answered;
 use std::process::ExitCode;
 use std::{env, io};
 
@@ -36,17 +34,14 @@ fn arguments(rt: &HostRuntime) -> io::Result<Vec<String>> {
 }
 
 fn main(rt: HostRuntime) -> ExitCode {
-    let alloc = rt.alloc();
     let mut out = StdSink::new(rt.stdout());
     let mut err = StdSink::new(rt.stderr());
-    let words = match arguments(&rt) {
-        Ok(words) => words,
-        Err(error) if error.kind() == ErrorKind::OutOfMemory => {
-            return ExitCode::from(tell_short(&mut err));
-        }
-        // Words that are no text, or that can't be had, are no command form, and so are no words.
-        Err(_) => Vec::new(alloc),
-    };
-    let mut folder = StdFolder::new(rt);
-    ExitCode::from(serve(alloc, &words, &mut folder, &mut out, &mut err))
+    let words = arguments(&rt);
+    ExitCode::from(answered(
+        rt.alloc(),
+        words,
+        &mut StdFolder::new(rt),
+        &mut out,
+        &mut err,
+    ))
 }

@@ -195,6 +195,21 @@ pub fn tell_short<E: Sink>(err: &mut E) -> u8
     Refusal::Memory.status()
 }
 
+/// Says that the words are no command form, and answers the status.
+pub fn tell_words<E: Sink>(err: &mut E) -> u8
+    ensures counts { SinkCounts
+        (record { taken = E.taken err.old; faults = E.faults err.old; shortages = E.shortages err.old })
+        (record { taken = E.taken err.new; faults = E.faults err.new; shortages = E.shortages err.new }) }
+    ensures told { Told (E.taken err.old)
+        (record { taken = E.taken err.old; faults = E.faults err.old; shortages = E.shortages err.old })
+        (record { taken = E.taken err.new; faults = E.faults err.new; shortages = E.shortages err.new })
+        (codes "affc: words\n") }
+    ensures status { result ≡ 2 }
+{
+    put_line(err, "affc: words", "");
+    Refusal::Words.status()
+}
+
 /// Writes a line, as far as the sink takes it.
 pub fn put_line<E: Sink>(err: &mut E, head: &str, name: &str)
     ensures counts { SinkCounts

@@ -1,28 +1,33 @@
 // The top call.
-ghost use Rattle.std.specs.Prelude.{◌≡◌, [], IfOk, IfErr};
+ghost use Rattle.std.specs.Prelude.{◌≡◌, [], IfOk, IfErr, OnOk};
 ghost use Rattle.affc_io.specs.Files.{Holds};
 ghost use Rattle.affc_cli.specs.Command.{Fold, Run, texts_of};
-ghost use Rattle.affc_cli.specs.Outside.{FolderKeeps, SinkCounts};
-ghost use Rattle.affc_cli.specs.Promise.{FoldPromises, RunPromises, Runs, Serves};
+ghost use Rattle.affc_cli.specs.Outside.{FolderKeeps, IsRead, SinkCounts};
+ghost use Rattle.affc_cli.specs.Promise.{FoldPromises, RunPromises, Runs, Serves, ServesGiven};
 ghost use Rattle.affc_cli.specs.Refusal.{FoldCause, RunCause, file_of};
-ghost use Rattle.affc_cli.specs.Telling.{Ends, UnheldCause, UnheldData};
+ghost use Rattle.affc_cli.specs.Telling.{Ends, HasRead, UnheldCause, UnheldData};
 
 use crate::fold::fold;
-use crate::refusal::{Refusal, put_line, tell_short};
+use crate::refusal::{Refusal, tell_short, tell_words};
 use crate::run::run_text;
 use crate::words::{Command, command_of};
 use affc_io::{Folder, PutCause, ReadFault, Sink, put_all};
 use std::alloc::Global;
+use std::io;
+use std::io::ErrorKind;
 
 // The source that the folder has under the name.
 fn source_of<F: Folder>(alloc: Global, name: &str, folder: &mut F) -> Result<Vec<u8>, Refusal>
     ensures keeps { FolderKeeps
-        (record { held = F.held folder.old; faults = F.faults folder.old; shortages = F.shortages folder.old })
-        (record { held = F.held folder.new; faults = F.faults folder.new; shortages = F.shortages folder.new }) }
+        (record { held = F.held folder.old; faults = F.faults folder.old; shortages = F.shortages folder.old; reads = F.reads folder.old })
+        (record { held = F.held folder.new; faults = F.faults folder.new; shortages = F.shortages folder.new; reads = F.reads folder.new }) }
+    ensures reads { IsRead 1
+        (record { held = F.held folder.old; faults = F.faults folder.old; shortages = F.shortages folder.old; reads = F.reads folder.old })
+        (record { held = F.held folder.new; faults = F.faults folder.new; shortages = F.shortages folder.new; reads = F.reads folder.new }) }
     ensures ok { IfOk result (λ text. Holds (F.held folder.old) name.now text.items) }
     ensures err { IfErr result (λ refusal. UnheldCause refusal name.now
-        (record { held = F.held folder.old; faults = F.faults folder.old; shortages = F.shortages folder.old })
-        (record { held = F.held folder.new; faults = F.faults folder.new; shortages = F.shortages folder.new })) }
+        (record { held = F.held folder.old; faults = F.faults folder.old; shortages = F.shortages folder.old; reads = F.reads folder.old })
+        (record { held = F.held folder.new; faults = F.faults folder.new; shortages = F.shortages folder.new; reads = F.reads folder.new })) }
 {
     match folder.read(alloc, name) {
         Ok(text) => Ok(text),
@@ -35,12 +40,15 @@ fn source_of<F: Folder>(alloc: Global, name: &str, folder: &mut F) -> Result<Vec
 // The data that the folder has under the name.
 fn feed_of<F: Folder>(alloc: Global, name: &str, folder: &mut F) -> Result<Vec<u8>, Refusal>
     ensures keeps { FolderKeeps
-        (record { held = F.held folder.old; faults = F.faults folder.old; shortages = F.shortages folder.old })
-        (record { held = F.held folder.new; faults = F.faults folder.new; shortages = F.shortages folder.new }) }
+        (record { held = F.held folder.old; faults = F.faults folder.old; shortages = F.shortages folder.old; reads = F.reads folder.old })
+        (record { held = F.held folder.new; faults = F.faults folder.new; shortages = F.shortages folder.new; reads = F.reads folder.new }) }
+    ensures reads { IsRead 1
+        (record { held = F.held folder.old; faults = F.faults folder.old; shortages = F.shortages folder.old; reads = F.reads folder.old })
+        (record { held = F.held folder.new; faults = F.faults folder.new; shortages = F.shortages folder.new; reads = F.reads folder.new }) }
     ensures ok { IfOk result (λ text. Holds (F.held folder.old) name.now text.items) }
     ensures err { IfErr result (λ refusal. UnheldData refusal name.now
-        (record { held = F.held folder.old; faults = F.faults folder.old; shortages = F.shortages folder.old })
-        (record { held = F.held folder.new; faults = F.faults folder.new; shortages = F.shortages folder.new })) }
+        (record { held = F.held folder.old; faults = F.faults folder.old; shortages = F.shortages folder.old; reads = F.reads folder.old })
+        (record { held = F.held folder.new; faults = F.faults folder.new; shortages = F.shortages folder.new; reads = F.reads folder.new })) }
 {
     match folder.read(alloc, name) {
         Ok(text) => Ok(text),
@@ -53,12 +61,15 @@ fn feed_of<F: Folder>(alloc: Global, name: &str, folder: &mut F) -> Result<Vec<u
 // The text for the source that the folder has under the name.
 fn folded<F: Folder>(alloc: Global, name: &str, folder: &mut F) -> Result<Vec<u8>, Refusal>
     ensures keeps { FolderKeeps
-        (record { held = F.held folder.old; faults = F.faults folder.old; shortages = F.shortages folder.old })
-        (record { held = F.held folder.new; faults = F.faults folder.new; shortages = F.shortages folder.new }) }
+        (record { held = F.held folder.old; faults = F.faults folder.old; shortages = F.shortages folder.old; reads = F.reads folder.old })
+        (record { held = F.held folder.new; faults = F.faults folder.new; shortages = F.shortages folder.new; reads = F.reads folder.new }) }
+    ensures reads { IsRead 1
+        (record { held = F.held folder.old; faults = F.faults folder.old; shortages = F.shortages folder.old; reads = F.reads folder.old })
+        (record { held = F.held folder.new; faults = F.faults folder.new; shortages = F.shortages folder.new; reads = F.reads folder.new }) }
     ensures ok { IfOk result (λ text. FoldPromises name.now (F.held folder.old) text.items []) }
     ensures err { IfErr result (λ refusal. FoldCause refusal name.now
-        (record { held = F.held folder.old; faults = F.faults folder.old; shortages = F.shortages folder.old })
-        (record { held = F.held folder.new; faults = F.faults folder.new; shortages = F.shortages folder.new })) }
+        (record { held = F.held folder.old; faults = F.faults folder.old; shortages = F.shortages folder.old; reads = F.reads folder.old })
+        (record { held = F.held folder.new; faults = F.faults folder.new; shortages = F.shortages folder.new; reads = F.reads folder.new })) }
 {
     let source = match source_of(alloc, name, folder) {
         Ok(source) => source,
@@ -76,12 +87,18 @@ fn ran<F: Folder>(
     folder: &mut F,
 ) -> Result<Vec<u8>, Refusal>
     ensures keeps { FolderKeeps
-        (record { held = F.held folder.old; faults = F.faults folder.old; shortages = F.shortages folder.old })
-        (record { held = F.held folder.new; faults = F.faults folder.new; shortages = F.shortages folder.new }) }
+        (record { held = F.held folder.old; faults = F.faults folder.old; shortages = F.shortages folder.old; reads = F.reads folder.old })
+        (record { held = F.held folder.new; faults = F.faults folder.new; shortages = F.shortages folder.new; reads = F.reads folder.new }) }
+    ensures reads { OnOk result (IsRead 2
+        (record { held = F.held folder.old; faults = F.faults folder.old; shortages = F.shortages folder.old; reads = F.reads folder.old })
+        (record { held = F.held folder.new; faults = F.faults folder.new; shortages = F.shortages folder.new; reads = F.reads folder.new })) }
     ensures ok { IfOk result (λ text. RunPromises source.now feed.now limit (F.held folder.old) text.items []) }
     ensures err { IfErr result (λ refusal. RunCause refusal source.now feed.now limit
-        (record { held = F.held folder.old; faults = F.faults folder.old; shortages = F.shortages folder.old })
-        (record { held = F.held folder.new; faults = F.faults folder.new; shortages = F.shortages folder.new })) }
+        (record { held = F.held folder.old; faults = F.faults folder.old; shortages = F.shortages folder.old; reads = F.reads folder.old })
+        (record { held = F.held folder.new; faults = F.faults folder.new; shortages = F.shortages folder.new; reads = F.reads folder.new })) }
+    ensures err_reads { IfErr result (λ refusal. HasRead (Run source.now feed.now limit) refusal
+        (record { held = F.held folder.old; faults = F.faults folder.old; shortages = F.shortages folder.old; reads = F.reads folder.old })
+        (record { held = F.held folder.new; faults = F.faults folder.new; shortages = F.shortages folder.new; reads = F.reads folder.new })) }
 {
     let source = match source_of(alloc, source, folder) {
         Ok(source) => source,
@@ -148,12 +165,12 @@ fn run_fold<F: Folder, O: Sink, E: Sink>(
 ) -> u8
     ensures { Runs (Fold name.now)
         (record {
-          folder = record { held = F.held folder.old; faults = F.faults folder.old; shortages = F.shortages folder.old };
+          folder = record { held = F.held folder.old; faults = F.faults folder.old; shortages = F.shortages folder.old; reads = F.reads folder.old };
           out = record { taken = O.taken out.old; faults = O.faults out.old; shortages = O.shortages out.old };
           err = record { taken = E.taken err.old; faults = E.faults err.old; shortages = E.shortages err.old };
         })
         (record {
-          folder = record { held = F.held folder.new; faults = F.faults folder.new; shortages = F.shortages folder.new };
+          folder = record { held = F.held folder.new; faults = F.faults folder.new; shortages = F.shortages folder.new; reads = F.reads folder.new };
           out = record { taken = O.taken out.new; faults = O.faults out.new; shortages = O.shortages out.new };
           err = record { taken = E.taken err.new; faults = E.faults err.new; shortages = E.shortages err.new };
         })
@@ -175,12 +192,12 @@ fn run_data<F: Folder, O: Sink, E: Sink>(
 ) -> u8
     ensures { Runs (Run source.now feed.now limit)
         (record {
-          folder = record { held = F.held folder.old; faults = F.faults folder.old; shortages = F.shortages folder.old };
+          folder = record { held = F.held folder.old; faults = F.faults folder.old; shortages = F.shortages folder.old; reads = F.reads folder.old };
           out = record { taken = O.taken out.old; faults = O.faults out.old; shortages = O.shortages out.old };
           err = record { taken = E.taken err.old; faults = E.faults err.old; shortages = E.shortages err.old };
         })
         (record {
-          folder = record { held = F.held folder.new; faults = F.faults folder.new; shortages = F.shortages folder.new };
+          folder = record { held = F.held folder.new; faults = F.faults folder.new; shortages = F.shortages folder.new; reads = F.reads folder.new };
           out = record { taken = O.taken out.new; faults = O.faults out.new; shortages = O.shortages out.new };
           err = record { taken = E.taken err.new; faults = E.faults err.new; shortages = E.shortages err.new };
         })
@@ -201,12 +218,12 @@ pub fn serve<F: Folder, O: Sink, E: Sink>(
 ) -> u8
     ensures { Serves (texts_of words.now)
         (record {
-          folder = record { held = F.held folder.old; faults = F.faults folder.old; shortages = F.shortages folder.old };
+          folder = record { held = F.held folder.old; faults = F.faults folder.old; shortages = F.shortages folder.old; reads = F.reads folder.old };
           out = record { taken = O.taken out.old; faults = O.faults out.old; shortages = O.shortages out.old };
           err = record { taken = E.taken err.old; faults = E.faults err.old; shortages = E.shortages err.old };
         })
         (record {
-          folder = record { held = F.held folder.new; faults = F.faults folder.new; shortages = F.shortages folder.new };
+          folder = record { held = F.held folder.new; faults = F.faults folder.new; shortages = F.shortages folder.new; reads = F.reads folder.new };
           out = record { taken = O.taken out.new; faults = O.faults out.new; shortages = O.shortages out.new };
           err = record { taken = E.taken err.new; faults = E.faults err.new; shortages = E.shortages err.new };
         })
@@ -214,10 +231,7 @@ pub fn serve<F: Folder, O: Sink, E: Sink>(
 {
     match command_of(alloc, words) {
         Err(_) => tell_short(err),
-        Ok(None) => {
-            put_line(err, "affc: words", "");
-            Refusal::Words.status()
-        }
+        Ok(None) => tell_words(err),
         Ok(Some(Command::Fold { source })) => run_fold(alloc, source, folder, out, err),
         Ok(
             Some(
@@ -228,5 +242,35 @@ pub fn serve<F: Folder, O: Sink, E: Sink>(
                 },
             ),
         ) => run_data(alloc, source, feed, steps, folder, out, err),
+    }
+}
+
+/// Serves the words that the system gives. Where it gives none, as of words that are no text, that is no command form.
+pub fn answered<F: Folder, O: Sink, E: Sink>(
+    alloc: Global,
+    words: io::Result<Vec<String>>,
+    folder: &mut F,
+    out: &mut O,
+    err: &mut E,
+) -> u8
+    ensures { ServesGiven words
+        (record {
+          folder = record { held = F.held folder.old; faults = F.faults folder.old; shortages = F.shortages folder.old; reads = F.reads folder.old };
+          out = record { taken = O.taken out.old; faults = O.faults out.old; shortages = O.shortages out.old };
+          err = record { taken = E.taken err.old; faults = E.faults err.old; shortages = E.shortages err.old };
+        })
+        (record {
+          folder = record { held = F.held folder.new; faults = F.faults folder.new; shortages = F.shortages folder.new; reads = F.reads folder.new };
+          out = record { taken = O.taken out.new; faults = O.faults out.new; shortages = O.shortages out.new };
+          err = record { taken = E.taken err.new; faults = E.faults err.new; shortages = E.shortages err.new };
+        })
+        result }
+{
+    match words {
+        Ok(words) => serve(alloc, &words, folder, out, err),
+        Err(error) => match error.kind() {
+            ErrorKind::OutOfMemory => tell_short(err),
+            _ => tell_words(err),
+        },
     }
 }

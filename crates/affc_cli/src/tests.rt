@@ -42,6 +42,7 @@ impl Sink for ShortSink {
 #[derive(Drop)]
 struct ShortFolder {
     shortages: u64,
+    reads: u64,
 }
 
 impl Folder for ShortFolder {
@@ -53,7 +54,10 @@ impl Folder for ShortFolder {
 
     ghost shortages = { λ f. f.shortages };
 
+    ghost reads = { λ f. f.reads };
+
     fn read(&mut self, _alloc: Global, _name: &str) -> Result<Vec<u8>, ReadFault> {
+        self.reads = self.reads.saturating_add(1);
         self.shortages = self.shortages.saturating_add(1);
         Err(ReadFault::Memory)
     }
@@ -76,6 +80,15 @@ pub fn words_of(alloc: Global, line: &str) -> Result<Vec<String>, AllocError> {
 fn folder_of(alloc: Global, bytes: Vec<u8>, fails: Vec<u64>) -> Result<MemFolder, AllocError> {
     let mut files = Vec::new(alloc);
     files.push((String::from_str(alloc, "copy.c")?, bytes))?;
+    Ok(MemFolder::new(files, fails))
+}
+
+// The copy loop under the name `a.c`, and data under the name `a.data`.
+fn pair_of(alloc: Global, feed: Vec<u8>, fails: Vec<u64>) -> Result<MemFolder, AllocError> {
+    let source = COPY.as_bytes().to_vec(alloc)?;
+    let mut files = Vec::new(alloc);
+    files.push((String::from_str(alloc, "a.c")?, source))?;
+    files.push((String::from_str(alloc, "a.data")?, feed))?;
     Ok(MemFolder::new(files, fails))
 }
 
@@ -143,25 +156,40 @@ fn each_failure_outside_has_its_status(rt: HostRuntime) -> Result<(), Fail> {
     let long = vec![in alloc; b' '; 67_108_865]?;
     let rows = [
         (
+            "fold copy.c",
             folder_of(alloc, source.clone()?, [0].to_vec(alloc)?)?,
-            3,
             "affc: read copy.c\n",
         ),
         (
-            folder_of(alloc, long, Vec::new(alloc))?,
-            3,
+            "fold copy.c",
+            folder_of(alloc, long.clone()?, Vec::new(alloc))?,
             "affc: too long copy.c\n",
         ),
+        (
+            "run a.c a.data",
+            pair_of(alloc, Vec::new(alloc), [0].to_vec(alloc)?)?,
+            "affc: read a.c\n",
+        ),
+        (
+            "run a.c a.data",
+            pair_of(alloc, Vec::new(alloc), [1].to_vec(alloc)?)?,
+            "affc: read a.data\n",
+        ),
+        (
+            "run a.c a.data",
+            pair_of(alloc, long, Vec::new(alloc))?,
+            "affc: too long a.data\n",
+        ),
     ];
-    for (mut folder, status, told) in rows {
+    for (line, mut folder, told) in rows {
         let done = served(
             alloc,
-            "fold copy.c",
+            line,
             &mut folder,
             &mut sure_sink(alloc),
             &mut sure_sink(alloc),
         )?;
-        assert_eq!(rt; done.status, status, "with {told}");
+        assert_eq!(rt; done.status, 3, "with {told}");
         assert_eq!(rt; done.err.as_slice(), told.as_bytes());
     }
     Ok(())
@@ -190,7 +218,10 @@ fn want_of_memory_outside_is_told(rt: HostRuntime) -> Result<(), Fail> {
     let unread = served(
         alloc,
         "fold copy.c",
-        &mut ShortFolder { shortages: 0 },
+        &mut ShortFolder {
+            shortages: 0,
+            reads: 0,
+        },
         &mut sure_sink(alloc),
         &mut sure_sink(alloc),
     )?;
@@ -290,6 +321,15 @@ fn texts_that_are_no_programs_are_refused(rt: HostRuntime) -> Result<(), Fail> {
         ("#include <stdint.h>\n", "affc: source at 20: syntax\n"),
         ("#include <stdint.h>\n@", "affc: source at 20: byte\n"),
         ("/* x", "affc: source at 0: comment\n"),
+        ("18446744073709551616", "affc: source at 0: number\n"),
+        (
+            "#include <stdint.h>\nvoid f(int64_t N, uint64_t out[N]) {}\n",
+            "affc: source at 35: name range\n",
+        ),
+        (
+            "#include <stdint.h>\n#pragma affc param N 4 1\nvoid f(int64_t N, uint64_t out[N]) {}\n",
+            "affc: source at 41: limit range\n",
+        ),
         (
             "#include <stdint.h>\n#pragma affc param A 1 4\n#pragma affc param B 1 4\n#pragma affc param C 1 4\n#pragma affc param D 1 4\n#pragma affc param E 1 4\nvoid f(int64_t A, int64_t B, int64_t C, int64_t D, int64_t E) {}\n",
             "affc: source at 204: limit parameters\n",
