@@ -98,6 +98,12 @@ fn stuck_runs_say_why(rt: HostRuntime) -> Result<(), Fail> {
             "array in 1 2 3\narray out 0 0\n",
             "affc: bounds of out in S0() access 3\n",
         ),
+        // the load in a shift counts
+        (
+            "#include <stdint.h>\nvoid f(const uint64_t a[1], const uint64_t b[1], uint64_t out[1]) { out[0] = (a[0] << 1) + b[9]; }\n",
+            "array a 1\narray b 1\narray out 0\n",
+            "affc: bounds of b in S0() access 1\n",
+        ),
         // the own element is the first
         (
             "#include <stdint.h>\n#pragma affc param N 2 4\n#pragma affc param M -4 4\nvoid f(int64_t N, const uint64_t a[N], int64_t M, const uint64_t b[N], uint64_t out[2]) {\n  uint64_t t[N];\n  t[0] = 0ULL;\n  for (int64_t i = 0; i < N; i++)\n    for (int64_t j = M; j < 0; j++) {\n      if (i == 1)\n        t[0] ^= a[i] + ~b[N + j];\n    }\n}\n",
@@ -157,6 +163,7 @@ fn other_runs_are_refused(rt: HostRuntime) -> Result<(), Fail> {
             "affc: source at 0: syntax\n",
         ),
         ("run a.c a.data", COPY, wrong, 13, "affc: data line 2\n"),
+        ("run a.c a.c", COPY, right, 13, "affc: data line 1\n"),
         (
             "run a.c a.data",
             COPY,

@@ -39,6 +39,9 @@ fn counts_are_reached_and_passed(rt: HostRuntime) -> Result<(), Fail> {
     const WIDE_SUBSCRIPT: &str =
         "#include <stdint.h>\nstatic inline int64_t affc_min(int64_t a, int64_t b) { return a < b ? a : b; }\nstatic inline int64_t affc_max(int64_t a, int64_t b) { return a > b ? a : b; }\nstatic inline int64_t affc_floord(int64_t a, int64_t b) { return a / b - (a % b < 0); }\nstatic inline int64_t affc_ceild(int64_t a, int64_t b) { return a / b + (a % b > 0); }\nstatic inline int64_t affc_mod(int64_t a, int64_t b) { return a % b + (a % b < 0 ? b : 0); }\nvoid f(uint64_t out[1]) {\nout[";
     const ONE: &str = "#include <stdint.h>\nvoid f(uint64_t out[1]) {\nout[0] = 1ULL";
+    const LOADS: &str = "#include <stdint.h>\nvoid f(uint64_t out[1]) {\nout[0] = out[0]";
+    const FOR_SIX: &str =
+        "for (int64_t a = 0; a < 1; a++) for (int64_t b = 0; b < 1; b++) for (int64_t c = 0; c < 1; c++) for (int64_t d = 0; d < 1; d++) for (int64_t e = 0; e < 1; e++) for (int64_t g = 0; g < 1; g++) ";
     const COMPLEMENT: &str = "#include <stdint.h>\nvoid f(uint64_t out[1]) {\nout[0] = ~1ULL";
     let rows = [
         (62, [SUBSCRIPT, "(", "0", ")", "] = 1ULL; }"], READS),
@@ -106,6 +109,24 @@ fn counts_are_reached_and_passed(rt: HostRuntime) -> Result<(), Fail> {
             32761,
             [BODY, "{}", "", "", "}"],
             "affc: source at 65568: limit tokens\n",
+        ),
+        (14, [LOADS, " + out[0]", "; }", "", ""], READS),
+        (
+            15,
+            [LOADS, " + out[0]", "; }", "", ""],
+            "affc: source at 46: limit accesses\n",
+        ),
+        (1, [BODY, FOR_SIX, "out[0] = 1ULL; }", "", ""], READS),
+        (
+            1,
+            [
+                BODY,
+                FOR_SIX,
+                "for (int64_t h = 0; h < 1; h++) out[0] = 1ULL; }",
+                "",
+                "",
+            ],
+            "affc: source at 238: limit loops\n",
         ),
         (1021, [ONE, " + 1ULL", "", "", "; }"], READS),
         (
