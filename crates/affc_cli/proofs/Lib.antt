@@ -1,5 +1,6 @@
 pub mod Named
 pub mod Accesses
+pub mod Touched
 pub mod Telling
 pub mod Ending
 pub mod Executed

@@ -1,5 +1,5 @@
 -- The line that says why a run is stuck.
-use Rattle.std.specs.Prelude.{ℕ, ℤ, List, [], ◌∷◌, ◌++◌, map, get_or, slice_get, Option, None, Some, codes, decimal}
+use Rattle.std.specs.Prelude.{◌≡◌, ℕ, ℤ, List, [], ◌∷◌, ◌++◌, map, get_or, slice_get, Option, None, Some, codes, decimal}
 use Rattle.std.specs.Fmt.{signed_decimal}
 use Rattle.affc_ast.specs.declared.tree.Decl.{Decl}
 use Rattle.affc_ast.specs.declared.tree.Instance.{Instance}
@@ -12,7 +12,8 @@ use Rattle.affc_ast.specs.declared.tree.Val.TheOpen.{Val-F, Load, Const, Cast, N
 use Rattle.affc_ast.specs.Cause.{Cause, Extent, Overflow, OutOfBounds, Unwritten}
 use Rattle.affc_ast.specs.Meaning.{arrays_of}
 use Rattle.affc_ast.specs.Recursion.{by_val}
-use Rattle.affc_ast.specs.Trace.{Assignment, assignments}
+use Rattle.affc_ast.specs.Store.{Element}
+use Rattle.affc_ast.specs.Trace.{Assignment, assignments, events}
 
 -- ---- The array that is meant
 
@@ -47,6 +48,11 @@ arrays_accessed a = own_array a.op a.array.0 ++ arrays_loaded a.value ++ a.array
 -- the array of an access of this number in the statement of this number
 abbrev pub array_of : Program → (statement access : ℕ) → ℕ
 array_of program statement access = get_or (get_or (map arrays_accessed (assignments program)) statement []) access 0
+
+-- the array of an access is that of the element which the instance touches then, as its events say
+abbrev pub ArraysAreTouched : Type 0
+ArraysAreTouched = (program : Program) → (p : List ℤ) → (here : Instance) → (access : ℕ)
+    → array_of program here.statement access ≡ get_or (map (λ (e : Element). e.0) (events program p here)) access 0
 
 -- ---- Its words
 

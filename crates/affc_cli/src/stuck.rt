@@ -4,7 +4,7 @@ ghost use Rattle.affc_ast.specs.Recursion.{by_stmt};
 ghost use Rattle.affc_ast.specs.Trace.{assignments_step};
 ghost use Rattle.affc_interp.specs.Arrays.{values_in};
 ghost use Rattle.affc_interp.specs.Begun.{stop_of};
-ghost use Rattle.affc_cli.specs.Stuck.{array_name, arrays_loaded, own_array, arrays_accessed, array_of, numbers_text, array_text, iterators_text, access_text};
+ghost use Rattle.affc_cli.specs.Stuck.{ArraysAreTouched, array_name, arrays_loaded, own_array, arrays_accessed, array_of, numbers_text, array_text, iterators_text, access_text};
 ghost use Rattle.affc_cli.specs.Telling.{RefusesStop};
 ghost use Rattle.affc_cli.specs.declared.refusal.Refusal.TheVariants.{Stuck, Memory};
 
@@ -15,6 +15,11 @@ use affc_interp::run::RunFault;
 use std::alloc::{AllocError, Global};
 
 // ---- The array that is meant
+
+/// A law: the line names the array that the access touches.
+pub fn arrays_are_touched()
+    ensures { ArraysAreTouched }
+{}
 
 // The name of the array of this number, or nothing where there is none.
 fn array_name(program: &Program, array: u32) -> &str
