@@ -1,5 +1,5 @@
 -- How a command ends, from what it made and what became of that at the two sinks.
-use Rattle.std.proofs.Common.{Vec, String, ◌≡◌, ◌≢◌, ◌≤◌, ◌⊎◌, ℕ, List, [], Option, None, Some, MatchOption, Result, Ok, Err, IfOk, IfErr, OnOk, Contains, refl, ap, sym, subst, ◌∙◌, inl, inr, arith, lit<}
+use Rattle.std.proofs.Common.{Vec, String, ◌≡◌, ◌≢◌, ◌≤◌, ◌⊎◌, ℕ, List, [], Option, None, Some, MatchOption, Result, Ok, Err, IfOk, IfErr, OnOk, Contains, drop, refl, ap, sym, subst, ◌∙◌, inl, inr, arith, lit<}
 use Rattle.std.specs.declared.alloc.Global.{Global}
 use Rattle.std.specs.IoError.{error_kind}
 use Rattle.std.specs.declared.io.Error.{Error}
@@ -306,9 +306,9 @@ short_serves words before now status is = go (command_of words)
 -- ---- Words as the system gives them
 
 pub served_given : (given : Result (Vec (String Global) Global) Error) (words : Vec (String Global) Global) (slice : List (String Global)) (before now : Outside) (status : ℕ)
-    → given ≡ Ok words → slice ≡ words.items → Serves (texts_of slice) before now status → ServesGiven given before now status
+    → given ≡ Ok words → slice ≡ words.items → Serves (texts_of (drop 1 slice)) before now status → ServesGiven given before now status
 served_given given words slice before now status is same serves =
-    subst (λ w. ServesGiven w before now status) (sym is) (subst (λ l. Serves (texts_of l) before now status) same serves)
+    subst (λ w. ServesGiven w before now status) (sym is) (subst (λ l. Serves (texts_of (drop 1 l)) before now status) same serves)
 
 pub short_given : (given : Result (Vec (String Global) Global) Error) (error : Error) (kind : ErrorKind) (before now : Outside) (status : ℕ)
     → given ≡ Err error → kind ≡ error_kind error → kind ≡ OutOfMemory → IsSaid Memory before now status → ServesGiven given before now status

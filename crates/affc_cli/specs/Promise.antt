@@ -1,5 +1,5 @@
 -- What the program promises, by the status that it ends with.
-use Rattle.std.specs.Prelude.{◌≡◌, ◌≢◌, ◌⊎◌, ℕ, List, [], ◌∷◌, Option, MatchOption, Result, Ok, Err, Contains, String, Vec}
+use Rattle.std.specs.Prelude.{◌≡◌, ◌≢◌, ◌⊎◌, ℕ, List, [], ◌∷◌, Option, MatchOption, Result, Ok, Err, Contains, String, Vec, drop}
 use Rattle.std.specs.declared.alloc.Global.{Global}
 use Rattle.std.specs.IoError.{error_kind}
 use Rattle.std.specs.declared.io.Error.{Error}
@@ -142,7 +142,7 @@ pub record GivesNone (kind : ErrorKind) (before now : Outside) (status : ℕ) : 
   pub short : kind ≡ OutOfMemory → IsSaid Memory before now status
   pub others : kind ≢ OutOfMemory → IsSaid Words before now status
 
--- What the program does with the words that the system gives, or with none.
+-- What the program does with the words that the system gives, of which the first is its name, or with none.
 abbrev pub ServesGiven : Result (Vec (String Global) Global) Error → (before now : Outside) → (status : ℕ) → Type 0
-ServesGiven (Ok words) before now status = Serves (texts_of words.items) before now status
+ServesGiven (Ok words) before now status = Serves (texts_of (drop 1 words.items)) before now status
 ServesGiven (Err error) before now status = GivesNone (error_kind error) before now status

@@ -24,10 +24,10 @@ use serve::answered;
 use std::process::ExitCode;
 use std::{env, io};
 
-// The words after the program's name.
+// The program's name and the words behind it.
 fn arguments(rt: &HostRuntime) -> io::Result<Vec<String>> {
     let mut words = Vec::new(rt.alloc());
-    for word in env::args(rt)?.skip(1) {
+    for word in env::args(rt)? {
         words.push(word)?;
     }
     Ok(words)

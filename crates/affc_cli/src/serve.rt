@@ -1,5 +1,5 @@
 // The top call.
-ghost use Rattle.std.specs.Prelude.{◌≡◌, [], IfOk, IfErr, OnOk};
+ghost use Rattle.std.specs.Prelude.{◌≡◌, [], IfOk, IfErr, OnOk, drop};
 ghost use Rattle.affc_io.specs.Files.{Holds};
 ghost use Rattle.affc_cli.specs.Command.{Fold, Run, texts_of};
 ghost use Rattle.affc_cli.specs.Outside.{FolderKeeps, IsRead, SinkCounts};
@@ -245,7 +245,18 @@ pub fn serve<F: Folder, O: Sink, E: Sink>(
     }
 }
 
-/// Serves the words that the system gives. Where it gives none, as of words that are no text, that is no command form.
+// The words behind the program's name.
+fn behind_name(words: &[String]) -> &[String]
+    ensures { result.now ≡ drop 1 words.now }
+{
+    match words {
+        [_, behind @ ..] => behind,
+        [] => words,
+    }
+}
+
+/// Serves the words that the system gives, of which the first is the program's name. Where it gives none, as of words
+/// that are no text, that is no command form.
 pub fn answered<F: Folder, O: Sink, E: Sink>(
     alloc: Global,
     words: io::Result<Vec<String>>,
@@ -267,7 +278,7 @@ pub fn answered<F: Folder, O: Sink, E: Sink>(
         result }
 {
     match words {
-        Ok(words) => serve(alloc, &words, folder, out, err),
+        Ok(words) => serve(alloc, behind_name(&words), folder, out, err),
         Err(error) => match error.kind() {
             ErrorKind::OutOfMemory => tell_short(err),
             _ => tell_words(err),

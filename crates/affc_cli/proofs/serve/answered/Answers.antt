@@ -5,7 +5,7 @@ use Rattle.affc_cli.proofs.serve.answered.Goals as goal
 
 pub returns-in-Ok : goal.returns-in-Ok
 returns-in-Ok g c =
-    served_given c.args.words c.in-Ok.words c.deref.result.now _ _ c.serve.result c.in-Ok.is c.deref.ensures.value c.serve.ensures
+    served_given c.args.words c.in-Ok.words c.deref.result.now _ _ c.serve.result c.in-Ok.is c.deref.ensures.value (rw c.behind_name.ensures at c.serve.ensures)
 
 pub returns-in-OutOfMemory : goal.returns-in-OutOfMemory
 returns-in-OutOfMemory g c =
