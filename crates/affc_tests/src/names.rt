@@ -14,6 +14,16 @@ fn reserved_words(rt: HostRuntime) -> Result<(), Fail> {
         ("interval", false),
         ("main", true),
         ("affc_t0", true),
+        ("_x", true),
+        ("UINTx", true),
+        ("PTRDIFF_x", true),
+        ("SIG_ATOMIC_x", true),
+        ("SIZE_x", true),
+        ("WCHAR_x", true),
+        ("WINT_x", true),
+        ("SIZE", false),
+        ("mainly", false),
+        ("t", false),
     ] {
         assert_eq!(rt; is_reserved(name), want, "{name}");
     }

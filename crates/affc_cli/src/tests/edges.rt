@@ -1,5 +1,6 @@
 // What is wrong with a source at the edges of the language, told at its byte.
 use super::{BLUR, plain};
+use affc_lex::prelude::PRELUDE;
 use std::alloc::{AllocError, Global};
 use std::test::Fail;
 
@@ -36,8 +37,6 @@ fn counts_are_reached_and_passed(rt: HostRuntime) -> Result<(), Fail> {
     const SUBSCRIPT: &str = "#include <stdint.h>\nvoid f(uint64_t out[1]) {\nout[";
     const TEMPORARY: &str = "#include <stdint.h>\nvoid f(uint64_t out[1]) {\nuint64_t t";
     const CONDITION: &str = "#include <stdint.h>\nvoid f(uint64_t out[1]) {\nif (0 < 1";
-    const WIDE_SUBSCRIPT: &str =
-        "#include <stdint.h>\nstatic inline int64_t affc_min(int64_t a, int64_t b) { return a < b ? a : b; }\nstatic inline int64_t affc_max(int64_t a, int64_t b) { return a > b ? a : b; }\nstatic inline int64_t affc_floord(int64_t a, int64_t b) { return a / b - (a % b < 0); }\nstatic inline int64_t affc_ceild(int64_t a, int64_t b) { return a / b + (a % b > 0); }\nstatic inline int64_t affc_mod(int64_t a, int64_t b) { return a % b + (a % b < 0 ? b : 0); }\nvoid f(uint64_t out[1]) {\nout[";
     const ONE: &str = "#include <stdint.h>\nvoid f(uint64_t out[1]) {\nout[0] = 1ULL";
     const LOADS: &str = "#include <stdint.h>\nvoid f(uint64_t out[1]) {\nout[0] = out[0]";
     const FOR_SIX: &str =
@@ -51,16 +50,6 @@ fn counts_are_reached_and_passed(rt: HostRuntime) -> Result<(), Fail> {
             "affc: source at 112: limit depth\n",
         ),
         (
-            254,
-            [WIDE_SUBSCRIPT, "(", "0", ")", "] = 1ULL; }"],
-            "affc: source at 20: printed\n",
-        ),
-        (
-            255,
-            [WIDE_SUBSCRIPT, "(", "0", ")", "] = 1ULL; }"],
-            "affc: source at 730: limit depth\n",
-        ),
-        (
             1048576,
             ["", " ", "", "", ""],
             "affc: source at 1048576: syntax\n",
@@ -70,6 +59,13 @@ fn counts_are_reached_and_passed(rt: HostRuntime) -> Result<(), Fail> {
             ["", " ", "", "", ""],
             "affc: source at 1048576: limit size\n",
         ),
+        // The size is asked before the tokens, and the tokens before the brackets.
+        (
+            1048577,
+            ["", "@", "", "", ""],
+            "affc: source at 1048576: limit size\n",
+        ),
+        (65, ["", "(", "@", "", ""], "affc: source at 65: byte\n"),
         (64, [BODY, "out[0] = 1ULL;\n", "", "", "}"], READS),
         (
             65,
@@ -138,6 +134,64 @@ fn counts_are_reached_and_passed(rt: HostRuntime) -> Result<(), Fail> {
     for (times, parts, line) in rows {
         let text = repeated(rt.alloc(), times, parts)?;
         let err = told(rt.alloc(), text.as_str())?;
+        assert_eq!(rt; err.as_slice(), line.as_bytes(), "with {times}");
+    }
+    Ok(())
+}
+
+#[test]
+fn counts_are_wider_with_the_prelude(rt: HostRuntime) -> Result<(), Fail> {
+    const INCLUDE: &str = "#include <stdint.h>\n";
+    const SUBSCRIPT: &str = "void f(uint64_t out[1]) {\nout[";
+    const BODY: &str = "void f(uint64_t out[1]) {\n";
+    const ONE: &str = "void f(uint64_t out[1]) {\nout[0] = 1ULL";
+    const READS_WIDE: &str = "affc: source at 20: printed\n";
+    let rows = [
+        (
+            254,
+            INCLUDE,
+            [SUBSCRIPT, "(", "0", ")", "] = 1ULL; }"],
+            READS_WIDE,
+        ),
+        (
+            255,
+            INCLUDE,
+            [SUBSCRIPT, "(", "0", ")", "] = 1ULL; }"],
+            "affc: source at 730: limit depth\n",
+        ),
+        (32761, INCLUDE, [BODY, "{}", "", "", "}"], READS_WIDE),
+        (
+            4096,
+            INCLUDE,
+            [BODY, "if (0 < 1) {}", "", "", "}"],
+            READS_WIDE,
+        ),
+        (
+            4097,
+            INCLUDE,
+            [BODY, "if (0 < 1) {}", "", "", "}"],
+            "affc: source at 53720: limit items\n",
+        ),
+        (32765, INCLUDE, [ONE, " + 1ULL", "", "", "; }"], READS_WIDE),
+        (
+            32766,
+            INCLUDE,
+            [ONE, " + 1ULL", "", "", "; }"],
+            "affc: source at 229841: limit run\n",
+        ),
+        // A comment that holds the prelude's bytes widens the size.
+        (
+            1048577,
+            "/*",
+            ["*/", " ", "", "", ""],
+            "affc: source at 1049007: syntax\n",
+        ),
+    ];
+    let alloc = rt.alloc();
+    for (times, front, parts, line) in rows {
+        let behind = repeated(alloc, times, parts)?;
+        let text = format!(in alloc; "{front}{PRELUDE}{behind}")?;
+        let err = told(alloc, text.as_str())?;
         assert_eq!(rt; err.as_slice(), line.as_bytes(), "with {times}");
     }
     Ok(())
