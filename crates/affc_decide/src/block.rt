@@ -221,7 +221,8 @@ fn set_limit(block: &mut Option<Block>, limit: &str) -> Result<(), Fault>
 /// A line of a limit, behind its first word.
 fn read_limit(block: &mut Option<Block>, more: &[&str]) -> Result<(), Fault>
     ensures taken { OnOk result (Takes (codes "limit" ∷ texts_of more.now) block.old Line.Nothing block.new) }
-    ensures none { IfErr result (λ e. e ≡ Fault.Malformed → TakesNone (codes "limit" ∷ texts_of more.now) block.old) }
+    ensures none { OnErr result (TakesNone (codes "limit" ∷ texts_of more.now) block.old) }
+    ensures fault { OnErr result (result ≡ Err Fault.Malformed) }
     ensures kept { OnErr result (block.new ≡ block.old) }
 {
     match more {

@@ -3,7 +3,8 @@
 
 mod block;
 
-ghost use Rattle.std.specs.Prelude.{◌≡◌, ◌≢◌, ◌↔◌, ◌⊎◌, IfOk, IsTrue, IsSomeAnd};
+ghost use Rattle.std.specs.Prelude.{◌≡◌, ◌≢◌, ◌<◌, ◌^◌, ◌↔◌, ◌⊎◌, IfOk, IsTrue, IsSomeAnd};
+ghost use Rattle.affc_split.specs.Openings.{nodes};
 ghost use Rattle.affc_decide.specs.Blocks.{IsExpected, IsReady, TakesLine, TakesNoLine};
 
 use affc_farkas::Proof;
@@ -25,7 +26,9 @@ struct Totals {
 }
 
 /// How many leaves, cuts and splits a proof has.
-fn nodes(proof: &Proof) -> u64 {
+fn nodes(proof: &Proof) -> u64
+    ensures { nodes proof.now < 2 ^ 64 → result ≡ nodes proof.now }
+{
     match proof {
         Proof::Leaf(_) => 1,
         Proof::Cut { rest, .. } => nodes(rest).saturating_add(1),

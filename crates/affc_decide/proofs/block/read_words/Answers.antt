@@ -26,7 +26,7 @@ pub returns-in_err-read_limit-in-limit-clause-none : goal.returns-in_err-read_li
 returns-in_err-read_limit-in-limit-clause-none c =
     let p = err_from_is_err_and c.from_residual-in_err-read_limit-in-limit.result c.from_residual-in_err-read_limit-in-limit.ensures.1 in
     let words = first_word c.args.words.now c.in-len1-up.len_at_least ∙ ap (λ (w : List ℕ). w ∷ texts_of (rest_of c.args.words.now)) c.in-limit.is in
-    rw (p.1, p.2) (λ is. subst (λ (ws : List (List ℕ)). TakesNone ws c.args.block.now) (sym words) (c.in_err-read_limit-in-limit.ensures.none is))
+    rw (p.1, p.2) (λ is. subst (λ (ws : List (List ℕ)). TakesNone ws c.args.block.now) (sym words) c.in_err-read_limit-in-limit.ensures.none)
 
 pub returns-in-expect-clause-taken : goal.returns-in-expect-clause-taken
 returns-in-expect-clause-taken c =
