@@ -1,7 +1,7 @@
 #!/bin/sh
 # Runs a command once for each allocation that it asks for, with that allocation failing, and counts what it answers:
 # its status with the first line on the error stream, or `as before` where status and output are those of the whole run.
-#   bench/fail_each.sh crates/affc_cli/out/affc_cli run examples/blur.c examples/blur.data
+#   bench/fail_each.sh crates/affc/out/affc run examples/blur.c examples/blur.data
 # A file for its standard input may be named in INPUT.
 set -e
 cd "$(dirname "$0")/.."

@@ -1,8 +1,8 @@
 #!/bin/sh
-# Writes the sources, data and outputs of this folder as the texts that the tests of affc_cli run.
+# Writes the sources, data and outputs of this folder as the texts that the tests of affc_tests run.
 # With `--check` it only says whether those are up to date.
 cd "$(dirname "$0")" || exit 1
-table=../crates/affc_cli/src/kernels.rt
+table=../crates/affc_tests/src/cli/kernels.rt
 
 # the file as a string literal
 literal() {

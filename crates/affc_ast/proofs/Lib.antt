@@ -10,3 +10,4 @@ pub mod TurnProofs
 pub mod CopyText
 pub mod RuleProofs
 pub mod CounterProofs
+pub mod Steps

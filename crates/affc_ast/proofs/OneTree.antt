@@ -4,7 +4,7 @@ use Rattle.affc_lex.specs.Bytes.{decimal}
 use Rattle.affc_lex.proofs.Exact.{one_list}
 use Rattle.affc_ast.specs.declared.tree.Program.{Program}
 use Rattle.affc_ast.specs.CopyLoop.{CopyLoop, copy_tree}
-use Rattle.affc_ast.specs.Reads.{Symbol, symbol, include_line, param_line, function_line, for_line, copy_symbols, ReadsWide}
+use Rattle.affc_ast.specs.Reads.{Symbol, symbol, include_line, param_line, function_line, for_line, copy_symbols, ReadsAsCopyWide}
 
 bytes_at : ℕ → List Symbol → List ℕ
 bytes_at k [] = []
@@ -57,7 +57,7 @@ same_copy c d low high low' high' braces braces' e l h l' h' =
     }
 
 -- two readings of the same tokens
-pub one_tree : (text : List ℕ) (a b : Program) (first : ReadsWide text a) (second : ReadsWide text b) → first.tokens ≡ second.tokens → a ≡ b
+pub one_tree : (text : List ℕ) (a b : Program) (first : ReadsAsCopyWide text a) (second : ReadsAsCopyWide text b) → first.tokens ≡ second.tokens → a ≡ b
 one_tree text a b first second same =
     first.tree
     ∙ ap copy_tree (same_copy first.copy second.copy first.low first.high second.low second.high first.braces second.braces
@@ -65,5 +65,5 @@ one_tree text a b first second same =
     ∙ sym second.tree
 
 -- two readings of one text
-pub one_program : (text : List ℕ) (a b : Program) → ReadsWide text a → ReadsWide text b → a ≡ b
+pub one_program : (text : List ℕ) (a b : Program) → ReadsAsCopyWide text a → ReadsAsCopyWide text b → a ≡ b
 one_program text a b first second = one_tree text a b first second (one_list text first.tokens second.tokens first.its_tokens second.its_tokens)

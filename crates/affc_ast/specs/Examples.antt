@@ -21,7 +21,7 @@ use Rattle.affc_ast.specs.Fits.{Fits, within_ranges, meets, outputs}
 use Rattle.affc_ast.specs.Follows.{Follows, in_source_order, own_place}
 use Rattle.affc_ast.specs.Index.{index_value, compares, conditions}
 use Rattle.affc_ast.specs.Meaning.{Ended, Stuck, meaning}
-use Rattle.affc_ast.specs.Reads.{Reads}
+use Rattle.affc_ast.specs.Reads.{ReadsAsCopy}
 use Rattle.affc_ast.specs.Store.{Element, Store, at}
 use Rattle.affc_ast.specs.Trace.{trace, events}
 use Rattle.affc_ast.specs.Values.{operate, complement, shifted, converted}
@@ -436,7 +436,7 @@ abbrev pub copy_named : CopyLoop
 copy_named = record { function = codes "copy"; parameter = codes "N"; input = codes "in"; output = codes "out"; iterator = codes "i"; low = 1; high = 4096 }
 
 abbrev pub CopyTextReads : Type 0
-CopyTextReads = Reads copy_text (copy_tree copy_named)
+CopyTextReads = ReadsAsCopy copy_text (copy_tree copy_named)
 
 -- ---- Following
 

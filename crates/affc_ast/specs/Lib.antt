@@ -6,6 +6,9 @@ pub mod Values
 pub mod Meaning
 pub mod Fits
 pub mod Trace
+pub mod Counted
+pub mod Ranks
+pub mod Locals
 pub mod Follows
 pub mod Compiles
 pub mod CopyLoop

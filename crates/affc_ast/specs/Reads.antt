@@ -113,7 +113,7 @@ is_plain b = is_letter_or_digit b || is_space b || among (codes "#<>.()[]{},;=+"
 
 -- The text has the tokens of the form, none of which belongs to a line that is dropped, with five different names that
 -- aren't reserved; and the program is the tree of these names and numbers.
-pub record ReadsWide (text : List ℕ) (program : Program) : Type 0 where
+pub record ReadsAsCopyWide (text : List ℕ) (program : Program) : Type 0 where
   pub plain : IsTrue (list_all is_plain text)
   pub tokens : List Lexeme
   pub its_tokens : Lexes text tokens
@@ -131,6 +131,6 @@ pub record ReadsWide (text : List ℕ) (program : Program) : Type 0 where
   pub tree : program ≡ copy_tree copy
 
 -- a source text is no longer than 2^20 bytes
-pub record Reads (text : List ℕ) (program : Program) : Type 0 where
+pub record ReadsAsCopy (text : List ℕ) (program : Program) : Type 0 where
   pub size : length text ≤ 1048576
-  pub reads : ReadsWide text program
+  pub reads : ReadsAsCopyWide text program

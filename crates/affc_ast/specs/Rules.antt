@@ -1,6 +1,7 @@
 -- What the definitions give at small programs that decide which of two faults comes first, how many nodes each form
--- has, where two dimensions end and how elements are ordered. Each value was found by hand from the rules.
-use Rattle.std.specs.Prelude.{◌≡◌, ℕ, pos, true, false, List, [], ◌∷◌, None, Err}
+-- has, where two dimensions end, how elements are ordered, which accesses are seen inside a statement, and which programs
+-- keep to their arrays. Each value was found by hand from the rules.
+use Rattle.std.specs.Prelude.{◌≡◌, ℕ, pos, true, false, List, [], ◌∷◌, codes, None, Err}
 use Rattle.affc_ast.specs.declared.tree.Ix.{Ix}
 use Rattle.affc_ast.specs.declared.tree.Ix.TheVariants.{Neg, Add, Sub, Mul, Floord}
 use Rattle.affc_ast.specs.declared.tree.Op.TheVariants as op
@@ -11,10 +12,15 @@ use Rattle.affc_ast.specs.declared.tree.Stmt.{Stmt}
 use Rattle.affc_ast.specs.declared.tree.Stmt.TheVariants.{For, If, Assign, Block}
 use Rattle.affc_ast.specs.declared.tree.Val.TheVariants.{Load, Const, Cast, Not, Bin, Shift}
 use Rattle.affc_ast.specs.Cause.{Overflow, OutOfBounds, Unwritten}
-use Rattle.affc_ast.specs.Examples.{lit, greatest_int64, n, i, input, output, temporary, array, program, assign, instance, cell, three, one}
+use Rattle.affc_ast.specs.Counted.{IsCounted, array_count, node_total}
+use Rattle.affc_ast.specs.Examples.{lit, never, greatest_int64, n, i, input, output, temporary, array, program, assign, instance, cell, three, one, copying}
+use Rattle.affc_ast.specs.Fits.{meets}
 use Rattle.affc_ast.specs.Index.{index_value, conditions}
 use Rattle.affc_ast.specs.Meaning.{Ended, Stuck, meaning}
+use Rattle.affc_ast.specs.Names.{is_reserved}
+use Rattle.affc_ast.specs.Ranks.{has_right_ranks}
 use Rattle.affc_ast.specs.Store.{Element}
+use Rattle.affc_ast.specs.Trace.{trace, events}
 
 -- 2^63 - 1 + 1
 abbrev too_great : Ix
@@ -137,3 +143,57 @@ many_nodes = program [] []
 -- 16 and 17, the assignment 18 with its subscript 19 and its value 20 to 26, the second assignment 27 and its subscript 28.
 abbrev pub EachFormHasItsNodes : Type 0
 EachFormHasItsNodes = meaning many_nodes (pos 1 ∷ []) one ≡ Stuck (Overflow 28) 3
+
+-- The first program has 0 and 1 for the extents of its parameters. The second has them, too, then its context with 2 to 4 and the
+-- extent of its temporary with 5.
+abbrev pub NodesAreCounted : Type 0
+NodesAreCounted =
+    (node_total many_nodes ≡ 32) × (array_count many_nodes ≡ 2) ×
+    (node_total (program (never ∷ []) (array Temp (n ∷ []) ∷ []) []) ≡ 6) × (array_count (program (never ∷ []) (array Temp (n ∷ []) ∷ []) []) ≡ 3)
+
+-- ---- Inside a statement
+
+-- for (i = 0; i < N; i++) { const int64_t a = 5; out[9] = in[0]; } where a is no iterator of the instance
+abbrev pub LocalsAreNoIterators : Type 0
+LocalsAreNoIterators =
+    meaning (program [] [] (For [] (lit 0) Less n (Block (record { name = []; value = lit 5 } ∷ []) (assign output (lit 9) input (lit 0) ∷ []) ∷ []) ∷ [])) (pos 1 ∷ []) one
+    ≡ Stuck (OutOfBounds (instance 0 (pos 0 ∷ [])) 1) 2
+
+-- for (i = 0; i < N; i++) { if (0 > i) out[i] = 0ULL; if (i > 0) out[i] = ~(in[i] << 1); }
+abbrev complements : Program
+complements = program [] []
+    (For [] (lit 0) Less n
+    (If (record { rel = Greater; left = lit 0; right = i } ∷ []) (Assign None output (i ∷ []) (Const 0) ∷ [])
+    ∷ If (record { rel = Greater; left = i; right = lit 0 } ∷ []) (Assign None output (i ∷ []) (Not (Shift true (Load input (i ∷ [])) 1)) ∷ []) ∷ []) ∷ [])
+
+abbrev pub ConditionsAreLookedInto : Type 0
+ConditionsAreLookedInto =
+    (trace complements (pos 3 ∷ []) ≡ instance 1 (pos 1 ∷ []) ∷ instance 1 (pos 2 ∷ []) ∷ []) ×
+    (events complements (pos 3 ∷ []) (instance 1 (pos 2 ∷ [])) ≡ cell 0 2 ∷ cell 1 2 ∷ [])
+
+-- ---- Contexts and names
+
+-- 0 < 0, whose sides have values
+abbrev pub FalseContextsAreUnmet : Type 0
+FalseContextsAreUnmet = meets (never ∷ []) (pos 3 ∷ []) ≡ false
+
+abbrev pub KeywordsAreReserved : Type 0
+KeywordsAreReserved = (is_reserved (codes "goto") ≡ true) × (is_reserved (codes "got") ≡ false)
+
+-- ---- Arrays
+
+-- out[0] = in[0]; with the array of number 2 in the place of out
+abbrev to_no_array : Program
+to_no_array = program [] [] (assign temporary (lit 0) input (lit 0) ∷ [])
+
+abbrev pub AssignmentsAreToArrays : Type 0
+AssignmentsAreToArrays = IsCounted copying × (IsCounted to_no_array → ⊥)
+
+-- t[1][0] = in[0]; t[1] = in[0]; out[0] = ~(in[0] + (t[0] << 1)); and a load of an array that isn't there
+abbrev pub SubscriptsAreAsDimensions : Type 0
+SubscriptsAreAsDimensions =
+    (has_right_ranks (with_rows (assign_row 1 0 ∷ [])) ≡ true) ×
+    (has_right_ranks (with_rows (assign temporary (lit 1) input (lit 0) ∷ [])) ≡ false) ×
+    (has_right_ranks (with_rows (Assign None output (lit 0 ∷ []) (Not (Bin op.Add (Load input (lit 0 ∷ [])) (Shift true (Load temporary (lit 0 ∷ [])) 1))) ∷ [])) ≡ false) ×
+    (has_right_ranks (with_rows (Assign None output (lit 0 ∷ []) (Not (Bin op.Add (Load temporary (lit 0 ∷ [])) (Load input (lit 0 ∷ [])))) ∷ [])) ≡ false) ×
+    (has_right_ranks (program [] [] (assign output (lit 0) temporary (lit 0) ∷ [])) ≡ false)

@@ -6,7 +6,7 @@ ghost use Rattle.affc_ast.specs.Examples.{CopyLoopCopies, OutputsAreOut, CopyLoo
 ghost use Rattle.affc_ast.specs.Examples.{LoadsStayInside, StoresStayInside, SubscriptsStartAtZero, AccessesAreCounted, StatementsAreCounted, LoadsFindValues, OwnElementComesFirst, ProductsOverflow, ProductsFit, ContextHasNodes, TemporariesHaveNodes, ValuesHaveNodes, BlocksHaveNodes, LocalsHaveNodes, ExtentsAreAtLeastOne, FirstExtentEndsTheReading, ExtentsAreReadInOrder, StepsOverflow};
 ghost use Rattle.affc_ast.specs.Examples.{RangesHoldTheirEnds, SomeDataFit, ConditionsHaveValues, ContextsHaveNoLimit};
 ghost use Rattle.affc_ast.specs.Examples.{CopyTextReads, FollowsInAnotherOrder, FollowsAtOtherPlaces};
-ghost use Rattle.affc_ast.specs.Rules.{LeftSidesComeFirst, LeftLoadsComeFirst, LowerBoundsComeFirst, LeftSubscriptsComeFirst, SubscriptsComeBeforeValues, ValuesComeBeforeStores, UnwrittenLoadsAreCounted, SubscriptsHaveTheirExtents, LastSubscriptsRunFastest, ValuesAreStored, EachFormHasItsNodes};
+ghost use Rattle.affc_ast.specs.Rules.{LeftSidesComeFirst, LeftLoadsComeFirst, LowerBoundsComeFirst, LeftSubscriptsComeFirst, SubscriptsComeBeforeValues, ValuesComeBeforeStores, UnwrittenLoadsAreCounted, SubscriptsHaveTheirExtents, LastSubscriptsRunFastest, ValuesAreStored, EachFormHasItsNodes, NodesAreCounted, LocalsAreNoIterators, ConditionsAreLookedInto, FalseContextsAreUnmet, KeywordsAreReserved, AssignmentsAreToArrays, SubscriptsAreAsDimensions};
 ghost use Rattle.affc_ast.specs.Counterexamples.{OrdersDiffer, ValuesDiffer, PlacesDiffer, OwnElementsDiffer, OutputsDiffer, NamesDiffer, RangesDiffer, ContextsDiffer, RunsDiffer};
 
 /// What expressions, conditions and operations on values give.
@@ -94,6 +94,17 @@ pub fn rules()
     ensures last_subscripts_run_fastest { LastSubscriptsRunFastest }
     ensures values_are_stored { ValuesAreStored }
     ensures each_form_has_its_nodes { EachFormHasItsNodes }
+{}
+
+/// What is counted, which accesses are seen inside a statement, and which programs keep to their arrays.
+pub fn more_rules()
+    ensures nodes_are_counted { NodesAreCounted }
+    ensures locals_are_no_iterators { LocalsAreNoIterators }
+    ensures conditions_are_looked_into { ConditionsAreLookedInto }
+    ensures false_contexts_are_unmet { FalseContextsAreUnmet }
+    ensures keywords_are_reserved { KeywordsAreReserved }
+    ensures assignments_are_to_arrays { AssignmentsAreToArrays }
+    ensures subscripts_are_as_dimensions { SubscriptsAreAsDimensions }
 {}
 
 /// Programs that don't follow another, or don't run as it.

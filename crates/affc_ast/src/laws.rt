@@ -11,7 +11,7 @@ ghost use Rattle.affc_ast.specs.Fits.{whole_of};
 ghost use Rattle.affc_ast.specs.Follows.{elements, in_source_order, own_place};
 ghost use Rattle.affc_ast.specs.Index.{index_value};
 ghost use Rattle.affc_ast.specs.Meaning.{State, Ended, meaning, turns_of};
-ghost use Rattle.affc_ast.specs.Reads.{HasRange, ReadsWide};
+ghost use Rattle.affc_ast.specs.Reads.{HasRange, ReadsAsCopyWide};
 ghost use Rattle.affc_ast.specs.Store.{Element, Store, element_cmp, at, with_value};
 ghost use Rattle.affc_ast.specs.Trace.{trace, store_of};
 
@@ -59,5 +59,5 @@ pub fn copy_loops_compile_themselves()
 
 /// One text reads as one program at most.
 pub fn a_text_reads_as_one_program()
-    ensures { (text : List ℕ) (a b : Program) → ReadsWide text a → ReadsWide text b → a ≡ b }
+    ensures { (text : List ℕ) (a b : Program) → ReadsAsCopyWide text a → ReadsAsCopyWide text b → a ≡ b }
 {}

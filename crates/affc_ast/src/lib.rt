@@ -4,6 +4,7 @@
 //! what a run does, which data fit, which instances a run has, and when one program does what another does.
 #![tactic(auto)]
 
+pub mod copies;
 pub mod examples;
 pub mod laws;
 pub mod text;

@@ -16,7 +16,7 @@ use Rattle.affc_trace.proofs.Contents.{target_is_reordered_law}
 use Rattle.affc_trace.proofs.Composed.{compiles_source}
 use Rattle.affc_basis.specs.declared.fold.Fold.{Fold}
 use Rattle.affc_basis.specs.Folds.{forms_of, folded_by, IsAdmissible, fold_of, place}
-use Rattle.affc_basis.specs.Laws.{HasDimensions, AreFoldsOf, RowsSeparate, PlacesMeetInTheLattice, ObeyingFoldSeparates, ObeyingFoldIsAdmissible, AdmissibleFoldsSeparate, FoldsKeepParameters, CompilesFolded}
+use Rattle.affc_basis.specs.Laws.{HasDimensions, AreFoldsOf, RowsSeparate, PlacesMeetInTheLattice, ObeyingFoldSeparates, ObeyingFoldIsAdmissible, AdmissibleFoldsSeparate, FoldsKeepParameters, CompilesFolded, FoldedPremisesCompile}
 use Rattle.affc_basis.proofs.Remainders.{in_lattice_of_equal, equal_of_in_lattice}
 use Rattle.affc_basis.proofs.Separation.{rows_separate, separated}
 
@@ -103,3 +103,7 @@ compiles_folded printed source schedule folds plain name params context ends leg
     (λ p here. admissible_folds_separate source schedule folds p proper here (λ array fold e.
     obeying_fold_is_admissible source schedule array p fold (proper.dimensions array fold e p here) (obeys p here array fold e)))
     (λ p here. folds_keep_parameters source folds p proper) runs
+
+pub folded_premises_compile : FoldedPremisesCompile
+folded_premises_compile printed source schedule folds p =
+    compiles_folded printed source schedule folds p.plain p.name p.params p.context p.ends p.legal p.folds_of p.obeys p.runs

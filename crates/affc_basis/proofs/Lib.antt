@@ -11,3 +11,5 @@ pub mod Marks
 pub mod WideLemmas
 pub mod Products
 pub mod Whole
+pub mod FoldsFound
+pub mod Uniques

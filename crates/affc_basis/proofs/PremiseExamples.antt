@@ -1,5 +1,5 @@
 -- The blur's temporary has one dimension, and its subscripts are below N + 2.
-use Rattle.std.proofs.Common.{◌≡◌, ℕ, zero, suc, ◌+◌, ◌≤◌, Bool, true, false, ℤ, pos, ◌≤ℤ◌, ◌<ℤ◌, if◌then◌else◌, List, [], ◌∷◌, length, get_or, refl, sym, ap, subst, inl, inr, arith, lit≤, Some, None}
+use Rattle.std.proofs.Common.{◌≡◌, ℕ, zero, suc, ◌+◌, ◌≤◌, Bool, true, false, ℤ, pos, ◌≤ℤ◌, ◌<ℤ◌, if◌then◌else◌, List, [], ◌∷◌, length, get_or, refl, sym, ap, subst, ◌∙◌, inl, inr, arith, lit≤, Some, None}
 use Rattle.std.specs.Prelude.{slice_get, nat_eq}
 use Rattle.std.proofs.lemmas.Int.{ints}
 use Rattle.std.proofs.lemmas.Bool.{eqb-true}
@@ -8,13 +8,18 @@ use denote.Hole.Carrier.{hidden}
 use Rattle.affc_ast.specs.declared.tree.Ix.TheBlock.{shape-the_row-Ix-0, hidden-the_row-Ix-0}
 use Rattle.affc_ast.specs.declared.tree.Val.TheBlock.{shape-the_row-Val-0, hidden-the_row-Val-0}
 use Rattle.affc_ast.specs.declared.tree.Stmt.TheBlock.{shape-the_row-Stmt-0, hidden-the_row-Stmt-0}
-use Rattle.affc_rows.specs.Forms.{Affine, value}
+use Rattle.std.proofs.lemmas.List.Elements.{All-nil, All-cons, All-head}
+use Rattle.affc_rows.specs.Forms.{Affine, HaveColumns, value}
+use Rattle.affc_ast.specs.declared.tree.ArrayId.{ArrayId}
+use Rattle.affc_ast.specs.declared.tree.Decl.{Decl}
+use Rattle.affc_trace.specs.Law.{IsIn}
 use Rattle.affc_trace.specs.Examples.{blur, two, S0, S1}
 use Rattle.affc_trace.specs.Orders.{Touches}
 use Rattle.affc_trace.specs.Effects.{effect}
 use Rattle.affc_basis.specs.declared.fold.Fold.{Fold}
+use Rattle.affc_basis.specs.FoldLists.{IsFoldIn}
 use Rattle.affc_basis.specs.Folds.{fold_of}
-use Rattle.affc_basis.specs.Examples.{onto, folds, FoldsOfTheBlur, one_more, two_more, BlurLiesWithin}
+use Rattle.affc_basis.specs.Examples.{number, by_modulus, onto, folds, with_iterator, two_dimensions, FoldsOfTheBlur, ListsOfFolds, one_more, two_more, BlurLiesWithin}
 use Rattle.affc_basis.specs.Laws.{AreFoldsOf, LiesWithin}
 
 -- ---- the fold
@@ -108,4 +113,40 @@ unfolding shape-the_row-Ix-0 hidden-the_row-Ix-0 shape-the_row-Val-0 hidden-the_
 blur_lies_within = (
   lies_within,
   λ within. three_is_past (value one_more two) refl (within (S0 3) (pos 3 ∷ []) (inr (inr (inr (inl refl)))) (inr refl) 0 one_more refl).1,
+)
+
+-- ---- lists of folds
+
+no_number : (n : ℕ) → 1 ≡ 2 + n → ⊥
+no_number n e = omega arith
+
+next_number : (n : ℕ) → 3 ≡ 2 + n → n ≡ 1
+next_number n e = omega arith
+
+two_are_not_one : ◌≡◌ {A = ℕ} 2 1 → ⊥
+two_are_not_one e = omega arith
+
+one_column_each : HaveColumns 1 (number 3 ∷ [])
+one_column_each = All-cons (λ f. length f.coefs ≡ 1) (number 3) [] refl (All-nil (λ f. length f.coefs ≡ 1))
+
+blur_fold : (a : ArrayId) (fold : Fold) → IsIn (a, fold) folds → IsFoldIn blur a.0 fold
+unfolding shape-the_row-Ix-0 hidden-the_row-Ix-0 shape-the_row-Val-0 hidden-the_row-Val-0 shape-the_row-Stmt-0 hidden-the_row-Stmt-0 hidden
+blur_fold a fold (inl e) =
+    subst (λ (f : ArrayId × Fold). IsFoldIn blur f.0.0 f.1) (sym e) (record { number = 0; decl = _; stands = refl; behind = refl; rows = refl; moduli = one_column_each })
+blur_fold a fold (inr i) = absurd i
+
+two_extents : (n : ℕ) (d : Decl) → slice_get two_dimensions.temps n ≡ Some d → length d.extents ≡ 2
+two_extents zero d e = sym (ap (λ (d : Decl). length d.extents) (same_Some _ d e))
+two_extents (suc n) d e = absurd (none-some d e)
+
+pub lists_of_folds : ListsOfFolds
+unfolding shape-the_row-Ix-0 hidden-the_row-Ix-0 shape-the_row-Val-0 hidden-the_row-Val-0 shape-the_row-Stmt-0 hidden-the_row-Stmt-0 hidden
+lists_of_folds = (
+  record { different = (λ i. i, tt); each = blur_fold },
+  record { different = tt; each = λ a fold i. absurd i },
+  λ h. h.different.0 (inl refl),
+  λ h. (let f = h.each (record { 0 = 1 }) (onto 3) (inl refl) in no_number f.number f.behind),
+  λ h. (let f = h.each (record { 0 = 3 }) (onto 3) (inl refl) in none-some f.decl (sym (ap (slice_get blur.temps) (next_number f.number f.behind)) ∙ f.stands)),
+  λ h. (let f = h.each (record { 0 = 2 }) (by_modulus with_iterator) (inl refl) in two_are_not_one (All-head (λ g. length g.coefs ≡ 1) with_iterator [] f.moduli)),
+  λ h. (let f = h.each (record { 0 = 2 }) (onto 3) (inl refl) in two_are_not_one (sym (f.rows ∙ two_extents f.number f.decl f.stands))),
 )

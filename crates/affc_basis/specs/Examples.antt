@@ -5,6 +5,9 @@ use Rattle.std.proofs.lemmas.List.Elements.{All-nil, All-cons}
 use Rattle.std.proofs.lemmas.Option.{same_Some}
 use Rattle.affc_rows.specs.Forms.{Affine, HaveColumns, composed_form}
 use Rattle.affc_ast.specs.declared.tree.ArrayId.{ArrayId}
+use Rattle.affc_ast.specs.declared.tree.Ix.TheVariants.{Lit}
+use Rattle.affc_ast.specs.declared.tree.Program.{Program}
+use Rattle.affc_ast.specs.declared.tree.Role.TheVariants.{Temp}
 use Rattle.affc_ast.specs.Store.{Element}
 use Rattle.affc_trace.specs.Examples.{blur, together, two, cell}
 use Rattle.affc_trace.specs.Inverses.{column}
@@ -18,6 +21,7 @@ use Rattle.affc_basis.specs.Bases.{AreWithin, HaveCoefsWithin, AreComponents}
 use Rattle.affc_basis.specs.Slices.{IsGreatest, slice_of, greatest_along}
 use Rattle.affc_basis.specs.Moduli.{remainders}
 use Rattle.affc_basis.specs.Folds.{folded, place, IsAdmissible, Obeys, IsNeed, IsEnough, IsLeastMark, IsTrueMark, AreGreatestValues, IsCost}
+use Rattle.affc_basis.specs.FoldLists.{AreFoldsIn}
 use Rattle.affc_basis.specs.Laws.{AreFoldsOf, LiesWithin}
 
 -- ---- The basis (x0), with the inverse (y0)
@@ -89,6 +93,27 @@ PlaceBySecondFold = place ((record { 0 = 3 }, onto 2) ∷ folds) two (cell 2 4) 
 -- t is the third array, after two parameter arrays, and has one dimension; `out` is none to be folded
 abbrev pub FoldsOfTheBlur : Type 0
 FoldsOfTheBlur = AreFoldsOf blur folds × (AreFoldsOf blur ((record { 0 = 1 }, onto 3) ∷ []) → ⊥)
+
+abbrev pub fold_at : ℕ → Fold → ArrayId × Fold
+fold_at array fold = (record { 0 = array }, fold)
+
+-- a modulus over N and one column more
+abbrev pub with_iterator : Affine
+with_iterator = record { coefs = pos 0 ∷ pos 1 ∷ []; constant = pos 3 }
+
+abbrev pub two_dimensions : Program
+two_dimensions = record blur { temps = record { name = []; role = Temp; extents = Lit (pos 3) ∷ Lit (pos 3) ∷ [] } ∷ [] }
+
+-- t has one fold, `out` and what is no array have none; its moduli are over N, and it has one row for each dimension
+abbrev pub ListsOfFolds : Type 0
+ListsOfFolds =
+    AreFoldsIn blur folds
+    × AreFoldsIn blur []
+    × (AreFoldsIn blur (fold_at 2 (onto 3) ∷ fold_at 2 (onto 4) ∷ []) → ⊥)
+    × (AreFoldsIn blur (fold_at 1 (onto 3) ∷ []) → ⊥)
+    × (AreFoldsIn blur (fold_at 3 (onto 3) ∷ []) → ⊥)
+    × (AreFoldsIn blur (fold_at 2 (by_modulus with_iterator) ∷ []) → ⊥)
+    × (AreFoldsIn two_dimensions folds → ⊥)
 
 -- ---- Two rows, over two dimensions
 

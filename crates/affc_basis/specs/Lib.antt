@@ -2,5 +2,6 @@ pub mod Bases
 pub mod Slices
 pub mod Moduli
 pub mod Folds
+pub mod FoldLists
 pub mod Laws
 pub mod Examples

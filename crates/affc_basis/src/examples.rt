@@ -1,6 +1,6 @@
 //! What the definitions give at small folds, as laws: `specs/Examples.antt` says each, with values that were found
 //! by hand from the rules.
-ghost use Rattle.affc_basis.specs.Examples.{PlaceOfFour, PlacesOfTheBlur, PlaceBySecondFold, FoldsOfTheBlur, RowsHaveTheirModuli, SlicesAreSuccessive, BlurNeedsTwo, OnlyTwoIsGreatest, ThreeObeys, TwoIsTooFew, ThreeIsLeast, BlurNeedsThree, ThreeIsEnough, MarksOfTheBlur, MarksElsewhere, OneIsEnough, OneHasNoPair, BlurLiesWithin, FiveAndThreeAreGreatest, CostOfOneMore};
+ghost use Rattle.affc_basis.specs.Examples.{PlaceOfFour, PlacesOfTheBlur, PlaceBySecondFold, FoldsOfTheBlur, ListsOfFolds, RowsHaveTheirModuli, SlicesAreSuccessive, BlurNeedsTwo, OnlyTwoIsGreatest, ThreeObeys, TwoIsTooFew, ThreeIsLeast, BlurNeedsThree, ThreeIsEnough, MarksOfTheBlur, MarksElsewhere, OneIsEnough, OneHasNoPair, BlurLiesWithin, FiveAndThreeAreGreatest, CostOfOneMore};
 
 /// Where elements are put.
 pub fn places()
@@ -37,6 +37,7 @@ pub fn marks()
 /// What folds and extents have to be.
 pub fn premises()
     ensures folds { FoldsOfTheBlur }
+    ensures lists { ListsOfFolds }
     ensures lies_within { BlurLiesWithin }
 {}
 

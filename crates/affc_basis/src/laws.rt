@@ -1,6 +1,6 @@
 //! What may be concluded about folds. Each law is the contract of a function that does nothing.
 ghost use Rattle.std.specs.Prelude.{List, ℤ};
-ghost use Rattle.affc_basis.specs.Laws.{RowsSeparate, PlacesMeetInTheLattice, SliceIsFound, GreatestIsFound, ObeyingFoldSeparates, ObeyingFoldIsAdmissible, WholeArrayObeys, AdmissibleFoldsSeparate, FoldsKeepParameters, LeastMarkIsNeed, NeedIsLeast, ObeyingIsEnough, CompilesFolded};
+ghost use Rattle.affc_basis.specs.Laws.{RowsSeparate, PlacesMeetInTheLattice, SliceIsFound, GreatestIsFound, ObeyingFoldSeparates, ObeyingFoldIsAdmissible, WholeArrayObeys, AdmissibleFoldsSeparate, FoldsKeepParameters, LeastMarkIsNeed, NeedIsLeast, ObeyingIsEnough, GreatestIsUnique, NeedIsUnique, GreatestValueIsUnique, CostIsUnique, FoldsAreFound, CompilesFolded, FoldedPremisesCompile};
 
 /// Conflicts over a context: which elements of an array, by their subscripts, are to have different places. The live
 /// pairs of a program are such pairs; the laws over `C` hold of any.
@@ -71,7 +71,33 @@ pub fn obeying_is_enough<C: Conflicts>()
     ensures law { ObeyingIsEnough C.in_context C.pairs }
 {}
 
+/// A slice has one greatest distance.
+pub fn greatest_is_unique<C: Conflicts>()
+    ensures law { GreatestIsUnique C.pairs }
+{}
+
+/// A row has one need.
+pub fn need_is_unique<C: Conflicts>()
+    ensures law { NeedIsUnique C.in_context C.pairs }
+{}
+
+/// A modulus has one greatest value over a context, and so a fold has one cost.
+pub fn greatest_value_is_unique<C: Conflicts>()
+    ensures law { GreatestValueIsUnique C.in_context }
+    ensures cost { CostIsUnique C.in_context }
+{}
+
+/// The fold of an array is the one that a list of folds names with it.
+pub fn folds_are_found()
+    ensures law { FoldsAreFound }
+{}
+
 /// A program that runs the target of a legal schedule, at the places of folds that obey, compiles its source.
 pub fn compiles_folded()
     ensures law { CompilesFolded }
+{}
+
+/// The same with the premises as a record.
+pub fn folded_premises_compile()
+    ensures law { FoldedPremisesCompile }
 {}

@@ -1,29 +1,24 @@
 -- How a command ends, from what it made and what became of that at the two sinks.
-use Rattle.std.proofs.Common.{Vec, String, ◌≡◌, ◌≢◌, ◌≤◌, ◌⊎◌, ℕ, List, [], Option, None, Some, MatchOption, Result, Ok, Err, IfOk, IfErr, OnOk, Contains, drop, refl, ap, sym, subst, ◌∙◌, inl, inr, arith, lit<}
+use Rattle.std.proofs.Common.{Vec, ◌≡◌, ◌≢◌, ◌≤◌, ◌⊎◌, ℕ, List, [], Option, None, Some, MatchOption, Result, Ok, Err, IfOk, IfErr, OnOk, Contains, refl, ap, sym, subst, ◌∙◌, inl, inr, arith, lit<}
 use Rattle.std.specs.declared.alloc.Global.{Global}
-use Rattle.std.specs.IoError.{error_kind}
-use Rattle.std.specs.declared.io.Error.{Error}
-use Rattle.std.specs.declared.io.ErrorKind.{ErrorKind}
-use Rattle.std.specs.declared.io.ErrorKind.TheVariants.{OutOfMemory}
 use Rattle.affc_io.specs.Front.{IsFront}
+use Rattle.affc_io.specs.State.{FolderState, SinkState}
 use Rattle.affc_io.specs.Taken.{grown}
-use Rattle.affc_cli.specs.Command.{Command, Fold, Run, command_of, texts_of}
-use Rattle.affc_cli.specs.Outside.{Outside, FolderState, SinkState, Keeps, Told, IsRead, IsReadAtMost}
-use Rattle.affc_cli.specs.Promise.{FoldPromises, RunPromises, Promises, Cause, files_of, statuses_of, refusal_line, WrittenInPart, Runs, IsSaid, WordsRefused, Serves, ServesGiven}
+use Rattle.affc_cli.specs.Command.{Command, Fold, Run, command_of}
+use Rattle.affc_cli.specs.Outside.{Outside, Keeps, Told, IsRead, IsReadAtMost}
+use Rattle.affc_cli.specs.Promise.{FoldPromises, RunPromises, Promises, Cause, files_of, statuses_of, refusal_line, WrittenInPart, Runs, IsSaid, WordsRefused, Serves}
 use Rattle.affc_cli.specs.Refusal.{status_of, line_of, FoldCause, RunCause, file_of}
 use Rattle.affc_cli.specs.Telling.{IsTold, IsPut, IsPutShort, IsPutFailed, Ends, HasRead}
+use Rattle.affc_cli.specs.declared.refusal.Operand.TheVariants as operand
 use Rattle.affc_cli.specs.declared.refusal.Refusal.{Refusal}
-use Rattle.affc_cli.specs.declared.refusal.Refusal.TheVariants.{Words, Read, Long, ReadData, LongData, Source, Stuck, Memory, Steps, Data, Unbuilt}
+use Rattle.affc_cli.specs.declared.refusal.Refusal.TheVariants.{Words, Unread, Source, Stuck, Memory, Steps, Data, Unbuilt}
 use Rattle.affc_cli.proofs.Telling.{grown-nil}
 
 -- ---- Statuses and lines
 
 not_zero : (refusal : Refusal) → status_of refusal ≢ 0
 not_zero Words e = absurd (omega arith)
-not_zero Read e = absurd (omega arith)
-not_zero Long e = absurd (omega arith)
-not_zero ReadData e = absurd (omega arith)
-not_zero LongData e = absurd (omega arith)
+not_zero (Unread file why) e = absurd (omega arith)
 not_zero (Source place why) e = absurd (omega arith)
 not_zero (Stuck line) e = absurd (omega arith)
 not_zero Memory e = absurd (omega arith)
@@ -33,10 +28,7 @@ not_zero Unbuilt e = absurd (omega arith)
 
 not_ten : (refusal : Refusal) → status_of refusal ≢ 10
 not_ten Words e = absurd (omega arith)
-not_ten Read e = absurd (omega arith)
-not_ten Long e = absurd (omega arith)
-not_ten ReadData e = absurd (omega arith)
-not_ten LongData e = absurd (omega arith)
+not_ten (Unread file why) e = absurd (omega arith)
 not_ten (Source place why) e = absurd (omega arith)
 not_ten (Stuck line) e = absurd (omega arith)
 not_ten Memory e = absurd (omega arith)
@@ -46,10 +38,7 @@ not_ten Unbuilt e = absurd (omega arith)
 
 is_memory : (refusal : Refusal) → status_of refusal ≡ 9 → refusal ≡ Memory
 is_memory Words e = absurd (omega arith)
-is_memory Read e = absurd (omega arith)
-is_memory Long e = absurd (omega arith)
-is_memory ReadData e = absurd (omega arith)
-is_memory LongData e = absurd (omega arith)
+is_memory (Unread file why) e = absurd (omega arith)
 is_memory (Source place why) e = absurd (omega arith)
 is_memory (Stuck line) e = absurd (omega arith)
 is_memory Memory e = refl
@@ -87,10 +76,8 @@ ends_with_10 (Run source feed limit) = (5, lit< tt, refl)
 
 ends_with : (command : Command) (refusal : Refusal) (before now : FolderState) → Cause command refusal before now → Contains (statuses_of command) (status_of refusal)
 ends_with (Fold source) Words before now cause = absurd cause
-ends_with (Fold source) Read before now cause = (1, lit< tt, refl)
-ends_with (Fold source) Long before now cause = (1, lit< tt, refl)
-ends_with (Fold source) ReadData before now cause = absurd cause
-ends_with (Fold source) LongData before now cause = absurd cause
+ends_with (Fold source) (Unread operand.Source why) before now cause = (1, lit< tt, refl)
+ends_with (Fold source) (Unread operand.Data why) before now cause = absurd cause
 ends_with (Fold source) (Source place why) before now cause = (2, lit< tt, refl)
 ends_with (Fold source) (Stuck line) before now cause = absurd cause
 ends_with (Fold source) Memory before now cause = (3, lit< tt, refl)
@@ -98,10 +85,7 @@ ends_with (Fold source) Steps before now cause = absurd cause
 ends_with (Fold source) (Data number) before now cause = absurd cause
 ends_with (Fold source) Unbuilt before now cause = (5, lit< tt, refl)
 ends_with (Run source feed limit) Words before now cause = absurd cause
-ends_with (Run source feed limit) Read before now cause = (1, lit< tt, refl)
-ends_with (Run source feed limit) Long before now cause = (1, lit< tt, refl)
-ends_with (Run source feed limit) ReadData before now cause = (1, lit< tt, refl)
-ends_with (Run source feed limit) LongData before now cause = (1, lit< tt, refl)
+ends_with (Run source feed limit) (Unread file why) before now cause = (1, lit< tt, refl)
 ends_with (Run source feed limit) (Source place why) before now cause = (2, lit< tt, refl)
 ends_with (Run source feed limit) (Stuck line) before now cause = (3, lit< tt, refl)
 ends_with (Run source feed limit) Memory before now cause = (4, lit< tt, refl)
@@ -274,16 +258,11 @@ pub run_ends : (source feed : List ℕ) (limit : ℕ) (name : List ℕ) (before 
 run_ends source feed limit name before now status made promised reads cause refused_reads is ends keeps =
     ends_runs (Run source feed limit) name before now status made promised reads (run_caused source feed limit name before now made cause refused_reads is) ends keeps
 
--- ---- Words that are no command form, and want of memory for the words
+-- ---- Want of memory for the words
 
 pub said : (refusal : Refusal) (before now : Outside) (status : ℕ) → status ≡ status_of refusal → now.folder ≡ before.folder → now.out ≡ before.out
     → Told before.err.taken before.err now.err (line_of refusal []) → Keeps before now → IsSaid refusal before now status
 said refusal before now status is folder out told keeps = record { is_status = is; keeps = keeps; folder = folder; out = out; told = told }
-
-pub words_serves : (words : List (List ℕ)) (before now : Outside) (status : ℕ) → None ≡ command_of words → IsSaid Words before now status → Serves words before now status
-words_serves words before now status none is =
-    let P : Option Command → Type 0 = λ o. MatchOption o (WordsRefused before now status) (λ command. Runs command before now status) in
-    subst P none (inl is)
 
 pub short_serves : (words : List (List ℕ)) (before now : Outside) (status : ℕ) → IsSaid Memory before now status → Serves words before now status
 short_serves words before now status is = go (command_of words)
@@ -302,20 +281,3 @@ short_serves words before now status is = go (command_of words)
       failed = λ e. absurd (omega arith);
       refused = λ _ other _. absurd (other nine);
     }
-
--- ---- Words as the system gives them
-
-pub served_given : (given : Result (Vec (String Global) Global) Error) (words : Vec (String Global) Global) (slice : List (String Global)) (before now : Outside) (status : ℕ)
-    → given ≡ Ok words → slice ≡ words.items → Serves (texts_of (drop 1 slice)) before now status → ServesGiven given before now status
-served_given given words slice before now status is same serves =
-    subst (λ w. ServesGiven w before now status) (sym is) (subst (λ l. Serves (texts_of (drop 1 l)) before now status) same serves)
-
-pub short_given : (given : Result (Vec (String Global) Global) Error) (error : Error) (kind : ErrorKind) (before now : Outside) (status : ℕ)
-    → given ≡ Err error → kind ≡ error_kind error → kind ≡ OutOfMemory → IsSaid Memory before now status → ServesGiven given before now status
-short_given given error kind before now status is its short said_so =
-    subst (λ w. ServesGiven w before now status) (sym is) (record { short = λ _. said_so; others = λ other. absurd (other (sym its ∙ short)) })
-
-pub words_given : (given : Result (Vec (String Global) Global) Error) (error : Error) (kind : ErrorKind) (before now : Outside) (status : ℕ)
-    → given ≡ Err error → kind ≡ error_kind error → kind ≢ OutOfMemory → IsSaid Words before now status → ServesGiven given before now status
-words_given given error kind before now status is its other said_so =
-    subst (λ w. ServesGiven w before now status) (sym is) (record { short = λ e. absurd (other (its ∙ e)); others = λ _. said_so })

@@ -8,11 +8,9 @@ use Rattle.affc_ast.specs.Store.{Store}
 use Rattle.affc_interp.specs.Budget.{Run, Stop, StuckBy, OutOfSteps}
 use Rattle.affc_interp.specs.DataText.{output_text}
 use Rattle.affc_interp.specs.Runs.{within_limit, steps_of}
-use Rattle.affc_cli.specs.Refusal.{TextCause, UnreadCause}
 use Rattle.affc_cli.specs.Run.{Runnable, outcome, RunsTo, RunTextCause}
 use Rattle.affc_cli.specs.Telling.{RefusesStop}
 use Rattle.affc_cli.specs.declared.refusal.Refusal.{Refusal}
-use Rattle.affc_cli.specs.declared.refusal.Refusal.TheVariants.{Words, Read, Long, ReadData, LongData, Source, Stuck as StuckRun, Memory, Steps, Data, Unbuilt}
 
 -- ---- A run that is cut at a limit
 
@@ -93,31 +91,3 @@ run_refused source feed limit of (Some (StuckBy cause)) refusal answered (inl is
     subst (RunTextCause source feed limit) (sym is)
     (record { of = of; cause = cause; steps = s.steps; stuck = s.stuck; within = s.within; its_line = refl })
 run_refused source feed limit of (Some (StuckBy cause)) refusal answered (inr is) = subst (RunTextCause source feed limit) (sym is) tt
-
--- ---- Texts that are no programs
-
-pub unread_run : (refusal : Refusal) (source feed : List ℕ) (limit : ℕ) → UnreadCause source refusal → RunTextCause source feed limit refusal
-unread_run Words source feed limit cause = cause
-unread_run Read source feed limit cause = cause
-unread_run Long source feed limit cause = cause
-unread_run ReadData source feed limit cause = cause
-unread_run LongData source feed limit cause = cause
-unread_run (Source place why) source feed limit cause = cause
-unread_run (StuckRun line) source feed limit cause = absurd cause
-unread_run Memory source feed limit cause = tt
-unread_run Steps source feed limit cause = absurd cause
-unread_run (Data number) source feed limit cause = absurd cause
-unread_run Unbuilt source feed limit cause = cause
-
-pub unread_fold : (refusal : Refusal) (source : List ℕ) → UnreadCause source refusal → TextCause source refusal
-unread_fold Words source cause = cause
-unread_fold Read source cause = cause
-unread_fold Long source cause = cause
-unread_fold ReadData source cause = cause
-unread_fold LongData source cause = cause
-unread_fold (Source place why) source cause = cause.0
-unread_fold (StuckRun line) source cause = cause
-unread_fold Memory source cause = tt
-unread_fold Steps source cause = cause
-unread_fold (Data number) source cause = cause
-unread_fold Unbuilt source cause = absurd cause

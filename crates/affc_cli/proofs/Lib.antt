@@ -5,7 +5,6 @@ pub mod Telling
 pub mod Ending
 pub mod Executed
 pub mod Reading
-pub mod ReadCounts
 pub mod Folded
 pub mod Forms
 pub mod Clap

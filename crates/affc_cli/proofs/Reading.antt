@@ -1,13 +1,13 @@
 -- What is promised and refused once both files of `run` are read.
 use Rattle.std.proofs.Common.{Vec, ◌≡◌, ℕ, List, [], Option, Result, Ok, Err, IfOk, IfErr, refl, sym, subst}
 use Rattle.std.specs.declared.alloc.Global.{Global}
-use Rattle.affc_io.specs.Files.{Files, Holds}
-use Rattle.affc_cli.specs.Outside.{FolderState}
+use Rattle.affc_io.specs.Files.{Holds}
+use Rattle.affc_io.specs.State.{Files, FolderState}
 use Rattle.affc_cli.specs.Promise.{RunPromises}
 use Rattle.affc_cli.specs.Refusal.{HeldTexts, RunCause}
 use Rattle.affc_cli.specs.Run.{RunsTo, RunTextCause}
 use Rattle.affc_cli.specs.declared.refusal.Refusal.{Refusal}
-use Rattle.affc_cli.specs.declared.refusal.Refusal.TheVariants.{Words, Read, Long, ReadData, LongData, Source, Stuck, Memory, Steps, Data, Unbuilt}
+use Rattle.affc_cli.specs.declared.refusal.Refusal.TheVariants.{Words, Unread, Source, Stuck, Memory, Steps, Data, Unbuilt}
 
 -- ---- The two texts, of which the second was read from a folder that holds the same
 
@@ -27,10 +27,7 @@ run_promised held source feed limit t (Err refusal) runs = tt
 caused : (source feed : List ℕ) (limit : ℕ) (before now : FolderState) (t : HeldTexts before.held source feed) (refusal : Refusal)
     → RunTextCause t.source_text t.feed_text limit refusal → RunCause refusal source feed limit before now
 caused source feed limit before now t Words cause = absurd cause
-caused source feed limit before now t Read cause = absurd cause
-caused source feed limit before now t Long cause = absurd cause
-caused source feed limit before now t ReadData cause = absurd cause
-caused source feed limit before now t LongData cause = absurd cause
+caused source feed limit before now t (Unread file why) cause = absurd cause
 caused source feed limit before now t (Source place why) cause = record { texts = t; cause = cause }
 caused source feed limit before now t (Stuck line) cause = record { texts = t; cause = cause }
 caused source feed limit before now t Memory cause = tt

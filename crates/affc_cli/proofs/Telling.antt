@@ -5,11 +5,12 @@ use Rattle.std.specs.declared.alloc.Global.{Global}
 use Rattle.affc_io.specs.Count.{Rose}
 use Rattle.affc_io.specs.Front.{IsFront}
 use Rattle.affc_io.specs.Put.{put_of, IsCausedBy}
+use Rattle.affc_io.specs.State.{SinkState, SinkCounts}
 use Rattle.affc_io.specs.Taken.{grown}
 use Rattle.affc_io.specs.declared.put.PutFault.{PutFault}
 use Rattle.affc_io.specs.declared.put.PutCause.{PutCause}
 use Rattle.affc_io.specs.declared.put.PutCause.TheVariants.{Fault, Memory}
-use Rattle.affc_cli.specs.Outside.{SinkState, SinkCounts, Falters, Told}
+use Rattle.affc_cli.specs.Outside.{Falters, Told}
 use Rattle.affc_cli.specs.Refusal.{status_of, line_of}
 use Rattle.affc_cli.specs.Telling.{IsTold, Ends}
 use Rattle.affc_cli.specs.declared.refusal.Refusal.{Refusal}

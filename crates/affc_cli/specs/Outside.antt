@@ -1,38 +1,18 @@
 -- The outside at one moment, and what becomes of it in a call.
 use Rattle.std.specs.Prelude.{◌≡◌, ◌≤◌, ◌⊎◌, ℕ, zero, suc, List, Option}
 use Rattle.affc_io.specs.Count.{Rose, raised}
-use Rattle.affc_io.specs.Files.{Files}
 use Rattle.affc_io.specs.Front.{IsFront}
+use Rattle.affc_io.specs.State.{FolderState, SinkState, FolderKeeps, SinkCounts}
 use Rattle.affc_io.specs.Taken.{grown}
 
--- A folder: what its names hold, where it tells that, and its counts of faults, of wants of memory and of reads.
-pub record FolderState : Type 0 where
-  pub held : Option Files
-  pub faults : ℕ
-  pub shortages : ℕ
-  pub reads : ℕ
-
--- A sink: what it has taken, where it tells that, and its counts of faults and of wants of memory.
-pub record SinkState : Type 0 where
-  pub taken : Option (List ℕ)
-  pub faults : ℕ
-  pub shortages : ℕ
-
+-- The folder and the two standard streams.
 pub record Outside : Type 0 where
   pub folder : FolderState
   pub out : SinkState
   pub err : SinkState
 
--- No name changes, and no count falls.
-pub record FolderKeeps (before now : FolderState) : Type 0 where
-  pub names : now.held ≡ before.held
-  pub faults : before.faults ≤ now.faults
-  pub shortages : before.shortages ≤ now.shortages
-
--- No count falls.
-pub record SinkCounts (before now : SinkState) : Type 0 where
-  pub faults : before.faults ≤ now.faults
-  pub shortages : before.shortages ≤ now.shortages
+abbrev pub outside : (folder : FolderState) (out err : SinkState) → Outside
+outside folder out err = record { folder = folder; out = out; err = err }
 
 pub record Keeps (before now : Outside) : Type 0 where
   pub folder : FolderKeeps before.folder now.folder

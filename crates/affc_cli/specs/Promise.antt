@@ -6,16 +6,18 @@ use Rattle.std.specs.declared.io.Error.{Error}
 use Rattle.std.specs.declared.io.ErrorKind.{ErrorKind}
 use Rattle.std.specs.declared.io.ErrorKind.TheVariants.{OutOfMemory}
 use Rattle.affc_io.specs.Count.{Rose}
-use Rattle.affc_io.specs.Files.{Files, Holds}
+use Rattle.affc_io.specs.Files.{Holds}
 use Rattle.affc_io.specs.Front.{IsFront}
+use Rattle.affc_io.specs.State.{Files, FolderState}
 use Rattle.affc_io.specs.Taken.{grown}
 use Rattle.affc_cli.specs.Command.{Command, Fold, Run, command_of, texts_of}
 use Rattle.affc_cli.specs.Fold.{FoldsTo}
-use Rattle.affc_cli.specs.Outside.{Outside, FolderState, Keeps, Told, IsRead, IsReadAtMost}
+use Rattle.affc_cli.specs.Outside.{Outside, Keeps, Told, IsRead, IsReadAtMost}
 use Rattle.affc_cli.specs.Refusal.{status_of, line_of, FoldCause, HeldTexts, RunCause, file_of}
 use Rattle.affc_cli.specs.Run.{RunsTo}
+use Rattle.affc_cli.specs.declared.refusal.Operand.TheVariants as operand
 use Rattle.affc_cli.specs.declared.refusal.Refusal.{Refusal}
-use Rattle.affc_cli.specs.declared.refusal.Refusal.TheVariants.{Words, Read, Long, Memory}
+use Rattle.affc_cli.specs.declared.refusal.Refusal.TheVariants.{Words, Unread, Memory}
 
 -- The text does what the source does that the name held, where the folder tells what it holds; the report is empty.
 pub record FoldPromises (name : List ℕ) (held : Option Files) (text report : List ℕ) : Type 0 where
@@ -54,8 +56,7 @@ files_of (Run source feed limit) = 2
 -- How often a command that is refused so reads the folder: `run` stops at its source where that isn't read.
 abbrev pub reads_of : Command → Refusal → ℕ
 reads_of (Fold source) refusal = 1
-reads_of (Run source feed limit) Read = 1
-reads_of (Run source feed limit) Long = 1
+reads_of (Run source feed limit) (Unread operand.Source why) = 1
 reads_of (Run source feed limit) refusal = 2
 
 -- When a command is refused so.

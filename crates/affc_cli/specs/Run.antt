@@ -10,7 +10,7 @@ use Rattle.affc_interp.specs.Runs.{start, steps_of}
 use Rattle.affc_cli.specs.Fold.{SourceFault}
 use Rattle.affc_cli.specs.Stuck.{stuck_line}
 use Rattle.affc_cli.specs.declared.refusal.Refusal.{Refusal}
-use Rattle.affc_cli.specs.declared.refusal.Refusal.TheVariants.{Words, Read, Long, ReadData, LongData, Source, Stuck as StuckRun, Memory, Steps, Data, Unbuilt}
+use Rattle.affc_cli.specs.declared.refusal.Refusal.TheVariants.{Words, Unread, Source, Stuck as StuckRun, Memory, Steps, Data, Unbuilt}
 use Rattle.affc_cli.specs.declared.refusal.Why.TheVariants.{Printed}
 
 -- The source reads as a program, with the prelude or without it, and the data text is data of it: the numbers p, and the
@@ -57,10 +57,7 @@ pub record HasWrongLine (source feed : List ℕ) (number : ℕ) : Type 0 where
 -- When a source and a data text are refused so. Want of memory may come at any time.
 abbrev pub RunTextCause : (source feed : List ℕ) → (limit : ℕ) → Refusal → Type 0
 RunTextCause source feed limit Words = ⊥
-RunTextCause source feed limit Read = ⊥
-RunTextCause source feed limit Long = ⊥
-RunTextCause source feed limit ReadData = ⊥
-RunTextCause source feed limit LongData = ⊥
+RunTextCause source feed limit (Unread file why) = ⊥
 RunTextCause source feed limit (Source place why) = SourceFault source place why × (why ≢ Printed)
 RunTextCause source feed limit (StuckRun line) = IsStuck source feed limit line
 RunTextCause source feed limit Memory = Unit {0}

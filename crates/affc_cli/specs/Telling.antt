@@ -4,16 +4,17 @@ use Rattle.std.specs.declared.alloc.Global.{Global}
 use Rattle.affc_ast.specs.declared.tree.Program.{Program}
 use Rattle.affc_interp.specs.Budget.{Stop, StuckBy, OutOfSteps}
 use Rattle.affc_io.specs.Count.{Rose}
-use Rattle.affc_io.specs.Files.{NotHeld, TooLong}
 use Rattle.affc_io.specs.Front.{IsFront}
+use Rattle.affc_io.specs.State.{FolderState, SinkState}
 use Rattle.affc_io.specs.Taken.{grown}
-use Rattle.affc_cli.specs.Outside.{FolderState, SinkState, Told, IsRead, IsReadAtMost}
+use Rattle.affc_cli.specs.Outside.{Told, IsRead, IsReadAtMost}
 use Rattle.affc_cli.specs.Command.{Command}
 use Rattle.affc_cli.specs.Promise.{files_of, reads_of}
-use Rattle.affc_cli.specs.Refusal.{status_of, line_of}
+use Rattle.affc_cli.specs.Refusal.{status_of, line_of, IsUnread}
 use Rattle.affc_cli.specs.Stuck.{stuck_line}
+use Rattle.affc_cli.specs.declared.refusal.Operand.{Operand}
 use Rattle.affc_cli.specs.declared.refusal.Refusal.{Refusal}
-use Rattle.affc_cli.specs.declared.refusal.Refusal.TheVariants.{Read, Long, ReadData, LongData, Stuck, Memory, Steps}
+use Rattle.affc_cli.specs.declared.refusal.Refusal.TheVariants.{Unread, Stuck, Memory, Steps}
 
 -- The line of the refusal was told, or that of want of memory, and this is the status of it.
 pub record IsTold (refusal : Refusal) (name : List ℕ) (before now : SinkState) (status : ℕ) : Type 0 where
@@ -67,21 +68,13 @@ Ends (Ok text) name out now_out err now_err status =
     IsPut text.items out now_out err now_err status ⊎ IsPutShort text.items out now_out err now_err status ⊎ IsPutFailed text.items out now_out err now_err status
 Ends (Err refusal) name out now_out err now_err status = IsRefusal refusal name out now_out err now_err status
 
--- ---- Why a file isn't read
+-- ---- Reading a file
 
--- the source's
-abbrev pub UnheldCause : Refusal → (name : List ℕ) → FolderState → FolderState → Type 0
-UnheldCause Read name before now = Rose before.faults now.faults ⊎ NotHeld before.held name before.faults now.faults
-UnheldCause Long name before now = TooLong before.held name before.faults now.faults
-UnheldCause Memory name before now = Unit {0}
-UnheldCause _ name before now = ⊥
-
--- the data's
-abbrev pub UnheldData : Refusal → (name : List ℕ) → FolderState → FolderState → Type 0
-UnheldData ReadData name before now = Rose before.faults now.faults ⊎ NotHeld before.held name before.faults now.faults
-UnheldData LongData name before now = TooLong before.held name before.faults now.faults
-UnheldData Memory name before now = Unit {0}
-UnheldData _ name before now = ⊥
+-- when this file isn't read, and the command is refused so; want of memory may come at any time
+abbrev pub UnheldCause : Operand → Refusal → (name : List ℕ) → FolderState → FolderState → Type 0
+UnheldCause file (Unread which why) name before now = (which ≡ file) × IsUnread why name before now
+UnheldCause file Memory name before now = Unit {0}
+UnheldCause file _ name before now = ⊥
 
 -- how often the folder was read when a command is refused so; want of memory may come at any time
 pub record HasRead (command : Command) (refusal : Refusal) (before now : FolderState) : Type 0 where

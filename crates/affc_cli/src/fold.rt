@@ -44,10 +44,7 @@ pub fn fold(alloc: Global, source: &[u8]) -> Result<Vec<u8>, Refusal>
     ensures ok { IfOk result (λ text. FoldsTo source.now text.items) }
     ensures err { IfErr result (TextCause source.now) }
 {
-    let tree = match program_of(alloc, source) {
-        Ok(tree) => tree,
-        Err(refusal) => return Err(refusal),
-    };
+    let tree = program_of(alloc, source)?;
     if tree.prelude {
         return Err(printed(alloc, source));
     }

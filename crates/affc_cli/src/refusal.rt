@@ -1,7 +1,8 @@
 // Why a command is refused.
 ghost use Rattle.std.specs.Prelude.{◌≡◌, ◌++◌, List, ℕ, IfOk, codes, string_bytes};
-ghost use Rattle.affc_cli.specs.Outside.{SinkCounts, Told};
-ghost use Rattle.affc_cli.specs.Refusal.{status_of, source_line, data_line};
+ghost use Rattle.affc_io.specs.State.{SinkCounts};
+ghost use Rattle.affc_cli.specs.Outside.{Told};
+ghost use Rattle.affc_cli.specs.Refusal.{status_of, source_line, data_line, unread_words};
 ghost use Rattle.affc_cli.specs.Telling.{IsTold};
 ghost use Rattle.affc_cli.specs.Words.{name_words, limit_words, why_words};
 
@@ -28,19 +29,31 @@ pub enum Why {
     Printed,
 }
 
+/// A file that a command names.
+#[derive(Clone, Copy, Debug)]
+pub enum Operand {
+    /// SRC
+    Source,
+    /// DATA
+    Data,
+}
+
+/// Why a file isn't read.
+#[derive(Clone, Copy, Debug)]
+pub enum UnreadWhy {
+    /// It is missing, or its read failed.
+    Unreadable,
+    /// It has more bytes than are read.
+    Long,
+}
+
 /// Why a command isn't done.
 #[derive(Debug, Drop)]
 pub enum Refusal {
     /// The words are no command form.
     Words,
-    /// The source's file can't be read.
-    Read,
-    /// It has more bytes than are read.
-    Long,
-    /// The data's file can't be read.
-    ReadData,
-    /// It has more bytes than are read.
-    LongData,
+    /// A file isn't read.
+    Unread { file: Operand, why: UnreadWhy },
     /// The source is no program that is taken.
     Source { place: usize, why: Why },
     /// The run is stuck, as the line says.
@@ -107,6 +120,18 @@ impl Why {
     }
 }
 
+impl UnreadWhy {
+    // What is said of the file, in front of its name.
+    fn words(self) -> &'static str
+        ensures { result.now ≡ unread_words self }
+    {
+        match self {
+            UnreadWhy::Unreadable => "affc: read ",
+            UnreadWhy::Long => "affc: too long ",
+        }
+    }
+}
+
 // What is said of data, without the line's end.
 fn data_line(alloc: Global, number: u64) -> Result<String, AllocError>
     ensures { IfOk result (λ line. string_bytes line ≡ data_line number) }
@@ -136,7 +161,7 @@ impl Refusal {
     {
         match self {
             Refusal::Words => 2,
-            Refusal::Read | Refusal::Long | Refusal::ReadData | Refusal::LongData => 3,
+            Refusal::Unread { file: _, why: _ } => 3,
             Refusal::Source { place: _, why: _ } => 4,
             Refusal::Stuck(_) => 5,
             Refusal::Memory => 9,
@@ -149,20 +174,13 @@ impl Refusal {
     /// Writes the line, where `name` is the file that is meant, and answers the status: that of want of memory,
     /// with its line, where there is none for this one's.
     pub fn tell<E: Sink>(&self, alloc: Global, err: &mut E, name: &str) -> u8
-        ensures counts { SinkCounts
-            (record { taken = E.taken err.old; faults = E.faults err.old; shortages = E.shortages err.old })
-            (record { taken = E.taken err.new; faults = E.faults err.new; shortages = E.shortages err.new }) }
-        ensures told { IsTold self.now name.now
-            (record { taken = E.taken err.old; faults = E.faults err.old; shortages = E.shortages err.old })
-            (record { taken = E.taken err.new; faults = E.faults err.new; shortages = E.shortages err.new })
+        ensures counts { SinkCounts (E.state err.old) (E.state err.new) }
+        ensures told { IsTold self.now name.now (E.state err.old) (E.state err.new)
             result }
     {
         match self {
             Refusal::Words => put_line(err, "affc: words", ""),
-            Refusal::Read => put_line(err, "affc: read ", name),
-            Refusal::Long => put_line(err, "affc: too long ", name),
-            Refusal::ReadData => put_line(err, "affc: read ", name),
-            Refusal::LongData => put_line(err, "affc: too long ", name),
+            Refusal::Unread { file: _, why } => put_line(err, why.words(), name),
             Refusal::Source { place, why } => match source_line(alloc, *place, *why) {
                 Ok(line) => put_line(err, line.as_str(), ""),
                 Err(_) => return tell_short(err),
@@ -182,12 +200,8 @@ impl Refusal {
 
 /// Says that memory is short, and answers the status.
 pub fn tell_short<E: Sink>(err: &mut E) -> u8
-    ensures counts { SinkCounts
-        (record { taken = E.taken err.old; faults = E.faults err.old; shortages = E.shortages err.old })
-        (record { taken = E.taken err.new; faults = E.faults err.new; shortages = E.shortages err.new }) }
-    ensures told { Told (E.taken err.old)
-        (record { taken = E.taken err.old; faults = E.faults err.old; shortages = E.shortages err.old })
-        (record { taken = E.taken err.new; faults = E.faults err.new; shortages = E.shortages err.new })
+    ensures counts { SinkCounts (E.state err.old) (E.state err.new) }
+    ensures told { Told (E.state err.old).taken (E.state err.old) (E.state err.new)
         (codes "affc: memory\n") }
     ensures status { result ≡ 9 }
 {
@@ -197,12 +211,8 @@ pub fn tell_short<E: Sink>(err: &mut E) -> u8
 
 /// Says that the words are no command form, and answers the status.
 pub fn tell_words<E: Sink>(err: &mut E) -> u8
-    ensures counts { SinkCounts
-        (record { taken = E.taken err.old; faults = E.faults err.old; shortages = E.shortages err.old })
-        (record { taken = E.taken err.new; faults = E.faults err.new; shortages = E.shortages err.new }) }
-    ensures told { Told (E.taken err.old)
-        (record { taken = E.taken err.old; faults = E.faults err.old; shortages = E.shortages err.old })
-        (record { taken = E.taken err.new; faults = E.faults err.new; shortages = E.shortages err.new })
+    ensures counts { SinkCounts (E.state err.old) (E.state err.new) }
+    ensures told { Told (E.state err.old).taken (E.state err.old) (E.state err.new)
         (codes "affc: words\n") }
     ensures status { result ≡ 2 }
 {
@@ -212,12 +222,8 @@ pub fn tell_words<E: Sink>(err: &mut E) -> u8
 
 /// Writes a line, as far as the sink takes it.
 pub fn put_line<E: Sink>(err: &mut E, head: &str, name: &str)
-    ensures counts { SinkCounts
-        (record { taken = E.taken err.old; faults = E.faults err.old; shortages = E.shortages err.old })
-        (record { taken = E.taken err.new; faults = E.faults err.new; shortages = E.shortages err.new }) }
-    ensures told { Told (E.taken err.old)
-        (record { taken = E.taken err.old; faults = E.faults err.old; shortages = E.shortages err.old })
-        (record { taken = E.taken err.new; faults = E.faults err.new; shortages = E.shortages err.new })
+    ensures counts { SinkCounts (E.state err.old) (E.state err.new) }
+    ensures told { Told (E.state err.old).taken (E.state err.old) (E.state err.new)
         (head.now ++ name.now ++ codes "\n") }
 {
     let Ok(()) = put_all(err, head.as_bytes()) else {

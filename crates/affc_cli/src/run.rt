@@ -5,7 +5,6 @@ ghost use Rattle.affc_cli.specs.Run.{RunsTo, RunTextCause};
 use crate::refusal::Refusal;
 use crate::source::program_of;
 use crate::stuck::refusal_of;
-use affc_interp::counted::is_counted;
 use affc_interp::feed::{FeedFault, read_feed};
 use affc_interp::lines::lines;
 use affc_interp::run::run;
@@ -16,13 +15,7 @@ pub fn run_text(alloc: Global, source: &[u8], feed: &[u8], limit: u64) -> Result
     ensures ok { IfOk result (λ text. RunsTo source.now feed.now limit text.items) }
     ensures err { IfErr result (RunTextCause source.now feed.now limit) }
 {
-    let program = match program_of(alloc, source) {
-        Ok(program) => program,
-        Err(refusal) => return Err(refusal),
-    };
-    if !is_counted(&program) {
-        return Err(Refusal::Memory);
-    }
+    let program = program_of(alloc, source)?;
     let given = match read_feed(alloc, feed, &program) {
         Ok(given) => given,
         Err(FeedFault::Line(number)) => return Err(Refusal::Data(number)),

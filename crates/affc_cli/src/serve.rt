@@ -1,80 +1,59 @@
 // The top call.
 ghost use Rattle.std.specs.Prelude.{◌≡◌, [], IfOk, IfErr, OnOk, drop};
+ghost use Rattle.std.specs.Process.{exit_status};
 ghost use Rattle.affc_io.specs.Files.{Holds};
 ghost use Rattle.affc_cli.specs.Command.{Fold, Run, texts_of};
-ghost use Rattle.affc_cli.specs.Outside.{FolderKeeps, IsRead, SinkCounts};
+ghost use Rattle.affc_io.specs.State.{FolderKeeps, SinkCounts};
+ghost use Rattle.affc_cli.specs.Outside.{IsRead, outside};
 ghost use Rattle.affc_cli.specs.Promise.{FoldPromises, RunPromises, Runs, Serves, ServesGiven};
 ghost use Rattle.affc_cli.specs.Refusal.{FoldCause, RunCause, file_of};
-ghost use Rattle.affc_cli.specs.Telling.{Ends, HasRead, UnheldCause, UnheldData};
+ghost use Rattle.affc_cli.specs.Telling.{Ends, HasRead, UnheldCause};
 
 use crate::fold::fold;
-use crate::refusal::{Refusal, tell_short, tell_words};
+use crate::refusal::{Operand, Refusal, UnreadWhy, tell_short, tell_words};
 use crate::run::run_text;
 use crate::words::{Command, command_of};
 use affc_io::{Folder, PutCause, ReadFault, Sink, put_all};
 use std::alloc::Global;
 use std::io;
 use std::io::ErrorKind;
+use std::process::ExitCode;
 
-// The source that the folder has under the name.
-fn source_of<F: Folder>(alloc: Global, name: &str, folder: &mut F) -> Result<Vec<u8>, Refusal>
-    ensures keeps { FolderKeeps
-        (record { held = F.held folder.old; faults = F.faults folder.old; shortages = F.shortages folder.old; reads = F.reads folder.old })
-        (record { held = F.held folder.new; faults = F.faults folder.new; shortages = F.shortages folder.new; reads = F.reads folder.new }) }
-    ensures reads { IsRead 1
-        (record { held = F.held folder.old; faults = F.faults folder.old; shortages = F.shortages folder.old; reads = F.reads folder.old })
-        (record { held = F.held folder.new; faults = F.faults folder.new; shortages = F.shortages folder.new; reads = F.reads folder.new }) }
-    ensures ok { IfOk result (λ text. Holds (F.held folder.old) name.now text.items) }
-    ensures err { IfErr result (λ refusal. UnheldCause refusal name.now
-        (record { held = F.held folder.old; faults = F.faults folder.old; shortages = F.shortages folder.old; reads = F.reads folder.old })
-        (record { held = F.held folder.new; faults = F.faults folder.new; shortages = F.shortages folder.new; reads = F.reads folder.new })) }
+// What the folder has under the name, which is that of this file.
+fn contents_of<F: Folder>(
+    alloc: Global,
+    file: Operand,
+    name: &str,
+    folder: &mut F,
+) -> Result<Vec<u8>, Refusal>
+    ensures keeps { FolderKeeps (F.state folder.old) (F.state folder.new) }
+    ensures reads { IsRead 1 (F.state folder.old) (F.state folder.new) }
+    ensures ok { IfOk result (λ text. Holds (F.state folder.old).held name.now text.items) }
+    ensures err { IfErr result (λ refusal.
+        UnheldCause file refusal name.now (F.state folder.old) (F.state folder.new)) }
 {
     match folder.read(alloc, name) {
         Ok(text) => Ok(text),
         Err(ReadFault::Memory) => Err(Refusal::Memory),
-        Err(ReadFault::Long) => Err(Refusal::Long),
-        Err(ReadFault::Missing) | Err(ReadFault::Failed) => Err(Refusal::Read),
-    }
-}
-
-// The data that the folder has under the name.
-fn feed_of<F: Folder>(alloc: Global, name: &str, folder: &mut F) -> Result<Vec<u8>, Refusal>
-    ensures keeps { FolderKeeps
-        (record { held = F.held folder.old; faults = F.faults folder.old; shortages = F.shortages folder.old; reads = F.reads folder.old })
-        (record { held = F.held folder.new; faults = F.faults folder.new; shortages = F.shortages folder.new; reads = F.reads folder.new }) }
-    ensures reads { IsRead 1
-        (record { held = F.held folder.old; faults = F.faults folder.old; shortages = F.shortages folder.old; reads = F.reads folder.old })
-        (record { held = F.held folder.new; faults = F.faults folder.new; shortages = F.shortages folder.new; reads = F.reads folder.new }) }
-    ensures ok { IfOk result (λ text. Holds (F.held folder.old) name.now text.items) }
-    ensures err { IfErr result (λ refusal. UnheldData refusal name.now
-        (record { held = F.held folder.old; faults = F.faults folder.old; shortages = F.shortages folder.old; reads = F.reads folder.old })
-        (record { held = F.held folder.new; faults = F.faults folder.new; shortages = F.shortages folder.new; reads = F.reads folder.new })) }
-{
-    match folder.read(alloc, name) {
-        Ok(text) => Ok(text),
-        Err(ReadFault::Memory) => Err(Refusal::Memory),
-        Err(ReadFault::Long) => Err(Refusal::LongData),
-        Err(ReadFault::Missing) | Err(ReadFault::Failed) => Err(Refusal::ReadData),
+        Err(ReadFault::Long) => Err(Refusal::Unread {
+            file,
+            why: UnreadWhy::Long,
+        }),
+        Err(ReadFault::Missing) | Err(ReadFault::Failed) => Err(Refusal::Unread {
+            file,
+            why: UnreadWhy::Unreadable,
+        }),
     }
 }
 
 // The text for the source that the folder has under the name.
 fn folded<F: Folder>(alloc: Global, name: &str, folder: &mut F) -> Result<Vec<u8>, Refusal>
-    ensures keeps { FolderKeeps
-        (record { held = F.held folder.old; faults = F.faults folder.old; shortages = F.shortages folder.old; reads = F.reads folder.old })
-        (record { held = F.held folder.new; faults = F.faults folder.new; shortages = F.shortages folder.new; reads = F.reads folder.new }) }
-    ensures reads { IsRead 1
-        (record { held = F.held folder.old; faults = F.faults folder.old; shortages = F.shortages folder.old; reads = F.reads folder.old })
-        (record { held = F.held folder.new; faults = F.faults folder.new; shortages = F.shortages folder.new; reads = F.reads folder.new }) }
-    ensures ok { IfOk result (λ text. FoldPromises name.now (F.held folder.old) text.items []) }
-    ensures err { IfErr result (λ refusal. FoldCause refusal name.now
-        (record { held = F.held folder.old; faults = F.faults folder.old; shortages = F.shortages folder.old; reads = F.reads folder.old })
-        (record { held = F.held folder.new; faults = F.faults folder.new; shortages = F.shortages folder.new; reads = F.reads folder.new })) }
+    ensures keeps { FolderKeeps (F.state folder.old) (F.state folder.new) }
+    ensures reads { IsRead 1 (F.state folder.old) (F.state folder.new) }
+    ensures ok { IfOk result (λ text. FoldPromises name.now (F.state folder.old).held text.items []) }
+    ensures err { IfErr result (λ refusal. FoldCause refusal name.now (F.state folder.old) (F.state folder.new)) }
 {
-    let source = match source_of(alloc, name, folder) {
-        Ok(source) => source,
-        Err(refusal) => return Err(refusal),
-    };
+    let source = contents_of(alloc, Operand::Source, name, folder)?;
     fold(alloc, &source)
 }
 
@@ -86,28 +65,16 @@ fn ran<F: Folder>(
     limit: u64,
     folder: &mut F,
 ) -> Result<Vec<u8>, Refusal>
-    ensures keeps { FolderKeeps
-        (record { held = F.held folder.old; faults = F.faults folder.old; shortages = F.shortages folder.old; reads = F.reads folder.old })
-        (record { held = F.held folder.new; faults = F.faults folder.new; shortages = F.shortages folder.new; reads = F.reads folder.new }) }
-    ensures reads { OnOk result (IsRead 2
-        (record { held = F.held folder.old; faults = F.faults folder.old; shortages = F.shortages folder.old; reads = F.reads folder.old })
-        (record { held = F.held folder.new; faults = F.faults folder.new; shortages = F.shortages folder.new; reads = F.reads folder.new })) }
-    ensures ok { IfOk result (λ text. RunPromises source.now feed.now limit (F.held folder.old) text.items []) }
+    ensures keeps { FolderKeeps (F.state folder.old) (F.state folder.new) }
+    ensures reads { OnOk result (IsRead 2 (F.state folder.old) (F.state folder.new)) }
+    ensures ok { IfOk result (λ text. RunPromises source.now feed.now limit (F.state folder.old).held text.items []) }
     ensures err { IfErr result (λ refusal. RunCause refusal source.now feed.now limit
-        (record { held = F.held folder.old; faults = F.faults folder.old; shortages = F.shortages folder.old; reads = F.reads folder.old })
-        (record { held = F.held folder.new; faults = F.faults folder.new; shortages = F.shortages folder.new; reads = F.reads folder.new })) }
+        (F.state folder.old) (F.state folder.new)) }
     ensures err_reads { IfErr result (λ refusal. HasRead (Run source.now feed.now limit) refusal
-        (record { held = F.held folder.old; faults = F.faults folder.old; shortages = F.shortages folder.old; reads = F.reads folder.old })
-        (record { held = F.held folder.new; faults = F.faults folder.new; shortages = F.shortages folder.new; reads = F.reads folder.new })) }
+        (F.state folder.old) (F.state folder.new)) }
 {
-    let source = match source_of(alloc, source, folder) {
-        Ok(source) => source,
-        Err(refusal) => return Err(refusal),
-    };
-    let feed = match feed_of(alloc, feed, folder) {
-        Ok(feed) => feed,
-        Err(refusal) => return Err(refusal),
-    };
+    let source = contents_of(alloc, Operand::Source, source, folder)?;
+    let feed = contents_of(alloc, Operand::Data, feed, folder)?;
     run_text(alloc, &source, &feed, limit)
 }
 
@@ -116,7 +83,12 @@ fn file_of<'a>(made: &Result<Vec<u8>, Refusal>, source: &'a str, feed: &'a str) 
     ensures { IfErr made.now (λ refusal. result.now ≡ file_of refusal source.now feed.now) }
 {
     match made {
-        Err(Refusal::ReadData) | Err(Refusal::LongData) => feed,
+        Err(
+            Refusal::Unread {
+                file: Operand::Data,
+                why: _,
+            },
+        ) => feed,
         _ => source,
     }
 }
@@ -129,18 +101,10 @@ fn end<O: Sink, E: Sink>(
     out: &mut O,
     err: &mut E,
 ) -> u8
-    ensures ends { Ends made name.now
-        (record { taken = O.taken out.old; faults = O.faults out.old; shortages = O.shortages out.old })
-        (record { taken = O.taken out.new; faults = O.faults out.new; shortages = O.shortages out.new })
-        (record { taken = E.taken err.old; faults = E.faults err.old; shortages = E.shortages err.old })
-        (record { taken = E.taken err.new; faults = E.faults err.new; shortages = E.shortages err.new })
+    ensures ends { Ends made name.now (O.state out.old) (O.state out.new) (E.state err.old) (E.state err.new)
         result }
-    ensures out_counts { SinkCounts
-        (record { taken = O.taken out.old; faults = O.faults out.old; shortages = O.shortages out.old })
-        (record { taken = O.taken out.new; faults = O.faults out.new; shortages = O.shortages out.new }) }
-    ensures err_counts { SinkCounts
-        (record { taken = E.taken err.old; faults = E.faults err.old; shortages = E.shortages err.old })
-        (record { taken = E.taken err.new; faults = E.faults err.new; shortages = E.shortages err.new }) }
+    ensures out_counts { SinkCounts (O.state out.old) (O.state out.new) }
+    ensures err_counts { SinkCounts (E.state err.old) (E.state err.new) }
 {
     let text = match made {
         Ok(text) => text,
@@ -164,16 +128,8 @@ fn run_fold<F: Folder, O: Sink, E: Sink>(
     err: &mut E,
 ) -> u8
     ensures { Runs (Fold name.now)
-        (record {
-          folder = record { held = F.held folder.old; faults = F.faults folder.old; shortages = F.shortages folder.old; reads = F.reads folder.old };
-          out = record { taken = O.taken out.old; faults = O.faults out.old; shortages = O.shortages out.old };
-          err = record { taken = E.taken err.old; faults = E.faults err.old; shortages = E.shortages err.old };
-        })
-        (record {
-          folder = record { held = F.held folder.new; faults = F.faults folder.new; shortages = F.shortages folder.new; reads = F.reads folder.new };
-          out = record { taken = O.taken out.new; faults = O.faults out.new; shortages = O.shortages out.new };
-          err = record { taken = E.taken err.new; faults = E.faults err.new; shortages = E.shortages err.new };
-        })
+        (outside (F.state folder.old) (O.state out.old) (E.state err.old))
+        (outside (F.state folder.new) (O.state out.new) (E.state err.new))
         result }
 {
     let made = folded(alloc, name, folder);
@@ -191,16 +147,8 @@ fn run_data<F: Folder, O: Sink, E: Sink>(
     err: &mut E,
 ) -> u8
     ensures { Runs (Run source.now feed.now limit)
-        (record {
-          folder = record { held = F.held folder.old; faults = F.faults folder.old; shortages = F.shortages folder.old; reads = F.reads folder.old };
-          out = record { taken = O.taken out.old; faults = O.faults out.old; shortages = O.shortages out.old };
-          err = record { taken = E.taken err.old; faults = E.faults err.old; shortages = E.shortages err.old };
-        })
-        (record {
-          folder = record { held = F.held folder.new; faults = F.faults folder.new; shortages = F.shortages folder.new; reads = F.reads folder.new };
-          out = record { taken = O.taken out.new; faults = O.faults out.new; shortages = O.shortages out.new };
-          err = record { taken = E.taken err.new; faults = E.faults err.new; shortages = E.shortages err.new };
-        })
+        (outside (F.state folder.old) (O.state out.old) (E.state err.old))
+        (outside (F.state folder.new) (O.state out.new) (E.state err.new))
         result }
 {
     let made = ran(alloc, source, feed, limit, folder);
@@ -217,16 +165,8 @@ pub fn serve<F: Folder, O: Sink, E: Sink>(
     err: &mut E,
 ) -> u8
     ensures { Serves (texts_of words.now)
-        (record {
-          folder = record { held = F.held folder.old; faults = F.faults folder.old; shortages = F.shortages folder.old; reads = F.reads folder.old };
-          out = record { taken = O.taken out.old; faults = O.faults out.old; shortages = O.shortages out.old };
-          err = record { taken = E.taken err.old; faults = E.faults err.old; shortages = E.shortages err.old };
-        })
-        (record {
-          folder = record { held = F.held folder.new; faults = F.faults folder.new; shortages = F.shortages folder.new; reads = F.reads folder.new };
-          out = record { taken = O.taken out.new; faults = O.faults out.new; shortages = O.shortages out.new };
-          err = record { taken = E.taken err.new; faults = E.faults err.new; shortages = E.shortages err.new };
-        })
+        (outside (F.state folder.old) (O.state out.old) (E.state err.old))
+        (outside (F.state folder.new) (O.state out.new) (E.state err.new))
         result }
 {
     match command_of(alloc, words) {
@@ -255,9 +195,8 @@ fn behind_name(words: &[String]) -> &[String]
     }
 }
 
-/// Serves the words that the system gives, of which the first is the program's name. Where it gives none, as of words
-/// that are no text, that is no command form.
-pub fn answered<F: Folder, O: Sink, E: Sink>(
+// What the words that the system gives come to.
+fn status_of<F: Folder, O: Sink, E: Sink>(
     alloc: Global,
     words: io::Result<Vec<String>>,
     folder: &mut F,
@@ -265,16 +204,8 @@ pub fn answered<F: Folder, O: Sink, E: Sink>(
     err: &mut E,
 ) -> u8
     ensures { ServesGiven words
-        (record {
-          folder = record { held = F.held folder.old; faults = F.faults folder.old; shortages = F.shortages folder.old; reads = F.reads folder.old };
-          out = record { taken = O.taken out.old; faults = O.faults out.old; shortages = O.shortages out.old };
-          err = record { taken = E.taken err.old; faults = E.faults err.old; shortages = E.shortages err.old };
-        })
-        (record {
-          folder = record { held = F.held folder.new; faults = F.faults folder.new; shortages = F.shortages folder.new; reads = F.reads folder.new };
-          out = record { taken = O.taken out.new; faults = O.faults out.new; shortages = O.shortages out.new };
-          err = record { taken = E.taken err.new; faults = E.faults err.new; shortages = E.shortages err.new };
-        })
+        (outside (F.state folder.old) (O.state out.old) (E.state err.old))
+        (outside (F.state folder.new) (O.state out.new) (E.state err.new))
         result }
 {
     match words {
@@ -284,4 +215,21 @@ pub fn answered<F: Folder, O: Sink, E: Sink>(
             _ => tell_words(err),
         },
     }
+}
+
+/// Serves the words that the system gives, of which the first is the program's name. Where it gives none, as of words
+/// that are no text, that is no command form.
+pub fn answered<F: Folder, O: Sink, E: Sink>(
+    alloc: Global,
+    words: io::Result<Vec<String>>,
+    folder: &mut F,
+    out: &mut O,
+    err: &mut E,
+) -> ExitCode
+    ensures { ServesGiven words
+        (outside (F.state folder.old) (O.state out.old) (E.state err.old))
+        (outside (F.state folder.new) (O.state out.new) (E.state err.new))
+        (exit_status result) }
+{
+    ExitCode::from(status_of(alloc, words, folder, out, err))
 }

@@ -1,11 +1,13 @@
 // What a source reads as.
 ghost use Rattle.std.specs.Prelude.{ℕ, List, Err, IfOk, IfErr};
+ghost use Rattle.affc_ast.specs.Counted.{IsCounted};
 ghost use Rattle.affc_grammar.specs.Reads.{Reads};
 ghost use Rattle.affc_parse.specs.Answers.{Answers};
 ghost use Rattle.affc_cli.specs.Refusal.{UnreadCause};
 
 use crate::refusal::{Refusal, Why};
 use affc_ast::tree::Program;
+use affc_grammar::laws::reads_counted;
 use affc_parse::fault::ParseFault;
 use affc_parse::parse;
 use std::alloc::Global;
@@ -50,8 +52,10 @@ fn refusal_of(fault: ParseFault) -> Refusal
 /// The program that the source reads as, with the prelude or without it.
 pub fn program_of(alloc: Global, source: &[u8]) -> Result<Program, Refusal>
     ensures ok { IfOk result (Reads source.now) }
+    ensures counted { IfOk result IsCounted }
     ensures err { IfErr result (UnreadCause source.now) }
 {
+    reads_counted();
     match parse(alloc, source) {
         Ok(program) => Ok(program),
         Err(fault) => Err(refusal_of(fault)),

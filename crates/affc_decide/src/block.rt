@@ -3,7 +3,7 @@ ghost use Rattle.std.specs.Prelude.{◌≡◌, ℕ, ℤ, pos, codes, ◌≤◌, 
 ghost use Rattle.affc_rows.specs.Forms.{Affine};
 ghost use Rattle.affc_system.specs.Boxes.{IsBox};
 ghost use Rattle.affc_decide.specs.Words.{Says, SaysNone};
-ghost use Rattle.affc_decide.specs.Blocks.{texts_of, Say, ends_of, Limit, Row, AddsRow, IsTaken, Takes, TakesNone, TakesLine, TakesNoLine, begun};
+ghost use Rattle.affc_decide.specs.Blocks.{AreWords, texts_of, Say, ends_of, Limit, Row, AddsRow, IsTaken, Takes, TakesNone, TakesLine, TakesNoLine, begun};
 
 use affc_rows::Form;
 use affc_system::{BoxOf, RowFault, System};
@@ -54,12 +54,23 @@ fn number(word: &str) -> Result<i64, Fault>
     }
 }
 
+/// An empty list with room for so many numbers.
+fn room_for(alloc: Global, count: usize) -> Result<Vec<i64>, Fault>
+    ensures none { IfOk result (λ v. v.items ≡ []) }
+    ensures fault { OnErr result (result ≡ Err Fault.Memory) }
+{
+    match Vec::with_capacity(alloc, count) {
+        Ok(room) => Ok(room),
+        Err(_) => Err(Fault::Memory),
+    }
+}
+
 /// The whole numbers that words say.
 fn numbers(alloc: Global, words: &[&str]) -> Result<Vec<i64>, Fault>
     ensures said { IfOk result (λ found. Say (texts_of words.now) found.items) }
     ensures none { IfErr result (λ e. e ≡ Fault.Malformed → (said : List ℤ) → Say (texts_of words.now) said → ⊥) }
 {
-    let mut found = Vec::new(alloc);
+    let mut found = room_for(alloc, words.len())?;
     for word in words {
         let n = number(word)?;
         let Ok(()) = found.push(n) else {
@@ -266,15 +277,29 @@ fn read_words(alloc: Global, block: &mut Option<Block>, words: &[&str]) -> Resul
     Ok(Line::Nothing)
 }
 
+/// How many words there is room for at once.
+const FEW_WORDS: usize = 16;
+
+/// The words of a line.
+fn words_of<'a>(alloc: Global, line: &'a str) -> Result<Vec<&'a str>, Fault>
+    ensures words { IfOk result (λ v. AreWords line.now v.items) }
+    ensures fault { OnErr result (result ≡ Err Fault.Memory) }
+{
+    let Ok(mut words) = Vec::with_capacity(alloc, FEW_WORDS) else {
+        return Err(Fault::Memory);
+    };
+    let Ok(()) = words.extend(line.split_whitespace()) else {
+        return Err(Fault::Memory);
+    };
+    Ok(words)
+}
+
 /// Reads a line into a block.
 pub fn read_line(alloc: Global, block: &mut Option<Block>, line: &str) -> Result<Line, Fault>
     ensures taken { IfOk result (λ added. TakesLine line.now block.old added block.new) }
     ensures none { IfErr result (λ e. e ≡ Fault.Malformed → TakesNoLine line.now block.old) }
     ensures kept { OnErr result (block.new ≡ block.old) }
 {
-    let words: Vec<&str> = match line.split_whitespace().collect(alloc) {
-        Ok(words) => words,
-        Err(_) => return Err(Fault::Memory),
-    };
+    let words = words_of(alloc, line)?;
     read_words(alloc, block, words.as_slice())
 }

@@ -12,7 +12,7 @@ use affc_split::{Answer, Budget, Stop, decide, within_reach};
 use block::{Block, Fault, Line, read_line};
 use std::alloc::Global;
 use std::io;
-use std::io::{BufRead, BufReader, ErrorKind};
+use std::io::{BufRead, BufReader, BufWriter, ErrorKind, Write};
 use std::process::ExitCode;
 
 /// What the answers were.
@@ -44,21 +44,26 @@ fn same(first: &[i64], second: &[i64]) -> bool
 }
 
 /// Prints an answer, and says whether it is the one that is expected.
-fn print_answer(rt: &impl Print, answer: &Answer, spent: u64, expected: &Line) -> io::Result<bool>
+fn print_answer(
+    out: &mut impl Write,
+    answer: &Answer,
+    spent: u64,
+    expected: &Line,
+) -> io::Result<bool>
     ensures { IfOk result (λ fine. IsTrue fine ↔ IsExpected answer.now expected.now) }
 {
     match answer {
         Answer::Empty(proof) => {
             let count = nodes(proof);
-            println!(rt; "empty {spent} {count}")?;
+            writeln!(out, "empty {spent} {count}")?;
             Ok(matches!(expected, Line::Empty))
         }
         Answer::Point(point) => {
-            print!(rt; "point")?;
+            write!(out, "point")?;
             for x in point {
-                print!(rt; " {x}")?;
+                write!(out, " {x}")?;
             }
-            println!(rt; " {spent}")?;
+            writeln!(out, " {spent}")?;
             match expected {
                 Line::Point(wanted) => Ok(same(point.as_slice(), wanted.as_slice())),
                 _ => Ok(false),
@@ -69,7 +74,8 @@ fn print_answer(rt: &impl Print, answer: &Answer, spent: u64, expected: &Line) -
 
 /// Decides a block. Answers whether it is whole.
 fn settle(
-    rt: &(impl Print + AllocGlobal),
+    alloc: Global,
+    out: &mut impl Write,
     block: &Block,
     expected: &Line,
     totals: &mut Totals,
@@ -84,12 +90,12 @@ fn settle(
         return Ok(false);
     }
     let mut budget = Budget::new(Some(block.limit));
-    let found = decide(rt.alloc(), &block.system, ranges, &mut budget);
+    let found = decide(alloc, &block.system, ranges, &mut budget);
     let spent = budget.spent();
     totals.units = totals.units.saturating_add(spent);
     match found {
         Ok(answer) => {
-            if !print_answer(rt, &answer, spent, expected)? {
+            if !print_answer(out, &answer, spent, expected)? {
                 totals.wrong = totals.wrong.saturating_add(1);
             }
             match answer {
@@ -99,7 +105,7 @@ fn settle(
         }
         Err(Stop::Memory) => return Err(io::Error::from(ErrorKind::OutOfMemory)),
         Err(Stop::Budget) => {
-            println!(rt; "stopped {spent}")?;
+            writeln!(out, "stopped {spent}")?;
             totals.stopped = totals.stopped.saturating_add(1);
         }
     }
@@ -108,7 +114,8 @@ fn settle(
 
 /// Takes a line. Answers whether it is well formed.
 fn take(
-    rt: &(impl Print + AllocGlobal),
+    alloc: Global,
+    out: &mut impl Write,
     block: &mut Option<Block>,
     line: &str,
     totals: &mut Totals,
@@ -116,10 +123,10 @@ fn take(
     ensures taken { IfOk result (λ fine. IsTrue fine → (added : Line) × TakesLine line.now block.old added block.new × ((added ≡ Line.Nothing) ⊎ IsSomeAnd block.new IsReady)) }
     ensures malformed { IfOk result (λ fine. ¬ (IsTrue fine) → TakesNoLine line.now block.old ⊎ ((added : Line) × TakesLine line.now block.old added block.new × (added ≢ Line.Nothing) × ¬ (IsSomeAnd block.new IsReady))) }
 {
-    match read_line(rt.alloc(), block, line) {
+    match read_line(alloc, block, line) {
         Ok(Line::Nothing) => Ok(true),
         Ok(expected) => match block {
-            Some(block) => settle(rt, block, &expected, totals),
+            Some(block) => settle(alloc, out, block, &expected, totals),
             None => Ok(false),
         },
         Err(Fault::Malformed) => Ok(false),
@@ -128,13 +135,21 @@ fn take(
 }
 
 /// Reads all lines. Answers the number of the first line that is malformed.
-fn run(rt: &HostRuntime, totals: &mut Totals) -> io::Result<Option<u64>> {
+fn run(
+    alloc: Global,
+    input: &mut impl BufRead,
+    out: &mut impl Write,
+    totals: &mut Totals,
+) -> io::Result<Option<u64>> {
     let mut block = None;
-    let mut count = 0u64;
-    for line in BufReader::new(rt.alloc(), rt.reader())?.lines(rt.alloc()) {
-        count = count.saturating_add(1);
-        if !take(rt, &mut block, line?.as_str(), totals)? {
-            return Ok(Some(count));
+    let mut text = String::new(alloc);
+    for count in 0..u64::MAX {
+        text.clear();
+        if input.read_line(&mut text)? == 0 {
+            break;
+        }
+        if !take(alloc, out, &mut block, text.as_str(), totals)? {
+            return Ok(Some(count + 1));
         }
     }
     Ok(None)
@@ -148,7 +163,11 @@ fn main(rt: HostRuntime) -> io::Result<ExitCode> {
         units: 0,
         wrong: 0,
     };
-    if let Some(line) = run(&rt, &mut totals)? {
+    let mut input = BufReader::new(rt.alloc(), rt.reader())?;
+    let mut out = BufWriter::new(rt.alloc(), io::writer(&rt))?;
+    let malformed = run(rt.alloc(), &mut input, &mut out, &mut totals)?;
+    if let Some(line) = malformed {
+        out.flush()?;
         eprintln!(rt; "line {line} is malformed")?;
         return Ok(ExitCode::from(2));
     }
@@ -159,8 +178,10 @@ fn main(rt: HostRuntime) -> io::Result<ExitCode> {
         units,
         wrong,
     } = totals;
-    println!(rt;
+    writeln!(
+        out,
         "{empty} empty, {points} points, {stopped} stopped, {units} units, {wrong} not as expected"
     )?;
+    out.flush()?;
     Ok(ExitCode::SUCCESS)
 }

@@ -8,7 +8,8 @@ use Rattle.affc_farkas.specs.Multiples.{multiple_sum, entry_of, IsRising, AreMul
 use Rattle.affc_farkas.specs.Proofs.{IsLeaf}
 use Rattle.std.proofs.Common.{length-append, ◌^◌}
 use Rattle.std.proofs.lemmas.List.Elements.{All-push, All-nil, All-cons, All-head, All-tail}
-use Rattle.std.proofs.Common.{◌-◌, slice_index_or, ltb}
+use Rattle.std.proofs.Common.{zero, suc, take, ◌+◌, ◌-◌, slice_index_or, ltb}
+use Rattle.std.proofs.lemmas.List.{take_more}
 use Rattle.std.proofs.lemmas.Bool.Decides.{nat_tests}
 
 lt_from : (a b : ℤ) → lt_z a b ≡ true → a <ℤ b
@@ -76,3 +77,14 @@ above_exact ps row r some = (
   (λ t. above_last ps row r some (ltb_to _ _ t)),
   (λ a. ltb_from _ _ (a (length ps - 1) (0, 0) (omega arith))),
 )
+
+-- one row number more, above those before it
+pub rising_more : (by : List (ℕ × ℕ)) (i : ℕ) (d : ℕ × ℕ) → i < length by → IsRising (take i by) → All (λ q. q.0 < (slice_index_or by i d).0) (take i by) → IsRising (take (i + 1) by)
+rising_more by i d h r a = subst IsRising (sym (take_more by i d h)) (rising_push (take i by) (slice_index_or by i d) r a)
+
+-- each row number is above those before it
+pub rising_before : (by : List (ℕ × ℕ)) (i : ℕ) (d : ℕ × ℕ) → i < length by → IsRising by → All (λ q. q.0 < (slice_index_or by i d).0) (take i by)
+rising_before [] i d h r = absurd (omega arith)
+rising_before (p ∷ ps) zero d h r = All-nil (λ q. q.0 < p.0)
+rising_before (p ∷ ps) (suc i) d h r =
+    All-cons (λ q. q.0 < (slice_index_or ps i d).0) p (take i ps) (r.0 i d (omega arith)) (rising_before ps i d (omega arith) r.1)

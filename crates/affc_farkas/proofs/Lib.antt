@@ -18,3 +18,5 @@ pub mod Inputs
 pub mod Chains
 pub mod Rationals
 pub mod ExampleProofs
+pub mod Measured
+pub mod DepthLemmas

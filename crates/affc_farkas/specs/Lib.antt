@@ -8,3 +8,5 @@ pub mod Steps
 pub mod Admissions
 pub mod Answers
 pub mod Examples
+pub mod Measures
+pub mod Depths

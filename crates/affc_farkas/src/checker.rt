@@ -258,6 +258,9 @@ fn check_from(proof: &Proof, added: &Added, system: &System) -> bool
 }
 
 /// Whether the proof is valid: then the system has no integer point.
+///
+/// It takes no memory, but its stack goes as deep as the proof, some 400 bytes a level. Of a proof that comes from outside ask
+/// `depth_at_most` first.
 pub fn check(system: &System, proof: &Proof) -> bool
     ensures exact { IsTrue result ↔ ValidProof system.now proof.now }
     ensures sound { IsTrue result → HasNoPoint system.now }

@@ -174,7 +174,7 @@ fn multipliers_of(alloc: Global, weights: &[u64]) -> Result<Multipliers, AllocEr
             pairs.push((i as u32, *weight))?;
         }
     }
-    Ok(Multipliers::from_pairs(pairs))
+    Ok(Multipliers::from_checked(pairs))
 }
 
 /// The leaf that a row makes whose coefficients are 0 and whose constant is below 0.

@@ -4,6 +4,7 @@
 mod admission;
 mod chain;
 mod checker;
+mod depth;
 pub mod elimination;
 pub mod examples;
 mod kept;
@@ -13,6 +14,7 @@ pub mod proof;
 mod steps;
 
 pub use checker::check;
+pub use depth::depth_at_most;
 pub use elimination::{Refutation, refute};
 pub use pair::Pair;
 pub use proof::{MultiplierFault, Multipliers, Proof};

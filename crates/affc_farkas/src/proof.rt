@@ -1,11 +1,13 @@
 //! Proofs that a system has no integer point.
-ghost use Rattle.std.specs.Prelude.{◌≡◌, ℕ, ◌+◌, ◌-◌, ◌*◌, ◌^◌, ◌<◌, ◌≤◌, ◌↔◌, ◌++◌, ◌∷◌, [], IfErr, OnOk, OnErr, IsTrue, length};
+ghost use Rattle.std.specs.Prelude.{◌≡◌, ℕ, ◌+◌, ◌-◌, ◌*◌, ◌^◌, ◌<◌, ◌≤◌, ◌↔◌, ◌++◌, ◌∷◌, [], IfErr, IfSome, IfNone, OnOk, OnErr, OnSome, IsTrue, length};
 ghost use Rattle.std.specs.List.{All};
 ghost use Rattle.affc_farkas.specs.Multiples.{IsRising, AreMultipliers};
+ghost use Rattle.affc_farkas.specs.Measures.{drop_measure};
 
 use affc_rows::Form;
 use std::alloc::Global;
 use std::marker::Model;
+use std::mem;
 use thiserror::Error;
 
 /// The most multipliers of one sum.
@@ -50,7 +52,6 @@ pub enum MultiplierFault {
 ///
 /// A leaf's multiples sum to a constant below 0. A cut divides the sum of multiples by `g`, rounds the constant down, and adds the
 /// row. A split has one proof for the points at which the form is at most `at`, and one for those at which it is more.
-#[derive(Drop)]
 pub enum Proof {
     Leaf(Multipliers),
     Cut {
@@ -67,6 +68,88 @@ pub enum Proof {
     },
 }
 
+impl Proof {
+    /// What is left of a split once a node of its low side is let go: a low side that splits is turned to the right. `low` is a box
+    /// with a leaf in it, to be used again.
+    #[cycle(drop)]
+    #[tactic(auto, using(crate::proofs::Measured::some_measure))]
+    fn turn(self, form: Form, at: i64, low: Box<Proof>, high: Box<Proof>) -> Proof
+        requires { drop_measure low.value ≡ 1 }
+        ensures { drop_measure result < (drop_measure self + drop_measure self) + drop_measure high.value + 1 }
+    {
+        match self {
+            Proof::Leaf(_) => {
+                Box::into_inner(low);
+                Box::into_inner(high)
+            }
+            Proof::Cut {
+                by: _,
+                g: _,
+                row: _,
+                rest,
+            } => {
+                Box::into_inner(low);
+                Proof::Split {
+                    form,
+                    at,
+                    low: rest,
+                    high,
+                }
+            }
+            Proof::Split {
+                form: other,
+                at: other_at,
+                low: first,
+                high: second,
+            } => {
+                let mut low = low;
+                *low = Proof::Split {
+                    form,
+                    at,
+                    low: second,
+                    high,
+                };
+                Proof::Split {
+                    form: other,
+                    at: other_at,
+                    low: first,
+                    high: low,
+                }
+            }
+        }
+    }
+}
+
+/// Letting a proof go is a loop that takes no memory, and its stack doesn't grow with the proof's depth.
+impl Drop for Proof {
+    #[cycle(drop)]
+    #[tactic(auto, using(crate::proofs::Measured::some_measure))]
+    fn drop(mut self) {
+        loop {
+            match self {
+                Proof::Leaf(_) => return,
+                Proof::Cut {
+                    by: _,
+                    g: _,
+                    row: _,
+                    rest,
+                } => self = Box::into_inner(rest),
+                Proof::Split {
+                    form,
+                    at,
+                    low,
+                    high,
+                } => {
+                    let mut low = low;
+                    let alloc = *Box::allocator(&low);
+                    let inner = mem::replace(&mut *low, Proof::Leaf(Multipliers::new(alloc)));
+                    self = inner.turn(form, at, low, high);
+                }
+            }
+        }
+    }
+}
+
 /// Whether a row number is above each of these.
 fn is_above(row: u32, pairs: &[(u32, u64)]) -> bool
     requires { IsRising pairs.now }
@@ -77,6 +160,34 @@ fn is_above(row: u32, pairs: &[(u32, u64)]) -> bool
         return true;
     }
     pairs[count - 1].0 < row
+}
+
+/// Whether each row number is above those before it.
+fn is_rising(pairs: &[(u32, u64)]) -> bool
+    ensures { IsTrue result ↔ IsRising pairs.now }
+{
+    for (i, pair) in pairs.iter().enumerate() {
+        if !is_above(pair.0, &pairs[..i]) {
+            return false;
+        }
+    }
+    true
+}
+
+/// Whether each multiplier keeps its limits.
+fn times_fit(pairs: &[(u32, u64)]) -> bool
+    ensures { IsTrue result ↔ All (λ p. (1 ≤ p.1) × (p.1 ≤ 2 ^ 53)) pairs.now }
+{
+    pairs
+        .iter()
+        .all(|pair| 1 <= pair.1 && pair.1 <= MOST_MULTIPLIER)
+}
+
+/// Whether these pairs keep the rules for multipliers.
+fn are_multipliers(pairs: &[(u32, u64)]) -> bool
+    ensures { IsTrue result ↔ AreMultipliers pairs.now }
+{
+    pairs.len() <= MOST_MULTIPLIERS && times_fit(pairs) && is_rising(pairs)
 }
 
 impl Multipliers {
@@ -124,8 +235,21 @@ impl Multipliers {
         Ok(())
     }
 
-    /// These pairs of a row number and its multiplier.
-    pub(crate) fn from_pairs(pairs: Vec<(u32, u64)>) -> Multipliers
+    /// These pairs of a row number and its multiplier, or `None` where they break a rule. Nothing is copied.
+    pub fn from_pairs(pairs: Vec<(u32, u64)>) -> Option<Multipliers>
+        ensures pairs { IfSome result (λ m. m ≡ pairs.items) }
+        ensures some { OnSome result (AreMultipliers pairs.items) }
+        ensures none { IfNone result (AreMultipliers pairs.items → ⊥) }
+    {
+        if are_multipliers(pairs.as_slice()) {
+            Some(Multipliers { pairs })
+        } else {
+            None
+        }
+    }
+
+    /// These pairs, which keep the rules.
+    pub(crate) fn from_checked(pairs: Vec<(u32, u64)>) -> Multipliers
         requires { AreMultipliers pairs.items }
         ensures { result ≡ pairs.items }
     {

@@ -13,7 +13,7 @@ use Rattle.affc_ast.specs.declared.tree.Program.{Program}
 use Rattle.affc_ast.specs.declared.tree.Role.TheVariants.{Input, Output}
 use Rattle.affc_ast.specs.declared.tree.Role.{Role}
 use Rattle.affc_grammar.specs.declared.fault.NameWhy.{NameWhy}
-use Rattle.affc_grammar.specs.declared.fault.NameWhy.TheVariants.{Unknown, Twice, Reserved, Const, Kind}
+use Rattle.affc_grammar.specs.declared.fault.NameWhy.TheVariants.{Twice, Reserved, Const, Kind}
 use Rattle.affc_grammar.specs.Grammar as g
 use Rattle.affc_grammar.specs.Grammar.{Symbol, Name, line_feed, IxText, SimpleText, BodyText, Text, text_symbols}
 use Rattle.affc_grammar.specs.Draft.{literal, name, load, and_stmt, no_stmts, assign, number_param, array_param, range, text_draft}
@@ -388,7 +388,7 @@ no_prelude : (c : CopyLoop) (low high : List ℕ) (braces : Bool) → has_prelud
 no_prelude c low high true = refl
 no_prelude c low high false = refl
 
-module _ (text : List ℕ) (tree : Program) (r : first.ReadsWide text tree) where
+module _ (text : List ℕ) (tree : Program) (r : first.ReadsAsCopyWide text tree) where
   its_symbols : symbols r.tokens ≡ text_symbols (copy_text r.copy r.low r.high r.braces)
   its_symbols = r.spelled ∙ copy_spelled r.copy r.low r.high r.braces
 
@@ -415,14 +415,14 @@ module _ (text : List ℕ) (tree : Program) (r : first.ReadsWide text tree) wher
   plain_tokens : has_prelude (symbols r.tokens) ≡ false
   plain_tokens = ap has_prelude its_symbols ∙ no_prelude r.copy r.low r.high r.braces
 
-pub reads_wide : (text : List ℕ) (tree : Program) → first.ReadsWide text tree → ReadsWide text tree
+pub reads_wide : (text : List ℕ) (tree : Program) → first.ReadsAsCopyWide text tree → ReadsWide text tree
 reads_wide text tree r = record { size = refl; tokens = r.tokens; lexes = r.its_tokens; derives = derives text tree r true }
 
 is_short : (b : Bool) (text : List ℕ) → length text ≤ 1048576 → passes (limits_of b).size (length text) ≡ false
 is_short true text h = refl
 is_short false text h = le-ltb 1048576 (length text) h
 
-pub reads_so : (text : List ℕ) (tree : Program) → first.Reads text tree → Reads text tree
+pub reads_so : (text : List ℕ) (tree : Program) → first.ReadsAsCopy text tree → Reads text tree
 reads_so text tree r = record {
   size = is_short (contains prelude text) text r.size;
   tokens = r.reads.tokens;

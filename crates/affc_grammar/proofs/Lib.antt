@@ -11,3 +11,9 @@ pub mod Texts
 pub mod Verdicts
 pub mod CopyLoops
 pub mod Named
+pub mod DraftSizes
+pub mod Steps
+pub mod TreeSizes
+pub mod Ranked
+pub mod Counts
+pub mod Bare

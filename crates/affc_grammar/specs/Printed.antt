@@ -21,13 +21,13 @@ use Rattle.affc_ast.specs.declared.tree.Local.{Local}
 use Rattle.affc_ast.specs.declared.tree.Stmt.{Stmt}
 use Rattle.affc_ast.specs.declared.tree.Stmt.TheOpen as stmt
 use Rattle.affc_ast.specs.declared.tree.Stmt.TheOpen.{Stmt-F}
-use Rattle.affc_ast.specs.declared.tree.Role.{Role}
-use Rattle.affc_ast.specs.declared.tree.Role.TheVariants.{Input}
 use Rattle.affc_ast.specs.declared.tree.Decl.{Decl}
 use Rattle.affc_ast.specs.declared.tree.Param.{Param}
 use Rattle.affc_ast.specs.declared.tree.Param.TheVariants.{Number, Array}
 use Rattle.affc_ast.specs.declared.tree.Program.{Program}
 use Rattle.affc_ast.specs.Recursion.{by_ix, by_val, by_stmt}
+pub use Rattle.affc_grammar.specs.Names.{is_input}
+pub use Rattle.affc_grammar.specs.Reading.{holding}
 use Rattle.affc_grammar.specs.Grammar.{Name, Digits, Choice, minimum, maximum, remainder, Rounding, down, up, is_divisor, is_shift, IxText, term, plus, minus, TermText, factor, times, FactorText, atom, negated, AtomText, literal, name, grouped, chosen, divided, DimsText, no_dims, and_dim, CondsText, cond, and_cond, CondText, compared, ValueText, complement, load, constant, parens, cast, operand, binary, shift, then_up, LocalsText, no_locals, and_local, StmtsText, no_stmts, and_stmt, StmtText, simple, block, for_loop, if_all, assign, braces, ParamText, number_param, array_param, ParamsText, param, and_param, one_array, DeclsText, no_decls, and_decl, IntText, PragmasText, no_pragmas, and_range, and_context, line_feed, Text, FunctionText, context_calls}
 
 -- the names of the numbers and the arrays that are visible, by their numbers
@@ -46,11 +46,6 @@ and_number names w = record names { numbers = names.numbers ++ w ∷ [] }
 
 abbrev pub and_array_name : Names → Name → Names
 and_array_name names w = record names { arrays = names.arrays ++ w ∷ [] }
-
--- a proof that the test holds, where it does
-abbrev pub holding : (b : Bool) → Option (IsTrue b)
-holding true = Some refl
-holding false = None
 
 -- ---- Whole-number expressions
 
@@ -232,10 +227,6 @@ abbrev pub stmt_text : (prelude : Bool) → Stmt → Names → StmtText prelude
 stmt_text prelude s = by_stmt (stmt_step prelude) s
 
 -- ---- The program
-
-abbrev pub is_input : Role → Bool
-is_input Input = true
-is_input _ = false
 
 abbrev pub array_text : (prelude : Bool) → Names → Decl → List Ix → ParamText prelude
 array_text prelude names d [] = array_param (is_input d.role) d.name nothing_written.whole no_dims

@@ -1,7 +1,7 @@
 //! Which texts are read, and what is wrong with others, by their symbols: each function here is a statement, proved
 //! by computation. A symbol has a space on either side, and symbols are numbered from 0.
 
-ghost use Rattle.std.specs.Prelude.{◌≡◌, ◌∷◌, ◌++◌, [], true, false, codes, replicate, flat_map, Some, None, pos};
+ghost use Rattle.std.specs.Prelude.{◌≡◌, List, ◌∷◌, ◌++◌, [], length, true, false, codes, replicate, flat_map, Some, None, pos};
 ghost use Rattle.affc_lex.specs.declared.token.Kind.TheVariants.{LineEnd};
 ghost use Rattle.affc_ast.specs.CopyLoop.{copy_tree};
 ghost use Rattle.affc_ast.specs.declared.tree.Ix.TheVariants as ix;
@@ -11,8 +11,8 @@ ghost use Rattle.affc_ast.specs.declared.tree.Op.TheVariants as op;
 ghost use Rattle.affc_ast.specs.declared.tree.Rel.TheVariants.{Less, LessEqual, Greater, Equal};
 ghost use Rattle.affc_grammar.specs.declared.fault.NameWhy.TheVariants.{Unknown, Twice, Reserved, Const, Kind, NoRange};
 ghost use Rattle.affc_grammar.specs.declared.fault.LimitName.TheVariants.{Run, Depth, Items, Parameters, Range, Loops, Statements, Empty, Accesses, Dimensions, Comparisons, Literal, Coefficient};
-ghost use Rattle.affc_grammar.specs.Grammar.{word, mark, prelude_symbols, text_symbols};
-ghost use Rattle.affc_grammar.specs.Limits.{tokens_past, count_run, count_open, count_item};
+ghost use Rattle.affc_grammar.specs.Grammar.{Symbol, word, mark, prelude_symbols, text_symbols};
+ghost use Rattle.affc_grammar.specs.Limits.{plain_limits, wide_limits, tokens_past, count_token, count_run, count_open, count_item};
 ghost use Rattle.affc_grammar.specs.Printed.{printed};
 ghost use Rattle.affc_grammar.specs.Reads.{WellNamed};
 ghost use Rattle.affc_grammar.specs.Verdict.{head_lines, line, around, with_prelude, reprinted, verdict, is_read, program_of, reads, syntax, name, product, limit};
@@ -94,6 +94,8 @@ pub fn names_are_seen()
     ensures own_value { verdict (with_prelude (codes "{ const int64_t a = a ; }")) ≡ name 38 Unknown }
     ensures temporary_twice { verdict (around (codes "uint64_t in ;")) ≡ name 33 Twice }
     ensures parameter_twice { verdict (line (head_lines ++ codes "void f ( int64_t N , int64_t N ) { }")) ≡ name 19 Twice }
+    ensures low_comes_before_the_second_word { verdict (around (codes "for ( int64_t i = x ; y < N ; i ++ ) out [ i ] = 0ULL ;")) ≡ name 37 Unknown }
+    ensures second_word_comes_before_high { verdict (around (codes "for ( int64_t i = 0 ; y < x ; i ++ ) out [ i ] = 0ULL ;")) ≡ name 39 Unknown }
 {}
 
 /// Names of other kinds, inputs and reserved names.
@@ -188,6 +190,13 @@ pub fn limits_are_counted()
     ensures parameters_have_dimensions { verdict (line (codes "# include <stdint.h> \n void f ( uint64_t t [ 1 ] [ 1 ] [ 1 ] [ 1 ] [ 1 ] ) { }")) ≡ limit 8 Dimensions }
     ensures least_place { verdict (around (codes "out [ 16777217 ] = 1ULL ; for ( int64_t i = 0 ; i < N ; i ++ ) { }")) ≡ limit 34 Literal }
     ensures inner_empty { verdict (around (codes "for ( int64_t i = 0 ; i < N ; i ++ ) { out [ 0 ] = 0ULL ; if ( N < 2 ) { } }")) ≡ limit 54 Empty }
+    ensures left_of_a_product { verdict (around (codes "out [ N * 65537 ] = 0ULL ;")) ≡ limit 34 Coefficient }
+    ensures differences_are_taken { is_read (verdict (around (codes "out [ 16777216 - 1 ] = 0ULL ;"))) ≡ true }
+    ensures products_are_taken { verdict (around (codes "out [ 4096 * 4097 ] = 0ULL ;")) ≡ limit 34 Coefficient }
+    ensures literal_in_a_call { verdict (with_prelude (codes "out [ affc_min ( 4611686018427387905 , N ) ] = 0ULL ;")) ≡ limit 37 Literal }
+    ensures literal_behind_a_comma { verdict (with_prelude (codes "out [ affc_min ( N , 4611686018427387905 ) ] = 0ULL ;")) ≡ limit 39 Literal }
+    ensures literal_in_a_quotient { verdict (with_prelude (codes "out [ affc_floord ( 4611686018427387905 , 2 ) ] = 0ULL ;")) ≡ limit 37 Literal }
+    ensures loops_round_nothing { is_read (verdict (with_prelude (codes "for ( int64_t i0 = 0 ; i0 < 1 ; i0 ++ ) " ++ codes "for ( int64_t i1 = 0 ; i1 < 1 ; i1 ++ ) " ++ codes "for ( int64_t i2 = 0 ; i2 < 1 ; i2 ++ ) " ++ codes "for ( int64_t i3 = 0 ; i3 < 1 ; i3 ++ ) " ++ codes "for ( int64_t i4 = 0 ; i4 < 1 ; i4 ++ ) " ++ codes "for ( int64_t i5 = 0 ; i5 < 1 ; i5 ++ ) " ++ codes "for ( int64_t i6 = 0 ; i6 < 1 ; i6 ++ ) " ++ codes "for ( int64_t i7 = 0 ; i7 < 1 ; i7 ++ ) " ++ codes "for ( int64_t i8 = 0 ; i8 < 1 ; i8 ++ ) " ++ codes "for ( int64_t i9 = 0 ; i9 < 1 ; i9 ++ ) " ++ codes "for ( int64_t j0 = 0 ; j0 < 1 ; j0 ++ ) " ++ codes "for ( int64_t j1 = 0 ; j1 < 1 ; j1 ++ ) " ++ codes "for ( int64_t j2 = 0 ; j2 < 1 ; j2 ++ ) " ++ codes "{ }"))) ≡ true }
     ensures wide_comparisons { is_read (verdict (with_prelude (codes "if ( N < 9 " ++ flat_map (λ b. codes "&& N < 9 ") (replicate 32 true) ++ codes ") out [ 0 ] = 0ULL ;"))) ≡ true }
 {}
 
@@ -202,6 +211,8 @@ pub fn shape()
     ensures depth_of_a_text { verdict (replicate 65 (mark (codes "("))) ≡ limit 64 Depth }
     ensures items_of_a_text { verdict (replicate 257 (word (codes "for"))) ≡ limit 256 Items }
     ensures separators { tokens_past count_run 1 0 0 (word (codes "x") ∷ mark (codes "{") ∷ word (codes "x") ∷ mark (codes "}") ∷ word (codes "x") ∷ record { kind = LineEnd; bytes = codes "\n" } ∷ word (codes "x") ∷ []) ≡ [] }
+    ensures tokens { (ss : List Symbol) → length ss ≡ 65537 → tokens_past count_token plain_limits.tokens 0 0 ss ≡ 65536 ∷ [] }
+    ensures tokens_with_the_prelude { (ss : List Symbol) → length ss ≡ 16777217 → tokens_past count_token wide_limits.tokens 0 0 ss ≡ 16777216 ∷ [] }
     ensures first_of_the_table { verdict (replicate 1984 (word (codes "x")) ++ replicate 65 (mark (codes "("))) ≡ limit 2048 Run }
 {}
 

@@ -1,8 +1,11 @@
 //! What holds of every text: each function here is a statement, proved.
 
-ghost use Rattle.std.specs.Prelude.{◌≡◌, ◌⊎◌, ◌+◌, ℕ, List, [], length, Some, Ok, Err, ◌↔◌};
+ghost use Rattle.std.specs.Prelude.{◌≡◌, ◌⊎◌, ◌+◌, ℕ, List, [], length, Some, Ok, Err, ◌↔◌, IsTrue, false};
 ghost use Rattle.affc_ast.specs.declared.tree.Program.{Program};
-ghost use Rattle.affc_ast.specs.Reads as copy;
+ghost use Rattle.affc_ast.specs.Counted.{IsCounted};
+ghost use Rattle.affc_ast.specs.Locals.{has_no_locals};
+ghost use Rattle.affc_ast.specs.Ranks.{has_right_ranks};
+ghost use Rattle.affc_ast.specs.Reads.{ReadsAsCopy, ReadsAsCopyWide};
 ghost use Rattle.affc_grammar.specs.declared.fault.NameWhy.{NameWhy};
 ghost use Rattle.affc_grammar.specs.declared.fault.LimitName.{LimitName};
 ghost use Rattle.affc_grammar.specs.Grammar.{Symbol, Text, text_symbols, StopsAt};
@@ -53,8 +56,26 @@ pub fn verdicts_are_right()
         ⊎ ((shape_passed (limits_of (has_prelude ss)) ss ≡ []) × ((c : Text) × (ss ≡ text_symbols c) × (tree_of (limits_of (has_prelude ss)) (text_draft c) ≡ Err (limit_passed (record { at = at; which = which }))))) }
 {}
 
+/// What a text reads as has fewer than 2^32 nodes, arrays and assignments, and assigns to its own arrays alone.
+pub fn reads_counted()
+    ensures plain { (text : List ℕ) (program : Program) → Reads text program → IsCounted program }
+    ensures wide { (text : List ℕ) (program : Program) → ReadsWide text program → IsCounted program }
+{}
+
+/// In what a text reads as each access has as many subscripts as its array has dimensions.
+pub fn reads_ranked()
+    ensures plain { (text : List ℕ) (program : Program) → Reads text program → IsTrue (has_right_ranks program) }
+    ensures wide { (text : List ℕ) (program : Program) → ReadsWide text program → IsTrue (has_right_ranks program) }
+{}
+
+/// A text without the prelude reads as a program without locals.
+pub fn no_locals_without_the_prelude()
+    ensures plain { (text : List ℕ) (program : Program) → Reads text program → program.prelude ≡ false → IsTrue (has_no_locals program) }
+    ensures wide { (text : List ℕ) (program : Program) → ReadsWide text program → program.prelude ≡ false → IsTrue (has_no_locals program) }
+{}
+
 /// A text of a copy loop reads as the program as which it reads by the tree's own definition.
 pub fn copy_loops_read()
-    ensures plain { (text : List ℕ) (tree : Program) → copy.Reads text tree → Reads text tree }
-    ensures wide { (text : List ℕ) (tree : Program) → copy.ReadsWide text tree → ReadsWide text tree }
+    ensures plain { (text : List ℕ) (tree : Program) → ReadsAsCopy text tree → Reads text tree }
+    ensures wide { (text : List ℕ) (tree : Program) → ReadsAsCopyWide text tree → ReadsWide text tree }
 {}

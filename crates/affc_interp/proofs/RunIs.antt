@@ -18,7 +18,8 @@ use Rattle.affc_ast.specs.Meaning.{State, arrays_of, extents_of, all_extents, pa
 use Rattle.affc_ast.specs.Store.{Store}
 use Rattle.affc_interp.specs.Budget.{Run, Stop, stuck_or, all_of, exec_of}
 use Rattle.affc_interp.specs.Machines.{Finishes, Halts, scope_of, position}
-use Rattle.affc_interp.specs.Runs.{within_limit, start, array_count, temps_node, body_node}
+use Rattle.affc_ast.specs.Counted.{array_count, temps_node, body_node}
+use Rattle.affc_interp.specs.Runs.{within_limit, start}
 use Rattle.affc_interp.specs.Arrays.{StopsAs, AllDeclared}
 use Rattle.affc_interp.specs.Begun.{Begins, with_extents, SaysSo, Answers, halt_of, stop_of}
 use Rattle.affc_interp.proofs.Moves.{each_is}

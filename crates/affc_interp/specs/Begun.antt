@@ -4,6 +4,7 @@ use Rattle.affc_ast.specs.declared.tree.Instance.{Instance}
 use Rattle.affc_ast.specs.declared.tree.Program.{Program}
 use Rattle.affc_ast.specs.Cause.{Extent, Overflow, OutOfBounds, Unwritten}
 use Rattle.affc_ast.specs.Meaning.{arrays_of, all_extents}
+use Rattle.affc_ast.specs.Counted.{temps_node, body_node}
 use Rattle.affc_ast.specs.Store.{Store}
 use Rattle.affc_interp.specs.declared.fault.Halt.{Halt}
 use Rattle.affc_interp.specs.declared.fault.Halt.TheVariants as halt
@@ -13,7 +14,6 @@ use Rattle.affc_interp.specs.declared.run.RunFault.TheVariants as fault
 use Rattle.affc_interp.specs.Budget.{Run, Stop, StuckBy, OutOfSteps, stuck_or}
 use Rattle.affc_interp.specs.Layout.{start_of}
 use Rattle.affc_interp.specs.Machines.{scope_of}
-use Rattle.affc_interp.specs.Runs.{temps_node, body_node}
 use Rattle.affc_interp.specs.Seen.{cause_at}
 
 -- what a fault says; want of memory says nothing

@@ -10,7 +10,7 @@ use Rattle.affc_ast.specs.declared.tree.Role.TheVariants.{Input, Output}
 use Rattle.affc_ast.specs.declared.tree.Stmt.{For, Assign}
 use Rattle.affc_ast.specs.declared.tree.Val.{Cast}
 use Rattle.affc_ast.specs.CopyLoop.{copy_tree}
-use Rattle.affc_ast.specs.Examples.{copying, copy_named, three}
+use Rattle.affc_ast.specs.Examples.{never, copying, copy_named, three}
 use Rattle.affc_ast.specs.Meaning.{meaning}
 use Rattle.affc_ast.specs.Store.{Store}
 use Rattle.affc_interp.specs.Budget.{OutOfSteps}
@@ -79,10 +79,6 @@ OutputsAreWritten =
 -- the last line needs no line feed
 abbrev pub DataIsRead : Type 0
 DataIsRead = FeedReads (codes "array out 1 2 3 4 5") rounding [] ((1 ∷ 2 ∷ 3 ∷ 4 ∷ 5 ∷ []) ∷ [])
-
--- 0 < 0
-abbrev never : Compare
-never = record { rel = Less; left = Lit (pos 0); right = Lit (pos 0) }
 
 -- where the context isn't met, the line behind the last is wrong
 abbrev pub UnmetContextIsWrong : Type 0

@@ -11,6 +11,5 @@ pub mod Wholes
 pub mod Feeds
 pub mod Outputs
 pub mod Earlier
-pub mod Counts
 pub mod Examples
 pub mod Operands

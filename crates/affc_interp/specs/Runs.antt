@@ -1,12 +1,11 @@
 -- What a run with so many steps answers.
-use Rattle.std.specs.Prelude.{◌≡◌, ℕ, ◌+◌, ◌^◌, ◌<◌, nat_le, if◌then◌else◌, true, ℤ, pos, suc, List, [], ◌∷◌, length, map, sum_by, Result, Ok, Err}
+use Rattle.std.specs.Prelude.{ℕ, nat_le, if◌then◌else◌, ℤ, pos, suc, List, [], ◌∷◌, Result, Ok, Err}
 use Rattle.affc_ast.specs.declared.tree.Decl.{Decl}
 use Rattle.affc_ast.specs.declared.tree.Program.{Program}
 use Rattle.affc_ast.specs.Cause.{Cause}
-use Rattle.affc_ast.specs.Index.{nodes_of_compare}
-use Rattle.affc_ast.specs.Meaning.{Outcome, Ended, Stuck, arrays_of, extents_of, nodes_of_decls, nodes_in, assigns_in, part_of}
+use Rattle.affc_ast.specs.Meaning.{Outcome, Ended, Stuck, arrays_of, extents_of}
 use Rattle.affc_ast.specs.Store.{Store}
-use Rattle.affc_interp.specs.Budget.{Run, StuckBy, OutOfSteps, exec_of, all_within}
+use Rattle.affc_interp.specs.Budget.{Run, StuckBy, OutOfSteps}
 use Rattle.affc_interp.specs.Layout.{start_of}
 
 abbrev pub steps_of : Outcome → ℕ
@@ -34,24 +33,3 @@ each_extents array (d ∷ ds) p = own_extents (extents_of array d.extents 0 p) �
 -- running fastest, with the values that are given.
 abbrev pub start : Program → (p : List ℤ) → (values : List (List ℕ)) → Store
 start program p values = start_of 0 (each_extents 0 (arrays_of program.params) p) values
-
--- how many arrays the program has
-abbrev pub array_count : Program → ℕ
-array_count program = length (arrays_of program.params) + length program.temps
-
--- the numbers of the temporaries' first node and of the body's
-abbrev pub temps_node : Program → ℕ
-temps_node program = nodes_of_decls (arrays_of program.params) + sum_by nodes_of_compare program.context
-
-abbrev pub body_node : Program → ℕ
-body_node program = temps_node program + nodes_of_decls program.temps
-
-abbrev pub node_total : Program → ℕ
-node_total program = body_node program + nodes_in (map part_of program.body)
-
--- Each assignment is to one of the program's arrays, and the numbers of arrays, nodes and assignments are below 2^32.
-pub record IsCounted (program : Program) : Type 0 where
-  pub arrays : array_count program < 2 ^ 32
-  pub nodes : node_total program < 2 ^ 32
-  pub assigns : assigns_in (map part_of program.body) < 2 ^ 32
-  pub within : all_within (map exec_of program.body) (array_count program) ≡ true

@@ -2,7 +2,6 @@
 #![tactic(auto)]
 
 mod context;
-pub mod counted;
 pub mod examples;
 mod extents;
 mod fault;

@@ -1,8 +1,9 @@
 ghost use Rattle.std.specs.Prelude.{◌≡◌, ◌+◌, ◌^◌, ◌<◌, [], length};
 ghost use Rattle.affc_ast.specs.Meaning.{meaning, arrays_of, nodes_of_decls};
+ghost use Rattle.affc_ast.specs.Counted.{IsCounted};
 ghost use Rattle.affc_interp.specs.Arrays.{values_in};
 ghost use Rattle.affc_interp.specs.Machines.{scope_of};
-ghost use Rattle.affc_interp.specs.Runs.{within_limit, start, IsCounted};
+ghost use Rattle.affc_interp.specs.Runs.{within_limit, start};
 ghost use Rattle.affc_interp.specs.Begun.{Begins, SaysSo, Answers};
 
 use crate::fault::{Fault, Halt};

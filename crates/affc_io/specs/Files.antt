@@ -1,12 +1,9 @@
 -- What the names of a folder hold, where the folder tells it.
-use Rattle.std.specs.Prelude.{◌≡◌, ◌<◌, ◌⊎◌, ℕ, List, length, Option, None, Some, IfSome}
+use Rattle.std.specs.Prelude.{◌≡◌, ◌<◌, ◌⊎◌, ℕ, List, length, Option, None, Some, IfSome, MatchOption}
 use Rattle.affc_io.specs.Count.{Rose}
 use Rattle.affc_io.specs.Front.{IsFront}
+use Rattle.affc_io.specs.State.{Files, FolderState}
 use Rattle.affc_io.specs.declared.folder.TheConstants.{LONGEST_READ}
-
--- what each name holds: a list of bytes, or nothing
-abbrev pub Files : Type 0
-Files = List ℕ → Option (List ℕ)
 
 -- what the name holds, as far as the folder tells
 abbrev pub held_under : Option Files → List ℕ → Option (List ℕ)
@@ -17,15 +14,17 @@ held_under (Some files) name = files name
 abbrev pub Holds : Option Files → List ℕ → List ℕ → Type 0
 Holds held name bytes = IfSome held (λ files. files name ≡ Some bytes)
 
+-- more bytes are held than a read answers
+abbrev pub IsLong : Option (List ℕ) → Type 0
+IsLong held = (bytes : List ℕ) × ((held ≡ Some bytes) × (LONGEST_READ < length bytes))
+
 -- The name isn't held. Where that isn't told, the count of faults rose.
-abbrev pub NotHeld : Option Files → List ℕ → ℕ → ℕ → Type 0
-NotHeld None name before now = Rose before now
-NotHeld (Some files) name before now = files name ≡ None
+abbrev pub NotHeld : List ℕ → FolderState → FolderState → Type 0
+NotHeld name before now = MatchOption before.held (Rose before.faults now.faults) (λ files. files name ≡ None)
 
 -- The name holds more bytes than a read answers. Where that isn't told, the count of faults rose.
-abbrev pub TooLong : Option Files → List ℕ → ℕ → ℕ → Type 0
-TooLong None name before now = Rose before now
-TooLong (Some files) name before now = (bytes : List ℕ) × ((files name ≡ Some bytes) × (LONGEST_READ < length bytes))
+abbrev pub TooLong : List ℕ → FolderState → FolderState → Type 0
+TooLong name before now = MatchOption before.held (Rose before.faults now.faults) (λ files. IsLong (files name))
 
 -- After a write that failed, the name holds a front of the bytes, or isn't held, as before.
 abbrev pub IsLeft : Option Files → Option Files → List ℕ → List ℕ → Type 0

@@ -4,5 +4,6 @@ pub mod Files
 pub mod Front
 pub mod Memory
 pub mod Put
+pub mod State
 pub mod Parts
 pub mod Taken

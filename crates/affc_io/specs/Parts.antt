@@ -1,7 +1,8 @@
 -- What the folder and the sinks in memory keep, and what their calls do with it.
 use Rattle.std.specs.Prelude.{ℕ, List, [], ◌==◌, Bool, min, Option, None, Some, if◌then◌else◌}
 use Rattle.std.specs.List.{list_any}
-use Rattle.affc_io.specs.Memory.{NamedFile}
+use Rattle.affc_io.specs.Memory.{NamedFile, held_in}
+use Rattle.affc_io.specs.State.{FolderState, SinkState}
 use Rattle.affc_io.specs.declared.memory.MemFolder.{MemFolder}
 use Rattle.affc_io.specs.declared.memory.MemSink.{MemSink}
 use Rattle.affc_io.specs.declared.memory.SureSink.{SureSink}
@@ -28,6 +29,15 @@ folder_shortages folder = folder.shortages
 abbrev pub folder_reads : MemFolder → ℕ
 folder_reads folder = folder.reads
 
+-- what it tells: what its names hold, and its counts
+abbrev pub folder_state : MemFolder → FolderState
+folder_state folder = record {
+  held = Some (held_in (folder_files folder));
+  faults = folder_faults folder;
+  shortages = folder_shortages folder;
+  reads = folder_reads folder;
+}
+
 -- the bytes taken so far
 abbrev pub mem_bytes : MemSink → List ℕ
 mem_bytes sink = sink.bytes.items
@@ -50,12 +60,20 @@ mem_faults sink = sink.faults
 abbrev pub mem_shortages : MemSink → ℕ
 mem_shortages sink = sink.shortages
 
+-- what it tells: the bytes taken so far, and its counts
+abbrev pub mem_state : MemSink → SinkState
+mem_state sink = record { taken = Some (mem_bytes sink); faults = mem_faults sink; shortages = mem_shortages sink }
+
 -- the bytes taken so far
 abbrev pub sure_bytes : SureSink → List ℕ
 sure_bytes sink = sink.bytes.items
 
 abbrev pub sure_shortages : SureSink → ℕ
 sure_shortages sink = sink.shortages
+
+-- what it tells: the bytes taken so far, and its counts, of which that of faults never rises
+abbrev pub sure_state : SureSink → SinkState
+sure_state sink = record { taken = Some (sure_bytes sink); faults = 0; shortages = sure_shortages sink }
 
 -- the call with this number is one of those that fail
 abbrev pub is_listed : List ℕ → ℕ → Bool

@@ -1,7 +1,8 @@
 // A folder of named files.
-ghost use Rattle.std.specs.Prelude.{◌≡◌, ◌≢◌, ◌≤◌, List, ℕ, Option, length, is_some, IfOk, IfErr, OnOk, IsErrOf};
+ghost use Rattle.std.specs.Prelude.{◌≡◌, ◌≢◌, ◌≤◌, List, ℕ, length, is_some, IfOk, IfErr, OnOk, IsErrOf};
 ghost use Rattle.affc_io.specs.Count.{Rose, StaysWhereTold, raised};
-ghost use Rattle.affc_io.specs.Files.{Files, held_under, NotHeld, Holds, TooLong, IsLeft};
+ghost use Rattle.affc_io.specs.Files.{held_under, NotHeld, Holds, TooLong, IsLeft};
+ghost use Rattle.affc_io.specs.State.{FolderState, FolderKeeps};
 
 use std::alloc::Global;
 use thiserror::Error;
@@ -38,51 +39,40 @@ pub fn longest_read()
 
 /// Files under names. Each name is any text, and holds bytes or nothing.
 pub trait Folder {
-    /// What each name holds, where the folder tells it.
-    ghost held: { Self → Option Files };
-
-    /// How many faults the folder has counted.
-    ghost faults: { Self → ℕ };
-
-    /// How many calls have answered `Memory`.
-    ghost shortages: { Self → ℕ };
-
-    /// How many calls of `read` there were.
-    ghost reads: { Self → ℕ };
+    /// What the names hold, where the folder tells it, and what it has counted.
+    ghost state: { Self → FolderState };
 
     /// What the name holds.
     fn read(&mut self, alloc: Global, name: &str) -> Result<Vec<u8>, ReadFault>
-        ensures keeps { held self.new ≡ held self.old }
-        ensures faults { faults self.old ≤ faults self.new }
-        ensures shortages { shortages self.old ≤ shortages self.new }
-        ensures ok { IfOk result (λ bytes. Holds (held self.old) name.now bytes.items) }
+        ensures keeps { FolderKeeps (state self.old) (state self.new) }
+        ensures ok { IfOk result (λ bytes. Holds (state self.old).held name.now bytes.items) }
         ensures fits { IfOk result (λ bytes. length bytes.items ≤ LONGEST_READ) }
-        ensures failed { IsErrOf result ReadFault.Failed → Rose (faults self.old) (faults self.new) }
-        ensures missing { IsErrOf result ReadFault.Missing →
-            NotHeld (held self.old) name.now (faults self.old) (faults self.new) }
-        ensures long { IsErrOf result ReadFault.Long →
-            TooLong (held self.old) name.now (faults self.old) (faults self.new) }
-        ensures memory { IsErrOf result ReadFault.Memory → Rose (shortages self.old) (shortages self.new) }
+        ensures failed { IsErrOf result ReadFault.Failed → Rose (state self.old).faults (state self.new).faults }
+        ensures missing { IsErrOf result ReadFault.Missing → NotHeld name.now (state self.old) (state self.new) }
+        ensures long { IsErrOf result ReadFault.Long → TooLong name.now (state self.old) (state self.new) }
+        ensures memory { IsErrOf result ReadFault.Memory →
+            Rose (state self.old).shortages (state self.new).shortages }
         // a folder that tells counts no fault but the calls that failed
         ensures settled { result ≢ Err ReadFault.Failed →
-            StaysWhereTold (held self.old) (faults self.old) (faults self.new) }
+            StaysWhereTold (state self.old).held (state self.old).faults (state self.new).faults }
         // and no shortage is counted but the calls that answered it
-        ensures ample { result ≢ Err ReadFault.Memory → shortages self.new ≡ shortages self.old }
-        ensures reads { reads self.new ≡ raised (reads self.old) };
+        ensures ample { result ≢ Err ReadFault.Memory → (state self.new).shortages ≡ (state self.old).shortages }
+        ensures reads { (state self.new).reads ≡ raised (state self.old).reads };
 
     /// Makes the name hold the bytes.
     fn write(&mut self, name: &str, bytes: &[u8]) -> Result<(), WriteFault>
-        ensures told { is_some (held self.new) ≡ is_some (held self.old) }
-        ensures faults { faults self.old ≤ faults self.new }
-        ensures shortages { shortages self.old ≤ shortages self.new }
-        ensures ok { OnOk result (Holds (held self.new) name.now bytes.now) }
-        ensures left { IfErr result (λ _. IsLeft (held self.old) (held self.new) name.now bytes.now) }
+        ensures told { is_some (state self.new).held ≡ is_some (state self.old).held }
+        ensures faults { (state self.old).faults ≤ (state self.new).faults }
+        ensures shortages { (state self.old).shortages ≤ (state self.new).shortages }
+        ensures ok { OnOk result (Holds (state self.new).held name.now bytes.now) }
+        ensures left { IfErr result (λ _. IsLeft (state self.old).held (state self.new).held name.now bytes.now) }
         ensures others { (other : List ℕ) → other ≢ name.now →
-            held_under (held self.new) other ≡ held_under (held self.old) other }
-        ensures failed { IsErrOf result WriteFault.Failed → Rose (faults self.old) (faults self.new) }
-        ensures memory { IsErrOf result WriteFault.Memory → Rose (shortages self.old) (shortages self.new) }
+            held_under (state self.new).held other ≡ held_under (state self.old).held other }
+        ensures failed { IsErrOf result WriteFault.Failed → Rose (state self.old).faults (state self.new).faults }
+        ensures memory { IsErrOf result WriteFault.Memory →
+            Rose (state self.old).shortages (state self.new).shortages }
         ensures settled { result ≢ Err WriteFault.Failed →
-            StaysWhereTold (held self.old) (faults self.old) (faults self.new) }
-        ensures ample { result ≢ Err WriteFault.Memory → shortages self.new ≡ shortages self.old }
-        ensures reads { reads self.new ≡ reads self.old };
+            StaysWhereTold (state self.old).held (state self.old).faults (state self.new).faults }
+        ensures ample { result ≢ Err WriteFault.Memory → (state self.new).shortages ≡ (state self.old).shortages }
+        ensures reads { (state self.new).reads ≡ (state self.old).reads };
 }

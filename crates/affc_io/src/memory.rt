@@ -2,9 +2,9 @@
 ghost use Rattle.std.specs.Prelude.{◌≡◌, ◌≢◌, ◌≤◌, ◌↔◌, ◌++◌, [], Some, None, List, ℕ, IfOk, IfErr, OnOk, IsErrOf, IsTrue, length, map};
 ghost use Rattle.affc_io.specs.Answers.{read_failed, read_short, write_failed, write_short, sink_failed, sink_short};
 ghost use Rattle.affc_io.specs.Count.{raised, counted};
-ghost use Rattle.affc_io.specs.Files.{TooLong};
+ghost use Rattle.affc_io.specs.Files.{IsLong};
 ghost use Rattle.affc_io.specs.Memory.{held_in, named_bytes, stored};
-ghost use Rattle.affc_io.specs.Parts.{folder_files, folder_fails, folder_calls, folder_faults, folder_shortages, folder_reads, mem_bytes, mem_first, mem_fails, mem_calls, mem_faults, mem_shortages, sure_bytes, sure_shortages, is_listed, share_of, emptied};
+ghost use Rattle.affc_io.specs.Parts.{folder_files, folder_fails, folder_calls, folder_faults, folder_shortages, folder_reads, folder_state, mem_bytes, mem_first, mem_fails, mem_calls, mem_faults, mem_shortages, mem_state, sure_bytes, sure_shortages, sure_state, is_listed, share_of, emptied};
 ghost use Rattle.affc_io.specs.Taken.{taken_of};
 
 use crate::files::{NamedFile, empty, fetch, store};
@@ -51,20 +51,14 @@ impl MemFolder {
 }
 
 impl Folder for MemFolder {
-    ghost held = { λ folder. Some (held_in (folder_files folder)) };
-
-    ghost faults = { folder_faults };
-
-    ghost shortages = { folder_shortages };
-
-    ghost reads = { folder_reads };
+    ghost state = { folder_state };
 
     fn read(&mut self, alloc: Global, name: &str) -> Result<Vec<u8>, ReadFault>
         ensures failed { IsErrOf result ReadFault.Failed ↔ IsTrue (is_listed (folder_fails self.old) (folder_calls self.old)) }
         ensures ok { IfOk result (λ bytes. held_in (folder_files self.old) name.now ≡ Some bytes.items) }
         ensures fits { IfOk result (λ bytes. length bytes.items ≤ LONGEST_READ) }
         ensures missing { IsErrOf result ReadFault.Missing → held_in (folder_files self.old) name.now ≡ None }
-        ensures long { IsErrOf result ReadFault.Long → TooLong (Some (held_in (folder_files self.old))) name.now 0 0 }
+        ensures long { IsErrOf result ReadFault.Long → IsLong (held_in (folder_files self.old) name.now) }
         ensures files { folder_files self.new ≡ folder_files self.old }
         ensures fails { folder_fails self.new ≡ folder_fails self.old }
         ensures calls { folder_calls self.new ≡ raised (folder_calls self.old) }
@@ -166,11 +160,7 @@ fn share(first: usize, call: u64, len: usize) -> usize
 }
 
 impl Sink for MemSink {
-    ghost taken = { λ sink. Some (mem_bytes sink) };
-
-    ghost faults = { mem_faults };
-
-    ghost shortages = { mem_shortages };
+    ghost state = { mem_state };
 
     fn write(&mut self, bytes: &[u8]) -> Result<usize, SinkFault>
         ensures failed { IsErrOf result SinkFault.Failed ↔ IsTrue (is_listed (mem_fails self.old) (mem_calls self.old)) }
@@ -225,11 +215,7 @@ impl SureSink {
 }
 
 impl Sink for SureSink {
-    ghost taken = { λ sink. Some (sure_bytes sink) };
-
-    ghost faults = { λ _. 0 };
-
-    ghost shortages = { sure_shortages };
+    ghost state = { sure_state };
 
     fn write(&mut self, bytes: &[u8]) -> Result<usize, SinkFault>
         ensures whole { IfOk result (λ n. n ≡ length bytes.now) }

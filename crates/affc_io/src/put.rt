@@ -1,8 +1,9 @@
 // A whole piece, in as many writes as it takes.
-ghost use Rattle.std.specs.Prelude.{◌≡◌, ◌≤◌, ◌<◌, length, IfErr};
+ghost use Rattle.std.specs.Prelude.{◌≡◌, ◌<◌, length, IfErr};
 ghost use Rattle.affc_io.specs.Count.{Rose};
 ghost use Rattle.affc_io.specs.Taken.{grown};
 ghost use Rattle.affc_io.specs.Put.{IsCausedBy, put_of};
+ghost use Rattle.affc_io.specs.State.{SinkCounts};
 
 use crate::{Sink, SinkFault};
 use thiserror::Error;
@@ -27,13 +28,12 @@ pub struct PutFault {
 
 /// Writes the whole piece. Takes no memory of its own.
 pub fn put_all<S: Sink>(sink: &mut S, bytes: &[u8]) -> Result<(), PutFault>
-    ensures faults { S.faults sink.old ≤ S.faults sink.new }
-    ensures shortages { S.shortages sink.old ≤ S.shortages sink.new }
-    ensures taken { S.taken sink.new ≡ grown (S.taken sink.old) (put_of result bytes.now) }
+    ensures counts { SinkCounts (S.state sink.old) (S.state sink.new) }
+    ensures taken { (S.state sink.new).taken ≡ grown (S.state sink.old).taken (put_of result bytes.now) }
     ensures bound { IfErr result (λ fault. fault.written < length bytes.now) }
     ensures cause { IfErr result (λ fault. IsCausedBy fault.cause
-        (Rose (S.faults sink.old) (S.faults sink.new))
-        (Rose (S.shortages sink.old) (S.shortages sink.new))) }
+        (Rose (S.state sink.old).faults (S.state sink.new).faults)
+        (Rose (S.state sink.old).shortages (S.state sink.new).shortages)) }
 {
     let mut written = 0;
     while written < bytes.len() {

@@ -3,6 +3,7 @@ ghost use Rattle.std.specs.Prelude.{◌≡◌, ◌≢◌, ◌≤◌, ◌<◌, �
 ghost use Rattle.affc_io.specs.Answers.{sink_failed};
 ghost use Rattle.affc_io.specs.Count.{Rose, StaysWhereTold};
 ghost use Rattle.affc_io.specs.Front.{IsFront};
+ghost use Rattle.affc_io.specs.State.{SinkState, SinkCounts};
 ghost use Rattle.affc_io.specs.Taken.{grown, taken_of};
 
 use thiserror::Error;
@@ -18,29 +19,24 @@ pub enum SinkFault {
 
 /// Where bytes go, one after the other.
 pub trait Sink {
-    /// The bytes taken so far, where the sink tells them.
-    ghost taken: { Self → Option (List ℕ) };
-
-    /// How many faults the sink has counted.
-    ghost faults: { Self → ℕ };
-
-    /// How many calls have answered `Memory`.
-    ghost shortages: { Self → ℕ };
+    /// The bytes taken so far, where the sink tells them, and what it has counted.
+    ghost state: { Self → SinkState };
 
     /// How many of the bytes, from the front, were taken.
     fn write(&mut self, bytes: &[u8]) -> Result<usize, SinkFault>
-        ensures faults { faults self.old ≤ faults self.new }
-        ensures shortages { shortages self.old ≤ shortages self.new }
+        ensures counts { SinkCounts (state self.old) (state self.new) }
         ensures bound { IfOk result (λ n. n ≤ length bytes.now) }
-        ensures taken { taken self.new ≡ grown (taken self.old) (taken_of result bytes.now) }
-        ensures stalled { IfOk result (λ n. n ≡ 0 → 0 < length bytes.now → Rose (faults self.old) (faults self.new)) }
-        ensures failed { IsErrOf result SinkFault.Failed → Rose (faults self.old) (faults self.new) }
-        ensures memory { IsErrOf result SinkFault.Memory → Rose (shortages self.old) (shortages self.new) }
+        ensures taken { (state self.new).taken ≡ grown (state self.old).taken (taken_of result bytes.now) }
+        ensures stalled { IfOk result (λ n. n ≡ 0 → 0 < length bytes.now →
+            Rose (state self.old).faults (state self.new).faults) }
+        ensures failed { IsErrOf result SinkFault.Failed → Rose (state self.old).faults (state self.new).faults }
+        ensures memory { IsErrOf result SinkFault.Memory →
+            Rose (state self.old).shortages (state self.new).shortages }
         // a sink that tells counts no fault but the calls that failed or took none of a piece that isn't empty
         ensures settled { IsFalse (sink_failed result bytes.now) →
-            StaysWhereTold (taken self.old) (faults self.old) (faults self.new) }
+            StaysWhereTold (state self.old).taken (state self.old).faults (state self.new).faults }
         // and no shortage is counted but the calls that answered it
-        ensures ample { result ≢ Err SinkFault.Memory → shortages self.new ≡ shortages self.old };
+        ensures ample { result ≢ Err SinkFault.Memory → (state self.new).shortages ≡ (state self.old).shortages };
 }
 
 /// Laws of what sinks take, for whoever writes a text in pieces: call it where they are needed.

@@ -18,9 +18,7 @@ pub struct StdFolder<R> {
 
 impl<R: Files> StdFolder<R> {
     pub fn new(files: R) -> StdFolder<R>
-        ensures faults { ⟦<StdFolder<R> as Folder>⟧.faults result ≡ 0 }
-        ensures shortages { ⟦<StdFolder<R> as Folder>⟧.shortages result ≡ 0 }
-        ensures reads { ⟦<StdFolder<R> as Folder>⟧.reads result ≡ 0 }
+        ensures { ⟦<StdFolder<R> as Folder>⟧.state result ≡ record { held = None; faults = 0; shortages = 0; reads = 0 } }
     {
         StdFolder {
             files,
@@ -59,13 +57,7 @@ fn put<R: Files>(files: &R, name: &str, bytes: &[u8]) -> io::Result<()> {
 }
 
 impl<R: Files> Folder for StdFolder<R> {
-    ghost held = { λ _. None };
-
-    ghost faults = { λ f. f.faults };
-
-    ghost shortages = { λ f. f.shortages };
-
-    ghost reads = { λ f. f.reads };
+    ghost state = { λ f. record { held = None; faults = f.faults; shortages = f.shortages; reads = f.reads } };
 
     fn read(&mut self, alloc: Global, name: &str) -> Result<Vec<u8>, ReadFault> {
         self.reads = self.reads.saturating_add(1);
@@ -100,19 +92,14 @@ pub struct StdSink<P> {
 
 impl<P: Print> StdSink<P> {
     pub fn new(stream: P) -> StdSink<P>
-        ensures faults { ⟦<StdSink<P> as Sink>⟧.faults result ≡ 0 }
-        ensures shortages { ⟦<StdSink<P> as Sink>⟧.shortages result ≡ 0 }
+        ensures { ⟦<StdSink<P> as Sink>⟧.state result ≡ record { taken = None; faults = 0; shortages = 0 } }
     {
         StdSink { stream, faults: 0 }
     }
 }
 
 impl<P: Print> Sink for StdSink<P> {
-    ghost taken = { λ _. None };
-
-    ghost faults = { λ s. s.faults };
-
-    ghost shortages = { λ _. 0 };
+    ghost state = { λ s. record { taken = None; faults = s.faults; shortages = 0 } };
 
     fn write(&mut self, bytes: &[u8]) -> Result<usize, SinkFault> {
         let answer = self.stream.write_some(bytes).map_err(|_| SinkFault::Failed);

@@ -14,3 +14,4 @@ pub mod Cuts
 pub mod ScopLines
 pub mod Exact
 pub mod Order
+pub mod Total

@@ -14,6 +14,8 @@ pub fn the_longest_token()
     ensures minus_signs { Lexes (codes "i---j")
         (token_of Word (codes "i") 0 ∷ token_of Mark (codes "--") 1 ∷ token_of Mark (codes "-") 3 ∷ token_of Word (codes "j") 4 ∷ []) }
     ensures three_bytes { Lexes (codes ">>=<<") (token_of Mark (codes ">>=") 0 ∷ token_of Mark (codes "<<") 3 ∷ []) }
+    ensures other_marks { Lexes (codes "a%b||c!=d")
+        (token_of Word (codes "a") 0 ∷ token_of Mark (codes "%") 1 ∷ token_of Word (codes "b") 2 ∷ token_of Mark (codes "||") 3 ∷ token_of Word (codes "c") 5 ∷ token_of Mark (codes "!=") 6 ∷ token_of Word (codes "d") 8 ∷ []) }
     ensures value { Lexes (codes "18446744073709551615ULL") (token_of Value (codes "18446744073709551615ULL") 0 ∷ []) }
     ensures zero { Lexes (codes "0*0ULL") (token_of Number (codes "0") 0 ∷ token_of Mark (codes "*") 1 ∷ token_of Value (codes "0ULL") 2 ∷ []) }
     ensures digits_in_a_word { Lexes (codes "_0ULL") (token_of Word (codes "_0ULL") 0 ∷ []) }

@@ -1,6 +1,6 @@
 //! What holds of the tokens of every text: each function here is a statement, proved.
 
-ghost use Rattle.std.specs.Prelude.{◌≡◌, ℕ, List};
+ghost use Rattle.std.specs.Prelude.{◌≡◌, ◌⊎◌, ℕ, List};
 ghost use Rattle.affc_lex.specs.declared.token.LexFault.{LexFault};
 ghost use Rattle.affc_lex.specs.Lexes.{Lexeme, Lexes};
 ghost use Rattle.affc_lex.specs.Faults.{IsFault, fault_place};
@@ -10,8 +10,13 @@ pub fn tokens_are_unique()
     ensures { (text : List ℕ) (ts us : List Lexeme) → Lexes text ts → Lexes text us → ts ≡ us }
 {}
 
-/// A text that has tokens has no fault.
+/// Each text has tokens or a fault.
 pub fn tokens_or_fault()
+    ensures { (text : List ℕ) → ((ts : List Lexeme) × Lexes text ts) ⊎ ((fault : LexFault) × IsFault text fault) }
+{}
+
+/// A text that has tokens has no fault.
+pub fn tokens_exclude_faults()
     ensures { (text : List ℕ) (ts : List Lexeme) (fault : LexFault) → Lexes text ts
         → IsFault text fault → ⊥ }
 {}

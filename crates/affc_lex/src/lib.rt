@@ -7,13 +7,13 @@ ghost use Rattle.affc_lex.specs.Lexes.{InOrder, IsIn, Lexeme, Lexes, lexemes};
 ghost use Rattle.affc_lex.specs.Faults.{FirstFault, fault_place};
 ghost use Rattle.affc_lex.specs.Cutting.{earlier};
 
-pub mod cut;
+mod cut;
 pub mod examples;
 pub mod laws;
 pub mod piece;
 pub mod prelude;
 pub mod scan;
-pub mod scop;
+mod scop;
 pub mod token;
 
 use crate::cut::all_tokens;

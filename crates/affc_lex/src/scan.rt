@@ -28,14 +28,14 @@ pub fn is_letter_or_digit(b: u8) -> bool
     is_letter(b) || is_digit(b)
 }
 
-pub fn is_space(b: u8) -> bool
+pub(crate) fn is_space(b: u8) -> bool
     ensures { result ≡ bytes.is_space b }
 {
     b == 32 || b == 9 || b == 10 || b == 13
 }
 
 /// How many letters, digits and `_` the text begins with.
-pub fn word_length(text: &[u8]) -> usize
+pub(crate) fn word_length(text: &[u8]) -> usize
     ensures { result ≡ prefix_len bytes.is_letter_or_digit text.now }
 {
     text.iter().take_while(|b| is_letter_or_digit(**b)).count()
@@ -49,14 +49,14 @@ pub fn digits_length(text: &[u8]) -> usize
 }
 
 /// How many bytes stand before the first line feed, or the end.
-pub fn line_length(text: &[u8]) -> usize
+pub(crate) fn line_length(text: &[u8]) -> usize
     ensures { result ≡ prefix_len other_than_line_feed text.now }
 {
     text.iter().take_while(|b| **b != 10).count()
 }
 
 /// How many bytes stand before the first `>` or line feed, or the end.
-pub fn header_length(text: &[u8]) -> usize
+pub(crate) fn header_length(text: &[u8]) -> usize
     ensures { result ≡ prefix_len reading.inside_header text.now }
 {
     text.iter().take_while(|b| **b != 62 && **b != 10).count()
@@ -70,7 +70,7 @@ fn ends_comment(text: &[u8]) -> bool
 
 /// Where the first `*/` begins.
 #[tactic(auto, using(crate::proofs::Places::places))]
-pub fn comment_end(inside: &[u8]) -> Option<usize>
+pub(crate) fn comment_end(inside: &[u8]) -> Option<usize>
     ensures value { result ≡ first_place (bytes.begins (codes "*/")) inside.now }
     ensures within { IfSome result (λ at. at < length inside.now) }
 {
@@ -93,7 +93,7 @@ fn is_refused(text: &[u8]) -> bool
 
 /// Where the first sequence begins that no text may have.
 #[tactic(auto, using(crate::proofs::Places::places))]
-pub fn first_refused(text: &[u8]) -> Option<usize>
+pub(crate) fn first_refused(text: &[u8]) -> Option<usize>
     ensures { result ≡ first_place lexes.is_refused text.now }
 {
     for at in 0..text.len() {

@@ -1,6 +1,6 @@
 -- The boxes that are opened in the search of parts.
-use Rattle.std.proofs.Common.{◌≡◌, ◌≢◌, ℕ, zero, suc, ◌+◌, ◌<◌, ◌≤◌, List, [], ◌∷◌, ◌++◌, length, slice_index_or, ℤ, pos, ◌+ℤ◌, ◌≤ℤ◌, ◌<ℤ◌, refl, sym, ap, subst, ◌∙◌, arith, inl, inr, ◌⊎◌}
-use Rattle.std.specs.Prelude.{Some, IfOk}
+use Rattle.std.proofs.Common.{◌≡◌, ◌≢◌, ℕ, zero, suc, ◌+◌, ◌<◌, ◌≤◌, List, [], ◌∷◌, ◌++◌, length, slice_index_or, ℤ, pos, ◌+ℤ◌, ◌≤ℤ◌, ◌<ℤ◌, sym, ap, subst, ◌∙◌, arith, inl, inr}
+use Rattle.std.specs.Prelude.{IfOk}
 use Rattle.std.proofs.Common.{Result, Ok, Err, Vec, Box, Global}
 use Rattle.affc_split.specs.declared.budget.Stop.{Stop}
 use Rattle.std.specs.List.{All}
@@ -10,19 +10,20 @@ use Rattle.std.proofs.lemmas.List.Elements.{All-nil, All-cons, All-head, All-tai
 use Rattle.affc_system.specs.Systems.{Rows}
 use Rattle.affc_system.specs.Boxes.{IsRange, IsBox, InBox}
 use Rattle.affc_farkas.specs.declared.proof.Proof.{Proof, Leaf, Cut', Split'}
-use Rattle.affc_split.specs.declared.bounds.Bound.{Bound}
+use Rattle.affc_leaf.specs.declared.bounds.Bound.{Bound}
 use Rattle.affc_split.specs.declared.search.Answer.{Answer}
 use Rattle.affc_split.specs.declared.search.Answer.TheVariants as answer
 use Rattle.affc_split.specs.declared.search.Found.{Found}
 use Rattle.affc_split.specs.declared.search.Found.TheVariants.{Empty, Point}
 use Rattle.affc_split.specs.Budgets.{Account, IsUnit}
-use Rattle.affc_split.specs.Points.{LexLe, IsLeastPoint}
+use Rattle.affc_leaf.specs.Points.{LexLe, IsLeastPoint}
 use Rattle.affc_split.specs.Answers.{IfPoint}
-use Rattle.affc_split.specs.Bounds.{IsBound, Inside, FirstFree, lowered, raised, bound_at, ranges_of}
-use Rattle.affc_split.specs.Search.{NoneIn, IsLeast, IsFound}
+use Rattle.affc_leaf.specs.Bounds.{IsBound, Inside, FirstFree, lowered, raised, bound_at, ranges_of}
+use Rattle.affc_leaf.specs.Parts.{NoneIn}
+use Rattle.affc_split.specs.Search.{IsFound}
 use Rattle.affc_split.specs.Openings.{nodes, IsPart, AreDistinct, IsUpTo, Opened}
 use Rattle.affc_split.specs.Searches.{AreFewer, AreFewerFor, Searched, HasNodes}
-use Rattle.affc_split.proofs.Halves.{in_half, from_lower, from_upper, halves_before}
+use Rattle.affc_leaf.proofs.Halves.{in_half, from_lower, from_upper, halves_before}
 
 abbrev Ranges : Type 0
 Ranges = List (ℤ × ℤ)

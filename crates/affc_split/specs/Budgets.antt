@@ -1,5 +1,5 @@
 -- Budgets: how many boxes may be opened, if that is counted, and how many were.
-use Rattle.std.specs.Prelude.{◌≡◌, ℕ, ◌+◌, ◌≤◌, Option, Some, IfSome}
+use Rattle.std.specs.Prelude.{◌≡◌, ℕ, ◌+◌, ◌≤◌, Option, Some, IfSome, IsNone}
 
 pub record Account : Type 0 where
   pub limit : Option ℕ
@@ -12,3 +12,10 @@ Within account = IfSome account.limit (λ l. account.spent ≤ l)
 -- a unit is counted, where units are
 abbrev pub IsUnit : Account → Account → Type 0
 IsUnit before after = (l : ℕ) → before.limit ≡ Some l → after.spent ≡ before.spent + 1
+
+-- the budget after some boxes were opened, or none: its limit is the same, and what is spent never falls; where nothing is counted, nothing
+-- is spent
+pub record IsLater (before after : Account) : Type 0 where
+  pub limit : after.limit ≡ before.limit
+  pub grows : before.spent ≤ after.spent
+  pub uncounted : IsNone before.limit → after.spent ≡ before.spent

@@ -1,10 +1,7 @@
+pub use Rattle.affc_leaf.specs.Points
+pub use Rattle.affc_leaf.specs.Boxed
 pub mod Budgets
-pub mod Points
 pub mod Answers
-pub mod Bounds
-pub mod Leaves
 pub mod Search
-pub mod Cuts
 pub mod Openings
 pub mod Searches
-pub mod Examples

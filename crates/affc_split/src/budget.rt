@@ -2,6 +2,7 @@
 ghost use Rattle.std.specs.Prelude.{◌≡◌, ℕ, ◌+◌, ◌-◌, ◌*◌, ◌^◌, ◌<◌, ◌≤◌, OnOk, OnErr, IsNone, Some};
 ghost use Rattle.affc_split.specs.Budgets.{Account, Within, IsUnit};
 
+use std::alloc::AllocError;
 use std::marker::Model;
 use thiserror::Error;
 
@@ -29,6 +30,17 @@ pub enum Stop {
     Budget,
     #[error("out of memory")]
     Memory,
+}
+
+impl From<AllocError> for Stop {
+    ghost use Rattle.std.specs.Prelude.{◌≡◌};
+    ghost use Rattle.affc_split.specs.declared.budget.Stop.TheVariants.{Memory};
+
+    ghost from_gives = { λ e s. s ≡ Memory };
+
+    fn from(_e: AllocError) -> Stop {
+        Stop::Memory
+    }
 }
 
 impl Budget {

@@ -5,21 +5,24 @@ ghost use Rattle.affc_system.specs.Systems.{IsPoint};
 ghost use Rattle.affc_system.specs.Boxes.{IsBox, InBox};
 ghost use Rattle.affc_system.specs.Pairs.{WithinReach};
 ghost use Rattle.affc_farkas.specs.Proofs.{ValidProof};
-ghost use Rattle.affc_split.specs.Answers.{with_box, SplitsAtZero, IsLeafProof, IsHard, IfEmpty, IfPoint};
-ghost use Rattle.affc_split.specs.Points.{points, IsLeastPoint};
-ghost use Rattle.affc_split.specs.Bounds.{IsBound, size};
+ghost use Rattle.affc_leaf.specs.Boxed.{with_box, SplitsAtZero, IsLeafProof, IsHard};
+ghost use Rattle.affc_split.specs.Answers.{IfEmpty, IfPoint};
+ghost use Rattle.affc_leaf.specs.Points.{points, low_corner, IsLeastPoint};
+ghost use Rattle.affc_leaf.specs.Bounds.{IsBound, size};
+ghost use Rattle.affc_split.specs.Budgets.{IsLater};
 ghost use Rattle.affc_split.specs.Openings.{Opened};
-ghost use Rattle.affc_split.specs.Search.{IsEmpty, Ready, box_bounds};
+ghost use Rattle.affc_leaf.specs.Parts.{IsEmpty, Ready, box_bounds};
 ghost use Rattle.affc_split.specs.Searches.{AreFewerFor, Searched};
 
-use crate::bounds::Bound;
-use crate::boxed::{boxed_system, refuted};
 use crate::budget::{Budget, Stop};
-use crate::cuts::{has_cut, with_cuts};
-use crate::leaves::{found_leaf, row_leaf};
+use crate::cuts::with_cuts;
+use crate::parts::at_lows;
 use crate::search::{Answer, Found, SPARE, inside};
-use crate::tops::broken;
 use affc_farkas::Proof;
+use affc_leaf::Bound;
+use affc_leaf::boxed::{boxed_system, refuted};
+use affc_leaf::cuts::has_cut;
+use affc_leaf::leaves::found_leaf;
 use affc_system::system::MOST_ROWS;
 use affc_system::{BoxOf, System};
 use std::alloc::{AllocError, Global};
@@ -54,9 +57,7 @@ fn whole(alloc: Global, system: &System, ranges: &[(i64, i64)]) -> Result<Vec<Bo
 {
     let _columns = system.columns();
     let rows = system.rows().len() as u32;
-    let Ok(bounds) = bounds_of(alloc, ranges, rows) else {
-        return Err(Stop::Memory);
-    };
+    let bounds = bounds_of(alloc, ranges, rows)?;
     Ok(bounds)
 }
 
@@ -78,25 +79,6 @@ pub fn within_reach(ranges: &BoxOf) -> bool
 fn whole_leaf(
     alloc: Global,
     system: &System,
-    bounds: &[Bound],
-    next: u32,
-) -> Result<Option<Box<Proof>>, Stop>
-    requires width { length bounds.now ≡ system.now.columns }
-    requires ranges { All IsBound bounds.now }
-    ensures answer { IfOk result (λ o. IfSome o (λ p. IsEmpty system.now bounds.now next p.value)) }
-    ensures leaf { IfOk result (λ o. IfSome o (λ p. IsLeafProof p.value)) }
-    ensures memory { OnErr result (result ≡ Err Stop.Memory) }
-{
-    match broken(system, bounds) {
-        Some(row) => Ok(Some(row_leaf(alloc, system, bounds, row, next)?)),
-        None => found_leaf(alloc, system, bounds, next),
-    }
-}
-
-/// A leaf for the whole box, where one is found.
-fn root_leaf(
-    alloc: Global,
-    system: &System,
     ranges: &[(i64, i64)],
     bounds: &[Bound],
     next: u32,
@@ -109,22 +91,38 @@ fn root_leaf(
     requires next { next ≡ length system.now.rows + 2 * system.now.columns }
     ensures valid { IfOk result (λ o. IfSome o (λ p. ValidProof (with_box system.now ranges.now) p)) }
     ensures leaf { IfOk result (λ o. IfSome o IsLeafProof) }
-    ensures hard { length system.now.rows + 2 * system.now.columns ≤ 1024 → IfOk result (λ o. IfNone o (IsHard (with_box system.now ranges.now))) }
     ensures memory { OnErr result (result ≡ Err Stop.Memory) }
 {
-    let _columns = system.columns();
     let _rows = system.rows();
-    if let Some(leaf) = whole_leaf(alloc, system, bounds, next)? {
+    if let Some(leaf) = found_leaf(alloc, system, bounds, next)? {
         return Ok(Some(Box::into_inner(leaf)));
-    }
-    if next <= MOST_ROWS as u32 {
-        return refuted(alloc, system, ranges);
     }
     Ok(None)
 }
 
+/// A leaf for the whole box by elimination, where the system with the rows of the box isn't too long for it.
+fn eliminated(
+    alloc: Global,
+    system: &System,
+    ranges: &[(i64, i64)],
+    next: u32,
+) -> Result<Option<Proof>, Stop>
+    requires columns { length ranges.now ≡ system.now.columns }
+    requires next { next ≡ length system.now.rows + 2 * system.now.columns }
+    ensures valid { IfOk result (λ o. IfSome o (λ p. ValidProof (with_box system.now ranges.now) p)) }
+    ensures leaf { IfOk result (λ o. IfSome o IsLeafProof) }
+    ensures hard { length system.now.rows + 2 * system.now.columns ≤ 1024 → IfOk result (λ o. IfNone o (IsHard (with_box system.now ranges.now))) }
+    ensures memory { OnErr result (result ≡ Err Stop.Memory) }
+{
+    if next > MOST_ROWS as u32 {
+        return Ok(None);
+    }
+    let leaf = refuted(alloc, system, ranges)?;
+    Ok(leaf)
+}
+
 /// What is found in the whole box with the cuts of the system's rows.
-#[tactic(auto, using(crate::proofs::Halves::some_in_ranges))]
+#[tactic(auto, using(affc_leaf::proofs::Halves::some_in_ranges))]
 fn cut_and_searched(
     alloc: Global,
     system: &System,
@@ -154,9 +152,7 @@ fn cut_and_searched(
     ensures short { IfErr result (λ e. e ≡ Stop.Budget → budget.new.spent + 3 ≤ budget.old.spent + 2 * points ranges.now) }
 {
     let count = system.rows().len();
-    let Ok(boxed) = boxed_system(alloc, system, ranges) else {
-        return Err(Stop::Memory);
-    };
+    let boxed = boxed_system(alloc, system, ranges)?;
     match with_cuts(alloc, boxed, bounds, 0, count, next, left, budget)? {
         Found::Empty(proof) => Ok(Answer::Empty(Box::into_inner(proof))),
         Found::Point(point) => Ok(Answer::Point(point)),
@@ -204,7 +200,7 @@ fn searched(
 }
 
 /// The decision after the whole box is opened.
-#[tactic(auto, using(crate::proofs::Halves::some_in_ranges))]
+#[tactic(auto, using(affc_leaf::proofs::Halves::some_in_ranges))]
 fn opened(
     alloc: Global,
     system: &System,
@@ -226,12 +222,20 @@ fn opened(
     ensures unit { length system.now.rows + 2 * system.now.columns ≤ 1024 → (budget.new.spent ≤ budget.old.spent) ⊎ IsHard (with_box system.now ranges.now) }
     ensures stop { IfErr result (λ e. e ≡ Stop.Budget → budget.new.limit ≡ Some budget.new.spent) }
     ensures hard { length system.now.rows + 2 * system.now.columns ≤ 1024 → IfErr result (λ e. e ≡ Stop.Budget → IsHard (with_box system.now ranges.now)) }
+    ensures corner { IsPoint system.now (low_corner ranges.now) → budget.new.spent ≤ budget.old.spent }
+    ensures corner_stop { IfErr result (λ e. e ≡ Stop.Budget → IsPoint system.now (low_corner ranges.now) → ⊥) }
     ensures short { IfErr result (λ e. e ≡ Stop.Budget → budget.new.spent + 3 ≤ budget.old.spent + 2 * points ranges.now) }
 {
     let columns = system.columns();
     let next = system.rows().len() as u32 + 2 * columns;
     let bounds = whole(alloc, system, ranges)?;
-    if let Some(leaf) = root_leaf(alloc, system, ranges, bounds.as_slice(), next)? {
+    if let Some(leaf) = whole_leaf(alloc, system, ranges, bounds.as_slice(), next)? {
+        return Ok(Answer::Empty(leaf));
+    }
+    if let Some(point) = at_lows(alloc, system, bounds.as_slice())? {
+        return Ok(Answer::Point(point));
+    }
+    if let Some(leaf) = eliminated(alloc, system, ranges, next)? {
         return Ok(Answer::Empty(leaf));
     }
     let answer = searched(
@@ -247,7 +251,7 @@ fn opened(
 }
 
 /// The decision over a list of ranges.
-#[tactic(auto, using(crate::proofs::Halves::some_in_ranges))]
+#[tactic(auto, using(affc_leaf::proofs::Halves::some_in_ranges))]
 fn decided(
     alloc: Global,
     system: &System,
@@ -268,6 +272,8 @@ fn decided(
     ensures cost { budget.new.spent + 1 ≤ budget.old.spent + 2 * points ranges.now }
     ensures opened { IfOk result (λ a. Searched 1 ranges.now budget.old budget.new (AreFewerFor a)) }
     ensures unit { length system.now.rows + 2 * system.now.columns ≤ 1024 → (budget.new.spent ≤ budget.old.spent + 1) ⊎ IsHard (with_box system.now ranges.now) }
+    ensures corner { IsPoint system.now (low_corner ranges.now) → budget.new.spent ≤ budget.old.spent + 1 }
+    ensures corner_stop { IfErr result (λ e. e ≡ Stop.Budget → IsPoint system.now (low_corner ranges.now) → budget.old.limit ≡ Some budget.old.spent) }
     ensures first { budget.old.limit ≡ Some budget.old.spent → result ≡ Err Stop.Budget }
     ensures stop { IfErr result (λ e. e ≡ Stop.Budget → budget.new.limit ≡ Some budget.new.spent) }
     ensures short { IfErr result (λ e. e ≡ Stop.Budget → budget.new.spent + 2 ≤ budget.old.spent + 2 * points ranges.now) }
@@ -298,17 +304,17 @@ pub fn decide(
     ensures point { IfOk result (λ a. IfPoint a (IsLeastPoint system.now ranges.now)) }
 
     // The budget.
-    ensures limit { budget.new.limit ≡ budget.old.limit }
-    ensures uncounted { IsNone budget.old.limit → budget.new.spent ≡ budget.old.spent }
-    ensures grows { budget.old.spent ≤ budget.new.spent }
+    ensures later { IsLater budget.old budget.new }
     ensures counted { OnOk result ((l : ℕ) → budget.old.limit ≡ Some l → budget.old.spent + 1 ≤ budget.new.spent) }
     ensures cost { budget.new.spent + 1 ≤ budget.old.spent + 2 * points ranges.now }
     ensures opened { IfOk result (λ a. Opened ranges.now budget.old budget.new a) }
     ensures unit { length system.now.rows + 2 * system.now.columns ≤ 1024 → (budget.new.spent ≤ budget.old.spent + 1) ⊎ IsHard (with_box system.now ranges.now) }
+    ensures corner { IsPoint system.now (low_corner ranges.now) → budget.new.spent ≤ budget.old.spent + 1 }
     ensures first { budget.old.limit ≡ Some budget.old.spent → result ≡ Err Stop.Budget }
     ensures stop { IfErr result (λ e. e ≡ Stop.Budget → budget.new.limit ≡ Some budget.new.spent) }
     ensures short { IfErr result (λ e. e ≡ Stop.Budget → budget.new.spent + 2 ≤ budget.old.spent + 2 * points ranges.now) }
     ensures hard { length system.now.rows + 2 * system.now.columns ≤ 1024 → IfErr result (λ e. e ≡ Stop.Budget → (budget.old.limit ≡ Some budget.old.spent) ⊎ IsHard (with_box system.now ranges.now)) }
+    ensures corner_stop { IfErr result (λ e. e ≡ Stop.Budget → IsPoint system.now (low_corner ranges.now) → budget.old.limit ≡ Some budget.old.spent) }
 {
     // The rows keep a system's limits; what a proof says of integer points rests on that.
     let _rows = system.rows();

@@ -2,22 +2,22 @@
 ghost use Rattle.std.specs.Prelude.{◌≡◌, ℕ, ℤ, List, ◌+◌, ◌-◌, ◌*◌, ◌^◌, ◌<◌, ◌≤◌, ◌+ℤ◌, ◌-ℤ◌, ◌≤ℤ◌, ◌<ℤ◌, pos, IfOk, IfErr, IfSome, IfNone, OnOk, OnErr, IsNone, Some, Err, length};
 ghost use Rattle.std.specs.List.{All};
 ghost use Rattle.affc_farkas.specs.Multiples.{row_at};
-ghost use Rattle.affc_split.specs.Bounds.{IsBound, FirstFree, size, bound_at, lowered, raised, ranges_of, top_value};
+ghost use Rattle.affc_leaf.specs.Bounds.{IsBound, FirstFree, size, bound_at, lowered, raised, ranges_of, top_value};
 ghost use Rattle.affc_split.specs.Budgets.{IsUnit};
 ghost use Rattle.affc_split.specs.Openings.{nodes};
-ghost use Rattle.affc_split.specs.Search.{IsFound, IsHalf, IsLook, IfFree, Ready};
+ghost use Rattle.affc_leaf.specs.Parts.{Ready};
+ghost use Rattle.affc_split.specs.Search.{IsFound, IsHalf, IsLook, IfFree};
 ghost use Rattle.affc_split.specs.Searches.{AreFewer, Searched, IfKnown};
 
-use crate::bounds::{Bound, first_free};
 use crate::budget::{Budget, Stop};
-use crate::leaves::{found_leaf, row_leaf};
-use crate::parts::{
-    at_lows, high_box, high_part, high_point, joined, low_box, low_kept, low_part, low_point,
-    middle_of, single,
-};
-use crate::places::{Place, find_place, is_below};
-use crate::tops::broken;
+use crate::parts::{at_lows, high_point, joined, low_kept, low_point, single};
 use affc_farkas::Proof;
+use affc_leaf::bounds::{Bound, first_free};
+use affc_leaf::box_cuts::found_empty;
+use affc_leaf::leaves::row_leaf;
+use affc_leaf::parts::{high_box, high_part, low_box, low_part, middle_of};
+use affc_leaf::places::{Place, find_place, is_below};
+use affc_leaf::tops::broken;
 use affc_system::System;
 use std::alloc::Global;
 
@@ -79,8 +79,10 @@ fn settled(
         let proof = row_leaf(alloc, system, bounds, row, next)?;
         return Ok(Some(Found::Empty(proof)));
     }
-    let found = at_lows(alloc, system, bounds, next)?;
-    Ok(found)
+    match at_lows(alloc, system, bounds)? {
+        Some(point) => Ok(Some(Found::Point(point))),
+        None => Ok(None),
+    }
 }
 
 /// Opens a half of a box, and looks for a leaf of it.
@@ -103,7 +105,7 @@ fn opened_half(
     ensures unspent { IfErr result (λ e. e ≡ Stop.Budget → budget.new.spent ≡ budget.old.spent) }
 {
     budget.open()?;
-    match found_leaf(alloc, system, half.as_slice(), next)? {
+    match found_empty(alloc, system, half.as_slice(), next)? {
         Some(proof) => Ok(Half::Leaf(proof)),
         None => Ok(Half::Open(half)),
     }
@@ -111,7 +113,7 @@ fn opened_half(
 
 /// Opens the lower half of a box.
 #[inline(never)]
-#[tactic(auto, using(crate::proofs::Halves::halves_points))]
+#[tactic(auto, using(affc_leaf::proofs::Halves::halves_points))]
 fn opened_low(
     alloc: Global,
     system: &System,
@@ -178,7 +180,7 @@ fn opened_high(
 /// Looks at a box that is open before it is halved.
 #[cycle(search)]
 #[inline(never)]
-#[tactic(auto, using(crate::proofs::Halves::some_points))]
+#[tactic(auto, using(affc_leaf::proofs::Halves::some_points))]
 fn looked(
     alloc: Global,
     system: &System,
@@ -220,7 +222,7 @@ fn looked(
 /// Searches a box that is open for its least point.
 #[cycle(search)]
 #[inline(never)]
-#[tactic(auto, using(crate::proofs::Halves::some_points))]
+#[tactic(auto, using(affc_leaf::proofs::Halves::some_points))]
 pub(crate) fn inside(
     alloc: Global,
     system: &System,
@@ -255,7 +257,7 @@ pub(crate) fn inside(
 /// Searches the lower half of a box.
 #[cycle(search)]
 #[inline(never)]
-#[tactic(auto, using(crate::proofs::Halves::some_points))]
+#[tactic(auto, using(affc_leaf::proofs::Halves::some_points))]
 fn lower(
     alloc: Global,
     system: &System,
@@ -301,7 +303,7 @@ fn lower(
 /// Searches the upper half of a box, where the lower half has a proof.
 #[cycle(search)]
 #[inline(never)]
-#[tactic(auto, using(crate::proofs::Halves::some_points))]
+#[tactic(auto, using(affc_leaf::proofs::Halves::some_points))]
 fn upper(
     alloc: Global,
     system: &System,
@@ -355,7 +357,7 @@ fn upper(
 /// Splits off a part that one row leaves empty, where one is found, and searches the rest.
 #[cycle(search)]
 #[inline(never)]
-#[tactic(auto, using(crate::proofs::Halves::some_points))]
+#[tactic(auto, using(affc_leaf::proofs::Halves::some_points))]
 fn narrowed(
     alloc: Global,
     system: &System,

@@ -1,10 +1,10 @@
--- Points of systems with more rows.
-use Rattle.std.proofs.Common.{◌++◌, List, length, ℤ, subst}
+-- Rows that are met, and points of systems with more rows.
+use Rattle.std.proofs.Common.{◌++◌, List, [], ◌∷◌, length, ℤ, subst}
 use Rattle.std.specs.List.{All}
-use Rattle.std.proofs.lemmas.List.Elements.{All-append, All-take, All-drop}
+use Rattle.std.proofs.lemmas.List.Elements.{All-nil, All-cons, All-head, All-tail, All-append, All-take, All-drop}
 use Rattle.std.proofs.Math.Seq.{drop-append_seam, take-append_seam}
 use Rattle.affc_rows.specs.Forms.{Affine}
-use Rattle.affc_system.specs.Systems.{Rows, Meets, IsPoint}
+use Rattle.affc_system.specs.Systems.{Rows, Meets, Met, IsPoint}
 
 -- a point that meets further rows is a point of the system with these rows behind its own
 pub point_of_more_rows : (s : Rows) (more : List Affine) (x : List ℤ) → IsPoint s x → All (Meets x) more → IsPoint (record s { rows = s.rows ++ more }) x
@@ -16,3 +16,11 @@ point_of_fewer_rows s more x p =
     let front = subst (All (Meets x)) (take-append_seam s.rows more) (All-take (Meets x) (length s.rows) (s.rows ++ more) p.meets) in
     let back = subst (All (Meets x)) (drop-append_seam s.rows more) (All-drop (Meets x) (length s.rows) (s.rows ++ more) p.meets) in
     (record { width = p.width; meets = front }, back)
+
+pub all_from_met : (x : List ℤ) (rows : List Affine) → Met x rows → All (Meets x) rows
+all_from_met x [] m = All-nil (Meets x)
+all_from_met x (row ∷ rows) m = All-cons (Meets x) row rows m.0 (all_from_met x rows m.1)
+
+pub met_from_all : (x : List ℤ) (rows : List Affine) → All (Meets x) rows → Met x rows
+met_from_all x [] a = tt
+met_from_all x (row ∷ rows) a = (All-head (Meets x) row rows a, met_from_all x rows (All-tail (Meets x) row rows a))

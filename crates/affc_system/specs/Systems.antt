@@ -1,5 +1,5 @@
 -- Systems of rows over the same columns, and their integer points.
-use Rattle.std.specs.Prelude.{◌≡◌, ℕ, ◌^◌, ◌≤◌, List, length, ℤ, pos, ◌≤ℤ◌, unsigned_abs}
+use Rattle.std.specs.Prelude.{◌≡◌, ℕ, ◌^◌, ◌≤◌, List, [], ◌∷◌, length, ℤ, pos, ◌≤ℤ◌, unsigned_abs}
 use Rattle.std.specs.List.{All}
 use Rattle.affc_rows.specs.Forms.{Affine, value}
 
@@ -21,6 +21,11 @@ pub record IsRow (columns : ℕ) (row : Affine) : Type 0 where
 -- the row is at least 0 at the point
 abbrev pub Meets : List ℤ → Affine → Type 0
 Meets point row = pos 0 ≤ℤ value row point
+
+-- every row is at least 0 at the point
+abbrev pub Met : List ℤ → List Affine → Type 0
+Met point [] = Unit {0}
+Met point (row ∷ rows) = Meets point row × Met point rows
 
 -- an integer point of the system: one number for each column, and every row is at least 0 there
 pub record IsPoint (system : Rows) (point : List ℤ) : Type 0 where

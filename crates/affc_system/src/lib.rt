@@ -2,10 +2,11 @@
 #![tactic(auto)]
 
 pub mod boxes;
+pub mod examples;
 pub mod laws;
 pub mod pairs;
 pub mod system;
 
 pub use boxes::{BoxOf, interval};
 pub use pairs::PairSystem;
-pub use system::{RowFault, System, fits_row};
+pub use system::{RowFault, System, fits_row, value_at};

@@ -106,7 +106,7 @@ fn sum_at(coefs: &[i128], point: &[i64]) -> Total
 }
 
 /// The value of a row at a point of machine integers, which never overflows.
-fn value_at(row: &Form, point: &[i64]) -> i128
+pub fn value_at(row: &Form, point: &[i64]) -> i128
     requires fits { FitsRow row.now }
     requires width { length row.now.coefs ≡ length point.now }
     requires few { length point.now ≤ 128 }

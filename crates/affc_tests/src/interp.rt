@@ -1,59 +1,38 @@
 //! What no clause says: which texts are data, by examples from outside, and that the calls succeed.
-use affc_ast::Items;
-use affc_ast::text::Text;
-use affc_ast::tree::{ArrayId, Decl, Ix, NameId, Op, Param, Program, Rel, Role, Stmt, Val};
-use affc_interp::counted::is_counted;
+ghost use Rattle.std.specs.Prelude.{IfOk};
+ghost use Rattle.affc_ast.specs.Counted.{IsCounted};
+
+use affc_ast::tree::Program;
+use affc_grammar::laws::reads_counted;
 use affc_interp::feed::{FeedFault, read_feed};
 use affc_interp::lines::lines;
 use affc_interp::run::{RunFault, run};
+use affc_parse::fault::ParseFault;
+use affc_parse::parse;
 use std::alloc::{AllocError, Global};
 use std::test::Fail;
 
-fn array(alloc: Global, name: &str, role: Role) -> Result<Param, AllocError> {
-    let mut extents = Items::new(alloc);
-    extents.push(Ix::Name(NameId(0)))?;
-    let name = Text::from_str(alloc, name)?;
-    Ok(Param::Array(Decl {
-        name,
-        role,
-        extents,
-    }))
+// `for (int64_t i = low; i < N; i++) out[i] ^= in[i];`, where N is from -1 to 4.
+fn xored(alloc: Global, low: i64) -> Result<String, AllocError> {
+    format!(in alloc;
+        "#include <stdint.h>\n#pragma affc param N -1 4\nvoid f(int64_t N, const uint64_t in[N], uint64_t out[N]) {{\n  for (int64_t i = {low}; i < N; i++)\n    out[i] ^= in[i];\n}}\n"
+    )
 }
 
-// `int64_t N`, from -1 to 4, and the arrays `in[N]` and `out[N]`.
-fn params(alloc: Global) -> Result<Items<Param>, AllocError> {
-    let mut params = Items::new(alloc);
-    let name = Text::from_str(alloc, "N")?;
-    params.push(Param::Number {
-        name,
-        low: -1,
-        high: 4,
-    })?;
-    params.push(array(alloc, "in", Role::Input)?)?;
-    params.push(array(alloc, "out", Role::Output)?)?;
-    Ok(params)
-}
-
-// A function with these parameters that does nothing.
-fn idle(alloc: Global) -> Result<Program, AllocError> {
-    let params = params(alloc)?;
-    let name = Text::from_str(alloc, "idle")?;
-    Ok(Program {
-        name,
-        params,
-        context: Items::new(alloc),
-        temps: Items::new(alloc),
-        body: Items::new(alloc),
-        prelude: false,
-    })
+fn program_of(alloc: Global, source: &str) -> Result<Program, ParseFault>
+    ensures { IfOk result IsCounted }
+{
+    let program = parse(alloc, source.as_bytes())?;
+    reads_counted();
+    Ok(program)
 }
 
 // The first wrong line of the text, or 0 where it is data.
-fn wrong_line(alloc: Global, program: &Program, text: &str) -> u64 {
-    if !is_counted(program) {
+fn wrong_line(alloc: Global, source: &str, text: &str) -> u64 {
+    let Ok(program) = program_of(alloc, source) else {
         return u64::MAX;
-    }
-    match read_feed(alloc, text.as_bytes(), program) {
+    };
+    match read_feed(alloc, text.as_bytes(), &program) {
         Ok(_) => 0,
         Err(FeedFault::Line(line)) => line,
         Err(FeedFault::Memory) => u64::MAX,
@@ -62,7 +41,7 @@ fn wrong_line(alloc: Global, program: &Program, text: &str) -> u64 {
 
 #[test]
 fn data_texts(rt: HostRuntime) -> Result<(), Fail> {
-    let program = idle(rt.alloc())?;
+    let source = xored(rt.alloc(), 0)?;
     let rows = [
         (
             "param N 2\narray in 7 8\narray out 0 18446744073709551615\n",
@@ -100,7 +79,11 @@ fn data_texts(rt: HostRuntime) -> Result<(), Fail> {
         ("param N 2\narray in 7 8\narray out 0 0\nparam N 2\n", 4),
     ];
     for (text, want) in rows {
-        assert_eq!(rt; wrong_line(rt.alloc(), &program, text), want, "{text}");
+        assert_eq!(rt;
+            wrong_line(rt.alloc(), source.as_str(), text),
+            want,
+            "{text}"
+        );
     }
     Ok(())
 }
@@ -112,37 +95,7 @@ fn faults_have_messages(rt: HostRuntime) -> Result<(), Fail> {
     Ok(())
 }
 
-// The iterator of the one loop, as a subscript.
-fn at_i(alloc: Global) -> Result<Items<Ix>, AllocError> {
-    let mut subs = Items::new(alloc);
-    subs.push(Ix::Name(NameId(1)))?;
-    Ok(subs)
-}
-
-// `for (int64_t i = low; i < N; i++) out[i] ^= in[i];`
-fn xored(alloc: Global, low: i64) -> Result<Program, AllocError> {
-    let mut body = Items::new(alloc);
-    body.push(Stmt::Assign {
-        op: Some(Op::Xor),
-        array: ArrayId(1),
-        subs: at_i(alloc)?,
-        value: Val::Load {
-            array: ArrayId(0),
-            subs: at_i(alloc)?,
-        },
-    })?;
-    let mut program = idle(alloc)?;
-    program.body.push(Stmt::For {
-        iter: Text::from_str(alloc, "i")?,
-        low: Ix::Lit(low),
-        rel: Rel::Less,
-        high: Ix::Name(NameId(0)),
-        body,
-    })?;
-    Ok(program)
-}
-
-/// Why a run stops: the first iterator and the access of `OutOfBounds`.
+// Why a run stops: the first iterator and the access of `OutOfBounds`.
 #[derive(Debug, Clone, Copy, PartialEq, Eq)]
 enum Stopped {
     OutOfBounds(Option<i64>, u32),
@@ -160,14 +113,19 @@ fn why_of(fault: RunFault) -> Stopped {
     }
 }
 
-// The lines of a run of `xored` from `low` on at N = 2, with so many steps, or why it stops.
-fn ran(alloc: Global, low: i64, steps: u64) -> Result<Result<Vec<u8>, Stopped>, AllocError> {
-    let program = xored(alloc, low)?;
-    if !is_counted(&program) {
+// The lines of a run of `xored` from `low` on with this output and so many steps, or why it stops. N is 2.
+fn ran(
+    alloc: Global,
+    low: i64,
+    out: &str,
+    steps: u64,
+) -> Result<Result<Vec<u8>, Stopped>, AllocError> {
+    let source = xored(alloc, low)?;
+    let Ok(program) = program_of(alloc, source.as_str()) else {
         return Ok(Err(Stopped::Other));
-    }
-    let data = b"param N 2\narray in 7 8\narray out 1 2\n";
-    let Ok(feed) = read_feed(alloc, data, &program) else {
+    };
+    let data = format!(in alloc; "param N 2\narray in 7 8\narray out {out}\n")?;
+    let Ok(feed) = read_feed(alloc, data.as_bytes(), &program) else {
         return Ok(Err(Stopped::Other));
     };
     match run(alloc, &program, &feed, steps) {
@@ -179,12 +137,17 @@ fn ran(alloc: Global, low: i64, steps: u64) -> Result<Result<Vec<u8>, Stopped>, 
 #[test]
 fn runs_end(rt: HostRuntime) -> Result<(), Fail> {
     let rows = [
-        (0, 4, "array out 6 10\n"),
-        (1, 2, "array out 1 10\n"),
-        (2, 0, "array out 1 2\n"),
+        (0, "1 2", 4, "array out 6 10\n"),
+        (1, "1 2", 2, "array out 1 10\n"),
+        (
+            2,
+            "0 18446744073709551615",
+            0,
+            "array out 0 18446744073709551615\n",
+        ),
     ];
-    for (low, steps, want) in rows {
-        let Ok(text) = ran(rt.alloc(), low, steps)? else {
+    for (low, out, steps, want) in rows {
+        let Ok(text) = ran(rt.alloc(), low, out, steps)? else {
             panic!(rt; "the run from {low} ends");
         };
         assert_eq!(rt; text.as_slice(), want.as_bytes(), "from {low}");
@@ -201,32 +164,10 @@ fn runs_stop(rt: HostRuntime) -> Result<(), Fail> {
         (-1, 2, Stopped::OutOfBounds(Some(-1), 0)),
     ];
     for (low, steps, want) in rows {
-        let Err(why) = ran(rt.alloc(), low, steps)? else {
+        let Err(why) = ran(rt.alloc(), low, "1 2", steps)? else {
             panic!(rt; "the run from {low} stops");
         };
         assert_eq!(rt; why, want, "from {low} with {steps}");
     }
-    Ok(())
-}
-
-#[test]
-fn outputs_are_written(rt: HostRuntime) -> Result<(), Fail> {
-    let program = idle(rt.alloc())?;
-    assert!(rt; is_counted(&program));
-    let Ok(feed) = read_feed(
-        rt.alloc(),
-        b"param N 2\narray in 7 8\narray out 0 18446744073709551615\n",
-        &program,
-    ) else {
-        panic!(rt; "the data is right");
-    };
-    let Ok(store) = run(rt.alloc(), &program, &feed, 0) else {
-        panic!(rt; "the run takes no step");
-    };
-    let text = lines(rt.alloc(), &program, &store)?;
-    assert_eq!(rt;
-        text.as_slice(),
-        b"array out 0 18446744073709551615\n".as_slice()
-    );
     Ok(())
 }

@@ -7,6 +7,8 @@
 #[cfg(test)]
 mod ast;
 #[cfg(test)]
+mod cli;
+#[cfg(test)]
 mod cprint;
 #[cfg(test)]
 mod interp;

@@ -14,6 +14,9 @@ fn a_text_is_one_program(rt: HostRuntime) -> Result<(), Fail> {
             assert_eq!(rt; program.params.len(), 3);
             assert_eq!(rt; program.body.len(), 1);
             assert!(rt; !program.prelude);
+            let copy = program.to_owned(rt.alloc())?;
+            assert_eq!(rt; copy.name.as_str(), "copy");
+            assert_eq!(rt; copy.body.len(), 1);
         }
         Err(fault) => panic!(rt; "{fault}"),
     }

@@ -18,7 +18,7 @@ use Rattle.affc_trace.specs.Orders.{KeepsArrays}
 use Rattle.affc_trace.specs.Target.{target}
 use Rattle.affc_trace.specs.Effects.{effect}
 use Rattle.affc_trace.specs.Dataflow.{same_element, OneArray}
-use Rattle.affc_trace.specs.Laws.{IsInContext, HoldsParameters, LeavesParameters, KeepsParameters, IsUnwritten, in_target_order, FittingDataIsKept, LoadsWithoutSource, EqualLastStores, KeepsSources, RunsAsSource, CompilesSource}
+use Rattle.affc_trace.specs.Laws.{IsInContext, HoldsParameters, LeavesParameters, KeepsParameters, IsUnwritten, in_target_order, FittingDataIsKept, LoadsWithoutSource, EqualLastStores, KeepsSources, RunsAsSource, CompilesSource, PremisesCompile}
 use Rattle.affc_trace.proofs.LastStores.{equal_last_stores}
 use Rattle.affc_trace.proofs.Legality.{keeps_sources, loads_are_given}
 use Rattle.affc_trace.proofs.Runs.{element_cmp_total}
@@ -168,3 +168,7 @@ compiles_source printed source schedule place plain name params context ends leg
       let here : IsInContext source p = record { ranges = fits.ranges; context = fits.context } in
       runs_as_source printed source schedule p store end.0 (place p) plain params fits end.1 (legal p here) (fold p here) (keeps p here) (runs p store fits);
 }
+
+pub premises_compile : PremisesCompile
+premises_compile printed source schedule place p =
+    compiles_source printed source schedule place p.plain p.name p.params p.context p.ends p.legal p.admissible p.keeps p.runs

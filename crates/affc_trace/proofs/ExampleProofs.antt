@@ -8,7 +8,7 @@ use Rattle.affc_ast.specs.declared.tree.Instance.{Instance}
 use Rattle.affc_ast.specs.Meaning.{Outcome, Ended, Stuck}
 use Rattle.affc_trace.specs.Law.{IsIn}
 use Rattle.affc_trace.specs.Laws.{IsUnwritten}
-use Rattle.affc_trace.specs.Examples.{S0, S1, BlurTakesTurns, BlurSources, BlurLivePairs, BlurIsLegal, BlurHasItsMaps, LoadsDependOnNothing, FoldedBlurFollows, FoldedBlurDoes, NumberDecidesTies, TieIsIllegal, FirstComponentDecides, TiesStayAsTheyStood, OrdersKeepInstances, BackwardsIsIllegal, OwnStoreComesAfter, HandedInIsNoSource, LoopsAreCounted, LocalsAreSeen, ScalarHasOneElement, StuckForAValueRunsTarget, StuckOutOfBoundsDoesNot}
+use Rattle.affc_trace.specs.Examples.{S0, S1, BlurTakesTurns, BlurSources, BlurLivePairs, BlurIsLegal, BlurHasItsMaps, TwelveComponents, SlightForms, SlightMaps, LoadsDependOnNothing, FoldedBlurFollows, FoldedBlurDoes, NumberDecidesTies, TieIsIllegal, FirstComponentDecides, TiesStayAsTheyStood, OrdersKeepInstances, BackwardsIsIllegal, OwnStoreComesAfter, HandedInIsNoSource, LoopsAreCounted, LocalsAreSeen, ScalarHasOneElement, StuckForAValueRunsTarget, StuckOutOfBoundsDoesNot}
 
 one_is_not_two : ◌≡◌ {A = ℕ} 1 2 → ⊥
 one_is_not_two e = omega arith
@@ -44,6 +44,15 @@ blur_has_its_maps = (
   λ h. h.1,
   λ h. one_is_not_two h.0.components,
 )
+
+pub twelve_components : TwelveComponents
+twelve_components = (refl, refl, refl, refl, refl)
+
+pub slight_forms : SlightForms
+slight_forms = (refl, refl, refl, refl)
+
+pub slight_maps : SlightMaps
+slight_maps = (refl, refl, refl)
 
 pub loads_depend_on_nothing : LoadsDependOnNothing
 unfolding shape-the_row-Ix-0 hidden-the_row-Ix-0 shape-the_row-Val-0 hidden-the_row-Val-0 shape-the_row-Stmt-0 hidden-the_row-Stmt-0 hidden

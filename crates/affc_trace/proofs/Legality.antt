@@ -65,12 +65,11 @@ module _ {I : Type 0} where
 -- ---- the last store
 
 module _ {I X V : Type 0} (effect : I → Effect X V) (same : X → X → Bool) (decides : (x y : X) → Decides (same x y) (x ≡ y)) where
-  pub IsLast : List I → X → Option I → Type 0
+  abbrev pub IsLast : List I → X → Option I → Type 0
   IsLast done x None = (d : I) → IsIn d done → x ≢ (effect d).stores
   IsLast done x (Some c) = IsIn c done × (x ≡ (effect c).stores) × ((d : I) → IsIn d done → x ≡ (effect d).stores → (d ≡ c) ⊎ Earlier done d c)
 
   last_step : (a : I) (done : List I) (x : X) (l : Option I) (t : Bool) → IsLast done x l → same x (effect a).stores ≡ t → IsLast (a ∷ done) x (or_else l (if t then Some a else None))
-  unfolding IsLast
   last_step a done x (Some c) t p e =
       (inr p.0, p.1, λ d i s. elim i [ inl q ↦ inr (inl (q, p.0)) | inr q ↦ elim (p.2 d q s) [ inl r ↦ inl r | inr r ↦ inr (inr r) ] ])
   last_step a done x None true p e = (inl refl, (decides x (effect a).stores).0 e, λ d i s. elim i [ inl q ↦ inl q | inr q ↦ absurd (p d q s) ])
@@ -80,7 +79,6 @@ module _ {I X V : Type 0} (effect : I → Effect X V) (same : X → X → Bool) 
   ]
 
   pub is_last : (done : List I) (x : X) → IsLast done x (last_store same effect done x)
-  unfolding IsLast
   is_last [] x = λ d i. absurd i
   is_last (a ∷ done) x = last_step a done x (last_store same effect done x) (same x (effect a).stores) (is_last done x) refl
 
@@ -111,7 +109,6 @@ module _ {I X Y V : Type 0} (effect : I → Effect X V) (same : X → X → Bool
   none_between : (done rest : List I) (a b c : I) (x : X) (t : Bool) → same x (effect c).stores ≡ t → trace ≡ done ++ b ∷ rest → IsIn x (effect b).loads
       → last_store same effect done x ≡ Some a → IsLast effect same decides done x (Some a)
       → Earlier target a c → Earlier target c b → place x ≡ place (effect c).stores → ⊥
-  unfolding IsLast
   none_between done rest a b c x true t e i l p after before s =
       let stored : x ≡ (effect c).stores = (decides x (effect c).stores).0 t in
       let in_done : IsIn c done = in_front done rest c b (subst AreDistinct e re.once) (subst (λ z. Earlier z c b) e (stood_before b c x i stored before)) in
@@ -140,7 +137,6 @@ module _ {I X Y V : Type 0} (effect : I → Effect X V) (same : X → X → Bool
 
   compared : (done rest before after : List I) (b : I) (x : X) → trace ≡ done ++ b ∷ rest → target ≡ before ++ b ∷ after → IsIn x (effect b).loads
       → (l l' : Option I) → last_store same effect done x ≡ l → IsLast effect same decides done x l → IsLast (placed place effect) same' decides' before (place x) l' → l' ≡ l
-  unfolding IsLast
   compared done rest before after b x e e' i None None l p q = refl
   compared done rest before after b x e e' i None (Some c) l p q =
       let u = given done rest b e x i l in
@@ -173,7 +169,6 @@ module _ {I X Y V : Type 0} (effect : I → Effect X V) (same : X → X → Bool
     (decides : (x y : X) → Decides (same x y) (x ≡ y)) (decides' : (x y : Y) → Decides (same' x y) (x ≡ y))
     (place : X → Y) (trace target : List I) (re : IsReordered trace target) (legal : Legal effect trace target) where
   last_compared : (x : X) → ((y : X) → place x ≡ place y → x ≡ y) → (l l' : Option I) → IsLast effect same decides trace x l → IsLast (placed place effect) same' decides' target (place x) l' → l' ≡ l
-  unfolding IsLast
   last_compared x own None None p q = refl
   last_compared x own None (Some c) p q = absurd (p c (re.no_other c q.0) (own (effect c).stores q.1))
   last_compared x own (Some a) None p q = absurd (q a (re.kept a p.0) (ap place p.1))

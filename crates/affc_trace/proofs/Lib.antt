@@ -17,3 +17,5 @@ pub mod Recovers
 pub mod Ordered
 pub mod Members
 pub mod Found
+pub mod Earliers
+pub mod Sources

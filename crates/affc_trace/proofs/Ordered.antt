@@ -27,7 +27,7 @@ pub time_cmp_total : (maps : List TimeMap) (p : List ℤ) → IsTotalOrder (time
 time_cmp_total maps p = then_total (on_total (time_of maps p) (lists_total int_cmp_total)) (on_total (λ (b : Instance). b.statement) nat_cmp_total)
 
 -- the map of a statement with so many loops
-map_of : (parameters n : ℕ) (ls : List ℕ) (ms : List TimeMap) → AreMapsOf parameters n ls ms → (k loops : ℕ) → slice_get ls k ≡ Some loops
+pub map_of : (parameters n : ℕ) (ls : List ℕ) (ms : List TimeMap) → AreMapsOf parameters n ls ms → (k loops : ℕ) → slice_get ls k ≡ Some loops
     → (m : TimeMap) × (slice_get ms k ≡ Some m) × IsMapOf parameters loops n m
 map_of parameters n [] ms h k loops e = absurd (none-some loops e)
 map_of parameters n (l ∷ ls) [] h k loops e = absurd h
@@ -36,7 +36,7 @@ map_of parameters n (l ∷ ls) (m ∷ ms) h (suc k) loops e = map_of parameters 
 
 module _ (program : Program) (n : ℕ) (maps : List TimeMap) (p : List ℤ) (fits : IsScheduleOf program (Time n maps)) (numbers : length p ≡ numbers_in program.params) where
   -- the inverse gives an instance's iterators back from its time
-  from_time : (a : Instance) → IsIn a (trace program p) → (m : TimeMap) → slice_get maps a.statement ≡ Some m → values_of m.inverse (p ++ time_of maps p a) ≡ a.iterators
+  pub from_time : (a : Instance) → IsIn a (trace program p) → (m : TimeMap) → slice_get maps a.statement ≡ Some m → values_of m.inverse (p ++ time_of maps p a) ≡ a.iterators
   from_time a i m e =
       let r = map_of (numbers_in program.params) n (loops_round program) maps fits a.statement (length a.iterators) (depth program p a i) in
       let same : r.0 ≡ m = same_Some r.0 m (sym r.1 ∙ e) in

@@ -8,7 +8,7 @@ use Rattle.affc_ast.specs.declared.tree.Program.{Program}
 use Rattle.affc_ast.specs.Store.{Element, element_cmp}
 use Rattle.affc_ast.specs.Trace.{trace, loads_of, store_of}
 use Rattle.affc_trace.specs.declared.schedule.Schedule.{Schedule}
-use Rattle.affc_trace.specs.Law.{last_store}
+use Rattle.affc_trace.specs.Law.{last_store, IsIn}
 use Rattle.affc_trace.specs.Orders.{Earlier, Dependent}
 use Rattle.affc_trace.specs.Orders as orders
 use Rattle.affc_trace.specs.Effects.{effect}
@@ -42,6 +42,17 @@ pub record Violates (program : Program) (schedule : Schedule) (p : List ℤ) (a 
 -- the last instance before b in the trace that stores x, or None where no store of x comes before b
 abbrev pub IsSource : Program → (p : List ℤ) → Instance → Element → Option Instance → Type 0
 IsSource program p b x s = orders.IsSource (effect program p) same_element (trace program p) b x s
+
+-- the last write itself: w stores x before b, and no instance that stores x stands between the two
+pub record IsLastWrite (program : Program) (p : List ℤ) (b : Instance) (x : Element) (w : Instance) : Type 0 where
+  pub earlier : Earlier (trace program p) w b
+  pub stores : x ≡ (effect program p w).stores
+  pub none_between : (v : Instance) → x ≡ (effect program p v).stores → Earlier (trace program p) w v → Earlier (trace program p) v b → ⊥
+
+-- an instance before which no instance stores x
+pub record NoneWrites (program : Program) (p : List ℤ) (b : Instance) (x : Element) : Type 0 where
+  pub stands : IsIn b (trace program p)
+  pub none : (v : Instance) → x ≡ (effect program p v).stores → Earlier (trace program p) v b → ⊥
 
 -- two elements of any array, of which either is stored while the other's value is still to be loaded
 abbrev pub AreLive : Program → Schedule → (p : List ℤ) → Element → Element → Type 0

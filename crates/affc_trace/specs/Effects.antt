@@ -1,5 +1,5 @@
 -- What a program's assignments load, store and compute, where bounds, conditions and subscripts are read as whole numbers.
-use Rattle.std.specs.Prelude.{ℕ, ℤ, Bool, true, false, ◌&&◌, if◌then◌else◌, List, [], ◌∷◌, ◌++◌, Option, Some, None, map, flat_map, slice_get}
+use Rattle.std.specs.Prelude.{ℕ, ℤ, if◌then◌else◌, List, [], ◌∷◌, ◌++◌, Option, Some, None, map, flat_map, slice_get}
 use Rattle.affc_ast.specs.declared.tree.Op.{Op}
 use Rattle.affc_ast.specs.declared.tree.Val.{Val}
 use Rattle.affc_ast.specs.declared.tree.Val.TheOpen.{Val-F, Load, Const, Cast, Not, Bin, Shift}
@@ -13,6 +13,7 @@ use Rattle.affc_ast.specs.Meaning.{turns_of}
 use Rattle.affc_ast.specs.Fits.{whole, all_hold}
 use Rattle.affc_ast.specs.Trace.{count_from, Assignment, assignments, loaded_by, stored_by}
 use Rattle.affc_ast.specs.Recursion.{by_val, by_stmt}
+pub use Rattle.affc_ast.specs.Locals.{all_true, plain_step, has_no_locals}
 use Rattle.affc_trace.specs.Law.{Effect}
 
 -- what is made of the first of some loaded values, and the values that are left
@@ -80,19 +81,3 @@ effects_step (Block locals body) names = each_of body (with_all locals names)
 -- The effects of the assignments that the loops and conditions run, in order.
 abbrev pub effects : Program → List ℤ → List (Effect Element ℕ)
 effects program p = each_of (map (by_stmt effects_step) program.body) p
-
--- ---- programs without locals, as each without the prelude
-
-abbrev pub all_true : List Bool → Bool
-all_true [] = true
-all_true (b ∷ bs) = b && all_true bs
-
-abbrev pub plain_step : Stmt-F Bool → Bool
-plain_step (For iter low rel high body) = all_true body
-plain_step (If conds body) = all_true body
-plain_step (Assign op array subs value) = true
-plain_step (Block [] body) = all_true body
-plain_step (Block (l ∷ ls) body) = false
-
-abbrev pub has_no_locals : Program → Bool
-has_no_locals program = all_true (map (by_stmt plain_step) program.body)

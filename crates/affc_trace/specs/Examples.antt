@@ -1,5 +1,5 @@
 -- What the definitions give at small programs. Each value was found by hand from the rules.
-use Rattle.std.specs.Prelude.{◌≡◌, ℕ, zero, suc, true, false, nat_eq, ℤ, pos, negsuc, if◌then◌else◌, List, [], ◌∷◌, ◌++◌, length, Some, None, map, refl}
+use Rattle.std.specs.Prelude.{◌≡◌, ℕ, zero, suc, ◌+◌, ◌^◌, true, false, nat_eq, ℤ, pos, negsuc, neg_ℤ, if◌then◌else◌, List, [], ◌∷◌, ◌++◌, length, Some, None, map, refl}
 use Rattle.std.specs.Int.{int_rem_euclid}
 use Rattle.std.proofs.Common.{subst, lit≤}
 use Rattle.std.proofs.lemmas.List.Elements.{All-nil, All-cons}
@@ -28,7 +28,7 @@ use Rattle.affc_trace.specs.declared.schedule.Schedule.{Schedule}
 use Rattle.affc_trace.specs.declared.schedule.Schedule.TheVariants.{Source, Time}
 use Rattle.affc_trace.specs.Inverses.{column, GivesColumn}
 use Rattle.affc_trace.specs.Orders.{IsReordered}
-use Rattle.affc_trace.specs.Target.{target, loops_round, IsScheduleOf}
+use Rattle.affc_trace.specs.Target.{target, loops_round, IsScheduleOf, all_slight, within_limits}
 use Rattle.affc_trace.specs.Effects.{effect, effects, has_no_locals}
 use Rattle.affc_trace.specs.Law.{placed}
 use Rattle.affc_trace.specs.Dataflow.{source, live_pairs, violations}
@@ -187,6 +187,37 @@ BlurHasItsMaps =
     IsScheduleOf blur together
     × (IsScheduleOf blur (Time 1 (at_i ∷ [])) → ⊥)
     × (IsScheduleOf blur (Time 2 (at_i ∷ two_later ∷ [])) → ⊥)
+
+-- from 1 to 12 components
+abbrev pub TwelveComponents : Type 0
+TwelveComponents =
+    (within_limits Source ≡ true)
+    × (within_limits together ≡ true)
+    × (within_limits (Time 12 []) ≡ true)
+    × (within_limits (Time 13 []) ≡ false)
+    × (within_limits (Time 0 []) ≡ false)
+
+-- coefficients up to 256 and constants up to 2^30 in magnitude, in each form
+abbrev pub SlightForms : Type 0
+SlightForms =
+    (all_slight (of_i (pos (2 ^ 30)) (pos 256) ∷ of_i (neg_ℤ (pos (2 ^ 30))) (neg_ℤ (pos 256)) ∷ []) ≡ true)
+    × (all_slight (of_i (pos 0) (pos 257) ∷ []) ≡ false)
+    × (all_slight (of_i (neg_ℤ (pos (2 ^ 30 + 1))) (pos 0) ∷ []) ≡ false)
+    × (all_slight (of_i (pos 0) (pos 0) ∷ of_i (pos 0) (pos 257) ∷ []) ≡ false)
+
+-- (257 i, i), where i is t1; and (i, i), where i is 257 t0 - 256 t1
+abbrev far_apart : TimeMap
+far_apart = timed_twice (pos 257) (pos 1) (pos 0) (pos 1) refl
+
+abbrev far_back : TimeMap
+far_back = timed_twice (pos 1) (pos 1) (pos 257) (negsuc 255) refl
+
+-- in the forms and in the inverse of each map
+abbrev pub SlightMaps : Type 0
+SlightMaps =
+    (within_limits (Time 2 (first_i ∷ second_i ∷ [])) ≡ true)
+    × (within_limits (Time 2 (first_i ∷ far_apart ∷ [])) ≡ false)
+    × (within_limits (Time 2 (far_back ∷ second_i ∷ [])) ≡ false)
 
 -- S1 may run backwards: its instances load the same elements, and neither stores what the other touches
 abbrev pub LoadsDependOnNothing : Type 0

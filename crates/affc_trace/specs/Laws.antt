@@ -17,7 +17,7 @@ use Rattle.affc_trace.specs.Law.{IsIn, placed, stores_of, as_stored, SameLastSto
 use Rattle.affc_trace.specs.Orders.{Earlier, IsReordered, KeepsArrays}
 use Rattle.affc_trace.specs.Target.{time_cmp, ordered, target, IsInOrder, numbers_in, IsScheduleOf}
 use Rattle.affc_trace.specs.Effects.{effect, effects, has_no_locals}
-use Rattle.affc_trace.specs.Dataflow.{same_element, OneArray, Legal, Violates, IsSource, AreLive, Admissible, source, live_pairs, violations}
+use Rattle.affc_trace.specs.Dataflow.{same_element, OneArray, Legal, Violates, IsSource, IsLastWrite, NoneWrites, AreLive, Admissible, source, live_pairs, violations}
 
 -- ---- Premises
 
@@ -55,6 +55,18 @@ pub record RunsTarget (printed source : Program) (schedule : Schedule) (place : 
 abbrev pub in_target_order : Schedule → List ℤ → List Stored → List Stored
 in_target_order schedule p = ordered (λ (s : Stored). s.instance) schedule p
 
+-- What is shown of a printed program, so that it compiles its source: see CompilesSource, whose premises these are.
+pub record SourcePremises (printed source : Program) (schedule : Schedule) (place : List ℤ → Element → Element) : Type 0 where
+  pub plain : IsTrue (has_no_locals source)
+  pub name : printed.name ≡ source.name
+  pub params : printed.params ≡ source.params
+  pub context : printed.context ≡ source.context
+  pub ends : (p : List ℤ) (store : Store) → Fits source p store → (end : State) × (meaning source p store ≡ Ended end)
+  pub legal : (p : List ℤ) → IsInContext source p → Legal source schedule p
+  pub admissible : (p : List ℤ) → IsInContext source p → Admissible source schedule p (place p)
+  pub keeps : (p : List ℤ) → IsInContext source p → KeepsParameters source (place p)
+  pub runs : (p : List ℤ) (store : Store) → Fits source p store → RunsTarget printed source schedule (place p) p store
+
 -- ---- Laws
 
 -- A run that ends stores what the effects of the program's assignments store, in order.
@@ -84,6 +96,13 @@ TargetIsByTime = (program : Program) (length_of_time : ℕ) (maps : List TimeMap
     → IsScheduleOf program (Time length_of_time maps) → length p ≡ numbers_in program.params
     → Earlier (target program (Time length_of_time maps) p) a b
     ↔ (IsIn a (trace program p) × IsIn b (trace program p) × (time_cmp maps p a b ≡ Less))
+
+-- The source of a load is the earlier instance that stores the element and has no such instance between itself and the load;
+-- there is none exactly where no earlier instance stores the element.
+abbrev pub SourceInItsOwnWords : Type 0
+SourceInItsOwnWords = (program : Program) (p : List ℤ) (b : Instance) (x : Element)
+    → ((w : Instance) → IsSource program p b x (Some w) ↔ IsLastWrite program p b x w)
+    × (IsSource program p b x None ↔ NoneWrites program p b x)
 
 -- The lists that compute hold exactly the sources, the live pairs and the dependences that are turned round.
 abbrev pub SourceIsFound : Type 0
@@ -158,3 +177,8 @@ CompilesSource = (printed source : Program) (schedule : Schedule) (place : List 
     → ((p : List ℤ) → IsInContext source p → KeepsParameters source (place p))
     → ((p : List ℤ) (store : Store) → Fits source p store → RunsTarget printed source schedule (place p) p store)
     → Compiles printed source (in_target_order schedule) place
+
+-- With the premises as a record.
+abbrev pub PremisesCompile : Type 0
+PremisesCompile = (printed source : Program) (schedule : Schedule) (place : List ℤ → Element → Element)
+    → SourcePremises printed source schedule place → Compiles printed source (in_target_order schedule) place

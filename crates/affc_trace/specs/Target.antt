@@ -1,10 +1,10 @@
 -- The order in which a schedule runs a program's instances.
-use Rattle.std.specs.Prelude.{◌≡◌, ℕ, suc, ◌+◌, length, ℤ, if◌then◌else◌, List, [], ◌∷◌, ◌++◌, Option, Some, None, map, slice_get}
+use Rattle.std.specs.Prelude.{◌≡◌, ℕ, suc, ◌+◌, ◌^◌, length, ℤ, Bool, true, ◌&&◌, nat_le, nat_abs, if◌then◌else◌, List, [], ◌∷◌, ◌++◌, Option, Some, None, map, slice_get}
 use Rattle.std.specs.declared.cmp.Ordering.{Ordering}
 use Rattle.std.specs.declared.cmp.Ordering.TheVariants.{Less}
 use Rattle.std.specs.Ordering.{is_lt, ordering_then, nat_cmp, int_cmp}
 use Rattle.std.specs.Cmp.Lexicographic.{slice_cmp}
-use Rattle.affc_rows.specs.Forms.{columns_of, values_of}
+use Rattle.affc_rows.specs.Forms.{Affine, columns_of, values_of}
 use Rattle.affc_ast.specs.declared.tree.Instance.{Instance}
 use Rattle.affc_ast.specs.declared.tree.Param.{Param}
 use Rattle.affc_ast.specs.declared.tree.Param.TheVariants.{Number, Array}
@@ -89,3 +89,24 @@ AreMapsOf parameters length_of_time _ _ = ⊥
 abbrev pub IsScheduleOf : Program → Schedule → Type 0
 IsScheduleOf program Source = Unit {0}
 IsScheduleOf program (Time length_of_time maps) = AreMapsOf (numbers_in program.params) length_of_time (loops_round program) maps
+
+-- ---- Limits of schedules
+
+-- coefficients up to 256 in magnitude
+abbrev pub are_slight : List ℤ → Bool
+are_slight [] = true
+are_slight (c ∷ cs) = nat_le (nat_abs c) 256 && are_slight cs
+
+-- and constants up to 2^30
+abbrev pub all_slight : List Affine → Bool
+all_slight [] = true
+all_slight (f ∷ fs) = (nat_le (nat_abs f.constant) (2 ^ 30) && are_slight f.coefs) && all_slight fs
+
+abbrev pub maps_within : List TimeMap → Bool
+maps_within [] = true
+maps_within (m ∷ ms) = (all_slight m.forms && all_slight m.inverse) && maps_within ms
+
+-- what the limits of a schedule's text give: 1 to 12 components, and slight forms, as those of the inverses are
+abbrev pub within_limits : Schedule → Bool
+within_limits Source = true
+within_limits (Time length_of_time maps) = (nat_le 1 length_of_time && nat_le length_of_time 12) && maps_within maps

@@ -1,6 +1,6 @@
 //! What the definitions give at small programs, as laws: `specs/Examples.antt` says each, with values that were
 //! found by hand from the rules.
-ghost use Rattle.affc_trace.specs.Examples.{BlurTakesTurns, BlurSources, BlurLivePairs, BlurIsLegal, BlurHasItsMaps, LoadsDependOnNothing, FoldedBlurFollows, FoldedBlurDoes, NumberDecidesTies, TieIsIllegal, FirstComponentDecides, TiesStayAsTheyStood, OrdersKeepInstances, BackwardsIsIllegal, OwnStoreComesAfter, HandedInIsNoSource, LoopsAreCounted, LocalsAreSeen, ScalarHasOneElement, StuckForAValueRunsTarget, StuckOutOfBoundsDoesNot};
+ghost use Rattle.affc_trace.specs.Examples.{BlurTakesTurns, BlurSources, BlurLivePairs, BlurIsLegal, BlurHasItsMaps, TwelveComponents, SlightForms, SlightMaps, LoadsDependOnNothing, FoldedBlurFollows, FoldedBlurDoes, NumberDecidesTies, TieIsIllegal, FirstComponentDecides, TiesStayAsTheyStood, OrdersKeepInstances, BackwardsIsIllegal, OwnStoreComesAfter, HandedInIsNoSource, LoopsAreCounted, LocalsAreSeen, ScalarHasOneElement, StuckForAValueRunsTarget, StuckOutOfBoundsDoesNot};
 
 /// A blur of two statements, at the times i and i + 2, and folded onto three elements.
 pub fn blur()
@@ -49,4 +49,11 @@ pub fn scalar()
 pub fn stuck()
     ensures for_a_value { StuckForAValueRunsTarget }
     ensures out_of_bounds { StuckOutOfBoundsDoesNot }
+{}
+
+/// Limits of schedules.
+pub fn limits()
+    ensures twelve_components { TwelveComponents }
+    ensures slight_forms { SlightForms }
+    ensures slight_maps { SlightMaps }
 {}

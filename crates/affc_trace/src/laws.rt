@@ -1,6 +1,6 @@
 //! What may be concluded about a program that is reordered and folded. Each law is the contract of a function
 //! that does nothing.
-ghost use Rattle.affc_trace.specs.Laws.{RunOfEffects, EffectsOfTrace, TargetIsReordered, TargetIsInOrder, TargetIsByTime, ValuesByInstance, LoadsWithoutSource, SourceIsFound, LivePairsAreFound, ViolationsAreFound, LegalHasNoViolations, FittingDataIsKept, EqualLastStores, KeepsSources, RunsAsSource, CompilesSource};
+ghost use Rattle.affc_trace.specs.Laws.{RunOfEffects, EffectsOfTrace, TargetIsReordered, TargetIsInOrder, TargetIsByTime, ValuesByInstance, LoadsWithoutSource, SourceInItsOwnWords, SourceIsFound, LivePairsAreFound, ViolationsAreFound, LegalHasNoViolations, FittingDataIsKept, EqualLastStores, KeepsSources, RunsAsSource, CompilesSource, PremisesCompile};
 
 /// A run is the fold of the effects of the program's assignments.
 pub fn run_of_effects()
@@ -25,6 +25,11 @@ pub fn target_is_in_order()
 /// One instance stands before another in that target exactly where it is less, by time and then by statement.
 pub fn target_is_by_time()
     ensures law { TargetIsByTime }
+{}
+
+/// The source of a load is the last write before it, said by the order of the trace alone.
+pub fn source_in_its_own_words()
+    ensures law { SourceInItsOwnWords }
 {}
 
 /// The list of sources holds each load's source.
@@ -80,4 +85,9 @@ pub fn runs_as_source()
 /// The same for all data that fit.
 pub fn compiles_source()
     ensures law { CompilesSource }
+{}
+
+/// The same with the premises as a record.
+pub fn premises_compile()
+    ensures law { PremisesCompile }
 {}

@@ -1,7 +1,7 @@
 use Rattle.std.proofs.Common.{refl, arith}
 use Rattle.affc_cli.specs.Command.{texts_of}
-use Rattle.affc_cli.specs.declared.refusal.Refusal.TheVariants.{Words, Memory}
-use Rattle.affc_cli.proofs.Ending.{said, short_serves, words_serves}
+use Rattle.affc_cli.specs.declared.refusal.Refusal.TheVariants.{Memory}
+use Rattle.affc_cli.proofs.Ending.{said, short_serves}
 use Rattle.affc_cli.proofs.serve.serve.Goals as goal
 
 pub returns-in-Err : goal.returns-in-Err
@@ -12,14 +12,4 @@ returns-in-Err g c =
       folder = record { names = refl; faults = omega arith; shortages = omega arith };
       out = record { faults = omega arith; shortages = omega arith };
       err = c.tell_short.ensures.counts;
-    }))
-
-pub returns-in-Ok-None : goal.returns-in-Ok-None
-returns-in-Ok-None g c =
-    words_serves (texts_of c.args.words.now) _ _ c.tell_words.result (rw c.in-Ok-None.field-0-is at c.in-Ok-None.ensures)
-    (said Words _ _ c.tell_words.result c.tell_words.ensures.status refl refl c.tell_words.ensures.told
-    (record {
-      folder = record { names = refl; faults = omega arith; shortages = omega arith };
-      out = record { faults = omega arith; shortages = omega arith };
-      err = c.tell_words.ensures.counts;
     }))

@@ -5,7 +5,7 @@ use Rattle.affc_decide.proofs.Said.{if_err, say_more, say_none}
 use Rattle.affc_decide.proofs.block.numbers.Goals as goal
 
 pub returns-in_err-n-clause-none : goal.returns-in_err-n-clause-none
-returns-in_err-n-clause-none c = if_err c.from_residual.result (λ e is. say_none c.args.words.now c.loop-word.word-index _ c.loop-word-test.true c.in_err-n.ensures.none)
+returns-in_err-n-clause-none c = if_err c.from_residual-in_err-n.result (λ e is. say_none c.args.words.now c.loop-word.word-index _ c.loop-word-test.true c.in_err-n.ensures.none)
 
 pub loop-word-preserved : goal.loop-word-preserved
 loop-word-preserved c =

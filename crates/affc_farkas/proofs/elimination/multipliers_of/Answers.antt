@@ -4,7 +4,7 @@ use Rattle.affc_farkas.specs.Multiples.{AreMultipliers}
 use Rattle.affc_farkas.proofs.Leaves.{sparse_end, sparse_multipliers}
 use Rattle.affc_farkas.proofs.elimination.multipliers_of.Goals as goal
 
-pub from_pairs-requires : goal.from_pairs-requires
-from_pairs-requires c =
+pub from_checked-requires : goal.from_checked-requires
+from_checked-requires c =
     let e = made_end c.loop-i.pairs.items _ _ (sparse_end c.args.weights.now c.loop-i.i c.loop-i.i (omega arith)) c.loop-i.invariant in
     subst AreMultipliers (sym e) (sparse_multipliers c.args.weights.now c.requires.few c.requires.small)

@@ -34,3 +34,11 @@ returns-clause-temporary_twice c = refl
 pub returns-clause-parameter_twice : goal.returns-clause-parameter_twice
 unfolding computing
 returns-clause-parameter_twice c = refl
+
+pub returns-clause-low_comes_before_the_second_word : goal.returns-clause-low_comes_before_the_second_word
+unfolding computing
+returns-clause-low_comes_before_the_second_word c = refl
+
+pub returns-clause-second_word_comes_before_high : goal.returns-clause-second_word_comes_before_high
+unfolding computing
+returns-clause-second_word_comes_before_high c = refl

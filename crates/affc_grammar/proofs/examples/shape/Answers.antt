@@ -1,6 +1,7 @@
 -- By computation.
-use Rattle.std.proofs.Common.{refl}
+use Rattle.std.proofs.Common.{refl, lit≤, arith}
 use Rattle.affc_grammar.specs.Verdict.{computing}
+use Rattle.affc_grammar.proofs.Counts.{past_tokens}
 use Rattle.affc_grammar.proofs.examples.shape.Goals as goal
 
 pub returns-clause-run : goal.returns-clause-run
@@ -42,3 +43,9 @@ returns-clause-separators c = refl
 pub returns-clause-first_of_the_table : goal.returns-clause-first_of_the_table
 unfolding computing
 returns-clause-first_of_the_table c = refl
+
+pub returns-clause-tokens : goal.returns-clause-tokens
+returns-clause-tokens c ss e = past_tokens 65536 0 ss (omega (arith, e)) (lit≤ tt)
+
+pub returns-clause-tokens_with_the_prelude : goal.returns-clause-tokens_with_the_prelude
+returns-clause-tokens_with_the_prelude c ss e = past_tokens 16777216 0 ss (omega (arith, e)) (lit≤ tt)

@@ -3,7 +3,7 @@ use Rattle.std.specs.Prelude.{sum_by}
 use Rattle.affc_ast.specs.Index.{nodes_of_compare}
 use Rattle.affc_ast.specs.Meaning.{arrays_of, nodes_of_decls}
 use Rattle.affc_interp.specs.Arrays.{values_in}
-use Rattle.affc_interp.specs.Runs.{temps_node}
+use Rattle.affc_ast.specs.Counted.{temps_node}
 use Rattle.affc_interp.proofs.RunIs.{begins_ok}
 use Rattle.affc_interp.proofs.run.begin.Goals as goal
 

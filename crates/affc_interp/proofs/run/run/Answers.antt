@@ -2,8 +2,9 @@ use Rattle.std.proofs.Common.{◌≡◌, ◌+◌, ◌^◌, ◌<◌, ◌∙◌, a
 use Rattle.affc_ast.specs.Meaning.{nodes_in, assigns_in, part_of}
 use Rattle.affc_interp.specs.Arrays.{values_in}
 use Rattle.affc_interp.specs.Budget.{exec_of, nodes_among, assigns_among, all_within}
-use Rattle.affc_interp.specs.Runs.{body_node}
+use Rattle.affc_ast.specs.Counted.{body_node}
 use Rattle.affc_interp.proofs.Agrees.{run_nodes, run_assigns}
+use Rattle.affc_interp.proofs.Counting.{body_within_is}
 use Rattle.affc_interp.proofs.RunIs.{ended, stopped, unbegun, arrays_there}
 use Rattle.affc_interp.proofs.run.run.Goals as goal
 
@@ -26,7 +27,7 @@ exec_all-requires-clause-assigns c =
 pub exec_all-requires-clause-within : goal.exec_all-requires-clause-within
 exec_all-requires-clause-within c =
     let n = arrays_there c.args.program.now c.args.feed.now.params.items (values_in c.args.feed.now.arrays.items) c.args.steps c.in-Ok.begun.0 c.in-Ok.begun.1 c.in-Ok.ensures in
-    (λ i. all_within (map exec_of (c.as_slice.ensures i)) (n i)) ∙ c.requires.within
+    (λ i. all_within (map exec_of (c.as_slice.ensures i)) (n i)) ∙ body_within_is _ c.args.program.now.body ∙ c.requires.own_arrays
 
 pub returns-in-Ok-exec_all : goal.returns-in-Ok-exec_all
 returns-in-Ok-exec_all c =

@@ -6,7 +6,6 @@ use Rattle.affc_io.proofs.put.put_all.Goals as goal
 pub loop-written-preserved : goal.loop-written-preserved
 loop-written-preserved g c = record {
   within = grind (arith, common_steps, c.in-Ok.ensures.bound);
-  faults = omega (arith, c.in-Ok.ensures.faults);
-  shortages = omega (arith, c.in-Ok.ensures.shortages);
+  counts = record { faults = omega arith; shortages = omega arith };
   taken = grown-next _ _ _ _ _ _ c.loop-written.invariant.taken c.in-Ok.ensures.taken;
 }

@@ -21,3 +21,6 @@ returns-clause-zero c = record { pieces = kept Number (codes "0") ∷ kept Mark 
 
 pub returns-clause-digits_in_a_word : goal.returns-clause-digits_in_a_word
 returns-clause-digits_in_a_word c = record { pieces = kept Word (codes "_0ULL") ∷ []; spelled = refl; standing = refl; ended = refl; unrefused = refl; its_tokens = refl }
+
+pub returns-clause-other_marks : goal.returns-clause-other_marks
+returns-clause-other_marks c = record { pieces = kept Word (codes "a") ∷ kept Mark (codes "%") ∷ kept Word (codes "b") ∷ kept Mark (codes "||") ∷ kept Word (codes "c") ∷ kept Mark (codes "!=") ∷ kept Word (codes "d") ∷ []; spelled = refl; standing = refl; ended = refl; unrefused = refl; its_tokens = refl }

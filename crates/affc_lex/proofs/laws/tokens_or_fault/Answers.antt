@@ -1,5 +1,5 @@
-use Rattle.affc_lex.proofs.Exact.{no_fault}
+use Rattle.affc_lex.proofs.Total.{tokens_or_fault}
 use Rattle.affc_lex.proofs.laws.tokens_or_fault.Goals as goal
 
 pub returns : goal.returns
-returns c = no_fault
+returns c = tokens_or_fault

@@ -1,7 +1,8 @@
-use Rattle.std.proofs.Common.{◌≡◌, ◌+◌, subst, IfSome}
-use Rattle.affc_split.specs.Cuts.{IsCutOf}
-use Rattle.affc_split.specs.Search.{IsFound, IsLeast, IsEmpty}
-use Rattle.affc_split.proofs.Divisions.{cut_least, cut_empty}
+use Rattle.std.proofs.Common.{◌+◌, subst, IfSome}
+use Rattle.affc_leaf.specs.Cuts.{IsCutOf}
+use Rattle.affc_leaf.specs.Parts.{IsLeast, IsEmpty}
+use Rattle.affc_split.specs.Search.{IsFound}
+use Rattle.affc_leaf.proofs.Divisions.{cut_least, cut_empty}
 use Rattle.affc_split.proofs.cuts.+with_cuts.Goals as goal
 
 pub returns-in-Point-clause-answer : goal.returns-in-Point-clause-answer

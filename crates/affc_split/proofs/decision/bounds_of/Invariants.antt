@@ -1,5 +1,5 @@
 use Rattle.std.proofs.Common.{◌≡◌, ◌+◌, ◌*◌, ◌++◌, drop}
-use Rattle.affc_split.specs.Search.{box_bounds}
+use Rattle.affc_leaf.specs.Parts.{box_bounds}
 use Rattle.affc_split.proofs.decision.bounds_of.Given as goal
 
 abbrev pub invariant-loop-j : goal.invariant-loop-j

@@ -1,12 +1,13 @@
 use Rattle.std.proofs.Common.{◌≡◌, ◌+◌, ◌*◌, ◌≤◌, subst, length, IfOk, IfErr, Some, ◌⊎◌}
 use Rattle.std.specs.List.{All}
-use Rattle.affc_system.specs.Systems.{IsRow}
+use Rattle.affc_system.specs.Systems.{IsRow, IsPoint}
 use Rattle.affc_farkas.specs.Proofs.{ValidProof}
-use Rattle.affc_split.specs.Answers.{with_box, IsLeafProof, IsHard, IfEmpty, IfPoint}
-use Rattle.affc_split.specs.Points.{points, IsLeastPoint}
+use Rattle.affc_leaf.specs.Boxed.{with_box, IsLeafProof, IsHard}
+use Rattle.affc_split.specs.Answers.{IfEmpty, IfPoint}
+use Rattle.affc_leaf.specs.Points.{points, low_corner, IsLeastPoint}
 use Rattle.affc_split.specs.Openings.{Opened}
 use Rattle.affc_split.specs.declared.budget.Stop.TheVariants.{Budget}
-use Rattle.affc_split.proofs.Boxes.{none_answer}
+use Rattle.affc_split.proofs.Answers.{none_answer}
 use Rattle.affc_split.proofs.Openings.{whole_opened}
 use Rattle.affc_split.proofs.decision.decide.Goals as goal
 
@@ -40,3 +41,12 @@ returns-clause-short c = subst (λ rs. IfErr c.decided.result (λ e. e ≡ Budge
 
 pub returns-clause-hard : goal.returns-clause-hard
 returns-clause-hard c = subst (λ rs. length c.args.system.now.rows + 2 * c.args.system.now.columns ≤ 1024 → IfErr c.decided.result (λ e. e ≡ Budget → (c.args.budget.now.limit ≡ Some c.args.budget.now.spent) ⊎ IsHard (with_box c.args.system.now rs))) c.ranges-ranges.ensures.ranges c.decided.ensures.hard
+
+pub returns-clause-corner : goal.returns-clause-corner
+returns-clause-corner c = subst (λ rs. IsPoint c.args.system.now (low_corner rs) → c.decided.new.budget.spent ≤ c.args.budget.now.spent + 1) c.ranges-ranges.ensures.ranges c.decided.ensures.corner
+
+pub returns-clause-corner_stop : goal.returns-clause-corner_stop
+returns-clause-corner_stop c = subst (λ rs. IfErr c.decided.result (λ e. e ≡ Budget → IsPoint c.args.system.now (low_corner rs) → c.args.budget.now.limit ≡ Some c.args.budget.now.spent)) c.ranges-ranges.ensures.ranges c.decided.ensures.corner_stop
+
+pub returns-clause-later : goal.returns-clause-later
+returns-clause-later c = record { limit = c.decided.ensures.limit; grows = c.decided.ensures.grows; uncounted = c.decided.ensures.uncounted }

@@ -1,4 +1,4 @@
-use Rattle.std.proofs.Common.{arith, ◌≤◌, ◌+◌, inl, inr}
+use Rattle.std.proofs.Common.{arith, inl, inr}
 use Rattle.affc_split.proofs.decision.decided.Goals as goal
 
 pub returns-clause-unit : goal.returns-clause-unit

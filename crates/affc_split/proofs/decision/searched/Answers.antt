@@ -1,12 +1,12 @@
-use Rattle.std.proofs.Common.{◌≡◌, ◌∙◌, ap, sym, subst, length}
+use Rattle.std.proofs.Common.{◌∙◌, ap, sym, subst, length}
 use Rattle.std.specs.List.{All}
 use Rattle.affc_system.specs.Systems.{IsRow}
 use Rattle.affc_farkas.specs.Proofs.{ValidProof}
-use Rattle.affc_split.specs.Answers.{with_box}
-use Rattle.affc_split.specs.Bounds.{ranges_of}
-use Rattle.affc_split.specs.Points.{IsLeastPoint}
+use Rattle.affc_leaf.specs.Boxed.{with_box}
+use Rattle.affc_leaf.specs.Bounds.{ranges_of}
+use Rattle.affc_leaf.specs.Points.{IsLeastPoint}
 use Rattle.affc_split.specs.Search.{IsFound}
-use Rattle.affc_split.proofs.Whole.{whole_valid, ranges_back}
+use Rattle.affc_leaf.proofs.Whole.{whole_valid, ranges_back}
 use Rattle.affc_split.proofs.Openings.{empty_answer, point_answer}
 use Rattle.affc_split.proofs.decision.searched.Goals as goal
 

@@ -1,12 +1,11 @@
-use Rattle.std.proofs.Common.{arith, rules, refl, ◌≡◌, ◌<◌, ◌+◌, ◌-◌, ◌∷◌, ◌∙◌, ap, sym, subst, List, ℕ, pos}
+use Rattle.std.proofs.Common.{◌≡◌, ◌+◌, ◌-◌, sym, subst}
 use Rattle.std.specs.Prelude.{FitsSigned}
 use Rattle.std.specs.Int.{w64}
 use Rattle.std.proofs.lemmas.Int.{to_z-of_z}
-use Rattle.affc_split.specs.Bounds.{lowered, raised}
-use Rattle.affc_split.specs.Answers.{unit}
-use Rattle.affc_split.specs.Search.{IsEmpty}
-use Rattle.affc_split.proofs.Steps.{none_both}
-use Rattle.affc_split.proofs.Splits.{split_valid}
+use Rattle.affc_leaf.specs.Boxed.{unit}
+use Rattle.affc_leaf.specs.Parts.{IsEmpty}
+use Rattle.affc_leaf.proofs.Steps.{none_both}
+use Rattle.affc_leaf.proofs.Splits.{split_valid}
 use Rattle.affc_split.proofs.parts.joined.Goals as goal
 
 pub returns-clause-answer : goal.returns-clause-answer

@@ -1,4 +1,4 @@
-use Rattle.affc_split.proofs.Steps.{kept_least}
+use Rattle.affc_leaf.proofs.Steps.{kept_least}
 use Rattle.affc_split.proofs.parts.low_kept.Goals as goal
 
 pub returns-clause-answer : goal.returns-clause-answer

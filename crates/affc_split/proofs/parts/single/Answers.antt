@@ -1,14 +1,8 @@
-use Rattle.std.proofs.Common.{arith, rules, refl, ◌≡◌, ◌≤◌, ◌<◌, ◌+◌, ◌-◌, ◌*◌, ◌∙◌, ap, sym, subst, pos, length, ℕ}
-use Rattle.std.specs.Prelude.{FitsSigned}
-use Rattle.std.specs.Int.{w64}
+use Rattle.std.proofs.Common.{◌∙◌, ap, subst, length}
 use Rattle.std.specs.List.{All}
 use Rattle.affc_system.specs.Systems.{IsRow}
 use Rattle.std.proofs.lemmas.List.{length-map}
-use Rattle.std.proofs.lemmas.Int.{ints, to_z-of_z}
-use Rattle.affc_split.specs.Bounds.{lowered, raised, size, lows}
-use Rattle.affc_split.specs.Search.{IsLeast, IsEmpty, Ready}
-use Rattle.affc_split.proofs.Halves.{halves_points, some_points}
-use Rattle.affc_split.proofs.Steps.{low_ready, high_ready, lows_answer, none_below, low_least, high_least, none_both}
+use Rattle.affc_leaf.proofs.Steps.{lows_answer}
 use Rattle.affc_split.proofs.parts.single.Goals as goal
 
 pub returns-clause-answer : goal.returns-clause-answer

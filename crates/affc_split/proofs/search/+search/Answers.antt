@@ -1,9 +1,9 @@
-use Rattle.std.proofs.Common.{rules, ◌≡◌, ◌∙◌, ◌+◌, ◌-◌, ◌≤◌, refl, sym, ap, subst, arith, IfOk}
+use Rattle.std.proofs.Common.{rules, ◌≡◌, ◌∙◌, ◌+◌, ◌-◌, refl, sym, ap, subst, IfOk}
 use Rattle.std.specs.Prelude.{FitsSigned}
 use Rattle.std.specs.Int.{w64}
 use Rattle.std.proofs.lemmas.Int.{to_z-of_z}
 use Rattle.affc_split.specs.declared.search.Found.TheVariants.{Empty, Point}
-use Rattle.affc_split.specs.Bounds.{lowered, raised, ranges_of}
+use Rattle.affc_leaf.specs.Bounds.{lowered, raised, ranges_of}
 use Rattle.affc_split.specs.Search.{IsFound, IsHalf, IsLook, IfFree}
 use Rattle.affc_split.specs.Openings.{nodes}
 use Rattle.affc_split.specs.Searches.{AreFewer, Searched}

@@ -1,7 +1,7 @@
-use Rattle.std.proofs.Common.{refl, ap}
-use Rattle.affc_cli.specs.declared.refusal.Refusal.TheVariants.{Words, Read, Long, ReadData, LongData, Source, Stuck, Memory, Steps, Data, Unbuilt}
+use Rattle.std.proofs.Common.{◌++◌, codes, refl, ap}
+use Rattle.affc_cli.specs.declared.refusal.Refusal.TheVariants.{Words, Unread, Source, Stuck, Memory, Steps, Data, Unbuilt}
 use Rattle.affc_cli.proofs.Telling.{plain_told, memory_told, made_line}
-use Rattle.affc_cli.proofs.refusal.Refusal.tell.Goals.{in-Words, in-Read, in-Long, in-ReadData, in-LongData, in-Source+in-Ok, in-Stuck, in-Memory, in-Steps, in-Data+in-Ok-data_line, in-Unbuilt}
+use Rattle.affc_cli.proofs.refusal.Refusal.tell.Goals.{in-Words, in-Unread, in-Source+in-Ok, in-Stuck, in-Memory, in-Steps, in-Data+in-Ok-data_line, in-Unbuilt}
 use Rattle.affc_cli.proofs.refusal.Refusal.tell.Goals as goal
 
 pub returns-in-Err-clause-told : goal.returns-in-Err-clause-told
@@ -14,15 +14,12 @@ returns-in-Err-data_line-clause-told g c =
 pub returns-clause-told : goal.returns-clause-told
 returns-clause-told g c =
     elim c.match-self.branch [
-      | in-Words w ↦ plain_told Words c.args.self.now c.args.name.now _ _ _ _ c.status.result w.in-Words.is c.status.ensures refl (ap (λ e. record { taken = g.E.Sink.taken e; faults = g.E.Sink.faults e; shortages = g.E.Sink.shortages e }) w.err-is) w.put_line.ensures.told
-      | in-Read w ↦ plain_told Read c.args.self.now c.args.name.now _ _ _ _ c.status.result w.in-Read.is c.status.ensures refl (ap (λ e. record { taken = g.E.Sink.taken e; faults = g.E.Sink.faults e; shortages = g.E.Sink.shortages e }) w.err-is) w.put_line-in-Read.ensures.told
-      | in-Long w ↦ plain_told Long c.args.self.now c.args.name.now _ _ _ _ c.status.result w.in-Long.is c.status.ensures refl (ap (λ e. record { taken = g.E.Sink.taken e; faults = g.E.Sink.faults e; shortages = g.E.Sink.shortages e }) w.err-is) w.put_line-in-Long.ensures.told
-      | in-ReadData w ↦ plain_told ReadData c.args.self.now c.args.name.now _ _ _ _ c.status.result w.in-ReadData.is c.status.ensures refl (ap (λ e. record { taken = g.E.Sink.taken e; faults = g.E.Sink.faults e; shortages = g.E.Sink.shortages e }) w.err-is) w.put_line-in-ReadData.ensures.told
-      | in-LongData w ↦ plain_told LongData c.args.self.now c.args.name.now _ _ _ _ c.status.result w.in-LongData.is c.status.ensures refl (ap (λ e. record { taken = g.E.Sink.taken e; faults = g.E.Sink.faults e; shortages = g.E.Sink.shortages e }) w.err-is) w.put_line-in-LongData.ensures.told
-      | in-Source+in-Ok w ↦ plain_told (Source w.in-Source.place w.in-Source.why) c.args.self.now c.args.name.now _ _ _ _ c.status.result w.in-Source.is c.status.ensures (made_line w.as_str.result.now _ _ w.as_str.ensures.value w.in-Ok.ensures) (ap (λ e. record { taken = g.E.Sink.taken e; faults = g.E.Sink.faults e; shortages = g.E.Sink.shortages e }) w.err-is) w.put_line-in-Ok.ensures.told
-      | in-Stuck w ↦ plain_told (Stuck w.in-Stuck.line) c.args.self.now c.args.name.now _ _ _ _ c.status.result w.in-Stuck.is c.status.ensures (made_line w.as_str-in-Stuck.result.now _ _ w.as_str-in-Stuck.ensures refl) (ap (λ e. record { taken = g.E.Sink.taken e; faults = g.E.Sink.faults e; shortages = g.E.Sink.shortages e }) w.err-is) w.put_line-in-Stuck.ensures.told
-      | in-Memory w ↦ plain_told Memory c.args.self.now c.args.name.now _ _ _ _ c.status.result w.in-Memory.is c.status.ensures refl (ap (λ e. record { taken = g.E.Sink.taken e; faults = g.E.Sink.faults e; shortages = g.E.Sink.shortages e }) w.err-is) w.put_line-in-Memory.ensures.told
-      | in-Steps w ↦ plain_told Steps c.args.self.now c.args.name.now _ _ _ _ c.status.result w.in-Steps.is c.status.ensures refl (ap (λ e. record { taken = g.E.Sink.taken e; faults = g.E.Sink.faults e; shortages = g.E.Sink.shortages e }) w.err-is) w.put_line-in-Steps.ensures.told
-      | in-Data+in-Ok-data_line w ↦ plain_told (Data w.in-Data.number) c.args.self.now c.args.name.now _ _ _ _ c.status.result w.in-Data.is c.status.ensures (made_line w.as_str-in-Ok-data_line.result.now _ _ w.as_str-in-Ok-data_line.ensures.value w.in-Ok-data_line.ensures) (ap (λ e. record { taken = g.E.Sink.taken e; faults = g.E.Sink.faults e; shortages = g.E.Sink.shortages e }) w.err-is) w.put_line-in-Ok-data_line.ensures.told
-      | in-Unbuilt w ↦ plain_told Unbuilt c.args.self.now c.args.name.now _ _ _ _ c.status.result w.in-Unbuilt.is c.status.ensures refl (ap (λ e. record { taken = g.E.Sink.taken e; faults = g.E.Sink.faults e; shortages = g.E.Sink.shortages e }) w.err-is) w.put_line-in-Unbuilt.ensures.told
+      | in-Words w ↦ plain_told Words c.args.self.now c.args.name.now _ _ _ _ c.status.result w.in-Words.is c.status.ensures refl (ap g.E.Sink.state w.err-is) w.put_line.ensures.told
+      | in-Unread w ↦ plain_told (Unread w.in-Unread.file w.in-Unread.why) c.args.self.now c.args.name.now _ _ _ _ c.status.result w.in-Unread.is c.status.ensures (ap (λ l. l ++ c.args.name.now ++ codes "\n") w.words.ensures) (ap g.E.Sink.state w.err-is) w.put_line-in-Unread.ensures.told
+      | in-Source+in-Ok w ↦ plain_told (Source w.in-Source.place w.in-Source.why) c.args.self.now c.args.name.now _ _ _ _ c.status.result w.in-Source.is c.status.ensures (made_line w.as_str.result.now _ _ w.as_str.ensures.value w.in-Ok.ensures) (ap g.E.Sink.state w.err-is) w.put_line-in-Ok.ensures.told
+      | in-Stuck w ↦ plain_told (Stuck w.in-Stuck.line) c.args.self.now c.args.name.now _ _ _ _ c.status.result w.in-Stuck.is c.status.ensures (made_line w.as_str-in-Stuck.result.now _ _ w.as_str-in-Stuck.ensures refl) (ap g.E.Sink.state w.err-is) w.put_line-in-Stuck.ensures.told
+      | in-Memory w ↦ plain_told Memory c.args.self.now c.args.name.now _ _ _ _ c.status.result w.in-Memory.is c.status.ensures refl (ap g.E.Sink.state w.err-is) w.put_line-in-Memory.ensures.told
+      | in-Steps w ↦ plain_told Steps c.args.self.now c.args.name.now _ _ _ _ c.status.result w.in-Steps.is c.status.ensures refl (ap g.E.Sink.state w.err-is) w.put_line-in-Steps.ensures.told
+      | in-Data+in-Ok-data_line w ↦ plain_told (Data w.in-Data.number) c.args.self.now c.args.name.now _ _ _ _ c.status.result w.in-Data.is c.status.ensures (made_line w.as_str-in-Ok-data_line.result.now _ _ w.as_str-in-Ok-data_line.ensures.value w.in-Ok-data_line.ensures) (ap g.E.Sink.state w.err-is) w.put_line-in-Ok-data_line.ensures.told
+      | in-Unbuilt w ↦ plain_told Unbuilt c.args.self.now c.args.name.now _ _ _ _ c.status.result w.in-Unbuilt.is c.status.ensures refl (ap g.E.Sink.state w.err-is) w.put_line-in-Unbuilt.ensures.told
     ]

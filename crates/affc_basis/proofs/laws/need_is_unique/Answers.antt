@@ -1,0 +1,5 @@
+use Rattle.affc_basis.proofs.Uniques.{need_is_unique}
+use Rattle.affc_basis.proofs.laws.need_is_unique.Goals as goal
+
+pub returns : goal.returns
+returns g c = record { law = need_is_unique g.C.Conflicts.in_context g.C.Conflicts.pairs }

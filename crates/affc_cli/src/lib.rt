@@ -1,0 +1,14 @@
+// What affc does with its words, over any folder and any two sinks.
+#![tactic(auto)]
+
+pub mod examples;
+mod fold;
+mod form;
+mod refusal;
+mod run;
+pub mod serve;
+mod source;
+mod stuck;
+pub mod words;
+
+pub use stuck::arrays_are_touched;

@@ -1,0 +1,15 @@
+pub mod Halves
+pub mod Greatest
+pub mod Fuels
+pub mod Steps
+pub mod Sums
+pub mod Corners
+pub mod Splits
+pub mod Whole
+pub mod BoxRows
+pub mod Divisions
+pub mod Boxes
+pub mod Orders
+pub mod Adding
+pub mod Refuting
+pub mod BoxCuts

@@ -1,0 +1,455 @@
+//! Cuts of rows in a box in which some columns have one value, and leaves below such cuts.
+ghost use Rattle.std.specs.Prelude.{◌≡◌, ℕ, ℤ, List, ◌+◌, ◌-◌, ◌*◌, ◌^◌, ◌<◌, ◌≤◌, ◌+ℤ◌, ◌*ℤ◌, ◌≤ℤ◌, ◌<ℤ◌, ◌∷◌, ◌++◌, [], pos, replicate, unsigned_abs, IfOk, IfSome, OnOk, OnErr, Err, length};
+ghost use Rattle.std.specs.List.{All};
+ghost use Rattle.affc_rows.specs.Forms.{Affine};
+ghost use Rattle.affc_farkas.specs.Multiples.{multiple_sum, AreMultipliers};
+ghost use Rattle.affc_leaf.specs.Bounds.{IsBound};
+ghost use Rattle.affc_leaf.specs.BoxCuts.{without, IsBoxCut, IsEmptyWith, behind, sum_with};
+ghost use Rattle.affc_leaf.specs.Cuts.{IsCutBefore};
+ghost use Rattle.affc_leaf.specs.Leaves.{corner_rows, SameSum};
+ghost use Rattle.affc_leaf.specs.Parts.{IsEmpty};
+
+use crate::bounds::Bound;
+use crate::boxed::push_row;
+use crate::cuts::{common_divisor, divided_sum, divisor_in};
+use crate::leaves::{
+    add_multiple, constant_with, fits_sum, found_leaf, is_below_zero, leaf_with, put_corners,
+    sum_rows,
+};
+use crate::simplex::find_sum;
+use crate::tops::top_products;
+use affc_farkas::{Multipliers, Proof};
+use affc_rows::Form;
+use affc_system::System;
+use affc_system::system::fits_row;
+use std::alloc::{AllocError, Global};
+
+/// The most cuts that are tried in a box.
+const MOST_CUTS: usize = 64;
+
+/// A cut of some rows in a box.
+#[derive(Drop)]
+pub(crate) struct BoxCut {
+    by: Multipliers,
+    g: i64,
+    row: Form,
+}
+
+/// A leaf's multiples of the system's rows, and of the cuts before it, each of which has its own multiples of rows.
+#[derive(Drop)]
+struct Plan {
+    cuts: Vec<Vec<(u32, u64)>>,
+    own: Vec<(u32, u64)>,
+    over: Vec<(u32, u64)>,
+}
+
+/// The coefficients of the columns that have one value.
+fn fixed_part(alloc: Global, coefs: &[i128], bounds: &[Bound]) -> Result<Vec<i128>, AllocError> {
+    let mut part = Vec::with_capacity(alloc, coefs.len())?;
+    for (c, bound) in coefs.iter().zip(bounds.iter()) {
+        let fixed = if bound.low == bound.high { *c } else { 0 };
+        part.push(fixed)?;
+    }
+    Ok(part)
+}
+
+/// Takes a part of its products out of a sum, and answers its constant with their greatest value over the box. `None` where a
+/// number is too great.
+#[tactic(auto, using(crate::proofs::BoxCuts::without_is))]
+fn take_out(sum: &mut [i128], constant: i128, part: &[i128], bounds: &[Bound]) -> Option<i128>
+    requires few { length bounds.now ≤ 128 }
+    requires ranges { All IsBound bounds.now }
+    ensures value { IfSome result (λ k. record { coefs = sum.new; constant = k } ≡ without (record { coefs = sum.old; constant = constant }) part.now bounds.now) }
+    ensures width { IfSome result (λ k. length part.now ≡ length bounds.now) }
+    ensures small { IfSome result (λ k. All (λ c. unsigned_abs c ≤ 2 ^ 53) part.now) }
+{
+    if part.len() != bounds.len() || sum.len() != bounds.len() || !fits_sum(part, 0) {
+        return None;
+    }
+    let greatest = top_products(part, bounds);
+    if !add_multiple(sum, -1, part) {
+        return None;
+    }
+    let total = constant.checked_add(greatest)?;
+    Some(total)
+}
+
+/// Copies pairs.
+fn copied(alloc: Global, pairs: &[(u32, u64)]) -> Result<Vec<(u32, u64)>, AllocError>
+    ensures { IfOk result (λ v. v.items ≡ pairs.now) }
+{
+    let mut copy = Vec::new(alloc);
+    for pair in pairs {
+        copy.push(*pair)?;
+    }
+    Ok(copy)
+}
+
+/// These multiples of rows, and the bounds that make the part greatest. `None` where they break a rule of multipliers.
+fn with_corners(
+    alloc: Global,
+    own: &[(u32, u64)],
+    part: &[i128],
+    bounds: &[Bound],
+) -> Result<Option<Multipliers>, AllocError>
+    requires width { length part.now ≡ length bounds.now }
+    requires small { All (λ c. unsigned_abs c ≤ 2 ^ 53) part.now }
+    ensures sum { IfOk result (λ o. IfSome o (λ m. SameSum m (own.now ++ corner_rows part.now bounds.now))) }
+    ensures rules { IfOk result (λ o. IfSome o AreMultipliers) }
+{
+    let mut pairs = copied(alloc, own)?;
+    put_corners(&mut pairs, part, bounds)?;
+    Ok(Multipliers::from_pairs(pairs))
+}
+
+/// The cut of these multiples of rows in a box. `None` where nothing is gained by it or a number is too great.
+#[inline(never)]
+fn box_cut(
+    alloc: Global,
+    system: &System,
+    bounds: &[Bound],
+    own: &[(u32, u64)],
+) -> Result<Option<BoxCut>, AllocError>
+    requires width { length bounds.now ≡ system.now.columns }
+    requires ranges { All IsBound bounds.now }
+    ensures cut { IfOk result (λ o. IfSome o (λ c. IsBoxCut system.now bounds.now c.by c.g c.row)) }
+{
+    let columns = system.columns() as usize;
+    let _rows = system.rows();
+    let mut zeros = vec![in alloc; 0i128; columns]?;
+    let sum = zeros.as_mut_slice();
+    let Some(first) = sum_rows(system, own, sum) else {
+        return Ok(None);
+    };
+    let part = fixed_part(alloc, sum, bounds)?;
+    let Some(constant) = take_out(sum, first, part.as_slice(), bounds) else {
+        return Ok(None);
+    };
+    let g = divisor_in(sum, constant);
+    let Some(row) = divided_sum(alloc, sum, constant, g)? else {
+        return Ok(None);
+    };
+    if !fits_row(&row) {
+        return Ok(None);
+    }
+    let Some(by) = with_corners(alloc, own, part.as_slice(), bounds)? else {
+        return Ok(None);
+    };
+    Ok(Some(BoxCut { by, g, row }))
+}
+
+/// Sums multiples of the system's rows and of the cuts onto zeros, and answers the sum's constant. `None` where a row isn't there or
+/// a number is too great.
+fn sum_both(
+    alloc: Global,
+    system: &System,
+    cuts: &System,
+    own: &[(u32, u64)],
+    over: &[(u32, u64)],
+    sum: &mut [i128],
+) -> Result<Option<i128>, AllocError>
+    requires columns { cuts.now.columns ≡ system.now.columns }
+    requires zeros { sum.old ≡ replicate system.now.columns (pos 0) }
+    ensures sum { IfOk result (λ o. IfSome o (λ k. record { coefs = sum.new; constant = k } ≡ sum_with system.now cuts.now.rows own.now over.now)) }
+    ensures there { IfOk result (λ o. IfSome o (λ k. All (λ p. p.0 < length system.now.rows) own.now)) }
+    ensures over_there { IfOk result (λ o. IfSome o (λ k. All (λ p. p.0 < length cuts.now.rows) over.now)) }
+{
+    let columns = system.columns() as usize;
+    let mut zeros = vec![in alloc; 0i128; columns]?;
+    let first = zeros.as_mut_slice();
+    let Some(own_constant) = sum_rows(system, own, first) else {
+        return Ok(None);
+    };
+    let Some(over_constant) = sum_rows(cuts, over, sum) else {
+        return Ok(None);
+    };
+    if first.len() != sum.len() || !add_multiple(sum, 1, first) {
+        return Ok(None);
+    }
+    Ok(constant_with(over_constant, 1, own_constant))
+}
+
+/// The pairs of both lists, those of the second with numbers behind so many rows. `None` where a number is too great.
+#[tactic(auto, using(crate::proofs::BoxCuts::behind_step))]
+fn joined(
+    alloc: Global,
+    own: &[(u32, u64)],
+    over: &[(u32, u64)],
+    next: u32,
+) -> Result<Option<Vec<(u32, u64)>>, AllocError>
+    ensures { IfOk result (λ o. IfSome o (λ v. v.items ≡ own.now ++ behind next over.now)) }
+{
+    let mut pairs = copied(alloc, own)?;
+    for pair in over {
+        let Some(number) = next.checked_add(pair.0) else {
+            return Ok(None);
+        };
+        pairs.push((number, pair.1))?;
+    }
+    Ok(Some(pairs))
+}
+
+/// A leaf of these multiples of rows and of cuts, where their sum is below 0 in the whole box.
+#[inline(never)]
+fn leaf_below(
+    alloc: Global,
+    system: &System,
+    bounds: &[Bound],
+    cuts: &System,
+    own: &[(u32, u64)],
+    over: &[(u32, u64)],
+    next: u32,
+) -> Result<Option<Box<Proof>>, AllocError>
+    requires width { length bounds.now ≡ system.now.columns }
+    requires ranges { All IsBound bounds.now }
+    requires columns { cuts.now.columns ≡ system.now.columns }
+    ensures answer { IfOk result (λ o. IfSome o (λ p. IsEmptyWith system.now bounds.now next cuts.now.rows p.value)) }
+{
+    let columns = system.columns() as usize;
+    let _rows = system.rows();
+    let _cuts = cuts.rows();
+    let mut zeros = vec![in alloc; 0i128; columns]?;
+    let sum = zeros.as_mut_slice();
+    let Some(constant) = sum_both(alloc, system, cuts, own, over, sum)? else {
+        return Ok(None);
+    };
+    if !is_below_zero(sum, constant, bounds) {
+        return Ok(None);
+    }
+    let Some(by) = joined(alloc, own, over, next)? else {
+        return Ok(None);
+    };
+    leaf_with(alloc, by, sum, bounds)
+}
+
+/// A cut before the rest of a proof.
+fn before(alloc: Global, cut: BoxCut, rest: Box<Proof>) -> Result<Box<Proof>, AllocError>
+    ensures answer { IfOk result (λ p. IsCutBefore cut.by cut.g cut.row rest.value p.value) }
+{
+    let BoxCut { by, g, row } = cut;
+    let Ok(proof) = Box::new(alloc, Proof::Cut { by, g, row, rest }) else {
+        return Err(AllocError);
+    };
+    Ok(proof)
+}
+
+/// Adds the row of a cut.
+fn push_copy(cuts: &mut System, cut: &BoxCut) -> Result<(), AllocError>
+    requires { length cut.now.row.coefs ≡ cuts.old.columns }
+    ensures value { OnOk result (cuts.new ≡ record cuts.old { rows = cuts.old.rows ++ cut.now.row ∷ [] }) }
+{
+    let row = cut.row.clone()?;
+    push_row(cuts, row)
+}
+
+/// The plan's cuts from a number on, and its leaf below them. `None` where one of them fails.
+fn cut_and_leaf(
+    alloc: Global,
+    system: &System,
+    bounds: &[Bound],
+    mut cuts: System,
+    plan: &Plan,
+    from: usize,
+    next: u32,
+) -> Result<Option<Box<Proof>>, AllocError>
+    requires width { length bounds.now ≡ system.now.columns }
+    requires ranges { All IsBound bounds.now }
+    requires columns { cuts.columns ≡ system.now.columns }
+    ensures answer { IfOk result (λ o. IfSome o (λ p. IsEmptyWith system.now bounds.now next cuts.rows p.value)) }
+{
+    if from >= plan.cuts.len() {
+        return leaf_below(
+            alloc,
+            system,
+            bounds,
+            &cuts,
+            plan.own.as_slice(),
+            plan.over.as_slice(),
+            next,
+        );
+    }
+    let _cuts = cuts.rows();
+    let Some(cut) = box_cut(alloc, system, bounds, plan.cuts[from].as_slice())? else {
+        return Ok(None);
+    };
+    push_copy(&mut cuts, &cut)?;
+    match cut_and_leaf(alloc, system, bounds, cuts, plan, from + 1, next)? {
+        Some(rest) => {
+            let proof = before(alloc, cut, rest)?;
+            Ok(Some(proof))
+        }
+        None => Ok(None),
+    }
+}
+
+/// Whether a row gains by being cut in a box.
+fn gains(row: &Form, bounds: &[Bound]) -> bool {
+    let mut common = 0u128;
+    let mut constant = row.constant;
+    for (c, bound) in row.coefs.as_slice().iter().zip(bounds.iter()) {
+        if bound.low < bound.high {
+            common = common_divisor(common, c.unsigned_abs());
+            if common == 1 {
+                return false;
+            }
+        } else {
+            let Some(product) = c.checked_mul(i128::from(bound.low)) else {
+                return false;
+            };
+            let Some(sum) = constant.checked_add(product) else {
+                return false;
+            };
+            constant = sum;
+        }
+    }
+    common > 1 && constant.unsigned_abs().checked_rem(common).unwrap_or(0) != 0
+}
+
+/// The system with the cuts of its rows in a box after its own rows, and for each cut its multiples of rows.
+#[derive(Drop)]
+struct Tried {
+    extended: System,
+    cuts: Vec<Vec<(u32, u64)>>,
+}
+
+/// Adds a row, where it fits.
+fn add_row(system: &mut System, row: Form) -> bool {
+    if row.coefs.len() != system.columns() as usize {
+        return false;
+    }
+    system.push(row).is_ok()
+}
+
+/// Adds the cut of these multiples of rows, where it gains and there is room.
+fn add_cut(
+    alloc: Global,
+    system: &System,
+    bounds: &[Bound],
+    own: Vec<(u32, u64)>,
+    tried: &mut Tried,
+) -> Result<(), AllocError>
+    requires width { length bounds.now ≡ system.now.columns }
+    requires ranges { All IsBound bounds.now }
+{
+    if tried.cuts.len() >= MOST_CUTS {
+        return Ok(());
+    }
+    if let Some(cut) = box_cut(alloc, system, bounds, own.as_slice())? {
+        if add_row(&mut tried.extended, cut.row) {
+            tried.cuts.push(own)?;
+        }
+    }
+    Ok(())
+}
+
+/// The cuts of single rows in a box. `None` where no row gains by one.
+fn single_cuts(
+    alloc: Global,
+    system: &System,
+    bounds: &[Bound],
+) -> Result<Option<Tried>, AllocError>
+    requires width { length bounds.now ≡ system.now.columns }
+    requires ranges { All IsBound bounds.now }
+{
+    if !system.rows().iter().any(|row| gains(row, bounds)) {
+        return Ok(None);
+    }
+    let mut tried = Tried {
+        extended: system.clone()?,
+        cuts: Vec::new(alloc),
+    };
+    for (number, row) in system.rows().iter().enumerate() {
+        if gains(row, bounds) {
+            let mut own = Vec::new(alloc);
+            own.push((number as u32, 1))?;
+            add_cut(alloc, system, bounds, own, &mut tried)?;
+        }
+    }
+    Ok(Some(tried))
+}
+
+/// The cuts that a sum over the longer system uses, and the sum over the system and these cuts.
+fn plan_of(
+    alloc: Global,
+    rows: usize,
+    cuts: &[Vec<(u32, u64)>],
+    sum: &[(u32, u64)],
+) -> Result<Plan, AllocError> {
+    let mut plan = Plan {
+        cuts: Vec::new(alloc),
+        own: Vec::new(alloc),
+        over: Vec::new(alloc),
+    };
+    for (row, times) in sum {
+        match (*row as usize).checked_sub(rows) {
+            None => plan.own.push((*row, *times))?,
+            Some(place) => {
+                if let (Some(own), Ok(count)) = (cuts.get(place), u32::try_from(plan.cuts.len())) {
+                    plan.over.push((count, *times))?;
+                    plan.cuts.push(copied(alloc, own.as_slice())?)?;
+                }
+            }
+        }
+    }
+    Ok(plan)
+}
+
+/// Cuts and a leaf below them, where some are found with the cuts of the system's rows in the box.
+#[inline(never)]
+fn found_cuts(
+    alloc: Global,
+    system: &System,
+    bounds: &[Bound],
+    next: u32,
+) -> Result<Option<Box<Proof>>, AllocError>
+    requires width { length bounds.now ≡ system.now.columns }
+    requires ranges { All IsBound bounds.now }
+    ensures answer { IfOk result (λ o. IfSome o (λ p. IsEmpty system.now bounds.now next p.value)) }
+{
+    let Some(tried) = single_cuts(alloc, system, bounds)? else {
+        return Ok(None);
+    };
+    let Some(sum) = find_sum(alloc, &tried.extended, bounds)? else {
+        return Ok(None);
+    };
+    let rows = system.rows().len();
+    let plan = plan_of(alloc, rows, tried.cuts.as_slice(), sum.as_slice())?;
+    planned(alloc, system, bounds, &plan, next)
+}
+
+/// The proof of a plan.
+#[tactic(auto, using(crate::proofs::BoxCuts::empty_alone))]
+fn planned(
+    alloc: Global,
+    system: &System,
+    bounds: &[Bound],
+    plan: &Plan,
+    next: u32,
+) -> Result<Option<Box<Proof>>, AllocError>
+    requires width { length bounds.now ≡ system.now.columns }
+    requires ranges { All IsBound bounds.now }
+    ensures answer { IfOk result (λ o. IfSome o (λ p. IsEmpty system.now bounds.now next p.value)) }
+{
+    let columns = system.columns();
+    let cuts = System::new(alloc, columns);
+    cut_and_leaf(alloc, system, bounds, cuts, plan, 0, next)
+}
+
+/// A proof that a box has no point, where one is found at once: rows whose sum is below 0 in the whole box, after cuts of the rows
+/// in this box if they are wanted.
+#[inline(never)]
+pub fn found_empty(
+    alloc: Global,
+    system: &System,
+    bounds: &[Bound],
+    next: u32,
+) -> Result<Option<Box<Proof>>, AllocError>
+    requires width { length bounds.now ≡ system.now.columns }
+    requires ranges { All IsBound bounds.now }
+    ensures answer { IfOk result (λ o. IfSome o (λ p. IsEmpty system.now bounds.now next p.value)) }
+{
+    if let Some(leaf) = found_leaf(alloc, system, bounds, next)? {
+        return Ok(Some(leaf));
+    }
+    found_cuts(alloc, system, bounds, next)
+}

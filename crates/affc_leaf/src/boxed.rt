@@ -1,0 +1,121 @@
+//! A system with the rows of its box, and elimination there.
+ghost use Rattle.std.specs.Prelude.{◌≡◌, ℕ, ℤ, List, ◌+◌, ◌-◌, ◌*◌, ◌^◌, ◌<◌, ◌≤◌, ◌∷◌, ◌++◌, [], pos, neg_ℤ, map, IfOk, IfSome, IfNone, OnOk, OnErr, Err, length};
+ghost use Rattle.std.specs.List.{All};
+ghost use Rattle.affc_system.specs.Systems.{FitsRow};
+ghost use Rattle.affc_farkas.specs.Proofs.{ValidProof};
+ghost use Rattle.affc_leaf.specs.Boxed.{unit, range_rows, with_box, IsLeafProof, IsHard};
+
+use crate::parts::unit_form;
+use affc_farkas::elimination::refute;
+use affc_farkas::{Proof, Refutation};
+use affc_rows::Form;
+use affc_system::System;
+use std::alloc::{AllocError, Global};
+
+/// Adds a row that keeps the limits.
+pub fn push_row(boxed: &mut System, row: Form) -> Result<(), AllocError>
+    requires { length row.coefs ≡ boxed.old.columns }
+    ensures value { OnOk result (boxed.new ≡ record boxed.old { rows = boxed.old.rows ++ row ∷ [] }) }
+    ensures fits { OnOk result (FitsRow row) }
+{
+    let Ok(()) = boxed.push(row) else {
+        return Err(AllocError);
+    };
+    Ok(())
+}
+
+/// A form with another constant.
+fn with_constant(form: Form, constant: i64) -> Form
+    ensures { result ≡ record form { constant = constant } }
+{
+    Form {
+        coefs: form.coefs,
+        constant: i128::from(constant),
+    }
+}
+
+/// The row that says the low end of a column's range.
+fn low_form(alloc: Global, columns: u32, j: usize, low: i64) -> Result<Form, AllocError>
+    requires { j < columns }
+    ensures { IfOk result (λ f. f ≡ record { coefs = unit j (columns - (j + 1)); constant = neg_ℤ low }) }
+{
+    let unit = unit_form(alloc, columns, j)?;
+    Ok(Form {
+        coefs: unit.coefs,
+        constant: -i128::from(low),
+    })
+}
+
+/// The row that says the high end.
+fn high_form(alloc: Global, columns: u32, j: usize, high: i64) -> Result<Form, AllocError>
+    requires { j < columns }
+    ensures { IfOk result (λ f. f ≡ record { coefs = map neg_ℤ (unit j (columns - (j + 1))); constant = high }) }
+{
+    let unit = unit_form(alloc, columns, j)?;
+    let Ok(negated) = unit.scale_add(alloc, -1, &unit, 0) else {
+        return Err(AllocError);
+    };
+    Ok(with_constant(negated, high))
+}
+
+/// Adds the rows of a column's range.
+fn push_range(
+    alloc: Global,
+    boxed: &mut System,
+    j: usize,
+    low: i64,
+    high: i64,
+) -> Result<(), AllocError>
+    requires { j < boxed.old.columns }
+    ensures columns { OnOk result (boxed.new.columns ≡ boxed.old.columns) }
+    ensures rows { OnOk result (boxed.new.rows ≡ boxed.old.rows ++ range_rows boxed.old.columns j (low, high)) }
+{
+    let columns = boxed.columns();
+    let low_row = low_form(alloc, columns, j, low)?;
+    let high_row = high_form(alloc, columns, j, high)?;
+    push_row(boxed, low_row)?;
+    push_row(boxed, high_row)
+}
+
+/// The system with the rows of the box.
+pub fn boxed_system(
+    alloc: Global,
+    system: &System,
+    ranges: &[(i64, i64)],
+) -> Result<System, AllocError>
+    requires { length ranges.now ≡ system.now.columns }
+    ensures { IfOk result (λ s. s ≡ with_box system.now ranges.now) }
+{
+    let mut boxed = system.clone()?;
+    for (j, range) in ranges.iter().enumerate() {
+        push_range(alloc, &mut boxed, j, range.0, range.1)?;
+    }
+    Ok(boxed)
+}
+
+/// A leaf of the system with the rows of the box, by elimination. `None` where that shows that it can't find one.
+pub fn refuted(
+    alloc: Global,
+    system: &System,
+    ranges: &[(i64, i64)],
+) -> Result<Option<Proof>, AllocError>
+    requires columns { length ranges.now ≡ system.now.columns }
+    requires few { length system.now.rows + 2 * system.now.columns ≤ 1024 }
+    ensures valid { IfOk result (λ o. IfSome o (λ p. ValidProof (with_box system.now ranges.now) p)) }
+    ensures leaf { IfOk result (λ o. IfSome o IsLeafProof) }
+    ensures hard { IfOk result (λ o. IfNone o (IsHard (with_box system.now ranges.now))) }
+{
+    let boxed = boxed_system(alloc, system, ranges)?;
+    match refute(alloc, &boxed) {
+        Ok(Refutation::Refuted(by)) => Ok(Some(Proof::Leaf(by))),
+        Ok(Refutation::Stands) => Ok(None),
+        Ok(Refutation::TooMany { made: _made }) => Ok(None),
+        Ok(
+            Refutation::TooWide {
+                made: _made,
+                next: _next,
+            },
+        ) => Ok(None),
+        Err(_fault) => Err(AllocError),
+    }
+}

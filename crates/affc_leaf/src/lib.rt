@@ -1,0 +1,16 @@
+//! Boxes as the bounds of their columns, and leaves: sums of rows that are below 0 in a whole box.
+#![tactic(auto)]
+
+pub mod bounds;
+pub mod box_cuts;
+pub mod boxed;
+pub mod cuts;
+pub mod examples;
+pub mod laws;
+pub mod leaves;
+pub mod parts;
+pub mod places;
+mod simplex;
+pub mod tops;
+
+pub use bounds::Bound;

@@ -1,0 +1,14 @@
+pub mod DomainLemmas
+pub mod PointLemmas
+pub mod EntryLemmas
+pub mod AccessLemmas
+pub mod QuestionLemmas
+pub mod SmallLemmas
+pub mod WidenLemmas
+pub mod RowLemmas
+pub mod IntervalLemmas
+pub mod ExampleProofs
+pub mod SiteLemmas
+pub mod PlaceLemmas
+pub mod PlaceProofs
+pub mod QuestionProofs

@@ -1,0 +1,13 @@
+pub mod Domains
+pub mod Nests
+pub mod Questions
+pub mod Laws
+pub mod Parts
+pub mod Sides
+pub mod Frames
+pub mod Touches
+pub mod Examples
+pub mod Fits
+pub mod Sites
+pub mod Entries
+pub mod Asked

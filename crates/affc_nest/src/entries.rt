@@ -1,0 +1,172 @@
+//! The entries of assignments.
+ghost use Rattle.std.specs.Prelude.{◌≡◌, ◌+◌, ◌≤◌, ◌∷◌, ◌++◌, [], length, map, None, IsTrue, IfOk, IfErr, OnOk};
+ghost use Rattle.affc_domain.specs.Accesses.{accesses_of, own_access};
+ghost use Rattle.affc_domain.specs.Plain.{plain_tests};
+ghost use Rattle.affc_domain.specs.Ranges.{first_wide_of};
+ghost use Rattle.affc_domain.specs.Rounds.{loops_in};
+ghost use Rattle.affc_nest.specs.Entries.{ArePlainPlaces, IsPlainPlace, entry_at, entries_at, first_wide_at, FaultSays};
+ghost use Rattle.affc_nest.specs.Nests.{access_form, nowhere};
+ghost use Rattle.affc_nest.specs.Sides.{NearRanges};
+ghost use Rattle.affc_nest.specs.Sites.{place, places};
+ghost use Rattle.affc_nest.specs.Touches.{all_touched, AllPlain};
+
+use crate::accesses::{Touch, add_accesses, add_loads};
+use crate::domains::{count_loops, domain};
+use crate::forms::number;
+use crate::nest::{Entry, NestFault};
+use crate::ranges::{Fit, fits};
+use crate::rows::add_row;
+use crate::sites::Site;
+use affc_ast::tree::Compare;
+use affc_system::{BoxOf, System};
+use sqlite_items::Items;
+use std::alloc::{AllocError, Global};
+
+/// The load that `op=` makes of its own element.
+fn own_loads<'a>(alloc: Global, site: &Site<'a>) -> Result<Vec<Touch<'a>>, AllocError>
+    ensures { IfOk result (λ v. all_touched v.items ≡ own_access site.now.op (site.now.array, site.now.subs.now)) }
+{
+    let mut touches = Vec::new(alloc);
+    match site.op {
+        None => Ok(touches),
+        Some(_) => {
+            let Ok(()) = touches.push(Touch {
+                array: site.array,
+                subs: site.subs,
+            }) else {
+                return Err(AllocError);
+            };
+            Ok(touches)
+        }
+    }
+}
+
+/// The accesses of an assignment, before their forms are made.
+#[tactic(auto, using(affc_trace::proofs::LastStores::map_append, affc_trace::proofs::EndedReads::append_assoc))]
+fn touches<'a>(alloc: Global, site: &Site<'a>) -> Result<Vec<Touch<'a>>, AllocError>
+    ensures { IfOk result (λ v. all_touched v.items ≡ accesses_of (place site.now).assignment) }
+{
+    let mut touches = own_loads(alloc, site)?;
+    add_loads(site.value, &mut touches)?;
+    let Ok(()) = touches.push(Touch {
+        array: site.array,
+        subs: site.subs,
+    }) else {
+        return Err(AllocError);
+    };
+    Ok(touches)
+}
+
+/// The system without points.
+fn empty_domain(alloc: Global, columns: u32) -> Result<System, AllocError>
+    requires { columns ≤ 128 }
+    ensures { IfOk result (λ s. s ≡ nowhere columns) }
+{
+    let row = number(alloc, columns, -1)?;
+    let mut system = System::new(alloc, columns);
+    add_row(&mut system, row)?;
+    Ok(system)
+}
+
+/// The entry of an assignment, from its domain over so many columns.
+fn entry_with(
+    alloc: Global,
+    statement: u32,
+    site: &Site<'_>,
+    alive: bool,
+    columns: u32,
+    domain: System,
+    ranges: BoxOf,
+) -> Result<Entry, AllocError>
+    requires plain { AllPlain columns (accesses_of (place site.now).assignment) }
+    ensures statement { IfOk result (λ e. e.statement ≡ statement) }
+    ensures alive { IfOk result (λ e. e.alive ≡ alive) }
+    ensures loops { IfOk result (λ e. e.loops ≡ (place site.now).loops) }
+    ensures domain { IfOk result (λ e. e.domain ≡ domain) }
+    ensures ranges { IfOk result (λ e. e.ranges ≡ ranges) }
+    ensures accesses { IfOk result (λ e. e.accesses ≡ map (access_form columns) (accesses_of (place site.now).assignment)) }
+{
+    let loops = Items::from_slice(alloc, site.loops.as_slice())?;
+    let touches = touches(alloc, site)?;
+    let mut accesses = Items::new(alloc);
+    add_accesses(alloc, columns, touches.as_slice(), &mut accesses)?;
+    Ok(Entry {
+        statement,
+        alive,
+        loops,
+        domain,
+        ranges,
+        accesses,
+    })
+}
+
+/// The entry of an assignment, unless the range of a loop round it passes 2^31.
+#[tactic(auto, using(crate::proofs::PlaceProofs::memory_says, crate::proofs::PlaceProofs::near_within))]
+fn entry(
+    alloc: Global,
+    params: &BoxOf,
+    context: &[Compare],
+    statement: u32,
+    site: &Site<'_>,
+) -> Result<Entry, NestFault>
+    requires few_params { length params.now ≤ 4 }
+    requires near_params { NearRanges params.now }
+    requires few_conditions { length context.now ≤ 16 }
+    requires plain_context { IsTrue (plain_tests (length params.now) context.now) }
+    requires plain { IsPlainPlace (length params.now) (place site.now) }
+    ensures value { IfOk result (λ e. e ≡ entry_at params.now context.now statement (place site.now)) }
+    ensures near { OnOk result (first_wide_of params.now statement ((place site.now).around ∷ []) ≡ None) }
+    ensures wide { IfErr result (FaultSays (first_wide_of params.now statement ((place site.now).around ∷ []))) }
+{
+    let frames = site.frames.as_slice();
+    let columns = params.ranges().len() as u32 + count_loops(frames);
+    let mut all = params.clone()?;
+    let mut own = BoxOf::new(alloc);
+    match fits(alloc, &mut all, &mut own, frames, 0)? {
+        Fit::Near => {
+            let domain = domain(alloc, params, context, &own, frames)?;
+            let entry = entry_with(alloc, statement, site, true, columns, domain, own)?;
+            Ok(entry)
+        }
+        Fit::Missed => {
+            let domain = empty_domain(alloc, columns)?;
+            let ranges = BoxOf::new(alloc);
+            let entry = entry_with(alloc, statement, site, false, columns, domain, ranges)?;
+            Ok(entry)
+        }
+        Fit::Far { loop_number } => Err(NestFault::IteratorRange {
+            statement,
+            loop_number,
+        }),
+    }
+}
+
+/// Adds the entries of assignments, of which the first has this number.
+pub(crate) fn add_entries(
+    alloc: Global,
+    params: &BoxOf,
+    context: &[Compare],
+    sites: &[Site<'_>],
+    statement: u32,
+    out: &mut Items<Entry>,
+) -> Result<(), NestFault>
+    requires few_params { length params.now ≤ 4 }
+    requires near_params { NearRanges params.now }
+    requires few_conditions { length context.now ≤ 16 }
+    requires plain_context { IsTrue (plain_tests (length params.now) context.now) }
+    requires plain { ArePlainPlaces (length params.now) (places sites.now) }
+    requires few { statement + length sites.now ≤ 64 }
+    ensures value { OnOk result (out.new ≡ out.old ++ entries_at params.now context.now statement (places sites.now)) }
+    ensures near { OnOk result (first_wide_at params.now statement (places sites.now) ≡ None) }
+    ensures wide { IfErr result (FaultSays (first_wide_at params.now statement (places sites.now))) }
+{
+    match sites {
+        [] => Ok(()),
+        [site, rest @ ..] => {
+            let entry = entry(alloc, params, context, statement, site)?;
+            out.push(entry)?;
+            add_entries(alloc, params, context, rest, statement + 1, out)?;
+            Ok(())
+        }
+    }
+}

@@ -1,0 +1,20 @@
+//! A program's loop nests as integer systems: domains, accesses, extents and context, and the questions whether
+//! extents are at least 1 and accesses lie within them.
+#![tactic(auto)]
+
+mod accesses;
+mod domains;
+mod entries;
+pub mod examples;
+mod extraction;
+mod forms;
+mod frames;
+pub mod laws;
+pub mod nest;
+pub mod questions;
+mod ranges;
+mod rows;
+mod sites;
+
+pub use extraction::extract;
+pub use nest::{Access, ArrayInfo, Entry, Nest, NestFault};

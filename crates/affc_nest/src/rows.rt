@@ -1,0 +1,96 @@
+//! Rows of comparisons, put into a system.
+ghost use Rattle.std.specs.Prelude.{◌≡◌, ◌+◌, ◌*◌, ◌^◌, ◌<◌, ◌≤◌, ◌∷◌, [], length, IfOk, OnOk};
+ghost use Rattle.affc_system.specs.Systems.{FitsRow};
+ghost use Rattle.affc_nest.specs.Domains.{gap_row, compare_rows, with_rows};
+ghost use Rattle.affc_nest.specs.Sides.{IsSide};
+
+use affc_ast::tree::Rel;
+use affc_rows::{Form, FormFault};
+use affc_system::{RowFault, System};
+use std::alloc::{AllocError, Global};
+
+/// One side less another.
+#[tactic(auto, using(crate::proofs::RowLemmas::not_too_wide))]
+fn difference(alloc: Global, columns: u32, a: &Form, b: &Form) -> Result<Form, AllocError>
+    requires first { IsSide columns a.now }
+    requires second { IsSide columns b.now }
+    ensures { IfOk result (λ f. f ≡ gap_row a.now b.now 0) }
+{
+    match b.scale_add(alloc, 1, a, -1) {
+        Ok(form) => Ok(form),
+        Err(FormFault::Range) => unreachable!(),
+        Err(FormFault::Memory) => Err(AllocError),
+    }
+}
+
+/// The row `b - a - k`.
+fn gap(alloc: Global, columns: u32, a: &Form, b: &Form, k: u32) -> Result<Form, AllocError>
+    requires first { IsSide columns a.now }
+    requires second { IsSide columns b.now }
+    requires step { k ≤ 1 }
+    ensures { IfOk result (λ f. f ≡ gap_row a.now b.now k) }
+{
+    let Form { coefs, constant } = difference(alloc, columns, a, b)?;
+    Ok(Form {
+        coefs,
+        constant: constant - i128::from(k),
+    })
+}
+
+/// Adds a row that keeps the limits, where there is room.
+pub(crate) fn add_row(system: &mut System, row: Form) -> Result<(), AllocError>
+    requires fits { FitsRow row }
+    requires width { length row.coefs ≡ system.old.columns }
+    requires room { length system.old.rows < 1024 }
+    ensures { OnOk result (system.new ≡ with_rows system.old (row ∷ [])) }
+{
+    match system.push(row) {
+        Ok(()) => Ok(()),
+        Err(RowFault::Range) => unreachable!(),
+        Err(RowFault::Full) => unreachable!(),
+        Err(RowFault::Memory) => Err(AllocError),
+    }
+}
+
+/// Adds the row `b - a - k`.
+pub(crate) fn add_gap(
+    alloc: Global,
+    system: &mut System,
+    a: &Form,
+    b: &Form,
+    k: u32,
+) -> Result<(), AllocError>
+    requires first { IsSide system.old.columns a.now }
+    requires second { IsSide system.old.columns b.now }
+    requires step { k ≤ 1 }
+    requires room { length system.old.rows < 1024 }
+    ensures { OnOk result (system.new ≡ with_rows system.old (gap_row a.now b.now k ∷ [])) }
+{
+    let row = gap(alloc, system.columns(), a, b, k)?;
+    add_row(system, row)
+}
+
+/// Adds the rows of a comparison.
+pub(crate) fn add_compare(
+    alloc: Global,
+    system: &mut System,
+    rel: Rel,
+    a: &Form,
+    b: &Form,
+) -> Result<(), AllocError>
+    requires first { IsSide system.old.columns a.now }
+    requires second { IsSide system.old.columns b.now }
+    requires room { length system.old.rows + 1 < 1024 }
+    ensures { OnOk result (system.new ≡ with_rows system.old (compare_rows rel a.now b.now)) }
+{
+    match rel {
+        Rel::Less => add_gap(alloc, system, a, b, 1),
+        Rel::LessEqual => add_gap(alloc, system, a, b, 0),
+        Rel::Greater => add_gap(alloc, system, b, a, 1),
+        Rel::GreaterEqual => add_gap(alloc, system, b, a, 0),
+        Rel::Equal => {
+            add_gap(alloc, system, b, a, 0)?;
+            add_gap(alloc, system, a, b, 0)
+        }
+    }
+}

@@ -1,0 +1,15 @@
+pub mod Lists
+pub mod Forms
+pub mod Coefficients
+pub mod Small
+pub mod Scopes
+pub mod NoPrelude
+pub mod Expressions
+pub mod Statements
+pub mod FromGrammar
+pub mod Full
+pub mod Assignments
+pub mod Context
+pub mod Declared
+pub mod NoLocals
+pub mod Programs

@@ -1,0 +1,10 @@
+pub mod Rows
+pub mod Expressions
+pub mod Values
+pub mod Nests
+pub mod Statements
+pub mod Programs
+pub mod Lines
+pub mod Kept
+pub mod Whole
+pub mod Reprinted

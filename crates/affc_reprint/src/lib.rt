@@ -1,0 +1,4 @@
+//! What a text without the prelude gives of the text that is printed of its program.
+#![tactic(auto)]
+
+pub mod laws;

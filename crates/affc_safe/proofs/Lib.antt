@@ -1,0 +1,14 @@
+pub mod Wants
+pub mod PlainReads
+pub mod Walk
+pub mod PlainNear
+pub mod ValuesThere
+pub mod SafeLaws
+pub mod Along
+pub mod SourceRuns
+pub mod EndedSafe
+pub mod FitsThere
+pub mod Accesses
+pub mod Reasons
+pub mod ExampleProofs
+pub mod OverflowProofs

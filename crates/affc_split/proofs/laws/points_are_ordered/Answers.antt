@@ -1,5 +1,0 @@
-use Rattle.affc_split.proofs.Orders.{lex_total, lex_same}
-use Rattle.affc_split.proofs.laws.points_are_ordered.Goals as goal
-
-pub returns : goal.returns
-returns c = record { total = lex_total; same = lex_same }

@@ -1,0 +1,69 @@
+//! The words as they come, with memory enough.
+use super::words_of;
+use affc_cli::words::{Command, command_of};
+use std::alloc::{AllocError, Global};
+use std::test::Fail;
+
+// What the line asks for, in words.
+fn told(alloc: Global, line: &str) -> Result<String, AllocError> {
+    let words = words_of(alloc, line)?;
+    let mut text = String::new(alloc);
+    match command_of(alloc, &words)? {
+        None => text.push_str("none")?,
+        Some(Command::Fold { source }) => {
+            write!(text, "fold [{source}]")?;
+        }
+        Some(
+            Command::Run {
+                source,
+                feed,
+                steps,
+            },
+        ) => {
+            write!(text, "run [{source}] [{feed}] {steps}")?;
+        }
+    }
+    Ok(text)
+}
+
+#[test]
+fn words_are_read(rt: HostRuntime) -> Result<(), Fail> {
+    let rows = [
+        ("fold a", "fold [a]"),
+        ("fold -- -", "fold [-]"),
+        ("fold a --", "fold [a]"),
+        ("fold help", "fold [help]"),
+        ("run a b", "run [a] [b] 10000000"),
+        ("run -- -a -b", "run [-a] [-b] 10000000"),
+        ("run a --steps=5 b", "run [a] [b] 5"),
+        ("run --steps 007 a b", "run [a] [b] 7"),
+        ("run a b --steps=1000000000000", "run [a] [b] 1000000000000"),
+        ("run a b --steps=1000000000001", "none"),
+        ("run a b --steps 0", "none"),
+        ("run a b --steps +5", "none"),
+        ("run a b --steps", "none"),
+        ("run a b --steps=", "none"),
+        ("run a b --steps=-5", "none"),
+        ("run --steps=5 a b --steps=5", "none"),
+        ("run a --steps -- b", "none"),
+        ("run a b c", "none"),
+        ("run a", "none"),
+        ("fold", "none"),
+        ("fold ", "none"),
+        ("fold -", "none"),
+        ("fold -x", "none"),
+        ("fold -é", "none"),
+        ("fold --help", "none"),
+        ("fold -h", "none"),
+        ("fold --version", "none"),
+        ("fold a --steps 5", "none"),
+        ("help", "none"),
+        ("--help", "none"),
+        ("", "none"),
+    ];
+    for (line, want) in rows {
+        let found = told(rt.alloc(), line)?;
+        assert_eq!(rt; found.as_str(), want, "at {line}");
+    }
+    Ok(())
+}
