@@ -34,32 +34,14 @@ impl Drop for Ix {
     fn drop(mut self) {
         loop {
             match self {
-                Ix::Lit(_) => return,
-                Ix::Name(_) => return,
-                Ix::Neg(of) => self = of.into_inner(),
-                Ix::Add(left, right) => {
-                    right.into_inner();
-                    self = left.into_inner();
-                }
-                Ix::Sub(left, right) => {
-                    right.into_inner();
-                    self = left.into_inner();
-                }
-                Ix::Mul(left, right) => {
-                    right.into_inner();
-                    self = left.into_inner();
-                }
-                Ix::Min(left, right) => {
-                    right.into_inner();
-                    self = left.into_inner();
-                }
-                Ix::Max(left, right) => {
-                    right.into_inner();
-                    self = left.into_inner();
-                }
-                Ix::Floord(of, _) => self = of.into_inner(),
-                Ix::Ceild(of, _) => self = of.into_inner(),
-                Ix::Mod(left, right) => {
+                Ix::Lit(_) | Ix::Name(_) => return,
+                Ix::Neg(of) | Ix::Floord(of, _) | Ix::Ceild(of, _) => self = of.into_inner(),
+                Ix::Add(left, right)
+                | Ix::Sub(left, right)
+                | Ix::Mul(left, right)
+                | Ix::Min(left, right)
+                | Ix::Max(left, right)
+                | Ix::Mod(left, right) => {
                     right.into_inner();
                     self = left.into_inner();
                 }
@@ -108,19 +90,17 @@ impl Drop for Val {
     fn drop(mut self) {
         loop {
             match self {
-                Val::Load { array: _, subs: _ } => return,
-                Val::Const(_) => return,
-                Val::Cast(_) => return,
-                Val::Not(of) => self = of.into_inner(),
+                Val::Load { array: _, subs: _ } | Val::Const(_) | Val::Cast(_) => return,
+                Val::Not(of)
+                | Val::Shift {
+                    left: _,
+                    value: of,
+                    by: _,
+                } => self = of.into_inner(),
                 Val::Bin { op: _, left, right } => {
                     right.into_inner();
                     self = left.into_inner();
                 }
-                Val::Shift {
-                    left: _,
-                    value,
-                    by: _,
-                } => self = value.into_inner(),
             }
         }
     }

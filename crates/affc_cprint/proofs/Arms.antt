@@ -1,7 +1,7 @@
 -- The pieces in which locals and statements are written.
 use Rattle.std.proofs.Common.{◌≡◌, ◌+◌, ◌≤◌, ℕ, zero, suc, Result, Ok, Err, OnOk, Bool, true, false, List, [], ◌∷◌, ◌++◌, map, take, length, codes, Option, refl, sym, ap, ◌∙◌, append_assoc, rules, arith}
 use Rattle.std.specs.List.{flat_map}
-use Rattle.std.proofs.lemmas.List.{append-nil, take_all}
+use Rattle.std.proofs.lemmas.List.{append-nil}
 use Rattle.affc_ast.specs.declared.tree.ArrayId.{ArrayId}
 use Rattle.affc_ast.specs.declared.tree.Compare.{Compare}
 use Rattle.affc_ast.specs.declared.tree.Ix.{Ix}
@@ -143,48 +143,46 @@ ends_with : {A E P : Type 0} (r : Result A E) {o0 o1 a : List ℕ} (o2 b t : Lis
 ends_with (Ok x) {o0 = o0} o2 b t p q e held = (record { is = (p next q).is ∙ ap (λ s. o0 ++ s) (sym e) }, held)
 ends_with (Err x) o2 b t p q e held = q
 
-pub for_exit : {A E : Type 0} (r : Result A E) {o0 o1 o2 : List ℕ} (o3 : List ℕ) (prelude : Bool) (level : ℕ) (names : Names) (s : Stmt) (iter w v : Name) (low : Ix) (rel : Rel) (high : Ix) (body slice : List Stmt) (n1 n2 n3 : Names) (inner held i : ℕ)
+pub for_exit : {A E : Type 0} (r : Result A E) {o0 o1 o2 : List ℕ} (o3 : List ℕ) (prelude : Bool) (level : ℕ) (names : Names) (s : Stmt) (iter w v : Name) (low : Ix) (rel : Rel) (high : Ix) (body slice : List Stmt) (n1 n2 n3 : Names) (inner held : ℕ)
     → s ≡ For iter low rel high body → slice ≡ body → w ≡ iter → v ≡ iter → inner ≡ level + 1 → held ≡ length names.numbers
     → Adds o0 o1 (head_layout prelude names w low rel high) → n1 ≡ and_number names v
-    → Adds o1 o2 (flat_map (line_added prelude inner n1) (take i slice)) → n2 ≡ n1 → length slice ≤ i → n3 ≡ first_numbers held n2
+    → Adds o1 o2 (flat_map (line_added prelude inner n1) slice) → n2 ≡ n1 → n3 ≡ first_numbers held n2
     → OnOk r (Adds o2 o3 (indent level then codes "}\n")) → OnOk r (Adds o0 o3 (stmt_layout level (stmt_text prelude s names)) × (n3 ≡ names))
-for_exit r o3 prelude level names s iter w v low rel high body slice n1 n2 n3 inner held i is same ws vs deep count before shown loop kept past gone fin =
+for_exit r o3 prelude level names s iter w v low rel high body slice n1 n2 n3 inner held is same ws vs deep count before shown loop kept gone fin =
     let q : inner ≡ suc level = omega arith in
-    let lines : flat_map (line_added prelude inner n1) (take i slice) ≡ flat_map (line_added prelude (suc level) (and_number names iter)) slice
-    = ap (λ k. flat_map (line_added prelude k n1) (take i slice)) q ∙ ap (λ n. flat_map (line_added prelude (suc level) n) (take i slice)) (shown ∙ ap (and_number names) vs)
-    ∙ ap (flat_map (line_added prelude (suc level) (and_number names iter))) (take_all i slice past) in
-    let tree : stmt_layout level (stmt_text prelude s names) ≡ (head_layout prelude names w low rel high ++ flat_map (line_added prelude inner n1) (take i slice)) ++ (indent level then codes "}\n")
+    let lines : flat_map (line_added prelude inner n1) slice ≡ flat_map (line_added prelude (suc level) (and_number names iter)) slice
+    = ap (λ k. flat_map (line_added prelude k n1) slice) q ∙ ap (λ n. flat_map (line_added prelude (suc level) n) slice) (shown ∙ ap (and_number names) vs) in
+    let tree : stmt_layout level (stmt_text prelude s names) ≡ (head_layout prelude names w low rel high ++ flat_map (line_added prelude inner n1) slice) ++ (indent level then codes "}\n")
     = for_pieces prelude level names s iter low rel high body slice is same
     ∙ ap (λ x. (head_layout prelude names x low rel high ++ flat_map (line_added prelude (suc level) (and_number names iter)) slice) ++ (indent level then codes "}\n")) (sym ws)
     ∙ ap (λ t. (head_layout prelude names w low rel high ++ t) ++ (indent level then codes "}\n")) (sym lines) in
     let back : n3 ≡ names = gone ∙ ap (first_numbers held) (kept ∙ shown) ∙ ap (λ k. first_numbers k (and_number names v)) count ∙ iterator_gone names v in
     ends_with r o3 (indent level then codes "}\n") (stmt_layout level (stmt_text prelude s names)) (before next loop) fin tree back
 
-pub if_exit : {A E : Type 0} (r : Result A E) {o0 o1 o2 : List ℕ} (o3 : List ℕ) (prelude : Bool) (level : ℕ) (names : Names) (s : Stmt) (conds cs : List Compare) (body slice : List Stmt) (n1 : Names) (inner i : ℕ)
+pub if_exit : {A E : Type 0} (r : Result A E) {o0 o1 o2 : List ℕ} (o3 : List ℕ) (prelude : Bool) (level : ℕ) (names : Names) (s : Stmt) (conds cs : List Compare) (body slice : List Stmt) (n1 : Names) (inner : ℕ)
     → s ≡ If conds body → cs ≡ conds → slice ≡ body → inner ≡ level + 1
     → Adds o0 o1 (codes "if (" ++ (conds_layout (conds_text prelude names cs) ++ codes ") {\n"))
-    → Adds o1 o2 (flat_map (line_added prelude inner names) (take i slice)) → n1 ≡ names → length slice ≤ i
+    → Adds o1 o2 (flat_map (line_added prelude inner names) slice) → n1 ≡ names
     → OnOk r (Adds o2 o3 (indent level then codes "}\n")) → OnOk r (Adds o0 o3 (stmt_layout level (stmt_text prelude s names)) × (n1 ≡ names))
-if_exit r o3 prelude level names s conds cs body slice n1 inner i is these same deep before loop kept past fin =
+if_exit r o3 prelude level names s conds cs body slice n1 inner is these same deep before loop kept fin =
     let q : inner ≡ suc level = omega arith in
-    let lines : flat_map (line_added prelude inner names) (take i slice) ≡ flat_map (line_added prelude (suc level) names) slice
-    = ap (λ k. flat_map (line_added prelude k names) (take i slice)) q ∙ ap (flat_map (line_added prelude (suc level) names)) (take_all i slice past) in
-    let tree : stmt_layout level (stmt_text prelude s names) ≡ ((codes "if (" ++ (conds_layout (conds_text prelude names cs) ++ codes ") {\n")) ++ flat_map (line_added prelude inner names) (take i slice)) ++ (indent level then codes "}\n")
+    let lines : flat_map (line_added prelude inner names) slice ≡ flat_map (line_added prelude (suc level) names) slice
+    = ap (λ k. flat_map (line_added prelude k names) slice) q in
+    let tree : stmt_layout level (stmt_text prelude s names) ≡ ((codes "if (" ++ (conds_layout (conds_text prelude names cs) ++ codes ") {\n")) ++ flat_map (line_added prelude inner names) slice) ++ (indent level then codes "}\n")
     = if_pieces prelude level names s conds cs body slice is these same
     ∙ ap (λ t. ((codes "if (" ++ (conds_layout (conds_text prelude names cs) ++ codes ") {\n")) ++ t) ++ (indent level then codes "}\n")) (sym lines) in
     ends_with r o3 (indent level then codes "}\n") (stmt_layout level (stmt_text prelude s names)) (before next loop) fin tree kept
 
-pub block_exit : {A E : Type 0} (r : Result A E) {o0 o1 o2 : List ℕ} (o3 : List ℕ) (prelude : Bool) (level : ℕ) (names : Names) (s : Stmt) (ls these : List Local) (body slice : List Stmt) (n1 n2 n3 : Names) (inner held i : ℕ)
+pub block_exit : {A E : Type 0} (r : Result A E) {o0 o1 o2 : List ℕ} (o3 : List ℕ) (prelude : Bool) (level : ℕ) (names : Names) (s : Stmt) (ls these : List Local) (body slice : List Stmt) (n1 n2 n3 : Names) (inner held : ℕ)
     → s ≡ Block ls body → these ≡ ls → slice ≡ body → inner ≡ level + 1 → held ≡ length names.numbers
     → Adds o0 o1 (codes "{\n" ++ locals_added prelude inner names these) → n1 ≡ with_locals names these
-    → Adds o1 o2 (flat_map (line_added prelude inner n1) (take i slice)) → n2 ≡ n1 → length slice ≤ i → n3 ≡ first_numbers held n2
+    → Adds o1 o2 (flat_map (line_added prelude inner n1) slice) → n2 ≡ n1 → n3 ≡ first_numbers held n2
     → OnOk r (Adds o2 o3 (indent level then codes "}\n")) → OnOk r (Adds o0 o3 (stmt_layout level (stmt_text prelude s names)) × (n3 ≡ names))
-block_exit r o3 prelude level names s ls these body slice n1 n2 n3 inner held i is those same deep count before shown loop kept past gone fin =
+block_exit r o3 prelude level names s ls these body slice n1 n2 n3 inner held is those same deep count before shown loop kept gone fin =
     let q : inner ≡ suc level = omega arith in
-    let lines : flat_map (line_added prelude inner n1) (take i slice) ≡ flat_map (line_added prelude (suc level) (with_locals names these)) slice
-    = ap (λ k. flat_map (line_added prelude k n1) (take i slice)) q ∙ ap (λ n. flat_map (line_added prelude (suc level) n) (take i slice)) shown
-    ∙ ap (flat_map (line_added prelude (suc level) (with_locals names these))) (take_all i slice past) in
-    let tree : stmt_layout level (stmt_text prelude s names) ≡ ((codes "{\n" ++ locals_added prelude inner names these) ++ flat_map (line_added prelude inner n1) (take i slice)) ++ (indent level then codes "}\n")
+    let lines : flat_map (line_added prelude inner n1) slice ≡ flat_map (line_added prelude (suc level) (with_locals names these)) slice
+    = ap (λ k. flat_map (line_added prelude k n1) slice) q ∙ ap (λ n. flat_map (line_added prelude (suc level) n) slice) shown in
+    let tree : stmt_layout level (stmt_text prelude s names) ≡ ((codes "{\n" ++ locals_added prelude inner names these) ++ flat_map (line_added prelude inner n1) slice) ++ (indent level then codes "}\n")
     = block_pieces prelude level names s ls these body slice is those same
     ∙ ap (λ k. ((codes "{\n" ++ locals_added prelude k names these) ++ flat_map (line_added prelude (suc level) (with_locals names these)) slice) ++ (indent level then codes "}\n")) (sym q)
     ∙ ap (λ t. ((codes "{\n" ++ locals_added prelude inner names these) ++ t) ++ (indent level then codes "}\n")) (sym lines) in

@@ -16,7 +16,7 @@ use Rattle.affc_ast.specs.declared.tree.Param.{Param}
 use Rattle.affc_ast.specs.declared.tree.Param.TheVariants.{Number, Array}
 use Rattle.affc_ast.specs.declared.tree.Program.{Program}
 use Rattle.affc_ast.specs.Recursion.{by_ix}
-use Rattle.affc_grammar.specs.Grammar.{Name, Symbol, word, number as number_symbol, mark, is_word, is_mark, Choice, minimum, maximum, remainder, Rounding, down, up, choice_name, rounding_name, rel_mark, IxText, term, plus, minus, TermText, factor, times, FactorText, atom, negated, AtomText, literal, name, grouped, chosen, divided, CondsText, cond, and_cond, CondText, all_of, compared, PragmasText, no_pragmas, and_range, and_context, line_feed, Text, has_call, context_calls, ix_symbols, term_symbols, factor_symbols, atom_symbols, conds_symbols, cond_symbols, include_symbols}
+use Rattle.affc_grammar.specs.Grammar.{Name, Symbol, word, number as number_symbol, mark, is_word_kind, is_mark_kind, Choice, minimum, maximum, remainder, Rounding, down, up, choice_name, rounding_name, rel_mark, IxText, term, plus, minus, TermText, factor, times, FactorText, atom, negated, AtomText, literal, name, grouped, chosen, divided, CondsText, cond, and_cond, CondText, all_of, compared, PragmasText, no_pragmas, and_range, and_context, line_feed, Text, has_call, context_calls, ix_symbols, term_symbols, factor_symbols, atom_symbols, conds_symbols, cond_symbols, include_symbols}
 use Rattle.affc_grammar.specs.Draft as draft
 use Rattle.affc_grammar.specs.Draft.{PragmaDraft, ix_draft, term_draft, factor_draft, atom_draft, conds_draft, cond_draft, pragmas_draft, text_draft}
 use Rattle.affc_grammar.specs.Names.{Scope, each, number_named, ix_tree, compare_tree, choice_tree, rounding_tree, thing_of, why_ranged, with_params, outermost, pragmas_tree, program_tree}
@@ -48,13 +48,13 @@ calls_in e = by_ix calls_step e
 -- whether a "(" comes first
 abbrev opens : List Symbol → Bool
 opens [] = false
-opens (s ∷ ss) = is_mark s.kind && same s.bytes (codes "(")
+opens (s ∷ ss) = is_mark_kind s.kind && same s.bytes (codes "(")
 
 -- whether the symbols have a call, before others that don't begin with "("
 abbrev Calls : List Symbol → Bool → Type 0
 Calls ss b = (rest : List Symbol) → opens rest ≡ false → has_call (ss ++ rest) ≡ (b || has_call rest)
 
-no_word : (s : Symbol) (rest : List Symbol) → is_word s.kind ≡ false → has_call (s ∷ rest) ≡ has_call rest
+no_word : (s : Symbol) (rest : List Symbol) → is_word_kind s.kind ≡ false → has_call (s ∷ rest) ≡ has_call rest
 no_word s [] h = refl
 no_word s (x ∷ rest) h = rw h refl
 

@@ -6,12 +6,12 @@ ghost use Rattle.affc_ast.specs.declared.tree.Param.TheVariants.{Number};
 ghost use Rattle.affc_cprint.specs.Adds.{Adds};
 ghost use Rattle.affc_cprint.specs.Seen.{seen};
 ghost use Rattle.affc_cprint.specs.Layout.{◌then◌, param_layout, params_layout, int_layout, prelude_layout, const_layout, printed_text};
-ghost use Rattle.affc_cprint.specs.Statements.{dim_added, line_added};
+ghost use Rattle.affc_cprint.specs.Statements.{dim_added};
 ghost use Rattle.affc_cprint.specs.Programs.{range_added, context_added, params_added, with_param_names, decls_added, with_array_names, function_head, function_added};
 
 use crate::index::{Names, decimal, dims, push};
-use crate::stmt::{conds, indent, stmt};
-use affc_ast::tree::{Compare, Decl, Ix, Param, Program, Role, Stmt};
+use crate::stmt::{conds, stmts};
+use affc_ast::tree::{Compare, Decl, Ix, Param, Program, Role};
 use affc_lex::prelude::PRELUDE;
 use std::alloc::{AllocError, Global};
 
@@ -238,23 +238,6 @@ fn head<'a>(
     push(out, ") {\n")
 }
 
-// The statements of the function.
-fn body<'a>(
-    out: &mut String,
-    prelude: bool,
-    names: &mut Names<'a>,
-    lines: &'a [Stmt],
-    level: usize,
-) -> Result<(), AllocError>
-    ensures { OnOk result (Adds (string_bytes out.old) (string_bytes out.new) (flat_map (line_added prelude level (seen names.old)) lines.now)) }
-{
-    for line in lines {
-        indent(out, level)?;
-        stmt(out, prelude, names, line, level)?;
-    }
-    Ok(())
-}
-
 fn function(alloc: Global, out: &mut String, program: &Program) -> Result<(), AllocError>
     ensures { OnOk result (Adds (string_bytes out.old) (string_bytes out.new) (function_added program.now.prelude program.now)) }
 {
@@ -268,7 +251,7 @@ fn function(alloc: Global, out: &mut String, program: &Program) -> Result<(), Al
         program.params.as_slice(),
     )?;
     decls(out, prelude, &mut names, program.temps.as_slice())?;
-    body(out, prelude, &mut names, program.body.as_slice(), 1)?;
+    stmts(out, prelude, &mut names, program.body.as_slice(), 1)?;
     push(out, "}\n")
 }
 

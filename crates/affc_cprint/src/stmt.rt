@@ -1,12 +1,13 @@
 // Conditions, locals and statements.
 ghost use Rattle.std.specs.Prelude.{◌≡◌, ◌+◌, OnOk, IfOk, string_bytes, codes, length};
+ghost use Rattle.std.specs.List.{flat_map};
 ghost use Rattle.affc_grammar.specs.Grammar.{rel_mark, assign_mark, bound_mark};
 ghost use Rattle.affc_grammar.specs.Printed.{is_less, cond_text, conds_text, stmt_text};
 ghost use Rattle.affc_cprint.specs.Adds.{Adds};
 ghost use Rattle.affc_cprint.specs.Seen.{seen};
 ghost use Rattle.affc_cprint.specs.Layout.{◌then◌, cond_layout, conds_layout, indent, stmt_layout};
 ghost use Rattle.affc_grammar.specs.Printed.{and_number};
-ghost use Rattle.affc_cprint.specs.Statements.{first_numbers, head_layout, assign_layout, local_added, locals_added, with_locals};
+ghost use Rattle.affc_cprint.specs.Statements.{first_numbers, head_layout, assign_layout, line_added, local_added, locals_added, with_locals};
 
 use crate::brackets::{Level, Place};
 use crate::index::{Names, dims, ix, push};
@@ -32,10 +33,7 @@ fn bound(out: &mut String, rel: Rel) -> Result<(), AllocError>
 {
     match rel {
         Rel::Less => push(out, " < "),
-        Rel::LessEqual => push(out, " <= "),
-        Rel::Greater => push(out, " <= "),
-        Rel::GreaterEqual => push(out, " <= "),
-        Rel::Equal => push(out, " <= "),
+        Rel::LessEqual | Rel::Greater | Rel::GreaterEqual | Rel::Equal => push(out, " <= "),
     }
 }
 
@@ -217,6 +215,7 @@ fn restore(names: &mut Names<'_>, held: usize)
 }
 
 /// A statement behind its indent. The names in sight are those from before.
+#[cycle(statements)]
 pub fn stmt<'a>(
     out: &mut String,
     prelude: bool,
@@ -238,10 +237,7 @@ pub fn stmt<'a>(
             let inner = deeper(level)?;
             let held = held(names);
             show(names, iter.as_str())?;
-            for line in body.as_slice() {
-                indent(out, inner)?;
-                stmt(out, prelude, names, line, inner)?;
-            }
+            stmts(out, prelude, names, body.as_slice(), inner)?;
             restore(names, held);
             end(out, level)
         }
@@ -250,10 +246,7 @@ pub fn stmt<'a>(
             conds(out, prelude, names, cs.as_slice())?;
             push(out, ") {\n")?;
             let inner = deeper(level)?;
-            for inside in body.as_slice() {
-                indent(out, inner)?;
-                stmt(out, prelude, names, inside, inner)?;
-            }
+            stmts(out, prelude, names, body.as_slice(), inner)?;
             end(out, level)
         }
         Stmt::Assign {
@@ -267,12 +260,27 @@ pub fn stmt<'a>(
             let inner = deeper(level)?;
             let held = held(names);
             locals(out, prelude, names, ls.as_slice(), inner)?;
-            for part in body.as_slice() {
-                indent(out, inner)?;
-                stmt(out, prelude, names, part, inner)?;
-            }
+            stmts(out, prelude, names, body.as_slice(), inner)?;
             restore(names, held);
             end(out, level)
         }
     }
+}
+
+/// The statements of a body, each behind its indent.
+#[cycle(statements)]
+pub fn stmts<'a>(
+    out: &mut String,
+    prelude: bool,
+    names: &mut Names<'a>,
+    body: &'a [Stmt],
+    level: usize,
+) -> Result<(), AllocError>
+    ensures { OnOk result (Adds (string_bytes out.old) (string_bytes out.new) (flat_map (line_added prelude level (seen names.old)) body.now) × (seen names.new ≡ seen names.old)) }
+{
+    for line in body {
+        indent(out, level)?;
+        stmt(out, prelude, names, line, level)?;
+    }
+    Ok(())
 }

@@ -66,23 +66,20 @@ impl Drop for IxDraft {
     fn drop(mut self) {
         loop {
             match self {
-                IxDraft::Literal { at: _, value: _ } => return,
-                IxDraft::Name { at: _, name: _ } => return,
-                IxDraft::Negated { at: _, of } => self = of.into_inner(),
-                IxDraft::Sum(left, right) => {
-                    right.into_inner();
-                    self = left.into_inner();
-                }
-                IxDraft::Difference(left, right) => {
-                    right.into_inner();
-                    self = left.into_inner();
-                }
-                IxDraft::Product { at: _, left, right } => {
-                    right.into_inner();
-                    self = left.into_inner();
-                }
-                IxDraft::Grouped { at: _, inside } => self = inside.into_inner(),
-                IxDraft::Chosen {
+                IxDraft::Literal { at: _, value: _ } | IxDraft::Name { at: _, name: _ } => return,
+                IxDraft::Negated { at: _, of }
+                | IxDraft::Grouped { at: _, inside: of }
+                | IxDraft::Divided {
+                    at: _,
+                    rounding: _,
+                    of,
+                    by_at: _,
+                    by: _,
+                } => self = of.into_inner(),
+                IxDraft::Sum(left, right)
+                | IxDraft::Difference(left, right)
+                | IxDraft::Product { at: _, left, right }
+                | IxDraft::Chosen {
                     at: _,
                     choice: _,
                     left,
@@ -91,13 +88,6 @@ impl Drop for IxDraft {
                     right.into_inner();
                     self = left.into_inner();
                 }
-                IxDraft::Divided {
-                    at: _,
-                    rounding: _,
-                    of,
-                    by_at: _,
-                    by: _,
-                } => self = of.into_inner(),
             }
         }
     }
@@ -142,15 +132,16 @@ impl Drop for ValueDraft {
                     at: _,
                     name: _,
                     subs: _,
-                } => return,
-                ValueDraft::Constant(_) => return,
-                ValueDraft::Cast(_) => return,
-                ValueDraft::Complement(of) => self = of.into_inner(),
+                }
+                | ValueDraft::Constant(_)
+                | ValueDraft::Cast(_) => return,
+                ValueDraft::Complement(of) | ValueDraft::Shift { left: _, of, by: _ } => {
+                    self = of.into_inner();
+                }
                 ValueDraft::Binary { op: _, left, right } => {
                     right.into_inner();
                     self = left.into_inner();
                 }
-                ValueDraft::Shift { left: _, of, by: _ } => self = of.into_inner(),
             }
         }
     }

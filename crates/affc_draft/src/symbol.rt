@@ -17,13 +17,13 @@ pub struct Symbol<'a> {
 }
 
 pub fn is_word_kind(kind: Kind) -> bool
-    ensures { result ≡ grammar.is_word kind }
+    ensures { result ≡ grammar.is_word_kind kind }
 {
     matches!(kind, Kind::Word)
 }
 
 pub fn is_mark_kind(kind: Kind) -> bool
-    ensures { result ≡ grammar.is_mark kind }
+    ensures { result ≡ grammar.is_mark_kind kind }
 {
     matches!(kind, Kind::Mark)
 }

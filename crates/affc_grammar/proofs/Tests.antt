@@ -5,12 +5,13 @@ use Rattle.std.proofs.lemmas.Bool.{eqb-true, eq-eqb, and_parts, and_from}
 use Rattle.affc_lex.specs.declared.token.Kind.{Kind}
 use Rattle.affc_lex.specs.declared.token.Kind.TheVariants.{Word, Number, Value, Header, Hash, LineEnd, Prelude, Mark}
 use Rattle.affc_lex.specs.Bytes.{same}
+use Rattle.affc_lex.specs.Lexes.{is_hash, is_line_end}
 use Rattle.affc_lex.specs.Pieces.{prelude}
 use Rattle.affc_ast.specs.declared.tree.Op.{Op}
 use Rattle.affc_ast.specs.declared.tree.Op.TheVariants.{Add, Sub, Mul, And, Or, Xor}
 use Rattle.affc_ast.specs.declared.tree.Rel.TheVariants.{Less, LessEqual, Greater, GreaterEqual, Equal}
-use Rattle.affc_grammar.specs.Grammar.{Symbol, Name, LineText, line_feed, text_end, minimum, maximum, remainder, down, up, word, number, mark, is_word, is_mark, is_divisor, is_shift, op_mark, rel_mark, shift_mark, bound_mark, assign_mark, level_of}
-use Rattle.affc_grammar.specs.Reading.{choose, the_bytes, of_kind, this_mark, this_word, any_word, any_number, any_value, is_number_kind, is_value_kind, is_hash_kind, is_header_kind, is_line_kind, is_prelude_kind, hash, header, the_prelude, line_end, holding, with_proof, divisor, shift_number, Callee, of_choice, of_rounding, callee_name, callees, sum_sign, rel_of, ops, at_level, op_of, shift_sign, one, bound_of, assign_of, head_words, First, a_word, a_brace, first_of, brace_or_none, word_or}
+use Rattle.affc_grammar.specs.Grammar.{Symbol, Name, LineText, line_feed, text_end, minimum, maximum, remainder, down, up, word, number, mark, is_word_kind, is_mark_kind, is_divisor, is_shift, op_mark, rel_mark, shift_mark, bound_mark, assign_mark, level_of}
+use Rattle.affc_grammar.specs.Reading.{choose, the_bytes, of_kind, this_mark, this_word, any_word, any_number, any_value, is_number_kind, is_value_kind, is_header_kind, is_prelude_kind, hash, header, the_prelude, line_end, holding, with_proof, divisor, shift_number, Callee, of_choice, of_rounding, callee_name, callees, sum_sign, rel_of, ops, at_level, op_of, shift_sign, one, bound_of, assign_of, head_words, First, a_word, a_brace, first_of, brace_or_none, word_or}
 use Rattle.affc_grammar.proofs.Rule.{IsTest}
 
 pub same_bytes : (xs ys : List ℕ) → same xs ys ≡ true → xs ≡ ys
@@ -61,7 +62,7 @@ kind_test is_kind kind f spelled unique its only passes = record {
   passes = λ k. rw its (passes k);
 }
 
-word_kind : (kind : Kind) → is_word kind ≡ true → kind ≡ Word
+word_kind : (kind : Kind) → is_word_kind kind ≡ true → kind ≡ Word
 word_kind Word e = refl
 word_kind Number e = absurd (cc)
 word_kind Value e = absurd (cc)
@@ -71,7 +72,7 @@ word_kind LineEnd e = absurd (cc)
 word_kind Prelude e = absurd (cc)
 word_kind Mark e = absurd (cc)
 
-mark_kind : (kind : Kind) → is_mark kind ≡ true → kind ≡ Mark
+mark_kind : (kind : Kind) → is_mark_kind kind ≡ true → kind ≡ Mark
 mark_kind Mark e = refl
 mark_kind Word e = absurd (cc)
 mark_kind Number e = absurd (cc)
@@ -101,7 +102,7 @@ value_kind LineEnd e = absurd (cc)
 value_kind Prelude e = absurd (cc)
 value_kind Mark e = absurd (cc)
 
-hash_kind : (kind : Kind) → is_hash_kind kind ≡ true → kind ≡ Hash
+hash_kind : (kind : Kind) → is_hash kind ≡ true → kind ≡ Hash
 hash_kind Hash e = refl
 hash_kind Word e = absurd (cc)
 hash_kind Number e = absurd (cc)
@@ -121,7 +122,7 @@ header_kind LineEnd e = absurd (cc)
 header_kind Prelude e = absurd (cc)
 header_kind Mark e = absurd (cc)
 
-line_kind : (kind : Kind) → is_line_kind kind ≡ true → kind ≡ LineEnd
+line_kind : (kind : Kind) → is_line_end kind ≡ true → kind ≡ LineEnd
 line_kind LineEnd e = refl
 line_kind Word e = absurd (cc)
 line_kind Number e = absurd (cc)
@@ -143,8 +144,8 @@ prelude_kind Mark e = absurd (cc)
 
 -- ---- Tables
 
-mark_table : {K : Type 0} (rows : List (List ℕ × K)) (spelled : K → List ℕ) → Spells spelled rows → ((k : K) → choose rows (spelled k) ≡ Some k) → IsTest (of_kind is_mark (choose rows)) (λ k. mark (spelled k))
-mark_table rows spelled valid passes = kind_test is_mark Mark (choose rows) spelled mark_kind refl (chosen_bytes spelled rows valid) passes
+mark_table : {K : Type 0} (rows : List (List ℕ × K)) (spelled : K → List ℕ) → Spells spelled rows → ((k : K) → choose rows (spelled k) ≡ Some k) → IsTest (of_kind is_mark_kind (choose rows)) (λ k. mark (spelled k))
+mark_table rows spelled valid passes = kind_test is_mark_kind Mark (choose rows) spelled mark_kind refl (chosen_bytes spelled rows valid) passes
 
 the_bytes_pass : (bytes : List ℕ) → the_bytes bytes bytes ≡ Some tt
 the_bytes_pass bytes = rw (bytes_same bytes)
@@ -153,13 +154,13 @@ pub mark_test : (bytes : List ℕ) → IsTest (this_mark bytes) (λ _. mark byte
 mark_test bytes = mark_table ((bytes, tt) ∷ []) (λ _. bytes) (refl, tt) (λ _. the_bytes_pass bytes)
 
 pub word_test : (w : Name) → IsTest (this_word w) (λ _. word w)
-word_test w = kind_test is_word Word (the_bytes w) (λ _. w) word_kind refl (chosen_bytes (λ _. w) ((w, tt) ∷ []) (refl, tt)) (λ _. the_bytes_pass w)
+word_test w = kind_test is_word_kind Word (the_bytes w) (λ _. w) word_kind refl (chosen_bytes (λ _. w) ((w, tt) ∷ []) (refl, tt)) (λ _. the_bytes_pass w)
 
 some_same : (bytes k : List ℕ) → ◌≡◌ {A = Option (List ℕ)} (Some bytes) (Some k) → bytes ≡ k
 some_same bytes k e = cc
 
 pub any_word_test : IsTest any_word word
-any_word_test = kind_test is_word Word Some (λ w. w) word_kind refl some_same (λ w. refl)
+any_word_test = kind_test is_word_kind Word Some (λ w. w) word_kind refl some_same (λ w. refl)
 
 pub any_number_test : IsTest any_number number
 any_number_test = kind_test is_number_kind Number Some (λ w. w) number_kind refl some_same (λ w. refl)
@@ -168,7 +169,7 @@ pub any_value_test : IsTest any_value (λ bytes. record { kind = Value; bytes = 
 any_value_test = kind_test is_value_kind Value Some (λ w. w) value_kind refl some_same (λ w. refl)
 
 pub hash_test : IsTest hash (λ _. record { kind = Hash; bytes = codes "#" })
-hash_test = kind_test is_hash_kind Hash (the_bytes (codes "#")) (λ _. codes "#") hash_kind refl (chosen_bytes (λ _. codes "#") ((codes "#", tt) ∷ []) (refl, tt)) (λ _. refl)
+hash_test = kind_test is_hash Hash (the_bytes (codes "#")) (λ _. codes "#") hash_kind refl (chosen_bytes (λ _. codes "#") ((codes "#", tt) ∷ []) (refl, tt)) (λ _. refl)
 
 pub header_test : IsTest header (λ _. record { kind = Header; bytes = codes "<stdint.h>" })
 header_test = kind_test is_header_kind Header (the_bytes (codes "<stdint.h>")) (λ _. codes "<stdint.h>") header_kind refl (chosen_bytes (λ _. codes "<stdint.h>") ((codes "<stdint.h>", tt) ∷ []) (refl, tt)) (λ _. refl)
@@ -181,7 +182,7 @@ line_bytes line_feed = codes "\n"
 line_bytes text_end = []
 
 pub line_test : IsTest line_end (λ line. record { kind = LineEnd; bytes = line_bytes line })
-line_test = kind_test is_line_kind LineEnd (choose ((codes "\n", line_feed) ∷ ([], text_end) ∷ [])) line_bytes line_kind refl (chosen_bytes line_bytes ((codes "\n", line_feed) ∷ ([], text_end) ∷ []) (refl, (refl, tt))) (elim [ line_feed ↦ refl | text_end ↦ refl ])
+line_test = kind_test is_line_end LineEnd (choose ((codes "\n", line_feed) ∷ ([], text_end) ∷ [])) line_bytes line_kind refl (chosen_bytes line_bytes ((codes "\n", line_feed) ∷ ([], text_end) ∷ []) (refl, (refl, tt))) (elim [ line_feed ↦ refl | text_end ↦ refl ])
 
 abbrev pub sign_mark : Bool → List ℕ
 sign_mark true = codes "+"
@@ -263,7 +264,7 @@ op_is n bytes (Some op) q k e = chosen_bytes op_mark ops (refl, (refl, (refl, (r
 
 pub op_test : (n : ℕ) → IsTest (op_of n) (λ k. mark (op_mark k.0))
 op_test n =
-    kind_test is_mark Mark (λ bytes. at_level n (choose ops bytes)) (λ k. op_mark k.0) mark_kind refl
+    kind_test is_mark_kind Mark (λ bytes. at_level n (choose ops bytes)) (λ k. op_mark k.0) mark_kind refl
     (λ bytes k e. op_is n bytes (choose ops bytes) refl k e)
     (λ k. ap (at_level n) (ops_pass k.0) ∙ ap (λ o. with_proof k.0 o) (holding_is (level_of k.0 == suc n) k.1))
 

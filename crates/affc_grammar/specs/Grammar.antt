@@ -2,22 +2,19 @@
 -- grammar stands above the type: "a" is this token, [ a ] is a or nothing, { a } is any number of a, a | b is a or b.
 use Rattle.std.specs.Prelude.{◌≡◌, ℕ, suc, Bool, true, false, not, ◌&&◌, ◌||◌, ◌==◌, nat_le, List, [], ◌∷◌, ◌++◌, codes, IsTrue, Option, Some, None, if◌then◌else◌}
 use Rattle.affc_lex.specs.declared.token.Kind.{Kind}
-use Rattle.affc_lex.specs.declared.token.Kind.TheVariants.{Word, Value, Header, Hash, LineEnd, Prelude, Mark}
+use Rattle.affc_lex.specs.declared.token.Kind.TheVariants.{Value, Header, Hash, LineEnd, Prelude, Mark}
 pub use Rattle.affc_ast.specs.Reads.{Symbol, symbol, word, number, mark}
 use Rattle.affc_lex.specs.Bytes.{same, decimal}
+pub use Rattle.affc_lex.specs.Lexes.{is_word_kind}
 use Rattle.affc_lex.specs.Pieces.{prelude}
 use Rattle.affc_ast.specs.declared.tree.Op.{Op}
 use Rattle.affc_ast.specs.declared.tree.Op.TheVariants.{Add, Sub, Mul, And, Or, Xor}
 use Rattle.affc_ast.specs.declared.tree.Rel.{Rel}
 use Rattle.affc_ast.specs.declared.tree.Rel.TheVariants.{Less, LessEqual, Greater, GreaterEqual, Equal}
 
-abbrev pub is_word : Kind → Bool
-is_word Word = true
-is_word _ = false
-
-abbrev pub is_mark : Kind → Bool
-is_mark Mark = true
-is_mark _ = false
+abbrev pub is_mark_kind : Kind → Bool
+is_mark_kind Mark = true
+is_mark_kind _ = false
 
 -- the bytes of a Word, and of a Number
 abbrev pub Name : Type 0
@@ -356,7 +353,7 @@ pragmas_symbols (and_context ps cs line) = pragmas_symbols ps ++ (pragma_symbols
 
 -- whether a Word stands directly before a "(", which in conditions is a call
 abbrev pub has_call : List Symbol → Bool
-has_call (f ∷ open_bracket ∷ others) = (is_word f.kind && is_mark open_bracket.kind && same open_bracket.bytes (codes "(")) || has_call (open_bracket ∷ others)
+has_call (f ∷ open_bracket ∷ others) = (is_word_kind f.kind && is_mark_kind open_bracket.kind && same open_bracket.bytes (codes "(")) || has_call (open_bracket ∷ others)
 has_call _ = false
 
 abbrev pub context_calls : PragmasText → Bool

@@ -1,12 +1,11 @@
 -- The limits of a text, and the rule on products. Each limit gives the numbers of the tokens at which it is passed, of which the first is the fault's.
 use Rattle.std.specs.Prelude.{ℕ, ◌+◌, ◌-◌, ◌^◌, Bool, true, false, not, ◌&&◌, ◌||◌, nat_le, nat_lt, List, [], ◌∷◌, ◌++◌, length, drop, map, codes, filter, flat_map, Option, Some, None, ℤ, pos, ◌+ℤ◌, ◌-ℤ◌, ◌*ℤ◌, neg_ℤ, nat_abs, int_le, if◌then◌else◌}
 use Rattle.std.specs.List.{list_any}
-use Rattle.affc_lex.specs.declared.token.Kind.{Kind}
-use Rattle.affc_lex.specs.declared.token.Kind.TheVariants.{LineEnd}
 use Rattle.affc_lex.specs.Bytes.{same}
+use Rattle.affc_lex.specs.Lexes.{is_line_end}
 use Rattle.affc_grammar.specs.declared.fault.LimitName.{LimitName}
 use Rattle.affc_grammar.specs.declared.fault.LimitName.TheVariants.{Tokens, Run, Depth, Items, Parameters, Range, Loops, Statements, Empty, Accesses, Dimensions, Comparisons, Literal, Coefficient}
-use Rattle.affc_grammar.specs.Grammar.{Symbol, Name, is_word, is_mark}
+use Rattle.affc_grammar.specs.Grammar.{Symbol, Name, is_word_kind, is_mark_kind}
 use Rattle.affc_grammar.specs.Draft.{IxDraft, literal, name, negated, sum, difference, product, grouped, chosen, divided, CompareDraft, ValueDraft, load, constant, cast, complement, binary, shift, StmtsDraft, no_stmts, and_stmt, StmtDraft, for_loop, if_all, assign, block, DeclDraft, ParamDraft, number_param, array_param, PragmaDraft, range, context, TextDraft}
 
 pub record Limits : Type 0 where
@@ -68,21 +67,17 @@ at_if false at = []
 
 -- ---- Shape, looked at before the grammar
 
-abbrev pub is_line_end : Kind → Bool
-is_line_end LineEnd = true
-is_line_end _ = false
-
 abbrev pub is_opening : Symbol → Bool
-is_opening s = is_mark s.kind && (same s.bytes (codes "(") || same s.bytes (codes "[") || same s.bytes (codes "{"))
+is_opening s = is_mark_kind s.kind && (same s.bytes (codes "(") || same s.bytes (codes "[") || same s.bytes (codes "{"))
 
 abbrev pub is_closing : Symbol → Bool
-is_closing s = is_mark s.kind && (same s.bytes (codes ")") || same s.bytes (codes "]") || same s.bytes (codes "}"))
+is_closing s = is_mark_kind s.kind && (same s.bytes (codes ")") || same s.bytes (codes "]") || same s.bytes (codes "}"))
 
 abbrev pub is_separator : Symbol → Bool
-is_separator s = is_line_end s.kind || (is_mark s.kind && (same s.bytes (codes ";") || same s.bytes (codes "{") || same s.bytes (codes "}")))
+is_separator s = is_line_end s.kind || (is_mark_kind s.kind && (same s.bytes (codes ";") || same s.bytes (codes "{") || same s.bytes (codes "}")))
 
 abbrev pub is_item : Symbol → Bool
-is_item s = is_word s.kind && (same s.bytes (codes "for") || same s.bytes (codes "if"))
+is_item s = is_word_kind s.kind && (same s.bytes (codes "for") || same s.bytes (codes "if"))
 
 -- What a counter is behind a token.
 

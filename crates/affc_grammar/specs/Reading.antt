@@ -1,15 +1,16 @@
 -- Reading a text of the grammar by one token of foresight. `room` is how many brackets may be open at once.
 use Rattle.std.specs.Prelude.{ℕ, zero, suc, Bool, true, false, not, ◌==◌, List, [], ◌∷◌, codes, IsTrue, refl, Option, Some, None, if◌then◌else◌}
 use Rattle.affc_lex.specs.declared.token.Kind.{Kind}
-use Rattle.affc_lex.specs.declared.token.Kind.TheVariants.{Number, Value, Header, Hash, LineEnd, Prelude}
+use Rattle.affc_lex.specs.declared.token.Kind.TheVariants.{Number, Value, Header, Prelude}
 use Rattle.affc_lex.specs.Bytes.{same}
+use Rattle.affc_lex.specs.Lexes.{is_hash, is_line_end}
 use Rattle.affc_lex.specs.Pieces.{prelude as prelude_bytes}
 use Rattle.affc_ast.specs.declared.tree.Op.{Op}
 use Rattle.affc_ast.specs.declared.tree.Op.TheVariants.{Add, Sub, Mul, And, Or, Xor}
 use Rattle.affc_ast.specs.declared.tree.Rel.{Rel}
 use Rattle.affc_ast.specs.declared.tree.Rel.TheVariants.{Less, LessEqual, Greater, GreaterEqual, Equal}
 use Rattle.affc_grammar.specs.Grammar as g
-use Rattle.affc_grammar.specs.Grammar.{Symbol, Name, Digits, LineText, line_feed, text_end, Choice, minimum, maximum, remainder, Rounding, down, up, choice_name, rounding_name, is_divisor, is_shift, is_word, is_mark, op_mark, assign_mark, level_of, IxText, TermText, FactorText, AtomText, DimsText, CondsText, CondText, ValueText, StepText, LocalsText, StmtsText, StmtText, SimpleText, BodyText, ParamText, ParamsText, NamesText, DeclsText, FunctionText, IntText, PragmasText, Text, context_calls}
+use Rattle.affc_grammar.specs.Grammar.{Symbol, Name, Digits, LineText, line_feed, text_end, Choice, minimum, maximum, remainder, Rounding, down, up, choice_name, rounding_name, is_divisor, is_shift, is_word_kind, is_mark_kind, op_mark, assign_mark, level_of, IxText, TermText, FactorText, AtomText, DimsText, CondsText, CondText, ValueText, StepText, LocalsText, StmtsText, StmtText, SimpleText, BodyText, ParamText, ParamsText, NamesText, DeclsText, FunctionText, IntText, PragmasText, Text, context_calls}
 use Rattle.affc_grammar.specs.Reader.{Reader, give, fail, deep, after, either, on, all, Turn, going, done, until, and_on, inside, finished}
 
 -- ---- Tests of one token
@@ -26,13 +27,13 @@ abbrev pub of_kind : {K : Type 0} → (Kind → Bool) → (List ℕ → Option K
 of_kind is_kind f s = if is_kind s.kind then f s.bytes else None
 
 abbrev pub this_mark : List ℕ → Symbol → Option (Unit {0})
-this_mark bytes = of_kind is_mark (the_bytes bytes)
+this_mark bytes = of_kind is_mark_kind (the_bytes bytes)
 
 abbrev pub this_word : Name → Symbol → Option (Unit {0})
-this_word w = of_kind is_word (the_bytes w)
+this_word w = of_kind is_word_kind (the_bytes w)
 
 abbrev pub any_word : Symbol → Option Name
-any_word = of_kind is_word Some
+any_word = of_kind is_word_kind Some
 
 abbrev pub is_number_kind : Kind → Bool
 is_number_kind Number = true
@@ -42,17 +43,9 @@ abbrev pub is_value_kind : Kind → Bool
 is_value_kind Value = true
 is_value_kind _ = false
 
-abbrev pub is_hash_kind : Kind → Bool
-is_hash_kind Hash = true
-is_hash_kind _ = false
-
 abbrev pub is_header_kind : Kind → Bool
 is_header_kind Header = true
 is_header_kind _ = false
-
-abbrev pub is_line_kind : Kind → Bool
-is_line_kind LineEnd = true
-is_line_kind _ = false
 
 abbrev pub is_prelude_kind : Kind → Bool
 is_prelude_kind Prelude = true
@@ -65,7 +58,7 @@ abbrev pub any_value : Symbol → Option (List ℕ)
 any_value = of_kind is_value_kind Some
 
 abbrev pub hash : Symbol → Option (Unit {0})
-hash = of_kind is_hash_kind (the_bytes (codes "#"))
+hash = of_kind is_hash (the_bytes (codes "#"))
 
 abbrev pub header : Symbol → Option (Unit {0})
 header = of_kind is_header_kind (the_bytes (codes "<stdint.h>"))
@@ -74,7 +67,7 @@ abbrev pub the_prelude : Symbol → Option (Unit {0})
 the_prelude = of_kind is_prelude_kind (the_bytes prelude_bytes)
 
 abbrev pub line_end : Symbol → Option LineText
-line_end = of_kind is_line_kind (choose ((codes "\n", line_feed) ∷ ([], text_end) ∷ []))
+line_end = of_kind is_line_end (choose ((codes "\n", line_feed) ∷ ([], text_end) ∷ []))
 
 -- these bytes, where they pass the test
 abbrev pub holding : (b : Bool) → Option (IsTrue b)
@@ -143,7 +136,7 @@ read_term prelude inner = after (read_factor prelude inner) (read_factors prelud
 
 -- whether it is a "+"
 abbrev pub sum_sign : Symbol → Option Bool
-sum_sign = of_kind is_mark (choose ((codes "+", true) ∷ (codes "-", false) ∷ []))
+sum_sign = of_kind is_mark_kind (choose ((codes "+", true) ∷ (codes "-", false) ∷ []))
 
 abbrev pub joined : {prelude : Bool} → Bool → IxText prelude → TermText prelude → IxText prelude
 joined true = g.plus
@@ -184,7 +177,7 @@ pub data Mixed (prelude : Bool) : Type 0 where
   index : IxText prelude → Mixed prelude
 
 abbrev pub rel_of : Symbol → Option Rel
-rel_of = of_kind is_mark (choose ((codes "<", Less) ∷ (codes "<=", LessEqual) ∷ (codes ">", Greater) ∷ (codes ">=", GreaterEqual) ∷ (codes "==", Equal) ∷ []))
+rel_of = of_kind is_mark_kind (choose ((codes "<", Less) ∷ (codes "<=", LessEqual) ∷ (codes ">", Greater) ∷ (codes ">=", GreaterEqual) ∷ (codes "==", Equal) ∷ []))
 
 -- behind an expression
 abbrev pub read_compared : (prelude : Bool) → Reader Symbol (IxText prelude) → IxText prelude → Reader Symbol (Half prelude)
@@ -265,14 +258,14 @@ at_level n None = None
 at_level n (Some op) = with_proof op (holding (level_of op == suc n))
 
 abbrev pub op_of : (n : ℕ) → Symbol → Option ((op : Op) × IsTrue (level_of op == suc n))
-op_of n = of_kind is_mark (λ bytes. at_level n (choose ops bytes))
+op_of n = of_kind is_mark_kind (λ bytes. at_level n (choose ops bytes))
 
 abbrev pub op_more : {prelude : Bool} (n : ℕ) → Reader Symbol (ValueText prelude n) → (op : Op) × IsTrue (level_of op == suc n) → ValueText prelude (suc n) → Reader Symbol (ValueText prelude (suc n))
 op_more n level op a = after level λ b. give (g.binary a op.0 op.1 b)
 
 -- whether it is to the left
 abbrev pub shift_sign : Symbol → Option Bool
-shift_sign = of_kind is_mark (choose ((codes "<<", true) ∷ (codes ">>", false) ∷ []))
+shift_sign = of_kind is_mark_kind (choose ((codes "<<", true) ∷ (codes ">>", false) ∷ []))
 
 abbrev pub shift_more : {prelude : Bool} → Bool → ValueText prelude 3 → Reader Symbol (ValueText prelude 3)
 shift_more left a = on shift_number λ by. give (g.shift a left by.0 by.1)
@@ -305,10 +298,10 @@ read_step =
 
 -- whether it is "<"
 abbrev pub bound_of : Symbol → Option Bool
-bound_of = of_kind is_mark (choose ((codes "<", true) ∷ (codes "<=", false) ∷ []))
+bound_of = of_kind is_mark_kind (choose ((codes "<", true) ∷ (codes "<=", false) ∷ []))
 
 abbrev pub assign_of : Symbol → Option (Option Op)
-assign_of = of_kind is_mark (choose ((codes "=", None) ∷ (codes "+=", Some Add) ∷ (codes "-=", Some Sub) ∷ (codes "*=", Some Mul) ∷ (codes "&=", Some And) ∷ (codes "|=", Some Or) ∷ (codes "^=", Some Xor) ∷ []))
+assign_of = of_kind is_mark_kind (choose ((codes "=", None) ∷ (codes "+=", Some Add) ∷ (codes "-=", Some Sub) ∷ (codes "*=", Some Mul) ∷ (codes "&=", Some And) ∷ (codes "|=", Some Or) ∷ (codes "^=", Some Xor) ∷ []))
 
 -- what stands before a body
 pub data Head (prelude : Bool) : Type 0 where

@@ -94,8 +94,10 @@ pub fn names_are_seen()
     ensures own_value { verdict (with_prelude (codes "{ const int64_t a = a ; }")) ≡ name 38 Unknown }
     ensures temporary_twice { verdict (around (codes "uint64_t in ;")) ≡ name 33 Twice }
     ensures parameter_twice { verdict (line (head_lines ++ codes "void f ( int64_t N , int64_t N ) { }")) ≡ name 19 Twice }
+    ensures iterator_comes_before_low { verdict (around (codes "for ( int64_t N = x ; N < 1 ; N ++ ) out [ 0 ] = 0ULL ;")) ≡ name 35 Twice }
     ensures low_comes_before_the_second_word { verdict (around (codes "for ( int64_t i = x ; y < N ; i ++ ) out [ i ] = 0ULL ;")) ≡ name 37 Unknown }
     ensures second_word_comes_before_high { verdict (around (codes "for ( int64_t i = 0 ; y < x ; i ++ ) out [ i ] = 0ULL ;")) ≡ name 39 Unknown }
+    ensures high_comes_before_the_third_word { verdict (around (codes "for ( int64_t i = 0 ; i < x ; y ++ ) out [ i ] = 0ULL ;")) ≡ name 41 Unknown }
 {}
 
 /// Names of other kinds, inputs and reserved names.

@@ -10,7 +10,7 @@ ghost use Rattle.affc_lex.specs.Cutting.{earlier};
 mod cut;
 pub mod examples;
 pub mod laws;
-pub mod piece;
+mod piece;
 pub mod prelude;
 pub mod scan;
 mod scop;

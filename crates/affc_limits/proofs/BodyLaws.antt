@@ -14,7 +14,7 @@ use Rattle.affc_draft.specs.declared.draft.LocalDraft.{LocalDraft}
 use Rattle.affc_draft.proofs.Outs.{stmt-For, stmt-If, stmt-Block}
 use Rattle.affc_draft.specs.Drafts.{stmts_of, stmts_after, stmt, head, compare, local}
 use Rattle.affc_limits.specs.Places.{least, lesser, place_if}
-use Rattle.affc_limits.specs.Bodies.{bodies, both, under_if, under_for, on_with, no_bodies}
+use Rattle.affc_limits.specs.Bodies.{bodies, all_bodies, both, under_if, under_for, on_with, no_bodies}
 use Rattle.affc_limits.proofs.PlaceLaws.{any-append, least-append, least_if}
 
 -- how many assignments there are doesn't depend on what stands round them
@@ -65,7 +65,7 @@ if_before b at ns = least-append (at_if b at) ns ∙ ap (λ o. lesser o (least n
 none_left : (left : ℕ) → nat_le left 0 ≡ (left == 0)
 none_left left = grind (arith, nat_tests)
 
-pub bodies-for : (left : ℕ) (h : d.HeadDraft) (xs : List d.StmtDraft) → bodies left (d.for_loop h (stmts_of xs)) ≡ under_for left h.at (on_with (left - 1) no_bodies xs)
+pub bodies-for : (left : ℕ) (h : d.HeadDraft) (xs : List d.StmtDraft) → bodies left (d.for_loop h (stmts_of xs)) ≡ under_for left h.at (all_bodies (left - 1) xs)
 bodies-for left h xs =
     let body = stmts_of xs in
     (λ i. record {
@@ -78,16 +78,14 @@ bodies-for left h xs =
       empty = lesser (place_if (not (has_assignment body)) h.at) (least (empty_bodies body));
       loops = lesser (place_if (none_left left i && has_assignment body) h.at) (least (fewer left 0 body i));
     })
-    ∙ ap (under_for left h.at) (sym (of_after (left - 1) d.no_stmts xs))
 
-pub bodies-if : (left at : ℕ) (cs : List d.CompareDraft) (xs : List d.StmtDraft) → bodies left (d.if_all at cs (stmts_of xs)) ≡ under_if at (on_with left no_bodies xs)
+pub bodies-if : (left at : ℕ) (cs : List d.CompareDraft) (xs : List d.StmtDraft) → bodies left (d.if_all at cs (stmts_of xs)) ≡ under_if at (all_bodies left xs)
 bodies-if left at cs xs =
     let body = stmts_of xs in
-    (λ i. record { assigns = nat_lt 0 (same_count (0 + length cs) 0 body i); empty = if_before (not (has_assignment body)) at (empty_bodies body) i; loops = least (loops_past left 0 body) })
-    ∙ ap (under_if at) (sym (of_after left d.no_stmts xs))
+    λ i. record { assigns = nat_lt 0 (same_count (0 + length cs) 0 body i); empty = if_before (not (has_assignment body)) at (empty_bodies body) i; loops = least (loops_past left 0 body) }
 
-pub bodies-block : (left : ℕ) (ls : List d.LocalDraft) (xs : List d.StmtDraft) → bodies left (d.block ls (stmts_of xs)) ≡ on_with left no_bodies xs
-bodies-block left ls xs = sym (of_after left d.no_stmts xs)
+pub bodies-block : (left : ℕ) (ls : List d.LocalDraft) (xs : List d.StmtDraft) → bodies left (d.block ls (stmts_of xs)) ≡ all_bodies left xs
+bodies-block left ls xs = refl
 
 pub bodies-assign : (left : ℕ) (w : d.WordDraft) (subs : List d.IxDraft) (op : Option Op) (v : d.ValueDraft) → bodies left (d.assign w subs op v) ≡ record { assigns = true; empty = None; loops = None }
 bodies-assign left w subs None v = refl
@@ -100,14 +98,14 @@ pub ruleset body_laws = (bodies-for, bodies-if, bodies-block, bodies-assign)
 pub inside_is : (left : ℕ) (a : Bodies) (xs body : List code.StmtDraft) (i : ℕ) → length xs ≤ i → on_with left a (map stmt (drop i xs)) ≡ on_with left no_bodies (map stmt xs) → xs ≡ body → a ≡ on_with left no_bodies (map stmt body)
 inside_is left a xs body i le kept same = ap (λ l. on_with left a (map stmt l)) (sym (drop_all i xs le)) ∙ kept ∙ ap (λ l. on_with left no_bodies (map stmt l)) same
 
-pub of_for : (left : ℕ) (x : code.StmtDraft) (h : HeadDraft) (body : List code.StmtDraft) → x ≡ s.For h body → under_for left h.at (on_with (left - 1) no_bodies (map stmt body)) ≡ bodies left (stmt x)
+pub of_for : (left : ℕ) (x : code.StmtDraft) (h : HeadDraft) (body : List code.StmtDraft) → x ≡ s.For h body → under_for left h.at (all_bodies (left - 1) (map stmt body)) ≡ bodies left (stmt x)
 of_for left x h body is = sym (bodies-for left (head h) (map stmt body)) ∙ ap (bodies left) (sym (stmt-For h body)) ∙ ap (λ y. bodies left (stmt y)) (sym is)
 
-pub of_if : (left : ℕ) (x : code.StmtDraft) (at : ℕ) (conds : List CompareDraft) (body : List code.StmtDraft) → x ≡ s.If at conds body → under_if at (on_with left no_bodies (map stmt body)) ≡ bodies left (stmt x)
+pub of_if : (left : ℕ) (x : code.StmtDraft) (at : ℕ) (conds : List CompareDraft) (body : List code.StmtDraft) → x ≡ s.If at conds body → under_if at (all_bodies left (map stmt body)) ≡ bodies left (stmt x)
 of_if left x at conds body is = sym (bodies-if left at (map compare conds) (map stmt body)) ∙ ap (bodies left) (sym (stmt-If at conds body)) ∙ ap (λ y. bodies left (stmt y)) (sym is)
 
-pub of_block : (left : ℕ) (x : code.StmtDraft) (locals : List LocalDraft) (body : List code.StmtDraft) → x ≡ s.Block locals body → on_with left no_bodies (map stmt body) ≡ bodies left (stmt x)
+pub of_block : (left : ℕ) (x : code.StmtDraft) (locals : List LocalDraft) (body : List code.StmtDraft) → x ≡ s.Block locals body → all_bodies left (map stmt body) ≡ bodies left (stmt x)
 of_block left x locals body is = sym (bodies-block left (map local locals) (map stmt body)) ∙ ap (bodies left) (sym (stmt-Block locals body)) ∙ ap (λ y. bodies left (stmt y)) (sym is)
 
-pub of_all : (left : ℕ) (xs : List d.StmtDraft) → on_with left no_bodies xs ≡ of_stmts left (stmts_of xs)
+pub of_all : (left : ℕ) (xs : List d.StmtDraft) → on_with left no_bodies xs ≡ all_bodies left xs
 of_all left xs = of_after left d.no_stmts xs

@@ -16,7 +16,7 @@ use Rattle.affc_draft.proofs.Outs.{stmt-For, stmt-If, stmt-Block}
 use Rattle.affc_draft.specs.Drafts.{stmts_of, stmts_after, stmt, ix, compare, local, value}
 use Rattle.affc_limits.specs.declared.texts.Rule.{Rule}
 use Rattle.affc_limits.specs.declared.texts.Rule.TheVariants.{Products, Literals, Coefficients}
-use Rattle.affc_limits.specs.Texts.{places_in, place_of, pick, found, with_found, step}
+use Rattle.affc_limits.specs.Texts.{places_in, place_by, pick, found, with_found, step}
 use Rattle.affc_limits.proofs.PlaceLaws.{first-both, least-both, first_assoc, lesser_assoc, lesser-again}
 
 pub found-append : (rule : Rule) (xs ys : List d.IxDraft) → found rule (xs ++ ys) ≡ pick rule (found rule xs) (found rule ys)
@@ -29,8 +29,8 @@ found-nil Products = refl
 found-nil (Literals limit) = refl
 found-nil (Coefficients alloc) = refl
 
-pub found-one : (rule : Rule) (x : d.IxDraft) → found rule (x ∷ []) ≡ place_of rule (places_in rule x)
-found-one rule x = ap (place_of rule) (append-nil (places_in rule x))
+pub found-one : (rule : Rule) (x : d.IxDraft) → found rule (x ∷ []) ≡ place_by rule (places_in rule x)
+found-one rule x = ap (place_by rule) (append-nil (places_in rule x))
 
 pick_assoc : (rule : Rule) (a b c : Option ℕ) → pick rule a (pick rule b c) ≡ pick rule (pick rule a b) c
 pick_assoc Products a b c = first_assoc a b c
@@ -70,7 +70,7 @@ with-none Products xs = refl
 with-none (Literals limit) xs = refl
 with-none (Coefficients alloc) xs = refl
 
-pub with-one : (rule : Rule) (a : Option ℕ) (x : d.IxDraft) → with_found rule a (x ∷ []) ≡ pick rule a (place_of rule (places_in rule x))
+pub with-one : (rule : Rule) (a : Option ℕ) (x : d.IxDraft) → with_found rule a (x ∷ []) ≡ pick rule a (place_by rule (places_in rule x))
 with-one rule a x = ap (pick rule a) (found-one rule x)
 
 pub with-pair : (rule : Rule) (a : Option ℕ) (x y : d.IxDraft) → with_found rule a (x ∷ y ∷ []) ≡ with_found rule (with_found rule a (x ∷ [])) (y ∷ [])
@@ -108,26 +108,23 @@ texts_of xs = texts_after d.no_stmts xs
 -- ---- Statements
 
 pub of_for : (rule : Rule) (a : Option ℕ) (x : code.StmtDraft) (h : HeadDraft) (body : List code.StmtDraft) → x ≡ s.For h body
-    → with_found rule (with_found rule a (ix h.low ∷ ix h.high ∷ [])) (flat_map stmt_texts (map stmt body)) ≡ with_found rule a (stmt_texts (stmt x))
+    → with_found rule (with_found rule a (ix h.low ∷ ix h.high ∷ [])) (stmts_texts (stmts_of (map stmt body))) ≡ with_found rule a (stmt_texts (stmt x))
 of_for rule a x h body is =
-    sym (with-append rule a (ix h.low ∷ ix h.high ∷ []) (flat_map stmt_texts (map stmt body)))
-    ∙ ap (λ l. with_found rule a (ix h.low ∷ ix h.high ∷ l)) (sym (texts_of (map stmt body)))
+    sym (with-append rule a (ix h.low ∷ ix h.high ∷ []) (stmts_texts (stmts_of (map stmt body))))
     ∙ ap (λ y. with_found rule a (stmt_texts y)) (sym (stmt-For h body))
     ∙ ap (λ y. with_found rule a (stmt_texts (stmt y))) (sym is)
 
 pub of_if : (rule : Rule) (a : Option ℕ) (x : code.StmtDraft) (at : ℕ) (conds : List CompareDraft) (body : List code.StmtDraft) → x ≡ s.If at conds body
-    → with_found rule (with_found rule a (flat_map sides (map compare conds))) (flat_map stmt_texts (map stmt body)) ≡ with_found rule a (stmt_texts (stmt x))
+    → with_found rule (with_found rule a (flat_map sides (map compare conds))) (stmts_texts (stmts_of (map stmt body))) ≡ with_found rule a (stmt_texts (stmt x))
 of_if rule a x at conds body is =
-    sym (with-append rule a (flat_map sides (map compare conds)) (flat_map stmt_texts (map stmt body)))
-    ∙ ap (λ l. with_found rule a (flat_map sides (map compare conds) ++ l)) (sym (texts_of (map stmt body)))
+    sym (with-append rule a (flat_map sides (map compare conds)) (stmts_texts (stmts_of (map stmt body))))
     ∙ ap (λ y. with_found rule a (stmt_texts y)) (sym (stmt-If at conds body))
     ∙ ap (λ y. with_found rule a (stmt_texts (stmt y))) (sym is)
 
 pub of_block : (rule : Rule) (a : Option ℕ) (x : code.StmtDraft) (locals : List LocalDraft) (body : List code.StmtDraft) → x ≡ s.Block locals body
-    → with_found rule (with_found rule a (map (λ l. l.value) (map local locals))) (flat_map stmt_texts (map stmt body)) ≡ with_found rule a (stmt_texts (stmt x))
+    → with_found rule (with_found rule a (map (λ l. l.value) (map local locals))) (stmts_texts (stmts_of (map stmt body))) ≡ with_found rule a (stmt_texts (stmt x))
 of_block rule a x locals body is =
-    sym (with-append rule a (map (λ l. l.value) (map local locals)) (flat_map stmt_texts (map stmt body)))
-    ∙ ap (λ l. with_found rule a (map (λ l. l.value) (map local locals) ++ l)) (sym (texts_of (map stmt body)))
+    sym (with-append rule a (map (λ l. l.value) (map local locals)) (stmts_texts (stmts_of (map stmt body))))
     ∙ ap (λ y. with_found rule a (stmt_texts y)) (sym (stmt-Block locals body))
     ∙ ap (λ y. with_found rule a (stmt_texts (stmt y))) (sym is)
 

@@ -11,10 +11,10 @@ places_in Products e = products_in e
 places_in (Literals limit) e = literals_past limit e
 places_in (Coefficients alloc) e = large_parts e
 
-abbrev pub place_of : Rule → List ℕ → Option ℕ
-place_of Products ns = first ns
-place_of (Literals limit) ns = least ns
-place_of (Coefficients alloc) ns = least ns
+abbrev pub place_by : Rule → List ℕ → Option ℕ
+place_by Products ns = first ns
+place_by (Literals limit) ns = least ns
+place_by (Coefficients alloc) ns = least ns
 
 -- of two places, the first of which was found before
 abbrev pub pick : Rule → Option ℕ → Option ℕ → Option ℕ
@@ -24,7 +24,7 @@ pick (Coefficients alloc) a b = lesser a b
 
 -- what is found in expressions
 abbrev pub found : Rule → List d.IxDraft → Option ℕ
-found rule es = place_of rule (flat_map (places_in rule) es)
+found rule es = place_by rule (flat_map (places_in rule) es)
 
 -- what is found in expressions, with what was found before
 abbrev pub with_found : Rule → (before : Option ℕ) → List d.IxDraft → Option ℕ

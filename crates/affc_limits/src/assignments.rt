@@ -40,14 +40,12 @@ fn room_behind(room: usize, v: &ValueDraft) -> usize
     loop {
         match here {
             ValueDraft::Load { .. } => return room.saturating_sub(1),
-            ValueDraft::Constant(_) => return room,
-            ValueDraft::Cast(_) => return room,
-            ValueDraft::Complement(of) => here = of.get(),
+            ValueDraft::Constant(_) | ValueDraft::Cast(_) => return room,
+            ValueDraft::Complement(of) | ValueDraft::Shift { of, .. } => here = of.get(),
             ValueDraft::Binary { left, right, .. } => {
                 room = room_behind(room, right.get());
                 here = left.get();
             }
-            ValueDraft::Shift { of, .. } => here = of.get(),
         }
     }
 }
@@ -62,24 +60,15 @@ fn is_crowded(op: &Option<Op>, v: &ValueDraft) -> bool
 }
 
 /// With the assignments of a statement, where so many comparisons stand round it.
+#[cycle(statements)]
 fn with_stmt(tally: Tally, comparisons: usize, s: &StmtDraft) -> Tally
     ensures { result ≡ fold count_one tally (assigned_in comparisons (stmt s.now)) }
 {
     match s {
-        StmtDraft::For { body, .. } => {
-            let mut counted = tally;
-            for first in body.as_slice() {
-                counted = with_stmt(counted, comparisons, first);
-            }
-            counted
-        }
+        StmtDraft::For { body, .. } => with_stmts(tally, comparisons, body.as_slice()),
         StmtDraft::If { conds, body, .. } => {
             let round = comparisons.saturating_add(conds.len());
-            let mut counted = tally;
-            for second in body.as_slice() {
-                counted = with_stmt(counted, round, second);
-            }
-            counted
+            with_stmts(tally, round, body.as_slice())
         }
         StmtDraft::Assign {
             array,
@@ -87,26 +76,29 @@ fn with_stmt(tally: Tally, comparisons: usize, s: &StmtDraft) -> Tally
             value,
             ..
         } => with_one(tally, array.at, is_crowded(op, value), 32 < comparisons),
-        StmtDraft::Block { body, .. } => {
-            let mut counted = tally;
-            for third in body.as_slice() {
-                counted = with_stmt(counted, comparisons, third);
-            }
-            counted
-        }
+        StmtDraft::Block { body, .. } => with_stmts(tally, comparisons, body.as_slice()),
     }
+}
+
+/// With the assignments of statements, one after another.
+#[cycle(statements)]
+fn with_stmts(tally: Tally, comparisons: usize, body: &[StmtDraft]) -> Tally
+    ensures { result ≡ fold count_one tally (assigned comparisons (stmts_of (map stmt body.now))) }
+{
+    let mut counted = tally;
+    for item in body {
+        counted = with_stmt(counted, comparisons, item);
+    }
+    counted
 }
 
 pub(crate) fn tally_of(body: &[StmtDraft]) -> Tally
     ensures { result ≡ fold count_one no_tally (assigned 0 (stmts_of (map stmt body.now))) }
 {
-    let mut counted = Tally {
+    let none = Tally {
         statements: Rest::of(64),
         accesses: None,
         comparisons: None,
     };
-    for item in body {
-        counted = with_stmt(counted, 0, item);
-    }
-    counted
+    with_stmts(none, 0, body)
 }

@@ -64,24 +64,18 @@ fn under_for(left: usize, at: usize, inside: Bodies) -> Bodies
 }
 
 /// What the rules on bodies ask of a statement, where `left` loops more may stand round an assignment.
+#[cycle(statements)]
 #[tactic(auto, using(affc_draft::proofs::Outs::stmt_outs, crate::proofs::BodyLaws::body_laws))]
 fn bodies_of(left: usize, s: &StmtDraft) -> Bodies
     ensures { result ≡ spec.bodies left (stmt s.now) }
 {
     match s {
         StmtDraft::For { head, body } => {
-            let fewer = left.saturating_sub(1);
-            let mut inside = none();
-            for first in body.as_slice() {
-                inside = both(inside, bodies_of(fewer, first));
-            }
+            let inside = bodies_of_all(left.saturating_sub(1), body.as_slice());
             under_for(left, head.at, inside)
         }
         StmtDraft::If { at, body, .. } => {
-            let mut inside = none();
-            for second in body.as_slice() {
-                inside = both(inside, bodies_of(left, second));
-            }
+            let inside = bodies_of_all(left, body.as_slice());
             under_if(*at, inside)
         }
         StmtDraft::Assign { .. } => Bodies {
@@ -89,16 +83,12 @@ fn bodies_of(left: usize, s: &StmtDraft) -> Bodies
             empty: None,
             loops: None,
         },
-        StmtDraft::Block { body, .. } => {
-            let mut inside = none();
-            for third in body.as_slice() {
-                inside = both(inside, bodies_of(left, third));
-            }
-            inside
-        }
+        StmtDraft::Block { body, .. } => bodies_of_all(left, body.as_slice()),
     }
 }
 
+/// What they ask of statements, one after another.
+#[cycle(statements)]
 pub(crate) fn bodies_of_all(left: usize, body: &[StmtDraft]) -> Bodies
     ensures { result ≡ spec.all_bodies left (map stmt body.now) }
 {

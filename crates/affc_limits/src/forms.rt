@@ -153,21 +153,11 @@ pub(crate) fn literal_past(limit: u64, e: &IxDraft) -> Option<usize>
                 return lesser(place_if(limit < *value, *at), behind);
             }
             IxDraft::Name { .. } => return behind,
-            IxDraft::Negated { of, .. } => here = of.get(),
-            IxDraft::Sum(left, right) => {
-                behind = lesser(literal_past(limit, right.get()), behind);
-                here = left.get();
-            }
-            IxDraft::Difference(left, right) => {
-                behind = lesser(literal_past(limit, right.get()), behind);
-                here = left.get();
-            }
-            IxDraft::Product { left, right, .. } => {
-                behind = lesser(literal_past(limit, right.get()), behind);
-                here = left.get();
-            }
-            IxDraft::Grouped { inside, .. } => here = inside.get(),
-            IxDraft::Chosen { left, right, .. } => {
+            IxDraft::Negated { of, .. } | IxDraft::Grouped { inside: of, .. } => here = of.get(),
+            IxDraft::Sum(left, right)
+            | IxDraft::Difference(left, right)
+            | IxDraft::Product { left, right, .. }
+            | IxDraft::Chosen { left, right, .. } => {
                 behind = lesser(literal_past(limit, right.get()), behind);
                 here = left.get();
             }

@@ -72,13 +72,13 @@ fn size(e: &IxDraft) -> Option<u64>
     match e {
         IxDraft::Literal { value, .. } => small(*value),
         IxDraft::Name { .. } => Some(1),
-        IxDraft::Negated { of, .. } => size(of.get()),
-        IxDraft::Sum(a, b) => size_of_sum(size(a.get()), size(b.get())),
-        IxDraft::Difference(a, b) => size_of_sum(size(a.get()), size(b.get())),
+        IxDraft::Negated { of, .. } | IxDraft::Grouped { inside: of, .. } => size(of.get()),
+        IxDraft::Sum(a, b) | IxDraft::Difference(a, b) => {
+            size_of_sum(size(a.get()), size(b.get()))
+        }
         IxDraft::Product { left, right, .. } => {
             size_of_product(size(left.get()), size(right.get()))
         }
-        IxDraft::Grouped { inside, .. } => size(inside.get()),
         IxDraft::Chosen { left, right, .. } => size_of_choice(size(left.get()), size(right.get())),
         IxDraft::Divided { of, .. } => size_of_choice(size(of.get()), Some(0)),
     }
@@ -230,22 +230,21 @@ fn least_token(e: &IxDraft) -> usize
     ensures { result ≡ spec.least_token (ix e.now) }
 {
     match e {
-        IxDraft::Literal { at, .. } => *at,
-        IxDraft::Name { at, .. } => *at,
-        IxDraft::Negated { at, of } => (*at).min(least_token(of.get())),
-        IxDraft::Sum(a, b) => least_token(a.get()).min(least_token(b.get())),
-        IxDraft::Difference(a, b) => least_token(a.get()).min(least_token(b.get())),
-        IxDraft::Product { left, right, .. } => {
+        IxDraft::Literal { at, .. } | IxDraft::Name { at, .. } => *at,
+        IxDraft::Negated { at, of }
+        | IxDraft::Grouped { at, inside: of }
+        | IxDraft::Divided { at, of, .. } => (*at).min(least_token(of.get())),
+        IxDraft::Sum(left, right)
+        | IxDraft::Difference(left, right)
+        | IxDraft::Product { left, right, .. } => {
             least_token(left.get()).min(least_token(right.get()))
         }
-        IxDraft::Grouped { at, inside } => (*at).min(least_token(inside.get())),
         IxDraft::Chosen {
             at,
             left,
             right,
             ..
         } => (*at).min(least_token(left.get()).min(least_token(right.get()))),
-        IxDraft::Divided { at, of, .. } => (*at).min(least_token(of.get())),
     }
 }
 

@@ -2,6 +2,7 @@
 
 ghost use Rattle.std.specs.Prelude.{◌≡◌, ◌+◌, ◌<◌, ◌^◌, ◌-◌, MatchOption, map, None, Some};
 ghost use Rattle.std.specs.Option.{option_map};
+ghost use Rattle.affc_lex.specs.Lexes.{is_line_end};
 ghost use Rattle.affc_grammar.specs.Limits as spec;
 ghost use Rattle.affc_grammar.specs.Limits.{limits_of, least, shape_passed};
 ghost use Rattle.affc_draft.specs.Symbols.{seen, passed_seen};
@@ -56,7 +57,7 @@ fn is_closing(symbol: &Symbol<'_>) -> bool
 }
 
 fn is_line_end(kind: Kind) -> bool
-    ensures { result ≡ spec.is_line_end kind }
+    ensures { result ≡ is_line_end kind }
 {
     matches!(kind, Kind::LineEnd)
 }

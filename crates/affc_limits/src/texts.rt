@@ -73,8 +73,7 @@ fn pick(rule: Rule, a: Option<usize>, b: Option<usize>) -> Option<usize>
 {
     match rule {
         Rule::Products => first_of(a, b),
-        Rule::Literals(_) => lesser(a, b),
-        Rule::Coefficients(_) => lesser(a, b),
+        Rule::Literals(_) | Rule::Coefficients(_) => lesser(a, b),
     }
 }
 
@@ -97,13 +96,12 @@ fn in_value(rule: Rule, before: Option<usize>, v: &ValueDraft) -> Result<Option<
                 let found = in_one(rule, before, a)?;
                 return Ok(pick(rule, found, behind));
             }
-            ValueDraft::Complement(of) => here = of.get(),
+            ValueDraft::Complement(of) | ValueDraft::Shift { of, .. } => here = of.get(),
             ValueDraft::Binary { left, right, .. } => {
                 let found = in_value(rule, before, right.get())?;
                 behind = pick(rule, found, behind);
                 here = left.get();
             }
-            ValueDraft::Shift { of, .. } => here = of.get(),
         }
     }
 }
@@ -138,6 +136,7 @@ fn in_locals(
     Ok(found)
 }
 
+#[cycle(statements)]
 fn in_stmt(rule: Rule, before: Option<usize>, s: &StmtDraft) -> Result<Option<usize>, AllocError>
     ensures found { IfOk result (λ p. p ≡ spec.with_found rule before (stmt_texts (stmt s.now))) }
     ensures sure { IsTrue (takes_none rule) → IsOk result }
@@ -145,36 +144,24 @@ fn in_stmt(rule: Rule, before: Option<usize>, s: &StmtDraft) -> Result<Option<us
     match s {
         StmtDraft::For { head, body } => {
             let bounds = in_pair(rule, before, &head.low, &head.high)?;
-            let mut inside = bounds;
-            for first in body.as_slice() {
-                inside = in_stmt(rule, inside, first)?;
-            }
-            Ok(inside)
+            in_stmts(rule, bounds, body.as_slice())
         }
         StmtDraft::If { conds, body, .. } => {
             let tests = in_conds(rule, before, conds.as_slice())?;
-            let mut inside = tests;
-            for second in body.as_slice() {
-                inside = in_stmt(rule, inside, second)?;
-            }
-            Ok(inside)
+            in_stmts(rule, tests, body.as_slice())
         }
         StmtDraft::Assign { subs, value, .. } => {
             let stored = in_each(rule, before, subs.as_slice())?;
-            let loaded = in_value(rule, stored, value)?;
-            Ok(loaded)
+            in_value(rule, stored, value)
         }
         StmtDraft::Block { locals, body } => {
             let values = in_locals(rule, before, locals.as_slice())?;
-            let mut inside = values;
-            for third in body.as_slice() {
-                inside = in_stmt(rule, inside, third)?;
-            }
-            Ok(inside)
+            in_stmts(rule, values, body.as_slice())
         }
     }
 }
 
+#[cycle(statements)]
 fn in_stmts(
     rule: Rule,
     before: Option<usize>,

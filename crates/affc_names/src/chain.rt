@@ -52,12 +52,12 @@ fn last_step(draft: &IxDraft) -> Option<(&IxDraft, IxStep<'_>)>
             let right = right.get();
             Some((left.get(), IxStep { join, right }))
         }
-        IxDraft::Literal { .. } => None,
-        IxDraft::Name { .. } => None,
-        IxDraft::Negated { .. } => None,
-        IxDraft::Grouped { .. } => None,
-        IxDraft::Chosen { .. } => None,
-        IxDraft::Divided { .. } => None,
+        IxDraft::Literal { .. }
+        | IxDraft::Name { .. }
+        | IxDraft::Negated { .. }
+        | IxDraft::Grouped { .. }
+        | IxDraft::Chosen { .. }
+        | IxDraft::Divided { .. } => None,
     }
 }
 
@@ -108,9 +108,7 @@ fn last_value_step(draft: &ValueDraft) -> Option<(&ValueDraft, ValueStep<'_>)>
             let right = right.get();
             Some((left.get(), ValueStep::Binary { op: *op, right }))
         }
-        ValueDraft::Load { .. } => None,
-        ValueDraft::Constant(_) => None,
-        ValueDraft::Cast(_) => None,
+        ValueDraft::Load { .. } | ValueDraft::Constant(_) | ValueDraft::Cast(_) => None,
     }
 }
 

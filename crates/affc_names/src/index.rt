@@ -133,9 +133,7 @@ fn operand_tree(alloc: Global, scope: &Scope, draft: &IxDraft) -> Result<Ix, Nam
             let a = ix_tree(alloc, scope, of.get())?;
             Ok(divided(alloc, *rounding, a, *by)?)
         }
-        IxDraft::Sum(..) => unreachable!(),
-        IxDraft::Difference(..) => unreachable!(),
-        IxDraft::Product { .. } => unreachable!(),
+        IxDraft::Sum(..) | IxDraft::Difference(..) | IxDraft::Product { .. } => unreachable!(),
     }
 }
 

@@ -101,9 +101,9 @@ fn operand_tree(alloc: Global, scope: &Scope, draft: &ValueDraft) -> Result<Val,
             let inside = ix_tree(alloc, scope, inside)?;
             Ok(Val::Cast(inside))
         }
-        ValueDraft::Complement(_) => unreachable!(),
-        ValueDraft::Binary { .. } => unreachable!(),
-        ValueDraft::Shift { .. } => unreachable!(),
+        ValueDraft::Complement(_) | ValueDraft::Binary { .. } | ValueDraft::Shift { .. } => {
+            unreachable!()
+        }
     }
 }
 

@@ -7,7 +7,7 @@ use Rattle.std.proofs.lemmas.Bool.Decides.{nat_tests}
 use Rattle.affc_lex.specs.Bytes.{same}
 use Rattle.affc_ast.specs.declared.tree.Compare.{Compare}
 use Rattle.affc_grammar.specs.Grammar as g
-use Rattle.affc_grammar.specs.Grammar.{Name, Symbol, is_word, is_mark, IxText, TermText, FactorText, AtomText, CondsText, CondText, PragmasText, ix_symbols, term_symbols, factor_symbols, atom_symbols, conds_symbols, cond_symbols, has_call, context_calls}
+use Rattle.affc_grammar.specs.Grammar.{Name, Symbol, is_word_kind, is_mark_kind, IxText, TermText, FactorText, AtomText, CondsText, CondText, PragmasText, ix_symbols, term_symbols, factor_symbols, atom_symbols, conds_symbols, cond_symbols, has_call, context_calls}
 use Rattle.affc_grammar.specs.Draft.{PragmaDraft, range, context, ix_draft, term_draft, factor_draft, atom_draft, conds_draft, cond_draft, pragmas_draft}
 use Rattle.affc_grammar.specs.Names.{Scope, each, why_ranged, thing_of, compare_tree, pragmas_tree}
 use Rattle.affc_grammar.specs.Limits.{at_if, sides, pragma_texts, contexts_past}
@@ -23,12 +23,12 @@ call_left : (xs ys : List Symbol) → has_call (xs ++ ys) ≡ false → has_call
 call_left [] ys h = refl
 call_left (x ∷ []) ys h = refl
 call_left (x ∷ y ∷ xs) ys h =
-    let p = neither (is_word x.kind && is_mark y.kind && same y.bytes (codes "(")) (has_call (y ∷ (xs ++ ys))) h in
+    let p = neither (is_word_kind x.kind && is_mark_kind y.kind && same y.bytes (codes "(")) (has_call (y ∷ (xs ++ ys))) h in
     ap (λ t. t || has_call (y ∷ xs)) p.0 ∙ call_left (y ∷ xs) ys p.1
 
 call_tail : (x : Symbol) (ys : List Symbol) → has_call (x ∷ ys) ≡ false → has_call ys ≡ false
 call_tail x [] h = refl
-call_tail x (y ∷ ys) h = (neither (is_word x.kind && is_mark y.kind && same y.bytes (codes "(")) (has_call (y ∷ ys)) h).1
+call_tail x (y ∷ ys) h = (neither (is_word_kind x.kind && is_mark_kind y.kind && same y.bytes (codes "(")) (has_call (y ∷ ys)) h).1
 
 call_right : (xs ys : List Symbol) → has_call (xs ++ ys) ≡ false → has_call ys ≡ false
 call_right [] ys h = h

@@ -6,7 +6,7 @@ use Rattle.affc_ast.specs.declared.tree.Op.{Op}
 use Rattle.affc_lex.specs.Bytes.{same, decimal}
 use Rattle.affc_lex.specs.Pieces.{leading_digits}
 use Rattle.affc_grammar.specs.Grammar as g
-use Rattle.affc_grammar.specs.Grammar.{Symbol, Name, Digits, ValueText, is_mark, is_shift, level_of, mark, op_mark, shift_mark, ix_symbols, dims_symbols, value_symbols}
+use Rattle.affc_grammar.specs.Grammar.{Symbol, Name, Digits, ValueText, is_mark_kind, is_shift, level_of, mark, op_mark, shift_mark, ix_symbols, dims_symbols, value_symbols}
 use Rattle.affc_grammar.specs.Draft.{IxDraft, ValueDraft, load, constant, cast, complement, binary, shift, ix_draft, dims_draft, value_draft}
 use Rattle.affc_grammar.specs.Reader.{At, Reader, give, fail, deep, after, on, all}
 use Rattle.affc_grammar.specs.Reading as r
@@ -58,7 +58,7 @@ only_turned n None = refl
 only_turned n (Some op) = ap (λ b. if b then Some op else None) (sym (holding_some (level_of op == suc n))) ∙ op_of_proof n op (r.holding (level_of op == suc n))
 
 op_turned : (n : ℕ) (x : Symbol) → op_at (suc n) x ≡ option_map (λ (p : Operation n). p.0) (op_of n x)
-op_turned n x = by_kind (is_mark x.kind)
+op_turned n x = by_kind (is_mark_kind x.kind)
   where
     by_kind : (b : Bool) → (if b then only_at (suc n) (choose ops x.bytes) else None) ≡ option_map (λ (p : Operation n). p.0) (if b then at_level n (choose ops x.bytes) else None)
     by_kind true = only_turned n (choose ops x.bytes)

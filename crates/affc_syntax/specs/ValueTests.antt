@@ -3,7 +3,7 @@ use Rattle.std.specs.Prelude.{ℕ, ◌==◌, Option, Some, None, if◌then◌els
 use Rattle.affc_ast.specs.declared.tree.Op.{Op}
 use Rattle.affc_lex.specs.Bytes.{decimal}
 use Rattle.affc_lex.specs.Pieces.{leading_digits}
-use Rattle.affc_grammar.specs.Grammar.{Symbol, is_shift, is_mark, level_of}
+use Rattle.affc_grammar.specs.Grammar.{Symbol, is_shift, is_mark_kind, level_of}
 use Rattle.affc_grammar.specs.Reading.{of_kind, is_number_kind, is_value_kind, choose, ops}
 
 abbrev pub constant_value : Symbol → Option ℕ
@@ -19,4 +19,4 @@ only_at n (Some op) = if level_of op == n then Some op else None
 
 -- an operator of level n
 abbrev pub op_at : ℕ → Symbol → Option Op
-op_at n = of_kind is_mark (λ bytes. only_at n (choose ops bytes))
+op_at n = of_kind is_mark_kind (λ bytes. only_at n (choose ops bytes))

@@ -24,7 +24,7 @@ fn same(a: &[u8], b: &str) -> bool
     a == b.as_bytes()
 }
 
-fn is_mark(symbol: &Symbol<'_>, mark: &[u8]) -> bool
+fn is_this_mark(symbol: &Symbol<'_>, mark: &[u8]) -> bool
     ensures { result ≡ is_some (tests.this_mark mark.now (seen symbol.now)) }
 {
     is_mark_kind(symbol.kind) && same(mark, symbol.text)
@@ -52,7 +52,7 @@ pub fn past_mark(mark: &[u8], symbols: &[Symbol<'_>], at: usize) -> Option<usize
 {
     match first(symbols, at) {
         Some(symbol) => {
-            if is_mark(symbol, mark) {
+            if is_this_mark(symbol, mark) {
                 Some(at + 1)
             } else {
                 None

@@ -35,6 +35,10 @@ pub returns-clause-parameter_twice : goal.returns-clause-parameter_twice
 unfolding computing
 returns-clause-parameter_twice c = refl
 
+pub returns-clause-iterator_comes_before_low : goal.returns-clause-iterator_comes_before_low
+unfolding computing
+returns-clause-iterator_comes_before_low c = refl
+
 pub returns-clause-low_comes_before_the_second_word : goal.returns-clause-low_comes_before_the_second_word
 unfolding computing
 returns-clause-low_comes_before_the_second_word c = refl
@@ -42,3 +46,7 @@ returns-clause-low_comes_before_the_second_word c = refl
 pub returns-clause-second_word_comes_before_high : goal.returns-clause-second_word_comes_before_high
 unfolding computing
 returns-clause-second_word_comes_before_high c = refl
+
+pub returns-clause-high_comes_before_the_third_word : goal.returns-clause-high_comes_before_the_third_word
+unfolding computing
+returns-clause-high_comes_before_the_third_word c = refl

@@ -1,7 +1,0 @@
-use Rattle.std.proofs.Common.{◌≡◌, map, drop}
-use Rattle.affc_draft.specs.Drafts.{stmt}
-use Rattle.affc_limits.specs.Bodies.{on_with, no_bodies}
-use Rattle.affc_limits.proofs.bodies.bodies_of_all.Given as goal
-
-abbrev pub invariant-loop-item : goal.invariant-loop-item
-invariant-loop-item l = on_with l.left l.inside (map stmt (drop l.item-index l.body)) ≡ on_with l.left no_bodies (map stmt l.body)

@@ -1,8 +1,0 @@
-use Rattle.std.proofs.Common.{◌≡◌, map, drop, fold}
-use Rattle.affc_grammar.specs.Limits.{stmt_texts}
-use Rattle.affc_draft.specs.Drafts.{stmt}
-use Rattle.affc_limits.specs.Texts.{step}
-use Rattle.affc_limits.proofs.texts.in_stmts.Given as goal
-
-abbrev pub invariant-loop-item : goal.invariant-loop-item
-invariant-loop-item l = fold (step l.rule stmt_texts) l.found (map stmt (drop l.item-index l.items)) ≡ fold (step l.rule stmt_texts) l.fn.before (map stmt l.items)
