@@ -1,7 +1,14 @@
 -- What the definitions give at small boxes. Each value was found by hand from the rules.
-use Rattle.std.specs.Prelude.{◌≡◌, [], ◌∷◌, pos, negsuc}
+use Rattle.std.specs.Prelude.{◌≡◌, List, [], ◌∷◌, ℤ, pos, negsuc, Box}
+use Rattle.std.specs.declared.alloc.Global.{Global}
+use Rattle.affc_rows.specs.Forms.{Affine}
 use Rattle.affc_system.specs.Order.{LexLe}
+use Rattle.affc_farkas.specs.declared.proof.Proof.{Proof, Leaf, Cut', Split'}
+use Rattle.affc_leaf.specs.declared.bounds.Bound.{Bound}
 use Rattle.affc_leaf.specs.Points.{points}
+use Rattle.affc_leaf.specs.Boxed.{SplitsAtZero, IsLeafProof}
+use Rattle.affc_leaf.specs.Cuts.{IsDivided}
+use Rattle.affc_leaf.specs.BoxCuts.{without, behind, sum_with}
 
 -- 0 to 9 are ten numbers, -2 to 2 five
 abbrev pub TenTimesFivePoints : Type 0
@@ -10,3 +17,52 @@ TenTimesFivePoints = points ((pos 0, pos 9) ∷ (negsuc 1, pos 2) ∷ []) ≡ 50
 -- (1, 9) is before (2, 0)
 abbrev pub FirstColumnDecides : Type 0
 FirstColumnDecides = LexLe (pos 1 ∷ pos 9 ∷ []) (pos 2 ∷ pos 0 ∷ []) × (LexLe (pos 2 ∷ pos 0 ∷ []) (pos 1 ∷ pos 9 ∷ []) → ⊥)
+
+-- ---- Cuts where x is from 0 to 9 and y from 1 to 3
+
+-- the row a x + b y + c
+abbrev pub plane : ℤ → ℤ → ℤ → Affine
+plane a b c = record { coefs = a ∷ b ∷ []; constant = c }
+
+abbrev pub ten_by_three : List Bound
+ten_by_three = record { low = pos 0; high = pos 9; low_row = 0; high_row = 1 } ∷ record { low = pos 1; high = pos 3; low_row = 2; high_row = 3 } ∷ []
+
+-- x + 2 y - 7 with 2 y at its greatest, 6
+abbrev pub PartIsAtItsGreatest : Type 0
+PartIsAtItsGreatest = without (plane (pos 1) (pos 2) (negsuc 6)) (pos 0 ∷ pos 2 ∷ []) ten_by_three ≡ plane (pos 1) (pos 0) (negsuc 0)
+
+-- x - 3 y + 7 with -y at its greatest, -1
+abbrev pub PartOfAProductIsTaken : Type 0
+PartOfAProductIsTaken = without (plane (pos 1) (negsuc 2) (pos 7)) (pos 0 ∷ negsuc 0 ∷ []) ten_by_three ≡ plane (pos 1) (negsuc 1) (pos 6)
+
+-- 6 x + 3 y - 7 by 3 is 2 x + y - 3, and not 2 x + y - 2
+abbrev pub ConstantIsRoundedDown : Type 0
+ConstantIsRoundedDown =
+    IsDivided (plane (pos 6) (pos 3) (negsuc 6)) (pos 3) (plane (pos 2) (pos 1) (negsuc 2))
+    × (IsDivided (plane (pos 6) (pos 3) (negsuc 6)) (pos 3) (plane (pos 2) (pos 1) (negsuc 1)) → ⊥)
+
+-- rows 0 and 2 behind ten others
+abbrev pub RowsBehindTenOthers : Type 0
+RowsBehindTenOthers = behind 10 ((0, 3) ∷ (2, 5) ∷ []) ≡ (10, 3) ∷ (12, 5) ∷ []
+
+-- once x - y - 3 of the system, and twice 2 - x of the further rows
+abbrev pub SumOfBothLists : Type 0
+SumOfBothLists = sum_with (record { columns = 2; rows = plane (pos 1) (negsuc 0) (negsuc 2) ∷ [] }) (plane (negsuc 0) (pos 0) (pos 2) ∷ []) ((0, 1) ∷ []) ((0, 2) ∷ [])
+    ≡ plane (negsuc 0) (negsuc 0) (pos 1)
+
+-- ---- Proofs (the boxes hold the proofs in them)
+
+-- a split of x + c at 2
+abbrev pub split_of : ℤ → Box (Unit {0}) Global → Proof → Proof → Proof
+split_of c p low high = Split' (plane (pos 1) (pos 0) c) (pos 2) p low p high
+
+abbrev pub cut_before : Box (Unit {0}) Global → Proof → Proof
+cut_before p rest = Cut' [] (pos 2) (plane (pos 1) (pos 0) (pos 0)) p rest
+
+-- x + 1 is split nowhere: not at the root, on neither side, and not behind a cut
+abbrev pub NoSplitOfMoreThanTheColumn : Type 0
+NoSplitOfMoreThanTheColumn = (p : Box (Unit {0}) Global) → let bad : Proof = split_of (pos 1) p (Leaf []) (Leaf []) in
+    (SplitsAtZero bad → ⊥) × (SplitsAtZero (split_of (pos 0) p bad (Leaf [])) → ⊥) × (SplitsAtZero (split_of (pos 0) p (Leaf []) bad) → ⊥) × (SplitsAtZero (cut_before p bad) → ⊥)
+
+abbrev pub OnlyLeavesAreLeaves : Type 0
+OnlyLeavesAreLeaves = (p : Box (Unit {0}) Global) → IsLeafProof (Leaf []) × (IsLeafProof (cut_before p (Leaf [])) → ⊥) × (IsLeafProof (split_of (pos 0) p (Leaf []) (Leaf [])) → ⊥)

@@ -1,4 +1,4 @@
-//! Cuts of rows in a box in which some columns have one value, and leaves below such cuts.
+//! Cuts of sums of rows in a box, and leaves below such cuts.
 ghost use Rattle.std.specs.Prelude.{◌≡◌, ℕ, ℤ, List, ◌+◌, ◌-◌, ◌*◌, ◌^◌, ◌<◌, ◌≤◌, ◌+ℤ◌, ◌*ℤ◌, ◌≤ℤ◌, ◌<ℤ◌, ◌∷◌, ◌++◌, [], pos, replicate, unsigned_abs, IfOk, IfSome, OnOk, OnErr, Err, length};
 ghost use Rattle.std.specs.List.{All};
 ghost use Rattle.affc_rows.specs.Forms.{Affine};
@@ -11,10 +11,11 @@ ghost use Rattle.affc_leaf.specs.Parts.{IsEmpty};
 
 use crate::bounds::Bound;
 use crate::boxed::push_row;
-use crate::cuts::{common_divisor, divided_sum, divisor_in};
+use crate::candidates::{Candidate, candidates_in, remainder_of};
+use crate::cuts::divided_sum;
 use crate::leaves::{
-    add_multiple, constant_with, fits_sum, found_leaf, is_below_zero, leaf_with, put_corners,
-    sum_rows,
+    add_multiple, constant_with, copied, fits_sum, found_leaf, is_below_zero, leaf_with,
+    put_corners, sum_rows,
 };
 use crate::simplex::find_sum;
 use crate::tops::top_products;
@@ -23,9 +24,6 @@ use affc_rows::Form;
 use affc_system::System;
 use affc_system::system::fits_row;
 use std::alloc::{AllocError, Global};
-
-/// The most cuts that are tried in a box.
-const MOST_CUTS: usize = 64;
 
 /// A cut of some rows in a box.
 #[derive(Drop)]
@@ -38,17 +36,21 @@ pub(crate) struct BoxCut {
 /// A leaf's multiples of the system's rows, and of the cuts before it, each of which has its own multiples of rows.
 #[derive(Drop)]
 struct Plan {
-    cuts: Vec<Vec<(u32, u64)>>,
+    cuts: Vec<Candidate>,
     own: Vec<(u32, u64)>,
     over: Vec<(u32, u64)>,
 }
 
-/// The coefficients of the columns that have one value.
-fn fixed_part(alloc: Global, coefs: &[i128], bounds: &[Bound]) -> Result<Vec<i128>, AllocError> {
+/// What a division by `g` leaves of the coefficients: all of those whose columns have one value, and the remainders of the others.
+fn rest_of(
+    alloc: Global,
+    coefs: &[i128],
+    bounds: &[Bound],
+    g: i64,
+) -> Result<Vec<i128>, AllocError> {
     let mut part = Vec::with_capacity(alloc, coefs.len())?;
     for (c, bound) in coefs.iter().zip(bounds.iter()) {
-        let fixed = if bound.low == bound.high { *c } else { 0 };
-        part.push(fixed)?;
+        part.push(remainder_of(*c, *bound, g))?;
     }
     Ok(part)
 }
@@ -74,17 +76,6 @@ fn take_out(sum: &mut [i128], constant: i128, part: &[i128], bounds: &[Bound]) -
     Some(total)
 }
 
-/// Copies pairs.
-fn copied(alloc: Global, pairs: &[(u32, u64)]) -> Result<Vec<(u32, u64)>, AllocError>
-    ensures { IfOk result (λ v. v.items ≡ pairs.now) }
-{
-    let mut copy = Vec::new(alloc);
-    for pair in pairs {
-        copy.push(*pair)?;
-    }
-    Ok(copy)
-}
-
 /// These multiples of rows, and the bounds that make the part greatest. `None` where they break a rule of multipliers.
 fn with_corners(
     alloc: Global,
@@ -102,13 +93,14 @@ fn with_corners(
     Ok(Multipliers::from_pairs(pairs))
 }
 
-/// The cut of these multiples of rows in a box. `None` where nothing is gained by it or a number is too great.
+/// The cut by `g` of these multiples of rows in a box. `None` where a number is too great.
 #[inline(never)]
 fn box_cut(
     alloc: Global,
     system: &System,
     bounds: &[Bound],
     own: &[(u32, u64)],
+    g: i64,
 ) -> Result<Option<BoxCut>, AllocError>
     requires width { length bounds.now ≡ system.now.columns }
     requires ranges { All IsBound bounds.now }
@@ -121,11 +113,10 @@ fn box_cut(
     let Some(first) = sum_rows(system, own, sum) else {
         return Ok(None);
     };
-    let part = fixed_part(alloc, sum, bounds)?;
+    let part = rest_of(alloc, sum, bounds, g)?;
     let Some(constant) = take_out(sum, first, part.as_slice(), bounds) else {
         return Ok(None);
     };
-    let g = divisor_in(sum, constant);
     let Some(row) = divided_sum(alloc, sum, constant, g)? else {
         return Ok(None);
     };
@@ -269,7 +260,8 @@ fn cut_and_leaf(
         );
     }
     let _cuts = cuts.rows();
-    let Some(cut) = box_cut(alloc, system, bounds, plan.cuts[from].as_slice())? else {
+    let planned: &Candidate = &plan.cuts[from];
+    let Some(cut) = box_cut(alloc, system, bounds, planned.own.as_slice(), planned.g)? else {
         return Ok(None);
     };
     push_copy(&mut cuts, &cut)?;
@@ -282,34 +274,11 @@ fn cut_and_leaf(
     }
 }
 
-/// Whether a row gains by being cut in a box.
-fn gains(row: &Form, bounds: &[Bound]) -> bool {
-    let mut common = 0u128;
-    let mut constant = row.constant;
-    for (c, bound) in row.coefs.as_slice().iter().zip(bounds.iter()) {
-        if bound.low < bound.high {
-            common = common_divisor(common, c.unsigned_abs());
-            if common == 1 {
-                return false;
-            }
-        } else {
-            let Some(product) = c.checked_mul(i128::from(bound.low)) else {
-                return false;
-            };
-            let Some(sum) = constant.checked_add(product) else {
-                return false;
-            };
-            constant = sum;
-        }
-    }
-    common > 1 && constant.unsigned_abs().checked_rem(common).unwrap_or(0) != 0
-}
-
-/// The system with the cuts of its rows in a box after its own rows, and for each cut its multiples of rows.
+/// The system with cuts of its rows in a box after its own rows, and what each of them cuts.
 #[derive(Drop)]
 struct Tried {
     extended: System,
-    cuts: Vec<Vec<(u32, u64)>>,
+    cuts: Vec<Candidate>,
 }
 
 /// Adds a row, where it fits.
@@ -320,49 +289,25 @@ fn add_row(system: &mut System, row: Form) -> bool {
     system.push(row).is_ok()
 }
 
-/// Adds the cut of these multiples of rows, where it gains and there is room.
-fn add_cut(
-    alloc: Global,
-    system: &System,
-    bounds: &[Bound],
-    own: Vec<(u32, u64)>,
-    tried: &mut Tried,
-) -> Result<(), AllocError>
+/// The cuts of sums of rows that gain by one in a box. `None` where there is none.
+fn tried_cuts(alloc: Global, system: &System, bounds: &[Bound]) -> Result<Option<Tried>, AllocError>
     requires width { length bounds.now ≡ system.now.columns }
     requires ranges { All IsBound bounds.now }
 {
-    if tried.cuts.len() >= MOST_CUTS {
-        return Ok(());
-    }
-    if let Some(cut) = box_cut(alloc, system, bounds, own.as_slice())? {
-        if add_row(&mut tried.extended, cut.row) {
-            tried.cuts.push(own)?;
-        }
-    }
-    Ok(())
-}
-
-/// The cuts of single rows in a box. `None` where no row gains by one.
-fn single_cuts(
-    alloc: Global,
-    system: &System,
-    bounds: &[Bound],
-) -> Result<Option<Tried>, AllocError>
-    requires width { length bounds.now ≡ system.now.columns }
-    requires ranges { All IsBound bounds.now }
-{
-    if !system.rows().iter().any(|row| gains(row, bounds)) {
+    let candidates = candidates_in(alloc, system, bounds)?;
+    if candidates.is_empty() {
         return Ok(None);
     }
     let mut tried = Tried {
         extended: system.clone()?,
         cuts: Vec::new(alloc),
     };
-    for (number, row) in system.rows().iter().enumerate() {
-        if gains(row, bounds) {
-            let mut own = Vec::new(alloc);
-            own.push((number as u32, 1))?;
-            add_cut(alloc, system, bounds, own, &mut tried)?;
+    for candidate in candidates {
+        let own = candidate.own.as_slice();
+        if let Some(cut) = box_cut(alloc, system, bounds, own, candidate.g)? {
+            if add_row(&mut tried.extended, cut.row) {
+                tried.cuts.push(candidate)?;
+            }
         }
     }
     Ok(Some(tried))
@@ -372,7 +317,7 @@ fn single_cuts(
 fn plan_of(
     alloc: Global,
     rows: usize,
-    cuts: &[Vec<(u32, u64)>],
+    cuts: &[Candidate],
     sum: &[(u32, u64)],
 ) -> Result<Plan, AllocError> {
     let mut plan = Plan {
@@ -384,9 +329,12 @@ fn plan_of(
         match (*row as usize).checked_sub(rows) {
             None => plan.own.push((*row, *times))?,
             Some(place) => {
-                if let (Some(own), Ok(count)) = (cuts.get(place), u32::try_from(plan.cuts.len())) {
+                if let (Some(cut), Ok(count)) = (cuts.get(place), u32::try_from(plan.cuts.len())) {
                     plan.over.push((count, *times))?;
-                    plan.cuts.push(copied(alloc, own.as_slice())?)?;
+                    plan.cuts.push(Candidate {
+                        own: copied(alloc, cut.own.as_slice())?,
+                        g: cut.g,
+                    })?;
                 }
             }
         }
@@ -394,7 +342,7 @@ fn plan_of(
     Ok(plan)
 }
 
-/// Cuts and a leaf below them, where some are found with the cuts of the system's rows in the box.
+/// Cuts and a leaf below them, where some are found with cuts of sums of the system's rows in the box.
 #[inline(never)]
 fn found_cuts(
     alloc: Global,
@@ -406,7 +354,7 @@ fn found_cuts(
     requires ranges { All IsBound bounds.now }
     ensures answer { IfOk result (λ o. IfSome o (λ p. IsEmpty system.now bounds.now next p.value)) }
 {
-    let Some(tried) = single_cuts(alloc, system, bounds)? else {
+    let Some(tried) = tried_cuts(alloc, system, bounds)? else {
         return Ok(None);
     };
     let Some(sum) = find_sum(alloc, &tried.extended, bounds)? else {

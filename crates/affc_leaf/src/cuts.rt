@@ -34,24 +34,19 @@ pub(crate) fn common_divisor(first: u128, second: u128) -> u128 {
     1
 }
 
-/// The common divisor of coefficients, or 0 where nothing is gained by it: it is 1 or divides the constant too.
-pub(crate) fn divisor_in(coefs: &[i128], constant: i128) -> i64 {
+/// The common divisor of a row's coefficients, or 0 where nothing is gained by it: it is 1 or divides the constant too.
+fn divisor_of(row: &Form) -> i64 {
     let mut common = 0u128;
-    for c in coefs {
+    for c in row.coefs.as_slice() {
         common = common_divisor(common, c.unsigned_abs());
         if common == 1 {
             return 0;
         }
     }
-    if common == 0 || constant.unsigned_abs().checked_rem(common).unwrap_or(0) == 0 {
+    if common == 0 || row.constant.unsigned_abs().checked_rem(common).unwrap_or(0) == 0 {
         return 0;
     }
     i64::try_from(common).unwrap_or(0)
-}
-
-/// The common divisor of a row's coefficients, or 0 where nothing is gained by it.
-fn divisor_of(row: &Form) -> i64 {
-    divisor_in(row.coefs.as_slice(), row.constant)
 }
 
 /// Whether some row gains by being divided.

@@ -1,9 +1,24 @@
 //! What the definitions give at small boxes, as laws: `specs/Examples.antt` says each, with values that were found
 //! by hand from the rules.
-ghost use Rattle.affc_leaf.specs.Examples.{TenTimesFivePoints, FirstColumnDecides};
+ghost use Rattle.affc_leaf.specs.Examples.{TenTimesFivePoints, FirstColumnDecides, PartIsAtItsGreatest, PartOfAProductIsTaken, ConstantIsRoundedDown, RowsBehindTenOthers, SumOfBothLists, NoSplitOfMoreThanTheColumn, OnlyLeavesAreLeaves};
 
 /// How many points a box has, and in which order they are.
 pub fn boxes()
     ensures ten_times_five { TenTimesFivePoints }
     ensures first_column_decides { FirstColumnDecides }
+{}
+
+/// What cuts are in a box.
+pub fn cuts()
+    ensures part_is_at_its_greatest { PartIsAtItsGreatest }
+    ensures part_of_a_product_is_taken { PartOfAProductIsTaken }
+    ensures constant_is_rounded_down { ConstantIsRoundedDown }
+    ensures rows_behind_ten_others { RowsBehindTenOthers }
+    ensures sum_of_both_lists { SumOfBothLists }
+{}
+
+/// Which proofs split columns alone, and which are leaves.
+pub fn proofs()
+    ensures no_split_of_more_than_the_column { NoSplitOfMoreThanTheColumn }
+    ensures only_leaves_are_leaves { OnlyLeavesAreLeaves }
 {}

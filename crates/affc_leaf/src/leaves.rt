@@ -39,6 +39,17 @@ pub(crate) fn put_pair(pairs: &mut Vec<(u32, u64)>, row: u32, times: u64) -> Res
     Ok(())
 }
 
+/// Copies pairs.
+pub(crate) fn copied(alloc: Global, pairs: &[(u32, u64)]) -> Result<Vec<(u32, u64)>, AllocError>
+    ensures { IfOk result (λ v. v.items ≡ pairs.now) }
+{
+    let mut copy = Vec::new(alloc);
+    for pair in pairs {
+        copy.push(*pair)?;
+    }
+    Ok(copy)
+}
+
 /// The bound that makes a product greatest, as often as the coefficient says.
 fn corner(c: i128, bound: Bound) -> Option<(u32, u64)>
     requires { unsigned_abs c ≤ 2 ^ 53 }

@@ -4,6 +4,7 @@
 pub mod bounds;
 pub mod box_cuts;
 pub mod boxed;
+mod candidates;
 pub mod cuts;
 pub mod examples;
 pub mod laws;

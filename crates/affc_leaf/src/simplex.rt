@@ -14,7 +14,7 @@ use std::alloc::{AllocError, Global};
 const MOST_PIVOTS: u32 = 400;
 
 /// Whole numbers of one width. `None` where a result doesn't fit.
-trait Number: Copy + Drop {
+pub(crate) trait Number: Copy + Drop {
     fn zero() -> Self;
 
     fn one() -> Self;
@@ -152,7 +152,7 @@ struct Tableau<N> {
 }
 
 /// The number at a place, or 0.
-fn at<N: Number>(cells: &[N], place: usize) -> N {
+pub(crate) fn at<N: Number>(cells: &[N], place: usize) -> N {
     match cells.get(place) {
         Some(cell) => *cell,
         None => N::zero(),
@@ -290,7 +290,7 @@ fn common_divisor<N: Number>(first: N, second: N) -> N {
 }
 
 /// Divides a line by the common divisor of its numbers, up to its sign.
-fn reduce<N: Number>(line: &mut [N]) {
+pub(crate) fn reduce<N: Number>(line: &mut [N]) {
     let mut common = N::zero();
     for cell in line.iter() {
         if common.magnitude() != 1 {

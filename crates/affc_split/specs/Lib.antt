@@ -5,3 +5,4 @@ pub mod Answers
 pub mod Search
 pub mod Openings
 pub mod Searches
+pub mod Examples

@@ -4,6 +4,7 @@
 pub mod budget;
 mod cuts;
 pub mod decision;
+pub mod examples;
 mod parts;
 pub mod search;
 

@@ -1,4 +1,4 @@
-use Rattle.std.proofs.Common.{◌∷◌, ◌++◌, [], subst, ap, IfSome, List}
+use Rattle.std.proofs.Common.{subst, ap, IfSome, List}
 use Rattle.std.specs.List.{All}
 use Rattle.affc_rows.specs.Forms.{Affine}
 use Rattle.affc_system.specs.Systems.{Rows, IsRow}
