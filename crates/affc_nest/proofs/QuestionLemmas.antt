@@ -23,6 +23,7 @@ use Rattle.affc_trace.proofs.Runs.{length_append}
 use Rattle.affc_domain.specs.Accesses as said
 use Rattle.affc_domain.specs.Accesses.{accesses_of}
 use Rattle.affc_domain.specs.Affine.{form_of}
+use Rattle.affc_domain.specs.Arrays.{declared_arrays, extents_at}
 use Rattle.affc_domain.specs.Plain.{is_plain, all_plain, plain_decls, IsPlain}
 use Rattle.affc_domain.specs.Ranges.{number_ranges}
 use Rattle.affc_domain.specs.Rounds.{loops_in}
@@ -36,9 +37,9 @@ use Rattle.affc_nest.specs.declared.nest.Access.{Access}
 use Rattle.affc_nest.specs.declared.nest.ArrayInfo.{ArrayInfo}
 use Rattle.affc_nest.specs.declared.nest.Entry.{Entry}
 use Rattle.affc_nest.specs.declared.nest.Nest.{Nest}
-use Rattle.affc_nest.specs.Nests.{declared_arrays, array_of, access_form, nest_of}
+use Rattle.affc_nest.specs.Nests.{array_of, access_form, nest_of}
 use Rattle.affc_nest.specs.Questions.{with_row, extents_or_none, whole_context, extent_question, extent_questions, extents_of_access, low_question, widened, high_question, questions_of, entry_questions, bound_questions}
-use Rattle.affc_nest.specs.Laws.{HasNest, IsEntry, element_at, extents_at, NamesArrays, StaysWithin, NoneHasAPoint, QuestionsDecide, ExtentPoint, LiesOutside, AccessPoint}
+use Rattle.affc_nest.specs.Laws.{HasNest, IsEntry, element_at, NamesArrays, StaysWithin, NoneHasAPoint, QuestionsDecide, ExtentPoint, LiesOutside, AccessPoint}
 use Rattle.affc_nest.proofs.AccessLemmas.{whole_here, accesses_are_events, extents_are_extents, plain_append}
 use Rattle.affc_nest.proofs.DomainLemmas.{Met, to_all, from_all, met_append, met_both, no_gap_up}
 use Rattle.affc_nest.proofs.EntryLemmas.{SiteOf, site_of, columns_are, entries_stand, points_are_instances, none_where_not_alive}
