@@ -1,0 +1,6 @@
+pub mod OrderLemmas
+pub mod BudgetLemmas
+pub mod ExtentLemmas
+pub mod AccessLemmas
+pub mod AliveLemmas
+pub mod CheckLemmas
