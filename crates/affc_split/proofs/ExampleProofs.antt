@@ -4,7 +4,7 @@ use Rattle.std.proofs.lemmas.Int.{ints}
 use Rattle.std.proofs.lemmas.List.Elements.{All-head, All-tail}
 use Rattle.std.specs.List.{All}
 use Rattle.affc_system.specs.Boxes.{InBox}
-use Rattle.affc_leaf.specs.Points.{LexLe}
+use Rattle.affc_system.specs.Order.{LexLe}
 use Rattle.affc_split.specs.Openings.{IsPart, IsUpTo}
 use Rattle.affc_split.specs.Examples.{range, PartsLieWithin, NoBoxBehindThePoint, NoBoxBehindTheAnswer, AUnitIsOne, ALeafCostsOneUnit}
 
