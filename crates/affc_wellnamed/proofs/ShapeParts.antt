@@ -27,7 +27,7 @@ use Rattle.affc_wellnamed.specs.declared.shape.Binding.TheVariants.{Sum, Product
 use Rattle.affc_wellnamed.specs.declared.shape.IxExtent.{IxExtent}
 use Rattle.affc_wellnamed.specs.declared.shape.ValExtent.{ValExtent}
 use Rattle.affc_wellnamed.specs.Shape as spec
-use Rattle.affc_wellnamed.specs.Shape.{capped, larger, beside, and_tokens, bracketed, placed, joined, called, ix_extent, whole, dims_behind, compare_extent, compares_behind, conds_extent, at_level, val_extent}
+use Rattle.affc_wellnamed.specs.Shape.{saturated, larger, beside, and_tokens, bracketed, placed, joined, called, ix_extent, whole, dims_behind, compare_extent, compares_behind, conds_extent, at_level, val_extent}
 use Rattle.affc_cprint.proofs.Nodes.{neg_here, add_here, sub_here, mul_here, min_here, max_here, mod_here, floord_here, ceild_here}
 use Rattle.affc_cprint.proofs.ReadBackValues.{not_here, bin_here, shift_here}
 use Rattle.affc_wellnamed.proofs.Induction.{IxCases, every_ix, ValCases, every_val}
@@ -39,11 +39,11 @@ pub record Spans (ss : List Symbol) (e : Extent) : Type 0 where
   pub count : ℕ
   pub deep : ℕ
   pub row : Row count deep ss
-  pub tokens : e.tokens ≡ capped count
-  pub depth : e.depth ≡ capped deep
+  pub tokens : e.tokens ≡ saturated count
+  pub depth : e.depth ≡ saturated deep
 
-capped_plus : (a b : ℕ) → capped (a + b) ≡ capped (capped a + capped b)
-capped_plus a b = omega arith
+saturated_plus : (a b : ℕ) → saturated (a + b) ≡ saturated (saturated a + saturated b)
+saturated_plus a b = omega arith
 
 pub larger_is : (a b : ℕ) → larger a b ≡ max a b
 larger_is a b = of (nat_lt a b) refl
@@ -52,8 +52,8 @@ larger_is a b = of (nat_lt a b) refl
     of true e = let h = ltb-true a b e in omega (arith, h)
     of false e = let h = not_below a b e in omega (arith, h)
 
-capped_max : (a b : ℕ) → capped (max a b) ≡ max (capped a) (capped b)
-capped_max a b = omega arith
+saturated_max : (a b : ℕ) → saturated (max a b) ≡ max (saturated a) (saturated b)
+saturated_max a b = omega arith
 
 pub spans_both : (xs ys : List Symbol) (a b : Extent) → Spans xs a → Spans ys b → Spans (xs ++ ys) (beside a b)
 spans_both xs ys a b p q =
@@ -62,8 +62,8 @@ spans_both xs ys a b p q =
       count = p.count + q.count;
       deep = max p.deep q.deep;
       row = row_both p.count q.count p.deep q.deep xs ys p.row q.row;
-      tokens = ap (λ n. capped (n + b.tokens)) t ∙ ap (λ n. capped (capped p.count + n)) u ∙ sym (capped_plus p.count q.count);
-      depth = larger_is a.depth b.depth ∙ ap (λ n. max n b.depth) v ∙ ap (λ n. max (capped p.deep) n) w ∙ sym (capped_max p.deep q.deep);
+      tokens = ap (λ n. saturated (n + b.tokens)) t ∙ ap (λ n. saturated (saturated p.count + n)) u ∙ sym (saturated_plus p.count q.count);
+      depth = larger_is a.depth b.depth ∙ ap (λ n. max n b.depth) v ∙ ap (λ n. max (saturated p.deep) n) w ∙ sym (saturated_max p.deep q.deep);
     }
 
 pub spans_brackets : (first last : Symbol) (ss : List Symbol) (a : Extent) → AreBrackets first last → Spans ss a → Spans (first ∷ (ss ++ last ∷ [])) (bracketed a)
@@ -100,7 +100,7 @@ spans_joined s xs ys a b p q r =
       deep = max q.deep r.deep;
       row = row_both q.count (1 + r.count) q.deep r.deep xs (s ∷ ys) q.row (row_more r.count r.deep s ys p r.row);
       tokens = omega (arith, t, u);
-      depth = larger_is a.depth b.depth ∙ ap (λ n. max n b.depth) v ∙ ap (λ n. max (capped q.deep) n) w ∙ sym (capped_max q.deep r.deep);
+      depth = larger_is a.depth b.depth ∙ ap (λ n. max n b.depth) v ∙ ap (λ n. max (saturated q.deep) n) w ∙ sym (saturated_max q.deep r.deep);
     }
 
 -- ---- Tokens

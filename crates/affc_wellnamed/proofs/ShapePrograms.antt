@@ -23,7 +23,7 @@ use Rattle.affc_cprint.specs.Forms.{is_none}
 use Rattle.affc_wellnamed.specs.Known.{Known, param_name, is_new, known_behind, param_known, params_known, temp_known, temps_known, extents_known, is_int, is_temp, ixs_known, is_function, context_known, body_known, program_known}
 use Rattle.affc_wellnamed.specs.declared.shape.Extent.{Extent}
 use Rattle.affc_wellnamed.specs.declared.shape.Shape.{Shape}
-use Rattle.affc_wellnamed.specs.Shape.{capped, nothing, beside, bracketed, and_tokens, whole, dims_behind, conds_extent, both, line, stmts_behind, end_tokens, range_line, ranges_behind, context_behind, head_tokens, array_extent, param_extent, params_behind, params_extent, decls_behind, lines_shape, head_line, function_shape, program_shape, is_bounded}
+use Rattle.affc_wellnamed.specs.Shape.{saturated, nothing, beside, bracketed, and_tokens, whole, dims_behind, conds_extent, both, line, stmts_behind, end_tokens, range_line, ranges_behind, context_behind, head_tokens, array_extent, param_extent, params_behind, params_extent, decls_behind, lines_shape, head_line, function_shape, program_shape, is_bounded}
 use Rattle.affc_cprint.proofs.Places.{some_held}
 use Rattle.affc_cprint.proofs.Programs.{param_names_are, decl_names_from}
 use Rattle.affc_wellnamed.proofs.Counts.{Adds, Rises, Runs, adds_both, rises_both, runs_both, none_added, any_tokens, count_is, run_ends, rises_more, rises_within, items_more, run_more, IsPlain, Row, row_both, row_more, no_row, highest, none_past, past_none}
@@ -323,10 +323,10 @@ program_shapes p h =
 
 -- ---- The limits on the tokens
 
-pub kept_below : (n s limit : ℕ) → s ≡ capped n → limit ≤ 16777216 → nat_le s limit ≡ true → n ≤ limit
+pub kept_below : (n s limit : ℕ) → s ≡ saturated n → limit ≤ 16777216 → nat_le s limit ≡ true → n ≤ limit
 kept_below n s limit e small h = let le = leb-true s limit h in omega (arith, e, small, le)
 
-pub below_kept : (n s limit : ℕ) → s ≡ capped n → n ≤ limit → nat_le s limit ≡ true
+pub below_kept : (n s limit : ℕ) → s ≡ saturated n → n ≤ limit → nat_le s limit ≡ true
 below_kept n s limit e le = le-leb s limit (omega (arith, e, le))
 
 pub no_faults : {A B : Type 0} (f : A → B) (xs : List A) → map f xs ≡ [] → xs ≡ []

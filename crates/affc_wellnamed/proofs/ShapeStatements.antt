@@ -24,7 +24,7 @@ use Rattle.affc_wellnamed.specs.Known.{Known, and_iterator, and_locals, is_refus
 use Rattle.affc_wellnamed.specs.declared.shape.Extent.{Extent}
 use Rattle.affc_wellnamed.specs.declared.shape.Shape.{Shape}
 use Rattle.affc_wellnamed.specs.Shape as spec
-use Rattle.affc_wellnamed.specs.Shape.{capped, larger, nothing, whole, dims_behind, conds_extent, at_level, val_extent, both, line, deeper, worded, closed, all_behind, locals_behind, for_head, if_head, assign_line, block_head, stmt_shape, stmts_behind}
+use Rattle.affc_wellnamed.specs.Shape.{saturated, larger, nothing, whole, dims_behind, conds_extent, at_level, val_extent, both, line, deeper, worded, closed, all_behind, locals_behind, for_head, if_head, assign_line, block_head, stmt_shape, stmts_behind}
 use Rattle.affc_cprint.specs.declared.brackets.Level.TheVariants as level
 use Rattle.affc_cprint.proofs.Arms.{for_here, if_here, block_here}
 use Rattle.affc_cprint.proofs.Chains.{locals_names}
@@ -45,10 +45,10 @@ abbrev pub joined : Numbers → Numbers → Numbers
 joined a b = record { tokens = a.tokens + b.tokens; run = max a.run b.run; depth = max a.depth b.depth; items = a.items + b.items }
 
 pub record Fits (s : Shape) (n : Numbers) : Type 0 where
-  pub tokens : s.tokens ≡ capped n.tokens
-  pub run : s.run ≡ capped n.run
-  pub depth : s.depth ≡ capped n.depth
-  pub items : s.items ≡ capped n.items
+  pub tokens : s.tokens ≡ saturated n.tokens
+  pub run : s.run ≡ saturated n.run
+  pub depth : s.depth ≡ saturated n.depth
+  pub items : s.items ≡ saturated n.items
 
 pub record Counted (ss : List Symbol) (n : Numbers) : Type 0 where
   pub token : length ss ≡ n.tokens
@@ -80,7 +80,7 @@ fits_both a b m n p q =
 abbrev pub line_of : (more count deep : ℕ) → Numbers
 line_of more count deep = record { tokens = count + more + 1; run = count + more; depth = deep; items = 0 }
 
-pub fits_line : (more : ℕ) (e : Extent) (count deep : ℕ) → e.tokens ≡ capped count → e.depth ≡ capped deep → Fits (line more e) (line_of more count deep)
+pub fits_line : (more : ℕ) (e : Extent) (count deep : ℕ) → e.tokens ≡ saturated count → e.depth ≡ saturated deep → Fits (line more e) (line_of more count deep)
 fits_line more e count deep t d = record { tokens = omega (arith, t); run = omega (arith, t); depth = d; items = refl }
 
 abbrev pub closed_of : Numbers → Numbers

@@ -19,7 +19,7 @@ use Rattle.affc_grammar.specs.Names.{Scope, each, array_named, why_declared, wit
 use Rattle.affc_grammar.specs.Limits.{Assigned, assigned, assigned_in, loads_in, loops_past, loops_past_in, at_if, number_words, param_decls, is_range, ranges_past, contexts_past}
 use Rattle.affc_wellnamed.specs.declared.work.Work.{Work}
 use Rattle.affc_wellnamed.specs.Known.{is_number, number_count}
-use Rattle.affc_wellnamed.specs.Shape.{capped, plus}
+use Rattle.affc_wellnamed.specs.Shape.{saturated, plus}
 use Rattle.affc_wellnamed.specs.Work.{load_step, loads, own_accesses, no_work, one_work, both, looped, stmt_step, work, stmts_behind, has_few, param_fits}
 use Rattle.affc_cprint.proofs.Arms.{for_here, if_here, block_here}
 use Rattle.affc_cprint.proofs.Sees.{ok_of, both_ok, allowed_ok}
@@ -34,7 +34,7 @@ for_arm x iter low rel high body slice n b r is same p q t =
 
 -- ---- Loads
 
-loads_are : (scope : Scope) (d : ValueDraft) (v : Val) → value_tree scope d ≡ Ok v → loads v ≡ capped (loads_in d)
+loads_are : (scope : Scope) (d : ValueDraft) (v : Val) → value_tree scope d ≡ Ok v → loads v ≡ saturated (loads_in d)
 loads_are scope (load at w subs) v e =
     let p = both_ok (array_named scope at w false (length subs)) _ v e in
     let q = both_ok (each (ix_tree scope) subs) _ v p.2 in
@@ -49,7 +49,7 @@ loads_are scope (binary op a b) v e =
     let q = both_ok (value_tree scope b) _ v p.2 in
     let f = loads_are scope a p.0 p.1 in
     let g = loads_are scope b q.0 q.1 in
-    let sum : plus (loads p.0) (loads q.0) ≡ capped (loads_in a + loads_in b) = omega (arith, f, g) in
+    let sum : plus (loads p.0) (loads q.0) ≡ saturated (loads_in a + loads_in b) = omega (arith, f, g) in
     sym (ap loads (ok_of q.2)) ∙ bin_here load_step op p.0 q.0 ∙ sum
 loads_are scope (shift left a by) v e =
     let p = both_ok (value_tree scope a) _ v e in
@@ -61,10 +61,10 @@ abbrev pub many : Assigned → Bool
 many a = nat_lt 16 a.accesses
 
 pub record Busy (as' : ℕ → List Assigned) (places : (limit n : ℕ) → List ℕ) (w : Work) : Type 0 where
-  pub statements : (n : ℕ) → w.statements ≡ capped (length (as' n))
+  pub statements : (n : ℕ) → w.statements ≡ saturated (length (as' n))
   pub crowded : (n : ℕ) → w.crowded ≡ list_any many (as' n)
   pub nest : ℕ
-  pub loops : w.loops ≡ capped nest
+  pub loops : w.loops ≡ saturated nest
   pub idle : length (as' 0) ≡ 0 → (limit n : ℕ) → places limit n ≡ []
   pub idle_nest : length (as' 0) ≡ 0 → nest ≡ 0
   pub within : (limit n : ℕ) → n ≤ limit → places limit n ≡ [] → n + nest ≤ limit
@@ -105,7 +105,7 @@ busy_loop at as' ps w b = of (length (as' 0)) refl
   where
     of : (k : ℕ) → length (as' 0) ≡ k → Busy as' (λ limit n. at_if (nat_le limit n && nat_lt 0 (length (as' 0))) at ++ ps limit (n + 1)) (looped w)
     of zero e =
-        let none : w.statements ≡ 0 = b.statements 0 ∙ ap capped e in
+        let none : w.statements ≡ 0 = b.statements 0 ∙ ap saturated e in
         let empty : (limit n : ℕ) → at_if (nat_le limit n && nat_lt 0 (length (as' 0))) at ++ ps limit (n + 1) ≡ [] =
         λ limit n. ap (λ m. at_if (nat_le limit n && nat_lt 0 m) at ++ ps limit (n + 1)) e ∙ ap (λ z. at_if (nat_le limit n && z) at ++ ps limit (n + 1)) (le-ltb 0 0 (omega arith)) ∙ ap (λ z. at_if z at ++ ps limit (n + 1)) (and_off (nat_le limit n)) ∙ b.idle e limit (n + 1) in
         record {
@@ -127,7 +127,7 @@ busy_loop at as' ps w b = of (length (as' 0)) refl
         let some : 0 < w.statements = omega (arith, s, e) in
         let has : nat_lt 0 (length (as' 0)) ≡ true = lt-ltb 0 (length (as' 0)) (omega (arith, e)) in
         let l = b.loops in
-        let sum : plus w.loops 1 ≡ capped (b.nest + 1) = omega (arith, l) in
+        let sum : plus w.loops 1 ≡ saturated (b.nest + 1) = omega (arith, l) in
         record {
           statements = b.statements;
           crowded = b.crowded;
@@ -183,7 +183,7 @@ busy_shift k as' ps w b =
       beyond = b.beyond;
     }
 
-many_so : (n m k : ℕ) → n ≡ capped m → nat_lt 16 (plus n k) ≡ nat_lt 16 (m + k)
+many_so : (n m k : ℕ) → n ≡ saturated m → nat_lt 16 (plus n k) ≡ nat_lt 16 (m + k)
 many_so n m k e = of (nat_lt 16 (m + k)) refl
   where
     of : (z : Bool) → nat_lt 16 (m + k) ≡ z → nat_lt 16 (plus n k) ≡ z
@@ -194,7 +194,7 @@ or_off : (z : Bool) → (z || false) ≡ z
 or_off true = refl
 or_off false = refl
 
-busy_assign : (at : ℕ) (o : Option Op) (v : ValueDraft) (loaded : ℕ) → loaded ≡ capped (loads_in v) → Busy (λ n. record { at = at; accesses = loads_in v + own_accesses o; comparisons = n } ∷ []) (λ limit n. []) (one_work o loaded)
+busy_assign : (at : ℕ) (o : Option Op) (v : ValueDraft) (loaded : ℕ) → loaded ≡ saturated (loads_in v) → Busy (λ n. record { at = at; accesses = loads_in v + own_accesses o; comparisons = n } ∷ []) (λ limit n. []) (one_work o loaded)
 busy_assign at o v loaded e = record {
   statements = λ n. refl;
   crowded = λ n. many_so loaded (loads_in v) (own_accesses o) e ∙ sym (or_off (nat_lt 16 (loads_in v + own_accesses o)));

@@ -63,20 +63,15 @@ fn ix_known(e: &Ix, prelude: bool, sight: &Sight<'_>) -> bool
         Ix::Lit(n) => is_numeral(*n),
         Ix::Name(id) => has_number(sight, u64::from(id.0)),
         Ix::Neg(a) => ix_known(a.get(), prelude, sight),
-        Ix::Add(a, b) => ix_known(a.get(), prelude, sight) && ix_known(b.get(), prelude, sight),
-        Ix::Sub(a, b) => ix_known(a.get(), prelude, sight) && ix_known(b.get(), prelude, sight),
-        Ix::Mul(a, b) => ix_known(a.get(), prelude, sight) && ix_known(b.get(), prelude, sight),
-        Ix::Min(a, b) => {
+        Ix::Add(a, b) | Ix::Sub(a, b) | Ix::Mul(a, b) => {
+            ix_known(a.get(), prelude, sight) && ix_known(b.get(), prelude, sight)
+        }
+        Ix::Min(a, b) | Ix::Max(a, b) | Ix::Mod(a, b) => {
             prelude && (ix_known(a.get(), prelude, sight) && ix_known(b.get(), prelude, sight))
         }
-        Ix::Max(a, b) => {
-            prelude && (ix_known(a.get(), prelude, sight) && ix_known(b.get(), prelude, sight))
+        Ix::Floord(a, by) | Ix::Ceild(a, by) => {
+            prelude && (is_divisor(*by) && ix_known(a.get(), prelude, sight))
         }
-        Ix::Mod(a, b) => {
-            prelude && (ix_known(a.get(), prelude, sight) && ix_known(b.get(), prelude, sight))
-        }
-        Ix::Floord(a, by) => prelude && (is_divisor(*by) && ix_known(a.get(), prelude, sight)),
-        Ix::Ceild(a, by) => prelude && (is_divisor(*by) && ix_known(a.get(), prelude, sight)),
     }
 }
 

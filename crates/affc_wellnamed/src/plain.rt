@@ -78,14 +78,11 @@ fn form_of(e: &Ix) -> Form
         Ix::Lit(n) => literal(is_within(*n)),
         Ix::Name(_) => name(),
         Ix::Neg(a) => form_of(a.get()),
-        Ix::Add(a, b) => both(form_of(a.get()), form_of(b.get())),
-        Ix::Sub(a, b) => both(form_of(a.get()), form_of(b.get())),
         Ix::Mul(a, b) => product(form_of(a.get()), form_of(b.get())),
-        Ix::Min(a, b) => both(form_of(a.get()), form_of(b.get())),
-        Ix::Max(a, b) => both(form_of(a.get()), form_of(b.get())),
-        Ix::Mod(a, b) => both(form_of(a.get()), form_of(b.get())),
-        Ix::Floord(a, by) => quotient(form_of(a.get()), is_within(*by)),
-        Ix::Ceild(a, by) => quotient(form_of(a.get()), is_within(*by)),
+        Ix::Add(a, b) | Ix::Sub(a, b) | Ix::Min(a, b) | Ix::Max(a, b) | Ix::Mod(a, b) => {
+            both(form_of(a.get()), form_of(b.get()))
+        }
+        Ix::Floord(a, by) | Ix::Ceild(a, by) => quotient(form_of(a.get()), is_within(*by)),
     }
 }
 
@@ -126,9 +123,8 @@ fn value_plain(v: &Val) -> bool
         Val::Load { subs, .. } => are_plain(subs.as_slice()),
         Val::Const(_) => true,
         Val::Cast(e) => is_plain(e),
-        Val::Not(a) => value_plain(a.get()),
+        Val::Not(a) | Val::Shift { value: a, .. } => value_plain(a.get()),
         Val::Bin { left, right, .. } => value_plain(left.get()) && value_plain(right.get()),
-        Val::Shift { value, .. } => value_plain(value.get()),
     }
 }
 

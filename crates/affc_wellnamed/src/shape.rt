@@ -180,29 +180,20 @@ fn ix_extent(prelude: bool, e: &Ix) -> IxExtent
     ensures { result ≡ spec.ix_extent prelude e.now }
 {
     match e {
-        Ix::Lit(_) => one_token(),
-        Ix::Name(_) => one_token(),
+        Ix::Lit(_) | Ix::Name(_) => one_token(),
         Ix::Neg(a) => negated(placed(Place::UnderMinus, ix_extent(prelude, a.get()))),
-        Ix::Add(a, b) => sum(ix_extent(prelude, a.get()), ix_extent(prelude, b.get())),
-        Ix::Sub(a, b) => sum(ix_extent(prelude, a.get()), ix_extent(prelude, b.get())),
+        Ix::Add(a, b) | Ix::Sub(a, b) => {
+            sum(ix_extent(prelude, a.get()), ix_extent(prelude, b.get()))
+        }
         Ix::Mul(a, b) => product(ix_extent(prelude, a.get()), ix_extent(prelude, b.get())),
-        Ix::Min(a, b) => choice(
+        Ix::Min(a, b) | Ix::Max(a, b) | Ix::Mod(a, b) => choice(
             prelude,
             ix_extent(prelude, a.get()),
             ix_extent(prelude, b.get()),
         ),
-        Ix::Max(a, b) => choice(
-            prelude,
-            ix_extent(prelude, a.get()),
-            ix_extent(prelude, b.get()),
-        ),
-        Ix::Mod(a, b) => choice(
-            prelude,
-            ix_extent(prelude, a.get()),
-            ix_extent(prelude, b.get()),
-        ),
-        Ix::Floord(a, by) => quotient(is_divided(prelude, *by), ix_extent(prelude, a.get())),
-        Ix::Ceild(a, by) => quotient(is_divided(prelude, *by), ix_extent(prelude, a.get())),
+        Ix::Floord(a, by) | Ix::Ceild(a, by) => {
+            quotient(is_divided(prelude, *by), ix_extent(prelude, a.get()))
+        }
     }
 }
 

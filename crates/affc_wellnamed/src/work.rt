@@ -14,11 +14,9 @@ fn loads(v: &Val) -> u64
 {
     match v {
         Val::Load { .. } => 1,
-        Val::Const(_) => 0,
-        Val::Cast(_) => 0,
-        Val::Not(a) => loads(a.get()),
+        Val::Const(_) | Val::Cast(_) => 0,
+        Val::Not(a) | Val::Shift { value: a, .. } => loads(a.get()),
         Val::Bin { left, right, .. } => plus(loads(left.get()), loads(right.get())),
-        Val::Shift { value, .. } => loads(value.get()),
     }
 }
 
@@ -86,9 +84,10 @@ fn work_of(s: &Stmt) -> Work
 {
     match s {
         Stmt::For { body, .. } => looped(stmts_behind(no_work(), body.as_slice())),
-        Stmt::If { body, .. } => stmts_behind(no_work(), body.as_slice()),
+        Stmt::If { body, .. } | Stmt::Block { body, .. } => {
+            stmts_behind(no_work(), body.as_slice())
+        }
         Stmt::Assign { op, value, .. } => one_work(*op, loads(value)),
-        Stmt::Block { body, .. } => stmts_behind(no_work(), body.as_slice()),
     }
 }
 
