@@ -5,11 +5,15 @@ use denote.Hole.Carrier.{hidden}
 use Rattle.affc_ast.specs.declared.tree.Ix.TheBlock.{shape-the_row-Ix-0, hidden-the_row-Ix-0}
 use Rattle.affc_ast.specs.declared.tree.Val.TheBlock.{shape-the_row-Val-0, hidden-the_row-Val-0}
 use Rattle.affc_ast.specs.declared.tree.Stmt.TheBlock.{shape-the_row-Stmt-0, hidden-the_row-Stmt-0}
-use Rattle.affc_domain.specs.Examples.{AccessesInOrder, UnitsOfColumns, FormsOfSums, WhichAreAffine, SmallForms, SmallInEachPart, NamesInSight, RoundsOfTheTriangle, LoopsGoOn, TriangleTurns, NothingTurnsInside, LoopsRound, NumbersOfLoops, SharedLoops, BeforeByIterators, OrderOfTheSharedLoop, RangesOfNumbers, RangeOfALoop, RangesOfTheTriangle, NearEnds, RangesThatPass, OneTurnIsEntered, WithinRanges, FirstWide, PlainExpressions, PlainTests, PlainValues, PlainRanges, PlainDeclarations, UpwardLoops, SixteenAccesses, PlainAssignments, SixLoops, PlainLoops, ThirtyTwoComparisons, PlainConditions, NoLocals, TriangleIsPlain, LimitsOfPrograms, PartsOfPrograms, FullLoops}
+use Rattle.affc_domain.specs.Examples.{AccessesInOrder, ArraysInOrder, UnitsOfColumns, FormsOfSums, WhichAreAffine, SmallForms, SmallInEachPart, NamesInSight, RoundsOfTheTriangle, LoopsGoOn, TriangleTurns, NothingTurnsInside, LoopsRound, ComparisonsRound, NumbersOfLoops, SharedLoops, BeforeByIterators, OrderOfTheSharedLoop, RangesOfNumbers, RangeOfALoop, RangesOfTheTriangle, NearEnds, RangesThatPass, OneTurnIsEntered, WithinRanges, FirstWide, PlainExpressions, PlainTests, PlainValues, PlainRanges, PlainDeclarations, UpwardLoops, SixteenAccesses, PlainAssignments, SixLoops, PlainLoops, ThirtyTwoComparisons, PlainConditions, NoLocals, TriangleIsPlain, LimitsOfPrograms, PartsOfPrograms, FullLoops}
 
 pub accesses_in_order : AccessesInOrder
 unfolding shape-the_row-Ix-0 hidden-the_row-Ix-0 shape-the_row-Val-0 hidden-the_row-Val-0 shape-the_row-Stmt-0 hidden-the_row-Stmt-0 hidden
 accesses_in_order = (refl, refl)
+
+pub arrays_in_order : ArraysInOrder
+unfolding shape-the_row-Ix-0 hidden-the_row-Ix-0 shape-the_row-Val-0 hidden-the_row-Val-0 shape-the_row-Stmt-0 hidden-the_row-Stmt-0 hidden
+arrays_in_order = (refl, refl)
 
 pub units_of_columns : UnitsOfColumns
 unfolding shape-the_row-Ix-0 hidden-the_row-Ix-0 shape-the_row-Val-0 hidden-the_row-Val-0 shape-the_row-Stmt-0 hidden-the_row-Stmt-0 hidden
@@ -54,6 +58,10 @@ nothing_turns_inside = (refl, refl)
 pub loops_round : LoopsRound
 unfolding shape-the_row-Ix-0 hidden-the_row-Ix-0 shape-the_row-Val-0 hidden-the_row-Val-0 shape-the_row-Stmt-0 hidden-the_row-Stmt-0 hidden
 loops_round = refl
+
+pub comparisons_round : ComparisonsRound
+unfolding shape-the_row-Ix-0 hidden-the_row-Ix-0 shape-the_row-Val-0 hidden-the_row-Val-0 shape-the_row-Stmt-0 hidden-the_row-Stmt-0 hidden
+comparisons_round = refl
 
 pub numbers_of_loops : NumbersOfLoops
 unfolding shape-the_row-Ix-0 hidden-the_row-Ix-0 shape-the_row-Val-0 hidden-the_row-Val-0 shape-the_row-Stmt-0 hidden-the_row-Stmt-0 hidden

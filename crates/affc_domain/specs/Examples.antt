@@ -21,8 +21,9 @@ use Rattle.affc_ast.specs.declared.tree.Val.{Val}
 use Rattle.affc_ast.specs.declared.tree.Val.TheVariants.{Load, Const, Cast, Not, Bin, Shift}
 use Rattle.affc_ast.specs.Trace.{trace}
 use Rattle.affc_domain.specs.Accesses.{accesses_of}
+use Rattle.affc_domain.specs.Arrays.{declared_arrays, extents_at}
 use Rattle.affc_domain.specs.Affine.{unit_of, is_small, linear, form_of, is_affine, sees}
-use Rattle.affc_domain.specs.Rounds.{Round, Loop, Test, rounds, goes_on, turns, loops_in}
+use Rattle.affc_domain.specs.Rounds.{Round, Loop, Test, rounds, goes_on, turns, loops_in, comparisons_in}
 use Rattle.affc_domain.specs.Loops.{loop_numbers, shared, IsBefore}
 use Rattle.affc_domain.specs.Ranges.{number_ranges, Within, Never, Wide, is_near, range_of, ranges_of, AreWithin, first_wide}
 use Rattle.affc_domain.specs.Plain.{is_plain, plain_tests, plain_value, plain_range, plain_ranges, plain_decls, is_upward, plain_assignment, plain_body, IsPlain}
@@ -93,6 +94,15 @@ abbrev pub AccessesInOrder : Type 0
 AccessesInOrder =
     (accesses_of (record { op = None; array = array 1; subs = i ∷ []; value = some_value }) ≡ (array 0, i ∷ []) ∷ (array 2, j ∷ []) ∷ (array 1, i ∷ []) ∷ [])
     × (accesses_of (record { op = Some op.Xor; array = array 1; subs = i ∷ []; value = load 0 j }) ≡ (array 1, i ∷ []) ∷ (array 0, j ∷ []) ∷ (array 1, i ∷ []) ∷ [])
+
+-- ---- Arrays
+
+-- the parameters first, and then the temporaries
+abbrev pub ArraysInOrder : Type 0
+ArraysInOrder =
+    (declared_arrays (record (with_body []) { params = Array (decl (n ∷ [])) ∷ Number [] (pos 1) (pos 4) ∷ Array (decl []) ∷ []; temps = decl (lit 7 ∷ []) ∷ decl (lit 8 ∷ []) ∷ [] })
+    ≡ decl (n ∷ []) ∷ decl [] ∷ decl (lit 7 ∷ []) ∷ decl (lit 8 ∷ []) ∷ [])
+    × (extents_at (decl (n ∷ lit 7 ∷ []) ∷ decl [] ∷ decl (Add n n ∷ []) ∷ []) (pos 3 ∷ []) ≡ (pos 3 ∷ pos 7 ∷ []) ∷ [] ∷ (pos 6 ∷ []) ∷ [])
 
 -- ---- Forms
 
@@ -208,6 +218,9 @@ NothingTurnsInside =
 
 abbrev pub LoopsRound : Type 0
 LoopsRound = map loops_in (rounds triangle) ≡ 2 ∷ 1 ∷ 0 ∷ []
+
+abbrev pub ComparisonsRound : Type 0
+ComparisonsRound = comparisons_in (Test (test n Equal n ∷ test n Less (lit 2) ∷ []) ∷ Loop [] (lit 0) Less n ∷ Test (test i Less n ∷ []) ∷ []) ≡ 3
 
 -- ---- The order of the text
 

@@ -1,10 +1,11 @@
 //! What the definitions give at small programs, as laws: `specs/Examples.antt` says each, with values that were
 //! found by hand from the rules.
-ghost use Rattle.affc_domain.specs.Examples.{AccessesInOrder, UnitsOfColumns, FormsOfSums, WhichAreAffine, SmallForms, SmallInEachPart, NamesInSight, RoundsOfTheTriangle, LoopsGoOn, TriangleTurns, NothingTurnsInside, LoopsRound, NumbersOfLoops, SharedLoops, BeforeByIterators, OrderOfTheSharedLoop, RangesOfNumbers, RangeOfALoop, RangesOfTheTriangle, NearEnds, RangesThatPass, OneTurnIsEntered, WithinRanges, FirstWide, PlainExpressions, PlainTests, PlainValues, PlainRanges, PlainDeclarations, UpwardLoops, SixteenAccesses, PlainAssignments, SixLoops, PlainLoops, ThirtyTwoComparisons, PlainConditions, NoLocals, TriangleIsPlain, LimitsOfPrograms, PartsOfPrograms, FullLoops};
+ghost use Rattle.affc_domain.specs.Examples.{AccessesInOrder, ArraysInOrder, UnitsOfColumns, FormsOfSums, WhichAreAffine, SmallForms, SmallInEachPart, NamesInSight, RoundsOfTheTriangle, LoopsGoOn, TriangleTurns, NothingTurnsInside, LoopsRound, ComparisonsRound, NumbersOfLoops, SharedLoops, BeforeByIterators, OrderOfTheSharedLoop, RangesOfNumbers, RangeOfALoop, RangesOfTheTriangle, NearEnds, RangesThatPass, OneTurnIsEntered, WithinRanges, FirstWide, PlainExpressions, PlainTests, PlainValues, PlainRanges, PlainDeclarations, UpwardLoops, SixteenAccesses, PlainAssignments, SixLoops, PlainLoops, ThirtyTwoComparisons, PlainConditions, NoLocals, TriangleIsPlain, LimitsOfPrograms, PartsOfPrograms, FullLoops};
 
-/// What an assignment reads and writes.
+/// What an assignment reads and writes, and the arrays.
 pub fn accesses()
     ensures accesses_in_order { AccessesInOrder }
+    ensures arrays_in_order { ArraysInOrder }
 {}
 
 /// Forms, and which expressions have one.
@@ -24,6 +25,7 @@ pub fn rounds()
     ensures triangle_turns { TriangleTurns }
     ensures nothing_turns_inside { NothingTurnsInside }
     ensures loops_round { LoopsRound }
+    ensures comparisons_round { ComparisonsRound }
 {}
 
 /// Loops that are shared, and what comes before what.
