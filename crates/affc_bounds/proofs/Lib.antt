@@ -4,3 +4,4 @@ pub mod ExtentLemmas
 pub mod AccessLemmas
 pub mod AliveLemmas
 pub mod CheckLemmas
+pub mod LawProofs
