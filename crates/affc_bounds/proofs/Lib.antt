@@ -5,3 +5,4 @@ pub mod AccessLemmas
 pub mod AliveLemmas
 pub mod CheckLemmas
 pub mod LawProofs
+pub mod ExampleProofs

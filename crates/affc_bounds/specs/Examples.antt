@@ -17,20 +17,20 @@ use Rattle.affc_bounds.specs.Spots.{IsNarrow, IsFirstNarrow, IsFirstOutside}
 
 -- ---- Programs over N from 1 to 2
 
-abbrev lit : ℕ → Ix
+abbrev pub lit : ℕ → Ix
 lit k = Lit (pos k)
 
-abbrev name : ℕ → Ix
+abbrev pub name : ℕ → Ix
 name k = Name (record { 0 = k })
 
 -- N = k
 abbrev pub at : ℕ → List ℤ
 at k = pos k ∷ []
 
-abbrev array : List Ix → Param
+abbrev pub array : List Ix → Param
 array extents = Array (record { name = []; role = Output; extents = extents })
 
-abbrev over : List Param → List Compare → List Stmt → Program
+abbrev pub over : List Param → List Compare → List Stmt → Program
 over arrays context body = record { name = []; params = Number [] (pos 1) (pos 2) ∷ arrays; context = context; temps = []; body = body; prelude = false }
 
 -- ---- Extents
@@ -58,13 +58,13 @@ OnlyInTheContext = IsFirstNarrow narrow_at_two (at 2) 0 × (¬ (IsNarrow narrow_
 
 -- ---- Accesses of A[1]
 
-abbrev storing : Ix → Val → Stmt
+abbrev pub storing : Ix → Val → Stmt
 storing sub value = Assign None (record { 0 = 0 }) (sub ∷ []) value
 
-abbrev loaded : Ix → Val
+abbrev pub loaded : Ix → Val
 loaded sub = Load (record { 0 = 0 }) (sub ∷ [])
 
-abbrev with_body : List Stmt → Program
+abbrev pub with_body : List Stmt → Program
 with_body body = over (array (lit 1 ∷ []) ∷ []) [] body
 
 -- A[N - 1] = 7; A[N] = 7: the second store lies outside at 1, and the first only at 2

@@ -3,3 +3,4 @@ pub mod Faults
 pub mod Found
 pub mod Looks
 pub mod Laws
+pub mod Examples
