@@ -1,5 +1,5 @@
 -- Each example goes through the values of N, and computes there.
-use Rattle.std.proofs.Common.{◌≡◌, ◌⊎◌, ℕ, zero, suc, ℤ, pos, ◌≤ℤ◌, ◌<ℤ◌, Bool, true, false, true≢false, IsTrue, List, [], ◌∷◌, ◌++◌, map, None, Some, refl, sym, ap, subst, ◌∙◌, inl, inr, arith}
+use Rattle.std.proofs.Common.{◌≡◌, ◌⊎◌, ℕ, zero, suc, ℤ, pos, ◌≤ℤ◌, ◌<ℤ◌, true, true≢false, List, [], ◌∷◌, ◌++◌, map, refl, sym, ap, subst, ◌∙◌, inl, inr, arith}
 use Rattle.std.specs.Prelude.{◌&&◌, int_le, slice_get}
 use Rattle.std.proofs.lemmas.Int.{ints}
 use Rattle.std.proofs.lemmas.Option.{none-some, same_Some}
@@ -19,7 +19,6 @@ use Rattle.affc_ast.specs.declared.tree.Val.TheVariants.{Const, Bin}
 use Rattle.affc_ast.specs.declared.tree.Ix.TheBlock.{shape-the_row-Ix-0, hidden-the_row-Ix-0}
 use Rattle.affc_ast.specs.declared.tree.Val.TheBlock.{shape-the_row-Val-0, hidden-the_row-Val-0}
 use Rattle.affc_ast.specs.declared.tree.Stmt.TheBlock.{shape-the_row-Stmt-0, hidden-the_row-Stmt-0}
-use Rattle.affc_ast.specs.declared.tree.Program.{Program}
 use Rattle.affc_ast.specs.Fits.{whole, within_ranges}
 use Rattle.affc_ast.specs.Trace.{events}
 use Rattle.affc_ast.specs.Store.{Element}
@@ -27,7 +26,7 @@ use Rattle.affc_trace.specs.Law.{IsIn}
 use Rattle.affc_domain.proofs.Lists.{both_true, true_le}
 use Rattle.affc_safe.specs.Safe.{LiesWithin}
 use Rattle.affc_nest.proofs.QuestionLemmas.{or_less}
-use Rattle.affc_bounds.specs.Examples.{at, lit, name, storing, loaded, with_body, both_narrow, later_narrow, narrow_at_two, later_outside, outside_twice, loading_past, LesserArrayFirst, LesserParametersFirst, OnlyInTheContext, ParametersBeforeStatements, StatementsThenIterators, LoadsBeforeTheStore}
+use Rattle.affc_bounds.specs.Examples.{at, lit, name, storing, loaded, with_body, later_narrow, narrow_at_two, later_outside, outside_twice, loading_past, LesserArrayFirst, LesserParametersFirst, OnlyInTheContext, ParametersBeforeStatements, StatementsThenIterators, LoadsBeforeTheStore}
 use Rattle.affc_bounds.specs.Spots.{IsNarrow, IsOutside, IsFirstOutside, spot_of}
 
 -- ---- The values of N

@@ -1,13 +1,11 @@
 -- What a fault says of runs, and that there is at most one.
-use Rattle.std.proofs.Common.{◌≡◌, ◌⊎◌, ℕ, suc, ◌+◌, ◌<◌, ◌≤◌, ℤ, pos, ◌≤ℤ◌, IsTrue, List, [], ◌∷◌, ◌++◌, length, None, Some, refl, sym, ap, subst, ◌∙◌, inl, inr, arith}
+use Rattle.std.proofs.Common.{◌≡◌, ◌⊎◌, ℕ, ℤ, pos, ◌≤ℤ◌, List, [], ◌∷◌, ◌++◌, length, Some, refl, sym, ap, ◌∙◌, inl, inr, arith}
 use Rattle.std.specs.Prelude.{slice_get}
 use Rattle.std.proofs.lemmas.Int.{ints}
 use Rattle.std.proofs.lemmas.Option.{none-some, same_Some}
-use Rattle.affc_system.specs.Order.{LexLe}
 use Rattle.affc_ast.specs.declared.tree.ArrayId.{ArrayId}
 use Rattle.affc_ast.specs.declared.tree.Instance.{Instance}
 use Rattle.affc_ast.specs.declared.tree.Program.{Program}
-use Rattle.affc_ast.specs.Fits.{within_ranges}
 use Rattle.affc_ast.specs.Store.{Element}
 use Rattle.affc_ast.specs.Trace.{events, loads_of, store_of}
 use Rattle.affc_trace.specs.Effects.{effect}
@@ -26,9 +24,9 @@ use Rattle.affc_safe.proofs.FitsThere.{some_store_fits}
 use Rattle.affc_safe.proofs.PlainNear.{plain_has_no_locals}
 use Rattle.affc_safe.proofs.SafeLaws.{safe_runs}
 use Rattle.affc_nest.proofs.QuestionLemmas.{stands_in, below_length}
-use Rattle.affc_bounds.specs.Faults.{ExtentsStand, StaysWithin, IsBoundsFault, IsMeaningFault}
+use Rattle.affc_bounds.specs.Faults.{ExtentsStand, IsBoundsFault}
 use Rattle.affc_bounds.specs.Laws.{IsStuckAt, NarrowIsStuck, OutsideIsStuck, StayingIsSafe, StayingEnds, FaultsDoNotStay, OneFault}
-use Rattle.affc_bounds.specs.Spots.{IsNarrow, IsFirstNarrow, IsOutside, spot_of}
+use Rattle.affc_bounds.specs.Spots.{IsNarrow, IsFirstNarrow, spot_of}
 use Rattle.affc_bounds.specs.declared.fault.MeaningFault.{MeaningFault}
 use Rattle.affc_bounds.specs.declared.fault.MeaningFault.TheVariants.{IteratorRange, Context, Extent, Bounds}
 
