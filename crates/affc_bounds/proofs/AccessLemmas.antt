@@ -1,5 +1,5 @@
 -- What the questions on accesses find is where an access lies outside its array.
-use Rattle.std.proofs.Common.{◌≡◌, ◌⊎◌, ℕ, zero, suc, ◌+◌, ◌<◌, ◌≤◌, ℤ, pos, negsuc, ◌≤ℤ◌, ◌<ℤ◌, Bool, true, false, IsTrue, List, [], ◌∷◌, ◌++◌, length, get_or, take, drop, map, Option, Some, refl, sym, ap, subst, ◌∙◌, inl, inr, arith}
+use Rattle.std.proofs.Common.{◌≡◌, ◌⊎◌, ℕ, zero, suc, ◌+◌, ◌<◌, ℤ, pos, negsuc, ◌≤ℤ◌, ◌<ℤ◌, Bool, true, false, IsTrue, List, [], ◌∷◌, ◌++◌, length, get_or, take, drop, map, Option, Some, refl, sym, ap, subst, ◌∙◌, inl, inr, arith}
 use Rattle.std.specs.Prelude.{◌&&◌, int_le, int_lt, slice_get}
 use Rattle.std.proofs.lemmas.Int.{ints}
 use Rattle.std.proofs.lemmas.Option.{none-some, same_Some}
@@ -185,7 +185,7 @@ module _ (program : Program) (has : HasNest program) (p : List ℤ) (here : Inst
     iterators = here.iterators;
     width = long;
     inside = box_append (number_ranges program.params) e.ranges p here.iterators (in_ranges program.params p inside.ranges)
-    ((ranges_hold_iterators program here.statement e has h alive).hold p here refl inside runs);
+        ((ranges_hold_iterators program here.statement e has h alive).hold p here refl inside runs);
     meets = meets;
     key = ap (λ s. spot_of p (record { statement = s; iterators = here.iterators }) number) (sym its_number);
     fault = ap (λ s. Bounds array number p (record { statement = s; iterators = here.iterators })) (sym its_number);
@@ -209,7 +209,7 @@ module _ (program : Program) (has : HasNest program) (p : List ℤ) (here : Inst
         | inr least ↦ elim (or_less (value s names) (value x p)) [
           | inl high ↦ inl (inr (point_found (high_question e.domain (length e.loops) s x) (says_high program has p here e h alive s x u.0 v.0 long domain_point high)))
           | inr less ↦ inr (dimensions_found subs extents (omega (arith, l)) u.1 v.1 (λ w. out (true_both (int_le (pos 0) (value s names) && int_lt (value s names) (value x p)) (is_within (values_of subs names) (values_of extents p))
-            (true_both (int_le (pos 0) (value s names)) (int_lt (value s names) (value x p)) (le_true (pos 0) (value s names) (at_least (value s names) least)) (lt_true (value s names) (value x p) less)) w)))
+              (true_both (int_le (pos 0) (value s names)) (int_lt (value s names) (value x p)) (le_true (pos 0) (value s names) (at_least (value s names) least)) (lt_true (value s names) (value x p) less)) w)))
         ]
       ]
 

@@ -1,25 +1,16 @@
 -- What the check's answers say of a program.
-use Rattle.std.proofs.Common.{◌≡◌, ◌⊎◌, ℕ, ℤ, pos, ◌≤ℤ◌, ◌<ℤ◌, Bool, true, false, List, [], ◌∷◌, ◌++◌, length, get_or, Some, None, refl, sym, ap, subst, ◌∙◌, inl, inr, arith}
-use Rattle.std.specs.Prelude.{slice_get}
+use Rattle.std.proofs.Common.{◌≡◌, ℤ, pos, ◌≤ℤ◌, ◌<ℤ◌, Bool, true, false, List, [], ◌∷◌, ◌++◌, get_or, Some, None, refl, sym, subst, ◌∙◌, inl, inr, arith}
 use Rattle.std.proofs.lemmas.Int.{ints}
 use Rattle.affc_system.specs.Order.{LexLe}
-use Rattle.affc_ast.specs.declared.tree.ArrayId.{ArrayId}
-use Rattle.affc_ast.specs.declared.tree.Decl.{Decl}
-use Rattle.affc_ast.specs.declared.tree.Instance.{Instance}
-use Rattle.affc_ast.specs.declared.tree.Ix.{Ix}
 use Rattle.affc_ast.specs.declared.tree.Program.{Program}
 use Rattle.affc_ast.specs.Fits.{whole}
-use Rattle.affc_ast.specs.Store.{Element}
-use Rattle.affc_ast.specs.Trace.{trace, events, loads_of, store_of}
+use Rattle.affc_ast.specs.Trace.{events, loads_of, store_of}
 use Rattle.affc_ast.specs.Values.{is_within}
-use Rattle.affc_trace.specs.Effects.{effect}
 use Rattle.affc_trace.specs.Law.{IsIn}
 use Rattle.affc_trace.specs.Laws.{IsInContext}
-use Rattle.affc_trace.specs.Orders.{Touches}
 use Rattle.affc_trace.proofs.Members.{to_first, to_second}
 use Rattle.affc_domain.specs.Arrays.{declared_arrays, extents_at}
-use Rattle.affc_domain.specs.Ranges.{first_wide}
-use Rattle.affc_safe.specs.Safe.{HasExtents, KeepsWithin, LiesWithin}
+use Rattle.affc_safe.specs.Safe.{LiesWithin}
 use Rattle.affc_nest.specs.Laws.{HasNest, NamesArrays}
 use Rattle.affc_nest.specs.Nests.{nest_of}
 use Rattle.affc_nest.proofs.AccessLemmas.{context_is_the_context}
@@ -27,12 +18,12 @@ use Rattle.affc_nest.proofs.QuestionLemmas.{place_of, or_less}
 use Rattle.affc_bounds.specs.Faults.{ExtentsStand, AccessesStand, StaysWithin, IsMeaningFault}
 use Rattle.affc_bounds.specs.Found.{IsFirst}
 use Rattle.affc_bounds.specs.Looks.{ContextSays, InArrays, InEntries, IsClean, IsFaultOf, empty, narrow, outside}
-use Rattle.affc_bounds.specs.Spots.{IsNarrow, IsOutside, spot_of}
+use Rattle.affc_bounds.specs.Spots.{IsOutside, spot_of}
 use Rattle.affc_bounds.specs.declared.fault.MeaningFault.{MeaningFault}
-use Rattle.affc_bounds.specs.declared.fault.MeaningFault.TheVariants.{Context, Extent, Bounds}
+use Rattle.affc_bounds.specs.declared.fault.MeaningFault.TheVariants.{Extent}
 use Rattle.affc_bounds.specs.declared.found.Found.{Found}
-use Rattle.affc_bounds.proofs.AccessLemmas.{SaysOutside, found_is_outside, found_at, outside_is_found}
-use Rattle.affc_bounds.proofs.ExtentLemmas.{SaysNarrow, found_is_narrow, narrow_is_found}
+use Rattle.affc_bounds.proofs.AccessLemmas.{found_is_outside, found_at, outside_is_found}
+use Rattle.affc_bounds.proofs.ExtentLemmas.{found_is_narrow, narrow_is_found}
 
 module _ (program : Program) (has : HasNest program) where
   -- ---- The context
@@ -49,7 +40,7 @@ module _ (program : Program) (has : HasNest program) where
   extents_stand none p inside d e i j =
       elim (or_less (pos 0) (whole e p)) [
         | inl low ↦ let k = place_of (declared_arrays program) d i in
-        absurd (none _ (narrow_is_found program has p k.0 (record { context = inside; decl = d; declared = k.1; extent = e; is_extent = j; below = low })))
+            absurd (none _ (narrow_is_found program has p k.0 (record { context = inside; decl = d; declared = k.1; extent = e; is_extent = j; below = low })))
         | inr high ↦ at_least (whole e p) high
       ]
     where
@@ -59,10 +50,13 @@ module _ (program : Program) (has : HasNest program) where
   first_narrow : (fault : MeaningFault) (found : Found) → fault ≡ found.fault → IsFirst (InArrays (nest_of program) 0 (nest_of program).arrays) (Some found) → IsMeaningFault program fault
   first_narrow fault found e h =
       let s = found_is_narrow program has found h.0 in
-      subst (IsMeaningFault program) (sym (e ∙ s.fault)) (has.near, record {
-        narrow = s.narrow;
-        first = λ q other n. subst (λ k. LexLe k (q ++ pos other ∷ [])) s.key (h.1 (record { key = q ++ pos other ∷ []; fault = Extent (record { 0 = other }) q }) (narrow_is_found program has q other n));
-      })
+      subst (IsMeaningFault program) (sym (e ∙ s.fault)) (
+        has.near,
+        record {
+          narrow = s.narrow;
+          first = λ q other n. subst (λ k. LexLe k (q ++ pos other ∷ [])) s.key (h.1 (record { key = q ++ pos other ∷ []; fault = Extent (record { 0 = other }) q }) (narrow_is_found program has q other n));
+        },
+      )
 
   -- ---- Accesses
 

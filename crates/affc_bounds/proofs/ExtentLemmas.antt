@@ -1,7 +1,6 @@
 -- What the questions on extents find is where a program is narrow.
-use Rattle.std.proofs.Common.{◌≡◌, ◌⊎◌, ℕ, zero, suc, ◌+◌, ℤ, pos, ◌≤ℤ◌, List, [], ◌∷◌, ◌++◌, length, map, Option, Some, None, refl, sym, ap, subst, ◌∙◌, inl, inr, arith}
+use Rattle.std.proofs.Common.{◌≡◌, ℕ, zero, suc, ◌+◌, ℤ, pos, ◌≤ℤ◌, List, [], ◌∷◌, ◌++◌, length, map, Option, Some, None, refl, sym, subst, ◌∙◌, inl, inr, arith}
 use Rattle.std.specs.Prelude.{slice_get}
-use Rattle.std.proofs.lemmas.Int.{ints}
 use Rattle.std.proofs.lemmas.Option.{none-some, same_Some}
 use Rattle.affc_rows.specs.Forms.{Affine, value}
 use Rattle.affc_system.specs.Systems.{IsPoint}
@@ -9,21 +8,18 @@ use Rattle.affc_system.specs.Order.{LexLe}
 use Rattle.affc_ast.specs.declared.tree.Decl.{Decl}
 use Rattle.affc_ast.specs.declared.tree.Ix.{Ix}
 use Rattle.affc_ast.specs.declared.tree.Program.{Program}
-use Rattle.affc_ast.specs.Fits.{whole}
 use Rattle.affc_trace.specs.Law.{IsIn}
-use Rattle.affc_trace.specs.Laws.{IsInContext}
 use Rattle.affc_domain.specs.Affine.{form_of}
-use Rattle.affc_domain.specs.Plain.{IsPlain}
 use Rattle.affc_domain.specs.Ranges.{number_ranges}
 use Rattle.affc_domain.proofs.RangeLemmas.{box_length, in_ranges}
 use Rattle.affc_domain.specs.Arrays.{declared_arrays}
 use Rattle.affc_nest.specs.declared.nest.ArrayInfo.{ArrayInfo}
 use Rattle.affc_nest.specs.declared.nest.Nest.{Nest}
-use Rattle.affc_nest.specs.Asked.{IsNest, IsExtent}
+use Rattle.affc_nest.specs.Asked.{IsExtent}
 use Rattle.affc_nest.specs.Laws.{HasNest}
 use Rattle.affc_nest.specs.Nests.{array_of, nest_of}
 use Rattle.affc_nest.specs.Questions.{extent_question, extents_or_none}
-use Rattle.affc_nest.proofs.QuestionLemmas.{stands_in, place_of, extent_says, says_extent, narrow, extent_value}
+use Rattle.affc_nest.proofs.QuestionLemmas.{stands_in, extent_says, says_extent, narrow, extent_value}
 use Rattle.affc_bounds.specs.Found.{IsFirst, IsNearer}
 use Rattle.affc_bounds.specs.Looks.{IsLeastIn, IsNarrowAt, InExtents, InArrays, AreExtents, HaveExtents}
 use Rattle.affc_bounds.specs.Spots.{IsNarrow}

@@ -4,3 +4,5 @@ pub mod ExtentLemmas
 pub mod AccessLemmas
 pub mod AliveLemmas
 pub mod CheckLemmas
+pub mod LawProofs
+pub mod ExampleProofs

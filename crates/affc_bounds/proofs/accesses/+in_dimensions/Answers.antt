@@ -1,5 +1,3 @@
-use Rattle.std.proofs.Common.{List, ◌∷◌, ◌-◌, length, take, drop, ap, sym, ◌∙◌}
-use Rattle.affc_rows.specs.Forms.{Affine}
 use Rattle.affc_bounds.proofs.AccessLemmas.{dimensions_first}
 use Rattle.affc_bounds.proofs.OrderLemmas.{front_is}
 use Rattle.affc_bounds.proofs.accesses.+in_dimensions.Goals as goal

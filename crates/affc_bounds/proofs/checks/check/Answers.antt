@@ -1,4 +1,4 @@
-use Rattle.std.proofs.Common.{subst, sym}
+use Rattle.std.proofs.Common.{subst}
 use Rattle.std.specs.Prelude.{MatchOption}
 use Rattle.affc_nest.specs.Laws.{HasNest}
 use Rattle.affc_bounds.specs.Looks.{IsClean, IsFaultOf}
