@@ -1,5 +1,5 @@
 -- The pieces in which locals and statements are written.
-use Rattle.std.proofs.Common.{◌≡◌, ◌+◌, ◌≤◌, ℕ, zero, suc, Result, Ok, Err, OnOk, Bool, true, false, List, [], ◌∷◌, ◌++◌, map, take, length, codes, Option, refl, sym, ap, ◌∙◌, append_assoc, rules, arith}
+use Rattle.std.proofs.Common.{◌≡◌, ◌+◌, ℕ, zero, suc, Result, Ok, Err, OnOk, Bool, true, false, List, [], ◌∷◌, ◌++◌, map, take, length, codes, Option, refl, sym, ap, ◌∙◌, append_assoc, rules, arith}
 use Rattle.std.specs.List.{flat_map}
 use Rattle.std.proofs.lemmas.List.{append-nil}
 use Rattle.affc_ast.specs.declared.tree.ArrayId.{ArrayId}

@@ -1,4 +1,3 @@
-use Rattle.std.proofs.Common.{arith}
 use Rattle.affc_cprint.specs.Seen.{seen}
 use Rattle.affc_cprint.proofs.Writes.{◌next◌}
 use Rattle.affc_cprint.proofs.Arms.{for_exit, if_exit, block_exit, assign_exit, assign_pieces}
