@@ -25,7 +25,7 @@ use Rattle.affc_nest.specs.Nests.{access_form, nest_of}
 use Rattle.affc_nest.proofs.EntryLemmas.{site_of, entries_stand, ranges_hold_iterators}
 use Rattle.affc_nest.proofs.QuestionLemmas.{place_of}
 use Rattle.affc_nest.proofs.QuestionProofs.{nests_are_asked}
-use Rattle.affc_bounds.specs.Looks.{box_of, AreSubscripts, HaveSubscripts, IsAlive, AreAlive}
+use Rattle.affc_bounds.specs.Looks.{AreSubscripts, HaveSubscripts, IsAlive, AreAlive}
 
 -- ---- Reach
 

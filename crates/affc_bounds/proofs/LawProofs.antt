@@ -1,5 +1,5 @@
 -- What a fault says of runs, and that there is at most one.
-use Rattle.std.proofs.Common.{◌≡◌, ◌⊎◌, ℕ, ℤ, pos, ◌≤ℤ◌, List, [], ◌∷◌, ◌++◌, length, Some, refl, sym, ap, ◌∙◌, inl, inr, arith}
+use Rattle.std.proofs.Common.{◌≡◌, ℕ, ℤ, pos, ◌≤ℤ◌, List, [], ◌∷◌, ◌++◌, length, Some, refl, sym, ap, ◌∙◌, inl, inr, arith}
 use Rattle.std.specs.Prelude.{slice_get}
 use Rattle.std.proofs.lemmas.Int.{ints}
 use Rattle.std.proofs.lemmas.List.{same_from_push}
@@ -10,10 +10,8 @@ use Rattle.affc_ast.specs.declared.tree.Program.{Program}
 use Rattle.affc_ast.specs.Store.{Element}
 use Rattle.affc_ast.specs.Trace.{events, loads_of, store_of}
 use Rattle.affc_trace.specs.Effects.{effect}
-use Rattle.affc_trace.specs.Law.{IsIn}
 use Rattle.affc_trace.specs.Laws.{IsInContext}
 use Rattle.affc_trace.specs.Orders.{Touches}
-use Rattle.affc_trace.proofs.Runs.{length_append}
 use Rattle.affc_trace.proofs.Once.{in_append}
 use Rattle.affc_leaf.proofs.Orders.{lex_same}
 use Rattle.affc_domain.specs.Plain.{IsPlain}
