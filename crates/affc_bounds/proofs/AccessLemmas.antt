@@ -38,16 +38,7 @@ use Rattle.affc_bounds.specs.Looks.{IsLeastIn, IsOutsideAt, box_of, InDimension,
 use Rattle.affc_bounds.specs.Spots.{IsOutside, spot_of}
 use Rattle.affc_bounds.specs.declared.fault.MeaningFault.TheVariants.{Bounds}
 use Rattle.affc_bounds.specs.declared.found.Found.{Found}
-use Rattle.affc_bounds.proofs.OrderLemmas.{lex_spots, first_of_both}
-
-moved : (k j : ℕ) → (k + 1) + j ≡ k + suc j
-moved k j = omega arith
-
-none_more : (k : ℕ) → k ≡ k + 0
-none_more k = omega arith
-
-none_before : (k : ℕ) → 0 + k ≡ k
-none_before k = omega arith
+use Rattle.affc_bounds.proofs.OrderLemmas.{lex_spots, first_of_both, moved, none_more, none_before}
 
 -- ---- What is found lies outside
 

@@ -8,6 +8,7 @@ use Rattle.affc_rows.specs.Forms.{Affine}
 use Rattle.affc_system.specs.Pairs.{WithinReach}
 use Rattle.affc_ast.specs.declared.tree.Program.{Program}
 use Rattle.affc_trace.specs.Law.{IsIn}
+use Rattle.affc_trace.proofs.Once.{in_append}
 use Rattle.affc_trace.proofs.Runs.{length_append}
 use Rattle.affc_domain.specs.Accesses.{accesses_of}
 use Rattle.affc_domain.specs.Plain.{plain_range, plain_ranges, all_plain, plain_value}
@@ -24,7 +25,7 @@ use Rattle.affc_nest.specs.Nests.{access_form, nest_of}
 use Rattle.affc_nest.proofs.EntryLemmas.{site_of, entries_stand, ranges_hold_iterators}
 use Rattle.affc_nest.proofs.QuestionLemmas.{place_of}
 use Rattle.affc_nest.proofs.QuestionProofs.{nests_are_asked}
-use Rattle.affc_bounds.specs.Looks.{box_of, AreSubscripts, HaveSubscripts, IsAlive, AreAlive}
+use Rattle.affc_bounds.specs.Looks.{AreSubscripts, HaveSubscripts, IsAlive, AreAlive}
 
 -- ---- Reach
 
@@ -49,10 +50,8 @@ plain_reach (q ∷ rs) h r (inl is) =
     subst WithinReach (sym is) (record { low = within q.0 (2 ^ 24) c.0 (omega arith); high = within q.1 (2 ^ 24) c.1 (omega arith) })
 plain_reach (q ∷ rs) h r (inr i) = plain_reach rs (both_true (plain_range q) (plain_ranges rs) h).1 r i
 
-either_in : {A : Type 0} (P : A → Type 0) (xs ys : List A) → ((x : A) → IsIn x xs → P x) → ((x : A) → IsIn x ys → P x) → (x : A) → IsIn x (xs ++ ys) → P x
-either_in P [] ys f g x i = g x i
-either_in P (z ∷ xs) ys f g x (inl is) = f x (inl is)
-either_in P (z ∷ xs) ys f g x (inr i) = either_in P xs ys (λ y j. f y (inr j)) g x i
+either_reach : (rs ss : List (ℤ × ℤ)) → ((r : ℤ × ℤ) → IsIn r rs → WithinReach r) → ((r : ℤ × ℤ) → IsIn r ss → WithinReach r) → All WithinReach (rs ++ ss)
+either_reach rs ss f g = all_reach (rs ++ ss) (λ r i. elim (in_append rs ss r i) [ inl j ↦ f r j | inr j ↦ g r j ])
 
 -- ---- Subscripts
 
@@ -87,7 +86,7 @@ module _ (program : Program) (has : HasNest program) where
         nest_of = nests_are_asked program has;
         there = i;
         columns = length_append (number_ranges program.params) e.ranges ∙ ap (λ n. length (number_ranges program.params) + n) r.each ∙ sym s.columns;
-        reach = all_reach (box_of (nest_of program) e) (either_in WithinReach (number_ranges program.params) e.ranges (plain_reach (number_ranges program.params) has.plain.ranges) (λ q j. near_reach q (r.near q j).1));
+        reach = either_reach (number_ranges program.params) e.ranges (plain_reach (number_ranges program.params) has.plain.ranges) (λ q j. near_reach q (r.near q j).1);
         few = few_accesses k.0 e k.1;
         subs = some_accesses e e.accesses (λ x j. j);
       }

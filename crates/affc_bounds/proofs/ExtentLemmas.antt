@@ -1,5 +1,5 @@
 -- What the questions on extents find is where a program is narrow.
-use Rattle.std.proofs.Common.{◌≡◌, ℕ, zero, suc, ◌+◌, ℤ, pos, ◌≤ℤ◌, List, [], ◌∷◌, ◌++◌, length, map, Option, Some, None, refl, sym, subst, ◌∙◌, inl, inr, arith}
+use Rattle.std.proofs.Common.{◌≡◌, ℕ, zero, suc, ◌+◌, ℤ, pos, ◌≤ℤ◌, List, [], ◌∷◌, ◌++◌, length, map, Option, Some, None, refl, sym, subst, ◌∙◌, inl, inr}
 use Rattle.std.specs.Prelude.{slice_get}
 use Rattle.std.proofs.lemmas.Option.{none-some, same_Some}
 use Rattle.affc_rows.specs.Forms.{Affine, value}
@@ -25,7 +25,7 @@ use Rattle.affc_bounds.specs.Looks.{IsLeastIn, IsNarrowAt, InExtents, InArrays, 
 use Rattle.affc_bounds.specs.Spots.{IsNarrow}
 use Rattle.affc_bounds.specs.declared.fault.MeaningFault.TheVariants.{Extent}
 use Rattle.affc_bounds.specs.declared.found.Found.{Found}
-use Rattle.affc_bounds.proofs.OrderLemmas.{lex_append, lex_refl, first_of_both}
+use Rattle.affc_bounds.proofs.OrderLemmas.{lex_append, lex_refl, first_of_both, moved, none_more, none_before}
 
 -- ---- One extent
 
@@ -88,15 +88,6 @@ pub record SaysNarrow (program : Program) (found : Found) : Type 0 where
   pub key : found.key ≡ p ++ pos array ∷ []
   pub fault : found.fault ≡ Extent (record { 0 = array }) p
   pub narrow : IsNarrow program p array
-
-moved : (k j : ℕ) → (k + 1) + j ≡ k + suc j
-moved k j = omega arith
-
-none_more : (k : ℕ) → k ≡ k + 0
-none_more k = omega arith
-
-none_before : (k : ℕ) → 0 + k ≡ k
-none_before k = omega arith
 
 module _ (program : Program) (has : HasNest program) (found : Found) where
   abbrev m : ℕ

@@ -1,7 +1,8 @@
 -- What a fault says of runs, and that there is at most one.
-use Rattle.std.proofs.Common.{◌≡◌, ◌⊎◌, ℕ, ℤ, pos, ◌≤ℤ◌, List, [], ◌∷◌, ◌++◌, length, Some, refl, sym, ap, ◌∙◌, inl, inr, arith}
+use Rattle.std.proofs.Common.{◌≡◌, ℕ, ℤ, pos, ◌≤ℤ◌, List, [], ◌∷◌, ◌++◌, length, Some, refl, sym, ap, ◌∙◌, inl, inr, arith}
 use Rattle.std.specs.Prelude.{slice_get}
 use Rattle.std.proofs.lemmas.Int.{ints}
+use Rattle.std.proofs.lemmas.List.{same_from_push}
 use Rattle.std.proofs.lemmas.Option.{none-some, same_Some}
 use Rattle.affc_ast.specs.declared.tree.ArrayId.{ArrayId}
 use Rattle.affc_ast.specs.declared.tree.Instance.{Instance}
@@ -9,10 +10,9 @@ use Rattle.affc_ast.specs.declared.tree.Program.{Program}
 use Rattle.affc_ast.specs.Store.{Element}
 use Rattle.affc_ast.specs.Trace.{events, loads_of, store_of}
 use Rattle.affc_trace.specs.Effects.{effect}
-use Rattle.affc_trace.specs.Law.{IsIn}
 use Rattle.affc_trace.specs.Laws.{IsInContext}
 use Rattle.affc_trace.specs.Orders.{Touches}
-use Rattle.affc_trace.proofs.Runs.{length_append}
+use Rattle.affc_trace.proofs.Once.{in_append}
 use Rattle.affc_leaf.proofs.Orders.{lex_same}
 use Rattle.affc_domain.specs.Plain.{IsPlain}
 use Rattle.affc_domain.specs.Ranges.{number_ranges}
@@ -48,14 +48,9 @@ pub narrow_is_stuck : NarrowIsStuck
 narrow_is_stuck program p array plain n =
     stuck_at program p plain n.context (λ safe. never_both _ n.below (safe.extents n.decl n.extent (stands_in _ array n.decl n.declared) n.is_extent))
 
-either_part : {A : Type 0} (xs ys : List A) (a : A) → IsIn a (xs ++ ys) → IsIn a xs ⊎ IsIn a ys
-either_part [] ys a i = inr i
-either_part (x ∷ xs) ys a (inl e) = inl (inl e)
-either_part (x ∷ xs) ys a (inr i) = elim (either_part xs ys a i) [ inl j ↦ inl (inr j) | inr j ↦ inr j ]
-
 -- an access of an instance is touched by it
 touched : (program : Program) (p : List ℤ) (here : Instance) (access : ℕ) (x : Element) → slice_get (events program p here) access ≡ Some x → Touches (effect program p) here x
-touched program p here access x e = elim (either_part (loads_of program p here) (store_of program p here ∷ []) x (stands_in (events program p here) access x e)) [
+touched program p here access x e = elim (in_append (loads_of program p here) (store_of program p here ∷ []) x (stands_in (events program p here) access x e)) [
   | inl i ↦ inl i
   | inr i ↦ inr (elim i [ inl same ↦ same | inr none ↦ absurd none ])
 ]
@@ -82,19 +77,6 @@ faults_do_not_stay program (Bounds array access p here) f stays =
     let o = f.first.outside in
     o.outside (stays.accesses p o.context here o.element o.runs (touched program p here access o.element o.touched))
 
-no_more : (xs : List ℤ) (a : ℤ) → [] ≡ xs ++ a ∷ [] → ⊥
-no_more xs a e = let l = ap length e in let k = length_append xs (a ∷ []) in absurd (omega arith)
-
-last_same : (xs ys : List ℤ) (a b : ℤ) → xs ++ a ∷ [] ≡ ys ++ b ∷ [] → (xs ≡ ys) × (a ≡ b)
-last_same [] [] a b e = (refl, cc)
-last_same [] (y ∷ ys) a b e = let r : [] ≡ ys ++ b ∷ [] = cc in absurd (no_more ys b r)
-last_same (x ∷ xs) [] a b e = let r : xs ++ a ∷ [] ≡ [] = cc in absurd (no_more xs a (sym r))
-last_same (x ∷ xs) (y ∷ ys) a b e =
-    let f : x ≡ y = cc in
-    let r : xs ++ a ∷ [] ≡ ys ++ b ∷ [] = cc in
-    let s = last_same xs ys a b r in
-    (ap (λ z. z ∷ xs) f ∙ ap (λ zs. y ∷ zs) s.0, s.1)
-
 front_same : (p q xs ys : List ℤ) → length p ≡ length q → p ++ xs ≡ q ++ ys → (p ≡ q) × (xs ≡ ys)
 front_same [] [] xs ys l e = (refl, e)
 front_same [] (y ∷ q) xs ys l e = absurd (omega arith)
@@ -111,7 +93,7 @@ as_long program p q h k =
 
 same_extent : (program : Program) (a b : ArrayId) (p q : List ℤ) → IsFirstNarrow program p a.0 → IsFirstNarrow program q b.0 → ◌≡◌ {A = MeaningFault} (Extent a p) (Extent b q)
 same_extent program a b p q f g =
-    let e = last_same p q (pos a.0) (pos b.0) (lex_same (p ++ pos a.0 ∷ []) (q ++ pos b.0 ∷ []) (f.first q b.0 g.narrow) (g.first p a.0 f.narrow)) in
+    let e = same_from_push p q (pos a.0) (pos b.0) (lex_same (p ++ pos a.0 ∷ []) (q ++ pos b.0 ∷ []) (f.first q b.0 g.narrow) (g.first p a.0 f.narrow)) in
     let n : a.0 ≡ b.0 = number a.0 b.0 e.1 in
     ap (λ k. Extent (record { 0 = k }) p) n ∙ ap (Extent b) e.0
   where
@@ -124,7 +106,7 @@ same_bounds program a b i j p q here there f g =
     let o = f.first.outside in
     let u = g.first.outside in
     let k : spot_of p here i ≡ spot_of q there j = lex_same (spot_of p here i) (spot_of q there j) (f.first.first q there j u) (g.first.first p here i o) in
-    let e = last_same (p ++ pos here.statement ∷ here.iterators) (q ++ pos there.statement ∷ there.iterators) (pos i) (pos j) k in
+    let e = same_from_push (p ++ pos here.statement ∷ here.iterators) (q ++ pos there.statement ∷ there.iterators) (pos i) (pos j) k in
     let d = front_same p q (pos here.statement ∷ here.iterators) (pos there.statement ∷ there.iterators) (as_long program p q o.context u.context) e.0 in
     let s : here.statement ≡ there.statement = statement here.statement there.statement here.iterators there.iterators d.1 in
     let t : here.iterators ≡ there.iterators = iterators here.statement there.statement here.iterators there.iterators d.1 in

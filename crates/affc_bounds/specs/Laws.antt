@@ -10,8 +10,9 @@ use Rattle.affc_trace.specs.Laws.{IsInContext}
 use Rattle.affc_domain.specs.Plain.{IsPlain}
 use Rattle.affc_safe.specs.Safe.{IsSafe}
 use Rattle.affc_nest.specs.Laws.{NamesArrays}
-use Rattle.affc_bounds.specs.Faults.{StaysWithin, IsMeaningFault}
+use Rattle.affc_bounds.specs.Faults.{StaysWithin, IsMeaningFault, HaltSays}
 use Rattle.affc_bounds.specs.Spots.{IsNarrow, IsOutside}
+use Rattle.affc_bounds.specs.declared.fault.Halt.TheVariants.{Meaning}
 use Rattle.affc_bounds.specs.declared.fault.MeaningFault.{MeaningFault}
 
 -- At p some store fits, and from each that does the program is stuck.
@@ -37,7 +38,7 @@ StayingEnds = (program : Program) (p : List ℤ) (store : Store) → IsPlain pro
 
 -- Nothing is wrong, or one thing.
 abbrev pub FaultsDoNotStay : Type 0
-FaultsDoNotStay = (program : Program) (fault : MeaningFault) → IsMeaningFault program fault → ¬ (StaysWithin program)
+FaultsDoNotStay = (program : Program) (fault : MeaningFault) → HaltSays program (Meaning fault) → ¬ (StaysWithin program)
 
 abbrev pub OneFault : Type 0
 OneFault = (program : Program) (fault other : MeaningFault) → IsMeaningFault program fault → IsMeaningFault program other → fault ≡ other
