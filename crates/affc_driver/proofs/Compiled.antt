@@ -1,5 +1,5 @@
 -- What is printed of a program that stays within its arrays compiles the text that it was read from.
-use Rattle.std.proofs.Common.{◌≡◌, ℕ, ℤ, false, List, [], map, refl, ap, ◌∙◌}
+use Rattle.std.proofs.Common.{◌≡◌, ℕ, false, List, [], map, refl, ap, ◌∙◌}
 use Rattle.affc_ast.specs.declared.tree.Program.{Program}
 use Rattle.affc_ast.proofs.CopyLaw.{follows_itself}
 use Rattle.affc_ast.specs.Trace.{trace}

@@ -1,9 +1,9 @@
 -- A text is folded exactly where its program is never stuck and has no temporaries; then nothing but want of budget or of
 -- memory is in the way.
-use Rattle.std.proofs.Common.{◌≡◌, ℕ, ℤ, Bool, true, false, true≢false, List, [], Some, None, refl, sym, ap, subst, ◌∙◌, ◌⊎◌, inl, inr}
+use Rattle.std.proofs.Common.{◌≡◌, ℕ, ℤ, true≢false, List, [], refl, sym, ap, subst, ◌∙◌, inl, inr}
 use Rattle.std.proofs.lemmas.Option.{none-some}
 use Rattle.affc_ast.specs.declared.tree.Program.{Program}
-use Rattle.affc_ast.specs.Meaning.{State, Outcome, Ended, Stuck, meaning}
+use Rattle.affc_ast.specs.Meaning.{Outcome, Ended, Stuck}
 use Rattle.affc_grammar.specs.Limits.{limits_of}
 use Rattle.affc_grammar.specs.Reads.{Reads}
 use Rattle.affc_grammar.proofs.Texts.{one_tree}
@@ -18,8 +18,7 @@ use Rattle.affc_trace.specs.Laws.{IsInContext}
 use Rattle.affc_bounds.specs.declared.fault.MeaningFault.{MeaningFault}
 use Rattle.affc_bounds.specs.declared.fault.MeaningFault.TheVariants.{IteratorRange, Context, Extent, Bounds}
 use Rattle.affc_driver.specs.Folds.{FoldsTo}
-use Rattle.affc_driver.specs.Laws.{IsStuckAt, NeverStuck, ShowsInRuns, IsFoldable, FoldableIsFolded, FoldableIsNotRefused}
-use Rattle.affc_driver.specs.declared.refusal.Refusal.{Refusal}
+use Rattle.affc_driver.specs.Laws.{IsStuckAt, NeverStuck, IsFoldable, FoldableIsFolded, FoldableIsNotRefused}
 use Rattle.affc_driver.specs.declared.refusal.Refusal.TheVariants.{Source, Printed, Meaning, Budget, Memory, Unbuilt}
 use Rattle.affc_driver.proofs.Compiled.{within_never_stuck, printed_compiles}
 use Rattle.affc_driver.proofs.Stuck.{shows}

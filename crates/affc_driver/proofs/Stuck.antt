@@ -1,14 +1,12 @@
 -- A program that leaves its arrays is stuck, and no data fit an empty context.
-use Rattle.std.proofs.Common.{◌≡◌, ℕ, ℤ, pos, ◌≤ℤ◌, List, [], ◌∷◌, sym, subst, ◌⊎◌, inl, inr, arith}
+use Rattle.std.proofs.Common.{◌≡◌, ℕ, ℤ, List, [], ◌∷◌, subst, inl, inr, arith}
 use Rattle.std.proofs.lemmas.Int.{ints}
 use Rattle.affc_ast.specs.declared.tree.Instance.{Instance}
 use Rattle.affc_ast.specs.declared.tree.Program.{Program}
-use Rattle.affc_ast.specs.Fits.{Fits}
-use Rattle.affc_ast.specs.Store.{Element, Store}
+use Rattle.affc_ast.specs.Store.{Element}
 use Rattle.affc_ast.specs.Trace.{loads_of, store_of, events}
 use Rattle.affc_grammar.specs.Limits.{limits_of}
 use Rattle.affc_grammar.proofs.Texts.{one_tree}
-use Rattle.affc_grammar.specs.Reads.{Reads}
 use Rattle.affc_trace.specs.Law.{IsIn}
 use Rattle.affc_trace.specs.Laws.{IsInContext}
 use Rattle.affc_trace.specs.Orders.{Touches}

@@ -7,3 +7,6 @@ compile-requires-clause-plain c = reads_plain c.args.source.now c.in-Ok.program 
 
 pub compile-requires-clause-arrays : goal.compile-requires-clause-arrays
 compile-requires-clause-arrays c = reads_naming_arrays c.args.source.now c.in-Ok.program c.in-Ok.ensures
+
+pub returns-in-Err-clause-err : goal.returns-in-Err-clause-err
+returns-in-Err-clause-err c = c.unread.ensures.says c.args.source.now c.in-Err.ensures
