@@ -1,5 +1,5 @@
 use Rattle.std.proofs.Common.{◌++◌, codes, refl, ap}
-use Rattle.affc_cli.specs.declared.refusal.Refusal.TheVariants.{Words, Unread, Source, Stuck, Memory, Steps, Data, Unbuilt}
+use Rattle.affc_cli.specs.declared.refusal.Refusal.TheVariants.{Words, Unread, Source, Printed, Meaning, Stuck, Budget, Memory, Steps, Data, Unbuilt}
 use Rattle.affc_cli.proofs.Telling.{plain_told, memory_told, made_line}
 use Rattle.affc_cli.proofs.refusal.Refusal.tell.Goals.{in-Words, in-Unread, in-Source+in-Ok, in-Stuck, in-Memory, in-Steps, in-Data+in-Ok-data_line, in-Unbuilt}
 use Rattle.affc_cli.proofs.refusal.Refusal.tell.Goals as goal
