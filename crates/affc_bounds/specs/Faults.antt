@@ -7,6 +7,8 @@ use Rattle.affc_ast.specs.Trace.{events}
 use Rattle.affc_trace.specs.Laws.{IsInContext}
 use Rattle.affc_domain.specs.Ranges.{first_wide}
 use Rattle.affc_safe.specs.Safe.{HasExtents, KeepsWithin}
+use Rattle.affc_split.specs.declared.budget.Stop.{Stop}
+use Rattle.affc_split.specs.declared.budget.Stop.TheVariants as stop
 use Rattle.affc_bounds.specs.Spots.{IsFirstNarrow, IsFirstOutside}
 use Rattle.affc_bounds.specs.declared.fault.MeaningFault.{MeaningFault}
 use Rattle.affc_bounds.specs.declared.fault.MeaningFault.TheVariants.{IteratorRange, Context, Extent, Bounds}
@@ -47,3 +49,8 @@ abbrev pub HaltSays : Program → Halt → Type 0
 HaltSays program (halt.Meaning fault) = IsMeaningFault program fault
 HaltSays program halt.Budget = Unit {0}
 HaltSays program halt.Memory = Unit {0}
+
+-- a decision that stops
+abbrev pub halt_of : Stop → Halt
+halt_of stop.Budget = halt.Budget
+halt_of stop.Memory = halt.Memory

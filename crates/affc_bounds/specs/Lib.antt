@@ -1,2 +1,4 @@
 pub mod Spots
 pub mod Faults
+pub mod Found
+pub mod Looks

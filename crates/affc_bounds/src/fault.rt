@@ -16,11 +16,11 @@ pub enum MeaningFault {
     #[error("no value of the parameters is in the context")]
     Context,
     /// An extent of the array is below 1 at `p`, the values of the number parameters.
-    #[error("an extent of array {} is below 1", array.0)]
+    #[error("an extent of array {} is below 1", .array.0)]
     Extent { array: ArrayId, p: Items<i64> },
     /// An access of the instance lies outside its array at `p`. Accesses are the loads in the order of the text, from
     /// 0, and then the store.
-    #[error("access {access} lies outside array {}", array.0)]
+    #[error("access {access} lies outside array {}", .array.0)]
     Bounds {
         array: ArrayId,
         access: u32,
@@ -38,6 +38,20 @@ pub enum Halt {
     Budget,
     #[error("out of memory")]
     Memory,
+}
+
+impl From<Stop> for Halt {
+    ghost use Rattle.std.specs.Prelude.{◌≡◌};
+    ghost use Rattle.affc_bounds.specs.Faults.{halt_of};
+
+    ghost from_gives = { λ stop h. h ≡ halt_of stop };
+
+    fn from(stop: Stop) -> Halt {
+        match stop {
+            Stop::Budget => Halt::Budget,
+            Stop::Memory => Halt::Memory,
+        }
+    }
 }
 
 impl From<AllocError> for Halt {

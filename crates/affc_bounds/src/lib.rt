@@ -2,8 +2,12 @@
 //! at all values of the parameters.
 #![tactic(auto)]
 
+mod accesses;
 pub mod checks;
+mod extents;
 pub mod fault;
+mod found;
+mod points;
 
 pub use checks::check;
 pub use fault::{Halt, MeaningFault};

@@ -17,7 +17,7 @@ use Rattle.affc_trace.proofs.Runs.{length_append}
 use Rattle.affc_domain.specs.Affine.{linear, sees, is_affine}
 use Rattle.affc_domain.specs.Plain.{is_plain, plain_tests, plain_assignment, is_upward, all_of, plain_step, IsPlain}
 use Rattle.affc_domain.specs.Ranges.{number_ranges}
-use Rattle.affc_domain.specs.Rounds.{Round, Loop, Test, rounds_step, rounds, loops_in}
+use Rattle.affc_domain.specs.Rounds.{Round, Loop, Test, rounds_step, rounds, loops_in, comparisons_in}
 use Rattle.affc_domain.proofs.FormLemmas.{same_affine}
 use Rattle.affc_domain.proofs.Lists.{both_true, true_both, from_map, length_map}
 
@@ -178,12 +178,6 @@ few_loops params loops comparisons (Loop iter low rel high ∷ rs) few h =
     less m n e = grind (arith, nat_tests)
 few_loops params loops comparisons (Test conds ∷ rs) few h =
     few_loops params loops (comparisons + length conds) rs few (both_true (plain_tests (params + loops) conds) (plain_rounds params loops (comparisons + length conds) rs) h).1
-
--- how many comparisons of conditions
-abbrev pub comparisons_in : List Round → ℕ
-comparisons_in [] = 0
-comparisons_in (Loop iter low rel high ∷ rs) = comparisons_in rs
-comparisons_in (Test conds ∷ rs) = length conds + comparisons_in rs
 
 pub few_comparisons : (params loops comparisons : ℕ) (rs : List Round) → IsTrue (plain_rounds params loops comparisons rs) → comparisons + comparisons_in rs ≤ 32
 few_comparisons params loops comparisons [] h = let l : comparisons ≤ 32 = at_most comparisons 32 h in omega arith

@@ -1,4 +1,5 @@
 pub mod Accesses
+pub mod Arrays
 pub mod Affine
 pub mod Rounds
 pub mod Loops

@@ -1,6 +1,6 @@
 -- What stands round each assignment, and which iterators its instances have: the loops and conditions that surround a
 -- statement give its iteration domain (Feautrier 1991).
-use Rattle.std.specs.Prelude.{ℕ, suc, ℤ, Bool, true, false, ◌&&◌, int_le, int_lt, List, [], ◌∷◌, ◌++◌, map, flat_map}
+use Rattle.std.specs.Prelude.{ℕ, suc, ◌+◌, ℤ, Bool, true, false, ◌&&◌, int_le, int_lt, List, [], ◌∷◌, ◌++◌, length, map, flat_map}
 use Rattle.affc_ast.specs.declared.tree.Compare.{Compare}
 use Rattle.affc_ast.specs.declared.tree.Ix.{Ix}
 use Rattle.affc_ast.specs.declared.tree.Program.{Program}
@@ -46,3 +46,9 @@ abbrev pub loops_in : List Round → ℕ
 loops_in [] = 0
 loops_in (Loop iter low rel high ∷ rs) = suc (loops_in rs)
 loops_in (Test conds ∷ rs) = loops_in rs
+
+-- how many comparisons of conditions
+abbrev pub comparisons_in : List Round → ℕ
+comparisons_in [] = 0
+comparisons_in (Loop iter low rel high ∷ rs) = comparisons_in rs
+comparisons_in (Test conds ∷ rs) = length conds + comparisons_in rs

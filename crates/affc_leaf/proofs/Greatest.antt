@@ -8,7 +8,7 @@ use Rattle.affc_rows.proofs.IntLemmas.{mul-nonneg, mul-add, neg-mul}
 use Rattle.affc_leaf.specs.declared.bounds.Bound.{Bound}
 use Rattle.affc_leaf.specs.Bounds.{IsBound, Inside, AllSingle, IsSum, bound_at, no_bound, lows, top, top_at, top_value}
 use Rattle.affc_system.specs.Systems.{IsRow}
-use Rattle.affc_leaf.specs.Points.{LexLe}
+use Rattle.affc_system.specs.Order.{LexLe}
 
 top-drop' : (i : ℕ) (cs : List ℤ) (bs : List Bound) → i < length cs → i < length bs
     → top (drop i cs) (drop i bs) ≡ top_at (slice_index_or cs i (pos 0)) (bound_at bs i) +ℤ top (drop (suc i) cs) (drop (suc i) bs)

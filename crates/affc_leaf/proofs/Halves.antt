@@ -5,7 +5,8 @@ use Rattle.std.specs.Prelude.{unsigned_abs}
 use borrow.Author.Differences.{abs_is}
 use Rattle.affc_leaf.specs.declared.bounds.Bound.{Bound}
 use Rattle.affc_leaf.specs.Bounds.{Inside, gap, size, FirstFree, lowered, raised, bound_at}
-use Rattle.affc_leaf.specs.Points.{LexLe, points}
+use Rattle.affc_system.specs.Order.{LexLe}
+use Rattle.affc_leaf.specs.Points.{points}
 
 -- what holds of the first free column, at the rest of the list
 free_later : (b : Bound) (bs : List Bound) (j : ℕ) → FirstFree (b ∷ bs) (suc j) → FirstFree bs j

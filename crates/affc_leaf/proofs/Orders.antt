@@ -1,7 +1,7 @@
 -- The lexicographic order, and what the definitions give at small boxes.
 use Rattle.std.proofs.Common.{◌≡◌, ◌⊎◌, inl, inr, List, [], ◌∷◌, ℤ, pos, ◌<ℤ◌, refl, sym, ap, ◌∙◌, arith}
 use Rattle.std.proofs.lemmas.Int.{ints, by_lt_z}
-use Rattle.affc_leaf.specs.Points.{LexLe}
+use Rattle.affc_system.specs.Order.{LexLe}
 use Rattle.affc_leaf.specs.Examples.{TenTimesFivePoints, FirstColumnDecides}
 
 above : (x z : ℤ) → (x <ℤ z) ⊎ ((z <ℤ x) ⊎ (x ≡ z))

@@ -1,6 +1,7 @@
 -- What the definitions give at small boxes. Each value was found by hand from the rules.
 use Rattle.std.specs.Prelude.{◌≡◌, [], ◌∷◌, pos, negsuc}
-use Rattle.affc_leaf.specs.Points.{points, LexLe}
+use Rattle.affc_system.specs.Order.{LexLe}
+use Rattle.affc_leaf.specs.Points.{points}
 
 -- 0 to 9 are ten numbers, -2 to 2 five
 abbrev pub TenTimesFivePoints : Type 0

@@ -1,7 +1,8 @@
 -- The integer points of a box: their number, their order, and the least one that a system has.
-use Rattle.std.specs.Prelude.{◌≡◌, ℕ, ◌+◌, ◌*◌, List, [], ◌∷◌, ℤ, ◌-ℤ◌, ◌<ℤ◌, unsigned_abs, map, ◌⊎◌}
+use Rattle.std.specs.Prelude.{ℕ, ◌+◌, ◌*◌, List, [], ◌∷◌, ℤ, ◌-ℤ◌, unsigned_abs, map}
 use Rattle.affc_system.specs.Systems.{Rows, IsPoint}
 use Rattle.affc_system.specs.Boxes.{InBox}
+use Rattle.affc_system.specs.Order.{LexLe}
 
 -- how many integer points a box has, where each of its ranges has its ends in order
 abbrev pub points : List (ℤ × ℤ) → ℕ
@@ -11,12 +12,6 @@ points (r ∷ rs) = (unsigned_abs (r.1 -ℤ r.0) + 1) * points rs
 -- the corner of a box at the low ends of its ranges
 abbrev pub low_corner : List (ℤ × ℤ) → List ℤ
 low_corner ranges = map (λ r. r.0) ranges
-
--- the first point is at most the second in lexicographic order
-abbrev pub LexLe : List ℤ → List ℤ → Type 0
-LexLe [] zs = Unit {0}
-LexLe (x ∷ xs) [] = ⊥
-LexLe (x ∷ xs) (z ∷ zs) = (x <ℤ z) ⊎ ((x ≡ z) × LexLe xs zs)
 
 -- the lexicographically least integer point that the system has in the box
 pub record IsLeastPoint (system : Rows) (ranges : List (ℤ × ℤ)) (x : List ℤ) : Type 0 where

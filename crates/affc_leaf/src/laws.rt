@@ -2,8 +2,8 @@
 ghost use Rattle.std.specs.Prelude.{◌≡◌, ◌↔◌, ◌⊎◌, ℤ, List, length};
 ghost use Rattle.affc_system.specs.Systems.{Rows, IsPoint};
 ghost use Rattle.affc_system.specs.Boxes.{InBox};
+ghost use Rattle.affc_system.specs.Order.{LexLe};
 ghost use Rattle.affc_leaf.specs.Boxed.{with_box};
-ghost use Rattle.affc_leaf.specs.Points.{LexLe};
 
 /// The points of a system with the rows of a box are those of the system that lie in the box.
 pub fn box_rows_are_the_box()

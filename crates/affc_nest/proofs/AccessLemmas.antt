@@ -17,6 +17,7 @@ use Rattle.affc_trace.proofs.LastStores.{append_nil, map_append}
 use Rattle.affc_domain.specs.Accesses as said
 use Rattle.affc_domain.specs.Accesses.{accesses_in, own_access, accesses_of}
 use Rattle.affc_domain.specs.Affine.{form_of, is_affine}
+use Rattle.affc_domain.specs.Arrays.{declared_arrays, extents_at}
 use Rattle.affc_domain.specs.Plain.{is_plain, all_plain, plain_value, plain_decls, plain_assignment}
 use Rattle.affc_domain.specs.Ranges.{number_ranges}
 use Rattle.affc_domain.specs.Rounds.{loops_in}
@@ -26,9 +27,9 @@ use Rattle.affc_domain.proofs.PlainLemmas.{is_plain_affine, assignments_are_plai
 use Rattle.affc_domain.proofs.RangeLemmas.{box_length, in_ranges}
 use Rattle.affc_nest.specs.Domains.{test_rows}
 use Rattle.affc_nest.specs.declared.nest.Entry.{Entry}
-use Rattle.affc_nest.specs.Nests.{declared_arrays, array_of, access_form}
+use Rattle.affc_nest.specs.Nests.{array_of, access_form}
 use Rattle.affc_nest.specs.Touches.{AllPlain}
-use Rattle.affc_nest.specs.Laws.{element_at, AccessesAreEvents, ContextIsTheContext, extents_at, ExtentsAreExtents}
+use Rattle.affc_nest.specs.Laws.{element_at, AccessesAreEvents, ContextIsTheContext, ExtentsAreExtents}
 use Rattle.affc_nest.proofs.DomainLemmas.{Met, to_all, from_all, tests_hold}
 use Rattle.affc_nest.proofs.EntryLemmas.{site_of, columns_are}
 use Rattle.affc_nest.proofs.PointLemmas.{context_met, ranges_hold, context_meets}

@@ -10,7 +10,7 @@ use Rattle.affc_domain.specs.Accesses.{accesses_of}
 use Rattle.affc_domain.specs.Loops.{loop_numbers}
 use Rattle.affc_domain.specs.Plain.{IsPlain, is_plain, plain_tests, is_upward, plain_range, plain_ranges}
 use Rattle.affc_domain.specs.Ranges.{Within, is_near, number_ranges, ranges_of, first_wide_of, first_wide}
-use Rattle.affc_domain.specs.Rounds.{Round, Loop, Test, rounds, loops_in}
+use Rattle.affc_domain.specs.Rounds.{Round, Loop, Test, rounds, loops_in, comparisons_in}
 use Rattle.affc_domain.proofs.Lists.{both_true, true_both, length_map}
 use Rattle.affc_domain.proofs.PlainLemmas.{plain_rounds, few_loops, few_comparisons, assignments_are_plain}
 use Rattle.affc_domain.proofs.PlainLemmas as lemma
@@ -19,7 +19,7 @@ use Rattle.affc_nest.specs.declared.nest.NestFault.{NestFault}
 use Rattle.affc_nest.specs.declared.nest.NestFault.TheVariants.{Memory}
 use Rattle.affc_nest.specs.declared.sites.Site.{Site}
 use Rattle.affc_nest.specs.Entries.{IsPlainPlace, ArePlainPlaces, entries_at, first_wide_at, FaultSays}
-use Rattle.affc_nest.specs.Frames.{plain_at, comparisons_in}
+use Rattle.affc_nest.specs.Frames.{plain_at}
 use Rattle.affc_nest.specs.Nests.{entries_of}
 use Rattle.affc_nest.specs.Sides.{NearRanges}
 use Rattle.affc_nest.specs.Sites.{Place, place, places, places_of, all_around, all_numbers, all_assigned}
@@ -68,16 +68,11 @@ plain_here params loops comparisons names (Test conds ∷ rs) e h =
     let a = both_true (plain_tests (params + loops) conds) (plain_rounds params loops (comparisons + length conds) rs) h in
     true_both (plain_tests names conds) (plain_at names rs) (subst (λ n. IsTrue (plain_tests n conds)) (sym e) a.0) (plain_here params loops (comparisons + length conds) names rs e a.1)
 
-same_comparisons : (rs : List Round) → comparisons_in rs ≡ lemma.comparisons_in rs
-same_comparisons [] = refl
-same_comparisons (Loop iter low rel high ∷ rs) = same_comparisons rs
-same_comparisons (Test conds ∷ rs) = ap (λ n. length conds + n) (same_comparisons rs)
-
 pub plain_place : (params : ℕ) (p : Place) → lemma.PlainThere params 0 0 p.around p.assignment → IsPlainPlace params p
 plain_place params p h = record {
   rounds = plain_here params 0 0 params p.around (none_more params) h.0;
   few_loops = let l : 0 + loops_in p.around ≤ 6 = few_loops params 0 0 p.around (omega arith) h.0 in omega arith;
-  few_comparisons = let l : 0 + lemma.comparisons_in p.around ≤ 32 = few_comparisons params 0 0 p.around h.0 in let e = same_comparisons p.around in omega (arith, e);
+  few_comparisons = let l : 0 + comparisons_in p.around ≤ 32 = few_comparisons params 0 0 p.around h.0 in omega arith;
   accesses = subst (λ n. AllPlain (params + n) (accesses_of p.assignment)) (none_before (loops_in p.around)) (plain_accesses (params + (0 + loops_in p.around)) p.assignment h.1);
 }
   where

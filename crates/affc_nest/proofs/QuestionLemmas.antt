@@ -23,6 +23,7 @@ use Rattle.affc_trace.proofs.Runs.{length_append}
 use Rattle.affc_domain.specs.Accesses as said
 use Rattle.affc_domain.specs.Accesses.{accesses_of}
 use Rattle.affc_domain.specs.Affine.{form_of}
+use Rattle.affc_domain.specs.Arrays.{declared_arrays, extents_at}
 use Rattle.affc_domain.specs.Plain.{is_plain, all_plain, plain_decls, IsPlain}
 use Rattle.affc_domain.specs.Ranges.{number_ranges}
 use Rattle.affc_domain.specs.Rounds.{loops_in}
@@ -36,9 +37,9 @@ use Rattle.affc_nest.specs.declared.nest.Access.{Access}
 use Rattle.affc_nest.specs.declared.nest.ArrayInfo.{ArrayInfo}
 use Rattle.affc_nest.specs.declared.nest.Entry.{Entry}
 use Rattle.affc_nest.specs.declared.nest.Nest.{Nest}
-use Rattle.affc_nest.specs.Nests.{declared_arrays, array_of, access_form, nest_of}
+use Rattle.affc_nest.specs.Nests.{array_of, access_form, nest_of}
 use Rattle.affc_nest.specs.Questions.{with_row, extents_or_none, whole_context, extent_question, extent_questions, extents_of_access, low_question, widened, high_question, questions_of, entry_questions, bound_questions}
-use Rattle.affc_nest.specs.Laws.{HasNest, IsEntry, element_at, extents_at, NamesArrays, StaysWithin, NoneHasAPoint, QuestionsDecide, ExtentPoint, LiesOutside, AccessPoint}
+use Rattle.affc_nest.specs.Laws.{HasNest, IsEntry, element_at, NamesArrays, StaysWithin, NoneHasAPoint, QuestionsDecide, ExtentPoint, LiesOutside, AccessPoint}
 use Rattle.affc_nest.proofs.AccessLemmas.{whole_here, accesses_are_events, extents_are_extents, plain_append}
 use Rattle.affc_nest.proofs.DomainLemmas.{Met, to_all, from_all, met_append, met_both, no_gap_up}
 use Rattle.affc_nest.proofs.EntryLemmas.{SiteOf, site_of, columns_are, entries_stand, points_are_instances, none_where_not_alive}
@@ -62,12 +63,12 @@ there_is [] k h = absurd (omega arith)
 there_is (x ∷ xs) zero h = (x, refl)
 there_is (x ∷ xs) (suc k) h = there_is xs k (omega arith)
 
-below_length : {A : Type 0} (xs : List A) (k : ℕ) (a : A) → slice_get xs k ≡ Some a → k < length xs
+pub below_length : {A : Type 0} (xs : List A) (k : ℕ) (a : A) → slice_get xs k ≡ Some a → k < length xs
 below_length [] k a e = absurd (none-some a e)
 below_length (x ∷ xs) zero a e = omega arith
 below_length (x ∷ xs) (suc k) a e = let h = below_length xs k a e in omega arith
 
-value_of_entry : (fs : List Affine) (j : ℕ) (f : Affine) (xs : List ℤ) → slice_get fs j ≡ Some f → slice_get (values_of fs xs) j ≡ Some (value f xs)
+pub value_of_entry : (fs : List Affine) (j : ℕ) (f : Affine) (xs : List ℤ) → slice_get fs j ≡ Some f → slice_get (values_of fs xs) j ≡ Some (value f xs)
 value_of_entry [] j f xs e = absurd (none-some f e)
 value_of_entry (g ∷ fs) zero f xs e = ap (λ h. Some (value h xs)) (same_Some g f e)
 value_of_entry (g ∷ fs) (suc j) f xs e = value_of_entry fs j f xs e
@@ -85,12 +86,12 @@ forms_wide n (e ∷ es) = (form_width n 0 e ∙ no_more n, forms_wide n es)
     no_more : (n : ℕ) → n + 0 ≡ n
     no_more n = omega arith
 
-wide_at : (n : ℕ) (fs : List Affine) (j : ℕ) (f : Affine) → AllWide n fs → slice_get fs j ≡ Some f → length f.coefs ≡ n
+pub wide_at : (n : ℕ) (fs : List Affine) (j : ℕ) (f : Affine) → AllWide n fs → slice_get fs j ≡ Some f → length f.coefs ≡ n
 wide_at n [] j f w e = absurd (none-some f e)
 wide_at n (g ∷ fs) zero f w e = subst (λ (h : Affine). length h.coefs ≡ n) (same_Some g f e) w.0
 wide_at n (g ∷ fs) (suc j) f w e = wide_at n fs j f w.1 e
 
-arrays_wide : (m : ℕ) (ds : List Decl) (k : ℕ) → AllWide m (extents_or_none (slice_get (map (array_of m) ds) k))
+pub arrays_wide : (m : ℕ) (ds : List Decl) (k : ℕ) → AllWide m (extents_or_none (slice_get (map (array_of m) ds) k))
 arrays_wide m [] k = tt
 arrays_wide m (d ∷ ds) zero = forms_wide m d.extents
 arrays_wide m (d ∷ ds) (suc k) = arrays_wide m ds k
@@ -100,7 +101,7 @@ accesses_wide n [] i x e = absurd (none-some x e)
 accesses_wide n (y ∷ xs) zero x e = subst (λ (z : Access). AllWide n z.subs) (same_Some _ x e) (forms_wide n y.1)
 accesses_wide n (y ∷ xs) (suc i) x e = accesses_wide n xs i x e
 
-subs_wide : (program : Program) (statement : ℕ) (e : Entry) (s : SiteOf program statement e) (i : ℕ) (x : Access) → slice_get e.accesses i ≡ Some x → AllWide e.domain.columns x.subs
+pub subs_wide : (program : Program) (statement : ℕ) (e : Entry) (s : SiteOf program statement e) (i : ℕ) (x : Access) → slice_get e.accesses i ≡ Some x → AllWide e.domain.columns x.subs
 subs_wide program statement e s i x h =
     subst (λ n. AllWide n x.subs) (sym (columns_are program statement e s))
     (accesses_wide (length (number_ranges program.params) + loops_in s.its_rounds) (accesses_of s.assignment) i x (sym (ap (λ (y : Entry). slice_get y.accesses i) s.is) ∙ h))
@@ -112,7 +113,7 @@ values_at [] k p = refl
 values_at (a ∷ as') zero p = refl
 values_at (a ∷ as') (suc k) p = values_at as' k p
 
-extents_there : (program : Program) (p : List ℤ) (k : ℕ) → IsPlain program → length p ≡ length (number_ranges program.params)
+pub extents_there : (program : Program) (p : List ℤ) (k : ℕ) → IsPlain program → length p ≡ length (number_ranges program.params)
     → get_or (extents_at (declared_arrays program) p) k [] ≡ values_of (extents_or_none (slice_get (nest_of program).arrays k)) p
 extents_there program p k plain l = ap (λ (xs : List (List ℤ)). get_or xs k []) (sym (extents_are_extents program p plain l)) ∙ values_at (nest_of program).arrays k p
 
@@ -146,7 +147,7 @@ with_more system row xs is m = record { width = is.width; meets = to_all xs (sys
 least : (a b : Affine) (xs : List ℤ) → length a.coefs ≡ length xs → length b.coefs ≡ length xs → value a xs ≤ℤ value b xs → Meets xs (gap_row a b 0)
 least a b xs u w h = no_gap_up a b xs u w a b u w h
 
-or_less : (x y : ℤ) → (y ≤ℤ x) ⊎ (x <ℤ y)
+pub or_less : (x y : ℤ) → (y ≤ℤ x) ⊎ (x <ℤ y)
 or_less x y = chosen (int_lt x y) refl
   where
     not_less : (x y : ℤ) → int_lt x y ≡ false → y ≤ℤ x
@@ -184,7 +185,7 @@ context_points program p plain = (
 
 module _ (program : Program) (plain : IsPlain program) (p : List ℤ) (f : Affine) (w : length f.coefs ≡ length (number_ranges program.params)) where
   -- a point of the question on a form
-  extent_says : IsPoint (extent_question (nest_of program) f) p → IsInContext program p × (value f p ≤ℤ pos 0)
+  pub extent_says : IsPoint (extent_question (nest_of program) f) p → IsInContext program p × (value f p ≤ℤ pos 0)
   extent_says is =
       let m = length (number_ranges program.params) in
       let b = one_more (whole_context (nest_of program)) (gap_row f (number_form m (pos 0)) 0) p is in
@@ -193,7 +194,7 @@ module _ (program : Program) (plain : IsPlain program) (p : List ℤ) (f : Affin
         subst (λ z. value f p ≤ℤ z) (number_value m (pos 0) p) (at_most f (number_form m (pos 0)) p (w ∙ sym l) (number_width m (pos 0) ∙ sym l) b.1),
       )
 
-  says_extent : IsInContext program p → value f p ≤ℤ pos 0 → IsPoint (extent_question (nest_of program) f) p
+  pub says_extent : IsInContext program p → value f p ≤ℤ pos 0 → IsPoint (extent_question (nest_of program) f) p
   says_extent inside h =
       let m = length (number_ranges program.params) in
       let is = (context_points program p plain).1 inside in
@@ -216,7 +217,7 @@ module _ (program : Program) (has : HasNest program) (p : List ℤ) (here : Inst
   columns : e.domain.columns ≡ length (number_ranges program.params) + length e.loops
   columns = ((entries_stand program has).1 here.statement e h).columns
 
-  low_says : IsPoint (low_question e.domain sub) (p ++ here.iterators) → IsPoint e.domain (p ++ here.iterators) × (value sub (p ++ here.iterators) ≤ℤ negsuc 0)
+  pub low_says : IsPoint (low_question e.domain sub) (p ++ here.iterators) → IsPoint e.domain (p ++ here.iterators) × (value sub (p ++ here.iterators) ≤ℤ negsuc 0)
   low_says is =
       let names : List ℤ = p ++ here.iterators in
       let n = e.domain.columns in
@@ -224,7 +225,7 @@ module _ (program : Program) (has : HasNest program) (p : List ℤ) (here : Inst
       let w : length names ≡ n = b.0.width in
       (b.0, subst (λ z. value sub names ≤ℤ z) (number_value n (negsuc 0) names) (at_most sub (number_form n (negsuc 0)) names (u ∙ sym w) (number_width n (negsuc 0) ∙ sym w) b.1))
 
-  says_low : IsPoint e.domain (p ++ here.iterators) → value sub (p ++ here.iterators) ≤ℤ negsuc 0 → IsPoint (low_question e.domain sub) (p ++ here.iterators)
+  pub says_low : IsPoint e.domain (p ++ here.iterators) → value sub (p ++ here.iterators) ≤ℤ negsuc 0 → IsPoint (low_question e.domain sub) (p ++ here.iterators)
   says_low is k =
       let names : List ℤ = p ++ here.iterators in
       let n = e.domain.columns in
@@ -232,7 +233,7 @@ module _ (program : Program) (has : HasNest program) (p : List ℤ) (here : Inst
       with_more e.domain (gap_row sub (number_form n (negsuc 0)) 0) names is
       (least sub (number_form n (negsuc 0)) names (u ∙ sym w) (number_width n (negsuc 0) ∙ sym w) (subst (λ z. value sub names ≤ℤ z) (sym (number_value n (negsuc 0) names)) k))
 
-  high_says : IsPoint (high_question e.domain (length e.loops) sub extent) (p ++ here.iterators) → IsPoint e.domain (p ++ here.iterators) × (value extent p ≤ℤ value sub (p ++ here.iterators))
+  pub high_says : IsPoint (high_question e.domain (length e.loops) sub extent) (p ++ here.iterators) → IsPoint e.domain (p ++ here.iterators) × (value extent p ≤ℤ value sub (p ++ here.iterators))
   high_says is =
       let names : List ℤ = p ++ here.iterators in
       let g : Affine = widened (length e.loops) extent in
@@ -241,7 +242,7 @@ module _ (program : Program) (has : HasNest program) (p : List ℤ) (here : Inst
       let wg : length g.coefs ≡ length names = widened_width extent (length (number_ranges program.params)) (length e.loops) (length names) v (w ∙ columns) in
       (b.0, subst (λ z. z ≤ℤ value sub names) (widened_is extent p here.iterators (length e.loops) (v ∙ sym l)) (at_most g sub names wg (u ∙ sym w) b.1))
 
-  says_high : IsPoint e.domain (p ++ here.iterators) → value extent p ≤ℤ value sub (p ++ here.iterators) → IsPoint (high_question e.domain (length e.loops) sub extent) (p ++ here.iterators)
+  pub says_high : IsPoint e.domain (p ++ here.iterators) → value extent p ≤ℤ value sub (p ++ here.iterators) → IsPoint (high_question e.domain (length e.loops) sub extent) (p ++ here.iterators)
   says_high is k =
       let names : List ℤ = p ++ here.iterators in
       let g : Affine = widened (length e.loops) extent in
@@ -298,14 +299,14 @@ decl_plain seen (c ∷ ds) d h i =
     first_or_later (λ (y : Decl). IsTrue (all_plain seen y.extents)) c d ds b.0 (decl_plain seen ds d b.1) i
 
 -- the value of an extent's form
-extent_value : (program : Program) (p : List ℤ) (d : Decl) (e : Ix) → IsPlain program → length p ≡ length (number_ranges program.params) → IsIn d (declared_arrays program) → IsIn e d.extents
+pub extent_value : (program : Program) (p : List ℤ) (d : Decl) (e : Ix) → IsPlain program → length p ≡ length (number_ranges program.params) → IsIn d (declared_arrays program) → IsIn e d.extents
     → value (form_of (length (number_ranges program.params)) 0 e) p ≡ whole e p
 extent_value program p d e plain l i j =
     let m = length (number_ranges program.params) in
     let all = plain_append m (arrays_of program.params) program.temps plain.arrays plain.temps in
     whole_here m p e l (is_plain_affine m e (one_plain m d.extents e (decl_plain m (declared_arrays program) d all i) j))
 
-narrow : (m : ℕ) (e : Ix) → length (form_of m 0 e).coefs ≡ m
+pub narrow : (m : ℕ) (e : Ix) → length (form_of m 0 e).coefs ≡ m
 narrow m e = let q : length (form_of m 0 e).coefs ≡ m + 0 = form_width m 0 e in omega arith
 
 extent_asked : (program : Program) (d : Decl) (e : Ix) → IsIn d (declared_arrays program) → IsIn e d.extents
@@ -317,7 +318,7 @@ extent_asked program d e i j =
     (to_map (extent_question n) (map (form_of m 0) d.extents) (form_of m 0 e) (to_map (form_of m 0) d.extents e j))
 
 -- one dimension of an access
-dimension_within : (xs ns : List ℤ) (j : ℕ) (x n : ℤ) → is_within xs ns ≡ true → slice_get xs j ≡ Some x → slice_get ns j ≡ Some n → (pos 0 ≤ℤ x) × (x <ℤ n)
+pub dimension_within : (xs ns : List ℤ) (j : ℕ) (x n : ℤ) → is_within xs ns ≡ true → slice_get xs j ≡ Some x → slice_get ns j ≡ Some n → (pos 0 ≤ℤ x) × (x <ℤ n)
 dimension_within [] ns j x n w a b = absurd (none-some x a)
 dimension_within (y ∷ xs) [] j x n w a b = absurd (none-some n b)
 dimension_within (y ∷ xs) (k ∷ ns) zero x n w a b =
@@ -452,7 +453,7 @@ all_within program has p here e h alive l is (s ∷ subs) (x ∷ extents) long u
     right z (inr k) = k
 
 -- an access has as many subscripts as its array has extents
-as_many : (program : Program) (k : ℕ) (e : Entry) → NamesArrays program → IsEntry program k e → (x : Access) → IsIn x e.accesses → length x.subs ≡ length (extents_of_access (nest_of program) x)
+pub as_many : (program : Program) (k : ℕ) (e : Entry) → NamesArrays program → IsEntry program k e → (x : Access) → IsIn x e.accesses → length x.subs ≡ length (extents_of_access (nest_of program) x)
 as_many program k e named h x i =
     let m = length (number_ranges program.params) in
     let s = site_of program k e h in

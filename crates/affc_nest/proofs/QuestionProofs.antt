@@ -13,9 +13,10 @@ use Rattle.affc_trace.proofs.Runs.{length_append}
 use Rattle.affc_domain.specs.Accesses as said
 use Rattle.affc_domain.specs.Accesses.{accesses_of}
 use Rattle.affc_domain.specs.Affine.{form_of}
+use Rattle.affc_domain.specs.Arrays.{declared_arrays}
 use Rattle.affc_domain.specs.Plain.{is_plain, all_plain, plain_decls}
 use Rattle.affc_domain.specs.Ranges.{Ranges, Within, Never, Wide, number_ranges, ranges_of}
-use Rattle.affc_domain.specs.Rounds.{Round, Loop, Test, loops_in}
+use Rattle.affc_domain.specs.Rounds.{Round, Loop, Test, loops_in, comparisons_in}
 use Rattle.affc_domain.proofs.Lists.{both_true}
 use Rattle.affc_domain.proofs.PlainLemmas.{assignments_are_plain}
 use Rattle.affc_nest.specs.Asked.{IsNest, IsExtent, IsSubscript, NestsAreAsked, ExtentsAreAsked, SubscriptsAreAsked, EntriesAreAsked}
@@ -25,8 +26,7 @@ use Rattle.affc_nest.specs.declared.nest.Entry.{Entry}
 use Rattle.affc_nest.specs.declared.nest.Nest.{Nest}
 use Rattle.affc_nest.specs.Domains.{box_rows, test_rows, loop_rows, condition_rows, domain_rows}
 use Rattle.affc_nest.specs.Entries.{IsPlainPlace}
-use Rattle.affc_nest.specs.Frames.{comparisons_in}
-use Rattle.affc_nest.specs.Nests.{declared_arrays, array_of, access_form, domain_by, nest_of}
+use Rattle.affc_nest.specs.Nests.{array_of, access_form, domain_by, nest_of}
 use Rattle.affc_nest.specs.Questions.{extents_or_none, widened}
 use Rattle.affc_nest.specs.Sides.{AreNear, IsSide, NearRanges}
 use Rattle.affc_nest.specs.Sites.{Place}
@@ -35,7 +35,7 @@ use Rattle.affc_nest.proofs.AccessLemmas.{plain_append}
 use Rattle.affc_nest.proofs.EntryLemmas.{SiteOf, site_of, columns_are, loops_are}
 use Rattle.affc_nest.proofs.PlaceProofs.{near_numbers, plain_place}
 use Rattle.affc_nest.proofs.QuestionLemmas.{place_of, stands_in}
-use Rattle.affc_nest.proofs.RowLemmas.{plain_side, few_box, few_tests, few_loop_rows}
+use Rattle.affc_nest.proofs.RowLemmas.{plain_side, zeros_near, few_box, few_tests, few_loop_rows}
 
 -- ---- Sides
 
@@ -65,10 +65,6 @@ sub_in : (n : ℕ) (xs : List said.Access) (x : Access) (f : Affine) → AllPlai
 sub_in n [] x f h i j = absurd i
 sub_in n (y ∷ xs) x f h (inl is) j = form_in n y.1 f h.0 (subst (λ (z : Access). IsIn f z.subs) is j)
 sub_in n (y ∷ xs) x f h (inr i) j = sub_in n xs x f h.1 i j
-
-zeros_near : (n : ℕ) → AreNear (replicate n (pos 0))
-zeros_near zero = tt
-zeros_near (suc n) = (omega arith, zeros_near n)
 
 near_append : (cs ds : List ℤ) → AreNear cs → AreNear ds → AreNear (cs ++ ds)
 near_append [] ds h g = g

@@ -44,7 +44,7 @@ small_side n f h w =
 pub plain_side : (n k : ℕ) (e : Ix) → IsTrue (is_plain n e) → IsSide (n + k) (form_of n k e)
 plain_side n k e h = small_side (n + k) (form_of n k e) (plain_small n k e h) (form_width n k e)
 
-zeros_near : (n : ℕ) → AreNear (replicate n (pos 0))
+pub zeros_near : (n : ℕ) → AreNear (replicate n (pos 0))
 zeros_near zero = tt
 zeros_near (suc n) = (omega arith, zeros_near n)
 

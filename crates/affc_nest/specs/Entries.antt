@@ -3,11 +3,11 @@ use Rattle.std.specs.Prelude.{◌≡◌, ℕ, ◌+◌, ◌≤◌, ℤ, IsTrue, L
 use Rattle.affc_ast.specs.declared.tree.Compare.{Compare}
 use Rattle.affc_domain.specs.Accesses.{accesses_of}
 use Rattle.affc_domain.specs.Ranges.{first_wide_of}
-use Rattle.affc_domain.specs.Rounds.{loops_in}
+use Rattle.affc_domain.specs.Rounds.{loops_in, comparisons_in}
 use Rattle.affc_nest.specs.declared.nest.Entry.{Entry}
 use Rattle.affc_nest.specs.declared.nest.NestFault.{NestFault}
 use Rattle.affc_nest.specs.declared.nest.NestFault.TheVariants.{IteratorRange, Memory}
-use Rattle.affc_nest.specs.Frames.{plain_at, comparisons_in}
+use Rattle.affc_nest.specs.Frames.{plain_at}
 use Rattle.affc_nest.specs.Nests.{entry_of, entries_of}
 use Rattle.affc_nest.specs.Sites.{Place, all_around, all_numbers, all_assigned}
 use Rattle.affc_nest.specs.Touches.{AllPlain}

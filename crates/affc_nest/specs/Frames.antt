@@ -1,5 +1,5 @@
 -- What stands round a statement, as the code holds it.
-use Rattle.std.specs.Prelude.{ℕ, suc, ◌+◌, length, Bool, true, ◌&&◌, List, [], ◌∷◌, map}
+use Rattle.std.specs.Prelude.{ℕ, suc, Bool, true, ◌&&◌, List, [], ◌∷◌, map}
 use Rattle.affc_domain.specs.Plain.{is_plain, plain_tests}
 use Rattle.affc_domain.specs.Rounds.{Round, Loop, Test}
 use Rattle.affc_nest.specs.declared.frames.Frame.{Frame}
@@ -17,9 +17,3 @@ abbrev pub plain_at : (names : ℕ) → List Round → Bool
 plain_at names [] = true
 plain_at names (Loop iter low rel high ∷ rs) = is_plain names low && (is_plain names high && plain_at (suc names) rs)
 plain_at names (Test conds ∷ rs) = plain_tests names conds && plain_at names rs
-
--- how many comparisons
-abbrev pub comparisons_in : List Round → ℕ
-comparisons_in [] = 0
-comparisons_in (Loop iter low rel high ∷ rs) = comparisons_in rs
-comparisons_in (Test conds ∷ rs) = length conds + comparisons_in rs

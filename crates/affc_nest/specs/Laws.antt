@@ -15,11 +15,12 @@ use Rattle.affc_trace.specs.Law.{IsIn}
 use Rattle.affc_trace.specs.Laws.{IsInContext}
 use Rattle.affc_domain.specs.Accesses as said
 use Rattle.affc_domain.specs.Accesses.{accesses_of}
+use Rattle.affc_domain.specs.Arrays.{declared_arrays, extents_at}
 use Rattle.affc_domain.specs.Plain.{IsPlain}
 use Rattle.affc_domain.specs.Ranges.{is_near, first_wide, number_ranges}
 use Rattle.affc_nest.specs.declared.nest.Access.{Access}
 use Rattle.affc_nest.specs.declared.nest.Entry.{Entry}
-use Rattle.affc_nest.specs.Nests.{declared_arrays, nest_of}
+use Rattle.affc_nest.specs.Nests.{nest_of}
 use Rattle.affc_nest.specs.Questions.{extent_at, extent_question, extent_questions, extents_of_access, low_question, high_question, bound_questions}
 
 -- a program that has a nest: it is plain, and no loop that is entered passes 2^31
@@ -82,10 +83,6 @@ AccessesAreEvents = (program : Program) (p : List ℤ) (b : Instance) (e : Entry
 abbrev pub ContextIsTheContext : Type 0
 ContextIsTheContext = (program : Program) (p : List ℤ) → IsPlain program
     → IsInContext program p ↔ (InBox (nest_of program).params p × IsPoint (nest_of program).context p)
-
--- the extents of arrays, from the outermost dimension
-abbrev pub extents_at : List Decl → List ℤ → List (List ℤ)
-extents_at ds p = map (λ d. map (λ e. whole e p) d.extents) ds
 
 -- The extents have the program's values.
 abbrev pub ExtentsAreExtents : Type 0

@@ -1,14 +1,14 @@
 -- The nest of a program: its domains, accesses, extents and context, as systems and forms.
-use Rattle.std.specs.Prelude.{ℕ, suc, ◌+◌, ℤ, negsuc, Bool, true, false, if◌then◌else◌, List, [], ◌∷◌, ◌++◌, length, map}
+use Rattle.std.specs.Prelude.{ℕ, suc, ◌+◌, ℤ, negsuc, Bool, true, false, if◌then◌else◌, List, [], ◌∷◌, length, map}
 use Rattle.affc_system.specs.Systems.{Rows}
 use Rattle.affc_ast.specs.declared.tree.Compare.{Compare}
 use Rattle.affc_ast.specs.declared.tree.Decl.{Decl}
 use Rattle.affc_ast.specs.declared.tree.Program.{Program}
-use Rattle.affc_ast.specs.Meaning.{arrays_of}
 use Rattle.affc_ast.specs.Trace.{Assignment, assignments}
 use Rattle.affc_domain.specs.Accesses as said
 use Rattle.affc_domain.specs.Accesses.{accesses_of}
 use Rattle.affc_domain.specs.Affine.{form_of}
+use Rattle.affc_domain.specs.Arrays.{declared_arrays}
 use Rattle.affc_domain.specs.Loops.{loop_numbers}
 use Rattle.affc_domain.specs.Ranges.{Ranges, Within, Never, Wide, number_ranges, ranges_of}
 use Rattle.affc_domain.specs.Rounds.{Round, rounds, loops_in}
@@ -19,10 +19,6 @@ use Rattle.affc_nest.specs.declared.nest.Entry.{Entry}
 use Rattle.affc_nest.specs.declared.nest.Nest.{Nest}
 
 -- ---- Arrays
-
--- all arrays, in order of declaration
-abbrev pub declared_arrays : Program → List Decl
-declared_arrays program = arrays_of program.params ++ program.temps
 
 abbrev pub array_of : (params : ℕ) → Decl → ArrayInfo
 array_of params d = record { role = d.role; extents = map (form_of params 0) d.extents }

@@ -2,9 +2,9 @@
 ghost use Rattle.std.specs.Prelude.{◌≡◌, ◌+◌, ◌*◌, ◌^◌, ◌<◌, ◌≤◌, [], length, unsigned_abs, IsTrue, IfOk, OnOk};
 ghost use Rattle.affc_domain.specs.Affine.{form_of};
 ghost use Rattle.affc_domain.specs.Plain.{is_plain, plain_tests};
-ghost use Rattle.affc_domain.specs.Rounds.{loops_in};
+ghost use Rattle.affc_domain.specs.Rounds.{loops_in, comparisons_in};
 ghost use Rattle.affc_nest.specs.Domains.{compare_rows, test_rows, bounds_of, range_rows, box_rows, loop_rows, condition_rows, domain_rows, with_rows};
-ghost use Rattle.affc_nest.specs.Frames.{all_seen, plain_at, comparisons_in};
+ghost use Rattle.affc_nest.specs.Frames.{all_seen, plain_at};
 ghost use Rattle.affc_nest.specs.Sides.{NearRanges};
 
 use crate::forms::{column, form_over, number};

@@ -1,13 +1,14 @@
 //! The nest of a program.
 ghost use Rattle.std.specs.Prelude.{◌≡◌, ◌≤◌, length, map, None, IsTrue, IfOk, IfErr, OnOk};
 ghost use Rattle.affc_ast.specs.Trace.{assignments};
+ghost use Rattle.affc_domain.specs.Arrays.{declared_arrays};
 ghost use Rattle.affc_domain.specs.Loops.{loop_numbers};
 ghost use Rattle.affc_domain.specs.Plain.{IsPlain, plain_decls, plain_tests};
 ghost use Rattle.affc_domain.specs.Ranges.{number_ranges, first_wide};
 ghost use Rattle.affc_domain.specs.Rounds.{rounds};
 ghost use Rattle.affc_nest.specs.Domains.{test_rows};
 ghost use Rattle.affc_nest.specs.Entries.{FaultSays};
-ghost use Rattle.affc_nest.specs.Nests.{declared_arrays, array_of, entries_of, nest_of};
+ghost use Rattle.affc_nest.specs.Nests.{array_of, entries_of, nest_of};
 ghost use Rattle.affc_nest.specs.Sites.{places, places_of};
 
 use crate::accesses::{add_array_params, add_arrays, add_numbers};

@@ -20,10 +20,10 @@ use Rattle.affc_trace.proofs.LastStores.{append_nil}
 use Rattle.affc_trace.proofs.Members.{to_first, to_second}
 use Rattle.affc_trace.proofs.Once.{in_append}
 use Rattle.affc_domain.specs.Accesses.{Access, accesses_in, own_access, accesses_of}
+use Rattle.affc_domain.specs.Arrays.{declared_arrays}
 use Rattle.affc_domain.proofs.PlainLemmas.{has_assignment}
 use Rattle.affc_domain.proofs.TurnLemmas.{instances_turn}
 use Rattle.affc_safe.specs.Laws.{WithoutTemporariesSafe}
-use Rattle.affc_safe.specs.Safe.{declared_arrays}
 use Rattle.affc_safe.proofs.EndedSafe.{no_temporaries_are_written}
 
 loaded : (e : Val) (names : List ℤ) (x : Element) → IsIn x (loads_of_value e names) → (a : Access) × IsIn a (accesses_in e) × (x ≡ element names a.0 a.1)

@@ -25,9 +25,9 @@ use Rattle.affc_trace.proofs.EndedReads.{bind_ok, is_whole, are_whole, same_ok}
 use Rattle.affc_trace.proofs.Found.{source_is_found}
 use Rattle.affc_trace.proofs.LastStores.{map_append, append_nil}
 use Rattle.affc_trace.proofs.Once.{in_append}
-use Rattle.affc_safe.specs.Safe.{declared_arrays, extents_at}
 use Rattle.affc_safe.specs.Laws.{EndedIsSafe, UnsafeIsStuck, UnwrittenInstance, NoTemporariesAreWritten}
 use Rattle.affc_safe.proofs.SourceRuns.{source_comes}
+use Rattle.affc_domain.specs.Arrays.{declared_arrays, extents_at}
 use Rattle.affc_domain.proofs.PlainLemmas.{has_assignment}
 use Rattle.affc_domain.proofs.TurnLemmas.{trace_runs}
 use Rattle.affc_safe.proofs.Walk.{AllWithin}

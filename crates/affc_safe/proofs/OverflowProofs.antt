@@ -12,7 +12,7 @@ use Rattle.affc_ast.specs.declared.tree.Program.{Program}
 use Rattle.affc_ast.specs.Cause.{Cause}
 use Rattle.affc_ast.specs.Trace.{Assignment, assignments, trace}
 use Rattle.affc_trace.specs.Law.{IsIn}
-use Rattle.affc_safe.specs.Safe.{declared_arrays}
+use Rattle.affc_domain.specs.Arrays.{declared_arrays}
 use Rattle.affc_safe.specs.Overflow.{AreReadable, ReadsAssignment}
 use Rattle.affc_trace.specs.Examples.{blur, S0}
 use Rattle.affc_trace.specs.Laws.{IsInContext}

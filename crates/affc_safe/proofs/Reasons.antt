@@ -18,9 +18,10 @@ use Rattle.affc_trace.specs.Dataflow.{IsSource, source}
 use Rattle.affc_trace.proofs.Found.{source_is_found}
 use Rattle.affc_trace.proofs.Members.{both_hold, hold_both, to_first, to_second}
 use Rattle.affc_trace.proofs.Once.{in_append}
+use Rattle.affc_domain.specs.Arrays.{declared_arrays, extents_at}
 use Rattle.affc_domain.proofs.Lists.{le_true, true_le}
 use Rattle.affc_safe.specs.Laws.{ReasonsAreFound}
-use Rattle.affc_safe.specs.Safe.{declared_arrays, extents_at, HasExtents, KeepsWithin, LoadsWritten, extents_hold, accesses_hold, loads_hold}
+use Rattle.affc_safe.specs.Safe.{HasExtents, KeepsWithin, LoadsWritten, extents_hold, accesses_hold, loads_hold}
 
 to_all : {A : Type 0} (f : A → Bool) (xs : List A) → ((x : A) → IsIn x xs → f x ≡ true) → list_all f xs ≡ true
 to_all f [] h = refl

@@ -25,11 +25,12 @@ use Rattle.affc_trace.proofs.Once.{once}
 use Rattle.affc_trace.proofs.Runs.{PartsAt}
 use Rattle.affc_trace.proofs.TraceEffects.{trace_effects}
 use Rattle.affc_trace.proofs.Unwritten.{IsOther}
+use Rattle.affc_domain.specs.Arrays.{declared_arrays, extents_at}
 use Rattle.affc_domain.specs.Ranges.{number_ranges}
 use Rattle.affc_domain.proofs.Lists.{true_lt}
 use Rattle.affc_safe.specs.Laws.{SafeRuns, StuckForAValue}
 use Rattle.affc_safe.specs.Overflow.{near_ranges, AreReadable, NeverOverflows}
-use Rattle.affc_safe.specs.Safe.{declared_arrays, extents_at, LiesWithin, HasExtents, KeepsWithin, IsSafe}
+use Rattle.affc_safe.specs.Safe.{LiesWithin, HasExtents, KeepsWithin, IsSafe}
 use Rattle.affc_safe.proofs.PlainNear.{plain_has_no_locals, plain_never_overflows}
 use Rattle.affc_safe.proofs.Wants.{Wants, wants_reading, bind_to}
 use Rattle.affc_safe.proofs.Walk.{params_sit, Keep, EffectKeeps, list_wants}

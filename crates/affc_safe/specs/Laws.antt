@@ -12,10 +12,11 @@ use Rattle.affc_trace.specs.Laws.{IsInContext, IsUnwritten}
 use Rattle.affc_trace.specs.Effects.{effect, has_no_locals}
 use Rattle.affc_trace.specs.Dataflow.{IsSource}
 use Rattle.affc_domain.specs.Accesses.{Access, accesses_of}
+use Rattle.affc_domain.specs.Arrays.{declared_arrays}
 use Rattle.affc_domain.specs.Plain.{IsPlain}
 use Rattle.affc_domain.specs.Ranges.{first_wide}
 use Rattle.affc_safe.specs.Overflow.{NeverOverflows}
-use Rattle.affc_safe.specs.Safe.{declared_arrays, HasExtents, KeepsWithin, LoadsWritten, IsSafe, extents_hold, accesses_hold, loads_hold}
+use Rattle.affc_safe.specs.Safe.{HasExtents, KeepsWithin, LoadsWritten, IsSafe, extents_hold, accesses_hold, loads_hold}
 
 -- A plain program whose iterators keep within 2^31 never overflows.
 abbrev pub PlainNeverOverflows : Type 0

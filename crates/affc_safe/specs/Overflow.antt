@@ -13,9 +13,9 @@ use Rattle.affc_ast.specs.Index.{index_value}
 use Rattle.affc_ast.specs.Recursion.{by_stmt}
 use Rattle.affc_ast.specs.Trace.{Assignment, assignments, trace}
 use Rattle.affc_trace.specs.Law.{IsIn}
+use Rattle.affc_domain.specs.Arrays.{declared_arrays}
 use Rattle.affc_domain.specs.Plain.{is_plain, plain_tests}
 use Rattle.affc_domain.specs.Ranges.{is_near, number_ranges, range_of}
-use Rattle.affc_safe.specs.Safe.{declared_arrays}
 
 -- ---- Loops and conditions, by the interval rule
 

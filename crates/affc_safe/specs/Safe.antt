@@ -1,5 +1,5 @@
 -- What a run that ends comes to, as facts of the instances: extents, accesses and sources.
-use Rattle.std.specs.Prelude.{◌≡◌, ◌≤◌, nat_lt, ℤ, pos, ◌≤ℤ◌, int_le, Bool, true, ◌||◌, is_some, List, [], ◌++◌, length, map, get_or, Some}
+use Rattle.std.specs.Prelude.{◌≡◌, ◌≤◌, nat_lt, ℤ, pos, ◌≤ℤ◌, int_le, Bool, true, ◌||◌, is_some, List, [], length, get_or, Some}
 use Rattle.std.specs.List.{list_all}
 use Rattle.affc_ast.specs.declared.tree.Decl.{Decl}
 use Rattle.affc_ast.specs.declared.tree.Instance.{Instance}
@@ -14,14 +14,7 @@ use Rattle.affc_trace.specs.Law.{IsIn}
 use Rattle.affc_trace.specs.Orders.{Touches}
 use Rattle.affc_trace.specs.Effects.{effect}
 use Rattle.affc_trace.specs.Dataflow.{IsSource, source}
-
--- all arrays, by their numbers: the array parameters, and then the temporaries
-abbrev pub declared_arrays : Program → List Decl
-declared_arrays program = arrays_of program.params ++ program.temps
-
--- the extents of each array
-abbrev pub extents_at : List Decl → (p : List ℤ) → List (List ℤ)
-extents_at ds p = map (λ d. map (λ e. whole e p) d.extents) ds
+use Rattle.affc_domain.specs.Arrays.{declared_arrays, extents_at}
 
 -- The element lies within the extents of its array. An element without subscripts also does where no array has its number.
 abbrev pub LiesWithin : Program → (p : List ℤ) → Element → Type 0

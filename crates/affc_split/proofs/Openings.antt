@@ -9,6 +9,7 @@ use Rattle.std.proofs.lemmas.List.{length-append}
 use Rattle.std.proofs.lemmas.List.Elements.{All-nil, All-cons, All-head, All-tail, All-append, All-weaker}
 use Rattle.affc_system.specs.Systems.{Rows}
 use Rattle.affc_system.specs.Boxes.{IsRange, IsBox, InBox}
+use Rattle.affc_system.specs.Order.{LexLe}
 use Rattle.affc_farkas.specs.declared.proof.Proof.{Proof, Leaf, Cut', Split'}
 use Rattle.affc_leaf.specs.declared.bounds.Bound.{Bound}
 use Rattle.affc_split.specs.declared.search.Answer.{Answer}
@@ -16,7 +17,7 @@ use Rattle.affc_split.specs.declared.search.Answer.TheVariants as answer
 use Rattle.affc_split.specs.declared.search.Found.{Found}
 use Rattle.affc_split.specs.declared.search.Found.TheVariants.{Empty, Point}
 use Rattle.affc_split.specs.Budgets.{Account, IsUnit}
-use Rattle.affc_leaf.specs.Points.{LexLe, IsLeastPoint}
+use Rattle.affc_leaf.specs.Points.{IsLeastPoint}
 use Rattle.affc_split.specs.Answers.{IfPoint}
 use Rattle.affc_leaf.specs.Bounds.{IsBound, Inside, FirstFree, lowered, raised, bound_at, ranges_of}
 use Rattle.affc_leaf.specs.Parts.{NoneIn}

@@ -2,11 +2,11 @@
 use Rattle.std.specs.Prelude.{◌≡◌, ◌≢◌, ◌⊎◌, ℕ, ◌+◌, ◌≤◌, List, [], ◌∷◌, length, ℤ, Some}
 use Rattle.std.specs.List.{All}
 use Rattle.affc_system.specs.Boxes.{IsBox, InBox}
+use Rattle.affc_system.specs.Order.{LexLe}
 use Rattle.affc_farkas.specs.declared.proof.Proof.{Proof, Leaf, Cut', Split'}
 use Rattle.affc_split.specs.declared.search.Answer.{Answer}
 use Rattle.affc_split.specs.declared.search.Answer.TheVariants.{Empty, Point}
 use Rattle.affc_split.specs.Budgets.{Account}
-use Rattle.affc_leaf.specs.Points.{LexLe}
 
 -- how many leaves, cuts and splits a proof has
 abbrev pub nodes : Proof → ℕ
