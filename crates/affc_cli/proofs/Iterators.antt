@@ -37,7 +37,7 @@ in_for s iter low rel high body slice e b =
 in_if : (s : Stmt) (conds : List Compare) (body slice : List Stmt) → s ≡ If conds body → slice ≡ body → rounds_in s ≡ map (λ rs. Test conds ∷ rs) (flat_map rounds_in slice)
 in_if s conds body slice e b = ap rounds_in e ∙ by_if rounds_step conds body ∙ ap (map (λ rs. Test conds ∷ rs)) (of_body body slice b)
 
-pub in_block : (s : Stmt) (locals : List Local) (body slice : List Stmt) → s ≡ Block locals body → slice ≡ body → rounds_in s ≡ flat_map rounds_in slice
+in_block : (s : Stmt) (locals : List Local) (body slice : List Stmt) → s ≡ Block locals body → slice ≡ body → rounds_in s ≡ flat_map rounds_in slice
 in_block s locals body slice e b = ap rounds_in e ∙ by_block rounds_step locals body ∙ of_body body slice b
 
 -- ---- What is found in a body
@@ -64,6 +64,15 @@ tested s conds body slice left loop name e b h =
 pub behind_test : (s : Stmt) (conds : List Compare) (body slice : List Stmt) (left rest : ℕ) → s ≡ If conds body → slice ≡ body
     → left ≡ length (flat_map rounds_in slice) + rest → left ≡ length (rounds_in s) + rest
 behind_test s conds body slice left rest e b = behind (Test conds) (rounds_in s) (flat_map rounds_in slice) (in_if s conds body slice e b) left rest
+
+-- in a block
+pub blocked : (s : Stmt) (locals : List Local) (body slice : List Stmt) (left loop : ℕ) (name : List ℕ) → s ≡ Block locals body → slice ≡ body
+    → IsName (flat_map rounds_in slice) left loop name → IsName (rounds_in s) left loop name
+blocked s locals body slice left loop name e b = subst (λ each. IsName each left loop name) (sym (in_block s locals body slice e b))
+
+pub behind_block : (s : Stmt) (locals : List Local) (body slice : List Stmt) (left rest : ℕ) → s ≡ Block locals body → slice ≡ body
+    → left ≡ length (flat_map rounds_in slice) + rest → left ≡ length (rounds_in s) + rest
+behind_block s locals body slice left rest e b = subst (λ each. left ≡ length each + rest) (sym (in_block s locals body slice e b))
 
 first_name : (iter : List ℕ) (low : Ix) (rel : Rel) (high : Ix) (rs : List Round) (loop : ℕ) → loop ≡ 0 → iter ≡ iterator_of (Loop iter low rel high ∷ rs) loop
 first_name iter low rel high rs zero e = refl
@@ -123,7 +132,7 @@ pub none_there : (program : Program) (slice : List Stmt) (statement loop rest : 
 none_there program slice statement loop rest same e =
     let past : length (flat_map rounds_in slice) ≤ statement = omega arith in
     let nothing : get_or (rounds program) statement [] ≡ [] = ap (λ l. get_or (flat_map rounds_in l) statement []) (sym same) ∙ get_past (flat_map rounds_in slice) statement [] past in
-    sym (ap (λ rs. iterator_of rs loop) nothing ∙ get_past [] loop [] (omega arith))
+    sym (ap (λ rs. iterator_of rs loop) nothing ∙ get_past {X = List ℕ} [] loop [] (omega arith))
 
 pub named_there : (program : Program) (slice : List Stmt) (statement loop : ℕ) (name : List ℕ) → slice ≡ program.body → IsName (flat_map rounds_in slice) statement loop name → name ≡ iterator_name program statement loop
 named_there program slice statement loop name same h = h.1 ∙ ap (λ l. iterator_of (get_or (flat_map rounds_in l) statement []) loop) same

@@ -45,7 +45,7 @@ module _ {A : Type 0} (f : Stmt-F A → A) where
 -- what the items up to one more give
 pub flat_map-further : {X A : Type 0} (f : X → List A) (items : List X) (i : ℕ) (x : X) → i < length items → x ≡ get_or items i x
     → flat_map f (take (i + 1) items) ≡ flat_map f (take i items) ++ f x
-flat_map-further {X} {A} f items i x below item =
+flat_map-further f items i x below item =
     ap (flat_map f) front ∙ flat_map-append f (take i items) (x ∷ [])
     ∙ ap (λ l. flat_map f (take i items) ++ l) (flat_map-cons f x [] ∙ append-nil (f x))
   where

@@ -1,5 +1,5 @@
 -- What a source is refused for, from what its compilation said.
-use Rattle.std.proofs.Common.{◌≡◌, ℕ, List, [], Option, Some, IsSome, ap, sym, subst, ◌∙◌}
+use Rattle.std.proofs.Common.{◌≡◌, ℕ, List, Option, Some, IsSome, refl, ap, sym, subst, ◌∙◌}
 use Rattle.affc_ast.specs.declared.tree.Program.{Program}
 use Rattle.affc_grammar.specs.Reads.{Reads}
 use Rattle.affc_bounds.specs.declared.fault.MeaningFault.{MeaningFault}
@@ -34,4 +34,4 @@ unread source budget Unbuilt cause = absurd cause
 
 -- units were spent where there is a limit
 pub counted : (budget limit before : Option ℕ) (spent : ℕ) → before ≡ budget → limit ≡ before → limit ≡ Some spent → IsSome budget
-counted budget limit before spent given kept e = subst IsSome (sym e ∙ kept ∙ given) tt
+counted budget limit before spent given kept e = subst IsSome (sym e ∙ kept ∙ given) refl

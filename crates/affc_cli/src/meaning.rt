@@ -74,6 +74,22 @@ fn iterator_name(program: &Program, statement: u32, loop_number: u32) -> &str
 
 // ---- Its words
 
+// A line about the range of an iterator.
+fn range_line(
+    alloc: Global,
+    program: &Program,
+    statement: u32,
+    loop_number: u32,
+) -> Result<String, AllocError>
+    ensures { IfOk result (λ line. string_bytes line ≡ codes "affc: iterator range of " ++ iterator_name program.now statement loop_number ++ codes " in S" ++ decimal statement) }
+{
+    let mut line = String::from_str(alloc, "affc: iterator range of ")?;
+    line.push_str(iterator_name(program, statement, loop_number))?;
+    line.push_str(" in S")?;
+    write!(line, "{statement}")?;
+    Ok(line)
+}
+
 /// What is said of a program that has this wrong with it, without the line's end.
 pub fn meaning_line(
     alloc: Global,
@@ -86,10 +102,7 @@ pub fn meaning_line(
         MeaningFault::IteratorRange {
             statement,
             loop_number,
-        } => {
-            let name = iterator_name(program, *statement, *loop_number);
-            format!(in alloc; "affc: iterator range of {name} in S{statement}")
-        }
+        } => range_line(alloc, program, *statement, *loop_number),
         MeaningFault::Context => String::from_str(alloc, "affc: context is empty"),
         MeaningFault::Extent { array, p } => extent_line(alloc, program, p.as_slice(), array.0),
         MeaningFault::Bounds {

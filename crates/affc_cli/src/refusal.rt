@@ -118,7 +118,12 @@ fn data_line(alloc: Global, number: u64) -> Result<String, AllocError>
 fn source_line(alloc: Global, place: usize, words: &str) -> Result<String, AllocError>
     ensures { IfOk result (λ line. string_bytes line ≡ source_line place words.now) }
 {
-    format!(in alloc; "affc: source at {place}: {words}")
+    let mut line = String::new(alloc);
+    line.push_str("affc: source at ")?;
+    write!(line, "{place}")?;
+    line.push_str(": ")?;
+    line.push_str(words)?;
+    Ok(line)
 }
 
 // What is said of a text that is no program, without the line's end.
