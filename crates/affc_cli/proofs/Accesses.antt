@@ -1,23 +1,19 @@
 -- The arrays of each access, statement by statement.
-use Rattle.std.proofs.Common.{rules, arith, Vec, ◌≡◌, ℕ, ◌+◌, ◌<◌, ◌≤◌, List, [], ◌∷◌, ◌++◌, length, map, get_or, take, option_map, unwrap_or, refl, sym, ap, subst, ◌∙◌, append_assoc, add-one}
+use Rattle.std.proofs.Common.{rules, arith, Vec, ◌≡◌, ℕ, ◌+◌, ◌<◌, ◌≤◌, List, [], ◌∷◌, ◌++◌, length, map, get_or, take, option_map, refl, sym, ap, subst, ◌∙◌, append_assoc}
 use Rattle.std.specs.declared.alloc.Global.{Global}
 use Rattle.std.specs.List.{flat_map}
-use Rattle.std.proofs.Math.Seq.{take-suc}
-use Rattle.std.proofs.lemmas.List.{map-append, append-nil, take_all, length-map}
-use Rattle.std.proofs.lemmas.Option.{slice_get_read, slice_get_past, slice_get-map, get_or_from_slice_get, unwrap_or-slice_get}
+use Rattle.std.proofs.lemmas.List.{map-append, take_all, length-map}
+use Rattle.std.proofs.lemmas.Option.{slice_get_read, slice_get-map, get_or_from_slice_get}
 use Rattle.std.proofs.lemmas.List.Concat.{flat_map-cons}
-use Rattle.std.proofs.lemmas.Grind.{flat_map-append}
 use Rattle.affc_ast.specs.declared.tree.Compare.{Compare}
 use Rattle.affc_ast.specs.declared.tree.Ix.{Ix}
 use Rattle.affc_ast.specs.declared.tree.Local.{Local}
 use Rattle.affc_ast.specs.declared.tree.Rel.{Rel}
-use Rattle.affc_ast.specs.declared.tree.Stmt.{Stmt, For, If, Block, out-Stmt, map-Stmt, the_lemmas as stmt_lemmas}
-use Rattle.affc_ast.specs.declared.tree.Stmt.TheOpen as layer
-use Rattle.affc_ast.specs.declared.tree.Stmt.TheOpen.{Stmt-F}
+use Rattle.affc_ast.specs.declared.tree.Stmt.{Stmt, For, If, Block}
 use Rattle.affc_ast.specs.declared.tree.Op.{Op}
 use Rattle.affc_ast.specs.declared.tree.Val.{Val, Bin, out-Val, map-Val, the_lemmas as val_lemmas}
 use Rattle.affc_ast.specs.declared.tree.Val.TheOpen as layer_v
-use Rattle.affc_ast.proofs.Outs.{by_val_out, by_stmt_out}
+use Rattle.affc_ast.proofs.Outs.{by_val_out}
 use Rattle.affc_ast.specs.Recursion.{by_stmt}
 use Rattle.affc_ast.specs.declared.tree.Program.{Program}
 use Rattle.affc_ast.specs.Trace.{Assignment, assignments_step, joined, assignments}

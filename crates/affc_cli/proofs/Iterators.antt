@@ -1,5 +1,5 @@
 -- The iterators of the loops round each assignment, statement by statement.
-use Rattle.std.proofs.Common.{arith, ◌≡◌, ◌≢◌, ℕ, zero, suc, ◌+◌, ◌-◌, ◌<◌, ◌≤◌, List, [], ◌∷◌, ◌++◌, length, map, get_or, take, refl, sym, ap, subst, ◌∙◌, length-append}
+use Rattle.std.proofs.Common.{arith, ◌≡◌, ◌≢◌, ℕ, zero, suc, ◌+◌, ◌-◌, ◌<◌, ◌≤◌, List, [], ◌∷◌, length, map, get_or, take, refl, sym, ap, subst, ◌∙◌, length-append}
 use Rattle.std.specs.List.{flat_map}
 use Rattle.std.proofs.lemmas.List.{get_or-map, length-map, take_all}
 use Rattle.std.proofs.lemmas.List.Concat.{get_or-flat_map}
@@ -13,7 +13,7 @@ use Rattle.affc_ast.specs.declared.tree.Stmt.{Stmt, For, If, Block}
 use Rattle.affc_ast.specs.Recursion.{by_stmt}
 use Rattle.affc_ast.specs.Trace.{joined}
 use Rattle.affc_domain.specs.Rounds.{Round, Loop, Test, rounds_step, rounds}
-use Rattle.affc_cli.specs.Meaning.{iterators_of, iterator_of, iterator_name}
+use Rattle.affc_cli.specs.Meaning.{iterator_of, iterator_name}
 use Rattle.affc_cli.proofs.Layers.{by_for, by_if, by_block, flat_map-further, get_past}
 
 -- what stands round each assignment of a statement
@@ -57,9 +57,10 @@ module _ (r : Round) (each inside : List (List Round)) (is : each ≡ map (λ rs
 pub tested : (s : Stmt) (conds : List Compare) (body slice : List Stmt) (left loop : ℕ) (name : List ℕ) → s ≡ If conds body → slice ≡ body
     → IsName (flat_map rounds_in slice) left loop name → IsName (rounds_in s) left loop name
 tested s conds body slice left loop name e b h =
-    let is = in_if s conds body slice e b in
-    (within (Test conds) (rounds_in s) (flat_map rounds_in slice) is left h.0,
-    h.1 ∙ ap (λ rs. iterator_of rs loop) (sym (round_at (Test conds) (rounds_in s) (flat_map rounds_in slice) is left h.0)))
+    let is = in_if s conds body slice e b in (
+      within (Test conds) (rounds_in s) (flat_map rounds_in slice) is left h.0,
+      h.1 ∙ ap (λ rs. iterator_of rs loop) (sym (round_at (Test conds) (rounds_in s) (flat_map rounds_in slice) is left h.0)),
+    )
 
 pub behind_test : (s : Stmt) (conds : List Compare) (body slice : List Stmt) (left rest : ℕ) → s ≡ If conds body → slice ≡ body
     → left ≡ length (flat_map rounds_in slice) + rest → left ≡ length (rounds_in s) + rest
@@ -91,15 +92,17 @@ module _ (s : Stmt) (iter : List ℕ) (low : Ix) (rel : Rel) (high : Ix) (body s
 
   -- the loop itself
   pub outermost : (name : List ℕ) → left < length (flat_map rounds_in slice) → loop ≡ 0 → name ≡ iter → IsName (rounds_in s) left loop name
-  outermost name h none same =
-      (within (Loop iter low rel high) (rounds_in s) (flat_map rounds_in slice) is left h,
-      same ∙ first_name iter low rel high (get_or (flat_map rounds_in slice) left []) loop none ∙ ap (λ rs. iterator_of rs loop) (sym (at h)))
+  outermost name h none same = (
+    within (Loop iter low rel high) (rounds_in s) (flat_map rounds_in slice) is left h,
+    same ∙ first_name iter low rel high (get_or (flat_map rounds_in slice) left []) loop none ∙ ap (λ rs. iterator_of rs loop) (sym (at h)),
+  )
 
   -- a loop within it
   pub further_in : (name : List ℕ) (less : ℕ) → loop ≢ 0 → less ≡ loop - 1 → IsName (flat_map rounds_in slice) left less name → IsName (rounds_in s) left loop name
-  further_in name less some is_less h =
-      (within (Loop iter low rel high) (rounds_in s) (flat_map rounds_in slice) is left h.0,
-      h.1 ∙ later_name iter low rel high (get_or (flat_map rounds_in slice) left []) loop less some is_less ∙ ap (λ rs. iterator_of rs loop) (sym (at h.0)))
+  further_in name less some is_less h = (
+    within (Loop iter low rel high) (rounds_in s) (flat_map rounds_in slice) is left h.0,
+    h.1 ∙ later_name iter low rel high (get_or (flat_map rounds_in slice) left []) loop less some is_less ∙ ap (λ rs. iterator_of rs loop) (sym (at h.0)),
+  )
 
   pub behind_loop : (rest : ℕ) → left ≡ length (flat_map rounds_in slice) + rest → left ≡ length (rounds_in s) + rest
   behind_loop rest = behind (Loop iter low rel high) (rounds_in s) (flat_map rounds_in slice) is left rest
@@ -119,9 +122,10 @@ found_here items i x left rest loop name below item so_far h =
     let same : rounds_in x ≡ rounds_in (get_or items i x) = ap rounds_in item in
     let there : rest < length (rounds_in (get_or items i x)) = subst (λ l. rest < length l) same h.0 in
     let whole : length (flat_map rounds_in (take i items)) + length (rounds_in (get_or items i x)) ≤ length (flat_map rounds_in items) = length-flat_map-take rounds_in items i x below in
-    let at : get_or (flat_map rounds_in items) (length (flat_map rounds_in (take i items)) + rest) [] ≡ get_or (rounds_in (get_or items i x)) rest [] = get_or-flat_map rounds_in items i rest x [] below there in
-    (omega arith,
-    h.1 ∙ ap (λ l. iterator_of (get_or l rest []) loop) same ∙ ap (λ rs. iterator_of rs loop) (sym at ∙ ap (λ n. get_or (flat_map rounds_in items) n []) (sym so_far)))
+    let at : get_or (flat_map rounds_in items) (length (flat_map rounds_in (take i items)) + rest) [] ≡ get_or (rounds_in (get_or items i x)) rest [] = get_or-flat_map rounds_in items i rest x [] below there in (
+      omega arith,
+      h.1 ∙ ap (λ l. iterator_of (get_or l rest []) loop) same ∙ ap (λ rs. iterator_of rs loop) (sym at ∙ ap (λ n. get_or (flat_map rounds_in items) n []) (sym so_far)),
+    )
 
 pub all_passed : (items : List Stmt) (i left rest : ℕ) → length items ≤ i → left ≡ length (flat_map rounds_in (take i items)) + rest → left ≡ length (flat_map rounds_in items) + rest
 all_passed items i left rest past so_far = so_far ∙ ap (λ l. length (flat_map rounds_in l) + rest) (take_all i items past)

@@ -24,9 +24,7 @@ fn iterator_in<'a>(stmt: &'a Stmt, left: u32, loop_number: u32) -> Result<&'a st
             array: _,
             subs: _,
             value: _,
-        } => {
-            if left == 0 { Ok("") } else { Err(left - 1) }
-        }
+        } => { if left == 0 { Ok("") } else { Err(left - 1) } }
         Stmt::For {
             iter,
             low: _,
