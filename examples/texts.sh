@@ -1,5 +1,6 @@
 #!/bin/sh
-# Writes the sources, data and outputs of this folder as the texts that the tests of affc_tests run.
+# Writes the sources, data and outputs of this folder, and what is compiled of each source, as the texts that the tests
+# of affc_tests run.
 # With `--check` it only says whether those are up to date.
 cd "$(dirname "$0")" || exit 1
 table=../crates/affc_tests/src/cli/kernels.rt
@@ -13,8 +14,9 @@ literal() {
 
 texts() {
     cat <<'END'
-// The kernels of examples/, each with its source, its data and what its run gives; written by examples/texts.sh.
-pub const KERNELS: [(&str, &str, &str); COUNT] = [
+// The kernels of examples/, each with its source, its data, what its run gives, and its compiled text or nothing where
+// it can't be compiled yet; written by examples/texts.sh.
+pub const KERNELS: [(&str, &str, &str, &str); COUNT] = [
 END
     for source in *.c; do
         name=${source%.c}
@@ -22,6 +24,7 @@ END
         literal "$name.c"
         literal "$name.data"
         literal "$name.out"
+        if [ -f "$name.fold" ]; then literal "$name.fold"; else printf '        "",\n'; fi
         printf '    ),\n'
     done
     printf '];\n'

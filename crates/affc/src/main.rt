@@ -1,4 +1,4 @@
-// affc folds the temporary arrays of affine loop nests, so far of one loop that copies an array, and runs programs.
+// affc compiles affine loop nests, so far those without temporary arrays, and runs programs.
 #![tactic(auto)]
 
 use affc_cli::serve::answered;

@@ -1,28 +1,25 @@
 -- The arrays of each access, statement by statement.
-use Rattle.std.proofs.Common.{rules, arith, Vec, ◌≡◌, ℕ, ◌+◌, ◌<◌, ◌≤◌, List, [], ◌∷◌, ◌++◌, length, map, get_or, take, option_map, unwrap_or, refl, sym, ap, subst, ◌∙◌, append_assoc, add-one}
+use Rattle.std.proofs.Common.{rules, arith, Vec, ◌≡◌, ℕ, ◌+◌, ◌<◌, ◌≤◌, List, [], ◌∷◌, ◌++◌, length, map, get_or, take, option_map, refl, sym, ap, subst, ◌∙◌, append_assoc}
 use Rattle.std.specs.declared.alloc.Global.{Global}
 use Rattle.std.specs.List.{flat_map}
-use Rattle.std.proofs.Math.Seq.{take-suc}
-use Rattle.std.proofs.lemmas.List.{map-append, append-nil, take_all, length-map}
-use Rattle.std.proofs.lemmas.Option.{slice_get_read, slice_get_past, slice_get-map, get_or_from_slice_get, unwrap_or-slice_get}
+use Rattle.std.proofs.lemmas.List.{map-append, take_all, length-map}
+use Rattle.std.proofs.lemmas.Option.{slice_get_read, slice_get-map, get_or_from_slice_get}
 use Rattle.std.proofs.lemmas.List.Concat.{flat_map-cons}
-use Rattle.std.proofs.lemmas.Grind.{flat_map-append}
 use Rattle.affc_ast.specs.declared.tree.Compare.{Compare}
 use Rattle.affc_ast.specs.declared.tree.Ix.{Ix}
 use Rattle.affc_ast.specs.declared.tree.Local.{Local}
 use Rattle.affc_ast.specs.declared.tree.Rel.{Rel}
-use Rattle.affc_ast.specs.declared.tree.Stmt.{Stmt, For, If, Block, out-Stmt, map-Stmt, the_lemmas as stmt_lemmas}
-use Rattle.affc_ast.specs.declared.tree.Stmt.TheOpen as layer
-use Rattle.affc_ast.specs.declared.tree.Stmt.TheOpen.{Stmt-F}
+use Rattle.affc_ast.specs.declared.tree.Stmt.{Stmt, For, If, Block}
 use Rattle.affc_ast.specs.declared.tree.Op.{Op}
 use Rattle.affc_ast.specs.declared.tree.Val.{Val, Bin, out-Val, map-Val, the_lemmas as val_lemmas}
 use Rattle.affc_ast.specs.declared.tree.Val.TheOpen as layer_v
-use Rattle.affc_ast.proofs.Outs.{by_val_out, by_stmt_out}
+use Rattle.affc_ast.proofs.Outs.{by_val_out}
 use Rattle.affc_ast.specs.Recursion.{by_stmt}
 use Rattle.affc_ast.specs.declared.tree.Program.{Program}
 use Rattle.affc_ast.specs.Trace.{Assignment, assignments_step, joined, assignments}
 use Rattle.affc_interp.specs.Arrays.{values_in}
 use Rattle.affc_cli.specs.Stuck.{loaded_step, arrays_loaded, arrays_accessed, array_of}
+use Rattle.affc_cli.proofs.Layers.{by_for, by_if, by_block, flat_map-further, get_past}
 
 -- those of the assignments in a statement
 abbrev pub accessed_in : Stmt → List (List ℕ)
@@ -33,15 +30,8 @@ pub further : (items : List Stmt) (i : ℕ) (x : Stmt) (start each next : List (
     → each ≡ start ++ flat_map accessed_in (take i items) → next ≡ each ++ accessed_in x
     → next ≡ start ++ flat_map accessed_in (take (i + 1) items)
 further items i x start each next below item so_far is =
-    is ∙ ap (λ l. l ++ accessed_in x) so_far ∙ append_assoc start (flat_map accessed_in (take i items)) (accessed_in x) ∙ ap (λ l. start ++ l) (sym whole)
-  where
-    front : take (i + 1) items ≡ take i items ++ x ∷ []
-    front = rw add-one (take-suc items i x below ∙ ap (λ y. take i items ++ y ∷ []) (sym item))
-
-    whole : flat_map accessed_in (take (i + 1) items) ≡ flat_map accessed_in (take i items) ++ accessed_in x
-    whole =
-        ap (flat_map accessed_in) front ∙ flat_map-append accessed_in (take i items) (x ∷ [])
-        ∙ ap (λ l. flat_map accessed_in (take i items) ++ l) (flat_map-cons accessed_in x [] ∙ append-nil (accessed_in x))
+    is ∙ ap (λ l. l ++ accessed_in x) so_far ∙ append_assoc start (flat_map accessed_in (take i items)) (accessed_in x)
+    ∙ ap (λ l. start ++ l) (sym (flat_map-further accessed_in items i x below item))
 
 -- the assignments of a body are those of its statements
 pub of_body : (body : List Stmt) → flat_map accessed_in body ≡ map arrays_accessed (joined (map (by_stmt assignments_step) body))
@@ -60,36 +50,21 @@ of_program (x ∷ xs) =
 
 -- ---- Statements with a body
 
-abbrev of_step : Stmt-F (List Assignment) → List (List ℕ)
-of_step s = map arrays_accessed (assignments_step s)
-
-for_row : (iter : List ℕ) (low : Ix) (rel : Rel) (high : Ix) (body : List Stmt)
-    → map-Stmt Stmt (List Assignment) (by_stmt assignments_step) (out-Stmt (For iter low rel high body)) ≡ layer.For iter low rel high (map (by_stmt assignments_step) body)
-for_row iter low rel high body = first_of (simp stmt_lemmas, grind (arith, stmt_lemmas), search (rules, stmt_lemmas))
-
-if_row : (conds : List Compare) (body : List Stmt)
-    → map-Stmt Stmt (List Assignment) (by_stmt assignments_step) (out-Stmt (If conds body)) ≡ layer.If conds (map (by_stmt assignments_step) body)
-if_row conds body = first_of (simp stmt_lemmas, grind (arith, stmt_lemmas), search (rules, stmt_lemmas))
-
-block_row : (locals : List Local) (body : List Stmt)
-    → map-Stmt Stmt (List Assignment) (by_stmt assignments_step) (out-Stmt (Block locals body)) ≡ layer.Block locals (map (by_stmt assignments_step) body)
-block_row locals body = first_of (simp stmt_lemmas, grind (arith, stmt_lemmas), search (rules, stmt_lemmas))
-
 -- what stands in the statement is what stands in its body
 pub in_for : (s : Stmt) (iter : List ℕ) (low : Ix) (rel : Rel) (high : Ix) (body slice : List Stmt) → s ≡ For iter low rel high body → slice ≡ body → flat_map accessed_in slice ≡ accessed_in s
 in_for s iter low rel high body slice e b =
     of_body slice ∙ ap (λ l. map arrays_accessed (joined (map (by_stmt assignments_step) l))) b
-    ∙ sym (ap accessed_in e ∙ ap (map arrays_accessed) (by_stmt_out assignments_step (For iter low rel high body)) ∙ ap of_step (for_row iter low rel high body))
+    ∙ sym (ap accessed_in e ∙ ap (map arrays_accessed) (by_for assignments_step iter low rel high body))
 
 pub in_if : (s : Stmt) (conds : List Compare) (body slice : List Stmt) → s ≡ If conds body → slice ≡ body → flat_map accessed_in slice ≡ accessed_in s
 in_if s conds body slice e b =
     of_body slice ∙ ap (λ l. map arrays_accessed (joined (map (by_stmt assignments_step) l))) b
-    ∙ sym (ap accessed_in e ∙ ap (map arrays_accessed) (by_stmt_out assignments_step (If conds body)) ∙ ap of_step (if_row conds body))
+    ∙ sym (ap accessed_in e ∙ ap (map arrays_accessed) (by_if assignments_step conds body))
 
 pub in_block : (s : Stmt) (locals : List Local) (body slice : List Stmt) → s ≡ Block locals body → slice ≡ body → flat_map accessed_in slice ≡ accessed_in s
 in_block s locals body slice e b =
     of_body slice ∙ ap (λ l. map arrays_accessed (joined (map (by_stmt assignments_step) l))) b
-    ∙ sym (ap accessed_in e ∙ ap (map arrays_accessed) (by_stmt_out assignments_step (Block locals body)) ∙ ap of_step (block_row locals body))
+    ∙ sym (ap accessed_in e ∙ ap (map arrays_accessed) (by_block assignments_step locals body))
 
 -- ---- Values with two sides
 
@@ -105,9 +80,6 @@ both_loaded v op a b a' b' old mid new is left right first second =
     ∙ ap (λ l. old ++ l) (sym (ap arrays_loaded is ∙ by_val_out loaded_step (Bin op a b) ∙ ap loaded_step (bin_row op a b)))
 
 -- ---- The array of one access
-
-get_past : {X : Type 0} (xs : List X) (i : ℕ) (d : X) → length xs ≤ i → get_or xs i d ≡ d
-get_past xs i d past = sym (unwrap_or-slice_get xs i d) ∙ ap (λ o. unwrap_or o d) (slice_get_past xs i past)
 
 -- those of all statements, once each is passed
 pub all_accessed : (program : Program) (body : List Stmt) (i : ℕ) (each slice : List (Vec ℕ Global)) → body ≡ program.body → length body ≤ i

@@ -15,7 +15,7 @@ use Rattle.clap.specs.declared.parser.matches.ArgMatches.{ArgMatches}
 use Rattle.clap.specs.declared.parser.matches.Found.{Found}
 use Rattle.clap.proofs.FaultLemmas.{leaf_fault}
 use Rattle.clap.proofs.WalkLemmas.{first_value-rows}
-use Rattle.affc_cli.specs.Command.{Fold, Run, Parts, Word, Operand, Named, End, Stray, among, answer, are_options, command_of, fold_of, form_of, is_empty, parts_of, run_of, steps_of, texts_of, value_of, word_of}
+use Rattle.affc_cli.specs.Command.{Fold, Run, budget_of, Parts, Word, Operand, Named, End, Stray, among, answer, are_options, command_of, fold_of, form_of, is_empty, parts_of, run_of, steps_of, texts_of, value_of, word_of}
 use Rattle.affc_cli.specs.Parsed.{Parses, fold_app, is_clean, run_app}
 use Rattle.affc_cli.proofs.Clap.Uses.{Text, Uses, or_false, paired, same_name}
 use Rattle.affc_cli.proofs.Clap.Plain.{plain_rule, or_else-first}
@@ -27,7 +27,7 @@ use Rattle.affc_cli.proofs.Clap.Levels.{first, not_value, no_default, no_default
 -- ---- The rules as building leaves them
 
 abbrev pub fold_rules : List Rule
-fold_rules = plain_rule (codes "source") None (Some 1) true ∷ []
+fold_rules = plain_rule (codes "source") None (Some 1) true ∷ plain_rule (codes "budget") (Some (codes "budget")) None false ∷ []
 
 abbrev pub run_rules : List Rule
 run_rules = plain_rule (codes "source") None (Some 1) true ∷ plain_rule (codes "data") None (Some 2) true ∷ plain_rule (codes "steps") (Some (codes "steps")) None false ∷ []
@@ -36,6 +36,9 @@ run_rules = plain_rule (codes "source") None (Some 1) true ∷ plain_rule (codes
 
 abbrev fold_ids : List Text
 fold_ids = codes "source" ∷ []
+
+abbrev fold_names : List Text
+fold_names = codes "budget" ∷ []
 
 abbrev run_ids : List Text
 run_ids = codes "source" ∷ codes "data" ∷ []
@@ -47,24 +50,29 @@ and_true : (b : Bool) → (b && true) ≡ b
 and_true true = refl
 and_true false = refl
 
-fold_options : HasOptions fold_rules []
-fold_options = record { these = λ n has. absurd (true≢false (sym has)); no_other = λ n none. refl }
+-- the only name
+only : (name n : Text) → among n (name ∷ []) ≡ true → name ≡ n
+only name n has = same_name name n (sym (or_false (bytes_eq name n)) ∙ has)
 
-fold_stands : Stands fold_rules [] [] fold_ids [] 1
+fold_options : HasOptions fold_rules fold_names
+fold_options = record {
+  these = λ n has. subst (λ (x : Text). IsOption fold_rules x) (only (codes "budget") n has)
+      (record { long = Some (codes "budget"); index = None; required = false; by_long = refl; by_id = refl });
+  no_other = λ n none. rw none refl;
+}
+
+fold_stands : Stands fold_rules fold_names [] fold_ids fold_names 1
 fold_stands = record {
   follow = (record { long = None; index = Some 1; required = true; by_index = refl; by_id = refl }, refl);
   distinct = refl;
-  apart = λ x has. absurd (true≢false (sym has));
-  left = λ x. refl;
+  apart = λ x has. subst (λ (n : Text). among n fold_ids ≡ false) (only (codes "budget") x has) refl;
+  left = λ x. sym (and_true (among x fold_names));
   fresh = λ x has. refl;
 }
 
-only_steps : (n : Text) → among n run_names ≡ true → codes "steps" ≡ n
-only_steps n has = same_name (codes "steps") n (sym (or_false (bytes_eq (codes "steps") n)) ∙ has)
-
 run_options : HasOptions run_rules run_names
 run_options = record {
-  these = λ n has. subst (λ (x : Text). IsOption run_rules x) (only_steps n has)
+  these = λ n has. subst (λ (x : Text). IsOption run_rules x) (only (codes "steps") n has)
       (record { long = Some (codes "steps"); index = None; required = false; by_long = refl; by_id = refl });
   no_other = λ n none. rw none refl;
 }
@@ -76,7 +84,7 @@ run_stands = record {
     (record { long = None; index = Some 2; required = true; by_index = refl; by_id = refl }, refl),
   );
   distinct = refl;
-  apart = λ x has. subst (λ (n : Text). among n run_ids ≡ false) (only_steps x has) refl;
+  apart = λ x has. subst (λ (n : Text). among n run_ids ≡ false) (only (codes "steps") x has) refl;
   left = λ x. sym (and_true (among x run_names));
   fresh = λ x has. refl;
 }
@@ -85,7 +93,15 @@ run_stands = record {
 
 fold_defaults : HasNoDefaults (codes "fold") fold_rules
 unfolding defaults_fault
-fold_defaults rows = (rw no_default_fault refl, rw no_default refl)
+fold_defaults rows =
+    let first_kept = no_default (codes "source") None (Some 1) true rows in (
+      rw (
+        no_default_fault (codes "source") None (Some 1) true rows,
+        first_kept,
+        no_default_fault (codes "budget") (Some (codes "budget")) None false rows,
+      ) refl,
+      rw (first_kept, no_default (codes "budget") (Some (codes "budget")) None false rows) refl,
+    )
 
 run_defaults : HasNoDefaults (codes "run") run_rules
 unfolding defaults_fault
@@ -122,7 +138,8 @@ run_wants_data rows e f none = let bad = rw (e, f) at none in cc
 -- ---- Each form's clap command, against the definition
 
 pub data FoldReads (ws : List Text) : Type 0 where
-  fold_taken : (source : Text) → fault_of fold_app ws ≡ [] → first_of (codes "source") (matches_of fold_app ws) ≡ Some source → answer (codes "fold") ws ≡ Some (Fold source) → FoldReads ws
+  fold_taken : (source : Text) (budget : Option Text) → fault_of fold_app ws ≡ [] → first_of (codes "source") (matches_of fold_app ws) ≡ Some source
+      → first_of (codes "budget") (matches_of fold_app ws) ≡ budget → answer (codes "fold") ws ≡ option_map (Fold source) (budget_of budget) → FoldReads ws
   fold_refused : (fault_of fold_app ws ≡ [] → ⊥) → answer (codes "fold") ws ≡ None → FoldReads ws
 
 abbrev fold_rows : List Text → List Row
@@ -135,33 +152,41 @@ fold_matches : (ws : List Text) → matches_of fold_app ws ≡ fold_rows ws
 fold_matches ws = (fold_defaults (fold_rows ws)).1
 
 module _ (ws : List Text) (faultless : faults (codes "fold") fold_rules first ws ≡ []) where
-  fold_by : (operands : List Text) (options : Uses) → parts_of None ws ≡ Some (record { operands = operands; options = options }) → length operands ≤ 1 → are_options [] options ≡ true
+  fold_by : (operands : List Text) (options : Uses) → parts_of None ws ≡ Some (record { operands = operands; options = options }) → length operands ≤ 1 → are_options fold_names options ≡ true
       → ((x : Text) → first_of x (fold_rows ws) ≡ value_of x (paired fold_ids operands ++ options))
       → ((x : Text) → is_given_row x (fold_rows ws) ≡ is_some (value_of x (paired fold_ids operands ++ options)))
       → FoldReads ws
-  fold_by [] [] is short fit found is_found =
-      fold_refused (λ e. fold_wants (fold_rows ws) (is_found (codes "source")) (sym (level-faultless (codes "fold") fold_rules ws faultless) ∙ (sym (fold_fault ws) ∙ e))) (rw is refl)
-  fold_by (source ∷ []) [] is short fit found is_found =
-      fold_taken source (fold_fault ws ∙ level-faultless (codes "fold") fold_rules ws faultless ∙ fold_met (fold_rows ws) (is_found (codes "source")))
-      (ap (first_of (codes "source")) (fold_matches ws) ∙ found (codes "source")) (rw is refl)
+  fold_by [] options is short fit found is_found =
+      let none = not_value (codes "source") fold_names options fit refl in
+      fold_refused (λ e. fold_wants (fold_rows ws) (is_found (codes "source") ∙ ap is_some none) (sym (level-faultless (codes "fold") fold_rules ws faultless) ∙ (sym (fold_fault ws) ∙ e))) (rw is refl)
+  fold_by (source ∷ []) options is short fit found is_found =
+      fold_taken source (value_of (codes "budget") options)
+      (fold_fault ws ∙ level-faultless (codes "fold") fold_rules ws faultless ∙ fold_met (fold_rows ws) (is_found (codes "source")))
+      (ap (first_of (codes "source")) (fold_matches ws) ∙ found (codes "source"))
+      (ap (first_of (codes "budget")) (fold_matches ws) ∙ found (codes "budget"))
+      (rw (is, fit) refl)
   fold_by (source ∷ more ∷ operands) options is short fit found is_found = absurd (omega arith)
-  fold_by operands (o ∷ options) is short fit found is_found = absurd (true≢false (sym fit))
 
 pub fold_reads : (ws : List Text) → is_clean ws ≡ true → FoldReads ws
-fold_reads ws clean = go (read (codes "fold") fold_rules fold_ids [] ws fold_options fold_stands clean)
+fold_reads ws clean = go (read (codes "fold") fold_rules fold_ids fold_names ws fold_options fold_stands clean)
   where
-    unfit : (operands : List Text) (options : Uses) → (length operands ≤ 1 → are_options [] options ≡ true → ⊥) → fold_of operands options ≡ None
+    unfit : (operands : List Text) (options : Uses) → (length operands ≤ 1 → are_options fold_names options ≡ true → ⊥) → fold_of operands options ≡ None
     unfit [] options bad = refl
-    unfit (source ∷ []) [] bad = absurd (bad (omega arith) refl)
-    unfit (source ∷ []) (o ∷ options) bad = refl
+    unfit (source ∷ []) options bad = go (are_options fold_names options) (bad (omega arith))
+      where
+        go : (b : Bool) → (b ≡ true → ⊥) → cond b (option_map (Fold source) (budget_of (value_of (codes "budget") options))) None ≡ None
+        go true bad = absurd (bad refl)
+        go false bad = refl
     unfit (source ∷ more ∷ operands) options bad = refl
 
-    none : (o : Option Parts) → ((q : Parts) → o ≡ Some q → length q.operands ≤ 1 → are_options [] q.options ≡ true → ⊥) → option_and_then (form_of (codes "fold")) o ≡ None
+    none : (o : Option Parts) → ((q : Parts) → o ≡ Some q → length q.operands ≤ 1 → are_options fold_names q.options ≡ true → ⊥) → option_and_then (form_of (codes "fold")) o ≡ None
     none None bad = refl
     none (Some q) bad = unfit q.operands q.options (bad q refl)
 
-    go : Verdict [] fold_ids [] (parts_of None ws) (faults (codes "fold") fold_rules first ws) (fold_rows ws) → FoldReads ws
-    go (both b) = fold_by ws b.faultless b.parts.operands b.parts.options b.is b.short b.options (found (codes "fold") fold_rules fold_ids [] ws b) (is_found (codes "fold") fold_rules fold_ids [] ws b)
+    go : Verdict [] fold_ids fold_names (parts_of None ws) (faults (codes "fold") fold_rules first ws) (fold_rows ws) → FoldReads ws
+    go (both b) =
+        fold_by ws b.faultless b.parts.operands b.parts.options b.is b.short b.options
+        (found (codes "fold") fold_rules fold_ids fold_names ws b) (is_found (codes "fold") fold_rules fold_ids fold_names ws b)
     go (neither n) = fold_refused (λ e. n.faulty (or_else-first _ _ (sym (fold_fault ws) ∙ e))) (none (parts_of None ws) n.unfit)
 
 pub data RunReads (ws : List Text) : Type 0 where
@@ -229,19 +254,23 @@ pub fold_none : (ws : List Text) → is_clean ws ≡ true → Parses fold_app ws
 fold_none ws clean fails = go (fold_reads ws clean)
   where
     go : FoldReads ws → answer (codes "fold") ws ≡ None
-    go (fold_taken source fault is_source is) = absurd (fails fault)
+    go (fold_taken source budget fault is_source is_budget is) = absurd (fails fault)
     go (fold_refused fault is) = is
 
 pub record FoldFinds (ws : List Text) (f : Found) : Type 0 where
   pub source : Text
   pub is_source : first_value f (codes "source") ≡ Some source
-  pub is : answer (codes "fold") ws ≡ Some (Fold source)
+  pub is : answer (codes "fold") ws ≡ option_map (Fold source) (budget_of (first_value f (codes "budget")))
 
 pub fold_some : (ws : List Text) (m : ArgMatches) → is_clean ws ≡ true → Parses fold_app ws (Some m) → FoldFinds ws (found_of m)
 fold_some ws m clean parses = go (fold_reads ws clean)
   where
     go : FoldReads ws → FoldFinds ws (found_of m)
-    go (fold_taken source fault is_source is) = record { source = source; is_source = text_at (found_of m) fold_app ws (codes "source") (Some source) parses.1 is_source; is = is }
+    go (fold_taken source budget fault is_source is_budget is) = record {
+      source = source;
+      is_source = text_at (found_of m) fold_app ws (codes "source") (Some source) parses.1 is_source;
+      is = is ∙ ap (λ o. option_map (Fold source) (budget_of o)) (sym (text_at (found_of m) fold_app ws (codes "budget") budget parses.1 is_budget));
+    }
     go (fold_refused fault is) = absurd (fault parses.0)
 
 pub run_none : (ws : List Text) → is_clean ws ≡ true → Parses run_app ws None → answer (codes "run") ws ≡ None
@@ -281,8 +310,18 @@ module _ (ws : List Text) (f : Found) where
   pub fold_missing : FoldFinds ws f → None ≡ first_value f (codes "source") → None ≡ answer (codes "fold") ws
   fold_missing finds none = absurd (no_text finds.source (none ∙ finds.is_source))
 
-  pub fold_answer : (source : Text) → FoldFinds ws f → Some source ≡ first_value f (codes "source") → Some (Fold source) ≡ answer (codes "fold") ws
-  fold_answer source finds some = ap (option_map Fold) (some ∙ finds.is_source) ∙ sym finds.is
+  fold_answer_is : (source : Text) (budget : Option (Option ℕ)) → FoldFinds ws f → Some source ≡ first_value f (codes "source")
+      → budget ≡ budget_of (first_value f (codes "budget")) → option_map (Fold source) budget ≡ answer (codes "fold") ws
+  fold_answer_is source budget finds is_source is_budget =
+      ap (λ s. option_map (Fold s) budget) (some_text (is_source ∙ finds.is_source)) ∙ ap (option_map (Fold finds.source)) is_budget ∙ sym finds.is
+
+  pub fold_no_budget : (source : Text) → FoldFinds ws f → Some source ≡ first_value f (codes "source")
+      → None ≡ budget_of (first_value f (codes "budget")) → None ≡ answer (codes "fold") ws
+  fold_no_budget source = fold_answer_is source None
+
+  pub fold_answer : (source : Text) (budget : Option ℕ) → FoldFinds ws f → Some source ≡ first_value f (codes "source")
+      → Some budget ≡ budget_of (first_value f (codes "budget")) → Some (Fold source budget) ≡ answer (codes "fold") ws
+  fold_answer source budget = fold_answer_is source (Some budget)
 
   pub run_no_source : RunFinds ws f → None ≡ first_value f (codes "source") → None ≡ answer (codes "run") ws
   run_no_source finds none = absurd (no_text finds.source (none ∙ finds.is_source))

@@ -11,7 +11,7 @@ use Rattle.affc_cli.specs.Refusal.{status_of, line_of, FoldCause, RunCause, file
 use Rattle.affc_cli.specs.Telling.{IsTold, IsPut, IsPutShort, IsPutFailed, Ends, HasRead}
 use Rattle.affc_cli.specs.declared.refusal.Operand.TheVariants as operand
 use Rattle.affc_cli.specs.declared.refusal.Refusal.{Refusal}
-use Rattle.affc_cli.specs.declared.refusal.Refusal.TheVariants.{Words, Unread, Source, Stuck, Memory, Steps, Data, Unbuilt}
+use Rattle.affc_cli.specs.declared.refusal.Refusal.TheVariants.{Words, Unread, Source, Printed, Meaning, Stuck, Budget, Memory, Steps, Data, Unbuilt}
 use Rattle.affc_cli.proofs.Telling.{grown-nil}
 
 -- ---- Statuses and lines
@@ -19,8 +19,11 @@ use Rattle.affc_cli.proofs.Telling.{grown-nil}
 not_zero : (refusal : Refusal) → status_of refusal ≢ 0
 not_zero Words e = absurd (omega arith)
 not_zero (Unread file why) e = absurd (omega arith)
-not_zero (Source place why) e = absurd (omega arith)
+not_zero (Source fault) e = absurd (omega arith)
+not_zero (Printed place) e = absurd (omega arith)
+not_zero (Meaning line) e = absurd (omega arith)
 not_zero (Stuck line) e = absurd (omega arith)
+not_zero Budget e = absurd (omega arith)
 not_zero Memory e = absurd (omega arith)
 not_zero Steps e = absurd (omega arith)
 not_zero (Data number) e = absurd (omega arith)
@@ -29,8 +32,11 @@ not_zero Unbuilt e = absurd (omega arith)
 not_ten : (refusal : Refusal) → status_of refusal ≢ 10
 not_ten Words e = absurd (omega arith)
 not_ten (Unread file why) e = absurd (omega arith)
-not_ten (Source place why) e = absurd (omega arith)
+not_ten (Source fault) e = absurd (omega arith)
+not_ten (Printed place) e = absurd (omega arith)
+not_ten (Meaning line) e = absurd (omega arith)
 not_ten (Stuck line) e = absurd (omega arith)
+not_ten Budget e = absurd (omega arith)
 not_ten Memory e = absurd (omega arith)
 not_ten Steps e = absurd (omega arith)
 not_ten (Data number) e = absurd (omega arith)
@@ -39,23 +45,26 @@ not_ten Unbuilt e = absurd (omega arith)
 is_memory : (refusal : Refusal) → status_of refusal ≡ 9 → refusal ≡ Memory
 is_memory Words e = absurd (omega arith)
 is_memory (Unread file why) e = absurd (omega arith)
-is_memory (Source place why) e = absurd (omega arith)
+is_memory (Source fault) e = absurd (omega arith)
+is_memory (Printed place) e = absurd (omega arith)
+is_memory (Meaning line) e = absurd (omega arith)
 is_memory (Stuck line) e = absurd (omega arith)
+is_memory Budget e = absurd (omega arith)
 is_memory Memory e = refl
 is_memory Steps e = absurd (omega arith)
 is_memory (Data number) e = absurd (omega arith)
 is_memory Unbuilt e = absurd (omega arith)
 
 memory_line : (command : Command) (name : List ℕ) → line_of Memory name ≡ refusal_line command Memory
-memory_line (Fold source) name = refl
+memory_line (Fold source budget) name = refl
 memory_line (Run source feed limit) name = refl
 
 short_line : (command : Command) → refusal_line command Memory ≡ line_of Memory []
-short_line (Fold source) = refl
+short_line (Fold source budget) = refl
 short_line (Run source feed limit) = refl
 
 memory_cause : (command : Command) (before now : FolderState) → Cause command Memory before now
-memory_cause (Fold source) before now = tt
+memory_cause (Fold source budget) before now = tt
 memory_cause (Run source feed limit) before now = tt
 
 -- want of memory in place of a refusal
@@ -63,31 +72,37 @@ memory_reads : (command : Command) (before now : FolderState) → IsReadAtMost (
 memory_reads command before now few = record { exact = λ other. absurd (other refl); few = few }
 
 ends_with_0 : (command : Command) → Contains (statuses_of command) 0
-ends_with_0 (Fold source) = (0, lit< tt, refl)
+ends_with_0 (Fold source budget) = (0, lit< tt, refl)
 ends_with_0 (Run source feed limit) = (0, lit< tt, refl)
 
 ends_with_9 : (command : Command) → Contains (statuses_of command) 9
-ends_with_9 (Fold source) = (3, lit< tt, refl)
+ends_with_9 (Fold source budget) = (5, lit< tt, refl)
 ends_with_9 (Run source feed limit) = (4, lit< tt, refl)
 
 ends_with_10 : (command : Command) → Contains (statuses_of command) 10
-ends_with_10 (Fold source) = (4, lit< tt, refl)
+ends_with_10 (Fold source budget) = (6, lit< tt, refl)
 ends_with_10 (Run source feed limit) = (5, lit< tt, refl)
 
 ends_with : (command : Command) (refusal : Refusal) (before now : FolderState) → Cause command refusal before now → Contains (statuses_of command) (status_of refusal)
-ends_with (Fold source) Words before now cause = absurd cause
-ends_with (Fold source) (Unread operand.Source why) before now cause = (1, lit< tt, refl)
-ends_with (Fold source) (Unread operand.Data why) before now cause = absurd cause
-ends_with (Fold source) (Source place why) before now cause = (2, lit< tt, refl)
-ends_with (Fold source) (Stuck line) before now cause = absurd cause
-ends_with (Fold source) Memory before now cause = (3, lit< tt, refl)
-ends_with (Fold source) Steps before now cause = absurd cause
-ends_with (Fold source) (Data number) before now cause = absurd cause
-ends_with (Fold source) Unbuilt before now cause = (5, lit< tt, refl)
+ends_with (Fold source budget) Words before now cause = absurd cause
+ends_with (Fold source budget) (Unread operand.Source why) before now cause = (1, lit< tt, refl)
+ends_with (Fold source budget) (Unread operand.Data why) before now cause = absurd cause
+ends_with (Fold source budget) (Source fault) before now cause = (2, lit< tt, refl)
+ends_with (Fold source budget) (Printed place) before now cause = (2, lit< tt, refl)
+ends_with (Fold source budget) (Meaning line) before now cause = (3, lit< tt, refl)
+ends_with (Fold source budget) (Stuck line) before now cause = absurd cause
+ends_with (Fold source budget) Budget before now cause = (4, lit< tt, refl)
+ends_with (Fold source budget) Memory before now cause = (5, lit< tt, refl)
+ends_with (Fold source budget) Steps before now cause = absurd cause
+ends_with (Fold source budget) (Data number) before now cause = absurd cause
+ends_with (Fold source budget) Unbuilt before now cause = (7, lit< tt, refl)
 ends_with (Run source feed limit) Words before now cause = absurd cause
 ends_with (Run source feed limit) (Unread file why) before now cause = (1, lit< tt, refl)
-ends_with (Run source feed limit) (Source place why) before now cause = (2, lit< tt, refl)
+ends_with (Run source feed limit) (Source fault) before now cause = (2, lit< tt, refl)
+ends_with (Run source feed limit) (Printed place) before now cause = absurd cause
+ends_with (Run source feed limit) (Meaning line) before now cause = absurd cause
 ends_with (Run source feed limit) (Stuck line) before now cause = (3, lit< tt, refl)
+ends_with (Run source feed limit) Budget before now cause = absurd cause
 ends_with (Run source feed limit) Memory before now cause = (4, lit< tt, refl)
 ends_with (Run source feed limit) Steps before now cause = (6, lit< tt, refl)
 ends_with (Run source feed limit) (Data number) before now cause = (7, lit< tt, refl)
@@ -227,10 +242,10 @@ ends_runs command name before now status (Err refusal) promised reads cause told
 one_of_one : 1 ≤ 1
 one_of_one = omega arith
 
-fold_caused : (name : List ℕ) (before now : Outside) (made : Result (Vec ℕ Global) Refusal) → IsRead 1 before.folder now.folder
-    → IfErr made (λ refusal. FoldCause refusal name before.folder now.folder) → IfErr made (IsCaused (Fold name) name before now)
-fold_caused name before now (Ok text) reads cause = tt
-fold_caused name before now (Err refusal) reads cause = (cause, (record { exact = λ _. reads; few = (1, (one_of_one, reads)) }, refl))
+fold_caused : (name : List ℕ) (budget : Option ℕ) (before now : Outside) (made : Result (Vec ℕ Global) Refusal) → IsRead 1 before.folder now.folder
+    → IfErr made (λ refusal. FoldCause refusal name budget before.folder now.folder) → IfErr made (IsCaused (Fold name budget) name before now)
+fold_caused name budget before now (Ok text) reads cause = tt
+fold_caused name budget before now (Err refusal) reads cause = (cause, (record { exact = λ _. reads; few = (1, (one_of_one, reads)) }, refl))
 
 fold_read : (before now : Outside) (made : Result (Vec ℕ Global) Refusal) → IsRead 1 before.folder now.folder → OnOk made (IsRead 1 before.folder now.folder)
 fold_read before now (Ok text) reads = reads
@@ -243,12 +258,12 @@ run_caused : (source feed : List ℕ) (limit : ℕ) (name : List ℕ) (before no
 run_caused source feed limit name before now (Ok text) cause reads is = tt
 run_caused source feed limit name before now (Err refusal) cause reads is = (cause, (reads, ap (line_of refusal) is))
 
-pub fold_ends : (name : List ℕ) (before now : Outside) (status : ℕ) (made : Result (Vec ℕ Global) Refusal)
-    → IfOk made (λ text. FoldPromises name before.folder.held text.items []) → IfErr made (λ refusal. FoldCause refusal name before.folder now.folder)
+pub fold_ends : (name : List ℕ) (budget : Option ℕ) (before now : Outside) (status : ℕ) (made : Result (Vec ℕ Global) Refusal)
+    → IfOk made (λ text. FoldPromises name before.folder.held text.items []) → IfErr made (λ refusal. FoldCause refusal name budget before.folder now.folder)
     → IsRead 1 before.folder now.folder
-    → Ends made name before.out now.out before.err now.err status → Keeps before now → Runs (Fold name) before now status
-fold_ends name before now status made promised cause reads ends keeps =
-    ends_runs (Fold name) name before now status made promised (fold_read before now made reads) (fold_caused name before now made reads cause) ends keeps
+    → Ends made name before.out now.out before.err now.err status → Keeps before now → Runs (Fold name budget) before now status
+fold_ends name budget before now status made promised cause reads ends keeps =
+    ends_runs (Fold name budget) name before now status made promised (fold_read before now made reads) (fold_caused name budget before now made reads cause) ends keeps
 
 pub run_ends : (source feed : List ℕ) (limit : ℕ) (name : List ℕ) (before now : Outside) (status : ℕ) (made : Result (Vec ℕ Global) Refusal)
     → IfOk made (λ text. RunPromises source feed limit before.folder.held text.items []) → OnOk made (IsRead 2 before.folder now.folder)

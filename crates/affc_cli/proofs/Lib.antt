@@ -1,12 +1,13 @@
 pub mod Named
+pub mod Layers
 pub mod Accesses
 pub mod Touched
+pub mod Iterators
+pub mod Meant
 pub mod Telling
 pub mod Ending
 pub mod Executed
 pub mod Reading
-pub mod Folded
-pub mod Forms
 pub mod Clap
 pub mod Commands
 pub mod Numbers

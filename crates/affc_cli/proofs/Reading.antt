@@ -1,4 +1,4 @@
--- What is promised and refused once both files of `run` are read.
+-- What is promised and refused once the files of a command are read.
 use Rattle.std.proofs.Common.{Vec, ◌≡◌, ℕ, List, [], Option, Result, Ok, Err, IfOk, IfErr, refl, sym, subst}
 use Rattle.std.specs.declared.alloc.Global.{Global}
 use Rattle.affc_io.specs.Files.{Holds}
@@ -7,7 +7,7 @@ use Rattle.affc_cli.specs.Promise.{RunPromises}
 use Rattle.affc_cli.specs.Refusal.{HeldTexts, RunCause}
 use Rattle.affc_cli.specs.Run.{RunsTo, RunTextCause}
 use Rattle.affc_cli.specs.declared.refusal.Refusal.{Refusal}
-use Rattle.affc_cli.specs.declared.refusal.Refusal.TheVariants.{Words, Unread, Source, Stuck, Memory, Steps, Data, Unbuilt}
+use Rattle.affc_cli.specs.declared.refusal.Refusal.TheVariants.{Words, Unread, Source, Printed, Meaning, Stuck, Budget, Memory, Steps, Data, Unbuilt}
 
 -- ---- The two texts, of which the second was read from a folder that holds the same
 
@@ -28,8 +28,11 @@ caused : (source feed : List ℕ) (limit : ℕ) (before now : FolderState) (t : 
     → RunTextCause t.source_text t.feed_text limit refusal → RunCause refusal source feed limit before now
 caused source feed limit before now t Words cause = absurd cause
 caused source feed limit before now t (Unread file why) cause = absurd cause
-caused source feed limit before now t (Source place why) cause = record { texts = t; cause = cause }
+caused source feed limit before now t (Source fault) cause = record { texts = t; cause = cause }
+caused source feed limit before now t (Printed place) cause = absurd cause
+caused source feed limit before now t (Meaning line) cause = absurd cause
 caused source feed limit before now t (Stuck line) cause = record { texts = t; cause = cause }
+caused source feed limit before now t Budget cause = absurd cause
 caused source feed limit before now t Memory cause = tt
 caused source feed limit before now t Steps cause = record { texts = t; cause = cause }
 caused source feed limit before now t (Data number) cause = record { texts = t; cause = cause }

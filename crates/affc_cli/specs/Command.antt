@@ -8,7 +8,7 @@ use Rattle.std.specs.declared.alloc.Global.{Global}
 
 -- The command forms.
 pub data Command : Type 0 where
-  Fold : (source : List ℕ) → Command
+  Fold : (source : List ℕ) (budget : Option ℕ) → Command
   Run : (source feed : List ℕ) (steps : ℕ) → Command
 
 -- the bytes of each word
@@ -105,9 +105,16 @@ abbrev pub steps_of : Option (List ℕ) → Option ℕ
 steps_of None = Some 10000000
 steps_of (Some text) = number_to 1000000000000 text
 
--- `fold SRC`
+-- the N of `--budget N`, or none
+abbrev pub budget_of : Option (List ℕ) → Option (Option ℕ)
+budget_of None = Some None
+budget_of (Some text) = option_map Some (number_to 9223372036854775807 text)
+
+-- `fold SRC [--budget N]`
 abbrev pub fold_of : (operands : List (List ℕ)) (options : List (List ℕ × List ℕ)) → Option Command
-fold_of (source ∷ []) options = if are_options [] options then Some (Fold source) else None
+fold_of (source ∷ []) options =
+    if are_options (codes "budget" ∷ []) options
+    then option_map (Fold source) (budget_of (value_of (codes "budget") options)) else None
 fold_of _ options = None
 
 -- `run SRC DATA [--steps N]`

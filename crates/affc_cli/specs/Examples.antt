@@ -1,5 +1,5 @@
 -- What words stand for, at examples.
-use Rattle.std.specs.Prelude.{◌≡◌, true, is_none, List, [], ◌∷◌, ℕ, map, Some, codes}
+use Rattle.std.specs.Prelude.{◌≡◌, true, is_none, List, [], ◌∷◌, ℕ, map, None, Some, codes}
 use Rattle.std.specs.List.{list_all}
 use Rattle.affc_cli.specs.Command.{Fold, Run, command_of}
 
@@ -51,6 +51,14 @@ abbrev pub OptionsAreTheForms : Type 0
 OptionsAreTheForms = AreNone (
     (codes "fold" ∷ codes "a" ∷ codes "--steps" ∷ codes "5" ∷ [])
     ∷ (codes "fold" ∷ codes "a" ∷ codes "--=b" ∷ [])
+    ∷ (codes "fold" ∷ codes "a" ∷ codes "--budget" ∷ [])
+    ∷ (codes "fold" ∷ codes "a" ∷ codes "--budget" ∷ codes "0" ∷ [])
+    ∷ (codes "fold" ∷ codes "a" ∷ codes "--budget=9223372036854775808" ∷ [])
+    ∷ (codes "fold" ∷ codes "a" ∷ codes "--budget=00000000000000000007" ∷ [])
+    ∷ (codes "fold" ∷ codes "--budget=5" ∷ codes "a" ∷ codes "--budget" ∷ codes "5" ∷ [])
+    ∷ (codes "fold" ∷ codes "--budget" ∷ codes "a" ∷ [])
+    ∷ (codes "fold" ∷ codes "--budget=5" ∷ [])
+    ∷ (codes "run" ∷ codes "a" ∷ codes "b" ∷ codes "--budget=5" ∷ [])
     ∷ (codes "run" ∷ codes "a" ∷ codes "b" ∷ codes "--step=5" ∷ [])
     ∷ (codes "run" ∷ codes "a" ∷ codes "b" ∷ codes "--steps" ∷ [])
     ∷ (codes "run" ∷ codes "a" ∷ codes "--steps" ∷ codes "--" ∷ codes "b" ∷ [])
@@ -75,11 +83,11 @@ OperandsFollowTheEnd = map command_of (
     ∷ (codes "run" ∷ codes "--" ∷ codes "-a" ∷ codes "-b" ∷ [])
     ∷ (codes "run" ∷ codes "a" ∷ codes "b" ∷ codes "--" ∷ [])
     ∷ [])
-    ≡ Some (Fold (codes "a"))
-    ∷ Some (Fold (codes "a"))
-    ∷ Some (Fold (codes "-"))
-    ∷ Some (Fold (codes "--"))
-    ∷ Some (Fold (codes "help"))
+    ≡ Some (Fold (codes "a") None)
+    ∷ Some (Fold (codes "a") None)
+    ∷ Some (Fold (codes "-") None)
+    ∷ Some (Fold (codes "--") None)
+    ∷ Some (Fold (codes "help") None)
     ∷ Some (Run (codes "-a") (codes "-b") 10000000)
     ∷ Some (Run (codes "a") (codes "b") 10000000)
     ∷ []
@@ -93,6 +101,9 @@ OptionsStandAnywhere = map command_of (
     ∷ (codes "run" ∷ codes "a" ∷ codes "b" ∷ codes "--steps" ∷ codes "1" ∷ [])
     ∷ (codes "run" ∷ codes "a" ∷ codes "b" ∷ codes "--steps" ∷ codes "0000000000000000007" ∷ [])
     ∷ (codes "run" ∷ codes "a" ∷ codes "--steps=1000000000000" ∷ codes "--" ∷ codes "--steps=5" ∷ [])
+    ∷ (codes "fold" ∷ codes "--budget=9223372036854775807" ∷ codes "a" ∷ [])
+    ∷ (codes "fold" ∷ codes "a" ∷ codes "--budget" ∷ codes "0000000000000000001" ∷ [])
+    ∷ (codes "fold" ∷ codes "--" ∷ codes "--budget=5" ∷ [])
     ∷ [])
     ≡ Some (Run (codes "a") (codes "b") 5)
     ∷ Some (Run (codes "a") (codes "b") 5)
@@ -100,4 +111,7 @@ OptionsStandAnywhere = map command_of (
     ∷ Some (Run (codes "a") (codes "b") 1)
     ∷ Some (Run (codes "a") (codes "b") 7)
     ∷ Some (Run (codes "a") (codes "--steps=5") 1000000000000)
+    ∷ Some (Fold (codes "a") (Some 9223372036854775807))
+    ∷ Some (Fold (codes "a") (Some 1))
+    ∷ Some (Fold (codes "--budget=5") None)
     ∷ []

@@ -2,11 +2,10 @@ pub mod Command
 pub mod Examples
 pub mod Parsed
 pub mod Seen
-pub mod Form
 pub mod Outside
-pub mod Fold
 pub mod Words
 pub mod Stuck
+pub mod Meaning
 pub mod Run
 pub mod Refusal
 pub mod Promise

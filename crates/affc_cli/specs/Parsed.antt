@@ -23,9 +23,9 @@ option_rule name = record (new_rule name) { long = Some name }
 abbrev pub app_with : (name : List ℕ) → List Rule → App
 app_with name rules = record { top = record (new_shape name) { rules = rules; no_binary_name = true; disable_help_flag = true }; subs = [] }
 
--- `fold SRC`
+-- `fold SRC [--budget N]`
 abbrev pub fold_app : App
-fold_app = app_with (codes "fold") (operand_rule (codes "source") ∷ [])
+fold_app = app_with (codes "fold") (operand_rule (codes "source") ∷ option_rule (codes "budget") ∷ [])
 
 -- `run SRC DATA [--steps N]`
 abbrev pub run_app : App

@@ -10,8 +10,8 @@ use Rattle.affc_io.specs.Files.{Holds}
 use Rattle.affc_io.specs.Front.{IsFront}
 use Rattle.affc_io.specs.State.{Files, FolderState}
 use Rattle.affc_io.specs.Taken.{grown}
+use Rattle.affc_driver.specs.Folds.{FoldsTo}
 use Rattle.affc_cli.specs.Command.{Command, Fold, Run, command_of, texts_of}
-use Rattle.affc_cli.specs.Fold.{FoldsTo}
 use Rattle.affc_cli.specs.Outside.{Outside, Keeps, Told, IsRead, IsReadAtMost}
 use Rattle.affc_cli.specs.Refusal.{status_of, line_of, FoldCause, HeldTexts, RunCause, file_of}
 use Rattle.affc_cli.specs.Run.{RunsTo}
@@ -19,12 +19,11 @@ use Rattle.affc_cli.specs.declared.refusal.Operand.TheVariants as operand
 use Rattle.affc_cli.specs.declared.refusal.Refusal.{Refusal}
 use Rattle.affc_cli.specs.declared.refusal.Refusal.TheVariants.{Words, Unread, Memory}
 
--- The text does what the source does that the name held, where the folder tells what it holds; the report is empty.
+-- Text and report are what is made of the source that the name held, where the folder tells what it holds.
 pub record FoldPromises (name : List ℕ) (held : Option Files) (text report : List ℕ) : Type 0 where
   pub source : List ℕ
   pub is_held : Holds held name source
-  pub folds_to : FoldsTo source text
-  pub no_report : report ≡ []
+  pub folds_to : FoldsTo source text report
 
 -- The text is what the output arrays hold when the source that one name held has run on the data text that the other
 -- held, where the folder tells what it holds; the report is empty.
@@ -35,33 +34,33 @@ pub record RunPromises (source feed : List ℕ) (limit : ℕ) (held : Option Fil
 
 -- The pieces of status 0: the text for out, then the report for err.
 abbrev pub Promises : Command → Option Files → (text report : List ℕ) → Type 0
-Promises (Fold source) held text report = FoldPromises source held text report
+Promises (Fold source budget) held text report = FoldPromises source held text report
 Promises (Run source feed limit) held text report = RunPromises source feed limit held text report
 
 -- The statuses that a command ends with.
 abbrev pub statuses_of : Command → List ℕ
-statuses_of (Fold source) = 0 ∷ 3 ∷ 4 ∷ 9 ∷ 10 ∷ 14 ∷ []
+statuses_of (Fold source budget) = 0 ∷ 3 ∷ 4 ∷ 5 ∷ 8 ∷ 9 ∷ 10 ∷ 14 ∷ []
 statuses_of (Run source feed limit) = 0 ∷ 3 ∷ 4 ∷ 5 ∷ 9 ∷ 10 ∷ 12 ∷ 13 ∷ []
 
 -- The line of a refused command.
 abbrev pub refusal_line : Command → Refusal → List ℕ
-refusal_line (Fold source) refusal = line_of refusal source
+refusal_line (Fold source budget) refusal = line_of refusal source
 refusal_line (Run source feed limit) refusal = line_of refusal (file_of refusal source feed)
 
 -- How many files a command reads.
 abbrev pub files_of : Command → ℕ
-files_of (Fold source) = 1
+files_of (Fold source budget) = 1
 files_of (Run source feed limit) = 2
 
 -- How often a command that is refused so reads the folder: `run` stops at its source where that isn't read.
 abbrev pub reads_of : Command → Refusal → ℕ
-reads_of (Fold source) refusal = 1
+reads_of (Fold source budget) refusal = 1
 reads_of (Run source feed limit) (Unread operand.Source why) = 1
 reads_of (Run source feed limit) refusal = 2
 
 -- When a command is refused so.
 abbrev pub Cause : Command → Refusal → FolderState → FolderState → Type 0
-Cause (Fold source) refusal before now = FoldCause refusal source before now
+Cause (Fold source budget) refusal before now = FoldCause refusal source budget before now
 Cause (Run source feed limit) refusal before now = RunCause refusal source feed limit before now
 
 -- Each file was read once, all pieces were written, and nothing else.

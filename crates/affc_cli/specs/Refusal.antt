@@ -1,33 +1,31 @@
 -- Why a command is refused, and the line that says so.
-use Rattle.std.specs.Prelude.{◌≢◌, ◌⊎◌, ℕ, List, ◌++◌, Option, codes, decimal as digits_of}
+use Rattle.std.specs.Prelude.{◌⊎◌, ℕ, List, ◌++◌, Option, IsSome, codes, decimal as digits_of}
 use Rattle.affc_io.specs.Count.{Rose}
 use Rattle.affc_io.specs.Files.{Holds, NotHeld, TooLong}
 use Rattle.affc_io.specs.State.{Files, FolderState}
-use Rattle.affc_cli.specs.Fold.{IsUnbuilt as IsUnbuiltText, SourceFault}
+use Rattle.affc_driver.specs.Refusals.{IsSourceFault, IsPrinted, IsUnbuilt}
+use Rattle.affc_cli.specs.Meaning.{IsMeaningLine}
 use Rattle.affc_cli.specs.Run.{RunTextCause}
-use Rattle.affc_cli.specs.Words.{why_words}
+use Rattle.affc_cli.specs.Words.{fault_line, source_line}
 use Rattle.affc_cli.specs.declared.refusal.Operand.TheVariants as operand
 use Rattle.affc_cli.specs.declared.refusal.Refusal.{Refusal}
-use Rattle.affc_cli.specs.declared.refusal.Refusal.TheVariants.{Words, Unread, Source, Stuck, Memory, Steps, Data, Unbuilt}
+use Rattle.affc_cli.specs.declared.refusal.Refusal.TheVariants.{Words, Unread, Source, Printed, Meaning, Stuck, Budget, Memory, Steps, Data, Unbuilt}
 use Rattle.affc_cli.specs.declared.refusal.UnreadWhy.{UnreadWhy}
 use Rattle.affc_cli.specs.declared.refusal.UnreadWhy.TheVariants.{Unreadable, Long}
-use Rattle.affc_cli.specs.declared.refusal.Why.{Why}
-use Rattle.affc_cli.specs.declared.refusal.Why.TheVariants.{Printed}
 
 -- the status of each refusal
 abbrev pub status_of : Refusal → ℕ
 status_of Words = 2
 status_of (Unread file why) = 3
-status_of (Source place why) = 4
+status_of (Source fault) = 4
+status_of (Printed place) = 4
+status_of (Meaning line) = 5
 status_of (Stuck line) = 5
+status_of Budget = 8
 status_of Memory = 9
 status_of Steps = 12
 status_of (Data number) = 13
 status_of Unbuilt = 14
-
--- what is said of a source
-abbrev pub source_line : (place : ℕ) → Why → List ℕ
-source_line place why = codes "affc: source at " ++ digits_of place ++ codes ": " ++ why_words why
 
 -- what is said of data
 abbrev pub data_line : (number : ℕ) → List ℕ
@@ -42,58 +40,64 @@ unread_words Long = codes "affc: too long "
 abbrev pub line_of : Refusal → List ℕ → List ℕ
 line_of Words name = codes "affc: words\n"
 line_of (Unread file why) name = unread_words why ++ name ++ codes "\n"
-line_of (Source place why) name = source_line place why ++ codes "\n"
+line_of (Source fault) name = fault_line fault ++ codes "\n"
+line_of (Printed place) name = source_line place (codes "printed") ++ codes "\n"
+line_of (Meaning line) name = line ++ codes "\n"
 line_of (Stuck line) name = line ++ codes "\n"
+line_of Budget name = codes "affc: budget\n"
 line_of Memory name = codes "affc: memory\n"
 line_of Steps name = codes "affc: steps\n"
 line_of (Data number) name = data_line number ++ codes "\n"
 line_of Unbuilt name = codes "affc: unbuilt\n"
-
--- what the name holds, where that is told, has this wrong with it
-pub record IsFaulty (held : Option Files) (name : List ℕ) (place : ℕ) (why : Why) : Type 0 where
-  pub source : List ℕ
-  pub is_held : Holds held name source
-  pub fault : SourceFault source place why
-
--- what the name holds, where that is told, reads as a program that can't be compiled yet
-pub record IsUnbuilt (held : Option Files) (name : List ℕ) : Type 0 where
-  pub source : List ℕ
-  pub is_held : Holds held name source
-  pub unbuilt : IsUnbuiltText source
 
 -- why the file of this name isn't read, from the folder before and after
 abbrev pub IsUnread : UnreadWhy → (name : List ℕ) → FolderState → FolderState → Type 0
 IsUnread Unreadable name before now = Rose before.faults now.faults ⊎ NotHeld name before now
 IsUnread Long name before now = TooLong name before now
 
--- When `fold` is refused so, from the folder before and after the source was read. Want of memory may come at any time.
-abbrev pub FoldCause : Refusal → List ℕ → FolderState → FolderState → Type 0
-FoldCause Words source before now = ⊥
-FoldCause (Unread operand.Source why) source before now = IsUnread why source before now
-FoldCause (Unread operand.Data why) source before now = ⊥
-FoldCause (Source place why) source before now = IsFaulty before.held source place why
-FoldCause (Stuck line) source before now = ⊥
-FoldCause Memory source before now = Unit {0}
-FoldCause Steps source before now = ⊥
-FoldCause (Data number) source before now = ⊥
-FoldCause Unbuilt source before now = IsUnbuilt before.held source
-
 -- When a text is refused as no program, so.
 abbrev pub UnreadCause : List ℕ → Refusal → Type 0
-UnreadCause text (Source place why) = SourceFault text place why × (why ≢ Printed)
+UnreadCause text (Source fault) = IsSourceFault text fault
 UnreadCause text Memory = Unit {0}
 UnreadCause text _ = ⊥
 
--- When a text is refused so.
-abbrev pub TextCause : List ℕ → Refusal → Type 0
-TextCause text Words = ⊥
-TextCause text (Unread file why) = ⊥
-TextCause text (Source place why) = SourceFault text place why
-TextCause text (Stuck line) = ⊥
-TextCause text Memory = Unit {0}
-TextCause text Steps = ⊥
-TextCause text (Data number) = ⊥
-TextCause text Unbuilt = IsUnbuiltText text
+-- ---- `fold`
+
+-- When a source is refused so, with this budget or without one. Want of memory may come at any time, and the end of a
+-- budget where there is one.
+abbrev pub TextCause : (source : List ℕ) → (budget : Option ℕ) → Refusal → Type 0
+TextCause source budget Words = ⊥
+TextCause source budget (Unread file why) = ⊥
+TextCause source budget (Source fault) = IsSourceFault source fault
+TextCause source budget (Printed place) = IsPrinted source place
+TextCause source budget (Meaning line) = IsMeaningLine source line
+TextCause source budget (Stuck line) = ⊥
+TextCause source budget Budget = IsSome budget
+TextCause source budget Memory = Unit {0}
+TextCause source budget Steps = ⊥
+TextCause source budget (Data number) = ⊥
+TextCause source budget Unbuilt = IsUnbuilt source
+
+-- what the name holds, where that is told, is refused so
+pub record TextRefused (refusal : Refusal) (held : Option Files) (name : List ℕ) (budget : Option ℕ) : Type 0 where
+  pub source : List ℕ
+  pub is_held : Holds held name source
+  pub cause : TextCause source budget refusal
+
+-- When `fold` is refused so, from the folder before and after the source was read. Want of memory may come at any time.
+abbrev pub FoldCause : Refusal → (source : List ℕ) → (budget : Option ℕ) → FolderState → FolderState → Type 0
+FoldCause Words source budget before now = ⊥
+FoldCause (Unread operand.Source why) source budget before now = IsUnread why source before now
+FoldCause (Unread operand.Data why) source budget before now = ⊥
+FoldCause (Source fault) source budget before now = TextRefused (Source fault) before.held source budget
+FoldCause (Printed place) source budget before now = TextRefused (Printed place) before.held source budget
+FoldCause (Meaning line) source budget before now = TextRefused (Meaning line) before.held source budget
+FoldCause (Stuck line) source budget before now = ⊥
+FoldCause Budget source budget before now = TextRefused Budget before.held source budget
+FoldCause Memory source budget before now = Unit {0}
+FoldCause Steps source budget before now = ⊥
+FoldCause (Data number) source budget before now = ⊥
+FoldCause Unbuilt source budget before now = TextRefused Unbuilt before.held source budget
 
 -- ---- `run`
 
@@ -120,8 +124,11 @@ RunCause Words source feed limit before now = ⊥
 RunCause (Unread operand.Source why) source feed limit before now = IsUnread why source before now
 RunCause (Unread operand.Data why) source feed limit before now =
     IsHeld before.held source × IsUnread why feed before now
-RunCause (Source place why) source feed limit before now = TextsRefused (Source place why) before.held source feed limit
+RunCause (Source fault) source feed limit before now = TextsRefused (Source fault) before.held source feed limit
+RunCause (Printed place) source feed limit before now = ⊥
+RunCause (Meaning line) source feed limit before now = ⊥
 RunCause (Stuck line) source feed limit before now = TextsRefused (Stuck line) before.held source feed limit
+RunCause Budget source feed limit before now = ⊥
 RunCause Memory source feed limit before now = Unit {0}
 RunCause Steps source feed limit before now = TextsRefused Steps before.held source feed limit
 RunCause (Data number) source feed limit before now = TextsRefused (Data number) before.held source feed limit

@@ -1,5 +1,5 @@
 -- What `run` does with a source and its data, and what is wrong with others. `feed` is the data text, DATA's.
-use Rattle.std.specs.Prelude.{◌≡◌, ◌≢◌, ◌≤◌, ◌<◌, ℕ, ℤ, List}
+use Rattle.std.specs.Prelude.{◌≡◌, ◌≤◌, ◌<◌, ℕ, ℤ, List}
 use Rattle.affc_ast.specs.declared.tree.Program.{Program}
 use Rattle.affc_ast.specs.Cause.{Cause}
 use Rattle.affc_ast.specs.Fits.{outputs}
@@ -7,11 +7,10 @@ use Rattle.affc_ast.specs.Meaning.{State, Outcome, Ended, Stuck, meaning}
 use Rattle.affc_grammar.specs.Reads.{Reads}
 use Rattle.affc_interp.specs.DataText.{FeedReads, IsWrongLine, output_text}
 use Rattle.affc_interp.specs.Runs.{start, steps_of}
-use Rattle.affc_cli.specs.Fold.{SourceFault}
+use Rattle.affc_driver.specs.Refusals.{IsSourceFault}
 use Rattle.affc_cli.specs.Stuck.{stuck_line}
 use Rattle.affc_cli.specs.declared.refusal.Refusal.{Refusal}
-use Rattle.affc_cli.specs.declared.refusal.Refusal.TheVariants.{Words, Unread, Source, Stuck as StuckRun, Memory, Steps, Data, Unbuilt}
-use Rattle.affc_cli.specs.declared.refusal.Why.TheVariants.{Printed}
+use Rattle.affc_cli.specs.declared.refusal.Refusal.TheVariants.{Words, Unread, Source, Printed, Meaning, Stuck as StuckRun, Budget, Memory, Steps, Data, Unbuilt}
 
 -- The source reads as a program, with the prelude or without it, and the data text is data of it: the numbers p, and the
 -- values of each array.
@@ -58,8 +57,11 @@ pub record HasWrongLine (source feed : List ℕ) (number : ℕ) : Type 0 where
 abbrev pub RunTextCause : (source feed : List ℕ) → (limit : ℕ) → Refusal → Type 0
 RunTextCause source feed limit Words = ⊥
 RunTextCause source feed limit (Unread file why) = ⊥
-RunTextCause source feed limit (Source place why) = SourceFault source place why × (why ≢ Printed)
+RunTextCause source feed limit (Source fault) = IsSourceFault source fault
+RunTextCause source feed limit (Printed place) = ⊥
+RunTextCause source feed limit (Meaning line) = ⊥
 RunTextCause source feed limit (StuckRun line) = IsStuck source feed limit line
+RunTextCause source feed limit Budget = ⊥
 RunTextCause source feed limit Memory = Unit {0}
 RunTextCause source feed limit Steps = TakesMore source feed limit
 RunTextCause source feed limit (Data number) = HasWrongLine source feed number

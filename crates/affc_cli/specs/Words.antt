@@ -1,11 +1,11 @@
 -- The words that say what is wrong with a source.
-use Rattle.std.specs.Prelude.{ℕ, List, codes}
+use Rattle.std.specs.Prelude.{ℕ, List, ◌++◌, codes, decimal}
 use Rattle.affc_grammar.specs.declared.fault.NameWhy.{NameWhy}
 use Rattle.affc_grammar.specs.declared.fault.NameWhy.TheVariants.{Unknown, Twice, Reserved, Const, Kind, NoRange}
 use Rattle.affc_grammar.specs.declared.fault.LimitName.{LimitName}
 use Rattle.affc_grammar.specs.declared.fault.LimitName.TheVariants.{Size, Tokens, Run, Depth, Items, Parameters, Range, Loops, Statements, Empty, Accesses, Dimensions, Comparisons, Literal, Coefficient}
-use Rattle.affc_cli.specs.declared.refusal.Why.{Why}
-use Rattle.affc_cli.specs.declared.refusal.Why.TheVariants as why
+use Rattle.affc_parse.specs.declared.fault.ParseFault.{ParseFault}
+use Rattle.affc_parse.specs.declared.fault.ParseFault.TheVariants.{Memory, BadByte, OpenComment, LongNumber, Syntax, Name, NotAffine, Limit}
 
 abbrev pub name_words : NameWhy → List ℕ
 name_words Unknown = codes "name unknown"
@@ -32,12 +32,17 @@ limit_words Comparisons = codes "limit comparisons"
 limit_words Literal = codes "limit literal"
 limit_words Coefficient = codes "limit coefficient"
 
-abbrev pub why_words : Why → List ℕ
-why_words why.Byte = codes "byte"
-why_words why.Comment = codes "comment"
-why_words why.Number = codes "number"
-why_words why.Syntax = codes "syntax"
-why_words (why.Name reason) = name_words reason
-why_words why.NotAffine = codes "not affine"
-why_words (why.Limit which) = limit_words which
-why_words why.Printed = codes "printed"
+-- what is said of a source at a place
+abbrev pub source_line : (place : ℕ) → (words : List ℕ) → List ℕ
+source_line place words = codes "affc: source at " ++ decimal place ++ codes ": " ++ words
+
+-- what is said of a text that is no program
+abbrev pub fault_line : ParseFault → List ℕ
+fault_line Memory = codes "affc: memory"
+fault_line (BadByte place) = source_line place (codes "byte")
+fault_line (OpenComment place) = source_line place (codes "comment")
+fault_line (LongNumber place) = source_line place (codes "number")
+fault_line (Syntax place) = source_line place (codes "syntax")
+fault_line (Name place why) = source_line place (name_words why)
+fault_line (NotAffine place) = source_line place (codes "not affine")
+fault_line (Limit place which) = source_line place (limit_words which)

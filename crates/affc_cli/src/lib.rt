@@ -3,7 +3,7 @@
 
 pub mod examples;
 mod fold;
-mod form;
+mod meaning;
 mod refusal;
 mod run;
 pub mod serve;

@@ -2,32 +2,15 @@
 ghost use Rattle.std.specs.Prelude.{◌≡◌, ◌++◌, List, ℕ, IfOk, codes, string_bytes};
 ghost use Rattle.affc_io.specs.State.{SinkCounts};
 ghost use Rattle.affc_cli.specs.Outside.{Told};
-ghost use Rattle.affc_cli.specs.Refusal.{status_of, source_line, data_line, unread_words};
+ghost use Rattle.affc_cli.specs.Refusal.{status_of, data_line, unread_words};
 ghost use Rattle.affc_cli.specs.Telling.{IsTold};
-ghost use Rattle.affc_cli.specs.Words.{name_words, limit_words, why_words};
+ghost use Rattle.affc_cli.specs.Words.{name_words, limit_words, source_line, fault_line};
 
 use affc_ast::text::Text;
 use affc_grammar::fault::{LimitName, NameWhy};
 use affc_io::{Sink, put_all};
+use affc_parse::fault::ParseFault;
 use std::alloc::{AllocError, Global};
-
-/// What is wrong with a source.
-#[derive(Clone, Copy, Debug, PartialEq, Eq)]
-pub enum Why {
-    /// No token begins or goes on here.
-    Byte,
-    /// A comment without its end.
-    Comment,
-    /// A number of 2^64 or more.
-    Number,
-    Syntax,
-    Name(NameWhy),
-    /// A product both of whose sides hold names.
-    NotAffine,
-    Limit(LimitName),
-    /// It has the prelude, as printed texts do.
-    Printed,
-}
 
 /// A file that a command names.
 #[derive(Clone, Copy, Debug)]
@@ -54,17 +37,23 @@ pub enum Refusal {
     Words,
     /// A file isn't read.
     Unread { file: Operand, why: UnreadWhy },
-    /// The source is no program that is taken.
-    Source { place: usize, why: Why },
+    /// No program reads as the source.
+    Source(ParseFault),
+    /// The source has the prelude, as printed texts do, and it begins at this byte.
+    Printed(usize),
+    /// Something is wrong with the program whatever its data, as the line says.
+    Meaning(Text),
     /// The run is stuck, as the line says.
     Stuck(Text),
+    /// The budget is spent.
+    Budget,
     /// Memory is short.
     Memory,
     /// The run takes more steps than it may.
     Steps,
     /// The first line of the data that is wrong, counted from 1.
     Data(u64),
-    /// The source isn't of the form that can be compiled yet.
+    /// The program is none that can be compiled yet.
     Unbuilt,
 }
 
@@ -103,23 +92,6 @@ fn limit_words(which: LimitName) -> &'static str
     }
 }
 
-impl Why {
-    fn words(self) -> &'static str
-        ensures { result.now ≡ why_words self }
-    {
-        match self {
-            Why::Byte => "byte",
-            Why::Comment => "comment",
-            Why::Number => "number",
-            Why::Syntax => "syntax",
-            Why::Name(why) => name_words(why),
-            Why::NotAffine => "not affine",
-            Why::Limit(which) => limit_words(which),
-            Why::Printed => "printed",
-        }
-    }
-}
-
 impl UnreadWhy {
     // What is said of the file, in front of its name.
     fn words(self) -> &'static str
@@ -142,16 +114,32 @@ fn data_line(alloc: Global, number: u64) -> Result<String, AllocError>
     Ok(line)
 }
 
-// What is said of a source, without the line's end.
-fn source_line(alloc: Global, place: usize, why: Why) -> Result<String, AllocError>
-    ensures { IfOk result (λ line. string_bytes line ≡ source_line place why) }
+// What is said of a source at a place, without the line's end.
+fn source_line(alloc: Global, place: usize, words: &str) -> Result<String, AllocError>
+    ensures { IfOk result (λ line. string_bytes line ≡ source_line place words.now) }
 {
     let mut line = String::new(alloc);
     line.push_str("affc: source at ")?;
     write!(line, "{place}")?;
     line.push_str(": ")?;
-    line.push_str(why.words())?;
+    line.push_str(words)?;
     Ok(line)
+}
+
+// What is said of a text that is no program, without the line's end.
+fn fault_line(alloc: Global, fault: &ParseFault) -> Result<String, AllocError>
+    ensures { IfOk result (λ line. string_bytes line ≡ fault_line fault.now) }
+{
+    match fault {
+        ParseFault::Memory => String::from_str(alloc, "affc: memory"),
+        ParseFault::BadByte(place) => source_line(alloc, *place, "byte"),
+        ParseFault::OpenComment(place) => source_line(alloc, *place, "comment"),
+        ParseFault::LongNumber(place) => source_line(alloc, *place, "number"),
+        ParseFault::Syntax(place) => source_line(alloc, *place, "syntax"),
+        ParseFault::Name { place, why } => source_line(alloc, *place, name_words(*why)),
+        ParseFault::NotAffine(place) => source_line(alloc, *place, "not affine"),
+        ParseFault::Limit { place, which } => source_line(alloc, *place, limit_words(*which)),
+    }
 }
 
 impl Refusal {
@@ -162,8 +150,11 @@ impl Refusal {
         match self {
             Refusal::Words => 2,
             Refusal::Unread { file: _, why: _ } => 3,
-            Refusal::Source { place: _, why: _ } => 4,
+            Refusal::Source(_) => 4,
+            Refusal::Printed(_) => 4,
+            Refusal::Meaning(_) => 5,
             Refusal::Stuck(_) => 5,
+            Refusal::Budget => 8,
             Refusal::Memory => 9,
             Refusal::Steps => 12,
             Refusal::Data(_) => 13,
@@ -181,11 +172,17 @@ impl Refusal {
         match self {
             Refusal::Words => put_line(err, "affc: words", ""),
             Refusal::Unread { file: _, why } => put_line(err, why.words(), name),
-            Refusal::Source { place, why } => match source_line(alloc, *place, *why) {
+            Refusal::Source(fault) => match fault_line(alloc, fault) {
                 Ok(line) => put_line(err, line.as_str(), ""),
                 Err(_) => return tell_short(err),
             },
+            Refusal::Printed(place) => match source_line(alloc, *place, "printed") {
+                Ok(line) => put_line(err, line.as_str(), ""),
+                Err(_) => return tell_short(err),
+            },
+            Refusal::Meaning(line) => put_line(err, line.as_str(), ""),
             Refusal::Stuck(line) => put_line(err, line.as_str(), ""),
+            Refusal::Budget => put_line(err, "affc: budget", ""),
             Refusal::Memory => put_line(err, "affc: memory", ""),
             Refusal::Steps => put_line(err, "affc: steps", ""),
             Refusal::Data(number) => match data_line(alloc, *number) {

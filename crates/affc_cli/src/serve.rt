@@ -47,14 +47,19 @@ fn contents_of<F: Folder>(
 }
 
 // The text for the source that the folder has under the name.
-fn folded<F: Folder>(alloc: Global, name: &str, folder: &mut F) -> Result<Vec<u8>, Refusal>
+fn folded<F: Folder>(
+    alloc: Global,
+    name: &str,
+    budget: Option<u64>,
+    folder: &mut F,
+) -> Result<Vec<u8>, Refusal>
     ensures keeps { FolderKeeps (F.state folder.old) (F.state folder.new) }
     ensures reads { IsRead 1 (F.state folder.old) (F.state folder.new) }
     ensures ok { IfOk result (λ text. FoldPromises name.now (F.state folder.old).held text.items []) }
-    ensures err { IfErr result (λ refusal. FoldCause refusal name.now (F.state folder.old) (F.state folder.new)) }
+    ensures err { IfErr result (λ refusal. FoldCause refusal name.now budget (F.state folder.old) (F.state folder.new)) }
 {
     let source = contents_of(alloc, Operand::Source, name, folder)?;
-    fold(alloc, &source)
+    fold(alloc, &source, budget)
 }
 
 // What the source that the folder has under one name gives on the data that it has under the other.
@@ -123,16 +128,17 @@ fn end<O: Sink, E: Sink>(
 fn run_fold<F: Folder, O: Sink, E: Sink>(
     alloc: Global,
     name: &str,
+    budget: Option<u64>,
     folder: &mut F,
     out: &mut O,
     err: &mut E,
 ) -> u8
-    ensures { Runs (Fold name.now)
+    ensures { Runs (Fold name.now budget)
         (outside (F.state folder.old) (O.state out.old) (E.state err.old))
         (outside (F.state folder.new) (O.state out.new) (E.state err.new))
         result }
 {
-    let made = folded(alloc, name, folder);
+    let made = folded(alloc, name, budget, folder);
     end(alloc, made, name, out, err)
 }
 
@@ -172,7 +178,9 @@ pub fn serve<F: Folder, O: Sink, E: Sink>(
     match command_of(alloc, words) {
         Err(_) => tell_short(err),
         Ok(None) => tell_words(err),
-        Ok(Some(Command::Fold { source })) => run_fold(alloc, source, folder, out, err),
+        Ok(Some(Command::Fold { source, budget })) => {
+            run_fold(alloc, source, budget, folder, out, err)
+        }
         Ok(
             Some(
                 Command::Run {

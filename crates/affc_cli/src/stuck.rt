@@ -196,8 +196,8 @@ fn add_iterators(line: &mut String, before: &str, iterators: &[i64]) -> Result<(
     }
 }
 
-// A line about an access.
-fn access_line(
+/// A line about an access.
+pub fn access_line(
     alloc: Global,
     head: &str,
     program: &Program,
@@ -217,8 +217,8 @@ fn access_line(
     Ok(line)
 }
 
-// A line about the extents of an array.
-fn extent_line(
+/// A line about the extents of an array.
+pub fn extent_line(
     alloc: Global,
     program: &Program,
     p: &[i64],

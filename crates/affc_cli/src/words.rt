@@ -4,7 +4,7 @@ ghost use Rattle.std.specs.List.{list_all, list_any};
 ghost use Rattle.std.specs.Char.{is_ascii_digit};
 ghost use Rattle.clap.specs.Words.{app_of, is_simple};
 ghost use Rattle.clap.specs.Faults.{is_simple_and_free};
-ghost use Rattle.affc_cli.specs.Command.{answer, texts_of, is_empty, number_to, steps_of, command_of};
+ghost use Rattle.affc_cli.specs.Command.{answer, texts_of, is_empty, number_to, budget_of, steps_of, command_of};
 ghost use Rattle.affc_cli.specs.Parsed.{Parses, fold_app, is_clean, run_app};
 ghost use Rattle.affc_cli.specs.Seen.{seen};
 
@@ -17,6 +17,7 @@ use std::alloc::{AllocError, Global};
 pub enum Command<'a> {
     Fold {
         source: &'a str,
+        budget: Option<u64>,
     },
     Run {
         source: &'a str,
@@ -41,6 +42,15 @@ fn number_to(most: u64, text: &str) -> Option<u64>
     match text.parse::<u64>() {
         Ok(n) if n >= 1 && n <= most => Some(n),
         _ => None,
+    }
+}
+
+fn budget_of(value: Option<&str>) -> Option<Option<u64>>
+    ensures { result ≡ budget_of (option_map (λ s. s.now) value.entry) }
+{
+    match value {
+        None => Some(None),
+        Some(text) => number_to(9_223_372_036_854_775_807, text).map(Some),
     }
 }
 
@@ -97,14 +107,15 @@ fn parsed<'a>(
     }
 }
 
-// `fold SRC`
+// `fold SRC [--budget N]`
 fn fold_form<'a>(alloc: Global) -> Result<clap::Command<'a>, AllocError>
     ensures { IfOk result (λ form. app_of form ≡ fold_app) }
 {
     clap::Command::new(alloc, "fold")
         .no_binary_name(true)
         .disable_help_flag(true)
-        .arg(Arg::new(alloc, "source").required(true))
+        .arg(Arg::new(alloc, "source").required(true))?
+        .arg(Arg::new(alloc, "budget").long("budget"))
 }
 
 fn read_fold<'a>(alloc: Global, words: &'a [String]) -> Result<Option<Command<'a>>, AllocError>
@@ -118,7 +129,10 @@ fn read_fold<'a>(alloc: Global, words: &'a [String]) -> Result<Option<Command<'a
     let Some(source) = matches.get_str("source") else {
         return Ok(None);
     };
-    Ok(Some(Command::Fold { source }))
+    let Some(budget) = budget_of(matches.get_str("budget")) else {
+        return Ok(None);
+    };
+    Ok(Some(Command::Fold { source, budget }))
 }
 
 // `run SRC DATA [--steps N]`

@@ -4,8 +4,11 @@ use affc_lex::prelude::PRELUDE;
 use std::alloc::{AllocError, Global};
 use std::test::Fail;
 
-// How a source that reads is refused so far.
-const READS: &str = "affc: unbuilt\n";
+// What is told of a source that reads, where nothing is wrong with it and it has no temporary.
+const READS: &str = "";
+
+// What is told of one that has a temporary.
+const UNBUILT: &str = "affc: unbuilt\n";
 
 // The line that `fold` writes on the error stream for a text.
 fn told(alloc: Global, text: &str) -> Result<Vec<u8>, AllocError> {
@@ -82,7 +85,7 @@ fn counts_are_reached_and_passed(rt: HostRuntime) -> Result<(), Fail> {
             [CONDITION, " && 0 < 1", ") out[0] = 1ULL; }", "", ""],
             "affc: source at 345: limit comparisons\n",
         ),
-        (4, [TEMPORARY, "[1]", "; out[0] = 1ULL; }", "", ""], READS),
+        (4, [TEMPORARY, "[1]", "; out[0] = 1ULL; }", "", ""], UNBUILT),
         (
             5,
             [TEMPORARY, "[1]", "; out[0] = 1ULL; }", "", ""],
@@ -219,8 +222,14 @@ fn keywords_are_no_names(rt: HostRuntime) -> Result<(), Fail> {
 #[test]
 fn names_and_limits_are_told_at_their_bytes(rt: HostRuntime) -> Result<(), Fail> {
     let rows = [
-        ("out[65536 * i] = 1ULL;", READS),
-        ("out[16777216] = 1ULL;", READS),
+        (
+            "out[65536 * i] = 1ULL;",
+            "affc: bounds of out at N=2 in S0(1) access 0\n",
+        ),
+        (
+            "out[16777216] = 1ULL;",
+            "affc: bounds of out at N=1 in S0(0) access 0\n",
+        ),
         (
             "out[(i - i) * N] = 1ULL;",
             "affc: source at 150: not affine\n",
@@ -316,6 +325,6 @@ fn prefixes_are_refused_where_they_end(rt: HostRuntime) -> Result<(), Fail> {
         assert_eq!(rt; err.as_slice(), line.as_bytes(), "at {end}");
     }
     let err = told(rt.alloc(), BLUR.trim_end())?;
-    assert_eq!(rt; err.as_slice(), READS.as_bytes());
+    assert_eq!(rt; err.as_slice(), UNBUILT.as_bytes());
     Ok(())
 }

@@ -16,7 +16,7 @@ const SPACED_PRINTED: &str =
 
 // The words, what `a.c` holds, the status, and what the output and the error stream get. In a source `{open}` stands for
 // the beginning of a function, and `{prelude}` for the prelude.
-const FOLDS: [(&str, &str, u8, &str, &str); 38] = [
+const FOLDS: [(&str, &str, u8, &str, &str); 51] = [
     // ---- Words
     ("", COPY, 2, "", "affc: words\n"),
     ("fold", COPY, 2, "", "affc: words\n"),
@@ -24,7 +24,8 @@ const FOLDS: [(&str, &str, u8, &str, &str); 38] = [
     ("fold -", COPY, 2, "", "affc: words\n"),
     ("fold a b", COPY, 2, "", "affc: words\n"),
     ("fold a b c", COPY, 2, "", "affc: words\n"),
-    ("fold a --budget 0", COPY, 2, "", "affc: words\n"),
+    ("fold a.c --budget 0", COPY, 2, "", "affc: words\n"),
+    ("run a.c a.data --budget 1", COPY, 2, "", "affc: words\n"),
     ("big 63", COPY, 2, "", "affc: words\n"),
     ("unfold a.c", COPY, 2, "", "affc: words\n"),
     ("fold absent.c", COPY, 3, "", "affc: read absent.c\n"),
@@ -154,7 +155,7 @@ const FOLDS: [(&str, &str, u8, &str, &str); 38] = [
         "",
         "affc: source at 144: not affine\n",
     ),
-    // ---- A text with the prelude, and programs of other forms
+    // ---- A text with the prelude
     (
         "fold a.c",
         "#include <stdint.h>\n#pragma affc param N 1 4\n{prelude}void copy(int64_t N, const uint64_t in[N], uint64_t out[N]) {\n  for (int64_t i = 0; i < N; i++) {\n    out[i] = in[i];\n  }\n}\n",
@@ -162,35 +163,114 @@ const FOLDS: [(&str, &str, u8, &str, &str); 38] = [
         "",
         "affc: source at 45: printed\n",
     ),
+    // ---- A temporary
+    ("fold a.c", BLUR, 14, "", "affc: unbuilt\n"),
+    // ---- Programs that keep to their arrays
+    // a loop that is never entered
+    (
+        "fold a.c",
+        "#include <stdint.h>\n#pragma affc param N 1 4\nvoid no(int64_t N, uint64_t out[N]) {\n  for (int64_t i = N; i < 0; i++)\n    out[i] = 1ULL;\n}\n",
+        0,
+        "#include <stdint.h>\n#pragma affc param N 1 4\nvoid no(int64_t N, uint64_t out[N]) {\n  for (int64_t i = N; i < 0; i++) {\n    out[i] = 1ULL;\n  }\n}\n",
+        "",
+    ),
+    // no statement and no parameter
+    (
+        "fold a.c",
+        "#include <stdint.h>\nvoid f(uint64_t out[1]) {}\n",
+        0,
+        "#include <stdint.h>\nvoid f(uint64_t out[1]) {\n}\n",
+        "",
+    ),
+    // the context keeps the access within
+    (
+        "fold a.c",
+        "#include <stdint.h>\n#pragma affc param N 1 9\n#pragma affc context 2 * N == 8\nvoid f(int64_t N, uint64_t out[4]) {\n  out[N - 1] ^= out[4 - N];\n}\n",
+        0,
+        "#include <stdint.h>\n#pragma affc param N 1 9\n#pragma affc context 2 * N == 8\nvoid f(int64_t N, uint64_t out[4]) {\n  out[N - 1] ^= out[4 - N];\n}\n",
+        "",
+    ),
+    // ---- What is wrong whatever the data
+    (
+        "fold a.c",
+        "#include <stdint.h>\n#pragma affc param N 1 5\nvoid f(int64_t N, const uint64_t in[4], uint64_t out[N]) {\n  for (int64_t i = 0; i < N; i++)\n    out[i] = in[i];\n}\n",
+        5,
+        "",
+        "affc: bounds of in at N=5 in S0(4) access 0\n",
+    ),
+    (
+        "fold a.c",
+        "#include <stdint.h>\n#pragma affc param N 1 4\nvoid f(int64_t N, uint64_t out[N]) {\n  uint64_t s, t[N - 1];\n  out[0] = 1ULL;\n}\n",
+        5,
+        "",
+        "affc: extent of t at N=1\n",
+    ),
     (
         "fold a.c",
         "#include <stdint.h>\n#pragma affc param N 0 4\nvoid copy(int64_t N, const uint64_t in[N], uint64_t out[N]) {\n  for (int64_t i = 0; i < N; i++)\n    out[i] = in[i];\n}\n",
-        14,
+        5,
         "",
-        "affc: unbuilt\n",
+        "affc: extent of in at N=0\n",
     ),
     (
         "fold a.c",
-        "#include <stdint.h>\n#pragma affc param N 1 4\nvoid copy(int64_t N, const uint64_t in[N], uint64_t out[N]) {\n  for (int64_t i = 0; i <= N; i++)\n    out[i] = in[i];\n}\n",
-        14,
+        "#include <stdint.h>\n#pragma affc param N 1 4\n#pragma affc context N > 4\nvoid f(int64_t N, uint64_t out[N]) {\n  out[0] = 1ULL;\n}\n",
+        5,
         "",
-        "affc: unbuilt\n",
+        "affc: context is empty\n",
     ),
     (
         "fold a.c",
-        "#include <stdint.h>\n#pragma affc param N 1 4\nvoid copy(int64_t N, const uint64_t in[N], uint64_t out[N]) {\n  for (int64_t i = 1; i < N; i++)\n    out[i] = in[i];\n}\n",
-        14,
+        "#include <stdint.h>\n#pragma affc param N 16777216 16777216\nvoid f(int64_t N, uint64_t out[1]) {\n  for (int64_t i = 65536 * N; i <= 65536 * N; i++)\n    for (int64_t j = 65536 * i; j <= 65536 * i; j++)\n      for (int64_t k = 65536 * j; k <= 65536 * j; k++)\n        out[0] = 1ULL;\n}\n",
+        5,
         "",
-        "affc: unbuilt\n",
+        "affc: iterator range of i in S0\n",
     ),
+    // an inner loop, behind a statement whose loops keep within
     (
         "fold a.c",
-        "#include <stdint.h>\n#pragma affc param N 1 4\nvoid copy(int64_t N, const uint64_t in[N], uint64_t out[N]) {\n  for (int64_t i = 0; i < N; i++)\n    out[i] = in[i] + in[i];\n}\n",
-        14,
+        "#include <stdint.h>\n#pragma affc param N 16777216 16777216\nvoid f(int64_t N, uint64_t out[1]) {\n  for (int64_t i = 0; i < N; i++) {\n    out[0] = 1ULL;\n    for (int64_t j = 0; j < 4; j++)\n      for (int64_t k = 65536 * N; k <= 65536 * N; k++)\n        if (j > i)\n          out[0] = 2ULL;\n  }\n}\n",
+        5,
         "",
-        "affc: unbuilt\n",
+        "affc: iterator range of k in S1\n",
     ),
-    ("fold a.c", BLUR, 14, "", "affc: unbuilt\n"),
+    // ---- Which of two things is told
+    // ranges before the context
+    (
+        "fold a.c",
+        "#include <stdint.h>\n#pragma affc param N 16777216 16777216\n#pragma affc context N < 0\nvoid f(int64_t N, uint64_t out[1]) {\n  for (int64_t i = 256 * N; i <= 256 * N; i++)\n    out[0] = 1ULL;\n}\n",
+        5,
+        "",
+        "affc: iterator range of i in S0\n",
+    ),
+    // an extent before an access at lesser numbers
+    (
+        "fold a.c",
+        "#include <stdint.h>\n#pragma affc param N 1 4\nvoid f(int64_t N, uint64_t out[N]) {\n  uint64_t t[3 - N];\n  out[N] = 1ULL;\n}\n",
+        5,
+        "",
+        "affc: extent of t at N=3\n",
+    ),
+    // the least numbers, and then the first array
+    (
+        "fold a.c",
+        "#include <stdint.h>\n#pragma affc param N 1 4\n#pragma affc param M 1 4\nvoid f(int64_t N, int64_t M, uint64_t a[5 - N], uint64_t b[3 - M][7 - N - M], uint64_t c[3 - M]) {\n  a[0] = 1ULL;\n}\n",
+        5,
+        "",
+        "affc: extent of b at N=1 M=3\n",
+    ),
+    // the least numbers, and then the first statement, instance and access
+    (
+        "fold a.c",
+        "#include <stdint.h>\n#pragma affc param N 1 4\nvoid f(int64_t N, const uint64_t in[4], uint64_t out[4]) {\n  out[N] = in[0];\n  for (int64_t i = 0; i < 3; i++)\n    for (int64_t j = 0; j < N; j++)\n      out[2 * i + j] = in[i + 2 * j] + in[2 * i];\n}\n",
+        5,
+        "",
+        "affc: bounds of in at N=1 in S1(2, 0) access 1\n",
+    ),
+    // ---- A budget
+    ("fold a.c --budget 1", COPY, 8, "", "affc: budget\n"),
+    ("fold a.c --budget 1000", COPY, 0, PRINTED, ""),
+    ("fold --budget=1000 a.c", BLUR, 14, "", "affc: unbuilt\n"),
 ];
 
 // The words, what `a.c` and `a.data` hold, the status, and what the output and the error stream get.
@@ -452,10 +532,14 @@ fn runs_are_served(rt: HostRuntime) -> Result<(), Fail> {
 
 #[test]
 fn kernels_are_served(rt: HostRuntime) -> Result<(), Fail> {
-    for (source, feed, out) in KERNELS {
+    for (source, feed, out, compiled) in KERNELS {
         let done = plain(rt.alloc(), "run a.c a.data", source, feed)?;
         assert_eq!(rt; done.status, 0, "of {source}");
         assert_eq!(rt; done.out.as_slice(), out.as_bytes());
+        let folded = plain(rt.alloc(), "fold a.c", source, "")?;
+        let status = if compiled.is_empty() { 14 } else { 0 };
+        assert_eq!(rt; folded.status, status, "of {source}");
+        assert_eq!(rt; folded.out.as_slice(), compiled.as_bytes());
     }
     Ok(())
 }

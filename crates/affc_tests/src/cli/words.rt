@@ -10,8 +10,21 @@ fn told(alloc: Global, line: &str) -> Result<String, AllocError> {
     let mut text = String::new(alloc);
     match command_of(alloc, &words)? {
         None => text.push_str("none")?,
-        Some(Command::Fold { source }) => {
+        Some(
+            Command::Fold {
+                source,
+                budget: None,
+            },
+        ) => {
             write!(text, "fold [{source}]")?;
+        }
+        Some(
+            Command::Fold {
+                source,
+                budget: Some(units),
+            },
+        ) => {
+            write!(text, "fold [{source}] {units}")?;
         }
         Some(
             Command::Run {
@@ -33,6 +46,16 @@ fn words_are_read(rt: HostRuntime) -> Result<(), Fail> {
         ("fold -- -", "fold [-]"),
         ("fold a --", "fold [a]"),
         ("fold help", "fold [help]"),
+        ("fold --budget 007 a", "fold [a] 7"),
+        (
+            "fold a --budget=9223372036854775807",
+            "fold [a] 9223372036854775807",
+        ),
+        ("fold a --budget=9223372036854775808", "none"),
+        ("fold a --budget 0", "none"),
+        ("fold a --budget", "none"),
+        ("fold --budget=1 a --budget=1", "none"),
+        ("run a b --budget 1", "none"),
         ("run a b", "run [a] [b] 10000000"),
         ("run -- -a -b", "run [-a] [-b] 10000000"),
         ("run a --steps=5 b", "run [a] [b] 5"),

@@ -1,7 +1,4 @@
 use Rattle.affc_cli.proofs.source.program_of.Goals as goal
 
-pub returns-in-Err-clause-err : goal.returns-in-Err-clause-err
-returns-in-Err-clause-err c = c.refusal_of.ensures c.args.source.now c.in-Err.ensures
-
 pub returns-in-Ok-clause-counted : goal.returns-in-Ok-clause-counted
 returns-in-Ok-clause-counted c = c.reads_counted.ensures.plain c.args.source.now c.in-Ok.program c.in-Ok.ensures

@@ -1,7 +1,0 @@
--- What is left holds it.
-use Rattle.std.specs.Prelude.{IsTrue, drop}
-use Rattle.affc_cli.specs.Fold.{holds_prelude}
-use Rattle.affc_cli.proofs.fold.prelude_of.Given as goal
-
-abbrev pub invariant-loop-token : goal.invariant-loop-token
-invariant-loop-token l = IsTrue (holds_prelude (drop l.token-index l.tokens))
