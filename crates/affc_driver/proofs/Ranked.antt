@@ -18,7 +18,7 @@ use Rattle.affc_trace.specs.Law.{IsIn}
 use Rattle.affc_trace.proofs.Members.{both_hold}
 use Rattle.affc_trace.proofs.Once.{in_append}
 use Rattle.affc_domain.specs.Accesses.{Access, accesses_in, own_access, accesses_of}
-use Rattle.affc_safe.specs.Safe.{declared_arrays}
+use Rattle.affc_domain.specs.Arrays.{declared_arrays}
 use Rattle.affc_safe.proofs.Reasons.{from_all}
 use Rattle.affc_nest.specs.Laws.{NamesArrays}
 use Rattle.affc_driver.specs.Laws.{ReadsNamingArrays}

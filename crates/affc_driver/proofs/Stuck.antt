@@ -15,7 +15,8 @@ use Rattle.affc_trace.proofs.Once.{in_append}
 use Rattle.affc_domain.specs.Plain.{IsPlain}
 use Rattle.affc_plain.proofs.NoLocals.{plain_has_no_locals}
 use Rattle.affc_plain.proofs.Programs.{reads_plain}
-use Rattle.affc_safe.specs.Safe.{declared_arrays, IsSafe}
+use Rattle.affc_domain.specs.Arrays.{declared_arrays}
+use Rattle.affc_safe.specs.Safe.{IsSafe}
 use Rattle.affc_safe.proofs.EndedSafe.{unsafe_is_stuck}
 use Rattle.affc_safe.proofs.FitsThere.{some_store_fits}
 use Rattle.affc_nest.proofs.QuestionLemmas.{stands_in}
