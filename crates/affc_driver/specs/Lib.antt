@@ -1,2 +1,5 @@
 pub mod Folds
 pub mod Refusals
+pub mod Printed
+pub mod Programs
+pub mod Laws

@@ -1,5 +1,5 @@
 -- Why a source isn't compiled.
-use Rattle.std.specs.Prelude.{◌≡◌, ◌≢◌, ℕ, Bool, true, false, List, [], Some, Err, slice_get}
+use Rattle.std.specs.Prelude.{◌≡◌, ◌≢◌, ℕ, true, false, List, [], Some, Err, slice_get}
 use Rattle.affc_lex.specs.declared.token.Kind.TheVariants.{Prelude}
 use Rattle.affc_lex.specs.Lexes.{Lexeme, Lexes}
 use Rattle.affc_ast.specs.declared.tree.Program.{Program}

@@ -2,6 +2,7 @@
 #![tactic(auto)]
 
 pub mod folding;
+pub mod laws;
 pub mod refusal;
 
 pub use folding::{Done, fold};

@@ -27,7 +27,7 @@ to_all : {A : Type 0} (f : A → Bool) (xs : List A) → ((x : A) → IsIn x xs 
 to_all f [] h = refl
 to_all f (x ∷ xs) h = hold_both (f x) (list_all f xs) (h x (inl refl)) (to_all f xs (λ y i. h y (inr i)))
 
-from_all : {A : Type 0} (f : A → Bool) (xs : List A) → list_all f xs ≡ true → (x : A) → IsIn x xs → f x ≡ true
+pub from_all : {A : Type 0} (f : A → Bool) (xs : List A) → list_all f xs ≡ true → (x : A) → IsIn x xs → f x ≡ true
 from_all f [] h x i = absurd i
 from_all f (y ∷ xs) h x (inl e) = ap f e ∙ (both_hold (f y) (list_all f xs) h).0
 from_all f (y ∷ xs) h x (inr i) = from_all f xs (both_hold (f y) (list_all f xs) h).1 x i

@@ -1,0 +1,5 @@
+pub mod WithPrelude
+pub mod Ranked
+pub mod Compiled
+pub mod Stuck
+pub mod Complete

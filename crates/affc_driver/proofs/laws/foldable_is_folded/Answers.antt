@@ -1,0 +1,5 @@
+use Rattle.affc_driver.proofs.Complete as lemma
+use Rattle.affc_driver.proofs.laws.foldable_is_folded.Goals as goal
+
+pub returns : goal.returns
+returns c = record { law = lemma.foldable_is_folded }

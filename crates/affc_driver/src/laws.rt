@@ -1,0 +1,37 @@
+//! What a compilation's answers say of a source and of its runs. Each law is the contract of a function that does nothing.
+ghost use Rattle.affc_driver.specs.Laws.{ReadsNamingArrays, CompilesItself, WithinNeverStuck, PrintedCompiles, FaultsShow, FoldableIsFolded, FoldableIsNotRefused};
+
+/// The program that a text reads as names arrays.
+pub fn reads_naming_arrays()
+    ensures law { ReadsNamingArrays }
+{}
+
+/// A program that is never stuck compiles itself.
+pub fn compiles_itself()
+    ensures law { CompilesItself }
+{}
+
+/// A program that stays within its arrays and has no temporaries is never stuck.
+pub fn within_never_stuck()
+    ensures law { WithinNeverStuck }
+{}
+
+/// What is printed of it compiles the text that it was read from.
+pub fn printed_compiles()
+    ensures law { PrintedCompiles }
+{}
+
+/// Where a program leaves its arrays it is stuck; where its context is empty no data fit.
+pub fn faults_show()
+    ensures law { FaultsShow }
+{}
+
+/// A text is folded exactly where its program is never stuck, and has no temporaries.
+pub fn foldable_is_folded()
+    ensures law { FoldableIsFolded }
+{}
+
+/// Such a text is refused for want of budget or of memory, and for nothing else.
+pub fn foldable_is_not_refused()
+    ensures law { FoldableIsNotRefused }
+{}
