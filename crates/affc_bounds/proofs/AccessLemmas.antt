@@ -1,10 +1,12 @@
 -- What the questions on accesses find is where an access lies outside its array.
-use Rattle.std.proofs.Common.{◌≡◌, ◌⊎◌, ℕ, zero, suc, ◌+◌, ◌<◌, ◌≤◌, ℤ, pos, negsuc, ◌≤ℤ◌, ◌<ℤ◌, Bool, true, false, IsTrue, List, [], ◌∷◌, ◌++◌, length, get_or, map, Some, refl, sym, ap, subst, ◌∙◌, inl, inr, arith}
+use Rattle.std.proofs.Common.{◌≡◌, ◌⊎◌, ℕ, zero, suc, ◌+◌, ◌<◌, ℤ, pos, negsuc, ◌≤ℤ◌, ◌<ℤ◌, Bool, true, false, IsTrue, List, [], ◌∷◌, ◌++◌, length, get_or, take, drop, map, Option, Some, refl, sym, ap, subst, ◌∙◌, inl, inr, arith}
 use Rattle.std.specs.Prelude.{◌&&◌, int_le, int_lt, slice_get}
 use Rattle.std.proofs.lemmas.Int.{ints}
 use Rattle.std.proofs.lemmas.Option.{none-some, same_Some}
 use Rattle.affc_rows.specs.Forms.{Affine, value, values_of}
+use Rattle.std.proofs.lemmas.List.{take-append-drop}
 use Rattle.affc_system.specs.Boxes.{InBox}
+use Rattle.affc_system.specs.Order.{LexLe}
 use Rattle.affc_system.specs.Systems.{Rows, IsPoint}
 use Rattle.affc_ast.specs.declared.tree.ArrayId.{ArrayId}
 use Rattle.affc_ast.specs.declared.tree.Instance.{Instance}
@@ -19,7 +21,8 @@ use Rattle.affc_domain.proofs.Lists.{true_both, le_true, lt_true, from_map, to_m
 use Rattle.affc_domain.proofs.PlainLemmas.{has_assignment}
 use Rattle.affc_domain.proofs.RangeLemmas.{box_length, in_ranges}
 use Rattle.affc_domain.proofs.TurnLemmas.{instances_turn}
-use Rattle.affc_safe.specs.Safe.{declared_arrays, extents_at, LiesWithin}
+use Rattle.affc_domain.specs.Arrays.{declared_arrays, extents_at}
+use Rattle.affc_safe.specs.Safe.{LiesWithin}
 use Rattle.affc_nest.specs.declared.nest.Access.{Access}
 use Rattle.affc_nest.specs.declared.nest.Entry.{Entry}
 use Rattle.affc_nest.specs.declared.nest.Nest.{Nest}
@@ -29,19 +32,13 @@ use Rattle.affc_nest.specs.Questions.{extents_of_access, low_question, high_ques
 use Rattle.affc_nest.proofs.AccessLemmas.{accesses_are_events}
 use Rattle.affc_nest.proofs.EntryLemmas.{site_of, entries_stand, points_are_instances, none_where_not_alive, ranges_hold_iterators}
 use Rattle.affc_nest.proofs.QuestionLemmas.{AllWide, stands_in, there_is, below_length, arrays_wide, subs_wide, extents_there, says_low, says_high, or_less, as_many, dimension_within, access_point}
-use Rattle.affc_bounds.specs.Looks.{IsOutsideAt, box_of, InDimension, InDimensions, InAccesses, InEntry, InEntries}
+use Rattle.affc_leaf.specs.Points.{IsLeastPoint}
+use Rattle.affc_bounds.specs.Found.{IsFirst, IsNearer}
+use Rattle.affc_bounds.specs.Looks.{IsLeastIn, IsOutsideAt, box_of, InDimension, InDimensions, InAccesses, InEntry, InEntries}
 use Rattle.affc_bounds.specs.Spots.{IsOutside, spot_of}
 use Rattle.affc_bounds.specs.declared.fault.MeaningFault.TheVariants.{Bounds}
 use Rattle.affc_bounds.specs.declared.found.Found.{Found}
-
-moved : (k j : ℕ) → (k + 1) + j ≡ k + suc j
-moved k j = omega arith
-
-none_more : (k : ℕ) → k ≡ k + 0
-none_more k = omega arith
-
-none_before : (k : ℕ) → 0 + k ≡ k
-none_before k = omega arith
+use Rattle.affc_bounds.proofs.OrderLemmas.{lex_spots, first_of_both, moved, none_more, none_before}
 
 -- ---- What is found lies outside
 
@@ -179,7 +176,7 @@ module _ (program : Program) (has : HasNest program) (p : List ℤ) (here : Inst
     iterators = here.iterators;
     width = long;
     inside = box_append (number_ranges program.params) e.ranges p here.iterators (in_ranges program.params p inside.ranges)
-    ((ranges_hold_iterators program here.statement e has h alive).hold p here refl inside runs);
+        ((ranges_hold_iterators program here.statement e has h alive).hold p here refl inside runs);
     meets = meets;
     key = ap (λ s. spot_of p (record { statement = s; iterators = here.iterators }) number) (sym its_number);
     fault = ap (λ s. Bounds array number p (record { statement = s; iterators = here.iterators })) (sym its_number);
@@ -203,7 +200,7 @@ module _ (program : Program) (has : HasNest program) (p : List ℤ) (here : Inst
         | inr least ↦ elim (or_less (value s names) (value x p)) [
           | inl high ↦ inl (inr (point_found (high_question e.domain (length e.loops) s x) (says_high program has p here e h alive s x u.0 v.0 long domain_point high)))
           | inr less ↦ inr (dimensions_found subs extents (omega (arith, l)) u.1 v.1 (λ w. out (true_both (int_le (pos 0) (value s names) && int_lt (value s names) (value x p)) (is_within (values_of subs names) (values_of extents p))
-            (true_both (int_le (pos 0) (value s names)) (int_lt (value s names) (value x p)) (le_true (pos 0) (value s names) (at_least (value s names) least)) (lt_true (value s names) (value x p) less)) w)))
+              (true_both (int_le (pos 0) (value s names)) (int_lt (value s names) (value x p)) (le_true (pos 0) (value s names) (at_least (value s names) least)) (lt_true (value s names) (value x p) less)) w)))
         ]
       ]
 
@@ -255,3 +252,52 @@ outside_is_found program has named p here access o =
         let d' : InDimensions n e (0 + access) x.array x.subs exts found = subst (λ k. InDimensions n e k x.array x.subs exts found) (sym (none_before access)) d in
         let i = to_entries n found n.entries here.statement e h (alive, to_accesses n e found 0 e.accesses access x r.1 d') in
         subst (λ k. InEntries n n.entries (found_at k access p here)) (sym (ap (λ (y : Element). y.0) same)) i
+
+-- ---- The first of what is found
+
+-- the least point of a question, cut into p and the iterators
+pub asked_first : (nest : Nest) (e : Entry) (access n : ℕ) (array : ArrayId) (question : Rows) (ranges : List (ℤ × ℤ)) (point p its : List ℤ) (found : Found)
+    → ranges ≡ box_of nest e → n ≡ length nest.params → IsLeastIn question ranges (Some point) → p ≡ take n point → its ≡ drop n point → length p ≡ n
+    → found.key ≡ spot_of p (record { statement = e.statement; iterators = its }) access → found.fault ≡ Bounds array access p (record { statement = e.statement; iterators = its })
+    → IsFirst (IsOutsideAt (length nest.params) e.statement access array (box_of nest e) question) (Some found)
+asked_first nest e access n array question ranges point p its found box params least front back width key fault =
+    let joined : point ≡ p ++ its = sym (ap (λ xs. xs ++ its) front ∙ ap (λ ys. take n point ++ ys) back ∙ take-append-drop n point) in
+    let l : IsLeastPoint question (box_of nest e) (p ++ its) = subst (λ rs. IsLeastPoint question rs (p ++ its)) box (subst (IsLeastPoint question ranges) joined least) in
+    let here : Instance = record { statement = e.statement; iterators = its } in (
+      record { p = p; iterators = its; width = width ∙ params; inside = l.inside; meets = l.meets; key = key; fault = fault },
+      λ g o.
+          let low : LexLe (spot_of p here access) (spot_of o.p (record { statement = e.statement; iterators = o.iterators }) access) =
+          lex_spots p o.p its o.iterators (pos e.statement) (pos access) (width ∙ params ∙ sym o.width) (l.meets.width ∙ sym o.meets.width) (l.least (o.p ++ o.iterators) o.inside o.meets) in
+          subst (λ k. LexLe k g.key) (sym key) (subst (λ k. LexLe (spot_of p here access) k) (sym o.key) low),
+    )
+
+pub sides_first : (nest : Nest) (e : Entry) (access : ℕ) (array : ArrayId) (sub extent : Affine) (low high : Rows) (below past first : Option Found)
+    → low ≡ low_question e.domain sub → high ≡ high_question e.domain (length e.loops) sub extent
+    → IsFirst (IsOutsideAt (length nest.params) e.statement access array (box_of nest e) low) below → IsFirst (IsOutsideAt (length nest.params) e.statement access array (box_of nest e) high) past
+    → IsNearer below past first → IsFirst (InDimension nest e access array sub extent) first
+sides_first nest e access array sub extent low high below past first f g h k n =
+    let Of : Rows → Found → Type 0 = λ q. IsOutsideAt (length nest.params) e.statement access array (box_of nest e) q in
+    first_of_both (Of (low_question e.domain sub)) (Of (high_question e.domain (length e.loops) sub extent)) below past first
+    (subst (λ q. IsFirst (Of q) below) f h) (subst (λ q. IsFirst (Of q) past) g k) n
+
+pub dimensions_first : (nest : Nest) (e : Entry) (access : ℕ) (array : ArrayId) (subs extents more_subs more_extents : List Affine) (s x : Affine) (here others first : Option Found)
+    → subs ≡ s ∷ more_subs → extents ≡ x ∷ more_extents → IsFirst (InDimension nest e access array s x) here → IsFirst (InDimensions nest e access array more_subs more_extents) others
+    → IsNearer here others first → IsFirst (InDimensions nest e access array subs extents) first
+dimensions_first nest e access array subs extents more_subs more_extents s x here others first f g h k n =
+    subst (λ ys. IsFirst (InDimensions nest e access array subs ys) first) (sym g)
+    (subst (λ ys. IsFirst (InDimensions nest e access array ys (x ∷ more_extents)) first) (sym f)
+    (first_of_both (InDimension nest e access array s x) (InDimensions nest e access array more_subs more_extents) here others first h k n))
+
+pub accesses_first : (nest : Nest) (e : Entry) (number : ℕ) (accesses more : List Access) (x : Access) (subs extents : List Affine) (here others first : Option Found)
+    → accesses ≡ x ∷ more → subs ≡ x.subs → extents ≡ extents_of_access nest x
+    → IsFirst (InDimensions nest e number x.array subs extents) here → IsFirst (InAccesses nest e (number + 1) more) others
+    → IsNearer here others first → IsFirst (InAccesses nest e number accesses) first
+accesses_first nest e number accesses more x subs extents here others first f g m h k n =
+    subst (λ ys. IsFirst (InAccesses nest e number ys) first) (sym f)
+    (first_of_both (InDimensions nest e number x.array x.subs (extents_of_access nest x)) (InAccesses nest e (number + 1) more) here others first
+    (subst (λ ys. IsFirst (InDimensions nest e number x.array x.subs ys) here) m (subst (λ ys. IsFirst (InDimensions nest e number x.array ys extents) here) g h)) k n)
+
+pub entries_first : (nest : Nest) (entries more : List Entry) (e : Entry) (here others first : Option Found) → entries ≡ e ∷ more
+    → IsFirst (InEntry nest e) here → IsFirst (InEntries nest more) others → IsNearer here others first → IsFirst (InEntries nest entries) first
+entries_first nest entries more e here others first f h k n =
+    subst (λ ys. IsFirst (InEntries nest ys) first) (sym f) (first_of_both (InEntry nest e) (InEntries nest more) here others first h k n)

@@ -1,5 +1,5 @@
 -- Budgets, one decision after the other.
-use Rattle.std.proofs.Common.{◌≡◌, ℕ, Option, refl, sym, ap, subst, ◌∙◌, arith}
+use Rattle.std.proofs.Common.{ℕ, Option, refl, sym, subst, ◌∙◌, arith}
 use Rattle.std.specs.Prelude.{◌≤◌, IsNone}
 use Rattle.affc_split.specs.Budgets.{Account, IsLater}
 

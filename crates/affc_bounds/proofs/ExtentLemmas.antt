@@ -1,35 +1,31 @@
 -- What the questions on extents find is where a program is narrow.
-use Rattle.std.proofs.Common.{◌≡◌, ◌⊎◌, ℕ, zero, suc, ◌+◌, ℤ, pos, ◌≤ℤ◌, List, [], ◌∷◌, ◌++◌, length, map, Option, Some, None, refl, sym, ap, subst, ◌∙◌, inl, inr, arith}
+use Rattle.std.proofs.Common.{◌≡◌, ℕ, zero, suc, ◌+◌, ℤ, pos, ◌≤ℤ◌, List, [], ◌∷◌, ◌++◌, length, map, Option, Some, None, refl, sym, subst, ◌∙◌, inl, inr}
 use Rattle.std.specs.Prelude.{slice_get}
-use Rattle.std.proofs.lemmas.Int.{ints}
 use Rattle.std.proofs.lemmas.Option.{none-some, same_Some}
 use Rattle.affc_rows.specs.Forms.{Affine, value}
 use Rattle.affc_system.specs.Systems.{IsPoint}
-use Rattle.affc_leaf.specs.Points.{LexLe, IsLeastPoint}
+use Rattle.affc_system.specs.Order.{LexLe}
 use Rattle.affc_ast.specs.declared.tree.Decl.{Decl}
 use Rattle.affc_ast.specs.declared.tree.Ix.{Ix}
 use Rattle.affc_ast.specs.declared.tree.Program.{Program}
-use Rattle.affc_ast.specs.Fits.{whole}
 use Rattle.affc_trace.specs.Law.{IsIn}
-use Rattle.affc_trace.specs.Laws.{IsInContext}
 use Rattle.affc_domain.specs.Affine.{form_of}
-use Rattle.affc_domain.specs.Plain.{IsPlain}
 use Rattle.affc_domain.specs.Ranges.{number_ranges}
 use Rattle.affc_domain.proofs.RangeLemmas.{box_length, in_ranges}
-use Rattle.affc_safe.specs.Safe.{declared_arrays}
+use Rattle.affc_domain.specs.Arrays.{declared_arrays}
 use Rattle.affc_nest.specs.declared.nest.ArrayInfo.{ArrayInfo}
 use Rattle.affc_nest.specs.declared.nest.Nest.{Nest}
-use Rattle.affc_nest.specs.Asked.{IsNest, IsExtent}
+use Rattle.affc_nest.specs.Asked.{IsExtent}
 use Rattle.affc_nest.specs.Laws.{HasNest}
 use Rattle.affc_nest.specs.Nests.{array_of, nest_of}
 use Rattle.affc_nest.specs.Questions.{extent_question, extents_or_none}
-use Rattle.affc_nest.proofs.QuestionLemmas.{stands_in, place_of, extent_says, says_extent, narrow, extent_value}
-use Rattle.affc_bounds.specs.Found.{IsFirst}
+use Rattle.affc_nest.proofs.QuestionLemmas.{stands_in, extent_says, says_extent, narrow, extent_value}
+use Rattle.affc_bounds.specs.Found.{IsFirst, IsNearer}
 use Rattle.affc_bounds.specs.Looks.{IsLeastIn, IsNarrowAt, InExtents, InArrays, AreExtents, HaveExtents}
 use Rattle.affc_bounds.specs.Spots.{IsNarrow}
 use Rattle.affc_bounds.specs.declared.fault.MeaningFault.TheVariants.{Extent}
 use Rattle.affc_bounds.specs.declared.found.Found.{Found}
-use Rattle.affc_bounds.proofs.OrderLemmas.{lex_append, lex_refl}
+use Rattle.affc_bounds.proofs.OrderLemmas.{lex_append, lex_refl, first_of_both, moved, none_more, none_before}
 
 -- ---- One extent
 
@@ -47,6 +43,21 @@ least_found nest array extent question p found e l key fault = (
       let low : LexLe (p ++ pos array ∷ []) (n.p ++ pos array ∷ []) = lex_append p n.p (pos array ∷ []) (pos array ∷ []) (l.meets.width ∙ sym at.width) (l.least n.p n.inside at) (lex_refl (pos array ∷ [])) in
       subst (λ k. LexLe k g.key) (sym key) (subst (λ k. LexLe (p ++ pos array ∷ []) k) (sym n.key) low),
 )
+
+-- ---- The first of what is found
+
+pub extents_first : (nest : Nest) (array : ℕ) (extents more : List Affine) (e : Affine) (here others first : Option Found) → extents ≡ e ∷ more
+    → IsFirst (IsNarrowAt nest array e) here → IsFirst (InExtents nest array more) others → IsNearer here others first → IsFirst (InExtents nest array extents) first
+extents_first nest array extents more e here others first f h k n =
+    subst (λ ys. IsFirst (InExtents nest array ys) first) (sym f) (first_of_both (IsNarrowAt nest array e) (InExtents nest array more) here others first h k n)
+
+pub arrays_first : (nest : Nest) (number next : ℕ) (arrays more : List ArrayInfo) (a : ArrayInfo) (extents : List Affine) (here others first : Option Found)
+    → arrays ≡ a ∷ more → extents ≡ a.extents → next ≡ number + 1 → IsFirst (InExtents nest number extents) here → IsFirst (InArrays nest next more) others
+    → IsNearer here others first → IsFirst (InArrays nest number arrays) first
+arrays_first nest number next arrays more a extents here others first f g m h k n =
+    subst (λ ys. IsFirst (InArrays nest number ys) first) (sym f)
+    (first_of_both (InExtents nest number a.extents) (InArrays nest (number + 1) more) here others first
+    (subst (λ ys. IsFirst (InExtents nest number ys) here) g h) (subst (λ j. IsFirst (InArrays nest j more) others) m k) n)
 
 -- ---- Which extents
 
@@ -77,15 +88,6 @@ pub record SaysNarrow (program : Program) (found : Found) : Type 0 where
   pub key : found.key ≡ p ++ pos array ∷ []
   pub fault : found.fault ≡ Extent (record { 0 = array }) p
   pub narrow : IsNarrow program p array
-
-moved : (k j : ℕ) → (k + 1) + j ≡ k + suc j
-moved k j = omega arith
-
-none_more : (k : ℕ) → k ≡ k + 0
-none_more k = omega arith
-
-none_before : (k : ℕ) → 0 + k ≡ k
-none_before k = omega arith
 
 module _ (program : Program) (has : HasNest program) (found : Found) where
   abbrev m : ℕ

@@ -1,8 +1,9 @@
 -- The order of keys, and the first of what is found.
-use Rattle.std.proofs.Common.{◌≡◌, ◌⊎◌, ℕ, ◌+◌, ℤ, pos, ◌<ℤ◌, List, [], ◌∷◌, ◌++◌, length, Option, Some, None, refl, sym, ap, subst, ◌∙◌, inl, inr, arith}
+use Rattle.std.proofs.Common.{◌≡◌, ℕ, suc, ◌+◌, ℤ, ◌<ℤ◌, List, [], ◌∷◌, ◌++◌, length, get_or, take, drop, ◌-◌, ◌≤◌, Option, Some, None, refl, sym, ap, subst, ◌∙◌, inl, inr, arith}
 use Rattle.std.proofs.lemmas.Int.{ints}
-use Rattle.affc_leaf.specs.Points.{LexLe}
+use Rattle.affc_system.specs.Order.{LexLe}
 use Rattle.affc_trace.proofs.Runs.{length_append}
+use Rattle.affc_nest.proofs.RowLemmas.{tail_is}
 use Rattle.affc_bounds.specs.Found.{Either, IsFirst, IsNearer}
 use Rattle.affc_bounds.specs.declared.found.Found.{Found}
 
@@ -75,3 +76,18 @@ module _ (These Those : Found → Type 0) where
       subst (IsFirst (Either These Those)) (sym n.0) (inl h.0, λ g e. elim e [ inl u ↦ h.1 g u | inr v ↦ lex_trans x.key y.key g.key n.1 (k.1 g v) ])
   first_of_both (Some x) (Some y) c h k (inr n) =
       subst (IsFirst (Either These Those)) (sym n.0) (inr k.0, λ g e. elim e [ inl u ↦ lex_trans y.key x.key g.key n.1 (h.1 g u) | inr v ↦ k.1 g v ])
+
+-- ---- Places in lists
+
+pub moved : (k j : ℕ) → (k + 1) + j ≡ k + suc j
+moved k j = omega arith
+
+pub none_more : (k : ℕ) → k ≡ k + 0
+none_more k = omega arith
+
+pub none_before : (k : ℕ) → 0 + k ≡ k
+none_before k = omega arith
+
+-- a list by its front
+pub front_is : {A : Type 0} (xs : List A) (x : A) → 1 ≤ length xs → x ≡ get_or xs 0 x → xs ≡ x ∷ take (length xs - 1) (drop 1 xs)
+front_is xs x h e = tail_is xs x h ∙ ap (λ y. y ∷ take (length xs - 1) (drop 1 xs)) (sym e)

@@ -1,9 +1,7 @@
 -- What is wrong with a program whatever its data: its iterators may go too far, its context is empty, or it leaves its arrays.
-use Rattle.std.specs.Prelude.{◌≡◌, ℕ, ℤ, List, None, Some, option_map, slice_get}
+use Rattle.std.specs.Prelude.{◌≡◌, ℕ, ℤ, List, None, Some}
 use Rattle.affc_ast.specs.declared.tree.Instance.{Instance}
 use Rattle.affc_ast.specs.declared.tree.Program.{Program}
-use Rattle.affc_ast.specs.Store.{Element}
-use Rattle.affc_ast.specs.Trace.{events}
 use Rattle.affc_trace.specs.Laws.{IsInContext}
 use Rattle.affc_domain.specs.Ranges.{first_wide}
 use Rattle.affc_safe.specs.Safe.{HasExtents, KeepsWithin}

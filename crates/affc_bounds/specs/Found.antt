@@ -1,6 +1,6 @@
 -- The first of the faults at which something lies, by the order of their keys.
 use Rattle.std.specs.Prelude.{◌≡◌, ◌⊎◌, Option, None, Some}
-use Rattle.affc_leaf.specs.Points.{LexLe}
+use Rattle.affc_system.specs.Order.{LexLe}
 use Rattle.affc_bounds.specs.declared.found.Found.{Found}
 
 abbrev pub Nowhere : Found → Type 0

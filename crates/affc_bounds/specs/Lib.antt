@@ -2,3 +2,5 @@ pub mod Spots
 pub mod Faults
 pub mod Found
 pub mod Looks
+pub mod Laws
+pub mod Examples

@@ -7,7 +7,6 @@ use Rattle.affc_system.specs.Pairs.{WithinReach}
 use Rattle.affc_system.specs.Systems.{Rows, IsPoint}
 use Rattle.affc_leaf.specs.Points.{IsLeastPoint}
 use Rattle.affc_ast.specs.declared.tree.ArrayId.{ArrayId}
-use Rattle.affc_ast.specs.declared.tree.Instance.{Instance}
 use Rattle.affc_trace.specs.Law.{IsIn}
 use Rattle.affc_nest.specs.declared.nest.Access.{Access}
 use Rattle.affc_nest.specs.declared.nest.ArrayInfo.{ArrayInfo}

@@ -1,6 +1,6 @@
 -- Where a program leaves its arrays, at the p of its context: extents below 1, and accesses that lie outside.
 use Rattle.std.specs.Prelude.{◌≡◌, ℕ, ℤ, pos, ◌≤ℤ◌, List, [], ◌∷◌, ◌++◌, Some, slice_get}
-use Rattle.affc_leaf.specs.Points.{LexLe}
+use Rattle.affc_system.specs.Order.{LexLe}
 use Rattle.affc_ast.specs.declared.tree.Decl.{Decl}
 use Rattle.affc_ast.specs.declared.tree.Instance.{Instance}
 use Rattle.affc_ast.specs.declared.tree.Ix.{Ix}
@@ -10,7 +10,8 @@ use Rattle.affc_ast.specs.Store.{Element}
 use Rattle.affc_ast.specs.Trace.{trace, events}
 use Rattle.affc_trace.specs.Law.{IsIn}
 use Rattle.affc_trace.specs.Laws.{IsInContext}
-use Rattle.affc_safe.specs.Safe.{declared_arrays, LiesWithin}
+use Rattle.affc_domain.specs.Arrays.{declared_arrays}
+use Rattle.affc_safe.specs.Safe.{LiesWithin}
 
 -- ---- Extents
 

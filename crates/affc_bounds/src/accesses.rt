@@ -21,6 +21,7 @@ use sqlite_items::Items;
 use std::alloc::{AllocError, Global};
 
 /// An entry whose accesses are looked at.
+#[derive(Drop)]
 struct Look<'a> {
     nest: &'a Nest,
     entry: &'a Entry,
@@ -106,16 +107,9 @@ fn asked(
     match least_point(alloc, question, look.ranges, budget)? {
         None => Ok(None),
         Some(point) => {
-            let point = point.as_slice();
+            let (p, iterators) = point.as_slice().split_at(numbers);
             let statement = look.entry.statement;
-            let found = outside_found(
-                alloc,
-                statement,
-                access,
-                array,
-                &point[..numbers],
-                &point[numbers..],
-            )?;
+            let found = outside_found(alloc, statement, access, array, p, iterators)?;
             Ok(Some(found))
         }
     }

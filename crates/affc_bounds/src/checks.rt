@@ -29,10 +29,12 @@ fn extracted(alloc: Global, program: &Program) -> Result<Nest, Halt>
 {
     match extract(alloc, program) {
         Ok(nest) => Ok(nest),
-        Err(NestFault::IteratorRange {
-            statement,
-            loop_number,
-        }) => Err(Halt::Meaning(MeaningFault::IteratorRange {
+        Err(
+            NestFault::IteratorRange {
+                statement,
+                loop_number,
+            },
+        ) => Err(Halt::Meaning(MeaningFault::IteratorRange {
             statement,
             loop_number,
         })),

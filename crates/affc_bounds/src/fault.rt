@@ -12,12 +12,18 @@ pub enum MeaningFault {
     /// By the interval rule, a loop that is entered has a range with an end past `2^31` in magnitude: the first such
     /// loop round the first such statement, counted among the loops round it from the outermost, which is 0.
     #[error("the range of loop {loop_number} round statement {statement} passes 2^31")]
-    IteratorRange { statement: u32, loop_number: u32 },
+    IteratorRange {
+        statement: u32,
+        loop_number: u32,
+    },
     #[error("no value of the parameters is in the context")]
     Context,
     /// An extent of the array is below 1 at `p`, the values of the number parameters.
     #[error("an extent of array {} is below 1", .array.0)]
-    Extent { array: ArrayId, p: Items<i64> },
+    Extent {
+        array: ArrayId,
+        p: Items<i64>,
+    },
     /// An access of the instance lies outside its array at `p`. Accesses are the loads in the order of the text, from
     /// 0, and then the store.
     #[error("access {access} lies outside array {}", .array.0)]

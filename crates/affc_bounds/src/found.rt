@@ -1,6 +1,6 @@
 //! Faults as they are found, in the order of their keys.
 ghost use Rattle.std.specs.Prelude.{MatchBool};
-ghost use Rattle.affc_leaf.specs.Points.{LexLe};
+ghost use Rattle.affc_system.specs.Order.{LexLe};
 ghost use Rattle.affc_bounds.specs.Found.{IsNearer};
 
 use crate::fault::MeaningFault;

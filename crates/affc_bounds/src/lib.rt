@@ -4,9 +4,11 @@
 
 mod accesses;
 pub mod checks;
+pub mod examples;
 mod extents;
 pub mod fault;
 mod found;
+pub mod laws;
 mod points;
 
 pub use checks::check;

@@ -1,0 +1,108 @@
+-- The questions of a program's nest may be asked in the boxes of its parameters and iterators.
+use Rattle.std.proofs.Common.{◌≡◌, ℕ, ◌+◌, ◌^◌, ◌≤◌, ℤ, true, IsTrue, List, [], ◌∷◌, ◌++◌, length, refl, sym, ap, subst, ◌∙◌, inl, inr, arith}
+use Rattle.std.specs.Prelude.{◌&&◌, int_le, nat_le, nat_abs, unsigned_abs}
+use Rattle.std.specs.List.{All}
+use Rattle.std.proofs.lemmas.Bool.{leb-true}
+use Rattle.std.proofs.lemmas.List.Elements.{All-nil, All-cons}
+use Rattle.affc_rows.specs.Forms.{Affine}
+use Rattle.affc_system.specs.Pairs.{WithinReach}
+use Rattle.affc_ast.specs.declared.tree.Program.{Program}
+use Rattle.affc_trace.specs.Law.{IsIn}
+use Rattle.affc_trace.proofs.Once.{in_append}
+use Rattle.affc_trace.proofs.Runs.{length_append}
+use Rattle.affc_domain.specs.Accesses.{accesses_of}
+use Rattle.affc_domain.specs.Plain.{plain_range, plain_ranges, all_plain, plain_value}
+use Rattle.affc_domain.specs.Ranges.{is_near, number_ranges}
+use Rattle.affc_domain.specs.Rounds.{loops_in}
+use Rattle.affc_domain.proofs.Lists.{both_true, length_map}
+use Rattle.affc_domain.proofs.PlainLemmas.{assignments_are_plain}
+use Rattle.affc_nest.specs.Asked.{IsNest, IsSubscript}
+use Rattle.affc_nest.specs.declared.nest.Access.{Access}
+use Rattle.affc_nest.specs.declared.nest.Entry.{Entry}
+use Rattle.affc_nest.specs.declared.nest.Nest.{Nest}
+use Rattle.affc_nest.specs.Laws.{HasNest, IsEntry}
+use Rattle.affc_nest.specs.Nests.{access_form, nest_of}
+use Rattle.affc_nest.proofs.EntryLemmas.{site_of, entries_stand, ranges_hold_iterators}
+use Rattle.affc_nest.proofs.QuestionLemmas.{place_of}
+use Rattle.affc_nest.proofs.QuestionProofs.{nests_are_asked}
+use Rattle.affc_bounds.specs.Looks.{AreSubscripts, HaveSubscripts, IsAlive, AreAlive}
+
+-- ---- Reach
+
+all_reach : (rs : List (ℤ × ℤ)) → ((r : ℤ × ℤ) → IsIn r rs → WithinReach r) → All WithinReach rs
+all_reach [] f = All-nil WithinReach
+all_reach (r ∷ rs) f = All-cons WithinReach r rs (f r (inl refl)) (all_reach rs (λ q i. f q (inr i)))
+
+within : (z : ℤ) (n : ℕ) → nat_le (nat_abs z) n ≡ true → n ≤ 2 ^ 60 → unsigned_abs z ≤ 2 ^ 60
+within z n e h = let k : unsigned_abs z ≤ n = leb-true (nat_abs z) n e in omega (arith, k, h)
+
+near_reach : (r : ℤ × ℤ) → IsTrue (is_near r.0 && is_near r.1) → WithinReach r
+near_reach r h =
+    let b = both_true (is_near r.0) (is_near r.1) h in
+    record { low = within r.0 (2 ^ 31) b.0 (omega arith); high = within r.1 (2 ^ 31) b.1 (omega arith) }
+
+plain_reach : (rs : List (ℤ × ℤ)) → IsTrue (plain_ranges rs) → (r : ℤ × ℤ) → IsIn r rs → WithinReach r
+plain_reach [] h r i = absurd i
+plain_reach (q ∷ rs) h r (inl is) =
+    let a = both_true (plain_range q) (plain_ranges rs) h in
+    let b = both_true (int_le q.0 q.1) (nat_le (nat_abs q.0) (2 ^ 24) && nat_le (nat_abs q.1) (2 ^ 24)) a.0 in
+    let c = both_true (nat_le (nat_abs q.0) (2 ^ 24)) (nat_le (nat_abs q.1) (2 ^ 24)) b.1 in
+    subst WithinReach (sym is) (record { low = within q.0 (2 ^ 24) c.0 (omega arith); high = within q.1 (2 ^ 24) c.1 (omega arith) })
+plain_reach (q ∷ rs) h r (inr i) = plain_reach rs (both_true (plain_range q) (plain_ranges rs) h).1 r i
+
+either_reach : (rs ss : List (ℤ × ℤ)) → ((r : ℤ × ℤ) → IsIn r rs → WithinReach r) → ((r : ℤ × ℤ) → IsIn r ss → WithinReach r) → All WithinReach (rs ++ ss)
+either_reach rs ss f g = all_reach (rs ++ ss) (λ r i. elim (in_append rs ss r i) [ inl j ↦ f r j | inr j ↦ g r j ])
+
+-- ---- Subscripts
+
+some_subs : (e : Entry) (xs : List Affine) → ((x : Affine) → IsIn x xs → IsSubscript e x) → AreSubscripts e xs
+some_subs e [] f = tt
+some_subs e (x ∷ xs) f = (f x (inl refl), some_subs e xs (λ y i. f y (inr i)))
+
+some_accesses : (e : Entry) (xs : List Access) → ((x : Access) → IsIn x xs → IsIn x e.accesses) → HaveSubscripts e xs
+some_accesses e [] f = tt
+some_accesses e (x ∷ xs) f = (some_subs e x.subs (λ s i. record { access = x; made = f x (inl refl); of_access = i }), some_accesses e xs (λ y i. f y (inr i)))
+
+-- ---- Entries
+
+module _ (program : Program) (has : HasNest program) where
+  few_accesses : (k : ℕ) (e : Entry) → IsEntry program k e → length e.accesses ≤ 16
+  few_accesses k e h =
+      let s = site_of program k e h in
+      let m = length (number_ranges program.params) in
+      let a = s.assignment in
+      let plain = (assignments_are_plain program has.plain k s.its_rounds a s.rounds_at s.assignment_at).1 in
+      let b = both_true (nat_le (length (accesses_of a)) 16) (all_plain (m + (0 + loops_in s.its_rounds)) a.subs && plain_value a.value (m + (0 + loops_in s.its_rounds))) plain in
+      let l : length e.accesses ≡ length (accesses_of a) = ap (λ (x : Entry). length x.accesses) s.is ∙ length_map (access_form (m + loops_in s.its_rounds)) (accesses_of a) in
+      let f : length (accesses_of a) ≤ 16 = leb-true (length (accesses_of a)) 16 b.0 in
+      subst (λ n. n ≤ 16) (sym l) f
+
+  entry_alive : (e : Entry) → IsIn e (nest_of program).entries → IsTrue e.alive → IsAlive (nest_of program) e
+  entry_alive e i alive =
+      let k = place_of (nest_of program).entries e i in
+      let r = ranges_hold_iterators program k.0 e has k.1 alive in
+      let s = (entries_stand program has).1 k.0 e k.1 in
+      record {
+        nest_of = nests_are_asked program has;
+        there = i;
+        columns = length_append (number_ranges program.params) e.ranges ∙ ap (λ n. length (number_ranges program.params) + n) r.each ∙ sym s.columns;
+        reach = either_reach (number_ranges program.params) e.ranges (plain_reach (number_ranges program.params) has.plain.ranges) (λ q j. near_reach q (r.near q j).1);
+        few = few_accesses k.0 e k.1;
+        subs = some_accesses e e.accesses (λ x j. j);
+      }
+
+  some_alive : (es : List Entry) → ((e : Entry) → IsIn e es → IsIn e (nest_of program).entries) → AreAlive (nest_of program) es
+  some_alive [] f = tt
+  some_alive (e ∷ es) f = (entry_alive e (f e (inl refl)), some_alive es (λ x i. f x (inr i)))
+
+pub all_alive : (nest : Nest) → IsNest nest → AreAlive nest nest.entries
+all_alive nest n = subst (λ (x : Nest). AreAlive x x.entries) (sym n.is) (some_alive n.program n.has (nest_of n.program).entries (λ e i. i))
+
+-- ---- Parameters
+
+pub params_reach : (nest : Nest) → IsNest nest → All WithinReach nest.params
+params_reach nest n =
+    subst (λ (x : Nest). All WithinReach x.params) (sym n.is) (all_reach (number_ranges n.program.params) (plain_reach (number_ranges n.program.params) n.has.plain.ranges))
+
+pub params_columns : (nest : Nest) → IsNest nest → length nest.params ≡ nest.context.columns
+params_columns nest n = subst (λ (x : Nest). length x.params ≡ x.context.columns) (sym n.is) refl

@@ -1,0 +1,8 @@
+pub mod OrderLemmas
+pub mod BudgetLemmas
+pub mod ExtentLemmas
+pub mod AccessLemmas
+pub mod AliveLemmas
+pub mod CheckLemmas
+pub mod LawProofs
+pub mod ExampleProofs
