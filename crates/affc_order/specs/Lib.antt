@@ -1,0 +1,5 @@
+pub mod Posed
+pub mod Spread
+pub mod Systems
+pub mod Asked
+pub mod Laws
