@@ -172,9 +172,9 @@ systems_are_the_orders program schedule p i j has fits long stands stands' =
     let f = first_is_posed program p i j has long u v in
     let g = second_is_posed program p i j has long u v in
     record {
-      source = subst (λ n. IsPointOfOne (source_order nest n a b) zs ↔ Earlier (trace program p) i j) (sym w) (source_order_is_the_trace program p more a b i j has stands stands' f g);
-      target = subst (λ n. IsPointOfOne (target_order nest schedule n a b) zs ↔ Earlier (target program schedule p) i j) (sym w) (target_order_is_the_target program schedule p more a b i j has fits long stands stands' f g);
-      turned = subst (λ n. IsPointOfOne (target_order nest schedule n b a) zs ↔ Earlier (target program schedule p) j i) (sym w) (target_order_is_the_target program schedule p more b a j i has fits long stands' stands g f);
+      in_source = subst (λ n. IsPointOfOne (source_order nest n a b) zs ↔ Earlier (trace program p) i j) (sym w) (source_order_is_the_trace program p more a b i j has stands stands' f g);
+      in_target = subst (λ n. IsPointOfOne (target_order nest schedule n a b) zs ↔ Earlier (target program schedule p) i j) (sym w) (target_order_is_the_target program schedule p more a b i j has fits long stands stands' f g);
+      turned_round = subst (λ n. IsPointOfOne (target_order nest schedule n b a) zs ↔ Earlier (target program schedule p) j i) (sym w) (target_order_is_the_target program schedule p more b a j i has fits long stands' stands g f);
     }
 
 pub schedules_are_asked : SchedulesAreAsked

@@ -37,9 +37,9 @@ TargetOrderIsTheTarget = (program : Program) (schedule : Schedule) (p more : Lis
 
 -- what the systems of two statements say of an instance of each
 pub record SystemsSay (program : Program) (schedule : Schedule) (p : List ℤ) (i j : Instance) : Type 0 where
-  pub source : IsPointOfOne (source_systems (nest_of program) i.statement j.statement) (p ++ (i.iterators ++ j.iterators)) ↔ Earlier (trace program p) i j
-  pub target : IsPointOfOne (target_systems (nest_of program) i.statement j.statement schedule) (p ++ (i.iterators ++ j.iterators)) ↔ Earlier (target program schedule p) i j
-  pub turned : IsPointOfOne (turned_systems (nest_of program) i.statement j.statement schedule) (p ++ (i.iterators ++ j.iterators)) ↔ Earlier (target program schedule p) j i
+  pub in_source : IsPointOfOne (source_systems (nest_of program) i.statement j.statement) (p ++ (i.iterators ++ j.iterators)) ↔ Earlier (trace program p) i j
+  pub in_target : IsPointOfOne (target_systems (nest_of program) i.statement j.statement schedule) (p ++ (i.iterators ++ j.iterators)) ↔ Earlier (target program schedule p) i j
+  pub turned_round : IsPointOfOne (turned_systems (nest_of program) i.statement j.statement schedule) (p ++ (i.iterators ++ j.iterators)) ↔ Earlier (target program schedule p) j i
 
 -- The systems of two statements hold p and the iterators of an instance of each exactly where the first is earlier, or the second.
 abbrev pub SystemsAreTheOrders : Type 0

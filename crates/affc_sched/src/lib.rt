@@ -1,0 +1,4 @@
+//! Whether a schedule is legal: questions as integer systems, and proofs that none of them has a point.
+#![tactic(auto)]
+
+pub mod laws;
