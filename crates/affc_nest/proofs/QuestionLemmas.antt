@@ -452,7 +452,7 @@ all_within program has p here e h alive l is (s ∷ subs) (x ∷ extents) long u
     right z (inr k) = k
 
 -- an access has as many subscripts as its array has extents
-as_many : (program : Program) (k : ℕ) (e : Entry) → NamesArrays program → IsEntry program k e → (x : Access) → IsIn x e.accesses → length x.subs ≡ length (extents_of_access (nest_of program) x)
+pub as_many : (program : Program) (k : ℕ) (e : Entry) → NamesArrays program → IsEntry program k e → (x : Access) → IsIn x e.accesses → length x.subs ≡ length (extents_of_access (nest_of program) x)
 as_many program k e named h x i =
     let m = length (number_ranges program.params) in
     let s = site_of program k e h in

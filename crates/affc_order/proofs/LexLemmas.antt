@@ -15,6 +15,19 @@ use Rattle.affc_order.specs.Laws.{IsPointOfOne}
 use Rattle.affc_order.specs.Systems.{lex_systems}
 use Rattle.affc_order.proofs.ColumnLemmas.{first_columns, later_columns}
 
+-- each system is over the columns
+pub lex_columns : (columns n : ℕ) (fs gs rows : List Affine) (tie : Bool) (s : Rows) → IsIn s (lex_systems columns n fs gs rows tie) → s.columns ≡ columns
+lex_columns columns zero fs gs rows tie s i = at_tie tie i
+  where
+    at_tie : (t : Bool) → IsIn s (if t then record { columns = columns; rows = rows } ∷ [] else []) → s.columns ≡ columns
+    at_tie true (inl e) = ap (λ (r : Rows). r.columns) e
+    at_tie true (inr b) = absurd b
+    at_tie false b = absurd b
+lex_columns columns (suc n) [] gs rows tie s i = absurd i
+lex_columns columns (suc n) (f ∷ fs) [] rows tie s i = absurd i
+lex_columns columns (suc n) (f ∷ fs) (g ∷ gs) rows tie s (inl e) = ap (λ (r : Rows). r.columns) e
+lex_columns columns (suc n) (f ∷ fs) (g ∷ gs) rows tie s (inr i) = lex_columns columns n fs gs (rows ++ compare_rows Equal f g) tie s i
+
 module _ (xs : List ℤ) where
   -- ---- Rows
 

@@ -6,6 +6,7 @@ use Rattle.std.specs.Ordering.{nat_cmp}
 use Rattle.std.proofs.lemmas.Bool.Decides.{nat_tests}
 use Rattle.std.proofs.lemmas.Option.{slice_get_within}
 use Rattle.affc_rows.specs.Forms.{Affine, values_of, HaveColumns}
+use Rattle.affc_system.specs.Systems.{Rows}
 use Rattle.affc_ast.specs.declared.tree.Instance.{Instance}
 use Rattle.affc_ast.specs.declared.tree.Program.{Program}
 use Rattle.affc_ast.specs.Trace.{assignments, trace}
@@ -26,6 +27,7 @@ use Rattle.affc_domain.proofs.OrderLemmas.{has_loops, one_each, order_of_the_tex
 use Rattle.affc_domain.proofs.PlainLemmas.{has_assignment}
 use Rattle.affc_domain.proofs.TurnLemmas.{instances_turn}
 use Rattle.affc_nest.specs.declared.nest.Entry.{Entry}
+use Rattle.affc_nest.specs.declared.nest.Nest.{Nest}
 use Rattle.affc_nest.specs.Laws.{HasNest, IsEntry}
 use Rattle.affc_nest.specs.Nests.{nest_of}
 use Rattle.affc_nest.proofs.EntryLemmas.{site_of, entries_stand}
@@ -34,7 +36,7 @@ use Rattle.affc_order.specs.Laws.{IsPointOfOne, SourceOrderIsTheTrace, TargetOrd
 use Rattle.affc_order.specs.Posed.{Posed, IsPosed, form_at}
 use Rattle.affc_order.specs.Systems.{loops_or_none, loops_of, source_order, forms_or_none, time_forms, target_order, pair_columns, first_posed, second_posed}
 use Rattle.affc_order.proofs.ColumnLemmas.{at_width, from_width, segment_at}
-use Rattle.affc_order.proofs.LexLemmas.{lex_is_before, before_is_lex}
+use Rattle.affc_order.proofs.LexLemmas.{lex_columns, lex_is_before, before_is_lex}
 use Rattle.affc_order.proofs.TimeLemmas.{nat_less, less_nat, less_before, before_less, numbers_are, time_value}
 
 -- ---- Statements
@@ -56,6 +58,13 @@ loops_are_numbered program p i has stands =
     let s = site_of program i.statement e.0 e.1 in
     let own : e.0.loops ≡ s.loops = ap (λ (x : Entry). x.loops) s.is in
     s.loops_at ∙ ap (λ (ls : List ℕ). Some ls) (sym own) ∙ ap (λ o. Some (loops_or_none o)) (sym e.1)
+
+-- each system of an order is over the columns
+pub order_columns : (nest : Nest) (schedule : Schedule) (columns : ℕ) (a b : Posed) (s : Rows) → IsIn s (target_order nest schedule columns a b) → s.columns ≡ columns
+order_columns nest Source columns a b s i =
+    lex_columns columns (shared (loops_of nest a.statement) (loops_of nest b.statement)) a.iterators b.iterators [] (nat_lt a.statement b.statement) s i
+order_columns nest (Time n maps) columns a b s i =
+    lex_columns columns n (time_forms maps (length nest.params) columns a) (time_forms maps (length nest.params) columns b) [] (nat_lt a.statement b.statement) s i
 
 -- ---- Posed instances
 

@@ -2,4 +2,10 @@
 //! schedule.
 #![tactic(auto)]
 
+pub mod columns;
+pub mod examples;
 pub mod laws;
+mod lex;
+pub mod order;
+
+pub use order::{source_before, target_after, target_before};

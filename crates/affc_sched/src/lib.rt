@@ -1,4 +1,5 @@
 //! Whether a schedule is legal: questions as integer systems, and proofs that none of them has a point.
 #![tactic(auto)]
 
+pub mod examples;
 pub mod laws;

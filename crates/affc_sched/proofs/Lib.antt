@@ -1,0 +1,6 @@
+pub mod WidthLemmas
+pub mod TouchLemmas
+pub mod PointLemmas
+pub mod AskedLemmas
+pub mod LegalLemmas
+pub mod ExampleProofs
