@@ -6,6 +6,7 @@ use Rattle.std.proofs.lemmas.Bool.{eq-eqb, eqb-true}
 use Rattle.std.proofs.lemmas.List.{take-append-drop, length-take-le}
 use Rattle.std.proofs.lemmas.List.Elements.{All-append, All-drop}
 use Rattle.affc_rows.specs.Forms.{Affine, values_of, HaveColumns}
+use Rattle.affc_system.specs.Boxes.{InBox}
 use Rattle.affc_system.specs.Systems.{Rows, Meets, IsPoint}
 use Rattle.affc_ast.specs.declared.tree.Instance.{Instance}
 use Rattle.affc_ast.specs.declared.tree.Program.{Program}
@@ -37,7 +38,7 @@ use Rattle.affc_nest.specs.Laws.{HasNest, IsEntry, NamesArrays, element_at}
 use Rattle.affc_nest.specs.Nests.{nest_of}
 use Rattle.affc_nest.specs.Questions.{extents_or_none}
 use Rattle.affc_nest.proofs.AccessLemmas.{accesses_are_events}
-use Rattle.affc_nest.proofs.EntryLemmas.{entries_stand, points_are_instances, none_where_not_alive}
+use Rattle.affc_nest.proofs.EntryLemmas.{entries_stand, points_are_instances, none_where_not_alive, ranges_hold_iterators}
 use Rattle.affc_nest.proofs.QuestionLemmas.{place_of, stands_in, as_many}
 use Rattle.affc_nest.proofs.QuestionProofs.{sub_side, nests_are_asked}
 use Rattle.affc_order.specs.Laws.{IsPointOfOne}
@@ -45,7 +46,7 @@ use Rattle.affc_order.specs.Systems.{loops_or_none, loops_of, pair_columns, sour
 use Rattle.affc_order.proofs.ColumnLemmas.{no_columns, more_columns}
 use Rattle.affc_order.proofs.LexLemmas.{both_met, met_both}
 use Rattle.affc_order.proofs.OrderLemmas.{entry_of_instance, as_many_loops, pair_width, order_columns, systems_are_the_orders}
-use Rattle.affc_sched.specs.Laws.{parameters_at, first_at, second_at, PointsViolate, Answers, ViolationsArePoints, NoneHasAPoint, QuestionsDecide}
+use Rattle.affc_sched.specs.Laws.{parameters_at, first_at, second_at, PointsViolate, Answers, ViolationsArePoints, NoneHasAPoint, QuestionsDecide, PointsAreBoxed}
 use Rattle.affc_sched.specs.Questions.{Question, Touch, touches, may_depend, equal_rows, context_count, of_first, of_second, pair_domain, pair_rows, question, legality_questions}
 use Rattle.affc_sched.proofs.AskedLemmas.{Asked, asked, is_asked}
 use Rattle.affc_sched.proofs.PointLemmas.{spread_met, met_spread, spread_values, all_spread, length_map, equal_values, values_equal}
@@ -73,13 +74,13 @@ subs_have program has e i x j =
 -- ---- A point of two instances
 
 -- an entry with an instance
-record Stood (program : Program) (p : List ℤ) (e : Entry) (its : List ℤ) : Type 0 where
-  among : IsIn e (nest_of program).entries
-  at : IsEntry program e.statement e
-  alive : IsTrue e.alive
-  long : length its ≡ length e.loops
+pub record Stood (program : Program) (p : List ℤ) (e : Entry) (its : List ℤ) : Type 0 where
+  pub among : IsIn e (nest_of program).entries
+  pub at : IsEntry program e.statement e
+  pub alive : IsTrue e.alive
+  pub long : length its ≡ length e.loops
 
-abbrev instance_of : Entry → List ℤ → Instance
+abbrev pub instance_of : Entry → List ℤ → Instance
 instance_of e its = record { statement = e.statement; iterators = its }
 
 module _ (program : Program) (has : HasNest program) (p : List ℤ) (l : length p ≡ length (number_ranges program.params)) (e : Entry) (its : List ℤ) (s : Stood program p e its) where
@@ -478,3 +479,33 @@ questions_decide program (Time components maps) has named fits = (
       let r = points_violate program (Time components maps) q point has named fits i is in
       r.1.not_earlier (legal (parameters_at (nest_of program) q point) r.0 (first_at (nest_of program) q point) (second_at (nest_of program) q point) r.1.different r.1.dependent r.1.earlier),
 )
+
+-- ---- Ranges
+
+box_append : (rs ss : List (ℤ × ℤ)) (us vs : List ℤ) → InBox rs us → InBox ss vs → InBox (rs ++ ss) (us ++ vs)
+box_append [] ss [] vs h g = g
+box_append [] ss (u ∷ us) vs h g = absurd h
+box_append (r ∷ rs) ss [] vs h g = absurd h
+box_append (r ∷ rs) ss (u ∷ us) vs h g = (h.0, h.1, box_append rs ss us vs h.2 g)
+
+pub points_are_boxed : PointsAreBoxed
+points_are_boxed program Source q point has named fits i is = absurd i
+points_are_boxed program (Time components maps) q point has named fits i is =
+    let n = nest_of program in
+    let k = asked n components maps q i in
+    let v = points_violate program (Time components maps) q point has named fits i is in
+    let p : List ℤ = parameters_at n q point in
+    let m = length (number_ranges program.params) in
+    let rest : List ℤ = drop m point in
+    let l1 = length (loops_of n q.first) in
+    let first : Instance = first_at n q point in
+    let second : Instance = second_at n q point in
+    let first_in = earlier_is_in (trace program p) first second v.1.earlier in
+    let second_in = later_is_in (trace program p) first second v.1.earlier in
+    let a = (ranges_hold_iterators program k.first.statement k.first has (entry_at program has k.first k.first_in) k.first_alive).hold p first (ap (λ (z : Question). z.first) k.is) v.0 first_in in
+    let b = (ranges_hold_iterators program k.second.statement k.second has (entry_at program has k.second k.second_in) k.second_alive).hold p second (ap (λ (z : Question). z.second) k.is) v.0 second_in in
+    let whole : p ++ (first.iterators ++ second.iterators) ≡ point = ap (λ ys. p ++ ys) (take-append-drop l1 rest) ∙ take-append-drop m point in
+    subst (InBox q.ranges) whole
+        (subst (λ rs. InBox rs (p ++ (first.iterators ++ second.iterators))) (sym (ap (λ (z : Question). z.ranges) k.is))
+        (box_append n.params (k.first.ranges ++ k.second.ranges) p (first.iterators ++ second.iterators) (in_ranges program.params p v.0.ranges)
+        (box_append k.first.ranges k.second.ranges first.iterators second.iterators a b)))

@@ -115,7 +115,7 @@ StoresOfOneArray = (may_depend (here, false) (next, false) ≡ false)
 
 -- A[i] before A[i' + 1], A[i] before A[N]; A[i + 1] before A[i'], before A[i' + 1], before A[N]; nothing comes after A[N]
 abbrev pub QuestionsInOrder : Type 0
-QuestionsInOrder = map (λ q. (q.first, q.second)) (legality_questions nest reversed) ≡ (0, 0) ∷ (0, 1) ∷ (0, 0) ∷ (0, 0) ∷ (0, 1) ∷ []
+QuestionsInOrder = map {B = ℕ × ℕ} (λ q. (q.first, q.second)) (legality_questions nest reversed) ≡ (0, 0) ∷ (0, 1) ∷ (0, 0) ∷ (0, 0) ∷ (0, 1) ∷ []
 
 -- none of the order of the source
 abbrev pub SourceIsLegal : Type 0
@@ -137,6 +137,7 @@ RowsOfAQuestion = pair_questions nest shifts shifts reversed here next
         ∷ form (pos 0 ∷ negsuc 0 ∷ pos 1 ∷ []) (negsuc 0)
         ∷ form (pos 0 ∷ negsuc 0 ∷ pos 1 ∷ []) (negsuc 0) ∷ []
       );
+      ranges = (pos 1, pos 9) ∷ (pos 0, pos 8) ∷ (pos 0, pos 8) ∷ [];
     } ∷ []
 
 -- over N, i, with the stores A[i + 1] and A[N]: i + 1 = N, and 0 < -i
@@ -151,4 +152,5 @@ RowsOfTwoStatements = pair_questions nest shifts last reversed next (access 0 (f
         ∷ form (negsuc 0 ∷ pos 1 ∷ []) (pos 1) ∷ form (pos 1 ∷ negsuc 0 ∷ []) (negsuc 0)
         ∷ form (pos 0 ∷ negsuc 0 ∷ []) (negsuc 0) ∷ []
       );
+      ranges = (pos 1, pos 9) ∷ (pos 0, pos 8) ∷ [];
     } ∷ []

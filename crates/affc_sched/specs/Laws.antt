@@ -1,5 +1,6 @@
 -- What the questions on a schedule decide.
 use Rattle.std.specs.Prelude.{◌≡◌, ◌↔◌, ℕ, ◌+◌, ℤ, List, ◌++◌, length, take, drop}
+use Rattle.affc_system.specs.Boxes.{InBox}
 use Rattle.affc_system.specs.Systems.{IsPoint, HasNoPoint}
 use Rattle.affc_ast.specs.declared.tree.Instance.{Instance}
 use Rattle.affc_ast.specs.declared.tree.Program.{Program}
@@ -59,3 +60,9 @@ abbrev pub QuestionsDecide : Type 0
 QuestionsDecide = (program : Program) (schedule : Schedule)
     → HasNest program → NamesArrays program → IsScheduleOf program schedule
     → NoneHasAPoint (legality_questions (nest_of program) schedule) ↔ ((p : List ℤ) → IsInContext program p → Legal program schedule p)
+
+-- A point of a question lies in its ranges.
+abbrev pub PointsAreBoxed : Type 0
+PointsAreBoxed = (program : Program) (schedule : Schedule) (q : Question) (point : List ℤ)
+    → HasNest program → NamesArrays program → IsScheduleOf program schedule
+    → IsIn q (legality_questions (nest_of program) schedule) → IsPoint q.system point → InBox q.ranges point

@@ -1,5 +1,5 @@
 -- Whether a schedule is legal, as questions: systems that have no integer point exactly where no dependence is turned round.
-use Rattle.std.specs.Prelude.{ℕ, ◌+◌, ◌*◌, nat_eq, Bool, true, false, ◌&&◌, ◌||◌, if◌then◌else◌, List, [], ◌∷◌, ◌++◌, map, flat_map, length, drop}
+use Rattle.std.specs.Prelude.{ℕ, ℤ, ◌+◌, ◌*◌, nat_eq, Bool, true, false, ◌&&◌, ◌||◌, if◌then◌else◌, List, [], ◌∷◌, ◌++◌, map, flat_map, length, drop}
 use Rattle.affc_rows.specs.Forms.{Affine}
 use Rattle.affc_system.specs.Systems.{Rows}
 use Rattle.affc_ast.specs.declared.tree.Rel.TheVariants.{Equal}
@@ -12,12 +12,13 @@ use Rattle.affc_nest.specs.declared.nest.Nest.{Nest}
 use Rattle.affc_order.specs.Spread.{spread}
 use Rattle.affc_order.specs.Systems.{pair_columns, source_systems, turned_systems}
 
--- Two statements, and a system over the parameters, the first's iterators and the second's. At its integer points an
--- instance of the second depends on one of the first that the schedule runs later.
+-- Two statements, a system over the parameters, the first's iterators and the second's, and the ranges of these columns. At
+-- its integer points an instance of the second depends on one of the first that the schedule runs later.
 pub record Question : Type 0 where
   pub first : ℕ
   pub second : ℕ
   pub system : Rows
+  pub ranges : List (ℤ × ℤ)
 
 -- ---- Accesses
 
@@ -71,6 +72,7 @@ module _ (nest : Nest) (a b : Entry) where
     first = a.statement;
     second = b.statement;
     system = record { columns = pair_columns nest a.statement b.statement; rows = rows ++ (earlier.rows ++ later.rows) };
+    ranges = nest.params ++ (a.ranges ++ b.ranges);
   }
 
   -- the first is earlier in the source, and the second in the target

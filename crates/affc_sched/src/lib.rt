@@ -3,3 +3,6 @@
 
 pub mod examples;
 pub mod laws;
+pub mod legality;
+
+pub use legality::{LegalProof, SchedStop, legal};
