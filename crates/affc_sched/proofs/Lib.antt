@@ -4,3 +4,5 @@ pub mod PointLemmas
 pub mod AskedLemmas
 pub mod LegalLemmas
 pub mod ExampleProofs
+pub mod SystemLemmas
+pub mod PairLemmas

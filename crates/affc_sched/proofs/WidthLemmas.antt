@@ -1,11 +1,11 @@
 -- The rows of a domain: how wide they are, and which of them say the context.
-use Rattle.std.proofs.Common.{◌≡◌, ℕ, zero, suc, ◌+◌, ◌*◌, ℤ, pos, negsuc, IsTrue, List, [], ◌∷◌, ◌++◌, length, take, refl, sym, ap, subst, ◌∙◌, arith}
+use Rattle.std.proofs.Common.{◌≡◌, ℕ, zero, suc, ◌+◌, ◌*◌, ◌≤◌, ℤ, pos, negsuc, IsTrue, List, [], ◌∷◌, ◌++◌, length, take, refl, sym, ap, subst, ◌∙◌, arith}
 use Rattle.std.proofs.Math.Seq.{take-append_seam}
 use Rattle.std.specs.List.{All}
 use Rattle.std.proofs.lemmas.List.Elements.{All-nil, All-cons, All-append}
 use Rattle.affc_rows.specs.Forms.{Affine, HaveColumns}
 use Rattle.affc_rows.proofs.ValueLemmas.{length-mixed}
-use Rattle.affc_system.specs.Systems.{Meets}
+use Rattle.affc_system.specs.Systems.{Rows, Meets}
 use Rattle.affc_ast.specs.declared.tree.Compare.{Compare}
 use Rattle.affc_ast.specs.declared.tree.Ix.{Ix}
 use Rattle.affc_ast.specs.declared.tree.Program.{Program}
@@ -146,3 +146,21 @@ module _ (program : Program) (has : HasNest program) (statement : ℕ) (e : Entr
       let box_met : All (Meets zs) box = to_all zs box (subst (λ k. Met zs (box_rows (m + k) 0 ps)) long c.0) in
       let tests_met : All (Meets zs) tests = to_all zs tests (subst (λ k. Met zs (test_rows m k program.context)) long c.1) in
       subst (All (Meets zs)) (sym front) (All-append (Meets zs) box tests box_met tests_met)
+
+  -- a domain has at least the rows of the context
+  pub context_rows_first : context_count (nest_of program) ≤ length e.domain.rows
+  context_rows_first =
+      let s = site_of program statement e h in
+      let w = ranges_there program statement e has s alive in
+      let ps = number_ranges program.params in
+      let m = length ps in
+      let n = loops_in s.its_rounds in
+      let box : List Affine = box_rows (m + n) 0 ps in
+      let tests : List Affine = test_rows m n program.context in
+      let own : List Affine = loop_rows m w.0 s.its_rounds ++ condition_rows m s.its_rounds in
+      let d : length e.domain.rows ≡ length (box ++ (tests ++ own)) = ap (λ (r : Rows). length r.rows) (domain_is program statement e s w.0 w.1) in
+      let b = length_append box (tests ++ own) in
+      let t = length_append tests own in
+      let c = box_count (m + n) 0 ps in
+      let k = tests_count m n program.context in
+      omega (arith, d, b, t, c, k)

@@ -4,5 +4,6 @@
 pub mod examples;
 pub mod laws;
 pub mod legality;
+pub mod systems;
 
 pub use legality::{LegalProof, SchedStop, legal};
