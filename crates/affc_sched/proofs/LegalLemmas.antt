@@ -236,7 +236,7 @@ may_be x y e (inl s) = hold_both (nat_eq x.0.array.0 y.0.array.0) (x.1 || y.1) (
 may_be x y e (inr s) = hold_both (nat_eq x.0.array.0 y.0.array.0) (x.1 || y.1) (eq-eqb x.0.array.0 y.0.array.0 e) (holds_second x.1 y.1 s)
 
 -- accesses of one array have equally many subscripts
-as_many_each : (program : Program) (has : HasNest program) → NamesArrays program → (a b : Entry) → IsEntry program a.statement a → IsEntry program b.statement b
+pub as_many_each : (program : Program) (has : HasNest program) → NamesArrays program → (a b : Entry) → IsEntry program a.statement a → IsEntry program b.statement b
     → (x y : Access) → IsIn x a.accesses → IsIn y b.accesses → x.array.0 ≡ y.array.0 → length x.subs ≡ length y.subs
 as_many_each program has named a b h g x y i j e =
     as_many program a.statement a named h x i ∙ ap (λ k. length (extents_or_none (slice_get (nest_of program).arrays k))) e ∙ sym (as_many program b.statement b named g y j)

@@ -1,5 +1,5 @@
 -- The systems of two accesses.
-use Rattle.std.proofs.Common.{◌≡◌, ℕ, zero, suc, ◌+◌, ◌*◌, ◌<◌, ◌≤◌, Bool, true, false, IsTrue, if◌then◌else◌, List, [], ◌∷◌, ◌++◌, length, map, flat_map, Some, refl, sym, ap, subst, ◌∙◌, inl, inr, arith}
+use Rattle.std.proofs.Common.{◌≡◌, ℕ, zero, suc, ◌+◌, ◌*◌, ◌<◌, ◌≤◌, ℤ, Bool, true, false, IsTrue, if◌then◌else◌, List, [], ◌∷◌, ◌++◌, length, map, flat_map, drop, refl, sym, ap, subst, ◌∙◌, inl, inr, arith}
 use Rattle.std.specs.Prelude.{slice_get, nat_lt, nat_le, ◌&&◌}
 use Rattle.std.specs.List.{All}
 use Rattle.std.proofs.lemmas.Bool.{leb-true}
@@ -40,11 +40,12 @@ use Rattle.affc_nest.proofs.QuestionLemmas.{as_many}
 use Rattle.affc_nest.proofs.QuestionProofs.{sub_side}
 use Rattle.affc_order.specs.Asked.{IsScheduled}
 use Rattle.affc_order.specs.Posed.{Posed}
+use Rattle.affc_order.specs.Spread.{spread}
 use Rattle.affc_order.specs.Systems.{lex_systems, loops_or_none, loops_of, source_order, time_forms, target_order, pair_columns, first_posed, second_posed, source_systems, turned_systems}
 use Rattle.affc_order.proofs.CodeLemmas.{few_loops, is_nest}
 use Rattle.affc_order.proofs.OrderLemmas.{order_columns}
 use Rattle.affc_sched.specs.Legality.{IsAsked}
-use Rattle.affc_sched.specs.Questions.{Question, equal_rows, pair_rows, question, pair_questions}
+use Rattle.affc_sched.specs.Questions.{Question, equal_rows, context_count, pair_rows, question, pair_questions}
 use Rattle.affc_sched.specs.Spreadable.{IsOrder}
 use Rattle.affc_sched.proofs.LegalLemmas.{entry_at, as_many_each}
 
@@ -195,15 +196,61 @@ few_subs nest schedule q a i x j =
     decls_few m (declared_arrays program) x.array.0 (plain_append m (arrays_of program.params) program.temps s.has.plain.arrays s.has.plain.temps) in
     omega arith
 
--- rows of both domains and of equal subscripts
-pub few_rows : (rows own more all : List Affine) (n : ℕ) → length rows ≤ 134 → length own ≤ 134 → n ≤ 4 → length more ≤ 2 * n → all ≡ (rows ++ own) ++ more → length all ≤ 900
-few_rows rows own more all n h g k l e =
-    let a = length_append (rows ++ own) more in
-    let b = length_append rows own in
-    let c : length all ≡ length ((rows ++ own) ++ more) = ap length e in
-    omega (arith, h, g, k, l, a, b, c)
-
 pub equal_count : (fs gs : List Affine) → length (equal_rows fs gs) ≤ 2 * length fs
 equal_count [] gs = omega arith
 equal_count (f ∷ fs) [] = omega arith
 equal_count (f ∷ fs) (g ∷ gs) = let h = equal_count fs gs in let a = length_append (compare_rows Equal f g) (equal_rows fs gs) in omega (arith, h, a)
+
+-- ---- What the code of two accesses keeps
+
+pub both_few : (F G : Affine → Affine) (rows own : List Affine) (system : Rows) (columns : ℕ) → system ≡ record { columns = columns; rows = map F rows ++ map G own } → length rows ≤ 134 → length own ≤ 134 → length system.rows ≤ 268
+both_few F G rows own system columns e h g =
+    let a = length_append (map F rows) (map G own) in
+    let b = length_map F rows in
+    let c = length_map G own in
+    let d : length system.rows ≡ length (map F rows ++ map G own) = ap (λ (r : Rows). length r.rows) e in
+    omega (arith, h, g, a, b, c, d)
+
+pub pair_few : (fs gs : List Affine) (system system' : Rows) → system' ≡ with_rows system (equal_rows fs gs) → length system.rows ≤ 268 → length fs ≤ 4 → length system'.rows ≤ 900
+pair_few fs gs system system' e h g =
+    let a = length_append system.rows (equal_rows fs gs) in
+    let b = equal_count fs gs in
+    let d : length system'.rows ≡ length (system.rows ++ equal_rows fs gs) = ap (λ (r : Rows). length r.rows) e in
+    omega (arith, h, g, a, b, d)
+
+pub mapped_few : (F : Affine → Affine) (xs subs : List Affine) → xs ≡ subs → length subs ≤ 4 → length (map F xs) ≤ 4
+mapped_few F xs subs e h = let a = length_map F xs in let b : length xs ≡ length subs = ap length e in omega (arith, h, a, b)
+
+abbrev whole_pair : (rows : List Affine) (ps : List (ℤ × ℤ)) (outer inner : ℕ) (own xs ys : List Affine) → Rows
+whole_pair rows ps outer inner own xs ys = record {
+  columns = (length ps + outer) + inner;
+  rows = (map (spread (length ps) 0 inner) rows ++ map (spread (length ps) outer 0) own) ++ equal_rows (map (spread (length ps) 0 inner) xs) (map (spread (length ps) outer 0) ys);
+}
+
+pub pair_made : (nest : Nest) (a b : Entry) (x y : Access) (ps : List (ℤ × ℤ)) (outer inner : ℕ) (own xs ys : List Affine) (system system' : Rows)
+    → ps ≡ nest.params → outer ≡ length a.loops → inner ≡ length b.loops → own ≡ drop (context_count nest) b.domain.rows → xs ≡ x.subs → ys ≡ y.subs
+    → (length nest.params + length a.loops) + length b.loops ≡ pair_columns nest a.statement b.statement
+    → system ≡ record { columns = (length ps + outer) + inner; rows = map (spread (length ps) 0 inner) a.domain.rows ++ map (spread (length ps) outer 0) own }
+    → system' ≡ with_rows system (equal_rows (map (spread (length ps) 0 inner) xs) (map (spread (length ps) outer 0) ys))
+    → system' ≡ record { columns = pair_columns nest a.statement b.statement; rows = pair_rows nest a b x y }
+pair_made nest a b x y ps outer inner own xs ys system system' p o i w u v columns one two =
+    two ∙ ap (λ (s : Rows). with_rows s (equal_rows (map (spread (length ps) 0 inner) xs) (map (spread (length ps) outer 0) ys))) one
+    ∙ ap (λ rs. whole_pair a.domain.rows rs outer inner own xs ys) p
+    ∙ ap (λ k. whole_pair a.domain.rows nest.params k inner own xs ys) o
+    ∙ ap (λ k. whole_pair a.domain.rows nest.params (length a.loops) k own xs ys) i
+    ∙ ap (λ rows. whole_pair a.domain.rows nest.params (length a.loops) (length b.loops) rows xs ys) w
+    ∙ ap (λ fs. whole_pair a.domain.rows nest.params (length a.loops) (length b.loops) (drop (context_count nest) b.domain.rows) fs ys) u
+    ∙ ap (λ gs. whole_pair a.domain.rows nest.params (length a.loops) (length b.loops) (drop (context_count nest) b.domain.rows) x.subs gs) v
+    ∙ ap (λ k. record { columns = k; rows = pair_rows nest a b x y }) columns
+
+pub orders_at : (k k' : ℕ) (systems held : List Rows) → k' ≡ k → held ≡ systems → All (IsOrder k) systems → All (IsOrder k') held
+orders_at k k' systems held e f h = subst (λ n. All (IsOrder n) held) (sym e) (subst (All (IsOrder k)) (sym f) h)
+
+pub all_made : (nest : Nest) (schedule : Schedule) (a b : Entry) (x y : Access) (pair : Rows) (out start earlier later : List Rows)
+    → pair ≡ record { columns = pair_columns nest a.statement b.statement; rows = pair_rows nest a b x y } → start ≡ [] → earlier ≡ source_systems nest a.statement b.statement → later ≡ turned_systems nest a.statement b.statement schedule
+    → out ≡ start ++ flat_map (λ o. map (λ u. with_rows pair (o.rows ++ u.rows)) later) earlier → out ≡ map (λ q. q.system) (pair_questions nest a b schedule x y)
+all_made nest schedule a b x y pair out start earlier later p s e l made =
+    made ∙ ap (λ xs. xs ++ flat_map (λ o. map (λ u. with_rows pair (o.rows ++ u.rows)) later) earlier) s
+    ∙ ap (λ us. flat_map (λ o. map (λ u. with_rows pair (o.rows ++ u.rows)) us) earlier) l
+    ∙ ap (flat_map (λ o. map (λ u. with_rows pair (o.rows ++ u.rows)) (turned_systems nest a.statement b.statement schedule))) e
+    ∙ systems_made nest schedule a b x y pair p
