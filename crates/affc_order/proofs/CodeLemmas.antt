@@ -1,5 +1,5 @@
 -- What the code's loops keep.
-use Rattle.std.proofs.Common.{◌≡◌, ◌≢◌, ℕ, zero, suc, ◌+◌, ◌-◌, ◌*◌, ◌^◌, ◌<◌, ◌≤◌, ℤ, pos, Bool, true, false, IsTrue, if◌then◌else◌, List, [], ◌∷◌, ◌++◌, length, map, take, drop, get_or, replicate, Option, Some, None, refl, sym, ap, subst, ◌∙◌, arith}
+use Rattle.std.proofs.Common.{◌≡◌, ◌≢◌, ℕ, zero, suc, ◌+◌, ◌-◌, ◌*◌, ◌^◌, ◌<◌, ◌≤◌, ℤ, pos, Bool, true, false, IsTrue, if◌then◌else◌, List, [], ◌∷◌, ◌++◌, length, map, take, drop, get_or, replicate, refl, sym, ap, subst, ◌∙◌, arith}
 use Rattle.std.specs.Prelude.{nat_eq, slice_get, ◌&&◌, unsigned_abs, nat_le, nat_abs}
 use Rattle.std.specs.List.{All}
 use Rattle.std.proofs.lemmas.Bool.{leb-true, eqb-true}
@@ -112,8 +112,8 @@ pub at_place : (m c l columns : ℕ) (f : Affine) → m ≤ c → c + l ≤ colu
     → spread m (c - m) (columns - c - l) f ≡ form_at columns (columns_from columns 0 m ++ columns_from columns c l) f
 at_place m c l columns f h g w =
     sym (subst (λ k. form_at k (columns_from k 0 m ++ columns_from k c l) f ≡ spread m (c - m) (columns - c - l) f) (whole m c l columns h g)
-        (subst (λ k. form_at (((m + (c - m)) + l) + (columns - c - l)) (columns_from (((m + (c - m)) + l) + (columns - c - l)) 0 m ++ columns_from (((m + (c - m)) + l) + (columns - c - l)) k l) f ≡ spread m (c - m) (columns - c - l) f)
-            (place m c h) (at_columns m (c - m) l (columns - c - l) f w)))
+    (subst (λ k. form_at (((m + (c - m)) + l) + (columns - c - l)) (columns_from (((m + (c - m)) + l) + (columns - c - l)) 0 m ++ columns_from (((m + (c - m)) + l) + (columns - c - l)) k l) f ≡ spread m (c - m) (columns - c - l) f)
+    (place m c h) (at_columns m (c - m) l (columns - c - l) f w)))
   where
     place : (m c : ℕ) → m ≤ c → m + (c - m) ≡ c
     place m c h = omega arith
@@ -226,9 +226,9 @@ module _ (nest : Nest) (maps : List TimeMap) (columns : ℕ) (a : Placed) (place
   pub time_sides : All (IsSide columns) (time_forms maps (length nest.params) columns (posed nest columns a))
   time_sides =
       subst (All (IsSide columns)) (all_at_place params a.column loops columns has.time_map.forms placed.behind placed.room has.columns
-          ∙ sym (ap (λ o. map (form_at columns (columns_from columns 0 params ++ columns_from columns a.column loops)) (forms_or_none o)) has.there))
-          (all_kept params (a.column - params) loops (columns - a.column - loops) columns has.time_map.forms (slight_sides (params + loops) has.time_map.forms has.columns has.slight)
-              (whole params a.column loops columns placed.behind placed.room))
+      ∙ sym (ap (λ o. map (form_at columns (columns_from columns 0 params ++ columns_from columns a.column loops)) (forms_or_none o)) has.there))
+      (all_kept params (a.column - params) loops (columns - a.column - loops) columns has.time_map.forms (slight_sides (params + loops) has.time_map.forms has.columns has.slight)
+      (whole params a.column loops columns placed.behind placed.room))
     where
       whole : (m c l columns : ℕ) → m ≤ c → c + l ≤ columns → ((m + (c - m)) + l) + (columns - c - l) ≡ columns
       whole m c l columns h g = omega arith

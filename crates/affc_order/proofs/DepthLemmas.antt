@@ -1,6 +1,6 @@
 -- How many loops stand round each assignment, as schedules and nests count them.
 use Rattle.std.proofs.Common.{◌≡◌, ℕ, zero, suc, ◌+◌, ◌<◌, ◌≤◌, IsTrue, List, [], ◌∷◌, ◌++◌, length, map, Some, refl, sym, ap, subst, ◌∙◌, arith}
-use Rattle.std.specs.Prelude.{slice_get, ◌&&◌, nat_le}
+use Rattle.std.specs.Prelude.{slice_get, ◌&&◌}
 use Rattle.std.proofs.lemmas.Option.{none-some, same_Some}
 use Rattle.std.specs.List.{All}
 use Rattle.affc_rows.specs.Forms.{Affine, HaveColumns}
@@ -11,18 +11,16 @@ use Rattle.affc_ast.specs.declared.tree.Stmt.TheBlock.{Row_of-Stmt, more_of-Stmt
 use Rattle.affc_ast.specs.Recursion.{by_stmt, by_each}
 use Rattle.affc_ast.proofs.Steps.{row_of, unrolled}
 use Rattle.affc_trace.specs.declared.schedule.Schedule.{Schedule}
-use Rattle.affc_trace.specs.declared.schedule.Schedule.TheVariants.{Source, Time}
+use Rattle.affc_trace.specs.declared.schedule.Schedule.TheVariants.{Time}
 use Rattle.affc_trace.specs.declared.schedule.TimeMap.{TimeMap}
 use Rattle.affc_trace.specs.Target.{each_round, loops_step, loops_round, numbers_in, all_slight, maps_within, within_limits, IsMapOf, IsScheduleOf}
 use Rattle.affc_trace.proofs.LastStores.{map_append}
 use Rattle.affc_trace.proofs.Ordered.{map_of}
 use Rattle.affc_domain.specs.Loops.{numbered_step, in_text_order, loop_numbers}
-use Rattle.affc_domain.specs.Ranges.{number_ranges}
 use Rattle.affc_domain.proofs.Lists.{both_true, to_mapped}
 use Rattle.affc_nest.specs.declared.nest.Entry.{Entry}
 use Rattle.affc_nest.specs.declared.nest.Nest.{Nest}
 use Rattle.affc_nest.specs.Laws.{IsEntry}
-use Rattle.affc_nest.specs.Nests.{nest_of}
 use Rattle.affc_nest.specs.Sides.{IsSide}
 use Rattle.affc_nest.proofs.EntryLemmas.{site_of}
 use Rattle.affc_nest.proofs.QuestionLemmas.{there_is}

@@ -1,5 +1,5 @@
 -- The systems of an order hold a point exactly where the first of two instances is earlier.
-use Rattle.std.proofs.Common.{◌≡◌, ℕ, suc, ◌+◌, ◌<◌, ℤ, Bool, IsTrue, List, [], ◌∷◌, ◌++◌, length, Some, refl, sym, ap, subst, ◌∙◌, inl, inr, arith}
+use Rattle.std.proofs.Common.{◌≡◌, ℕ, ◌+◌, ◌<◌, ℤ, IsTrue, List, [], ◌++◌, length, Some, refl, sym, ap, subst, ◌∙◌, arith}
 use Rattle.std.specs.Prelude.{nat_lt, slice_get, ◌↔◌}
 use Rattle.std.specs.declared.cmp.Ordering.TheVariants as ord
 use Rattle.std.specs.Ordering.{nat_cmp}
@@ -12,18 +12,17 @@ use Rattle.affc_ast.specs.declared.tree.Program.{Program}
 use Rattle.affc_ast.specs.Trace.{assignments, trace}
 use Rattle.affc_trace.specs.declared.schedule.Schedule.{Schedule}
 use Rattle.affc_trace.specs.declared.schedule.Schedule.TheVariants.{Source, Time}
-use Rattle.affc_trace.specs.declared.schedule.TimeMap.{TimeMap}
 use Rattle.affc_trace.specs.Inverses.{columns_from}
 use Rattle.affc_trace.specs.Law.{IsIn}
 use Rattle.affc_trace.specs.Orders.{Earlier}
-use Rattle.affc_trace.specs.Target.{target, time_of, IsScheduleOf, numbers_in}
+use Rattle.affc_trace.specs.Target.{target, time_of, numbers_in}
 use Rattle.affc_trace.proofs.EndedReads.{append_assoc}
 use Rattle.affc_trace.proofs.LastStores.{append_nil}
 use Rattle.affc_trace.proofs.Ordered.{target_is_by_time}
 use Rattle.affc_trace.proofs.Runs.{length_append}
 use Rattle.affc_domain.specs.Loops.{IsBefore, shared, loop_numbers}
 use Rattle.affc_domain.specs.Ranges.{number_ranges}
-use Rattle.affc_domain.proofs.OrderLemmas.{has_loops, one_each, order_of_the_text, before_tie}
+use Rattle.affc_domain.proofs.OrderLemmas.{one_each, order_of_the_text, before_tie}
 use Rattle.affc_domain.proofs.PlainLemmas.{has_assignment}
 use Rattle.affc_domain.proofs.TurnLemmas.{instances_turn}
 use Rattle.affc_nest.specs.declared.nest.Entry.{Entry}
@@ -33,7 +32,7 @@ use Rattle.affc_nest.specs.Nests.{nest_of}
 use Rattle.affc_nest.proofs.EntryLemmas.{site_of, entries_stand}
 use Rattle.affc_nest.proofs.QuestionLemmas.{there_is}
 use Rattle.affc_order.specs.Laws.{IsPointOfOne, SourceOrderIsTheTrace, TargetOrderIsTheTarget, SystemsAreTheOrders, SchedulesAreAsked}
-use Rattle.affc_order.specs.Posed.{Posed, IsPosed, form_at}
+use Rattle.affc_order.specs.Posed.{Posed, IsPosed}
 use Rattle.affc_order.specs.Systems.{loops_or_none, loops_of, source_order, forms_or_none, time_forms, target_order, pair_columns, first_posed, second_posed}
 use Rattle.affc_order.proofs.ColumnLemmas.{at_width, from_width, segment_at}
 use Rattle.affc_order.proofs.LexLemmas.{lex_columns, lex_is_before, before_is_lex}
@@ -120,8 +119,12 @@ target_order_is_the_target program (Time n maps) p more a b i j has fits long st
     let law = target_is_by_time program n maps p i j fits numbers in
     let same : IsBefore n (values_of fs zs) (values_of gs zs) (IsTrue tie) ≡ IsBefore n xs ys (IsTrue (nat_lt i.statement j.statement)) =
     same_before n (values_of fs zs) (values_of gs zs) xs ys a.statement b.statement i.statement j.statement fv gv f.statement g.statement in (
-      λ o. law.1 (stands, stands', before_less n xs ys r u.1 v.1
-          (before_tie n xs ys (IsTrue (nat_lt i.statement j.statement)) (r ≡ ord.Less) (less_nat i.statement j.statement) (subst (λ T. T) same (lex_is_before zs n fs gs tie wf wg o)))),
+      λ o. law.1 (
+        stands,
+        stands',
+        before_less n xs ys r u.1 v.1
+            (before_tie n xs ys (IsTrue (nat_lt i.statement j.statement)) (r ≡ ord.Less) (less_nat i.statement j.statement) (subst (λ T. T) same (lex_is_before zs n fs gs tie wf wg o))),
+      ),
       λ e. before_is_lex zs n fs gs tie wf wg
           (subst (λ T. T) (sym same) (before_tie n xs ys (r ≡ ord.Less) (IsTrue (nat_lt i.statement j.statement)) (nat_less i.statement j.statement) (less_before n xs ys r u.1 v.1 (law.0 e).2))),
     )

@@ -1,7 +1,7 @@
 -- Spread forms: their values and widths; a form is known by its values.
 use Rattle.std.proofs.Common.{◌≡◌, ℕ, zero, suc, ◌+◌, ◌≤◌, ℤ, pos, ◌+ℤ◌, ◌*ℤ◌, List, [], ◌∷◌, ◌++◌, length, take, drop, replicate, refl, sym, ap, subst, ◌∙◌, arith}
 use Rattle.std.proofs.lemmas.Int.{ints}
-use Rattle.affc_rows.specs.Forms.{Affine, value, dot, values_of, composed, HaveColumns}
+use Rattle.affc_rows.specs.Forms.{Affine, value, dot, values_of, HaveColumns}
 use Rattle.affc_rows.proofs.ValueLemmas.{length-composed}
 use Rattle.affc_trace.specs.Inverses.{zeros, columns_from}
 use Rattle.affc_trace.proofs.EndedReads.{append_assoc}

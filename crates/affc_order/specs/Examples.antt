@@ -51,8 +51,8 @@ abbrev pub TwoOfOneStatement : Type 0
 TwoOfOneStatement = source_systems nest 1 1
     ≡ over 5 (form (pos 0 ∷ negsuc 0 ∷ pos 0 ∷ pos 1 ∷ pos 0 ∷ []) (negsuc 0) ∷ [])
     ∷ over 5 (
-      form (pos 0 ∷ pos 1 ∷ pos 0 ∷ negsuc 0 ∷ pos 0 ∷ []) (pos 0) ∷ form (pos 0 ∷ negsuc 0 ∷ pos 0 ∷ pos 1 ∷ pos 0 ∷ []) (pos 0)
-      ∷ form (pos 0 ∷ pos 0 ∷ negsuc 0 ∷ pos 0 ∷ pos 1 ∷ []) (negsuc 0) ∷ []
+    form (pos 0 ∷ pos 1 ∷ pos 0 ∷ negsuc 0 ∷ pos 0 ∷ []) (pos 0) ∷ form (pos 0 ∷ negsuc 0 ∷ pos 0 ∷ pos 1 ∷ pos 0 ∷ []) (pos 0)
+    ∷ form (pos 0 ∷ pos 0 ∷ negsuc 0 ∷ pos 0 ∷ pos 1 ∷ []) (negsuc 0) ∷ []
     )
     ∷ []
 
@@ -104,12 +104,12 @@ abbrev pub TimesAreCompared : Type 0
 TimesAreCompared = target_systems nest 0 1 exchanged
     ≡ over 4 (form (negsuc 0 ∷ negsuc 0 ∷ pos 0 ∷ pos 1 ∷ []) (negsuc 0) ∷ [])
     ∷ over 4 (
-      form (pos 1 ∷ pos 1 ∷ pos 0 ∷ negsuc 0 ∷ []) (pos 0) ∷ form (negsuc 0 ∷ negsuc 0 ∷ pos 0 ∷ pos 1 ∷ []) (pos 0)
-      ∷ form (pos 0 ∷ pos 0 ∷ pos 1 ∷ pos 0 ∷ []) (negsuc 1) ∷ []
+    form (pos 1 ∷ pos 1 ∷ pos 0 ∷ negsuc 0 ∷ []) (pos 0) ∷ form (negsuc 0 ∷ negsuc 0 ∷ pos 0 ∷ pos 1 ∷ []) (pos 0)
+    ∷ form (pos 0 ∷ pos 0 ∷ pos 1 ∷ pos 0 ∷ []) (negsuc 1) ∷ []
     )
     ∷ over 4 (
-      form (pos 1 ∷ pos 1 ∷ pos 0 ∷ negsuc 0 ∷ []) (pos 0) ∷ form (negsuc 0 ∷ negsuc 0 ∷ pos 0 ∷ pos 1 ∷ []) (pos 0)
-      ∷ form (pos 0 ∷ pos 0 ∷ negsuc 0 ∷ pos 0 ∷ []) (pos 1) ∷ form (pos 0 ∷ pos 0 ∷ pos 1 ∷ pos 0 ∷ []) (negsuc 0) ∷ []
+    form (pos 1 ∷ pos 1 ∷ pos 0 ∷ negsuc 0 ∷ []) (pos 0) ∷ form (negsuc 0 ∷ negsuc 0 ∷ pos 0 ∷ pos 1 ∷ []) (pos 0)
+    ∷ form (pos 0 ∷ pos 0 ∷ negsuc 0 ∷ pos 0 ∷ []) (pos 1) ∷ form (pos 0 ∷ pos 0 ∷ pos 1 ∷ pos 0 ∷ []) (negsuc 0) ∷ []
     )
     ∷ []
 
@@ -118,8 +118,8 @@ abbrev pub TurnedTimesAreCompared : Type 0
 TurnedTimesAreCompared = turned_systems nest 0 1 exchanged
     ≡ over 4 (form (pos 1 ∷ pos 1 ∷ pos 0 ∷ negsuc 0 ∷ []) (negsuc 0) ∷ [])
     ∷ over 4 (
-      form (negsuc 0 ∷ negsuc 0 ∷ pos 0 ∷ pos 1 ∷ []) (pos 0) ∷ form (pos 1 ∷ pos 1 ∷ pos 0 ∷ negsuc 0 ∷ []) (pos 0)
-      ∷ form (pos 0 ∷ pos 0 ∷ negsuc 0 ∷ pos 0 ∷ []) (pos 0) ∷ []
+    form (negsuc 0 ∷ negsuc 0 ∷ pos 0 ∷ pos 1 ∷ []) (pos 0) ∷ form (pos 1 ∷ pos 1 ∷ pos 0 ∷ negsuc 0 ∷ []) (pos 0)
+    ∷ form (pos 0 ∷ pos 0 ∷ negsuc 0 ∷ pos 0 ∷ []) (pos 0) ∷ []
     )
     ∷ []
 
