@@ -198,7 +198,7 @@ module _ (program : Program) (has : HasNest program) (p bs cs : List ℤ) (l : l
       let one = runs program has p l a bs s (met_spread p [] bs cs m' 0 (length b.loops) (sym l) refl a.domain.rows (rows_wide program has p l a bs s) w.0) in
       let rest : All (Meets (p ++ cs)) (drop k b.domain.rows) =
       met_spread p bs cs [] m' (length a.loops) 0 (sym l) (sym s.long) (drop k b.domain.rows) (drop_have k (length p + length cs) b.domain.rows (rows_wide program has p l b cs t))
-          (subst (λ qs. All (Meets qs) (map (of_second n a b) (drop k b.domain.rows))) whole w.1) in
+      (subst (λ qs. All (Meets qs) (map (of_second n a b) (drop k b.domain.rows))) whole w.1) in
       let long : length xs ≡ length ys = length_map (of_first n a b) x.subs ∙ d ∙ sym (length_map (of_second n a b) y.subs) in
       record {
         context = one.0;
@@ -215,8 +215,8 @@ module _ (program : Program) (has : HasNest program) (p bs cs : List ℤ) (l : l
       spread_met p [] bs cs m' 0 (length b.loops) (sym l) refl a.domain.rows (rows_wide program has p l a bs s) (rows_of program has p l a bs s f.context f.first_runs) in
       let two : All (Meets zs) (map (of_second n a b) (drop k b.domain.rows)) =
       subst (λ qs. All (Meets qs) (map (of_second n a b) (drop k b.domain.rows))) (sym whole)
-          (spread_met p bs cs [] m' (length a.loops) 0 (sym l) (sym s.long) (drop k b.domain.rows) (drop_have k (length p + length cs) b.domain.rows (rows_wide program has p l b cs t))
-          (All-drop (Meets (p ++ cs)) k b.domain.rows (rows_of program has p l b cs t f.context f.second_runs))) in
+      (spread_met p bs cs [] m' (length a.loops) 0 (sym l) (sym s.long) (drop k b.domain.rows) (drop_have k (length p + length cs) b.domain.rows (rows_wide program has p l b cs t))
+      (All-drop (Meets (p ++ cs)) k b.domain.rows (rows_of program has p l b cs t f.context f.second_runs))) in
       both_met zs (pair_domain n a b) (equal_rows xs ys) (both_met zs (map (of_first n a b) a.domain.rows) (map (of_second n a b) (drop k b.domain.rows)) one two)
       (values_equal zs xs ys xs_wide ys_wide (xs_value ∙ f.equal ∙ sym ys_value))
 
@@ -275,21 +275,23 @@ module _ (program : Program) (has : HasNest program) (named : NamesArrays progra
       let distinct = once program p in
       let ea = events_are program has p l a bs s in
       let eb = events_are program has p l b cs t in
-      let same : element_at (p ++ bs) x.0 ≡ element_at (p ++ cs) y.0 = same_element_at (p ++ bs) (p ++ cs) x.0 y.0 array f.equal in
-      (f.context, record {
-        different = λ q. one_way (trace program p) i j distinct first (subst (λ z. Earlier (trace program p) z i) q (subst (λ z. Earlier (trace program p) i z) (sym q) first));
-        dependent = record {
-          element = element_at (p ++ bs) x.0;
-          first = touched (element_at (p ++ bs)) a.accesses (loads_of program p i) (store_of program p i) ea x x_in;
-          second = subst (λ z. IsIn z (loads_of program p j) ⊎ (z ≡ store_of program p j)) (sym same) (touched (element_at (p ++ cs)) b.accesses (loads_of program p j) (store_of program p j) eb y y_in);
-          stored = elim (one_stores x y may) [
-            | inl h ↦ inl (stored (element_at (p ++ bs)) a.accesses (loads_of program p i) (store_of program p i) ea x x_in h)
-            | inr h ↦ inr (same ∙ stored (element_at (p ++ cs)) b.accesses (loads_of program p j) (store_of program p j) eb y y_in h)
-          ];
-        };
-        earlier = first;
-        not_earlier = λ back. one_way (target program sch p) j i (target_is_reordered program sch p distinct).once_in_target turned back;
-      })
+      let same : element_at (p ++ bs) x.0 ≡ element_at (p ++ cs) y.0 = same_element_at (p ++ bs) (p ++ cs) x.0 y.0 array f.equal in (
+        f.context,
+        record {
+          different = λ q. one_way (trace program p) i j distinct first (subst (λ z. Earlier (trace program p) z i) q (subst (λ z. Earlier (trace program p) i z) (sym q) first));
+          dependent = record {
+            element = element_at (p ++ bs) x.0;
+            first = touched (element_at (p ++ bs)) a.accesses (loads_of program p i) (store_of program p i) ea x x_in;
+            second = subst (λ z. IsIn z (loads_of program p j) ⊎ (z ≡ store_of program p j)) (sym same) (touched (element_at (p ++ cs)) b.accesses (loads_of program p j) (store_of program p j) eb y y_in);
+            stored = elim (one_stores x y may) [
+              | inl h ↦ inl (stored (element_at (p ++ bs)) a.accesses (loads_of program p i) (store_of program p i) ea x x_in h)
+              | inr h ↦ inr (same ∙ stored (element_at (p ++ cs)) b.accesses (loads_of program p j) (store_of program p j) eb y y_in h)
+            ];
+          };
+          earlier = first;
+          not_earlier = λ back. one_way (target program sch p) j i (target_is_reordered program sch p distinct).once_in_target turned back;
+        },
+      )
 
   -- two accesses of a dependence
   record Pair : Type 0 where
@@ -391,7 +393,7 @@ points_violate program Source q point has named fits i is = absurd i
 points_violate program (Time components maps) q point has named fits i is =
     let k = asked (nest_of program) components maps q i in
     subst (λ (z : Question). IsInContext program (parameters_at (nest_of program) z point) × Violates program (Time components maps) (parameters_at (nest_of program) z point) (first_at (nest_of program) z point) (second_at (nest_of program) z point))
-        (sym k.is) (core k (subst (λ (z : Question). IsPoint z.system point) k.is is))
+    (sym k.is) (core k (subst (λ (z : Question). IsPoint z.system point) k.is is))
   where
     n : Nest
     n = nest_of program
@@ -451,7 +453,7 @@ turned_question program components maps p a b has named fits inside d first turn
     let ib : instance_of v.0 b.iterators ≡ b = λ i. record { statement = v.1 i; iterators = b.iterators } in
     let goal = λ (x y : Instance). Dependent (effect program p) x y → Earlier (trace program p) x y → Earlier (target program (Time components maps) p) y x → Answers program (Time components maps) p x y in
     subst (λ x. goal x b) ia (subst (λ y. goal (instance_of u.0 a.iterators) y) ib
-        (answered program has named components maps fits p a.iterators b.iterators l u.0 v.0 u.2 v.2 inside)) d first turned
+    (answered program has named components maps fits p a.iterators b.iterators l u.0 v.0 u.2 v.2 inside)) d first turned
 
 pub violations_are_points : ViolationsArePoints
 violations_are_points program Source p a b has named fits inside v = absurd (v.not_earlier v.earlier)
@@ -506,6 +508,6 @@ points_are_boxed program (Time components maps) q point has named fits i is =
     let b = (ranges_hold_iterators program k.second.statement k.second has (entry_at program has k.second k.second_in) k.second_alive).hold p second (ap (λ (z : Question). z.second) k.is) v.0 second_in in
     let whole : p ++ (first.iterators ++ second.iterators) ≡ point = ap (λ ys. p ++ ys) (take-append-drop l1 rest) ∙ take-append-drop m point in
     subst (InBox q.ranges) whole
-        (subst (λ rs. InBox rs (p ++ (first.iterators ++ second.iterators))) (sym (ap (λ (z : Question). z.ranges) k.is))
-        (box_append n.params (k.first.ranges ++ k.second.ranges) p (first.iterators ++ second.iterators) (in_ranges program.params p v.0.ranges)
-        (box_append k.first.ranges k.second.ranges first.iterators second.iterators a b)))
+    (subst (λ rs. InBox rs (p ++ (first.iterators ++ second.iterators))) (sym (ap (λ (z : Question). z.ranges) k.is))
+    (box_append n.params (k.first.ranges ++ k.second.ranges) p (first.iterators ++ second.iterators) (in_ranges program.params p v.0.ranges)
+    (box_append k.first.ranges k.second.ranges first.iterators second.iterators a b)))

@@ -170,7 +170,7 @@ systems_made nest schedule a b x y pair e =
     let whole : Rows = record { columns = pair_columns nest a.statement b.statement; rows = pair_rows nest a b x y } in
     ap (λ p. flat_map (λ o. map (λ u. with_rows p (o.rows ++ u.rows)) later) earlier) e
     ∙ flat_same (λ o. map (λ u. with_rows whole (o.rows ++ u.rows)) later) (λ o. map (λ q. q.system) (map (question nest a b (pair_rows nest a b x y) o) later))
-        (λ o. sym (map_map (question nest a b (pair_rows nest a b x y) o) (λ (q : Question). q.system) later)) earlier
+    (λ o. sym (map_map (question nest a b (pair_rows nest a b x y) o) (λ (q : Question). q.system) later)) earlier
     ∙ sym (map_flat (λ (q : Question). q.system) (λ o. map (question nest a b (pair_rows nest a b x y) o) later) earlier)
 
 -- ---- Counts

@@ -38,9 +38,9 @@ shifts = record {
   alive = true;
   loops = 0 ∷ [];
   domain = over 2 (
-    form (pos 1 ∷ pos 0 ∷ []) (negsuc 0) ∷ form (negsuc 0 ∷ pos 0 ∷ []) (pos 9) ∷ form (pos 1 ∷ pos 0 ∷ []) (negsuc 1)
-    ∷ form (pos 0 ∷ pos 1 ∷ []) (pos 0) ∷ form (pos 1 ∷ negsuc 0 ∷ []) (negsuc 0) ∷ []
-  );
+      form (pos 1 ∷ pos 0 ∷ []) (negsuc 0) ∷ form (negsuc 0 ∷ pos 0 ∷ []) (pos 9) ∷ form (pos 1 ∷ pos 0 ∷ []) (negsuc 1)
+      ∷ form (pos 0 ∷ pos 1 ∷ []) (pos 0) ∷ form (pos 1 ∷ negsuc 0 ∷ []) (negsuc 0) ∷ []
+      );
   ranges = (pos 0, pos 8) ∷ [];
   accesses = here ∷ next ∷ [];
 }
@@ -130,13 +130,13 @@ RowsOfAQuestion = pair_questions nest shifts shifts reversed here next
       first = 0;
       second = 0;
       system = over 3 (
-        form (pos 1 ∷ pos 0 ∷ pos 0 ∷ []) (negsuc 0) ∷ form (negsuc 0 ∷ pos 0 ∷ pos 0 ∷ []) (pos 9) ∷ form (pos 1 ∷ pos 0 ∷ pos 0 ∷ []) (negsuc 1)
-        ∷ form (pos 0 ∷ pos 1 ∷ pos 0 ∷ []) (pos 0) ∷ form (pos 1 ∷ negsuc 0 ∷ pos 0 ∷ []) (negsuc 0)
-        ∷ form (pos 0 ∷ pos 0 ∷ pos 1 ∷ []) (pos 0) ∷ form (pos 1 ∷ pos 0 ∷ negsuc 0 ∷ []) (negsuc 0)
-        ∷ form (pos 0 ∷ pos 1 ∷ negsuc 0 ∷ []) (negsuc 0) ∷ form (pos 0 ∷ negsuc 0 ∷ pos 1 ∷ []) (pos 1)
-        ∷ form (pos 0 ∷ negsuc 0 ∷ pos 1 ∷ []) (negsuc 0)
-        ∷ form (pos 0 ∷ negsuc 0 ∷ pos 1 ∷ []) (negsuc 0) ∷ []
-      );
+          form (pos 1 ∷ pos 0 ∷ pos 0 ∷ []) (negsuc 0) ∷ form (negsuc 0 ∷ pos 0 ∷ pos 0 ∷ []) (pos 9) ∷ form (pos 1 ∷ pos 0 ∷ pos 0 ∷ []) (negsuc 1)
+          ∷ form (pos 0 ∷ pos 1 ∷ pos 0 ∷ []) (pos 0) ∷ form (pos 1 ∷ negsuc 0 ∷ pos 0 ∷ []) (negsuc 0)
+          ∷ form (pos 0 ∷ pos 0 ∷ pos 1 ∷ []) (pos 0) ∷ form (pos 1 ∷ pos 0 ∷ negsuc 0 ∷ []) (negsuc 0)
+          ∷ form (pos 0 ∷ pos 1 ∷ negsuc 0 ∷ []) (negsuc 0) ∷ form (pos 0 ∷ negsuc 0 ∷ pos 1 ∷ []) (pos 1)
+          ∷ form (pos 0 ∷ negsuc 0 ∷ pos 1 ∷ []) (negsuc 0)
+          ∷ form (pos 0 ∷ negsuc 0 ∷ pos 1 ∷ []) (negsuc 0) ∷ []
+          );
       ranges = (pos 1, pos 9) ∷ (pos 0, pos 8) ∷ (pos 0, pos 8) ∷ [];
     } ∷ []
 
@@ -147,10 +147,10 @@ RowsOfTwoStatements = pair_questions nest shifts last reversed next (access 0 (f
       first = 0;
       second = 1;
       system = over 2 (
-        form (pos 1 ∷ pos 0 ∷ []) (negsuc 0) ∷ form (negsuc 0 ∷ pos 0 ∷ []) (pos 9) ∷ form (pos 1 ∷ pos 0 ∷ []) (negsuc 1)
-        ∷ form (pos 0 ∷ pos 1 ∷ []) (pos 0) ∷ form (pos 1 ∷ negsuc 0 ∷ []) (negsuc 0)
-        ∷ form (negsuc 0 ∷ pos 1 ∷ []) (pos 1) ∷ form (pos 1 ∷ negsuc 0 ∷ []) (negsuc 0)
-        ∷ form (pos 0 ∷ negsuc 0 ∷ []) (negsuc 0) ∷ []
-      );
+          form (pos 1 ∷ pos 0 ∷ []) (negsuc 0) ∷ form (negsuc 0 ∷ pos 0 ∷ []) (pos 9) ∷ form (pos 1 ∷ pos 0 ∷ []) (negsuc 1)
+          ∷ form (pos 0 ∷ pos 1 ∷ []) (pos 0) ∷ form (pos 1 ∷ negsuc 0 ∷ []) (negsuc 0)
+          ∷ form (negsuc 0 ∷ pos 1 ∷ []) (pos 1) ∷ form (pos 1 ∷ negsuc 0 ∷ []) (negsuc 0)
+          ∷ form (pos 0 ∷ negsuc 0 ∷ []) (negsuc 0) ∷ []
+          );
       ranges = (pos 1, pos 9) ∷ (pos 0, pos 8) ∷ [];
     } ∷ []

@@ -4,6 +4,7 @@
 pub mod examples;
 pub mod laws;
 pub mod legality;
+mod search;
 pub mod systems;
 
 pub use legality::{LegalProof, SchedStop, legal};

@@ -39,9 +39,9 @@ both_domains-requires-clause-first c =
 pub both_domains-requires-clause-second : goal.both_domains-requires-clause-second
 both_domains-requires-clause-second c =
     subst (λ k. All (IsRow k) c.own_rows-own.result.now)
-        ((stands_in c.args.nest.now c.requires.nest c.args.b.now c.requires.second).columns
-        ∙ ap (λ k. k + length c.args.b.now.loops) (ap length (sym c.ranges-2.ensures.ranges)) ∙ ap (λ k. length c.ranges-2.result.now + k) (sym c.len-inner.ensures))
-        c.own_rows-own.ensures.fit
+    ((stands_in c.args.nest.now c.requires.nest c.args.b.now c.requires.second).columns
+    ∙ ap (λ k. k + length c.args.b.now.loops) (ap length (sym c.ranges-2.ensures.ranges)) ∙ ap (λ k. length c.ranges-2.result.now + k) (sym c.len-inner.ensures))
+    c.own_rows-own.ensures.fit
 
 pub both_domains-requires-clause-few : goal.both_domains-requires-clause-few
 both_domains-requires-clause-few c = domain_small c.args.nest.now c.args.a.now c.requires.nest c.requires.first
