@@ -34,7 +34,7 @@ next = access 0 (form (pos 0 ∷ pos 1 ∷ []) (pos 1) ∷ [])
 -- over N from 1 to 9, where N >= 2: for (i = 0; i < N; i++) A[i + 1] = A[i];
 abbrev shifts : Entry
 shifts = record {
-  statement = 0;
+  statement = 1;
   alive = true;
   loops = 0 ∷ [];
   domain = over 2 (
@@ -48,7 +48,7 @@ shifts = record {
 -- A[N] = 7;
 abbrev last : Entry
 last = record {
-  statement = 1;
+  statement = 2;
   alive = true;
   loops = [];
   domain = over 1 (form (pos 1 ∷ []) (negsuc 0) ∷ form (negsuc 0 ∷ []) (pos 9) ∷ form (pos 1 ∷ []) (negsuc 1) ∷ []);
@@ -57,18 +57,18 @@ last = record {
 }
 
 -- the same in a loop that is never entered, and to another array
-abbrev never : Entry
-never = record last { statement = 2; alive = false }
+abbrev never : (statement : ℕ) → Entry
+never statement = record last { statement = statement; alive = false }
 
 abbrev other : Entry
-other = record last { statement = 3; accesses = access 1 (form (pos 1 ∷ []) (pos 0) ∷ []) ∷ [] }
+other = record last { statement = 4; accesses = access 1 (form (pos 1 ∷ []) (pos 0) ∷ []) ∷ [] }
 
 abbrev nest : Nest
 nest = record {
   params = (pos 1, pos 9) ∷ [];
   context = over 1 (form (pos 1 ∷ []) (negsuc 1) ∷ []);
   arrays = [];
-  entries = shifts ∷ last ∷ never ∷ other ∷ [];
+  entries = never 0 ∷ shifts ∷ last ∷ never 3 ∷ other ∷ [];
 }
 
 -- at -i
@@ -98,7 +98,7 @@ at_none =
     }
 
 abbrev reversed : Schedule
-reversed = Time 1 (backwards ∷ at_none ∷ at_none ∷ at_none ∷ [])
+reversed = Time 1 (at_none ∷ backwards ∷ at_none ∷ at_none ∷ at_none ∷ [])
 
 -- ---- Which accesses are asked of
 
@@ -115,7 +115,7 @@ StoresOfOneArray = (may_depend (here, false) (next, false) ≡ false)
 
 -- A[i] before A[i' + 1], A[i] before A[N]; A[i + 1] before A[i'], before A[i' + 1], before A[N]; nothing comes after A[N]
 abbrev pub QuestionsInOrder : Type 0
-QuestionsInOrder = map {B = ℕ × ℕ} (λ q. (q.first, q.second)) (legality_questions nest reversed) ≡ (0, 0) ∷ (0, 1) ∷ (0, 0) ∷ (0, 0) ∷ (0, 1) ∷ []
+QuestionsInOrder = map {B = ℕ × ℕ} (λ q. (q.first, q.second)) (legality_questions nest reversed) ≡ (1, 1) ∷ (1, 2) ∷ (1, 1) ∷ (1, 1) ∷ (1, 2) ∷ []
 
 -- none of the order of the source
 abbrev pub SourceIsLegal : Type 0
@@ -127,8 +127,8 @@ SourceIsLegal = legality_questions nest Source ≡ []
 abbrev pub RowsOfAQuestion : Type 0
 RowsOfAQuestion = pair_questions nest shifts shifts reversed here next
     ≡ record {
-      first = 0;
-      second = 0;
+      first = 1;
+      second = 1;
       system = over 3 (
           form (pos 1 ∷ pos 0 ∷ pos 0 ∷ []) (negsuc 0) ∷ form (negsuc 0 ∷ pos 0 ∷ pos 0 ∷ []) (pos 9) ∷ form (pos 1 ∷ pos 0 ∷ pos 0 ∷ []) (negsuc 1)
           ∷ form (pos 0 ∷ pos 1 ∷ pos 0 ∷ []) (pos 0) ∷ form (pos 1 ∷ negsuc 0 ∷ pos 0 ∷ []) (negsuc 0)
@@ -144,8 +144,8 @@ RowsOfAQuestion = pair_questions nest shifts shifts reversed here next
 abbrev pub RowsOfTwoStatements : Type 0
 RowsOfTwoStatements = pair_questions nest shifts last reversed next (access 0 (form (pos 1 ∷ []) (pos 0) ∷ []))
     ≡ record {
-      first = 0;
-      second = 1;
+      first = 1;
+      second = 2;
       system = over 2 (
           form (pos 1 ∷ pos 0 ∷ []) (negsuc 0) ∷ form (negsuc 0 ∷ pos 0 ∷ []) (pos 9) ∷ form (pos 1 ∷ pos 0 ∷ []) (negsuc 1)
           ∷ form (pos 0 ∷ pos 1 ∷ []) (pos 0) ∷ form (pos 1 ∷ negsuc 0 ∷ []) (negsuc 0)

@@ -36,7 +36,8 @@ pub enum SchedStop {
     Memory,
 }
 
-/// Shows that a schedule is legal, or names a dependence that it turns round.
+/// Shows that a schedule is legal, or names a dependence that it turns round. The search over all questions isn't written
+/// yet: it answers want of memory.
 pub fn legal(
     alloc: Global,
     nest: &Nest,
