@@ -1,8 +1,8 @@
 -- Which questions are asked.
-use Rattle.std.proofs.Common.{◌≡◌, ℕ, Bool, true, false, IsTrue, if◌then◌else◌, List, [], ◌∷◌, map, flat_map, refl, sym, ap, subst, ◌∙◌}
+use Rattle.std.proofs.Common.{◌≡◌, ℕ, Bool, true, false, IsTrue, if◌then◌else◌, List, [], map, flat_map, refl, sym, subst}
 use Rattle.affc_system.specs.Systems.{Rows}
 use Rattle.affc_trace.specs.declared.schedule.Schedule.{Schedule}
-use Rattle.affc_trace.specs.declared.schedule.Schedule.TheVariants.{Source, Time}
+use Rattle.affc_trace.specs.declared.schedule.Schedule.TheVariants.{Time}
 use Rattle.affc_trace.specs.declared.schedule.TimeMap.{TimeMap}
 use Rattle.affc_trace.specs.Law.{IsIn}
 use Rattle.affc_trace.proofs.Members.{in_map, to_map, to_flat_map}
@@ -10,7 +10,7 @@ use Rattle.affc_trace.proofs.Once.{in_flat_map}
 use Rattle.affc_nest.specs.declared.nest.Entry.{Entry}
 use Rattle.affc_nest.specs.declared.nest.Nest.{Nest}
 use Rattle.affc_order.specs.Systems.{source_systems, turned_systems}
-use Rattle.affc_sched.specs.Questions.{Question, Touch, touches, may_depend, pair_rows, question, pair_questions, questions_to, questions_from, legality_questions}
+use Rattle.affc_sched.specs.Questions.{Question, Touch, touches, may_depend, pair_rows, question, pair_questions, questions_to, questions_from}
 
 -- the entries, accesses and systems of a question
 pub record Asked (nest : Nest) (schedule : Schedule) (q : Question) : Type 0 where

@@ -1,6 +1,6 @@
 -- What the questions decide.
-use Rattle.std.proofs.Common.{◌≡◌, ◌≢◌, ℕ, zero, suc, ◌+◌, ◌≤◌, ℤ, Bool, true, false, IsTrue, List, [], ◌∷◌, ◌++◌, length, map, take, drop, refl, sym, ap, subst, ◌∙◌, ◌⊎◌, inl, inr, arith}
-use Rattle.std.specs.Prelude.{slice_get, nat_eq, Some, ◌&&◌, ◌||◌, ◌↔◌}
+use Rattle.std.proofs.Common.{◌≡◌, ℕ, ◌+◌, ◌≤◌, ℤ, Bool, true, false, IsTrue, List, [], ◌∷◌, ◌++◌, length, map, take, drop, refl, sym, ap, subst, ◌∙◌, ◌⊎◌, inl, inr, arith}
+use Rattle.std.specs.Prelude.{slice_get, nat_eq, Some, ◌||◌}
 use Rattle.std.specs.List.{All}
 use Rattle.std.proofs.lemmas.Bool.{eq-eqb, eqb-true}
 use Rattle.std.proofs.lemmas.List.{take-append-drop, length-take-le}
@@ -11,17 +11,16 @@ use Rattle.affc_system.specs.Systems.{Rows, Meets, IsPoint}
 use Rattle.affc_ast.specs.declared.tree.Instance.{Instance}
 use Rattle.affc_ast.specs.declared.tree.Program.{Program}
 use Rattle.affc_ast.specs.Store.{Element}
-use Rattle.affc_ast.specs.Trace.{trace, loads_of, store_of, events}
+use Rattle.affc_ast.specs.Trace.{trace, loads_of, store_of}
 use Rattle.affc_trace.specs.declared.schedule.Schedule.{Schedule}
 use Rattle.affc_trace.specs.declared.schedule.Schedule.TheVariants.{Source, Time}
 use Rattle.affc_trace.specs.declared.schedule.TimeMap.{TimeMap}
-use Rattle.affc_trace.specs.Dataflow.{Legal, Violates}
+use Rattle.affc_trace.specs.Dataflow.{Violates}
 use Rattle.affc_trace.specs.Effects.{effect}
 use Rattle.affc_trace.specs.Law.{IsIn}
 use Rattle.affc_trace.specs.Laws.{IsInContext}
 use Rattle.affc_trace.specs.Orders.{Earlier, Dependent}
 use Rattle.affc_trace.specs.Target.{target, IsScheduleOf}
-use Rattle.affc_trace.proofs.EndedReads.{append_assoc}
 use Rattle.affc_trace.proofs.LastStores.{append_nil}
 use Rattle.affc_trace.proofs.Legality.{earlier_is_in, later_is_in, one_way, either_way}
 use Rattle.affc_trace.proofs.Members.{both_hold, hold_both, either_holds, holds_first, holds_second}
@@ -30,7 +29,6 @@ use Rattle.affc_trace.proofs.Runs.{length_append}
 use Rattle.affc_trace.proofs.Targets.{target_is_reordered}
 use Rattle.affc_domain.specs.Ranges.{number_ranges}
 use Rattle.affc_domain.proofs.RangeLemmas.{box_length, in_ranges}
-use Rattle.affc_nest.specs.Asked.{IsSubscript}
 use Rattle.affc_nest.specs.declared.nest.Access.{Access}
 use Rattle.affc_nest.specs.declared.nest.Entry.{Entry}
 use Rattle.affc_nest.specs.declared.nest.Nest.{Nest}
@@ -41,13 +39,12 @@ use Rattle.affc_nest.proofs.AccessLemmas.{accesses_are_events}
 use Rattle.affc_nest.proofs.EntryLemmas.{entries_stand, points_are_instances, none_where_not_alive, ranges_hold_iterators}
 use Rattle.affc_nest.proofs.QuestionLemmas.{place_of, stands_in, as_many}
 use Rattle.affc_nest.proofs.QuestionProofs.{sub_side, nests_are_asked}
-use Rattle.affc_order.specs.Laws.{IsPointOfOne}
 use Rattle.affc_order.specs.Systems.{loops_or_none, loops_of, pair_columns, source_systems, turned_systems, first_posed, second_posed}
 use Rattle.affc_order.proofs.ColumnLemmas.{no_columns, more_columns}
 use Rattle.affc_order.proofs.LexLemmas.{both_met, met_both}
 use Rattle.affc_order.proofs.OrderLemmas.{entry_of_instance, as_many_loops, pair_width, order_columns, systems_are_the_orders}
-use Rattle.affc_sched.specs.Laws.{parameters_at, first_at, second_at, PointsViolate, Answers, ViolationsArePoints, NoneHasAPoint, QuestionsDecide, PointsAreBoxed}
-use Rattle.affc_sched.specs.Questions.{Question, Touch, touches, may_depend, equal_rows, context_count, of_first, of_second, pair_domain, pair_rows, question, legality_questions}
+use Rattle.affc_sched.specs.Laws.{parameters_at, first_at, second_at, PointsViolate, Answers, ViolationsArePoints, QuestionsDecide, PointsAreBoxed}
+use Rattle.affc_sched.specs.Questions.{Question, Touch, touches, may_depend, equal_rows, context_count, of_first, of_second, pair_domain, pair_rows, question}
 use Rattle.affc_sched.proofs.AskedLemmas.{Asked, asked, is_asked}
 use Rattle.affc_sched.proofs.PointLemmas.{spread_met, met_spread, spread_values, all_spread, length_map, equal_values, values_equal}
 use Rattle.affc_sched.proofs.TouchLemmas.{touch_in, touched, stored, touching, storing}

@@ -13,7 +13,6 @@ use Rattle.affc_ast.specs.declared.tree.Rel.TheVariants.{Less, Equal}
 use Rattle.affc_ast.specs.Meaning.{arrays_of}
 use Rattle.affc_trace.specs.declared.schedule.Schedule.{Schedule}
 use Rattle.affc_trace.specs.declared.schedule.Schedule.TheVariants.{Source, Time}
-use Rattle.affc_trace.specs.declared.schedule.TimeMap.{TimeMap}
 use Rattle.affc_trace.specs.Law.{IsIn}
 use Rattle.affc_trace.specs.Target.{maps_within, within_limits}
 use Rattle.affc_trace.proofs.LastStores.{map_append}
@@ -25,13 +24,13 @@ use Rattle.affc_domain.specs.Plain.{all_plain, plain_decls}
 use Rattle.affc_domain.specs.Ranges.{number_ranges}
 use Rattle.affc_domain.proofs.Lists.{both_true, length_map}
 use Rattle.affc_domain.proofs.OrderLemmas.{shared_left}
-use Rattle.affc_nest.specs.Asked.{IsNest, IsSubscript}
+use Rattle.affc_nest.specs.Asked.{IsNest}
 use Rattle.affc_nest.specs.Domains.{compare_rows, with_rows}
 use Rattle.affc_nest.specs.Sides.{IsSide}
 use Rattle.affc_nest.specs.declared.nest.Access.{Access}
 use Rattle.affc_nest.specs.declared.nest.Entry.{Entry}
 use Rattle.affc_nest.specs.declared.nest.Nest.{Nest}
-use Rattle.affc_nest.specs.Laws.{HasNest, IsEntry}
+use Rattle.affc_nest.specs.Laws.{HasNest}
 use Rattle.affc_nest.specs.Nests.{declared_arrays, array_of, nest_of}
 use Rattle.affc_nest.specs.Questions.{extents_or_none, extents_of_access}
 use Rattle.affc_nest.proofs.AccessLemmas.{plain_append}

@@ -1,5 +1,5 @@
 -- Which element an access touches, and whether it stores it.
-use Rattle.std.proofs.Common.{◌≡◌, ℕ, Bool, true, false, true≢false, List, [], ◌∷◌, ◌++◌, map, refl, sym, ap, subst, ◌∙◌, ◌⊎◌, inl, inr}
+use Rattle.std.proofs.Common.{◌≡◌, Bool, true, true≢false, List, [], ◌∷◌, ◌++◌, map, refl, sym, ap, subst, ◌∙◌, ◌⊎◌, inl, inr}
 use Rattle.affc_trace.specs.Law.{IsIn}
 use Rattle.affc_trace.proofs.LastStores.{map_append}
 use Rattle.affc_trace.proofs.Members.{in_map, to_map, to_first, to_second}

@@ -1,19 +1,19 @@
 -- The questions on a small nest. Each row was found by hand from the rules.
-use Rattle.std.specs.Prelude.{◌≡◌, ℕ, ℤ, pos, negsuc, Bool, true, false, List, [], ◌∷◌, length, map, refl}
+use Rattle.std.specs.Prelude.{◌≡◌, ℕ, ℤ, pos, negsuc, true, false, List, [], ◌∷◌, length, map, refl}
 use Rattle.std.proofs.Common.{lit≤}
 use Rattle.std.proofs.lemmas.List.Elements.{All-nil, All-cons}
 use Rattle.std.proofs.lemmas.Option.{none-some}
-use Rattle.affc_rows.specs.Forms.{Affine, columns_of}
+use Rattle.affc_rows.specs.Forms.{Affine}
 use Rattle.affc_system.specs.Systems.{Rows}
 use Rattle.affc_trace.specs.declared.schedule.Schedule.{Schedule}
 use Rattle.affc_trace.specs.declared.schedule.Schedule.TheVariants.{Source, Time}
 use Rattle.affc_trace.specs.declared.schedule.TimeMap.{TimeMap}
 use Rattle.affc_trace.specs.Examples.{undone, two_columns}
-use Rattle.affc_trace.specs.Inverses.{column, GivesColumn}
+use Rattle.affc_trace.specs.Inverses.{column}
 use Rattle.affc_nest.specs.declared.nest.Access.{Access}
 use Rattle.affc_nest.specs.declared.nest.Entry.{Entry}
 use Rattle.affc_nest.specs.declared.nest.Nest.{Nest}
-use Rattle.affc_sched.specs.Questions.{Question, touches, may_depend, pair_questions, legality_questions}
+use Rattle.affc_sched.specs.Questions.{touches, may_depend, pair_questions, legality_questions}
 
 abbrev form : List ℤ → ℤ → Affine
 form cs k = record { coefs = cs; constant = k }

@@ -1,4 +1,4 @@
-use Rattle.std.proofs.Common.{◌≡◌, arith, length, ap, ◌∙◌}
+use Rattle.std.proofs.Common.{arith, length, ap, ◌∙◌}
 use Rattle.affc_system.specs.Systems.{Rows}
 use Rattle.affc_order.specs.Spread.{spread}
 use Rattle.affc_sched.proofs.SystemLemmas.{equal_kept, equal_room, side_first, side_second}
