@@ -1,9 +1,9 @@
 #!/bin/sh
 # Writes the sources, data and outputs of this folder, and what is compiled of each source, as the texts that the tests
-# of affc_tests run.
+# of affc_command_tests run.
 # With `--check` it only says whether those are up to date.
 cd "$(dirname "$0")" || exit 1
-table=../crates/affc_tests/src/cli/kernels.rt
+table=../crates/affc_command_tests/src/commands/kernels.rt
 
 # the file as a string literal
 literal() {

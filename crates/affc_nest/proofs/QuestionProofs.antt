@@ -127,7 +127,7 @@ condition_count names (Test conds ∷ rs) =
     omega arith
 
 domain_count : (ps : List (ℤ × ℤ)) (context : List Compare) (boxes : List (ℤ × ℤ)) (rs : List Round) → length ps ≤ 4 → length context ≤ 16 → loops_in rs ≤ 6 → comparisons_in rs ≤ 32
-    → length (domain_rows ps context boxes rs) < 1024
+    → length (domain_rows ps context boxes rs) ≤ 134
 domain_count ps context boxes rs few conds loops comparisons =
     let m = length ps in
     let n = loops_in rs in
@@ -141,7 +141,7 @@ domain_count ps context boxes rs few conds loops comparisons =
     omega arith
 
 rows_count : (ps : List (ℤ × ℤ)) (context : List Compare) (inside : Ranges) (rs : List Round) → length ps ≤ 4 → length context ≤ 16 → loops_in rs ≤ 6 → comparisons_in rs ≤ 32
-    → length (domain_by ps context inside rs).rows < 1024
+    → length (domain_by ps context inside rs).rows ≤ 134
 rows_count ps context (Within boxes) rs few conds loops comparisons = domain_count ps context boxes rs few conds loops comparisons
 rows_count ps context Never rs few conds loops comparisons = omega arith
 rows_count ps context (Wide n) rs few conds loops comparisons = domain_count ps context [] rs few conds loops comparisons
@@ -177,12 +177,16 @@ extent_side_wide nest e f n i x =
     let s : IsSide m f = subst (λ k. IsSide k f) (ap (λ (y : Nest). y.context.columns) n.is) (extent_side nest f n x) in
     subst (λ k. IsSide k (widened (length e.loops) f)) (sym (columns_are n.program o.statement e o.site ∙ ap (λ k. m + k) (sym (loops_are n.program o.statement e o.site)))) (widened_side m (length e.loops) f s)
 
-pub domain_few : (nest : Nest) (e : Entry) → IsNest nest → IsIn e nest.entries → length e.domain.rows < 1024
-domain_few nest e n i =
+-- a domain has at most so many rows
+pub domain_small : (nest : Nest) (e : Entry) → IsNest nest → IsIn e nest.entries → length e.domain.rows ≤ 134
+domain_small nest e n i =
     let o = entry_in nest n e i in
     let ps = number_ranges n.program.params in
-    subst (λ (y : Entry). length y.domain.rows < 1024) (sym o.site.is)
+    subst (λ (y : Entry). length y.domain.rows ≤ 134) (sym o.site.is)
     (rows_count ps n.program.context (ranges_of ps o.site.its_rounds) o.site.its_rounds n.has.plain.few_numbers n.has.plain.few_conditions o.plain.few_loops o.plain.few_comparisons)
+
+pub domain_few : (nest : Nest) (e : Entry) → IsNest nest → IsIn e nest.entries → length e.domain.rows < 1024
+domain_few nest e n i = let h = domain_small nest e n i in omega arith
 
 pub few_numbered : (nest : Nest) (e : Entry) → IsNest nest → IsIn e nest.entries → length e.loops ≤ 6
 few_numbered nest e n i =

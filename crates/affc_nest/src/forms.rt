@@ -72,7 +72,7 @@ fn set_one(coefs: &mut SmallVec<i128, 16, Global>, columns: u32, x: u32)
 }
 
 /// The form of a column.
-pub(crate) fn column(alloc: Global, columns: u32, x: u32) -> Result<Form, AllocError>
+pub fn column(alloc: Global, columns: u32, x: u32) -> Result<Form, AllocError>
     ensures value { IfOk result (λ f. f ≡ column_form columns x) }
     ensures width { IfOk result (λ f. length f.coefs ≡ columns) }
 {

@@ -7,13 +7,13 @@ mod domains;
 mod entries;
 pub mod examples;
 mod extraction;
-mod forms;
+pub mod forms;
 mod frames;
 pub mod laws;
 pub mod nest;
 pub mod questions;
 mod ranges;
-mod rows;
+pub mod rows;
 mod sites;
 
 pub use extraction::extract;

@@ -18,7 +18,7 @@ use affc_system::{BoxOf, System};
 use std::alloc::{AllocError, Global};
 
 /// Adds copies of rows.
-fn add_rows(system: &mut System, rows: &[Form]) -> Result<(), AllocError>
+pub fn add_rows(system: &mut System, rows: &[Form]) -> Result<(), AllocError>
     requires fit { All (IsRow system.old.columns) rows.now }
     requires room { length system.old.rows + length rows.now < 1024 }
     ensures { OnOk result (system.new ≡ with_rows system.old rows.now) }

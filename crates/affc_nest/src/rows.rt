@@ -38,7 +38,7 @@ fn gap(alloc: Global, columns: u32, a: &Form, b: &Form, k: u32) -> Result<Form, 
 }
 
 /// Adds a row that keeps the limits, where there is room.
-pub(crate) fn add_row(system: &mut System, row: Form) -> Result<(), AllocError>
+pub fn add_row(system: &mut System, row: Form) -> Result<(), AllocError>
     requires fits { FitsRow row }
     requires width { length row.coefs ≡ system.old.columns }
     requires room { length system.old.rows < 1024 }
@@ -71,7 +71,7 @@ pub(crate) fn add_gap(
 }
 
 /// Adds the rows of a comparison.
-pub(crate) fn add_compare(
+pub fn add_compare(
     alloc: Global,
     system: &mut System,
     rel: Rel,

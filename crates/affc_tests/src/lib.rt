@@ -7,8 +7,6 @@
 #[cfg(test)]
 mod ast;
 #[cfg(test)]
-mod cli;
-#[cfg(test)]
 mod cprint;
 #[cfg(test)]
 mod interp;
@@ -20,6 +18,8 @@ mod lex;
 mod limits;
 #[cfg(test)]
 mod names;
+#[cfg(test)]
+mod nest;
 #[cfg(test)]
 mod parse;
 #[cfg(test)]

@@ -1,0 +1,7 @@
+pub mod Posed
+pub mod Spread
+pub mod Systems
+pub mod Asked
+pub mod Placed
+pub mod Laws
+pub mod Examples

@@ -1,0 +1,100 @@
+//! Forms at the columns of a question.
+ghost use Rattle.std.specs.Prelude.{◌≡◌, ◌+◌, ◌-◌, ◌≤◌, ◌<◌, ◌++◌, pos, length, replicate, map, IfOk, OnOk};
+ghost use Rattle.std.specs.List.{All};
+ghost use Rattle.affc_trace.specs.Inverses.{columns_from};
+ghost use Rattle.affc_nest.specs.Sides.{IsSide};
+ghost use Rattle.affc_order.specs.Spread.{spread};
+
+use affc_nest::forms::column;
+use affc_rows::Form;
+use smallvec::SmallVec;
+use std::alloc::{AllocError, Global};
+
+/// So many columns from one on, each as a form.
+#[tactic(auto, using(crate::proofs::CodeLemmas::one_column_more))]
+pub(crate) fn columns_from(
+    alloc: Global,
+    columns: u32,
+    first: u32,
+    n: u32,
+) -> Result<Vec<Form>, AllocError>
+    requires { first + n ≤ 128 }
+    ensures value { IfOk result (λ v. v.items ≡ columns_from columns first n) }
+    ensures long { IfOk result (λ v. length v.items ≡ n) }
+    ensures sides { IfOk result (λ v. All (IsSide columns) v.items) }
+{
+    let mut made = Vec::new(alloc);
+    for i in 0..n {
+        let form = column(alloc, columns, first + i)?;
+        made.push(form)?;
+    }
+    Ok(made)
+}
+
+/// Adds so many zeros.
+fn add_zeros(coefs: &mut SmallVec<i128, 16, Global>, n: u32) -> Result<(), AllocError>
+    ensures { OnOk result (coefs.new.items ≡ coefs.old.items ++ replicate n (pos 0)) }
+{
+    for _i in 0..n {
+        coefs.push(0)?;
+    }
+    Ok(())
+}
+
+/// Adds numbers.
+fn add_all(coefs: &mut SmallVec<i128, 16, Global>, more: &[i128]) -> Result<(), AllocError>
+    ensures { OnOk result (coefs.new.items ≡ coefs.old.items ++ more.now) }
+{
+    match more {
+        [] => Ok(()),
+        [c, rest @ ..] => {
+            coefs.push(*c)?;
+            add_all(coefs, rest)
+        }
+    }
+}
+
+/// The form with so many columns more between its parameters and its iterators, and so many behind.
+pub fn spread(
+    alloc: Global,
+    form: &Form,
+    params: u32,
+    between: u32,
+    behind: u32,
+) -> Result<Form, AllocError>
+    requires { params ≤ length form.now.coefs }
+    ensures { IfOk result (λ f. f ≡ spread params between behind form.now) }
+{
+    let (front, back) = form.coefs.as_slice().split_at(params as usize);
+    let mut coefs = SmallVec::new(alloc);
+    add_all(&mut coefs, front)?;
+    add_zeros(&mut coefs, between)?;
+    add_all(&mut coefs, back)?;
+    add_zeros(&mut coefs, behind)?;
+    Ok(Form {
+        coefs,
+        constant: form.constant,
+    })
+}
+
+/// Adds forms, each spread.
+pub fn add_spread(
+    alloc: Global,
+    forms: &[Form],
+    params: u32,
+    between: u32,
+    behind: u32,
+    out: &mut Vec<Form>,
+) -> Result<(), AllocError>
+    requires { All (λ f. params ≤ length f.coefs) forms.now }
+    ensures { OnOk result (out.new.items ≡ out.old.items ++ map (spread params between behind) forms.now) }
+{
+    match forms {
+        [] => Ok(()),
+        [form, rest @ ..] => {
+            let made = spread(alloc, form, params, between, behind)?;
+            out.push(made)?;
+            add_spread(alloc, rest, params, between, behind, out)
+        }
+    }
+}

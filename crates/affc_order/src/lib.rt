@@ -1,0 +1,11 @@
+//! Orders of a program's instances as integer systems: which of two is earlier in the source, and which in the target of a
+//! schedule.
+#![tactic(auto)]
+
+pub mod columns;
+pub mod examples;
+pub mod laws;
+mod lex;
+pub mod order;
+
+pub use order::{source_before, target_after, target_before};

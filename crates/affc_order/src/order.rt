@@ -1,0 +1,221 @@
+//! Which of two instances is earlier, as systems over the parameters, the iterators of an instance of one statement and
+//! those of an instance of another.
+ghost use Rattle.std.specs.Prelude.{◌≡◌, ◌+◌, ◌-◌, ◌<◌, ◌≤◌, length, IfOk};
+ghost use Rattle.affc_trace.specs.Inverses.{columns_from};
+ghost use Rattle.affc_domain.specs.Loops.{shared};
+ghost use Rattle.affc_nest.specs.Asked.{IsNest};
+ghost use Rattle.affc_order.specs.Asked.{IsScheduled};
+ghost use Rattle.affc_order.specs.Placed.{posed, HasColumns, HasMap};
+ghost use Rattle.affc_order.specs.Systems.{loops_of, source_order, time_forms, target_order, pair_columns, source_systems, target_systems, turned_systems};
+
+use crate::columns::{add_spread, columns_from};
+use crate::lex::lex_systems;
+use affc_nest::Nest;
+use affc_rows::Form;
+use affc_system::System;
+use affc_trace::schedule::{Schedule, TimeMap};
+use std::alloc::{AllocError, Global};
+
+/// An instance of a statement whose iterators are the columns from one on.
+#[derive(Clone, Copy)]
+pub(crate) struct Placed {
+    pub statement: u32,
+    pub column: u32,
+}
+
+/// How many numbers two lists have in common at their beginnings.
+fn shared(ls: &[u32], ms: &[u32]) -> usize
+    ensures value { result ≡ shared ls.now ms.now }
+    ensures first { result ≤ length ls.now }
+    ensures second { result ≤ length ms.now }
+{
+    for (i, l) in ls.iter().enumerate() {
+        if i >= ms.len() || ms[i] != *l {
+            return i;
+        }
+    }
+    ls.len()
+}
+
+/// The numbers of the loops round a statement.
+fn loops(nest: &Nest, statement: u32) -> &[u32]
+    requires { statement < length nest.now.entries }
+    ensures { result.now ≡ loops_of nest.now statement }
+{
+    nest.entries.as_slice()[statement as usize].loops.as_slice()
+}
+
+/// The systems of the order of the text.
+fn source_order(
+    alloc: Global,
+    nest: &Nest,
+    columns: u32,
+    a: Placed,
+    b: Placed,
+) -> Result<Vec<System>, AllocError>
+    requires nest { IsNest nest.now }
+    requires columns { columns ≤ 128 }
+    requires first { HasColumns nest.now columns a }
+    requires second { HasColumns nest.now columns b }
+    ensures { IfOk result (λ v. v.items ≡ source_order nest.now columns (posed nest.now columns a) (posed nest.now columns b)) }
+{
+    let ls = loops(nest, a.statement);
+    let ms = loops(nest, b.statement);
+    let fs = columns_from(alloc, columns, a.column, ls.len() as u32)?;
+    let gs = columns_from(alloc, columns, b.column, ms.len() as u32)?;
+    lex_systems(
+        alloc,
+        columns,
+        shared(ls, ms),
+        fs.as_slice(),
+        gs.as_slice(),
+        a.statement < b.statement,
+    )
+}
+
+/// The components of an instance's time, at its columns.
+fn time_forms(
+    alloc: Global,
+    nest: &Nest,
+    maps: &[TimeMap],
+    columns: u32,
+    a: Placed,
+) -> Result<Vec<Form>, AllocError>
+    requires few { columns ≤ 128 }
+    requires params { length nest.now.params ≤ 4 }
+    requires placed { HasColumns nest.now columns a }
+    requires timed { HasMap nest.now maps.now a.statement }
+    ensures { IfOk result (λ v. v.items ≡ time_forms maps.now (length nest.now.params) columns (posed nest.now columns a)) }
+{
+    let params = nest.params.ranges().len() as u32;
+    let loops = loops(nest, a.statement).len() as u32;
+    let map = &maps[a.statement as usize];
+    let mut forms = Vec::new(alloc);
+    add_spread(
+        alloc,
+        map.forms.as_slice(),
+        params,
+        a.column - params,
+        columns - a.column - loops,
+        &mut forms,
+    )?;
+    Ok(forms)
+}
+
+/// The systems of the order of a schedule.
+fn target_order(
+    alloc: Global,
+    nest: &Nest,
+    schedule: &Schedule,
+    columns: u32,
+    a: Placed,
+    b: Placed,
+) -> Result<Vec<System>, AllocError>
+    requires asked { IsScheduled nest.now schedule.now }
+    requires columns { columns ≤ 128 }
+    requires first { HasColumns nest.now columns a }
+    requires second { HasColumns nest.now columns b }
+    ensures { IfOk result (λ v. v.items ≡ target_order nest.now schedule.now columns (posed nest.now columns a) (posed nest.now columns b)) }
+{
+    match schedule {
+        Schedule::Source => source_order(alloc, nest, columns, a, b),
+        Schedule::Time { length, maps } => {
+            let maps = maps.as_slice();
+            let fs = time_forms(alloc, nest, maps, columns, a)?;
+            let gs = time_forms(alloc, nest, maps, columns, b)?;
+            lex_systems(
+                alloc,
+                columns,
+                *length as usize,
+                fs.as_slice(),
+                gs.as_slice(),
+                a.statement < b.statement,
+            )
+        }
+    }
+}
+
+/// Two statements at the columns of their question.
+#[derive(Clone, Copy)]
+struct Pair {
+    columns: u32,
+    first: Placed,
+    second: Placed,
+}
+
+/// The parameters, the iterators of an instance of the first statement, and those of an instance of the second.
+fn pair_of(nest: &Nest, first: u32, second: u32) -> Pair
+    requires nest { IsNest nest.now }
+    requires first { first < length nest.now.entries }
+    requires second { second < length nest.now.entries }
+    ensures columns { result.columns ≡ pair_columns nest.now first second }
+    ensures few { result.columns ≤ 128 }
+    ensures first { result.first ≡ record { statement = first; column = length nest.now.params } }
+    ensures second { result.second ≡ record { statement = second; column = length nest.now.params + length (loops_of nest.now first) } }
+{
+    let params = nest.params.ranges().len() as u32;
+    let outer = loops(nest, first).len() as u32;
+    let inner = loops(nest, second).len() as u32;
+    Pair {
+        columns: params + outer + inner,
+        first: Placed {
+            statement: first,
+            column: params,
+        },
+        second: Placed {
+            statement: second,
+            column: params + outer,
+        },
+    }
+}
+
+/// The systems that say that in the source an instance of the first statement is earlier than one of the second.
+pub fn source_before(
+    alloc: Global,
+    nest: &Nest,
+    first: u32,
+    second: u32,
+) -> Result<Vec<System>, AllocError>
+    requires nest { IsNest nest.now }
+    requires first { first < length nest.now.entries }
+    requires second { second < length nest.now.entries }
+    ensures { IfOk result (λ v. v.items ≡ source_systems nest.now first second) }
+{
+    let pair = pair_of(nest, first, second);
+    source_order(alloc, nest, pair.columns, pair.first, pair.second)
+}
+
+/// The systems that say that in the target an instance of the first statement is earlier than one of the second.
+pub fn target_before(
+    alloc: Global,
+    nest: &Nest,
+    schedule: &Schedule,
+    first: u32,
+    second: u32,
+) -> Result<Vec<System>, AllocError>
+    requires asked { IsScheduled nest.now schedule.now }
+    requires first { first < length nest.now.entries }
+    requires second { second < length nest.now.entries }
+    ensures { IfOk result (λ v. v.items ≡ target_systems nest.now first second schedule.now) }
+{
+    let pair = pair_of(nest, first, second);
+    target_order(alloc, nest, schedule, pair.columns, pair.first, pair.second)
+}
+
+/// The systems that say that in the target an instance of the second statement is earlier than one of the first, over
+/// the same columns.
+pub fn target_after(
+    alloc: Global,
+    nest: &Nest,
+    schedule: &Schedule,
+    first: u32,
+    second: u32,
+) -> Result<Vec<System>, AllocError>
+    requires asked { IsScheduled nest.now schedule.now }
+    requires first { first < length nest.now.entries }
+    requires second { second < length nest.now.entries }
+    ensures { IfOk result (λ v. v.items ≡ turned_systems nest.now first second schedule.now) }
+{
+    let pair = pair_of(nest, first, second);
+    target_order(alloc, nest, schedule, pair.columns, pair.second, pair.first)
+}
