@@ -103,7 +103,11 @@ fn counts_are_reached_and_passed(rt: HostRuntime) -> Result<(), Fail> {
             ],
             "affc: source at 9198: limit items\n",
         ),
-        (32760, [INPUT, "{}", "", "", "}"], READS),
+        (
+            32758,
+            [INPUT, "{}", "", "", "x = 1ULL; }"],
+            "affc: source at 65567: name unknown\n",
+        ),
         (
             32761,
             [BODY, "{}", "", "", "}"],
