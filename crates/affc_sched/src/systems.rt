@@ -1,0 +1,209 @@
+//! Questions as systems.
+ghost use Rattle.std.specs.Prelude.{◌≡◌, ◌+◌, ◌*◌, ◌<◌, ◌≤◌, ◌++◌, drop, length, map, flat_map, IsTrue, IfOk, OnOk};
+ghost use Rattle.std.specs.List.{All};
+ghost use Rattle.affc_system.specs.Systems.{IsRow};
+ghost use Rattle.affc_trace.specs.Law.{IsIn};
+ghost use Rattle.affc_nest.specs.Asked.{IsNest};
+ghost use Rattle.affc_nest.specs.Domains.{with_rows};
+ghost use Rattle.affc_nest.specs.Sides.{IsSide};
+ghost use Rattle.affc_order.specs.Spread.{spread};
+ghost use Rattle.affc_order.specs.Systems.{pair_columns};
+ghost use Rattle.affc_sched.specs.Legality.{IsAsked};
+ghost use Rattle.affc_sched.specs.Questions.{equal_rows, context_count, pair_rows, pair_questions};
+ghost use Rattle.affc_sched.specs.Spreadable.{IsSpreadable, IsOrder};
+
+use affc_ast::tree::Rel;
+use affc_nest::questions::add_rows;
+use affc_nest::rows::{add_compare, add_row};
+use affc_nest::{Access, Entry, Nest};
+use affc_order::columns::spread;
+use affc_order::{source_before, target_after};
+use affc_rows::Form;
+use affc_system::System;
+use affc_trace::schedule::Schedule;
+use std::alloc::{AllocError, Global};
+
+/// Adds rows, each with so many columns more between and behind.
+fn add_spread_rows(
+    alloc: Global,
+    system: &mut System,
+    rows: &[Form],
+    params: u32,
+    between: u32,
+    behind: u32,
+) -> Result<(), AllocError>
+    requires fit { All (IsSpreadable params (between + behind) system.old.columns) rows.now }
+    requires room { length system.old.rows + length rows.now < 1024 }
+    ensures { OnOk result (system.new ≡ with_rows system.old (map (spread params between behind) rows.now)) }
+{
+    for i in 0..rows.len() {
+        let made = spread(alloc, &rows[i], params, between, behind)?;
+        add_row(system, made)?;
+    }
+    Ok(())
+}
+
+/// Adds the rows that forms of two statements are equal in turn.
+fn add_equal(
+    alloc: Global,
+    system: &mut System,
+    fs: &[Form],
+    gs: &[Form],
+    params: u32,
+    outer: u32,
+    inner: u32,
+) -> Result<(), AllocError>
+    requires many { length fs.now ≡ length gs.now }
+    requires firsts { All (IsSide (params + outer)) fs.now }
+    requires seconds { All (IsSide (params + inner)) gs.now }
+    requires columns { system.old.columns ≡ (params + outer) + inner }
+    requires room { length system.old.rows + 2 * length fs.now < 1024 }
+    ensures { OnOk result (system.new ≡ with_rows system.old (equal_rows (map (spread params 0 inner) fs.now) (map (spread params outer 0) gs.now))) }
+{
+    for i in 0..fs.len() {
+        let f = spread(alloc, &fs[i], params, 0, inner)?;
+        let g = spread(alloc, &gs[i], params, outer, 0)?;
+        add_compare(alloc, system, Rel::Equal, &f, &g)?;
+    }
+    Ok(())
+}
+
+/// The rows of a domain behind those of the parameters and of the context.
+fn own_rows<'a>(nest: &Nest, entry: &'a Entry) -> &'a [Form]
+    requires nest { IsNest nest.now }
+    requires entry { IsIn entry.now nest.now.entries }
+    requires living { IsTrue entry.now.alive }
+    ensures rows { result.now ≡ drop (context_count nest.now) entry.now.domain.rows }
+    ensures fit { All (IsRow entry.now.domain.columns) result.now }
+    ensures few { length result.now ≤ 134 }
+{
+    let count = 2 * nest.params.ranges().len() + nest.context.rows().len();
+    let (_context, own) = entry.domain.rows().split_at(count);
+    own
+}
+
+/// The domains of an instance of each of two statements, over so many parameters, iterators of the first and iterators of
+/// the second.
+fn both_domains(
+    alloc: Global,
+    domain: &System,
+    own: &[Form],
+    params: u32,
+    outer: u32,
+    inner: u32,
+) -> Result<System, AllocError>
+    requires columns { (params + outer) + inner ≤ 128 }
+    requires first { domain.now.columns ≡ params + outer }
+    requires second { All (IsRow (params + inner)) own.now }
+    requires few { length domain.now.rows ≤ 134 }
+    requires few_own { length own.now ≤ 134 }
+    ensures value { IfOk result (λ s. s ≡ record { columns = (params + outer) + inner; rows = map (spread params 0 inner) domain.now.rows ++ map (spread params outer 0) own.now }) }
+{
+    let mut system = System::new(alloc, params + outer + inner);
+    add_spread_rows(alloc, &mut system, domain.rows(), params, 0, inner)?;
+    add_spread_rows(alloc, &mut system, own, params, outer, 0)?;
+    Ok(system)
+}
+
+/// Adds the system with the rows of each of these behind, after these rows.
+#[tactic(auto, using(crate::proofs::SystemLemmas::added_twice))]
+fn add_later(
+    pair: &System,
+    earlier: &System,
+    later: &[System],
+    out: &mut Vec<System>,
+) -> Result<(), AllocError>
+    requires pair { length pair.now.rows ≤ 900 }
+    requires earlier { IsOrder pair.now.columns earlier.now }
+    requires later { All (IsOrder pair.now.columns) later.now }
+    ensures { OnOk result (out.new.items ≡ out.old.items ++ map (λ u. with_rows pair.now (earlier.now.rows ++ u.rows)) later.now) }
+{
+    match later {
+        [] => Ok(()),
+        [order, rest @ ..] => {
+            let mut system = pair.clone()?;
+            add_rows(&mut system, earlier.rows())?;
+            add_rows(&mut system, order.rows())?;
+            out.push(system)?;
+            add_later(pair, earlier, rest, out)
+        }
+    }
+}
+
+/// Adds the system with the rows of each of these and of each of those behind.
+fn add_orders(
+    pair: &System,
+    earlier: &[System],
+    later: &[System],
+    out: &mut Vec<System>,
+) -> Result<(), AllocError>
+    requires pair { length pair.now.rows ≤ 900 }
+    requires earlier { All (IsOrder pair.now.columns) earlier.now }
+    requires later { All (IsOrder pair.now.columns) later.now }
+    ensures { OnOk result (out.new.items ≡ out.old.items ++ flat_map (λ o. map (λ u. with_rows pair.now (o.rows ++ u.rows)) later.now) earlier.now) }
+{
+    match earlier {
+        [] => Ok(()),
+        [order, rest @ ..] => {
+            add_later(pair, order, later, out)?;
+            add_orders(pair, rest, later, out)
+        }
+    }
+}
+
+/// Both instances, and equal subscripts.
+fn pair_rows(
+    alloc: Global,
+    nest: &Nest,
+    a: &Entry,
+    b: &Entry,
+    x: &Access,
+    y: &Access,
+) -> Result<System, AllocError>
+    requires nest { IsNest nest.now }
+    requires first { IsIn a.now nest.now.entries }
+    requires second { IsIn b.now nest.now.entries }
+    requires living { IsTrue b.now.alive }
+    requires from { IsIn x.now a.now.accesses }
+    requires to { IsIn y.now b.now.accesses }
+    requires many { length x.now.subs ≡ length y.now.subs }
+    requires few { length x.now.subs ≤ 4 }
+    ensures value { IfOk result (λ s. s ≡ record { columns = pair_columns nest.now a.now.statement b.now.statement; rows = pair_rows nest.now a.now b.now x.now y.now }) }
+    ensures few { IfOk result (λ s. length s.rows ≤ 900) }
+{
+    let params = nest.params.ranges().len() as u32;
+    let outer = a.loops.len() as u32;
+    let inner = b.loops.len() as u32;
+    let own = own_rows(nest, b);
+    let mut system = both_domains(alloc, &a.domain, own, params, outer, inner)?;
+    let (xs, ys) = (x.subs.as_slice(), y.subs.as_slice());
+    add_equal(alloc, &mut system, xs, ys, params, outer, inner)?;
+    Ok(system)
+}
+
+/// The systems of the questions of two accesses of one array, in order.
+pub fn pair_systems(
+    alloc: Global,
+    nest: &Nest,
+    schedule: &Schedule,
+    a: &Entry,
+    b: &Entry,
+    x: &Access,
+    y: &Access,
+) -> Result<Vec<System>, AllocError>
+    requires asked { IsAsked nest.now schedule.now }
+    requires first { IsIn a.now nest.now.entries }
+    requires second { IsIn b.now nest.now.entries }
+    requires living { IsTrue b.now.alive }
+    requires from { IsIn x.now a.now.accesses }
+    requires to { IsIn y.now b.now.accesses }
+    requires one_array { x.now.array.0 ≡ y.now.array.0 }
+    ensures { IfOk result (λ v. v.items ≡ map (λ q. q.system) (pair_questions nest.now a.now b.now schedule.now x.now y.now)) }
+{
+    let pair = pair_rows(alloc, nest, a, b, x, y)?;
+    let earlier = source_before(alloc, nest, a.statement, b.statement)?;
+    let later = target_after(alloc, nest, schedule, a.statement, b.statement)?;
+    let mut systems = Vec::new(alloc);
+    add_orders(&pair, earlier.as_slice(), later.as_slice(), &mut systems)?;
+    Ok(systems)
+}
