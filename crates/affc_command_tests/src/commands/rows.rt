@@ -16,7 +16,7 @@ const SPACED_PRINTED: &str =
 
 // The words, what `a.c` holds, the status, and what the output and the error stream get. In a source `{open}` stands for
 // the beginning of a function, and `{prelude}` for the prelude.
-const FOLDS: [(&str, &str, u8, &str, &str); 51] = [
+const FOLDS: [(&str, &str, u8, &str, &str); 38] = [
     // ---- Words
     ("", COPY, 2, "", "affc: words\n"),
     ("fold", COPY, 2, "", "affc: words\n"),
@@ -190,7 +190,10 @@ const FOLDS: [(&str, &str, u8, &str, &str); 51] = [
         "#include <stdint.h>\n#pragma affc param N 1 9\n#pragma affc context 2 * N == 8\nvoid f(int64_t N, uint64_t out[4]) {\n  out[N - 1] ^= out[4 - N];\n}\n",
         "",
     ),
-    // ---- What is wrong whatever the data
+];
+
+// The same, of programs that have something wrong with them whatever the data, and of budgets.
+const CHECKS: [(&str, &str, u8, &str, &str); 13] = [
     (
         "fold a.c",
         "#include <stdint.h>\n#pragma affc param N 1 5\nvoid f(int64_t N, const uint64_t in[4], uint64_t out[N]) {\n  for (int64_t i = 0; i < N; i++)\n    out[i] = in[i];\n}\n",
@@ -509,6 +512,18 @@ fn whole(alloc: Global, source: &str) -> Result<String, AllocError> {
 #[test]
 fn folds_are_served(rt: HostRuntime) -> Result<(), Fail> {
     for (line, source, status, out, told) in FOLDS {
+        let source = whole(rt.alloc(), source)?;
+        let done = plain(rt.alloc(), line, source.as_str(), "")?;
+        assert_eq!(rt; done.status, status, "at {line} of {source}");
+        assert_eq!(rt; done.out.as_slice(), out.as_bytes());
+        assert_eq!(rt; done.err.as_slice(), told.as_bytes());
+    }
+    Ok(())
+}
+
+#[test]
+fn checks_are_served(rt: HostRuntime) -> Result<(), Fail> {
+    for (line, source, status, out, told) in CHECKS {
         let source = whole(rt.alloc(), source)?;
         let done = plain(rt.alloc(), line, source.as_str(), "")?;
         assert_eq!(rt; done.status, status, "at {line} of {source}");
