@@ -18,6 +18,7 @@ use Rattle.affc_trace.specs.Target.{maps_within, within_limits}
 use Rattle.affc_trace.proofs.LastStores.{map_append}
 use Rattle.affc_trace.proofs.Runs.{length_append}
 use Rattle.affc_trace.proofs.Targets.{map_map}
+use Rattle.affc_domain.specs.Arrays.{declared_arrays}
 use Rattle.affc_domain.specs.Loops.{shared}
 use Rattle.affc_domain.specs.Affine.{form_of}
 use Rattle.affc_domain.specs.Plain.{all_plain, plain_decls}
@@ -31,7 +32,7 @@ use Rattle.affc_nest.specs.declared.nest.Access.{Access}
 use Rattle.affc_nest.specs.declared.nest.Entry.{Entry}
 use Rattle.affc_nest.specs.declared.nest.Nest.{Nest}
 use Rattle.affc_nest.specs.Laws.{HasNest}
-use Rattle.affc_nest.specs.Nests.{declared_arrays, array_of, nest_of}
+use Rattle.affc_nest.specs.Nests.{array_of, nest_of}
 use Rattle.affc_nest.specs.Questions.{extents_or_none, extents_of_access}
 use Rattle.affc_nest.proofs.AccessLemmas.{plain_append}
 use Rattle.affc_nest.proofs.EntryLemmas.{entries_stand}
