@@ -1,13 +1,10 @@
 pub mod Outs
 pub mod ExampleProofs
 pub mod Stores
-pub mod CopyRuns
-pub mod CopyLaw
-pub mod OneTree
+pub mod OwnRuns
 pub mod FitProofs
 pub mod Readings
 pub mod TurnProofs
-pub mod CopyText
 pub mod RuleProofs
 pub mod CounterProofs
 pub mod Steps

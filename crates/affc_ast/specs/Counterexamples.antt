@@ -1,12 +1,11 @@
 -- Programs that don't follow another, don't run as it, or don't compile it, each for one reason.
-use Rattle.std.specs.Prelude.{pos, ◌-ℤ◌, [], ◌∷◌, map, codes, ◌==◌, if◌then◌else◌}
+use Rattle.std.specs.Prelude.{pos, ◌-ℤ◌, [], ◌∷◌, map, ◌==◌, if◌then◌else◌}
 use Rattle.affc_ast.specs.declared.tree.Ix.TheVariants.{Name, Sub}
 use Rattle.affc_ast.specs.declared.tree.Program.{Program}
 use Rattle.affc_ast.specs.declared.tree.Rel.TheVariants.{Less}
 use Rattle.affc_ast.specs.declared.tree.Stmt.TheVariants.{For, Block}
 use Rattle.affc_ast.specs.Compiles.{RunsAs, Compiles}
-use Rattle.affc_ast.specs.CopyLoop.{copy_tree}
-use Rattle.affc_ast.specs.Examples.{lit, always, n, i, input, output, program, assign, copying, backwards, two, through}
+use Rattle.affc_ast.specs.Examples.{lit, always, n, i, input, output, program, assign, copying_up_to, copying, backwards, two, through}
 use Rattle.affc_ast.specs.Follows.{Follows, in_source_order, own_place}
 use Rattle.affc_ast.specs.Store.{Element}
 
@@ -57,14 +56,13 @@ OutputsDiffer =
 abbrev CompilesCopying : Program → Type 0
 CompilesCopying target = Compiles target copying (λ p. in_source_order) (λ p. own_place)
 
--- the copy loop under the name f
+-- the copy loop without its name
 abbrev pub NamesDiffer : Type 0
-NamesDiffer = CompilesCopying (record copying { name = codes "f" }) → ⊥
+NamesDiffer = CompilesCopying (record copying { name = [] }) → ⊥
 
 -- the copy loop for N from 1 to 3
 abbrev pub RangesDiffer : Type 0
-RangesDiffer =
-    CompilesCopying (copy_tree (record { function = []; parameter = []; input = []; output = []; iterator = []; low = 1; high = 3 })) → ⊥
+RangesDiffer = CompilesCopying (copying_up_to 3) → ⊥
 
 -- the copy loop under the context 0 <= 0
 abbrev pub ContextsDiffer : Type 0

@@ -1,5 +1,5 @@
 -- What the definitions give at small programs. Each value was found by hand from the rules.
-use Rattle.std.specs.Prelude.{◌≡◌, ℕ, ℤ, pos, negsuc, true, false, List, [], ◌∷◌, ◌++◌, Some, None, Ok, Err, map, reverse, codes, ◌==◌, if◌then◌else◌}
+use Rattle.std.specs.Prelude.{◌≡◌, ℕ, ℤ, pos, negsuc, true, false, List, [], ◌∷◌, Some, None, Ok, Err, map, reverse, codes, ◌==◌, if◌then◌else◌}
 use Rattle.affc_ast.specs.declared.tree.ArrayId.{ArrayId}
 use Rattle.affc_ast.specs.declared.tree.Compare.{Compare}
 use Rattle.affc_ast.specs.declared.tree.Decl.{Decl}
@@ -16,12 +16,10 @@ use Rattle.affc_ast.specs.declared.tree.Stmt.{Stmt}
 use Rattle.affc_ast.specs.declared.tree.Stmt.TheVariants.{For, If, Assign, Block}
 use Rattle.affc_ast.specs.declared.tree.Val.TheVariants.{Load, Const, Cast, Bin}
 use Rattle.affc_ast.specs.Cause.{Extent, Overflow, OutOfBounds, Unwritten}
-use Rattle.affc_ast.specs.CopyLoop.{CopyLoop, copy_tree}
 use Rattle.affc_ast.specs.Fits.{Fits, within_ranges, meets, outputs}
 use Rattle.affc_ast.specs.Follows.{Follows, in_source_order, own_place}
 use Rattle.affc_ast.specs.Index.{index_value, compares, conditions}
 use Rattle.affc_ast.specs.Meaning.{Ended, Stuck, meaning}
-use Rattle.affc_ast.specs.Reads.{ReadsAsCopy}
 use Rattle.affc_ast.specs.Store.{Element, Store, at}
 use Rattle.affc_ast.specs.Trace.{trace, events}
 use Rattle.affc_ast.specs.Values.{operate, complement, shifted, converted}
@@ -186,8 +184,26 @@ one = (cell 0 0, 7) ∷ (cell 1 0, 1) ∷ []
 
 -- ---- Runs that end
 
+-- #pragma affc param N 1 high
+-- void f(int64_t N, const uint64_t in[N], uint64_t out[N]) {
+--   for (int64_t i = 0; i < N; i++) out[i] = in[i];
+-- }
+abbrev pub copying_up_to : (high : ℕ) → Program
+copying_up_to high = record {
+  name = codes "f";
+  params = Number (codes "N") (pos 1) (pos high)
+      ∷ Array (record { name = codes "in"; role = Input; extents = n ∷ [] })
+      ∷ Array (record { name = codes "out"; role = Output; extents = n ∷ [] })
+      ∷ [];
+  context = [];
+  temps = [];
+  body = For (codes "i") (lit 0) Less n (assign output i input i ∷ []) ∷ [];
+  prelude = false;
+}
+
+-- for N from 1 to 4
 abbrev pub copying : Program
-copying = copy_tree (record { function = []; parameter = []; input = []; output = []; iterator = []; low = 1; high = 4 })
+copying = copying_up_to 4
 
 -- the copy loop ends with out = 7 8 9, after three turns and three assignments
 abbrev pub CopyLoopCopies : Type 0
@@ -412,31 +428,6 @@ ConditionsHaveValues =
 -- 2^63 - 1 + N > 2^63 - 1 at N = 1, in whole numbers without limit
 abbrev pub ContextsHaveNoLimit : Type 0
 ContextsHaveNoLimit = meets (record { rel = Greater; left = Add greatest_int64 n; right = greatest_int64 } ∷ []) (pos 1 ∷ []) ≡ true
-
--- ---- Texts
-
--- #include <stdint.h>
--- #pragma affc param N 1 4096
--- void copy(int64_t N, const uint64_t in[N], uint64_t out[N]) {
---   for (int64_t i = 0; i < N; i++) {
---     out[i] = in[i];
---   }
--- }
-abbrev pub copy_text : List ℕ
-copy_text =
-    codes "#include <stdint.h>\n"
-    ++ codes "#pragma affc param N 1 4096\n"
-    ++ codes "void copy(int64_t N, const uint64_t in[N], uint64_t out[N]) {\n"
-    ++ codes "  for (int64_t i = 0; i < N; i++) {\n"
-    ++ codes "    out[i] = in[i];\n"
-    ++ codes "  }\n"
-    ++ codes "}\n"
-
-abbrev pub copy_named : CopyLoop
-copy_named = record { function = codes "copy"; parameter = codes "N"; input = codes "in"; output = codes "out"; iterator = codes "i"; low = 1; high = 4096 }
-
-abbrev pub CopyTextReads : Type 0
-CopyTextReads = ReadsAsCopy copy_text (copy_tree copy_named)
 
 -- ---- Following
 

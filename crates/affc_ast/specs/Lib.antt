@@ -11,9 +11,8 @@ pub mod Ranks
 pub mod Locals
 pub mod Follows
 pub mod Compiles
-pub mod CopyLoop
 pub mod Names
-pub mod Reads
+pub mod Symbols
 pub mod Examples
 pub mod Rules
 pub mod Counterexamples

@@ -1,5 +1,5 @@
 -- Which names a program may give to things of its own.
-use Rattle.std.specs.Prelude.{ℕ, Bool, true, not, ◌&&◌, ◌||◌, List, [], ◌∷◌, codes}
+use Rattle.std.specs.Prelude.{ℕ, Bool, ◌||◌, List, [], ◌∷◌, codes}
 use Rattle.std.specs.List.{list_any}
 use Rattle.affc_lex.specs.Bytes.{same, begins}
 
@@ -29,7 +29,3 @@ is_reserved name =
     || list_any (λ beginning. begins beginning name) reserved_beginnings
     || ends (codes "_t") name
     || same (codes "main") name
-
-abbrev pub all_different : List (List ℕ) → Bool
-all_different [] = true
-all_different (name ∷ names) = not (list_any (same name) names) && all_different names

@@ -5,7 +5,7 @@ ghost use Rattle.affc_ast.specs.Examples.{QuotientsRound, RemaindersStartAtZero,
 ghost use Rattle.affc_ast.specs.Examples.{CopyLoopCopies, OutputsAreOut, CopyLoopTrace, CopyLoopEvents, CompoundAdds, CompoundSubtracts, ValuesAreReadFromTheLeft, ConditionsChoose, LoopsNest, TwoStatementsTakeTurns, TwoStatementsRun, CompoundLoadsFirst, LocalsSeeThoseBefore};
 ghost use Rattle.affc_ast.specs.Examples.{LoadsStayInside, StoresStayInside, SubscriptsStartAtZero, AccessesAreCounted, StatementsAreCounted, LoadsFindValues, OwnElementComesFirst, ProductsOverflow, ProductsFit, ContextHasNodes, TemporariesHaveNodes, ValuesHaveNodes, BlocksHaveNodes, LocalsHaveNodes, ExtentsAreAtLeastOne, FirstExtentEndsTheReading, ExtentsAreReadInOrder, StepsOverflow};
 ghost use Rattle.affc_ast.specs.Examples.{RangesHoldTheirEnds, SomeDataFit, ConditionsHaveValues, ContextsHaveNoLimit};
-ghost use Rattle.affc_ast.specs.Examples.{CopyTextReads, FollowsInAnotherOrder, FollowsAtOtherPlaces};
+ghost use Rattle.affc_ast.specs.Examples.{FollowsInAnotherOrder, FollowsAtOtherPlaces};
 ghost use Rattle.affc_ast.specs.Rules.{LeftSidesComeFirst, LeftLoadsComeFirst, LowerBoundsComeFirst, LeftSubscriptsComeFirst, SubscriptsComeBeforeValues, ValuesComeBeforeStores, UnwrittenLoadsAreCounted, SubscriptsHaveTheirExtents, LastSubscriptsRunFastest, ValuesAreStored, EachFormHasItsNodes, NodesAreCounted, LocalsAreNoIterators, ConditionsAreLookedInto, FalseContextsAreUnmet, KeywordsAreReserved, AssignmentsAreToArrays, SubscriptsAreAsDimensions};
 ghost use Rattle.affc_ast.specs.Counterexamples.{OrdersDiffer, ValuesDiffer, PlacesDiffer, OwnElementsDiffer, OutputsDiffer, NamesDiffer, RangesDiffer, ContextsDiffer, RunsDiffer};
 
@@ -68,11 +68,6 @@ pub fn data()
     ensures some_data_fit { SomeDataFit }
     ensures conditions_have_values { ConditionsHaveValues }
     ensures contexts_have_no_limit { ContextsHaveNoLimit }
-{}
-
-/// A text that reads as the tree of a copy loop.
-pub fn texts()
-    ensures { CopyTextReads }
 {}
 
 /// Programs that follow another in another order, and at other places.

@@ -5,13 +5,11 @@ ghost use Rattle.std.specs.FinMap.Entries.{is_sorted};
 ghost use Rattle.affc_ast.specs.declared.tree.Ix.{Ix};
 ghost use Rattle.affc_ast.specs.declared.tree.Program.{Program};
 ghost use Rattle.affc_ast.specs.declared.tree.Rel.TheVariants.{Less, LessEqual};
-ghost use Rattle.affc_ast.specs.Compiles.{RunsAs, Compiles};
-ghost use Rattle.affc_ast.specs.CopyLoop.{CopyLoop, copy_tree};
+ghost use Rattle.affc_ast.specs.Compiles.{RunsAs};
 ghost use Rattle.affc_ast.specs.Fits.{whole_of};
 ghost use Rattle.affc_ast.specs.Follows.{elements, in_source_order, own_place};
 ghost use Rattle.affc_ast.specs.Index.{index_value};
 ghost use Rattle.affc_ast.specs.Meaning.{State, Ended, meaning, turns_of};
-ghost use Rattle.affc_ast.specs.Reads.{HasRange, ReadsAsCopyWide};
 ghost use Rattle.affc_ast.specs.Store.{Element, Store, element_cmp, at, with_value};
 ghost use Rattle.affc_ast.specs.Trace.{trace, store_of};
 
@@ -49,15 +47,4 @@ pub fn a_run_is_its_own()
     ensures { (program : Program) (p : List ℤ) (store : Store) (t : State) → meaning program p store ≡ Ended t
         → elements t.written ≡ map (store_of program p) (trace program p)
         → RunsAs program program in_source_order own_place p store }
-{}
-
-/// A loop that copies one array into another compiles itself.
-pub fn copy_loops_compile_themselves()
-    ensures { (copy : CopyLoop) → HasRange copy
-        → Compiles (copy_tree copy) (copy_tree copy) (λ p. in_source_order) (λ p. own_place) }
-{}
-
-/// One text reads as one program at most.
-pub fn a_text_reads_as_one_program()
-    ensures { (text : List ℕ) (a b : Program) → ReadsAsCopyWide text a → ReadsAsCopyWide text b → a ≡ b }
 {}

@@ -1,7 +1,7 @@
 //! Printed texts: each function here is a statement, proved by computation.
 
 ghost use Rattle.std.specs.Prelude.{◌≡◌, ◌++◌, codes};
-ghost use Rattle.affc_ast.specs.CopyLoop.{copy_tree};
+ghost use Rattle.affc_ast.specs.Examples.{copying};
 ghost use Rattle.affc_grammar.specs.Grammar.{text_symbols};
 ghost use Rattle.affc_grammar.specs.Printed.{printed};
 ghost use Rattle.affc_grammar.specs.Verdict.{around, line, with_prelude, program_of, verdict};
@@ -10,7 +10,7 @@ ghost use Rattle.affc_cprint.specs.Layout.{printed_text};
 
 /// Whole texts.
 pub fn layout()
-    ensures copy_loop { printed_text (copy_tree (record { function = codes "f"; parameter = codes "N"; input = codes "in"; output = codes "out"; iterator = codes "i"; low = 1; high = 4 }))
+    ensures copy_loop { printed_text copying
         ≡ codes "#include <stdint.h>\n#pragma affc param N 1 4\nvoid f(int64_t N, const uint64_t in[N], uint64_t out[N]) {\n  for (int64_t i = 0; i < N; i++) {\n    out[i] = in[i];\n  }\n}\n" }
     ensures expressions { printed_text (program_of (verdict (around (codes "uint64_t t [ 3 ] ; if ( N < 2 && ( N - ( N - 1 ) ) >= - ( - N ) ) t [ N - 1 ] += ~ ( in [ 3 * ( - N ) ] + 1ULL ) << 3 ;"))))
         ≡ codes "#include <stdint.h>\n#pragma affc param N 1 4\nvoid f(int64_t N, const uint64_t in[N], uint64_t out[N]) {\n  uint64_t t[3];\n  if (N < 2 && N - (N - 1) >= -(-N)) {\n    t[N - 1] += ~(in[3 * (-N)] + 1ULL) << 3;\n  }\n}\n" }

@@ -1,7 +1,7 @@
 -- What is printed of a program that stays within its arrays compiles the text that it was read from.
 use Rattle.std.proofs.Common.{◌≡◌, ℕ, false, List, [], map, refl, ap, ◌∙◌}
 use Rattle.affc_ast.specs.declared.tree.Program.{Program}
-use Rattle.affc_ast.proofs.CopyLaw.{follows_itself}
+use Rattle.affc_ast.proofs.OwnRuns.{follows_itself}
 use Rattle.affc_ast.specs.Trace.{trace}
 use Rattle.affc_grammar.specs.Reads.{Reads}
 use Rattle.affc_cprint.specs.Layout.{printed_text}

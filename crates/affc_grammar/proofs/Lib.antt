@@ -9,7 +9,6 @@ pub mod CompleteStatements
 pub mod CompleteText
 pub mod Texts
 pub mod Verdicts
-pub mod CopyLoops
 pub mod Named
 pub mod DraftSizes
 pub mod Steps

@@ -3,7 +3,7 @@
 use Rattle.std.specs.Prelude.{◌≡◌, ℕ, suc, Bool, true, false, not, ◌&&◌, ◌||◌, ◌==◌, nat_le, List, [], ◌∷◌, ◌++◌, codes, IsTrue, Option, Some, None, if◌then◌else◌}
 use Rattle.affc_lex.specs.declared.token.Kind.{Kind}
 use Rattle.affc_lex.specs.declared.token.Kind.TheVariants.{Value, Header, Hash, LineEnd, Prelude, Mark}
-pub use Rattle.affc_ast.specs.Reads.{Symbol, symbol, word, number, mark}
+pub use Rattle.affc_ast.specs.Symbols.{Symbol, symbol, word, number, mark}
 use Rattle.affc_lex.specs.Bytes.{same, decimal}
 pub use Rattle.affc_lex.specs.Lexes.{is_word_kind}
 use Rattle.affc_lex.specs.Pieces.{prelude}

@@ -3,7 +3,7 @@
 
 ghost use Rattle.std.specs.Prelude.{◌≡◌, List, ◌∷◌, ◌++◌, [], length, true, false, codes, replicate, flat_map, Some, None, pos};
 ghost use Rattle.affc_lex.specs.declared.token.Kind.TheVariants.{LineEnd};
-ghost use Rattle.affc_ast.specs.CopyLoop.{copy_tree};
+ghost use Rattle.affc_ast.specs.Examples.{copying};
 ghost use Rattle.affc_ast.specs.declared.tree.Ix.TheVariants as ix;
 ghost use Rattle.affc_ast.specs.declared.tree.Val.TheVariants as val;
 ghost use Rattle.affc_ast.specs.declared.tree.Stmt.TheVariants as stmt;
@@ -228,9 +228,9 @@ pub fn trees()
 
 /// Where parentheses are printed, and that what is printed reads as what was printed.
 pub fn printing()
-    ensures well_named { WellNamed (copy_tree (record { function = codes "f"; parameter = codes "N"; input = codes "in"; output = codes "out"; iterator = codes "i"; low = 1; high = 4 })) }
-    ensures spaced_name { WellNamed (copy_tree (record { function = codes "f g"; parameter = codes "N"; input = codes "in"; output = codes "out"; iterator = codes "i"; low = 1; high = 4 })) → ⊥ }
-    ensures copy_loop { verdict (text_symbols (printed (copy_tree (record { function = codes "f"; parameter = codes "N"; input = codes "in"; output = codes "out"; iterator = codes "i"; low = 1; high = 4 })))) ≡ reads (copy_tree (record { function = codes "f"; parameter = codes "N"; input = codes "in"; output = codes "out"; iterator = codes "i"; low = 1; high = 4 })) }
+    ensures well_named { WellNamed copying }
+    ensures spaced_name { WellNamed (record copying { name = codes "f g" }) → ⊥ }
+    ensures copy_loop { verdict (text_symbols (printed copying)) ≡ reads copying }
     ensures sums { reprinted (around (codes "out [ N - ( N - 1 ) ] = in [ N - 1 - 1 ] ;")) ≡ around (codes "out [ N - ( N - 1 ) ] = in [ N - 1 - 1 ] ;") }
     ensures shifts { reprinted (around (codes "out [ 0 ] = ( in [ 0 ] & 1ULL ) << 3 ;")) ≡ around (codes "out [ 0 ] = ( in [ 0 ] & 1ULL ) << 3 ;") }
     ensures shifted_sums { reprinted (around (codes "out [ 0 ] = ( in [ 0 ] + 1ULL ) << 3 ;")) ≡ around (codes "out [ 0 ] = in [ 0 ] + 1ULL << 3 ;") }

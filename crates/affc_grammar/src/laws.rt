@@ -5,7 +5,6 @@ ghost use Rattle.affc_ast.specs.declared.tree.Program.{Program};
 ghost use Rattle.affc_ast.specs.Counted.{IsCounted};
 ghost use Rattle.affc_ast.specs.Locals.{has_no_locals};
 ghost use Rattle.affc_ast.specs.Ranks.{has_right_ranks};
-ghost use Rattle.affc_ast.specs.Reads.{ReadsAsCopy, ReadsAsCopyWide};
 ghost use Rattle.affc_grammar.specs.declared.fault.NameWhy.{NameWhy};
 ghost use Rattle.affc_grammar.specs.declared.fault.LimitName.{LimitName};
 ghost use Rattle.affc_grammar.specs.Grammar.{Symbol, Text, text_symbols, StopsAt};
@@ -72,10 +71,4 @@ pub fn reads_ranked()
 pub fn no_locals_without_the_prelude()
     ensures plain { (text : List ℕ) (program : Program) → Reads text program → program.prelude ≡ false → IsTrue (has_no_locals program) }
     ensures wide { (text : List ℕ) (program : Program) → ReadsWide text program → program.prelude ≡ false → IsTrue (has_no_locals program) }
-{}
-
-/// A text of a copy loop reads as the program as which it reads by the tree's own definition.
-pub fn copy_loops_read()
-    ensures plain { (text : List ℕ) (tree : Program) → ReadsAsCopy text tree → Reads text tree }
-    ensures wide { (text : List ℕ) (tree : Program) → ReadsAsCopyWide text tree → ReadsWide text tree }
 {}

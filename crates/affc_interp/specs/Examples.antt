@@ -9,8 +9,7 @@ use Rattle.affc_ast.specs.declared.tree.Rel.TheVariants.{Less, LessEqual}
 use Rattle.affc_ast.specs.declared.tree.Role.TheVariants.{Input, Output}
 use Rattle.affc_ast.specs.declared.tree.Stmt.{For, Assign}
 use Rattle.affc_ast.specs.declared.tree.Val.{Cast}
-use Rattle.affc_ast.specs.CopyLoop.{copy_tree}
-use Rattle.affc_ast.specs.Examples.{never, copying, copy_named, three}
+use Rattle.affc_ast.specs.Examples.{never, copying, three}
 use Rattle.affc_ast.specs.Meaning.{meaning}
 use Rattle.affc_ast.specs.Store.{Store}
 use Rattle.affc_interp.specs.Budget.{OutOfSteps}
@@ -72,7 +71,7 @@ ValuesStandInOrder = (values_of 1 (three 4 5 6) ≡ 4 ∷ 5 ∷ 6 ∷ []) × (va
 abbrev pub OutputsAreWritten : Type 0
 OutputsAreWritten =
     (output_text rounding (five 0 0 1 7 9) ≡ codes "array out 0 0 1 7 9\n") ×
-    (output_text (copy_tree copy_named) (three 4 5 6) ≡ codes "array out 4 5 6\n")
+    (output_text copying (three 4 5 6) ≡ codes "array out 4 5 6\n")
 
 -- ---- The data's text
 

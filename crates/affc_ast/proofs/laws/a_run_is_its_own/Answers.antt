@@ -1,4 +1,4 @@
-use Rattle.affc_ast.proofs.CopyLaw.{follows_itself}
+use Rattle.affc_ast.proofs.OwnRuns.{follows_itself}
 use Rattle.affc_ast.proofs.laws.a_run_is_its_own.Goals as goal
 
 pub returns : goal.returns

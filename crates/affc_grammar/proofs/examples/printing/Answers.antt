@@ -1,6 +1,6 @@
 -- By computation.
 use Rattle.std.proofs.Common.{refl, codes}
-use Rattle.affc_ast.specs.CopyLoop.{copy_tree}
+use Rattle.affc_ast.specs.Examples.{copying}
 use Rattle.affc_grammar.specs.Printed.{printed}
 use Rattle.std.specs.Fmt.{digits}
 use denote.Hole.Carrier.{hidden}
@@ -15,7 +15,7 @@ use Rattle.affc_grammar.proofs.examples.printing.Goals as goal
 pub returns-clause-well_named : goal.returns-clause-well_named
 unfolding computing shape-the_row-Ix-0 hidden-the_row-Ix-0 shape-the_row-Val-0 hidden-the_row-Val-0 shape-the_row-Stmt-0 hidden-the_row-Stmt-0 hidden digits
 returns-clause-well_named c = record {
-  written = printed (copy_tree (record { function = codes "f"; parameter = codes "N"; input = codes "in"; output = codes "out"; iterator = codes "i"; low = 1; high = 4 }));
+  written = printed copying;
   tokens = refl;
   its_tree = refl;
   its_products = refl;
@@ -24,7 +24,7 @@ returns-clause-well_named c = record {
 }
 
 pub returns-clause-spaced_name : goal.returns-clause-spaced_name
-returns-clause-spaced_name c = λ w. false≢true (name_is_word (copy_tree (record { function = codes "f g"; parameter = codes "N"; input = codes "in"; output = codes "out"; iterator = codes "i"; low = 1; high = 4 })) w)
+returns-clause-spaced_name c = λ w. false≢true (name_is_word (record copying { name = codes "f g" }) w)
 
 pub returns-clause-copy_loop : goal.returns-clause-copy_loop
 unfolding computing shape-the_row-Ix-0 hidden-the_row-Ix-0 shape-the_row-Val-0 hidden-the_row-Val-0 shape-the_row-Stmt-0 hidden-the_row-Stmt-0 hidden digits
