@@ -3,7 +3,7 @@ use Rattle.std.proofs.Common.{◌≡◌, ℕ, zero, suc, ◌+◌, ℤ, List, [],
 use Rattle.std.specs.Prelude.{slice_get}
 use Rattle.affc_ast.specs.Store.{Element}
 use Rattle.affc_interp.specs.declared.memory.Buffer.{Buffer}
-use Rattle.affc_interp.specs.Layout.{size_of, subscripts_of, elements_of, extents_in, cells_in, with_cells, store_of, given_cells, given_to, AreLengths, AreWhole, Held, held_in}
+use Rattle.affc_interp.specs.Layout.{size_of, subscripts_of, elements_of, extents_in, cells_in, with_cells, store_held, given_cells, given_to, AreLengths, AreWhole, Held, held_in}
 use Rattle.affc_interp.proofs.Places.{length_subscripts}
 use Rattle.affc_interp.proofs.Order.{as_many}
 
@@ -64,7 +64,7 @@ whole_push (c ∷ bs) b w l e = (w.0, w.1, whole_push bs b w.2 l e)
 pub whole_added : (bs : List Buffer) (b : Buffer) (vs : List ℕ) → AreWhole bs → AreLengths b.extents.items → b.cells.items ≡ given_cells (size_of b.extents.items) vs → AreWhole (bs ++ b ∷ [])
 whole_added bs b vs w l e = whole_push bs b w l (ap length e ∙ length_given (size_of b.extents.items) vs)
 
-store_push : (bs : List Buffer) (b : Buffer) (vs : List ℕ) → AreWhole bs → b.cells.items ≡ given_cells (size_of b.extents.items) vs → store_of (bs ++ b ∷ []) ≡ store_of bs ++ given_to (length (extents_in bs)) (subscripts_of b.extents.items) vs
+store_push : (bs : List Buffer) (b : Buffer) (vs : List ℕ) → AreWhole bs → b.cells.items ≡ given_cells (size_of b.extents.items) vs → store_held (bs ++ b ∷ []) ≡ store_held bs ++ given_to (length (extents_in bs)) (subscripts_of b.extents.items) vs
 store_push bs b vs w e =
     let ns : List ℤ = b.extents.items in
     let a : ℕ = length (extents_in bs) in
@@ -72,9 +72,9 @@ store_push bs b vs w e =
     ∙ both_stores (elements_of 0 (extents_in bs)) (map (λ xs. (0 + a, xs)) (subscripts_of ns)) (cells_in bs) b.cells.items (as_many 0 bs w)
     ∙ (let z : 0 + a ≡ a = omega arith in
     let cs : b.cells.items ≡ given_cells (length (subscripts_of ns)) vs = e ∙ ap (λ n. given_cells n vs) (sym (length_subscripts ns)) in
-    λ i. store_of bs ++ with_cells (map (λ xs. (z i, xs)) (subscripts_of ns)) (cs i))
-    ∙ ap (λ l. store_of bs ++ l) (given_is a (subscripts_of ns) vs)
+    λ i. store_held bs ++ with_cells (map (λ xs. (z i, xs)) (subscripts_of ns)) (cs i))
+    ∙ ap (λ l. store_held bs ++ l) (given_is a (subscripts_of ns) vs)
 
 pub store_added : (bs : List Buffer) (b : Buffer) (vs : List ℕ) (seen : Held) → held_in bs ≡ seen → AreWhole bs → b.cells.items ≡ given_cells (size_of b.extents.items) vs
-    → store_of (bs ++ b ∷ []) ≡ seen.store ++ given_to (length seen.extents) (subscripts_of b.extents.items) vs
+    → store_held (bs ++ b ∷ []) ≡ seen.store ++ given_to (length seen.extents) (subscripts_of b.extents.items) vs
 store_added bs b vs seen view w e = store_push bs b vs w e ∙ ap (λ h. h.store ++ given_to (length h.extents) (subscripts_of b.extents.items) vs) view

@@ -11,7 +11,7 @@ use Rattle.affc_ast.specs.Meaning.{at_least_zero}
 use Rattle.affc_ast.specs.Store.{Element, element_cmp, at}
 use Rattle.affc_ast.specs.Values.{is_within}
 use Rattle.affc_interp.specs.declared.memory.Buffer.{Buffer}
-use Rattle.affc_interp.specs.Layout.{size_of, behind_each, subscripts_of, elements_of, extents_in, cells_in, store_of, with_cells, AreWhole}
+use Rattle.affc_interp.specs.Layout.{size_of, behind_each, subscripts_of, elements_of, extents_in, cells_in, store_held, with_cells, AreWhole}
 use Rattle.affc_interp.proofs.Cells.{IsBefore, AreInOrder, AreBefore, before_both, in_order_both, in_order_map, find_cell}
 use Rattle.affc_interp.proofs.Places.{row, row_below, subscripts_at, length_subscripts, base, elements_at, cells_at, cell_lists}
 
@@ -105,13 +105,13 @@ element_is a xs extents h e =
     ∙ (let z : 0 + a ≡ a = omega arith in λ i. (z i, subscripts_at xs (get_or extents a []) [] e i))
 
 -- an element of an array holds what its cell holds
-pub held_at : (bs : List Buffer) (a : ℕ) (xs : List ℤ) → AreWhole bs → a < length bs → is_within xs (get_or (extents_in bs) a []) ≡ true → at (store_of bs) (a, xs) ≡ get_or (get_or (cell_lists bs) a []) (row xs (get_or (extents_in bs) a [])) None
+pub held_at : (bs : List Buffer) (a : ℕ) (xs : List ℤ) → AreWhole bs → a < length bs → is_within xs (get_or (extents_in bs) a []) ≡ true → at (store_held bs) (a, xs) ≡ get_or (get_or (cell_lists bs) a []) (row xs (get_or (extents_in bs) a [])) None
 held_at bs a xs w h e =
     let ns : List ℤ = get_or (extents_in bs) a [] in
     let many : a < length (extents_in bs) = omega (arith, length-map bs (λ (b : Buffer). b.extents.items)) in
     let below : row xs ns < size_of ns = row_below xs ns e in
     let k : ℕ = base a (extents_in bs) + row xs ns in
-    ap (λ x. find element_cmp x (store_of bs)) (sym (element_is a xs (extents_in bs) many e))
+    ap (λ x. find element_cmp x (store_held bs)) (sym (element_is a xs (extents_in bs) many e))
     ∙ find_cell (0, []) (elements_of 0 (extents_in bs)) (cells_in bs) k (elements_in_order 0 (extents_in bs)) (as_many 0 bs w) (base_below 0 a (row xs ns) (extents_in bs) many below)
     ∙ cells_at bs a (row xs ns) w h below
 
@@ -141,5 +141,5 @@ find_past a xs (y ∷ ys) (None ∷ cs) h = find_past a xs ys cs h.1
 find_past a xs (y ∷ ys) (Some v ∷ cs) h = ap (λ o. cond (is_eq (ordering_then o (lists xs y.1))) (Some v) (find element_cmp (a, xs) (with_cells ys cs))) (nat_greater a y.0 h.0) ∙ find_past a xs ys cs h.1
 
 -- where there is no such array there are no values
-pub not_held : (bs : List Buffer) (a : ℕ) (xs : List ℤ) → length bs ≤ a → at (store_of bs) (a, xs) ≡ None
+pub not_held : (bs : List Buffer) (a : ℕ) (xs : List ℤ) → length bs ≤ a → at (store_held bs) (a, xs) ≡ None
 not_held bs a xs h = find_past a xs (elements_of 0 (extents_in bs)) (cells_in bs) (arrays_below a 0 (extents_in bs) (omega (arith, length-map bs (λ (b : Buffer). b.extents.items))))

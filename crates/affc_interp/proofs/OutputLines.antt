@@ -14,7 +14,7 @@ use Rattle.affc_ast.specs.Store.{Element, Store}
 use Rattle.affc_ast.specs.declared.tree.Program.{Program}
 use Rattle.affc_interp.specs.declared.memory.Buffer.{Buffer}
 use Rattle.affc_interp.specs.DataText.{spaced, array_line, values_of, output_lines, output_text}
-use Rattle.affc_interp.specs.Layout.{size_of, subscripts_of, elements_of, extents_in, cells_in, with_cells, store_of, AreWhole, Held, held_in}
+use Rattle.affc_interp.specs.Layout.{size_of, subscripts_of, elements_of, extents_in, cells_in, with_cells, store_held, AreWhole, Held, held_in}
 use Rattle.affc_interp.specs.Outputs.{values_held, cells_of, line_held, lines_held}
 use Rattle.affc_interp.proofs.Adds.{nothing_more, both_stores}
 use Rattle.affc_interp.proofs.Places.{length_subscripts}
@@ -148,8 +148,8 @@ text_of_outputs program store =
     same_number : (ds : List Decl) (m j : ℕ) → is_output (slice_get ds j) ≡ true → nat_eq m (0 + j) ≡ true → is_output (slice_get ds m) ≡ true
     same_number ds m j o is = let e : m ≡ j = grind (arith, nat_tests) in subst (λ n. is_output (slice_get ds n) ≡ true) (sym e) o
 
-pub text_held : (program : Program) (bs : List Buffer) → AreWhole bs → output_text program (outputs program (store_of bs)) ≡ lines_held (arrays_of program.params) (cells_of bs)
-text_held program bs w = text_of_outputs program (store_of bs) ∙ lines_same 0 (arrays_of program.params) (store_of bs) (cells_of bs) (λ j. held_from 0 j bs w)
+pub text_held : (program : Program) (bs : List Buffer) → AreWhole bs → output_text program (outputs program (store_held bs)) ≡ lines_held (arrays_of program.params) (cells_of bs)
+text_held program bs w = text_of_outputs program (store_held bs) ∙ lines_same 0 (arrays_of program.params) (store_held bs) (cells_of bs) (λ j. held_from 0 j bs w)
 
 -- ---- Written from cell to cell
 

@@ -11,7 +11,7 @@ use Rattle.affc_ast.specs.Index.{index_values, nodes_of_ix}
 use Rattle.affc_ast.specs.Meaning.{assigned, own_value, own_loads, combined}
 use Rattle.affc_ast.specs.Store.{Element}
 use Rattle.affc_ast.specs.Values.{value_of, touch}
-use Rattle.affc_interp.specs.Layout.{Held, place_of}
+use Rattle.affc_interp.specs.Layout.{Held, offset_of}
 use Rattle.affc_interp.specs.Seen.{read_then, scope_at, sight_at}
 
 abbrev pub chain : Result (List ℤ) Cause → (List ℤ → Result ℕ Cause) → Result ℕ Cause → (List ℤ → Result Element Cause) → (ℕ → ℕ → ℕ) → Result (Element × ℕ) Cause
@@ -61,7 +61,7 @@ module _ (op : Option Op) (array : ArrayId) (subs : List Ix) (e : Val) (node : �
   touched_at k = touch (scope_at names seen here) here k array
 
   abbrev as_place : List ℤ → Option ℕ
-  as_place = place_of seen.extents array.0
+  as_place = offset_of seen.extents array.0
 
   abbrev second : ℕ
   second = node + 1 + sum_by nodes_of_ix subs

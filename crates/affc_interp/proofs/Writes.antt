@@ -5,7 +5,7 @@ use Rattle.std.specs.FinMap.Entries.{put}
 use Rattle.affc_ast.specs.Store.{element_cmp, with_value}
 use Rattle.affc_ast.specs.Values.{is_within}
 use Rattle.affc_interp.specs.declared.memory.Buffer.{Buffer}
-use Rattle.affc_interp.specs.Layout.{size_of, place_of, extents_in, elements_of, cells_in, store_of, with_cells, AreLengths, AreWhole, Held, held_in}
+use Rattle.affc_interp.specs.Layout.{size_of, offset_of, extents_in, elements_of, cells_in, store_held, with_cells, AreLengths, AreWhole, Held, held_in}
 use Rattle.affc_interp.proofs.Cells.{put_cell}
 use Rattle.affc_interp.proofs.Places.{row, row_below, base}
 use Rattle.affc_interp.proofs.Order.{elements_in_order, as_many, base_below, element_is}
@@ -53,7 +53,7 @@ within_at : (t : Bool) (r k : ℕ) → Some k ≡ (if t then Some r else None) �
 within_at true r k e = (refl, ap (there_or 0) e)
 within_at false r k e = cc
 
-pub store_after : (bs : List Buffer) (a k v : ℕ) (xs : List ℤ) (b : Buffer) → a < length bs → AreWhole bs → Some k ≡ place_of (extents_in bs) a xs → IsSet (get_or bs a b) b k v → store_of (set bs a b) ≡ with_value (store_of bs) (a, xs) v
+pub store_after : (bs : List Buffer) (a k v : ℕ) (xs : List ℤ) (b : Buffer) → a < length bs → AreWhole bs → Some k ≡ offset_of (extents_in bs) a xs → IsSet (get_or bs a b) b k v → store_held (set bs a b) ≡ with_value (store_held bs) (a, xs) v
 store_after bs a k v xs b h w e s =
     let ns : List ℤ = get_or (extents_in bs) a [] in
     let p = within_at (is_within xs ns) (row xs ns) k (e ∙ place_in bs a xs w) in
@@ -64,7 +64,7 @@ store_after bs a k v xs b h w e s =
     let is_n : n ≡ base a (extents_in bs) + row xs ns = ap (λ m. base a (extents_in bs) + m) p.1 in
     (λ i. with_cells (elements_of 0 (extents_after bs a k v b h s i)) (cells_after bs a k v b h small s w i))
     ∙ sym (put_cell (0, []) (elements_of 0 (extents_in bs)) (cells_in bs) n v (elements_in_order 0 (extents_in bs)) (as_many 0 bs w) (base_below 0 a k (extents_in bs) many small))
-    ∙ ap (λ x. put element_cmp x v (store_of bs)) (ap (λ m. get_or (elements_of 0 (extents_in bs)) m (0, [])) is_n ∙ element_is a xs (extents_in bs) many p.0)
+    ∙ ap (λ x. put element_cmp x v (store_held bs)) (ap (λ m. get_or (elements_of 0 (extents_in bs)) m (0, [])) is_n ∙ element_is a xs (extents_in bs) many p.0)
 
 pub is_set : (bs : List Buffer) (a k v : ℕ) (old b : Buffer) → a < length bs → old ≡ get_or bs a old → b.extents.items ≡ old.extents.items → b.cells.items ≡ set old.cells.items k (Some v) → IsSet (get_or bs a b) b k v
 is_set bs a k v old b h value e1 e2 =
@@ -81,8 +81,8 @@ pub wrote_extents : (bs : List Buffer) (a k v : ℕ) (old b : Buffer) (seen : He
 wrote_extents bs a k v old b seen view w h value e1 e2 = let m = many_in bs a seen view h in extents_after bs a k v b m (is_set bs a k v old b m value e1 e2) ∙ ap (λ s. s.extents) view
 
 pub wrote_store : (bs : List Buffer) (a k v : ℕ) (old b : Buffer) (seen : Held) → held_in bs ≡ seen → AreWhole bs → a < length seen.extents → old ≡ get_or bs a old → b.extents.items ≡ old.extents.items → b.cells.items ≡ set old.cells.items k (Some v)
-    → (xs : List ℤ) → Some k ≡ place_of seen.extents a xs → store_of (set bs a b) ≡ with_value seen.store (a, xs) v
+    → (xs : List ℤ) → Some k ≡ offset_of seen.extents a xs → store_held (set bs a b) ≡ with_value seen.store (a, xs) v
 wrote_store bs a k v old b seen view w h value e1 e2 xs e =
     let m = many_in bs a seen view h in
-    let e' : Some k ≡ place_of (extents_in bs) a xs = e ∙ ap (λ s. place_of s.extents a xs) (sym view) in
+    let e' : Some k ≡ offset_of (extents_in bs) a xs = e ∙ ap (λ s. offset_of s.extents a xs) (sym view) in
     store_after bs a k v xs b m w e' (is_set bs a k v old b m value e1 e2) ∙ ap (λ s. with_value s.store (a, xs) v) view

@@ -46,8 +46,8 @@ with_cells [] cs = []
 with_cells (x ∷ xs) [] = []
 with_cells (x ∷ xs) (c ∷ cs) = entry x c (with_cells xs cs)
 
-abbrev pub store_of : List Buffer → Store
-store_of bs = with_cells (elements_of 0 (extents_in bs)) (cells_in bs)
+abbrev pub store_held : List Buffer → Store
+store_held bs = with_cells (elements_of 0 (extents_in bs)) (cells_in bs)
 
 -- the cell of this number of an array
 abbrev pub cell_at : List Buffer → (array place : ℕ) → Option ℕ
@@ -59,7 +59,7 @@ pub record Held : Type 0 where
   pub store : Store
 
 abbrev pub held_in : List Buffer → Held
-held_in bs = record { extents = extents_in bs; store = store_of bs }
+held_in bs = record { extents = extents_in bs; store = store_held bs }
 
 abbrev pub AreLengths : List ℤ → Type 0
 AreLengths [] = Unit {0}
@@ -85,8 +85,8 @@ place_from size k (x ∷ xs) [] = None
 place_from size k (x ∷ xs) (n ∷ ns) = place_from size (place_step size k x n) xs ns
 
 -- the number of the cell, where the element lies within the array
-abbrev pub place_of : (extents : List (List ℤ)) → (array : ℕ) → (subscripts : List ℤ) → Option ℕ
-place_of extents array xs = place_from (size_of (get_or extents array [])) (Some 0) xs (get_or extents array [])
+abbrev pub offset_of : (extents : List (List ℤ)) → (array : ℕ) → (subscripts : List ℤ) → Option ℕ
+offset_of extents array xs = place_from (size_of (get_or extents array [])) (Some 0) xs (get_or extents array [])
 
 -- ---- Values that are given
 

@@ -6,7 +6,7 @@ use Rattle.affc_ast.specs.Store.{Element}
 use Rattle.affc_ast.specs.Values.{Scope, Sight, held}
 use Rattle.affc_interp.specs.declared.fault.Fault.{Fault}
 use Rattle.affc_interp.specs.declared.fault.Fault.TheVariants as f
-use Rattle.affc_interp.specs.Layout.{Held, cell_at, place_of}
+use Rattle.affc_interp.specs.Layout.{Held, cell_at, offset_of}
 use Rattle.affc_interp.specs.declared.memory.Buffer.{Buffer}
 
 -- a reading of index expressions; its fault is the number of the node that overflows
@@ -49,5 +49,5 @@ Reaches (Err fault) here place x r = r ≡ Err (cause_at here fault)
 
 -- the place and the value that are stored, or the cause
 abbrev pub Stores : Result (ℕ × ℕ) Fault → Instance → Held → (array : ℕ) → Result (Element × ℕ) Cause → Type 0
-Stores (Ok s) here held array r = (xs : List ℤ) × (Some s.0 ≡ place_of held.extents array xs) × (r ≡ Ok ((array, xs), s.1))
+Stores (Ok s) here held array r = (xs : List ℤ) × (Some s.0 ≡ offset_of held.extents array xs) × (r ≡ Ok ((array, xs), s.1))
 Stores (Err fault) here held array r = r ≡ Err (cause_at here fault)

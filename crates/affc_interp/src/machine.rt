@@ -5,7 +5,7 @@ ghost use Rattle.affc_ast.specs.Meaning as meaning;
 ghost use Rattle.affc_ast.specs.Values.{value_of};
 ghost use Rattle.affc_ast.specs.declared.tree.Instance.{Instance};
 ghost use Rattle.affc_interp.specs.Budget.{exec_of, assign_within, all_of, all_within, turns_within, nodes_among, assigns_among, for_run, if_run, block_run, once};
-ghost use Rattle.affc_interp.specs.Layout.{place_of};
+ghost use Rattle.affc_interp.specs.Layout.{offset_of};
 ghost use Rattle.affc_interp.specs.Seen.{as_reading, scope_at, as_value, Stores};
 ghost use Rattle.affc_interp.specs.Machines.{Finishes, Steps, Declares, scope_of, position, turn_of};
 
@@ -43,7 +43,7 @@ fn own_load(
     place: Option<usize>,
     memory: &Memory,
 ) -> Result<u64, Fault>
-    ensures { (names : List ℤ) (here : Instance) (xs : List ℤ) → place ≡ place_of memory.now.extents array.0 xs → as_value here result ≡ own_value op (scope_at names memory.now here) memory.now.store here array xs }
+    ensures { (names : List ℤ) (here : Instance) (xs : List ℤ) → place ≡ offset_of memory.now.extents array.0 xs → as_value here result ≡ own_value op (scope_at names memory.now here) memory.now.store here array xs }
 {
     match op {
         None => Ok(0),

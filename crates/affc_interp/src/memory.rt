@@ -2,7 +2,7 @@ ghost use Rattle.std.specs.Prelude.{◌≡◌, ◌+◌, ◌^◌, ◌<◌, ℤ, L
 ghost use Rattle.affc_ast.specs.Index.{nodes_of_ix, index_values};
 ghost use Rattle.affc_ast.specs.Meaning.{at_least_zero, extents_of, all_extents, arrays_of, nodes_of_decls};
 ghost use Rattle.affc_ast.specs.Store.{at, with_value};
-ghost use Rattle.affc_interp.specs.Layout.{place_step, place_from, place_of, cell_at, extents_in, size_of, subscripts_of, given_cells, given_to, AreLengths, AreWhole, held_in};
+ghost use Rattle.affc_interp.specs.Layout.{place_step, place_from, offset_of, cell_at, extents_in, size_of, subscripts_of, given_cells, given_to, AreLengths, AreWhole, held_in};
 ghost use Rattle.affc_ast.specs.Values.{load, touch};
 ghost use Rattle.affc_ast.specs.declared.tree.Instance.{Instance};
 ghost use Rattle.affc_interp.specs.Arrays.{AreExtents, Declared, AllDeclared, values_in};
@@ -160,7 +160,7 @@ impl Memory {
         names: &[i64],
     ) -> Result<Option<usize>, u32>
         requires { node + sum_by nodes_of_ix subs.now < 2 ^ 32 }
-        ensures { as_reading result ≡ read_then (index_values subs.now node names.now) (λ xs. Ok (place_of self.now.extents array.0 xs)) }
+        ensures { as_reading result ≡ read_then (index_values subs.now node names.now) (λ xs. Ok (offset_of self.now.extents array.0 xs)) }
     {
         let buffers = self.buffers.as_slice();
         let array = array.0 as usize;
@@ -176,14 +176,14 @@ impl Memory {
 
     /// What the access of this number loads, where its subscripts lead to this place.
     pub fn read(&self, array: ArrayId, place: Option<usize>, access: u32) -> Result<u64, Fault>
-        ensures { (names : List ℤ) (here : Instance) (xs : List ℤ) → place ≡ place_of self.now.extents array.0 xs → as_value here result ≡ load (scope_at names self.now here) self.now.store here access array xs }
+        ensures { (names : List ℤ) (here : Instance) (xs : List ℤ) → place ≡ offset_of self.now.extents array.0 xs → as_value here result ≡ load (scope_at names self.now here) self.now.store here access array xs }
     {
         load_from(self.buffers.as_slice(), array.0 as usize, place, access)
     }
 
     /// The cell of the access of this number, where its subscripts lead to this place.
     pub fn reach(&self, array: ArrayId, place: Option<usize>, access: u32) -> Result<usize, Fault>
-        ensures { (names : List ℤ) (here : Instance) (xs : List ℤ) → place ≡ place_of self.now.extents array.0 xs → Reaches result here place (array.0, xs) (touch (scope_at names self.now here) here access array xs) }
+        ensures { (names : List ℤ) (here : Instance) (xs : List ℤ) → place ≡ offset_of self.now.extents array.0 xs → Reaches result here place (array.0, xs) (touch (scope_at names self.now here) here access array xs) }
     {
         let _ = self.buffers.as_slice();
         let _ = array;
@@ -223,7 +223,7 @@ impl Memory {
     pub fn write(&mut self, array: ArrayId, place: usize, v: u64)
         requires { array.0 < length self.old.extents }
         ensures extents { self.new.extents ≡ self.old.extents }
-        ensures store { (xs : List ℤ) → Some place ≡ place_of self.old.extents array.0 xs → self.new.store ≡ with_value self.old.store (array.0, xs) v }
+        ensures store { (xs : List ℤ) → Some place ≡ offset_of self.old.extents array.0 xs → self.new.store ≡ with_value self.old.store (array.0, xs) v }
     {
         let buffer = &mut self.buffers[array.0 as usize];
         set_cell(&mut buffer.cells, place, v);
