@@ -18,7 +18,6 @@ use Rattle.affc_trace.specs.Target.{maps_within, within_limits}
 use Rattle.affc_trace.proofs.LastStores.{map_append}
 use Rattle.affc_trace.proofs.Runs.{length_append}
 use Rattle.affc_trace.proofs.Targets.{map_map}
-use Rattle.affc_domain.specs.Arrays.{declared_arrays}
 use Rattle.affc_domain.specs.Loops.{shared}
 use Rattle.affc_domain.specs.Affine.{form_of}
 use Rattle.affc_domain.specs.Plain.{all_plain, plain_decls}
@@ -32,6 +31,7 @@ use Rattle.affc_nest.specs.declared.nest.Access.{Access}
 use Rattle.affc_nest.specs.declared.nest.Entry.{Entry}
 use Rattle.affc_nest.specs.declared.nest.Nest.{Nest}
 use Rattle.affc_nest.specs.Laws.{HasNest}
+use Rattle.affc_domain.specs.Arrays.{declared_arrays}
 use Rattle.affc_nest.specs.Nests.{array_of, nest_of}
 use Rattle.affc_nest.specs.Questions.{extents_or_none, extents_of_access}
 use Rattle.affc_nest.proofs.AccessLemmas.{plain_append}
@@ -74,7 +74,7 @@ columns_of_pair nest n a b i j =
     ap (λ ls. (length nest.params + length ls) + length b.loops) (sym (stands_in nest n a i).loops)
     ∙ ap (λ ls. (length nest.params + length (loops_of nest a.statement)) + length ls) (sym (stands_in nest n b j).loops)
 
-all_from : {A : Type 0} (P : A → Type 0) (xs : List A) → ((x : A) → IsIn x xs → P x) → All P xs
+pub all_from : {A : Type 0} (P : A → Type 0) (xs : List A) → ((x : A) → IsIn x xs → P x) → All P xs
 all_from P [] h = All-nil P
 all_from P (x ∷ xs) h = All-cons P x xs (h x (inl refl)) (all_from P xs (λ y i. h y (inr i)))
 

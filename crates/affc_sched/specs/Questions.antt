@@ -82,13 +82,17 @@ module _ (nest : Nest) (a b : Entry) where
 
 -- ---- All questions: per statement and access, and then per statement and access of the other
 
+abbrev pub questions_of : Nest → Schedule → Entry → Touch → Entry → Touch → List Question
+questions_of nest schedule a x b y = if may_depend x y then pair_questions nest a b schedule x.0 y.0 else []
+
 abbrev pub questions_to : Nest → Schedule → Entry → Touch → Entry → List Question
-questions_to nest schedule a x b =
-    if b.alive then flat_map (λ y. if may_depend x y then pair_questions nest a b schedule x.0 y.0 else []) (touches b.accesses) else []
+questions_to nest schedule a x b = if b.alive then flat_map (questions_of nest schedule a x b) (touches b.accesses) else []
+
+abbrev pub questions_with : Nest → Schedule → Entry → Touch → List Question
+questions_with nest schedule a x = flat_map (questions_to nest schedule a x) nest.entries
 
 abbrev pub questions_from : Nest → Schedule → Entry → List Question
-questions_from nest schedule a =
-    if a.alive then flat_map (λ x. flat_map (questions_to nest schedule a x) nest.entries) (touches a.accesses) else []
+questions_from nest schedule a = if a.alive then flat_map (questions_with nest schedule a) (touches a.accesses) else []
 
 -- the order of the source is legal
 abbrev pub legality_questions : Nest → Schedule → List Question
