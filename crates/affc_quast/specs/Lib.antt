@@ -1,0 +1,6 @@
+pub mod Trees
+pub mod Seen
+pub mod Leaves
+pub mod Sources
+pub mod Limits
+pub mod Laws

@@ -1,0 +1,6 @@
+//! Last-write trees (Feautrier 1991): which instance stores what a load reads.
+#![tactic(auto)]
+
+pub mod quast;
+
+pub use quast::{Flow, Quast};
