@@ -1,11 +1,11 @@
 -- The shape and the limits of trees.
-use Rattle.std.specs.Prelude.{◌≡◌, ℕ, suc, ◌^◌, ◌≤◌, pos, ◌≤ℤ◌, unsigned_abs, IsTrue, List, length, Some, slice_get}
+use Rattle.std.specs.Prelude.{◌≡◌, ℕ, suc, ◌+◌, ◌^◌, ◌<◌, ◌≤◌, pos, ◌≤ℤ◌, unsigned_abs, IsTrue, List, length, Some, slice_get}
 use Rattle.std.specs.List.{All}
 use Rattle.affc_rows.specs.Forms.{Affine, HaveColumns}
 use Rattle.affc_nest.specs.declared.nest.Access.{Access}
 use Rattle.affc_nest.specs.declared.nest.Entry.{Entry}
 use Rattle.affc_nest.specs.declared.nest.Nest.{Nest}
-use Rattle.affc_quast.specs.Sources.{loads_in}
+use Rattle.affc_quast.specs.Sources.{loads_in, loads_before, tree_of}
 use Rattle.affc_quast.specs.Trees.{Tree, Test, Div, Source, Input, depth_of, divisions_of}
 
 -- ---- Shape
@@ -67,3 +67,9 @@ pub record IsTreeWithin (bounds : Bounds) (depth divisions : ℕ) (nest : Nest) 
   pub fits : FitsTree bounds tree
   pub short : depth_of tree ≤ depth
   pub few : divisions_of tree ≤ divisions
+
+-- each load of a nest has such a tree, over the parameters and the iterators of its statement
+pub record AreTreesWithin (bounds : Bounds) (depth divisions : ℕ) (nest : Nest) (trees : List Tree) : Type 0 where
+  pub each : (statement load : ℕ) (e : Entry) (x : Access) → slice_get nest.entries statement ≡ Some e → load < loads_in e → slice_get e.accesses load ≡ Some x
+      → (tree : Tree) × (tree_of nest trees statement load ≡ Some tree) × IsTreeWithin bounds depth divisions nest x.array.0 (length nest.params + length e.loops) tree
+  pub no_more : length trees ≡ loads_before nest.entries (length nest.entries)

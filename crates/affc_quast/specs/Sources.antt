@@ -1,5 +1,6 @@
 -- Which trees name the sources of a program's loads.
-use Rattle.std.specs.Prelude.{◌≡◌, ℕ, zero, suc, ◌+◌, ◌-◌, ◌<◌, ℤ, List, [], ◌∷◌, ◌++◌, length, Option, Some, slice_get}
+use Rattle.std.specs.Prelude.{◌≡◌, ℕ, zero, suc, ◌+◌, ◌-◌, ◌^◌, ◌<◌, ◌≤◌, ℤ, unsigned_abs, List, [], ◌∷◌, ◌++◌, length, Option, Some, slice_get}
+use Rattle.std.specs.List.{All}
 use Rattle.affc_ast.specs.declared.tree.Instance.{Instance}
 use Rattle.affc_ast.specs.declared.tree.Program.{Program}
 use Rattle.affc_ast.specs.Store.{Element}
@@ -8,7 +9,7 @@ use Rattle.affc_trace.specs.Dataflow.{IsSource}
 use Rattle.affc_trace.specs.Law.{IsIn}
 use Rattle.affc_nest.specs.declared.nest.Entry.{Entry}
 use Rattle.affc_nest.specs.declared.nest.Nest.{Nest}
-use Rattle.affc_quast.specs.Trees.{Tree, named_at}
+use Rattle.affc_quast.specs.Trees.{Tree, named_at, quotients_at}
 
 -- At p, the tree names at each instance of the statement the source of this load: the instance that stored what it reads, or
 -- none where nothing did.
@@ -36,3 +37,13 @@ tree_of nest trees statement load = slice_get trees (loads_before nest.entries s
 abbrev pub NameSources : Program → (p : List ℤ) → Nest → List Tree → Type 0
 NameSources program p nest trees = (statement load : ℕ) (e : Entry) → slice_get nest.entries statement ≡ Some e → load < loads_in e
     → (tree : Tree) × (tree_of nest trees statement load ≡ Some tree) × NamesSource program p statement load tree
+
+-- ---- Quotients
+
+-- At p, the quotients on the way of each instance of the statement are within 2^60.
+abbrev pub HasNearQuotients : Program → (p : List ℤ) → (statement : ℕ) → Tree → Type 0
+HasNearQuotients program p statement tree = (b : Instance) → b.statement ≡ statement → IsIn b (trace program p) → All (λ q. unsigned_abs q ≤ 2 ^ 60) (quotients_at tree (p ++ b.iterators))
+
+abbrev pub HaveNearQuotients : Program → (p : List ℤ) → Nest → List Tree → Type 0
+HaveNearQuotients program p nest trees = (statement load : ℕ) (e : Entry) (tree : Tree) → slice_get nest.entries statement ≡ Some e → load < loads_in e → tree_of nest trees statement load ≡ Some tree
+    → HasNearQuotients program p statement tree
