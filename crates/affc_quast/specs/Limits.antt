@@ -34,6 +34,11 @@ NamesStores nest array (Div f by rest) = NamesStores nest array rest
 NamesStores nest array (Source s forms) = IsStoreOf nest array s forms
 NamesStores nest array Input = Unit {0}
 
+-- each load of a nest has a tree, over the parameters and the iterators of its statement
+abbrev pub HaveShapes : Nest → List Tree → Type 0
+HaveShapes nest trees = (statement load : ℕ) (e : Entry) → slice_get nest.entries statement ≡ Some e → load < loads_in e
+    → (tree : Tree) × (tree_of nest trees statement load ≡ Some tree) × Shaped (length nest.params + length e.loops) tree
+
 -- ---- Limits
 
 -- coefficients, divisors and constants

@@ -1,0 +1,4 @@
+pub mod OppositeLemmas
+pub mod PathLemmas
+pub mod WriterLemmas
+pub mod NamesLemmas

@@ -1,0 +1,12 @@
+//! What the questions on trees decide. Each law is the contract of a function that does nothing.
+ghost use Rattle.affc_flow.specs.Laws.{LeafNamesSource, TreeNamesSource};
+
+/// A leaf names the source at each point of its rows with which no point of its questions begins.
+pub fn leaf_names_source()
+    ensures law { LeafNamesSource }
+{}
+
+/// A tree none of whose questions has a point names the source at each instance.
+pub fn tree_names_source()
+    ensures law { TreeNamesSource }
+{}
