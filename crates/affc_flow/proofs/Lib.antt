@@ -2,3 +2,5 @@ pub mod OppositeLemmas
 pub mod PathLemmas
 pub mod WriterLemmas
 pub mod NamesLemmas
+pub mod FlowLemmas
+pub mod ExampleProofs

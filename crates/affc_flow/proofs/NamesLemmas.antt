@@ -1,6 +1,6 @@
 -- A leaf none of whose questions has a point names the source.
-use Rattle.std.proofs.Common.{◌≡◌, ◌≢◌, ℕ, zero, suc, ◌+◌, ◌≤◌, ℤ, pos, negsuc, ◌≤ℤ◌, ◌+ℤ◌, Bool, true, false, IsTrue, if◌then◌else◌, List, [], ◌∷◌, ◌++◌, length, map, flat_map, Option, Some, None, refl, sym, ap, subst, ◌∙◌, ◌⊎◌, inl, inr, arith}
-use Rattle.std.specs.Prelude.{slice_get, nat_eq, int_le, ◌&&◌}
+use Rattle.std.proofs.Common.{◌≡◌, ◌≢◌, ℕ, ◌+◌, ◌≤◌, ℤ, pos, ◌≤ℤ◌, ◌+ℤ◌, Bool, true, false, IsTrue, if◌then◌else◌, List, [], ◌∷◌, ◌++◌, length, map, flat_map, Option, Some, None, refl, sym, ap, subst, ◌∙◌, ◌⊎◌, inl, inr, arith}
+use Rattle.std.specs.Prelude.{nat_eq, int_le}
 use Rattle.std.specs.List.{All}
 use Rattle.std.proofs.lemmas.Bool.{eq-eqb, eqb-true}
 use Rattle.std.proofs.lemmas.Int.{ints}
@@ -8,20 +8,18 @@ use Rattle.std.proofs.lemmas.Option.{same_Some}
 use Rattle.std.proofs.lemmas.List.Elements.{All-nil, All-cons}
 use Rattle.affc_rows.specs.Forms.{Affine, value, values_of, HaveColumns}
 use Rattle.affc_system.specs.Boxes.{InBox}
-use Rattle.affc_system.specs.Systems.{Rows, Meets, Met, IsPoint}
+use Rattle.affc_system.specs.Systems.{Meets, Met, IsPoint}
 use Rattle.affc_ast.specs.declared.tree.Instance.{Instance}
 use Rattle.affc_ast.specs.declared.tree.Program.{Program}
 use Rattle.affc_ast.specs.declared.tree.Rel.TheVariants.{Less, Greater}
 use Rattle.affc_ast.specs.Store.{Element}
-use Rattle.affc_ast.specs.Trace.{trace, store_of, loads_of}
-use Rattle.affc_trace.specs.Dataflow.{IsSource, IsLastWrite, NoneWrites}
+use Rattle.affc_ast.specs.Trace.{trace, store_of}
 use Rattle.affc_trace.specs.Inverses.{columns_from}
 use Rattle.affc_trace.specs.Law.{IsIn}
-use Rattle.affc_trace.specs.Laws.{IsInContext}
 use Rattle.affc_trace.specs.Orders.{Earlier}
 use Rattle.affc_trace.proofs.EndedReads.{append_assoc}
 use Rattle.affc_trace.proofs.LastStores.{append_nil}
-use Rattle.affc_trace.proofs.Legality.{earlier_is_in, later_is_in, either_way}
+use Rattle.affc_trace.proofs.Legality.{earlier_is_in, either_way}
 use Rattle.affc_trace.proofs.Members.{to_first, to_second, to_map, to_flat_map, both_hold}
 use Rattle.affc_trace.proofs.Runs.{length_append}
 use Rattle.affc_trace.proofs.Sources.{source_in_its_own_words}
@@ -53,7 +51,7 @@ use Rattle.affc_quast.proofs.LeafLemmas.{says_negated, leaf_is_named, leaf_is_re
 use Rattle.affc_flow.specs.Laws.{Loads, IsSourceOf, NoneBegins, LeafNamesSource, TreeNamesSource}
 use Rattle.affc_flow.specs.Questions.{Question, Writer, is_temporary, writers, poses, path_rows, reader_posed, here, beside_columns, beside_rows, beside, writer_posed, before_load, earlier_questions, after_named, between_questions, of_named, outside_questions, apart_questions, not_earlier_questions, named_questions, questions_among, input_questions, questions_for, leaf_questions}
 use Rattle.affc_flow.proofs.PathLemmas.{padded_values, short_values, padded_wide, order_at, parameters_are, reader_stands, path_met, read_value, read_wide, reader_is_posed, point_is, beside_long, beside_met, writer_is_posed}
-use Rattle.affc_flow.proofs.WriterLemmas.{Stored, stored_there, Writes, from_writers, to_writers}
+use Rattle.affc_flow.proofs.WriterLemmas.{stored_there, Writes, from_writers, to_writers}
 
 module _ (program : Program) (p its qs : List ℤ) (e : Entry) (x : Access) (ranges : List (ℤ × ℤ)) (l : Leaf) (h : Loads program p its e x)
     (over : IsOver (length p + length its) l) (wide : length ((p ++ its) ++ qs) ≡ l.columns) (met : Met ((p ++ its) ++ qs) l.rows) (inside : InBox (path_ranges ranges l.divisions) ((p ++ its) ++ qs)) where

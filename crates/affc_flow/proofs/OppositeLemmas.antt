@@ -1,5 +1,5 @@
 -- Points of a system at the opposite of each point.
-use Rattle.std.proofs.Common.{◌≡◌, ℕ, suc, ◌^◌, ◌≤◌, ℤ, pos, negsuc, neg_ℤ, ◌+ℤ◌, ◌*ℤ◌, ◌≤ℤ◌, ◌<ℤ◌, List, [], ◌∷◌, length, map, refl, sym, ap, subst, ◌∙◌, ◌⊎◌, inl, inr, arith}
+use Rattle.std.proofs.Common.{◌≡◌, ℕ, suc, ◌^◌, ◌≤◌, ℤ, pos, neg_ℤ, ◌+ℤ◌, ◌*ℤ◌, ◌≤ℤ◌, ◌<ℤ◌, List, [], ◌∷◌, length, map, refl, sym, ap, subst, ◌∙◌, inl, inr, arith}
 use Rattle.std.specs.Prelude.{unsigned_abs}
 use Rattle.std.specs.List.{All}
 use Rattle.std.proofs.lemmas.Int.{ints}
@@ -8,7 +8,7 @@ use Rattle.affc_rows.specs.Forms.{Affine, dot, value}
 use Rattle.affc_system.specs.Boxes.{InBox}
 use Rattle.affc_system.specs.Order.{LexLe}
 use Rattle.affc_system.specs.Pairs.{WithinReach}
-use Rattle.affc_system.specs.Systems.{Rows, FitsRow, IsRow, Meets, IsPoint}
+use Rattle.affc_system.specs.Systems.{Rows, IsRow, Meets, IsPoint}
 use Rattle.affc_leaf.specs.Points.{IsLeastPoint}
 use Rattle.affc_flow.specs.Opposites.{opposite_row, opposite_system, opposite_box, IsGreatestPoint}
 

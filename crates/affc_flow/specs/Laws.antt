@@ -1,6 +1,6 @@
 -- What the questions on trees decide.
 use Rattle.std.specs.List.{All}
-use Rattle.std.specs.Prelude.{◌≡◌, ◌+◌, ℤ, IsTrue, List, ◌++◌, length, Option, Some, slice_get}
+use Rattle.std.specs.Prelude.{◌≡◌, ◌+◌, ℤ, IsTrue, List, ◌++◌, length, Option, Some}
 use Rattle.affc_system.specs.Boxes.{InBox}
 use Rattle.affc_system.specs.Systems.{Met, IsPoint}
 use Rattle.affc_ast.specs.declared.tree.Instance.{Instance}
