@@ -1,0 +1,6 @@
+pub mod OppositeLemmas
+pub mod PathLemmas
+pub mod WriterLemmas
+pub mod NamesLemmas
+pub mod FlowLemmas
+pub mod ExampleProofs

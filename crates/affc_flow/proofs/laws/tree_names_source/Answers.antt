@@ -1,0 +1,5 @@
+use Rattle.affc_flow.proofs.NamesLemmas as lemma
+use Rattle.affc_flow.proofs.laws.tree_names_source.Goals as goal
+
+pub returns : goal.returns
+returns c = record { law = lemma.tree_names_source }

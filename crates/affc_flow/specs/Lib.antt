@@ -1,0 +1,4 @@
+pub mod Opposites
+pub mod Questions
+pub mod Laws
+pub mod Examples

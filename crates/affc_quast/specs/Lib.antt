@@ -1,0 +1,7 @@
+pub mod Trees
+pub mod Seen
+pub mod Leaves
+pub mod Sources
+pub mod Paths
+pub mod Limits
+pub mod Laws
