@@ -372,7 +372,7 @@ module _ (program : Program) (has : HasNest program) (named : NamesArrays progra
 -- ---- The laws
 
 -- an instance of the trace stands with its entry
-stood : (program : Program) (has : HasNest program) (p : List ℤ) (i : Instance) → IsInContext program p → IsIn i (trace program p)
+pub stood : (program : Program) (has : HasNest program) (p : List ℤ) (i : Instance) → IsInContext program p → IsIn i (trace program p)
     → (e : Entry) × (e.statement ≡ i.statement) × Stood program p e i.iterators
 stood program has p i inside r =
     let e = entry_of_instance program p i has r in
@@ -481,7 +481,7 @@ questions_decide program (Time components maps) has named fits = (
 
 -- ---- Ranges
 
-box_append : (rs ss : List (ℤ × ℤ)) (us vs : List ℤ) → InBox rs us → InBox ss vs → InBox (rs ++ ss) (us ++ vs)
+pub box_append : (rs ss : List (ℤ × ℤ)) (us vs : List ℤ) → InBox rs us → InBox ss vs → InBox (rs ++ ss) (us ++ vs)
 box_append [] ss [] vs h g = g
 box_append [] ss (u ∷ us) vs h g = absurd h
 box_append (r ∷ rs) ss [] vs h g = absurd h
