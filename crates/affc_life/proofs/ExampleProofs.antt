@@ -1,0 +1,60 @@
+-- Each example computes; a chain's systems have no point.
+use Rattle.std.proofs.Common.{ℤ, pos, negsuc, ◌+ℤ◌, ◌*ℤ◌, ◌≤ℤ◌, List, [], ◌∷◌, refl, sym, subst, inl, inr, arith}
+use Rattle.std.proofs.lemmas.Int.{ints}
+use denote.Hole.Carrier.{hidden}
+use Rattle.affc_ast.specs.declared.tree.Ix.TheBlock.{shape-the_row-Ix-0, hidden-the_row-Ix-0}
+use Rattle.affc_ast.specs.declared.tree.Val.TheBlock.{shape-the_row-Val-0, hidden-the_row-Val-0}
+use Rattle.affc_ast.specs.declared.tree.Stmt.TheBlock.{shape-the_row-Stmt-0, hidden-the_row-Stmt-0}
+use Rattle.affc_system.specs.Systems.{HasNoPoint}
+use Rattle.affc_rows.specs.Forms.{Affine}
+use Rattle.affc_trace.specs.Law.{IsIn}
+use Rattle.affc_nest.proofs.DomainLemmas.{from_all}
+use Rattle.affc_life.specs.Clashes.{Clash}
+use Rattle.affc_life.specs.Examples.{form, BlurHasTwelve, OthersHaveNone, MiddleClashes, chain_front, chain_orders, chain_clash, ChainClashes, OwnStoreIsNone, HalvedClashes, DimensionsInTurn, LastOneIsNoLoad, NoneOfTheDead}
+
+pub blur_has_twelve : BlurHasTwelve
+unfolding shape-the_row-Ix-0 hidden-the_row-Ix-0 shape-the_row-Val-0 hidden-the_row-Val-0 shape-the_row-Stmt-0 hidden-the_row-Stmt-0 hidden
+blur_has_twelve = refl
+
+pub others_have_none : OthersHaveNone
+unfolding shape-the_row-Ix-0 hidden-the_row-Ix-0 shape-the_row-Val-0 hidden-the_row-Val-0 shape-the_row-Stmt-0 hidden-the_row-Stmt-0 hidden
+others_have_none = (refl, refl)
+
+pub middle_clashes : MiddleClashes
+unfolding shape-the_row-Ix-0 hidden-the_row-Ix-0 shape-the_row-Val-0 hidden-the_row-Val-0 shape-the_row-Stmt-0 hidden-the_row-Stmt-0 hidden
+middle_clashes = refl
+
+pub chain_clashes : ChainClashes
+chain_clashes = refl
+
+pub halved_clashes : HalvedClashes
+halved_clashes = refl
+
+pub dimensions_in_turn : DimensionsInTurn
+dimensions_in_turn = (refl, refl)
+
+pub last_one_is_no_load : LastOneIsNoLoad
+last_one_is_no_load = refl
+
+pub none_of_the_dead : NoneOfTheDead
+none_of_the_dead = refl
+
+-- i - 1 < j and j < i
+no_room : (n i j : ℤ) → pos 0 ≤ℤ (((pos 0 *ℤ n) +ℤ ((negsuc 0 *ℤ i) +ℤ ((pos 1 *ℤ j) +ℤ pos 0))) +ℤ pos 0) → pos 0 ≤ℤ (((pos 0 *ℤ n) +ℤ ((pos 1 *ℤ i) +ℤ ((negsuc 0 *ℤ j) +ℤ pos 0))) +ℤ negsuc 0) → ⊥
+no_room n i j h g = omega (arith, ints, h, g)
+
+none_there : (rows : List Affine) → HasNoPoint (chain_clash (chain_orders rows)).system
+none_there rows [] is = absurd (omega (arith, is.width))
+none_there rows (n ∷ []) is = absurd (omega (arith, is.width))
+none_there rows (n ∷ i ∷ []) is = absurd (omega (arith, is.width))
+none_there rows (n ∷ i ∷ j ∷ more) is =
+    let m = from_all (n ∷ i ∷ j ∷ more) (chain_front (chain_orders rows)) is.meets in
+    no_room n i j m.1.1.1.1.1.1.1.0 m.1.1.1.1.1.1.1.1.0
+
+pub own_store_is_none : OwnStoreIsNone
+own_store_is_none c i = chosen (subst (IsIn c) chain_clashes i)
+  where
+    chosen : IsIn c (chain_clash (chain_orders (form (pos 0 ∷ negsuc 0 ∷ pos 1 ∷ []) (pos 0) ∷ [])) ∷ chain_clash (chain_orders (form (pos 0 ∷ pos 1 ∷ negsuc 0 ∷ []) (negsuc 1) ∷ [])) ∷ []) → HasNoPoint c.system
+    chosen (inl e) = subst (λ (c : Clash). HasNoPoint c.system) (sym e) (none_there (form (pos 0 ∷ negsuc 0 ∷ pos 1 ∷ []) (pos 0) ∷ []))
+    chosen (inr (inl e)) = subst (λ (c : Clash). HasNoPoint c.system) (sym e) (none_there (form (pos 0 ∷ pos 1 ∷ negsuc 0 ∷ []) (negsuc 1) ∷ []))
+    chosen (inr (inr n)) = absurd n

@@ -1,0 +1,11 @@
+pub mod ReadLemmas
+pub mod ApartLemmas
+pub mod MadeLemmas
+pub mod SeatLemmas
+pub mod PointLemmas
+pub mod LiveLemmas
+pub mod BoxedLemmas
+pub mod ExampleProofs
+pub mod WideLemmas
+pub mod DraftLemmas
+pub mod LimitLemmas

@@ -1,0 +1,180 @@
+-- The clash systems of small programs. Each row was found by hand from the rules.
+use Rattle.std.specs.Prelude.{◌≡◌, ℕ, ℤ, pos, negsuc, true, false, List, [], ◌∷◌, length}
+use Rattle.affc_rows.specs.Forms.{Affine}
+use Rattle.affc_system.specs.Systems.{Rows, HasNoPoint}
+use Rattle.affc_trace.specs.declared.schedule.Schedule.TheVariants.{Source}
+use Rattle.affc_trace.specs.Examples.{blur, together}
+use Rattle.affc_trace.specs.Law.{IsIn}
+use Rattle.affc_nest.specs.Nests.{nest_of}
+use Rattle.affc_nest.specs.declared.nest.Access.{Access}
+use Rattle.affc_nest.specs.declared.nest.Entry.{Entry}
+use Rattle.affc_nest.specs.declared.nest.Nest.{Nest}
+use Rattle.affc_quast.specs.Trees.{Tree, Test, Div}
+use Rattle.affc_quast.specs.Trees as tree
+use Rattle.affc_life.specs.Clashes.{Clash, apart_rows, numbered_loads, clashes}
+
+abbrev pub form : List ℤ → ℤ → Affine
+form cs k = record { coefs = cs; constant = k }
+
+abbrev over : (columns : ℕ) → List Affine → Rows
+over n rows = record { columns = n; rows = rows }
+
+-- ---- The blur: t[i] = in[i] + 1, and then out[i] = t[i] + t[i + 1] + t[i + 2], at the times i and i + 2
+
+-- S0(i + k), over N and i
+abbrev stored_at : (k : ℤ) → Tree
+stored_at k = tree.Source 0 (form (pos 0 ∷ pos 1 ∷ []) k ∷ [])
+
+abbrev blur_trees : List Tree
+blur_trees = tree.Input ∷ stored_at (pos 0) ∷ stored_at (pos 1) ∷ stored_at (pos 2) ∷ []
+
+-- t is array 2. A store comes before a load at an earlier time, or at the same time by its number: two systems, and two for the
+-- elements, for each of three loads.
+abbrev pub BlurHasTwelve : Type 0
+BlurHasTwelve = length (clashes (nest_of blur) blur_trees together 2) ≡ 12
+
+-- `in` is loaded and never stored, `out` is stored and never loaded
+abbrev pub OthersHaveNone : Type 0
+OthersHaveNone = (clashes (nest_of blur) blur_trees together 0 ≡ []) × (clashes (nest_of blur) blur_trees together 1 ≡ [])
+
+-- of the load t[i + 1] alone: over N, i and the store's j, with N from 1 to 4, 0 <= i < N and 0 <= j < N + 2
+abbrev middle_front : List Affine → List Affine
+middle_front rows =
+    form (pos 1 ∷ pos 0 ∷ pos 0 ∷ []) (negsuc 0) ∷ form (negsuc 0 ∷ pos 0 ∷ pos 0 ∷ []) (pos 4)
+    ∷ form (pos 0 ∷ pos 1 ∷ pos 0 ∷ []) (pos 0) ∷ form (pos 1 ∷ negsuc 0 ∷ pos 0 ∷ []) (negsuc 0)
+    ∷ form (pos 0 ∷ pos 1 ∷ pos 0 ∷ []) (pos 0) ∷ form (pos 0 ∷ negsuc 0 ∷ pos 0 ∷ []) (pos 3)
+    ∷ form (pos 0 ∷ pos 0 ∷ pos 1 ∷ []) (pos 0) ∷ form (pos 1 ∷ pos 0 ∷ negsuc 0 ∷ []) (pos 1)
+    ∷ form (pos 0 ∷ pos 0 ∷ pos 1 ∷ []) (pos 0) ∷ form (pos 0 ∷ pos 0 ∷ negsuc 0 ∷ []) (pos 5)
+    ∷ rows
+
+abbrev middle : List Affine → Clash
+middle rows = record {
+  system = over 3 (middle_front rows);
+  ranges = (pos 1, pos 4) ∷ (pos 0, pos 3) ∷ (pos 0, pos 5) ∷ [];
+  x = form (pos 0 ∷ pos 1 ∷ pos 0 ∷ []) (pos 1) ∷ [];
+  y = form (pos 0 ∷ pos 0 ∷ pos 1 ∷ []) (pos 0) ∷ [];
+}
+
+-- i + 1 < j; then j < i + 2, or j = i + 2; then i + 1 < j, or j < i + 1
+abbrev pub MiddleClashes : Type 0
+MiddleClashes = clashes (nest_of blur) (tree.Input ∷ tree.Input ∷ stored_at (pos 1) ∷ tree.Input ∷ []) together 2
+    ≡ middle (form (pos 0 ∷ negsuc 0 ∷ pos 1 ∷ []) (negsuc 1) ∷ form (pos 0 ∷ pos 1 ∷ negsuc 0 ∷ []) (pos 1) ∷ form (pos 0 ∷ negsuc 0 ∷ pos 1 ∷ []) (negsuc 1) ∷ [])
+    ∷ middle (form (pos 0 ∷ negsuc 0 ∷ pos 1 ∷ []) (negsuc 1) ∷ form (pos 0 ∷ pos 1 ∷ negsuc 0 ∷ []) (pos 1) ∷ form (pos 0 ∷ pos 1 ∷ negsuc 0 ∷ []) (pos 0) ∷ [])
+    ∷ middle (
+    form (pos 0 ∷ negsuc 0 ∷ pos 1 ∷ []) (negsuc 1)
+    ∷ form (pos 0 ∷ negsuc 0 ∷ pos 1 ∷ []) (negsuc 1) ∷ form (pos 0 ∷ pos 1 ∷ negsuc 0 ∷ []) (pos 2)
+    ∷ form (pos 0 ∷ negsuc 0 ∷ pos 1 ∷ []) (negsuc 1) ∷ []
+    )
+    ∷ middle (
+    form (pos 0 ∷ negsuc 0 ∷ pos 1 ∷ []) (negsuc 1)
+    ∷ form (pos 0 ∷ negsuc 0 ∷ pos 1 ∷ []) (negsuc 1) ∷ form (pos 0 ∷ pos 1 ∷ negsuc 0 ∷ []) (pos 2)
+    ∷ form (pos 0 ∷ pos 1 ∷ negsuc 0 ∷ []) (pos 0) ∷ []
+    )
+    ∷ []
+
+-- ---- A nest over N from 1 to 9: for (i = 0; i < N; i++) A[i + 1] = A[i];
+
+abbrev access : (array : ℕ) → List Affine → Access
+access array subs = record { array = record { 0 = array }; subs = subs }
+
+abbrev here : Access
+here = access 0 (form (pos 0 ∷ pos 1 ∷ []) (pos 0) ∷ [])
+
+abbrev next : Access
+next = access 0 (form (pos 0 ∷ pos 1 ∷ []) (pos 1) ∷ [])
+
+abbrev shifts : Entry
+shifts = record {
+  statement = 0;
+  alive = true;
+  loops = 0 ∷ [];
+  domain = over 2 (
+      form (pos 1 ∷ pos 0 ∷ []) (negsuc 0) ∷ form (negsuc 0 ∷ pos 0 ∷ []) (pos 9)
+      ∷ form (pos 0 ∷ pos 1 ∷ []) (pos 0) ∷ form (pos 1 ∷ negsuc 0 ∷ []) (negsuc 0) ∷ []
+      );
+  ranges = (pos 0, pos 8) ∷ [];
+  accesses = here ∷ next ∷ [];
+}
+
+abbrev nest : Nest
+nest = record { params = (pos 1, pos 9) ∷ []; context = over 1 []; arrays = []; entries = shifts ∷ [] }
+
+-- S0(i - 1) where i >= 1, and what was handed in where i = 0
+abbrev chained : Tree
+chained = Test (form (pos 0 ∷ pos 1 ∷ []) (negsuc 0)) (tree.Source 0 (form (pos 0 ∷ pos 1 ∷ []) (negsuc 0) ∷ [])) tree.Input
+
+abbrev pub chain_front : List Affine → List Affine
+chain_front rows =
+    form (pos 1 ∷ pos 0 ∷ pos 0 ∷ []) (negsuc 0) ∷ form (negsuc 0 ∷ pos 0 ∷ pos 0 ∷ []) (pos 9)
+    ∷ form (pos 0 ∷ pos 1 ∷ pos 0 ∷ []) (pos 0) ∷ form (pos 1 ∷ negsuc 0 ∷ pos 0 ∷ []) (negsuc 0)
+    ∷ form (pos 0 ∷ pos 1 ∷ pos 0 ∷ []) (negsuc 0)
+    ∷ form (pos 0 ∷ pos 0 ∷ pos 1 ∷ []) (pos 0) ∷ form (pos 1 ∷ pos 0 ∷ negsuc 0 ∷ []) (negsuc 0)
+    ∷ rows
+
+abbrev pub chain_clash : List Affine → Clash
+chain_clash rows = record {
+  system = over 3 (chain_front rows);
+  ranges = (pos 1, pos 9) ∷ (pos 0, pos 8) ∷ (pos 0, pos 8) ∷ [];
+  x = form (pos 0 ∷ pos 1 ∷ pos 0 ∷ []) (pos 0) ∷ [];
+  y = form (pos 0 ∷ pos 0 ∷ pos 1 ∷ []) (pos 1) ∷ [];
+}
+
+-- i - 1 < j and j < i
+abbrev pub chain_orders : List Affine → List Affine
+chain_orders rows = form (pos 0 ∷ negsuc 0 ∷ pos 1 ∷ []) (pos 0) ∷ form (pos 0 ∷ pos 1 ∷ negsuc 0 ∷ []) (negsuc 0) ∷ rows
+
+-- in the order of the source: i >= 1 behind the domain; then i < j + 1, or j + 1 < i
+abbrev pub ChainClashes : Type 0
+ChainClashes = clashes nest (chained ∷ []) Source 0
+    ≡ chain_clash (chain_orders (form (pos 0 ∷ negsuc 0 ∷ pos 1 ∷ []) (pos 0) ∷ []))
+    ∷ chain_clash (chain_orders (form (pos 0 ∷ pos 1 ∷ negsuc 0 ∷ []) (negsuc 1) ∷ []))
+    ∷ []
+
+-- the load's own store comes after it, so no store stands between
+abbrev pub OwnStoreIsNone : Type 0
+OwnStoreIsNone = (c : Clash) → IsIn c (clashes nest (chained ∷ []) Source 0) → HasNoPoint c.system
+
+-- where i is 2 q or 2 q + 1, S0(q): the columns are N, i, q and the store's j, and q is from 0 to 4
+abbrev halved : Tree
+halved = Div (form (pos 0 ∷ pos 1 ∷ []) (pos 0)) (pos 2) (tree.Source 0 (form (pos 0 ∷ pos 0 ∷ pos 1 ∷ []) (pos 0) ∷ []))
+
+abbrev halved_clash : (last : Affine) → Clash
+halved_clash last = record {
+  system = over 4 (
+      form (pos 1 ∷ pos 0 ∷ pos 0 ∷ pos 0 ∷ []) (negsuc 0) ∷ form (negsuc 0 ∷ pos 0 ∷ pos 0 ∷ pos 0 ∷ []) (pos 9)
+      ∷ form (pos 0 ∷ pos 1 ∷ pos 0 ∷ pos 0 ∷ []) (pos 0) ∷ form (pos 1 ∷ negsuc 0 ∷ pos 0 ∷ pos 0 ∷ []) (negsuc 0)
+      ∷ form (pos 0 ∷ pos 1 ∷ negsuc 1 ∷ pos 0 ∷ []) (pos 0) ∷ form (pos 0 ∷ negsuc 0 ∷ pos 2 ∷ pos 0 ∷ []) (pos 1)
+      ∷ form (pos 0 ∷ pos 0 ∷ pos 0 ∷ pos 1 ∷ []) (pos 0) ∷ form (pos 1 ∷ pos 0 ∷ pos 0 ∷ negsuc 0 ∷ []) (negsuc 0)
+      ∷ form (pos 0 ∷ pos 0 ∷ negsuc 0 ∷ pos 1 ∷ []) (negsuc 0) ∷ form (pos 0 ∷ pos 1 ∷ pos 0 ∷ negsuc 0 ∷ []) (negsuc 0) ∷ last ∷ []
+      );
+  ranges = (pos 1, pos 9) ∷ (pos 0, pos 8) ∷ (pos 0, pos 4) ∷ (pos 0, pos 8) ∷ [];
+  x = form (pos 0 ∷ pos 1 ∷ pos 0 ∷ pos 0 ∷ []) (pos 0) ∷ [];
+  y = form (pos 0 ∷ pos 0 ∷ pos 0 ∷ pos 1 ∷ []) (pos 1) ∷ [];
+}
+
+-- q < j and j < i; i < j + 1, or j + 1 < i
+abbrev pub HalvedClashes : Type 0
+HalvedClashes = clashes nest (halved ∷ []) Source 0 ≡ halved_clash (form (pos 0 ∷ negsuc 0 ∷ pos 0 ∷ pos 1 ∷ []) (pos 0)) ∷ halved_clash (form (pos 0 ∷ pos 1 ∷ pos 0 ∷ negsuc 0 ∷ []) (negsuc 1)) ∷ []
+
+-- ---- Which elements differ, and which accesses load
+
+-- in two dimensions: the first differs, or it is equal and the second differs; a scalar has one element
+abbrev pub DimensionsInTurn : Type 0
+DimensionsInTurn =
+    (apart_rows (form (pos 1 ∷ []) (pos 0) ∷ form [] (pos 5) ∷ []) (form (pos 3 ∷ []) (pos 0) ∷ form [] (pos 7) ∷ []) []
+    ≡ (form (pos 2 ∷ []) (negsuc 0) ∷ [])
+    ∷ (form (negsuc 1 ∷ []) (negsuc 0) ∷ [])
+    ∷ (form (negsuc 1 ∷ []) (pos 0) ∷ form (pos 2 ∷ []) (pos 0) ∷ form [] (pos 1) ∷ [])
+    ∷ (form (negsuc 1 ∷ []) (pos 0) ∷ form (pos 2 ∷ []) (pos 0) ∷ form [] (negsuc 2) ∷ [])
+    ∷ [])
+    × (apart_rows [] [] (form [] (pos 0) ∷ []) ≡ [])
+
+abbrev pub LastOneIsNoLoad : Type 0
+LastOneIsNoLoad = numbered_loads 0 (here ∷ next ∷ here ∷ []) ≡ (0, here) ∷ (1, next) ∷ []
+
+-- a statement without instances neither loads nor stores
+abbrev never : Nest
+never = record nest { entries = record shifts { alive = false } ∷ [] }
+
+abbrev pub NoneOfTheDead : Type 0
+NoneOfTheDead = clashes never (chained ∷ []) Source 0 ≡ []

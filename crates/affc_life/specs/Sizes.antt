@@ -1,0 +1,23 @@
+-- Systems that pass the limits of a system, and forms whose differences can be taken.
+use Rattle.std.specs.Prelude.{◌≡◌, ◌⊎◌, ℕ, ◌^◌, ◌<◌, ◌≤◌, unsigned_abs, List, length}
+use Rattle.std.specs.List.{All}
+use Rattle.affc_rows.specs.Forms.{Affine}
+use Rattle.affc_system.specs.Systems.{Rows, FitsRow}
+use Rattle.affc_trace.specs.Law.{IsIn}
+use Rattle.affc_life.specs.Clashes.{Clash}
+
+-- too many columns, too many rows, or an entry of a row past its limit
+abbrev pub IsLarge : Rows → Type 0
+IsLarge s = (128 < s.columns) ⊎ ((1024 < length s.rows) ⊎ (¬ (All FitsRow s.rows)))
+
+-- one of these clash systems
+pub record AnyLarge (clashes : List Clash) : Type 0 where
+  pub clash : Clash
+  pub there : IsIn clash clashes
+  pub large : IsLarge clash.system
+
+-- a form over so many columns, with entries within 2^64
+pub record IsWide (columns : ℕ) (form : Affine) : Type 0 where
+  pub width : length form.coefs ≡ columns
+  pub coefs_fit : All (λ c. unsigned_abs c ≤ 2 ^ 64) form.coefs
+  pub constant_fits : unsigned_abs form.constant ≤ 2 ^ 64
