@@ -14,7 +14,7 @@ use Rattle.affc_split.specs.declared.search.Answer.{Answer}
 use Rattle.affc_split.specs.declared.search.Answer.TheVariants.{Empty, Point}
 use Rattle.affc_split.specs.Answers.{IfEmpty, IfPoint}
 use Rattle.affc_split.specs.Points.{IsLeastPoint}
-use Rattle.affc_maximum.specs.Regions.{InRegion, IsFirstReaching, IsBounded, IsMost, IsAnswer, IsAskable, AreAskable, AreBounded, IsAnswerOf, IsAttained}
+use Rattle.affc_maximum.specs.Regions.{InRegion, IsFirstReaching, IsBounded, IsAnswer, IsAskable, AreAskable, IsAnswerOf}
 use Rattle.affc_maximum.specs.Searches.{IsReached, IsSearch, AreBoundedBefore, AreSearched, IsFoundOf}
 use Rattle.affc_maximum.specs.declared.region.Region.{Region}
 use Rattle.affc_maximum.specs.declared.search.Best.{Best}

@@ -1,6 +1,6 @@
 -- Later states of a budget.
-use Rattle.std.proofs.Common.{◌≡◌, ℕ, ◌≤◌, refl, sym, subst, ◌∙◌, arith}
-use Rattle.std.specs.Prelude.{IsNone, Some}
+use Rattle.std.proofs.Common.{refl, sym, subst, ◌∙◌, arith}
+use Rattle.std.specs.Prelude.{IsNone}
 use Rattle.affc_split.specs.Budgets.{Account, IsLater}
 
 pub same : (a : Account) → IsLater a a

@@ -1,4 +1,4 @@
-use Rattle.std.proofs.Common.{◌≡◌, ◌-ℤ◌, Result, Ok, Err}
+use Rattle.std.proofs.Common.{◌≡◌, ◌-ℤ◌}
 use Rattle.std.specs.Prelude.{unsigned_abs}
 use Rattle.affc_maximum.specs.Searches.{IsSearch}
 use Rattle.affc_split.specs.Budgets.{IsLater}
