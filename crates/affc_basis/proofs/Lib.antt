@@ -13,3 +13,4 @@ pub mod Products
 pub mod Whole
 pub mod FoldsFound
 pub mod Uniques
+pub mod ListedBases

@@ -1,5 +1,6 @@
 -- Folds: where an element is put, when a fold is admissible, and what its marks say.
 use Rattle.std.specs.Prelude.{◌≡◌, ℕ, ◌+◌, ◌<◌, ◌≤◌, ℤ, pos, ◌≤ℤ◌, ◌<ℤ◌, nat_eq, if◌then◌else◌, List, [], ◌∷◌, map, Option, Some, None, ◌⊎◌}
+use Rattle.std.specs.List.{All}
 use Rattle.affc_rows.specs.Forms.{Affine, value}
 use Rattle.affc_ast.specs.declared.tree.ArrayId.{ArrayId}
 use Rattle.affc_ast.specs.Store.{Element}
@@ -8,7 +9,7 @@ use Rattle.affc_basis.specs.declared.fold.Mark.TheVariants.{Least, Bound}
 use Rattle.affc_basis.specs.declared.fold.Modulus.{Modulus}
 use Rattle.affc_basis.specs.declared.fold.Fold.{Fold}
 use Rattle.affc_basis.specs.Slices.{along, InSlice, IsGreatest}
-use Rattle.affc_basis.specs.Moduli.{remainders, InLattice, Separates, Exceeds}
+use Rattle.affc_basis.specs.Moduli.{remainders, InLattice, Separates, Exceeds, IsModulus}
 
 abbrev pub forms_of : List Modulus → List Affine
 forms_of moduli = map (λ m. m.form) moduli
@@ -30,6 +31,10 @@ IsAdmissible pairs fold p = Separates pairs p fold.basis.rows (forms_of fold.mod
 -- each modulus exceeds what its row needs at p
 abbrev pub Obeys : (pairs : List ℤ → List ℤ → Type 0) → Fold → (p : List ℤ) → Type 0
 Obeys pairs fold p = Exceeds pairs p fold.basis.rows (forms_of fold.moduli)
+
+-- its moduli are over so many parameters, within their limits
+abbrev pub KeepsLimits : (parameters : ℕ) → Fold → Type 0
+KeepsLimits parameters fold = All (IsModulus parameters) (forms_of fold.moduli)
 
 -- ---- What a row needs
 

@@ -1,4 +1,5 @@
 pub mod Bases
+pub mod Listed
 pub mod Slices
 pub mod Moduli
 pub mod Folds

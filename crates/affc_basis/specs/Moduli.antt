@@ -43,3 +43,9 @@ pub record IsModulusAt (p : List ℤ) (b : Affine) : Type 0 where
   pub constant : unsigned_abs b.constant ≤ 2 ^ 55
   pub low : pos 1 ≤ℤ value b p
   pub high : value b p ≤ℤ pos (2 ^ 60)
+
+-- a modulus over so many parameters, within its limits
+pub record IsModulus (parameters : ℕ) (b : Affine) : Type 0 where
+  pub width : length b.coefs ≡ parameters
+  pub coefs_fit : AreWithin (2 ^ 30) b.coefs
+  pub constant_fits : unsigned_abs b.constant ≤ 2 ^ 55

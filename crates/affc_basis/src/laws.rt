@@ -1,5 +1,6 @@
 //! What may be concluded about folds. Each law is the contract of a function that does nothing.
 ghost use Rattle.std.specs.Prelude.{List, ℤ};
+ghost use Rattle.affc_basis.specs.Listed.{ListedAreBases};
 ghost use Rattle.affc_basis.specs.Laws.{RowsSeparate, PlacesMeetInTheLattice, SliceIsFound, GreatestIsFound, ObeyingFoldSeparates, ObeyingFoldIsAdmissible, WholeArrayObeys, AdmissibleFoldsSeparate, FoldsKeepParameters, LeastMarkIsNeed, NeedIsLeast, ObeyingIsEnough, GreatestIsUnique, NeedIsUnique, GreatestValueIsUnique, CostIsUnique, FoldsAreFound, CompilesFolded, FoldedPremisesCompile};
 
 /// Conflicts over a context: which elements of an array, by their subscripts, are to have different places. The live
@@ -14,6 +15,11 @@ pub trait Conflicts {
 /// A basis loses nothing: elements that lie apart along no row are equal.
 pub fn rows_separate()
     ensures law { RowsSeparate }
+{}
+
+/// The rows and the inverse forms of each listed basis multiply to the identity.
+pub fn listed_are_bases()
+    ensures law { ListedAreBases }
 {}
 
 /// Two elements have one place exactly where their difference is in the lattice.

@@ -1,0 +1,10 @@
+//! The greatest value of a form over the integer points of regions.
+#![tactic(auto)]
+
+pub mod region;
+pub mod search;
+pub mod several;
+
+pub use region::Region;
+pub use search::{Best, maximum, reaching};
+pub use several::{Found, maximum_of};
