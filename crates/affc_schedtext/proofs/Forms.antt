@@ -95,7 +95,7 @@ followed_at others (Err Deep) rest e = absurd (cc)
 -- ---- The reader
 
 module _ (room : ℕ) (scope : Scope) where
-  abbrev inner : Reader Symbol (FormText scope)
+  abbrev pub inner : Reader Symbol (FormText scope)
   inner = after (read_ix false room) (λ a. with_seen scope a (holding (all_seen scope (ix_symbols a))))
 
   seen_reader : (a : IxText false) (o : Option (IsTrue (all_seen scope (ix_symbols a)))) → IsReader (with_seen scope a o)
@@ -105,7 +105,7 @@ module _ (room : ℕ) (scope : Scope) where
   inner_reader : IsReader inner
   inner_reader = is_after (ix_rule false room).reader (λ a. seen_reader a (holding (all_seen scope (ix_symbols a))))
 
-  opened : (ts : List Symbol) → read_form room scope ts ≡ followed_by (unseen_rest scope ts) (inner (seen_front scope ts))
+  pub opened : (ts : List Symbol) → read_form room scope ts ≡ followed_by (unseen_rest scope ts) (inner (seen_front scope ts))
   unfolding read_form
   opened ts = refl
 
