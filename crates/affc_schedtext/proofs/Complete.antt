@@ -11,7 +11,7 @@ use Rattle.affc_grammar.proofs.Complete.{EndsIx, regroup, sum_gets}
 use Rattle.affc_schedtext.specs.Outline.{Outline, Scope, Words, these, any, Lists, Presence, never, always, maybe, statement_lists, statement_presence, fold_lists, fold_presence}
 use Rattle.affc_schedtext.specs.Grammar.{is_seen, all_seen, FormText, form_symbols, FormsText, one_form, and_form, forms_symbols, GivenText, last_entry, entry_then, given_symbols, FreeText, one_entry, and_entry, free_symbols, EntriesText, given, free, entries_symbols, InverseText, without, written, skipped, taken, inverse_symbols, LineText, head_symbols, open_symbols, line_symbols, StmtsText, no_stmts, and_stmt, stmts_symbols, OrderText, source, time, order_symbols, Text, order, and_fold, text_symbols}
 use Rattle.affc_schedtext.specs.Reading.{seen_front, unseen_rest, followed_by, with_seen, read_form, form_more, read_forms, read_given, entry_more, read_free, read_entries, Part, source_word, time_number, stmt_forms, stmt_line, fold_forms, fold_line, part_symbols, read_list, Next, read_fold, next_fold, read_first_fold, read_stmt, next_stmt, stmt_more, part_more, read_parts, read_text}
-use Rattle.affc_schedtext.proofs.Forms.{inner, opened, front_and_rest}
+use Rattle.affc_schedtext.proofs.FormRules.{inner, opened, front_and_rest}
 use Rattle.affc_schedtext.proofs.TextRules.{form_more_rule, entry_more_rule, part_rule}
 
 -- ---- Forms
@@ -157,7 +157,7 @@ module _ (o : Outline) (room : ℕ) where
     inverse_opens {scope} {words} ss maybe line (taken g) rest d end n h p e =
         turned p (subst (λ r. Gets (after r (and_on parts)) (free_symbols g ++ mark (codes ";") ∷ rest) d end) (sym e)
         (gets_after _ (subst (λ l. Gets (stmt_more o room digits ss scope words maybe line) (l ++ mark (codes ";") ∷ rest) (going (stmt_line digits ss (line (taken g)))) (mark (codes ";") ∷ rest)) (sym (free_split room scope g))
-            (gets_on _ _ _ refl (gets_on _ _ _ refl (gets_after _ (free_gets room scope g (mark (codes ";") ∷ rest) (refl, refl, refl) refl) gets_give))))
+        (gets_on _ _ _ refl (gets_on _ _ _ refl (gets_after _ (free_gets room scope g (mark (codes ";") ∷ rest) (refl, refl, refl) refl) gets_give))))
         (turned (stmt_line digits ss (line (taken g))) h)))
 
     line_opens : (ss : StmtsText o (decimal digits)) (l : Line) (rest : List Symbol) (d : Text o) (end : List Symbol) → NoEntry rest → Gets (after (next_stmt o room digits (and_stmt ss l)) (and_on parts)) rest d end

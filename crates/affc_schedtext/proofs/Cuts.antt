@@ -66,6 +66,7 @@ two_parts {A} {B} {C} left right spelled a sign b lift join lifted joined first 
           is = joined c.whole ∙ ap (λ l. left a ++ sign ∷ l) c.is ∙ (λ i. left a ++ h.0 i ∷ (m ++ c.more)) ∙ sym (append_assoc (left a) (x ∷ m) c.more) ∙ ap (λ l. l ++ c.more) (sym p);
           without = c.without;
         }
+
     at : ((m : List Symbol) × (left a ≡ used ++ m) × (tail ≡ m ++ sign ∷ right b)) ⊎ ((m : List Symbol) × (used ≡ left a ++ m) × (sign ∷ right b ≡ m ++ tail)) → Completes spelled used
     at (inl k) = let c = first used k.0 k.1 in record { whole = lift c.whole; more = c.more; is = lifted c.whole ∙ c.is; without = c.without }
     at (inr k) = behind k.0 k.1 k.2

@@ -12,7 +12,7 @@ use Rattle.affc_grammar.proofs.Texts.{within_length}
 use Rattle.affc_schedtext.specs.Outline.{Outline, Scope, Words, these, any, Lists, Presence, never, always, maybe, statement_lists, statement_presence, fold_lists, fold_presence}
 use Rattle.affc_schedtext.specs.Grammar.{all_seen, FormText, FormsText, one_form, GivenText, FreeText, one_entry, EntriesText, InverseText, without, skipped, LineText, StmtsText, no_stmts, and_stmt, OrderText, source, time, Text, order, and_fold}
 use Rattle.affc_schedtext.specs.Reading.{seen_front, unseen_rest, followed_by, with_seen, read_form, form_more, read_forms, read_given, entry_more, read_free, read_entries, Part, source_word, time_number, stmt_forms, stmt_line, fold_forms, fold_line, read_list, Next, read_fold, next_fold, read_first_fold, read_stmt, next_stmt, stmt_more, part_more, read_parts, read_text}
-use Rattle.affc_schedtext.proofs.Forms.{front_and_rest, opened, inner, form_reader}
+use Rattle.affc_schedtext.proofs.FormRules.{front_and_rest, opened, inner, form_reader}
 use Rattle.affc_schedtext.proofs.TextRules.{form_more_rule, forms_rule, given_rule, entry_more_rule, free_rule, entries_rule, list_rule, part_rule}
 
 -- reading so many tokens, or fewer, never wants more room
@@ -104,8 +104,10 @@ never_deep next limit n (Err (At ts)) k e = cc
 never_deep next limit n (Err Deep) k e = k
 
 roomy_ix : (room : ℕ) → Roomy room (read_ix false room)
-roomy_ix room = record { never = λ ts le e.
-    never_deep count_open (0 + room) (0 + 0) (read_ix false room ts) ((ix_rule false room).shallow 0 ts (within_wider ts (length ts) (0 + room) (0 + 0) (omega (arith, le)) (within_length ts))) e }
+roomy_ix room = record {
+  never = λ ts le e.
+      never_deep count_open (0 + room) (0 + 0) (read_ix false room ts) ((ix_rule false room).shallow 0 ts (within_wider ts (length ts) (0 + room) (0 + 0) (omega (arith, le)) (within_length ts))) e;
+}
 
 roomy_seen : (room : ℕ) (scope : Scope) (a : IxText false) (o : Option (IsTrue (all_seen scope (ix_symbols a)))) → Roomy room (with_seen scope a o)
 roomy_seen room scope a None = roomy_fail room
@@ -118,10 +120,12 @@ followed_deep others (Err Deep) e = refl
 
 module _ (room : ℕ) (scope : Scope) where
   roomy_form : Roomy room (read_form room scope)
-  roomy_form = record { never = λ ts le e.
-      let front = seen_front scope ts in
-      let few : length front ≤ room = omega (arith, le, ap length (front_and_rest scope ts), length-append front (unseen_rest scope ts)) in
-      (roomy_after room (ix_rule false room).reader (roomy_ix room) (λ a. roomy_seen room scope a (holding (all_seen scope (ix_symbols a))))).never front few (followed_deep (unseen_rest scope ts) (inner room scope front) (sym (opened room scope ts) ∙ e)) }
+  roomy_form = record {
+    never = λ ts le e.
+        let front = seen_front scope ts in
+        let few : length front ≤ room = omega (arith, le, ap length (front_and_rest scope ts), length-append front (unseen_rest scope ts)) in
+        (roomy_after room (ix_rule false room).reader (roomy_ix room) (λ a. roomy_seen room scope a (holding (all_seen scope (ix_symbols a))))).never front few (followed_deep (unseen_rest scope ts) (inner room scope front) (sym (opened room scope ts) ∙ e));
+  }
 
   form : {A : Type 0} {f : FormText scope → Reader Symbol A} → ((a : FormText scope) → Roomy room (f a)) → Roomy room (after (read_form room scope) f)
   form h = roomy_after room (form_reader room scope) roomy_form h

@@ -8,7 +8,7 @@ use Rattle.affc_grammar.proofs.Tests.{same_bytes, mark_test, word_test, any_word
 use Rattle.affc_schedtext.specs.Outline.{Outline, Scope, Words, these, any, Lists, Presence, never, always, maybe, statement_lists, statement_presence, fold_lists, fold_presence}
 use Rattle.affc_schedtext.specs.Grammar.{FormText, form_symbols, FormsText, one_form, and_form, forms_symbols, GivenText, last_entry, entry_then, given_symbols, FreeText, one_entry, and_entry, free_symbols, EntriesText, given, free, entries_symbols, InverseText, without, written, skipped, taken, inverse_symbols, LineText, head_symbols, open_symbols, StmtsText, no_stmts, and_stmt, stmts_symbols, OrderText, source, time, order_symbols, Text, order, and_fold, text_symbols}
 use Rattle.affc_schedtext.specs.Reading.{form_more, read_forms, read_given, entry_more, read_free, read_entries, Part, source_word, time_number, stmt_forms, stmt_line, fold_forms, fold_line, part_symbols, read_list, read_fold, next_fold, read_first_fold, read_stmt, next_stmt, stmt_more, part_more, read_parts, read_text}
-use Rattle.affc_schedtext.proofs.Forms.{Exact, form_rule, zero_form}
+use Rattle.affc_schedtext.proofs.FormRules.{Exact, form_rule, zero_form}
 
 -- ---- Lists of forms
 
@@ -89,9 +89,9 @@ module _ (o : Outline) (room : ℕ) where
           moved xs ys zs r = simp append_assoc
       stmt_more_rule maybe line h =
           either_rule any_word_test (λ k n. refl) (λ w. either_rule (mark_test (codes "=")) (λ k n. refl)
-              (λ _. nested_rule (λ r. (order_symbols (time digits ss) ++ base) ++ mark (codes ";") ∷ r) (λ r. word w ∷ mark (codes "=") ∷ r) (λ x y. refl) (free_rule room scope w) λ g. give_rule (going (stmt_line digits ss (line (taken g)))) (λ r.
-                  sym (ap (λ b. (order_symbols (time digits ss) ++ b) ++ r) (h (taken g)) ∙ moved (order_symbols (time digits ss)) base (free_symbols g) r)))
-              (refront (λ r. behind_line ss (line skipped) base (h skipped ∙ append-nil base) (word w ∷ r)) (stmt_rule (and_stmt ss (line skipped)) w)))
+          (λ _. nested_rule (λ r. (order_symbols (time digits ss) ++ base) ++ mark (codes ";") ∷ r) (λ r. word w ∷ mark (codes "=") ∷ r) (λ x y. refl) (free_rule room scope w) λ g. give_rule (going (stmt_line digits ss (line (taken g)))) (λ r.
+          sym (ap (λ b. (order_symbols (time digits ss) ++ b) ++ r) (h (taken g)) ∙ moved (order_symbols (time digits ss)) base (free_symbols g) r)))
+          (refront (λ r. behind_line ss (line skipped) base (h skipped ∙ append-nil base) (word w ∷ r)) (stmt_rule (and_stmt ss (line skipped)) w)))
           (finished_rule (done (order (time digits (and_stmt ss (line skipped))))) (sym (behind_line ss (line skipped) base (h skipped ∙ append-nil base) []) ∙ append-nil (order_symbols (time digits (and_stmt ss (line skipped))))))
         where
           moved : (xs ys zs r : List Symbol) → (xs ++ (ys ++ mark (codes ";") ∷ zs)) ++ r ≡ (xs ++ ys) ++ mark (codes ";") ∷ (zs ++ r)

@@ -1,6 +1,7 @@
 pub mod Outline
 pub mod Grammar
 pub mod Reading
+pub mod Drafting
 pub mod Draft
 pub mod Rules
 pub mod Answers

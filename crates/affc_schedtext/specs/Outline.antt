@@ -1,6 +1,6 @@
 -- What a schedule's text sees of a program: its parameters, its statements and its arrays, and which columns the names in its forms stand for.
 use Rattle.std.specs.Prelude.{ℕ, zero, suc, ◌+◌, ◌-◌, Bool, true, false, not, ◌&&◌, ◌||◌, ◌==◌, nat_lt, List, [], ◌∷◌, ◌++◌, length, map, drop, codes, Option, Some, None, is_some, slice_get, if◌then◌else◌, decimal as digits_of}
-use Rattle.std.specs.List.{list_all}
+use Rattle.std.specs.List.{position as position_by}
 use Rattle.std.specs.Option.{option_map}
 use Rattle.affc_lex.specs.Bytes.{same, begins, decimal}
 use Rattle.affc_lex.specs.Pieces.{is_number}
@@ -58,8 +58,7 @@ numbered_names letter from (suc n) = (letter ++ digits_of from) ∷ numbered_nam
 
 -- the number of the first of these that is the name
 abbrev pub position : Name → List Name → Option ℕ
-position w [] = None
-position w (v ∷ vs) = if same v w then Some 0 else option_map suc (position w vs)
+position w vs = position_by (λ v. same v w) vs
 
 abbrev pub or_else : Option ℕ → Option ℕ → Option ℕ
 or_else (Some x) other = Some x
