@@ -1,0 +1,9 @@
+pub mod Cuts
+pub mod FormRules
+pub mod TextRules
+pub mod Complete
+pub mod Roomy
+pub mod Texts
+pub mod Turns
+pub mod DraftExact
+pub mod StageExact

@@ -1,0 +1,10 @@
+pub mod Outline
+pub mod Grammar
+pub mod Reading
+pub mod Drafting
+pub mod Draft
+pub mod Rules
+pub mod Answers
+pub mod Products
+pub mod Verdict
+pub mod Examples

@@ -1,0 +1,23 @@
+//! What holds of every schedule's text: each function here is a statement, proved.
+
+ghost use Rattle.std.specs.Prelude.{◌≡◌, ◌≤◌, ℕ, List, [], length, Ok, Err};
+ghost use Rattle.affc_grammar.specs.Grammar.{Symbol};
+ghost use Rattle.affc_grammar.specs.Reader.{At, Deep};
+ghost use Rattle.affc_schedtext.specs.Outline.{Outline};
+ghost use Rattle.affc_schedtext.specs.Grammar.{Text, text_symbols, StopsAt};
+ghost use Rattle.affc_schedtext.specs.Reading.{read_text};
+
+/// The grammar has one way at most to write a list of symbols.
+pub fn one_text()
+    ensures { (o : Outline) (a b : Text o) → text_symbols a ≡ text_symbols b → a ≡ b }
+{}
+
+/// The reading of symbols by one token of foresight is exact.
+pub fn texts_are_read()
+    ensures spelled { (o : Outline) (room : ℕ) (ss : List Symbol) (c : Text o) → read_text o room ss ≡ Ok (c, []) → ss ≡ text_symbols c }
+    ensures read { (o : Outline) (room : ℕ) (c : Text o) → length (text_symbols c) ≤ room → read_text o room (text_symbols c) ≡ Ok (c, []) }
+    // It stops at the first place at which no text of the grammar goes on.
+    ensures stopped { (o : Outline) (room : ℕ) (ss rest : List Symbol) → read_text o room ss ≡ Err (At rest) → StopsAt o ss rest }
+    // Room for as many open brackets as there are symbols is enough.
+    ensures enough { (o : Outline) (room : ℕ) (ss : List Symbol) → length ss ≤ room → read_text o room ss ≡ Err Deep → ⊥ }
+{}
