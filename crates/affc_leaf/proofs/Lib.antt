@@ -13,3 +13,5 @@ pub mod Orders
 pub mod Adding
 pub mod Refuting
 pub mod BoxCuts
+pub mod Scaled
+pub mod Hard

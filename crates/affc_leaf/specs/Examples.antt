@@ -3,10 +3,11 @@ use Rattle.std.specs.Prelude.{◌≡◌, List, [], ◌∷◌, ℤ, pos, negsuc, 
 use Rattle.std.specs.declared.alloc.Global.{Global}
 use Rattle.affc_rows.specs.Forms.{Affine}
 use Rattle.affc_system.specs.Order.{LexLe}
+use Rattle.affc_system.specs.Systems.{Rows}
 use Rattle.affc_farkas.specs.declared.proof.Proof.{Proof, Leaf, Cut', Split'}
 use Rattle.affc_leaf.specs.declared.bounds.Bound.{Bound}
 use Rattle.affc_leaf.specs.Points.{points}
-use Rattle.affc_leaf.specs.Boxed.{SplitsAtZero, IsLeafProof}
+use Rattle.affc_leaf.specs.Boxed.{SplitsAtZero, IsLeafProof, IsHard}
 use Rattle.affc_leaf.specs.Cuts.{IsDivided}
 use Rattle.affc_leaf.specs.BoxCuts.{without, behind, sum_with}
 
@@ -66,3 +67,19 @@ NoSplitOfMoreThanTheColumn = (p : Box (Unit {0}) Global) → let bad : Proof = s
 
 abbrev pub OnlyLeavesAreLeaves : Type 0
 OnlyLeavesAreLeaves = (p : Box (Unit {0}) Global) → IsLeafProof (Leaf []) × (IsLeafProof (cut_before p (Leaf [])) → ⊥) × (IsLeafProof (split_of (pos 0) p (Leaf []) (Leaf [])) → ⊥)
+
+-- ---- What elimination can't refute
+
+-- no columns, and -1 >= 0
+abbrev pub contradiction : Rows
+contradiction = record { columns = 0; rows = record { coefs = []; constant = negsuc 0 } ∷ [] }
+
+abbrev pub ContradictionIsNotHard : Type 0
+ContradictionIsNotHard = IsHard contradiction → ⊥
+
+-- 2 x - 1 >= 0 and 1 - 2 x >= 0, which a half meets
+abbrev pub half : Rows
+half = record { columns = 1; rows = record { coefs = pos 2 ∷ []; constant = negsuc 0 } ∷ record { coefs = negsuc 1 ∷ []; constant = pos 1 } ∷ [] }
+
+abbrev pub HalfIsHard : Type 0
+HalfIsHard = IsHard half

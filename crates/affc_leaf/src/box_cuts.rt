@@ -11,14 +11,15 @@ ghost use Rattle.affc_leaf.specs.Parts.{IsEmpty};
 
 use crate::bounds::Bound;
 use crate::boxed::push_row;
-use crate::candidates::{Candidate, candidates_in, remainder_of};
+use crate::candidates::{Candidate, Proposal, candidates_in, remainder_of};
 use crate::cuts::divided_sum;
 use crate::leaves::{
-    add_multiple, constant_with, copied, fits_sum, found_leaf, is_below_zero, leaf_with,
+    Sight, add_multiple, constant_with, copied, fits_sum, found_leaf, is_below_zero, leaf_with,
     put_corners, sum_rows,
 };
-use crate::simplex::find_sum;
+use crate::simplex::{Outcome, look_at};
 use crate::tops::top_products;
+use crate::vertices::Vertex;
 use affc_farkas::{Multipliers, Proof};
 use affc_rows::Form;
 use affc_system::System;
@@ -289,25 +290,24 @@ fn add_row(system: &mut System, row: Form) -> bool {
     system.push(row).is_ok()
 }
 
-/// The cuts of sums of rows that gain by one in a box. `None` where there is none.
-fn tried_cuts(alloc: Global, system: &System, bounds: &[Bound]) -> Result<Option<Tried>, AllocError>
-    requires width { length bounds.now ≡ system.now.columns }
-    requires ranges { All IsBound bounds.now }
-{
-    let candidates = candidates_in(alloc, system, bounds)?;
-    if candidates.is_empty() {
+/// The cuts of sums of rows that gain in a box. `None` where there is none.
+fn tried_cuts(
+    alloc: Global,
+    system: &System,
+    bounds: &[Bound],
+    vertex: Option<&Vertex>,
+) -> Result<Option<Tried>, AllocError> {
+    let Some(found) = candidates_in(alloc, system, bounds, vertex)? else {
         return Ok(None);
-    }
+    };
     let mut tried = Tried {
         extended: system.clone()?,
         cuts: Vec::new(alloc),
     };
-    for candidate in candidates {
-        let own = candidate.own.as_slice();
-        if let Some(cut) = box_cut(alloc, system, bounds, own, candidate.g)? {
-            if add_row(&mut tried.extended, cut.row) {
-                tried.cuts.push(candidate)?;
-            }
+    for proposal in found {
+        let Proposal { candidate, row } = proposal;
+        if add_row(&mut tried.extended, row) {
+            tried.cuts.push(candidate)?;
         }
     }
     Ok(Some(tried))
@@ -348,16 +348,17 @@ fn found_cuts(
     alloc: Global,
     system: &System,
     bounds: &[Bound],
+    vertex: Option<&Vertex>,
     next: u32,
 ) -> Result<Option<Box<Proof>>, AllocError>
     requires width { length bounds.now ≡ system.now.columns }
     requires ranges { All IsBound bounds.now }
     ensures answer { IfOk result (λ o. IfSome o (λ p. IsEmpty system.now bounds.now next p.value)) }
 {
-    let Some(tried) = tried_cuts(alloc, system, bounds)? else {
+    let Some(tried) = tried_cuts(alloc, system, bounds, vertex)? else {
         return Ok(None);
     };
-    let Some(sum) = find_sum(alloc, &tried.extended, bounds)? else {
+    let Outcome::Sum(sum) = look_at(alloc, &tried.extended, bounds)? else {
         return Ok(None);
     };
     let rows = system.rows().len();
@@ -396,8 +397,9 @@ pub fn found_empty(
     requires ranges { All IsBound bounds.now }
     ensures answer { IfOk result (λ o. IfSome o (λ p. IsEmpty system.now bounds.now next p.value)) }
 {
-    if let Some(leaf) = found_leaf(alloc, system, bounds, next)? {
+    let Sight { leaf, vertex } = found_leaf(alloc, system, bounds, next)?;
+    if let Some(leaf) = leaf {
         return Ok(Some(leaf));
     }
-    found_cuts(alloc, system, bounds, next)
+    found_cuts(alloc, system, bounds, vertex.as_ref(), next)
 }

@@ -6,6 +6,7 @@ ghost use Rattle.affc_farkas.specs.Proofs.{ValidProof};
 ghost use Rattle.affc_leaf.specs.Boxed.{unit, range_rows, with_box, IsLeafProof, IsHard};
 
 use crate::parts::unit_form;
+use crate::vertices::Vertex;
 use affc_farkas::elimination::refute;
 use affc_farkas::{Proof, Refutation};
 use affc_rows::Form;
@@ -93,11 +94,13 @@ pub fn boxed_system(
     Ok(boxed)
 }
 
-/// A leaf of the system with the rows of the box, by elimination. `None` where that shows that it can't find one.
+/// A leaf of the system with the rows of the box, by elimination. `None` where that shows that it can't find one, or where a rational
+/// point that is given meets all rows.
 pub fn refuted(
     alloc: Global,
     system: &System,
     ranges: &[(i64, i64)],
+    vertex: Option<&Vertex>,
 ) -> Result<Option<Proof>, AllocError>
     requires columns { length ranges.now ≡ system.now.columns }
     requires few { length system.now.rows + 2 * system.now.columns ≤ 1024 }
@@ -106,6 +109,11 @@ pub fn refuted(
     ensures hard { IfOk result (λ o. IfNone o (IsHard (with_box system.now ranges.now))) }
 {
     let boxed = boxed_system(alloc, system, ranges)?;
+    if let Some(vertex) = vertex {
+        if vertex.meets(&boxed) {
+            return Ok(None);
+        }
+    }
     match refute(alloc, &boxed) {
         Ok(Refutation::Refuted(by)) => Ok(Some(Proof::Leaf(by))),
         Ok(Refutation::Stands) => Ok(None),

@@ -9,8 +9,10 @@ use crate::bounds::Bound;
 use crate::cuts::common_divisor;
 use crate::leaves::{copied, put_pair};
 use crate::simplex::{at, reduce};
+use crate::vertices::Vertex;
 use affc_rows::Form;
 use affc_system::System;
+use smallvec::SmallVec;
 use std::alloc::{AllocError, Global};
 
 /// The most candidates in a box.
@@ -24,6 +26,13 @@ const MOST_ELIMINATIONS: u32 = 256;
 pub(crate) struct Candidate {
     pub own: Vec<(u32, u64)>,
     pub g: i64,
+}
+
+/// A candidate with the row that its division gives.
+#[derive(Drop)]
+pub(crate) struct Proposal {
+    pub candidate: Candidate,
+    pub row: Form,
 }
 
 /// Two rows of which each is the other's opposite.
@@ -49,11 +58,14 @@ struct Pivot {
     magnitude: u128,
 }
 
-/// What is found in a box, and how many eliminations are left.
+/// What is found in a box, whether some of it excludes the rational point of the box that is known, and how many eliminations are
+/// left.
 #[derive(Drop)]
-struct Search {
+struct Search<'a> {
     equalities: Vec<Equality>,
-    found: Vec<Candidate>,
+    vertex: Option<&'a Vertex>,
+    found: Vec<Proposal>,
+    excludes: bool,
     left: u32,
 }
 
@@ -69,9 +81,9 @@ pub(crate) fn remainder_of(c: i128, bound: Bound, g: i64) -> i128 {
 /// The common divisor of the free columns' coefficients, but for one column.
 fn divisor_but(coefs: &[i128], bounds: &[Bound], but: Option<usize>) -> i64 {
     let mut common = 0u128;
-    for (j, bound) in bounds.iter().enumerate() {
-        if bound.low < bound.high && but != Some(j) {
-            common = common_divisor(common, at(coefs, j).unsigned_abs());
+    for (j, (c, bound)) in coefs.iter().zip(bounds.iter()).enumerate() {
+        if *c != 0 && bound.low < bound.high && but != Some(j) {
+            common = common_divisor(common, c.unsigned_abs());
             if common == 1 {
                 return 1;
             }
@@ -80,15 +92,74 @@ fn divisor_but(coefs: &[i128], bounds: &[Bound], but: Option<usize>) -> i64 {
     i64::try_from(common).unwrap_or(0)
 }
 
+/// The columns that can be left out of a common divisor so that it is greater than 1: the first whose coefficient is 1 or -1, all
+/// where there is none, and none where there are two.
+fn columns_to_leave(coefs: &[i128], bounds: &[Bound]) -> (usize, usize) {
+    let mut only = None;
+    for (j, (c, bound)) in coefs.iter().zip(bounds.iter()).enumerate() {
+        if c.unsigned_abs() == 1 && bound.low < bound.high {
+            if only.is_some() {
+                return (0, 0);
+            }
+            only = Some(j);
+        }
+    }
+    match only {
+        Some(j) => (j, j.saturating_add(1)),
+        None => (0, bounds.len()),
+    }
+}
+
 /// The constant with what a division by `g` leaves at its greatest over the box.
 fn constant_left(coefs: &[i128], constant: i128, bounds: &[Bound], g: i64) -> Option<i128> {
     let mut total = constant;
     for (c, bound) in coefs.iter().zip(bounds.iter()) {
         let left = remainder_of(*c, *bound, g);
-        let end = if left < 0 { bound.low } else { bound.high };
-        total = total.checked_add(left.checked_mul(i128::from(end))?)?;
+        if left != 0 {
+            let end = if left < 0 { bound.low } else { bound.high };
+            total = total.checked_add(left.checked_mul(i128::from(end))?)?;
+        }
     }
     Some(total)
+}
+
+/// The sum divided by `g`, where the constant is at its greatest.
+fn divided_row(
+    alloc: Global,
+    coefs: &[i128],
+    greatest: i128,
+    bounds: &[Bound],
+    g: i64,
+) -> Result<Option<Form>, AllocError> {
+    let mut quotients = SmallVec::new(alloc);
+    for (c, bound) in coefs.iter().zip(bounds.iter()) {
+        let quotient = if bound.low < bound.high {
+            c.checked_div(i128::from(g)).unwrap_or(0)
+        } else {
+            0
+        };
+        let Ok(()) = quotients.push(quotient) else {
+            return Err(AllocError);
+        };
+    }
+    let Some(constant) = greatest.checked_div_euclid(i128::from(g)) else {
+        return Ok(None);
+    };
+    Ok(Some(Form {
+        coefs: quotients,
+        constant,
+    }))
+}
+
+/// Whether a row is below 0 at the point, or that can't be told.
+fn is_excluded(row: &Form, vertex: Option<&Vertex>) -> bool {
+    match vertex {
+        Some(vertex) => match vertex.value_of(row) {
+            Some(value) => value < 0,
+            None => true,
+        },
+        None => true,
+    }
 }
 
 /// Adds the sum divided by `g`, where it gains by that.
@@ -99,17 +170,22 @@ fn add_divided(
     constant: i128,
     bounds: &[Bound],
     g: i64,
-    found: &mut Vec<Candidate>,
+    search: &mut Search,
 ) -> Result<(), AllocError> {
-    if g <= 1 || found.len() >= MOST_CANDIDATES {
+    if g <= 1 || search.found.len() >= MOST_CANDIDATES {
         return Ok(());
     }
-    let Some(total) = constant_left(coefs, constant, bounds, g) else {
+    let Some(greatest) = constant_left(coefs, constant, bounds, g) else {
         return Ok(());
     };
-    if total.checked_rem(i128::from(g)).unwrap_or(0) != 0 {
+    if greatest.checked_rem(i128::from(g)).unwrap_or(0) == 0 {
+        return Ok(());
+    }
+    if let Some(row) = divided_row(alloc, coefs, greatest, bounds, g)? {
+        search.excludes = search.excludes || is_excluded(&row, search.vertex);
         let own = copied(alloc, own)?;
-        found.push(Candidate { own, g })?;
+        let candidate = Candidate { own, g };
+        search.found.push(Proposal { candidate, row })?;
     }
     Ok(())
 }
@@ -121,14 +197,20 @@ fn add_sum(
     coefs: &[i128],
     constant: i128,
     bounds: &[Bound],
-    found: &mut Vec<Candidate>,
+    search: &mut Search,
 ) -> Result<(), AllocError> {
+    let (first, end) = columns_to_leave(coefs, bounds);
+    if first >= end {
+        return Ok(());
+    }
     let common = divisor_but(coefs, bounds, None);
-    add_divided(alloc, own, coefs, constant, bounds, common, found)?;
-    for j in 0..bounds.len() {
-        let g = divisor_but(coefs, bounds, Some(j));
-        if g != common {
-            add_divided(alloc, own, coefs, constant, bounds, g, found)?;
+    add_divided(alloc, own, coefs, constant, bounds, common, search)?;
+    for j in first..end {
+        if at(coefs, j) != 0 {
+            let g = divisor_but(coefs, bounds, Some(j));
+            if g != common {
+                add_divided(alloc, own, coefs, constant, bounds, g, search)?;
+            }
         }
     }
     Ok(())
@@ -180,8 +262,10 @@ fn sum_of_row(
     equality: usize,
     equalities: usize,
 ) -> Result<Sum, AllocError> {
-    let mut cells = Vec::new(alloc);
-    for c in form.coefs.as_slice() {
+    let coefs = form.coefs.as_slice();
+    let width = coefs.len().saturating_add(2).saturating_add(equalities);
+    let mut cells = Vec::with_capacity(alloc, width)?;
+    for c in coefs {
         cells.push(*c)?;
     }
     cells.push(form.constant)?;
@@ -321,7 +405,7 @@ fn multiples_of(
 
 /// The opposite of a sum of equalities.
 fn opposite_sum(alloc: Global, sum: &Sum) -> Result<Option<Sum>, AllocError> {
-    let mut cells = Vec::new(alloc);
+    let mut cells = Vec::with_capacity(alloc, sum.cells.len())?;
     for cell in sum.cells.as_slice() {
         let Some(opposite) = cell.checked_neg() else {
             return Ok(None);
@@ -347,14 +431,7 @@ fn add_found(
         return Ok(());
     };
     let constant = at(cells, columns);
-    add_sum(
-        alloc,
-        own.as_slice(),
-        coefs,
-        constant,
-        bounds,
-        &mut search.found,
-    )
+    add_sum(alloc, own.as_slice(), coefs, constant, bounds, search)
 }
 
 /// Eliminates a column of each sum, and adds what gains. Answers whether that is done.
@@ -419,31 +496,51 @@ fn eliminate_from(
     Ok(())
 }
 
-/// Sums of rows that gain by being cut in a box.
+/// Whether a column that isn't fixed is in some equality.
+fn is_in_equality(rows: &[Form], equalities: &[Equality], column: usize, bounds: &[Bound]) -> bool {
+    let free = match bounds.get(column) {
+        Some(bound) => bound.low < bound.high,
+        None => false,
+    };
+    free && equalities.iter().any(|equality| match rows.get(equality.row as usize) {
+        Some(row) => at(row.coefs.as_slice(), column) != 0,
+        None => false,
+    })
+}
+
+/// Sums of rows that gain by being cut in a box. `None` where none of them excludes the rational point of the box that is given.
 pub(crate) fn candidates_in(
     alloc: Global,
     system: &System,
     bounds: &[Bound],
-) -> Result<Vec<Candidate>, AllocError> {
+    vertex: Option<&Vertex>,
+) -> Result<Option<Vec<Proposal>>, AllocError> {
+    if vertex.is_some_and(|v| v.is_whole()) {
+        return Ok(None);
+    }
     let rows = system.rows();
     let mut search = Search {
         equalities: equalities_of(alloc, rows)?,
+        vertex,
         found: Vec::new(alloc),
+        excludes: false,
         left: MOST_ELIMINATIONS,
     };
     for (number, row) in rows.iter().enumerate() {
         let own = [(u32::try_from(number).unwrap_or(0), 1)];
         let coefs = row.coefs.as_slice();
-        add_sum(alloc, &own, coefs, row.constant, bounds, &mut search.found)?;
-    }
-    if search.equalities.is_empty() {
-        return Ok(search.found);
+        add_sum(alloc, &own, coefs, row.constant, bounds, &mut search)?;
     }
     for first in 0..bounds.len() {
-        if search.left > 0 {
+        let is_in = is_in_equality(rows, search.equalities.as_slice(), first, bounds);
+        if is_in && search.left > 0 {
             let sums = sums_of(alloc, rows, search.equalities.as_slice())?;
             eliminate_from(alloc, first, sums, bounds, &mut search)?;
         }
     }
-    Ok(search.found)
+    if search.excludes {
+        Ok(Some(search.found))
+    } else {
+        Ok(None)
+    }
 }

@@ -1,6 +1,6 @@
 //! What the definitions give at small boxes, as laws: `specs/Examples.antt` says each, with values that were found
 //! by hand from the rules.
-ghost use Rattle.affc_leaf.specs.Examples.{TenTimesFivePoints, FirstColumnDecides, PartIsAtItsGreatest, PartOfAProductIsTaken, ConstantIsRoundedDown, RowsBehindTenOthers, SumOfBothLists, NoSplitOfMoreThanTheColumn, OnlyLeavesAreLeaves};
+ghost use Rattle.affc_leaf.specs.Examples.{TenTimesFivePoints, FirstColumnDecides, PartIsAtItsGreatest, PartOfAProductIsTaken, ConstantIsRoundedDown, RowsBehindTenOthers, SumOfBothLists, NoSplitOfMoreThanTheColumn, OnlyLeavesAreLeaves, ContradictionIsNotHard, HalfIsHard};
 
 /// How many points a box has, and in which order they are.
 pub fn boxes()
@@ -21,4 +21,10 @@ pub fn cuts()
 pub fn proofs()
     ensures no_split_of_more_than_the_column { NoSplitOfMoreThanTheColumn }
     ensures only_leaves_are_leaves { OnlyLeavesAreLeaves }
+{}
+
+/// What elimination can't refute.
+pub fn elimination()
+    ensures contradiction_is_not_hard { ContradictionIsNotHard }
+    ensures half_is_hard { HalfIsHard }
 {}

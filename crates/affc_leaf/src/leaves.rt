@@ -10,8 +10,9 @@ ghost use Rattle.affc_leaf.specs.Leaves.{corner_row, corner_rows, SameSum, IsLea
 ghost use Rattle.affc_leaf.specs.Parts.{IsEmpty};
 
 use crate::bounds::Bound;
-use crate::simplex::find_sum;
+use crate::simplex::{Outcome, look_at};
 use crate::tops::top_products;
+use crate::vertices::Vertex;
 use affc_farkas::{Multipliers, Proof};
 use affc_rows::Form;
 use affc_system::System;
@@ -240,6 +241,13 @@ fn sum_leaf(
     leaf_with(alloc, by, sum, bounds)
 }
 
+/// What a look at a box finds: a leaf, or else a rational point of it if one is found. Nothing is promised of the point.
+#[derive(Drop)]
+pub struct Sight {
+    pub leaf: Option<Box<Proof>>,
+    pub vertex: Option<Vertex>,
+}
+
 /// A leaf, where some rows are found whose sum is below 0 in the whole box.
 #[inline(never)]
 pub fn found_leaf(
@@ -247,14 +255,24 @@ pub fn found_leaf(
     system: &System,
     bounds: &[Bound],
     next: u32,
-) -> Result<Option<Box<Proof>>, AllocError>
+) -> Result<Sight, AllocError>
     requires width { length bounds.now ≡ system.now.columns }
     requires ranges { All IsBound bounds.now }
-    ensures answer { IfOk result (λ o. IfSome o (λ p. IsEmpty system.now bounds.now next p.value)) }
-    ensures leaf { IfOk result (λ o. IfSome o (λ p. IsLeafProof p.value)) }
+    ensures answer { IfOk result (λ s. IfSome s.leaf (λ p. IsEmpty system.now bounds.now next p.value)) }
+    ensures leaf { IfOk result (λ s. IfSome s.leaf (λ p. IsLeafProof p.value)) }
 {
-    match find_sum(alloc, system, bounds)? {
-        Some(by) => sum_leaf(alloc, system, bounds, by, next),
-        None => Ok(None),
+    match look_at(alloc, system, bounds)? {
+        Outcome::Sum(by) => {
+            let leaf = sum_leaf(alloc, system, bounds, by, next)?;
+            Ok(Sight { leaf, vertex: None })
+        }
+        Outcome::Vertex(vertex) => Ok(Sight {
+            leaf: None,
+            vertex: Some(vertex),
+        }),
+        Outcome::Nothing | Outcome::TooGreat => Ok(Sight {
+            leaf: None,
+            vertex: None,
+        }),
     }
 }

@@ -13,5 +13,7 @@ pub mod parts;
 pub mod places;
 mod simplex;
 pub mod tops;
+pub mod vertices;
 
 pub use bounds::Bound;
+pub use vertices::Vertex;

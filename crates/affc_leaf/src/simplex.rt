@@ -6,6 +6,7 @@ ghost use Rattle.std.specs.Prelude.{◌<◌};
 
 use crate::bounds::Bound;
 use crate::leaves::put_pair;
+use crate::vertices::Vertex;
 use affc_rows::Form;
 use affc_system::System;
 use std::alloc::{AllocError, Global};
@@ -38,6 +39,8 @@ pub(crate) trait Number: Copy + Drop {
     fn is_zero(self) -> bool;
 
     fn magnitude(self) -> u128;
+
+    fn wide(self) -> i128;
 }
 
 impl Number for i64 {
@@ -88,6 +91,10 @@ impl Number for i64 {
     fn magnitude(self) -> u128 {
         u128::from(self.unsigned_abs())
     }
+
+    fn wide(self) -> i128 {
+        i128::from(self)
+    }
 }
 
 impl Number for i128 {
@@ -137,6 +144,10 @@ impl Number for i128 {
 
     fn magnitude(self) -> u128 {
         self.unsigned_abs()
+    }
+
+    fn wide(self) -> i128 {
+        self
     }
 }
 
@@ -484,9 +495,11 @@ fn reach_of<N: Number>(row: &Form, bounds: &[Bound]) -> Option<(N, N)> {
 
 /// What a look at a box comes to.
 #[derive(Drop)]
-enum Outcome {
-    /// Rows with multipliers, in the order of the rows.
+pub(crate) enum Outcome {
+    /// Rows whose sum is below 0 in the whole box, with multipliers, in the order of the rows.
     Sum(Vec<(u32, u64)>),
+    /// A rational point of the box at which every row is at least 0.
+    Vertex(Vertex),
     Nothing,
     /// A number doesn't fit.
     TooGreat,
@@ -605,7 +618,7 @@ fn one_pivot<N: Number>(
         return Ok(Step::Ended(Outcome::TooGreat));
     };
     let Some(broken) = found else {
-        return Ok(Step::Ended(Outcome::Nothing));
+        return Ok(Step::Ended(vertex_of(alloc, tableau, columns)?));
     };
     let Some(helper) = helper_in(tableau, bounds, broken) else {
         return Ok(Step::Ended(sum_found(alloc, tableau, columns, broken.line)?));
@@ -614,6 +627,39 @@ fn one_pivot<N: Number>(
         Some(()) => Ok(Step::Moved),
         None => Ok(Step::Ended(Outcome::TooGreat)),
     }
+}
+
+/// The point at which a tableau stands, where its numbers fit.
+fn vertex_of<N: Number>(
+    alloc: Global,
+    tableau: &Tableau<N>,
+    columns: usize,
+) -> Result<Outcome, AllocError> {
+    let mut vertex = Vertex::new(alloc, columns)?;
+    match fill_vertex(tableau, columns, &mut vertex) {
+        Some(()) => Ok(Outcome::Vertex(vertex)),
+        None => Ok(Outcome::Nothing),
+    }
+}
+
+/// Sets the columns of a point to their values in a tableau.
+fn fill_vertex<N: Number>(tableau: &Tableau<N>, columns: usize, vertex: &mut Vertex) -> Option<()> {
+    let (values, lines) = tableau.cells.as_slice().split_at_checked(columns)?;
+    let (others, basics) = tableau.variables.as_slice().split_at_checked(columns)?;
+    for (variable, value) in others.iter().zip(values.iter()) {
+        vertex.set(*variable as usize, (*value).wide(), 1)?;
+    }
+    for (number, line) in lines.chunks_exact(width_of(columns)).enumerate() {
+        let variable = *basics.get(number)? as usize;
+        if variable < columns {
+            let [constant, divisor, entries @ ..] = line else {
+                return None;
+            };
+            let value = sum_of(*constant, entries, values)?;
+            vertex.set(variable, value.wide(), (*divisor).wide())?;
+        }
+    }
+    Some(())
 }
 
 /// The first variable that can help a broken line.
@@ -708,19 +754,14 @@ fn pivoted<N: Number>(
     Ok(Outcome::Nothing)
 }
 
-/// Rows and multipliers whose sum is below 0 in the whole box, if some are found, in the order of the rows.
-pub(crate) fn find_sum(
+/// Rows whose sum is below 0 in the whole box, or a rational point of it, where one of them is found.
+pub(crate) fn look_at(
     alloc: Global,
     system: &System,
     bounds: &[Bound],
-) -> Result<Option<Vec<(u32, u64)>>, AllocError> {
-    let narrow = look::<i64>(alloc, system, bounds)?;
-    let outcome = match narrow {
-        Outcome::TooGreat => look::<i128>(alloc, system, bounds)?,
-        found => found,
-    };
-    match outcome {
-        Outcome::Sum(rows) => Ok(Some(rows)),
-        Outcome::Nothing | Outcome::TooGreat => Ok(None),
+) -> Result<Outcome, AllocError> {
+    match look::<i64>(alloc, system, bounds)? {
+        Outcome::TooGreat => look::<i128>(alloc, system, bounds),
+        found => Ok(found),
     }
 }

@@ -19,10 +19,10 @@ use crate::cuts::with_cuts;
 use crate::parts::at_lows;
 use crate::search::{Answer, Found, SPARE, inside};
 use affc_farkas::Proof;
-use affc_leaf::Bound;
 use affc_leaf::boxed::{boxed_system, refuted};
 use affc_leaf::cuts::has_cut;
-use affc_leaf::leaves::found_leaf;
+use affc_leaf::leaves::{Sight, found_leaf};
+use affc_leaf::{Bound, Vertex};
 use affc_system::system::MOST_ROWS;
 use affc_system::{BoxOf, System};
 use std::alloc::{AllocError, Global};
@@ -75,6 +75,13 @@ pub fn within_reach(ranges: &BoxOf) -> bool
     ranges.ranges().iter().all(|r| range_fits(*r))
 }
 
+/// What a look at the whole box finds.
+#[derive(Drop)]
+struct WholeSight {
+    leaf: Option<Proof>,
+    vertex: Option<Vertex>,
+}
+
 /// A leaf for the whole box, found at once.
 fn whole_leaf(
     alloc: Global,
@@ -82,22 +89,26 @@ fn whole_leaf(
     ranges: &[(i64, i64)],
     bounds: &[Bound],
     next: u32,
-) -> Result<Option<Proof>, Stop>
+) -> Result<WholeSight, Stop>
     requires columns { length ranges.now ≡ system.now.columns }
     requires reach { All WithinReach ranges.now }
     requires ranges { All IsBound bounds.now }
     requires bounds { bounds.now ≡ box_bounds (length system.now.rows) ranges.now }
     requires width { length bounds.now ≡ system.now.columns }
     requires next { next ≡ length system.now.rows + 2 * system.now.columns }
-    ensures valid { IfOk result (λ o. IfSome o (λ p. ValidProof (with_box system.now ranges.now) p)) }
-    ensures leaf { IfOk result (λ o. IfSome o IsLeafProof) }
+    ensures valid { IfOk result (λ s. IfSome s.leaf (λ p. ValidProof (with_box system.now ranges.now) p)) }
+    ensures leaf { IfOk result (λ s. IfSome s.leaf IsLeafProof) }
     ensures memory { OnErr result (result ≡ Err Stop.Memory) }
 {
     let _rows = system.rows();
-    if let Some(leaf) = found_leaf(alloc, system, bounds, next)? {
-        return Ok(Some(Box::into_inner(leaf)));
+    let Sight { leaf, vertex } = found_leaf(alloc, system, bounds, next)?;
+    match leaf {
+        Some(leaf) => Ok(WholeSight {
+            leaf: Some(Box::into_inner(leaf)),
+            vertex,
+        }),
+        None => Ok(WholeSight { leaf: None, vertex }),
     }
-    Ok(None)
 }
 
 /// A leaf for the whole box by elimination, where the system with the rows of the box isn't too long for it.
@@ -105,6 +116,7 @@ fn eliminated(
     alloc: Global,
     system: &System,
     ranges: &[(i64, i64)],
+    vertex: Option<&Vertex>,
     next: u32,
 ) -> Result<Option<Proof>, Stop>
     requires columns { length ranges.now ≡ system.now.columns }
@@ -117,7 +129,7 @@ fn eliminated(
     if next > MOST_ROWS as u32 {
         return Ok(None);
     }
-    let leaf = refuted(alloc, system, ranges)?;
+    let leaf = refuted(alloc, system, ranges, vertex)?;
     Ok(leaf)
 }
 
@@ -229,13 +241,15 @@ fn opened(
     let columns = system.columns();
     let next = system.rows().len() as u32 + 2 * columns;
     let bounds = whole(alloc, system, ranges)?;
-    if let Some(leaf) = whole_leaf(alloc, system, ranges, bounds.as_slice(), next)? {
+    let sight = whole_leaf(alloc, system, ranges, bounds.as_slice(), next)?;
+    let WholeSight { leaf, vertex } = sight;
+    if let Some(leaf) = leaf {
         return Ok(Answer::Empty(leaf));
     }
     if let Some(point) = at_lows(alloc, system, bounds.as_slice())? {
         return Ok(Answer::Point(point));
     }
-    if let Some(leaf) = eliminated(alloc, system, ranges, next)? {
+    if let Some(leaf) = eliminated(alloc, system, ranges, vertex.as_ref(), next)? {
         return Ok(Answer::Empty(leaf));
     }
     let answer = searched(
