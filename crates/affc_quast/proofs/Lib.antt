@@ -1,3 +1,4 @@
 pub mod LeafLemmas
 pub mod RangeLemmas
 pub mod NearLemmas
+pub mod ExampleProofs

@@ -5,3 +5,4 @@ pub mod Sources
 pub mod Paths
 pub mod Limits
 pub mod Laws
+pub mod Examples
