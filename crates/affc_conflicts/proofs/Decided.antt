@@ -42,10 +42,10 @@ point_of_context context ranges p here =
       meets = to_all p (box_rows context.columns 0 ranges ++ context.rows) (met_append p (box_rows context.columns 0 ranges) context.rows box (from_all p context.rows here.meets.meets));
     }
 
-one : (p : List ℤ) (row : Affine) → Meets p row → All (Meets p) (row ∷ [])
+pub one : (p : List ℤ) (row : Affine) → Meets p row → All (Meets p) (row ∷ [])
 one p row m = All-cons (Meets p) row [] m (All-nil (Meets p))
 
-split : (a b : ℤ) → (a <ℤ b) ⊎ (b ≤ℤ a)
+pub split : (a b : ℤ) → (a <ℤ b) ⊎ (b ≤ℤ a)
 split a b = by_sign a b (b -ℤ a) refl
   where
     by_sign : (a b d : ℤ) → b -ℤ a ≡ d → (a <ℤ b) ⊎ (b ≤ℤ a)
@@ -83,7 +83,7 @@ far_up d b n h e = omega (arith, ints)
 far_down : (d c b : ℤ) (n : ℕ) → b ≤ℤ pos (unsigned_abs d) → d ≡ negsuc n → c ≡ neg_ℤ d → b ≤ℤ c
 far_down d c b n h e f = omega (arith, ints)
 
-subscripts_wide : (n : ℕ) (fs : List Affine) → All (IsSubscript n) fs → HaveColumns n fs
+pub subscripts_wide : (n : ℕ) (fs : List Affine) → All (IsSubscript n) fs → HaveColumns n fs
 subscripts_wide n fs h = All-weaker (IsSubscript n) (λ (g : Affine). length g.coefs ≡ n) (λ f s. s.width) fs h
 
 module _ (dimensions parameters : ℕ) (rows : List Affine) (s : PairSystem) (over : IsOver parameters dimensions s) (wide : HaveColumns dimensions rows) (z : List ℤ) (meets : IsPoint s.system z) where
@@ -173,7 +173,7 @@ modulus_at [] k b e = absurd (omega (arith, slice_get_within [] k b e))
 modulus_at (m ∷ ms) zero b e = (m, refl, same_Some m.form b e)
 modulus_at (m ∷ ms) (suc k) b e = modulus_at ms k b e
 
-all_at : {X : Type 0} (P : X → Type 0) (xs : List X) → All P xs → (i : ℕ) (x : X) → slice_get xs i ≡ Some x → P x
+pub all_at : {X : Type 0} (P : X → Type 0) (xs : List X) → All P xs → (i : ℕ) (x : X) → slice_get xs i ≡ Some x → P x
 all_at P xs all i x e =
     let h = slice_get_within xs i x e in
     subst P (same_Some (get_or xs i x) x (sym (slice_get-get_or xs i x h) ∙ e)) (All-get_or P xs i x h all)

@@ -1,3 +1,4 @@
 pub mod Conditions
 pub mod Questions
 pub mod Laws
+pub mod Examples

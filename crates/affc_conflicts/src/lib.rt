@@ -1,4 +1,5 @@
 //! Conflicts of an array over a context, and the questions that tell whether a fold keeps them apart.
 #![tactic(auto)]
 
+pub mod examples;
 pub mod laws;

@@ -1,0 +1,79 @@
+-- The whole fold, from its rows.
+use Rattle.std.proofs.Common.{◌≡◌, ◌≢◌, ◌⊎◌, inl, inr, ℕ, zero, suc, ◌+◌, ◌<◌, ◌≤◌, List, [], ◌∷◌, length, map, ℤ, pos, ◌≤ℤ◌, ◌<ℤ◌, refl, sym, ap, subst, ◌∙◌, arith}
+use Rattle.std.specs.Prelude.{slice_get, get_or, Option, Some, None}
+use Rattle.std.specs.Option.{option_map}
+use Rattle.std.specs.List.{All}
+use Rattle.std.proofs.lemmas.Option.{same_Some, slice_get_within, slice_get-get_or, slice_get-map}
+use Rattle.std.proofs.lemmas.List.Elements.{All-map, All-get_or}
+use Rattle.affc_rows.specs.Forms.{Affine, value, values_of}
+use Rattle.affc_system.specs.Systems.{Rows}
+use Rattle.affc_system.specs.declared.pairs.PairSystem.{PairSystem}
+use Rattle.affc_basis.specs.declared.basis.Basis.{Basis}
+use Rattle.affc_basis.specs.declared.fold.Modulus.{Modulus}
+use Rattle.affc_basis.specs.Slices.{along, InSlice}
+use Rattle.affc_basis.specs.Moduli.{Exceeds, Separates, IsModulus}
+use Rattle.affc_basis.specs.Folds.{forms_of}
+use Rattle.affc_basis.proofs.Separation.{separated}
+use Rattle.affc_system.specs.ElementPairs.{IsPairAt, IsPairOf}
+use Rattle.affc_conflicts.specs.Conditions.{InContext, IsConflict}
+use Rattle.affc_moduli.specs.Rows.{IsDone, AreDone}
+use Rattle.affc_moduli.proofs.Covers.{some_at, place_of}
+
+form_at : (ms : List Modulus) (k : ℕ) (b : Affine) → slice_get (forms_of ms) k ≡ Some b → (m : Modulus) × (slice_get ms k ≡ Some m) × (m.form ≡ b)
+form_at [] k b e = cc
+form_at (m ∷ ms) zero b e = (m, refl, same_Some m.form b e)
+form_at (m ∷ ms) (suc k) b e = form_at ms k b e
+
+values_length : (fs : List Affine) (z : List ℤ) → length (values_of fs z) ≡ length fs
+values_length [] z = refl
+values_length (f ∷ fs) z = ap suc (values_length fs z)
+
+module _ (context : Rows) (ranges : List (ℤ × ℤ)) (rows extents : List Affine) (systems : List PairSystem) (ms : List Modulus) (done : AreDone context ranges systems rows ms) (one_each : length ms ≡ length rows) where
+  pub limits : All (IsModulus context.columns) (forms_of ms)
+  limits = All-map (IsModulus context.columns) (λ (m : Modulus). m.form) ms (λ k d h.
+      let row = some_at rows k (subst (λ n. k < n) one_each h) in
+      (done k row.0 (get_or ms k d) row.1 (slice_get-get_or ms k d h)).limits)
+
+  pub obeys : (p : List ℤ) → InContext context ranges p → Exceeds (IsPairOf systems p) p rows (forms_of ms)
+  obeys p here k row b at at_b =
+      let m = form_at ms k b at_b in
+      let enough = (done k row m.0 at m.1).enough p here in
+      subst (λ (f : Affine). (pos 1 ≤ℤ value f p) × ((x y : List ℤ) → InSlice (IsPairOf systems p) rows k x y → pos (along row x y) <ℤ value f p)) m.2 enough
+
+  pub moduli_each : length (forms_of ms) ≡ length rows
+  moduli_each = length_forms ms ∙ one_each
+    where
+      length_forms : (ms : List Modulus) → length (forms_of ms) ≡ length ms
+      length_forms [] = refl
+      length_forms (m ∷ ms) = ap suc (length_forms ms)
+
+  proper_at : (s : PairSystem) (p x y : List ℤ) → IsConflict context ranges extents s → length extents ≡ length rows → IsPairAt s p x y → (x ≢ y) × (length x ≡ length rows) × (length y ≡ length rows)
+  proper_at s p x y conflict same pair = (
+    λ e. conflict.differ pair.point pair.meets (pair.first ∙ e ∙ sym pair.second),
+    ap length (sym pair.first) ∙ values_length s.x.items pair.point ∙ conflict.x_each ∙ same,
+    ap length (sym pair.second) ∙ values_length s.y.items pair.point ∙ conflict.y_each ∙ same,
+  )
+
+  pub proper : (p x y : List ℤ) → ((i : ℕ) (s : PairSystem) → slice_get systems i ≡ Some s → IsConflict context ranges extents s) → length extents ≡ length rows → IsPairOf systems p x y
+      → (x ≢ y) × (length x ≡ length rows) × (length y ≡ length rows)
+  proper p x y conflicts same pair = elim pair.either [
+    | inl e ↦ proper_at pair.system p x y (conflicts (place_of systems pair.system pair.there).0 pair.system (place_of systems pair.system pair.there).1) same e
+    | inr e ↦
+        let q = proper_at pair.system p y x (conflicts (place_of systems pair.system pair.there).0 pair.system (place_of systems pair.system pair.there).1) same e in
+        ((λ f. q.0 (sym f)), q.2, q.1)
+  ]
+
+pub all_at : {X : Type 0} (P : X → Type 0) (xs : List X) → All P xs → (i : ℕ) (x : X) → slice_get xs i ≡ Some x → P x
+all_at P xs all i x e =
+    let h = slice_get_within xs i x e in
+    subst P (get_back xs i x e) (All-get_or P xs i x h all)
+  where
+    get_back : {X : Type 0} (xs : List X) (i : ℕ) (x : X) → slice_get xs i ≡ Some x → get_or xs i x ≡ x
+    get_back xs i x e = same_Some (get_or xs i x) x (sym (slice_get-get_or xs i x (slice_get_within xs i x e)) ∙ e)
+
+pub admissible : (context : Rows) (ranges : List (ℤ × ℤ)) (extents : List Affine) (basis : Basis) (systems : List PairSystem) (ms : List Modulus) → AreDone context ranges systems basis.rows ms → length ms ≡ length basis.rows
+    → All (IsConflict context ranges extents) systems → length extents ≡ length basis.rows → (p : List ℤ) → InContext context ranges p → Separates (IsPairOf systems p) p basis.rows (forms_of ms)
+admissible context ranges extents basis systems ms done one_each conflicts same p here =
+    separated (IsPairOf systems p) p basis.rows (forms_of ms) (moduli_each context ranges basis.rows extents systems ms done one_each)
+    (obeys context ranges basis.rows extents systems ms done one_each p here) basis.inverse basis.square basis.identity
+    (λ x y pair. proper context ranges basis.rows extents systems ms done one_each p x y (all_at (IsConflict context ranges extents) systems conflicts) same pair)

@@ -1,0 +1,31 @@
+use Rattle.std.proofs.Common.{◌≡◌, ◌∙◌, ◌+◌, ◌∷◌, ◌++◌, [], sym, ap, subst, refl, length, arith}
+use Rattle.std.specs.Prelude.{slice_get, Some}
+use Rattle.std.proofs.lemmas.List.{length-append}
+use Rattle.std.proofs.lemmas.Option.{slice_get_read}
+use Rattle.affc_maximum.proofs.Laters.{then_later}
+use Rattle.affc_moduli.specs.Rows.{AreDone}
+use Rattle.affc_moduli.proofs.Results.{done_more}
+use Rattle.affc_moduli.proofs.fold.all_rows.Goals as goal
+
+pub row_done-requires-clause-row : goal.row_done-requires-clause-row
+row_done-requires-clause-row c = slice_get_read c.args.rows.now (length c.args.rows.now) c.loop-k.k c.index-rows-k.result refl (omega arith) c.index-rows-k.is
+
+pub loop-k-preserved : goal.loop-k-preserved
+loop-k-preserved c =
+    let context = c.args.context.now in
+    let ranges = c.args.ranges.now in
+    let systems = c.args.pairs.now in
+    let rows = c.args.rows.now in
+    let made = c.loop-k.made in
+    let m = c.in_ok-modulus.modulus in
+    let e = c.in-Ok.ensures.ok in
+    let count = c.loop-k.invariant.count in
+    let at : slice_get rows c.loop-k.k ≡ Some c.index-rows-k.result = slice_get_read rows (length rows) c.loop-k.k c.index-rows-k.result refl (omega arith) c.index-rows-k.is in
+    let grown : length (made ++ m ∷ []) ≡ c.loop-k.k + 1 = let l = length-append made (m ∷ []) in omega arith in
+    record {
+      count = ap length e ∙ grown;
+      done = subst (λ ms. AreDone context ranges systems rows ms) (sym e)
+          (done_more context ranges systems rows made c.loop-k.k c.index-rows-k.result m count at c.in_ok-modulus.ensures.done c.loop-k.invariant.done);
+      slices = c.in_ok-modulus.ensures.slices;
+      later = then_later c.args.budget.now c.loop-k.budget c.row_done.new.budget c.loop-k.invariant.later c.row_done.ensures.later;
+    }

@@ -1,0 +1,12 @@
+use Rattle.std.proofs.Common.{◌≡◌, length, ℕ}
+use Rattle.std.specs.Prelude.{slice_get, Some}
+use Rattle.affc_rows.specs.Forms.{Affine}
+use Rattle.affc_maximum.specs.declared.region.Region.{Region}
+use Rattle.affc_moduli.specs.Slices.{AreNarrowedSoFar}
+use Rattle.affc_moduli.proofs.slices.all_narrowed.Given as goal
+
+abbrev pub invariant-loop-i : goal.invariant-loop-i
+invariant-loop-i l = record {
+  count : length l.made.items ≡ l.i;
+  narrowed : AreNarrowedSoFar l.regions l.fs l.gs l.made.items;
+}

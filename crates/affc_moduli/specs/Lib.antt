@@ -1,0 +1,5 @@
+pub mod Slices
+pub mod Distances
+pub mod Rows
+pub mod Ready
+pub mod Enough

@@ -1,0 +1,108 @@
+//! Tests of moduli that are proposed.
+ghost use Rattle.std.specs.Prelude.{◌≡◌, ℕ, ℤ, List, ◌+◌, ◌-◌, ◌^◌, ◌<◌, ◌≤◌, ◌++◌, ◌-ℤ◌, ◌≤ℤ◌, ◌<ℤ◌, unsigned_abs, pos, Some, slice_get, take, replicate, IfOk, IfErr, IsTrue, length};
+ghost use Rattle.std.specs.List.{All};
+ghost use Rattle.affc_rows.specs.Forms.{Affine, value};
+ghost use Rattle.affc_maximum.specs.declared.region.Region.{Region as Region'};
+ghost use Rattle.affc_split.specs.Budgets.{IsLater};
+ghost use Rattle.affc_maximum.specs.Regions.{InRegion, IsBounded, IsMeasure};
+ghost use Rattle.affc_basis.specs.Moduli.{IsModulus};
+ghost use Rattle.affc_moduli.specs.Enough.{IsBelow, AreBelow, AreComparable};
+
+use affc_maximum::{Region, reaching};
+use affc_rows::{Form, FormFault};
+use affc_split::{Budget, Stop};
+use smallvec::SmallVec;
+use std::alloc::{AllocError, Global};
+
+/// The form over more columns, which don't matter.
+fn lifted(alloc: Global, form: &Form, columns: usize) -> Result<Form, AllocError>
+    requires { length form.now.coefs ≤ columns }
+    ensures { IfOk result (λ f. f ≡ record form.now { coefs = form.now.coefs ++ replicate (columns - length form.now.coefs) (pos 0) }) }
+{
+    let mut coefs = SmallVec::from_slice(alloc, form.coefs.as_slice())?;
+    let more = columns - form.coefs.len();
+    for _ in 0..more {
+        let Ok(()) = coefs.push(0) else {
+            return Err(AllocError);
+        };
+    }
+    Ok(Form {
+        coefs,
+        constant: form.constant,
+    })
+}
+
+/// The form less a modulus.
+fn less_modulus(
+    alloc: Global,
+    form: &Form,
+    modulus: &Form,
+    columns: usize,
+) -> Result<Form, AllocError>
+    requires width { length form.now.coefs ≡ columns }
+    requires coefs { All (λ c. unsigned_abs c ≤ 2 ^ 27) form.now.coefs }
+    requires constant { unsigned_abs form.now.constant ≤ 2 ^ 35 }
+    requires modulus { IsModulus (length modulus.now.coefs) modulus.now }
+    requires within { length modulus.now.coefs ≤ columns }
+    ensures measure { IfOk result (λ f. IsMeasure columns f) }
+    ensures value { IfOk result (λ f. (z : List ℤ) → length z ≡ columns → value f z ≡ value form.now z -ℤ value modulus.now (take (length modulus.now.coefs) z)) }
+{
+    let modulus = lifted(alloc, modulus, columns)?;
+    match form.scale_add(alloc, 1, &modulus, -1) {
+        Ok(form) => Ok(form),
+        Err(FormFault::Memory) => Err(AllocError),
+        Err(FormFault::Range) => unreachable!(),
+    }
+}
+
+/// Whether a form is below a modulus at each point of its region.
+fn is_below(
+    alloc: Global,
+    region: &Region,
+    form: &Form,
+    modulus: &Form,
+    budget: &mut Budget,
+) -> Result<bool, Stop>
+    requires width { length form.now.coefs ≡ region.now.system.columns }
+    requires coefs { All (λ c. unsigned_abs c ≤ 2 ^ 27) form.now.coefs }
+    requires constant { unsigned_abs form.now.constant ≤ 2 ^ 35 }
+    requires modulus { IsModulus (length modulus.now.coefs) modulus.now }
+    requires within { length modulus.now.coefs ≤ region.now.system.columns }
+    requires room { length region.now.system.rows < 1024 }
+    ensures below { IfOk result (λ b. IsTrue b → IsBelow region.now form.now modulus.now) }
+    ensures later { IsLater budget.old budget.new }
+    ensures stop { IfErr result (λ e. e ≡ Stop.Budget → budget.new.limit ≡ Some budget.new.spent) }
+{
+    let columns = region.system.columns() as usize;
+    let Ok(difference) = less_modulus(alloc, form, modulus, columns) else {
+        return Err(Stop::Memory);
+    };
+    let found = reaching(alloc, region, &difference, 0, budget)?;
+    match found {
+        Some(_point) => Ok(false),
+        None => Ok(true),
+    }
+}
+
+/// Whether each form is below a modulus at each point of its region.
+pub fn all_below(
+    alloc: Global,
+    regions: &[Region],
+    forms: &[Form],
+    modulus: &Form,
+    budget: &mut Budget,
+) -> Result<bool, Stop>
+    requires one_each { length forms.now ≡ length regions.now }
+    requires modulus { IsModulus (length modulus.now.coefs) modulus.now }
+    requires comparable { AreComparable (length modulus.now.coefs) regions.now forms.now }
+    ensures below { IfOk result (λ b. IsTrue b → AreBelow regions.now forms.now modulus.now) }
+    ensures later { IsLater budget.old budget.new }
+    ensures stop { IfErr result (λ e. e ≡ Stop.Budget → budget.new.limit ≡ Some budget.new.spent) }
+{
+    for i in 0..regions.len() {
+        if !is_below(alloc, &regions[i], &forms[i], modulus, budget)? {
+            return Ok(false);
+        }
+    }
+    Ok(true)
+}

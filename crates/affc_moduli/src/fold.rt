@@ -1,0 +1,136 @@
+//! Successive moduli.
+ghost use Rattle.std.specs.Prelude.{◌≡◌, ℕ, ℤ, List, ◌<◌, ◌≤◌, IfOk, IfErr, Some, slice_get, length};
+ghost use Rattle.std.specs.List.{All};
+ghost use Rattle.affc_rows.specs.Forms.{Affine};
+ghost use Rattle.affc_system.specs.Pairs.{IsSubscript};
+ghost use Rattle.affc_basis.specs.declared.fold.Mark.TheVariants.{Bound};
+ghost use Rattle.affc_basis.specs.Folds.{forms_of, IsTrueMark};
+ghost use Rattle.affc_basis.specs.Moduli.{Exceeds, Separates, IsModulus};
+ghost use Rattle.affc_split.specs.Budgets.{IsLater};
+ghost use Rattle.affc_system.specs.ElementPairs.{IsPairOf};
+ghost use Rattle.affc_conflicts.specs.Conditions.{InContext, IsNear, IsConflict};
+ghost use Rattle.affc_moduli.specs.Ready.{AreReady};
+ghost use Rattle.affc_moduli.specs.Slices.{AreSlices};
+ghost use Rattle.affc_moduli.specs.Rows.{AreDone};
+
+use crate::row::row_done;
+use crate::slices::copies;
+use affc_basis::{Basis, Modulus};
+use affc_maximum::Region;
+use affc_rows::Form;
+use affc_split::{Answer, Budget, Stop, decide};
+use affc_system::{BoxOf, PairSystem, System};
+use sqlite_items::Items;
+use std::alloc::Global;
+
+/// A point of the context.
+fn context_point(
+    alloc: Global,
+    context: &System,
+    ranges: &BoxOf,
+    budget: &mut Budget,
+) -> Result<Vec<i64>, Stop>
+    requires parameters { length ranges.now ≡ context.now.columns }
+    requires near { All IsNear ranges.now }
+    requires some { (p : List ℤ) × InContext context.now ranges.now p }
+    ensures point { IfOk result (λ p. InContext context.now ranges.now p.items) }
+    ensures later { IsLater budget.old budget.new }
+    ensures stop { IfErr result (λ e. e ≡ Stop.Budget → budget.new.limit ≡ Some budget.new.spent) }
+{
+    match decide(alloc, context, ranges, budget)? {
+        Answer::Point(point) => Ok(point),
+        Answer::Empty(_proof) => unreachable!(),
+    }
+}
+
+/// A modulus for each row.
+fn all_rows(
+    alloc: Global,
+    pairs: &[PairSystem],
+    extents: &[Form],
+    context: &System,
+    ranges: &BoxOf,
+    rows: &[Form],
+    first: Vec<Region>,
+    some: &[i64],
+    budget: &mut Budget,
+) -> Result<Items<Modulus>, Stop>
+    requires ready { AreReady context.now ranges.now extents.now rows.now pairs.now }
+    requires slices { AreSlices context.now ranges.now rows.now 0 pairs.now first.items }
+    requires some { InContext context.now ranges.now some.now }
+    ensures one_each { IfOk result (λ ms. length ms ≡ length rows.now) }
+    ensures done { IfOk result (λ ms. AreDone context.now ranges.now pairs.now rows.now ms) }
+    ensures later { IsLater budget.old budget.new }
+    ensures stop { IfErr result (λ e. e ≡ Stop.Budget → budget.new.limit ≡ Some budget.new.spent) }
+{
+    let mut regions = first;
+    let mut made = Items::new(alloc);
+    for k in 0..rows.len() {
+        let (modulus, narrower) = row_done(
+            alloc,
+            pairs,
+            extents,
+            context,
+            ranges,
+            rows,
+            k,
+            regions.as_slice(),
+            some,
+            &rows[k],
+            budget,
+        )?;
+        let Ok(()) = made.push(modulus) else {
+            return Err(Stop::Memory);
+        };
+        regions = narrower;
+    }
+    Ok(made)
+}
+
+/// A modulus for each row of the basis, so that the elements of each pair have different places.
+pub fn moduli(
+    alloc: Global,
+    pairs: &[PairSystem],
+    basis: &Basis,
+    extents: &[Form],
+    context: &System,
+    ranges: &BoxOf,
+    budget: &mut Budget,
+) -> Result<Items<Modulus>, Stop>
+    requires parameters { length ranges.now ≡ context.now.columns }
+    requires few { context.now.columns ≤ 4 }
+    requires near { All IsNear ranges.now }
+    requires some { (p : List ℤ) × InContext context.now ranges.now p }
+    requires extents { All (IsSubscript context.now.columns) extents.now }
+    requires dimensions { length extents.now ≡ length basis.now.rows }
+    requires conflicts { All (IsConflict context.now ranges.now extents.now) pairs.now }
+
+    // The fold.
+    ensures one_each { IfOk result (λ ms. length ms ≡ length basis.now.rows) }
+    ensures limits { IfOk result (λ ms. All (IsModulus context.now.columns) (forms_of ms)) }
+    ensures obeys { IfOk result (λ ms. (p : List ℤ) → InContext context.now ranges.now p → Exceeds (IsPairOf pairs.now p) p basis.now.rows (forms_of ms)) }
+    ensures admissible { IfOk result (λ ms. (p : List ℤ) → InContext context.now ranges.now p → Separates (IsPairOf pairs.now p) p basis.now.rows (forms_of ms)) }
+    ensures marks { IfOk result (λ ms. (k : ℕ) (row : Affine) (m : Modulus) → slice_get basis.now.rows k ≡ Some row → slice_get ms k ≡ Some m → IsTrueMark (InContext context.now ranges.now) (IsPairOf pairs.now) basis.now.rows k row m) }
+
+    // The budget.
+    ensures bound { IfOk result (λ ms. (k : ℕ) (m : Modulus) → slice_get ms k ≡ Some m → m.mark ≡ Bound → budget.new.limit ≡ Some budget.new.spent) }
+    ensures later { IsLater budget.old budget.new }
+    ensures stop { IfErr result (λ e. e ≡ Stop.Budget → budget.new.limit ≡ Some budget.new.spent) }
+{
+    let Ok(regions) = copies(alloc, pairs) else {
+        return Err(Stop::Memory);
+    };
+    let some = context_point(alloc, context, ranges, budget)?;
+    let rows = basis.rows.as_slice();
+    all_rows(
+        alloc,
+        pairs,
+        extents,
+        context,
+        ranges,
+        rows,
+        regions,
+        some.as_slice(),
+        budget,
+    )
+}

@@ -1,0 +1,10 @@
+//! Successive moduli of an array along the rows of a basis, over the pairs of elements that are to be kept apart.
+#![tactic(auto)]
+
+mod distances;
+mod enough;
+pub mod fold;
+mod row;
+mod slices;
+
+pub use fold::moduli;

@@ -1,0 +1,290 @@
+//! The modulus of one row.
+ghost use Rattle.std.specs.Prelude.{◌≡◌, ℕ, ℤ, List, ◌+◌, ◌^◌, ◌<◌, ◌≤◌, ◌≤ℤ◌, ◌+ℤ◌, unsigned_abs, pos, Some, None, slice_get, take, replicate, IfOk, IfErr, length};
+ghost use Rattle.std.specs.List.{All};
+ghost use Rattle.affc_rows.specs.Forms.{Affine, value, values_of};
+ghost use Rattle.affc_system.specs.Pairs.{IsSubscript};
+ghost use Rattle.affc_split.specs.Budgets.{IsLater};
+ghost use Rattle.affc_conflicts.specs.Conditions.{InContext};
+ghost use Rattle.affc_moduli.specs.Slices.{AreSlices};
+ghost use Rattle.affc_moduli.specs.Distances.{AreApartWithin, AreForward, AreBackward, IsFarthest};
+ghost use Rattle.affc_moduli.specs.Rows.{IsDone};
+ghost use Rattle.affc_moduli.specs.Ready.{AreReady};
+
+use crate::distances::{backward, farthest, forward};
+use crate::slices::all_narrowed;
+use affc_basis::{Mark, Modulus};
+use affc_maximum::{Found, Region};
+use affc_rows::Form;
+use affc_split::{Budget, Stop};
+use affc_system::{BoxOf, PairSystem, System, value_at};
+use smallvec::SmallVec;
+use sqlite_items::Items;
+use std::alloc::{AllocError, Global};
+
+/// A number, as a form over the parameters.
+fn number(alloc: Global, parameters: usize, n: i64) -> Result<Form, AllocError>
+    ensures { IfOk result (λ f. f ≡ record { coefs = replicate parameters (pos 0); constant = n }) }
+{
+    let coefs = SmallVec::from_elem(alloc, 0, parameters)?;
+    Ok(Form {
+        coefs,
+        constant: i128::from(n),
+    })
+}
+
+/// The value of a subscript at a point.
+fn subscript_at(form: &Form, point: &[i64]) -> i64
+    requires subscript { IsSubscript (length point.now) form.now }
+    requires few { length point.now ≤ 128 }
+    requires near { unsigned_abs (value form.now point.now) ≤ 2 ^ 43 }
+    ensures { result ≡ value form.now point.now }
+{
+    value_at(form, point) as i64
+}
+
+/// The element at a point.
+fn element(alloc: Global, forms: &[Form], point: &[i64]) -> Result<Items<i64>, AllocError>
+    requires subscripts { All (IsSubscript (length point.now)) forms.now }
+    requires few { length point.now ≤ 128 }
+    requires near { All (λ f. unsigned_abs (value f point.now) ≤ 2 ^ 43) forms.now }
+    ensures { IfOk result (λ x. x ≡ values_of forms.now point.now) }
+{
+    let mut x = Vec::new(alloc);
+    for form in forms {
+        let Ok(()) = x.push(subscript_at(form, point)) else {
+            return Err(AllocError);
+        };
+    }
+    Ok(Items::from_vec(x))
+}
+
+/// The modulus 1, of a row along which nothing lies apart.
+fn without_pair(alloc: Global, p: &[i64]) -> Result<Modulus, AllocError>
+    ensures form { IfOk result (λ m. m.form ≡ record { coefs = replicate (length p.now) (pos 0); constant = pos 1 }) }
+    ensures mark { IfOk result (λ m. m.mark ≡ Mark.Least p.now None) }
+{
+    let form = number(alloc, p.len(), 1)?;
+    let p = Items::from_slice(alloc, p)?;
+    Ok(Modulus {
+        form,
+        mark: Mark::Least { p, pair: None },
+    })
+}
+
+/// A modulus that is 1 more than the distance of the elements at a point.
+fn with_pair(
+    alloc: Global,
+    system: &PairSystem,
+    point: &[i64],
+    distance: i64,
+    parameters: usize,
+) -> Result<Modulus, AllocError>
+    requires width { length point.now ≡ system.now.system.columns }
+    requires within { parameters ≤ length point.now }
+    requires few { length point.now ≤ 128 }
+    requires x { All (λ f. unsigned_abs (value f point.now) ≤ 2 ^ 43) system.now.x.items }
+    requires y { All (λ f. unsigned_abs (value f point.now) ≤ 2 ^ 43) system.now.y.items }
+    requires distance { unsigned_abs distance ≤ 2 ^ 53 }
+    ensures form { IfOk result (λ m. m.form ≡ record { coefs = replicate parameters (pos 0); constant = distance +ℤ pos 1 }) }
+    ensures mark { IfOk result (λ m. m.mark ≡ Mark.Least (take parameters point.now) (Some (values_of system.now.x.items point.now, values_of system.now.y.items point.now))) }
+{
+    let form = number(alloc, parameters, distance + 1)?;
+    let p = Items::from_slice(alloc, &point[..parameters])?;
+    let x = element(alloc, system.x.as_slice(), point)?;
+    let y = element(alloc, system.y.as_slice(), point)?;
+    Ok(Modulus {
+        form,
+        mark: Mark::Least {
+            p,
+            pair: Some((x, y)),
+        },
+    })
+}
+
+/// The modulus of a row along which two elements at a point of a region lie farthest apart.
+fn shown(
+    alloc: Global,
+    pairs: &[PairSystem],
+    extents: &[Form],
+    context: &System,
+    ranges: &BoxOf,
+    rows: &[Form],
+    k: usize,
+    regions: &[Region],
+    found: &Found,
+    row: &Form,
+) -> Result<Modulus, AllocError>
+    requires ready { AreReady context.now ranges.now extents.now rows.now pairs.now }
+    requires row { slice_get rows.now k ≡ Some row.now }
+    requires slices { AreSlices context.now ranges.now rows.now k pairs.now regions.now }
+    requires farthest { IsFarthest pairs.now regions.now row.now.coefs (Some found.now) }
+    ensures { IfOk result (λ m. IsDone context.now ranges.now pairs.now rows.now k row.now m) }
+{
+    let _extents = extents;
+    let _ranges = ranges;
+    let _rows = rows;
+    let _k = k;
+    let _regions = regions;
+    let _row = row;
+    let system = &pairs[found.number];
+    let columns = system.system.columns();
+    prove!(columns <= 128);
+    let parameters = context.columns() as usize;
+    with_pair(
+        alloc,
+        system,
+        found.point.as_slice(),
+        found.value,
+        parameters,
+    )
+}
+
+/// The modulus of a row along which nothing lies apart.
+fn unshown(
+    alloc: Global,
+    pairs: &[PairSystem],
+    extents: &[Form],
+    context: &System,
+    ranges: &BoxOf,
+    rows: &[Form],
+    k: usize,
+    regions: &[Region],
+    some: &[i64],
+    row: &Form,
+) -> Result<Modulus, AllocError>
+    requires ready { AreReady context.now ranges.now extents.now rows.now pairs.now }
+    requires row { slice_get rows.now k ≡ Some row.now }
+    requires slices { AreSlices context.now ranges.now rows.now k pairs.now regions.now }
+    requires none { AreApartWithin pairs.now regions.now row.now.coefs 0 }
+    requires some { InContext context.now ranges.now some.now }
+    ensures { IfOk result (λ m. IsDone context.now ranges.now pairs.now rows.now k row.now m) }
+{
+    let _pairs = pairs;
+    let _extents = extents;
+    let _context = context;
+    let _ranges = ranges;
+    let _rows = rows;
+    let _k = k;
+    let _regions = regions;
+    let _row = row;
+    without_pair(alloc, some)
+}
+
+/// The modulus of a row, from the greatest distance in its slice.
+fn modulus_of(
+    alloc: Global,
+    pairs: &[PairSystem],
+    extents: &[Form],
+    context: &System,
+    ranges: &BoxOf,
+    rows: &[Form],
+    k: usize,
+    regions: &[Region],
+    found: &Option<Found>,
+    some: &[i64],
+    row: &Form,
+) -> Result<Modulus, AllocError>
+    requires ready { AreReady context.now ranges.now extents.now rows.now pairs.now }
+    requires row { slice_get rows.now k ≡ Some row.now }
+    requires slices { AreSlices context.now ranges.now rows.now k pairs.now regions.now }
+    requires farthest { IsFarthest pairs.now regions.now row.now.coefs found.now }
+    requires some { InContext context.now ranges.now some.now }
+    ensures { IfOk result (λ m. IsDone context.now ranges.now pairs.now rows.now k row.now m) }
+{
+    match found {
+        None => unshown(
+            alloc, pairs, extents, context, ranges, rows, k, regions, some, row,
+        ),
+        Some(f) => shown(
+            alloc, pairs, extents, context, ranges, rows, k, regions, f, row,
+        ),
+    }
+}
+
+/// The modulus of a row, and the slice of the next, from the forms of the distances.
+fn made(
+    alloc: Global,
+    pairs: &[PairSystem],
+    extents: &[Form],
+    context: &System,
+    ranges: &BoxOf,
+    rows: &[Form],
+    k: usize,
+    regions: &[Region],
+    some: &[i64],
+    row: &Form,
+    fs: &[Form],
+    gs: &[Form],
+    budget: &mut Budget,
+) -> Result<(Modulus, Vec<Region>), Stop>
+    requires ready { AreReady context.now ranges.now extents.now rows.now pairs.now }
+    requires row { slice_get rows.now k ≡ Some row.now }
+    requires slices { AreSlices context.now ranges.now rows.now k pairs.now regions.now }
+    requires some { InContext context.now ranges.now some.now }
+    requires fs_each { length fs.now ≡ length pairs.now }
+    requires gs_each { length gs.now ≡ length pairs.now }
+    requires fs { AreForward pairs.now row.now.coefs fs.now }
+    requires gs { AreBackward pairs.now row.now.coefs gs.now }
+    ensures done { IfOk result (λ r. IsDone context.now ranges.now pairs.now rows.now k row.now r.0) }
+    ensures slices { IfOk result (λ r. AreSlices context.now ranges.now rows.now (k + 1) pairs.now r.1.items) }
+    ensures later { IsLater budget.old budget.new }
+    ensures stop { IfErr result (λ e. e ≡ Stop.Budget → budget.new.limit ≡ Some budget.new.spent) }
+{
+    let found = farthest(alloc, row, pairs, regions, fs, gs, 1, budget)?;
+    let Ok(modulus) = modulus_of(
+        alloc, pairs, extents, context, ranges, rows, k, regions, &found, some, row,
+    ) else {
+        return Err(Stop::Memory);
+    };
+    let Ok(narrower) = all_narrowed(alloc, regions, fs, gs) else {
+        return Err(Stop::Memory);
+    };
+    Ok((modulus, narrower))
+}
+
+/// The modulus of a row, and the slice of the next.
+pub fn row_done(
+    alloc: Global,
+    pairs: &[PairSystem],
+    extents: &[Form],
+    context: &System,
+    ranges: &BoxOf,
+    rows: &[Form],
+    k: usize,
+    regions: &[Region],
+    some: &[i64],
+    row: &Form,
+    budget: &mut Budget,
+) -> Result<(Modulus, Vec<Region>), Stop>
+    requires ready { AreReady context.now ranges.now extents.now rows.now pairs.now }
+    requires row { slice_get rows.now k ≡ Some row.now }
+    requires slices { AreSlices context.now ranges.now rows.now k pairs.now regions.now }
+    requires some { InContext context.now ranges.now some.now }
+    ensures done { IfOk result (λ r. IsDone context.now ranges.now pairs.now rows.now k row.now r.0) }
+    ensures slices { IfOk result (λ r. AreSlices context.now ranges.now rows.now (k + 1) pairs.now r.1.items) }
+    ensures later { IsLater budget.old budget.new }
+    ensures stop { IfErr result (λ e. e ≡ Stop.Budget → budget.new.limit ≡ Some budget.new.spent) }
+{
+    let coefs = row.coefs.as_slice();
+    let Ok(fs) = forward(alloc, coefs, pairs) else {
+        return Err(Stop::Memory);
+    };
+    let Ok(gs) = backward(alloc, coefs, pairs) else {
+        return Err(Stop::Memory);
+    };
+    made(
+        alloc,
+        pairs,
+        extents,
+        context,
+        ranges,
+        rows,
+        k,
+        regions,
+        some,
+        row,
+        fs.as_slice(),
+        gs.as_slice(),
+        budget,
+    )
+}
