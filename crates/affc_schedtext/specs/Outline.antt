@@ -72,7 +72,7 @@ Scope = Name → Option ℕ
 
 -- the first so many columns are the parameters
 abbrev pub time_scope : Outline → (iterators : List Name) → Scope
-time_scope o iterators w = position w (o.parameters ++ iterators)
+time_scope o iterators w = or_else (position w o.parameters) (option_map (λ k. length o.parameters + k) (position w iterators))
 
 -- a parameter whose name is that of a component can't be written
 abbrev pub inverse_scope : Outline → (length_of_time : ℕ) → Scope
