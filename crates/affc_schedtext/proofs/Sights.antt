@@ -1,12 +1,11 @@
 -- Numbers behind a letter, and which names are seen.
-use Rattle.std.proofs.Common.{◌≡◌, ℕ, suc, ◌+◌, ◌<◌, ◌^◌, Bool, true, false, ◌&&◌, ◌||◌, not, ◌==◌, List, [], ◌∷◌, ◌++◌, Option, Some, None, is_some, refl, sym, ap, ◌∙◌, IsTrue, cond}
+use Rattle.std.proofs.Common.{◌≡◌, ℕ, true, ◌&&◌, ◌||◌, not, ◌==◌, List, [], ◌∷◌, Option, Some, None, is_some, refl, IsTrue}
 use Rattle.std.specs.List.{list_all}
 use Rattle.std.specs.Option.{option_map}
 use Rattle.std.proofs.lemmas.Bool.{and_parts, and_from}
-use Rattle.affc_lex.specs.Bytes.{same, is_digit}
+use Rattle.affc_lex.specs.Bytes.{is_digit}
 use Rattle.affc_lex.specs.Pieces.{is_number}
-use Rattle.affc_grammar.specs.Grammar.{Name}
-use Rattle.affc_schedtext.specs.Outline.{numbered, position, or_else}
+use Rattle.affc_schedtext.specs.Outline.{or_else}
 
 pub digits_of_number : (ds : List ℕ) → is_number ds ≡ true → IsTrue (list_all is_digit ds)
 digits_of_number [] e = refl

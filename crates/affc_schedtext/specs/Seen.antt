@@ -1,7 +1,7 @@
 -- What the definitions see of the code's types.
-use Rattle.std.specs.Prelude.{ℕ, ◌+◌, List, [], ◌∷◌, ◌++◌, length, map, codes, Option, Some, None}
+use Rattle.std.specs.Prelude.{◌+◌, length, codes}
 use Rattle.std.specs.Option.{option_map}
-use Rattle.affc_schedtext.specs.Outline.{Scope, time_scope, any_scope, numbered, position, or_else, row_scope, back_scope}
+use Rattle.affc_schedtext.specs.Outline.{Scope, any_scope, numbered, position, or_else, row_scope, back_scope}
 use Rattle.affc_schedtext.specs.declared.scope.Scope as code
 use Rattle.affc_schedtext.specs.declared.scope.Scope.TheVariants.{Any, Time, Inverse, Row, Back}
 

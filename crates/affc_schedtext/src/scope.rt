@@ -22,7 +22,10 @@ pub enum Scope<'o> {
         iterators: &'o [Text],
     },
     /// The components of a time of this length, `t0`, `t1`, .., and the parameters.
-    Inverse { parameters: &'o [Text], length: u64 },
+    Inverse {
+        parameters: &'o [Text],
+        length: u64,
+    },
     /// The subscripts of an array of so many dimensions, `x0`, `x1`, ..
     Row(u64),
     /// The rows' values, `y0`, `y1`, ..
@@ -80,7 +83,9 @@ pub fn numbered(letter: u8, count: u64, name: &str) -> Option<u64>
 pub fn position(name: &str, names: &[Text]) -> Option<usize>
     ensures { result ≡ outline.position name.now names.now }
 {
-    names.iter().position(|own| is(own.as_str(), name.as_bytes()))
+    names
+        .iter()
+        .position(|own| is(own.as_str(), name.as_bytes()))
 }
 
 /// Whether the name stands for a column.

@@ -1,12 +1,11 @@
-use Rattle.std.proofs.Common.{◌≡◌, ℕ, ◌<◌, refl, pos, negsuc, List, [], ◌∷◌, codes, Some, lit≤, zero, suc, arith, subst, true, false}
+use Rattle.std.proofs.Common.{◌≡◌, ℕ, ◌<◌, refl, pos, List, [], ◌∷◌, codes, lit≤, zero, suc, arith, subst}
 use Rattle.affc_rows.specs.Forms.{Affine}
-use Rattle.affc_basis.specs.Bases.{IsComponent}
 use Rattle.affc_grammar.specs.Grammar as g
 use Rattle.affc_grammar.specs.Grammar.{mark}
 use Rattle.affc_grammar.specs.Verdict.{line}
 use Rattle.affc_trace.specs.Inverses.{GivesColumn}
 use Rattle.std.proofs.lemmas.Option.{same_Some}
-use Rattle.affc_trace.specs.Inverses.{column, columns_from}
+use Rattle.affc_trace.specs.Inverses.{column}
 use Rattle.affc_rows.specs.Forms.{columns_of, composed_form}
 use Rattle.affc_schedtext.specs.Examples.{form}
 use Rattle.affc_schedtext.proofs.examples.refusals.Goals as goal
