@@ -1,16 +1,16 @@
 -- What is spelled so is read: of each rule, before any tokens that do not go on with it.
-use Rattle.std.proofs.Common.{◌≡◌, ℕ, Bool, true, false, List, [], ◌∷◌, ◌++◌, Option, Some, None, Ok, Err, refl, sym, ap, ◌∙◌, subst, codes, IsTrue, cond, append_assoc, append-nil}
+use Rattle.std.proofs.Common.{◌≡◌, ℕ, Bool, true, false, List, [], ◌∷◌, ◌++◌, Option, Some, None, Ok, Err, refl, sym, ap, ◌∙◌, subst, codes, cond, append_assoc, append-nil}
 use Rattle.std.proofs.lemmas.Bool.{and_parts}
-use Rattle.affc_lex.specs.Bytes.{same, decimal}
-use Rattle.affc_grammar.specs.Grammar.{Symbol, Name, Digits, word, number, mark, IxText, ix_symbols}
-use Rattle.affc_grammar.specs.Reader.{At, Deep, Read, Reader, then_read, on_some, finished, Turn, going, done, give, after, either, all, until, and_on, IsReader}
-use Rattle.affc_grammar.specs.Reading.{this_mark, this_word, any_word, any_number, sum_sign, read_ix, holding}
-use Rattle.affc_grammar.proofs.Tests.{bytes_same, any_word_test, word_test, holding_is}
+use Rattle.affc_lex.specs.Bytes.{decimal}
+use Rattle.affc_grammar.specs.Grammar.{Symbol, Name, Digits, word, mark, ix_symbols}
+use Rattle.affc_grammar.specs.Reader.{At, Deep, Read, Reader, then_read, on_some, finished, going, done, give, after, either, all, until, and_on, IsReader}
+use Rattle.affc_grammar.specs.Reading.{this_mark, any_word, sum_sign, holding}
+use Rattle.affc_grammar.proofs.Tests.{word_test, holding_is}
 use Rattle.affc_grammar.proofs.Done.{IsDone, Gets, NotNext, gets_give, gets_after, gets_on, gets_other, gets_end, gets_turn, gets_until, gets_finished}
 use Rattle.affc_grammar.proofs.Complete.{EndsIx, regroup, sum_gets}
-use Rattle.affc_schedtext.specs.Outline.{Outline, Scope, Words, these, any, Lists, Presence, never, always, maybe, statement_lists, statement_presence, fold_lists, fold_presence}
-use Rattle.affc_schedtext.specs.Grammar.{is_seen, all_seen, FormText, form_symbols, FormsText, one_form, and_form, forms_symbols, GivenText, last_entry, entry_then, given_symbols, FreeText, one_entry, and_entry, free_symbols, EntriesText, given, free, entries_symbols, InverseText, without, written, skipped, taken, inverse_symbols, LineText, head_symbols, open_symbols, line_symbols, StmtsText, no_stmts, and_stmt, stmts_symbols, OrderText, source, time, order_symbols, Text, order, and_fold, text_symbols}
-use Rattle.affc_schedtext.specs.Reading.{seen_front, unseen_rest, followed_by, with_seen, read_form, form_more, read_forms, read_given, entry_more, read_free, read_entries, Part, source_word, time_number, stmt_forms, stmt_line, fold_forms, fold_line, part_symbols, read_list, Next, read_fold, next_fold, read_first_fold, read_stmt, next_stmt, stmt_more, part_more, read_parts, read_text}
+use Rattle.affc_schedtext.specs.Outline.{Outline, Scope, Words, these, any, Presence, never, always, maybe, statement_lists, statement_presence, fold_lists}
+use Rattle.affc_schedtext.specs.Grammar.{is_seen, all_seen, FormText, form_symbols, FormsText, one_form, and_form, forms_symbols, GivenText, last_entry, entry_then, given_symbols, FreeText, one_entry, and_entry, free_symbols, EntriesText, given, free, entries_symbols, InverseText, without, written, skipped, taken, inverse_symbols, LineText, head_symbols, line_symbols, StmtsText, no_stmts, and_stmt, stmts_symbols, source, time, Text, order, and_fold, text_symbols}
+use Rattle.affc_schedtext.specs.Reading.{seen_front, unseen_rest, followed_by, with_seen, read_form, form_more, read_forms, read_given, entry_more, read_free, read_entries, Part, source_word, time_number, stmt_forms, stmt_line, fold_forms, fold_line, read_list, Next, read_fold, next_fold, read_stmt, next_stmt, stmt_more, part_more, read_text}
 use Rattle.affc_schedtext.proofs.FormRules.{inner, opened, front_and_rest}
 use Rattle.affc_schedtext.proofs.TextRules.{form_more_rule, entry_more_rule, part_rule}
 

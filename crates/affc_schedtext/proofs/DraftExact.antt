@@ -1,26 +1,24 @@
 -- The drafts that are read are those of the grammar's texts, read by the grammar.
-use Rattle.std.proofs.Common.{◌≡◌, ℕ, ◌+◌, ◌-◌, ◌≤◌, Bool, true, false, List, [], ◌∷◌, ◌++◌, length, Option, Some, None, Ok, Err, if◌then◌else◌, refl, sym, ap, ◌∙◌, subst, codes, IsTrue, arith, length-append, append_assoc}
-use Rattle.std.specs.Option.{option_map}
-use Rattle.affc_lex.specs.Bytes.{same, decimal}
-use Rattle.affc_grammar.specs.Grammar.{Symbol, Name, Digits, word, mark, IxText, ix_symbols}
-use Rattle.affc_grammar.specs.Draft.{IxDraft, WordDraft, word_draft, ix_draft}
-use Rattle.affc_grammar.specs.Reader.{At, Deep, Read, Reader, then_read, Turn, going, done, give, fail, after, either, on, all, until, finished}
-use Rattle.affc_grammar.specs.Reading.{this_mark, this_word, any_word, any_number, of_kind, is_number_kind, read_ix, holding}
+use Rattle.std.proofs.Common.{◌≡◌, ℕ, ◌+◌, ◌-◌, ◌≤◌, true, false, List, [], ◌∷◌, ◌++◌, length, Option, Some, None, Ok, Err, refl, sym, ap, ◌∙◌, subst, codes, IsTrue, arith, length-append, append_assoc}
+use Rattle.affc_grammar.specs.Grammar.{Symbol, Name, mark, IxText, ix_symbols}
+use Rattle.affc_grammar.specs.Draft.{IxDraft, ix_draft}
+use Rattle.affc_grammar.specs.Reader.{At, Deep, Read, Reader, then_read, give, after, on}
+use Rattle.affc_grammar.specs.Reading.{this_mark, this_word, any_word, read_ix, holding}
 use Rattle.affc_grammar.proofs.Rules.{ix_rule}
-use Rattle.affc_grammar.proofs.Tests.{same_bytes, holding_is}
-use Rattle.affc_syntax.specs.Ahead.{past, number_value}
-use Rattle.affc_syntax.specs.Readers.{on_past, closed, mapped, all_more}
-use Rattle.affc_syntax.proofs.Draws.{Draws, Placed, placed_on, mapped_then, then_is, either_mapped, either_turned, past_one, failed, closed_is, all_is}
-use Rattle.affc_schedtext.proofs.Turns.{on_is, turned, until_drawn}
-use Rattle.affc_schedtext.specs.Outline.{Outline, Scope, Words, these, any, Lists, Presence, never, always, maybe, statement_lists, statement_presence, fold_lists, fold_presence}
+use Rattle.affc_grammar.proofs.Tests.{holding_is}
+use Rattle.affc_syntax.specs.Ahead.{past}
+use Rattle.affc_syntax.specs.Readers.{on_past, mapped}
+use Rattle.affc_syntax.proofs.Draws.{Draws, Placed, then_is, past_one, closed_is, all_is}
+use Rattle.affc_schedtext.proofs.Turns.{on_is}
+use Rattle.affc_schedtext.specs.Outline.{Scope, Words, these, any}
 use Rattle.affc_schedtext.specs.Grammar as g
 use Rattle.affc_schedtext.specs.Grammar.{all_seen, FormText, form_symbols, FormsText, one_form, and_form, forms_symbols, GivenText, last_entry, entry_then, given_symbols, entry_symbols, FreeText, one_entry, and_entry, free_symbols, EntriesText, entries_symbols, InverseText, without, written, skipped, taken, inverse_symbols, LineText, head_symbols, open_symbols, StmtsText, no_stmts, and_stmt, stmts_symbols, OrderText, order_symbols, Text, order, and_fold, text_symbols}
-use Rattle.affc_schedtext.specs.Draft.{LineDraft, OrderDraft, source, time, Draft, forms_draft, given_draft, free_draft, entries_draft, inverse_draft, line_draft, stmts_draft, order_draft, text_draft}
+use Rattle.affc_schedtext.specs.Draft.{forms_draft, given_draft, free_draft, entries_draft}
 use Rattle.affc_schedtext.specs.Reading as r
 use Rattle.affc_schedtext.specs.Reading.{seen_front, unseen_rest, followed_by, with_seen, Part, source_word, time_number, stmt_forms, stmt_line, fold_forms, fold_line, part_symbols}
 use Rattle.affc_schedtext.specs.Drafting as d
-use Rattle.affc_schedtext.proofs.FormRules.{front_seen, front_and_rest, seen_before, opened, form_rule}
-use Rattle.affc_schedtext.proofs.TextRules.{form_more_rule, forms_rule, given_rule, entry_more_rule, free_rule, entries_rule, list_rule, part_rule}
+use Rattle.affc_schedtext.proofs.FormRules.{front_seen, seen_before, opened, form_rule}
+use Rattle.affc_schedtext.proofs.TextRules.{form_more_rule, entry_more_rule}
 
 behind_past : {K A B : Type 0} (o : Option (K × List Symbol)) (f : K → Reader Symbol A) (us : List Symbol) (h : A → Reader Symbol B) → then_read (on_past o f (Err (At us))) h ≡ on_past o (λ k vs. then_read (f k vs) h) (Err (At us))
 behind_past None f us h = refl

@@ -1,10 +1,8 @@
 -- Reading a form is the reading of an expression among the tokens before the first name that may not stand there.
-use Rattle.std.proofs.Common.{◌≡◌, ℕ, ◌+◌, ◌≤◌, Bool, true, false, ◌&&◌, ◌||◌, not, List, [], ◌∷◌, ◌++◌, Option, Some, None, is_some, Ok, Err, refl, sym, ap, ◌∙◌, subst, codes, IsTrue, ◌⊎◌, inl, inr, cond, arith, append_assoc}
-use Rattle.std.specs.List.{list_all}
+use Rattle.std.proofs.Common.{◌≡◌, ℕ, ◌+◌, Bool, true, false, ◌||◌, not, List, [], ◌∷◌, ◌++◌, Option, Some, None, is_some, Ok, Err, refl, sym, ap, ◌∙◌, subst, codes, IsTrue, ◌⊎◌, inl, inr, cond, arith, append_assoc}
 use Rattle.std.proofs.lemmas.Bool.{and_parts, and_from}
 use Rattle.affc_grammar.specs.Grammar as g
 use Rattle.affc_grammar.specs.Grammar.{Symbol, number, IxText, ix_symbols}
-use Rattle.affc_grammar.specs.Limits.{count_open}
 use Rattle.affc_grammar.specs.Reader.{At, Deep, Read, Reader, give, fail, after, IsReader}
 use Rattle.affc_grammar.specs.Reading.{read_ix, holding}
 use Rattle.affc_grammar.proofs.Closed.{is_give, is_fail, is_after, then_ok, then_at, same_ok, same_at, same_front}

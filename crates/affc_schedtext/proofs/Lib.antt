@@ -7,3 +7,4 @@ pub mod Texts
 pub mod Turns
 pub mod DraftExact
 pub mod StageExact
+pub mod Sights

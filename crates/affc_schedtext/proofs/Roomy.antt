@@ -1,17 +1,16 @@
 -- A reader has room where as many brackets may be open as there are tokens.
-use Rattle.std.proofs.Common.{◌≡◌, ℕ, zero, suc, ◌+◌, ◌≤◌, Bool, true, false, List, [], ◌∷◌, ◌++◌, length, Option, Some, None, Ok, Err, refl, sym, ap, ◌∙◌, subst, codes, IsTrue, cond, arith, length-append, ◌⊎◌, inl, inr}
+use Rattle.std.proofs.Common.{◌≡◌, ℕ, zero, suc, ◌+◌, ◌≤◌, Bool, true, false, List, [], ◌∷◌, length, Option, Some, None, Ok, Err, refl, sym, ap, ◌∙◌, codes, IsTrue, arith, length-append, ◌⊎◌, inl, inr}
 use Rattle.affc_lex.specs.Bytes.{same, decimal}
 use Rattle.affc_grammar.specs.Grammar.{Symbol, Name, Digits, IxText, ix_symbols}
 use Rattle.affc_grammar.specs.Limits.{count_open}
 use Rattle.affc_grammar.specs.Reader.{At, Deep, Read, Reader, then_read, on_some, give, fail, after, either, many, all, Turn, going, done, tries, until, and_on, finished, Within, IsReader}
-use Rattle.affc_grammar.specs.Reading.{this_mark, this_word, any_word, any_number, read_ix, holding}
+use Rattle.affc_grammar.specs.Reading.{read_ix, holding}
 use Rattle.affc_grammar.proofs.Rule.{Keeps}
 use Rattle.affc_grammar.proofs.Rules.{ix_rule}
-use Rattle.affc_grammar.proofs.Tests.{mark_test}
 use Rattle.affc_grammar.proofs.Texts.{within_length}
-use Rattle.affc_schedtext.specs.Outline.{Outline, Scope, Words, these, any, Lists, Presence, never, always, maybe, statement_lists, statement_presence, fold_lists, fold_presence}
-use Rattle.affc_schedtext.specs.Grammar.{all_seen, FormText, FormsText, one_form, GivenText, FreeText, one_entry, EntriesText, InverseText, without, skipped, LineText, StmtsText, no_stmts, and_stmt, OrderText, source, time, Text, order, and_fold}
-use Rattle.affc_schedtext.specs.Reading.{seen_front, unseen_rest, followed_by, with_seen, read_form, form_more, read_forms, read_given, entry_more, read_free, read_entries, Part, source_word, time_number, stmt_forms, stmt_line, fold_forms, fold_line, read_list, Next, read_fold, next_fold, read_first_fold, read_stmt, next_stmt, stmt_more, part_more, read_parts, read_text}
+use Rattle.affc_schedtext.specs.Outline.{Outline, Scope, Words, these, any, Presence, never, always, maybe, statement_lists, statement_presence, fold_lists}
+use Rattle.affc_schedtext.specs.Grammar.{all_seen, FormText, one_form, one_entry, InverseText, without, skipped, LineText, StmtsText, no_stmts, and_stmt, source, time, Text, order, and_fold}
+use Rattle.affc_schedtext.specs.Reading.{seen_front, unseen_rest, followed_by, with_seen, read_form, read_forms, read_given, read_free, read_entries, Part, source_word, time_number, stmt_forms, stmt_line, fold_forms, fold_line, read_list, read_fold, next_fold, read_first_fold, read_stmt, next_stmt, stmt_more, part_more, read_parts, read_text}
 use Rattle.affc_schedtext.proofs.FormRules.{front_and_rest, opened, inner, form_reader}
 use Rattle.affc_schedtext.proofs.TextRules.{form_more_rule, forms_rule, given_rule, entry_more_rule, free_rule, entries_rule, list_rule, part_rule}
 

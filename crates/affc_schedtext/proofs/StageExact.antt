@@ -1,21 +1,19 @@
 -- The drafts of whole texts are those of the grammar's texts, read by the grammar.
-use Rattle.std.proofs.Common.{◌≡◌, ℕ, ◌+◌, ◌-◌, ◌≤◌, Bool, true, false, List, [], ◌∷◌, ◌++◌, length, Option, Some, None, Ok, Err, if◌then◌else◌, refl, sym, ap, ◌∙◌, codes, arith, length-append}
+use Rattle.std.proofs.Common.{◌≡◌, ℕ, ◌+◌, ◌-◌, Bool, true, false, List, [], ◌∷◌, ◌++◌, length, Some, None, Ok, Err, if◌then◌else◌, refl, sym, ap, ◌∙◌, codes, arith, length-append}
 use Rattle.std.specs.Option.{option_map}
 use Rattle.affc_lex.specs.Bytes.{same, decimal}
 use Rattle.affc_grammar.specs.Grammar.{Symbol, Name, Digits, word, mark}
 use Rattle.affc_grammar.specs.Draft.{IxDraft, WordDraft, word_draft}
-use Rattle.affc_grammar.specs.Reader.{At, Deep, Read, Reader, then_read, Turn, going, done, give, fail, after, either, on, until, finished}
+use Rattle.affc_grammar.specs.Reader.{At, Turn, going, done, give, fail, after, on, finished}
 use Rattle.affc_grammar.specs.Reading.{this_mark, this_word, any_word, any_number, is_number_kind}
-use Rattle.affc_grammar.proofs.Rule.{turn_spelled}
-use Rattle.affc_grammar.proofs.Tests.{same_bytes}
 use Rattle.affc_syntax.specs.Ahead.{past, number_value}
 use Rattle.affc_syntax.specs.Readers.{on_past, mapped}
 use Rattle.affc_syntax.proofs.Draws.{Placed, then_is, either_mapped, either_turned, past_one}
 use Rattle.affc_schedtext.proofs.Turns.{on_is, turned, until_drawn}
-use Rattle.affc_schedtext.specs.Outline.{Outline, Scope, Words, Lists, Presence, never, always, maybe, statement_lists, statement_presence, fold_lists, fold_presence}
+use Rattle.affc_schedtext.specs.Outline.{Outline, Scope, Words, Presence, never, always, maybe, statement_lists, statement_presence, fold_lists, fold_presence}
 use Rattle.affc_schedtext.specs.Grammar as g
 use Rattle.affc_schedtext.specs.Grammar.{FormsText, forms_symbols, FreeText, free_symbols, EntriesText, entries_symbols, InverseText, without, written, skipped, taken, inverse_symbols, LineText, head_symbols, open_symbols, line_symbols, StmtsText, no_stmts, and_stmt, stmts_symbols, order_symbols, Text, order, and_fold, text_symbols}
-use Rattle.affc_schedtext.specs.Draft.{LineDraft, OrderDraft, source, time, Draft, forms_draft, free_draft, entries_draft, inverse_draft, line_draft, stmts_draft, text_draft}
+use Rattle.affc_schedtext.specs.Draft.{source, Draft, forms_draft, free_draft, entries_draft, inverse_draft, stmts_draft, text_draft}
 use Rattle.affc_schedtext.specs.Reading as r
 use Rattle.affc_schedtext.specs.Reading.{Part, source_word, time_number, stmt_forms, stmt_line, fold_forms, fold_line, part_symbols}
 use Rattle.affc_schedtext.specs.Drafting as d

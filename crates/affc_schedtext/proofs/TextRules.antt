@@ -1,12 +1,12 @@
 -- Each reader of specs/Reading is a reader of its rule.
-use Rattle.std.proofs.Common.{◌≡◌, ℕ, Bool, true, false, List, [], ◌∷◌, ◌++◌, refl, sym, ap, ◌∙◌, subst, codes, append_assoc, append-nil}
+use Rattle.std.proofs.Common.{◌≡◌, ℕ, Bool, true, false, List, [], ◌∷◌, ◌++◌, refl, sym, ap, ◌∙◌, codes, append_assoc, append-nil}
 use Rattle.affc_lex.specs.Bytes.{same, decimal}
 use Rattle.affc_grammar.specs.Grammar.{Symbol, Name, Digits, word, number, mark}
 use Rattle.affc_grammar.specs.Reader.{Turn, going, done}
 use Rattle.affc_grammar.proofs.Rule.{give_rule, fail_rule, after_rule, nested_rule, then_rule, refront, either_rule, on_rule, all_rule, until_rule, finished_rule, turn_spelled}
 use Rattle.affc_grammar.proofs.Tests.{same_bytes, mark_test, word_test, any_word_test, any_number_test}
-use Rattle.affc_schedtext.specs.Outline.{Outline, Scope, Words, these, any, Lists, Presence, never, always, maybe, statement_lists, statement_presence, fold_lists, fold_presence}
-use Rattle.affc_schedtext.specs.Grammar.{FormText, form_symbols, FormsText, one_form, and_form, forms_symbols, GivenText, last_entry, entry_then, given_symbols, FreeText, one_entry, and_entry, free_symbols, EntriesText, given, free, entries_symbols, InverseText, without, written, skipped, taken, inverse_symbols, LineText, head_symbols, open_symbols, StmtsText, no_stmts, and_stmt, stmts_symbols, OrderText, source, time, order_symbols, Text, order, and_fold, text_symbols}
+use Rattle.affc_schedtext.specs.Outline.{Outline, Scope, Words, these, any, Presence, never, always, maybe, statement_lists, statement_presence, fold_lists, fold_presence}
+use Rattle.affc_schedtext.specs.Grammar.{FormsText, one_form, and_form, forms_symbols, last_entry, entry_then, given_symbols, FreeText, one_entry, and_entry, free_symbols, EntriesText, given, free, entries_symbols, InverseText, without, written, skipped, taken, inverse_symbols, LineText, head_symbols, open_symbols, StmtsText, no_stmts, and_stmt, source, time, order_symbols, Text, order, and_fold, text_symbols}
 use Rattle.affc_schedtext.specs.Reading.{form_more, read_forms, read_given, entry_more, read_free, read_entries, Part, source_word, time_number, stmt_forms, stmt_line, fold_forms, fold_line, part_symbols, read_list, read_fold, next_fold, read_first_fold, read_stmt, next_stmt, stmt_more, part_more, read_parts, read_text}
 use Rattle.affc_schedtext.proofs.FormRules.{Exact, form_rule, zero_form}
 

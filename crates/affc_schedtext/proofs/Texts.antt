@@ -1,7 +1,7 @@
 -- Reading a text of the grammar: one text at most has given symbols, a text is read where the room is enough, and where reading stops no text goes on.
 use Rattle.std.proofs.Common.{◌≡◌, ℕ, ◌≤◌, List, [], ◌∷◌, ◌++◌, length, Ok, Err, refl, sym, ap, ◌∙◌, subst, arith, append-nil}
 use Rattle.affc_grammar.specs.Grammar.{Symbol}
-use Rattle.affc_grammar.specs.Reader.{At, Deep, Read, Reader}
+use Rattle.affc_grammar.specs.Reader.{At, Deep, Read}
 use Rattle.affc_grammar.proofs.Done.{IsDone}
 use Rattle.affc_schedtext.specs.Outline.{Outline}
 use Rattle.affc_schedtext.specs.Grammar.{Text, text_symbols, Refuses, StopsAt}

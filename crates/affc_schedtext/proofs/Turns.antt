@@ -1,5 +1,5 @@
 -- Readers of drafts beside the grammar's readers: a token and what is read behind it, and reading until the whole is read.
-use Rattle.std.proofs.Common.{◌≡◌, ℕ, zero, suc, List, [], ◌∷◌, length, Option, Some, None, Ok, Err, refl, ap, ◌∙◌}
+use Rattle.std.proofs.Common.{◌≡◌, ℕ, zero, suc, List, length, Option, Some, Ok, Err, refl, ap, ◌∙◌}
 use Rattle.affc_grammar.specs.Grammar.{Symbol}
 use Rattle.affc_grammar.specs.Reader.{At, Reader, then_read, give, fail, after, on, Turn, going, done, tries, until, and_on}
 use Rattle.affc_syntax.specs.Ahead.{past}

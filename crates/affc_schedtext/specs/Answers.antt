@@ -1,5 +1,5 @@
 -- What is answered of a schedule's text: its plan, or the first of the rules that it breaks.
-use Rattle.std.specs.Prelude.{◌≡◌, ◌⊎◌, ℕ, ◌+◌, ◌-◌, ◌<◌, ◌≤◌, Bool, true, false, List, [], ◌∷◌, ◌++◌, length, take, map, slice_get, Option, Some, None, Result, Ok, Err}
+use Rattle.std.specs.Prelude.{◌≡◌, ◌⊎◌, ℕ, ◌-◌, ◌<◌, ◌≤◌, Bool, true, false, List, [], ◌∷◌, ◌++◌, length, take, slice_get, Some, Result, Ok, Err}
 use Rattle.std.specs.List.{All}
 use Rattle.affc_lex.specs.declared.token.LexFault.{LexFault}
 use Rattle.affc_lex.specs.Lexes.{Lexeme, Lexes}

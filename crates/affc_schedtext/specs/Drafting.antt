@@ -1,15 +1,15 @@
 -- Reading drafts of schedules. Only the crate's private clauses cite it: `end` is the number behind the last token, so that the first of some tokens
 -- at the text's end has the number `end - length tokens`.
-use Rattle.std.specs.Prelude.{ℕ, zero, suc, ◌-◌, Bool, true, false, List, [], ◌∷◌, ◌++◌, length, codes, Option, Ok, Err, if◌then◌else◌}
+use Rattle.std.specs.Prelude.{ℕ, zero, suc, ◌-◌, false, List, [], ◌∷◌, ◌++◌, length, codes, Option, Ok, Err, if◌then◌else◌}
 use Rattle.affc_lex.specs.Bytes.{same}
 use Rattle.affc_grammar.specs.Grammar.{Symbol, Name}
 use Rattle.affc_grammar.specs.Draft.{IxDraft, WordDraft, word_draft, ix_draft}
-use Rattle.affc_grammar.specs.Reader.{At, Read, Reader, then_read, Turn, going, done}
+use Rattle.affc_grammar.specs.Reader.{At, Reader, then_read, Turn, going, done}
 use Rattle.affc_grammar.specs.Reading.{this_mark, this_word, any_word, read_ix}
 use Rattle.affc_syntax.specs.Ahead.{past, number_value}
 use Rattle.affc_syntax.specs.Readers.{on_past, closed, mapped, all_more}
-use Rattle.affc_schedtext.specs.Outline.{Outline, Scope, Words, these, any, Lists, Presence, never, always, maybe, statement_lists, statement_presence, fold_lists}
-use Rattle.affc_schedtext.specs.Draft.{LineDraft, OrderDraft, source, time, Draft}
+use Rattle.affc_schedtext.specs.Outline.{Outline, Scope, Words, these, any, Presence, never, always, maybe, statement_lists, statement_presence, fold_lists}
+use Rattle.affc_schedtext.specs.Draft.{LineDraft, source, time, Draft}
 use Rattle.affc_schedtext.specs.Reading.{seen_front, unseen_rest, followed_by}
 
 -- what stands before a ";"

@@ -1,6 +1,6 @@
 -- The grammar of schedules, with the names that may stand in their forms. Each type is a rule and each of its cases a way to write it; `.._symbols` is
 -- how it is written. The line of the grammar stands above the type: "a" is this token, [ a ] is a or nothing, { a } is any number of a, a | b is a or b.
-use Rattle.std.specs.Prelude.{◌≡◌, ℕ, ◌+◌, Bool, true, false, not, ◌&&◌, ◌||◌, List, [], ◌∷◌, ◌++◌, length, codes, IsTrue, Option, Some, None, is_some}
+use Rattle.std.specs.Prelude.{◌≡◌, ℕ, ◌+◌, Bool, false, not, ◌||◌, List, [], ◌∷◌, ◌++◌, length, codes, IsTrue, is_some}
 use Rattle.std.specs.List.{list_all, list_any}
 use Rattle.affc_lex.specs.Bytes.{decimal}
 use Rattle.affc_grammar.specs.Grammar.{Symbol, Name, Digits, word, number, mark, is_word_kind, IxText, TermText, FactorText, ix_symbols, term_symbols, factor_symbols}

@@ -8,3 +8,4 @@ pub mod Answers
 pub mod Products
 pub mod Verdict
 pub mod Examples
+pub mod Seen

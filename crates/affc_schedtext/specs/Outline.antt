@@ -1,5 +1,5 @@
 -- What a schedule's text sees of a program: its parameters, its statements and its arrays, and which columns the names in its forms stand for.
-use Rattle.std.specs.Prelude.{ℕ, zero, suc, ◌+◌, ◌-◌, Bool, true, false, not, ◌&&◌, ◌||◌, ◌==◌, nat_lt, List, [], ◌∷◌, ◌++◌, length, map, drop, codes, Option, Some, None, is_some, slice_get, if◌then◌else◌, decimal as digits_of}
+use Rattle.std.specs.Prelude.{ℕ, zero, suc, ◌+◌, Bool, true, false, ◌&&◌, nat_lt, List, [], ◌∷◌, ◌++◌, length, map, drop, codes, Option, Some, None, slice_get, if◌then◌else◌, decimal as digits_of}
 use Rattle.std.specs.List.{position as position_by}
 use Rattle.std.specs.Option.{option_map}
 use Rattle.affc_lex.specs.Bytes.{same, begins, decimal}
@@ -72,7 +72,7 @@ Scope = Name → Option ℕ
 
 -- the first so many columns are the parameters
 abbrev pub time_scope : Outline → (iterators : List Name) → Scope
-time_scope o iterators w = position w (o.parameters ++ iterators)
+time_scope o iterators w = or_else (position w o.parameters) (option_map (λ k. length o.parameters + k) (position w iterators))
 
 -- a parameter whose name is that of a component can't be written
 abbrev pub inverse_scope : Outline → (length_of_time : ℕ) → Scope

@@ -1,5 +1,5 @@
 -- The products of names among symbols, found in one pass. The public contract speaks of `IsProduct`, and of none of this.
-use Rattle.std.specs.Prelude.{ℕ, suc, Bool, true, false, not, ◌&&◌, ◌||◌, List, [], ◌∷◌, ◌++◌, codes, Option, Some, None, if◌then◌else◌}
+use Rattle.std.specs.Prelude.{ℕ, suc, Bool, true, false, ◌&&◌, ◌||◌, List, [], ◌∷◌, ◌++◌, codes, Option, Some, None, if◌then◌else◌}
 use Rattle.affc_lex.specs.Bytes.{same}
 use Rattle.affc_grammar.specs.Grammar.{Symbol, is_mark_kind}
 use Rattle.affc_grammar.specs.Reading.{is_number_kind}

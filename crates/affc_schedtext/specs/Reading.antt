@@ -1,11 +1,11 @@
 -- Reading a text of the grammar by one token of foresight. `room` is how many brackets may be open at once.
 use Rattle.std.specs.Prelude.{ℕ, Bool, true, false, List, [], ◌∷◌, ◌++◌, codes, IsTrue, Option, Some, None, Ok, Err, if◌then◌else◌}
 use Rattle.affc_lex.specs.Bytes.{same, decimal}
-use Rattle.affc_grammar.specs.Grammar.{Symbol, Name, Digits, word, mark, IxText, ix_symbols}
+use Rattle.affc_grammar.specs.Grammar.{Symbol, Name, Digits, word, IxText, ix_symbols}
 use Rattle.affc_grammar.specs.Reader.{At, Deep, Read, Reader, give, fail, after, either, on, all, Turn, going, done, until, finished}
 use Rattle.affc_grammar.specs.Reading.{this_mark, this_word, any_word, any_number, holding, read_ix}
-use Rattle.affc_schedtext.specs.Outline.{Outline, Scope, Words, these, any, Lists, Presence, never, always, maybe, statement_lists, statement_presence, fold_lists, fold_presence}
-use Rattle.affc_schedtext.specs.Grammar.{is_seen, all_seen, FormText, FormsText, one_form, and_form, forms_symbols, GivenText, last_entry, entry_then, FreeText, one_entry, and_entry, EntriesText, given, free, entries_symbols, InverseText, without, written, skipped, taken, LineText, head_symbols, open_symbols, StmtsText, no_stmts, and_stmt, OrderText, source, time, time_symbols, order_symbols, Text, order, and_fold, text_symbols}
+use Rattle.affc_schedtext.specs.Outline.{Outline, Scope, Words, these, any, Presence, never, always, maybe, statement_lists, statement_presence, fold_lists, fold_presence}
+use Rattle.affc_schedtext.specs.Grammar.{is_seen, all_seen, FormText, FormsText, one_form, and_form, GivenText, last_entry, entry_then, FreeText, one_entry, and_entry, EntriesText, given, free, InverseText, without, written, skipped, taken, LineText, head_symbols, open_symbols, StmtsText, no_stmts, and_stmt, source, time, time_symbols, order_symbols, Text, order, and_fold, text_symbols}
 
 -- ---- Forms
 

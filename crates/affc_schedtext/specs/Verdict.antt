@@ -1,17 +1,16 @@
 -- What is answered of a schedule's text, by its symbols: for examples, where it computes.
-use Rattle.std.specs.Prelude.{ℕ, ◌+◌, ◌-◌, Bool, true, false, ◌&&◌, ◌==◌, min, List, [], ◌∷◌, ◌++◌, length, map, take, Option, Some, None, Result, Ok, Err, ℤ, int_le, if◌then◌else◌}
-use Rattle.std.specs.List.{list_all, fold}
-use Rattle.affc_rows.specs.Forms.{Affine, columns_of, composed_form}
+use Rattle.std.specs.Prelude.{ℕ, ◌-◌, ◌==◌, min, List, [], ◌∷◌, length, map, take, Option, Some, None, Ok, Err, if◌then◌else◌}
+use Rattle.std.specs.List.{fold}
+use Rattle.affc_rows.specs.Forms.{Affine}
 use Rattle.affc_ast.specs.declared.tree.Program.{Program}
-use Rattle.affc_trace.specs.Inverses.{column, columns_from}
 use Rattle.affc_grammar.specs.Grammar.{Symbol}
 use Rattle.affc_grammar.specs.Reader.{At, Deep, Read, give, fail, deep, after, either, many, all, tries, until, inside, finished}
 use Rattle.affc_grammar.specs.Reading.{ix_inside}
-use Rattle.affc_schedtext.specs.Outline.{Outline, outline, statement_of, array_of}
+use Rattle.affc_schedtext.specs.Outline.{Outline, outline}
 use Rattle.affc_schedtext.specs.Grammar.{Text}
 use Rattle.affc_schedtext.specs.Reading.{read_form, read_text}
-use Rattle.affc_schedtext.specs.Draft.{LineDraft, OrderDraft, source, time, Draft, text_draft}
-use Rattle.affc_schedtext.specs.Rules.{Sides, statement_sides, fold_sides, there_forms, back_forms, Breach, breaches, column_named}
+use Rattle.affc_schedtext.specs.Draft.{OrderDraft, source, time, Draft, text_draft}
+use Rattle.affc_schedtext.specs.Rules.{Sides, statement_sides, fold_sides, there_forms, back_forms, Breach, breaches}
 use Rattle.affc_schedtext.specs.Products.{products}
 
 -- the two lists of a line, as forms

@@ -2,8 +2,11 @@
 //! statement, proved by computation. A symbol has a space on either side, and symbols are numbered from 0.
 
 ghost use Rattle.std.specs.Prelude.{◌≡◌, [], ◌∷◌, codes, Some, None, pos, negsuc, neg_ℤ};
+ghost use Rattle.affc_basis.specs.Bases.{IsFirstBroken};
 ghost use Rattle.affc_grammar.specs.Verdict.{line};
+ghost use Rattle.affc_schedtext.specs.Answers.{IsFirstLost};
 ghost use Rattle.affc_schedtext.specs.Examples.{blur, square, odd, idle, form, pair};
+ghost use Rattle.affc_schedtext.specs.Grammar.{IsProduct};
 ghost use Rattle.affc_schedtext.specs.Rules.{statement, length_of_line, fold, limit};
 ghost use Rattle.affc_schedtext.specs.Verdict.{verdict, reads, syntax, breaks};
 
@@ -89,4 +92,15 @@ pub fn rules()
     ensures coefficients_of_256 { verdict square (line (codes "time 1 ; S0 : ( N * 256 ) ; S1 : ( 0 ) ; i = 0 , j = 256 * t0 ;")) ≡ reads (Some (pair (form (pos 256 ∷ []) (pos 0) ∷ []) [] ∷ pair (form (pos 0 ∷ pos 0 ∷ pos 0 ∷ []) (pos 0) ∷ []) (form (pos 0 ∷ pos 0 ∷ []) (pos 0) ∷ form (pos 0 ∷ pos 256 ∷ []) (pos 0) ∷ []) ∷ [])) [] }
     ensures limits_of_inverse_forms { verdict square (line (codes "time 1 ; S0 : ( 0 ) ; S1 : ( 0 ) ; i = 0 , j = 1 + 257 * t0 ;")) ≡ breaks (limit 21) }
     ensures limits_of_folds { verdict blur (line (codes "source ; fold t : ( 257 * x0 ) ; x0 = y0 ;")) ≡ breaks (limit 6) }
+{}
+
+/// Forms that aren't undone, and the place of a product.
+pub fn refusals()
+    // (i), and i = t0 + 1
+    ensures an_iterator_is_lost { IsFirstLost (form (pos 0 ∷ pos 1 ∷ []) (pos 0) ∷ []) (form (pos 0 ∷ pos 1 ∷ []) (pos 1) ∷ []) 0 }
+    // (i), (j) and i = t0, j = t0
+    ensures the_second_is_lost { IsFirstLost (form (pos 1 ∷ pos 0 ∷ []) (pos 0) ∷ form (pos 0 ∷ pos 1 ∷ []) (pos 0) ∷ []) (form (pos 1 ∷ pos 0 ∷ []) (pos 0) ∷ form (pos 1 ∷ pos 0 ∷ []) (pos 0) ∷ []) 1 }
+    // (x0 - x1, x1), and x0 = y0, x1 = y1
+    ensures a_subscript_is_lost { IsFirstBroken (form (pos 1 ∷ negsuc 0 ∷ []) (pos 0) ∷ form (pos 0 ∷ pos 1 ∷ []) (pos 0) ∷ []) (form (pos 1 ∷ pos 0 ∷ []) (pos 0) ∷ form (pos 0 ∷ pos 1 ∷ []) (pos 0) ∷ []) 0 }
+    ensures a_product_stands_at_its_sign { IsProduct (line (codes "( 2 * i * N + 1")) 4 }
 {}

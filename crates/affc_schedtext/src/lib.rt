@@ -4,5 +4,6 @@
 pub mod examples;
 pub mod laws;
 pub mod plan;
+pub mod scope;
 
 pub use plan::{Plan, SchedFault};
