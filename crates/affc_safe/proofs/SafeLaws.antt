@@ -55,7 +55,7 @@ extents_read names (e ∷ es) r least array node =
     (else_is (int_lt (whole e names) (pos 1)) _ _ (not_below_one (whole e names) (int_lt (whole e names) (pos 1)) refl (least e (inl refl)))
     ∙ extents_read names es r.1 (λ f i. least f (inr i)) array (node + nodes_of_ix e)) refl)
 
-all_read : (names : List ℤ) (ds : List Decl) → ((d : Decl) → IsIn d ds → AreReadable d.extents names) → ((d : Decl) (e : Ix) → IsIn d ds → IsIn e d.extents → pos 1 ≤ℤ whole e names)
+pub all_read : (names : List ℤ) (ds : List Decl) → ((d : Decl) → IsIn d ds → AreReadable d.extents names) → ((d : Decl) (e : Ix) → IsIn d ds → IsIn e d.extents → pos 1 ≤ℤ whole e names)
     → (array node : ℕ) → all_extents array ds node names ≡ Ok (extents_at ds names)
 all_read names [] r least array node = refl
 all_read names (d ∷ ds) r least array node =

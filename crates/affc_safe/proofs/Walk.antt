@@ -104,7 +104,7 @@ pub own_wants : (op : Option Op) (scope : Scope) (store : Store) (here : Instanc
 own_wants None scope store here array xs e = is_ok 0
 own_wants (Some op) scope store here array xs e = load_wants scope store here 0 array xs e
 
-done_or_wants : (op : Option Op) (array : ArrayId) (subs : List Ix) (e : Val) (node : ℕ) (scope : Scope) (store : Store) (here : Instance)
+pub done_or_wants : (op : Option Op) (array : ArrayId) (subs : List Ix) (e : Val) (node : ℕ) (scope : Scope) (store : Store) (here : Instance)
     → AreReadable subs scope.names → ReadsValue e scope.names
     → AllWithin scope.extents (loads_of_value e scope.names) → is_within (map (λ e. whole e scope.names) subs) (get_or scope.extents array.0 []) ≡ true
     → Wanting (assigned op array subs e node scope store here)

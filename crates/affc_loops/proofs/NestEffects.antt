@@ -1,0 +1,77 @@
+-- What the loops of a printed program do: what the blocks do, at each point of the loops' ranges.
+use Rattle.std.proofs.Common.{◌≡◌, ℕ, suc, ℤ, if◌then◌else◌, List, [], ◌∷◌, ◌++◌, map, flat_map, refl, sym, ap, ◌∙◌}
+use Rattle.affc_ast.specs.declared.tree.Compare.{Compare}
+use Rattle.affc_ast.specs.declared.tree.Ix.{Ix}
+use Rattle.affc_ast.specs.declared.tree.Local.{Local}
+use Rattle.affc_ast.specs.declared.tree.Rel.TheVariants.{LessEqual}
+use Rattle.affc_ast.specs.declared.tree.Stmt.{Stmt}
+use Rattle.affc_ast.specs.declared.tree.Stmt.TheVariants.{For, Block}
+use Rattle.affc_ast.specs.Fits.{whole, all_hold}
+use Rattle.affc_ast.specs.Meaning.{turns_of}
+use Rattle.affc_ast.specs.Recursion.{by_stmt}
+use Rattle.affc_ast.specs.Store.{Element}
+use Rattle.affc_ast.specs.Trace.{count_from}
+use Rattle.affc_ast.proofs.Steps.{for_here, if_here, block_here}
+use Rattle.affc_trace.specs.Law.{Effect}
+use Rattle.affc_trace.specs.Effects.{with_all, each_of, effects_step}
+use Rattle.affc_trace.proofs.LastStores.{append_nil, push_append}
+use Rattle.affc_trace.proofs.EndedReads.{append_assoc}
+use Rattle.affc_loops.proofs.PointsOrder.{numbers_of, points}
+use Rattle.affc_loops.specs.Trees.{number}
+use Rattle.affc_loops.specs.Loops.{time_name, loops, if_any}
+use Rattle.affc_loops.proofs.FormTrees.{number_is}
+
+-- ---- lists
+
+flat_append : {A B : Type 0} (f : A → List B) (xs ys : List A) → flat_map f (xs ++ ys) ≡ flat_map f xs ++ flat_map f ys
+flat_append f [] ys = refl
+flat_append f (x ∷ xs) ys = ap (λ l. f x ++ l) (flat_append f xs ys) ∙ sym (append_assoc (f x) (flat_map f xs) (flat_map f ys))
+
+flat_map_mapped : {A B C : Type 0} (f : B → List C) (g : A → B) (xs : List A) → flat_map f (map g xs) ≡ flat_map (λ x. f (g x)) xs
+flat_map_mapped f g [] = refl
+flat_map_mapped f g (x ∷ xs) = ap (λ l. f (g x) ++ l) (flat_map_mapped f g xs)
+
+flat_twice : {A B C : Type 0} (f : B → List C) (g : A → List B) (xs : List A) → flat_map f (flat_map g xs) ≡ flat_map (λ x. flat_map f (g x)) xs
+flat_twice f g [] = refl
+flat_twice f g (x ∷ xs) = flat_append f (g x) (flat_map g xs) ∙ ap (λ l. flat_map f (g x) ++ l) (flat_twice f g xs)
+
+pub flat_same : {A B : Type 0} (f g : A → List B) → ((x : A) → f x ≡ g x) → (xs : List A) → flat_map f xs ≡ flat_map g xs
+flat_same f g e [] = refl
+flat_same f g e (x ∷ xs) = ap (λ l. l ++ flat_map f xs) (e x) ∙ ap (λ l. g x ++ l) (flat_same f g e xs)
+
+-- ---- what statements do
+
+abbrev pub done_by : List Stmt → List ℤ → List (Effect Element ℕ)
+done_by body names = each_of (map (by_stmt effects_step) body) names
+
+pub one_for : (iter : List ℕ) (low high : Ix) (body : List Stmt) (names : List ℤ)
+    → done_by (For iter low LessEqual high body ∷ []) names
+    ≡ flat_map (λ x. done_by body (names ++ x ∷ [])) (count_from (turns_of LessEqual (whole low names) (whole high names)) (whole low names))
+one_for iter low high body names =
+    ap (λ f. f names ++ []) (for_here effects_step iter low LessEqual high body)
+    ∙ append_nil (flat_map (λ x. done_by body (names ++ x ∷ [])) (count_from (turns_of LessEqual (whole low names) (whole high names)) (whole low names)))
+
+pub one_if : (conds : List Compare) (body : List Stmt) (names : List ℤ) → done_by (if_any conds body) names ≡ (if all_hold conds names then done_by body names else [])
+one_if [] body names = refl
+one_if (c ∷ cs) body names =
+    ap (λ f. f names ++ []) (if_here effects_step (c ∷ cs) body)
+    ∙ append_nil (if all_hold (c ∷ cs) names then done_by body names else [])
+
+pub one_block : (locals : List Local) (body : List Stmt) (names : List ℤ) → by_stmt effects_step (Block locals body) names ≡ done_by body (with_all locals names)
+one_block locals body names = ap (λ f. f names) (block_here effects_step locals body)
+
+-- the loops run through the points of the box
+pub loops_do : (ranges : List (ℤ × ℤ)) (component : ℕ) (body : List Stmt) (names : List ℤ)
+    → done_by (loops ranges component body) names ≡ flat_map (λ t. done_by body (names ++ t)) (points ranges)
+loops_do [] component body names = ap (done_by body) (sym (append_nil names)) ∙ sym (append_nil (done_by body (names ++ [])))
+loops_do (r ∷ rs) component body names =
+    one_for (time_name component) (number r.0) (number r.1) (loops rs (suc component) body) names
+    ∙ ap (λ z. flat_map (λ x. done_by (loops rs (suc component) body) (names ++ x ∷ [])) (count_from (turns_of LessEqual z (whole (number r.1) names)) z)) (number_is r.0 names)
+    ∙ ap (λ z. flat_map (λ x. done_by (loops rs (suc component) body) (names ++ x ∷ [])) (count_from (turns_of LessEqual r.0 z) r.0)) (number_is r.1 names)
+    ∙ flat_same (λ x. done_by (loops rs (suc component) body) (names ++ x ∷ [])) (λ x. flat_map (λ t. done_by body (names ++ t)) (map (λ t. x ∷ t) (points rs)))
+    (λ x.
+    loops_do rs (suc component) body (names ++ x ∷ [])
+    ∙ flat_same (λ t. done_by body ((names ++ x ∷ []) ++ t)) (λ t. done_by body (names ++ x ∷ t)) (λ t. ap (done_by body) (push_append names x t)) (points rs)
+    ∙ sym (flat_map_mapped (λ t. done_by body (names ++ t)) (λ t. x ∷ t) (points rs)))
+    (numbers_of r)
+    ∙ sym (flat_twice (λ t. done_by body (names ++ t)) (λ x. map (λ t. x ∷ t) (points rs)) (numbers_of r))

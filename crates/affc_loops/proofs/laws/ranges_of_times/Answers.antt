@@ -1,0 +1,5 @@
+use Rattle.affc_loops.proofs.LoopLaws.{ranges_of_times}
+use Rattle.affc_loops.proofs.laws.ranges_of_times.Goals as goal
+
+pub returns : goal.returns
+returns c = record { law = ranges_of_times }

@@ -1,0 +1,65 @@
+-- What the loops of a schedule do.
+use Rattle.std.specs.Prelude.{◌≡◌, ℕ, ℤ, IsTrue, List, ◌++◌, Some, None, map, slice_get}
+use Rattle.affc_rows.specs.Forms.{values_of}
+use Rattle.affc_system.specs.Boxes.{InBox}
+use Rattle.affc_ast.specs.declared.tree.Program.{Program}
+use Rattle.affc_ast.specs.Compiles.{Compiles}
+use Rattle.affc_ast.specs.Fits.{Fits, within_ranges}
+use Rattle.affc_ast.specs.Meaning.{State, Ended, meaning}
+use Rattle.affc_ast.specs.Store.{Store}
+use Rattle.affc_trace.specs.declared.schedule.Schedule.{Schedule}
+use Rattle.affc_trace.specs.declared.schedule.Schedule.TheVariants.{Time}
+use Rattle.affc_trace.specs.declared.schedule.TimeMap.{TimeMap}
+use Rattle.affc_trace.specs.Dataflow.{Legal}
+use Rattle.affc_trace.specs.Effects.{effect, effects}
+use Rattle.affc_trace.specs.Law.{IsIn, placed}
+use Rattle.affc_trace.specs.Laws.{IsInContext, RunsTarget, in_target_order}
+use Rattle.affc_trace.specs.Target.{target, IsScheduleOf, within_limits}
+use Rattle.affc_domain.specs.Plain.{IsPlain}
+use Rattle.affc_domain.specs.Ranges.{first_wide, number_ranges}
+use Rattle.affc_safe.specs.Safe.{HasExtents, KeepsWithin}
+use Rattle.affc_loops.specs.Loops.{Piece, pieces, time_ranges, target_program}
+
+-- A plain program no loop of which passes 2^31, and a schedule of it within its limits.
+pub record HasLoops (source : Program) (schedule : Schedule) : Type 0 where
+  pub plain : IsPlain source
+  pub near : first_wide source ≡ None
+  pub scheduled : IsScheduleOf source schedule
+  pub limits : IsTrue (within_limits schedule)
+
+-- Read as whole numbers, the loops and conditions run what the target's instances do, each once and in order.
+abbrev pub LoopsDoTarget : Type 0
+LoopsDoTarget = (source : Program) (schedule : Schedule) (p : List ℤ)
+    → HasLoops source schedule → IsTrue (within_ranges source.params p)
+    → effects (target_program source schedule) p ≡ map (placed (λ x. x) (effect source p)) (target source schedule p)
+
+-- Where the source's extents are at least 1 and its accesses lie within them, the program runs so from any store: no number in
+-- it leaves `int64_t` and no access lies outside, so that it is stuck, if at all, for want of a value.
+abbrev pub LoopsRunTarget : Type 0
+LoopsRunTarget = (source : Program) (schedule : Schedule) (p : List ℤ) (store : Store)
+    → HasLoops source schedule → IsTrue (within_ranges source.params p) → HasExtents source p → KeepsWithin source p
+    → RunsTarget (target_program source schedule) source schedule (λ x. x) p store
+
+-- Under a legal schedule the program compiles a source that ends for all data that fit.
+abbrev pub LoopsCompile : Type 0
+LoopsCompile = (source : Program) (schedule : Schedule)
+    → HasLoops source schedule
+    → ((p : List ℤ) (store : Store) → Fits source p store → (end : State) × (meaning source p store ≡ Ended end))
+    → ((p : List ℤ) → IsInContext source p → Legal source schedule p)
+    → Compiles (target_program source schedule) source (in_target_order schedule) (λ p x. x)
+
+-- x is this component of the time of some statement at a point of its box
+abbrev pub IsTime : (params : List (ℤ × ℤ)) → List Piece → (component : ℕ) → (x : ℤ) → Type 0
+IsTime params es component x =
+    (e : Piece) × IsIn e es × (p : List ℤ) × (xs : List ℤ) × InBox params p × InBox e.ranges xs × (slice_get (values_of e.times.forms (p ++ xs)) component ≡ Some x)
+
+-- The ranges hold the times at all points of the boxes, and both ends of each are such times.
+pub record AreTimeRanges (params : List (ℤ × ℤ)) (es : List Piece) (ranges : List (ℤ × ℤ)) : Type 0 where
+  pub hold : (e : Piece) → IsIn e es → (p xs : List ℤ) → InBox params p → InBox e.ranges xs → InBox ranges (values_of e.times.forms (p ++ xs))
+  pub least : (component : ℕ) (r : ℤ × ℤ) → slice_get ranges component ≡ Some r → IsTime params es component r.0
+  pub greatest : (component : ℕ) (r : ℤ × ℤ) → slice_get ranges component ≡ Some r → IsTime params es component r.1
+
+abbrev pub RangesOfTimes : Type 0
+RangesOfTimes = (source : Program) (length_of_time : ℕ) (maps : List TimeMap)
+    → HasLoops source (Time length_of_time maps)
+    → AreTimeRanges (number_ranges source.params) (pieces source maps) (time_ranges (number_ranges source.params) (pieces source maps))

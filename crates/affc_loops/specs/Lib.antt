@@ -1,0 +1,5 @@
+pub mod Trees
+pub mod Spans
+pub mod Loops
+pub mod Laws
+pub mod Examples

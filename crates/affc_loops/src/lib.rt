@@ -1,0 +1,5 @@
+//! The loops that run a program's instances in the order of a schedule.
+#![tactic(auto)]
+
+pub mod examples;
+pub mod laws;
