@@ -1,4 +1,3 @@
-pub mod OppositeLemmas
 pub mod PathLemmas
 pub mod WriterLemmas
 pub mod NamesLemmas

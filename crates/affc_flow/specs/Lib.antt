@@ -1,4 +1,3 @@
-pub mod Opposites
 pub mod Questions
 pub mod Laws
 pub mod Examples
