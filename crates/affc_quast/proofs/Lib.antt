@@ -1,2 +1,4 @@
 pub mod LeafLemmas
 pub mod RangeLemmas
+pub mod WideLemmas
+pub mod PathLemmas

@@ -4,3 +4,5 @@ pub mod Leaves
 pub mod Sources
 pub mod Limits
 pub mod Laws
+pub mod Wide
+pub mod SeenLeaves

@@ -2,6 +2,8 @@
 #![tactic(auto)]
 
 pub mod laws;
+pub mod leaves;
 pub mod quast;
+pub mod rows;
 
 pub use quast::{Flow, Quast};
