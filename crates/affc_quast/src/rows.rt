@@ -64,7 +64,7 @@ fn gap(alloc: Global, columns: u32, a: &Form, b: &Form, k: u32) -> Result<Form, 
 }
 
 /// Adds the row `b - a - k`.
-fn add_gap(
+pub fn add_gap(
     alloc: Global,
     columns: u32,
     a: &Form,
