@@ -6,6 +6,5 @@ pub mod PointLemmas
 pub mod LiveLemmas
 pub mod BoxedLemmas
 pub mod ExampleProofs
-pub mod WideLemmas
 pub mod DraftLemmas
 pub mod LimitLemmas

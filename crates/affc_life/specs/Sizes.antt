@@ -1,4 +1,4 @@
--- Systems that pass the limits of a system, and forms whose differences can be taken.
+-- Systems that pass the limits of a system.
 use Rattle.std.specs.Prelude.{◌≡◌, ◌⊎◌, ℕ, ◌^◌, ◌<◌, ◌≤◌, unsigned_abs, List, length}
 use Rattle.std.specs.List.{All}
 use Rattle.affc_rows.specs.Forms.{Affine}
@@ -15,9 +15,3 @@ pub record AnyLarge (clashes : List Clash) : Type 0 where
   pub clash : Clash
   pub there : IsIn clash clashes
   pub large : IsLarge clash.system
-
--- a form over so many columns, with entries within 2^64
-pub record IsWide (columns : ℕ) (form : Affine) : Type 0 where
-  pub width : length form.coefs ≡ columns
-  pub coefs_fit : All (λ c. unsigned_abs c ≤ 2 ^ 64) form.coefs
-  pub constant_fits : unsigned_abs form.constant ≤ 2 ^ 64

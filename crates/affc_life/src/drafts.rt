@@ -3,10 +3,11 @@ ghost use Rattle.std.specs.Prelude.{◌≡◌, ◌++◌, ◌∷◌, [], map, fla
 ghost use Rattle.std.specs.List.{All};
 ghost use Rattle.affc_life.specs.Clashes.{apart_rows};
 ghost use Rattle.affc_life.specs.Drafts.{drafted, draft_by};
-ghost use Rattle.affc_life.specs.Sizes.{IsWide};
+ghost use Rattle.affc_quast.specs.Wide.{IsWide};
 
 use crate::draft::{Draft, Shared};
-use crate::rows::{add_copies, add_equal, add_less, copied};
+use crate::rows::{add_equal, add_less};
+use affc_quast::rows::{add_copies, copied};
 use affc_rows::Form;
 use sqlite_items::Items;
 use std::alloc::{AllocError, Global};

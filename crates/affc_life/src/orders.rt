@@ -4,9 +4,10 @@ ghost use Rattle.std.specs.List.{All};
 ghost use Rattle.affc_rows.specs.Forms.{Affine};
 ghost use Rattle.affc_order.specs.Systems.{lex_systems};
 ghost use Rattle.affc_life.specs.Drafts.{rows_in};
-ghost use Rattle.affc_life.specs.Sizes.{IsWide};
+ghost use Rattle.affc_quast.specs.Wide.{IsWide};
 
-use crate::rows::{add_equal, add_less, copied};
+use crate::rows::{add_equal, add_less};
+use affc_quast::rows::copied;
 use affc_rows::Form;
 use sqlite_items::Items;
 use std::alloc::{AllocError, Global};

@@ -6,3 +6,5 @@ pub mod Paths
 pub mod Limits
 pub mod Laws
 pub mod Examples
+pub mod Wide
+pub mod SeenLeaves

@@ -3,6 +3,8 @@
 
 pub mod examples;
 pub mod laws;
+pub mod leaves;
 pub mod quast;
+pub mod rows;
 
 pub use quast::{Flow, Quast};
