@@ -8,3 +8,4 @@ pub mod Turns
 pub mod DraftExact
 pub mod StageExact
 pub mod Sights
+pub mod Ends
