@@ -9,3 +9,4 @@ pub mod DraftExact
 pub mod StageExact
 pub mod Sights
 pub mod Ends
+pub mod Shrinks

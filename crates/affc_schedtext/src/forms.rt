@@ -9,10 +9,8 @@ ghost use Rattle.affc_schedtext.specs.Grammar as grammar;
 ghost use Rattle.affc_schedtext.specs.Reading as reading;
 ghost use Rattle.affc_schedtext.specs.Seen.{scope_seen};
 
-use crate::ahead::past_this_word;
 use crate::scope::{Scope, sees};
 use affc_ast::Items;
-use affc_ast::text::Text;
 use affc_draft::draft::IxDraft;
 use affc_draft::symbol::{Symbol, is_word_kind};
 use affc_syntax::ahead::{Answer, Stop, behind, past_mark, past_word};
@@ -77,6 +75,27 @@ fn form_more(
     Ok((forms, next))
 }
 
+/// Further forms, each behind a `,`.
+fn more_forms(
+    alloc: Global,
+    room: u32,
+    scope: Scope<'_>,
+    forms: Items<IxDraft>,
+    symbols: &[Symbol<'_>],
+    next: usize,
+) -> Answer<Items<IxDraft>>
+    ensures { Gives (map seen symbols.now) (map ix) result (drafting.more_forms (length symbols.now) room (scope_seen scope.entry) (map ix forms) (drop next (map seen symbols.now))) }
+{
+    let mut forms = forms;
+    let mut next = next;
+    while let Some(behind) = past_mark(b",", symbols, next) {
+        let (longer, rest) = form_more(alloc, room, scope, forms, symbols, behind)?;
+        forms = longer;
+        next = rest;
+    }
+    Ok((forms, next))
+}
+
 /// The forms that stand here, with a `,` between two of them.
 fn forms(
     alloc: Global,
@@ -87,13 +106,8 @@ fn forms(
 ) -> Answer<Items<IxDraft>>
     ensures { Gives (map seen symbols.now) (map ix) result (drafting.forms (length symbols.now) room (scope_seen scope.entry) (drop next (map seen symbols.now))) }
 {
-    let (mut forms, mut next) = form_more(alloc, room, scope, Items::new(alloc), symbols, next)?;
-    while let Some(behind) = past_mark(b",", symbols, next) {
-        let (longer, rest) = form_more(alloc, room, scope, forms, symbols, behind)?;
-        forms = longer;
-        next = rest;
-    }
-    Ok((forms, next))
+    let (first, next) = form_more(alloc, room, scope, Items::new(alloc), symbols, next)?;
+    more_forms(alloc, room, scope, first, symbols, next)
 }
 
 /// The list of forms behind `:`.
@@ -144,6 +158,27 @@ fn free_more(
     }
 }
 
+/// Further inverse forms of any words, each behind a `,`.
+fn more_free(
+    alloc: Global,
+    room: u32,
+    scope: Scope<'_>,
+    forms: Items<IxDraft>,
+    symbols: &[Symbol<'_>],
+    next: usize,
+) -> Answer<Items<IxDraft>>
+    ensures { Gives (map seen symbols.now) (map ix) result (drafting.more_free (length symbols.now) room (scope_seen scope.entry) (map ix forms) (drop next (map seen symbols.now))) }
+{
+    let mut forms = forms;
+    let mut next = next;
+    while let Some(behind) = past_mark(b",", symbols, next) {
+        let (longer, rest) = free_more(alloc, room, scope, forms, symbols, behind)?;
+        forms = longer;
+        next = rest;
+    }
+    Ok((forms, next))
+}
+
 /// Inverse forms of any words, behind the first word and its `=`.
 pub(crate) fn free(
     alloc: Global,
@@ -154,11 +189,6 @@ pub(crate) fn free(
 ) -> Answer<Items<IxDraft>>
     ensures { Gives (map seen symbols.now) (map ix) result (drafting.free (length symbols.now) room (scope_seen scope.entry) (drop next (map seen symbols.now))) }
 {
-    let (mut forms, mut next) = form_more(alloc, room, scope, Items::new(alloc), symbols, next)?;
-    while let Some(behind) = past_mark(b",", symbols, next) {
-        let (longer, rest) = free_more(alloc, room, scope, forms, symbols, behind)?;
-        forms = longer;
-        next = rest;
-    }
-    Ok((forms, next))
+    let (first, next) = form_more(alloc, room, scope, Items::new(alloc), symbols, next)?;
+    more_free(alloc, room, scope, first, symbols, next)
 }
