@@ -8,3 +8,5 @@ pub mod Turns
 pub mod DraftExact
 pub mod StageExact
 pub mod Sights
+pub mod Ends
+pub mod Shrinks

@@ -52,8 +52,11 @@ form end room scope ts = followed_by (unseen_rest scope ts) (mapped (ix_draft (e
 abbrev pub form_more : (end room : ℕ) → Scope → Unit {0} → List IxDraft → Reader Symbol (List IxDraft)
 form_more end room scope _ es us = then_read (form end room scope us) (λ a vs. Ok (es ++ a ∷ [], vs))
 
+abbrev pub more_forms : (end room : ℕ) → Scope → List IxDraft → Reader Symbol (List IxDraft)
+more_forms end room scope = all_more (this_mark (codes ",")) (form_more end room scope)
+
 abbrev pub forms : (end room : ℕ) → Scope → Reader Symbol (List IxDraft)
-forms end room scope ts = then_read (form_more end room scope tt [] ts) (all_more (this_mark (codes ",")) (form_more end room scope))
+forms end room scope ts = then_read (form_more end room scope tt [] ts) (more_forms end room scope)
 
 -- behind ":"
 abbrev pub list : (end room : ℕ) → Scope → Reader Symbol (List IxDraft)
@@ -76,9 +79,12 @@ given end room scope w (v ∷ vs) es ts =
 abbrev pub free_more : (end room : ℕ) → Scope → Unit {0} → List IxDraft → Reader Symbol (List IxDraft)
 free_more end room scope _ es ts = on_past (past any_word ts) (λ _ us. entry end room scope es us) (Err (At ts))
 
+abbrev pub more_free : (end room : ℕ) → Scope → List IxDraft → Reader Symbol (List IxDraft)
+more_free end room scope = all_more (this_mark (codes ",")) (free_more end room scope)
+
 -- behind the first Word and its "="
 abbrev pub free : (end room : ℕ) → Scope → Reader Symbol (List IxDraft)
-free end room scope ts = then_read (form_more end room scope tt [] ts) (all_more (this_mark (codes ",")) (free_more end room scope))
+free end room scope ts = then_read (form_more end room scope tt [] ts) (more_free end room scope)
 
 abbrev pub entries : (end room : ℕ) → Scope → Words → Reader Symbol (List IxDraft)
 entries end room scope (these w ws) ts = given end room scope w ws [] ts

@@ -1,7 +1,10 @@
 //! Schedules and folds as texts.
 #![tactic(auto)]
 
+mod ahead;
+pub mod draft;
 pub mod examples;
+mod forms;
 pub mod laws;
 pub mod plan;
 pub mod scope;

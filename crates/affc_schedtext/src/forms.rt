@@ -1,0 +1,194 @@
+//! Reading forms and lists of forms. `room` is how many brackets may still be opened, `next` is the number of the next token.
+
+ghost use Rattle.std.specs.Prelude.{◌≡◌, ◌+◌, ◌≤◌, drop, length, map};
+ghost use Rattle.affc_draft.specs.Drafts.{ix};
+ghost use Rattle.affc_draft.specs.Symbols.{seen};
+ghost use Rattle.affc_syntax.specs.Readers.{Gives};
+ghost use Rattle.affc_schedtext.specs.Drafting as drafting;
+ghost use Rattle.affc_schedtext.specs.Grammar as grammar;
+ghost use Rattle.affc_schedtext.specs.Reading as reading;
+ghost use Rattle.affc_schedtext.specs.Seen.{scope_seen};
+
+use crate::scope::{Scope, sees};
+use affc_ast::Items;
+use affc_draft::draft::IxDraft;
+use affc_draft::symbol::{Symbol, is_word_kind};
+use affc_syntax::ahead::{Answer, Stop, behind, past_mark, past_word};
+use affc_syntax::expression::read_expression;
+use std::alloc::Global;
+
+/// Whether it is no name, or one that stands for a column.
+fn is_seen(scope: Scope<'_>, symbol: &Symbol<'_>) -> bool
+    ensures { result ≡ grammar.is_seen (scope_seen scope.entry) (seen symbol.now) }
+{
+    !is_word_kind(symbol.kind) || sees(scope, symbol.text)
+}
+
+/// Where the first name stands that stands for no column, or the end.
+fn seen_end(scope: Scope<'_>, symbols: &[Symbol<'_>], next: usize) -> usize
+    requires { next ≤ length symbols.now }
+    ensures place { result ≡ next + length (reading.seen_front (scope_seen scope.entry) (drop next (map seen symbols.now))) }
+    ensures within { result ≤ length symbols.now }
+{
+    let mut at = next;
+    while at < symbols.len() {
+        if !is_seen(scope, &symbols[at]) {
+            return at;
+        }
+        at += 1;
+    }
+    at
+}
+
+/// The form that stands here.
+pub(crate) fn form(
+    alloc: Global,
+    room: u32,
+    scope: Scope<'_>,
+    symbols: &[Symbol<'_>],
+    next: usize,
+) -> Answer<IxDraft>
+    ensures { Gives (map seen symbols.now) ix result (drafting.form (length symbols.now) room (scope_seen scope.entry) (drop next (map seen symbols.now))) }
+{
+    if symbols.len() < next {
+        return Err(Stop::At(next));
+    }
+    let end = seen_end(scope, symbols, next);
+    read_expression(alloc, false, room, &symbols[..end], next)
+}
+
+/// A form behind others.
+#[tactic(auto, using(affc_syntax::proofs::Readers::lists))]
+fn form_more(
+    alloc: Global,
+    room: u32,
+    scope: Scope<'_>,
+    forms: Items<IxDraft>,
+    symbols: &[Symbol<'_>],
+    next: usize,
+) -> Answer<Items<IxDraft>>
+    ensures { Gives (map seen symbols.now) (map ix) result (drafting.form_more (length symbols.now) room (scope_seen scope.entry) tt (map ix forms) (drop next (map seen symbols.now))) }
+{
+    let (one, next) = form(alloc, room, scope, symbols, next)?;
+    let mut forms = forms;
+    forms.push(one)?;
+    Ok((forms, next))
+}
+
+/// Further forms, each behind a `,`.
+fn more_forms(
+    alloc: Global,
+    room: u32,
+    scope: Scope<'_>,
+    forms: Items<IxDraft>,
+    symbols: &[Symbol<'_>],
+    next: usize,
+) -> Answer<Items<IxDraft>>
+    ensures { Gives (map seen symbols.now) (map ix) result (drafting.more_forms (length symbols.now) room (scope_seen scope.entry) (map ix forms) (drop next (map seen symbols.now))) }
+{
+    let mut forms = forms;
+    let mut next = next;
+    while let Some(behind) = past_mark(b",", symbols, next) {
+        let (longer, rest) = form_more(alloc, room, scope, forms, symbols, behind)?;
+        forms = longer;
+        next = rest;
+    }
+    Ok((forms, next))
+}
+
+/// The forms that stand here, with a `,` between two of them.
+fn forms(
+    alloc: Global,
+    room: u32,
+    scope: Scope<'_>,
+    symbols: &[Symbol<'_>],
+    next: usize,
+) -> Answer<Items<IxDraft>>
+    ensures { Gives (map seen symbols.now) (map ix) result (drafting.forms (length symbols.now) room (scope_seen scope.entry) (drop next (map seen symbols.now))) }
+{
+    let (first, next) = form_more(alloc, room, scope, Items::new(alloc), symbols, next)?;
+    more_forms(alloc, room, scope, first, symbols, next)
+}
+
+/// The list of forms behind `:`.
+pub(crate) fn list(
+    alloc: Global,
+    room: u32,
+    scope: Scope<'_>,
+    symbols: &[Symbol<'_>],
+    next: usize,
+) -> Answer<Items<IxDraft>>
+    ensures { Gives (map seen symbols.now) (map ix) result (drafting.list (length symbols.now) room (scope_seen scope.entry) (drop next (map seen symbols.now))) }
+{
+    let next = behind(b"(", symbols, next)?;
+    let (forms, next) = forms(alloc, room, scope, symbols, next)?;
+    let next = behind(b")", symbols, next)?;
+    Ok((forms, next))
+}
+
+/// An inverse form behind its word, with its `=`.
+fn entry(
+    alloc: Global,
+    room: u32,
+    scope: Scope<'_>,
+    forms: Items<IxDraft>,
+    symbols: &[Symbol<'_>],
+    next: usize,
+) -> Answer<Items<IxDraft>>
+    ensures { Gives (map seen symbols.now) (map ix) result (drafting.entry (length symbols.now) room (scope_seen scope.entry) (map ix forms) (drop next (map seen symbols.now))) }
+{
+    let next = behind(b"=", symbols, next)?;
+    form_more(alloc, room, scope, forms, symbols, next)
+}
+
+/// An inverse form of any word.
+fn free_more(
+    alloc: Global,
+    room: u32,
+    scope: Scope<'_>,
+    forms: Items<IxDraft>,
+    symbols: &[Symbol<'_>],
+    next: usize,
+) -> Answer<Items<IxDraft>>
+    ensures { Gives (map seen symbols.now) (map ix) result (drafting.free_more (length symbols.now) room (scope_seen scope.entry) tt (map ix forms) (drop next (map seen symbols.now))) }
+{
+    match past_word(symbols, next) {
+        Some((_, next)) => entry(alloc, room, scope, forms, symbols, next),
+        None => Err(Stop::At(next)),
+    }
+}
+
+/// Further inverse forms of any words, each behind a `,`.
+fn more_free(
+    alloc: Global,
+    room: u32,
+    scope: Scope<'_>,
+    forms: Items<IxDraft>,
+    symbols: &[Symbol<'_>],
+    next: usize,
+) -> Answer<Items<IxDraft>>
+    ensures { Gives (map seen symbols.now) (map ix) result (drafting.more_free (length symbols.now) room (scope_seen scope.entry) (map ix forms) (drop next (map seen symbols.now))) }
+{
+    let mut forms = forms;
+    let mut next = next;
+    while let Some(behind) = past_mark(b",", symbols, next) {
+        let (longer, rest) = free_more(alloc, room, scope, forms, symbols, behind)?;
+        forms = longer;
+        next = rest;
+    }
+    Ok((forms, next))
+}
+
+/// Inverse forms of any words, behind the first word and its `=`.
+pub(crate) fn free(
+    alloc: Global,
+    room: u32,
+    scope: Scope<'_>,
+    symbols: &[Symbol<'_>],
+    next: usize,
+) -> Answer<Items<IxDraft>>
+    ensures { Gives (map seen symbols.now) (map ix) result (drafting.free (length symbols.now) room (scope_seen scope.entry) (drop next (map seen symbols.now))) }
+{
+    let (first, next) = form_more(alloc, room, scope, Items::new(alloc), symbols, next)?;
+    more_free(alloc, room, scope, first, symbols, next)
+}
