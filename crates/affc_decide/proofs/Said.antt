@@ -3,8 +3,8 @@ use Rattle.std.proofs.Common.{◌≡◌, ◌≢◌, ◌⊎◌, inl, inr, ◌∙�
 use Rattle.std.proofs.Math.Seq.{take-length}
 use Rattle.std.proofs.lemmas.Bool.{eqb-true}
 use Rattle.affc_system.specs.Boxes.{IsBox}
-use Rattle.affc_decide.specs.Words.{Says, SaysNone}
-use Rattle.affc_decide.specs.Blocks.{Say, texts_of, ends_of, Said, IsSaid, Blank, System, Ranges, Limit, Row, ExpectEmpty, ExpectStopped, ExpectPoint, IsTaken, TakesNone}
+use Rattle.affc_decide.specs.Words.{Says, SaysNone, texts_of}
+use Rattle.affc_decide.specs.Blocks.{Say, ends_of, Said, IsSaid, Blank, System, Ranges, Limit, Row, ExpectEmpty, ExpectStopped, ExpectPoint, IsTaken, TakesNone}
 use Rattle.affc_decide.specs.declared.block.Block.{Block}
 use Rattle.affc_decide.specs.declared.block.Line.{Line}
 use Rattle.affc_rows.specs.Forms.{Affine}

@@ -1,29 +1,17 @@
 -- Blocks of lines: a system, its box, its limit, and what is expected of it.
-use Rattle.std.specs.Prelude.{◌≡◌, ℕ, pos, ◌≤◌, ◌<◌, List, [], ◌∷◌, ◌++◌, length, map, codes, ℤ, Option, Some, None, IsSome, Vec, ⊤}
-use Rattle.std.specs.Borrow.{Bor}
-use Rattle.std.specs.Iterator.{DrainsIf}
+use Rattle.std.specs.Prelude.{◌≡◌, ℕ, pos, ◌≤◌, ◌<◌, List, [], ◌∷◌, ◌++◌, length, codes, ℤ, Option, Some, None, IsSome, Vec}
 use Rattle.std.specs.List.{All, AllZip}
-use Rattle.std.specs.Str.Iter.{split_whitespace_rest, split_whitespace_steps}
 use Rattle.std.specs.declared.alloc.Global.{Global}
-use Rattle.std.specs.declared.str.SplitWhitespace.{SplitWhitespace}
 use Rattle.affc_rows.specs.Forms.{Affine}
 use Rattle.affc_system.specs.Boxes.{IsBox}
 use Rattle.affc_system.specs.Pairs.{WithinReach}
 use Rattle.affc_system.specs.Systems.{IsRow}
 use Rattle.affc_split.specs.declared.search.Answer.{Answer}
 use Rattle.affc_split.specs.declared.search.Answer.TheVariants as answer
-use Rattle.affc_decide.specs.Words.{Says}
+use Rattle.affc_decide.specs.Words.{AreWords, Says}
 use Rattle.affc_decide.specs.declared.block.Block.{Block}
 use Rattle.affc_decide.specs.declared.block.Line.{Line}
 use Rattle.affc_decide.specs.declared.block.Line.TheVariants as line
-
--- the bytes of each word
-abbrev pub texts_of : List (Bor (List ℕ)) → List (List ℕ)
-texts_of words = map (λ w. w.now) words
-
--- these are the words of the text, as `str::split_whitespace` tells them
-abbrev pub AreWords : List ℕ → List (Bor (List ℕ)) → Type 0
-AreWords text words = (it : SplitWhitespace) × (split_whitespace_rest it ≡ text) × DrainsIf split_whitespace_steps ⊤ it words
 
 -- the words say these numbers, one each
 abbrev pub Say : List (List ℕ) → List ℤ → Type 0
@@ -94,10 +82,10 @@ TakesNone words before = (added : Line) (after : Option Block) → Takes words b
 
 -- the line's words may come here, and this is what they do; no line that they say may come
 abbrev pub TakesLine : List ℕ → Option Block → Line → Option Block → Type 0
-TakesLine text before added after = (words : List (Bor (List ℕ))) × AreWords text words × Takes (texts_of words) before added after
+TakesLine text before added after = (words : List (List ℕ)) × AreWords text words × Takes words before added after
 
 abbrev pub TakesNoLine : List ℕ → Option Block → Type 0
-TakesNoLine text before = (words : List (Bor (List ℕ))) × AreWords text words × TakesNone (texts_of words) before
+TakesNoLine text before = (words : List (List ℕ)) × AreWords text words × TakesNone words before
 
 -- ---- What is decided
 

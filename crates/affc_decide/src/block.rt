@@ -2,8 +2,8 @@
 ghost use Rattle.std.specs.Prelude.{◌≡◌, ℕ, ℤ, pos, codes, ◌≤◌, [], ◌∷◌, ◌++◌, length, List, IfOk, IfErr, OnOk, OnErr, Option, Some, Err};
 ghost use Rattle.affc_rows.specs.Forms.{Affine};
 ghost use Rattle.affc_system.specs.Boxes.{IsBox};
-ghost use Rattle.affc_decide.specs.Words.{Says, SaysNone};
-ghost use Rattle.affc_decide.specs.Blocks.{AreWords, texts_of, Say, ends_of, Limit, Row, AddsRow, IsTaken, Takes, TakesNone, TakesLine, TakesNoLine, begun};
+ghost use Rattle.affc_decide.specs.Words.{AreWords, Says, SaysNone, texts_of};
+ghost use Rattle.affc_decide.specs.Blocks.{Say, ends_of, Limit, Row, AddsRow, IsTaken, Takes, TakesNone, TakesLine, TakesNoLine, begun};
 
 use affc_rows::Form;
 use affc_system::{BoxOf, RowFault, System};
@@ -282,13 +282,13 @@ const FEW_WORDS: usize = 16;
 
 /// The words of a line.
 fn words_of<'a>(alloc: Global, line: &'a str) -> Result<Vec<&'a str>, Fault>
-    ensures words { IfOk result (λ v. AreWords line.now v.items) }
+    ensures words { IfOk result (λ v. AreWords line.now (texts_of v.items)) }
     ensures fault { OnErr result (result ≡ Err Fault.Memory) }
 {
     let Ok(mut words) = Vec::with_capacity(alloc, FEW_WORDS) else {
         return Err(Fault::Memory);
     };
-    let Ok(()) = words.extend(line.split_whitespace()) else {
+    let Ok(()) = words.extend(line.split_ascii_whitespace()) else {
         return Err(Fault::Memory);
     };
     Ok(words)

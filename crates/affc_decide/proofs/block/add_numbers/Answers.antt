@@ -1,5 +1,6 @@
 use Rattle.std.proofs.Common.{◌∙◌, ◌++◌, ◌∷◌, [], List, ℤ, refl, sym, subst}
-use Rattle.affc_decide.specs.Blocks.{Say, AddsRow, Row, texts_of}
+use Rattle.affc_decide.specs.Words.{texts_of}
+use Rattle.affc_decide.specs.Blocks.{Say, AddsRow, Row}
 use Rattle.affc_decide.specs.declared.block.Block.{Block}
 use Rattle.affc_decide.proofs.Said.{if_err_then, on_ok_then, say_once, some_same}
 use Rattle.affc_decide.proofs.block.add_numbers.Goals as goal

@@ -1,5 +1,6 @@
 use Rattle.std.proofs.Common.{List, ℕ, [], ◌∷◌, refl, ap, codes, ◌∙◌}
-use Rattle.affc_decide.specs.Blocks.{ExpectEmpty, ExpectStopped, ExpectPoint, texts_of}
+use Rattle.affc_decide.specs.Words.{texts_of}
+use Rattle.affc_decide.specs.Blocks.{ExpectEmpty, ExpectStopped, ExpectPoint}
 use Rattle.affc_decide.proofs.Said.{alone, first_word, one_word, rest_of}
 use Rattle.affc_decide.proofs.block.expected.Goals as goal
 

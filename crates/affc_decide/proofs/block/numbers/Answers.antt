@@ -1,6 +1,7 @@
 use Rattle.std.proofs.Common.{◌≡◌, ◌∙◌, ap, w64, ◌+◌, ◌++◌, ◌∷◌, [], ℕ, ℤ, List, suc, take, sym, subst, arith}
 use Rattle.std.proofs.lemmas.Int.{to_z-of_z}
-use Rattle.affc_decide.specs.Blocks.{Say, texts_of}
+use Rattle.affc_decide.specs.Words.{texts_of}
+use Rattle.affc_decide.specs.Blocks.{Say}
 use Rattle.affc_decide.proofs.Said.{if_err, say_more, say_none}
 use Rattle.affc_decide.proofs.block.numbers.Goals as goal
 

@@ -1,5 +1,6 @@
 use Rattle.std.proofs.Common.{take}
-use Rattle.affc_decide.specs.Blocks.{Say, texts_of}
+use Rattle.affc_decide.specs.Words.{texts_of}
+use Rattle.affc_decide.specs.Blocks.{Say}
 use Rattle.affc_decide.proofs.block.numbers.Given as goal
 
 abbrev pub invariant-loop-word : goal.invariant-loop-word

@@ -1,6 +1,7 @@
 use Rattle.std.proofs.Common.{List, ℕ, Option, [], ◌∷◌, ◌++◌, ◌≡◌, ◌∙◌, refl, sym, ap, subst}
 use Rattle.std.proofs.lemmas.Result.{err_from_is_err_and}
-use Rattle.affc_decide.specs.Blocks.{Blank, Say, Takes, TakesNone, texts_of}
+use Rattle.affc_decide.specs.Words.{texts_of}
+use Rattle.affc_decide.specs.Blocks.{Blank, Say, Takes, TakesNone}
 use Rattle.affc_decide.specs.declared.block.Block.{Block}
 use Rattle.affc_decide.specs.declared.block.Line.TheVariants as line
 use Rattle.affc_decide.proofs.Said.{first_word, if_err_then, if_ok_then, no_words, rest_of, row_none, word_at}

@@ -1,6 +1,7 @@
 use Rattle.std.proofs.Common.{◌∙◌, List, ℤ, refl, sym, ap, subst}
 use Rattle.std.proofs.lemmas.Result.{err_from_is_err_and}
-use Rattle.affc_decide.specs.Blocks.{Ranges, Say, ends_of, texts_of}
+use Rattle.affc_decide.specs.Words.{texts_of}
+use Rattle.affc_decide.specs.Blocks.{Ranges, Say, ends_of}
 use Rattle.affc_decide.proofs.Said.{ranges_none, say_once, some_same}
 use Rattle.affc_decide.proofs.block.set_ranges.Goals as goal
 
