@@ -1,6 +1,6 @@
 -- What the proofs take of boxes round a program's instances, of the ranges of times, and of their size.
 use Rattle.std.proofs.Common.{◌≡◌, ℕ, ◌^◌, ◌<◌, ℤ, List, ◌++◌, length, Option, Some, sym}
-use Rattle.std.specs.Prelude.{slice_get, unsigned_abs}
+use Rattle.std.specs.Prelude.{slice_get}
 use Rattle.std.specs.List.{All}
 use Rattle.affc_rows.specs.Forms.{magnitude, values_of}
 use Rattle.affc_system.specs.Boxes.{InBox}
@@ -11,6 +11,7 @@ use Rattle.affc_trace.specs.declared.schedule.TimeMap.{TimeMap}
 use Rattle.affc_trace.specs.Law.{IsIn}
 use Rattle.affc_domain.specs.Rounds.{Round, rounds}
 use Rattle.affc_domain.proofs.RangeLemmas.{box_length as as_long}
+use Rattle.affc_loops.specs.Limits.{IsSmall}
 use Rattle.affc_loops.specs.Loops.{loop_names}
 
 -- The instances at p lie in these boxes, one for each statement that can have instances.
@@ -23,10 +24,6 @@ abbrev pub Covers : List TimeMap → (boxes : List (Option (List (ℤ × ℤ))))
 Covers maps boxes ranges p =
     (k : ℕ) (box : List (ℤ × ℤ)) (m : TimeMap) → slice_get boxes k ≡ Some (Some box) → slice_get maps k ≡ Some m
     → (xs : List ℤ) → InBox box xs → InBox ranges (values_of m.forms (p ++ xs))
-
--- both ends lie well within `int64_t`
-abbrev pub IsSmall : ℤ × ℤ → Type 0
-IsSmall range = (unsigned_abs range.0 < 2 ^ 62) × (unsigned_abs range.1 < 2 ^ 62)
 
 -- The ranges are small, and at each point of a box the terms of the times, and at each time those of the inverse, sum to less than 2^63.
 pub record Small (program : Program) (maps : List TimeMap) (boxes : List (Option (List (ℤ × ℤ)))) (ranges : List (ℤ × ℤ)) (p : List ℤ) : Type 0 where

@@ -92,7 +92,7 @@ sits program k box e =
     let h = from_map (λ rs. box_in (ranges_of (number_ranges program.params) rs)) (rounds program) k (Some box) e in
     record { around = h.0; its_rounds = h.1; is_box = is_there (ranges_of (number_ranges program.params) h.0) box h.2 }
 
-abbrev is_wide : Ranges → Bool
+abbrev pub is_wide : Ranges → Bool
 is_wide (Wide n) = true
 is_wide _ = false
 
@@ -105,7 +105,7 @@ wide_parts k (Within rs) o e = (refl, e)
 wide_parts k Never o e = (refl, e)
 wide_parts k (Wide n) o e = absurd (none-some (k, n) (sym e))
 
-none_wide : (outer : List (ℤ × ℤ)) (statement : ℕ) (rss : List (List Round)) → first_wide_of outer statement rss ≡ None
+pub none_wide : (outer : List (ℤ × ℤ)) (statement : ℕ) (rss : List (List Round)) → first_wide_of outer statement rss ≡ None
     → (k : ℕ) (rs : List Round) → slice_get rss k ≡ Some rs → is_wide (ranges_of outer rs) ≡ false
 none_wide outer s [] e k rs at = absurd (none-some rs at)
 none_wide outer s (qs ∷ rss) e zero rs at = ap (λ q. is_wide (ranges_of outer q)) (sym (same_Some qs rs at)) ∙ (wide_parts s (ranges_of outer qs) (first_wide_of outer (suc s) rss) e).0

@@ -63,13 +63,13 @@ module _ (source : Program) (n : ℕ) (maps : List TimeMap) (h : HasLoops source
   abbrev params_length : ℕ
   params_length = length (number_ranges source.params)
 
-  few : n ≤ 12
+  pub few : n ≤ 12
   few = leb-true n 12 (both_true (nat_le 1 n) (nat_le n 12) (both_true (nat_le 1 n && nat_le n 12) (maps_within maps) h.limits).0).1
 
-  slight : IsTrue (maps_within maps)
+  pub slight : IsTrue (maps_within maps)
   slight = (both_true (nat_le 1 n && nat_le n 12) (maps_within maps) h.limits).1
 
-  some_or_none : (all ≡ []) ⊎ (length ranges ≡ n)
+  pub some_or_none : (all ≡ []) ⊎ (length ranges ≡ n)
   some_or_none = by all refl
     where
       by : (es : List Piece) → all ≡ es → (all ≡ []) ⊎ (length ranges ≡ n)

@@ -34,9 +34,10 @@ use Rattle.affc_safe.proofs.Along.{ReadAlong}
 use Rattle.affc_safe.proofs.PlainReads.{small_is_int64}
 use Rattle.affc_safe.proofs.Walk.{AllWithin, Wanting, assign_case, done_or_wants}
 use Rattle.affc_safe.proofs.Wants.{Wants, wants_ended, wants_then, wants_reading, wants_if, wants_turns, ReadableAll, conditions_read}
+use Rattle.affc_loops.specs.Limits.{IsSmall}
 use Rattle.affc_loops.specs.Loops.{Piece, pieces_from, loop_names, locals_of, box_tests, time_tests, guarded, if_any, moved_assign, block_of, time_name, loops, body_of}
 use Rattle.affc_loops.specs.Trees.{name_at, number, moved, moved_compare, moved_value}
-use Rattle.affc_loops.proofs.Boxed.{Encloses, Covers, IsSmall, Small, box_length}
+use Rattle.affc_loops.proofs.Boxed.{Encloses, Covers, Small, box_length}
 use Rattle.affc_loops.proofs.Does.{Fine, parts, fine, values_length}
 use Rattle.affc_loops.proofs.FormReads.{reads_number}
 use Rattle.affc_loops.proofs.FormTrees.{number_is}

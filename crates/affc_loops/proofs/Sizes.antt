@@ -24,6 +24,7 @@ use Rattle.affc_domain.proofs.Lists.{both_true}
 use Rattle.affc_domain.proofs.PlainLemmas.{has_assignment, rounds_are_plain, few_loops}
 use Rattle.affc_safe.specs.Overflow.{near_ranges}
 use Rattle.affc_loops.specs.Laws.{IsTime, AreTimeRanges}
+use Rattle.affc_loops.specs.Limits.{IsSlight}
 use Rattle.affc_loops.specs.Loops.{Piece, boxes, pieces, loop_names, time_ranges}
 use Rattle.affc_loops.proofs.Boxed.{Covers, Small, box_length}
 use Rattle.affc_loops.proofs.Boxes.{Sits, sits, IsNearBox, near_box, params_ordered}
@@ -36,10 +37,6 @@ use Rattle.affc_loops.proofs.TimeRanges.{Spans, are_ranges}
 -- both ends are within this magnitude
 abbrev pub Within : ℕ → ℤ × ℤ → Type 0
 Within most range = (unsigned_abs range.0 ≤ most) × (unsigned_abs range.1 ≤ most)
-
--- a schedule's form
-abbrev pub IsSlight : Affine → Type 0
-IsSlight f = All (λ c. unsigned_abs c ≤ 256) f.coefs × (unsigned_abs f.constant ≤ 2 ^ 30)
 
 slight_coefs : (cs : List ℤ) → IsTrue (are_slight cs) → All (λ c. unsigned_abs c ≤ 256) cs
 slight_coefs [] h = λ i x l. absurd (omega arith)
@@ -66,14 +63,14 @@ map_within (x ∷ ms) zero m h e =
     subst MapWithin (same_Some x m e) (record { forms = slight_forms x.forms b.0; inverse = slight_forms x.inverse b.1 })
 map_within (x ∷ ms) (suc k) m h e = map_within ms k m (both_true (all_slight x.forms && all_slight x.inverse) (maps_within ms) h).1 e
 
-near_within : (rs : List (ℤ × ℤ)) → IsTrue (near_ranges rs) → All (Within (2 ^ 31)) rs
+pub near_within : (rs : List (ℤ × ℤ)) → IsTrue (near_ranges rs) → All (Within (2 ^ 31)) rs
 near_within [] h = λ i x l. absurd (omega arith)
 near_within (r ∷ rs) h =
     let a = both_true (is_near r.0 && is_near r.1) (near_ranges rs) h in
     let b = both_true (is_near r.0) (is_near r.1) a.0 in
     All-cons (Within (2 ^ 31)) r rs (leb-true (nat_abs r.0) (2 ^ 31) b.0, leb-true (nat_abs r.1) (2 ^ 31) b.1) (near_within rs a.1)
 
-params_within : (rs : List (ℤ × ℤ)) → IsTrue (plain_ranges rs) → All (Within (2 ^ 24)) rs
+pub params_within : (rs : List (ℤ × ℤ)) → IsTrue (plain_ranges rs) → All (Within (2 ^ 24)) rs
 params_within [] h = λ i x l. absurd (omega arith)
 params_within (r ∷ rs) h =
     let a = both_true (plain_range r) (plain_ranges rs) h in

@@ -24,7 +24,7 @@ use Rattle.affc_domain.specs.Affine.{sees}
 use Rattle.affc_domain.specs.Plain.{is_upward}
 use Rattle.affc_loops.specs.Loops.{loop_names, locals_of, box_tests, time_tests}
 use Rattle.affc_loops.proofs.Guards.{guard_tests, both_see, see_outwards}
-use Rattle.affc_loops.proofs.Boxed.{IsSmall}
+use Rattle.affc_loops.specs.Limits.{IsSmall}
 use Rattle.affc_loops.specs.Trees.{number, form_tree, moved, moved_compare}
 use Rattle.affc_loops.proofs.FormReads.{reads_name, reads_number, form_reads}
 use Rattle.affc_loops.proofs.FormTrees.{number_is, form_is, get_here}

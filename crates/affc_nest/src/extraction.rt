@@ -56,8 +56,8 @@ fn arrays(alloc: Global, names: u32, program: &Program) -> Result<Items<ArrayInf
     Ok(arrays)
 }
 
-/// The assignments, with what stands round each.
-fn sites<'a>(alloc: Global, program: &'a Program) -> Result<Vec<Site<'a>>, AllocError>
+/// The assignments in the order of the text, with what stands round each.
+pub fn all_sites<'a>(alloc: Global, program: &'a Program) -> Result<Vec<Site<'a>>, AllocError>
     ensures { IfOk result (λ v. places v.items ≡ places_of program.now) }
 {
     let frames = Vec::new(alloc);
@@ -82,7 +82,7 @@ fn entries(alloc: Global, params: &BoxOf, program: &Program) -> Result<Items<Ent
     ensures near { OnOk result (first_wide program.now ≡ None) }
     ensures wide { IfErr result (FaultSays (first_wide program.now)) }
 {
-    let sites = sites(alloc, program)?;
+    let sites = all_sites(alloc, program)?;
     let mut entries = Items::new(alloc);
     add_entries(
         alloc,

@@ -5,7 +5,7 @@ use affc_ast::tree::{Compare, Ix, Rel};
 
 /// A loop, by its iterator and its bounds, or the conditions of an `if`.
 #[derive(Clone, Copy, Drop)]
-pub(crate) enum Frame<'a> {
+pub enum Frame<'a> {
     Loop {
         iter: &'a Text,
         low: &'a Ix,

@@ -16,5 +16,8 @@ mod ranges;
 pub mod rows;
 mod sites;
 
-pub use extraction::extract;
+pub use extraction::{all_sites, extract};
+pub use frames::Frame;
 pub use nest::{Access, ArrayInfo, Entry, Nest, NestFault};
+pub use ranges::{greatest, least};
+pub use sites::Site;

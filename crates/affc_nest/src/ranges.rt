@@ -17,7 +17,7 @@ use affc_system::{BoxOf, interval};
 use std::alloc::{AllocError, Global};
 
 /// The least value of a side over the ranges.
-fn least(form: &Form, ranges: &BoxOf) -> i128
+pub fn least(form: &Form, ranges: &BoxOf) -> i128
     requires side { IsSide (length ranges.now) form.now }
     requires near { NearRanges ranges.now }
     requires few { length ranges.now ≤ 128 }
@@ -32,7 +32,7 @@ fn least(form: &Form, ranges: &BoxOf) -> i128
 }
 
 /// The greatest value of a side over the ranges.
-fn greatest(form: &Form, ranges: &BoxOf) -> i128
+pub fn greatest(form: &Form, ranges: &BoxOf) -> i128
     requires side { IsSide (length ranges.now) form.now }
     requires near { NearRanges ranges.now }
     requires few { length ranges.now ≤ 128 }

@@ -10,7 +10,7 @@ use std::alloc::{AllocError, Global};
 
 /// An assignment, what stands round it from outer to inner, and the numbers of the loops among that.
 #[derive(Drop)]
-pub(crate) struct Site<'a> {
+pub struct Site<'a> {
     pub frames: Vec<Frame<'a>>,
     pub loops: Vec<u32>,
     pub op: Option<Op>,

@@ -1,0 +1,9 @@
+pub mod TermSteps
+pub mod MovedSteps
+pub mod BlockSteps
+pub mod RangeSteps
+pub mod PartSteps
+pub mod ScanSteps
+pub mod SightProofs
+pub mod Fitting
+pub mod Whole

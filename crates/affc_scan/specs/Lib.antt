@@ -1,0 +1,5 @@
+pub mod Sums
+pub mod InSight
+pub mod Blocks
+pub mod Pieces
+pub mod Parts

@@ -1,0 +1,14 @@
+//! Loops that run a program's instances in the order of a schedule.
+#![tactic(auto)]
+
+mod blocks;
+mod forms;
+mod loops;
+mod moved;
+mod parts;
+mod ranges;
+mod target;
+mod tests_of;
+mod trees;
+
+pub use target::scan;

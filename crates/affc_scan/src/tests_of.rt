@@ -1,0 +1,74 @@
+//! The locals and tests of a statement's block.
+ghost use Rattle.std.specs.Prelude.{◌≡◌, ◌≤◌, ◌<◌, ◌+◌, ◌++◌, ◌^◌, ℕ, ℤ, unsigned_abs, length, IfOk};
+ghost use Rattle.std.specs.List.{All};
+ghost use Rattle.affc_loops.specs.Loops as specs;
+ghost use Rattle.affc_loops.specs.Limits.{IsSlight, IsSmall};
+
+use crate::forms::{form_ix, number};
+use affc_ast::Items;
+use affc_ast::tree::{Compare, Ix, NameId, Rel};
+use affc_rows::Form;
+use std::alloc::{AllocError, Global};
+
+/// And that each iterator lies in its range.
+#[tactic(auto, using(crate::proofs::TermSteps::two_more))]
+pub(crate) fn box_tests(
+    alloc: Global,
+    made: Items<Compare>,
+    from: u32,
+    ranges: &[(i64, i64)],
+) -> Result<Items<Compare>, AllocError>
+    requires small { All IsSmall ranges.now }
+    requires seen { from + length ranges.now ≤ 1024 }
+    ensures { IfOk result (λ x. x ≡ made ++ specs.box_tests from ranges.now) }
+{
+    let mut made = made;
+    match ranges {
+        [] => Ok(made),
+        [range, rest @ ..] => {
+            let low = number(alloc, range.0)?;
+            made.push(Compare {
+                rel: Rel::LessEqual,
+                left: low,
+                right: Ix::Name(NameId(from)),
+            })?;
+            let high = number(alloc, range.1)?;
+            made.push(Compare {
+                rel: Rel::LessEqual,
+                left: Ix::Name(NameId(from)),
+                right: high,
+            })?;
+            box_tests(alloc, made, from + 1, rest)
+        }
+    }
+}
+
+/// And that each component is the time of the iterators.
+#[tactic(auto, using(crate::proofs::TermSteps::one_more_time))]
+pub(crate) fn time_tests(
+    alloc: Global,
+    made: Items<Compare>,
+    first: u32,
+    from: u32,
+    component: u32,
+    forms: &[Form],
+) -> Result<Items<Compare>, AllocError>
+    requires slight { All IsSlight forms.now }
+    requires columns { All (λ f. (first ≤ length f.coefs) × (from + length f.coefs ≤ 1024)) forms.now }
+    requires seen { component + length forms.now ≤ 1024 }
+    ensures { IfOk result (λ x. x ≡ made ++ specs.time_tests first from component forms.now) }
+{
+    let mut made = made;
+    match forms {
+        [] => Ok(made),
+        [form, rest @ ..] => {
+            let right = form_ix(alloc, first, from, form)?;
+            made.push(Compare {
+                rel: Rel::Equal,
+                left: Ix::Name(NameId(component)),
+                right,
+            })?;
+            time_tests(alloc, made, first, from, component + 1, rest)
+        }
+    }
+}
