@@ -1,5 +1,5 @@
 -- Elements within their extents lie at most 2^53 apart along a row, so that each question keeps the limits.
-use Rattle.std.proofs.Common.{◌≡◌, ℕ, suc, zero, ◌+◌, ◌*◌, ◌^◌, ◌<◌, ◌≤◌, List, [], ◌∷◌, length, take, ℤ, pos, ◌+ℤ◌, ◌-ℤ◌, ◌*ℤ◌, neg_ℤ, ◌≤ℤ◌, ◌<ℤ◌, refl, sym, ap, subst, ◌∙◌, arith}
+use Rattle.std.proofs.Common.{◌≡◌, ℕ, suc, ◌+◌, ◌*◌, ◌^◌, ◌<◌, ◌≤◌, List, [], ◌∷◌, length, take, ℤ, pos, ◌+ℤ◌, ◌-ℤ◌, ◌*ℤ◌, neg_ℤ, ◌≤ℤ◌, ◌<ℤ◌, sym, subst, ◌∙◌, arith}
 use Rattle.std.specs.Prelude.{unsigned_abs, slice_get, Some}
 use Rattle.std.specs.List.{All}
 use Rattle.std.proofs.lemmas.Int.{ints, unsigned_abs-mul}
@@ -11,9 +11,9 @@ use Rattle.affc_system.specs.Systems.{Rows, IsRow}
 use Rattle.affc_system.specs.Boxes.{InBox}
 use Rattle.affc_system.specs.Pairs.{IsSubscript}
 use Rattle.affc_system.specs.declared.pairs.PairSystem.{PairSystem}
-use Rattle.affc_maximum.specs.Regions.{InRegion, IsBounded, IsAskable, AreAskable}
+use Rattle.affc_maximum.specs.Regions.{InRegion, IsAskable, AreAskable}
 use Rattle.affc_maximum.specs.declared.region.Region.{Region}
-use Rattle.affc_differences.specs.Differences.{apart, IsSmall}
+use Rattle.affc_differences.specs.Differences.{apart}
 use Rattle.affc_conflicts.specs.Conditions.{InContext, IsNear, LiesWithin, IsConflict}
 use Rattle.affc_moduli.specs.Slices.{AreSlices}
 use Rattle.affc_moduli.specs.Distances.{AreForward, AreBackward, IsDifference}

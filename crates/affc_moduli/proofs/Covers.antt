@@ -1,17 +1,17 @@
 -- The pairs of a slice are those at the points of its regions.
-use Rattle.std.proofs.Common.{◌≡◌, ℕ, zero, suc, ◌<◌, ◌≤◌, ◌⊎◌, inl, inr, List, [], ◌∷◌, length, take, ℤ, refl, sym, ap, subst, ◌∙◌, arith}
-use Rattle.std.specs.Prelude.{unsigned_abs, slice_get, Some, ◌↔◌}
+use Rattle.std.proofs.Common.{◌≡◌, ℕ, zero, suc, ◌<◌, inl, inr, List, [], ◌∷◌, length, take, ℤ, refl, sym, ap, subst, ◌∙◌, arith}
+use Rattle.std.specs.Prelude.{slice_get, Some}
 use Rattle.std.proofs.lemmas.Option.{slice_get_within, slice_get-get_or, get_or_from_slice_get}
 use Rattle.std.specs.List.{Contains}
-use Rattle.affc_rows.specs.Forms.{Affine, dot, value, values_of}
-use Rattle.affc_system.specs.Systems.{Rows, IsPoint}
+use Rattle.affc_rows.specs.Forms.{Affine, values_of}
+use Rattle.affc_system.specs.Systems.{Rows}
 use Rattle.affc_system.specs.declared.pairs.PairSystem.{PairSystem}
 use Rattle.affc_maximum.specs.Regions.{InRegion}
 use Rattle.affc_maximum.specs.declared.region.Region.{Region}
 use Rattle.affc_basis.specs.Slices.{along, InSlice}
 use Rattle.affc_system.specs.ElementPairs.{IsPairAt, IsPairOf}
 use Rattle.affc_conflicts.specs.Conditions.{InContext}
-use Rattle.affc_moduli.specs.Slices.{AgreeAt, InSliceAt, IsSlice, AreSlices}
+use Rattle.affc_moduli.specs.Slices.{AreSlices}
 use Rattle.affc_conflicts.proofs.Turned.{along-turned}
 
 -- a pair stands at a point of a region, with the same distance along every row

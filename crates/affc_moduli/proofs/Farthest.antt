@@ -1,11 +1,11 @@
 -- The greatest distance, from the greatest values of both forms.
-use Rattle.std.proofs.Common.{◌≡◌, ℕ, ◌<◌, ◌≤◌, List, length, ℤ, pos, negsuc, neg_ℤ, ◌≤ℤ◌, ◌<ℤ◌, refl, sym, ap, subst, ◌∙◌, arith, lit≤}
-use Rattle.std.specs.Prelude.{unsigned_abs, slice_get, Option, Some, None, IfSome, ◌^◌}
+use Rattle.std.proofs.Common.{◌≡◌, ℕ, ◌<◌, ◌≤◌, List, length, ℤ, pos, negsuc, ◌≤ℤ◌, ◌<ℤ◌, refl, sym, subst, ◌∙◌, arith, lit≤}
+use Rattle.std.specs.Prelude.{unsigned_abs, Option, Some, None, IfSome, ◌^◌}
 use Rattle.std.proofs.lemmas.Int.{ints}
 use Rattle.std.proofs.lemmas.Option.{slice_get_within}
 use Rattle.affc_rows.specs.Forms.{Affine, value}
 use Rattle.affc_system.specs.declared.pairs.PairSystem.{PairSystem}
-use Rattle.affc_maximum.specs.Regions.{InRegion, IsBounded, AreBounded, IsAttained, IsAnswerOf}
+use Rattle.affc_maximum.specs.Regions.{AreBounded, IsAttained, IsAnswerOf}
 use Rattle.affc_maximum.specs.declared.region.Region.{Region}
 use Rattle.affc_maximum.specs.declared.several.Found.{Found}
 use Rattle.affc_differences.specs.Differences.{apart}

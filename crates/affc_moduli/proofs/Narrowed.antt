@@ -1,6 +1,6 @@
 -- How slices are begun and narrowed.
-use Rattle.std.proofs.Common.{◌≡◌, ℕ, suc, zero, ◌+◌, ◌*◌, ◌<◌, ◌≤◌, ◌⊎◌, inl, inr, List, [], ◌∷◌, ◌++◌, length, take, ℤ, pos, neg_ℤ, ◌≤ℤ◌, refl, sym, ap, subst, ◌∙◌, arith}
-use Rattle.std.specs.Prelude.{unsigned_abs, slice_get, Some, ◌↔◌}
+use Rattle.std.proofs.Common.{◌≡◌, ℕ, suc, zero, ◌+◌, ◌*◌, ◌<◌, ◌≤◌, ◌⊎◌, inl, inr, List, [], ◌∷◌, ◌++◌, length, ℤ, pos, neg_ℤ, ◌≤ℤ◌, refl, sym, ap, subst, ◌∙◌, arith}
+use Rattle.std.specs.Prelude.{unsigned_abs, slice_get, Some}
 use Rattle.std.specs.List.{All}
 use Rattle.std.proofs.lemmas.Int.{ints}
 use Rattle.std.proofs.lemmas.List.{length-append}
@@ -15,8 +15,8 @@ use Rattle.affc_maximum.specs.Regions.{InRegion}
 use Rattle.affc_maximum.specs.declared.region.Region.{Region}
 use Rattle.affc_differences.specs.Differences.{apart}
 use Rattle.affc_basis.specs.Slices.{along}
-use Rattle.affc_conflicts.specs.Conditions.{InContext, IsConflict}
-use Rattle.affc_moduli.specs.Slices.{AgreeAt, InSliceAt, IsSlice, AreSlices, AreCopies, IsNarrowed, AreNarrowed}
+use Rattle.affc_conflicts.specs.Conditions.{IsConflict}
+use Rattle.affc_moduli.specs.Slices.{InSliceAt, IsSlice, AreSlices, AreCopies, IsNarrowed, AreNarrowed}
 use Rattle.affc_moduli.specs.Distances.{AreForward, AreBackward, IsDifference, HaveDimensions}
 use Rattle.affc_moduli.proofs.Apart.{apart-dot, apart-turned}
 use Rattle.affc_moduli.proofs.Covers.{some_at}

@@ -1,15 +1,17 @@
 -- A proposed form: if it exceeds every distance and is nowhere above the need, it is enough, and the mark of the need is its mark.
-use Rattle.std.proofs.Common.{◌≡◌, ℕ, ◌+◌, ◌<◌, ◌≤◌, List, length, take, ℤ, pos, neg_ℤ, ◌≤ℤ◌, ◌<ℤ◌, refl, sym, ap, subst, ◌∙◌, arith}
-use Rattle.std.specs.Prelude.{unsigned_abs, slice_get, Option, Some, None}
+use Rattle.std.proofs.Common.{◌≡◌, ℕ, ◌+◌, ◌<◌, List, length, take, ℤ, pos, neg_ℤ, ◌≤ℤ◌, ◌<ℤ◌, sym, ap, subst, ◌∙◌, arith}
+use Rattle.std.specs.Prelude.{unsigned_abs, Option, Some, None}
 use Rattle.std.proofs.lemmas.Int.{ints}
 use Rattle.std.proofs.lemmas.Option.{slice_get_within}
-use Rattle.affc_rows.specs.Forms.{Affine, value, values_of}
+use Rattle.affc_rows.specs.Forms.{Affine, value}
 use Rattle.affc_system.specs.Systems.{Rows}
 use Rattle.affc_system.specs.declared.pairs.PairSystem.{PairSystem}
 use Rattle.affc_maximum.specs.declared.region.Region.{Region}
 use Rattle.affc_differences.specs.Differences.{apart}
 use Rattle.affc_basis.specs.Slices.{along, InSlice}
-use Rattle.affc_basis.specs.Folds.{IsEnough, IsLeastMark, AttainsBy}
+use Rattle.affc_basis.specs.declared.fold.Mark.{Mark}
+use Rattle.affc_basis.specs.declared.fold.Mark.TheVariants.{Least, Bound}
+use Rattle.affc_basis.specs.Folds.{IsEnough, IsLeastMark, IsTrueOf, AttainsBy}
 use Rattle.affc_system.specs.ElementPairs.{IsPairOf}
 use Rattle.affc_conflicts.specs.Conditions.{InContext}
 use Rattle.affc_moduli.specs.Slices.{AreSlices}
@@ -17,19 +19,18 @@ use Rattle.affc_moduli.specs.Distances.{AreForward, AreBackward, HaveDimensions}
 use Rattle.affc_moduli.specs.Enough.{AreBelow}
 use Rattle.affc_moduli.proofs.Apart.{apart-dot, apart-turned}
 use Rattle.affc_moduli.proofs.Covers.{covered, some_at}
-use Rattle.affc_moduli.proofs.Rows.{number, value_of_number}
 
 both_below : (a b v : ℤ) → b ≡ neg_ℤ a → a <ℤ v → b <ℤ v → pos (unsigned_abs a) <ℤ v
 both_below a b v e h k = omega (arith, ints)
 
-same_value : (v : ℤ) (g n : ℕ) → pos (n + 1) ≡ pos (g + 1) → pos g <ℤ v → v ≤ℤ pos (n + 1) → v ≡ pos (g + 1)
-same_value v g n e h k = omega (arith, ints)
+same_value : (u v : ℤ) (g : ℕ) → u ≡ pos (g + 1) → pos g <ℤ v → v ≤ℤ u → v ≡ pos (g + 1)
+same_value u v g e h k = omega (arith, ints)
 
 from_zero : (g : ℕ) (v : ℤ) → g ≡ 0 → pos 1 ≤ℤ v → pos g <ℤ v
 from_zero g v e h = omega (arith, ints)
 
-at_top : (u v : ℤ) (n g : ℕ) → u ≤ℤ pos (n + 1) → pos (n + 1) ≡ pos (g + 1) → v ≡ pos (g + 1) → u ≤ℤ v
-at_top u v n g h e f = omega (arith, ints)
+at_top : (w u v : ℤ) (g : ℕ) → w ≤ℤ u → u ≡ pos (g + 1) → v ≡ pos (g + 1) → w ≤ℤ v
+at_top w u v g h e f = omega (arith, ints)
 
 module _ (context : Rows) (ranges : List (ℤ × ℤ)) (rows : List Affine) (k : ℕ) (row : Affine) (systems : List PairSystem) (regions : List Region)
     (slices : AreSlices context ranges rows k systems regions) (wide : HaveDimensions systems (length row.coefs)) (b : Affine) (parameters : length b.coefs ≡ context.columns)
@@ -61,19 +62,23 @@ module _ (context : Rows) (ranges : List (ℤ × ℤ)) (rows : List Affine) (k :
   above_greatest p None g attains one far = from_zero g (value b p) attains one
   above_greatest p (Some pair) g attains one far = subst (λ n. pos n <ℤ value b p) attains.1 (far pair.0 pair.1 attains.0)
 
-  -- the mark of the constant is one of the form
-  pub mark_moves : (n : ℕ) (p : List ℤ) (pair : Option (List ℤ × List ℤ)) → IsEnough (InContext context ranges) (IsPairOf systems) rows k row b → ((q : List ℤ) → InContext context ranges q → value b q ≤ℤ pos (n + 1))
-      → IsLeastMark (InContext context ranges) (IsPairOf systems) rows k row (number context.columns (n + 1)) p pair → IsLeastMark (InContext context ranges) (IsPairOf systems) rows k row b p pair
-  mark_moves n p pair enough top mark =
+  -- the mark of a form that is nowhere passed is one of this form
+  pub mark_moves : (old : Affine) (p : List ℤ) (pair : Option (List ℤ × List ℤ)) → IsEnough (InContext context ranges) (IsPairOf systems) rows k row b → ((q : List ℤ) → InContext context ranges q → value b q ≤ℤ value old p)
+      → IsLeastMark (InContext context ranges) (IsPairOf systems) rows k row old p pair → IsLeastMark (InContext context ranges) (IsPairOf systems) rows k row b p pair
+  mark_moves old p pair enough top mark =
       let g = mark.greatest in
-      let e : pos (n + 1) ≡ pos (g + 1) = sym (value_of_number context.columns (n + 1) p) ∙ mark.value_there in
       let far = enough p mark.in_context in
-      let v : value b p ≡ pos (g + 1) = same_value (value b p) g n e (above_greatest p pair g mark.attains far.0 far.1) (top p mark.in_context) in
+      let v : value b p ≡ pos (g + 1) = same_value (value old p) (value b p) g mark.value_there (above_greatest p pair g mark.attains far.0 far.1) (top p mark.in_context) in
       record {
         in_context = mark.in_context;
-        highest = λ q there. at_top (value b q) (value b p) n g (top q there) e v;
+        highest = λ q there. at_top (value b q) (value old p) (value b p) g (top q there) mark.value_there v;
         greatest = g;
         is_greatest = mark.is_greatest;
         value_there = v;
         attains = mark.attains;
       }
+
+  pub marks_move : (old : Affine) (m : Mark) → IsEnough (InContext context ranges) (IsPairOf systems) rows k row b → ((p q : List ℤ) → InContext context ranges q → value b q ≤ℤ value old p)
+      → IsTrueOf (InContext context ranges) (IsPairOf systems) rows k row old m → IsTrueOf (InContext context ranges) (IsPairOf systems) rows k row b m
+  marks_move old (Least p pair) enough top h = mark_moves old p pair enough (top p) h
+  marks_move old Bound enough top h = tt

@@ -1,15 +1,14 @@
 -- One row: what the greatest distance says of its modulus.
-use Rattle.std.proofs.Common.{◌≡◌, ℕ, ◌+◌, ◌<◌, ◌≤◌, inl, inr, List, [], ◌∷◌, length, take, replicate, ℤ, pos, ◌+ℤ◌, ◌*ℤ◌, ◌≤ℤ◌, ◌<ℤ◌, zero, suc, refl, sym, ap, subst, ◌∙◌, arith}
-use Rattle.std.specs.Prelude.{unsigned_abs, slice_get, Option, Some, None}
+use Rattle.std.proofs.Common.{◌≡◌, ℕ, ◌+◌, ◌≤◌, inl, inr, List, [], ◌∷◌, length, take, replicate, ℤ, pos, ◌≤ℤ◌, ◌<ℤ◌, zero, suc, refl, sym, ap, subst, ◌∙◌, arith}
+use Rattle.std.specs.Prelude.{unsigned_abs, slice_get, Some, None}
 use Rattle.std.proofs.lemmas.Int.{ints}
 use Rattle.affc_rows.specs.Forms.{Affine, dot, value, values_of}
 use Rattle.affc_system.specs.Systems.{Rows}
 use Rattle.affc_system.specs.declared.pairs.PairSystem.{PairSystem}
 use Rattle.affc_maximum.specs.Regions.{InRegion}
 use Rattle.affc_maximum.specs.declared.region.Region.{Region}
-use Rattle.affc_maximum.specs.declared.several.Found.{Found}
 use Rattle.affc_differences.specs.Differences.{apart}
-use Rattle.affc_basis.specs.Slices.{along, minus, InSlice, IsGreatest}
+use Rattle.affc_basis.specs.Slices.{along, InSlice}
 use Rattle.affc_basis.specs.Folds.{IsEnough, IsLeastMark}
 use Rattle.affc_system.specs.ElementPairs.{IsPairOf}
 use Rattle.affc_conflicts.specs.Conditions.{InContext}

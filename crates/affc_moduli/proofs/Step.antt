@@ -1,15 +1,15 @@
 -- What one row's step asks for and gives.
-use Rattle.std.proofs.Common.{◌≡◌, ℕ, ◌+◌, ◌*◌, ◌^◌, ◌<◌, ◌≤◌, List, length, take, ℤ, pos, refl, sym, ap, subst, ◌∙◌, arith}
+use Rattle.std.proofs.Common.{◌≡◌, ℕ, ◌+◌, ◌*◌, ◌^◌, ◌<◌, ◌≤◌, List, length, take, ℤ, pos, sym, subst, ◌∙◌, arith}
 use Rattle.std.specs.Prelude.{unsigned_abs, slice_get, get_or, Some}
 use Rattle.std.specs.List.{All}
-use Rattle.std.proofs.lemmas.Option.{slice_get_within, slice_get-get_or, same_Some}
+use Rattle.std.proofs.lemmas.Option.{slice_get_within, slice_get-get_or}
 use Rattle.affc_rows.specs.Forms.{Affine, value}
 use Rattle.affc_system.specs.Systems.{Rows, IsRow}
 use Rattle.affc_system.specs.declared.pairs.PairSystem.{PairSystem}
 use Rattle.affc_maximum.specs.Regions.{InRegion, AreAskable}
 use Rattle.affc_maximum.specs.declared.region.Region.{Region}
 use Rattle.affc_differences.specs.Differences.{apart}
-use Rattle.affc_conflicts.specs.Conditions.{InContext, IsConflict}
+use Rattle.affc_conflicts.specs.Conditions.{IsConflict}
 use Rattle.affc_moduli.specs.Ready.{AreReady}
 use Rattle.affc_moduli.specs.Slices.{AreSlices, AreNarrowed}
 use Rattle.affc_moduli.specs.Distances.{AreForward, AreBackward, AreOver, HaveDimensions}
@@ -26,13 +26,13 @@ module _ (context : Rows) (ranges : List (ℤ × ℤ)) (extents rows : List Affi
   width : length row.coefs ≡ length rows
   width = all_at (λ (g : Affine). length g.coefs ≡ length rows) rows ready.row_columns k row at
 
-  dimensions : length row.coefs ≡ length extents
+  pub dimensions : length row.coefs ≡ length extents
   dimensions = width ∙ sym ready.dimensions
 
   few : length row.coefs ≤ 4
   few = subst (λ n. n ≤ 4) (sym width) ready.few_rows
 
-  small : All (λ c. unsigned_abs c ≤ 256) row.coefs
+  pub small : All (λ c. unsigned_abs c ≤ 256) row.coefs
   small = all_at (λ (f : Affine). All (λ c. unsigned_abs c ≤ 256) f.coefs) rows ready.row_bounds k row at
 
   before : k < length extents

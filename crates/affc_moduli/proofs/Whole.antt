@@ -1,9 +1,8 @@
 -- The whole fold, from its rows.
-use Rattle.std.proofs.Common.{◌≡◌, ◌≢◌, ◌⊎◌, inl, inr, ℕ, zero, suc, ◌+◌, ◌<◌, ◌≤◌, List, [], ◌∷◌, length, map, ℤ, pos, ◌≤ℤ◌, ◌<ℤ◌, refl, sym, ap, subst, ◌∙◌, arith}
-use Rattle.std.specs.Prelude.{slice_get, get_or, Option, Some, None}
-use Rattle.std.specs.Option.{option_map}
+use Rattle.std.proofs.Common.{◌≡◌, ◌≢◌, inl, inr, ℕ, zero, suc, ◌<◌, List, [], ◌∷◌, length, ℤ, pos, ◌≤ℤ◌, ◌<ℤ◌, refl, sym, ap, subst, ◌∙◌}
+use Rattle.std.specs.Prelude.{slice_get, get_or, Some}
 use Rattle.std.specs.List.{All}
-use Rattle.std.proofs.lemmas.Option.{same_Some, slice_get_within, slice_get-get_or, slice_get-map}
+use Rattle.std.proofs.lemmas.Option.{same_Some, slice_get_within, slice_get-get_or}
 use Rattle.std.proofs.lemmas.List.Elements.{All-map, All-get_or}
 use Rattle.affc_rows.specs.Forms.{Affine, value, values_of}
 use Rattle.affc_system.specs.Systems.{Rows}
@@ -16,7 +15,7 @@ use Rattle.affc_basis.specs.Folds.{forms_of}
 use Rattle.affc_basis.proofs.Separation.{separated}
 use Rattle.affc_system.specs.ElementPairs.{IsPairAt, IsPairOf}
 use Rattle.affc_conflicts.specs.Conditions.{InContext, IsConflict}
-use Rattle.affc_moduli.specs.Rows.{IsDone, AreDone}
+use Rattle.affc_moduli.specs.Rows.{AreDone}
 use Rattle.affc_moduli.proofs.Covers.{some_at, place_of}
 
 form_at : (ms : List Modulus) (k : ℕ) (b : Affine) → slice_get (forms_of ms) k ≡ Some b → (m : Modulus) × (slice_get ms k ≡ Some m) × (m.form ≡ b)

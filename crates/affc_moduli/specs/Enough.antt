@@ -1,8 +1,9 @@
 -- Moduli that are proposed, and tested.
-use Rattle.std.specs.Prelude.{◌≡◌, ℕ, ◌^◌, ◌<◌, ◌≤◌, ℤ, unsigned_abs, ◌<ℤ◌, List, length, take, slice_get, Some}
+use Rattle.std.specs.Prelude.{◌≡◌, ℕ, ◌^◌, ◌<◌, ◌≤◌, ℤ, pos, unsigned_abs, ◌<ℤ◌, ◌≤ℤ◌, List, length, take, slice_get, Some}
 use Rattle.std.specs.List.{All}
 use Rattle.affc_rows.specs.Forms.{Affine, value}
-use Rattle.affc_maximum.specs.Regions.{InRegion}
+use Rattle.affc_basis.specs.Moduli.{IsModulus}
+use Rattle.affc_maximum.specs.Regions.{InRegion, IsBounded}
 use Rattle.affc_maximum.specs.declared.region.Region.{Region}
 
 -- at each point of the region the form is below the modulus at the point's first numbers
@@ -27,3 +28,11 @@ AreComparable parameters regions fs = (i : ℕ) (r : Region) (f : Affine) → sl
 -- below in the first n regions
 abbrev pub AreBelowBefore : ℕ → List Region → List Affine → Affine → Type 0
 AreBelowBefore n regions fs modulus = (i : ℕ) (r : Region) (f : Affine) → i < n → slice_get regions i ≡ Some r → slice_get fs i ≡ Some f → IsBelow r f modulus
+
+-- a proposed modulus that passes its tests: at least 1 and at most the need throughout the context, and above each form in its region
+pub record IsSuitable (context : Region) (regions : List Region) (fs gs : List Affine) (modulus : Affine) (need : ℤ) : Type 0 where
+  pub limits : IsModulus context.system.columns modulus
+  pub positive : (p : List ℤ) → InRegion context p → pos 1 ≤ℤ value modulus p
+  pub most : IsBounded context modulus need
+  pub forward : AreBelow regions fs modulus
+  pub backward : AreBelow regions gs modulus

@@ -1,5 +1,5 @@
 -- What is known of the moduli of the first rows.
-use Rattle.std.specs.Prelude.{◌≡◌, ℕ, ℤ, List, length, slice_get, Some}
+use Rattle.std.specs.Prelude.{◌≡◌, ℕ, ℤ, List, slice_get, Some}
 use Rattle.affc_rows.specs.Forms.{Affine}
 use Rattle.affc_system.specs.Systems.{Rows}
 use Rattle.affc_system.specs.declared.pairs.PairSystem.{PairSystem}

@@ -8,6 +8,7 @@ ghost use Rattle.affc_maximum.specs.Regions.{InRegion, IsBounded, IsMeasure};
 ghost use Rattle.affc_basis.specs.Moduli.{IsModulus};
 ghost use Rattle.affc_moduli.specs.Enough.{IsBelow, AreBelow, AreComparable};
 
+use crate::constant::number;
 use affc_maximum::{Region, reaching};
 use affc_rows::{Form, FormFault};
 use affc_split::{Budget, Stop};
@@ -78,6 +79,48 @@ fn is_below(
         return Err(Stop::Memory);
     };
     let found = reaching(alloc, region, &difference, 0, budget)?;
+    match found {
+        Some(_point) => Ok(false),
+        None => Ok(true),
+    }
+}
+
+/// Whether a modulus is at least 1 at each point of the context.
+pub fn is_positive(
+    alloc: Global,
+    context: &Region,
+    modulus: &Form,
+    budget: &mut Budget,
+) -> Result<bool, Stop>
+    requires modulus { IsModulus context.now.system.columns modulus.now }
+    requires room { length context.now.system.rows < 1024 }
+    ensures positive { IfOk result (λ b. IsTrue b → (p : List ℤ) → InRegion context.now p → pos 1 ≤ℤ value modulus.now p) }
+    ensures later { IsLater budget.old budget.new }
+    ensures stop { IfErr result (λ e. e ≡ Stop.Budget → budget.new.limit ≡ Some budget.new.spent) }
+{
+    let columns = context.system.columns() as usize;
+    let Ok(nothing) = number(alloc, columns, 0) else {
+        return Err(Stop::Memory);
+    };
+    is_below(alloc, context, &nothing, modulus, budget)
+}
+
+/// Whether a modulus is nowhere in the context above a number.
+pub fn is_within(
+    alloc: Global,
+    context: &Region,
+    modulus: &Form,
+    most: i64,
+    budget: &mut Budget,
+) -> Result<bool, Stop>
+    requires modulus { IsModulus context.now.system.columns modulus.now }
+    requires near { unsigned_abs most ≤ 2 ^ 55 }
+    requires room { length context.now.system.rows < 1024 }
+    ensures within { IfOk result (λ b. IsTrue b → IsBounded context.now modulus.now most) }
+    ensures later { IsLater budget.old budget.new }
+    ensures stop { IfErr result (λ e. e ≡ Stop.Budget → budget.new.limit ≡ Some budget.new.spent) }
+{
+    let found = reaching(alloc, context, modulus, most + 1, budget)?;
     match found {
         Some(_point) => Ok(false),
         None => Ok(true),

@@ -10,27 +10,17 @@ ghost use Rattle.affc_moduli.specs.Distances.{AreApartWithin, AreForward, AreBac
 ghost use Rattle.affc_moduli.specs.Rows.{IsDone};
 ghost use Rattle.affc_moduli.specs.Ready.{AreReady};
 
+use crate::constant::{constant_of, number};
 use crate::distances::{backward, farthest, forward};
+use crate::forms::{chosen, context_region};
 use crate::slices::all_narrowed;
 use affc_basis::{Mark, Modulus};
 use affc_maximum::{Found, Region};
 use affc_rows::Form;
 use affc_split::{Budget, Stop};
 use affc_system::{BoxOf, PairSystem, System, value_at};
-use smallvec::SmallVec;
 use sqlite_items::Items;
 use std::alloc::{AllocError, Global};
-
-/// A number, as a form over the parameters.
-fn number(alloc: Global, parameters: usize, n: i64) -> Result<Form, AllocError>
-    ensures { IfOk result (λ f. f ≡ record { coefs = replicate parameters (pos 0); constant = n }) }
-{
-    let coefs = SmallVec::from_elem(alloc, 0, parameters)?;
-    Ok(Form {
-        coefs,
-        constant: i128::from(n),
-    })
-}
 
 /// The value of a subscript at a point.
 fn subscript_at(form: &Form, point: &[i64]) -> i64
@@ -118,7 +108,8 @@ fn shown(
     requires row { slice_get rows.now k ≡ Some row.now }
     requires slices { AreSlices context.now ranges.now rows.now k pairs.now regions.now }
     requires farthest { IsFarthest pairs.now regions.now row.now.coefs (Some found.now) }
-    ensures { IfOk result (λ m. IsDone context.now ranges.now pairs.now rows.now k row.now m) }
+    ensures done { IfOk result (λ m. IsDone context.now ranges.now pairs.now rows.now k row.now m) }
+    ensures flat { IfOk result (λ m. m.form.coefs ≡ replicate context.now.columns (pos 0)) }
 {
     let _extents = extents;
     let _ranges = ranges;
@@ -157,7 +148,8 @@ fn unshown(
     requires slices { AreSlices context.now ranges.now rows.now k pairs.now regions.now }
     requires none { AreApartWithin pairs.now regions.now row.now.coefs 0 }
     requires some { InContext context.now ranges.now some.now }
-    ensures { IfOk result (λ m. IsDone context.now ranges.now pairs.now rows.now k row.now m) }
+    ensures done { IfOk result (λ m. IsDone context.now ranges.now pairs.now rows.now k row.now m) }
+    ensures flat { IfOk result (λ m. m.form.coefs ≡ replicate context.now.columns (pos 0)) }
 {
     let _pairs = pairs;
     let _extents = extents;
@@ -189,7 +181,8 @@ fn modulus_of(
     requires slices { AreSlices context.now ranges.now rows.now k pairs.now regions.now }
     requires farthest { IsFarthest pairs.now regions.now row.now.coefs found.now }
     requires some { InContext context.now ranges.now some.now }
-    ensures { IfOk result (λ m. IsDone context.now ranges.now pairs.now rows.now k row.now m) }
+    ensures done { IfOk result (λ m. IsDone context.now ranges.now pairs.now rows.now k row.now m) }
+    ensures flat { IfOk result (λ m. m.form.coefs ≡ replicate context.now.columns (pos 0)) }
 {
     match found {
         None => unshown(
@@ -198,6 +191,63 @@ fn modulus_of(
         Some(f) => shown(
             alloc, pairs, extents, context, ranges, rows, k, regions, f, row,
         ),
+    }
+}
+
+/// The modulus with another form.
+fn with_form(modulus: Modulus, form: Form) -> Modulus
+    ensures form { result.form ≡ form }
+    ensures mark { result.mark ≡ modulus.mark }
+{
+    Modulus {
+        form,
+        mark: modulus.mark,
+    }
+}
+
+/// The modulus of a row, with the form that is chosen in place of a constant.
+fn formed(
+    alloc: Global,
+    pairs: &[PairSystem],
+    extents: &[Form],
+    context: &System,
+    ranges: &BoxOf,
+    rows: &[Form],
+    k: usize,
+    regions: &[Region],
+    row: &Form,
+    fs: &[Form],
+    gs: &[Form],
+    constant: Modulus,
+    budget: &mut Budget,
+) -> Result<Modulus, Stop>
+    requires ready { AreReady context.now ranges.now extents.now rows.now pairs.now }
+    requires row { slice_get rows.now k ≡ Some row.now }
+    requires slices { AreSlices context.now ranges.now rows.now k pairs.now regions.now }
+    requires fs_each { length fs.now ≡ length pairs.now }
+    requires gs_each { length gs.now ≡ length pairs.now }
+    requires fs { AreForward pairs.now row.now.coefs fs.now }
+    requires gs { AreBackward pairs.now row.now.coefs gs.now }
+    requires done { IsDone context.now ranges.now pairs.now rows.now k row.now constant }
+    requires flat { constant.form.coefs ≡ replicate context.now.columns (pos 0) }
+    ensures done { IfOk result (λ m. IsDone context.now ranges.now pairs.now rows.now k row.now m) }
+    ensures later { IsLater budget.old budget.new }
+    ensures stop { IfErr result (λ e. e ≡ Stop.Budget → budget.new.limit ≡ Some budget.new.spent) }
+{
+    let _pairs = pairs;
+    let _rows = rows;
+    let _k = k;
+    let Ok(region) = context_region(alloc, context, ranges) else {
+        return Err(Stop::Memory);
+    };
+    let coefs = row.coefs.as_slice();
+    let need = constant_of(&constant.form);
+    let found = chosen(
+        alloc, coefs, extents, &region, regions, fs, gs, need, budget,
+    )?;
+    match found {
+        Some(form) => Ok(with_form(constant, form)),
+        None => Ok(constant),
     }
 }
 
@@ -231,11 +281,14 @@ fn made(
     ensures stop { IfErr result (λ e. e ≡ Stop.Budget → budget.new.limit ≡ Some budget.new.spent) }
 {
     let found = farthest(alloc, row, pairs, regions, fs, gs, 1, budget)?;
-    let Ok(modulus) = modulus_of(
+    let Ok(constant) = modulus_of(
         alloc, pairs, extents, context, ranges, rows, k, regions, &found, some, row,
     ) else {
         return Err(Stop::Memory);
     };
+    let modulus = formed(
+        alloc, pairs, extents, context, ranges, rows, k, regions, row, fs, gs, constant, budget,
+    )?;
     let Ok(narrower) = all_narrowed(alloc, regions, fs, gs) else {
         return Err(Stop::Memory);
     };

@@ -1,4 +1,4 @@
-use Rattle.std.proofs.Common.{◌≡◌, ◌≤◌, length, refl, arith, rules}
+use Rattle.std.proofs.Common.{◌≤◌, length, arith, rules}
 use Rattle.std.specs.Prelude.{IsTrue}
 use Rattle.affc_maximum.proofs.Laters.{then_later}
 use Rattle.affc_moduli.proofs.Lifted.{comparable_at, below_more, below_all}

@@ -1,12 +1,8 @@
-use Rattle.std.proofs.Common.{◌≡◌, ◌≤◌, ◌^◌, ℤ, List, subst, arith}
+use Rattle.std.proofs.Common.{◌≤◌, ◌^◌, ℤ, arith}
 use Rattle.std.specs.Prelude.{unsigned_abs}
 use Rattle.std.proofs.lemmas.List.Elements.{All-weaker}
-use Rattle.affc_system.specs.Systems.{IsPoint}
-use Rattle.affc_system.specs.Boxes.{InBox}
 use Rattle.affc_system.specs.Pairs.{WithinReach}
-use Rattle.affc_split.specs.Answers.{IfEmpty, IfPoint}
-use Rattle.affc_split.specs.Points.{IsLeastPoint}
-use Rattle.affc_conflicts.specs.Conditions.{IsNear, InContext}
+use Rattle.affc_conflicts.specs.Conditions.{IsNear}
 use Rattle.affc_moduli.proofs.fold.context_point.Goals as goal
 
 pub decide-requires-clause-reach : goal.decide-requires-clause-reach

@@ -1,5 +1,5 @@
-use Rattle.std.proofs.Common.{◌≡◌, ◌<◌, length, sym, subst, Result, Ok, Err}
-use Rattle.std.specs.Prelude.{IfOk, slice_get, Some}
+use Rattle.std.proofs.Common.{◌≡◌, ◌<◌, length, subst}
+use Rattle.std.specs.Prelude.{IfOk}
 use Rattle.std.proofs.lemmas.Option.{slice_get_within}
 use Rattle.affc_conflicts.specs.Conditions.{IsConflict}
 use Rattle.affc_moduli.specs.Rows.{AreDone}

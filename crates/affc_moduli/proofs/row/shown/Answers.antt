@@ -1,4 +1,4 @@
-use Rattle.std.proofs.Common.{◌≡◌, ◌∙◌, ◌+◌, ◌<◌, ◌≤◌, ◌^◌, ℕ, ℤ, List, pos, ◌+ℤ◌, replicate, take, length, refl, sym, ap, subst, arith}
+use Rattle.std.proofs.Common.{◌≡◌, ◌∙◌, ◌+◌, ◌≤◌, ◌^◌, ℕ, ℤ, List, pos, ◌+ℤ◌, replicate, take, length, refl, sym, ap, subst, arith}
 use Rattle.std.specs.Prelude.{FitsSigned, unsigned_abs, slice_get, Some}
 use Rattle.std.specs.Int.{w64}
 use Rattle.std.specs.List.{All}
@@ -53,8 +53,8 @@ with_pair-requires-clause-distance c =
     let fits : FitsSigned w64 c.args.found.now.value = fits_signed_from_abs w64 c.args.found.now.value (omega (arith, near)) in
     simp to_z-of_z near
 
-pub returns : goal.returns
-returns c =
+pub returns-clause-done : goal.returns-clause-done
+returns-clause-done c =
     let h = c.requires.farthest in
     let a = h.4 in
     let s : PairSystem = c.index-pairs-found.result in
@@ -79,3 +79,7 @@ returns c =
     both _ _ _ c.with_pair.result
     (λ m e f. done_some c.args.context.now c.args.ranges.now c.args.rows.now c.args.k c.args.row.now c.args.pairs.now c.args.regions.now c.requires.slices (wide c.args.context.now c.args.ranges.now c.args.extents.now c.args.rows.now c.args.pairs.now c.requires.ready c.args.k c.args.row.now c.requires.row c.args.regions.now c.requires.slices) n i z s a.region h.3 h.2 small here a.region_there a.inside by m (e ∙ made) (f ∙ marked))
     form c.with_pair.ensures.mark
+
+pub returns-clause-flat : goal.returns-clause-flat
+returns-clause-flat c =
+    both _ _ _ c.with_pair.result (λ m e f. ap (λ (g : Affine). g.coefs) e ∙ ap (λ (q : ℕ). replicate q (pos 0)) c.columns-parameters.ensures.value) c.with_pair.ensures.form c.with_pair.ensures.form

@@ -1,7 +1,4 @@
-use Rattle.std.proofs.Common.{◌≡◌, length, ℕ}
-use Rattle.std.specs.Prelude.{slice_get, Some}
-use Rattle.affc_rows.specs.Forms.{Affine}
-use Rattle.affc_maximum.specs.declared.region.Region.{Region}
+use Rattle.std.proofs.Common.{◌≡◌, length}
 use Rattle.affc_moduli.specs.Slices.{AreNarrowedSoFar}
 use Rattle.affc_moduli.proofs.slices.all_narrowed.Given as goal
 

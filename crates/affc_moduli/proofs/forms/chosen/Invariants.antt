@@ -1,0 +1,5 @@
+use Rattle.affc_split.specs.Budgets.{IsLater}
+use Rattle.affc_moduli.proofs.forms.chosen.Given as goal
+
+abbrev pub invariant-loop-proposal : goal.invariant-loop-proposal
+invariant-loop-proposal l = IsLater l.fn.budget l.budget

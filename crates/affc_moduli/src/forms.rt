@@ -1,0 +1,342 @@
+//! Moduli as forms over the parameters: proposed by the extents of some dimensions, and tested.
+ghost use Rattle.std.specs.Prelude.{◌≡◌, ℕ, ℤ, List, ◌+◌, ◌^◌, ◌<◌, ◌≤◌, ◌≤ℤ◌, ◌+ℤ◌, unsigned_abs, pos, Some, IfOk, IfErr, IfSome, IsTrue, ◌↔◌, length};
+ghost use Rattle.std.specs.List.{All};
+ghost use Rattle.affc_rows.specs.Forms.{HaveColumns};
+ghost use Rattle.affc_split.specs.Budgets.{IsLater};
+ghost use Rattle.affc_basis.specs.Moduli.{IsModulus};
+ghost use Rattle.affc_conflicts.specs.Conditions.{IsNear};
+ghost use Rattle.affc_moduli.specs.Enough.{AreComparable, IsSuitable};
+
+use crate::constant::number;
+use crate::enough::{all_below, is_positive, is_within};
+use affc_maximum::{Region, maximum};
+use affc_rows::{Form, FormFault};
+use affc_split::{Budget, Stop};
+use affc_system::system::MOST_ROWS;
+use affc_system::{BoxOf, System, fits_row, interval};
+use std::alloc::{AllocError, Global};
+
+/// A form that is tried as a modulus, and its value at the low ends of the parameters' ranges.
+#[derive(Drop)]
+struct Proposal {
+    form: Form,
+    low: i128,
+}
+
+/// The context as a region.
+pub fn context_region(alloc: Global, context: &System, ranges: &BoxOf) -> Result<Region, AllocError>
+    requires parameters { length ranges.now ≡ context.now.columns }
+    requires near { All IsNear ranges.now }
+    ensures system { IfOk result (λ r. r.system ≡ context.now) }
+    ensures ranges { IfOk result (λ r. r.ranges ≡ ranges.now) }
+{
+    let _alloc = alloc;
+    let system = context.clone()?;
+    let ranges = ranges.clone()?;
+    Ok(Region { system, ranges })
+}
+
+/// Whether a form keeps the limits of a modulus.
+fn keeps_limits(form: &Form, parameters: usize) -> bool
+    ensures { IsTrue result ↔ IsModulus parameters form.now }
+{
+    form.coefs.len() == parameters
+        && form.constant.unsigned_abs() <= 1 << 55
+        && form
+            .coefs
+            .as_slice()
+            .iter()
+            .all(|c| c.unsigned_abs() <= 1 << 30)
+}
+
+/// The value of a form at the low ends of the ranges.
+fn at_lows(alloc: Global, form: &Form, ranges: &[(i64, i64)]) -> Result<Option<i128>, AllocError>
+    requires { length ranges.now ≡ length form.now.coefs }
+{
+    let mut lows = Vec::new(alloc);
+    for range in ranges {
+        lows.push(i128::from(range.0))?;
+    }
+    match form.eval(lows.as_slice()) {
+        Ok(value) => Ok(Some(value)),
+        Err(_range) => Ok(None),
+    }
+}
+
+/// Whether a dimension is in a set of dimensions.
+fn has(set: u32, dimension: usize) -> bool {
+    dimension < 32 && (set >> dimension) & 1 == 1
+}
+
+/// The magnitude of a coefficient of a basis.
+fn magnitude(c: i128) -> i128
+    requires { unsigned_abs c ≤ 256 }
+{
+    if c < 0 { -c } else { c }
+}
+
+/// The magnitude of a coefficient where the dimension is in the set, or 0.
+fn weight(set: u32, dimension: usize, coef: i128) -> i128
+    requires { unsigned_abs coef ≤ 256 }
+{
+    if has(set, dimension) {
+        magnitude(coef)
+    } else {
+        0
+    }
+}
+
+/// Whether a dimension of the set adds no slope.
+fn is_idle(set: u32, dimension: usize, coef: i128, extent: &Form) -> bool {
+    has(set, dimension) && (coef == 0 || extent.coefs.as_slice().iter().all(|c| *c == 0))
+}
+
+/// A form and a multiple of another, where the numbers fit.
+fn with_multiple(
+    alloc: Global,
+    sum: &Form,
+    extent: &Form,
+    times: i128,
+) -> Result<Option<Form>, AllocError>
+    requires { length sum.now.coefs ≡ length extent.now.coefs }
+    ensures { IfOk result (λ o. IfSome o (λ f. length f.coefs ≡ length sum.now.coefs)) }
+{
+    match sum.scale_add(alloc, 1, extent, times) {
+        Ok(longer) => Ok(Some(longer)),
+        Err(FormFault::Memory) => Err(AllocError),
+        Err(FormFault::Range) => Ok(None),
+    }
+}
+
+/// The sum of the extents of a set of dimensions, each times the magnitude of its coefficient in a row.
+///
+/// Nothing where a dimension of the set adds no slope: then a smaller set has the same slopes.
+fn sum_of(
+    alloc: Global,
+    coefs: &[i128],
+    extents: &[Form],
+    set: u32,
+    parameters: usize,
+) -> Result<Option<Form>, AllocError>
+    requires one_each { length coefs.now ≡ length extents.now }
+    requires small { All (λ c. unsigned_abs c ≤ 256) coefs.now }
+    requires wide { HaveColumns parameters extents.now }
+    ensures { IfOk result (λ o. IfSome o (λ f. length f.coefs ≡ parameters)) }
+{
+    let mut sum = number(alloc, parameters, 0)?;
+    for (j, extent) in extents.iter().enumerate() {
+        if is_idle(set, j, coefs[j], extent) {
+            return Ok(None);
+        }
+        let longer = with_multiple(alloc, &sum, extent, weight(set, j, coefs[j]))?;
+        match longer {
+            Some(longer) => sum = longer,
+            None => return Ok(None),
+        }
+    }
+    Ok(Some(sum))
+}
+
+/// The greatest value of a form without a constant over the context, where it is within reach.
+fn top_of(
+    alloc: Global,
+    context: &Region,
+    form: &Form,
+    budget: &mut Budget,
+) -> Result<Option<i64>, Stop>
+    requires width { length form.now.coefs ≡ context.now.system.columns }
+    requires constant { form.now.constant ≡ pos 0 }
+    ensures later { IsLater budget.old budget.new }
+    ensures stop { IfErr result (λ e. e ≡ Stop.Budget → budget.new.limit ≡ Some budget.new.spent) }
+{
+    let Ok((low, high)) = interval(form, &context.ranges) else {
+        return Ok(None);
+    };
+    if low < -(1 << 54) || low > 1 << 54 || high < -(1 << 54) || high > 1 << 54 || !fits_row(form) {
+        return Ok(None);
+    }
+    let rows = context.system.rows().len();
+    if rows == 0 {
+        return Ok(Some(high as i64));
+    }
+    if rows >= MOST_ROWS {
+        return Ok(None);
+    }
+    let floor = low as i64 - 1;
+    match maximum(
+        alloc,
+        context,
+        form,
+        floor,
+        high as i64,
+        high as i64,
+        budget,
+    )? {
+        Some(best) => Ok(Some(best.value)),
+        None => Ok(None),
+    }
+}
+
+/// The form of a set of dimensions whose greatest value is the need, where it is below the need at the low ends of the ranges.
+fn proposed(
+    alloc: Global,
+    coefs: &[i128],
+    extents: &[Form],
+    set: u32,
+    context: &Region,
+    need: i64,
+    budget: &mut Budget,
+) -> Result<Option<Proposal>, Stop>
+    requires one_each { length coefs.now ≡ length extents.now }
+    requires small { All (λ c. unsigned_abs c ≤ 256) coefs.now }
+    requires wide { HaveColumns context.now.system.columns extents.now }
+    ensures later { IsLater budget.old budget.new }
+    ensures stop { IfErr result (λ e. e ≡ Stop.Budget → budget.new.limit ≡ Some budget.new.spent) }
+{
+    let parameters = context.system.columns() as usize;
+    let Some(sum) = sum_of(alloc, coefs, extents, set, parameters)? else {
+        return Ok(None);
+    };
+    let slopes = Form {
+        coefs: sum.coefs,
+        constant: 0,
+    };
+    let Some(top) = top_of(alloc, context, &slopes, budget)? else {
+        return Ok(None);
+    };
+    let form = Form {
+        coefs: slopes.coefs,
+        constant: i128::from(need) - i128::from(top),
+    };
+    let Some(low) = at_lows(alloc, &form, context.ranges.ranges())? else {
+        return Ok(None);
+    };
+    if low >= i128::from(need) {
+        return Ok(None);
+    }
+    Ok(Some(Proposal { form, low }))
+}
+
+/// Where a proposal stands among others in the order of their low values: behind those that aren't greater.
+fn place_of(proposals: &[Proposal], low: i128) -> usize
+    ensures { result ≤ length proposals.now }
+{
+    for (i, proposal) in proposals.iter().enumerate() {
+        if proposal.low > low {
+            return i;
+        }
+    }
+    proposals.len()
+}
+
+/// The forms of all sets of dimensions that are below the need at the low ends of the ranges, the least first.
+fn all_proposed(
+    alloc: Global,
+    coefs: &[i128],
+    extents: &[Form],
+    context: &Region,
+    need: i64,
+    budget: &mut Budget,
+) -> Result<Vec<Proposal>, Stop>
+    requires one_each { length coefs.now ≡ length extents.now }
+    requires few { length extents.now ≤ 4 }
+    requires small { All (λ c. unsigned_abs c ≤ 256) coefs.now }
+    requires wide { HaveColumns context.now.system.columns extents.now }
+    ensures later { IsLater budget.old budget.new }
+    ensures stop { IfErr result (λ e. e ≡ Stop.Budget → budget.new.limit ≡ Some budget.new.spent) }
+{
+    let mut proposals = Vec::new(alloc);
+    let sets = 1u32 << extents.len();
+    for set in 1..sets {
+        if let Some(made) = proposed(alloc, coefs, extents, set, context, need, budget)? {
+            let place = place_of(proposals.as_slice(), made.low);
+            let Ok(()) = proposals.insert(place, made) else {
+                return Err(Stop::Memory);
+            };
+        }
+    }
+    Ok(proposals)
+}
+
+/// Whether a form is a modulus that exceeds each distance, is at least 1, and is nowhere above the need.
+fn suits(
+    alloc: Global,
+    context: &Region,
+    regions: &[Region],
+    fs: &[Form],
+    gs: &[Form],
+    form: &Form,
+    need: i64,
+    budget: &mut Budget,
+) -> Result<bool, Stop>
+    requires room { length context.now.system.rows < 1024 }
+    requires fs_each { length fs.now ≡ length regions.now }
+    requires gs_each { length gs.now ≡ length regions.now }
+    requires fs { AreComparable context.now.system.columns regions.now fs.now }
+    requires gs { AreComparable context.now.system.columns regions.now gs.now }
+    requires need { unsigned_abs need ≤ 2 ^ 55 }
+    ensures suitable { IfOk result (λ b. IsTrue b → IsSuitable context.now regions.now fs.now gs.now form.now need) }
+    ensures later { IsLater budget.old budget.new }
+    ensures stop { IfErr result (λ e. e ≡ Stop.Budget → budget.new.limit ≡ Some budget.new.spent) }
+{
+    let parameters = context.system.columns() as usize;
+    if !keeps_limits(form, parameters) {
+        return Ok(false);
+    }
+    if !is_within(alloc, context, form, need, budget)? {
+        return Ok(false);
+    }
+    if !is_positive(alloc, context, form, budget)? {
+        return Ok(false);
+    }
+    if !all_below(alloc, regions, fs, form, budget)? {
+        return Ok(false);
+    }
+    all_below(alloc, regions, gs, form, budget)
+}
+
+/// The first proposal that suits.
+pub fn chosen(
+    alloc: Global,
+    coefs: &[i128],
+    extents: &[Form],
+    context: &Region,
+    regions: &[Region],
+    fs: &[Form],
+    gs: &[Form],
+    need: i64,
+    budget: &mut Budget,
+) -> Result<Option<Form>, Stop>
+    requires one_each { length coefs.now ≡ length extents.now }
+    requires few { length extents.now ≤ 4 }
+    requires small { All (λ c. unsigned_abs c ≤ 256) coefs.now }
+    requires wide { HaveColumns context.now.system.columns extents.now }
+    requires fs_each { length fs.now ≡ length regions.now }
+    requires gs_each { length gs.now ≡ length regions.now }
+    requires fs { AreComparable context.now.system.columns regions.now fs.now }
+    requires gs { AreComparable context.now.system.columns regions.now gs.now }
+    requires need { unsigned_abs need ≤ 2 ^ 55 }
+    ensures suitable { IfOk result (λ o. IfSome o (λ f. IsSuitable context.now regions.now fs.now gs.now f need)) }
+    ensures later { IsLater budget.old budget.new }
+    ensures stop { IfErr result (λ e. e ≡ Stop.Budget → budget.new.limit ≡ Some budget.new.spent) }
+{
+    if context.system.rows().len() >= MOST_ROWS {
+        return Ok(None);
+    }
+    let proposals = all_proposed(alloc, coefs, extents, context, need, budget)?;
+    for proposal in proposals {
+        if suits(
+            alloc,
+            context,
+            regions,
+            fs,
+            gs,
+            &proposal.form,
+            need,
+            budget,
+        )? {
+            return Ok(Some(proposal.form));
+        }
+    }
+    Ok(None)
+}
