@@ -1,5 +1,5 @@
 -- The trees of the halves of a box make the tree of the box.
-use Rattle.std.proofs.Common.{◌≡◌, ℕ, zero, suc, ◌+◌, ◌-◌, ◌*◌, ◌^◌, ◌<◌, ◌≤◌, ℤ, pos, negsuc, neg_ℤ, ◌+ℤ◌, ◌-ℤ◌, ◌*ℤ◌, ◌≤ℤ◌, ◌<ℤ◌, Bool, true, false, if◌then◌else◌, List, [], ◌∷◌, ◌++◌, length, get_or, map, refl, sym, ap, subst, ◌∙◌, ◌⊎◌, inl, inr, arith}
+use Rattle.std.proofs.Common.{◌≡◌, ℕ, zero, suc, ◌+◌, ◌-◌, ◌*◌, ◌^◌, ◌<◌, ◌≤◌, ℤ, pos, negsuc, ◌+ℤ◌, ◌-ℤ◌, ◌≤ℤ◌, ◌<ℤ◌, Bool, true, false, if◌then◌else◌, List, [], ◌∷◌, ◌++◌, length, get_or, refl, sym, ap, subst, ◌∙◌, arith}
 use Rattle.std.specs.Prelude.{unsigned_abs, max, int_le}
 use Rattle.std.specs.List.{All}
 use Rattle.std.proofs.lemmas.Int.{ints}
@@ -11,11 +11,10 @@ use Rattle.affc_ast.specs.declared.tree.Program.{Program}
 use Rattle.affc_nest.specs.declared.nest.Access.{Access}
 use Rattle.affc_nest.specs.declared.nest.Entry.{Entry}
 use Rattle.affc_nest.specs.declared.nest.Nest.{Nest}
-use Rattle.affc_nest.specs.Nests.{nest_of}
-use Rattle.affc_quast.specs.Limits.{narrow, FitsForm, IsTreeWithin}
+use Rattle.affc_quast.specs.Limits.{narrow, FitsForm}
 use Rattle.affc_quast.specs.Paths.{IsNear}
 use Rattle.affc_quast.specs.Trees.{Tree, Test, named_at, quotients_at, depth_of, divisions_of}
-use Rattle.affc_flow.specs.Laws.{Loads, IsSourceOf}
+use Rattle.affc_flow.specs.Laws.{IsSourceOf}
 use Rattle.affc_flow.specs.Searches.{IsRightAt, Covers, with_high, with_low, Fuel}
 
 in_low : (rs : List (ℤ × ℤ)) (j : ℕ) (at : ℤ) (xs : List ℤ) → InBox rs xs → get_or xs j (pos 0) ≤ℤ at → InBox (with_high rs j at) xs

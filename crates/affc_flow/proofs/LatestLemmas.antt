@@ -1,6 +1,6 @@
 -- The latest store before a load is its source.
-use Rattle.std.proofs.Common.{◌≡◌, ◌≢◌, ℤ, ◌<ℤ◌, ◌≤ℤ◌, ◌+ℤ◌, pos, ℕ, zero, suc, ◌<◌, Bool, true, false, IsTrue, if◌then◌else◌, List, [], ◌∷◌, ◌++◌, length, Option, Some, None, refl, sym, ap, subst, ◌∙◌, ◌⊎◌, inl, inr, arith}
-use Rattle.std.specs.Prelude.{slice_get, nat_eq, nat_lt}
+use Rattle.std.proofs.Common.{◌≡◌, ℤ, ◌<ℤ◌, ◌≤ℤ◌, ◌+ℤ◌, pos, ℕ, suc, ◌<◌, true, if◌then◌else◌, List, [], ◌∷◌, length, Option, Some, None, refl, sym, ap, subst, ◌∙◌, ◌⊎◌, inl, inr, arith}
+use Rattle.std.specs.Prelude.{slice_get, nat_eq}
 use Rattle.std.proofs.lemmas.Int.{ints}
 use Rattle.std.proofs.lemmas.Bool.Decides.{nat_tests}
 use Rattle.affc_system.specs.Order.{LexLe}
@@ -8,13 +8,12 @@ use Rattle.affc_ast.specs.declared.tree.Instance.{Instance}
 use Rattle.affc_ast.specs.declared.tree.Program.{Program}
 use Rattle.affc_ast.specs.Store.{Element}
 use Rattle.affc_ast.specs.Trace.{trace, store_of}
-use Rattle.affc_trace.specs.Dataflow.{IsSource, same_instance}
+use Rattle.affc_trace.specs.Dataflow.{IsSource}
 use Rattle.affc_trace.specs.Law.{IsIn}
 use Rattle.affc_trace.specs.Orders.{Earlier, AreDistinct}
-use Rattle.affc_trace.proofs.Legality.{earlier_is_in, later_is_in, one_way, either_way}
+use Rattle.affc_trace.proofs.Legality.{later_is_in, one_way}
 use Rattle.affc_trace.proofs.Once.{once}
 use Rattle.affc_trace.proofs.Sources.{source_in_its_own_words}
-use Rattle.affc_trace.proofs.Targets.{same_instance_decides}
 use Rattle.affc_domain.specs.Loops.{IsBefore, shared, loop_numbers}
 use Rattle.affc_domain.proofs.OrderLemmas.{has_loops, one_each, before_is_earlier}
 use Rattle.affc_flow.specs.Latest.{IsLatest}
@@ -65,13 +64,16 @@ module _ {I : Type 0} (trace : List I) where
 
   -- where the second is at least as late
   pub later_of_two : (P Q : I → Type 0) (u w : I) → AreDistinct trace → IsLatest trace P (Some u) → IsLatest trace Q (Some w) → (u ≡ w) ⊎ Earlier trace u w → IsLatest trace (λ v. P v ⊎ Q v) (Some w)
-  later_of_two P Q u w d a b o = (inr b.0, λ v h. elim h [
-    | inl h ↦ elim (a.1 v h) [
-      | inl e ↦ elim o [ inl q ↦ inl (e ∙ q) | inr q ↦ inr (subst (λ z. Earlier trace z w) (sym e) q) ]
-      | inr e ↦ elim o [ inl q ↦ inr (subst (λ z. Earlier trace v z) q e) | inr q ↦ inr (through trace v u w d e q) ]
-    ]
-    | inr h ↦ b.1 v h
-  ])
+  later_of_two P Q u w d a b o = (
+    inr b.0,
+    λ v h. elim h [
+      | inl h ↦ elim (a.1 v h) [
+        | inl e ↦ elim o [ inl q ↦ inl (e ∙ q) | inr q ↦ inr (subst (λ z. Earlier trace z w) (sym e) q) ]
+        | inr e ↦ elim o [ inl q ↦ inr (subst (λ z. Earlier trace v z) q e) | inr q ↦ inr (through trace v u w d e q) ]
+      ]
+      | inr h ↦ b.1 v h
+    ],
+  )
 
   pub either_order : (P Q : I → Type 0) (o : Option I) → IsLatest trace (λ v. P v ⊎ Q v) o → IsLatest trace (λ v. Q v ⊎ P v) o
   either_order P Q None a = λ v h. a v (other v h)

@@ -1,10 +1,8 @@
 -- The stores before a load are the points of two instances with equal subscripts, of which the store's is earlier.
-use Rattle.std.proofs.Common.{◌≡◌, ℕ, ◌+◌, ℤ, IsTrue, List, [], ◌∷◌, ◌++◌, length, map, Some, refl, sym, ap, subst, ◌∙◌, arith}
-use Rattle.std.specs.List.{All}
+use Rattle.std.proofs.Common.{◌≡◌, ℤ, List, ◌++◌, length, Some, refl, sym, ap, subst, ◌∙◌}
 use Rattle.std.specs.Prelude.{slice_get}
 use Rattle.std.proofs.lemmas.Option.{same_Some}
-use Rattle.affc_rows.specs.Forms.{values_of}
-use Rattle.affc_system.specs.Systems.{Rows, Meets, IsPoint}
+use Rattle.affc_system.specs.Systems.{Rows, IsPoint}
 use Rattle.affc_ast.specs.declared.tree.Instance.{Instance}
 use Rattle.affc_ast.specs.declared.tree.Program.{Program}
 use Rattle.affc_ast.specs.Store.{Element}
@@ -12,14 +10,12 @@ use Rattle.affc_ast.specs.Trace.{trace, store_of}
 use Rattle.affc_trace.specs.declared.schedule.Schedule.TheVariants as schedule
 use Rattle.affc_trace.specs.Law.{IsIn}
 use Rattle.affc_trace.specs.Orders.{Earlier}
-use Rattle.affc_trace.proofs.Runs.{length_append}
-use Rattle.affc_domain.specs.Ranges.{number_ranges}
 use Rattle.affc_nest.specs.declared.nest.Access.{Access}
 use Rattle.affc_nest.specs.declared.nest.Entry.{Entry}
 use Rattle.affc_nest.specs.declared.nest.Nest.{Nest}
 use Rattle.affc_nest.specs.Laws.{element_at}
 use Rattle.affc_nest.specs.Nests.{nest_of}
-use Rattle.affc_order.specs.Systems.{loops_of, pair_columns, source_systems, first_posed, second_posed}
+use Rattle.affc_order.specs.Systems.{pair_columns, source_systems, first_posed, second_posed}
 use Rattle.affc_order.proofs.LexLemmas.{both_met, met_both}
 use Rattle.affc_order.proofs.OrderLemmas.{order_columns, systems_are_the_orders}
 use Rattle.affc_sched.specs.Questions.{pair_rows}

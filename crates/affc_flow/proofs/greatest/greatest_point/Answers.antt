@@ -1,4 +1,4 @@
-use Rattle.std.proofs.Common.{◌≡◌, ◌^◌, ◌≤◌, neg_ℤ, ◌++◌, map, sym, ap, subst, ◌∙◌}
+use Rattle.std.proofs.Common.{◌^◌, ◌≤◌, neg_ℤ, ◌++◌, map, sym, ap, subst, ◌∙◌}
 use Rattle.std.specs.Prelude.{unsigned_abs}
 use Rattle.std.specs.List.{All}
 use Rattle.affc_flow.specs.Opposites.{IsLeastIn, IsGreatestPoint}
