@@ -3,3 +3,7 @@ pub mod WriterLemmas
 pub mod NamesLemmas
 pub mod FlowLemmas
 pub mod ExampleProofs
+pub mod OppositeLemmas
+pub mod LatestLemmas
+pub mod HalfLemmas
+pub mod StoreLemmas

@@ -2,4 +2,5 @@
 #![tactic(auto)]
 
 pub mod examples;
+mod greatest;
 pub mod laws;
