@@ -28,7 +28,7 @@ at_middle : {A : Type 0} (xs : List A) (x : A) (ys : List A) → get_or (xs ++ x
 at_middle [] x ys = refl
 at_middle (y ∷ xs) x ys = at_middle xs x ys
 
-all_middle : {A : Type 0} (P : A → Type 0) (xs : List A) (x : A) (ys : List A) → All P (xs ++ x ∷ ys) → P x
+pub all_middle : {A : Type 0} (P : A → Type 0) (xs : List A) (x : A) (ys : List A) → All P (xs ++ x ∷ ys) → P x
 all_middle P xs x ys h =
     let size = length-append xs (x ∷ ys) in
     subst P (at_middle xs x ys) (h (length xs) x (omega (arith, size)))

@@ -16,3 +16,6 @@ pub mod TextEnds
 pub mod DraftReads
 pub mod Walks
 pub mod Excludes
+pub mod LoopsRound
+pub mod Counted
+pub mod Scheduled

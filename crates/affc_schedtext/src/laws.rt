@@ -1,14 +1,15 @@
 //! What holds of every schedule's text: each function here is a statement, proved.
 
-ghost use Rattle.std.specs.Prelude.{◌≡◌, ◌≤◌, ℕ, List, [], length, Ok, Err};
+ghost use Rattle.std.specs.Prelude.{◌≡◌, ◌≤◌, ℕ, List, [], length, map, Ok, Err};
 ghost use Rattle.affc_ast.specs.declared.tree.Program.{Program};
+ghost use Rattle.affc_trace.specs.Target.{loops_round, numbers_in, IsScheduleOf};
 ghost use Rattle.affc_grammar.specs.Grammar.{Symbol};
 ghost use Rattle.affc_grammar.specs.Reader.{At, Deep};
 ghost use Rattle.affc_schedtext.specs.declared.plan.Plan.{Plan};
 ghost use Rattle.affc_schedtext.specs.declared.plan.SchedFault.{SchedFault};
 ghost use Rattle.affc_schedtext.specs.declared.plan.SchedFault.TheVariants.{Memory};
 ghost use Rattle.affc_schedtext.specs.Answers.{PlanReads, IsFault};
-ghost use Rattle.affc_schedtext.specs.Outline.{Outline};
+ghost use Rattle.affc_schedtext.specs.Outline.{Outline, outline};
 ghost use Rattle.affc_schedtext.specs.Grammar.{Text, text_symbols, StopsAt};
 ghost use Rattle.affc_schedtext.specs.Reading.{read_text};
 
@@ -30,4 +31,15 @@ pub fn texts_are_read()
 /// A text that reads as a plan has no fault but want of memory.
 pub fn plans_exclude_faults()
     ensures { (text : List ℕ) (program : Program) (plan : Plan) (fault : SchedFault) → PlanReads text program plan → IsFault text program fault → fault ≡ Memory }
+{}
+
+/// An outline has an iterator for each loop round each statement, and a name for each number parameter.
+pub fn outlines_are_whole()
+    ensures loops { (program : Program) → map length (outline program).statements ≡ loops_round program }
+    ensures parameters { (program : Program) → length (outline program).parameters ≡ numbers_in program.params }
+{}
+
+/// The schedule of a plan is one of the program: a map for each statement, over its columns, with as many components as the time has.
+pub fn plans_are_scheduled()
+    ensures { (text : List ℕ) (program : Program) (plan : Plan) → PlanReads text program plan → IsScheduleOf program plan.schedule }
 {}
