@@ -19,3 +19,5 @@ pub mod Excludes
 pub mod LoopsRound
 pub mod Counted
 pub mod Scheduled
+pub mod Empty
+pub mod Slight

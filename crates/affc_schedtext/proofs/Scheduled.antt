@@ -1,6 +1,6 @@
--- The schedule of a plan is one of the program.
+-- The schedule of a plan is one of the program, and within the limits.
 use Rattle.std.proofs.Common.{◌≡◌, ℕ, zero, suc, ◌+◌, ◌<◌, ◌≤◌, Bool, true, false, not, ◌&&◌, ◌==◌, nat_le, List, [], ◌∷◌, ◌++◌, length, map, flat_map, slice_get, All, Option, Some, None, refl, sym, ap, ◌∙◌, subst, ◌⊎◌, inl, inr, arith}
-use Rattle.std.proofs.lemmas.Bool.{eqb-true, and_parts, or_cases, leb-true, false≢true}
+use Rattle.std.proofs.lemmas.Bool.{eqb-true, and_parts, and_from, or_cases, leb-true, false≢true}
 use Rattle.std.proofs.lemmas.Option.{none-some}
 use Rattle.std.proofs.lemmas.List.{length-map}
 use Rattle.affc_rows.specs.Forms.{Affine, columns_of}
@@ -8,7 +8,7 @@ use Rattle.affc_ast.specs.declared.tree.Program.{Program}
 use Rattle.affc_trace.specs.declared.schedule.TimeMap.{TimeMap}
 use Rattle.affc_trace.specs.declared.schedule.Schedule.{Schedule}
 use Rattle.affc_trace.specs.declared.schedule.Schedule.TheVariants as schedule
-use Rattle.affc_trace.specs.Target.{loops_round, numbers_in, IsMapOf, AreMapsOf, IsScheduleOf}
+use Rattle.affc_trace.specs.Target.{loops_round, numbers_in, all_slight, maps_within, within_limits, IsMapOf, AreMapsOf, IsScheduleOf}
 use Rattle.affc_domain.proofs.FormLemmas.{form_width}
 use Rattle.affc_grammar.specs.Grammar.{Name}
 use Rattle.affc_grammar.specs.Draft.{IxDraft}
@@ -16,33 +16,15 @@ use Rattle.affc_grammar.specs.Limits.{at_if}
 use Rattle.affc_schedtext.specs.declared.plan.Plan.{Plan}
 use Rattle.affc_schedtext.specs.Outline.{Outline, outline, statement_of, iterators_of}
 use Rattle.affc_schedtext.specs.Draft.{LineDraft, OrderDraft, source, time, text_draft}
-use Rattle.affc_schedtext.specs.Rules.{Columns, form_over, over_columns, time_columns, iterators_or_none, statement_sides, there_forms, back_forms, is_in, wrong_statements, statements_in, has_all, large_sides, is_length, Breach, statement, length_of_line, limit, fold_breaches, fold_limits, order_breaches}
+use Rattle.affc_schedtext.specs.Rules.{Columns, form_over, over_columns, time_columns, iterators_or_none, statement_sides, there_forms, back_forms, is_in, wrong_statements, statements_in, has_all, large_forms, large_sides, is_length, Breach, statement, length_of_line, limit, fold_breaches, fold_limits, order_breaches}
 use Rattle.affc_schedtext.specs.Answers.{Keeps, IsMapOfLine, AreMapsOfLines, IsScheduleOfOrder, PlanReads}
 use Rattle.affc_schedtext.proofs.Counted.{Each, each_middle, HasInverses, HaveInverses, text_counts}
+use Rattle.affc_schedtext.proofs.Empty.{none_left, none_right, map_none, flat_middle, kept_if}
 use Rattle.affc_schedtext.proofs.Excludes.{all_middle}
 use Rattle.affc_schedtext.proofs.LoopsRound.{loops_are, parameters_are}
+use Rattle.affc_schedtext.proofs.Slight.{all_are_slight}
 
--- ---- Lists that are empty
-
-none_left : {A : Type 0} (xs ys : List A) → xs ++ ys ≡ [] → xs ≡ []
-none_left [] ys e = refl
-none_left (x ∷ xs) ys e = absurd (cc)
-
-none_right : {A : Type 0} (xs ys : List A) → xs ++ ys ≡ [] → ys ≡ []
-none_right [] ys e = e
-none_right (x ∷ xs) ys e = absurd (cc)
-
-map_none : {A B : Type 0} (f : A → B) (xs : List A) → map f xs ≡ [] → xs ≡ []
-map_none f [] e = refl
-map_none f (x ∷ xs) e = absurd (cc)
-
-flat_middle : {A B : Type 0} (f : A → List B) (xs : List A) (x : A) (ys : List A) → flat_map f (xs ++ x ∷ ys) ≡ [] → f x ≡ []
-flat_middle f [] x ys e = none_left (f x) (flat_map f ys) e
-flat_middle f (y ∷ xs) x ys e = flat_middle f xs x ys (none_right (f y) (flat_map f (xs ++ x ∷ ys)) e)
-
-kept_if : (b : Bool) (at : ℕ) → at_if (not b) at ≡ [] → b ≡ true
-kept_if true at e = refl
-kept_if false at e = absurd (cc)
+-- ---- Entries of lists
 
 within : {A : Type 0} (xs : List A) (k : ℕ) (x : A) → slice_get xs k ≡ Some x → k < length xs
 within [] k x e = absurd (none-some x e)
@@ -91,6 +73,7 @@ record Kept (o : Outline) (n : ℕ) (lines : List LineDraft) : Type 0 where
   whole : has_all (length o.statements) (statements_in o lines) ≡ true
   lengths : flat_map (λ (l : LineDraft). at_if (not (length l.forms == n)) l.at) lines ≡ []
   few : is_length n ≡ true
+  small : flat_map (λ l. large_sides (statement_sides o n l)) lines ≡ []
 
 kept : (o : Outline) (tokens at n : ℕ) (lines folds : List LineDraft) → order_breaches o tokens (time at n lines) folds ≡ [] → Kept o n lines
 kept o tokens at n lines folds e =
@@ -113,6 +96,7 @@ kept o tokens at n lines folds e =
       whole = kept_if (has_all (length o.statements) (statements_in o lines)) tokens (none_right wrong missing first);
       lengths = map_none length_of_line lengths (none_right one two e2);
       few = kept_if (is_length n) at (none_left size large fourth);
+      small = none_right size large fourth;
     }
 
 -- ---- Maps
@@ -127,6 +111,13 @@ are_maps p n [] [] e h = tt
 are_maps p n [] (m ∷ ms) e h = absurd (omega (arith, e))
 are_maps p n (is ∷ iss) [] e h = absurd (omega (arith, e))
 are_maps p n (is ∷ iss) (m ∷ ms) e h = (h 0 is m refl refl, are_maps p n iss ms (omega (arith, e)) (λ k js x q r. h (suc k) js x q r))
+
+each_within : (maps : List TimeMap) → ((k : ℕ) (m : TimeMap) → slice_get maps k ≡ Some m → (all_slight m.forms && all_slight m.inverse) ≡ true) → maps_within maps ≡ true
+each_within [] h = refl
+each_within (m ∷ ms) h = and_from (all_slight m.forms && all_slight m.inverse) (maps_within ms) (h 0 m refl) (each_within ms (λ k x q. h (suc k) x q))
+
+same_number : (a b : ℕ) → ◌≡◌ {A = Option ℕ} (Some a) (Some b) → a ≡ b
+same_number a b e = cc
 
 module _ (o : Outline) (n : ℕ) (lines : List LineDraft) (maps : List TimeMap) (k : Kept o n lines) (own : AreMapsOfLines o n lines maps) (counts : Each (HasInverses o) lines) where
   abbrev HasMap : LineDraft → Type 0
@@ -144,15 +135,30 @@ module _ (o : Outline) (n : ℕ) (lines : List LineDraft) (maps : List TimeMap) 
       let some : 1 ≤ n = leb-true 1 n (and_parts (nat_le 1 n) (nat_le n 12) k.few).0 in
       subst (IsMapOf (length o.parameters) (length is) n) map_is (record {
         columns =
-          ap columns_of w.4.forms
-          ∙ columns_over (time_columns o (iterators_or_none (iterators_of o (statement_of o l.1.name)))) l.1.forms (omega (arith, long, some))
-          ∙ ap (λ x. length o.parameters + length (iterators_or_none x)) iterators;
+            ap columns_of w.4.forms
+            ∙ columns_over (time_columns o (iterators_or_none (iterators_of o (statement_of o l.1.name)))) l.1.forms (omega (arith, long, some))
+            ∙ ap (λ x. length o.parameters + length (iterators_or_none x)) iterators;
         components = ap length w.4.forms ∙ length-map l.1.forms (form_over (time_columns o (iterators_or_none (iterators_of o (statement_of o l.1.name))))) ∙ long;
         iterators = ap length w.4.inverse ∙ length-map l.1.inverse (form_over (statement_sides o n l.1).back_over) ∙ inverses;
       })
-    where
-      same_number : (a b : ℕ) → ◌≡◌ {A = Option ℕ} (Some a) (Some b) → a ≡ b
-      same_number a b e = cc
+
+  slight_at : (s : ℕ) (m : TimeMap) → slice_get maps s ≡ Some m → (all_slight m.forms && all_slight m.inverse) ≡ true
+  slight_at s m q =
+      let long = own.0 in
+      let less = within maps s m q in
+      let l = line_of o s lines (all_there (length o.statements) (statements_in o lines) s k.whole (omega (arith, long, less))) in
+      let w = all_middle HasMap l.0 l.1 l.2 (subst (All HasMap) l.3 own.1) in
+      let number : w.0 ≡ s = same_number w.0 s (sym w.2 ∙ l.4) in
+      let map_is : w.1 ≡ m = same_found maps s w.1 m (ap (slice_get maps) (sym number) ∙ w.3) q in
+      let sides = statement_sides o n l.1 in
+      let none : large_sides sides ≡ [] = flat_middle (λ x. large_sides (statement_sides o n x)) l.0 l.1 l.2 (subst (λ xs. flat_map (λ x. large_sides (statement_sides o n x)) xs ≡ []) l.3 k.small) in
+      subst (λ (x : TimeMap). (all_slight x.forms && all_slight x.inverse) ≡ true) map_is
+      (and_from (all_slight w.1.forms) (all_slight w.1.inverse)
+      (ap all_slight w.4.forms ∙ all_are_slight sides.there_over sides.there (none_left (large_forms sides.there_over sides.there) (large_forms sides.back_over sides.back) none))
+      (ap all_slight w.4.inverse ∙ all_are_slight sides.back_over sides.back (none_right (large_forms sides.there_over sides.there) (large_forms sides.back_over sides.back) none)))
+
+  are_within : is_length n && maps_within maps ≡ true
+  are_within = and_from (is_length n) (maps_within maps) k.few (each_within maps slight_at)
 
   are_maps_of : AreMapsOf (length o.parameters) n (map length o.statements) maps
   are_maps_of = are_maps (length o.parameters) n o.statements maps own.0 map_at
@@ -171,3 +177,15 @@ pub is_scheduled : (text : List ℕ) (program : Program) (plan : Plan) → PlanR
 is_scheduled text program plan r =
     let s = r.keeps.spells in
     scheduled program (length s.tokens) (text_draft s.written).order (text_draft s.written).folds plan.schedule r.keeps.none (text_counts (outline program) s.written) r.schedule
+
+limited : (program : Program) (tokens : ℕ) (d : OrderDraft) (folds : List LineDraft) (plan : Schedule) → order_breaches (outline program) tokens d folds ≡ [] → HaveInverses (outline program) d → IsScheduleOfOrder (outline program) d plan → within_limits plan ≡ true
+limited program tokens source folds schedule.Source e c h = refl
+limited program tokens source folds (schedule.Time components maps) e c h = absurd h
+limited program tokens (time at n lines) folds schedule.Source e c h = absurd h
+limited program tokens (time at n lines) folds (schedule.Time components maps) e c h =
+    ap (λ m. is_length m && maps_within maps) h.0 ∙ are_within (outline program) n lines maps (kept (outline program) tokens at n lines folds e) h.1 c
+
+pub is_limited : (text : List ℕ) (program : Program) (plan : Plan) → PlanReads text program plan → within_limits plan.schedule ≡ true
+is_limited text program plan r =
+    let s = r.keeps.spells in
+    limited program (length s.tokens) (text_draft s.written).order (text_draft s.written).folds plan.schedule r.keeps.none (text_counts (outline program) s.written) r.schedule

@@ -1,8 +1,8 @@
 //! What holds of every schedule's text: each function here is a statement, proved.
 
-ghost use Rattle.std.specs.Prelude.{◌≡◌, ◌≤◌, ℕ, List, [], length, map, Ok, Err};
+ghost use Rattle.std.specs.Prelude.{◌≡◌, ◌≤◌, ℕ, List, [], length, map, true, Ok, Err};
 ghost use Rattle.affc_ast.specs.declared.tree.Program.{Program};
-ghost use Rattle.affc_trace.specs.Target.{loops_round, numbers_in, IsScheduleOf};
+ghost use Rattle.affc_trace.specs.Target.{loops_round, numbers_in, IsScheduleOf, within_limits};
 ghost use Rattle.affc_grammar.specs.Grammar.{Symbol};
 ghost use Rattle.affc_grammar.specs.Reader.{At, Deep};
 ghost use Rattle.affc_schedtext.specs.declared.plan.Plan.{Plan};
@@ -39,7 +39,9 @@ pub fn outlines_are_whole()
     ensures parameters { (program : Program) → length (outline program).parameters ≡ numbers_in program.params }
 {}
 
-/// The schedule of a plan is one of the program: a map for each statement, over its columns, with as many components as the time has.
+/// The schedule of a plan is one of the program: a map for each statement, over its columns, with as many components as the
+/// time has. It is within the limits.
 pub fn plans_are_scheduled()
-    ensures { (text : List ℕ) (program : Program) (plan : Plan) → PlanReads text program plan → IsScheduleOf program plan.schedule }
+    ensures schedules { (text : List ℕ) (program : Program) (plan : Plan) → PlanReads text program plan → IsScheduleOf program plan.schedule }
+    ensures limits { (text : List ℕ) (program : Program) (plan : Plan) → PlanReads text program plan → within_limits plan.schedule ≡ true }
 {}
