@@ -10,3 +10,14 @@ pub mod StageExact
 pub mod Sights
 pub mod Ends
 pub mod Shrinks
+pub mod Untils
+pub mod Outlines
+pub mod TextEnds
+pub mod DraftReads
+pub mod Walks
+pub mod Excludes
+pub mod LoopsRound
+pub mod Counted
+pub mod Scheduled
+pub mod Empty
+pub mod Slight

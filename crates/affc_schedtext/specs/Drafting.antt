@@ -147,9 +147,11 @@ stage_more o end room _ (fold_forms d w es) ts =
 abbrev pub stages : (o : Outline) (end room : ℕ) → Stage → Reader Symbol Draft
 stages o end room = until_done (this_mark (codes ";")) (stage_more o end room)
 
+-- behind "time"
+abbrev pub time_behind : (o : Outline) (end room : ℕ) → Reader Symbol Draft
+time_behind o end room ts = on_past (past number_value ts) (λ n us. stages o end room (stmts n []) us) (Err (At ts))
+
 abbrev pub text : (o : Outline) (end room : ℕ) → Reader Symbol Draft
 text o end room ts =
     on_past (past (this_word (codes "source")) ts) (λ _ us. stages o end room (folds (record { order = source; folds = [] })) us)
-    (on_past (past (this_word (codes "time")) ts) (λ _ us.
-    on_past (past number_value us) (λ n vs. stages o end room (stmts n []) vs) (Err (At us)))
-    (Err (At ts)))
+    (on_past (past (this_word (codes "time")) ts) (λ _ us. time_behind o end room us) (Err (At ts)))

@@ -9,3 +9,5 @@ pub mod Products
 pub mod Verdict
 pub mod Examples
 pub mod Seen
+pub mod ReadAnswers
+pub mod Walking

@@ -11,19 +11,8 @@ use Rattle.affc_ast.specs.declared.tree.Program.{Program}
 use Rattle.affc_ast.specs.Meaning.{arrays_of}
 use Rattle.affc_domain.specs.Rounds.{Round, Loop, Test, rounds}
 use Rattle.affc_grammar.specs.Grammar.{Name}
-
-pub record ArrayOutline : Type 0 where
-  pub name : Name
-  pub dimensions : ℕ
-  pub is_temporary : Bool
-
-pub record Outline : Type 0 where
-  -- the number parameters, in order
-  pub parameters : List Name
-  -- for each statement the iterators round it, from the outermost on
-  pub statements : List (List Name)
-  -- the array parameters in order, then the temporaries
-  pub arrays : List ArrayOutline
+pub use Rattle.affc_schedtext.specs.declared.outline.ArrayOutline.{ArrayOutline}
+pub use Rattle.affc_schedtext.specs.declared.outline.Outline.{Outline}
 
 abbrev pub number_names : List Param → List Name
 number_names [] = []
@@ -70,13 +59,20 @@ or_else None other = other
 abbrev pub Scope : Type 0
 Scope = Name → Option ℕ
 
+-- a column for each of the first names, and behind them one for each of the others
+abbrev pub names_scope : (first others : List Name) → Scope
+names_scope first others w = or_else (position w first) (option_map (λ k. length first + k) (position w others))
+
 -- the first so many columns are the parameters
 abbrev pub time_scope : Outline → (iterators : List Name) → Scope
-time_scope o iterators w = or_else (position w o.parameters) (option_map (λ k. length o.parameters + k) (position w iterators))
+time_scope o iterators = names_scope o.parameters iterators
 
 -- a parameter whose name is that of a component can't be written
+abbrev pub components_scope : (parameters : List Name) (length_of_time : ℕ) → Scope
+components_scope parameters n w = or_else (option_map (λ k. length parameters + k) (numbered (codes "t") n w)) (position w parameters)
+
 abbrev pub inverse_scope : Outline → (length_of_time : ℕ) → Scope
-inverse_scope o n w = or_else (option_map (λ k. length o.parameters + k) (numbered (codes "t") n w)) (position w o.parameters)
+inverse_scope o n = components_scope o.parameters n
 
 abbrev pub row_scope : (dimensions : ℕ) → Scope
 row_scope n = numbered (codes "x") n
@@ -114,10 +110,13 @@ abbrev pub iterators_of : Outline → Option ℕ → Option (List Name)
 iterators_of o None = None
 iterators_of o (Some s) = slice_get o.statements s
 
+abbrev pub words_of : (iterators : List Name) → Words
+words_of [] = any
+words_of (i ∷ is) = these i is
+
 abbrev pub lists_at : Outline → (length_of_time : ℕ) → Option (List Name) → Lists
 lists_at o n None = record { there = any_scope; back = any_scope; words = any }
-lists_at o n (Some []) = record { there = time_scope o []; back = inverse_scope o n; words = any }
-lists_at o n (Some (i ∷ is)) = record { there = time_scope o (i ∷ is); back = inverse_scope o n; words = these i is }
+lists_at o n (Some is) = record { there = time_scope o is; back = inverse_scope o n; words = words_of is }
 
 -- a statement without loops has no inverse forms, and of one that isn't known nothing can be told
 abbrev pub presence_at : Option (List Name) → Presence

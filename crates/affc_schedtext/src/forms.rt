@@ -6,11 +6,14 @@ ghost use Rattle.affc_draft.specs.Symbols.{seen};
 ghost use Rattle.affc_syntax.specs.Readers.{Gives};
 ghost use Rattle.affc_schedtext.specs.Drafting as drafting;
 ghost use Rattle.affc_schedtext.specs.Grammar as grammar;
+ghost use Rattle.affc_schedtext.specs.Outline as outline;
 ghost use Rattle.affc_schedtext.specs.Reading as reading;
-ghost use Rattle.affc_schedtext.specs.Seen.{scope_seen};
+ghost use Rattle.affc_schedtext.specs.Seen.{scope_seen, words_seen};
 
-use crate::scope::{Scope, sees};
+use crate::ahead::behind_word;
+use crate::scope::{Scope, Words, first_name, sees};
 use affc_ast::Items;
+use affc_ast::text::Text;
 use affc_draft::draft::IxDraft;
 use affc_draft::symbol::{Symbol, is_word_kind};
 use affc_syntax::ahead::{Answer, Stop, behind, past_mark, past_word};
@@ -191,4 +194,76 @@ pub(crate) fn free(
 {
     let (first, next) = form_more(alloc, room, scope, Items::new(alloc), symbols, next)?;
     more_free(alloc, room, scope, first, symbols, next)
+}
+
+/// Inverse forms of these words, in this order, behind others.
+fn given(
+    alloc: Global,
+    room: u32,
+    scope: Scope<'_>,
+    word: &str,
+    others: &[Text],
+    forms: Items<IxDraft>,
+    symbols: &[Symbol<'_>],
+    next: usize,
+) -> Answer<Items<IxDraft>>
+    ensures { Gives (map seen symbols.now) (map ix) result (drafting.given (length symbols.now) room (scope_seen scope.entry) word.now others.now (map ix forms) (drop next (map seen symbols.now))) }
+{
+    match first_name(others) {
+        None => {
+            let next = behind_word(word.as_bytes(), symbols, next)?;
+            entry(alloc, room, scope, forms, symbols, next)
+        }
+        Some((second, rest)) => {
+            let next = behind_word(word.as_bytes(), symbols, next)?;
+            let (forms, next) = entry(alloc, room, scope, forms, symbols, next)?;
+            let next = behind(b",", symbols, next)?;
+            given(alloc, room, scope, second, rest, forms, symbols, next)
+        }
+    }
+}
+
+/// Inverse forms of any words.
+fn any_entries(
+    alloc: Global,
+    room: u32,
+    scope: Scope<'_>,
+    symbols: &[Symbol<'_>],
+    next: usize,
+) -> Answer<Items<IxDraft>>
+    ensures { Gives (map seen symbols.now) (map ix) result (drafting.entries (length symbols.now) room (scope_seen scope.entry) outline.any (drop next (map seen symbols.now))) }
+{
+    match past_word(symbols, next) {
+        Some((_, next)) => {
+            let next = behind(b"=", symbols, next)?;
+            free(alloc, room, scope, symbols, next)
+        }
+        None => Err(Stop::At(next)),
+    }
+}
+
+/// The inverse forms that stand here, with these words.
+pub(crate) fn entries(
+    alloc: Global,
+    room: u32,
+    scope: Scope<'_>,
+    words: Words<'_>,
+    symbols: &[Symbol<'_>],
+    next: usize,
+) -> Answer<Items<IxDraft>>
+    ensures { Gives (map seen symbols.now) (map ix) result (drafting.entries (length symbols.now) room (scope_seen scope.entry) (words_seen words.entry) (drop next (map seen symbols.now))) }
+{
+    match words {
+        Words::These { first, others } => given(
+            alloc,
+            room,
+            scope,
+            first,
+            others,
+            Items::new(alloc),
+            symbols,
+            next,
+        ),
+        Words::Any => any_entries(alloc, room, scope, symbols, next),
+    }
 }

@@ -1,9 +1,15 @@
 //! What holds of every schedule's text: each function here is a statement, proved.
 
-ghost use Rattle.std.specs.Prelude.{◌≡◌, ◌≤◌, ℕ, List, [], length, Ok, Err};
+ghost use Rattle.std.specs.Prelude.{◌≡◌, ◌≤◌, ℕ, List, [], length, map, true, Ok, Err};
+ghost use Rattle.affc_ast.specs.declared.tree.Program.{Program};
+ghost use Rattle.affc_trace.specs.Target.{loops_round, numbers_in, IsScheduleOf, within_limits};
 ghost use Rattle.affc_grammar.specs.Grammar.{Symbol};
 ghost use Rattle.affc_grammar.specs.Reader.{At, Deep};
-ghost use Rattle.affc_schedtext.specs.Outline.{Outline};
+ghost use Rattle.affc_schedtext.specs.declared.plan.Plan.{Plan};
+ghost use Rattle.affc_schedtext.specs.declared.plan.SchedFault.{SchedFault};
+ghost use Rattle.affc_schedtext.specs.declared.plan.SchedFault.TheVariants.{Memory};
+ghost use Rattle.affc_schedtext.specs.Answers.{PlanReads, IsFault};
+ghost use Rattle.affc_schedtext.specs.Outline.{Outline, outline};
 ghost use Rattle.affc_schedtext.specs.Grammar.{Text, text_symbols, StopsAt};
 ghost use Rattle.affc_schedtext.specs.Reading.{read_text};
 
@@ -20,4 +26,22 @@ pub fn texts_are_read()
     ensures stopped { (o : Outline) (room : ℕ) (ss rest : List Symbol) → read_text o room ss ≡ Err (At rest) → StopsAt o ss rest }
     // Room for as many open brackets as there are symbols is enough.
     ensures enough { (o : Outline) (room : ℕ) (ss : List Symbol) → length ss ≤ room → read_text o room ss ≡ Err Deep → ⊥ }
+{}
+
+/// A text that reads as a plan has no fault but want of memory.
+pub fn plans_exclude_faults()
+    ensures { (text : List ℕ) (program : Program) (plan : Plan) (fault : SchedFault) → PlanReads text program plan → IsFault text program fault → fault ≡ Memory }
+{}
+
+/// An outline has an iterator for each loop round each statement, and a name for each number parameter.
+pub fn outlines_are_whole()
+    ensures loops { (program : Program) → map length (outline program).statements ≡ loops_round program }
+    ensures parameters { (program : Program) → length (outline program).parameters ≡ numbers_in program.params }
+{}
+
+/// The schedule of a plan is one of the program: a map for each statement, over its columns, with as many components as the
+/// time has. It is within the limits.
+pub fn plans_are_scheduled()
+    ensures schedules { (text : List ℕ) (program : Program) (plan : Plan) → PlanReads text program plan → IsScheduleOf program plan.schedule }
+    ensures limits { (text : List ℕ) (program : Program) (plan : Plan) → PlanReads text program plan → within_limits plan.schedule ≡ true }
 {}

@@ -1,6 +1,6 @@
 //! Which names may stand in the forms of a line.
 
-ghost use Rattle.std.specs.Prelude.{◌≡◌, ◌∷◌, [], is_some, true, nat_lt, Some, None, if◌then◌else◌};
+ghost use Rattle.std.specs.Prelude.{◌≡◌, ◌∷◌, [], is_some, true, nat_lt, Some, None, MatchOption, if◌then◌else◌};
 ghost use Rattle.std.specs.List.{list_all};
 ghost use Rattle.affc_lex.specs.Bytes.{decimal, is_digit as digit};
 ghost use Rattle.affc_lex.specs.Pieces as pieces;
@@ -30,6 +30,31 @@ pub enum Scope<'o> {
     Row(u64),
     /// The rows' values, `y0`, `y1`, ..
     Back(u64),
+}
+
+/// The words before the `=`s of inverse forms: these in this order, or any.
+#[derive(Clone, Copy, Drop)]
+pub enum Words<'o> {
+    These { first: &'o str, others: &'o [Text] },
+    Any,
+}
+
+/// What may stand in the two lists of a line.
+#[derive(Clone, Copy, Drop)]
+pub struct Lists<'o> {
+    pub there: Scope<'o>,
+    pub back: Scope<'o>,
+    pub words: Words<'o>,
+}
+
+/// The first of the names, and the others.
+pub(crate) fn first_name<'o>(names: &'o [Text]) -> Option<(&'o str, &'o [Text])>
+    ensures { MatchOption result (names.now ≡ []) (λ p. names.now ≡ p.0.now ∷ p.1.now) }
+{
+    match names.split_first() {
+        Some((first, others)) => Some((first.as_str(), others)),
+        None => None,
+    }
 }
 
 fn all_digits(bytes: &[u8]) -> bool

@@ -1,0 +1,101 @@
+-- Walks over a program's tree: what is found further on stands behind what was found.
+use Rattle.std.proofs.Common.{◌≡◌, ℕ, suc, ◌+◌, ◌<◌, Bool, false, true, List, [], ◌∷◌, ◌++◌, map, length, drop, get_or, drop-cons, refl, sym, ap, ◌∙◌, arith, append_assoc, append-nil, flat_map}
+use Rattle.std.proofs.lemmas.List.{map-append}
+use Rattle.affc_ast.specs.declared.tree.Decl.{Decl}
+use Rattle.affc_ast.specs.declared.tree.Param.{Param}
+use Rattle.affc_ast.specs.declared.tree.Param.TheVariants.{Number, Array}
+use Rattle.affc_ast.specs.declared.tree.Stmt.{Stmt, out-Stmt, map-Stmt, the_lemmas as stmt_lemmas}
+use Rattle.affc_ast.specs.declared.tree.Stmt.TheOpen as layer
+use Rattle.affc_ast.specs.declared.tree.Stmt.TheOpen.{Stmt-F}
+use Rattle.affc_ast.specs.declared.tree.Stmt.TheVariants as c
+use Rattle.affc_ast.specs.Meaning.{arrays_of}
+use Rattle.affc_ast.specs.Recursion.{by_stmt}
+use Rattle.affc_ast.specs.Trace.{joined}
+use Rattle.affc_ast.proofs.Outs.{by_stmt_out}
+use Rattle.affc_domain.specs.Rounds.{Round, Loop, Test, rounds_step}
+use Rattle.affc_grammar.specs.Grammar.{Name}
+use Rattle.affc_schedtext.specs.Outline.{ArrayOutline, array_outline, number_names, iterators_in}
+use Rattle.affc_schedtext.specs.Walking.{iterators_under}
+
+pub ruleset ends = (append-nil)
+
+pub front : {A : Type 0} (xs : List A) (i : ℕ) (x : A) → i < length xs → x ≡ get_or xs i x → drop i xs ≡ x ∷ drop (i + 1) xs
+front xs i x h e =
+    let next : suc i ≡ i + 1 = omega arith in
+    drop-cons xs i x h ∙ ap (λ z. z ∷ drop (suc i) xs) (sym e) ∙ ap (λ n. x ∷ drop n xs) next
+
+-- one more of a list, where each adds its own behind the others
+module _ {A B : Type 0} (f : List A → List B) (split : (x : A) (xs : List A) → f (x ∷ xs) ≡ f (x ∷ []) ++ f xs) where
+  pub one_on : (xs : List A) (i : ℕ) (x : A) (o p : List B) → i < length xs → x ≡ get_or xs i x → p ≡ o ++ f (x ∷ []) → p ++ f (drop (i + 1) xs) ≡ o ++ f (drop i xs)
+  one_on xs i x o p h e g =
+      ap (λ l. l ++ f (drop (i + 1) xs)) g
+      ∙ append_assoc o (f (x ∷ [])) (f (drop (i + 1) xs))
+      ∙ ap (λ l. o ++ l) (sym (ap f (front xs i x h e) ∙ split x (drop (i + 1) xs)))
+
+pub numbers_split : (p : Param) (ps : List Param) → number_names (p ∷ ps) ≡ number_names (p ∷ []) ++ number_names ps
+numbers_split (Number name low high) ps = refl
+numbers_split (Array decl) ps = refl
+
+pub arrays_split : (p : Param) (ps : List Param) → map (array_outline false) (arrays_of (p ∷ ps)) ≡ map (array_outline false) (arrays_of (p ∷ [])) ++ map (array_outline false) (arrays_of ps)
+arrays_split (Number name low high) ps = refl
+arrays_split (Array decl) ps = refl
+
+pub temporaries_split : (d : Decl) (ds : List Decl) → map (array_outline true) (d ∷ ds) ≡ map (array_outline true) (d ∷ []) ++ map (array_outline true) ds
+temporaries_split d ds = refl
+
+-- ---- Statements
+
+abbrev all_rounds : List Stmt → List (List Round)
+all_rounds ss = joined (map (by_stmt rounds_step) ss)
+
+pub under_split : (around : List Name) (s : Stmt) (ss : List Stmt) → iterators_under around (all_rounds (s ∷ ss)) ≡ iterators_under around (all_rounds (s ∷ [])) ++ iterators_under around (all_rounds ss)
+under_split around s ss =
+    map-append (λ rs. around ++ iterators_in rs) (by_stmt rounds_step s) (all_rounds ss)
+    ∙ ap (λ l. iterators_under around l ++ iterators_under around (all_rounds ss)) (sym (append-nil (by_stmt rounds_step s)))
+
+pub one_under : (around : List Name) (s : Stmt) → iterators_under around (by_stmt rounds_step s) ≡ iterators_under around (all_rounds (s ∷ []))
+one_under around s = ap (iterators_under around) (sym (append-nil (by_stmt rounds_step s)))
+
+under_loop : (around : List Name) (iter : Name) (low : _) (rel : _) (high : _) (rss : List (List Round)) → iterators_under (around ++ iter ∷ []) rss ≡ iterators_under around (map (λ rs. Loop iter low rel high ∷ rs) rss)
+under_loop around iter low rel high [] = refl
+under_loop around iter low rel high (rs ∷ rss) = (λ i. append_assoc around (iter ∷ []) (iterators_in rs) i ∷ under_loop around iter low rel high rss i)
+
+under_test : (around : List Name) (conds : _) (rss : List (List Round)) → iterators_under around rss ≡ iterators_under around (map (λ rs. Test conds ∷ rs) rss)
+under_test around conds [] = refl
+under_test around conds (rs ∷ rss) = ap (λ l. (around ++ iterators_in rs) ∷ l) (under_test around conds rss)
+
+unrolled : (s : Stmt) (z : Stmt-F Stmt) → out-Stmt s ≡ z → by_stmt rounds_step s ≡ rounds_step (map-Stmt Stmt (List (List Round)) (by_stmt rounds_step) z)
+unrolled s z e = by_stmt_out rounds_step s ∙ ap (λ y. rounds_step (map-Stmt Stmt (List (List Round)) (by_stmt rounds_step) y)) e
+
+pub for_under : (around inside : List Name) (s : Stmt) (iter : _) (low : _) (rel : _) (high : _) (body ss : List Stmt) → s ≡ c.For iter low rel high body → inside ≡ around ++ iter ∷ [] → ss ≡ body
+    → iterators_under inside (all_rounds ss) ≡ iterators_under around (by_stmt rounds_step s)
+for_under around inside s iter low rel high body ss g e q =
+    (λ i. iterators_under (e i) (all_rounds (q i)))
+    ∙ under_loop around iter low rel high (all_rounds body)
+    ∙ ap (iterators_under around) (sym (unrolled s (layer.For iter low rel high body) (ap out-Stmt g ∙ simp stmt_lemmas)))
+
+pub if_under : (around : List Name) (s : Stmt) (conds : _) (body ss : List Stmt) → s ≡ c.If conds body → ss ≡ body → iterators_under around (all_rounds ss) ≡ iterators_under around (by_stmt rounds_step s)
+if_under around s conds body ss g q =
+    (λ i. iterators_under around (all_rounds (q i)))
+    ∙ under_test around conds (all_rounds body)
+    ∙ ap (iterators_under around) (sym (unrolled s (layer.If conds body) (ap out-Stmt g ∙ simp stmt_lemmas)))
+
+pub assign_under : (around own : List Name) (s : Stmt) (op : _) (array : _) (subs : _) (value : _) → s ≡ c.Assign op array subs value → own ≡ around → own ∷ [] ≡ iterators_under around (by_stmt rounds_step s)
+assign_under around own s op array subs value g e =
+    ap (λ l. l ∷ []) (e ∙ sym (append-nil around))
+    ∙ ap (iterators_under around) (sym (unrolled s (layer.Assign op array subs value) (ap out-Stmt g ∙ simp stmt_lemmas)))
+
+pub block_under : (around : List Name) (s : Stmt) (locals : _) (body ss : List Stmt) → s ≡ c.Block locals body → ss ≡ body → iterators_under around (all_rounds ss) ≡ iterators_under around (by_stmt rounds_step s)
+block_under around s locals body ss g q =
+    (λ i. iterators_under around (all_rounds (q i)))
+    ∙ ap (iterators_under around) (sym (unrolled s (layer.Block locals body) (ap out-Stmt g ∙ simp stmt_lemmas)))
+
+joined_is : (ss : List Stmt) → all_rounds ss ≡ flat_map (by_stmt rounds_step) ss
+joined_is [] = refl
+joined_is (s ∷ ss) = ap (λ l. by_stmt rounds_step s ++ l) (joined_is ss)
+
+-- with none round them
+pub under_none : (ss : List Stmt) → iterators_under [] (all_rounds ss) ≡ map iterators_in (flat_map (by_stmt rounds_step) ss)
+under_none ss = ap (map iterators_in) (joined_is ss)
+
+pub ruleset wholes = (under_none)
