@@ -1,17 +1,17 @@
 -- A form is an expression among the symbols before the first name that is not seen.
-use Rattle.std.proofs.Common.{◌≡◌, ℕ, zero, suc, ◌+◌, ◌-◌, ◌≤◌, ◌<◌, Bool, true, false, List, [], ◌∷◌, ◌++◌, length, take, drop, map, get_or, Result, Ok, Err, refl, sym, ap, ◌∙◌, subst, cond, arith, append_assoc, length-append, length-drop}
+use Rattle.std.proofs.Common.{◌≡◌, ℕ, zero, suc, ◌+◌, ◌≤◌, ◌<◌, true, false, List, [], ◌∷◌, ◌++◌, length, take, drop, map, get_or, Result, Ok, Err, refl, sym, ap, ◌∙◌, cond, arith, append_assoc, length-append, length-drop}
 use Rattle.std.proofs.lemmas.List.{take-append-drop, drop-append-le, length-map, take-map}
 use Rattle.std.proofs.Math.Seq.{drop-append_seam}
-use Rattle.affc_grammar.specs.Grammar.{Symbol, IxText}
+use Rattle.affc_grammar.specs.Grammar.{Symbol}
 use Rattle.affc_grammar.specs.Draft as g
 use Rattle.affc_grammar.specs.Draft.{ix_draft}
-use Rattle.affc_grammar.specs.Reader.{At, Deep, Read, after, either, fail}
+use Rattle.affc_grammar.specs.Reader.{At, after, either, fail}
 use Rattle.affc_grammar.specs.Reading.{read_ix}
 use Rattle.affc_draft.specs.declared.symbol.Symbol as code
 use Rattle.affc_draft.specs.Symbols.{seen}
 use Rattle.affc_syntax.specs.declared.ahead.Stop as stop
 use Rattle.affc_syntax.specs.declared.ahead.Stop.TheVariants as s
-use Rattle.affc_syntax.specs.Readers.{Gives, Fails, IsWithin, mapped}
+use Rattle.affc_syntax.specs.Readers.{Gives, IsWithin, mapped}
 use Rattle.affc_syntax.proofs.Draws.{at_number}
 use Rattle.affc_syntax.proofs.Readers.{first_is}
 use Rattle.affc_schedtext.specs.Outline.{Scope}

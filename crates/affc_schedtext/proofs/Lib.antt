@@ -21,3 +21,4 @@ pub mod Counted
 pub mod Scheduled
 pub mod Empty
 pub mod Slight
+pub mod FoldedArrays

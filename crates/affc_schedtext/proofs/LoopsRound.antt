@@ -12,7 +12,7 @@ use Rattle.affc_ast.specs.Trace.{joined}
 use Rattle.affc_ast.proofs.Steps.{row_of, unrolled, flat_unrolled}
 use Rattle.affc_trace.specs.Target.{each_round, loops_step, loops_round, numbers_in}
 use Rattle.affc_domain.specs.Rounds.{Round, Loop, Test, rounds_step}
-use Rattle.affc_schedtext.specs.Outline.{Outline, outline, number_names, iterators_in}
+use Rattle.affc_schedtext.specs.Outline.{outline, number_names, iterators_in}
 
 abbrev depth_in : (depth : ℕ) → List Round → ℕ
 depth_in depth rs = depth + length (iterators_in rs)

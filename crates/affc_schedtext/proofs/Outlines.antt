@@ -1,5 +1,5 @@
 -- Arrays by their names, and the names of subscripts.
-use Rattle.std.proofs.Common.{◌≡◌, ℕ, zero, suc, ◌+◌, ◌-◌, ◌<◌, not, nat_lt, cond, List, [], ◌∷◌, ◌++◌, length, map, Some, None, codes, refl, sym, ap, ◌∙◌, arith, append_assoc}
+use Rattle.std.proofs.Common.{◌≡◌, ℕ, zero, suc, ◌+◌, ◌-◌, ◌<◌, not, nat_lt, cond, List, [], ◌∷◌, ◌++◌, map, Some, None, codes, refl, sym, ap, ◌∙◌, arith, append_assoc}
 use Rattle.std.specs.Prelude.{decimal as digits_of}
 use Rattle.std.specs.List.{prefix_len, position as position_by}
 use Rattle.std.proofs.lemmas.List.{length-map}

@@ -1,9 +1,9 @@
 -- The schedule of a plan is one of the program, and within the limits.
-use Rattle.std.proofs.Common.{◌≡◌, ℕ, zero, suc, ◌+◌, ◌<◌, ◌≤◌, Bool, true, false, not, ◌&&◌, ◌==◌, nat_le, List, [], ◌∷◌, ◌++◌, length, map, flat_map, slice_get, All, Option, Some, None, refl, sym, ap, ◌∙◌, subst, ◌⊎◌, inl, inr, arith}
+use Rattle.std.proofs.Common.{◌≡◌, ℕ, zero, suc, ◌+◌, ◌<◌, ◌≤◌, true, not, ◌&&◌, ◌==◌, nat_le, List, [], ◌∷◌, ◌++◌, length, map, flat_map, slice_get, All, Option, Some, None, refl, sym, ap, ◌∙◌, subst, ◌⊎◌, inl, inr, arith}
 use Rattle.std.proofs.lemmas.Bool.{eqb-true, and_parts, and_from, or_cases, leb-true, false≢true}
 use Rattle.std.proofs.lemmas.Option.{none-some}
 use Rattle.std.proofs.lemmas.List.{length-map}
-use Rattle.affc_rows.specs.Forms.{Affine, columns_of}
+use Rattle.affc_rows.specs.Forms.{columns_of}
 use Rattle.affc_ast.specs.declared.tree.Program.{Program}
 use Rattle.affc_trace.specs.declared.schedule.TimeMap.{TimeMap}
 use Rattle.affc_trace.specs.declared.schedule.Schedule.{Schedule}
@@ -16,8 +16,8 @@ use Rattle.affc_grammar.specs.Limits.{at_if}
 use Rattle.affc_schedtext.specs.declared.plan.Plan.{Plan}
 use Rattle.affc_schedtext.specs.Outline.{Outline, outline, statement_of, iterators_of}
 use Rattle.affc_schedtext.specs.Draft.{LineDraft, OrderDraft, source, time, text_draft}
-use Rattle.affc_schedtext.specs.Rules.{Columns, form_over, over_columns, time_columns, iterators_or_none, statement_sides, there_forms, back_forms, is_in, wrong_statements, statements_in, has_all, large_forms, large_sides, is_length, Breach, statement, length_of_line, limit, fold_breaches, fold_limits, order_breaches}
-use Rattle.affc_schedtext.specs.Answers.{Keeps, IsMapOfLine, AreMapsOfLines, IsScheduleOfOrder, PlanReads}
+use Rattle.affc_schedtext.specs.Rules.{Columns, form_over, over_columns, time_columns, iterators_or_none, statement_sides, is_in, wrong_statements, statements_in, has_all, large_forms, large_sides, is_length, statement, length_of_line, limit, fold_breaches, fold_limits, order_breaches}
+use Rattle.affc_schedtext.specs.Answers.{IsMapOfLine, AreMapsOfLines, IsScheduleOfOrder, PlanReads}
 use Rattle.affc_schedtext.proofs.Counted.{Each, each_middle, HasInverses, HaveInverses, text_counts}
 use Rattle.affc_schedtext.proofs.Empty.{none_left, none_right, map_none, flat_middle, kept_if}
 use Rattle.affc_schedtext.proofs.Excludes.{all_middle}

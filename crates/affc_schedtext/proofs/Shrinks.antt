@@ -1,7 +1,7 @@
 -- The readers of drafts leave no more tokens than they were given.
 use Rattle.std.proofs.Common.{◌≡◌, Bool, true, false, ℕ, ◌-◌, ◌≤◌, List, [], ◌∷◌, ◌++◌, length, Ok, Err, if◌then◌else◌, refl, arith, codes, length-append, ap, ◌+◌}
 use Rattle.affc_lex.specs.Bytes.{same}
-use Rattle.affc_grammar.specs.Grammar.{Symbol, Name, IxText}
+use Rattle.affc_grammar.specs.Grammar.{Symbol, Name}
 use Rattle.affc_grammar.specs.Draft.{IxDraft, WordDraft, word_draft, ix_draft}
 use Rattle.affc_grammar.specs.Reader.{At, Deep, Read, then_read, going, done}
 use Rattle.affc_grammar.specs.Reading.{this_mark, this_word, any_word, read_ix}

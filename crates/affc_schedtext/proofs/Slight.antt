@@ -1,5 +1,5 @@
 -- Forms whose parts are within the limits are so themselves.
-use Rattle.std.proofs.Common.{◌≡◌, ℕ, zero, suc, ◌+◌, ◌^◌, ℤ, pos, negsuc, ◌+ℤ◌, ◌*ℤ◌, neg_ℤ, nat_abs, nat_le, Bool, true, not, ◌&&◌, List, [], ◌∷◌, ◌++◌, map, replicate, refl, sym, ap, subst, ◌∙◌, arith}
+use Rattle.std.proofs.Common.{◌≡◌, ℕ, zero, suc, ◌^◌, ℤ, pos, negsuc, ◌+ℤ◌, ◌*ℤ◌, neg_ℤ, nat_abs, nat_le, Bool, true, not, ◌&&◌, List, [], ◌∷◌, ◌++◌, map, replicate, refl, ap, ◌∙◌, arith}
 use Rattle.std.proofs.lemmas.Bool.{and_parts, and_from, false≢true}
 use Rattle.std.proofs.lemmas.Int.{ints}
 use Rattle.affc_rows.specs.Forms.{Affine, mixed, mixed_form}

@@ -1,16 +1,16 @@
 -- A whole draft is read only where the text ends.
-use Rattle.std.proofs.Common.{◌≡◌, ℕ, zero, suc, ◌-◌, Bool, true, false, List, [], ◌∷◌, ◌++◌, length, Option, Some, None, Ok, Err, if◌then◌else◌, refl, sym, ◌∙◌, codes}
+use Rattle.std.proofs.Common.{◌≡◌, ℕ, zero, suc, ◌-◌, Bool, true, false, List, [], ◌∷◌, ◌++◌, length, Option, Some, None, Ok, Err, if◌then◌else◌, sym, ◌∙◌, codes}
 use Rattle.affc_lex.specs.Bytes.{same}
 use Rattle.affc_grammar.specs.Grammar.{Symbol}
 use Rattle.affc_grammar.specs.Draft.{IxDraft, WordDraft, word_draft}
-use Rattle.affc_grammar.specs.Reader.{Stop, At, Deep, Read, Reader, then_read, Turn, going, done}
+use Rattle.affc_grammar.specs.Reader.{At, Read, Reader, then_read, Turn, going, done}
 use Rattle.affc_grammar.specs.Reading.{this_mark, this_word, any_word}
 use Rattle.affc_grammar.proofs.Closed.{then_ok, same_ok}
 use Rattle.affc_syntax.specs.Ahead.{past, number_value}
 use Rattle.affc_syntax.specs.Readers.{on_past}
 use Rattle.affc_schedtext.specs.Outline.{Outline, Scope, Words, Presence, never, always, maybe, statement_lists, statement_presence, fold_lists}
 use Rattle.affc_schedtext.specs.Draft.{LineDraft, source, Draft}
-use Rattle.affc_schedtext.specs.Drafting.{Stage, folds, stmts, stmt_forms, fold_forms, line, timed, with_fold, going_on, tries_more, until_done, list, free, entries, ended, fold, next_fold, stmt, next_stmt, stmt_more, stage_more, stages, time_behind, text}
+use Rattle.affc_schedtext.specs.Drafting.{Stage, folds, stmts, stmt_forms, fold_forms, line, timed, with_fold, going_on, tries_more, until_done, list, free, entries, ended, fold, next_fold, stmt, next_stmt, stmt_more, stage_more, stages, text}
 
 -- nothing is left behind what is read
 abbrev AtEnd : {C : Type 0} → Read Symbol C → Type 0

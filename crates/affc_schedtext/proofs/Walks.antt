@@ -14,7 +14,7 @@ use Rattle.affc_ast.specs.Trace.{joined}
 use Rattle.affc_ast.proofs.Outs.{by_stmt_out}
 use Rattle.affc_domain.specs.Rounds.{Round, Loop, Test, rounds_step}
 use Rattle.affc_grammar.specs.Grammar.{Name}
-use Rattle.affc_schedtext.specs.Outline.{ArrayOutline, array_outline, number_names, iterators_in}
+use Rattle.affc_schedtext.specs.Outline.{array_outline, number_names, iterators_in}
 use Rattle.affc_schedtext.specs.Walking.{iterators_under}
 
 pub ruleset ends = (append-nil)

@@ -11,3 +11,4 @@ pub mod Examples
 pub mod Seen
 pub mod ReadAnswers
 pub mod Walking
+pub mod Folded

@@ -1,7 +1,11 @@
 //! What holds of every schedule's text: each function here is a statement, proved.
 
 ghost use Rattle.std.specs.Prelude.{◌≡◌, ◌≤◌, ℕ, List, [], length, map, true, Ok, Err};
+ghost use Rattle.affc_ast.specs.declared.tree.ArrayId.{ArrayId};
 ghost use Rattle.affc_ast.specs.declared.tree.Program.{Program};
+ghost use Rattle.affc_trace.specs.Law.{IsIn};
+ghost use Rattle.affc_trace.specs.Orders.{AreDistinct};
+ghost use Rattle.affc_basis.specs.declared.basis.Basis.{Basis};
 ghost use Rattle.affc_trace.specs.Target.{loops_round, numbers_in, IsScheduleOf, within_limits};
 ghost use Rattle.affc_grammar.specs.Grammar.{Symbol};
 ghost use Rattle.affc_grammar.specs.Reader.{At, Deep};
@@ -11,6 +15,7 @@ ghost use Rattle.affc_schedtext.specs.declared.plan.SchedFault.TheVariants.{Memo
 ghost use Rattle.affc_schedtext.specs.Answers.{PlanReads, IsFault};
 ghost use Rattle.affc_schedtext.specs.Outline.{Outline, outline};
 ghost use Rattle.affc_schedtext.specs.Grammar.{Text, text_symbols, StopsAt};
+ghost use Rattle.affc_schedtext.specs.Folded.{IsBasisIn};
 ghost use Rattle.affc_schedtext.specs.Reading.{read_text};
 
 /// The grammar has one way at most to write a list of symbols.
@@ -44,4 +49,10 @@ pub fn outlines_are_whole()
 pub fn plans_are_scheduled()
     ensures schedules { (text : List ℕ) (program : Program) (plan : Plan) → PlanReads text program plan → IsScheduleOf program plan.schedule }
     ensures limits { (text : List ℕ) (program : Program) (plan : Plan) → PlanReads text program plan → within_limits plan.schedule ≡ true }
+{}
+
+/// The bases of a plan are of different temporaries, with a row for each dimension.
+pub fn plans_fold_temporaries()
+    ensures different { (text : List ℕ) (program : Program) (plan : Plan) → PlanReads text program plan → AreDistinct (map (λ (f : ArrayId × Basis). f.0.0) plan.folds) }
+    ensures each { (text : List ℕ) (program : Program) (plan : Plan) → PlanReads text program plan → (array : ArrayId) (basis : Basis) → IsIn (array, basis) plan.folds → IsBasisIn program array.0 basis }
 {}

@@ -1,4 +1,4 @@
-use Rattle.std.proofs.Common.{arith, sym, ◌∙◌}
+use Rattle.std.proofs.Common.{arith, sym}
 use Rattle.affc_schedtext.specs.Seen.{scope_seen}
 use Rattle.affc_schedtext.proofs.Ends.{seen_on, seen_off}
 use Rattle.affc_schedtext.proofs.forms.seen_end.Goals as goal
