@@ -26,12 +26,12 @@ use Rattle.affc_flow.specs.Questions.{Question, questions_of_load, questions_of_
 use Rattle.affc_flow.proofs.PathLemmas.{parameters_are, reader_stands}
 use Rattle.affc_flow.proofs.NamesLemmas.{tree_names_source}
 
-mapped_at : {A B : Type 0} (f : A → B) (xs : List A) (k : ℕ) (a : A) → slice_get xs k ≡ Some a → slice_get (map f xs) k ≡ Some (f a)
+pub mapped_at : {A B : Type 0} (f : A → B) (xs : List A) (k : ℕ) (a : A) → slice_get xs k ≡ Some a → slice_get (map f xs) k ≡ Some (f a)
 mapped_at f [] k a e = absurd (none-some a e)
 mapped_at f (x ∷ xs) zero a e = ap (λ y. Some (f y)) (same_Some x a e)
 mapped_at f (x ∷ xs) (suc k) a e = mapped_at f xs k a e
 
-front_at : {A : Type 0} (xs ys : List A) (k : ℕ) (a : A) → slice_get xs k ≡ Some a → slice_get (xs ++ ys) k ≡ Some a
+pub front_at : {A : Type 0} (xs ys : List A) (k : ℕ) (a : A) → slice_get xs k ≡ Some a → slice_get (xs ++ ys) k ≡ Some a
 front_at [] ys k a e = absurd (none-some a e)
 front_at (x ∷ xs) ys zero a e = e
 front_at (x ∷ xs) ys (suc k) a e = front_at xs ys k a e

@@ -7,3 +7,9 @@ pub mod OppositeLemmas
 pub mod LatestLemmas
 pub mod HalfLemmas
 pub mod StoreLemmas
+pub mod LastLemmas
+pub mod LaterLemmas
+pub mod AmongLemmas
+pub mod BesideLemmas
+pub mod TreeLemmas
+pub mod FindLemmas

@@ -18,6 +18,7 @@ use Rattle.affc_nest.proofs.QuestionLemmas.{stands_in}
 use Rattle.affc_sched.proofs.LegalLemmas.{Stood, events_are}
 use Rattle.affc_quast.specs.Sources.{loads_in}
 use Rattle.affc_flow.specs.Questions.{Writer, store_of_entry, writer_if, writers}
+use Rattle.affc_flow.specs.Stores.{Writes}
 
 -- ---- The last of a list
 
@@ -67,13 +68,6 @@ in_if false xs a i = absurd i
 to_if : {A : Type 0} (t : Bool) (xs : List A) (a : A) → IsTrue t → IsIn a xs → IsIn a (if t then xs else [])
 to_if true xs a t i = i
 to_if false xs a t i = absurd (cc)
-
--- a statement that can have instances, and its store of the array
-pub record Writes (nest : Nest) (array : ℕ) (e : Entry) (y : Access) : Type 0 where
-  pub among : IsIn e nest.entries
-  pub alive : IsTrue e.alive
-  pub last : store_of_entry e ≡ Some y
-  pub of_array : y.array.0 ≡ array
 
 writer_is : (array : ℕ) (e : Entry) (o : Option Access) (w : Writer) → IsIn w (writer_if array e o) → (w.0 ≡ e) × (o ≡ Some w.1) × (w.1.array.0 ≡ array)
 writer_is array e None w i = absurd i

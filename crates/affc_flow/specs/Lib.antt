@@ -5,3 +5,5 @@ pub mod Opposites
 pub mod Latest
 pub mod Stores
 pub mod Searches
+pub mod Unwritten
+pub mod Finds

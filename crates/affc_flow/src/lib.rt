@@ -4,3 +4,6 @@
 pub mod examples;
 mod greatest;
 pub mod laws;
+pub mod stop;
+
+pub use stop::FlowStop;
