@@ -2,6 +2,7 @@
 use Rattle.std.proofs.Common.{◌≡◌, ℕ, ◌+◌, ◌*◌, ◌^◌, ◌<◌, ◌≤◌, List, length, take, ℤ, pos, sym, subst, ◌∙◌, arith}
 use Rattle.std.specs.Prelude.{unsigned_abs, slice_get, get_or, Some}
 use Rattle.std.specs.List.{All}
+use Rattle.std.proofs.lemmas.List.Elements.{All-weaker}
 use Rattle.std.proofs.lemmas.Option.{slice_get_within, slice_get-get_or}
 use Rattle.affc_rows.specs.Forms.{Affine, value}
 use Rattle.affc_system.specs.Systems.{Rows, IsRow}
@@ -43,6 +44,9 @@ module _ (context : Rows) (ranges : List (ℤ × ℤ)) (extents rows : List Affi
 
   pub over : AreOver systems regions
   over i s r there here = (slices.slices i s r there here).columns
+
+  pub parameters_within : All (λ (s : PairSystem). context.columns ≤ s.system.columns) systems
+  parameters_within = All-weaker (IsConflict context ranges extents) (λ (s : PairSystem). context.columns ≤ s.system.columns) (λ s h. h.parameters) systems ready.conflicts
 
   system_of : (i : ℕ) (r : Region) → slice_get regions i ≡ Some r → (s : PairSystem) × (slice_get systems i ≡ Some s)
   system_of i r here = some_at systems i (subst (λ n. i < n) slices.one_each (slice_get_within regions i r here))

@@ -3,3 +3,4 @@ pub mod Distances
 pub mod Rows
 pub mod Ready
 pub mod Enough
+pub mod Shown

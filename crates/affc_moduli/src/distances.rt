@@ -1,5 +1,5 @@
 //! Distances along a row, and the greatest of them.
-ghost use Rattle.std.specs.Prelude.{◌≡◌, ℕ, ◌^◌, ◌<◌, ◌≤◌, ◌≤ℤ◌, unsigned_abs, pos, Some, IfOk, IfErr, length};
+ghost use Rattle.std.specs.Prelude.{◌≡◌, ℕ, ◌^◌, ◌<◌, ◌≤◌, ◌≤ℤ◌, unsigned_abs, pos, Some, IfOk, IfErr, IfSome, length};
 ghost use Rattle.std.specs.List.{All};
 ghost use Rattle.affc_split.specs.Budgets.{IsLater};
 ghost use Rattle.affc_maximum.specs.Regions.{AreAskable};
@@ -97,6 +97,7 @@ pub fn farthest(
     requires fs_ready { AreAskable regions.now fs.now (pos (2 ^ 53)) }
     requires gs_ready { AreAskable regions.now gs.now (pos (2 ^ 53)) }
     ensures farthest { IfOk result (λ o. IsFarthest pairs.now regions.now row.now.coefs o) }
+    ensures near { IfOk result (λ o. IfSome o (λ f. unsigned_abs f.value ≤ 2 ^ 55)) }
     ensures later { IsLater budget.old budget.new }
     ensures stop { IfErr result (λ e. e ≡ Stop.Budget → budget.new.limit ≡ Some budget.new.spent) }
 {

@@ -8,5 +8,6 @@ pub mod fold;
 mod forms;
 mod row;
 mod slices;
+mod witness;
 
 pub use fold::moduli;

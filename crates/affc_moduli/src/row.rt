@@ -9,11 +9,13 @@ ghost use Rattle.affc_moduli.specs.Slices.{AreSlices};
 ghost use Rattle.affc_moduli.specs.Distances.{AreApartWithin, AreForward, AreBackward, IsFarthest};
 ghost use Rattle.affc_moduli.specs.Rows.{IsDone};
 ghost use Rattle.affc_moduli.specs.Ready.{AreReady};
+ghost use Rattle.affc_moduli.specs.Shown.{other_way, swapped};
 
 use crate::constant::{constant_of, number};
 use crate::distances::{backward, farthest, forward};
 use crate::forms::{chosen, context_region};
 use crate::slices::all_narrowed;
+use crate::witness::first_shown;
 use affc_basis::{Mark, Modulus};
 use affc_maximum::{Found, Region};
 use affc_rows::Form;
@@ -194,6 +196,64 @@ fn modulus_of(
     }
 }
 
+/// Two elements in the other order.
+fn swapped(pair: Option<(Items<i64>, Items<i64>)>) -> Option<(Items<i64>, Items<i64>)>
+    ensures { result ≡ swapped pair }
+{
+    match pair {
+        Some(elements) => Some((elements.1, elements.0)),
+        None => None,
+    }
+}
+
+/// A mark with its elements in the other order.
+fn other_way(mark: Mark) -> Mark
+    ensures { result ≡ other_way mark }
+{
+    match mark {
+        Mark::Least { p, pair } => {
+            let pair = swapped(pair);
+            Mark::Least { p, pair }
+        }
+        Mark::Bound => Mark::Bound,
+    }
+}
+
+/// The modulus with the elements of its mark in the other order.
+fn turned(modulus: Modulus) -> Modulus
+    ensures form { result.form ≡ modulus.form }
+    ensures mark { result.mark ≡ other_way modulus.mark }
+{
+    let form = modulus.form;
+    let mark = other_way(modulus.mark);
+    Modulus { form, mark }
+}
+
+/// The modulus with the elements of its mark in the order in which they are shown.
+fn in_order(
+    pairs: &[PairSystem],
+    context: &System,
+    ranges: &BoxOf,
+    rows: &[Form],
+    k: usize,
+    row: &Form,
+    modulus: Modulus,
+    turns: bool,
+) -> Modulus
+    requires done { IsDone context.now ranges.now pairs.now rows.now k row.now modulus }
+    requires flat { modulus.form.coefs ≡ replicate context.now.columns (pos 0) }
+    ensures done { IsDone context.now ranges.now pairs.now rows.now k row.now result }
+    ensures flat { result.form.coefs ≡ replicate context.now.columns (pos 0) }
+{
+    let _pairs = pairs;
+    let _context = context;
+    let _ranges = ranges;
+    let _rows = rows;
+    let _k = k;
+    let _row = row;
+    if turns { turned(modulus) } else { modulus }
+}
+
 /// The modulus with another form.
 fn with_form(modulus: Modulus, form: Form) -> Modulus
     ensures form { result.form ≡ form }
@@ -280,12 +340,27 @@ fn made(
     ensures later { IsLater budget.old budget.new }
     ensures stop { IfErr result (λ e. e ≡ Stop.Budget → budget.new.limit ≡ Some budget.new.spent) }
 {
+    let parameters = context.columns() as usize;
     let found = farthest(alloc, row, pairs, regions, fs, gs, 1, budget)?;
-    let Ok(constant) = modulus_of(
-        alloc, pairs, extents, context, ranges, rows, k, regions, &found, some, row,
+    let shown = first_shown(
+        alloc, row, pairs, regions, fs, gs, found, parameters, budget,
+    )?;
+    let Ok(modulus) = modulus_of(
+        alloc,
+        pairs,
+        extents,
+        context,
+        ranges,
+        rows,
+        k,
+        regions,
+        &shown.found,
+        some,
+        row,
     ) else {
         return Err(Stop::Memory);
     };
+    let constant = in_order(pairs, context, ranges, rows, k, row, modulus, shown.turned);
     let modulus = formed(
         alloc, pairs, extents, context, ranges, rows, k, regions, row, fs, gs, constant, budget,
     )?;
