@@ -1,0 +1,4 @@
+//! What is printed of a schedule's loops reads as them.
+#![tactic(auto)]
+
+pub mod laws;
