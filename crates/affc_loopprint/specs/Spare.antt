@@ -1,7 +1,8 @@
 -- Programs whose loops can be printed, however they are scheduled.
-use Rattle.std.specs.Prelude.{◌≡◌, ℕ, false, true, List}
+use Rattle.std.specs.Prelude.{◌≡◌, ℕ, false, true, IsTrue, List, Some, slice_get}
 use Rattle.std.specs.List.{All}
 use Rattle.affc_ast.specs.declared.tree.Program.{Program}
+use Rattle.affc_ast.specs.Locals.{has_no_locals}
 use Rattle.affc_ast.specs.Names.{is_reserved}
 use Rattle.affc_cprint.specs.Forms.{program_passes}
 use Rattle.affc_wellnamed.specs.Known.{program_known}
@@ -16,12 +17,13 @@ use Rattle.affc_loopprint.specs.Short.{IsShort}
 abbrev pub HaveFreeNames : List Round → Type 0
 HaveFreeNames rs = All (λ w. is_reserved w ≡ false) (loop_names rs)
 
--- Well named, with iterators that may be locals, and short enough that loops, locals and tests have room beside it.
+-- Well named, without locals, with iterators that may be locals, and short enough that loops, locals and tests have room beside it.
 pub record IsSpare (program : Program) : Type 0 where
   pub known : program_known program ≡ true
   pub plain : program_passes is_plain program ≡ true
   pub fits : program_fits program ≡ true
-  pub iterators : All HaveFreeNames (rounds program)
+  pub bare : IsTrue (has_no_locals program)
+  pub iterators : (k : ℕ) (rs : List Round) → slice_get (rounds program) k ≡ Some rs → HaveFreeNames rs
   pub short : IsShort program
 
 -- the same loops and conditions round the statements, and the same ranges of the parameters

@@ -1,0 +1,163 @@
+-- Where the numbers and products of a program are plain, so are those of its loops.
+use Rattle.std.proofs.Common.{◌≡◌, inl, inr, ℕ, zero, suc, ◌+◌, ◌-◌, ◌^◌, ◌≤◌, ℤ, Bool, true, false, ◌&&◌, List, [], ◌∷◌, length, map, Some, refl, sym, ap, ◌∙◌, arith}
+use Rattle.std.specs.Prelude.{slice_get}
+use Rattle.std.specs.List.{All, list_all}
+use Rattle.std.proofs.lemmas.Bool.{and_parts, and_from}
+use Rattle.affc_rows.specs.Forms.{Affine}
+use Rattle.affc_ast.specs.declared.tree.Compare.{Compare}
+use Rattle.affc_ast.specs.declared.tree.Program.{Program}
+use Rattle.affc_ast.specs.declared.tree.Rel.TheVariants.{LessEqual}
+use Rattle.affc_ast.specs.declared.tree.Stmt.{Stmt}
+use Rattle.affc_ast.specs.declared.tree.Stmt.TheVariants.{For, If, Assign, Block}
+use Rattle.affc_ast.specs.Trace.{Assignment, assignments}
+use Rattle.affc_trace.specs.Law.{IsIn}
+use Rattle.affc_trace.specs.Target.{numbers_in}
+use Rattle.affc_domain.specs.Rounds.{Round, Loop, Test, rounds}
+use Rattle.affc_loops.specs.Limits.{IsSlight}
+use Rattle.affc_loops.specs.Loops.{Piece, loop_names, locals_of, box_tests, time_tests, if_any, loop_tests, guarded, moved_assign, block_of, time_name, loops, body_of}
+use Rattle.affc_loops.specs.Trees.{number, form_tree, moved}
+use Rattle.affc_loops.proofs.Sizes.{Within}
+use Rattle.affc_cprint.proofs.Arms.{for_here, if_here, block_here}
+use Rattle.affc_cprint.proofs.ReadBackValues.{Each}
+use Rattle.affc_cprint.specs.Forms.{compare_passes, local_passes, value_passes, stmt_step, stmt_passes, decl_passes, param_passes, program_passes}
+use Rattle.affc_wellnamed.specs.Plain.{is_plain}
+use Rattle.affc_loopprint.proofs.Entries.{Walk, two_at, entries}
+use Rattle.affc_loopprint.proofs.Fitting.{loops_program}
+use Rattle.affc_loopprint.proofs.Moved.{moved_plain, all_moved_plain, tests_moved_plain, moved_value_plain}
+use Rattle.affc_loopprint.proofs.Sums.{sums_plain, number_has, form_has}
+
+-- ---- By the assignments, and what stands round each
+
+abbrev pub around_plain : List Round → Assignment → Bool
+around_plain [] a = list_all is_plain a.subs && value_passes is_plain a.value
+around_plain (Loop iter low rel high ∷ rs) a = is_plain low && (is_plain high && around_plain rs a)
+around_plain (Test conds ∷ rs) a = list_all (compare_passes is_plain) conds && around_plain rs a
+
+abbrev IsThere : Unit {0} → Stmt → Type 0
+IsThere x s = stmt_passes is_plain s ≡ true
+
+abbrev all_plain : List Stmt → Bool
+all_plain body = list_all (stmt_passes is_plain) body
+
+all_there : (body : List Stmt) → all_plain body ≡ true → Each (IsThere tt) body
+all_there [] h = tt
+all_there (s ∷ body) h = let p = and_parts (stmt_passes is_plain s) (all_plain body) h in (p.0, all_there body p.1)
+
+-- as one test of each
+ids : (body : List Stmt) → list_all (λ (b : Bool). b) (map (stmt_passes is_plain) body) ≡ all_plain body
+ids [] = refl
+ids (s ∷ body) = ap (λ b. stmt_passes is_plain s && b) (ids body)
+
+for_passes : (iter : List ℕ) (low : _) (rel : _) (high : _) (body : List Stmt) → stmt_passes is_plain (For iter low rel high body) ≡ (is_plain low && (is_plain high && all_plain body))
+for_passes iter low rel high body = for_here (stmt_step is_plain) iter low rel high body ∙ ap (λ b. is_plain low && (is_plain high && b)) (ids body)
+
+if_passes : (cs : List Compare) (body : List Stmt) → stmt_passes is_plain (If cs body) ≡ (list_all (compare_passes is_plain) cs && all_plain body)
+if_passes cs body = if_here (stmt_step is_plain) cs body ∙ ap (λ b. list_all (compare_passes is_plain) cs && b) (ids body)
+
+block_passes : (ls : List _) (body : List Stmt) → stmt_passes is_plain (Block ls body) ≡ (list_all (local_passes is_plain) ls && all_plain body)
+block_passes ls body = block_here (stmt_step is_plain) ls body ∙ ap (λ b. list_all (local_passes is_plain) ls && b) (ids body)
+
+walk : Walk IsThere (λ x rs a. around_plain rs a ≡ true) (λ x w. x)
+walk = record {
+  loop = λ x iter low rel high body h.
+      let p = and_parts (is_plain low) _ (sym (for_passes iter low rel high body) ∙ h) in
+      let q = and_parts (is_plain high) (all_plain body) p.1 in
+      (all_there body q.1, λ rs a k. and_from _ _ p.0 (and_from _ _ q.0 k));
+  test = λ x cs body h.
+      let p = and_parts (list_all (compare_passes is_plain) cs) (all_plain body) (sym (if_passes cs body) ∙ h) in
+      (all_there body p.1, λ rs a k. and_from _ _ p.0 k);
+  assign = λ x op array subs value h. h;
+  block = λ x ls body h. all_there body (and_parts (list_all (local_passes is_plain) ls) (all_plain body) (sym (block_passes ls body) ∙ h)).1;
+}
+
+pub all_around : (program : Program) → all_plain program.body ≡ true → (n : ℕ) (rs : List Round) (a : Assignment) → slice_get (rounds program) n ≡ Some rs → slice_get (assignments program) n ≡ Some a → around_plain rs a ≡ true
+all_around program h n rs a e f =
+    two_at (λ qs b. around_plain qs b ≡ true) (rounds program) (assignments program) n rs a (entries IsThere (λ x qs b. around_plain qs b ≡ true) (λ x w. x) walk tt program.body (all_there program.body h)) e f
+
+-- ---- Blocks
+
+any_plain : (cs : List Compare) (body : List Stmt) → list_all (compare_passes is_plain) cs ≡ true → all_plain body ≡ true → all_plain (if_any cs body) ≡ true
+any_plain [] body h k = k
+any_plain (c ∷ cs) body h k = and_from _ true (if_passes (c ∷ cs) body ∙ and_from _ _ h k) refl
+
+box_plain : (from : ℕ) (rs : List (ℤ × ℤ)) → All (Within (2 ^ 31)) rs → list_all (compare_passes is_plain) (box_tests from rs) ≡ true
+box_plain from [] w = refl
+box_plain from (r ∷ rs) w =
+    let e : Within (2 ^ 31) r = w 0 r (omega arith) in
+    let e0 = e.0 in let e1 = e.1 in
+    let low = number_has (λ z. is_plain z ≡ true) 0 (sums_plain 0) r.0 (omega (arith, e0)) in
+    let high = number_has (λ z. is_plain z ≡ true) 0 (sums_plain 0) r.1 (omega (arith, e1)) in
+    and_from _ _ (and_from _ true low refl) (and_from _ _ high (box_plain (suc from) rs (λ i y m. w (suc i) y (omega (arith, m)))))
+
+form_plain : (first from : ℕ) (f : Affine) → IsSlight f → is_plain (form_tree first from f) ≡ true
+form_plain first from f s = let most = first + (from + (length f.coefs - first)) in form_has (λ z. is_plain z ≡ true) most (sums_plain most) first from f s (omega arith) (omega arith)
+
+times_plain : (first from component : ℕ) (fs : List Affine) → All IsSlight fs → list_all (compare_passes is_plain) (time_tests first from component fs) ≡ true
+times_plain first from component [] s = refl
+times_plain first from component (f ∷ fs) s = and_from _ _ (form_plain first from f (s 0 f (omega arith))) (times_plain first from (suc component) fs (λ i y k. s (suc i) y (omega (arith, k))))
+
+locals_plain : (first : ℕ) (ws : List (List ℕ)) (gs : List Affine) → All IsSlight gs → list_all (local_passes is_plain) (locals_of first ws gs) ≡ true
+locals_plain first [] gs s = refl
+locals_plain first (w ∷ ws) [] s = refl
+locals_plain first (w ∷ ws) (g ∷ gs) s = and_from _ _ (form_plain first first g (s 0 g (omega arith))) (locals_plain first ws gs (λ i y k. s (suc i) y (omega (arith, k))))
+
+guarded_plain : (first more from : ℕ) (rs : List Round) (a : Assignment) → around_plain rs a ≡ true → all_plain (guarded first more from rs (moved_assign first more a ∷ [])) ≡ true
+guarded_plain first more from [] a h =
+    let p = and_parts (list_all is_plain a.subs) _ h in
+    and_from _ true (and_from _ _ (all_moved_plain first more a.subs ∙ p.0) (moved_value_plain first more a.value ∙ p.1)) refl
+guarded_plain first more from (Loop iter low rel high ∷ rs) a h =
+    let p = and_parts (is_plain low) _ h in
+    let q = and_parts (is_plain high) _ p.1 in
+    any_plain (loop_tests first more from (Loop iter low rel high)) (guarded first more (suc from) rs (moved_assign first more a ∷ []))
+    (and_from _ _ (and_from _ true (moved_plain first more low ∙ p.0) refl) (and_from _ true (moved_plain first more high ∙ q.0) refl)) (guarded_plain first more (suc from) rs a q.1)
+guarded_plain first more from (Test conds ∷ rs) a h =
+    let p = and_parts (list_all (compare_passes is_plain) conds) _ h in
+    any_plain (loop_tests first more from (Test conds)) (guarded first more from rs (moved_assign first more a ∷ [])) (tests_moved_plain first more conds ∙ p.0) (guarded_plain first more from rs a p.1)
+
+-- what is asked of a statement
+pub record Slight (e : Piece) : Type 0 where
+  pub near : All (Within (2 ^ 31)) e.ranges
+  pub slight : All IsSlight e.times.forms
+  pub inverse_slight : All IsSlight e.times.inverse
+  pub around : around_plain e.around e.assignment ≡ true
+
+block_plain : (first more : ℕ) (e : Piece) → Slight e → stmt_passes is_plain (block_of first more e) ≡ true
+block_plain first more e s =
+    let from = first + more in
+    let ls = locals_of first (loop_names e.around) e.times.inverse in
+    let body = if_any (box_tests from e.ranges) (if_any (time_tests first from first e.times.forms) (guarded first more from e.around (moved_assign first more e.assignment ∷ []))) in
+    block_passes ls body
+    ∙ and_from _ _ (locals_plain first (loop_names e.around) e.times.inverse s.inverse_slight)
+    (any_plain (box_tests from e.ranges) _ (box_plain from e.ranges s.near)
+    (any_plain (time_tests first from first e.times.forms) _ (times_plain first from first e.times.forms s.slight) (guarded_plain first more from e.around e.assignment s.around)))
+
+-- ---- The program
+
+blocks_plain : (first more : ℕ) (es : List Piece) → ((e : Piece) → IsIn e es → Slight e) → all_plain (map (block_of first more) es) ≡ true
+blocks_plain first more [] h = refl
+blocks_plain first more (e ∷ es) h = and_from _ _ (block_plain first more e (h e (inl refl))) (blocks_plain first more es (λ f i. h f (inr i)))
+
+all_loops_plain : (rs : List (ℤ × ℤ)) (component most : ℕ) (body : List Stmt) → most ≤ 2 ^ 62 → All (Within most) rs → all_plain body ≡ true → all_plain (loops rs component body) ≡ true
+all_loops_plain [] component most body m w h = h
+all_loops_plain (r ∷ rs) component most body m w h =
+    let e : Within most r = w 0 r (omega arith) in
+    let e0 = e.0 in let e1 = e.1 in
+    let low = number_has (λ z. is_plain z ≡ true) 0 (sums_plain 0) r.0 (omega (arith, e0, m)) in
+    let high = number_has (λ z. is_plain z ≡ true) 0 (sums_plain 0) r.1 (omega (arith, e1, m)) in
+    and_from _ true
+    (for_passes (time_name component) (number r.0) LessEqual (number r.1) (loops rs (suc component) body)
+    ∙ and_from _ _ low (and_from _ _ high (all_loops_plain rs (suc component) most body m (λ i y k. w (suc i) y (omega (arith, k))) h))) refl
+
+body_plain : (first most : ℕ) (ranges : List (ℤ × ℤ)) (es : List Piece) → most ≤ 2 ^ 62 → All (Within most) ranges → ((e : Piece) → IsIn e es → Slight e) → all_plain (body_of first ranges es) ≡ true
+body_plain first most ranges [] m w h = refl
+body_plain first most ranges (e ∷ es) m w h = all_loops_plain ranges 0 most _ m w (blocks_plain first (length ranges) (e ∷ es) h)
+
+-- of a program that passes
+pub body_passes : (program : Program) → program_passes is_plain program ≡ true → all_plain program.body ≡ true
+body_passes program h = (and_parts ((list_all (compare_passes is_plain) program.context && list_all (param_passes is_plain) program.params) && list_all (decl_passes is_plain) program.temps) (all_plain program.body) h).1
+
+pub loops_pass : (program : Program) (most : ℕ) (ranges : List (ℤ × ℤ)) (es : List Piece) → program_passes is_plain program ≡ true → most ≤ 2 ^ 62 → All (Within most) ranges → ((e : Piece) → IsIn e es → Slight e)
+    → program_passes is_plain (loops_program program ranges es) ≡ true
+loops_pass program most ranges es h m w pieces =
+    let p = and_parts ((list_all (compare_passes is_plain) program.context && list_all (param_passes is_plain) program.params) && list_all (decl_passes is_plain) program.temps) (all_plain program.body) h in
+    and_from _ _ p.0 (body_plain (numbers_in program.params) most ranges es m w pieces)

@@ -1,0 +1,162 @@
+-- Where a program keeps the limits on statements, arrays and lines, so do its loops.
+use Rattle.std.proofs.Common.{◌≡◌, inl, inr, ℕ, zero, suc, ◌+◌, ◌≤◌, ℤ, Bool, true, false, ◌&&◌, ◌||◌, nat_le, nat_lt, List, [], ◌∷◌, length, map, Some, refl, sym, ap, subst, ◌∙◌, arith, if◌then◌else◌}
+use Rattle.std.specs.Prelude.{slice_get}
+use Rattle.std.specs.List.{list_all}
+use Rattle.std.proofs.lemmas.Bool.{and_parts, and_from, false≢true, le-leb}
+use Rattle.affc_ast.specs.declared.tree.Compare.{Compare}
+use Rattle.affc_ast.specs.declared.tree.Program.{Program}
+use Rattle.affc_ast.specs.declared.tree.Rel.TheVariants.{LessEqual}
+use Rattle.affc_ast.specs.declared.tree.Stmt.{Stmt}
+use Rattle.affc_ast.specs.declared.tree.Stmt.TheVariants.{For, If, Assign, Block}
+use Rattle.affc_ast.specs.Trace.{Assignment, assignments}
+use Rattle.affc_trace.specs.Law.{IsIn}
+use Rattle.affc_trace.specs.Target.{numbers_in}
+use Rattle.affc_domain.specs.Rounds.{Round, Loop, Test, rounds}
+use Rattle.affc_loops.specs.Loops.{Piece, loop_names, locals_of, box_tests, time_tests, if_any, loop_tests, guarded, moved_assign, block_of, time_name, loops, body_of}
+use Rattle.affc_loops.specs.Trees.{number}
+use Rattle.affc_grammar.specs.Limits.{wide_limits}
+use Rattle.affc_cprint.proofs.Arms.{for_here, if_here, block_here}
+use Rattle.affc_cprint.proofs.ReadBackValues.{Each}
+use Rattle.affc_wellnamed.specs.declared.work.Work.{Work}
+use Rattle.affc_wellnamed.specs.Known.{number_count}
+use Rattle.affc_wellnamed.specs.Shape.{plus}
+use Rattle.affc_wellnamed.specs.Work.{loads, no_work, one_work, both, looped, all_behind, stmt_step, work, stmts_behind, is_bounded, param_fits, has_few, program_fits}
+use Rattle.affc_wellnamed.proofs.ShapeParts.{larger_is}
+use Rattle.affc_loopprint.proofs.Entries.{Walk, two_at, entries}
+use Rattle.affc_loopprint.proofs.Fitting.{loops_program}
+use Rattle.affc_loopprint.proofs.Moved.{moved_value_loads}
+
+-- ---- Few accesses, by the assignments
+
+abbrev pub is_crowded : Assignment → Bool
+is_crowded a = (one_work a.op (loads a.value)).crowded
+
+abbrev IsThere : Unit {0} → Stmt → Type 0
+IsThere x s = (work s).crowded ≡ false
+
+neither : (a b : Bool) → a || b ≡ false → (a ≡ false) × (b ≡ false)
+neither false b e = (refl, e)
+neither true b e = absurd (false≢true (sym e))
+
+all_behind_there : (a : Work) (body : List Stmt) → (stmts_behind a body).crowded ≡ false → (a.crowded ≡ false) × Each (IsThere tt) body
+all_behind_there a [] h = (h, tt)
+all_behind_there a (s ∷ body) h =
+    let p = all_behind_there (both a (work s)) body h in
+    let q = neither a.crowded (work s).crowded p.0 in
+    (q.0, (q.1, p.1))
+
+walk : Walk IsThere (λ x rs a. is_crowded a ≡ false) (λ x w. x)
+walk = record {
+  loop = λ x iter low rel high body h. ((all_behind_there no_work body (ap (λ (w : Work). w.crowded) (sym (for_here stmt_step iter low rel high body)) ∙ h)).1, λ rs a k. k);
+  test = λ x cs body h. ((all_behind_there no_work body (ap (λ (w : Work). w.crowded) (sym (if_here stmt_step cs body)) ∙ h)).1, λ rs a k. k);
+  assign = λ x op array subs value h. h;
+  block = λ x ls body h. (all_behind_there no_work body (ap (λ (w : Work). w.crowded) (sym (block_here stmt_step ls body)) ∙ h)).1;
+}
+
+uncrowded : (b : Bool) → (if b then false else true) ≡ true → b ≡ false
+uncrowded true h = absurd (false≢true h)
+uncrowded false h = refl
+
+-- what stands before the body's work
+abbrev before_body : Program → Bool
+before_body p = nat_le (number_count p.params) 4 && nat_le (length p.context) 16
+
+pub all_free : (program : Program) → program_fits program ≡ true → (n : ℕ) (rs : List Round) (a : Assignment) → slice_get (rounds program) n ≡ Some rs → slice_get (assignments program) n ≡ Some a → is_crowded a ≡ false
+all_free program h n rs a e f =
+    let w = stmts_behind no_work program.body in
+    let p = and_parts (before_body program) _ h in
+    let q = and_parts (list_all param_fits program.params && list_all has_few program.temps) (is_bounded w) p.1 in
+    let r = and_parts (nat_le w.statements 64 && nat_le w.loops wide_limits.loops) (if w.crowded then false else true) q.1 in
+    two_at (λ qs b. is_crowded b ≡ false) (rounds program) (assignments program) n rs a
+    (entries IsThere (λ x qs b. is_crowded b ≡ false) (λ x u. x) walk tt program.body (all_behind_there no_work program.body (uncrowded w.crowded r.1)).1) e f
+
+-- ---- The loops
+
+-- at most so much work
+record IsLight (statements loops : ℕ) (w : Work) : Type 0 where
+  few : w.statements ≤ statements
+  low : w.loops ≤ loops
+  free : w.crowded ≡ false
+
+none_light : IsLight 0 0 no_work
+none_light = record { few = omega arith; low = omega arith; free = refl }
+
+both_free : (a b : Bool) → a ≡ false → b ≡ false → a || b ≡ false
+both_free false b e f = f
+both_free true b e f = e
+
+both_light : (s t l : ℕ) (a b : Work) → IsLight s l a → IsLight t l b → IsLight (s + t) l (both a b)
+both_light s t l a b h k =
+    let x = h.few in let y = k.few in let u = h.low in let v = k.low in
+    let m = larger_is a.loops b.loops in
+    record { few = omega (arith, x, y); low = omega (arith, u, v, m); free = both_free a.crowded b.crowded h.free k.free }
+
+one_light : (s l : ℕ) (w : Work) → IsLight s l w → IsLight s l (both no_work w)
+one_light s l w h = both_light 0 s l no_work w (record { few = omega arith; low = omega arith; free = refl }) h
+
+if_light : (s l : ℕ) (cs : List Compare) (body : List Stmt) → IsLight s l (stmts_behind no_work body) → IsLight s l (stmts_behind no_work (If cs body ∷ []))
+if_light s l cs body h = one_light s l (work (If cs body)) (subst (IsLight s l) (sym (if_here stmt_step cs body)) h)
+
+any_light : (s l : ℕ) (cs : List Compare) (body : List Stmt) → IsLight s l (stmts_behind no_work body) → IsLight s l (stmts_behind no_work (if_any cs body))
+any_light s l [] body h = h
+any_light s l (c ∷ cs) body h = if_light s l (c ∷ cs) body h
+
+guarded_light : (s l first more from : ℕ) (rs : List Round) (body : List Stmt) → IsLight s l (stmts_behind no_work body) → IsLight s l (stmts_behind no_work (guarded first more from rs body))
+guarded_light s l first more from [] body h = h
+guarded_light s l first more from (Loop iter low rel high ∷ rs) body h =
+    any_light s l (loop_tests first more from (Loop iter low rel high)) (guarded first more (suc from) rs body) (guarded_light s l first more (suc from) rs body h)
+guarded_light s l first more from (Test conds ∷ rs) body h = any_light s l (loop_tests first more from (Test conds)) (guarded first more from rs body) (guarded_light s l first more from rs body h)
+
+assign_light : (first more : ℕ) (a : Assignment) → is_crowded a ≡ false → IsLight 1 0 (work (moved_assign first more a))
+assign_light first more a h = record { few = omega arith; low = omega arith; free = ap (λ n. (one_work a.op n).crowded) (moved_value_loads first more a.value) ∙ h }
+
+block_light : (first more : ℕ) (e : Piece) → is_crowded e.assignment ≡ false → IsLight 1 0 (work (block_of first more e))
+block_light first more e h =
+    let from = first + more in
+    let ls = locals_of first (loop_names e.around) e.times.inverse in
+    let alone = moved_assign first more e.assignment ∷ [] in
+    let inner = if_any (time_tests first from first e.times.forms) (guarded first more from e.around alone) in
+    let body = if_any (box_tests from e.ranges) inner in
+    subst (IsLight 1 0) (sym (block_here stmt_step ls body))
+    (any_light 1 0 (box_tests from e.ranges) inner
+    (any_light 1 0 (time_tests first from first e.times.forms) (guarded first more from e.around alone)
+    (guarded_light 1 0 first more from e.around alone (one_light 1 0 (work (moved_assign first more e.assignment)) (assign_light first more e.assignment h)))))
+
+blocks_light : (first more s : ℕ) (a : Work) (es : List Piece) → IsLight s 0 a → ((e : Piece) → IsIn e es → is_crowded e.assignment ≡ false) → IsLight (s + length es) 0 (stmts_behind a (map (block_of first more) es))
+blocks_light first more s a [] h k = record { few = (let f = h.few in omega (arith, f)); low = h.low; free = h.free }
+blocks_light first more s a (e ∷ es) h k =
+    let r = blocks_light first more (s + 1) (both a (work (block_of first more e))) es (both_light s 1 0 a (work (block_of first more e)) h (block_light first more e (k e (inl refl)))) (λ f i. k f (inr i)) in
+    record { few = (let f = r.few in omega (arith, f)); low = r.low; free = r.free }
+
+looped_low : (b : Bool) (n l : ℕ) → n ≤ l → (if b then plus n 1 else 0) ≤ suc l
+looped_low true n l h = omega (arith, h)
+looped_low false n l h = omega arith
+
+looped_light : (s l : ℕ) (w : Work) → IsLight s l w → IsLight s (suc l) (looped w)
+looped_light s l w h = record { few = h.few; low = looped_low (nat_lt 0 w.statements) w.loops l h.low; free = h.free }
+
+loops_light : (s : ℕ) (rs : List (ℤ × ℤ)) (component : ℕ) (body : List Stmt) → IsLight s 0 (stmts_behind no_work body) → IsLight s (length rs) (stmts_behind no_work (loops rs component body))
+loops_light s [] component body h = h
+loops_light s (r ∷ rs) component body h =
+    one_light s (suc (length rs)) (work (For (time_name component) (number r.0) LessEqual (number r.1) (loops rs (suc component) body)))
+    (subst (IsLight s (suc (length rs))) (sym (for_here stmt_step (time_name component) (number r.0) LessEqual (number r.1) (loops rs (suc component) body)))
+    (looped_light s (length rs) (stmts_behind no_work (loops rs (suc component) body)) (loops_light s rs (suc component) body h)))
+
+body_light : (first : ℕ) (ranges : List (ℤ × ℤ)) (es : List Piece) → ((e : Piece) → IsIn e es → is_crowded e.assignment ≡ false) → IsLight (length es) (length ranges) (stmts_behind no_work (body_of first ranges es))
+body_light first ranges [] k = record { few = omega arith; low = omega arith; free = refl }
+body_light first ranges (e ∷ es) k =
+    loops_light (length (e ∷ es)) ranges 0 (map (block_of first (length ranges)) (e ∷ es)) (blocks_light first (length ranges) 0 no_work (e ∷ es) none_light k)
+
+light_bounded : (s l : ℕ) (w : Work) → IsLight s l w → s ≤ 64 → l ≤ 12 → is_bounded w ≡ true
+light_bounded s l w h a b =
+    let f = h.few in let g = h.low in
+    and_from _ _ (and_from _ _ (le-leb w.statements 64 (omega (arith, f, a))) (le-leb w.loops wide_limits.loops (omega (arith, g, b)))) (ap (λ c. if c then false else true) h.free)
+
+pub loops_fit : (program : Program) (ranges : List (ℤ × ℤ)) (es : List Piece) → program_fits program ≡ true → length es ≤ 64 → length ranges ≤ 12 → ((e : Piece) → IsIn e es → is_crowded e.assignment ≡ false)
+    → program_fits (loops_program program ranges es) ≡ true
+loops_fit program ranges es h a b k =
+    let p = and_parts (before_body program) _ h in
+    let q = and_parts (list_all param_fits program.params && list_all has_few program.temps) (is_bounded (stmts_behind no_work program.body)) p.1 in
+    and_from (before_body program) _ p.0
+    (and_from (list_all param_fits program.params && list_all has_few program.temps) _ q.0
+    (light_bounded (length es) (length ranges) _ (body_light (numbers_in program.params) ranges es k) a b))
