@@ -5,3 +5,6 @@ pub mod Fitting
 pub mod KnownAround
 pub mod TimeNames
 pub mod KnownBlocks
+pub mod ShapeMoved
+pub mod ShapeRooms
+pub mod ShapeForms
