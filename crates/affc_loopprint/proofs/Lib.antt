@@ -8,3 +8,8 @@ pub mod KnownBlocks
 pub mod ShapeMoved
 pub mod ShapeRooms
 pub mod ShapeForms
+pub mod ShapeGuards
+pub mod ShapeCalls
+pub mod ShapeBlocks
+pub mod ShapeLoops
+pub mod ShapeReads
