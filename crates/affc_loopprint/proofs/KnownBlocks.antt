@@ -23,7 +23,7 @@ use Rattle.affc_loops.proofs.Sizes.{Within}
 use Rattle.affc_cprint.proofs.Arms.{for_here, if_here, block_here}
 use Rattle.affc_cprint.proofs.Spelled.{off}
 use Rattle.affc_cprint.specs.Forms.{is_none}
-use Rattle.affc_wellnamed.specs.Known.{Known, and_iterator, and_locals, is_new, is_refused, ix_known, compares_known, for_known, if_known, local_known, locals_known, block_known, stmt_step, stmt_known, stmts_known, all_at}
+use Rattle.affc_wellnamed.specs.Known.{Known, and_iterator, and_locals, is_new, is_refused, is_bound, ix_known, compares_known, for_known, if_known, local_known, locals_known, block_known, stmt_step, stmt_known, stmts_known, all_at}
 use Rattle.affc_loopprint.specs.Spare.{HaveFreeNames}
 use Rattle.affc_loopprint.proofs.KnownAround.{around_known}
 use Rattle.affc_loopprint.proofs.Moved.{moved_known, all_moved_known, tests_moved_known, moved_takes, moved_value_known}
@@ -71,7 +71,7 @@ module _ (first more : ℕ) (new : Known) (calls : new.prelude ≡ true) where
       let room : old.numbers + more ≤ new.numbers = omega (arith, l) in
       let p = and_parts (for_known old iter low rel high) _ h in
       let q = and_parts (is_new old true iter) _ p.0 in
-      let r = and_parts _ _ q.1 in
+      let r = and_parts (is_bound rel) (ix_known old low && ix_known old high) q.1 in
       let s = and_parts (ix_known old low) (ix_known old high) r.1 in
       let name : ix_known new (name_at from) ≡ true = lt-ltb from new.numbers (omega (arith, m)) in
       any_there new (loop_tests first more from (Loop iter low rel high)) (guarded first more (suc from) rs (moved_assign first more a ∷ []))

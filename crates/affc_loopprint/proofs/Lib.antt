@@ -2,6 +2,11 @@ pub mod Entries
 pub mod Sums
 pub mod Moved
 pub mod Fitting
-pub mod KnownAround
 pub mod TimeNames
+pub mod KnownAround
 pub mod KnownBlocks
+pub mod KnownHeads
+pub mod Passes
+pub mod Works
+pub mod SpareReads
+pub mod WellNamedLoops

@@ -24,7 +24,7 @@ use Rattle.affc_reprint.proofs.Reprinted.{reads_well_named}
 use Rattle.affc_loopprint.specs.Laws.{ReadsSpare}
 use Rattle.affc_loopprint.specs.Spare.{HaveFreeNames}
 use Rattle.affc_loopprint.proofs.KnownAround.{around_known, all_known, known_body}
-use Rattle.affc_loopprint.proofs.ShapeLaws.{reads_short}
+use Rattle.affc_loopprint.proofs.ShapeReads.{reads_short}
 
 -- without the prelude no name that is kept may be an iterator's
 not_kept : (r p t : Bool) → p ≡ false → not (r && not (true && p && t)) ≡ true → r ≡ false

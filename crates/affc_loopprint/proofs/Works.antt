@@ -92,7 +92,9 @@ both_light s t l a b h k =
     record { few = omega (arith, x, y); low = omega (arith, u, v, m); free = both_free a.crowded b.crowded h.free k.free }
 
 one_light : (s l : ℕ) (w : Work) → IsLight s l w → IsLight s l (both no_work w)
-one_light s l w h = both_light 0 s l no_work w (record { few = omega arith; low = omega arith; free = refl }) h
+one_light s l w h =
+    let r = both_light 0 s l no_work w (record { few = omega arith; low = omega arith; free = refl }) h in
+    let f = r.few in record { few = omega (arith, f); low = r.low; free = r.free }
 
 if_light : (s l : ℕ) (cs : List Compare) (body : List Stmt) → IsLight s l (stmts_behind no_work body) → IsLight s l (stmts_behind no_work (If cs body ∷ []))
 if_light s l cs body h = one_light s l (work (If cs body)) (subst (IsLight s l) (sym (if_here stmt_step cs body)) h)
@@ -145,7 +147,9 @@ loops_light s (r ∷ rs) component body h =
 body_light : (first : ℕ) (ranges : List (ℤ × ℤ)) (es : List Piece) → ((e : Piece) → IsIn e es → is_crowded e.assignment ≡ false) → IsLight (length es) (length ranges) (stmts_behind no_work (body_of first ranges es))
 body_light first ranges [] k = record { few = omega arith; low = omega arith; free = refl }
 body_light first ranges (e ∷ es) k =
-    loops_light (length (e ∷ es)) ranges 0 (map (block_of first (length ranges)) (e ∷ es)) (blocks_light first (length ranges) 0 no_work (e ∷ es) none_light k)
+    let r = blocks_light first (length ranges) 0 no_work (e ∷ es) none_light k in
+    let f = r.few in
+    loops_light (length (e ∷ es)) ranges 0 (map (block_of first (length ranges)) (e ∷ es)) (record { few = omega (arith, f); low = r.low; free = r.free })
 
 light_bounded : (s l : ℕ) (w : Work) → IsLight s l w → s ≤ 64 → l ≤ 12 → is_bounded w ≡ true
 light_bounded s l w h a b =
