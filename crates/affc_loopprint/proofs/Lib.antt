@@ -8,5 +8,8 @@ pub mod KnownBlocks
 pub mod KnownHeads
 pub mod Passes
 pub mod Works
+pub mod ShapeMoved
+pub mod ShapeRooms
+pub mod ShapeForms
 pub mod SpareReads
 pub mod WellNamedLoops
