@@ -13,3 +13,4 @@ pub mod ShapeRooms
 pub mod ShapeForms
 pub mod SpareReads
 pub mod WellNamedLoops
+pub mod ExampleProofs

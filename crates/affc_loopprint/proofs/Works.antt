@@ -2,7 +2,7 @@
 use Rattle.std.proofs.Common.{◌≡◌, inl, inr, ℕ, zero, suc, ◌+◌, ◌≤◌, ℤ, Bool, true, false, ◌&&◌, ◌||◌, nat_le, nat_lt, List, [], ◌∷◌, length, map, Some, refl, sym, ap, subst, ◌∙◌, arith, if◌then◌else◌}
 use Rattle.std.specs.Prelude.{slice_get}
 use Rattle.std.specs.List.{list_all}
-use Rattle.std.proofs.lemmas.Bool.{and_parts, and_from, false≢true, le-leb}
+use Rattle.std.proofs.lemmas.Bool.{and_parts, and_from, or_parts, or_from, false≢true, le-leb}
 use Rattle.affc_ast.specs.declared.tree.Compare.{Compare}
 use Rattle.affc_ast.specs.declared.tree.Program.{Program}
 use Rattle.affc_ast.specs.declared.tree.Rel.TheVariants.{LessEqual}
@@ -34,15 +34,11 @@ is_crowded a = (one_work a.op (loads a.value)).crowded
 abbrev IsThere : Unit {0} → Stmt → Type 0
 IsThere x s = (work s).crowded ≡ false
 
-neither : (a b : Bool) → a || b ≡ false → (a ≡ false) × (b ≡ false)
-neither false b e = (refl, e)
-neither true b e = absurd (false≢true (sym e))
-
 all_behind_there : (a : Work) (body : List Stmt) → (stmts_behind a body).crowded ≡ false → (a.crowded ≡ false) × Each (IsThere tt) body
 all_behind_there a [] h = (h, tt)
 all_behind_there a (s ∷ body) h =
     let p = all_behind_there (both a (work s)) body h in
-    let q = neither a.crowded (work s).crowded p.0 in
+    let q = or_parts a.crowded (work s).crowded p.0 in
     (q.0, (q.1, p.1))
 
 walk : Walk IsThere (λ x rs a. is_crowded a ≡ false) (λ x w. x)
@@ -81,15 +77,11 @@ record IsLight (statements loops : ℕ) (w : Work) : Type 0 where
 none_light : IsLight 0 0 no_work
 none_light = record { few = omega arith; low = omega arith; free = refl }
 
-both_free : (a b : Bool) → a ≡ false → b ≡ false → a || b ≡ false
-both_free false b e f = f
-both_free true b e f = e
-
 both_light : (s t l : ℕ) (a b : Work) → IsLight s l a → IsLight t l b → IsLight (s + t) l (both a b)
 both_light s t l a b h k =
     let x = h.few in let y = k.few in let u = h.low in let v = k.low in
     let m = larger_is a.loops b.loops in
-    record { few = omega (arith, x, y); low = omega (arith, u, v, m); free = both_free a.crowded b.crowded h.free k.free }
+    record { few = omega (arith, x, y); low = omega (arith, u, v, m); free = or_from a.crowded b.crowded h.free k.free }
 
 one_light : (s l : ℕ) (w : Work) → IsLight s l w → IsLight s l (both no_work w)
 one_light s l w h =
