@@ -11,6 +11,11 @@ pub mod Works
 pub mod ShapeMoved
 pub mod ShapeRooms
 pub mod ShapeForms
+pub mod ShapeGuards
+pub mod ShapeCalls
+pub mod ShapeBlocks
+pub mod ShapeLoops
+pub mod ShapeReads
 pub mod SpareReads
 pub mod WellNamedLoops
 pub mod ExampleProofs

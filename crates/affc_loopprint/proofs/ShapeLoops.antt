@@ -1,0 +1,125 @@
+-- The loops of a program whose text is short are printed within the wide limits on tokens, runs, brackets and items.
+use Rattle.std.proofs.Common.{◌≡◌, ℕ, suc, ◌+◌, ◌-◌, ◌*◌, ◌≤◌, ℤ, true, max, List, [], ◌∷◌, length, map, inl, inr, refl, sym, ap, subst, arith}
+use Rattle.std.proofs.lemmas.Bool.{and_from, le-leb}
+use Rattle.affc_ast.specs.declared.tree.Program.{Program}
+use Rattle.affc_ast.specs.declared.tree.Rel.TheVariants.{LessEqual}
+use Rattle.affc_ast.specs.declared.tree.Stmt.{Stmt}
+use Rattle.affc_ast.specs.declared.tree.Stmt.TheVariants.{For}
+use Rattle.affc_ast.proofs.Steps.{for_here}
+use Rattle.affc_grammar.specs.Limits.{wide_limits}
+use Rattle.affc_trace.specs.Law.{IsIn}
+use Rattle.affc_trace.specs.Target.{numbers_in}
+use Rattle.affc_cprint.proofs.ReadBackValues.{Each}
+use Rattle.affc_wellnamed.specs.declared.shape.Extent.{Extent}
+use Rattle.affc_wellnamed.specs.declared.shape.Shape.{Shape}
+use Rattle.affc_wellnamed.specs.Shape.{nothing, whole, both, line, worded, closed, all_behind, for_head, stmt_step, stmt_shape, decls_behind, head_line, lines_shape, function_shape, program_shape, is_bounded}
+use Rattle.affc_wellnamed.proofs.ShapeParts.{larger_is}
+use Rattle.affc_wellnamed.proofs.ShapeStatements.{Numbers, joined, none}
+use Rattle.affc_reprint.proofs.Statements.{numbers_of, total, AtMost, most_both}
+use Rattle.affc_loops.specs.Trees.{number}
+use Rattle.affc_loops.specs.Loops.{Piece, block_of, time_name, loops, body_of}
+use Rattle.affc_loopprint.specs.Short.{IsShort, with_prelude}
+use Rattle.affc_loopprint.proofs.Fitting.{Fitting, loops_program}
+use Rattle.affc_loopprint.proofs.ShapeForms.{Few, number_few}
+use Rattle.affc_loopprint.proofs.ShapeRooms.{Room, Small, room_more, each_so, behind_parts, behind_items, closed_parts, printed, most_then, closed_most}
+use Rattle.affc_loopprint.proofs.ShapeBlocks.{line_most, one_block, piece_most}
+
+-- ---- All blocks
+
+blocks_most : (first more : ℕ) (es : List Piece) → ((e : Piece) → IsIn e es → AtMost (numbers_of (stmt_shape true (block_of first more e))) one_block)
+    → AtMost (total (printed (map (block_of first more) es))) (record { tokens = 251470 * length es; run = 64001; depth = 242; items = 40 * length es })
+blocks_most first more [] h = record { tokens = omega arith; run = omega arith; depth = omega arith; items = omega arith }
+blocks_most first more (e ∷ es) h =
+    let p = h e (inl refl) in
+    let q = blocks_most first more es (λ f i. h f (inr i)) in
+    let t = p.tokens in let r = p.run in let d = p.depth in let i = p.items in
+    let t' = q.tokens in let r' = q.run in let d' = q.depth in let i' = q.items in
+    record { tokens = omega (arith, t, t'); run = omega (arith, r, r'); depth = omega (arith, d, d'); items = omega (arith, i, i') }
+
+-- ---- The loops round them
+
+head_most : (low high : ℤ) → AtMost (numbers_of (for_head true (number low) (number high))) (record { tokens = 17; run = 7; depth = 0; items = 0 })
+head_most low high =
+    let a = line_most 5 2 0 (whole true (number low)) (number_few low) in
+    let b = line_most 2 2 0 (whole true (number high)) (number_few high) in
+    let c = line_most 3 0 0 nothing (record { few = omega arith; shallow = omega arith }) in
+    let ends = both (line 5 (whole true (number low))) (line 2 (whole true (number high))) in
+    let p = most_both ends (line 3 nothing) _ _ (most_both (line 5 (whole true (number low))) (line 2 (whole true (number high))) _ _ a b) c in
+    let t = p.tokens in let r = p.run in let d = p.depth in let i = p.items in
+    record { tokens = omega (arith, t); run = omega (arith, r); depth = omega (arith, d); items = omega (arith, i) }
+
+loop_most : (name : List ℕ) (low high : ℤ) (body : List Stmt) (n : Numbers) → AtMost (total (printed body)) n
+    → AtMost (total (printed (For name (number low) LessEqual (number high) body ∷ []))) (record { tokens = n.tokens + 18; run = max n.run 7; depth = n.depth + 1; items = n.items + 1 })
+loop_most name low high body n h =
+    let head = for_head true (number low) (number high) in
+    let p = closed_most head (record { tokens = 17; run = 7; depth = 0; items = 0 }) (printed body) n (head_most low high) h in
+    let t = p.tokens in let r = p.run in let d = p.depth in let i = p.items in
+    subst (λ s. AtMost (joined (numbers_of s) none) (record { tokens = n.tokens + 18; run = max n.run 7; depth = n.depth + 1; items = n.items + 1 }))
+    (sym (for_here (stmt_step true) name (number low) LessEqual (number high) body))
+    (record { tokens = omega (arith, t); run = omega (arith, r); depth = omega (arith, d); items = omega (arith, i) })
+
+loops_most : (ranges : List (ℤ × ℤ)) (component : ℕ) (body : List Stmt) (n : Numbers) → AtMost (total (printed body)) n
+    → AtMost (total (printed (loops ranges component body))) (record { tokens = n.tokens + 18 * length ranges; run = max n.run 7; depth = n.depth + length ranges; items = n.items + length ranges })
+loops_most [] component body n h =
+    let t = h.tokens in let r = h.run in let d = h.depth in let i = h.items in
+    record { tokens = omega (arith, t); run = omega (arith, r); depth = omega (arith, d); items = omega (arith, i) }
+loops_most (x ∷ ranges) component body n h =
+    let q = loops_most ranges (suc component) body n h in
+    let p = loop_most (time_name component) x.0 x.1 (loops ranges (suc component) body) _ q in
+    let t = p.tokens in let r = p.run in let d = p.depth in let i = p.items in
+    record { tokens = omega (arith, t); run = omega (arith, r); depth = omega (arith, d); items = omega (arith, i) }
+
+-- at most 64 blocks under at most 12 loops
+abbrev all_blocks : Numbers
+all_blocks = record { tokens = 16094296; run = 64001; depth = 254; items = 2572 }
+
+body_most : (first : ℕ) (ranges : List (ℤ × ℤ)) (es : List Piece) → ((e : Piece) → IsIn e es → AtMost (numbers_of (stmt_shape true (block_of first (length ranges) e))) one_block)
+    → length ranges ≤ 12 → length es ≤ 64 → AtMost (total (printed (body_of first ranges es))) all_blocks
+body_most first ranges [] h few count = record { tokens = omega arith; run = omega arith; depth = omega arith; items = omega arith }
+body_most first ranges (e ∷ es) h few count =
+    let p = loops_most ranges 0 (map (block_of first (length ranges)) (e ∷ es)) _ (blocks_most first (length ranges) (e ∷ es) h) in
+    let t = p.tokens in let r = p.run in let d = p.depth in let i = p.items in
+    record { tokens = omega (arith, t, few, count); run = omega (arith, r); depth = omega (arith, d, few); items = omega (arith, i, few, count) }
+
+-- ---- The program
+
+module _ (other : Program) (short : IsShort other) where
+  abbrev before : Shape
+  before = decls_behind true (head_line true other.params) other.temps
+
+  record FunctionParts : Type 0 where
+    head : AtMost (numbers_of before) (record { tokens = 250000; run = 32000; depth = 239; items = 256 })
+    bodies : Each (λ s. Room 250000 32000 239 (numbers_of s)) (printed other.body)
+
+  function_parts : FunctionParts
+  function_parts =
+      let f = short.function in
+      let small : Small 250000 32000 240 = record { tokens = omega arith; run = omega arith; depth = omega arith } in
+      let small' : Small 249999 32000 239 = record { tokens = omega arith; run = omega arith; depth = omega arith } in
+      let c = closed_parts 250000 32000 240 (all_behind before (printed other.body)) small (record { tokens = f.tokens; run = f.run; depth = f.depth }) in
+      let q = behind_parts 249999 32000 239 before (printed other.body) small' c.room in
+      let h = q.0 in let t = h.tokens in
+      let i = f.items in
+      record {
+        head = record { tokens = omega (arith, t); run = h.run; depth = h.depth; items = behind_items before (printed other.body) 256 (omega arith) (omega (arith, i)) };
+        bodies = each_less (printed other.body) q.1;
+      }
+    where
+      each_less : (ss : List Shape) → Each (λ s. Room (249999 - before.tokens) 32000 239 (numbers_of s)) ss → Each (λ s. Room 250000 32000 239 (numbers_of s)) ss
+      each_less ss h = each_so _ _ ss (λ u k. room_more (249999 - before.tokens) 32000 239 250000 32000 239 (numbers_of u) (omega arith) (omega arith) (omega arith) k) h
+
+  pub loops_bounded : (n : ℕ) (ranges : List (ℤ × ℤ)) (es : List Piece) → numbers_in other.params ≤ 4 → n ≤ 12 → length es ≤ 64 → length ranges ≤ 12 → ((e : Piece) → IsIn e es → Fitting other n e)
+      → is_bounded (program_shape (loops_program other ranges es)) ≡ true
+  loops_bounded n ranges es numbers few count long fits =
+      let parts = function_parts in
+      let body = body_of (numbers_in other.params) ranges es in
+      let inside = body_most (numbers_in other.params) ranges es (λ e i. piece_most other n short numbers few parts.bodies (numbers_in other.params) (length ranges) e (fits e i)) long count in
+      let f = closed_most before _ (printed body) all_blocks parts.head inside in
+      let function = closed (all_behind before (printed body)) in
+      let l = short.lines in
+      let all = most_both (lines_shape other) function (record { tokens = 65536; run = 65536; depth = 256; items = 0 }) (record { tokens = 16344297; run = 64001; depth = 255; items = 2828 })
+          (record { tokens = l.tokens; run = l.run; depth = l.depth; items = l.items }) (record { tokens = f.tokens; run = f.run; depth = f.depth; items = f.items }) in
+      let t = all.tokens in let r = all.run in let d = all.depth in let i = all.items in
+      let shape = both (lines_shape other) function in
+      and_from _ _ (and_from _ _ (le-leb shape.tokens wide_limits.tokens (omega (arith, t))) (le-leb shape.run wide_limits.run (omega (arith, r))))
+      (and_from _ _ (le-leb shape.depth wide_limits.depth (omega (arith, d))) (le-leb shape.items wide_limits.items (omega (arith, i))))
