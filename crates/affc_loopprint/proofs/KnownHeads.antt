@@ -1,5 +1,5 @@
 -- What is known of a program is known of its loops.
-use Rattle.std.proofs.Common.{◌≡◌, ℕ, suc, ◌+◌, ◌^◌, ◌<◌, ◌≤◌, ℤ, Bool, true, false, cond, not, ◌&&◌, ◌||◌, List, [], ◌∷◌, ◌++◌, length, refl, sym, ap, ◌∙◌, arith}
+use Rattle.std.proofs.Common.{◌≡◌, ℕ, ◌+◌, ◌^◌, ◌≤◌, ℤ, Bool, true, false, cond, not, ◌&&◌, List, [], ◌∷◌, ◌++◌, length, refl, arith}
 use Rattle.std.specs.List.{All, list_any}
 use Rattle.std.proofs.lemmas.Bool.{and_parts, and_from, or_from}
 use Rattle.std.proofs.lemmas.List.Sums.{sum_by-cons}
@@ -13,15 +13,15 @@ use Rattle.affc_ast.specs.declared.tree.Program.{Program}
 use Rattle.affc_trace.specs.Law.{IsIn}
 use Rattle.affc_trace.specs.Target.{numbers_in}
 use Rattle.affc_grammar.specs.Grammar.{Name}
-use Rattle.affc_loops.specs.Loops.{Piece, time_name, body_of}
+use Rattle.affc_loops.specs.Loops.{Piece, time_name}
 use Rattle.affc_loops.proofs.Sizes.{Within}
 use Rattle.affc_cprint.proofs.Spelled.{off}
-use Rattle.affc_wellnamed.specs.Known.{Known, is_new, is_refused, param_name, is_number, number_count, known_behind, is_temp, extents_known, param_known, params_known, temp_known, temps_known, is_function, context_known, body_known, program_known, stmts_known}
-use Rattle.affc_loopprint.specs.Spare.{IsSpare, HaveFreeNames}
+use Rattle.affc_wellnamed.specs.Known.{Known, is_new, is_refused, param_name, is_number, number_count, known_behind, is_temp, param_known, params_known, temp_known, temps_known, is_function, context_known, body_known, program_known}
+use Rattle.affc_loopprint.specs.Spare.{HaveFreeNames}
 use Rattle.affc_loopprint.proofs.Fitting.{loops_program}
 use Rattle.affc_loopprint.proofs.KnownAround.{around_known}
 use Rattle.affc_loopprint.proofs.KnownBlocks.{Sized, body_there}
-use Rattle.affc_loopprint.proofs.Moved.{wider, all_wider, tests_wider}
+use Rattle.affc_loopprint.proofs.Moved.{all_wider, tests_wider}
 use Rattle.affc_loopprint.proofs.TimeNames.{kept_apart}
 use Rattle.affc_cprint.specs.Forms.{is_none}
 

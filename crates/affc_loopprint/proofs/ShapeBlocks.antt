@@ -1,8 +1,7 @@
 -- How many tokens and brackets the block of a statement is printed with: its locals and tests, and what stands round its assignment.
-use Rattle.std.proofs.Common.{◌≡◌, ℕ, suc, ◌+◌, ◌*◌, ◌≤◌, ◌<◌, ℤ, true, max, List, [], ◌∷◌, length, map, sym, subst, arith}
+use Rattle.std.proofs.Common.{◌≡◌, ℕ, suc, ◌+◌, ◌*◌, ◌≤◌, ℤ, true, max, List, [], ◌∷◌, length, sym, subst, arith}
 use Rattle.affc_rows.specs.Forms.{Affine, HaveColumns}
 use Rattle.affc_ast.specs.declared.tree.Compare.{Compare}
-use Rattle.affc_ast.specs.declared.tree.Ix.{Ix}
 use Rattle.affc_ast.specs.declared.tree.Local.{Local}
 use Rattle.affc_ast.specs.declared.tree.Rel.TheVariants.{LessEqual, Equal}
 use Rattle.affc_ast.specs.declared.tree.Program.{Program}
@@ -10,12 +9,11 @@ use Rattle.affc_ast.specs.declared.tree.Stmt.{Stmt}
 use Rattle.affc_ast.specs.declared.tree.Stmt.TheVariants.{Block}
 use Rattle.affc_ast.proofs.Steps.{block_here}
 use Rattle.affc_trace.specs.Target.{numbers_in}
-use Rattle.affc_domain.specs.Rounds.{Round, loops_in, comparisons_in}
 use Rattle.affc_cprint.proofs.ReadBackValues.{Each}
 use Rattle.affc_wellnamed.specs.declared.shape.Extent.{Extent}
 use Rattle.affc_wellnamed.specs.declared.shape.Shape.{Shape}
-use Rattle.affc_wellnamed.specs.Shape.{nothing, beside, and_tokens, whole, compare_extent, both, line, closed, all_behind, locals_behind, block_head, stmt_step, stmt_shape}
-use Rattle.affc_wellnamed.proofs.ShapeStatements.{Numbers, joined, none}
+use Rattle.affc_wellnamed.specs.Shape.{nothing, whole, compare_extent, both, line, locals_behind, block_head, stmt_step, stmt_shape}
+use Rattle.affc_wellnamed.proofs.ShapeStatements.{Numbers, joined}
 use Rattle.affc_reprint.proofs.Rows.{under_more, under_both, under_tokens}
 use Rattle.affc_reprint.proofs.Values.{all_tokens, all_deep}
 use Rattle.affc_reprint.proofs.Statements.{numbers_of, total, AtMost, most_both}
@@ -25,7 +23,7 @@ use Rattle.affc_loops.proofs.Guards.{names_count}
 use Rattle.affc_loopprint.specs.Short.{IsShort}
 use Rattle.affc_loopprint.proofs.Fitting.{Fitting}
 use Rattle.affc_loopprint.proofs.ShapeForms.{Few, form_few, number_few}
-use Rattle.affc_loopprint.proofs.ShapeRooms.{Room, Small, printed, most_then, under_test, under_most, closed_most, any_most}
+use Rattle.affc_loopprint.proofs.ShapeRooms.{Room, Small, printed, most_then, under_most, closed_most, any_most}
 use Rattle.affc_loopprint.proofs.ShapeGuards.{guarded_fits, guarded_items}
 
 pub line_most : (n t d : ℕ) (e : Extent) → Few t d e → AtMost (numbers_of (line n e)) (record { tokens = t + n + 1; run = t + n; depth = d; items = 0 })

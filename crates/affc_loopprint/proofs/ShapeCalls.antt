@@ -1,9 +1,6 @@
 -- Without the prelude a program has no calls and no locals: it is printed behind the prelude with as many tokens and brackets, and one token more in its head.
-use Rattle.std.proofs.Common.{◌≡◌, ℕ, ◌+◌, ◌≤◌, ◌&&◌, ◌||◌, Bool, true, false, not, List, [], ◌∷◌, ◌++◌, map, Option, ℤ, refl, sym, ap, subst, ◌∙◌, arith}
+use Rattle.std.proofs.Common.{◌≡◌, ◌+◌, ◌≤◌, ◌&&◌, ◌||◌, Bool, true, false, not, List, [], ◌∷◌, ◌++◌, map, refl, sym, ap, subst, ◌∙◌, arith}
 use Rattle.std.proofs.lemmas.Bool.{and_parts, false≢true}
-use Rattle.affc_ast.specs.declared.tree.ArrayId.{ArrayId}
-use Rattle.affc_ast.specs.declared.tree.Op.{Op}
-use Rattle.affc_ast.specs.declared.tree.Rel.{Rel}
 use Rattle.affc_ast.specs.declared.tree.Compare.{Compare}
 use Rattle.affc_ast.specs.declared.tree.Decl.{Decl}
 use Rattle.affc_ast.specs.declared.tree.Role.{Role}
@@ -21,12 +18,11 @@ use Rattle.affc_cprint.specs.Forms.{is_none}
 use Rattle.affc_cprint.specs.declared.brackets.Place.TheVariants.{Whole, UnderMinus}
 use Rattle.affc_cprint.specs.declared.brackets.Level.TheVariants.{Primary, Shifted, Or}
 use Rattle.affc_wellnamed.specs.declared.shape.Extent.{Extent}
-use Rattle.affc_wellnamed.specs.declared.shape.IxExtent.{IxExtent}
 use Rattle.affc_wellnamed.specs.declared.shape.ValExtent.{ValExtent}
 use Rattle.affc_wellnamed.specs.declared.shape.Shape.{Shape}
 use Rattle.affc_wellnamed.specs.Known as known
 use Rattle.affc_wellnamed.specs.Known.{Known, and_iterator, and_locals, is_new, is_bound, takes, ix_known, ixs_known, compares_known, value_known, for_known, if_known, block_known, locals_known, all_at, stmt_known, is_temp, extents_known, known_behind, param_known, params_known, temp_known, temps_known, is_function, context_known, body_known, program_known}
-use Rattle.affc_wellnamed.specs.Shape.{nothing, beside, and_tokens, bracketed, placed, negated, sum, product, ix_step, ix_extent, whole, dims_behind, compare_extent, compares_behind, conds_extent, at_level, binary, val_step, val_extent, both, line, worded, closed, all_behind, for_head, if_head, assign_line, block_head, stmt_step, stmt_shape, head_tokens, array_extent, param_extent, params_behind, params_extent, decls_behind, head_line, function_shape}
+use Rattle.affc_wellnamed.specs.Shape.{nothing, beside, and_tokens, bracketed, placed, negated, sum, product, ix_step, ix_extent, whole, dims_behind, compare_extent, compares_behind, conds_extent, at_level, binary, val_step, val_extent, both, line, worded, closed, all_behind, for_head, if_head, block_head, stmt_step, stmt_shape, head_tokens, array_extent, param_extent, params_behind, params_extent, decls_behind, head_line, function_shape}
 use Rattle.affc_ast.proofs.Steps.{neg_here, floord_here, ceild_here, add_here, sub_here, mul_here, min_here, max_here, mod_here, not_here, bin_here, shift_here, for_here, if_here, block_here}
 use Rattle.affc_cprint.proofs.ReadBackValues.{Each}
 use Rattle.affc_wellnamed.proofs.Induction.{IxCases, every_ix, ValCases, every_val, StmtCases, every_stmt}

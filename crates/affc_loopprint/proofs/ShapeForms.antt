@@ -7,7 +7,7 @@ use Rattle.affc_ast.specs.declared.tree.Ix.TheVariants.{Lit, Neg, Add, Sub}
 use Rattle.affc_cprint.specs.declared.brackets.Place.TheVariants.{Whole, RightOfSum, UnderMinus}
 use Rattle.affc_wellnamed.specs.declared.shape.Extent.{Extent}
 use Rattle.affc_wellnamed.specs.declared.shape.IxExtent.{IxExtent}
-use Rattle.affc_wellnamed.specs.Shape.{beside, and_tokens, placed, one_token, negated, sum, product, ix_step, ix_extent, whole}
+use Rattle.affc_wellnamed.specs.Shape.{placed, one_token, sum, product, ix_step, ix_extent, whole}
 use Rattle.affc_ast.proofs.Steps.{neg_here, add_here, sub_here, mul_here}
 use Rattle.affc_reprint.proofs.Rows.{Under, under_more, under_both, under_tokens}
 use Rattle.affc_reprint.proofs.Expressions.{placed_whole}

@@ -1,5 +1,5 @@
 -- The loops and conditions round a statement are printed, as tests round its assignment, with no more tokens and brackets than in their program.
-use Rattle.std.proofs.Common.{◌≡◌, ℕ, zero, suc, ◌+◌, ◌-◌, ◌*◌, ◌≤◌, true, max, List, [], ◌∷◌, ◌++◌, length, map, flat_map, Some, refl, sym, ap, subst, ◌∙◌, arith}
+use Rattle.std.proofs.Common.{◌≡◌, ℕ, zero, suc, ◌+◌, ◌-◌, ◌*◌, ◌≤◌, true, max, List, [], ◌∷◌, ◌++◌, length, map, Some, sym, ap, subst, ◌∙◌, arith}
 use Rattle.std.specs.Prelude.{slice_get}
 use Rattle.std.proofs.lemmas.List.{append-nil}
 use Rattle.std.proofs.lemmas.Option.{none-some, same_Some}
@@ -20,7 +20,7 @@ use Rattle.affc_cprint.specs.declared.brackets.Level.TheVariants.{Or}
 use Rattle.affc_cprint.proofs.ReadBackValues.{Each}
 use Rattle.affc_wellnamed.specs.declared.shape.Extent.{Extent}
 use Rattle.affc_wellnamed.specs.declared.shape.Shape.{Shape}
-use Rattle.affc_wellnamed.specs.Shape.{nothing, beside, and_tokens, placed, whole, dims_behind, conds_extent, at_level, val_extent, both, line, worded, closed, all_behind, assign_line, block_head, stmt_step, stmt_shape}
+use Rattle.affc_wellnamed.specs.Shape.{nothing, beside, placed, whole, conds_extent, at_level, both, line, worded, closed, all_behind, assign_line, block_head, stmt_step, stmt_shape}
 use Rattle.affc_wellnamed.proofs.ShapeParts.{larger_is}
 use Rattle.affc_wellnamed.proofs.ShapeStatements.{none}
 use Rattle.affc_wellnamed.proofs.ShapeStatements as numbers
@@ -29,11 +29,11 @@ use Rattle.affc_domain.proofs.Lists.{from_map}
 use Rattle.affc_domain.proofs.PlainLemmas.{rounds_of_each}
 use Rattle.affc_reprint.proofs.Rows.{under_more, under_both, under_tokens}
 use Rattle.affc_reprint.proofs.Statements.{numbers_of, total}
-use Rattle.affc_loops.specs.Trees.{name_at, moved, moved_compare, moved_value}
+use Rattle.affc_loops.specs.Trees.{moved, moved_compare, moved_value}
 use Rattle.affc_loops.specs.Loops.{if_any, loop_tests, guarded, moved_assign}
 use Rattle.affc_loopprint.proofs.ShapeMoved.{two, moved_extent, moved_dims, moved_conds, moved_val}
 use Rattle.affc_loopprint.proofs.ShapeForms.{Few}
-use Rattle.affc_loopprint.proofs.ShapeRooms.{Room, Small, small_less, room_more, room_under, each_so, behind_parts, Inside, closed_parts, printed, under_test, if_most}
+use Rattle.affc_loopprint.proofs.ShapeRooms.{Room, Small, small_less, room_more, room_under, each_so, behind_parts, closed_parts, printed, under_test, if_most}
 
 -- ---- Loops
 

@@ -1,5 +1,5 @@
 -- The loops of a program whose text is short are printed within the wide limits on tokens, runs, brackets and items.
-use Rattle.std.proofs.Common.{◌≡◌, ℕ, suc, ◌+◌, ◌-◌, ◌*◌, ◌≤◌, ℤ, true, max, List, [], ◌∷◌, length, map, inl, inr, refl, sym, ap, subst, arith}
+use Rattle.std.proofs.Common.{◌≡◌, ℕ, suc, ◌+◌, ◌-◌, ◌*◌, ◌≤◌, ℤ, true, max, List, [], ◌∷◌, length, map, inl, inr, refl, sym, subst, arith}
 use Rattle.std.proofs.lemmas.Bool.{and_from, le-leb}
 use Rattle.affc_ast.specs.declared.tree.Program.{Program}
 use Rattle.affc_ast.specs.declared.tree.Rel.TheVariants.{LessEqual}
@@ -10,18 +10,16 @@ use Rattle.affc_grammar.specs.Limits.{wide_limits}
 use Rattle.affc_trace.specs.Law.{IsIn}
 use Rattle.affc_trace.specs.Target.{numbers_in}
 use Rattle.affc_cprint.proofs.ReadBackValues.{Each}
-use Rattle.affc_wellnamed.specs.declared.shape.Extent.{Extent}
 use Rattle.affc_wellnamed.specs.declared.shape.Shape.{Shape}
-use Rattle.affc_wellnamed.specs.Shape.{nothing, whole, both, line, worded, closed, all_behind, for_head, stmt_step, stmt_shape, decls_behind, head_line, lines_shape, function_shape, program_shape, is_bounded}
-use Rattle.affc_wellnamed.proofs.ShapeParts.{larger_is}
+use Rattle.affc_wellnamed.specs.Shape.{nothing, whole, both, line, closed, all_behind, for_head, stmt_step, stmt_shape, decls_behind, head_line, lines_shape, program_shape, is_bounded}
 use Rattle.affc_wellnamed.proofs.ShapeStatements.{Numbers, joined, none}
 use Rattle.affc_reprint.proofs.Statements.{numbers_of, total, AtMost, most_both}
 use Rattle.affc_loops.specs.Trees.{number}
 use Rattle.affc_loops.specs.Loops.{Piece, block_of, time_name, loops, body_of}
-use Rattle.affc_loopprint.specs.Short.{IsShort, with_prelude}
+use Rattle.affc_loopprint.specs.Short.{IsShort}
 use Rattle.affc_loopprint.proofs.Fitting.{Fitting, loops_program}
-use Rattle.affc_loopprint.proofs.ShapeForms.{Few, number_few}
-use Rattle.affc_loopprint.proofs.ShapeRooms.{Room, Small, room_more, each_so, behind_parts, behind_items, closed_parts, printed, most_then, closed_most}
+use Rattle.affc_loopprint.proofs.ShapeForms.{number_few}
+use Rattle.affc_loopprint.proofs.ShapeRooms.{Room, Small, room_more, each_so, behind_parts, behind_items, closed_parts, printed, closed_most}
 use Rattle.affc_loopprint.proofs.ShapeBlocks.{line_most, one_block, piece_most}
 
 -- ---- All blocks
@@ -118,7 +116,7 @@ module _ (other : Program) (short : IsShort other) where
       let function = closed (all_behind before (printed body)) in
       let l = short.lines in
       let all = most_both (lines_shape other) function (record { tokens = 65536; run = 65536; depth = 256; items = 0 }) (record { tokens = 16344297; run = 64001; depth = 255; items = 2828 })
-          (record { tokens = l.tokens; run = l.run; depth = l.depth; items = l.items }) (record { tokens = f.tokens; run = f.run; depth = f.depth; items = f.items }) in
+      (record { tokens = l.tokens; run = l.run; depth = l.depth; items = l.items }) (record { tokens = f.tokens; run = f.run; depth = f.depth; items = f.items }) in
       let t = all.tokens in let r = all.run in let d = all.depth in let i = all.items in
       let shape = both (lines_shape other) function in
       and_from _ _ (and_from _ _ (le-leb shape.tokens wide_limits.tokens (omega (arith, t))) (le-leb shape.run wide_limits.run (omega (arith, r))))

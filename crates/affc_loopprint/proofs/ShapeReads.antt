@@ -1,6 +1,5 @@
 -- The program that a text without the prelude reads as is short.
-use Rattle.std.proofs.Common.{◌≡◌, ℕ, ◌+◌, ◌*◌, ◌≤◌, ◌||◌, Bool, true, false, not, max, List, [], ◌∷◌, ◌++◌, length, Ok, IsTrue, refl, sym, ap, subst, ◌∙◌, arith, length-append}
-use Rattle.std.specs.List.{list_all}
+use Rattle.std.proofs.Common.{◌≡◌, ℕ, ◌≤◌, ◌||◌, Bool, true, false, not, List, [], ◌∷◌, ◌++◌, length, Ok, IsTrue, sym, ap, subst, ◌∙◌, arith, length-append}
 use Rattle.std.proofs.lemmas.Bool.{and_parts, false≢true}
 use Rattle.affc_ast.specs.declared.tree.Program.{Program}
 use Rattle.affc_grammar.specs.Grammar.{Symbol, LineText, PragmasText, FunctionText, Text, pragmas_symbols, include_symbols, function_symbols, text_symbols, context_calls}
@@ -13,7 +12,7 @@ use Rattle.affc_wellnamed.specs.Known.{program_known}
 use Rattle.affc_cprint.specs.Forms.{program_passes}
 use Rattle.affc_wellnamed.specs.Plain.{is_plain}
 use Rattle.affc_wellnamed.specs.Work.{program_fits}
-use Rattle.affc_wellnamed.specs.Shape.{lines_shape, function_shape, program_shape, is_bounded}
+use Rattle.affc_wellnamed.specs.Shape.{lines_shape, function_shape}
 use Rattle.affc_domain.specs.Ranges.{number_ranges}
 use Rattle.affc_domain.proofs.PlainLemmas.{rounds_are_plain, few_comparisons}
 use Rattle.affc_plain.proofs.Programs.{reads_plain}

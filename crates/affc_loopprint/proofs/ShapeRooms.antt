@@ -1,11 +1,11 @@
 -- What is printed of parts where what is printed of the whole is small, and of the whole by its parts.
-use Rattle.std.proofs.Common.{◌≡◌, ℕ, ◌+◌, ◌-◌, ◌*◌, ◌≤◌, Bool, true, max, List, [], ◌∷◌, length, map, refl, sym, subst, arith}
+use Rattle.std.proofs.Common.{ℕ, ◌+◌, ◌-◌, ◌≤◌, true, max, List, [], ◌∷◌, map, sym, subst, arith}
 use Rattle.affc_ast.specs.declared.tree.Compare.{Compare}
 use Rattle.affc_ast.specs.declared.tree.Stmt.{Stmt}
 use Rattle.affc_ast.specs.declared.tree.Stmt.TheVariants.{If}
 use Rattle.affc_wellnamed.specs.declared.shape.Extent.{Extent}
 use Rattle.affc_wellnamed.specs.declared.shape.Shape.{Shape}
-use Rattle.affc_wellnamed.specs.Shape.{nothing, conds_extent, both, line, worded, closed, all_behind, if_head, stmt_step, stmt_shape}
+use Rattle.affc_wellnamed.specs.Shape.{nothing, conds_extent, both, line, worded, closed, all_behind, stmt_step, stmt_shape}
 use Rattle.affc_ast.proofs.Steps.{if_here}
 use Rattle.affc_cprint.proofs.ReadBackValues.{Each}
 use Rattle.affc_wellnamed.proofs.ShapeParts.{larger_is}
@@ -63,10 +63,13 @@ behind_parts t r d a (s ∷ ss) m h =
     let q = behind_parts t r d (both a s) ss m h in
     let p = both_parts t r d a s m q.0 in
     let x = p.tokens in let i = m.tokens in
-    let less : t - (both a s).tokens ≤ t - a.tokens = omega (arith, x, i) in
-    (record { tokens = omega (arith, x); run = p.first_run; depth = p.first_depth },
-      (record { tokens = omega (arith, x); run = p.second_run; depth = p.second_depth },
-        each_so _ _ ss (λ u k. room_more (t - (both a s).tokens) r d (t - a.tokens) r d (numbers_of u) less (omega arith) (omega arith) k) q.1))
+    let less : t - (both a s).tokens ≤ t - a.tokens = omega (arith, x, i) in (
+      record { tokens = omega (arith, x); run = p.first_run; depth = p.first_depth },
+      (
+        record { tokens = omega (arith, x); run = p.second_run; depth = p.second_depth },
+        each_so _ _ ss (λ u k. room_more (t - (both a s).tokens) r d (t - a.tokens) r d (numbers_of u) less (omega arith) (omega arith) k) q.1,
+      ),
+    )
 
 -- items too
 pub behind_items : (a : Shape) (ss : List Shape) (n : ℕ) → n ≤ 256 → (all_behind a ss).items ≤ n → a.items ≤ n

@@ -2,7 +2,7 @@
 use Rattle.std.proofs.Common.{◌≡◌, ℕ, ◌^◌, ◌<◌, true, false, List, decimal, refl, sym, ap, ◌∙◌, arith}
 use Rattle.std.proofs.lemmas.Bool.{false≢true}
 use Rattle.affc_lex.specs.Bytes.{same, decimal as value_of}
-use Rattle.affc_lex.specs.Pieces.{is_word, is_number}
+use Rattle.affc_lex.specs.Pieces.{is_word}
 use Rattle.affc_ast.specs.Names.{is_reserved}
 use Rattle.affc_grammar.specs.Names.{is_time_name}
 use Rattle.affc_loops.specs.Loops.{time_name}

@@ -1,5 +1,5 @@
 -- Where a program keeps the limits on statements, arrays and lines, so do its loops.
-use Rattle.std.proofs.Common.{◌≡◌, inl, inr, ℕ, zero, suc, ◌+◌, ◌≤◌, ℤ, Bool, true, false, ◌&&◌, ◌||◌, nat_le, nat_lt, List, [], ◌∷◌, length, map, Some, refl, sym, ap, subst, ◌∙◌, arith, if◌then◌else◌}
+use Rattle.std.proofs.Common.{◌≡◌, inl, inr, ℕ, suc, ◌+◌, ◌≤◌, ℤ, Bool, true, false, ◌&&◌, nat_le, nat_lt, List, [], ◌∷◌, length, map, Some, refl, sym, ap, subst, ◌∙◌, arith, if◌then◌else◌}
 use Rattle.std.specs.Prelude.{slice_get}
 use Rattle.std.specs.List.{list_all}
 use Rattle.std.proofs.lemmas.Bool.{and_parts, and_from, or_parts, or_from, false≢true, le-leb}
@@ -7,7 +7,7 @@ use Rattle.affc_ast.specs.declared.tree.Compare.{Compare}
 use Rattle.affc_ast.specs.declared.tree.Program.{Program}
 use Rattle.affc_ast.specs.declared.tree.Rel.TheVariants.{LessEqual}
 use Rattle.affc_ast.specs.declared.tree.Stmt.{Stmt}
-use Rattle.affc_ast.specs.declared.tree.Stmt.TheVariants.{For, If, Assign, Block}
+use Rattle.affc_ast.specs.declared.tree.Stmt.TheVariants.{For, If}
 use Rattle.affc_ast.specs.Trace.{Assignment, assignments}
 use Rattle.affc_trace.specs.Law.{IsIn}
 use Rattle.affc_trace.specs.Target.{numbers_in}
@@ -20,7 +20,7 @@ use Rattle.affc_cprint.proofs.ReadBackValues.{Each}
 use Rattle.affc_wellnamed.specs.declared.work.Work.{Work}
 use Rattle.affc_wellnamed.specs.Known.{number_count}
 use Rattle.affc_wellnamed.specs.Shape.{plus}
-use Rattle.affc_wellnamed.specs.Work.{loads, no_work, one_work, both, looped, all_behind, stmt_step, work, stmts_behind, is_bounded, param_fits, has_few, program_fits}
+use Rattle.affc_wellnamed.specs.Work.{loads, no_work, one_work, both, looped, stmt_step, work, stmts_behind, is_bounded, param_fits, has_few, program_fits}
 use Rattle.affc_wellnamed.proofs.ShapeParts.{larger_is}
 use Rattle.affc_loopprint.proofs.Entries.{Walk, two_at, entries}
 use Rattle.affc_loopprint.proofs.Fitting.{loops_program}

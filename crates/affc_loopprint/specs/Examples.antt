@@ -1,5 +1,5 @@
 -- Small programs and their loops: which of them are well named was found by hand from the rules.
-use Rattle.std.specs.Prelude.{◌≡◌, ℕ, Bool, true, false, ℤ, pos, negsuc, codes, length, List, [], ◌∷◌, None, refl}
+use Rattle.std.specs.Prelude.{◌≡◌, ℕ, Bool, true, false, pos, negsuc, codes, List, [], ◌∷◌, None, refl}
 use Rattle.std.proofs.Common.{lit≤}
 use Rattle.affc_rows.specs.Forms.{Affine}
 use Rattle.affc_ast.specs.declared.tree.Ix.{Ix}
