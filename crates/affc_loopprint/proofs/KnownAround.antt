@@ -1,14 +1,12 @@
 -- What is known of a program's body, by its assignments and what stands round each.
-use Rattle.std.proofs.Common.{◌≡◌, ℕ, zero, suc, ◌+◌, Bool, true, false, not, ◌&&◌, IsTrue, List, [], ◌∷◌, map, Option, Some, refl, sym, ap, ◌∙◌, arith}
+use Rattle.std.proofs.Common.{◌≡◌, ℕ, ◌+◌, Bool, true, false, not, ◌&&◌, IsTrue, List, [], ◌∷◌, map, Some, refl, sym, ap, ◌∙◌, arith}
 use Rattle.std.specs.Prelude.{slice_get}
 use Rattle.std.proofs.lemmas.Bool.{and_parts, false≢true}
-use Rattle.affc_ast.specs.declared.tree.Compare.{Compare}
-use Rattle.affc_ast.specs.declared.tree.Ix.{Ix}
 use Rattle.affc_ast.specs.declared.tree.Local.{Local}
 use Rattle.affc_ast.specs.declared.tree.Program.{Program}
-use Rattle.affc_ast.specs.declared.tree.Rel.{Rel}
 use Rattle.affc_ast.specs.declared.tree.Stmt.{Stmt}
-use Rattle.affc_ast.specs.declared.tree.Stmt.TheVariants.{For, If, Assign, Block}
+use Rattle.affc_ast.specs.declared.tree.Stmt.TheOpen as layer
+use Rattle.affc_ast.specs.declared.tree.Stmt.TheVariants.{Block}
 use Rattle.affc_ast.specs.Locals.{all_true, plain_step, has_no_locals}
 use Rattle.affc_ast.specs.Recursion.{by_stmt}
 use Rattle.affc_ast.specs.Trace.{Assignment, assignments}
@@ -43,7 +41,7 @@ none_more known = let e : known.numbers + 0 ≡ known.numbers = omega arith in �
 in_block : (known : Known) (ls : List Local) (body : List Stmt) → IsThere known (Block ls body) → Each (IsThere known) body
 in_block known ls body h = by ls (sym (ap (λ (f : Known → Bool). f known) (block_here stmt_step ls body)) ∙ h.0) (sym (block_here plain_step ls body) ∙ h.1)
   where
-    by : (ls : List Local) → block_known known ls && all_at (and_locals known ls) (map stmt_known body) ≡ true → (elim ls as (λ ls. Bool) [ [] ↦ all_true (map (by_stmt plain_step) body) | l ∷ more ↦ false ]) ≡ true → Each (IsThere known) body
+    by : (ls : List Local) → block_known known ls && all_at (and_locals known ls) (map stmt_known body) ≡ true → plain_step (layer.Block ls (map (by_stmt plain_step) body)) ≡ true → Each (IsThere known) body
     by [] h k = all_there known body (ap (λ n. all_at n (map stmt_known body)) (sym (none_more known)) ∙ (and_parts (block_known known []) _ h).1) k
     by (l ∷ ls) h k = absurd (false≢true k)
 

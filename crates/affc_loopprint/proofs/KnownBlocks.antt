@@ -1,7 +1,8 @@
 -- What is known of the loops that are printed, and of the blocks in them.
-use Rattle.std.proofs.Common.{◌≡◌, ◌⊎◌, inl, inr, ℕ, zero, suc, ◌+◌, ◌-◌, ◌^◌, ◌<◌, ◌≤◌, ℤ, Bool, true, false, not, ◌&&◌, ◌||◌, List, [], ◌∷◌, ◌++◌, length, map, refl, sym, ap, subst, ◌∙◌, arith, length-append}
+use Rattle.std.proofs.Common.{◌≡◌, inl, inr, ℕ, suc, ◌+◌, ◌^◌, ◌<◌, ◌≤◌, ℤ, Bool, true, false, not, ◌&&◌, ◌||◌, List, [], ◌∷◌, ◌++◌, length, map, refl, sym, ap, ◌∙◌, arith}
 use Rattle.std.specs.List.{All, list_any}
-use Rattle.std.proofs.lemmas.Bool.{and_parts, and_from, lt-ltb}
+use Rattle.std.proofs.lemmas.Bool.{and_parts, and_from, or_parts, or_from, lt-ltb}
+use Rattle.std.proofs.lemmas.List.Folds.{list_any-append}
 use Rattle.affc_lex.specs.Bytes.{same}
 use Rattle.affc_lex.specs.Pieces.{is_word}
 use Rattle.affc_rows.specs.Forms.{Affine, HaveColumns}
@@ -9,7 +10,6 @@ use Rattle.affc_ast.specs.declared.tree.Compare.{Compare}
 use Rattle.affc_ast.specs.declared.tree.Local.{Local}
 use Rattle.affc_ast.specs.declared.tree.Rel.TheVariants.{LessEqual}
 use Rattle.affc_ast.specs.declared.tree.Stmt.{Stmt}
-use Rattle.affc_ast.specs.declared.tree.Stmt.TheVariants.{For, If, Assign, Block}
 use Rattle.affc_ast.specs.Names.{is_reserved}
 use Rattle.affc_ast.specs.Trace.{Assignment}
 use Rattle.affc_trace.specs.Law.{IsIn}
@@ -17,13 +17,13 @@ use Rattle.affc_domain.specs.Rounds.{Round, Loop, Test, loops_in}
 use Rattle.affc_grammar.specs.Names.{is_time_name}
 use Rattle.affc_loops.specs.Limits.{IsSlight}
 use Rattle.affc_loops.specs.Loops.{Piece, loop_names, locals_of, box_tests, time_tests, if_any, loop_tests, guarded, moved_assign, block_of, time_name, loops, body_of}
-use Rattle.affc_loops.specs.Trees.{name_at, number, form_tree, moved}
+use Rattle.affc_loops.specs.Trees.{name_at, number, form_tree}
 use Rattle.affc_loops.proofs.Guards.{names_count}
 use Rattle.affc_loops.proofs.Sizes.{Within}
 use Rattle.affc_cprint.proofs.Arms.{for_here, if_here, block_here}
 use Rattle.affc_cprint.proofs.Spelled.{off}
 use Rattle.affc_cprint.specs.Forms.{is_none}
-use Rattle.affc_wellnamed.specs.Known.{Known, and_iterator, and_locals, is_new, is_refused, ix_known, compares_known, for_known, if_known, local_known, locals_known, block_known, stmt_step, stmt_known, stmts_known, all_at}
+use Rattle.affc_wellnamed.specs.Known.{Known, and_iterator, and_locals, is_new, is_refused, is_bound, ix_known, compares_known, for_known, if_known, locals_known, block_known, stmt_step, stmt_known, stmts_known}
 use Rattle.affc_loopprint.specs.Spare.{HaveFreeNames}
 use Rattle.affc_loopprint.proofs.KnownAround.{around_known}
 use Rattle.affc_loopprint.proofs.Moved.{moved_known, all_moved_known, tests_moved_known, moved_takes, moved_value_known}
@@ -71,7 +71,7 @@ module _ (first more : ℕ) (new : Known) (calls : new.prelude ≡ true) where
       let room : old.numbers + more ≤ new.numbers = omega (arith, l) in
       let p = and_parts (for_known old iter low rel high) _ h in
       let q = and_parts (is_new old true iter) _ p.0 in
-      let r = and_parts _ _ q.1 in
+      let r = and_parts (is_bound rel) (ix_known old low && ix_known old high) q.1 in
       let s = and_parts (ix_known old low) (ix_known old high) r.1 in
       let name : ix_known new (name_at from) ≡ true = lt-ltb from new.numbers (omega (arith, m)) in
       any_there new (loop_tests first more from (Loop iter low rel high)) (guarded first more (suc from) rs (moved_assign first more a ∷ []))
@@ -86,17 +86,8 @@ module _ (first more : ℕ) (new : Known) (calls : new.prelude ≡ true) where
 
 -- ---- Locals
 
-neither : (a b : Bool) → a || b ≡ false → (a ≡ false) × (b ≡ false)
-neither false b e = (refl, e)
-neither true b e = (e, absurd (cc))
-
-none_of : (a b : Bool) → a ≡ false → b ≡ false → a || b ≡ false
-none_of false b e f = f
-none_of true b e f = e
-
 any_last : (v : List ℕ) (ls : List Local) (l : Local) → list_any (λ (m : Local). same m.name v) ls ≡ false → same l.name v ≡ false → list_any (λ (m : Local). same m.name v) (ls ++ l ∷ []) ≡ false
-any_last v [] l h k = none_of _ _ k refl
-any_last v (m ∷ ls) l h k = let p = neither _ _ h in none_of _ _ p.0 (any_last v ls l p.1 k)
+any_last v ls l h k = list_any-append (λ (m : Local). same m.name v) ls (l ∷ []) ∙ or_from _ _ h (or_from _ _ k refl)
 
 -- a name that isn't kept and isn't taken outside isn't taken inside
 abbrev pub StaysFree : Known → Known → Type 0
@@ -125,9 +116,9 @@ module _ (first wide : ℕ) (inner : Known) (room : first ≤ inner.numbers) (en
       (form_has (λ z. ix_known known z ≡ true) known.numbers (sums_known known) first first g (s 0 g (omega arith)) more (omega (arith, columns, room, enough))))
       (locals_there rs a gs (and_iterator old iter) (before ++ l ∷ []) p.1 (λ i x m. free (suc i) x (omega (arith, m)))
       (λ v f k.
-      let n = neither (same iter v) (old.is_taken v) k in
-      let m = neither (list_any (λ (x : Local). same x.name v) before) (inner.is_taken v) (stays v f n.1) in
-      none_of _ _ (any_last v before l m.0 n.0) m.1)
+      let n = or_parts (same iter v) (old.is_taken v) k in
+      let m = or_parts (list_any (λ (x : Local). same x.name v) before) (inner.is_taken v) (stays v f n.1) in
+      or_from _ _ (any_last v before l m.0 n.0) m.1)
       (λ i y k. s (suc i) y (omega (arith, k))) (λ i y k. w (suc i) y (omega (arith, k))))
   locals_there (Test conds ∷ rs) a gs old before h free stays s w = locals_there rs a gs old before (and_parts (if_known old conds) _ h).1 free stays s w
 
@@ -204,12 +195,12 @@ loops_there known (r ∷ rs) component most body calls few free m w inside =
     (ap (λ (f : Known → Bool). f known) (for_here stmt_step name (number r.0) LessEqual (number r.1) (loops rs (suc component) body))
     ∙ and_from (for_known known name (number r.0) LessEqual (number r.1)) _ (and_from _ _ new (and_from _ _ low high))
     (loops_there next rs (suc component) most body calls (omega (arith, few))
-    (λ k l t. none_of _ _ (times_differ component k small (omega (arith, t)) (omega (arith, l))) (free k (omega (arith, l)) t)) m (λ i y k. w (suc i) y (omega (arith, k)))
+    (λ k l t. or_from _ _ (times_differ component k small (omega (arith, t)) (omega (arith, l))) (free k (omega (arith, l)) t)) m (λ i y k. w (suc i) y (omega (arith, k)))
     (λ inner i. inside inner (record {
       calls = i.calls;
       numbers = (let q = i.numbers in omega (arith, q));
       arrays = i.arrays;
-      stays = λ v f h. i.stays v f (none_of _ _ (free_is_other component v f) h);
+      stays = λ v f h. i.stays v f (or_from _ _ (free_is_other component v f) h);
     })))) refl
 
 blocks_there : (first n : ℕ) (inner : Known) (es : List Piece) → ((e : Piece) → IsIn e es → stmt_known (block_of first n e) inner ≡ true) → stmts_known inner (map (block_of first n) es) ≡ true

@@ -1,7 +1,7 @@
 -- What is known of a program is known of its loops.
-use Rattle.std.proofs.Common.{◌≡◌, ℕ, suc, ◌+◌, ◌^◌, ◌<◌, ◌≤◌, ℤ, Bool, true, false, cond, not, ◌&&◌, ◌||◌, List, [], ◌∷◌, ◌++◌, length, refl, sym, ap, ◌∙◌, arith}
+use Rattle.std.proofs.Common.{◌≡◌, ℕ, ◌+◌, ◌^◌, ◌≤◌, ℤ, Bool, true, false, cond, not, ◌&&◌, List, [], ◌∷◌, ◌++◌, length, refl, arith}
 use Rattle.std.specs.List.{All, list_any}
-use Rattle.std.proofs.lemmas.Bool.{and_parts, and_from}
+use Rattle.std.proofs.lemmas.Bool.{and_parts, and_from, or_from}
 use Rattle.std.proofs.lemmas.List.Sums.{sum_by-cons}
 use Rattle.affc_lex.specs.Bytes.{same}
 use Rattle.affc_lex.specs.Pieces.{is_word}
@@ -13,15 +13,15 @@ use Rattle.affc_ast.specs.declared.tree.Program.{Program}
 use Rattle.affc_trace.specs.Law.{IsIn}
 use Rattle.affc_trace.specs.Target.{numbers_in}
 use Rattle.affc_grammar.specs.Grammar.{Name}
-use Rattle.affc_loops.specs.Loops.{Piece, time_name, body_of}
+use Rattle.affc_loops.specs.Loops.{Piece, time_name}
 use Rattle.affc_loops.proofs.Sizes.{Within}
 use Rattle.affc_cprint.proofs.Spelled.{off}
-use Rattle.affc_wellnamed.specs.Known.{Known, is_new, is_refused, param_name, is_number, number_count, known_behind, is_temp, extents_known, param_known, params_known, temp_known, temps_known, is_function, context_known, body_known, program_known, stmts_known}
-use Rattle.affc_loopprint.specs.Spare.{IsSpare, HaveFreeNames}
+use Rattle.affc_wellnamed.specs.Known.{Known, is_new, is_refused, param_name, is_number, number_count, known_behind, is_temp, param_known, params_known, temp_known, temps_known, is_function, context_known, body_known, program_known}
+use Rattle.affc_loopprint.specs.Spare.{HaveFreeNames}
 use Rattle.affc_loopprint.proofs.Fitting.{loops_program}
 use Rattle.affc_loopprint.proofs.KnownAround.{around_known}
 use Rattle.affc_loopprint.proofs.KnownBlocks.{Sized, body_there}
-use Rattle.affc_loopprint.proofs.Moved.{wider, all_wider, tests_wider}
+use Rattle.affc_loopprint.proofs.Moved.{all_wider, tests_wider}
 use Rattle.affc_loopprint.proofs.TimeNames.{kept_apart}
 use Rattle.affc_cprint.specs.Forms.{is_none}
 
@@ -48,10 +48,6 @@ new_is_free known w h =
     let q = and_parts (is_word w) (not (is_refused known.prelude false w)) p.0 in
     without (is_reserved w) (off (is_refused known.prelude false w) q.1)
 
-neither : (a b : Bool) → a ≡ false → b ≡ false → a || b ≡ false
-neither false b e f = f
-neither true b e f = e
-
 param_apart : (n : ℕ) (known : Known) (q : Param) → param_known known q ≡ true → same (param_name q) (time_name n) ≡ false
 param_apart n known (Number w low high) h = kept_apart n w (new_is_free known w (and_parts (is_new known false w) _ h).0)
 param_apart n known (Array d) h = kept_apart n d.name (new_is_free known d.name (and_parts (is_new known false d.name) _ h).0)
@@ -60,14 +56,14 @@ params_apart : (n : ℕ) (prelude : Bool) (f : Name) (before qs : List Param) �
 params_apart n prelude f before [] h = refl
 params_apart n prelude f before (q ∷ qs) h =
     let p = and_parts (param_known (known_behind prelude f before []) q) _ h in
-    neither _ _ (param_apart n (known_behind prelude f before []) q p.0) (params_apart n prelude f (before ++ q ∷ []) qs p.1)
+    or_from _ _ (param_apart n (known_behind prelude f before []) q p.0) (params_apart n prelude f (before ++ q ∷ []) qs p.1)
 
 temps_apart : (n : ℕ) (prelude : Bool) (f : Name) (qs : List Param) (before ds : List Decl) → temps_known prelude f qs before ds ≡ true → list_any (λ (d : Decl). same d.name (time_name n)) ds ≡ false
 temps_apart n prelude f qs before [] h = refl
 temps_apart n prelude f qs before (d ∷ ds) h =
     let p = and_parts (temp_known (known_behind prelude f qs before) d) _ h in
     let q = and_parts (is_new (known_behind prelude f qs before) false d.name) _ p.0 in
-    neither _ _ (kept_apart n d.name (new_is_free (known_behind prelude f qs before) d.name q.0)) (temps_apart n prelude f qs (before ++ d ∷ []) ds p.1)
+    or_from _ _ (kept_apart n d.name (new_is_free (known_behind prelude f qs before) d.name q.0)) (temps_apart n prelude f qs (before ++ d ∷ []) ds p.1)
 
 -- ---- Where calls may stand
 
@@ -121,5 +117,5 @@ loops_known program most ranges es h few m w pieces =
     (tests_wider (known_behind program.prelude program.name program.params []) (known_behind true program.name program.params []) (on program.prelude) (omega arith) program.context d.0)
     (and_from (temps_known true program.name program.params [] program.temps) (body_known (loops_program program ranges es)) (temps_more program.prelude program.name program.params [] program.temps e.0)
     (body_there (numbers_in program.params) most old new ranges es refl refl refl (λ v f t. t) (numbers_are program.params) few
-    (λ k l t. neither _ _ (kept_apart k program.name free_name) (neither _ _ (params_apart k program.prelude program.name [] program.params c.0) (temps_apart k program.prelude program.name program.params [] program.temps e.0)))
+    (λ k l t. or_from _ _ (kept_apart k program.name free_name) (or_from _ _ (params_apart k program.prelude program.name [] program.params c.0) (temps_apart k program.prelude program.name program.params [] program.temps e.0)))
     m w pieces)))))

@@ -2,9 +2,12 @@ pub mod Entries
 pub mod Sums
 pub mod Moved
 pub mod Fitting
-pub mod KnownAround
 pub mod TimeNames
+pub mod KnownAround
 pub mod KnownBlocks
+pub mod KnownHeads
+pub mod Passes
+pub mod Works
 pub mod ShapeMoved
 pub mod ShapeRooms
 pub mod ShapeForms
@@ -13,3 +16,6 @@ pub mod ShapeCalls
 pub mod ShapeBlocks
 pub mod ShapeLoops
 pub mod ShapeReads
+pub mod SpareReads
+pub mod WellNamedLoops
+pub mod ExampleProofs

@@ -2,7 +2,7 @@
 use Rattle.std.proofs.Common.{◌≡◌, ℕ, ◌+◌, ◌<◌, ◌≤◌, Bool, true, false, ◌&&◌, nat_lt, if◌then◌else◌, List, [], ◌∷◌, length, map, refl, sym, ap, ◌∙◌, arith}
 use Rattle.std.specs.Prelude.{slice_get}
 use Rattle.std.specs.List.{list_all}
-use Rattle.std.proofs.lemmas.Bool.{and_parts, and_from, ltb-true, ltb-false, lt-ltb}
+use Rattle.std.proofs.lemmas.Bool.{and_parts, and_from, ltb-true, lt-ltb}
 use Rattle.affc_ast.specs.declared.tree.Compare.{Compare}
 use Rattle.affc_ast.specs.declared.tree.Decl.{Decl}
 use Rattle.affc_ast.specs.declared.tree.Ix.{Ix}
@@ -13,7 +13,7 @@ use Rattle.affc_ast.specs.declared.tree.Val.TheVariants as v
 use Rattle.affc_ast.specs.declared.tree.Val.TheBlock.{more_of-Val, end_of-Val}
 use Rattle.affc_ast.proofs.Steps.{neg_here, floord_here, ceild_here, add_here, sub_here, mul_here, min_here, max_here, mod_here, not_here, bin_here, shift_here}
 use Rattle.affc_domain.proofs.Lists.{length_map}
-use Rattle.affc_loops.specs.Trees.{moved_name, moved, moved_compare, moved_value}
+use Rattle.affc_loops.specs.Trees.{moved, moved_compare, moved_value}
 use Rattle.affc_cprint.specs.Forms.{Form, both, product, quotient, is_within, form, form_step, compare_passes, value_passes, value_step as passes_step}
 use Rattle.affc_wellnamed.specs.Known.{Known, is_divisor, ix_step, ix_known, ixs_known, compares_known, takes, value_step, value_known}
 use Rattle.affc_wellnamed.specs.Plain.{is_plain}

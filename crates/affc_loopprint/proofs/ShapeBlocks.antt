@@ -68,11 +68,10 @@ tests_more t d u e c cs f g = let a = f.few in let b = f.shallow in let x = g.fe
 box_few : (from : ℕ) (rs : List (ℤ × ℤ)) → TestsFew (10 * length rs) 0 (box_tests from rs)
 box_few from [] = record { few = omega arith; shallow = omega arith }
 box_few from (r ∷ rs) =
-    let above : Compare = record { rel = LessEqual; left = number r.0; right = name_at from } in
-    let below : Compare = record { rel = LessEqual; left = name_at from; right = number r.1 } in
-    let rest = box_tests (suc from) rs in
-    let q = tests_more 4 0 (4 + 1 + 10 * length rs) 0 above (below ∷ rest) (compare_few 2 0 1 0 above (number_few r.0) (name_few from))
-    (tests_more 4 0 (10 * length rs) 0 below rest (compare_few 1 0 2 0 below (name_few from) (number_few r.1)) (box_few (suc from) rs)) in
+    let low : Compare = record { rel = LessEqual; left = number r.0; right = name_at from } in
+    let high : Compare = record { rel = LessEqual; left = name_at from; right = number r.1 } in
+    let later = tests_more 4 0 (10 * length rs) 0 high (box_tests (suc from) rs) (compare_few 1 0 2 0 high (name_few from) (number_few r.1)) (box_few (suc from) rs) in
+    let q = tests_more 4 0 (4 + 1 + 10 * length rs) 0 low (high ∷ box_tests (suc from) rs) (compare_few 2 0 1 0 low (number_few r.0) (name_few from)) later in
     let a = q.few in let b = q.shallow in record { few = omega (arith, a); shallow = omega (arith, b) }
 
 time_few : (first from component n : ℕ) (fs : List Affine) → n ≤ 10 → HaveColumns n fs → TestsFew (65 * length fs) 1 (time_tests first from component fs)
@@ -80,8 +79,8 @@ time_few first from component n [] few h = record { few = omega arith; shallow =
 time_few first from component n (f ∷ fs) few h =
     let e : length f.coefs ≡ n = h 0 f (omega arith) in
     let form = under_more 0 (6 * length f.coefs + 2) 1 0 62 1 (whole true (form_tree first from f)) (omega (arith, few, e)) (omega arith) (form_few first from f) in
-    let c : Compare = record { rel = Equal; left = name_at component; right = form_tree first from f } in
-    let q = tests_more 64 1 (65 * length fs) 1 c (time_tests first from (suc component) fs) (compare_few 1 0 62 1 c (name_few component) form) (time_few first from (suc component) n fs few (λ i x l. h (suc i) x (omega (arith, l)))) in
+    let test : Compare = record { rel = Equal; left = name_at component; right = form_tree first from f } in
+    let q = tests_more 64 1 (65 * length fs) 1 test (time_tests first from (suc component) fs) (compare_few 1 0 62 1 test (name_few component) form) (time_few first from (suc component) n fs few (λ i x l. h (suc i) x (omega (arith, l)))) in
     let a = q.few in let b = q.shallow in record { few = omega (arith, a); shallow = omega (arith, b) }
 
 -- ---- The block

@@ -21,7 +21,7 @@ use Rattle.affc_wellnamed.specs.declared.shape.Extent.{Extent}
 use Rattle.affc_wellnamed.specs.declared.shape.ValExtent.{ValExtent}
 use Rattle.affc_wellnamed.specs.declared.shape.Shape.{Shape}
 use Rattle.affc_wellnamed.specs.Known as known
-use Rattle.affc_wellnamed.specs.Known.{Known, and_iterator, and_locals, is_new, is_bound, ix_known, ixs_known, compares_known, value_known, for_known, if_known, block_known, locals_known, all_at, stmt_known, is_temp, extents_known, known_behind, param_known, params_known, temp_known, temps_known, is_function, context_known, body_known, program_known}
+use Rattle.affc_wellnamed.specs.Known.{Known, and_iterator, and_locals, is_new, is_bound, takes, ix_known, ixs_known, compares_known, value_known, for_known, if_known, block_known, locals_known, all_at, stmt_known, is_temp, extents_known, known_behind, param_known, params_known, temp_known, temps_known, is_function, context_known, body_known, program_known}
 use Rattle.affc_wellnamed.specs.Shape.{nothing, beside, and_tokens, bracketed, placed, negated, sum, product, ix_step, ix_extent, whole, dims_behind, compare_extent, compares_behind, conds_extent, at_level, binary, val_step, val_extent, both, line, worded, closed, all_behind, for_head, if_head, block_head, stmt_step, stmt_shape, head_tokens, array_extent, param_extent, params_behind, params_extent, decls_behind, head_line, function_shape}
 use Rattle.affc_ast.proofs.Steps.{neg_here, floord_here, ceild_here, add_here, sub_here, mul_here, min_here, max_here, mod_here, not_here, bin_here, shift_here, for_here, if_here, block_here}
 use Rattle.affc_cprint.proofs.ReadBackValues.{Each}

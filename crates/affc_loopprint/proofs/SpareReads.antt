@@ -1,22 +1,18 @@
 -- A program that a text without the prelude reads as has room for loops.
-use Rattle.std.proofs.Common.{◌≡◌, ℕ, zero, suc, Bool, true, false, not, ◌&&◌, List, [], ◌∷◌, Some, refl, sym, ap, ◌∙◌, arith}
-use Rattle.std.specs.Prelude.{slice_get}
-use Rattle.std.specs.List.{All}
+use Rattle.std.proofs.Common.{◌≡◌, Bool, true, false, not, ◌&&◌, List, [], ◌∷◌, refl, arith}
 use Rattle.std.proofs.lemmas.Bool.{and_parts}
 use Rattle.std.proofs.lemmas.List.Elements.{All-cons}
 use Rattle.affc_lex.specs.Pieces.{is_word}
-use Rattle.affc_ast.specs.declared.tree.Program.{Program}
 use Rattle.affc_ast.specs.Names.{is_reserved}
 use Rattle.affc_ast.specs.Trace.{Assignment}
-use Rattle.affc_domain.specs.Rounds.{Round, Loop, Test, rounds}
+use Rattle.affc_domain.specs.Rounds.{Round, Loop, Test}
 use Rattle.affc_domain.proofs.PlainLemmas.{has_assignment}
 use Rattle.affc_grammar.specs.Names.{is_time_name}
 use Rattle.affc_plain.proofs.NoLocals.{plain_has_no_locals}
 use Rattle.affc_plain.proofs.Programs.{reads_plain}
 use Rattle.affc_loops.specs.Loops.{loop_names}
-use Rattle.affc_cprint.proofs.Spelled.{off}
 use Rattle.affc_cprint.specs.Forms.{program_passes}
-use Rattle.affc_wellnamed.specs.Known.{Known, and_iterator, is_new, is_refused, for_known, if_known, known_behind, program_known, body_known}
+use Rattle.affc_wellnamed.specs.Known.{Known, and_iterator, is_new, is_refused, for_known, if_known, known_behind, program_known}
 use Rattle.affc_wellnamed.specs.Plain.{is_plain}
 use Rattle.affc_wellnamed.specs.Work.{program_fits}
 use Rattle.affc_wellnamed.proofs.Decides.{well_named_is_kept}
@@ -24,7 +20,7 @@ use Rattle.affc_reprint.proofs.Reprinted.{reads_well_named}
 use Rattle.affc_loopprint.specs.Laws.{ReadsSpare}
 use Rattle.affc_loopprint.specs.Spare.{HaveFreeNames}
 use Rattle.affc_loopprint.proofs.KnownAround.{around_known, all_known, known_body}
-use Rattle.affc_loopprint.proofs.ShapeLaws.{reads_short}
+use Rattle.affc_loopprint.proofs.ShapeReads.{reads_short}
 
 -- without the prelude no name that is kept may be an iterator's
 not_kept : (r p t : Bool) → p ≡ false → not (r && not (true && p && t)) ≡ true → r ≡ false

@@ -1,10 +1,9 @@
 -- The loops of a program that has room for them are well named.
-use Rattle.std.proofs.Common.{◌≡◌, ◌⊎◌, inl, inr, ℕ, suc, ◌^◌, ◌≤◌, ℤ, true, ◌&&◌, List, [], ◌∷◌, length, Option, Some, None, refl, sym, ap, subst, ◌∙◌, arith}
+use Rattle.std.proofs.Common.{◌≡◌, ◌⊎◌, inl, inr, ℕ, suc, ◌≤◌, ℤ, true, List, [], ◌∷◌, length, Option, Some, None, refl, sym, ap, subst, ◌∙◌, arith}
 use Rattle.std.proofs.lemmas.Bool.{and_from}
 use Rattle.affc_ast.specs.declared.tree.Program.{Program}
 use Rattle.affc_ast.specs.Trace.{Assignment, assignments}
 use Rattle.affc_trace.specs.declared.schedule.TimeMap.{TimeMap}
-use Rattle.affc_trace.specs.declared.schedule.Schedule.{Schedule}
 use Rattle.affc_trace.specs.declared.schedule.Schedule.TheVariants.{Source, Time}
 use Rattle.affc_trace.specs.Law.{IsIn}
 use Rattle.affc_trace.specs.Target.{numbers_in}
@@ -13,11 +12,12 @@ use Rattle.affc_domain.specs.Rounds.{Round, rounds}
 use Rattle.affc_domain.proofs.PlainLemmas.{rounds_of_each}
 use Rattle.affc_grammar.specs.Reads.{WellNamed}
 use Rattle.affc_loops.specs.Laws.{HasLoops}
-use Rattle.affc_loops.specs.Loops.{Piece, pieces_from, pieces, time_ranges, target_program}
+use Rattle.affc_loops.specs.Loops.{Piece, boxes, pieces_from, pieces, time_ranges, target_program}
 use Rattle.affc_loops.proofs.LoopLaws.{few}
+use Rattle.affc_loops.proofs.Pieces.{numbers_are}
 use Rattle.affc_loops.proofs.Sizes.{time_most}
 use Rattle.affc_cprint.specs.Forms.{program_passes}
-use Rattle.affc_wellnamed.specs.Known.{known_behind, program_known}
+use Rattle.affc_wellnamed.specs.Known.{program_known}
 use Rattle.affc_wellnamed.specs.Plain.{is_plain}
 use Rattle.affc_wellnamed.specs.Work.{program_fits}
 use Rattle.affc_wellnamed.specs.Shape.{program_shape, is_bounded}
@@ -30,7 +30,7 @@ use Rattle.affc_loopprint.proofs.KnownBlocks.{Sized}
 use Rattle.affc_loopprint.proofs.KnownHeads.{loops_known}
 use Rattle.affc_loopprint.proofs.Passes.{Slight, all_around, body_passes, loops_pass}
 use Rattle.affc_loopprint.proofs.Works.{all_free, loops_fit}
-use Rattle.affc_loopprint.proofs.ShapeLaws.{loops_bounded}
+use Rattle.affc_loopprint.proofs.ShapeLoops.{loops_bounded}
 use Rattle.affc_loopprint.proofs.SpareReads.{reads_spare}
 
 pub kept : (program : Program) → program_known program ≡ true → program_passes is_plain program ≡ true → program_fits program ≡ true → is_bounded (program_shape program) ≡ true → WellNamed program
@@ -54,11 +54,18 @@ module _ (source other : Program) (n : ℕ) (maps : List TimeMap) (has : HasLoop
 
   statements : length es ≤ 64
   statements =
-      let a = few_pieces 0 (rounds other) (assignments other) maps _ in
+      let a = few_pieces 0 (rounds other) (assignments other) maps (boxes other) in
       let b = ap length same.same_rounds in
       let c = rounds_of_each source in
       let d = has.plain.few_assignments in
       omega (arith, a, b, c, d)
+
+  numbers : numbers_in other.params ≤ 4
+  numbers =
+      let a = ap length same.same_ranges in
+      let b = numbers_are other.params in
+      let c = has.plain.few_numbers in
+      omega (arith, a, b, c)
 
   -- without statements there are no loops
   none_or_long : (es ≡ []) ⊎ (length ranges ≡ n)
@@ -107,7 +114,7 @@ module _ (source other : Program) (n : ℕ) (maps : List TimeMap) (has : HasLoop
       (sized e i, all_known other (known_body other spare.known) spare.bare f.at e.around e.assignment f.its_rounds f.its_assignment, spare.iterators f.at e.around f.its_rounds)))
       (loops_pass other time_most ranges es spare.plain (omega arith) (ranges_fit source other n maps has same) slight)
       (loops_fit other ranges es spare.fits statements low (λ e i. let f : Fit e = fitting source other n maps has same e i in all_free other spare.fits f.at e.around e.assignment f.its_rounds f.its_assignment))
-      (loops_bounded other n maps es ranges spare.short spare.fits (few source n maps has) statements (fitting source other n maps has same) low)
+      (loops_bounded other spare.short n ranges es numbers (few source n maps has) statements low (fitting source other n maps has same))
 
 pub spare_well_named : SpareWellNamed
 spare_well_named source other Source has same spare = kept other spare.known spare.plain spare.fits spare.short.bounded

@@ -1,13 +1,13 @@
 -- Where a program keeps the limits on statements, arrays and lines, so do its loops.
-use Rattle.std.proofs.Common.{◌≡◌, inl, inr, ℕ, zero, suc, ◌+◌, ◌≤◌, ℤ, Bool, true, false, ◌&&◌, ◌||◌, nat_le, nat_lt, List, [], ◌∷◌, length, map, Some, refl, sym, ap, subst, ◌∙◌, arith, if◌then◌else◌}
+use Rattle.std.proofs.Common.{◌≡◌, inl, inr, ℕ, suc, ◌+◌, ◌≤◌, ℤ, Bool, true, false, ◌&&◌, nat_le, nat_lt, List, [], ◌∷◌, length, map, Some, refl, sym, ap, subst, ◌∙◌, arith, if◌then◌else◌}
 use Rattle.std.specs.Prelude.{slice_get}
 use Rattle.std.specs.List.{list_all}
-use Rattle.std.proofs.lemmas.Bool.{and_parts, and_from, false≢true, le-leb}
+use Rattle.std.proofs.lemmas.Bool.{and_parts, and_from, or_parts, or_from, false≢true, le-leb}
 use Rattle.affc_ast.specs.declared.tree.Compare.{Compare}
 use Rattle.affc_ast.specs.declared.tree.Program.{Program}
 use Rattle.affc_ast.specs.declared.tree.Rel.TheVariants.{LessEqual}
 use Rattle.affc_ast.specs.declared.tree.Stmt.{Stmt}
-use Rattle.affc_ast.specs.declared.tree.Stmt.TheVariants.{For, If, Assign, Block}
+use Rattle.affc_ast.specs.declared.tree.Stmt.TheVariants.{For, If}
 use Rattle.affc_ast.specs.Trace.{Assignment, assignments}
 use Rattle.affc_trace.specs.Law.{IsIn}
 use Rattle.affc_trace.specs.Target.{numbers_in}
@@ -20,7 +20,7 @@ use Rattle.affc_cprint.proofs.ReadBackValues.{Each}
 use Rattle.affc_wellnamed.specs.declared.work.Work.{Work}
 use Rattle.affc_wellnamed.specs.Known.{number_count}
 use Rattle.affc_wellnamed.specs.Shape.{plus}
-use Rattle.affc_wellnamed.specs.Work.{loads, no_work, one_work, both, looped, all_behind, stmt_step, work, stmts_behind, is_bounded, param_fits, has_few, program_fits}
+use Rattle.affc_wellnamed.specs.Work.{loads, no_work, one_work, both, looped, stmt_step, work, stmts_behind, is_bounded, param_fits, has_few, program_fits}
 use Rattle.affc_wellnamed.proofs.ShapeParts.{larger_is}
 use Rattle.affc_loopprint.proofs.Entries.{Walk, two_at, entries}
 use Rattle.affc_loopprint.proofs.Fitting.{loops_program}
@@ -34,15 +34,11 @@ is_crowded a = (one_work a.op (loads a.value)).crowded
 abbrev IsThere : Unit {0} → Stmt → Type 0
 IsThere x s = (work s).crowded ≡ false
 
-neither : (a b : Bool) → a || b ≡ false → (a ≡ false) × (b ≡ false)
-neither false b e = (refl, e)
-neither true b e = absurd (false≢true (sym e))
-
 all_behind_there : (a : Work) (body : List Stmt) → (stmts_behind a body).crowded ≡ false → (a.crowded ≡ false) × Each (IsThere tt) body
 all_behind_there a [] h = (h, tt)
 all_behind_there a (s ∷ body) h =
     let p = all_behind_there (both a (work s)) body h in
-    let q = neither a.crowded (work s).crowded p.0 in
+    let q = or_parts a.crowded (work s).crowded p.0 in
     (q.0, (q.1, p.1))
 
 walk : Walk IsThere (λ x rs a. is_crowded a ≡ false) (λ x w. x)
@@ -81,18 +77,16 @@ record IsLight (statements loops : ℕ) (w : Work) : Type 0 where
 none_light : IsLight 0 0 no_work
 none_light = record { few = omega arith; low = omega arith; free = refl }
 
-both_free : (a b : Bool) → a ≡ false → b ≡ false → a || b ≡ false
-both_free false b e f = f
-both_free true b e f = e
-
 both_light : (s t l : ℕ) (a b : Work) → IsLight s l a → IsLight t l b → IsLight (s + t) l (both a b)
 both_light s t l a b h k =
     let x = h.few in let y = k.few in let u = h.low in let v = k.low in
     let m = larger_is a.loops b.loops in
-    record { few = omega (arith, x, y); low = omega (arith, u, v, m); free = both_free a.crowded b.crowded h.free k.free }
+    record { few = omega (arith, x, y); low = omega (arith, u, v, m); free = or_from a.crowded b.crowded h.free k.free }
 
 one_light : (s l : ℕ) (w : Work) → IsLight s l w → IsLight s l (both no_work w)
-one_light s l w h = both_light 0 s l no_work w (record { few = omega arith; low = omega arith; free = refl }) h
+one_light s l w h =
+    let r = both_light 0 s l no_work w (record { few = omega arith; low = omega arith; free = refl }) h in
+    let f = r.few in record { few = omega (arith, f); low = r.low; free = r.free }
 
 if_light : (s l : ℕ) (cs : List Compare) (body : List Stmt) → IsLight s l (stmts_behind no_work body) → IsLight s l (stmts_behind no_work (If cs body ∷ []))
 if_light s l cs body h = one_light s l (work (If cs body)) (subst (IsLight s l) (sym (if_here stmt_step cs body)) h)
@@ -145,7 +139,9 @@ loops_light s (r ∷ rs) component body h =
 body_light : (first : ℕ) (ranges : List (ℤ × ℤ)) (es : List Piece) → ((e : Piece) → IsIn e es → is_crowded e.assignment ≡ false) → IsLight (length es) (length ranges) (stmts_behind no_work (body_of first ranges es))
 body_light first ranges [] k = record { few = omega arith; low = omega arith; free = refl }
 body_light first ranges (e ∷ es) k =
-    loops_light (length (e ∷ es)) ranges 0 (map (block_of first (length ranges)) (e ∷ es)) (blocks_light first (length ranges) 0 no_work (e ∷ es) none_light k)
+    let r = blocks_light first (length ranges) 0 no_work (e ∷ es) none_light k in
+    let f = r.few in
+    loops_light (length (e ∷ es)) ranges 0 (map (block_of first (length ranges)) (e ∷ es)) (record { few = omega (arith, f); low = r.low; free = r.free })
 
 light_bounded : (s l : ℕ) (w : Work) → IsLight s l w → s ≤ 64 → l ≤ 12 → is_bounded w ≡ true
 light_bounded s l w h a b =

@@ -1,3 +1,4 @@
 pub mod Short
 pub mod Spare
 pub mod Laws
+pub mod Examples
