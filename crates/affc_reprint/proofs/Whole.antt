@@ -9,10 +9,9 @@ use Rattle.affc_grammar.specs.Names.{outermost, with_params, program_tree}
 use Rattle.affc_wellnamed.specs.Shape.{lines_shape, function_shape, program_shape, is_bounded}
 use Rattle.affc_cprint.proofs.Parts.{program_parts}
 use Rattle.affc_wellnamed.proofs.Counts.{after, highest, any_tokens, none_past}
-use Rattle.affc_wellnamed.proofs.ShapeParts.{larger_is}
 use Rattle.affc_wellnamed.proofs.ShapePrograms.{no_faults, none_of_both}
 use Rattle.affc_reprint.proofs.Nests.{nest_few}
-use Rattle.affc_reprint.proofs.Statements.{HasRun, run_left, run_right, items_right}
+use Rattle.affc_reprint.proofs.Statements.{numbers_of, AtMost, most_both, HasRun, run_left, run_right, items_right}
 use Rattle.affc_reprint.proofs.Lines.{HasDeep, deep_row, deep_left, deep_right, pragmas_read, lines_most}
 use Rattle.affc_reprint.proofs.Kept.{Keeps, few_numbers, few_conditions}
 use Rattle.affc_reprint.proofs.Programs.{function_read}
@@ -41,12 +40,25 @@ short ss e =
       items = none_past count_item 256 0 0 ss (omega arith) (no_faults _ _ p.1);
     }
 
+-- what is printed before the function, and of it
+pub record Printed (p : Program) : Type 0 where
+  pub lines : AtMost (numbers_of (lines_shape p)) (record { tokens = 65424; run = 65379; depth = 193; items = 0 })
+  pub function : AtMost (numbers_of (function_shape p)) (record { tokens = 131072; run = 4096; depth = 230; items = 256 })
+
+pub printed_bounded : (p : Program) → Printed p → is_bounded (program_shape p) ≡ true
+printed_bounded p h =
+    let a = h.lines in let b = h.function in
+    let q = most_both (lines_shape p) (function_shape p) _ _ a b in
+    let t = q.tokens in let r = q.run in let d = q.depth in let i = q.items in
+    and_from _ _ (and_from _ _ (le-leb (program_shape p).tokens wide_limits.tokens (omega (arith, t))) (le-leb (program_shape p).run wide_limits.run (omega (arith, r))))
+    (and_from _ _ (le-leb (program_shape p).depth wide_limits.depth (omega (arith, d))) (le-leb (program_shape p).items wide_limits.items (omega (arith, i))))
+
 module _ (line : LineText) (ps : PragmasText) (k : IsTrue (false || not (context_calls ps))) (f : FunctionText false) (p : Program) where
   abbrev the_text : Text
   the_text = record { line = line; pragmas = ps; has_prelude = false; calls_allowed = k; function = f }
 
-  pub bounded : program_tree (text_draft the_text) ≡ Ok p → shape_passed plain_limits (text_symbols the_text) ≡ [] → Keeps (text_draft the_text) → is_bounded (program_shape p) ≡ true
-  bounded reads shape keep =
+  pub is_printed : program_tree (text_draft the_text) ≡ Ok p → shape_passed plain_limits (text_symbols the_text) ≡ [] → Keeps (text_draft the_text) → Printed p
+  is_printed reads shape keep =
       let d : TextDraft = text_draft the_text in
       let front = include_symbols line in
       let lines = pragmas_symbols ps in
@@ -58,7 +70,6 @@ module _ (line : LineText) (ps : PragmasText) (k : IsTrue (false || not (context
       let parts = program_parts d p reads in
       let fit = pragmas_read (with_params (outermost d) d.params) (length front) ps [] p.context parts.context (λ n h. run_in n (run_right n front (lines ++ function) (run_left n lines function h)))
       (λ n h. deep_in n (deep_right n front (lines ++ function) (deep_left n lines function h))) in
-      let above = lines_most p fit (few_numbers d p reads keep) (few_conditions d p reads keep) in
       let low = nest_few _ f.stmts keep.loops keep.bodies keep.comparisons in
       let below = function_read d.pragmas (outermost d) (with_params (outermost d) d.params) parts.inner _ _ _ f p parts.prelude parts.params parts.temps parts.body in
       let n1 = run_in below.run (run_right below.run front (lines ++ function) (run_right below.run lines function below.has_run)) in
@@ -67,9 +78,8 @@ module _ (line : LineText) (ps : PragmasText) (k : IsTrue (false || not (context
       let n4 = after_most count_item 0 (front ++ (lines ++ function)) in
       let l1 = length-append front (lines ++ function) in
       let l2 = length-append lines function in
-      let a = above.tokens in let b = above.run in let c = above.depth in let e = above.items in
       let t = below.few in let r = below.short in let h = below.shallow in let i = below.counted in
-      let x = larger_is (lines_shape p).run (function_shape p).run in
-      let y = larger_is (lines_shape p).depth (function_shape p).depth in
-      and_from _ _ (and_from _ _ (le-leb (program_shape p).tokens wide_limits.tokens (omega (arith, a, t, l1, l2, st))) (le-leb (program_shape p).run wide_limits.run (omega (arith, b, r, n1, x))))
-      (and_from _ _ (le-leb (program_shape p).depth wide_limits.depth (omega (arith, c, h, n2, low, y))) (le-leb (program_shape p).items wide_limits.items (omega (arith, e, i, n3, n4, si))))
+      record {
+        lines = lines_most p fit (few_numbers d p reads keep) (few_conditions d p reads keep);
+        function = record { tokens = omega (arith, t, l1, l2, st); run = omega (arith, r, n1); depth = omega (arith, h, n2, low); items = omega (arith, i, n3, n4, si) };
+      }
