@@ -1,0 +1,4 @@
+pub mod Forms
+pub mod Sums
+pub mod Trees
+pub mod Examples
