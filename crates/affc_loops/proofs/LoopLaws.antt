@@ -59,8 +59,8 @@ module _ (source : Program) (n : ℕ) (maps : List TimeMap) (h : HasLoops source
   pub slight : IsTrue (maps_within maps)
   slight = (both_true (nat_le 1 n && nat_le n 12) (maps_within maps) h.limits).1
 
-  none_or_long : (pieces source maps ≡ []) ⊎ (length (time_ranges (number_ranges source.params) (pieces source maps)) ≡ n)
-  none_or_long = by (pieces source maps) refl
+  some_or_none : (pieces source maps ≡ []) ⊎ (length (time_ranges (number_ranges source.params) (pieces source maps)) ≡ n)
+  some_or_none = by (pieces source maps) refl
     where
       params : List (ℤ × ℤ)
       params = number_ranges source.params
@@ -88,8 +88,8 @@ module _ (source other : Program) (n : ℕ) (maps : List TimeMap) (h : HasLoops 
   ranges_are : ranges ≡ own_ranges
   ranges_are = times_same source other same maps
 
-  some_or_none : (all ≡ []) ⊎ (length ranges ≡ n)
-  some_or_none = elim (none_or_long source n maps h) [ inl e ↦ inl (pieces_none source other same maps e) | inr l ↦ inr (ap length ranges_are ∙ l) ]
+  none_or_long : (all ≡ []) ⊎ (length ranges ≡ n)
+  none_or_long = elim (some_or_none source n maps h) [ inl e ↦ inl (pieces_none source other same maps e) | inr l ↦ inr (ap length ranges_are ∙ l) ]
 
   module _ (p : List ℤ) (within : IsTrue (within_ranges source.params p)) where
     box : InBox params p
@@ -141,7 +141,7 @@ module _ (source other : Program) (n : ℕ) (maps : List TimeMap) (h : HasLoops 
     -- ---- what they do
 
     pub does_at : effects (target_program other (Time n maps)) p ≡ map (placed (λ x. x) (effect other p)) (target other (Time n maps) p)
-    does_at = elim some_or_none [
+    does_at = elim none_or_long [
       | inl e ↦
           ap (λ es. done_by (body_of (numbers_in other.params) (time_ranges (number_ranges other.params) es) es) p) e
           ∙ sym (ap (λ is. map (placed (λ x. x) (effect other p)) (in_order_of (time_cmp maps p) is)) (none e))
@@ -179,7 +179,7 @@ module _ (source other : Program) (n : ℕ) (maps : List TimeMap) (h : HasLoops 
           (all_read p (arrays_of other.params) (λ d i. safe.extents d (to_first (arrays_of other.params) other.temps d i)) (λ d e i j. extents d e (to_first (arrays_of other.params) other.temps d i) j) 0 0)
           (wants_reading (all_extents (length (arrays_of other.params)) other.temps _ p) own start _
           (all_read p other.temps (λ d i. safe.extents d (to_second (arrays_of other.params) other.temps d i)) (λ d e i j. extents d e (to_second (arrays_of other.params) other.temps d i) j) _ _)
-          (statements_want all refl some_or_none (record { names = p; iterators = []; extents = given ++ own }) refl together place start))
+          (statements_want all refl none_or_long (record { names = p; iterators = []; extents = given ++ own }) refl together place start))
 
 -- ---- any schedule
 

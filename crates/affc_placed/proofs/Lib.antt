@@ -1,0 +1,2 @@
+pub mod RefoldLemmas
+pub mod StandsLemmas
