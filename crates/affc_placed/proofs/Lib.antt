@@ -1,2 +1,4 @@
 pub mod RefoldLemmas
 pub mod StandsLemmas
+pub mod PlacedLaws
+pub mod Remainder
