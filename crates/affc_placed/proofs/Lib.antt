@@ -2,3 +2,5 @@ pub mod RefoldLemmas
 pub mod StandsLemmas
 pub mod PlacedLaws
 pub mod Remainder
+pub mod ReplaceLemmas
+pub mod FoldedLaws
