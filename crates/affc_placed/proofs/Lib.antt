@@ -4,3 +4,4 @@ pub mod PlacedLaws
 pub mod Remainder
 pub mod ReplaceLemmas
 pub mod FoldedLaws
+pub mod ExampleProofs

@@ -8,6 +8,7 @@ use Rattle.affc_ast.specs.declared.tree.ArrayId.{ArrayId}
 use Rattle.affc_ast.specs.declared.tree.Decl.{Decl}
 use Rattle.affc_ast.specs.declared.tree.Instance.{Instance}
 use Rattle.affc_ast.specs.declared.tree.Ix.{Ix}
+use Rattle.affc_ast.specs.declared.tree.Op.{Op}
 use Rattle.affc_ast.specs.declared.tree.Program.{Program}
 use Rattle.affc_ast.specs.declared.tree.Val.{Val}
 use Rattle.affc_ast.specs.declared.tree.Val.TheVariants as v
@@ -23,11 +24,11 @@ use Rattle.affc_trace.specs.Target.{numbers_in}
 use Rattle.affc_trace.proofs.LastStores.{map_append}
 use Rattle.affc_trace.proofs.Members.{to_first, to_second}
 use Rattle.affc_trace.proofs.Once.{in_append}
-use Rattle.affc_domain.specs.Accesses.{Access, accesses_in, accesses_of}
+use Rattle.affc_domain.specs.Accesses.{Access, accesses_in, own_access, accesses_of}
 use Rattle.affc_domain.specs.Arrays.{declared_arrays, extents_at}
 use Rattle.affc_domain.proofs.Lists.{from_map, to_mapped, length_map}
 use Rattle.affc_domain.proofs.RangeLemmas.{in_ranges}
-use Rattle.affc_safe.specs.Overflow.{ReadsValue, ReadsAssignment, NeverOverflows}
+use Rattle.affc_safe.specs.Overflow.{AreReadable, ReadsValue, ReadsAssignment, NeverOverflows}
 use Rattle.affc_safe.specs.Safe.{LiesWithin, HasExtents, IsSafe}
 use Rattle.affc_safe.proofs.Accesses.{entry_in}
 use Rattle.affc_loops.proofs.Boxed.{box_length}
@@ -64,6 +65,30 @@ reads_refolded at names (v.Bin' op s (more_of-Val a end_of-Val) t (more_of-Val b
     reads_bin op (refold_value at (length names) a) (refold_value at (length names) b) names
     (reads_refolded at names a (λ x i. h x (to_first (accesses_in a) (accesses_in b) x i)) r.0)
     (reads_refolded at names b (λ x i. h x (to_second (accesses_in a) (accesses_in b) x i)) r.1)
+
+-- subscripts of each access of an assignment that is read
+pub accesses_read : (a : Assignment) (names : List ℤ) → ReadsAssignment a names → (x : Access) → IsIn x (accesses_of a) → AreReadable x.1 names
+accesses_read a names r x i = elim (in_append (own_access a.op (a.array, a.subs)) (accesses_in a.value ++ (a.array, a.subs) ∷ []) x i) [
+  | inl j ↦ own a.op j
+  | inr j ↦ elim (in_append (accesses_in a.value) ((a.array, a.subs) ∷ []) x j) [ inl k ↦ in_value a.value x k r.value | inr k ↦ stored k ]
+]
+  where
+    stored : IsIn x ((a.array, a.subs) ∷ []) → AreReadable x.1 names
+    stored (inl e) = subst (λ (y : Access). AreReadable y.1 names) (sym e) r.subs
+    stored (inr j) = absurd j
+
+    own : (op : Option Op) → IsIn x (own_access op (a.array, a.subs)) → AreReadable x.1 names
+    own None j = absurd j
+    own (Some op) j = stored j
+
+    in_value : (e : Val) (x : Access) → IsIn x (accesses_in e) → ReadsValue e names → AreReadable x.1 names
+    in_value (v.Load array subs) x (inl q) h = subst (λ (y : Access). AreReadable y.1 names) (sym q) h
+    in_value (v.Load array subs) x (inr j) h = absurd j
+    in_value (v.Const n) x j h = absurd j
+    in_value (v.Cast e) x j h = absurd j
+    in_value (v.Not' s (more_of-Val b end_of-Val)) x j h = in_value b x j h
+    in_value (v.Shift' left s (more_of-Val b end_of-Val) by) x j h = in_value b x j h
+    in_value (v.Bin' op s (more_of-Val b end_of-Val) t (more_of-Val c end_of-Val)) x j h = elim (in_append (accesses_in b) (accesses_in c) x j) [ inl k ↦ in_value b x k h.0 | inr k ↦ in_value c x k h.1 ]
 
 -- ---- Lists of extents
 
