@@ -1,5 +1,5 @@
 -- The examples hold.
-use Rattle.std.proofs.Common.{◌≡◌, ℕ, zero, suc, ◌+◌, ◌*◌, ◌^◌, ℤ, pos, negsuc, ◌+ℤ◌, ◌*ℤ◌, ◌≤ℤ◌, ◌<ℤ◌, Bool, true, false, true≢false, if◌then◌else◌, List, [], ◌∷◌, ◌++◌, length, get_or, map, Some, None, Result, Ok, Err, refl, sym, ap, subst, ◌∙◌, inl, inr, arith}
+use Rattle.std.proofs.Common.{◌≡◌, ℕ, zero, suc, ◌+◌, ◌*◌, ◌^◌, ℤ, pos, negsuc, ◌+ℤ◌, ◌-ℤ◌, ◌*ℤ◌, ◌≤ℤ◌, ◌<ℤ◌, Bool, true, false, true≢false, if◌then◌else◌, List, [], ◌∷◌, ◌++◌, length, get_or, map, Some, None, Result, Ok, Err, refl, sym, ap, subst, ◌∙◌, inl, inr, arith}
 use Rattle.std.specs.Prelude.{slice_get, nat_eq}
 use Rattle.std.specs.Int.{int_rem_euclid}
 use Rattle.std.proofs.lemmas.Bool.{eqb-true}
@@ -13,15 +13,16 @@ use Rattle.affc_rows.specs.Forms.{dot, value}
 use Rattle.affc_ast.specs.declared.tree.ArrayId.{ArrayId}
 use Rattle.affc_ast.specs.declared.tree.Decl.{Decl}
 use Rattle.affc_ast.specs.declared.tree.Ix.{Ix}
-use Rattle.affc_ast.specs.declared.tree.Ix.TheVariants.{Add, Mod}
+use Rattle.affc_ast.specs.declared.tree.Ix.TheVariants.{Add, Sub, Mod}
 use Rattle.affc_ast.specs.Cause.{Cause}
+use Rattle.affc_ast.specs.Store.{Element}
 use Rattle.affc_ast.specs.Fits.{Fits, whole, whole_step}
 use Rattle.affc_ast.specs.Trace.{Assignment, assignments, element}
-use Rattle.affc_ast.proofs.Steps.{add_here, mod_here}
+use Rattle.affc_ast.proofs.Steps.{add_here, sub_here, mod_here}
 use Rattle.affc_trace.specs.Examples.{blur, together, two, S0}
 use Rattle.affc_trace.specs.Dataflow.{Legal, LivePair}
 use Rattle.affc_trace.specs.Effects.{has_no_locals}
-use Rattle.affc_trace.specs.Law.{IsIn}
+use Rattle.affc_trace.specs.Law.{Effect, IsIn}
 use Rattle.affc_trace.specs.Laws.{IsInContext}
 use Rattle.affc_trace.proofs.ExampleProofs.{blur_has_its_maps}
 use Rattle.affc_trace.proofs.Found.{legal_has_no_violations}
@@ -41,8 +42,8 @@ use Rattle.affc_basis.proofs.BlurContext.{in_context, by_context}
 use Rattle.affc_basis.proofs.FoldsFound.{folds_are_found}
 use Rattle.affc_basis.proofs.MarkExamples.{three_is_enough}
 use Rattle.affc_basis.proofs.PremiseExamples.{lists_of_folds}
-use Rattle.affc_placed.specs.Examples.{lit, temporary, AllAreMarked, by_three, three, folded_blur, BlurFolds, BlurCompiles, BlurIsReplaced, OthersDontStand, TwoAreTooFew, OtherPlaces, by_far, FarIsntRead, SizesOfTemporaries, ExtentsOfTemporaries}
-use Rattle.affc_placed.specs.Placed.{HasFoldedLoops}
+use Rattle.affc_placed.specs.Examples.{lit, most, AllAreMarked, by_three, three, folded_blur, BlurFolds, BlurCompiles, BlurIsReplaced, OthersDontStand, TwoAreTooFew, OtherPlaces, by_far, FarIsntRead, SizesOfTemporaries, ExtentsOfTemporaries}
+use Rattle.affc_placed.specs.Placed.{Replaces, HasFoldedLoops}
 use Rattle.affc_placed.specs.Refolds.{Subscripts, AtEachAccess, IsAtPlace, IsReadAt, AreSized, extents_by, HaveFoldedExtents, FoldsBy}
 use Rattle.affc_placed.proofs.FoldedLaws.{refolded_loops_compile}
 use Rattle.affc_placed.proofs.Remainder.{remainder_is_read}
@@ -214,3 +215,89 @@ blur_is_replaced =
     let inside = two_is_inside in
     refolded_replaces by_three (three ∷ []) blur folds two blur_is_bare inside.ranges (plain_never_overflows blur two blur_is_plain.0 blur_is_plain.1 inside.ranges)
     (blur_is_safe two inside) lists_of_folds.0 (blur_folds_by two inside)
+
+-- ---- What doesn't serve
+
+abbrev IsOk : {A : Type 0} → Result A Cause → Type 0
+IsOk (Ok x) = Unit {0}
+IsOk (Err cause) = ⊥
+
+-- what is stuck has no value
+no_value : {A : Type 0} (cause : Cause) (x : A) → ◌≡◌ {A = Result A Cause} (Err cause) (Ok x) → ⊥
+no_value cause x e = subst IsOk (sym e) tt
+
+three_is_not_none : ◌≡◌ {A = ℤ} (pos 3) (pos 0) → ⊥
+three_is_not_none e = omega (arith, ints)
+
+four_is_not_three : ◌≡◌ {A = ℤ} (pos 4) (pos 3) → ⊥
+four_is_not_three e = omega (arith, ints)
+
+six_are_not_none : ◌≡◌ {A = ℕ} 0 6 → ⊥
+six_are_not_none e = omega arith
+
+one_is_not_none : ◌≡◌ {A = ℕ} 1 0 → ⊥
+one_is_not_none e = omega arith
+
+none_is_too_small : pos 1 ≤ℤ pos 0 → ⊥
+none_is_too_small h = omega (arith, ints)
+
+abbrev first_of_all : List ℤ → ℤ
+first_of_all xs = get_or xs 0 (pos 0)
+
+pub others_dont_stand : OthersDontStand
+unfolding shape-the_row-Ix-0 hidden-the_row-Ix-0 shape-the_row-Val-0 hidden-the_row-Val-0 shape-the_row-Stmt-0 hidden-the_row-Stmt-0 hidden
+others_dont_stand = (
+  λ h. true≢false (sym h.bare),
+  λ h. six_are_not_none (ap length h.same_trace),
+  λ h. three_is_not_none (ap (λ (e : Effect Element ℕ). first_of_all e.stores.1) (h.same_effects (S0 3) (inr (inr (inr (inl refl)))))),
+)
+
+pub two_are_too_few : TwoAreTooFew
+unfolding shape-the_row-Ix-0 hidden-the_row-Ix-0 shape-the_row-Val-0 hidden-the_row-Val-0 shape-the_row-Stmt-0 hidden-the_row-Stmt-0 hidden
+two_are_too_few = (
+  Replaces.within blur_is_replaced,
+  λ h. true≢false (sym (h (S0 2) (2, pos 2 ∷ []) (inr (inr (inl refl))) (inr refl))),
+)
+
+pub other_places : OtherPlaces
+unfolding shape-the_row-Ix-0 hidden-the_row-Ix-0 shape-the_row-Val-0 hidden-the_row-Val-0 shape-the_row-Stmt-0 hidden-the_row-Stmt-0 hidden
+other_places = λ h. three_is_not_none (sym (ap (λ (x : Element). first_of_all x.1) (h (S0 3) _ _ (inr (inr (inr (inl refl)))) refl (inr (inl refl)))))
+
+there_and_back : (z m : ℤ) → (z +ℤ m) -ℤ m ≡ z
+there_and_back z m = omega (arith, ints)
+
+at_far : (e : Ix) (names p : List ℤ) → IsAtPlace by_far (place folds p) names (record { 0 = 2 }, e ∷ [])
+at_far e names p =
+    let same : whole (Sub (Add e most) most) names ≡ whole e names =
+    ap (λ f. (f names).value) (sub_here whole_step (Add e most) most) ∙ ap (λ z. z -ℤ whole most names) (ap (λ f. (f names).value) (add_here whole_step e most)) ∙ there_and_back (whole e names) (whole most names) in
+    ap (λ z. (2, z ∷ [])) (remainder_of_three (Sub (Add e most) most) names p ∙ ap (λ z. int_rem_euclid (dot (pos 1 ∷ []) (z ∷ [])) (value (number 3) p)) same)
+
+pub far_isnt_read : FarIsntRead
+unfolding shape-the_row-Ix-0 hidden-the_row-Ix-0 shape-the_row-Val-0 hidden-the_row-Val-0 shape-the_row-Stmt-0 hidden-the_row-Stmt-0 hidden
+far_isnt_read = (
+  λ b a x i e j.
+      by_access (IsAtPlace by_far (place folds two)) (two ++ b.iterators) b.statement a x e j
+      (λ array subs f. others_stay (map (λ e. Mod (Sub (Add e most) most) (lit 3))) two (two ++ b.iterators) array subs f) (λ e. at_far e (two ++ b.iterators) two),
+  λ h. no_value _ _ ((h (S0 1) _ _ (inr (inl refl)) refl (inr (inl refl))).0 0),
+)
+
+two_temporaries : AreSized (three ∷ three ∷ []) two
+two_temporaries d (inl e) = one_temporary two d (inl e)
+two_temporaries d (inr i) = one_temporary two d i
+
+pub sizes_of_temporaries : SizesOfTemporaries
+unfolding shape-the_row-Ix-0 hidden-the_row-Ix-0 shape-the_row-Val-0 hidden-the_row-Val-0 shape-the_row-Stmt-0 hidden-the_row-Stmt-0 hidden
+sizes_of_temporaries = (
+  two_temporaries,
+  λ h. none_is_too_small ((h _ (inr (inl refl))).1 _ (inr (inl refl))),
+  λ h. no_value _ _ ((h _ (inr (inl refl))).0.1.0 0),
+)
+
+pub extents_of_temporaries : ExtentsOfTemporaries
+unfolding shape-the_row-Ix-0 hidden-the_row-Ix-0 shape-the_row-Val-0 hidden-the_row-Val-0 shape-the_row-Stmt-0 hidden-the_row-Stmt-0 hidden
+extents_of_temporaries = (
+  λ h. four_is_not_three (ap first_of_all (h 0)),
+  λ k. refl,
+  λ h. four_is_not_three (sym (ap first_of_all (h 0))),
+  λ h. one_is_not_none (ap length (h 1)),
+)

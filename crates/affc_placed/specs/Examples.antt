@@ -1,9 +1,9 @@
 -- What the definitions give at small programs. Each was found by hand from the rules.
-use Rattle.std.specs.Prelude.{◌≡◌, ℕ, ◌*◌, ◌^◌, ℤ, pos, true, if◌then◌else◌, nat_eq, List, [], ◌∷◌, ◌++◌, map, Some, None}
+use Rattle.std.specs.Prelude.{◌≡◌, ℕ, ◌-◌, ◌^◌, ℤ, pos, true, if◌then◌else◌, nat_eq, List, [], ◌∷◌, ◌++◌, map, Some, None}
 use Rattle.affc_ast.specs.declared.tree.Compare.{Compare}
 use Rattle.affc_ast.specs.declared.tree.Decl.{Decl}
 use Rattle.affc_ast.specs.declared.tree.Ix.{Ix}
-use Rattle.affc_ast.specs.declared.tree.Ix.TheVariants.{Lit, Name, Add, Mul, Mod}
+use Rattle.affc_ast.specs.declared.tree.Ix.TheVariants.{Lit, Name, Add, Sub, Mul, Mod}
 use Rattle.affc_ast.specs.declared.tree.Op.TheVariants as op
 use Rattle.affc_ast.specs.declared.tree.Program.{Program}
 use Rattle.affc_ast.specs.declared.tree.Rel.TheVariants.{Less, GreaterEqual}
@@ -99,9 +99,12 @@ TwoAreTooFew = PlacesLieWithin folded_blur blur (place folds two) two × (¬ (Pl
 abbrev pub OtherPlaces : Type 0
 OtherPlaces = ¬ (AtEachAccess blur two (IsAtPlace by_three (place (fold_at 2 (onto 4) ∷ []) two)))
 
--- the same places, by a number past 2^63
+-- the same places, by a sum past 2^63
+abbrev pub most : Ix
+most = lit (2 ^ 63 - 1)
+
 abbrev pub by_far : Subscripts
-by_far names array subs = if nat_eq array.0 2 then map (λ e. Mod (Add e (lit (3 * 2 ^ 62))) (lit 3)) subs else subs
+by_far names array subs = if nat_eq array.0 2 then map (λ e. Mod (Sub (Add e most) most) (lit 3)) subs else subs
 
 abbrev pub FarIsntRead : Type 0
 FarIsntRead = AtEachAccess blur two (IsAtPlace by_far (place folds two)) × (¬ (AtEachAccess blur two (IsReadAt by_far)))
