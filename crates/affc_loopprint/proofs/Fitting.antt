@@ -1,24 +1,23 @@
 -- What the limits of a schedule and of its source give of the statements that are printed.
-use Rattle.std.proofs.Common.{◌≡◌, ℕ, suc, ◌+◌, ◌^◌, ◌≤◌, ℤ, true, List, [], ◌∷◌, length, map, Option, Some, None, refl, sym, ap, subst, ◌∙◌, arith}
+use Rattle.std.proofs.Common.{◌≡◌, ℕ, ◌+◌, ◌^◌, ◌≤◌, ℤ, true, List, ◌∷◌, length, Some, sym, ap, subst, ◌∙◌, arith}
 use Rattle.std.specs.Prelude.{slice_get}
 use Rattle.std.specs.List.{All}
 use Rattle.std.proofs.lemmas.Option.{same_Some}
 use Rattle.affc_rows.specs.Forms.{HaveColumns}
 use Rattle.affc_system.specs.Boxes.{IsBox}
 use Rattle.affc_ast.specs.declared.tree.Program.{Program}
-use Rattle.affc_ast.specs.Trace.{Assignment, assignments}
+use Rattle.affc_ast.specs.Trace.{assignments}
 use Rattle.affc_trace.specs.declared.schedule.TimeMap.{TimeMap}
 use Rattle.affc_trace.specs.declared.schedule.Schedule.TheVariants.{Time}
 use Rattle.affc_trace.specs.Law.{IsIn}
 use Rattle.affc_trace.specs.Target.{numbers_in}
 use Rattle.affc_trace.proofs.Runs.{length_append}
-use Rattle.affc_domain.specs.Ranges.{number_ranges, ranges_of}
-use Rattle.affc_domain.specs.Rounds.{Round, rounds, loops_in}
-use Rattle.affc_domain.proofs.PlainLemmas.{rounds_of_each, rounds_are_plain, few_loops}
+use Rattle.affc_domain.specs.Ranges.{number_ranges}
+use Rattle.affc_domain.specs.Rounds.{rounds, loops_in}
+use Rattle.affc_domain.proofs.PlainLemmas.{rounds_are_plain, few_loops}
 use Rattle.affc_loops.specs.Laws.{HasLoops, HaveSameLoops}
 use Rattle.affc_loops.specs.Limits.{IsSlight}
-use Rattle.affc_loops.specs.Loops.{Piece, box_in, boxes, pieces_from, pieces, times_of, time_ranges, loop_names, body_of}
-use Rattle.affc_loops.specs.Spans.{hulls}
+use Rattle.affc_loops.specs.Loops.{Piece, boxes, pieces, time_ranges, loop_names, body_of}
 use Rattle.affc_loops.proofs.Boxes.{sits, near_box, params_ordered}
 use Rattle.affc_loops.proofs.Guards.{names_count}
 use Rattle.affc_loops.proofs.Pieces.{is_piece, shape_of, numbers_are}

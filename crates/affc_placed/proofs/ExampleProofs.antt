@@ -1,5 +1,5 @@
 -- The examples hold.
-use Rattle.std.proofs.Common.{◌≡◌, ℕ, zero, suc, ◌+◌, ◌*◌, ◌^◌, ℤ, pos, negsuc, ◌+ℤ◌, ◌-ℤ◌, ◌*ℤ◌, ◌≤ℤ◌, ◌<ℤ◌, Bool, true, false, true≢false, if◌then◌else◌, List, [], ◌∷◌, ◌++◌, length, get_or, map, Some, None, Result, Ok, Err, refl, sym, ap, subst, ◌∙◌, inl, inr, arith}
+use Rattle.std.proofs.Common.{◌≡◌, ℕ, zero, suc, ◌+◌, ℤ, pos, ◌+ℤ◌, ◌-ℤ◌, ◌*ℤ◌, ◌≤ℤ◌, ◌<ℤ◌, Bool, true, false, true≢false, if◌then◌else◌, List, [], ◌∷◌, ◌++◌, length, get_or, map, Some, None, Result, Ok, Err, refl, sym, ap, subst, ◌∙◌, inl, inr, arith}
 use Rattle.std.specs.Prelude.{slice_get, nat_eq}
 use Rattle.std.specs.Int.{int_rem_euclid}
 use Rattle.std.proofs.lemmas.Bool.{eqb-true}
@@ -27,24 +27,22 @@ use Rattle.affc_trace.specs.Laws.{IsInContext}
 use Rattle.affc_trace.proofs.ExampleProofs.{blur_has_its_maps}
 use Rattle.affc_trace.proofs.Found.{legal_has_no_violations}
 use Rattle.affc_domain.specs.Accesses.{Access, accesses_of}
-use Rattle.affc_domain.specs.Arrays.{extents_at}
-use Rattle.affc_safe.specs.Overflow.{AreReadable, ReadsAssignment}
+use Rattle.affc_safe.specs.Overflow.{AreReadable}
 use Rattle.affc_safe.specs.Safe.{IsSafe, extents_hold, accesses_hold, loads_hold}
 use Rattle.affc_safe.proofs.OverflowProofs.{blur_is_plain}
 use Rattle.affc_safe.proofs.PlainNear.{plain_never_overflows}
 use Rattle.affc_safe.proofs.Reasons.{reasons_are_found}
 use Rattle.affc_safe.proofs.SafeLaws.{safe_runs}
 use Rattle.affc_basis.specs.declared.fold.Fold.{Fold}
-use Rattle.affc_basis.specs.Examples.{x0, number, onto, folds, fold_at}
+use Rattle.affc_basis.specs.Examples.{x0, number, onto, folds}
 use Rattle.affc_basis.specs.Folds.{Obeys, fold_of, folded_by, place}
 use Rattle.affc_basis.specs.Slices.{along, InSlice}
 use Rattle.affc_basis.proofs.BlurContext.{in_context, by_context}
-use Rattle.affc_basis.proofs.FoldsFound.{folds_are_found}
 use Rattle.affc_basis.proofs.MarkExamples.{three_is_enough}
 use Rattle.affc_basis.proofs.PremiseExamples.{lists_of_folds}
-use Rattle.affc_placed.specs.Examples.{lit, most, AllAreMarked, by_three, three, folded_blur, BlurFolds, BlurCompiles, BlurIsReplaced, OthersDontStand, TwoAreTooFew, OtherPlaces, by_far, FarIsntRead, SizesOfTemporaries, ExtentsOfTemporaries}
+use Rattle.affc_placed.specs.Examples.{lit, most, AllAreMarked, by_three, three, BlurFolds, BlurCompiles, BlurIsReplaced, OthersDontStand, TwoAreTooFew, OtherPlaces, by_far, FarIsntRead, SizesOfTemporaries, ExtentsOfTemporaries}
 use Rattle.affc_placed.specs.Placed.{Replaces, HasFoldedLoops}
-use Rattle.affc_placed.specs.Refolds.{Subscripts, AtEachAccess, IsAtPlace, IsReadAt, AreSized, extents_by, HaveFoldedExtents, FoldsBy}
+use Rattle.affc_placed.specs.Refolds.{AtEachAccess, IsAtPlace, IsReadAt, AreSized, extents_by, HaveFoldedExtents, FoldsBy}
 use Rattle.affc_placed.proofs.FoldedLaws.{refolded_loops_compile}
 use Rattle.affc_placed.proofs.Remainder.{remainder_is_read}
 use Rattle.affc_placed.proofs.ReplaceLemmas.{accesses_read, refolded_replaces}

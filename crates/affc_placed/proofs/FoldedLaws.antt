@@ -1,5 +1,5 @@
 -- Folded loops compile their source.
-use Rattle.std.proofs.Common.{◌≡◌, ℕ, zero, suc, ◌+◌, ◌≤◌, ℤ, pos, ◌&&◌, int_le, int_lt, true, true≢false, IsTrue, List, [], ◌∷◌, length, get_or, map, Some, refl, sym, ap, subst, ◌∙◌, arith}
+use Rattle.std.proofs.Common.{◌≡◌, ℕ, zero, suc, ℤ, pos, ◌&&◌, int_le, int_lt, true, true≢false, List, [], ◌∷◌, length, get_or, map, Some, refl, sym, ap, ◌∙◌, arith}
 use Rattle.std.specs.Prelude.{slice_get}
 use Rattle.std.proofs.lemmas.Option.{none-some, same_Some}
 use Rattle.affc_ast.specs.declared.tree.ArrayId.{ArrayId}
@@ -20,8 +20,8 @@ use Rattle.affc_loops.specs.Laws.{HaveSameLoops}
 use Rattle.affc_loops.proofs.LoopLaws.{same_name, same_params, same_context}
 use Rattle.affc_domain.specs.Ranges.{number_ranges}
 use Rattle.affc_basis.specs.declared.fold.Fold.{Fold}
-use Rattle.affc_basis.specs.FoldLists.{IsFoldIn, AreFoldsIn}
-use Rattle.affc_basis.specs.Folds.{fold_of, place}
+use Rattle.affc_basis.specs.FoldLists.{IsFoldIn}
+use Rattle.affc_basis.specs.Folds.{place}
 use Rattle.affc_basis.specs.Laws.{HasDimensions, AreFoldsOf}
 use Rattle.affc_basis.proofs.FoldPlaces.{compiles_folded}
 use Rattle.affc_placed.specs.Laws.{FoldedLoopsCompile, RefoldedLoopsCompile}

@@ -1,13 +1,11 @@
 -- The loops of a program that stands for a source run the source's target at the places.
-use Rattle.std.proofs.Common.{◌≡◌, ℤ, IsTrue, List, [], ◌∷◌, map, refl, sym, ap, subst, ◌∙◌, ◌⊎◌, inl, inr}
-use Rattle.affc_ast.specs.declared.tree.Instance.{Instance}
+use Rattle.std.proofs.Common.{◌≡◌, ℤ, List, [], ◌∷◌, map, refl, sym, ap, subst, ◌∙◌, ◌⊎◌, inl, inr}
 use Rattle.affc_ast.specs.declared.tree.Program.{Program}
 use Rattle.affc_ast.specs.Store.{Element}
 use Rattle.affc_ast.specs.Trace.{trace}
 use Rattle.affc_trace.specs.declared.schedule.Schedule.{Schedule}
 use Rattle.affc_trace.specs.Effects.{effect}
-use Rattle.affc_trace.specs.Law.{Effect, IsIn, at_place, placed}
-use Rattle.affc_trace.specs.Laws.{RunsTarget}
+use Rattle.affc_trace.specs.Law.{Effect, IsIn, placed}
 use Rattle.affc_trace.specs.Orders.{IsReordered}
 use Rattle.affc_trace.specs.Target.{ordered, target}
 use Rattle.affc_trace.proofs.Contents.{target_is_reordered_law}
@@ -16,7 +14,7 @@ use Rattle.affc_safe.specs.Safe.{LiesWithin, KeepsWithin}
 use Rattle.affc_loops.proofs.Does.{own_places}
 use Rattle.affc_loops.proofs.LoopLaws.{loops_do_other, loops_run_other}
 use Rattle.affc_placed.specs.Laws.{LoopsDoPlaced, LoopsRunPlaced}
-use Rattle.affc_placed.specs.Placed.{StandsFor, PlacesLieWithin, Replaces}
+use Rattle.affc_placed.specs.Placed.{StandsFor, PlacesLieWithin}
 
 map_in_same : {A B : Type 0} (f g : A → B) (xs : List A) → ((x : A) → IsIn x xs → f x ≡ g x) → map f xs ≡ map g xs
 map_in_same f g [] h = refl

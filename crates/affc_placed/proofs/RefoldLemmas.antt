@@ -1,11 +1,9 @@
 -- A program with other subscripts keeps its shape, and its assignments do the same at places.
-use Rattle.std.proofs.Common.{◌≡◌, ℕ, zero, suc, ◌+◌, ℤ, Bool, true, ◌&&◌, List, [], ◌∷◌, ◌++◌, length, map, flat_map, Option, Some, None, refl, sym, ap, ◌∙◌, inl, inr}
+use Rattle.std.proofs.Common.{◌≡◌, ℕ, suc, ◌+◌, ℤ, ◌&&◌, List, [], ◌∷◌, ◌++◌, length, map, flat_map, Option, Some, None, refl, sym, ap, ◌∙◌, inl}
 use Rattle.std.specs.Prelude.{nat_le}
 use Rattle.affc_ast.specs.declared.tree.ArrayId.{ArrayId}
-use Rattle.affc_ast.specs.declared.tree.Decl.{Decl}
 use Rattle.affc_ast.specs.declared.tree.Ix.{Ix}
 use Rattle.affc_ast.specs.declared.tree.Op.{Op}
-use Rattle.affc_ast.specs.declared.tree.Program.{Program}
 use Rattle.affc_ast.specs.declared.tree.Stmt.{Stmt}
 use Rattle.affc_ast.specs.declared.tree.Stmt.TheVariants as s
 use Rattle.affc_ast.specs.declared.tree.Stmt.TheBlock.{Row_of-Stmt, more_of-Stmt, end_of-Stmt}
@@ -14,22 +12,22 @@ use Rattle.affc_ast.specs.declared.tree.Stmt.TheOpen.{Stmt-F}
 use Rattle.affc_ast.specs.declared.tree.Val.{Val}
 use Rattle.affc_ast.specs.declared.tree.Val.TheVariants as v
 use Rattle.affc_ast.specs.declared.tree.Val.TheBlock.{more_of-Val, end_of-Val}
-use Rattle.affc_ast.specs.Recursion.{by_val, by_stmt, by_each}
+use Rattle.affc_ast.specs.Recursion.{by_stmt, by_each}
 use Rattle.affc_ast.specs.Store.{Element}
-use Rattle.affc_ast.specs.Trace.{Assignment, element, joined, loads_step, loads_of_value, own_load, walk_step, in_walk_order, trace}
+use Rattle.affc_ast.specs.Trace.{Assignment, element, joined, loads_step, loads_of_value, own_load, walk_step, in_walk_order}
 use Rattle.affc_ast.specs.Values.{operate, complement, shifted}
 use Rattle.affc_ast.proofs.Steps.{for_here, if_here, block_here, not_here, bin_here, shift_here, row_of, unrolled}
-use Rattle.affc_trace.specs.Effects.{Taking, taking_step, taking, then_taking, taken, combining, effect_by, plain_step, all_true, has_no_locals}
-use Rattle.affc_trace.specs.Law.{IsIn, at_place}
+use Rattle.affc_trace.specs.Effects.{Taking, taking_step, taking, then_taking, taken, combining, plain_step, all_true}
+use Rattle.affc_trace.specs.Law.{IsIn}
 use Rattle.affc_trace.specs.Target.{numbers_in}
 use Rattle.affc_trace.proofs.LastStores.{map_append}
 use Rattle.affc_trace.proofs.Members.{to_first, to_second}
 use Rattle.affc_domain.specs.Accesses.{Access, accesses_in, own_access, accesses_of}
 use Rattle.affc_domain.specs.Ranges.{number_ranges}
-use Rattle.affc_domain.specs.Rounds.{rounds_step, rounds}
-use Rattle.affc_safe.specs.Overflow.{near_step, near_ranges, all_near, keeps_near}
-use Rattle.affc_placed.specs.Laws.{KeepsShape, RefoldedKeepsShape, RefoldedEffect}
-use Rattle.affc_placed.specs.Refolds.{Subscripts, refold_value, each_under, refold_step, refolded, refolded_assignment, IsAtPlace}
+use Rattle.affc_domain.specs.Rounds.{rounds_step}
+use Rattle.affc_safe.specs.Overflow.{near_step, near_ranges, all_near}
+use Rattle.affc_placed.specs.Laws.{RefoldedKeepsShape, RefoldedEffect}
+use Rattle.affc_placed.specs.Refolds.{Subscripts, refold_value, each_under, refold_step, IsAtPlace}
 
 -- ---- Steps that don't look at subscripts and values
 

@@ -3,7 +3,6 @@ use Rattle.std.proofs.Common.{◌≡◌, ℕ, suc, ◌+◌, ℤ, pos, ◌≤ℤ�
 use Rattle.std.specs.Prelude.{slice_get}
 use Rattle.std.specs.Int.{int_rem_euclid}
 use Rattle.affc_rows.specs.Forms.{Affine, dot, value}
-use Rattle.affc_ast.specs.declared.tree.Ix.{Ix}
 use Rattle.affc_ast.specs.declared.tree.Ix.TheVariants.{Mod}
 use Rattle.affc_ast.specs.Cause.{Overflow}
 use Rattle.affc_ast.specs.Fits.{whole, whole_step}

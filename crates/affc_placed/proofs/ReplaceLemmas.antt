@@ -3,20 +3,18 @@ use Rattle.std.proofs.Common.{◌≡◌, ℕ, zero, suc, ◌+◌, ◌<◌, ℤ, 
 use Rattle.std.specs.Prelude.{slice_get}
 use Rattle.std.proofs.lemmas.List.{get_or_append_left, get_or-append-add}
 use Rattle.std.proofs.lemmas.Option.{none-some, same_Some}
-use Rattle.affc_rows.specs.Forms.{Affine, value}
+use Rattle.affc_rows.specs.Forms.{value}
 use Rattle.affc_ast.specs.declared.tree.ArrayId.{ArrayId}
 use Rattle.affc_ast.specs.declared.tree.Decl.{Decl}
-use Rattle.affc_ast.specs.declared.tree.Instance.{Instance}
-use Rattle.affc_ast.specs.declared.tree.Ix.{Ix}
 use Rattle.affc_ast.specs.declared.tree.Op.{Op}
 use Rattle.affc_ast.specs.declared.tree.Program.{Program}
 use Rattle.affc_ast.specs.declared.tree.Val.{Val}
 use Rattle.affc_ast.specs.declared.tree.Val.TheVariants as v
 use Rattle.affc_ast.specs.declared.tree.Val.TheBlock.{more_of-Val, end_of-Val}
-use Rattle.affc_ast.specs.Fits.{whole, within_ranges}
+use Rattle.affc_ast.specs.Fits.{whole}
 use Rattle.affc_ast.specs.Meaning.{arrays_of}
 use Rattle.affc_ast.specs.Store.{Element}
-use Rattle.affc_ast.specs.Trace.{Assignment, assignments, trace}
+use Rattle.affc_ast.specs.Trace.{Assignment, trace}
 use Rattle.affc_ast.specs.Values.{is_within}
 use Rattle.affc_trace.specs.Effects.{has_no_locals}
 use Rattle.affc_trace.specs.Law.{IsIn}

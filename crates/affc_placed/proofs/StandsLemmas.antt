@@ -1,5 +1,5 @@
 -- A program with other subscripts stands for the one that it was.
-use Rattle.std.proofs.Common.{◌≡◌, ℕ, zero, suc, ◌+◌, ◌<◌, ℤ, T, Bool, true, IsTrue, List, [], ◌∷◌, ◌++◌, length, map, flat_map, Some, refl, sym, ap, subst, ◌∙◌, inl, inr, arith}
+use Rattle.std.proofs.Common.{◌≡◌, ℕ, zero, suc, ◌+◌, ◌<◌, ℤ, T, IsTrue, List, [], ◌∷◌, ◌++◌, length, map, flat_map, Some, refl, sym, ap, subst, ◌∙◌, inl, inr, arith}
 use Rattle.std.specs.Prelude.{slice_get}
 use Rattle.std.proofs.lemmas.Option.{none-some, same_Some, slice_get_within}
 use Rattle.affc_ast.specs.declared.tree.Decl.{Decl}
@@ -9,11 +9,10 @@ use Rattle.affc_ast.specs.declared.tree.Stmt.{Stmt}
 use Rattle.affc_ast.specs.declared.tree.Stmt.TheVariants as s
 use Rattle.affc_ast.specs.declared.tree.Stmt.TheBlock.{Row_of-Stmt, more_of-Stmt, end_of-Stmt}
 use Rattle.affc_ast.specs.Recursion.{by_stmt, by_each}
-use Rattle.affc_ast.specs.Store.{Element}
 use Rattle.affc_ast.specs.Trace.{Assignment, assignments_step, assignments, joined, trace, walk_step}
 use Rattle.affc_ast.proofs.Steps.{for_here, if_here, block_here, row_of, unrolled, flat_unrolled}
 use Rattle.affc_trace.specs.Law.{IsIn, at_place}
-use Rattle.affc_trace.specs.Target.{numbers_in, loops_step, each_round, loops_round}
+use Rattle.affc_trace.specs.Target.{numbers_in, loops_step, each_round}
 use Rattle.affc_trace.specs.Effects.{effect, effect_by, plain_step, all_true, has_no_locals}
 use Rattle.affc_trace.proofs.Depths.{depth}
 use Rattle.affc_trace.proofs.Runs.{slice_left, slice_right, length_append, part_count, walk_count, both_true}

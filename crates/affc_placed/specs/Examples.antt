@@ -1,6 +1,5 @@
 -- What the definitions give at small programs. Each was found by hand from the rules.
-use Rattle.std.specs.Prelude.{◌≡◌, ℕ, ◌-◌, ◌^◌, ℤ, pos, true, if◌then◌else◌, nat_eq, List, [], ◌∷◌, ◌++◌, map, Some, None}
-use Rattle.affc_ast.specs.declared.tree.Compare.{Compare}
+use Rattle.std.specs.Prelude.{◌≡◌, ℕ, ◌-◌, ◌^◌, ℤ, pos, true, if◌then◌else◌, nat_eq, List, [], ◌∷◌, map, Some, None}
 use Rattle.affc_ast.specs.declared.tree.Decl.{Decl}
 use Rattle.affc_ast.specs.declared.tree.Ix.{Ix}
 use Rattle.affc_ast.specs.declared.tree.Ix.TheVariants.{Lit, Name, Add, Sub, Mul, Mod}
@@ -10,7 +9,6 @@ use Rattle.affc_ast.specs.declared.tree.Rel.TheVariants.{Less, GreaterEqual}
 use Rattle.affc_ast.specs.declared.tree.Role.TheVariants.{Temp}
 use Rattle.affc_ast.specs.declared.tree.Stmt.{Stmt}
 use Rattle.affc_ast.specs.declared.tree.Stmt.TheVariants.{For, If, Assign, Block}
-use Rattle.affc_ast.specs.declared.tree.Val.{Val}
 use Rattle.affc_ast.specs.declared.tree.Val.TheVariants.{Load, Const, Cast, Not, Bin, Shift}
 use Rattle.affc_ast.specs.Compiles.{Compiles}
 use Rattle.affc_trace.specs.Examples.{blur, together, two}

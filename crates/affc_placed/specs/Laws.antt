@@ -1,5 +1,5 @@
 -- What may be concluded of programs that stand for a source at places, and of folded ones.
-use Rattle.std.specs.Prelude.{◌≡◌, ℕ, ℤ, pos, ◌≤ℤ◌, ◌<ℤ◌, IsTrue, true, List, length, map, Some}
+use Rattle.std.specs.Prelude.{◌≡◌, ℤ, pos, ◌≤ℤ◌, ◌<ℤ◌, IsTrue, true, List, length, map, Some}
 use Rattle.std.specs.Int.{int_rem_euclid}
 use Rattle.affc_rows.specs.Forms.{value}
 use Rattle.affc_ast.specs.declared.tree.ArrayId.{ArrayId}
@@ -10,7 +10,7 @@ use Rattle.affc_ast.specs.declared.tree.Program.{Program}
 use Rattle.affc_ast.specs.Compiles.{Compiles}
 use Rattle.affc_ast.specs.Fits.{whole, within_ranges}
 use Rattle.affc_ast.specs.Store.{Element, Store}
-use Rattle.affc_ast.specs.Trace.{Assignment, element, trace}
+use Rattle.affc_ast.specs.Trace.{Assignment, trace}
 use Rattle.affc_ast.specs.Values.{is_within}
 use Rattle.affc_trace.specs.declared.schedule.Schedule.{Schedule}
 use Rattle.affc_trace.specs.Effects.{effect, effect_by, effects, has_no_locals}
