@@ -1,31 +1,30 @@
 -- What the limits of a schedule and of its source give of the statements that are printed.
-use Rattle.std.proofs.Common.{◌≡◌, ℕ, suc, ◌+◌, ◌^◌, ◌≤◌, ℤ, true, List, [], ◌∷◌, length, map, Option, Some, None, refl, sym, ap, subst, ◌∙◌, arith}
+use Rattle.std.proofs.Common.{◌≡◌, ℕ, ◌+◌, ◌^◌, ◌≤◌, ℤ, true, List, ◌∷◌, length, Some, sym, ap, subst, ◌∙◌, arith}
 use Rattle.std.specs.Prelude.{slice_get}
 use Rattle.std.specs.List.{All}
 use Rattle.std.proofs.lemmas.Option.{same_Some}
 use Rattle.affc_rows.specs.Forms.{HaveColumns}
 use Rattle.affc_system.specs.Boxes.{IsBox}
 use Rattle.affc_ast.specs.declared.tree.Program.{Program}
-use Rattle.affc_ast.specs.Trace.{Assignment, assignments}
+use Rattle.affc_ast.specs.Trace.{assignments}
 use Rattle.affc_trace.specs.declared.schedule.TimeMap.{TimeMap}
 use Rattle.affc_trace.specs.declared.schedule.Schedule.TheVariants.{Time}
 use Rattle.affc_trace.specs.Law.{IsIn}
 use Rattle.affc_trace.specs.Target.{numbers_in}
 use Rattle.affc_trace.proofs.Runs.{length_append}
-use Rattle.affc_domain.specs.Ranges.{number_ranges, ranges_of}
-use Rattle.affc_domain.specs.Rounds.{Round, rounds, loops_in}
-use Rattle.affc_domain.proofs.PlainLemmas.{rounds_of_each, rounds_are_plain, few_loops}
-use Rattle.affc_loops.specs.Laws.{HasLoops}
+use Rattle.affc_domain.specs.Ranges.{number_ranges}
+use Rattle.affc_domain.specs.Rounds.{rounds, loops_in}
+use Rattle.affc_domain.proofs.PlainLemmas.{rounds_are_plain, few_loops}
+use Rattle.affc_loops.specs.Laws.{HasLoops, HaveSameLoops}
 use Rattle.affc_loops.specs.Limits.{IsSlight}
-use Rattle.affc_loops.specs.Loops.{Piece, box_in, boxes, pieces_from, pieces, times_of, time_ranges, loop_names, body_of}
-use Rattle.affc_loops.specs.Spans.{hulls}
+use Rattle.affc_loops.specs.Loops.{Piece, boxes, pieces, time_ranges, loop_names, body_of}
 use Rattle.affc_loops.proofs.Boxes.{sits, near_box, params_ordered}
 use Rattle.affc_loops.proofs.Guards.{names_count}
 use Rattle.affc_loops.proofs.Pieces.{is_piece, shape_of, numbers_are}
+use Rattle.affc_loops.proofs.SameLoops.{boxes_same, numbers_same, times_same}
 use Rattle.affc_loops.proofs.Sizes.{Within, map_within, near_within, time_most, ranges_within}
 use Rattle.affc_loops.proofs.TimeRanges.{Spans, ranges_long}
 use Rattle.affc_loops.proofs.LoopLaws.{few, slight}
-use Rattle.affc_loopprint.specs.Spare.{HaveSameLoops}
 
 -- the loops of a program over these ranges, with these statements
 abbrev pub loops_program : Program → List (ℤ × ℤ) → List Piece → Program
@@ -54,54 +53,14 @@ pub record Fitting (program : Program) (n : ℕ) (e : Piece) : Type 0 where
   pub slight : All IsSlight e.times.forms
   pub inverse_slight : All IsSlight e.times.inverse
 
--- ---- The same times and ranges
-
-abbrev AreAlike : List Piece → List Piece → Type 0
-AreAlike [] [] = Unit {0}
-AreAlike [] (f ∷ fs) = ⊥
-AreAlike (e ∷ es) [] = ⊥
-AreAlike (e ∷ es) (f ∷ fs) = (e.times ≡ f.times) × (e.ranges ≡ f.ranges) × AreAlike es fs
-
-alike : (k : ℕ) (rss : List (List Round)) (as' bs : List Assignment) (ms : List TimeMap) (boxes : List (Option (List (ℤ × ℤ)))) → length as' ≡ length bs → AreAlike (pieces_from k rss as' ms boxes) (pieces_from k rss bs ms boxes)
-alike k [] as' bs ms boxes l = tt
-alike k (rs ∷ rss) [] [] ms boxes l = tt
-alike k (rs ∷ rss) [] (b ∷ bs) ms boxes l = absurd (omega (arith, l))
-alike k (rs ∷ rss) (a ∷ as') [] ms boxes l = absurd (omega (arith, l))
-alike k (rs ∷ rss) (a ∷ as') (b ∷ bs) [] boxes l = tt
-alike k (rs ∷ rss) (a ∷ as') (b ∷ bs) (m ∷ ms) [] l = tt
-alike k (rs ∷ rss) (a ∷ as') (b ∷ bs) (m ∷ ms) (Some box ∷ boxes) l = (refl, refl, alike (suc k) rss as' bs ms boxes (omega (arith, l)))
-alike k (rs ∷ rss) (a ∷ as') (b ∷ bs) (m ∷ ms) (None ∷ boxes) l = alike (suc k) rss as' bs ms boxes (omega (arith, l))
-
-alike_times : (params : List (ℤ × ℤ)) (e f : Piece) → e.times ≡ f.times → e.ranges ≡ f.ranges → times_of params e ≡ times_of params f
-alike_times params e f t r = ap (λ (m : TimeMap). times_of params (record e { times = m })) t ∙ ap (λ b. times_of params (record e { times = f.times; ranges = b })) r
-
-alike_ranges : (params : List (ℤ × ℤ)) (es fs : List Piece) → AreAlike es fs → time_ranges params es ≡ time_ranges params fs
-alike_ranges params [] [] h = refl
-alike_ranges params [] (f ∷ fs) h = absurd h
-alike_ranges params (e ∷ es) [] h = absurd h
-alike_ranges params (e ∷ []) (f ∷ []) h = alike_times params e f h.0 h.1
-alike_ranges params (e ∷ []) (f ∷ f' ∷ fs) h = absurd h.2
-alike_ranges params (e ∷ e' ∷ es) (f ∷ []) h = absurd h.2
-alike_ranges params (e ∷ e' ∷ es) (f ∷ f' ∷ fs) h =
-    ap (λ l. hulls l (time_ranges params (e' ∷ es))) (alike_times params e f h.0 h.1) ∙ ap (hulls (times_of params f)) (alike_ranges params (e' ∷ es) (f' ∷ fs) h.2)
-
 -- ---- What is given
 
 module _ (source other : Program) (n : ℕ) (maps : List TimeMap) (has : HasLoops source (Time n maps)) (same : HaveSameLoops source other) where
-  abbrev box_by : List (ℤ × ℤ) → List Round → Option (List (ℤ × ℤ))
-  box_by params rs = box_in (ranges_of params rs)
-
-  boxes_same : boxes other ≡ boxes source
-  boxes_same = ap (λ r. map (box_by r) (rounds other)) same.same_ranges ∙ ap (map (box_by (number_ranges source.params))) same.same_rounds
-
-  numbers_same : numbers_in other.params ≡ numbers_in source.params
-  numbers_same = numbers_are other.params ∙ ap length same.same_ranges ∙ sym (numbers_are source.params)
-
   pub fitting : (e : Piece) → IsIn e (pieces other maps) → Fitting other n e
   fitting e i =
       let h = is_piece 0 (rounds other) (assignments other) maps (boxes other) e i in
       let here = ap (λ l. slice_get l h.at) (sym same.same_rounds) ∙ h.its_guards in
-      let s = sits source h.at e.ranges (ap (λ l. slice_get l h.at) (sym boxes_same) ∙ h.its_ranges) in
+      let s = sits source h.at e.ranges (ap (λ l. slice_get l h.at) (sym (boxes_same source other same)) ∙ h.its_ranges) in
       let b = near_box (number_ranges source.params) s.around e.ranges s.is_box in
       let around : s.around ≡ e.around = same_Some s.around e.around (sym s.its_rounds ∙ here) in
       let shape = shape_of source n maps has.scheduled h.at e.around e.times here h.its_times in
@@ -111,7 +70,7 @@ module _ (source other : Program) (n : ℕ) (maps : List TimeMap) (has : HasLoop
       let c = shape.columns in
       let p = shape.components in
       let t = shape.iterators in
-      let wide = ap (λ m. m + length (loop_names e.around)) (sym numbers_same) in
+      let wide = ap (λ m. m + length (loop_names e.around)) (sym (numbers_same source other same)) in
       record {
         at = h.at;
         its_rounds = h.its_guards;
@@ -123,22 +82,14 @@ module _ (source other : Program) (n : ℕ) (maps : List TimeMap) (has : HasLoop
         components = p;
         iterators = t;
         columns = subst (λ m. HaveColumns m e.times.forms) (c ∙ wide) e.times.shaped;
-        inverse_columns = (let g = numbers_same in subst (λ m. HaveColumns m e.times.inverse) (omega (arith, c, p, t, g)) e.times.inverse_shaped);
+        inverse_columns = (let g = numbers_same source other same in subst (λ m. HaveColumns m e.times.inverse) (omega (arith, c, p, t, g)) e.times.inverse_shaped);
         slight = w.forms;
         inverse_slight = w.inverse;
       }
 
   pub ranges_fit : All (Within time_most) (time_ranges (number_ranges other.params) (pieces other maps))
   ranges_fit =
-      let params = number_ranges source.params in
-      let count = rounds_of_each source in
-      let counted = rounds_of_each other in
-      let both = ap length same.same_rounds in
-      let first = ap (λ r. time_ranges r (pieces other maps)) same.same_ranges in
-      let second = ap (λ rss. time_ranges params (pieces_from 0 rss (assignments other) maps (boxes other))) same.same_rounds in
-      let third = ap (λ bs. time_ranges params (pieces_from 0 (rounds source) (assignments other) maps bs)) boxes_same in
-      let fourth = alike_ranges params _ _ (alike 0 (rounds source) (assignments other) (assignments source) maps (boxes source) (omega (arith, count, counted, both))) in
-      subst (All (Within time_most)) (sym (first ∙ second ∙ third ∙ fourth)) (ranges_within source n maps has.plain has.near has.scheduled (few source n maps has) (slight source n maps has))
+      subst (All (Within time_most)) (sym (times_same source other same maps)) (ranges_within source n maps has.plain has.near has.scheduled (few source n maps has) (slight source n maps has))
 
   spans : (e : Piece) → IsIn e (pieces other maps) → Spans (number_ranges other.params) n e
   spans e i =

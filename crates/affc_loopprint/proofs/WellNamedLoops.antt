@@ -11,7 +11,7 @@ use Rattle.affc_domain.specs.Ranges.{number_ranges}
 use Rattle.affc_domain.specs.Rounds.{Round, rounds}
 use Rattle.affc_domain.proofs.PlainLemmas.{rounds_of_each}
 use Rattle.affc_grammar.specs.Reads.{WellNamed}
-use Rattle.affc_loops.specs.Laws.{HasLoops}
+use Rattle.affc_loops.specs.Laws.{HasLoops, HaveSameLoops}
 use Rattle.affc_loops.specs.Loops.{Piece, boxes, pieces_from, pieces, time_ranges, target_program}
 use Rattle.affc_loops.proofs.LoopLaws.{few}
 use Rattle.affc_loops.proofs.Pieces.{numbers_are}
@@ -23,7 +23,7 @@ use Rattle.affc_wellnamed.specs.Work.{program_fits}
 use Rattle.affc_wellnamed.specs.Shape.{program_shape, is_bounded}
 use Rattle.affc_wellnamed.proofs.Decides.{kept_is_well_named}
 use Rattle.affc_loopprint.specs.Laws.{SpareWellNamed, LoopsWellNamed}
-use Rattle.affc_loopprint.specs.Spare.{IsSpare, HaveSameLoops}
+use Rattle.affc_loopprint.specs.Spare.{IsSpare}
 use Rattle.affc_loopprint.proofs.Fitting.{Fitting, fitting, ranges_fit, ranges_count}
 use Rattle.affc_loopprint.proofs.KnownAround.{all_known, known_body}
 use Rattle.affc_loopprint.proofs.KnownBlocks.{Sized}

@@ -3,9 +3,9 @@ use Rattle.std.specs.Prelude.{◌≡◌, ℕ, false, List}
 use Rattle.affc_ast.specs.declared.tree.Program.{Program}
 use Rattle.affc_grammar.specs.Reads.{Reads, WellNamed}
 use Rattle.affc_trace.specs.declared.schedule.Schedule.{Schedule}
-use Rattle.affc_loops.specs.Laws.{HasLoops}
+use Rattle.affc_loops.specs.Laws.{HasLoops, HaveSameLoops}
 use Rattle.affc_loops.specs.Loops.{target_program}
-use Rattle.affc_loopprint.specs.Spare.{IsSpare, HaveSameLoops}
+use Rattle.affc_loopprint.specs.Spare.{IsSpare}
 
 -- A program that a text without the prelude reads as has room for loops.
 abbrev pub ReadsSpare : Type 0

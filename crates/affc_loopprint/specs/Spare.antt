@@ -8,7 +8,6 @@ use Rattle.affc_cprint.specs.Forms.{program_passes}
 use Rattle.affc_wellnamed.specs.Known.{program_known}
 use Rattle.affc_wellnamed.specs.Plain.{is_plain}
 use Rattle.affc_wellnamed.specs.Work.{program_fits}
-use Rattle.affc_domain.specs.Ranges.{number_ranges}
 use Rattle.affc_domain.specs.Rounds.{Round, rounds}
 use Rattle.affc_loops.specs.Loops.{loop_names}
 use Rattle.affc_loopprint.specs.Short.{IsShort}
@@ -25,8 +24,3 @@ pub record IsSpare (program : Program) : Type 0 where
   pub bare : IsTrue (has_no_locals program)
   pub iterators : (k : ℕ) (rs : List Round) → slice_get (rounds program) k ≡ Some rs → HaveFreeNames rs
   pub short : IsShort program
-
--- the same loops and conditions round the statements, and the same ranges of the parameters
-pub record HaveSameLoops (source other : Program) : Type 0 where
-  pub same_rounds : rounds other ≡ rounds source
-  pub same_ranges : number_ranges other.params ≡ number_ranges source.params

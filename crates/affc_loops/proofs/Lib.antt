@@ -17,6 +17,7 @@ pub mod PrintedRuns
 pub mod Boxes
 pub mod TimeRanges
 pub mod Sizes
+pub mod SameLoops
 pub mod PlainAlong
 pub mod LoopLaws
 pub mod ExampleProofs

@@ -13,9 +13,10 @@ use Rattle.affc_system.specs.Boxes.{InBox}
 use Rattle.affc_trace.specs.declared.schedule.Schedule.{Schedule}
 use Rattle.affc_trace.specs.declared.schedule.Schedule.TheVariants.{Source, Time}
 use Rattle.affc_trace.specs.declared.schedule.TimeMap.{TimeMap}
-use Rattle.affc_trace.specs.Effects.{effect, effects}
+use Rattle.affc_trace.specs.Effects.{effect, effects, has_no_locals}
 use Rattle.affc_trace.specs.Law.{IsIn, placed}
-use Rattle.affc_trace.specs.Target.{target, in_order_of, time_cmp, numbers_in, loops_round, maps_within}
+use Rattle.affc_trace.specs.Laws.{RunsTarget}
+use Rattle.affc_trace.specs.Target.{target, in_order_of, time_cmp, numbers_in, loops_round, maps_within, IsScheduleOf}
 use Rattle.affc_trace.proofs.Depths.{depth}
 use Rattle.affc_trace.proofs.Ordered.{map_of}
 use Rattle.affc_trace.proofs.Composed.{compiles_source}
@@ -37,9 +38,9 @@ use Rattle.affc_safe.proofs.PlainNear.{plain_has_no_locals, plain_never_overflow
 use Rattle.affc_safe.proofs.SafeLaws.{all_read, stuck_for_a_value, wants_unwritten}
 use Rattle.affc_safe.proofs.Walk.{params_sit}
 use Rattle.affc_safe.proofs.Wants.{Wants, wants_ended, wants_reading}
-use Rattle.affc_loops.specs.Laws.{HasLoops, LoopsDoTarget, LoopsRunTarget, LoopsCompile, RangesOfTimes}
+use Rattle.affc_loops.specs.Laws.{HasLoops, HaveSameLoops, LoopsDoTarget, LoopsRunTarget, LoopsCompile, RangesOfTimes}
 use Rattle.affc_loops.specs.Loops.{Piece, boxes, pieces, time_ranges, body_of, target_program}
-use Rattle.affc_loops.proofs.Boxed.{box_length}
+use Rattle.affc_loops.proofs.Boxed.{Encloses, Covers, Small, box_length}
 use Rattle.affc_loops.proofs.Boxes.{sits, near_box, encloses, params_ordered}
 use Rattle.affc_loops.proofs.Does.{does, own_places}
 use Rattle.affc_loops.proofs.Guards.{see_outwards, plain_outwards}
@@ -47,136 +48,177 @@ use Rattle.affc_loops.proofs.NestEffects.{done_by}
 use Rattle.affc_loops.proofs.Pieces.{has_piece, numbers_are}
 use Rattle.affc_loops.proofs.PlainAlong.{plain_along, kept_at}
 use Rattle.affc_loops.proofs.PrintedRuns.{run_all, body_wants}
+use Rattle.affc_loops.proofs.SameLoops.{boxes_same, numbers_same, within_same, schedule_same, pieces_none, times_same, encloses_same, small_same}
 use Rattle.affc_loops.proofs.Sizes.{spans, times_are, covers, is_small}
 use Rattle.affc_loops.proofs.TimeRanges.{ranges_long}
 
 module _ (source : Program) (n : ℕ) (maps : List TimeMap) (h : HasLoops source (Time n maps)) where
-  abbrev params : List (ℤ × ℤ)
-  params = number_ranges source.params
-
-  abbrev all : List Piece
-  all = pieces source maps
-
-  abbrev ranges : List (ℤ × ℤ)
-  ranges = time_ranges params all
-
-  abbrev params_length : ℕ
-  params_length = length (number_ranges source.params)
-
   pub few : n ≤ 12
   few = leb-true n 12 (both_true (nat_le 1 n) (nat_le n 12) (both_true (nat_le 1 n && nat_le n 12) (maps_within maps) h.limits).0).1
 
   pub slight : IsTrue (maps_within maps)
   slight = (both_true (nat_le 1 n && nat_le n 12) (maps_within maps) h.limits).1
 
-  pub some_or_none : (all ≡ []) ⊎ (length ranges ≡ n)
-  some_or_none = by all refl
+  some_or_none : (pieces source maps ≡ []) ⊎ (length (time_ranges (number_ranges source.params) (pieces source maps)) ≡ n)
+  some_or_none = by (pieces source maps) refl
     where
-      by : (es : List Piece) → all ≡ es → (all ≡ []) ⊎ (length ranges ≡ n)
+      params : List (ℤ × ℤ)
+      params = number_ranges source.params
+
+      by : (es : List Piece) → pieces source maps ≡ es → (pieces source maps ≡ []) ⊎ (length (time_ranges params (pieces source maps)) ≡ n)
       by [] e = inl e
       by (x ∷ es) e =
           inr (subst (λ fs. length (time_ranges params fs) ≡ n) (sym e)
           (ranges_long params n (params_ordered params (h.plain).ranges) x es (λ f i. spans source n maps h.plain h.near h.scheduled few slight f (subst (IsIn f) (sym e) i))))
 
+-- the loops of a program whose statements stand under the loops and conditions of a plain source
+module _ (source other : Program) (n : ℕ) (maps : List TimeMap) (h : HasLoops source (Time n maps)) (same : HaveSameLoops source other) where
+  abbrev params : List (ℤ × ℤ)
+  params = number_ranges source.params
+
+  abbrev all : List Piece
+  all = pieces other maps
+
+  abbrev ranges : List (ℤ × ℤ)
+  ranges = time_ranges (number_ranges other.params) all
+
+  abbrev own_ranges : List (ℤ × ℤ)
+  own_ranges = time_ranges params (pieces source maps)
+
+  ranges_are : ranges ≡ own_ranges
+  ranges_are = times_same source other same maps
+
+  none_or_long : (all ≡ []) ⊎ (length ranges ≡ n)
+  none_or_long = elim (some_or_none source n maps h) [ inl e ↦ inl (pieces_none source other same maps e) | inr l ↦ inr (ap length ranges_are ∙ l) ]
+
   module _ (p : List ℤ) (within : IsTrue (within_ranges source.params p)) where
     box : InBox params p
     box = in_ranges source.params p within
 
-    same_length : params_length ≡ length p
+    same_length : length params ≡ length p
     same_length = sym (box_length params p box)
 
-    numbers : length p ≡ numbers_in source.params
-    numbers = box_length params p box ∙ sym (numbers_are source.params)
+    numbers : length p ≡ numbers_in other.params
+    numbers = box_length params p box ∙ sym (numbers_are source.params) ∙ sym (numbers_same source other same)
 
-    outwards : (k : ℕ) (rs : List Round) → slice_get (rounds source) k ≡ Some rs → see_outwards (length p) rs ≡ true
+    its_rounds : (k : ℕ) (rs : List Round) → slice_get (rounds other) k ≡ Some rs → slice_get (rounds source) k ≡ Some rs
+    its_rounds k rs e = ap (λ rss. slice_get rss k) (sym same.same_rounds) ∙ e
+
+    outwards : (k : ℕ) (rs : List Round) → slice_get (rounds other) k ≡ Some rs → see_outwards (length p) rs ≡ true
     outwards k rs e =
-        let l : params_length ≡ length p = same_length in
-        let z : params_length + 0 ≡ length p = omega arith in
-        ap (λ m. see_outwards m rs) (sym z) ∙ plain_outwards params_length 0 0 rs (rounds_are_plain source h.plain k rs e)
+        let l : length params ≡ length p = same_length in
+        let z : length params + 0 ≡ length p = omega arith in
+        ap (λ m. see_outwards m rs) (sym z) ∙ plain_outwards (length params) 0 0 rs (rounds_are_plain source h.plain k rs (its_rounds k rs e))
+
+    scheduled : IsScheduleOf other (Time n maps)
+    scheduled = schedule_same source other same n maps h.scheduled
+
+    enclosed : Encloses other (boxes other) p
+    enclosed = encloses_same source other same p (encloses source p h.plain h.near within)
+
+    covered : Covers maps (boxes other) ranges p
+    covered =
+        subst (λ bs. Covers maps bs ranges p) (sym (boxes_same source other same))
+        (subst (λ rs. Covers maps (boxes source) rs p) (sym ranges_are) (covers source n maps h.plain h.near h.scheduled (few source n maps h) (slight source n maps h) p box))
+
+    sizes : length ranges ≡ n → Small other maps (boxes other) ranges p
+    sizes l =
+        subst (λ bs. Small other maps bs ranges p) (sym (boxes_same source other same))
+        (subst (λ rs. Small other maps (boxes source) rs p) (sym ranges_are)
+        (small_same source other same maps (boxes source) own_ranges p
+        (is_small source n maps h.plain h.near h.scheduled (few source n maps h) (slight source n maps h) (ap length (sym ranges_are) ∙ l) p box)))
 
     -- without pieces there are no instances
-    none : all ≡ [] → trace source p ≡ []
-    none e = no_members (trace source p) (λ a i.
-        let t = (instances_turn source p a).0 i in
-        let b = encloses source p h.plain h.near within a i in
-        let s = has_assignment source a.statement t.0 t.1 in
-        let m = map_of (numbers_in source.params) n (loops_round source) maps h.scheduled a.statement (length a.iterators) (depth source p a i) in
+    none : all ≡ [] → trace other p ≡ []
+    none e = no_members (trace other p) (λ a i.
+        let t = (instances_turn other p a).0 i in
+        let b = enclosed a i in
+        let s = has_assignment other a.statement t.0 t.1 in
+        let m = map_of (numbers_in other.params) n (loops_round other) maps scheduled a.statement (length a.iterators) (depth other p a i) in
         subst (IsIn (record { statement = 0 + a.statement; around = t.0; assignment = s.0; times = m.0; ranges = b.0 })) e
-        (has_piece 0 (rounds source) (assignments source) maps (boxes source) a.statement t.0 s.0 m.0 b.0 t.1 s.1 m.1 b.1))
+        (has_piece 0 (rounds other) (assignments other) maps (boxes other) a.statement t.0 s.0 m.0 b.0 t.1 s.1 m.1 b.1))
 
     -- ---- what they do
 
-    pub does_at : effects (target_program source (Time n maps)) p ≡ map (placed (λ x. x) (effect source p)) (target source (Time n maps) p)
-    does_at = elim some_or_none [
+    pub does_at : effects (target_program other (Time n maps)) p ≡ map (placed (λ x. x) (effect other p)) (target other (Time n maps) p)
+    does_at = elim none_or_long [
       | inl e ↦
-          ap (λ es. done_by (body_of (numbers_in source.params) (time_ranges params es) es) p) e
-          ∙ sym (ap (λ is. map (placed (λ x. x) (effect source p)) (in_order_of (time_cmp maps p) is)) (none e))
-      | inr l ↦ does source n maps ranges (boxes source) p h.scheduled numbers l outwards (encloses source p h.plain h.near within) (covers source n maps h.plain h.near h.scheduled few slight p box)
+          ap (λ es. done_by (body_of (numbers_in other.params) (time_ranges (number_ranges other.params) es) es) p) e
+          ∙ sym (ap (λ is. map (placed (λ x. x) (effect other p)) (in_order_of (time_cmp maps p) is)) (none e))
+      | inr l ↦ does other n maps ranges (boxes other) p scheduled numbers l outwards enclosed covered
     ]
 
     -- ---- how they run
 
-    module _ (extents : HasExtents source p) (keeps : KeepsWithin source p) where
-      safe : NeverOverflows source p
-      safe = plain_never_overflows source p h.plain h.near within
-
-      all_extents_are : List (List ℤ)
-      all_extents_are = extents_at (declared_arrays source) p
-
-      along : (k : ℕ) (rs : List Round) (b : List (ℤ × ℤ)) → slice_get (rounds source) k ≡ Some rs → slice_get (boxes source) k ≡ Some (Some b) → (xs : List ℤ) → InBox b xs → ReadAlong rs p xs
+    module _ (safe : NeverOverflows other p) (extents : HasExtents other p) (keeps : KeepsWithin other p) where
+      along : (k : ℕ) (rs : List Round) (b : List (ℤ × ℤ)) → slice_get (rounds other) k ≡ Some rs → slice_get (boxes other) k ≡ Some (Some b) → (xs : List ℤ) → InBox b xs → ReadAlong rs p xs
       along k rs b e f xs i =
-          let s = sits source k b f in
+          let s = sits source k b (ap (λ bs. slice_get bs k) (sym (boxes_same source other same)) ∙ f) in
           let near = near_box params s.around b s.is_box in
-          let l : params_length ≡ length p = same_length in
-          let z : params_length + 0 ≡ length p = omega arith in
-          plain_along params_length 0 0 rs b p xs (h.plain).few_numbers (rounds_are_plain source h.plain k rs e) z (params_sit source p safe.near within).near i near.near
+          let l : length params ≡ length p = same_length in
+          let z : length params + 0 ≡ length p = omega arith in
+          plain_along (length params) 0 0 rs b p xs (h.plain).few_numbers (rounds_are_plain source h.plain k rs (its_rounds k rs e)) z
+          (params_sit other p safe.near (within_same source other same p within)).near i near.near
 
       statements_want : (es : List Piece) → all ≡ es → (all ≡ []) ⊎ (length ranges ≡ n)
-          → (scope : Scope) → scope.names ≡ p → scope.extents ≡ extents_at (declared_arrays source) p → (here : Position) (u : State)
-          → Wants (run_all (body_of (numbers_in source.params) (time_ranges params all) all) here scope u)
-      statements_want es q (inl e) scope a b here u = subst (λ es. Wants (run_all (body_of (numbers_in source.params) (time_ranges params es) es) here scope u)) (sym e) (wants_ended u)
+          → (scope : Scope) → scope.names ≡ p → scope.extents ≡ extents_at (declared_arrays other) p → (here : Position) (u : State)
+          → Wants (run_all (body_of (numbers_in other.params) (time_ranges (number_ranges other.params) all) all) here scope u)
+      statements_want es q (inl e) scope a b here u = subst (λ es. Wants (run_all (body_of (numbers_in other.params) (time_ranges (number_ranges other.params) es) es) here scope u)) (sym e) (wants_ended u)
       statements_want es q (inr l) scope a b here u =
-          body_wants source n maps ranges (boxes source) p h.scheduled numbers l outwards (encloses source p h.plain h.near within) (covers source n maps h.plain h.near h.scheduled few slight p box)
-          (is_small source n maps h.plain h.near h.scheduled few slight l p box) (extents_at (declared_arrays source) p) along (kept_at source p safe keeps) scope a b here u
+          body_wants other n maps ranges (boxes other) p scheduled numbers l outwards enclosed covered
+          (sizes l) (extents_at (declared_arrays other) p) along (kept_at other p safe keeps) scope a b here u
 
-      pub wants : (store : Store) → Wants (meaning (target_program source (Time n maps)) p store)
+      pub wants : (store : Store) → Wants (meaning (target_program other (Time n maps)) p store)
       wants store =
           let start : State = record { store = store; written = []; steps = 0 } in
-          let place : Position = record { node = nodes_of_decls (arrays_of source.params) + sum_by nodes_of_compare source.context + nodes_of_decls source.temps; statement = 0 } in
-          let given : List (List ℤ) = extents_at (arrays_of source.params) p in
-          let own : List (List ℤ) = extents_at source.temps p in
-          let together : given ++ own ≡ extents_at (declared_arrays source) p = sym (map_append _ (arrays_of source.params) source.temps) in
-          wants_reading (all_extents 0 (arrays_of source.params) 0 p) given start _
-          (all_read p (arrays_of source.params) (λ d i. safe.extents d (to_first (arrays_of source.params) source.temps d i)) (λ d e i j. extents d e (to_first (arrays_of source.params) source.temps d i) j) 0 0)
-          (wants_reading (all_extents (length (arrays_of source.params)) source.temps _ p) own start _
-          (all_read p source.temps (λ d i. safe.extents d (to_second (arrays_of source.params) source.temps d i)) (λ d e i j. extents d e (to_second (arrays_of source.params) source.temps d i) j) _ _)
-          (statements_want all refl some_or_none (record { names = p; iterators = []; extents = given ++ own }) refl together place start))
+          let place : Position = record { node = nodes_of_decls (arrays_of other.params) + sum_by nodes_of_compare other.context + nodes_of_decls other.temps; statement = 0 } in
+          let given : List (List ℤ) = extents_at (arrays_of other.params) p in
+          let own : List (List ℤ) = extents_at other.temps p in
+          let together : given ++ own ≡ extents_at (declared_arrays other) p = sym (map_append _ (arrays_of other.params) other.temps) in
+          wants_reading (all_extents 0 (arrays_of other.params) 0 p) given start _
+          (all_read p (arrays_of other.params) (λ d i. safe.extents d (to_first (arrays_of other.params) other.temps d i)) (λ d e i j. extents d e (to_first (arrays_of other.params) other.temps d i) j) 0 0)
+          (wants_reading (all_extents (length (arrays_of other.params)) other.temps _ p) own start _
+          (all_read p other.temps (λ d i. safe.extents d (to_second (arrays_of other.params) other.temps d i)) (λ d e i j. extents d e (to_second (arrays_of other.params) other.temps d i) j) _ _)
+          (statements_want all refl none_or_long (record { names = p; iterators = []; extents = given ++ own }) refl together place start))
 
 -- ---- any schedule
 
+pub loops_do_other : (source other : Program) (schedule : Schedule) (p : List ℤ) → HasLoops source schedule → HaveSameLoops source other → IsTrue (has_no_locals other)
+    → IsTrue (within_ranges source.params p) → effects (target_program other schedule) p ≡ map (placed (λ x. x) (effect other p)) (target other schedule p)
+loops_do_other source other Source p h same bare within = trace_effects other p (subst T (sym bare) tt) ∙ ap (λ f. map f (trace other p)) (own_places other p)
+loops_do_other source other (Time n maps) p h same bare within = does_at source other n maps h same p within
+
+pub loops_run_other : (source other : Program) (schedule : Schedule) (p : List ℤ) (store : Store) → HasLoops source schedule → HaveSameLoops source other → IsTrue (has_no_locals other)
+    → IsTrue (within_ranges source.params p) → NeverOverflows other p → HasExtents other p → KeepsWithin other p
+    → RunsTarget (target_program other schedule) other schedule (λ x. x) p store
+loops_run_other source other Source p store h same bare within safe extents keeps = record {
+  does = loops_do_other source other Source p h same bare within;
+  only_unwritten = λ cause steps e. stuck_for_a_value other p store cause steps bare (within_same source other same p within) safe extents keeps e;
+}
+loops_run_other source other (Time n maps) p store h same bare within safe extents keeps = record {
+  does = loops_do_other source other (Time n maps) p h same bare within;
+  only_unwritten = λ cause steps e. wants_unwritten _ cause steps (wants source other n maps h same p within safe extents keeps store) e;
+}
+
+its_own : (source : Program) → HaveSameLoops source source
+its_own source = record { same_rounds = refl; same_ranges = refl }
+
 pub loops_do_target : LoopsDoTarget
-loops_do_target source Source p h within = trace_effects source p (subst T (sym (plain_has_no_locals source h.plain)) tt) ∙ ap (λ f. map f (trace source p)) (own_places source p)
-loops_do_target source (Time n maps) p h within = does_at source n maps h p within
+loops_do_target source schedule p h within = loops_do_other source source schedule p h (its_own source) (plain_has_no_locals source h.plain) within
 
 pub loops_run_target : LoopsRunTarget
-loops_run_target source Source p store h within extents keeps = record {
-  does = loops_do_target source Source p h within;
-  only_unwritten = λ cause steps e. stuck_for_a_value source p store cause steps (plain_has_no_locals source h.plain) within (plain_never_overflows source p h.plain h.near within) extents keeps e;
-}
-loops_run_target source (Time n maps) p store h within extents keeps = record {
-  does = loops_do_target source (Time n maps) p h within;
-  only_unwritten = λ cause steps e. wants_unwritten _ cause steps (wants source n maps h p within extents keeps store) e;
-}
+loops_run_target source schedule p store h within extents keeps =
+    loops_run_other source source schedule p store h (its_own source) (plain_has_no_locals source h.plain) within (plain_never_overflows source p h.plain h.near within) extents keeps
 
-same_name : (source : Program) (schedule : Schedule) → (target_program source schedule).name ≡ source.name
+pub same_name : (source : Program) (schedule : Schedule) → (target_program source schedule).name ≡ source.name
 same_name source Source = refl
 same_name source (Time n maps) = refl
 
-same_params : (source : Program) (schedule : Schedule) → (target_program source schedule).params ≡ source.params
+pub same_params : (source : Program) (schedule : Schedule) → (target_program source schedule).params ≡ source.params
 same_params source Source = refl
 same_params source (Time n maps) = refl
 
-same_context : (source : Program) (schedule : Schedule) → (target_program source schedule).context ≡ source.context
+pub same_context : (source : Program) (schedule : Schedule) → (target_program source schedule).context ≡ source.context
 same_context source Source = refl
 same_context source (Time n maps) = refl
 

@@ -80,15 +80,15 @@ module _ (old new : List ℤ) (first more : ℕ) (same : (x : ℕ) → get_or ne
 -- ---- whole numbers at any node
 
 -- values whose subscripts and casts are read
-reads_not : (a : Val) (names : List ℤ) → ReadsValue a names → ReadsValue (v.Not a) names
+pub reads_not : (a : Val) (names : List ℤ) → ReadsValue a names → ReadsValue (v.Not a) names
 unfolding shape-the_row-Val-0 hidden-the_row-Val-0 hidden
 reads_not a names r = r
 
-reads_shift : (left : Bool) (a : Val) (by : ℕ) (names : List ℤ) → ReadsValue a names → ReadsValue (v.Shift left a by) names
+pub reads_shift : (left : Bool) (a : Val) (by : ℕ) (names : List ℤ) → ReadsValue a names → ReadsValue (v.Shift left a by) names
 unfolding shape-the_row-Val-0 hidden-the_row-Val-0 hidden
 reads_shift left a by names r = r
 
-reads_bin : (op : _) (a b : Val) (names : List ℤ) → ReadsValue a names → ReadsValue b names → ReadsValue (v.Bin op a b) names
+pub reads_bin : (op : _) (a b : Val) (names : List ℤ) → ReadsValue a names → ReadsValue b names → ReadsValue (v.Bin op a b) names
 unfolding shape-the_row-Val-0 hidden-the_row-Val-0 hidden
 reads_bin op a b names r q = (r, q)
 

@@ -60,10 +60,15 @@ list_rounds (x ∷ rest) depth =
     ∙ ap (λ l. map (deep depth) (by_stmt rounds_step x) ++ l) (list_rounds rest depth)
     ∙ sym (map_append (deep depth) (by_stmt rounds_step x) (flat_map (by_stmt rounds_step) rest))
 
+pub loops_of_rounds : (program : Program) → loops_round program ≡ map (λ gs. length (loop_names gs)) (all_rounds program)
+loops_of_rounds program = list_rounds program.body 0 ∙ at_none (all_rounds program)
+  where
+    at_none : (rss : List (List Round)) → map (deep 0) rss ≡ map (λ gs. length (loop_names gs)) rss
+    at_none [] = refl
+    at_none (gs ∷ rss) = let n : deep 0 gs ≡ length (loop_names gs) = omega arith in ap (λ m. m ∷ map (deep 0) rss) n ∙ ap (λ l. length (loop_names gs) ∷ l) (at_none rss)
+
 pub loops_are : (program : Program) (k : ℕ) (gs : List Round) → slice_get (all_rounds program) k ≡ Some gs → slice_get (loops_round program) k ≡ Some (length (loop_names gs))
-loops_are program k gs e =
-    let n : deep 0 gs ≡ length (loop_names gs) = omega arith in
-    ap (λ l. slice_get l k) (list_rounds program.body 0) ∙ to_mapped (deep 0) (all_rounds program) k gs e ∙ ap (λ m. Some m) n
+loops_are program k gs e = ap (λ l. slice_get l k) (loops_of_rounds program) ∙ to_mapped (λ gs. length (loop_names gs)) (all_rounds program) k gs e
 
 -- one name for each number parameter
 pub numbers_are : (ps : List Param) → numbers_in ps ≡ length (number_ranges ps)

@@ -17,6 +17,7 @@ use Rattle.affc_trace.specs.Laws.{IsInContext, RunsTarget, in_target_order}
 use Rattle.affc_trace.specs.Target.{target, IsScheduleOf, within_limits}
 use Rattle.affc_domain.specs.Plain.{IsPlain}
 use Rattle.affc_domain.specs.Ranges.{first_wide, number_ranges}
+use Rattle.affc_domain.specs.Rounds.{rounds}
 use Rattle.affc_safe.specs.Safe.{HasExtents, KeepsWithin}
 use Rattle.affc_loops.specs.Loops.{Piece, pieces, time_ranges, target_program}
 
@@ -26,6 +27,11 @@ pub record HasLoops (source : Program) (schedule : Schedule) : Type 0 where
   pub near : first_wide source ≡ None
   pub scheduled : IsScheduleOf source schedule
   pub limits : IsTrue (within_limits schedule)
+
+-- the same loops and conditions round the statements, and the same ranges of the parameters
+pub record HaveSameLoops (source other : Program) : Type 0 where
+  pub same_rounds : rounds other ≡ rounds source
+  pub same_ranges : number_ranges other.params ≡ number_ranges source.params
 
 -- Read as whole numbers, the loops and conditions run what the target's instances do, each once and in order.
 abbrev pub LoopsDoTarget : Type 0

@@ -63,7 +63,7 @@ touches_are_accesses program p b x i t =
     let r = touched a.0.op a.0.array a.0.subs a.0.value names x here in
     record { assignment = a.0; its_assignment = a.1; access = r.0; is_access = r.1; is_element = r.2 }
 
-entry_in : {A : Type 0} (xs : List A) (n : ℕ) (a : A) → slice_get xs n ≡ Some a → IsIn a xs
+pub entry_in : {A : Type 0} (xs : List A) (n : ℕ) (a : A) → slice_get xs n ≡ Some a → IsIn a xs
 entry_in [] n a e = absurd (none-some a e)
 entry_in (x ∷ xs) zero a e = inl (sym (same_Some x a e))
 entry_in (x ∷ xs) (suc n) a e = inr (entry_in xs n a e)

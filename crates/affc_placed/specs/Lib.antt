@@ -1,0 +1,4 @@
+pub mod Placed
+pub mod Refolds
+pub mod Laws
+pub mod Examples
