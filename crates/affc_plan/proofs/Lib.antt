@@ -1,0 +1,13 @@
+pub mod ColumnLaws
+pub mod PartLaws
+pub mod PartForms
+pub mod Heads
+pub mod LineLaws
+pub mod ColumnForms
+pub mod Composing
+pub mod RightLines
+pub mod Pairs
+pub mod Composable
+pub mod RightFolds
+pub mod FewLaws
+pub mod MapLaws

@@ -1,0 +1,11 @@
+//! Plans that schedules' texts read as.
+#![tactic(auto)]
+
+pub mod bases;
+pub mod breach;
+mod columns;
+pub mod laws;
+mod lists;
+pub mod lost;
+pub mod maps;
+mod parts;
