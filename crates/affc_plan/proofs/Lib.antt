@@ -11,3 +11,6 @@ pub mod Composable
 pub mod RightFolds
 pub mod FewLaws
 pub mod MapLaws
+pub mod FrontLaws
+pub mod FoldLaws
+pub mod RightDrafts

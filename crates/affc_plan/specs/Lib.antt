@@ -5,3 +5,4 @@ pub mod Lines
 pub mod Lists
 pub mod Maps
 pub mod Composed
+pub mod Folds

@@ -1,12 +1,12 @@
 -- Lines that keep the rules, and the forms of their lists.
-use Rattle.std.specs.Prelude.{◌≡◌, ℕ, ◌+◌, ◌-◌, ◌≤◌, true, List, [], length, slice_get, Some}
+use Rattle.std.specs.Prelude.{◌≡◌, ℕ, ◌+◌, ◌-◌, ◌≤◌, true, List, [], ◌∷◌, length, slice_get, Some}
 use Rattle.affc_rows.specs.Forms.{Affine, HaveColumns, columns_of}
 use Rattle.affc_trace.specs.Target.{all_slight}
 use Rattle.affc_grammar.specs.Grammar.{Name}
 use Rattle.affc_schedtext.specs.declared.outline.ArrayOutline.{ArrayOutline}
 use Rattle.affc_schedtext.specs.declared.outline.Outline.{Outline}
 use Rattle.affc_schedtext.specs.Outline.{statement_of, iterators_of, array_of}
-use Rattle.affc_schedtext.specs.Draft.{LineDraft}
+use Rattle.affc_schedtext.specs.Draft.{LineDraft, OrderDraft, source, time}
 use Rattle.affc_schedtext.specs.Rules.{Sides, statement_sides, fold_sides, there_forms, back_forms, large_sides}
 use Rattle.affc_schedtext.specs.Answers.{IsFirstLost}
 use Rattle.affc_basis.specs.declared.basis.Basis.{Basis}
@@ -31,6 +31,19 @@ pub record IsRightFold (o : Outline) (l : LineDraft) : Type 0 where
   pub forms : length l.forms ≡ array.dimensions
   pub inverse : length l.inverse ≡ array.dimensions
   pub slight : large_sides (fold_sides o l) ≡ []
+
+abbrev pub AreRightLines : Outline → ℕ → List LineDraft → Type 0
+AreRightLines o n [] = Unit {0}
+AreRightLines o n (l ∷ ls) = IsRightLine o n l × AreRightLines o n ls
+
+abbrev pub AreRight : Outline → (folds : List LineDraft) → Type 0
+AreRight o [] = Unit {0}
+AreRight o (l ∷ ls) = IsRightFold o l × AreRight o ls
+
+-- where there are times, 1 to 12 components and a right line each
+abbrev pub IsRightOrder : Outline → OrderDraft → Type 0
+IsRightOrder o source = Unit {0}
+IsRightOrder o (time at n lines) = (1 ≤ n) × (n ≤ 12) × AreRightLines o n lines
 
 -- forms over some columns, and inverse forms of the last of them, all slight
 pub record ArePair (forms inverse : List Affine) : Type 0 where

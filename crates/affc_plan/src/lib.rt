@@ -4,6 +4,8 @@
 pub mod bases;
 pub mod breach;
 mod columns;
+pub mod folds;
+pub mod front;
 pub mod laws;
 mod lists;
 pub mod lost;
