@@ -35,7 +35,7 @@ more_bases o [] (g ∷ fs) l f h e b = absurd h
 more_bases o (k ∷ ls) [] l f h e b = absurd h
 more_bases o (k ∷ ls) (g ∷ fs) l f h e b = (h.0, h.1, h.2, more_bases o ls fs l f h.3 e b)
 
-lines_more : (ls : List code.LineDraft) (i : ℕ) (l : code.LineDraft) → i < length ls → l ≡ get_or ls i l → map line_seen (take (i + 1) ls) ≡ map line_seen (take i ls) ++ line_seen l ∷ []
+pub lines_more : (ls : List code.LineDraft) (i : ℕ) (l : code.LineDraft) → i < length ls → l ≡ get_or ls i l → map line_seen (take (i + 1) ls) ≡ map line_seen (take i ls) ++ line_seen l ∷ []
 lines_more ls i l lt e =
     ap (map line_seen) (take_more ls i l lt ∙ ap (λ x. take i ls ++ x ∷ []) (sym e)) ∙ map-append line_seen (take i ls) (l ∷ [])
 
@@ -51,7 +51,7 @@ all_bases o [] fs h = λ k d lt. absurd (omega (arith, lt))
 all_bases o (l ∷ ls) [] h = absurd h
 all_bases o (l ∷ ls) (f ∷ fs) h = All-cons (λ x. IsBasis (fold_sides o x)) l ls (are_components f.1 (there_forms (fold_sides o l)) (back_forms (fold_sides o l)) h.1 h.2) (all_bases o ls fs h.3)
 
-split_at : (ls : List code.LineDraft) (i : ℕ) (l : code.LineDraft) → i < length ls → l ≡ get_or ls i l → map line_seen ls ≡ map line_seen (take i ls) ++ line_seen l ∷ map line_seen (drop (i + 1) ls)
+pub split_at : (ls : List code.LineDraft) (i : ℕ) (l : code.LineDraft) → i < length ls → l ≡ get_or ls i l → map line_seen ls ≡ map line_seen (take i ls) ++ line_seen l ∷ map line_seen (drop (i + 1) ls)
 split_at ls i l lt e =
     ap (map line_seen) (sym (take-append-drop i ls)) ∙ map-append line_seen (take i ls) (drop i ls) ∙ ap (λ r. map line_seen (take i ls) ++ map line_seen r) (front ls i l lt e)
 

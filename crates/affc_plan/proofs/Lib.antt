@@ -14,3 +14,4 @@ pub mod MapLaws
 pub mod FrontLaws
 pub mod FoldLaws
 pub mod RightDrafts
+pub mod TimeLaws

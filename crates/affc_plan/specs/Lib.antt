@@ -6,3 +6,4 @@ pub mod Lists
 pub mod Maps
 pub mod Composed
 pub mod Folds
+pub mod Times

@@ -11,3 +11,4 @@ mod lists;
 pub mod lost;
 pub mod maps;
 mod parts;
+pub mod times;
