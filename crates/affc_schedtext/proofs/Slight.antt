@@ -58,7 +58,7 @@ neg_form n a = ap (λ (l : Linear). l.form) (neg_here (linear_step n 0) a)
 here_is : (k : Columns) (e : IxDraft) → slight_here k e ≡ true → is_slight (form_over k e) ≡ true
 here_is k e h = (and_parts (is_slight (form_over k e)) true h).0
 
-slight_of : (k : Columns) (e : IxDraft) → slight_parts k e ≡ true → is_slight (form_over k e) ≡ true
+pub slight_of : (k : Columns) (e : IxDraft) → slight_parts k e ≡ true → is_slight (form_over k e) ≡ true
 slight_of k (literal at n) h = here_is k (literal at n) h
 slight_of k (name at w) h = unit_slight k.count _
 slight_of k (negated at a) h = ap is_slight (neg_form k.count (over_columns k.scope a)) ∙ opposite_slight (form_over k a) (slight_of k a h)

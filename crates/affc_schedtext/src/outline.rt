@@ -32,7 +32,7 @@ pub struct Outline {
 // ---- Statements
 
 /// The iterators round the statement of this name.
-pub(crate) fn iterators_of<'o>(outline: &'o Outline, name: &str) -> Option<&'o [Text]>
+pub fn iterators_of<'o>(outline: &'o Outline, name: &str) -> Option<&'o [Text]>
     ensures { MatchOption result
         (outlines.iterators_of outline.now (outlines.statement_of outline.now name.now) ≡ None)
         (λ is. outlines.iterators_of outline.now (outlines.statement_of outline.now name.now) ≡ Some is.now) }
@@ -92,7 +92,7 @@ fn position_of(name: &str, arrays: &[ArrayOutline]) -> Option<usize>
 }
 
 /// The number of the first array of this name.
-pub(crate) fn array_of(outline: &Outline, name: &str) -> Option<usize>
+pub fn array_of(outline: &Outline, name: &str) -> Option<usize>
     ensures { result ≡ outlines.array_of outline.now name.now }
 {
     position_of(name, outline.arrays.as_slice())

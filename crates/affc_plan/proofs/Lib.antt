@@ -1,0 +1,17 @@
+pub mod ColumnLaws
+pub mod PartLaws
+pub mod PartForms
+pub mod Heads
+pub mod LineLaws
+pub mod ColumnForms
+pub mod Composing
+pub mod RightLines
+pub mod Pairs
+pub mod Composable
+pub mod RightFolds
+pub mod FewLaws
+pub mod MapLaws
+pub mod FrontLaws
+pub mod FoldLaws
+pub mod RightDrafts
+pub mod TimeLaws

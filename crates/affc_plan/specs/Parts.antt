@@ -1,0 +1,42 @@
+-- The parts of an expression as forms, where each is slight.
+use Rattle.std.specs.Prelude.{◌≡◌, ℕ, ℤ, pos, negsuc, Bool, true, false, ◌||◌, if◌then◌else◌, List, [], ◌∷◌, length, replicate, Option, Some, None}
+use Rattle.affc_rows.specs.Forms.{Affine, mixed_form}
+use Rattle.affc_trace.specs.Target.{all_slight}
+use Rattle.affc_domain.specs.Affine.{unit_of, product_form}
+use Rattle.affc_grammar.specs.Draft.{IxDraft, literal, name, negated, sum, difference, product, grouped, chosen, divided}
+use Rattle.affc_schedtext.specs.Rules.{Columns, column_named}
+use Rattle.affc_plan.specs.declared.parts.Part.{Part}
+
+abbrev pub is_slight : Affine → Bool
+is_slight f = all_slight (f ∷ [])
+
+-- a form, if it is slight, and whether names stand in it
+abbrev pub kept : Bool → Affine → Option Part
+kept named form = if is_slight form then Some (record { named = named; form = form }) else None
+
+abbrev pub mixture : ℤ → Option Part → ℤ → Option Part → Option Part
+mixture s None t b = None
+mixture s (Some a) t None = None
+mixture s (Some a) t (Some b) = kept (a.named || b.named) (mixed_form s a.form t b.form)
+
+abbrev pub multiple : Option Part → Option Part → Option Part
+multiple None b = None
+multiple (Some a) None = None
+multiple (Some a) (Some b) = kept (a.named || b.named) (product_form a.named a.form b.form)
+
+-- an expression over these columns; nothing where a part isn't slight
+abbrev pub part_of : Columns → IxDraft → Option Part
+part_of c (literal at n) = kept false (record { coefs = replicate c.count (pos 0); constant = pos n })
+part_of c (name at w) = kept true (record { coefs = unit_of c.count (column_named (c.scope w)); constant = pos 0 })
+part_of c (negated at a) = mixture (negsuc 0) (part_of c a) (pos 0) (part_of c a)
+part_of c (sum a b) = mixture (pos 1) (part_of c a) (pos 1) (part_of c b)
+part_of c (difference a b) = mixture (pos 1) (part_of c a) (negsuc 0) (part_of c b)
+part_of c (product at a b) = multiple (part_of c a) (part_of c b)
+part_of c (grouped at a) = part_of c a
+part_of c (chosen at f a b) = None
+part_of c (divided at f a by_at by) = None
+
+-- a part has a slight form over so many columns
+abbrev pub IsPartOver : ℕ → Option Part → Type 0
+IsPartOver n None = Unit {0}
+IsPartOver n (Some a) = (is_slight a.form ≡ true) × (length a.form.coefs ≡ n)

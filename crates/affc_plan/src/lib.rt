@@ -1,0 +1,14 @@
+//! Plans that schedules' texts read as.
+#![tactic(auto)]
+
+pub mod bases;
+pub mod breach;
+mod columns;
+pub mod folds;
+pub mod front;
+pub mod laws;
+mod lists;
+pub mod lost;
+pub mod maps;
+mod parts;
+pub mod times;

@@ -1,0 +1,238 @@
+//! The lists of a line: their columns, their limits and their forms.
+
+ghost use Rattle.std.specs.Prelude.{◌≡◌, ◌≤◌, true, map, flat_map, IfOk};
+ghost use Rattle.std.specs.List.{list_all};
+ghost use Rattle.affc_grammar.specs.Limits as limits;
+ghost use Rattle.affc_draft.specs.Drafts.{ix};
+ghost use Rattle.affc_schedtext.specs.Outline as outlines;
+ghost use Rattle.affc_schedtext.specs.Rules as rules;
+ghost use Rattle.affc_schedtext.specs.Seen.{line_seen};
+ghost use Rattle.affc_plan.specs.Few.{AreFew};
+ghost use Rattle.affc_plan.specs.Lines.{head, IsFew};
+ghost use Rattle.affc_plan.specs.Lists.{are_slight_parts};
+ghost use Rattle.affc_plan.specs.Seen.{columns_seen, sides_seen};
+
+use crate::columns::{Columns, Sides};
+use crate::parts::linear_part;
+use affc_ast::text::Text;
+use affc_draft::draft::IxDraft;
+use affc_rows::Form;
+use affc_schedtext::draft::LineDraft;
+use affc_schedtext::outline::{Outline, array_of, iterators_of};
+use affc_schedtext::scope::Scope;
+use sqlite_items::Items;
+use std::alloc::{AllocError, Global};
+
+// ---- Columns
+
+/// The iterators round the statement of this name; none where there is no such statement.
+fn iterators<'o>(outline: &'o Outline, name: &str) -> &'o [Text]
+    ensures { result.now ≡ rules.iterators_or_none (outlines.iterators_of outline.now (outlines.statement_of outline.now name.now)) }
+{
+    match iterators_of(outline, name) {
+        Some(iterators) => iterators,
+        None => &[],
+    }
+}
+
+/// The columns of a statement's line.
+pub(crate) fn statement_sides<'o>(
+    outline: &'o Outline,
+    components: u64,
+    line: &LineDraft,
+) -> Sides<'o>
+    requires few { IsFew outline.now }
+    requires length { components ≤ 12 }
+    ensures sides { sides_seen result line.now ≡ rules.statement_sides outline.now components (line_seen line.now) }
+    ensures few { AreFew result.there.scope × AreFew result.back.scope }
+{
+    let parameters = outline.parameters.as_slice();
+    let iterators = iterators(outline, line.word.name.as_str());
+    Sides {
+        there: Columns {
+            count: parameters.len() as u32 + iterators.len() as u32,
+            scope: Scope::Time {
+                parameters,
+                iterators,
+            },
+        },
+        back: Columns {
+            count: parameters.len() as u32 + components as u32,
+            scope: Scope::Inverse {
+                parameters,
+                length: components,
+            },
+        },
+    }
+}
+
+/// The dimensions of the first array of this name; 0 where there is none.
+fn dimensions(outline: &Outline, name: &str) -> u64
+    requires { IsFew outline.now }
+    ensures value { result ≡ outlines.dimensions_of (outlines.array_at outline.now (outlines.array_of outline.now name.now)) }
+    ensures few { result ≤ 4 }
+{
+    match array_of(outline, name) {
+        Some(number) => match outline.arrays.get(number) {
+            Some(array) => array.dimensions,
+            None => 0,
+        },
+        None => 0,
+    }
+}
+
+/// The columns of a fold's line.
+pub(crate) fn fold_sides(outline: &Outline, line: &LineDraft) -> Sides<'static>
+    requires { IsFew outline.now }
+    ensures sides { sides_seen result line.now ≡ rules.fold_sides outline.now (line_seen line.now) }
+    ensures few { AreFew result.there.scope × AreFew result.back.scope }
+{
+    let count = dimensions(outline, line.word.name.as_str());
+    Sides {
+        there: Columns {
+            count: count as u32,
+            scope: Scope::Row(count),
+        },
+        back: Columns {
+            count: count as u32,
+            scope: Scope::Back(count),
+        },
+    }
+}
+
+// ---- Limits
+
+/// The number of an expression's first token.
+#[tactic(auto, using(affc_draft::proofs::Outs::ix_outs))]
+fn first_token(e: &IxDraft) -> usize
+    ensures { result ≡ limits.first_token (ix e.now) }
+{
+    let mut here = e;
+    loop {
+        match here {
+            IxDraft::Literal { at, .. }
+            | IxDraft::Name { at, .. }
+            | IxDraft::Negated { at, .. }
+            | IxDraft::Grouped { at, .. }
+            | IxDraft::Chosen { at, .. }
+            | IxDraft::Divided { at, .. } => return *at,
+            IxDraft::Sum(left, _) | IxDraft::Difference(left, _) | IxDraft::Product { left, .. } =>
+                here = left.get(),
+        }
+    }
+}
+
+/// Whether each part of an expression is within the limits.
+#[tactic(auto, using(crate::proofs::PartForms::parts))]
+fn is_slight(alloc: Global, columns: Columns<'_>, e: &IxDraft) -> Result<bool, AllocError>
+    requires { AreFew columns.scope }
+    ensures { IfOk result (λ b. b ≡ rules.slight_parts (columns_seen columns.entry) (ix e.now)) }
+{
+    match linear_part(alloc, columns, e)? {
+        Some(_) => Ok(true),
+        None => Ok(false),
+    }
+}
+
+/// The first token of the first of the expressions that has a part past the limits.
+fn first_large(
+    alloc: Global,
+    columns: Columns<'_>,
+    es: &[IxDraft],
+) -> Result<Option<usize>, AllocError>
+    requires { AreFew columns.scope }
+    ensures { IfOk result (λ p. p ≡ head (rules.large_forms (columns_seen columns.entry) (map ix es.now))) }
+{
+    for e in es {
+        if !is_slight(alloc, columns, e)? {
+            return Ok(Some(first_token(e)));
+        }
+    }
+    Ok(None)
+}
+
+/// The same of both lists of a line.
+#[tactic(auto, using(crate::proofs::Heads::heads))]
+fn first_large_side(
+    alloc: Global,
+    sides: Sides<'_>,
+    line: &LineDraft,
+) -> Result<Option<usize>, AllocError>
+    requires { AreFew sides.there.scope × AreFew sides.back.scope }
+    ensures { IfOk result (λ p. p ≡ head (rules.large_sides (sides_seen sides.entry line.now))) }
+{
+    match first_large(alloc, sides.there, line.forms.as_slice())? {
+        Some(at) => Ok(Some(at)),
+        None => first_large(alloc, sides.back, line.inverse.as_slice()),
+    }
+}
+
+/// The same of all statements' lines.
+pub(crate) fn first_large_of_statements(
+    alloc: Global,
+    outline: &Outline,
+    components: u64,
+    lines: &[LineDraft],
+) -> Result<Option<usize>, AllocError>
+    requires few { IsFew outline.now }
+    requires length { components ≤ 12 }
+    ensures { IfOk result (λ p. p ≡ head (flat_map (λ l. rules.large_sides (rules.statement_sides outline.now components l)) (map line_seen lines.now))) }
+{
+    for line in lines {
+        let sides = statement_sides(outline, components, line);
+        if let Some(at) = first_large_side(alloc, sides, line)? {
+            return Ok(Some(at));
+        }
+    }
+    Ok(None)
+}
+
+/// The same of all folds.
+pub(crate) fn first_large_of_folds(
+    alloc: Global,
+    outline: &Outline,
+    folds: &[LineDraft],
+) -> Result<Option<usize>, AllocError>
+    requires { IsFew outline.now }
+    ensures { IfOk result (λ p. p ≡ head (flat_map (λ l. rules.large_sides (rules.fold_sides outline.now l)) (map line_seen folds.now))) }
+{
+    for line in folds {
+        let sides = fold_sides(outline, line);
+        if let Some(at) = first_large_side(alloc, sides, line)? {
+            return Ok(Some(at));
+        }
+    }
+    Ok(None)
+}
+
+// ---- Forms
+
+/// The form of an expression whose parts are all within the limits.
+#[tactic(auto, using(crate::proofs::PartForms::parts))]
+fn slight_form(alloc: Global, columns: Columns<'_>, e: &IxDraft) -> Result<Form, AllocError>
+    requires few { AreFew columns.scope }
+    requires slight { rules.slight_parts (columns_seen columns) (ix e.now) ≡ true }
+    ensures { IfOk result (λ f. f ≡ rules.form_over (columns_seen columns.entry) (ix e.now)) }
+{
+    match linear_part(alloc, columns, e)? {
+        Some(part) => Ok(part.form),
+        None => unreachable!(),
+    }
+}
+
+/// The forms of such expressions.
+pub(crate) fn forms(
+    alloc: Global,
+    columns: Columns<'_>,
+    es: &[IxDraft],
+) -> Result<Items<Form>, AllocError>
+    requires few { AreFew columns.scope }
+    requires slight { are_slight_parts (columns_seen columns) es.now ≡ true }
+    ensures { IfOk result (λ fs. fs ≡ map (rules.form_over (columns_seen columns.entry)) (map ix es.now)) }
+{
+    let mut forms = Items::new(alloc);
+    for e in es {
+        forms.push(slight_form(alloc, columns, e)?)?;
+    }
+    Ok(forms)
+}

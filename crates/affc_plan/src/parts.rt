@@ -1,0 +1,219 @@
+//! Forms of expressions, where each part is within the limits.
+
+ghost use Rattle.std.specs.Prelude.{◌≡◌, ◌^◌, ◌≤◌, pos, negsuc, true, false, length, replicate, unsigned_abs, map, IfOk};
+ghost use Rattle.affc_rows.specs.Forms.{mixed_form};
+ghost use Rattle.affc_trace.specs.Target.{are_slight};
+ghost use Rattle.affc_domain.specs.Affine.{unit_of, product_form};
+ghost use Rattle.affc_draft.specs.Drafts.{ix};
+ghost use Rattle.affc_schedtext.specs.Rules.{column_named};
+ghost use Rattle.affc_schedtext.specs.Seen.{scope_seen};
+ghost use Rattle.affc_plan.specs.Few.{AreFew};
+ghost use Rattle.affc_plan.specs.Parts.{is_slight, kept, mixture, multiple, part_of, IsPartOver};
+ghost use Rattle.affc_plan.specs.Seen.{columns_seen};
+
+use crate::columns::{Columns, column_of};
+use affc_draft::draft::IxDraft;
+use affc_nest::forms::column;
+use affc_rows::{Form, FormFault};
+use std::alloc::{AllocError, Global};
+
+/// Whether names stand in an expression, and its form.
+#[derive(Drop)]
+pub(crate) struct Part {
+    pub named: bool,
+    pub form: Form,
+}
+
+/// `s` times a slight form plus `t` times another.
+#[tactic(auto, using(affc_nest::proofs::SmallLemmas::mixture_width))]
+fn mixed(
+    alloc: Global,
+    columns: u32,
+    s: i128,
+    a: &Form,
+    t: i128,
+    b: &Form,
+) -> Result<Form, AllocError>
+    requires columns { (length a.now.coefs ≡ columns) × (length b.now.coefs ≡ columns) }
+    requires factors { (unsigned_abs s ≤ 2 ^ 30) × (unsigned_abs t ≤ 2 ^ 30) }
+    requires slight { (is_slight a.now ≡ true) × (is_slight b.now ≡ true) }
+    ensures value { IfOk result (λ f. f ≡ mixed_form s a.now t b.now) }
+    ensures width { IfOk result (λ f. length f.coefs ≡ columns) }
+{
+    match a.scale_add(alloc, s, b, t) {
+        Ok(form) => Ok(form),
+        Err(FormFault::Range) => unreachable!(),
+        Err(FormFault::Memory) => Err(AllocError),
+    }
+}
+
+fn all_slight(coefs: &[i128]) -> bool
+    ensures { result ≡ are_slight coefs.now }
+{
+    for c in coefs {
+        if c.unsigned_abs() > 256 {
+            return false;
+        }
+    }
+    true
+}
+
+/// Whether the constant is at most 2^30 and each coefficient at most 256 in magnitude.
+fn has_slight(form: &Form) -> bool
+    ensures { result ≡ is_slight form.now }
+{
+    form.constant.unsigned_abs() <= 1073741824 && all_slight(form.coefs.as_slice())
+}
+
+/// The form, if it is slight.
+fn keep(named: bool, form: Form) -> Option<Part>
+    ensures value { result ≡ kept named form }
+    ensures fits { IsPartOver (length form.coefs) result }
+{
+    if has_slight(&form) {
+        Some(Part { named, form })
+    } else {
+        None
+    }
+}
+
+/// `s` times one form plus `t` times another, if it is slight.
+fn sum(
+    alloc: Global,
+    columns: u32,
+    a: Option<Part>,
+    t: i128,
+    b: Option<Part>,
+) -> Result<Option<Part>, AllocError>
+    requires factor { unsigned_abs t ≤ 1 }
+    requires first { IsPartOver columns a }
+    requires second { IsPartOver columns b }
+    ensures value { IfOk result (λ r. r ≡ mixture (pos 1) a t b) }
+    ensures fits { IfOk result (λ r. IsPartOver columns r) }
+{
+    let Some(a) = a else {
+        return Ok(None);
+    };
+    let Some(b) = b else {
+        return Ok(None);
+    };
+    let form = mixed(alloc, columns, 1, &a.form, t, &b.form)?;
+    Ok(keep(a.named || b.named, form))
+}
+
+fn opposite(alloc: Global, columns: u32, a: Option<Part>) -> Result<Option<Part>, AllocError>
+    requires part { IsPartOver columns a }
+    ensures value { IfOk result (λ r. r ≡ mixture (negsuc 0) a (pos 0) a) }
+    ensures fits { IfOk result (λ r. IsPartOver columns r) }
+{
+    let Some(a) = a else {
+        return Ok(None);
+    };
+    let form = mixed(alloc, columns, -1, &a.form, 0, &a.form)?;
+    Ok(keep(a.named || a.named, form))
+}
+
+/// The form of a product, whose first side holds names or not.
+fn product_of(alloc: Global, columns: u32, a: &Part, b: &Part) -> Result<Form, AllocError>
+    requires first { (is_slight a.now.form ≡ true) × (length a.now.form.coefs ≡ columns) }
+    requires second { (is_slight b.now.form ≡ true) × (length b.now.form.coefs ≡ columns) }
+    ensures value { IfOk result (λ f. f ≡ product_form a.now.named a.now.form b.now.form) }
+    ensures width { IfOk result (λ f. length f.coefs ≡ columns) }
+{
+    if a.named {
+        mixed(alloc, columns, b.form.constant, &a.form, 0, &b.form)
+    } else {
+        mixed(alloc, columns, 0, &a.form, a.form.constant, &b.form)
+    }
+}
+
+/// The product, if it is slight.
+fn product(
+    alloc: Global,
+    columns: u32,
+    a: Option<Part>,
+    b: Option<Part>,
+) -> Result<Option<Part>, AllocError>
+    requires first { IsPartOver columns a }
+    requires second { IsPartOver columns b }
+    ensures value { IfOk result (λ r. r ≡ multiple a b) }
+    ensures fits { IfOk result (λ r. IsPartOver columns r) }
+{
+    let Some(a) = a else {
+        return Ok(None);
+    };
+    let Some(b) = b else {
+        return Ok(None);
+    };
+    let form = product_of(alloc, columns, &a, &b)?;
+    Ok(keep(a.named || b.named, form))
+}
+
+#[tactic(auto, using(crate::proofs::PartLaws::zeros))]
+fn literal(alloc: Global, columns: u32, value: u64) -> Result<Option<Part>, AllocError>
+    ensures value { IfOk result (λ r. r ≡ kept false (record { coefs = replicate columns (pos 0); constant = pos value })) }
+    ensures fits { IfOk result (λ r. IsPartOver columns r) }
+{
+    let Form { coefs, .. } = column(alloc, columns, columns)?;
+    let constant = i128::from(value);
+    Ok(keep(false, Form { coefs, constant }))
+}
+
+/// The number of a column; that of the first where the name stands for none.
+fn number_of(columns: Columns<'_>, name: &str) -> u32
+    requires { AreFew columns.scope }
+    ensures { result ≡ column_named (scope_seen columns.entry.scope name.now) }
+{
+    match column_of(columns, name) {
+        Some(column) => column,
+        None => 0,
+    }
+}
+
+fn name(alloc: Global, columns: Columns<'_>, name: &str) -> Result<Option<Part>, AllocError>
+    requires { AreFew columns.scope }
+    ensures value { IfOk result (λ r. r ≡ kept true (record { coefs = unit_of columns.entry.count (column_named (scope_seen columns.entry.scope name.now)); constant = pos 0 })) }
+    ensures fits { IfOk result (λ r. IsPartOver columns.entry.count r) }
+{
+    let number = number_of(columns, name);
+    let form = column(alloc, columns.count, number)?;
+    Ok(keep(true, form))
+}
+
+/// The form of an expression, where each part of it is slight.
+#[tactic(auto, using(affc_draft::proofs::Outs::ix_outs))]
+pub(crate) fn linear_part(
+    alloc: Global,
+    columns: Columns<'_>,
+    e: &IxDraft,
+) -> Result<Option<Part>, AllocError>
+    requires { AreFew columns.scope }
+    ensures form { IfOk result (λ r. r ≡ part_of (columns_seen columns.entry) (ix e.now)) }
+    ensures fits { IfOk result (λ r. IsPartOver columns.entry.count r) }
+{
+    match e {
+        IxDraft::Literal { value, .. } => literal(alloc, columns.count, *value),
+        IxDraft::Name { name: own, .. } => name(alloc, columns, own.as_str()),
+        IxDraft::Negated { of, .. } => {
+            let a = linear_part(alloc, columns, of.get())?;
+            opposite(alloc, columns.count, a)
+        }
+        IxDraft::Sum(a, b) => {
+            let a = linear_part(alloc, columns, a.get())?;
+            let b = linear_part(alloc, columns, b.get())?;
+            sum(alloc, columns.count, a, 1, b)
+        }
+        IxDraft::Difference(a, b) => {
+            let a = linear_part(alloc, columns, a.get())?;
+            let b = linear_part(alloc, columns, b.get())?;
+            sum(alloc, columns.count, a, -1, b)
+        }
+        IxDraft::Product { left, right, .. } => {
+            let a = linear_part(alloc, columns, left.get())?;
+            let b = linear_part(alloc, columns, right.get())?;
+            product(alloc, columns.count, a, b)
+        }
+        IxDraft::Grouped { inside, .. } => linear_part(alloc, columns, inside.get()),
+        IxDraft::Chosen { .. } | IxDraft::Divided { .. } => Ok(None),
+    }
+}
