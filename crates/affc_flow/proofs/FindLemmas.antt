@@ -1,5 +1,5 @@
 -- The trees of all loads, one after the other.
-use Rattle.std.proofs.Common.{◌≡◌, ℕ, zero, suc, ◌+◌, ◌-◌, ◌*◌, ◌^◌, ◌<◌, ◌≤◌, ℤ, ◌-ℤ◌, false, true≢false, IsTrue, List, [], ◌∷◌, ◌++◌, length, Some, refl, sym, ap, subst, ◌∙◌, inl, inr, arith}
+use Rattle.std.proofs.Common.{◌≡◌, ℕ, zero, suc, ◌+◌, ◌-◌, ◌*◌, ◌^◌, ◌<◌, ◌≤◌, ℤ, ◌-ℤ◌, false, true≢false, IsTrue, List, [], ◌∷◌, ◌++◌, length, drop, Some, refl, sym, ap, subst, ◌∙◌, inl, inr, arith}
 use Rattle.std.specs.Prelude.{unsigned_abs, slice_get, ◌&&◌, int_le, nat_le, nat_abs}
 use Rattle.std.specs.List.{All}
 use Rattle.std.proofs.lemmas.Bool.{leb-true}
@@ -40,7 +40,7 @@ use Rattle.affc_quast.specs.Trees.{Tree, Input, named_at, quotients_at}
 use Rattle.affc_flow.specs.Finds.{NameAll, AreInputs, IsTreeFor, AreTreesOf, AreTreesFrom, AddsTreesOf, AddsTreesFrom}
 use Rattle.affc_flow.specs.Laws.{Loads}
 use Rattle.affc_flow.specs.Questions.{is_temporary}
-use Rattle.affc_flow.specs.Searches.{IsRightAt, Covers, Fuel, IsSlightRange}
+use Rattle.affc_flow.specs.Searches.{IsRightAt, Covers, Fuel, IsSlightRange, IsLoad}
 use Rattle.affc_flow.specs.Stores.{IsNamedNest}
 use Rattle.affc_flow.proofs.FlowLemmas.{mapped_at, front_at}
 use Rattle.affc_flow.proofs.LastLemmas.{within}
@@ -327,3 +327,53 @@ module _ (nest : Nest) (trees : List Tree) (h : AreTreesFrom nest nest.entries t
           ∙ front_at (loads_of program p here) (store_of program p here ∷ []) k x (subst (λ i. slice_get (loads_of program p i) k ≡ Some x) same load)) in
           subst (λ i. IsSource program p i x (named_at tree (p ++ b.iterators))) (sym same)
           (subst (λ x. IsSource program p here x (named_at tree (p ++ b.iterators))) element (right_at s k e a tree at there t b number runs).source.is)
+
+-- ---- What the code goes along
+
+drop_head : (all : List Access) (k : ℕ) (x : Access) (rest : List Access) → x ∷ rest ≡ drop k all → (slice_get all k ≡ Some x) × (rest ≡ drop (k + 1) all) × (length all ≡ suc k + length rest)
+drop_head [] zero x rest e = absurd (cc)
+drop_head [] (suc k) x rest e = absurd (cc)
+drop_head (a ∷ all) zero x rest e = (ap Some (sym (heads x a rest all e)), tails x a rest all e, count (ap length e))
+  where
+    heads : (x a : Access) (rest all : List Access) → x ∷ rest ≡ a ∷ all → x ≡ a
+    heads x a rest all e = cc
+
+    tails : (x a : Access) (rest all : List Access) → x ∷ rest ≡ a ∷ all → rest ≡ all
+    tails x a rest all e = cc
+
+    count : suc (length rest) ≡ suc (length all) → suc (length all) ≡ suc zero + length rest
+    count e = omega (arith, e)
+drop_head (a ∷ all) (suc k) x rest e =
+    let r = drop_head all k x rest e in
+    (r.0, subst (λ n. rest ≡ drop n (a ∷ all)) (next k) r.1, count r.2)
+  where
+    next : (k : ℕ) → suc (k + 1) ≡ suc k + 1
+    next k = omega arith
+
+    count : length all ≡ suc k + length rest → suc (length all) ≡ suc (suc k) + length rest
+    count e = omega (arith, e)
+
+-- a load among the accesses from some number on
+pub record LoadThere (e : Entry) (number : ℕ) (x : Access) (rest : List Access) : Type 0 where
+  pub there : slice_get e.accesses number ≡ Some x
+  pub load : number < loads_in e
+  pub others : rest ≡ drop (number + 1) e.accesses
+
+pub load_there : (e : Entry) (number : ℕ) (accesses rest : List Access) (x : Access) → accesses ≡ drop number e.accesses → accesses ≡ x ∷ rest → (length rest ≡ 0 → ⊥) → LoadThere e number x rest
+load_there e number accesses rest x a b some =
+    let r = drop_head e.accesses number x rest (sym b ∙ a) in
+    record { there = r.0; load = below (length e.accesses) (length rest) r.2 some; others = r.1 }
+  where
+    below : (n m : ℕ) → n ≡ suc number + m → (m ≡ 0 → ⊥) → number < n - 1
+    below n zero e h = absurd (h refl)
+    below n (suc m) e h = omega (arith, e)
+
+pub is_load : (nest : Nest) (e : Entry) (number : ℕ) (accesses rest : List Access) (x : Access) → IsNamedNest nest → IsIn e nest.entries → accesses ≡ drop number e.accesses → accesses ≡ x ∷ rest → (length rest ≡ 0 → ⊥)
+    → IsTrue e.alive → IsLoad nest e x number
+is_load nest e number accesses rest x n i a b some alive =
+    let r = load_there e number accesses rest x a b some in
+    record { nested = n; touched = record { there = i; alive = alive; among = stands_in e.accesses number x r.there }; there = r.there; load = r.load }
+
+pub all_added : (nest : Nest) (entries : List Entry) (old new : List Tree) → entries ≡ nest.entries → old ≡ [] → AddsTreesFrom nest entries old new → AreTreesFrom nest nest.entries new
+all_added nest entries old new e o h =
+    subst (λ ts. AreTreesFrom nest nest.entries ts) (sym (h.1 ∙ ap (λ ts. ts ++ h.0) o)) (subst (λ es. AreTreesFrom nest es h.0) e h.2)

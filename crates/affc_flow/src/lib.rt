@@ -3,7 +3,11 @@
 
 pub mod examples;
 mod greatest;
+mod later;
+mod latest;
 pub mod laws;
+mod pairs;
+mod ranges;
 pub mod stop;
 
 pub use stop::FlowStop;

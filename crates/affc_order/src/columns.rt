@@ -12,7 +12,7 @@ use std::alloc::{AllocError, Global};
 
 /// So many columns from one on, each as a form.
 #[tactic(auto, using(crate::proofs::CodeLemmas::one_column_more))]
-pub(crate) fn columns_from(
+pub fn columns_from(
     alloc: Global,
     columns: u32,
     first: u32,

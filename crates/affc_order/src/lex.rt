@@ -11,7 +11,7 @@ use affc_system::System;
 use std::alloc::{AllocError, Global};
 
 /// One system for each pair of forms that is compared, and one for the tie where it decides.
-pub(crate) fn lex_systems(
+pub fn lex_systems(
     alloc: Global,
     columns: u32,
     n: usize,

@@ -5,7 +5,7 @@
 pub mod columns;
 pub mod examples;
 pub mod laws;
-mod lex;
+pub mod lex;
 pub mod order;
 
 pub use order::{source_before, target_after, target_before};

@@ -24,7 +24,7 @@ pub(crate) struct Placed {
 }
 
 /// How many numbers two lists have in common at their beginnings.
-fn shared(ls: &[u32], ms: &[u32]) -> usize
+pub fn shared(ls: &[u32], ms: &[u32]) -> usize
     ensures value { result ≡ shared ls.now ms.now }
     ensures first { result ≤ length ls.now }
     ensures second { result ≤ length ms.now }

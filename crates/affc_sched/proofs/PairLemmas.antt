@@ -114,7 +114,7 @@ lex_few columns (suc n) (f ∷ fs) (g ∷ gs) rows tie s (inr i) =
     two : (x n y z : ℕ) → z ≡ x + 2 → y ≤ (z + 2 * n) + 1 → y ≤ (x + 2 * suc n) + 1
     two x n y z e h = omega (arith, e, h)
 
-source_few : (nest : Nest) → IsNest nest → (columns : ℕ) (a b : Posed) → a.statement < length nest.entries → (s : Rows) → IsIn s (source_order nest columns a b) → length s.rows ≤ 26
+pub source_few : (nest : Nest) → IsNest nest → (columns : ℕ) (a b : Posed) → a.statement < length nest.entries → (s : Rows) → IsIn s (source_order nest columns a b) → length s.rows ≤ 26
 source_few nest n columns a b h s i =
     bound (length s.rows) (shared (loops_of nest a.statement) (loops_of nest b.statement)) (length (loops_of nest a.statement))
     (lex_few columns (shared (loops_of nest a.statement) (loops_of nest b.statement)) a.iterators b.iterators [] (nat_lt a.statement b.statement) s i) (shared_left (loops_of nest a.statement) (loops_of nest b.statement))

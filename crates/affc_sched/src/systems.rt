@@ -24,7 +24,7 @@ use affc_trace::schedule::Schedule;
 use std::alloc::{AllocError, Global};
 
 /// Adds rows, each with so many columns more between and behind.
-fn add_spread_rows(
+pub fn add_spread_rows(
     alloc: Global,
     system: &mut System,
     rows: &[Form],
@@ -44,7 +44,7 @@ fn add_spread_rows(
 }
 
 /// Adds the rows that forms of two statements are equal in turn.
-fn add_equal(
+pub fn add_equal(
     alloc: Global,
     system: &mut System,
     fs: &[Form],
@@ -69,7 +69,7 @@ fn add_equal(
 }
 
 /// The rows of a domain behind those of the parameters and of the context.
-fn own_rows<'a>(nest: &Nest, entry: &'a Entry) -> &'a [Form]
+pub fn own_rows<'a>(nest: &Nest, entry: &'a Entry) -> &'a [Form]
     requires nest { IsNest nest.now }
     requires entry { IsIn entry.now nest.now.entries }
     requires living { IsTrue entry.now.alive }

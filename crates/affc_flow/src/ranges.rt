@@ -1,0 +1,69 @@
+//! Ranges at a load.
+ghost use Rattle.std.specs.Prelude.{◌≡◌, ◌++◌, map, IfOk, OnOk};
+ghost use Rattle.affc_system.specs.Boxes.{IsBox};
+ghost use Rattle.affc_flow.specs.Stores.{pin, beside_box};
+
+use affc_nest::{Entry, Nest};
+use affc_system::BoxOf;
+use std::alloc::{AllocError, Global};
+
+/// Adds ranges of one number each.
+fn add_pinned(point: &[i64], out: &mut BoxOf) -> Result<(), AllocError>
+    ensures { OnOk result (out.new ≡ out.old ++ map pin point.now) }
+{
+    match point {
+        [] => Ok(()),
+        [x, rest @ ..] => {
+            out.push(*x, *x)?;
+            add_pinned(rest, out)
+        }
+    }
+}
+
+/// Adds ranges.
+fn add_ranges(ranges: &[(i64, i64)], out: &mut BoxOf) -> Result<(), AllocError>
+    requires { IsBox ranges.now }
+    ensures { OnOk result (out.new ≡ out.old ++ ranges.now) }
+{
+    match ranges {
+        [] => Ok(()),
+        [range, rest @ ..] => {
+            out.push(range.0, range.1)?;
+            add_ranges(rest, out)?;
+            Ok(())
+        }
+    }
+}
+
+/// The ranges of another statement's iterators between the values of the parameters and of the load's iterators.
+#[tactic(auto, using(affc_sched::proofs::SettlingLemmas::three_ranges))]
+pub(crate) fn beside_ranges(
+    alloc: Global,
+    p: &[i64],
+    ranges: &BoxOf,
+    iterators: &[i64],
+) -> Result<BoxOf, AllocError>
+    ensures { IfOk result (λ r. r ≡ beside_box p.now ranges.now iterators.now) }
+{
+    let mut out = BoxOf::new(alloc);
+    add_pinned(p, &mut out)?;
+    add_ranges(ranges.ranges(), &mut out)?;
+    add_pinned(iterators, &mut out)?;
+    Ok(out)
+}
+
+/// Ranges, and others behind them.
+pub(crate) fn joined_ranges(first: &BoxOf, second: &BoxOf) -> Result<BoxOf, AllocError>
+    ensures { IfOk result (λ r. r ≡ first.now ++ second.now) }
+{
+    let mut out = first.clone()?;
+    add_ranges(second.ranges(), &mut out)?;
+    Ok(out)
+}
+
+/// The ranges of the parameters and of a statement's iterators.
+pub(crate) fn entry_ranges(nest: &Nest, entry: &Entry) -> Result<BoxOf, AllocError>
+    ensures { IfOk result (λ r. r ≡ nest.now.params ++ entry.now.ranges) }
+{
+    joined_ranges(&nest.params, &entry.ranges)
+}
