@@ -35,7 +35,7 @@ reaches r h = record { low = more (unsigned_abs r.0) h.0; high = more (unsigned_
     more : (n : ℕ) → n ≤ 2 ^ 32 → n ≤ 2 ^ 60
     more n h = omega (arith, h)
 
-all_reach : (rs : List (ℤ × ℤ)) → NearRanges rs → All WithinReach rs
+pub all_reach : (rs : List (ℤ × ℤ)) → NearRanges rs → All WithinReach rs
 all_reach [] h = All-nil WithinReach
 all_reach (r ∷ rs) h = All-cons WithinReach r rs (reaches r (h.0, h.1)) (all_reach rs h.2)
 
@@ -44,10 +44,10 @@ each_reach [] h = All-nil WithinReach
 each_reach (r ∷ rs) h = All-cons WithinReach r rs (reaches r (close_range r (h r (inl refl)))) (each_reach rs (λ q i. h q (inr i)))
 
 module _ (program : Program) (has : HasNest program) (e : Entry) (e_in : IsIn e (nest_of program).entries) (alive : IsTrue e.alive) where
-  ranges_are : AreRanges program e.statement e
+  pub ranges_are : AreRanges program e.statement e
   ranges_are = ranges_hold_iterators program e.statement e has (entry_at program has e e_in) alive
 
-  entry_reach : All WithinReach e.ranges
+  pub entry_reach : All WithinReach e.ranges
   entry_reach = each_reach e.ranges (λ r i. (ranges_are.near r i).1)
 
 -- ---- The law

@@ -8,3 +8,13 @@ pub mod BoxedLemmas
 pub mod ExampleProofs
 pub mod DraftLemmas
 pub mod LimitLemmas
+pub mod LightLemmas
+pub mod ComposeLemmas
+pub mod TimeLemmas
+pub mod QuotientLemmas
+pub mod SeatedLemmas
+pub mod LeafLemmas
+pub mod WalkLemmas
+pub mod SubscriptLemmas
+pub mod RowLemmas
+pub mod DraftedLemmas

@@ -32,7 +32,7 @@ fn add_tie(
 
 /// Adds the rows of a comparison of forms in turn: behind these rows, one list for each pair of forms, and one for the
 /// tie where it decides.
-fn add_lex(
+pub(crate) fn add_lex(
     alloc: Global,
     columns: u32,
     n: usize,

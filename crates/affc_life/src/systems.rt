@@ -60,7 +60,7 @@ fn system_of(alloc: Global, columns: u32, rows: &[Form]) -> Result<System, Clash
 }
 
 /// Adds copies of forms.
-fn add_forms(forms: &[Form], out: &mut Vec<Form>) -> Result<(), AllocError>
+pub(crate) fn add_forms(forms: &[Form], out: &mut Vec<Form>) -> Result<(), AllocError>
     ensures { OnOk result (out.new.items ≡ out.old.items ++ forms.now) }
 {
     match forms {
@@ -103,7 +103,11 @@ fn pair_of(alloc: Global, draft: &Draft) -> Result<PairSystem, ClashFault>
 }
 
 /// Adds the pair systems of drafts, if all keep the limits.
-fn add_pairs(alloc: Global, drafts: &[Draft], out: &mut Vec<PairSystem>) -> Result<(), ClashFault>
+pub(crate) fn add_pairs(
+    alloc: Global,
+    drafts: &[Draft],
+    out: &mut Vec<PairSystem>,
+) -> Result<(), ClashFault>
     requires { All IsDraft drafts.now }
     ensures ok { OnOk result (map clash_of out.new.items ≡ map clash_of out.old.items ++ map drafted drafts.now) }
     ensures large { IfErr result (λ e. e ≡ ClashFault.Large → AnyLarge (map drafted drafts.now)) }

@@ -26,7 +26,7 @@ dot_below (c ∷ cs) (x ∷ xs) a b =
     let p = product_below (unsigned_abs c) (unsigned_abs x) (All-head (λ c. unsigned_abs c ≤ 2 ^ 24) c cs a) (All-head IsNear x xs b) in
     omega arith
 
-has_value : (f : Affine) (xs : List ℤ) → length f.coefs ≡ length xs → FitsForm widest f → All IsNear xs → length xs ≤ 528 → HasValue f xs
+pub has_value : (f : Affine) (xs : List ℤ) → length f.coefs ≡ length xs → FitsForm widest f → All IsNear xs → length xs ≤ 528 → HasValue f xs
 has_value f xs w fits near few =
     let d = dot_below f.coefs xs fits.coefs_fit near in
     let k = fits.constant_fits in

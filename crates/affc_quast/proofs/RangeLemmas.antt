@@ -55,7 +55,7 @@ module _ (n : ℕ) where
       chosen false e true = l
       chosen false e false = h
 
-  held_near : (z : ℤ) → unsigned_abs (held n z) ≤ n
+  pub held_near : (z : ℤ) → unsigned_abs (held n z) ≤ n
   held_near z = chosen (int_lt z (neg_ℤ (pos n))) (int_lt (pos n) z) refl refl
     where
       at_low : unsigned_abs (neg_ℤ (pos n)) ≤ n
@@ -73,7 +73,7 @@ module _ (n : ℕ) where
       chosen false false e f = between z e f
 
 -- the floor grows with the number
-floor_grows : (k : ℕ) (a b : ℤ) → a ≤ℤ b → floor_of a (pos (suc k)) ≤ℤ floor_of b (pos (suc k))
+pub floor_grows : (k : ℕ) (a b : ℤ) → a ≤ℤ b → floor_of a (pos (suc k)) ≤ℤ floor_of b (pos (suc k))
 floor_grows k a b h = by_order (floor_of a (pos (suc k))) (floor_of b (pos (suc k))) (floor_is k a) (floor_is k b)
   where
     past : (x y m : ℤ) → x ≤ℤ y → x ≡ m +ℤ (pos (suc k) *ℤ pos 1) → (b -ℤ m) ≤ℤ pos k → pos 0 ≤ℤ (a -ℤ y) → ⊥

@@ -1,0 +1,200 @@
+-- The clash systems of a list are over their columns.
+use Rattle.std.proofs.Common.{◌≡◌, ℕ, suc, ◌+◌, ◌-◌, ◌≤◌, pos, negsuc, List, [], ◌∷◌, ◌++◌, length, map, flat_map, drop, Some, refl, sym, ap, subst, ◌∙◌, inl, inr, arith}
+use Rattle.std.specs.Prelude.{slice_get}
+use Rattle.std.specs.List.{All}
+use Rattle.std.proofs.lemmas.List.Elements.{All-nil, All-cons, All-append, All-drop}
+use Rattle.affc_rows.specs.Forms.{Affine, HaveColumns}
+use Rattle.affc_rows.proofs.ValueLemmas.{length-mixed}
+use Rattle.affc_system.specs.Pairs.{IsSubscript}
+use Rattle.affc_system.specs.Systems.{Rows}
+use Rattle.affc_trace.specs.declared.schedule.Schedule.{Schedule}
+use Rattle.affc_trace.specs.declared.schedule.Schedule.TheVariants.{Source, Time}
+use Rattle.affc_trace.specs.Inverses.{columns_from}
+use Rattle.affc_trace.specs.Law.{IsIn}
+use Rattle.affc_trace.proofs.Members.{to_map}
+use Rattle.affc_nest.specs.Asked.{IsNest}
+use Rattle.affc_nest.specs.declared.nest.Access.{Access}
+use Rattle.affc_nest.specs.declared.nest.Entry.{Entry}
+use Rattle.affc_nest.specs.declared.nest.Nest.{Nest}
+use Rattle.affc_nest.specs.Domains.{gap_row}
+use Rattle.affc_nest.proofs.QuestionLemmas.{stands_in}
+use Rattle.affc_order.specs.Posed.{Posed, form_at}
+use Rattle.affc_order.specs.Spread.{spread}
+use Rattle.affc_order.specs.Systems.{forms_or_none, target_order}
+use Rattle.affc_order.proofs.ColumnLemmas.{at_width}
+use Rattle.affc_order.proofs.SpreadLemmas.{spread_width}
+use Rattle.affc_sched.specs.Questions.{context_count}
+use Rattle.affc_sched.proofs.LegalLemmas.{entry_at}
+use Rattle.affc_sched.proofs.PairLemmas.{stands_in as stands}
+use Rattle.affc_sched.proofs.WidthLemmas.{domain_wide}
+use Rattle.affc_quast.specs.Leaves.{padded, Leaf}
+use Rattle.affc_quast.specs.Sources.{loads_in}
+use Rattle.affc_quast.specs.Trees.{Tree}
+use Rattle.affc_quast.proofs.LeafLemmas.{padded_width}
+use Rattle.affc_life.specs.declared.draft.Draft.{Draft}
+use Rattle.affc_life.specs.Asked.{KeepLimits, IsLight, HasForms, IsLiving, AreSeated}
+use Rattle.affc_system.specs.declared.pairs.PairSystem.{PairSystem}
+use Rattle.affc_life.specs.Sizes.{AnyLarge}
+use Rattle.affc_life.specs.Clashes.{Clash, clash_of, clashes_of_entry, clash_columns, of_reader, of_writer, front_rows, reader_posed, named_posed, writer_posed, clashes}
+use Rattle.affc_life.specs.Drafts.{drafted, IsDraft}
+use Rattle.affc_life.proofs.LeafLemmas.{path_of}
+use Rattle.affc_life.proofs.LightLemmas.{all_of, all_map}
+use Rattle.affc_life.proofs.MadeLemmas.{Made, made}
+use Rattle.affc_life.proofs.RowLemmas.{between_all, Compared, order_all}
+use Rattle.affc_life.proofs.SeatedLemmas.{leaf_first, path_first, params_first, domain_narrow, leaf_narrow, reader_forms, writer_forms, named_forms}
+use Rattle.affc_life.proofs.SubscriptLemmas.{are_subscripts, all_padded_subscripts, all_spread_subscripts}
+
+module _ (nest : Nest) (n : IsNest nest) (trees : List Tree) (limits : KeepLimits nest trees) (schedule : Schedule) (array : ℕ) (c : Clash) (k : Made nest trees schedule array c) where
+  abbrev pub columns : ℕ
+  columns = clash_columns nest k.reader k.leaf k.of_leaf.writer
+
+  pub reader_there : slice_get nest.entries k.reader.statement ≡ Some k.reader
+  reader_there = subst (λ (x : Nest). slice_get x.entries k.reader.statement ≡ Some k.reader) (sym n.is) (entry_at n.program n.has k.reader (subst (λ (x : Nest). IsIn k.reader x.entries) n.is k.reader_in))
+
+  pub seated : AreSeated nest k.reader k.leaf k.of_leaf.writer
+  seated = record {
+    nested = n;
+    reads = record { there = k.reader_in; alive = k.alive };
+    path = path_of nest (length nest.params + length k.reader.loops) k.tree (limits k.reader.statement k.number k.reader k.tree reader_there k.counts k.tree_there) k.leaf k.leaf_in;
+    writes = record { there = k.of_leaf.writer_in; alive = k.of_leaf.writer_alive };
+  }
+
+  pub named_has : HasForms nest k.leaf.columns k.of_leaf.named.statement k.of_leaf.named.iterators
+  named_has = seated.path.named k.of_leaf.named k.of_leaf.names
+
+  pub load_among : IsIn k.load k.reader.accesses
+  load_among = stands_in k.reader.accesses k.number k.load k.load_there
+
+  pub store_among : IsIn k.of_leaf.store k.of_leaf.writer.accesses
+  store_among = stands_in k.of_leaf.writer.accesses (loads_in k.of_leaf.writer) k.of_leaf.store k.of_leaf.store_there
+
+  -- what each row keeps
+  pub rows_all : (P Q : Affine → Type 0) → ((f g : Affine) (j : ℕ) → Q f → Q g → j ≤ 1 → P (gap_row f g j)) → All P (front_rows nest k.reader k.leaf k.of_leaf.writer)
+      → Compared Q nest columns schedule (named_posed nest k.reader k.leaf k.of_leaf.writer k.of_leaf.named) → Compared Q nest columns schedule (writer_posed nest k.reader k.leaf k.of_leaf.writer)
+      → Compared Q nest columns schedule (reader_posed nest k.reader k.leaf k.of_leaf.writer)
+      → All Q (map (of_reader nest k.reader k.leaf k.of_leaf.writer) k.load.subs) → All Q (map (of_writer nest k.reader k.leaf k.of_leaf.writer) k.of_leaf.store.subs) → All P c.system.rows
+  rows_all P Q gap front named writes reads xs ys =
+      subst (λ (d : Clash). All P d.system.rows) (sym k.of_leaf.is)
+      (between_all P Q gap (front_rows nest k.reader k.leaf k.of_leaf.writer)
+      (target_order nest schedule columns (named_posed nest k.reader k.leaf k.of_leaf.writer k.of_leaf.named) (writer_posed nest k.reader k.leaf k.of_leaf.writer))
+      (target_order nest schedule columns (writer_posed nest k.reader k.leaf k.of_leaf.writer) (reader_posed nest k.reader k.leaf k.of_leaf.writer))
+      (map (of_reader nest k.reader k.leaf k.of_leaf.writer) k.load.subs) (map (of_writer nest k.reader k.leaf k.of_leaf.writer) k.of_leaf.store.subs) front
+      (order_all P Q gap nest columns schedule (named_posed nest k.reader k.leaf k.of_leaf.writer k.of_leaf.named) (writer_posed nest k.reader k.leaf k.of_leaf.writer) named writes)
+      (order_all P Q gap nest columns schedule (writer_posed nest k.reader k.leaf k.of_leaf.writer) (reader_posed nest k.reader k.leaf k.of_leaf.writer) writes reads)
+      xs ys k.of_leaf.rows k.of_leaf.rows_in)
+
+  -- ---- Widths
+
+  abbrev Wide : Affine → Type 0
+  Wide f = length f.coefs ≡ columns
+
+  gap_wide : (f g : Affine) (j : ℕ) → Wide f → Wide g → j ≤ 1 → Wide (gap_row f g j)
+  gap_wide f g j u v h = length-mixed (pos 1) g.coefs (negsuc 0) f.coefs (v ∙ sym u) ∙ v
+
+  compared_wide : (z : Schedule) (a : Posed) → HasForms nest columns a.statement a.iterators → Compared Wide nest columns z a
+  compared_wide Source a h = all_of (IsLight columns) Wide (λ f l. l.width) a.iterators h.light
+  compared_wide (Time components maps) a h = at_width columns (columns_from columns 0 (length nest.params) ++ a.iterators) (forms_or_none (slice_get maps a.statement))
+
+  padded_wide : (rows : List Affine) → All (λ f. length f.coefs ≤ columns) rows → All Wide (map (padded columns) rows)
+  padded_wide rows h = all_map (λ f. length f.coefs ≤ columns) Wide (padded columns) (λ f l. padded_width columns f l) rows h
+
+  whole : (length nest.params + (k.leaf.columns - length nest.params)) + length k.of_leaf.writer.loops ≡ columns
+  whole = sum (length nest.params) k.leaf.columns (length k.of_leaf.writer.loops) (params_first nest k.reader k.leaf k.of_leaf.writer seated)
+    where
+      sum : (m c l : ℕ) → m ≤ c → (m + (c - m)) + l ≡ c + l
+      sum m c l h = omega (arith, h)
+
+  own_wide : All Wide (map (of_writer nest k.reader k.leaf k.of_leaf.writer) (drop (context_count nest) k.of_leaf.writer.domain.rows))
+  own_wide =
+      let w : Entry = k.of_leaf.writer in
+      let wide : HaveColumns (length nest.params + length w.loops) w.domain.rows =
+      subst (λ (x : Nest). HaveColumns (length x.params + length w.loops) w.domain.rows) (sym n.is)
+      (domain_wide n.program n.has w.statement w (entry_at n.program n.has w (subst (λ (x : Nest). IsIn w x.entries) n.is k.of_leaf.writer_in)) k.of_leaf.writer_alive) in
+      all_map (λ f. length f.coefs ≡ length nest.params + length w.loops) Wide (spread (length nest.params) (k.leaf.columns - length nest.params) 0)
+      (λ f l. spread_width (length nest.params) (k.leaf.columns - length nest.params) (length w.loops) 0 f l ∙ none ((length nest.params + (k.leaf.columns - length nest.params)) + length w.loops) ∙ whole)
+      (drop (context_count nest) w.domain.rows) (All-drop (λ f. length f.coefs ≡ length nest.params + length w.loops) (context_count nest) w.domain.rows wide)
+    where
+      none : (x : ℕ) → x + 0 ≡ x
+      none x = omega arith
+
+  path_wide : All (λ f. length f.coefs ≤ columns) (k.reader.domain.rows ++ k.leaf.rows)
+  path_wide =
+      let r : Entry = k.reader in
+      let wide : HaveColumns (length nest.params + length r.loops) r.domain.rows =
+      subst (λ (x : Nest). HaveColumns (length x.params + length r.loops) r.domain.rows) (sym n.is)
+      (domain_wide n.program n.has r.statement r (entry_at n.program n.has r (subst (λ (x : Nest). IsIn r x.entries) n.is k.reader_in)) k.alive) in
+      All-append (λ f. length f.coefs ≤ columns) r.domain.rows k.leaf.rows
+      (all_of (λ f. length f.coefs ≡ length nest.params + length r.loops) (λ f. length f.coefs ≤ columns)
+      (λ f l. through (length f.coefs) (length nest.params + length r.loops) k.leaf.columns columns l (path_first nest k.reader k.leaf k.of_leaf.writer seated) (leaf_first nest k.reader k.leaf k.of_leaf.writer seated)) r.domain.rows wide)
+      (leaf_narrow nest k.reader k.leaf k.of_leaf.writer seated)
+    where
+      through : (a b c d : ℕ) → a ≡ b → b ≤ c → c ≤ d → a ≤ d
+      through a b c d e h g = omega (arith, e, h, g)
+
+  front_wide : All Wide (front_rows nest k.reader k.leaf k.of_leaf.writer)
+  front_wide =
+      All-append Wide (map (padded columns) (k.reader.domain.rows ++ k.leaf.rows)) (map (of_writer nest k.reader k.leaf k.of_leaf.writer) (drop (context_count nest) k.of_leaf.writer.domain.rows))
+      (padded_wide (k.reader.domain.rows ++ k.leaf.rows) path_wide) own_wide
+
+  x_subscripts : All (IsSubscript columns) (map (of_reader nest k.reader k.leaf k.of_leaf.writer) k.load.subs)
+  x_subscripts =
+      all_padded_subscripts (length nest.params + length k.reader.loops) columns k.load.subs
+      (through (length nest.params + length k.reader.loops) k.leaf.columns columns (path_first nest k.reader k.leaf k.of_leaf.writer seated) (leaf_first nest k.reader k.leaf k.of_leaf.writer seated))
+      (are_subscripts nest n k.reader k.reader_in k.load load_among)
+    where
+      through : (a b c : ℕ) → a ≤ b → b ≤ c → a ≤ c
+      through a b c h g = omega (arith, h, g)
+
+  y_subscripts : All (IsSubscript columns) (map (of_writer nest k.reader k.leaf k.of_leaf.writer) k.of_leaf.store.subs)
+  y_subscripts =
+      all_spread_subscripts (length nest.params) (k.leaf.columns - length nest.params) (length k.of_leaf.writer.loops) columns k.of_leaf.store.subs whole
+      (are_subscripts nest n k.of_leaf.writer k.of_leaf.writer_in k.of_leaf.store store_among)
+
+  pub system_wide : HaveColumns c.system.columns c.system.rows
+  system_wide =
+      subst (λ m. HaveColumns m c.system.rows) (sym (ap (λ (d : Clash). d.system.columns) k.of_leaf.is))
+      (rows_all Wide Wide gap_wide front_wide
+      (compared_wide schedule (named_posed nest k.reader k.leaf k.of_leaf.writer k.of_leaf.named) (named_forms nest k.reader k.leaf k.of_leaf.writer seated k.of_leaf.named named_has))
+      (compared_wide schedule (writer_posed nest k.reader k.leaf k.of_leaf.writer) (writer_forms nest k.reader k.leaf k.of_leaf.writer seated))
+      (compared_wide schedule (reader_posed nest k.reader k.leaf k.of_leaf.writer) (reader_forms nest k.reader k.leaf k.of_leaf.writer seated))
+      (all_of (IsSubscript columns) Wide (λ f s. s.width) (map (of_reader nest k.reader k.leaf k.of_leaf.writer) k.load.subs) x_subscripts)
+      (all_of (IsSubscript columns) Wide (λ f s. s.width) (map (of_writer nest k.reader k.leaf k.of_leaf.writer) k.of_leaf.store.subs) y_subscripts))
+
+  pub system_first : All (IsSubscript c.system.columns) c.x
+  system_first = subst (λ (d : Clash). All (IsSubscript d.system.columns) d.x) (sym k.of_leaf.is) x_subscripts
+
+  pub system_second : All (IsSubscript c.system.columns) c.y
+  system_second = subst (λ (d : Clash). All (IsSubscript d.system.columns) d.y) (sym k.of_leaf.is) y_subscripts
+
+-- ---- Drafts
+
+-- the drafts of these systems are drafts of pair systems
+pub are_drafts : (nest : Nest) → IsNest nest → (trees : List Tree) → KeepLimits nest trees → (schedule : Schedule) (array : ℕ) (drafts : List Draft) → map drafted drafts ≡ clashes nest trees schedule array → All IsDraft drafts
+are_drafts nest n trees limits schedule array drafts e = all_in drafts (λ d i. subst (IsIn (drafted d)) e (to_map drafted drafts d i))
+  where
+    all_in : (ds : List Draft) → ((d : Draft) → IsIn d ds → IsIn (drafted d) (clashes nest trees schedule array)) → All IsDraft ds
+    all_in [] h = All-nil IsDraft
+    all_in (d ∷ ds) h =
+        let k = made nest trees schedule array (drafted d) (h d (inl refl)) in
+        All-cons IsDraft d ds (record {
+          width = system_wide nest n trees limits schedule array (drafted d) k;
+          first = system_first nest n trees limits schedule array (drafted d) k;
+          second = system_second nest n trees limits schedule array (drafted d) k;
+        }) (all_in ds (λ x i. h x (inr i)))
+
+-- what the walk has added
+module _ (nest : Nest) (trees ts : List Tree) (schedule : Schedule) (array : ℕ) (rs : List Entry) (start out : List Draft) (none : start ≡ []) (all : rs ≡ nest.entries) (same : ts ≡ trees)
+    (added : map drafted out ≡ map drafted start ++ flat_map (clashes_of_entry nest schedule array ts) rs) where
+  pub all_drafted : map drafted out ≡ clashes nest trees schedule array
+  all_drafted =
+      added ∙ ap (λ ds. map drafted ds ++ flat_map (clashes_of_entry nest schedule array ts) rs) none ∙ ap (λ us. flat_map (clashes_of_entry nest schedule array us) rs) same
+      ∙ ap (flat_map (clashes_of_entry nest schedule array trees)) all
+
+  pub these_drafts : IsNest nest → KeepLimits nest trees → (held : List Draft) → held ≡ out → All IsDraft held
+  these_drafts n limits held e = subst (All IsDraft) (sym e) (are_drafts nest n trees limits schedule array out all_drafted)
+
+  pub all_paired : (first systems : List PairSystem) (held : List Draft) → first ≡ [] → held ≡ out → map clash_of systems ≡ map clash_of first ++ map drafted held → map clash_of systems ≡ clashes nest trees schedule array
+  all_paired first systems held f e p = p ∙ ap (λ ss. map clash_of ss ++ map drafted held) f ∙ ap (map drafted) e ∙ all_drafted
+
+  pub any_large : (held : List Draft) → held ≡ out → AnyLarge (map drafted held) → AnyLarge (clashes nest trees schedule array)
+  any_large held e h = subst AnyLarge (ap (map drafted) e ∙ all_drafted) h

@@ -1,0 +1,138 @@
+-- The ranges of quotients have their ends in order.
+use Rattle.std.proofs.Common.{◌≡◌, ℕ, zero, suc, ◌+◌, ◌*◌, ◌^◌, ◌<◌, ◌≤◌, ℤ, pos, negsuc, neg_ℤ, ◌≤ℤ◌, Bool, true, false, if◌then◌else◌, List, [], ◌∷◌, ◌++◌, length, map, refl, sym, ap, subst, ◌∙◌, inl, inr, arith}
+use Rattle.std.specs.Prelude.{int_lt, unsigned_abs}
+use Rattle.std.specs.List.{All}
+use Rattle.std.proofs.lemmas.Int.{ints}
+use Rattle.std.proofs.lemmas.List.Elements.{All-nil, All-cons, All-head, All-tail, All-append}
+use Rattle.affc_rows.specs.Forms.{Affine, value, magnitude}
+use Rattle.affc_system.specs.Boxes.{IsBox, InBox, IsCorner, corner}
+use Rattle.affc_system.specs.Pairs.{WithinReach}
+use Rattle.affc_system.proofs.BoxLemmas.{corner_in_box, corner_is_corner, value_least}
+use Rattle.affc_ast.specs.Index.{floor_of}
+use Rattle.affc_trace.proofs.Runs.{length_append}
+use Rattle.affc_quast.specs.declared.leaves.Division.{Division}
+use Rattle.affc_quast.specs.Leaves.{held, quotient_range, path_ranges}
+use Rattle.affc_quast.specs.Paths.{IsNear}
+use Rattle.affc_quast.specs.SeenLeaves.{division_seen}
+use Rattle.affc_quast.proofs.NearLemmas.{has_value}
+use Rattle.affc_quast.proofs.RangeLemmas.{held_near, floor_grows}
+use Rattle.affc_life.specs.Asked.{IsLight, AreDivisions}
+
+-- ---- Held numbers
+
+held_grows : (n : ℕ) (a b : ℤ) → a ≤ℤ b → held n a ≤ℤ held n b
+held_grows n a b h = chosen (int_lt a (neg_ℤ (pos n))) (int_lt (pos n) a) (int_lt b (neg_ℤ (pos n))) (int_lt (pos n) b) refl refl refl refl
+  where
+    low : neg_ℤ (pos n) ≤ℤ pos n
+    low = grind (arith, ints)
+
+    same : (z : ℤ) → z ≤ℤ z
+    same z = omega (arith, ints)
+
+    fell : (a b : ℤ) → a ≤ℤ b → int_lt a (neg_ℤ (pos n)) ≡ false → int_lt b (neg_ℤ (pos n)) ≡ true → ⊥
+    fell a b h e f = grind (arith, ints)
+
+    rose : (a b : ℤ) → a ≤ℤ b → int_lt (pos n) a ≡ true → int_lt (pos n) b ≡ false → ⊥
+    rose a b h e f = grind (arith, ints)
+
+    at_least : (z : ℤ) → int_lt z (neg_ℤ (pos n)) ≡ false → neg_ℤ (pos n) ≤ℤ z
+    at_least z e = grind (arith, ints)
+
+    at_most : (z : ℤ) → int_lt (pos n) z ≡ false → z ≤ℤ pos n
+    at_most z e = grind (arith, ints)
+
+    chosen : (t u v w : Bool) → int_lt a (neg_ℤ (pos n)) ≡ t → int_lt (pos n) a ≡ u → int_lt b (neg_ℤ (pos n)) ≡ v → int_lt (pos n) b ≡ w
+        → (if t then neg_ℤ (pos n) else (if u then pos n else a)) ≤ℤ (if v then neg_ℤ (pos n) else (if w then pos n else b))
+    chosen true u true w e f g i = same (neg_ℤ (pos n))
+    chosen true u false true e f g i = low
+    chosen true u false false e f g i = at_least b g
+    chosen false u true w e f g i = absurd (fell a b h e g)
+    chosen false true false true e f g i = same (pos n)
+    chosen false true false false e f g i = absurd (rose a b h f i)
+    chosen false false false true e f g i = at_most a f
+    chosen false false false false e f g i = h
+
+-- ---- Ends
+
+pub range_ordered : (ranges : List (ℤ × ℤ)) (f : Affine) (by : ℤ) → IsBox ranges → length f.coefs ≡ length ranges → pos 1 ≤ℤ by → (quotient_range ranges f by).0 ≤ℤ (quotient_range ranges f by).1
+range_ordered ranges f (pos zero) box w h = absurd (omega (arith, ints, h))
+range_ordered ranges f (negsuc k) box w h = absurd (omega (arith, ints, h))
+range_ordered ranges f (pos (suc k)) box w h =
+    let low : ℤ = value f (corner false f.coefs ranges) in
+    let high : ℤ = value f (corner true f.coefs ranges) in
+    held_grows (2 ^ 60) (floor_of low (pos (suc k))) (floor_of high (pos (suc k)))
+    (floor_grows k low high (value_least f ranges (corner true f.coefs ranges) w (corner_in_box ranges (corner true f.coefs ranges) box (corner_is_corner true f.coefs ranges w))))
+
+pub range_near : (ranges : List (ℤ × ℤ)) (f : Affine) (by : ℤ) → WithinReach (quotient_range ranges f by)
+range_near ranges f by = record { low = held_near (2 ^ 60) (floor_of (value f (corner false f.coefs ranges)) by); high = held_near (2 ^ 60) (floor_of (value f (corner true f.coefs ranges)) by) }
+
+pub more_near : (ranges more : List (ℤ × ℤ)) (r : ℤ × ℤ) (f : Affine) (by : ℤ) → r ≡ quotient_range ranges f by → more ≡ ranges ++ r ∷ [] → All WithinReach ranges → All WithinReach more
+more_near ranges more r f by e m h =
+    subst (All WithinReach) (sym m) (All-append WithinReach ranges (r ∷ []) h (All-cons WithinReach r [] (subst WithinReach (sym e) (range_near ranges f by)) (All-nil WithinReach)))
+
+-- ---- Corners
+
+corner_near : (rs : List (ℤ × ℤ)) (xs : List ℤ) → All WithinReach rs → IsCorner rs xs → All IsNear xs
+corner_near [] [] h c = All-nil IsNear
+corner_near [] (x ∷ xs) h c = absurd c
+corner_near (r ∷ rs) [] h c = absurd c
+corner_near (r ∷ rs) (x ∷ xs) h c =
+    let w = All-head WithinReach r rs h in
+    All-cons IsNear x xs (elim c.0 [ inl e ↦ subst IsNear (sym e) w.low | inr e ↦ subst IsNear (sym e) w.high ]) (corner_near rs xs (All-tail WithinReach r rs h) c.1)
+
+corner_long : (rs : List (ℤ × ℤ)) (xs : List ℤ) → IsCorner rs xs → length xs ≡ length rs
+corner_long [] [] c = refl
+corner_long [] (x ∷ xs) c = absurd c
+corner_long (r ∷ rs) [] c = absurd c
+corner_long (r ∷ rs) (x ∷ xs) c = ap suc (corner_long rs xs c.1)
+
+-- at each corner a light form has a value within the range of the code's numbers
+pub corner_fits : (ranges : List (ℤ × ℤ)) (f : Affine) (xs : List ℤ) → IsLight (length ranges) f → All WithinReach ranges → length ranges ≤ 500 → IsCorner ranges xs → magnitude f xs ≤ 2 ^ 126
+corner_fits ranges f xs light near few at =
+    let long = corner_long ranges xs at in
+    (has_value f xs (light.width ∙ sym long) light.fits (corner_near ranges xs near at) (fewer (length xs) (length ranges) long few)).fits
+  where
+    fewer : (m n : ℕ) → m ≡ n → n ≤ 500 → m ≤ 528
+    fewer m n e h = omega (arith, e, h)
+
+pub not_past : (ranges : List (ℤ × ℤ)) (f : Affine) → IsLight (length ranges) f → All WithinReach ranges → length ranges ≤ 500 → (x : List ℤ) × IsCorner ranges x × (2 ^ 126 < magnitude f x) → ⊥
+not_past ranges f light near few past = over (magnitude f past.0) (corner_fits ranges f past.0 light near few past.1) past.2
+  where
+    over : (n : ℕ) → n ≤ 2 ^ 126 → 2 ^ 126 < n → ⊥
+    over n h g = absurd (omega (arith, h, g))
+
+-- ---- What the code makes
+
+pub range_is : (ranges : List (ℤ × ℤ)) (f : Affine) (by low high first last : ℤ) → low ≡ value f (corner false f.coefs ranges) → high ≡ value f (corner true f.coefs ranges)
+    → first ≡ held (2 ^ 60) (floor_of low by) → last ≡ held (2 ^ 60) (floor_of high by) → ◌≡◌ {A = ℤ × ℤ} (first, last) (quotient_range ranges f by)
+range_is ranges f by low high first last l h a b =
+    let one : first ≡ (quotient_range ranges f by).0 = a ∙ ap (λ z. held (2 ^ 60) (floor_of z by)) l in
+    let two : last ≡ (quotient_range ranges f by).1 = b ∙ ap (λ z. held (2 ^ 60) (floor_of z by)) h in
+    ap (λ (z : ℤ). let r : ℤ × ℤ = (z, last) in r) one ∙ ap (λ (z : ℤ). let r : ℤ × ℤ = ((quotient_range ranges f by).0, z) in r) two
+
+pub ordered_is : (ranges : List (ℤ × ℤ)) (f : Affine) (by first last : ℤ) → IsBox ranges → length f.coefs ≡ length ranges → pos 1 ≤ℤ by → ◌≡◌ {A = ℤ × ℤ} (first, last) (quotient_range ranges f by) → first ≤ℤ last
+ordered_is ranges f by first last box w h e = subst (λ (r : ℤ × ℤ). r.0 ≤ℤ r.1) (sym e) (range_ordered ranges f by box w h)
+
+-- one division more
+module _ (ranges more : List (ℤ × ℤ)) (divisions rest : List Division) (d : Division) (is : divisions ≡ d ∷ rest) (r : ℤ × ℤ) (range : r ≡ quotient_range ranges d.form d.by) (grown : more ≡ ranges ++ r ∷ []) where
+  longer : length more ≡ suc (length ranges)
+  longer = ap length grown ∙ length_append ranges (r ∷ []) ∙ one (length ranges)
+    where
+      one : (n : ℕ) → n + 1 ≡ suc n
+      one n = omega arith
+
+  pub quotient_asks : AreDivisions (length ranges) (map division_seen divisions) → AreDivisions (length more) (map division_seen rest)
+  quotient_asks h = subst (λ n. AreDivisions n (map division_seen rest)) (sym longer) (subst (λ ds. AreDivisions (length ranges) (map division_seen ds)) is h).2
+
+  pub quotient_near : All WithinReach ranges → All WithinReach more
+  quotient_near h = more_near ranges more r d.form d.by range grown h
+
+  pub quotient_few : length ranges + length divisions ≤ 500 → length more + length rest ≤ 500
+  quotient_few h = sum (length ranges) (length more) (length divisions) (length rest) longer (ap length is) h
+    where
+      sum : (a b c e : ℕ) → b ≡ suc a → c ≡ suc e → a + c ≤ 500 → b + e ≤ 500
+      sum a b c e f g h = omega (arith, f, g, h)
+
+  pub quotient_made : (new : List (ℤ × ℤ)) → new ≡ path_ranges more (map division_seen rest) → new ≡ path_ranges ranges (map division_seen divisions)
+  quotient_made new e =
+      e ∙ ap (λ rs. path_ranges rs (map division_seen rest)) (grown ∙ ap (λ q. ranges ++ q ∷ []) range) ∙ ap (λ ds. path_ranges ranges (map division_seen ds)) (sym is)

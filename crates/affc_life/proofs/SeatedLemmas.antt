@@ -1,0 +1,275 @@
+-- What holds of a reader, a leaf and a writer: widths, ranges, and the forms of the three instances.
+use Rattle.std.proofs.Common.{◌≡◌, ℕ, zero, suc, ◌+◌, ◌-◌, ◌*◌, ◌<◌, ◌≤◌, ℤ, IsTrue, List, [], ◌∷◌, ◌++◌, length, map, flat_map, drop, Some, refl, sym, ap, subst, ◌∙◌, arith}
+use Rattle.std.specs.Prelude.{slice_get}
+use Rattle.std.specs.List.{All}
+use Rattle.std.proofs.lemmas.List.Elements.{All-append, All-drop}
+use Rattle.affc_rows.specs.Forms.{Affine, HaveColumns}
+use Rattle.affc_system.specs.Pairs.{WithinReach}
+use Rattle.affc_system.specs.Systems.{Rows, IsRow}
+use Rattle.affc_trace.specs.Inverses.{columns_from}
+use Rattle.affc_trace.specs.Law.{IsIn}
+use Rattle.affc_trace.proofs.EndedReads.{append_assoc}
+use Rattle.affc_trace.proofs.LastStores.{map_append}
+use Rattle.affc_trace.proofs.Runs.{length_append}
+use Rattle.affc_domain.proofs.Lists.{length_map}
+use Rattle.affc_nest.specs.Asked.{IsNest}
+use Rattle.affc_nest.specs.declared.nest.Access.{Access}
+use Rattle.affc_nest.specs.declared.nest.Entry.{Entry}
+use Rattle.affc_nest.specs.declared.nest.Nest.{Nest}
+use Rattle.affc_nest.specs.Sides.{IsSide}
+use Rattle.affc_nest.proofs.QuestionProofs.{nest_few, nest_near, few_numbered}
+use Rattle.affc_trace.specs.declared.schedule.Schedule.{Schedule}
+use Rattle.affc_order.specs.Posed.{Posed}
+use Rattle.affc_order.specs.Systems.{target_order}
+use Rattle.affc_order.specs.Spread.{spread}
+use Rattle.affc_order.proofs.ColumnLemmas.{from_long}
+use Rattle.affc_sched.specs.Questions.{context_count}
+use Rattle.affc_sched.proofs.LegalLemmas.{entry_at}
+use Rattle.affc_sched.proofs.PairLemmas.{stands_in, subs_sides}
+use Rattle.affc_sched.proofs.WidthLemmas.{domain_wide}
+use Rattle.affc_quast.specs.Leaves.{padded, Leaf}
+use Rattle.affc_quast.specs.Wide.{IsWide}
+use Rattle.affc_life.specs.Asked.{IsLight, IsNamed, HasForms, IsPath, IsLiving, AreSeated}
+use Rattle.affc_life.specs.declared.draft.Shared.{Shared}
+use Rattle.affc_life.specs.Drafts.{draft_by, posed, rows_in, after_named, before_load}
+use Rattle.affc_life.specs.Clashes.{Clash, apart_rows, clash_columns, of_reader, of_writer, front_rows, clash_ranges, reader_posed, named_posed, writer_posed, rows_of_clashes, clash, clashes_of_store}
+use Rattle.affc_life.proofs.BoxedLemmas.{all_reach, ranges_are, entry_reach}
+use Rattle.affc_life.proofs.WalkLemmas.{between_is}
+use Rattle.affc_life.proofs.LightLemmas.{all_of, lights_wide, sides_light, columns_light, all_padded, all_spread_light, light_narrow}
+
+-- ---- A living statement of a nest
+
+module _ (nest : Nest) (n : IsNest nest) (e : Entry) (living : IsLiving nest e) where
+  pub its_ranges : (length e.ranges ≡ length e.loops) × All WithinReach e.ranges
+  its_ranges =
+      let i = subst (λ (x : Nest). IsIn e x.entries) n.is living.there in
+      ((ranges_are n.program n.has e i living.alive).each, entry_reach n.program n.has e i living.alive)
+
+  pub its_place : slice_get nest.entries e.statement ≡ Some e
+  its_place = subst (λ (x : Nest). slice_get x.entries e.statement ≡ Some e) (sym n.is) (entry_at n.program n.has e (subst (λ (x : Nest). IsIn e x.entries) n.is living.there))
+
+  -- by its own number it is an instance with this many iterators
+  pub its_name : (forms : List Affine) → length forms ≡ length e.loops → IsNamed nest e.statement forms
+  its_name forms l = record {
+    entry = e;
+    there = its_place;
+    loops = l;
+  }
+
+  pub its_columns : (columns first : ℕ) → HasForms nest columns e.statement (columns_from columns first (length e.loops))
+  its_columns columns first =
+      record { named = its_name (columns_from columns first (length e.loops)) (from_long columns first (length e.loops)); light = columns_light columns first (length e.loops) }
+
+  -- rows of its domain have the columns of the parameters
+  pub own_wide : (own : List Affine) → own ≡ drop (context_count nest) e.domain.rows → All (λ f. length nest.params ≤ length f.coefs) own
+  own_wide own is =
+      let wide : HaveColumns (length nest.params + length e.loops) e.domain.rows =
+      subst (λ (x : Nest). HaveColumns (length x.params + length e.loops) e.domain.rows) (sym n.is)
+      (domain_wide n.program n.has e.statement e (entry_at n.program n.has e (subst (λ (x : Nest). IsIn e x.entries) n.is living.there)) living.alive) in
+      subst (All (λ f. length nest.params ≤ length f.coefs)) (sym is)
+      (All-drop (λ f. length nest.params ≤ length f.coefs) (context_count nest) e.domain.rows
+      (all_of (λ f. length f.coefs ≡ length nest.params + length e.loops) (λ f. length nest.params ≤ length f.coefs) (λ f w. enough (length nest.params) (length e.loops) (length f.coefs) w) e.domain.rows wide))
+    where
+      enough : (m l c : ℕ) → c ≡ m + l → m ≤ c
+      enough m l c e = omega (arith, e)
+
+-- ---- Three together
+
+module _ (nest : Nest) (reader : Entry) (leaf : Leaf) (writer : Entry) (s : AreSeated nest reader leaf writer) where
+  pub params_few : length nest.params ≤ 4
+  params_few = nest_few nest s.nested
+
+  pub reader_few : length reader.loops ≤ 6
+  reader_few = few_numbered nest reader s.nested s.reads.there
+
+  pub writer_few : length writer.loops ≤ 6
+  writer_few = few_numbered nest writer s.nested s.writes.there
+
+  pub leaf_few : leaf.columns ≤ 410
+  leaf_few = sum leaf.columns (length nest.params) (length reader.loops) (length leaf.divisions) s.path.count params_few reader_few s.path.few
+    where
+      sum : (c m l d : ℕ) → c ≡ (m + l) + d → m ≤ 4 → l ≤ 6 → d ≤ 400 → c ≤ 410
+      sum c m l d e h g i = omega (arith, e, h, g, i)
+
+  pub columns_few : clash_columns nest reader leaf writer ≤ 416
+  columns_few = sum leaf.columns (length writer.loops) leaf_few writer_few
+    where
+      sum : (c l : ℕ) → c ≤ 410 → l ≤ 6 → c + l ≤ 416
+      sum c l h g = omega (arith, h, g)
+
+  pub path_first : length nest.params + length reader.loops ≤ leaf.columns
+  path_first = first leaf.columns (length nest.params + length reader.loops) (length leaf.divisions) s.path.count
+    where
+      first : (c m d : ℕ) → c ≡ m + d → m ≤ c
+      first c m d e = omega (arith, e)
+
+  pub params_first : length nest.params ≤ leaf.columns
+  params_first = first (length nest.params) (length reader.loops) leaf.columns path_first
+    where
+      first : (m l c : ℕ) → m + l ≤ c → m ≤ c
+      first m l c h = omega (arith, h)
+
+  pub leaf_first : leaf.columns ≤ clash_columns nest reader leaf writer
+  leaf_first = more leaf.columns (length writer.loops)
+    where
+      more : (c l : ℕ) → c ≤ c + l
+      more c l = omega arith
+
+  reader_first : length nest.params + length reader.loops ≤ clash_columns nest reader leaf writer
+  reader_first = through (length nest.params + length reader.loops) leaf.columns (clash_columns nest reader leaf writer) path_first leaf_first
+    where
+      through : (a b c : ℕ) → a ≤ b → b ≤ c → a ≤ c
+      through a b c h g = omega (arith, h, g)
+
+  -- ---- Rows
+
+  pub domain_narrow : (rows : List Affine) → All (IsRow reader.domain.columns) rows → All (λ f. length f.coefs ≤ clash_columns nest reader leaf writer) rows
+  domain_narrow rows fit =
+      all_of (IsRow reader.domain.columns) (λ f. length f.coefs ≤ clash_columns nest reader leaf writer)
+      (λ f r. less (length f.coefs) (length nest.params + length reader.loops) (clash_columns nest reader leaf writer) (r.width ∙ (stands_in nest s.nested reader s.reads.there).columns) reader_first) rows fit
+    where
+      less : (k m c : ℕ) → k ≡ m → m ≤ c → k ≤ c
+      less k m c e h = omega (arith, e, h)
+
+  pub leaf_narrow : All (λ f. length f.coefs ≤ clash_columns nest reader leaf writer) leaf.rows
+  leaf_narrow =
+      all_of (λ f. length f.coefs ≤ leaf.columns) (λ f. length f.coefs ≤ clash_columns nest reader leaf writer) (λ f h. through (length f.coefs) leaf.columns (clash_columns nest reader leaf writer) h leaf_first) leaf.rows s.path.rows
+    where
+      through : (a b c : ℕ) → a ≤ b → b ≤ c → a ≤ c
+      through a b c h g = omega (arith, h, g)
+
+  -- ---- Subscripts
+
+  pub load_light : (load : Access) → IsIn load reader.accesses → All (IsLight (clash_columns nest reader leaf writer)) (map (of_reader nest reader leaf writer) load.subs)
+  load_light load i =
+      all_padded (length nest.params + length reader.loops) (clash_columns nest reader leaf writer) load.subs reader_first
+      (sides_light (length nest.params + length reader.loops) load.subs (subs_sides nest s.nested reader s.reads.there load i))
+
+  pub load_narrow : (load : Access) → IsIn load reader.accesses → All (λ f. length f.coefs ≤ clash_columns nest reader leaf writer) load.subs
+  load_narrow load i =
+      light_narrow (length nest.params + length reader.loops) (clash_columns nest reader leaf writer) load.subs reader_first
+      (sides_light (length nest.params + length reader.loops) load.subs (subs_sides nest s.nested reader s.reads.there load i))
+
+  whole : (length nest.params + (leaf.columns - length nest.params)) + length writer.loops ≡ clash_columns nest reader leaf writer
+  whole = sum (length nest.params) leaf.columns (length writer.loops) params_first
+    where
+      sum : (m c l : ℕ) → m ≤ c → (m + (c - m)) + l ≡ c + l
+      sum m c l h = omega (arith, h)
+
+  pub store_light : (store : Access) → IsIn store writer.accesses → All (IsLight (clash_columns nest reader leaf writer)) (map (of_writer nest reader leaf writer) store.subs)
+  store_light store i =
+      all_spread_light (length nest.params) (leaf.columns - length nest.params) (length writer.loops) (clash_columns nest reader leaf writer) store.subs whole (subs_sides nest s.nested writer s.writes.there store i)
+
+  pub store_wide_enough : (store : Access) → IsIn store writer.accesses → All (λ f. length nest.params ≤ length f.coefs) store.subs
+  store_wide_enough store i =
+      all_of (IsSide (length nest.params + length writer.loops)) (λ f. length nest.params ≤ length f.coefs) (λ f d. enough (length nest.params) (length writer.loops) (length f.coefs) d.width) store.subs
+      (subs_sides nest s.nested writer s.writes.there store i)
+    where
+      enough : (m l c : ℕ) → c ≡ m + l → m ≤ c
+      enough m l c e = omega (arith, e)
+
+  -- ---- The three instances
+
+  pub reader_forms : HasForms nest (clash_columns nest reader leaf writer) reader.statement (reader_posed nest reader leaf writer).iterators
+  reader_forms = its_columns nest s.nested reader s.reads (clash_columns nest reader leaf writer) (length nest.params)
+
+  pub writer_forms : HasForms nest (clash_columns nest reader leaf writer) writer.statement (writer_posed nest reader leaf writer).iterators
+  writer_forms = its_columns nest s.nested writer s.writes (clash_columns nest reader leaf writer) leaf.columns
+
+  pub named_forms : (named : Posed) → HasForms nest leaf.columns named.statement named.iterators → HasForms nest (clash_columns nest reader leaf writer) named.statement (named_posed nest reader leaf writer named).iterators
+  named_forms named h = record {
+    named = record { entry = h.named.entry; there = h.named.there; loops = length_map (padded (clash_columns nest reader leaf writer)) named.iterators ∙ h.named.loops };
+    light = all_padded leaf.columns (clash_columns nest reader leaf writer) named.iterators leaf_first h.light;
+  }
+
+  pub named_narrow : (named : Posed) → HasForms nest leaf.columns named.statement named.iterators → All (λ f. length f.coefs ≤ clash_columns nest reader leaf writer) named.iterators
+  named_narrow named h = light_narrow leaf.columns (clash_columns nest reader leaf writer) named.iterators leaf_first h.light
+
+  -- ---- Ranges
+
+  pub start_near : All WithinReach (nest.params ++ reader.ranges)
+  start_near = All-append WithinReach nest.params reader.ranges (all_reach nest.params (nest_near nest s.nested)) (its_ranges nest s.nested reader s.reads).1
+
+  pub start_long : length (nest.params ++ reader.ranges) ≡ length nest.params + length reader.loops
+  start_long = length_append nest.params reader.ranges ∙ ap (λ k. length nest.params + k) (its_ranges nest s.nested reader s.reads).0
+
+  pub start_few : length (nest.params ++ reader.ranges) + length leaf.divisions ≤ 500
+  start_few = sum (length (nest.params ++ reader.ranges)) (length nest.params) (length reader.loops) (length leaf.divisions) start_long params_few reader_few s.path.few
+    where
+      sum : (k m l d : ℕ) → k ≡ m + l → m ≤ 4 → l ≤ 6 → d ≤ 400 → k + d ≤ 500
+      sum k m l d e h g i = omega (arith, e, h, g, i)
+
+-- ---- Rows in front
+
+-- three parts one after the other
+pub front_made : (nest : Nest) (reader : Entry) (leaf : Leaf) (writer : Entry) (columns params between : ℕ) (domain rows own first second third none : List Affine)
+    → columns ≡ clash_columns nest reader leaf writer → params ≡ length nest.params → between ≡ leaf.columns - params
+    → domain ≡ reader.domain.rows → rows ≡ leaf.rows → own ≡ drop (context_count nest) writer.domain.rows → none ≡ []
+    → first ≡ none ++ map (padded columns) domain → second ≡ first ++ map (padded columns) rows → third ≡ second ++ map (spread params between 0) own
+    → third ≡ front_rows nest reader leaf writer
+front_made nest reader leaf writer columns params between domain rows own first second third none c p b d r o n e1 e2 e3 =
+    let P : Affine → Affine = padded (clash_columns nest reader leaf writer) in
+    let one : first ≡ map P reader.domain.rows = e1 ∙ ap (λ xs. xs ++ map (padded columns) domain) n ∙ ap (λ k. map (padded k) domain) c ∙ ap (map P) d in
+    let two : second ≡ map P (reader.domain.rows ++ leaf.rows) =
+    e2 ∙ ap (λ xs. xs ++ map (padded columns) rows) one ∙ ap (λ k. map P reader.domain.rows ++ map (padded k) rows) c ∙ ap (λ xs. map P reader.domain.rows ++ map P xs) r ∙ sym (map_append P reader.domain.rows leaf.rows) in
+    e3 ∙ ap (λ xs. xs ++ map (spread params between 0) own) two
+    ∙ ap (λ k. map P (reader.domain.rows ++ leaf.rows) ++ map (spread params k 0) own) b
+    ∙ ap (λ k. map P (reader.domain.rows ++ leaf.rows) ++ map (spread k (leaf.columns - k) 0) own) p
+    ∙ ap (λ xs. map P (reader.domain.rows ++ leaf.rows) ++ map (of_writer nest reader leaf writer) xs) o
+
+-- ---- Subscripts and instances, as the code makes them
+
+module _ (nest : Nest) (reader : Entry) (leaf : Leaf) (writer : Entry) where
+  pub loaded_made : (columns : ℕ) (subs own none out : List Affine) → columns ≡ clash_columns nest reader leaf writer → none ≡ [] → subs ≡ own → out ≡ none ++ map (padded columns) subs
+      → out ≡ map (of_reader nest reader leaf writer) own
+  loaded_made columns subs own none out c n s e = e ∙ ap (λ xs. xs ++ map (padded columns) subs) n ∙ ap (λ k. map (padded k) subs) c ∙ ap (map (of_reader nest reader leaf writer)) s
+
+  pub stored_made : (params : ℕ) (subs own none out : List Affine) → params ≡ length nest.params → none ≡ [] → subs ≡ own → out ≡ none ++ map (spread params (leaf.columns - params) 0) subs
+      → out ≡ map (of_writer nest reader leaf writer) own
+  stored_made params subs own none out p n s e =
+      e ∙ ap (λ xs. xs ++ map (spread params (leaf.columns - params) 0) subs) n ∙ ap (λ k. map (spread k (leaf.columns - k) 0) subs) p ∙ ap (map (of_writer nest reader leaf writer)) s
+
+  module _ (columns : ℕ) (columns_are : columns ≡ clash_columns nest reader leaf writer) where
+    pub writes_are : (loops : ℕ) (stores : List Affine) → loops ≡ length writer.loops → stores ≡ columns_from columns leaf.columns loops → stores ≡ (writer_posed nest reader leaf writer).iterators
+    writes_are loops stores l e = e ∙ ap (columns_from columns leaf.columns) l ∙ ap (λ k. columns_from k leaf.columns (length writer.loops)) columns_are
+
+    pub reads_are : (params loops : ℕ) (loads : List Affine) → params ≡ length nest.params → loops ≡ length reader.loops → loads ≡ columns_from columns params loops → loads ≡ (reader_posed nest reader leaf writer).iterators
+    reads_are params loops loads p l e =
+        e ∙ ap (λ j. columns_from columns j loops) p ∙ ap (columns_from columns (length nest.params)) l ∙ ap (λ k. columns_from k (length nest.params) (length reader.loops)) columns_are
+
+    -- over these columns
+    pub has_forms : (statement : ℕ) (forms whole : List Affine) → forms ≡ whole → HasForms nest (clash_columns nest reader leaf writer) statement whole → HasForms nest columns statement forms
+    has_forms statement forms whole e h = subst (λ fs. HasForms nest columns statement fs) (sym e) (subst (λ k. HasForms nest k statement whole) (sym columns_are) h)
+
+    pub order_made : (schedule : Schedule) (a : Posed) (fs : List Affine) (b : Posed) (gs : List Affine) (out : List (List Affine)) → fs ≡ a.iterators → gs ≡ b.iterators
+        → out ≡ map rows_in (target_order nest schedule columns (posed a.statement fs) (posed b.statement gs)) → out ≡ map rows_in (target_order nest schedule (clash_columns nest reader leaf writer) a b)
+    order_made schedule a fs b gs out f g e =
+        e ∙ ap (λ xs. map rows_in (target_order nest schedule columns (posed a.statement xs) (posed b.statement gs))) f ∙ ap (λ ys. map rows_in (target_order nest schedule columns a (posed b.statement ys))) g
+        ∙ ap (λ k. map rows_in (target_order nest schedule k a b)) columns_are
+
+  -- ---- All of them
+
+  pub store_made : (schedule : Schedule) (load : Access) (named : Posed) (store : Access) (shared : Shared) (front : List Affine) (after before : List (List Affine)) (old new : List Clash)
+      → shared.columns ≡ clash_columns nest reader leaf writer → shared.ranges.now ≡ clash_ranges nest reader leaf writer → shared.x.now ≡ map (of_reader nest reader leaf writer) load.subs
+      → shared.y.now ≡ map (of_writer nest reader leaf writer) store.subs → front ≡ front_rows nest reader leaf writer → after ≡ map rows_in (after_named nest schedule reader leaf named writer)
+      → before ≡ map rows_in (before_load nest schedule reader leaf writer)
+      → new ≡ old ++ map (draft_by shared) (flat_map (λ o. flat_map (λ u. apart_rows shared.x.now shared.y.now (front ++ (o ++ u))) before) after)
+      → new ≡ old ++ clashes_of_store nest reader leaf writer schedule load named store
+  store_made schedule load named store shared front after before old new c r x y f a b e =
+      let xs : List Affine = map (of_reader nest reader leaf writer) load.subs in
+      let ys : List Affine = map (of_writer nest reader leaf writer) store.subs in
+      let first : List Rows = after_named nest schedule reader leaf named writer in
+      let second : List Rows = before_load nest schedule reader leaf writer in
+      let rows : flat_map (λ o. flat_map (λ u. apart_rows shared.x.now shared.y.now (front ++ (o ++ u))) before) after ≡ rows_of_clashes nest reader leaf writer schedule load named store =
+      ap (λ zs. flat_map (λ o. flat_map (λ u. apart_rows zs shared.y.now (front ++ (o ++ u))) before) after) x ∙ ap (λ zs. flat_map (λ o. flat_map (λ u. apart_rows xs zs (front ++ (o ++ u))) before) after) y
+      ∙ ap (λ zs. flat_map (λ o. flat_map (λ u. apart_rows xs ys (zs ++ (o ++ u))) before) after) f ∙ ap (flat_map (λ o. flat_map (λ u. apart_rows xs ys (front_rows nest reader leaf writer ++ (o ++ u))) before)) a
+      ∙ ap (λ zs. flat_map (λ o. flat_map (λ u. apart_rows xs ys (front_rows nest reader leaf writer ++ (o ++ u))) zs) (map rows_in first)) b ∙ between_is (front_rows nest reader leaf writer) first second xs ys in
+      e ∙ ap (λ zs. old ++ map (draft_by shared) zs) rows
+      ∙ ap (λ zs. old ++ zs) (drafts_are (rows_of_clashes nest reader leaf writer schedule load named store))
+    where
+      one : (rows : List Affine) → draft_by shared rows ≡ clash nest reader leaf writer schedule load named store rows
+      one rows i = record { system = record { columns = c i; rows = rows }; ranges = r i; x = x i; y = y i }
+
+      drafts_are : (rs : List (List Affine)) → map (draft_by shared) rs ≡ map (clash nest reader leaf writer schedule load named store) rs
+      drafts_are [] = refl
+      drafts_are (rows ∷ rs) = ap (λ z. z ∷ map (draft_by shared) rs) (one rows) ∙ ap (λ zs. clash nest reader leaf writer schedule load named store rows ∷ zs) (drafts_are rs)

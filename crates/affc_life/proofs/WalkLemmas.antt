@@ -1,0 +1,137 @@
+-- The clash systems of a list's entries, one after the other.
+use Rattle.std.proofs.Common.{◌≡◌, ℕ, zero, suc, ◌+◌, ◌-◌, ◌<◌, ◌≤◌, Bool, true, false, if◌then◌else◌, List, [], ◌∷◌, ◌++◌, length, map, flat_map, take, drop, get_or, Option, Some, None, refl, sym, ap, subst, ◌∙◌, inl, inr, arith}
+use Rattle.std.specs.Prelude.{nat_eq, slice_get}
+use Rattle.std.specs.List.{All}
+use Rattle.std.proofs.lemmas.List.{drop-drop, length-drop}
+use Rattle.std.proofs.lemmas.Option.{none-some, same_Some}
+use Rattle.std.proofs.Math.ListN.{drop_of_length-le}
+use Rattle.affc_rows.specs.Forms.{Affine}
+use Rattle.affc_system.specs.Systems.{Rows}
+use Rattle.affc_trace.specs.declared.schedule.Schedule.{Schedule}
+use Rattle.affc_trace.specs.Law.{IsIn}
+use Rattle.affc_trace.proofs.EndedReads.{append_assoc}
+use Rattle.affc_trace.proofs.LastStores.{append_nil, map_append}
+use Rattle.affc_nest.specs.declared.nest.Access.{Access}
+use Rattle.affc_nest.specs.declared.nest.Entry.{Entry}
+use Rattle.affc_nest.specs.declared.nest.Nest.{Nest}
+use Rattle.affc_order.specs.Posed.{Posed}
+use Rattle.affc_quast.specs.Leaves.{Leaf, leaves_of}
+use Rattle.affc_quast.specs.Sources.{loads_in, loads_before, tree_of}
+use Rattle.affc_quast.specs.Trees.{Tree}
+use Rattle.affc_life.specs.Asked.{KeepLimits, KeepsLimits, AreLoads}
+use Rattle.affc_life.specs.Clashes.{Clash, between_rows, apart_rows, numbered_loads, clashes_of_tree, clashes_of_entry}
+use Rattle.affc_life.specs.Drafts.{rows_in, clashes_of_load}
+
+-- nothing more
+pub none_more : {A : Type 0} (xs more : List A) → more ≡ [] → xs ≡ xs ++ more
+none_more xs more e = sym (append_nil xs) ∙ ap (λ ys. xs ++ ys) (sym e)
+
+-- those of the first entry, and those of the others
+pub next_made : {A B : Type 0} (F : A → List B) (xs rest : List A) (x : A) (old first new : List B) → xs ≡ x ∷ rest → first ≡ old ++ F x → new ≡ first ++ flat_map F rest → new ≡ old ++ flat_map F xs
+next_made F xs rest x old first new i d e =
+    e ∙ ap (λ s. s ++ flat_map F rest) d ∙ append_assoc old (F x) (flat_map F rest) ∙ ap (λ ys. old ++ flat_map F ys) (sym i)
+
+-- ---- Orders
+
+flat_mapped : {A B C : Type 0} (g : A → B) (F : B → List C) (xs : List A) → flat_map F (map g xs) ≡ flat_map (λ x. F (g x)) xs
+flat_mapped g F [] = refl
+flat_mapped g F (x ∷ xs) = ap (λ ys. F (g x) ++ ys) (flat_mapped g F xs)
+
+flat_same : {A B : Type 0} (f g : A → List B) → ((x : A) → f x ≡ g x) → (xs : List A) → flat_map f xs ≡ flat_map g xs
+flat_same f g h [] = refl
+flat_same f g h (x ∷ xs) = ap (λ ys. ys ++ flat_map f xs) (h x) ∙ ap (λ ys. g x ++ ys) (flat_same f g h xs)
+
+-- the rows of two orders are those of their systems
+pub between_is : (front : List Affine) (after before : List Rows) (xs ys : List Affine)
+    → flat_map (λ o. flat_map (λ u. apart_rows xs ys (front ++ (o ++ u))) (map rows_in before)) (map rows_in after) ≡ between_rows front after before xs ys
+between_is front after before xs ys =
+    flat_mapped rows_in (λ o. flat_map (λ u. apart_rows xs ys (front ++ (o ++ u))) (map rows_in before)) after
+    ∙ flat_same (λ (o : Rows). flat_map (λ u. apart_rows xs ys (front ++ (o.rows ++ u))) (map rows_in before)) (λ (o : Rows). flat_map (λ (u : Rows). apart_rows xs ys (front ++ (o.rows ++ u.rows))) before)
+    (λ o. flat_mapped rows_in (λ u. apart_rows xs ys (front ++ (o.rows ++ u))) before) after
+
+-- ---- Loads
+
+pub loads_made : (F : ℕ × Access → List Clash) (accesses rest : List Access) (x : Access) (n m : ℕ) (old first new : List Clash) → accesses ≡ x ∷ rest → 1 ≤ length rest → m ≡ suc n
+    → first ≡ old ++ F (n, x) → new ≡ first ++ flat_map F (numbered_loads m rest) → new ≡ old ++ flat_map F (numbered_loads n accesses)
+loads_made F accesses [] x n m old first new i l k d e = absurd (omega (arith, l))
+loads_made F accesses (y ∷ ys) x n m old first new i l k d e =
+    e ∙ ap (λ j. first ++ flat_map F (numbered_loads j (y ∷ ys))) k ∙ ap (λ s. s ++ flat_map F (numbered_loads (suc n) (y ∷ ys))) d ∙ append_assoc old (F (n, x)) (flat_map F (numbered_loads (suc n) (y ∷ ys)))
+    ∙ ap (λ ys. old ++ flat_map F (numbered_loads n ys)) (sym i)
+
+-- an assignment's last access is no load
+pub last_alone : (F : ℕ × Access → List Clash) (accesses rest : List Access) (x : Access) (n : ℕ) → accesses ≡ x ∷ rest → length rest ≡ 0 → flat_map F (numbered_loads n accesses) ≡ []
+last_alone F accesses [] x n i l = ap (λ ys. flat_map F (numbered_loads n ys)) i
+last_alone F accesses (y ∷ ys) x n i l = absurd (omega (arith, l))
+
+-- the next load, and what is behind it
+pub load_there : (whole accesses rest : List Access) (x : Access) (n : ℕ) → accesses ≡ drop n whole → accesses ≡ x ∷ rest → slice_get whole n ≡ Some x
+load_there [] accesses rest x zero d i = absurd (not_empty (sym i ∙ d))
+  where
+    not_empty : x ∷ rest ≡ [] → ⊥
+    not_empty e = absurd (cc)
+load_there [] accesses rest x (suc n) d i = absurd (not_empty (sym i ∙ d))
+  where
+    not_empty : x ∷ rest ≡ [] → ⊥
+    not_empty e = absurd (cc)
+load_there (y ∷ ys) accesses rest x zero d i = ap (λ zs. slice_get zs 0) (sym d ∙ i)
+load_there (y ∷ ys) accesses rest x (suc n) d i = load_there ys accesses rest x n d i
+
+pub rest_there : (whole accesses rest : List Access) (x : Access) (n : ℕ) → accesses ≡ drop n whole → accesses ≡ x ∷ rest → rest ≡ drop (n + 1) whole
+rest_there whole accesses rest x n d i = sym (ap (drop 1) (sym d ∙ i)) ∙ drop-drop 1 n whole
+
+pub load_counts : (whole accesses rest : List Access) (x : Access) (n : ℕ) → accesses ≡ drop n whole → accesses ≡ x ∷ rest → 1 ≤ length rest → n < length whole - 1
+load_counts whole accesses rest x n d i l = more (length whole) (length accesses) (length rest) (ap length d ∙ length-drop n whole) (ap length i) l
+  where
+    more : (w a r : ℕ) → a ≡ w - n → a ≡ suc r → 1 ≤ r → n < w - 1
+    more w a r e f h = omega (arith, e, f, h)
+
+-- ---- Trees
+
+pub later_tree : {A : Type 0} (n k : ℕ) (xs : List A) → slice_get (drop n xs) k ≡ slice_get xs (n + k)
+later_tree zero k xs = ap (slice_get xs) (none k)
+  where
+    none : (k : ℕ) → k ≡ 0 + k
+    none k = omega arith
+later_tree (suc n) k [] = refl
+later_tree (suc n) k (x ∷ xs) = later_tree n k xs ∙ ap (slice_get (x ∷ xs)) (one n k)
+  where
+    one : (n k : ℕ) → suc (n + k) ≡ suc n + k
+    one n k = omega arith
+
+module _ (nest : Nest) (trees own : List Tree) (reader : Entry) (is : own ≡ drop (loads_before nest.entries reader.statement) trees) where
+  same_tree : (load : ℕ) → slice_get own load ≡ tree_of nest trees reader.statement load
+  same_tree load = ap (λ ts. slice_get ts load) is ∙ later_tree (loads_before nest.entries reader.statement) load trees
+
+  pub entry_made : (schedule : Schedule) (array : ℕ)
+      → flat_map (clashes_of_load nest schedule array reader own) (numbered_loads 0 reader.accesses)
+      ≡ flat_map (λ load. if nat_eq load.1.array.0 array then clashes_of_tree nest schedule array reader load.1 (tree_of nest trees reader.statement load.0) else []) (numbered_loads 0 reader.accesses)
+  entry_made schedule array =
+      flat_same (clashes_of_load nest schedule array reader own) (λ (load : ℕ × Access). if nat_eq load.1.array.0 array then clashes_of_tree nest schedule array reader load.1 (tree_of nest trees reader.statement load.0) else [])
+      (λ load. ap (λ o. if nat_eq load.1.array.0 array then clashes_of_tree nest schedule array reader load.1 o else []) (same_tree load.0)) (numbered_loads 0 reader.accesses)
+
+  pub reader_made : (schedule : Schedule) (array : ℕ) (accesses : List Access) (old new : List Clash) → reader.alive ≡ true → accesses ≡ reader.accesses
+      → new ≡ old ++ flat_map (clashes_of_load nest schedule array reader own) (numbered_loads 0 accesses) → new ≡ old ++ clashes_of_entry nest schedule array trees reader
+  reader_made schedule array accesses old new alive a e =
+      let whole : List Clash =
+      flat_map (λ load. if nat_eq load.1.array.0 array then clashes_of_tree nest schedule array reader load.1 (tree_of nest trees reader.statement load.0) else []) (numbered_loads 0 reader.accesses) in
+      e ∙ ap (λ xs. old ++ flat_map (clashes_of_load nest schedule array reader own) (numbered_loads 0 xs)) a ∙ ap (λ zs. old ++ zs) (entry_made schedule array) ∙ ap (λ t. old ++ (if t then whole else [])) (sym alive)
+
+  pub own_loads : KeepLimits nest trees → slice_get nest.entries reader.statement ≡ Some reader → AreLoads nest reader own
+  own_loads limits there load tree counts at = limits reader.statement load reader tree there counts (sym (same_tree load) ∙ at)
+
+-- the trees behind those of a statement
+pub trees_behind : (e : Entry) (entries rest : List Entry) (trees others : List Tree) (result : List Tree) (statement before loads : ℕ) → entries ≡ e ∷ rest → statement ≡ suc before
+    → loads ≡ loads_in e → others ≡ drop loads trees → result ≡ drop (loads_before rest before) others → result ≡ drop (loads_before entries statement) trees
+trees_behind e entries rest trees others result statement before loads i s l o r =
+    r ∙ ap (drop (loads_before rest before)) o ∙ drop-drop (loads_before rest before) loads trees ∙ ap (λ n. drop (n + loads_before rest before) trees) l
+    ∙ ap (λ es. drop (loads_before es (suc before)) trees) (sym i) ∙ ap (λ n. drop (loads_before entries n) trees) (sym s)
+
+-- there are none behind the last
+pub no_trees : (e : Entry) (entries rest : List Entry) (trees : List Tree) (statement before loads : ℕ) → entries ≡ e ∷ rest → statement ≡ suc before → loads ≡ loads_in e → length trees < loads
+    → [] ≡ drop (loads_before entries statement) trees
+no_trees e entries rest trees statement before loads i s l h =
+    sym (drop_of_length-le trees (more (length trees) loads (loads_in e) (loads_before rest before) l h))
+    ∙ ap (λ es. drop (loads_before es (suc before)) trees) (sym i) ∙ ap (λ n. drop (loads_before entries n) trees) (sym s)
+  where
+    more : (t l k m : ℕ) → l ≡ k → t < l → t ≤ k + m
+    more t l k m e h = omega (arith, e, h)

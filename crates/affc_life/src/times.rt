@@ -1,0 +1,207 @@
+//! Which of two instances the schedule runs first, as lists of rows of any size.
+ghost use Rattle.std.specs.Prelude.{◌≡◌, ◌+◌, ◌<◌, ◌≤◌, ◌++◌, [], nat_lt, length, map, IfOk, OnOk};
+ghost use Rattle.std.specs.List.{All};
+ghost use Rattle.affc_domain.specs.Loops.{shared};
+ghost use Rattle.affc_order.specs.Asked.{IsScheduled};
+ghost use Rattle.affc_order.specs.Placed.{HasMap};
+ghost use Rattle.affc_order.specs.Posed.{form_at};
+ghost use Rattle.affc_order.specs.Systems.{lex_systems, loops_of, source_order, time_forms, target_order};
+ghost use Rattle.affc_life.specs.Asked.{HasForms};
+ghost use Rattle.affc_life.specs.Composed.{AreImages, IsSlight, IsTimed};
+ghost use Rattle.affc_life.specs.Drafts.{posed, rows_in};
+
+use crate::columns::columns_from;
+use crate::orders::add_lex;
+use crate::systems::add_forms;
+use affc_nest::Nest;
+use affc_order::columns::spread;
+use affc_rows::{Form, FormFault};
+use affc_trace::schedule::{Schedule, TimeMap};
+use sqlite_items::Items;
+use std::alloc::{AllocError, Global};
+
+/// How many numbers two lists have in common at their beginnings.
+fn shared(ls: &[u32], ms: &[u32]) -> usize
+    ensures value { result ≡ shared ls.now ms.now }
+    ensures first { result ≤ length ls.now }
+    ensures second { result ≤ length ms.now }
+{
+    match ls {
+        [] => 0,
+        [l, later_ls @ ..] => match ms {
+            [] => 0,
+            [m, later_ms @ ..] => {
+                if *l == *m {
+                    shared(later_ls, later_ms) + 1
+                } else {
+                    0
+                }
+            }
+        },
+    }
+}
+
+/// The numbers of the loops round a statement.
+fn loops(nest: &Nest, statement: u32) -> &[u32]
+    requires { statement < length nest.now.entries }
+    ensures { result.now ≡ loops_of nest.now statement }
+{
+    nest.entries.as_slice()[statement as usize].loops.as_slice()
+}
+
+/// The form with each of its columns replaced by its image, over so many columns.
+fn image_of(alloc: Global, columns: u32, images: &[Form], form: &Form) -> Result<Form, AllocError>
+    requires images { AreImages columns images.now }
+    requires slight { IsSlight (length images.now) form.now }
+    ensures { IfOk result (λ f. f ≡ form_at columns images.now form.now) }
+{
+    if images.is_empty() {
+        let zeros = spread(alloc, form, 0, 0, columns)?;
+        return Ok(zeros);
+    }
+    match form.compose(alloc, images) {
+        Ok(made) => Ok(made),
+        Err(FormFault::Range) => unreachable!(),
+        Err(FormFault::Memory) => Err(AllocError),
+    }
+}
+
+/// Adds these forms, each with its columns replaced.
+fn add_images(
+    alloc: Global,
+    columns: u32,
+    images: &[Form],
+    forms: &[Form],
+    out: &mut Vec<Form>,
+) -> Result<(), AllocError>
+    requires images { AreImages columns images.now }
+    requires slight { All (IsSlight (length images.now)) forms.now }
+    ensures { OnOk result (out.new.items ≡ out.old.items ++ map (form_at columns images.now) forms.now) }
+{
+    match forms {
+        [] => Ok(()),
+        [form, rest @ ..] => {
+            let made = image_of(alloc, columns, images, form)?;
+            out.push(made)?;
+            add_images(alloc, columns, images, rest, out)
+        }
+    }
+}
+
+/// The components of an instance's time.
+fn time_forms(
+    alloc: Global,
+    nest: &Nest,
+    maps: &[TimeMap],
+    columns: u32,
+    statement: u32,
+    forms: &[Form],
+) -> Result<Vec<Form>, AllocError>
+    requires params { length nest.now.params ≤ 4 }
+    requires forms { HasForms nest.now columns statement forms.now }
+    requires few { length forms.now ≤ 6 }
+    requires timed { HasMap nest.now maps.now statement }
+    ensures { IfOk result (λ v. v.items ≡ time_forms maps.now (length nest.now.params) columns (posed statement forms.now)) }
+{
+    let params = nest.params.ranges().len() as u32;
+    let mut images = columns_from(alloc, columns, 0, params)?;
+    add_forms(forms, &mut images)?;
+    let map = &maps[statement as usize];
+    let mut times = Vec::new(alloc);
+    add_images(
+        alloc,
+        columns,
+        images.as_slice(),
+        map.forms.as_slice(),
+        &mut times,
+    )?;
+    Ok(times)
+}
+
+/// Adds the rows of the order of the text.
+fn add_source_order(
+    alloc: Global,
+    nest: &Nest,
+    columns: u32,
+    a: u32,
+    fs: &[Form],
+    b: u32,
+    gs: &[Form],
+    out: &mut Vec<Items<Form>>,
+) -> Result<(), AllocError>
+    requires first { HasForms nest.now columns a fs.now }
+    requires second { HasForms nest.now columns b gs.now }
+    ensures { OnOk result (out.new.items ≡ out.old.items ++ map rows_in (source_order nest.now columns (posed a fs.now) (posed b gs.now))) }
+{
+    let n = shared(loops(nest, a), loops(nest, b));
+    let start = Items::new(alloc);
+    add_lex(alloc, columns, n, fs, gs, start.as_slice(), a < b, out)
+}
+
+/// Adds the rows of the order of times.
+fn add_time_order(
+    alloc: Global,
+    nest: &Nest,
+    components: u32,
+    maps: &[TimeMap],
+    columns: u32,
+    a: u32,
+    fs: &[Form],
+    b: u32,
+    gs: &[Form],
+    out: &mut Vec<Items<Form>>,
+) -> Result<(), AllocError>
+    requires params { length nest.now.params ≤ 4 }
+    requires first { IsTimed nest.now components maps.now columns a fs.now }
+    requires second { IsTimed nest.now components maps.now columns b gs.now }
+    ensures { OnOk result (out.new.items ≡ out.old.items ++ map rows_in (lex_systems columns components (time_forms maps.now (length nest.now.params) columns (posed a fs.now)) (time_forms maps.now (length nest.now.params) columns (posed b gs.now)) [] (nat_lt a b))) }
+{
+    let xs = time_forms(alloc, nest, maps, columns, a, fs)?;
+    let ys = time_forms(alloc, nest, maps, columns, b, gs)?;
+    let start = Items::new(alloc);
+    add_lex(
+        alloc,
+        columns,
+        components as usize,
+        xs.as_slice(),
+        ys.as_slice(),
+        start.as_slice(),
+        a < b,
+        out,
+    )
+}
+
+/// The rows that say that the schedule runs the first instance before the second.
+pub(crate) fn target_order(
+    alloc: Global,
+    nest: &Nest,
+    schedule: &Schedule,
+    columns: u32,
+    a: u32,
+    fs: &[Form],
+    b: u32,
+    gs: &[Form],
+) -> Result<Vec<Items<Form>>, AllocError>
+    requires asked { IsScheduled nest.now schedule.now }
+    requires first { HasForms nest.now columns a fs.now }
+    requires second { HasForms nest.now columns b gs.now }
+    ensures { IfOk result (λ v. v.items ≡ map rows_in (target_order nest.now schedule.now columns (posed a fs.now) (posed b gs.now))) }
+{
+    let mut orders = Vec::new(alloc);
+    match schedule {
+        Schedule::Source => add_source_order(alloc, nest, columns, a, fs, b, gs, &mut orders)?,
+        Schedule::Time { length, maps } => add_time_order(
+            alloc,
+            nest,
+            *length,
+            maps.as_slice(),
+            columns,
+            a,
+            fs,
+            b,
+            gs,
+            &mut orders,
+        )?,
+    }
+    Ok(orders)
+}
