@@ -22,3 +22,4 @@ pub mod Scheduled
 pub mod Empty
 pub mod Slight
 pub mod FoldedArrays
+pub mod Agree

@@ -26,7 +26,7 @@ use Rattle.affc_schedtext.proofs.Slight.{all_are_slight}
 
 -- ---- Entries of lists
 
-within : {A : Type 0} (xs : List A) (k : ℕ) (x : A) → slice_get xs k ≡ Some x → k < length xs
+pub within : {A : Type 0} (xs : List A) (k : ℕ) (x : A) → slice_get xs k ≡ Some x → k < length xs
 within [] k x e = absurd (none-some x e)
 within (y ∷ xs) zero x e = omega arith
 within (y ∷ xs) (suc k) x e = let h = within xs k x e in omega (arith, h)
@@ -42,14 +42,14 @@ less_or_last zero (suc n) h = inr (omega arith)
 less_or_last (suc s) zero h = absurd (omega arith)
 less_or_last (suc s) (suc n) h = elim (less_or_last s n (omega arith)) [ inl e ↦ inl (ap suc e) | inr l ↦ inr (omega (arith, l)) ]
 
-all_there : (n : ℕ) (ns : List ℕ) (s : ℕ) → has_all n ns ≡ true → s < n → is_in s ns ≡ true
+pub all_there : (n : ℕ) (ns : List ℕ) (s : ℕ) → has_all n ns ≡ true → s < n → is_in s ns ≡ true
 all_there zero ns s e h = absurd (omega (arith, h))
 all_there (suc n) ns s e h =
     let both = and_parts (is_in n ns) (has_all n ns) e in
     elim (less_or_last s n h) [ inl q ↦ ap (λ m. is_in m ns) q ∙ both.0 | inr l ↦ all_there n ns s both.1 l ]
 
 -- a line of the statement
-abbrev LineOf : Outline → ℕ → List LineDraft → Type 0
+abbrev pub LineOf : Outline → ℕ → List LineDraft → Type 0
 LineOf o s lines = (front : List LineDraft) × (line : LineDraft) × (others : List LineDraft) × (lines ≡ front ++ line ∷ others) × (statement_of o line.name ≡ Some s)
 
 later : (o : Outline) (s : ℕ) (l : LineDraft) (ls : List LineDraft) → LineOf o s ls → LineOf o s (l ∷ ls)
@@ -63,19 +63,19 @@ of_head o s l ls h (Some t) q e = elim (or_cases (t == s) (is_in s (statements_i
   | inr c ↦ later o s l ls (h c)
 ]
 
-line_of : (o : Outline) (s : ℕ) (lines : List LineDraft) → is_in s (statements_in o lines) ≡ true → LineOf o s lines
+pub line_of : (o : Outline) (s : ℕ) (lines : List LineDraft) → is_in s (statements_in o lines) ≡ true → LineOf o s lines
 line_of o s [] e = absurd (false≢true e)
 line_of o s (l ∷ ls) e = of_head o s l ls (line_of o s ls) (statement_of o l.name) refl e
 
 -- ---- Rules that are kept
 
-record Kept (o : Outline) (n : ℕ) (lines : List LineDraft) : Type 0 where
-  whole : has_all (length o.statements) (statements_in o lines) ≡ true
+pub record Kept (o : Outline) (n : ℕ) (lines : List LineDraft) : Type 0 where
+  pub whole : has_all (length o.statements) (statements_in o lines) ≡ true
   lengths : flat_map (λ (l : LineDraft). at_if (not (length l.forms == n)) l.at) lines ≡ []
   few : is_length n ≡ true
   small : flat_map (λ l. large_sides (statement_sides o n l)) lines ≡ []
 
-kept : (o : Outline) (tokens at n : ℕ) (lines folds : List LineDraft) → order_breaches o tokens (time at n lines) folds ≡ [] → Kept o n lines
+pub kept : (o : Outline) (tokens at n : ℕ) (lines folds : List LineDraft) → order_breaches o tokens (time at n lines) folds ≡ [] → Kept o n lines
 kept o tokens at n lines folds e =
     let wrong = wrong_statements o [] lines in
     let missing = at_if (not (has_all (length o.statements) (statements_in o lines))) tokens in
@@ -116,7 +116,7 @@ each_within : (maps : List TimeMap) → ((k : ℕ) (m : TimeMap) → slice_get m
 each_within [] h = refl
 each_within (m ∷ ms) h = and_from (all_slight m.forms && all_slight m.inverse) (maps_within ms) (h 0 m refl) (each_within ms (λ k x q. h (suc k) x q))
 
-same_number : (a b : ℕ) → ◌≡◌ {A = Option ℕ} (Some a) (Some b) → a ≡ b
+pub same_number : (a b : ℕ) → ◌≡◌ {A = Option ℕ} (Some a) (Some b) → a ≡ b
 same_number a b e = cc
 
 module _ (o : Outline) (n : ℕ) (lines : List LineDraft) (maps : List TimeMap) (k : Kept o n lines) (own : AreMapsOfLines o n lines maps) (counts : Each (HasInverses o) lines) where

@@ -1,12 +1,12 @@
 //! What holds of every schedule's text: each function here is a statement, proved.
 
-ghost use Rattle.std.specs.Prelude.{◌≡◌, ◌≤◌, ℕ, List, [], length, map, true, Ok, Err};
+ghost use Rattle.std.specs.Prelude.{◌≡◌, ◌≤◌, ℕ, ℤ, List, [], length, map, true, Ok, Err};
 ghost use Rattle.affc_ast.specs.declared.tree.ArrayId.{ArrayId};
 ghost use Rattle.affc_ast.specs.declared.tree.Program.{Program};
 ghost use Rattle.affc_trace.specs.Law.{IsIn};
 ghost use Rattle.affc_trace.specs.Orders.{AreDistinct};
 ghost use Rattle.affc_basis.specs.declared.basis.Basis.{Basis};
-ghost use Rattle.affc_trace.specs.Target.{loops_round, numbers_in, IsScheduleOf, within_limits};
+ghost use Rattle.affc_trace.specs.Target.{loops_round, numbers_in, target, IsScheduleOf, within_limits};
 ghost use Rattle.affc_grammar.specs.Grammar.{Symbol};
 ghost use Rattle.affc_grammar.specs.Reader.{At, Deep};
 ghost use Rattle.affc_schedtext.specs.declared.plan.Plan.{Plan};
@@ -15,7 +15,7 @@ ghost use Rattle.affc_schedtext.specs.declared.plan.SchedFault.TheVariants.{Memo
 ghost use Rattle.affc_schedtext.specs.Answers.{PlanReads, IsFault};
 ghost use Rattle.affc_schedtext.specs.Outline.{Outline, outline};
 ghost use Rattle.affc_schedtext.specs.Grammar.{Text, text_symbols, StopsAt};
-ghost use Rattle.affc_schedtext.specs.Folded.{IsBasisIn};
+ghost use Rattle.affc_schedtext.specs.Folded.{IsBasisIn, fold_said};
 ghost use Rattle.affc_schedtext.specs.Reading.{read_text};
 
 /// The grammar has one way at most to write a list of symbols.
@@ -55,4 +55,10 @@ pub fn plans_are_scheduled()
 pub fn plans_fold_temporaries()
     ensures different { (text : List ℕ) (program : Program) (plan : Plan) → PlanReads text program plan → AreDistinct (map (λ (f : ArrayId × Basis). f.0.0) plan.folds) }
     ensures each { (text : List ℕ) (program : Program) (plan : Plan) → PlanReads text program plan → (array : ArrayId) (basis : Basis) → IsIn (array, basis) plan.folds → IsBasisIn program array.0 basis }
+{}
+
+/// All plans of a text run the instances in one order, and have the same folds.
+pub fn plans_agree()
+    ensures order { (text : List ℕ) (program : Program) (a b : Plan) → PlanReads text program a → PlanReads text program b → (p : List ℤ) → target program a.schedule p ≡ target program b.schedule p }
+    ensures folds { (text : List ℕ) (program : Program) (a b : Plan) → PlanReads text program a → PlanReads text program b → map fold_said a.folds ≡ map fold_said b.folds }
 {}

@@ -22,7 +22,7 @@ const FOLDS: [(&str, &str, u8, &str, &str); 38] = [
     ("fold", COPY, 2, "", "affc: words\n"),
     ("fold ", COPY, 2, "", "affc: words\n"),
     ("fold -", COPY, 2, "", "affc: words\n"),
-    ("fold a b", COPY, 2, "", "affc: words\n"),
+    ("fold a b", COPY, 3, "", "affc: read a\n"),
     ("fold a b c", COPY, 2, "", "affc: words\n"),
     ("fold a.c --budget 0", COPY, 2, "", "affc: words\n"),
     ("run a.c a.data --budget 1", COPY, 2, "", "affc: words\n"),
@@ -504,7 +504,7 @@ fn widened(alloc: Global, text: &str, name: &str, long: &str) -> Result<String, 
 }
 
 // The source with the texts that its names stand for.
-fn whole(alloc: Global, source: &str) -> Result<String, AllocError> {
+pub fn whole(alloc: Global, source: &str) -> Result<String, AllocError> {
     let source = widened(alloc, source, "{open}", OPEN)?;
     widened(alloc, source.as_str(), "{prelude}", PRELUDE)
 }
