@@ -547,7 +547,7 @@ fn runs_are_served(rt: HostRuntime) -> Result<(), Fail> {
 
 #[test]
 fn kernels_are_served(rt: HostRuntime) -> Result<(), Fail> {
-    for (source, feed, out, compiled) in KERNELS {
+    for (source, feed, out, compiled, schedule, loops) in KERNELS {
         let done = plain(rt.alloc(), "run a.c a.data", source, feed)?;
         assert_eq!(rt; done.status, 0, "of {source}");
         assert_eq!(rt; done.out.as_slice(), out.as_bytes());
@@ -555,6 +555,13 @@ fn kernels_are_served(rt: HostRuntime) -> Result<(), Fail> {
         let status = if compiled.is_empty() { 14 } else { 0 };
         assert_eq!(rt; folded.status, status, "of {source}");
         assert_eq!(rt; folded.out.as_slice(), compiled.as_bytes());
+        if schedule.is_empty() {
+            continue;
+        }
+        let ordered = plain(rt.alloc(), "fold a.c a.data", source, schedule)?;
+        assert_eq!(rt; ordered.out.as_slice(), loops.as_bytes(), "of {source}");
+        let done = plain(rt.alloc(), "run a.c a.data", loops, feed)?;
+        assert_eq!(rt; done.out.as_slice(), out.as_bytes());
     }
     Ok(())
 }
