@@ -14,7 +14,7 @@ use Rattle.affc_plain.proofs.Programs.{reads_plain}
 use Rattle.affc_loops.specs.Laws.{HasLoops}
 use Rattle.affc_loops.specs.Loops.{target_program}
 use Rattle.affc_loops.proofs.LoopLaws.{loops_compile}
-use Rattle.affc_loopprint.proofs.Stand.{loops_well_named}
+use Rattle.affc_loopprint.specs.Laws.{LoopsWellNamed}
 use Rattle.affc_schedtext.specs.declared.plan.Plan.{Plan}
 use Rattle.affc_schedtext.proofs.Scheduled.{is_scheduled, is_limited}
 use Rattle.affc_bounds.specs.Faults.{StaysWithin}
@@ -58,35 +58,36 @@ has_loops text schedule program plan reads bare within planned = record {
   limits = plan_limited program schedule plan planned;
 }
 
--- ---- Its loops
+-- ---- Its loops, which are well named
 
-pub folds_to : (text : List ℕ) (schedule : Option (List ℕ)) (program : Program) (plan : Plan) (folded report : List ℕ)
-    → Reads text program → program.prelude ≡ false → StaysWithin program → program.temps ≡ []
-    → HasPlan program schedule plan → plan.folds ≡ [] → LegalThroughout program plan.schedule
-    → folded ≡ printed_text (target_program program plan.schedule) → report ≡ [] → FoldsTo text schedule folded report
-folds_to text schedule program plan folded report reads bare within none planned whole legal printed empty =
-    let loops = has_loops text schedule program plan reads bare within planned in
-    let target = target_program program plan.schedule in
-    record {
-      plan = plan;
-      compiles = record {
-        source = program;
-        source_reads = reads;
-        target = target;
-        target_reads = (reads_back target folded printed).0 (loops_well_named text program plan.schedule reads bare loops);
-        compiles = loops_compile program plan.schedule loops (within_never_stuck text program reads bare within none) legal;
-      };
-      loops = refl;
-      printed = printed;
-      plain = bare;
-      within = within;
-      planned = planned;
-      legal = legal;
-      no_temporaries = none;
-      no_folds = whole;
-      no_report = empty;
-    }
+module _ (named : LoopsWellNamed) where
+  pub folds_to : (text : List ℕ) (schedule : Option (List ℕ)) (program : Program) (plan : Plan) (folded report : List ℕ)
+      → Reads text program → program.prelude ≡ false → StaysWithin program → program.temps ≡ []
+      → HasPlan program schedule plan → plan.folds ≡ [] → LegalThroughout program plan.schedule
+      → folded ≡ printed_text (target_program program plan.schedule) → report ≡ [] → FoldsTo text schedule folded report
+  folds_to text schedule program plan folded report reads bare within none planned whole legal printed empty =
+      let loops = has_loops text schedule program plan reads bare within planned in
+      let target = target_program program plan.schedule in
+      record {
+        plan = plan;
+        compiles = record {
+          source = program;
+          source_reads = reads;
+          target = target;
+          target_reads = (reads_back target folded printed).0 (named text program plan.schedule reads bare loops);
+          compiles = loops_compile program plan.schedule loops (within_never_stuck text program reads bare within none) legal;
+        };
+        loops = refl;
+        printed = printed;
+        plain = bare;
+        within = within;
+        planned = planned;
+        legal = legal;
+        no_temporaries = none;
+        no_folds = whole;
+        no_report = empty;
+      }
 
-pub printed_compiles : PrintedCompiles
-printed_compiles text schedule program plan reads bare within none planned whole legal =
-    folds_to text schedule program plan (printed_text (target_program program plan.schedule)) [] reads bare within none planned whole legal refl refl
+  pub printed_compiles : PrintedCompiles
+  printed_compiles text schedule program plan reads bare within none planned whole legal =
+      folds_to text schedule program plan (printed_text (target_program program plan.schedule)) [] reads bare within none planned whole legal refl refl

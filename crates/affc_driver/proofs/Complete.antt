@@ -15,6 +15,7 @@ use Rattle.affc_plain.proofs.Programs.{reads_plain}
 use Rattle.affc_safe.specs.Safe.{IsSafe}
 use Rattle.affc_safe.proofs.FitsThere.{never_stuck_is_safe}
 use Rattle.affc_loops.specs.Loops.{target_program}
+use Rattle.affc_loopprint.specs.Laws.{LoopsWellNamed}
 use Rattle.affc_bounds.specs.Faults.{StaysWithin, IsMeaningFault}
 use Rattle.affc_bounds.proofs.LawProofs.{faults_do_not_stay}
 use Rattle.affc_schedtext.specs.declared.plan.Plan.{Plan}
@@ -43,11 +44,11 @@ stays_within text schedule f = record {
     safe : (p : List ℤ) → IsInContext f.program p → IsSafe f.program p
     safe p here = never_stuck_is_safe f.program p (plain_has_no_locals f.program (reads_plain text f.program f.reads f.plain)) here (f.never_stuck p)
 
-pub foldable_is_folded : FoldableIsFolded
-foldable_is_folded text schedule = (
+pub foldable_is_folded : LoopsWellNamed → FoldableIsFolded
+foldable_is_folded named text schedule = (
   λ f. (
     printed_text (target_program f.program f.plan.schedule),
-    ([], printed_compiles text schedule f.program f.plan f.reads f.plain (stays_within text schedule f) f.no_temporaries f.planned f.no_folds f.legal),
+    ([], printed_compiles named text schedule f.program f.plan f.reads f.plain (stays_within text schedule f) f.no_temporaries f.planned f.no_folds f.legal),
   ),
   λ r.
       let folds : FoldsTo text schedule r.0 r.1.0 = r.1.1 in

@@ -4,3 +4,4 @@ pub mod Compiled
 pub mod Stuck
 pub mod OnePlan
 pub mod Complete
+pub mod Refused

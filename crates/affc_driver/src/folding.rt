@@ -21,6 +21,7 @@ use affc_cprint::print;
 use affc_grammar::laws::reads_counted;
 use affc_lex::lex;
 use affc_lex::token::{Kind, Token};
+use affc_loopprint::laws::loops_well_named;
 use affc_nest::Nest;
 use affc_parse::fault::ParseFault;
 use affc_parse::parse;
@@ -159,6 +160,7 @@ fn finish(alloc: Global, program: &Program, nest: &Nest, plan: &Plan) -> Result<
     if !program.temps.as_slice().is_empty() || !plan.folds.as_slice().is_empty() {
         return Err(Refusal::Unbuilt);
     }
+    loops_well_named();
     let target = scan(alloc, program, nest, &plan.schedule)?;
     match print(alloc, &target) {
         Ok(text) => Ok(Done {

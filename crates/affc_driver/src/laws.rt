@@ -1,6 +1,8 @@
 //! What a compilation's answers say of a source and of its runs. Each law is the contract of a function that does nothing.
 ghost use Rattle.affc_driver.specs.Laws.{ReadsNamingArrays, CompilesItself, WithinNeverStuck, PrintedCompiles, FaultsShow, IllegalShows, FoldableIsFolded, FoldableIsNotRefused};
 
+use affc_loopprint::laws::loops_well_named;
+
 /// The program that a text reads as names arrays.
 pub fn reads_naming_arrays()
     ensures law { ReadsNamingArrays }
@@ -19,7 +21,9 @@ pub fn within_never_stuck()
 /// What is printed of the loops of a legal schedule compiles the text that the program was read from.
 pub fn printed_compiles()
     ensures law { PrintedCompiles }
-{}
+{
+    loops_well_named();
+}
 
 /// Where a program leaves its arrays it is stuck; where its context is empty no data fit.
 pub fn faults_show()
@@ -35,7 +39,9 @@ pub fn illegal_shows()
 /// folds.
 pub fn foldable_is_folded()
     ensures law { FoldableIsFolded }
-{}
+{
+    loops_well_named();
+}
 
 /// Such a text is refused for want of budget or of memory, and for nothing else.
 pub fn foldable_is_not_refused()

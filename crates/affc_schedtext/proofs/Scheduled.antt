@@ -31,7 +31,7 @@ within [] k x e = absurd (none-some x e)
 within (y ∷ xs) zero x e = omega arith
 within (y ∷ xs) (suc k) x e = let h = within xs k x e in omega (arith, h)
 
-same_found : {A : Type 0} (xs : List A) (k : ℕ) (x y : A) → slice_get xs k ≡ Some x → slice_get xs k ≡ Some y → x ≡ y
+pub same_found : {A : Type 0} (xs : List A) (k : ℕ) (x y : A) → slice_get xs k ≡ Some x → slice_get xs k ≡ Some y → x ≡ y
 same_found {A} xs k x y e q = let both : ◌≡◌ {A = Option A} (Some x) (Some y) = sym e ∙ q in cc
 
 -- ---- Lines of all statements
@@ -52,7 +52,7 @@ all_there (suc n) ns s e h =
 abbrev pub LineOf : Outline → ℕ → List LineDraft → Type 0
 LineOf o s lines = (front : List LineDraft) × (line : LineDraft) × (others : List LineDraft) × (lines ≡ front ++ line ∷ others) × (statement_of o line.name ≡ Some s)
 
-later : (o : Outline) (s : ℕ) (l : LineDraft) (ls : List LineDraft) → LineOf o s ls → LineOf o s (l ∷ ls)
+pub later : (o : Outline) (s : ℕ) (l : LineDraft) (ls : List LineDraft) → LineOf o s ls → LineOf o s (l ∷ ls)
 later o s l ls h = (l ∷ h.0, h.1, h.2, ap (λ xs. l ∷ xs) h.3, h.4)
 
 of_head : (o : Outline) (s : ℕ) (l : LineDraft) (ls : List LineDraft) → (is_in s (statements_in o ls) ≡ true → LineOf o s ls) → (x : Option ℕ) → statement_of o l.name ≡ x
@@ -71,9 +71,9 @@ line_of o s (l ∷ ls) e = of_head o s l ls (line_of o s ls) (statement_of o l.n
 
 pub record Kept (o : Outline) (n : ℕ) (lines : List LineDraft) : Type 0 where
   pub whole : has_all (length o.statements) (statements_in o lines) ≡ true
-  lengths : flat_map (λ (l : LineDraft). at_if (not (length l.forms == n)) l.at) lines ≡ []
-  few : is_length n ≡ true
-  small : flat_map (λ l. large_sides (statement_sides o n l)) lines ≡ []
+  pub lengths : flat_map (λ (l : LineDraft). at_if (not (length l.forms == n)) l.at) lines ≡ []
+  pub few : is_length n ≡ true
+  pub small : flat_map (λ l. large_sides (statement_sides o n l)) lines ≡ []
 
 pub kept : (o : Outline) (tokens at n : ℕ) (lines folds : List LineDraft) → order_breaches o tokens (time at n lines) folds ≡ [] → Kept o n lines
 kept o tokens at n lines folds e =
@@ -101,7 +101,7 @@ kept o tokens at n lines folds e =
 
 -- ---- Maps
 
-columns_over : (c : Columns) (es : List IxDraft) → 1 ≤ length es → columns_of (map (form_over c) es) ≡ c.count
+pub columns_over : (c : Columns) (es : List IxDraft) → 1 ≤ length es → columns_of (map (form_over c) es) ≡ c.count
 columns_over c [] h = absurd (omega (arith, h))
 columns_over c (e ∷ es) h = let w = form_width c.count 0 (over_columns c.scope e) in omega (arith, w)
 
