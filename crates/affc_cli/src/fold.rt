@@ -27,7 +27,7 @@ fn unplanned(
     fault: &SchedFault,
 ) -> Refusal
     requires { HasSchedFault source.now (option_map (λ s. s.now) schedule) fault.now }
-    ensures { TextCause source.now (option_map (λ s. s.now) schedule) budget result }
+    ensures { TextCause source.now (option_map (λ s. s.now) schedule.entry) budget result }
 {
     one_program();
     let program = match program_of(alloc, source) {
@@ -49,7 +49,7 @@ fn meaning(
     fault: &MeaningFault,
 ) -> Refusal
     requires { HasMeaningFault source.now (option_map (λ s. s.now) schedule) fault.now }
-    ensures { TextCause source.now (option_map (λ s. s.now) schedule) budget result }
+    ensures { TextCause source.now (option_map (λ s. s.now) schedule.entry) budget result }
 {
     one_program();
     let program = match program_of(alloc, source) {
@@ -73,7 +73,7 @@ fn illegal(
     b: &Instance,
 ) -> Refusal
     requires { IsIllegal source.now (option_map (λ s. s.now) schedule) p.now a.now b.now }
-    ensures { TextCause source.now (option_map (λ s. s.now) schedule) budget result }
+    ensures { TextCause source.now (option_map (λ s. s.now) schedule.entry) budget result }
 {
     one_program();
     let program = match program_of(alloc, source) {
@@ -96,7 +96,7 @@ fn told(
 ) -> Refusal
     requires says { RefusalSays source.now (option_map (λ s. s.now) schedule) refusal }
     requires counted { refusal ≡ Spent → IsSome budget }
-    ensures { TextCause source.now (option_map (λ s. s.now) schedule) budget result }
+    ensures { TextCause source.now (option_map (λ s. s.now) schedule.entry) budget result }
 {
     match refusal {
         FoldRefusal::Source(fault) => Refusal::Source(fault),
@@ -120,8 +120,8 @@ pub fn fold(
     schedule: Option<&[u8]>,
     budget: Option<u64>,
 ) -> Result<Vec<u8>, Refusal>
-    ensures ok { IfOk result (λ text. FoldsTo source.now (option_map (λ s. s.now) schedule) text.items []) }
-    ensures err { IfErr result (TextCause source.now (option_map (λ s. s.now) schedule) budget) }
+    ensures ok { IfOk result (λ text. FoldsTo source.now (option_map (λ s. s.now) schedule.entry) text.items []) }
+    ensures err { IfErr result (TextCause source.now (option_map (λ s. s.now) schedule.entry) budget) }
 {
     let mut units = Budget::new(budget);
     match affc_driver::fold(alloc, source, schedule, &mut units) {

@@ -1,5 +1,6 @@
 -- What each refusal says of all texts of a program.
-use Rattle.std.proofs.Common.{◌≡◌, ◌≢◌, ◌⊎◌, ℕ, ℤ, IsTrue, List, [], Option, Some, refl}
+use Rattle.std.proofs.Common.{◌≡◌, ◌≢◌, ◌⊎◌, ◌∙◌, ◌==◌, ℕ, ℤ, Bool, false, IsTrue, List, [], length, Option, Some, refl, sym, ap}
+use Rattle.std.proofs.lemmas.Bool.{false≢true}
 use Rattle.affc_ast.specs.declared.tree.Instance.{Instance}
 use Rattle.affc_ast.specs.declared.tree.Program.{Program}
 use Rattle.affc_trace.specs.declared.schedule.Schedule.{Schedule}
@@ -32,7 +33,7 @@ no_plan program text fault other is source reads bare = record {
   is_fault = other;
 }
 
-planned : (program : Program) (plan : Plan) (schedule : Option (List ℕ)) → HasPlan program schedule plan → OfEachText program (λ text. IsPlanned text schedule)
+abbrev planned : (program : Program) (plan : Plan) (schedule : Option (List ℕ)) → HasPlan program schedule plan → OfEachText program (λ text. IsPlanned text schedule)
 planned program plan schedule has text reads bare = record { tree = program; reads = reads; plain = bare; plan = plan; planned = has }
 
 pub meant : (program : Program) (fault : MeaningFault) → IsMeaningFault program fault
@@ -78,3 +79,7 @@ unbuilt program plan within legal more schedule has source reads bare = record {
   legal = legal;
   more = more;
 }
+
+-- a list that was looked at and isn't empty
+pub some_there : {A : Type 0} (xs seen : List A) (is_empty : Bool) → seen ≡ xs → is_empty ≡ (length seen == 0) → is_empty ≡ false → xs ≢ []
+some_there xs seen is_empty same is off none = absurd (false≢true (sym off ∙ is ∙ ap (λ l. length l == 0) (same ∙ none)))

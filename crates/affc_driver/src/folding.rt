@@ -83,8 +83,8 @@ fn printed(alloc: Global, source: &[u8]) -> Refusal
 fn plan_of(alloc: Global, program: &Program, schedule: Option<&[u8]>) -> Result<Plan, Refusal>
     requires plain { IsPlain program.now }
     requires counted { IsCounted program.now }
-    ensures planned { IfOk result (HasPlan program.now (option_map (λ t. t.now) schedule)) }
-    ensures err { IfErr result (λ refusal. OfEachText program.now (λ text. RefusalSays text (option_map (λ t. t.now) schedule) refusal)) }
+    ensures planned { IfOk result (HasPlan program.now (option_map (λ t. t.now) schedule.entry)) }
+    ensures err { IfErr result (λ refusal. OfEachText program.now (λ text. RefusalSays text (option_map (λ t. t.now) schedule.entry) refusal)) }
     ensures free { IfErr result (λ refusal. refusal ≢ Refusal.Budget) }
 {
     let Some(text) = schedule else {
@@ -157,7 +157,10 @@ fn finish(alloc: Global, program: &Program, nest: &Nest, plan: &Plan) -> Result<
     ensures err { IfErr result (λ refusal. OfEachPlan program.now plan.now (λ text schedule. RefusalSays text schedule refusal)) }
     ensures free { IfErr result (λ refusal. refusal ≢ Refusal.Budget) }
 {
-    if !program.temps.as_slice().is_empty() || !plan.folds.as_slice().is_empty() {
+    if !program.temps.as_slice().is_empty() {
+        return Err(Refusal::Unbuilt);
+    }
+    if !plan.folds.as_slice().is_empty() {
         return Err(Refusal::Unbuilt);
     }
     loops_well_named();
@@ -171,8 +174,32 @@ fn finish(alloc: Global, program: &Program, nest: &Nest, plan: &Plan) -> Result<
     }
 }
 
-// What is made of a plain program: its plan comes first, then its meaning, then the order.
+// What is made of a plain program by its plan: its meaning is looked at first, then the order.
 fn compile(
+    alloc: Global,
+    program: &Program,
+    plan: &Plan,
+    budget: &mut Budget,
+) -> Result<Done, Refusal>
+    requires plain { IsPlain program.now }
+    requires arrays { NamesArrays program.now }
+    requires fits { IsScheduleOf program.now plan.now.schedule }
+    requires slight { IsTrue (within_limits plan.now.schedule) }
+    ensures ok { IfOk result (λ done. OfEachPlan program.now plan.now (λ text schedule. FoldsTo text schedule done.text.items done.report.items)) }
+    ensures err { IfErr result (λ refusal. OfEachPlan program.now plan.now (λ text schedule. RefusalSays text schedule refusal)) }
+    ensures later { IsLater budget.old budget.new }
+    ensures stop { IfErr result (λ refusal. refusal ≡ Refusal.Budget → budget.new.limit ≡ Some budget.new.spent) }
+{
+    let nest = match nest_within(alloc, program, budget) {
+        Ok(nest) => nest,
+        Err(refusal) => return Err(refusal),
+    };
+    in_order(alloc, program, &nest, plan, budget)?;
+    finish(alloc, program, &nest, plan)
+}
+
+// What is made of a plain program with a schedule, whose text is read first.
+fn compile_with(
     alloc: Global,
     program: &Program,
     schedule: Option<&[u8]>,
@@ -181,15 +208,13 @@ fn compile(
     requires plain { IsPlain program.now }
     requires counted { IsCounted program.now }
     requires arrays { NamesArrays program.now }
-    ensures ok { IfOk result (λ done. OfEachText program.now (λ text. FoldsTo text (option_map (λ t. t.now) schedule) done.text.items done.report.items)) }
-    ensures err { IfErr result (λ refusal. OfEachText program.now (λ text. RefusalSays text (option_map (λ t. t.now) schedule) refusal)) }
+    ensures ok { IfOk result (λ done. OfEachText program.now (λ text. FoldsTo text (option_map (λ t. t.now) schedule.entry) done.text.items done.report.items)) }
+    ensures err { IfErr result (λ refusal. OfEachText program.now (λ text. RefusalSays text (option_map (λ t. t.now) schedule.entry) refusal)) }
     ensures later { IsLater budget.old budget.new }
     ensures stop { IfErr result (λ refusal. refusal ≡ Refusal.Budget → budget.new.limit ≡ Some budget.new.spent) }
 {
     let plan = plan_of(alloc, program, schedule)?;
-    let nest = nest_within(alloc, program, budget)?;
-    in_order(alloc, program, &nest, &plan, budget)?;
-    finish(alloc, program, &nest, &plan)
+    compile(alloc, program, &plan, budget)
 }
 
 /// The text that does what the source does, in the order of the schedule, or why there is none. A unit of the budget is
@@ -200,8 +225,8 @@ pub fn fold(
     schedule: Option<&[u8]>,
     budget: &mut Budget,
 ) -> Result<Done, Refusal>
-    ensures ok { IfOk result (λ done. FoldsTo source.now (option_map (λ t. t.now) schedule) done.text.items done.report.items) }
-    ensures err { IfErr result (RefusalSays source.now (option_map (λ t. t.now) schedule)) }
+    ensures ok { IfOk result (λ done. FoldsTo source.now (option_map (λ t. t.now) schedule.entry) done.text.items done.report.items) }
+    ensures err { IfErr result (RefusalSays source.now (option_map (λ t. t.now) schedule.entry)) }
     ensures limit { budget.new.limit ≡ budget.old.limit }
     ensures grows { budget.old.spent ≤ budget.new.spent }
     ensures uncounted { IsNone budget.old.limit → budget.new.spent ≡ budget.old.spent }
@@ -213,7 +238,7 @@ pub fn fold(
             if program.prelude {
                 return Err(printed(alloc, source));
             }
-            compile(alloc, &program, schedule, budget)
+            compile_with(alloc, &program, schedule, budget)
         }
         Err(fault) => Err(unread(fault)),
     }
