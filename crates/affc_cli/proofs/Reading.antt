@@ -48,7 +48,7 @@ run_caused source feed limit before now t (Err refusal) cause = caused source fe
 
 -- ---- The source, and the schedule where there is one
 
-pub source_alone : (held : Option Files) (source s s' : List ℕ) → Holds held source s → s' ≡ s → FoldTexts held source None
+abbrev pub source_alone : (held : Option Files) (source s s' : List ℕ) → Holds held source s → s' ≡ s → FoldTexts held source None
 source_alone held source s s' has is = record {
   source_text = s';
   source_held = subst (Holds held source) (sym is) has;
@@ -56,7 +56,7 @@ source_alone held source s s' has is = record {
   schedule_held = refl;
 }
 
-pub with_schedule : (held later : Option Files) (source schedule s s' f f' : List ℕ) → Holds held source s → s' ≡ s → later ≡ held → Holds later schedule f → f' ≡ f
+abbrev pub with_schedule : (held later : Option Files) (source schedule s s' f f' : List ℕ) → Holds held source s → s' ≡ s → later ≡ held → Holds later schedule f → f' ≡ f
     → FoldTexts held source (Some schedule)
 with_schedule held later source schedule s s' f f' has_source is same has_schedule is' = record {
   source_text = s';

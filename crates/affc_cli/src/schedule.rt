@@ -24,7 +24,9 @@ fn inverse_line(alloc: Global, statement: u32, component: u32) -> Result<String,
     ensures { IfOk result (λ line. string_bytes line ≡ codes "affc: schedule: inverse of S" ++ decimal statement ++ codes " component " ++ decimal component) }
 {
     let mut line = String::from_str(alloc, "affc: schedule: inverse of S")?;
-    write!(line, "{statement} component {component}")?;
+    write!(line, "{statement}")?;
+    line.push_str(" component ")?;
+    write!(line, "{component}")?;
     Ok(line)
 }
 
@@ -39,7 +41,8 @@ fn basis_line(
 {
     let mut line = String::from_str(alloc, "affc: schedule: basis of ")?;
     line.push_str(array_name(program, array))?;
-    write!(line, " component {component}")?;
+    line.push_str(" component ")?;
+    write!(line, "{component}")?;
     Ok(line)
 }
 

@@ -10,7 +10,7 @@ pub returns : goal.returns
 returns c =
     let start_is : app_of c.disable_help_flag.result ≡ app_with (codes "fold") [] = search rules in
     let source_is : rule_of c.required.result ≡ operand_rule (codes "source") = search rules in
-    let schedule_is : rule_of c.new-2.result ≡ further_rule (codes "schedule") = search rules in
+    let schedule_is : rule_of c.new-3.result ≡ further_rule (codes "schedule") = search rules in
     let budget_is : rule_of c.long.result ≡ option_rule (codes "budget") = search rules in
     IfOk-weaker c.arg-3.result _ _ (λ r h. h.shape (search rules)
     ∙ ap₂ with_rule (c.in_ok-arg-2.ensures.shape (search rules) ∙ ap₂ with_rule (c.in_ok-arg.ensures.shape (search rules) ∙ ap₂ with_rule start_is source_is) schedule_is) budget_is)

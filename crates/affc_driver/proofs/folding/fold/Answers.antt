@@ -1,3 +1,4 @@
+use Rattle.std.specs.Prelude.{option_map}
 use Rattle.affc_plain.proofs.Programs.{reads_plain}
 use Rattle.affc_driver.proofs.Ranked.{reads_naming_arrays}
 use Rattle.affc_driver.proofs.folding.fold.Goals as goal
@@ -10,3 +11,6 @@ compile_with-requires-clause-arrays c = reads_naming_arrays c.args.source.now c.
 
 pub returns-in-Err-clause-err : goal.returns-in-Err-clause-err
 returns-in-Err-clause-err c = c.unread.ensures.says c.args.source.now _ c.in-Err.ensures
+
+pub returns-then-program-clause-err : goal.returns-then-program-clause-err
+returns-then-program-clause-err c = c.printed.ensures.says (option_map (λ t. t.now) c.args.schedule)

@@ -2,8 +2,9 @@ use Rattle.affc_driver.proofs.Refused.{asked, asked_for, turned}
 use Rattle.affc_driver.proofs.folding.in_order.Goals as goal
 
 pub legal-requires : goal.legal-requires
-legal-requires c =
-    asked c.args.program.now c.args.nest.now c.args.plan.now.schedule c.requires.plain c.requires.arrays c.requires.nest c.requires.within c.requires.fits c.requires.slight
+legal-requires c = record {
+  asked = asked c.args.program.now c.args.nest.now c.args.plan.now.schedule c.requires.plain c.requires.arrays c.requires.nest c.requires.within c.requires.fits c.requires.slight;
+}
 
 pub returns-in-Ok-clause-legal : goal.returns-in-Ok-clause-legal
 returns-in-Ok-clause-legal c =
