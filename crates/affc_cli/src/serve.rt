@@ -105,11 +105,7 @@ fn ran<F: Folder>(
 }
 
 // The file that a refusal of `fold` means.
-fn fold_file<'a>(
-    made: &Result<Vec<u8>, Refusal>,
-    source: &'a str,
-    schedule: &'a str,
-) -> &'a str
+fn fold_file<'a>(made: &Result<Vec<u8>, Refusal>, source: &'a str, schedule: &'a str) -> &'a str
     ensures { IfErr made.now (λ refusal. result.now ≡ fold_file refusal source.now (Some schedule.now)) }
 {
     match made {

@@ -51,7 +51,12 @@ impl Folder for ShortFolder {
 fn files_that_are_not_read_are_named(rt: HostRuntime) -> Result<(), Fail> {
     let alloc = rt.alloc();
     let long = vec![in alloc; b' '; 67_108_865]?;
-    let mut folder = folder_of(alloc, COPY.as_bytes().to_vec(alloc)?, long, &[0, 2, 4, 7, 9])?;
+    let mut folder = folder_of(
+        alloc,
+        COPY.as_bytes().to_vec(alloc)?,
+        long,
+        &[0, 2, 4, 7, 9],
+    )?;
     let rows = [
         ("fold a.c", "affc: read a.c\n"),
         ("fold a.data", "affc: too long a.data\n"),

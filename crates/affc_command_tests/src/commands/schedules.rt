@@ -222,17 +222,17 @@ const PLANS: [(&str, &str, &str, u8, &str, &str); 32] = [
         "",
         "affc: budget\n",
     ),
-    (
-        "fold a.c --budget=1000000 a.data",
-        SUMS,
-        WAVE,
-        0,
-        WAVES,
-        "",
-    ),
+    ("fold a.c --budget=1000000 a.data", SUMS, WAVE, 0, WAVES, ""),
     // ---- Words
     ("fold a.c a.data b", COPY, "", 2, "", "affc: words\n"),
-    ("fold a.c a.data --steps 1", COPY, "", 2, "", "affc: words\n"),
+    (
+        "fold a.c a.data --steps 1",
+        COPY,
+        "",
+        2,
+        "",
+        "affc: words\n",
+    ),
     ("fold a.c -- a.data", COPY, "source;", 0, COPIED, ""),
     ("fold a.c -a.data", COPY, "source;", 2, "", "affc: words\n"),
 ];
