@@ -1,6 +1,6 @@
 #!/bin/sh
-# Writes the sources, data and outputs of this folder, and what is compiled of each source, as the texts that the tests
-# of affc_command_tests run.
+# Writes the sources, data and outputs of this folder, what is compiled of each source, and a schedule with its loops, as
+# the texts that the tests of affc_command_tests run.
 # With `--check` it only says whether those are up to date.
 cd "$(dirname "$0")" || exit 1
 table=../crates/affc_command_tests/src/commands/kernels.rt
@@ -14,9 +14,9 @@ literal() {
 
 texts() {
     cat <<'END'
-// The kernels of examples/, each with its source, its data, what its run gives, and its compiled text or nothing where
-// it can't be compiled yet; written by examples/texts.sh.
-pub const KERNELS: [(&str, &str, &str, &str); COUNT] = [
+// The kernels of examples/, each with its source, its data, what its run gives, its compiled text or nothing where it
+// can't be compiled yet, and a schedule with its compiled text, or nothing; written by examples/texts.sh.
+pub const KERNELS: [(&str, &str, &str, &str, &str, &str); COUNT] = [
 END
     for source in *.c; do
         name=${source%.c}
@@ -24,7 +24,9 @@ END
         literal "$name.c"
         literal "$name.data"
         literal "$name.out"
-        if [ -f "$name.fold" ]; then literal "$name.fold"; else printf '        "",\n'; fi
+        for part in fold s loops; do
+            if [ -f "$name.$part" ]; then literal "$name.$part"; else printf '        "",\n'; fi
+        done
         printf '    ),\n'
     done
     printf '];\n'

@@ -27,7 +27,7 @@ use Rattle.affc_cli.proofs.Clap.Levels.{first, not_value, no_default, no_default
 -- ---- The rules as building leaves them
 
 abbrev pub fold_rules : List Rule
-fold_rules = plain_rule (codes "source") None (Some 1) true ∷ plain_rule (codes "budget") (Some (codes "budget")) None false ∷ []
+fold_rules = plain_rule (codes "source") None (Some 1) true ∷ plain_rule (codes "schedule") None (Some 2) false ∷ plain_rule (codes "budget") (Some (codes "budget")) None false ∷ []
 
 abbrev pub run_rules : List Rule
 run_rules = plain_rule (codes "source") None (Some 1) true ∷ plain_rule (codes "data") None (Some 2) true ∷ plain_rule (codes "steps") (Some (codes "steps")) None false ∷ []
@@ -35,7 +35,7 @@ run_rules = plain_rule (codes "source") None (Some 1) true ∷ plain_rule (codes
 -- ---- Where the walks begin
 
 abbrev fold_ids : List Text
-fold_ids = codes "source" ∷ []
+fold_ids = codes "source" ∷ codes "schedule" ∷ []
 
 abbrev fold_names : List Text
 fold_names = codes "budget" ∷ []
@@ -63,7 +63,10 @@ fold_options = record {
 
 fold_stands : Stands fold_rules fold_names [] fold_ids fold_names 1
 fold_stands = record {
-  follow = (record { long = None; index = Some 1; required = true; by_index = refl; by_id = refl }, refl);
+  follow = (
+    record { long = None; index = Some 1; required = true; by_index = refl; by_id = refl },
+    (record { long = None; index = Some 2; required = false; by_index = refl; by_id = refl }, refl),
+  );
   distinct = refl;
   apart = λ x has. subst (λ (n : Text). among n fold_ids ≡ false) (only (codes "budget") x has) refl;
   left = λ x. sym (and_true (among x fold_names));
@@ -94,13 +97,16 @@ run_stands = record {
 fold_defaults : HasNoDefaults (codes "fold") fold_rules
 unfolding defaults_fault
 fold_defaults rows =
-    let first_kept = no_default (codes "source") None (Some 1) true rows in (
+    let first_kept = no_default (codes "source") None (Some 1) true rows in
+    let second_kept = no_default (codes "schedule") None (Some 2) false rows in (
       rw (
         no_default_fault (codes "source") None (Some 1) true rows,
         first_kept,
+        no_default_fault (codes "schedule") None (Some 2) false rows,
+        second_kept,
         no_default_fault (codes "budget") (Some (codes "budget")) None false rows,
       ) refl,
-      rw (first_kept, no_default (codes "budget") (Some (codes "budget")) None false rows) refl,
+      rw (first_kept, second_kept, no_default (codes "budget") (Some (codes "budget")) None false rows) refl,
     )
 
 run_defaults : HasNoDefaults (codes "run") run_rules
@@ -138,8 +144,9 @@ run_wants_data rows e f none = let bad = rw (e, f) at none in cc
 -- ---- Each form's clap command, against the definition
 
 pub data FoldReads (ws : List Text) : Type 0 where
-  fold_taken : (source : Text) (budget : Option Text) → fault_of fold_app ws ≡ [] → first_of (codes "source") (matches_of fold_app ws) ≡ Some source
-      → first_of (codes "budget") (matches_of fold_app ws) ≡ budget → answer (codes "fold") ws ≡ option_map (Fold source) (budget_of budget) → FoldReads ws
+  fold_taken : (source : Text) (schedule budget : Option Text) → fault_of fold_app ws ≡ [] → first_of (codes "source") (matches_of fold_app ws) ≡ Some source
+      → first_of (codes "schedule") (matches_of fold_app ws) ≡ schedule → first_of (codes "budget") (matches_of fold_app ws) ≡ budget
+      → answer (codes "fold") ws ≡ option_map (Fold source schedule) (budget_of budget) → FoldReads ws
   fold_refused : (fault_of fold_app ws ≡ [] → ⊥) → answer (codes "fold") ws ≡ None → FoldReads ws
 
 abbrev fold_rows : List Text → List Row
@@ -152,7 +159,7 @@ fold_matches : (ws : List Text) → matches_of fold_app ws ≡ fold_rows ws
 fold_matches ws = (fold_defaults (fold_rows ws)).1
 
 module _ (ws : List Text) (faultless : faults (codes "fold") fold_rules first ws ≡ []) where
-  fold_by : (operands : List Text) (options : Uses) → parts_of None ws ≡ Some (record { operands = operands; options = options }) → length operands ≤ 1 → are_options fold_names options ≡ true
+  fold_by : (operands : List Text) (options : Uses) → parts_of None ws ≡ Some (record { operands = operands; options = options }) → length operands ≤ 2 → are_options fold_names options ≡ true
       → ((x : Text) → first_of x (fold_rows ws) ≡ value_of x (paired fold_ids operands ++ options))
       → ((x : Text) → is_given_row x (fold_rows ws) ≡ is_some (value_of x (paired fold_ids operands ++ options)))
       → FoldReads ws
@@ -160,26 +167,37 @@ module _ (ws : List Text) (faultless : faults (codes "fold") fold_rules first ws
       let none = not_value (codes "source") fold_names options fit refl in
       fold_refused (λ e. fold_wants (fold_rows ws) (is_found (codes "source") ∙ ap is_some none) (sym (level-faultless (codes "fold") fold_rules ws faultless) ∙ (sym (fold_fault ws) ∙ e))) (rw is refl)
   fold_by (source ∷ []) options is short fit found is_found =
-      fold_taken source (value_of (codes "budget") options)
+      let none = not_value (codes "schedule") fold_names options fit refl in
+      fold_taken source None (value_of (codes "budget") options)
       (fold_fault ws ∙ level-faultless (codes "fold") fold_rules ws faultless ∙ fold_met (fold_rows ws) (is_found (codes "source")))
       (ap (first_of (codes "source")) (fold_matches ws) ∙ found (codes "source"))
+      (ap (first_of (codes "schedule")) (fold_matches ws) ∙ found (codes "schedule") ∙ none)
       (ap (first_of (codes "budget")) (fold_matches ws) ∙ found (codes "budget"))
       (rw (is, fit) refl)
-  fold_by (source ∷ more ∷ operands) options is short fit found is_found = absurd (omega arith)
+  fold_by (source ∷ schedule ∷ []) options is short fit found is_found =
+      fold_taken source (Some schedule) (value_of (codes "budget") options)
+      (fold_fault ws ∙ level-faultless (codes "fold") fold_rules ws faultless ∙ fold_met (fold_rows ws) (is_found (codes "source")))
+      (ap (first_of (codes "source")) (fold_matches ws) ∙ found (codes "source"))
+      (ap (first_of (codes "schedule")) (fold_matches ws) ∙ found (codes "schedule"))
+      (ap (first_of (codes "budget")) (fold_matches ws) ∙ found (codes "budget"))
+      (rw (is, fit) refl)
+  fold_by (source ∷ schedule ∷ more ∷ operands) options is short fit found is_found = absurd (omega arith)
 
 pub fold_reads : (ws : List Text) → is_clean ws ≡ true → FoldReads ws
 fold_reads ws clean = go (read (codes "fold") fold_rules fold_ids fold_names ws fold_options fold_stands clean)
   where
-    unfit : (operands : List Text) (options : Uses) → (length operands ≤ 1 → are_options fold_names options ≡ true → ⊥) → fold_of operands options ≡ None
-    unfit [] options bad = refl
-    unfit (source ∷ []) options bad = go (are_options fold_names options) (bad (omega arith))
-      where
-        go : (b : Bool) → (b ≡ true → ⊥) → cond b (option_map (Fold source) (budget_of (value_of (codes "budget") options))) None ≡ None
-        go true bad = absurd (bad refl)
-        go false bad = refl
-    unfit (source ∷ more ∷ operands) options bad = refl
+    with_options : (source : Text) (schedule : Option Text) (options : Uses) (b : Bool) → (b ≡ true → ⊥)
+        → cond b (option_map (Fold source schedule) (budget_of (value_of (codes "budget") options))) None ≡ None
+    with_options source schedule options true bad = absurd (bad refl)
+    with_options source schedule options false bad = refl
 
-    none : (o : Option Parts) → ((q : Parts) → o ≡ Some q → length q.operands ≤ 1 → are_options fold_names q.options ≡ true → ⊥) → option_and_then (form_of (codes "fold")) o ≡ None
+    unfit : (operands : List Text) (options : Uses) → (length operands ≤ 2 → are_options fold_names options ≡ true → ⊥) → fold_of operands options ≡ None
+    unfit [] options bad = refl
+    unfit (source ∷ []) options bad = with_options source None options (are_options fold_names options) (bad (omega arith))
+    unfit (source ∷ schedule ∷ []) options bad = with_options source (Some schedule) options (are_options fold_names options) (bad (omega arith))
+    unfit (source ∷ schedule ∷ more ∷ operands) options bad = refl
+
+    none : (o : Option Parts) → ((q : Parts) → o ≡ Some q → length q.operands ≤ 2 → are_options fold_names q.options ≡ true → ⊥) → option_and_then (form_of (codes "fold")) o ≡ None
     none None bad = refl
     none (Some q) bad = unfit q.operands q.options (bad q refl)
 
@@ -254,22 +272,24 @@ pub fold_none : (ws : List Text) → is_clean ws ≡ true → Parses fold_app ws
 fold_none ws clean fails = go (fold_reads ws clean)
   where
     go : FoldReads ws → answer (codes "fold") ws ≡ None
-    go (fold_taken source budget fault is_source is_budget is) = absurd (fails fault)
+    go (fold_taken source schedule budget fault is_source is_schedule is_budget is) = absurd (fails fault)
     go (fold_refused fault is) = is
 
 pub record FoldFinds (ws : List Text) (f : Found) : Type 0 where
   pub source : Text
   pub is_source : first_value f (codes "source") ≡ Some source
-  pub is : answer (codes "fold") ws ≡ option_map (Fold source) (budget_of (first_value f (codes "budget")))
+  pub is : answer (codes "fold") ws ≡ option_map (Fold source (first_value f (codes "schedule"))) (budget_of (first_value f (codes "budget")))
 
 pub fold_some : (ws : List Text) (m : ArgMatches) → is_clean ws ≡ true → Parses fold_app ws (Some m) → FoldFinds ws (found_of m)
 fold_some ws m clean parses = go (fold_reads ws clean)
   where
     go : FoldReads ws → FoldFinds ws (found_of m)
-    go (fold_taken source budget fault is_source is_budget is) = record {
+    go (fold_taken source schedule budget fault is_source is_schedule is_budget is) = record {
       source = source;
       is_source = text_at (found_of m) fold_app ws (codes "source") (Some source) parses.1 is_source;
-      is = is ∙ ap (λ o. option_map (Fold source) (budget_of o)) (sym (text_at (found_of m) fold_app ws (codes "budget") budget parses.1 is_budget));
+      is = is ∙ ap₂ (λ s o. option_map (Fold source s) (budget_of o))
+          (sym (text_at (found_of m) fold_app ws (codes "schedule") schedule parses.1 is_schedule))
+          (sym (text_at (found_of m) fold_app ws (codes "budget") budget parses.1 is_budget));
     }
     go (fold_refused fault is) = absurd (fault parses.0)
 
@@ -310,18 +330,19 @@ module _ (ws : List Text) (f : Found) where
   pub fold_missing : FoldFinds ws f → None ≡ first_value f (codes "source") → None ≡ answer (codes "fold") ws
   fold_missing finds none = absurd (no_text finds.source (none ∙ finds.is_source))
 
-  fold_answer_is : (source : Text) (budget : Option (Option ℕ)) → FoldFinds ws f → Some source ≡ first_value f (codes "source")
-      → budget ≡ budget_of (first_value f (codes "budget")) → option_map (Fold source) budget ≡ answer (codes "fold") ws
-  fold_answer_is source budget finds is_source is_budget =
-      ap (λ s. option_map (Fold s) budget) (some_text (is_source ∙ finds.is_source)) ∙ ap (option_map (Fold finds.source)) is_budget ∙ sym finds.is
+  fold_answer_is : (source : Text) (schedule : Option Text) (budget : Option (Option ℕ)) → FoldFinds ws f → Some source ≡ first_value f (codes "source")
+      → schedule ≡ first_value f (codes "schedule") → budget ≡ budget_of (first_value f (codes "budget")) → option_map (Fold source schedule) budget ≡ answer (codes "fold") ws
+  fold_answer_is source schedule budget finds is_source is_schedule is_budget =
+      ap₂ (λ s o. option_map (Fold s o) budget) (some_text (is_source ∙ finds.is_source)) is_schedule
+      ∙ ap (option_map (Fold finds.source (first_value f (codes "schedule")))) is_budget ∙ sym finds.is
 
-  pub fold_no_budget : (source : Text) → FoldFinds ws f → Some source ≡ first_value f (codes "source")
-      → None ≡ budget_of (first_value f (codes "budget")) → None ≡ answer (codes "fold") ws
-  fold_no_budget source = fold_answer_is source None
+  pub fold_no_budget : (source : Text) (schedule : Option Text) → FoldFinds ws f → Some source ≡ first_value f (codes "source")
+      → schedule ≡ first_value f (codes "schedule") → None ≡ budget_of (first_value f (codes "budget")) → None ≡ answer (codes "fold") ws
+  fold_no_budget source schedule = fold_answer_is source schedule None
 
-  pub fold_answer : (source : Text) (budget : Option ℕ) → FoldFinds ws f → Some source ≡ first_value f (codes "source")
-      → Some budget ≡ budget_of (first_value f (codes "budget")) → Some (Fold source budget) ≡ answer (codes "fold") ws
-  fold_answer source budget = fold_answer_is source (Some budget)
+  pub fold_answer : (source : Text) (schedule : Option Text) (budget : Option ℕ) → FoldFinds ws f → Some source ≡ first_value f (codes "source")
+      → schedule ≡ first_value f (codes "schedule") → Some budget ≡ budget_of (first_value f (codes "budget")) → Some (Fold source schedule budget) ≡ answer (codes "fold") ws
+  fold_answer source schedule budget = fold_answer_is source schedule (Some budget)
 
   pub run_no_source : RunFinds ws f → None ≡ first_value f (codes "source") → None ≡ answer (codes "run") ws
   run_no_source finds none = absurd (no_text finds.source (none ∙ finds.is_source))

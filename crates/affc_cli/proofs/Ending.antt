@@ -7,11 +7,11 @@ use Rattle.affc_io.specs.Taken.{grown}
 use Rattle.affc_cli.specs.Command.{Command, Fold, Run, command_of}
 use Rattle.affc_cli.specs.Outside.{Outside, Keeps, Told, IsRead, IsReadAtMost}
 use Rattle.affc_cli.specs.Promise.{FoldPromises, RunPromises, Promises, Cause, files_of, statuses_of, refusal_line, WrittenInPart, Runs, IsSaid, WordsRefused, Serves}
-use Rattle.affc_cli.specs.Refusal.{status_of, line_of, FoldCause, RunCause, file_of}
+use Rattle.affc_cli.specs.Refusal.{status_of, line_of, FoldCause, fold_file, RunCause, file_of}
 use Rattle.affc_cli.specs.Telling.{IsTold, IsPut, IsPutShort, IsPutFailed, Ends, HasRead}
 use Rattle.affc_cli.specs.declared.refusal.Operand.TheVariants as operand
 use Rattle.affc_cli.specs.declared.refusal.Refusal.{Refusal}
-use Rattle.affc_cli.specs.declared.refusal.Refusal.TheVariants.{Words, Unread, Source, Printed, Meaning, Stuck, Budget, Memory, Steps, Data, Unbuilt}
+use Rattle.affc_cli.specs.declared.refusal.Refusal.TheVariants.{Words, Unread, Source, Printed, Schedule, Meaning, Stuck, Illegal, Budget, Memory, Steps, Data, Unbuilt}
 use Rattle.affc_cli.proofs.Telling.{grown-nil}
 
 -- ---- Statuses and lines
@@ -21,8 +21,10 @@ not_zero Words e = absurd (omega arith)
 not_zero (Unread file why) e = absurd (omega arith)
 not_zero (Source fault) e = absurd (omega arith)
 not_zero (Printed place) e = absurd (omega arith)
+not_zero (Schedule line) e = absurd (omega arith)
 not_zero (Meaning line) e = absurd (omega arith)
 not_zero (Stuck line) e = absurd (omega arith)
+not_zero (Illegal line) e = absurd (omega arith)
 not_zero Budget e = absurd (omega arith)
 not_zero Memory e = absurd (omega arith)
 not_zero Steps e = absurd (omega arith)
@@ -34,8 +36,10 @@ not_ten Words e = absurd (omega arith)
 not_ten (Unread file why) e = absurd (omega arith)
 not_ten (Source fault) e = absurd (omega arith)
 not_ten (Printed place) e = absurd (omega arith)
+not_ten (Schedule line) e = absurd (omega arith)
 not_ten (Meaning line) e = absurd (omega arith)
 not_ten (Stuck line) e = absurd (omega arith)
+not_ten (Illegal line) e = absurd (omega arith)
 not_ten Budget e = absurd (omega arith)
 not_ten Memory e = absurd (omega arith)
 not_ten Steps e = absurd (omega arith)
@@ -47,8 +51,10 @@ is_memory Words e = absurd (omega arith)
 is_memory (Unread file why) e = absurd (omega arith)
 is_memory (Source fault) e = absurd (omega arith)
 is_memory (Printed place) e = absurd (omega arith)
+is_memory (Schedule line) e = absurd (omega arith)
 is_memory (Meaning line) e = absurd (omega arith)
 is_memory (Stuck line) e = absurd (omega arith)
+is_memory (Illegal line) e = absurd (omega arith)
 is_memory Budget e = absurd (omega arith)
 is_memory Memory e = refl
 is_memory Steps e = absurd (omega arith)
@@ -56,15 +62,15 @@ is_memory (Data number) e = absurd (omega arith)
 is_memory Unbuilt e = absurd (omega arith)
 
 memory_line : (command : Command) (name : List ℕ) → line_of Memory name ≡ refusal_line command Memory
-memory_line (Fold source budget) name = refl
+memory_line (Fold source schedule budget) name = refl
 memory_line (Run source feed limit) name = refl
 
 short_line : (command : Command) → refusal_line command Memory ≡ line_of Memory []
-short_line (Fold source budget) = refl
+short_line (Fold source schedule budget) = refl
 short_line (Run source feed limit) = refl
 
 memory_cause : (command : Command) (before now : FolderState) → Cause command Memory before now
-memory_cause (Fold source budget) before now = tt
+memory_cause (Fold source schedule budget) before now = tt
 memory_cause (Run source feed limit) before now = tt
 
 -- want of memory in place of a refusal
@@ -72,36 +78,43 @@ memory_reads : (command : Command) (before now : FolderState) → IsReadAtMost (
 memory_reads command before now few = record { exact = λ other. absurd (other refl); few = few }
 
 ends_with_0 : (command : Command) → Contains (statuses_of command) 0
-ends_with_0 (Fold source budget) = (0, lit< tt, refl)
+ends_with_0 (Fold source schedule budget) = (0, lit< tt, refl)
 ends_with_0 (Run source feed limit) = (0, lit< tt, refl)
 
 ends_with_9 : (command : Command) → Contains (statuses_of command) 9
-ends_with_9 (Fold source budget) = (5, lit< tt, refl)
+ends_with_9 (Fold source schedule budget) = (7, lit< tt, refl)
 ends_with_9 (Run source feed limit) = (4, lit< tt, refl)
 
 ends_with_10 : (command : Command) → Contains (statuses_of command) 10
-ends_with_10 (Fold source budget) = (6, lit< tt, refl)
+ends_with_10 (Fold source schedule budget) = (8, lit< tt, refl)
 ends_with_10 (Run source feed limit) = (5, lit< tt, refl)
 
 ends_with : (command : Command) (refusal : Refusal) (before now : FolderState) → Cause command refusal before now → Contains (statuses_of command) (status_of refusal)
-ends_with (Fold source budget) Words before now cause = absurd cause
-ends_with (Fold source budget) (Unread operand.Source why) before now cause = (1, lit< tt, refl)
-ends_with (Fold source budget) (Unread operand.Data why) before now cause = absurd cause
-ends_with (Fold source budget) (Source fault) before now cause = (2, lit< tt, refl)
-ends_with (Fold source budget) (Printed place) before now cause = (2, lit< tt, refl)
-ends_with (Fold source budget) (Meaning line) before now cause = (3, lit< tt, refl)
-ends_with (Fold source budget) (Stuck line) before now cause = absurd cause
-ends_with (Fold source budget) Budget before now cause = (4, lit< tt, refl)
-ends_with (Fold source budget) Memory before now cause = (5, lit< tt, refl)
-ends_with (Fold source budget) Steps before now cause = absurd cause
-ends_with (Fold source budget) (Data number) before now cause = absurd cause
-ends_with (Fold source budget) Unbuilt before now cause = (7, lit< tt, refl)
+ends_with (Fold source schedule budget) Words before now cause = absurd cause
+ends_with (Fold source schedule budget) (Unread operand.Source why) before now cause = (1, lit< tt, refl)
+ends_with (Fold source schedule budget) (Unread operand.Schedule why) before now cause = (1, lit< tt, refl)
+ends_with (Fold source schedule budget) (Unread operand.Data why) before now cause = absurd cause
+ends_with (Fold source schedule budget) (Source fault) before now cause = (2, lit< tt, refl)
+ends_with (Fold source schedule budget) (Printed place) before now cause = (2, lit< tt, refl)
+ends_with (Fold source schedule budget) (Schedule line) before now cause = (4, lit< tt, refl)
+ends_with (Fold source schedule budget) (Meaning line) before now cause = (3, lit< tt, refl)
+ends_with (Fold source schedule budget) (Stuck line) before now cause = absurd cause
+ends_with (Fold source schedule budget) (Illegal line) before now cause = (5, lit< tt, refl)
+ends_with (Fold source schedule budget) Budget before now cause = (6, lit< tt, refl)
+ends_with (Fold source schedule budget) Memory before now cause = (7, lit< tt, refl)
+ends_with (Fold source schedule budget) Steps before now cause = absurd cause
+ends_with (Fold source schedule budget) (Data number) before now cause = absurd cause
+ends_with (Fold source schedule budget) Unbuilt before now cause = (9, lit< tt, refl)
 ends_with (Run source feed limit) Words before now cause = absurd cause
-ends_with (Run source feed limit) (Unread file why) before now cause = (1, lit< tt, refl)
+ends_with (Run source feed limit) (Unread operand.Source why) before now cause = (1, lit< tt, refl)
+ends_with (Run source feed limit) (Unread operand.Schedule why) before now cause = absurd cause
+ends_with (Run source feed limit) (Unread operand.Data why) before now cause = (1, lit< tt, refl)
 ends_with (Run source feed limit) (Source fault) before now cause = (2, lit< tt, refl)
 ends_with (Run source feed limit) (Printed place) before now cause = absurd cause
+ends_with (Run source feed limit) (Schedule line) before now cause = absurd cause
 ends_with (Run source feed limit) (Meaning line) before now cause = absurd cause
 ends_with (Run source feed limit) (Stuck line) before now cause = (3, lit< tt, refl)
+ends_with (Run source feed limit) (Illegal line) before now cause = absurd cause
 ends_with (Run source feed limit) Budget before now cause = absurd cause
 ends_with (Run source feed limit) Memory before now cause = (4, lit< tt, refl)
 ends_with (Run source feed limit) Steps before now cause = (6, lit< tt, refl)
@@ -242,10 +255,24 @@ ends_runs command name before now status (Err refusal) promised reads cause told
 one_of_one : 1 ≤ 1
 one_of_one = omega arith
 
-fold_caused : (name : List ℕ) (budget : Option ℕ) (before now : Outside) (made : Result (Vec ℕ Global) Refusal) → IsRead 1 before.folder now.folder
-    → IfErr made (λ refusal. FoldCause refusal name budget before.folder now.folder) → IfErr made (IsCaused (Fold name budget) name before now)
-fold_caused name budget before now (Ok text) reads cause = tt
-fold_caused name budget before now (Err refusal) reads cause = (cause, (record { exact = λ _. reads; few = (1, (one_of_one, reads)) }, refl))
+-- without a schedule the source is meant
+source_meant : (refusal : Refusal) (source : List ℕ) → source ≡ fold_file refusal source None
+source_meant (Unread operand.Schedule why) source = refl
+source_meant _ source = refl
+
+fold_caused : (source : List ℕ) (budget : Option ℕ) (before now : Outside) (made : Result (Vec ℕ Global) Refusal) → IsRead 1 before.folder now.folder
+    → IfErr made (λ refusal. FoldCause refusal source None budget before.folder now.folder) → IfErr made (IsCaused (Fold source None budget) source before now)
+fold_caused source budget before now (Ok text) reads cause = tt
+fold_caused source budget before now (Err refusal) reads cause =
+    (cause, (record { exact = λ _. reads; few = (1, (one_of_one, reads)) }, ap (line_of refusal) (source_meant refusal source)))
+
+fold_by_caused : (source schedule : List ℕ) (budget : Option ℕ) (name : List ℕ) (before now : Outside) (made : Result (Vec ℕ Global) Refusal)
+    → IfErr made (λ refusal. FoldCause refusal source (Some schedule) budget before.folder now.folder)
+    → IfErr made (λ refusal. HasRead (Fold source (Some schedule) budget) refusal before.folder now.folder)
+    → IfErr made (λ refusal. name ≡ fold_file refusal source (Some schedule))
+    → IfErr made (IsCaused (Fold source (Some schedule) budget) name before now)
+fold_by_caused source schedule budget name before now (Ok text) cause reads is = tt
+fold_by_caused source schedule budget name before now (Err refusal) cause reads is = (cause, (reads, ap (line_of refusal) is))
 
 fold_read : (before now : Outside) (made : Result (Vec ℕ Global) Refusal) → IsRead 1 before.folder now.folder → OnOk made (IsRead 1 before.folder now.folder)
 fold_read before now (Ok text) reads = reads
@@ -258,12 +285,22 @@ run_caused : (source feed : List ℕ) (limit : ℕ) (name : List ℕ) (before no
 run_caused source feed limit name before now (Ok text) cause reads is = tt
 run_caused source feed limit name before now (Err refusal) cause reads is = (cause, (reads, ap (line_of refusal) is))
 
-pub fold_ends : (name : List ℕ) (budget : Option ℕ) (before now : Outside) (status : ℕ) (made : Result (Vec ℕ Global) Refusal)
-    → IfOk made (λ text. FoldPromises name before.folder.held text.items []) → IfErr made (λ refusal. FoldCause refusal name budget before.folder now.folder)
+pub fold_ends : (source : List ℕ) (budget : Option ℕ) (before now : Outside) (status : ℕ) (made : Result (Vec ℕ Global) Refusal)
+    → IfOk made (λ text. FoldPromises source None before.folder.held text.items []) → IfErr made (λ refusal. FoldCause refusal source None budget before.folder now.folder)
     → IsRead 1 before.folder now.folder
-    → Ends made name before.out now.out before.err now.err status → Keeps before now → Runs (Fold name budget) before now status
-fold_ends name budget before now status made promised cause reads ends keeps =
-    ends_runs (Fold name budget) name before now status made promised (fold_read before now made reads) (fold_caused name budget before now made reads cause) ends keeps
+    → Ends made source before.out now.out before.err now.err status → Keeps before now → Runs (Fold source None budget) before now status
+fold_ends source budget before now status made promised cause reads ends keeps =
+    ends_runs (Fold source None budget) source before now status made promised (fold_read before now made reads) (fold_caused source budget before now made reads cause) ends keeps
+
+pub fold_by_ends : (source schedule : List ℕ) (budget : Option ℕ) (name : List ℕ) (before now : Outside) (status : ℕ) (made : Result (Vec ℕ Global) Refusal)
+    → IfOk made (λ text. FoldPromises source (Some schedule) before.folder.held text.items []) → OnOk made (IsRead 2 before.folder now.folder)
+    → IfErr made (λ refusal. FoldCause refusal source (Some schedule) budget before.folder now.folder)
+    → IfErr made (λ refusal. HasRead (Fold source (Some schedule) budget) refusal before.folder now.folder)
+    → IfErr made (λ refusal. name ≡ fold_file refusal source (Some schedule))
+    → Ends made name before.out now.out before.err now.err status → Keeps before now → Runs (Fold source (Some schedule) budget) before now status
+fold_by_ends source schedule budget name before now status made promised reads cause refused_reads is ends keeps =
+    ends_runs (Fold source (Some schedule) budget) name before now status made promised reads
+    (fold_by_caused source schedule budget name before now made cause refused_reads is) ends keeps
 
 pub run_ends : (source feed : List ℕ) (limit : ℕ) (name : List ℕ) (before now : Outside) (status : ℕ) (made : Result (Vec ℕ Global) Refusal)
     → IfOk made (λ text. RunPromises source feed limit before.folder.held text.items []) → OnOk made (IsRead 2 before.folder now.folder)

@@ -1,36 +1,63 @@
 -- What a source is refused for, from what its compilation said.
-use Rattle.std.proofs.Common.{◌≡◌, ℕ, List, Option, Some, IsSome, refl, ap, sym, subst, ◌∙◌}
+use Rattle.std.proofs.Common.{◌≡◌, ℕ, ℤ, List, Option, Some, IsSome, refl, ap, sym, subst, ◌∙◌}
+use Rattle.affc_ast.specs.declared.tree.Instance.{Instance}
 use Rattle.affc_ast.specs.declared.tree.Program.{Program}
 use Rattle.affc_grammar.specs.Reads.{Reads}
 use Rattle.affc_bounds.specs.declared.fault.MeaningFault.{MeaningFault}
-use Rattle.affc_driver.specs.Refusals.{HasMeaningFault}
+use Rattle.affc_schedtext.specs.declared.plan.SchedFault.{SchedFault}
+use Rattle.affc_driver.specs.Refusals.{HasSchedFault, HasMeaningFault, IsIllegal}
 use Rattle.affc_cli.specs.Meaning.{meaning_line, IsMeaningLine}
+use Rattle.affc_cli.specs.Schedule.{sched_line, illegal_line, IsSchedLine, IsIllegalLine}
 use Rattle.affc_cli.specs.Refusal.{UnreadCause, TextCause}
 use Rattle.affc_cli.specs.declared.refusal.Refusal.{Refusal}
-use Rattle.affc_cli.specs.declared.refusal.Refusal.TheVariants.{Words, Unread, Source, Printed, Meaning, Stuck, Budget, Memory, Steps, Data, Unbuilt}
+use Rattle.affc_cli.specs.declared.refusal.Refusal.TheVariants.{Words, Unread, Source, Printed, Schedule, Meaning, Stuck, Illegal, Budget, Memory, Steps, Data, Unbuilt}
+
+-- one text reads as one program
+abbrev OneProgram : Type 0
+OneProgram = (text : List ℕ) (a b : Program) → Reads text a → Reads text b → a ≡ b
 
 -- the line is that of the program that the source reads as
-pub meant : (source line : List ℕ) (fault : MeaningFault) (program : Program) → ((text : List ℕ) (a b : Program) → Reads text a → Reads text b → a ≡ b)
-    → Reads source program → HasMeaningFault source fault → line ≡ meaning_line program fault → IsMeaningLine source line
-meant source line fault program law reads has is = record {
+pub meant : (source : List ℕ) (schedule : Option (List ℕ)) (line : List ℕ) (fault : MeaningFault) (program : Program) → OneProgram
+    → Reads source program → HasMeaningFault source schedule fault → line ≡ meaning_line program fault → IsMeaningLine source schedule line
+meant source schedule line fault program law reads says is = record {
+  fault = fault;
+  says = says;
+  its_line = is ∙ ap (λ t. meaning_line t fault) (law source program says.of.tree reads says.of.reads);
+}
+
+pub unplanned : (source : List ℕ) (schedule : Option (List ℕ)) (line : List ℕ) (fault : SchedFault) (program : Program) → OneProgram
+    → Reads source program → HasSchedFault source schedule fault → line ≡ sched_line program fault → IsSchedLine source schedule line
+unplanned source schedule line fault program law reads has is = record {
   fault = fault;
   of = has;
-  its_line = is ∙ ap (λ t. meaning_line t fault) (law source program has.tree reads has.reads);
+  its_line = is ∙ ap (λ t. sched_line t fault) (law source program has.tree reads has.reads);
+}
+
+pub turned : (source : List ℕ) (schedule : Option (List ℕ)) (line : List ℕ) (p : List ℤ) (a b : Instance) (program : Program) → OneProgram
+    → Reads source program → IsIllegal source schedule p a b → line ≡ illegal_line program p a b → IsIllegalLine source schedule line
+turned source schedule line p a b program law reads says is = record {
+  p = p;
+  a = a;
+  b = b;
+  says = says;
+  its_line = is ∙ ap (λ t. illegal_line t p a b) (law source program says.of.tree reads says.of.reads);
 }
 
 -- a text that is no program is refused so by `fold` too
-pub unread : (source : List ℕ) (budget : Option ℕ) (refusal : Refusal) → UnreadCause source refusal → TextCause source budget refusal
-unread source budget Words cause = absurd cause
-unread source budget (Unread file why) cause = absurd cause
-unread source budget (Source fault) cause = cause
-unread source budget (Printed place) cause = absurd cause
-unread source budget (Meaning line) cause = absurd cause
-unread source budget (Stuck line) cause = absurd cause
-unread source budget Budget cause = absurd cause
-unread source budget Memory cause = tt
-unread source budget Steps cause = absurd cause
-unread source budget (Data number) cause = absurd cause
-unread source budget Unbuilt cause = absurd cause
+pub unread : (source : List ℕ) (schedule : Option (List ℕ)) (budget : Option ℕ) (refusal : Refusal) → UnreadCause source refusal → TextCause source schedule budget refusal
+unread source schedule budget Words cause = absurd cause
+unread source schedule budget (Unread file why) cause = absurd cause
+unread source schedule budget (Source fault) cause = cause
+unread source schedule budget (Printed place) cause = absurd cause
+unread source schedule budget (Schedule line) cause = absurd cause
+unread source schedule budget (Meaning line) cause = absurd cause
+unread source schedule budget (Stuck line) cause = absurd cause
+unread source schedule budget (Illegal line) cause = absurd cause
+unread source schedule budget Budget cause = absurd cause
+unread source schedule budget Memory cause = tt
+unread source schedule budget Steps cause = absurd cause
+unread source schedule budget (Data number) cause = absurd cause
+unread source schedule budget Unbuilt cause = absurd cause
 
 -- units were spent where there is a limit
 pub counted : (budget limit before : Option ℕ) (spent : ℕ) → before ≡ budget → limit ≡ before → limit ≡ Some spent → IsSome budget

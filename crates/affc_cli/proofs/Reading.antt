@@ -1,13 +1,14 @@
 -- What is promised and refused once the files of a command are read.
-use Rattle.std.proofs.Common.{Vec, ◌≡◌, ℕ, List, [], Option, Result, Ok, Err, IfOk, IfErr, refl, sym, subst}
+use Rattle.std.proofs.Common.{Vec, ◌≡◌, ℕ, List, [], Option, None, Some, Result, Ok, Err, IfOk, IfErr, refl, sym, subst}
 use Rattle.std.specs.declared.alloc.Global.{Global}
 use Rattle.affc_io.specs.Files.{Holds}
 use Rattle.affc_io.specs.State.{Files, FolderState}
-use Rattle.affc_cli.specs.Promise.{RunPromises}
-use Rattle.affc_cli.specs.Refusal.{HeldTexts, RunCause}
+use Rattle.affc_driver.specs.Folds.{FoldsTo}
+use Rattle.affc_cli.specs.Promise.{FoldPromises, RunPromises}
+use Rattle.affc_cli.specs.Refusal.{TextCause, FoldTexts, FoldCause, HeldTexts, RunCause}
 use Rattle.affc_cli.specs.Run.{RunsTo, RunTextCause}
 use Rattle.affc_cli.specs.declared.refusal.Refusal.{Refusal}
-use Rattle.affc_cli.specs.declared.refusal.Refusal.TheVariants.{Words, Unread, Source, Printed, Meaning, Stuck, Budget, Memory, Steps, Data, Unbuilt}
+use Rattle.affc_cli.specs.declared.refusal.Refusal.TheVariants.{Words, Unread, Source, Printed, Schedule, Meaning, Stuck, Illegal, Budget, Memory, Steps, Data, Unbuilt}
 
 -- ---- The two texts, of which the second was read from a folder that holds the same
 
@@ -30,8 +31,10 @@ caused source feed limit before now t Words cause = absurd cause
 caused source feed limit before now t (Unread file why) cause = absurd cause
 caused source feed limit before now t (Source fault) cause = record { texts = t; cause = cause }
 caused source feed limit before now t (Printed place) cause = absurd cause
+caused source feed limit before now t (Schedule line) cause = absurd cause
 caused source feed limit before now t (Meaning line) cause = absurd cause
 caused source feed limit before now t (Stuck line) cause = record { texts = t; cause = cause }
+caused source feed limit before now t (Illegal line) cause = absurd cause
 caused source feed limit before now t Budget cause = absurd cause
 caused source feed limit before now t Memory cause = tt
 caused source feed limit before now t Steps cause = record { texts = t; cause = cause }
@@ -42,3 +45,48 @@ pub run_caused : (source feed : List ℕ) (limit : ℕ) (before now : FolderStat
     → IfErr made (RunTextCause t.source_text t.feed_text limit) → IfErr made (λ refusal. RunCause refusal source feed limit before now)
 run_caused source feed limit before now t (Ok text) cause = tt
 run_caused source feed limit before now t (Err refusal) cause = caused source feed limit before now t refusal cause
+
+-- ---- The source, and the schedule where there is one
+
+abbrev pub source_alone : (held : Option Files) (source s s' : List ℕ) → Holds held source s → s' ≡ s → FoldTexts held source None
+source_alone held source s s' has is = record {
+  source_text = s';
+  source_held = subst (Holds held source) (sym is) has;
+  schedule_text = None;
+  schedule_held = refl;
+}
+
+abbrev pub with_schedule : (held later : Option Files) (source schedule s s' f f' : List ℕ) → Holds held source s → s' ≡ s → later ≡ held → Holds later schedule f → f' ≡ f
+    → FoldTexts held source (Some schedule)
+with_schedule held later source schedule s s' f f' has_source is same has_schedule is' = record {
+  source_text = s';
+  source_held = subst (Holds held source) (sym is) has_source;
+  schedule_text = Some f';
+  schedule_held = subst (Holds held schedule) (sym is') (subst (λ h. Holds h schedule f) same has_schedule);
+}
+
+pub fold_promised : (held : Option Files) (source : List ℕ) (schedule : Option (List ℕ)) (t : FoldTexts held source schedule) (made : Result (Vec ℕ Global) Refusal)
+    → IfOk made (λ text. FoldsTo t.source_text t.schedule_text text.items []) → IfOk made (λ text. FoldPromises source schedule held text.items [])
+fold_promised held source schedule t (Ok text) folds = record { texts = t; folds_to = folds }
+fold_promised held source schedule t (Err refusal) folds = tt
+
+refused : (source : List ℕ) (schedule : Option (List ℕ)) (budget : Option ℕ) (before now : FolderState) (t : FoldTexts before.held source schedule) (refusal : Refusal)
+    → TextCause t.source_text t.schedule_text budget refusal → FoldCause refusal source schedule budget before now
+refused source schedule budget before now t Words cause = absurd cause
+refused source schedule budget before now t (Unread file why) cause = absurd cause
+refused source schedule budget before now t (Source fault) cause = record { texts = t; cause = cause }
+refused source schedule budget before now t (Printed place) cause = record { texts = t; cause = cause }
+refused source schedule budget before now t (Schedule line) cause = record { texts = t; cause = cause }
+refused source schedule budget before now t (Meaning line) cause = record { texts = t; cause = cause }
+refused source schedule budget before now t (Stuck line) cause = absurd cause
+refused source schedule budget before now t (Illegal line) cause = record { texts = t; cause = cause }
+refused source schedule budget before now t Budget cause = record { texts = t; cause = cause }
+refused source schedule budget before now t Memory cause = tt
+refused source schedule budget before now t Steps cause = absurd cause
+refused source schedule budget before now t (Data number) cause = absurd cause
+refused source schedule budget before now t Unbuilt cause = record { texts = t; cause = cause }
+
+pub fold_refused : (source : List ℕ) (schedule : Option (List ℕ)) (budget : Option ℕ) (before now : FolderState) (t : FoldTexts before.held source schedule) (made : Result (Vec ℕ Global) Refusal)
+    → IfErr made (TextCause t.source_text t.schedule_text budget) → IfErr made (λ refusal. FoldCause refusal source schedule budget before now)
+fold_refused source schedule budget before now t (Ok text) cause = tt
+fold_refused source schedule budget before now t (Err refusal) cause = refused source schedule budget before now t refusal cause

@@ -8,7 +8,7 @@ use Rattle.std.specs.declared.alloc.Global.{Global}
 
 -- The command forms.
 pub data Command : Type 0 where
-  Fold : (source : List ℕ) (budget : Option ℕ) → Command
+  Fold : (source : List ℕ) (schedule : Option (List ℕ)) (budget : Option ℕ) → Command
   Run : (source feed : List ℕ) (steps : ℕ) → Command
 
 -- the bytes of each word
@@ -110,11 +110,15 @@ abbrev pub budget_of : Option (List ℕ) → Option (Option ℕ)
 budget_of None = Some None
 budget_of (Some text) = option_map Some (number_to 9223372036854775807 text)
 
--- `fold SRC [--budget N]`
-abbrev pub fold_of : (operands : List (List ℕ)) (options : List (List ℕ × List ℕ)) → Option Command
-fold_of (source ∷ []) options =
+abbrev pub fold_with : (source : List ℕ) (schedule : Option (List ℕ)) (options : List (List ℕ × List ℕ)) → Option Command
+fold_with source schedule options =
     if are_options (codes "budget" ∷ []) options
-    then option_map (Fold source) (budget_of (value_of (codes "budget") options)) else None
+    then option_map (Fold source schedule) (budget_of (value_of (codes "budget") options)) else None
+
+-- `fold SRC [SCHED] [--budget N]`
+abbrev pub fold_of : (operands : List (List ℕ)) (options : List (List ℕ × List ℕ)) → Option Command
+fold_of (source ∷ []) options = fold_with source None options
+fold_of (source ∷ schedule ∷ []) options = fold_with source (Some schedule) options
 fold_of _ options = None
 
 -- `run SRC DATA [--steps N]`

@@ -6,6 +6,7 @@ pub mod Outside
 pub mod Words
 pub mod Stuck
 pub mod Meaning
+pub mod Schedule
 pub mod Run
 pub mod Refusal
 pub mod Promise

@@ -1,5 +1,5 @@
 -- The line that says what is wrong with a program, whatever its data.
-use Rattle.std.specs.Prelude.{◌≡◌, ℕ, List, [], ◌∷◌, ◌++◌, get_or, codes, decimal}
+use Rattle.std.specs.Prelude.{◌≡◌, ℕ, List, [], ◌∷◌, ◌++◌, Option, get_or, codes, decimal}
 use Rattle.affc_ast.specs.declared.tree.Program.{Program}
 use Rattle.affc_ast.specs.Cause.{OutOfBounds, Extent as NoExtent}
 use Rattle.affc_domain.specs.Rounds.{Round, Loop, Test, rounds}
@@ -35,7 +35,7 @@ meaning_line program (Extent array p) = stuck_line program p (NoExtent array.0)
 meaning_line program (Bounds array access p instance) = stuck_line program p (OutOfBounds instance access)
 
 -- the source reads as a program without the prelude that has something wrong with it, as the line says
-pub record IsMeaningLine (source line : List ℕ) : Type 0 where
+pub record IsMeaningLine (source : List ℕ) (schedule : Option (List ℕ)) (line : List ℕ) : Type 0 where
   pub fault : MeaningFault
-  pub of : HasMeaningFault source fault
-  pub its_line : line ≡ meaning_line of.tree fault
+  pub says : HasMeaningFault source schedule fault
+  pub its_line : line ≡ meaning_line says.of.tree fault

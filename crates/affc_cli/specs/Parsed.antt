@@ -16,6 +16,10 @@ Parses app words (Some m) = (fault_of app words ≡ []) × (rows_of (found_of m)
 abbrev pub operand_rule : (id : List ℕ) → Rule
 operand_rule id = record (new_rule id) { required = true }
 
+-- a word that may be there
+abbrev pub further_rule : (id : List ℕ) → Rule
+further_rule id = new_rule id
+
 -- `--name value`
 abbrev pub option_rule : (name : List ℕ) → Rule
 option_rule name = record (new_rule name) { long = Some name }
@@ -23,9 +27,9 @@ option_rule name = record (new_rule name) { long = Some name }
 abbrev pub app_with : (name : List ℕ) → List Rule → App
 app_with name rules = record { top = record (new_shape name) { rules = rules; no_binary_name = true; disable_help_flag = true }; subs = [] }
 
--- `fold SRC [--budget N]`
+-- `fold SRC [SCHED] [--budget N]`
 abbrev pub fold_app : App
-fold_app = app_with (codes "fold") (operand_rule (codes "source") ∷ option_rule (codes "budget") ∷ [])
+fold_app = app_with (codes "fold") (operand_rule (codes "source") ∷ further_rule (codes "schedule") ∷ option_rule (codes "budget") ∷ [])
 
 -- `run SRC DATA [--steps N]`
 abbrev pub run_app : App

@@ -1,29 +1,27 @@
 -- What the program promises, by the status that it ends with.
-use Rattle.std.specs.Prelude.{◌≡◌, ◌≢◌, ◌⊎◌, ℕ, List, [], ◌∷◌, Option, MatchOption, Result, Ok, Err, Contains, String, Vec, drop}
+use Rattle.std.specs.Prelude.{◌≡◌, ◌≢◌, ◌⊎◌, ℕ, List, [], ◌∷◌, Option, None, Some, MatchOption, Result, Ok, Err, Contains, String, Vec, drop}
 use Rattle.std.specs.declared.alloc.Global.{Global}
 use Rattle.std.specs.IoError.{error_kind}
 use Rattle.std.specs.declared.io.Error.{Error}
 use Rattle.std.specs.declared.io.ErrorKind.{ErrorKind}
 use Rattle.std.specs.declared.io.ErrorKind.TheVariants.{OutOfMemory}
 use Rattle.affc_io.specs.Count.{Rose}
-use Rattle.affc_io.specs.Files.{Holds}
 use Rattle.affc_io.specs.Front.{IsFront}
 use Rattle.affc_io.specs.State.{Files, FolderState}
 use Rattle.affc_io.specs.Taken.{grown}
 use Rattle.affc_driver.specs.Folds.{FoldsTo}
 use Rattle.affc_cli.specs.Command.{Command, Fold, Run, command_of, texts_of}
 use Rattle.affc_cli.specs.Outside.{Outside, Keeps, Told, IsRead, IsReadAtMost}
-use Rattle.affc_cli.specs.Refusal.{status_of, line_of, FoldCause, HeldTexts, RunCause, file_of}
+use Rattle.affc_cli.specs.Refusal.{status_of, line_of, FoldTexts, FoldCause, fold_file, HeldTexts, RunCause, file_of}
 use Rattle.affc_cli.specs.Run.{RunsTo}
 use Rattle.affc_cli.specs.declared.refusal.Operand.TheVariants as operand
 use Rattle.affc_cli.specs.declared.refusal.Refusal.{Refusal}
 use Rattle.affc_cli.specs.declared.refusal.Refusal.TheVariants.{Words, Unread, Memory}
 
--- Text and report are what is made of the source that the name held, where the folder tells what it holds.
-pub record FoldPromises (name : List ℕ) (held : Option Files) (text report : List ℕ) : Type 0 where
-  pub source : List ℕ
-  pub is_held : Holds held name source
-  pub folds_to : FoldsTo source text report
+-- Text and report are what is made of the source and the schedule that the names held, where the folder tells what it holds.
+pub record FoldPromises (source : List ℕ) (schedule : Option (List ℕ)) (held : Option Files) (text report : List ℕ) : Type 0 where
+  pub texts : FoldTexts held source schedule
+  pub folds_to : FoldsTo texts.source_text texts.schedule_text text report
 
 -- The text is what the output arrays hold when the source that one name held has run on the data text that the other
 -- held, where the folder tells what it holds; the report is empty.
@@ -34,33 +32,36 @@ pub record RunPromises (source feed : List ℕ) (limit : ℕ) (held : Option Fil
 
 -- The pieces of status 0: the text for out, then the report for err.
 abbrev pub Promises : Command → Option Files → (text report : List ℕ) → Type 0
-Promises (Fold source budget) held text report = FoldPromises source held text report
+Promises (Fold source schedule budget) held text report = FoldPromises source schedule held text report
 Promises (Run source feed limit) held text report = RunPromises source feed limit held text report
 
 -- The statuses that a command ends with.
 abbrev pub statuses_of : Command → List ℕ
-statuses_of (Fold source budget) = 0 ∷ 3 ∷ 4 ∷ 5 ∷ 8 ∷ 9 ∷ 10 ∷ 14 ∷ []
+statuses_of (Fold source schedule budget) = 0 ∷ 3 ∷ 4 ∷ 5 ∷ 6 ∷ 7 ∷ 8 ∷ 9 ∷ 10 ∷ 14 ∷ []
 statuses_of (Run source feed limit) = 0 ∷ 3 ∷ 4 ∷ 5 ∷ 9 ∷ 10 ∷ 12 ∷ 13 ∷ []
 
 -- The line of a refused command.
 abbrev pub refusal_line : Command → Refusal → List ℕ
-refusal_line (Fold source budget) refusal = line_of refusal source
+refusal_line (Fold source schedule budget) refusal = line_of refusal (fold_file refusal source schedule)
 refusal_line (Run source feed limit) refusal = line_of refusal (file_of refusal source feed)
 
 -- How many files a command reads.
 abbrev pub files_of : Command → ℕ
-files_of (Fold source budget) = 1
+files_of (Fold source None budget) = 1
+files_of (Fold source (Some schedule) budget) = 2
 files_of (Run source feed limit) = 2
 
--- How often a command that is refused so reads the folder: `run` stops at its source where that isn't read.
+-- How often a command that is refused so reads the folder: it stops at its source where that isn't read.
 abbrev pub reads_of : Command → Refusal → ℕ
-reads_of (Fold source budget) refusal = 1
+reads_of (Fold source None budget) refusal = 1
+reads_of (Fold source (Some schedule) budget) (Unread operand.Source why) = 1
+reads_of (Fold source (Some schedule) budget) refusal = 2
 reads_of (Run source feed limit) (Unread operand.Source why) = 1
 reads_of (Run source feed limit) refusal = 2
 
 -- When a command is refused so.
 abbrev pub Cause : Command → Refusal → FolderState → FolderState → Type 0
-Cause (Fold source budget) refusal before now = FoldCause refusal source budget before now
+Cause (Fold source schedule budget) refusal before now = FoldCause refusal source schedule budget before now
 Cause (Run source feed limit) refusal before now = RunCause refusal source feed limit before now
 
 -- Each file was read once, all pieces were written, and nothing else.

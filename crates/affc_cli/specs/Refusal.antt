@@ -1,15 +1,16 @@
 -- Why a command is refused, and the line that says so.
-use Rattle.std.specs.Prelude.{◌⊎◌, ℕ, List, ◌++◌, Option, IsSome, codes, decimal as digits_of}
+use Rattle.std.specs.Prelude.{◌≡◌, ◌⊎◌, ℕ, List, ◌++◌, Option, None, Some, IsSome, codes, decimal as digits_of}
 use Rattle.affc_io.specs.Count.{Rose}
 use Rattle.affc_io.specs.Files.{Holds, NotHeld, TooLong}
 use Rattle.affc_io.specs.State.{Files, FolderState}
 use Rattle.affc_driver.specs.Refusals.{IsSourceFault, IsPrinted, IsUnbuilt}
 use Rattle.affc_cli.specs.Meaning.{IsMeaningLine}
 use Rattle.affc_cli.specs.Run.{RunTextCause}
+use Rattle.affc_cli.specs.Schedule.{IsSchedLine, IsIllegalLine}
 use Rattle.affc_cli.specs.Words.{fault_line, source_line}
 use Rattle.affc_cli.specs.declared.refusal.Operand.TheVariants as operand
 use Rattle.affc_cli.specs.declared.refusal.Refusal.{Refusal}
-use Rattle.affc_cli.specs.declared.refusal.Refusal.TheVariants.{Words, Unread, Source, Printed, Meaning, Stuck, Budget, Memory, Steps, Data, Unbuilt}
+use Rattle.affc_cli.specs.declared.refusal.Refusal.TheVariants.{Words, Unread, Source, Printed, Schedule, Meaning, Stuck, Illegal, Budget, Memory, Steps, Data, Unbuilt}
 use Rattle.affc_cli.specs.declared.refusal.UnreadWhy.{UnreadWhy}
 use Rattle.affc_cli.specs.declared.refusal.UnreadWhy.TheVariants.{Unreadable, Long}
 
@@ -19,8 +20,10 @@ status_of Words = 2
 status_of (Unread file why) = 3
 status_of (Source fault) = 4
 status_of (Printed place) = 4
+status_of (Schedule line) = 6
 status_of (Meaning line) = 5
 status_of (Stuck line) = 5
+status_of (Illegal line) = 7
 status_of Budget = 8
 status_of Memory = 9
 status_of Steps = 12
@@ -42,8 +45,10 @@ line_of Words name = codes "affc: words\n"
 line_of (Unread file why) name = unread_words why ++ name ++ codes "\n"
 line_of (Source fault) name = fault_line fault ++ codes "\n"
 line_of (Printed place) name = source_line place (codes "printed") ++ codes "\n"
+line_of (Schedule line) name = line ++ codes "\n"
 line_of (Meaning line) name = line ++ codes "\n"
 line_of (Stuck line) name = line ++ codes "\n"
+line_of (Illegal line) name = line ++ codes "\n"
 line_of Budget name = codes "affc: budget\n"
 line_of Memory name = codes "affc: memory\n"
 line_of Steps name = codes "affc: steps\n"
@@ -63,41 +68,74 @@ UnreadCause text _ = ⊥
 
 -- ---- `fold`
 
--- When a source is refused so, with this budget or without one. Want of memory may come at any time, and the end of a
--- budget where there is one.
-abbrev pub TextCause : (source : List ℕ) → (budget : Option ℕ) → Refusal → Type 0
-TextCause source budget Words = ⊥
-TextCause source budget (Unread file why) = ⊥
-TextCause source budget (Source fault) = IsSourceFault source fault
-TextCause source budget (Printed place) = IsPrinted source place
-TextCause source budget (Meaning line) = IsMeaningLine source line
-TextCause source budget (Stuck line) = ⊥
-TextCause source budget Budget = IsSome budget
-TextCause source budget Memory = Unit {0}
-TextCause source budget Steps = ⊥
-TextCause source budget (Data number) = ⊥
-TextCause source budget Unbuilt = IsUnbuilt source
+-- When a source with a schedule is refused so, with this budget or without one. Want of memory may come at any time, and the
+-- end of a budget where there is one.
+abbrev pub TextCause : (source : List ℕ) → (schedule : Option (List ℕ)) → (budget : Option ℕ) → Refusal → Type 0
+TextCause source schedule budget Words = ⊥
+TextCause source schedule budget (Unread file why) = ⊥
+TextCause source schedule budget (Source fault) = IsSourceFault source fault
+TextCause source schedule budget (Printed place) = IsPrinted source place
+TextCause source schedule budget (Schedule line) = IsSchedLine source schedule line
+TextCause source schedule budget (Meaning line) = IsMeaningLine source schedule line
+TextCause source schedule budget (Stuck line) = ⊥
+TextCause source schedule budget (Illegal line) = IsIllegalLine source schedule line
+TextCause source schedule budget Budget = IsSome budget
+TextCause source schedule budget Memory = Unit {0}
+TextCause source schedule budget Steps = ⊥
+TextCause source schedule budget (Data number) = ⊥
+TextCause source schedule budget Unbuilt = IsUnbuilt source schedule
 
--- what the name holds, where that is told, is refused so
-pub record TextRefused (refusal : Refusal) (held : Option Files) (name : List ℕ) (budget : Option ℕ) : Type 0 where
-  pub source : List ℕ
-  pub is_held : Holds held name source
-  pub cause : TextCause source budget refusal
+-- the text that a name holds, where that is told; no text where there is no name
+abbrev pub HoldsAny : Option Files → (name text : Option (List ℕ)) → Type 0
+HoldsAny held None text = text ≡ None
+HoldsAny held (Some name) None = ⊥
+HoldsAny held (Some name) (Some text) = Holds held name text
 
--- When `fold` is refused so, from the folder before and after the source was read. Want of memory may come at any time.
-abbrev pub FoldCause : Refusal → (source : List ℕ) → (budget : Option ℕ) → FolderState → FolderState → Type 0
-FoldCause Words source budget before now = ⊥
-FoldCause (Unread operand.Source why) source budget before now = IsUnread why source before now
-FoldCause (Unread operand.Data why) source budget before now = ⊥
-FoldCause (Source fault) source budget before now = TextRefused (Source fault) before.held source budget
-FoldCause (Printed place) source budget before now = TextRefused (Printed place) before.held source budget
-FoldCause (Meaning line) source budget before now = TextRefused (Meaning line) before.held source budget
-FoldCause (Stuck line) source budget before now = ⊥
-FoldCause Budget source budget before now = TextRefused Budget before.held source budget
-FoldCause Memory source budget before now = Unit {0}
-FoldCause Steps source budget before now = ⊥
-FoldCause (Data number) source budget before now = ⊥
-FoldCause Unbuilt source budget before now = TextRefused Unbuilt before.held source budget
+-- the source and the schedule that the names hold, where that is told
+pub record FoldTexts (held : Option Files) (source : List ℕ) (schedule : Option (List ℕ)) : Type 0 where
+  pub source_text : List ℕ
+  pub source_held : Holds held source source_text
+  pub schedule_text : Option (List ℕ)
+  pub schedule_held : HoldsAny held schedule schedule_text
+
+-- they were read, and are refused so
+pub record TextRefused (refusal : Refusal) (held : Option Files) (source : List ℕ) (schedule : Option (List ℕ)) (budget : Option ℕ) : Type 0 where
+  pub texts : FoldTexts held source schedule
+  pub cause : TextCause texts.source_text texts.schedule_text budget refusal
+
+-- the source was read
+abbrev pub IsHeld : Option Files → (source : List ℕ) → Type 0
+IsHeld held source = (text : List ℕ) × Holds held source text
+
+-- the schedule's name, and why it isn't read, from the folder before and after
+abbrev pub IsUnreadAny : UnreadWhy → (name : Option (List ℕ)) → FolderState → FolderState → Type 0
+IsUnreadAny why None before now = ⊥
+IsUnreadAny why (Some name) before now = IsUnread why name before now
+
+-- When `fold` is refused so, from the folder before and after its files were read: the source first, then the schedule, and no
+-- text is looked at before. Want of memory may come at any time.
+abbrev pub FoldCause : Refusal → (source : List ℕ) → (schedule : Option (List ℕ)) → (budget : Option ℕ) → FolderState → FolderState → Type 0
+FoldCause Words source schedule budget before now = ⊥
+FoldCause (Unread operand.Source why) source schedule budget before now = IsUnread why source before now
+FoldCause (Unread operand.Schedule why) source schedule budget before now =
+    IsHeld before.held source × IsUnreadAny why schedule before now
+FoldCause (Unread operand.Data why) source schedule budget before now = ⊥
+FoldCause (Source fault) source schedule budget before now = TextRefused (Source fault) before.held source schedule budget
+FoldCause (Printed place) source schedule budget before now = TextRefused (Printed place) before.held source schedule budget
+FoldCause (Schedule line) source schedule budget before now = TextRefused (Schedule line) before.held source schedule budget
+FoldCause (Meaning line) source schedule budget before now = TextRefused (Meaning line) before.held source schedule budget
+FoldCause (Stuck line) source schedule budget before now = ⊥
+FoldCause (Illegal line) source schedule budget before now = TextRefused (Illegal line) before.held source schedule budget
+FoldCause Budget source schedule budget before now = TextRefused Budget before.held source schedule budget
+FoldCause Memory source schedule budget before now = Unit {0}
+FoldCause Steps source schedule budget before now = ⊥
+FoldCause (Data number) source schedule budget before now = ⊥
+FoldCause Unbuilt source schedule budget before now = TextRefused Unbuilt before.held source schedule budget
+
+-- the file that a refusal of `fold` means: the schedule's, or the source's
+abbrev pub fold_file : Refusal → (source : List ℕ) → (schedule : Option (List ℕ)) → List ℕ
+fold_file (Unread operand.Schedule why) source (Some schedule) = schedule
+fold_file _ source schedule = source
 
 -- ---- `run`
 
@@ -113,21 +151,20 @@ pub record TextsRefused (refusal : Refusal) (held : Option Files) (source feed :
   pub texts : HeldTexts held source feed
   pub cause : RunTextCause texts.source_text texts.feed_text limit refusal
 
--- the source was read
-abbrev pub IsHeld : Option Files → (source : List ℕ) → Type 0
-IsHeld held source = (text : List ℕ) × Holds held source text
-
 -- When `run` is refused so, from the folder before and after both files were read: the source first, then the data, and
 -- no text is looked at before. Want of memory may come at any time.
 abbrev pub RunCause : Refusal → (source feed : List ℕ) → (limit : ℕ) → FolderState → FolderState → Type 0
 RunCause Words source feed limit before now = ⊥
 RunCause (Unread operand.Source why) source feed limit before now = IsUnread why source before now
+RunCause (Unread operand.Schedule why) source feed limit before now = ⊥
 RunCause (Unread operand.Data why) source feed limit before now =
     IsHeld before.held source × IsUnread why feed before now
 RunCause (Source fault) source feed limit before now = TextsRefused (Source fault) before.held source feed limit
 RunCause (Printed place) source feed limit before now = ⊥
+RunCause (Schedule line) source feed limit before now = ⊥
 RunCause (Meaning line) source feed limit before now = ⊥
 RunCause (Stuck line) source feed limit before now = TextsRefused (Stuck line) before.held source feed limit
+RunCause (Illegal line) source feed limit before now = ⊥
 RunCause Budget source feed limit before now = ⊥
 RunCause Memory source feed limit before now = Unit {0}
 RunCause Steps source feed limit before now = TextsRefused Steps before.held source feed limit

@@ -10,7 +10,7 @@ use Rattle.affc_interp.specs.Runs.{start, steps_of}
 use Rattle.affc_driver.specs.Refusals.{IsSourceFault}
 use Rattle.affc_cli.specs.Stuck.{stuck_line}
 use Rattle.affc_cli.specs.declared.refusal.Refusal.{Refusal}
-use Rattle.affc_cli.specs.declared.refusal.Refusal.TheVariants.{Words, Unread, Source, Printed, Meaning, Stuck as StuckRun, Budget, Memory, Steps, Data, Unbuilt}
+use Rattle.affc_cli.specs.declared.refusal.Refusal.TheVariants.{Words, Unread, Source, Printed, Schedule, Meaning, Stuck as StuckRun, Illegal, Budget, Memory, Steps, Data, Unbuilt}
 
 -- The source reads as a program, with the prelude or without it, and the data text is data of it: the numbers p, and the
 -- values of each array.
@@ -59,8 +59,10 @@ RunTextCause source feed limit Words = ⊥
 RunTextCause source feed limit (Unread file why) = ⊥
 RunTextCause source feed limit (Source fault) = IsSourceFault source fault
 RunTextCause source feed limit (Printed place) = ⊥
+RunTextCause source feed limit (Schedule line) = ⊥
 RunTextCause source feed limit (Meaning line) = ⊥
 RunTextCause source feed limit (StuckRun line) = IsStuck source feed limit line
+RunTextCause source feed limit (Illegal line) = ⊥
 RunTextCause source feed limit Budget = ⊥
 RunTextCause source feed limit Memory = Unit {0}
 RunTextCause source feed limit Steps = TakesMore source feed limit

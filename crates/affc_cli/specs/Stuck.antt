@@ -71,11 +71,14 @@ abbrev pub iterators_text : (before : List ℕ) → List ℤ → List ℕ
 iterators_text before [] = []
 iterators_text before (x ∷ xs) = before ++ signed_decimal x ++ iterators_text (codes ", ") xs
 
+-- `S0(1, 2)`
+abbrev pub instance_text : Instance → List ℕ
+instance_text here = codes "S" ++ decimal here.statement ++ codes "(" ++ iterators_text [] here.iterators ++ codes ")"
+
 -- `t at N=1 in S0(1, 2) access 0`
 abbrev pub access_text : Program → (p : List ℤ) → Instance → (access : ℕ) → List ℕ
 access_text program p here access =
-    array_text program p (array_of program here.statement access)
-    ++ codes " in S" ++ decimal here.statement ++ codes "(" ++ iterators_text [] here.iterators ++ codes ") access " ++ decimal access
+    array_text program p (array_of program here.statement access) ++ codes " in " ++ instance_text here ++ codes " access " ++ decimal access
 
 -- what is said of a run with these numbers that is stuck for this cause
 abbrev pub stuck_line : Program → (p : List ℤ) → Cause → List ℕ

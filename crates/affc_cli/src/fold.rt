@@ -1,24 +1,55 @@
 // One source, compiled.
-ghost use Rattle.std.specs.Prelude.{◌≡◌, [], IfOk, IfErr, IsSome};
+ghost use Rattle.std.specs.Prelude.{◌≡◌, [], IfOk, IfErr, IsSome, option_map};
 ghost use Rattle.affc_driver.specs.Folds.{FoldsTo};
-ghost use Rattle.affc_driver.specs.Refusals.{HasMeaningFault, RefusalSays};
+ghost use Rattle.affc_driver.specs.Refusals.{HasSchedFault, HasMeaningFault, IsIllegal, RefusalSays};
 ghost use Rattle.affc_driver.specs.declared.refusal.Refusal.TheVariants.{Budget as Spent};
 ghost use Rattle.affc_cli.specs.Refusal.{TextCause};
 
 use crate::meaning::meaning_line;
 use crate::refusal::Refusal;
+use crate::schedule::{illegal_line, sched_line};
 use crate::source::program_of;
 use affc_ast::text::Text;
+use affc_ast::tree::Instance;
 use affc_bounds::MeaningFault;
 use affc_driver::{Done, Refusal as FoldRefusal};
 use affc_grammar::laws::one_program;
+use affc_schedtext::SchedFault;
 use affc_split::Budget;
 use std::alloc::Global;
 
-// The refusal of a source that reads as a program with this fault. The names in its line are the program's.
-fn meaning(alloc: Global, source: &[u8], budget: Option<u64>, fault: &MeaningFault) -> Refusal
-    requires { HasMeaningFault source.now fault.now }
-    ensures { TextCause source.now budget result }
+// The refusal of a source that reads as a program of which the schedule is no plan. The names in its line are the program's.
+fn unplanned(
+    alloc: Global,
+    source: &[u8],
+    schedule: Option<&[u8]>,
+    budget: Option<u64>,
+    fault: &SchedFault,
+) -> Refusal
+    requires { HasSchedFault source.now (option_map (λ s. s.now) schedule) fault.now }
+    ensures { TextCause source.now (option_map (λ s. s.now) schedule.entry) budget result }
+{
+    one_program();
+    let program = match program_of(alloc, source) {
+        Ok(program) => program,
+        Err(refusal) => return refusal,
+    };
+    match sched_line(alloc, &program, fault) {
+        Ok(line) => Refusal::Schedule(Text::from_string(line)),
+        Err(_) => Refusal::Memory,
+    }
+}
+
+// The refusal of a source that reads as a program with this fault.
+fn meaning(
+    alloc: Global,
+    source: &[u8],
+    schedule: Option<&[u8]>,
+    budget: Option<u64>,
+    fault: &MeaningFault,
+) -> Refusal
+    requires { HasMeaningFault source.now (option_map (λ s. s.now) schedule) fault.now }
+    ensures { TextCause source.now (option_map (λ s. s.now) schedule.entry) budget result }
 {
     one_program();
     let program = match program_of(alloc, source) {
@@ -31,31 +62,70 @@ fn meaning(alloc: Global, source: &[u8], budget: Option<u64>, fault: &MeaningFau
     }
 }
 
+// The refusal of a source that reads as a program of which the schedule turns this dependence round.
+fn illegal(
+    alloc: Global,
+    source: &[u8],
+    schedule: Option<&[u8]>,
+    budget: Option<u64>,
+    p: &[i64],
+    a: &Instance,
+    b: &Instance,
+) -> Refusal
+    requires { IsIllegal source.now (option_map (λ s. s.now) schedule) p.now a.now b.now }
+    ensures { TextCause source.now (option_map (λ s. s.now) schedule.entry) budget result }
+{
+    one_program();
+    let program = match program_of(alloc, source) {
+        Ok(program) => program,
+        Err(refusal) => return refusal,
+    };
+    match illegal_line(alloc, &program, p, a, b) {
+        Ok(line) => Refusal::Illegal(Text::from_string(line)),
+        Err(_) => Refusal::Memory,
+    }
+}
+
 // The refusal of a source that isn't compiled, as it is told.
-fn told(alloc: Global, source: &[u8], budget: Option<u64>, refusal: FoldRefusal) -> Refusal
-    requires says { RefusalSays source.now refusal }
+fn told(
+    alloc: Global,
+    source: &[u8],
+    schedule: Option<&[u8]>,
+    budget: Option<u64>,
+    refusal: FoldRefusal,
+) -> Refusal
+    requires says { RefusalSays source.now (option_map (λ s. s.now) schedule) refusal }
     requires counted { refusal ≡ Spent → IsSome budget }
-    ensures { TextCause source.now budget result }
+    ensures { TextCause source.now (option_map (λ s. s.now) schedule.entry) budget result }
 {
     match refusal {
         FoldRefusal::Source(fault) => Refusal::Source(fault),
         FoldRefusal::Printed(place) => Refusal::Printed(place),
-        FoldRefusal::Meaning(fault) => meaning(alloc, source, budget, &fault),
+        FoldRefusal::Schedule(fault) => unplanned(alloc, source, schedule, budget, &fault),
+        FoldRefusal::Meaning(fault) => meaning(alloc, source, schedule, budget, &fault),
+        FoldRefusal::Illegal { p, a, b } => {
+            illegal(alloc, source, schedule, budget, p.as_slice(), &a, &b)
+        }
         FoldRefusal::Budget => Refusal::Budget,
         FoldRefusal::Memory => Refusal::Memory,
         FoldRefusal::Unbuilt => Refusal::Unbuilt,
     }
 }
 
-/// The text that does what the source does, or why there is none. With a budget no more boxes of questions are opened
-/// than it has units.
-pub fn fold(alloc: Global, source: &[u8], budget: Option<u64>) -> Result<Vec<u8>, Refusal>
-    ensures ok { IfOk result (λ text. FoldsTo source.now text.items []) }
-    ensures err { IfErr result (TextCause source.now budget) }
+/// The text that does what the source does, in the order of the schedule, or why there is none. With a budget no more
+/// boxes of questions are opened than it has units.
+pub fn fold(
+    alloc: Global,
+    source: &[u8],
+    schedule: Option<&[u8]>,
+    budget: Option<u64>,
+) -> Result<Vec<u8>, Refusal>
+    ensures ok { IfOk result (λ text. FoldsTo source.now (option_map (λ s. s.now) schedule.entry) text.items []) }
+    ensures err { IfErr result (TextCause source.now (option_map (λ s. s.now) schedule.entry) budget) }
 {
     let mut units = Budget::new(budget);
-    match affc_driver::fold(alloc, source, &mut units) {
+    match affc_driver::fold(alloc, source, schedule, &mut units) {
         Ok(Done { text, report: _ }) => Ok(text),
-        Err(refusal) => Err(told(alloc, source, budget, refusal)),
+        Err(refusal) => Err(told(alloc, source, schedule, budget, refusal)),
     }
 }

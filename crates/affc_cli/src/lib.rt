@@ -6,6 +6,7 @@ mod fold;
 mod meaning;
 mod refusal;
 mod run;
+mod schedule;
 pub mod serve;
 mod source;
 mod stuck;

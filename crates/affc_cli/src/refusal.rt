@@ -17,6 +17,8 @@ use std::alloc::{AllocError, Global};
 pub enum Operand {
     /// SRC
     Source,
+    /// SCHED
+    Schedule,
     /// DATA
     Data,
 }
@@ -41,10 +43,14 @@ pub enum Refusal {
     Source(ParseFault),
     /// The source has the prelude, as printed texts do, and it begins at this byte.
     Printed(usize),
+    /// The schedule is no plan of the program, as the line says.
+    Schedule(Text),
     /// Something is wrong with the program whatever its data, as the line says.
     Meaning(Text),
     /// The run is stuck, as the line says.
     Stuck(Text),
+    /// The schedule turns a dependence round, as the line says.
+    Illegal(Text),
     /// The budget is spent.
     Budget,
     /// Memory is short.
@@ -152,8 +158,10 @@ impl Refusal {
             Refusal::Unread { file: _, why: _ } => 3,
             Refusal::Source(_) => 4,
             Refusal::Printed(_) => 4,
+            Refusal::Schedule(_) => 6,
             Refusal::Meaning(_) => 5,
             Refusal::Stuck(_) => 5,
+            Refusal::Illegal(_) => 7,
             Refusal::Budget => 8,
             Refusal::Memory => 9,
             Refusal::Steps => 12,
@@ -180,8 +188,10 @@ impl Refusal {
                 Ok(line) => put_line(err, line.as_str(), ""),
                 Err(_) => return tell_short(err),
             },
+            Refusal::Schedule(line) => put_line(err, line.as_str(), ""),
             Refusal::Meaning(line) => put_line(err, line.as_str(), ""),
             Refusal::Stuck(line) => put_line(err, line.as_str(), ""),
+            Refusal::Illegal(line) => put_line(err, line.as_str(), ""),
             Refusal::Budget => put_line(err, "affc: budget", ""),
             Refusal::Memory => put_line(err, "affc: memory", ""),
             Refusal::Steps => put_line(err, "affc: steps", ""),

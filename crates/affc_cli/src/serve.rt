@@ -1,12 +1,12 @@
 // The top call.
-ghost use Rattle.std.specs.Prelude.{◌≡◌, [], IfOk, IfErr, OnOk, drop};
+ghost use Rattle.std.specs.Prelude.{◌≡◌, [], Some, None, IfOk, IfErr, OnOk, drop};
 ghost use Rattle.std.specs.Process.{exit_status};
 ghost use Rattle.affc_io.specs.Files.{Holds};
 ghost use Rattle.affc_cli.specs.Command.{Fold, Run, texts_of};
 ghost use Rattle.affc_io.specs.State.{FolderKeeps, SinkCounts};
 ghost use Rattle.affc_cli.specs.Outside.{IsRead, outside};
 ghost use Rattle.affc_cli.specs.Promise.{FoldPromises, RunPromises, Runs, Serves, ServesGiven};
-ghost use Rattle.affc_cli.specs.Refusal.{FoldCause, RunCause, file_of};
+ghost use Rattle.affc_cli.specs.Refusal.{FoldCause, RunCause, fold_file, file_of};
 ghost use Rattle.affc_cli.specs.Telling.{Ends, HasRead, UnheldCause};
 
 use crate::fold::fold;
@@ -46,20 +46,41 @@ fn contents_of<F: Folder>(
     }
 }
 
-// The text for the source that the folder has under the name.
-fn folded<F: Folder>(
+// The text for the source that the folder has under the name, without a schedule.
+fn folded_alone<F: Folder>(
     alloc: Global,
-    name: &str,
+    source: &str,
     budget: Option<u64>,
     folder: &mut F,
 ) -> Result<Vec<u8>, Refusal>
     ensures keeps { FolderKeeps (F.state folder.old) (F.state folder.new) }
     ensures reads { IsRead 1 (F.state folder.old) (F.state folder.new) }
-    ensures ok { IfOk result (λ text. FoldPromises name.now (F.state folder.old).held text.items []) }
-    ensures err { IfErr result (λ refusal. FoldCause refusal name.now budget (F.state folder.old) (F.state folder.new)) }
+    ensures ok { IfOk result (λ text. FoldPromises source.now None (F.state folder.old).held text.items []) }
+    ensures err { IfErr result (λ refusal. FoldCause refusal source.now None budget (F.state folder.old) (F.state folder.new)) }
 {
-    let source = contents_of(alloc, Operand::Source, name, folder)?;
-    fold(alloc, &source, budget)
+    let source = contents_of(alloc, Operand::Source, source, folder)?;
+    fold(alloc, &source, None, budget)
+}
+
+// The text for the source that the folder has under one name, in the order of the schedule under the other.
+fn folded_by<F: Folder>(
+    alloc: Global,
+    source: &str,
+    schedule: &str,
+    budget: Option<u64>,
+    folder: &mut F,
+) -> Result<Vec<u8>, Refusal>
+    ensures keeps { FolderKeeps (F.state folder.old) (F.state folder.new) }
+    ensures reads { OnOk result (IsRead 2 (F.state folder.old) (F.state folder.new)) }
+    ensures ok { IfOk result (λ text. FoldPromises source.now (Some schedule.now) (F.state folder.old).held text.items []) }
+    ensures err { IfErr result (λ refusal. FoldCause refusal source.now (Some schedule.now) budget
+        (F.state folder.old) (F.state folder.new)) }
+    ensures err_reads { IfErr result (λ refusal. HasRead (Fold source.now (Some schedule.now) budget) refusal
+        (F.state folder.old) (F.state folder.new)) }
+{
+    let source = contents_of(alloc, Operand::Source, source, folder)?;
+    let schedule = contents_of(alloc, Operand::Schedule, schedule, folder)?;
+    fold(alloc, &source, Some(&schedule), budget)
 }
 
 // What the source that the folder has under one name gives on the data that it has under the other.
@@ -81,6 +102,21 @@ fn ran<F: Folder>(
     let source = contents_of(alloc, Operand::Source, source, folder)?;
     let feed = contents_of(alloc, Operand::Data, feed, folder)?;
     run_text(alloc, &source, &feed, limit)
+}
+
+// The file that a refusal of `fold` means.
+fn fold_file<'a>(made: &Result<Vec<u8>, Refusal>, source: &'a str, schedule: &'a str) -> &'a str
+    ensures { IfErr made.now (λ refusal. result.now ≡ fold_file refusal source.now (Some schedule.now)) }
+{
+    match made {
+        Err(
+            Refusal::Unread {
+                file: Operand::Schedule,
+                why: _,
+            },
+        ) => schedule,
+        _ => source,
+    }
 }
 
 // The file that a refusal of `run` means.
@@ -127,18 +163,38 @@ fn end<O: Sink, E: Sink>(
 // Compiles the source that the folder has under the name.
 fn run_fold<F: Folder, O: Sink, E: Sink>(
     alloc: Global,
-    name: &str,
+    source: &str,
     budget: Option<u64>,
     folder: &mut F,
     out: &mut O,
     err: &mut E,
 ) -> u8
-    ensures { Runs (Fold name.now budget)
+    ensures { Runs (Fold source.now None budget)
         (outside (F.state folder.old) (O.state out.old) (E.state err.old))
         (outside (F.state folder.new) (O.state out.new) (E.state err.new))
         result }
 {
-    let made = folded(alloc, name, budget, folder);
+    let made = folded_alone(alloc, source, budget, folder);
+    end(alloc, made, source, out, err)
+}
+
+// Compiles it in the order of the schedule that the folder has under the other name.
+fn run_fold_by<F: Folder, O: Sink, E: Sink>(
+    alloc: Global,
+    source: &str,
+    schedule: &str,
+    budget: Option<u64>,
+    folder: &mut F,
+    out: &mut O,
+    err: &mut E,
+) -> u8
+    ensures { Runs (Fold source.now (Some schedule.now) budget)
+        (outside (F.state folder.old) (O.state out.old) (E.state err.old))
+        (outside (F.state folder.new) (O.state out.new) (E.state err.new))
+        result }
+{
+    let made = folded_by(alloc, source, schedule, budget, folder);
+    let name = fold_file(&made, source, schedule);
     end(alloc, made, name, out, err)
 }
 
@@ -178,9 +234,24 @@ pub fn serve<F: Folder, O: Sink, E: Sink>(
     match command_of(alloc, words) {
         Err(_) => tell_short(err),
         Ok(None) => tell_words(err),
-        Ok(Some(Command::Fold { source, budget })) => {
-            run_fold(alloc, source, budget, folder, out, err)
-        }
+        Ok(
+            Some(
+                Command::Fold {
+                    source,
+                    schedule: None,
+                    budget,
+                },
+            ),
+        ) => run_fold(alloc, source, budget, folder, out, err),
+        Ok(
+            Some(
+                Command::Fold {
+                    source,
+                    schedule: Some(schedule),
+                    budget,
+                },
+            ),
+        ) => run_fold_by(alloc, source, schedule, budget, folder, out, err),
         Ok(
             Some(
                 Command::Run {

@@ -4,7 +4,7 @@ ghost use Rattle.affc_ast.specs.Recursion.{by_stmt};
 ghost use Rattle.affc_ast.specs.Trace.{assignments_step};
 ghost use Rattle.affc_interp.specs.Arrays.{values_in};
 ghost use Rattle.affc_interp.specs.Begun.{stop_of};
-ghost use Rattle.affc_cli.specs.Stuck.{ArraysAreTouched, array_name, arrays_loaded, own_array, arrays_accessed, array_of, numbers_text, array_text, iterators_text, access_text};
+ghost use Rattle.affc_cli.specs.Stuck.{ArraysAreTouched, array_name, arrays_loaded, own_array, arrays_accessed, array_of, numbers_text, array_text, iterators_text, instance_text, access_text};
 ghost use Rattle.affc_cli.specs.Telling.{RefusesStop};
 ghost use Rattle.affc_cli.specs.declared.refusal.Refusal.TheVariants.{Stuck, Memory};
 
@@ -21,8 +21,8 @@ pub fn arrays_are_touched()
     ensures { ArraysAreTouched }
 {}
 
-// The name of the array of this number, or nothing where there is none.
-fn array_name(program: &Program, array: u32) -> &str
+/// The name of the array of this number, or nothing where there is none.
+pub fn array_name(program: &Program, array: u32) -> &str
     ensures { result.now ≡ array_name program.now array }
 {
     let mut left = array as usize;
@@ -147,8 +147,8 @@ fn array_of(
 
 // ---- Its words
 
-// Adds the number parameters with their values.
-fn add_numbers(
+/// Adds the number parameters with their values.
+pub fn add_numbers(
     line: &mut String,
     before: &str,
     params: &[Param],
@@ -196,6 +196,16 @@ fn add_iterators(line: &mut String, before: &str, iterators: &[i64]) -> Result<(
     }
 }
 
+/// Adds an instance.
+pub fn add_instance(line: &mut String, instance: &Instance) -> Result<(), AllocError>
+    ensures { OnOk result (string_bytes line.new ≡ string_bytes line.old ++ instance_text instance.now) }
+{
+    let statement = instance.statement;
+    write!(line, "S{statement}(")?;
+    add_iterators(line, "", instance.iterators.as_slice())?;
+    line.push_str(")")
+}
+
 /// A line about an access.
 pub fn access_line(
     alloc: Global,
@@ -210,10 +220,9 @@ pub fn access_line(
     let array = array_of(alloc, program, instance.statement, access)?;
     let mut line = String::from_str(alloc, head)?;
     add_array(&mut line, program, p, array)?;
-    let statement = instance.statement;
-    write!(line, " in S{statement}(")?;
-    add_iterators(&mut line, "", instance.iterators.as_slice())?;
-    write!(line, ") access {access}")?;
+    line.push_str(" in ")?;
+    add_instance(&mut line, instance)?;
+    write!(line, " access {access}")?;
     Ok(line)
 }
 

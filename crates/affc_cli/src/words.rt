@@ -17,6 +17,7 @@ use std::alloc::{AllocError, Global};
 pub enum Command<'a> {
     Fold {
         source: &'a str,
+        schedule: Option<&'a str>,
         budget: Option<u64>,
     },
     Run {
@@ -107,7 +108,7 @@ fn parsed<'a>(
     }
 }
 
-// `fold SRC [--budget N]`
+// `fold SRC [SCHED] [--budget N]`
 fn fold_form<'a>(alloc: Global) -> Result<clap::Command<'a>, AllocError>
     ensures { IfOk result (λ form. app_of form ≡ fold_app) }
 {
@@ -115,6 +116,7 @@ fn fold_form<'a>(alloc: Global) -> Result<clap::Command<'a>, AllocError>
         .no_binary_name(true)
         .disable_help_flag(true)
         .arg(Arg::new(alloc, "source").required(true))?
+        .arg(Arg::new(alloc, "schedule"))?
         .arg(Arg::new(alloc, "budget").long("budget"))
 }
 
@@ -129,10 +131,15 @@ fn read_fold<'a>(alloc: Global, words: &'a [String]) -> Result<Option<Command<'a
     let Some(source) = matches.get_str("source") else {
         return Ok(None);
     };
+    let schedule = matches.get_str("schedule");
     let Some(budget) = budget_of(matches.get_str("budget")) else {
         return Ok(None);
     };
-    Ok(Some(Command::Fold { source, budget }))
+    Ok(Some(Command::Fold {
+        source,
+        schedule,
+        budget,
+    }))
 }
 
 // `run SRC DATA [--steps N]`

@@ -4,6 +4,7 @@ mod edges;
 mod failures;
 mod kernels;
 mod rows;
+mod schedules;
 mod words;
 
 use affc_cli::serve::serve;

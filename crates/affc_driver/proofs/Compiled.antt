@@ -1,24 +1,28 @@
--- What is printed of a program that stays within its arrays compiles the text that it was read from.
-use Rattle.std.proofs.Common.{◌≡◌, ℕ, false, List, [], map, refl, ap, ◌∙◌}
+-- What is printed of the loops of a legal schedule compiles the text that its program was read from.
+use Rattle.std.proofs.Common.{◌≡◌, ℕ, false, true, IsTrue, List, [], map, Option, Some, None, refl, sym, subst, ap, ◌∙◌}
 use Rattle.affc_ast.specs.declared.tree.Program.{Program}
 use Rattle.affc_ast.proofs.OwnRuns.{follows_itself}
 use Rattle.affc_ast.specs.Trace.{trace}
 use Rattle.affc_grammar.specs.Reads.{Reads}
 use Rattle.affc_cprint.specs.Layout.{printed_text}
 use Rattle.affc_cprint.proofs.Converse.{reads_back}
-use Rattle.affc_reprint.proofs.Reprinted.{reads_well_named}
 use Rattle.affc_trace.specs.Effects.{effect}
-use Rattle.affc_trace.specs.Laws.{IsInContext}
+use Rattle.affc_trace.specs.Target.{IsScheduleOf, within_limits}
 use Rattle.affc_trace.proofs.Contents.{values_by_instance}
 use Rattle.affc_trace.proofs.Targets.{map_map}
-use Rattle.affc_plain.proofs.NoLocals.{plain_has_no_locals}
 use Rattle.affc_plain.proofs.Programs.{reads_plain}
-use Rattle.affc_safe.proofs.Accesses.{without_temporaries_safe}
-use Rattle.affc_safe.proofs.SafeLaws.{safe_runs}
+use Rattle.affc_loops.specs.Laws.{HasLoops}
+use Rattle.affc_loops.specs.Loops.{target_program}
+use Rattle.affc_loops.proofs.LoopLaws.{loops_compile}
+use Rattle.affc_loopprint.specs.Laws.{LoopsWellNamed}
+use Rattle.affc_schedtext.specs.declared.plan.Plan.{Plan}
+use Rattle.affc_schedtext.proofs.Scheduled.{is_scheduled, is_limited}
 use Rattle.affc_bounds.specs.Faults.{StaysWithin}
+use Rattle.affc_bounds.proofs.LawProofs.{staying_ends}
 use Rattle.affc_driver.specs.Folds.{FoldsTo}
+use Rattle.affc_driver.specs.Plans.{HasPlan, LegalThroughout}
 use Rattle.affc_driver.specs.Laws.{CompilesItself, WithinNeverStuck, PrintedCompiles}
-use Rattle.affc_driver.proofs.Ranked.{reads_naming_arrays, are_declared}
+use Rattle.affc_driver.proofs.Ranked.{reads_naming_arrays}
 
 pub compiles_itself : CompilesItself
 compiles_itself program plain never = record {
@@ -34,26 +38,56 @@ compiles_itself program plain never = record {
 
 pub within_never_stuck : WithinNeverStuck
 within_never_stuck text program reads bare within none p store fits =
-    let here : IsInContext program p = record { ranges = fits.ranges; context = fits.context } in
-    safe_runs program p store (reads_plain text program reads bare) within.near fits
-    (without_temporaries_safe program p none (are_declared program (reads_naming_arrays text program reads)) (within.extents p here) (within.accesses p here))
+    staying_ends program p store (reads_plain text program reads bare) within (reads_naming_arrays text program reads) none fits
 
-pub folds_to : (text : List ℕ) (program : Program) (folded report : List ℕ) → Reads text program → program.prelude ≡ false → StaysWithin program → program.temps ≡ []
-    → folded ≡ printed_text program → report ≡ [] → FoldsTo text folded report
-folds_to text program folded report reads bare within none printed empty = record {
-  compiles = record {
-    source = program;
-    source_reads = reads;
-    target = program;
-    target_reads = (reads_back program folded printed).0 (reads_well_named text program reads bare);
-    compiles = compiles_itself program (plain_has_no_locals program (reads_plain text program reads bare)) (within_never_stuck text program reads bare within none);
-  };
-  printed = printed;
-  plain = bare;
-  within = within;
-  no_temporaries = none;
-  no_report = empty;
+-- ---- The schedule of a plan
+
+pub plan_scheduled : (program : Program) (schedule : Option (List ℕ)) (plan : Plan) → HasPlan program schedule plan → IsScheduleOf program plan.schedule
+plan_scheduled program None plan h = subst (λ (x : Plan). IsScheduleOf program x.schedule) (sym h) tt
+plan_scheduled program (Some text) plan h = is_scheduled text program plan h
+
+pub plan_limited : (program : Program) (schedule : Option (List ℕ)) (plan : Plan) → HasPlan program schedule plan → IsTrue (within_limits plan.schedule)
+plan_limited program None plan h = ap (λ (x : Plan). within_limits x.schedule) h
+plan_limited program (Some text) plan h = is_limited text program plan h
+
+has_loops : (text : List ℕ) (schedule : Option (List ℕ)) (program : Program) (plan : Plan) → Reads text program → program.prelude ≡ false → StaysWithin program → HasPlan program schedule plan → HasLoops program plan.schedule
+has_loops text schedule program plan reads bare within planned = record {
+  plain = reads_plain text program reads bare;
+  near = within.near;
+  scheduled = plan_scheduled program schedule plan planned;
+  limits = plan_limited program schedule plan planned;
 }
 
-pub printed_compiles : PrintedCompiles
-printed_compiles text program reads bare within none = folds_to text program (printed_text program) [] reads bare within none refl refl
+-- ---- Its loops, which are well named
+
+module _ (named : LoopsWellNamed) where
+  pub folds_to : (text : List ℕ) (schedule : Option (List ℕ)) (program : Program) (plan : Plan) (folded report : List ℕ)
+      → Reads text program → program.prelude ≡ false → StaysWithin program → program.temps ≡ []
+      → HasPlan program schedule plan → plan.folds ≡ [] → LegalThroughout program plan.schedule
+      → folded ≡ printed_text (target_program program plan.schedule) → report ≡ [] → FoldsTo text schedule folded report
+  folds_to text schedule program plan folded report reads bare within none planned whole legal printed empty =
+      let loops = has_loops text schedule program plan reads bare within planned in
+      let target = target_program program plan.schedule in
+      record {
+        plan = plan;
+        compiles = record {
+          source = program;
+          source_reads = reads;
+          target = target;
+          target_reads = (reads_back target folded printed).0 (named text program plan.schedule reads bare loops);
+          compiles = loops_compile program plan.schedule loops (within_never_stuck text program reads bare within none) legal;
+        };
+        loops = refl;
+        printed = printed;
+        plain = bare;
+        within = within;
+        planned = planned;
+        legal = legal;
+        no_temporaries = none;
+        no_folds = whole;
+        no_report = empty;
+      }
+
+  pub printed_compiles : PrintedCompiles
+  printed_compiles text schedule program plan reads bare within none planned whole legal =
+      folds_to text schedule program plan (printed_text (target_program program plan.schedule)) [] reads bare within none planned whole legal refl refl

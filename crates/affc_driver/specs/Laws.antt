@@ -1,11 +1,11 @@
 -- What a compilation's answers say of a source and of its runs.
-use Rattle.std.specs.Prelude.{◌≡◌, ◌↔◌, ◌⊎◌, ℕ, ℤ, false, IsTrue, List, [], None}
+use Rattle.std.specs.Prelude.{◌≡◌, ◌↔◌, ◌⊎◌, ℕ, ℤ, false, IsTrue, List, [], Option, None}
+use Rattle.affc_ast.specs.declared.tree.Instance.{Instance}
 use Rattle.affc_ast.specs.declared.tree.Program.{Program}
-use Rattle.affc_ast.specs.Cause.{Cause}
 use Rattle.affc_ast.specs.Compiles.{Compiles}
 use Rattle.affc_ast.specs.Fits.{Fits}
 use Rattle.affc_ast.specs.Follows.{in_source_order, own_place}
-use Rattle.affc_ast.specs.Meaning.{State, Ended, Stuck, meaning}
+use Rattle.affc_ast.specs.Meaning.{State, Ended, meaning}
 use Rattle.affc_ast.specs.Store.{Store}
 use Rattle.affc_grammar.specs.Reads.{Reads}
 use Rattle.affc_cprint.specs.Layout.{printed_text}
@@ -13,11 +13,16 @@ use Rattle.affc_trace.specs.Effects.{has_no_locals}
 use Rattle.affc_trace.specs.Laws.{IsInContext}
 use Rattle.affc_domain.specs.Ranges.{first_wide}
 use Rattle.affc_nest.specs.Laws.{NamesArrays}
+use Rattle.affc_loops.specs.Loops.{target_program}
+use Rattle.affc_schedtext.specs.declared.plan.Plan.{Plan}
 use Rattle.affc_bounds.specs.Faults.{StaysWithin}
+use Rattle.affc_bounds.specs.Laws.{IsStuckAt}
 use Rattle.affc_bounds.specs.declared.fault.MeaningFault.{MeaningFault}
 use Rattle.affc_bounds.specs.declared.fault.MeaningFault.TheVariants.{IteratorRange, Context, Extent, Bounds}
+use Rattle.affc_sched.specs.Violations.{IsViolation}
 use Rattle.affc_driver.specs.Folds.{FoldsTo}
-use Rattle.affc_driver.specs.Refusals.{HasMeaningFault, RefusalSays}
+use Rattle.affc_driver.specs.Plans.{HasPlan, LegalThroughout}
+use Rattle.affc_driver.specs.Refusals.{HasMeaningFault, IsIllegal, RefusalSays}
 use Rattle.affc_driver.specs.declared.refusal.Refusal.{Refusal}
 use Rattle.affc_driver.specs.declared.refusal.Refusal.TheVariants.{Budget, Memory}
 
@@ -26,11 +31,6 @@ use Rattle.affc_driver.specs.declared.refusal.Refusal.TheVariants.{Budget, Memor
 -- from all data that fit, the run ends
 abbrev pub NeverStuck : Program → Type 0
 NeverStuck program = (p : List ℤ) (store : Store) → Fits program p store → (end : State) × (meaning program p store ≡ Ended end)
-
--- some data fit at p, and from all that do the run is stuck
-pub record IsStuckAt (program : Program) (p : List ℤ) : Type 0 where
-  pub some : (store : Store) × Fits program p store
-  pub stuck : (store : Store) → Fits program p store → (cause : Cause) × (steps : ℕ) × (meaning program p store ≡ Stuck cause steps)
 
 -- ---- What is compiled
 
@@ -46,10 +46,12 @@ CompilesItself = (program : Program) → IsTrue (has_no_locals program) → Neve
 abbrev pub WithinNeverStuck : Type 0
 WithinNeverStuck = (text : List ℕ) (program : Program) → Reads text program → program.prelude ≡ false → StaysWithin program → program.temps ≡ [] → NeverStuck program
 
--- So what is printed of it compiles the text.
+-- So what is printed of the loops of a legal schedule compiles the text.
 abbrev pub PrintedCompiles : Type 0
-PrintedCompiles = (text : List ℕ) (program : Program) → Reads text program → program.prelude ≡ false → StaysWithin program → program.temps ≡ []
-    → FoldsTo text (printed_text program) []
+PrintedCompiles = (text : List ℕ) (schedule : Option (List ℕ)) (program : Program) (plan : Plan)
+    → Reads text program → program.prelude ≡ false → StaysWithin program → program.temps ≡ []
+    → HasPlan program schedule plan → plan.folds ≡ [] → LegalThroughout program plan.schedule
+    → FoldsTo text schedule (printed_text (target_program program plan.schedule)) []
 
 -- ---- What is refused
 
@@ -62,13 +64,19 @@ ShowsInRuns program (Extent array p) = IsStuckAt program p
 ShowsInRuns program (Bounds array access p instance) = IsStuckAt program p
 
 abbrev pub FaultsShow : Type 0
-FaultsShow = (text : List ℕ) (program : Program) (fault : MeaningFault) → Reads text program → HasMeaningFault text fault → ShowsInRuns program fault
+FaultsShow = (text : List ℕ) (schedule : Option (List ℕ)) (program : Program) (fault : MeaningFault)
+    → Reads text program → HasMeaningFault text schedule fault → ShowsInRuns program fault
+
+-- What is shown of a schedule that isn't legal is a dependence that it turns round, whichever plan the schedule is read as.
+abbrev pub IllegalShows : Type 0
+IllegalShows = (text : List ℕ) (schedule : Option (List ℕ)) (program : Program) (plan : Plan) (p : List ℤ) (a b : Instance)
+    → Reads text program → HasPlan program schedule plan → IsIllegal text schedule p a b → IsViolation program plan.schedule p a b
 
 -- ---- Completeness
 
 -- The text reads as a program without the prelude, within the interval rule, that some data fit and that is never stuck, and
--- that has no temporaries.
-pub record IsFoldable (text : List ℕ) : Type 0 where
+-- that has no temporaries; the schedule has a plan of it without folds, whose schedule is legal.
+pub record IsFoldable (text : List ℕ) (schedule : Option (List ℕ)) : Type 0 where
   pub program : Program
   pub reads : Reads text program
   pub plain : program.prelude ≡ false
@@ -76,11 +84,17 @@ pub record IsFoldable (text : List ℕ) : Type 0 where
   pub some : (p : List ℤ) × IsInContext program p
   pub never_stuck : NeverStuck program
   pub no_temporaries : program.temps ≡ []
+  pub plan : Plan
+  pub planned : HasPlan program schedule plan
+  pub no_folds : plan.folds ≡ []
+  pub legal : LegalThroughout program plan.schedule
 
 -- Exactly such a text has one that it is folded to.
 abbrev pub FoldableIsFolded : Type 0
-FoldableIsFolded = (text : List ℕ) → IsFoldable text ↔ ((folded : List ℕ) × ((report : List ℕ) × FoldsTo text folded report))
+FoldableIsFolded = (text : List ℕ) (schedule : Option (List ℕ))
+    → IsFoldable text schedule ↔ ((folded : List ℕ) × ((report : List ℕ) × FoldsTo text schedule folded report))
 
 -- It is refused, if at all, for want of budget or of memory.
 abbrev pub FoldableIsNotRefused : Type 0
-FoldableIsNotRefused = (text : List ℕ) (refusal : Refusal) → IsFoldable text → RefusalSays text refusal → (refusal ≡ Budget) ⊎ (refusal ≡ Memory)
+FoldableIsNotRefused = (text : List ℕ) (schedule : Option (List ℕ)) (refusal : Refusal)
+    → IsFoldable text schedule → RefusalSays text schedule refusal → (refusal ≡ Budget) ⊎ (refusal ≡ Memory)

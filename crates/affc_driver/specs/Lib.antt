@@ -1,3 +1,4 @@
+pub mod Plans
 pub mod Folds
 pub mod Refusals
 pub mod Printed

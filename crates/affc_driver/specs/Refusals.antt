@@ -1,16 +1,23 @@
--- Why a source isn't compiled.
-use Rattle.std.specs.Prelude.{◌≡◌, ◌≢◌, ℕ, true, false, List, [], Some, Err, slice_get}
+-- Why a source with a schedule isn't compiled.
+use Rattle.std.specs.Prelude.{◌≡◌, ◌≢◌, ◌⊎◌, ℕ, ℤ, true, false, List, [], Option, Some, Err, slice_get}
 use Rattle.affc_lex.specs.declared.token.Kind.TheVariants.{Prelude}
 use Rattle.affc_lex.specs.Lexes.{Lexeme, Lexes}
+use Rattle.affc_ast.specs.declared.tree.Instance.{Instance}
 use Rattle.affc_ast.specs.declared.tree.Program.{Program}
 use Rattle.affc_grammar.specs.Reads.{Reads}
 use Rattle.affc_parse.specs.Answers.{Answers}
 use Rattle.affc_parse.specs.declared.fault.ParseFault.{ParseFault}
 use Rattle.affc_parse.specs.declared.fault.ParseFault.TheVariants as parse
+use Rattle.affc_schedtext.specs.declared.plan.Plan.{Plan}
+use Rattle.affc_schedtext.specs.declared.plan.SchedFault.{SchedFault}
+use Rattle.affc_schedtext.specs.declared.plan.SchedFault.TheVariants as sched
+use Rattle.affc_schedtext.specs.Answers as plans
 use Rattle.affc_bounds.specs.Faults.{StaysWithin, IsMeaningFault}
 use Rattle.affc_bounds.specs.declared.fault.MeaningFault.{MeaningFault}
+use Rattle.affc_sched.specs.Violations.{IsFirstViolation}
+use Rattle.affc_driver.specs.Plans.{HasPlan, LegalThroughout}
 use Rattle.affc_driver.specs.declared.refusal.Refusal.{Refusal}
-use Rattle.affc_driver.specs.declared.refusal.Refusal.TheVariants.{Source, Printed, Meaning, Budget, Memory, Unbuilt}
+use Rattle.affc_driver.specs.declared.refusal.Refusal.TheVariants.{Source, Printed, Schedule, Meaning, Illegal, Budget, Memory, Unbuilt}
 
 -- no program reads as the source, for this reason
 pub record IsSourceFault (source : List ℕ) (fault : ParseFault) : Type 0 where
@@ -30,26 +37,49 @@ pub record IsPrinted (source : List ℕ) (place : ℕ) : Type 0 where
   pub kind : token.kind ≡ Prelude
   pub its_place : place ≡ token.start
 
--- the source reads as a program without the prelude that has this wrong with it
-pub record HasMeaningFault (source : List ℕ) (fault : MeaningFault) : Type 0 where
+-- the source reads as a program without the prelude, and the schedule as no plan of it, for this reason
+pub record HasSchedFault (source : List ℕ) (schedule : Option (List ℕ)) (fault : SchedFault) : Type 0 where
   pub tree : Program
   pub reads : Reads source tree
   pub plain : tree.prelude ≡ false
-  pub is_fault : IsMeaningFault tree fault
+  pub text : List ℕ
+  pub given : schedule ≡ Some text
+  pub answers : plans.Answers text tree (Err fault)
+  pub is_fault : fault ≢ sched.Memory
 
--- the source reads as a program without the prelude that has nothing wrong with it, and has a temporary
-pub record IsUnbuilt (source : List ℕ) : Type 0 where
+-- the source reads as a program without the prelude, of which this is a plan of the schedule
+pub record IsPlanned (source : List ℕ) (schedule : Option (List ℕ)) : Type 0 where
   pub tree : Program
   pub reads : Reads source tree
   pub plain : tree.prelude ≡ false
-  pub within : StaysWithin tree
-  pub temporaries : tree.temps ≢ []
+  pub plan : Plan
+  pub planned : HasPlan tree schedule plan
 
--- When a source is refused so. Want of memory may come at any time, and the end of the budget where it is spent.
-abbrev pub RefusalSays : (source : List ℕ) → Refusal → Type 0
-RefusalSays source (Source fault) = IsSourceFault source fault
-RefusalSays source (Printed place) = IsPrinted source place
-RefusalSays source (Meaning fault) = HasMeaningFault source fault
-RefusalSays source Budget = Unit {0}
-RefusalSays source Memory = Unit {0}
-RefusalSays source Unbuilt = IsUnbuilt source
+-- the program has this wrong with it
+pub record HasMeaningFault (source : List ℕ) (schedule : Option (List ℕ)) (fault : MeaningFault) : Type 0 where
+  pub of : IsPlanned source schedule
+  pub is_fault : IsMeaningFault of.tree fault
+
+-- the program has nothing wrong with it, and at p this is the first dependence that the plan's schedule turns round
+pub record IsIllegal (source : List ℕ) (schedule : Option (List ℕ)) (p : List ℤ) (a b : Instance) : Type 0 where
+  pub of : IsPlanned source schedule
+  pub within : StaysWithin of.tree
+  pub first : IsFirstViolation of.tree of.plan.schedule p a b
+
+-- nothing of all that is wrong, and the program has a temporary or the plan a fold
+pub record IsUnbuilt (source : List ℕ) (schedule : Option (List ℕ)) : Type 0 where
+  pub of : IsPlanned source schedule
+  pub within : StaysWithin of.tree
+  pub legal : LegalThroughout of.tree of.plan.schedule
+  pub more : (of.tree.temps ≢ []) ⊎ (of.plan.folds ≢ [])
+
+-- When a source with a schedule is refused so. Want of memory may come at any time, and the end of the budget where it is spent.
+abbrev pub RefusalSays : (source : List ℕ) (schedule : Option (List ℕ)) → Refusal → Type 0
+RefusalSays source schedule (Source fault) = IsSourceFault source fault
+RefusalSays source schedule (Printed place) = IsPrinted source place
+RefusalSays source schedule (Schedule fault) = HasSchedFault source schedule fault
+RefusalSays source schedule (Meaning fault) = HasMeaningFault source schedule fault
+RefusalSays source schedule (Illegal p a b) = IsIllegal source schedule p a b
+RefusalSays source schedule Budget = Unit {0}
+RefusalSays source schedule Memory = Unit {0}
+RefusalSays source schedule Unbuilt = IsUnbuilt source schedule

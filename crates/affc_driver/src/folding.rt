@@ -1,23 +1,37 @@
 //! A source, compiled.
-ghost use Rattle.std.specs.Prelude.{◌≡◌, ◌≢◌, ◌≤◌, IfOk, IfErr, IsNone, IsTrue, List, Some, ℕ, Err};
+ghost use Rattle.std.specs.Prelude.{◌≡◌, ◌≢◌, ◌≤◌, IfOk, OnOk, IfErr, IsNone, IsTrue, List, Option, option_map, Some, ℕ, Err};
+ghost use Rattle.affc_ast.specs.Counted.{IsCounted};
+ghost use Rattle.affc_trace.specs.Target.{IsScheduleOf, within_limits};
 ghost use Rattle.affc_domain.specs.Plain.{IsPlain};
+ghost use Rattle.affc_split.specs.Budgets.{IsLater};
 ghost use Rattle.affc_nest.specs.Laws.{NamesArrays};
+ghost use Rattle.affc_nest.specs.Nests.{nest_of};
 ghost use Rattle.affc_bounds.specs.Faults.{StaysWithin};
 ghost use Rattle.affc_parse.specs.Answers.{Answers};
 ghost use Rattle.affc_driver.specs.Folds.{FoldsTo};
+ghost use Rattle.affc_driver.specs.Plans.{HasPlan, LegalThroughout};
 ghost use Rattle.affc_driver.specs.Printed.{HasPrelude, ReadsPrinted, holds_prelude};
-ghost use Rattle.affc_driver.specs.Programs.{OfEachText};
+ghost use Rattle.affc_driver.specs.Programs.{OfEachText, OfEachPlan};
 ghost use Rattle.affc_driver.specs.Refusals.{RefusalSays};
 
 use crate::refusal::Refusal;
 use affc_ast::tree::Program;
 use affc_bounds::{Halt, check};
 use affc_cprint::print;
+use affc_grammar::laws::reads_counted;
 use affc_lex::lex;
 use affc_lex::token::{Kind, Token};
+use affc_loopprint::laws::loops_well_named;
+use affc_nest::Nest;
 use affc_parse::fault::ParseFault;
 use affc_parse::parse;
+use affc_plan::read;
+use affc_scan::scan;
+use affc_sched::{SchedStop, legal};
+use affc_schedtext::{Plan, SchedFault};
 use affc_split::Budget;
+use affc_trace::schedule::Schedule;
+use sqlite_items::Items;
 use std::alloc::Global;
 
 /// What is made of a source.
@@ -31,7 +45,7 @@ pub struct Done {
 
 // The refusal of a text that is no program.
 fn unread(fault: ParseFault) -> Refusal
-    ensures says { (source : List ℕ) → Answers source (Err fault) → RefusalSays source result }
+    ensures says { (source : List ℕ) (schedule : Option (List ℕ)) → Answers source (Err fault) → RefusalSays source schedule result }
     ensures free { result ≢ Refusal.Budget }
 {
     match fault {
@@ -56,7 +70,7 @@ fn prelude_of(tokens: &[Token]) -> usize
 // The refusal of a text that reads as a program with the prelude, at the prelude's token.
 fn printed(alloc: Global, source: &[u8]) -> Refusal
     requires { ReadsPrinted source.now }
-    ensures says { RefusalSays source.now result }
+    ensures says { (schedule : Option (List ℕ)) → RefusalSays source.now schedule result }
     ensures free { result ≢ Refusal.Budget }
 {
     match lex(alloc, source) {
@@ -65,17 +79,93 @@ fn printed(alloc: Global, source: &[u8]) -> Refusal
     }
 }
 
-// What is printed of a program that stays within its arrays, where it has no temporaries.
-fn finish(alloc: Global, program: &Program) -> Result<Done, Refusal>
-    requires { StaysWithin program.now }
-    ensures ok { IfOk result (λ done. OfEachText program.now (λ text. FoldsTo text done.text.items done.report.items)) }
-    ensures err { IfErr result (λ refusal. OfEachText program.now (λ text. RefusalSays text refusal)) }
+// The plan of a schedule's text; without one everything stays as it stands.
+fn plan_of(alloc: Global, program: &Program, schedule: Option<&[u8]>) -> Result<Plan, Refusal>
+    requires plain { IsPlain program.now }
+    requires counted { IsCounted program.now }
+    ensures planned { IfOk result (HasPlan program.now (option_map (λ t. t.now) schedule.entry)) }
+    ensures err { IfErr result (λ refusal. OfEachText program.now (λ text. RefusalSays text (option_map (λ t. t.now) schedule.entry) refusal)) }
+    ensures free { IfErr result (λ refusal. refusal ≢ Refusal.Budget) }
+{
+    let Some(text) = schedule else {
+        return Ok(Plan {
+            schedule: Schedule::Source,
+            folds: Items::new(alloc),
+        });
+    };
+    match read(alloc, program, text) {
+        Ok(plan) => Ok(plan),
+        Err(SchedFault::Memory) => Err(Refusal::Memory),
+        Err(fault) => Err(Refusal::Schedule(fault)),
+    }
+}
+
+// The nest of a program that keeps to its arrays.
+fn nest_within(alloc: Global, program: &Program, budget: &mut Budget) -> Result<Nest, Refusal>
+    requires plain { IsPlain program.now }
+    requires arrays { NamesArrays program.now }
+    ensures nest { IfOk result (λ nest. nest ≡ nest_of program.now) }
+    ensures within { OnOk result (StaysWithin program.now) }
+    ensures err { IfErr result (λ refusal. (plan : Plan) → OfEachPlan program.now plan (λ text schedule. RefusalSays text schedule refusal)) }
+    ensures later { IsLater budget.old budget.new }
+    ensures stop { IfErr result (λ refusal. refusal ≡ Refusal.Budget → budget.new.limit ≡ Some budget.new.spent) }
+{
+    match check(alloc, program, budget) {
+        Ok(nest) => Ok(nest),
+        Err(Halt::Meaning(fault)) => Err(Refusal::Meaning(fault)),
+        Err(Halt::Budget) => Err(Refusal::Budget),
+        Err(Halt::Memory) => Err(Refusal::Memory),
+    }
+}
+
+// Whether the plan's schedule is legal.
+fn in_order(
+    alloc: Global,
+    program: &Program,
+    nest: &Nest,
+    plan: &Plan,
+    budget: &mut Budget,
+) -> Result<(), Refusal>
+    requires plain { IsPlain program.now }
+    requires arrays { NamesArrays program.now }
+    requires nest { nest.now ≡ nest_of program.now }
+    requires within { StaysWithin program.now }
+    requires fits { IsScheduleOf program.now plan.now.schedule }
+    requires slight { IsTrue (within_limits plan.now.schedule) }
+    ensures legal { OnOk result (LegalThroughout program.now plan.now.schedule) }
+    ensures err { IfErr result (λ refusal. OfEachPlan program.now plan.now (λ text schedule. RefusalSays text schedule refusal)) }
+    ensures later { IsLater budget.old budget.new }
+    ensures stop { IfErr result (λ refusal. refusal ≡ Refusal.Budget → budget.new.limit ≡ Some budget.new.spent) }
+{
+    match legal(alloc, nest, &plan.schedule, budget) {
+        Ok(_) => Ok(()),
+        Err(SchedStop::Illegal { p, a, b }) => Err(Refusal::Illegal { p, a, b }),
+        Err(SchedStop::Budget) => Err(Refusal::Budget),
+        Err(SchedStop::Memory) => Err(Refusal::Memory),
+    }
+}
+
+// What is printed of the loops of a legal schedule, where there are no temporaries and no folds.
+fn finish(alloc: Global, program: &Program, nest: &Nest, plan: &Plan) -> Result<Done, Refusal>
+    requires plain { IsPlain program.now }
+    requires nest { nest.now ≡ nest_of program.now }
+    requires within { StaysWithin program.now }
+    requires fits { IsScheduleOf program.now plan.now.schedule }
+    requires slight { IsTrue (within_limits plan.now.schedule) }
+    requires legal { LegalThroughout program.now plan.now.schedule }
+    ensures ok { IfOk result (λ done. OfEachPlan program.now plan.now (λ text schedule. FoldsTo text schedule done.text.items done.report.items)) }
+    ensures err { IfErr result (λ refusal. OfEachPlan program.now plan.now (λ text schedule. RefusalSays text schedule refusal)) }
     ensures free { IfErr result (λ refusal. refusal ≢ Refusal.Budget) }
 {
     if !program.temps.as_slice().is_empty() {
         return Err(Refusal::Unbuilt);
     }
-    match print(alloc, program) {
+    if !plan.folds.as_slice().is_empty() {
+        return Err(Refusal::Unbuilt);
+    }
+    loops_well_named();
+    let target = scan(alloc, program, nest, &plan.schedule)?;
+    match print(alloc, &target) {
         Ok(text) => Ok(Done {
             text,
             report: Vec::new(alloc),
@@ -84,41 +174,71 @@ fn finish(alloc: Global, program: &Program) -> Result<Done, Refusal>
     }
 }
 
-// What is made of a plain program: its meaning is looked at before anything else.
-fn compile(alloc: Global, program: &Program, budget: &mut Budget) -> Result<Done, Refusal>
+// What is made of a plain program by its plan: its meaning is looked at first, then the order.
+fn compile(
+    alloc: Global,
+    program: &Program,
+    plan: &Plan,
+    budget: &mut Budget,
+) -> Result<Done, Refusal>
     requires plain { IsPlain program.now }
     requires arrays { NamesArrays program.now }
-    ensures ok { IfOk result (λ done. OfEachText program.now (λ text. FoldsTo text done.text.items done.report.items)) }
-    ensures err { IfErr result (λ refusal. OfEachText program.now (λ text. RefusalSays text refusal)) }
-    ensures limit { budget.new.limit ≡ budget.old.limit }
-    ensures grows { budget.old.spent ≤ budget.new.spent }
-    ensures uncounted { IsNone budget.old.limit → budget.new.spent ≡ budget.old.spent }
+    requires fits { IsScheduleOf program.now plan.now.schedule }
+    requires slight { IsTrue (within_limits plan.now.schedule) }
+    ensures ok { IfOk result (λ done. OfEachPlan program.now plan.now (λ text schedule. FoldsTo text schedule done.text.items done.report.items)) }
+    ensures err { IfErr result (λ refusal. OfEachPlan program.now plan.now (λ text schedule. RefusalSays text schedule refusal)) }
+    ensures later { IsLater budget.old budget.new }
     ensures stop { IfErr result (λ refusal. refusal ≡ Refusal.Budget → budget.new.limit ≡ Some budget.new.spent) }
 {
-    match check(alloc, program, budget) {
-        Ok(_) => finish(alloc, program),
-        Err(Halt::Meaning(fault)) => Err(Refusal::Meaning(fault)),
-        Err(Halt::Budget) => Err(Refusal::Budget),
-        Err(Halt::Memory) => Err(Refusal::Memory),
-    }
+    let nest = match nest_within(alloc, program, budget) {
+        Ok(nest) => nest,
+        Err(refusal) => return Err(refusal),
+    };
+    in_order(alloc, program, &nest, plan, budget)?;
+    finish(alloc, program, &nest, plan)
 }
 
-/// The text that does what the source does, or why there is none. A unit of the budget is a box of a question that is
-/// opened.
-pub fn fold(alloc: Global, source: &[u8], budget: &mut Budget) -> Result<Done, Refusal>
-    ensures ok { IfOk result (λ done. FoldsTo source.now done.text.items done.report.items) }
-    ensures err { IfErr result (RefusalSays source.now) }
+// What is made of a plain program with a schedule, whose text is read first.
+fn compile_with(
+    alloc: Global,
+    program: &Program,
+    schedule: Option<&[u8]>,
+    budget: &mut Budget,
+) -> Result<Done, Refusal>
+    requires plain { IsPlain program.now }
+    requires counted { IsCounted program.now }
+    requires arrays { NamesArrays program.now }
+    ensures ok { IfOk result (λ done. OfEachText program.now (λ text. FoldsTo text (option_map (λ t. t.now) schedule.entry) done.text.items done.report.items)) }
+    ensures err { IfErr result (λ refusal. OfEachText program.now (λ text. RefusalSays text (option_map (λ t. t.now) schedule.entry) refusal)) }
+    ensures later { IsLater budget.old budget.new }
+    ensures stop { IfErr result (λ refusal. refusal ≡ Refusal.Budget → budget.new.limit ≡ Some budget.new.spent) }
+{
+    let plan = plan_of(alloc, program, schedule)?;
+    compile(alloc, program, &plan, budget)
+}
+
+/// The text that does what the source does, in the order of the schedule, or why there is none. A unit of the budget is
+/// a box of a question that is opened.
+pub fn fold(
+    alloc: Global,
+    source: &[u8],
+    schedule: Option<&[u8]>,
+    budget: &mut Budget,
+) -> Result<Done, Refusal>
+    ensures ok { IfOk result (λ done. FoldsTo source.now (option_map (λ t. t.now) schedule.entry) done.text.items done.report.items) }
+    ensures err { IfErr result (RefusalSays source.now (option_map (λ t. t.now) schedule.entry)) }
     ensures limit { budget.new.limit ≡ budget.old.limit }
     ensures grows { budget.old.spent ≤ budget.new.spent }
     ensures uncounted { IsNone budget.old.limit → budget.new.spent ≡ budget.old.spent }
     ensures stop { IfErr result (λ refusal. refusal ≡ Refusal.Budget → budget.new.limit ≡ Some budget.new.spent) }
 {
+    reads_counted();
     match parse(alloc, source) {
         Ok(program) => {
             if program.prelude {
                 return Err(printed(alloc, source));
             }
-            compile(alloc, &program, budget)
+            compile_with(alloc, &program, schedule, budget)
         }
         Err(fault) => Err(unread(fault)),
     }

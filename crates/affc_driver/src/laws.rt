@@ -1,5 +1,7 @@
 //! What a compilation's answers say of a source and of its runs. Each law is the contract of a function that does nothing.
-ghost use Rattle.affc_driver.specs.Laws.{ReadsNamingArrays, CompilesItself, WithinNeverStuck, PrintedCompiles, FaultsShow, FoldableIsFolded, FoldableIsNotRefused};
+ghost use Rattle.affc_driver.specs.Laws.{ReadsNamingArrays, CompilesItself, WithinNeverStuck, PrintedCompiles, FaultsShow, IllegalShows, FoldableIsFolded, FoldableIsNotRefused};
+
+use affc_loopprint::laws::loops_well_named;
 
 /// The program that a text reads as names arrays.
 pub fn reads_naming_arrays()
@@ -16,20 +18,30 @@ pub fn within_never_stuck()
     ensures law { WithinNeverStuck }
 {}
 
-/// What is printed of it compiles the text that it was read from.
+/// What is printed of the loops of a legal schedule compiles the text that the program was read from.
 pub fn printed_compiles()
     ensures law { PrintedCompiles }
-{}
+{
+    loops_well_named();
+}
 
 /// Where a program leaves its arrays it is stuck; where its context is empty no data fit.
 pub fn faults_show()
     ensures law { FaultsShow }
 {}
 
-/// A text is folded exactly where its program is never stuck, and has no temporaries.
+/// What is shown of an illegal schedule is a dependence that it turns round.
+pub fn illegal_shows()
+    ensures law { IllegalShows }
+{}
+
+/// A text is folded exactly where its program is never stuck and has no temporaries, and its schedule is legal and without
+/// folds.
 pub fn foldable_is_folded()
     ensures law { FoldableIsFolded }
-{}
+{
+    loops_well_named();
+}
 
 /// Such a text is refused for want of budget or of memory, and for nothing else.
 pub fn foldable_is_not_refused()

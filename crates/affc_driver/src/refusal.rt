@@ -1,11 +1,14 @@
 //! Why there is no text.
 
+use affc_ast::tree::Instance;
 use affc_bounds::MeaningFault;
 use affc_parse::fault::ParseFault;
+use affc_schedtext::SchedFault;
+use sqlite_items::Items;
 use std::alloc::AllocError;
 use thiserror::Error;
 
-/// Why a source isn't compiled.
+/// Why a source with a schedule isn't compiled.
 #[derive(Debug, Drop, Error)]
 pub enum Refusal {
     /// No program reads as the source.
@@ -14,13 +17,23 @@ pub enum Refusal {
     /// The source reads as a program with the prelude, which begins at this byte.
     #[error("the prelude stands at byte {0}")]
     Printed(usize),
+    /// The schedule is no plan of the source.
+    #[error("{0}")]
+    Schedule(SchedFault),
     #[error("{0}")]
     Meaning(MeaningFault),
+    /// At `p`, the values of the number parameters, `b` depends on `a`, and the schedule runs it before `a`.
+    #[error("a dependence of statement {} on statement {} is turned round", b.statement, a.statement)]
+    Illegal {
+        p: Items<i64>,
+        a: Instance,
+        b: Instance,
+    },
     #[error("the budget is spent")]
     Budget,
     #[error("out of memory")]
     Memory,
-    /// The source has temporaries, which aren't folded yet.
+    /// The source has temporaries or the schedule has folds, which aren't built yet.
     #[error("temporaries aren't folded yet")]
     Unbuilt,
 }

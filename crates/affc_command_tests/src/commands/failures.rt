@@ -46,18 +46,26 @@ impl Folder for ShortFolder {
     }
 }
 
-// The calls 0, 2 and 4 of one folder fail.
+// The calls 0, 2, 4, 7 and 9 of one folder fail.
 #[test]
 fn files_that_are_not_read_are_named(rt: HostRuntime) -> Result<(), Fail> {
     let alloc = rt.alloc();
     let long = vec![in alloc; b' '; 67_108_865]?;
-    let mut folder = folder_of(alloc, COPY.as_bytes().to_vec(alloc)?, long, &[0, 2, 4])?;
+    let mut folder = folder_of(
+        alloc,
+        COPY.as_bytes().to_vec(alloc)?,
+        long,
+        &[0, 2, 4, 7, 9],
+    )?;
     let rows = [
         ("fold a.c", "affc: read a.c\n"),
         ("fold a.data", "affc: too long a.data\n"),
         ("run a.c a.data", "affc: read a.c\n"),
         ("run a.c a.data", "affc: read a.data\n"),
         ("run a.c a.data", "affc: too long a.data\n"),
+        ("fold a.c a.data", "affc: read a.c\n"),
+        ("fold a.c a.data", "affc: read a.data\n"),
+        ("fold a.c a.data", "affc: too long a.data\n"),
     ];
     for (line, told) in rows {
         let mut err = sure_sink(alloc);

@@ -22,7 +22,7 @@ const FOLDS: [(&str, &str, u8, &str, &str); 38] = [
     ("fold", COPY, 2, "", "affc: words\n"),
     ("fold ", COPY, 2, "", "affc: words\n"),
     ("fold -", COPY, 2, "", "affc: words\n"),
-    ("fold a b", COPY, 2, "", "affc: words\n"),
+    ("fold a b", COPY, 3, "", "affc: read a\n"),
     ("fold a b c", COPY, 2, "", "affc: words\n"),
     ("fold a.c --budget 0", COPY, 2, "", "affc: words\n"),
     ("run a.c a.data --budget 1", COPY, 2, "", "affc: words\n"),
@@ -504,7 +504,7 @@ fn widened(alloc: Global, text: &str, name: &str, long: &str) -> Result<String, 
 }
 
 // The source with the texts that its names stand for.
-fn whole(alloc: Global, source: &str) -> Result<String, AllocError> {
+pub fn whole(alloc: Global, source: &str) -> Result<String, AllocError> {
     let source = widened(alloc, source, "{open}", OPEN)?;
     widened(alloc, source.as_str(), "{prelude}", PRELUDE)
 }
@@ -547,7 +547,7 @@ fn runs_are_served(rt: HostRuntime) -> Result<(), Fail> {
 
 #[test]
 fn kernels_are_served(rt: HostRuntime) -> Result<(), Fail> {
-    for (source, feed, out, compiled) in KERNELS {
+    for (source, feed, out, compiled, schedule, loops) in KERNELS {
         let done = plain(rt.alloc(), "run a.c a.data", source, feed)?;
         assert_eq!(rt; done.status, 0, "of {source}");
         assert_eq!(rt; done.out.as_slice(), out.as_bytes());
@@ -555,6 +555,13 @@ fn kernels_are_served(rt: HostRuntime) -> Result<(), Fail> {
         let status = if compiled.is_empty() { 14 } else { 0 };
         assert_eq!(rt; folded.status, status, "of {source}");
         assert_eq!(rt; folded.out.as_slice(), compiled.as_bytes());
+        if schedule.is_empty() {
+            continue;
+        }
+        let ordered = plain(rt.alloc(), "fold a.c a.data", source, schedule)?;
+        assert_eq!(rt; ordered.out.as_slice(), loops.as_bytes(), "of {source}");
+        let done = plain(rt.alloc(), "run a.c a.data", loops, feed)?;
+        assert_eq!(rt; done.out.as_slice(), out.as_bytes());
     }
     Ok(())
 }

@@ -13,18 +13,17 @@ fn told(alloc: Global, line: &str) -> Result<String, AllocError> {
         Some(
             Command::Fold {
                 source,
-                budget: None,
+                schedule,
+                budget,
             },
         ) => {
             write!(text, "fold [{source}]")?;
-        }
-        Some(
-            Command::Fold {
-                source,
-                budget: Some(units),
-            },
-        ) => {
-            write!(text, "fold [{source}] {units}")?;
+            if let Some(schedule) = schedule {
+                write!(text, " [{schedule}]")?;
+            }
+            if let Some(units) = budget {
+                write!(text, " {units}")?;
+            }
         }
         Some(
             Command::Run {
@@ -46,6 +45,11 @@ fn words_are_read(rt: HostRuntime) -> Result<(), Fail> {
         ("fold -- -", "fold [-]"),
         ("fold a --", "fold [a]"),
         ("fold help", "fold [help]"),
+        ("fold a b", "fold [a] [b]"),
+        ("fold a --budget 7 b", "fold [a] [b] 7"),
+        ("fold a -- -b", "fold [a] [-b]"),
+        ("fold a b c", "none"),
+        ("fold a -b", "none"),
         ("fold --budget 007 a", "fold [a] 7"),
         (
             "fold a --budget=9223372036854775807",

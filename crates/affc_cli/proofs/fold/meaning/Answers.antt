@@ -4,5 +4,5 @@ use Rattle.affc_cli.proofs.fold.meaning.Goals as goal
 
 pub returns-in-Ok-meaning_line : goal.returns-in-Ok-meaning_line
 returns-in-Ok-meaning_line c =
-    meant c.args.source.now c.from_string.result c.args.fault.now c.in-Ok.program c.one_program.ensures.reads c.in-Ok.ensures.ok c.requires
+    meant c.args.source.now _ c.from_string.result c.args.fault.now c.in-Ok.program c.one_program.ensures.reads c.in-Ok.ensures.ok c.requires
     (c.from_string.ensures ∙ c.in-Ok-meaning_line.ensures)

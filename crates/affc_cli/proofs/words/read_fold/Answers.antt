@@ -24,14 +24,14 @@ pub returns-in_default-budget_of : goal.returns-in_default-budget_of
 returns-in_default-budget_of c =
     let parses : Parses (app_of c.in_ok-form.form) (texts_of c.args.words.now) c.in_ok-matches.field-0 = c.in_ok-matches.ensures in
     let some : Parses fold_app (texts_of c.args.words.now) (Some c.in-Some.matches) = rw (c.in_ok-form.ensures, c.in-Some.is) at parses in
-    fold_no_budget (texts_of c.args.words.now) (found_of c.in-Some.matches) c.in-Some-get_str.source.now
-    (fold_some (texts_of c.args.words.now) c.in-Some.matches c.requires some) c.in-Some-get_str.ensures
+    fold_no_budget (texts_of c.args.words.now) (found_of c.in-Some.matches) c.in-Some-get_str.source.now _
+    (fold_some (texts_of c.args.words.now) c.in-Some.matches c.requires some) c.in-Some-get_str.ensures c.get_str-schedule.ensures
     (rw c.get_str-2.ensures at c.in_default-budget_of.ensures)
 
 pub returns : goal.returns
 returns c =
     let parses : Parses (app_of c.in_ok-form.form) (texts_of c.args.words.now) c.in_ok-matches.field-0 = c.in_ok-matches.ensures in
     let some : Parses fold_app (texts_of c.args.words.now) (Some c.in-Some.matches) = rw (c.in_ok-form.ensures, c.in-Some.is) at parses in
-    fold_answer (texts_of c.args.words.now) (found_of c.in-Some.matches) c.in-Some-get_str.source.now c.in-Some-budget_of.budget
-    (fold_some (texts_of c.args.words.now) c.in-Some.matches c.requires some) c.in-Some-get_str.ensures
+    fold_answer (texts_of c.args.words.now) (found_of c.in-Some.matches) c.in-Some-get_str.source.now _ c.in-Some-budget_of.budget
+    (fold_some (texts_of c.args.words.now) c.in-Some.matches c.requires some) c.in-Some-get_str.ensures c.get_str-schedule.ensures
     (rw c.get_str-2.ensures at c.in-Some-budget_of.ensures)

@@ -7,6 +7,6 @@ pub prelude_of-requires : goal.prelude_of-requires
 prelude_of-requires c = ap holds_prelude c.deref.ensures.value ∙ tokens_hold c.args.source.now c.in-Ok.tokens.items c.in-Ok.ensures.tokens c.requires
 
 pub returns-in-Ok-clause-says : goal.returns-in-Ok-clause-says
-returns-in-Ok-clause-says c =
+returns-in-Ok-clause-says c schedule =
     let has : HasPrelude c.in-Ok.tokens.items c.prelude_of.result = subst (λ l. HasPrelude l c.prelude_of.result) c.deref.ensures.value c.prelude_of.ensures in
     printed_at c.args.source.now c.in-Ok.tokens.items c.prelude_of.result c.in-Ok.ensures.tokens has c.requires

@@ -1,7 +1,7 @@
 use Rattle.std.proofs.Common.{◌++◌, codes, refl, ap}
-use Rattle.affc_cli.specs.declared.refusal.Refusal.TheVariants.{Words, Unread, Source, Printed, Meaning, Stuck, Budget, Memory, Steps, Data, Unbuilt}
+use Rattle.affc_cli.specs.declared.refusal.Refusal.TheVariants.{Words, Unread, Source, Printed, Schedule, Meaning, Stuck, Illegal, Budget, Memory, Steps, Data, Unbuilt}
 use Rattle.affc_cli.proofs.Telling.{plain_told, memory_told, made_line}
-use Rattle.affc_cli.proofs.refusal.Refusal.tell.Goals.{in-Words, in-Unread, in-Source+in-Ok, in-Printed+in-Ok-source_line, in-Meaning, in-Stuck, in-Budget, in-Memory, in-Steps, in-Data+in-Ok-data_line, in-Unbuilt}
+use Rattle.affc_cli.proofs.refusal.Refusal.tell.Goals.{in-Words, in-Unread, in-Source+in-Ok, in-Printed+in-Ok-source_line, in-Schedule, in-Meaning, in-Stuck, in-Illegal, in-Budget, in-Memory, in-Steps, in-Data+in-Ok-data_line, in-Unbuilt}
 use Rattle.affc_cli.proofs.refusal.Refusal.tell.Goals as goal
 
 pub returns-in-Err-clause-told : goal.returns-in-Err-clause-told
@@ -22,8 +22,10 @@ returns-clause-told g c =
       | in-Unread w ↦ plain_told (Unread w.in-Unread.file w.in-Unread.why) c.args.self.now c.args.name.now _ _ _ _ c.status.result w.in-Unread.is c.status.ensures (ap (λ l. l ++ c.args.name.now ++ codes "\n") w.words.ensures) (ap g.E.Sink.state w.err-is) w.put_line-in-Unread.ensures.told
       | in-Source+in-Ok w ↦ plain_told (Source w.in-Source.fault) c.args.self.now c.args.name.now _ _ _ _ c.status.result w.in-Source.is c.status.ensures (made_line w.as_str.result.now _ _ w.as_str.ensures.value w.in-Ok.ensures) (ap g.E.Sink.state w.err-is) w.put_line-in-Ok.ensures.told
       | in-Printed+in-Ok-source_line w ↦ plain_told (Printed w.in-Printed.place) c.args.self.now c.args.name.now _ _ _ _ c.status.result w.in-Printed.is c.status.ensures (made_line w.as_str-in-Ok-source_line.result.now _ _ w.as_str-in-Ok-source_line.ensures.value w.in-Ok-source_line.ensures) (ap g.E.Sink.state w.err-is) w.put_line-in-Ok-source_line.ensures.told
+      | in-Schedule w ↦ plain_told (Schedule w.in-Schedule.line) c.args.self.now c.args.name.now _ _ _ _ c.status.result w.in-Schedule.is c.status.ensures (made_line w.as_str-in-Schedule.result.now _ _ w.as_str-in-Schedule.ensures refl) (ap g.E.Sink.state w.err-is) w.put_line-in-Schedule.ensures.told
       | in-Meaning w ↦ plain_told (Meaning w.in-Meaning.line) c.args.self.now c.args.name.now _ _ _ _ c.status.result w.in-Meaning.is c.status.ensures (made_line w.as_str-in-Meaning.result.now _ _ w.as_str-in-Meaning.ensures refl) (ap g.E.Sink.state w.err-is) w.put_line-in-Meaning.ensures.told
       | in-Stuck w ↦ plain_told (Stuck w.in-Stuck.line) c.args.self.now c.args.name.now _ _ _ _ c.status.result w.in-Stuck.is c.status.ensures (made_line w.as_str-in-Stuck.result.now _ _ w.as_str-in-Stuck.ensures refl) (ap g.E.Sink.state w.err-is) w.put_line-in-Stuck.ensures.told
+      | in-Illegal w ↦ plain_told (Illegal w.in-Illegal.line) c.args.self.now c.args.name.now _ _ _ _ c.status.result w.in-Illegal.is c.status.ensures (made_line w.as_str-in-Illegal.result.now _ _ w.as_str-in-Illegal.ensures refl) (ap g.E.Sink.state w.err-is) w.put_line-in-Illegal.ensures.told
       | in-Budget w ↦ plain_told Budget c.args.self.now c.args.name.now _ _ _ _ c.status.result w.in-Budget.is c.status.ensures refl (ap g.E.Sink.state w.err-is) w.put_line-in-Budget.ensures.told
       | in-Memory w ↦ plain_told Memory c.args.self.now c.args.name.now _ _ _ _ c.status.result w.in-Memory.is c.status.ensures refl (ap g.E.Sink.state w.err-is) w.put_line-in-Memory.ensures.told
       | in-Steps w ↦ plain_told Steps c.args.self.now c.args.name.now _ _ _ _ c.status.result w.in-Steps.is c.status.ensures refl (ap g.E.Sink.state w.err-is) w.put_line-in-Steps.ensures.told

@@ -1,0 +1,18 @@
+use Rattle.affc_driver.proofs.Refused.{asked, asked_for, turned}
+use Rattle.affc_driver.proofs.folding.in_order.Goals as goal
+
+pub legal-requires : goal.legal-requires
+legal-requires c = record {
+  asked = asked c.args.program.now c.args.nest.now c.args.plan.now.schedule c.requires.plain c.requires.arrays c.requires.nest c.requires.within c.requires.fits c.requires.slight;
+}
+
+pub returns-in-Ok-clause-legal : goal.returns-in-Ok-clause-legal
+returns-in-Ok-clause-legal c =
+    c.in-Ok.ensures.legal c.args.program.now
+    (asked_for c.args.program.now c.args.nest.now c.args.plan.now.schedule c.requires.plain c.requires.arrays c.requires.nest c.requires.within c.requires.fits)
+
+pub returns-in-Err-Illegal-clause-err : goal.returns-in-Err-Illegal-clause-err
+returns-in-Err-Illegal-clause-err c =
+    turned c.args.program.now c.args.nest.now c.args.plan.now c.in-Err-Illegal.p c.in-Err-Illegal.a c.in-Err-Illegal.b c.requires.within
+    (asked_for c.args.program.now c.args.nest.now c.args.plan.now.schedule c.requires.plain c.requires.arrays c.requires.nest c.requires.within c.requires.fits)
+    (rw c.in-Err-Illegal.field-0-is at c.in-Err-Illegal.ensures.illegal)
