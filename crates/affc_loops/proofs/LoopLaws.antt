@@ -59,7 +59,7 @@ module _ (source : Program) (n : ℕ) (maps : List TimeMap) (h : HasLoops source
   pub slight : IsTrue (maps_within maps)
   slight = (both_true (nat_le 1 n && nat_le n 12) (maps_within maps) h.limits).1
 
-  some_or_none : (pieces source maps ≡ []) ⊎ (length (time_ranges (number_ranges source.params) (pieces source maps)) ≡ n)
+  pub some_or_none : (pieces source maps ≡ []) ⊎ (length (time_ranges (number_ranges source.params) (pieces source maps)) ≡ n)
   some_or_none = by (pieces source maps) refl
     where
       params : List (ℤ × ℤ)
