@@ -7,3 +7,4 @@ pub mod Maps
 pub mod Composed
 pub mod Folds
 pub mod Times
+pub mod Products

@@ -11,4 +11,5 @@ mod lists;
 pub mod lost;
 pub mod maps;
 mod parts;
+pub mod products;
 pub mod times;
