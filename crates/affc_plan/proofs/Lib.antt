@@ -18,3 +18,6 @@ pub mod TimeLaws
 pub mod ProductSound
 pub mod ProductComplete
 pub mod ProductTurns
+pub mod SchedHeaders
+pub mod StopLaws
+pub mod StageLaws

@@ -12,4 +12,8 @@ pub mod lost;
 pub mod maps;
 mod parts;
 pub mod products;
+mod reading;
+mod stops;
 pub mod times;
+
+pub use reading::read;
