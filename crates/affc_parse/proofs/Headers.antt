@@ -15,14 +15,14 @@ is_right s = if is_header_kind s.kind then same s.bytes (codes "<stdint.h>") els
 abbrev pub AreRight : List Symbol → Type 0
 AreRight ss = list_all is_right ss ≡ true
 
-on : (xs ys : List Symbol) → AreRight xs → AreRight ys → AreRight (xs ++ ys)
+pub on : (xs ys : List Symbol) → AreRight xs → AreRight ys → AreRight (xs ++ ys)
 on [] ys h k = k
 on (x ∷ xs) ys h k =
     let p = both (is_right x) (list_all is_right xs) h in
     ap (λ b. b && list_all is_right (xs ++ ys)) p.0 ∙ on xs ys p.1 k
 
 mutual
-  ix_right : {prelude : Bool} (a : IxText prelude) → AreRight (ix_symbols a)
+  pub ix_right : {prelude : Bool} (a : IxText prelude) → AreRight (ix_symbols a)
   ix_right (g.term a) = term_right a
   ix_right (g.plus a b) = on (ix_symbols a) _ (ix_right a) (term_right b)
   ix_right (g.minus a b) = on (ix_symbols a) _ (ix_right a) (term_right b)

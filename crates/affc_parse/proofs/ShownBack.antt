@@ -39,7 +39,7 @@ same_shown LineEnd bytes h = refl
 same_shown Prelude bytes h = refl
 same_shown Mark bytes h = refl
 
-same_right : (k : Kind) (bytes : List ℕ) → is_right (of_kind k bytes) ≡ true → of_kind k (shown_bytes k bytes) ≡ of_kind k bytes
+pub same_right : (k : Kind) (bytes : List ℕ) → is_right (of_kind k bytes) ≡ true → of_kind k (shown_bytes k bytes) ≡ of_kind k bytes
 same_right Word bytes h = refl
 same_right Number bytes h = refl
 same_right Value bytes h = refl
@@ -49,7 +49,7 @@ same_right LineEnd bytes h = refl
 same_right Prelude bytes h = refl
 same_right Mark bytes h = refl
 
-all_same : (ts : List Lexeme) → AreRight (map shown ts) → map shown ts ≡ symbols ts
+pub all_same : (ts : List Lexeme) → AreRight (map shown ts) → map shown ts ≡ symbols ts
 all_same [] h = refl
 all_same (t ∷ ts) h =
     let p = both (is_right (shown t)) (list_all is_right (map shown ts)) h in
@@ -61,25 +61,25 @@ spelled_back ts c e = sym (all_same ts (ap (list_all is_right) e ∙ text_right 
 
 -- ---- Where a text stops
 
-first_right : (xs ys : List Symbol) → AreRight (xs ++ ys) → AreRight xs
+pub first_right : (xs ys : List Symbol) → AreRight (xs ++ ys) → AreRight xs
 first_right [] ys h = refl
 first_right (x ∷ xs) ys h =
     let p = both (is_right x) (list_all is_right (xs ++ ys)) h in
     ap (λ b. b && list_all is_right xs) p.0 ∙ first_right xs ys p.1
 
-next_right : (xs : List Symbol) (x : Symbol) (ys : List Symbol) → AreRight (xs ++ x ∷ ys) → is_right x ≡ true
+pub next_right : (xs : List Symbol) (x : Symbol) (ys : List Symbol) → AreRight (xs ++ x ∷ ys) → is_right x ≡ true
 next_right [] x ys h = (both (is_right x) (list_all is_right ys) h).0
 next_right (z ∷ xs) x ys h = next_right xs x ys (both (is_right z) (list_all is_right (xs ++ x ∷ ys)) h).1
 
 -- tokens split as what is shown of them is
-record Split (ts : List Lexeme) (before rest : List Symbol) : Type 0 where
-  front : List Lexeme
-  back : List Lexeme
-  joined : ts ≡ front ++ back
-  is_front : map shown front ≡ before
-  is_back : map shown back ≡ rest
+pub record Split (ts : List Lexeme) (before rest : List Symbol) : Type 0 where
+  pub front : List Lexeme
+  pub back : List Lexeme
+  pub joined : ts ≡ front ++ back
+  pub is_front : map shown front ≡ before
+  pub is_back : map shown back ≡ rest
 
-split_of : (ts : List Lexeme) (before rest : List Symbol) → map shown ts ≡ before ++ rest → Split ts before rest
+pub split_of : (ts : List Lexeme) (before rest : List Symbol) → map shown ts ≡ before ++ rest → Split ts before rest
 split_of ts [] rest e = record { front = []; back = ts; joined = refl; is_front = refl; is_back = e }
 split_of [] (b ∷ before) rest e = absurd (cc)
 split_of (t ∷ ts) (b ∷ before) rest e =
@@ -88,7 +88,7 @@ split_of (t ∷ ts) (b ∷ before) rest e =
     let s = split_of ts before rest others in
     record { front = t ∷ s.front; back = s.back; joined = ap (λ l. t ∷ l) s.joined; is_front = λ i. first i ∷ s.is_front i; is_back = s.is_back }
 
-symbols-append : (xs ys : List Lexeme) → symbols (xs ++ ys) ≡ symbols xs ++ symbols ys
+pub symbols-append : (xs ys : List Lexeme) → symbols (xs ++ ys) ≡ symbols xs ++ symbols ys
 symbols-append [] ys = refl
 symbols-append (x ∷ xs) ys = ap (λ l. symbol x ∷ l) (symbols-append xs ys)
 

@@ -3,10 +3,10 @@
 
 pub mod fault;
 pub mod laws;
-mod place;
+pub mod place;
 mod program;
 mod size;
-mod symbols;
+pub mod symbols;
 mod tokens;
 
 pub use program::parse;

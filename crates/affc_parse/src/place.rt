@@ -10,7 +10,7 @@ use affc_lex::token::{Kind, Token};
 use sqlite_items::at as at_index;
 
 /// Where the token of this number begins; behind the last token, the text's end.
-pub(crate) fn place_of(text: &[u8], tokens: &[Token], at: usize) -> usize
+pub fn place_of(text: &[u8], tokens: &[Token], at: usize) -> usize
     ensures { result ≡ reads.place_of text.now (lexemes text.now tokens.now) at }
 {
     match at_index(tokens, at) {

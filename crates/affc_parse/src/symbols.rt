@@ -91,7 +91,7 @@ fn symbol_of<'a>(text: &'a [u8], token: &Token) -> Symbol<'a>
 }
 
 /// The tokens in order.
-pub(crate) fn symbols_of<'a>(
+pub fn symbols_of<'a>(
     alloc: Global,
     text: &'a [u8],
     tokens: &[Token],

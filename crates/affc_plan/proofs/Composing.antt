@@ -1,10 +1,10 @@
 -- Slight forms with slight images don't pass 2^126.
-use Rattle.std.proofs.Common.{◌≡◌, ℕ, zero, suc, ◌+◌, ◌*◌, ◌^◌, ◌<◌, ◌≤◌, ℤ, pos, true, ◌&&◌, List, [], ◌∷◌, ◌++◌, length, get_or, refl, sym, ap, ◌∙◌, arith, inl, inr, lit≤}
+use Rattle.std.proofs.Common.{◌≡◌, ℕ, zero, suc, ◌*◌, ◌^◌, ◌≤◌, ℤ, pos, true, ◌&&◌, List, [], ◌∷◌, ◌++◌, length, get_or, refl, arith, inl, inr, lit≤}
 use Rattle.std.specs.Prelude.{unsigned_abs, nat_le, nat_abs}
 use Rattle.std.proofs.lemmas.Nat.{mul-le}
 use Rattle.std.proofs.lemmas.Bool.{and_parts, and_from}
 use Rattle.affc_rows.specs.Forms.{Affine, dot_magnitude, column_of, constants_of, columns_of, composed_magnitudes, composed_form_magnitudes, TooWide}
-use Rattle.affc_trace.specs.Inverses.{zeros, unit_row, column, columns_from}
+use Rattle.affc_trace.specs.Inverses.{zeros, unit_row, columns_from}
 use Rattle.affc_trace.specs.Target.{are_slight, all_slight}
 use Rattle.affc_plan.specs.Parts.{is_slight}
 use Rattle.affc_plan.proofs.PartLaws.{slight_entry, slight_sides}

@@ -15,3 +15,9 @@ pub mod FrontLaws
 pub mod FoldLaws
 pub mod RightDrafts
 pub mod TimeLaws
+pub mod ProductSound
+pub mod ProductComplete
+pub mod ProductTurns
+pub mod SchedHeaders
+pub mod StopLaws
+pub mod StageLaws

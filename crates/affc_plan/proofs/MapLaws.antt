@@ -1,15 +1,14 @@
 -- What the forms of right lines are.
-use Rattle.std.proofs.Common.{◌≡◌, ℕ, zero, suc, ◌≤◌, Bool, true, false, not, ◌&&◌, List, [], ◌∷◌, ◌++◌, length, map, All, ℤ, ◌^◌, refl, sym, ap, ◌∙◌, subst, arith}
+use Rattle.std.proofs.Common.{◌≡◌, ◌≤◌, true, not, ◌&&◌, List, [], ◌∷◌, length, map, ℤ, ◌^◌, refl, sym, ap, ◌∙◌, subst, arith}
 use Rattle.std.specs.Prelude.{unsigned_abs, nat_le, nat_abs}
 use Rattle.std.proofs.lemmas.Bool.{and_parts, and_from}
 use Rattle.std.proofs.lemmas.List.{length-map}
 use Rattle.std.proofs.lemmas.List.Elements.{All-cons}
-use Rattle.affc_rows.specs.Forms.{Affine, HaveColumns, columns_of}
+use Rattle.affc_rows.specs.Forms.{Affine, HaveColumns}
 use Rattle.affc_trace.specs.Target.{are_slight, all_slight}
 use Rattle.affc_basis.specs.Bases.{IsSquare, AreWithin, HaveCoefsWithin}
 use Rattle.affc_draft.specs.declared.draft.IxDraft as code
 use Rattle.affc_draft.specs.Drafts.{ix}
-use Rattle.affc_grammar.specs.Draft.{IxDraft}
 use Rattle.affc_grammar.specs.Limits.{at_if, first_token}
 use Rattle.affc_schedtext.specs.declared.outline.Outline.{Outline}
 use Rattle.affc_schedtext.specs.Outline.{dimensions_of, array_at}

@@ -1,7 +1,7 @@
 -- The forms of a right line are a pair of lists.
-use Rattle.std.proofs.Common.{◌≡◌, ℕ, zero, suc, ◌+◌, ◌-◌, ◌<◌, ◌≤◌, true, List, [], ◌∷◌, ◌++◌, length, map, get_or, All, Some, None, refl, sym, ap, ◌∙◌, subst, arith}
+use Rattle.std.proofs.Common.{◌≡◌, ℕ, zero, suc, ◌+◌, ◌-◌, ◌≤◌, List, [], ◌∷◌, length, map, Some, None, sym, ap, ◌∙◌, subst, arith}
 use Rattle.std.proofs.lemmas.List.{length-map}
-use Rattle.affc_rows.specs.Forms.{Affine, HaveColumns, columns_of}
+use Rattle.affc_rows.specs.Forms.{HaveColumns, columns_of}
 use Rattle.affc_domain.proofs.FormLemmas.{form_width}
 use Rattle.affc_grammar.specs.Grammar.{Name}
 use Rattle.affc_grammar.specs.Draft.{IxDraft}

@@ -1,14 +1,12 @@
 -- What is found of an expression is its form, where each part is slight.
-use Rattle.std.proofs.Common.{◌≡◌, ℕ, zero, suc, ◌+◌, ℤ, pos, negsuc, Bool, true, false, not, ◌&&◌, ◌||◌, if◌then◌else◌, nat_le, nat_abs, ◌^◌, List, [], ◌∷◌, ◌++◌, length, replicate, Option, Some, None, is_some, refl, sym, ap, ◌∙◌, subst, arith, append-nil}
-use Rattle.std.proofs.lemmas.Bool.{and_parts, and_from, false≢true}
+use Rattle.std.proofs.Common.{◌≡◌, ℕ, ◌+◌, ℤ, pos, negsuc, Bool, true, false, ◌&&◌, ◌||◌, if◌then◌else◌, nat_le, nat_abs, ◌^◌, List, replicate, Option, Some, None, refl, sym, ap, ◌∙◌, arith, append-nil}
+use Rattle.std.proofs.lemmas.Bool.{and_from}
 use Rattle.affc_rows.specs.Forms.{Affine, mixed_form}
-use Rattle.affc_ast.specs.declared.tree.Ix.{Ix}
-use Rattle.affc_ast.specs.declared.tree.Ix.TheVariants as c
 use Rattle.affc_ast.proofs.Steps.{neg_here, add_here, sub_here, mul_here}
 use Rattle.affc_trace.specs.Target.{are_slight}
-use Rattle.affc_domain.specs.Affine.{unit_of, Linear, linear, linear_step, form_of, product_form}
+use Rattle.affc_domain.specs.Affine.{unit_of, Linear, linear, linear_step, product_form}
 use Rattle.affc_grammar.specs.Draft.{IxDraft, literal, name, negated, sum, difference, product, grouped, chosen, divided}
-use Rattle.affc_schedtext.specs.Rules.{Columns, column_named, over_columns, form_over, slight_here, slight_parts}
+use Rattle.affc_schedtext.specs.Rules.{Columns, column_named, over_columns, form_over, slight_parts}
 use Rattle.affc_schedtext.proofs.Slight.{slight_of}
 use Rattle.affc_plan.specs.declared.parts.Part.{Part}
 use Rattle.affc_plan.specs.Parts.{is_slight, kept, mixture, multiple, part_of}

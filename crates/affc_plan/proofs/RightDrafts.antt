@@ -1,5 +1,5 @@
 -- The lines of a text that breaks no rule are right.
-use Rattle.std.proofs.Common.{◌≡◌, ℕ, ◌+◌, ◌≤◌, true, not, ◌&&◌, ◌==◌, nat_le, List, [], ◌∷◌, ◌++◌, length, map, flat_map, arith}
+use Rattle.std.proofs.Common.{◌≡◌, ℕ, not, ◌==◌, nat_le, List, [], ◌∷◌, ◌++◌, length, map, flat_map}
 use Rattle.std.proofs.lemmas.Bool.{and_parts, leb-true}
 use Rattle.affc_grammar.specs.Limits.{at_if}
 use Rattle.affc_schedtext.specs.declared.outline.Outline.{Outline}
@@ -22,18 +22,21 @@ module _ (o : Outline) where
   all_folds [] h = tt
   all_folds (l ∷ ls) h = (h.0, all_folds ls h.1)
 
-  right_order : (tokens : ℕ) (d : OrderDraft) (folds : List LineDraft) → order_breaches o tokens d folds ≡ [] → HaveInverses o d → IsRightOrder o d
-  right_order tokens source folds e c = tt
-  right_order tokens (time at n lines) folds e c =
-      let k = kept o tokens at n lines folds e in
+  pub first_kept : (tokens at n : ℕ) (lines folds : List LineDraft) → order_breaches o tokens (time at n lines) folds ≡ [] → wrong_statements o [] lines ≡ []
+  first_kept tokens at n lines folds e =
       let missing = at_if (not (has_all (length o.statements) (statements_in o lines))) tokens in
       let lengths = map length_of_line (flat_map (λ (l : LineDraft). at_if (not (length l.forms == n)) l.at) lines) in
       let four = map limit (at_if (not (is_length n)) at ++ flat_map (λ l. large_sides (statement_sides o n l)) lines) in
       let one = map statement (wrong_statements o [] lines ++ missing) in
       let first : one ≡ [] = none_left one lengths (none_left (one ++ lengths) (fold_breaches o folds) (none_left (one ++ lengths ++ fold_breaches o folds) four (none_left (one ++ lengths ++ fold_breaches o folds ++ four) (fold_limits o folds) e))) in
-      let wrong : wrong_statements o [] lines ≡ [] = none_left (wrong_statements o [] lines) missing (map_none statement (wrong_statements o [] lines ++ missing) first) in
+      none_left (wrong_statements o [] lines) missing (map_none statement (wrong_statements o [] lines ++ missing) first)
+
+  right_order : (tokens : ℕ) (d : OrderDraft) (folds : List LineDraft) → order_breaches o tokens d folds ≡ [] → HaveInverses o d → IsRightOrder o d
+  right_order tokens source folds e c = tt
+  right_order tokens (time at n lines) folds e c =
+      let k = kept o tokens at n lines folds e in
       let few = and_parts (nat_le 1 n) (nat_le n 12) k.few in
-      (leb-true 1 n few.0, leb-true n 12 few.1, all_lines n lines (right_lines o n [] lines wrong k.lengths k.small c))
+      (leb-true 1 n few.0, leb-true n 12 few.1, all_lines n lines (right_lines o n [] lines (first_kept tokens at n lines folds e) k.lengths k.small c))
 
   no_fold : (tokens : ℕ) (d : OrderDraft) (folds : List LineDraft) → order_breaches o tokens d folds ≡ [] → (wrong_folds o [] folds ≡ []) × (flat_map (λ l. large_sides (fold_sides o l)) folds ≡ [])
   no_fold tokens source folds e =

@@ -1,7 +1,6 @@
 -- Lines that break no rule are right, and no two of them are of one statement.
-use Rattle.std.proofs.Common.{◌≡◌, ℕ, zero, suc, ◌+◌, ◌<◌, ◌≤◌, Bool, true, false, not, ◌||◌, ◌==◌, List, [], ◌∷◌, ◌++◌, length, map, flat_map, get_or, slice_get, Option, Some, None, refl, sym, ap, ◌∙◌, subst, arith}
+use Rattle.std.proofs.Common.{◌≡◌, ℕ, zero, suc, ◌<◌, Bool, true, false, not, ◌==◌, List, [], ◌∷◌, ◌++◌, length, flat_map, get_or, slice_get, Option, Some, None, refl, sym, ap, ◌∙◌, arith}
 use Rattle.std.proofs.lemmas.Bool.{eqb-true, eq-eqb, or_left, or_right, false≢true}
-use Rattle.affc_grammar.specs.Grammar.{Name}
 use Rattle.affc_grammar.specs.Limits.{at_if}
 use Rattle.affc_schedtext.specs.declared.outline.Outline.{Outline}
 use Rattle.affc_schedtext.specs.Outline.{statement_of, iterators_of}

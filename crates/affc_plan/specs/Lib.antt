@@ -7,3 +7,5 @@ pub mod Maps
 pub mod Composed
 pub mod Folds
 pub mod Times
+pub mod Stages
+pub mod Products

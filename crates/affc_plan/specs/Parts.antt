@@ -1,5 +1,5 @@
 -- The parts of an expression as forms, where each is slight.
-use Rattle.std.specs.Prelude.{◌≡◌, ℕ, ℤ, pos, negsuc, Bool, true, false, ◌||◌, if◌then◌else◌, List, [], ◌∷◌, length, replicate, Option, Some, None}
+use Rattle.std.specs.Prelude.{◌≡◌, ℕ, ℤ, pos, negsuc, Bool, true, false, ◌||◌, if◌then◌else◌, [], ◌∷◌, length, replicate, Option, Some, None}
 use Rattle.affc_rows.specs.Forms.{Affine, mixed_form}
 use Rattle.affc_trace.specs.Target.{all_slight}
 use Rattle.affc_domain.specs.Affine.{unit_of, product_form}

@@ -11,4 +11,9 @@ mod lists;
 pub mod lost;
 pub mod maps;
 mod parts;
+pub mod products;
+mod reading;
+mod stops;
 pub mod times;
+
+pub use reading::read;

@@ -1,4 +1,4 @@
-use Rattle.std.proofs.Common.{◌≡◌, map, ap, ◌∙◌}
+use Rattle.std.proofs.Common.{map, ap, ◌∙◌}
 use Rattle.affc_draft.specs.declared.draft.IxDraft.{IxDraft}
 use Rattle.affc_draft.specs.Drafts.{ix}
 use Rattle.affc_schedtext.specs.Rules.{form_over, fold_sides}

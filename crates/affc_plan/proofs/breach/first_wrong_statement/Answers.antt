@@ -1,7 +1,7 @@
-use Rattle.std.proofs.Common.{◌≡◌, ℕ, true, [], length, take, drop, get_or, Some, None, sym, ap, ◌∙◌, arith}
+use Rattle.std.proofs.Common.{◌≡◌, true, take, Some, sym, ap, ◌∙◌, arith}
 use Rattle.std.proofs.lemmas.Grind.{common_steps}
 use Rattle.affc_schedtext.specs.declared.draft.LineDraft as code
-use Rattle.affc_plan.specs.Lines.{head, is_wrong_statement, wrong_from}
+use Rattle.affc_plan.specs.Lines.{head, is_wrong_statement}
 use Rattle.affc_plan.proofs.LineLaws.{wrong_here, wrong_end, same_entry, statements_wrong}
 use Rattle.affc_plan.proofs.breach.first_wrong_statement.Goals as goal
 

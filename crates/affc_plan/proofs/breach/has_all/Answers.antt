@@ -1,6 +1,6 @@
-use Rattle.std.proofs.Common.{◌≡◌, ℕ, ◌<◌, true, false, not, length, map, sym, ◌∙◌, arith, rules}
+use Rattle.std.proofs.Common.{◌≡◌, ◌<◌, true, false, length, map, sym, ◌∙◌, arith, rules}
 use Rattle.std.specs.List.{list_any}
-use Rattle.affc_schedtext.specs.Rules.{is_in, statements_in}
+use Rattle.affc_schedtext.specs.Rules.{statements_in}
 use Rattle.affc_schedtext.specs.Seen.{line_seen}
 use Rattle.affc_plan.specs.Lines.{is_of_statement}
 use Rattle.affc_plan.proofs.LineLaws.{lines_any, all_so_far, one_missing}

@@ -1,4 +1,4 @@
-use Rattle.std.proofs.Common.{◌≡◌, ℕ, ◌+◌, List, length, map, drop, flat_map, Some, None, refl, sym, ap, ◌∙◌}
+use Rattle.std.proofs.Common.{◌≡◌, ◌+◌, List, map, drop, flat_map, Some, None, refl, sym, ap, ◌∙◌}
 use Rattle.affc_schedtext.specs.declared.draft.LineDraft.{LineDraft}
 use Rattle.affc_schedtext.specs.Rules.{large_sides, fold_sides}
 use Rattle.affc_schedtext.specs.Seen.{line_seen}

@@ -1,6 +1,6 @@
-use Rattle.std.proofs.Common.{◌≡◌, ℕ, ◌+◌, ◌-◌, ◌<◌, false, ◌++◌, length, sym, ap, ◌∙◌, subst, arith}
+use Rattle.std.proofs.Common.{◌≡◌, ◌+◌, ◌-◌, ◌<◌, false, ◌++◌, length, sym, ap, ◌∙◌, subst, arith}
 use Rattle.std.proofs.lemmas.Bool.{false≢true}
-use Rattle.affc_rows.specs.Forms.{columns_of, composed_form}
+use Rattle.affc_rows.specs.Forms.{composed_form}
 use Rattle.affc_trace.specs.Inverses.{column, columns_from}
 use Rattle.affc_plan.specs.Composed.{IsComposable}
 use Rattle.affc_plan.proofs.Composable.{images_of, composable, got_at, gives_here, lost_here, given_all, given_more}

@@ -1,6 +1,5 @@
-use Rattle.std.proofs.Common.{◌≡◌, sym, ap, ◌∙◌}
+use Rattle.std.proofs.Common.{sym, ap, ◌∙◌}
 use Rattle.affc_rows.specs.Forms.{Affine}
-use Rattle.affc_nest.specs.Domains.{column_form}
 use Rattle.affc_plan.proofs.ColumnForms.{column_parts, parts_of_column}
 use Rattle.affc_plan.proofs.maps.is_column.Goals as goal
 

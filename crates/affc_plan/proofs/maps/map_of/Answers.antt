@@ -1,4 +1,4 @@
-use Rattle.std.proofs.Common.{◌≡◌, ◌≤◌, length, map, sym, ap, ◌∙◌, subst, arith}
+use Rattle.std.proofs.Common.{◌≤◌, length, map, sym, ap, ◌∙◌, subst, arith}
 use Rattle.std.specs.Prelude.{List, IfNone}
 use Rattle.affc_rows.specs.Forms.{columns_of}
 use Rattle.affc_trace.specs.Inverses.{AreInverse}
