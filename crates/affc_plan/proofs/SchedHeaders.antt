@@ -2,7 +2,7 @@
 use Rattle.std.proofs.Common.{◌≡◌, ℕ, Bool, true, false, List, [], ◌∷◌, ◌++◌, map, refl, sym, ap, ◌∙◌, subst, inl, inr}
 use Rattle.std.specs.List.{list_all}
 use Rattle.affc_lex.specs.Lexes.{Lexeme}
-use Rattle.affc_grammar.specs.Grammar.{Symbol, symbol}
+use Rattle.affc_grammar.specs.Grammar.{Symbol, Name, symbol}
 use Rattle.affc_grammar.specs.Reads.{symbols}
 use Rattle.affc_parse.specs.Shown.{shown}
 use Rattle.affc_parse.proofs.Headers.{is_right, AreRight, on, ix_right}
@@ -12,8 +12,8 @@ use Rattle.affc_schedtext.specs.Outline.{Scope, Words, Lists, Presence}
 use Rattle.affc_schedtext.specs.Grammar as g
 use Rattle.affc_schedtext.specs.Grammar.{FormText, FormsText, GivenText, FreeText, EntriesText, InverseText, LineText, StmtsText, OrderText, Text, form_symbols, forms_symbols, entry_symbols, given_symbols, free_symbols, entries_symbols, inverse_symbols, head_symbols, open_symbols, line_symbols, stmts_symbols, order_symbols, text_symbols, Begins, Refuses}
 use Rattle.affc_schedtext.specs.Answers.{IsFurthest, Stops, IsStop}
+
 -- ---- Texts of the grammar
-use Rattle.affc_grammar.specs.Grammar.{Name}
 
 form_right : {scope : Scope} (a : FormText scope) → AreRight (form_symbols a)
 form_right a = ix_right a.written

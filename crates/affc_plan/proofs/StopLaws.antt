@@ -1,28 +1,24 @@
 -- Where symbols stop, and places of tokens.
-use Rattle.std.proofs.Common.{◌≡◌, ℕ, zero, suc, ◌+◌, ◌≤◌, true, false, List, Option, Some, None, [], ◌∷◌, length, map, take, drop, refl, sym, ap, ◌∙◌, subst, inl, inr, arith, append-nil, length-append}
+use Rattle.std.proofs.Common.{◌≡◌, ℕ, zero, suc, ◌≤◌, true, false, List, Option, Some, None, [], ◌∷◌, length, map, take, drop, refl, sym, ◌∙◌, subst, inl, inr, arith, append-nil}
 use Rattle.std.proofs.lemmas.List.{append_cancel_right, take-append-drop, take_all, drop_all, length-take-le, length-map, take-map}
 use Rattle.std.specs.Prelude.{MatchOption, Ok, Err}
-use Rattle.affc_lex.specs.declared.token.LexFault.{LexFault}
-use Rattle.affc_lex.specs.declared.token.LexFault.TheVariants.{BadByte, OpenComment, LongNumber, Memory}
 use Rattle.affc_lex.specs.declared.token.Token.{Token}
-use Rattle.affc_lex.specs.Faults.{Front, IsFault, fault_place}
 use Rattle.affc_lex.specs.Lexes.{Lexeme, Lexes, lexemes}
-use Rattle.affc_lex.specs.Pieces.{text_of}
+use Rattle.affc_draft.specs.declared.symbol.Symbol as code_symbol
+use Rattle.affc_draft.specs.Symbols.{seen}
 use Rattle.affc_grammar.specs.Grammar.{Symbol}
 use Rattle.affc_grammar.specs.Reads.{place_of}
+use Rattle.affc_syntax.specs.declared.ahead.Stop.TheVariants as stop
+use Rattle.affc_parse.specs.Shown.{shown}
 use Rattle.affc_schedtext.specs.declared.outline.Outline.{Outline}
-use Rattle.affc_schedtext.specs.Grammar.{Text, text_symbols, Begins, Refuses, StopsAt}
-use Rattle.affc_schedtext.specs.Answers.{IsFirstProduct, HasNoProduct, IsFurthest, Stops, IsStop, StopsText, StopsFront}
 use Rattle.affc_schedtext.specs.declared.draft.Draft as code
+use Rattle.affc_schedtext.specs.Grammar.{Text, text_symbols, Begins, Refuses, StopsAt}
+use Rattle.affc_schedtext.specs.Answers.{IsFirstProduct, HasNoProduct, IsFurthest, Stops, IsStop, StopsText}
 use Rattle.affc_schedtext.specs.Draft.{text_draft}
 use Rattle.affc_schedtext.specs.ReadAnswers.{IsRead}
 use Rattle.affc_schedtext.specs.Seen.{draft_seen}
 use Rattle.affc_schedtext.proofs.Texts as texts
-use Rattle.affc_syntax.specs.declared.ahead.Stop.TheVariants as stop
-use Rattle.affc_draft.specs.declared.symbol.Symbol as code_symbol
-use Rattle.affc_draft.specs.Symbols.{seen}
-use Rattle.affc_parse.specs.Shown.{shown}
-use Rattle.affc_plan.specs.Stages.{IsStopBehind, IsReach, IsDraftOf, IsFrontPlace}
+use Rattle.affc_plan.specs.Stages.{IsStopBehind, IsReach, IsDraftOf}
 use Rattle.affc_plan.proofs.FrontLaws.{none_of}
 use Rattle.affc_plan.proofs.SchedHeaders.{spelled_back, stop_back}
 
@@ -33,24 +29,6 @@ pub same_place : (text a b : List ℕ) (ts : List Token) (n : ℕ) → place_of 
 same_place text a b [] n = refl
 same_place text a b (t ∷ ts) zero = refl
 same_place text a b (t ∷ ts) (suc n) = same_place text a b ts n
-
-front_within : (text : List ℕ) (front : Front text) → length (text_of front.pieces) + length front.rest ≡ length text
-front_within text front = sym (ap length front.spelled ∙ length-append (text_of front.pieces) front.rest)
-
-pub fault_within : (text : List ℕ) (fault : LexFault) → IsFault text fault → fault_place fault ≤ length text
-fault_within text (BadByte at) (inl h) =
-    let size : length text ≡ length h.before + length h.after = ap length h.spelled ∙ length-append h.before h.after in
-    let is = h.is_at in
-    omega arith
-fault_within text (BadByte at) (inr (inl h)) = let size = front_within text h.front in let is = h.is_at in omega arith
-fault_within text (BadByte at) (inr (inr h)) =
-    let size = front_within text h.front in
-    let rest : length h.front.rest ≡ length h.literal + length h.after = ap length h.goes_on ∙ length-append h.literal h.after in
-    let is = h.is_at in
-    omega arith
-fault_within text (OpenComment at) h = let size = front_within text h.front in let is = h.is_at in omega arith
-fault_within text (LongNumber at) h = let size = front_within text h.front in let is = h.is_at in omega arith
-fault_within text Memory h = absurd h
 
 -- ---- Symbols
 
@@ -155,18 +133,3 @@ module _ (text : List ℕ) (o : Outline) (tokens : List Lexeme) (room : ℕ) (ss
 
   pub symbol_stops : (to at place : ℕ) → IsRead o room ss (Err (stop.At to)) → IsStopBehind (take to ss) at → place ≡ place_of text tokens at → StopsText text o place
   symbol_stops to at place h b e = stops_text at place (stop_at o ss to at (read_at o room ss to h) b) e
-
--- ---- Faults of the lexer
-
-pub front_of : (text : List ℕ) (o : Outline) (fault : LexFault) (place : ℕ) → IsFault text fault × ((other : LexFault) → IsFault text other → fault_place fault ≤ fault_place other) → IsFrontPlace text o (fault_place fault) place
-    → StopsFront text o place
-front_of text o fault place h f = record {
-  fault = fault;
-  stands = h.0;
-  first = h.1;
-  tokens = f.tokens;
-  before = f.before;
-  at = f.at;
-  stop = f.stop;
-  its_place = f.its_place;
-}
