@@ -1,0 +1,5 @@
+pub mod TimeLemmas
+pub mod SharedLemmas
+pub mod NodeLemmas
+pub mod SourceLemmas
+pub mod TargetLemmas

@@ -1,0 +1,187 @@
+-- Going down through the statements finds how many loops two assignments share.
+use Rattle.std.proofs.Common.{◌≡◌, ℕ, zero, suc, ◌+◌, ◌-◌, ◌<◌, ◌≤◌, Bool, true, false, if◌then◌else◌, List, [], ◌∷◌, length, map, Some, refl, sym, ap, subst, ◌∙◌, inl, inr, arith}
+use Rattle.std.specs.Prelude.{slice_get, nat_eq, nat_lt}
+use Rattle.std.proofs.lemmas.Bool.Decides.{nat_tests}
+use Rattle.std.proofs.lemmas.List.Sums.{sum_by-cons}
+use Rattle.std.proofs.lemmas.Option.{none-some, same_Some, slice_get_within}
+use Rattle.affc_ast.specs.declared.tree.Program.{Program}
+use Rattle.affc_ast.specs.declared.tree.Stmt.{Stmt}
+use Rattle.affc_ast.specs.declared.tree.Stmt.TheVariants as s
+use Rattle.affc_ast.specs.declared.tree.Stmt.TheBlock.{Row_of-Stmt, more_of-Stmt, end_of-Stmt}
+use Rattle.affc_ast.specs.Recursion.{by_stmt, by_each}
+use Rattle.affc_ast.proofs.Steps.{row_of, unrolled}
+use Rattle.affc_ast.specs.Trace.{assignments}
+use Rattle.affc_trace.proofs.Runs.{length_append}
+use Rattle.affc_domain.specs.Loops.{all_loops, in_text_order, numbered_step, loop_numbers, shared}
+use Rattle.affc_domain.proofs.Lists.{from_append, from_map, length_map}
+use Rattle.affc_domain.proofs.CountLemmas.{numbers_of_each}
+use Rattle.affc_compare.specs.Sharing.{Sharing, assigns_among, loops_among, sharing_step, sharing, common_loops}
+
+-- ---- Loops by their numbers
+
+-- numbers from one on, and fewer than so many
+abbrev StartIn : ℕ → ℕ → List ℕ → Type 0
+StartIn first n [] = Unit {0}
+StartIn first n (l ∷ ls) = (first ≤ l) × (l < first + n)
+
+wider : (first n k m : ℕ) (ls : List ℕ) → m ≡ n + k → StartIn first n ls → StartIn first m ls
+wider first n k m [] e s = tt
+wider first n k m (l ∷ ls) e s = (s.0, omega arith)
+
+later : (first n k m : ℕ) (ls : List ℕ) → m ≡ n + k → StartIn (first + n) k ls → StartIn first m ls
+later first n k m [] e s = tt
+later first n k m (l ∷ ls) e s = (omega arith, omega arith)
+
+alone : (i : ℕ) (ls : List ℕ) → slice_get ([] ∷ []) i ≡ Some ls → ls ≡ []
+alone zero ls e = sym (same_Some [] ls e)
+alone (suc i) ls e = absurd (none-some ls e)
+
+-- a loop's numbers start with its own
+loop_starts : (first n : ℕ) (numbers : List (List ℕ)) (i : ℕ) (ls : List ℕ) → slice_get (map (λ q. first ∷ q) numbers) i ≡ Some ls → StartIn first (suc n) ls
+loop_starts first n numbers i ls e = let r = from_map (λ q. first ∷ q) numbers i ls e in subst (StartIn first (suc n)) (sym r.2) (omega arith, omega arith)
+
+mutual
+  starts : (x : Stmt) (first i : ℕ) (ls : List ℕ) → slice_get ((by_stmt numbered_step x).numbers first) i ≡ Some ls → StartIn first (by_stmt numbered_step x).loops ls
+  starts (s.For' iter low rel high shape body) first i ls e = loop_starts first (all_loops (by_each numbered_step body)) (in_text_order (by_each numbered_step body) (suc first)) i ls e
+  starts (s.If' conds shape body) first i ls e = row_starts body first i ls e
+  starts (s.Assign op array subs value) first i ls e = subst (StartIn first 0) (sym (alone i ls e)) tt
+  starts (s.Block' locals shape body) first i ls e = row_starts body first i ls e
+
+  row_starts : {n : _} (body : Row_of-Stmt n) (first i : ℕ) (ls : List ℕ) → slice_get (in_text_order (by_each numbered_step body) first) i ≡ Some ls → StartIn first (all_loops (by_each numbered_step body)) ls
+  row_starts end_of-Stmt first i ls e = absurd (none-some ls e)
+  row_starts (more_of-Stmt x rest) first i ls e = elim (from_append ((by_stmt numbered_step x).numbers first) (in_text_order (by_each numbered_step rest) (first + (by_stmt numbered_step x).loops)) i ls e) [
+    | inl h ↦ wider first (by_stmt numbered_step x).loops _ _ ls (sum_by-cons (λ n. n.loops) (by_stmt numbered_step x) (by_each numbered_step rest)) (starts x first i ls h)
+    | inr r ↦ later first (by_stmt numbered_step x).loops _ _ ls (sum_by-cons (λ n. n.loops) (by_stmt numbered_step x) (by_each numbered_step rest)) (row_starts rest (first + (by_stmt numbered_step x).loops) r.0 ls r.2)
+  ]
+
+-- loops that start in different places share nothing
+shared_none : (first n m : ℕ) (xs ys : List ℕ) → StartIn first n xs → StartIn (first + n) m ys → (shared xs ys ≡ 0) × (shared ys xs ≡ 0)
+shared_none first n m [] [] s t = (refl, refl)
+shared_none first n m [] (y ∷ ys) s t = (refl, refl)
+shared_none first n m (x ∷ xs) [] s t = (refl, refl)
+shared_none first n m (x ∷ xs) (y ∷ ys) s t = (ap (λ t. if t then suc (shared xs ys) else 0) (apart x y (omega arith)), ap (λ t. if t then suc (shared ys xs) else 0) (apart' x y (omega arith)))
+  where
+    apart : (x y : ℕ) → x < y → nat_eq x y ≡ false
+    apart x y h = grind (arith, nat_tests)
+
+    apart' : (x y : ℕ) → x < y → nat_eq y x ≡ false
+    apart' x y h = grind (arith, nat_tests)
+
+eq_self : (l : ℕ) → nat_eq l l ≡ true
+eq_self l = grind (arith, nat_tests)
+
+shared_same : (l : ℕ) (xs ys : List ℕ) → shared (l ∷ xs) (l ∷ ys) ≡ suc (shared xs ys)
+shared_same l xs ys = ap (λ t. if t then suc (shared xs ys) else 0) (eq_self l)
+
+-- ---- Assignments counted
+
+mutual
+  counts : (x : Stmt) (first : ℕ) → length ((by_stmt numbered_step x).numbers first) ≡ (by_stmt sharing_step x).assigns
+  counts (s.For' iter low rel high shape body) first = length_map (λ ls. first ∷ ls) (in_text_order (by_each numbered_step body) (suc first)) ∙ row_counts body (suc first)
+  counts (s.If' conds shape body) first = row_counts body first
+  counts (s.Assign op array subs value) first = refl
+  counts (s.Block' locals shape body) first = row_counts body first
+
+  row_counts : {n : _} (body : Row_of-Stmt n) (first : ℕ) → length (in_text_order (by_each numbered_step body) first) ≡ assigns_among (by_each sharing_step body)
+  row_counts end_of-Stmt first = refl
+  row_counts (more_of-Stmt x rest) first =
+      let next = first + (by_stmt numbered_step x).loops in
+      length_append ((by_stmt numbered_step x).numbers first) (in_text_order (by_each numbered_step rest) next)
+      ∙ ap (λ u. u + length (in_text_order (by_each numbered_step rest) next)) (counts x first)
+      ∙ ap (λ u. (by_stmt sharing_step x).assigns + u) (row_counts rest next)
+      ∙ sym (sum_by-cons (λ (t : Sharing). t.assigns) (by_stmt sharing_step x) (by_each sharing_step rest))
+
+-- ---- Where two assignments stand
+
+below : (m n : ℕ) → m < n → nat_lt m n ≡ true
+below m n h = grind (arith, nat_tests)
+
+behind : (m n : ℕ) → n ≤ m → nat_lt m n ≡ false
+behind m n h = grind (arith, nat_tests)
+
+module _ (t : Sharing) (ts : List Sharing) (a b : ℕ) where
+  abbrev chosen : Bool → Bool → ℕ
+  chosen u v = if u then (if v then t.loops a b else 0) else (if v then 0 else loops_among ts (a - t.assigns) (b - t.assigns))
+
+  both_here : a < t.assigns → b < t.assigns → loops_among (t ∷ ts) a b ≡ t.loops a b
+  both_here h g = ap (λ u. chosen u (nat_lt b t.assigns)) (below a t.assigns h) ∙ ap (chosen true) (below b t.assigns g)
+
+  first_here : a < t.assigns → t.assigns ≤ b → loops_among (t ∷ ts) a b ≡ 0
+  first_here h g = ap (λ u. chosen u (nat_lt b t.assigns)) (below a t.assigns h) ∙ ap (chosen true) (behind b t.assigns g)
+
+  second_here : t.assigns ≤ a → b < t.assigns → loops_among (t ∷ ts) a b ≡ 0
+  second_here h g = ap (λ u. chosen u (nat_lt b t.assigns)) (behind a t.assigns h) ∙ ap (chosen false) (below b t.assigns g)
+
+  both_behind : (m n : ℕ) → a ≡ t.assigns + m → b ≡ t.assigns + n → loops_among (t ∷ ts) a b ≡ loops_among ts m n
+  both_behind m n h g =
+      ap (λ u. chosen u (nat_lt b t.assigns)) (behind a t.assigns (omega arith)) ∙ ap (chosen false) (behind b t.assigns (omega arith))
+      ∙ ap (λ k. loops_among ts k (b - t.assigns)) (left a t.assigns m h) ∙ ap (loops_among ts m) (left b t.assigns n g)
+    where
+      left : (x k m : ℕ) → x ≡ k + m → x - k ≡ m
+      left x k m e = omega arith
+
+-- ---- Shared loops
+
+mutual
+  shares : (x : Stmt) (first a b : ℕ) (ls ms : List ℕ) → slice_get ((by_stmt numbered_step x).numbers first) a ≡ Some ls → slice_get ((by_stmt numbered_step x).numbers first) b ≡ Some ms
+      → (by_stmt sharing_step x).loops a b ≡ shared ls ms
+  shares (s.For' iter low rel high shape body) first a b ls ms e f =
+      let numbers = in_text_order (by_each numbered_step body) (suc first) in
+      let u = from_map (λ q. first ∷ q) numbers a ls e in
+      let v = from_map (λ q. first ∷ q) numbers b ms f in
+      ap suc (row_shares body (suc first) a b u.0 v.0 u.1 v.1) ∙ sym (shared_same first u.0 v.0) ∙ ap (λ z. shared z (first ∷ v.0)) (sym u.2) ∙ ap (shared ls) (sym v.2)
+  shares (s.If' conds shape body) first a b ls ms e f = row_shares body first a b ls ms e f
+  shares (s.Assign op array subs value) first a b ls ms e f = ap (λ z. shared z ms) (sym (alone a ls e))
+  shares (s.Block' locals shape body) first a b ls ms e f = row_shares body first a b ls ms e f
+
+  row_shares : {n : _} (body : Row_of-Stmt n) (first a b : ℕ) (ls ms : List ℕ) → slice_get (in_text_order (by_each numbered_step body) first) a ≡ Some ls → slice_get (in_text_order (by_each numbered_step body) first) b ≡ Some ms
+      → loops_among (by_each sharing_step body) a b ≡ shared ls ms
+  row_shares end_of-Stmt first a b ls ms e f = absurd (none-some ls e)
+  row_shares (more_of-Stmt x rest) first a b ls ms e f =
+      let t : Sharing = by_stmt sharing_step x in
+      let ts = by_each sharing_step rest in
+      let us = (by_stmt numbered_step x).numbers first in
+      let n = (by_stmt numbered_step x).loops in
+      let m = all_loops (by_each numbered_step rest) in
+      let vs = in_text_order (by_each numbered_step rest) (first + n) in
+      let count : length us ≡ t.assigns = counts x first in
+      elim (from_append us vs a ls e) [
+        | inl i ↦
+            let here : a < t.assigns = within us a ls t.assigns count i in
+            elim (from_append us vs b ms f) [
+              | inl j ↦ both_here t ts a b here (within us b ms t.assigns count j) ∙ shares x first a b ls ms i j
+              | inr r ↦ first_here t ts a b here (beyond b r.0 (length us) t.assigns count r.1) ∙ sym (shared_none first n m ls ms (starts x first a ls i) (row_starts rest (first + n) r.0 ms r.2)).0
+            ]
+        | inr q ↦ elim (from_append us vs b ms f) [
+          | inl j ↦ second_here t ts a b (beyond a q.0 (length us) t.assigns count q.1) (within us b ms t.assigns count j)
+              ∙ sym (shared_none first n m ms ls (starts x first b ms j) (row_starts rest (first + n) q.0 ls q.2)).1
+          | inr r ↦ both_behind t ts a b q.0 r.0 (q.1 ∙ ap (λ k. k + q.0) count) (r.1 ∙ ap (λ k. k + r.0) count) ∙ row_shares rest (first + n) q.0 r.0 ls ms q.2 r.2
+        ]
+      ]
+    where
+      within : (xs : List (List ℕ)) (i : ℕ) (ls : List ℕ) (k : ℕ) → length xs ≡ k → slice_get xs i ≡ Some ls → i < k
+      within xs i ls k e h = let g = slice_get_within xs i ls h in omega (arith, g, e)
+
+      beyond : (i j n k : ℕ) → n ≡ k → i ≡ n + j → k ≤ i
+      beyond i j n k e h = omega arith
+
+-- ---- Programs
+
+pub common_is_shared : (program : Program) (a b : ℕ) (ls ms : List ℕ) → slice_get (loop_numbers program) a ≡ Some ls → slice_get (loop_numbers program) b ≡ Some ms → common_loops program a b ≡ shared ls ms
+common_is_shared program a b ls ms e f =
+    let numbers = unrolled numbered_step program.body in
+    ap (λ ts. loops_among ts a b) (unrolled sharing_step program.body)
+    ∙ row_shares (row_of program.body) 0 a b ls ms (sym (ap (λ ns. slice_get (in_text_order ns 0) a) numbers) ∙ e) (sym (ap (λ ns. slice_get (in_text_order ns 0) b) numbers) ∙ f)
+
+pub assigns_are_counted : (program : Program) → assigns_among (map sharing program.body) ≡ length (assignments program)
+assigns_are_counted program =
+    ap assigns_among (unrolled sharing_step program.body) ∙ sym (row_counts (row_of program.body) 0) ∙ sym (ap (λ ns. length (in_text_order ns 0)) (unrolled numbered_step program.body)) ∙ numbers_of_each program
+
+pub shared_turned : (ls ms : List ℕ) → shared ls ms ≡ shared ms ls
+shared_turned [] [] = refl
+shared_turned [] (m ∷ ms) = refl
+shared_turned (l ∷ ls) [] = refl
+shared_turned (l ∷ ls) (m ∷ ms) = ap (λ t. if t then suc (shared ls ms) else 0) (eq_turned l m) ∙ ap (λ n. if nat_eq m l then suc n else 0) (shared_turned ls ms)
+  where
+    eq_turned : (m n : ℕ) → nat_eq m n ≡ nat_eq n m
+    eq_turned m n = grind (arith, nat_tests)

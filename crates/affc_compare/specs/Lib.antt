@@ -1,0 +1,5 @@
+pub mod Compared
+pub mod Asked
+pub mod Timed
+pub mod Sharing
+pub mod Source
