@@ -3,3 +3,4 @@ pub mod SharedLemmas
 pub mod NodeLemmas
 pub mod SourceLemmas
 pub mod TargetLemmas
+pub mod ExampleProofs

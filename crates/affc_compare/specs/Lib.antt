@@ -3,3 +3,4 @@ pub mod Asked
 pub mod Timed
 pub mod Sharing
 pub mod Source
+pub mod Examples

@@ -1,0 +1,5 @@
+use Rattle.affc_compare.proofs.ExampleProofs.{one_loop_is_shared}
+use Rattle.affc_compare.proofs.examples.source.Goals as goal
+
+pub returns : goal.returns
+returns c = record { one_loop_is_shared = one_loop_is_shared }
