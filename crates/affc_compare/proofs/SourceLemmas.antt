@@ -101,6 +101,9 @@ few_iterators program p a plain i =
     let few : 0 + loops_in t.0 ≤ 6 = few_loops (length (number_ranges program.params)) 0 0 t.0 (omega arith) (rounds_are_plain program plain a.statement t.0 t.1) in
     omega (arith, long, few)
 
+at_most : (k s m l : ℕ) → k ≡ s → s ≤ m → m ≡ l → k ≤ l
+at_most k s m l e h f = omega (arith, e, h, f)
+
 module _ (program : Program) (p : List ℤ) (a b : Instance) (i : IsIn a (trace program p)) (j : IsIn b (trace program p)) where
   abbrev n : ℕ
   n = common_loops program a.statement b.statement
@@ -113,18 +116,12 @@ module _ (program : Program) (p : List ℤ) (a b : Instance) (i : IsIn a (trace 
       let u = has_loops program p a i in
       let v = has_loops program p b j in
       at_most _ _ _ _ shares (shared_left u.0 v.0) (one_each program p a u.0 i u.1)
-    where
-      at_most : (k s m l : ℕ) → k ≡ s → s ≤ m → m ≡ l → k ≤ l
-      at_most k s m l e h f = omega (arith, e, h, f)
 
   second_long : n ≤ length b.iterators
   second_long =
       let u = has_loops program p a i in
       let v = has_loops program p b j in
       at_most _ _ _ _ shares (shared_right u.0 v.0) (one_each program p b v.0 j v.1)
-    where
-      at_most : (k s m l : ℕ) → k ≡ s → s ≤ m → m ≡ l → k ≤ l
-      at_most k s m l e h f = omega (arith, e, h, f)
 
   -- less by the shared loops is earlier in the trace
   pub less_is_earlier : (source_cmp program a b ≡ ord.Less) ↔ Earlier (trace program p) a b
