@@ -136,7 +136,7 @@ module _ (nest : Nest) (n : IsNest nest) (trees : List Tree) (limits : KeepLimit
       All-append Wide (map (padded columns) (k.reader.domain.rows ++ k.leaf.rows)) (map (of_writer nest k.reader k.leaf k.of_leaf.writer) (drop (context_count nest) k.of_leaf.writer.domain.rows))
       (padded_wide (k.reader.domain.rows ++ k.leaf.rows) path_wide) own_wide
 
-  x_subscripts : All (IsSubscript columns) (map (of_reader nest k.reader k.leaf k.of_leaf.writer) k.load.subs)
+  pub x_subscripts : All (IsSubscript columns) (map (of_reader nest k.reader k.leaf k.of_leaf.writer) k.load.subs)
   x_subscripts =
       all_padded_subscripts (length nest.params + length k.reader.loops) columns k.load.subs
       (through (length nest.params + length k.reader.loops) k.leaf.columns columns (path_first nest k.reader k.leaf k.of_leaf.writer seated) (leaf_first nest k.reader k.leaf k.of_leaf.writer seated))
@@ -145,7 +145,7 @@ module _ (nest : Nest) (n : IsNest nest) (trees : List Tree) (limits : KeepLimit
       through : (a b c : ℕ) → a ≤ b → b ≤ c → a ≤ c
       through a b c h g = omega (arith, h, g)
 
-  y_subscripts : All (IsSubscript columns) (map (of_writer nest k.reader k.leaf k.of_leaf.writer) k.of_leaf.store.subs)
+  pub y_subscripts : All (IsSubscript columns) (map (of_writer nest k.reader k.leaf k.of_leaf.writer) k.of_leaf.store.subs)
   y_subscripts =
       all_spread_subscripts (length nest.params) (k.leaf.columns - length nest.params) (length k.of_leaf.writer.loops) columns k.of_leaf.store.subs whole
       (are_subscripts nest n k.of_leaf.writer k.of_leaf.writer_in k.of_leaf.store store_among)
@@ -198,3 +198,6 @@ module _ (nest : Nest) (trees ts : List Tree) (schedule : Schedule) (array : ℕ
 
   pub any_large : (held : List Draft) → held ≡ out → AnyLarge (map drafted held) → AnyLarge (clashes nest trees schedule array)
   any_large held e h = subst AnyLarge (ap (map drafted) e ∙ all_drafted) h
+
+  pub none_large : (held : List Draft) → held ≡ out → (AnyLarge (map drafted held) → ⊥) → AnyLarge (clashes nest trees schedule array) → ⊥
+  none_large held e h = subst (λ cs. AnyLarge cs → ⊥) (ap (map drafted) e ∙ all_drafted) h
