@@ -1,5 +1,5 @@
 -- The clash systems of an array are conflicts over the context.
-use Rattle.std.proofs.Common.{◌≡◌, ℕ, zero, suc, ◌+◌, ◌*◌, ◌≤◌, ℤ, pos, ◌≤ℤ◌, ◌<ℤ◌, true, IsTrue, List, [], ◌∷◌, ◌++◌, length, map, take, get_or, Option, Some, None, refl, sym, ap, subst, ◌∙◌, inl, inr, arith}
+use Rattle.std.proofs.Common.{◌≡◌, ℕ, zero, suc, ◌+◌, ◌*◌, ◌≤◌, ℤ, pos, IsTrue, List, [], ◌∷◌, length, map, take, get_or, Option, Some, refl, sym, ap, subst, ◌∙◌, inl, inr, arith}
 use Rattle.std.specs.Prelude.{slice_get, int_le, int_lt, ◌&&◌}
 use Rattle.std.specs.List.{All}
 use Rattle.std.proofs.lemmas.List.Elements.{All-nil, All-cons}
@@ -32,7 +32,7 @@ use Rattle.affc_quast.specs.Sources.{HaveNearQuotients}
 use Rattle.affc_quast.specs.Trees.{Tree}
 use Rattle.affc_conflicts.specs.Conditions.{IsConflict, InContext, LiesWithin}
 use Rattle.affc_life.specs.Clashes.{Clash, clash_of, of_reader, of_writer, clashes}
-use Rattle.affc_life.specs.Laws.{AreFound, AreShaped, AreClashes, ClashesAreConflicts}
+use Rattle.affc_life.specs.Laws.{AreFound, AreShaped, ClashesAreConflicts}
 use Rattle.affc_life.proofs.BoxedLemmas.{clashes_are_boxed}
 use Rattle.affc_life.proofs.FoundLemmas.{found_trees_keep_limits}
 use Rattle.affc_life.proofs.LiveLemmas.{load_among, store_among, Cut, facts_at, cut_front, front_long, at_length, x_touched, y_touched, points_are_in_context, elements_differ}

@@ -1,5 +1,5 @@
 -- The rows of a living statement's domain keep the limits of a system's rows.
-use Rattle.std.proofs.Common.{◌≡◌, ℕ, suc, ◌+◌, ◌^◌, ◌≤◌, ℤ, IsTrue, List, [], ◌∷◌, ◌++◌, length, sym, ap, subst, arith}
+use Rattle.std.proofs.Common.{ℕ, suc, ◌+◌, ◌^◌, ◌≤◌, ℤ, IsTrue, List, [], ◌∷◌, ◌++◌, length, sym, subst, arith}
 use Rattle.std.specs.Prelude.{unsigned_abs, ◌&&◌}
 use Rattle.std.specs.List.{All}
 use Rattle.std.proofs.lemmas.List.Elements.{All-nil, All-cons, All-append}
@@ -17,7 +17,7 @@ use Rattle.affc_domain.specs.Rounds.{Round, Loop, Test, loops_in}
 use Rattle.affc_domain.proofs.Lists.{both_true}
 use Rattle.affc_domain.proofs.PlainLemmas.{assignments_are_plain}
 use Rattle.affc_nest.specs.declared.nest.Entry.{Entry}
-use Rattle.affc_nest.specs.Domains.{gap_row, compare_rows, test_rows, column_form, number_form, range_rows, box_rows, bounds_of, loop_rows, condition_rows, domain_rows}
+use Rattle.affc_nest.specs.Domains.{gap_row, compare_rows, test_rows, column_form, number_form, range_rows, box_rows, bounds_of, loop_rows, condition_rows}
 use Rattle.affc_nest.specs.Frames.{plain_at}
 use Rattle.affc_nest.specs.Laws.{HasNest, IsEntry}
 use Rattle.affc_nest.specs.Sides.{IsSide, NearRanges}

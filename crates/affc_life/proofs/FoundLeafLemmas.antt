@@ -1,5 +1,5 @@
 -- The leaves of trees that the search gives: how many rows and divisions they have, and their entries.
-use Rattle.std.proofs.Common.{◌≡◌, ℕ, zero, suc, ◌+◌, ◌-◌, ◌^◌, ◌≤◌, ℤ, pos, ◌≤ℤ◌, List, [], ◌∷◌, ◌++◌, length, replicate, Some, refl, sym, ap, subst, ◌∙◌, inl, inr, arith}
+use Rattle.std.proofs.Common.{◌≡◌, ℕ, zero, suc, ◌+◌, ◌^◌, ◌≤◌, ℤ, pos, ◌≤ℤ◌, [], ◌∷◌, length, replicate, Some, sym, subst, inl, inr, arith}
 use Rattle.std.specs.Prelude.{max, unsigned_abs}
 use Rattle.std.specs.List.{All}
 use Rattle.std.proofs.lemmas.Int.{ints}
@@ -9,7 +9,6 @@ use Rattle.affc_system.specs.Systems.{FitsRow}
 use Rattle.affc_trace.specs.Law.{IsIn}
 use Rattle.affc_trace.proofs.Members.{in_map}
 use Rattle.affc_trace.proofs.Once.{in_append}
-use Rattle.affc_trace.proofs.Runs.{length_append}
 use Rattle.affc_nest.specs.Domains.{number_form, gap_row}
 use Rattle.affc_nest.specs.Questions.{widened}
 use Rattle.affc_order.specs.Posed.{Posed}

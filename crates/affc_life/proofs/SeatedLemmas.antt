@@ -1,5 +1,5 @@
 -- What holds of a reader, a leaf and a writer: widths, ranges, and the forms of the three instances.
-use Rattle.std.proofs.Common.{◌≡◌, ℕ, zero, suc, ◌+◌, ◌-◌, ◌*◌, ◌<◌, ◌≤◌, ℤ, IsTrue, List, [], ◌∷◌, ◌++◌, length, map, flat_map, drop, Some, refl, sym, ap, subst, ◌∙◌, arith}
+use Rattle.std.proofs.Common.{◌≡◌, ℕ, ◌+◌, ◌-◌, ◌≤◌, ℤ, List, [], ◌∷◌, ◌++◌, length, map, flat_map, drop, Some, refl, sym, ap, subst, ◌∙◌, arith}
 use Rattle.std.specs.Prelude.{slice_get}
 use Rattle.std.specs.List.{All}
 use Rattle.std.proofs.lemmas.List.Elements.{All-append, All-drop}
@@ -8,7 +8,6 @@ use Rattle.affc_system.specs.Pairs.{WithinReach}
 use Rattle.affc_system.specs.Systems.{Rows, IsRow}
 use Rattle.affc_trace.specs.Inverses.{columns_from}
 use Rattle.affc_trace.specs.Law.{IsIn}
-use Rattle.affc_trace.proofs.EndedReads.{append_assoc}
 use Rattle.affc_trace.proofs.LastStores.{map_append}
 use Rattle.affc_trace.proofs.Runs.{length_append}
 use Rattle.affc_domain.proofs.Lists.{length_map}
@@ -28,13 +27,12 @@ use Rattle.affc_sched.proofs.LegalLemmas.{entry_at}
 use Rattle.affc_sched.proofs.PairLemmas.{stands_in, subs_sides}
 use Rattle.affc_sched.proofs.WidthLemmas.{domain_wide}
 use Rattle.affc_quast.specs.Leaves.{padded, Leaf}
-use Rattle.affc_quast.specs.Wide.{IsWide}
-use Rattle.affc_life.specs.Asked.{IsLight, IsNamed, HasForms, IsPath, IsLiving, AreSeated}
+use Rattle.affc_life.specs.Asked.{IsLight, IsNamed, HasForms, IsLiving, AreSeated}
 use Rattle.affc_life.specs.Drafts.{posed, rows_in, after_named, before_load}
 use Rattle.affc_life.specs.Clashes.{Clash, apart_rows, clash_columns, of_reader, of_writer, front_rows, clash_ranges, reader_posed, named_posed, writer_posed, rows_of_clashes, clash, clashes_of_store}
 use Rattle.affc_life.proofs.BoxedLemmas.{all_reach, ranges_are, entry_reach}
 use Rattle.affc_life.proofs.WalkLemmas.{between_is}
-use Rattle.affc_life.proofs.LightLemmas.{all_of, lights_wide, sides_light, columns_light, all_padded, all_spread_light, light_narrow}
+use Rattle.affc_life.proofs.LightLemmas.{all_of, sides_light, columns_light, all_padded, all_spread_light, light_narrow}
 
 -- ---- A living statement of a nest
 

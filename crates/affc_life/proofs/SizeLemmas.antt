@@ -1,5 +1,5 @@
 -- The clash systems of trees that the search gives keep the limits of systems.
-use Rattle.std.proofs.Common.{◌≡◌, ℕ, zero, suc, ◌+◌, ◌-◌, ◌*◌, ◌^◌, ◌<◌, ◌≤◌, ℤ, pos, IsTrue, true, List, [], ◌∷◌, ◌++◌, length, map, drop, replicate, Some, refl, sym, ap, subst, ◌∙◌, inl, inr, arith}
+use Rattle.std.proofs.Common.{◌≡◌, ℕ, zero, suc, ◌+◌, ◌-◌, ◌^◌, ◌<◌, ◌≤◌, pos, IsTrue, List, [], ◌∷◌, ◌++◌, length, map, drop, replicate, refl, sym, ap, subst, ◌∙◌, inl, inr, arith}
 use Rattle.std.specs.Prelude.{unsigned_abs, slice_get, nat_le, ◌&&◌}
 use Rattle.std.specs.List.{All}
 use Rattle.std.proofs.lemmas.Bool.{leb-true}
@@ -8,7 +8,7 @@ use Rattle.std.proofs.lemmas.List.Elements.{All-nil, All-cons, All-append, All-d
 use Rattle.std.proofs.lemmas.Option.{same_Some}
 use Rattle.affc_rows.specs.Forms.{Affine}
 use Rattle.affc_system.specs.Pairs.{IsSubscript}
-use Rattle.affc_system.specs.Systems.{Rows, FitsRow}
+use Rattle.affc_system.specs.Systems.{FitsRow}
 use Rattle.affc_ast.specs.declared.tree.Decl.{Decl}
 use Rattle.affc_ast.specs.declared.tree.Program.{Program}
 use Rattle.affc_ast.specs.Meaning.{arrays_of}
@@ -26,32 +26,31 @@ use Rattle.affc_nest.specs.declared.nest.Entry.{Entry}
 use Rattle.affc_nest.specs.declared.nest.Nest.{Nest}
 use Rattle.affc_nest.specs.Laws.{HasNest, NamesArrays}
 use Rattle.affc_nest.specs.Nests.{array_of, nest_of}
-use Rattle.affc_nest.specs.Questions.{extents_or_none, extents_of_access}
+use Rattle.affc_nest.specs.Questions.{extents_or_none}
 use Rattle.affc_nest.proofs.AccessLemmas.{plain_append}
-use Rattle.affc_nest.proofs.QuestionLemmas.{there_is, as_many, stands_in}
+use Rattle.affc_nest.proofs.QuestionLemmas.{as_many, stands_in}
 use Rattle.affc_nest.proofs.QuestionProofs.{domain_small, few_numbered}
 use Rattle.affc_order.specs.Asked.{IsScheduled}
 use Rattle.affc_order.specs.Posed.{Posed}
 use Rattle.affc_order.specs.Systems.{target_order}
-use Rattle.affc_order.proofs.ColumnLemmas.{from_long}
 use Rattle.affc_sched.specs.Questions.{context_count}
 use Rattle.affc_sched.proofs.LegalLemmas.{entry_at}
 use Rattle.affc_sched.proofs.SystemLemmas.{spread_fits}
 use Rattle.affc_quast.specs.Leaves.{padded}
-use Rattle.affc_quast.specs.Limits.{IsTreeWithin, FitsForm, narrow}
+use Rattle.affc_quast.specs.Limits.{IsTreeWithin, narrow}
 use Rattle.affc_quast.specs.Trees.{Tree, depth_of, divisions_of}
 use Rattle.affc_life.specs.Asked.{KeepLimits, HasForms, AreSeated}
-use Rattle.affc_life.specs.Clashes.{Clash, of_reader, of_writer, front_rows, reader_posed, named_posed, writer_posed, clashes}
+use Rattle.affc_life.specs.Clashes.{Clash, of_reader, of_writer, front_rows, reader_posed, named_posed, writer_posed}
 use Rattle.affc_life.specs.Laws.{AreFound, FoundTreesAreNeverLarge}
 use Rattle.affc_life.specs.Sizes.{IsLarge}
 use Rattle.affc_life.proofs.CountLemmas.{order_count, between_count}
 use Rattle.affc_life.proofs.DomainLemmas.{domain_fits}
-use Rattle.affc_life.proofs.DraftedLemmas.{columns, reader_there, seated, named_has, load_among, store_among, rows_all, x_subscripts, y_subscripts}
+use Rattle.affc_life.proofs.DraftedLemmas.{columns, reader_there, seated, named_has, load_among, rows_all, x_subscripts, y_subscripts}
 use Rattle.affc_life.proofs.FoundLeafLemmas.{IsSmall, leaf_small}
 use Rattle.affc_life.proofs.FoundLemmas.{found_trees_keep_limits}
 use Rattle.affc_life.proofs.LightLemmas.{all_of, all_map}
 use Rattle.affc_life.proofs.MadeLemmas.{Made, made}
-use Rattle.affc_life.proofs.MildLemmas.{IsMild, gap_mild, narrow_mild, subscript_mild, columns_narrow, all_padded_narrow, compared_mild}
+use Rattle.affc_life.proofs.MildLemmas.{IsMild, gap_mild, subscript_mild, columns_narrow, all_padded_narrow, compared_mild}
 use Rattle.affc_life.proofs.SeatedLemmas.{params_few, reader_few, writer_few, reader_forms, writer_forms, named_forms}
 
 -- ---- Dimensions

@@ -1,25 +1,22 @@
 -- The clash systems of a list's entries, one after the other.
-use Rattle.std.proofs.Common.{◌≡◌, ℕ, zero, suc, ◌+◌, ◌-◌, ◌<◌, ◌≤◌, Bool, true, false, if◌then◌else◌, List, [], ◌∷◌, ◌++◌, length, map, flat_map, take, drop, get_or, Option, Some, None, refl, sym, ap, subst, ◌∙◌, inl, inr, arith}
+use Rattle.std.proofs.Common.{◌≡◌, ℕ, zero, suc, ◌+◌, ◌-◌, ◌<◌, ◌≤◌, Bool, true, false, if◌then◌else◌, List, [], ◌∷◌, ◌++◌, length, map, flat_map, drop, get_or, Some, None, refl, sym, ap, subst, ◌∙◌, arith}
 use Rattle.std.specs.Prelude.{nat_eq, slice_get}
-use Rattle.std.specs.List.{All}
 use Rattle.std.proofs.lemmas.List.{drop-drop, length-drop}
-use Rattle.std.proofs.lemmas.Option.{none-some, same_Some, slice_get_read, slice_get_past}
+use Rattle.std.proofs.lemmas.Option.{slice_get_read, slice_get_past}
 use Rattle.std.proofs.Math.ListN.{drop_of_length-le}
 use Rattle.affc_rows.specs.Forms.{Affine}
 use Rattle.affc_system.specs.Systems.{Rows}
 use Rattle.affc_trace.specs.declared.schedule.Schedule.{Schedule}
-use Rattle.affc_trace.specs.Law.{IsIn}
 use Rattle.affc_trace.proofs.EndedReads.{append_assoc}
-use Rattle.affc_trace.proofs.LastStores.{append_nil, map_append}
+use Rattle.affc_trace.proofs.LastStores.{append_nil}
 use Rattle.affc_domain.proofs.Lists.{to_mapped, length_map}
 use Rattle.affc_nest.specs.declared.nest.Access.{Access}
 use Rattle.affc_nest.specs.declared.nest.Entry.{Entry}
 use Rattle.affc_nest.specs.declared.nest.Nest.{Nest}
-use Rattle.affc_order.specs.Posed.{Posed}
-use Rattle.affc_quast.specs.Leaves.{Leaf, leaves_of}
+use Rattle.affc_quast.specs.Leaves.{leaves_of}
 use Rattle.affc_quast.specs.Sources.{loads_in, loads_before, tree_of}
 use Rattle.affc_quast.specs.Trees.{Tree}
-use Rattle.affc_life.specs.Asked.{KeepLimits, KeepsLimits, AreLoads}
+use Rattle.affc_life.specs.Asked.{KeepLimits, AreLoads}
 use Rattle.affc_life.specs.Clashes.{Clash, between_rows, apart_rows, numbered_loads, clashes_of_tree, clashes_of_entry}
 use Rattle.affc_life.specs.Drafts.{rows_in, clashes_of_leaf, clashes_of_load}
 

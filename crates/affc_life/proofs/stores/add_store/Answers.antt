@@ -1,6 +1,5 @@
-use Rattle.std.proofs.Common.{◌≡◌, ◌+◌, ◌≤◌, ℕ, List, length, map, arith, sym, ap, subst, ◌∙◌}
+use Rattle.std.proofs.Common.{◌+◌, length, map, sym, subst, ◌∙◌}
 use Rattle.std.specs.List.{All}
-use Rattle.affc_rows.specs.Forms.{Affine}
 use Rattle.affc_quast.specs.SeenLeaves.{leaf_seen}
 use Rattle.affc_quast.specs.Wide.{IsWide}
 use Rattle.affc_life.proofs.LightLemmas.{lights_wide}

@@ -1,6 +1,5 @@
-use Rattle.std.proofs.Common.{◌≡◌, ◌+◌, ◌-◌, ◌≤◌, refl, ℕ, List, length, arith, sym, ap, subst, ◌∙◌}
+use Rattle.std.proofs.Common.{◌+◌, ◌-◌, ◌≤◌, refl, length, sym, subst}
 use Rattle.std.specs.List.{All}
-use Rattle.affc_rows.specs.Forms.{Affine}
 use Rattle.affc_quast.specs.SeenLeaves.{leaf_seen}
 use Rattle.affc_life.proofs.SeatedLemmas.{params_few, writer_few, leaf_few, params_first, domain_narrow, leaf_narrow, own_wide, front_made}
 use Rattle.affc_life.proofs.stores.front_rows.Goals as goal

@@ -1,8 +1,6 @@
-use Rattle.std.proofs.Common.{◌≡◌, ◌+◌, ◌≤◌, ℕ, List, length, arith, sym, ap, subst, ◌∙◌}
+use Rattle.std.proofs.Common.{◌≡◌, ◌+◌, ◌≤◌, ℕ, length, arith, sym, subst, ◌∙◌}
 use Rattle.std.specs.List.{All}
-use Rattle.affc_rows.specs.Forms.{Affine}
 use Rattle.affc_quast.specs.SeenLeaves.{leaf_seen}
-use Rattle.affc_quast.specs.Leaves.{padded}
 use Rattle.affc_life.specs.Clashes.{named_posed, writer_posed}
 use Rattle.affc_life.specs.Drafts.{posed}
 use Rattle.affc_life.proofs.SeatedLemmas.{writer_few, leaf_few, loaded_made, named_narrow, named_forms, writer_forms, writes_are, has_forms, order_made}

@@ -1,6 +1,4 @@
-use Rattle.std.proofs.Common.{◌≡◌, ◌+◌, ◌≤◌, ℕ, List, length, arith, sym, ap, subst, ◌∙◌}
-use Rattle.std.specs.List.{All}
-use Rattle.affc_rows.specs.Forms.{Affine}
+use Rattle.std.proofs.Common.{◌≡◌, ◌+◌, ◌≤◌, ℕ, length, arith, ◌∙◌}
 use Rattle.affc_quast.specs.SeenLeaves.{leaf_seen}
 use Rattle.affc_life.specs.Clashes.{reader_posed, writer_posed}
 use Rattle.affc_life.proofs.SeatedLemmas.{params_few, writer_few, reader_few, leaf_few, reader_forms, writer_forms, writes_are, reads_are, has_forms, order_made}

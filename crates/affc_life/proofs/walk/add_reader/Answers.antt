@@ -1,8 +1,7 @@
-use Rattle.std.proofs.Common.{◌≡◌, List, length, map, drop, ap, sym, subst, ◌∙◌}
+use Rattle.std.proofs.Common.{map, drop, ap, ◌∙◌}
 use Rattle.affc_order.proofs.CodeLemmas.{is_nest}
 use Rattle.affc_quast.specs.Seen.{seen}
 use Rattle.affc_quast.specs.Sources.{loads_before}
-use Rattle.affc_life.specs.Asked.{IsLiving}
 use Rattle.affc_life.specs.Drafts.{drafted}
 use Rattle.affc_life.proofs.SeatedLemmas.{its_place}
 use Rattle.affc_life.proofs.WalkLemmas.{own_loads, reader_made}

@@ -1,4 +1,4 @@
-use Rattle.std.proofs.Common.{List, map, ap, sym, subst}
+use Rattle.std.proofs.Common.{map, ap, sym, subst}
 use Rattle.affc_order.proofs.CodeLemmas.{is_nest}
 use Rattle.affc_sched.proofs.SettlingLemmas.{all_there}
 use Rattle.affc_quast.specs.Seen.{seen, trees_of}
