@@ -1,5 +1,5 @@
 -- The forms of times at light forms stay within the range of the code's numbers.
-use Rattle.std.proofs.Common.{◌≡◌, ℕ, zero, suc, ◌+◌, ◌*◌, ◌^◌, ◌<◌, ◌≤◌, ℤ, pos, ◌+ℤ◌, ◌*ℤ◌, List, [], ◌∷◌, ◌++◌, length, map, get_or, take, drop, replicate, refl, sym, ap, subst, ◌∙◌, inl, inr, arith}
+use Rattle.std.proofs.Common.{◌≡◌, ℕ, zero, suc, ◌+◌, ◌*◌, ◌^◌, ◌<◌, ◌≤◌, ℤ, pos, ◌+ℤ◌, ◌*ℤ◌, List, [], ◌∷◌, length, map, get_or, replicate, refl, sym, ap, subst, ◌∙◌, inl, inr, arith}
 use Rattle.std.specs.Prelude.{unsigned_abs}
 use Rattle.std.specs.List.{All}
 use Rattle.std.proofs.lemmas.Int.{ints}
@@ -31,7 +31,7 @@ dot_below (c ∷ cs) (d ∷ ds) a b =
     let p = product_below (unsigned_abs c) (unsigned_abs d) (All-head (λ c. unsigned_abs c ≤ 256) c cs a) (All-head (λ d. unsigned_abs d ≤ 2 ^ 50) d ds b) in
     omega arith
 
-dot_abs : (cs xs : List ℤ) → unsigned_abs (dot cs xs) ≤ dot_magnitude cs xs
+pub dot_abs : (cs xs : List ℤ) → unsigned_abs (dot cs xs) ≤ dot_magnitude cs xs
 dot_abs [] xs = omega arith
 dot_abs (c ∷ cs) [] = omega arith
 dot_abs (c ∷ cs) (x ∷ xs) =

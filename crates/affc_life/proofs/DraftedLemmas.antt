@@ -1,38 +1,35 @@
 -- The clash systems of a list are over their columns.
-use Rattle.std.proofs.Common.{◌≡◌, ℕ, suc, ◌+◌, ◌-◌, ◌≤◌, pos, negsuc, List, [], ◌∷◌, ◌++◌, length, map, flat_map, drop, Some, refl, sym, ap, subst, ◌∙◌, inl, inr, arith}
+use Rattle.std.proofs.Common.{◌≡◌, ℕ, ◌+◌, ◌-◌, ◌≤◌, pos, negsuc, List, [], ◌∷◌, ◌++◌, length, map, flat_map, drop, Some, refl, sym, ap, subst, ◌∙◌, inl, inr, arith}
 use Rattle.std.specs.Prelude.{slice_get}
 use Rattle.std.specs.List.{All}
 use Rattle.std.proofs.lemmas.List.Elements.{All-nil, All-cons, All-append, All-drop}
 use Rattle.affc_rows.specs.Forms.{Affine, HaveColumns}
 use Rattle.affc_rows.proofs.ValueLemmas.{length-mixed}
 use Rattle.affc_system.specs.Pairs.{IsSubscript}
-use Rattle.affc_system.specs.Systems.{Rows}
 use Rattle.affc_trace.specs.declared.schedule.Schedule.{Schedule}
 use Rattle.affc_trace.specs.declared.schedule.Schedule.TheVariants.{Source, Time}
 use Rattle.affc_trace.specs.Inverses.{columns_from}
 use Rattle.affc_trace.specs.Law.{IsIn}
 use Rattle.affc_trace.proofs.Members.{to_map}
 use Rattle.affc_nest.specs.Asked.{IsNest}
-use Rattle.affc_nest.specs.declared.nest.Access.{Access}
 use Rattle.affc_nest.specs.declared.nest.Entry.{Entry}
 use Rattle.affc_nest.specs.declared.nest.Nest.{Nest}
 use Rattle.affc_nest.specs.Domains.{gap_row}
 use Rattle.affc_nest.proofs.QuestionLemmas.{stands_in}
-use Rattle.affc_order.specs.Posed.{Posed, form_at}
+use Rattle.affc_order.specs.Posed.{Posed}
 use Rattle.affc_order.specs.Spread.{spread}
 use Rattle.affc_order.specs.Systems.{forms_or_none, target_order}
 use Rattle.affc_order.proofs.ColumnLemmas.{at_width}
 use Rattle.affc_order.proofs.SpreadLemmas.{spread_width}
 use Rattle.affc_sched.specs.Questions.{context_count}
 use Rattle.affc_sched.proofs.LegalLemmas.{entry_at}
-use Rattle.affc_sched.proofs.PairLemmas.{stands_in as stands}
 use Rattle.affc_sched.proofs.WidthLemmas.{domain_wide}
-use Rattle.affc_quast.specs.Leaves.{padded, Leaf}
+use Rattle.affc_quast.specs.Leaves.{padded}
 use Rattle.affc_quast.specs.Sources.{loads_in}
 use Rattle.affc_quast.specs.Trees.{Tree}
 use Rattle.affc_quast.proofs.LeafLemmas.{padded_width}
 use Rattle.affc_life.specs.declared.draft.Draft.{Draft}
-use Rattle.affc_life.specs.Asked.{KeepLimits, IsLight, HasForms, IsLiving, AreSeated}
+use Rattle.affc_life.specs.Asked.{KeepLimits, IsLight, HasForms, AreSeated}
 use Rattle.affc_system.specs.declared.pairs.PairSystem.{PairSystem}
 use Rattle.affc_life.specs.Sizes.{AnyLarge}
 use Rattle.affc_life.specs.Clashes.{Clash, clash_of, clashes_of_entry, clash_columns, of_reader, of_writer, front_rows, reader_posed, named_posed, writer_posed, clashes}
@@ -41,7 +38,7 @@ use Rattle.affc_life.proofs.LeafLemmas.{path_of}
 use Rattle.affc_life.proofs.LightLemmas.{all_of, all_map}
 use Rattle.affc_life.proofs.MadeLemmas.{Made, made}
 use Rattle.affc_life.proofs.RowLemmas.{between_all, Compared, order_all}
-use Rattle.affc_life.proofs.SeatedLemmas.{leaf_first, path_first, params_first, domain_narrow, leaf_narrow, reader_forms, writer_forms, named_forms}
+use Rattle.affc_life.proofs.SeatedLemmas.{leaf_first, path_first, params_first, leaf_narrow, reader_forms, writer_forms, named_forms}
 use Rattle.affc_life.proofs.SubscriptLemmas.{are_subscripts, all_padded_subscripts, all_spread_subscripts}
 
 module _ (nest : Nest) (n : IsNest nest) (trees : List Tree) (limits : KeepLimits nest trees) (schedule : Schedule) (array : ℕ) (c : Clash) (k : Made nest trees schedule array c) where
@@ -136,7 +133,7 @@ module _ (nest : Nest) (n : IsNest nest) (trees : List Tree) (limits : KeepLimit
       All-append Wide (map (padded columns) (k.reader.domain.rows ++ k.leaf.rows)) (map (of_writer nest k.reader k.leaf k.of_leaf.writer) (drop (context_count nest) k.of_leaf.writer.domain.rows))
       (padded_wide (k.reader.domain.rows ++ k.leaf.rows) path_wide) own_wide
 
-  x_subscripts : All (IsSubscript columns) (map (of_reader nest k.reader k.leaf k.of_leaf.writer) k.load.subs)
+  pub x_subscripts : All (IsSubscript columns) (map (of_reader nest k.reader k.leaf k.of_leaf.writer) k.load.subs)
   x_subscripts =
       all_padded_subscripts (length nest.params + length k.reader.loops) columns k.load.subs
       (through (length nest.params + length k.reader.loops) k.leaf.columns columns (path_first nest k.reader k.leaf k.of_leaf.writer seated) (leaf_first nest k.reader k.leaf k.of_leaf.writer seated))
@@ -145,7 +142,7 @@ module _ (nest : Nest) (n : IsNest nest) (trees : List Tree) (limits : KeepLimit
       through : (a b c : ℕ) → a ≤ b → b ≤ c → a ≤ c
       through a b c h g = omega (arith, h, g)
 
-  y_subscripts : All (IsSubscript columns) (map (of_writer nest k.reader k.leaf k.of_leaf.writer) k.of_leaf.store.subs)
+  pub y_subscripts : All (IsSubscript columns) (map (of_writer nest k.reader k.leaf k.of_leaf.writer) k.of_leaf.store.subs)
   y_subscripts =
       all_spread_subscripts (length nest.params) (k.leaf.columns - length nest.params) (length k.of_leaf.writer.loops) columns k.of_leaf.store.subs whole
       (are_subscripts nest n k.of_leaf.writer k.of_leaf.writer_in k.of_leaf.store store_among)
@@ -198,3 +195,6 @@ module _ (nest : Nest) (trees ts : List Tree) (schedule : Schedule) (array : ℕ
 
   pub any_large : (held : List Draft) → held ≡ out → AnyLarge (map drafted held) → AnyLarge (clashes nest trees schedule array)
   any_large held e h = subst AnyLarge (ap (map drafted) e ∙ all_drafted) h
+
+  pub none_large : (held : List Draft) → held ≡ out → (AnyLarge (map drafted held) → ⊥) → AnyLarge (clashes nest trees schedule array) → ⊥
+  none_large held e h = subst (λ cs. AnyLarge cs → ⊥) (ap (map drafted) e ∙ all_drafted) h

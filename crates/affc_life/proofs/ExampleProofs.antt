@@ -10,11 +10,15 @@ use Rattle.affc_rows.specs.Forms.{Affine}
 use Rattle.affc_trace.specs.Law.{IsIn}
 use Rattle.affc_nest.proofs.DomainLemmas.{from_all}
 use Rattle.affc_life.specs.Clashes.{Clash}
-use Rattle.affc_life.specs.Examples.{form, BlurHasTwelve, OthersHaveNone, MiddleClashes, chain_front, chain_orders, chain_clash, ChainClashes, OwnStoreIsNone, HalvedClashes, DimensionsInTurn, LastOneIsNoLoad, NoneOfTheDead}
+use Rattle.affc_life.specs.Examples.{form, BlurHasTwelve, BlurHasSix, OthersHaveNone, MiddleClashes, BothOrders, NeverLoaded, chain_front, chain_orders, chain_clash, ChainClashes, OwnStoreIsNone, HalvedClashes, DimensionsInTurn, LastOneIsNoLoad, NoneOfTheDead}
 
 pub blur_has_twelve : BlurHasTwelve
 unfolding shape-the_row-Ix-0 hidden-the_row-Ix-0 shape-the_row-Val-0 hidden-the_row-Val-0 shape-the_row-Stmt-0 hidden-the_row-Stmt-0 hidden
 blur_has_twelve = refl
+
+pub blur_has_six : BlurHasSix
+unfolding shape-the_row-Ix-0 hidden-the_row-Ix-0 shape-the_row-Val-0 hidden-the_row-Val-0 shape-the_row-Stmt-0 hidden-the_row-Stmt-0 hidden
+blur_has_six = refl
 
 pub others_have_none : OthersHaveNone
 unfolding shape-the_row-Ix-0 hidden-the_row-Ix-0 shape-the_row-Val-0 hidden-the_row-Val-0 shape-the_row-Stmt-0 hidden-the_row-Stmt-0 hidden
@@ -29,6 +33,12 @@ chain_clashes = refl
 
 pub halved_clashes : HalvedClashes
 halved_clashes = refl
+
+pub both_orders : BothOrders
+both_orders = refl
+
+pub never_loaded : NeverLoaded
+never_loaded = refl
 
 pub dimensions_in_turn : DimensionsInTurn
 dimensions_in_turn = (refl, refl)

@@ -1,5 +1,5 @@
 -- The leaves of a tree within the limits.
-use Rattle.std.proofs.Common.{◌≡◌, ℕ, suc, ◌+◌, ◌≤◌, ℤ, pos, List, [], ◌∷◌, ◌++◌, length, map, Some, refl, sym, ap, subst, ◌∙◌, inl, inr, arith}
+use Rattle.std.proofs.Common.{◌≡◌, ℕ, suc, ◌+◌, ◌≤◌, List, [], ◌∷◌, length, Some, refl, sym, subst, inl, inr, arith}
 use Rattle.std.specs.Prelude.{max}
 use Rattle.std.specs.List.{All}
 use Rattle.std.proofs.lemmas.List.Elements.{All-nil, All-cons, All-head, All-tail}
@@ -16,7 +16,7 @@ use Rattle.affc_quast.specs.Leaves.{Leaf, negated, behind, divided, leaves_of}
 use Rattle.affc_quast.specs.Limits.{Shaped, FitsForm, FitsTree, widest}
 use Rattle.affc_quast.specs.Trees.{Tree, Test, Div, Source, Input, depth_of, divisions_of}
 use Rattle.affc_quast.proofs.RangeLemmas.{leaves_are_over}
-use Rattle.affc_life.specs.Asked.{IsNamed, NamesStatements, KeepsLimits, IsLight, HasForms, AreDivisions, IsPath}
+use Rattle.affc_life.specs.Asked.{IsNamed, NamesStatements, KeepsLimits, IsLight, AreDivisions, IsPath}
 
 -- what a leaf has of its tree's limits
 record OfTree (nest : Nest) (columns : ℕ) (tree : Tree) (l : Leaf) : Type 0 where

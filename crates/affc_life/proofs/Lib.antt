@@ -18,3 +18,10 @@ pub mod WalkLemmas
 pub mod SubscriptLemmas
 pub mod RowLemmas
 pub mod DraftedLemmas
+pub mod FoundLemmas
+pub mod DomainLemmas
+pub mod MildLemmas
+pub mod FoundLeafLemmas
+pub mod CountLemmas
+pub mod SizeLemmas
+pub mod ConflictLemmas

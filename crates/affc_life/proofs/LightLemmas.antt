@@ -1,5 +1,5 @@
 -- Forms within the limits of a tree's, over more columns.
-use Rattle.std.proofs.Common.{◌≡◌, ℕ, zero, suc, ◌+◌, ◌-◌, ◌^◌, ◌≤◌, ℤ, pos, List, [], ◌∷◌, ◌++◌, length, map, replicate, subst, arith}
+use Rattle.std.proofs.Common.{◌≡◌, ℕ, zero, suc, ◌+◌, ◌-◌, ◌^◌, ◌≤◌, ℤ, pos, List, [], ◌∷◌, length, map, replicate, arith}
 use Rattle.std.specs.Prelude.{unsigned_abs}
 use Rattle.std.specs.List.{All}
 use Rattle.std.proofs.lemmas.List.Elements.{All-nil, All-cons, All-head, All-tail, All-append}
@@ -9,7 +9,6 @@ use Rattle.affc_nest.specs.Sides.{AreNear, IsSide}
 use Rattle.affc_order.specs.Spread.{spread}
 use Rattle.affc_order.proofs.CodeLemmas.{columns_sides, spread_side}
 use Rattle.affc_quast.specs.Leaves.{padded}
-use Rattle.affc_quast.specs.Limits.{FitsForm, widest}
 use Rattle.affc_quast.specs.Wide.{IsWide}
 use Rattle.affc_quast.proofs.LeafLemmas.{padded_width}
 use Rattle.affc_quast.proofs.PathLemmas.{wide_of}

@@ -7,6 +7,7 @@ use Rattle.affc_system.specs.Systems.{Rows, FitsRow}
 use Rattle.affc_trace.proofs.Runs.{length_append}
 use Rattle.affc_nest.specs.Domains.{with_rows}
 use Rattle.affc_life.specs.declared.draft.Draft.{Draft}
+use Rattle.affc_life.specs.Clashes.{Clash}
 use Rattle.affc_life.specs.Drafts.{drafted}
 use Rattle.affc_life.specs.Sizes.{IsLarge, AnyLarge}
 
@@ -42,3 +43,9 @@ module _ (drafts : List Draft) (draft : Draft) (rest : List Draft) (is : drafts 
 
   pub any_rest : AnyLarge (map drafted rest) → AnyLarge (map drafted drafts)
   any_rest h = subst (λ ds. AnyLarge (map drafted ds)) (sym is) (record { clash = h.clash; there = inr h.there; large = h.large })
+
+  pub none_large : (IsLarge (drafted draft).system → ⊥) → (AnyLarge (map drafted rest) → ⊥) → AnyLarge (map drafted drafts) → ⊥
+  none_large first others h = chosen (subst (λ ds. AnyLarge (map drafted ds)) is h)
+    where
+      chosen : AnyLarge (map drafted (draft ∷ rest)) → ⊥
+      chosen any = elim any.there [ inl e ↦ first (subst (λ (c : Clash). IsLarge c.system) e any.large) | inr i ↦ others (record { clash = any.clash; there = i; large = any.large }) ]

@@ -11,7 +11,7 @@ use Rattle.affc_system.specs.declared.pairs.PairSystem.{PairSystem}
 use Rattle.affc_ast.specs.declared.tree.Instance.{Instance}
 use Rattle.affc_ast.specs.declared.tree.Program.{Program}
 use Rattle.affc_ast.specs.Store.{Element}
-use Rattle.affc_ast.specs.Trace.{trace, loads_of, store_of}
+use Rattle.affc_ast.specs.Trace.{trace, loads_of, store_of, events}
 use Rattle.affc_trace.specs.declared.schedule.Schedule.{Schedule}
 use Rattle.affc_trace.specs.Dataflow.{IsSource, same_element}
 use Rattle.affc_trace.specs.Effects.{effect}
@@ -162,6 +162,23 @@ module _ (program : Program) (has : HasNest program) (trees : List Tree) (schedu
         subst (IsSource program p (instance_of k.reader t.bs) (element_at (p ++ t.bs) k.load)) (ap (λ (u : Tree). named_at u (p ++ t.bs)) same ∙ leads.1 ∙ ap (λ o. instance_at o ((p ++ t.bs) ++ t.qs)) k.of_leaf.names)
         (a.2 (instance_of k.reader t.bs) (element_at (p ++ t.bs) k.load) refl facts_at.reader_runs read)
 
+    -- the two elements are touched
+    x_is : (array, values_of c.x point) ≡ element_at (p ++ t.bs) k.load
+    x_is i = (sym k.loads i, x_of_point i)
+
+    y_is : (array, values_of c.y point) ≡ element_at (p ++ t.cs) k.of_leaf.store
+    y_is i = (sym k.of_leaf.stores i, y_of_point i)
+
+    pub x_touched : IsIn (array, values_of c.x point) (events program p (instance_of k.reader t.bs))
+    x_touched =
+        subst (λ z. IsIn z (events program p (instance_of k.reader t.bs))) (sym x_is)
+        (subst (IsIn (element_at (p ++ t.bs) k.load)) read_events (to_map (element_at (p ++ t.bs)) k.reader.accesses k.load load_among))
+
+    pub y_touched : IsIn (array, values_of c.y point) (events program p (instance_of k.of_leaf.writer t.cs))
+    y_touched =
+        subst (λ z. IsIn z (events program p (instance_of k.of_leaf.writer t.cs))) (sym y_is)
+        (subst (IsIn (element_at (p ++ t.cs) k.of_leaf.store)) (events_are program has p l k.of_leaf.writer t.cs t.writes) (to_map (element_at (p ++ t.cs)) k.of_leaf.writer.accesses k.of_leaf.store store_among))
+
     -- a store between the source and the load
     pub between_at : IsScheduleOf program schedule → NameSources program p (nest_of program) trees
         → orders.StoredBetween (effect program p) same_element (trace program p) (target program schedule p) (array, values_of c.x point) (array, values_of c.y point)
@@ -172,16 +189,14 @@ module _ (program : Program) (has : HasNest program) (trees : List Tree) (schedu
         let last = ((source_in_its_own_words program p (instance_of e t.bs) (element_at (p ++ t.bs) k.load)).0 named_instance).0 source in
         let runs = earlier_is_in (trace program p) named_instance (instance_of e t.bs) last.earlier in
         let said = clash_says program has p t.bs t.qs t.cs l e k.leaf w t.reads t.writes t.over t.q_long schedule k.load load_among k.of_leaf.named k.of_leaf.names k.of_leaf.store store_among fits k.of_leaf.rows k.of_leaf.rows_in t.met (λ f. runs) in
-        let x : (array, values_of c.x point) ≡ element_at (p ++ t.bs) k.load = λ i. (sym k.loads i, x_of_point i) in
-        let y : (array, values_of c.y point) ≡ element_at (p ++ t.cs) k.of_leaf.store = λ i. (sym k.of_leaf.stores i, y_of_point i) in
         let write_events = events_are program has p l w t.cs t.writes in
         record {
           store = named_instance;
           load = instance_of e t.bs;
           other = instance_of w t.cs;
-          loads = subst (λ z. IsIn z (loads_of program p (instance_of e t.bs))) (sym x) (stands_in (loads_of program p (instance_of e t.bs)) k.number (element_at (p ++ t.bs) k.load) read);
-          source = subst (λ z. IsSource program p (instance_of e t.bs) z (Some named_instance)) (sym x) source;
-          stores = y ∙ store_is (element_at (p ++ t.cs)) w.accesses (loads_of program p (instance_of w t.cs)) (store_of program p (instance_of w t.cs)) write_events k.of_leaf.store k.of_leaf.store_there;
+          loads = subst (λ z. IsIn z (loads_of program p (instance_of e t.bs))) (sym x_is) (stands_in (loads_of program p (instance_of e t.bs)) k.number (element_at (p ++ t.bs) k.load) read);
+          source = subst (λ z. IsSource program p (instance_of e t.bs) z (Some named_instance)) (sym x_is) source;
+          stores = y_is ∙ store_is (element_at (p ++ t.cs)) w.accesses (loads_of program p (instance_of w t.cs)) (store_of program p (instance_of w t.cs)) write_events k.of_leaf.store k.of_leaf.store_there;
           after = said.after;
           before = said.before;
         }
@@ -323,7 +338,7 @@ contained [] s i = absurd i
 contained (x ∷ xs) s (inl e) = (zero, omega arith, sym e)
 contained (x ∷ xs) s (inr i) = let r = contained xs s i in (suc r.0, omega (arith, r.1), r.2)
 
-at_length : (program : Program) (p : List ℤ) → IsInContext program p → length p ≡ length (number_ranges program.params)
+pub at_length : (program : Program) (p : List ℤ) → IsInContext program p → length p ≡ length (number_ranges program.params)
 at_length program p inside = sym (box_length (number_ranges program.params) p (in_ranges program.params p inside.ranges))
 
 module _ (program : Program) (trees : List Tree) (schedule : Schedule) (array : ℕ) (systems : List PairSystem) (p : List ℤ) (has : HasNest program) (arrays : NamesArrays program) (fits : IsScheduleOf program schedule)

@@ -1,11 +1,11 @@
 -- The ranges of quotients have their ends in order.
-use Rattle.std.proofs.Common.{◌≡◌, ℕ, zero, suc, ◌+◌, ◌*◌, ◌^◌, ◌<◌, ◌≤◌, ℤ, pos, negsuc, neg_ℤ, ◌≤ℤ◌, Bool, true, false, if◌then◌else◌, List, [], ◌∷◌, ◌++◌, length, map, refl, sym, ap, subst, ◌∙◌, inl, inr, arith}
-use Rattle.std.specs.Prelude.{int_lt, unsigned_abs}
+use Rattle.std.proofs.Common.{◌≡◌, ℕ, zero, suc, ◌+◌, ◌^◌, ◌<◌, ◌≤◌, ℤ, pos, negsuc, neg_ℤ, ◌≤ℤ◌, Bool, true, false, if◌then◌else◌, List, [], ◌∷◌, ◌++◌, length, map, refl, sym, ap, subst, ◌∙◌, inl, inr, arith}
+use Rattle.std.specs.Prelude.{int_lt}
 use Rattle.std.specs.List.{All}
 use Rattle.std.proofs.lemmas.Int.{ints}
 use Rattle.std.proofs.lemmas.List.Elements.{All-nil, All-cons, All-head, All-tail, All-append}
 use Rattle.affc_rows.specs.Forms.{Affine, value, magnitude}
-use Rattle.affc_system.specs.Boxes.{IsBox, InBox, IsCorner, corner}
+use Rattle.affc_system.specs.Boxes.{IsBox, IsCorner, corner}
 use Rattle.affc_system.specs.Pairs.{WithinReach}
 use Rattle.affc_system.proofs.BoxLemmas.{corner_in_box, corner_is_corner, value_least}
 use Rattle.affc_ast.specs.Index.{floor_of}

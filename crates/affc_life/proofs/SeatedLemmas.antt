@@ -1,5 +1,5 @@
 -- What holds of a reader, a leaf and a writer: widths, ranges, and the forms of the three instances.
-use Rattle.std.proofs.Common.{◌≡◌, ℕ, zero, suc, ◌+◌, ◌-◌, ◌*◌, ◌<◌, ◌≤◌, ℤ, IsTrue, List, [], ◌∷◌, ◌++◌, length, map, flat_map, drop, Some, refl, sym, ap, subst, ◌∙◌, arith}
+use Rattle.std.proofs.Common.{◌≡◌, ℕ, ◌+◌, ◌-◌, ◌≤◌, ℤ, List, [], ◌∷◌, ◌++◌, length, map, flat_map, drop, Some, refl, sym, ap, subst, ◌∙◌, arith}
 use Rattle.std.specs.Prelude.{slice_get}
 use Rattle.std.specs.List.{All}
 use Rattle.std.proofs.lemmas.List.Elements.{All-append, All-drop}
@@ -8,7 +8,6 @@ use Rattle.affc_system.specs.Pairs.{WithinReach}
 use Rattle.affc_system.specs.Systems.{Rows, IsRow}
 use Rattle.affc_trace.specs.Inverses.{columns_from}
 use Rattle.affc_trace.specs.Law.{IsIn}
-use Rattle.affc_trace.proofs.EndedReads.{append_assoc}
 use Rattle.affc_trace.proofs.LastStores.{map_append}
 use Rattle.affc_trace.proofs.Runs.{length_append}
 use Rattle.affc_domain.proofs.Lists.{length_map}
@@ -28,14 +27,12 @@ use Rattle.affc_sched.proofs.LegalLemmas.{entry_at}
 use Rattle.affc_sched.proofs.PairLemmas.{stands_in, subs_sides}
 use Rattle.affc_sched.proofs.WidthLemmas.{domain_wide}
 use Rattle.affc_quast.specs.Leaves.{padded, Leaf}
-use Rattle.affc_quast.specs.Wide.{IsWide}
-use Rattle.affc_life.specs.Asked.{IsLight, IsNamed, HasForms, IsPath, IsLiving, AreSeated}
-use Rattle.affc_life.specs.declared.draft.Shared.{Shared}
-use Rattle.affc_life.specs.Drafts.{draft_by, posed, rows_in, after_named, before_load}
+use Rattle.affc_life.specs.Asked.{IsLight, IsNamed, HasForms, IsLiving, AreSeated}
+use Rattle.affc_life.specs.Drafts.{posed, rows_in, after_named, before_load}
 use Rattle.affc_life.specs.Clashes.{Clash, apart_rows, clash_columns, of_reader, of_writer, front_rows, clash_ranges, reader_posed, named_posed, writer_posed, rows_of_clashes, clash, clashes_of_store}
 use Rattle.affc_life.proofs.BoxedLemmas.{all_reach, ranges_are, entry_reach}
 use Rattle.affc_life.proofs.WalkLemmas.{between_is}
-use Rattle.affc_life.proofs.LightLemmas.{all_of, lights_wide, sides_light, columns_light, all_padded, all_spread_light, light_narrow}
+use Rattle.affc_life.proofs.LightLemmas.{all_of, sides_light, columns_light, all_padded, all_spread_light, light_narrow}
 
 -- ---- A living statement of a nest
 
@@ -217,6 +214,10 @@ front_made nest reader leaf writer columns params between domain rows own first 
     ∙ ap (λ k. map P (reader.domain.rows ++ leaf.rows) ++ map (spread k (leaf.columns - k) 0) own) p
     ∙ ap (λ xs. map P (reader.domain.rows ++ leaf.rows) ++ map (of_writer nest reader leaf writer) xs) o
 
+-- a clash system of these parts
+abbrev pub clash_by : (columns : ℕ) → (ranges : List (ℤ × ℤ)) → (x y rows : List Affine) → Clash
+clash_by columns ranges x y rows = record { system = record { columns = columns; rows = rows }; ranges = ranges; x = x; y = y }
+
 -- ---- Subscripts and instances, as the code makes them
 
 module _ (nest : Nest) (reader : Entry) (leaf : Leaf) (writer : Entry) where
@@ -249,27 +250,27 @@ module _ (nest : Nest) (reader : Entry) (leaf : Leaf) (writer : Entry) where
 
   -- ---- All of them
 
-  pub store_made : (schedule : Schedule) (load : Access) (named : Posed) (store : Access) (shared : Shared) (front : List Affine) (after before : List (List Affine)) (old new : List Clash)
-      → shared.columns ≡ clash_columns nest reader leaf writer → shared.ranges.now ≡ clash_ranges nest reader leaf writer → shared.x.now ≡ map (of_reader nest reader leaf writer) load.subs
-      → shared.y.now ≡ map (of_writer nest reader leaf writer) store.subs → front ≡ front_rows nest reader leaf writer → after ≡ map rows_in (after_named nest schedule reader leaf named writer)
+  pub store_made : (schedule : Schedule) (load : Access) (named : Posed) (store : Access) (columns : ℕ) (ranges : List (ℤ × ℤ)) (x y front : List Affine) (after before : List (List Affine)) (old new : List Clash)
+      → columns ≡ clash_columns nest reader leaf writer → ranges ≡ clash_ranges nest reader leaf writer → x ≡ map (of_reader nest reader leaf writer) load.subs
+      → y ≡ map (of_writer nest reader leaf writer) store.subs → front ≡ front_rows nest reader leaf writer → after ≡ map rows_in (after_named nest schedule reader leaf named writer)
       → before ≡ map rows_in (before_load nest schedule reader leaf writer)
-      → new ≡ old ++ map (draft_by shared) (flat_map (λ o. flat_map (λ u. apart_rows shared.x.now shared.y.now (front ++ (o ++ u))) before) after)
+      → new ≡ old ++ map (clash_by columns ranges x y) (flat_map (λ o. flat_map (λ u. apart_rows x y (front ++ (o ++ u))) before) after)
       → new ≡ old ++ clashes_of_store nest reader leaf writer schedule load named store
-  store_made schedule load named store shared front after before old new c r x y f a b e =
+  store_made schedule load named store columns ranges x y front after before old new c r i j f a b e =
       let xs : List Affine = map (of_reader nest reader leaf writer) load.subs in
       let ys : List Affine = map (of_writer nest reader leaf writer) store.subs in
       let first : List Rows = after_named nest schedule reader leaf named writer in
       let second : List Rows = before_load nest schedule reader leaf writer in
-      let rows : flat_map (λ o. flat_map (λ u. apart_rows shared.x.now shared.y.now (front ++ (o ++ u))) before) after ≡ rows_of_clashes nest reader leaf writer schedule load named store =
-      ap (λ zs. flat_map (λ o. flat_map (λ u. apart_rows zs shared.y.now (front ++ (o ++ u))) before) after) x ∙ ap (λ zs. flat_map (λ o. flat_map (λ u. apart_rows xs zs (front ++ (o ++ u))) before) after) y
+      let rows : flat_map (λ o. flat_map (λ u. apart_rows x y (front ++ (o ++ u))) before) after ≡ rows_of_clashes nest reader leaf writer schedule load named store =
+      ap (λ zs. flat_map (λ o. flat_map (λ u. apart_rows zs y (front ++ (o ++ u))) before) after) i ∙ ap (λ zs. flat_map (λ o. flat_map (λ u. apart_rows xs zs (front ++ (o ++ u))) before) after) j
       ∙ ap (λ zs. flat_map (λ o. flat_map (λ u. apart_rows xs ys (zs ++ (o ++ u))) before) after) f ∙ ap (flat_map (λ o. flat_map (λ u. apart_rows xs ys (front_rows nest reader leaf writer ++ (o ++ u))) before)) a
       ∙ ap (λ zs. flat_map (λ o. flat_map (λ u. apart_rows xs ys (front_rows nest reader leaf writer ++ (o ++ u))) zs) (map rows_in first)) b ∙ between_is (front_rows nest reader leaf writer) first second xs ys in
-      e ∙ ap (λ zs. old ++ map (draft_by shared) zs) rows
+      e ∙ ap (λ zs. old ++ map (clash_by columns ranges x y) zs) rows
       ∙ ap (λ zs. old ++ zs) (drafts_are (rows_of_clashes nest reader leaf writer schedule load named store))
     where
-      one : (rows : List Affine) → draft_by shared rows ≡ clash nest reader leaf writer schedule load named store rows
-      one rows i = record { system = record { columns = c i; rows = rows }; ranges = r i; x = x i; y = y i }
+      one : (rows : List Affine) → clash_by columns ranges x y rows ≡ clash nest reader leaf writer schedule load named store rows
+      one rows k = record { system = record { columns = c k; rows = rows }; ranges = r k; x = i k; y = j k }
 
-      drafts_are : (rs : List (List Affine)) → map (draft_by shared) rs ≡ map (clash nest reader leaf writer schedule load named store) rs
+      drafts_are : (rs : List (List Affine)) → map (clash_by columns ranges x y) rs ≡ map (clash nest reader leaf writer schedule load named store) rs
       drafts_are [] = refl
-      drafts_are (rows ∷ rs) = ap (λ z. z ∷ map (draft_by shared) rs) (one rows) ∙ ap (λ zs. clash nest reader leaf writer schedule load named store rows ∷ zs) (drafts_are rs)
+      drafts_are (rows ∷ rs) = ap (λ z. z ∷ map (clash_by columns ranges x y) rs) (one rows) ∙ ap (λ zs. clash nest reader leaf writer schedule load named store rows ∷ zs) (drafts_are rs)

@@ -1,6 +1,6 @@
 -- The subscripts of a nest's accesses keep the limits of a pair system's.
-use Rattle.std.proofs.Common.{◌≡◌, ℕ, zero, suc, ◌+◌, ◌≤◌, ℤ, pos, IsTrue, List, [], ◌∷◌, ◌++◌, length, map, take, drop, replicate, refl, sym, ap, subst, ◌∙◌, inl, inr, arith}
-use Rattle.std.specs.Prelude.{unsigned_abs, nat_le, nat_abs, ◌&&◌}
+use Rattle.std.proofs.Common.{◌≡◌, ℕ, zero, suc, ◌+◌, ◌≤◌, ℤ, pos, IsTrue, List, [], ◌∷◌, ◌++◌, length, map, take, drop, replicate, sym, ap, subst, ◌∙◌, inl, inr, arith}
+use Rattle.std.specs.Prelude.{unsigned_abs, nat_le, nat_abs}
 use Rattle.std.specs.List.{All}
 use Rattle.std.proofs.lemmas.Bool.{leb-true}
 use Rattle.std.proofs.lemmas.List.Elements.{All-nil, All-cons, All-append, All-take, All-drop}
@@ -15,7 +15,7 @@ use Rattle.affc_domain.specs.Plain.{is_plain, all_plain}
 use Rattle.affc_domain.specs.Ranges.{number_ranges}
 use Rattle.affc_domain.specs.Rounds.{loops_in}
 use Rattle.affc_domain.proofs.FormLemmas.{form_width}
-use Rattle.affc_domain.proofs.Lists.{both_true}
+use Rattle.affc_domain.proofs.Lists.{both_true, length_map}
 use Rattle.affc_domain.proofs.PlainLemmas.{assignments_are_plain}
 use Rattle.affc_nest.specs.Asked.{IsNest}
 use Rattle.affc_nest.specs.declared.nest.Access.{Access}
@@ -80,6 +80,15 @@ are_subscripts nest n e i x j =
     let same : c ≡ length nest.params + length e.loops =
     ap (λ l. m + l) (sym (loops_are n.program k.0 e s)) ∙ ap (λ (y : Nest). length y.params + length e.loops) (sym n.is) in
     subst (λ l. All (IsSubscript l) x.subs) same all
+
+-- at most 16 of a statement
+pub few_accesses : (nest : Nest) → IsNest nest → (e : Entry) → IsIn e nest.entries → length e.accesses ≤ 16
+few_accesses nest n e i =
+    let k = place_of (nest_of n.program).entries e (subst (λ (y : Nest). IsIn e y.entries) n.is i) in
+    let s = site_of n.program k.0 e k.1 in
+    let plain = (assignments_are_plain n.program n.has.plain k.0 s.its_rounds s.assignment s.rounds_at s.assignment_at).1 in
+    let few : length (accesses_of s.assignment) ≤ 16 = leb-true (length (accesses_of s.assignment)) 16 (both_true (nat_le (length (accesses_of s.assignment)) 16) _ plain).0 in
+    subst (λ m. m ≤ 16) (sym (ap (λ (y : Entry). length y.accesses) s.is ∙ length_map (access_form (length (number_ranges n.program.params) + loops_in s.its_rounds)) (accesses_of s.assignment))) few
 
 -- ---- More columns
 

@@ -1,26 +1,24 @@
 -- The clash systems of a list's entries, one after the other.
-use Rattle.std.proofs.Common.{◌≡◌, ℕ, zero, suc, ◌+◌, ◌-◌, ◌<◌, ◌≤◌, Bool, true, false, if◌then◌else◌, List, [], ◌∷◌, ◌++◌, length, map, flat_map, take, drop, get_or, Option, Some, None, refl, sym, ap, subst, ◌∙◌, inl, inr, arith}
+use Rattle.std.proofs.Common.{◌≡◌, ℕ, zero, suc, ◌+◌, ◌-◌, ◌<◌, ◌≤◌, Bool, true, false, if◌then◌else◌, List, [], ◌∷◌, ◌++◌, length, map, flat_map, drop, get_or, Some, None, refl, sym, ap, subst, ◌∙◌, arith}
 use Rattle.std.specs.Prelude.{nat_eq, slice_get}
-use Rattle.std.specs.List.{All}
 use Rattle.std.proofs.lemmas.List.{drop-drop, length-drop}
-use Rattle.std.proofs.lemmas.Option.{none-some, same_Some}
+use Rattle.std.proofs.lemmas.Option.{slice_get_read, slice_get_past}
 use Rattle.std.proofs.Math.ListN.{drop_of_length-le}
 use Rattle.affc_rows.specs.Forms.{Affine}
 use Rattle.affc_system.specs.Systems.{Rows}
 use Rattle.affc_trace.specs.declared.schedule.Schedule.{Schedule}
-use Rattle.affc_trace.specs.Law.{IsIn}
 use Rattle.affc_trace.proofs.EndedReads.{append_assoc}
-use Rattle.affc_trace.proofs.LastStores.{append_nil, map_append}
+use Rattle.affc_trace.proofs.LastStores.{append_nil}
+use Rattle.affc_domain.proofs.Lists.{to_mapped, length_map}
 use Rattle.affc_nest.specs.declared.nest.Access.{Access}
 use Rattle.affc_nest.specs.declared.nest.Entry.{Entry}
 use Rattle.affc_nest.specs.declared.nest.Nest.{Nest}
-use Rattle.affc_order.specs.Posed.{Posed}
-use Rattle.affc_quast.specs.Leaves.{Leaf, leaves_of}
+use Rattle.affc_quast.specs.Leaves.{leaves_of}
 use Rattle.affc_quast.specs.Sources.{loads_in, loads_before, tree_of}
 use Rattle.affc_quast.specs.Trees.{Tree}
-use Rattle.affc_life.specs.Asked.{KeepLimits, KeepsLimits, AreLoads}
+use Rattle.affc_life.specs.Asked.{KeepLimits, AreLoads}
 use Rattle.affc_life.specs.Clashes.{Clash, between_rows, apart_rows, numbered_loads, clashes_of_tree, clashes_of_entry}
-use Rattle.affc_life.specs.Drafts.{rows_in, clashes_of_load}
+use Rattle.affc_life.specs.Drafts.{rows_in, clashes_of_leaf, clashes_of_load}
 
 -- nothing more
 pub none_more : {A : Type 0} (xs more : List A) → more ≡ [] → xs ≡ xs ++ more
@@ -135,3 +133,29 @@ no_trees e entries rest trees statement before loads i s l h =
   where
     more : (t l k m : ℕ) → l ≡ k → t < l → t ≤ k + m
     more t l k m e h = omega (arith, e, h)
+
+-- ---- One load
+
+module _ (nest : Nest) (schedule : Schedule) (array : ℕ) (reader : Entry) (trees : List Tree) (n : ℕ) (load : Access) where
+  -- of another array
+  pub other_load : nat_eq load.array.0 array ≡ false → clashes_of_load nest schedule array reader trees (n, load) ≡ []
+  other_load e = ap (λ t. if t then clashes_of_tree nest schedule array reader load (slice_get trees n) else []) e
+
+  pub no_tree_load : slice_get trees n ≡ None → clashes_of_load nest schedule array reader trees (n, load) ≡ []
+  no_tree_load e = ap (λ o. if nat_eq load.array.0 array then clashes_of_tree nest schedule array reader load o else []) e ∙ either (nat_eq load.array.0 array)
+    where
+      either : (t : Bool) → ◌≡◌ {A = List Clash} (if t then [] else []) []
+      either true = refl
+      either false = refl
+
+  pub load_made : (tree : Tree) (old new : List Clash) → nat_eq load.array.0 array ≡ true → slice_get trees n ≡ Some tree
+      → new ≡ old ++ flat_map (clashes_of_leaf nest schedule array reader load) (leaves_of (length nest.params + length reader.loops) tree) → new ≡ old ++ clashes_of_load nest schedule array reader trees (n, load)
+  load_made tree old new t e m =
+      m ∙ ap (λ o. old ++ clashes_of_tree nest schedule array reader load o) (sym e) ∙ ap (λ b. old ++ (if b then clashes_of_tree nest schedule array reader load (slice_get trees n) else [])) (sym t)
+
+-- its tree, as the code reads it
+pub tree_there : {A B : Type 0} (f : A → B) (xs : List A) (i : ℕ) (x : A) → i < length xs → x ≡ get_or xs i x → slice_get (map f xs) i ≡ Some (f x)
+tree_there f xs i x h e = to_mapped f xs i x (slice_get_read xs (length xs) i x refl h e)
+
+pub tree_not_there : {A B : Type 0} (f : A → B) (xs : List A) (i : ℕ) → length xs ≤ i → slice_get (map f xs) i ≡ None
+tree_not_there f xs i h = slice_get_past (map f xs) i (subst (λ n. n ≤ i) (sym (length_map f xs)) h)

@@ -1,7 +1,7 @@
 -- What clash systems are asked of.
 use Rattle.std.specs.Prelude.{◌≡◌, ℕ, suc, ◌+◌, ◌<◌, ◌≤◌, ℤ, pos, ◌≤ℤ◌, IsTrue, List, [], ◌∷◌, length, Some, slice_get}
 use Rattle.std.specs.List.{All}
-use Rattle.affc_rows.specs.Forms.{Affine, HaveColumns}
+use Rattle.affc_rows.specs.Forms.{Affine}
 use Rattle.affc_trace.specs.Law.{IsIn}
 use Rattle.affc_nest.specs.Asked.{IsNest}
 use Rattle.affc_nest.specs.declared.nest.Entry.{Entry}
@@ -11,7 +11,6 @@ use Rattle.affc_quast.specs.Leaves.{Leaf}
 use Rattle.affc_quast.specs.Limits.{Shaped, FitsForm, FitsTree, widest}
 use Rattle.affc_quast.specs.Sources.{loads_in, tree_of}
 use Rattle.affc_quast.specs.Trees.{Tree, Test, Div, Source, Input, depth_of}
-use Rattle.affc_quast.specs.Wide.{IsWide}
 
 -- ---- Trees
 

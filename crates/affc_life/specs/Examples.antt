@@ -33,6 +33,10 @@ blur_trees = tree.Input ∷ stored_at (pos 0) ∷ stored_at (pos 1) ∷ stored_a
 abbrev pub BlurHasTwelve : Type 0
 BlurHasTwelve = length (clashes (nest_of blur) blur_trees together 2) ≡ 12
 
+-- In the order of the text all stores come first: one system, and two for the elements, for each of three loads.
+abbrev pub BlurHasSix : Type 0
+BlurHasSix = length (clashes (nest_of blur) blur_trees Source 2) ≡ 6
+
 -- `in` is loaded and never stored, `out` is stored and never loaded
 abbrev pub OthersHaveNone : Type 0
 OthersHaveNone = (clashes (nest_of blur) blur_trees together 0 ≡ []) × (clashes (nest_of blur) blur_trees together 1 ≡ [])
@@ -155,6 +159,40 @@ halved_clash last = record {
 -- q < j and j < i; i < j + 1, or j + 1 < i
 abbrev pub HalvedClashes : Type 0
 HalvedClashes = clashes nest (halved ∷ []) Source 0 ≡ halved_clash (form (pos 0 ∷ negsuc 0 ∷ pos 0 ∷ pos 1 ∷ []) (pos 0)) ∷ halved_clash (form (pos 0 ∷ pos 1 ∷ pos 0 ∷ negsuc 0 ∷ []) (negsuc 1)) ∷ []
+
+-- ---- A nest without parameters and loops: A[0] = ..; A[1] = ..; B[0] = A[0]; A[0] = ..; B[0] = A[1];
+
+abbrev constant_access : (array : ℕ) → (subscript : ℤ) → Access
+constant_access array subscript = access array (form [] subscript ∷ [])
+
+abbrev straight : (statement : ℕ) → List Access → Entry
+straight statement accesses = record { statement = statement; alive = true; loops = []; domain = over 0 []; ranges = []; accesses = accesses }
+
+abbrev in_turn : Nest
+in_turn = record {
+  params = [];
+  context = over 0 [];
+  arrays = [];
+  entries = straight 0 (constant_access 0 (pos 0) ∷ [])
+      ∷ straight 1 (constant_access 0 (pos 1) ∷ [])
+      ∷ straight 2 (constant_access 0 (pos 0) ∷ constant_access 1 (pos 0) ∷ [])
+      ∷ straight 3 (constant_access 0 (pos 0) ∷ [])
+      ∷ straight 4 (constant_access 0 (pos 1) ∷ constant_access 1 (pos 0) ∷ [])
+      ∷ [];
+}
+
+-- A[x] is loaded, A[y] is stored between; the row says which is less
+abbrev turn : (x y row : ℤ) → Clash
+turn x y row = record { system = over 0 (form [] row ∷ []); ranges = []; x = form [] x ∷ []; y = form [] y ∷ [] }
+
+-- A[1] is stored before the load of A[0], and A[0] before that of A[1]: the pair stands in both orders
+abbrev pub BothOrders : Type 0
+BothOrders = clashes in_turn (tree.Source 0 [] ∷ tree.Source 1 [] ∷ []) Source 0
+    ≡ turn (pos 0) (pos 1) (pos 0) ∷ turn (pos 0) (pos 1) (negsuc 1) ∷ turn (pos 1) (pos 0) (negsuc 1) ∷ turn (pos 1) (pos 0) (pos 0) ∷ []
+
+-- what is stored in B is never loaded
+abbrev pub NeverLoaded : Type 0
+NeverLoaded = clashes in_turn (tree.Source 0 [] ∷ tree.Source 1 [] ∷ []) Source 1 ≡ []
 
 -- ---- Which elements differ, and which accesses load
 

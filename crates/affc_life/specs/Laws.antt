@@ -1,5 +1,6 @@
 -- What the clash systems say.
-use Rattle.std.specs.Prelude.{◌≡◌, ◌≢◌, ◌↔◌, ℕ, ◌+◌, ◌<◌, ℤ, List, length, map, take, Some, slice_get}
+use Rattle.std.specs.Prelude.{◌≡◌, ◌≢◌, ◌↔◌, ℕ, ◌+◌, ◌<◌, ℤ, IsTrue, List, length, map, take, Some, slice_get}
+use Rattle.std.specs.List.{All}
 use Rattle.affc_rows.specs.Forms.{values_of}
 use Rattle.affc_system.specs.ElementPairs.{IsPairOf}
 use Rattle.affc_system.specs.Pairs.{IsBoxed}
@@ -10,16 +11,20 @@ use Rattle.affc_trace.specs.declared.schedule.Schedule.{Schedule}
 use Rattle.affc_trace.specs.Dataflow.{LivePair}
 use Rattle.affc_trace.specs.Law.{IsIn}
 use Rattle.affc_trace.specs.Laws.{IsInContext}
-use Rattle.affc_trace.specs.Target.{IsScheduleOf}
+use Rattle.affc_trace.specs.Target.{IsScheduleOf, within_limits}
 use Rattle.affc_domain.specs.Ranges.{number_ranges}
+use Rattle.affc_nest.specs.declared.nest.ArrayInfo.{ArrayInfo}
 use Rattle.affc_nest.specs.declared.nest.Entry.{Entry}
 use Rattle.affc_nest.specs.declared.nest.Nest.{Nest}
-use Rattle.affc_nest.specs.Laws.{HasNest, NamesArrays}
+use Rattle.affc_nest.specs.Laws.{HasNest, NamesArrays, StaysWithin}
 use Rattle.affc_nest.specs.Nests.{nest_of}
-use Rattle.affc_quast.specs.Limits.{Shaped}
+use Rattle.affc_quast.specs.Limits.{Shaped, AreTreesWithin, narrow}
 use Rattle.affc_quast.specs.Sources.{loads_in, tree_of, NameSources, HaveNearQuotients}
 use Rattle.affc_quast.specs.Trees.{Tree}
+use Rattle.affc_conflicts.specs.Conditions.{IsConflict}
+use Rattle.affc_life.specs.Asked.{KeepLimits}
 use Rattle.affc_life.specs.Clashes.{Clash, clash_of, clashes}
+use Rattle.affc_life.specs.Sizes.{AnyLarge}
 
 -- ---- Trees
 
@@ -64,3 +69,30 @@ ClashesAreBoxed = (program : Program) (trees : List Tree) (schedule : Schedule) 
     → HasNest program → AreShaped (nest_of program) trees
     → ((p : List ℤ) → IsInContext program p → HaveNearQuotients program p (nest_of program) trees)
     → IsIn c (clashes (nest_of program) trees schedule array) → IsBoxed c.system c.ranges
+
+-- ---- Sizes
+
+-- the limits of the trees that the search gives: 302 tests and divisions on a path, of which 12 are divisions
+abbrev pub AreFound : Nest → List Tree → Type 0
+AreFound nest trees = AreTreesWithin narrow 302 12 nest trees
+
+-- Such trees keep the limits that are asked of trees,
+abbrev pub FoundTreesKeepLimits : Type 0
+FoundTreesKeepLimits = (nest : Nest) (trees : List Tree) → AreFound nest trees → KeepLimits nest trees
+
+-- and under a schedule within the limits none of their clash systems is too large.
+abbrev pub FoundTreesAreNeverLarge : Type 0
+FoundTreesAreNeverLarge = (program : Program) (trees : List Tree) (schedule : Schedule) (array : ℕ)
+    → HasNest program → NamesArrays program → IsScheduleOf program schedule → IsTrue (within_limits schedule) → AreFound (nest_of program) trees
+    → ¬ (AnyLarge (clashes (nest_of program) trees schedule array))
+
+-- ---- Conflicts
+
+-- Where throughout the context each access lies within its array and the quotients on the way are within 2^60, the clash
+-- systems are conflicts over the context.
+abbrev pub ClashesAreConflicts : Type 0
+ClashesAreConflicts = (program : Program) (trees : List Tree) (schedule : Schedule) (array : ℕ) (info : ArrayInfo) (systems : List PairSystem)
+    → HasNest program → NamesArrays program → IsScheduleOf program schedule → IsTrue (within_limits schedule) → AreFound (nest_of program) trees
+    → ((p : List ℤ) → IsInContext program p → StaysWithin program p × HaveNearQuotients program p (nest_of program) trees)
+    → slice_get (nest_of program).arrays array ≡ Some info → AreClashes program trees schedule array systems
+    → All (IsConflict (nest_of program).context (nest_of program).params info.extents) systems

@@ -1,7 +1,6 @@
 -- Systems that pass the limits of a system.
-use Rattle.std.specs.Prelude.{◌≡◌, ◌⊎◌, ℕ, ◌^◌, ◌<◌, ◌≤◌, unsigned_abs, List, length}
+use Rattle.std.specs.Prelude.{◌⊎◌, ◌<◌, List, length}
 use Rattle.std.specs.List.{All}
-use Rattle.affc_rows.specs.Forms.{Affine}
 use Rattle.affc_system.specs.Systems.{Rows, FitsRow}
 use Rattle.affc_trace.specs.Law.{IsIn}
 use Rattle.affc_life.specs.Clashes.{Clash}

@@ -1,9 +1,10 @@
 //! The clash systems of small programs, as laws: `specs/Examples.antt` says each, with rows that were found by hand.
-ghost use Rattle.affc_life.specs.Examples.{BlurHasTwelve, OthersHaveNone, MiddleClashes, ChainClashes, OwnStoreIsNone, HalvedClashes, DimensionsInTurn, LastOneIsNoLoad, NoneOfTheDead};
+ghost use Rattle.affc_life.specs.Examples.{BlurHasTwelve, BlurHasSix, OthersHaveNone, MiddleClashes, ChainClashes, OwnStoreIsNone, HalvedClashes, BothOrders, NeverLoaded, DimensionsInTurn, LastOneIsNoLoad, NoneOfTheDead};
 
-/// A blur of two statements, at the times i and i + 2.
+/// A blur of two statements, at the times i and i + 2, and in the order of the text.
 pub fn blur()
     ensures twelve { BlurHasTwelve }
+    ensures six { BlurHasSix }
     ensures others { OthersHaveNone }
     ensures middle { MiddleClashes }
 {}
@@ -13,6 +14,12 @@ pub fn chain()
     ensures clashes { ChainClashes }
     ensures own_store { OwnStoreIsNone }
     ensures halved { HalvedClashes }
+{}
+
+/// Statements without loops: a pair that is live in both orders, and values that are never loaded.
+pub fn straight()
+    ensures both_orders { BothOrders }
+    ensures never_loaded { NeverLoaded }
 {}
 
 /// Which elements differ, and which accesses load.

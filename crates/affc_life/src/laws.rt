@@ -1,5 +1,5 @@
 //! What the clash systems say. Each law is the contract of a function that does nothing.
-ghost use Rattle.affc_life.specs.Laws.{ClashesAreLivePairs, PointsAreInContext, ElementsDiffer, ClashesAreBoxed};
+ghost use Rattle.affc_life.specs.Laws.{ClashesAreLivePairs, PointsAreInContext, ElementsDiffer, ClashesAreBoxed, FoundTreesKeepLimits, FoundTreesAreNeverLarge, ClashesAreConflicts};
 
 /// At each p of the context at which the trees name the sources, the pairs at the systems' points, in either order,
 /// are exactly the live pairs.
@@ -20,4 +20,19 @@ pub fn elements_differ()
 /// Where the quotients on the way to each instance's leaf are within 2^60, each clash system is boxed by its ranges.
 pub fn clashes_are_boxed()
     ensures law { ClashesAreBoxed }
+{}
+
+/// The trees that the search gives keep the limits that `clashes` asks of trees.
+pub fn found_trees_keep_limits()
+    ensures law { FoundTreesKeepLimits }
+{}
+
+/// For such trees, and a schedule within the limits, no clash system is too large.
+pub fn found_trees_are_never_large()
+    ensures law { FoundTreesAreNeverLarge }
+{}
+
+/// Where each access lies within its array, the clash systems of such trees are the conflicts that moduli are asked of.
+pub fn clashes_are_conflicts()
+    ensures law { ClashesAreConflicts }
 {}

@@ -10,7 +10,10 @@ pub mod laws;
 mod orders;
 mod ranges;
 mod rows;
+mod stores;
 mod systems;
 mod times;
+mod walk;
 
 pub use fault::ClashFault;
+pub use walk::clashes;

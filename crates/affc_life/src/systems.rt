@@ -49,6 +49,7 @@ fn add_limited(system: &mut System, rows: &[Form]) -> Result<(), ClashFault>
 fn system_of(alloc: Global, columns: u32, rows: &[Form]) -> Result<System, ClashFault>
     requires { HaveColumns columns rows.now }
     ensures ok { IfOk result (λ s. s ≡ record { columns = columns; rows = rows.now }) }
+    ensures fits { IfOk result (λ s. ¬ (IsLarge s)) }
     ensures large { IfErr result (λ e. e ≡ ClashFault.Large → IsLarge (record { columns = columns; rows = rows.now })) }
 {
     if columns > 128 {
@@ -56,6 +57,7 @@ fn system_of(alloc: Global, columns: u32, rows: &[Form]) -> Result<System, Clash
     }
     let mut system = System::new(alloc, columns);
     add_limited(&mut system, rows)?;
+    let _kept = system.rows();
     Ok(system)
 }
 
@@ -88,6 +90,7 @@ fn pair_of(alloc: Global, draft: &Draft) -> Result<PairSystem, ClashFault>
     requires first { All (IsSubscript draft.now.columns) draft.now.x }
     requires second { All (IsSubscript draft.now.columns) draft.now.y }
     ensures ok { IfOk result (λ s. clash_of s ≡ drafted draft.now) }
+    ensures fits { IfOk result (λ s. ¬ (IsLarge (drafted draft.now).system)) }
     ensures large { IfErr result (λ e. e ≡ ClashFault.Large → IsLarge (drafted draft.now).system) }
 {
     let system = system_of(alloc, draft.columns, draft.rows.as_slice())?;
@@ -110,6 +113,7 @@ pub(crate) fn add_pairs(
 ) -> Result<(), ClashFault>
     requires { All IsDraft drafts.now }
     ensures ok { OnOk result (map clash_of out.new.items ≡ map clash_of out.old.items ++ map drafted drafts.now) }
+    ensures fits { OnOk result (¬ (AnyLarge (map drafted drafts.now))) }
     ensures large { IfErr result (λ e. e ≡ ClashFault.Large → AnyLarge (map drafted drafts.now)) }
 {
     match drafts {

@@ -1,4 +1,4 @@
-use Rattle.std.proofs.Common.{◌≡◌, ◌∷◌, [], ◌-◌, ◌++◌, ℤ, FitsSigned, w64, length, map, take, drop, refl, rules, arith, ap}
+use Rattle.std.proofs.Common.{◌≡◌, ◌∷◌, [], ◌-◌, ◌++◌, FitsSigned, w64, length, take, drop, refl, rules, arith, ap}
 use Rattle.std.proofs.lemmas.Int.{to_z-of_z}
 use Rattle.affc_quast.specs.Leaves.{quotient_range}
 use Rattle.affc_life.proofs.LimitLemmas.{first_and_rest}

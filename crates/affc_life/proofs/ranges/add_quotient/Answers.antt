@@ -1,11 +1,11 @@
-use Rattle.std.proofs.Common.{◌≡◌, ◌≤ℤ◌, ◌++◌, ◌∷◌, [], ℤ, FitsSigned, w64, false, true, rules, length, sym, ap, subst, ◌∙◌}
+use Rattle.std.proofs.Common.{◌≡◌, ◌≤ℤ◌, ◌++◌, ◌∷◌, [], FitsSigned, w64, false, true, rules, ap, subst, ◌∙◌}
 use Rattle.std.specs.Int.{w128}
 use Rattle.std.proofs.lemmas.Int.{to_z-of_z}
 use Rattle.affc_rows.specs.Forms.{value}
 use Rattle.affc_system.specs.Boxes.{IsBox, corner}
 use Rattle.affc_ast.specs.Index.{floor_of}
 use Rattle.affc_nest.proofs.IntervalLemmas.{least_is, greatest_is}
-use Rattle.affc_quast.specs.Leaves.{held, quotient_range}
+use Rattle.affc_quast.specs.Leaves.{held}
 use Rattle.affc_life.proofs.QuotientLemmas.{not_past, range_is, ordered_is}
 use Rattle.affc_life.proofs.ranges.add_quotient.Goals as goal
 

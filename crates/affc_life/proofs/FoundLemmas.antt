@@ -1,0 +1,51 @@
+-- The trees that the search finds keep the limits.
+use Rattle.std.proofs.Common.{ℕ, ◌+◌, ◌-◌, ◌^◌, ◌≤◌, ◌<◌, ℤ, pos, ◌≤ℤ◌, length, sym, subst, ◌∙◌, arith}
+use Rattle.std.specs.Prelude.{unsigned_abs}
+use Rattle.std.proofs.lemmas.Int.{ints}
+use Rattle.std.proofs.lemmas.Option.{same_Some}
+use Rattle.affc_rows.specs.Forms.{Affine}
+use Rattle.affc_nest.specs.declared.nest.Nest.{Nest}
+use Rattle.affc_nest.proofs.QuestionLemmas.{there_is}
+use Rattle.affc_quast.specs.Limits.{FitsForm, FitsTree, NamesStores, narrow, widest}
+use Rattle.affc_quast.specs.Trees.{Tree, Test, Div, Source, Input, depth_of}
+use Rattle.affc_life.specs.Asked.{NamesStatements, KeepsLimits}
+use Rattle.affc_life.specs.Laws.{FoundTreesKeepLimits}
+use Rattle.affc_life.proofs.LightLemmas.{all_of}
+
+names : (nest : Nest) (array : ℕ) (tree : Tree) → NamesStores nest array tree → NamesStatements nest tree
+names nest array (Test f on off) h = (names nest array on h.0, names nest array off h.1)
+names nest array (Div f by rest) h = names nest array rest h
+names nest array (Source s forms) h = record { entry = h.entry; there = h.there; loops = h.loops }
+names nest array Input h = tt
+
+form_fits : (f : Affine) → FitsForm narrow f → FitsForm widest f
+form_fits f h = record { coefs_fit = all_of (λ c. unsigned_abs c ≤ 2 ^ 20) (λ c. unsigned_abs c ≤ 2 ^ 24) (λ c l. coef (unsigned_abs c) l) f.coefs h.coefs_fit; constant_fits = constant (unsigned_abs f.constant) h.constant_fits }
+  where
+    coef : (n : ℕ) → n ≤ 2 ^ 20 → n ≤ 2 ^ 24
+    coef n h = omega (arith, h)
+
+    constant : (n : ℕ) → n ≤ 2 ^ 40 → n ≤ 2 ^ 50
+    constant n h = omega (arith, h)
+
+tree_fits : (tree : Tree) → FitsTree narrow tree → FitsTree widest tree
+tree_fits (Test f on off) h = (form_fits f h.0, tree_fits on h.1, tree_fits off h.2)
+tree_fits (Div f by rest) h = (form_fits f h.0, less by h.1, tree_fits rest h.2)
+  where
+    less : (z : ℤ) → z ≤ℤ pos (2 ^ 20) → z ≤ℤ pos (2 ^ 24)
+    less z h = omega (arith, ints, h)
+tree_fits (Source s forms) h = all_of (FitsForm narrow) (FitsForm widest) form_fits forms h
+tree_fits Input h = tt
+
+pub found_trees_keep_limits : FoundTreesKeepLimits
+found_trees_keep_limits nest trees found statement load e tree at counts there =
+    let x = there_is e.accesses load (within load (length e.accesses) counts) in
+    let t = found.each statement load e x.0 at counts x.1 in
+    let k : KeepsLimits nest (length nest.params + length e.loops) t.0 =
+    record { shaped = t.2.shaped; named = names nest x.0.array.0 t.0 t.2.stores; fits = tree_fits t.0 t.2.fits; short = more (depth_of t.0) t.2.short } in
+    subst (KeepsLimits nest (length nest.params + length e.loops)) (same_Some t.0 tree (sym t.1 ∙ there)) k
+  where
+    within : (k n : ℕ) → k < n - 1 → k < n
+    within k n h = omega (arith, h)
+
+    more : (n : ℕ) → n ≤ 302 → n ≤ 400
+    more n h = omega (arith, h)

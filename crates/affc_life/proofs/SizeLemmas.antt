@@ -1,0 +1,211 @@
+-- The clash systems of trees that the search gives keep the limits of systems.
+use Rattle.std.proofs.Common.{◌≡◌, ℕ, zero, suc, ◌+◌, ◌-◌, ◌^◌, ◌<◌, ◌≤◌, pos, IsTrue, List, [], ◌∷◌, ◌++◌, length, map, drop, replicate, refl, sym, ap, subst, ◌∙◌, inl, inr, arith}
+use Rattle.std.specs.Prelude.{unsigned_abs, slice_get, nat_le, ◌&&◌}
+use Rattle.std.specs.List.{All}
+use Rattle.std.proofs.lemmas.Bool.{leb-true}
+use Rattle.std.proofs.lemmas.List.{length-drop}
+use Rattle.std.proofs.lemmas.List.Elements.{All-nil, All-cons, All-append, All-drop}
+use Rattle.std.proofs.lemmas.Option.{same_Some}
+use Rattle.affc_rows.specs.Forms.{Affine}
+use Rattle.affc_system.specs.Pairs.{IsSubscript}
+use Rattle.affc_system.specs.Systems.{FitsRow}
+use Rattle.affc_ast.specs.declared.tree.Decl.{Decl}
+use Rattle.affc_ast.specs.declared.tree.Program.{Program}
+use Rattle.affc_ast.specs.Meaning.{arrays_of}
+use Rattle.affc_trace.specs.declared.schedule.Schedule.{Schedule}
+use Rattle.affc_trace.specs.Law.{IsIn}
+use Rattle.affc_trace.specs.Target.{IsScheduleOf, within_limits}
+use Rattle.affc_trace.proofs.Runs.{length_append}
+use Rattle.affc_domain.specs.Arrays.{declared_arrays}
+use Rattle.affc_domain.specs.Plain.{plain_decls, all_plain}
+use Rattle.affc_domain.specs.Ranges.{number_ranges}
+use Rattle.affc_domain.proofs.Lists.{both_true, length_map}
+use Rattle.affc_nest.specs.Asked.{IsNest}
+use Rattle.affc_nest.specs.declared.nest.Access.{Access}
+use Rattle.affc_nest.specs.declared.nest.Entry.{Entry}
+use Rattle.affc_nest.specs.declared.nest.Nest.{Nest}
+use Rattle.affc_nest.specs.Laws.{HasNest, NamesArrays}
+use Rattle.affc_nest.specs.Nests.{array_of, nest_of}
+use Rattle.affc_nest.specs.Questions.{extents_or_none}
+use Rattle.affc_nest.proofs.AccessLemmas.{plain_append}
+use Rattle.affc_nest.proofs.QuestionLemmas.{as_many, stands_in}
+use Rattle.affc_nest.proofs.QuestionProofs.{domain_small, few_numbered}
+use Rattle.affc_order.specs.Asked.{IsScheduled}
+use Rattle.affc_order.specs.Posed.{Posed}
+use Rattle.affc_order.specs.Systems.{target_order}
+use Rattle.affc_sched.specs.Questions.{context_count}
+use Rattle.affc_sched.proofs.LegalLemmas.{entry_at}
+use Rattle.affc_sched.proofs.SystemLemmas.{spread_fits}
+use Rattle.affc_quast.specs.Leaves.{padded}
+use Rattle.affc_quast.specs.Limits.{IsTreeWithin, narrow}
+use Rattle.affc_quast.specs.Trees.{Tree, depth_of, divisions_of}
+use Rattle.affc_life.specs.Asked.{KeepLimits, HasForms, AreSeated}
+use Rattle.affc_life.specs.Clashes.{Clash, of_reader, of_writer, front_rows, reader_posed, named_posed, writer_posed}
+use Rattle.affc_life.specs.Laws.{AreFound, FoundTreesAreNeverLarge}
+use Rattle.affc_life.specs.Sizes.{IsLarge}
+use Rattle.affc_life.proofs.CountLemmas.{order_count, between_count}
+use Rattle.affc_life.proofs.DomainLemmas.{domain_fits}
+use Rattle.affc_life.proofs.DraftedLemmas.{columns, reader_there, seated, named_has, load_among, rows_all, x_subscripts, y_subscripts}
+use Rattle.affc_life.proofs.FoundLeafLemmas.{IsSmall, leaf_small}
+use Rattle.affc_life.proofs.FoundLemmas.{found_trees_keep_limits}
+use Rattle.affc_life.proofs.LightLemmas.{all_of, all_map}
+use Rattle.affc_life.proofs.MadeLemmas.{Made, made}
+use Rattle.affc_life.proofs.MildLemmas.{IsMild, gap_mild, subscript_mild, columns_narrow, all_padded_narrow, compared_mild}
+use Rattle.affc_life.proofs.SeatedLemmas.{params_few, reader_few, writer_few, reader_forms, writer_forms, named_forms}
+
+-- ---- Dimensions
+
+few_extents : (n : ℕ) (ds : List Decl) (k : ℕ) → IsTrue (plain_decls n ds) → length (extents_or_none (slice_get (map (array_of n) ds) k)) ≤ 4
+few_extents n [] k h = omega arith
+few_extents n (d ∷ ds) zero h =
+    let a = both_true (nat_le (length d.extents) 4) (all_plain n d.extents && plain_decls n ds) h in
+    as_few (length (extents_or_none (slice_get (map (array_of n) (d ∷ ds)) 0))) (length d.extents) (length_map _ d.extents) (leb-true (length d.extents) 4 a.0)
+  where
+    as_few : (m k : ℕ) → m ≡ k → k ≤ 4 → m ≤ 4
+    as_few m k e h = omega (arith, e, h)
+few_extents n (d ∷ ds) (suc k) h =
+    let a = both_true (nat_le (length d.extents) 4) (all_plain n d.extents && plain_decls n ds) h in
+    few_extents n ds k (both_true (all_plain n d.extents) (plain_decls n ds) a.1).1
+
+-- an access of a program has at most four subscripts
+pub few_subscripts : (program : Program) (has : HasNest program) → NamesArrays program → (e : Entry) → IsIn e (nest_of program).entries → (x : Access) → IsIn x e.accesses → length x.subs ≤ 4
+few_subscripts program has named e i x j =
+    let n = length (number_ranges program.params) in
+    subst (λ k. k ≤ 4) (sym (as_many program e.statement e named (entry_at program has e i) x j))
+    (few_extents n (declared_arrays program) x.array.0 (plain_append n (arrays_of program.params) program.temps has.plain.arrays has.plain.temps))
+
+-- ---- One clash system
+
+zeros_fit : (k : ℕ) → All (λ c. unsigned_abs c ≤ 2 ^ 40) (replicate k (pos 0))
+zeros_fit zero = All-nil (λ c. unsigned_abs c ≤ 2 ^ 40)
+zeros_fit (suc k) = All-cons (λ c. unsigned_abs c ≤ 2 ^ 40) (pos 0) (replicate k (pos 0)) (omega arith) (zeros_fit k)
+
+padded_fits : (n : ℕ) (rows : List Affine) → All FitsRow rows → All FitsRow (map (padded n) rows)
+padded_fits n rows all =
+    all_map FitsRow FitsRow (padded n) (λ f h. record { coefs_fit = All-append (λ c. unsigned_abs c ≤ 2 ^ 40) f.coefs (replicate (n - length f.coefs) (pos 0)) h.coefs_fit (zeros_fit (n - length f.coefs)); constant_fits = h.constant_fits }) rows all
+
+module _ (program : Program) (has : HasNest program) (named : NamesArrays program) (trees : List Tree) (found : AreFound (nest_of program) trees) (schedule : Schedule) (fits : IsScheduleOf program schedule) (slight : IsTrue (within_limits schedule))
+    (array : ℕ) (c : Clash) (k : Made (nest_of program) trees schedule array c) where
+  abbrev nest : Nest
+  nest = nest_of program
+
+  nested : IsNest (nest_of program)
+  nested = record { program = program; has = has; is = refl }
+
+  scheduled : IsScheduled (nest_of program) schedule
+  scheduled = record { program = program; has = has; is = refl; fits = fits; slight = slight }
+
+  limits : KeepLimits (nest_of program) trees
+  limits = found_trees_keep_limits (nest_of program) trees found
+
+  pub seats : AreSeated (nest_of program) k.reader k.leaf k.of_leaf.writer
+  seats = seated nest nested trees limits schedule array c k
+
+  -- its tree and its leaf
+  within : IsTreeWithin narrow 302 12 (nest_of program) k.load.array.0 (length nest.params + length k.reader.loops) k.tree
+  within =
+      let there = reader_there nest nested trees limits schedule array c k in
+      let t = found.each k.reader.statement k.number k.reader k.load there k.counts k.load_there in
+      subst (IsTreeWithin narrow 302 12 nest k.load.array.0 (length nest.params + length k.reader.loops)) (same_Some t.0 k.tree (sym t.1 ∙ k.tree_there)) t.2
+
+  small : IsSmall (depth_of k.tree) (divisions_of k.tree) k.leaf
+  small = leaf_small (length nest.params + length k.reader.loops) k.tree within.shaped within.fits k.leaf k.leaf_in
+
+  path_rows_few : length k.leaf.rows ≤ 314
+  path_rows_few = sum (length k.leaf.rows) (depth_of k.tree) (divisions_of k.tree) small.rows_few within.short within.few
+    where
+      sum : (r d n : ℕ) → r ≤ d + n → d ≤ 302 → n ≤ 12 → r ≤ 314
+      sum r d n e h g = omega (arith, e, h, g)
+
+  -- ---- Columns
+
+  pub columns_few : c.system.columns ≤ 28
+  columns_few =
+      sum c.system.columns k.leaf.columns (length nest.params) (length k.reader.loops) (length k.leaf.divisions) (divisions_of k.tree) (length k.of_leaf.writer.loops) (ap (λ (d : Clash). d.system.columns) k.of_leaf.is) seats.path.count
+      (params_few nest k.reader k.leaf k.of_leaf.writer seats) (reader_few nest k.reader k.leaf k.of_leaf.writer seats) small.divisions_few within.few (writer_few nest k.reader k.leaf k.of_leaf.writer seats)
+    where
+      sum : (n c m l d v w : ℕ) → n ≡ c + w → c ≡ (m + l) + d → m ≤ 4 → l ≤ 6 → d ≤ v → v ≤ 12 → w ≤ 6 → n ≤ 28
+      sum n c m l d v w e f h g i j q = omega (arith, e, f, h, g, i, j, q)
+
+  -- ---- How many rows
+
+  front_few : length (front_rows (nest_of program) k.reader k.leaf k.of_leaf.writer) ≤ 582
+  front_few =
+      let P : Affine → Affine = of_reader nest k.reader k.leaf k.of_leaf.writer in
+      let W : Affine → Affine = of_writer nest k.reader k.leaf k.of_leaf.writer in
+      let path : List Affine = k.reader.domain.rows ++ k.leaf.rows in
+      let own : List Affine = drop (context_count nest) k.of_leaf.writer.domain.rows in
+      sum (length (map P path ++ map W own)) (length (map P path)) (length (map W own)) (length path) (length own) (length k.reader.domain.rows) (length k.leaf.rows) (length k.of_leaf.writer.domain.rows) (context_count nest)
+      (length_append (map P path) (map W own)) (length_map P path) (length_map W own) (length_append k.reader.domain.rows k.leaf.rows) (length-drop (context_count nest) k.of_leaf.writer.domain.rows) (domain_small nest k.reader nested k.reader_in) path_rows_few
+      (domain_small nest k.of_leaf.writer nested k.of_leaf.writer_in)
+    where
+      sum : (n p w a o d l v q : ℕ) → n ≡ p + w → p ≡ a → w ≡ o → a ≡ d + l → o ≡ v - q → d ≤ 134 → l ≤ 314 → v ≤ 134 → n ≤ 582
+      sum n p w a o d l v q e f g h i j s t = omega (arith, e, f, g, h, i, j, s, t)
+
+  six_of : (a : Posed) → HasForms (nest_of program) (columns nest nested trees limits schedule array c k) a.statement a.iterators → length a.iterators ≤ 6
+  six_of a h = subst (λ n. n ≤ 6) (sym h.named.loops) (few_numbered nest h.named.entry nested (stands_in nest.entries a.statement h.named.entry h.named.there))
+
+  named_has_forms : HasForms (nest_of program) (columns nest nested trees limits schedule array c k) k.of_leaf.named.statement (named_posed (nest_of program) k.reader k.leaf k.of_leaf.writer k.of_leaf.named).iterators
+  named_has_forms = named_forms nest k.reader k.leaf k.of_leaf.writer seats k.of_leaf.named (named_has nest nested trees limits schedule array c k)
+
+  writer_has_forms : HasForms (nest_of program) (columns nest nested trees limits schedule array c k) k.of_leaf.writer.statement (writer_posed (nest_of program) k.reader k.leaf k.of_leaf.writer).iterators
+  writer_has_forms = writer_forms nest k.reader k.leaf k.of_leaf.writer seats
+
+  reader_has_forms : HasForms (nest_of program) (columns nest nested trees limits schedule array c k) k.reader.statement (reader_posed (nest_of program) k.reader k.leaf k.of_leaf.writer).iterators
+  reader_has_forms = reader_forms nest k.reader k.leaf k.of_leaf.writer seats
+
+  pub rows_few : length c.system.rows ≤ 638
+  rows_few =
+      let n = columns nest nested trees limits schedule array c k in
+      let a : Posed = named_posed nest k.reader k.leaf k.of_leaf.writer k.of_leaf.named in
+      let w : Posed = writer_posed nest k.reader k.leaf k.of_leaf.writer in
+      let r : Posed = reader_posed nest k.reader k.leaf k.of_leaf.writer in
+      let xs : List Affine = map (of_reader nest k.reader k.leaf k.of_leaf.writer) k.load.subs in
+      sum (length c.system.rows) (length k.of_leaf.rows) (length (front_rows nest k.reader k.leaf k.of_leaf.writer)) (ap (λ (d : Clash). length d.system.rows) k.of_leaf.is)
+      (between_count (front_rows nest k.reader k.leaf k.of_leaf.writer) (target_order nest schedule n a w) (target_order nest schedule n w r) xs (map (of_writer nest k.reader k.leaf k.of_leaf.writer) k.of_leaf.store.subs)
+      (order_count nest n schedule a w slight (six_of a named_has_forms)) (order_count nest n schedule w r slight (six_of w writer_has_forms))
+      (subst (λ m. m ≤ 4) (sym (length_map (of_reader nest k.reader k.leaf k.of_leaf.writer) k.load.subs)) (few_subscripts program has named k.reader k.reader_in k.load (load_among nest nested trees limits schedule array c k)))
+      k.of_leaf.rows k.of_leaf.rows_in)
+      front_few
+    where
+      sum : (n m f : ℕ) → n ≡ m → m ≤ f + 56 → f ≤ 582 → n ≤ 638
+      sum n m f e h g = omega (arith, e, h, g)
+
+  -- ---- Entries
+
+  front_fits : All FitsRow (front_rows (nest_of program) k.reader k.leaf k.of_leaf.writer)
+  front_fits =
+      let w : Entry = k.of_leaf.writer in
+      let reader_rows : All FitsRow k.reader.domain.rows = domain_fits program has k.reader.statement k.reader (entry_at program has k.reader k.reader_in) k.alive in
+      let writer_rows : All FitsRow w.domain.rows = domain_fits program has w.statement w (entry_at program has w k.of_leaf.writer_in) k.of_leaf.writer_alive in
+      All-append FitsRow (map (of_reader nest k.reader k.leaf w) (k.reader.domain.rows ++ k.leaf.rows)) (map (of_writer nest k.reader k.leaf w) (drop (context_count nest) w.domain.rows))
+      (padded_fits (columns nest nested trees limits schedule array c k) (k.reader.domain.rows ++ k.leaf.rows) (All-append FitsRow k.reader.domain.rows k.leaf.rows reader_rows small.rows_fit))
+      (all_map FitsRow FitsRow (of_writer nest k.reader k.leaf w) (spread_fits (length nest.params) (k.leaf.columns - length nest.params) 0) (drop (context_count nest) w.domain.rows) (All-drop FitsRow (context_count nest) w.domain.rows writer_rows))
+
+  pub rows_fit : All FitsRow c.system.rows
+  rows_fit =
+      let n = columns nest nested trees limits schedule array c k in
+      let xs : List Affine = map (of_reader nest k.reader k.leaf k.of_leaf.writer) k.load.subs in
+      let ys : List Affine = map (of_writer nest k.reader k.leaf k.of_leaf.writer) k.of_leaf.store.subs in
+      rows_all nest nested trees limits schedule array c k FitsRow IsMild gap_mild front_fits
+      (compared_mild nest schedule scheduled n (named_posed nest k.reader k.leaf k.of_leaf.writer k.of_leaf.named) named_has_forms (all_padded_narrow n k.of_leaf.named.iterators (small.named k.of_leaf.named k.of_leaf.names)))
+      (compared_mild nest schedule scheduled n (writer_posed nest k.reader k.leaf k.of_leaf.writer) writer_has_forms (columns_narrow n k.leaf.columns (length k.of_leaf.writer.loops)))
+      (compared_mild nest schedule scheduled n (reader_posed nest k.reader k.leaf k.of_leaf.writer) reader_has_forms (columns_narrow n (length nest.params) (length k.reader.loops)))
+      (all_of (IsSubscript n) IsMild (subscript_mild n) xs (x_subscripts nest nested trees limits schedule array c k)) (all_of (IsSubscript n) IsMild (subscript_mild n) ys (y_subscripts nest nested trees limits schedule array c k))
+
+  not_large : IsLarge c.system → ⊥
+  not_large (inl h) = few c.system.columns columns_few h
+    where
+      few : (n : ℕ) → n ≤ 28 → 128 < n → ⊥
+      few n h g = absurd (omega (arith, h, g))
+  not_large (inr (inl h)) = few (length c.system.rows) rows_few h
+    where
+      few : (n : ℕ) → n ≤ 638 → 1024 < n → ⊥
+      few n h g = absurd (omega (arith, h, g))
+  not_large (inr (inr h)) = h rows_fit
+
+-- ---- The law
+
+pub found_trees_are_never_large : FoundTreesAreNeverLarge
+found_trees_are_never_large program trees schedule array has named fits slight found any =
+    not_large program has named trees found schedule fits slight array any.clash (made (nest_of program) trees schedule array any.clash any.there) any.large

@@ -1,0 +1,5 @@
+use Rattle.affc_life.proofs.ExampleProofs as example
+use Rattle.affc_life.proofs.examples.straight.Goals as goal
+
+pub returns : goal.returns
+returns c = record { both_orders = example.both_orders; never_loaded = example.never_loaded }

@@ -1,0 +1,222 @@
+//! The clash systems of a load, a leaf of its tree and a store, as drafts.
+ghost use Rattle.std.specs.Prelude.{◌≡◌, ◌+◌, ◌≤◌, ◌++◌, drop, length, map, IsTrue, IfOk, OnOk};
+ghost use Rattle.std.specs.List.{All};
+ghost use Rattle.affc_trace.specs.Law.{IsIn};
+ghost use Rattle.affc_nest.specs.Asked.{IsNest};
+ghost use Rattle.affc_order.specs.Asked.{IsScheduled};
+ghost use Rattle.affc_sched.specs.Questions.{context_count};
+ghost use Rattle.affc_quast.specs.SeenLeaves.{leaf_seen};
+ghost use Rattle.affc_life.specs.Asked.{HasForms, IsLiving, AreSeated};
+ghost use Rattle.affc_life.specs.Clashes.{of_reader, of_writer, front_rows, clashes_of_store};
+ghost use Rattle.affc_life.specs.Drafts.{drafted, posed, rows_in, after_named, before_load};
+
+use crate::columns::{add_padded, columns_from};
+use crate::draft::{Draft, Shared};
+use crate::drafts::add_between;
+use crate::ranges::clash_ranges;
+use crate::times::target_order;
+use affc_nest::{Access, Entry, Nest};
+use affc_order::columns::add_spread;
+use affc_quast::leaves::{Leaf, Named};
+use affc_rows::Form;
+use affc_trace::schedule::Schedule;
+use sqlite_items::Items;
+use std::alloc::{AllocError, Global};
+
+/// The number of parameters.
+pub(crate) fn params_in(nest: &Nest) -> u32
+    requires { length nest.now.params ≤ 4 }
+    ensures { result ≡ length nest.now.params }
+{
+    nest.params.ranges().len() as u32
+}
+
+/// The number of loops round a statement.
+pub(crate) fn loops_round(entry: &Entry) -> u32
+    requires { length entry.now.loops ≤ 6 }
+    ensures { result ≡ length entry.now.loops }
+{
+    entry.loops.len() as u32
+}
+
+/// The columns of a leaf and the iterators of a writer.
+fn columns_in(leaf: &Leaf, writer: &Entry) -> u32
+    requires leaf { leaf.now.columns ≤ 410 }
+    requires writer { length writer.now.loops ≤ 6 }
+    ensures { result ≡ leaf.now.columns + length writer.now.loops }
+{
+    leaf.columns + loops_round(writer)
+}
+
+/// The rows of a domain behind those of the parameters and of the context.
+fn own_rows<'a>(nest: &Nest, entry: &'a Entry) -> &'a [Form]
+    requires nest { IsNest nest.now }
+    requires living { IsLiving nest.now entry.now }
+    ensures { result.now ≡ drop (context_count nest.now) entry.now.domain.rows }
+{
+    let count = 2 * nest.params.ranges().len() + nest.context.rows().len();
+    let (_context, own) = entry.domain.rows().split_at(count);
+    own
+}
+
+/// The rows of the reader's domain, of the leaf, and of the writer's domain.
+fn front_rows(
+    alloc: Global,
+    nest: &Nest,
+    reader: &Entry,
+    leaf: &Leaf,
+    writer: &Entry,
+) -> Result<Vec<Form>, AllocError>
+    requires { AreSeated nest.now reader.now (leaf_seen leaf.now) writer.now }
+    ensures { IfOk result (λ v. v.items ≡ front_rows nest.now reader.now (leaf_seen leaf.now) writer.now) }
+{
+    let params = params_in(nest);
+    let columns = columns_in(leaf, writer);
+    let own = own_rows(nest, writer);
+    let mut rows = Vec::new(alloc);
+    add_padded(alloc, columns, reader.domain.rows(), &mut rows)?;
+    add_padded(alloc, columns, leaf.rows.as_slice(), &mut rows)?;
+    let between = leaf.columns - params;
+    add_spread(alloc, own, params, between, 0, &mut rows)?;
+    Ok(rows)
+}
+
+/// The subscripts of the element that is loaded.
+fn loaded(
+    alloc: Global,
+    nest: &Nest,
+    reader: &Entry,
+    load: &Access,
+    leaf: &Leaf,
+    writer: &Entry,
+) -> Result<Vec<Form>, AllocError>
+    requires seated { AreSeated nest.now reader.now (leaf_seen leaf.now) writer.now }
+    requires load { IsIn load.now reader.now.accesses }
+    ensures { IfOk result (λ v. v.items ≡ map (of_reader nest.now reader.now (leaf_seen leaf.now) writer.now) load.now.subs) }
+{
+    let columns = columns_in(leaf, writer);
+    let mut subs = Vec::new(alloc);
+    add_padded(alloc, columns, load.subs.as_slice(), &mut subs)?;
+    Ok(subs)
+}
+
+/// The subscripts of the element that is stored.
+fn stored(
+    alloc: Global,
+    nest: &Nest,
+    reader: &Entry,
+    leaf: &Leaf,
+    writer: &Entry,
+    store: &Access,
+) -> Result<Vec<Form>, AllocError>
+    requires seated { AreSeated nest.now reader.now (leaf_seen leaf.now) writer.now }
+    requires store { IsIn store.now writer.now.accesses }
+    ensures { IfOk result (λ v. v.items ≡ map (of_writer nest.now reader.now (leaf_seen leaf.now) writer.now) store.now.subs) }
+{
+    let params = params_in(nest);
+    let mut subs = Vec::new(alloc);
+    let between = leaf.columns - params;
+    add_spread(alloc, store.subs.as_slice(), params, between, 0, &mut subs)?;
+    Ok(subs)
+}
+
+/// The rows that say that the schedule runs the store after the instance that the leaf names.
+fn stored_after(
+    alloc: Global,
+    nest: &Nest,
+    schedule: &Schedule,
+    reader: &Entry,
+    leaf: &Leaf,
+    named: &Named,
+    writer: &Entry,
+) -> Result<Vec<Items<Form>>, AllocError>
+    requires asked { IsScheduled nest.now schedule.now }
+    requires seated { AreSeated nest.now reader.now (leaf_seen leaf.now) writer.now }
+    requires named { HasForms nest.now leaf.now.columns named.now.statement named.now.forms }
+    ensures { IfOk result (λ v. v.items ≡ map rows_in (after_named nest.now schedule.now reader.now (leaf_seen leaf.now) (posed named.now.statement named.now.forms) writer.now)) }
+{
+    let loops = loops_round(writer);
+    let columns = columns_in(leaf, writer);
+    let mut names = Vec::new(alloc);
+    add_padded(alloc, columns, named.forms.as_slice(), &mut names)?;
+    let stores = columns_from(alloc, columns, leaf.columns, loops)?;
+    let orders = target_order(
+        alloc,
+        nest,
+        schedule,
+        columns,
+        named.statement,
+        names.as_slice(),
+        writer.statement,
+        stores.as_slice(),
+    )?;
+    Ok(orders)
+}
+
+/// The rows that say that the schedule runs the store before the load.
+fn stored_before(
+    alloc: Global,
+    nest: &Nest,
+    schedule: &Schedule,
+    reader: &Entry,
+    leaf: &Leaf,
+    writer: &Entry,
+) -> Result<Vec<Items<Form>>, AllocError>
+    requires asked { IsScheduled nest.now schedule.now }
+    requires seated { AreSeated nest.now reader.now (leaf_seen leaf.now) writer.now }
+    ensures { IfOk result (λ v. v.items ≡ map rows_in (before_load nest.now schedule.now reader.now (leaf_seen leaf.now) writer.now)) }
+{
+    let params = params_in(nest);
+    let loops = loops_round(writer);
+    let columns = columns_in(leaf, writer);
+    let stores = columns_from(alloc, columns, leaf.columns, loops)?;
+    let loads = columns_from(alloc, columns, params, loops_round(reader))?;
+    let orders = target_order(
+        alloc,
+        nest,
+        schedule,
+        columns,
+        writer.statement,
+        stores.as_slice(),
+        reader.statement,
+        loads.as_slice(),
+    )?;
+    Ok(orders)
+}
+
+/// Adds the systems of a load, a leaf that names this instance, and a store.
+pub(crate) fn add_store(
+    alloc: Global,
+    nest: &Nest,
+    schedule: &Schedule,
+    reader: &Entry,
+    load: &Access,
+    leaf: &Leaf,
+    named: &Named,
+    writer: &Entry,
+    store: &Access,
+    out: &mut Vec<Draft>,
+) -> Result<(), AllocError>
+    requires asked { IsScheduled nest.now schedule.now }
+    requires seated { AreSeated nest.now reader.now (leaf_seen leaf.now) writer.now }
+    requires load { IsIn load.now reader.now.accesses }
+    requires named { HasForms nest.now leaf.now.columns named.now.statement named.now.forms }
+    requires store { IsIn store.now writer.now.accesses }
+    ensures { OnOk result (map drafted out.new.items ≡ map drafted out.old.items ++ clashes_of_store nest.now reader.now (leaf_seen leaf.now) writer.now schedule.now load.now (posed named.now.statement named.now.forms) store.now) }
+{
+    let x = loaded(alloc, nest, reader, load, leaf, writer)?;
+    let y = stored(alloc, nest, reader, leaf, writer, store)?;
+    let ranges = clash_ranges(nest, reader, leaf, writer)?;
+    let shared = Shared {
+        columns: columns_in(leaf, writer),
+        ranges: &ranges,
+        x: x.as_slice(),
+        y: y.as_slice(),
+    };
+    let front = front_rows(alloc, nest, reader, leaf, writer)?;
+    let after = stored_after(alloc, nest, schedule, reader, leaf, named, writer)?;
+    let before = stored_before(alloc, nest, schedule, reader, leaf, writer)?;
+    let (front, after, before) = (front.as_slice(), after.as_slice(), before.as_slice());
+    add_between(alloc, &shared, front, after, before, out)?;
+    Ok(())
+}

@@ -1,0 +1,322 @@
+//! All clash systems of an array.
+ghost use Rattle.std.specs.Prelude.{◌≡◌, ◌+◌, ◌++◌, ◌<◌, Some, drop, length, map, flat_map, slice_get, IfOk, IfErr, OnOk};
+ghost use Rattle.affc_trace.specs.Law.{IsIn};
+ghost use Rattle.affc_order.specs.Asked.{IsScheduled};
+ghost use Rattle.affc_sched.specs.Answered.{Each};
+ghost use Rattle.affc_quast.specs.Leaves.{leaves_of};
+ghost use Rattle.affc_quast.specs.Seen.{seen, trees_of};
+ghost use Rattle.affc_quast.specs.SeenLeaves.{leaf_seen};
+ghost use Rattle.affc_quast.specs.Sources.{loads_in, loads_before};
+ghost use Rattle.affc_life.specs.Asked.{KeepLimits, KeepsLimits, HasForms, IsLiving, IsPath, AreLoads};
+ghost use Rattle.affc_life.specs.Clashes.{clash_of, clashes_with, clashes_of_entry, numbered_loads, clashes};
+ghost use Rattle.affc_life.specs.Drafts.{drafted, posed, clashes_of_leaf, clashes_of_load};
+ghost use Rattle.affc_life.specs.Sizes.{AnyLarge};
+
+use crate::draft::Draft;
+use crate::fault::ClashFault;
+use crate::stores::{add_store, loops_round, params_in};
+use crate::systems::add_pairs;
+use affc_ast::tree::ArrayId;
+use affc_nest::{Access, Entry, Nest};
+use affc_quast::leaves::{Leaf, Named, leaves};
+use affc_quast::{Flow, Quast};
+use affc_system::PairSystem;
+use affc_trace::schedule::Schedule;
+use std::alloc::{AllocError, Global};
+
+/// What is asked: the clash systems of an array.
+#[derive(Clone, Copy, Drop)]
+struct Asked<'a> {
+    nest: &'a Nest,
+    schedule: &'a Schedule,
+    array: ArrayId,
+}
+
+/// Adds the systems of a load, a leaf that names this instance, and a statement.
+fn add_writer(
+    alloc: Global,
+    asked: &Asked<'_>,
+    reader: &Entry,
+    load: &Access,
+    leaf: &Leaf,
+    named: &Named,
+    writer: &Entry,
+    out: &mut Vec<Draft>,
+) -> Result<(), AllocError>
+    requires scheduled { IsScheduled asked.now.nest.now asked.now.schedule.now }
+    requires reads { IsLiving asked.now.nest.now reader.now }
+    requires load { IsIn load.now reader.now.accesses }
+    requires path { IsPath asked.now.nest.now (length asked.now.nest.now.params + length reader.now.loops) (leaf_seen leaf.now) }
+    requires named { HasForms asked.now.nest.now leaf.now.columns named.now.statement named.now.forms }
+    requires writer { IsIn writer.now asked.now.nest.now.entries }
+    ensures { OnOk result (map drafted out.new.items ≡ map drafted out.old.items ++ clashes_with asked.now.nest.now asked.now.schedule.now asked.now.array.0 reader.now load.now (leaf_seen leaf.now) (posed named.now.statement named.now.forms) writer.now) }
+{
+    if !writer.alive {
+        return Ok(());
+    }
+    let Some(store) = writer.accesses.as_slice().last() else {
+        return Ok(());
+    };
+    if store.array.0 != asked.array.0 {
+        return Ok(());
+    }
+    let (nest, schedule) = (asked.nest, asked.schedule);
+    add_store(
+        alloc, nest, schedule, reader, load, leaf, named, writer, store, out,
+    )?;
+    Ok(())
+}
+
+/// Adds the systems of a load, a leaf that names this instance, and these statements.
+fn add_writers(
+    alloc: Global,
+    asked: &Asked<'_>,
+    reader: &Entry,
+    load: &Access,
+    leaf: &Leaf,
+    named: &Named,
+    writers: &[Entry],
+    out: &mut Vec<Draft>,
+) -> Result<(), AllocError>
+    requires scheduled { IsScheduled asked.now.nest.now asked.now.schedule.now }
+    requires reads { IsLiving asked.now.nest.now reader.now }
+    requires load { IsIn load.now reader.now.accesses }
+    requires path { IsPath asked.now.nest.now (length asked.now.nest.now.params + length reader.now.loops) (leaf_seen leaf.now) }
+    requires named { HasForms asked.now.nest.now leaf.now.columns named.now.statement named.now.forms }
+    requires writers { Each (λ e. IsIn e asked.now.nest.now.entries) writers.now }
+    ensures { OnOk result (map drafted out.new.items ≡ map drafted out.old.items ++ flat_map (clashes_with asked.now.nest.now asked.now.schedule.now asked.now.array.0 reader.now load.now (leaf_seen leaf.now) (posed named.now.statement named.now.forms)) writers.now) }
+{
+    match writers {
+        [] => Ok(()),
+        [writer, rest @ ..] => {
+            add_writer(alloc, asked, reader, load, leaf, named, writer, out)?;
+            add_writers(alloc, asked, reader, load, leaf, named, rest, out)?;
+            Ok(())
+        }
+    }
+}
+
+/// Adds the systems of a load and a leaf.
+fn add_leaf(
+    alloc: Global,
+    asked: &Asked<'_>,
+    reader: &Entry,
+    load: &Access,
+    leaf: &Leaf,
+    out: &mut Vec<Draft>,
+) -> Result<(), AllocError>
+    requires scheduled { IsScheduled asked.now.nest.now asked.now.schedule.now }
+    requires reads { IsLiving asked.now.nest.now reader.now }
+    requires load { IsIn load.now reader.now.accesses }
+    requires path { IsPath asked.now.nest.now (length asked.now.nest.now.params + length reader.now.loops) (leaf_seen leaf.now) }
+    ensures { OnOk result (map drafted out.new.items ≡ map drafted out.old.items ++ clashes_of_leaf asked.now.nest.now asked.now.schedule.now asked.now.array.0 reader.now load.now (leaf_seen leaf.now)) }
+{
+    match &leaf.named {
+        None => Ok(()),
+        Some(named) => {
+            let writers = asked.nest.entries.as_slice();
+            add_writers(alloc, asked, reader, load, leaf, named, writers, out)?;
+            Ok(())
+        }
+    }
+}
+
+/// Adds the systems of a load and these leaves.
+fn add_leaves(
+    alloc: Global,
+    asked: &Asked<'_>,
+    reader: &Entry,
+    load: &Access,
+    leaves: &[Leaf],
+    out: &mut Vec<Draft>,
+) -> Result<(), AllocError>
+    requires scheduled { IsScheduled asked.now.nest.now asked.now.schedule.now }
+    requires reads { IsLiving asked.now.nest.now reader.now }
+    requires load { IsIn load.now reader.now.accesses }
+    requires paths { Each (IsPath asked.now.nest.now (length asked.now.nest.now.params + length reader.now.loops)) (map leaf_seen leaves.now) }
+    ensures { OnOk result (map drafted out.new.items ≡ map drafted out.old.items ++ flat_map (clashes_of_leaf asked.now.nest.now asked.now.schedule.now asked.now.array.0 reader.now load.now) (map leaf_seen leaves.now)) }
+{
+    match leaves {
+        [] => Ok(()),
+        [leaf, rest @ ..] => {
+            add_leaf(alloc, asked, reader, load, leaf, out)?;
+            add_leaves(alloc, asked, reader, load, rest, out)?;
+            Ok(())
+        }
+    }
+}
+
+/// Adds the systems of a load with this tree.
+fn add_tree(
+    alloc: Global,
+    asked: &Asked<'_>,
+    reader: &Entry,
+    load: &Access,
+    tree: &Quast,
+    out: &mut Vec<Draft>,
+) -> Result<(), AllocError>
+    requires scheduled { IsScheduled asked.now.nest.now asked.now.schedule.now }
+    requires reads { IsLiving asked.now.nest.now reader.now }
+    requires load { IsIn load.now reader.now.accesses }
+    requires tree { KeepsLimits asked.now.nest.now (length asked.now.nest.now.params + length reader.now.loops) (seen tree.now) }
+    ensures { OnOk result (map drafted out.new.items ≡ map drafted out.old.items ++ flat_map (clashes_of_leaf asked.now.nest.now asked.now.schedule.now asked.now.array.0 reader.now load.now) (leaves_of (length asked.now.nest.now.params + length reader.now.loops) (seen tree.now))) }
+{
+    let columns = params_in(asked.nest) + loops_round(reader);
+    let leaves = leaves(alloc, columns, tree)?;
+    add_leaves(alloc, asked, reader, load, leaves.as_slice(), out)?;
+    Ok(())
+}
+
+/// Adds the systems of a load with this number.
+fn add_load(
+    alloc: Global,
+    asked: &Asked<'_>,
+    reader: &Entry,
+    trees: &[Quast],
+    number: usize,
+    load: &Access,
+    out: &mut Vec<Draft>,
+) -> Result<(), AllocError>
+    requires scheduled { IsScheduled asked.now.nest.now asked.now.schedule.now }
+    requires reads { IsLiving asked.now.nest.now reader.now }
+    requires loads { AreLoads asked.now.nest.now reader.now (map seen trees.now) }
+    requires load { slice_get reader.now.accesses number ≡ Some load.now }
+    requires counts { number < loads_in reader.now }
+    ensures { OnOk result (map drafted out.new.items ≡ map drafted out.old.items ++ clashes_of_load asked.now.nest.now asked.now.schedule.now asked.now.array.0 reader.now (map seen trees.now) (number, load.now)) }
+{
+    if load.array.0 != asked.array.0 {
+        return Ok(());
+    }
+    match trees.get(number) {
+        None => Ok(()),
+        Some(tree) => {
+            add_tree(alloc, asked, reader, load, tree, out)?;
+            Ok(())
+        }
+    }
+}
+
+/// Adds the systems of the loads from one on.
+fn add_loads(
+    alloc: Global,
+    asked: &Asked<'_>,
+    reader: &Entry,
+    trees: &[Quast],
+    number: usize,
+    accesses: &[Access],
+    out: &mut Vec<Draft>,
+) -> Result<(), AllocError>
+    requires scheduled { IsScheduled asked.now.nest.now asked.now.schedule.now }
+    requires reads { IsLiving asked.now.nest.now reader.now }
+    requires loads { AreLoads asked.now.nest.now reader.now (map seen trees.now) }
+    requires rest { accesses.now ≡ drop number reader.now.accesses }
+    ensures { OnOk result (map drafted out.new.items ≡ map drafted out.old.items ++ flat_map (clashes_of_load asked.now.nest.now asked.now.schedule.now asked.now.array.0 reader.now (map seen trees.now)) (numbered_loads number accesses.now)) }
+{
+    match accesses {
+        [] => Ok(()),
+        [load, rest @ ..] => {
+            if rest.is_empty() {
+                return Ok(());
+            }
+            add_load(alloc, asked, reader, trees, number, load, out)?;
+            add_loads(alloc, asked, reader, trees, number + 1, rest, out)?;
+            Ok(())
+        }
+    }
+}
+
+/// The trees of the loads of a statement and of those behind it.
+fn trees_from<'a>(entries: &[Entry], statement: u32, trees: &'a [Quast]) -> &'a [Quast]
+    ensures { map seen result.now ≡ drop (loads_before entries.now statement) (map seen trees.now) }
+{
+    match entries {
+        [] => trees,
+        [entry, rest @ ..] => {
+            if statement == 0 {
+                return trees;
+            }
+            let loads = entry.accesses.len().saturating_sub(1);
+            if loads > trees.len() {
+                return &[];
+            }
+            let (_own, others) = trees.split_at(loads);
+            trees_from(rest, statement - 1, others)
+        }
+    }
+}
+
+/// Adds the systems of a statement's loads.
+fn add_reader(
+    alloc: Global,
+    asked: &Asked<'_>,
+    trees: &[Quast],
+    reader: &Entry,
+    out: &mut Vec<Draft>,
+) -> Result<(), AllocError>
+    requires scheduled { IsScheduled asked.now.nest.now asked.now.schedule.now }
+    requires limits { KeepLimits asked.now.nest.now (map seen trees.now) }
+    requires reader { IsIn reader.now asked.now.nest.now.entries }
+    ensures { OnOk result (map drafted out.new.items ≡ map drafted out.old.items ++ clashes_of_entry asked.now.nest.now asked.now.schedule.now asked.now.array.0 (map seen trees.now) reader.now) }
+{
+    if !reader.alive {
+        return Ok(());
+    }
+    let own = trees_from(asked.nest.entries.as_slice(), reader.statement, trees);
+    let accesses = reader.accesses.as_slice();
+    add_loads(alloc, asked, reader, own, 0, accesses, out)?;
+    Ok(())
+}
+
+/// Adds the systems of the loads of these statements.
+fn add_readers(
+    alloc: Global,
+    asked: &Asked<'_>,
+    trees: &[Quast],
+    readers: &[Entry],
+    out: &mut Vec<Draft>,
+) -> Result<(), AllocError>
+    requires scheduled { IsScheduled asked.now.nest.now asked.now.schedule.now }
+    requires limits { KeepLimits asked.now.nest.now (map seen trees.now) }
+    requires readers { Each (λ e. IsIn e asked.now.nest.now.entries) readers.now }
+    ensures { OnOk result (map drafted out.new.items ≡ map drafted out.old.items ++ flat_map (clashes_of_entry asked.now.nest.now asked.now.schedule.now asked.now.array.0 (map seen trees.now)) readers.now) }
+{
+    match readers {
+        [] => Ok(()),
+        [reader, rest @ ..] => {
+            add_reader(alloc, asked, trees, reader, out)?;
+            add_readers(alloc, asked, trees, rest, out)?;
+            Ok(())
+        }
+    }
+}
+
+/// The clash systems of an array: by loads, leaves of their trees, storing statements, the two orders, and the dimension in
+/// which the elements differ.
+///
+/// `x` is the element that is loaded and `y` the one that is stored between. The columns of a system are the parameters,
+/// the load's iterators, the quotients of its leaf and the store's iterators.
+pub fn clashes(
+    alloc: Global,
+    nest: &Nest,
+    flow: &Flow,
+    schedule: &Schedule,
+    array: ArrayId,
+) -> Result<Vec<PairSystem>, ClashFault>
+    requires scheduled { IsScheduled nest.now schedule.now }
+    requires trees { KeepLimits nest.now (trees_of flow.now) }
+    ensures ok { IfOk result (λ systems. map clash_of systems.items ≡ clashes nest.now (trees_of flow.now) schedule.now array.0) }
+    ensures fits { IfOk result (λ systems. ¬ (AnyLarge (clashes nest.now (trees_of flow.now) schedule.now array.0))) }
+    ensures large { IfErr result (λ e. e ≡ ClashFault.Large → AnyLarge (clashes nest.now (trees_of flow.now) schedule.now array.0)) }
+{
+    let asked = Asked {
+        nest,
+        schedule,
+        array,
+    };
+    let mut drafts = Vec::new(alloc);
+    let trees = flow.trees.as_slice();
+    add_readers(alloc, &asked, trees, nest.entries.as_slice(), &mut drafts)?;
+    let mut systems = Vec::new(alloc);
+    add_pairs(alloc, drafts.as_slice(), &mut systems)?;
+    Ok(systems)
+}
