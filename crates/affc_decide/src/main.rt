@@ -2,6 +2,7 @@
 #![tactic(auto)]
 
 mod block;
+mod word;
 
 ghost use Rattle.std.specs.Prelude.{◌≡◌, ◌≢◌, ◌<◌, ◌^◌, ◌↔◌, ◌⊎◌, IfOk, IsTrue, IsSomeAnd};
 ghost use Rattle.affc_split.specs.Openings.{nodes};
@@ -9,11 +10,12 @@ ghost use Rattle.affc_decide.specs.Blocks.{IsExpected, IsReady, TakesLine, Takes
 
 use affc_farkas::Proof;
 use affc_split::{Answer, Budget, Stop, decide, within_reach};
-use block::{Block, Fault, Line, read_line};
+use block::{Block, Line, read_line};
 use std::alloc::Global;
 use std::io;
-use std::io::{BufRead, BufReader, BufWriter, ErrorKind, Write};
+use std::io::{BufWriter, ErrorKind, Read, Write};
 use std::process::ExitCode;
+use word::Fault;
 
 /// What the answers were.
 #[derive(Clone, Copy)]
@@ -117,7 +119,7 @@ fn take(
     alloc: Global,
     out: &mut impl Write,
     block: &mut Option<Block>,
-    line: &str,
+    line: &[u8],
     totals: &mut Totals,
 ) -> io::Result<bool>
     ensures taken { IfOk result (λ fine. IsTrue fine → (added : Line) × TakesLine line.now block.old added block.new × ((added ≡ Line.Nothing) ⊎ IsSomeAnd block.new IsReady)) }
@@ -134,22 +136,17 @@ fn take(
     }
 }
 
-/// Reads all lines. Answers the number of the first line that is malformed.
+/// Takes all lines of a text. Answers the number of the first line that is malformed.
 fn run(
     alloc: Global,
-    input: &mut impl BufRead,
+    text: &[u8],
     out: &mut impl Write,
     totals: &mut Totals,
-) -> io::Result<Option<u64>> {
+) -> io::Result<Option<usize>> {
     let mut block = None;
-    let mut text = String::new(alloc);
-    for count in 0..u64::MAX {
-        text.clear();
-        if input.read_line(&mut text)? == 0 {
-            break;
-        }
-        if !take(alloc, out, &mut block, text.as_str(), totals)? {
-            return Ok(Some(count + 1));
+    for (before, line) in text.split(|byte| *byte == b'\n').enumerate() {
+        if !take(alloc, out, &mut block, line, totals)? {
+            return Ok(Some(before.saturating_add(1)));
         }
     }
     Ok(None)
@@ -163,9 +160,10 @@ fn main(rt: HostRuntime) -> io::Result<ExitCode> {
         units: 0,
         wrong: 0,
     };
-    let mut input = BufReader::new(rt.alloc(), rt.reader())?;
+    let mut text = Vec::new(rt.alloc());
+    rt.reader().read_to_end(&mut text)?;
     let mut out = BufWriter::new(rt.alloc(), io::writer(&rt))?;
-    let malformed = run(rt.alloc(), &mut input, &mut out, &mut totals)?;
+    let malformed = run(rt.alloc(), text.as_slice(), &mut out, &mut totals)?;
     if let Some(line) = malformed {
         out.flush()?;
         eprintln!(rt; "line {line} is malformed")?;
