@@ -107,32 +107,32 @@ fn box_of(alloc: Global, ends: &[i64], columns: u32) -> Result<BoxOf, Fault>
 }
 
 /// A row of coefficients and a constant.
-fn row_of(alloc: Global, entries: &[i64]) -> Result<Form, Fault>
-    ensures entries { IfOk result (λ f. f.coefs ++ f.constant ∷ [] ≡ entries.now) }
-    ensures none { IfErr result (λ e. e ≡ Fault.Malformed → entries.now ≡ []) }
+fn row_of(alloc: Global, words: &[&[u8]]) -> Result<Form, Fault>
+    ensures said { IfOk result (λ f. Say (texts_of words.now) (f.coefs ++ f.constant ∷ [])) }
+    ensures none { IfErr result (λ e. e ≡ Fault.Malformed → (f : Affine) → Say (texts_of words.now) (f.coefs ++ f.constant ∷ []) → ⊥) }
 {
-    let [front @ .., constant] = entries else {
-        return Err(Fault::Malformed);
-    };
-    let mut coefs = SmallVec::new(alloc);
-    for c in front {
-        let Ok(()) = coefs.push(i128::from(*c)) else {
+    let mut entries = SmallVec::new(alloc);
+    for word in words {
+        let n = number(word)?;
+        let Ok(()) = entries.push(i128::from(n)) else {
             return Err(Fault::Memory);
         };
     }
-    Ok(Form {
-        coefs,
-        constant: i128::from(*constant),
-    })
+    match entries.pop() {
+        Some(constant) => Ok(Form {
+            coefs: entries,
+            constant,
+        }),
+        None => Err(Fault::Malformed),
+    }
 }
 
 /// Adds a row to a block.
-fn add_row(alloc: Global, block: &mut Block, entries: &[i64]) -> Result<(), Fault>
-    ensures added { OnOk result ((f : Affine) × (f.coefs ++ f.constant ∷ [] ≡ entries.now) × AddsRow block.old f (Some block.new)) }
-    ensures none { IfErr result (λ e. e ≡ Fault.Malformed → (f : Affine) (after : Option Block) → f.coefs ++ f.constant ∷ [] ≡ entries.now → AddsRow block.old f after → ⊥) }
+fn add_row(block: &mut Block, row: Form) -> Result<(), Fault>
+    ensures added { OnOk result (AddsRow block.old row (Some block.new)) }
+    ensures none { IfErr result (λ e. e ≡ Fault.Malformed → (after : Option Block) → AddsRow block.old row after → ⊥) }
     ensures kept { OnErr result (block.new ≡ block.old) }
 {
-    let row = row_of(alloc, entries)?;
     if block.ranges.is_none()
         || row.coefs.len() != block.system.columns() as usize
         || block.system.rows().len() >= block.rows
@@ -152,9 +152,9 @@ fn add_numbers(alloc: Global, block: &mut Option<Block>, words: &[&[u8]]) -> Res
     ensures none { IfErr result (λ e. e ≡ Fault.Malformed → (row : Affine) (added : Line) (after : Option Block) → Say (texts_of words.now) (row.coefs ++ row.constant ∷ []) → IsTaken (Row row) block.old added after → ⊥) }
     ensures kept { OnErr result (block.new ≡ block.old) }
 {
-    let entries = numbers(alloc, words)?;
+    let row = row_of(alloc, words)?;
     match block {
-        Some(block) => add_row(alloc, block, entries.as_slice()),
+        Some(block) => add_row(block, row),
         None => Err(Fault::Malformed),
     }
 }

@@ -3,6 +3,7 @@ ghost use Rattle.std.specs.Prelude.{◌≡◌, ◌↔◌, IsTrue, ◌≤◌, ◌
 ghost use Rattle.std.specs.Str.Parse.{IsNumeral, digits_value};
 ghost use Rattle.affc_decide.specs.Words.{AllSpaces, NoSpaces, EndsSpaces, AreWords, EndsWord, IsFirstWord, Says, SaysNone, texts_of};
 
+use smallvec::SmallVec;
 use std::alloc::Global;
 use thiserror::Error;
 
@@ -55,17 +56,15 @@ fn first_word(text: &[u8]) -> Option<(&[u8], &[u8])>
     Some(behind.split_at(letters(behind)))
 }
 
-/// How many words there is room for at once.
-const FEW_WORDS: usize = 16;
+/// How many words of a line need no allocation.
+pub const FEW_WORDS: usize = 16;
 
 /// The words of a line.
-pub fn words_of(alloc: Global, line: &[u8]) -> Result<Vec<&[u8]>, Fault>
+pub fn words_of(alloc: Global, line: &[u8]) -> Result<SmallVec<&[u8], FEW_WORDS, Global>, Fault>
     ensures words { IfOk result (λ v. AreWords line.now (texts_of v.items)) }
     ensures fault { OnErr result (result ≡ Err Fault.Memory) }
 {
-    let Ok(mut words) = Vec::with_capacity(alloc, FEW_WORDS) else {
-        return Err(Fault::Memory);
-    };
+    let mut words = SmallVec::new(alloc);
     let mut rest = line;
     while let Some((word, behind)) = first_word(rest) {
         let Ok(()) = words.push(word) else {

@@ -5,5 +5,5 @@ use Rattle.affc_decide.proofs.word.words_of.Goals as goal
 
 pub returns-clause-words : goal.returns-clause-words
 returns-clause-words c =
-    let spaces : AllSpaces c.loop-word.rest.now = c.in_default-first_word.ensures.none refl in
+    let spaces : AllSpaces c.loop-word.rest.now = c.in_default.ensures.none refl in
     all_found c.args.line.now c.loop-word.rest.now (texts_of c.loop-word.words.items) c.loop-word.invariant spaces
