@@ -5,7 +5,7 @@ ghost use Rattle.affc_system.specs.Boxes.{IsBox};
 ghost use Rattle.affc_decide.specs.Words.{Says, texts_of};
 ghost use Rattle.affc_decide.specs.Blocks.{IsKind, Say, ends_of, Limit, Row, AddsRow, IsTaken, Takes, TakesNone, TakesLine, TakesNoLine, begun};
 
-use crate::word::{Fault, is_word, number, words_of};
+use crate::word::{Fault, find_words, is_word, number};
 use affc_rows::Form;
 use affc_system::{BoxOf, RowFault, System};
 use smallvec::SmallVec;
@@ -290,12 +290,17 @@ fn read_words(alloc: Global, block: &mut Option<Block>, words: &[&[u8]]) -> Resu
     Ok(Line::Nothing)
 }
 
-/// Reads a line into a block.
-pub fn read_line(alloc: Global, block: &mut Option<Block>, line: &[u8]) -> Result<Line, Fault>
+/// Reads a line into a block. Its words are put in place of those that were there.
+pub fn read_line<'a>(
+    alloc: Global,
+    block: &mut Option<Block>,
+    words: &mut Vec<&'a [u8]>,
+    line: &'a [u8],
+) -> Result<Line, Fault>
     ensures taken { IfOk result (λ added. TakesLine line.now block.old added block.new) }
     ensures none { IfErr result (λ e. e ≡ Fault.Malformed → TakesNoLine line.now block.old) }
     ensures kept { OnErr result (block.new ≡ block.old) }
 {
-    let words = words_of(alloc, line)?;
+    find_words(line, words)?;
     read_words(alloc, block, words.as_slice())
 }

@@ -115,17 +115,18 @@ fn settle(
 }
 
 /// Takes a line. Answers whether it is well formed.
-fn take(
+fn take<'a>(
     alloc: Global,
     out: &mut impl Write,
     block: &mut Option<Block>,
-    line: &[u8],
+    words: &mut Vec<&'a [u8]>,
+    line: &'a [u8],
     totals: &mut Totals,
 ) -> io::Result<bool>
     ensures taken { IfOk result (λ fine. IsTrue fine → (added : Line) × TakesLine line.now block.old added block.new × ((added ≡ Line.Nothing) ⊎ IsSomeAnd block.new IsReady)) }
     ensures malformed { IfOk result (λ fine. ¬ (IsTrue fine) → TakesNoLine line.now block.old ⊎ ((added : Line) × TakesLine line.now block.old added block.new × (added ≢ Line.Nothing) × ¬ (IsSomeAnd block.new IsReady))) }
 {
-    match read_line(alloc, block, line) {
+    match read_line(alloc, block, words, line) {
         Ok(Line::Nothing) => Ok(true),
         Ok(expected) => match block {
             Some(block) => settle(alloc, out, block, &expected, totals),
@@ -144,8 +145,9 @@ fn run(
     totals: &mut Totals,
 ) -> io::Result<Option<usize>> {
     let mut block = None;
+    let mut words = Vec::new(alloc);
     for (before, line) in text.split(|byte| *byte == b'\n').enumerate() {
-        if !take(alloc, out, &mut block, line, totals)? {
+        if !take(alloc, out, &mut block, &mut words, line, totals)? {
             return Ok(Some(before.saturating_add(1)));
         }
     }

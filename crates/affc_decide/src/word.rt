@@ -1,10 +1,8 @@
 //! The words of a line, and the numbers that they say.
-ghost use Rattle.std.specs.Prelude.{◌≡◌, ◌↔◌, IsTrue, ◌≤◌, ◌<◌, ◌^◌, ℤ, pos, neg_ℤ, List, take, drop, length, OnErr, IfOk, IfSome, IsNone, Err};
+ghost use Rattle.std.specs.Prelude.{◌≡◌, ◌↔◌, IsTrue, ◌≤◌, ◌<◌, ◌^◌, ℤ, pos, neg_ℤ, List, take, drop, length, OnOk, OnErr, IfOk, IfSome, IsNone, Err};
 ghost use Rattle.std.specs.Str.Parse.{IsNumeral, digits_value};
 ghost use Rattle.affc_decide.specs.Words.{AllSpaces, NoSpaces, EndsSpaces, AreWords, EndsWord, IsFirstWord, Says, SaysNone, texts_of};
 
-use smallvec::SmallVec;
-use std::alloc::Global;
 use thiserror::Error;
 
 /// Why a line isn't taken.
@@ -56,15 +54,12 @@ fn first_word(text: &[u8]) -> Option<(&[u8], &[u8])>
     Some(behind.split_at(letters(behind)))
 }
 
-/// How many words of a line need no allocation.
-pub const FEW_WORDS: usize = 16;
-
-/// The words of a line.
-pub fn words_of(alloc: Global, line: &[u8]) -> Result<SmallVec<&[u8], FEW_WORDS, Global>, Fault>
-    ensures words { IfOk result (λ v. AreWords line.now (texts_of v.items)) }
+/// Finds the words of a line, in place of those that were there.
+pub fn find_words<'a>(line: &'a [u8], words: &mut Vec<&'a [u8]>) -> Result<(), Fault>
+    ensures words { OnOk result (AreWords line.now (texts_of words.new.items)) }
     ensures fault { OnErr result (result ≡ Err Fault.Memory) }
 {
-    let mut words = SmallVec::new(alloc);
+    words.clear();
     let mut rest = line;
     while let Some((word, behind)) = first_word(rest) {
         let Ok(()) = words.push(word) else {
@@ -72,7 +67,7 @@ pub fn words_of(alloc: Global, line: &[u8]) -> Result<SmallVec<&[u8], FEW_WORDS,
         };
         rest = behind;
     }
-    Ok(words)
+    Ok(())
 }
 
 /// The size of the least number, which is one more than that of the greatest.

@@ -1,7 +1,7 @@
 use Rattle.std.proofs.Common.{refl}
 use Rattle.affc_decide.specs.Words.{AllSpaces, texts_of}
 use Rattle.affc_decide.proofs.Words.{all_found}
-use Rattle.affc_decide.proofs.word.words_of.Goals as goal
+use Rattle.affc_decide.proofs.word.find_words.Goals as goal
 
 pub returns-clause-words : goal.returns-clause-words
 returns-clause-words c =
