@@ -1,9 +1,9 @@
 -- Digits are read one at a time, and a sign before them.
-use Rattle.std.proofs.Common.{◌≡◌, ◌≢◌, ◌∙◌, refl, sym, ap, subst, ℕ, zero, suc, ◌+◌, ◌*◌, ◌^◌, ◌<◌, ◌≤◌, List, [], ◌∷◌, length, get_or, drop, cond, true, false, ◌==◌, ℤ, pos, neg_ℤ, FitsSigned, w64, arith}
+use Rattle.std.proofs.Common.{◌≡◌, ◌≢◌, ◌∙◌, refl, sym, ap, subst, ℕ, zero, suc, ◌+◌, ◌*◌, ◌^◌, ◌<◌, ◌≤◌, List, [], ◌∷◌, length, get_or, drop, cond, ℤ, pos, neg_ℤ, FitsSigned, w64, arith}
 use Rattle.std.proofs.Math.Seq.{drop-cons}
 use Rattle.std.proofs.Math.ListN.{drop_of_length-le}
 use Rattle.std.specs.Char.{digit_value}
-use Rattle.std.specs.Str.Parse.{AllDigits, IsNumeral, digits_value_after, digits_value, without_leading_plus, without_leading_sign, starts_with_minus, signed_digits_value}
+use Rattle.std.specs.Str.Parse.{AllDigits, IsNumeral, digits_value_after, digits_value, without_leading_plus, without_leading_sign, signed_digits_value}
 use borrow.Author.Tests.{eq-eqb, ne_eqb}
 use Rattle.affc_decide.specs.Words.{Says, SaysNone}
 

@@ -1,4 +1,4 @@
-use Rattle.std.proofs.Common.{◌∙◌, ◌++◌, ◌∷◌, [], refl, sym, subst}
+use Rattle.std.proofs.Common.{◌∙◌, refl, sym, subst}
 use Rattle.affc_rows.specs.Forms.{Affine}
 use Rattle.affc_decide.specs.Words.{texts_of}
 use Rattle.affc_decide.specs.Blocks.{AddsRow, Row}
