@@ -1,5 +1,5 @@
 -- Words say at most one list of numbers, and at most one kind of line.
-use Rattle.std.proofs.Common.{◌≡◌, ◌≢◌, ◌⊎◌, inl, inr, ◌∙◌, ℕ, zero, suc, ◌+◌, ◌*◌, ◌<◌, ◌≤◌, ◌≤ℤ◌, List, [], ◌∷◌, ◌++◌, length, take, drop, get_or, ◌-◌, ◌==◌, true, ℤ, pos, refl, sym, ap, ap₂, subst, arith, codes, Bor, Result, Ok, Err, IfErr, IfOk, OnOk, Option, Some, unwrap_or}
+use Rattle.std.proofs.Common.{◌≡◌, ◌≢◌, ◌⊎◌, inl, inr, ◌∙◌, ℕ, zero, suc, ◌+◌, ◌*◌, ◌<◌, ◌≤◌, ◌≤ℤ◌, List, [], ◌∷◌, ◌++◌, length, take, drop, get_or, length-append, ◌-◌, ◌==◌, true, ℤ, pos, refl, sym, ap, ap₂, subst, arith, codes, Bor, Result, Ok, Err, IfErr, IfOk, OnOk, Option, Some, unwrap_or}
 use Rattle.std.proofs.Math.Seq.{take-length}
 use Rattle.std.proofs.lemmas.Bool.{eqb-true}
 use Rattle.affc_system.specs.Boxes.{IsBox}
@@ -38,6 +38,37 @@ say_once [] (n ∷ ns) ms p q = absurd p
 say_once (w ∷ ws) [] ms p q = absurd p
 say_once (w ∷ ws) (n ∷ ns) [] p q = absurd q
 say_once (w ∷ ws) (n ∷ ns) (m ∷ ms) p q = ap₂ (λ (x : ℤ) (xs : List ℤ). x ∷ xs) (said_once w n m p.0 q.0) (say_once ws ns ms p.1 q.1)
+
+last_same : (xs ys : List ℤ) (x y : ℤ) → xs ++ x ∷ [] ≡ ys ++ y ∷ [] → (xs ≡ ys) × (x ≡ y)
+last_same [] [] x y same = (refl, cc)
+last_same [] (b ∷ ys) x y same = let more = length-append ys (y ∷ []) in let long = ap length same in absurd (omega (arith, more, long))
+last_same (a ∷ xs) [] x y same = let more = length-append xs (x ∷ []) in let long = ap length same in absurd (omega (arith, more, long))
+last_same (a ∷ xs) (b ∷ ys) x y same =
+    let first : a ≡ b = cc in
+    let rest : xs ++ x ∷ [] ≡ ys ++ y ∷ [] = cc in
+    let more = last_same xs ys x y rest in
+    (ap₂ (λ (z : ℤ) (zs : List ℤ). z ∷ zs) first more.0, more.1)
+
+-- words say at most one row
+pub row_once : (words : List (List ℕ)) (f h : Affine) → Say words (f.coefs ++ f.constant ∷ []) → Say words (h.coefs ++ h.constant ∷ []) → f ≡ h
+row_once words f h p q =
+    let same = last_same f.coefs h.coefs f.constant h.constant (say_once words (f.coefs ++ f.constant ∷ []) (h.coefs ++ h.constant ∷ []) p q) in
+    let make : List ℤ → ℤ → Affine = λ (cs : List ℤ) (k : ℤ). record { coefs = cs; constant = k } in
+    ap₂ make same.0 same.1
+
+-- words that say no number say no row
+pub no_row : (words : List (List ℕ)) (f : Affine) → Say words [] → Say words (f.coefs ++ f.constant ∷ []) → ⊥
+no_row words f none say =
+    let same = ap length (say_once words [] (f.coefs ++ f.constant ∷ []) none say) in
+    let more = length-append f.coefs (f.constant ∷ []) in
+    omega (arith, same, more)
+
+pub nothing : (xs : List ℤ) → (0 < length xs → ⊥) → xs ≡ []
+nothing [] none = refl
+nothing (x ∷ xs) none = absurd (none (omega arith))
+
+pub all_said : (ws : List (Bor (List ℕ))) (i : ℕ) (ns : List ℤ) → length ws ≡ i → Say (texts_of (take i ws)) ns → Say (texts_of ws) ns
+all_said ws i ns all say = subst (λ (vs : List (Bor (List ℕ))). Say (texts_of vs) ns) (ap (λ (k : ℕ). take k ws) (sym all) ∙ take-length ws) say
 
 -- one word more
 pub say_more : (ws : List (Bor (List ℕ))) (i : ℕ) (d : Bor (List ℕ)) (ns : List ℤ) (n : ℤ) → i < length ws → Say (texts_of (take i ws)) ns → Says (get_or ws i d).now n → Say (texts_of (take (suc i) ws)) (ns ++ n ∷ [])

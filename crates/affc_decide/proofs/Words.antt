@@ -1,54 +1,77 @@
--- What `str::split_ascii_whitespace` gives are the words of a text.
-use Rattle.std.proofs.Common.{◌≡◌, ◌∙◌, ◌<◌, ◌≤◌, ◌⊎◌, inl, inr, ℕ, List, [], ◌∷◌, ◌++◌, length, true, false, Option, None, refl, sym, ap, subst, append_assoc, arith, get_or}
-use Rattle.std.proofs.lemmas.Str.{NoCharPasses-byte}
-use Rattle.std.proofs.lemmas.Bool.Decides.{nat_tests}
-use Rattle.std.proofs.lemmas.List.Elements.{All-append, All-head}
-use Rattle.std.proofs.lemmas.List.{get_or_default}
-use Rattle.std.specs.Borrow.{Bor}
+-- The words of a text, found one by one.
+use Rattle.std.proofs.Common.{◌≡◌, ◌∙◌, ◌+◌, ◌<◌, ◌≤◌, ℕ, zero, suc, List, [], ◌∷◌, ◌++◌, length, take, drop, get_or, true, false, refl, sym, ap, ap₂, subst, arith, Bor}
+use Rattle.std.proofs.Math.Seq.{drop-cons, take-suc}
+use Rattle.std.proofs.Math.ListN.{drop_of_length-le}
+use Rattle.std.proofs.lemmas.List.{append-nil, take-append-drop, length-take-le}
+use Rattle.std.proofs.lemmas.List.Elements.{All-push}
 use Rattle.std.specs.Char.{is_ascii_whitespace}
-use Rattle.std.specs.Iterator.{Drains, Yields}
 use Rattle.std.specs.List.{All}
-use Rattle.std.specs.Str.{NoCharPasses}
-use Rattle.std.specs.Str.Iter.{CutsAsciiWord, IsAsciiSeparator}
-use Rattle.affc_decide.specs.Words.{AreWords, AllSpaces, IsWord, EndsWord, texts_of}
+use Rattle.affc_decide.specs.Words.{AreWords, AllSpaces, NoSpaces, EndsSpaces, IsWord, EndsWord, IsFirstWord, texts_of}
 
-spaces_joined : (a b : List ℕ) → AllSpaces a → AllSpaces b → AllSpaces (a ++ b)
-spaces_joined a b p q = All-append (λ c. is_ascii_whitespace c ≡ true) a b p q
+pub no_bytes : (P : ℕ → Type 0) (text : List ℕ) → All P (take 0 text)
+no_bytes P [] k d within = absurd (omega (arith, within))
+no_bytes P (b ∷ text) k d within = absurd (omega (arith, within))
 
-spaced : (sep text : List ℕ) (words : List (List ℕ)) → AllSpaces sep → AreWords text words → AreWords (sep ++ text) words
-spaced sep text [] s a = spaces_joined sep text s a
-spaced sep text (w ∷ ws) s (gap, rest, e, g, word, ends, more) = (sep ++ gap, rest, ap (λ (t : List ℕ). sep ++ t) e ∙ sym (append_assoc sep gap (w ++ rest)), spaces_joined sep gap s g, word, ends, more)
+pub one_more : (P : ℕ → Type 0) (text : List ℕ) (at : ℕ) → at < length text → All P (take at text) → P (get_or text at 0) → All P (take (at + 1) text)
+one_more P text at within all holds =
+    let next : suc at ≡ at + 1 = omega arith in
+    subst (λ (k : ℕ). All P (take k text)) next (subst (λ (l : List ℕ). All P l) (sym (take-suc text at 0 within)) (All-push P (take at text) (get_or text at 0) all holds))
 
-ends : (sep rest : List ℕ) → IsAsciiSeparator sep rest → EndsWord (sep ++ rest)
-ends [] [] s = tt
-ends [] (b ∷ rest) s = let none : length (b ∷ rest) ≡ 0 = s.2 refl in absurd (omega (arith, none))
-ends (b ∷ sep) rest s = All-head (λ c. is_ascii_whitespace c ≡ true) b sep s.0
+pub begins : (text : List ℕ) (at : ℕ) → at < length text → is_ascii_whitespace (get_or text at 0) ≡ false → EndsSpaces (drop at text)
+begins text at within letter = subst (λ (l : List ℕ). EndsSpaces l) (sym (drop-cons text at 0 within)) letter
 
-other : (b : ℕ) → 128 ≤ b → is_ascii_whitespace b ≡ false
-other b h = grind (arith, nat_tests)
+pub ends : (text : List ℕ) (at : ℕ) → at < length text → is_ascii_whitespace (get_or text at 0) ≡ true → EndsWord (drop at text)
+ends text at within space = subst (λ (l : List ℕ). EndsWord l) (sym (drop-cons text at 0 within)) space
 
-no_space : (b : ℕ) → (b < 128 → is_ascii_whitespace b ≡ false) → is_ascii_whitespace b ≡ false
-no_space b h = grind (arith, nat_tests)
+pub nothing_begins : (text : List ℕ) (at : ℕ) → length text ≤ at → EndsSpaces (drop at text)
+nothing_begins text at past = subst (λ (l : List ℕ). EndsSpaces l) (sym (drop_of_length-le text past)) tt
 
-no_spaces : (w : List ℕ) → NoCharPasses is_ascii_whitespace w → All (λ b. is_ascii_whitespace b ≡ false) w
-no_spaces w n = λ k d h. subst (λ (c : ℕ). is_ascii_whitespace c ≡ false) (sym (get_or_default w k d 0 h)) (no_space (get_or w k 0) (λ small. NoCharPasses-byte is_ascii_whitespace w k n h small))
+pub nothing_ends : (text : List ℕ) (at : ℕ) → length text ≤ at → EndsWord (drop at text)
+nothing_ends text at past = subst (λ (l : List ℕ). EndsWord l) (sym (drop_of_length-le text past)) tt
 
--- one call of an iterator that holds a text
-abbrev steps : {S : Type 0} → (S → List ℕ) → S → Option (Bor (List ℕ)) → S → Type 0
-steps text s r t = CutsAsciiWord (text s) r (text t) (λ gap x sep. gap ++ (x ++ (sep ++ text t)))
+true_is_false : true ≡ false → ⊥
+true_is_false e = cc
 
-yielded : {S : Type 0} (text : S → List ℕ) (xs : List (Bor (List ℕ))) (s t u : S) → Yields (steps text) s xs t → steps text t None u → AreWords (text s) (texts_of xs)
-yielded {S} text [] s t u same last = subst (λ (z : S). AllSpaces (text z)) (sym same) last.0
-yielded text (x ∷ xs) s t u (j, step, more) last =
-    let parts = step.3 in (
-      parts.0,
-      parts.1 ++ text j,
-      parts.2,
-      parts.3,
-      (step.0, no_spaces x.now step.1),
-      ends parts.1 (text j) parts.4,
-      spaced parts.1 (text j) (texts_of xs) parts.4.0 (yielded text xs j t u more last),
+empty : (text : List ℕ) → length text ≡ 0 → text ≡ []
+empty [] none = refl
+empty (b ∷ text) none = absurd (omega (arith, none))
+
+texts_push : (found : List (Bor (List ℕ))) (word : Bor (List ℕ)) (more : List (List ℕ)) → texts_of (found ++ word ∷ []) ++ more ≡ texts_of found ++ word.now ∷ more
+texts_push [] word more = refl
+texts_push (w ∷ found) word more = ap (λ (ws : List (List ℕ)). w.now ∷ ws) (texts_push found word more)
+
+some_letter : (behind : List ℕ) (n : ℕ) → 0 < length behind → EndsSpaces behind → EndsWord (drop n behind) → 0 < n
+some_letter [] n some begin end = absurd (omega (arith, some))
+some_letter (b ∷ rest) zero some begin end = absurd (true_is_false (sym end ∙ begin))
+some_letter (b ∷ rest) (suc n) some begin end = omega arith
+
+pub first : (text behind word rest : List ℕ) (g n : ℕ) → AllSpaces (take g text) → behind ≡ drop g text → EndsSpaces behind → 0 < length behind → n ≤ length behind → NoSpaces (take n behind) → EndsWord (drop n behind) → word ≡ take n behind → rest ≡ drop n behind
+    → IsFirstWord text word rest
+first text behind word rest g n spaces is begin some within letters end is_word is_rest =
+    let long : length (take n behind) ≡ n = length-take-le n behind within in
+    let more = some_letter behind n some begin end in (
+      take g text,
+      sym (ap₂ (λ (w r : List ℕ). take g text ++ (w ++ r)) is_word is_rest ∙ ap (λ (l : List ℕ). take g text ++ l) (take-append-drop n behind ∙ is) ∙ take-append-drop g text),
+      spaces,
+      subst (λ (w : List ℕ). IsWord w) (sym is_word) (omega (arith, long, more), letters),
+      subst (λ (r : List ℕ). EndsWord r) (sym is_rest) end,
     )
 
-pub drained : {S : Type 0} (text : S → List ℕ) (s : S) (xs : List (Bor (List ℕ))) → Drains (steps text) s xs → AreWords (text s) (texts_of xs)
-drained text s xs (u, (t, all, last)) = yielded text xs s t u all last
+pub only_spaces : (text : List ℕ) (g : ℕ) → AllSpaces (take g text) → length (drop g text) ≡ 0 → AllSpaces text
+only_spaces text g spaces none =
+    let nothing : drop g text ≡ [] = empty (drop g text) none in
+    subst (λ (l : List ℕ). AllSpaces l) (ap (λ (l : List ℕ). take g text ++ l) (sym nothing) ∙ take-append-drop g text) (subst (λ (l : List ℕ). AllSpaces l) (sym (append-nil (take g text))) spaces)
+
+-- the words found so far stand before those of the rest
+abbrev pub Precede : List ℕ → List (List ℕ) → List ℕ → Type 0
+Precede text found rest = (more : List (List ℕ)) → AreWords rest more → AreWords text (found ++ more)
+
+pub none_found : (text : List ℕ) → Precede text [] text
+none_found text more words = words
+
+pub one_found : (text rest behind : List ℕ) (found : List (Bor (List ℕ))) (word : Bor (List ℕ)) → Precede text (texts_of found) rest → IsFirstWord rest word.now behind → Precede text (texts_of (found ++ word ∷ [])) behind
+one_found text rest behind found word before is more words =
+    subst (λ (ws : List (List ℕ)). AreWords text ws) (sym (texts_push found word more)) (before (word.now ∷ more) (behind, is, words))
+
+pub all_found : (text rest : List ℕ) (found : List (List ℕ)) → Precede text found rest → AllSpaces rest → AreWords text found
+all_found text rest found before spaces = subst (λ (ws : List (List ℕ)). AreWords text ws) (append-nil found) (before [] spaces)

@@ -1,5 +1,5 @@
 -- Blocks of lines: a system, its box, its limit, and what is expected of it.
-use Rattle.std.specs.Prelude.{◌≡◌, ℕ, pos, ◌≤◌, ◌<◌, List, [], ◌∷◌, ◌++◌, length, codes, ℤ, Option, Some, None, IsSome, Vec}
+use Rattle.std.specs.Prelude.{◌≡◌, ◌≢◌, ℕ, pos, ◌≤◌, ◌<◌, List, [], ◌∷◌, ◌++◌, length, codes, ℤ, Option, Some, None, IsSome, Vec}
 use Rattle.std.specs.List.{All, AllZip}
 use Rattle.std.specs.declared.alloc.Global.{Global}
 use Rattle.affc_rows.specs.Forms.{Affine}
@@ -10,6 +10,8 @@ use Rattle.affc_split.specs.declared.search.Answer.{Answer}
 use Rattle.affc_split.specs.declared.search.Answer.TheVariants as answer
 use Rattle.affc_decide.specs.Words.{AreWords, Says}
 use Rattle.affc_decide.specs.declared.block.Block.{Block}
+use Rattle.affc_decide.specs.declared.block.Kind.{Kind}
+use Rattle.affc_decide.specs.declared.block.Kind.TheVariants as kind
 use Rattle.affc_decide.specs.declared.block.Line.{Line}
 use Rattle.affc_decide.specs.declared.block.Line.TheVariants as line
 
@@ -21,6 +23,14 @@ Say words numbers = AllZip Says words numbers
 abbrev pub ends_of : List (ℤ × ℤ) → List ℤ
 ends_of [] = []
 ends_of (r ∷ rs) = r.0 ∷ r.1 ∷ ends_of rs
+
+-- the word stands first in lines of this kind
+abbrev pub IsKind : Kind → List ℕ → Type 0
+IsKind (kind.System) word = word ≡ codes "system"
+IsKind (kind.Ranges) word = word ≡ codes "ranges"
+IsKind (kind.Limit) word = word ≡ codes "limit"
+IsKind (kind.Expect) word = word ≡ codes "expect"
+IsKind (kind.Row) word = (word ≢ codes "system") × (word ≢ codes "ranges") × (word ≢ codes "limit") × (word ≢ codes "expect")
 
 -- ---- What a line says
 

@@ -2,23 +2,14 @@
 ghost use Rattle.std.specs.Prelude.{◌≡◌, ℕ, ℤ, pos, codes, ◌≤◌, [], ◌∷◌, ◌++◌, length, List, IfOk, IfErr, OnOk, OnErr, Option, Some, Err};
 ghost use Rattle.affc_rows.specs.Forms.{Affine};
 ghost use Rattle.affc_system.specs.Boxes.{IsBox};
-ghost use Rattle.affc_decide.specs.Words.{AreWords, Says, SaysNone, texts_of};
-ghost use Rattle.affc_decide.specs.Blocks.{Say, ends_of, Limit, Row, AddsRow, IsTaken, Takes, TakesNone, TakesLine, TakesNoLine, begun};
+ghost use Rattle.affc_decide.specs.Words.{Says, texts_of};
+ghost use Rattle.affc_decide.specs.Blocks.{IsKind, Say, ends_of, Limit, Row, AddsRow, IsTaken, Takes, TakesNone, TakesLine, TakesNoLine, begun};
 
+use crate::word::{Fault, find_words, is_word, number};
 use affc_rows::Form;
 use affc_system::{BoxOf, RowFault, System};
 use smallvec::SmallVec;
-use std::alloc::{AllocError, Global};
-use thiserror::Error;
-
-/// Why a line isn't taken.
-#[derive(Debug, Drop, Clone, Copy, PartialEq, Eq, Error)]
-pub enum Fault {
-    #[error("malformed")]
-    Malformed,
-    #[error("out of memory")]
-    Memory,
-}
+use std::alloc::Global;
 
 /// The most boxes that are opened for a system whose block says no limit.
 const LIMIT: u64 = 1_000_000;
@@ -42,18 +33,6 @@ pub enum Line {
     Stopped,
 }
 
-/// A whole number that a word says.
-fn number(word: &str) -> Result<i64, Fault>
-    ensures said { IfOk result (λ n. Says word.now n) }
-    ensures none { OnErr result (SaysNone word.now) }
-    ensures fault { OnErr result (result ≡ Err Fault.Malformed) }
-{
-    match word.parse::<i64>() {
-        Ok(number) => Ok(number),
-        Err(_) => Err(Fault::Malformed),
-    }
-}
-
 /// An empty list with room for so many numbers.
 fn room_for(alloc: Global, count: usize) -> Result<Vec<i64>, Fault>
     ensures none { IfOk result (λ v. v.items ≡ []) }
@@ -66,7 +45,7 @@ fn room_for(alloc: Global, count: usize) -> Result<Vec<i64>, Fault>
 }
 
 /// The whole numbers that words say.
-fn numbers(alloc: Global, words: &[&str]) -> Result<Vec<i64>, Fault>
+fn numbers(alloc: Global, words: &[&[u8]]) -> Result<Vec<i64>, Fault>
     ensures said { IfOk result (λ found. Say (texts_of words.now) found.items) }
     ensures none { IfErr result (λ e. e ≡ Fault.Malformed → (said : List ℤ) → Say (texts_of words.now) said → ⊥) }
 {
@@ -81,7 +60,7 @@ fn numbers(alloc: Global, words: &[&str]) -> Result<Vec<i64>, Fault>
 }
 
 /// A block's first line.
-fn begin(alloc: Global, columns: &str, rows: &str) -> Result<Block, Fault>
+fn begin(alloc: Global, columns: &[u8], rows: &[u8]) -> Result<Block, Fault>
     ensures said { IfOk result (λ b. Says columns.now (pos b.columns) × Says rows.now (pos b.rows)) }
     ensures small { IfOk result (λ b. (b.columns ≤ 128) × (b.rows ≤ 1024)) }
     ensures fresh { IfOk result (λ b. b ≡ begun b.columns b.rows) }
@@ -128,32 +107,32 @@ fn box_of(alloc: Global, ends: &[i64], columns: u32) -> Result<BoxOf, Fault>
 }
 
 /// A row of coefficients and a constant.
-fn row_of(alloc: Global, entries: &[i64]) -> Result<Form, Fault>
-    ensures entries { IfOk result (λ f. f.coefs ++ f.constant ∷ [] ≡ entries.now) }
-    ensures none { IfErr result (λ e. e ≡ Fault.Malformed → entries.now ≡ []) }
+fn row_of(alloc: Global, words: &[&[u8]]) -> Result<Form, Fault>
+    ensures said { IfOk result (λ f. Say (texts_of words.now) (f.coefs ++ f.constant ∷ [])) }
+    ensures none { IfErr result (λ e. e ≡ Fault.Malformed → (f : Affine) → Say (texts_of words.now) (f.coefs ++ f.constant ∷ []) → ⊥) }
 {
-    let [front @ .., constant] = entries else {
-        return Err(Fault::Malformed);
-    };
-    let mut coefs = SmallVec::new(alloc);
-    for c in front {
-        let Ok(()) = coefs.push(i128::from(*c)) else {
+    let mut entries = SmallVec::new(alloc);
+    for word in words {
+        let n = number(word)?;
+        let Ok(()) = entries.push(i128::from(n)) else {
             return Err(Fault::Memory);
         };
     }
-    Ok(Form {
-        coefs,
-        constant: i128::from(*constant),
-    })
+    match entries.pop() {
+        Some(constant) => Ok(Form {
+            coefs: entries,
+            constant,
+        }),
+        None => Err(Fault::Malformed),
+    }
 }
 
 /// Adds a row to a block.
-fn add_row(alloc: Global, block: &mut Block, entries: &[i64]) -> Result<(), Fault>
-    ensures added { OnOk result ((f : Affine) × (f.coefs ++ f.constant ∷ [] ≡ entries.now) × AddsRow block.old f (Some block.new)) }
-    ensures none { IfErr result (λ e. e ≡ Fault.Malformed → (f : Affine) (after : Option Block) → f.coefs ++ f.constant ∷ [] ≡ entries.now → AddsRow block.old f after → ⊥) }
+fn add_row(block: &mut Block, row: Form) -> Result<(), Fault>
+    ensures added { OnOk result (AddsRow block.old row (Some block.new)) }
+    ensures none { IfErr result (λ e. e ≡ Fault.Malformed → (after : Option Block) → AddsRow block.old row after → ⊥) }
     ensures kept { OnErr result (block.new ≡ block.old) }
 {
-    let row = row_of(alloc, entries)?;
     if block.ranges.is_none()
         || row.coefs.len() != block.system.columns() as usize
         || block.system.rows().len() >= block.rows
@@ -168,35 +147,39 @@ fn add_row(alloc: Global, block: &mut Block, entries: &[i64]) -> Result<(), Faul
 }
 
 /// A line of numbers: a row, which the ranges have to come before.
-fn add_numbers(alloc: Global, block: &mut Option<Block>, words: &[&str]) -> Result<(), Fault>
+fn add_numbers(alloc: Global, block: &mut Option<Block>, words: &[&[u8]]) -> Result<(), Fault>
     ensures taken { OnOk result (Takes (texts_of words.now) block.old Line.Nothing block.new) }
     ensures none { IfErr result (λ e. e ≡ Fault.Malformed → (row : Affine) (added : Line) (after : Option Block) → Say (texts_of words.now) (row.coefs ++ row.constant ∷ []) → IsTaken (Row row) block.old added after → ⊥) }
     ensures kept { OnErr result (block.new ≡ block.old) }
 {
-    let entries = numbers(alloc, words)?;
+    let row = row_of(alloc, words)?;
     match block {
-        Some(block) => add_row(alloc, block, entries.as_slice()),
+        Some(block) => add_row(block, row),
         None => Err(Fault::Malformed),
     }
 }
 
 /// A block's first line, behind its first word.
-fn read_system(alloc: Global, block: &mut Option<Block>, more: &[&str]) -> Result<(), Fault>
+fn read_system(alloc: Global, block: &mut Option<Block>, more: &[&[u8]]) -> Result<(), Fault>
     ensures taken { OnOk result (Takes (codes "system" ∷ texts_of more.now) block.old Line.Nothing block.new) }
     ensures none { IfErr result (λ e. e ≡ Fault.Malformed → TakesNone (codes "system" ∷ texts_of more.now) block.old) }
     ensures kept { OnErr result (block.new ≡ block.old) }
 {
-    match more {
-        [_name, "columns", columns, "rows", rows] => {
-            *block = Some(begin(alloc, columns, rows)?);
-            Ok(())
-        }
-        _ => Err(Fault::Malformed),
+    let [_name, second, columns, fourth, rows] = more else {
+        return Err(Fault::Malformed);
+    };
+    if !is_word(second, b"columns") {
+        return Err(Fault::Malformed);
     }
+    if !is_word(fourth, b"rows") {
+        return Err(Fault::Malformed);
+    }
+    *block = Some(begin(alloc, columns, rows)?);
+    Ok(())
 }
 
 /// Sets the box of a block.
-fn set_ranges(alloc: Global, block: &mut Option<Block>, more: &[&str]) -> Result<(), Fault>
+fn set_ranges(alloc: Global, block: &mut Option<Block>, more: &[&[u8]]) -> Result<(), Fault>
     ensures taken { OnOk result (Takes (codes "ranges" ∷ texts_of more.now) block.old Line.Nothing block.new) }
     ensures none { IfErr result (λ e. e ≡ Fault.Malformed → TakesNone (codes "ranges" ∷ texts_of more.now) block.old) }
     ensures kept { OnErr result (block.new ≡ block.old) }
@@ -213,7 +196,7 @@ fn set_ranges(alloc: Global, block: &mut Option<Block>, more: &[&str]) -> Result
 }
 
 /// Sets the limit of a block.
-fn set_limit(block: &mut Option<Block>, limit: &str) -> Result<(), Fault>
+fn set_limit(block: &mut Option<Block>, limit: &[u8]) -> Result<(), Fault>
     ensures taken { OnOk result ((l : ℕ) × Says limit.now (pos l) × IsTaken (Limit l) block.old Line.Nothing block.new) }
     ensures none { OnErr result ((l : ℕ) (added : Line) (after : Option Block) → Says limit.now (pos l) → IsTaken (Limit l) block.old added after → ⊥) }
     ensures fault { OnErr result (result ≡ Err Fault.Malformed) }
@@ -230,7 +213,7 @@ fn set_limit(block: &mut Option<Block>, limit: &str) -> Result<(), Fault>
 }
 
 /// A line of a limit, behind its first word.
-fn read_limit(block: &mut Option<Block>, more: &[&str]) -> Result<(), Fault>
+fn read_limit(block: &mut Option<Block>, more: &[&[u8]]) -> Result<(), Fault>
     ensures taken { OnOk result (Takes (codes "limit" ∷ texts_of more.now) block.old Line.Nothing block.new) }
     ensures none { OnErr result (TakesNone (codes "limit" ∷ texts_of more.now) block.old) }
     ensures fault { OnErr result (result ≡ Err Fault.Malformed) }
@@ -243,23 +226,53 @@ fn read_limit(block: &mut Option<Block>, more: &[&str]) -> Result<(), Fault>
 }
 
 /// What is expected, behind the line's first word.
-fn expected(alloc: Global, more: &[&str]) -> Result<Line, Fault>
+fn expected(alloc: Global, more: &[&[u8]]) -> Result<Line, Fault>
     ensures taken { IfOk result (λ added. (before : Option Block) → Takes (codes "expect" ∷ texts_of more.now) before added before) }
     ensures none { IfErr result (λ e. e ≡ Fault.Malformed → (before : Option Block) → TakesNone (codes "expect" ∷ texts_of more.now) before) }
 {
     let [first, point @ ..] = more else {
         return Err(Fault::Malformed);
     };
-    match *first {
-        "empty" if point.is_empty() => Ok(Line::Empty),
-        "stopped" if point.is_empty() => Ok(Line::Stopped),
-        "point" => Ok(Line::Point(numbers(alloc, point)?)),
-        _ => Err(Fault::Malformed),
+    if is_word(first, b"point") {
+        return Ok(Line::Point(numbers(alloc, point)?));
+    }
+    if !point.is_empty() {
+        return Err(Fault::Malformed);
+    }
+    if is_word(first, b"empty") {
+        return Ok(Line::Empty);
+    }
+    if is_word(first, b"stopped") {
+        return Ok(Line::Stopped);
+    }
+    Err(Fault::Malformed)
+}
+
+/// What a line is, by its first word.
+#[derive(Clone, Copy)]
+pub enum Kind {
+    System,
+    Ranges,
+    Limit,
+    Expect,
+    Row,
+}
+
+/// The kind of the lines that begin with a word.
+fn kind_of(word: &[u8]) -> Kind
+    ensures { IsKind result word.now }
+{
+    match word {
+        b"system" => Kind::System,
+        b"ranges" => Kind::Ranges,
+        b"limit" => Kind::Limit,
+        b"expect" => Kind::Expect,
+        _ => Kind::Row,
     }
 }
 
 /// Reads a line's words into a block.
-fn read_words(alloc: Global, block: &mut Option<Block>, words: &[&str]) -> Result<Line, Fault>
+fn read_words(alloc: Global, block: &mut Option<Block>, words: &[&[u8]]) -> Result<Line, Fault>
     ensures taken { IfOk result (λ added. Takes (texts_of words.now) block.old added block.new) }
     ensures none { IfErr result (λ e. e ≡ Fault.Malformed → TakesNone (texts_of words.now) block.old) }
     ensures kept { OnErr result (block.new ≡ block.old) }
@@ -267,39 +280,27 @@ fn read_words(alloc: Global, block: &mut Option<Block>, words: &[&str]) -> Resul
     let [first, more @ ..] = words else {
         return Ok(Line::Nothing);
     };
-    match *first {
-        "system" => read_system(alloc, block, more)?,
-        "ranges" => set_ranges(alloc, block, more)?,
-        "limit" => read_limit(block, more)?,
-        "expect" => return expected(alloc, more),
-        _ => add_numbers(alloc, block, words)?,
+    match kind_of(first) {
+        Kind::System => read_system(alloc, block, more)?,
+        Kind::Ranges => set_ranges(alloc, block, more)?,
+        Kind::Limit => read_limit(block, more)?,
+        Kind::Expect => return expected(alloc, more),
+        Kind::Row => add_numbers(alloc, block, words)?,
     }
     Ok(Line::Nothing)
 }
 
-/// How many words there is room for at once.
-const FEW_WORDS: usize = 16;
-
-/// The words of a line.
-fn words_of<'a>(alloc: Global, line: &'a str) -> Result<Vec<&'a str>, Fault>
-    ensures words { IfOk result (λ v. AreWords line.now (texts_of v.items)) }
-    ensures fault { OnErr result (result ≡ Err Fault.Memory) }
-{
-    let Ok(mut words) = Vec::with_capacity(alloc, FEW_WORDS) else {
-        return Err(Fault::Memory);
-    };
-    let Ok(()) = words.extend(line.split_ascii_whitespace()) else {
-        return Err(Fault::Memory);
-    };
-    Ok(words)
-}
-
-/// Reads a line into a block.
-pub fn read_line(alloc: Global, block: &mut Option<Block>, line: &str) -> Result<Line, Fault>
+/// Reads a line into a block. Its words are put in place of those that were there.
+pub fn read_line<'a>(
+    alloc: Global,
+    block: &mut Option<Block>,
+    words: &mut Vec<&'a [u8]>,
+    line: &'a [u8],
+) -> Result<Line, Fault>
     ensures taken { IfOk result (λ added. TakesLine line.now block.old added block.new) }
     ensures none { IfErr result (λ e. e ≡ Fault.Malformed → TakesNoLine line.now block.old) }
     ensures kept { OnErr result (block.new ≡ block.old) }
 {
-    let words = words_of(alloc, line)?;
+    find_words(line, words)?;
     read_words(alloc, block, words.as_slice())
 }

@@ -2,6 +2,7 @@
 #![tactic(auto)]
 
 mod block;
+mod word;
 
 ghost use Rattle.std.specs.Prelude.{◌≡◌, ◌≢◌, ◌<◌, ◌^◌, ◌↔◌, ◌⊎◌, IfOk, IsTrue, IsSomeAnd};
 ghost use Rattle.affc_split.specs.Openings.{nodes};
@@ -9,11 +10,12 @@ ghost use Rattle.affc_decide.specs.Blocks.{IsExpected, IsReady, TakesLine, Takes
 
 use affc_farkas::Proof;
 use affc_split::{Answer, Budget, Stop, decide, within_reach};
-use block::{Block, Fault, Line, read_line};
+use block::{Block, Line, read_line};
 use std::alloc::Global;
 use std::io;
-use std::io::{BufRead, BufReader, BufWriter, ErrorKind, Write};
+use std::io::{BufWriter, ErrorKind, Read, Write};
 use std::process::ExitCode;
+use word::Fault;
 
 /// What the answers were.
 #[derive(Clone, Copy)]
@@ -113,17 +115,18 @@ fn settle(
 }
 
 /// Takes a line. Answers whether it is well formed.
-fn take(
+fn take<'a>(
     alloc: Global,
     out: &mut impl Write,
     block: &mut Option<Block>,
-    line: &str,
+    words: &mut Vec<&'a [u8]>,
+    line: &'a [u8],
     totals: &mut Totals,
 ) -> io::Result<bool>
     ensures taken { IfOk result (λ fine. IsTrue fine → (added : Line) × TakesLine line.now block.old added block.new × ((added ≡ Line.Nothing) ⊎ IsSomeAnd block.new IsReady)) }
     ensures malformed { IfOk result (λ fine. ¬ (IsTrue fine) → TakesNoLine line.now block.old ⊎ ((added : Line) × TakesLine line.now block.old added block.new × (added ≢ Line.Nothing) × ¬ (IsSomeAnd block.new IsReady))) }
 {
-    match read_line(alloc, block, line) {
+    match read_line(alloc, block, words, line) {
         Ok(Line::Nothing) => Ok(true),
         Ok(expected) => match block {
             Some(block) => settle(alloc, out, block, &expected, totals),
@@ -134,22 +137,18 @@ fn take(
     }
 }
 
-/// Reads all lines. Answers the number of the first line that is malformed.
+/// Takes all lines of a text. Answers the number of the first line that is malformed.
 fn run(
     alloc: Global,
-    input: &mut impl BufRead,
+    text: &[u8],
     out: &mut impl Write,
     totals: &mut Totals,
-) -> io::Result<Option<u64>> {
+) -> io::Result<Option<usize>> {
     let mut block = None;
-    let mut text = String::new(alloc);
-    for count in 0..u64::MAX {
-        text.clear();
-        if input.read_line(&mut text)? == 0 {
-            break;
-        }
-        if !take(alloc, out, &mut block, text.as_str(), totals)? {
-            return Ok(Some(count + 1));
+    let mut words = Vec::new(alloc);
+    for (before, line) in text.split(|byte| *byte == b'\n').enumerate() {
+        if !take(alloc, out, &mut block, &mut words, line, totals)? {
+            return Ok(Some(before.saturating_add(1)));
         }
     }
     Ok(None)
@@ -163,9 +162,10 @@ fn main(rt: HostRuntime) -> io::Result<ExitCode> {
         units: 0,
         wrong: 0,
     };
-    let mut input = BufReader::new(rt.alloc(), rt.reader())?;
+    let mut text = Vec::new(rt.alloc());
+    rt.reader().read_to_end(&mut text)?;
     let mut out = BufWriter::new(rt.alloc(), io::writer(&rt))?;
-    let malformed = run(rt.alloc(), &mut input, &mut out, &mut totals)?;
+    let malformed = run(rt.alloc(), text.as_slice(), &mut out, &mut totals)?;
     if let Some(line) = malformed {
         out.flush()?;
         eprintln!(rt; "line {line} is malformed")?;

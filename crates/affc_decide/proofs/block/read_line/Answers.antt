@@ -6,5 +6,6 @@ use Rattle.affc_decide.proofs.block.read_line.Goals as goal
 
 pub returns-clause-none : goal.returns-clause-none
 returns-clause-none c =
-    let words : AreWords c.args.line.now (texts_of c.in_ok-words.words.items) = search rules in
-    if_err_then c.read_words.result (λ e none is. (texts_of c.in_ok-words.words.items, words, subst (λ (ws : List (Bor (List ℕ))). TakesNone (texts_of ws) c.args.block.now) c.as_slice.ensures.value (none is))) c.read_words.ensures.none
+    let found = c.find_words.new.words.items in
+    let words : AreWords c.args.line.now (texts_of found) = search rules in
+    if_err_then c.read_words.result (λ e none is. (texts_of found, words, subst (λ (ws : List (Bor (List ℕ))). TakesNone (texts_of ws) c.args.block.now) c.as_slice.ensures.value (none is))) c.read_words.ensures.none
