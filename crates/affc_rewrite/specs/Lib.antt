@@ -1,0 +1,3 @@
+pub mod Rewrite
+pub mod Laws
+pub mod Examples

@@ -1,0 +1,12 @@
+//! What holds of the folded program. Each law is the contract of a function that does nothing.
+ghost use Rattle.affc_rewrite.specs.Laws.{PrintedFolds, FoldedProgramCompiles};
+
+/// The printed subscripts are of the places, and what is read keeps within `int64_t`.
+pub fn printed_folds()
+    ensures law { PrintedFolds }
+{}
+
+/// The loops of the folded program compile the source.
+pub fn folded_program_compiles()
+    ensures law { FoldedProgramCompiles }
+{}
