@@ -16,7 +16,7 @@ use Rattle.affc_basis.specs.Bases.{AreWithin}
 use Rattle.affc_basis.specs.Moduli.{IsModulus, ArePositive, remainders}
 use Rattle.affc_placed.proofs.Remainder.{remainder_is_read}
 use Rattle.affc_rewrite.specs.Rewrite.{is_one, is_unit, same_form, printed, component, components_from}
-use Rattle.affc_rewrite.proofs.PrintedForms.{printed_is, printed_reads, modulus_below, AllSides, IsRow, row_below, row_value, row_width}
+use Rattle.affc_rewrite.proofs.PrintedForms.{printed_is, printed_reads, modulus_below, AllSides, IsRow, no_more, row_below, row_value, row_width}
 use Rattle.affc_rewrite.proofs.Tests.{one_value, unit_value, same_value, no_remainder, own_remainder}
 
 module _ (p : List ℤ) (first : ℕ) (at_first : first ≡ length p) (few : length p ≤ 4) (near_p : AreWithin (2 ^ 24) p) where
@@ -58,14 +58,16 @@ module _ (p iterators : List ℤ) (gs : List Affine) (first : ℕ) (at_first : f
 
   component_is : 1 ≤ length gs → (k : ℕ) (row b extent : Affine) (own : Ix) → IsRow (length gs) row → IsModulus (length p) b → pos 1 ≤ℤ value b p → IsReadable own names
       → get_or element k (pos 0) ≡ whole own names → pos 0 ≤ℤ whole own names → whole own names <ℤ value extent p → IsComponent row b (component first gs k row b extent own)
-  component_is some k row b extent own is_row is_modulus positive reads there low high = by (is_one b) (is_unit k row.coefs && same_form b extent) refl refl
+  component_is some k row b extent own is_row is_modulus positive reads there low high = by (is_one b) (is_unit k row && same_form b extent) refl refl
     where
-      by : (t u : Bool) → is_one b ≡ t → (is_unit k row.coefs && same_form b extent) ≡ u
+      by : (t u : Bool) → is_one b ≡ t → (is_unit k row && same_form b extent) ≡ u
           → IsComponent row b (if t then Lit (pos 0) else (if u then own else Mod (printed first (composed_form row gs)) (printed first b)))
       by true u e f = (sym (no_remainder (dot row.coefs element) (value b p) (one_value b p e)), λ node. refl)
       by false true e f =
-          let both = both_true (is_unit k row.coefs) (same_form b extent) f in
-          let same : dot row.coefs element ≡ whole own names = unit_value k row.coefs element both.0 ∙ there in
+          let both = both_true (is_unit k row) (same_form b extent) f in
+          let wide : length row.coefs ≡ length gs = is_row.columns in
+          let same : dot row.coefs element ≡ whole own names =
+          sym (no_more (dot row.coefs element) row.constant is_row.no_constant) ∙ unit_value k row element (wide ∙ sym (values_long gs names)) both.0 ∙ there in
           let less : whole own names <ℤ value b p = subst (λ n. whole own names <ℤ n) (sym (same_value b extent p both.1)) high in
           (sym (ap (λ x. int_rem_euclid x (value b p)) same ∙ own_remainder (whole own names) (value b p) low less), reads)
       by false false e f =

@@ -1,7 +1,8 @@
 -- The printed subscripts and extents are those of the folds.
-use Rattle.std.proofs.Common.{◌≡◌, ℕ, zero, suc, ◌+◌, ◌<◌, ◌≤◌, ◌^◌, ℤ, pos, ◌&&◌, int_le, int_lt, IsTrue, true, true≢false, List, [], ◌∷◌, ◌++◌, length, get_or, map, Option, Some, None, refl, sym, ap, subst, ◌∙◌, inl, inr, arith}
+use Rattle.std.proofs.Common.{◌≡◌, ℕ, zero, suc, ◌+◌, ◌<◌, ◌≤◌, ◌^◌, ℤ, pos, Bool, ◌&&◌, int_le, int_lt, IsTrue, true, true≢false, if◌then◌else◌, List, [], ◌∷◌, ◌++◌, length, get_or, map, Option, Some, None, refl, sym, ap, subst, ◌∙◌, inl, inr, arith}
 use Rattle.std.specs.Prelude.{slice_get}
 use Rattle.std.specs.List.{All}
+use Rattle.std.proofs.lemmas.Bool.{eq-eqb}
 use Rattle.std.proofs.lemmas.Option.{none-some, same_Some, slice_get_within}
 use Rattle.affc_rows.specs.Forms.{Affine, value, columns_of, values_of}
 use Rattle.affc_ast.specs.declared.tree.ArrayId.{ArrayId}
@@ -14,6 +15,7 @@ use Rattle.affc_ast.specs.Meaning.{arrays_of}
 use Rattle.affc_ast.specs.Store.{Element}
 use Rattle.affc_ast.specs.Trace.{Assignment, assignments, element, trace}
 use Rattle.affc_ast.specs.Values.{is_within}
+use Rattle.affc_trace.specs.declared.schedule.Schedule.{Schedule}
 use Rattle.affc_trace.specs.Law.{IsIn}
 use Rattle.affc_trace.specs.Laws.{IsInContext}
 use Rattle.affc_trace.specs.Target.{numbers_in}
@@ -33,14 +35,16 @@ use Rattle.affc_loops.proofs.Pieces.{numbers_are}
 use Rattle.affc_basis.specs.declared.fold.Fold.{Fold}
 use Rattle.affc_basis.specs.Bases.{AreWithin}
 use Rattle.affc_basis.specs.FoldLists.{IsFoldIn, AreFoldsIn}
-use Rattle.affc_basis.specs.Folds.{KeepsLimits, forms_of, fold_of, folded_by, place}
+use Rattle.affc_basis.specs.Folds.{KeepsLimits, forms_of, fold_of, folded, folded_by, place}
 use Rattle.affc_basis.specs.Moduli.{IsModulus, ArePositive, remainders}
 use Rattle.affc_basis.proofs.FoldsFound.{folds_are_found}
-use Rattle.affc_placed.specs.Refolds.{FoldsBy}
-use Rattle.affc_placed.proofs.FoldedLaws.{refolded_loops_compile}
-use Rattle.affc_placed.proofs.ReplaceLemmas.{accesses_read, behind_extents, fold_in}
-use Rattle.affc_rewrite.specs.Laws.{PrintedFolds, FoldedProgramCompiles}
-use Rattle.affc_rewrite.specs.Rewrite.{subscripts_by, extent_forms, folded_subscripts, folded_temps, KeepLimits}
+use Rattle.affc_placed.specs.Placed.{Replaces, HasFoldedLoops}
+use Rattle.affc_placed.specs.Refolds.{refolded, FoldsBy}
+use Rattle.affc_placed.proofs.FoldedLaws.{folded_loops_compile}
+use Rattle.affc_placed.proofs.RefoldLemmas.{refolded_keeps_shape}
+use Rattle.affc_placed.proofs.ReplaceLemmas.{accesses_read, behind_extents, fold_in, refolded_replaces}
+use Rattle.affc_rewrite.specs.Laws.{PrintedFolds, FoldedProgramReplaces, FoldedProgramCompiles}
+use Rattle.affc_rewrite.specs.Rewrite.{components_from, subscripts_by, extent_forms, folded_subscripts, folded_temps, has_calls, folded_program, KeepLimits}
 use Rattle.affc_rewrite.proofs.Accesses.{access_touches, sides_of, extents_are, parameters_are, named}
 use Rattle.affc_rewrite.proofs.Components.{components_are}
 use Rattle.affc_rewrite.proofs.PrintedForms.{all_at, AllSides, IsRow, columns_known}
@@ -73,7 +77,7 @@ rows_of fold j row e =
     let basis = fold.basis in
     record {
       columns = all_at (λ (f : Affine). length f.coefs ≡ length basis.rows) basis.rows j row (basis.square).columns e;
-      bounded = all_at _ basis.rows j row basis.row_bounds e;
+      bounded = all_at (λ (f : Affine). AreWithin 256 f.coefs) basis.rows j row basis.row_bounds e;
       no_constant = (basis.identity j (slice_get_within basis.rows j row e)).row row e;
     }
 
@@ -105,14 +109,14 @@ module _ (source : Program) (folds : List (ArrayId × Fold)) (p : List ℤ) (pla
   -- the elements of an access, and that its subscripts are read
   abbrev IsPrinted : (names : List ℤ) → Access → Option Fold → Type 0
   IsPrinted names x o =
-      let es : List Ix = subscripts_by o first (length names) (extent_forms source x.0.0) x.1 in
+      let es : List Ix = subscripts_by o first (length names) (get_or (extent_forms source) x.0.0 []) x.1 in
       (map (λ e. whole e names) es ≡ folded_by o p (map (λ e. whole e names) x.1)) × AreReadable es names
 
   inside : (b : Instance) (a : Assignment) (x : Access) → IsIn b (trace source p) → slice_get (assignments source) b.statement ≡ Some a → IsIn x (accesses_of a)
       → is_within (map (λ e. whole e (p ++ b.iterators)) x.1) (get_or (extents_at (declared_arrays source) p) x.0.0 []) ≡ true
   inside b a x i e j = safe.within b (element (p ++ b.iterators) x.0 x.1) i (access_touches source p b a x e j)
 
-  extents_known : (array : ℕ) → map (λ f. value f p) (extent_forms source array) ≡ get_or (extents_at (declared_arrays source) p) array []
+  extents_known : (array : ℕ) → map (λ f. value f p) (get_or (extent_forms source) array []) ≡ get_or (extents_at (declared_arrays source) p) array []
   extents_known array =
       extents_are first p (declared_arrays source) array (sym at_first)
       (subst (λ n. IsTrue (plain_decls n (declared_arrays source))) (sym (numbers_are source.params)) (plain_append (length (number_ranges source.params)) (arrays_of source.params) source.temps plain.arrays plain.temps))
@@ -139,7 +143,7 @@ module _ (source : Program) (folds : List (ArrayId × Fold)) (p : List ℤ) (pla
           place_by fold f x.1 n.short n.near n.plain (sym long ∙ known) reads (ap (is_within (map (λ e. whole e names) x.1)) (extents_known x.0.0) ∙ here)
         where
           place_by : (fold : Fold) → fold_of folds x.0.0 ≡ Some fold → (subs : List Ix) → length names ≤ 10 → AreWithin (2 ^ 31) names → IsTrue (all_plain (length names) subs)
-              → length fold.basis.rows ≡ length subs → AreReadable subs names → is_within (map (λ e. whole e names) subs) (map (λ f. value f p) (extent_forms source x.0.0)) ≡ true
+              → length fold.basis.rows ≡ length subs → AreReadable subs names → is_within (map (λ e. whole e names) subs) (map (λ f. value f p) (get_or (extent_forms source) x.0.0 [])) ≡ true
               → IsPrinted names (x.0, subs) (Some fold)
           place_by fold f subs short near plain_subs long reads here =
               let n : ℕ = length names in
@@ -151,10 +155,12 @@ module _ (source : Program) (folds : List (ArrayId × Fold)) (p : List ℤ) (pla
               let same : length fold.basis.rows ≡ length gs = long ∙ sym count in
               let few : length fold.basis.rows ≤ 4 = ((fold.basis).square).few in
               let place =
-              components_are p b.iterators gs first at_first params.few params.near short near sides (omega arith) (columns_known n gs sides) 0 fold.basis.rows (forms_of fold.moduli) (extent_forms source x.0.0) subs []
+              components_are p b.iterators gs first at_first params.few params.near short near sides (omega arith) (columns_known n gs sides) 0 fold.basis.rows (forms_of fold.moduli) (get_or (extent_forms source) x.0.0 []) subs []
               refl (sym element) long (length_map (λ m. m.form) fold.moduli ∙ fold.one_each) (λ k row e. subst (λ d. IsRow d row) same (rows_of fold k row e)) (moduli_fit x.0.0 fold f) (positive x.0.0 fold f)
               reads here in
-              (place.0 ∙ ap (remainders p fold.basis.rows (forms_of fold.moduli)) element, place.1)
+              let components : List Ix = components_from first gs 0 fold.basis.rows (forms_of fold.moduli) (get_or (extent_forms source) x.0.0 []) subs in
+              subst (λ t. let es : List Ix = if t then components else subs in (map (λ e. whole e names) es ≡ folded fold p (map (λ e. whole e names) subs)) × AreReadable es names)
+              (sym (eq-eqb (length subs) (length fold.basis.rows) (sym long))) (place.0 ∙ ap (remainders p fold.basis.rows (forms_of fold.moduli)) element, place.1)
 
   -- an array whose number is past those of all temporaries has no fold
   no_further : (k : ℕ) → length source.temps ≤ k → fold_of folds (length (arrays_of source.params) + k) ≡ None
@@ -192,12 +198,43 @@ entry_too [] (c ∷ moduli) l k b e = absurd (omega arith)
 entry_too (row ∷ rows) (c ∷ moduli) l zero b e = (row, refl)
 entry_too (row ∷ rows) (c ∷ moduli) l (suc k) b e = entry_too rows moduli (omega arith) k b e
 
+module _ (source : Program) (schedule : Schedule) (folds : List (ArrayId × Fold)) (has : HasFoldedLoops source schedule folds) (limits : KeepLimits source folds) where
+  -- where the program is safe
+  safe_at : (p : List ℤ) → IsInContext source p → IsSafe source p
+  safe_at p inside = never_stuck_is_safe source p (plain_has_no_locals source (has.loops).plain) inside (has.ends p)
+
+  folds_at : (p : List ℤ) → IsInContext source p → FoldsBy (folded_subscripts source folds) (folded_temps source folds) source folds p
+  folds_at p inside =
+      printed_folds source folds p (has.loops).plain (has.loops).near inside.ranges (safe_at p inside) has.folds_in limits
+      (λ array fold e k b f.
+          let row = entry_too fold.basis.rows (forms_of fold.moduli) (length_map (λ m. m.form) fold.moduli ∙ fold.one_each) k b f in
+          (has.obeys p inside array fold e k row.0 b row.1 f).0)
+
+  replaces_at : (p : List ℤ) → IsInContext source p → Replaces (refolded (folded_subscripts source folds) (folded_temps source folds) source) source (place folds p) p
+  replaces_at p inside =
+      refolded_replaces (folded_subscripts source folds) (folded_temps source folds) source folds p (plain_has_no_locals source (has.loops).plain) inside.ranges
+      (plain_never_overflows source p (has.loops).plain (has.loops).near inside.ranges) (safe_at p inside) has.folds_in (folds_at p inside)
+
+-- no run looks at whether the text has the prelude
+with_prelude : (b : Bool) (other source : Program) (place : Element → Element) (p : List ℤ) → Replaces other source place p → Replaces (record other { prelude = b }) source place p
+with_prelude b other source place p r = record {
+  stands = record { bare = (r.stands).bare; same_trace = (r.stands).same_trace; same_effects = (r.stands).same_effects };
+  small = record { near = (r.small).near; extents = (r.small).extents; assignments = (r.small).assignments };
+  extents = r.extents;
+  within = r.within;
+}
+
+pub folded_program_replaces : FoldedProgramReplaces
+folded_program_replaces source schedule folds has limits =
+    let at = folded_subscripts source folds in
+    let temps = folded_temps source folds in
+    record {
+      name = refl;
+      params = refl;
+      context = refl;
+      same_rounds = ((refolded_keeps_shape at temps source).same_loops).same_rounds;
+      replaces = λ p inside. with_prelude (has_calls (refolded at temps source)) (refolded at temps source) source (place folds p) p (replaces_at source schedule folds has limits p inside);
+    }
+
 pub folded_program_compiles : FoldedProgramCompiles
-folded_program_compiles source schedule folds has limits =
-    refolded_loops_compile (folded_subscripts source folds) (folded_temps source folds) source schedule folds has
-    (λ p inside.
-        let plain = (has.loops).plain in
-        printed_folds source folds p plain (has.loops).near inside.ranges (never_stuck_is_safe source p (plain_has_no_locals source plain) inside (has.ends p)) has.folds_in limits
-        (λ array fold e k b f.
-            let row = entry_too fold.basis.rows (forms_of fold.moduli) (length_map (λ m. m.form) fold.moduli ∙ fold.one_each) k b f in
-            (has.obeys p inside array fold e k row.0 b row.1 f).0))
+folded_program_compiles source schedule folds has limits = folded_loops_compile (folded_program source folds) source schedule folds has (folded_program_replaces source schedule folds has limits)

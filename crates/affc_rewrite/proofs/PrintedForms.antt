@@ -16,7 +16,7 @@ use Rattle.affc_safe.specs.Overflow.{IsReadable}
 use Rattle.affc_nest.specs.Sides.{AreNear, IsSide}
 use Rattle.affc_loops.proofs.FormReads.{form_reads}
 use Rattle.affc_loops.proofs.FormTrees.{form_is}
-use Rattle.affc_loops.proofs.Sizes.{many, many_more}
+use Rattle.affc_loops.proofs.Sizes.{many}
 use Rattle.affc_basis.specs.Bases.{AreWithin}
 use Rattle.affc_basis.specs.Moduli.{IsModulus}
 use Rattle.affc_rewrite.specs.Rewrite.{printed}
@@ -36,6 +36,11 @@ product_below a b c d h k =
     let p : a * b ≤ a * d = mul-le-mul_left a k in
     let q : a * d ≤ c * d = mul-le-mul_right d h in
     omega (arith, p, q)
+
+many_more : (m n k : ℕ) → m ≤ n → many m k ≤ many n k
+many_more zero n k h = omega arith
+many_more (suc m) zero k h = absurd (omega arith)
+many_more (suc m) (suc n) k h = let r : many m k ≤ many n k = many_more m n k (omega arith) in omega arith
 
 pub dot_below : (cs xs : List ℤ) (c x : ℕ) → AreWithin c cs → AreWithin x xs → dot_magnitude cs xs ≤ many (length xs) (c * x)
 dot_below [] xs c x h k = omega arith
@@ -119,7 +124,7 @@ composed_within cs n gs h s few j (suc m) =
     All-cons (λ c. unsigned_abs c ≤ most_coef) (dot cs (column_of j gs)) (composed cs gs (suc j) m)
     (few_below cs (column_of j gs) 256 (2 ^ 16) 4 h (column_within n j gs s) (omega arith)) (composed_within cs n gs h s few (suc j) m)
 
-no_more : (z c : ℤ) → c ≡ pos 0 → z +ℤ c ≡ z
+pub no_more : (z c : ℤ) → c ≡ pos 0 → z +ℤ c ≡ z
 no_more z c e = ap (λ c. z +ℤ c) e ∙ same z
   where
     same : (z : ℤ) → z +ℤ pos 0 ≡ z

@@ -14,16 +14,18 @@ name n = Name (record { 0 = n })
 
 -- ---- Forms
 
+abbrev row : ℤ → ℤ → Affine
+row a b = record { coefs = a ∷ b ∷ []; constant = pos 0 }
+
 abbrev pub OnesAndUnits : Type 0
 OnesAndUnits =
     (is_one (number 1) ≡ true)
     × (is_one (number 2) ≡ false)
     × (is_one one_more ≡ false)
-    × (is_unit 1 (pos 0 ∷ pos 1 ∷ []) ≡ true)
-    × (is_unit 0 (pos 0 ∷ pos 1 ∷ []) ≡ false)
-    × (is_unit 1 (pos 1 ∷ pos 1 ∷ []) ≡ false)
-    × (is_unit 1 (pos 0 ∷ negsuc 0 ∷ []) ≡ false)
-    × (is_unit 2 (pos 0 ∷ pos 0 ∷ []) ≡ false)
+    × (is_unit 1 (row (pos 0) (pos 1)) ≡ true)
+    × (is_unit 0 (row (pos 0) (pos 1)) ≡ false)
+    × (is_unit 1 (row (pos 1) (pos 1)) ≡ false)
+    × (is_unit 1 (row (pos 0) (negsuc 0)) ≡ false)
     × (same_form one_more one_more ≡ true)
     × (same_form one_more two_more ≡ false)
     × (same_form one_more (number 1) ≡ false)
@@ -34,25 +36,24 @@ OnesAndUnits =
 abbrev pub BlurIsFolded : Type 0
 BlurIsFolded = folded_program blur folds ≡ folded_blur
 
--- without a fold the text is its own
+-- Without a fold the text is its own. Under the modulus N + 2, which is the extent, it is also but for the extent's form; and
+-- neither calls a remainder.
 abbrev pub NothingIsFolded : Type 0
-NothingIsFolded = folded_program blur [] ≡ record blur { prelude = true }
+NothingIsFolded = (folded_program blur [] ≡ blur) × (folded_program blur (fold_at 2 (by_modulus two_more) ∷ []) ≡ blur)
 
--- by N + 1: t[affc_mod(i + 2, N + 1)], of N + 1 elements; and by its own extent, N + 2, t[i + 2]
+-- by N + 1: t[affc_mod(i + 2, N + 1)], of N + 1 elements; and by its own extent, N + 2, t[i + 2]. An access with two subscripts keeps them.
 abbrev pub BlurByParameters : Type 0
 BlurByParameters =
     (folded_subscripts blur (fold_at 2 (by_modulus one_more) ∷ []) 2 (record { 0 = 2 }) (Add (name 1) (lit 2) ∷ []) ≡ Mod (Add (name 1) (lit 2)) (Add (name 0) (lit 1)) ∷ [])
     × (folded_temps blur (fold_at 2 (by_modulus one_more) ∷ []) ≡ temporary (Add (name 0) (lit 1) ∷ []) ∷ [])
     × (folded_subscripts blur (fold_at 2 (by_modulus two_more) ∷ []) 2 (record { 0 = 2 }) (Add (name 1) (lit 2) ∷ []) ≡ Add (name 1) (lit 2) ∷ [])
     × (folded_temps blur (fold_at 2 (by_modulus two_more) ∷ []) ≡ temporary (Add (name 0) (lit 2) ∷ []) ∷ [])
+    × (folded_subscripts blur folds 2 (record { 0 = 2 }) (name 1 ∷ lit 0 ∷ []) ≡ name 1 ∷ lit 0 ∷ [])
 
 -- ---- Two dimensions, over N, i and j: a[3 - i][2 * (j + i)]
 
 abbrev subs : List Ix
 subs = Sub (lit 3) (name 1) ∷ Mul (lit 2) (Add (name 2) (name 1)) ∷ []
-
-abbrev row : ℤ → ℤ → Affine
-row a b = record { coefs = a ∷ b ∷ []; constant = pos 0 }
 
 -- under these rows and moduli, where the extents are 4 and N + 1
 abbrev under : (rows moduli : List Affine) → List Ix

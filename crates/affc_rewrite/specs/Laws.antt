@@ -14,7 +14,7 @@ use Rattle.affc_basis.specs.declared.fold.Fold.{Fold}
 use Rattle.affc_basis.specs.FoldLists.{AreFoldsIn}
 use Rattle.affc_basis.specs.Folds.{forms_of, fold_of, place}
 use Rattle.affc_basis.specs.Moduli.{ArePositive}
-use Rattle.affc_placed.specs.Placed.{HasFoldedLoops}
+use Rattle.affc_placed.specs.Placed.{HasFoldedLoops, ReplacesFolded}
 use Rattle.affc_placed.specs.Refolds.{FoldsBy}
 use Rattle.affc_rewrite.specs.Rewrite.{KeepLimits, folded_subscripts, folded_temps, folded_program}
 
@@ -26,7 +26,12 @@ PrintedFolds = (source : Program) (folds : List (ArrayId × Fold)) (p : List ℤ
     → AreFoldsIn source folds → KeepLimits source folds → ((array : ℕ) (fold : Fold) → fold_of folds array ≡ Some fold → ArePositive p (forms_of fold.moduli))
     → FoldsBy (folded_subscripts source folds) (folded_temps source folds) source folds p
 
--- So the loops of the folded program compile the source, under a legal schedule and with folds that obey.
+-- So the folded program has the source's declarations, loops and conditions, and replaces it throughout the context.
+abbrev pub FoldedProgramReplaces : Type 0
+FoldedProgramReplaces = (source : Program) (schedule : Schedule) (folds : List (ArrayId × Fold))
+    → HasFoldedLoops source schedule folds → KeepLimits source folds → ReplacesFolded (folded_program source folds) source folds
+
+-- And the loops of the folded program compile the source, under a legal schedule and with folds that obey.
 abbrev pub FoldedProgramCompiles : Type 0
 FoldedProgramCompiles = (source : Program) (schedule : Schedule) (folds : List (ArrayId × Fold))
     → HasFoldedLoops source schedule folds → KeepLimits source folds
