@@ -43,7 +43,7 @@ use Rattle.affc_loops.specs.Loops.{boxes}
 use Rattle.affc_loops.proofs.Boxes.{encloses, sits, near_box}
 use Rattle.affc_loops.proofs.Sizes.{params_within, box_within}
 use Rattle.affc_basis.specs.Bases.{AreWithin}
-use Rattle.affc_rewrite.proofs.PrintedForms.{AllSides}
+use Rattle.affc_rewrite.specs.Sizes.{AllSides}
 
 -- ---- An access is of an element that is touched
 

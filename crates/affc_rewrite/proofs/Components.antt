@@ -16,7 +16,8 @@ use Rattle.affc_basis.specs.Bases.{AreWithin}
 use Rattle.affc_basis.specs.Moduli.{IsModulus, ArePositive, remainders}
 use Rattle.affc_placed.proofs.Remainder.{remainder_is_read}
 use Rattle.affc_rewrite.specs.Rewrite.{is_one, is_unit, same_form, printed, component, components_from}
-use Rattle.affc_rewrite.proofs.PrintedForms.{printed_is, printed_reads, modulus_below, AllSides, IsRow, no_more, row_below, row_value, row_width}
+use Rattle.affc_rewrite.specs.Sizes.{AllSides, IsRow}
+use Rattle.affc_rewrite.proofs.PrintedForms.{printed_is, printed_reads, modulus_below, no_more, row_below, row_value, row_width}
 use Rattle.affc_rewrite.proofs.Tests.{one_value, unit_value, same_value, no_remainder, own_remainder}
 
 module _ (p : List ℤ) (first : ℕ) (at_first : first ≡ length p) (few : length p ≤ 4) (near_p : AreWithin (2 ^ 24) p) where

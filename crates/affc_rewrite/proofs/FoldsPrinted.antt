@@ -45,9 +45,10 @@ use Rattle.affc_placed.proofs.RefoldLemmas.{refolded_keeps_shape}
 use Rattle.affc_placed.proofs.ReplaceLemmas.{accesses_read, behind_extents, fold_in, refolded_replaces}
 use Rattle.affc_rewrite.specs.Laws.{PrintedFolds, FoldedProgramReplaces, FoldedProgramCompiles}
 use Rattle.affc_rewrite.specs.Rewrite.{components_from, subscripts_by, extent_forms, folded_subscripts, folded_temps, has_calls, folded_program, KeepLimits}
+use Rattle.affc_rewrite.specs.Sizes.{AllSides, IsRow}
 use Rattle.affc_rewrite.proofs.Accesses.{access_touches, sides_of, extents_are, parameters_are, named}
 use Rattle.affc_rewrite.proofs.Components.{components_are}
-use Rattle.affc_rewrite.proofs.PrintedForms.{all_at, AllSides, IsRow, columns_known}
+use Rattle.affc_rewrite.proofs.PrintedForms.{all_at, columns_known}
 use Rattle.affc_rewrite.proofs.Temporaries.{decls_sized, decls_extents}
 
 -- ---- Dimensions
@@ -72,7 +73,7 @@ dimensions source p array fold f =
 
 -- ---- Folds
 
-rows_of : (fold : Fold) (j : ℕ) (row : Affine) → slice_get fold.basis.rows j ≡ Some row → IsRow (length fold.basis.rows) row
+pub rows_of : (fold : Fold) (j : ℕ) (row : Affine) → slice_get fold.basis.rows j ≡ Some row → IsRow (length fold.basis.rows) row
 rows_of fold j row e =
     let basis = fold.basis in
     record {

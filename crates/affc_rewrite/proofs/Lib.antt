@@ -5,3 +5,9 @@ pub mod Accesses
 pub mod Temporaries
 pub mod FoldsPrinted
 pub mod ExampleProofs
+pub mod PartLemmas
+pub mod TermSteps
+pub mod Steps
+pub mod RowSizes
+pub mod Foldings
+pub mod PlainBodies

@@ -13,13 +13,14 @@ use Rattle.affc_rows.proofs.ValueLemmas.{length-composed, value-composed}
 use Rattle.affc_ast.specs.Fits.{whole}
 use Rattle.affc_trace.proofs.LastStores.{append_nil}
 use Rattle.affc_safe.specs.Overflow.{IsReadable}
-use Rattle.affc_nest.specs.Sides.{AreNear, IsSide}
+use Rattle.affc_nest.specs.Sides.{AreNear}
 use Rattle.affc_loops.proofs.FormReads.{form_reads}
 use Rattle.affc_loops.proofs.FormTrees.{form_is}
 use Rattle.affc_loops.proofs.Sizes.{many}
 use Rattle.affc_basis.specs.Bases.{AreWithin}
 use Rattle.affc_basis.specs.Moduli.{IsModulus}
 use Rattle.affc_rewrite.specs.Rewrite.{printed}
+use Rattle.affc_rewrite.specs.Sizes.{AllSides, IsRow}
 
 -- ---- A form, over the first names and those behind them
 
@@ -37,7 +38,7 @@ product_below a b c d h k =
     let q : a * d ≤ c * d = mul-le-mul_right d h in
     omega (arith, p, q)
 
-many_more : (m n k : ℕ) → m ≤ n → many m k ≤ many n k
+pub many_more : (m n k : ℕ) → m ≤ n → many m k ≤ many n k
 many_more zero n k h = omega arith
 many_more (suc m) zero k h = absurd (omega arith)
 many_more (suc m) (suc n) k h = let r : many m k ≤ many n k = many_more m n k (omega arith) in omega arith
@@ -82,11 +83,6 @@ modulus_below b p is few near =
 
 -- ---- A row of the subscripts' forms
 
--- each is over so many names
-abbrev pub AllSides : ℕ → List Affine → Type 0
-AllSides n [] = Unit {0}
-AllSides n (g ∷ gs) = IsSide n g × AllSides n gs
-
 pub have_columns : (n : ℕ) (gs : List Affine) → AllSides n gs → HaveColumns n gs
 have_columns n [] h = All-nil (λ g. length g.coefs ≡ n)
 have_columns n (g ∷ gs) h = All-cons (λ g. length g.coefs ≡ n) g gs (h.0).width (have_columns n gs h.1)
@@ -100,24 +96,18 @@ near_at [] j h = omega (arith, ints)
 near_at (c ∷ cs) zero h = h.0
 near_at (c ∷ cs) (suc j) h = near_at cs j h.1
 
-column_within : (n j : ℕ) (gs : List Affine) → AllSides n gs → AreWithin (2 ^ 16) (column_of j gs)
+pub column_within : (n j : ℕ) (gs : List Affine) → AllSides n gs → AreWithin (2 ^ 16) (column_of j gs)
 column_within n j [] h = All-nil (λ c. unsigned_abs c ≤ 2 ^ 16)
 column_within n j (g ∷ gs) h = All-cons (λ c. unsigned_abs c ≤ 2 ^ 16) (get_or g.coefs j (pos 0)) (column_of j gs) (near_at g.coefs j (h.0).coefs_near) (column_within n j gs h.1)
 
-constants_within : (n : ℕ) (gs : List Affine) → AllSides n gs → AreWithin (2 ^ 32) (constants_of gs)
+pub constants_within : (n : ℕ) (gs : List Affine) → AllSides n gs → AreWithin (2 ^ 32) (constants_of gs)
 constants_within n [] h = All-nil (λ c. unsigned_abs c ≤ 2 ^ 32)
 constants_within n (g ∷ gs) h = All-cons (λ c. unsigned_abs c ≤ 2 ^ 32) g.constant (constants_of gs) (h.0).constant_near (constants_within n gs h.1)
-
--- a row of a basis over so many dimensions
-pub record IsRow (dimensions : ℕ) (row : Affine) : Type 0 where
-  pub columns : length row.coefs ≡ dimensions
-  pub bounded : AreWithin 256 row.coefs
-  pub no_constant : row.constant ≡ pos 0
 
 abbrev pub most_coef : ℕ
 most_coef = many 4 (256 * 2 ^ 16)
 
-composed_within : (cs : List ℤ) (n : ℕ) (gs : List Affine) → AreWithin 256 cs → AllSides n gs → length gs ≤ 4 → (j m : ℕ) → AreWithin most_coef (composed cs gs j m)
+pub composed_within : (cs : List ℤ) (n : ℕ) (gs : List Affine) → AreWithin 256 cs → AllSides n gs → length gs ≤ 4 → (j m : ℕ) → AreWithin most_coef (composed cs gs j m)
 composed_within cs n gs h s few j zero = All-nil (λ c. unsigned_abs c ≤ most_coef)
 composed_within cs n gs h s few j (suc m) =
     let long : length (column_of j gs) ≡ length gs = length-column_of j gs in
