@@ -1,8 +1,9 @@
 -- What is known of the folds of a program, of their rows and moduli, and of an access.
-use Rattle.std.proofs.Common.{◌≡◌, ℕ, zero, suc, ◌+◌, ◌<◌, ◌≤◌, Bool, true, false, true≢false, IsTrue, if◌then◌else◌, List, [], ◌∷◌, length, map, Some, refl, sym, ap, subst, ◌∙◌, arith}
+use Rattle.std.proofs.Common.{◌≡◌, ℕ, zero, suc, ◌+◌, ◌-◌, ◌<◌, ◌≤◌, Bool, true, false, IsTrue, if◌then◌else◌, List, [], ◌∷◌, length, take, drop, min, map, Some, refl, sym, ap, subst, ◌∙◌, arith, length-take, length-drop}
 use Rattle.std.specs.Prelude.{slice_get, nat_eq}
 use Rattle.std.specs.List.{All}
 use Rattle.std.proofs.lemmas.Bool.{eqb-true, eq-eqb}
+use Rattle.std.proofs.lemmas.List.{take_all}
 use Rattle.std.proofs.lemmas.List.Elements.{All-nil, All-cons}
 use Rattle.affc_rows.specs.Forms.{Affine}
 use Rattle.affc_ast.specs.declared.tree.Ix.{Ix}
@@ -10,6 +11,7 @@ use Rattle.affc_domain.specs.Affine.{form_of}
 use Rattle.affc_domain.specs.Plain.{all_plain}
 use Rattle.affc_domain.proofs.Lists.{length_map}
 use Rattle.affc_basis.specs.declared.fold.Fold.{Fold}
+use Rattle.affc_basis.specs.declared.fold.Modulus.{Modulus}
 use Rattle.affc_basis.specs.Folds.{KeepsLimits, forms_of}
 use Rattle.affc_basis.specs.Moduli.{IsModulus}
 use Rattle.affc_rewrite.specs.declared.components.Access.{Access}
@@ -77,3 +79,28 @@ none_used fold parameters names extents subs e = by_test (nat_eq 0 (length fold.
     by_test : (t : Bool) → nat_eq 0 (length fold.basis.rows) ≡ t → [] ≡ (if t then components_from parameters [] 0 fold.basis.rows (forms_of fold.moduli) extents [] else [])
     by_test true f = no_components 0 fold.basis.rows (forms_of fold.moduli) extents
     by_test false f = refl
+
+-- what stands behind the first of a list is shorter
+pub shorter : {A : Type 0} (xs : List A) → 1 ≤ length xs → length (take (length xs - 1) (drop 1 xs)) < length xs
+shorter xs h =
+    let d : length (drop 1 xs) ≡ length xs - 1 = length-drop 1 xs in
+    let t : length (take (length xs - 1) (drop 1 xs)) ≡ min (length xs - 1) (length (drop 1 xs)) = length-take (length xs - 1) (drop 1 xs) in
+    omega arith
+
+rest_is : {A : Type 0} (x : A) (xs : List A) → take (length (x ∷ xs) - 1) (drop 1 (x ∷ xs)) ≡ xs
+rest_is x xs = take_all (length (x ∷ xs) - 1) xs (omega arith)
+
+pub all_rest : {A : Type 0} (P : A → Type 0) (xs : List A) → 1 ≤ length xs → All P xs → All P (take (length xs - 1) (drop 1 xs))
+all_rest P [] h a = absurd (omega arith)
+all_rest P (x ∷ xs) h a = subst (All P) (sym (rest_is x xs)) (λ i y l. a (suc i) y (omega arith))
+
+pub moduli_rest : (P : Affine → Type 0) (xs : List Modulus) → 1 ≤ length xs → All P (forms_of xs) → All P (forms_of (take (length xs - 1) (drop 1 xs)))
+moduli_rest P [] h a = absurd (omega arith)
+moduli_rest P (x ∷ xs) h a = subst (λ ys. All P (forms_of ys)) (sym (rest_is x xs)) (λ i y l. a (suc i) y (omega arith))
+
+pub few_left : {A : Type 0} (xs : List A) (k : ℕ) → 1 ≤ length xs → k + length xs ≤ 4 → (k + 1) + length (take (length xs - 1) (drop 1 xs)) ≤ 4
+few_left xs k h l = let s : length (take (length xs - 1) (drop 1 xs)) < length xs = shorter xs h in omega arith
+
+-- and so the walk over it ends
+pub shorter_than : {A : Type 0} (xs : List A) (t : ℕ) → 1 ≤ length xs → length xs ≡ t → length (take (length xs - 1) (drop 1 xs)) < t
+shorter_than xs t h e = subst (λ m. length (take (length xs - 1) (drop 1 xs)) < m) e (shorter xs h)

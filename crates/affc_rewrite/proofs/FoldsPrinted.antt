@@ -47,9 +47,9 @@ use Rattle.affc_rewrite.specs.Laws.{PrintedFolds, FoldedProgramReplaces, FoldedP
 use Rattle.affc_rewrite.specs.Rewrite.{components_from, subscripts_by, extent_forms, folded_subscripts, folded_temps, has_calls, folded_program, KeepLimits}
 use Rattle.affc_rewrite.specs.Sizes.{AllSides, IsRow}
 use Rattle.affc_rewrite.proofs.Accesses.{access_touches, sides_of, extents_are, parameters_are, named}
-use Rattle.affc_rewrite.proofs.Components.{components_are}
+use Rattle.affc_rewrite.proofs.PlaceComponents.{components_are}
 use Rattle.affc_rewrite.proofs.PrintedForms.{all_at, columns_known}
-use Rattle.affc_rewrite.proofs.Temporaries.{decls_sized, decls_extents}
+use Rattle.affc_rewrite.proofs.FoldedTemps.{decls_sized, decls_extents}
 
 -- ---- Dimensions
 

@@ -1,8 +1,8 @@
 pub mod Tests
 pub mod PrintedForms
-pub mod Components
+pub mod PlaceComponents
 pub mod Accesses
-pub mod Temporaries
+pub mod FoldedTemps
 pub mod FoldsPrinted
 pub mod ExampleProofs
 pub mod PartLemmas
@@ -11,3 +11,5 @@ pub mod Steps
 pub mod RowSizes
 pub mod Foldings
 pub mod PlainBodies
+pub mod SightLemmas
+pub mod Arms

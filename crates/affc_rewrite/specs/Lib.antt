@@ -4,3 +4,4 @@ pub mod Examples
 pub mod Parts
 pub mod Sums
 pub mod Sizes
+pub mod Sight

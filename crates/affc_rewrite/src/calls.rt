@@ -71,7 +71,7 @@ fn local_calls(locals: &[Local]) -> bool
 }
 
 #[cycle(walk)]
-#[tactic(auto, using(affc_ast::proofs::Outs::stmt_outs))]
+#[tactic(auto, using(crate::proofs::Arms::for_calls, crate::proofs::Arms::if_calls, crate::proofs::Arms::assign_calls, crate::proofs::Arms::block_calls))]
 fn stmt_calls(s: &Stmt) -> bool
     ensures { result ≡ by_stmt specs.stmt_call_step s.now }
 {
@@ -82,7 +82,7 @@ fn stmt_calls(s: &Stmt) -> bool
             rel: _,
             high,
             body,
-        } => has_call(low) || has_call(high) || calls(body.as_slice()),
+        } => has_call(low) || (has_call(high) || calls(body.as_slice())),
         Stmt::If { conds, body } => test_calls(conds.as_slice()) || calls(body.as_slice()),
         Stmt::Assign {
             op: _,
@@ -99,8 +99,10 @@ fn stmt_calls(s: &Stmt) -> bool
 pub(crate) fn calls(body: &[Stmt]) -> bool
     ensures { result ≡ list_any (λ b. b) (map (by_stmt specs.stmt_call_step) body.now) }
 {
-    match body {
-        [] => false,
-        [s, rest @ ..] => stmt_calls(s) || calls(rest),
+    for s in body {
+        if stmt_calls(s) {
+            return true;
+        }
     }
+    false
 }

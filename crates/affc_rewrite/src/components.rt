@@ -17,6 +17,7 @@ use affc_rows::{Form, FormFault};
 use std::alloc::{AllocError, Global};
 
 /// The subscripts of an access as forms over the names in sight, of which the parameters are the first.
+#[derive(Clone, Copy, Drop)]
 pub(crate) struct Access<'a> {
     pub parameters: u32,
     pub names: u32,

@@ -20,6 +20,7 @@ use affc_rows::Form;
 use std::alloc::{AllocError, Global};
 
 /// Folds of a program, of which so many parameters are the first names in sight, with its arrays.
+#[derive(Clone, Copy, Drop)]
 pub(crate) struct Folding<'a> {
     pub parameters: u32,
     pub arrays: &'a [ArrayInfo],

@@ -16,7 +16,7 @@ use Rattle.affc_basis.specs.Folds.{forms_of, fold_of}
 use Rattle.affc_basis.specs.Moduli.{IsModulus, ArePositive}
 use Rattle.affc_placed.specs.Refolds.{AreSized, extents_by}
 use Rattle.affc_rewrite.specs.Rewrite.{printed, decl_by, decls_from}
-use Rattle.affc_rewrite.proofs.Components.{modulus_is}
+use Rattle.affc_rewrite.proofs.PlaceComponents.{modulus_is}
 
 -- the extents are read and at least 1
 abbrev pub IsSized : (p : List ℤ) → List Ix → Type 0
