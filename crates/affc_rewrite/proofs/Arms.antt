@@ -19,7 +19,8 @@ use Rattle.affc_domain.specs.Plain.{all_plain, plain_value}
 use Rattle.affc_domain.proofs.Lists.{both_true}
 use Rattle.affc_placed.specs.Refolds.{Subscripts, refold_value, refold_step, each_under}
 use Rattle.affc_rewrite.specs.Rewrite.{has_call, some_call, value_call_step, test_calls, stmt_call_step}
-use Rattle.affc_rewrite.specs.Sizes.{all_under, accesses_step}
+use Rattle.affc_rewrite.specs.declared.subscripts.Folding.{Folding}
+use Rattle.affc_rewrite.specs.Sizes.{IsWalk, all_under, accesses_step}
 
 module _ (at : Subscripts) (n : ℕ) where
   abbrev refolded_all : ℕ → List Stmt → List Stmt
@@ -40,6 +41,22 @@ module _ (at : Subscripts) (n : ℕ) where
   pub block_arm : (x : Stmt) (locals : List Local) (body : List Stmt) → x ≡ s.Block locals body → s.Block locals (refolded_all (n + length locals) body) ≡ by_stmt (refold_step at) x n
   block_arm x locals body g = sym (ap (λ f. f n) (block_here (refold_step at) locals body)) ∙ ap (λ y. by_stmt (refold_step at) y n) (sym g)
 
+-- more names in sight
+pub walk_in : (f : Folding) (n k : ℕ) → IsWalk f n → n + k ≤ 16 → IsWalk f (n + k)
+walk_in f n k w l = let b : f.parameters ≤ n = w.behind in record { folding = w.folding; behind = omega arith; short = l }
+
+-- what the code makes of each kind
+module _ (at : Subscripts) (n : ℕ) (x y : Stmt) (body slice made : List Stmt) (same : slice ≡ body) where
+  pub for_made : (iter : List ℕ) (low : Ix) (rel : Rel) (high : Ix) → x ≡ s.For iter low rel high body → made ≡ refolded_all at n (n + 1) slice → y ≡ s.For iter low rel high made → y ≡ by_stmt (refold_step at) x n
+  for_made iter low rel high g m e = e ∙ ap (s.For iter low rel high) (m ∙ ap (refolded_all at n (n + 1)) same) ∙ for_arm at n x iter low rel high body g
+
+  pub if_made : (conds those : List Compare) → x ≡ s.If conds body → those ≡ conds → made ≡ refolded_all at n n slice → y ≡ s.If those made → y ≡ by_stmt (refold_step at) x n
+  if_made conds those g c m e = e ∙ ap (λ cs. s.If cs made) c ∙ ap (s.If conds) (m ∙ ap (refolded_all at n n) same) ∙ if_arm at n x conds body g
+
+  pub block_made : (locals those : List Local) (k : ℕ) → x ≡ s.Block locals body → those ≡ locals → k ≡ n + length locals → made ≡ refolded_all at n k slice → y ≡ s.Block those made → y ≡ by_stmt (refold_step at) x n
+  block_made locals those k g c l m e =
+      e ∙ ap (λ ls. s.Block ls made) c ∙ ap (s.Block locals) (m ∙ ap (refolded_all at n k) same ∙ ap (λ k. refolded_all at n k body) l) ∙ block_arm at n x locals body g
+
 -- what is plain in sight of so many names
 module _ (n : ℕ) where
   abbrev all_within : ℕ → List Stmt → Bool
@@ -58,6 +75,12 @@ module _ (n : ℕ) where
       → (all_plain n subs ≡ true) × (plain_value value n ≡ true)
   assign_plain x op array subs value g h = both_true (all_plain n subs) (plain_value value n) (sym (ap (λ y. by_stmt accesses_step y n) g) ∙ h)
 
+  pub assign_subs : (x : Stmt) (op : Option Op) (array : ArrayId) (subs : List Ix) (value : Val) → x ≡ s.Assign op array subs value → by_stmt accesses_step x n ≡ true → all_plain n subs ≡ true
+  assign_subs x op array subs value g h = (assign_plain x op array subs value g h).0
+
+  pub assign_value : (x : Stmt) (op : Option Op) (array : ArrayId) (subs : List Ix) (value : Val) → x ≡ s.Assign op array subs value → by_stmt accesses_step x n ≡ true → plain_value value n ≡ true
+  assign_value x op array subs value g h = (assign_plain x op array subs value g h).1
+
   pub block_plain : (x : Stmt) (locals : List Local) (body : List Stmt) → x ≡ s.Block locals body → by_stmt accesses_step x n ≡ true → (n + length locals ≤ 16) × (all_within (n + length locals) body ≡ true)
   block_plain x locals body g h =
       let q = both_true (nat_le (n + length locals) 16) (all_within (n + length locals) body) (sym (ap (λ y. by_stmt accesses_step y n) g ∙ ap (λ f. f n) (block_here accesses_step locals body)) ∙ h) in
@@ -73,6 +96,12 @@ front xs i x h e = drop-cons xs i x h ∙ ap (λ z. z ∷ drop (suc i) xs) (sym 
 
 pub plain_front : (n i : ℕ) (xs : List Stmt) (x : Stmt) → i < length xs → x ≡ get_or xs i x → all_within n n (drop i xs) ≡ true → (by_stmt accesses_step x n ≡ true) × (all_within n n (drop (i + 1) xs) ≡ true)
 plain_front n i xs x h e p = both_true (by_stmt accesses_step x n) (all_within n n (drop (i + 1) xs)) (ap (all_within n n) (sym (front xs i x h e)) ∙ p)
+
+pub first_plain : (n i : ℕ) (xs : List Stmt) (x : Stmt) → i < length xs → x ≡ get_or xs i x → all_within n n (drop i xs) ≡ true → by_stmt accesses_step x n ≡ true
+first_plain n i xs x h e p = (plain_front n i xs x h e p).0
+
+pub rest_plain : (n i : ℕ) (xs : List Stmt) (x : Stmt) → i < length xs → x ≡ get_or xs i x → all_within n n (drop i xs) ≡ true → all_within n n (drop (i + 1) xs) ≡ true
+rest_plain n i xs x h e p = (plain_front n i xs x h e p).1
 
 pub statement_front : (at : Subscripts) (n i : ℕ) (xs : List Stmt) (x y : Stmt) (made made' whole : List Stmt) → i < length xs → x ≡ get_or xs i x → y ≡ by_stmt (refold_step at) x n → made' ≡ made ++ y ∷ []
     → made ++ refolded_all at n n (drop i xs) ≡ whole → made' ++ refolded_all at n n (drop (i + 1) xs) ≡ whole

@@ -13,3 +13,5 @@ pub mod Foldings
 pub mod PlainBodies
 pub mod SightLemmas
 pub mod Arms
+pub mod ValueArms
+pub mod Whole

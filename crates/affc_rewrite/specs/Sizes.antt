@@ -52,6 +52,12 @@ pub record IsFolding (f : Folding) : Type 0 where
   pub limits : All (λ (g : ArrayId × Fold). KeepsLimits f.parameters g.1) f.folds.now
   pub few : f.parameters ≤ 4
 
+-- and at most 16 names are in sight, of which the parameters are the first
+pub record IsWalk (f : Folding) (names : ℕ) : Type 0 where
+  pub folding : IsFolding f
+  pub behind : f.parameters ≤ names
+  pub short : names ≤ 16
+
 -- the subscripts of its arrays
 abbrev pub at : Folding → Subscripts
 at f = subscripts_at f.parameters (map (λ a. a.extents) f.arrays.now) f.folds.now

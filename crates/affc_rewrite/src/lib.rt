@@ -6,6 +6,10 @@ mod components;
 pub mod examples;
 mod forms;
 pub mod laws;
+mod rewriting;
+mod statements;
 mod subscripts;
 mod temporaries;
 mod trees;
+
+pub use rewriting::rewrite;
