@@ -1,9 +1,8 @@
 -- What is known of each access of an instance of a plain program that is safe.
-use Rattle.std.proofs.Common.{◌≡◌, ℕ, zero, suc, ◌+◌, ◌^◌, ◌≤◌, ℤ, pos, ◌&&◌, IsTrue, true, List, [], ◌∷◌, ◌++◌, length, get_or, map, Option, Some, None, refl, sym, ap, subst, ◌∙◌, ◌⊎◌, inl, inr, arith}
+use Rattle.std.proofs.Common.{◌≡◌, ℕ, zero, suc, ◌+◌, ◌^◌, ◌≤◌, ℤ, IsTrue, List, [], ◌∷◌, ◌++◌, length, get_or, map, Option, Some, None, refl, sym, ap, subst, ◌∙◌, ◌⊎◌, inl, inr, arith}
 use Rattle.std.specs.Prelude.{slice_get, unsigned_abs, nat_le}
-use Rattle.std.proofs.lemmas.Bool.{leb-true}
 use Rattle.std.proofs.lemmas.List.Elements.{All-nil, All-cons}
-use Rattle.affc_rows.specs.Forms.{value, columns_of, values_of}
+use Rattle.affc_rows.specs.Forms.{value}
 use Rattle.affc_ast.specs.declared.tree.Decl.{Decl}
 use Rattle.affc_ast.specs.declared.tree.Instance.{Instance}
 use Rattle.affc_ast.specs.declared.tree.Ix.{Ix}
@@ -27,7 +26,7 @@ use Rattle.affc_domain.specs.Affine.{form_of}
 use Rattle.affc_domain.specs.Arrays.{extents_at}
 use Rattle.affc_domain.specs.Plain.{IsPlain, is_plain, all_plain, plain_decls}
 use Rattle.affc_domain.specs.Ranges.{first_wide, number_ranges}
-use Rattle.affc_domain.specs.Rounds.{rounds, loops_in}
+use Rattle.affc_domain.specs.Rounds.{loops_in}
 use Rattle.affc_domain.proofs.CountLemmas.{iterators_of_loops}
 use Rattle.affc_domain.proofs.Lists.{both_true}
 use Rattle.affc_domain.proofs.PlainLemmas.{assignments_are_plain, few_loops, is_plain_affine}
@@ -39,7 +38,6 @@ use Rattle.affc_nest.specs.Touches.{AllPlain}
 use Rattle.affc_nest.proofs.AccessLemmas.{whole_here, plain_accesses}
 use Rattle.affc_nest.proofs.RowLemmas.{plain_side}
 use Rattle.affc_nest.specs.Sides.{IsSide}
-use Rattle.affc_loops.specs.Loops.{boxes}
 use Rattle.affc_loops.proofs.Boxes.{encloses, sits, near_box}
 use Rattle.affc_loops.proofs.Sizes.{params_within, box_within}
 use Rattle.affc_basis.specs.Bases.{AreWithin}

@@ -4,7 +4,7 @@ use Rattle.std.specs.Prelude.{slice_get}
 use Rattle.std.specs.List.{All}
 use Rattle.std.proofs.lemmas.Bool.{eq-eqb}
 use Rattle.std.proofs.lemmas.Option.{none-some, same_Some, slice_get_within}
-use Rattle.affc_rows.specs.Forms.{Affine, value, columns_of, values_of}
+use Rattle.affc_rows.specs.Forms.{Affine, value, values_of}
 use Rattle.affc_ast.specs.declared.tree.ArrayId.{ArrayId}
 use Rattle.affc_ast.specs.declared.tree.Decl.{Decl}
 use Rattle.affc_ast.specs.declared.tree.Instance.{Instance}
@@ -25,7 +25,7 @@ use Rattle.affc_domain.specs.Affine.{form_of}
 use Rattle.affc_domain.specs.Arrays.{declared_arrays, extents_at}
 use Rattle.affc_domain.specs.Plain.{IsPlain, all_plain, plain_decls}
 use Rattle.affc_domain.specs.Ranges.{first_wide, number_ranges}
-use Rattle.affc_domain.proofs.Lists.{both_true, from_map, length_map}
+use Rattle.affc_domain.proofs.Lists.{both_true, length_map}
 use Rattle.affc_safe.specs.Overflow.{AreReadable, NeverOverflows}
 use Rattle.affc_safe.specs.Safe.{IsSafe}
 use Rattle.affc_safe.proofs.FitsThere.{never_stuck_is_safe}
@@ -208,8 +208,8 @@ module _ (source : Program) (schedule : Schedule) (folds : List (ArrayId × Fold
   folds_at p inside =
       printed_folds source folds p (has.loops).plain (has.loops).near inside.ranges (safe_at p inside) has.folds_in limits
       (λ array fold e k b f.
-          let row = entry_too fold.basis.rows (forms_of fold.moduli) (length_map (λ m. m.form) fold.moduli ∙ fold.one_each) k b f in
-          (has.obeys p inside array fold e k row.0 b row.1 f).0)
+      let row = entry_too fold.basis.rows (forms_of fold.moduli) (length_map (λ m. m.form) fold.moduli ∙ fold.one_each) k b f in
+      (has.obeys p inside array fold e k row.0 b row.1 f).0)
 
   replaces_at : (p : List ℤ) → IsInContext source p → Replaces (refolded (folded_subscripts source folds) (folded_temps source folds) source) source (place folds p) p
   replaces_at p inside =

@@ -1,5 +1,5 @@
 -- All accesses of a plain body are plain over the names that are in sight.
-use Rattle.std.proofs.Common.{◌≡◌, ℕ, suc, ◌+◌, ◌<◌, ◌≤◌, true, false, true≢false, ◌&&◌, IsTrue, nat_lt, List, [], ◌∷◌, length, map, refl, sym, ap, subst, ◌∙◌, arith}
+use Rattle.std.proofs.Common.{◌≡◌, ℕ, suc, ◌+◌, ◌<◌, ◌≤◌, true, true≢false, ◌&&◌, nat_lt, [], ◌∷◌, length, map, refl, sym, ap, subst, ◌∙◌, arith}
 use Rattle.std.specs.Prelude.{nat_le}
 use Rattle.std.proofs.lemmas.Bool.{ltb-true, le-leb}
 use Rattle.affc_ast.specs.declared.tree.Program.{Program}
@@ -7,7 +7,6 @@ use Rattle.affc_ast.specs.declared.tree.Stmt.{Stmt}
 use Rattle.affc_ast.specs.declared.tree.Stmt.TheVariants as s
 use Rattle.affc_ast.specs.declared.tree.Stmt.TheBlock.{Row_of-Stmt, more_of-Stmt, end_of-Stmt}
 use Rattle.affc_ast.specs.Recursion.{by_stmt, by_each}
-use Rattle.affc_ast.specs.Trace.{Assignment}
 use Rattle.affc_ast.proofs.Steps.{row_of, unrolled}
 use Rattle.affc_domain.specs.Accesses.{accesses_of}
 use Rattle.affc_domain.specs.Plain.{IsPlain, is_plain, all_plain, plain_value, plain_tests, is_upward, all_of, plain_step}

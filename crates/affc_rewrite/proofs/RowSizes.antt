@@ -1,5 +1,5 @@
 -- A row of subscripts is printed within the limits of printed forms.
-use Rattle.std.proofs.Common.{◌≡◌, ℕ, zero, suc, ◌+◌, ◌*◌, ◌^◌, ◌<◌, ◌≤◌, ℤ, ◌+ℤ◌, List, [], ◌∷◌, length, get_or, refl, sym, ap, ◌∙◌, ◌⊎◌, inl, inr, arith}
+use Rattle.std.proofs.Common.{◌≡◌, ℕ, zero, suc, ◌+◌, ◌*◌, ◌^◌, ◌<◌, ◌≤◌, ℤ, ◌+ℤ◌, List, length, get_or, ap, ◌∙◌, inl, inr, arith}
 use Rattle.std.specs.Prelude.{unsigned_abs}
 use Rattle.affc_rows.specs.Forms.{Affine, dot, dot_magnitude, columns_of, column_of, constants_of, composed, composed_form, composed_magnitudes, composed_form_magnitudes, TooWide}
 use Rattle.affc_rows.proofs.FormLemmas.{length-column_of, length-constants_of}

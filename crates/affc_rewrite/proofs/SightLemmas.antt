@@ -1,12 +1,11 @@
 -- Folded subscripts hold only names in sight.
-use Rattle.std.proofs.Common.{◌≡◌, ℕ, zero, suc, ◌+◌, ◌-◌, ◌<◌, ◌≤◌, ℤ, pos, negsuc, Bool, true, false, ◌&&◌, IsTrue, nat_lt, if◌then◌else◌, List, [], ◌∷◌, ◌++◌, length, get_or, take, drop, map, min, Option, Some, None, refl, sym, ap, subst, ◌∙◌, inl, inr, arith, length-take, length-drop}
+use Rattle.std.proofs.Common.{◌≡◌, ℕ, zero, suc, ◌+◌, ◌-◌, ◌<◌, ◌≤◌, ℤ, pos, negsuc, Bool, true, false, ◌&&◌, IsTrue, if◌then◌else◌, List, [], ◌∷◌, ◌++◌, length, get_or, take, drop, map, min, Option, Some, None, refl, sym, ap, subst, ◌∙◌, inl, inr, arith, length-take, length-drop}
 use Rattle.std.specs.Prelude.{slice_get, nat_eq, nat_le}
 use Rattle.std.proofs.lemmas.Bool.{lt-ltb, leb-true}
-use Rattle.std.proofs.lemmas.Option.{none-some, same_Some}
 use Rattle.affc_rows.specs.Forms.{Affine, composed_form}
 use Rattle.affc_ast.specs.declared.tree.ArrayId.{ArrayId}
 use Rattle.affc_ast.specs.declared.tree.Ix.{Ix}
-use Rattle.affc_ast.specs.declared.tree.Ix.TheVariants.{Lit, Neg, Add, Sub, Mul, Mod}
+use Rattle.affc_ast.specs.declared.tree.Ix.TheVariants.{Lit, Neg, Add, Sub, Mod}
 use Rattle.affc_ast.specs.declared.tree.Program.{Program}
 use Rattle.affc_ast.specs.declared.tree.Stmt.{Stmt}
 use Rattle.affc_ast.specs.declared.tree.Stmt.TheVariants as s
@@ -15,24 +14,24 @@ use Rattle.affc_ast.specs.declared.tree.Val.{Val}
 use Rattle.affc_ast.specs.declared.tree.Val.TheVariants as v
 use Rattle.affc_ast.specs.declared.tree.Val.TheBlock.{more_of-Val, end_of-Val}
 use Rattle.affc_ast.specs.Recursion.{by_stmt, by_each}
-use Rattle.affc_ast.specs.Trace.{Assignment, assignments_step, assignments, joined}
+use Rattle.affc_ast.specs.Trace.{Assignment, assignments_step, joined}
 use Rattle.affc_ast.proofs.Steps.{neg_here, add_here, sub_here, mul_here, mod_here, not_here, bin_here, shift_here, for_here, if_here, block_here, row_of, unrolled}
 use Rattle.affc_trace.specs.Law.{IsIn}
 use Rattle.affc_trace.specs.Target.{numbers_in}
 use Rattle.affc_trace.proofs.Once.{in_append}
 use Rattle.affc_domain.specs.Affine.{sees_step, sees, form_of}
-use Rattle.affc_domain.specs.Plain.{IsPlain, is_plain, all_plain, plain_value}
+use Rattle.affc_domain.specs.Plain.{is_plain, all_plain, plain_value}
 use Rattle.affc_domain.proofs.FormLemmas.{form_width}
 use Rattle.affc_domain.proofs.Lists.{both_true, true_both}
-use Rattle.affc_loops.specs.Trees.{name_at, number, times, Term, and_more, sum_of, terms_from, form_tree}
+use Rattle.affc_loops.specs.Trees.{name_at, times, Term, and_more, sum_of, terms_from}
 use Rattle.affc_loops.proofs.Pieces.{numbers_are}
 use Rattle.affc_basis.specs.declared.fold.Fold.{Fold}
-use Rattle.affc_basis.specs.FoldLists.{IsFoldIn, AreFoldsIn}
+use Rattle.affc_basis.specs.FoldLists.{AreFoldsIn}
 use Rattle.affc_basis.specs.Folds.{forms_of, fold_of}
-use Rattle.affc_placed.specs.Refolds.{Subscripts, refold_value, refold_step, each_under, refolded}
+use Rattle.affc_placed.specs.Refolds.{Subscripts, refold_value, refold_step, each_under}
 use Rattle.affc_placed.proofs.RefoldLemmas.{flat_is}
 use Rattle.affc_placed.proofs.ReplaceLemmas.{fold_in}
-use Rattle.affc_rewrite.specs.Rewrite.{is_one, is_unit, same_form, printed, component, components_from, subscripts_by, extent_forms, folded_subscripts, folded_temps, folded_program}
+use Rattle.affc_rewrite.specs.Rewrite.{is_one, is_unit, same_form, printed, component, components_from, subscripts_by, extent_forms, folded_subscripts}
 use Rattle.affc_rewrite.specs.Sight.{all_see, value_sees_step, value_sees, IsInSight, FoldedInSight}
 use Rattle.affc_rewrite.specs.Sizes.{all_under, accesses_step}
 use Rattle.affc_rewrite.proofs.PlainBodies.{body_plain}
@@ -153,8 +152,8 @@ module _ (source : Program) (folds : List (ArrayId × Fold)) (are : AreFoldsIn s
           by_count true =
               components_see n first (map (form_of n 0) subs) 0 fold.basis.rows (forms_of fold.moduli) extents subs l
               (λ j b f.
-                  let w : length b.coefs ≡ first = all_at (λ (g : Affine). length g.coefs ≡ first) (forms_of fold.moduli) j b (fold_in source folds are array.0 fold e).moduli f in
-                  omega arith)
+              let w : length b.coefs ≡ first = all_at (λ (g : Affine). length g.coefs ≡ first) (forms_of fold.moduli) j b (fold_in source folds are array.0 fold e).moduli f in
+              omega arith)
               (λ row. widths n subs row) (all_plain_see n subs h)
 
   value_at_sees : (n : ℕ) (e : Val) → first ≤ n → plain_value e n ≡ true → value_sees n (refold_value at n e) ≡ true

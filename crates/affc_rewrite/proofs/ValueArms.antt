@@ -1,5 +1,5 @@
 -- The parts of a plain value are plain, and a value with folded subscripts is made of its parts.
-use Rattle.std.proofs.Common.{◌≡◌, ℕ, Bool, true, ◌&&◌, IsTrue, List, refl, sym, ap, ◌∙◌}
+use Rattle.std.proofs.Common.{◌≡◌, ℕ, Bool, true, List, sym, ap, ◌∙◌}
 use Rattle.affc_ast.specs.declared.tree.ArrayId.{ArrayId}
 use Rattle.affc_ast.specs.declared.tree.Ix.{Ix}
 use Rattle.affc_ast.specs.declared.tree.Op.{Op}
@@ -8,7 +8,6 @@ use Rattle.affc_ast.specs.declared.tree.Val.TheVariants as v
 use Rattle.affc_ast.proofs.Steps.{not_here, bin_here, shift_here}
 use Rattle.affc_domain.specs.Plain.{all_plain, plain_value_step, plain_value}
 use Rattle.affc_domain.proofs.Lists.{both_true}
-use Rattle.affc_placed.specs.Refolds.{Subscripts, refold_value_step, refold_value}
 
 module _ (n : ℕ) (e : Val) (h : plain_value e n ≡ true) where
   pub load_plain : (array : ArrayId) (subs : List Ix) → e ≡ v.Load array subs → all_plain n subs ≡ true

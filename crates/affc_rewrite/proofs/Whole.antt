@@ -1,7 +1,6 @@
 -- What is made of a program is the folded one.
-use Rattle.std.proofs.Common.{◌≡◌, ℕ, suc, ◌+◌, ◌-◌, ◌≤◌, true, IsTrue, List, [], ◌∷◌, ◌++◌, length, map, refl, sym, ap, subst, ◌∙◌, arith}
+use Rattle.std.proofs.Common.{◌≡◌, ℕ, ◌+◌, ◌-◌, ◌≤◌, true, List, [], ◌∷◌, length, map, refl, sym, ap, subst, ◌∙◌, arith}
 use Rattle.std.specs.List.{All}
-use Rattle.affc_rows.specs.Forms.{Affine}
 use Rattle.affc_ast.specs.declared.tree.ArrayId.{ArrayId}
 use Rattle.affc_ast.specs.declared.tree.Decl.{Decl}
 use Rattle.affc_ast.specs.declared.tree.Program.{Program}
@@ -24,7 +23,7 @@ use Rattle.affc_basis.specs.Folds.{KeepsLimits}
 use Rattle.affc_placed.specs.Refolds.{Subscripts, refold_step, each_under}
 use Rattle.affc_rewrite.specs.declared.subscripts.Folding.{Folding}
 use Rattle.affc_rewrite.specs.Rewrite.{subscripts_at, extent_forms, folded_subscripts, decls_from, folded_temps, KeepLimits}
-use Rattle.affc_rewrite.specs.Sizes.{IsFolding, IsWalk, at, all_under, accesses_step}
+use Rattle.affc_rewrite.specs.Sizes.{IsWalk, at, all_under, accesses_step}
 use Rattle.affc_rewrite.proofs.PlainBodies.{body_plain}
 
 -- the extents of a nest's arrays

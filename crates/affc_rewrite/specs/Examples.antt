@@ -2,7 +2,7 @@
 use Rattle.std.specs.Prelude.{◌≡◌, ℕ, ℤ, pos, negsuc, true, false, List, [], ◌∷◌, map}
 use Rattle.affc_rows.specs.Forms.{Affine}
 use Rattle.affc_ast.specs.declared.tree.Ix.{Ix}
-use Rattle.affc_ast.specs.declared.tree.Ix.TheVariants.{Lit, Name, Neg, Add, Sub, Mul, Mod}
+use Rattle.affc_ast.specs.declared.tree.Ix.TheVariants.{Name, Neg, Add, Sub, Mul, Mod}
 use Rattle.affc_trace.specs.Examples.{blur}
 use Rattle.affc_domain.specs.Affine.{form_of}
 use Rattle.affc_basis.specs.Examples.{number, one_more, two_more, by_modulus, folds, fold_at, two_rows}
@@ -66,6 +66,6 @@ TwoDimensions =
     (under two_rows (number 1 ∷ one_more ∷ []) ≡ lit 0 ∷ Mul (lit 2) (Add (name 2) (name 1)) ∷ [])
     × (under two_rows (number 1 ∷ two_more ∷ []) ≡ lit 0 ∷ Mod (Add (Mul (lit 2) (name 1)) (Mul (lit 2) (name 2))) (Add (name 0) (lit 2)) ∷ [])
     × (under (row (pos 1) (pos 1) ∷ row (pos 1) (pos 0) ∷ []) (number 4 ∷ one_more ∷ [])
-      ≡ Mod (Add (Add (name 1) (Mul (lit 2) (name 2))) (lit 3)) (lit 4) ∷ Mod (Add (Neg (name 1)) (lit 3)) (Add (name 0) (lit 1)) ∷ [])
+    ≡ Mod (Add (Add (name 1) (Mul (lit 2) (name 2))) (lit 3)) (lit 4) ∷ Mod (Add (Neg (name 1)) (lit 3)) (Add (name 0) (lit 1)) ∷ [])
     × (under (row (pos 0) (negsuc 0) ∷ row (pos 0) (pos 1) ∷ []) (number 4 ∷ number 1 ∷ [])
-      ≡ Mod (Sub (Neg (Mul (lit 2) (name 1))) (Mul (lit 2) (name 2))) (lit 4) ∷ lit 0 ∷ [])
+    ≡ Mod (Sub (Neg (Mul (lit 2) (name 1))) (Mul (lit 2) (name 2))) (lit 4) ∷ lit 0 ∷ [])

@@ -1,6 +1,6 @@
 -- The source as it is printed with folds: the subscripts of a folded array are the components of places, and its extents are
 -- the moduli.
-use Rattle.std.specs.Prelude.{ℕ, zero, suc, pos, nat_eq, Bool, true, false, ◌&&◌, ◌||◌, if◌then◌else◌, List, [], ◌∷◌, length, get_or, map, Option, Some, None}
+use Rattle.std.specs.Prelude.{ℕ, suc, pos, nat_eq, Bool, true, false, ◌&&◌, ◌||◌, if◌then◌else◌, List, [], ◌∷◌, length, get_or, map, Option, Some, None}
 use Rattle.std.specs.Cmp.Lexicographic.{pointwise}
 use Rattle.std.specs.List.{All, list_any}
 use Rattle.std.specs.Ordering.{int_eq}

@@ -50,7 +50,12 @@ fn is_unit(alloc: Global, dimensions: u32, k: u32, row: &Form) -> Result<bool, A
 }
 
 /// A form over so many names, of which the parameters are the first, as an expression.
-pub(crate) fn printed(alloc: Global, parameters: u32, names: u32, f: &Form) -> Result<Ix, AllocError>
+pub(crate) fn printed(
+    alloc: Global,
+    parameters: u32,
+    names: u32,
+    f: &Form,
+) -> Result<Ix, AllocError>
     requires behind { parameters ≤ names }
     requires form { IsPrintable names f.now }
     ensures { IfOk result (λ e. e ≡ specs.printed parameters f.now) }
@@ -74,7 +79,12 @@ fn along(alloc: Global, row: &Form, access: &Access<'_>) -> Result<Form, AllocEr
 }
 
 /// The remainder of a row of the subscripts by the modulus.
-fn remainder(alloc: Global, access: &Access<'_>, row: &Form, modulus: &Form) -> Result<Ix, AllocError>
+fn remainder(
+    alloc: Global,
+    access: &Access<'_>,
+    row: &Form,
+    modulus: &Form,
+) -> Result<Ix, AllocError>
     requires access { IsAccess access.now }
     requires row { IsRow (length access.now.forms.now) row.now }
     requires modulus { IsPrintable access.now.parameters modulus.now }
@@ -87,7 +97,14 @@ fn remainder(alloc: Global, access: &Access<'_>, row: &Form, modulus: &Form) -> 
 }
 
 /// Whether the source's own subscript stands for component `k`.
-fn is_own(alloc: Global, dimensions: u32, k: u32, row: &Form, modulus: &Form, extent: &Form) -> Result<bool, AllocError>
+fn is_own(
+    alloc: Global,
+    dimensions: u32,
+    k: u32,
+    row: &Form,
+    modulus: &Form,
+    extent: &Form,
+) -> Result<bool, AllocError>
     requires { length row.now.coefs ≡ dimensions }
     ensures { IfOk result (λ b. b ≡ (specs.is_unit k row.now && specs.same_form modulus.now extent.now)) }
 {

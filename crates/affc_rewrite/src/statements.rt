@@ -147,12 +147,7 @@ fn inside(names: u32, locals: &[Local]) -> u32
 /// The statement with folded subscripts, where so many names are in sight.
 #[cycle(walk)]
 #[tactic(auto, using(crate::proofs::Arms::assign_subs, crate::proofs::Arms::assign_value, crate::proofs::Arms::assign_arm))]
-fn statement(
-    alloc: Global,
-    folding: &Folding<'_>,
-    names: u32,
-    s: &Stmt,
-) -> Result<Stmt, AllocError>
+fn statement(alloc: Global, folding: &Folding<'_>, names: u32, s: &Stmt) -> Result<Stmt, AllocError>
     requires walk { IsWalk folding.now names }
     requires plain { by_stmt accesses_step s.now names ≡ true }
     ensures { IfOk result (λ x. x ≡ by_stmt (refold_step (at folding.now)) s.now names) }

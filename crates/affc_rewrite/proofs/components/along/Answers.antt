@@ -1,4 +1,4 @@
-use Rattle.std.proofs.Common.{◌≡◌, sym, subst}
+use Rattle.std.proofs.Common.{sym, subst}
 use Rattle.affc_rows.specs.Forms.{HaveColumns}
 use Rattle.affc_rewrite.specs.Sizes.{IsPrintable}
 use Rattle.affc_rewrite.proofs.PrintedForms.{have_columns, columns_known}

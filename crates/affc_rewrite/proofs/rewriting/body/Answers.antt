@@ -1,6 +1,4 @@
-use Rattle.std.proofs.Common.{◌≡◌, List, refl, rules}
-use Rattle.affc_ast.specs.declared.tree.Stmt.{Stmt}
-use Rattle.affc_nest.specs.declared.nest.ArrayInfo.{ArrayInfo}
+use Rattle.std.proofs.Common.{◌≡◌, refl, rules}
 use Rattle.affc_rewrite.specs.declared.subscripts.Folding.{Folding}
 use Rattle.affc_rewrite.proofs.Whole.{walk_there, body_is}
 use Rattle.affc_rewrite.proofs.rewriting.body.Goals as goal

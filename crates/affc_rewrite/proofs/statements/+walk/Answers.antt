@@ -23,13 +23,12 @@ pub statement-statements-requires-in-Block : goal.statement-statements-requires-
 statement-statements-requires-in-Block t c =
     let n : ℕ = c.args.names in
     let q = block_plain n c.args.s.now c.in-Block.locals c.in-Block.body c.in-Block.is c.requires.plain in
-    let k : c.inside-names.result ≡ n + length c.in-Block.locals = c.inside-names.ensures ∙ ap (λ ls. n + length ls) c.as_slice-in-Block.ensures in
-    (
+    let k : c.inside-names.result ≡ n + length c.in-Block.locals = c.inside-names.ensures ∙ ap (λ ls. n + length ls) c.as_slice-in-Block.ensures in (
       first_of (search rules, search (rules, stmt_outs)),
       (
         subst (IsWalk c.args.folding.now) (sym k) (walk_in c.args.folding.now n (length c.in-Block.locals) c.requires.walk q.0),
         subst (λ m. all_under (map (by_stmt accesses_step) c.as_slice-in-Block-2.result.now) m ≡ true) (sym k)
-        (subst (λ ss. all_under (map (by_stmt accesses_step) ss) (n + length c.in-Block.locals) ≡ true) (sym c.as_slice-in-Block-2.ensures) q.1),
+            (subst (λ ss. all_under (map (by_stmt accesses_step) ss) (n + length c.in-Block.locals) ≡ true) (sym c.as_slice-in-Block-2.ensures) q.1),
       ),
     )
 

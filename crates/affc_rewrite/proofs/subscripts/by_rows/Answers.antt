@@ -1,9 +1,7 @@
-use Rattle.std.proofs.Common.{◌≡◌, ◌≤◌, List, length, map, rules, sym, ap, subst, ◌∙◌}
+use Rattle.std.proofs.Common.{◌≡◌, ◌≤◌, length, map, rules, sym, ap, subst, ◌∙◌}
 use Rattle.std.specs.List.{All}
-use Rattle.affc_rows.specs.Forms.{Affine}
 use Rattle.affc_domain.specs.Affine.{form_of}
 use Rattle.affc_domain.proofs.Lists.{length_map}
-use Rattle.affc_rewrite.specs.declared.components.Access.{Access}
 use Rattle.affc_rewrite.specs.Sizes.{IsRow}
 use Rattle.affc_rewrite.proofs.Foldings.{access_fits, rows_fit, few_rows}
 use Rattle.affc_rewrite.proofs.subscripts.by_rows.Goals as goal
