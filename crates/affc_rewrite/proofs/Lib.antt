@@ -1,0 +1,17 @@
+pub mod Tests
+pub mod PrintedForms
+pub mod PlaceComponents
+pub mod Accesses
+pub mod FoldedTemps
+pub mod FoldsPrinted
+pub mod ExampleProofs
+pub mod PartLemmas
+pub mod TermSteps
+pub mod Steps
+pub mod RowSizes
+pub mod Foldings
+pub mod PlainBodies
+pub mod SightLemmas
+pub mod Arms
+pub mod ValueArms
+pub mod Whole

@@ -1,0 +1,5 @@
+use Rattle.affc_rewrite.proofs.ExampleProofs as x
+use Rattle.affc_rewrite.proofs.examples.components.Goals as goal
+
+pub returns : goal.returns
+returns c = record { two_dimensions = x.two_dimensions }

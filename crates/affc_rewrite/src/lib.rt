@@ -1,0 +1,15 @@
+//! The source with folded subscripts and extents, as it is printed.
+#![tactic(auto)]
+
+mod calls;
+mod components;
+pub mod examples;
+mod forms;
+pub mod laws;
+mod rewriting;
+mod statements;
+mod subscripts;
+mod temporaries;
+mod trees;
+
+pub use rewriting::rewrite;
