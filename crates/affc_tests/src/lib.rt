@@ -9,6 +9,8 @@ mod ast;
 #[cfg(test)]
 mod cprint;
 #[cfg(test)]
+mod flow;
+#[cfg(test)]
 mod interp;
 #[cfg(test)]
 mod io;
