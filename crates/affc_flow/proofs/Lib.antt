@@ -15,3 +15,4 @@ pub mod TreeLemmas
 pub mod FindLemmas
 pub mod StopLemmas
 pub mod SlightLemmas
+pub mod PartLemmas
