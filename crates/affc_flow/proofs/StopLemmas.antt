@@ -5,7 +5,7 @@ use Rattle.affc_split.specs.declared.budget.Stop.{Stop}
 use Rattle.affc_split.specs.declared.budget.Stop.TheVariants as stop
 use Rattle.affc_flow.specs.Unwritten.{IfUnwritten, stop_of}
 use Rattle.affc_flow.specs.declared.stop.FlowStop.{FlowStop}
-use Rattle.affc_flow.specs.declared.stop.FlowStop.TheVariants.{Budget, Memory}
+use Rattle.affc_flow.specs.declared.stop.FlowStop.TheVariants.{Memory}
 
 -- they name no load
 pub stopped : (s : Stop) (e : FlowStop) (P : (access : ℕ) → (p : List ℤ) → Instance → Type 0) → e ≡ stop_of s → IfUnwritten e P

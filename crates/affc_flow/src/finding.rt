@@ -12,8 +12,8 @@ ghost use Rattle.affc_flow.specs.Searches.{Covers, Fuel, IsSlightRange, IsLoad};
 ghost use Rattle.affc_flow.specs.Stores.{IsNamedNest};
 ghost use Rattle.affc_flow.specs.Unwritten.{IsUnwritten, IfUnwritten};
 
-use crate::ranges::entry_ranges;
 use crate::load::Load;
+use crate::ranges::entry_ranges;
 use crate::search::{leaf, search};
 use crate::stop::FlowStop;
 use affc_nest::{Access, Entry, Nest};
@@ -138,7 +138,15 @@ fn add_entries(
     match entries {
         [] => Ok(()),
         [entry, rest @ ..] => {
-            add_loads(alloc, nest, entry, entry.accesses.as_slice(), 0, budget, out)?;
+            add_loads(
+                alloc,
+                nest,
+                entry,
+                entry.accesses.as_slice(),
+                0,
+                budget,
+                out,
+            )?;
             add_entries(alloc, nest, rest, budget, out)?;
             Ok(())
         }

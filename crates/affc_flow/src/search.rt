@@ -60,12 +60,7 @@ fn named(alloc: Global, columns: u32, instance: &Instance) -> Result<Quast, Allo
 }
 
 /// A number less a column, over so many columns before that and so many behind.
-fn number_less_column(
-    alloc: Global,
-    at: i64,
-    before: u32,
-    behind: u32,
-) -> Result<Form, AllocError>
+fn number_less_column(alloc: Global, at: i64, before: u32, behind: u32) -> Result<Form, AllocError>
     ensures { IfOk result (λ f. f ≡ record { coefs = replicate before (pos 0) ++ (negsuc 0 ∷ replicate behind (pos 0)); constant = at }) }
 {
     let mut coefs = SmallVec::new(alloc);

@@ -1,4 +1,4 @@
-use Rattle.std.proofs.Common.{◌≡◌, suc, ◌+◌, ◌-◌, ◌≤◌, pos, ◌+ℤ◌, to_z, of_z, w64, rules, List, [], ◌∷◌, ◌++◌, length, get_or, map, take, drop, ap, subst, ◌∙◌, arith}
+use Rattle.std.proofs.Common.{◌≡◌, suc, ◌-◌, ◌≤◌, pos, ◌+ℤ◌, to_z, of_z, w64, rules, [], ◌∷◌, ◌++◌, length, get_or, map, take, drop, ap, subst, ◌∙◌, arith}
 use Rattle.std.proofs.lemmas.Result.{IfOk-weaker}
 use Rattle.affc_system.specs.Boxes.{IsRange}
 use Rattle.affc_quast.specs.Seen.{seen}
@@ -6,7 +6,7 @@ use Rattle.affc_quast.specs.Trees.{Test}
 use Rattle.affc_flow.specs.Searches.{Covers, part_box, Fuel, IsSlightRange}
 use Rattle.affc_flow.specs.Stores.{pin}
 use Rattle.affc_flow.proofs.HalfLemmas.{test_form, halves_cover, next_covers, leaf_covers, next_fuel}
-use Rattle.affc_flow.proofs.PartLemmas.{IsPart, IsMiddle, passed, next_passed, less_passed, not_less_passed, part_passed, covers_passed, middle_passed, some_left, at_slight, behind_slight, low_part, high_part, equal_ends, first_there, next_width, rest_all, then_later}
+use Rattle.affc_flow.proofs.PartLemmas.{passed, next_passed, less_passed, not_less_passed, part_passed, covers_passed, middle_passed, some_left, at_slight, behind_slight, low_part, high_part, equal_ends, first_there, next_width, rest_all, then_later}
 use Rattle.affc_flow.proofs.SlightLemmas.{one_more_slight, few_columns, front_fits, back_fits}
 use Rattle.affc_flow.proofs.search.+search.Goals as goal
 
@@ -103,15 +103,28 @@ search-requires-in-len1-up t c =
     let slight : IsSlightRange first = r.rest_slight 0 (pos 0, pos 0) some in
     let part = part_passed c.args.left first.0 first.1 _ _ more (passed first.0 slight.0) (passed first.1 slight.1)
     (record { ordered = r.rest_ordered 0 (pos 0, pos 0) some; slight = slight; fuel = subst (Fuel c.args.left) q (next_fuel c.args.left (c.args.low, c.args.high) rest r.fuel) }) in
-    let fewer : length rest ≡ suc (length more) = ap length q in
-    (first_of (omega (arith, c.decreases, fewer), search (rules, fewer)),
-    (r.load,
-    (next_width c.args.point.now c.as_slice-in-len1-up.result.now c.args.low rest more first _ w q r.width,
-    (part.ordered,
-    (rest_all IsRange rest more first q r.rest_ordered,
-    (one_more_slight c.args.point.now c.as_slice-in-len1-up.result.now c.args.low w r.point_slight r.range_slight.0,
-    (part.slight,
-    (rest_all IsSlightRange rest more first q r.rest_slight, part.fuel))))))))
+    let fewer : length rest ≡ suc (length more) = ap length q in (
+      first_of (omega (arith, c.decreases, fewer), search (rules, fewer)),
+      (
+        r.load,
+        (
+          next_width c.args.point.now c.as_slice-in-len1-up.result.now c.args.low rest more first _ w q r.width,
+          (
+            part.ordered,
+            (
+              rest_all IsRange rest more first q r.rest_ordered,
+              (
+                one_more_slight c.args.point.now c.as_slice-in-len1-up.result.now c.args.low w r.point_slight r.range_slight.0,
+                (
+                  part.slight,
+                  (rest_all IsSlightRange rest more first q r.rest_slight, part.fuel),
+                ),
+              ),
+            ),
+          ),
+        ),
+      ),
+    )
 
 pub returns-clause-right : goal.returns-clause-right
 returns-clause-right t c =
