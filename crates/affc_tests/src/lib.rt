@@ -9,8 +9,6 @@ mod ast;
 #[cfg(test)]
 mod cprint;
 #[cfg(test)]
-mod flow;
-#[cfg(test)]
 mod interp;
 #[cfg(test)]
 mod io;
