@@ -1,9 +1,9 @@
 -- Numbers within 2^40, and counts of columns.
-use Rattle.std.proofs.Common.{◌≡◌, ℕ, zero, suc, ◌+◌, ◌^◌, ◌≤◌, ℤ, pos, ◌+ℤ◌, ◌≤ℤ◌, ◌<ℤ◌, Fits, w32, rules, List, [], ◌∷◌, ◌++◌, length, take, drop, refl, sym, ap, subst, ◌∙◌, arith}
+use Rattle.std.proofs.Common.{◌≡◌, ℕ, ◌+◌, ◌^◌, ◌≤◌, ℤ, pos, ◌+ℤ◌, ◌≤ℤ◌, ◌<ℤ◌, Fits, w32, rules, List, [], ◌∷◌, ◌++◌, length, sym, subst, arith}
 use Rattle.std.specs.Prelude.{unsigned_abs}
 use Rattle.std.specs.List.{All}
 use Rattle.std.proofs.lemmas.Int.{ints}
-use Rattle.std.proofs.lemmas.List.Elements.{All-nil, All-cons, All-append, All-take, All-drop}
+use Rattle.std.proofs.lemmas.List.Elements.{All-nil, All-cons, All-append}
 use Rattle.affc_nest.specs.declared.nest.Access.{Access}
 use Rattle.affc_nest.specs.declared.nest.Entry.{Entry}
 use Rattle.affc_nest.specs.declared.nest.Nest.{Nest}
@@ -57,30 +57,3 @@ back_fits n k a b e h = few_fit k (few n k (a + b) e h)
   where
     few : (n k s : ℕ) → (n + 1) + k ≡ s → s ≤ 10 → k ≤ 128
     few n k s e h = omega (arith, e, h)
-
--- ---- A point's parameters and iterators
-
-take_is : (k : ℕ) (xs : List ℤ) (l : ℕ) → length xs ≡ k + l → (length (take k xs) ≡ k) × (length (drop k xs) ≡ l) × (take k xs ++ drop k xs ≡ xs)
-take_is zero xs l e = (refl, omega (arith, e), refl)
-take_is (suc k) [] l e = absurd (omega (arith, e))
-take_is (suc k) (x ∷ xs) l e =
-    let r = take_is k xs l (omega (arith, e)) in
-    (ap suc r.0, r.1, ap (λ ys. x ∷ ys) r.2)
-
-pub record SplitAt (point front back : List ℤ) (m l : ℕ) : Type 0 where
-  pub params : length front ≡ m
-  pub loops : length back ≡ l
-  pub whole : front ++ back ≡ point
-  pub front_slight : All IsSlight point → All IsSlight front
-  pub back_slight : All IsSlight point → All IsSlight back
-
-pub split_there : (point front back : List ℤ) (k m l : ℕ) → front ≡ take k point → back ≡ drop k point → k ≡ m → length point ≡ m + l → SplitAt point front back m l
-split_there point front back k m l f b e w =
-    let r = take_is k point l (w ∙ ap (λ j. j + l) (sym e)) in
-    record {
-      params = ap length f ∙ r.0 ∙ e;
-      loops = ap length b ∙ r.1;
-      whole = ap (λ xs. xs ++ back) f ∙ ap (λ xs. take k point ++ xs) b ∙ r.2;
-      front_slight = λ h. subst (All IsSlight) (sym f) (All-take IsSlight k point h);
-      back_slight = λ h. subst (All IsSlight) (sym b) (All-drop IsSlight k point h);
-    }
