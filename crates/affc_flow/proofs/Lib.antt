@@ -13,5 +13,5 @@ pub mod AmongLemmas
 pub mod BesideLemmas
 pub mod TreeLemmas
 pub mod FindLemmas
-pub mod StopLemmas
 pub mod SlightLemmas
+pub mod PartLemmas
