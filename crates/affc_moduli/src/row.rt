@@ -341,9 +341,7 @@ fn made(
     ensures stop { IfErr result (λ e. e ≡ Stop.Budget → budget.new.limit ≡ Some budget.new.spent) }
 {
     let parameters = context.columns() as usize;
-    let shown = farthest(
-        alloc, row, pairs, regions, fs, gs, parameters, budget,
-    )?;
+    let shown = farthest(alloc, row, pairs, regions, fs, gs, parameters, budget)?;
     let Ok(modulus) = modulus_of(
         alloc,
         pairs,

@@ -40,8 +40,7 @@ pub fn key_of(
     system: &PairSystem,
     turned: bool,
     point: &[i64],
-) -> Result<Vec<i128>, AllocError>
-{
+) -> Result<Vec<i128>, AllocError> {
     let x = system.x.as_slice();
     let y = system.y.as_slice();
     let mut key = Vec::new(alloc);
@@ -181,7 +180,11 @@ fn closer(
 {
     let inserted = Inserted {
         after: parameters,
-        count: system.x.as_slice().len().saturating_add(system.y.as_slice().len()),
+        count: system
+            .x
+            .as_slice()
+            .len()
+            .saturating_add(system.y.as_slice().len()),
     };
     match in_order(
         alloc, system, region, form, value, turned, point, parameters,
