@@ -1,4 +1,4 @@
--- The greatest distance again, at another point.
+-- Distances are the values of forms, without their sign.
 use Rattle.std.proofs.Common.{◌≡◌, ℕ, ◌≤◌, List, ℤ, pos, neg_ℤ, ◌≤ℤ◌, ap, ◌∙◌, arith}
 use Rattle.std.specs.Prelude.{unsigned_abs, slice_get, Some}
 use Rattle.std.proofs.lemmas.Int.{ints}
@@ -12,31 +12,10 @@ use Rattle.affc_moduli.specs.Distances.{AreForward, AreBackward, AreOver, IsFart
 use Rattle.affc_moduli.specs.Shown.{IsDistance}
 use Rattle.affc_moduli.proofs.Apart.{apart-turned}
 
-exactly : (a v w : ℤ) (n : ℕ) → w ≡ pos n → w ≤ℤ v → unsigned_abs v ≡ unsigned_abs a → unsigned_abs a ≤ n → unsigned_abs a ≡ n
-exactly a v w n e h k l = omega (arith, ints)
-
 same_abs : (v a : ℤ) → v ≡ neg_ℤ a → unsigned_abs v ≡ unsigned_abs a
 same_abs v a e = omega (arith, ints)
 
 module _ (systems : List PairSystem) (regions : List Region) (cs : List ℤ) where
-  pub again : (i : ℕ) (s : PairSystem) (r : Region) (f : Affine) (old new : Found) → slice_get systems i ≡ Some s → slice_get regions i ≡ Some r → IsDistance cs s r f
-      → IsFarthest systems regions cs (Some old) → InRegion r new.point.items → old.value ≤ℤ value f new.point.items → new.number ≡ i → new.value ≡ old.value → IsFarthest systems regions cs (Some new)
-  again i s r f old new at there along far inside reaches number same =
-      let z = new.point.items in (
-        far.0,
-        same ∙ far.1,
-        far.2,
-        far.3,
-        record {
-          system = s;
-          region = r;
-          system_there = ap (slice_get systems) number ∙ at;
-          region_there = ap (slice_get regions) number ∙ there;
-          inside = inside;
-          apart_by = exactly (apart cs s.x.items s.y.items z) (value f z) old.value far.0 far.1 reaches (along z inside) (far.3 i s r z at there inside);
-        },
-      )
-
   pub distance_forward : (fs : List Affine) → AreForward systems cs fs → AreOver systems regions → (i : ℕ) (s : PairSystem) (r : Region) (f : Affine) → slice_get systems i ≡ Some s → slice_get regions i ≡ Some r → slice_get fs i ≡ Some f
       → IsDistance cs s r f
   distance_forward fs forward over i s r f at there form z inside = ap unsigned_abs ((forward i s f at form).holds z (inside.meets.width ∙ over i s r at there))

@@ -63,7 +63,7 @@ pub comparable_at : (parameters : ℕ) (regions : List Region) (fs : List Affine
     → r ≡ get_or regions i r → f ≡ get_or fs i f → IsComparable parameters r f
 comparable_at parameters regions fs i r f ready h e a b = ready i r f (slice_get_read regions (length regions) i r refl h a) (slice_get_read fs (length regions) i f (sym e) h b)
 
-before_or_at : (j k : ℕ) → j < k + 1 → (j < k) ⊎ (j ≡ k)
+pub before_or_at : (j k : ℕ) → j < k + 1 → (j < k) ⊎ (j ≡ k)
 before_or_at zero zero h = inr refl
 before_or_at zero (suc k) h = inl (omega arith)
 before_or_at (suc j) zero h = absurd (omega arith)

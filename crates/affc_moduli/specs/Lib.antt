@@ -4,3 +4,4 @@ pub mod Rows
 pub mod Ready
 pub mod Enough
 pub mod Shown
+pub mod Parallel

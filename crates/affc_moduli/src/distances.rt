@@ -1,14 +1,10 @@
-//! Distances along a row, and the greatest of them.
-ghost use Rattle.std.specs.Prelude.{◌≡◌, ℕ, ◌^◌, ◌<◌, ◌≤◌, ◌≤ℤ◌, unsigned_abs, pos, Some, IfOk, IfErr, IfSome, length};
+//! Distances along a row, as forms.
+ghost use Rattle.std.specs.Prelude.{◌≡◌, ◌≤◌, unsigned_abs, IfOk, length};
 ghost use Rattle.std.specs.List.{All};
-ghost use Rattle.affc_split.specs.Budgets.{IsLater};
-ghost use Rattle.affc_maximum.specs.Regions.{AreAskable};
-ghost use Rattle.affc_moduli.specs.Distances.{HaveDimensions, AreForward, AreBackward, IsFarthest, AreOver, level};
+ghost use Rattle.affc_moduli.specs.Distances.{HaveDimensions, AreForward, AreBackward};
 
 use affc_differences::difference;
-use affc_maximum::{Found, Region, maximum_of};
 use affc_rows::Form;
-use affc_split::{Budget, Stop};
 use affc_system::PairSystem;
 use std::alloc::{AllocError, Global};
 
@@ -65,48 +61,4 @@ pub fn backward(
         };
     }
     Ok(forms)
-}
-
-/// The value of what is found, or 0.
-fn value_of(found: &Option<Found>) -> i64
-    ensures { result ≡ level found.now }
-{
-    match found {
-        Some(f) => f.value,
-        None => 0,
-    }
-}
-
-/// The greatest distance, where it isn't 0.
-pub fn farthest(
-    alloc: Global,
-    row: &Form,
-    pairs: &[PairSystem],
-    regions: &[Region],
-    fs: &[Form],
-    gs: &[Form],
-    likely: i64,
-    budget: &mut Budget,
-) -> Result<Option<Found>, Stop>
-    requires one_each { length regions.now ≡ length pairs.now }
-    requires fs_each { length fs.now ≡ length pairs.now }
-    requires gs_each { length gs.now ≡ length pairs.now }
-    requires fs { AreForward pairs.now row.now.coefs fs.now }
-    requires gs { AreBackward pairs.now row.now.coefs gs.now }
-    requires over { AreOver pairs.now regions.now }
-    requires fs_ready { AreAskable regions.now fs.now (pos (2 ^ 53)) }
-    requires gs_ready { AreAskable regions.now gs.now (pos (2 ^ 53)) }
-    ensures farthest { IfOk result (λ o. IsFarthest pairs.now regions.now row.now.coefs o) }
-    ensures near { IfOk result (λ o. IfSome o (λ f. unsigned_abs f.value ≤ 2 ^ 55)) }
-    ensures later { IsLater budget.old budget.new }
-    ensures stop { IfErr result (λ e. e ≡ Stop.Budget → budget.new.limit ≡ Some budget.new.spent) }
-{
-    let _row = row;
-    let first = maximum_of(alloc, regions, fs, 0, MOST_DISTANCE, likely, budget)?;
-    let floor = value_of(&first);
-    let second = maximum_of(alloc, regions, gs, floor, MOST_DISTANCE, likely, budget)?;
-    match second {
-        Some(found) => Ok(Some(found)),
-        None => Ok(first),
-    }
 }

@@ -8,6 +8,7 @@ ghost use Rattle.affc_maximum.specs.Regions.{InRegion, IsBounded, IsMeasure};
 ghost use Rattle.affc_basis.specs.Moduli.{IsModulus};
 ghost use Rattle.affc_moduli.specs.Enough.{IsBelow, AreBelow, AreComparable};
 
+use crate::bounds::is_at_most;
 use crate::constant::number;
 use affc_maximum::{Region, reaching};
 use affc_rows::{Form, FormFault};
@@ -78,6 +79,9 @@ fn is_below(
     let Ok(difference) = less_modulus(alloc, form, modulus, columns) else {
         return Err(Stop::Memory);
     };
+    if is_at_most(region, &difference, -1) {
+        return Ok(true);
+    }
     let found = reaching(alloc, region, &difference, 0, budget)?;
     match found {
         Some(_point) => Ok(false),
@@ -120,6 +124,9 @@ pub fn is_within(
     ensures later { IsLater budget.old budget.new }
     ensures stop { IfErr result (λ e. e ≡ Stop.Budget → budget.new.limit ≡ Some budget.new.spent) }
 {
+    if is_at_most(context, modulus, most) {
+        return Ok(true);
+    }
     let found = reaching(alloc, context, modulus, most + 1, budget)?;
     match found {
         Some(_point) => Ok(false),

@@ -92,7 +92,7 @@ fn is_idle(set: u32, dimension: usize, coef: i128, extent: &Form) -> bool {
 }
 
 /// A form and a multiple of another, where the numbers fit.
-fn with_multiple(
+pub fn with_multiple(
     alloc: Global,
     sum: &Form,
     extent: &Form,

@@ -1,11 +1,14 @@
 //! Successive moduli of an array along the rows of a basis, over the pairs of elements that are to be kept apart.
 #![tactic(auto)]
 
+mod bounds;
 mod constant;
 mod distances;
 mod enough;
+mod extremes;
 pub mod fold;
 mod forms;
+mod reordered;
 mod row;
 mod slices;
 mod witness;

@@ -12,10 +12,10 @@ ghost use Rattle.affc_moduli.specs.Ready.{AreReady};
 ghost use Rattle.affc_moduli.specs.Shown.{other_way, swapped};
 
 use crate::constant::{constant_of, number};
-use crate::distances::{backward, farthest, forward};
+use crate::distances::{backward, forward};
+use crate::extremes::farthest;
 use crate::forms::{chosen, context_region};
 use crate::slices::all_narrowed;
-use crate::witness::first_shown;
 use affc_basis::{Mark, Modulus};
 use affc_maximum::{Found, Region};
 use affc_rows::Form;
@@ -341,10 +341,7 @@ fn made(
     ensures stop { IfErr result (λ e. e ≡ Stop.Budget → budget.new.limit ≡ Some budget.new.spent) }
 {
     let parameters = context.columns() as usize;
-    let found = farthest(alloc, row, pairs, regions, fs, gs, 1, budget)?;
-    let shown = first_shown(
-        alloc, row, pairs, regions, fs, gs, found, parameters, budget,
-    )?;
+    let shown = farthest(alloc, row, pairs, regions, fs, gs, parameters, budget)?;
     let Ok(modulus) = modulus_of(
         alloc,
         pairs,

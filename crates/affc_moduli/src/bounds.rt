@@ -1,0 +1,204 @@
+//! How great a form can be in a region, by its box and by single rows, without a question.
+ghost use Rattle.std.specs.Prelude.{◌≡◌, ℕ, ℤ, List, ◌^◌, ◌<◌, ◌≤◌, ◌≤ℤ◌, ◌+ℤ◌, ◌↔◌, unsigned_abs, pos, IsTrue, IfSome};
+ghost use Rattle.std.specs.List.{All};
+ghost use Rattle.affc_rows.specs.Forms.{value};
+ghost use Rattle.affc_system.specs.Systems.{IsRow, Meets};
+ghost use Rattle.affc_maximum.specs.Regions.{InRegion, IsBounded, IsAskable};
+ghost use Rattle.affc_moduli.specs.Parallel.{AreOpposite};
+
+use crate::distances::MOST_DISTANCE;
+use affc_maximum::Region;
+use affc_rows::Form;
+use affc_system::interval;
+
+/// Whether the coefficients of one row are those of another with the other sign.
+fn are_opposite(xs: &[i128], ys: &[i128]) -> bool
+    requires xs { All (λ c. unsigned_abs c ≤ 2 ^ 40) xs.now }
+    requires ys { All (λ c. unsigned_abs c ≤ 2 ^ 40) ys.now }
+    ensures { IsTrue result ↔ AreOpposite xs.now ys.now }
+{
+    match xs {
+        [] => ys.is_empty(),
+        [x, more @ ..] => match ys {
+            [] => false,
+            [y, others @ ..] => *x + *y == 0 && are_opposite(more, others),
+        },
+    }
+}
+
+/// A number within 2^61.
+#[derive(Clone, Copy, Drop)]
+pub struct Bound {
+    pub most: i64,
+    ghost near: { unsigned_abs most ≤ 2 ^ 61 },
+}
+
+/// Whether a row is parallel to a form, the other way round.
+fn opposes(row: &Form, form: &Form, columns: u32) -> bool
+    requires row { IsRow columns row.now }
+    requires form { IsRow columns form.now }
+    ensures { IsTrue result → AreOpposite row.now.coefs form.now.coefs }
+{
+    let _columns = columns;
+    are_opposite(row.coefs.as_slice(), form.coefs.as_slice())
+}
+
+/// The sum of the constants.
+fn sum_of_constants(row: &Form, form: &Form, columns: u32) -> Bound
+    requires row { IsRow columns row.now }
+    requires form { IsRow columns form.now }
+    ensures { result.most ≡ row.now.constant +ℤ form.now.constant }
+{
+    let _columns = columns;
+    Bound {
+        most: (row.constant + form.constant) as i64,
+    }
+}
+
+/// The lesser of a bound and the one that a row gives where it is parallel to the form.
+fn lowered(region: &Region, row: &Form, form: &Form, bound: Bound) -> Bound
+    requires row { IsRow region.now.system.columns row.now }
+    requires form { IsRow region.now.system.columns form.now }
+    requires meets { (z : List ℤ) → InRegion region.now z → Meets z row.now }
+    requires bounded { IsBounded region.now form.now bound.most }
+    ensures bounded { IsBounded region.now form.now result.most }
+{
+    let columns = region.system.columns();
+    if !opposes(row, form, columns) {
+        return bound;
+    }
+    let sum = sum_of_constants(row, form, columns);
+    if sum.most < bound.most { sum } else { bound }
+}
+
+/// The least of a bound and those that parallel rows give.
+fn by_rows(region: &Region, form: &Form, begun: Bound) -> Bound
+    requires form { IsRow region.now.system.columns form.now }
+    requires bounded { IsBounded region.now form.now begun.most }
+    ensures bounded { IsBounded region.now form.now result.most }
+{
+    let mut bound = begun;
+    for row in region.system.rows() {
+        bound = lowered(region, row, form, bound);
+    }
+    bound
+}
+
+/// The greatest value of a form over the box of its region, where it is within reach.
+fn by_box(region: &Region, form: &Form) -> Option<Bound>
+    requires form { IsRow region.now.system.columns form.now }
+    ensures bounded { IfSome result (λ b. IsBounded region.now form.now b.most) }
+{
+    match interval(form, &region.ranges) {
+        Ok((_low, high)) if high.unsigned_abs() <= 1 << 61 => Some(Bound { most: high as i64 }),
+        _ => None,
+    }
+}
+
+/// A number that a form isn't above anywhere in its region, by the box and by parallel rows.
+fn plain_bound(region: &Region, form: &Form) -> Option<Bound>
+    requires form { IsRow region.now.system.columns form.now }
+    ensures bounded { IfSome result (λ b. IsBounded region.now form.now b.most) }
+{
+    match by_box(region, form) {
+        Some(bound) => Some(by_rows(region, form, bound)),
+        None => None,
+    }
+}
+
+/// Whether a row is below 0 throughout a region, by the box and by parallel rows.
+fn is_broken(region: &Region, row: &Form) -> bool
+    requires row { IsRow region.now.system.columns row.now }
+    requires meets { (z : List ℤ) → InRegion region.now z → Meets z row.now }
+    ensures { IsTrue result → (z : List ℤ) → InRegion region.now z → ⊥ }
+{
+    match plain_bound(region, row) {
+        Some(bound) => bound.most < 0,
+        None => false,
+    }
+}
+
+/// Whether a region is seen to have no point.
+fn is_void(region: &Region) -> bool
+    ensures { IsTrue result → (z : List ℤ) → InRegion region.now z → ⊥ }
+{
+    for row in region.system.rows() {
+        if is_broken(region, row) {
+            return true;
+        }
+    }
+    false
+}
+
+/// The bound of a region without a point.
+fn nothing(region: &Region, form: &Form) -> Bound
+    requires void { (z : List ℤ) → InRegion region.now z → ⊥ }
+    ensures bounded { IsBounded region.now form.now result.most }
+{
+    let _region = region;
+    let _form = form;
+    Bound { most: -1 }
+}
+
+/// A number that a form isn't above anywhere in its region, if one is seen without a question.
+pub fn upper_bound(region: &Region, form: &Form) -> Option<Bound>
+    requires form { IsRow region.now.system.columns form.now }
+    ensures bounded { IfSome result (λ b. IsBounded region.now form.now b.most) }
+{
+    if is_void(region) {
+        Some(nothing(region, form))
+    } else {
+        plain_bound(region, form)
+    }
+}
+
+/// Whether a form is seen to be at most a number throughout its region.
+pub fn is_at_most(region: &Region, form: &Form, most: i64) -> bool
+    requires form { IsRow region.now.system.columns form.now }
+    ensures { IsTrue result → IsBounded region.now form.now most }
+{
+    match upper_bound(region, form) {
+        Some(bound) => bound.most <= most,
+        None => false,
+    }
+}
+
+/// A bound, but from 0 to the greatest distance.
+fn within_distances(region: &Region, form: &Form, bound: Bound) -> Bound
+    requires askable { IsAskable region.now form.now (pos (2 ^ 53)) }
+    requires bounded { IsBounded region.now form.now bound.most }
+    ensures bounded { IsBounded region.now form.now result.most }
+    ensures positive { pos 0 ≤ℤ result.most }
+    ensures within { result.most ≤ℤ pos (2 ^ 53) }
+{
+    let _region = region;
+    let _form = form;
+    if bound.most < 0 {
+        Bound { most: 0 }
+    } else if bound.most > MOST_DISTANCE {
+        Bound {
+            most: MOST_DISTANCE,
+        }
+    } else {
+        bound
+    }
+}
+
+/// A number that a form isn't above anywhere in its region, from 0 to the greatest distance.
+pub fn ceiling_of(region: &Region, form: &Form) -> Bound
+    requires askable { IsAskable region.now form.now (pos (2 ^ 53)) }
+    ensures bounded { IsBounded region.now form.now result.most }
+    ensures positive { pos 0 ≤ℤ result.most }
+    ensures within { result.most ≤ℤ pos (2 ^ 53) }
+{
+    match upper_bound(region, form) {
+        Some(bound) => within_distances(region, form, bound),
+        None => within_distances(
+            region,
+            form,
+            Bound {
+                most: MOST_DISTANCE,
+            },
+        ),
+    }
+}

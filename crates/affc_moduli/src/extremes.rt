@@ -1,0 +1,357 @@
+//! The greatest distance along a row, and where elements have it.
+ghost use Rattle.std.specs.Prelude.{◌≡◌, ℕ, ◌+◌, ◌^◌, ◌<◌, ◌≤◌, ◌≤ℤ◌, unsigned_abs, pos, ◌+ℤ◌, slice_get, Some, None, IfOk, IfErr, IfSome, IfNone, length};
+ghost use Rattle.affc_rows.specs.Forms.{value};
+ghost use Rattle.affc_split.specs.Budgets.{IsLater};
+ghost use Rattle.affc_maximum.specs.Regions.{InRegion, IsMeasure, IsBounded, IsAskable, AreAskable};
+ghost use Rattle.affc_maximum.specs.Searches.{AreBoundedBefore};
+ghost use Rattle.affc_moduli.specs.Distances.{AreForward, AreBackward, AreOver, IsFarthest};
+ghost use Rattle.affc_moduli.specs.Shown.{IsDistance, IsTie, IsSought};
+
+use crate::bounds::ceiling_of;
+use crate::witness::{is_before, key_of, settled};
+use affc_maximum::{Found, Region, maximum};
+use affc_rows::Form;
+use affc_split::{Budget, Stop};
+use affc_system::PairSystem;
+use std::alloc::{AllocError, Global};
+
+/// A point at which two elements lie apart, and whether the second is shown before the first: the row has the greater value at
+/// the element that is shown last. The elements are compared by the key.
+#[derive(Drop)]
+pub struct Candidate {
+    found: Found,
+    turned: bool,
+    key: Vec<i128>,
+}
+
+/// The greatest distance so far, or 0, and of the points that have it the one that is shown.
+#[derive(Drop)]
+pub struct Sought {
+    level: i64,
+    best: Option<Candidate>,
+}
+
+/// Where elements lie farthest apart, if anything lies apart, and whether the second is shown before the first.
+#[derive(Drop)]
+pub struct Shown {
+    pub found: Option<Found>,
+    pub turned: bool,
+}
+
+/// Whether the first numbers of one point come before those of another.
+fn is_earlier(point: &[i64], other: &[i64], parameters: usize) -> bool {
+    for (p, q) in point.iter().zip(other).take(parameters) {
+        if *p != *q {
+            return *p < *q;
+        }
+    }
+    false
+}
+
+/// Whether a candidate comes before another that lies as far apart: by its parameters, and then by its elements.
+fn comes_before(candidate: &Candidate, other: &Candidate, parameters: usize) -> bool {
+    let point = candidate.found.point.as_slice();
+    let second = other.found.point.as_slice();
+    if is_earlier(point, second, parameters) {
+        return true;
+    }
+    !is_earlier(second, point, parameters)
+        && is_before(candidate.key.as_slice(), other.key.as_slice())
+}
+
+/// Whether a candidate comes before the one that is shown so far.
+fn is_first(sought: &Sought, candidate: &Candidate, parameters: usize) -> bool {
+    match &sought.best {
+        Some(best) => comes_before(candidate, best, parameters),
+        None => true,
+    }
+}
+
+/// Whether the parameters of a point come behind those of the candidate that is shown so far.
+fn is_behind(sought: &Sought, point: &[i64], parameters: usize) -> bool {
+    match &sought.best {
+        Some(best) => is_earlier(best.found.point.as_slice(), point, parameters),
+        None => false,
+    }
+}
+
+/// A candidate that is shown.
+fn taken(row: &Form, pairs: &[PairSystem], regions: &[Region], candidate: Candidate) -> Sought
+    requires tie { IsTie pairs.now regions.now row.now.coefs candidate.found.value candidate.found }
+    requires near { unsigned_abs candidate.found.value ≤ 2 ^ 55 }
+    ensures sought { IsSought pairs.now regions.now row.now.coefs result }
+    ensures level { result.level ≡ candidate.found.value }
+{
+    let _row = row;
+    let _pairs = pairs;
+    let _regions = regions;
+    Sought {
+        level: candidate.found.value,
+        best: Some(candidate),
+    }
+}
+
+/// What is known with a candidate more, whose elements lie at least as far apart as any before.
+fn joined(
+    row: &Form,
+    pairs: &[PairSystem],
+    regions: &[Region],
+    sought: Sought,
+    candidate: Candidate,
+    parameters: usize,
+) -> Sought
+    requires sought { IsSought pairs.now regions.now row.now.coefs sought }
+    requires tie { IsTie pairs.now regions.now row.now.coefs candidate.found.value candidate.found }
+    requires near { unsigned_abs candidate.found.value ≤ 2 ^ 55 }
+    ensures sought { IsSought pairs.now regions.now row.now.coefs result }
+    ensures level { result.level ≡ candidate.found.value }
+{
+    if candidate.found.value == sought.level && !is_first(&sought, &candidate, parameters) {
+        return sought;
+    }
+    taken(row, pairs, regions, candidate)
+}
+
+/// A point of a region at which a form has a value, as a candidate.
+fn candidate_at(
+    alloc: Global,
+    row: &Form,
+    pairs: &[PairSystem],
+    regions: &[Region],
+    number: usize,
+    system: &PairSystem,
+    region: &Region,
+    form: &Form,
+    turned: bool,
+    most: i64,
+    point: Vec<i64>,
+) -> Result<Candidate, AllocError>
+    requires system { slice_get pairs.now number ≡ Some system.now }
+    requires region { slice_get regions.now number ≡ Some region.now }
+    requires distance { IsDistance row.now.coefs system.now region.now form.now }
+    requires near { unsigned_abs most ≤ 2 ^ 55 }
+    requires positive { pos 1 ≤ℤ most }
+    requires inside { InRegion region.now point.items }
+    requires attained { value form.now point.items ≡ most }
+    ensures tie { IfOk result (λ c. IsTie pairs.now regions.now row.now.coefs c.found.value c.found) }
+    ensures value { IfOk result (λ c. c.found.value ≡ most) }
+{
+    let _row = row;
+    let _pairs = pairs;
+    let _regions = regions;
+    let _region = region;
+    let _form = form;
+    let key = key_of(alloc, system, turned, point.as_slice())?;
+    let found = Found {
+        number,
+        value: most,
+        point,
+    };
+    Ok(Candidate { found, turned, key })
+}
+
+/// What is known with the greatest value of a form in its region, where that is at least as great as any before.
+fn met(
+    alloc: Global,
+    row: &Form,
+    pairs: &[PairSystem],
+    regions: &[Region],
+    number: usize,
+    system: &PairSystem,
+    region: &Region,
+    form: &Form,
+    turned: bool,
+    sought: Sought,
+    most: i64,
+    point: Vec<i64>,
+    parameters: usize,
+    budget: &mut Budget,
+) -> Result<Sought, Stop>
+    requires system { slice_get pairs.now number ≡ Some system.now }
+    requires region { slice_get regions.now number ≡ Some region.now }
+    requires measure { IsMeasure region.now.system.columns form.now }
+    requires distance { IsDistance row.now.coefs system.now region.now form.now }
+    requires sought { IsSought pairs.now regions.now row.now.coefs sought }
+    requires near { unsigned_abs most ≤ 2 ^ 55 }
+    requires positive { pos 1 ≤ℤ most }
+    requires inside { InRegion region.now point.items }
+    requires attained { value form.now point.items ≡ most }
+    ensures sought { IfOk result (λ s. IsSought pairs.now regions.now row.now.coefs s) }
+    ensures level { IfOk result (λ s. s.level ≡ most) }
+    ensures later { IsLater budget.old budget.new }
+    ensures stop { IfErr result (λ e. e ≡ Stop.Budget → budget.new.limit ≡ Some budget.new.spent) }
+{
+    if most == sought.level && is_behind(&sought, point.as_slice(), parameters) {
+        return Ok(sought);
+    }
+    let shown = settled(
+        alloc, system, region, form, most, turned, point, parameters, budget,
+    )?;
+    let candidate = candidate_at(
+        alloc, row, pairs, regions, number, system, region, form, turned, most, shown,
+    )?;
+    Ok(joined(row, pairs, regions, sought, candidate, parameters))
+}
+
+/// Below what there is nothing to be found: a distance of at least 1, as great as the greatest so far.
+fn floor_of(level: i64) -> i64
+    requires natural { pos 0 ≤ℤ level }
+    requires near { unsigned_abs level ≤ 2 ^ 55 }
+    ensures natural { pos 0 ≤ℤ result }
+    ensures within { result ≤ℤ level }
+    ensures near { unsigned_abs result ≤ 2 ^ 55 }
+    ensures above { level ≤ℤ (result +ℤ pos 1) }
+{
+    if level == 0 { 0 } else { level - 1 }
+}
+
+/// What is known with one form more.
+fn asked(
+    alloc: Global,
+    row: &Form,
+    pairs: &[PairSystem],
+    regions: &[Region],
+    number: usize,
+    system: &PairSystem,
+    region: &Region,
+    form: &Form,
+    turned: bool,
+    sought: Sought,
+    parameters: usize,
+    budget: &mut Budget,
+) -> Result<Sought, Stop>
+    requires system { slice_get pairs.now number ≡ Some system.now }
+    requires region { slice_get regions.now number ≡ Some region.now }
+    requires askable { IsAskable region.now form.now (pos (2 ^ 53)) }
+    requires distance { IsDistance row.now.coefs system.now region.now form.now }
+    requires sought { IsSought pairs.now regions.now row.now.coefs sought }
+    ensures sought { IfOk result (λ s. IsSought pairs.now regions.now row.now.coefs s) }
+    ensures rises { IfOk result (λ s. sought.level ≤ℤ s.level) }
+    ensures bounded { IfOk result (λ s. IsBounded region.now form.now s.level) }
+    ensures later { IsLater budget.old budget.new }
+    ensures stop { IfErr result (λ e. e ≡ Stop.Budget → budget.new.limit ≡ Some budget.new.spent) }
+{
+    let floor = floor_of(sought.level);
+    let ceiling = ceiling_of(region, form).most;
+    let found = maximum(alloc, region, form, floor, ceiling, ceiling, budget)?;
+    match found {
+        None => Ok(sought),
+        Some(best) => {
+            let more = met(
+                alloc, row, pairs, regions, number, system, region, form, turned, sought,
+                best.value, best.point, parameters, budget,
+            )?;
+            Ok(more)
+        }
+    }
+}
+
+/// What is known with one region more, both ways.
+fn both_ways(
+    alloc: Global,
+    row: &Form,
+    pairs: &[PairSystem],
+    regions: &[Region],
+    fs: &[Form],
+    gs: &[Form],
+    i: usize,
+    sought: Sought,
+    parameters: usize,
+    budget: &mut Budget,
+) -> Result<Sought, Stop>
+    requires within { i < length regions.now }
+    requires one_each { length regions.now ≡ length pairs.now }
+    requires fs_each { length fs.now ≡ length pairs.now }
+    requires gs_each { length gs.now ≡ length pairs.now }
+    requires fs { AreForward pairs.now row.now.coefs fs.now }
+    requires gs { AreBackward pairs.now row.now.coefs gs.now }
+    requires over { AreOver pairs.now regions.now }
+    requires fs_ready { AreAskable regions.now fs.now (pos (2 ^ 53)) }
+    requires gs_ready { AreAskable regions.now gs.now (pos (2 ^ 53)) }
+    requires sought { IsSought pairs.now regions.now row.now.coefs sought }
+    requires forward { AreBoundedBefore i regions.now fs.now sought.level }
+    requires backward { AreBoundedBefore i regions.now gs.now sought.level }
+    ensures sought { IfOk result (λ s. IsSought pairs.now regions.now row.now.coefs s) }
+    ensures forward { IfOk result (λ s. AreBoundedBefore (i + 1) regions.now fs.now s.level) }
+    ensures backward { IfOk result (λ s. AreBoundedBefore (i + 1) regions.now gs.now s.level) }
+    ensures later { IsLater budget.old budget.new }
+    ensures stop { IfErr result (λ e. e ≡ Stop.Budget → budget.new.limit ≡ Some budget.new.spent) }
+{
+    let system = &pairs[i];
+    let region = &regions[i];
+    let f = &fs[i];
+    let g = &gs[i];
+    let once = asked(
+        alloc, row, pairs, regions, i, system, region, f, true, sought, parameters, budget,
+    )?;
+    let twice = asked(
+        alloc, row, pairs, regions, i, system, region, g, false, once, parameters, budget,
+    )?;
+    Ok(twice)
+}
+
+/// Nothing sought yet.
+fn unsought(row: &Form, pairs: &[PairSystem], regions: &[Region]) -> Sought
+    ensures { IsSought pairs.now regions.now row.now.coefs result }
+{
+    let _row = row;
+    let _pairs = pairs;
+    let _regions = regions;
+    Sought {
+        level: 0,
+        best: None,
+    }
+}
+
+/// What is shown in the end.
+fn result_of(row: &Form, pairs: &[PairSystem], regions: &[Region], sought: Sought) -> Shown
+    requires best { IfSome sought.best (λ c. IsFarthest pairs.now regions.now row.now.coefs (Some c.found)) }
+    requires none { IfNone sought.best (IsFarthest pairs.now regions.now row.now.coefs None) }
+    ensures { IsFarthest pairs.now regions.now row.now.coefs result.found }
+{
+    let _row = row;
+    let _pairs = pairs;
+    let _regions = regions;
+    match sought.best {
+        Some(best) => Shown {
+            found: Some(best.found),
+            turned: best.turned,
+        },
+        None => Shown {
+            found: None,
+            turned: false,
+        },
+    }
+}
+
+/// Where elements lie farthest apart along a row: at the least parameters, and there at the elements that come first.
+pub fn farthest(
+    alloc: Global,
+    row: &Form,
+    pairs: &[PairSystem],
+    regions: &[Region],
+    fs: &[Form],
+    gs: &[Form],
+    parameters: usize,
+    budget: &mut Budget,
+) -> Result<Shown, Stop>
+    requires one_each { length regions.now ≡ length pairs.now }
+    requires fs_each { length fs.now ≡ length pairs.now }
+    requires gs_each { length gs.now ≡ length pairs.now }
+    requires fs { AreForward pairs.now row.now.coefs fs.now }
+    requires gs { AreBackward pairs.now row.now.coefs gs.now }
+    requires over { AreOver pairs.now regions.now }
+    requires fs_ready { AreAskable regions.now fs.now (pos (2 ^ 53)) }
+    requires gs_ready { AreAskable regions.now gs.now (pos (2 ^ 53)) }
+    ensures farthest { IfOk result (λ s. IsFarthest pairs.now regions.now row.now.coefs s.found) }
+    ensures later { IsLater budget.old budget.new }
+    ensures stop { IfErr result (λ e. e ≡ Stop.Budget → budget.new.limit ≡ Some budget.new.spent) }
+{
+    let mut sought = unsought(row, pairs, regions);
+    for i in 0..regions.len() {
+        sought = both_ways(
+            alloc, row, pairs, regions, fs, gs, i, sought, parameters, budget,
+        )?;
+    }
+    Ok(result_of(row, pairs, regions, sought))
+}
