@@ -2,6 +2,7 @@
 #![tactic(auto)]
 
 pub mod examples;
+pub mod finding;
 mod greatest;
 mod later;
 mod latest;
@@ -10,4 +11,5 @@ mod pairs;
 mod ranges;
 pub mod stop;
 
+pub use finding::find;
 pub use stop::FlowStop;
