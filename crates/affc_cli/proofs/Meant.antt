@@ -1,5 +1,6 @@
 -- What a source is refused for, from what its compilation said.
 use Rattle.std.proofs.Common.{◌≡◌, ℕ, ℤ, List, Option, Some, None, IsSome, refl, ap, sym, subst, ◌∙◌, inl, inr}
+use Rattle.std.proofs.lemmas.Option.{none-some}
 use Rattle.affc_ast.specs.declared.tree.Instance.{Instance}
 use Rattle.affc_ast.specs.declared.tree.Program.{Program}
 use Rattle.affc_grammar.specs.Reads.{Reads}
@@ -120,3 +121,7 @@ meant_trees source Unbuilt cause = absurd cause
 -- units were spent where there is a limit
 pub counted : (budget limit before : Option ℕ) (spent : ℕ) → before ≡ budget → limit ≡ before → limit ≡ Some spent → IsSome budget
 counted budget limit before spent given kept e = subst IsSome (sym e ∙ kept ∙ given) refl
+
+-- and none where there is no limit
+pub uncounted : (limit before : Option ℕ) (spent : ℕ) → before ≡ None → limit ≡ before → limit ≡ Some spent → ⊥
+uncounted limit before spent given kept e = none-some spent (sym (kept ∙ given) ∙ e)

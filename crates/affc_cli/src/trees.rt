@@ -36,10 +36,10 @@ fn told(alloc: Global, source: &[u8], refusal: FlowRefusal) -> Refusal
             &instance,
         ),
         FlowRefusal::Memory => Refusal::Memory,
-        FlowRefusal::Schedule(_)
-        | FlowRefusal::Illegal { p: _, a: _, b: _ }
-        | FlowRefusal::Budget
-        | FlowRefusal::Unbuilt => unreachable!(),
+        FlowRefusal::Schedule(_) => unreachable!(),
+        FlowRefusal::Illegal { p: _, a: _, b: _ } => unreachable!(),
+        FlowRefusal::Budget => unreachable!(),
+        FlowRefusal::Unbuilt => unreachable!(),
     }
 }
 

@@ -7,7 +7,7 @@ use Rattle.std.proofs.lemmas.Option.{same_Some}
 use Rattle.affc_ast.specs.declared.tree.Program.{Program}
 use Rattle.affc_ast.specs.Trace.{assignments}
 use Rattle.affc_trace.specs.Law.{IsIn}
-use Rattle.affc_domain.specs.Plain.{IsPlain}
+use Rattle.affc_domain.proofs.Lists.{length_map}
 use Rattle.affc_nest.specs.declared.nest.Access.{Access}
 use Rattle.affc_nest.specs.declared.nest.Entry.{Entry}
 use Rattle.affc_nest.specs.declared.nest.Nest.{Nest}
@@ -37,13 +37,13 @@ record LoadOf (es : List Entry) (k : ℕ) : Type 0 where
 
 load_of : (es : List Entry) (k : ℕ) → k < loads_before es (length es) → LoadOf es k
 load_of [] k h = absurd (omega (arith, h))
-load_of (e ∷ es) k h = by (nat_lt k (loads_in e)) refl
+load_of (e ∷ es) k h = by (nat_lt k (loads_in e)) refl (λ l. load_of es (k - loads_in e) l)
   where
-    by : (t : Bool) → nat_lt k (loads_in e) ≡ t → LoadOf (e ∷ es) k
-    by true q = record { statement = 0; entry = e; there = refl; load = k; below = ltb-true k (loads_in e) q; is = omega arith }
-    by false q =
+    by : (t : Bool) → nat_lt k (loads_in e) ≡ t → (k - loads_in e < loads_before es (length es) → LoadOf es (k - loads_in e)) → LoadOf (e ∷ es) k
+    by true q later = record { statement = 0; entry = e; there = refl; load = k; below = ltb-true k (loads_in e) q; is = omega arith }
+    by false q later =
         let m : loads_in e ≤ k = ltb-false k (loads_in e) q in
-        let r = load_of es (k - loads_in e) (omega (arith, h, m)) in
+        let r = later (omega (arith, h, m)) in
         let i = r.is in
         record { statement = suc r.statement; entry = r.entry; there = r.there; load = r.load; below = r.below; is = omega (arith, i, m) }
 
@@ -51,15 +51,11 @@ module _ (nest : Nest) (flow : Flow) (limits : AreTreesWithin narrow 302 12 nest
   abbrev Short : Quast → Type 0
   Short tree = depth_of (seen tree) ≤ 400
 
-  long_map : (qs : List Quast) → length (map seen qs) ≡ length qs
-  long_map [] = refl
-  long_map (q ∷ qs) = ap (λ n. n + 1) (long_map qs)
-
   one_short : (tree : Quast) → IsIn tree flow.trees → Short tree
   one_short tree i =
       let k = place_of flow.trees tree i in
       let inside : k.0 < loads_before nest.entries (length nest.entries) =
-      (let a = below_length flow.trees k.0 tree k.1 in let b = long_map flow.trees in let c = limits.no_more in omega (arith, a, b, c)) in
+      (let a = below_length flow.trees k.0 tree k.1 in let b = length_map seen flow.trees in let c = limits.no_more in omega (arith, a, b, c)) in
       let r = load_of nest.entries k.0 inside in
       let x = there_is r.entry.accesses r.load (fewer (length r.entry.accesses) r.load r.below) in
       let t = limits.each r.statement r.load r.entry x.0 r.there r.below x.1 in

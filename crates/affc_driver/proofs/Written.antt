@@ -13,6 +13,8 @@ use Rattle.affc_trace.specs.Laws.{IsInContext}
 use Rattle.affc_trace.proofs.Runs.{length_append}
 use Rattle.affc_domain.specs.Plain.{IsPlain}
 use Rattle.affc_domain.specs.Ranges.{number_ranges}
+use Rattle.affc_domain.specs.Arrays.{declared_arrays}
+use Rattle.affc_domain.proofs.Lists.{length_map}
 use Rattle.affc_domain.proofs.RangeLemmas.{box_length, in_ranges}
 use Rattle.affc_safe.specs.Safe.{LoadsWritten}
 use Rattle.affc_safe.proofs.Accesses.{touches_are_accesses}
@@ -34,10 +36,6 @@ use Rattle.affc_flow.specs.Unwritten.{LoadsUnwritten}
 use Rattle.affc_flow.proofs.FlowLemmas.{mapped_at, front_at}
 use Rattle.affc_driver.proofs.Roles.{HasRoles, temporary_far, far_temporary}
 
-long_map : {A B : Type 0} (f : A → B) (xs : List A) → length (map f xs) ≡ length xs
-long_map f [] = refl
-long_map f (x ∷ xs) = ap (λ n. n + 1) (long_map f xs)
-
 -- the access of the nest that stands for a load of an instance
 pub record LoadAt (program : Program) (b : Instance) (load : ℕ) (x : Element) : Type 0 where
   pub entry : Entry
@@ -58,7 +56,7 @@ load_at program p b load x has inside runs loaded =
     let events = events_are program has p l e b.iterators r.2 in
     let its_load : slice_get (loads_of program p here) load ≡ Some x = subst (λ i. slice_get (loads_of program p i) load ≡ Some x) (sym same) loaded in
     let count : length e.accesses ≡ length (loads_of program p here) + 1 =
-    sym (long_map (element_at (p ++ b.iterators)) e.accesses) ∙ ap length events ∙ length_append (loads_of program p here) (store_of program p here ∷ []) in
+    sym (length_map (element_at (p ++ b.iterators)) e.accesses) ∙ ap length events ∙ length_append (loads_of program p here) (store_of program p here ∷ []) in
     let small : load < length (loads_of program p here) = below_length (loads_of program p here) load x its_load in
     let a = there_is e.accesses load (omega (arith, count, small)) in
     let element : element_at (p ++ b.iterators) a.0 ≡ x =
@@ -86,7 +84,7 @@ loads_written program p trees has names roles inside all b x runs loads far =
     let r = touches_are_accesses program p b x runs (inl loads) in
     let d = names r.assignment r.access (stands_in (assignments program) b.statement r.assignment r.its_assignment) r.is_access in
     let number : x.0 ≡ r.access.0.0 = ap (λ (y : Element). y.0) r.is_element in
-    let own : IsTrue (is_temporary (nest_of program) x.0) = far_temporary program roles x.0 d.0 (subst (λ n. slice_get _ n ≡ Some d.0) (sym number) d.1) far in
+    let own : IsTrue (is_temporary (nest_of program) x.0) = far_temporary program roles x.0 d.0 (subst (λ n. slice_get (declared_arrays program) n ≡ Some d.0) (sym number) d.1) far in
     let temp : IsTrue (is_temporary (nest_of program) load.access.array.0) = subst (λ n. IsTrue (is_temporary (nest_of program) n)) (sym load.of_array) own in
     let tree = all.sources b.statement k.0 load.entry load.there load.below in
     let w = all.written b.statement k.0 load.entry load.access tree.0 b load.there load.below load.at temp tree.1 refl runs in
