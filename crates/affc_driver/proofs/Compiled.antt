@@ -19,7 +19,9 @@ use Rattle.affc_loops.proofs.LoopLaws.{loops_compile}
 use Rattle.affc_loopprint.specs.Laws.{LoopsWellNamed}
 use Rattle.affc_schedtext.specs.declared.plan.Plan.{Plan}
 use Rattle.affc_schedtext.proofs.Scheduled.{is_scheduled, is_limited}
+use Rattle.affc_nest.specs.Laws.{NamesArrays}
 use Rattle.affc_bounds.specs.Faults.{StaysWithin}
+use Rattle.affc_bounds.proofs.LawProofs.{staying_is_safe}
 use Rattle.affc_driver.specs.Folds.{FoldsTo}
 use Rattle.affc_driver.specs.Plans.{HasPlan, LegalThroughout, WrittenThroughout}
 use Rattle.affc_driver.specs.Reports.{report_text}
@@ -49,6 +51,10 @@ within_never_stuck text program reads bare within written p store fits =
 pub named_is_written : NamedIsWritten
 named_is_written text program trees reads bare within named p inside =
     loads_written program p trees (record { plain = reads_plain text program reads bare; near = within.near }) (reads_naming_arrays text program reads) (reads_roles text program reads bare) inside (named p inside)
+
+-- each load of a temporary is, where there are no temporaries
+pub none_is_written : (program : Program) → NamesArrays program → StaysWithin program → program.temps ≡ [] → WrittenThroughout program
+none_is_written program names within none p inside = (staying_is_safe program p within names none inside).written
 
 -- ---- The schedule of a plan
 

@@ -43,7 +43,7 @@ use Rattle.affc_driver.proofs.Roles.{reads_roles, temporary_far}
 
 -- ---- A program that is never stuck
 
-sound_of : (text : List ℕ) (schedule : Option (List ℕ)) → IsFoldable text schedule → IsSound text
+abbrev sound_of : (text : List ℕ) (schedule : Option (List ℕ)) → IsFoldable text schedule → IsSound text
 sound_of text schedule f = record { program = f.program; reads = f.reads; plain = f.plain; near = f.near; some = f.some; never_stuck = f.never_stuck }
 
 safe_at : (text : List ℕ) (s : IsSound text) (p : List ℤ) → IsInContext s.program p → IsSafe s.program p

@@ -1,5 +1,5 @@
 -- What each refusal says of all texts of a program.
-use Rattle.std.proofs.Common.{◌≡◌, ◌≢◌, ◌∙◌, ◌==◌, ℕ, ℤ, Bool, false, IsTrue, List, [], length, Option, Some, None, refl, sym, ap}
+use Rattle.std.proofs.Common.{◌≡◌, ◌≢◌, ◌∙◌, ◌==◌, ℕ, ℤ, Bool, false, IsTrue, List, [], length, Option, Some, None, refl, sym, ap, subst}
 use Rattle.std.specs.Prelude.{slice_get}
 use Rattle.std.proofs.lemmas.Bool.{false≢true}
 use Rattle.affc_ast.specs.declared.tree.Instance.{Instance}
@@ -23,6 +23,12 @@ use Rattle.affc_nest.specs.declared.nest.Entry.{Entry}
 use Rattle.affc_flow.specs.Stores.{IsNamedNest}
 use Rattle.affc_flow.specs.Unwritten.{IsUnwritten}
 use Rattle.affc_driver.specs.Plans.{HasPlan, as_it_stands, LegalThroughout, WrittenThroughout}
+use Rattle.affc_quast.specs.Limits.{narrow, AreTreesWithin}
+use Rattle.affc_quast.specs.Trees.{Tree}
+use Rattle.affc_flow.specs.Finds.{AreInputs}
+use Rattle.affc_report.specs.Trees.{flow_text}
+use Rattle.affc_schedtext.specs.Outline.{outline}
+use Rattle.affc_driver.specs.Flows.{NameThroughout, FlowsTo}
 use Rattle.affc_driver.specs.Programs.{OfEachText, OfEachPlan}
 use Rattle.affc_driver.specs.Refusals.{RefusalSays, FlowRefusalSays, MeaningSays, IsPlanned}
 use Rattle.affc_driver.specs.declared.refusal.Refusal.{Refusal}
@@ -141,3 +147,18 @@ unbuilt program plan within written legal more schedule has source reads bare = 
 -- a list that was looked at and isn't empty
 pub some_there : {A : Type 0} (xs seen : List A) (is_empty : Bool) → seen ≡ xs → is_empty ≡ (length seen == 0) → is_empty ≡ false → xs ≢ []
 some_there xs seen is_empty same is off none = absurd (false≢true (sym off ∙ is ∙ ap (λ l. length l == 0) (same ∙ none)))
+
+-- what the text of trees tells
+pub told_trees : (program : Program) (nest : Nest) (trees : List Tree) (text : List ℕ) → nest ≡ nest_of program → StaysWithin program → NameThroughout program trees
+    → AreTreesWithin narrow 302 12 nest trees → AreInputs nest trees → text ≡ flow_text (outline program) nest trees → OfEachText program (λ source. FlowsTo source text)
+told_trees program nest trees text is within named limits inputs told source reads bare = record {
+  program = program;
+  reads = reads;
+  plain = bare;
+  within = within;
+  trees = trees;
+  named = named;
+  limits = subst (λ n. AreTreesWithin narrow 302 12 n trees) is limits;
+  inputs = subst (λ n. AreInputs n trees) is inputs;
+  told = told ∙ ap (λ n. flow_text (outline program) n trees) is;
+}

@@ -14,7 +14,7 @@ ghost use Rattle.affc_driver.specs.Printed.{HasPrelude, ReadsPrinted, holds_prel
 ghost use Rattle.affc_driver.specs.Programs.{OfEachText, OfEachPlan};
 ghost use Rattle.affc_driver.specs.Refusals.{RefusalSays, FlowRefusalSays};
 
-use crate::meaning::{nest_within, trees_within};
+use crate::meaning::{nest_within, written};
 use crate::refusal::Refusal;
 use crate::report::report_of;
 use affc_ast::tree::Program;
@@ -176,7 +176,9 @@ fn compile(
         Ok(nest) => nest,
         Err(refusal) => return Err(refusal),
     };
-    trees_within(alloc, program, &nest, budget)?;
+    if let Err(refusal) = written(alloc, program, &nest, budget) {
+        return Err(refusal);
+    }
     in_order(alloc, program, &nest, plan, budget)?;
     finish(alloc, program, &nest, plan)
 }

@@ -9,9 +9,8 @@ use std::alloc::{AllocError, Global};
 fn add_whole(out: &mut String, temporary: &Decl) -> Result<(), AllocError>
     ensures { OnOk result (string_bytes out.new ≡ string_bytes out.old ++ whole_text temporary.now) }
 {
-    out.push_str("array ")?;
-    out.push_str(temporary.name.as_str())?;
-    out.push_str("\n  whole unbuilt\n")
+    let name = temporary.name.as_str();
+    write!(out, "array {name}\n  whole unbuilt\n")
 }
 
 // Adds what is said of such temporaries, in order.
