@@ -86,14 +86,7 @@ fn told(
             access,
             p,
             instance,
-        } => unwritten(
-            alloc,
-            source,
-            schedule,
-            access,
-            p.as_slice(),
-            &instance,
-        ),
+        } => unwritten(alloc, source, schedule, access, p.as_slice(), &instance),
         FoldRefusal::Illegal { p, a, b } => {
             illegal(alloc, source, schedule, budget, p.as_slice(), &a, &b)
         }

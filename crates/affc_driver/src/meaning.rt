@@ -26,7 +26,11 @@ use affc_split::Budget;
 use std::alloc::Global;
 
 /// The nest of a program that keeps to its arrays.
-pub(crate) fn nest_within(alloc: Global, program: &Program, budget: &mut Budget) -> Result<Nest, Refusal>
+pub(crate) fn nest_within(
+    alloc: Global,
+    program: &Program,
+    budget: &mut Budget,
+) -> Result<Nest, Refusal>
     requires plain { IsPlain program.now }
     requires arrays { NamesArrays program.now }
     ensures nest { IfOk result (λ nest. nest ≡ nest_of program.now) }
