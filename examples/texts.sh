@@ -14,8 +14,8 @@ literal() {
 
 texts() {
     cat <<'END'
-// The kernels of examples/, each with its source, its data, what its run gives, its compiled text or nothing where it
-// can't be compiled yet, and a schedule with its compiled text, or nothing; written by examples/texts.sh.
+// The kernels of examples/, each with its source, its data, what its run gives, its compiled text, and a schedule with its
+// compiled text, or nothing; written by examples/texts.sh.
 pub const KERNELS: [(&str, &str, &str, &str, &str, &str); COUNT] = [
 END
     for source in *.c; do

@@ -1,4 +1,4 @@
-// affc compiles affine loop nests, so far those without temporary arrays, and runs programs.
+// affc compiles affine loop nests, so far without folding their temporary arrays, tells their dataflow, and runs programs.
 #![tactic(auto)]
 
 use affc_cli::serve::answered;

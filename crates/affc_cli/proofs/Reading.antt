@@ -1,12 +1,13 @@
 -- What is promised and refused once the files of a command are read.
-use Rattle.std.proofs.Common.{Vec, ◌≡◌, ℕ, List, [], Option, None, Some, Result, Ok, Err, IfOk, IfErr, refl, sym, subst}
-use Rattle.std.specs.declared.alloc.Global.{Global}
+use Rattle.std.proofs.Common.{◌≡◌, ℕ, List, [], Option, None, Some, Result, Ok, Err, IfOk, IfErr, refl, sym, subst}
 use Rattle.affc_io.specs.Files.{Holds}
 use Rattle.affc_io.specs.State.{Files, FolderState}
+use Rattle.affc_driver.specs.Flows.{FlowsTo}
 use Rattle.affc_driver.specs.Folds.{FoldsTo}
-use Rattle.affc_cli.specs.Promise.{FoldPromises, RunPromises}
-use Rattle.affc_cli.specs.Refusal.{TextCause, FoldTexts, FoldCause, HeldTexts, RunCause}
+use Rattle.affc_cli.specs.Promise.{FoldPromises, RunPromises, FlowPromises}
+use Rattle.affc_cli.specs.Refusal.{TextCause, FoldTexts, FoldCause, FlowTextCause, FlowCause, HeldTexts, RunCause}
 use Rattle.affc_cli.specs.Run.{RunsTo, RunTextCause}
+use Rattle.affc_cli.specs.declared.pieces.Pieces.{Pieces}
 use Rattle.affc_cli.specs.declared.refusal.Refusal.{Refusal}
 use Rattle.affc_cli.specs.declared.refusal.Refusal.TheVariants.{Words, Unread, Source, Printed, Schedule, Meaning, Stuck, Illegal, Budget, Memory, Steps, Data, Unbuilt}
 
@@ -20,10 +21,10 @@ texts held later source feed s s' f f' has_source is same has_feed is' = record 
   feed_held = subst (Holds held feed) (sym is') (subst (λ h. Holds h feed f) same has_feed);
 }
 
-pub run_promised : (held : Option Files) (source feed : List ℕ) (limit : ℕ) (t : HeldTexts held source feed) (made : Result (Vec ℕ Global) Refusal)
-    → IfOk made (λ text. RunsTo t.source_text t.feed_text limit text.items) → IfOk made (λ text. RunPromises source feed limit held text.items [])
-run_promised held source feed limit t (Ok text) runs = record { texts = t; runs_to = runs; no_report = refl }
-run_promised held source feed limit t (Err refusal) runs = tt
+pub run_promised : (held : Option Files) (source feed : List ℕ) (limit : ℕ) (t : HeldTexts held source feed) (made : Result Pieces Refusal)
+    → IfOk made (λ m. RunsTo t.source_text t.feed_text limit m.text.items) → IfOk made (λ m. m.report.items ≡ []) → IfOk made (λ m. RunPromises source feed limit held m.text.items m.report.items)
+run_promised held source feed limit t (Ok m) runs none = record { texts = t; runs_to = runs; no_report = none }
+run_promised held source feed limit t (Err refusal) runs none = tt
 
 caused : (source feed : List ℕ) (limit : ℕ) (before now : FolderState) (t : HeldTexts before.held source feed) (refusal : Refusal)
     → RunTextCause t.source_text t.feed_text limit refusal → RunCause refusal source feed limit before now
@@ -41,7 +42,7 @@ caused source feed limit before now t Steps cause = record { texts = t; cause = 
 caused source feed limit before now t (Data number) cause = record { texts = t; cause = cause }
 caused source feed limit before now t Unbuilt cause = absurd cause
 
-pub run_caused : (source feed : List ℕ) (limit : ℕ) (before now : FolderState) (t : HeldTexts before.held source feed) (made : Result (Vec ℕ Global) Refusal)
+pub run_caused : (source feed : List ℕ) (limit : ℕ) (before now : FolderState) (t : HeldTexts before.held source feed) (made : Result Pieces Refusal)
     → IfErr made (RunTextCause t.source_text t.feed_text limit) → IfErr made (λ refusal. RunCause refusal source feed limit before now)
 run_caused source feed limit before now t (Ok text) cause = tt
 run_caused source feed limit before now t (Err refusal) cause = caused source feed limit before now t refusal cause
@@ -65,9 +66,9 @@ with_schedule held later source schedule s s' f f' has_source is same has_schedu
   schedule_held = subst (Holds held schedule) (sym is') (subst (λ h. Holds h schedule f) same has_schedule);
 }
 
-pub fold_promised : (held : Option Files) (source : List ℕ) (schedule : Option (List ℕ)) (t : FoldTexts held source schedule) (made : Result (Vec ℕ Global) Refusal)
-    → IfOk made (λ text. FoldsTo t.source_text t.schedule_text text.items []) → IfOk made (λ text. FoldPromises source schedule held text.items [])
-fold_promised held source schedule t (Ok text) folds = record { texts = t; folds_to = folds }
+pub fold_promised : (held : Option Files) (source : List ℕ) (schedule : Option (List ℕ)) (t : FoldTexts held source schedule) (made : Result Pieces Refusal)
+    → IfOk made (λ m. FoldsTo t.source_text t.schedule_text m.text.items m.report.items) → IfOk made (λ m. FoldPromises source schedule held m.text.items m.report.items)
+fold_promised held source schedule t (Ok m) folds = record { texts = t; folds_to = folds }
 fold_promised held source schedule t (Err refusal) folds = tt
 
 refused : (source : List ℕ) (schedule : Option (List ℕ)) (budget : Option ℕ) (before now : FolderState) (t : FoldTexts before.held source schedule) (refusal : Refusal)
@@ -86,7 +87,34 @@ refused source schedule budget before now t Steps cause = absurd cause
 refused source schedule budget before now t (Data number) cause = absurd cause
 refused source schedule budget before now t Unbuilt cause = record { texts = t; cause = cause }
 
-pub fold_refused : (source : List ℕ) (schedule : Option (List ℕ)) (budget : Option ℕ) (before now : FolderState) (t : FoldTexts before.held source schedule) (made : Result (Vec ℕ Global) Refusal)
+pub fold_refused : (source : List ℕ) (schedule : Option (List ℕ)) (budget : Option ℕ) (before now : FolderState) (t : FoldTexts before.held source schedule) (made : Result Pieces Refusal)
     → IfErr made (TextCause t.source_text t.schedule_text budget) → IfErr made (λ refusal. FoldCause refusal source schedule budget before now)
 fold_refused source schedule budget before now t (Ok text) cause = tt
 fold_refused source schedule budget before now t (Err refusal) cause = refused source schedule budget before now t refusal cause
+
+-- ---- The source whose trees are told
+
+pub flow_promised : (held : Option Files) (source s s' : List ℕ) → Holds held source s → s' ≡ s → (made : Result Pieces Refusal)
+    → IfOk made (λ m. FlowsTo s' m.text.items) → IfOk made (λ m. m.report.items ≡ []) → IfOk made (λ m. FlowPromises source held m.text.items m.report.items)
+flow_promised held source s s' has is (Ok m) flows none = record { source_text = s'; source_held = subst (Holds held source) (sym is) has; flows_to = flows; no_report = none }
+flow_promised held source s s' has is (Err refusal) flows none = tt
+
+untold : (source s : List ℕ) (before now : FolderState) (refusal : Refusal) → Holds before.held source s → FlowTextCause s refusal → FlowCause refusal source before now
+untold source s before now Words has cause = absurd cause
+untold source s before now (Unread file why) has cause = absurd cause
+untold source s before now (Source fault) has cause = record { source_text = s; source_held = has; cause = cause }
+untold source s before now (Printed place) has cause = record { source_text = s; source_held = has; cause = cause }
+untold source s before now (Schedule line) has cause = absurd cause
+untold source s before now (Meaning line) has cause = record { source_text = s; source_held = has; cause = cause }
+untold source s before now (Stuck line) has cause = absurd cause
+untold source s before now (Illegal line) has cause = absurd cause
+untold source s before now Budget has cause = absurd cause
+untold source s before now Memory has cause = tt
+untold source s before now Steps has cause = absurd cause
+untold source s before now (Data number) has cause = absurd cause
+untold source s before now Unbuilt has cause = absurd cause
+
+pub flow_refused : (source s s' : List ℕ) (before now : FolderState) → Holds before.held source s → s' ≡ s → (made : Result Pieces Refusal)
+    → IfErr made (FlowTextCause s') → IfErr made (λ refusal. FlowCause refusal source before now)
+flow_refused source s s' before now has is (Ok m) cause = tt
+flow_refused source s s' before now has is (Err refusal) cause = untold source s' before now refusal (subst (Holds before.held source) (sym is) has) cause

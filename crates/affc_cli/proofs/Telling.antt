@@ -1,7 +1,6 @@
 -- A line on err, written piece by piece.
-use Rattle.std.proofs.Common.{Vec, ◌≡◌, ◌≢◌, ◌<◌, ◌≤◌, ◌++◌, ℕ, List, [], codes, subst, Option, Some, None, Result, Ok, Err, IfErr, length, take, drop, refl, ap, sym, ◌∙◌, append_assoc, inl, inr, arith}
+use Rattle.std.proofs.Common.{◌≡◌, ◌≢◌, ◌⊎◌, ◌<◌, ◌≤◌, ◌++◌, ℕ, List, [], codes, subst, Option, Some, None, Result, Ok, Err, IfErr, length, take, drop, refl, ap, sym, ◌∙◌, append_assoc, inl, inr, arith}
 use Rattle.std.proofs.lemmas.List.{take-append-drop, append-nil, length-take}
-use Rattle.std.specs.declared.alloc.Global.{Global}
 use Rattle.affc_io.specs.Count.{Rose}
 use Rattle.affc_io.specs.Front.{IsFront}
 use Rattle.affc_io.specs.Put.{put_of, IsCausedBy}
@@ -12,7 +11,8 @@ use Rattle.affc_io.specs.declared.put.PutCause.{PutCause}
 use Rattle.affc_io.specs.declared.put.PutCause.TheVariants.{Fault, Memory}
 use Rattle.affc_cli.specs.Outside.{Falters, Told}
 use Rattle.affc_cli.specs.Refusal.{status_of, line_of}
-use Rattle.affc_cli.specs.Telling.{IsTold, Ends}
+use Rattle.affc_cli.specs.Telling.{IsTold, Reports, Ends}
+use Rattle.affc_cli.specs.declared.pieces.Pieces.{Pieces}
 use Rattle.affc_cli.specs.declared.refusal.Refusal.{Refusal}
 use Rattle.affc_cli.specs.declared.refusal.Refusal.TheVariants.{Memory as Short}
 
@@ -114,10 +114,10 @@ made_line shown text line e f = ap (λ x. x ++ codes "\n") (append-nil shown ∙
 cut_of : (fault : PutFault) (piece : List ℕ) → fault.written < length piece → take fault.written piece ≢ piece
 cut_of fault piece within e = let same : length (take fault.written piece) ≡ length piece = ap length e in absurd (omega (arith, same, length-take fault.written piece, within))
 
-pub failed_ends : (made : Result (Vec ℕ Global) Refusal) (text : Vec ℕ Global) (name slice : List ℕ) (fault : PutFault) (out now_out err : SinkState)
-    → made ≡ Ok text → slice ≡ text.items → now_out.taken ≡ grown out.taken (take fault.written slice) → fault.written < length slice → Rose out.faults now_out.faults
+pub failed_ends : (made : Result Pieces Refusal) (pieces : Pieces) (name slice : List ℕ) (fault : PutFault) (out now_out err : SinkState)
+    → made ≡ Ok pieces → slice ≡ pieces.text.items → now_out.taken ≡ grown out.taken (take fault.written slice) → fault.written < length slice → Rose out.faults now_out.faults
     → Ends made name out now_out err err 10
-failed_ends made text name slice fault out now_out err is same took within failed =
+failed_ends made pieces name slice fault out now_out err is same took within failed =
     subst (λ m. Ends m name out now_out err err 10) (sym is) (inr (inr (record {
       is_status = refl;
       front = take fault.written slice;
@@ -128,10 +128,10 @@ failed_ends made text name slice fault out now_out err is same took within faile
       silent = refl;
     })))
 
-pub short_ends : (made : Result (Vec ℕ Global) Refusal) (text : Vec ℕ Global) (name slice : List ℕ) (fault : PutFault) (out now_out err now_err : SinkState) (status : ℕ)
-    → made ≡ Ok text → slice ≡ text.items → now_out.taken ≡ grown out.taken (take fault.written slice) → fault.written < length slice → Rose out.shortages now_out.shortages
+pub short_ends : (made : Result Pieces Refusal) (pieces : Pieces) (name slice : List ℕ) (fault : PutFault) (out now_out err now_err : SinkState) (status : ℕ)
+    → made ≡ Ok pieces → slice ≡ pieces.text.items → now_out.taken ≡ grown out.taken (take fault.written slice) → fault.written < length slice → Rose out.shortages now_out.shortages
     → status ≡ 9 → Told err.taken err now_err (line_of Short []) → Ends made name out now_out err now_err status
-short_ends made text name slice fault out now_out err now_err status is same took within short is_status told =
+short_ends made pieces name slice fault out now_out err now_err status is same took within short is_status told =
     subst (λ m. Ends m name out now_out err now_err status) (sym is) (inr (inl (record {
       is_status = is_status;
       front = take fault.written slice;
@@ -141,3 +141,50 @@ short_ends made text name slice fault out now_out err now_err status is same too
       short = short;
       told = told;
     })))
+
+-- the text was put whole, and then the report in some way
+pub put_ends : (made : Result Pieces Refusal) (pieces : Pieces) (name slice report : List ℕ) (out now_out err now_err : SinkState) (status : ℕ)
+    → made ≡ Ok pieces → slice ≡ pieces.text.items → report ≡ pieces.report.items → now_out.taken ≡ grown out.taken slice → Reports report err now_err status
+    → Ends made name out now_out err now_err status
+put_ends made pieces name slice report out now_out err now_err status is same same_report took reports =
+    subst (λ m. Ends m name out now_out err now_err status) (sym is) (inl (record {
+      taken = took ∙ ap (grown out.taken) same;
+      reports = subst (λ r. Reports r err now_err status) same_report reports;
+    }))
+
+-- ---- A report, put whole or in part
+
+pub whole_reports : (report : List ℕ) (err now_err : SinkState) → now_err.taken ≡ grown err.taken report → Reports report err now_err 0
+whole_reports report err now_err took = inl (record { is_status = refl; taken = took })
+
+pub failed_reports : (report : List ℕ) (fault : PutFault) (err now_err : SinkState) → now_err.taken ≡ grown err.taken (take fault.written report) → fault.written < length report
+    → Rose err.faults now_err.faults → Reports report err now_err 10
+failed_reports report fault err now_err took within failed = inr (inr (record {
+  is_status = refl;
+  front = take fault.written report;
+  is_front = front_of_put {T = ℕ} (Err fault) report;
+  cut = cut_of fault report within;
+  fault = failed;
+  taken = took;
+}))
+
+-- of two calls in a row, where the count rose in the first
+rose_before : (a b c : ℕ) → Rose a b → b ≤ c → Rose a c
+rose_before a b c rose le = λ below. let higher : a < b = rose (omega arith) in omega arith
+
+pub short_reports : (report : List ℕ) (fault : PutFault) (err mid now_err : SinkState) (status : ℕ) → mid.taken ≡ grown err.taken (take fault.written report) → fault.written < length report
+    → Rose err.shortages mid.shortages → SinkCounts mid now_err → status ≡ 9 → Told mid.taken mid now_err (line_of Short []) → Reports report err now_err status
+short_reports report fault err mid now_err status took within short counts is told =
+    let rose : Rose err.shortages now_err.shortages = rose_before err.shortages mid.shortages now_err.shortages short counts.shortages in
+    inr (inl (record {
+      is_status = is;
+      front = take fault.written report;
+      is_front = front_of_put {T = ℕ} (Err fault) report;
+      cut = cut_of fault report within;
+      short = rose;
+      told = record { front = told.front; is_front = told.is_front; taken = told.taken ∙ ap (λ o. grown o told.front) took; whole = still told.whole rose };
+    }))
+  where
+    still : (told.front ≡ line_of Short []) ⊎ Falters mid now_err → Rose err.shortages now_err.shortages → (told.front ≡ line_of Short []) ⊎ Falters err now_err
+    still (inl e) rose = inl e
+    still (inr f) rose = inr (inr rose)

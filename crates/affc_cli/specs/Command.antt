@@ -10,6 +10,7 @@ use Rattle.std.specs.declared.alloc.Global.{Global}
 pub data Command : Type 0 where
   Fold : (source : List ℕ) (schedule : Option (List ℕ)) (budget : Option ℕ) → Command
   Run : (source feed : List ℕ) (steps : ℕ) → Command
+  Flow : (source : List ℕ) → Command
 
 -- the bytes of each word
 abbrev pub texts_of : List (String Global) → List (List ℕ)
@@ -128,10 +129,16 @@ run_of (source ∷ feed ∷ []) options =
     then option_map (Run source feed) (steps_of (value_of (codes "steps") options)) else None
 run_of _ options = None
 
+-- `flow SRC`
+abbrev pub flow_of : (operands : List (List ℕ)) (options : List (List ℕ × List ℕ)) → Option Command
+flow_of (source ∷ []) options = if are_options [] options then Some (Flow source) else None
+flow_of _ options = None
+
 abbrev pub form_of : (name : List ℕ) → Parts → Option Command
 form_of name parts =
     if bytes_eq name (codes "fold") then fold_of parts.operands parts.options
     else if bytes_eq name (codes "run") then run_of parts.operands parts.options
+    else if bytes_eq name (codes "flow") then flow_of parts.operands parts.options
     else None
 
 abbrev pub is_empty : List ℕ → Bool

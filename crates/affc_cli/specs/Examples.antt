@@ -1,7 +1,7 @@
 -- What words stand for, at examples.
 use Rattle.std.specs.Prelude.{◌≡◌, true, is_none, List, [], ◌∷◌, ℕ, map, None, Some, codes}
 use Rattle.std.specs.List.{list_all}
-use Rattle.affc_cli.specs.Command.{Fold, Run, command_of}
+use Rattle.affc_cli.specs.Command.{Fold, Run, Flow, command_of}
 
 abbrev pub Words : Type 0
 Words = List (List ℕ)
@@ -19,6 +19,8 @@ CountsAreRight = AreNone (
     ∷ (codes "fold" ∷ codes "--" ∷ [])
     ∷ (codes "run" ∷ codes "a" ∷ [])
     ∷ (codes "run" ∷ codes "a" ∷ codes "b" ∷ codes "c" ∷ [])
+    ∷ (codes "flow" ∷ [])
+    ∷ (codes "flow" ∷ codes "a" ∷ codes "b" ∷ [])
     ∷ [])
 
 -- an unknown name, or a word that asks for help or a version
@@ -60,6 +62,7 @@ OptionsAreTheForms = AreNone (
     ∷ (codes "fold" ∷ codes "--budget" ∷ codes "a" ∷ [])
     ∷ (codes "fold" ∷ codes "--budget=5" ∷ [])
     ∷ (codes "run" ∷ codes "a" ∷ codes "b" ∷ codes "--budget=5" ∷ [])
+    ∷ (codes "flow" ∷ codes "a" ∷ codes "--budget=5" ∷ [])
     ∷ (codes "run" ∷ codes "a" ∷ codes "b" ∷ codes "--step=5" ∷ [])
     ∷ (codes "run" ∷ codes "a" ∷ codes "b" ∷ codes "--steps" ∷ [])
     ∷ (codes "run" ∷ codes "a" ∷ codes "--steps" ∷ codes "--" ∷ codes "b" ∷ [])
@@ -85,6 +88,7 @@ OperandsFollowTheEnd = map command_of (
     ∷ (codes "fold" ∷ codes "a" ∷ codes "--" ∷ codes "-b" ∷ [])
     ∷ (codes "run" ∷ codes "--" ∷ codes "-a" ∷ codes "-b" ∷ [])
     ∷ (codes "run" ∷ codes "a" ∷ codes "b" ∷ codes "--" ∷ [])
+    ∷ (codes "flow" ∷ codes "--" ∷ codes "-a" ∷ [])
     ∷ [])
     ≡ Some (Fold (codes "a") None None)
     ∷ Some (Fold (codes "a") None None)
@@ -95,6 +99,7 @@ OperandsFollowTheEnd = map command_of (
     ∷ Some (Fold (codes "a") (Some (codes "-b")) None)
     ∷ Some (Run (codes "-a") (codes "-b") 10000000)
     ∷ Some (Run (codes "a") (codes "b") 10000000)
+    ∷ Some (Flow (codes "-a"))
     ∷ []
 
 -- an option stands anywhere before `--`, with its value in the same word or the next

@@ -1,11 +1,12 @@
 -- The line that says what is wrong with a program, whatever its data.
-use Rattle.std.specs.Prelude.{◌≡◌, ℕ, List, [], ◌∷◌, ◌++◌, Option, get_or, codes, decimal}
+use Rattle.std.specs.Prelude.{◌≡◌, ◌⊎◌, ℕ, ℤ, List, [], ◌∷◌, ◌++◌, Option, get_or, codes, decimal}
+use Rattle.affc_ast.specs.declared.tree.Instance.{Instance}
 use Rattle.affc_ast.specs.declared.tree.Program.{Program}
-use Rattle.affc_ast.specs.Cause.{OutOfBounds, Extent as NoExtent}
+use Rattle.affc_ast.specs.Cause.{OutOfBounds, Unwritten, Extent as NoExtent}
 use Rattle.affc_domain.specs.Rounds.{Round, Loop, Test, rounds}
 use Rattle.affc_bounds.specs.declared.fault.MeaningFault.{MeaningFault}
 use Rattle.affc_bounds.specs.declared.fault.MeaningFault.TheVariants.{IteratorRange, Context, Extent, Bounds}
-use Rattle.affc_driver.specs.Refusals.{HasMeaningFault}
+use Rattle.affc_driver.specs.Refusals.{HasMeaningFault, HasUnwritten}
 use Rattle.affc_cli.specs.Stuck.{stuck_line}
 
 -- ---- The iterator that is meant
@@ -39,3 +40,20 @@ pub record IsMeaningLine (source : List ℕ) (schedule : Option (List ℕ)) (lin
   pub fault : MeaningFault
   pub says : HasMeaningFault source schedule fault
   pub its_line : line ≡ meaning_line says.of.tree fault
+
+-- What is said of a program a load of which reads what nothing stores. A run is stuck there with the same line.
+abbrev pub unwritten_line : Program → (p : List ℤ) → Instance → (access : ℕ) → List ℕ
+unwritten_line program p instance access = stuck_line program p (Unwritten instance access)
+
+-- the source reads as a program without the prelude that has such a load, as the line says
+pub record IsUnwrittenLine (source : List ℕ) (schedule : Option (List ℕ)) (line : List ℕ) : Type 0 where
+  pub array : ℕ
+  pub access : ℕ
+  pub p : List ℤ
+  pub instance : Instance
+  pub says : HasUnwritten source schedule array access p instance
+  pub its_line : line ≡ unwritten_line says.of.tree p instance access
+
+-- either is so
+abbrev pub IsMeantLine : (source : List ℕ) (schedule : Option (List ℕ)) (line : List ℕ) → Type 0
+IsMeantLine source schedule line = IsMeaningLine source schedule line ⊎ IsUnwrittenLine source schedule line

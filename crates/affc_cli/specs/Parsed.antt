@@ -35,6 +35,10 @@ fold_app = app_with (codes "fold") (operand_rule (codes "source") ∷ further_ru
 abbrev pub run_app : App
 run_app = app_with (codes "run") (operand_rule (codes "source") ∷ operand_rule (codes "data") ∷ option_rule (codes "steps") ∷ [])
 
+-- `flow SRC`
+abbrev pub flow_app : App
+flow_app = app_with (codes "flow") (operand_rule (codes "source") ∷ [])
+
 abbrev pub clean_by : Word → (behind : Bool) → Bool
 clean_by Operand behind = behind
 clean_by (Named name value) behind = behind

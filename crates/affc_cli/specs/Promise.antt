@@ -6,13 +6,15 @@ use Rattle.std.specs.declared.io.Error.{Error}
 use Rattle.std.specs.declared.io.ErrorKind.{ErrorKind}
 use Rattle.std.specs.declared.io.ErrorKind.TheVariants.{OutOfMemory}
 use Rattle.affc_io.specs.Count.{Rose}
+use Rattle.affc_io.specs.Files.{Holds}
 use Rattle.affc_io.specs.Front.{IsFront}
 use Rattle.affc_io.specs.State.{Files, FolderState}
 use Rattle.affc_io.specs.Taken.{grown}
+use Rattle.affc_driver.specs.Flows.{FlowsTo}
 use Rattle.affc_driver.specs.Folds.{FoldsTo}
-use Rattle.affc_cli.specs.Command.{Command, Fold, Run, command_of, texts_of}
+use Rattle.affc_cli.specs.Command.{Command, Fold, Run, Flow, command_of, texts_of}
 use Rattle.affc_cli.specs.Outside.{Outside, Keeps, Told, IsRead, IsReadAtMost}
-use Rattle.affc_cli.specs.Refusal.{status_of, line_of, FoldTexts, FoldCause, fold_file, HeldTexts, RunCause, file_of}
+use Rattle.affc_cli.specs.Refusal.{status_of, line_of, FoldTexts, FoldCause, fold_file, FlowCause, HeldTexts, RunCause, file_of}
 use Rattle.affc_cli.specs.Run.{RunsTo}
 use Rattle.affc_cli.specs.declared.refusal.Operand.TheVariants as operand
 use Rattle.affc_cli.specs.declared.refusal.Refusal.{Refusal}
@@ -30,26 +32,38 @@ pub record RunPromises (source feed : List ℕ) (limit : ℕ) (held : Option Fil
   pub runs_to : RunsTo texts.source_text texts.feed_text limit text
   pub no_report : report ≡ []
 
+-- The text tells the last-write trees of the source that the name held, where the folder tells what it holds; the report is
+-- empty.
+pub record FlowPromises (source : List ℕ) (held : Option Files) (text report : List ℕ) : Type 0 where
+  pub source_text : List ℕ
+  pub source_held : Holds held source source_text
+  pub flows_to : FlowsTo source_text text
+  pub no_report : report ≡ []
+
 -- The pieces of status 0: the text for out, then the report for err.
 abbrev pub Promises : Command → Option Files → (text report : List ℕ) → Type 0
 Promises (Fold source schedule budget) held text report = FoldPromises source schedule held text report
 Promises (Run source feed limit) held text report = RunPromises source feed limit held text report
+Promises (Flow source) held text report = FlowPromises source held text report
 
 -- The statuses that a command ends with.
 abbrev pub statuses_of : Command → List ℕ
 statuses_of (Fold source schedule budget) = 0 ∷ 3 ∷ 4 ∷ 5 ∷ 6 ∷ 7 ∷ 8 ∷ 9 ∷ 10 ∷ 14 ∷ []
 statuses_of (Run source feed limit) = 0 ∷ 3 ∷ 4 ∷ 5 ∷ 9 ∷ 10 ∷ 12 ∷ 13 ∷ []
+statuses_of (Flow source) = 0 ∷ 3 ∷ 4 ∷ 5 ∷ 9 ∷ 10 ∷ []
 
 -- The line of a refused command.
 abbrev pub refusal_line : Command → Refusal → List ℕ
 refusal_line (Fold source schedule budget) refusal = line_of refusal (fold_file refusal source schedule)
 refusal_line (Run source feed limit) refusal = line_of refusal (file_of refusal source feed)
+refusal_line (Flow source) refusal = line_of refusal source
 
 -- How many files a command reads.
 abbrev pub files_of : Command → ℕ
 files_of (Fold source None budget) = 1
 files_of (Fold source (Some schedule) budget) = 2
 files_of (Run source feed limit) = 2
+files_of (Flow source) = 1
 
 -- How often a command that is refused so reads the folder: it stops at its source where that isn't read.
 abbrev pub reads_of : Command → Refusal → ℕ
@@ -58,11 +72,13 @@ reads_of (Fold source (Some schedule) budget) (Unread operand.Source why) = 1
 reads_of (Fold source (Some schedule) budget) refusal = 2
 reads_of (Run source feed limit) (Unread operand.Source why) = 1
 reads_of (Run source feed limit) refusal = 2
+reads_of (Flow source) refusal = 1
 
 -- When a command is refused so.
 abbrev pub Cause : Command → Refusal → FolderState → FolderState → Type 0
 Cause (Fold source schedule budget) refusal before now = FoldCause refusal source schedule budget before now
 Cause (Run source feed limit) refusal before now = RunCause refusal source feed limit before now
+Cause (Flow source) refusal before now = FlowCause refusal source before now
 
 -- Each file was read once, all pieces were written, and nothing else.
 pub record Written (command : Command) (before now : Outside) : Type 0 where
@@ -83,6 +99,17 @@ pub record WrittenInPart (command : Command) (before now : Outside) : Type 0 whe
   pub is_front : IsFront text front
   pub cut : front ≢ text
   pub out : now.out.taken ≡ grown before.out.taken front
+
+-- Each file was read once, the text was written whole, and behind it a front of the report, which isn't the whole.
+pub record ReportedInPart (command : Command) (before now : Outside) : Type 0 where
+  pub text : List ℕ
+  pub report : List ℕ
+  pub promised : Promises command before.folder.held text report
+  pub reads : IsRead (files_of command) before.folder now.folder
+  pub out : now.out.taken ≡ grown before.out.taken text
+  pub front : List ℕ
+  pub is_front : IsFront report front
+  pub cut : front ≢ report
 
 -- Nothing went to out, and err got the line of a refusal that has this status and its cause.
 pub record IsRefused (command : Command) (before now : Outside) (status : ℕ) : Type 0 where
@@ -105,19 +132,31 @@ pub record ShortWithin (command : Command) (before now : Outside) : Type 0 where
   pub short : Rose before.out.shortages now.out.shortages
   pub told : Told before.err.taken before.err now.err (line_of Memory [])
 
+-- err was short of memory while the report was written; it got the line behind that.
+pub record ShortBehind (command : Command) (before now : Outside) : Type 0 where
+  pub written : ReportedInPart command before now
+  pub short : Rose before.err.shortages now.err.shortages
+  pub told : Told (grown before.err.taken written.front) before.err now.err (line_of Memory [])
+
 -- A write to out failed; the pieces end there, and no line is written.
 pub record Failed (command : Command) (before now : Outside) : Type 0 where
   pub written : WrittenInPart command before now
   pub fault : Rose before.out.faults now.out.faults
   pub silent : now.err.taken ≡ before.err.taken
 
+-- A write to err failed; the report ends there, and no line is written.
+pub record FailedBehind (command : Command) (before now : Outside) : Type 0 where
+  pub written : ReportedInPart command before now
+  pub fault : Rose before.err.faults now.err.faults
+  pub err : now.err.taken ≡ grown before.err.taken written.front
+
 -- What a command does, by its status: done, short of memory, failed in writing, or refused.
 pub record Runs (command : Command) (before now : Outside) (status : ℕ) : Type 0 where
   pub answers : Contains (statuses_of command) status
   pub keeps : Keeps before now
   pub done : status ≡ 0 → Written command before now
-  pub short : status ≡ 9 → ShortBefore command before now ⊎ ShortWithin command before now
-  pub failed : status ≡ 10 → Failed command before now
+  pub short : status ≡ 9 → ShortBefore command before now ⊎ ShortWithin command before now ⊎ ShortBehind command before now
+  pub failed : status ≡ 10 → Failed command before now ⊎ FailedBehind command before now
   pub refused : status ≢ 0 → status ≢ 9 → status ≢ 10 → IsRefused command before now status
 
 -- Nothing was read, nothing went to out, and err got this refusal's line.

@@ -4,7 +4,7 @@ use Rattle.affc_io.specs.Count.{Rose}
 use Rattle.affc_io.specs.Files.{Holds, NotHeld, TooLong}
 use Rattle.affc_io.specs.State.{Files, FolderState}
 use Rattle.affc_driver.specs.Refusals.{IsSourceFault, IsPrinted, IsUnbuilt}
-use Rattle.affc_cli.specs.Meaning.{IsMeaningLine}
+use Rattle.affc_cli.specs.Meaning.{IsMeantLine}
 use Rattle.affc_cli.specs.Run.{RunTextCause}
 use Rattle.affc_cli.specs.Schedule.{IsSchedLine, IsIllegalLine}
 use Rattle.affc_cli.specs.Words.{fault_line, source_line}
@@ -66,6 +66,13 @@ UnreadCause text (Source fault) = IsSourceFault text fault
 UnreadCause text Memory = Unit {0}
 UnreadCause text _ = ⊥
 
+-- When a text is refused as a program that has something wrong with it, so.
+abbrev pub MeantCause : (source : List ℕ) → (schedule : Option (List ℕ)) → Refusal → Type 0
+MeantCause source schedule (Source fault) = IsSourceFault source fault
+MeantCause source schedule (Meaning line) = IsMeantLine source schedule line
+MeantCause source schedule Memory = Unit {0}
+MeantCause source schedule _ = ⊥
+
 -- ---- `fold`
 
 -- When a source with a schedule is refused so, with this budget or without one. Want of memory may come at any time, and the
@@ -76,7 +83,7 @@ TextCause source schedule budget (Unread file why) = ⊥
 TextCause source schedule budget (Source fault) = IsSourceFault source fault
 TextCause source schedule budget (Printed place) = IsPrinted source place
 TextCause source schedule budget (Schedule line) = IsSchedLine source schedule line
-TextCause source schedule budget (Meaning line) = IsMeaningLine source schedule line
+TextCause source schedule budget (Meaning line) = IsMeantLine source schedule line
 TextCause source schedule budget (Stuck line) = ⊥
 TextCause source schedule budget (Illegal line) = IsIllegalLine source schedule line
 TextCause source schedule budget Budget = IsSome budget
@@ -136,6 +143,48 @@ FoldCause Unbuilt source schedule budget before now = TextRefused Unbuilt before
 abbrev pub fold_file : Refusal → (source : List ℕ) → (schedule : Option (List ℕ)) → List ℕ
 fold_file (Unread operand.Schedule why) source (Some schedule) = schedule
 fold_file _ source schedule = source
+
+-- ---- `flow`
+
+-- When the trees of a source are refused so. Want of memory may come at any time.
+abbrev pub FlowTextCause : (source : List ℕ) → Refusal → Type 0
+FlowTextCause source Words = ⊥
+FlowTextCause source (Unread file why) = ⊥
+FlowTextCause source (Source fault) = IsSourceFault source fault
+FlowTextCause source (Printed place) = IsPrinted source place
+FlowTextCause source (Schedule line) = ⊥
+FlowTextCause source (Meaning line) = IsMeantLine source None line
+FlowTextCause source (Stuck line) = ⊥
+FlowTextCause source (Illegal line) = ⊥
+FlowTextCause source Budget = ⊥
+FlowTextCause source Memory = Unit {0}
+FlowTextCause source Steps = ⊥
+FlowTextCause source (Data number) = ⊥
+FlowTextCause source Unbuilt = ⊥
+
+-- the source was read, and is refused so
+pub record FlowRefused (refusal : Refusal) (held : Option Files) (source : List ℕ) : Type 0 where
+  pub source_text : List ℕ
+  pub source_held : Holds held source source_text
+  pub cause : FlowTextCause source_text refusal
+
+-- When `flow` is refused so, from the folder before and after its file was read. Want of memory may come at any time.
+abbrev pub FlowCause : Refusal → (source : List ℕ) → FolderState → FolderState → Type 0
+FlowCause Words source before now = ⊥
+FlowCause (Unread operand.Source why) source before now = IsUnread why source before now
+FlowCause (Unread operand.Schedule why) source before now = ⊥
+FlowCause (Unread operand.Data why) source before now = ⊥
+FlowCause (Source fault) source before now = FlowRefused (Source fault) before.held source
+FlowCause (Printed place) source before now = FlowRefused (Printed place) before.held source
+FlowCause (Schedule line) source before now = ⊥
+FlowCause (Meaning line) source before now = FlowRefused (Meaning line) before.held source
+FlowCause (Stuck line) source before now = ⊥
+FlowCause (Illegal line) source before now = ⊥
+FlowCause Budget source before now = ⊥
+FlowCause Memory source before now = Unit {0}
+FlowCause Steps source before now = ⊥
+FlowCause (Data number) source before now = ⊥
+FlowCause Unbuilt source before now = ⊥
 
 -- ---- `run`
 

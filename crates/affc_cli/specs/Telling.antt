@@ -1,6 +1,5 @@
 -- What is told of a refusal, and how a command ends at the two sinks.
-use Rattle.std.specs.Prelude.{Vec, ◌≡◌, ◌≢◌, ◌⊎◌, ℕ, ℤ, List, [], Option, Some, None, Result, Ok, Err}
-use Rattle.std.specs.declared.alloc.Global.{Global}
+use Rattle.std.specs.Prelude.{◌≡◌, ◌≢◌, ◌⊎◌, ℕ, ℤ, List, [], Option, Some, None, Result, Ok, Err}
 use Rattle.affc_ast.specs.declared.tree.Program.{Program}
 use Rattle.affc_interp.specs.Budget.{Stop, StuckBy, OutOfSteps}
 use Rattle.affc_io.specs.Count.{Rose}
@@ -12,6 +11,7 @@ use Rattle.affc_cli.specs.Command.{Command}
 use Rattle.affc_cli.specs.Promise.{files_of, reads_of}
 use Rattle.affc_cli.specs.Refusal.{status_of, line_of, IsUnread}
 use Rattle.affc_cli.specs.Stuck.{stuck_line}
+use Rattle.affc_cli.specs.declared.pieces.Pieces.{Pieces}
 use Rattle.affc_cli.specs.declared.refusal.Operand.{Operand}
 use Rattle.affc_cli.specs.declared.refusal.Refusal.{Refusal}
 use Rattle.affc_cli.specs.declared.refusal.Refusal.TheVariants.{Unread, Stuck, Memory, Steps}
@@ -31,11 +31,37 @@ RefusesStop (Some (StuckBy cause)) program p refusal = (refusal ≡ Stuck (stuck
 
 -- ---- How a command ends
 
--- out took the text, and nothing was told
-pub record IsPut (text : List ℕ) (out now_out err now_err : SinkState) (status : ℕ) : Type 0 where
+-- err took the report
+pub record IsReported (report : List ℕ) (err now_err : SinkState) (status : ℕ) : Type 0 where
   pub is_status : status ≡ 0
+  pub taken : now_err.taken ≡ grown err.taken report
+
+-- err was short of memory behind a front of the report, which isn't the whole, and that was told
+pub record IsReportShort (report : List ℕ) (err now_err : SinkState) (status : ℕ) : Type 0 where
+  pub is_status : status ≡ 9
+  pub front : List ℕ
+  pub is_front : IsFront report front
+  pub cut : front ≢ report
+  pub short : Rose err.shortages now_err.shortages
+  pub told : Told (grown err.taken front) err now_err (line_of Memory [])
+
+-- a write to err failed behind a front of the report, which isn't the whole, and nothing was told
+pub record IsReportFailed (report : List ℕ) (err now_err : SinkState) (status : ℕ) : Type 0 where
+  pub is_status : status ≡ 10
+  pub front : List ℕ
+  pub is_front : IsFront report front
+  pub cut : front ≢ report
+  pub fault : Rose err.faults now_err.faults
+  pub taken : now_err.taken ≡ grown err.taken front
+
+-- what becomes of a report
+abbrev pub Reports : (report : List ℕ) → (err now_err : SinkState) → (status : ℕ) → Type 0
+Reports report err now_err status = IsReported report err now_err status ⊎ IsReportShort report err now_err status ⊎ IsReportFailed report err now_err status
+
+-- out took the text, and the report followed
+pub record IsPut (text report : List ℕ) (out now_out err now_err : SinkState) (status : ℕ) : Type 0 where
   pub taken : now_out.taken ≡ grown out.taken text
-  pub silent : now_err.taken ≡ err.taken
+  pub reports : Reports report err now_err status
 
 -- out was short of memory behind a front of the text, which isn't the whole, and that was told
 pub record IsPutShort (text : List ℕ) (out now_out err now_err : SinkState) (status : ℕ) : Type 0 where
@@ -62,10 +88,10 @@ pub record IsRefusal (refusal : Refusal) (name : List ℕ) (out now_out err now_
   pub untouched : now_out.taken ≡ out.taken
   pub told : IsTold refusal name err now_err status
 
--- what becomes of a command's text, or of its refusal, in which `name` is the file that is meant
-abbrev pub Ends : Result (Vec ℕ Global) Refusal → (name : List ℕ) → (out now_out err now_err : SinkState) → (status : ℕ) → Type 0
-Ends (Ok text) name out now_out err now_err status =
-    IsPut text.items out now_out err now_err status ⊎ IsPutShort text.items out now_out err now_err status ⊎ IsPutFailed text.items out now_out err now_err status
+-- what becomes of a command's pieces, or of its refusal, in which `name` is the file that is meant
+abbrev pub Ends : Result Pieces Refusal → (name : List ℕ) → (out now_out err now_err : SinkState) → (status : ℕ) → Type 0
+Ends (Ok made) name out now_out err now_err status =
+    IsPut made.text.items made.report.items out now_out err now_err status ⊎ IsPutShort made.text.items out now_out err now_err status ⊎ IsPutFailed made.text.items out now_out err now_err status
 Ends (Err refusal) name out now_out err now_err status = IsRefusal refusal name out now_out err now_err status
 
 -- ---- Reading a file

@@ -1,17 +1,17 @@
 // One source, compiled.
-ghost use Rattle.std.specs.Prelude.{◌≡◌, [], IfOk, IfErr, IsSome, option_map};
+ghost use Rattle.std.specs.Prelude.{◌≡◌, IfOk, IfErr, IsSome, option_map};
 ghost use Rattle.affc_driver.specs.Folds.{FoldsTo};
-ghost use Rattle.affc_driver.specs.Refusals.{HasSchedFault, HasMeaningFault, IsIllegal, RefusalSays};
+ghost use Rattle.affc_driver.specs.Refusals.{HasSchedFault, IsIllegal, RefusalSays};
 ghost use Rattle.affc_driver.specs.declared.refusal.Refusal.TheVariants.{Budget as Spent};
 ghost use Rattle.affc_cli.specs.Refusal.{TextCause};
 
-use crate::meaning::meaning_line;
+use crate::meaning::{meaning, unwritten};
+use crate::pieces::Pieces;
 use crate::refusal::Refusal;
 use crate::schedule::{illegal_line, sched_line};
 use crate::source::program_of;
 use affc_ast::text::Text;
 use affc_ast::tree::Instance;
-use affc_bounds::MeaningFault;
 use affc_driver::{Done, Refusal as FoldRefusal};
 use affc_grammar::laws::one_program;
 use affc_schedtext::SchedFault;
@@ -36,28 +36,6 @@ fn unplanned(
     };
     match sched_line(alloc, &program, fault) {
         Ok(line) => Refusal::Schedule(Text::from_string(line)),
-        Err(_) => Refusal::Memory,
-    }
-}
-
-// The refusal of a source that reads as a program with this fault.
-fn meaning(
-    alloc: Global,
-    source: &[u8],
-    schedule: Option<&[u8]>,
-    budget: Option<u64>,
-    fault: &MeaningFault,
-) -> Refusal
-    requires { HasMeaningFault source.now (option_map (λ s. s.now) schedule) fault.now }
-    ensures { TextCause source.now (option_map (λ s. s.now) schedule.entry) budget result }
-{
-    one_program();
-    let program = match program_of(alloc, source) {
-        Ok(program) => program,
-        Err(refusal) => return refusal,
-    };
-    match meaning_line(alloc, &program, fault) {
-        Ok(line) => Refusal::Meaning(Text::from_string(line)),
         Err(_) => Refusal::Memory,
     }
 }
@@ -102,7 +80,13 @@ fn told(
         FoldRefusal::Source(fault) => Refusal::Source(fault),
         FoldRefusal::Printed(place) => Refusal::Printed(place),
         FoldRefusal::Schedule(fault) => unplanned(alloc, source, schedule, budget, &fault),
-        FoldRefusal::Meaning(fault) => meaning(alloc, source, schedule, budget, &fault),
+        FoldRefusal::Meaning(fault) => meaning(alloc, source, schedule, &fault),
+        FoldRefusal::Unwritten {
+            array: _,
+            access,
+            p,
+            instance,
+        } => unwritten(alloc, source, schedule, access, p.as_slice(), &instance),
         FoldRefusal::Illegal { p, a, b } => {
             illegal(alloc, source, schedule, budget, p.as_slice(), &a, &b)
         }
@@ -119,13 +103,13 @@ pub fn fold(
     source: &[u8],
     schedule: Option<&[u8]>,
     budget: Option<u64>,
-) -> Result<Vec<u8>, Refusal>
-    ensures ok { IfOk result (λ text. FoldsTo source.now (option_map (λ s. s.now) schedule.entry) text.items []) }
+) -> Result<Pieces, Refusal>
+    ensures ok { IfOk result (λ made. FoldsTo source.now (option_map (λ s. s.now) schedule.entry) made.text.items made.report.items) }
     ensures err { IfErr result (TextCause source.now (option_map (λ s. s.now) schedule.entry) budget) }
 {
     let mut units = Budget::new(budget);
     match affc_driver::fold(alloc, source, schedule, &mut units) {
-        Ok(Done { text, report: _ }) => Ok(text),
+        Ok(Done { text, report }) => Ok(Pieces { text, report }),
         Err(refusal) => Err(told(alloc, source, schedule, budget, refusal)),
     }
 }

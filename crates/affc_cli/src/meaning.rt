@@ -1,12 +1,18 @@
-// The line that says what is wrong with a program, whatever its data.
-ghost use Rattle.std.specs.Prelude.{◌≡◌, ◌+◌, ◌<◌, ◌++◌, [], length, get_or, IfOk, MatchResult, flat_map, codes, decimal, string_bytes};
+// What is wrong with a program, whatever its data: its line, and the refusal that tells it.
+ghost use Rattle.std.specs.Prelude.{◌≡◌, ◌+◌, ◌<◌, ◌++◌, [], length, ℕ, get_or, IfOk, MatchResult, flat_map, codes, decimal, option_map, string_bytes};
 ghost use Rattle.affc_ast.specs.Recursion.{by_stmt};
 ghost use Rattle.affc_domain.specs.Rounds.{rounds_step};
+ghost use Rattle.affc_driver.specs.Refusals.{HasMeaningFault, HasUnwritten};
 ghost use Rattle.affc_cli.specs.Meaning.{iterator_of, iterator_name, meaning_line};
+ghost use Rattle.affc_cli.specs.Refusal.{MeantCause};
 
+use crate::refusal::Refusal;
+use crate::source::program_of;
 use crate::stuck::{access_line, extent_line};
-use affc_ast::tree::{Program, Stmt};
+use affc_ast::text::Text;
+use affc_ast::tree::{Instance, Program, Stmt};
 use affc_bounds::MeaningFault;
+use affc_grammar::laws::one_program;
 use std::alloc::{AllocError, Global};
 
 // ---- The iterator that is meant
@@ -88,8 +94,8 @@ fn range_line(
     Ok(line)
 }
 
-/// What is said of a program that has this wrong with it, without the line's end.
-pub fn meaning_line(
+// What is said of a program that has this wrong with it, without the line's end.
+fn meaning_line(
     alloc: Global,
     program: &Program,
     fault: &MeaningFault,
@@ -116,5 +122,51 @@ pub fn meaning_line(
             instance,
             *access,
         ),
+    }
+}
+
+// ---- Its refusal
+
+/// The refusal of a source that reads as a program with this fault.
+pub fn meaning(
+    alloc: Global,
+    source: &[u8],
+    schedule: Option<&[u8]>,
+    fault: &MeaningFault,
+) -> Refusal
+    requires { HasMeaningFault source.now (option_map (λ s. s.now) schedule) fault.now }
+    ensures { MeantCause source.now (option_map (λ s. s.now) schedule.entry) result }
+{
+    one_program();
+    let program = match program_of(alloc, source) {
+        Ok(program) => program,
+        Err(refusal) => return refusal,
+    };
+    match meaning_line(alloc, &program, fault) {
+        Ok(line) => Refusal::Meaning(Text::from_string(line)),
+        Err(_) => Refusal::Memory,
+    }
+}
+
+/// The refusal of a source that reads as a program with a load of a temporary that nothing has written.
+pub fn unwritten(
+    alloc: Global,
+    source: &[u8],
+    schedule: Option<&[u8]>,
+    access: u32,
+    p: &[i64],
+    instance: &Instance,
+) -> Refusal
+    requires { (array : ℕ) × HasUnwritten source.now (option_map (λ s. s.now) schedule) array access p.now instance.now }
+    ensures { MeantCause source.now (option_map (λ s. s.now) schedule.entry) result }
+{
+    one_program();
+    let program = match program_of(alloc, source) {
+        Ok(program) => program,
+        Err(refusal) => return refusal,
+    };
+    match access_line(alloc, "affc: unwritten ", &program, p, instance, access) {
+        Ok(line) => Refusal::Meaning(Text::from_string(line)),
+        Err(_) => Refusal::Memory,
     }
 }

@@ -1,7 +1,8 @@
 // One source, run on data.
-ghost use Rattle.std.specs.Prelude.{IfOk, IfErr};
+ghost use Rattle.std.specs.Prelude.{◌≡◌, [], IfOk, IfErr};
 ghost use Rattle.affc_cli.specs.Run.{RunsTo, RunTextCause};
 
+use crate::pieces::Pieces;
 use crate::refusal::Refusal;
 use crate::source::program_of;
 use crate::stuck::refusal_of;
@@ -11,8 +12,9 @@ use affc_interp::run::run;
 use std::alloc::Global;
 
 /// What the output arrays hold when the source has run on the data, a line for each, or why there is nothing.
-pub fn run_text(alloc: Global, source: &[u8], feed: &[u8], limit: u64) -> Result<Vec<u8>, Refusal>
-    ensures ok { IfOk result (λ text. RunsTo source.now feed.now limit text.items) }
+pub fn run_text(alloc: Global, source: &[u8], feed: &[u8], limit: u64) -> Result<Pieces, Refusal>
+    ensures ok { IfOk result (λ made. RunsTo source.now feed.now limit made.text.items) }
+    ensures no_report { IfOk result (λ made. made.report.items ≡ []) }
     ensures err { IfErr result (RunTextCause source.now feed.now limit) }
 {
     let program = program_of(alloc, source)?;
@@ -28,7 +30,10 @@ pub fn run_text(alloc: Global, source: &[u8], feed: &[u8], limit: u64) -> Result
         }
     };
     match lines(alloc, &program, &store) {
-        Ok(text) => Ok(text),
+        Ok(text) => Ok(Pieces {
+            text,
+            report: Vec::new(alloc),
+        }),
         Err(_) => Err(Refusal::Memory),
     }
 }

@@ -1,17 +1,19 @@
 // The top call.
-ghost use Rattle.std.specs.Prelude.{◌≡◌, [], Some, None, IfOk, IfErr, OnOk, drop};
+ghost use Rattle.std.specs.Prelude.{◌≡◌, Some, None, IfOk, IfErr, OnOk, drop};
 ghost use Rattle.std.specs.Process.{exit_status};
 ghost use Rattle.affc_io.specs.Files.{Holds};
-ghost use Rattle.affc_cli.specs.Command.{Fold, Run, texts_of};
+ghost use Rattle.affc_cli.specs.Command.{Fold, Run, Flow, texts_of};
 ghost use Rattle.affc_io.specs.State.{FolderKeeps, SinkCounts};
 ghost use Rattle.affc_cli.specs.Outside.{IsRead, outside};
-ghost use Rattle.affc_cli.specs.Promise.{FoldPromises, RunPromises, Runs, Serves, ServesGiven};
-ghost use Rattle.affc_cli.specs.Refusal.{FoldCause, RunCause, fold_file, file_of};
-ghost use Rattle.affc_cli.specs.Telling.{Ends, HasRead, UnheldCause};
+ghost use Rattle.affc_cli.specs.Promise.{FoldPromises, RunPromises, FlowPromises, Runs, Serves, ServesGiven};
+ghost use Rattle.affc_cli.specs.Refusal.{FoldCause, RunCause, FlowCause, fold_file, file_of};
+ghost use Rattle.affc_cli.specs.Telling.{Ends, Reports, HasRead, UnheldCause};
 
 use crate::fold::fold;
+use crate::pieces::Pieces;
 use crate::refusal::{Operand, Refusal, UnreadWhy, tell_short, tell_words};
 use crate::run::run_text;
+use crate::trees::trees;
 use crate::words::{Command, command_of};
 use affc_io::{Folder, PutCause, ReadFault, Sink, put_all};
 use std::alloc::Global;
@@ -52,10 +54,10 @@ fn folded_alone<F: Folder>(
     source: &str,
     budget: Option<u64>,
     folder: &mut F,
-) -> Result<Vec<u8>, Refusal>
+) -> Result<Pieces, Refusal>
     ensures keeps { FolderKeeps (F.state folder.old) (F.state folder.new) }
     ensures reads { IsRead 1 (F.state folder.old) (F.state folder.new) }
-    ensures ok { IfOk result (λ text. FoldPromises source.now None (F.state folder.old).held text.items []) }
+    ensures ok { IfOk result (λ made. FoldPromises source.now None (F.state folder.old).held made.text.items made.report.items) }
     ensures err { IfErr result (λ refusal. FoldCause refusal source.now None budget (F.state folder.old) (F.state folder.new)) }
 {
     let source = contents_of(alloc, Operand::Source, source, folder)?;
@@ -69,10 +71,10 @@ fn folded_by<F: Folder>(
     schedule: &str,
     budget: Option<u64>,
     folder: &mut F,
-) -> Result<Vec<u8>, Refusal>
+) -> Result<Pieces, Refusal>
     ensures keeps { FolderKeeps (F.state folder.old) (F.state folder.new) }
     ensures reads { OnOk result (IsRead 2 (F.state folder.old) (F.state folder.new)) }
-    ensures ok { IfOk result (λ text. FoldPromises source.now (Some schedule.now) (F.state folder.old).held text.items []) }
+    ensures ok { IfOk result (λ made. FoldPromises source.now (Some schedule.now) (F.state folder.old).held made.text.items made.report.items) }
     ensures err { IfErr result (λ refusal. FoldCause refusal source.now (Some schedule.now) budget
         (F.state folder.old) (F.state folder.new)) }
     ensures err_reads { IfErr result (λ refusal. HasRead (Fold source.now (Some schedule.now) budget) refusal
@@ -90,10 +92,10 @@ fn ran<F: Folder>(
     feed: &str,
     limit: u64,
     folder: &mut F,
-) -> Result<Vec<u8>, Refusal>
+) -> Result<Pieces, Refusal>
     ensures keeps { FolderKeeps (F.state folder.old) (F.state folder.new) }
     ensures reads { OnOk result (IsRead 2 (F.state folder.old) (F.state folder.new)) }
-    ensures ok { IfOk result (λ text. RunPromises source.now feed.now limit (F.state folder.old).held text.items []) }
+    ensures ok { IfOk result (λ made. RunPromises source.now feed.now limit (F.state folder.old).held made.text.items made.report.items) }
     ensures err { IfErr result (λ refusal. RunCause refusal source.now feed.now limit
         (F.state folder.old) (F.state folder.new)) }
     ensures err_reads { IfErr result (λ refusal. HasRead (Run source.now feed.now limit) refusal
@@ -104,8 +106,19 @@ fn ran<F: Folder>(
     run_text(alloc, &source, &feed, limit)
 }
 
+// The trees of the source that the folder has under the name.
+fn flowed<F: Folder>(alloc: Global, source: &str, folder: &mut F) -> Result<Pieces, Refusal>
+    ensures keeps { FolderKeeps (F.state folder.old) (F.state folder.new) }
+    ensures reads { IsRead 1 (F.state folder.old) (F.state folder.new) }
+    ensures ok { IfOk result (λ made. FlowPromises source.now (F.state folder.old).held made.text.items made.report.items) }
+    ensures err { IfErr result (λ refusal. FlowCause refusal source.now (F.state folder.old) (F.state folder.new)) }
+{
+    let source = contents_of(alloc, Operand::Source, source, folder)?;
+    trees(alloc, &source)
+}
+
 // The file that a refusal of `fold` means.
-fn fold_file<'a>(made: &Result<Vec<u8>, Refusal>, source: &'a str, schedule: &'a str) -> &'a str
+fn fold_file<'a>(made: &Result<Pieces, Refusal>, source: &'a str, schedule: &'a str) -> &'a str
     ensures { IfErr made.now (λ refusal. result.now ≡ fold_file refusal source.now (Some schedule.now)) }
 {
     match made {
@@ -120,7 +133,7 @@ fn fold_file<'a>(made: &Result<Vec<u8>, Refusal>, source: &'a str, schedule: &'a
 }
 
 // The file that a refusal of `run` means.
-fn file_of<'a>(made: &Result<Vec<u8>, Refusal>, source: &'a str, feed: &'a str) -> &'a str
+fn file_of<'a>(made: &Result<Pieces, Refusal>, source: &'a str, feed: &'a str) -> &'a str
     ensures { IfErr made.now (λ refusal. result.now ≡ file_of refusal source.now feed.now) }
 {
     match made {
@@ -134,10 +147,24 @@ fn file_of<'a>(made: &Result<Vec<u8>, Refusal>, source: &'a str, feed: &'a str) 
     }
 }
 
-// Writes a command's text, or tells its refusal, in which `name` is the file that is meant.
+// Writes a report.
+fn put_report<E: Sink>(report: &[u8], err: &mut E) -> u8
+    ensures reports { Reports report.now (E.state err.old) (E.state err.new) result }
+    ensures counts { SinkCounts (E.state err.old) (E.state err.new) }
+{
+    match put_all(err, report) {
+        Ok(()) => 0,
+        Err(fault) => match fault.cause {
+            PutCause::Fault => 10,
+            PutCause::Memory => tell_short(err),
+        },
+    }
+}
+
+// Writes a command's pieces, or tells its refusal, in which `name` is the file that is meant.
 fn end<O: Sink, E: Sink>(
     alloc: Global,
-    made: Result<Vec<u8>, Refusal>,
+    made: Result<Pieces, Refusal>,
     name: &str,
     out: &mut O,
     err: &mut E,
@@ -147,12 +174,12 @@ fn end<O: Sink, E: Sink>(
     ensures out_counts { SinkCounts (O.state out.old) (O.state out.new) }
     ensures err_counts { SinkCounts (E.state err.old) (E.state err.new) }
 {
-    let text = match made {
-        Ok(text) => text,
+    let pieces = match made {
+        Ok(pieces) => pieces,
         Err(refusal) => return refusal.tell(alloc, err, name),
     };
-    match put_all(out, text.as_slice()) {
-        Ok(()) => 0,
+    match put_all(out, pieces.text.as_slice()) {
+        Ok(()) => put_report(pieces.report.as_slice(), err),
         Err(fault) => match fault.cause {
             PutCause::Fault => 10,
             PutCause::Memory => tell_short(err),
@@ -218,6 +245,23 @@ fn run_data<F: Folder, O: Sink, E: Sink>(
     end(alloc, made, name, out, err)
 }
 
+// Tells the trees of the source that the folder has under the name.
+fn run_flow<F: Folder, O: Sink, E: Sink>(
+    alloc: Global,
+    source: &str,
+    folder: &mut F,
+    out: &mut O,
+    err: &mut E,
+) -> u8
+    ensures { Runs (Flow source.now)
+        (outside (F.state folder.old) (O.state out.old) (E.state err.old))
+        (outside (F.state folder.new) (O.state out.new) (E.state err.new))
+        result }
+{
+    let made = flowed(alloc, source, folder);
+    end(alloc, made, source, out, err)
+}
+
 /// Does what the words ask, and answers the exit status.
 pub fn serve<F: Folder, O: Sink, E: Sink>(
     alloc: Global,
@@ -261,6 +305,7 @@ pub fn serve<F: Folder, O: Sink, E: Sink>(
                 },
             ),
         ) => run_data(alloc, source, feed, steps, folder, out, err),
+        Ok(Some(Command::Flow { source })) => run_flow(alloc, source, folder, out, err),
     }
 }
 

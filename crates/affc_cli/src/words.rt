@@ -5,7 +5,7 @@ ghost use Rattle.std.specs.Char.{is_ascii_digit};
 ghost use Rattle.clap.specs.Words.{app_of, is_simple};
 ghost use Rattle.clap.specs.Faults.{is_simple_and_free};
 ghost use Rattle.affc_cli.specs.Command.{answer, texts_of, is_empty, number_to, budget_of, steps_of, command_of};
-ghost use Rattle.affc_cli.specs.Parsed.{Parses, fold_app, is_clean, run_app};
+ghost use Rattle.affc_cli.specs.Parsed.{Parses, fold_app, is_clean, run_app, flow_app};
 ghost use Rattle.affc_cli.specs.Seen.{seen};
 
 use clap::error::ErrorKind;
@@ -24,6 +24,9 @@ pub enum Command<'a> {
         source: &'a str,
         feed: &'a str,
         steps: u64,
+    },
+    Flow {
+        source: &'a str,
     },
 }
 
@@ -178,6 +181,30 @@ fn read_run<'a>(alloc: Global, words: &'a [String]) -> Result<Option<Command<'a>
     }))
 }
 
+// `flow SRC`
+fn flow_form<'a>(alloc: Global) -> Result<clap::Command<'a>, AllocError>
+    ensures { IfOk result (λ form. app_of form ≡ flow_app) }
+{
+    clap::Command::new(alloc, "flow")
+        .no_binary_name(true)
+        .disable_help_flag(true)
+        .arg(Arg::new(alloc, "source").required(true))
+}
+
+fn read_flow<'a>(alloc: Global, words: &'a [String]) -> Result<Option<Command<'a>>, AllocError>
+    requires { is_clean (texts_of words.now) ≡ true }
+    ensures { IfOk result (λ found. option_map seen found ≡ answer (codes "flow") (texts_of words.entry.now)) }
+{
+    let form = flow_form(alloc)?;
+    let Some(matches) = parsed(form, words)? else {
+        return Ok(None);
+    };
+    let Some(source) = matches.get_str("source") else {
+        return Ok(None);
+    };
+    Ok(Some(Command::Flow { source }))
+}
+
 /// What the words stand for, if they are one of the command forms. It fails for want of memory alone.
 pub fn command_of<'a>(alloc: Global, words: &'a [String]) -> Result<Option<Command<'a>>, AllocError>
     ensures { IfOk result (λ found. option_map seen found ≡ command_of (texts_of words.entry.now)) }
@@ -191,6 +218,7 @@ pub fn command_of<'a>(alloc: Global, words: &'a [String]) -> Result<Option<Comma
     match name.as_str() {
         "fold" => read_fold(alloc, behind),
         "run" => read_run(alloc, behind),
+        "flow" => read_flow(alloc, behind),
         _ => Ok(None),
     }
 }

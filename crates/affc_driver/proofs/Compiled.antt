@@ -7,22 +7,28 @@ use Rattle.affc_grammar.specs.Reads.{Reads}
 use Rattle.affc_cprint.specs.Layout.{printed_text}
 use Rattle.affc_cprint.proofs.Converse.{reads_back}
 use Rattle.affc_trace.specs.Effects.{effect}
+use Rattle.affc_trace.specs.Laws.{IsInContext}
 use Rattle.affc_trace.specs.Target.{IsScheduleOf, within_limits}
 use Rattle.affc_trace.proofs.Contents.{values_by_instance}
 use Rattle.affc_trace.proofs.Targets.{map_map}
 use Rattle.affc_plain.proofs.Programs.{reads_plain}
+use Rattle.affc_safe.proofs.SafeLaws.{safe_runs}
 use Rattle.affc_loops.specs.Laws.{HasLoops}
 use Rattle.affc_loops.specs.Loops.{target_program}
 use Rattle.affc_loops.proofs.LoopLaws.{loops_compile}
 use Rattle.affc_loopprint.specs.Laws.{LoopsWellNamed}
 use Rattle.affc_schedtext.specs.declared.plan.Plan.{Plan}
 use Rattle.affc_schedtext.proofs.Scheduled.{is_scheduled, is_limited}
+use Rattle.affc_nest.specs.Laws.{NamesArrays}
 use Rattle.affc_bounds.specs.Faults.{StaysWithin}
-use Rattle.affc_bounds.proofs.LawProofs.{staying_ends}
+use Rattle.affc_bounds.proofs.LawProofs.{staying_is_safe}
 use Rattle.affc_driver.specs.Folds.{FoldsTo}
-use Rattle.affc_driver.specs.Plans.{HasPlan, LegalThroughout}
-use Rattle.affc_driver.specs.Laws.{CompilesItself, WithinNeverStuck, PrintedCompiles}
+use Rattle.affc_driver.specs.Plans.{HasPlan, LegalThroughout, WrittenThroughout}
+use Rattle.affc_driver.specs.Reports.{report_text}
+use Rattle.affc_driver.specs.Laws.{CompilesItself, WithinNeverStuck, NamedIsWritten, PrintedCompiles}
 use Rattle.affc_driver.proofs.Ranked.{reads_naming_arrays}
+use Rattle.affc_driver.proofs.Roles.{reads_roles}
+use Rattle.affc_driver.proofs.Written.{loads_written}
 
 pub compiles_itself : CompilesItself
 compiles_itself program plain never = record {
@@ -37,8 +43,18 @@ compiles_itself program plain never = record {
 }
 
 pub within_never_stuck : WithinNeverStuck
-within_never_stuck text program reads bare within none p store fits =
-    staying_ends program p store (reads_plain text program reads bare) within (reads_naming_arrays text program reads) none fits
+within_never_stuck text program reads bare within written p store fits =
+    let here : IsInContext program p = record { ranges = fits.ranges; context = fits.context } in
+    safe_runs program p store (reads_plain text program reads bare) within.near fits
+    (record { extents = within.extents p here; within = within.accesses p here; written = written p here })
+
+pub named_is_written : NamedIsWritten
+named_is_written text program trees reads bare within named p inside =
+    loads_written program p trees (record { plain = reads_plain text program reads bare; near = within.near }) (reads_naming_arrays text program reads) (reads_roles text program reads bare) inside (named p inside)
+
+-- each load of a temporary is, where there are no temporaries
+pub none_is_written : (program : Program) → NamesArrays program → StaysWithin program → program.temps ≡ [] → WrittenThroughout program
+none_is_written program names within none p inside = (staying_is_safe program p within names none inside).written
 
 -- ---- The schedule of a plan
 
@@ -62,10 +78,10 @@ has_loops text schedule program plan reads bare within planned = record {
 
 module _ (named : LoopsWellNamed) where
   pub folds_to : (text : List ℕ) (schedule : Option (List ℕ)) (program : Program) (plan : Plan) (folded report : List ℕ)
-      → Reads text program → program.prelude ≡ false → StaysWithin program → program.temps ≡ []
+      → Reads text program → program.prelude ≡ false → StaysWithin program → WrittenThroughout program
       → HasPlan program schedule plan → plan.folds ≡ [] → LegalThroughout program plan.schedule
-      → folded ≡ printed_text (target_program program plan.schedule) → report ≡ [] → FoldsTo text schedule folded report
-  folds_to text schedule program plan folded report reads bare within none planned whole legal printed empty =
+      → folded ≡ printed_text (target_program program plan.schedule) → report ≡ report_text program → FoldsTo text schedule folded report
+  folds_to text schedule program plan folded report reads bare within written planned whole legal printed told =
       let loops = has_loops text schedule program plan reads bare within planned in
       let target = target_program program plan.schedule in
       record {
@@ -75,19 +91,19 @@ module _ (named : LoopsWellNamed) where
           source_reads = reads;
           target = target;
           target_reads = (reads_back target folded printed).0 (named text program plan.schedule reads bare loops);
-          compiles = loops_compile program plan.schedule loops (within_never_stuck text program reads bare within none) legal;
+          compiles = loops_compile program plan.schedule loops (within_never_stuck text program reads bare within written) legal;
         };
         loops = refl;
         printed = printed;
         plain = bare;
         within = within;
+        written = written;
         planned = planned;
         legal = legal;
-        no_temporaries = none;
         no_folds = whole;
-        no_report = empty;
+        told = told;
       }
 
   pub printed_compiles : PrintedCompiles
-  printed_compiles text schedule program plan reads bare within none planned whole legal =
-      folds_to text schedule program plan (printed_text (target_program program plan.schedule)) [] reads bare within none planned whole legal refl refl
+  printed_compiles text schedule program plan reads bare within written planned whole legal =
+      folds_to text schedule program plan (printed_text (target_program program plan.schedule)) (report_text program) reads bare within written planned whole legal refl refl

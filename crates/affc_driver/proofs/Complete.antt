@@ -1,55 +1,74 @@
--- A text is folded exactly where its program is never stuck and has no temporaries, and its schedule is legal and without
--- folds; then nothing but want of budget or of memory is in the way.
-use Rattle.std.proofs.Common.{◌≡◌, ℕ, ℤ, true≢false, List, [], Option, Some, refl, sym, ap, subst, ◌∙◌, ◌⊎◌, inl, inr}
+-- A text is folded exactly where its program is never stuck, and its schedule is legal and without folds; then nothing but want
+-- of budget or of memory is in the way. So it is of its trees, without a schedule.
+use Rattle.std.proofs.Common.{◌≡◌, ℕ, ℤ, true≢false, List, [], Option, Some, None, refl, sym, ap, subst, ◌∙◌, ◌⊎◌, inl, inr}
+use Rattle.affc_ast.specs.declared.tree.ArrayId.{ArrayId}
 use Rattle.affc_ast.specs.declared.tree.Instance.{Instance}
 use Rattle.affc_ast.specs.declared.tree.Program.{Program}
 use Rattle.affc_grammar.specs.Limits.{limits_of}
 use Rattle.affc_grammar.specs.Reads.{Reads}
 use Rattle.affc_grammar.proofs.Texts.{one_tree}
+use Rattle.affc_parse.specs.declared.fault.ParseFault.{ParseFault}
 use Rattle.affc_parse.proofs.Refusals.{fault_is_memory}
 use Rattle.affc_cprint.specs.Layout.{printed_text}
+use Rattle.affc_ast.specs.Trace.{loads_of}
 use Rattle.affc_trace.specs.Laws.{IsInContext}
 use Rattle.affc_trace.specs.Orders.{Earlier}
 use Rattle.affc_plain.proofs.NoLocals.{plain_has_no_locals}
 use Rattle.affc_plain.proofs.Programs.{reads_plain}
 use Rattle.affc_safe.specs.Safe.{IsSafe}
+use Rattle.affc_safe.proofs.EndedSafe.{unwritten_instance}
 use Rattle.affc_safe.proofs.FitsThere.{never_stuck_is_safe}
+use Rattle.affc_nest.proofs.QuestionLemmas.{stands_in}
 use Rattle.affc_loops.specs.Loops.{target_program}
 use Rattle.affc_loopprint.specs.Laws.{LoopsWellNamed}
 use Rattle.affc_bounds.specs.Faults.{StaysWithin, IsMeaningFault}
 use Rattle.affc_bounds.proofs.LawProofs.{faults_do_not_stay}
+use Rattle.affc_bounds.specs.declared.fault.MeaningFault.{MeaningFault}
 use Rattle.affc_schedtext.specs.declared.plan.Plan.{Plan}
 use Rattle.affc_schedtext.specs.declared.plan.SchedFault.{SchedFault}
 use Rattle.affc_schedtext.specs.Answers.{IsFault}
 use Rattle.affc_schedtext.proofs.Excludes.{excludes}
 use Rattle.affc_sched.specs.Violations.{IsViolation}
+use Rattle.affc_flow.specs.Unwritten.{LoadsUnwritten}
 use Rattle.affc_driver.specs.Folds.{FoldsTo}
-use Rattle.affc_driver.specs.Laws.{IllegalShows, IsFoldable, FoldableIsFolded, FoldableIsNotRefused}
-use Rattle.affc_driver.specs.Plans.{HasPlan}
-use Rattle.affc_driver.specs.Refusals.{HasSchedFault, IsIllegal}
-use Rattle.affc_driver.specs.declared.refusal.Refusal.TheVariants.{Source, Printed, Schedule, Meaning, Illegal, Budget, Memory, Unbuilt}
-use Rattle.affc_driver.proofs.Compiled.{within_never_stuck, printed_compiles}
+use Rattle.affc_driver.specs.Flows.{FlowsTo}
+use Rattle.affc_driver.specs.Laws.{NeverStuck, IllegalShows, IsFoldable, FoldableIsFolded, FoldableIsNotRefused, IsSound, FlowsAreSound, SoundIsNotRefused}
+use Rattle.affc_driver.specs.Plans.{HasPlan, WrittenThroughout}
+use Rattle.affc_driver.specs.Refusals.{IsSourceFault, IsPrinted, HasSchedFault, HasMeaningFault, HasUnwritten, IsIllegal}
+use Rattle.affc_driver.specs.Reports.{report_text}
+use Rattle.affc_driver.specs.declared.refusal.Refusal.TheVariants.{Source, Printed, Schedule, Meaning, Unwritten, Illegal, Budget, Memory, Unbuilt}
+use Rattle.affc_driver.proofs.Compiled.{within_never_stuck, named_is_written, printed_compiles}
 use Rattle.affc_driver.proofs.OnePlan.{one_target, one_whole}
+use Rattle.affc_driver.proofs.Roles.{reads_roles, temporary_far}
+
+-- ---- A program that is never stuck
+
+abbrev sound_of : (text : List ℕ) (schedule : Option (List ℕ)) → IsFoldable text schedule → IsSound text
+sound_of text schedule f = record { program = f.program; reads = f.reads; plain = f.plain; near = f.near; some = f.some; never_stuck = f.never_stuck }
+
+safe_at : (text : List ℕ) (s : IsSound text) (p : List ℤ) → IsInContext s.program p → IsSafe s.program p
+safe_at text s p here = never_stuck_is_safe s.program p (plain_has_no_locals s.program (reads_plain text s.program s.reads s.plain)) here (s.never_stuck p)
+
+stays_within : (text : List ℕ) (s : IsSound text) → StaysWithin s.program
+stays_within text s = record {
+  near = s.near;
+  some = s.some;
+  extents = λ p here. (safe_at text s p here).extents;
+  accesses = λ p here. (safe_at text s p here).within;
+}
+
+is_written : (text : List ℕ) (s : IsSound text) → WrittenThroughout s.program
+is_written text s p here = (safe_at text s p here).written
 
 -- ---- Exactly such texts are folded
 
-stays_within : (text : List ℕ) (schedule : Option (List ℕ)) (f : IsFoldable text schedule) → StaysWithin f.program
-stays_within text schedule f = record {
-  near = f.near;
-  some = f.some;
-  extents = λ p here. (safe p here).extents;
-  accesses = λ p here. (safe p here).within;
-}
-  where
-    safe : (p : List ℤ) → IsInContext f.program p → IsSafe f.program p
-    safe p here = never_stuck_is_safe f.program p (plain_has_no_locals f.program (reads_plain text f.program f.reads f.plain)) here (f.never_stuck p)
-
 pub foldable_is_folded : LoopsWellNamed → FoldableIsFolded
 foldable_is_folded named text schedule = (
-  λ f. (
-    printed_text (target_program f.program f.plan.schedule),
-    ([], printed_compiles named text schedule f.program f.plan f.reads f.plain (stays_within text schedule f) f.no_temporaries f.planned f.no_folds f.legal),
-  ),
+  λ f.
+      let s = sound_of text schedule f in (
+        printed_text (target_program f.program f.plan.schedule),
+        (report_text f.program, printed_compiles named text schedule f.program f.plan f.reads f.plain (stays_within text s) (is_written text s) f.planned f.no_folds f.legal),
+      ),
   λ r.
       let folds : FoldsTo text schedule r.0 r.1.0 = r.1.1 in
       let program : Program = folds.compiles.source in
@@ -60,14 +79,23 @@ foldable_is_folded named text schedule = (
         plain = folds.plain;
         near = folds.within.near;
         some = folds.within.some;
-        never_stuck = within_never_stuck text program reads folds.plain folds.within folds.no_temporaries;
-        no_temporaries = folds.no_temporaries;
+        never_stuck = within_never_stuck text program reads folds.plain folds.within folds.written;
         plan = folds.plan;
         planned = folds.planned;
         no_folds = folds.no_folds;
         legal = folds.legal;
       },
 )
+
+pub flows_are_sound : FlowsAreSound
+flows_are_sound text told f = record {
+  program = f.program;
+  reads = f.reads;
+  plain = f.plain;
+  near = f.within.near;
+  some = f.within.some;
+  never_stuck = within_never_stuck text f.program f.reads f.plain f.within (named_is_written text f.program f.trees f.reads f.plain f.within f.named);
+}
 
 -- ---- What is shown of a schedule that isn't legal
 
@@ -93,13 +121,30 @@ illegal_shows text schedule program plan p a b reads planned says =
 -- ---- They aren't refused
 
 -- the text reads as no other program
-same_tree : (text : List ℕ) (schedule : Option (List ℕ)) (f : IsFoldable text schedule) (tree : Program) → Reads text tree → tree ≡ f.program
-same_tree text schedule f tree reads = one_tree limits_of text tree f.program reads f.reads
+same_tree : (text : List ℕ) (s : IsSound text) (tree : Program) → Reads text tree → tree ≡ s.program
+same_tree text s tree reads = one_tree limits_of text tree s.program reads s.reads
+
+no_source_fault : (text : List ℕ) (fault : ParseFault) → IsSound text → IsSourceFault text fault → ⊥
+no_source_fault text fault s says = says.is_fault (fault_is_memory text fault s.program says.answers s.reads)
+
+not_printed : (text : List ℕ) (place : ℕ) → IsSound text → IsPrinted text place → ⊥
+not_printed text place s says = true≢false (sym says.with_prelude ∙ ap (λ (t : Program). t.prelude) (same_tree text s says.tree says.reads) ∙ s.plain)
+
+no_meaning_fault : (text : List ℕ) (schedule : Option (List ℕ)) (fault : MeaningFault) → IsSound text → HasMeaningFault text schedule fault → ⊥
+no_meaning_fault text schedule fault s says =
+    faults_do_not_stay s.program fault (subst (λ t. IsMeaningFault t fault) (same_tree text s says.of.tree says.of.reads) says.is_fault) (stays_within text s)
+
+not_unwritten : (text : List ℕ) (schedule : Option (List ℕ)) (array access : ℕ) (p : List ℤ) (b : Instance) → IsSound text → HasUnwritten text schedule array access p b → ⊥
+not_unwritten text schedule array access p b s says =
+    let program = s.program in
+    let u : LoadsUnwritten program access p b = subst (λ t. LoadsUnwritten t access p b) (same_tree text s says.of.tree says.of.reads) says.loads in
+    unwritten_instance program p b u.element u.runs (stands_in (loads_of program p b) access u.element u.loaded) (temporary_far program (reads_roles text program s.reads s.plain) u.element.0 u.temporary) u.none
+    (safe_at text s p u.context)
 
 no_sched_fault : (text : List ℕ) (schedule : Option (List ℕ)) (fault : SchedFault) → IsFoldable text schedule → HasSchedFault text schedule fault → ⊥
 no_sched_fault text schedule fault f says =
     let reads = subst (λ s. HasPlan f.program s f.plan) says.given f.planned in
-    says.is_fault (excludes says.text f.program f.plan fault reads (subst (λ t. IsFault says.text t fault) (same_tree text schedule f says.tree says.reads) says.answers))
+    says.is_fault (excludes says.text f.program f.plan fault reads (subst (λ t. IsFault says.text t fault) (same_tree text (sound_of text schedule f) says.tree says.reads) says.answers))
 
 not_illegal : (text : List ℕ) (schedule : Option (List ℕ)) (p : List ℤ) (a b : Instance) → IsFoldable text schedule → IsIllegal text schedule p a b → ⊥
 not_illegal text schedule p a b f says =
@@ -107,19 +152,25 @@ not_illegal text schedule p a b f says =
     v.violates.not_earlier (f.legal p v.context a b v.violates.different v.violates.dependent v.violates.earlier)
 
 pub foldable_is_not_refused : FoldableIsNotRefused
-foldable_is_not_refused text schedule (Source fault) f says = absurd (says.is_fault (fault_is_memory text fault f.program says.answers f.reads))
-foldable_is_not_refused text schedule (Printed place) f says =
-    absurd (true≢false (sym says.with_prelude ∙ ap (λ (t : Program). t.prelude) (same_tree text schedule f says.tree says.reads) ∙ f.plain))
+foldable_is_not_refused text schedule (Source fault) f says = absurd (no_source_fault text fault (sound_of text schedule f) says)
+foldable_is_not_refused text schedule (Printed place) f says = absurd (not_printed text place (sound_of text schedule f) says)
 foldable_is_not_refused text schedule (Schedule fault) f says = absurd (no_sched_fault text schedule fault f says)
-foldable_is_not_refused text schedule (Meaning fault) f says =
-    absurd (faults_do_not_stay f.program fault (subst (λ t. IsMeaningFault t fault) (same_tree text schedule f says.of.tree says.of.reads) says.is_fault) (stays_within text schedule f))
+foldable_is_not_refused text schedule (Meaning fault) f says = absurd (no_meaning_fault text schedule fault (sound_of text schedule f) says)
+foldable_is_not_refused text schedule (Unwritten array access p b) f says = absurd (not_unwritten text schedule array.0 access p b (sound_of text schedule f) says)
 foldable_is_not_refused text schedule (Illegal p a b) f says = absurd (not_illegal text schedule p a b f says)
 foldable_is_not_refused text schedule Budget f says = inl refl
 foldable_is_not_refused text schedule Memory f says = inr refl
-foldable_is_not_refused text schedule Unbuilt f says = absurd (elim says.more [
-  | inl some ↦ some (ap (λ (t : Program). t.temps) same ∙ f.no_temporaries)
-  | inr some ↦ some (one_whole f.program schedule f.plan says.of.plan f.planned (subst (λ t. HasPlan t schedule says.of.plan) same says.of.planned) f.no_folds)
-])
-  where
-    same : says.of.tree ≡ f.program
-    same = same_tree text schedule f says.of.tree says.of.reads
+foldable_is_not_refused text schedule Unbuilt f says =
+    let same = same_tree text (sound_of text schedule f) says.of.tree says.of.reads in
+    absurd (says.more (one_whole f.program schedule f.plan says.of.plan f.planned (subst (λ t. HasPlan t schedule says.of.plan) same says.of.planned) f.no_folds))
+
+pub sound_is_not_refused : SoundIsNotRefused
+sound_is_not_refused text (Source fault) s says = absurd (no_source_fault text fault s says)
+sound_is_not_refused text (Printed place) s says = absurd (not_printed text place s says)
+sound_is_not_refused text (Schedule fault) s says = absurd says
+sound_is_not_refused text (Meaning fault) s says = absurd (no_meaning_fault text None fault s says)
+sound_is_not_refused text (Unwritten array access p b) s says = absurd (not_unwritten text None array.0 access p b s says)
+sound_is_not_refused text (Illegal p a b) s says = absurd says
+sound_is_not_refused text Budget s says = inl refl
+sound_is_not_refused text Memory s says = inr refl
+sound_is_not_refused text Unbuilt s says = absurd says

@@ -1,7 +1,10 @@
 pub mod WithPrelude
 pub mod Ranked
+pub mod Roles
+pub mod Written
 pub mod Compiled
 pub mod Stuck
 pub mod OnePlan
 pub mod Complete
 pub mod Refused
+pub mod Told

@@ -1,5 +1,6 @@
 -- What each refusal says of all texts of a program.
-use Rattle.std.proofs.Common.{◌≡◌, ◌≢◌, ◌⊎◌, ◌∙◌, ◌==◌, ℕ, ℤ, Bool, false, IsTrue, List, [], length, Option, Some, refl, sym, ap}
+use Rattle.std.proofs.Common.{◌≡◌, ◌≢◌, ◌∙◌, ◌==◌, ℕ, ℤ, Bool, false, IsTrue, List, [], length, Option, Some, None, refl, sym, ap, subst}
+use Rattle.std.specs.Prelude.{slice_get}
 use Rattle.std.proofs.lemmas.Bool.{false≢true}
 use Rattle.affc_ast.specs.declared.tree.Instance.{Instance}
 use Rattle.affc_ast.specs.declared.tree.Program.{Program}
@@ -16,10 +17,23 @@ use Rattle.affc_schedtext.specs.declared.plan.SchedFault.{SchedFault}
 use Rattle.affc_schedtext.specs.declared.plan.SchedFault.TheVariants.{Memory}
 use Rattle.affc_schedtext.specs.Answers.{IsFault}
 use Rattle.affc_sched.specs.Legality.{IsAsked, IsFor, IsFirstIllegal}
-use Rattle.affc_driver.specs.Plans.{HasPlan, LegalThroughout}
+use Rattle.affc_ast.specs.declared.tree.ArrayId.{ArrayId}
+use Rattle.affc_nest.specs.declared.nest.Access.{Access}
+use Rattle.affc_nest.specs.declared.nest.Entry.{Entry}
+use Rattle.affc_flow.specs.Stores.{IsNamedNest}
+use Rattle.affc_flow.specs.Unwritten.{IsUnwritten}
+use Rattle.affc_driver.specs.Plans.{HasPlan, as_it_stands, LegalThroughout, WrittenThroughout}
+use Rattle.affc_quast.specs.Limits.{narrow, AreTreesWithin}
+use Rattle.affc_quast.specs.Trees.{Tree}
+use Rattle.affc_flow.specs.Finds.{AreInputs}
+use Rattle.affc_report.specs.Trees.{flow_text}
+use Rattle.affc_schedtext.specs.Outline.{outline}
+use Rattle.affc_driver.specs.Flows.{NameThroughout, FlowsTo}
 use Rattle.affc_driver.specs.Programs.{OfEachText, OfEachPlan}
-use Rattle.affc_driver.specs.Refusals.{RefusalSays, IsPlanned}
-use Rattle.affc_driver.specs.declared.refusal.Refusal.TheVariants.{Schedule as NoPlan, Meaning, Illegal, Unbuilt}
+use Rattle.affc_driver.specs.Refusals.{RefusalSays, FlowRefusalSays, MeaningSays, IsPlanned}
+use Rattle.affc_driver.specs.declared.refusal.Refusal.{Refusal}
+use Rattle.affc_driver.specs.declared.refusal.Refusal.TheVariants.{Source, Printed, Schedule as NoPlan, Meaning, Unwritten, Illegal, Budget, Memory as Short, Unbuilt}
+use Rattle.affc_driver.proofs.Written.{array_read}
 
 pub no_plan : (program : Program) (text : List ℕ) (fault : SchedFault) → fault ≢ Memory → IsFault text program fault
     → OfEachText program (λ source. RefusalSays source (Some text) (NoPlan fault))
@@ -37,8 +51,56 @@ abbrev planned : (program : Program) (plan : Plan) (schedule : Option (List ℕ)
 planned program plan schedule has text reads bare = record { tree = program; reads = reads; plain = bare; plan = plan; planned = has }
 
 pub meant : (program : Program) (fault : MeaningFault) → IsMeaningFault program fault
-    → (plan : Plan) → OfEachPlan program plan (λ source schedule. RefusalSays source schedule (Meaning fault))
+    → (plan : Plan) → OfEachPlan program plan (λ source schedule. MeaningSays source schedule (Meaning fault))
 meant program fault is plan schedule has source reads bare = record { of = planned program plan schedule has source reads bare; is_fault = is }
+
+pub unwritten : (program : Program) (nest : Nest) (array : ArrayId) (access : ℕ) (p : List ℤ) (b : Instance) → IsPlain program → NamesArrays program → nest ≡ nest_of program → StaysWithin program → IsUnwritten nest access p b
+    → ((e : Entry) (x : Access) → slice_get nest.entries b.statement ≡ Some e → slice_get e.accesses access ≡ Some x → array ≡ x.array)
+    → (plan : Plan) → OfEachPlan program plan (λ source schedule. MeaningSays source schedule (Unwritten array access p b))
+unwritten program nest array access p b plain names is within shown found plan schedule has source reads bare =
+    let nested : HasNest program = record { plain = plain; near = within.near } in
+    let loads = shown program is nested names in
+    record {
+      of = planned program plan schedule has source reads bare;
+      within = within;
+      loads = loads;
+      of_array = array_read program access p b array nested loads (λ e x at there. found e x (ap (λ (n : Nest). slice_get n.entries b.statement) is ∙ at) there);
+    }
+
+-- what is wrong with a program refuses its compilation, and its trees
+pub refuses : (source : List ℕ) (schedule : Option (List ℕ)) (refusal : Refusal) → MeaningSays source schedule refusal → RefusalSays source schedule refusal
+refuses source schedule (Source fault) h = absurd h
+refuses source schedule (Printed place) h = absurd h
+refuses source schedule (NoPlan fault) h = absurd h
+refuses source schedule (Meaning fault) h = h
+refuses source schedule (Unwritten array access p b) h = h
+refuses source schedule (Illegal p a b) h = absurd h
+refuses source schedule Budget h = tt
+refuses source schedule Short h = tt
+refuses source schedule Unbuilt h = absurd h
+
+pub refuses_each : (program : Program) (plan : Plan) (refusal : Refusal) → ((plan : Plan) → OfEachPlan program plan (λ source schedule. MeaningSays source schedule refusal))
+    → OfEachPlan program plan (λ source schedule. RefusalSays source schedule refusal)
+refuses_each program plan refusal h schedule has source reads bare = refuses source schedule refusal (h plan schedule has source reads bare)
+
+refuses_trees : (source : List ℕ) (refusal : Refusal) → MeaningSays source None refusal → FlowRefusalSays source refusal
+refuses_trees source (Source fault) h = absurd h
+refuses_trees source (Printed place) h = absurd h
+refuses_trees source (NoPlan fault) h = absurd h
+refuses_trees source (Meaning fault) h = h
+refuses_trees source (Unwritten array access p b) h = h
+refuses_trees source (Illegal p a b) h = absurd h
+refuses_trees source Budget h = tt
+refuses_trees source Short h = tt
+refuses_trees source Unbuilt h = absurd h
+
+pub refuses_each_tree : (program : Program) (refusal : Refusal) → ((plan : Plan) → OfEachPlan program plan (λ source schedule. MeaningSays source schedule refusal))
+    → OfEachText program (λ source. FlowRefusalSays source refusal)
+refuses_each_tree program refusal h source reads bare = refuses_trees source refusal (h as_it_stands None refl source reads bare)
+
+-- what dataflow is asked of
+pub named_nest : (program : Program) (nest : Nest) → IsPlain program → NamesArrays program → nest ≡ nest_of program → StaysWithin program → IsNamedNest nest
+named_nest program nest plain names is within = record { program = program; has = record { plain = plain; near = within.near }; is = is; named = names }
 
 -- what legality is asked of
 pub asked : (program : Program) (nest : Nest) (schedule : Schedule) → IsPlain program → NamesArrays program → nest ≡ nest_of program → StaysWithin program
@@ -63,19 +125,21 @@ asked_for program nest schedule plain names is within fits = record {
   fits = fits;
 }
 
-pub turned : (program : Program) (nest : Nest) (plan : Plan) (p : List ℤ) (a b : Instance) → StaysWithin program → IsFor program nest plan.schedule
+pub turned : (program : Program) (nest : Nest) (plan : Plan) (p : List ℤ) (a b : Instance) → StaysWithin program → OfEachText program (λ text. WrittenThroughout program) → IsFor program nest plan.schedule
     → IsFirstIllegal nest plan.schedule p a b → OfEachPlan program plan (λ source schedule. RefusalSays source schedule (Illegal p a b))
-turned program nest plan p a b within asked first schedule has source reads bare = record {
+turned program nest plan p a b within written asked first schedule has source reads bare = record {
   of = planned program plan schedule has source reads bare;
   within = within;
+  written = written source reads bare;
   first = first program asked;
 }
 
-pub unbuilt : (program : Program) (plan : Plan) → StaysWithin program → LegalThroughout program plan.schedule → (program.temps ≢ []) ⊎ (plan.folds ≢ [])
+pub unbuilt : (program : Program) (plan : Plan) → StaysWithin program → OfEachText program (λ text. WrittenThroughout program) → LegalThroughout program plan.schedule → plan.folds ≢ []
     → OfEachPlan program plan (λ source schedule. RefusalSays source schedule Unbuilt)
-unbuilt program plan within legal more schedule has source reads bare = record {
+unbuilt program plan within written legal more schedule has source reads bare = record {
   of = planned program plan schedule has source reads bare;
   within = within;
+  written = written source reads bare;
   legal = legal;
   more = more;
 }
@@ -83,3 +147,18 @@ unbuilt program plan within legal more schedule has source reads bare = record {
 -- a list that was looked at and isn't empty
 pub some_there : {A : Type 0} (xs seen : List A) (is_empty : Bool) → seen ≡ xs → is_empty ≡ (length seen == 0) → is_empty ≡ false → xs ≢ []
 some_there xs seen is_empty same is off none = absurd (false≢true (sym off ∙ is ∙ ap (λ l. length l == 0) (same ∙ none)))
+
+-- what the text of trees tells
+pub told_trees : (program : Program) (nest : Nest) (trees : List Tree) (text : List ℕ) → nest ≡ nest_of program → StaysWithin program → NameThroughout program trees
+    → AreTreesWithin narrow 302 12 nest trees → AreInputs nest trees → text ≡ flow_text (outline program) nest trees → OfEachText program (λ source. FlowsTo source text)
+told_trees program nest trees text is within named limits inputs told source reads bare = record {
+  program = program;
+  reads = reads;
+  plain = bare;
+  within = within;
+  trees = trees;
+  named = named;
+  limits = subst (λ n. AreTreesWithin narrow 302 12 n trees) is limits;
+  inputs = subst (λ n. AreInputs n trees) is inputs;
+  told = told ∙ ap (λ n. flow_text (outline program) n trees) is;
+}

@@ -19,10 +19,13 @@ use Rattle.affc_bounds.specs.Faults.{StaysWithin}
 use Rattle.affc_bounds.specs.Laws.{IsStuckAt}
 use Rattle.affc_bounds.specs.declared.fault.MeaningFault.{MeaningFault}
 use Rattle.affc_bounds.specs.declared.fault.MeaningFault.TheVariants.{IteratorRange, Context, Extent, Bounds}
+use Rattle.affc_quast.specs.Trees.{Tree}
 use Rattle.affc_sched.specs.Violations.{IsViolation}
+use Rattle.affc_driver.specs.Flows.{NameThroughout, FlowsTo}
 use Rattle.affc_driver.specs.Folds.{FoldsTo}
-use Rattle.affc_driver.specs.Plans.{HasPlan, LegalThroughout}
-use Rattle.affc_driver.specs.Refusals.{HasMeaningFault, IsIllegal, RefusalSays}
+use Rattle.affc_driver.specs.Plans.{HasPlan, LegalThroughout, WrittenThroughout}
+use Rattle.affc_driver.specs.Refusals.{HasMeaningFault, HasUnwritten, IsIllegal, RefusalSays, FlowRefusalSays}
+use Rattle.affc_driver.specs.Reports.{report_text}
 use Rattle.affc_driver.specs.declared.refusal.Refusal.{Refusal}
 use Rattle.affc_driver.specs.declared.refusal.Refusal.TheVariants.{Budget, Memory}
 
@@ -42,16 +45,22 @@ ReadsNamingArrays = (text : List ℕ) (program : Program) → Reads text program
 abbrev pub CompilesItself : Type 0
 CompilesItself = (program : Program) → IsTrue (has_no_locals program) → NeverStuck program → Compiles program program (λ _. in_source_order) (λ _. own_place)
 
--- The program that a text without the prelude reads as is never stuck, where it stays within and has no temporaries.
+-- The program that a text without the prelude reads as is never stuck, where it stays within and each load of a temporary is
+-- written before.
 abbrev pub WithinNeverStuck : Type 0
-WithinNeverStuck = (text : List ℕ) (program : Program) → Reads text program → program.prelude ≡ false → StaysWithin program → program.temps ≡ [] → NeverStuck program
+WithinNeverStuck = (text : List ℕ) (program : Program) → Reads text program → program.prelude ≡ false → StaysWithin program → WrittenThroughout program → NeverStuck program
+
+-- Each is where trees name the sources of all loads, and of a load of a temporary always one.
+abbrev pub NamedIsWritten : Type 0
+NamedIsWritten = (text : List ℕ) (program : Program) (trees : List Tree)
+    → Reads text program → program.prelude ≡ false → StaysWithin program → NameThroughout program trees → WrittenThroughout program
 
 -- So what is printed of the loops of a legal schedule compiles the text.
 abbrev pub PrintedCompiles : Type 0
 PrintedCompiles = (text : List ℕ) (schedule : Option (List ℕ)) (program : Program) (plan : Plan)
-    → Reads text program → program.prelude ≡ false → StaysWithin program → program.temps ≡ []
+    → Reads text program → program.prelude ≡ false → StaysWithin program → WrittenThroughout program
     → HasPlan program schedule plan → plan.folds ≡ [] → LegalThroughout program plan.schedule
-    → FoldsTo text schedule (printed_text (target_program program plan.schedule)) []
+    → FoldsTo text schedule (printed_text (target_program program plan.schedule)) (report_text program)
 
 -- ---- What is refused
 
@@ -67,6 +76,11 @@ abbrev pub FaultsShow : Type 0
 FaultsShow = (text : List ℕ) (schedule : Option (List ℕ)) (program : Program) (fault : MeaningFault)
     → Reads text program → HasMeaningFault text schedule fault → ShowsInRuns program fault
 
+-- Where a load of a temporary is unwritten at p, each run there is stuck.
+abbrev pub UnwrittenShows : Type 0
+UnwrittenShows = (text : List ℕ) (schedule : Option (List ℕ)) (program : Program) (array access : ℕ) (p : List ℤ) (instance : Instance)
+    → Reads text program → HasUnwritten text schedule array access p instance → IsStuckAt program p
+
 -- What is shown of a schedule that isn't legal is a dependence that it turns round, whichever plan the schedule is read as.
 abbrev pub IllegalShows : Type 0
 IllegalShows = (text : List ℕ) (schedule : Option (List ℕ)) (program : Program) (plan : Plan) (p : List ℤ) (a b : Instance)
@@ -74,8 +88,8 @@ IllegalShows = (text : List ℕ) (schedule : Option (List ℕ)) (program : Progr
 
 -- ---- Completeness
 
--- The text reads as a program without the prelude, within the interval rule, that some data fit and that is never stuck, and
--- that has no temporaries; the schedule has a plan of it without folds, whose schedule is legal.
+-- The text reads as a program without the prelude, within the interval rule, that some data fit and that is never stuck; the
+-- schedule has a plan of it without folds, whose schedule is legal.
 pub record IsFoldable (text : List ℕ) (schedule : Option (List ℕ)) : Type 0 where
   pub program : Program
   pub reads : Reads text program
@@ -83,7 +97,6 @@ pub record IsFoldable (text : List ℕ) (schedule : Option (List ℕ)) : Type 0 
   pub near : first_wide program ≡ None
   pub some : (p : List ℤ) × IsInContext program p
   pub never_stuck : NeverStuck program
-  pub no_temporaries : program.temps ≡ []
   pub plan : Plan
   pub planned : HasPlan program schedule plan
   pub no_folds : plan.folds ≡ []
@@ -98,3 +111,20 @@ FoldableIsFolded = (text : List ℕ) (schedule : Option (List ℕ))
 abbrev pub FoldableIsNotRefused : Type 0
 FoldableIsNotRefused = (text : List ℕ) (schedule : Option (List ℕ)) (refusal : Refusal)
     → IsFoldable text schedule → RefusalSays text schedule refusal → (refusal ≡ Budget) ⊎ (refusal ≡ Memory)
+
+-- The text reads as a program without the prelude, within the interval rule, that some data fit and that is never stuck.
+pub record IsSound (text : List ℕ) : Type 0 where
+  pub program : Program
+  pub reads : Reads text program
+  pub plain : program.prelude ≡ false
+  pub near : first_wide program ≡ None
+  pub some : (p : List ℤ) × IsInContext program p
+  pub never_stuck : NeverStuck program
+
+-- Only of such a text trees are told.
+abbrev pub FlowsAreSound : Type 0
+FlowsAreSound = (text told : List ℕ) → FlowsTo text told → IsSound text
+
+-- They are refused, if at all, for want of budget or of memory.
+abbrev pub SoundIsNotRefused : Type 0
+SoundIsNotRefused = (text : List ℕ) (refusal : Refusal) → IsSound text → FlowRefusalSays text refusal → (refusal ≡ Budget) ⊎ (refusal ≡ Memory)

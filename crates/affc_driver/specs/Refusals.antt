@@ -1,5 +1,5 @@
 -- Why a source with a schedule isn't compiled.
-use Rattle.std.specs.Prelude.{◌≡◌, ◌≢◌, ◌⊎◌, ℕ, ℤ, true, false, List, [], Option, Some, Err, slice_get}
+use Rattle.std.specs.Prelude.{◌≡◌, ◌≢◌, ℕ, ℤ, true, false, List, [], Option, Some, None, Err, slice_get}
 use Rattle.affc_lex.specs.declared.token.Kind.TheVariants.{Prelude}
 use Rattle.affc_lex.specs.Lexes.{Lexeme, Lexes}
 use Rattle.affc_ast.specs.declared.tree.Instance.{Instance}
@@ -15,9 +15,10 @@ use Rattle.affc_schedtext.specs.Answers as plans
 use Rattle.affc_bounds.specs.Faults.{StaysWithin, IsMeaningFault}
 use Rattle.affc_bounds.specs.declared.fault.MeaningFault.{MeaningFault}
 use Rattle.affc_sched.specs.Violations.{IsFirstViolation}
-use Rattle.affc_driver.specs.Plans.{HasPlan, LegalThroughout}
+use Rattle.affc_flow.specs.Unwritten.{LoadsUnwritten}
+use Rattle.affc_driver.specs.Plans.{HasPlan, LegalThroughout, WrittenThroughout}
 use Rattle.affc_driver.specs.declared.refusal.Refusal.{Refusal}
-use Rattle.affc_driver.specs.declared.refusal.Refusal.TheVariants.{Source, Printed, Schedule, Meaning, Illegal, Budget, Memory, Unbuilt}
+use Rattle.affc_driver.specs.declared.refusal.Refusal.TheVariants.{Source, Printed, Schedule, Meaning, Unwritten, Illegal, Budget, Memory, Unbuilt}
 
 -- no program reads as the source, for this reason
 pub record IsSourceFault (source : List ℕ) (fault : ParseFault) : Type 0 where
@@ -60,18 +61,28 @@ pub record HasMeaningFault (source : List ℕ) (schedule : Option (List ℕ)) (f
   pub of : IsPlanned source schedule
   pub is_fault : IsMeaningFault of.tree fault
 
+-- The program keeps to its arrays, and at p of its context this load of an instance is of an element of a temporary, of this
+-- number, that no instance before stores.
+pub record HasUnwritten (source : List ℕ) (schedule : Option (List ℕ)) (array access : ℕ) (p : List ℤ) (instance : Instance) : Type 0 where
+  pub of : IsPlanned source schedule
+  pub within : StaysWithin of.tree
+  pub loads : LoadsUnwritten of.tree access p instance
+  pub of_array : array ≡ loads.element.0
+
 -- the program has nothing wrong with it, and at p this is the first dependence that the plan's schedule turns round
 pub record IsIllegal (source : List ℕ) (schedule : Option (List ℕ)) (p : List ℤ) (a b : Instance) : Type 0 where
   pub of : IsPlanned source schedule
   pub within : StaysWithin of.tree
+  pub written : WrittenThroughout of.tree
   pub first : IsFirstViolation of.tree of.plan.schedule p a b
 
--- nothing of all that is wrong, and the program has a temporary or the plan a fold
+-- nothing of all that is wrong, and the plan has a fold
 pub record IsUnbuilt (source : List ℕ) (schedule : Option (List ℕ)) : Type 0 where
   pub of : IsPlanned source schedule
   pub within : StaysWithin of.tree
+  pub written : WrittenThroughout of.tree
   pub legal : LegalThroughout of.tree of.plan.schedule
-  pub more : (of.tree.temps ≢ []) ⊎ (of.plan.folds ≢ [])
+  pub more : of.plan.folds ≢ []
 
 -- When a source with a schedule is refused so. Want of memory may come at any time, and the end of the budget where it is spent.
 abbrev pub RefusalSays : (source : List ℕ) (schedule : Option (List ℕ)) → Refusal → Type 0
@@ -79,7 +90,28 @@ RefusalSays source schedule (Source fault) = IsSourceFault source fault
 RefusalSays source schedule (Printed place) = IsPrinted source place
 RefusalSays source schedule (Schedule fault) = HasSchedFault source schedule fault
 RefusalSays source schedule (Meaning fault) = HasMeaningFault source schedule fault
+RefusalSays source schedule (Unwritten array access p instance) = HasUnwritten source schedule array.0 access p instance
 RefusalSays source schedule (Illegal p a b) = IsIllegal source schedule p a b
 RefusalSays source schedule Budget = Unit {0}
 RefusalSays source schedule Memory = Unit {0}
 RefusalSays source schedule Unbuilt = IsUnbuilt source schedule
+
+-- When the trees of a source are refused so: as its compilation is, up to its dataflow.
+abbrev pub FlowRefusalSays : (source : List ℕ) → Refusal → Type 0
+FlowRefusalSays source (Source fault) = IsSourceFault source fault
+FlowRefusalSays source (Printed place) = IsPrinted source place
+FlowRefusalSays source (Schedule fault) = ⊥
+FlowRefusalSays source (Meaning fault) = HasMeaningFault source None fault
+FlowRefusalSays source (Unwritten array access p instance) = HasUnwritten source None array.0 access p instance
+FlowRefusalSays source (Illegal p a b) = ⊥
+FlowRefusalSays source Budget = Unit {0}
+FlowRefusalSays source Memory = Unit {0}
+FlowRefusalSays source Unbuilt = ⊥
+
+-- The same of a source and a schedule, of what is wrong with a program by itself.
+abbrev pub MeaningSays : (source : List ℕ) (schedule : Option (List ℕ)) → Refusal → Type 0
+MeaningSays source schedule (Meaning fault) = HasMeaningFault source schedule fault
+MeaningSays source schedule (Unwritten array access p instance) = HasUnwritten source schedule array.0 access p instance
+MeaningSays source schedule Budget = Unit {0}
+MeaningSays source schedule Memory = Unit {0}
+MeaningSays source schedule _ = ⊥

@@ -9,14 +9,15 @@ ghost use Rattle.affc_nest.specs.Nests.{nest_of};
 ghost use Rattle.affc_bounds.specs.Faults.{StaysWithin};
 ghost use Rattle.affc_parse.specs.Answers.{Answers};
 ghost use Rattle.affc_driver.specs.Folds.{FoldsTo};
-ghost use Rattle.affc_driver.specs.Plans.{HasPlan, LegalThroughout};
+ghost use Rattle.affc_driver.specs.Plans.{HasPlan, LegalThroughout, WrittenThroughout};
 ghost use Rattle.affc_driver.specs.Printed.{HasPrelude, ReadsPrinted, holds_prelude};
 ghost use Rattle.affc_driver.specs.Programs.{OfEachText, OfEachPlan};
-ghost use Rattle.affc_driver.specs.Refusals.{RefusalSays};
+ghost use Rattle.affc_driver.specs.Refusals.{RefusalSays, FlowRefusalSays};
 
+use crate::meaning::{nest_within, written};
 use crate::refusal::Refusal;
+use crate::report::report_of;
 use affc_ast::tree::Program;
-use affc_bounds::{Halt, check};
 use affc_cprint::print;
 use affc_grammar::laws::reads_counted;
 use affc_lex::lex;
@@ -39,13 +40,14 @@ use std::alloc::Global;
 pub struct Done {
     /// The compiled program, as C.
     pub text: Vec<u8>,
-    /// What was folded, and onto what.
+    /// What became of each temporary: so far that it is left whole.
     pub report: Vec<u8>,
 }
 
 // The refusal of a text that is no program.
-fn unread(fault: ParseFault) -> Refusal
+pub(crate) fn unread(fault: ParseFault) -> Refusal
     ensures says { (source : List ℕ) (schedule : Option (List ℕ)) → Answers source (Err fault) → RefusalSays source schedule result }
+    ensures trees { (source : List ℕ) → Answers source (Err fault) → FlowRefusalSays source result }
     ensures free { result ≢ Refusal.Budget }
 {
     match fault {
@@ -68,9 +70,10 @@ fn prelude_of(tokens: &[Token]) -> usize
 }
 
 // The refusal of a text that reads as a program with the prelude, at the prelude's token.
-fn printed(alloc: Global, source: &[u8]) -> Refusal
+pub(crate) fn printed(alloc: Global, source: &[u8]) -> Refusal
     requires { ReadsPrinted source.now }
     ensures says { (schedule : Option (List ℕ)) → RefusalSays source.now schedule result }
+    ensures trees { FlowRefusalSays source.now result }
     ensures free { result ≢ Refusal.Budget }
 {
     match lex(alloc, source) {
@@ -100,24 +103,6 @@ fn plan_of(alloc: Global, program: &Program, schedule: Option<&[u8]>) -> Result<
     }
 }
 
-// The nest of a program that keeps to its arrays.
-fn nest_within(alloc: Global, program: &Program, budget: &mut Budget) -> Result<Nest, Refusal>
-    requires plain { IsPlain program.now }
-    requires arrays { NamesArrays program.now }
-    ensures nest { IfOk result (λ nest. nest ≡ nest_of program.now) }
-    ensures within { OnOk result (StaysWithin program.now) }
-    ensures err { IfErr result (λ refusal. (plan : Plan) → OfEachPlan program.now plan (λ text schedule. RefusalSays text schedule refusal)) }
-    ensures later { IsLater budget.old budget.new }
-    ensures stop { IfErr result (λ refusal. refusal ≡ Refusal.Budget → budget.new.limit ≡ Some budget.new.spent) }
-{
-    match check(alloc, program, budget) {
-        Ok(nest) => Ok(nest),
-        Err(Halt::Meaning(fault)) => Err(Refusal::Meaning(fault)),
-        Err(Halt::Budget) => Err(Refusal::Budget),
-        Err(Halt::Memory) => Err(Refusal::Memory),
-    }
-}
-
 // Whether the plan's schedule is legal.
 fn in_order(
     alloc: Global,
@@ -130,6 +115,7 @@ fn in_order(
     requires arrays { NamesArrays program.now }
     requires nest { nest.now ≡ nest_of program.now }
     requires within { StaysWithin program.now }
+    requires written { OfEachText program.now (λ text. WrittenThroughout program.now) }
     requires fits { IsScheduleOf program.now plan.now.schedule }
     requires slight { IsTrue (within_limits plan.now.schedule) }
     ensures legal { OnOk result (LegalThroughout program.now plan.now.schedule) }
@@ -145,11 +131,12 @@ fn in_order(
     }
 }
 
-// What is printed of the loops of a legal schedule, where there are no temporaries and no folds.
+// What is printed of the loops of a legal schedule, where there are no folds.
 fn finish(alloc: Global, program: &Program, nest: &Nest, plan: &Plan) -> Result<Done, Refusal>
     requires plain { IsPlain program.now }
     requires nest { nest.now ≡ nest_of program.now }
     requires within { StaysWithin program.now }
+    requires written { OfEachText program.now (λ text. WrittenThroughout program.now) }
     requires fits { IsScheduleOf program.now plan.now.schedule }
     requires slight { IsTrue (within_limits plan.now.schedule) }
     requires legal { LegalThroughout program.now plan.now.schedule }
@@ -157,24 +144,19 @@ fn finish(alloc: Global, program: &Program, nest: &Nest, plan: &Plan) -> Result<
     ensures err { IfErr result (λ refusal. OfEachPlan program.now plan.now (λ text schedule. RefusalSays text schedule refusal)) }
     ensures free { IfErr result (λ refusal. refusal ≢ Refusal.Budget) }
 {
-    if !program.temps.as_slice().is_empty() {
-        return Err(Refusal::Unbuilt);
-    }
     if !plan.folds.as_slice().is_empty() {
         return Err(Refusal::Unbuilt);
     }
     loops_well_named();
     let target = scan(alloc, program, nest, &plan.schedule)?;
+    let report = report_of(alloc, program)?;
     match print(alloc, &target) {
-        Ok(text) => Ok(Done {
-            text,
-            report: Vec::new(alloc),
-        }),
+        Ok(text) => Ok(Done { text, report }),
         Err(_) => Err(Refusal::Memory),
     }
 }
 
-// What is made of a plain program by its plan: its meaning is looked at first, then the order.
+// What is made of a plain program by its plan: its arrays are looked at first, then its dataflow, then the order.
 fn compile(
     alloc: Global,
     program: &Program,
@@ -194,6 +176,9 @@ fn compile(
         Ok(nest) => nest,
         Err(refusal) => return Err(refusal),
     };
+    if let Err(refusal) = written(alloc, program, &nest, budget) {
+        return Err(refusal);
+    }
     in_order(alloc, program, &nest, plan, budget)?;
     finish(alloc, program, &nest, plan)
 }

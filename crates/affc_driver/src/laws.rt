@@ -1,5 +1,5 @@
 //! What a compilation's answers say of a source and of its runs. Each law is the contract of a function that does nothing.
-ghost use Rattle.affc_driver.specs.Laws.{ReadsNamingArrays, CompilesItself, WithinNeverStuck, PrintedCompiles, FaultsShow, IllegalShows, FoldableIsFolded, FoldableIsNotRefused};
+ghost use Rattle.affc_driver.specs.Laws.{ReadsNamingArrays, CompilesItself, WithinNeverStuck, NamedIsWritten, PrintedCompiles, FaultsShow, UnwrittenShows, IllegalShows, FoldableIsFolded, FoldableIsNotRefused, FlowsAreSound, SoundIsNotRefused};
 
 use affc_loopprint::laws::loops_well_named;
 
@@ -13,9 +13,14 @@ pub fn compiles_itself()
     ensures law { CompilesItself }
 {}
 
-/// A program that stays within its arrays and has no temporaries is never stuck.
+/// A program that stays within its arrays and writes each element of a temporary before it loads it is never stuck.
 pub fn within_never_stuck()
     ensures law { WithinNeverStuck }
+{}
+
+/// A program does the latter where trees name the sources of its loads, and always one for a load of a temporary.
+pub fn named_is_written()
+    ensures law { NamedIsWritten }
 {}
 
 /// What is printed of the loops of a legal schedule compiles the text that the program was read from.
@@ -30,13 +35,17 @@ pub fn faults_show()
     ensures law { FaultsShow }
 {}
 
+/// Where a load of a temporary is unwritten, each run is stuck.
+pub fn unwritten_shows()
+    ensures law { UnwrittenShows }
+{}
+
 /// What is shown of an illegal schedule is a dependence that it turns round.
 pub fn illegal_shows()
     ensures law { IllegalShows }
 {}
 
-/// A text is folded exactly where its program is never stuck and has no temporaries, and its schedule is legal and without
-/// folds.
+/// A text is folded exactly where its program is never stuck, and its schedule is legal and without folds.
 pub fn foldable_is_folded()
     ensures law { FoldableIsFolded }
 {
@@ -46,4 +55,14 @@ pub fn foldable_is_folded()
 /// Such a text is refused for want of budget or of memory, and for nothing else.
 pub fn foldable_is_not_refused()
     ensures law { FoldableIsNotRefused }
+{}
+
+/// Trees are told only of a text whose program is never stuck.
+pub fn flows_are_sound()
+    ensures law { FlowsAreSound }
+{}
+
+/// They are refused for want of budget or of memory, and for nothing else.
+pub fn sound_is_not_refused()
+    ensures law { SoundIsNotRefused }
 {}

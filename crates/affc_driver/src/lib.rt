@@ -1,9 +1,13 @@
 //! A whole compilation, from a source's bytes to the printed text's.
 #![tactic(auto)]
 
+pub mod flowing;
 pub mod folding;
 pub mod laws;
+mod meaning;
 pub mod refusal;
+mod report;
 
+pub use flowing::flow;
 pub use folding::{Done, fold};
 pub use refusal::Refusal;

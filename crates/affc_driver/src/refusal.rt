@@ -1,6 +1,6 @@
 //! Why there is no text.
 
-use affc_ast::tree::Instance;
+use affc_ast::tree::{ArrayId, Instance};
 use affc_bounds::MeaningFault;
 use affc_parse::fault::ParseFault;
 use affc_schedtext::SchedFault;
@@ -22,6 +22,15 @@ pub enum Refusal {
     Schedule(SchedFault),
     #[error("{0}")]
     Meaning(MeaningFault),
+    /// At `p`, the values of the number parameters, this load of the instance, counted from 0, is of an element of the
+    /// array, a temporary, that no instance before stores.
+    #[error("load {access} of statement {} reads what nothing stores", instance.statement)]
+    Unwritten {
+        array: ArrayId,
+        access: u32,
+        p: Items<i64>,
+        instance: Instance,
+    },
     /// At `p`, the values of the number parameters, `b` depends on `a`, and the schedule runs it before `a`.
     #[error("a dependence of statement {} on statement {} is turned round", b.statement, a.statement)]
     Illegal {
@@ -33,7 +42,7 @@ pub enum Refusal {
     Budget,
     #[error("out of memory")]
     Memory,
-    /// The source has temporaries or the schedule has folds, which aren't built yet.
+    /// The schedule has folds, which aren't built yet.
     #[error("temporaries aren't folded yet")]
     Unbuilt,
 }

@@ -7,8 +7,8 @@ use std::test::Fail;
 // What is told of a source that reads, where nothing is wrong with it and it has no temporary.
 const READS: &str = "";
 
-// What is told of one that has a temporary.
-const UNBUILT: &str = "affc: unbuilt\n";
+// What is reported of one that has the temporary `t`.
+const WHOLE: &str = "array t\n  whole unbuilt\n";
 
 // The line that `fold` writes on the error stream for a text.
 fn told(alloc: Global, text: &str) -> Result<Vec<u8>, AllocError> {
@@ -85,7 +85,7 @@ fn counts_are_reached_and_passed(rt: HostRuntime) -> Result<(), Fail> {
             [CONDITION, " && 0 < 1", ") out[0] = 1ULL; }", "", ""],
             "affc: source at 345: limit comparisons\n",
         ),
-        (4, [TEMPORARY, "[1]", "; out[0] = 1ULL; }", "", ""], UNBUILT),
+        (4, [TEMPORARY, "[1]", "; out[0] = 1ULL; }", "", ""], WHOLE),
         (
             5,
             [TEMPORARY, "[1]", "; out[0] = 1ULL; }", "", ""],
@@ -329,6 +329,6 @@ fn prefixes_are_refused_where_they_end(rt: HostRuntime) -> Result<(), Fail> {
         assert_eq!(rt; err.as_slice(), line.as_bytes(), "at {end}");
     }
     let err = told(rt.alloc(), BLUR.trim_end())?;
-    assert_eq!(rt; err.as_slice(), UNBUILT.as_bytes());
+    assert_eq!(rt; err.as_slice(), WHOLE.as_bytes());
     Ok(())
 }

@@ -1,5 +1,5 @@
 //! What each failure outside leaves: in reading, in writing and in taking memory.
-use super::{COPY, folder_of, served, sure_sink, words_of};
+use super::{BLUR, COPY, folder_of, served, sure_sink, words_of};
 use affc_cli::serve::serve;
 use affc_io::{Folder, MemSink, ReadFault, Sink, SinkFault, WriteFault};
 use std::alloc::Global;
@@ -96,6 +96,20 @@ fn failed_writes_leave_a_front(rt: HostRuntime) -> Result<(), Fail> {
         assert_eq!(rt; done.out.as_slice(), taken.as_bytes());
         assert_eq!(rt; done.err.as_slice(), told.as_bytes());
     }
+    Ok(())
+}
+
+// The text is out whole, and of the report there is a front.
+#[test]
+fn failed_reports_leave_a_front(rt: HostRuntime) -> Result<(), Fail> {
+    let alloc = rt.alloc();
+    let mut folder = folder_of(alloc, BLUR.as_bytes().to_vec(alloc)?, Vec::new(alloc), &[])?;
+    let mut out = sure_sink(alloc);
+    let mut errors = MemSink::new(alloc, 5, [1].to_vec(alloc)?);
+    let done = served(alloc, "fold a.c", &mut folder, &mut out, &mut errors)?;
+    assert_eq!(rt; done.status, 10);
+    assert!(rt; done.out.ends_with(b"\n}\n"));
+    assert_eq!(rt; done.err.as_slice(), b"array".as_slice());
     Ok(())
 }
 

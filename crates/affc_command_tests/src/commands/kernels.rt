@@ -1,13 +1,13 @@
-// The kernels of examples/, each with its source, its data, what its run gives, its compiled text or nothing where it
-// can't be compiled yet, and a schedule with its compiled text, or nothing; written by examples/texts.sh.
+// The kernels of examples/, each with its source, its data, what its run gives, its compiled text, and a schedule with its
+// compiled text, or nothing; written by examples/texts.sh.
 pub const KERNELS: [(&str, &str, &str, &str, &str, &str); 10] = [
     (
         "#include <stdint.h>\n#pragma affc param N 1 4096\nvoid blur(int64_t N, const uint64_t in[N + 2], uint64_t out[N]) {\n  uint64_t t[N + 2];\n  for (int64_t i = 0; i < N + 2; i++)\n    t[i] = in[i] + 1ULL;\n  for (int64_t i = 0; i < N; i++)\n    out[i] = t[i] + t[i + 1] + t[i + 2];\n}\n",
         "param N 7\narray in 197223511652065050 958 425 304 89 7858445875283992818 77 656 657\narray out 0 0 0 0 0 0 0\n",
         "array out 197223511652066436 1690 821 7858445875283993214 7858445875283992987 7858445875283993554 1393\n",
-        "",
-        "",
-        "",
+        "#include <stdint.h>\n#pragma affc param N 1 4096\nvoid blur(int64_t N, const uint64_t in[N + 2], uint64_t out[N]) {\n  uint64_t t[N + 2];\n  for (int64_t i = 0; i < N + 2; i++) {\n    t[i] = in[i] + 1ULL;\n  }\n  for (int64_t i = 0; i < N; i++) {\n    out[i] = t[i] + t[i + 1] + t[i + 2];\n  }\n}\n",
+        "time 1;\nS0: (i); i = t0;\nS1: (i + 2); i = t0 - 2;\n",
+        "#include <stdint.h>\n#pragma affc param N 1 4096\nstatic inline int64_t affc_min(int64_t a, int64_t b) { return a < b ? a : b; }\nstatic inline int64_t affc_max(int64_t a, int64_t b) { return a > b ? a : b; }\nstatic inline int64_t affc_floord(int64_t a, int64_t b) { return a / b - (a % b < 0); }\nstatic inline int64_t affc_ceild(int64_t a, int64_t b) { return a / b + (a % b > 0); }\nstatic inline int64_t affc_mod(int64_t a, int64_t b) { return a % b + (a % b < 0 ? b : 0); }\nvoid blur(int64_t N, const uint64_t in[N + 2], uint64_t out[N]) {\n  uint64_t t[N + 2];\n  for (int64_t affc_t0 = 0; affc_t0 <= 4097; affc_t0++) {\n    {\n      const int64_t i = affc_t0;\n      if (0 <= i && i <= 4097) {\n        if (affc_t0 == i) {\n          if (0 <= i && i < N + 2) {\n            t[i] = in[i] + 1ULL;\n          }\n        }\n      }\n    }\n    {\n      const int64_t i = affc_t0 - 2;\n      if (0 <= i && i <= 4095) {\n        if (affc_t0 == i + 2) {\n          if (0 <= i && i < N) {\n            out[i] = t[i] + t[i + 1] + t[i + 2];\n          }\n        }\n      }\n    }\n  }\n}\n",
     ),
     (
         "#include <stdint.h>\n#pragma affc param N 1 4096\nvoid copy(int64_t N, const uint64_t in[N], uint64_t out[N]) {\n  for (int64_t i = 0; i < N; i++)\n    out[i] = in[i];\n}\n",
@@ -37,7 +37,7 @@ pub const KERNELS: [(&str, &str, &str, &str, &str, &str); 10] = [
         "#include <stdint.h>\n#pragma affc param N 1 1000\nvoid halve(int64_t N, const uint64_t x[2 * N + 1], uint64_t even[N], uint64_t odd[N]) {\n  uint64_t s[2 * N];\n  for (int64_t i = 0; i < 2 * N; i++)\n    s[i] = x[i] + x[i + 1];\n  for (int64_t i = 0; i < N; i++) {\n    even[i] = s[2 * i];\n    odd[i] = s[2 * i + 1] ^ s[2 * i];\n  }\n}\n",
         "param N 4\narray x 9435010553500093437 239 486 467 33 7175714035518138521 454 486 930\narray even 0 0 0 0\narray odd 0 0 0 0\n",
         "array even 9435010553500093676 953 7175714035518138554 940\narray odd 9435010553500094009 589 741 1572\n",
-        "",
+        "#include <stdint.h>\n#pragma affc param N 1 1000\nvoid halve(int64_t N, const uint64_t x[2 * N + 1], uint64_t even[N], uint64_t odd[N]) {\n  uint64_t s[2 * N];\n  for (int64_t i = 0; i < 2 * N; i++) {\n    s[i] = x[i] + x[i + 1];\n  }\n  for (int64_t i = 0; i < N; i++) {\n    even[i] = s[2 * i];\n    odd[i] = s[2 * i + 1] ^ s[2 * i];\n  }\n}\n",
         "",
         "",
     ),
@@ -69,7 +69,7 @@ pub const KERNELS: [(&str, &str, &str, &str, &str, &str); 10] = [
         "#include <stdint.h>\n#pragma affc param T 1 100\n#pragma affc param N 3 100\nvoid sweep(int64_t T, int64_t N, const uint64_t in[N], uint64_t out[N]) {\n  uint64_t g[T + 1][N];\n  for (int64_t i = 0; i < N; i++)\n    g[0][i] = in[i];\n  for (int64_t s = 0; s < T; s++) {\n    g[s + 1][0] = g[s][0];\n    for (int64_t i = 1; i < N - 1; i++)\n      g[s + 1][i] = g[s][i - 1] + g[s][i] + g[s][i + 1];\n    g[s + 1][N - 1] = g[s][N - 1];\n  }\n  for (int64_t i = 0; i < N; i++)\n    out[i] = g[T][i];\n}\n",
         "param T 4\nparam N 6\narray in 9188679086635614239 591 34 599 271 602220642624190532\narray out 0 0 0 0 0 0\n",
         "array out 9188679086635614239 324677040870910182 2131338968743489303 4678993340116897877 14006444227629150792 602220642624190532\n",
-        "",
+        "#include <stdint.h>\n#pragma affc param T 1 100\n#pragma affc param N 3 100\nvoid sweep(int64_t T, int64_t N, const uint64_t in[N], uint64_t out[N]) {\n  uint64_t g[T + 1][N];\n  for (int64_t i = 0; i < N; i++) {\n    g[0][i] = in[i];\n  }\n  for (int64_t s = 0; s < T; s++) {\n    g[s + 1][0] = g[s][0];\n    for (int64_t i = 1; i < N - 1; i++) {\n      g[s + 1][i] = g[s][i - 1] + g[s][i] + g[s][i + 1];\n    }\n    g[s + 1][N - 1] = g[s][N - 1];\n  }\n  for (int64_t i = 0; i < N; i++) {\n    out[i] = g[T][i];\n  }\n}\n",
         "",
         "",
     ),

@@ -8,6 +8,15 @@ use std::test::Fail;
 const PRINTED: &str =
     "#include <stdint.h>\n#pragma affc param N 1 4\nvoid copy(int64_t N, const uint64_t in[N], uint64_t out[N]) {\n  for (int64_t i = 0; i < N; i++) {\n    out[i] = in[i];\n  }\n}\n";
 
+const BLURRED: &str =
+    "#include <stdint.h>\n#pragma affc param N 1 4096\nvoid blur(int64_t N, const uint64_t in[N + 2], uint64_t out[N]) {\n  uint64_t t[N + 2];\n  for (int64_t i = 0; i < N + 2; i++) {\n    t[i] = in[i] + 1ULL;\n  }\n  for (int64_t i = 0; i < N; i++) {\n    out[i] = t[i] + t[i + 1] + t[i + 2];\n  }\n}\n";
+
+const WHOLE: &str = "array t\n  whole unbuilt\n";
+
+// A load of a temporary that is written for N of at least 2 alone.
+const LATE: &str =
+    "#include <stdint.h>\n#pragma affc param N 1 4\nvoid f(int64_t N, const uint64_t in[N], uint64_t out[N]) {\n  uint64_t t[4];\n  if (N >= 2)\n    t[0] = in[0];\n  for (int64_t i = 0; i < N; i++)\n    out[i] = t[0];\n}\n";
+
 const SPACED: &str =
     " # include\t<stdint.h>\r\n#pragma affc param n_1 7 16777216\nvoid Move ( int64_t n_1,const uint64_t a[n_1],\n uint64_t b [ n_1 ] ){for(int64_t k=0;k<n_1;k++){b[k]=a[k];}}";
 
@@ -164,7 +173,7 @@ const FOLDS: [(&str, &str, u8, &str, &str); 38] = [
         "affc: source at 45: printed\n",
     ),
     // ---- A temporary
-    ("fold a.c", BLUR, 14, "", "affc: unbuilt\n"),
+    ("fold a.c", BLUR, 0, BLURRED, WHOLE),
     // ---- Programs that keep to their arrays
     // a loop that is never entered
     (
@@ -193,7 +202,7 @@ const FOLDS: [(&str, &str, u8, &str, &str); 38] = [
 ];
 
 // The same, of programs that have something wrong with them whatever the data, and of budgets.
-const CHECKS: [(&str, &str, u8, &str, &str); 13] = [
+const CHECKS: [(&str, &str, u8, &str, &str); 16] = [
     (
         "fold a.c",
         "#include <stdint.h>\n#pragma affc param N 1 5\nvoid f(int64_t N, const uint64_t in[4], uint64_t out[N]) {\n  for (int64_t i = 0; i < N; i++)\n    out[i] = in[i];\n}\n",
@@ -273,7 +282,77 @@ const CHECKS: [(&str, &str, u8, &str, &str); 13] = [
     // ---- A budget
     ("fold a.c --budget 1", COPY, 8, "", "affc: budget\n"),
     ("fold a.c --budget 1000", COPY, 0, PRINTED, ""),
-    ("fold --budget=1000 a.c", BLUR, 14, "", "affc: unbuilt\n"),
+    ("fold --budget=1000000000 a.c", BLUR, 0, BLURRED, WHOLE),
+    // ---- A temporary that isn't written before
+    (
+        "fold a.c",
+        LATE,
+        5,
+        "",
+        "affc: unwritten t at N=1 in S1(0) access 0\n",
+    ),
+    // an element that is written behind
+    (
+        "fold a.c",
+        "#include <stdint.h>\n#pragma affc param N 1 4\nvoid f(int64_t N, uint64_t out[N]) {\n  uint64_t s;\n  for (int64_t i = 0; i < N; i++) {\n    out[i] = s;\n    s = 1ULL;\n  }\n}\n",
+        5,
+        "",
+        "affc: unwritten s at N=1 in S0(0) access 0\n",
+    ),
+    // an access outside before a load that is unwritten at lesser numbers
+    (
+        "fold a.c",
+        "#include <stdint.h>\n#pragma affc param N 1 4\nvoid f(int64_t N, uint64_t out[N]) {\n  uint64_t t[3];\n  out[0] = t[N - 1];\n}\n",
+        5,
+        "",
+        "affc: bounds of t at N=4 in S0() access 0\n",
+    ),
+];
+
+// The words, what `a.c` holds, the status, and what the output and the error stream get.
+const FLOWS: [(&str, &str, u8, &str, &str); 11] = [
+    ("flow", COPY, 2, "", "affc: words\n"),
+    ("flow a.c a.data", COPY, 2, "", "affc: words\n"),
+    ("flow a.c --budget 1", COPY, 2, "", "affc: words\n"),
+    ("flow absent.c", COPY, 3, "", "affc: read absent.c\n"),
+    ("flow a.c", "@", 4, "", "affc: source at 0: byte\n"),
+    (
+        "flow a.c",
+        "#include <stdint.h>\n#pragma affc param N 1 4\n{prelude}void copy(int64_t N, const uint64_t in[N], uint64_t out[N]) {\n  for (int64_t i = 0; i < N; i++) {\n    out[i] = in[i];\n  }\n}\n",
+        4,
+        "",
+        "affc: source at 45: printed\n",
+    ),
+    (
+        "flow a.c",
+        "#include <stdint.h>\n#pragma affc param N 1 5\nvoid f(int64_t N, const uint64_t in[4], uint64_t out[N]) {\n  for (int64_t i = 0; i < N; i++)\n    out[i] = in[i];\n}\n",
+        5,
+        "",
+        "affc: bounds of in at N=5 in S0(4) access 0\n",
+    ),
+    (
+        "flow a.c",
+        LATE,
+        5,
+        "",
+        "affc: unwritten t at N=1 in S1(0) access 0\n",
+    ),
+    ("flow a.c", COPY, 0, "S0 load 0 in\n  input\n", ""),
+    (
+        "flow a.c",
+        BLUR,
+        0,
+        "S0 load 0 in\n  input\nS1 load 0 t\n  source S0(i)\nS1 load 1 t\n  source S0(i + 1)\nS1 load 2 t\n  source S0(i + 2)\n",
+        "",
+    ),
+    // a load of an output that is stored before, and one that isn't
+    (
+        "flow a.c",
+        "#include <stdint.h>\nvoid f(uint64_t out[2]) {\n  out[0] = 1ULL;\n  out[1] += out[0];\n}\n",
+        0,
+        "S1 load 0 out\n  input\nS1 load 1 out\n  source S0()\n",
+        "",
+    ),
 ];
 
 // The words, what `a.c` and `a.data` hold, the status, and what the output and the error stream get.
@@ -534,6 +613,18 @@ fn checks_are_served(rt: HostRuntime) -> Result<(), Fail> {
 }
 
 #[test]
+fn flows_are_served(rt: HostRuntime) -> Result<(), Fail> {
+    for (line, source, status, out, told) in FLOWS {
+        let source = whole(rt.alloc(), source)?;
+        let done = plain(rt.alloc(), line, source.as_str(), "")?;
+        assert_eq!(rt; done.status, status, "at {line} of {source}");
+        assert_eq!(rt; done.out.as_slice(), out.as_bytes());
+        assert_eq!(rt; done.err.as_slice(), told.as_bytes());
+    }
+    Ok(())
+}
+
+#[test]
 fn runs_are_served(rt: HostRuntime) -> Result<(), Fail> {
     for (line, source, feed, status, out, told) in RUNS {
         let source = whole(rt.alloc(), source)?;
@@ -552,8 +643,7 @@ fn kernels_are_served(rt: HostRuntime) -> Result<(), Fail> {
         assert_eq!(rt; done.status, 0, "of {source}");
         assert_eq!(rt; done.out.as_slice(), out.as_bytes());
         let folded = plain(rt.alloc(), "fold a.c", source, "")?;
-        let status = if compiled.is_empty() { 14 } else { 0 };
-        assert_eq!(rt; folded.status, status, "of {source}");
+        assert_eq!(rt; folded.status, 0, "of {source}");
         assert_eq!(rt; folded.out.as_slice(), compiled.as_bytes());
         if schedule.is_empty() {
             continue;

@@ -34,6 +34,7 @@ fn told(alloc: Global, line: &str) -> Result<String, AllocError> {
         ) => {
             write!(text, "run [{source}] [{feed}] {steps}")?;
         }
+        Some(Command::Flow { source }) => write!(text, "flow [{source}]")?,
     }
     Ok(text)
 }
@@ -58,6 +59,10 @@ fn words_are_read(rt: HostRuntime) -> Result<(), Fail> {
         ("fold a --budget=9223372036854775808", "none"),
         ("fold a --budget 0", "none"),
         ("fold a --budget", "none"),
+        ("flow a", "flow [a]"),
+        ("flow -- -a", "flow [-a]"),
+        ("flow a b", "none"),
+        ("flow a --budget 7", "none"),
         ("fold --budget=1 a --budget=1", "none"),
         ("run a b --budget 1", "none"),
         ("run a b", "run [a] [b] 10000000"),

@@ -13,6 +13,6 @@ returns-in-Ok-clause-legal c =
 
 pub returns-in-Err-Illegal-clause-err : goal.returns-in-Err-Illegal-clause-err
 returns-in-Err-Illegal-clause-err c =
-    turned c.args.program.now c.args.nest.now c.args.plan.now c.in-Err-Illegal.p c.in-Err-Illegal.a c.in-Err-Illegal.b c.requires.within
+    turned c.args.program.now c.args.nest.now c.args.plan.now c.in-Err-Illegal.p c.in-Err-Illegal.a c.in-Err-Illegal.b c.requires.within c.requires.written
     (asked_for c.args.program.now c.args.nest.now c.args.plan.now.schedule c.requires.plain c.requires.arrays c.requires.nest c.requires.within c.requires.fits)
     (rw c.in-Err-Illegal.field-0-is at c.in-Err-Illegal.ensures.illegal)

@@ -10,3 +10,8 @@ pub returns-in-Ok-clause-says : goal.returns-in-Ok-clause-says
 returns-in-Ok-clause-says c schedule =
     let has : HasPrelude c.in-Ok.tokens.items c.prelude_of.result = subst (λ l. HasPrelude l c.prelude_of.result) c.deref.ensures.value c.prelude_of.ensures in
     printed_at c.args.source.now c.in-Ok.tokens.items c.prelude_of.result c.in-Ok.ensures.tokens has c.requires
+
+pub returns-in-Ok-clause-trees : goal.returns-in-Ok-clause-trees
+returns-in-Ok-clause-trees c =
+    let has : HasPrelude c.in-Ok.tokens.items c.prelude_of.result = subst (λ l. HasPrelude l c.prelude_of.result) c.deref.ensures.value c.prelude_of.ensures in
+    printed_at c.args.source.now c.in-Ok.tokens.items c.prelude_of.result c.in-Ok.ensures.tokens has c.requires

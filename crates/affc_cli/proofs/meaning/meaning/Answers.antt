@@ -1,6 +1,6 @@
 use Rattle.std.proofs.Common.{◌∙◌}
 use Rattle.affc_cli.proofs.Meant.{meant}
-use Rattle.affc_cli.proofs.fold.meaning.Goals as goal
+use Rattle.affc_cli.proofs.meaning.meaning.Goals as goal
 
 pub returns-in-Ok-meaning_line : goal.returns-in-Ok-meaning_line
 returns-in-Ok-meaning_line c =

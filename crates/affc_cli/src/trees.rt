@@ -1,0 +1,53 @@
+// The last-write trees of one source.
+ghost use Rattle.std.specs.Prelude.{◌≡◌, ◌≢◌, [], IfOk, IfErr};
+ghost use Rattle.affc_driver.specs.Flows.{FlowsTo};
+ghost use Rattle.affc_driver.specs.Refusals.{FlowRefusalSays};
+ghost use Rattle.affc_driver.specs.declared.refusal.Refusal.TheVariants.{Budget as Spent};
+ghost use Rattle.affc_cli.specs.Refusal.{FlowTextCause};
+
+use crate::meaning::{meaning, unwritten};
+use crate::pieces::Pieces;
+use crate::refusal::Refusal;
+use affc_driver::{Refusal as FlowRefusal, flow};
+use affc_split::Budget;
+use std::alloc::Global;
+
+// The refusal of a source whose trees aren't told, as it is told.
+fn told(alloc: Global, source: &[u8], refusal: FlowRefusal) -> Refusal
+    requires says { FlowRefusalSays source.now refusal }
+    requires uncounted { refusal ≢ Spent }
+    ensures { FlowTextCause source.now result }
+{
+    match refusal {
+        FlowRefusal::Source(fault) => Refusal::Source(fault),
+        FlowRefusal::Printed(place) => Refusal::Printed(place),
+        FlowRefusal::Meaning(fault) => meaning(alloc, source, None, &fault),
+        FlowRefusal::Unwritten {
+            array: _,
+            access,
+            p,
+            instance,
+        } => unwritten(alloc, source, None, access, p.as_slice(), &instance),
+        FlowRefusal::Memory => Refusal::Memory,
+        FlowRefusal::Schedule(_) => unreachable!(),
+        FlowRefusal::Illegal { p: _, a: _, b: _ } => unreachable!(),
+        FlowRefusal::Budget => unreachable!(),
+        FlowRefusal::Unbuilt => unreachable!(),
+    }
+}
+
+/// The trees of the source's loads, or why there are none.
+pub fn trees(alloc: Global, source: &[u8]) -> Result<Pieces, Refusal>
+    ensures ok { IfOk result (λ made. FlowsTo source.now made.text.items) }
+    ensures no_report { IfOk result (λ made. made.report.items ≡ []) }
+    ensures err { IfErr result (FlowTextCause source.now) }
+{
+    let mut units = Budget::new(None);
+    match flow(alloc, source, &mut units) {
+        Ok(text) => Ok(Pieces {
+            text,
+            report: Vec::new(alloc),
+        }),
+        Err(refusal) => Err(told(alloc, source, refusal)),
+    }
+}

@@ -1,0 +1,126 @@
+//! What is wrong with a program by itself, whatever its schedule: how it uses its arrays, and then its dataflow.
+ghost use Rattle.std.specs.Prelude.{◌≡◌, IfOk, OnOk, IfErr, Some, slice_get};
+ghost use Rattle.affc_domain.specs.Plain.{IsPlain};
+ghost use Rattle.affc_split.specs.Budgets.{IsLater};
+ghost use Rattle.affc_nest.specs.declared.nest.Access.{Access as NestAccess};
+ghost use Rattle.affc_nest.specs.declared.nest.Entry.{Entry as NestEntry};
+ghost use Rattle.affc_nest.specs.Laws.{NamesArrays};
+ghost use Rattle.affc_nest.specs.Nests.{nest_of};
+ghost use Rattle.affc_bounds.specs.Faults.{StaysWithin};
+ghost use Rattle.affc_quast.specs.Limits.{narrow, AreTreesWithin};
+ghost use Rattle.affc_quast.specs.Seen.{trees_of};
+ghost use Rattle.affc_flow.specs.Finds.{AreInputs};
+ghost use Rattle.affc_driver.specs.Flows.{NameThroughout};
+ghost use Rattle.affc_driver.specs.Plans.{WrittenThroughout};
+ghost use Rattle.affc_driver.specs.Programs.{OfEachText, OfEachPlan};
+ghost use Rattle.affc_driver.specs.Refusals.{MeaningSays};
+
+use crate::refusal::Refusal;
+use affc_ast::tree::{ArrayId, Program};
+use affc_bounds::{Halt, check};
+use affc_flow::{FlowStop, find};
+use affc_nest::Nest;
+use affc_quast::Flow;
+use affc_schedtext::Plan;
+use affc_split::Budget;
+use std::alloc::Global;
+
+/// The nest of a program that keeps to its arrays.
+pub(crate) fn nest_within(
+    alloc: Global,
+    program: &Program,
+    budget: &mut Budget,
+) -> Result<Nest, Refusal>
+    requires plain { IsPlain program.now }
+    requires arrays { NamesArrays program.now }
+    ensures nest { IfOk result (λ nest. nest ≡ nest_of program.now) }
+    ensures within { OnOk result (StaysWithin program.now) }
+    ensures err { IfErr result (λ refusal. (plan : Plan) → OfEachPlan program.now plan (λ text schedule. MeaningSays text schedule refusal)) }
+    ensures later { IsLater budget.old budget.new }
+    ensures stop { IfErr result (λ refusal. refusal ≡ Refusal.Budget → budget.new.limit ≡ Some budget.new.spent) }
+{
+    match check(alloc, program, budget) {
+        Ok(nest) => Ok(nest),
+        Err(Halt::Meaning(fault)) => Err(Refusal::Meaning(fault)),
+        Err(Halt::Budget) => Err(Refusal::Budget),
+        Err(Halt::Memory) => Err(Refusal::Memory),
+    }
+}
+
+// The array of an access.
+fn array_of(nest: &Nest, statement: u32, access: u32) -> ArrayId
+    ensures { (e : NestEntry) (x : NestAccess) → slice_get nest.now.entries statement ≡ Some e → slice_get e.accesses access ≡ Some x → result ≡ x.array }
+{
+    let Some(entry) = nest.entries.get(statement as usize) else {
+        return ArrayId(0);
+    };
+    match entry.accesses.get(access as usize) {
+        Some(access) => access.array,
+        None => ArrayId(0),
+    }
+}
+
+/// The last-write trees of a program that keeps to its arrays, where each load of a temporary is written before.
+pub(crate) fn trees_within(
+    alloc: Global,
+    program: &Program,
+    nest: &Nest,
+    budget: &mut Budget,
+) -> Result<Flow, Refusal>
+    requires plain { IsPlain program.now }
+    requires arrays { NamesArrays program.now }
+    requires nest { nest.now ≡ nest_of program.now }
+    requires within { StaysWithin program.now }
+    ensures named { IfOk result (λ flow. NameThroughout program.now (trees_of flow)) }
+    ensures limits { IfOk result (λ flow. AreTreesWithin narrow 302 12 nest.now (trees_of flow)) }
+    ensures inputs { IfOk result (λ flow. AreInputs nest.now (trees_of flow)) }
+    ensures err { IfErr result (λ refusal. (plan : Plan) → OfEachPlan program.now plan (λ text schedule. MeaningSays text schedule refusal)) }
+    ensures later { IsLater budget.old budget.new }
+    ensures stop { IfErr result (λ refusal. refusal ≡ Refusal.Budget → budget.new.limit ≡ Some budget.new.spent) }
+{
+    match find(alloc, nest, budget) {
+        Ok(flow) => Ok(flow),
+        Err(
+            FlowStop::Unwritten {
+                access,
+                p,
+                instance,
+            },
+        ) => {
+            let array = array_of(nest, instance.statement, access);
+            Err(Refusal::Unwritten {
+                array,
+                access,
+                p,
+                instance,
+            })
+        }
+        Err(FlowStop::Budget) => Err(Refusal::Budget),
+        Err(FlowStop::Memory) => Err(Refusal::Memory),
+    }
+}
+
+/// Whether each load of a temporary is written before. Where there are no temporaries no trees are looked for.
+pub(crate) fn written(
+    alloc: Global,
+    program: &Program,
+    nest: &Nest,
+    budget: &mut Budget,
+) -> Result<(), Refusal>
+    requires plain { IsPlain program.now }
+    requires arrays { NamesArrays program.now }
+    requires nest { nest.now ≡ nest_of program.now }
+    requires within { StaysWithin program.now }
+    ensures written { OnOk result (OfEachText program.now (λ text. WrittenThroughout program.now)) }
+    ensures err { IfErr result (λ refusal. (plan : Plan) → OfEachPlan program.now plan (λ text schedule. MeaningSays text schedule refusal)) }
+    ensures later { IsLater budget.old budget.new }
+    ensures stop { IfErr result (λ refusal. refusal ≡ Refusal.Budget → budget.new.limit ≡ Some budget.new.spent) }
+{
+    if program.temps.as_slice().is_empty() {
+        return Ok(());
+    }
+    match trees_within(alloc, program, nest, budget) {
+        Ok(_) => Ok(()),
+        Err(refusal) => Err(refusal),
+    }
+}
