@@ -15,3 +15,6 @@ pub mod TreeLemmas
 pub mod FindLemmas
 pub mod SlightLemmas
 pub mod PartLemmas
+pub mod AskedLemmas
+pub mod GuessLemmas
+pub mod ImageLemmas

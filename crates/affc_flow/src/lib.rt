@@ -1,6 +1,9 @@
 //! The search for last-write trees.
 #![tactic(auto)]
 
+mod asking;
+mod candidates;
+mod draft;
 pub mod examples;
 mod finding;
 mod greatest;
@@ -8,11 +11,14 @@ mod guess;
 mod later;
 mod latest;
 pub mod laws;
+mod listing;
 mod load;
 mod pairs;
+pub mod questions;
 mod ranges;
 mod search;
 pub mod stop;
+mod tested;
 
 pub use finding::find;
 pub use stop::FlowStop;
