@@ -93,7 +93,7 @@ test_fits before behind at h =
     }
 
 -- a test of which the first side is right where it is met, and the second elsewhere
-test_right : (program : Program) (p its : List ℤ) (e : Entry) (x : Access) (form : Affine) (on off : Tree)
+pub test_right : (program : Program) (p its : List ℤ) (e : Entry) (x : Access) (form : Affine) (on off : Tree)
     → ((pos 0 ≤ℤ value form (p ++ its)) → IsRightAt program p its e x on) → ((value form (p ++ its) ≤ℤ negsuc 0) → IsRightAt program p its e x off)
     → IsRightAt program p its e x (Test form on off)
 test_right program p its e x form on off yes_right no_right = chosen (int_le (pos 0) (value form (p ++ its))) refl

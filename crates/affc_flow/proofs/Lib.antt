@@ -15,3 +15,6 @@ pub mod TreeLemmas
 pub mod FindLemmas
 pub mod StopLemmas
 pub mod SlightLemmas
+pub mod AskedLemmas
+pub mod GuessLemmas
+pub mod ImageLemmas

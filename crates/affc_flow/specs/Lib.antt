@@ -7,3 +7,5 @@ pub mod Stores
 pub mod Searches
 pub mod Unwritten
 pub mod Finds
+pub mod Asked
+pub mod Guesses

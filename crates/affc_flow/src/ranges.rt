@@ -1,6 +1,7 @@
 //! Ranges at a load.
-ghost use Rattle.std.specs.Prelude.{◌≡◌, ◌++◌, map, IfOk, OnOk};
+ghost use Rattle.std.specs.Prelude.{◌≡◌, ◌≤ℤ◌, ◌++◌, map, IfOk, OnOk};
 ghost use Rattle.affc_system.specs.Boxes.{IsBox};
+ghost use Rattle.affc_flow.specs.Searches.{part_box};
 ghost use Rattle.affc_flow.specs.Stores.{pin, beside_box};
 
 use affc_nest::{Entry, Nest};
@@ -66,4 +67,23 @@ pub(crate) fn entry_ranges(nest: &Nest, entry: &Entry) -> Result<BoxOf, AllocErr
     ensures { IfOk result (λ r. r ≡ nest.now.params ++ entry.now.ranges) }
 {
     joined_ranges(&nest.params, &entry.ranges)
+}
+
+/// The part of a box where the first columns have these values, the next one this range, and the others theirs.
+pub(crate) fn part_ranges(
+    alloc: Global,
+    point: &[i64],
+    low: i64,
+    high: i64,
+    rest: &[(i64, i64)],
+) -> Result<BoxOf, AllocError>
+    requires ordered { low ≤ℤ high }
+    requires rest_ordered { IsBox rest.now }
+    ensures { IfOk result (λ r. r ≡ part_box point.now low high rest.now) }
+{
+    let mut out = BoxOf::new(alloc);
+    add_pinned(point, &mut out)?;
+    out.push(low, high)?;
+    add_ranges(rest, &mut out)?;
+    Ok(out)
 }

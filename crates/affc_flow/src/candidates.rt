@@ -1,0 +1,198 @@
+//! Instances that might be a load's source, from the latest on, and where each might be. Nothing is promised of them.
+
+use crate::asking::{column_forms, store_for};
+use crate::draft::draft;
+use crate::listing::images_of;
+use crate::load::Load;
+use crate::questions::{Unasked, at_images, count, gap};
+use affc_nest::{Access, Entry};
+use affc_order::order::shared;
+use affc_rows::Form;
+use sqlite_items::Items;
+use std::alloc::{AllocError, Global};
+
+/// An instance of a statement, by forms for its iterators.
+#[derive(Drop)]
+pub(crate) struct Candidate {
+    pub(crate) statement: u32,
+    pub(crate) forms: Items<Form>,
+    /// The rows that say that it is an instance, that it stores what is read, and that it is earlier than the load.
+    pub(crate) conditions: Items<Form>,
+}
+
+/// Whether a row has no coefficient but 0.
+fn is_constant(row: &Form) -> bool {
+    row.coefs.as_slice().iter().all(|c| *c == 0)
+}
+
+/// Whether a row is met nowhere, as can be seen.
+fn is_never(row: &Form) -> bool {
+    row.constant < 0 && is_constant(row)
+}
+
+/// Adds a row, if it isn't seen to be met everywhere.
+fn add_condition(row: Form, out: &mut Items<Form>) -> Result<(), Unasked> {
+    if row.constant >= 0 && is_constant(&row) {
+        return Ok(());
+    }
+    out.push(row)?;
+    Ok(())
+}
+
+/// Adds the rows that a form is another one.
+fn add_equal(alloc: Global, f: &Form, g: &Form, out: &mut Items<Form>) -> Result<(), Unasked> {
+    let low = gap(alloc, g, f, 0)?;
+    add_condition(low, out)?;
+    let high = gap(alloc, f, g, 0)?;
+    add_condition(high, out)
+}
+
+/// Adds rows at these images of their columns.
+fn add_at_images(
+    alloc: Global,
+    columns: u32,
+    images: &[Form],
+    rows: &[Form],
+    out: &mut Items<Form>,
+) -> Result<(), Unasked> {
+    for row in rows {
+        let made = at_images(alloc, columns, images, row)?;
+        add_condition(made, out)?;
+    }
+    Ok(())
+}
+
+/// Adds the rows that what is written, at these images, is what is read.
+fn add_stored(
+    alloc: Global,
+    columns: u32,
+    images: &[Form],
+    written: &[Form],
+    read: &[Form],
+    out: &mut Items<Form>,
+) -> Result<(), Unasked> {
+    for (sub, other) in written.iter().zip(read) {
+        let made = at_images(alloc, columns, images, sub)?;
+        add_equal(alloc, &made, other, out)?;
+    }
+    Ok(())
+}
+
+/// Adds the rows that an instance is earlier than another one at a depth of the order, of so many loops round both.
+fn add_earlier(
+    alloc: Global,
+    forms: &[Form],
+    own: &[Form],
+    depth: usize,
+    n: usize,
+    out: &mut Items<Form>,
+) -> Result<(), Unasked> {
+    for (k, (form, other)) in forms.iter().zip(own).enumerate() {
+        if k < depth {
+            add_equal(alloc, form, other, out)?;
+        } else if k == depth && k < n {
+            let row = gap(alloc, form, other, 1)?;
+            add_condition(row, out)?;
+        }
+    }
+    Ok(())
+}
+
+/// The rows that say where a draft might be the source.
+fn conditions(
+    alloc: Global,
+    load: &Load<'_>,
+    writer: &Entry,
+    store: &Access,
+    forms: &[Form],
+    depth: usize,
+) -> Result<Items<Form>, Unasked> {
+    let columns = load.reader.domain.columns();
+    let params = count(load.nest.params.ranges().len())?;
+    let loops = count(load.reader.loops.len())?;
+    let own = column_forms(alloc, columns, params, loops)?;
+    let images = images_of(alloc, load, columns, forms)?;
+    let images = images.as_slice();
+    let n = shared(writer.loops.as_slice(), load.reader.loops.as_slice());
+    let (written, read) = (store.subs.as_slice(), load.access.subs.as_slice());
+    let mut out = Items::new(alloc);
+    add_stored(alloc, columns, images, written, read, &mut out)?;
+    add_earlier(alloc, forms, own.as_slice(), depth, n, &mut out)?;
+    add_at_images(alloc, columns, images, writer.domain.rows(), &mut out)?;
+    Ok(out)
+}
+
+/// The instance of a statement at a depth of the order.
+fn made_candidate(
+    alloc: Global,
+    load: &Load<'_>,
+    writer: &Entry,
+    store: &Access,
+    depth: usize,
+) -> Result<Candidate, Unasked> {
+    let forms = draft(alloc, load, writer, store, depth)?;
+    let conditions = conditions(alloc, load, writer, store, forms.as_slice(), depth)?;
+    Ok(Candidate {
+        statement: writer.statement,
+        forms,
+        conditions,
+    })
+}
+
+/// Adds the instance of a statement at a depth of the order, if there might be one.
+fn add_candidate(
+    alloc: Global,
+    load: &Load<'_>,
+    writer: &Entry,
+    store: &Access,
+    depth: usize,
+    out: &mut Vec<Candidate>,
+) -> Result<(), AllocError> {
+    match made_candidate(alloc, load, writer, store, depth) {
+        Ok(made) => {
+            if made.conditions.as_slice().iter().any(is_never) {
+                return Ok(());
+            }
+            match out.push(made) {
+                Ok(()) => Ok(()),
+                Err(_) => Err(AllocError),
+            }
+        }
+        Err(Unasked::Large) => Ok(()),
+        Err(Unasked::Memory) => Err(AllocError),
+    }
+}
+
+/// Whether an instance of a statement can be earlier than the load at this depth of the order.
+fn has_depth(load: &Load<'_>, writer: &Entry, depth: usize) -> bool {
+    let n = shared(writer.loops.as_slice(), load.reader.loops.as_slice());
+    depth < n || (depth == n && writer.statement < load.reader.statement)
+}
+
+/// Adds the instances at a depth of the order, the last statements first.
+fn add_at_depth(
+    alloc: Global,
+    load: &Load<'_>,
+    depth: usize,
+    out: &mut Vec<Candidate>,
+) -> Result<(), AllocError> {
+    for writer in load.nest.entries.as_slice().iter().rev() {
+        if let Some(store) = store_for(writer, load.access.array.0) {
+            if has_depth(load, writer, depth) {
+                add_candidate(alloc, load, writer, store, depth, out)?;
+            }
+        }
+    }
+    Ok(())
+}
+
+/// The instances that might be the source, from the latest on.
+pub(crate) fn candidates(alloc: Global, load: &Load<'_>) -> Result<Vec<Candidate>, AllocError> {
+    let mut out = Vec::new(alloc);
+    let most = load.reader.loops.len();
+    for up in 0..most {
+        add_at_depth(alloc, load, most - up, &mut out)?;
+    }
+    add_at_depth(alloc, load, 0, &mut out)?;
+    Ok(out)
+}

@@ -1,0 +1,45 @@
+//! Loads of statements.
+ghost use Rattle.std.specs.Prelude.{◌≡◌, IfOk};
+ghost use Rattle.affc_nest.specs.Domains.{number_form};
+ghost use Rattle.affc_flow.specs.Questions.{is_temporary};
+
+use affc_ast::tree::{ArrayId, Role};
+use affc_nest::{Access, Entry, Nest};
+use affc_order::columns::spread;
+use affc_rows::Form;
+use smallvec::SmallVec;
+use std::alloc::{AllocError, Global};
+
+/// A load, and its number among the loads of its statement.
+#[derive(Drop)]
+pub(crate) struct Load<'a> {
+    pub(crate) nest: &'a Nest,
+    pub(crate) reader: &'a Entry,
+    pub(crate) access: &'a Access,
+    pub(crate) number: u32,
+}
+
+/// Whether an array is a temporary.
+pub(crate) fn is_temporary(nest: &Nest, array: ArrayId) -> bool
+    ensures { result ≡ is_temporary nest.now array.0 }
+{
+    match nest.arrays.as_slice().get(array.0 as usize) {
+        None => false,
+        Some(info) => match info.role {
+            Role::Temp => true,
+            Role::Input => false,
+            Role::Output => false,
+        },
+    }
+}
+
+/// The form of a number over so many columns.
+pub(crate) fn number(alloc: Global, columns: u32, n: i64) -> Result<Form, AllocError>
+    ensures { IfOk result (λ f. f ≡ number_form columns n) }
+{
+    let empty = Form {
+        coefs: SmallVec::new(alloc),
+        constant: i128::from(n),
+    };
+    spread(alloc, &empty, 0, 0, columns)
+}

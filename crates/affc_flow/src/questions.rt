@@ -1,0 +1,427 @@
+//! The questions of a leaf that stands alone, as systems.
+ghost use Rattle.std.specs.Prelude.{◌≡◌, ◌+◌, ◌≤◌, ◌++◌, ◌∷◌, [], length, map, flat_map, IsTrue, IfOk, OnOk};
+ghost use Rattle.std.specs.List.{All};
+ghost use Rattle.affc_rows.specs.Forms.{HaveColumns};
+ghost use Rattle.affc_nest.specs.Domains.{gap_row, with_rows};
+ghost use Rattle.affc_order.specs.Posed.{form_at};
+ghost use Rattle.affc_order.specs.Spread.{spread};
+ghost use Rattle.affc_sched.specs.Questions.{equal_rows};
+ghost use Rattle.affc_quast.specs.Leaves.{negated};
+ghost use Rattle.affc_flow.specs.Asked.{asked, on, outside, apart};
+
+use crate::load::number;
+use affc_order::columns::spread;
+use affc_rows::{Form, FormFault};
+use affc_system::{BoxOf, RowFault, System};
+use sqlite_items::Items;
+use std::alloc::{AllocError, Global};
+use thiserror::Error;
+
+/// A system, and the ranges of its columns.
+#[derive(Drop)]
+pub struct Question {
+    pub system: System,
+    pub ranges: BoxOf,
+}
+
+/// Why questions aren't listed.
+#[derive(Debug, Clone, Copy, PartialEq, Eq, Error)]
+pub enum Unasked {
+    #[error("a question passes the limits of systems")]
+    Large,
+    #[error("out of memory")]
+    Memory,
+}
+
+impl From<AllocError> for Unasked {
+    fn from(_e: AllocError) -> Unasked {
+        Unasked::Memory
+    }
+}
+
+impl From<FormFault> for Unasked {
+    fn from(fault: FormFault) -> Unasked {
+        match fault {
+            FormFault::Range => Unasked::Large,
+            FormFault::Memory => Unasked::Memory,
+        }
+    }
+}
+
+impl From<RowFault> for Unasked {
+    fn from(fault: RowFault) -> Unasked {
+        match fault {
+            RowFault::Range => Unasked::Large,
+            RowFault::Full => Unasked::Large,
+            RowFault::Memory => Unasked::Memory,
+        }
+    }
+}
+
+/// The rows above a leaf, and the ranges of their columns.
+#[derive(Drop)]
+pub(crate) struct Place<'a> {
+    pub(crate) path: &'a System,
+    pub(crate) ranges: &'a BoxOf,
+}
+
+// ---- Rows.
+
+/// A number of things.
+pub(crate) fn count(n: usize) -> Result<u32, Unasked>
+    ensures value { IfOk result (λ k. k ≡ n) }
+    ensures few { OnOk result (n ≤ 128) }
+{
+    if n > 128 {
+        return Err(Unasked::Large);
+    }
+    Ok(n as u32)
+}
+
+/// Adds a row, where it keeps the limits.
+pub(crate) fn push_row(system: &mut System, row: Form) -> Result<(), Unasked>
+    ensures rows { OnOk result (system.new ≡ with_rows system.old (row ∷ [])) }
+    ensures wide { OnOk result (length row.coefs ≡ system.old.columns) }
+{
+    if row.coefs.len() != system.columns() as usize {
+        return Err(Unasked::Large);
+    }
+    system.push(row)?;
+    Ok(())
+}
+
+/// Adds copies of rows, where they keep the limits.
+#[tactic(auto, using(affc_sched::proofs::SystemLemmas::added_twice))]
+pub(crate) fn push_rows(system: &mut System, rows: &[Form]) -> Result<(), Unasked>
+    ensures rows { OnOk result (system.new ≡ with_rows system.old rows.now) }
+    ensures wide { OnOk result (HaveColumns system.old.columns rows.now) }
+{
+    match rows {
+        [] => Ok(()),
+        [row, rest @ ..] => {
+            let copy = row.clone()?;
+            push_row(system, copy)?;
+            push_rows(system, rest)?;
+            Ok(())
+        }
+    }
+}
+
+/// The row `b - a - k`.
+pub(crate) fn gap(alloc: Global, a: &Form, b: &Form, k: u32) -> Result<Form, Unasked>
+    ensures { IfOk result (λ f. f ≡ gap_row a.now b.now k) }
+{
+    if a.coefs.len() != b.coefs.len() {
+        return Err(Unasked::Large);
+    }
+    let Form { coefs, constant } = b.scale_add(alloc, 1, a, -1)?;
+    match constant.checked_sub(i128::from(k)) {
+        None => Err(Unasked::Large),
+        Some(constant) => Ok(Form { coefs, constant }),
+    }
+}
+
+/// The row that says that a row isn't met.
+pub(crate) fn negation(alloc: Global, row: &Form) -> Result<Form, Unasked>
+    ensures { IfOk result (λ f. f ≡ negated row.now) }
+{
+    let columns = count(row.coefs.len())?;
+    let zero = number(alloc, columns, 0)?;
+    let made = gap(alloc, row, &zero, 1)?;
+    Ok(made)
+}
+
+/// Whether each form has so many columns.
+pub(crate) fn have_columns(columns: u32, forms: &[Form]) -> bool
+    ensures { IsTrue result → HaveColumns columns forms.now }
+{
+    match forms {
+        [] => true,
+        [form, rest @ ..] => {
+            if form.coefs.len() == columns as usize {
+                have_columns(columns, rest)
+            } else {
+                false
+            }
+        }
+    }
+}
+
+/// A form without columns, over so many.
+#[tactic(auto, using(crate::proofs::ImageLemmas::constant_at))]
+fn constant_form(alloc: Global, columns: u32, form: &Form) -> Result<Form, AllocError>
+    requires { length form.now.coefs ≡ 0 }
+    ensures { IfOk result (λ f. f ≡ form_at columns [] form.now) }
+{
+    let made = spread(alloc, form, 0, 0, columns)?;
+    Ok(made)
+}
+
+/// A form with each column replaced by its image.
+pub(crate) fn at_images(
+    alloc: Global,
+    columns: u32,
+    images: &[Form],
+    form: &Form,
+) -> Result<Form, Unasked>
+    ensures { IfOk result (λ f. f ≡ form_at columns images.now form.now) }
+{
+    if images.len() != form.coefs.len() {
+        return Err(Unasked::Large);
+    }
+    if !have_columns(columns, images) {
+        return Err(Unasked::Large);
+    }
+    if images.is_empty() {
+        let made = constant_form(alloc, columns, form)?;
+        return Ok(made);
+    }
+    let made = form.compose(alloc, images)?;
+    Ok(made)
+}
+
+/// Adds rows, each with so many columns more between and behind.
+#[tactic(auto, using(affc_sched::proofs::SystemLemmas::added_twice))]
+pub(crate) fn push_spread(
+    alloc: Global,
+    system: &mut System,
+    rows: &[Form],
+    params: u32,
+    between: u32,
+    behind: u32,
+) -> Result<(), Unasked>
+    ensures { OnOk result (system.new ≡ with_rows system.old (map (spread params between behind) rows.now)) }
+{
+    match rows {
+        [] => Ok(()),
+        [row, rest @ ..] => {
+            let made = spread_form(alloc, row, params, between, behind)?;
+            push_row(system, made)?;
+            push_spread(alloc, system, rest, params, between, behind)?;
+            Ok(())
+        }
+    }
+}
+
+/// A form with so many columns more between and behind.
+fn spread_form(
+    alloc: Global,
+    form: &Form,
+    params: u32,
+    between: u32,
+    behind: u32,
+) -> Result<Form, Unasked>
+    ensures { IfOk result (λ f. f ≡ spread params between behind form.now) }
+{
+    if params as usize > form.coefs.len() {
+        return Err(Unasked::Large);
+    }
+    let made = spread(alloc, form, params, between, behind)?;
+    Ok(made)
+}
+
+/// Forms, each with so many columns more between and behind.
+pub(crate) fn add_spread_forms(
+    alloc: Global,
+    forms: &[Form],
+    params: u32,
+    between: u32,
+    behind: u32,
+    out: &mut Items<Form>,
+) -> Result<(), Unasked>
+    ensures { OnOk result (out.new ≡ out.old ++ map (spread params between behind) forms.now) }
+{
+    match forms {
+        [] => Ok(()),
+        [form, rest @ ..] => {
+            let made = spread_form(alloc, form, params, between, behind)?;
+            out.push(made)?;
+            add_spread_forms(alloc, rest, params, between, behind, out)?;
+            Ok(())
+        }
+    }
+}
+
+/// Adds the rows that a form is another one.
+#[tactic(auto, using(affc_sched::proofs::SystemLemmas::added_twice))]
+fn push_same(alloc: Global, system: &mut System, f: &Form, g: &Form) -> Result<(), Unasked>
+    ensures { OnOk result (system.new ≡ with_rows system.old (gap_row g.now f.now 0 ∷ gap_row f.now g.now 0 ∷ [])) }
+{
+    let low = gap(alloc, g, f, 0)?;
+    push_row(system, low)?;
+    let high = gap(alloc, f, g, 0)?;
+    push_row(system, high)?;
+    Ok(())
+}
+
+/// Adds the rows that forms are equal in turn.
+#[tactic(auto, using(affc_sched::proofs::SystemLemmas::added_twice))]
+pub(crate) fn push_equal(
+    alloc: Global,
+    system: &mut System,
+    fs: &[Form],
+    gs: &[Form],
+) -> Result<(), Unasked>
+    ensures { OnOk result (system.new ≡ with_rows system.old (equal_rows fs.now gs.now)) }
+{
+    match fs {
+        [] => Ok(()),
+        [f, more_fs @ ..] => match gs {
+            [] => Ok(()),
+            [g, more_gs @ ..] => {
+                push_same(alloc, system, f, g)?;
+                push_equal(alloc, system, more_fs, more_gs)?;
+                Ok(())
+            }
+        },
+    }
+}
+
+// ---- Questions.
+
+/// Adds the question of a system.
+pub(crate) fn push_question(
+    system: System,
+    ranges: &BoxOf,
+    out: &mut Vec<Question>,
+) -> Result<(), Unasked>
+    ensures { OnOk result (map asked out.new.items ≡ map asked out.old.items ++ record { system = system; ranges = ranges.now } ∷ []) }
+{
+    let ranges = ranges.clone()?;
+    let Ok(()) = out.push(Question { system, ranges }) else {
+        return Err(Unasked::Memory);
+    };
+    Ok(())
+}
+
+/// Adds the question of these rows and those behind the path.
+#[tactic(auto, using(affc_sched::proofs::SystemLemmas::added_twice))]
+pub(crate) fn add_question(
+    place: &Place<'_>,
+    first: &[Form],
+    second: &[Form],
+    out: &mut Vec<Question>,
+) -> Result<(), Unasked>
+    ensures { OnOk result (map asked out.new.items ≡ map asked out.old.items ++ on place.now.path.now place.now.ranges.now (first.now ++ second.now) ∷ []) }
+{
+    let mut system = place.path.clone()?;
+    push_rows(&mut system, first)?;
+    push_rows(&mut system, second)?;
+    push_question(system, place.ranges, out)?;
+    Ok(())
+}
+
+/// Adds the question of the row `b - a - 1` behind the path.
+fn add_gap(
+    alloc: Global,
+    place: &Place<'_>,
+    a: &Form,
+    b: &Form,
+    out: &mut Vec<Question>,
+) -> Result<(), Unasked>
+    ensures { OnOk result (map asked out.new.items ≡ map asked out.old.items ++ on place.now.path.now place.now.ranges.now (gap_row a.now b.now 1 ∷ []) ∷ []) }
+{
+    let row = gap(alloc, a, b, 1)?;
+    add_question(place, &[], &[row], out)?;
+    Ok(())
+}
+
+/// Adds the question of each of these systems behind these rows and the path.
+pub(crate) fn add_orders(
+    place: &Place<'_>,
+    first: &[Form],
+    orders: &[System],
+    out: &mut Vec<Question>,
+) -> Result<(), Unasked>
+    ensures { OnOk result (map asked out.new.items ≡ map asked out.old.items ++ map (λ u. on place.now.path.now place.now.ranges.now (first.now ++ u.rows)) orders.now) }
+{
+    match orders {
+        [] => Ok(()),
+        [order, rest @ ..] => {
+            add_question(place, first, order.rows(), out)?;
+            add_orders(place, first, rest, out)?;
+            Ok(())
+        }
+    }
+}
+
+/// Adds the question of each of these systems and each of those behind the path.
+pub(crate) fn add_both(
+    place: &Place<'_>,
+    after: &[System],
+    before: &[System],
+    out: &mut Vec<Question>,
+) -> Result<(), Unasked>
+    ensures { OnOk result (map asked out.new.items ≡ map asked out.old.items ++ flat_map (λ o. map (λ u. on place.now.path.now place.now.ranges.now (o.rows ++ u.rows)) before.now) after.now) }
+{
+    match after {
+        [] => Ok(()),
+        [order, rest @ ..] => {
+            add_orders(place, order.rows(), before, out)?;
+            add_both(place, rest, before, out)?;
+            Ok(())
+        }
+    }
+}
+
+/// Adds the questions whether the instance with these images lies outside some row.
+pub(crate) fn add_outside(
+    alloc: Global,
+    place: &Place<'_>,
+    images: &[Form],
+    rows: &[Form],
+    out: &mut Vec<Question>,
+) -> Result<(), Unasked>
+    ensures { OnOk result (map asked out.new.items ≡ map asked out.old.items ++ outside place.now.path.now place.now.ranges.now images.now rows.now) }
+{
+    match rows {
+        [] => Ok(()),
+        [row, rest @ ..] => {
+            let made = at_images(alloc, place.path.columns(), images, row)?;
+            let outside = negation(alloc, &made)?;
+            add_question(place, &[], &[outside], out)?;
+            add_outside(alloc, place, images, rest, out)?;
+            Ok(())
+        }
+    }
+}
+
+/// Adds the questions whether a subscript is greater, and whether it is less.
+fn add_sides(
+    alloc: Global,
+    place: &Place<'_>,
+    made: &Form,
+    read: &Form,
+    out: &mut Vec<Question>,
+) -> Result<(), Unasked>
+    ensures { OnOk result (map asked out.new.items ≡ map asked out.old.items ++ on place.now.path.now place.now.ranges.now (gap_row read.now made.now 1 ∷ []) ∷ on place.now.path.now place.now.ranges.now (gap_row made.now read.now 1 ∷ []) ∷ []) }
+{
+    add_gap(alloc, place, read, made, out)?;
+    add_gap(alloc, place, made, read, out)?;
+    Ok(())
+}
+
+/// Adds the questions whether the instance with these images writes elsewhere than what is read.
+pub(crate) fn add_apart(
+    alloc: Global,
+    place: &Place<'_>,
+    images: &[Form],
+    written: &[Form],
+    read: &[Form],
+    out: &mut Vec<Question>,
+) -> Result<(), Unasked>
+    ensures { OnOk result (map asked out.new.items ≡ map asked out.old.items ++ apart place.now.path.now place.now.ranges.now images.now written.now read.now) }
+{
+    match written {
+        [] => Ok(()),
+        [sub, subs @ ..] => match read {
+            [] => Ok(()),
+            [other, others @ ..] => {
+                let made = at_images(alloc, place.path.columns(), images, sub)?;
+                add_sides(alloc, place, &made, other, out)?;
+                add_apart(alloc, place, images, subs, others, out)?;
+                Ok(())
+            }
+        },
+    }
+}
