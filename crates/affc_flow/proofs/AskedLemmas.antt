@@ -1,7 +1,6 @@
 -- The questions of a leaf under tests, as the code lists them, are those of the leaf.
-use Rattle.std.proofs.Common.{◌≡◌, ℕ, zero, suc, ◌+◌, ◌-◌, ◌<◌, ◌≤◌, ℤ, pos, Bool, true, false, true≢false, IsTrue, if◌then◌else◌, List, [], ◌∷◌, ◌++◌, length, map, flat_map, take, drop, replicate, Option, Some, None, refl, sym, ap, subst, ◌∙◌, inl, inr, arith}
+use Rattle.std.proofs.Common.{◌≡◌, ℕ, zero, suc, ◌+◌, ◌-◌, ℤ, pos, Bool, true, false, true≢false, if◌then◌else◌, List, [], ◌∷◌, ◌++◌, length, map, flat_map, take, drop, replicate, Option, Some, None, refl, sym, ap, subst, ◌∙◌, inl, inr, arith}
 use Rattle.std.specs.Prelude.{nat_lt, nat_eq, slice_get, ◌&&◌}
-use Rattle.std.specs.List.{All}
 use Rattle.std.proofs.lemmas.Bool.{eq-eqb, eqb-true}
 use Rattle.std.proofs.lemmas.Option.{same_Some}
 use Rattle.std.proofs.lemmas.List.Elements.{All-head, All-tail}
@@ -16,7 +15,7 @@ use Rattle.affc_trace.proofs.LastStores.{append_nil}
 use Rattle.affc_domain.specs.Loops.{shared}
 use Rattle.affc_domain.proofs.Lists.{both_true}
 use Rattle.affc_nest.specs.Asked.{IsNest}
-use Rattle.affc_nest.specs.Domains.{compare_rows, with_rows}
+use Rattle.affc_nest.specs.Domains.{compare_rows}
 use Rattle.affc_nest.specs.declared.nest.Access.{Access}
 use Rattle.affc_nest.specs.declared.nest.Entry.{Entry}
 use Rattle.affc_nest.specs.declared.nest.Nest.{Nest}
@@ -28,7 +27,7 @@ use Rattle.affc_sched.specs.Questions.{context_count, equal_rows}
 use Rattle.affc_sched.proofs.LegalLemmas.{entry_at}
 use Rattle.affc_sched.proofs.PairLemmas.{stands_in}
 use Rattle.affc_quast.specs.Leaves.{Leaf, padded, negated}
-use Rattle.affc_flow.specs.Asked.{on, outside, apart, beside_system, before, after, earlier, between, all_earlier, reader_same, not_earlier, all_between, all_named, input_asked}
+use Rattle.affc_flow.specs.Asked.{on, outside, apart, beside_system, before, after, earlier, between, reader_same, not_earlier, all_between, all_named, input_asked}
 use Rattle.affc_flow.specs.Laws.{NoneHasAPoint}
 use Rattle.affc_flow.specs.Questions as asks
 use Rattle.affc_flow.specs.Questions.{Question, Writer, is_temporary, writers, poses}

@@ -1,5 +1,5 @@
 -- Trees that are right under the tests above them: leaves by their questions, and tests by both sides.
-use Rattle.std.proofs.Common.{◌≡◌, ℕ, suc, ◌+◌, ◌-◌, ◌≤◌, ℤ, pos, negsuc, ◌≤ℤ◌, Bool, true, false, List, [], ◌∷◌, ◌++◌, length, Option, Some, None, refl, sym, ap, subst, ◌∙◌, inl, arith}
+use Rattle.std.proofs.Common.{◌≡◌, ℕ, suc, ◌+◌, ◌-◌, ◌≤◌, ℤ, pos, negsuc, ◌≤ℤ◌, false, List, [], ◌∷◌, ◌++◌, length, Option, Some, None, refl, sym, ap, subst, ◌∙◌, inl, arith}
 use Rattle.std.specs.Prelude.{max, int_le, slice_get, Result, Ok, Err, IfOk, IfSome}
 use Rattle.std.specs.List.{All}
 use Rattle.std.proofs.lemmas.Int.{ints}
@@ -7,8 +7,7 @@ use Rattle.std.proofs.lemmas.Option.{same_Some}
 use Rattle.std.proofs.lemmas.List.Elements.{All-nil, All-cons, All-head, All-tail}
 use Rattle.affc_rows.specs.Forms.{Affine, value, HaveColumns}
 use Rattle.affc_system.specs.Boxes.{InBox}
-use Rattle.affc_system.specs.Systems.{Rows, IsRow, IsPoint, Met}
-use Rattle.affc_ast.specs.declared.tree.Instance.{Instance}
+use Rattle.affc_system.specs.Systems.{Rows, IsRow, Met}
 use Rattle.affc_ast.specs.declared.tree.Program.{Program}
 use Rattle.affc_trace.specs.Law.{IsIn}
 use Rattle.affc_trace.proofs.EndedReads.{append_assoc}
@@ -38,7 +37,7 @@ use Rattle.affc_quast.specs.Trees.{Tree, Test, Source, Input, instance_at, depth
 use Rattle.affc_quast.proofs.LeafLemmas.{says_negated}
 use Rattle.affc_flow.specs.Asked.{writers_of, all_named, input_asked}
 use Rattle.affc_flow.specs.Guesses.{IsPath, CoversOn}
-use Rattle.affc_flow.specs.Laws.{Loads, IsSourceOf, NoneHasAPoint, NoneBegins}
+use Rattle.affc_flow.specs.Laws.{Loads, IsSourceOf, NoneHasAPoint}
 use Rattle.affc_flow.specs.Questions.{leaf_questions}
 use Rattle.affc_flow.specs.Searches.{Covers, IsLoad}
 use Rattle.affc_flow.specs.Stores.{Writes}

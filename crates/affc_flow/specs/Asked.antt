@@ -1,6 +1,6 @@
 -- The questions of a leaf without divisions above it, as the code lists them, where the path is the domain of the load's
 -- statement and the rows of the tests above.
-use Rattle.std.specs.Prelude.{ℕ, ◌+◌, ℤ, nat_lt, nat_eq, if◌then◌else◌, List, [], ◌∷◌, ◌++◌, map, flat_map, length, drop, Option, Some, None}
+use Rattle.std.specs.Prelude.{ℕ, ◌+◌, ℤ, nat_lt, nat_eq, if◌then◌else◌, List, [], ◌∷◌, ◌++◌, map, flat_map, length, drop}
 use Rattle.affc_rows.specs.Forms.{Affine}
 use Rattle.affc_system.specs.Systems.{Rows}
 use Rattle.affc_ast.specs.declared.tree.Rel.TheVariants.{Less, Greater}
@@ -10,7 +10,7 @@ use Rattle.affc_nest.specs.Domains.{compare_rows, with_rows}
 use Rattle.affc_nest.specs.declared.nest.Access.{Access}
 use Rattle.affc_nest.specs.declared.nest.Entry.{Entry}
 use Rattle.affc_nest.specs.declared.nest.Nest.{Nest}
-use Rattle.affc_order.specs.Posed.{Posed, form_at}
+use Rattle.affc_order.specs.Posed.{form_at}
 use Rattle.affc_order.specs.Spread.{spread}
 use Rattle.affc_order.specs.Systems.{lex_systems}
 use Rattle.affc_sched.specs.Questions.{context_count, equal_rows}

@@ -1,6 +1,5 @@
 use Rattle.std.proofs.Common.{subst}
 use Rattle.std.specs.List.{All}
-use Rattle.affc_rows.specs.Forms.{HaveColumns}
 use Rattle.affc_system.specs.Systems.{IsRow}
 use Rattle.affc_flow.proofs.GuessLemmas.{rows_wide, input_right}
 use Rattle.affc_flow.proofs.tested.input_leaf.Goals as goal
