@@ -198,7 +198,7 @@ in_part command before now text report front promised reads is_front cut took = 
 }
 
 -- the text went out, and a front of the report behind it
-behind_text : (command : Command) (before now : Outside) (text report front : List ℕ) → Promises command before.folder.held text report → IsRead (files_of command) before.folder now.folder
+abbrev behind_text : (command : Command) (before now : Outside) (text report front : List ℕ) → Promises command before.folder.held text report → IsRead (files_of command) before.folder now.folder
     → now.out.taken ≡ grown before.out.taken text → IsFront report front → front ≢ report → ReportedInPart command before now
 behind_text command before now text report front promised reads took is_front cut = record {
   text = text;

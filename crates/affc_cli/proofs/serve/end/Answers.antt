@@ -3,7 +3,7 @@ use Rattle.affc_cli.proofs.serve.end.Goals as goal
 
 pub returns-in-Ok-put_all-clause-ends : goal.returns-in-Ok-put_all-clause-ends
 returns-in-Ok-put_all-clause-ends g c =
-    put_ends c.args.made c.in-Ok.pieces c.args.name.now c.as_slice.result.now c.as_slice-2.result.now _ _ _ _ c.put_report.result c.in-Ok.is c.as_slice.ensures.value c.as_slice-2.ensures.value
+    put_ends c.args.made c.in-Ok.pieces c.args.name.now c.as_slice.result.now c.as_slice-in-Ok-put_all.result.now _ _ _ _ c.put_report.result c.in-Ok.is c.as_slice.ensures.value c.as_slice-in-Ok-put_all.ensures.value
     c.in-Ok-put_all.ensures.taken c.put_report.ensures.reports
 
 pub returns-in-Fault-clause-ends : goal.returns-in-Fault-clause-ends
