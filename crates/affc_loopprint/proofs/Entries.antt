@@ -32,7 +32,7 @@ two_at P (a ∷ xs) [] n x y h e f = absurd h
 two_at P (a ∷ xs) (b ∷ ys) zero x y h e f = subst (λ u. P u y) (same_Some a x e) (subst (P a) (same_Some b y f) h.0)
 two_at P (a ∷ xs) (b ∷ ys) (suc n) x y h e f = two_at P xs ys n x y h.1 e f
 
-two_append : {A B : Type 0} (P : A → B → Type 0) (xs us : List A) (ys vs : List B) → EachTwo P xs ys → EachTwo P us vs → EachTwo P (xs ++ us) (ys ++ vs)
+pub two_append : {A B : Type 0} (P : A → B → Type 0) (xs us : List A) (ys vs : List B) → EachTwo P xs ys → EachTwo P us vs → EachTwo P (xs ++ us) (ys ++ vs)
 two_append P [] us [] vs h k = k
 two_append P [] us (y ∷ ys) vs h k = absurd h
 two_append P (x ∷ xs) us [] vs h k = absurd h

@@ -9,22 +9,19 @@ use Rattle.affc_ast.specs.declared.tree.Stmt.{Stmt}
 use Rattle.affc_ast.specs.declared.tree.Stmt.TheVariants.{Block}
 use Rattle.affc_ast.proofs.Steps.{block_here}
 use Rattle.affc_trace.specs.Target.{numbers_in}
-use Rattle.affc_cprint.proofs.ReadBackValues.{Each}
 use Rattle.affc_wellnamed.specs.declared.shape.Extent.{Extent}
 use Rattle.affc_wellnamed.specs.declared.shape.Shape.{Shape}
-use Rattle.affc_wellnamed.specs.Shape.{nothing, whole, compare_extent, both, line, locals_behind, block_head, stmt_step, stmt_shape}
+use Rattle.affc_wellnamed.specs.Shape.{empty, nothing, whole, compare_extent, both, line, locals_behind, block_head, stmt_step, stmt_shape}
 use Rattle.affc_wellnamed.proofs.ShapeStatements.{Numbers, joined}
 use Rattle.affc_reprint.proofs.Rows.{under_more, under_both, under_tokens}
 use Rattle.affc_reprint.proofs.Values.{all_tokens, all_deep}
 use Rattle.affc_reprint.proofs.Statements.{numbers_of, total, AtMost, most_both}
 use Rattle.affc_loops.specs.Trees.{name_at, number, form_tree}
 use Rattle.affc_loops.specs.Loops.{Piece, loop_names, locals_of, box_tests, time_tests, if_any, guarded, moved_assign, block_of}
-use Rattle.affc_loops.proofs.Guards.{names_count}
 use Rattle.affc_loopprint.specs.Short.{IsShort}
 use Rattle.affc_loopprint.proofs.Fitting.{Fitting}
 use Rattle.affc_loopprint.proofs.ShapeForms.{Few, form_few, number_few}
-use Rattle.affc_loopprint.proofs.ShapeRooms.{Room, Small, printed, most_then, under_most, closed_most, any_most}
-use Rattle.affc_loopprint.proofs.ShapeGuards.{guarded_fits, guarded_items}
+use Rattle.affc_loopprint.proofs.ShapeRooms.{printed, most_then, most_behind, behind_total, under_most, closed_most, any_most}
 
 pub line_most : (n t d : ℕ) (e : Extent) → Few t d e → AtMost (numbers_of (line n e)) (record { tokens = t + n + 1; run = t + n; depth = d; items = 0 })
 line_most n t d e f = let a = f.few in let b = f.shallow in record { tokens = omega (arith, a); run = omega (arith, a); depth = omega (arith, b); items = omega arith }
@@ -87,11 +84,11 @@ time_few first from component n (f ∷ fs) few h =
 
 -- what stands round the assignment and the assignment, at most
 abbrev inner : Numbers
-inner = record { tokens = 250000; run = 64001; depth = 239; items = 38 }
+inner = record { tokens = 160000; run = 32000; depth = 239; items = 38 }
 
 -- a block, at most
 abbrev pub one_block : Numbers
-one_block = record { tokens = 251470; run = 64001; depth = 242; items = 40 }
+one_block = record { tokens = 161470; run = 32000; depth = 242; items = 40 }
 
 block_most : (first more : ℕ) (e : Piece) (ls : List Local) (body : List Stmt) (m n : Numbers) → AtMost (numbers_of (block_head true ls)) m → AtMost (total (printed body)) n
     → AtMost (numbers_of (stmt_shape true (Block ls body))) (record { tokens = m.tokens + n.tokens + 1; run = max m.run n.run; depth = max m.depth n.depth + 1; items = m.items + n.items })
@@ -99,16 +96,12 @@ block_most first more e ls body m n h k =
     subst (λ s. AtMost (numbers_of s) (record { tokens = m.tokens + n.tokens + 1; run = max m.run n.run; depth = max m.depth n.depth + 1; items = m.items + n.items })) (sym (block_here (stmt_step true) ls body))
     (closed_most (block_head true ls) m (printed body) n h k)
 
-module _ (other : Program) (n : ℕ) (short : IsShort other) (numbers : numbers_in other.params ≤ 4) (few : n ≤ 12) (bodies : Each (λ s. Room 250000 32000 239 (numbers_of s)) (printed other.body)) where
+module _ (other : Program) (n : ℕ) (short : IsShort other) (numbers : numbers_in other.params ≤ 4) (few : n ≤ 12) where
   inner_most : (first more from : ℕ) (e : Piece) → Fitting other n e → AtMost (total (printed (guarded first more from e.around (moved_assign first more e.assignment ∷ [])))) inner
   inner_most first more from e f =
-      let m : Small 250000 32000 239 = record { tokens = omega arith; run = omega arith; depth = omega arith } in
-      let r = guarded_fits 250000 32000 239 other m bodies f.at e.around e.assignment f.its_rounds f.its_assignment first more from in
-      let i = guarded_items first more from e.around (moved_assign first more e.assignment ∷ []) in
-      let c = short.tests f.at e.around f.its_rounds in
-      let l = names_count e.around in
-      let few = f.few in
-      record { tokens = r.tokens; run = r.run; depth = r.depth; items = omega (arith, i, c, l, few) }
+      let k = short.statements f.at e.around e.assignment f.its_rounds f.its_assignment first more from in
+      most_then _ _ _ (most_behind empty (printed (guarded first more from e.around (moved_assign first more e.assignment ∷ []))))
+      (behind_total empty (printed (guarded first more from e.around (moved_assign first more e.assignment ∷ []))) inner (omega arith) (omega arith) (record { tokens = k.tokens; run = k.run; depth = k.depth; items = k.items }))
 
   pub piece_most : (first more : ℕ) (e : Piece) → Fitting other n e → AtMost (numbers_of (stmt_shape true (block_of first more e))) one_block
   piece_most first more e f =

@@ -1,5 +1,5 @@
 -- Without the prelude a program has no calls and no locals: it is printed behind the prelude with as many tokens and brackets, and one token more in its head.
-use Rattle.std.proofs.Common.{◌≡◌, ◌+◌, ◌≤◌, ◌&&◌, ◌||◌, Bool, true, false, not, List, [], ◌∷◌, ◌++◌, map, refl, sym, ap, subst, ◌∙◌, arith}
+use Rattle.std.proofs.Common.{◌≡◌, ℕ, ◌+◌, ◌≤◌, ◌&&◌, ◌||◌, Bool, true, false, not, List, [], ◌∷◌, ◌++◌, map, refl, sym, ap, subst, ◌∙◌, arith}
 use Rattle.std.proofs.lemmas.Bool.{and_parts, false≢true}
 use Rattle.affc_ast.specs.declared.tree.Compare.{Compare}
 use Rattle.affc_ast.specs.declared.tree.Decl.{Decl}
@@ -231,20 +231,21 @@ near_head e = record { tokens = omega arith; run = omega arith; depth = omega ar
 
 -- ---- The function
 
+-- without the prelude its head has one token less
+abbrev pub plain_function : ℕ → Program → Shape
+plain_function more p = closed (all_behind (decls_behind false (line more (params_extent false p.params)) p.temps) (map (stmt_shape false) p.body))
+
 -- whose parts are known without the prelude
-function_near : (p : Program) → params_known false p.name [] p.params ≡ true → temps_known false p.name p.params [] p.temps ≡ true → all_at (known_behind false p.name p.params p.temps) (map stmt_known p.body) ≡ true
-    → Near (function_shape (with_prelude p)) (closed (all_behind (decls_behind false (head_line false p.params) p.temps) (map (stmt_shape false) p.body)))
-function_near p params temps body =
+function_is : (p : Program) → params_known false p.name [] p.params ≡ true → temps_known false p.name p.params [] p.temps ≡ true → all_at (known_behind false p.name p.params p.temps) (map stmt_known p.body) ≡ true
+    → function_shape (with_prelude p) ≡ plain_function 5 p
+function_is p params temps body =
     let e = params_extent false p.params in
-    let same : closed (all_behind (decls_behind true (line 5 (params_extent true p.params)) p.temps) (map (stmt_shape true) p.body)) ≡ closed (all_behind (decls_behind false (line 5 e) p.temps) (map (stmt_shape false) p.body)) =
     ap (λ z. closed (all_behind (decls_behind true (line 5 z) p.temps) (map (stmt_shape true) p.body))) (same_all_params p.name p.params params)
     ∙ ap (λ z. closed (all_behind z (map (stmt_shape true) p.body))) (same_temps p.name p.params [] (line 5 e) p.temps temps)
-    ∙ ap (λ z. closed (all_behind (decls_behind false (line 5 e) p.temps) z)) (same_stmts (known_behind false p.name p.params p.temps) refl p.body body) in
-    subst (λ z. Near z (closed (all_behind (decls_behind false (line 4 e) p.temps) (map (stmt_shape false) p.body)))) (sym same)
-    (near_closed _ _ (near_behind _ _ (map (stmt_shape false) p.body) (near_decls (line 5 e) (line 4 e) p.temps (near_head e))))
+    ∙ ap (λ z. closed (all_behind (decls_behind false (line 5 e) p.temps) z)) (same_stmts (known_behind false p.name p.params p.temps) refl p.body body)
 
-pub prelude_near : (p : Program) → p.prelude ≡ false → program_known p ≡ true → Near (function_shape (with_prelude p)) (function_shape p)
-prelude_near p off h =
+pub prelude_is : (p : Program) → p.prelude ≡ false → program_known p ≡ true → (function_shape (with_prelude p) ≡ plain_function 5 p) × (function_shape p ≡ plain_function 4 p)
+prelude_is p off h =
     let a = and_parts (is_function p.name) _ h in
     let b = and_parts (not (is_none p.params)) _ a.1 in
     let c = and_parts (params_known p.prelude p.name [] p.params) _ b.1 in
@@ -253,4 +254,11 @@ prelude_near p off h =
     let params = sym (ap (λ b. params_known b p.name [] p.params) off) ∙ c.0 in
     let temps = sym (ap (λ b. temps_known b p.name p.params [] p.temps) off) ∙ e.0 in
     let body = sym (ap (λ b. all_at (known_behind b p.name p.params p.temps) (map stmt_known p.body)) off) ∙ e.1 in
-    subst (Near (function_shape (with_prelude p))) (sym (ap (λ b. closed (all_behind (decls_behind b (head_line b p.params) p.temps) (map (stmt_shape b) p.body))) off)) (function_near p params temps body)
+    (function_is p params temps body, ap (λ b. closed (all_behind (decls_behind b (head_line b p.params) p.temps) (map (stmt_shape b) p.body))) off)
+
+pub prelude_near : (p : Program) → p.prelude ≡ false → program_known p ≡ true → Near (function_shape (with_prelude p)) (function_shape p)
+prelude_near p off h =
+    let e = params_extent false p.params in
+    let q = prelude_is p off h in
+    subst (λ z. Near z (function_shape p)) (sym q.0)
+    (subst (Near (plain_function 5 p)) (sym q.1) (near_closed _ _ (near_behind _ _ (map (stmt_shape false) p.body) (near_decls (line 5 e) (line 4 e) p.temps (near_head e)))))

@@ -167,7 +167,7 @@ module _ (first more : ℕ) where
 
   -- ---- Assignments
 
-  moved_line : (subs : List Ix) (v : Val) → assign_line true (map (moved first more) subs) (moved_value first more v) ≡ assign_line true subs v
+  pub moved_line : (subs : List Ix) (v : Val) → assign_line true (map (moved first more) subs) (moved_value first more v) ≡ assign_line true subs v
   moved_line subs v =
       two (λ x y. line 1 (beside x (at_level Or y))) _ _ _ _ (moved_dims true first more (record { tokens = 1; depth = 0 }) subs) (moved_val true first more v)
 

@@ -1,5 +1,5 @@
 -- The loops of a program whose text is short are printed within the wide limits on tokens, runs, brackets and items.
-use Rattle.std.proofs.Common.{◌≡◌, ℕ, suc, ◌+◌, ◌-◌, ◌*◌, ◌≤◌, ℤ, true, max, List, [], ◌∷◌, length, map, inl, inr, refl, sym, subst, arith}
+use Rattle.std.proofs.Common.{◌≡◌, ℕ, suc, ◌+◌, ◌*◌, ◌≤◌, ℤ, true, max, List, [], ◌∷◌, length, map, inl, inr, refl, sym, subst, arith}
 use Rattle.std.proofs.lemmas.Bool.{and_from, le-leb}
 use Rattle.affc_ast.specs.declared.tree.Program.{Program}
 use Rattle.affc_ast.specs.declared.tree.Rel.TheVariants.{LessEqual}
@@ -9,23 +9,21 @@ use Rattle.affc_ast.proofs.Steps.{for_here}
 use Rattle.affc_grammar.specs.Limits.{wide_limits}
 use Rattle.affc_trace.specs.Law.{IsIn}
 use Rattle.affc_trace.specs.Target.{numbers_in}
-use Rattle.affc_cprint.proofs.ReadBackValues.{Each}
-use Rattle.affc_wellnamed.specs.declared.shape.Shape.{Shape}
-use Rattle.affc_wellnamed.specs.Shape.{nothing, whole, both, line, closed, all_behind, for_head, stmt_step, stmt_shape, decls_behind, head_line, lines_shape, program_shape, is_bounded}
+use Rattle.affc_wellnamed.specs.Shape.{nothing, whole, both, line, closed, all_behind, for_head, stmt_step, stmt_shape, lines_shape, program_shape, is_bounded}
 use Rattle.affc_wellnamed.proofs.ShapeStatements.{Numbers, joined, none}
 use Rattle.affc_reprint.proofs.Statements.{numbers_of, total, AtMost, most_both}
 use Rattle.affc_loops.specs.Trees.{number}
 use Rattle.affc_loops.specs.Loops.{Piece, block_of, time_name, loops, body_of}
-use Rattle.affc_loopprint.specs.Short.{IsShort}
+use Rattle.affc_loopprint.specs.Short.{head_shape, IsShort}
 use Rattle.affc_loopprint.proofs.Fitting.{Fitting, loops_program}
 use Rattle.affc_loopprint.proofs.ShapeForms.{number_few}
-use Rattle.affc_loopprint.proofs.ShapeRooms.{Room, Small, room_more, each_so, behind_parts, behind_items, closed_parts, printed, closed_most}
+use Rattle.affc_loopprint.proofs.ShapeRooms.{printed, closed_most}
 use Rattle.affc_loopprint.proofs.ShapeBlocks.{line_most, one_block, piece_most}
 
 -- ---- All blocks
 
 blocks_most : (first more : ℕ) (es : List Piece) → ((e : Piece) → IsIn e es → AtMost (numbers_of (stmt_shape true (block_of first more e))) one_block)
-    → AtMost (total (printed (map (block_of first more) es))) (record { tokens = 251470 * length es; run = 64001; depth = 242; items = 40 * length es })
+    → AtMost (total (printed (map (block_of first more) es))) (record { tokens = 161470 * length es; run = 32000; depth = 242; items = 40 * length es })
 blocks_most first more [] h = record { tokens = omega arith; run = omega arith; depth = omega arith; items = omega arith }
 blocks_most first more (e ∷ es) h =
     let p = h e (inl refl) in
@@ -69,7 +67,7 @@ loops_most (x ∷ ranges) component body n h =
 
 -- at most 64 blocks under at most 12 loops
 abbrev all_blocks : Numbers
-all_blocks = record { tokens = 16094296; run = 64001; depth = 254; items = 2572 }
+all_blocks = record { tokens = 10334296; run = 32000; depth = 254; items = 2572 }
 
 body_most : (first : ℕ) (ranges : List (ℤ × ℤ)) (es : List Piece) → ((e : Piece) → IsIn e es → AtMost (numbers_of (stmt_shape true (block_of first (length ranges) e))) one_block)
     → length ranges ≤ 12 → length es ≤ 64 → AtMost (total (printed (body_of first ranges es))) all_blocks
@@ -81,43 +79,20 @@ body_most first ranges (e ∷ es) h few count =
 
 -- ---- The program
 
-module _ (other : Program) (short : IsShort other) where
-  abbrev before : Shape
-  before = decls_behind true (head_line true other.params) other.temps
-
-  record FunctionParts : Type 0 where
-    head : AtMost (numbers_of before) (record { tokens = 250000; run = 32000; depth = 239; items = 256 })
-    bodies : Each (λ s. Room 250000 32000 239 (numbers_of s)) (printed other.body)
-
-  function_parts : FunctionParts
-  function_parts =
-      let f = short.function in
-      let small : Small 250000 32000 240 = record { tokens = omega arith; run = omega arith; depth = omega arith } in
-      let small' : Small 249999 32000 239 = record { tokens = omega arith; run = omega arith; depth = omega arith } in
-      let c = closed_parts 250000 32000 240 (all_behind before (printed other.body)) small (record { tokens = f.tokens; run = f.run; depth = f.depth }) in
-      let q = behind_parts 249999 32000 239 before (printed other.body) small' c.room in
-      let h = q.0 in let t = h.tokens in
-      let i = f.items in
-      record {
-        head = record { tokens = omega (arith, t); run = h.run; depth = h.depth; items = behind_items before (printed other.body) 256 (omega arith) (omega (arith, i)) };
-        bodies = each_less (printed other.body) q.1;
-      }
-    where
-      each_less : (ss : List Shape) → Each (λ s. Room (249999 - before.tokens) 32000 239 (numbers_of s)) ss → Each (λ s. Room 250000 32000 239 (numbers_of s)) ss
-      each_less ss h = each_so _ _ ss (λ u k. room_more (249999 - before.tokens) 32000 239 250000 32000 239 (numbers_of u) (omega arith) (omega arith) (omega arith) k) h
-
-  pub loops_bounded : (n : ℕ) (ranges : List (ℤ × ℤ)) (es : List Piece) → numbers_in other.params ≤ 4 → n ≤ 12 → length es ≤ 64 → length ranges ≤ 12 → ((e : Piece) → IsIn e es → Fitting other n e)
-      → is_bounded (program_shape (loops_program other ranges es)) ≡ true
-  loops_bounded n ranges es numbers few count long fits =
-      let parts = function_parts in
-      let body = body_of (numbers_in other.params) ranges es in
-      let inside = body_most (numbers_in other.params) ranges es (λ e i. piece_most other n short numbers few parts.bodies (numbers_in other.params) (length ranges) e (fits e i)) long count in
-      let f = closed_most before _ (printed body) all_blocks parts.head inside in
-      let function = closed (all_behind before (printed body)) in
-      let l = short.lines in
-      let all = most_both (lines_shape other) function (record { tokens = 65536; run = 65536; depth = 256; items = 0 }) (record { tokens = 16344297; run = 64001; depth = 255; items = 2828 })
-      (record { tokens = l.tokens; run = l.run; depth = l.depth; items = l.items }) (record { tokens = f.tokens; run = f.run; depth = f.depth; items = f.items }) in
-      let t = all.tokens in let r = all.run in let d = all.depth in let i = all.items in
-      let shape = both (lines_shape other) function in
-      and_from _ _ (and_from _ _ (le-leb shape.tokens wide_limits.tokens (omega (arith, t))) (le-leb shape.run wide_limits.run (omega (arith, r))))
-      (and_from _ _ (le-leb shape.depth wide_limits.depth (omega (arith, d))) (le-leb shape.items wide_limits.items (omega (arith, i))))
+pub loops_bounded : (other : Program) → IsShort other → (n : ℕ) (ranges : List (ℤ × ℤ)) (es : List Piece) → numbers_in other.params ≤ 4 → n ≤ 12 → length es ≤ 64 → length ranges ≤ 12 → ((e : Piece) → IsIn e es → Fitting other n e)
+    → is_bounded (program_shape (loops_program other ranges es)) ≡ true
+loops_bounded other short n ranges es numbers few count long fits =
+    let before = head_shape other in
+    let head = short.head in
+    let body = body_of (numbers_in other.params) ranges es in
+    let inside = body_most (numbers_in other.params) ranges es (λ e i. piece_most other n short numbers few (numbers_in other.params) (length ranges) e (fits e i)) long count in
+    let f = closed_most before (record { tokens = 5300000; run = 32000; depth = 239; items = 256 }) (printed body) all_blocks
+    (record { tokens = head.tokens; run = head.run; depth = head.depth; items = head.items }) inside in
+    let function = closed (all_behind before (printed body)) in
+    let l = short.lines in
+    let all = most_both (lines_shape other) function (record { tokens = 65536; run = 65536; depth = 256; items = 0 }) (record { tokens = 15634297; run = 32000; depth = 255; items = 2828 })
+    (record { tokens = l.tokens; run = l.run; depth = l.depth; items = l.items }) (record { tokens = f.tokens; run = f.run; depth = f.depth; items = f.items }) in
+    let t = all.tokens in let r = all.run in let d = all.depth in let i = all.items in
+    let shape = both (lines_shape other) function in
+    and_from _ _ (and_from _ _ (le-leb shape.tokens wide_limits.tokens (omega (arith, t))) (le-leb shape.run wide_limits.run (omega (arith, r))))
+    (and_from _ _ (le-leb shape.depth wide_limits.depth (omega (arith, d))) (le-leb shape.items wide_limits.items (omega (arith, i))))

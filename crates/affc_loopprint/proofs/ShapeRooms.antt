@@ -99,6 +99,19 @@ most_then a b c p q =
     let t' = q.tokens in let r' = q.run in let d' = q.depth in let i' = q.items in
     record { tokens = omega (arith, t, t'); run = omega (arith, r, r'); depth = omega (arith, d, d'); items = omega (arith, i, i') }
 
+-- the parts of what is printed behind a shape, where that is less than the greatest number
+pub behind_total : (a : Shape) (ss : List Shape) (m : Numbers) → m.tokens ≤ 16777216 → m.items ≤ 16777216 → AtMost (numbers_of (all_behind a ss)) m → AtMost (joined (numbers_of a) (total ss)) m
+behind_total a [] m t i p = let x = p.tokens in let r = p.run in let d = p.depth in let y = p.items in record { tokens = omega (arith, x); run = omega (arith, r); depth = omega (arith, d); items = omega (arith, y) }
+behind_total a (s ∷ ss) m t i p =
+    let q = behind_total (both a s) ss m t i p in
+    let x = q.tokens in let r = q.run in let d = q.depth in let y = q.items in
+    let k = larger_is a.run s.run in let l = larger_is a.depth s.depth in
+    record { tokens = omega (arith, x, t); run = omega (arith, r, k); depth = omega (arith, d, l); items = omega (arith, y, i) }
+
+-- they are no more than with a shape before them
+pub most_behind : (a : Shape) (ss : List Shape) → AtMost (total ss) (joined (numbers_of a) (total ss))
+most_behind a ss = record { tokens = omega arith; run = omega arith; depth = omega arith; items = omega arith }
+
 -- under conditions that are printed so
 abbrev pub under_test : Extent → Numbers → Numbers
 under_test c b = record { tokens = c.tokens + 5 + b.tokens; run = max (c.tokens + 3) b.run; depth = max c.depth b.depth + 1; items = b.items + 1 }

@@ -1,5 +1,5 @@
 -- The expression of a form, or of a number, is made of few kinds of expressions.
-use Rattle.std.proofs.Common.{◌≡◌, ℕ, zero, suc, ◌+◌, ◌-◌, ◌^◌, ◌<◌, ◌≤◌, ℤ, pos, negsuc, true, false, not, ◌&&◌, unsigned_abs, List, [], ◌∷◌, ◌++◌, length, take, drop, refl, ap, ◌∙◌, arith}
+use Rattle.std.proofs.Common.{◌≡◌, ℕ, zero, suc, ◌+◌, ◌-◌, ◌^◌, ◌<◌, ◌≤◌, ℤ, pos, negsuc, true, false, not, ◌&&◌, unsigned_abs, List, [], ◌∷◌, ◌++◌, length, get_or, take, drop, refl, ap, ◌∙◌, arith}
 use Rattle.std.specs.List.{All}
 use Rattle.std.proofs.lemmas.Bool.{and_from, lt-ltb, le-ltb}
 use Rattle.std.proofs.lemmas.Int.{ints}
@@ -50,36 +50,41 @@ module _ (P : Ix → Type 0) (names : ℕ) (c : SumCases P names) where
   sum_has ((pos (suc m), x) ∷ ts) k h q = let s = h.0 in more_has ts (times m x) k h.2 q (times_has m x (omega (arith, ints, s)) h.1)
   sum_has ((negsuc m, x) ∷ ts) k h q = let s = h.0 in more_has ts (Neg (times m x)) k h.2 q (c.neg (times m x) (times_has m x (omega (arith, ints, s)) h.1))
 
-  abbrev AreSlight : List ℤ → Type 0
-  AreSlight cs = All (λ c. unsigned_abs c ≤ 256) cs
+  abbrev AreNarrow : List ℤ → Type 0
+  AreNarrow cs = All (λ c. unsigned_abs c ≤ 2 ^ 62) cs
 
-  all_small : (from : ℕ) (cs : List ℤ) → AreSlight cs → from + length cs ≤ names → AllSmall (terms_from from cs)
+  all_small : (from : ℕ) (cs : List ℤ) → AreNarrow cs → from + length cs ≤ names → AllSmall (terms_from from cs)
   all_small from [] h l = tt
   all_small from (d ∷ cs) h l =
-      let a : unsigned_abs d ≤ 256 = h 0 d (omega arith) in
+      let a : unsigned_abs d ≤ 2 ^ 62 = h 0 d (omega arith) in
       (omega (arith, a), omega (arith, l), all_small (suc from) cs (λ i y m. h (suc i) y (omega (arith, m))) (omega (arith, l)))
 
-  late_small : (first from : ℕ) (cs : List ℤ) → AreSlight cs → from + (length cs - first) ≤ names → AllSmall (terms_from from (drop first cs))
+  late_small : (first from : ℕ) (cs : List ℤ) → AreNarrow cs → from + (length cs - first) ≤ names → AllSmall (terms_from from (drop first cs))
   late_small zero from cs h l = all_small from cs h (omega (arith, l))
   late_small (suc first) from [] h l = tt
   late_small (suc first) from (d ∷ cs) h l = late_small first from cs (λ i y m. h (suc i) y (omega (arith, m))) (omega (arith, l))
 
-  early_small : (first from : ℕ) (cs : List ℤ) → AreSlight cs → from + first ≤ names → AllSmall (terms_from from (take first cs))
+  early_small : (first from : ℕ) (cs : List ℤ) → AreNarrow cs → from + first ≤ names → AllSmall (terms_from from (take first cs))
   early_small zero from cs h l = tt
   early_small (suc first) from [] h l = tt
   early_small (suc first) from (d ∷ cs) h l =
-      let a : unsigned_abs d ≤ 256 = h 0 d (omega arith) in
+      let a : unsigned_abs d ≤ 2 ^ 62 = h 0 d (omega arith) in
       (omega (arith, a), omega (arith, l), early_small first (suc from) cs (λ i y m. h (suc i) y (omega (arith, m))) (omega (arith, l)))
 
   both_small : (ts us : List Term) → AllSmall ts → AllSmall us → AllSmall (ts ++ us)
   both_small [] us h k = k
   both_small (t ∷ ts) us h k = (h.0, h.1, both_small ts us h.2 k)
 
+  -- a form with coefficients and a constant up to 2^62
+  pub narrow_has : (first from : ℕ) (f : Affine) → AreNarrow f.coefs → unsigned_abs f.constant ≤ 2 ^ 62 → first ≤ names → from + (length f.coefs - first) ≤ names → P (form_tree first from f)
+  narrow_has first from f s k l m =
+      sum_has (terms_from from (drop first f.coefs) ++ terms_from 0 (take first f.coefs)) f.constant
+      (both_small (terms_from from (drop first f.coefs)) (terms_from 0 (take first f.coefs)) (late_small first from f.coefs s m) (early_small first 0 f.coefs s (omega (arith, l)))) k
+
   pub form_has : (first from : ℕ) (f : Affine) → IsSlight f → first ≤ names → from + (length f.coefs - first) ≤ names → P (form_tree first from f)
   form_has first from f s l m =
       let a = s.1 in
-      sum_has (terms_from from (drop first f.coefs) ++ terms_from 0 (take first f.coefs)) f.constant
-      (both_small (terms_from from (drop first f.coefs)) (terms_from 0 (take first f.coefs)) (late_small first from f.coefs s.0 m) (early_small first 0 f.coefs s.0 (omega (arith, l)))) (omega (arith, a))
+      narrow_has first from f (λ i y k. let w : unsigned_abs (get_or f.coefs i y) ≤ 256 = (s.0) i y k in omega (arith, w)) (omega (arith, a)) l m
 
 -- ---- What is known of them
 

@@ -261,7 +261,7 @@ pub(crate) fn widen(form: Form, more: u32) -> Result<Form, AllocError>
 }
 
 /// The form of a plain expression over the names in sight, and so many columns more.
-pub(crate) fn form_over(alloc: Global, names: u32, more: u32, e: &Ix) -> Result<Form, AllocError>
+pub fn form_over(alloc: Global, names: u32, more: u32, e: &Ix) -> Result<Form, AllocError>
     requires { IsTrue (is_plain names e.now) }
     ensures value { IfOk result (λ f. f ≡ form_of names more e.now) }
     ensures side { IfOk result (λ f. IsSide (names + more) f) }

@@ -1,5 +1,5 @@
 -- What is found by a walk is the program's.
-use Rattle.std.proofs.Common.{◌≡◌, ℕ, zero, suc, ◌≤◌, ℤ, false, true≢false, List, [], ◌∷◌, length, map, Some, None, refl, sym, ap, subst, ◌∙◌, arith}
+use Rattle.std.proofs.Common.{◌≡◌, ℕ, zero, suc, ◌+◌, ◌≤◌, ℤ, false, true≢false, List, [], ◌∷◌, length, map, Some, None, refl, sym, ap, subst, ◌∙◌, arith}
 use Rattle.std.specs.Prelude.{slice_get, if◌then◌else◌}
 use Rattle.std.specs.List.{All}
 use Rattle.affc_ast.specs.declared.tree.Compare.{Compare}
@@ -10,21 +10,25 @@ use Rattle.affc_trace.specs.declared.schedule.TimeMap.{TimeMap}
 use Rattle.affc_trace.specs.declared.schedule.Schedule.TheVariants.{Time}
 use Rattle.affc_domain.specs.Loops.{loop_numbers}
 use Rattle.affc_domain.specs.Ranges.{Ranges, Within, Never, Wide, ranges_of, number_ranges}
-use Rattle.affc_domain.specs.Rounds.{Round, rounds}
+use Rattle.affc_domain.specs.Rounds.{Round, rounds, loops_in}
 use Rattle.affc_domain.proofs.CountLemmas.{numbers_of_each}
-use Rattle.affc_domain.proofs.PlainLemmas.{rounds_of_each}
+use Rattle.affc_domain.proofs.PlainLemmas.{rounds_of_each, assignments_are_plain, few_loops}
 use Rattle.affc_nest.specs.declared.nest.Nest.{Nest}
 use Rattle.affc_nest.specs.Laws.{HasNest}
 use Rattle.affc_nest.specs.Nests.{is_alive, ranges_in, entries_of, nest_of}
 use Rattle.affc_nest.specs.Sites.{Place, all_assigned, places_of}
 use Rattle.affc_nest.proofs.PlaceLemmas.{rounds_walked, assignments_walked}
-use Rattle.affc_loops.specs.Laws.{HasLoops}
+use Rattle.affc_nest.proofs.QuestionLemmas.{place_of, there_is, below_length}
+use Rattle.affc_loops.specs.Laws.{HaveSameLoops}
 use Rattle.affc_loops.specs.Limits.{IsSmall}
 use Rattle.affc_loops.specs.Loops.{Piece, box_in, boxes, pieces_from, pieces, times_of, time_ranges, block_of, loops, body_of, target_program}
 use Rattle.affc_loops.specs.Spans.{hulls}
 use Rattle.affc_loops.proofs.Boxes.{is_wide, none_wide}
 use Rattle.affc_loops.proofs.Pieces.{numbers_are}
+use Rattle.affc_loops.proofs.SameLoops.{boxes_same}
+use Rattle.affc_scan.specs.Laws.{IsNestFor, OwnNest}
 use Rattle.affc_scan.specs.Pieces.{box_of, pieces_at, unnumbered, AllPrintable, AllSpan}
+use Rattle.affc_scan.proofs.SightProofs.{assignment_sight}
 use Rattle.affc_scan.proofs.Fitting.{all_printable, all_span, ranges_small, ranges_short}
 
 -- ---- Boxes
@@ -49,15 +53,18 @@ entries_boxes program h =
     boxes_are (number_ranges program.params) program.context 0 (rounds program) (loop_numbers program) (assignments program)
     (rounds_of_each program ∙ sym (numbers_of_each program)) (rounds_of_each program) (none_wide (number_ranges program.params) 0 (rounds program) h.near)
 
-pub parts_are : (program : Program) (nest : Nest) (maps : List TimeMap) (found : List Place) (ps : List Piece) → HasNest program → nest ≡ nest_of program → found ≡ places_of program
+-- a nest that is the source's gives the boxes of a program with the source's loops
+nest_boxes : (source other : Program) (nest : Nest) → HasNest source → HaveSameLoops source other → nest ≡ nest_of source → map box_of nest.entries ≡ boxes other
+nest_boxes source other nest h same e = ap (λ (q : Nest). map box_of q.entries) e ∙ entries_boxes source h ∙ sym (boxes_same source other same)
+
+parts_are : (program : Program) (nest : Nest) (maps : List TimeMap) (found : List Place) (ps : List Piece) → map box_of nest.entries ≡ boxes program → found ≡ places_of program
     → ps ≡ map unnumbered (pieces_at found nest.entries maps) → ps ≡ map unnumbered (pieces program maps)
-parts_are program nest maps found ps h e f g =
+parts_are program nest maps found ps e f g =
     g
-    ∙ ap (λ (q : Nest). map unnumbered (pieces_at found q.entries maps)) e
-    ∙ ap (λ q. map unnumbered (pieces_at q (nest_of program).entries maps)) f
-    ∙ ap (λ rss. map unnumbered (pieces_from 0 rss (all_assigned (places_of program)) maps (map box_of (nest_of program).entries))) (rounds_walked program)
-    ∙ ap (λ as'. map unnumbered (pieces_from 0 (rounds program) as' maps (map box_of (nest_of program).entries))) (assignments_walked program)
-    ∙ ap (λ bs. map unnumbered (pieces_from 0 (rounds program) (assignments program) maps bs)) (entries_boxes program h)
+    ∙ ap (λ q. map unnumbered (pieces_at q nest.entries maps)) f
+    ∙ ap (λ rss. map unnumbered (pieces_from 0 rss (all_assigned (places_of program)) maps (map box_of nest.entries))) (rounds_walked program)
+    ∙ ap (λ as'. map unnumbered (pieces_from 0 (rounds program) as' maps (map box_of nest.entries))) (assignments_walked program)
+    ∙ ap (λ bs. map unnumbered (pieces_from 0 (rounds program) (assignments program) maps bs)) e
 
 -- ---- Numbers don't matter
 
@@ -76,33 +83,43 @@ body_same first ranges (e ∷ es) = ap (loops ranges 0) (blocks_same first (leng
 
 -- ---- The whole
 
-module _ (program : Program) (nest : Nest) (n : ℕ) (maps : List TimeMap) (found : List Place) (ps : List Piece) (has : HasNest program) (is : nest ≡ nest_of program)
-    (h : HasLoops program (Time n maps)) (walked : found ≡ places_of program) (parts : ps ≡ map unnumbered (pieces_at found nest.entries maps)) where
+module _ (program : Program) (nest : Nest) (n : ℕ) (maps : List TimeMap) (found : List Place) (ps : List Piece) (is : IsNestFor program nest (Time n maps))
+    (walked : found ≡ places_of program) (parts : ps ≡ map unnumbered (pieces_at found nest.entries maps)) where
+  abbrev own : List (ℤ × ℤ)
+  own = number_ranges is.source.params
+
+  own_params : nest.params ≡ own
+  own_params = ap (λ (q : Nest). q.params) is.its_nest
+
   params_are : nest.params ≡ number_ranges program.params
-  params_are = ap (λ (q : Nest). q.params) is
+  params_are = own_params ∙ sym is.same_loops.same_ranges
 
   same : ps ≡ map unnumbered (pieces program maps)
-  same = parts_are program nest maps found ps has is walked parts
+  same =
+      parts_are program nest maps found ps
+      (nest_boxes is.source program nest (record { plain = is.has_loops.plain; near = is.has_loops.near }) is.same_loops is.its_nest) walked parts
+
+  ranges_own : time_ranges nest.params ps ≡ time_ranges own (pieces program maps)
+  ranges_own = ap (λ q. time_ranges q ps) own_params ∙ ap (time_ranges own) same ∙ times_same own (pieces program maps)
 
   ranges_same : time_ranges nest.params ps ≡ time_ranges (number_ranges program.params) (pieces program maps)
-  ranges_same =
-      ap (λ q. time_ranges q ps) params_are ∙ ap (time_ranges (number_ranges program.params)) same ∙ times_same (number_ranges program.params) (pieces program maps)
+  ranges_same = ranges_own ∙ ap (λ q. time_ranges q (pieces program maps)) (sym is.same_loops.same_ranges)
 
   pub few_there : length nest.params ≤ 4
-  few_there = subst (λ q. length q ≤ 4) (sym params_are) (h.plain).few_numbers
+  few_there = subst (λ q. length q ≤ 4) (sym own_params) is.has_loops.plain.few_numbers
 
   pub printable_there : (first : ℕ) → first ≡ length nest.params → AllPrintable first ps
   printable_there first e =
-      subst (λ k. AllPrintable k ps) (sym (e ∙ ap length params_are)) (subst (AllPrintable (length (number_ranges program.params))) (sym same) (all_printable program n maps h))
+      subst (λ k. AllPrintable k ps) (sym (e ∙ ap length own_params)) (subst (AllPrintable (length own)) (sym same) (all_printable is.source program n maps is.has_loops is.same_loops is.in_sight))
 
   pub spans_there : AllSpan nest.params ps
-  spans_there = subst (λ q. AllSpan q ps) (sym params_are) (subst (AllSpan (number_ranges program.params)) (sym same) (all_span program n maps h))
+  spans_there = subst (λ q. AllSpan q ps) (sym own_params) (subst (AllSpan own) (sym same) (all_span is.source program n maps is.has_loops is.same_loops is.in_sight))
 
   pub small_there : All IsSmall (time_ranges nest.params ps)
-  small_there = subst (All IsSmall) (sym ranges_same) (ranges_small program n maps h)
+  small_there = subst (All IsSmall) (sym ranges_own) (ranges_small is.source program n maps is.has_loops is.same_loops is.in_sight)
 
   pub short_there : length (time_ranges nest.params ps) ≤ 12
-  short_there = subst (λ rs. length rs ≤ 12) (sym ranges_same) (ranges_short program n maps h)
+  short_there = subst (λ rs. length rs ≤ 12) (sym ranges_own) (ranges_short is.source program n maps is.has_loops is.same_loops is.in_sight)
 
   pub body_there : (first : ℕ) (b : List Stmt) → first ≡ length nest.params → b ≡ body_of first (time_ranges nest.params ps) ps → b ≡ (target_program program (Time n maps)).body
   body_there first b f e =
@@ -113,3 +130,22 @@ module _ (program : Program) (nest : Nest) (n : ℕ) (maps : List TimeMap) (foun
       ∙ ap (body_of (length (number_ranges program.params)) (time_ranges (number_ranges program.params) (pieces program maps))) same
       ∙ body_same (length (number_ranges program.params)) (time_ranges (number_ranges program.params) (pieces program maps)) (pieces program maps)
       ∙ ap (λ k. body_of k (time_ranges (number_ranges program.params) (pieces program maps)) (pieces program maps)) (sym (numbers_are program.params))
+
+-- ---- A source's own nest
+
+pub own_nest : OwnNest
+own_nest source nest schedule h e = record {
+  source = source;
+  has_loops = h;
+  same_loops = record { same_rounds = refl; same_ranges = refl };
+  its_nest = e;
+  in_sight = λ a i.
+      let k = place_of (assignments source) a i in
+      let long = rounds_of_each source in
+      let below = below_length (assignments source) k.0 a k.1 in
+      let rs = there_is (rounds source) k.0 (omega (arith, long, below)) in
+      let there = assignments_are_plain source h.plain k.0 rs.0 a rs.1 k.1 in
+      let loops = few_loops (length (number_ranges source.params)) 0 0 rs.0 (omega arith) there.0 in
+      let few = h.plain.few_numbers in
+      assignment_sight (length (number_ranges source.params) + (0 + loops_in rs.0)) (omega (arith, loops, few)) a there.1;
+}

@@ -3,3 +3,4 @@ pub mod InSight
 pub mod Blocks
 pub mod Pieces
 pub mod Parts
+pub mod Laws

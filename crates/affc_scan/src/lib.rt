@@ -3,6 +3,7 @@
 
 mod blocks;
 mod forms;
+pub mod laws;
 mod loops;
 mod moved;
 mod parts;

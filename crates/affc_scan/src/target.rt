@@ -1,14 +1,11 @@
 //! The program of a schedule.
-ghost use Rattle.std.specs.Prelude.{◌≡◌, ◌≤◌, ◌+◌, ◌++◌, map, length, true, IsTrue, IfOk};
+ghost use Rattle.std.specs.Prelude.{◌≡◌, ◌≤◌, ◌+◌, ◌++◌, map, length, true, IfOk};
 ghost use Rattle.std.specs.List.{All};
 ghost use Rattle.affc_system.specs.Boxes.{IsBox};
-ghost use Rattle.affc_trace.specs.Target.{IsScheduleOf, within_limits};
-ghost use Rattle.affc_loops.specs.Laws.{HasLoops};
 ghost use Rattle.affc_loops.specs.Limits.{IsSmall};
 ghost use Rattle.affc_trace.specs.declared.schedule.Schedule.TheVariants.{Time};
 ghost use Rattle.affc_loops.specs.Loops as specs;
-ghost use Rattle.affc_nest.specs.Laws.{HasNest};
-ghost use Rattle.affc_nest.specs.Nests.{nest_of};
+ghost use Rattle.affc_scan.specs.Laws.{IsNestFor};
 ghost use Rattle.affc_scan.specs.Parts.{piece};
 ghost use Rattle.affc_scan.specs.Pieces.{HasSpans, AllPrintable, AllSpan};
 
@@ -166,9 +163,7 @@ fn statements(
     length: u32,
     maps: &[TimeMap],
 ) -> Result<Items<Stmt>, AllocError>
-    requires nest { HasNest program.now }
-    requires is { nest.now ≡ nest_of program.now }
-    requires loops { HasLoops program.now (Time length maps.now) }
+    requires nest { IsNestFor program.now nest.now (Time length maps.now) }
     ensures { IfOk result (λ b. b ≡ (specs.target_program program.now (Time length maps.now)).body) }
 {
     let sites = all_sites(alloc, program)?;
@@ -179,17 +174,15 @@ fn statements(
 }
 
 /// The program that runs `program` in the order of a schedule: for times, loops over their ranges with a block for each
-/// statement that can have instances; for the source's order, the program itself.
+/// statement that can have instances; for the source's order, the program itself. The nest is the source's, where `program` is
+/// the source with other subscripts.
 pub fn scan(
     alloc: Global,
     program: &Program,
     nest: &Nest,
     schedule: &Schedule,
 ) -> Result<Program, AllocError>
-    requires program { HasNest program.now }
-    requires nest { nest.now ≡ nest_of program.now }
-    requires scheduled { IsScheduleOf program.now schedule.now }
-    requires within { IsTrue (within_limits schedule.now) }
+    requires nest { IsNestFor program.now nest.now schedule.now }
     ensures { IfOk result (λ q. q ≡ specs.target_program program.now schedule.now) }
 {
     match schedule {

@@ -21,7 +21,7 @@ body-requires-clause-printable c =
     let parts : ps ≡ map unnumbered (pieces_at found nest.entries maps) =
     ap (map piece) c.as_slice-3.ensures.value ∙ c.in_ok-parts.ensures ∙ ap (λ es. map unnumbered (pieces_at found es maps)) entries in
     let first : c.count-first.result ≡ length nest.params = c.count-first.ensures ∙ ap length c.ranges-2.ensures.ranges in
-    printable_there program nest c.args.length maps found ps c.requires.nest c.requires.is c.requires.loops walked parts c.count-first.result first
+    printable_there program nest c.args.length maps found ps c.requires.nest walked parts c.count-first.result first
 
 pub body-requires-clause-spans : goal.body-requires-clause-spans
 body-requires-clause-spans c =
@@ -34,7 +34,7 @@ body-requires-clause-spans c =
     let entries : c.as_slice-2.result.now ≡ nest.entries = first_of (cc, search rules, search (rules, c.as_slice-2.ensures), cc (c.as_slice-2.ensures)) in
     let parts : ps ≡ map unnumbered (pieces_at found nest.entries maps) =
     ap (map piece) c.as_slice-3.ensures.value ∙ c.in_ok-parts.ensures ∙ ap (λ es. map unnumbered (pieces_at found es maps)) entries in
-    spans_there program nest c.args.length maps found ps c.requires.nest c.requires.is c.requires.loops walked parts
+    spans_there program nest c.args.length maps found ps c.requires.nest walked parts
 
 pub body-requires-clause-small : goal.body-requires-clause-small
 body-requires-clause-small c =
@@ -47,7 +47,7 @@ body-requires-clause-small c =
     let entries : c.as_slice-2.result.now ≡ nest.entries = first_of (cc, search rules, search (rules, c.as_slice-2.ensures), cc (c.as_slice-2.ensures)) in
     let parts : ps ≡ map unnumbered (pieces_at found nest.entries maps) =
     ap (map piece) c.as_slice-3.ensures.value ∙ c.in_ok-parts.ensures ∙ ap (λ es. map unnumbered (pieces_at found es maps)) entries in
-    small_there program nest c.args.length maps found ps c.requires.nest c.requires.is c.requires.loops walked parts
+    small_there program nest c.args.length maps found ps c.requires.nest walked parts
 
 pub body-requires-clause-short : goal.body-requires-clause-short
 body-requires-clause-short c =
@@ -60,7 +60,7 @@ body-requires-clause-short c =
     let entries : c.as_slice-2.result.now ≡ nest.entries = first_of (cc, search rules, search (rules, c.as_slice-2.ensures), cc (c.as_slice-2.ensures)) in
     let parts : ps ≡ map unnumbered (pieces_at found nest.entries maps) =
     ap (map piece) c.as_slice-3.ensures.value ∙ c.in_ok-parts.ensures ∙ ap (λ es. map unnumbered (pieces_at found es maps)) entries in
-    short_there program nest c.args.length maps found ps c.requires.nest c.requires.is c.requires.loops walked parts
+    short_there program nest c.args.length maps found ps c.requires.nest walked parts
 
 pub returns : goal.returns
 returns c =
@@ -74,4 +74,4 @@ returns c =
     let parts : ps ≡ map unnumbered (pieces_at found nest.entries maps) =
     ap (map piece) c.as_slice-3.ensures.value ∙ c.in_ok-parts.ensures ∙ ap (λ es. map unnumbered (pieces_at found es maps)) entries in
     let first : c.count-first.result ≡ length nest.params = c.count-first.ensures ∙ ap length c.ranges-2.ensures.ranges in
-    body_there program nest c.args.length maps found ps c.requires.nest c.requires.is c.requires.loops walked parts c.count-first.result c.in_ok-made.made first c.in_ok-made.ensures
+    body_there program nest c.args.length maps found ps c.requires.nest walked parts c.count-first.result c.in_ok-made.made first c.in_ok-made.ensures

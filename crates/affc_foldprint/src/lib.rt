@@ -1,0 +1,4 @@
+//! A program with folds is scanned, and printed, as its source is.
+#![tactic(auto)]
+
+pub mod laws;
