@@ -1,0 +1,13 @@
+//! What the definitions give at small lists, as laws: `specs/Examples.antt` says each.
+ghost use Rattle.affc_folds.specs.Examples.{BasesOfArrays, SpentOrNot, WholeOrNot};
+
+/// Given bases and listed ones.
+pub fn bases()
+    ensures law { BasesOfArrays }
+{}
+
+/// Budgets of which nothing is left, and others; arrays that are left whole, and others.
+pub fn ends()
+    ensures spent { SpentOrNot }
+    ensures whole { WholeOrNot }
+{}
