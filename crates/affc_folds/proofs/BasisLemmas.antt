@@ -48,7 +48,7 @@ copy_square b rows inverse e f = subst (λ is. IsSquare rows is) (sym f) (subst 
 pub copy_bounds : (fs gs : List Affine) → fs ≡ gs → HaveCoefsWithin 256 gs → HaveCoefsWithin 256 fs
 copy_bounds fs gs e h = subst (HaveCoefsWithin 256) (sym e) h
 
-shape : (rows inverse : List Affine) → Shape
+abbrev shape : (rows inverse : List Affine) → Shape
 shape rows inverse = record { rows = rows; inverse = inverse }
 
 pub same_shape : (b c : Basis) → c.rows ≡ b.rows → c.inverse ≡ b.inverse → shape_of c ≡ shape_of b

@@ -76,7 +76,7 @@ missing_before (x ∷ fs) new array e = by_test (nat_eq x.0.0 array) refl e (mis
 
 module _ (program : Program) (schedule : Schedule) (bases : List (ArrayId × Basis)) where
   pub none_yet : (budget : Account) (n : ℕ) → n ≡ length (arrays_of program.params) → AreFoldsBelow program schedule bases budget n []
-  pub none_yet budget n e = record {
+  none_yet budget n e = record {
     different = tt;
     below = λ array fold i. absurd i;
     each = λ array fold i. absurd i;
