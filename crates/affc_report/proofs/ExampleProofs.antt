@@ -1,12 +1,16 @@
 -- Each example computes.
-use Rattle.std.proofs.Common.{◌≡◌, List, [], refl, ap}
+use Rattle.std.proofs.Common.{refl, ap}
 use Rattle.std.specs.Fmt.{digits}
 use Rattle.affc_basis.specs.Listed.{Shape}
-use Rattle.affc_report.specs.Examples.{FormsAreWritten, TreesAreWritten, LoadsAreWritten, MarksAreWritten, ModuliAreWritten, BasesAreWritten, FoldsAreWritten}
+use Rattle.affc_report.specs.Examples.{FormsAreWritten, NamesAreWritten, TreesAreWritten, LoadsAreWritten, MarksAreWritten, ModuliAreWritten, BasesAreWritten, FoldsAreWritten}
 
 pub forms_are_written : FormsAreWritten
 unfolding digits
 forms_are_written = (refl, refl, refl, refl, refl)
+
+pub names_are_written : NamesAreWritten
+unfolding digits
+names_are_written = refl
 
 pub trees_are_written : TreesAreWritten
 unfolding digits
@@ -18,7 +22,7 @@ loads_are_written = refl
 
 pub marks_are_written : MarksAreWritten
 unfolding digits
-marks_are_written = (refl, refl, refl, refl, refl)
+marks_are_written = (refl, refl, refl, refl, refl, refl, refl)
 
 pub moduli_are_written : ModuliAreWritten
 unfolding digits

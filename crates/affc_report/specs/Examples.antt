@@ -2,7 +2,6 @@
 use Rattle.std.specs.Prelude.{◌≡◌, ℕ, ℤ, pos, negsuc, Bool, true, false, ◌∷◌, [], codes, List, Option, Some, None}
 use Rattle.affc_rows.specs.Forms.{Affine}
 use Rattle.affc_ast.specs.declared.tree.ArrayId.{ArrayId}
-use Rattle.affc_basis.specs.declared.fold.Mark.{Mark}
 use Rattle.affc_basis.specs.declared.fold.Mark.TheVariants.{Least, Bound}
 use Rattle.affc_basis.specs.declared.fold.Modulus.{Modulus}
 use Rattle.affc_basis.specs.declared.fold.Fold.{Fold}
@@ -14,7 +13,7 @@ use Rattle.affc_nest.specs.declared.nest.Nest.{Nest}
 use Rattle.affc_quast.specs.Trees.{Tree, Test, Div, Source, Input}
 use Rattle.affc_schedtext.specs.declared.outline.ArrayOutline.{ArrayOutline}
 use Rattle.affc_schedtext.specs.declared.outline.Outline.{Outline}
-use Rattle.affc_report.specs.Forms.{form_text}
+use Rattle.affc_report.specs.Forms.{form_text, named_form}
 use Rattle.affc_report.specs.Trees.{tree_text, flow_text}
 use Rattle.affc_report.specs.Folds.{mark_text, moduli_text, basis_text, fold_report}
 
@@ -27,6 +26,10 @@ FormsAreWritten = (form_text [] (pos 0) ≡ codes "0")
     × (form_text ((pos 1, codes "i") ∷ (negsuc 0, codes "N") ∷ []) (pos 1) ≡ codes "i - N + 1")
     × (form_text ((negsuc 0, codes "i") ∷ (pos 0, codes "j") ∷ (pos 3, codes "N") ∷ []) (negsuc 0) ≡ codes "-i + 3 * N - 1")
     × (form_text ((pos 0, codes "i") ∷ (negsuc 1, codes "j") ∷ (negsuc 4, codes "N") ∷ []) (pos 0) ≡ codes "-(2 * j) - 5 * N")
+
+-- a column without a name is left out
+abbrev pub NamesAreWritten : Type 0
+NamesAreWritten = named_form (codes "N" ∷ codes "M" ∷ []) (form (pos 1 ∷ pos 2 ∷ pos 3 ∷ []) (pos 4)) ≡ codes "N + 2 * M + 4"
 
 -- over N, i: S0(i - 1) where i is at least 1, and else S1 at the half of i + N + 1
 abbrev tree : Tree
@@ -78,6 +81,8 @@ MarksAreWritten = (mark_text n_and_m (Least (pos 4 ∷ negsuc 6 ∷ []) pair) �
     × (mark_text (codes "N" ∷ []) (Least (pos 4 ∷ []) None) ≡ codes " least at N=4 no pair")
     × (mark_text [] (Least [] None) ≡ codes " least no pair")
     × (mark_text n_and_m Bound ≡ codes " bound")
+    × (mark_text n_and_m (Least (pos 4 ∷ []) None) ≡ codes " least at N=4 no pair")
+    × (mark_text (codes "N" ∷ []) (Least (pos 4 ∷ pos 7 ∷ []) None) ≡ codes " least at N=4 no pair")
 
 -- N - 3 M + 1, and 1
 abbrev moduli : List Modulus

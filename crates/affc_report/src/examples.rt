@@ -1,9 +1,14 @@
 //! Forms, trees and folds as text.
-ghost use Rattle.affc_report.specs.Examples.{FormsAreWritten, TreesAreWritten, LoadsAreWritten, MarksAreWritten, ModuliAreWritten, BasesAreWritten, FoldsAreWritten};
+ghost use Rattle.affc_report.specs.Examples.{FormsAreWritten, NamesAreWritten, TreesAreWritten, LoadsAreWritten, MarksAreWritten, ModuliAreWritten, BasesAreWritten, FoldsAreWritten};
 
 /// Forms.
 pub fn forms_are_written()
     ensures { FormsAreWritten }
+{}
+
+/// Forms over names.
+pub fn names_are_written()
+    ensures { NamesAreWritten }
 {}
 
 /// Trees.
