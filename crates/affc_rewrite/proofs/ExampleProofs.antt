@@ -1,5 +1,5 @@
 -- The examples compute.
-use Rattle.std.proofs.Common.{◌≡◌, ℕ, ◌^◌, ◌≤◌, ◌<◌, pos, true, [], ◌∷◌, length, refl, sym, lit≤, arith}
+use Rattle.std.proofs.Common.{◌≡◌, ℕ, ◌^◌, ◌≤◌, ◌<◌, pos, true, [], length, refl, sym, lit≤, arith}
 use Rattle.std.specs.Prelude.{unsigned_abs, nat_lt}
 use Rattle.std.proofs.lemmas.Bool.{ltb-true}
 use Rattle.std.proofs.lemmas.List.Elements.{All-nil, All-cons}
@@ -7,7 +7,6 @@ use denote.Hole.Carrier.{hidden}
 use Rattle.affc_ast.specs.declared.tree.Ix.TheBlock.{shape-the_row-Ix-0, hidden-the_row-Ix-0}
 use Rattle.affc_ast.specs.declared.tree.Val.TheBlock.{shape-the_row-Val-0, hidden-the_row-Val-0}
 use Rattle.affc_ast.specs.declared.tree.Stmt.TheBlock.{shape-the_row-Stmt-0, hidden-the_row-Stmt-0}
-use Rattle.affc_rows.specs.Forms.{Affine}
 use Rattle.affc_ast.specs.declared.tree.ArrayId.{ArrayId}
 use Rattle.affc_domain.proofs.Lists.{both_true}
 use Rattle.affc_basis.specs.declared.fold.Fold.{Fold}
@@ -15,7 +14,6 @@ use Rattle.affc_basis.specs.Examples.{number, with_iterator, onto, fold_at}
 use Rattle.affc_basis.specs.Folds.{KeepsLimits}
 use Rattle.affc_basis.specs.Moduli.{IsModulus}
 use Rattle.affc_rewrite.specs.Examples.{OnesAndUnits, BlurIsFolded, NothingIsFolded, BlurByParameters, BlurByExtents, TemporariesByTheirFolds, OthersKeepSubscripts, TwoDimensions, OneElement, CallsInExpressions, CallsInValues, CallsInStatements, FoldsWithinLimits, SixteenNames, NamesOutOfSight}
-use Rattle.affc_rewrite.specs.Sight.{all_see, value_sees, IsInSight}
 use Rattle.affc_rewrite.proofs.Choices.{own_kept}
 
 pub ones_and_units : OnesAndUnits

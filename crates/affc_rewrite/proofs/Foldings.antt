@@ -1,8 +1,7 @@
 -- What is known of the folds of a program, of their rows and moduli, and of an access.
-use Rattle.std.proofs.Common.{◌≡◌, ℕ, zero, suc, ◌+◌, ◌-◌, ◌<◌, ◌≤◌, Bool, true, false, IsTrue, if◌then◌else◌, List, [], ◌∷◌, length, take, drop, min, map, Some, refl, sym, ap, subst, ◌∙◌, arith, length-take, length-drop}
-use Rattle.std.specs.Prelude.{slice_get, nat_eq}
+use Rattle.std.proofs.Common.{◌≡◌, ℕ, zero, suc, ◌+◌, ◌-◌, ◌<◌, ◌≤◌, IsTrue, List, [], ◌∷◌, length, take, drop, min, map, Some, refl, sym, ap, subst, ◌∙◌, arith, length-take, length-drop}
+use Rattle.std.specs.Prelude.{slice_get}
 use Rattle.std.specs.List.{All}
-use Rattle.std.proofs.lemmas.Bool.{eqb-true, eq-eqb}
 use Rattle.std.proofs.lemmas.List.{take_all}
 use Rattle.std.proofs.lemmas.List.Elements.{All-nil, All-cons}
 use Rattle.affc_rows.specs.Forms.{Affine}
@@ -15,7 +14,6 @@ use Rattle.affc_basis.specs.declared.fold.Modulus.{Modulus}
 use Rattle.affc_basis.specs.Folds.{KeepsLimits, forms_of}
 use Rattle.affc_basis.specs.Moduli.{IsModulus}
 use Rattle.affc_rewrite.specs.declared.components.Access.{Access}
-use Rattle.affc_rewrite.specs.Rewrite.{components_from, subscripts_by}
 use Rattle.affc_rewrite.specs.Sizes.{AllSides, IsRow, IsPrintable, IsAccess}
 use Rattle.affc_rewrite.proofs.Accesses.{sides_of}
 use Rattle.affc_rewrite.proofs.FoldsPrinted.{rows_of}

@@ -1,10 +1,7 @@
 -- What the definitions give at small programs. Each was found by hand from the rules.
 use Rattle.std.specs.Prelude.{◌≡◌, ℕ, ℤ, pos, negsuc, Bool, true, false, List, [], ◌∷◌, length, map, replicate, Some, None}
-use Rattle.std.specs.List.{list_any}
 use Rattle.affc_rows.specs.Forms.{Affine}
-use Rattle.affc_ast.specs.declared.tree.ArrayId.{ArrayId}
 use Rattle.affc_ast.specs.declared.tree.Compare.{Compare}
-use Rattle.affc_ast.specs.declared.tree.Decl.{Decl}
 use Rattle.affc_ast.specs.declared.tree.Ix.{Ix}
 use Rattle.affc_ast.specs.declared.tree.Ix.TheVariants.{Name, Neg, Add, Sub, Mul, Min, Max, Floord, Ceild, Mod}
 use Rattle.affc_ast.specs.declared.tree.Local.{Local}
