@@ -1,5 +1,6 @@
 -- What is printed of the loops of a legal schedule compiles the text that its program was read from.
-use Rattle.std.proofs.Common.{◌≡◌, ◌<◌, ℕ, false, true, IsTrue, List, [], length, map, Option, Some, None, refl, sym, subst, ap, ◌∙◌}
+use Rattle.std.proofs.Common.{◌≡◌, ◌<◌, ℕ, false, true, IsTrue, List, [], length, map, Option, Some, None, refl, sym, subst, ap, ◌∙◌, arith}
+use Rattle.std.proofs.lemmas.List.Elements.{All-nil}
 use Rattle.std.proofs.lemmas.Option.{slice_get_within, none-some}
 use Rattle.affc_ast.specs.declared.tree.ArrayId.{ArrayId}
 use Rattle.affc_ast.specs.declared.tree.Program.{Program}
@@ -11,7 +12,7 @@ use Rattle.affc_cprint.proofs.Converse.{reads_back}
 use Rattle.affc_trace.specs.Effects.{effect}
 use Rattle.affc_trace.specs.declared.schedule.Schedule.{Schedule}
 use Rattle.affc_trace.specs.Laws.{IsInContext}
-use Rattle.affc_trace.specs.Target.{IsScheduleOf, within_limits}
+use Rattle.affc_trace.specs.Target.{IsScheduleOf, within_limits, numbers_in}
 use Rattle.affc_trace.proofs.Contents.{values_by_instance}
 use Rattle.affc_trace.proofs.Targets.{map_map}
 use Rattle.affc_plain.proofs.Programs.{reads_plain}
@@ -21,6 +22,7 @@ use Rattle.affc_loops.specs.Loops.{target_program}
 use Rattle.affc_split.specs.Budgets.{Account}
 use Rattle.affc_basis.specs.declared.basis.Basis.{Basis}
 use Rattle.affc_basis.specs.declared.fold.Fold.{Fold}
+use Rattle.affc_basis.specs.Folds.{KeepsLimits}
 use Rattle.affc_placed.specs.Placed.{HasFoldedLoops}
 use Rattle.affc_rewrite.specs.Laws.{FoldedProgramCompiles}
 use Rattle.affc_rewrite.specs.Rewrite.{folded_program}
@@ -90,7 +92,7 @@ pub nothing_folded : (program : Program) (schedule : Schedule) (bases : List (Ar
 nothing_folded program schedule bases budget whole = record {
   in_program = record { different = tt; each = λ array fold is. absurd is };
   bases_for = λ array fold e. absurd (none-some fold e);
-  limits = tt;
+  limits = All-nil (λ (f : ArrayId × Fold). KeepsLimits (numbers_in program.params) f.1);
   obeys = λ p inside array fold e. absurd (none-some fold e);
   marks = λ array fold e. absurd (none-some fold e);
   bound = λ array fold e has. absurd (none-some fold e);

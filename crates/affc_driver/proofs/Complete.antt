@@ -1,6 +1,6 @@
 -- A text is folded exactly where its program is never stuck, and its schedule is legal; then nothing but want
 -- of budget or of memory is in the way. So it is of its trees, without a schedule.
-use Rattle.std.proofs.Common.{◌≡◌, ℕ, ℤ, true≢false, List, [], Option, Some, None, refl, sym, ap, subst, ◌∙◌, ◌⊎◌, inl, inr}
+use Rattle.std.proofs.Common.{◌≡◌, ℕ, ℤ, true≢false, List, [], Option, Some, None, refl, sym, ap, subst, ◌∙◌, ◌⊎◌, inl, inr, arith}
 use Rattle.std.proofs.lemmas.Option.{none-some}
 use Rattle.affc_ast.specs.declared.tree.ArrayId.{ArrayId}
 use Rattle.affc_ast.specs.declared.tree.Instance.{Instance}
@@ -70,14 +70,14 @@ is_written text s p here = (safe_at text s p here).written
 -- ---- Exactly such texts are folded
 
 -- a budget that is spent at once
-at_once : Account
+abbrev at_once : Account
 at_once = record { limit = Some 0; spent = 0 }
 
 pub foldable_is_folded : FoldsWellNamed → FoldedProgramCompiles → FoldableIsFolded
 foldable_is_folded named compiled text schedule = (
   λ f.
       let s = sound_of text schedule f in
-      let none = nothing_folded f.program f.plan.schedule f.plan.folds at_once (λ whole. record { most = 0; limit = refl; reached = tt }) in (
+      let none = nothing_folded f.program f.plan.schedule f.plan.folds at_once (λ whole. record { most = 0; limit = refl; reached = omega arith }) in (
         at_once,
         (
           printed_text (target_program (folded_program f.program []) f.plan.schedule),

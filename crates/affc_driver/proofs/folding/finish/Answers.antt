@@ -1,18 +1,19 @@
-use Rattle.std.proofs.Common.{◌≡◌, ◌∙◌, [], length, sym, ap}
-use Rattle.std.proofs.lemmas.Bool.{eqb-true}
-use Rattle.std.proofs.lemmas.List.{nil_from_length}
+use Rattle.std.proofs.Common.{◌∙◌, sym, ap, subst}
 use Rattle.affc_cprint.specs.Layout.{printed_text}
-use Rattle.affc_driver.proofs.Compiled.{folds_to}
-use Rattle.affc_driver.proofs.Refused.{unbuilt, some_there}
+use Rattle.affc_loops.specs.Loops.{target_program}
+use Rattle.affc_report.specs.Folds.{fold_report}
+use Rattle.affc_scan.specs.Laws.{IsNestFor}
 use Rattle.affc_driver.proofs.folding.finish.Goals as goal
 
-pub returns-then-not-is_empty-clause-err : goal.returns-then-not-is_empty-clause-err
-returns-then-not-is_empty-clause-err c =
-    unbuilt c.args.program.now c.args.plan.now c.requires.within c.requires.written c.requires.legal
-    (some_there c.args.plan.now.folds c.as_slice.result.now c.is_empty.result c.as_slice.ensures c.is_empty.ensures c.if-not-is_empty.true)
+pub scan-requires : goal.scan-requires
+scan-requires c = record {
+  nest = subst (λ q. IsNestFor q c.args.nest.now c.args.plan.now.schedule) (sym c.in_ok-other.ensures)
+      (c.folds_are_scanned.ensures.law c.args.program.now c.args.nest.now c.args.plan.now.schedule c.args.folds.now
+      (record { plain = c.requires.plain; near = c.requires.within.near; scheduled = c.requires.fits; limits = c.requires.slight }) c.requires.in_program c.requires.nest);
+}
 
 pub returns-in-Ok-clause-ok : goal.returns-in-Ok-clause-ok
-returns-in-Ok-clause-ok c schedule has text reads bare =
-    let whole : c.args.plan.now.folds ≡ [] = sym c.as_slice.ensures ∙ nil_from_length c.as_slice.result.now (eqb-true (length c.as_slice.result.now) 0 (sym c.is_empty.ensures ∙ c.if-not-is_empty.false)) in
-    folds_to c.loops_well_named.ensures.law text schedule c.args.program.now c.args.plan.now c.in-Ok.text.items c.in_ok-report.report.items reads bare c.requires.within (c.requires.written text reads bare) has whole
-    c.requires.legal (c.in-Ok.ensures.text ∙ ap printed_text c.in_ok-target.ensures) c.in_ok-report.ensures
+returns-in-Ok-clause-ok c = record {
+  printed = c.in-Ok.ensures.text ∙ ap printed_text (c.in_ok-target.ensures ∙ ap (λ q. target_program q c.args.plan.now.schedule) c.in_ok-other.ensures);
+  told = c.in_ok-report.ensures ∙ ap (λ o. fold_report o c.args.folds.now) c.in_ok-outline.ensures;
+}
