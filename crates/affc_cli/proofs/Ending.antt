@@ -11,7 +11,7 @@ use Rattle.affc_cli.specs.Telling.{IsTold, Reports, IsPut, IsPutShort, IsPutFail
 use Rattle.affc_cli.specs.declared.pieces.Pieces.{Pieces}
 use Rattle.affc_cli.specs.declared.refusal.Operand.TheVariants as operand
 use Rattle.affc_cli.specs.declared.refusal.Refusal.{Refusal}
-use Rattle.affc_cli.specs.declared.refusal.Refusal.TheVariants.{Words, Unread, Source, Printed, Schedule, Meaning, Stuck, Illegal, Budget, Memory, Steps, Data, Unbuilt}
+use Rattle.affc_cli.specs.declared.refusal.Refusal.TheVariants.{Words, Unread, Source, Printed, Schedule, Meaning, Stuck, Illegal, Budget, Memory, Steps, Data}
 
 -- ---- Statuses and lines
 
@@ -28,7 +28,6 @@ not_zero Budget e = absurd (omega arith)
 not_zero Memory e = absurd (omega arith)
 not_zero Steps e = absurd (omega arith)
 not_zero (Data number) e = absurd (omega arith)
-not_zero Unbuilt e = absurd (omega arith)
 
 not_ten : (refusal : Refusal) → status_of refusal ≢ 10
 not_ten Words e = absurd (omega arith)
@@ -43,7 +42,6 @@ not_ten Budget e = absurd (omega arith)
 not_ten Memory e = absurd (omega arith)
 not_ten Steps e = absurd (omega arith)
 not_ten (Data number) e = absurd (omega arith)
-not_ten Unbuilt e = absurd (omega arith)
 
 is_memory : (refusal : Refusal) → status_of refusal ≡ 9 → refusal ≡ Memory
 is_memory Words e = absurd (omega arith)
@@ -58,7 +56,6 @@ is_memory Budget e = absurd (omega arith)
 is_memory Memory e = refl
 is_memory Steps e = absurd (omega arith)
 is_memory (Data number) e = absurd (omega arith)
-is_memory Unbuilt e = absurd (omega arith)
 
 memory_line : (command : Command) (name : List ℕ) → line_of Memory name ≡ refusal_line command Memory
 memory_line (Fold source schedule budget) name = refl
@@ -109,7 +106,6 @@ ends_with (Fold source schedule budget) Budget before now cause = (6, lit< tt, r
 ends_with (Fold source schedule budget) Memory before now cause = (7, lit< tt, refl)
 ends_with (Fold source schedule budget) Steps before now cause = absurd cause
 ends_with (Fold source schedule budget) (Data number) before now cause = absurd cause
-ends_with (Fold source schedule budget) Unbuilt before now cause = (9, lit< tt, refl)
 ends_with (Run source feed limit) Words before now cause = absurd cause
 ends_with (Run source feed limit) (Unread operand.Source why) before now cause = (1, lit< tt, refl)
 ends_with (Run source feed limit) (Unread operand.Schedule why) before now cause = absurd cause
@@ -124,7 +120,6 @@ ends_with (Run source feed limit) Budget before now cause = absurd cause
 ends_with (Run source feed limit) Memory before now cause = (4, lit< tt, refl)
 ends_with (Run source feed limit) Steps before now cause = (6, lit< tt, refl)
 ends_with (Run source feed limit) (Data number) before now cause = (7, lit< tt, refl)
-ends_with (Run source feed limit) Unbuilt before now cause = absurd cause
 ends_with (Flow source) Words before now cause = absurd cause
 ends_with (Flow source) (Unread operand.Source why) before now cause = (1, lit< tt, refl)
 ends_with (Flow source) (Unread operand.Schedule why) before now cause = absurd cause
@@ -139,7 +134,6 @@ ends_with (Flow source) Budget before now cause = absurd cause
 ends_with (Flow source) Memory before now cause = (4, lit< tt, refl)
 ends_with (Flow source) Steps before now cause = absurd cause
 ends_with (Flow source) (Data number) before now cause = absurd cause
-ends_with (Flow source) Unbuilt before now cause = absurd cause
 
 -- ---- Refused
 
@@ -348,14 +342,14 @@ run_caused source feed limit name before now (Ok text) cause reads is = tt
 run_caused source feed limit name before now (Err refusal) cause reads is = (cause, (reads, ap (line_of refusal) is))
 
 pub fold_ends : (source : List ℕ) (budget : Option ℕ) (before now : Outside) (status : ℕ) (made : Result Pieces Refusal)
-    → IfOk made (λ m. FoldPromises source None before.folder.held m.text.items m.report.items) → IfErr made (λ refusal. FoldCause refusal source None budget before.folder now.folder)
+    → IfOk made (λ m. FoldPromises source None budget before.folder.held m.text.items m.report.items) → IfErr made (λ refusal. FoldCause refusal source None budget before.folder now.folder)
     → IsRead 1 before.folder now.folder
     → Ends made source before.out now.out before.err now.err status → Keeps before now → Runs (Fold source None budget) before now status
 fold_ends source budget before now status made promised cause reads ends keeps =
     ends_runs (Fold source None budget) source before now status made promised (fold_read before now made reads) (fold_caused source budget before now made reads cause) ends keeps
 
 pub fold_by_ends : (source schedule : List ℕ) (budget : Option ℕ) (name : List ℕ) (before now : Outside) (status : ℕ) (made : Result Pieces Refusal)
-    → IfOk made (λ m. FoldPromises source (Some schedule) before.folder.held m.text.items m.report.items) → OnOk made (IsRead 2 before.folder now.folder)
+    → IfOk made (λ m. FoldPromises source (Some schedule) budget before.folder.held m.text.items m.report.items) → OnOk made (IsRead 2 before.folder now.folder)
     → IfErr made (λ refusal. FoldCause refusal source (Some schedule) budget before.folder now.folder)
     → IfErr made (λ refusal. HasRead (Fold source (Some schedule) budget) refusal before.folder now.folder)
     → IfErr made (λ refusal. name ≡ fold_file refusal source (Some schedule))

@@ -11,7 +11,7 @@ use Rattle.affc_cli.specs.Meaning.{meaning_line, unwritten_line, IsMeantLine}
 use Rattle.affc_cli.specs.Schedule.{sched_line, illegal_line, IsSchedLine, IsIllegalLine}
 use Rattle.affc_cli.specs.Refusal.{UnreadCause, MeantCause, TextCause, FlowTextCause}
 use Rattle.affc_cli.specs.declared.refusal.Refusal.{Refusal}
-use Rattle.affc_cli.specs.declared.refusal.Refusal.TheVariants.{Words, Unread, Source, Printed, Schedule, Meaning, Stuck, Illegal, Budget, Memory, Steps, Data, Unbuilt}
+use Rattle.affc_cli.specs.declared.refusal.Refusal.TheVariants.{Words, Unread, Source, Printed, Schedule, Meaning, Stuck, Illegal, Budget, Memory, Steps, Data}
 
 -- one text reads as one program
 abbrev OneProgram : Type 0
@@ -69,7 +69,6 @@ unread source schedule budget Budget cause = absurd cause
 unread source schedule budget Memory cause = tt
 unread source schedule budget Steps cause = absurd cause
 unread source schedule budget (Data number) cause = absurd cause
-unread source schedule budget Unbuilt cause = absurd cause
 
 -- and by what looks at its program
 pub unread_meant : (source : List ℕ) (schedule : Option (List ℕ)) (refusal : Refusal) → UnreadCause source refusal → MeantCause source schedule refusal
@@ -85,7 +84,6 @@ unread_meant source schedule Budget cause = absurd cause
 unread_meant source schedule Memory cause = tt
 unread_meant source schedule Steps cause = absurd cause
 unread_meant source schedule (Data number) cause = absurd cause
-unread_meant source schedule Unbuilt cause = absurd cause
 
 -- what is wrong with a program is told by `fold`, and by `flow`
 pub meant_text : (source : List ℕ) (schedule : Option (List ℕ)) (budget : Option ℕ) (refusal : Refusal) → MeantCause source schedule refusal → TextCause source schedule budget refusal
@@ -101,7 +99,6 @@ meant_text source schedule budget Budget cause = absurd cause
 meant_text source schedule budget Memory cause = tt
 meant_text source schedule budget Steps cause = absurd cause
 meant_text source schedule budget (Data number) cause = absurd cause
-meant_text source schedule budget Unbuilt cause = absurd cause
 
 pub meant_trees : (source : List ℕ) (refusal : Refusal) → MeantCause source None refusal → FlowTextCause source refusal
 meant_trees source Words cause = absurd cause
@@ -116,7 +113,6 @@ meant_trees source Budget cause = absurd cause
 meant_trees source Memory cause = tt
 meant_trees source Steps cause = absurd cause
 meant_trees source (Data number) cause = absurd cause
-meant_trees source Unbuilt cause = absurd cause
 
 -- units were spent where there is a limit
 pub counted : (budget limit before : Option ℕ) (spent : ℕ) → before ≡ budget → limit ≡ before → limit ≡ Some spent → IsSome budget

@@ -3,13 +3,13 @@ use Rattle.std.proofs.Common.{◌≡◌, ℕ, List, [], Option, None, Some, Resu
 use Rattle.affc_io.specs.Files.{Holds}
 use Rattle.affc_io.specs.State.{Files, FolderState}
 use Rattle.affc_driver.specs.Flows.{FlowsTo}
-use Rattle.affc_driver.specs.Folds.{FoldsTo}
+use Rattle.affc_cli.specs.Budgets.{FoldsWithin}
 use Rattle.affc_cli.specs.Promise.{FoldPromises, RunPromises, FlowPromises}
 use Rattle.affc_cli.specs.Refusal.{TextCause, FoldTexts, FoldCause, FlowTextCause, FlowCause, HeldTexts, RunCause}
 use Rattle.affc_cli.specs.Run.{RunsTo, RunTextCause}
 use Rattle.affc_cli.specs.declared.pieces.Pieces.{Pieces}
 use Rattle.affc_cli.specs.declared.refusal.Refusal.{Refusal}
-use Rattle.affc_cli.specs.declared.refusal.Refusal.TheVariants.{Words, Unread, Source, Printed, Schedule, Meaning, Stuck, Illegal, Budget, Memory, Steps, Data, Unbuilt}
+use Rattle.affc_cli.specs.declared.refusal.Refusal.TheVariants.{Words, Unread, Source, Printed, Schedule, Meaning, Stuck, Illegal, Budget, Memory, Steps, Data}
 
 -- ---- The two texts, of which the second was read from a folder that holds the same
 
@@ -40,7 +40,6 @@ caused source feed limit before now t Budget cause = absurd cause
 caused source feed limit before now t Memory cause = tt
 caused source feed limit before now t Steps cause = record { texts = t; cause = cause }
 caused source feed limit before now t (Data number) cause = record { texts = t; cause = cause }
-caused source feed limit before now t Unbuilt cause = absurd cause
 
 pub run_caused : (source feed : List ℕ) (limit : ℕ) (before now : FolderState) (t : HeldTexts before.held source feed) (made : Result Pieces Refusal)
     → IfErr made (RunTextCause t.source_text t.feed_text limit) → IfErr made (λ refusal. RunCause refusal source feed limit before now)
@@ -66,10 +65,10 @@ with_schedule held later source schedule s s' f f' has_source is same has_schedu
   schedule_held = subst (Holds held schedule) (sym is') (subst (λ h. Holds h schedule f) same has_schedule);
 }
 
-pub fold_promised : (held : Option Files) (source : List ℕ) (schedule : Option (List ℕ)) (t : FoldTexts held source schedule) (made : Result Pieces Refusal)
-    → IfOk made (λ m. FoldsTo t.source_text t.schedule_text m.text.items m.report.items) → IfOk made (λ m. FoldPromises source schedule held m.text.items m.report.items)
-fold_promised held source schedule t (Ok m) folds = record { texts = t; folds_to = folds }
-fold_promised held source schedule t (Err refusal) folds = tt
+pub fold_promised : (held : Option Files) (source : List ℕ) (schedule : Option (List ℕ)) (budget : Option ℕ) (t : FoldTexts held source schedule) (made : Result Pieces Refusal)
+    → IfOk made (λ m. FoldsWithin t.source_text t.schedule_text budget m.text.items m.report.items) → IfOk made (λ m. FoldPromises source schedule budget held m.text.items m.report.items)
+fold_promised held source schedule budget t (Ok m) folds = record { texts = t; folds_to = folds }
+fold_promised held source schedule budget t (Err refusal) folds = tt
 
 refused : (source : List ℕ) (schedule : Option (List ℕ)) (budget : Option ℕ) (before now : FolderState) (t : FoldTexts before.held source schedule) (refusal : Refusal)
     → TextCause t.source_text t.schedule_text budget refusal → FoldCause refusal source schedule budget before now
@@ -85,7 +84,6 @@ refused source schedule budget before now t Budget cause = record { texts = t; c
 refused source schedule budget before now t Memory cause = tt
 refused source schedule budget before now t Steps cause = absurd cause
 refused source schedule budget before now t (Data number) cause = absurd cause
-refused source schedule budget before now t Unbuilt cause = record { texts = t; cause = cause }
 
 pub fold_refused : (source : List ℕ) (schedule : Option (List ℕ)) (budget : Option ℕ) (before now : FolderState) (t : FoldTexts before.held source schedule) (made : Result Pieces Refusal)
     → IfErr made (TextCause t.source_text t.schedule_text budget) → IfErr made (λ refusal. FoldCause refusal source schedule budget before now)
@@ -112,7 +110,6 @@ untold source s before now Budget has cause = absurd cause
 untold source s before now Memory has cause = tt
 untold source s before now Steps has cause = absurd cause
 untold source s before now (Data number) has cause = absurd cause
-untold source s before now Unbuilt has cause = absurd cause
 
 pub flow_refused : (source s s' : List ℕ) (before now : FolderState) → Holds before.held source s → s' ≡ s → (made : Result Pieces Refusal)
     → IfErr made (FlowTextCause s') → IfErr made (λ refusal. FlowCause refusal source before now)

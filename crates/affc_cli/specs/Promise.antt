@@ -11,7 +11,7 @@ use Rattle.affc_io.specs.Front.{IsFront}
 use Rattle.affc_io.specs.State.{Files, FolderState}
 use Rattle.affc_io.specs.Taken.{grown}
 use Rattle.affc_driver.specs.Flows.{FlowsTo}
-use Rattle.affc_driver.specs.Folds.{FoldsTo}
+use Rattle.affc_cli.specs.Budgets.{FoldsWithin}
 use Rattle.affc_cli.specs.Command.{Command, Fold, Run, Flow, command_of, texts_of}
 use Rattle.affc_cli.specs.Outside.{Outside, Keeps, Told, IsRead, IsReadAtMost}
 use Rattle.affc_cli.specs.Refusal.{status_of, line_of, FoldTexts, FoldCause, fold_file, FlowCause, HeldTexts, RunCause, file_of}
@@ -20,10 +20,11 @@ use Rattle.affc_cli.specs.declared.refusal.Operand.TheVariants as operand
 use Rattle.affc_cli.specs.declared.refusal.Refusal.{Refusal}
 use Rattle.affc_cli.specs.declared.refusal.Refusal.TheVariants.{Words, Unread, Memory}
 
--- Text and report are what is made of the source and the schedule that the names held, where the folder tells what it holds.
-pub record FoldPromises (source : List ℕ) (schedule : Option (List ℕ)) (held : Option Files) (text report : List ℕ) : Type 0 where
+-- Text and report are what is made of the source and the schedule that the names held, where the folder tells what it holds,
+-- within this budget or without one.
+pub record FoldPromises (source : List ℕ) (schedule : Option (List ℕ)) (budget : Option ℕ) (held : Option Files) (text report : List ℕ) : Type 0 where
   pub texts : FoldTexts held source schedule
-  pub folds_to : FoldsTo texts.source_text texts.schedule_text text report
+  pub folds_to : FoldsWithin texts.source_text texts.schedule_text budget text report
 
 -- The text is what the output arrays hold when the source that one name held has run on the data text that the other
 -- held, where the folder tells what it holds; the report is empty.
@@ -42,13 +43,13 @@ pub record FlowPromises (source : List ℕ) (held : Option Files) (text report :
 
 -- The pieces of status 0: the text for out, then the report for err.
 abbrev pub Promises : Command → Option Files → (text report : List ℕ) → Type 0
-Promises (Fold source schedule budget) held text report = FoldPromises source schedule held text report
+Promises (Fold source schedule budget) held text report = FoldPromises source schedule budget held text report
 Promises (Run source feed limit) held text report = RunPromises source feed limit held text report
 Promises (Flow source) held text report = FlowPromises source held text report
 
 -- The statuses that a command ends with.
 abbrev pub statuses_of : Command → List ℕ
-statuses_of (Fold source schedule budget) = 0 ∷ 3 ∷ 4 ∷ 5 ∷ 6 ∷ 7 ∷ 8 ∷ 9 ∷ 10 ∷ 14 ∷ []
+statuses_of (Fold source schedule budget) = 0 ∷ 3 ∷ 4 ∷ 5 ∷ 6 ∷ 7 ∷ 8 ∷ 9 ∷ 10 ∷ []
 statuses_of (Run source feed limit) = 0 ∷ 3 ∷ 4 ∷ 5 ∷ 9 ∷ 10 ∷ 12 ∷ 13 ∷ []
 statuses_of (Flow source) = 0 ∷ 3 ∷ 4 ∷ 5 ∷ 9 ∷ 10 ∷ []
 

@@ -3,14 +3,14 @@ use Rattle.std.specs.Prelude.{◌≡◌, ◌⊎◌, ℕ, List, ◌++◌, Option,
 use Rattle.affc_io.specs.Count.{Rose}
 use Rattle.affc_io.specs.Files.{Holds, NotHeld, TooLong}
 use Rattle.affc_io.specs.State.{Files, FolderState}
-use Rattle.affc_driver.specs.Refusals.{IsSourceFault, IsPrinted, IsUnbuilt}
+use Rattle.affc_driver.specs.Refusals.{IsSourceFault, IsPrinted}
 use Rattle.affc_cli.specs.Meaning.{IsMeantLine}
 use Rattle.affc_cli.specs.Run.{RunTextCause}
 use Rattle.affc_cli.specs.Schedule.{IsSchedLine, IsIllegalLine}
 use Rattle.affc_cli.specs.Words.{fault_line, source_line}
 use Rattle.affc_cli.specs.declared.refusal.Operand.TheVariants as operand
 use Rattle.affc_cli.specs.declared.refusal.Refusal.{Refusal}
-use Rattle.affc_cli.specs.declared.refusal.Refusal.TheVariants.{Words, Unread, Source, Printed, Schedule, Meaning, Stuck, Illegal, Budget, Memory, Steps, Data, Unbuilt}
+use Rattle.affc_cli.specs.declared.refusal.Refusal.TheVariants.{Words, Unread, Source, Printed, Schedule, Meaning, Stuck, Illegal, Budget, Memory, Steps, Data}
 use Rattle.affc_cli.specs.declared.refusal.UnreadWhy.{UnreadWhy}
 use Rattle.affc_cli.specs.declared.refusal.UnreadWhy.TheVariants.{Unreadable, Long}
 
@@ -28,7 +28,6 @@ status_of Budget = 8
 status_of Memory = 9
 status_of Steps = 12
 status_of (Data number) = 13
-status_of Unbuilt = 14
 
 -- what is said of data
 abbrev pub data_line : (number : ℕ) → List ℕ
@@ -53,7 +52,6 @@ line_of Budget name = codes "affc: budget\n"
 line_of Memory name = codes "affc: memory\n"
 line_of Steps name = codes "affc: steps\n"
 line_of (Data number) name = data_line number ++ codes "\n"
-line_of Unbuilt name = codes "affc: unbuilt\n"
 
 -- why the file of this name isn't read, from the folder before and after
 abbrev pub IsUnread : UnreadWhy → (name : List ℕ) → FolderState → FolderState → Type 0
@@ -90,7 +88,6 @@ TextCause source schedule budget Budget = IsSome budget
 TextCause source schedule budget Memory = Unit {0}
 TextCause source schedule budget Steps = ⊥
 TextCause source schedule budget (Data number) = ⊥
-TextCause source schedule budget Unbuilt = IsUnbuilt source schedule
 
 -- the text that a name holds, where that is told; no text where there is no name
 abbrev pub HoldsAny : Option Files → (name text : Option (List ℕ)) → Type 0
@@ -137,7 +134,6 @@ FoldCause Budget source schedule budget before now = TextRefused Budget before.h
 FoldCause Memory source schedule budget before now = Unit {0}
 FoldCause Steps source schedule budget before now = ⊥
 FoldCause (Data number) source schedule budget before now = ⊥
-FoldCause Unbuilt source schedule budget before now = TextRefused Unbuilt before.held source schedule budget
 
 -- the file that a refusal of `fold` means: the schedule's, or the source's
 abbrev pub fold_file : Refusal → (source : List ℕ) → (schedule : Option (List ℕ)) → List ℕ
@@ -160,7 +156,6 @@ FlowTextCause source Budget = ⊥
 FlowTextCause source Memory = Unit {0}
 FlowTextCause source Steps = ⊥
 FlowTextCause source (Data number) = ⊥
-FlowTextCause source Unbuilt = ⊥
 
 -- the source was read, and is refused so
 pub record FlowRefused (refusal : Refusal) (held : Option Files) (source : List ℕ) : Type 0 where
@@ -184,7 +179,6 @@ FlowCause Budget source before now = ⊥
 FlowCause Memory source before now = Unit {0}
 FlowCause Steps source before now = ⊥
 FlowCause (Data number) source before now = ⊥
-FlowCause Unbuilt source before now = ⊥
 
 -- ---- `run`
 
@@ -218,7 +212,6 @@ RunCause Budget source feed limit before now = ⊥
 RunCause Memory source feed limit before now = Unit {0}
 RunCause Steps source feed limit before now = TextsRefused Steps before.held source feed limit
 RunCause (Data number) source feed limit before now = TextsRefused (Data number) before.held source feed limit
-RunCause Unbuilt source feed limit before now = ⊥
 
 -- the file that a refusal of `run` means: the data's, or the source's
 abbrev pub file_of : Refusal → (source feed : List ℕ) → List ℕ

@@ -10,7 +10,7 @@ use Rattle.affc_interp.specs.Runs.{start, steps_of}
 use Rattle.affc_driver.specs.Refusals.{IsSourceFault}
 use Rattle.affc_cli.specs.Stuck.{stuck_line}
 use Rattle.affc_cli.specs.declared.refusal.Refusal.{Refusal}
-use Rattle.affc_cli.specs.declared.refusal.Refusal.TheVariants.{Words, Unread, Source, Printed, Schedule, Meaning, Stuck as StuckRun, Illegal, Budget, Memory, Steps, Data, Unbuilt}
+use Rattle.affc_cli.specs.declared.refusal.Refusal.TheVariants.{Words, Unread, Source, Printed, Schedule, Meaning, Stuck as StuckRun, Illegal, Budget, Memory, Steps, Data}
 
 -- The source reads as a program, with the prelude or without it, and the data text is data of it: the numbers p, and the
 -- values of each array.
@@ -67,4 +67,3 @@ RunTextCause source feed limit Budget = ⊥
 RunTextCause source feed limit Memory = Unit {0}
 RunTextCause source feed limit Steps = TakesMore source feed limit
 RunTextCause source feed limit (Data number) = HasWrongLine source feed number
-RunTextCause source feed limit Unbuilt = ⊥

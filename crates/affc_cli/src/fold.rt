@@ -1,6 +1,6 @@
 // One source, compiled.
 ghost use Rattle.std.specs.Prelude.{◌≡◌, IfOk, IfErr, IsSome, option_map};
-ghost use Rattle.affc_driver.specs.Folds.{FoldsTo};
+ghost use Rattle.affc_cli.specs.Budgets.{FoldsWithin};
 ghost use Rattle.affc_driver.specs.Refusals.{HasSchedFault, IsIllegal, RefusalSays};
 ghost use Rattle.affc_driver.specs.declared.refusal.Refusal.TheVariants.{Budget as Spent};
 ghost use Rattle.affc_cli.specs.Refusal.{TextCause};
@@ -92,11 +92,10 @@ fn told(
         }
         FoldRefusal::Budget => Refusal::Budget,
         FoldRefusal::Memory => Refusal::Memory,
-        FoldRefusal::Unbuilt => Refusal::Unbuilt,
     }
 }
 
-/// The text that does what the source does, in the order of the schedule, or why there is none. With a budget no more
+/// The text that does what the source does, in the order of the schedule and on folded temporaries, or why there is none. With a budget no more
 /// boxes of questions are opened than it has units.
 pub fn fold(
     alloc: Global,
@@ -104,7 +103,7 @@ pub fn fold(
     schedule: Option<&[u8]>,
     budget: Option<u64>,
 ) -> Result<Pieces, Refusal>
-    ensures ok { IfOk result (λ made. FoldsTo source.now (option_map (λ s. s.now) schedule.entry) made.text.items made.report.items) }
+    ensures ok { IfOk result (λ made. FoldsWithin source.now (option_map (λ s. s.now) schedule.entry) budget made.text.items made.report.items) }
     ensures err { IfErr result (TextCause source.now (option_map (λ s. s.now) schedule.entry) budget) }
 {
     let mut units = Budget::new(budget);

@@ -59,8 +59,6 @@ pub enum Refusal {
     Steps,
     /// The first line of the data that is wrong, counted from 1.
     Data(u64),
-    /// The program is none that can be compiled yet.
-    Unbuilt,
 }
 
 fn name_words(why: NameWhy) -> &'static str
@@ -166,7 +164,6 @@ impl Refusal {
             Refusal::Memory => 9,
             Refusal::Steps => 12,
             Refusal::Data(_) => 13,
-            Refusal::Unbuilt => 14,
         }
     }
 
@@ -199,7 +196,6 @@ impl Refusal {
                 Ok(line) => put_line(err, line.as_str(), ""),
                 Err(_) => return tell_short(err),
             },
-            Refusal::Unbuilt => put_line(err, "affc: unbuilt", ""),
         }
         self.status()
     }

@@ -57,7 +57,7 @@ fn folded_alone<F: Folder>(
 ) -> Result<Pieces, Refusal>
     ensures keeps { FolderKeeps (F.state folder.old) (F.state folder.new) }
     ensures reads { IsRead 1 (F.state folder.old) (F.state folder.new) }
-    ensures ok { IfOk result (λ made. FoldPromises source.now None (F.state folder.old).held made.text.items made.report.items) }
+    ensures ok { IfOk result (λ made. FoldPromises source.now None budget (F.state folder.old).held made.text.items made.report.items) }
     ensures err { IfErr result (λ refusal. FoldCause refusal source.now None budget (F.state folder.old) (F.state folder.new)) }
 {
     let source = contents_of(alloc, Operand::Source, source, folder)?;
@@ -74,7 +74,7 @@ fn folded_by<F: Folder>(
 ) -> Result<Pieces, Refusal>
     ensures keeps { FolderKeeps (F.state folder.old) (F.state folder.new) }
     ensures reads { OnOk result (IsRead 2 (F.state folder.old) (F.state folder.new)) }
-    ensures ok { IfOk result (λ made. FoldPromises source.now (Some schedule.now) (F.state folder.old).held made.text.items made.report.items) }
+    ensures ok { IfOk result (λ made. FoldPromises source.now (Some schedule.now) budget (F.state folder.old).held made.text.items made.report.items) }
     ensures err { IfErr result (λ refusal. FoldCause refusal source.now (Some schedule.now) budget
         (F.state folder.old) (F.state folder.new)) }
     ensures err_reads { IfErr result (λ refusal. HasRead (Fold source.now (Some schedule.now) budget) refusal

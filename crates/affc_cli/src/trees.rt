@@ -32,7 +32,6 @@ fn told(alloc: Global, source: &[u8], refusal: FlowRefusal) -> Refusal
         FlowRefusal::Schedule(_) => unreachable!(),
         FlowRefusal::Illegal { p: _, a: _, b: _ } => unreachable!(),
         FlowRefusal::Budget => unreachable!(),
-        FlowRefusal::Unbuilt => unreachable!(),
     }
 }
 

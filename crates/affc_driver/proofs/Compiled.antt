@@ -1,5 +1,7 @@
 -- What is printed of the loops of a legal schedule compiles the text that its program was read from.
-use Rattle.std.proofs.Common.{◌≡◌, ℕ, false, true, IsTrue, List, [], map, Option, Some, None, refl, sym, subst, ap, ◌∙◌}
+use Rattle.std.proofs.Common.{◌≡◌, ◌<◌, ℕ, false, true, IsTrue, List, [], length, map, Option, Some, None, refl, sym, subst, ap, ◌∙◌}
+use Rattle.std.proofs.lemmas.Option.{slice_get_within, none-some}
+use Rattle.affc_ast.specs.declared.tree.ArrayId.{ArrayId}
 use Rattle.affc_ast.specs.declared.tree.Program.{Program}
 use Rattle.affc_ast.proofs.OwnRuns.{follows_itself}
 use Rattle.affc_ast.specs.Trace.{trace}
@@ -7,6 +9,7 @@ use Rattle.affc_grammar.specs.Reads.{Reads}
 use Rattle.affc_cprint.specs.Layout.{printed_text}
 use Rattle.affc_cprint.proofs.Converse.{reads_back}
 use Rattle.affc_trace.specs.Effects.{effect}
+use Rattle.affc_trace.specs.declared.schedule.Schedule.{Schedule}
 use Rattle.affc_trace.specs.Laws.{IsInContext}
 use Rattle.affc_trace.specs.Target.{IsScheduleOf, within_limits}
 use Rattle.affc_trace.proofs.Contents.{values_by_instance}
@@ -15,14 +18,21 @@ use Rattle.affc_plain.proofs.Programs.{reads_plain}
 use Rattle.affc_safe.proofs.SafeLaws.{safe_runs}
 use Rattle.affc_loops.specs.Laws.{HasLoops}
 use Rattle.affc_loops.specs.Loops.{target_program}
-use Rattle.affc_loops.proofs.LoopLaws.{loops_compile}
-use Rattle.affc_loopprint.specs.Laws.{LoopsWellNamed}
+use Rattle.affc_split.specs.Budgets.{Account}
+use Rattle.affc_basis.specs.declared.basis.Basis.{Basis}
+use Rattle.affc_basis.specs.declared.fold.Fold.{Fold}
+use Rattle.affc_placed.specs.Placed.{HasFoldedLoops}
+use Rattle.affc_rewrite.specs.Laws.{FoldedProgramCompiles}
+use Rattle.affc_rewrite.specs.Rewrite.{folded_program}
+use Rattle.affc_foldprint.specs.Laws.{FoldsWellNamed}
+use Rattle.affc_folds.specs.Folding.{AreFoldsOf, IsLeftWhole, IsSpent}
 use Rattle.affc_schedtext.specs.declared.plan.Plan.{Plan}
 use Rattle.affc_schedtext.proofs.Scheduled.{is_scheduled, is_limited}
 use Rattle.affc_nest.specs.Laws.{NamesArrays}
 use Rattle.affc_bounds.specs.Faults.{StaysWithin}
 use Rattle.affc_bounds.proofs.LawProofs.{staying_is_safe}
 use Rattle.affc_driver.specs.Folds.{FoldsTo}
+use Rattle.affc_driver.specs.Made.{AreDecided, IsMadeOf}
 use Rattle.affc_driver.specs.Plans.{HasPlan, LegalThroughout, WrittenThroughout}
 use Rattle.affc_driver.specs.Reports.{report_text}
 use Rattle.affc_driver.specs.Laws.{CompilesItself, WithinNeverStuck, NamedIsWritten, PrintedCompiles}
@@ -74,36 +84,75 @@ has_loops text schedule program plan reads bare within planned = record {
   limits = plan_limited program schedule plan planned;
 }
 
--- ---- Its loops, which are well named
+-- ---- No folds
 
-module _ (named : LoopsWellNamed) where
-  pub folds_to : (text : List ℕ) (schedule : Option (List ℕ)) (program : Program) (plan : Plan) (folded report : List ℕ)
-      → Reads text program → program.prelude ≡ false → StaysWithin program → WrittenThroughout program
-      → HasPlan program schedule plan → plan.folds ≡ [] → LegalThroughout program plan.schedule
-      → folded ≡ printed_text (target_program program plan.schedule) → report ≡ report_text program → FoldsTo text schedule folded report
-  folds_to text schedule program plan folded report reads bare within written planned whole legal printed told =
-      let loops = has_loops text schedule program plan reads bare within planned in
-      let target = target_program program plan.schedule in
+pub nothing_folded : (program : Program) (schedule : Schedule) (bases : List (ArrayId × Basis)) (budget : Account) → (IsLeftWhole program [] → IsSpent budget) → AreFoldsOf program schedule bases budget []
+nothing_folded program schedule bases budget whole = record {
+  in_program = record { different = tt; each = λ array fold is. absurd is };
+  bases_for = λ array fold e. absurd (none-some fold e);
+  limits = tt;
+  obeys = λ p inside array fold e. absurd (none-some fold e);
+  marks = λ array fold e. absurd (none-some fold e);
+  bound = λ array fold e has. absurd (none-some fold e);
+  whole = whole;
+}
+
+-- ---- Its loops with folds, which are well named
+
+has_folded : (text : List ℕ) (schedule : Option (List ℕ)) (program : Program) (plan : Plan) (budget : Account) (folds : List (ArrayId × Fold))
+    → Reads text program → program.prelude ≡ false → StaysWithin program → WrittenThroughout program → HasPlan program schedule plan
+    → LegalThroughout program plan.schedule → AreFoldsOf program plan.schedule plan.folds budget folds → HasFoldedLoops program plan.schedule folds
+has_folded text schedule program plan budget folds reads bare within written planned legal are = record {
+  loops = has_loops text schedule program plan reads bare within planned;
+  ends = within_never_stuck text program reads bare within written;
+  legal = legal;
+  folds_in = are.in_program;
+  obeys = are.obeys;
+}
+
+module _ (named : FoldsWellNamed) (compiled : FoldedProgramCompiles) where
+  pub folds_to : (text : List ℕ) (schedule : Option (List ℕ)) (program : Program) (plan : Plan) (budget : Account) (folds : List (ArrayId × Fold)) (folded report : List ℕ)
+      → Reads text program → program.prelude ≡ false → StaysWithin program → AreDecided program plan budget folds
+      → HasPlan program schedule plan → IsMadeOf program plan folds folded report → FoldsTo text schedule budget folded report
+  folds_to text schedule program plan budget folds folded report reads bare within decided planned made =
+      let written : WrittenThroughout program = decided.written text reads bare in
+      let are = decided.are_folds in
+      let target = target_program (folded_program program folds) plan.schedule in
       record {
         plan = plan;
+        folds = folds;
         compiles = record {
           source = program;
           source_reads = reads;
           target = target;
-          target_reads = (reads_back target folded printed).0 (named text program plan.schedule reads bare loops);
-          compiles = loops_compile program plan.schedule loops (within_never_stuck text program reads bare within written) legal;
+          target_reads = (reads_back target folded made.printed).0 (named text program plan.schedule folds reads bare (has_loops text schedule program plan reads bare within planned) are.in_program are.limits);
+          compiles = compiled program plan.schedule folds (has_folded text schedule program plan budget folds reads bare within written planned decided.legal are) are.limits;
         };
         loops = refl;
-        printed = printed;
+        printed = made.printed;
         plain = bare;
         within = within;
         written = written;
         planned = planned;
-        legal = legal;
-        no_folds = whole;
-        told = told;
+        legal = decided.legal;
+        are_folds = are;
+        told = made.told;
       }
 
   pub printed_compiles : PrintedCompiles
-  printed_compiles text schedule program plan reads bare within written planned whole legal =
-      folds_to text schedule program plan (printed_text (target_program program plan.schedule)) (report_text program) reads bare within written planned whole legal refl refl
+  printed_compiles text schedule program plan budget folds reads bare within written planned legal are =
+      folds_to text schedule program plan budget folds (printed_text (target_program (folded_program program folds) plan.schedule)) (report_text program folds) reads bare within
+      (record { written = λ text reads bare. written; legal = legal; are_folds = are })
+      planned (record { printed = refl; told = refl })
+
+-- ---- Programs without temporaries
+
+-- no temporary is left whole
+none_whole : (program : Program) → program.temps ≡ [] → ¬ (IsLeftWhole program [])
+none_whole program none whole =
+    let within : whole.number < length program.temps = slice_get_within program.temps whole.number whole.decl whole.stands in
+    let empty : length program.temps ≡ 0 = ap length none in
+    absurd (omega arith)
+
+pub no_folds : (program : Program) (schedule : Schedule) (bases : List (ArrayId × Basis)) (budget : Account) → program.temps ≡ [] → AreFoldsOf program schedule bases budget []
+no_folds program schedule bases budget none = nothing_folded program schedule bases budget (λ whole. absurd (none_whole program none whole))

@@ -1,6 +1,7 @@
--- A text is folded exactly where its program is never stuck, and its schedule is legal and without folds; then nothing but want
+-- A text is folded exactly where its program is never stuck, and its schedule is legal; then nothing but want
 -- of budget or of memory is in the way. So it is of its trees, without a schedule.
 use Rattle.std.proofs.Common.{◌≡◌, ℕ, ℤ, true≢false, List, [], Option, Some, None, refl, sym, ap, subst, ◌∙◌, ◌⊎◌, inl, inr}
+use Rattle.std.proofs.lemmas.Option.{none-some}
 use Rattle.affc_ast.specs.declared.tree.ArrayId.{ArrayId}
 use Rattle.affc_ast.specs.declared.tree.Instance.{Instance}
 use Rattle.affc_ast.specs.declared.tree.Program.{Program}
@@ -20,7 +21,13 @@ use Rattle.affc_safe.proofs.EndedSafe.{unwritten_instance}
 use Rattle.affc_safe.proofs.FitsThere.{never_stuck_is_safe}
 use Rattle.affc_nest.proofs.QuestionLemmas.{stands_in}
 use Rattle.affc_loops.specs.Loops.{target_program}
-use Rattle.affc_loopprint.specs.Laws.{LoopsWellNamed}
+use Rattle.affc_split.specs.Budgets.{Account}
+use Rattle.affc_basis.specs.declared.fold.Fold.{Fold}
+use Rattle.affc_basis.specs.Folds.{fold_of}
+use Rattle.affc_rewrite.specs.Laws.{FoldedProgramCompiles}
+use Rattle.affc_rewrite.specs.Rewrite.{folded_program}
+use Rattle.affc_foldprint.specs.Laws.{FoldsWellNamed}
+use Rattle.affc_folds.specs.Folding.{IsLeftWhole, HasBound, IsSpent}
 use Rattle.affc_bounds.specs.Faults.{StaysWithin, IsMeaningFault}
 use Rattle.affc_bounds.proofs.LawProofs.{faults_do_not_stay}
 use Rattle.affc_bounds.specs.declared.fault.MeaningFault.{MeaningFault}
@@ -32,13 +39,13 @@ use Rattle.affc_sched.specs.Violations.{IsViolation}
 use Rattle.affc_flow.specs.Unwritten.{LoadsUnwritten}
 use Rattle.affc_driver.specs.Folds.{FoldsTo}
 use Rattle.affc_driver.specs.Flows.{FlowsTo}
-use Rattle.affc_driver.specs.Laws.{NeverStuck, IllegalShows, IsFoldable, FoldableIsFolded, FoldableIsNotRefused, IsSound, FlowsAreSound, SoundIsNotRefused}
+use Rattle.affc_driver.specs.Laws.{NeverStuck, IllegalShows, UnlimitedFoldsAll, IsFoldable, FoldableIsFolded, FoldableIsNotRefused, IsSound, FlowsAreSound, SoundIsNotRefused}
 use Rattle.affc_driver.specs.Plans.{HasPlan, WrittenThroughout}
 use Rattle.affc_driver.specs.Refusals.{IsSourceFault, IsPrinted, HasSchedFault, HasMeaningFault, HasUnwritten, IsIllegal}
 use Rattle.affc_driver.specs.Reports.{report_text}
-use Rattle.affc_driver.specs.declared.refusal.Refusal.TheVariants.{Source, Printed, Schedule, Meaning, Unwritten, Illegal, Budget, Memory, Unbuilt}
-use Rattle.affc_driver.proofs.Compiled.{within_never_stuck, named_is_written, printed_compiles}
-use Rattle.affc_driver.proofs.OnePlan.{one_target, one_whole}
+use Rattle.affc_driver.specs.declared.refusal.Refusal.TheVariants.{Source, Printed, Schedule, Meaning, Unwritten, Illegal, Budget, Memory}
+use Rattle.affc_driver.proofs.Compiled.{within_never_stuck, named_is_written, nothing_folded, printed_compiles}
+use Rattle.affc_driver.proofs.OnePlan.{one_target}
 use Rattle.affc_driver.proofs.Roles.{reads_roles, temporary_far}
 
 -- ---- A program that is never stuck
@@ -62,15 +69,26 @@ is_written text s p here = (safe_at text s p here).written
 
 -- ---- Exactly such texts are folded
 
-pub foldable_is_folded : LoopsWellNamed → FoldableIsFolded
-foldable_is_folded named text schedule = (
+-- a budget that is spent at once
+at_once : Account
+at_once = record { limit = Some 0; spent = 0 }
+
+pub foldable_is_folded : FoldsWellNamed → FoldedProgramCompiles → FoldableIsFolded
+foldable_is_folded named compiled text schedule = (
   λ f.
-      let s = sound_of text schedule f in (
-        printed_text (target_program f.program f.plan.schedule),
-        (report_text f.program, printed_compiles named text schedule f.program f.plan f.reads f.plain (stays_within text s) (is_written text s) f.planned f.no_folds f.legal),
+      let s = sound_of text schedule f in
+      let none = nothing_folded f.program f.plan.schedule f.plan.folds at_once (λ whole. record { most = 0; limit = refl; reached = tt }) in (
+        at_once,
+        (
+          printed_text (target_program (folded_program f.program []) f.plan.schedule),
+          (
+            report_text f.program [],
+            printed_compiles named compiled text schedule f.program f.plan at_once [] f.reads f.plain (stays_within text s) (is_written text s) f.planned f.legal none,
+          ),
+        ),
       ),
   λ r.
-      let folds : FoldsTo text schedule r.0 r.1.0 = r.1.1 in
+      let folds : FoldsTo text schedule r.0 r.1.0 r.1.1.0 = r.1.1.1 in
       let program : Program = folds.compiles.source in
       let reads : Reads text program = folds.compiles.source_reads in
       record {
@@ -82,9 +100,17 @@ foldable_is_folded named text schedule = (
         never_stuck = within_never_stuck text program reads folds.plain folds.within folds.written;
         plan = folds.plan;
         planned = folds.planned;
-        no_folds = folds.no_folds;
         legal = folds.legal;
       },
+)
+
+unlimited : (budget : Account) → budget.limit ≡ None → ¬ (IsSpent budget)
+unlimited budget none spent = absurd (none-some spent.most (sym none ∙ spent.limit))
+
+pub unlimited_folds_all : UnlimitedFoldsAll
+unlimited_folds_all text schedule budget folded report none r = (
+  λ whole. unlimited budget none (r.are_folds.whole whole),
+  λ array fold is has. unlimited budget none (r.are_folds.bound array fold is has),
 )
 
 pub flows_are_sound : FlowsAreSound
@@ -160,9 +186,6 @@ foldable_is_not_refused text schedule (Unwritten array access p b) f says = absu
 foldable_is_not_refused text schedule (Illegal p a b) f says = absurd (not_illegal text schedule p a b f says)
 foldable_is_not_refused text schedule Budget f says = inl refl
 foldable_is_not_refused text schedule Memory f says = inr refl
-foldable_is_not_refused text schedule Unbuilt f says =
-    let same = same_tree text (sound_of text schedule f) says.of.tree says.of.reads in
-    absurd (says.more (one_whole f.program schedule f.plan says.of.plan f.planned (subst (λ t. HasPlan t schedule says.of.plan) same says.of.planned) f.no_folds))
 
 pub sound_is_not_refused : SoundIsNotRefused
 sound_is_not_refused text (Source fault) s says = absurd (no_source_fault text fault s says)
@@ -173,4 +196,3 @@ sound_is_not_refused text (Unwritten array access p b) s says = absurd (not_unwr
 sound_is_not_refused text (Illegal p a b) s says = absurd says
 sound_is_not_refused text Budget s says = inl refl
 sound_is_not_refused text Memory s says = inr refl
-sound_is_not_refused text Unbuilt s says = absurd says

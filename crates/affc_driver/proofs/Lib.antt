@@ -8,3 +8,4 @@ pub mod OnePlan
 pub mod Complete
 pub mod Refused
 pub mod Told
+pub mod Folded

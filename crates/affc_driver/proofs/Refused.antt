@@ -1,7 +1,6 @@
 -- What each refusal says of all texts of a program.
-use Rattle.std.proofs.Common.{◌≡◌, ◌≢◌, ◌∙◌, ◌==◌, ℕ, ℤ, Bool, false, IsTrue, List, [], length, Option, Some, None, refl, sym, ap, subst}
+use Rattle.std.proofs.Common.{◌≡◌, ◌≢◌, ◌∙◌, ℕ, ℤ, false, IsTrue, List, Option, Some, None, refl, ap, subst}
 use Rattle.std.specs.Prelude.{slice_get}
-use Rattle.std.proofs.lemmas.Bool.{false≢true}
 use Rattle.affc_ast.specs.declared.tree.Instance.{Instance}
 use Rattle.affc_ast.specs.declared.tree.Program.{Program}
 use Rattle.affc_trace.specs.declared.schedule.Schedule.{Schedule}
@@ -32,7 +31,7 @@ use Rattle.affc_driver.specs.Flows.{NameThroughout, FlowsTo}
 use Rattle.affc_driver.specs.Programs.{OfEachText, OfEachPlan}
 use Rattle.affc_driver.specs.Refusals.{RefusalSays, FlowRefusalSays, MeaningSays, IsPlanned}
 use Rattle.affc_driver.specs.declared.refusal.Refusal.{Refusal}
-use Rattle.affc_driver.specs.declared.refusal.Refusal.TheVariants.{Source, Printed, Schedule as NoPlan, Meaning, Unwritten, Illegal, Budget, Memory as Short, Unbuilt}
+use Rattle.affc_driver.specs.declared.refusal.Refusal.TheVariants.{Source, Printed, Schedule as NoPlan, Meaning, Unwritten, Illegal, Budget, Memory as Short}
 use Rattle.affc_driver.proofs.Written.{array_read}
 
 pub no_plan : (program : Program) (text : List ℕ) (fault : SchedFault) → fault ≢ Memory → IsFault text program fault
@@ -77,7 +76,6 @@ refuses source schedule (Unwritten array access p b) h = h
 refuses source schedule (Illegal p a b) h = absurd h
 refuses source schedule Budget h = tt
 refuses source schedule Short h = tt
-refuses source schedule Unbuilt h = absurd h
 
 pub refuses_each : (program : Program) (plan : Plan) (refusal : Refusal) → ((plan : Plan) → OfEachPlan program plan (λ source schedule. MeaningSays source schedule refusal))
     → OfEachPlan program plan (λ source schedule. RefusalSays source schedule refusal)
@@ -92,7 +90,6 @@ refuses_trees source (Unwritten array access p b) h = h
 refuses_trees source (Illegal p a b) h = absurd h
 refuses_trees source Budget h = tt
 refuses_trees source Short h = tt
-refuses_trees source Unbuilt h = absurd h
 
 pub refuses_each_tree : (program : Program) (refusal : Refusal) → ((plan : Plan) → OfEachPlan program plan (λ source schedule. MeaningSays source schedule refusal))
     → OfEachText program (λ source. FlowRefusalSays source refusal)
@@ -133,20 +130,6 @@ turned program nest plan p a b within written asked first schedule has source re
   written = written source reads bare;
   first = first program asked;
 }
-
-pub unbuilt : (program : Program) (plan : Plan) → StaysWithin program → OfEachText program (λ text. WrittenThroughout program) → LegalThroughout program plan.schedule → plan.folds ≢ []
-    → OfEachPlan program plan (λ source schedule. RefusalSays source schedule Unbuilt)
-unbuilt program plan within written legal more schedule has source reads bare = record {
-  of = planned program plan schedule has source reads bare;
-  within = within;
-  written = written source reads bare;
-  legal = legal;
-  more = more;
-}
-
--- a list that was looked at and isn't empty
-pub some_there : {A : Type 0} (xs seen : List A) (is_empty : Bool) → seen ≡ xs → is_empty ≡ (length seen == 0) → is_empty ≡ false → xs ≢ []
-some_there xs seen is_empty same is off none = absurd (false≢true (sym off ∙ is ∙ ap (λ l. length l == 0) (same ∙ none)))
 
 -- what the text of trees tells
 pub told_trees : (program : Program) (nest : Nest) (trees : List Tree) (text : List ℕ) → nest ≡ nest_of program → StaysWithin program → NameThroughout program trees

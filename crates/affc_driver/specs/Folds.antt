@@ -1,29 +1,37 @@
 -- What a compilation makes of a source and its schedule.
-use Rattle.std.specs.Prelude.{◌≡◌, ℕ, false, List, [], Option}
+use Rattle.std.specs.Prelude.{◌≡◌, ℕ, false, List, Option}
 use Rattle.affc_ast.specs.Compiles.{CompilesText}
-use Rattle.affc_ast.specs.Follows.{own_place}
+use Rattle.affc_ast.specs.declared.tree.ArrayId.{ArrayId}
 use Rattle.affc_grammar.specs.Reads.{Reads, ReadsWide}
 use Rattle.affc_trace.specs.Laws.{in_target_order}
+use Rattle.affc_split.specs.Budgets.{Account}
+use Rattle.affc_basis.specs.declared.fold.Fold.{Fold}
+use Rattle.affc_basis.specs.Folds.{place}
+use Rattle.affc_rewrite.specs.Rewrite.{folded_program}
 use Rattle.affc_loops.specs.Loops.{target_program}
 use Rattle.affc_cprint.specs.Layout.{printed_text}
 use Rattle.affc_schedtext.specs.declared.plan.Plan.{Plan}
 use Rattle.affc_bounds.specs.Faults.{StaysWithin}
+use Rattle.affc_folds.specs.Folding.{AreFoldsOf}
 use Rattle.affc_driver.specs.Plans.{HasPlan, LegalThroughout, WrittenThroughout}
 use Rattle.affc_driver.specs.Reports.{report_text}
 
--- The text compiles the source, in the order of the plan's schedule and with each array at its own place. It is the printed
--- text of the schedule's loops, which for the source's own order are the source. The source is without the prelude and
--- keeps to its arrays at all values of its parameters, of which there are some, and each load of a temporary is written
--- before; the schedule is legal, and the plan has no folds. The report says of each temporary that it is left whole.
-pub record FoldsTo (source : List ℕ) (schedule : Option (List ℕ)) (text report : List ℕ) : Type 0 where
+-- The text compiles the source, in the order of the plan's schedule and with each element at its place by the folds. It is the
+-- printed text of the schedule's loops, which for the source's own order are the source, with folded subscripts and extents. The
+-- source is without the prelude and keeps to its arrays at all values of its parameters, of which there are some, and each load
+-- of a temporary is written before; the schedule is legal. The folds are of its temporaries, over the plan's bases where it
+-- gives them: they keep apart what is live together, and the report shows each with its marks, which are true. This budget is
+-- what is left: only where no unit is left a temporary is whole, or a modulus a bound alone.
+pub record FoldsTo (source : List ℕ) (schedule : Option (List ℕ)) (budget : Account) (text report : List ℕ) : Type 0 where
   pub plan : Plan
-  pub compiles : CompilesText Reads ReadsWide text source (in_target_order plan.schedule) (λ _. own_place)
-  pub loops : compiles.target ≡ target_program compiles.source plan.schedule
+  pub folds : List (ArrayId × Fold)
+  pub compiles : CompilesText Reads ReadsWide text source (in_target_order plan.schedule) (place folds)
+  pub loops : compiles.target ≡ target_program (folded_program compiles.source folds) plan.schedule
   pub printed : text ≡ printed_text compiles.target
   pub plain : compiles.source.prelude ≡ false
   pub within : StaysWithin compiles.source
   pub written : WrittenThroughout compiles.source
   pub planned : HasPlan compiles.source schedule plan
   pub legal : LegalThroughout compiles.source plan.schedule
-  pub no_folds : plan.folds ≡ []
-  pub told : report ≡ report_text compiles.source
+  pub are_folds : AreFoldsOf compiles.source plan.schedule plan.folds budget folds
+  pub told : report ≡ report_text compiles.source folds

@@ -1,5 +1,6 @@
 -- What a compilation's answers say of a source and of its runs.
-use Rattle.std.specs.Prelude.{◌≡◌, ◌↔◌, ◌⊎◌, ℕ, ℤ, false, IsTrue, List, [], Option, None}
+use Rattle.std.specs.Prelude.{◌≡◌, ◌↔◌, ◌⊎◌, ℕ, ℤ, false, IsTrue, List, Option, Some, None}
+use Rattle.affc_ast.specs.declared.tree.ArrayId.{ArrayId}
 use Rattle.affc_ast.specs.declared.tree.Instance.{Instance}
 use Rattle.affc_ast.specs.declared.tree.Program.{Program}
 use Rattle.affc_ast.specs.Compiles.{Compiles}
@@ -12,8 +13,13 @@ use Rattle.affc_cprint.specs.Layout.{printed_text}
 use Rattle.affc_trace.specs.Effects.{has_no_locals}
 use Rattle.affc_trace.specs.Laws.{IsInContext}
 use Rattle.affc_domain.specs.Ranges.{first_wide}
+use Rattle.affc_split.specs.Budgets.{Account}
 use Rattle.affc_nest.specs.Laws.{NamesArrays}
 use Rattle.affc_loops.specs.Loops.{target_program}
+use Rattle.affc_basis.specs.declared.fold.Fold.{Fold}
+use Rattle.affc_basis.specs.Folds.{fold_of}
+use Rattle.affc_rewrite.specs.Rewrite.{folded_program}
+use Rattle.affc_folds.specs.Folding.{AreFoldsOf, IsLeftWhole, HasBound}
 use Rattle.affc_schedtext.specs.declared.plan.Plan.{Plan}
 use Rattle.affc_bounds.specs.Faults.{StaysWithin}
 use Rattle.affc_bounds.specs.Laws.{IsStuckAt}
@@ -55,12 +61,18 @@ abbrev pub NamedIsWritten : Type 0
 NamedIsWritten = (text : List ℕ) (program : Program) (trees : List Tree)
     → Reads text program → program.prelude ≡ false → StaysWithin program → NameThroughout program trees → WrittenThroughout program
 
--- So what is printed of the loops of a legal schedule compiles the text.
+-- So what is printed of the loops of a legal schedule, with folds of the program under it, compiles the text.
 abbrev pub PrintedCompiles : Type 0
-PrintedCompiles = (text : List ℕ) (schedule : Option (List ℕ)) (program : Program) (plan : Plan)
+PrintedCompiles = (text : List ℕ) (schedule : Option (List ℕ)) (program : Program) (plan : Plan) (budget : Account) (folds : List (ArrayId × Fold))
     → Reads text program → program.prelude ≡ false → StaysWithin program → WrittenThroughout program
-    → HasPlan program schedule plan → plan.folds ≡ [] → LegalThroughout program plan.schedule
-    → FoldsTo text schedule (printed_text (target_program program plan.schedule)) (report_text program)
+    → HasPlan program schedule plan → LegalThroughout program plan.schedule → AreFoldsOf program plan.schedule plan.folds budget folds
+    → FoldsTo text schedule budget (printed_text (target_program (folded_program program folds) plan.schedule)) (report_text program folds)
+
+-- Without a limit on what is spent, each temporary has a fold, and no modulus is a bound alone.
+abbrev pub UnlimitedFoldsAll : Type 0
+UnlimitedFoldsAll = (text : List ℕ) (schedule : Option (List ℕ)) (budget : Account) (folded report : List ℕ)
+    → budget.limit ≡ None → (r : FoldsTo text schedule budget folded report)
+    → (¬ (IsLeftWhole r.compiles.source r.folds)) × ((array : ℕ) (fold : Fold) → fold_of r.folds array ≡ Some fold → ¬ (HasBound fold))
 
 -- ---- What is refused
 
@@ -89,7 +101,7 @@ IllegalShows = (text : List ℕ) (schedule : Option (List ℕ)) (program : Progr
 -- ---- Completeness
 
 -- The text reads as a program without the prelude, within the interval rule, that some data fit and that is never stuck; the
--- schedule has a plan of it without folds, whose schedule is legal.
+-- schedule has a plan of it, whose schedule is legal.
 pub record IsFoldable (text : List ℕ) (schedule : Option (List ℕ)) : Type 0 where
   pub program : Program
   pub reads : Reads text program
@@ -99,13 +111,12 @@ pub record IsFoldable (text : List ℕ) (schedule : Option (List ℕ)) : Type 0 
   pub never_stuck : NeverStuck program
   pub plan : Plan
   pub planned : HasPlan program schedule plan
-  pub no_folds : plan.folds ≡ []
   pub legal : LegalThroughout program plan.schedule
 
--- Exactly such a text has one that it is folded to.
+-- Exactly such a text has one that it is folded to, whatever is left of a budget.
 abbrev pub FoldableIsFolded : Type 0
 FoldableIsFolded = (text : List ℕ) (schedule : Option (List ℕ))
-    → IsFoldable text schedule ↔ ((folded : List ℕ) × ((report : List ℕ) × FoldsTo text schedule folded report))
+    → IsFoldable text schedule ↔ ((budget : Account) × ((folded : List ℕ) × ((report : List ℕ) × FoldsTo text schedule budget folded report)))
 
 -- It is refused, if at all, for want of budget or of memory.
 abbrev pub FoldableIsNotRefused : Type 0

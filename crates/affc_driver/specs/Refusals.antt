@@ -1,5 +1,5 @@
 -- Why a source with a schedule isn't compiled.
-use Rattle.std.specs.Prelude.{◌≡◌, ◌≢◌, ℕ, ℤ, true, false, List, [], Option, Some, None, Err, slice_get}
+use Rattle.std.specs.Prelude.{◌≡◌, ◌≢◌, ℕ, ℤ, true, false, List, Option, Some, None, Err, slice_get}
 use Rattle.affc_lex.specs.declared.token.Kind.TheVariants.{Prelude}
 use Rattle.affc_lex.specs.Lexes.{Lexeme, Lexes}
 use Rattle.affc_ast.specs.declared.tree.Instance.{Instance}
@@ -16,9 +16,9 @@ use Rattle.affc_bounds.specs.Faults.{StaysWithin, IsMeaningFault}
 use Rattle.affc_bounds.specs.declared.fault.MeaningFault.{MeaningFault}
 use Rattle.affc_sched.specs.Violations.{IsFirstViolation}
 use Rattle.affc_flow.specs.Unwritten.{LoadsUnwritten}
-use Rattle.affc_driver.specs.Plans.{HasPlan, LegalThroughout, WrittenThroughout}
+use Rattle.affc_driver.specs.Plans.{HasPlan, WrittenThroughout}
 use Rattle.affc_driver.specs.declared.refusal.Refusal.{Refusal}
-use Rattle.affc_driver.specs.declared.refusal.Refusal.TheVariants.{Source, Printed, Schedule, Meaning, Unwritten, Illegal, Budget, Memory, Unbuilt}
+use Rattle.affc_driver.specs.declared.refusal.Refusal.TheVariants.{Source, Printed, Schedule, Meaning, Unwritten, Illegal, Budget, Memory}
 
 -- no program reads as the source, for this reason
 pub record IsSourceFault (source : List ℕ) (fault : ParseFault) : Type 0 where
@@ -76,14 +76,6 @@ pub record IsIllegal (source : List ℕ) (schedule : Option (List ℕ)) (p : Lis
   pub written : WrittenThroughout of.tree
   pub first : IsFirstViolation of.tree of.plan.schedule p a b
 
--- nothing of all that is wrong, and the plan has a fold
-pub record IsUnbuilt (source : List ℕ) (schedule : Option (List ℕ)) : Type 0 where
-  pub of : IsPlanned source schedule
-  pub within : StaysWithin of.tree
-  pub written : WrittenThroughout of.tree
-  pub legal : LegalThroughout of.tree of.plan.schedule
-  pub more : of.plan.folds ≢ []
-
 -- When a source with a schedule is refused so. Want of memory may come at any time, and the end of the budget where it is spent.
 abbrev pub RefusalSays : (source : List ℕ) (schedule : Option (List ℕ)) → Refusal → Type 0
 RefusalSays source schedule (Source fault) = IsSourceFault source fault
@@ -94,7 +86,6 @@ RefusalSays source schedule (Unwritten array access p instance) = HasUnwritten s
 RefusalSays source schedule (Illegal p a b) = IsIllegal source schedule p a b
 RefusalSays source schedule Budget = Unit {0}
 RefusalSays source schedule Memory = Unit {0}
-RefusalSays source schedule Unbuilt = IsUnbuilt source schedule
 
 -- When the trees of a source are refused so: as its compilation is, up to its dataflow.
 abbrev pub FlowRefusalSays : (source : List ℕ) → Refusal → Type 0
@@ -106,7 +97,6 @@ FlowRefusalSays source (Unwritten array access p instance) = HasUnwritten source
 FlowRefusalSays source (Illegal p a b) = ⊥
 FlowRefusalSays source Budget = Unit {0}
 FlowRefusalSays source Memory = Unit {0}
-FlowRefusalSays source Unbuilt = ⊥
 
 -- The same of a source and a schedule, of what is wrong with a program by itself.
 abbrev pub MeaningSays : (source : List ℕ) (schedule : Option (List ℕ)) → Refusal → Type 0

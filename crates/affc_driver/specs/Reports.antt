@@ -1,12 +1,11 @@
 -- What is reported of a compilation.
-use Rattle.std.specs.Prelude.{ℕ, List, ◌++◌, flat_map, codes}
-use Rattle.affc_ast.specs.declared.tree.Decl.{Decl}
+use Rattle.std.specs.Prelude.{ℕ, List}
+use Rattle.affc_ast.specs.declared.tree.ArrayId.{ArrayId}
 use Rattle.affc_ast.specs.declared.tree.Program.{Program}
+use Rattle.affc_basis.specs.declared.fold.Fold.{Fold}
+use Rattle.affc_schedtext.specs.Outline.{outline}
+use Rattle.affc_report.specs.Folds.{fold_report}
 
--- a temporary that is left whole, since no fold of it is looked for yet
-abbrev pub whole_text : Decl → List ℕ
-whole_text d = codes "array " ++ d.name ++ codes "\n  whole unbuilt\n"
-
--- the temporaries, in order of declaration
-abbrev pub report_text : Program → List ℕ
-report_text program = flat_map whole_text program.temps
+-- the folds of its temporaries, in order of declaration
+abbrev pub report_text : Program → List (ArrayId × Fold) → List ℕ
+report_text program folds = fold_report (outline program) folds

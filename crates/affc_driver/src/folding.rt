@@ -8,27 +8,34 @@ ghost use Rattle.affc_nest.specs.Laws.{NamesArrays};
 ghost use Rattle.affc_nest.specs.Nests.{nest_of};
 ghost use Rattle.affc_bounds.specs.Faults.{StaysWithin};
 ghost use Rattle.affc_parse.specs.Answers.{Answers};
+ghost use Rattle.affc_basis.specs.FoldLists.{AreFoldsIn};
+ghost use Rattle.affc_rewrite.specs.Rewrite.{KeepLimits};
 ghost use Rattle.affc_driver.specs.Folds.{FoldsTo};
-ghost use Rattle.affc_driver.specs.Plans.{HasPlan, LegalThroughout, WrittenThroughout};
+ghost use Rattle.affc_driver.specs.Made.{IsMadeOf};
+ghost use Rattle.affc_driver.specs.Plans.{HasPlan};
 ghost use Rattle.affc_driver.specs.Printed.{HasPrelude, ReadsPrinted, holds_prelude};
 ghost use Rattle.affc_driver.specs.Programs.{OfEachText, OfEachPlan};
 ghost use Rattle.affc_driver.specs.Refusals.{RefusalSays, FlowRefusalSays};
 
-use crate::meaning::{nest_within, written};
+use crate::meaning::nest_within;
 use crate::refusal::Refusal;
-use crate::report::report_of;
-use affc_ast::tree::Program;
+use crate::temporaries::folds_under;
+use affc_ast::tree::{ArrayId, Program};
+use affc_basis::Fold;
 use affc_cprint::print;
+use affc_foldprint::laws::{folds_are_scanned, folds_well_named};
 use affc_grammar::laws::reads_counted;
 use affc_lex::lex;
 use affc_lex::token::{Kind, Token};
-use affc_loopprint::laws::loops_well_named;
 use affc_nest::Nest;
 use affc_parse::fault::ParseFault;
 use affc_parse::parse;
 use affc_plan::read;
+use affc_report::fold_report;
+use affc_rewrite::laws::folded_program_compiles;
+use affc_rewrite::rewrite;
 use affc_scan::scan;
-use affc_sched::{SchedStop, legal};
+use affc_schedtext::program::outline_of;
 use affc_schedtext::{Plan, SchedFault};
 use affc_split::Budget;
 use affc_trace::schedule::Schedule;
@@ -40,7 +47,7 @@ use std::alloc::Global;
 pub struct Done {
     /// The compiled program, as C.
     pub text: Vec<u8>,
-    /// What became of each temporary: so far that it is left whole.
+    /// What became of each temporary: its fold, and what is known of it.
     pub report: Vec<u8>,
 }
 
@@ -103,53 +110,29 @@ fn plan_of(alloc: Global, program: &Program, schedule: Option<&[u8]>) -> Result<
     }
 }
 
-// Whether the plan's schedule is legal.
-fn in_order(
+// What is printed of the loops of a legal schedule, with these folds.
+fn finish(
     alloc: Global,
     program: &Program,
     nest: &Nest,
     plan: &Plan,
-    budget: &mut Budget,
-) -> Result<(), Refusal>
-    requires plain { IsPlain program.now }
-    requires arrays { NamesArrays program.now }
-    requires nest { nest.now ≡ nest_of program.now }
-    requires within { StaysWithin program.now }
-    requires written { OfEachText program.now (λ text. WrittenThroughout program.now) }
-    requires fits { IsScheduleOf program.now plan.now.schedule }
-    requires slight { IsTrue (within_limits plan.now.schedule) }
-    ensures legal { OnOk result (LegalThroughout program.now plan.now.schedule) }
-    ensures err { IfErr result (λ refusal. OfEachPlan program.now plan.now (λ text schedule. RefusalSays text schedule refusal)) }
-    ensures later { IsLater budget.old budget.new }
-    ensures stop { IfErr result (λ refusal. refusal ≡ Refusal.Budget → budget.new.limit ≡ Some budget.new.spent) }
-{
-    match legal(alloc, nest, &plan.schedule, budget) {
-        Ok(_) => Ok(()),
-        Err(SchedStop::Illegal { p, a, b }) => Err(Refusal::Illegal { p, a, b }),
-        Err(SchedStop::Budget) => Err(Refusal::Budget),
-        Err(SchedStop::Memory) => Err(Refusal::Memory),
-    }
-}
-
-// What is printed of the loops of a legal schedule, where there are no folds.
-fn finish(alloc: Global, program: &Program, nest: &Nest, plan: &Plan) -> Result<Done, Refusal>
+    folds: &[(ArrayId, Fold)],
+) -> Result<Done, Refusal>
     requires plain { IsPlain program.now }
     requires nest { nest.now ≡ nest_of program.now }
     requires within { StaysWithin program.now }
-    requires written { OfEachText program.now (λ text. WrittenThroughout program.now) }
     requires fits { IsScheduleOf program.now plan.now.schedule }
     requires slight { IsTrue (within_limits plan.now.schedule) }
-    requires legal { LegalThroughout program.now plan.now.schedule }
-    ensures ok { IfOk result (λ done. OfEachPlan program.now plan.now (λ text schedule. FoldsTo text schedule done.text.items done.report.items)) }
-    ensures err { IfErr result (λ refusal. OfEachPlan program.now plan.now (λ text schedule. RefusalSays text schedule refusal)) }
-    ensures free { IfErr result (λ refusal. refusal ≢ Refusal.Budget) }
+    requires in_program { AreFoldsIn program.now folds.now }
+    requires limits { KeepLimits program.now folds.now }
+    ensures ok { IfOk result (λ done. IsMadeOf program.now plan.now folds.now done.text.items done.report.items) }
+    ensures err { IfErr result (λ refusal. refusal ≡ Refusal.Memory) }
 {
-    if !plan.folds.as_slice().is_empty() {
-        return Err(Refusal::Unbuilt);
-    }
-    loops_well_named();
-    let target = scan(alloc, program, nest, &plan.schedule)?;
-    let report = report_of(alloc, program)?;
+    folds_are_scanned();
+    let other = rewrite(alloc, program, nest, folds)?;
+    let target = scan(alloc, &other, nest, &plan.schedule)?;
+    let outline = outline_of(alloc, program)?;
+    let report = fold_report(alloc, &outline, folds)?;
     match print(alloc, &target) {
         Ok(text) => Ok(Done { text, report }),
         Err(_) => Err(Refusal::Memory),
@@ -167,20 +150,19 @@ fn compile(
     requires arrays { NamesArrays program.now }
     requires fits { IsScheduleOf program.now plan.now.schedule }
     requires slight { IsTrue (within_limits plan.now.schedule) }
-    ensures ok { IfOk result (λ done. OfEachPlan program.now plan.now (λ text schedule. FoldsTo text schedule done.text.items done.report.items)) }
+    ensures ok { IfOk result (λ done. OfEachPlan program.now plan.now (λ text schedule. FoldsTo text schedule budget.new done.text.items done.report.items)) }
     ensures err { IfErr result (λ refusal. OfEachPlan program.now plan.now (λ text schedule. RefusalSays text schedule refusal)) }
     ensures later { IsLater budget.old budget.new }
     ensures stop { IfErr result (λ refusal. refusal ≡ Refusal.Budget → budget.new.limit ≡ Some budget.new.spent) }
 {
+    folds_well_named();
+    folded_program_compiles();
     let nest = match nest_within(alloc, program, budget) {
         Ok(nest) => nest,
         Err(refusal) => return Err(refusal),
     };
-    if let Err(refusal) = written(alloc, program, &nest, budget) {
-        return Err(refusal);
-    }
-    in_order(alloc, program, &nest, plan, budget)?;
-    finish(alloc, program, &nest, plan)
+    let folds = folds_under(alloc, program, &nest, plan, budget)?;
+    finish(alloc, program, &nest, plan, folds.as_slice())
 }
 
 // What is made of a plain program with a schedule, whose text is read first.
@@ -193,7 +175,7 @@ fn compile_with(
     requires plain { IsPlain program.now }
     requires counted { IsCounted program.now }
     requires arrays { NamesArrays program.now }
-    ensures ok { IfOk result (λ done. OfEachText program.now (λ text. FoldsTo text (option_map (λ t. t.now) schedule.entry) done.text.items done.report.items)) }
+    ensures ok { IfOk result (λ done. OfEachText program.now (λ text. FoldsTo text (option_map (λ t. t.now) schedule.entry) budget.new done.text.items done.report.items)) }
     ensures err { IfErr result (λ refusal. OfEachText program.now (λ text. RefusalSays text (option_map (λ t. t.now) schedule.entry) refusal)) }
     ensures later { IsLater budget.old budget.new }
     ensures stop { IfErr result (λ refusal. refusal ≡ Refusal.Budget → budget.new.limit ≡ Some budget.new.spent) }
@@ -202,7 +184,7 @@ fn compile_with(
     compile(alloc, program, &plan, budget)
 }
 
-/// The text that does what the source does, in the order of the schedule, or why there is none. A unit of the budget is
+/// The text that does what the source does, in the order of the schedule and on folded temporaries, or why there is none. A unit of the budget is
 /// a box of a question that is opened.
 pub fn fold(
     alloc: Global,
@@ -210,7 +192,7 @@ pub fn fold(
     schedule: Option<&[u8]>,
     budget: &mut Budget,
 ) -> Result<Done, Refusal>
-    ensures ok { IfOk result (λ done. FoldsTo source.now (option_map (λ t. t.now) schedule.entry) done.text.items done.report.items) }
+    ensures ok { IfOk result (λ done. FoldsTo source.now (option_map (λ t. t.now) schedule.entry) budget.new done.text.items done.report.items) }
     ensures err { IfErr result (RefusalSays source.now (option_map (λ t. t.now) schedule.entry)) }
     ensures limit { budget.new.limit ≡ budget.old.limit }
     ensures grows { budget.old.spent ≤ budget.new.spent }

@@ -1,7 +1,8 @@
 //! What a compilation's answers say of a source and of its runs. Each law is the contract of a function that does nothing.
-ghost use Rattle.affc_driver.specs.Laws.{ReadsNamingArrays, CompilesItself, WithinNeverStuck, NamedIsWritten, PrintedCompiles, FaultsShow, UnwrittenShows, IllegalShows, FoldableIsFolded, FoldableIsNotRefused, FlowsAreSound, SoundIsNotRefused};
+ghost use Rattle.affc_driver.specs.Laws.{ReadsNamingArrays, CompilesItself, WithinNeverStuck, NamedIsWritten, PrintedCompiles, UnlimitedFoldsAll, FaultsShow, UnwrittenShows, IllegalShows, FoldableIsFolded, FoldableIsNotRefused, FlowsAreSound, SoundIsNotRefused};
 
-use affc_loopprint::laws::loops_well_named;
+use affc_foldprint::laws::folds_well_named;
+use affc_rewrite::laws::folded_program_compiles;
 
 /// The program that a text reads as names arrays.
 pub fn reads_naming_arrays()
@@ -23,12 +24,18 @@ pub fn named_is_written()
     ensures law { NamedIsWritten }
 {}
 
-/// What is printed of the loops of a legal schedule compiles the text that the program was read from.
+/// What is printed of the loops of a legal schedule, with folds, compiles the text that the program was read from.
 pub fn printed_compiles()
     ensures law { PrintedCompiles }
 {
-    loops_well_named();
+    folds_well_named();
+    folded_program_compiles();
 }
+
+/// Without a limit on what is spent each temporary is folded, by moduli that are shown to be least.
+pub fn unlimited_folds_all()
+    ensures law { UnlimitedFoldsAll }
+{}
 
 /// Where a program leaves its arrays it is stuck; where its context is empty no data fit.
 pub fn faults_show()
@@ -45,11 +52,12 @@ pub fn illegal_shows()
     ensures law { IllegalShows }
 {}
 
-/// A text is folded exactly where its program is never stuck, and its schedule is legal and without folds.
+/// A text is folded exactly where its program is never stuck, and its schedule is legal.
 pub fn foldable_is_folded()
     ensures law { FoldableIsFolded }
 {
-    loops_well_named();
+    folds_well_named();
+    folded_program_compiles();
 }
 
 /// Such a text is refused for want of budget or of memory, and for nothing else.

@@ -6,7 +6,7 @@ pub mod folding;
 pub mod laws;
 mod meaning;
 pub mod refusal;
-mod report;
+mod temporaries;
 
 pub use flowing::flow;
 pub use folding::{Done, fold};

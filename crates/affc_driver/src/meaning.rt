@@ -11,8 +11,7 @@ ghost use Rattle.affc_quast.specs.Limits.{narrow, AreTreesWithin};
 ghost use Rattle.affc_quast.specs.Seen.{trees_of};
 ghost use Rattle.affc_flow.specs.Finds.{AreInputs};
 ghost use Rattle.affc_driver.specs.Flows.{NameThroughout};
-ghost use Rattle.affc_driver.specs.Plans.{WrittenThroughout};
-ghost use Rattle.affc_driver.specs.Programs.{OfEachText, OfEachPlan};
+ghost use Rattle.affc_driver.specs.Programs.{OfEachPlan};
 ghost use Rattle.affc_driver.specs.Refusals.{MeaningSays};
 
 use crate::refusal::Refusal;
@@ -97,30 +96,5 @@ pub(crate) fn trees_within(
         }
         Err(FlowStop::Budget) => Err(Refusal::Budget),
         Err(FlowStop::Memory) => Err(Refusal::Memory),
-    }
-}
-
-/// Whether each load of a temporary is written before. Where there are no temporaries no trees are looked for.
-pub(crate) fn written(
-    alloc: Global,
-    program: &Program,
-    nest: &Nest,
-    budget: &mut Budget,
-) -> Result<(), Refusal>
-    requires plain { IsPlain program.now }
-    requires arrays { NamesArrays program.now }
-    requires nest { nest.now ≡ nest_of program.now }
-    requires within { StaysWithin program.now }
-    ensures written { OnOk result (OfEachText program.now (λ text. WrittenThroughout program.now)) }
-    ensures err { IfErr result (λ refusal. (plan : Plan) → OfEachPlan program.now plan (λ text schedule. MeaningSays text schedule refusal)) }
-    ensures later { IsLater budget.old budget.new }
-    ensures stop { IfErr result (λ refusal. refusal ≡ Refusal.Budget → budget.new.limit ≡ Some budget.new.spent) }
-{
-    if program.temps.as_slice().is_empty() {
-        return Ok(());
-    }
-    match trees_within(alloc, program, nest, budget) {
-        Ok(_) => Ok(()),
-        Err(refusal) => Err(refusal),
     }
 }

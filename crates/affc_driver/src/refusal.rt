@@ -42,9 +42,6 @@ pub enum Refusal {
     Budget,
     #[error("out of memory")]
     Memory,
-    /// The schedule has folds, which aren't built yet.
-    #[error("temporaries aren't folded yet")]
-    Unbuilt,
 }
 
 impl From<AllocError> for Refusal {

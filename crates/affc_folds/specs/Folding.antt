@@ -1,5 +1,6 @@
 -- Folds of the temporaries of a program under a schedule.
 use Rattle.std.specs.Prelude.{◌≡◌, ℕ, ◌+◌, ◌<◌, ◌≤◌, nat_eq, ℤ, IsTrue, ◌&&◌, if◌then◌else◌, List, [], ◌∷◌, length, map, Option, Some, None, slice_get}
+use Rattle.std.specs.List.{All}
 use Rattle.affc_rows.specs.Forms.{Affine}
 use Rattle.affc_ast.specs.declared.tree.ArrayId.{ArrayId}
 use Rattle.affc_ast.specs.declared.tree.Decl.{Decl}
@@ -16,7 +17,7 @@ use Rattle.affc_basis.specs.declared.basis.Basis.{Basis}
 use Rattle.affc_basis.specs.declared.fold.Fold.{Fold}
 use Rattle.affc_basis.specs.declared.fold.Mark.TheVariants.{Bound}
 use Rattle.affc_basis.specs.declared.fold.Modulus.{Modulus}
-use Rattle.affc_basis.specs.FoldLists.{IsFoldIn}
+use Rattle.affc_basis.specs.FoldLists.{IsFoldIn, AreFoldsIn}
 use Rattle.affc_basis.specs.Folds.{KeepsLimits, Obeys, IsTrueMark, fold_of}
 use Rattle.affc_basis.specs.Listed.{Shape, shape_of, listing}
 use Rattle.affc_nest.specs.declared.nest.Nest.{Nest}
@@ -96,3 +97,15 @@ pub record IsLeftWhole (program : Program) (folds : List (ArrayId × Fold)) : Ty
   pub decl : Decl
   pub stands : slice_get program.temps number ≡ Some decl
   pub unfolded : fold_of folds (length (arrays_of program.params) + number) ≡ None
+
+-- Folds of a program's temporaries under a schedule, over the bases that are given or else the first that are listed, with moduli
+-- within the limits. Throughout the context each keeps apart what is live together, and what its marks say is true. A temporary
+-- without a fold, and a modulus that is marked as a bound alone, come only where no unit of the budget is left.
+pub record AreFoldsOf (program : Program) (schedule : Schedule) (bases : List (ArrayId × Basis)) (budget : Account) (folds : List (ArrayId × Fold)) : Type 0 where
+  pub in_program : AreFoldsIn program folds
+  pub bases_for : (array : ℕ) (fold : Fold) → fold_of folds array ≡ Some fold → basis_for bases array (length fold.basis.rows) ≡ Some (shape_of fold.basis)
+  pub limits : All (λ (f : ArrayId × Fold). KeepsLimits (numbers_in program.params) f.1) folds
+  pub obeys : (p : List ℤ) → IsInContext program p → (array : ℕ) (fold : Fold) → fold_of folds array ≡ Some fold → Obeys (LivePair program schedule array p) fold p
+  pub marks : (array : ℕ) (fold : Fold) → fold_of folds array ≡ Some fold → HasTrueMarks (IsInContext program) (LivePair program schedule array) fold
+  pub bound : (array : ℕ) (fold : Fold) → fold_of folds array ≡ Some fold → HasBound fold → IsSpent budget
+  pub whole : IsLeftWhole program folds → IsSpent budget

@@ -18,7 +18,7 @@ ghost use Rattle.affc_conflicts.specs.Conditions.{InContext};
 ghost use Rattle.affc_basis.specs.Listed.{shape_of};
 ghost use Rattle.affc_quast.specs.Seen.{trees_of};
 ghost use Rattle.affc_life.specs.Clashes.{clash_of, clashes};
-ghost use Rattle.affc_folds.specs.Folding.{IsAnalysed, basis_for, HasTrueMarks, IsFoldFor, IsSpent, HasBound, AreFoldsBelow, IsLeftWhole};
+ghost use Rattle.affc_folds.specs.Folding.{IsAnalysed, basis_for, HasTrueMarks, IsFoldFor, IsSpent, HasBound, AreFoldsBelow, AreFoldsOf};
 
 use crate::bases::basis_of;
 use affc_ast::tree::{ArrayId, Program};
@@ -231,17 +231,7 @@ pub fn fold_all(
     budget: &mut Budget,
 ) -> Result<Items<(ArrayId, Fold)>, Stop>
     requires analysed { IsAnalysed program.now nest.now (trees_of flow.now) schedule.now }
-
-    // The folds.
-    ensures folds_in { IfOk result (λ folds. AreFoldsIn program.now folds) }
-    ensures bases { IfOk result (λ folds. (array : ℕ) (fold : Fold) → fold_of folds array ≡ Some fold → basis_for bases.now array (length fold.basis.rows) ≡ Some (shape_of fold.basis)) }
-    ensures limits { IfOk result (λ folds. All (λ (f : ArrayId × Fold). KeepsLimits (numbers_in program.now.params) f.1) folds) }
-    ensures obeys { IfOk result (λ folds. (p : List ℤ) → IsInContext program.now p → (array : ℕ) (fold : Fold) → fold_of folds array ≡ Some fold → Obeys (LivePair program.now schedule.now array p) fold p) }
-    ensures marks { IfOk result (λ folds. (array : ℕ) (fold : Fold) → fold_of folds array ≡ Some fold → HasTrueMarks (IsInContext program.now) (LivePair program.now schedule.now array) fold) }
-
-    // The budget.
-    ensures bound { IfOk result (λ folds. (array : ℕ) (fold : Fold) → fold_of folds array ≡ Some fold → HasBound fold → IsSpent budget.new) }
-    ensures whole { IfOk result (λ folds. IsLeftWhole program.now folds → IsSpent budget.new) }
+    ensures folds { IfOk result (AreFoldsOf program.now schedule.now bases.now budget.new) }
     ensures later { IsLater budget.old budget.new }
     ensures stop { IfErr result (λ e. e ≡ Stop.Memory) }
 {

@@ -10,8 +10,8 @@ use Rattle.affc_quast.specs.Sources.{loads_in}
 use Rattle.affc_quast.specs.Trees.{Tree}
 use Rattle.affc_schedtext.specs.Outline.{numbered_names}
 use Rattle.affc_schedtext.specs.declared.outline.Outline.{Outline}
-use Rattle.affc_report.specs.Forms.{Term, is_there, leading, following, more_text, form_text, constant_behind, terms_of}
-use Rattle.affc_report.specs.Sums.{begun_by, begun_by_all, term_text, terms_text, end_text, quotient_terms}
+use Rattle.affc_report.specs.Forms.{Term, is_there, leading, following, more_text, form_text, constant_behind, terms_of, named_form, row_text}
+use Rattle.affc_report.specs.Sums.{begun_by, begun_by_all, term_text, terms_text, end_text, numbered_terms}
 use Rattle.affc_report.specs.Trees.{tree_form, loads_text, statements_text}
 
 -- a term that is written stays written
@@ -49,9 +49,25 @@ text_joined : (b : Bool) (xs ys : List Term) → terms_text b (xs ++ ys) ≡ ter
 text_joined b [] ys = refl
 text_joined b ((c, w) ∷ xs) ys = ap (λ (zs : List ℕ). term_text b c w ++ zs) (text_joined (begun_by b c) xs ys) ∙ sym (append_assoc (term_text b c w) (terms_text (begun_by b c) xs) (terms_text (begun_by_all (begun_by b c) xs) ys))
 
-quotients : (q : ℕ) (cs : List ℤ) → terms_of cs (numbered_names (codes "q") q (length cs)) ≡ quotient_terms q cs
-quotients q [] = refl
-quotients q (c ∷ cs) = ap (λ (ts : List Term). (c, codes "q" ++ decimal q) ∷ ts) (quotients (suc q) cs)
+by_numbers : (letter : List ℕ) (n : ℕ) (cs : List ℤ) → terms_of cs (numbered_names letter n (length cs)) ≡ numbered_terms letter n cs
+by_numbers letter n [] = refl
+by_numbers letter n (c ∷ cs) = ap (λ (ts : List Term). (c, letter ++ decimal n) ∷ ts) (by_numbers letter (suc n) cs)
+
+-- Terms and a constant, behind what is written.
+behind : (out : List ℕ) (ts : List Term) (constant : ℤ) → (out ++ terms_text false ts) ++ end_text (begun_by_all false ts) constant ≡ out ++ form_text ts constant
+behind out ts constant = append_assoc out (terms_text false ts) (end_text (begun_by_all false ts) constant) ∙ ap (λ (xs : List ℕ). out ++ xs) (sym (form_is ts constant))
+
+-- A form over names, behind what is written.
+pub named : (out : List ℕ) (ws : List Name) (f : Affine)
+    → (out ++ terms_text false (terms_of f.coefs ws)) ++ end_text (begun_by_all false (terms_of f.coefs ws)) f.constant ≡ out ++ named_form ws f
+named out ws f = behind out (terms_of f.coefs ws) f.constant
+
+-- A form over subscripts, behind what is written.
+pub subscripted : (out : List ℕ) (f : Affine)
+    → (out ++ terms_text false (numbered_terms (codes "x") 0 f.coefs)) ++ end_text (begun_by_all false (numbered_terms (codes "x") 0 f.coefs)) f.constant ≡ out ++ row_text f
+subscripted out f =
+    behind out (numbered_terms (codes "x") 0 f.coefs) f.constant
+    ∙ ap (λ (ts : List Term). out ++ form_text ts f.constant) (sym (by_numbers (codes "x") 0 f.coefs))
 
 -- three lists of terms one after the other, and the constant
 three : (a b c : List Term) (constant : ℤ)
@@ -75,7 +91,7 @@ abbrev outer : (parameters : List Name) → Affine → List Term
 outer ps f = terms_of (take (length ps) f.coefs) ps
 
 abbrev last : (parameters iterators : List Name) → Affine → List Term
-last ps is f = quotient_terms 0 (drop (length is) (drop (length ps) f.coefs))
+last ps is f = numbered_terms (codes "q") 0 (drop (length is) (drop (length ps) f.coefs))
 
 -- A form of a tree, behind what is written.
 pub written : (out : List ℕ) (ps is : List Name) (f : Affine)
@@ -92,7 +108,7 @@ written out ps is f =
     let u = terms_text (begun_by_all (begun_by_all false a) b) c in
     let v = end_text (begun_by_all (begun_by_all (begun_by_all false a) b) c) f.constant in
     let same : form_text ((a ++ b) ++ c) f.constant ≡ tree_form ps is f
-    = ap (λ (ts : List Term). form_text ((a ++ b) ++ ts) f.constant) (sym (quotients 0 (drop (length is) (drop (length ps) f.coefs)))) in
+    = ap (λ (ts : List Term). form_text ((a ++ b) ++ ts) f.constant) (sym (by_numbers (codes "q") 0 (drop (length is) (drop (length ps) f.coefs)))) in
     ap (λ (xs : List ℕ). (xs ++ u) ++ v) (append_assoc out s t)
     ∙ ap (λ (xs : List ℕ). xs ++ v) (append_assoc out (s ++ t) u)
     ∙ append_assoc out ((s ++ t) ++ u) v

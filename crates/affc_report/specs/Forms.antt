@@ -1,7 +1,9 @@
 -- Affine forms as text: `i`, `-i + 2 * N - 1`, `-(2 * i) + 3`, `0`.
-use Rattle.std.specs.Prelude.{ℕ, ℤ, pos, nat_abs, nat_lt, int_lt, Bool, if◌then◌else◌, List, [], ◌∷◌, ◌++◌, codes, decimal}
+use Rattle.std.specs.Prelude.{ℕ, ℤ, pos, nat_abs, nat_lt, int_lt, Bool, if◌then◌else◌, List, [], ◌∷◌, ◌++◌, length, codes, decimal}
 use Rattle.std.specs.Fmt.{signed_decimal}
+use Rattle.affc_rows.specs.Forms.{Affine}
 use Rattle.affc_grammar.specs.Grammar.{Name}
+use Rattle.affc_schedtext.specs.Outline.{numbered_names}
 
 -- a coefficient of a name
 abbrev pub Term : Type 0
@@ -45,3 +47,11 @@ form_text ((c, w) ∷ ts) constant = if is_there c then leading c w ++ more_text
 abbrev pub terms_of : List ℤ → List Name → List Term
 terms_of (c ∷ cs) (w ∷ ws) = (c, w) ∷ terms_of cs ws
 terms_of _ _ = []
+
+-- a form over columns of these names
+abbrev pub named_form : List Name → Affine → List ℕ
+named_form ws f = form_text (terms_of f.coefs ws) f.constant
+
+-- a form over the subscripts x0, x1, ..
+abbrev pub row_text : Affine → List ℕ
+row_text f = named_form (numbered_names (codes "x") 0 (length f.coefs)) f

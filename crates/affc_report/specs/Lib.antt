@@ -1,4 +1,5 @@
 pub mod Forms
 pub mod Sums
 pub mod Trees
+pub mod Folds
 pub mod Examples

@@ -1,9 +1,9 @@
 -- A form's text as it is written term by term.
-use Rattle.std.specs.Prelude.{ℕ, suc, ℤ, Bool, true, false, ◌||◌, if◌then◌else◌, List, [], ◌∷◌, ◌++◌, codes, decimal}
+use Rattle.std.specs.Prelude.{ℕ, suc, ℤ, Bool, true, false, ◌||◌, if◌then◌else◌, List, [], ◌∷◌, ◌++◌, decimal}
 use Rattle.std.specs.Fmt.{signed_decimal}
 use Rattle.affc_grammar.specs.Grammar.{Name}
 use Rattle.affc_report.specs.declared.forms.Name.{Name as Column}
-use Rattle.affc_report.specs.declared.forms.Name.TheVariants.{Word, Quotient}
+use Rattle.affc_report.specs.declared.forms.Name.TheVariants.{Word, Numbered}
 use Rattle.affc_report.specs.Forms.{Term, is_there, leading, following, constant_behind}
 
 -- whether a term is written, once this one has come
@@ -27,12 +27,12 @@ terms_text b ((c, w) ∷ ts) = term_text b c w ++ terms_text (begun_by b c) ts
 
 -- ---- Names of columns
 
--- a word, or q0, q1, ..
+-- a word, or a letter with a number
 abbrev pub name_text : Column → Name
 name_text (Word w) = w.now
-name_text (Quotient n) = codes "q" ++ decimal n
+name_text (Numbered letter n) = letter.now ++ decimal n
 
--- coefficients of the quotients from this number on
-abbrev pub quotient_terms : ℕ → List ℤ → List Term
-quotient_terms q [] = []
-quotient_terms q (c ∷ cs) = (c, codes "q" ++ decimal q) ∷ quotient_terms (suc q) cs
+-- coefficients of the columns of this letter from this number on
+abbrev pub numbered_terms : (letter : List ℕ) → ℕ → List ℤ → List Term
+numbered_terms letter n [] = []
+numbered_terms letter n (c ∷ cs) = (c, letter ++ decimal n) ∷ numbered_terms letter (suc n) cs

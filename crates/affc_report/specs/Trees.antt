@@ -1,6 +1,7 @@
 -- Last-write trees as text: each load's name, and its tree in preorder.
 use Rattle.std.specs.Prelude.{ℕ, zero, suc, ℤ, List, [], ◌∷◌, ◌++◌, length, take, drop, codes, decimal, Option, Some, None, slice_get, unwrap_or}
 use Rattle.std.specs.Fmt.{signed_decimal}
+use Rattle.std.specs.List.{join_by}
 use Rattle.affc_rows.specs.Forms.{Affine}
 use Rattle.affc_grammar.specs.Grammar.{Name}
 use Rattle.affc_nest.specs.declared.nest.Access.{Access}
@@ -26,15 +27,6 @@ tree_terms ps is cs =
 abbrev pub tree_form : (parameters iterators : List Name) → Affine → List ℕ
 tree_form ps is f = form_text (tree_terms ps is f.coefs) f.constant
 
--- with a comma and a space between them
-abbrev pub forms_behind : (parameters iterators : List Name) → List Affine → List ℕ
-forms_behind ps is [] = []
-forms_behind ps is (f ∷ fs) = codes ", " ++ tree_form ps is f ++ forms_behind ps is fs
-
-abbrev pub forms_listed : (parameters iterators : List Name) → List Affine → List ℕ
-forms_listed ps is [] = []
-forms_listed ps is (f ∷ fs) = tree_form ps is f ++ forms_behind ps is fs
-
 -- ---- Trees
 
 -- two spaces for each level
@@ -50,7 +42,7 @@ tree_text ps is level q (Test f on off) =
 tree_text ps is level q (Div f by rest) =
     indent level ++ codes "div q" ++ decimal q ++ codes " = floor((" ++ tree_form ps is f ++ codes ") / " ++ signed_decimal by ++ codes ")\n"
     ++ tree_text ps is (suc level) (suc q) rest
-tree_text ps is level q (Source s fs) = indent level ++ codes "source S" ++ decimal s ++ codes "(" ++ forms_listed ps is fs ++ codes ")\n"
+tree_text ps is level q (Source s fs) = indent level ++ codes "source S" ++ decimal s ++ codes "(" ++ join_by (tree_form ps is) (codes ", ") fs ++ codes ")\n"
 tree_text ps is level q Input = indent level ++ codes "input\n"
 
 -- ---- Loads

@@ -1,8 +1,8 @@
 //! Affine forms as text.
 ghost use Rattle.std.specs.Prelude.{◌≡◌, ◌++◌, ◌+◌, ◌<◌, ◌^◌, length, take, drop, IfOk, OnOk, string_bytes};
-ghost use Rattle.affc_report.specs.Forms.{terms_of, times_text, negated_text, leading, following, sign_behind};
-ghost use Rattle.affc_report.specs.Sums.{begun_by, begun_by_all, term_text, terms_text, end_text, name_text, quotient_terms};
-ghost use Rattle.affc_report.specs.Trees.{tree_form, forms_behind, forms_listed};
+ghost use Rattle.affc_report.specs.Forms.{terms_of, named_form, row_text, times_text, negated_text, leading, following, sign_behind};
+ghost use Rattle.affc_report.specs.Sums.{begun_by, begun_by_all, term_text, terms_text, end_text, name_text, numbered_terms};
+ghost use Rattle.affc_report.specs.Trees.{tree_form};
 
 use affc_ast::text::Text;
 use affc_rows::Form;
@@ -12,8 +12,8 @@ use std::alloc::AllocError;
 #[derive(Clone, Copy)]
 pub enum Name<'a> {
     Word(&'a str),
-    /// A quotient, by its number.
-    Quotient(u64),
+    /// A letter with a number.
+    Numbered(&'a str, u64),
 }
 
 /// The names of the first columns of a tree's forms.
@@ -29,7 +29,7 @@ fn add_name(out: &mut String, name: &Name<'_>) -> Result<(), AllocError>
 {
     match name {
         Name::Word(word) => out.push_str(word),
-        Name::Quotient(number) => write!(out, "q{number}"),
+        Name::Numbered(letter, number) => write!(out, "{letter}{number}"),
     }
 }
 
@@ -122,22 +122,23 @@ fn add_terms(
     add_terms(out, begun, coefs, words)
 }
 
-// Adds the terms of the quotients from this number on.
-fn add_quotients(
+// Adds the terms of the columns of a letter, which have the numbers from this one on.
+fn add_numbered(
     out: &mut String,
     begun: bool,
     coefs: &[i128],
+    letter: &str,
     from: u64,
 ) -> Result<bool, AllocError>
     requires { from + length coefs.now < 2 ^ 64 }
-    ensures begun { IfOk result (λ b. b ≡ begun_by_all begun (quotient_terms from coefs.now)) }
-    ensures text { OnOk result (string_bytes out.new ≡ string_bytes out.old ++ terms_text begun (quotient_terms from coefs.now)) }
+    ensures begun { IfOk result (λ b. b ≡ begun_by_all begun (numbered_terms letter.now from coefs.now)) }
+    ensures text { OnOk result (string_bytes out.new ≡ string_bytes out.old ++ terms_text begun (numbered_terms letter.now from coefs.now)) }
 {
     match coefs {
         [] => Ok(begun),
         [coef, coefs @ ..] => {
-            let begun = add_term(out, begun, *coef, &Name::Quotient(from))?;
-            add_quotients(out, begun, coefs, from + 1)
+            let begun = add_term(out, begun, *coef, &Name::Numbered(letter, from))?;
+            add_numbered(out, begun, coefs, letter, from + 1)
         }
     }
 }
@@ -189,33 +190,24 @@ pub fn add_form(out: &mut String, names: &Names<'_>, form: &Form) -> Result<(), 
     let quotients = behind(inner, names.iterators.len());
     let begun = add_terms(out, false, iterators, names.iterators)?;
     let begun = add_terms(out, begun, parameters, names.parameters)?;
-    let begun = add_quotients(out, begun, quotients, 0)?;
+    let begun = add_numbered(out, begun, quotients, "q", 0)?;
     add_constant(out, begun, form.constant)
 }
 
-// Adds forms, each behind a comma.
-fn add_behind(out: &mut String, names: &Names<'_>, forms: &[Form]) -> Result<(), AllocError>
-    ensures { OnOk result (string_bytes out.new ≡ string_bytes out.old ++ forms_behind names.now.parameters.now names.now.iterators.now forms.now) }
+/// Adds a form over columns of these names.
+#[tactic(auto, using(crate::proofs::SumLemmas::named))]
+pub fn add_named(out: &mut String, words: &[Text], form: &Form) -> Result<(), AllocError>
+    ensures { OnOk result (string_bytes out.new ≡ string_bytes out.old ++ named_form words.now form.now) }
 {
-    match forms {
-        [] => Ok(()),
-        [form, forms @ ..] => {
-            out.push_str(", ")?;
-            add_form(out, names, form)?;
-            add_behind(out, names, forms)
-        }
-    }
+    let begun = add_terms(out, false, form.coefs.as_slice(), words)?;
+    add_constant(out, begun, form.constant)
 }
 
-/// Adds forms with commas between them.
-pub fn add_forms(out: &mut String, names: &Names<'_>, forms: &[Form]) -> Result<(), AllocError>
-    ensures { OnOk result (string_bytes out.new ≡ string_bytes out.old ++ forms_listed names.now.parameters.now names.now.iterators.now forms.now) }
+/// Adds a form over `x0`, `x1`, ..
+#[tactic(auto, using(crate::proofs::SumLemmas::subscripted))]
+pub fn add_row(out: &mut String, form: &Form) -> Result<(), AllocError>
+    ensures { OnOk result (string_bytes out.new ≡ string_bytes out.old ++ row_text form.now) }
 {
-    match forms {
-        [] => Ok(()),
-        [form, forms @ ..] => {
-            add_form(out, names, form)?;
-            add_behind(out, names, forms)
-        }
-    }
+    let begun = add_numbered(out, false, form.coefs.as_slice(), "x", 0)?;
+    add_constant(out, begun, form.constant)
 }

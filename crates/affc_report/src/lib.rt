@@ -2,7 +2,10 @@
 #![tactic(auto)]
 
 pub mod examples;
+mod folds;
 mod forms;
+mod lists;
 mod trees;
 
+pub use folds::fold_report;
 pub use trees::flow_text;

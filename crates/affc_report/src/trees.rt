@@ -4,12 +4,14 @@ ghost use Rattle.std.specs.List.{All};
 ghost use Rattle.affc_quast.specs.Seen.{seen, trees_of};
 ghost use Rattle.affc_quast.specs.Sources.{loads_in};
 ghost use Rattle.affc_quast.specs.Trees.{depth_of};
-ghost use Rattle.affc_report.specs.Trees.{indent, tree_text, array_name, iterators_round, load_text, loads_text, statements_text, flow_text};
+ghost use Rattle.affc_report.specs.Trees.{tree_form, indent, tree_text, array_name, iterators_round, load_text, loads_text, statements_text, flow_text};
 
-use crate::forms::{Names, add_form, add_forms, behind};
+use crate::forms::{Names, add_form, behind};
+use crate::lists::{WriteItem, add_list};
 use affc_ast::text::Text;
 use affc_nest::{Access, Entry, Nest};
 use affc_quast::{Flow, Quast};
+use affc_rows::Form;
 use affc_schedtext::outline::Outline;
 use std::alloc::{AllocError, Global};
 
@@ -22,6 +24,14 @@ fn add_indent(out: &mut String, level: u32) -> Result<(), AllocError>
     }
     out.push_str("  ")?;
     add_indent(out, level - 1)
+}
+
+impl WriteItem<Form> for Names<'_> {
+    ghost item_text = { λ names form. tree_form names.parameters.now names.iterators.now form };
+
+    fn add_item(&self, out: &mut String, item: &Form) -> Result<(), AllocError> {
+        add_form(out, self, item)
+    }
 }
 
 // Adds a tree at this level, below so many divisions.
@@ -53,7 +63,7 @@ fn add_tree(
         }
         Quast::Source { statement, forms } => {
             write!(out, "source S{statement}(")?;
-            add_forms(out, names, forms.as_slice())?;
+            add_list(out, names, forms.as_slice())?;
             out.push_str(")\n")
         }
         Quast::Input => out.push_str("input\n"),

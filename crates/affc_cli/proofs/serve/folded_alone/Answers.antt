@@ -4,7 +4,7 @@ use Rattle.affc_cli.proofs.serve.folded_alone.Goals as goal
 
 pub returns-clause-ok : goal.returns-clause-ok
 returns-clause-ok g c =
-    fold_promised _ c.args.source.now None
+    fold_promised _ c.args.source.now None c.args.budget
     (source_alone _ c.args.source.now c.in_ok-source.source.items c.deref.result.now c.in_ok-source.ensures.ok c.deref.ensures.value)
     c.fold.result c.fold.ensures.ok
 

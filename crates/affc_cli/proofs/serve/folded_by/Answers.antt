@@ -4,7 +4,7 @@ use Rattle.affc_cli.proofs.serve.folded_by.Goals as goal
 
 pub returns-clause-ok : goal.returns-clause-ok
 returns-clause-ok g c =
-    fold_promised _ c.args.source.now (Some c.args.schedule.now)
+    fold_promised _ c.args.source.now (Some c.args.schedule.now) c.args.budget
     (with_schedule _ _ c.args.source.now c.args.schedule.now c.in_ok-source.source.items c.deref.result.now c.in_ok-schedule.schedule.items c.deref-2.result.now
     c.in_ok-source.ensures.ok c.deref.ensures.value c.in_ok-source.ensures.keeps.names c.in_ok-schedule.ensures.ok c.deref-2.ensures.value)
     c.fold.result c.fold.ensures.ok

@@ -1,7 +1,7 @@
 use Rattle.std.proofs.Common.{◌++◌, codes, refl, ap}
-use Rattle.affc_cli.specs.declared.refusal.Refusal.TheVariants.{Words, Unread, Source, Printed, Schedule, Meaning, Stuck, Illegal, Budget, Memory, Steps, Data, Unbuilt}
+use Rattle.affc_cli.specs.declared.refusal.Refusal.TheVariants.{Words, Unread, Source, Printed, Schedule, Meaning, Stuck, Illegal, Budget, Memory, Steps, Data}
 use Rattle.affc_cli.proofs.Telling.{plain_told, memory_told, made_line}
-use Rattle.affc_cli.proofs.refusal.Refusal.tell.Goals.{in-Words, in-Unread, in-Source+in-Ok, in-Printed+in-Ok-source_line, in-Schedule, in-Meaning, in-Stuck, in-Illegal, in-Budget, in-Memory, in-Steps, in-Data+in-Ok-data_line, in-Unbuilt}
+use Rattle.affc_cli.proofs.refusal.Refusal.tell.Goals.{in-Words, in-Unread, in-Source+in-Ok, in-Printed+in-Ok-source_line, in-Schedule, in-Meaning, in-Stuck, in-Illegal, in-Budget, in-Memory, in-Steps, in-Data+in-Ok-data_line}
 use Rattle.affc_cli.proofs.refusal.Refusal.tell.Goals as goal
 
 pub returns-in-Err-clause-told : goal.returns-in-Err-clause-told
@@ -30,5 +30,4 @@ returns-clause-told g c =
       | in-Memory w ↦ plain_told Memory c.args.self.now c.args.name.now _ _ _ _ c.status.result w.in-Memory.is c.status.ensures refl (ap g.E.Sink.state w.err-is) w.put_line-in-Memory.ensures.told
       | in-Steps w ↦ plain_told Steps c.args.self.now c.args.name.now _ _ _ _ c.status.result w.in-Steps.is c.status.ensures refl (ap g.E.Sink.state w.err-is) w.put_line-in-Steps.ensures.told
       | in-Data+in-Ok-data_line w ↦ plain_told (Data w.in-Data.number) c.args.self.now c.args.name.now _ _ _ _ c.status.result w.in-Data.is c.status.ensures (made_line w.as_str-in-Ok-data_line.result.now _ _ w.as_str-in-Ok-data_line.ensures.value w.in-Ok-data_line.ensures) (ap g.E.Sink.state w.err-is) w.put_line-in-Ok-data_line.ensures.told
-      | in-Unbuilt w ↦ plain_told Unbuilt c.args.self.now c.args.name.now _ _ _ _ c.status.result w.in-Unbuilt.is c.status.ensures refl (ap g.E.Sink.state w.err-is) w.put_line-in-Unbuilt.ensures.told
     ]

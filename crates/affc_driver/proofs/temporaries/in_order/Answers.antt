@@ -1,5 +1,5 @@
 use Rattle.affc_driver.proofs.Refused.{asked, asked_for, turned}
-use Rattle.affc_driver.proofs.folding.in_order.Goals as goal
+use Rattle.affc_driver.proofs.temporaries.in_order.Goals as goal
 
 pub legal-requires : goal.legal-requires
 legal-requires c = record {

@@ -1,0 +1,72 @@
+-- What the folds of a program are asked of, and what they give.
+use Rattle.std.proofs.Common.{◌≡◌, ℤ, IsTrue, List, [], ◌∷◌, sym, subst, inl, inr}
+use Rattle.affc_ast.specs.declared.tree.ArrayId.{ArrayId}
+use Rattle.affc_ast.specs.declared.tree.Program.{Program}
+use Rattle.affc_ast.specs.declared.tree.Instance.{Instance}
+use Rattle.affc_ast.specs.Store.{Element}
+use Rattle.affc_ast.specs.Trace.{loads_of, store_of, events}
+use Rattle.affc_trace.specs.declared.schedule.Schedule.{Schedule}
+use Rattle.affc_trace.specs.Effects.{effect}
+use Rattle.affc_trace.specs.Law.{IsIn}
+use Rattle.affc_trace.specs.Orders.{Touches}
+use Rattle.affc_trace.specs.Laws.{IsInContext}
+use Rattle.affc_trace.specs.Target.{IsScheduleOf, within_limits}
+use Rattle.affc_domain.specs.Plain.{IsPlain}
+use Rattle.affc_split.specs.Budgets.{Account}
+use Rattle.affc_nest.specs.declared.nest.Nest.{Nest}
+use Rattle.affc_nest.specs.Laws.{NamesArrays}
+use Rattle.affc_nest.specs.Nests.{nest_of}
+use Rattle.affc_bounds.specs.Faults.{StaysWithin}
+use Rattle.affc_quast.specs.Limits.{narrow, AreTreesWithin}
+use Rattle.affc_quast.specs.Sources.{NameSources, HaveNearQuotients}
+use Rattle.affc_quast.specs.Trees.{Tree}
+use Rattle.affc_basis.specs.declared.fold.Fold.{Fold}
+use Rattle.affc_schedtext.specs.declared.plan.Plan.{Plan}
+use Rattle.affc_folds.specs.Folding.{IsAnalysed, AreFoldsOf}
+use Rattle.affc_driver.specs.Flows.{NameThroughout}
+use Rattle.affc_driver.specs.Made.{AreDecided}
+use Rattle.affc_driver.specs.Plans.{LegalThroughout, WrittenThroughout}
+use Rattle.affc_driver.specs.Programs.{OfEachText}
+use Rattle.affc_trace.proofs.Once.{in_append}
+use Rattle.affc_driver.proofs.Compiled.{named_is_written, none_is_written, no_folds}
+
+-- an event of an instance is an element that it touches
+touches : (program : Program) (p : List ℤ) (b : Instance) (x : Element) → IsIn x (events program p b) → Touches (effect program p) b x
+touches program p b x there = elim (in_append (loads_of program p b) (store_of program p b ∷ []) x there) [
+  | inl k ↦ inl k
+  | inr k ↦ elim k [ inl e ↦ inr e | inr none ↦ absurd none ]
+]
+
+pub analysed : (program : Program) (nest : Nest) (trees : List Tree) (schedule : Schedule) → IsPlain program → NamesArrays program → nest ≡ nest_of program → StaysWithin program
+    → IsScheduleOf program schedule → IsTrue (within_limits schedule) → NameThroughout program trees → AreTreesWithin narrow 302 12 nest trees → IsAnalysed program nest trees schedule
+analysed program nest trees schedule plain names is within fits slight named limits = record {
+  has = record { plain = plain; near = within.near };
+  named = names;
+  is = is;
+  fits = fits;
+  slight = slight;
+  found = limits;
+  some = within.some;
+  stays = λ p inside. record {
+    extents = within.extents p inside;
+    accesses = λ b x runs there. within.accesses p inside b x runs (touches program p b x there);
+  };
+  sources = λ p inside. subst (λ n. NameSources program p n trees) (sym is) (named p inside).sources;
+  near = λ p inside. subst (λ n. HaveNearQuotients program p n trees) (sym is) (named p inside).near;
+}
+
+-- where there are no temporaries
+pub decided_without : (program : Program) (plan : Plan) (budget : Account) → NamesArrays program → StaysWithin program → program.temps ≡ [] → LegalThroughout program plan.schedule
+    → AreDecided program plan budget []
+decided_without program plan budget names within none legal = record {
+  written = λ text reads bare. none_is_written program names within none;
+  legal = legal;
+  are_folds = no_folds program plan.schedule plan.folds budget none;
+}
+
+pub written_each : (program : Program) (trees : List Tree) → StaysWithin program → NameThroughout program trees → OfEachText program (λ text. WrittenThroughout program)
+written_each program trees within named text reads bare = named_is_written text program trees reads bare within named
+
+pub decided : (program : Program) (plan : Plan) (budget : Account) (trees : List Tree) (folds : List (ArrayId × Fold)) → StaysWithin program → NameThroughout program trees
+    → LegalThroughout program plan.schedule → AreFoldsOf program plan.schedule plan.folds budget folds → AreDecided program plan budget folds
+decided program plan budget trees folds within named legal are = record { written = written_each program trees within named; legal = legal; are_folds = are }

@@ -1,5 +1,0 @@
-use Rattle.std.proofs.Common.{length}
-use Rattle.affc_report.proofs.forms.+add_quotients.Given as goal
-
-abbrev pub decreases-add_quotients : goal.decreases-add_quotients
-decreases-add_quotients l = length l.coefs.now
