@@ -40,7 +40,7 @@ const WAVE: &str = "time 2;\nS0: (i + j, j); i = t0 - t1, j = t1;\n";
 const TOGETHER: &str = "time 1;\nS0: (i); i = t0;\nS1: (k); k = t0;\n";
 
 // The words, the source `a.c`, the schedule `a.data`, the status, and what the output and the error stream get.
-const PLANS: [(&str, &str, &str, u8, &str, &str); 31] = [
+const PLANS: [(&str, &str, &str, u8, &str, &str); 30] = [
     // ---- Loops in the order of the schedule
     ("fold a.c a.data", COPY, "source;\n", 0, COPIED, ""),
     (
@@ -195,15 +195,6 @@ const PLANS: [(&str, &str, &str, u8, &str, &str); 31] = [
         7,
         "",
         "affc: illegal at N=1: S0(1) before S1(0)\n",
-    ),
-    // ---- Folds, which can't be made yet
-    (
-        "fold a.c a.data",
-        BLUR,
-        "source;\nfold t: (x0); x0 = y0;\n",
-        14,
-        "",
-        "affc: unbuilt\n",
     ),
     // ---- Budgets
     (
