@@ -640,7 +640,11 @@ fn kernels_are_served(rt: HostRuntime) -> Result<(), Fail> {
         let done = plain(rt.alloc(), "run a.c a.data", source, feed)?;
         assert_eq!(rt; done.status, 0, "of {source}");
         assert_eq!(rt; done.out.as_slice(), out.as_bytes());
-        let line = if schedule.is_empty() { "fold a.c" } else { "fold a.c a.data" };
+        let line = if schedule.is_empty() {
+            "fold a.c"
+        } else {
+            "fold a.c a.data"
+        };
         let folded = plain(rt.alloc(), line, source, schedule)?;
         assert_eq!(rt; folded.status, 0, "of {source}");
         assert_eq!(rt; folded.out.as_slice(), text.as_bytes());
