@@ -1,10 +1,7 @@
 -- Bases that are listed and copied.
-use Rattle.std.proofs.Common.{◌≡◌, ◌≢◌, ℕ, zero, suc, ◌≤◌, ◌<◌, Bool, true, false, if◌then◌else◌, List, [], ◌∷◌, length, map, Some, None, refl, sym, ap, subst, ◌∙◌, arith}
+use Rattle.std.proofs.Common.{◌≡◌, ℕ, zero, suc, ◌≤◌, ◌<◌, Bool, true, false, if◌then◌else◌, List, ◌∷◌, length, map, Some, refl, sym, ap, subst, ◌∙◌, arith}
 use Rattle.std.specs.Prelude.{◌&&◌, nat_eq, slice_get}
-use Rattle.std.specs.List.{All}
 use Rattle.std.proofs.lemmas.Bool.{eqb-true, eq-eqb}
-use Rattle.std.proofs.lemmas.Option.{none-some, same_Some}
-use Rattle.std.proofs.lemmas.List.Elements.{All-head, All-tail}
 use Rattle.affc_rows.specs.Forms.{Affine}
 use Rattle.affc_ast.specs.declared.tree.ArrayId.{ArrayId}
 use Rattle.affc_domain.proofs.Lists.{length_map, to_mapped}
@@ -13,18 +10,16 @@ use Rattle.affc_basis.specs.Bases.{IsSquare, HaveCoefsWithin, IsFirstBroken}
 use Rattle.affc_basis.specs.Listed.{Shape, shape_of, listing, IsBasis}
 use Rattle.affc_folds.specs.Folding.{basis_for}
 use Rattle.affc_basis.proofs.ListedBases.{listed_bases}
+use Rattle.affc_conflicts.proofs.Decided.{all_at}
 
 -- ---- The first that is listed
 
-some : {A : Type 0} (x : A) (xs : List A) → 0 < length (x ∷ xs)
-some x xs = omega arith
-
 some_listed : (n : ℕ) → n ≤ 4 → 0 < length (listing n)
-some_listed zero h = some _ _
-some_listed (suc zero) h = some _ _
-some_listed (suc (suc zero)) h = some _ _
-some_listed (suc (suc (suc zero))) h = some _ _
-some_listed (suc (suc (suc (suc zero)))) h = some _ _
+some_listed zero h = omega arith
+some_listed (suc zero) h = omega arith
+some_listed (suc (suc zero)) h = omega arith
+some_listed (suc (suc (suc zero))) h = omega arith
+some_listed (suc (suc (suc (suc zero)))) h = omega arith
 some_listed (suc (suc (suc (suc (suc n))))) h = absurd (omega (arith, h))
 
 pub has_first : (n : ℕ) (bs : List Basis) → n ≤ 4 → map shape_of bs ≡ listing n → 0 < length bs
@@ -33,13 +28,8 @@ has_first n bs h e = subst (λ k. 0 < k) (ap length (sym e) ∙ length_map shape
 pub first_is : (n : ℕ) (bs : List Basis) (b : Basis) → map shape_of bs ≡ listing n → slice_get bs 0 ≡ Some b → slice_get (listing n) 0 ≡ Some (shape_of b)
 first_is n bs b e at = ap (λ ss. slice_get ss 0) (sym e) ∙ to_mapped shape_of bs 0 b at
 
-at_place : (P : Shape → Type 0) (ss : List Shape) (k : ℕ) (s : Shape) → All P ss → slice_get ss k ≡ Some s → P s
-at_place P [] k s h e = absurd (none-some s e)
-at_place P (x ∷ ss) zero s h e = subst P (same_Some x s e) (All-head P x ss h)
-at_place P (x ∷ ss) (suc k) s h e = at_place P ss k s (All-tail P x ss h) e
-
 pub listed_rows : (n : ℕ) (b : Basis) → slice_get (listing n) 0 ≡ Some (shape_of b) → length b.rows ≡ n
-listed_rows n b at = (at_place (IsBasis n) (listing n) 0 (shape_of b) (listed_bases n) at).dimensions_fit
+listed_rows n b at = (all_at (IsBasis n) (listing n) (listed_bases n) 0 (shape_of b) at).dimensions_fit
 
 -- ---- Copies
 
@@ -55,7 +45,7 @@ copy_square b rows inverse e f = subst (λ is. IsSquare rows is) (sym f) (subst 
 pub copy_bounds : (fs gs : List Affine) → fs ≡ gs → HaveCoefsWithin 256 gs → HaveCoefsWithin 256 fs
 copy_bounds fs gs e h = subst (HaveCoefsWithin 256) (sym e) h
 
-shape : (rows inverse : List Affine) → Shape
+abbrev shape : (rows inverse : List Affine) → Shape
 shape rows inverse = record { rows = rows; inverse = inverse }
 
 pub same_shape : (b c : Basis) → c.rows ≡ b.rows → c.inverse ≡ b.inverse → shape_of c ≡ shape_of b

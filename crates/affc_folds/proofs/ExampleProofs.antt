@@ -1,14 +1,12 @@
 -- Each example computes.
-use Rattle.std.proofs.Common.{◌≡◌, ℕ, zero, suc, ◌+◌, ◌≤◌, List, [], ◌∷◌, Option, Some, None, refl, sym, ◌∙◌, arith}
+use Rattle.std.proofs.Common.{◌≡◌, ℕ, zero, suc, ◌+◌, Some, None, refl, sym, arith}
 use Rattle.std.specs.Prelude.{slice_get}
 use Rattle.std.proofs.lemmas.Option.{none-some, same_Some}
 use Rattle.affc_ast.specs.declared.tree.Decl.{Decl}
 use Rattle.affc_trace.specs.Examples.{blur}
-use Rattle.affc_basis.specs.declared.fold.Fold.{Fold}
 use Rattle.affc_basis.specs.Examples.{onto, folds}
 use Rattle.affc_basis.specs.Folds.{fold_of}
 use Rattle.affc_folds.specs.Examples.{BasesOfArrays, SpentOrNot, WholeOrNot}
-use Rattle.affc_folds.specs.Folding.{IsLeftWhole}
 
 pub bases_of_arrays : BasesOfArrays
 bases_of_arrays = (refl, refl, refl, refl, refl)

@@ -19,7 +19,7 @@ use Rattle.affc_domain.specs.Ranges.{number_ranges}
 use Rattle.affc_basis.specs.declared.basis.Basis.{Basis}
 use Rattle.affc_basis.specs.declared.fold.Fold.{Fold}
 use Rattle.affc_basis.specs.declared.fold.Modulus.{Modulus}
-use Rattle.affc_basis.specs.Folds.{forms_of, KeepsLimits, Obeys, IsTrueMark}
+use Rattle.affc_basis.specs.Folds.{forms_of, KeepsLimits, Obeys}
 use Rattle.affc_basis.specs.Listed.{shape_of}
 use Rattle.affc_basis.specs.Moduli.{Exceeds, IsModulus}
 use Rattle.affc_nest.specs.declared.nest.ArrayInfo.{ArrayInfo}
@@ -40,7 +40,7 @@ use Rattle.affc_life.proofs.LiveLemmas.{clashes_are_live_pairs}
 use Rattle.affc_life.proofs.SizeLemmas.{found_trees_are_never_large}
 use Rattle.affc_folds.specs.Folding.{IsAnalysed, basis_for, HasTrueMarks, IsFoldFor, HasBound}
 use Rattle.affc_folds.proofs.MarkLemmas.{exceeds_others, mark_of_others}
-use Rattle.affc_folds.proofs.NestLemmas.{near_ranges, to_context, from_context, HasForms, has_forms, IsTemporary, is_temporary, arrays_in}
+use Rattle.affc_folds.proofs.NestLemmas.{near_ranges, to_context, from_context, HasForms, has_forms, is_temporary, arrays_in}
 
 module _ (program : Program) (nest : Nest) (trees : List Tree) (schedule : Schedule) (a : IsAnalysed program nest trees schedule) where
   -- ---- What clash systems are asked of

@@ -1,9 +1,10 @@
 -- Folds one after the other.
-use Rattle.std.proofs.Common.{◌≡◌, ℕ, zero, suc, ◌+◌, ◌<◌, ◌≤◌, Bool, true, false, if◌then◌else◌, List, [], ◌∷◌, ◌++◌, length, map, drop, Option, Some, None, refl, sym, ap, subst, ◌∙◌, ◌⊎◌, inl, inr, arith, true≢false}
-use Rattle.std.specs.Prelude.{nat_eq, slice_get}
+use Rattle.std.proofs.Common.{◌≡◌, ℕ, ◌+◌, ◌<◌, ◌≤◌, Bool, true, false, if◌then◌else◌, List, [], ◌∷◌, ◌++◌, length, map, Some, None, refl, sym, ap, subst, ◌∙◌, ◌⊎◌, inl, inr, arith, true≢false}
+use Rattle.std.specs.Prelude.{nat_eq}
 use Rattle.std.specs.List.{All}
+use Rattle.std.proofs.Math.Nat.{le_refl}
 use Rattle.std.proofs.Math.Numerals.{lt_of_le_of_ne}
-use Rattle.std.proofs.lemmas.Bool.{eqb-true, eq-eqb}
+use Rattle.std.proofs.lemmas.Bool.{eq-eqb}
 use Rattle.std.proofs.lemmas.Option.{none-some, slice_get_within}
 use Rattle.std.proofs.lemmas.List.Elements.{All-nil, All-cons}
 use Rattle.affc_ast.specs.declared.tree.ArrayId.{ArrayId}
@@ -13,13 +14,15 @@ use Rattle.affc_trace.specs.declared.schedule.Schedule.{Schedule}
 use Rattle.affc_trace.specs.Law.{IsIn}
 use Rattle.affc_trace.specs.Orders.{AreDistinct}
 use Rattle.affc_trace.specs.Target.{numbers_in}
+use Rattle.affc_trace.proofs.Members.{to_map, in_map}
+use Rattle.affc_trace.proofs.Once.{in_append}
 use Rattle.affc_split.specs.Budgets.{Account, IsLater}
 use Rattle.affc_basis.specs.declared.basis.Basis.{Basis}
 use Rattle.affc_basis.specs.declared.fold.Fold.{Fold}
 use Rattle.affc_basis.specs.FoldLists.{AreFoldsIn}
 use Rattle.affc_basis.specs.Folds.{KeepsLimits, fold_of}
 use Rattle.affc_basis.proofs.FoldsFound.{folds_are_found}
-use Rattle.affc_folds.specs.Folding.{IsFoldFor, IsSpent, HasBound, AreFoldsBelow, IsLeftWhole}
+use Rattle.affc_folds.specs.Folding.{IsFoldFor, IsSpent, HasBound, AreFoldsBelow, IsLeftWhole, AreFoldsOf}
 
 -- ---- Budgets
 
@@ -32,10 +35,7 @@ stays_spent before after later h = record { most = h.most; limit = later.limit �
 
 -- what is spent is the limit
 pub is_spent : (budget : Account) → budget.limit ≡ Some budget.spent → IsSpent budget
-is_spent budget e = record { most = budget.spent; limit = e; reached = same budget.spent }
-  where
-    same : (n : ℕ) → n ≤ n
-    same n = omega arith
+is_spent budget e = record { most = budget.spent; limit = e; reached = le_refl budget.spent }
 
 -- ---- Members
 
@@ -43,31 +43,18 @@ abbrev number_of : ArrayId × Fold → ℕ
 number_of f = f.0.0
 
 in_end : (fs : List (ArrayId × Fold)) (new f : ArrayId × Fold) → IsIn f (fs ++ new ∷ []) → IsIn f fs ⊎ (f ≡ new)
-in_end [] new f (inl e) = inr e
-in_end [] new f (inr i) = absurd i
-in_end (x ∷ fs) new f (inl e) = inl (inl e)
-in_end (x ∷ fs) new f (inr i) = elim (in_end fs new f i) [ inl h ↦ inl (inr h) | inr e ↦ inr e ]
-
-of_number : (fs : List (ArrayId × Fold)) (n : ℕ) → IsIn n (map number_of fs) → (f : ArrayId × Fold) × IsIn f fs × (f.0.0 ≡ n)
-of_number [] n i = absurd i
-of_number (x ∷ fs) n (inl e) = (x, inl refl, sym e)
-of_number (x ∷ fs) n (inr i) = let r = of_number fs n i in (r.0, inr r.1, r.2)
+in_end fs new f i = elim (in_append fs (new ∷ []) f i) [ inl j ↦ inl j | inr (inl e) ↦ inr e | inr (inr none) ↦ absurd none ]
 
 distinct_end : (fs : List (ArrayId × Fold)) (new : ArrayId × Fold) → AreDistinct (map number_of fs) → ((f : ArrayId × Fold) → IsIn f fs → f.0.0 < new.0.0) → AreDistinct (map number_of (fs ++ new ∷ []))
-distinct_end [] new d below = ((λ i. i), tt)
+distinct_end [] new d below = (λ i. i, tt)
 distinct_end (x ∷ fs) new d below = (
-  λ i. (let r = of_number (fs ++ new ∷ []) x.0.0 i in elim (in_end fs new r.0 r.1) [
-    | inl h ↦ d.0 (subst (λ n. IsIn n (map number_of fs)) r.2 (numbered fs r.0 h))
-    | inr e ↦ apart x.0.0 new.0.0 (below x (inl refl)) (sym r.2 ∙ ap number_of e)
+  λ i. (let r = in_map number_of (fs ++ new ∷ []) x.0.0 i in elim (in_end fs new r.0 r.1) [
+    | inl h ↦ d.0 (subst (λ n. IsIn n (map number_of fs)) (sym r.2) (to_map number_of fs r.0 h))
+    | inr e ↦ apart x.0.0 new.0.0 (below x (inl refl)) (r.2 ∙ ap number_of e)
   ]),
   distinct_end fs new d.1 (λ f i. below f (inr i)),
 )
   where
-    numbered : (fs : List (ArrayId × Fold)) (f : ArrayId × Fold) → IsIn f fs → IsIn f.0.0 (map number_of fs)
-    numbered [] f i = absurd i
-    numbered (y ∷ fs) f (inl e) = inl (ap number_of e)
-    numbered (y ∷ fs) f (inr i) = inr (numbered fs f i)
-
     apart : (k n : ℕ) → k < n → k ≡ n → ⊥
     apart k n h e = omega (arith, h, e)
 
@@ -89,7 +76,7 @@ missing_before (x ∷ fs) new array e = by_test (nat_eq x.0.0 array) refl e (mis
 
 module _ (program : Program) (schedule : Schedule) (bases : List (ArrayId × Basis)) where
   pub none_yet : (budget : Account) (n : ℕ) → n ≡ length (arrays_of program.params) → AreFoldsBelow program schedule bases budget n []
-  pub none_yet budget n e = record {
+  none_yet budget n e = record {
     different = tt;
     below = λ array fold i. absurd i;
     each = λ array fold i. absurd i;
@@ -152,25 +139,25 @@ module _ (program : Program) (schedule : Schedule) (bases : List (ArrayId × Bas
 -- ---- The whole list
 
 module _ (program : Program) (schedule : Schedule) (bases : List (ArrayId × Basis)) (budget : Account) (n : ℕ) (folds : List (ArrayId × Fold)) (h : AreFoldsBelow program schedule bases budget n folds) where
-  pub all_in : AreFoldsIn program folds
+  all_in : AreFoldsIn program folds
   all_in = record { different = h.different; each = λ array fold i. (h.each array fold i).in_program }
 
-  pub all_limited : All (λ (f : ArrayId × Fold). KeepsLimits (numbers_in program.params) f.1) folds
+  all_limited : All (λ (f : ArrayId × Fold). KeepsLimits (numbers_in program.params) f.1) folds
   all_limited = each folds (λ f i. (h.each f.0 f.1 i).limits)
     where
       each : (fs : List (ArrayId × Fold)) → ((f : ArrayId × Fold) → IsIn f fs → KeepsLimits (numbers_in program.params) f.1) → All (λ (f : ArrayId × Fold). KeepsLimits (numbers_in program.params) f.1) fs
       each [] g = All-nil (λ (f : ArrayId × Fold). KeepsLimits (numbers_in program.params) f.1)
       each (f ∷ fs) g = All-cons (λ (f : ArrayId × Fold). KeepsLimits (numbers_in program.params) f.1) f fs (g f (inl refl)) (each fs (λ x i. g x (inr i)))
 
-  pub its_fold : (array : ℕ) (fold : Fold) → fold_of folds array ≡ Some fold → IsFoldFor program schedule bases array fold
+  its_fold : (array : ℕ) (fold : Fold) → fold_of folds array ≡ Some fold → IsFoldFor program schedule bases array fold
   its_fold array fold e =
       let r = (folds_are_found program folds array fold all_in).0 e in
       subst (λ k. IsFoldFor program schedule bases k fold) r.1 (h.each r.0 fold r.2)
 
-  pub bound_spent : (array : ℕ) (fold : Fold) → fold_of folds array ≡ Some fold → HasBound fold → IsSpent budget
-  bound_spent array fold e b = let r = (folds_are_found program folds array fold all_in).0 e in h.bound r.0 fold r.2 b
+  its_bound : (array : ℕ) (fold : Fold) → fold_of folds array ≡ Some fold → HasBound fold → IsSpent budget
+  its_bound array fold e b = let r = (folds_are_found program folds array fold all_in).0 e in h.bound r.0 fold r.2 b
 
-  pub whole_spent : n ≡ length (arrays_of program.params) + length program.temps → IsLeftWhole program folds → IsSpent budget
+  whole_spent : n ≡ length (arrays_of program.params) + length program.temps → IsLeftWhole program folds → IsSpent budget
   whole_spent e left =
       let under : left.number < length program.temps = slice_get_within program.temps left.number left.decl left.stands in
       let first = length (arrays_of program.params) in
@@ -181,3 +168,14 @@ module _ (program : Program) (schedule : Schedule) (bases : List (ArrayId × Bas
 
       add_below : (a b c : ℕ) → b < c → a + b < a + c
       add_below a b c g = omega (arith, g)
+
+  pub all_made : n ≡ length (arrays_of program.params) + length program.temps → AreFoldsOf program schedule bases budget folds
+  all_made e = record {
+    in_program = all_in;
+    bases_for = λ array fold at. (its_fold array fold at).basis;
+    limits = all_limited;
+    obeys = λ p inside array fold at. (its_fold array fold at).obeys p inside;
+    marks = λ array fold at. (its_fold array fold at).marks;
+    bound = its_bound;
+    whole = whole_spent e;
+  }

@@ -1,6 +1,6 @@
 -- Moduli that obey, and true marks, where pairs and context are said in other words.
-use Rattle.std.proofs.Common.{ℕ, ◌≡◌, ℤ, List, Option, Some, None, inl, inr}
-use Rattle.std.specs.Prelude.{◌↔◌, slice_get}
+use Rattle.std.proofs.Common.{ℕ, ℤ, List, Option, Some, None, inl, inr}
+use Rattle.std.specs.Prelude.{◌↔◌}
 use Rattle.affc_rows.specs.Forms.{Affine}
 use Rattle.affc_basis.specs.declared.fold.Mark.{Mark}
 use Rattle.affc_basis.specs.declared.fold.Mark.TheVariants.{Least, Bound}

@@ -1,11 +1,11 @@
 -- What is known of the nest of a program, as it is asked of the conditions of moduli.
-use Rattle.std.proofs.Common.{◌≡◌, ℕ, zero, suc, ◌+◌, ◌^◌, ◌≤◌, ◌<◌, ℤ, true, IsTrue, List, [], ◌∷◌, ◌++◌, length, map, Some, refl, sym, ap, subst, ◌∙◌, inl, inr, arith}
-use Rattle.std.specs.Prelude.{◌↔◌, unsigned_abs, nat_le, nat_abs, int_le, ◌&&◌, slice_get}
+use Rattle.std.proofs.Common.{◌≡◌, ℕ, zero, suc, ◌+◌, ◌^◌, ◌≤◌, ◌<◌, ℤ, IsTrue, List, [], ◌∷◌, length, map, Some, sym, ap, subst, ◌∙◌, inl, inr, arith}
+use Rattle.std.specs.Prelude.{unsigned_abs, nat_le, nat_abs, int_le, ◌&&◌, slice_get}
 use Rattle.std.specs.List.{All}
 use Rattle.std.proofs.lemmas.Bool.{leb-true}
 use Rattle.std.proofs.lemmas.Option.{none-some, same_Some, slice_get_within}
+use Rattle.std.proofs.lemmas.List.{length-append}
 use Rattle.std.proofs.lemmas.List.Elements.{All-nil, All-cons}
-use Rattle.affc_rows.specs.Forms.{Affine}
 use Rattle.affc_system.specs.Pairs.{IsSubscript}
 use Rattle.affc_ast.specs.declared.tree.Decl.{Decl}
 use Rattle.affc_ast.specs.declared.tree.Ix.{Ix}
@@ -119,8 +119,4 @@ is_temporary program array info at h =
 -- ---- How many arrays there are
 
 pub arrays_in : (program : Program) → length (nest_of program).arrays ≡ length (arrays_of program.params) + length program.temps
-arrays_in program = length_map (array_of (length (number_ranges program.params))) (declared_arrays program) ∙ lengths (arrays_of program.params) program.temps
-  where
-    lengths : (xs ys : List Decl) → length (xs ++ ys) ≡ length xs + length ys
-    lengths [] ys = omega arith
-    lengths (x ∷ xs) ys = let e = lengths xs ys in omega (arith, e)
+arrays_in program = length_map (array_of (length (number_ranges program.params))) (declared_arrays program) ∙ length-append (arrays_of program.params) program.temps

@@ -1,12 +1,9 @@
 -- What the definitions give at small lists.
-use Rattle.std.specs.Prelude.{◌≡◌, ℕ, pos, List, [], ◌∷◌, length, Option, Some, None}
-use Rattle.affc_rows.specs.Forms.{Affine}
+use Rattle.std.specs.Prelude.{◌≡◌, pos, List, [], ◌∷◌, Some, None}
 use Rattle.affc_ast.specs.declared.tree.ArrayId.{ArrayId}
 use Rattle.affc_trace.specs.Examples.{blur}
-use Rattle.affc_split.specs.Budgets.{Account}
 use Rattle.affc_basis.specs.declared.basis.Basis.{Basis}
-use Rattle.affc_basis.specs.declared.fold.Fold.{Fold}
-use Rattle.affc_basis.specs.Examples.{whole, x0, onto, folds}
+use Rattle.affc_basis.specs.Examples.{whole, onto, folds}
 use Rattle.affc_basis.specs.Listed.{shape_of, columns, square}
 use Rattle.affc_folds.specs.Folding.{basis_for, IsSpent, HasBound, IsLeftWhole}
 

@@ -34,7 +34,7 @@ fn copies(alloc: Global, forms: &[Form]) -> Result<Items<Form>, AllocError>
 }
 
 /// A copy of a basis.
-#[tactic(auto, using(crate::proofs::BasisLemmas::copy_square, crate::proofs::BasisLemmas::copy_bounds, crate::proofs::BasisLemmas::none_broken, crate::proofs::BasisLemmas::same_shape))]
+#[tactic(auto, using(crate::proofs::BasisLemmas::copy_square, crate::proofs::BasisLemmas::copy_bounds, crate::proofs::BasisLemmas::same_shape))]
 fn copied(alloc: Global, basis: &Basis) -> Result<Basis, AllocError>
     ensures shape { IfOk result (λ b. shape_of b ≡ shape_of basis.now) }
     ensures rows { IfOk result (λ b. b.rows ≡ basis.now.rows) }

@@ -5,20 +5,16 @@ ghost use Rattle.affc_rows.specs.Forms.{Affine};
 ghost use Rattle.affc_system.specs.ElementPairs.{IsPairOf};
 ghost use Rattle.affc_ast.specs.declared.tree.ArrayId.{ArrayId};
 ghost use Rattle.affc_ast.specs.Meaning.{arrays_of};
-ghost use Rattle.affc_trace.specs.Dataflow.{LivePair};
-ghost use Rattle.affc_trace.specs.Laws.{IsInContext};
-ghost use Rattle.affc_trace.specs.Target.{numbers_in};
 ghost use Rattle.affc_split.specs.Budgets.{IsLater};
 ghost use Rattle.affc_basis.specs.declared.fold.Fold.{Fold};
-ghost use Rattle.affc_basis.specs.FoldLists.{AreFoldsIn};
 ghost use Rattle.affc_basis.specs.declared.fold.Mark.TheVariants.{Bound};
-ghost use Rattle.affc_basis.specs.Folds.{KeepsLimits, Obeys, forms_of, fold_of, IsTrueMark};
+ghost use Rattle.affc_basis.specs.Folds.{forms_of, IsTrueMark};
 ghost use Rattle.affc_basis.specs.Moduli.{Exceeds, IsModulus};
 ghost use Rattle.affc_conflicts.specs.Conditions.{InContext};
 ghost use Rattle.affc_basis.specs.Listed.{shape_of};
 ghost use Rattle.affc_quast.specs.Seen.{trees_of};
 ghost use Rattle.affc_life.specs.Clashes.{clash_of, clashes};
-ghost use Rattle.affc_folds.specs.Folding.{IsAnalysed, basis_for, HasTrueMarks, IsFoldFor, IsSpent, HasBound, AreFoldsBelow, AreFoldsOf};
+ghost use Rattle.affc_folds.specs.Folding.{IsAnalysed, basis_for, IsFoldFor, IsSpent, HasBound, AreFoldsBelow, AreFoldsOf};
 
 use crate::bases::basis_of;
 use affc_ast::tree::{ArrayId, Program};
@@ -44,7 +40,7 @@ struct Asked<'a> {
 }
 
 /// The clash systems of an array.
-#[tactic(auto, using(crate::proofs::FoldLemmas::scheduled, crate::proofs::FoldLemmas::trees_keep_limits, crate::proofs::FoldLemmas::never_large))]
+#[tactic(auto, using(crate::proofs::FoldLemmas::scheduled, crate::proofs::FoldLemmas::never_large))]
 fn systems_of(alloc: Global, asked: &Asked<'_>, array: ArrayId) -> Result<Vec<PairSystem>, Stop>
     requires analysed { IsAnalysed asked.now.program.now asked.now.nest.now (trees_of asked.now.flow.now) asked.now.schedule.now }
     ensures systems { IfOk result (λ systems. map clash_of systems.items ≡ clashes asked.now.nest.now (trees_of asked.now.flow.now) asked.now.schedule.now array.0) }
@@ -79,7 +75,6 @@ fn dimensions_of(info: &ArrayInfo) -> u32
 }
 
 /// The moduli of an array along a basis.
-#[tactic(auto, using(crate::proofs::FoldLemmas::as_many_ranges, crate::proofs::FoldLemmas::few_parameters, crate::proofs::FoldLemmas::near_parameters, crate::proofs::FoldLemmas::some_in_context, crate::proofs::FoldLemmas::extents_are_forms, crate::proofs::FoldLemmas::conflicts))]
 fn moduli_along(
     alloc: Global,
     asked: &Asked<'_>,
@@ -108,7 +103,7 @@ fn moduli_along(
 }
 
 /// The fold of an array along its basis.
-#[tactic(auto, using(crate::proofs::FoldLemmas::few_dimensions, crate::proofs::FoldLemmas::fold_made, crate::proofs::ListLemmas::is_spent))]
+#[tactic(auto, using(crate::proofs::FoldLemmas::few_dimensions, crate::proofs::ListLemmas::is_spent))]
 fn fold_along(
     alloc: Global,
     asked: &Asked<'_>,
@@ -133,7 +128,7 @@ fn fold_along(
 }
 
 /// The fold of an array.
-#[tactic(auto, using(crate::proofs::FoldLemmas::scalar_made, crate::proofs::FoldLemmas::no_bound))]
+#[tactic(auto, using(crate::proofs::FoldLemmas::no_bound))]
 fn fold_array(
     alloc: Global,
     asked: &Asked<'_>,
@@ -157,7 +152,6 @@ fn fold_array(
 }
 
 /// Adds the fold of an array, unless the budget ends first.
-#[tactic(auto, using(crate::proofs::ListLemmas::one_whole, crate::proofs::ListLemmas::one_more))]
 fn add_fold(
     alloc: Global,
     asked: &Asked<'_>,
@@ -220,7 +214,7 @@ fn add_folds(
 ///
 /// A given basis is that of the first pair with the array, and is taken where it has a row for each dimension. An array
 /// without dimensions has the fold without rows.
-#[tactic(auto, using(crate::proofs::ListLemmas::none_yet, crate::proofs::ListLemmas::all_in, crate::proofs::ListLemmas::all_limited))]
+#[tactic(auto, using(crate::proofs::FoldLemmas::enough_arrays, crate::proofs::FoldLemmas::first_is, crate::proofs::FoldLemmas::arrays_are, crate::proofs::ListLemmas::none_yet))]
 pub fn fold_all(
     alloc: Global,
     program: &Program,

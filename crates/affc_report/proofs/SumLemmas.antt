@@ -1,5 +1,5 @@
 -- A form's text is what is written term by term.
-use Rattle.std.proofs.Common.{◌≡◌, ◌∙◌, ℕ, zero, suc, ℤ, Bool, true, false, List, [], ◌∷◌, ◌++◌, length, take, drop, map, codes, decimal, refl, sym, ap, append_assoc}
+use Rattle.std.proofs.Common.{◌≡◌, ◌∙◌, ℕ, suc, ℤ, Bool, true, false, List, [], ◌∷◌, ◌++◌, length, take, drop, map, codes, decimal, refl, sym, ap, append_assoc}
 use Rattle.std.specs.List.{drop-map}
 use Rattle.affc_nest.specs.declared.nest.Entry.{Entry}
 use Rattle.affc_rows.specs.Forms.{Affine}
@@ -10,7 +10,7 @@ use Rattle.affc_quast.specs.Sources.{loads_in}
 use Rattle.affc_quast.specs.Trees.{Tree}
 use Rattle.affc_schedtext.specs.Outline.{numbered_names}
 use Rattle.affc_schedtext.specs.declared.outline.Outline.{Outline}
-use Rattle.affc_report.specs.Forms.{Term, is_there, leading, following, more_text, form_text, constant_behind, terms_of, named_form, row_text}
+use Rattle.affc_report.specs.Forms.{Term, is_there, leading, more_text, form_text, constant_behind, terms_of, named_form, row_text}
 use Rattle.affc_report.specs.Sums.{begun_by, begun_by_all, term_text, terms_text, end_text, numbered_terms}
 use Rattle.affc_report.specs.Trees.{tree_form, loads_text, statements_text}
 

@@ -1,14 +1,21 @@
--- Forms and trees as text, each written by hand.
-use Rattle.std.specs.Prelude.{◌≡◌, ℕ, ℤ, pos, negsuc, true, false, ◌∷◌, [], codes, List}
+-- Forms, trees and folds as text, each written by hand.
+use Rattle.std.specs.Prelude.{◌≡◌, ℕ, ℤ, pos, negsuc, Bool, true, false, ◌∷◌, [], codes, List, Option, Some, None}
 use Rattle.affc_rows.specs.Forms.{Affine}
+use Rattle.affc_ast.specs.declared.tree.ArrayId.{ArrayId}
+use Rattle.affc_basis.specs.declared.fold.Mark.TheVariants.{Least, Bound}
+use Rattle.affc_basis.specs.declared.fold.Modulus.{Modulus}
+use Rattle.affc_basis.specs.declared.fold.Fold.{Fold}
+use Rattle.affc_basis.specs.Listed.{shape_of, columns, square}
+use Rattle.affc_grammar.specs.Grammar.{Name}
 use Rattle.affc_nest.specs.declared.nest.Access.{Access}
 use Rattle.affc_nest.specs.declared.nest.Entry.{Entry}
 use Rattle.affc_nest.specs.declared.nest.Nest.{Nest}
 use Rattle.affc_quast.specs.Trees.{Tree, Test, Div, Source, Input}
 use Rattle.affc_schedtext.specs.declared.outline.ArrayOutline.{ArrayOutline}
 use Rattle.affc_schedtext.specs.declared.outline.Outline.{Outline}
-use Rattle.affc_report.specs.Forms.{form_text}
+use Rattle.affc_report.specs.Forms.{form_text, named_form}
 use Rattle.affc_report.specs.Trees.{tree_text, flow_text}
+use Rattle.affc_report.specs.Folds.{mark_text, moduli_text, basis_text, fold_report}
 
 abbrev form : List ℤ → ℤ → Affine
 form cs k = record { coefs = cs; constant = k }
@@ -19,6 +26,10 @@ FormsAreWritten = (form_text [] (pos 0) ≡ codes "0")
     × (form_text ((pos 1, codes "i") ∷ (negsuc 0, codes "N") ∷ []) (pos 1) ≡ codes "i - N + 1")
     × (form_text ((negsuc 0, codes "i") ∷ (pos 0, codes "j") ∷ (pos 3, codes "N") ∷ []) (negsuc 0) ≡ codes "-i + 3 * N - 1")
     × (form_text ((pos 0, codes "i") ∷ (negsuc 1, codes "j") ∷ (negsuc 4, codes "N") ∷ []) (pos 0) ≡ codes "-(2 * j) - 5 * N")
+
+-- a column without a name is left out
+abbrev pub NamesAreWritten : Type 0
+NamesAreWritten = named_form (codes "N" ∷ codes "M" ∷ []) (form (pos 1 ∷ pos 2 ∷ pos 3 ∷ []) (pos 4)) ≡ codes "N + 2 * M + 4"
 
 -- over N, i: S0(i - 1) where i is at least 1, and else S1 at the half of i + N + 1
 abbrev tree : Tree
@@ -35,12 +46,12 @@ TreesAreWritten = (tree_text (codes "N" ∷ []) (codes "i" ∷ []) 1 0 tree
 
 -- ---- Loads
 
-abbrev array : List ℕ → ArrayOutline
-array name = record { name = name; dimensions = 1; is_temporary = false }
+abbrev array : (is_temporary : Bool) → (dimensions : ℕ) → Name → ArrayOutline
+array is_temporary dimensions name = record { name = name; dimensions = dimensions; is_temporary = is_temporary }
 
 -- over N, two statements with an iterator each
 abbrev outline : Outline
-outline = record { parameters = codes "N" ∷ []; statements = (codes "i" ∷ []) ∷ (codes "j" ∷ []) ∷ []; arrays = array (codes "in") ∷ array (codes "t") ∷ [] }
+outline = record { parameters = codes "N" ∷ []; statements = (codes "i" ∷ []) ∷ (codes "j" ∷ []) ∷ []; arrays = array false 1 (codes "in") ∷ array true 1 (codes "t") ∷ [] }
 
 abbrev access : ℕ → Access
 access array = record { array = record { 0 = array }; subs = [] }
@@ -55,3 +66,50 @@ nest = record { params = []; context = record { columns = 0; rows = [] }; arrays
 abbrev pub LoadsAreWritten : Type 0
 LoadsAreWritten = flow_text outline nest (Input ∷ Source 0 (form (pos 0 ∷ pos 1 ∷ []) (pos 0) ∷ []) ∷ Input ∷ [])
     ≡ codes "S0 load 0 in\n  input\nS1 load 0 t\n  source S0(j)\nS1 load 1 in\n  input\n"
+
+-- ---- Folds
+
+abbrev n_and_m : List Name
+n_and_m = codes "N" ∷ codes "M" ∷ []
+
+abbrev pair : Option (List ℤ × List ℤ)
+pair = Some (pos 0 ∷ negsuc 0 ∷ [], pos 2 ∷ pos 3 ∷ [])
+
+abbrev pub MarksAreWritten : Type 0
+MarksAreWritten = (mark_text n_and_m (Least (pos 4 ∷ negsuc 6 ∷ []) pair) ≡ codes " least at N=4 M=-7 pair (0, -1) (2, 3)")
+    × (mark_text [] (Least [] (Some (pos 0 ∷ [], pos 2 ∷ []))) ≡ codes " least pair (0) (2)")
+    × (mark_text (codes "N" ∷ []) (Least (pos 4 ∷ []) None) ≡ codes " least at N=4 no pair")
+    × (mark_text [] (Least [] None) ≡ codes " least no pair")
+    × (mark_text n_and_m Bound ≡ codes " bound")
+    × (mark_text n_and_m (Least (pos 4 ∷ []) None) ≡ codes " least at N=4 no pair")
+    × (mark_text (codes "N" ∷ []) (Least (pos 4 ∷ pos 7 ∷ []) None) ≡ codes " least at N=4 no pair")
+
+-- N - 3 M + 1, and 1
+abbrev moduli : List Modulus
+moduli = record { form = form (pos 1 ∷ negsuc 2 ∷ []) (pos 1); mark = Least (pos 4 ∷ pos 7 ∷ []) pair } ∷ record { form = form (pos 0 ∷ pos 0 ∷ []) (pos 1); mark = Bound } ∷ []
+
+abbrev pub ModuliAreWritten : Type 0
+ModuliAreWritten = moduli_text n_and_m 0 moduli ≡ codes "  modulus 0: N - 3 * M + 1 least at N=4 M=7 pair (0, -1) (2, 3)\n  modulus 1: 1 bound\n"
+
+abbrev pub BasesAreWritten : Type 0
+BasesAreWritten = (basis_text (form (pos 1 ∷ negsuc 1 ∷ []) (pos 0) ∷ form (pos 0 ∷ pos 1 ∷ []) (pos 0) ∷ []) ≡ codes "  basis (x0 - 2 * x1, x1)\n")
+    × (basis_text (form (pos 0 ∷ negsuc 0 ∷ pos 1 ∷ []) (pos 0) ∷ []) ≡ codes "  basis (-x1 + x2)\n")
+    × (basis_text [] ≡ codes "  basis ()\n")
+
+-- two parameters' arrays, a temporary of two dimensions, one of one and one of none
+abbrev folded : Outline
+folded = record {
+  parameters = n_and_m;
+  statements = [];
+  arrays = array false 2 (codes "in") ∷ array false 2 (codes "out") ∷ array true 2 (codes "t") ∷ array true 1 (codes "u") ∷ array true 0 (codes "s") ∷ [];
+}
+
+abbrev fold_at : ℕ → Fold → ArrayId × Fold
+fold_at array fold = (record { 0 = array }, fold)
+
+-- The first has a fold over the listed basis (x0 + x1, x1), the last one without rows, and the other none. No other array is told of.
+abbrev pub FoldsAreWritten : Type 0
+FoldsAreWritten = (skewed empty : Fold) → shape_of skewed.basis ≡ square (pos 1) (pos 1) (pos 0) (pos 1) (pos 1) (negsuc 0) (pos 0) (pos 1) → skewed.moduli ≡ moduli
+    → shape_of empty.basis ≡ columns [] → empty.moduli ≡ []
+    → fold_report folded (fold_at 4 empty ∷ fold_at 1 empty ∷ fold_at 2 skewed ∷ [])
+    ≡ codes "array t\n  basis (x0 + x1, x1)\n  modulus 0: N - 3 * M + 1 least at N=4 M=7 pair (0, -1) (2, 3)\n  modulus 1: 1 bound\narray u\n  whole budget\narray s\n  basis ()\n"

@@ -53,9 +53,12 @@ moduli_text ps k (m ∷ ms) = modulus_text ps k m ++ moduli_text ps (suc k) ms
 abbrev pub basis_text : (rows : List Affine) → List ℕ
 basis_text rows = codes "  basis (" ++ join_by row_text (codes ", ") rows ++ codes ")\n"
 
+abbrev pub whole_text : List ℕ
+whole_text = codes "  whole budget\n"
+
 -- the lines below a temporary's name; it is left whole where it has no fold
 abbrev pub fold_text : (parameters : List Name) → Option Fold → List ℕ
-fold_text ps None = codes "  whole budget\n"
+fold_text ps None = whole_text
 fold_text ps (Some fold) = basis_text fold.basis.rows ++ moduli_text ps 0 fold.moduli
 
 -- ---- Temporaries

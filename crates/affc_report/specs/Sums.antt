@@ -1,5 +1,5 @@
 -- A form's text as it is written term by term.
-use Rattle.std.specs.Prelude.{ℕ, suc, ℤ, Bool, true, false, ◌||◌, if◌then◌else◌, List, [], ◌∷◌, ◌++◌, decimal}
+use Rattle.std.specs.Prelude.{ℕ, suc, ℤ, Bool, ◌||◌, if◌then◌else◌, List, [], ◌∷◌, ◌++◌, decimal}
 use Rattle.std.specs.Fmt.{signed_decimal}
 use Rattle.affc_grammar.specs.Grammar.{Name}
 use Rattle.affc_report.specs.declared.forms.Name.{Name as Column}

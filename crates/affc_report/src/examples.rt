@@ -1,9 +1,14 @@
-//! Forms and trees as text.
-ghost use Rattle.affc_report.specs.Examples.{FormsAreWritten, TreesAreWritten, LoadsAreWritten};
+//! Forms, trees and folds as text.
+ghost use Rattle.affc_report.specs.Examples.{FormsAreWritten, NamesAreWritten, TreesAreWritten, LoadsAreWritten, MarksAreWritten, ModuliAreWritten, BasesAreWritten, FoldsAreWritten};
 
 /// Forms.
 pub fn forms_are_written()
     ensures { FormsAreWritten }
+{}
+
+/// Forms over names.
+pub fn names_are_written()
+    ensures { NamesAreWritten }
 {}
 
 /// Trees.
@@ -14,4 +19,24 @@ pub fn trees_are_written()
 /// The loads of a program.
 pub fn loads_are_written()
     ensures { LoadsAreWritten }
+{}
+
+/// What is known of a modulus.
+pub fn marks_are_written()
+    ensures { MarksAreWritten }
+{}
+
+/// The moduli of a fold.
+pub fn moduli_are_written()
+    ensures { ModuliAreWritten }
+{}
+
+/// The rows of a basis.
+pub fn bases_are_written()
+    ensures { BasesAreWritten }
+{}
+
+/// The temporaries of a program.
+pub fn folds_are_written()
+    ensures { FoldsAreWritten }
 {}

@@ -158,28 +158,30 @@ fn add_fold(out: &mut String, parameters: &[Text], fold: &Fold) -> Result<(), Al
     add_moduli(out, parameters, 0, fold.moduli.as_slice())
 }
 
-// Adds the lines of the array with this number.
-fn add_fold_of(
-    out: &mut String,
-    parameters: &[Text],
-    folds: &[(ArrayId, Fold)],
-    array: usize,
-) -> Result<(), AllocError>
-    ensures { OnOk result (string_bytes out.new ≡ string_bytes out.old ++ specs.fold_text parameters.now (fold_of folds.now array)) }
+// The fold of the array with this number, if it has one.
+fn fold_of(folds: &[(ArrayId, Fold)], array: usize) -> Option<&Fold>
+    ensures { MatchOption result (fold_of folds.now array ≡ None) (λ fold. fold_of folds.now array ≡ Some fold.now) }
 {
     match folds {
-        [] => out.push_str("  whole budget\n"),
+        [] => None,
         [(folded, fold), folds @ ..] => {
             if folded.0 as usize == array {
-                add_fold(out, parameters, fold)
+                Some(fold)
             } else {
-                add_fold_of(out, parameters, folds, array)
+                fold_of(folds, array)
             }
         }
     }
 }
 
 // ---- Temporaries
+
+// Adds the line of a temporary that is left whole.
+fn add_whole(out: &mut String) -> Result<(), AllocError>
+    ensures { OnOk result (string_bytes out.new ≡ string_bytes out.old ++ specs.whole_text) }
+{
+    out.push_str("  whole budget\n")
+}
 
 // Adds a temporary's name and its lines.
 fn add_temporary(
@@ -193,7 +195,10 @@ fn add_temporary(
 {
     let name = array.name.as_str();
     write!(out, "array {name}\n")?;
-    add_fold_of(out, parameters, folds, number)
+    match fold_of(folds, number) {
+        Some(fold) => add_fold(out, parameters, fold),
+        None => add_whole(out),
+    }
 }
 
 // Adds the temporaries among arrays with the numbers from this one on.

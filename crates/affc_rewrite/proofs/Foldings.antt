@@ -50,35 +50,7 @@ all_weaker P Q xs f h = λ i x l. f _ (h i x l)
 pub moduli_fit : (parameters : ℕ) (fold : Fold) → parameters ≤ 4 → KeepsLimits parameters fold → All (IsPrintable parameters) (forms_of fold.moduli)
 moduli_fit parameters fold few h = all_weaker (IsModulus parameters) (IsPrintable parameters) (forms_of fold.moduli) (λ b is. modulus_printable parameters b few is) h
 
--- ---- Which subscripts a fold gives
-
-pub rows_used : (fold : Fold) (parameters names : ℕ) (extents : List Affine) (subs : List Ix) → length subs ≡ length fold.basis.rows
-    → components_from parameters (map (form_of names 0) subs) 0 fold.basis.rows (forms_of fold.moduli) extents subs ≡ subscripts_by (Some fold) parameters names extents subs
-rows_used fold parameters names extents subs e =
-    let components : List Ix = components_from parameters (map (form_of names 0) subs) 0 fold.basis.rows (forms_of fold.moduli) extents subs in
-    sym (ap (λ t. if t then components else subs) (eq-eqb (length subs) (length fold.basis.rows) e))
-
-pub own_kept : (fold : Fold) (parameters names : ℕ) (extents : List Affine) (subs : List Ix) → ¬ (length subs ≡ length fold.basis.rows) → subs ≡ subscripts_by (Some fold) parameters names extents subs
-own_kept fold parameters names extents subs h = by_test (nat_eq (length subs) (length fold.basis.rows)) refl
-  where
-    by_test : (t : Bool) → nat_eq (length subs) (length fold.basis.rows) ≡ t
-        → subs ≡ (if t then components_from parameters (map (form_of names 0) subs) 0 fold.basis.rows (forms_of fold.moduli) extents subs else subs)
-    by_test true e = absurd (h (eqb-true (length subs) (length fold.basis.rows) e))
-    by_test false e = refl
-
--- of no subscripts none
-pub none_used : (fold : Fold) (parameters names : ℕ) (extents : List Affine) (subs : List Ix) → subs ≡ [] → [] ≡ subscripts_by (Some fold) parameters names extents subs
-none_used fold parameters names extents subs e = by_test (nat_eq 0 (length fold.basis.rows)) refl ∙ ap (subscripts_by (Some fold) parameters names extents) (sym e)
-  where
-    no_components : (k : ℕ) (rows moduli extents : List Affine) → [] ≡ components_from parameters [] k rows moduli extents []
-    no_components k [] moduli extents = refl
-    no_components k (row ∷ rows) [] extents = refl
-    no_components k (row ∷ rows) (b ∷ moduli) [] = refl
-    no_components k (row ∷ rows) (b ∷ moduli) (extent ∷ extents) = refl
-
-    by_test : (t : Bool) → nat_eq 0 (length fold.basis.rows) ≡ t → [] ≡ (if t then components_from parameters [] 0 fold.basis.rows (forms_of fold.moduli) extents [] else [])
-    by_test true f = no_components 0 fold.basis.rows (forms_of fold.moduli) extents
-    by_test false f = refl
+-- ---- Walks over lists
 
 -- what stands behind the first of a list is shorter
 pub shorter : {A : Type 0} (xs : List A) → 1 ≤ length xs → length (take (length xs - 1) (drop 1 xs)) < length xs

@@ -5,10 +5,10 @@ pub mod Accesses
 pub mod FoldedTemps
 pub mod FoldsPrinted
 pub mod ExampleProofs
-pub mod PartLemmas
 pub mod TermSteps
 pub mod Steps
 pub mod RowSizes
+pub mod Choices
 pub mod Foldings
 pub mod PlainBodies
 pub mod SightLemmas

@@ -1,7 +1,6 @@
 pub mod Rewrite
 pub mod Laws
 pub mod Examples
-pub mod Parts
 pub mod Sums
 pub mod Sizes
 pub mod Sight

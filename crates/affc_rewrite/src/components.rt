@@ -1,13 +1,14 @@
 //! The components of places, as they are printed.
-ghost use Rattle.std.specs.Prelude.{◌≡◌, ◌≤◌, ◌+◌, ◌++◌, ◌&&◌, length, IfOk};
+ghost use Rattle.std.specs.Prelude.{◌≡◌, ◌≤◌, ◌+◌, ◌++◌, ◌&&◌, pos, length, replicate, IfOk};
+ghost use Rattle.std.specs.Cmp.Lexicographic.{pointwise};
 ghost use Rattle.std.specs.List.{All};
+ghost use Rattle.std.specs.Ordering.{int_eq};
 ghost use Rattle.affc_rows.specs.Forms.{composed_form};
 ghost use Rattle.affc_basis.specs.Folds.{forms_of};
 ghost use Rattle.affc_ast.specs.declared.tree.Ix.TheVariants as made_trees;
 ghost use Rattle.affc_rewrite.specs.Rewrite as specs;
 ghost use Rattle.affc_rewrite.specs.Sizes.{IsRow, IsPrintable, IsAccess};
 
-use crate::forms::number;
 use crate::trees::{form_ix, modulo};
 use affc_ast::Items;
 use affc_ast::tree::Ix;
@@ -31,13 +32,20 @@ fn same(f: &Form, g: &Form) -> bool
     f.constant == g.constant && f.coefs.as_slice() == g.coefs.as_slice()
 }
 
-/// Whether a form over so many columns is the constant 1.
-fn is_one(alloc: Global, columns: u32, f: &Form) -> Result<bool, AllocError>
-    requires { length f.now.coefs ≡ columns }
-    ensures { IfOk result (λ b. b ≡ specs.is_one f.now) }
+fn are_zero(coefs: &[i128]) -> bool
+    ensures { result ≡ pointwise int_eq coefs.now (replicate (length coefs.now) (pos 0)) }
 {
-    let one = number(alloc, columns, 1)?;
-    Ok(same(f, &one))
+    match coefs {
+        [] => true,
+        [c, rest @ ..] => *c == 0 && are_zero(rest),
+    }
+}
+
+/// Whether a form is the constant 1.
+fn is_one(f: &Form) -> bool
+    ensures { result ≡ specs.is_one f.now }
+{
+    f.constant == 1 && are_zero(f.coefs.as_slice())
 }
 
 /// Whether a row over so many dimensions is the `k`-th unit row.
@@ -126,7 +134,7 @@ fn component(
     requires modulus { IsPrintable access.now.parameters modulus.now }
     ensures { IfOk result (λ e. e ≡ specs.component access.now.parameters access.now.forms.now k row.now modulus.now extent.now own.now) }
 {
-    if is_one(alloc, access.parameters, modulus)? {
+    if is_one(modulus) {
         return Ok(Ix::Lit(0));
     }
     if is_own(alloc, access.forms.len() as u32, k, row, modulus, extent)? {

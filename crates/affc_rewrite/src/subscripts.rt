@@ -60,7 +60,7 @@ fn by_rows(
 }
 
 /// The subscripts of an array with a fold.
-#[tactic(auto, using(crate::proofs::Foldings::rows_used, crate::proofs::Foldings::none_used, crate::proofs::Foldings::own_kept))]
+#[tactic(auto, using(crate::proofs::Choices::rows_used, crate::proofs::Choices::none_used, crate::proofs::Choices::own_kept))]
 fn by_fold(
     alloc: Global,
     parameters: u32,

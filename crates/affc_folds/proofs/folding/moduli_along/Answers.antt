@@ -1,4 +1,4 @@
-use Rattle.std.proofs.Common.{◌≡◌, length, sym, subst}
+use Rattle.std.proofs.Common.{sym, subst}
 use Rattle.std.specs.List.{All}
 use Rattle.affc_system.specs.Pairs.{IsSubscript}
 use Rattle.affc_conflicts.specs.Conditions.{IsConflict}
@@ -22,3 +22,8 @@ pub moduli-requires-clause-extents : goal.moduli-requires-clause-extents
 moduli-requires-clause-extents c =
     subst (All (IsSubscript c.args.asked.now.nest.now.context.columns)) (sym c.as_slice-extents.ensures)
     (extents_are_forms c.args.asked.now.program.now c.args.asked.now.nest.now (trees_of c.args.asked.now.flow.now) c.args.asked.now.schedule.now c.requires.analysed c.args.array.0 c.args.info.now c.requires.there)
+
+pub moduli-requires-clause-conflicts : goal.moduli-requires-clause-conflicts
+moduli-requires-clause-conflicts c =
+    subst (λ extents. All (IsConflict c.args.asked.now.nest.now.context c.args.asked.now.nest.now.params extents) c.args.systems.now) (sym c.as_slice-extents.ensures)
+    (conflicts c.args.asked.now.program.now c.args.asked.now.nest.now (trees_of c.args.asked.now.flow.now) c.args.asked.now.schedule.now c.requires.analysed c.args.array.0 c.args.info.now c.requires.there c.args.systems.now c.requires.systems)
