@@ -1,6 +1,6 @@
 #!/bin/sh
-# Writes the sources, data and outputs of this folder, what is compiled of each source, and a schedule with its loops, as
-# the texts that the tests of affc_command_tests run.
+# Writes the sources, data, outputs and schedules of this folder, and what `fold` prints and reports of each source by its
+# schedule, as the texts that the tests of affc_command_tests run.
 # With `--check` it only says whether those are up to date.
 cd "$(dirname "$0")" || exit 1
 table=../crates/affc_command_tests/src/commands/kernels.rt
@@ -14,8 +14,8 @@ literal() {
 
 texts() {
     cat <<'END'
-// The kernels of examples/, each with its source, its data, what its run gives, its compiled text, and a schedule with its
-// compiled text, or nothing; written by examples/texts.sh.
+// The kernels of examples/, each with its source, its data, what its run gives, its schedule, or nothing, and the text and
+// the report of its fold; written by examples/texts.sh.
 pub const KERNELS: [(&str, &str, &str, &str, &str, &str); COUNT] = [
 END
     for source in *.c; do
@@ -24,7 +24,7 @@ END
         literal "$name.c"
         literal "$name.data"
         literal "$name.out"
-        for part in fold s loops; do
+        for part in s fold report; do
             if [ -f "$name.$part" ]; then literal "$name.$part"; else printf '        "",\n'; fi
         done
         printf '    ),\n'

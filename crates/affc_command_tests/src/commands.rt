@@ -2,6 +2,7 @@
 //! failure outside leaves.
 mod edges;
 mod failures;
+mod folds;
 mod kernels;
 mod rows;
 mod schedules;
@@ -16,6 +17,9 @@ const COPY: &str =
 
 const BLUR: &str =
     "#include <stdint.h>\n#pragma affc param N 1 4096\nvoid blur(int64_t N, const uint64_t in[N + 2], uint64_t out[N]) {\n  uint64_t t[N + 2];\n  for (int64_t i = 0; i < N + 2; i++)\n    t[i] = in[i] + 1ULL;\n  for (int64_t i = 0; i < N; i++)\n    out[i] = t[i] + t[i + 1] + t[i + 2];\n}\n";
+
+// What is reported of the blur in its own order.
+const WHOLE: &str = "array t\n  basis (x0)\n  modulus 0: N + 2 least at N=4096 pair (0) (4097)\n";
 
 // How a function begins with the number N, the input `in` and the output `out`.
 const OPEN: &str =

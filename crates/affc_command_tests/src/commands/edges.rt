@@ -1,5 +1,5 @@
 //! What is wrong with a source at the edges of the language, told at its byte.
-use super::{BLUR, OPEN, plain};
+use super::{BLUR, OPEN, WHOLE, plain};
 use affc_lex::prelude::PRELUDE;
 use std::alloc::{AllocError, Global};
 use std::test::Fail;
@@ -7,8 +7,9 @@ use std::test::Fail;
 // What is told of a source that reads, where nothing is wrong with it and it has no temporary.
 const READS: &str = "";
 
-// What is reported of one that has the temporary `t`.
-const WHOLE: &str = "array t\n  whole unbuilt\n";
+// What is reported of a temporary that nothing touches.
+const UNTOUCHED: &str =
+    "array t\n  basis (x0, x1, x2, x3)\n  modulus 0: 1 least no pair\n  modulus 1: 1 least no pair\n  modulus 2: 1 least no pair\n  modulus 3: 1 least no pair\n";
 
 // The line that `fold` writes on the error stream for a text.
 fn told(alloc: Global, text: &str) -> Result<Vec<u8>, AllocError> {
@@ -85,7 +86,11 @@ fn counts_are_reached_and_passed(rt: HostRuntime) -> Result<(), Fail> {
             [CONDITION, " && 0 < 1", ") out[0] = 1ULL; }", "", ""],
             "affc: source at 345: limit comparisons\n",
         ),
-        (4, [TEMPORARY, "[1]", "; out[0] = 1ULL; }", "", ""], WHOLE),
+        (
+            4,
+            [TEMPORARY, "[1]", "; out[0] = 1ULL; }", "", ""],
+            UNTOUCHED,
+        ),
         (
             5,
             [TEMPORARY, "[1]", "; out[0] = 1ULL; }", "", ""],

@@ -1,6 +1,6 @@
 //! What `fold` and `run` make of their files where nothing outside fails, with outputs that are known from outside.
 use super::kernels::KERNELS;
-use super::{BLUR, COPY, OPEN, plain};
+use super::{BLUR, COPY, OPEN, WHOLE, plain};
 use affc_lex::prelude::PRELUDE;
 use std::alloc::{AllocError, Global};
 use std::test::Fail;
@@ -10,8 +10,6 @@ const PRINTED: &str =
 
 const BLURRED: &str =
     "#include <stdint.h>\n#pragma affc param N 1 4096\nvoid blur(int64_t N, const uint64_t in[N + 2], uint64_t out[N]) {\n  uint64_t t[N + 2];\n  for (int64_t i = 0; i < N + 2; i++) {\n    t[i] = in[i] + 1ULL;\n  }\n  for (int64_t i = 0; i < N; i++) {\n    out[i] = t[i] + t[i + 1] + t[i + 2];\n  }\n}\n";
-
-const WHOLE: &str = "array t\n  whole unbuilt\n";
 
 // A load of a temporary that is written for N of at least 2 alone.
 const LATE: &str =
@@ -638,20 +636,21 @@ fn runs_are_served(rt: HostRuntime) -> Result<(), Fail> {
 
 #[test]
 fn kernels_are_served(rt: HostRuntime) -> Result<(), Fail> {
-    for (source, feed, out, compiled, schedule, loops) in KERNELS {
+    for (source, feed, out, schedule, text, report) in KERNELS {
         let done = plain(rt.alloc(), "run a.c a.data", source, feed)?;
         assert_eq!(rt; done.status, 0, "of {source}");
         assert_eq!(rt; done.out.as_slice(), out.as_bytes());
-        let folded = plain(rt.alloc(), "fold a.c", source, "")?;
+        let line = if schedule.is_empty() {
+            "fold a.c"
+        } else {
+            "fold a.c a.data"
+        };
+        let folded = plain(rt.alloc(), line, source, schedule)?;
         assert_eq!(rt; folded.status, 0, "of {source}");
-        assert_eq!(rt; folded.out.as_slice(), compiled.as_bytes());
-        if schedule.is_empty() {
-            continue;
-        }
-        let ordered = plain(rt.alloc(), "fold a.c a.data", source, schedule)?;
-        assert_eq!(rt; ordered.out.as_slice(), loops.as_bytes(), "of {source}");
-        let done = plain(rt.alloc(), "run a.c a.data", loops, feed)?;
-        assert_eq!(rt; done.out.as_slice(), out.as_bytes());
+        assert_eq!(rt; folded.out.as_slice(), text.as_bytes());
+        assert_eq!(rt; folded.err.as_slice(), report.as_bytes(), "of {source}");
+        let done = plain(rt.alloc(), "run a.c a.data", text, feed)?;
+        assert_eq!(rt; done.out.as_slice(), out.as_bytes(), "of {text}");
     }
     Ok(())
 }

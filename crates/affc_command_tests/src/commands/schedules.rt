@@ -37,6 +37,9 @@ const NOTHING: &str =
 
 const WAVE: &str = "time 2;\nS0: (i + j, j); i = t0 - t1, j = t1;\n";
 
+// the second loop two steps behind the first
+const BEHIND: &str = "time 1;\nS0: (i); i = t0;\nS1: (i + 2); i = t0 - 2;\n";
+
 const TOGETHER: &str = "time 1;\nS0: (i); i = t0;\nS1: (k); k = t0;\n";
 
 // The words, the source `a.c`, the schedule `a.data`, the status, and what the output and the error stream get.
@@ -196,15 +199,6 @@ const PLANS: [(&str, &str, &str, u8, &str, &str); 31] = [
         "",
         "affc: illegal at N=1: S0(1) before S1(0)\n",
     ),
-    // ---- Folds, which can't be made yet
-    (
-        "fold a.c a.data",
-        BLUR,
-        "source;\nfold t: (x0); x0 = y0;\n",
-        14,
-        "",
-        "affc: unbuilt\n",
-    ),
     // ---- Budgets
     (
         "fold --budget 1 a.c a.data",
@@ -215,6 +209,14 @@ const PLANS: [(&str, &str, &str, u8, &str, &str); 31] = [
         "affc: budget\n",
     ),
     ("fold a.c --budget=1000000 a.data", SUMS, WAVE, 0, WAVES, ""),
+    (
+        "fold a.c a.data --budget 1",
+        BLUR,
+        BEHIND,
+        8,
+        "",
+        "affc: budget\n",
+    ),
     // ---- Words
     ("fold a.c a.data b", COPY, "", 2, "", "affc: words\n"),
     (
@@ -230,7 +232,7 @@ const PLANS: [(&str, &str, &str, u8, &str, &str); 31] = [
 ];
 
 // A source, its schedule, how what is printed is run, its data, the status, and the output.
-const ORDERS: [(&str, &str, &str, &str, u8, &str); 6] = [
+const ORDERS: [(&str, &str, &str, &str, u8, &str); 8] = [
     (
         COPY,
         "time 1;\nS0: (-i); i = -t0;\n",
@@ -280,6 +282,22 @@ const ORDERS: [(&str, &str, &str, &str, u8, &str); 6] = [
         "param N 2\narray out 4 5 6\n",
         0,
         "array out 5 6 6\n",
+    ),
+    (
+        BLUR,
+        BEHIND,
+        "run a.c a.data",
+        "param N 4\narray in 1 2 3 4 5 6\narray out 0 0 0 0\n",
+        0,
+        "array out 9 12 15 18\n",
+    ),
+    (
+        BLUR,
+        BEHIND,
+        "run a.c a.data",
+        "param N 1\narray in 18446744073709551614 18446744073709551614 18446744073709551614\narray out 0\n",
+        0,
+        "array out 18446744073709551613\n",
     ),
 ];
 

@@ -1,0 +1,140 @@
+//! What `fold` makes of temporaries: their sizes, the elements that the report shows, and what the folded text gives, all
+//! known from outside.
+use super::kernels::KERNELS;
+use super::plain;
+use super::rows::whole;
+use std::test::Fail;
+
+// A source, its schedule, the folded text, the report, data, and what both the source and the folded text give.
+const FOLDS: [(&str, &str, &str, &str, &str, &str); 7] = [
+    // at one time the second loop loads what the first has just stored
+    (
+        "#include <stdint.h>\n#pragma affc param N 1 9\nvoid tie(int64_t N, const uint64_t in[N], uint64_t out[N]) {\n  uint64_t t[N];\n  for (int64_t i = 0; i < N; i++)\n    t[i] = in[i] * 3ULL;\n  for (int64_t i = 0; i < N; i++)\n    out[i] = t[i];\n}\n",
+        "time 1;\nS0: (i); i = t0;\nS1: (i); i = t0;\n",
+        "#include <stdint.h>\n#pragma affc param N 1 9\n{prelude}void tie(int64_t N, const uint64_t in[N], uint64_t out[N]) {\n  uint64_t t[1];\n  for (int64_t affc_t0 = 0; affc_t0 <= 8; affc_t0++) {\n    {\n      const int64_t i = affc_t0;\n      if (0 <= i && i <= 8) {\n        if (affc_t0 == i) {\n          if (0 <= i && i < N) {\n            t[0] = in[i] * 3ULL;\n          }\n        }\n      }\n    }\n    {\n      const int64_t i = affc_t0;\n      if (0 <= i && i <= 8) {\n        if (affc_t0 == i) {\n          if (0 <= i && i < N) {\n            out[i] = t[0];\n          }\n        }\n      }\n    }\n  }\n}\n",
+        "array t\n  basis (x0)\n  modulus 0: 1 least at N=1 no pair\n",
+        "param N 2\narray in 5 6\narray out 0 0\n",
+        "array out 15 18\n",
+    ),
+    // an element is stored by the instance that loads the one before it
+    (
+        "#include <stdint.h>\n#pragma affc param N 1 9\nvoid own(int64_t N, const uint64_t in[N], uint64_t out[N]) {\n  uint64_t t[N + 1];\n  t[0] = 0ULL;\n  for (int64_t i = 0; i < N; i++) {\n    t[i + 1] = t[i] + in[i];\n    out[i] = t[i + 1];\n  }\n}\n",
+        "source;\n",
+        "#include <stdint.h>\n#pragma affc param N 1 9\nvoid own(int64_t N, const uint64_t in[N], uint64_t out[N]) {\n  uint64_t t[1];\n  t[0] = 0ULL;\n  for (int64_t i = 0; i < N; i++) {\n    t[0] = t[0] + in[i];\n    out[i] = t[0];\n  }\n}\n",
+        "array t\n  basis (x0)\n  modulus 0: 1 least at N=1 no pair\n",
+        "param N 3\narray in 1 2 3\narray out 0 0 0\n",
+        "array out 1 3 6\n",
+    ),
+    // each element lives by itself
+    (
+        "#include <stdint.h>\n#pragma affc param N 1 9\nvoid lives(int64_t N, const uint64_t in[N], uint64_t out[N]) {\n  uint64_t t[2];\n  for (int64_t i = 0; i < N; i++) {\n    t[0] = in[i];\n    out[i] = t[0];\n    t[1] = in[i];\n    out[i] = out[i] + t[1];\n    t[0] = 5ULL;\n    out[i] = out[i] + t[0];\n  }\n}\n",
+        "source;\n",
+        "#include <stdint.h>\n#pragma affc param N 1 9\nvoid lives(int64_t N, const uint64_t in[N], uint64_t out[N]) {\n  uint64_t t[1];\n  for (int64_t i = 0; i < N; i++) {\n    t[0] = in[i];\n    out[i] = t[0];\n    t[0] = in[i];\n    out[i] = out[i] + t[0];\n    t[0] = 5ULL;\n    out[i] = out[i] + t[0];\n  }\n}\n",
+        "array t\n  basis (x0)\n  modulus 0: 1 least at N=1 no pair\n",
+        "param N 2\narray in 1 2\narray out 0 0\n",
+        "array out 7 9\n",
+    ),
+    // every other element is stored
+    (
+        "#include <stdint.h>\n#pragma affc param N 1 8\nvoid even(int64_t N, const uint64_t in[N], uint64_t out[N]) {\n  uint64_t t[2 * N];\n  for (int64_t i = 0; i < N; i++)\n    t[2 * i] = in[i];\n  for (int64_t k = 0; k < N; k++)\n    for (int64_t j = 2 * k; j <= 2 * k; j++)\n      out[k] = t[j];\n}\n",
+        "source;\n",
+        "#include <stdint.h>\n#pragma affc param N 1 8\n{prelude}void even(int64_t N, const uint64_t in[N], uint64_t out[N]) {\n  uint64_t t[2 * N - 1];\n  for (int64_t i = 0; i < N; i++) {\n    t[affc_mod(2 * i, 2 * N - 1)] = in[i];\n  }\n  for (int64_t k = 0; k < N; k++) {\n    for (int64_t j = 2 * k; j <= 2 * k; j++) {\n      out[k] = t[affc_mod(j, 2 * N - 1)];\n    }\n  }\n}\n",
+        "array t\n  basis (x0)\n  modulus 0: 2 * N - 1 least at N=8 pair (0) (14)\n",
+        "param N 3\narray in 7 8 9\narray out 0 0 0\n",
+        "array out 7 8 9\n",
+    ),
+    // a scalar, and an array that nothing touches
+    (
+        "#include <stdint.h>\n#pragma affc param N 1 9\nvoid scalar(int64_t N, const uint64_t in[N], uint64_t out[N]) {\n  uint64_t s, u[3];\n  s = 0ULL;\n  for (int64_t i = 0; i < N; i++) {\n    s += in[i];\n    out[i] = s;\n  }\n}\n",
+        "source;\n",
+        "#include <stdint.h>\n#pragma affc param N 1 9\nvoid scalar(int64_t N, const uint64_t in[N], uint64_t out[N]) {\n  uint64_t s;\n  uint64_t u[1];\n  s = 0ULL;\n  for (int64_t i = 0; i < N; i++) {\n    s += in[i];\n    out[i] = s;\n  }\n}\n",
+        "array s\n  basis ()\narray u\n  basis (x0)\n  modulus 0: 1 least at N=1 no pair\n",
+        "param N 3\narray in 1 2 3\narray out 0 0 0\n",
+        "array out 1 3 6\n",
+    ),
+    // no parameters
+    (
+        "#include <stdint.h>\nvoid none(uint64_t out[3]) {\n  uint64_t t[4];\n  for (int64_t i = 0; i < 4; i++)\n    t[i] = (uint64_t)(2 * i + 1);\n  for (int64_t i = 0; i < 3; i++)\n    out[i] = t[i] * t[i + 1];\n}\n",
+        "time 1;\nS0: (i); i = t0;\nS1: (i + 1); i = t0 - 1;\n",
+        "#include <stdint.h>\n{prelude}void none(uint64_t out[3]) {\n  uint64_t t[2];\n  for (int64_t affc_t0 = 0; affc_t0 <= 3; affc_t0++) {\n    {\n      const int64_t i = affc_t0;\n      if (0 <= i && i <= 3) {\n        if (affc_t0 == i) {\n          if (0 <= i && i < 4) {\n            t[affc_mod(i, 2)] = (uint64_t)(2 * i + 1);\n          }\n        }\n      }\n    }\n    {\n      const int64_t i = affc_t0 - 1;\n      if (0 <= i && i <= 2) {\n        if (affc_t0 == i + 1) {\n          if (0 <= i && i < 3) {\n            out[i] = t[affc_mod(i, 2)] * t[affc_mod(i + 1, 2)];\n          }\n        }\n      }\n    }\n  }\n}\n",
+        "array t\n  basis (x0)\n  modulus 0: 2 least pair (0) (1)\n",
+        "array out 0 0 0\n",
+        "array out 3 15 35\n",
+    ),
+    // values that the context leaves out
+    (
+        "#include <stdint.h>\n#pragma affc param N 1 100\n#pragma affc context N > 4 && N < 8\nvoid within(int64_t N, const uint64_t in[N], uint64_t out[N]) {\n  uint64_t t[N];\n  for (int64_t i = 0; i < N; i++)\n    t[i] = in[i];\n  for (int64_t i = 0; i < N; i++)\n    out[i] = t[N - 1 - i];\n}\n",
+        "source;\n",
+        "#include <stdint.h>\n#pragma affc param N 1 100\n#pragma affc context N > 4 && N < 8\nvoid within(int64_t N, const uint64_t in[N], uint64_t out[N]) {\n  uint64_t t[N];\n  for (int64_t i = 0; i < N; i++) {\n    t[i] = in[i];\n  }\n  for (int64_t i = 0; i < N; i++) {\n    out[i] = t[N - 1 - i];\n  }\n}\n",
+        "array t\n  basis (x0)\n  modulus 0: N least at N=7 pair (0) (6)\n",
+        "param N 5\narray in 1 2 3 4 5\narray out 0 0 0 0 0\n",
+        "array out 5 4 3 2 1\n",
+    ),
+];
+
+// What a kernel's text has, the words, another schedule or nothing, lines of the folded text, and the report.
+const OTHERS: [(&str, &str, &str, &str, &str); 4] = [
+    (
+        "void sweep(",
+        "fold a.c a.data",
+        "source;\nfold g: (x0, x1); x0 = y0, x1 = y1;\n",
+        "  uint64_t g[2][N];\n",
+        "array g\n  basis (x0, x1)\n  modulus 0: 2 least at T=1 N=3 pair (0, 0) (1, 0)\n  modulus 1: N least at T=1 N=100 pair (0, 0) (0, 99)\n",
+    ),
+    (
+        "void stages(",
+        "fold a.c a.data --budget 92",
+        "",
+        "  uint64_t a[3];\n  uint64_t b[N + 3];\n",
+        "array a\n  basis (x0)\n  modulus 0: 3 least at N=1 pair (0) (2)\narray b\n  whole budget\n",
+    ),
+    (
+        "void blur(",
+        "fold a.c a.data --budget 1000000",
+        "",
+        "  uint64_t t[3];\n",
+        "array t\n  basis (x0)\n  modulus 0: 3 least at N=1 pair (0) (2)\n",
+    ),
+    (
+        "void blur(",
+        "fold a.c a.data",
+        "source;\nfold t: (-x0); x0 = -y0;\n",
+        "  uint64_t t[N + 2];\n",
+        "array t\n  basis (-x0)\n  modulus 0: N + 2 least at N=4096 pair (4097) (0)\n",
+    ),
+];
+
+#[test]
+fn temporaries_are_folded(rt: HostRuntime) -> Result<(), Fail> {
+    for (source, schedule, text, report, feed, out) in FOLDS {
+        let text = whole(rt.alloc(), text)?;
+        let folded = plain(rt.alloc(), "fold a.c a.data", source, schedule)?;
+        assert_eq!(rt; folded.status, 0, "of {source}");
+        assert_eq!(rt; folded.out.as_slice(), text.as_bytes());
+        assert_eq!(rt; folded.err.as_slice(), report.as_bytes());
+        for program in [source, text.as_str()] {
+            let done = plain(rt.alloc(), "run a.c a.data", program, feed)?;
+            assert_eq!(rt; done.status, 0, "of {program}");
+            assert_eq!(rt; done.out.as_slice(), out.as_bytes());
+        }
+    }
+    Ok(())
+}
+
+#[test]
+fn kernels_are_folded_otherwise(rt: HostRuntime) -> Result<(), Fail> {
+    for (name, line, other, lines, report) in OTHERS {
+        for (source, _, _, own, _, _) in KERNELS {
+            if !source.contains(name) {
+                continue;
+            }
+            let schedule = if other.is_empty() { own } else { other };
+            let folded = plain(rt.alloc(), line, source, schedule)?;
+            assert_eq!(rt; folded.status, 0, "at {line} of {name}");
+            assert_eq!(rt; folded.err.as_slice(), report.as_bytes());
+            let text = String::from_utf8(folded.out).unwrap_or(String::new(rt.alloc()));
+            assert!(rt; text.contains(lines), "at {line} of {name}");
+        }
+    }
+    Ok(())
+}
