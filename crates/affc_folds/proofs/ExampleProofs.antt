@@ -1,6 +1,7 @@
 -- Each example computes, or follows from what the blur needs.
-use Rattle.std.proofs.Common.{◌≡◌, ℕ, zero, suc, ◌+◌, ◌^◌, ◌≤◌, ℤ, pos, ◌≤ℤ◌, ◌<ℤ◌, Bool, true, false, if◌then◌else◌, List, [], ◌∷◌, length, map, Some, None, refl, sym, ap, subst, inl, inr, lit≤, arith}
+use Rattle.std.proofs.Common.{◌≡◌, ℕ, zero, suc, ◌+◌, ◌^◌, ◌≤◌, ℤ, pos, ◌≤ℤ◌, ◌<ℤ◌, Bool, true, false, if◌then◌else◌, List, [], ◌∷◌, length, map, Some, None, refl, sym, ap, subst, inl, inr, lit≤, arith, ◌<◌}
 use Rattle.std.specs.Prelude.{nat_eq, slice_get, unsigned_abs}
+use Rattle.std.proofs.lemmas.Int.{ints}
 use Rattle.std.proofs.lemmas.Bool.{eqb-true}
 use Rattle.std.proofs.lemmas.Option.{none-some, same_Some}
 use Rattle.std.proofs.lemmas.List.Elements.{All-nil, All-cons, All-head}
@@ -8,22 +9,22 @@ use Rattle.affc_rows.specs.Forms.{Affine, value}
 use Rattle.affc_ast.specs.declared.tree.ArrayId.{ArrayId}
 use Rattle.affc_ast.specs.declared.tree.Decl.{Decl}
 use Rattle.affc_trace.specs.Dataflow.{LivePair}
-use Rattle.affc_trace.specs.Examples.{blur, together}
+use Rattle.affc_trace.specs.Examples.{blur, together, two}
 use Rattle.affc_trace.specs.Law.{IsIn}
 use Rattle.affc_trace.specs.Laws.{IsInContext}
 use Rattle.affc_split.specs.Budgets.{Account}
 use Rattle.affc_basis.specs.declared.fold.Fold.{Fold}
 use Rattle.affc_basis.specs.declared.fold.Mark.TheVariants.{Bound}
 use Rattle.affc_basis.specs.declared.fold.Modulus.{Modulus}
-use Rattle.affc_basis.specs.Examples.{x0, whole, number, onto, fold_at, marked, IsEnoughForTheBlur, IsTrueOfTheBlur}
+use Rattle.affc_basis.specs.Examples.{x0, whole, number, onto, fold_at, marked, IsEnoughForTheBlur, IsTrueOfTheBlur, first_row, two_rows, OnePair}
 use Rattle.affc_basis.specs.FoldLists.{IsFoldIn, AreFoldsIn}
 use Rattle.affc_basis.specs.Folds.{fold_of, KeepsLimits, Obeys, IsTrueMark}
 use Rattle.affc_basis.specs.Listed.{Shape, shape_of}
 use Rattle.affc_basis.specs.Moduli.{IsModulus}
-use Rattle.affc_basis.specs.Slices.{along, InSlice}
+use Rattle.affc_basis.specs.Slices.{along, InSlice, IsGreatest}
 use Rattle.affc_basis.proofs.MarkExamples.{three_is_enough, marks_of_the_blur}
 use Rattle.affc_basis.proofs.PremiseExamples.{lists_of_folds}
-use Rattle.affc_folds.specs.Examples.{BasesOfArrays, SpentOrNot, WholeOrNot, FoldsOfBlur, AreOfTheBlur, t_has, by, least, turned, three_of}
+use Rattle.affc_folds.specs.Examples.{BasesOfArrays, SpentOrNot, WholeOrNot, SecondMarkIsFalse, FoldsOfBlur, AreOfTheBlur, t_has, by, least, turned, three_of}
 use Rattle.affc_folds.specs.Folding.{IsSpent, HasBound, HasTrueMarks, IsLeftWhole, basis_for}
 
 pub bases_of_arrays : BasesOfArrays
@@ -70,6 +71,27 @@ whole_or_not = (
   is_bound 3,
   not_bound 3,
 )
+
+-- ---- A false mark
+
+abbrev second_row : Affine
+second_row = record { coefs = pos 0 ∷ pos 1 ∷ []; constant = pos 0 }
+
+not_one : (n : ℕ) → ◌≡◌ {A = ℤ} (pos 1) (pos (n + 1)) → 3 ≤ n → ⊥
+not_one n e h = omega (arith, ints, e, h)
+
+pair_in_slice : InSlice (OnePair two) two_rows 1 (pos 0 ∷ pos 0 ∷ []) (pos 0 ∷ pos 3 ∷ [])
+pair_in_slice = record { pair = (refl, refl); agrees = agrees }
+  where
+    agrees : (j : ℕ) (row : Affine) → j < 1 → slice_get two_rows j ≡ Some row → along row (pos 0 ∷ pos 0 ∷ []) (pos 0 ∷ pos 3 ∷ []) ≡ 0
+    agrees zero row h e = subst (λ (r : Affine). along r (pos 0 ∷ pos 0 ∷ []) (pos 0 ∷ pos 3 ∷ []) ≡ 0) (same_Some first_row row e) refl
+    agrees (suc j) row h e = absurd (omega (arith, h))
+
+pub second_mark_is_false : SecondMarkIsFalse
+second_mark_is_false fold rows moduli h =
+    let m = h 1 second_row (marked 1 None) (ap (λ rs. slice_get rs 1) rows) (ap (λ ms. slice_get ms 1) moduli) in
+    let g : IsGreatest (OnePair two) two_rows 1 second_row m.greatest = subst (λ rs. IsGreatest (OnePair two) rs 1 second_row m.greatest) rows m.is_greatest in
+    not_one m.greatest m.value_there (g.most (pos 0 ∷ pos 0 ∷ []) (pos 0 ∷ pos 3 ∷ []) pair_in_slice)
 
 -- ---- A fold of t
 

@@ -5,16 +5,16 @@ use Rattle.std.proofs.lemmas.List.Elements.{All-nil, All-cons}
 use Rattle.std.proofs.lemmas.Option.{same_Some}
 use Rattle.affc_rows.specs.Forms.{Affine, HaveColumns, composed_form}
 use Rattle.affc_ast.specs.declared.tree.ArrayId.{ArrayId}
-use Rattle.affc_trace.specs.Examples.{blur, together}
+use Rattle.affc_trace.specs.Examples.{blur, together, two}
 use Rattle.affc_trace.specs.Inverses.{column}
 use Rattle.affc_split.specs.Budgets.{Account}
 use Rattle.affc_basis.specs.declared.basis.Basis.{Basis}
 use Rattle.affc_basis.specs.declared.fold.Fold.{Fold}
 use Rattle.affc_basis.specs.declared.fold.Modulus.{Modulus}
 use Rattle.affc_basis.specs.Bases.{AreWithin, HaveCoefsWithin, AreComponents}
-use Rattle.affc_basis.specs.Examples.{whole, onto, fold_at, marked}
+use Rattle.affc_basis.specs.Examples.{whole, onto, fold_at, marked, two_rows, OnePair}
 use Rattle.affc_basis.specs.Listed.{shape_of, columns, square}
-use Rattle.affc_folds.specs.Folding.{basis_for, IsSpent, HasBound, IsLeftWhole, AreFoldsOf}
+use Rattle.affc_folds.specs.Folding.{basis_for, HasTrueMarks, IsSpent, HasBound, IsLeftWhole, AreFoldsOf}
 
 -- ---- Bases
 
@@ -83,6 +83,11 @@ by m = record { basis = whole; moduli = m ∷ []; one_each = refl }
 -- the fold onto so many elements, which t[0] and t[2] show to be least
 abbrev pub least : ℕ → Fold
 least n = by (marked n (Some (pos 0 ∷ [], pos 2 ∷ [])))
+
+-- each mark has to be true: of the one pair, which lies apart along the second row alone, 1 is the least for the first row, but not
+-- for the second
+abbrev pub SecondMarkIsFalse : Type 0
+SecondMarkIsFalse = (fold : Fold) → fold.basis.rows ≡ two_rows → fold.moduli ≡ marked 1 None ∷ marked 1 None ∷ [] → HasTrueMarks (λ p. p ≡ two) OnePair fold → ⊥
 
 -- t of the blur, the third array, is left whole by no folds and by those of other arrays, and not by a fold of it
 abbrev pub WholeOrNot : Type 0

@@ -1,5 +1,5 @@
 //! What the definitions give at small lists, as laws: `specs/Examples.antt` says each.
-ghost use Rattle.affc_folds.specs.Examples.{BasesOfArrays, SpentOrNot, WholeOrNot, FoldsOfBlur};
+ghost use Rattle.affc_folds.specs.Examples.{BasesOfArrays, SpentOrNot, WholeOrNot, SecondMarkIsFalse, FoldsOfBlur};
 
 /// Given bases and listed ones.
 pub fn bases()
@@ -12,7 +12,8 @@ pub fn ends()
     ensures whole { WholeOrNot }
 {}
 
-/// Folds of a program, and lists that are none for one rule each.
+/// Folds of a program, and lists that are none for one rule each; a mark that isn't true.
 pub fn folds()
-    ensures law { FoldsOfBlur }
+    ensures marks { SecondMarkIsFalse }
+    ensures all { FoldsOfBlur }
 {}
