@@ -1,32 +1,122 @@
--- What the definitions give at small lists.
-use Rattle.std.specs.Prelude.{◌≡◌, pos, List, [], ◌∷◌, Some, None}
+-- What the definitions give at small lists. Each value was found by hand from the rules.
+use Rattle.std.specs.Prelude.{◌≡◌, ℕ, zero, suc, ◌+◌, ◌^◌, ◌≤◌, pos, negsuc, unsigned_abs, List, [], ◌∷◌, length, Some, None, refl}
+use Rattle.std.proofs.Common.{subst, lit≤, arith}
+use Rattle.std.proofs.lemmas.List.Elements.{All-nil, All-cons}
+use Rattle.std.proofs.lemmas.Option.{same_Some}
+use Rattle.affc_rows.specs.Forms.{Affine, HaveColumns, composed_form}
 use Rattle.affc_ast.specs.declared.tree.ArrayId.{ArrayId}
-use Rattle.affc_trace.specs.Examples.{blur}
+use Rattle.affc_trace.specs.Examples.{blur, together, two}
+use Rattle.affc_trace.specs.Inverses.{column}
+use Rattle.affc_split.specs.Budgets.{Account}
 use Rattle.affc_basis.specs.declared.basis.Basis.{Basis}
-use Rattle.affc_basis.specs.Examples.{whole, onto, folds}
+use Rattle.affc_basis.specs.declared.fold.Fold.{Fold}
+use Rattle.affc_basis.specs.declared.fold.Modulus.{Modulus}
+use Rattle.affc_basis.specs.Bases.{AreWithin, HaveCoefsWithin, AreComponents}
+use Rattle.affc_basis.specs.Examples.{whole, onto, fold_at, marked, two_rows, OnePair}
 use Rattle.affc_basis.specs.Listed.{shape_of, columns, square}
-use Rattle.affc_folds.specs.Folding.{basis_for, IsSpent, HasBound, IsLeftWhole}
+use Rattle.affc_folds.specs.Folding.{basis_for, HasTrueMarks, IsSpent, HasBound, IsLeftWhole, AreFoldsOf}
+
+-- ---- Bases
+
+-- (-x0), its own inverse
+abbrev pub minus_x0 : Affine
+minus_x0 = record { coefs = negsuc 0 ∷ []; constant = pos 0 }
+
+pub one_column : HaveColumns 1 (minus_x0 ∷ [])
+one_column = All-cons (λ f. length f.coefs ≡ 1) minus_x0 [] refl (All-nil (λ f. length f.coefs ≡ 1))
+
+pub small : HaveCoefsWithin 256 (minus_x0 ∷ [])
+small =
+    All-cons (λ f. AreWithin 256 f.coefs) minus_x0 []
+    (All-cons (λ c. unsigned_abs c ≤ 256) (negsuc 0) [] (lit≤ tt) (All-nil (λ c. unsigned_abs c ≤ 256)))
+    (All-nil (λ f. AreWithin 256 f.coefs))
+
+pub identity : AreComponents (minus_x0 ∷ []) (minus_x0 ∷ [])
+identity zero h = record {
+  row = λ r e. subst (λ f. f.constant ≡ pos 0) (same_Some minus_x0 r e) refl;
+  inverse_row = λ g e. subst (λ f. f.constant ≡ pos 0) (same_Some minus_x0 g e) refl;
+  product = λ g e. subst (λ f. composed_form f (minus_x0 ∷ []) ≡ column 1 0) (same_Some minus_x0 g e) refl;
+}
+identity (suc k) h = absurd (omega arith)
+
+abbrev pub turned : Basis
+turned = record {
+  rows = minus_x0 ∷ [];
+  inverse = minus_x0 ∷ [];
+  square = record { columns = one_column; inverse_columns = one_column; one_each = refl; few = lit≤ tt };
+  row_bounds = small;
+  inverse_bounds = small;
+  identity = identity;
+}
+
+abbrev pub given_to : ℕ → Basis → ArrayId × Basis
+given_to array basis = (record { 0 = array }, basis)
 
 abbrev given : List (ArrayId × Basis)
-given = (record { 0 = 3 }, whole) ∷ []
+given = given_to 3 whole ∷ given_to 3 turned ∷ given_to 2 turned ∷ []
 
--- array 3 has the basis that is given for it where it has one dimension; where it has two, and array 2, have (x0, x1); and an
--- array without dimensions has no row
+-- array 3 has the first that is given for it, and array 2 its own, where they have one dimension; else they have the first that
+-- is listed, as arrays for which none is given; and an array without dimensions has no row
 abbrev pub BasesOfArrays : Type 0
 BasesOfArrays =
     (basis_for given 3 1 ≡ Some (shape_of whole))
+    × (basis_for given 2 1 ≡ Some (shape_of turned))
+    × (basis_for given 1 1 ≡ Some (columns (column 1 0 ∷ [])))
     × (basis_for given 3 2 ≡ Some (square (pos 1) (pos 0) (pos 0) (pos 1) (pos 1) (pos 0) (pos 0) (pos 1)))
-    × (basis_for given 2 2 ≡ Some (square (pos 1) (pos 0) (pos 0) (pos 1) (pos 1) (pos 0) (pos 0) (pos 1)))
-    × (basis_for given 2 0 ≡ Some (columns []))
-    × (basis_for given 2 5 ≡ None)
+    × (basis_for given 3 0 ≡ Some (columns []))
+    × (basis_for given 3 5 ≡ None)
+
+-- ---- Budgets
+
+abbrev pub three_of : ℕ → Account
+three_of spent = record { limit = Some 3; spent = spent }
 
 -- three units of three are all; two aren't, and without a limit nothing is spent up
 abbrev pub SpentOrNot : Type 0
-SpentOrNot =
-    IsSpent (record { limit = Some 3; spent = 3 })
-    × (IsSpent (record { limit = Some 3; spent = 2 }) → ⊥)
-    × (IsSpent (record { limit = None; spent = 0 }) → ⊥)
+SpentOrNot = IsSpent (three_of 3) × (IsSpent (three_of 2) → ⊥) × (IsSpent (record { limit = None; spent = 0 }) → ⊥)
 
--- t of the blur is left whole by no folds, and not by a fold of it; the fold onto three elements is marked as a bound
+-- ---- Folds
+
+abbrev pub by : Modulus → Fold
+by m = record { basis = whole; moduli = m ∷ []; one_each = refl }
+
+-- the fold onto so many elements, which t[0] and t[2] show to be least
+abbrev pub least : ℕ → Fold
+least n = by (marked n (Some (pos 0 ∷ [], pos 2 ∷ [])))
+
+-- each mark has to be true: of the one pair, which lies apart along the second row alone, 1 is the least for the first row, but not
+-- for the second
+abbrev pub SecondMarkIsFalse : Type 0
+SecondMarkIsFalse = (fold : Fold) → fold.basis.rows ≡ two_rows → fold.moduli ≡ marked 1 None ∷ marked 1 None ∷ [] → HasTrueMarks (λ p. p ≡ two) OnePair fold → ⊥
+
+-- t of the blur, the third array, is left whole by no folds and by those of other arrays, and not by a fold of it
 abbrev pub WholeOrNot : Type 0
-WholeOrNot = IsLeftWhole blur [] × (IsLeftWhole blur folds → ⊥) × HasBound (onto 3)
+WholeOrNot =
+    IsLeftWhole blur []
+    × IsLeftWhole blur (fold_at 0 (onto 3) ∷ fold_at 3 (onto 3) ∷ [])
+    × (IsLeftWhole blur (fold_at 2 (onto 3) ∷ []) → ⊥)
+    × HasBound (onto 3)
+    × (HasBound (least 3) → ⊥)
+
+abbrev pub AreOfTheBlur : List (ArrayId × Basis) → Account → List (ArrayId × Fold) → Type 0
+AreOfTheBlur bases budget folds = AreFoldsOf blur together bases budget folds
+
+abbrev pub t_has : Fold → List (ArrayId × Fold)
+t_has fold = fold_at 2 fold ∷ []
+
+-- Three elements are the least for t, where two units of three are spent; with all three spent they may be a bound, or t whole.
+abbrev pub FoldsOfBlur : Type 0
+FoldsOfBlur =
+    AreOfTheBlur [] (three_of 2) (t_has (least 3))
+    × AreOfTheBlur [] (three_of 3) (t_has (onto 3))
+    × AreOfTheBlur [] (three_of 3) []
+    -- with a unit left they may not
+    × (AreOfTheBlur [] (three_of 2) (t_has (onto 3)) → ⊥)
+    × (AreOfTheBlur [] (three_of 2) [] → ⊥)
+    -- two are too few, and four not the least
+    × (AreOfTheBlur [] (three_of 3) (t_has (onto 2)) → ⊥)
+    × (AreOfTheBlur [] (three_of 2) (t_has (least 4)) → ⊥)
+    -- the basis that is given for t has to be taken; `out` is no temporary; and a modulus is within its limits
+    × (AreOfTheBlur (given_to 2 turned ∷ []) (three_of 2) (t_has (least 3)) → ⊥)
+    × (AreOfTheBlur [] (three_of 3) (fold_at 1 (onto 3) ∷ []) → ⊥)
+    × (AreOfTheBlur [] (three_of 3) (t_has (onto (2 ^ 55 + 1))) → ⊥)

@@ -1,5 +1,5 @@
 //! What the definitions give at small lists, as laws: `specs/Examples.antt` says each.
-ghost use Rattle.affc_folds.specs.Examples.{BasesOfArrays, SpentOrNot, WholeOrNot};
+ghost use Rattle.affc_folds.specs.Examples.{BasesOfArrays, SpentOrNot, WholeOrNot, SecondMarkIsFalse, FoldsOfBlur};
 
 /// Given bases and listed ones.
 pub fn bases()
@@ -10,4 +10,10 @@ pub fn bases()
 pub fn ends()
     ensures spent { SpentOrNot }
     ensures whole { WholeOrNot }
+{}
+
+/// Folds of a program, and lists that are none for one rule each; a mark that isn't true.
+pub fn folds()
+    ensures marks { SecondMarkIsFalse }
+    ensures all { FoldsOfBlur }
 {}
