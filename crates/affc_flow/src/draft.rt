@@ -6,6 +6,7 @@
 use crate::asking::column_forms;
 use crate::load::{Load, number};
 use crate::questions::{Unasked, at_images, count};
+use crate::strides::divided;
 use affc_nest::forms::column;
 use affc_nest::{Access, Entry};
 use affc_order::order::shared;
@@ -53,47 +54,47 @@ fn less(alloc: Global, a: &Form, b: &Form) -> Result<Form, Unasked> {
     Ok(made)
 }
 
-/// What a subscript of the store, and that of the load in its dimension, say of the iterator at a column.
+/// What a subscript of the store, and that of the load in its dimension, say of the iterator at a column, where the rows are
+/// met.
 fn by_subscript(
     alloc: Global,
-    columns: u32,
     images: &[Form],
     at: usize,
     written: &Form,
     read: &Form,
+    rows: &[Form],
 ) -> Result<Option<Form>, Unasked> {
     let c = last_coefficient(written.coefs.as_slice(), at);
-    if c != 1 && c != -1 {
+    if c == 0 {
         return Ok(None);
     }
+    let columns = count(read.coefs.len())?;
     let rest = at_images(alloc, columns, images, written)?;
-    let made = if c == 1 {
+    let made = if c > 0 {
         less(alloc, read, &rest)?
     } else {
         less(alloc, &rest, read)?
     };
-    Ok(Some(made))
+    divided(alloc, made, c.unsigned_abs(), rows)
 }
 
-/// What the subscripts say of the iterator at a column.
+/// What the subscripts say of the iterator at a column, where the rows are met.
 fn by_subscripts(
     alloc: Global,
-    columns: u32,
     images: &[Form],
     at: usize,
     written: &[Form],
     read: &[Form],
+    rows: &[Form],
 ) -> Result<Option<Form>, Unasked> {
     match written {
         [] => Ok(None),
         [sub, subs @ ..] => match read {
             [] => Ok(None),
-            [other, others @ ..] => {
-                match by_subscript(alloc, columns, images, at, sub, other)? {
-                    Some(form) => Ok(Some(form)),
-                    None => by_subscripts(alloc, columns, images, at, subs, others),
-                }
-            }
+            [other, others @ ..] => match by_subscript(alloc, images, at, sub, other, rows)? {
+                Some(form) => Ok(Some(form)),
+                None => by_subscripts(alloc, images, at, subs, others, rows),
+            },
         },
     }
 }
@@ -166,7 +167,8 @@ fn next_form(
     let at = (drafting.params as usize).saturating_add(k);
     let written = drafting.store.subs.as_slice();
     let read = drafting.load.access.subs.as_slice();
-    match by_subscripts(alloc, columns, images.as_slice(), at, written, read)? {
+    let rows = drafting.load.reader.domain.rows();
+    match by_subscripts(alloc, images.as_slice(), at, written, read, rows)? {
         Some(form) => Ok(Some(form)),
         None => by_order(alloc, drafting, images.as_slice(), k),
     }

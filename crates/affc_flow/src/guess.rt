@@ -228,6 +228,51 @@ fn leaf_of(
     source_leaf(alloc, load, place, &chosen, asks, budget)
 }
 
+/// What is to be done with a candidate: its leaf if that is right, else the first of its conditions that isn't known, if there
+/// is one, or nothing.
+#[derive(Drop)]
+struct Step {
+    leaf: Option<Quast>,
+    open: Option<usize>,
+}
+
+/// What is to be done with a candidate of whose conditions the first few are known.
+#[tactic(auto, using(crate::proofs::GuessLemmas::deeper_some))]
+fn next_step(
+    alloc: Global,
+    load: &Load<'_>,
+    place: &Place<'_>,
+    candidate: &Candidate,
+    known: usize,
+    left: u32,
+    asks: &mut u32,
+    budget: &mut Budget,
+) -> Result<Step, Stop>
+    requires load { IsLoad load.now.nest.now load.now.reader.now load.now.access.now load.now.number }
+    requires path { IsPath load.now.reader.now place.now.path.now }
+    ensures right { IfOk result (λ s. IfSome s.leaf (λ t. CoversOn load.now.nest.now load.now.reader.now load.now.access.now place.now.path.now place.now.ranges.now left (seen t))) }
+    ensures later { IsLater budget.old budget.new }
+    ensures stop { IfErr result (λ e. e ≡ Stop.Budget → budget.new.limit ≡ Some budget.new.spent) }
+{
+    let rows = candidate.conditions.as_slice();
+    if known == 0 && has_none_with(alloc, place, rows, asks, budget)? {
+        return Ok(Step {
+            leaf: None,
+            open: None,
+        });
+    }
+    match first_open(alloc, place, rows, known, 0, asks, budget)? {
+        Some(at) => Ok(Step {
+            leaf: None,
+            open: Some(at),
+        }),
+        None => {
+            let leaf = leaf_of(alloc, load, place, candidate, asks, budget)?;
+            Ok(Step { leaf, open: None })
+        }
+    }
+}
+
 /// A tree of these candidates under a path, if one is found; of the first one's conditions the first few are known.
 fn grow(
     alloc: Global,
@@ -245,56 +290,39 @@ fn grow(
     ensures later { IsLater budget.old budget.new }
     ensures stop { IfErr result (λ e. e ≡ Stop.Budget → budget.new.limit ≡ Some budget.new.spent) }
 {
-    match candidates {
-        [] => input_leaf(alloc, load, place, asks, budget),
-        [candidate, rest @ ..] => {
-            let rows = candidate.conditions.as_slice();
-            if known == 0 && has_none_with(alloc, place, rows, asks, budget)? {
-                return grow(alloc, load, place, rest, 0, left, asks, budget);
-            }
-            match first_open(alloc, place, rows, known, 0, asks, budget)? {
-                None => match leaf_of(alloc, load, place, candidate, asks, budget)? {
-                    Some(leaf) => Ok(Some(leaf)),
-                    None => grow(alloc, load, place, rest, 0, left, asks, budget),
-                },
-                Some(at) => {
-                    if left == 0 || *asks == 0 {
-                        return Ok(None);
-                    }
-                    let Some(sides) = sides_of(alloc, place.path, candidate, at)? else {
-                        return Ok(None);
-                    };
-                    let on = Place {
-                        path: &sides.yes,
-                        ranges: place.ranges,
-                    };
-                    let next = at.saturating_add(1);
-                    let Some(yes) = grow(
-                        alloc,
-                        load,
-                        &on,
-                        candidates,
-                        next,
-                        left - 1,
-                        asks,
-                        budget,
-                    )?
-                    else {
-                        return Ok(None);
-                    };
-                    let off = Place {
-                        path: &sides.no,
-                        ranges: place.ranges,
-                    };
-                    let Some(no) = grow(alloc, load, &off, rest, 0, left - 1, asks, budget)? else {
-                        return Ok(None);
-                    };
-                    let tree = joined(alloc, load, place, left, sides, yes, no)?;
-                    Ok(Some(tree))
-                }
-            }
-        }
+    let [candidate, rest @ ..] = candidates else {
+        return input_leaf(alloc, load, place, asks, budget);
+    };
+    let step = next_step(alloc, load, place, candidate, known, left, asks, budget)?;
+    let Step { leaf, open } = step;
+    if leaf.is_some() {
+        return Ok(leaf);
     }
+    let Some(at) = open else {
+        return grow(alloc, load, place, rest, 0, left, asks, budget);
+    };
+    if left == 0 || *asks == 0 {
+        return Ok(None);
+    }
+    let Some(sides) = sides_of(alloc, place.path, candidate, at)? else {
+        return Ok(None);
+    };
+    let ranges = place.ranges;
+    let path = &sides.yes;
+    let on = Place { path, ranges };
+    let next = at.saturating_add(1);
+    let yes = grow(alloc, load, &on, candidates, next, left - 1, asks, budget)?;
+    let Some(yes) = yes else {
+        return Ok(None);
+    };
+    let path = &sides.no;
+    let off = Place { path, ranges };
+    let no = grow(alloc, load, &off, rest, 0, left - 1, asks, budget)?;
+    let Some(no) = no else {
+        return Ok(None);
+    };
+    let tree = joined(alloc, load, place, left, sides, yes, no)?;
+    Ok(Some(tree))
 }
 
 /// A tree for the box, if one is found.

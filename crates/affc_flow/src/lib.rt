@@ -18,6 +18,7 @@ pub mod questions;
 mod ranges;
 mod search;
 pub mod stop;
+mod strides;
 mod tested;
 
 pub use finding::find;
