@@ -27,7 +27,7 @@ use Rattle.affc_placed.specs.Placed.{HasFoldedLoops}
 use Rattle.affc_rewrite.specs.Laws.{FoldedProgramCompiles}
 use Rattle.affc_rewrite.specs.Rewrite.{folded_program}
 use Rattle.affc_foldprint.specs.Laws.{FoldsWellNamed}
-use Rattle.affc_folds.specs.Folding.{AreFoldsOf, IsLeftWhole, IsSpent}
+use Rattle.affc_folds.specs.Folding.{AreFoldsUnder, IsLeftWhole, IsSpent}
 use Rattle.affc_schedtext.specs.declared.plan.Plan.{Plan}
 use Rattle.affc_schedtext.proofs.Scheduled.{is_scheduled, is_limited}
 use Rattle.affc_nest.specs.Laws.{NamesArrays}
@@ -88,7 +88,7 @@ has_loops text schedule program plan reads bare within planned = record {
 
 -- ---- No folds
 
-pub nothing_folded : (program : Program) (schedule : Schedule) (bases : List (ArrayId × Basis)) (budget : Account) → (IsLeftWhole program [] → IsSpent budget) → AreFoldsOf program schedule bases budget []
+pub nothing_folded : (program : Program) (schedule : Schedule) (bases : List (ArrayId × Basis)) (budget : Account) → (IsLeftWhole program [] → IsSpent budget) → AreFoldsUnder program schedule bases budget []
 nothing_folded program schedule bases budget whole = record {
   in_program = record { different = tt; each = λ array fold is. absurd is };
   bases_for = λ array fold e. absurd (none-some fold e);
@@ -103,7 +103,7 @@ nothing_folded program schedule bases budget whole = record {
 
 has_folded : (text : List ℕ) (schedule : Option (List ℕ)) (program : Program) (plan : Plan) (budget : Account) (folds : List (ArrayId × Fold))
     → Reads text program → program.prelude ≡ false → StaysWithin program → WrittenThroughout program → HasPlan program schedule plan
-    → LegalThroughout program plan.schedule → AreFoldsOf program plan.schedule plan.folds budget folds → HasFoldedLoops program plan.schedule folds
+    → LegalThroughout program plan.schedule → AreFoldsUnder program plan.schedule plan.folds budget folds → HasFoldedLoops program plan.schedule folds
 has_folded text schedule program plan budget folds reads bare within written planned legal are = record {
   loops = has_loops text schedule program plan reads bare within planned;
   ends = within_never_stuck text program reads bare within written;
@@ -156,5 +156,5 @@ none_whole program none whole =
     let empty : length program.temps ≡ 0 = ap length none in
     absurd (omega arith)
 
-pub no_folds : (program : Program) (schedule : Schedule) (bases : List (ArrayId × Basis)) (budget : Account) → program.temps ≡ [] → AreFoldsOf program schedule bases budget []
+pub no_folds : (program : Program) (schedule : Schedule) (bases : List (ArrayId × Basis)) (budget : Account) → program.temps ≡ [] → AreFoldsUnder program schedule bases budget []
 no_folds program schedule bases budget none = nothing_folded program schedule bases budget (λ whole. absurd (none_whole program none whole))

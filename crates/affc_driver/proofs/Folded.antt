@@ -22,7 +22,7 @@ use Rattle.affc_quast.specs.Sources.{NameSources, HaveNearQuotients}
 use Rattle.affc_quast.specs.Trees.{Tree}
 use Rattle.affc_basis.specs.declared.fold.Fold.{Fold}
 use Rattle.affc_schedtext.specs.declared.plan.Plan.{Plan}
-use Rattle.affc_folds.specs.Folding.{IsAnalysed, AreFoldsOf}
+use Rattle.affc_folds.specs.Folding.{IsAnalysed, AreFoldsUnder}
 use Rattle.affc_driver.specs.Flows.{NameThroughout}
 use Rattle.affc_driver.specs.Made.{AreDecided}
 use Rattle.affc_driver.specs.Plans.{LegalThroughout, WrittenThroughout}
@@ -68,5 +68,5 @@ pub written_each : (program : Program) (trees : List Tree) → StaysWithin progr
 written_each program trees within named text reads bare = named_is_written text program trees reads bare within named
 
 pub decided : (program : Program) (plan : Plan) (budget : Account) (trees : List Tree) (folds : List (ArrayId × Fold)) → StaysWithin program → NameThroughout program trees
-    → LegalThroughout program plan.schedule → AreFoldsOf program plan.schedule plan.folds budget folds → AreDecided program plan budget folds
+    → LegalThroughout program plan.schedule → AreFoldsUnder program plan.schedule plan.folds budget folds → AreDecided program plan budget folds
 decided program plan budget trees folds within named legal are = record { written = written_each program trees within named; legal = legal; are_folds = are }

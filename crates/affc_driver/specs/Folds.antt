@@ -12,7 +12,7 @@ use Rattle.affc_loops.specs.Loops.{target_program}
 use Rattle.affc_cprint.specs.Layout.{printed_text}
 use Rattle.affc_schedtext.specs.declared.plan.Plan.{Plan}
 use Rattle.affc_bounds.specs.Faults.{StaysWithin}
-use Rattle.affc_folds.specs.Folding.{AreFoldsOf}
+use Rattle.affc_folds.specs.Folding.{AreFoldsUnder}
 use Rattle.affc_driver.specs.Plans.{HasPlan, LegalThroughout, WrittenThroughout}
 use Rattle.affc_driver.specs.Reports.{report_text}
 
@@ -33,5 +33,5 @@ pub record FoldsTo (source : List ℕ) (schedule : Option (List ℕ)) (budget : 
   pub written : WrittenThroughout compiles.source
   pub planned : HasPlan compiles.source schedule plan
   pub legal : LegalThroughout compiles.source plan.schedule
-  pub are_folds : AreFoldsOf compiles.source plan.schedule plan.folds budget folds
+  pub are_folds : AreFoldsUnder compiles.source plan.schedule plan.folds budget folds
   pub told : report ≡ report_text compiles.source folds

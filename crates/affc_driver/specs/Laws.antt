@@ -19,7 +19,7 @@ use Rattle.affc_loops.specs.Loops.{target_program}
 use Rattle.affc_basis.specs.declared.fold.Fold.{Fold}
 use Rattle.affc_basis.specs.Folds.{fold_of}
 use Rattle.affc_rewrite.specs.Rewrite.{folded_program}
-use Rattle.affc_folds.specs.Folding.{AreFoldsOf, IsLeftWhole, HasBound}
+use Rattle.affc_folds.specs.Folding.{AreFoldsUnder, IsLeftWhole, HasBound}
 use Rattle.affc_schedtext.specs.declared.plan.Plan.{Plan}
 use Rattle.affc_bounds.specs.Faults.{StaysWithin}
 use Rattle.affc_bounds.specs.Laws.{IsStuckAt}
@@ -65,7 +65,7 @@ NamedIsWritten = (text : List ℕ) (program : Program) (trees : List Tree)
 abbrev pub PrintedCompiles : Type 0
 PrintedCompiles = (text : List ℕ) (schedule : Option (List ℕ)) (program : Program) (plan : Plan) (budget : Account) (folds : List (ArrayId × Fold))
     → Reads text program → program.prelude ≡ false → StaysWithin program → WrittenThroughout program
-    → HasPlan program schedule plan → LegalThroughout program plan.schedule → AreFoldsOf program plan.schedule plan.folds budget folds
+    → HasPlan program schedule plan → LegalThroughout program plan.schedule → AreFoldsUnder program plan.schedule plan.folds budget folds
     → FoldsTo text schedule budget (printed_text (target_program (folded_program program folds) plan.schedule)) (report_text program folds)
 
 -- Without a limit on what is spent, each temporary has a fold, and no modulus is a bound alone.

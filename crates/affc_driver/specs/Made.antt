@@ -8,7 +8,7 @@ use Rattle.affc_rewrite.specs.Rewrite.{folded_program}
 use Rattle.affc_loops.specs.Loops.{target_program}
 use Rattle.affc_cprint.specs.Layout.{printed_text}
 use Rattle.affc_schedtext.specs.declared.plan.Plan.{Plan}
-use Rattle.affc_folds.specs.Folding.{AreFoldsOf}
+use Rattle.affc_folds.specs.Folding.{AreFoldsUnder}
 use Rattle.affc_driver.specs.Plans.{LegalThroughout, WrittenThroughout}
 use Rattle.affc_driver.specs.Programs.{OfEachText}
 use Rattle.affc_driver.specs.Reports.{report_text}
@@ -17,7 +17,7 @@ use Rattle.affc_driver.specs.Reports.{report_text}
 pub record AreDecided (program : Program) (plan : Plan) (budget : Account) (folds : List (ArrayId × Fold)) : Type 0 where
   pub written : OfEachText program (λ text. WrittenThroughout program)
   pub legal : LegalThroughout program plan.schedule
-  pub are_folds : AreFoldsOf program plan.schedule plan.folds budget folds
+  pub are_folds : AreFoldsUnder program plan.schedule plan.folds budget folds
 
 -- text and report of the program with these folds
 pub record IsMadeOf (program : Program) (plan : Plan) (folds : List (ArrayId × Fold)) (text report : List ℕ) : Type 0 where

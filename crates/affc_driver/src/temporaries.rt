@@ -8,7 +8,7 @@ ghost use Rattle.affc_nest.specs.Nests.{nest_of};
 ghost use Rattle.affc_bounds.specs.Faults.{StaysWithin};
 ghost use Rattle.affc_quast.specs.Limits.{narrow, AreTreesWithin};
 ghost use Rattle.affc_quast.specs.Seen.{trees_of};
-ghost use Rattle.affc_folds.specs.Folding.{AreFoldsOf};
+ghost use Rattle.affc_folds.specs.Folding.{AreFoldsUnder};
 ghost use Rattle.affc_driver.specs.Flows.{NameThroughout};
 ghost use Rattle.affc_driver.specs.Made.{AreDecided};
 ghost use Rattle.affc_driver.specs.Plans.{LegalThroughout, WrittenThroughout};
@@ -97,7 +97,7 @@ fn folds_of(
     requires slight { IsTrue (within_limits plan.now.schedule) }
     requires named { NameThroughout program.now (trees_of flow.now) }
     requires limits { AreTreesWithin narrow 302 12 nest.now (trees_of flow.now) }
-    ensures folds { IfOk result (AreFoldsOf program.now plan.now.schedule plan.now.folds budget.new) }
+    ensures folds { IfOk result (AreFoldsUnder program.now plan.now.schedule plan.now.folds budget.new) }
     ensures err { IfErr result (λ refusal. refusal ≡ Refusal.Memory) }
     ensures later { IsLater budget.old budget.new }
 {

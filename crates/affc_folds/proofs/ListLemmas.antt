@@ -22,7 +22,7 @@ use Rattle.affc_basis.specs.declared.fold.Fold.{Fold}
 use Rattle.affc_basis.specs.FoldLists.{AreFoldsIn}
 use Rattle.affc_basis.specs.Folds.{KeepsLimits, fold_of}
 use Rattle.affc_basis.proofs.FoldsFound.{folds_are_found}
-use Rattle.affc_folds.specs.Folding.{IsFoldFor, IsSpent, HasBound, AreFoldsBelow, IsLeftWhole, AreFoldsOf}
+use Rattle.affc_folds.specs.Folding.{IsFoldFor, IsSpent, HasBound, AreFoldsBelow, IsLeftWhole, AreFoldsUnder}
 
 -- ---- Budgets
 
@@ -169,7 +169,7 @@ module _ (program : Program) (schedule : Schedule) (bases : List (ArrayId × Bas
       add_below : (a b c : ℕ) → b < c → a + b < a + c
       add_below a b c g = omega (arith, g)
 
-  pub all_made : n ≡ length (arrays_of program.params) + length program.temps → AreFoldsOf program schedule bases budget folds
+  pub all_made : n ≡ length (arrays_of program.params) + length program.temps → AreFoldsUnder program schedule bases budget folds
   all_made e = record {
     in_program = all_in;
     bases_for = λ array fold at. (its_fold array fold at).basis;

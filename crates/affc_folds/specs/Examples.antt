@@ -14,7 +14,7 @@ use Rattle.affc_basis.specs.declared.fold.Modulus.{Modulus}
 use Rattle.affc_basis.specs.Bases.{AreWithin, HaveCoefsWithin, AreComponents}
 use Rattle.affc_basis.specs.Examples.{whole, onto, fold_at, marked, two_rows, OnePair}
 use Rattle.affc_basis.specs.Listed.{shape_of, columns, square}
-use Rattle.affc_folds.specs.Folding.{basis_for, HasTrueMarks, IsSpent, HasBound, IsLeftWhole, AreFoldsOf}
+use Rattle.affc_folds.specs.Folding.{basis_for, HasTrueMarks, IsSpent, HasBound, IsLeftWhole, AreFoldsUnder}
 
 -- ---- Bases
 
@@ -99,7 +99,7 @@ WholeOrNot =
     × (HasBound (least 3) → ⊥)
 
 abbrev pub AreOfTheBlur : List (ArrayId × Basis) → Account → List (ArrayId × Fold) → Type 0
-AreOfTheBlur bases budget folds = AreFoldsOf blur together bases budget folds
+AreOfTheBlur bases budget folds = AreFoldsUnder blur together bases budget folds
 
 abbrev pub t_has : Fold → List (ArrayId × Fold)
 t_has fold = fold_at 2 fold ∷ []

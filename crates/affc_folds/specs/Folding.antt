@@ -101,7 +101,7 @@ pub record IsLeftWhole (program : Program) (folds : List (ArrayId × Fold)) : Ty
 -- Folds of a program's temporaries under a schedule, over the bases that are given or else the first that are listed, with moduli
 -- within the limits. Throughout the context each keeps apart what is live together, and what its marks say is true. A temporary
 -- without a fold, and a modulus that is marked as a bound alone, come only where no unit of the budget is left.
-pub record AreFoldsOf (program : Program) (schedule : Schedule) (bases : List (ArrayId × Basis)) (budget : Account) (folds : List (ArrayId × Fold)) : Type 0 where
+pub record AreFoldsUnder (program : Program) (schedule : Schedule) (bases : List (ArrayId × Basis)) (budget : Account) (folds : List (ArrayId × Fold)) : Type 0 where
   pub in_program : AreFoldsIn program folds
   pub bases_for : (array : ℕ) (fold : Fold) → fold_of folds array ≡ Some fold → basis_for bases array (length fold.basis.rows) ≡ Some (shape_of fold.basis)
   pub limits : All (λ (f : ArrayId × Fold). KeepsLimits (numbers_in program.params) f.1) folds

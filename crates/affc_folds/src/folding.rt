@@ -14,7 +14,7 @@ ghost use Rattle.affc_conflicts.specs.Conditions.{InContext};
 ghost use Rattle.affc_basis.specs.Listed.{shape_of};
 ghost use Rattle.affc_quast.specs.Seen.{trees_of};
 ghost use Rattle.affc_life.specs.Clashes.{clash_of, clashes};
-ghost use Rattle.affc_folds.specs.Folding.{IsAnalysed, basis_for, IsFoldFor, IsSpent, HasBound, AreFoldsBelow, AreFoldsOf};
+ghost use Rattle.affc_folds.specs.Folding.{IsAnalysed, basis_for, IsFoldFor, IsSpent, HasBound, AreFoldsBelow, AreFoldsUnder};
 
 use crate::bases::basis_of;
 use affc_ast::tree::{ArrayId, Program};
@@ -225,7 +225,7 @@ pub fn fold_all(
     budget: &mut Budget,
 ) -> Result<Items<(ArrayId, Fold)>, Stop>
     requires analysed { IsAnalysed program.now nest.now (trees_of flow.now) schedule.now }
-    ensures folds { IfOk result (AreFoldsOf program.now schedule.now bases.now budget.new) }
+    ensures folds { IfOk result (AreFoldsUnder program.now schedule.now bases.now budget.new) }
     ensures later { IsLater budget.old budget.new }
     ensures stop { IfErr result (λ e. e ≡ Stop.Memory) }
 {
