@@ -1,11 +1,11 @@
 -- Regions of one row in place of those without a point, and slices of them.
-use Rattle.std.proofs.Common.{◌≡◌, ℕ, ◌+◌, ◌*◌, ◌^◌, ◌<◌, ◌≤◌, List, [], ◌∷◌, length, replicate, ℤ, pos, negsuc, ◌+ℤ◌, ◌≤ℤ◌, refl, sym, ap, subst, ◌∙◌, arith}
-use Rattle.std.specs.Prelude.{unsigned_abs, slice_get, Some}
+use Rattle.std.proofs.Common.{◌≡◌, ℕ, ◌^◌, ◌<◌, ◌≤◌, List, [], ◌∷◌, length, replicate, ℤ, pos, negsuc, ◌+ℤ◌, ◌≤ℤ◌, sym, ap, subst, ◌∙◌, arith}
+use Rattle.std.specs.Prelude.{unsigned_abs}
 use Rattle.std.proofs.lemmas.Int.{ints}
 use Rattle.std.proofs.lemmas.List.{length-replicate}
 use Rattle.std.proofs.lemmas.List.Elements.{All-head, All-replicate}
 use Rattle.std.proofs.lemmas.Option.{slice_get_within}
-use Rattle.affc_rows.specs.Forms.{Affine, dot, value}
+use Rattle.affc_rows.specs.Forms.{Affine, dot}
 use Rattle.affc_system.specs.Systems.{Rows, IsRow, Meets, IsPoint}
 use Rattle.affc_system.specs.Boxes.{InBox}
 use Rattle.affc_system.specs.declared.pairs.PairSystem.{PairSystem}
