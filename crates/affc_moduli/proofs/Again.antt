@@ -1,14 +1,12 @@
 -- Distances are the values of forms, without their sign.
-use Rattle.std.proofs.Common.{◌≡◌, ℕ, ◌≤◌, List, ℤ, pos, neg_ℤ, ◌≤ℤ◌, ap, ◌∙◌, arith}
+use Rattle.std.proofs.Common.{◌≡◌, ℕ, List, ℤ, neg_ℤ, ap, ◌∙◌, arith}
 use Rattle.std.specs.Prelude.{unsigned_abs, slice_get, Some}
 use Rattle.std.proofs.lemmas.Int.{ints}
 use Rattle.affc_rows.specs.Forms.{Affine, value}
 use Rattle.affc_system.specs.declared.pairs.PairSystem.{PairSystem}
-use Rattle.affc_maximum.specs.Regions.{InRegion}
 use Rattle.affc_maximum.specs.declared.region.Region.{Region}
-use Rattle.affc_maximum.specs.declared.several.Found.{Found}
 use Rattle.affc_differences.specs.Differences.{apart}
-use Rattle.affc_moduli.specs.Distances.{AreForward, AreBackward, AreOver, IsFarthest}
+use Rattle.affc_moduli.specs.Distances.{AreForward, AreBackward, AreOver}
 use Rattle.affc_moduli.specs.Shown.{IsDistance}
 use Rattle.affc_moduli.proofs.Apart.{apart-turned}
 

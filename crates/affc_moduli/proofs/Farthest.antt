@@ -1,16 +1,13 @@
 -- Both forms of a distance are bounded by what bounds it.
-use Rattle.std.proofs.Common.{◌≡◌, ℕ, ◌<◌, ◌≤◌, List, length, ℤ, pos, negsuc, ◌≤ℤ◌, ◌<ℤ◌, refl, sym, subst, ◌∙◌, arith, lit≤}
-use Rattle.std.specs.Prelude.{unsigned_abs, Option, Some, None, IfSome, ◌^◌}
-use Rattle.std.proofs.lemmas.Int.{ints}
+use Rattle.std.proofs.Common.{◌≡◌, ℕ, ◌<◌, List, length, ℤ, pos, ◌≤ℤ◌, sym, subst, ◌∙◌}
 use Rattle.std.proofs.lemmas.Option.{slice_get_within}
-use Rattle.affc_rows.specs.Forms.{Affine, value}
+use Rattle.affc_rows.specs.Forms.{Affine}
 use Rattle.affc_system.specs.declared.pairs.PairSystem.{PairSystem}
-use Rattle.affc_maximum.specs.Regions.{AreBounded, IsAttained, IsAnswerOf}
+use Rattle.affc_maximum.specs.Regions.{AreBounded}
 use Rattle.affc_maximum.specs.declared.region.Region.{Region}
-use Rattle.affc_maximum.specs.declared.several.Found.{Found}
 use Rattle.affc_differences.specs.Differences.{apart}
-use Rattle.affc_moduli.specs.Distances.{AreForward, AreBackward, AreOver, AreApartWithin, IsApartAt, IsFarthest, level}
-use Rattle.affc_moduli.proofs.Apart.{apart-turned, within_both, size_of, size_turned}
+use Rattle.affc_moduli.specs.Distances.{AreForward, AreBackward, AreOver, AreApartWithin}
+use Rattle.affc_moduli.proofs.Apart.{apart-turned, within_both}
 use Rattle.affc_moduli.proofs.Covers.{some_at}
 
 module _ (systems : List PairSystem) (regions : List Region) (cs : List ℤ) (fs gs : List Affine) (regions_each : length regions ≡ length systems)

@@ -30,3 +30,7 @@ by_opposite row form z opposite meets = at_most (dot row.coefs z) (dot form.coef
 -- a number below 0 that is at least 0
 pub not_negative : (v n : ℤ) → v ≤ℤ n → n <ℤ pos 0 → pos 0 ≤ℤ v → ⊥
 not_negative v n h k l = omega (arith, ints)
+
+-- two parallel rows, of which not both are at least 0
+pub barred : (row form : Affine) (z : List ℤ) → AreOpposite row.coefs form.coefs → (row.constant +ℤ form.constant) <ℤ pos 0 → Meets z row → Meets z form → ⊥
+barred row form z opposite low meets holds = not_negative (value form z) (row.constant +ℤ form.constant) (by_opposite row form z opposite meets) low holds

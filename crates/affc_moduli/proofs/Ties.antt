@@ -1,5 +1,5 @@
 -- The search for the greatest distance, and the points that have it.
-use Rattle.std.proofs.Common.{◌≡◌, ℕ, ◌+◌, ◌^◌, ◌<◌, ◌≤◌, List, [], ◌∷◌, ◌++◌, length, ℤ, pos, negsuc, neg_ℤ, ◌+ℤ◌, ◌≤ℤ◌, ◌<ℤ◌, refl, sym, ap, subst, ◌∙◌, arith, inl, inr}
+use Rattle.std.proofs.Common.{◌≡◌, ℕ, ◌+◌, ◌^◌, ◌≤◌, List, length, ℤ, pos, negsuc, ◌+ℤ◌, ◌≤ℤ◌, ◌<ℤ◌, refl, sym, ap, subst, ◌∙◌, arith, inl, inr}
 use Rattle.std.specs.Prelude.{unsigned_abs, slice_get, Option, Some, None, IfSome, IfNone}
 use Rattle.std.proofs.lemmas.Int.{ints}
 use Rattle.std.proofs.lemmas.Option.{same_Some, slice_get_within}
@@ -9,7 +9,6 @@ use Rattle.affc_maximum.specs.Regions.{InRegion, IsBounded, AreBounded}
 use Rattle.affc_maximum.specs.Searches.{AreBoundedBefore}
 use Rattle.affc_maximum.specs.declared.region.Region.{Region}
 use Rattle.affc_maximum.specs.declared.several.Found.{Found}
-use Rattle.affc_differences.specs.Differences.{apart}
 use Rattle.affc_moduli.specs.declared.extremes.Candidate.{Candidate}
 use Rattle.affc_moduli.specs.declared.extremes.Sought.{Sought}
 use Rattle.affc_moduli.specs.Distances.{AreForward, AreBackward, AreOver, AreApartWithin, IsApartAt, IsFarthest}

@@ -1,4 +1,5 @@
 pub mod Slices
+pub mod Reduced
 pub mod Distances
 pub mod Rows
 pub mod Ready

@@ -1,5 +1,5 @@
 //! How great a form can be in a region, by its box and by single rows, without a question.
-ghost use Rattle.std.specs.Prelude.{◌≡◌, ℕ, ℤ, List, ◌^◌, ◌<◌, ◌≤◌, ◌≤ℤ◌, ◌+ℤ◌, ◌↔◌, unsigned_abs, pos, IsTrue, IfSome};
+ghost use Rattle.std.specs.Prelude.{◌≡◌, ℕ, ℤ, List, ◌^◌, ◌<◌, ◌≤◌, ◌≤ℤ◌, ◌<ℤ◌, ◌+ℤ◌, ◌↔◌, unsigned_abs, pos, IsTrue, IfSome};
 ghost use Rattle.std.specs.List.{All};
 ghost use Rattle.affc_rows.specs.Forms.{value};
 ghost use Rattle.affc_system.specs.Systems.{IsRow, Meets};
@@ -106,20 +106,58 @@ fn plain_bound(region: &Region, form: &Form) -> Option<Bound>
     }
 }
 
-/// Whether a row is below 0 throughout a region, by the box and by parallel rows.
+/// Whether a row of a region is below 0 throughout its box.
 fn is_broken(region: &Region, row: &Form) -> bool
     requires row { IsRow region.now.system.columns row.now }
     requires meets { (z : List ℤ) → InRegion region.now z → Meets z row.now }
     ensures { IsTrue result → (z : List ℤ) → InRegion region.now z → ⊥ }
 {
-    match plain_bound(region, row) {
+    match by_box(region, row) {
         Some(bound) => bound.most < 0,
         None => false,
     }
 }
 
-/// Whether a region is seen to have no point.
-fn is_void(region: &Region) -> bool
+/// Whether the sum of the constants is below 0.
+fn is_low(row: &Form, form: &Form, columns: u32) -> bool
+    requires row { IsRow columns row.now }
+    requires form { IsRow columns form.now }
+    ensures { IsTrue result → (row.now.constant +ℤ form.now.constant) <ℤ pos 0 }
+{
+    sum_of_constants(row, form, columns).most < 0
+}
+
+/// Whether two rows of a region are parallel, and nowhere both at least 0.
+fn is_barred_by(region: &Region, other: &Form, row: &Form) -> bool
+    requires other { IsRow region.now.system.columns other.now }
+    requires row { IsRow region.now.system.columns row.now }
+    requires other_meets { (z : List ℤ) → InRegion region.now z → Meets z other.now }
+    requires meets { (z : List ℤ) → InRegion region.now z → Meets z row.now }
+    ensures { IsTrue result → (z : List ℤ) → InRegion region.now z → ⊥ }
+{
+    let columns = region.system.columns();
+    if !is_low(other, row, columns) {
+        return false;
+    }
+    opposes(other, row, columns)
+}
+
+/// Whether a parallel row of the region is nowhere at least 0 where a row is.
+fn is_barred(region: &Region, row: &Form) -> bool
+    requires row { IsRow region.now.system.columns row.now }
+    requires meets { (z : List ℤ) → InRegion region.now z → Meets z row.now }
+    ensures { IsTrue result → (z : List ℤ) → InRegion region.now z → ⊥ }
+{
+    for other in region.system.rows() {
+        if is_barred_by(region, other, row) {
+            return true;
+        }
+    }
+    false
+}
+
+/// Whether one row is below 0 throughout the box.
+fn has_broken_row(region: &Region) -> bool
     ensures { IsTrue result → (z : List ℤ) → InRegion region.now z → ⊥ }
 {
     for row in region.system.rows() {
@@ -128,6 +166,40 @@ fn is_void(region: &Region) -> bool
         }
     }
     false
+}
+
+/// Whether two rows are nowhere both at least 0, since they are parallel.
+fn has_barred_row(region: &Region) -> bool
+    ensures { IsTrue result → (z : List ℤ) → InRegion region.now z → ⊥ }
+{
+    for row in region.system.rows() {
+        if is_barred(region, row) {
+            return true;
+        }
+    }
+    false
+}
+
+/// Whether a region is seen to have no point: each row is looked at by the box, and then beside those that are parallel to it.
+pub fn is_void(region: &Region) -> bool
+    ensures { IsTrue result → (z : List ℤ) → InRegion region.now z → ⊥ }
+{
+    if has_broken_row(region) {
+        return true;
+    }
+    has_barred_row(region)
+}
+
+/// Whether the first row is below 0 throughout the box.
+fn starts_broken(region: &Region, rows: &[Form]) -> bool
+    requires rows { All (IsRow region.now.system.columns) rows.now }
+    requires meets { (z : List ℤ) → InRegion region.now z → All (Meets z) rows.now }
+    ensures { IsTrue result → (z : List ℤ) → InRegion region.now z → ⊥ }
+{
+    match rows {
+        [] => false,
+        [first, ..] => is_broken(region, first),
+    }
 }
 
 /// The bound of a region without a point.
@@ -141,11 +213,13 @@ fn nothing(region: &Region, form: &Form) -> Bound
 }
 
 /// A number that a form isn't above anywhere in its region, if one is seen without a question.
+///
+/// A region that is reduced shows by its first row that it has no point.
 pub fn upper_bound(region: &Region, form: &Form) -> Option<Bound>
     requires form { IsRow region.now.system.columns form.now }
     ensures bounded { IfSome result (λ b. IsBounded region.now form.now b.most) }
 {
-    if is_void(region) {
+    if starts_broken(region, region.system.rows()) {
         Some(nothing(region, form))
     } else {
         plain_bound(region, form)

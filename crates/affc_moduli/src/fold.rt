@@ -13,6 +13,7 @@ ghost use Rattle.affc_moduli.specs.Ready.{AreReady};
 ghost use Rattle.affc_moduli.specs.Slices.{AreSlices};
 ghost use Rattle.affc_moduli.specs.Rows.{AreDone};
 
+use crate::reduced::all_reduced;
 use crate::row::row_done;
 use crate::slices::copies;
 use affc_basis::{Basis, Modulus};
@@ -66,6 +67,9 @@ fn all_rows(
     let mut regions = first;
     let mut made = Items::new(alloc);
     for k in 0..rows.len() {
+        let Ok(reduced) = all_reduced(alloc, regions.as_slice()) else {
+            return Err(Stop::Memory);
+        };
         let (modulus, narrower) = row_done(
             alloc,
             pairs,
@@ -74,7 +78,7 @@ fn all_rows(
             ranges,
             rows,
             k,
-            regions.as_slice(),
+            reduced.as_slice(),
             some,
             &rows[k],
             budget,

@@ -8,6 +8,7 @@ mod enough;
 mod extremes;
 pub mod fold;
 mod forms;
+mod reduced;
 mod reordered;
 mod row;
 mod slices;

@@ -40,7 +40,7 @@ pub fn copies(alloc: Global, pairs: &[PairSystem]) -> Result<Vec<Region>, AllocE
 }
 
 /// Adds a copy of a row.
-fn add(alloc: Global, system: &mut System, row: &Form) -> Result<(), AllocError>
+pub fn add(alloc: Global, system: &mut System, row: &Form) -> Result<(), AllocError>
     requires row { IsRow system.old.columns row.now }
     requires room { length system.old.rows < 1024 }
     ensures { IfOk result (λ _. system.new ≡ record system.old { rows = system.old.rows ++ row.now ∷ [] }) }

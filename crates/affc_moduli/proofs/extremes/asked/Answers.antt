@@ -1,4 +1,4 @@
-use Rattle.std.proofs.Common.{◌≡◌, ◌≤◌, ◌^◌, ◌≤ℤ◌, ◌+ℤ◌, ℤ, pos, sym, subst, arith}
+use Rattle.std.proofs.Common.{◌≤◌, ◌^◌, ◌≤ℤ◌, ℤ, sym, subst, arith}
 use Rattle.std.specs.Prelude.{FitsSigned, Option, IfSome, unsigned_abs}
 use Rattle.std.specs.Int.{w64}
 use Rattle.std.proofs.lemmas.Int.{to_z-of_z, fits_signed_from_abs}

@@ -3,12 +3,22 @@ use Rattle.std.specs.Prelude.{slice_get, Some}
 use Rattle.std.proofs.lemmas.List.{length-append}
 use Rattle.std.proofs.lemmas.Option.{slice_get_read}
 use Rattle.affc_maximum.proofs.Laters.{then_later}
+use Rattle.affc_moduli.specs.Slices.{AreSlices}
+use Rattle.affc_moduli.specs.Reduced.{AreReduced}
 use Rattle.affc_moduli.specs.Rows.{AreDone}
+use Rattle.affc_moduli.proofs.OneRow.{slices_reduced}
 use Rattle.affc_moduli.proofs.Results.{done_more}
 use Rattle.affc_moduli.proofs.fold.all_rows.Goals as goal
 
 pub row_done-requires-clause-row : goal.row_done-requires-clause-row
 row_done-requires-clause-row c = slice_get_read c.args.rows.now (length c.args.rows.now) c.loop-k.k c.index-rows-k.result refl (omega arith) c.index-rows-k.is
+
+pub row_done-requires-clause-slices : goal.row_done-requires-clause-slices
+row_done-requires-clause-slices c =
+    let slices = AreSlices c.args.context.now c.args.ranges.now c.args.rows.now c.loop-k.k c.args.pairs.now in
+    subst slices (sym c.as_slice-in-loop-k.ensures.value)
+    (slices_reduced c.args.context.now c.args.ranges.now c.args.rows.now c.loop-k.k c.args.pairs.now c.loop-k.regions.items c.in-Ok.reduced.items c.loop-k.invariant.slices
+    (subst (λ rs. AreReduced rs c.in-Ok.reduced.items) c.as_slice.ensures.value c.in-Ok.ensures))
 
 pub loop-k-preserved : goal.loop-k-preserved
 loop-k-preserved c =
@@ -18,7 +28,7 @@ loop-k-preserved c =
     let rows = c.args.rows.now in
     let made = c.loop-k.made in
     let m = c.in_ok-modulus.modulus in
-    let e = c.in-Ok.ensures.ok in
+    let e = c.in-Ok-push.ensures.ok in
     let count = c.loop-k.invariant.count in
     let at : slice_get rows c.loop-k.k ≡ Some c.index-rows-k.result = slice_get_read rows (length rows) c.loop-k.k c.index-rows-k.result refl (omega arith) c.index-rows-k.is in
     let grown : length (made ++ m ∷ []) ≡ c.loop-k.k + 1 = let l = length-append made (m ∷ []) in omega arith in

@@ -1,10 +1,9 @@
-use Rattle.std.proofs.Common.{◌≡◌, length, refl, arith, subst, sym}
+use Rattle.std.proofs.Common.{◌≡◌, length, refl, arith, subst}
 use Rattle.std.specs.Prelude.{slice_get, Some}
 use Rattle.std.proofs.lemmas.Option.{slice_get_read}
-use Rattle.affc_rows.specs.Forms.{Affine}
 use Rattle.affc_system.specs.Systems.{IsRow, Meets}
 use Rattle.affc_moduli.proofs.Whole.{all_at}
-use Rattle.affc_moduli.proofs.bounds.is_void.Goals as goal
+use Rattle.affc_moduli.proofs.bounds.has_broken_row.Goals as goal
 
 pub is_broken-requires-clause-row : goal.is_broken-requires-clause-row
 is_broken-requires-clause-row c =
