@@ -1,8 +1,7 @@
 -- The costs of small lists.
-use Rattle.std.proofs.Common.{◌≡◌, ℕ, ◌+◌, ◌-◌, ◌^◌, ◌≤◌, List, [], ◌∷◌, length, refl, arith, lit≤}
-use Rattle.std.specs.List.{All}
+use Rattle.std.proofs.Common.{◌+◌, ◌^◌, ◌≤◌, [], ◌∷◌, refl, arith, lit≤}
 use Rattle.std.proofs.lemmas.List.Elements.{All-nil, All-cons, All-head}
-use Rattle.affc_weigh.specs.Costs.{AreModuli, AreAtMost, NeverFalls, least_power}
+use Rattle.affc_weigh.specs.Costs.{AreModuli, least_power}
 use Rattle.affc_weigh.specs.Examples.{CostsOfNone, CostsOfThree, ProductsStop, OtherLists, OrderOfLists, FewerIsMore}
 
 pub costs_of_none : CostsOfNone
@@ -10,7 +9,7 @@ costs_of_none = (refl, refl, refl)
 
 pub costs_of_three : CostsOfThree
 unfolding least_power
-costs_of_three = (refl, (refl, refl))
+costs_of_three = (refl, refl, refl)
 
 pub products_stop : ProductsStop
 products_stop = refl
@@ -33,11 +32,14 @@ too_high h = omega arith
 pub other_lists : OtherLists
 other_lists = (
   record { few = lit≤ tt; within = All-nil (λ m. (1 ≤ m) × (m ≤ 2 ^ 60)) },
-  record { few = lit≤ tt; within =
-    All-cons (λ m. (1 ≤ m) × (m ≤ 2 ^ 60)) 1 ((2 ^ 60) ∷ 3 ∷ 4 ∷ []) (lit≤ tt, lit≤ tt)
-    (All-cons (λ m. (1 ≤ m) × (m ≤ 2 ^ 60)) (2 ^ 60) (3 ∷ 4 ∷ []) (lit≤ tt, lit≤ tt)
-    (All-cons (λ m. (1 ≤ m) × (m ≤ 2 ^ 60)) 3 (4 ∷ []) (lit≤ tt, lit≤ tt)
-    (All-cons (λ m. (1 ≤ m) × (m ≤ 2 ^ 60)) 4 [] (lit≤ tt, lit≤ tt) (All-nil (λ m. (1 ≤ m) × (m ≤ 2 ^ 60)))))) },
+  record {
+    few = lit≤ tt;
+    within =
+        All-cons (λ m. (1 ≤ m) × (m ≤ 2 ^ 60)) 1 ((2 ^ 60) ∷ 3 ∷ 4 ∷ []) (lit≤ tt, lit≤ tt)
+        (All-cons (λ m. (1 ≤ m) × (m ≤ 2 ^ 60)) (2 ^ 60) (3 ∷ 4 ∷ []) (lit≤ tt, lit≤ tt)
+        (All-cons (λ m. (1 ≤ m) × (m ≤ 2 ^ 60)) 3 (4 ∷ []) (lit≤ tt, lit≤ tt)
+        (All-cons (λ m. (1 ≤ m) × (m ≤ 2 ^ 60)) 4 [] (lit≤ tt, lit≤ tt) (All-nil (λ m. (1 ≤ m) × (m ≤ 2 ^ 60))))));
+  },
   λ m. too_many m.few,
   λ m. too_low (All-head (λ m. (1 ≤ m) × (m ≤ 2 ^ 60)) 0 [] m.within).0,
   λ m. too_high (All-head (λ m. (1 ≤ m) × (m ≤ 2 ^ 60)) (2 ^ 60 + 1) [] m.within).1,

@@ -1,5 +1,5 @@
 -- The least power of two that isn't below a number.
-use Rattle.std.proofs.Common.{◌≡◌, ℕ, zero, suc, ◌+◌, ◌*◌, ◌/◌, ◌^◌, ◌≤◌, ◌<◌, Bool, true, false, refl, ap, sym, ◌∙◌, subst, inl, inr, arith, lit≤}
+use Rattle.std.proofs.Common.{◌≡◌, ℕ, zero, suc, ◌+◌, ◌*◌, ◌/◌, ◌^◌, ◌≤◌, ◌<◌, Bool, true, false, refl, sym, subst, inl, inr, arith, lit≤}
 use Rattle.std.specs.Prelude.{max, nat_lt, if◌then◌else◌}
 use Rattle.std.specs.Int.{IsPowerOfTwo}
 use Rattle.std.proofs.lemmas.Bool.{cases_lt}
@@ -26,18 +26,18 @@ double k = omega (arith, pow-suc 2 k)
 -- 2 ^ k is below no power that isn't below n, where the earlier ones are
 not_below : (k j n q : ℕ) → q ≡ 2 ^ j → n ≤ q → (j < k → 2 ^ j < n) → 2 ^ k ≤ q
 not_below k j n q e h below = elim (cases_lt j k) [
-    | inl l ↦ (let b : 2 ^ j < n = below l in omega arith)
-    | inr g ↦ (let m : 2 ^ k ≤ 2 ^ j = rises k j g in omega arith)
-  ]
+  | inl l ↦ (let b : 2 ^ j < n = below l in omega arith)
+  | inr g ↦ (let m : 2 ^ k ≤ 2 ^ j = rises k j g in omega arith)
+]
 
 at : (k n : ℕ) → ((j : ℕ) → j < k → 2 ^ j < n) → n ≤ 2 ^ k → IsLeastPower n (2 ^ k)
 at k n below enough = record { power = (k, refl); enough = enough; least = λ q is h. not_below k is.0 n q is.1 h (below is.0) }
 
 one_more : (k n j : ℕ) → (j < k → 2 ^ j < n) → 2 ^ k < n → j < suc k → 2 ^ j < n
 one_more k n j below here h = elim (cases_lt j k) [
-    | inl l ↦ below l
-    | inr g ↦ (let m : 2 ^ j ≤ 2 ^ k = rises j k (omega arith) in omega arith)
-  ]
+  | inl l ↦ below l
+  | inr g ↦ (let m : 2 ^ j ≤ 2 ^ k = rises j k (omega arith) in omega arith)
+]
 
 chosen : (k n more : ℕ) (t : Bool) → nat_lt (2 ^ k) n ≡ t
     → (2 ^ k < n → IsLeastPower n (power_from more (2 * 2 ^ k) n)) → (n ≤ 2 ^ k → IsLeastPower n (2 ^ k))

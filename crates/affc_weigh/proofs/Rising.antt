@@ -1,11 +1,11 @@
 -- No cost by name falls where no number falls.
-use Rattle.std.proofs.Common.{◌≡◌, ℕ, ◌+◌, ◌*◌, ◌^◌, ◌≤◌, List, [], ◌∷◌, arith, sym, subst, lit≤}
+use Rattle.std.proofs.Common.{◌≡◌, ℕ, ◌+◌, ◌^◌, ◌≤◌, List, [], ◌∷◌, arith, lit≤}
 use Rattle.std.specs.Prelude.{map, sum}
 use Rattle.std.specs.List.{All}
 use Rattle.std.proofs.lemmas.List.Elements.{All-head, All-tail}
 use Rattle.std.proofs.lemmas.List.Sums.{sum_by-cons}
 use Rattle.std.proofs.Math.Nat.{mul-le-mul, le_trans, le_refl}
-use Rattle.affc_weigh.specs.Costs.{AreModuli, AreAtMost, NeverFalls, Gives, product, least_power, words_cost, sum_cost, powers_cost}
+use Rattle.affc_weigh.specs.Costs.{AreAtMost, NeverFalls, Gives, product, least_power, words_cost, sum_cost, powers_cost}
 use Rattle.affc_weigh.specs.Laws.{NamedNeverFall}
 use Rattle.affc_weigh.proofs.Stopped.{stopped_rises}
 use Rattle.affc_weigh.proofs.LeastPowers.{least_power_rises}
@@ -45,5 +45,9 @@ named_never_fall = record {
   words = λ small great less more s g h a b. between less more (words_cost small) (words_cost great) a b (stopped_rises (product small) (product great) (product_rises small great h));
   sums = λ small great less more s g h a b. between less more (sum_cost small) (sum_cost great) a b (sum_rises small great h);
   powers = λ small great less more s g h a b. between less more (powers_cost small) (powers_cost great) a b
-    (stopped_rises (product (map least_power small)) (product (map least_power great)) (product_rises (map least_power small) (map least_power great) (powers_rise small great g.within h)));
+      (stopped_rises (product (map least_power small)) (product (map least_power great)) (product_rises (map least_power small) (map least_power great) (powers_rise small great g.within h)));
 }
+
+-- What only answers what a function gives never falls where the function doesn't.
+pub answers_never_fall : (Answers : List ℕ → ℕ → Type 0) (cost : List ℕ → ℕ) → ((moduli : List ℕ) (answer : ℕ) → Answers moduli answer → answer ≡ cost moduli) → NeverFalls (Gives cost) → NeverFalls Answers
+answers_never_fall Answers cost gives never small great less more s g h a b = never small great less more s g h (gives small less a) (gives great more b)

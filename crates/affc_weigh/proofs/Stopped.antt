@@ -1,5 +1,5 @@
 -- Products that stop at the greatest number of 128 bits.
-use Rattle.std.proofs.Common.{◌≡◌, ℕ, zero, suc, ◌*◌, ◌-◌, ◌^◌, ◌≤◌, ◌<◌, arith, inl, inr}
+use Rattle.std.proofs.Common.{◌≡◌, ℕ, zero, suc, ◌*◌, ◌-◌, ◌^◌, ◌≤◌, arith, inl, inr}
 use Rattle.std.specs.Prelude.{min}
 use Rattle.std.proofs.lemmas.Bool.{cases_lt}
 use Rattle.std.proofs.Math.Nat.{le_antisymm, le-min, le_trans, min-eq_left, min-eq_right, min-le_left, min-le_right, mul-le-mul_left, zero-mul, le-mul_of_pos_right, mul_comm}
@@ -16,9 +16,9 @@ no_times n r a b e f = let h : min a r ≤ a = min-le_left a r in omega (arith, 
 
 times : (most k n : ℕ) → min (suc k * n) most ≤ suc k * min n most
 times most k n = elim (cases_lt n most) [
-    | inl h ↦ (let l : n ≤ most = omega arith in rw (min-eq_left l) (min-le_left (suc k * n) most))
-    | inr h ↦ (rw (min-eq_right h) (le_trans (min-le_right (suc k * n) most) (subst_comm most (suc k) (le-mul_of_pos_right most (omega arith)))))
-  ]
+  | inl h ↦ (let l : n ≤ most = omega arith in rw (min-eq_left l) (min-le_left (suc k * n) most))
+  | inr h ↦ (rw (min-eq_right h) (le_trans (min-le_right (suc k * n) most) (subst_comm most (suc k) (le-mul_of_pos_right most (omega arith)))))
+]
   where
     subst_comm : (a b : ℕ) → a ≤ a * b → a ≤ b * a
     subst_comm a b h = rw (mul_comm b a) h

@@ -1,11 +1,10 @@
 -- The cost of a fold by what a stored cost answers.
-use Rattle.std.proofs.Common.{◌≡◌, ℕ, ℤ, List, length, refl, sym, subst, get_or}
+use Rattle.std.proofs.Common.{◌≡◌, ℕ, ℤ, List, length, refl, subst, get_or}
 use Rattle.std.proofs.lemmas.Grind.{same_number_lists}
 use Rattle.affc_basis.specs.declared.fold.Fold.{Fold}
 use Rattle.affc_basis.specs.Folds.{forms_of, AreGreatestValues, IsCost}
 use Rattle.affc_basis.proofs.Uniques.{cost_is_unique}
-use Rattle.affc_weigh.specs.Costs.{AreModuli, AreAtMost, NeverFalls}
-use Rattle.affc_weigh.specs.Laws.{IsStoredCost, LessCostsNoMore, GivenCosts}
+use Rattle.affc_weigh.specs.Laws.{LessCostsNoMore, GivenCosts}
 
 module _ (InContext : List ℤ → Type 0) where
   NoPairs : List ℤ → List ℤ → List ℤ → Type 0

@@ -1,5 +1,5 @@
 -- What the costs are of small lists. Each value was found by hand from the rules.
-use Rattle.std.specs.Prelude.{◌≡◌, ℕ, ◌+◌, ◌-◌, ◌^◌, List, [], ◌∷◌}
+use Rattle.std.specs.Prelude.{◌≡◌, ◌+◌, ◌-◌, ◌^◌, [], ◌∷◌}
 use Rattle.affc_weigh.specs.Costs.{AreModuli, AreAtMost, NeverFalls, words_cost, sum_cost, powers_cost}
 
 -- no list is no element more than one

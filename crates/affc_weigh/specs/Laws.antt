@@ -1,5 +1,5 @@
 -- What holds of stored costs.
-use Rattle.std.specs.Prelude.{◌≡◌, ℕ, ◌^◌, ◌≤◌, ◌↔◌, ℤ, List}
+use Rattle.std.specs.Prelude.{ℕ, ◌^◌, ◌≤◌, ◌↔◌, ℤ, List}
 use Rattle.affc_basis.specs.declared.fold.Fold.{Fold}
 use Rattle.affc_basis.specs.Folds.{forms_of, AreGreatestValues, IsCost}
 use Rattle.affc_weigh.specs.Costs.{AreModuli, AreAtMost, NeverFalls, Gives, IsLeastPower, least_power, words_cost, sum_cost, powers_cost}

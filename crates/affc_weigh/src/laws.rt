@@ -5,6 +5,7 @@ ghost use Rattle.affc_weigh.specs.Laws.{LessCostsNoMore, GivenCosts, NamedNeverF
 /// Answers of a stored cost, and the context of a program.
 pub trait Costing {
     ghost answers: { List ℕ → ℕ → Type 0 };
+
     ghost in_context: { List ℤ → Type 0 };
 }
 
