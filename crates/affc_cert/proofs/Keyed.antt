@@ -77,7 +77,7 @@ other_keys parts (object ms) e = unkeyed parts ms e
 
 -- ---- These keys
 
-abbrev with_keys : List (List ℕ) → List Data → Members
+abbrev pub with_keys : List (List ℕ) → List Data → Members
 with_keys [] ds = no_members
 with_keys (k ∷ ks) [] = no_members
 with_keys (k ∷ ks) (d ∷ ds) = member k d (with_keys ks ds)
@@ -98,10 +98,10 @@ with_these (k ∷ ks) (member l d ms) e =
     let rest = with_these ks ms h.1 in
     (d ∷ rest.0, ap suc rest.1, ap₂ (λ x y. member x d y) ((bytes_eq-Decides l k).0 h.0) rest.2)
 
-abbrev AreUnder : List (List ℕ) → Data → Type 0
+abbrev pub AreUnder : List (List ℕ) → Data → Type 0
 AreUnder ks d = (ds : List Data) × (length ds ≡ length ks) × (d ≡ object (with_keys ks ds))
 
-these : (ks : List (List ℕ)) (d : Data) → has_keys ks d ≡ true → AreUnder ks d
+pub these : (ks : List (List ℕ)) (d : Data) → has_keys ks d ≡ true → AreUnder ks d
 these ks null e = absurd (true≢false (sym e))
 these ks (boolean b) e = absurd (true≢false (sym e))
 these ks (number n) e = absurd (true≢false (sym e))
@@ -174,3 +174,30 @@ pub fold_members : (f g h i : Data → Verdict) (d : Data) → has_keys fold_nam
 fold_members f g h i d e = let under = these fold_names d e in rw under.2 (fold_at f g h i under.0 under.1)
 
 pub ruleset fold_keys = (other_keys, fold_members)
+
+-- ---- The whole
+
+abbrev pub names : List (List ℕ)
+names = codes "affc" ∷ codes "context" ∷ codes "flow" ∷ codes "folds" ∷ codes "proofs" ∷ []
+
+abbrev parts : (f g h i j : Data → Verdict) → List Part
+parts f g h i j = (codes "affc", f) ∷ (codes "context", g) ∷ (codes "flow", h) ∷ (codes "folds", i) ∷ (codes "proofs", j) ∷ []
+
+whole_at : (f g h i j : Data → Verdict) (ds : List Data) → length ds ≡ 5
+    → members (parts f g h i j) (object (with_keys names ds))
+    ≡ worse (at_key f (get (codes "affc") (object (with_keys names ds)))) (worse (at_key g (get (codes "context") (object (with_keys names ds))))
+    (worse (at_key h (get (codes "flow") (object (with_keys names ds)))) (worse (at_key i (get (codes "folds") (object (with_keys names ds)))) (at_key j (get (codes "proofs") (object (with_keys names ds)))))))
+whole_at f g h i j [] e = absurd (omega arith)
+whole_at f g h i j (a ∷ []) e = absurd (omega arith)
+whole_at f g h i j (a ∷ b ∷ []) e = absurd (omega arith)
+whole_at f g h i j (a ∷ b ∷ c ∷ []) e = absurd (omega arith)
+whole_at f g h i j (a ∷ b ∷ c ∷ x ∷ []) e = absurd (omega arith)
+whole_at f g h i j (a ∷ b ∷ c ∷ x ∷ y ∷ []) e = ap (λ v. worse (f a) (worse (g b) (worse (h c) (worse (i x) v)))) (worse_fine (j y))
+whole_at f g h i j (a ∷ b ∷ c ∷ x ∷ y ∷ z ∷ ds) e = absurd (omega arith)
+
+pub whole_members : (f g h i j : Data → Verdict) (d : Data) → has_keys names d ≡ true
+    → members (parts f g h i j) d
+    ≡ worse (at_key f (get (codes "affc") d)) (worse (at_key g (get (codes "context") d)) (worse (at_key h (get (codes "flow") d)) (worse (at_key i (get (codes "folds") d)) (at_key j (get (codes "proofs") d)))))
+whole_members f g h i j d e = let under = these names d e in rw under.2 (whole_at f g h i j under.0 under.1)
+
+pub ruleset whole_keys = (other_keys, whole_members)

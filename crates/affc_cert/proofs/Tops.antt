@@ -1,5 +1,5 @@
 -- Verdicts on parts, place by place.
-use Rattle.std.proofs.Common.{◌≡◌, ◌≢◌, ℕ, zero, suc, ◌+◌, ◌<◌, ◌≤◌, List, [], ◌∷◌, ◌++◌, length, get_or, take, drop, map, Bool, true, false, Option, Some, None, refl, sym, ap, ap₂, ◌∙◌, arith, add-one, append_assoc}
+use Rattle.std.proofs.Common.{◌≡◌, ◌≢◌, ℕ, zero, suc, ◌+◌, ◌<◌, ◌≤◌, List, [], ◌∷◌, ◌++◌, length, get_or, take, drop, map, Bool, true, false, Option, Some, None, refl, sym, ap, ap₂, ◌∙◌, arith, add-one, append_assoc, append-nil}
 use Rattle.serde_json.specs.Data.{Data}
 use Rattle.serde_json.specs.View.{view, items_view}
 use Rattle.serde_json.proofs.Views.{items_len-items_view, members_len-members_view}
@@ -50,3 +50,5 @@ pub each_kept : (judge : Data → Verdict) (vs : List Value) (i : ℕ) (d : Valu
     → now ≡ old ++ each judge (items_view (take i vs)) → new ≡ now ++ x ∷ [] → x ≡ judge (view (get_or vs i d)) → new ≡ old ++ each judge (items_view (take (i + 1) vs))
 each_kept judge vs i d old now new x h e f g =
     f ∙ ap₂ (λ xs y. xs ++ y ∷ []) e g ∙ append_assoc old (each judge (items_view (take i vs))) (judge (view (get_or vs i d)) ∷ []) ∙ ap (λ xs. old ++ xs) (sym (each_more judge vs i d h))
+
+pub ruleset more_steps = (append_assoc, append-nil)

@@ -6,3 +6,6 @@ pub mod Folds
 pub mod Refusals
 pub mod Keys
 pub mod Stacks
+pub mod Drafts
+pub mod Limits
+pub mod Examples

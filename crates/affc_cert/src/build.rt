@@ -69,7 +69,7 @@ pub(crate) fn form(alloc: Global, value: &Value) -> Result<Form, AllocError>
 
 /// The coefficients that a value is, as a form with the constant 0.
 #[tactic(auto, using(crate::proofs::Found::form_steps))]
-fn coefs(alloc: Global, value: &Value) -> Result<Form, AllocError>
+pub(crate) fn coefs(alloc: Global, value: &Value) -> Result<Form, AllocError>
     ensures { IfOk result (λ f. (numbers_value f.coefs ≡ view value.now) × (f.constant ≡ pos 0)) }
 {
     let Some(items) = value.as_array() else {

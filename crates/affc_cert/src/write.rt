@@ -47,7 +47,7 @@ pub(crate) fn form(alloc: Global, form: &Form) -> Result<Value, AllocError>
 }
 
 /// The value of coefficients.
-fn coefs(alloc: Global, numbers: &[i128]) -> Result<Value, AllocError>
+pub(crate) fn coefs(alloc: Global, numbers: &[i128]) -> Result<Value, AllocError>
     ensures { IfOk result (λ v. view v ≡ numbers_value numbers.now) }
 {
     let mut values = Vec::new(alloc);
