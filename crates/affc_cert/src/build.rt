@@ -205,12 +205,7 @@ fn put_cut(
 
 /// Puts a split on the stack, over the two proofs on its top.
 #[tactic(auto, using(crate::proofs::Found::stack_steps))]
-fn put_split(
-    alloc: Global,
-    stack: &mut Vec<Proof>,
-    form: Form,
-    at: i64,
-) -> Result<(), AllocError>
+fn put_split(alloc: Global, stack: &mut Vec<Proof>, form: Form, at: i64) -> Result<(), AllocError>
     ensures { OnOk result (stack_nodes stack.new.items ≡ split_node form.coefs (at -ℤ form.constant) ∷ stack_nodes stack.old.items) }
 {
     let Some(low) = stack.pop() else {

@@ -4,7 +4,9 @@ ghost use Rattle.serde_json.specs.View.{view, items_view};
 ghost use Rattle.affc_cert.specs.Verdicts.{all_of, any_number, at_key, list, many, form_over, within};
 ghost use Rattle.affc_cert.specs.Folds.{alike, fold, is_null, is_null_there, matrix, modulus, nullable, same_number, this_number, witness};
 
-use crate::judge::{any_verdict, counted_numbers_verdict, form_verdict, numbers_verdict, size_verdict};
+use crate::judge::{
+    any_verdict, counted_numbers_verdict, form_verdict, numbers_verdict, size_verdict,
+};
 use crate::keys::has_keys;
 use crate::layout::Temporary;
 use crate::verdict::Verdict;
@@ -148,8 +150,9 @@ fn witness_verdict(value: &Value, parameters: usize) -> Verdict
     }
     let clash = value.get("clash");
     let point = value.get("point");
-    let parts = clash_verdict(clash)
-        .and(parameters_verdict(value.get("p"), parameters).and(point_verdict(point)));
+    let parts = clash_verdict(clash).and(parameters_verdict(value.get("p"), parameters).and(
+        point_verdict(point),
+    ));
     parts.and(alike_verdict(is_null_there(clash), is_null_there(point)))
 }
 

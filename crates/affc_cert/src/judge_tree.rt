@@ -95,7 +95,12 @@ fn find_statement(number: i64, statements: &[Store]) -> Option<usize>
 }
 
 /// The verdict on the forms of a leaf that names a statement.
-fn source_verdict(number: Option<i64>, value: &Value, statements: &[Store], columns: usize) -> Verdict
+fn source_verdict(
+    number: Option<i64>,
+    value: &Value,
+    statements: &[Store],
+    columns: usize,
+) -> Verdict
     requires { columns < 2 ^ 63 }
     ensures { result ≡ source_by statements.now columns number (view value.now) }
 {
@@ -281,11 +286,7 @@ fn nodes_verdict(
 }
 
 /// The verdict on the tree of a load.
-pub(crate) fn tree_verdict(
-    alloc: Global,
-    value: &Value,
-    load: &Load,
-) -> Result<Verdict, AllocError>
+pub(crate) fn tree_verdict(alloc: Global, value: &Value, load: &Load) -> Result<Verdict, AllocError>
     ensures { IfOk result (λ v. v ≡ tree load.now (view value.now)) }
 {
     match value.as_array() {

@@ -140,11 +140,7 @@ fn add_proofs(verdicts: &mut Vec<Verdict>, items: &[Value]) -> Result<(), AllocE
 
 /// The verdicts on the parts.
 #[tactic(auto, using(crate::proofs::Tops::more_steps))]
-fn part_verdicts(
-    alloc: Global,
-    value: &Value,
-    layout: &Layout,
-) -> Result<Vec<Verdict>, AllocError>
+fn part_verdicts(alloc: Global, value: &Value, layout: &Layout) -> Result<Vec<Verdict>, AllocError>
     ensures { IfOk result (λ v. v.items ≡ verdicts layout.now (view value.now)) }
 {
     let mut found = Vec::new(alloc);
