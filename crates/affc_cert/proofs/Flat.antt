@@ -1,5 +1,5 @@
 -- The value of a certificate has no float, and nests only a few levels.
-use Rattle.std.proofs.Common.{◌≡◌, ℕ, suc, ◌≤◌, ◌||◌, max, ℤ, pos, negsuc, Bool, true, false, List, [], ◌∷◌, ◌++◌, map, Option, Some, None, codes, refl, sym, ap, ap₂, ◌∙◌, arith}
+use Rattle.std.proofs.Common.{◌≡◌, ℕ, suc, ◌≤◌, ◌||◌, ℤ, pos, negsuc, false, List, [], ◌∷◌, ◌++◌, map, Option, Some, None, codes, refl, ap₂, arith}
 use Rattle.std.specs.Prelude.{⊤}
 use Rattle.affc_rows.specs.Forms.{Affine}
 use Rattle.affc_quast.specs.Trees.{Tree, Test, Div, Source, Input}

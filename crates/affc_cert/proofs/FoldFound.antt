@@ -3,7 +3,7 @@ use Rattle.std.proofs.Common.{◌≡◌, ℕ, zero, suc, ◌+◌, ◌<◌, ◌�
 use Rattle.std.proofs.lemmas.List.{map_more}
 use Rattle.std.proofs.lemmas.Option.{same_Some}
 use Rattle.affc_rows.specs.Forms.{Affine}
-use Rattle.serde_json.specs.Data.{Data, null, number, unsigned, object, no_members, member}
+use Rattle.serde_json.specs.Data.{Data, number, unsigned, object, no_members, member}
 use Rattle.serde_json.specs.Find.{get}
 use Rattle.affc_cert.specs.declared.cert.CertLeast.{CertLeast}
 use Rattle.affc_cert.specs.declared.cert.CertModulus.{CertModulus}
@@ -11,7 +11,7 @@ use Rattle.affc_cert.specs.Certificates.{FoldEntry, coefs_of}
 use Rattle.affc_cert.specs.Drafts.{whole_object}
 use Rattle.affc_cert.specs.Keys.{has_keys}
 use Rattle.affc_cert.specs.Refusals.{plain}
-use Rattle.affc_cert.specs.Values.{list_value, whole_value, form_value, matrix_value, numbers_value, clash_value, point_value, least_value, modulus_value, moduli_value, fold_value}
+use Rattle.affc_cert.specs.Values.{whole_value, form_value, matrix_value, numbers_value, clash_value, point_value, least_value, modulus_value, moduli_value, fold_value}
 use Rattle.affc_cert.proofs.Keyed.{with_keys, these, modulus_names, witness_names, fold_names, names}
 
 -- ---- Rows without constants

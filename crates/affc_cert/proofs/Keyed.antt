@@ -1,5 +1,5 @@
 -- Objects with exactly these keys: what stands under each.
-use Rattle.std.proofs.Common.{◌≡◌, ℕ, zero, suc, ◌+◌, ◌<◌, ◌≤◌, nat_eq, List, [], ◌∷◌, length, get_or, drop, map, Bor, String, Global, string_bytes, add-one, Bool, true, false, ◌&&◌, true≢false, Option, Some, None, if◌then◌else◌, codes, bytes_eq, refl, sym, ap, ap₂, ◌∙◌, arith}
+use Rattle.std.proofs.Common.{◌≡◌, ℕ, zero, suc, ◌+◌, ◌<◌, ◌≤◌, nat_eq, List, [], ◌∷◌, length, get_or, drop, map, Bor, string_bytes, add-one, Bool, true, false, ◌&&◌, true≢false, if◌then◌else◌, codes, bytes_eq, refl, sym, ap, ap₂, ◌∙◌, arith}
 use Rattle.std.proofs.Math.Dec.{eqb-zero-suc, eqb-suc-suc}
 use Rattle.std.proofs.lemmas.Slice.Eq.{bytes_eq-Decides}
 use Rattle.serde_json.specs.Data.{Data, null, boolean, number, string, array, object, Members, no_members, member}
@@ -7,7 +7,7 @@ use Rattle.serde_json.specs.Find.{get}
 use Rattle.serde_json.specs.View.{members_view}
 use Rattle.serde_json.proofs.Views.{Entry}
 use Rattle.affc_cert.specs.declared.verdict.Verdict.{Verdict}
-use Rattle.affc_cert.specs.declared.verdict.Verdict.TheVariants.{Shape, Number, Fine}
+use Rattle.affc_cert.specs.declared.verdict.Verdict.TheVariants.{Shape}
 use Rattle.affc_cert.specs.Verdicts.{worse, at_key, keyed, members}
 use Rattle.affc_cert.specs.Keys.{are_keys, has_keys}
 use Rattle.affc_cert.proofs.Steps.{worse_fine, worse_shape}

@@ -5,7 +5,7 @@ use Rattle.serde_json.specs.View.{view, items_view}
 use Rattle.serde_json.proofs.Views.{items_len-items_view, members_len-members_view}
 use Rattle.serde_json.specs.declared.value.Value.{Value}
 use Rattle.affc_cert.specs.declared.verdict.Verdict.{Verdict}
-use Rattle.affc_cert.specs.Refusals.{each, first, is_shape, is_number}
+use Rattle.affc_cert.specs.Refusals.{each, first}
 
 pub each_is_map : (judge : Data → Verdict) (vs : List Value) → each judge (items_view vs) ≡ map (λ v. judge (view v)) vs
 each_is_map judge [] = refl

@@ -1,12 +1,11 @@
 -- Verdicts on the nodes of a tree, at the places of a list.
 use Rattle.std.proofs.Common.{◌≡◌, ◌≢◌, ℕ, zero, suc, ◌+◌, ◌<◌, ◌≤◌, List, [], ◌∷◌, ◌++◌, length, get_or, drop, reverse, Option, Some, None, ℤ, refl, sym, ap, ap₂, ◌∙◌, arith, add-one, eq-eqb, ne_eqb}
 use Rattle.std.proofs.lemmas.List.{reverse-append}
-use Rattle.serde_json.specs.Data.{Num, Data, Items, no_items, item}
-use Rattle.serde_json.specs.Find.{as_number, as_i64, as_array}
+use Rattle.serde_json.specs.Find.{as_number, as_array}
 use Rattle.serde_json.specs.View.{view, items_view}
 use Rattle.serde_json.specs.declared.value.Value.{Value}
 use Rattle.affc_cert.specs.declared.verdict.Verdict.{Verdict}
-use Rattle.affc_cert.specs.declared.verdict.Verdict.TheVariants.{Shape, Number, Fine}
+use Rattle.affc_cert.specs.declared.verdict.Verdict.TheVariants.{Shape, Fine}
 use Rattle.affc_cert.specs.Verdicts.{worse, exactly, behind_tag, list}
 use Rattle.affc_cert.specs.declared.kind.Place.{Place}
 use Rattle.affc_cert.specs.declared.kind.TreeKind.{TreeKind as Kind}

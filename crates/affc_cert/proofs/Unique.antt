@@ -1,19 +1,17 @@
 -- Two certificates with one JSON value are one.
-use Rattle.std.proofs.Common.{◌≡◌, ℕ, ℤ, pos, negsuc, List, [], ◌∷◌, ◌++◌, map, Option, Some, None, codes, refl, sym, ap, ap₂, ◌∙◌, append-nil, append_assoc}
+use Rattle.std.proofs.Common.{◌≡◌, ℕ, ℤ, pos, negsuc, List, [], ◌∷◌, ◌++◌, map, Option, Some, None, refl, sym, ap, ap₂, ◌∙◌, append-nil, append_assoc}
 use Rattle.affc_rows.specs.Forms.{Affine}
 use Rattle.affc_quast.specs.Trees.{Tree, Test, Div, Source, Input}
-use Rattle.serde_json.specs.Data.{Data, Items, no_items, item, Members, member, number, string, array, object, null}
-use Rattle.serde_json.specs.Find.{as_array, of_integer}
+use Rattle.serde_json.specs.Data.{Data, Items, Members, member, object}
+use Rattle.serde_json.specs.Find.{as_array}
 use Rattle.serde_json.specs.View.{items_of}
 use Rattle.affc_cert.specs.declared.cert.CertLeast.{CertLeast}
 use Rattle.affc_cert.specs.declared.cert.CertModulus.{CertModulus}
 use Rattle.affc_cert.specs.declared.kind.Kind.{Kind}
-use Rattle.affc_cert.specs.declared.kind.Kind.TheVariants as Kind
 use Rattle.affc_cert.specs.declared.kind.TreeKind.{TreeKind}
-use Rattle.affc_cert.specs.declared.kind.TreeKind.TheVariants as TreeKind
 use Rattle.affc_cert.specs.Certificates.{Steps, Refuted, Cut, Split, FoldEntry, Certificate}
 use Rattle.affc_cert.specs.Trees.{kind_in}
-use Rattle.affc_cert.specs.Values.{list_value, list_of, whole_value, numbers_value, form_value, forms_value, pair_value, multipliers_value, leaf_node, cut_node, split_node, nodes_of, proof_value, test_node, div_node, source_node, input_node, tree_nodes_of, tree_value, matrix_value, clash_value, point_value, least_value, modulus_value, moduli_value, fold_value, folds_value, cert_value}
+use Rattle.affc_cert.specs.Values.{list_value, list_of, whole_value, numbers_value, form_value, forms_value, pair_value, multipliers_value, nodes_of, proof_value, tree_nodes_of, tree_value, matrix_value, clash_value, point_value, least_value, modulus_value, fold_value, folds_value, cert_value}
 use Rattle.affc_cert.specs.Verdicts.{kind_of}
 
 -- ---- Lists

@@ -1,13 +1,12 @@
 -- Values that are refused or not, each judged by hand.
-use Rattle.std.specs.Prelude.{◌≡◌, ℕ, pos, negsuc, true, List, [], ◌∷◌, None, Some, codes}
-use Rattle.serde_json.specs.Data.{Data, null, number, unsigned, string, object, Members, no_members, member}
+use Rattle.std.specs.Prelude.{◌≡◌, ℕ, pos, negsuc, List, [], ◌∷◌, None, Some, codes}
+use Rattle.serde_json.specs.Data.{Data, null, number, unsigned, string, object, no_members, member}
 use Rattle.affc_cert.specs.declared.verdict.Verdict.TheVariants.{Shape, Number, Fine}
 use Rattle.affc_cert.specs.declared.cert.CertFault.TheVariants as fault
 use Rattle.affc_cert.specs.declared.layout.Layout.{Layout}
 use Rattle.affc_cert.specs.declared.layout.Load.{Load}
-use Rattle.affc_cert.specs.Values.{list_value, whole_value, numbers_value, leaf_node, cut_node, split_node, test_node, div_node, source_node, input_node, cert_value}
-use Rattle.affc_cert.specs.Certificates.{Certificate, Refuted}
-use Rattle.affc_cert.specs.Verdicts.{proof, multipliers, within}
+use Rattle.affc_cert.specs.Values.{list_value, whole_value, numbers_value, leaf_node, cut_node, split_node, input_node}
+use Rattle.affc_cert.specs.Verdicts.{proof}
 use Rattle.affc_cert.specs.Trees.{tree, path}
 use Rattle.affc_cert.specs.Folds.{modulus, this_number}
 use Rattle.affc_cert.specs.Refusals.{refusal}

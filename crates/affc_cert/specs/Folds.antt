@@ -1,5 +1,5 @@
 -- What is wrong with a value that stands for a fold.
-use Rattle.std.specs.Prelude.{ℕ, ◌==◌, ℤ, pos, negsuc, List, [], ◌∷◌, Bool, true, false, is_some, if◌then◌else◌, Option, Some, None, codes}
+use Rattle.std.specs.Prelude.{ℕ, ◌==◌, ℤ, pos, negsuc, [], ◌∷◌, Bool, true, false, is_some, if◌then◌else◌, Option, Some, None, codes}
 use Rattle.serde_json.specs.Data.{Num, Data}
 use Rattle.serde_json.specs.Find.{as_null, as_number, as_i64, get}
 use Rattle.affc_cert.specs.declared.verdict.Verdict.{Verdict}

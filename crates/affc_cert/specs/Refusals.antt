@@ -1,5 +1,5 @@
 -- Which texts are certificates, and why others are refused.
-use Rattle.std.specs.Prelude.{◌≡◌, ◌⊎◌, ℕ, suc, ◌+◌, ◌<◌, ◌==◌, ℤ, pos, List, [], ◌∷◌, ◌++◌, length, map, slice_get, Bool, true, false, if◌then◌else◌, Option, Some, None, option_map, option_and_then, codes, IsUtf8}
+use Rattle.std.specs.Prelude.{◌≡◌, ◌⊎◌, ℕ, ◌+◌, ◌<◌, ◌==◌, ℤ, pos, List, [], ◌∷◌, ◌++◌, length, map, slice_get, Bool, true, false, if◌then◌else◌, Option, Some, None, option_map, option_and_then, codes, IsUtf8}
 use Rattle.affc_rows.specs.Forms.{Affine}
 use Rattle.affc_basis.specs.Bases.{AreComponents}
 use Rattle.serde_json.specs.Data.{Data, Items, no_items, item}

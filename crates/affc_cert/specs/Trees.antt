@@ -2,7 +2,6 @@
 use Rattle.std.specs.Prelude.{ℕ, ◌+◌, ◌==◌, ℤ, pos, negsuc, List, [], ◌∷◌, nat_lt, if◌then◌else◌, Option, Some, None, codes, bytes_eq}
 use Rattle.serde_json.specs.Data.{Num, Data, Items, no_items, item}
 use Rattle.serde_json.specs.Find.{as_number, as_i64, as_array, as_str}
-use Rattle.serde_json.specs.Events.{items_len}
 use Rattle.affc_cert.specs.declared.verdict.Verdict.{Verdict}
 use Rattle.affc_cert.specs.declared.verdict.Verdict.TheVariants.{Shape, Number, Fine}
 use Rattle.affc_cert.specs.declared.kind.Place.{Place}

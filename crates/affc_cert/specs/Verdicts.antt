@@ -1,7 +1,7 @@
 -- What is wrong with a value that stands for a part of a certificate.
-use Rattle.std.specs.Prelude.{ℕ, zero, suc, ◌+◌, ◌^◌, ◌==◌, ◌&&◌, ◌||◌, ℤ, pos, negsuc, neg_ℤ, List, [], ◌∷◌, Bool, true, false, not, nat_le, nat_lt, int_lt, if◌then◌else◌, Option, Some, None, option_and_then, codes, bytes_eq}
+use Rattle.std.specs.Prelude.{ℕ, zero, suc, ◌+◌, ◌==◌, ◌&&◌, ◌||◌, ℤ, pos, negsuc, neg_ℤ, List, [], ◌∷◌, Bool, true, nat_lt, int_lt, if◌then◌else◌, Option, Some, None, option_and_then, codes, bytes_eq}
 use Rattle.serde_json.specs.Data.{Num, Data, Items, no_items, item, Members, no_members, member}
-use Rattle.serde_json.specs.Find.{as_number, as_i64, as_array, as_object, as_str, at, get_member}
+use Rattle.serde_json.specs.Find.{as_number, as_i64, as_array, as_object, as_str, at}
 use Rattle.serde_json.specs.Events.{items_len}
 use Rattle.affc_cert.specs.declared.verdict.Verdict.{Verdict}
 use Rattle.affc_cert.specs.declared.verdict.Verdict.TheVariants.{Shape, Number, Fine}

@@ -1,4 +1,4 @@
-use Rattle.std.proofs.Common.{◌≡◌, drop, pos}
+use Rattle.std.proofs.Common.{◌≡◌, drop}
 use Rattle.serde_json.specs.View.{items_view}
 use Rattle.affc_cert.specs.Verdicts.{worse, all_of, any_number}
 use Rattle.affc_cert.proofs.judge.all_numbers.Given as goal

@@ -1,5 +1,4 @@
-use Rattle.std.proofs.Common.{◌≡◌, ◌++◌, map, take, drop}
-use Rattle.serde_json.specs.View.{view, items_view}
+use Rattle.std.proofs.Common.{◌≡◌, drop}
 use Rattle.affc_cert.specs.Refusals.{first, is_number}
 use Rattle.affc_cert.proofs.refuse.first_number.Given as goal
 
