@@ -7,6 +7,8 @@
 #[cfg(test)]
 mod basis;
 #[cfg(test)]
+mod cert;
+#[cfg(test)]
 mod farkas;
 #[cfg(test)]
 mod forms;

@@ -1,0 +1,8 @@
+use Rattle.std.proofs.Common.{◌≡◌, map, take}
+use Rattle.serde_json.specs.View.{view}
+use Rattle.affc_cert.specs.Values.{proof_value}
+use Rattle.affc_cert.specs.Certificates.{steps_of}
+use Rattle.affc_cert.proofs.json.proofs_among.Given as goal
+
+abbrev pub invariant-loop-value : goal.invariant-loop-value
+invariant-loop-value l = map proof_value (map steps_of l.proofs) ≡ map view (take l.value-index l.items)

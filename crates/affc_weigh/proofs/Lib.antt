@@ -1,0 +1,5 @@
+pub mod Stopped
+pub mod LeastPowers
+pub mod Rising
+pub mod StoredCosts
+pub mod ExampleProofs
