@@ -2,6 +2,7 @@
 //! failure outside leaves.
 mod edges;
 mod failures;
+mod flows;
 mod folds;
 mod kernels;
 mod rows;

@@ -6,7 +6,7 @@ use super::rows::whole;
 use std::test::Fail;
 
 // A source, its schedule, the folded text, the report, data, and what both the source and the folded text give.
-const FOLDS: [(&str, &str, &str, &str, &str, &str); 7] = [
+const FOLDS: [(&str, &str, &str, &str, &str, &str); 10] = [
     // at one time the second loop loads what the first has just stored
     (
         "#include <stdint.h>\n#pragma affc param N 1 9\nvoid tie(int64_t N, const uint64_t in[N], uint64_t out[N]) {\n  uint64_t t[N];\n  for (int64_t i = 0; i < N; i++)\n    t[i] = in[i] * 3ULL;\n  for (int64_t i = 0; i < N; i++)\n    out[i] = t[i];\n}\n",
@@ -70,10 +70,37 @@ const FOLDS: [(&str, &str, &str, &str, &str, &str); 7] = [
         "param N 5\narray in 1 2 3 4 5\narray out 0 0 0 0 0\n",
         "array out 5 4 3 2 1\n",
     ),
+    // four dimensions, of which two are left
+    (
+        "#include <stdint.h>\n#pragma affc param N 1 5\nvoid four(int64_t N, const uint64_t in[N], uint64_t out[N]) {\n  uint64_t t[N][N][2][N];\n  for (int64_t i = 0; i < N; i++)\n    for (int64_t j = 0; j < N; j++) {\n      for (int64_t k = 0; k < 2; k++)\n        for (int64_t l = 0; l < N; l++)\n          t[i][j][k][l] = in[l] * (uint64_t)(i + j + k);\n      for (int64_t k = 0; k < 2; k++)\n        for (int64_t l = 0; l < N; l++)\n          out[l] += t[i][j][k][l];\n    }\n}\n",
+        "source;\n",
+        "#include <stdint.h>\n#pragma affc param N 1 5\nvoid four(int64_t N, const uint64_t in[N], uint64_t out[N]) {\n  uint64_t t[1][1][2][N];\n  for (int64_t i = 0; i < N; i++) {\n    for (int64_t j = 0; j < N; j++) {\n      for (int64_t k = 0; k < 2; k++) {\n        for (int64_t l = 0; l < N; l++) {\n          t[0][0][k][l] = in[l] * (uint64_t)(i + j + k);\n        }\n      }\n      for (int64_t k = 0; k < 2; k++) {\n        for (int64_t l = 0; l < N; l++) {\n          out[l] += t[0][0][k][l];\n        }\n      }\n    }\n  }\n}\n",
+        "array t\n  basis (x0, x1, x2, x3)\n  modulus 0: 1 least at N=1 no pair\n  modulus 1: 1 least at N=1 no pair\n  modulus 2: 2 least at N=1 pair (0, 0, 0, 0) (0, 0, 1, 0)\n  modulus 3: N least at N=5 pair (0, 0, 0, 0) (0, 0, 0, 4)\n",
+        "param N 2\narray in 1 10\narray out 0 0\n",
+        "array out 12 120\n",
+    ),
+    // each of two elements is stored while the other is to be loaded
+    (
+        "#include <stdint.h>\n#pragma affc param N 1 9\nvoid turns(int64_t N, const uint64_t in[N], uint64_t out[N]) {\n  uint64_t t[2];\n  t[0] = 1ULL;\n  t[1] = 2ULL;\n  for (int64_t i = 0; i < N; i++) {\n    out[i] = t[0];\n    t[0] = in[i];\n    out[i] -= t[1];\n    t[1] = in[i] * 2ULL;\n  }\n}\n",
+        "source;\n",
+        "#include <stdint.h>\n#pragma affc param N 1 9\nvoid turns(int64_t N, const uint64_t in[N], uint64_t out[N]) {\n  uint64_t t[2];\n  t[0] = 1ULL;\n  t[1] = 2ULL;\n  for (int64_t i = 0; i < N; i++) {\n    out[i] = t[0];\n    t[0] = in[i];\n    out[i] -= t[1];\n    t[1] = in[i] * 2ULL;\n  }\n}\n",
+        "array t\n  basis (x0)\n  modulus 0: 2 least at N=1 pair (0) (1)\n",
+        "param N 2\narray in 5 6\narray out 0 0\n",
+        "array out 18446744073709551615 18446744073709551611\n",
+    ),
+    // the constant and the form over the parameter have one value
+    (
+        "#include <stdint.h>\n#pragma affc param N 4 4\nvoid fixed(int64_t N, const uint64_t in[N], uint64_t out[N]) {\n  uint64_t t[N];\n  for (int64_t i = 0; i < N; i++)\n    t[i] = in[i];\n  for (int64_t i = 0; i < N; i++)\n    out[i] = t[N - 1 - i];\n}\n",
+        "source;\n",
+        "#include <stdint.h>\n#pragma affc param N 4 4\n{prelude}void fixed(int64_t N, const uint64_t in[N], uint64_t out[N]) {\n  uint64_t t[4];\n  for (int64_t i = 0; i < N; i++) {\n    t[affc_mod(i, 4)] = in[i];\n  }\n  for (int64_t i = 0; i < N; i++) {\n    out[i] = t[affc_mod(-i + N - 1, 4)];\n  }\n}\n",
+        "array t\n  basis (x0)\n  modulus 0: 4 least at N=4 pair (0) (3)\n",
+        "param N 4\narray in 1 2 3 4\narray out 0 0 0 0\n",
+        "array out 4 3 2 1\n",
+    ),
 ];
 
 // What a kernel's text has, the words, another schedule or nothing, lines of the folded text, and the report.
-const OTHERS: [(&str, &str, &str, &str, &str); 4] = [
+const OTHERS: [(&str, &str, &str, &str, &str); 5] = [
     (
         "void sweep(",
         "fold a.c a.data",
@@ -101,6 +128,13 @@ const OTHERS: [(&str, &str, &str, &str, &str); 4] = [
         "source;\nfold t: (-x0); x0 = -y0;\n",
         "  uint64_t t[N + 2];\n",
         "array t\n  basis (-x0)\n  modulus 0: N + 2 least at N=4096 pair (4097) (0)\n",
+    ),
+    (
+        "void sweep(",
+        "fold a.c a.data",
+        "source;\nfold g: (x1 - x0, -x0); x0 = -y1, x1 = y0 - y1;\n",
+        "  uint64_t g[N + 1][1];\n",
+        "array g\n  basis (-x0 + x1, -x0)\n  modulus 0: N + 1 least at T=1 N=100 pair (1, 0) (0, 99)\n  modulus 1: 1 least at T=1 N=3 no pair\n",
     ),
 ];
 

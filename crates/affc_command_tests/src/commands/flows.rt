@@ -1,0 +1,43 @@
+//! Last-write trees, each followed at all points of its program beforehand, outside affc.
+use super::plain;
+use std::test::Fail;
+
+// A source and its trees.
+const FLOWS: [(&str, &str); 5] = [
+    // which statement stored it depends on the parameter
+    (
+        "#include <stdint.h>\n#pragma affc param N 1 9\nvoid choice(int64_t N, const uint64_t in[N], uint64_t out[N]) {\n  uint64_t t[N];\n  for (int64_t i = 0; i < N; i++) {\n    if (N >= 3)\n      t[i] = in[i];\n    if (N < 3)\n      t[i] = ~in[i];\n  }\n  for (int64_t i = 0; i < N; i++)\n    out[i] = t[i];\n}\n",
+        "S0 load 0 in\n  input\nS1 load 0 in\n  input\nS2 load 0 t\n  test -N + 2 >= 0\n    source S1(i)\n    source S0(i)\n",
+    ),
+    // the first element is stored by a statement of its own
+    (
+        "#include <stdint.h>\n#pragma affc param N 2 9\nvoid edge(int64_t N, const uint64_t in[N], uint64_t out[N]) {\n  uint64_t t[N];\n  t[0] = in[0];\n  for (int64_t i = 1; i < N; i++)\n    t[i] = in[i - 1] + in[i];\n  for (int64_t i = 0; i < N; i++)\n    out[i] = t[i];\n}\n",
+        "S0 load 0 in\n  input\nS1 load 0 in\n  input\nS1 load 1 in\n  input\nS2 load 0 t\n  test i - 1 >= 0\n    source S1(i)\n    source S0()\n",
+    ),
+    // a scalar, `+=`, and an output that is loaded before its first store
+    (
+        "#include <stdint.h>\n#pragma affc param N 2 9\nvoid held(int64_t N, uint64_t out[N]) {\n  uint64_t s;\n  s = 0ULL;\n  for (int64_t i = 1; i < N; i++) {\n    out[i] += out[i - 1];\n    s += out[i];\n  }\n  out[0] = s;\n}\n",
+        "S1 load 0 out\n  input\nS1 load 1 out\n  test i - 2 >= 0\n    source S1(i - 1)\n    input\nS2 load 0 s\n  test i - 2 >= 0\n    source S2(i - 1)\n    source S0()\nS2 load 1 out\n  source S1(i)\nS3 load 0 s\n  source S2(N - 1)\n",
+    ),
+    // a strided store, loaded with the same stride
+    (
+        "#include <stdint.h>\n#pragma affc param N 1 8\nvoid even(int64_t N, const uint64_t in[N], uint64_t out[N]) {\n  uint64_t t[2 * N];\n  for (int64_t i = 0; i < N; i++)\n    t[2 * i] = in[i];\n  for (int64_t k = 0; k < N; k++)\n    for (int64_t j = 2 * k; j <= 2 * k; j++)\n      out[k] = t[j];\n}\n",
+        "S0 load 0 in\n  input\nS1 load 0 t\n  source S0(-k + j)\n",
+    ),
+    // which statement stored it depends on parity
+    (
+        "#include <stdint.h>\n#pragma affc param N 1 3\nvoid both(int64_t N, const uint64_t in[N], uint64_t out[2 * N]) {\n  uint64_t t[2 * N];\n  for (int64_t i = 0; i < N; i++)\n    t[2 * i] = in[i];\n  for (int64_t i = 0; i < N; i++)\n    t[2 * i + 1] = in[i] * 3ULL;\n  for (int64_t i = 0; i < 2 * N; i++)\n    out[i] = t[i];\n}\n",
+        "S0 load 0 in\n  input\nS1 load 0 in\n  input\nS2 load 0 t\n  test -N + 2 >= 0\n    test -N + 1 >= 0\n      test i - 2 * N + 1 >= 0\n        source S1(N - 1)\n        source S0(N - 1)\n      test -i + 2 >= 0\n        test -i + 1 >= 0\n          test -i >= 0\n            source S0(0)\n            source S1(0)\n          source S0(1)\n        source S1(N - 1)\n    test -i + 2 >= 0\n      test -i + 1 >= 0\n        test -i >= 0\n          source S0(0)\n          source S1(0)\n        source S0(1)\n      test -i + 4 >= 0\n        test -i + 3 >= 0\n          source S1(1)\n          source S0(2)\n        source S1(2)\n",
+    ),
+];
+
+#[test]
+fn trees_name_last_writes(rt: HostRuntime) -> Result<(), Fail> {
+    for (source, trees) in FLOWS {
+        let done = plain(rt.alloc(), "flow a.c", source, "")?;
+        assert_eq!(rt; done.status, 0, "of {source}");
+        assert_eq!(rt; done.out.as_slice(), trees.as_bytes());
+        assert_eq!(rt; done.err.as_slice(), b"".as_slice());
+    }
+    Ok(())
+}
