@@ -103,7 +103,9 @@ class Analysis:
             return [[v + sum((other[part][k] - v) * by for other, by in rates) for k, v in enumerate(values)]
                     for part, values in enumerate(first)]
         assert carry([h + 2 for h in highs]) == others[-1], f'{array} {row} changes unevenly: {first} {others}'
-        return carry(declared)
+        out = carry(declared)
+        assert tuple(out[2]) in self.source.points(declared), f'{array} {row}: {out[2]} lies outside the context'
+        return out
 
     def tried(self, highs):
         """Whether the folds of these ranges keep the outputs."""
