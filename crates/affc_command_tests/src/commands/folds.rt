@@ -1,8 +1,8 @@
 //! What `fold` makes of temporaries: their sizes, the elements that the report shows, and what the folded text gives, all
 //! known from outside.
-use super::kernels::KERNELS;
 use super::plain;
 use super::rows::whole;
+use std::alloc::{AllocError, Global};
 use std::test::Fail;
 
 // A source, its schedule, the folded text, the report, data, and what both the source and the folded text give.
@@ -99,76 +99,67 @@ const FOLDS: [(&str, &str, &str, &str, &str, &str); 10] = [
     ),
 ];
 
-// What a kernel's text has, the words, another schedule or nothing, lines of the folded text, and the report.
-const OTHERS: [(&str, &str, &str, &str, &str); 5] = [
+// The words, a source, its schedule, and the report.
+const REPORTS: [(&str, &str, &str, &str); 4] = [
+    // two rows of its own
     (
-        "void sweep(",
         "fold a.c a.data",
+        "#include <stdint.h>\n#pragma affc param T 1 100\n#pragma affc param N 3 100\nvoid sweep(int64_t T, int64_t N, const uint64_t in[N], uint64_t out[N]) {\n  uint64_t g[T + 1][N];\n  for (int64_t i = 0; i < N; i++)\n    g[0][i] = in[i];\n  for (int64_t s = 0; s < T; s++) {\n    g[s + 1][0] = g[s][0];\n    for (int64_t i = 1; i < N - 1; i++)\n      g[s + 1][i] = g[s][i - 1] + g[s][i] + g[s][i + 1];\n    g[s + 1][N - 1] = g[s][N - 1];\n  }\n  for (int64_t i = 0; i < N; i++)\n    out[i] = g[T][i];\n}\n",
         "source;\nfold g: (x0, x1); x0 = y0, x1 = y1;\n",
-        "  uint64_t g[2][N];\n",
         "array g\n  basis (x0, x1)\n  modulus 0: 2 least at T=1 N=3 pair (0, 0) (1, 0)\n  modulus 1: N least at T=1 N=100 pair (0, 0) (0, 99)\n",
     ),
+    // a budget that ends between two arrays
     (
-        "void stages(",
         "fold a.c a.data --budget 92",
-        "",
-        "  uint64_t a[3];\n  uint64_t b[N + 3];\n",
+        "#include <stdint.h>\n#pragma affc param N 1 1000\nvoid stages(int64_t N, const uint64_t in[N + 6], uint64_t out[N]) {\n  uint64_t a[N + 5], b[N + 3];\n  for (int64_t i = 0; i < N + 5; i++)\n    a[i] = 3ULL * in[i] + in[i + 1];\n  for (int64_t i = 0; i < N + 3; i++)\n    b[i] = a[i] ^ (a[i + 1] >> 1) ^ (a[i + 2] >> 2);\n  for (int64_t i = 0; i < N; i++)\n    out[i] = b[i + 3] - b[i];\n}\n",
+        "time 1;\nS0: (i); i = t0;\nS1: (i + 2); i = t0 - 2;\nS2: (i + 5); i = t0 - 5;\n",
         "array a\n  basis (x0)\n  modulus 0: 3 least at N=1 pair (0) (2)\narray b\n  whole budget\n",
     ),
+    // a budget that is enough
     (
-        "void blur(",
         "fold a.c a.data --budget 1000000",
-        "",
-        "  uint64_t t[3];\n",
+        "#include <stdint.h>\n#pragma affc param N 1 4096\nvoid blur(int64_t N, const uint64_t in[N + 2], uint64_t out[N]) {\n  uint64_t t[N + 2];\n  for (int64_t i = 0; i < N + 2; i++)\n    t[i] = in[i] + 1ULL;\n  for (int64_t i = 0; i < N; i++)\n    out[i] = t[i] + t[i + 1] + t[i + 2];\n}\n",
+        "time 1;\nS0: (i); i = t0;\nS1: (i + 2); i = t0 - 2;\n",
         "array t\n  basis (x0)\n  modulus 0: 3 least at N=1 pair (0) (2)\n",
     ),
+    // a negated row
     (
-        "void blur(",
         "fold a.c a.data",
+        "#include <stdint.h>\n#pragma affc param N 1 4096\nvoid blur(int64_t N, const uint64_t in[N + 2], uint64_t out[N]) {\n  uint64_t t[N + 2];\n  for (int64_t i = 0; i < N + 2; i++)\n    t[i] = in[i] + 1ULL;\n  for (int64_t i = 0; i < N; i++)\n    out[i] = t[i] + t[i + 1] + t[i + 2];\n}\n",
         "source;\nfold t: (-x0); x0 = -y0;\n",
-        "  uint64_t t[N + 2];\n",
         "array t\n  basis (-x0)\n  modulus 0: N + 2 least at N=4096 pair (4097) (0)\n",
     ),
-    (
-        "void sweep(",
-        "fold a.c a.data",
-        "source;\nfold g: (x1 - x0, -x0); x0 = -y1, x1 = y0 - y1;\n",
-        "  uint64_t g[N + 1][1];\n",
-        "array g\n  basis (-x0 + x1, -x0)\n  modulus 0: N + 1 least at T=1 N=100 pair (1, 0) (0, 99)\n  modulus 1: 1 least at T=1 N=3 no pair\n",
-    ),
 ];
+
+// Whether the program's run on these data ends with these outputs.
+fn gives(alloc: Global, program: &str, feed: &str, out: &str) -> Result<bool, AllocError> {
+    let done = plain(alloc, "run a.c a.data", program, feed)?;
+    Ok(done.status == 0 && done.out.as_slice() == out.as_bytes())
+}
 
 #[test]
 fn temporaries_are_folded(rt: HostRuntime) -> Result<(), Fail> {
     for (source, schedule, text, report, feed, out) in FOLDS {
-        let text = whole(rt.alloc(), text)?;
         let folded = plain(rt.alloc(), "fold a.c a.data", source, schedule)?;
+        let text = whole(rt.alloc(), text)?;
         assert_eq!(rt; folded.status, 0, "of {source}");
         assert_eq!(rt; folded.out.as_slice(), text.as_bytes());
         assert_eq!(rt; folded.err.as_slice(), report.as_bytes());
-        for program in [source, text.as_str()] {
-            let done = plain(rt.alloc(), "run a.c a.data", program, feed)?;
-            assert_eq!(rt; done.status, 0, "of {program}");
-            assert_eq!(rt; done.out.as_slice(), out.as_bytes());
-        }
+        assert!(rt; gives(rt.alloc(), source, feed, out)?, "of {source}");
+        assert!(rt;
+            gives(rt.alloc(), text.as_str(), feed, out)?,
+            "of the folded {source}"
+        );
     }
     Ok(())
 }
 
 #[test]
-fn kernels_are_folded_otherwise(rt: HostRuntime) -> Result<(), Fail> {
-    for (name, line, other, lines, report) in OTHERS {
-        for (source, _, _, own, _, _) in KERNELS {
-            if !source.contains(name) {
-                continue;
-            }
-            let schedule = if other.is_empty() { own } else { other };
-            let folded = plain(rt.alloc(), line, source, schedule)?;
-            assert_eq!(rt; folded.status, 0, "at {line} of {name}");
-            assert_eq!(rt; folded.err.as_slice(), report.as_bytes());
-            let text = String::from_utf8(folded.out).unwrap_or(String::new(rt.alloc()));
-            assert!(rt; text.contains(lines), "at {line} of {name}");
-        }
+fn reports_follow_bases_and_budgets(rt: HostRuntime) -> Result<(), Fail> {
+    for (line, source, schedule, report) in REPORTS {
+        let folded = plain(rt.alloc(), line, source, schedule)?;
+        assert_eq!(rt; folded.status, 0, "at {line} of {source}");
+        assert_eq!(rt; folded.err.as_slice(), report.as_bytes());
     }
     Ok(())
 }
