@@ -1,0 +1,4 @@
+//! The items of certificates, and what a valid certificate shows.
+#![tactic(auto)]
+
+pub mod laws;
