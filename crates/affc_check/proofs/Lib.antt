@@ -5,3 +5,4 @@ pub mod Over
 pub mod Members
 pub mod Marks
 pub mod Gives
+pub mod ExampleProofs

@@ -32,7 +32,7 @@ use Rattle.affc_moduli.proofs.OtherWay.{done_other_way}
 use Rattle.affc_check.specs.Items.{Shown, numbered, is_point_at, is_behind, nothing, farthest, pair_in, pair_item, elements_at, pair_of}
 use Rattle.affc_check.proofs.Sound.{Holds}
 
-nothing_shown : IsPoint (nowhere 0) [] → ⊥
+pub nothing_shown : IsPoint (nowhere 0) [] → ⊥
 nothing_shown is = let m = from_all [] (nowhere 0).rows is.meets in absurd (below m.0)
   where
     below : pos 0 ≤ℤ negsuc 0 → ⊥
