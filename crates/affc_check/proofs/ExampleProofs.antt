@@ -1,10 +1,9 @@
 -- The examples, computed.
-use Rattle.std.proofs.Common.{◌≡◌, ℕ, zero, suc, ◌+◌, ◌^◌, ◌<◌, ◌≤◌, ℤ, pos, negsuc, ◌≤ℤ◌, ◌<ℤ◌, if◌then◌else◌, List, [], ◌∷◌, ◌++◌, length, take, replicate, Option, Some, None, refl, sym, ap, subst, ◌∙◌, inl, inr, arith}
-use Rattle.std.specs.Prelude.{nat_eq, int_lt, ◌&&◌, unsigned_abs, slice_get, Box}
+use Rattle.std.proofs.Common.{◌≡◌, ℕ, zero, suc, ◌+◌, ◌^◌, ◌<◌, ◌≤◌, ℤ, pos, negsuc, ◌≤ℤ◌, if◌then◌else◌, List, [], ◌∷◌, ◌++◌, length, take, replicate, Option, Some, refl, sym, ap, subst, ◌∙◌, inr, arith}
+use Rattle.std.specs.Prelude.{nat_eq, int_lt, ◌&&◌, unsigned_abs, slice_get}
 use Rattle.std.specs.Cmp.Lexicographic.{slice_cmp}
 use Rattle.std.specs.List.{All}
 use Rattle.std.specs.Ordering.{is_eq, int_cmp}
-use Rattle.std.specs.declared.alloc.Global.{Global}
 use Rattle.std.proofs.lemmas.Int.{ints}
 use Rattle.std.proofs.lemmas.List.{length-replicate}
 use Rattle.std.proofs.lemmas.List.Elements.{All-nil, All-cons, All-head}
@@ -13,14 +12,12 @@ use Rattle.affc_ast.specs.declared.tree.Ix.TheBlock.{shape-the_row-Ix-0, hidden-
 use Rattle.affc_ast.specs.declared.tree.Val.TheBlock.{shape-the_row-Val-0, hidden-the_row-Val-0}
 use Rattle.affc_ast.specs.declared.tree.Stmt.TheBlock.{shape-the_row-Stmt-0, hidden-the_row-Stmt-0}
 use Rattle.affc_rows.specs.Forms.{Affine, value, values_of, mixed_form}
-use Rattle.affc_system.specs.Systems.{Rows, Meets, IsRow, IsPoint}
-use Rattle.affc_system.specs.Examples.{form, below_n, AreNeighbours}
+use Rattle.affc_system.specs.Systems.{Rows, IsRow, IsPoint}
+use Rattle.affc_system.specs.Examples.{form, below_n}
 use Rattle.affc_system.specs.declared.pairs.PairSystem.{PairSystem}
 use Rattle.affc_ast.specs.declared.tree.Rel.TheVariants.{Equal}
-use Rattle.affc_farkas.specs.Depths.{StandAtNode}
 use Rattle.affc_farkas.specs.Examples.{line, apart}
 use Rattle.affc_farkas.specs.Multiples.{multiple_sum, entry_of}
-use Rattle.affc_farkas.specs.declared.proof.Proof.{Proof, Leaf, Cut'}
 use Rattle.affc_trace.specs.Examples.{blur}
 use Rattle.affc_trace.proofs.Runs.{length_append}
 use Rattle.affc_basis.specs.Examples.{x0, one_more}
@@ -32,7 +29,7 @@ use Rattle.affc_nest.proofs.QuestionLemmas.{stands_in}
 use Rattle.affc_conflicts.specs.Questions.{distance, over_columns}
 use Rattle.affc_quast.specs.Trees.{Tree}
 use Rattle.affc_quast.specs.Trees as tree
-use Rattle.affc_check.specs.Examples.{stored_at, blur_trees, blur_items, context_with, CountsOfTheBlur, ContextIsFirst, ExtentsAreNext, BoundsAreNext, TreesAreNext, ScheduleIsNext, NoneIsValid, is_positive, MarksInOrder, DistancesBetween, AreTurned, PairIsTurned, NothingIsShown, PairInOrder, ModuliAreMarked, between, from_three, sum_of_both, first_alone, OneProofEach, EachIsLookedAt, QuestionsKeepLimits, FewRowsAtNodes}
+use Rattle.affc_check.specs.Examples.{stored_at, blur_trees, blur_items, context_with, CountsOfTheBlur, ContextIsFirst, ExtentsAreNext, BoundsAreNext, TreesAreNext, ScheduleIsNext, NoneIsValid, is_positive, MarksInOrder, DistancesBetween, PairIsTurned, NothingIsShown, PairInOrder, ModuliAreMarked, between, from_three, sum_of_both, first_alone, OneProofEach, EachIsLookedAt, QuestionsKeepLimits, FewRowsAtNodes}
 use Rattle.affc_check.specs.Items.{Item, Question, Shown}
 use Rattle.affc_check.specs.Valid.{IsProved, AreValid}
 use Rattle.affc_check.proofs.Marks.{nothing_shown}

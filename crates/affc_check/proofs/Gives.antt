@@ -1,5 +1,5 @@
 -- A valid certificate shows what it says.
-use Rattle.std.proofs.Common.{◌≡◌, ℕ, zero, suc, ◌+◌, ℤ, List, [], ◌∷◌, length, map, Option, Some, None, refl, sym, ap, subst, inl, inr, arith}
+use Rattle.std.proofs.Common.{◌≡◌, ℕ, zero, suc, ◌+◌, ℤ, List, [], ◌∷◌, length, map, Option, Some, None, refl, sym, ap, subst, inl, inr, arith, ◌∙◌}
 use Rattle.std.specs.Prelude.{◌↔◌, slice_get}
 use Rattle.std.specs.List.{All, Contains}
 use Rattle.std.proofs.lemmas.Option.{same_Some, none-some}
@@ -17,9 +17,10 @@ use Rattle.affc_trace.specs.Laws.{IsInContext}
 use Rattle.affc_trace.proofs.Members.{to_second}
 use Rattle.affc_basis.specs.declared.fold.Fold.{Fold}
 use Rattle.affc_basis.specs.declared.fold.Modulus.{Modulus}
-use Rattle.affc_basis.specs.Folds.{forms_of, Obeys, IsTrueOf, IsTrueMark}
+use Rattle.affc_basis.specs.Folds.{forms_of, IsAdmissible, Obeys, IsTrueOf, IsTrueMark}
 use Rattle.affc_basis.specs.Moduli.{Exceeds, IsModulus}
 use Rattle.affc_nest.specs.declared.nest.Nest.{Nest}
+use Rattle.affc_basis.proofs.FoldPlaces.{obeying_fold_separates}
 use Rattle.affc_nest.specs.Nests.{nest_of}
 use Rattle.affc_quast.specs.Trees.{Tree}
 use Rattle.affc_flow.specs.Questions.{flow_questions}
@@ -38,7 +39,7 @@ use Rattle.affc_check.specs.Laws.{IsReadFor, IsFoldShown, ValidGives}
 use Rattle.affc_check.proofs.Loads.{name_all}
 use Rattle.affc_check.proofs.Marks.{mark_shown}
 use Rattle.affc_check.proofs.Members.{seen, shown_at, seen_wide, of_row, of_fold}
-use Rattle.affc_check.proofs.Over.{are_shaped, are_over}
+use Rattle.affc_check.proofs.Over.{are_shaped, are_over, are_proper}
 use Rattle.affc_check.proofs.Parts.{in_context, context_shown, no_flow, fold_holds, stays_within, is_legal}
 use Rattle.affc_check.proofs.Sound.{Holds}
 
@@ -126,6 +127,14 @@ module _ (program : Program) (schedule : Schedule) (context : List ℤ) (trees :
         (subst (λ ns. Exceeds (IsPairOf f.systems p) p f.rows (forms_of ns)) (sym is.moduli)
         (exceeds (nest_of program) f refl over wide (r.arrays f there).moduli own p (to_context program r.has.plain p inside))))
 
+    admissible : (p : List ℤ) → IsInContext program p → IsAdmissible (LivePair program schedule f.array p) fold p
+    admissible p inside =
+        let a = r.arrays f there in
+        (obeying_fold_separates (LivePair program schedule f.array) fold p (λ x y pair.
+        let d = are_proper program r.has r.named trees (are_shaped program trees r.shapes) schedule f.array a.info a.declared f.systems a.systems p x y ((live p inside x y).1 pair) in
+        let rows : length fold.basis.rows ≡ length a.info.extents = ap length is.rows ∙ a.dimensions in
+        (d.0, d.1 ∙ sym rows, d.2 ∙ sym rows)) (obeys p inside)).0
+
     marks : HasTrueMarks (IsInContext program) (LivePair program schedule f.array) fold
     marks k row n at n_at =
         mark_of_others (InContext (nest_of program).context (nest_of program).params) (IsInContext program) (IsPairOf f.systems) (LivePair program schedule f.array)
@@ -141,6 +150,7 @@ valid_gives program schedule context trees folds proofs r valid = record {
   legal = is_legal program schedule context trees folds proofs valid r.has r.named r.fits;
   folds_right = λ f there. record {
     obeys = obeys program schedule context trees folds proofs r valid f there;
+    admissible = admissible program schedule context trees folds proofs r valid f there;
     marks = marks program schedule context trees folds proofs r valid f there;
   };
 }

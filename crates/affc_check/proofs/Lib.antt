@@ -6,3 +6,4 @@ pub mod Members
 pub mod Marks
 pub mod Gives
 pub mod ExampleProofs
+pub mod BlurFold

@@ -1,8 +1,9 @@
 -- What clash systems are over.
-use Rattle.std.proofs.Common.{◌≡◌, ℕ, ◌+◌, ◌≤◌, List, length, Some, sym, ap, subst, ◌∙◌, arith}
+use Rattle.std.proofs.Common.{◌≡◌, ◌≢◌, ℕ, ◌+◌, ◌≤◌, ℤ, List, length, Some, sym, ap, subst, ◌∙◌, inl, inr, arith}
 use Rattle.std.specs.Prelude.{slice_get}
 use Rattle.std.specs.List.{Contains}
 use Rattle.std.proofs.lemmas.Option.{same_Some, slice_get-get_or}
+use Rattle.affc_system.specs.ElementPairs.{IsPairAt, IsPairOf}
 use Rattle.affc_system.specs.declared.pairs.PairSystem.{PairSystem}
 use Rattle.affc_ast.specs.declared.tree.Program.{Program}
 use Rattle.affc_trace.specs.declared.schedule.Schedule.{Schedule}
@@ -17,6 +18,7 @@ use Rattle.affc_nest.specs.Laws.{HasNest, NamesArrays}
 use Rattle.affc_nest.specs.Nests.{nest_of}
 use Rattle.affc_nest.specs.Questions.{extents_or_none}
 use Rattle.affc_nest.proofs.QuestionLemmas.{as_many, stands_in}
+use Rattle.affc_order.proofs.ColumnLemmas.{values_long}
 use Rattle.affc_sched.proofs.LegalLemmas.{entry_at}
 use Rattle.affc_quast.specs.Limits.{Shaped, HaveShapes}
 use Rattle.affc_quast.specs.Trees.{Tree}
@@ -24,7 +26,7 @@ use Rattle.affc_quast.proofs.RangeLemmas.{leaves_are_over}
 use Rattle.affc_conflicts.specs.Laws.{IsOver}
 use Rattle.affc_life.specs.Clashes.{Clash, clash_of, of_reader, of_writer, clashes}
 use Rattle.affc_life.specs.Laws.{AreShaped, AreClashes}
-use Rattle.affc_life.proofs.LiveLemmas.{load_among, store_among, shape}
+use Rattle.affc_life.proofs.LiveLemmas.{load_among, store_among, shape, elements_differ}
 use Rattle.affc_life.proofs.MadeLemmas.{made}
 
 -- trees that have their shapes
@@ -55,6 +57,19 @@ module _ (program : Program) (has : HasNest program) (named : NamesArrays progra
       enough : (m l d c w n : ℕ) → c ≡ (m + l) + d → n ≡ c + w → m ≤ n
       enough m l d c w n e f = omega (arith, e, f)
 
+  asked_of : (systems : List PairSystem) → AreClashes program trees schedule array systems → (s : PairSystem) → Contains systems s → IsIn (clash_of s) (clashes (nest_of program) trees schedule array)
+  asked_of systems are s there = subst (IsIn (clash_of s)) are (to_map clash_of systems s (stands_in systems there.0 s (slice_get-get_or systems there.0 s there.1 ∙ ap Some there.2)))
+
   pub are_over : (systems : List PairSystem) → AreClashes program trees schedule array systems → (s : PairSystem) → Contains systems s → IsOver (nest_of program).context.columns (length info.extents) s
-  are_over systems are s there =
-      is_over s (subst (IsIn (clash_of s)) are (to_map clash_of systems s (stands_in systems there.0 s (slice_get-get_or systems there.0 s there.1 ∙ ap Some there.2))))
+  are_over systems are s there = is_over s (asked_of systems are s there)
+
+  -- the elements of a pair differ, and have a number for each dimension
+  pub are_proper : (systems : List PairSystem) → AreClashes program trees schedule array systems → (p x y : List ℤ) → IsPairOf systems p x y → (x ≢ y) × (length x ≡ length info.extents) × (length y ≡ length info.extents)
+  are_proper systems are p x y h = elim h.either [ inl e ↦ proper x y e | inr e ↦ let r = proper y x e in ((λ q. r.0 (sym q)), r.2, r.1) ]
+    where
+      proper : (x y : List ℤ) → IsPairAt h.system p x y → (x ≢ y) × (length x ≡ length info.extents) × (length y ≡ length info.extents)
+      proper x y e =
+          let s = h.system in
+          let over = are_over systems are s h.there in
+          (λ q. elements_differ program trees schedule array (clash_of s) e.point has shaped (asked_of systems are s h.there) e.meets (e.first ∙ q ∙ sym e.second),
+          sym (ap length e.first) ∙ values_long s.x.items e.point ∙ over.x_each, sym (ap length e.second) ∙ values_long s.y.items e.point ∙ over.y_each)

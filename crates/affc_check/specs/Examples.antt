@@ -1,5 +1,5 @@
 -- The items of small certificates, and which are valid. Each row was found by hand from the rules.
-use Rattle.std.specs.Prelude.{◌≡◌, ℕ, ◌+◌, ◌^◌, ℤ, pos, negsuc, List, [], ◌∷◌, ◌++◌, length, replicate, Some, None, slice_get, Box}
+use Rattle.std.specs.Prelude.{◌≡◌, ℕ, ◌+◌, ◌^◌, ℤ, pos, negsuc, List, [], ◌∷◌, ◌++◌, length, replicate, Option, Some, None, slice_get, Box}
 use Rattle.std.specs.declared.alloc.Global.{Global}
 use Rattle.affc_rows.specs.Forms.{Affine}
 use Rattle.affc_system.specs.Systems.{Rows, IsPoint}
@@ -8,7 +8,7 @@ use Rattle.affc_system.specs.declared.pairs.PairSystem.{PairSystem}
 use Rattle.affc_farkas.specs.Examples.{line, apart}
 use Rattle.affc_farkas.specs.declared.proof.Proof.{Proof, Leaf, Cut'}
 use Rattle.affc_trace.specs.Examples.{blur, together}
-use Rattle.affc_basis.specs.Examples.{x0, one_more}
+use Rattle.affc_basis.specs.Examples.{x0, one_more, number}
 use Rattle.affc_basis.specs.declared.fold.Mark.TheVariants.{Least, Bound}
 use Rattle.affc_nest.specs.Nests.{nest_of, nowhere}
 use Rattle.affc_nest.specs.Questions.{extent_questions, bound_questions}
@@ -18,7 +18,9 @@ use Rattle.affc_quast.specs.Trees.{Tree}
 use Rattle.affc_quast.specs.Trees as tree
 use Rattle.affc_flow.specs.Questions.{flow_questions}
 use Rattle.affc_conflicts.specs.Examples.{any, up_to_nine, in_range_with, neighbours_with}
-use Rattle.affc_check.specs.Items.{Item, Question, Shown, LeastShown, ModulusShown, FoldShown, pair_item, mark_items, row_items, fold_items, items, pair_of, moduli_of}
+use Rattle.affc_life.specs.Laws.{AreClashes}
+use Rattle.affc_check.specs.Items.{Item, Question, Shown, LeastShown, ModulusShown, FoldShown, pair_item, row_items, fold_items, items, pair_of, moduli_of}
+use Rattle.affc_check.specs.Laws.{IsReadFor}
 use Rattle.affc_check.specs.Valid.{IsProved, AreValid}
 
 -- ---- The blur: over N from 1 to 4, t[i] = in[i] + 1, and then out[i] = t[i] + t[i + 1] + t[i + 2], at the times i and i + 2
@@ -99,6 +101,26 @@ NoneIsValid =
     ((proofs : List Proof) → AreValid (blur_items (pos 5 ∷ []) blur_trees) proofs → ⊥)
     × (AreValid (blur_items (pos 1 ∷ []) blur_trees) [] → ⊥)
     × ((proofs : List Proof) → AreValid (blur_items (pos 1 ∷ []) (tree.Input ∷ stored_at (pos 1) ∷ stored_at (pos 1) ∷ stored_at (pos 2) ∷ [])) proofs → ⊥)
+
+-- t, the third array, folded onto so many elements
+abbrev pub t_onto : ℕ → Option LeastShown → (systems : List PairSystem) → FoldShown
+t_onto n least systems = record { array = 2; rows = x0 ∷ []; moduli = record { form = number n; least = least } ∷ []; systems = systems }
+
+-- folds are last: 3 is at most 0
+abbrev pub FoldsAreLast : Type 0
+FoldsAreLast = (least : Option LeastShown) (systems : List PairSystem)
+    → slice_get (items (nest_of blur) together (pos 1 ∷ []) blur_trees (t_onto 3 least systems ∷ [])) 48
+    ≡ Some (Question (record { columns = 1; rows = context_with (line (pos 0) (negsuc 2) ∷ []) }))
+
+-- Two distances for each of twelve clash systems; that the modulus is at least 1 before them, and three items of its mark behind.
+abbrev pub CountOfTheFold : Type 0
+CountOfTheFold = (least : LeastShown) (systems : List PairSystem) → AreClashes blur blur_trees together 2 systems → length (fold_items (nest_of blur) (t_onto 3 (Some least) systems)) ≡ 28
+
+-- No proofs make a fold of t onto two elements valid.
+abbrev pub TwoAreTooFew : Type 0
+TwoAreTooFew = (systems : List PairSystem) (proofs : List Proof)
+    → IsReadFor blur together blur_trees (t_onto 2 None systems ∷ [])
+    → AreValid (items (nest_of blur) together (pos 1 ∷ []) blur_trees (t_onto 2 None systems ∷ [])) proofs → ⊥
 
 -- ---- Folds over N from 1 to 9 by the row x0, with the modulus N + 1
 

@@ -9,7 +9,7 @@ use Rattle.affc_trace.specs.Law.{IsIn}
 use Rattle.affc_trace.specs.Laws.{IsInContext}
 use Rattle.affc_trace.specs.Target.{IsScheduleOf}
 use Rattle.affc_basis.specs.declared.fold.Fold.{Fold}
-use Rattle.affc_basis.specs.Folds.{Obeys}
+use Rattle.affc_basis.specs.Folds.{IsAdmissible, Obeys}
 use Rattle.affc_basis.specs.Moduli.{IsModulus}
 use Rattle.affc_nest.specs.declared.nest.ArrayInfo.{ArrayInfo}
 use Rattle.affc_nest.specs.Laws.{HasNest, NamesArrays, StaysWithin}
@@ -34,7 +34,7 @@ pub record IsFoldOfArray (program : Program) (schedule : Schedule) (trees : List
   pub systems : AreClashes program trees schedule f.array f.systems
 
 -- The program has a nest, the schedule is one of it, and the certificate has its shape: a tree for each load, and folds of its
--- arrays. Throughout the context the quotients on the way of each instance are within 2^60.
+-- arrays. That throughout the context the quotients on the way of each instance are within 2^60 is a premise for now.
 pub record IsReadFor (program : Program) (schedule : Schedule) (trees : List Tree) (folds : List FoldShown) : Type 0 where
   pub has : HasNest program
   pub named : NamesArrays program
@@ -50,9 +50,11 @@ pub record IsFoldShown (f : FoldShown) (fold : Fold) : Type 0 where
   pub rows : fold.basis.rows ≡ f.rows
   pub moduli : fold.moduli ≡ moduli_of f.systems f.rows f.moduli
 
--- throughout the context it keeps apart what is live together, and its marks are true
+-- throughout the context its moduli exceed what their rows need, no two elements that are live together have one place, and its
+-- marks are true
 pub record IsRightFold (program : Program) (schedule : Schedule) (f : FoldShown) : Type 0 where
   pub obeys : (fold : Fold) → IsFoldShown f fold → (p : List ℤ) → IsInContext program p → Obeys (LivePair program schedule f.array p) fold p
+  pub admissible : (fold : Fold) → IsFoldShown f fold → (p : List ℤ) → IsInContext program p → IsAdmissible (LivePair program schedule f.array p) fold p
   pub marks : (fold : Fold) → IsFoldShown f fold → HasTrueMarks (IsInContext program) (LivePair program schedule f.array) fold
 
 -- Some p is in the context. Throughout it each access lies within its array, the trees name the sources of all loads, one for

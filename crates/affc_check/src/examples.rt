@@ -1,5 +1,5 @@
 //! The items of small certificates, and which are valid, as laws: `specs/Examples.antt` says each.
-ghost use Rattle.affc_check.specs.Examples.{CountsOfTheBlur, ContextIsFirst, ExtentsAreNext, BoundsAreNext, TreesAreNext, ScheduleIsNext, NoneIsValid, MarksInOrder, DistancesBetween, PairIsTurned, NothingIsShown, PairInOrder, ModuliAreMarked, OneProofEach, EachIsLookedAt, QuestionsKeepLimits, FewRowsAtNodes};
+ghost use Rattle.affc_check.specs.Examples.{CountsOfTheBlur, ContextIsFirst, ExtentsAreNext, BoundsAreNext, TreesAreNext, ScheduleIsNext, NoneIsValid, FoldsAreLast, CountOfTheFold, TwoAreTooFew, MarksInOrder, DistancesBetween, PairIsTurned, NothingIsShown, PairInOrder, ModuliAreMarked, OneProofEach, EachIsLookedAt, QuestionsKeepLimits, FewRowsAtNodes};
 
 /// The items of a certificate of the blur of affc_trace, without folds, and some that no proofs make valid.
 pub fn blur()
@@ -10,6 +10,13 @@ pub fn blur()
     ensures trees_are_next { TreesAreNext }
     ensures schedule_is_next { ScheduleIsNext }
     ensures none_is_valid { NoneIsValid }
+{}
+
+/// A fold of the blur's temporary.
+pub fn blur_fold()
+    ensures folds_are_last { FoldsAreLast }
+    ensures count { CountOfTheFold }
+    ensures two_are_too_few { TwoAreTooFew }
 {}
 
 /// The items of a fold.
