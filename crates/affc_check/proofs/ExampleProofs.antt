@@ -100,10 +100,11 @@ wrong_point = record { width = refl; meets = to_all (pos 1 ∷ pos 0 ∷ []) wro
 
 pub none_is_valid : NoneIsValid
 none_is_valid = (
-    λ proofs v. five_is_none (subst (λ s. IsPoint s (pos 5 ∷ [])) whole_is v.0),
-    no_proofs,
-    λ proofs v. each_holds (blur_items (pos 1 ∷ []) wrong_trees) proofs v (Question (record { columns = 2; rows = wrong_rows }))
-      (stands_in (blur_items (pos 1 ∷ []) wrong_trees) 22 (Question (record { columns = 2; rows = wrong_rows })) wrong_is_asked) (pos 1 ∷ pos 0 ∷ []) wrong_point)
+  λ proofs v. five_is_none (subst (λ s. IsPoint s (pos 5 ∷ [])) whole_is v.0),
+  no_proofs,
+  λ proofs v. each_holds (blur_items (pos 1 ∷ []) wrong_trees) proofs v (Question (record { columns = 2; rows = wrong_rows }))
+      (stands_in (blur_items (pos 1 ∷ []) wrong_trees) 22 (Question (record { columns = 2; rows = wrong_rows })) wrong_is_asked) (pos 1 ∷ pos 0 ∷ []) wrong_point,
+)
 
 -- ---- Folds
 
@@ -144,15 +145,18 @@ pair_by point q xs ys =
 
 pub pair_is_turned : PairIsTurned
 pair_is_turned = (
-    λ s are. of_parts s lower upper are.points are.first are.second (pair_by (pos 3 ∷ pos 2 ∷ [])),
-    λ s are. of_parts s upper lower are.points are.first are.second (pair_by (pos 3 ∷ pos 2 ∷ [])))
+  λ s are. of_parts s lower upper are.points are.first are.second (pair_by (pos 3 ∷ pos 2 ∷ [])),
+  λ s are. of_parts s upper lower are.points are.first are.second (pair_by (pos 3 ∷ pos 2 ∷ [])),
+)
 
 pub nothing_is_shown : NothingIsShown
 nothing_is_shown s are = (
-    refl, refl,
-    of_parts s lower upper are.points are.first are.second (pair_by (pos 3 ∷ pos 2 ∷ pos 0 ∷ [])),
-    of_parts s lower upper are.points are.first are.second (pair_by (pos 4 ∷ pos 2 ∷ [])),
-    nothing_shown)
+  refl,
+  refl,
+  of_parts s lower upper are.points are.first are.second (pair_by (pos 3 ∷ pos 2 ∷ pos 0 ∷ [])),
+  of_parts s lower upper are.points are.first are.second (pair_by (pos 4 ∷ pos 2 ∷ [])),
+  nothing_shown,
+)
 
 abbrev elements_by : Rows → List Affine → List Affine → Option (List ℤ × List ℤ)
 elements_by q xs ys =
@@ -229,8 +233,9 @@ padding_long n = length_append (replicate n (line (pos 0) (pos 0))) apart ∙ ap
 
 pub few_rows_at_nodes : FewRowsAtNodes
 few_rows_at_nodes = (
-    λ by h. over (length (padding 1023)) (padding_long 1023) (h.few (padding 1023) refl),
-    λ by more g row p h. over_by (length (padding 1022 ++ row ∷ [])) (length_append (padding 1022) (row ∷ []) ∙ ap (λ k. k + 1) (padding_long 1022)) (h.few (padding 1022 ++ row ∷ []) (inr refl)))
+  λ by h. over (length (padding 1023)) (padding_long 1023) (h.few (padding 1023) refl),
+  λ by more g row p h. over_by (length (padding 1022 ++ row ∷ [])) (length_append (padding 1022) (row ∷ []) ∙ ap (λ k. k + 1) (padding_long 1022)) (h.few (padding 1022 ++ row ∷ []) (inr refl)),
+)
   where
     over : (n : ℕ) → n ≡ 1023 + 2 → n ≤ 1024 → ⊥
     over n e h = omega (arith, e, h)

@@ -70,6 +70,8 @@ module _ (program : Program) (has : HasNest program) (named : NamesArrays progra
       proper : (x y : List ℤ) → IsPairAt h.system p x y → (x ≢ y) × (length x ≡ length info.extents) × (length y ≡ length info.extents)
       proper x y e =
           let s = h.system in
-          let over = are_over systems are s h.there in
-          (λ q. elements_differ program trees schedule array (clash_of s) e.point has shaped (asked_of systems are s h.there) e.meets (e.first ∙ q ∙ sym e.second),
-          sym (ap length e.first) ∙ values_long s.x.items e.point ∙ over.x_each, sym (ap length e.second) ∙ values_long s.y.items e.point ∙ over.y_each)
+          let over = are_over systems are s h.there in (
+            λ q. elements_differ program trees schedule array (clash_of s) e.point has shaped (asked_of systems are s h.there) e.meets (e.first ∙ q ∙ sym e.second),
+            sym (ap length e.first) ∙ values_long s.x.items e.point ∙ over.x_each,
+            sym (ap length e.second) ∙ values_long s.y.items e.point ∙ over.y_each,
+          )

@@ -62,21 +62,21 @@ ExtentsAreNext = item 1 (Question (record { columns = 1; rows = context_with (li
 
 abbrev pub BoundsAreNext : Type 0
 BoundsAreNext = item 4 (Question (record {
-    columns = 2;
-    rows =
-        form (pos 1) (pos 0) (negsuc 0) ∷ form (negsuc 0) (pos 0) (pos 4)
-        ∷ form (pos 0) (pos 1) (pos 0) ∷ form (pos 1) (negsuc 0) (pos 1) ∷ form (pos 0) (pos 1) (pos 0) ∷ form (pos 0) (negsuc 0) (pos 5)
-        ∷ form (pos 0) (negsuc 0) (negsuc 0) ∷ [];
+  columns = 2;
+  rows =
+      form (pos 1) (pos 0) (negsuc 0) ∷ form (negsuc 0) (pos 0) (pos 4)
+      ∷ form (pos 0) (pos 1) (pos 0) ∷ form (pos 1) (negsuc 0) (pos 1) ∷ form (pos 0) (pos 1) (pos 0) ∷ form (pos 0) (negsuc 0) (pos 5)
+      ∷ form (pos 0) (negsuc 0) (negsuc 0) ∷ [];
 }))
 
 -- S1's domain, where i is from 0 to N - 1 and to 3, and N is below 1
 abbrev pub TreesAreNext : Type 0
 TreesAreNext = item 16 (Question (record {
-    columns = 2;
-    rows =
-        form (pos 1) (pos 0) (negsuc 0) ∷ form (negsuc 0) (pos 0) (pos 4)
-        ∷ form (pos 0) (pos 1) (pos 0) ∷ form (pos 1) (negsuc 0) (negsuc 0) ∷ form (pos 0) (pos 1) (pos 0) ∷ form (pos 0) (negsuc 0) (pos 3)
-        ∷ form (negsuc 0) (pos 0) (pos 0) ∷ [];
+  columns = 2;
+  rows =
+      form (pos 1) (pos 0) (negsuc 0) ∷ form (negsuc 0) (pos 0) (pos 4)
+      ∷ form (pos 0) (pos 1) (pos 0) ∷ form (pos 1) (negsuc 0) (negsuc 0) ∷ form (pos 0) (pos 1) (pos 0) ∷ form (pos 0) (negsuc 0) (pos 3)
+      ∷ form (negsuc 0) (pos 0) (pos 0) ∷ [];
 }))
 
 -- over N, i, i': S0's domain twice, i is i', i is less than i', and i' is less than i
@@ -85,13 +85,13 @@ over_three a b c d = record { coefs = a ∷ b ∷ c ∷ []; constant = d }
 
 abbrev pub ScheduleIsNext : Type 0
 ScheduleIsNext = item 43 (Question (record {
-    columns = 3;
-    rows =
-        over_three (pos 1) (pos 0) (pos 0) (negsuc 0) ∷ over_three (negsuc 0) (pos 0) (pos 0) (pos 4)
-        ∷ over_three (pos 0) (pos 1) (pos 0) (pos 0) ∷ over_three (pos 1) (negsuc 0) (pos 0) (pos 1) ∷ over_three (pos 0) (pos 1) (pos 0) (pos 0) ∷ over_three (pos 0) (negsuc 0) (pos 0) (pos 5)
-        ∷ over_three (pos 0) (pos 0) (pos 1) (pos 0) ∷ over_three (pos 1) (pos 0) (negsuc 0) (pos 1) ∷ over_three (pos 0) (pos 0) (pos 1) (pos 0) ∷ over_three (pos 0) (pos 0) (negsuc 0) (pos 5)
-        ∷ over_three (pos 0) (pos 1) (negsuc 0) (pos 0) ∷ over_three (pos 0) (negsuc 0) (pos 1) (pos 0)
-        ∷ over_three (pos 0) (negsuc 0) (pos 1) (negsuc 0) ∷ over_three (pos 0) (pos 1) (negsuc 0) (negsuc 0) ∷ [];
+  columns = 3;
+  rows =
+      over_three (pos 1) (pos 0) (pos 0) (negsuc 0) ∷ over_three (negsuc 0) (pos 0) (pos 0) (pos 4)
+      ∷ over_three (pos 0) (pos 1) (pos 0) (pos 0) ∷ over_three (pos 1) (negsuc 0) (pos 0) (pos 1) ∷ over_three (pos 0) (pos 1) (pos 0) (pos 0) ∷ over_three (pos 0) (negsuc 0) (pos 0) (pos 5)
+      ∷ over_three (pos 0) (pos 0) (pos 1) (pos 0) ∷ over_three (pos 1) (pos 0) (negsuc 0) (pos 1) ∷ over_three (pos 0) (pos 0) (pos 1) (pos 0) ∷ over_three (pos 0) (pos 0) (negsuc 0) (pos 5)
+      ∷ over_three (pos 0) (pos 1) (negsuc 0) (pos 0) ∷ over_three (pos 0) (negsuc 0) (pos 1) (pos 0)
+      ∷ over_three (pos 0) (negsuc 0) (pos 1) (negsuc 0) ∷ over_three (pos 0) (pos 1) (negsuc 0) (negsuc 0) ∷ [];
 }))
 
 -- No proofs make a certificate valid that shows N as 5, or that has no proof at all, or whose first tree of t names S0(i + 1): this
