@@ -1,0 +1,76 @@
+-- What the validity of a certificate gives.
+use Rattle.std.specs.Prelude.{◌≡◌, ℤ, List, length, Some, slice_get}
+use Rattle.std.specs.List.{All}
+use Rattle.affc_ast.specs.declared.tree.Program.{Program}
+use Rattle.affc_farkas.specs.declared.proof.Proof.{Proof}
+use Rattle.affc_trace.specs.declared.schedule.Schedule.{Schedule}
+use Rattle.affc_trace.specs.Dataflow.{Legal, LivePair}
+use Rattle.affc_trace.specs.Law.{IsIn}
+use Rattle.affc_trace.specs.Laws.{IsInContext}
+use Rattle.affc_trace.specs.Target.{IsScheduleOf}
+use Rattle.affc_basis.specs.declared.fold.Fold.{Fold}
+use Rattle.affc_basis.specs.Folds.{IsAdmissible, Obeys}
+use Rattle.affc_basis.specs.Moduli.{IsModulus}
+use Rattle.affc_nest.specs.declared.nest.ArrayInfo.{ArrayInfo}
+use Rattle.affc_nest.specs.Laws.{HasNest, NamesArrays, StaysWithin}
+use Rattle.affc_nest.specs.Nests.{nest_of}
+use Rattle.affc_quast.specs.Limits.{HaveShapes}
+use Rattle.affc_quast.specs.Sources.{HaveNearQuotients}
+use Rattle.affc_quast.specs.Trees.{Tree}
+use Rattle.affc_flow.specs.Finds.{NameAllAt}
+use Rattle.affc_life.specs.Laws.{AreClashes}
+use Rattle.affc_folds.specs.Folding.{HasTrueMarks}
+use Rattle.affc_check.specs.Items.{FoldShown, moduli_of, items}
+use Rattle.affc_check.specs.Valid.{AreValid}
+
+-- ---- What is known of a certificate whose text was read
+
+-- an array with a row for each of its dimensions, moduli over the parameters within their limits, and the array's clash systems
+pub record IsFoldOfArray (program : Program) (schedule : Schedule) (trees : List Tree) (f : FoldShown) : Type 0 where
+  pub info : ArrayInfo
+  pub declared : slice_get (nest_of program).arrays f.array ≡ Some info
+  pub dimensions : length f.rows ≡ length info.extents
+  pub moduli : All (λ m. IsModulus (nest_of program).context.columns m.form) f.moduli
+  pub systems : AreClashes program trees schedule f.array f.systems
+
+-- The program has a nest, the schedule is one of it, and the certificate has its shape: a tree for each load, and folds of its
+-- arrays. That throughout the context the quotients on the way of each instance are within 2^60 is a premise for now.
+pub record IsReadFor (program : Program) (schedule : Schedule) (trees : List Tree) (folds : List FoldShown) : Type 0 where
+  pub has : HasNest program
+  pub named : NamesArrays program
+  pub fits : IsScheduleOf program schedule
+  pub shapes : HaveShapes (nest_of program) trees
+  pub arrays : (f : FoldShown) → IsIn f folds → IsFoldOfArray program schedule trees f
+  pub near : (p : List ℤ) → IsInContext program p → HaveNearQuotients program p (nest_of program) trees
+
+-- ---- What is shown
+
+-- the fold that a certificate says
+pub record IsFoldShown (f : FoldShown) (fold : Fold) : Type 0 where
+  pub rows : fold.basis.rows ≡ f.rows
+  pub moduli : fold.moduli ≡ moduli_of f.systems f.rows f.moduli
+
+-- throughout the context its moduli exceed what their rows need, no two elements that are live together have one place, and its
+-- marks are true
+pub record IsRightFold (program : Program) (schedule : Schedule) (f : FoldShown) : Type 0 where
+  pub obeys : (fold : Fold) → IsFoldShown f fold → (p : List ℤ) → IsInContext program p → Obeys (LivePair program schedule f.array p) fold p
+  pub admissible : (fold : Fold) → IsFoldShown f fold → (p : List ℤ) → IsInContext program p → IsAdmissible (LivePair program schedule f.array p) fold p
+  pub marks : (fold : Fold) → IsFoldShown f fold → HasTrueMarks (IsInContext program) (LivePair program schedule f.array) fold
+
+-- Some p is in the context. Throughout it each access lies within its array, the trees name the sources of all loads, one for
+-- each load of a temporary, and the schedule is legal; and all folds are right.
+pub record IsShown (program : Program) (schedule : Schedule) (trees : List Tree) (folds : List FoldShown) : Type 0 where
+  pub some : (p : List ℤ) × IsInContext program p
+  pub stays : (p : List ℤ) → IsInContext program p → StaysWithin program p
+  pub names : (p : List ℤ) → IsInContext program p → NameAllAt program p (nest_of program) trees
+  pub legal : (p : List ℤ) → IsInContext program p → Legal program schedule p
+  pub folds_right : (f : FoldShown) → IsIn f folds → IsRightFold program schedule f
+
+-- ---- The law
+
+-- A valid certificate of a program shows all this of it.
+abbrev pub ValidGives : Type 0
+ValidGives = (program : Program) (schedule : Schedule) (context : List ℤ) (trees : List Tree) (folds : List FoldShown) (proofs : List Proof)
+    → IsReadFor program schedule trees folds
+    → AreValid (items (nest_of program) schedule context trees folds) proofs
+    → IsShown program schedule trees folds

@@ -1,0 +1,4 @@
+pub mod Items
+pub mod Valid
+pub mod Laws
+pub mod Examples

@@ -1,0 +1,24 @@
+-- When a certificate is valid.
+use Rattle.std.specs.Prelude.{◌≤◌, List, [], ◌∷◌, length}
+use Rattle.std.specs.List.{All}
+use Rattle.affc_rows.specs.Forms.{Affine}
+use Rattle.affc_system.specs.Systems.{Rows, IsRow, IsPoint}
+use Rattle.affc_farkas.specs.declared.proof.Proof.{Proof}
+use Rattle.affc_farkas.specs.Depths.{StandAtNode}
+use Rattle.affc_farkas.specs.Proofs.{ValidProof}
+use Rattle.affc_check.specs.Items.{Item, Question, Shown}
+
+-- a question within the limits of a system, and a valid proof that it has no integer point, at none of whose nodes more than
+-- 1,024 rows stand
+pub record IsProved (question : Rows) (proof : Proof) : Type 0 where
+  pub columns : question.columns ≤ 128
+  pub rows : All (IsRow question.columns) question.rows
+  pub valid : ValidProof question proof
+  pub few : (rows : List Affine) → StandAtNode question.rows proof rows → length rows ≤ 1024
+
+-- each point meets its rows, and each question has a proof, in order; proofs behind these aren't looked at
+abbrev pub AreValid : List Item → List Proof → Type 0
+AreValid [] proofs = Unit {0}
+AreValid (Shown system point ∷ is) proofs = IsPoint system point × AreValid is proofs
+AreValid (Question system ∷ is) [] = ⊥
+AreValid (Question system ∷ is) (proof ∷ proofs) = IsProved system proof × AreValid is proofs
