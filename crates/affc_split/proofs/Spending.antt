@@ -1,5 +1,5 @@
 -- What is spent in the search of parts.
-use Rattle.std.proofs.Common.{◌≡◌, ℕ, ◌+◌, ◌*◌, ◌<◌, ◌≤◌, List, [], length, ℤ, refl, sym, ap, subst, ◌∙◌, arith, Result, Ok, Err, Vec, Box, Global}
+use Rattle.std.proofs.Common.{◌≡◌, ℕ, ◌+◌, ◌*◌, ◌<◌, ◌≤◌, List, [], ℤ, refl, sym, ap, subst, ◌∙◌, arith, Result, Ok, Err, Vec, Box, Global}
 use Rattle.std.specs.Prelude.{IfOk, IfErr, OnErr, IsNone, Some}
 use Rattle.std.specs.List.{All}
 use Rattle.affc_system.specs.Systems.{Rows}
@@ -7,7 +7,7 @@ use Rattle.affc_system.specs.Boxes.{InBox}
 use Rattle.affc_rows.specs.Forms.{Affine}
 use Rattle.affc_farkas.specs.declared.proof.Proof.{Proof, Leaf, Cut', Split'}
 use Rattle.affc_leaf.specs.declared.bounds.Bound.{Bound}
-use Rattle.affc_leaf.specs.Bounds.{IsBound, FirstFree, ranges_of, size}
+use Rattle.affc_leaf.specs.Bounds.{IsBound, FirstFree, ranges_of}
 use Rattle.affc_leaf.specs.Parts.{NoneIn, IsLeast}
 use Rattle.affc_leaf.specs.Cuts.{IsCutBefore}
 use Rattle.affc_leaf.specs.Points.{points}
@@ -25,7 +25,7 @@ use Rattle.affc_split.specs.declared.search.Side.TheVariants.{Low, High}
 use Rattle.affc_split.specs.Budgets.{Account, IsUnit, IsLater}
 use Rattle.affc_split.specs.Openings.{nodes}
 use Rattle.affc_split.specs.Search.{IsFound, IsSplit, part_of, other_side}
-use Rattle.affc_split.specs.Searches.{AreFewer, AreFewerFor, Searched, Spends, HasNodes, IsBeside}
+use Rattle.affc_split.specs.Searches.{AreFewer, AreFewerFor, Searched, Spends, IsBeside}
 use Rattle.affc_split.proofs.Openings.{AreParts, nothing_opened, none_fewer, none_fewer_for, leaf_opened, half_opened, empty_answer, point_answer, halves_parts, turned, one_point, one_proof, low_part, point_opened, roomier, room_joined, halves_searched, second_side}
 
 abbrev Ranges : Type 0

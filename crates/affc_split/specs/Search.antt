@@ -1,5 +1,5 @@
 -- What the search through the parts of a box says of each of them.
-use Rattle.std.specs.Prelude.{◌≡◌, ℕ, ◌+◌, ◌-◌, ◌^◌, ◌<◌, ◌≤◌, List, length, ℤ, pos, ◌+ℤ◌, ◌-ℤ◌, ◌≤ℤ◌, ◌<ℤ◌}
+use Rattle.std.specs.Prelude.{◌≡◌, ℕ, ◌+◌, ◌^◌, ◌<◌, ◌≤◌, List, length, ℤ, pos, ◌+ℤ◌, ◌-ℤ◌, ◌≤ℤ◌, ◌<ℤ◌}
 use Rattle.affc_system.specs.Systems.{Rows}
 use Rattle.affc_leaf.specs.declared.bounds.Bound.{Bound}
 use Rattle.affc_leaf.specs.Bounds.{bound_at, lowered, raised}

@@ -1,4 +1,4 @@
-use Rattle.std.proofs.Common.{◌≡◌, ◌+◌, sym, subst}
+use Rattle.std.proofs.Common.{◌+◌, subst}
 use Rattle.affc_split.specs.Search.{IsFound, part_of, other_side}
 use Rattle.affc_split.proofs.Spending.{side_least}
 use Rattle.affc_split.proofs.parts.beside.Goals as goal

@@ -1,8 +1,8 @@
-use Rattle.std.proofs.Common.{rules, ◌≡◌, ◌∙◌, ◌+◌, ap, subst, Ok, Err}
+use Rattle.std.proofs.Common.{rules, ◌∙◌, ◌+◌, ap, subst, Ok, Err}
 use Rattle.affc_leaf.specs.Bounds.{ranges_of}
 use Rattle.affc_leaf.proofs.Halves.{halves_points}
 use Rattle.affc_leaf.proofs.Steps.{low_least}
-use Rattle.affc_split.specs.declared.search.Found.TheVariants.{Empty, Point}
+use Rattle.affc_split.specs.declared.search.Found.TheVariants.{Empty}
 use Rattle.affc_split.specs.declared.search.Side.TheVariants.{Low, High}
 use Rattle.affc_split.specs.Search.{IsFound, part_of, other_side}
 use Rattle.affc_split.specs.Searches.{AreFewer, Spends}
