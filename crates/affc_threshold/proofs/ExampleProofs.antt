@@ -8,7 +8,7 @@ use Rattle.affc_threshold.specs.Examples.{OfTheBlur, OfNothing}
 
 pub of_the_blur : OfTheBlur
 unfolding shape-the_row-Ix-0 hidden-the_row-Ix-0 shape-the_row-Val-0 hidden-the_row-Val-0 shape-the_row-Stmt-0 hidden-the_row-Stmt-0 hidden
-of_the_blur = (refl, (refl, (refl, (refl, refl))))
+of_the_blur = (refl, refl, refl, refl, refl)
 
 pub of_nothing : OfNothing
 unfolding hidden
