@@ -68,12 +68,7 @@ fn first_fault(
 
 /// Whether a program keeps to its arrays at all values of its parameters, or what is wrong with it. A unit of the budget is a
 /// box of a question that is opened.
-pub fn check(
-    alloc: Global,
-    program: &Program,
-    nest: &Nest,
-    budget: &mut Budget,
-) -> Result<(), Halt>
+pub fn check(alloc: Global, program: &Program, nest: &Nest, budget: &mut Budget) -> Result<(), Halt>
     requires plain { IsPlain program.now }
     requires arrays { NamesArrays program.now }
     requires near { first_wide program.now ≡ None }
