@@ -3,7 +3,7 @@ use Rattle.affc_cert.proofs.Broken.{right_is_not_refused}
 use Rattle.affc_cert.proofs.Unique.{one_certificate}
 use Rattle.affc_cert.specs.Certificates.{Certificate, seen}
 use Rattle.affc_cert.specs.Limits.{FitsCert}
-use Rattle.affc_cert.specs.Refusals.{Refuses, refusal, verdicts, part_fault, either, first, is_shape, is_number, counted, each, each_by, top}
+use Rattle.affc_cert.specs.Refusals.{ReadsJson, Refuses, refusal, verdicts, part_fault, either, first, is_shape, is_number, counted, each, each_by, top}
 use Rattle.affc_cert.specs.Values.{cert_value}
 use Rattle.affc_cert.specs.Within.{IsWithin}
 use Rattle.affc_cert.specs.declared.cert.Cert.{Cert}
@@ -41,10 +41,12 @@ use Rattle.affc_quast.specs.declared.quast.Quast.{Quast}
 use Rattle.affc_farkas.specs.declared.proof.Proof.{Proof}
 use Rattle.serde_json.specs.Data.{Data}
 use Rattle.serde_json.specs.Events.{items_len}
+use Rattle.serde_json.specs.Read.{read}
 use Rattle.serde_json.specs.View.{items_of}
 use Rattle.std.proofs.Common.{◌≡◌, ◌≢◌, ℕ, ◌+◌, ◌^◌, ◌==◌, Bool, true, false, List, [], ◌∷◌, ◌++◌, length, map, Option, Some, None, option_map, if◌then◌else◌, refl, sym, ap, ap₂, ◌∙◌, subst, arith, eq-eqb}
 use Rattle.std.proofs.lemmas.Bool.{eqb-true}
 use Rattle.std.proofs.lemmas.List.Elements.{All-from_recursion, recursion_from_All}
+use Rattle.std.proofs.lemmas.Option.{same_Some}
 use Rattle.std.proofs.lemmas.Slice.Zip.{AllZip-long}
 use Rattle.std.specs.List.{All, AllByRecursion, AllZip}
 use Rattle.std.specs.Prelude.{Result, Ok, Err, IfOk, IfErr, MatchResult}
@@ -212,3 +214,7 @@ pub read_back : (layout : Layout) (c : Cert) (d : Data) (r : Result Cert CertFau
     → MatchResult r (λ b. seen b ≡ seen c) (λ e. e ≡ fault.Memory)
 read_back layout c d (Ok b) ok err same h = one_certificate (seen b) (seen c) (ok ∙ sym same)
 read_back layout c d (Err e) ok err same h = memory e (λ other. right_is_not_refused layout c e (not_refused layout (seen c) h) (subst (λ x. Refuses layout x e) (sym same) (err other)))
+
+pub back_well : (text : List ℕ) (layout : Layout) (c : Cert) (d : Data) (r : Result Cert CertFault) → read text ≡ Some d → IfOk r (λ b. cert_value (seen b) ≡ d) → IfErr r (λ e. e ≢ fault.Memory → Refuses layout d e)
+    → ReadsJson text (cert_value (seen c)) → IsWithin layout (seen c) → MatchResult r (λ b. seen b ≡ seen c) (λ e. e ≡ fault.Memory)
+back_well text layout c d r reads ok err h w = read_back layout c d r ok err (same_Some _ _ (sym h.1 ∙ reads)) w

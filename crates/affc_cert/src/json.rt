@@ -4,6 +4,8 @@ ghost use Rattle.affc_cert.specs.Drafts.{IsBrokenAt, IsBrokenIn, whole_object};
 ghost use Rattle.affc_cert.specs.Limits.{FitsCert};
 ghost use Rattle.affc_cert.specs.Refusals.{ReadsJson, IsFirstBroken, Refuses, refusal};
 ghost use Rattle.affc_cert.specs.Values.{cert_value};
+ghost use Rattle.affc_cert.specs.Within.{IsWithin};
+ghost use Rattle.affc_cert.specs.declared.cert.Cert.{Cert};
 ghost use Rattle.affc_certfold.specs.Drafts.{draft_entry};
 ghost use Rattle.affc_certfold.specs.Entries.{entry_of};
 ghost use Rattle.affc_certfold.specs.Values.{folds_value};
@@ -15,7 +17,7 @@ ghost use Rattle.affc_quast.specs.Seen as quast;
 ghost use Rattle.serde_json.specs.Data.{Data, number, unsigned};
 ghost use Rattle.serde_json.specs.View.{view};
 ghost use Rattle.serde_json.specs.Written.{compact_text};
-ghost use Rattle.std.specs.Prelude.{◌≡◌, ◌≢◌, ℕ, ◌+◌, map, IfErr, IfOk, IfSome, IsTrue, None, OnOk};
+ghost use Rattle.std.specs.Prelude.{◌≡◌, ◌≢◌, ℕ, ◌+◌, map, IfErr, IfOk, IfSome, IsTrue, MatchResult, None, OnOk};
 
 use crate::cert::{Cert, CertFault, WriteFault};
 use crate::fits::cert_fits;
@@ -228,12 +230,14 @@ fn from_value(alloc: Global, value: &Value, layout: &Layout) -> Result<Cert, Cer
     }
 }
 
-/// The certificate that a text is, for a program of this layout; or the first reason why the text is refused.
+/// The certificate that a text is, for a program of this layout; or the first reason why the text is refused. What `to_json` writes
+/// of a certificate within the limits comes back: `back` asks of the text what `to_json` says in `reads`.
 #[tactic(auto, using(crate::proofs::Broken::read_well))]
 pub fn from_json(alloc: Global, text: &[u8], layout: &Layout) -> Result<Cert, CertFault>
     ensures ok { IfOk result (λ c. ReadsJson text.now (cert_value (seen c)) × (refusal layout.now (cert_value (seen c)) ≡ None)) }
     ensures json { IfErr result (λ e. e ≡ CertFault.Json → (d : Data) → ¬ (ReadsJson text.now d)) }
     ensures err { IfErr result (λ e. e ≢ CertFault.Json → e ≢ CertFault.Memory → (d : Data) × ReadsJson text.now d × Refuses layout.now d e) }
+    ensures back { (c : Cert) → ReadsJson text.now (cert_value (seen c)) → IsWithin layout.now (seen c) → MatchResult result (λ b. seen b ≡ seen c) (λ e. e ≡ CertFault.Memory) }
 {
     match Value::from_slice(alloc, text) {
         Ok(value) => from_value(alloc, &value, layout),
