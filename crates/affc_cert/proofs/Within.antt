@@ -23,7 +23,7 @@ use Rattle.affc_certproof.specs.Limits.{FitsProof, IsProofWithin}
 use Rattle.affc_certproof.specs.Proofs.{Steps, steps_of}
 use Rattle.affc_certproof.specs.Values.{proof_value}
 use Rattle.affc_certproof.specs.Verdicts.{proof}
-use Rattle.affc_certtree.proofs.Fits.{tree_fits}
+use Rattle.affc_certtree.proofs.Words.{tree_fits}
 use Rattle.affc_certtree.proofs.Within.{tree_fine, tree_is}
 use Rattle.affc_certtree.specs.Limits.{FitsTree}
 use Rattle.affc_certtree.specs.Trees.{tree}

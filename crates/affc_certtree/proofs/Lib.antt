@@ -3,4 +3,4 @@ pub mod Found
 pub mod Flat
 pub mod Unique
 pub mod Within
-pub mod Fits
+pub mod Words
