@@ -1,41 +1,32 @@
 -- Folds whose rows and inverse forms multiply to the identity, and the first of a list that doesn't.
-use Rattle.std.proofs.Common.{◌≡◌, ℕ, zero, suc, ◌+◌, ◌<◌, pos, Bool, true, false, if◌then◌else◌, codes, append-nil, option_map, IsUtf8, List, [], ◌∷◌, ◌++◌, length, map, Option, Some, None, refl, sym, ap, ap₂, ◌∙◌, subst, inl, inr, arith}
-use Rattle.std.proofs.lemmas.Option.{same_Some, slice_get_within}
-use Rattle.std.specs.Prelude.{slice_get}
-use Rattle.affc_rows.specs.Forms.{Affine}
-use Rattle.affc_basis.specs.Bases as bases
-use Rattle.affc_basis.specs.Bases.{AreComponents}
+use Rattle.affc_cert.specs.Certificates.{seen}
+use Rattle.affc_cert.specs.Drafts.{IsBrokenAt, IsBrokenIn, whole_object}
+use Rattle.affc_cert.specs.Refusals.{IsFirstBroken, IsBroken, Refuses, ReadsJson, refusal, verdicts, part_fault, either, first, is_shape, is_number, is_other_version}
+use Rattle.affc_cert.specs.Values.{cert_value}
+use Rattle.affc_cert.specs.declared.cert.Cert.{Cert}
+use Rattle.affc_cert.specs.declared.cert.CertFault.{CertFault}
+use Rattle.affc_cert.specs.declared.cert.CertFault.TheVariants as fault
+use Rattle.affc_cert.specs.declared.json.FoldFault.TheVariants as FoldFault
+use Rattle.affc_cert.specs.declared.layout.Layout.{Layout}
+use Rattle.affc_certfold.proofs.Products.{entry_is_basis}
+use Rattle.affc_certfold.proofs.Unique.{folds_same}
+use Rattle.affc_certfold.specs.Bases.{IsBasis}
+use Rattle.affc_certfold.specs.Drafts.{draft_entry}
+use Rattle.affc_certfold.specs.Entries.{FoldEntry, entry_of}
+use Rattle.affc_certfold.specs.Values.{folds_value}
+use Rattle.affc_certfold.specs.declared.draft.Draft.{Draft}
+use Rattle.affc_certfold.specs.declared.fold.CertFold.{CertFold}
+use Rattle.affc_certproof.specs.Proofs.{steps_of}
+use Rattle.affc_certproof.specs.Values.{proof_value}
+use Rattle.affc_certtree.specs.Values.{tree_value}
+use Rattle.affc_certvalue.specs.Values.{list_of, numbers_value}
 use Rattle.affc_quast.specs.Seen.{trees_of}
 use Rattle.serde_json.specs.Data.{Data}
 use Rattle.serde_json.specs.Find.{get}
 use Rattle.serde_json.specs.Read.{read}
-use Rattle.affc_cert.specs.declared.cert.Cert.{Cert}
-use Rattle.affc_cert.specs.declared.cert.CertFault.{CertFault}
-use Rattle.affc_cert.specs.declared.cert.CertFault.TheVariants as fault
-use Rattle.affc_cert.specs.declared.cert.CertFold.{CertFold}
-use Rattle.affc_cert.specs.declared.draft.Draft.{Draft}
-use Rattle.affc_cert.specs.declared.json.FoldFault.TheVariants as FoldFault
-use Rattle.affc_cert.specs.declared.layout.Layout.{Layout}
-use Rattle.affc_cert.specs.Certificates.{FoldEntry, coefs_of, entry_of, seen, steps_of}
-use Rattle.affc_cert.specs.Drafts.{IsBrokenAt, IsBrokenIn, draft_entry, whole_object}
-use Rattle.affc_cert.specs.Refusals.{plain, IsBasis, IsFirstBroken, IsBroken, Refuses, ReadsJson, refusal, verdicts, part_fault, either, first, is_shape, is_number, is_other_version}
-use Rattle.affc_cert.specs.Values.{cert_value, folds_value, list_of, numbers_value, proof_value, tree_value}
-use Rattle.affc_cert.proofs.Unique.{folds_same}
-
-plain_form : (f : Affine) → f.constant ≡ pos 0 → f ≡ record { coefs = f.coefs; constant = pos 0 }
-plain_form f h = ap (λ z. record { coefs = f.coefs; constant = z }) h
-
-plain_all : (rows : List Affine) → ((k : ℕ) (r : Affine) → slice_get rows k ≡ Some r → r.constant ≡ pos 0) → rows ≡ plain (coefs_of rows)
-plain_all [] h = refl
-plain_all (r ∷ rs) h = ap₂ (λ x xs. x ∷ xs) (plain_form r (h 0 r refl)) (plain_all rs (λ k x e. h (suc k) x e))
-
-entry_is_basis : (f : CertFold) → IsBasis (entry_of f)
-entry_is_basis f =
-    let rows = f.basis.rows in
-    let inverse = f.basis.inverse in
-    let first = plain_all rows (λ k r e. (f.basis.identity k (slice_get_within rows k r e)).row r e) in
-    let second = plain_all inverse (λ k r e. let there = slice_get_within inverse k r e in (f.basis.identity k (omega (arith, there, f.basis.square.one_each))).inverse_row r e) in
-    subst {A = List Affine × List Affine} (λ p. AreComponents p.0 p.1) (ap₂ (λ x y. (x, y)) first second) f.basis.identity
+use Rattle.std.proofs.Common.{◌≡◌, ℕ, zero, suc, ◌+◌, ◌<◌, Bool, true, false, if◌then◌else◌, codes, append-nil, option_map, IsUtf8, List, [], ◌∷◌, ◌++◌, length, map, Option, Some, None, refl, sym, ap, ap₂, ◌∙◌, subst, inl, inr, arith}
+use Rattle.std.proofs.lemmas.Option.{same_Some}
+use Rattle.std.specs.Prelude.{slice_get}
 
 before_of : (fs : List CertFold) (ys : List FoldEntry) (j : ℕ) (f : FoldEntry) → j < length fs → slice_get (map entry_of fs ++ ys) j ≡ Some f → IsBasis f
 before_of [] ys j f h e = absurd (omega (arith, h))
@@ -71,10 +62,6 @@ right_is_not_refused layout c e right (inl h) = let no : None ≡ Some e = sym r
 right_is_not_refused layout c e right (inr b) = not_broken layout c e b
 
 -- ---- Drafts
-
--- a draft that is refused is no basis
-pub broken_draft : (d : Draft) (k : ℕ) → bases.IsFirstBroken d.rows d.inverse k → IsBasis (draft_entry d) → ⊥
-broken_draft d k first basis = first.broken (subst {A = List Affine × List Affine} (λ p. AreComponents p.0 p.1) (ap₂ (λ x y. (x, y)) (sym d.plain_rows) (sym d.plain_inverse)) basis k first.within)
 
 more_folds : (fs : List CertFold) (f : CertFold) (ys : List FoldEntry) → map entry_of (fs ++ f ∷ []) ++ ys ≡ map entry_of fs ++ entry_of f ∷ ys
 more_folds [] f ys = refl

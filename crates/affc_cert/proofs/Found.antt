@@ -1,173 +1,32 @@
--- What a value is, from what the looks into it gave.
-use Rattle.std.proofs.Common.{◌≡◌, ◌≢◌, ℕ, zero, suc, ◌+◌, ◌-◌, ◌*◌, ◌^◌, ◌<◌, ◌≤◌, ℤ, pos, negsuc, ◌<ℤ◌, List, [], ◌∷◌, ◌++◌, length, get_or, take, drop, map, Option, Some, None, refl, sym, ap, ap₂, ◌∙◌, arith, add-one, lt-ltb, Bool, true, false, if◌then◌else◌, codes, bytes_eq, append-nil, append_assoc}
-use Rattle.std.proofs.lemmas.Slice.Eq.{bytes_eq-Decides}
-use Rattle.std.proofs.lemmas.List.{map_more}
-use Rattle.affc_rows.specs.Forms.{Affine}
-use Rattle.serde_json.specs.Data.{Num, unsigned, negative, float, Data, null, boolean, number, string, array, object, Items}
-use Rattle.serde_json.specs.Find.{as_number, as_i64, as_u64, as_array, as_str, of_integer}
-use Rattle.serde_json.specs.View.{view, items_view}
-use Rattle.serde_json.specs.declared.value.Value.{Value}
-use Rattle.affc_farkas.specs.declared.proof.Proof.{Proof}
-use Rattle.affc_cert.specs.declared.kind.Kind.TheVariants as Kind
-use Rattle.affc_cert.specs.Verdicts.{kind_of, kind_of_tag}
-use Rattle.affc_cert.specs.Certificates.{steps_of}
-use Rattle.affc_cert.specs.Stacks.{stack_nodes}
-use Rattle.affc_cert.specs.Values.{whole_value, list_value, numbers_value, form_value, pair_value, multipliers_value, leaf_node, cut_node, split_node, nodes_of}
+-- What whole certificates are, from what the looks into a value gave.
+use Rattle.affc_cert.proofs.Keyed.{names}
+use Rattle.affc_cert.specs.Drafts.{whole_object}
+use Rattle.affc_certfold.proofs.Found.{is_modulus}
+use Rattle.affc_certvalue.proofs.Keyed.{with_keys, these}
+use Rattle.affc_certvalue.specs.Keys.{has_keys}
+use Rattle.serde_json.specs.Data.{Data, number, unsigned, object}
+use Rattle.serde_json.specs.Find.{get}
+use Rattle.std.proofs.Common.{◌≡◌, List, [], ◌∷◌, length, Some, true, codes, refl, sym, ap, ◌∙◌, arith}
+use Rattle.std.proofs.lemmas.Option.{same_Some}
 
-pub is_array : (d : Data) (ds : Items) → Some ds ≡ as_array d → array ds ≡ d
-is_array null ds e = absurd (cc)
-is_array (boolean b) ds e = absurd (cc)
-is_array (number n) ds e = absurd (cc)
-is_array (string s) ds e = absurd (cc)
-is_array (array es) ds e = cc
-is_array (object ms) ds e = absurd (cc)
+-- ---- The whole
 
-pub is_number : (d : Data) (n : Num) → Some n ≡ as_number d → number n ≡ d
-is_number null n e = absurd (cc)
-is_number (boolean b) n e = absurd (cc)
-is_number (number m) n e = cc
-is_number (string s) n e = absurd (cc)
-is_number (array ds) n e = absurd (cc)
-is_number (object ms) n e = absurd (cc)
+whole_of : (ds : List Data) (v a b c x : Data) → length ds ≡ 5 → Some v ≡ get (codes "affc") (object (with_keys names ds)) → Some a ≡ get (codes "context") (object (with_keys names ds))
+    → Some b ≡ get (codes "flow") (object (with_keys names ds)) → Some c ≡ get (codes "folds") (object (with_keys names ds)) → Some x ≡ get (codes "proofs") (object (with_keys names ds)) → number (unsigned 1) ≡ v
+    → whole_object a b c x ≡ object (with_keys names ds)
+whole_of [] v a b c x h e f g i j o = absurd (omega arith)
+whole_of (p ∷ []) v a b c x h e f g i j o = absurd (omega arith)
+whole_of (p ∷ q ∷ []) v a b c x h e f g i j o = absurd (omega arith)
+whole_of (p ∷ q ∷ r ∷ []) v a b c x h e f g i j o = absurd (omega arith)
+whole_of (p ∷ q ∷ r ∷ s ∷ []) v a b c x h e f g i j o = absurd (omega arith)
+whole_of (p ∷ q ∷ r ∷ s ∷ t ∷ []) v a b c x h e f g i j o = rw (same_Some _ _ f, same_Some _ _ g, same_Some _ _ i, same_Some _ _ j, o ∙ same_Some _ _ e) refl
+whole_of (p ∷ q ∷ r ∷ s ∷ t ∷ u ∷ ds) v a b c x h e f g i j o = absurd (omega arith)
 
-pub is_string : (d : Data) (s : List ℕ) → Some s ≡ as_str d → string s ≡ d
-is_string null s e = absurd (cc)
-is_string (boolean b) s e = absurd (cc)
-is_string (number n) s e = absurd (cc)
-is_string (string t) s e = cc
-is_string (array ds) s e = absurd (cc)
-is_string (object ms) s e = absurd (cc)
+pub is_whole : (d v a b c x : Data) → has_keys names d ≡ true → Some v ≡ get (codes "affc") d → Some a ≡ get (codes "context") d → Some b ≡ get (codes "flow") d → Some c ≡ get (codes "folds") d
+    → Some x ≡ get (codes "proofs") d → number (unsigned 1) ≡ v → whole_object a b c x ≡ d
+is_whole d v a b c x k e f g i j o =
+    let under = these names d k in
+    whole_of under.0 v a b c x under.1 (e ∙ ap (get (codes "affc")) under.2) (f ∙ ap (get (codes "context")) under.2) (g ∙ ap (get (codes "flow")) under.2) (i ∙ ap (get (codes "folds")) under.2)
+    (j ∙ ap (get (codes "proofs")) under.2) o ∙ sym under.2
 
-pub is_unsigned : (n : Num) (k : ℕ) → Some k ≡ as_u64 n → unsigned k ≡ n
-is_unsigned (unsigned m) k e = cc
-is_unsigned (negative z) k e = absurd (cc)
-is_unsigned (float x) k e = absurd (cc)
-
-pub is_negative : (n : Num) (z : ℤ) → None ≡ as_u64 n → Some z ≡ as_i64 n → z <ℤ pos 0 → of_integer z ≡ n
-is_negative (unsigned m) z e f h = absurd (cc)
-is_negative (negative y) (pos k) e f h = absurd (grind (arith, h))
-is_negative (negative y) (negsuc k) e f h = cc
-is_negative (float x) z e f h = absurd (cc)
-
-pub ruleset number_steps = (is_number, is_unsigned, is_negative)
-
-pub ruleset map_steps = (map_more, add-one)
-
--- a list that is an array's, value by value
-pub is_list : (d : Data) (vs : List Value) (ds : List Data) → Some (items_view vs) ≡ as_array d → ds ≡ map view vs → list_value ds ≡ d
-is_list d vs ds e f = ap list_value f ∙ is_array d (items_view vs) e
-
-front_and_last : (vs : List Value) (n : ℕ) (d : Value) → length vs ≡ suc n → map view vs ≡ map view (take n vs) ++ view (get_or vs n d) ∷ []
-front_and_last [] n d h = absurd (omega arith)
-front_and_last (a ∷ []) zero d h = refl
-front_and_last (a ∷ []) (suc n) d h = absurd (omega arith)
-front_and_last (a ∷ b ∷ vs) zero d h = absurd (omega arith)
-front_and_last (a ∷ b ∷ vs) (suc n) d h = ap (λ ds. view a ∷ ds) (front_and_last (b ∷ vs) n d (omega arith))
-
-map_last : (cs : List ℤ) (k : ℤ) → map whole_value (cs ++ k ∷ []) ≡ map whole_value cs ++ whole_value k ∷ []
-map_last [] k = refl
-map_last (c ∷ cs) k = ap (λ ds. whole_value c ∷ ds) (map_last cs k)
-
-pub is_form : (f : Affine) (d : Data) (vs : List Value) (v : Value) → Some (items_view vs) ≡ as_array d → 0 < length vs → map whole_value f.coefs ≡ map view (take (length vs - 1) vs)
-    → whole_value f.constant ≡ view (get_or vs (length vs - 1) v) → form_value f ≡ d
-is_form f d vs v e some front last =
-    is_list d vs (map whole_value (f.coefs ++ f.constant ∷ [])) e
-    (map_last f.coefs f.constant ∙ ap₂ (λ ds x. ds ++ x ∷ []) front last ∙ sym (front_and_last vs (length vs - 1) v (omega arith)))
-
-pub is_coefs : (cs : List ℤ) (d : Data) (vs : List Value) → Some (items_view vs) ≡ as_array d → map whole_value cs ≡ map view vs → numbers_value cs ≡ d
-is_coefs cs d vs e f = is_list d vs (map whole_value cs) e f
-
-pub is_multipliers : (by : List (ℕ × ℕ)) (d : Data) (vs : List Value) → Some (items_view vs) ≡ as_array d → map pair_value by ≡ map view vs → multipliers_value by ≡ d
-is_multipliers by d vs e f = is_list d vs (map pair_value by) e f
-
-pub ruleset form_steps = (is_form, is_coefs, is_multipliers)
-
-two_values : (vs : List Value) (d e : Value) → length vs ≡ 2 → view (get_or vs 0 d) ∷ view (get_or vs 1 e) ∷ [] ≡ map view vs
-two_values [] d e h = absurd (omega arith)
-two_values (a ∷ []) d e h = absurd (omega arith)
-two_values (a ∷ b ∷ []) d e h = refl
-two_values (a ∷ b ∷ c ∷ vs) d e h = absurd (omega arith)
-
-pub is_pair : (p : ℕ × ℕ) (d : Data) (vs : List Value) (a b : Value) → Some (items_view vs) ≡ as_array d → length vs ≡ 2 → whole_value (pos p.0) ≡ view (get_or vs 0 a) → whole_value (pos p.1) ≡ view (get_or vs 1 b) → pair_value p ≡ d
-is_pair p d vs a b e h f g = is_list d vs _ e (ap₂ (λ x y. x ∷ y ∷ []) f g ∙ two_values vs a b h)
-
-pub ruleset pair_steps = (is_pair, is_list)
-
--- ---- Nodes
-
-tag_by : (one two three : Bool) (s : List ℕ) → (if one then Kind.Leaf else (if two then Kind.Cut else (if three then Kind.Split else Kind.Other))) ≡ Kind.Leaf → one ≡ true
-tag_by true two three s e = refl
-tag_by false true three s e = absurd (cc)
-tag_by false false true s e = absurd (cc)
-tag_by false false false s e = absurd (cc)
-
-cut_by : (one two three : Bool) → (if one then Kind.Leaf else (if two then Kind.Cut else (if three then Kind.Split else Kind.Other))) ≡ Kind.Cut → two ≡ true
-cut_by true two three e = absurd (cc)
-cut_by false true three e = refl
-cut_by false false true e = absurd (cc)
-cut_by false false false e = absurd (cc)
-
-split_by : (one two three : Bool) → (if one then Kind.Leaf else (if two then Kind.Cut else (if three then Kind.Split else Kind.Other))) ≡ Kind.Split → three ≡ true
-split_by true two three e = absurd (cc)
-split_by false true three e = absurd (cc)
-split_by false false true e = refl
-split_by false false false e = absurd (cc)
-
-leaf_tag : (d : Data) → kind_of_tag (as_str d) ≡ Kind.Leaf → string (codes "f") ≡ d
-leaf_tag null e = absurd (cc)
-leaf_tag (boolean b) e = absurd (cc)
-leaf_tag (number n) e = absurd (cc)
-leaf_tag (string s) e = ap string (sym ((bytes_eq-Decides s (codes "f")).0 (tag_by (bytes_eq s (codes "f")) (bytes_eq s (codes "c")) (bytes_eq s (codes "s")) s e)))
-leaf_tag (array ds) e = absurd (cc)
-leaf_tag (object ms) e = absurd (cc)
-
-cut_tag : (d : Data) → kind_of_tag (as_str d) ≡ Kind.Cut → string (codes "c") ≡ d
-cut_tag null e = absurd (cc)
-cut_tag (boolean b) e = absurd (cc)
-cut_tag (number n) e = absurd (cc)
-cut_tag (string s) e = ap string (sym ((bytes_eq-Decides s (codes "c")).0 (cut_by (bytes_eq s (codes "f")) (bytes_eq s (codes "c")) (bytes_eq s (codes "s")) e)))
-cut_tag (array ds) e = absurd (cc)
-cut_tag (object ms) e = absurd (cc)
-
-split_tag : (d : Data) → kind_of_tag (as_str d) ≡ Kind.Split → string (codes "s") ≡ d
-split_tag null e = absurd (cc)
-split_tag (boolean b) e = absurd (cc)
-split_tag (number n) e = absurd (cc)
-split_tag (string s) e = ap string (sym ((bytes_eq-Decides s (codes "s")).0 (split_by (bytes_eq s (codes "f")) (bytes_eq s (codes "c")) (bytes_eq s (codes "s")) e)))
-split_tag (array ds) e = absurd (cc)
-split_tag (object ms) e = absurd (cc)
-
-pub is_leaf : (by : List (ℕ × ℕ)) (vs : List Value) (a : Value) → kind_of (items_view vs) ≡ Kind.Leaf → length vs ≡ 2 → multipliers_value by ≡ view (get_or vs 1 a) → leaf_node by ≡ array (items_view vs)
-is_leaf by [] a k h e = absurd (omega arith)
-is_leaf by (t ∷ []) a k h e = absurd (omega arith)
-is_leaf by (t ∷ b ∷ []) a k h e = ap₂ (λ x y. list_value (x ∷ y ∷ [])) (leaf_tag (view t) k) e
-is_leaf by (t ∷ b ∷ c ∷ vs) a k h e = absurd (omega arith)
-
-pub is_cut : (by : List (ℕ × ℕ)) (g : ℤ) (row : Affine) (vs : List Value) (a b c : Value) → kind_of (items_view vs) ≡ Kind.Cut → length vs ≡ 4
-    → multipliers_value by ≡ view (get_or vs 1 a) → whole_value g ≡ view (get_or vs 2 b) → form_value row ≡ view (get_or vs 3 c) → cut_node by g row ≡ array (items_view vs)
-is_cut by g row [] a b c k h e f r = absurd (omega arith)
-is_cut by g row (t ∷ []) a b c k h e f r = absurd (omega arith)
-is_cut by g row (t ∷ x ∷ []) a b c k h e f r = absurd (omega arith)
-is_cut by g row (t ∷ x ∷ y ∷ []) a b c k h e f r = absurd (omega arith)
-is_cut by g row (t ∷ x ∷ y ∷ z ∷ []) a b c k h e f r = rw (cut_tag (view t) k, e, f, r) refl
-is_cut by g row (t ∷ x ∷ y ∷ z ∷ w ∷ vs) a b c k h e f r = absurd (omega arith)
-
-pub is_split : (cs : List ℤ) (at : ℤ) (vs : List Value) (a b : Value) → kind_of (items_view vs) ≡ Kind.Split → length vs ≡ 3
-    → numbers_value cs ≡ view (get_or vs 1 a) → whole_value at ≡ view (get_or vs 2 b) → split_node cs at ≡ array (items_view vs)
-is_split cs at [] a b k h e f = absurd (omega arith)
-is_split cs at (t ∷ []) a b k h e f = absurd (omega arith)
-is_split cs at (t ∷ x ∷ []) a b k h e f = absurd (omega arith)
-is_split cs at (t ∷ x ∷ y ∷ []) a b k h e f = rw (split_tag (view t) k, e, f) refl
-is_split cs at (t ∷ x ∷ y ∷ z ∷ vs) a b k h e f = absurd (omega arith)
-
-pub ruleset node_parts = (is_leaf, is_cut, is_split)
-
--- ---- The stack
-
-pub stack_top : (ps : List Proof) (p : Proof) → stack_nodes (ps ++ p ∷ []) ≡ nodes_of (steps_of p) ++ stack_nodes ps
-stack_top [] p = sym (append-nil (nodes_of (steps_of p)))
-stack_top (q ∷ ps) p = ap (λ ds. ds ++ nodes_of (steps_of q)) (stack_top ps p) ∙ append_assoc (nodes_of (steps_of p)) (stack_nodes ps) (nodes_of (steps_of q))
-
-pub ruleset stack_steps = (stack_top, append_assoc)
-
-pub ruleset stack_ends = (stack_top, append-nil)
+pub ruleset whole_found = (is_whole, is_modulus)

@@ -1,12 +1,8 @@
-pub mod Steps
-pub mod Parts
-pub mod Tops
 pub mod Keyed
+pub mod Tops
 pub mod Found
-pub mod FoldFound
-pub mod TreeSteps
-pub mod TreeFound
 pub mod Flat
 pub mod Unique
 pub mod Broken
 pub mod ExampleProofs
+pub mod Within

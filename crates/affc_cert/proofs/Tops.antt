@@ -1,11 +1,10 @@
 -- Verdicts on parts, place by place.
-use Rattle.std.proofs.Common.{◌≡◌, ◌≢◌, ℕ, zero, suc, ◌+◌, ◌<◌, ◌≤◌, List, [], ◌∷◌, ◌++◌, length, get_or, take, drop, map, Bool, true, false, Option, Some, None, refl, sym, ap, ap₂, ◌∙◌, arith, add-one, append_assoc, append-nil}
+use Rattle.affc_cert.specs.Refusals.{each, each_by, first}
+use Rattle.affc_certvalue.specs.declared.verdict.Verdict.{Verdict}
 use Rattle.serde_json.specs.Data.{Data}
 use Rattle.serde_json.specs.View.{view, items_view}
-use Rattle.serde_json.proofs.Views.{items_len-items_view, members_len-members_view}
 use Rattle.serde_json.specs.declared.value.Value.{Value}
-use Rattle.affc_cert.specs.declared.verdict.Verdict.{Verdict}
-use Rattle.affc_cert.specs.Refusals.{each, first}
+use Rattle.std.proofs.Common.{◌≡◌, ℕ, zero, suc, ◌+◌, ◌<◌, ◌≤◌, List, [], ◌∷◌, ◌++◌, length, get_or, take, drop, map, Bool, true, false, Some, None, refl, sym, ap, ap₂, ◌∙◌, arith, add-one, append_assoc, append-nil}
 
 pub each_is_map : (judge : Data → Verdict) (vs : List Value) → each judge (items_view vs) ≡ map (λ v. judge (view v)) vs
 each_is_map judge [] = refl
@@ -44,11 +43,49 @@ first_none test (v ∷ vs) (suc i) k h = first_none test vs i k (omega arith)
 
 pub ruleset first_steps = (first_more, first_here, first_none)
 
-pub ruleset length_steps = (items_len-items_view, members_len-members_view)
-
 pub each_kept : (judge : Data → Verdict) (vs : List Value) (i : ℕ) (d : Value) (old now new : List Verdict) (x : Verdict) → i < length vs
     → now ≡ old ++ each judge (items_view (take i vs)) → new ≡ now ++ x ∷ [] → x ≡ judge (view (get_or vs i d)) → new ≡ old ++ each judge (items_view (take (i + 1) vs))
 each_kept judge vs i d old now new x h e f g =
     f ∙ ap₂ (λ xs y. xs ++ y ∷ []) e g ∙ append_assoc old (each judge (items_view (take i vs))) (judge (view (get_or vs i d)) ∷ []) ∙ ap (λ xs. old ++ xs) (sym (each_more judge vs i d h))
 
 pub ruleset more_steps = (append_assoc, append-nil)
+
+-- ---- Each by what has its place in a list
+
+zip_here : {A : Type 0} (judge : A → Data → Verdict) (xs : List A) (vs : List Value) (i : ℕ) (d : A) (e : Value) → i < length xs → i < length vs
+    → each_by judge (drop i xs) (items_view (drop i vs)) ≡ judge (get_or xs i d) (view (get_or vs i e)) ∷ each_by judge (drop (suc i) xs) (items_view (drop (suc i) vs))
+zip_here judge [] vs i d e h g = absurd (omega arith)
+zip_here judge (x ∷ xs) [] i d e h g = absurd (omega arith)
+zip_here judge (x ∷ xs) (v ∷ vs) zero d e h g = refl
+zip_here judge (x ∷ xs) (v ∷ vs) (suc i) d e h g = zip_here judge xs vs i d e (omega arith) (omega arith)
+
+none_by : {A : Type 0} (judge : A → Data → Verdict) (xs : List A) → each_by judge xs (items_view []) ≡ []
+none_by judge [] = refl
+none_by judge (x ∷ xs) = refl
+
+pub zip_over : {A : Type 0} (judge : A → Data → Verdict) (xs : List A) (vs : List Value) (i : ℕ) → i ≡ length vs → each_by judge (drop i xs) (items_view (drop i vs)) ≡ []
+zip_over judge xs [] zero h = none_by judge xs
+zip_over judge xs [] (suc i) h = absurd (omega arith)
+zip_over judge xs (v ∷ vs) zero h = absurd (omega arith)
+zip_over judge [] (v ∷ vs) (suc i) h = refl
+zip_over judge (x ∷ xs) (v ∷ vs) (suc i) h = zip_over judge xs vs i (omega arith)
+
+pub zip_done : {A : Type 0} (judge : A → Data → Verdict) (xs : List A) (vs : List Value) (i : ℕ) → length xs ≤ i → each_by judge (drop i xs) (items_view (drop i vs)) ≡ []
+zip_done judge [] vs zero h = refl
+zip_done judge [] vs (suc i) h = refl
+zip_done judge (x ∷ xs) vs zero h = absurd (omega arith)
+zip_done judge (x ∷ xs) [] (suc i) h = none_by judge (drop i xs)
+zip_done judge (x ∷ xs) (v ∷ vs) (suc i) h = zip_done judge xs vs i (omega arith)
+
+pub zip_kept : {A : Type 0} (judge : A → Data → Verdict) (xs : List A) (vs : List Value) (i : ℕ) (d : A) (e : Value) (now new all : List Verdict) (x : Verdict) → i < length xs → i < length vs
+    → now ++ each_by judge (drop i xs) (items_view (drop i vs)) ≡ all → new ≡ now ++ x ∷ [] → x ≡ judge (get_or xs i d) (view (get_or vs i e))
+    → new ++ each_by judge (drop (i + 1) xs) (items_view (drop (i + 1) vs)) ≡ all
+zip_kept judge xs vs i d e now new all x h g same f k =
+    let rest = each_by judge (drop (suc i) xs) (items_view (drop (suc i) vs)) in
+    ap₂ (λ ys j. ys ++ each_by judge (drop j xs) (items_view (drop j vs))) (f ∙ ap (λ y. now ++ y ∷ []) k) (add-one i) ∙ append_assoc now (judge (get_or xs i d) (view (get_or vs i e)) ∷ []) rest
+    ∙ ap (λ ys. now ++ ys) (sym (zip_here judge xs vs i d e h g)) ∙ same
+
+pub zip_end : (now none all : List Verdict) → none ≡ [] → now ++ none ≡ all → now ≡ all
+zip_end now none all e same = sym (append-nil now) ∙ ap (λ ys. now ++ ys) (sym e) ∙ same
+
+pub ruleset zip_steps = (zip_over, zip_done, zip_end, append-nil)

@@ -1,16 +1,12 @@
--- What a fold says whose rows and inverse forms are not yet multiplied, and the parts that a certificate is read in.
-use Rattle.std.specs.Prelude.{◌≡◌, ℕ, ◌+◌, List, Some, codes}
-use Rattle.serde_json.specs.Data.{Data, number, unsigned, object, no_members, member}
-use Rattle.serde_json.specs.Find.{get}
-use Rattle.affc_cert.specs.declared.draft.Draft.{Draft}
+-- The parts that a certificate is read in.
+use Rattle.affc_cert.specs.Refusals.{IsFirstBroken}
 use Rattle.affc_cert.specs.declared.cert.CertFault.{CertFault}
 use Rattle.affc_cert.specs.declared.cert.CertFault.TheVariants as fault
-use Rattle.affc_cert.specs.Certificates.{FoldEntry, coefs_of}
-use Rattle.affc_cert.specs.Refusals.{IsFirstBroken}
-use Rattle.affc_cert.specs.Values.{folds_value}
-
-abbrev pub draft_entry : Draft → FoldEntry
-draft_entry d = record { array = d.array.0; rows = coefs_of d.rows; inverse = coefs_of d.inverse; moduli = d.moduli }
+use Rattle.affc_certfold.specs.Entries.{FoldEntry}
+use Rattle.affc_certfold.specs.Values.{folds_value}
+use Rattle.serde_json.specs.Data.{Data, number, unsigned, object, no_members, member}
+use Rattle.serde_json.specs.Find.{get}
+use Rattle.std.specs.Prelude.{◌≡◌, ℕ, ◌+◌, List, Some, codes}
 
 -- the object of these parts
 abbrev pub whole_object : (context flow folds proofs : Data) → Data

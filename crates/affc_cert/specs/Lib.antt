@@ -1,11 +1,7 @@
 pub mod Certificates
 pub mod Values
-pub mod Verdicts
-pub mod Trees
-pub mod Folds
 pub mod Refusals
-pub mod Keys
-pub mod Stacks
 pub mod Drafts
 pub mod Limits
 pub mod Examples
+pub mod Within

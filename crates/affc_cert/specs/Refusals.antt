@@ -1,21 +1,21 @@
 -- Which texts are certificates, and why others are refused.
-use Rattle.std.specs.Prelude.{◌≡◌, ◌⊎◌, ℕ, ◌+◌, ◌<◌, ◌==◌, ℤ, pos, List, [], ◌∷◌, ◌++◌, length, map, slice_get, Bool, true, false, if◌then◌else◌, Option, Some, None, option_map, option_and_then, codes, IsUtf8}
-use Rattle.affc_rows.specs.Forms.{Affine}
-use Rattle.affc_basis.specs.Bases.{AreComponents}
-use Rattle.serde_json.specs.Data.{Data, Items, no_items, item}
-use Rattle.serde_json.specs.Find.{get, as_array, as_number, as_u64}
-use Rattle.serde_json.specs.Events.{items_len}
-use Rattle.serde_json.specs.Read.{read}
-use Rattle.affc_cert.specs.declared.verdict.Verdict.{Verdict}
-use Rattle.affc_cert.specs.declared.verdict.Verdict.TheVariants.{Shape, Number, Fine}
-use Rattle.affc_cert.specs.declared.layout.Layout.{Layout}
 use Rattle.affc_cert.specs.declared.cert.CertFault.{CertFault}
 use Rattle.affc_cert.specs.declared.cert.CertFault.TheVariants as fault
-use Rattle.affc_cert.specs.Certificates.{FoldEntry}
-use Rattle.affc_cert.specs.Values.{folds_value}
-use Rattle.affc_cert.specs.Verdicts.{any_number, list, many, members, proof}
-use Rattle.affc_cert.specs.Trees.{tree}
-use Rattle.affc_cert.specs.Folds.{fold}
+use Rattle.affc_cert.specs.declared.layout.Layout.{Layout}
+use Rattle.affc_certfold.specs.Bases.{IsBasis}
+use Rattle.affc_certfold.specs.Entries.{FoldEntry}
+use Rattle.affc_certfold.specs.Folds.{fold}
+use Rattle.affc_certfold.specs.Values.{folds_value}
+use Rattle.affc_certproof.specs.Verdicts.{proof}
+use Rattle.affc_certtree.specs.Trees.{tree}
+use Rattle.affc_certvalue.specs.Verdicts.{any_number, list, many, members}
+use Rattle.affc_certvalue.specs.declared.verdict.Verdict.{Verdict}
+use Rattle.affc_certvalue.specs.declared.verdict.Verdict.TheVariants.{Shape, Number, Fine}
+use Rattle.serde_json.specs.Data.{Data, Items, no_items, item}
+use Rattle.serde_json.specs.Events.{items_len}
+use Rattle.serde_json.specs.Find.{get, as_array, as_number, as_u64}
+use Rattle.serde_json.specs.Read.{read}
+use Rattle.std.specs.Prelude.{◌≡◌, ◌⊎◌, ℕ, ◌+◌, ◌<◌, ◌==◌, List, [], ◌∷◌, ◌++◌, length, slice_get, Bool, true, false, if◌then◌else◌, Option, Some, None, option_map, option_and_then, codes, IsUtf8}
 
 -- the text is UTF-8, and the value that it reads as
 abbrev pub ReadsJson : List ℕ → Data → Type 0
@@ -104,13 +104,6 @@ is_other_version (Some d) = if is_one (option_and_then as_u64 (as_number d)) the
 -- what is wrong with a value, but for products of rows and inverse forms
 abbrev pub refusal : Layout → Data → Option CertFault
 refusal layout d = if is_other_version (get (codes "affc") d) then Some fault.Version else part_fault (verdicts layout d)
-
-abbrev pub plain : List (List ℤ) → List Affine
-plain rows = map (λ cs. record { coefs = cs; constant = pos 0 }) rows
-
--- the inverse forms, with the rows put in, are the columns
-abbrev pub IsBasis : FoldEntry → Type 0
-IsBasis f = AreComponents (plain f.rows) (plain f.inverse)
 
 -- the first fold whose rows and inverse forms have another product than the identity
 pub record IsFirstBroken (folds : List FoldEntry) (k : ℕ) : Type 0 where

@@ -1,5 +1,5 @@
 //! Values that are refused or not.
-ghost use Rattle.affc_cert.specs.Examples.{ProofsAreJudged, MultipliersAreJudged, TreesAreJudged, FoldsAreJudged, RefusalsAreInOrder};
+ghost use Rattle.affc_cert.specs.Examples.{ProofsAreJudged, MultipliersAreJudged, TreesAreJudged, FoldsAreJudged, RefusalsAreInOrder, PartsAreNumbered, ObjectsAreJudged};
 
 /// Proofs.
 #[tactic(auto, using(crate::proofs::ExampleProofs::proofs_are_judged))]
@@ -29,4 +29,16 @@ pub fn folds_are_judged()
 #[tactic(auto, using(crate::proofs::ExampleProofs::refusals_are_in_order))]
 pub fn refusals_are_in_order()
     ensures { RefusalsAreInOrder }
+{}
+
+/// Parts of each kind.
+#[tactic(auto, using(crate::proofs::ExampleProofs::parts_are_numbered))]
+pub fn parts_are_numbered()
+    ensures { PartsAreNumbered }
+{}
+
+/// Objects.
+#[tactic(auto, using(crate::proofs::ExampleProofs::objects_are_judged))]
+pub fn objects_are_judged()
+    ensures { ObjectsAreJudged }
 {}

@@ -1,27 +1,39 @@
 //! Certificates and their JSON texts.
-ghost use Rattle.std.specs.Prelude.{◌≡◌, ◌≢◌, ℕ, ◌+◌, map, IfErr, IfOk, IfSome, IsTrue, None, OnOk};
+ghost use Rattle.affc_cert.specs.Certificates.{seen};
+ghost use Rattle.affc_cert.specs.Drafts.{IsBrokenAt, IsBrokenIn, whole_object};
+ghost use Rattle.affc_cert.specs.Limits.{FitsCert};
+ghost use Rattle.affc_cert.specs.Refusals.{ReadsJson, IsFirstBroken, Refuses, refusal};
+ghost use Rattle.affc_cert.specs.Values.{cert_value};
+ghost use Rattle.affc_cert.specs.Within.{IsWithin};
+ghost use Rattle.affc_cert.specs.declared.cert.Cert.{Cert};
+ghost use Rattle.affc_certfold.specs.Drafts.{draft_entry};
+ghost use Rattle.affc_certfold.specs.Entries.{entry_of};
+ghost use Rattle.affc_certfold.specs.Values.{folds_value};
+ghost use Rattle.affc_certproof.specs.Proofs.{steps_of};
+ghost use Rattle.affc_certproof.specs.Values.{proof_value};
+ghost use Rattle.affc_certtree.specs.Values.{tree_value};
+ghost use Rattle.affc_certvalue.specs.Values.{list_of};
 ghost use Rattle.affc_quast.specs.Seen as quast;
 ghost use Rattle.serde_json.specs.Data.{Data, number, unsigned};
 ghost use Rattle.serde_json.specs.View.{view};
 ghost use Rattle.serde_json.specs.Written.{compact_text};
-ghost use Rattle.affc_cert.specs.Certificates.{entry_of, seen, steps_of};
-ghost use Rattle.affc_cert.specs.Drafts.{IsBrokenAt, IsBrokenIn, draft_entry, whole_object};
-ghost use Rattle.affc_cert.specs.Limits.{FitsCert};
-ghost use Rattle.affc_cert.specs.Refusals.{ReadsJson, IsFirstBroken, Refuses, refusal};
-ghost use Rattle.affc_cert.specs.Values.{cert_value, folds_value, list_of, proof_value, tree_value};
+ghost use Rattle.std.specs.Prelude.{◌≡◌, ◌≢◌, ℕ, ◌+◌, map, IfErr, IfOk, IfSome, IsTrue, MatchResult, None, OnOk};
 
-use crate::build::proof_from_value;
-use crate::build_fold::{drafts, multiplied, numbers};
-use crate::build_tree::tree_from_value;
-use crate::cert::{Cert, CertFault, CertFold, WriteFault};
-use crate::draft::Draft;
+use crate::cert::{Cert, CertFault, WriteFault};
 use crate::fits::cert_fits;
-use crate::keys::has_keys;
 use crate::layout::Layout;
 use crate::refuse::fault;
-use crate::write::{list, proof_to_value};
-use crate::write_fold;
-use crate::write_tree::tree_to_value;
+use affc_certfold::build::{drafts, multiplied};
+use affc_certfold::draft::Draft;
+use affc_certfold::fold::CertFold;
+use affc_certproof::build::proof_from_value;
+use affc_certproof::write::proof_to_value;
+use affc_certtree::build::tree_from_value;
+use affc_certtree::write::tree_to_value;
+use affc_certfold::write;
+use affc_certvalue::build::numbers;
+use affc_certvalue::write::{list, numbers as numbers_to_value};
+use affc_certvalue::keys::has_keys;
 use affc_farkas::Proof;
 use affc_quast::{Flow, Quast};
 use serde_json::{Map, Value, put};
@@ -29,7 +41,7 @@ use sqlite_items::Items;
 use std::alloc::{AllocError, Global};
 
 /// The trees that these values are.
-#[tactic(auto, using(crate::proofs::Found::map_steps))]
+#[tactic(auto, using(affc_certvalue::proofs::Found::map_steps))]
 fn trees_among(alloc: Global, items: &[Value]) -> Result<Items<Quast>, AllocError>
     ensures { IfOk result (λ v. map tree_value (map quast.seen v) ≡ map view items.now) }
 {
@@ -41,7 +53,7 @@ fn trees_among(alloc: Global, items: &[Value]) -> Result<Items<Quast>, AllocErro
 }
 
 /// The trees that a value is.
-#[tactic(auto, using(crate::proofs::Found::is_list))]
+#[tactic(auto, using(affc_certvalue::proofs::Found::is_list))]
 fn read_trees(alloc: Global, value: &Value) -> Result<Items<Quast>, AllocError>
     ensures { IfOk result (λ v. list_of tree_value (map quast.seen v) ≡ view value.now) }
 {
@@ -52,7 +64,7 @@ fn read_trees(alloc: Global, value: &Value) -> Result<Items<Quast>, AllocError>
 }
 
 /// The proofs that these values are.
-#[tactic(auto, using(crate::proofs::Found::map_steps))]
+#[tactic(auto, using(affc_certvalue::proofs::Found::map_steps))]
 fn proofs_among(alloc: Global, items: &[Value]) -> Result<Items<Proof>, AllocError>
     ensures { IfOk result (λ v. map proof_value (map steps_of v) ≡ map view items.now) }
 {
@@ -64,7 +76,7 @@ fn proofs_among(alloc: Global, items: &[Value]) -> Result<Items<Proof>, AllocErr
 }
 
 /// The proofs that a value is.
-#[tactic(auto, using(crate::proofs::Found::is_list))]
+#[tactic(auto, using(affc_certvalue::proofs::Found::is_list))]
 fn read_proofs(alloc: Global, value: &Value) -> Result<Items<Proof>, AllocError>
     ensures { IfOk result (λ v. list_of proof_value (map steps_of v) ≡ view value.now) }
 {
@@ -109,7 +121,7 @@ struct Parts<'v> {
 }
 
 /// Whether a value is the number 1.
-#[tactic(auto, using(crate::proofs::Found::number_steps))]
+#[tactic(auto, using(affc_certvalue::proofs::Found::number_steps))]
 fn is_one(value: &Value) -> bool
     ensures { IsTrue result → number (unsigned 1) ≡ view value.now }
 {
@@ -123,7 +135,7 @@ fn is_one(value: &Value) -> bool
 }
 
 /// The parts of a certificate of version 1.
-#[tactic(auto, using(crate::proofs::FoldFound::whole_found))]
+#[tactic(auto, using(crate::proofs::Found::whole_found))]
 fn parts_of(value: &Value) -> Option<Parts<'_>>
     ensures { IfSome result (λ p. whole_object (view p.context.now) (view p.flow.now) (view p.folds.now) (view p.proofs.now) ≡ view value.now) }
 {
@@ -218,12 +230,14 @@ fn from_value(alloc: Global, value: &Value, layout: &Layout) -> Result<Cert, Cer
     }
 }
 
-/// The certificate that a text is, for a program of this layout; or the first reason why the text is refused.
+/// The certificate that a text is, for a program of this layout; or the first reason why the text is refused. What `to_json` writes
+/// of a certificate within the limits comes back: `back` asks of the text what `to_json` says in `reads`.
 #[tactic(auto, using(crate::proofs::Broken::read_well))]
 pub fn from_json(alloc: Global, text: &[u8], layout: &Layout) -> Result<Cert, CertFault>
     ensures ok { IfOk result (λ c. ReadsJson text.now (cert_value (seen c)) × (refusal layout.now (cert_value (seen c)) ≡ None)) }
     ensures json { IfErr result (λ e. e ≡ CertFault.Json → (d : Data) → ¬ (ReadsJson text.now d)) }
     ensures err { IfErr result (λ e. e ≢ CertFault.Json → e ≢ CertFault.Memory → (d : Data) × ReadsJson text.now d × Refuses layout.now d e) }
+    ensures back { (c : Cert) → ReadsJson text.now (cert_value (seen c)) → IsWithin layout.now (seen c) → MatchResult result (λ b. seen b ≡ seen c) (λ e. e ≡ CertFault.Memory) }
 {
     match Value::from_slice(alloc, text) {
         Ok(value) => from_value(alloc, &value, layout),
@@ -263,9 +277,9 @@ fn proofs_to_value(alloc: Global, proofs: &[Proof]) -> Result<Value, AllocError>
 fn to_value(alloc: Global, cert: &Cert) -> Result<Value, AllocError>
     ensures { IfOk result (λ v. view v ≡ cert_value (seen cert.now)) }
 {
-    let context = write_fold::numbers(alloc, cert.context.as_slice())?;
+    let context = numbers_to_value(alloc, cert.context.as_slice())?;
     let flow = trees_to_value(alloc, cert.flow.trees.as_slice())?;
-    let folds = write_fold::folds(alloc, cert.folds.as_slice())?;
+    let folds = write::folds(alloc, cert.folds.as_slice())?;
     let proofs = proofs_to_value(alloc, cert.proofs.as_slice())?;
     let mut map = Map::new(alloc);
     put(&mut map, alloc, "affc", Value::from(1u32))?;

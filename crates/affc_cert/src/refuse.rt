@@ -1,19 +1,22 @@
 //! Why a value is refused.
-ghost use Rattle.std.specs.Prelude.{◌≡◌, ◌≢◌, ◌++◌, length, None, Some, IfErr, IfOk, OnOk, option_map};
+ghost use Rattle.affc_cert.specs.Refusals.{counted, each, each_by, fine, first, is_number, is_other_version, is_shape, items_in, part_fault, refusal, top, verdicts};
+ghost use Rattle.affc_certfold.specs.Folds.{fold};
+ghost use Rattle.affc_certproof.specs.Verdicts.{proof};
+ghost use Rattle.affc_certtree.specs.Trees.{tree};
+ghost use Rattle.affc_certvalue.specs.Verdicts.{at_key, list};
 ghost use Rattle.serde_json.specs.Find.{get, as_array};
 ghost use Rattle.serde_json.specs.View.{view, items_view};
-ghost use Rattle.affc_cert.specs.Folds.{fold};
-ghost use Rattle.affc_cert.specs.Trees.{tree};
-ghost use Rattle.affc_cert.specs.Verdicts.{at_key, list, proof};
-ghost use Rattle.affc_cert.specs.Refusals.{counted, each, each_by, fine, first, is_number, is_other_version, is_shape, items_in, part_fault, refusal, top, verdicts};
+ghost use Rattle.std.specs.Prelude.{◌≡◌, ◌++◌, None, Some, IfOk, OnOk, option_map};
 
 use crate::cert::CertFault;
-use crate::judge::proof_verdict;
-use crate::judge_fold::{fold_verdict, parameters_verdict};
-use crate::judge_tree::tree_verdict;
-use crate::keys::has_keys;
-use crate::layout::{Layout, Load, Temporary};
-use crate::verdict::Verdict;
+use crate::layout::Layout;
+use affc_certfold::judge::{fold_verdict, parameters_verdict};
+use affc_certfold::layout::Temporary;
+use affc_certproof::judge::proof_verdict;
+use affc_certtree::judge::tree_verdict;
+use affc_certtree::layout::Load;
+use affc_certvalue::keys::has_keys;
+use affc_certvalue::verdict::Verdict;
 use serde_json::Value;
 use std::alloc::{AllocError, Global};
 
@@ -41,7 +44,7 @@ fn list_verdict(value: Option<&Value>) -> Verdict
 }
 
 /// The verdict on a list of so many values, but for what they are.
-#[tactic(auto, using(crate::proofs::Tops::length_steps))]
+#[tactic(auto, using(affc_certvalue::proofs::Lengths::length_steps))]
 fn counted_verdict(value: Option<&Value>, count: usize) -> Verdict
     ensures { result ≡ at_key (list (counted count)) (option_map (λ v. view v.now) value.entry) }
 {
@@ -88,7 +91,7 @@ fn items_of(value: Option<&Value>) -> &[Value]
 }
 
 /// Adds the verdicts on trees, each by its load.
-#[tactic(auto, using(crate::proofs::Tops::more_steps))]
+#[tactic(auto, using(crate::proofs::Tops::zip_steps))]
 fn add_trees(
     alloc: Global,
     verdicts: &mut Vec<Verdict>,
@@ -97,18 +100,18 @@ fn add_trees(
 ) -> Result<(), AllocError>
     ensures { OnOk result (verdicts.new.items ≡ verdicts.old.items ++ each_by tree loads.now (items_view items.now)) }
 {
-    let [load, loads @ ..] = loads else {
-        return Ok(());
-    };
-    let [value, items @ ..] = items else {
-        return Ok(());
-    };
-    verdicts.push(tree_verdict(alloc, value, load)?)?;
-    add_trees(alloc, verdicts, loads, items)
+    for (i, load) in loads.iter().enumerate() {
+        if i == items.len() {
+            return Ok(());
+        }
+        let verdict = tree_verdict(alloc, &items[i], load)?;
+        verdicts.push(verdict)?;
+    }
+    Ok(())
 }
 
 /// Adds the verdicts on folds, each by its temporary.
-#[tactic(auto, using(crate::proofs::Tops::more_steps))]
+#[tactic(auto, using(crate::proofs::Tops::zip_steps))]
 fn add_folds(
     verdicts: &mut Vec<Verdict>,
     temporaries: &[Temporary],
@@ -117,14 +120,14 @@ fn add_folds(
 ) -> Result<(), AllocError>
     ensures { OnOk result (verdicts.new.items ≡ verdicts.old.items ++ each_by (fold parameters) temporaries.now (items_view items.now)) }
 {
-    let [temporary, temporaries @ ..] = temporaries else {
-        return Ok(());
-    };
-    let [value, items @ ..] = items else {
-        return Ok(());
-    };
-    verdicts.push(fold_verdict(value, *temporary, parameters))?;
-    add_folds(verdicts, temporaries, parameters, items)
+    for (i, temporary) in temporaries.iter().enumerate() {
+        if i == items.len() {
+            return Ok(());
+        }
+        let verdict = fold_verdict(&items[i], *temporary, parameters);
+        verdicts.push(verdict)?;
+    }
+    Ok(())
 }
 
 /// Adds the verdicts on proofs.

@@ -2,9 +2,9 @@ use Rattle.std.proofs.Common.{◌≡◌, true, Some, codes, rules}
 use Rattle.serde_json.specs.Data.{number, unsigned}
 use Rattle.serde_json.specs.Find.{get}
 use Rattle.serde_json.specs.View.{view}
-use Rattle.affc_cert.specs.Keys.{has_keys}
+use Rattle.affc_certvalue.specs.Keys.{has_keys}
 use Rattle.affc_cert.proofs.Keyed.{names}
-use Rattle.affc_cert.proofs.FoldFound.{is_whole}
+use Rattle.affc_cert.proofs.Found.{is_whole}
 use Rattle.affc_cert.proofs.json.parts_of.Goals as goal
 
 pub returns : goal.returns

@@ -1,8 +1,8 @@
 use Rattle.std.proofs.Common.{◌≡◌, true, length, ap, ap₂, sym, ◌∙◌, rules}
 use Rattle.serde_json.specs.View.{view}
-use Rattle.affc_cert.specs.Keys.{has_keys}
+use Rattle.affc_certvalue.specs.Keys.{has_keys}
 use Rattle.affc_cert.specs.Refusals.{counted, fine}
-use Rattle.affc_cert.specs.Verdicts.{any_number, at_key, list, many, worse}
+use Rattle.affc_certvalue.specs.Verdicts.{any_number, at_key, list, many, worse}
 use Rattle.affc_cert.proofs.Keyed.{names, whole_members}
 use Rattle.affc_cert.proofs.refuse.top_verdict.Goals as goal
 

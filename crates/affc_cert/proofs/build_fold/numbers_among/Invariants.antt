@@ -1,7 +1,0 @@
-use Rattle.std.proofs.Common.{◌≡◌, map, take}
-use Rattle.serde_json.specs.View.{view}
-use Rattle.affc_cert.specs.Values.{whole_value}
-use Rattle.affc_cert.proofs.build_fold.numbers_among.Given as goal
-
-abbrev pub invariant-loop-value : goal.invariant-loop-value
-invariant-loop-value l = map whole_value l.numbers ≡ map view (take l.value-index l.items)

@@ -1,7 +1,0 @@
-use Rattle.std.proofs.Common.{◌≡◌, drop}
-use Rattle.serde_json.specs.View.{items_view}
-use Rattle.affc_cert.specs.Verdicts.{worse, all_of, any_number}
-use Rattle.affc_cert.proofs.judge.all_numbers.Given as goal
-
-abbrev pub invariant-loop-value : goal.invariant-loop-value
-invariant-loop-value l = worse l.worst (all_of (any_number) (items_view (drop l.value-index l.items))) ≡ all_of (any_number) (items_view l.items)

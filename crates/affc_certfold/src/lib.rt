@@ -1,0 +1,10 @@
+//! Folds as JSON values.
+#![tactic(auto)]
+
+pub mod build;
+pub mod draft;
+pub mod fits;
+pub mod fold;
+pub mod judge;
+pub mod layout;
+pub mod write;

@@ -1,0 +1,5 @@
+pub mod Proofs
+pub mod Values
+pub mod Verdicts
+pub mod Stacks
+pub mod Limits

@@ -1,0 +1,5 @@
+pub mod Values
+pub mod Trees
+pub mod Stacks
+pub mod Limits
+pub mod Within

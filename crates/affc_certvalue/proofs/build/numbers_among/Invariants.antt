@@ -1,0 +1,7 @@
+use Rattle.std.proofs.Common.{◌≡◌, map, take}
+use Rattle.serde_json.specs.View.{view}
+use Rattle.affc_certvalue.specs.Values.{whole_value}
+use Rattle.affc_certvalue.proofs.build.numbers_among.Given as goal
+
+abbrev pub invariant-loop-value : goal.invariant-loop-value
+invariant-loop-value l = map whole_value l.numbers ≡ map view (take l.value-index l.items)

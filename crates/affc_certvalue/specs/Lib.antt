@@ -1,0 +1,4 @@
+pub mod Values
+pub mod Verdicts
+pub mod Keys
+pub mod Limits
