@@ -1,6 +1,6 @@
 -- What is known of the nest of a program, as it is asked of the conditions of moduli.
 use Rattle.std.proofs.Common.{◌≡◌, ℕ, zero, suc, ◌+◌, ◌^◌, ◌≤◌, ◌<◌, ℤ, IsTrue, List, [], ◌∷◌, length, map, Some, sym, ap, subst, ◌∙◌, inl, inr, arith}
-use Rattle.std.specs.Prelude.{unsigned_abs, nat_le, nat_abs, int_le, ◌&&◌, slice_get}
+use Rattle.std.specs.Prelude.{nat_le, nat_abs, int_le, ◌&&◌, slice_get}
 use Rattle.std.specs.List.{All}
 use Rattle.std.proofs.lemmas.Bool.{leb-true}
 use Rattle.std.proofs.lemmas.Option.{none-some, same_Some, slice_get_within}
@@ -8,22 +8,19 @@ use Rattle.std.proofs.lemmas.List.{length-append}
 use Rattle.std.proofs.lemmas.List.Elements.{All-nil, All-cons}
 use Rattle.affc_system.specs.Pairs.{IsSubscript}
 use Rattle.affc_ast.specs.declared.tree.Decl.{Decl}
-use Rattle.affc_ast.specs.declared.tree.Ix.{Ix}
 use Rattle.affc_ast.specs.declared.tree.Program.{Program}
 use Rattle.affc_ast.specs.Meaning.{arrays_of}
 use Rattle.affc_trace.specs.Laws.{IsInContext}
-use Rattle.affc_domain.specs.Affine.{are_small, is_small, form_of}
+use Rattle.affc_domain.specs.Affine.{form_of}
 use Rattle.affc_domain.specs.Arrays.{declared_arrays}
-use Rattle.affc_domain.specs.Plain.{IsPlain, is_plain, all_plain, plain_range, plain_ranges, plain_decls}
+use Rattle.affc_domain.specs.Plain.{IsPlain, all_plain, plain_range, plain_ranges, plain_decls}
 use Rattle.affc_domain.specs.Ranges.{number_ranges}
-use Rattle.affc_domain.proofs.FormLemmas.{form_width}
 use Rattle.affc_domain.proofs.Lists.{both_true, from_append, from_map, length_map}
 use Rattle.affc_nest.specs.declared.nest.ArrayInfo.{ArrayInfo}
 use Rattle.affc_nest.specs.Nests.{array_of, nest_of}
 use Rattle.affc_nest.proofs.AccessLemmas.{context_is_the_context}
-use Rattle.affc_nest.proofs.SmallLemmas.{constant_small}
-use Rattle.affc_nest.proofs.WidenLemmas.{plain_small}
 use Rattle.affc_conflicts.specs.Conditions.{InContext, IsNear}
+use Rattle.affc_life.proofs.SubscriptLemmas.{subscript_in}
 
 -- ---- Parameters
 
@@ -43,30 +40,6 @@ from_context program plain p h = (context_is_the_context program p plain).1 (h.i
 
 -- ---- Extents
 
-small_all : (cs : List ℤ) → IsTrue (are_small cs) → All (λ c. unsigned_abs c ≤ 65536) cs
-small_all [] h = All-nil (λ c. unsigned_abs c ≤ 65536)
-small_all (c ∷ cs) h =
-    let a = both_true (nat_le (nat_abs c) 65536) (are_small cs) h in
-    All-cons (λ c. unsigned_abs c ≤ 65536) c cs (leb-true (nat_abs c) 65536 a.0) (small_all cs a.1)
-
-plain_form : (n : ℕ) (e : Ix) → IsTrue (is_plain n e) → IsSubscript n (form_of n 0 e)
-plain_form n e h =
-    let s : IsTrue (is_small (form_of n 0 e)) = plain_small n 0 e h in
-    record {
-      width = form_width n 0 e ∙ none n;
-      coefs_fit = small_all (form_of n 0 e).coefs (both_true (nat_le (nat_abs (form_of n 0 e).constant) 16777216) (are_small (form_of n 0 e).coefs) s).1;
-      constant_fits = constant_small (form_of n 0 e) s;
-    }
-  where
-    none : (n : ℕ) → n + 0 ≡ n
-    none n = omega arith
-
-plain_forms : (n : ℕ) (es : List Ix) → IsTrue (all_plain n es) → All (IsSubscript n) (map (form_of n 0) es)
-plain_forms n [] h = All-nil (IsSubscript n)
-plain_forms n (e ∷ es) h =
-    let a = both_true (is_plain n e) (all_plain n es) h in
-    All-cons (IsSubscript n) (form_of n 0 e) (map (form_of n 0) es) (plain_form n e a.0) (plain_forms n es a.1)
-
 -- at most four extents, each a form over the parameters
 pub record HasForms (parameters : ℕ) (info : ArrayInfo) : Type 0 where
   pub few : length info.extents ≤ 4
@@ -78,7 +51,7 @@ forms_of_decl n (x ∷ ds) zero d h e =
     let a = both_true (nat_le (length x.extents) 4) (all_plain n x.extents && plain_decls n ds) h in
     let b = both_true (all_plain n x.extents) (plain_decls n ds) a.1 in
     subst (λ (y : Decl). HasForms n (array_of n y)) (same_Some x d e)
-    (record { few = subst (λ m. m ≤ 4) (sym (length_map (form_of n 0) x.extents)) (leb-true (length x.extents) 4 a.0); forms = plain_forms n x.extents b.0 })
+    (record { few = subst (λ m. m ≤ 4) (sym (length_map (form_of n 0) x.extents)) (leb-true (length x.extents) 4 a.0); forms = subscript_in n x.extents b.0 })
 forms_of_decl n (x ∷ ds) (suc k) d h e =
     let a = both_true (nat_le (length x.extents) 4) (all_plain n x.extents && plain_decls n ds) h in
     let b = both_true (all_plain n x.extents) (plain_decls n ds) a.1 in

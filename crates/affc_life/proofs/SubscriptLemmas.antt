@@ -55,7 +55,7 @@ plain_subscript n e h =
     none : (n : ℕ) → n + 0 ≡ n
     none n = omega arith
 
-subscript_in : (n : ℕ) (es : List Ix) → IsTrue (all_plain n es) → All (IsSubscript n) (map (form_of n 0) es)
+pub subscript_in : (n : ℕ) (es : List Ix) → IsTrue (all_plain n es) → All (IsSubscript n) (map (form_of n 0) es)
 subscript_in n [] h = All-nil (IsSubscript n)
 subscript_in n (e ∷ es) h =
     let a = both_true (is_plain n e) (all_plain n es) h in

@@ -13,6 +13,7 @@ use Rattle.affc_domain.proofs.Lists.{to_mapped, length_map}
 use Rattle.affc_nest.specs.declared.nest.Access.{Access}
 use Rattle.affc_nest.specs.declared.nest.Entry.{Entry}
 use Rattle.affc_nest.specs.declared.nest.Nest.{Nest}
+use Rattle.affc_sched.specs.Answered.{Each}
 use Rattle.affc_quast.specs.Leaves.{leaves_of}
 use Rattle.affc_quast.specs.Sources.{loads_in, loads_before, tree_of}
 use Rattle.affc_quast.specs.Trees.{Tree}
@@ -28,6 +29,21 @@ none_more xs more e = sym (append_nil xs) ∙ ap (λ ys. xs ++ ys) (sym e)
 pub next_made : {A B : Type 0} (F : A → List B) (xs rest : List A) (x : A) (old first new : List B) → xs ≡ x ∷ rest → first ≡ old ++ F x → new ≡ first ++ flat_map F rest → new ≡ old ++ flat_map F xs
 next_made F xs rest x old first new i d e =
     e ∙ ap (λ s. s ++ flat_map F rest) d ∙ append_assoc old (F x) (flat_map F rest) ∙ ap (λ ys. old ++ flat_map F ys) (sym i)
+
+-- what is known of each is known of each of a part
+front_of : {A : Type 0} (P : A → Type 0) (xs ys : List A) → Each P (xs ++ ys) → Each P xs
+front_of P [] ys h = tt
+front_of P (x ∷ xs) ys h = (h.0, front_of P xs ys h.1)
+
+back_of : {A : Type 0} (P : A → Type 0) (xs ys : List A) → Each P (xs ++ ys) → Each P ys
+back_of P [] ys h = h
+back_of P (x ∷ xs) ys h = back_of P xs ys h.1
+
+pub each_front : {A : Type 0} (P : A → Type 0) (xs ys zs : List A) → zs ≡ xs ++ ys → Each P zs → Each P xs
+each_front P xs ys zs e h = front_of P xs ys (subst (Each P) e h)
+
+pub each_back : {A : Type 0} (P : A → Type 0) (xs ys zs : List A) → zs ≡ xs ++ ys → Each P zs → Each P ys
+each_back P xs ys zs e h = back_of P xs ys (subst (Each P) e h)
 
 -- ---- Orders
 

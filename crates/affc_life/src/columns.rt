@@ -10,7 +10,7 @@ use affc_rows::Form;
 use std::alloc::{AllocError, Global};
 
 /// Adds forms, each with as many zeros behind as make so many columns.
-pub(crate) fn add_padded(
+pub fn add_padded(
     alloc: Global,
     columns: u32,
     forms: &[Form],
@@ -32,7 +32,7 @@ pub(crate) fn add_padded(
 
 /// So many columns from one on, each as a form.
 #[tactic(auto, using(affc_order::proofs::CodeLemmas::one_column_more))]
-pub(crate) fn columns_from(
+pub fn columns_from(
     alloc: Global,
     columns: u32,
     first: u32,

@@ -1,7 +1,7 @@
 //! Elements of an array that are live together, as integer systems.
 #![tactic(auto)]
 
-mod columns;
+pub mod columns;
 mod draft;
 mod drafts;
 pub mod examples;
@@ -10,10 +10,10 @@ pub mod laws;
 mod orders;
 mod ranges;
 mod rows;
-mod stores;
-mod systems;
-mod times;
-mod walk;
+pub mod stores;
+pub mod systems;
+pub mod times;
+pub mod walk;
 
 pub use fault::ClashFault;
 pub use walk::clashes;

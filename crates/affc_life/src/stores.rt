@@ -24,7 +24,7 @@ use sqlite_items::Items;
 use std::alloc::{AllocError, Global};
 
 /// The number of parameters.
-pub(crate) fn params_in(nest: &Nest) -> u32
+pub fn params_in(nest: &Nest) -> u32
     requires { length nest.now.params ≤ 4 }
     ensures { result ≡ length nest.now.params }
 {
@@ -32,7 +32,7 @@ pub(crate) fn params_in(nest: &Nest) -> u32
 }
 
 /// The number of loops round a statement.
-pub(crate) fn loops_round(entry: &Entry) -> u32
+pub fn loops_round(entry: &Entry) -> u32
     requires { length entry.now.loops ≤ 6 }
     ensures { result ≡ length entry.now.loops }
 {
@@ -60,7 +60,7 @@ fn own_rows<'a>(nest: &Nest, entry: &'a Entry) -> &'a [Form]
 }
 
 /// The rows of the reader's domain, of the leaf, and of the writer's domain.
-fn front_rows(
+pub fn front_rows(
     alloc: Global,
     nest: &Nest,
     reader: &Entry,
@@ -82,7 +82,7 @@ fn front_rows(
 }
 
 /// The subscripts of the element that is loaded.
-fn loaded(
+pub fn loaded(
     alloc: Global,
     nest: &Nest,
     reader: &Entry,
@@ -101,7 +101,7 @@ fn loaded(
 }
 
 /// The subscripts of the element that is stored.
-fn stored(
+pub fn stored(
     alloc: Global,
     nest: &Nest,
     reader: &Entry,
@@ -121,7 +121,7 @@ fn stored(
 }
 
 /// The rows that say that the schedule runs the store after the instance that the leaf names.
-fn stored_after(
+pub fn stored_after(
     alloc: Global,
     nest: &Nest,
     schedule: &Schedule,
@@ -154,7 +154,7 @@ fn stored_after(
 }
 
 /// The rows that say that the schedule runs the store before the load.
-fn stored_before(
+pub fn stored_before(
     alloc: Global,
     nest: &Nest,
     schedule: &Schedule,

@@ -46,7 +46,7 @@ fn add_limited(system: &mut System, rows: &[Form]) -> Result<(), ClashFault>
 }
 
 /// The system with these rows, if they keep the limits.
-fn system_of(alloc: Global, columns: u32, rows: &[Form]) -> Result<System, ClashFault>
+pub fn system_of(alloc: Global, columns: u32, rows: &[Form]) -> Result<System, ClashFault>
     requires { HaveColumns columns rows.now }
     ensures ok { IfOk result (λ s. s ≡ record { columns = columns; rows = rows.now }) }
     ensures fits { IfOk result (λ s. ¬ (IsLarge s)) }
@@ -62,7 +62,7 @@ fn system_of(alloc: Global, columns: u32, rows: &[Form]) -> Result<System, Clash
 }
 
 /// Adds copies of forms.
-pub(crate) fn add_forms(forms: &[Form], out: &mut Vec<Form>) -> Result<(), AllocError>
+pub fn add_forms(forms: &[Form], out: &mut Vec<Form>) -> Result<(), AllocError>
     ensures { OnOk result (out.new.items ≡ out.old.items ++ forms.now) }
 {
     match forms {
@@ -105,7 +105,21 @@ fn pair_of(alloc: Global, draft: &Draft) -> Result<PairSystem, ClashFault>
     })
 }
 
-/// Adds the pair systems of drafts, if all keep the limits.
+/// Adds the pair system of a draft, if it keeps the limits.
+fn add_pair(alloc: Global, draft: &Draft, out: &mut Vec<PairSystem>) -> Result<(), ClashFault>
+    requires { IsDraft draft.now }
+    ensures ok { OnOk result (map clash_of out.new.items ≡ map clash_of out.old.items ++ drafted draft.now ∷ []) }
+    ensures fits { OnOk result (¬ (IsLarge (drafted draft.now).system)) }
+    ensures large { IfErr result (λ e. e ≡ ClashFault.Large → IsLarge (drafted draft.now).system) }
+{
+    let pair = pair_of(alloc, draft)?;
+    let Ok(()) = out.push(pair) else {
+        return Err(ClashFault::Memory);
+    };
+    Ok(())
+}
+
+/// Adds the pair systems of drafts, if all keep the limits. The recursion is into halves, since there may be many.
 pub(crate) fn add_pairs(
     alloc: Global,
     drafts: &[Draft],
@@ -118,12 +132,11 @@ pub(crate) fn add_pairs(
 {
     match drafts {
         [] => Ok(()),
-        [draft, rest @ ..] => {
-            let pair = pair_of(alloc, draft)?;
-            let Ok(()) = out.push(pair) else {
-                return Err(ClashFault::Memory);
-            };
-            add_pairs(alloc, rest, out)
+        [draft] => add_pair(alloc, draft, out),
+        _ => {
+            let (first, others) = drafts.split_at(drafts.len() / 2);
+            add_pairs(alloc, first, out)?;
+            add_pairs(alloc, others, out)
         }
     }
 }

@@ -172,7 +172,7 @@ fn add_time_order(
 }
 
 /// The rows that say that the schedule runs the first instance before the second.
-pub(crate) fn target_order(
+pub fn target_order(
     alloc: Global,
     nest: &Nest,
     schedule: &Schedule,

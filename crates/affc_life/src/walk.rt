@@ -121,7 +121,7 @@ fn add_leaf(
     }
 }
 
-/// Adds the systems of a load and these leaves.
+/// Adds the systems of a load and these leaves. The recursion is into halves, since there may be many.
 fn add_leaves(
     alloc: Global,
     asked: &Asked<'_>,
@@ -138,9 +138,14 @@ fn add_leaves(
 {
     match leaves {
         [] => Ok(()),
-        [leaf, rest @ ..] => {
+        [leaf] => {
             add_leaf(alloc, asked, reader, load, leaf, out)?;
-            add_leaves(alloc, asked, reader, load, rest, out)?;
+            Ok(())
+        }
+        _ => {
+            let (first, others) = leaves.split_at(leaves.len() / 2);
+            add_leaves(alloc, asked, reader, load, first, out)?;
+            add_leaves(alloc, asked, reader, load, others, out)?;
             Ok(())
         }
     }
@@ -226,7 +231,7 @@ fn add_loads(
 }
 
 /// The trees of the loads of a statement and of those behind it.
-fn trees_from<'a>(entries: &[Entry], statement: u32, trees: &'a [Quast]) -> &'a [Quast]
+pub fn trees_from<'a>(entries: &[Entry], statement: u32, trees: &'a [Quast]) -> &'a [Quast]
     ensures { map seen result.now ≡ drop (loads_before entries.now statement) (map seen trees.now) }
 {
     match entries {

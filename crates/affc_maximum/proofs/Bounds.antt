@@ -1,8 +1,7 @@
 -- Bounds of forms over regions.
-use Rattle.std.proofs.Common.{◌≡◌, ◌⊎◌, inl, inr, ℕ, zero, suc, ◌+◌, ◌<◌, ◌≤◌, ◌^◌, List, [], ◌∷◌, ◌++◌, length, ℤ, pos, negsuc, ◌+ℤ◌, ◌-ℤ◌, ◌≤ℤ◌, ◌<ℤ◌, refl, sym, ap, subst, ◌∙◌, arith, Vec, Global}
-use Rattle.std.specs.Prelude.{unsigned_abs, slice_get, get_or, Option, Some, None, IfSome}
+use Rattle.std.proofs.Common.{◌≡◌, ◌⊎◌, inl, inr, ◌≤◌, ◌^◌, List, [], ◌∷◌, ◌++◌, ℤ, pos, negsuc, ◌+ℤ◌, ◌-ℤ◌, ◌≤ℤ◌, ◌<ℤ◌, refl, sym, ap, subst, ◌∙◌, arith, Vec, Global}
+use Rattle.std.specs.Prelude.{unsigned_abs, Option, Some, None}
 use Rattle.std.proofs.lemmas.Int.{ints}
-use Rattle.std.proofs.lemmas.Option.{same_Some, slice_get_within, slice_get_read}
 use Rattle.std.specs.List.{All}
 use Rattle.std.proofs.lemmas.List.Elements.{All-nil, All-cons, All-head}
 use Rattle.affc_rows.specs.Forms.{Affine, dot, value}
@@ -14,22 +13,17 @@ use Rattle.affc_split.specs.declared.search.Answer.{Answer}
 use Rattle.affc_split.specs.declared.search.Answer.TheVariants.{Empty, Point}
 use Rattle.affc_split.specs.Answers.{IfEmpty, IfPoint}
 use Rattle.affc_split.specs.Points.{IsLeastPoint}
-use Rattle.affc_maximum.specs.Regions.{InRegion, IsFirstReaching, IsBounded, IsAnswer, IsAskable, AreAskable, IsAnswerOf}
-use Rattle.affc_maximum.specs.Searches.{IsReached, IsSearch, AreBoundedBefore, AreSearched, IsFoundOf}
+use Rattle.affc_maximum.specs.Regions.{InRegion, IsFirstReaching, IsBounded, IsAnswer}
+use Rattle.affc_maximum.specs.Searches.{IsReached, IsSearch}
 use Rattle.affc_maximum.specs.declared.region.Region.{Region}
 use Rattle.affc_maximum.specs.declared.search.Best.{Best}
 use Rattle.affc_maximum.specs.declared.search.Search.{Search}
-use Rattle.affc_maximum.specs.declared.several.Found.{Found}
-use Rattle.affc_maximum.specs.declared.several.Sofar.{Sofar}
 
 up : (u v w : ℤ) → u ≤ℤ v → v ≤ℤ w → u ≤ℤ w
 up u v w h k = omega (arith, ints)
 
 below : (u v : ℤ) → u <ℤ v → u ≤ℤ v
 below u v h = omega (arith, ints)
-
-further : (u v w : ℤ) → u <ℤ v → v <ℤ w → u <ℤ w
-further u v w h k = omega (arith, ints)
 
 pub looser : (r : Region) (f : Affine) (a b : ℤ) → a ≤ℤ b → IsBounded r f a → IsBounded r f b
 looser r f a b h bounded z inside = up (value f z) a b (bounded z inside) h
@@ -102,67 +96,6 @@ none_reaches r f at s a p e i h z inside = elim (split_at (value f z) at) [
   | inr k ↦ k
 ]
 
--- ---- several
-
-pub none_before : (regions : List Region) (fs : List Affine) (v : ℤ) → AreBoundedBefore 0 regions fs v
-none_before regions fs v i r f h = absurd (omega arith)
-
-before_or_at : (j k : ℕ) → j < k + 1 → (j < k) ⊎ (j ≡ k)
-before_or_at zero zero h = inr refl
-before_or_at zero (suc k) h = inl (omega arith)
-before_or_at (suc j) zero h = absurd (omega arith)
-before_or_at (suc j) (suc k) h = elim (before_or_at j k (omega arith)) [ inl l ↦ inl (omega arith) | inr e ↦ inr (ap suc e) ]
-
-pub one_more : (n : ℕ) (regions : List Region) (fs : List Affine) (a b : ℤ) (r : Region) (f : Affine) → a ≤ℤ b → slice_get regions n ≡ Some r → slice_get fs n ≡ Some f
-    → AreBoundedBefore n regions fs a → IsBounded r f b → AreBoundedBefore (n + 1) regions fs b
-one_more n regions fs a b r f h at_r at_f before here i q g l at_q at_g = elim (before_or_at i n l) [
-  | inl m ↦ looser q g a b h (before i q g m at_q at_g)
-  | inr e ↦
-      let same_r : r ≡ q = same_Some r q (sym at_r ∙ ap (slice_get regions) (sym e) ∙ at_q) in
-      let same_f : f ≡ g = same_Some f g (sym at_f ∙ ap (slice_get fs) (sym e) ∙ at_g) in
-      subst (λ w. IsBounded q w b) same_f (subst (λ w. IsBounded w f b) same_r here)
-]
-
-floor_below_of : (regions : List Region) (fs : List Affine) (floor low : ℤ) (found : Option Found) → IsFoundOf regions fs floor low found → floor ≤ℤ low
-floor_below_of regions fs floor low None found = subst (λ v. floor ≤ℤ v) (sym found) (same floor)
-  where
-    same : (v : ℤ) → v ≤ℤ v
-    same v = omega (arith, ints)
-floor_below_of regions fs floor low (Some b) found = below floor low found.1
-
-strict : (a b c : ℤ) → a ≤ℤ b → b <ℤ c → a <ℤ c
-strict a b c h k = omega (arith, ints)
-
-pub found_more : (regions : List Region) (fs : List Affine) (floor low : ℤ) (found : Option Found) (n : ℕ) (r : Region) (f : Affine) (b : Found) → IsFoundOf regions fs floor low found → low <ℤ b.value
-    → b.number ≡ n → slice_get regions n ≡ Some r → slice_get fs n ≡ Some f → InRegion r b.point.items → value f b.point.items ≡ b.value → IsFoundOf regions fs floor b.value (Some b)
-found_more regions fs floor low found n r f b old h e at_r at_f inside attained = (
-  refl,
-  strict floor low b.value (floor_below_of regions fs floor low found old) h,
-  record {
-    region = r;
-    form = f;
-    region_there = ap (slice_get regions) e ∙ at_r;
-    form_there = ap (slice_get fs) e ∙ at_f;
-    inside = inside;
-    attained = attained;
-  },
-)
-
-pub found_all : (n : ℕ) (regions : List Region) (fs : List Affine) (floor low : ℤ) (found : Option Found) → length regions ≤ n → IsFoundOf regions fs floor low found → AreBoundedBefore n regions fs low
-    → IsAnswerOf regions fs floor found
-found_all n regions fs floor low None h found bounded = λ i r f at at_f. subst (IsBounded r f) found (bounded i r f (within_all i n regions r h at) at at_f)
-  where
-    within_all : (i n : ℕ) (regions : List Region) (r : Region) → length regions ≤ n → slice_get regions i ≡ Some r → i < n
-    within_all i n regions r h at = let k = slice_get_within regions i r at in omega arith
-found_all n regions fs floor low (Some b) h found bounded = (
-  subst (λ v. floor <ℤ v) (sym found.0) found.1,
-  (λ i r f at at_f. subst (IsBounded r f) (sym found.0) (bounded i r f (within_all i n regions r h at) at at_f)),
-  found.2,
-)
-  where
-    within_all : (i n : ℕ) (regions : List Region) (r : Region) → length regions ≤ n → slice_get regions i ≡ Some r → i < n
-    within_all i n regions r h at = let k = slice_get_within regions i r at in omega arith
-
 -- ---- steps of a search
 
 near_between : (low v high : ℤ) → unsigned_abs low ≤ 2 ^ 55 → unsigned_abs high ≤ 2 ^ 55 → low ≤ℤ v → v ≤ℤ high → unsigned_abs v ≤ 2 ^ 55
@@ -202,38 +135,3 @@ raised_search r f s at v point h above inside reaches e =
   where
     same : (v : ℤ) → v ≤ℤ v
     same v = omega (arith, ints)
-
--- ---- the form of one of several
-
-pub askable_at : (regions : List Region) (fs : List Affine) (ceiling : ℤ) (i : ℕ) (r : Region) (f : Affine) → AreAskable regions fs ceiling → i < length regions → length fs ≡ length regions
-    → r ≡ get_or regions i r → f ≡ get_or fs i f → IsAskable r f ceiling
-askable_at regions fs ceiling i r f ready h e a b = ready i r f (slice_get_read regions (length regions) i r refl h a) (slice_get_read fs (length regions) i f (sym e) h b)
-
-pub kept_none : (n : ℕ) (regions : List Region) (fs : List Affine) (s : Sofar) (r : Region) (f : Affine) → n < length regions → length fs ≡ length regions → AreSearched n regions fs s
-    → r ≡ get_or regions n r → f ≡ get_or fs n f → IsAnswer r f s.low None → AreSearched (n + 1) regions fs s
-kept_none n regions fs s r f h e old a b answer = record {
-  found = old.found;
-  bounded = one_more n regions fs s.low s.low r f (same s.low) (slice_get_read regions (length regions) n r refl h a) (slice_get_read fs (length regions) n f (sym e) h b) old.bounded answer;
-  floor_near = old.floor_near;
-  low_near = old.low_near;
-}
-  where
-    same : (v : ℤ) → v ≤ℤ v
-    same v = omega (arith, ints)
-
-pub kept_some : (n : ℕ) (regions : List Region) (fs : List Affine) (s : Sofar) (r : Region) (f : Affine) (best : Best) → n < length regions → length fs ≡ length regions → AreSearched n regions fs s
-    → r ≡ get_or regions n r → f ≡ get_or fs n f → IsAnswer r f s.low (Some best) → unsigned_abs best.value ≤ 2 ^ 55
-    → AreSearched (n + 1) regions fs (record { floor = s.floor; low = best.value; found = Some (record { number = n; value = best.value; point = best.point }) })
-kept_some n regions fs s r f best h e old a b answer near =
-    let at_r = slice_get_read regions (length regions) n r refl h a in
-    let at_f = slice_get_read fs (length regions) n f (sym e) h b in
-    record {
-      found = found_more regions fs s.floor s.low s.found n r f (record { number = n; value = best.value; point = best.point }) old.found answer.0 refl at_r at_f answer.1.inside answer.1.attained;
-      bounded = one_more n regions fs s.low best.value r f (below s.low best.value answer.0) at_r at_f old.bounded answer.1.bounded;
-      floor_near = old.floor_near;
-      low_near = near;
-    }
-
-pub found_near : (regions : List Region) (fs : List Affine) (floor low : ℤ) (found : Option Found) → IsFoundOf regions fs floor low found → unsigned_abs low ≤ 2 ^ 55 → IfSome found (λ f. unsigned_abs f.value ≤ 2 ^ 55)
-found_near regions fs floor low None h k = tt
-found_near regions fs floor low (Some b) h k = subst (λ v. unsigned_abs v ≤ 2 ^ 55) (sym h.0) k

@@ -7,7 +7,6 @@ use Rattle.affc_system.specs.Boxes.{InBox}
 use Rattle.affc_system.specs.Order.{LexLe}
 use Rattle.affc_maximum.specs.declared.region.Region.{Region}
 use Rattle.affc_maximum.specs.declared.search.Best.{Best}
-use Rattle.affc_maximum.specs.declared.several.Found.{Found}
 
 -- an integer point of the region
 pub record InRegion (region : Region) (z : List ℤ) : Type 0 where
@@ -55,17 +54,3 @@ AreAskable regions forms ceiling = (i : ℕ) (r : Region) (f : Affine) → slice
 -- no form is anywhere in its region greater
 abbrev pub AreBounded : List Region → List Affine → (most : ℤ) → Type 0
 AreBounded regions forms most = (i : ℕ) (r : Region) (f : Affine) → slice_get regions i ≡ Some r → slice_get forms i ≡ Some f → IsBounded r f most
-
--- a form has the value at a point of its region
-pub record IsAttained (regions : List Region) (forms : List Affine) (found : Found) : Type 0 where
-  pub region : Region
-  pub form : Affine
-  pub region_there : slice_get regions found.number ≡ Some region
-  pub form_there : slice_get forms found.number ≡ Some form
-  pub inside : InRegion region found.point.items
-  pub attained : value form found.point.items ≡ found.value
-
--- the greatest value of all, where it is above the floor
-abbrev pub IsAnswerOf : List Region → List Affine → (floor : ℤ) → Option Found → Type 0
-IsAnswerOf regions forms floor None = AreBounded regions forms floor
-IsAnswerOf regions forms floor (Some b) = (floor <ℤ b.value) × AreBounded regions forms b.value × IsAttained regions forms b

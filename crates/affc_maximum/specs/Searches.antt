@@ -1,12 +1,10 @@
 -- What is known in the course of a search for a greatest value.
 use Rattle.std.specs.Prelude.{◌≡◌, ℕ, ◌^◌, ◌<◌, ◌≤◌, List, slice_get, ℤ, ◌<ℤ◌, unsigned_abs, Option, Some, None}
 use Rattle.affc_rows.specs.Forms.{Affine, value}
-use Rattle.affc_maximum.specs.Regions.{InRegion, IsBounded, IsAttained}
+use Rattle.affc_maximum.specs.Regions.{InRegion, IsBounded}
 use Rattle.affc_maximum.specs.declared.region.Region.{Region}
 use Rattle.affc_maximum.specs.declared.search.Best.{Best}
 use Rattle.affc_maximum.specs.declared.search.Search.{Search}
-use Rattle.affc_maximum.specs.declared.several.Found.{Found}
-use Rattle.affc_maximum.specs.declared.several.Sofar.{Sofar}
 
 -- what is reached so far: the floor, or a value above it that is attained
 abbrev pub IsReached : Region → Affine → (floor low : ℤ) → Option Best → Type 0
@@ -23,18 +21,6 @@ pub record IsSearch (region : Region) (form : Affine) (search : Search) : Type 0
 
 -- ---- Several regions
 
--- what is found so far
-abbrev pub IsFoundOf : List Region → List Affine → (floor low : ℤ) → Option Found → Type 0
-IsFoundOf regions forms floor low None = low ≡ floor
-IsFoundOf regions forms floor low (Some b) = (b.value ≡ low) × (floor <ℤ low) × IsAttained regions forms b
-
--- the first i of them
+-- no form of the first n is anywhere in its region greater
 abbrev pub AreBoundedBefore : ℕ → List Region → List Affine → (most : ℤ) → Type 0
 AreBoundedBefore n regions forms most = (i : ℕ) (r : Region) (f : Affine) → i < n → slice_get regions i ≡ Some r → slice_get forms i ≡ Some f → IsBounded r f most
-
--- what is known after the first n of them
-pub record AreSearched (n : ℕ) (regions : List Region) (forms : List Affine) (sofar : Sofar) : Type 0 where
-  pub found : IsFoundOf regions forms sofar.floor sofar.low sofar.found
-  pub bounded : AreBoundedBefore n regions forms sofar.low
-  pub floor_near : unsigned_abs sofar.floor ≤ 2 ^ 55
-  pub low_near : unsigned_abs sofar.low ≤ 2 ^ 55

@@ -7,4 +7,4 @@ pub mod several;
 
 pub use region::Region;
 pub use search::{Best, maximum, reaching};
-pub use several::{Found, maximum_of};
+pub use several::Found;

@@ -1,5 +1,5 @@
 -- The modulus of a row, from what it was made of.
-use Rattle.std.proofs.Common.{◌≡◌, ℕ, ◌+◌, ◌^◌, ◌≤◌, List, length, take, ℤ, pos, ◌+ℤ◌, refl, sym, ap, subst, ◌∙◌, arith, lit≤}
+use Rattle.std.proofs.Common.{◌≡◌, ℕ, ◌+◌, ◌^◌, ◌≤◌, List, length, take, replicate, ℤ, pos, ◌+ℤ◌, refl, sym, ap, subst, ◌∙◌, arith, lit≤}
 use Rattle.std.specs.Prelude.{unsigned_abs, slice_get, Option, Some, None}
 use Rattle.std.proofs.lemmas.Int.{ints}
 use Rattle.std.proofs.lemmas.List.{length-replicate}
@@ -19,7 +19,8 @@ use Rattle.affc_conflicts.specs.Conditions.{InContext}
 use Rattle.affc_basis.specs.Moduli.{IsModulus}
 use Rattle.affc_moduli.specs.Slices.{AreSlices}
 use Rattle.affc_moduli.specs.Distances.{AreApartWithin, HaveDimensions}
-use Rattle.affc_moduli.specs.Rows.{IsDone}
+use Rattle.affc_moduli.specs.Ended.{IsFar}
+use Rattle.affc_moduli.specs.Rows.{IsDone, IsKept}
 use Rattle.affc_moduli.proofs.Rows.{number, enough, least_none, least_some}
 
 number_limits : (parameters n : ℕ) → n ≤ 2 ^ 55 → IsModulus parameters (number parameters n)
@@ -62,3 +63,23 @@ module _ (context : Rows) (ranges : List (ℤ × ℤ)) (rows : List Affine) (k :
   done_some n i z s r far some small at there inside by m e f =
       made n (take context.columns z) (Some (values_of s.x.items z, values_of s.y.items z)) small far
       (least_some context ranges rows k row systems regions slices wide n i z (values_of s.x.items z) (values_of s.y.items z) s r far some at there inside by refl refl) m e f
+
+  -- 1 more than a number beyond which no elements lie, without a mark
+  pub kept_bound : (parameters : ℕ) (v : ℤ) → parameters ≡ context.columns → IsFar systems regions row.coefs v → (m : Modulus) → m.form ≡ record { coefs = replicate parameters (pos 0); constant = v +ℤ pos 1 } → m.mark ≡ Bound
+      → IsKept context ranges systems rows k row m
+  kept_bound parameters v at far m form mark =
+      let n = far.0 in
+      let small = far.2 in
+      let e : m.form ≡ number context.columns (n + 1) =
+      form ∙ ap (λ (q : ℕ). let f : Affine = record { coefs = replicate q (pos 0); constant = v +ℤ pos 1 } in f) at
+      ∙ ap (λ (w : ℤ). let f : Affine = record { coefs = replicate context.columns (pos 0); constant = w } in f) (sum_of v n far.1) in
+      record {
+        limits = subst (IsModulus context.columns) (sym e) (number_limits context.columns (n + 1) (omega (arith, small)));
+        enough = subst (λ b. IsEnough (InContext context ranges) (IsPairOf systems) rows k row b) (sym e) (enough context ranges rows k row systems regions slices wide n far.3);
+        mark = subst (λ q. IsTrueOf (InContext context ranges) (IsPairOf systems) rows k row m.form q) (sym mark) tt;
+        flat = λ _. ap (λ (f : Affine). f.coefs) e;
+      }
+
+-- a modulus with a mark
+pub kept_of : (context : Rows) (ranges : List (ℤ × ℤ)) (systems : List PairSystem) (rows : List Affine) (k : ℕ) (row : Affine) (m : Modulus) → IsDone context ranges systems rows k row m → IsKept context ranges systems rows k row m
+kept_of context ranges systems rows k row m done = record { limits = done.limits; enough = done.enough; mark = done.mark; flat = λ e. absurd (done.marked e) }

@@ -15,7 +15,7 @@ use Rattle.affc_basis.specs.Folds.{forms_of}
 use Rattle.affc_basis.proofs.Separation.{separated}
 use Rattle.affc_system.specs.ElementPairs.{IsPairAt, IsPairOf}
 use Rattle.affc_conflicts.specs.Conditions.{InContext, IsConflict}
-use Rattle.affc_moduli.specs.Rows.{AreDone}
+use Rattle.affc_moduli.specs.Rows.{AreKept}
 use Rattle.affc_moduli.proofs.Covers.{some_at, place_of}
 
 form_at : (ms : List Modulus) (k : ℕ) (b : Affine) → slice_get (forms_of ms) k ≡ Some b → (m : Modulus) × (slice_get ms k ≡ Some m) × (m.form ≡ b)
@@ -27,7 +27,7 @@ values_length : (fs : List Affine) (z : List ℤ) → length (values_of fs z) �
 values_length [] z = refl
 values_length (f ∷ fs) z = ap suc (values_length fs z)
 
-module _ (context : Rows) (ranges : List (ℤ × ℤ)) (rows extents : List Affine) (systems : List PairSystem) (ms : List Modulus) (done : AreDone context ranges systems rows ms) (one_each : length ms ≡ length rows) where
+module _ (context : Rows) (ranges : List (ℤ × ℤ)) (rows extents : List Affine) (systems : List PairSystem) (ms : List Modulus) (done : AreKept context ranges systems rows ms) (one_each : length ms ≡ length rows) where
   pub limits : All (IsModulus context.columns) (forms_of ms)
   limits = All-map (IsModulus context.columns) (λ (m : Modulus). m.form) ms (λ k d h.
       let row = some_at rows k (subst (λ n. k < n) one_each h) in
@@ -70,7 +70,7 @@ all_at P xs all i x e =
     get_back : {X : Type 0} (xs : List X) (i : ℕ) (x : X) → slice_get xs i ≡ Some x → get_or xs i x ≡ x
     get_back xs i x e = same_Some (get_or xs i x) x (sym (slice_get-get_or xs i x (slice_get_within xs i x e)) ∙ e)
 
-pub admissible : (context : Rows) (ranges : List (ℤ × ℤ)) (extents : List Affine) (basis : Basis) (systems : List PairSystem) (ms : List Modulus) → AreDone context ranges systems basis.rows ms → length ms ≡ length basis.rows
+pub admissible : (context : Rows) (ranges : List (ℤ × ℤ)) (extents : List Affine) (basis : Basis) (systems : List PairSystem) (ms : List Modulus) → AreKept context ranges systems basis.rows ms → length ms ≡ length basis.rows
     → All (IsConflict context ranges extents) systems → length extents ≡ length basis.rows → (p : List ℤ) → InContext context ranges p → Separates (IsPairOf systems p) p basis.rows (forms_of ms)
 admissible context ranges extents basis systems ms done one_each conflicts same p here =
     separated (IsPairOf systems p) p basis.rows (forms_of ms) (moduli_each context ranges basis.rows extents systems ms done one_each)

@@ -6,3 +6,4 @@ pub mod Ready
 pub mod Enough
 pub mod Shown
 pub mod Parallel
+pub mod Ended

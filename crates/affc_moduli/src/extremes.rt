@@ -5,9 +5,12 @@ ghost use Rattle.affc_split.specs.Budgets.{IsLater};
 ghost use Rattle.affc_maximum.specs.Regions.{InRegion, IsMeasure, IsBounded, IsAskable, AreAskable};
 ghost use Rattle.affc_maximum.specs.Searches.{AreBoundedBefore};
 ghost use Rattle.affc_moduli.specs.Distances.{AreForward, AreBackward, AreOver, IsFarthest};
+ghost use Rattle.affc_moduli.specs.Ended.{IsCeiling, IsReach, IsFoundOr};
 ghost use Rattle.affc_moduli.specs.Shown.{IsDistance, IsTie, IsSought};
 
-use crate::bounds::ceiling_of;
+use crate::bounds::{Bound, ceiling_of};
+use crate::ceilings::bound_of;
+use crate::distances::MOST_DISTANCE;
 use crate::witness::{is_before, key_of, settled};
 use affc_maximum::{Found, Region, maximum};
 use affc_rows::Form;
@@ -36,6 +39,13 @@ pub struct Sought {
 pub struct Shown {
     pub found: Option<Found>,
     pub turned: bool,
+}
+
+/// How far apart elements lie along a row: where they lie farthest apart, or a number beyond which they nowhere lie.
+#[derive(Drop)]
+pub enum Reach {
+    Farthest(Shown),
+    Within(Bound),
 }
 
 /// Whether the first numbers of one point come before those of another.
@@ -324,7 +334,31 @@ fn result_of(row: &Form, pairs: &[PairSystem], regions: &[Region], sought: Sough
     }
 }
 
-/// Where elements lie farthest apart along a row: at the least parameters, and there at the elements that come first.
+/// A bound of the regions that were asked.
+fn known_by(regions: &[Region], fs: &[Form], gs: &[Form], i: usize, sought: &Sought) -> Bound
+    requires natural { pos 0 ≤ℤ sought.now.level }
+    requires near { unsigned_abs sought.now.level ≤ 2 ^ 55 }
+    requires fs_ready { AreAskable regions.now fs.now (pos (2 ^ 53)) }
+    requires gs_ready { AreAskable regions.now gs.now (pos (2 ^ 53)) }
+    requires forward { AreBoundedBefore i regions.now fs.now sought.now.level }
+    requires backward { AreBoundedBefore i regions.now gs.now sought.now.level }
+    ensures { IsCeiling i regions.now fs.now gs.now result.most }
+{
+    let _regions = regions;
+    let _fs = fs;
+    let _gs = gs;
+    let _i = i;
+    if sought.level > MOST_DISTANCE {
+        Bound {
+            most: MOST_DISTANCE,
+        }
+    } else {
+        Bound { most: sought.level }
+    }
+}
+
+/// Where elements lie farthest apart along a row: at the least parameters, and there at the elements that come first. Where
+/// the budget ends first, a number beyond which they nowhere lie.
 pub fn farthest(
     alloc: Global,
     row: &Form,
@@ -334,7 +368,7 @@ pub fn farthest(
     gs: &[Form],
     parameters: usize,
     budget: &mut Budget,
-) -> Result<Shown, Stop>
+) -> Result<Reach, Stop>
     requires one_each { length regions.now ≡ length pairs.now }
     requires fs_each { length fs.now ≡ length pairs.now }
     requires gs_each { length gs.now ≡ length pairs.now }
@@ -343,15 +377,25 @@ pub fn farthest(
     requires over { AreOver pairs.now regions.now }
     requires fs_ready { AreAskable regions.now fs.now (pos (2 ^ 53)) }
     requires gs_ready { AreAskable regions.now gs.now (pos (2 ^ 53)) }
-    ensures farthest { IfOk result (λ s. IsFarthest pairs.now regions.now row.now.coefs s.found) }
+    ensures reach { IfOk result (λ r. IsReach pairs.now regions.now row.now.coefs r) }
+    ensures found { IfOk result (λ r. IsFoundOr budget.new r) }
     ensures later { IsLater budget.old budget.new }
-    ensures stop { IfErr result (λ e. e ≡ Stop.Budget → budget.new.limit ≡ Some budget.new.spent) }
+    ensures stop { IfErr result (λ e. e ≡ Stop.Memory) }
 {
     let mut sought = unsought(row, pairs, regions);
     for i in 0..regions.len() {
-        sought = both_ways(
+        let known = known_by(regions, fs, gs, i, &sought);
+        match both_ways(
             alloc, row, pairs, regions, fs, gs, i, sought, parameters, budget,
-        )?;
+        ) {
+            Ok(more) => sought = more,
+            Err(Stop::Budget) => {
+                let bound = bound_of(regions, fs, gs, i, known);
+                return Ok(Reach::Within(bound));
+            }
+            Err(Stop::Memory) => return Err(Stop::Memory),
+        }
     }
-    Ok(result_of(row, pairs, regions, sought))
+    let shown = result_of(row, pairs, regions, sought);
+    Ok(Reach::Farthest(shown))
 }

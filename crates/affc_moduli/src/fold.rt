@@ -1,5 +1,5 @@
 //! Successive moduli.
-ghost use Rattle.std.specs.Prelude.{◌≡◌, ℕ, ℤ, List, ◌<◌, ◌≤◌, IfOk, IfErr, Some, slice_get, length};
+ghost use Rattle.std.specs.Prelude.{◌≡◌, ℕ, ℤ, pos, List, ◌<◌, ◌≤◌, IfOk, IfErr, IfSome, IfNone, Some, slice_get, replicate, length};
 ghost use Rattle.std.specs.List.{All};
 ghost use Rattle.affc_rows.specs.Forms.{Affine};
 ghost use Rattle.affc_system.specs.Pairs.{IsSubscript};
@@ -11,7 +11,8 @@ ghost use Rattle.affc_system.specs.ElementPairs.{IsPairOf};
 ghost use Rattle.affc_conflicts.specs.Conditions.{InContext, IsNear, IsConflict};
 ghost use Rattle.affc_moduli.specs.Ready.{AreReady};
 ghost use Rattle.affc_moduli.specs.Slices.{AreSlices};
-ghost use Rattle.affc_moduli.specs.Rows.{AreDone};
+ghost use Rattle.affc_moduli.specs.Ended.{IsSpent};
+ghost use Rattle.affc_moduli.specs.Rows.{AreKept, AreMarkedOr};
 
 use crate::reduced::all_reduced;
 use crate::row::row_done;
@@ -24,23 +25,26 @@ use affc_system::{BoxOf, PairSystem, System};
 use sqlite_items::Items;
 use std::alloc::Global;
 
-/// A point of the context.
+/// A point of the context, if the budget lasts.
 fn context_point(
     alloc: Global,
     context: &System,
     ranges: &BoxOf,
     budget: &mut Budget,
-) -> Result<Vec<i64>, Stop>
+) -> Result<Option<Vec<i64>>, Stop>
     requires parameters { length ranges.now ≡ context.now.columns }
     requires near { All IsNear ranges.now }
     requires some { (p : List ℤ) × InContext context.now ranges.now p }
-    ensures point { IfOk result (λ p. InContext context.now ranges.now p.items) }
+    ensures point { IfOk result (λ o. IfSome o (λ p. InContext context.now ranges.now p.items)) }
+    ensures none { IfOk result (λ o. IfNone o (IsSpent budget.new)) }
     ensures later { IsLater budget.old budget.new }
-    ensures stop { IfErr result (λ e. e ≡ Stop.Budget → budget.new.limit ≡ Some budget.new.spent) }
+    ensures stop { IfErr result (λ e. e ≡ Stop.Memory) }
 {
-    match decide(alloc, context, ranges, budget)? {
-        Answer::Point(point) => Ok(point),
-        Answer::Empty(_proof) => unreachable!(),
+    match decide(alloc, context, ranges, budget) {
+        Ok(Answer::Point(point)) => Ok(Some(point)),
+        Ok(Answer::Empty(_proof)) => unreachable!(),
+        Err(Stop::Budget) => Ok(None),
+        Err(Stop::Memory) => Err(Stop::Memory),
     }
 }
 
@@ -53,16 +57,18 @@ fn all_rows(
     ranges: &BoxOf,
     rows: &[Form],
     first: Vec<Region>,
-    some: &[i64],
+    some: &Option<Vec<i64>>,
     budget: &mut Budget,
 ) -> Result<Items<Modulus>, Stop>
     requires ready { AreReady context.now ranges.now extents.now rows.now pairs.now }
     requires slices { AreSlices context.now ranges.now rows.now 0 pairs.now first.items }
-    requires some { InContext context.now ranges.now some.now }
+    requires some { IfSome some.now (λ p. InContext context.now ranges.now p.items) }
+    requires none { IfNone some.now (IsSpent budget.old) }
     ensures one_each { IfOk result (λ ms. length ms ≡ length rows.now) }
-    ensures done { IfOk result (λ ms. AreDone context.now ranges.now pairs.now rows.now ms) }
+    ensures kept { IfOk result (λ ms. AreKept context.now ranges.now pairs.now rows.now ms) }
+    ensures bound { IfOk result (λ ms. AreMarkedOr budget.new ms) }
     ensures later { IsLater budget.old budget.new }
-    ensures stop { IfErr result (λ e. e ≡ Stop.Budget → budget.new.limit ≡ Some budget.new.spent) }
+    ensures stop { IfErr result (λ e. e ≡ Stop.Memory) }
 {
     let mut regions = first;
     let mut made = Items::new(alloc);
@@ -91,7 +97,8 @@ fn all_rows(
     Ok(made)
 }
 
-/// A modulus for each row of the basis, so that the elements of each pair have different places.
+/// A modulus for each row of the basis, so that the elements of each pair have different places. Where the budget ends,
+/// the moduli that aren't found yet are bounds: constants that boxes and parallel rows show to be enough.
 pub fn moduli(
     alloc: Global,
     pairs: &[PairSystem],
@@ -117,9 +124,10 @@ pub fn moduli(
     ensures marks { IfOk result (λ ms. (k : ℕ) (row : Affine) (m : Modulus) → slice_get basis.now.rows k ≡ Some row → slice_get ms k ≡ Some m → IsTrueMark (InContext context.now ranges.now) (IsPairOf pairs.now) basis.now.rows k row m) }
 
     // The budget.
-    ensures bound { IfOk result (λ ms. (k : ℕ) (m : Modulus) → slice_get ms k ≡ Some m → m.mark ≡ Bound → budget.new.limit ≡ Some budget.new.spent) }
+    ensures bound { IfOk result (λ ms. (k : ℕ) (m : Modulus) → slice_get ms k ≡ Some m → m.mark ≡ Bound → IsSpent budget.new) }
+    ensures flat { IfOk result (λ ms. (k : ℕ) (m : Modulus) → slice_get ms k ≡ Some m → m.mark ≡ Bound → m.form.coefs ≡ replicate context.now.columns (pos 0)) }
     ensures later { IsLater budget.old budget.new }
-    ensures stop { IfErr result (λ e. e ≡ Stop.Budget → budget.new.limit ≡ Some budget.new.spent) }
+    ensures stop { IfErr result (λ e. e ≡ Stop.Memory) }
 {
     let Ok(regions) = copies(alloc, pairs) else {
         return Err(Stop::Memory);
@@ -127,14 +135,6 @@ pub fn moduli(
     let some = context_point(alloc, context, ranges, budget)?;
     let rows = basis.rows.as_slice();
     all_rows(
-        alloc,
-        pairs,
-        extents,
-        context,
-        ranges,
-        rows,
-        regions,
-        some.as_slice(),
-        budget,
+        alloc, pairs, extents, context, ranges, rows, regions, &some, budget,
     )
 }

@@ -2,6 +2,7 @@
 #![tactic(auto)]
 
 mod bounds;
+mod ceilings;
 mod constant;
 mod distances;
 mod enough;
@@ -14,4 +15,5 @@ mod row;
 mod slices;
 mod witness;
 
+pub use bounds::is_void;
 pub use fold::moduli;

@@ -1,5 +1,5 @@
 //! The modulus of one row.
-ghost use Rattle.std.specs.Prelude.{◌≡◌, ℕ, ℤ, List, ◌+◌, ◌^◌, ◌<◌, ◌≤◌, ◌≤ℤ◌, ◌+ℤ◌, unsigned_abs, pos, Some, None, slice_get, take, replicate, IfOk, IfErr, length};
+ghost use Rattle.std.specs.Prelude.{◌≡◌, ℕ, ℤ, List, ◌+◌, ◌^◌, ◌<◌, ◌≤◌, ◌≤ℤ◌, ◌+ℤ◌, unsigned_abs, pos, Some, None, slice_get, take, replicate, IfOk, IfErr, IfSome, IfNone, length};
 ghost use Rattle.std.specs.List.{All};
 ghost use Rattle.affc_rows.specs.Forms.{Affine, value, values_of};
 ghost use Rattle.affc_system.specs.Pairs.{IsSubscript};
@@ -7,13 +7,16 @@ ghost use Rattle.affc_split.specs.Budgets.{IsLater};
 ghost use Rattle.affc_conflicts.specs.Conditions.{InContext};
 ghost use Rattle.affc_moduli.specs.Slices.{AreSlices};
 ghost use Rattle.affc_moduli.specs.Distances.{AreApartWithin, AreForward, AreBackward, IsFarthest};
-ghost use Rattle.affc_moduli.specs.Rows.{IsDone};
+ghost use Rattle.affc_moduli.specs.Ended.{IsSpent, IsFar};
+ghost use Rattle.affc_moduli.specs.Rows.{IsDone, IsKept};
 ghost use Rattle.affc_moduli.specs.Ready.{AreReady};
 ghost use Rattle.affc_moduli.specs.Shown.{other_way, swapped};
 
+use crate::bounds::Bound;
+use crate::ceilings::bound_of;
 use crate::constant::{constant_of, number};
 use crate::distances::{backward, forward};
-use crate::extremes::farthest;
+use crate::extremes::{Reach, Shown, farthest};
 use crate::forms::{chosen, context_region};
 use crate::slices::all_narrowed;
 use affc_basis::{Mark, Modulus};
@@ -265,7 +268,7 @@ fn with_form(modulus: Modulus, form: Form) -> Modulus
     }
 }
 
-/// The modulus of a row, with the form that is chosen in place of a constant.
+/// The modulus of a row, with the form that is chosen in place of a constant while the budget lasts.
 fn formed(
     alloc: Global,
     pairs: &[PairSystem],
@@ -292,7 +295,7 @@ fn formed(
     requires flat { constant.form.coefs ≡ replicate context.now.columns (pos 0) }
     ensures done { IfOk result (λ m. IsDone context.now ranges.now pairs.now rows.now k row.now m) }
     ensures later { IsLater budget.old budget.new }
-    ensures stop { IfErr result (λ e. e ≡ Stop.Budget → budget.new.limit ≡ Some budget.new.spent) }
+    ensures stop { IfErr result (λ e. e ≡ Stop.Memory) }
 {
     let _pairs = pairs;
     let _rows = rows;
@@ -304,15 +307,60 @@ fn formed(
     let need = constant_of(&constant.form);
     let found = chosen(
         alloc, coefs, extents, &region, regions, fs, gs, need, budget,
-    )?;
+    );
     match found {
-        Some(form) => Ok(with_form(constant, form)),
-        None => Ok(constant),
+        Ok(Some(form)) => Ok(with_form(constant, form)),
+        Ok(None) => Ok(constant),
+        Err(Stop::Budget) => Ok(constant),
+        Err(Stop::Memory) => Err(Stop::Memory),
     }
 }
 
-/// The modulus of a row, and the slice of the next, from the forms of the distances.
-fn made(
+/// A modulus that is 1 more than a bound, without a mark.
+fn unmarked(alloc: Global, parameters: usize, bound: &Bound) -> Result<Modulus, AllocError>
+    requires { unsigned_abs bound.now.most ≤ 2 ^ 53 }
+    ensures form { IfOk result (λ m. m.form ≡ record { coefs = replicate parameters (pos 0); constant = bound.now.most +ℤ pos 1 }) }
+    ensures mark { IfOk result (λ m. m.mark ≡ Mark.Bound) }
+{
+    let form = number(alloc, parameters, bound.most + 1)?;
+    Ok(Modulus {
+        form,
+        mark: Mark::Bound,
+    })
+}
+
+/// The modulus of a row along which no elements lie farther apart than a bound says: 1 more, without a mark.
+fn bounded(
+    alloc: Global,
+    pairs: &[PairSystem],
+    extents: &[Form],
+    context: &System,
+    ranges: &BoxOf,
+    rows: &[Form],
+    k: usize,
+    regions: &[Region],
+    row: &Form,
+    bound: &Bound,
+) -> Result<Modulus, AllocError>
+    requires ready { AreReady context.now ranges.now extents.now rows.now pairs.now }
+    requires row { slice_get rows.now k ≡ Some row.now }
+    requires slices { AreSlices context.now ranges.now rows.now k pairs.now regions.now }
+    requires far { IsFar pairs.now regions.now row.now.coefs bound.now.most }
+    ensures { IfOk result (λ m. IsKept context.now ranges.now pairs.now rows.now k row.now m) }
+{
+    let _pairs = pairs;
+    let _extents = extents;
+    let _ranges = ranges;
+    let _rows = rows;
+    let _k = k;
+    let _regions = regions;
+    let _row = row;
+    let parameters = context.columns() as usize;
+    unmarked(alloc, parameters, bound)
+}
+
+/// The modulus of a row along which elements lie farthest apart where it is shown.
+fn marked(
     alloc: Global,
     pairs: &[PairSystem],
     extents: &[Form],
@@ -325,8 +373,9 @@ fn made(
     row: &Form,
     fs: &[Form],
     gs: &[Form],
+    shown: &Shown,
     budget: &mut Budget,
-) -> Result<(Modulus, Vec<Region>), Stop>
+) -> Result<Modulus, Stop>
     requires ready { AreReady context.now ranges.now extents.now rows.now pairs.now }
     requires row { slice_get rows.now k ≡ Some row.now }
     requires slices { AreSlices context.now ranges.now rows.now k pairs.now regions.now }
@@ -335,13 +384,11 @@ fn made(
     requires gs_each { length gs.now ≡ length pairs.now }
     requires fs { AreForward pairs.now row.now.coefs fs.now }
     requires gs { AreBackward pairs.now row.now.coefs gs.now }
-    ensures done { IfOk result (λ r. IsDone context.now ranges.now pairs.now rows.now k row.now r.0) }
-    ensures slices { IfOk result (λ r. AreSlices context.now ranges.now rows.now (k + 1) pairs.now r.1.items) }
+    requires farthest { IsFarthest pairs.now regions.now row.now.coefs shown.now.found }
+    ensures done { IfOk result (λ m. IsDone context.now ranges.now pairs.now rows.now k row.now m) }
     ensures later { IsLater budget.old budget.new }
-    ensures stop { IfErr result (λ e. e ≡ Stop.Budget → budget.new.limit ≡ Some budget.new.spent) }
+    ensures stop { IfErr result (λ e. e ≡ Stop.Memory) }
 {
-    let parameters = context.columns() as usize;
-    let shown = farthest(alloc, row, pairs, regions, fs, gs, parameters, budget)?;
     let Ok(modulus) = modulus_of(
         alloc,
         pairs,
@@ -358,8 +405,179 @@ fn made(
         return Err(Stop::Memory);
     };
     let constant = in_order(pairs, context, ranges, rows, k, row, modulus, shown.turned);
-    let modulus = formed(
+    formed(
         alloc, pairs, extents, context, ranges, rows, k, regions, row, fs, gs, constant, budget,
+    )
+}
+
+/// The modulus of a row for which no question is asked.
+fn unasked(
+    alloc: Global,
+    pairs: &[PairSystem],
+    extents: &[Form],
+    context: &System,
+    ranges: &BoxOf,
+    rows: &[Form],
+    k: usize,
+    regions: &[Region],
+    row: &Form,
+    fs: &[Form],
+    gs: &[Form],
+) -> Result<Modulus, AllocError>
+    requires ready { AreReady context.now ranges.now extents.now rows.now pairs.now }
+    requires row { slice_get rows.now k ≡ Some row.now }
+    requires slices { AreSlices context.now ranges.now rows.now k pairs.now regions.now }
+    requires fs_each { length fs.now ≡ length pairs.now }
+    requires gs_each { length gs.now ≡ length pairs.now }
+    requires fs { AreForward pairs.now row.now.coefs fs.now }
+    requires gs { AreBackward pairs.now row.now.coefs gs.now }
+    ensures { IfOk result (λ m. IsKept context.now ranges.now pairs.now rows.now k row.now m) }
+{
+    let bound = bound_of(regions, fs, gs, 0, Bound { most: 0 });
+    bounded(
+        alloc, pairs, extents, context, ranges, rows, k, regions, row, &bound,
+    )
+}
+
+/// The modulus of a row, by questions while the budget lasts.
+fn asked(
+    alloc: Global,
+    pairs: &[PairSystem],
+    extents: &[Form],
+    context: &System,
+    ranges: &BoxOf,
+    rows: &[Form],
+    k: usize,
+    regions: &[Region],
+    some: &[i64],
+    row: &Form,
+    fs: &[Form],
+    gs: &[Form],
+    budget: &mut Budget,
+) -> Result<Modulus, Stop>
+    requires ready { AreReady context.now ranges.now extents.now rows.now pairs.now }
+    requires row { slice_get rows.now k ≡ Some row.now }
+    requires slices { AreSlices context.now ranges.now rows.now k pairs.now regions.now }
+    requires some { InContext context.now ranges.now some.now }
+    requires fs_each { length fs.now ≡ length pairs.now }
+    requires gs_each { length gs.now ≡ length pairs.now }
+    requires fs { AreForward pairs.now row.now.coefs fs.now }
+    requires gs { AreBackward pairs.now row.now.coefs gs.now }
+    ensures kept { IfOk result (λ m. IsKept context.now ranges.now pairs.now rows.now k row.now m) }
+    ensures bound { IfOk result (λ m. m.mark ≡ Mark.Bound → IsSpent budget.new) }
+    ensures later { IsLater budget.old budget.new }
+    ensures stop { IfErr result (λ e. e ≡ Stop.Memory) }
+{
+    let parameters = context.columns() as usize;
+    match farthest(alloc, row, pairs, regions, fs, gs, parameters, budget)? {
+        Reach::Farthest(shown) => {
+            let modulus = marked(
+                alloc, pairs, extents, context, ranges, rows, k, regions, some, row, fs, gs,
+                &shown, budget,
+            )?;
+            Ok(modulus)
+        }
+        Reach::Within(bound) => {
+            let Ok(modulus) = bounded(
+                alloc, pairs, extents, context, ranges, rows, k, regions, row, &bound,
+            ) else {
+                return Err(Stop::Memory);
+            };
+            Ok(modulus)
+        }
+    }
+}
+
+/// The modulus of a row. Without a point of the context no question is asked.
+fn modulus_along(
+    alloc: Global,
+    pairs: &[PairSystem],
+    extents: &[Form],
+    context: &System,
+    ranges: &BoxOf,
+    rows: &[Form],
+    k: usize,
+    regions: &[Region],
+    some: &Option<Vec<i64>>,
+    row: &Form,
+    fs: &[Form],
+    gs: &[Form],
+    budget: &mut Budget,
+) -> Result<Modulus, Stop>
+    requires ready { AreReady context.now ranges.now extents.now rows.now pairs.now }
+    requires row { slice_get rows.now k ≡ Some row.now }
+    requires slices { AreSlices context.now ranges.now rows.now k pairs.now regions.now }
+    requires some { IfSome some.now (λ p. InContext context.now ranges.now p.items) }
+    requires none { IfNone some.now (IsSpent budget.old) }
+    requires fs_each { length fs.now ≡ length pairs.now }
+    requires gs_each { length gs.now ≡ length pairs.now }
+    requires fs { AreForward pairs.now row.now.coefs fs.now }
+    requires gs { AreBackward pairs.now row.now.coefs gs.now }
+    ensures kept { IfOk result (λ m. IsKept context.now ranges.now pairs.now rows.now k row.now m) }
+    ensures bound { IfOk result (λ m. m.mark ≡ Mark.Bound → IsSpent budget.new) }
+    ensures later { IsLater budget.old budget.new }
+    ensures stop { IfErr result (λ e. e ≡ Stop.Memory) }
+{
+    match some {
+        Some(p) => asked(
+            alloc,
+            pairs,
+            extents,
+            context,
+            ranges,
+            rows,
+            k,
+            regions,
+            p.as_slice(),
+            row,
+            fs,
+            gs,
+            budget,
+        ),
+        None => {
+            let Ok(modulus) = unasked(
+                alloc, pairs, extents, context, ranges, rows, k, regions, row, fs, gs,
+            ) else {
+                return Err(Stop::Memory);
+            };
+            Ok(modulus)
+        }
+    }
+}
+
+/// The modulus of a row, and the slice of the next, from the forms of the distances.
+fn made(
+    alloc: Global,
+    pairs: &[PairSystem],
+    extents: &[Form],
+    context: &System,
+    ranges: &BoxOf,
+    rows: &[Form],
+    k: usize,
+    regions: &[Region],
+    some: &Option<Vec<i64>>,
+    row: &Form,
+    fs: &[Form],
+    gs: &[Form],
+    budget: &mut Budget,
+) -> Result<(Modulus, Vec<Region>), Stop>
+    requires ready { AreReady context.now ranges.now extents.now rows.now pairs.now }
+    requires row { slice_get rows.now k ≡ Some row.now }
+    requires slices { AreSlices context.now ranges.now rows.now k pairs.now regions.now }
+    requires some { IfSome some.now (λ p. InContext context.now ranges.now p.items) }
+    requires none { IfNone some.now (IsSpent budget.old) }
+    requires fs_each { length fs.now ≡ length pairs.now }
+    requires gs_each { length gs.now ≡ length pairs.now }
+    requires fs { AreForward pairs.now row.now.coefs fs.now }
+    requires gs { AreBackward pairs.now row.now.coefs gs.now }
+    ensures kept { IfOk result (λ r. IsKept context.now ranges.now pairs.now rows.now k row.now r.0) }
+    ensures bound { IfOk result (λ r. r.0.mark ≡ Mark.Bound → IsSpent budget.new) }
+    ensures slices { IfOk result (λ r. AreSlices context.now ranges.now rows.now (k + 1) pairs.now r.1.items) }
+    ensures later { IsLater budget.old budget.new }
+    ensures stop { IfErr result (λ e. e ≡ Stop.Memory) }
+{
+    let modulus = modulus_along(
+        alloc, pairs, extents, context, ranges, rows, k, regions, some, row, fs, gs, budget,
     )?;
     let Ok(narrower) = all_narrowed(alloc, regions, fs, gs) else {
         return Err(Stop::Memory);
@@ -377,18 +595,20 @@ pub fn row_done(
     rows: &[Form],
     k: usize,
     regions: &[Region],
-    some: &[i64],
+    some: &Option<Vec<i64>>,
     row: &Form,
     budget: &mut Budget,
 ) -> Result<(Modulus, Vec<Region>), Stop>
     requires ready { AreReady context.now ranges.now extents.now rows.now pairs.now }
     requires row { slice_get rows.now k ≡ Some row.now }
     requires slices { AreSlices context.now ranges.now rows.now k pairs.now regions.now }
-    requires some { InContext context.now ranges.now some.now }
-    ensures done { IfOk result (λ r. IsDone context.now ranges.now pairs.now rows.now k row.now r.0) }
+    requires some { IfSome some.now (λ p. InContext context.now ranges.now p.items) }
+    requires none { IfNone some.now (IsSpent budget.old) }
+    ensures kept { IfOk result (λ r. IsKept context.now ranges.now pairs.now rows.now k row.now r.0) }
+    ensures bound { IfOk result (λ r. r.0.mark ≡ Mark.Bound → IsSpent budget.new) }
     ensures slices { IfOk result (λ r. AreSlices context.now ranges.now rows.now (k + 1) pairs.now r.1.items) }
     ensures later { IsLater budget.old budget.new }
-    ensures stop { IfErr result (λ e. e ≡ Stop.Budget → budget.new.limit ≡ Some budget.new.spent) }
+    ensures stop { IfErr result (λ e. e ≡ Stop.Memory) }
 {
     let coefs = row.coefs.as_slice();
     let Ok(fs) = forward(alloc, coefs, pairs) else {

@@ -223,7 +223,7 @@ fn either(
 }
 
 /// The point with the same parameters at which a form has its value too and the elements come first, where there is room to
-/// ask, or else the point that is known.
+/// ask and the budget lasts, or else the point that is known.
 pub fn settled(
     alloc: Global,
     system: &PairSystem,
@@ -243,7 +243,7 @@ pub fn settled(
     ensures later { IsLater budget.old budget.new }
     ensures stop { IfErr result (λ e. e ≡ Stop.Budget → budget.new.limit ≡ Some budget.new.spent) }
 {
-    let first = closer(
+    let first = match closer(
         alloc,
         system,
         region,
@@ -253,7 +253,11 @@ pub fn settled(
         known.as_slice(),
         parameters,
         budget,
-    )?;
+    ) {
+        Ok(first) => first,
+        Err(Stop::Budget) => None,
+        Err(Stop::Memory) => return Err(Stop::Memory),
+    };
     let point = either(region, form, number, first, known);
     Ok(point)
 }

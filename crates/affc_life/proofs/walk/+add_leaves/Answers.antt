@@ -1,13 +1,30 @@
-use Rattle.std.proofs.Common.{◌-◌, length, map, take, drop, ap}
+use Rattle.std.proofs.Common.{◌+◌, length, map, ap, ◌∙◌, arith}
+use Rattle.std.proofs.lemmas.List.{map-append}
 use Rattle.affc_quast.specs.SeenLeaves.{leaf_seen}
-use Rattle.affc_life.specs.Drafts.{drafted, clashes_of_leaf}
-use Rattle.affc_life.proofs.LimitLemmas.{first_and_rest}
-use Rattle.affc_life.proofs.WalkLemmas.{next_made}
+use Rattle.affc_life.specs.Asked.{IsPath}
+use Rattle.affc_life.proofs.WalkLemmas.{each_front, each_back}
 use Rattle.affc_life.proofs.walk.+add_leaves.Goals as goal
 
-pub returns-in_ok-add_leaves-in-len1-up : goal.returns-in_ok-add_leaves-in-len1-up
-returns-in_ok-add_leaves-in-len1-up t c =
-    let ls = c.args.leaves.now in
-    next_made (clashes_of_leaf c.args.asked.now.nest.now c.args.asked.now.schedule.now c.args.asked.now.array.0 c.args.reader.now c.args.load.now) (map leaf_seen ls) (map leaf_seen (take (length ls - 1) (drop 1 ls))) (leaf_seen c.leaf-item.result)
-    (map drafted c.args.out.now.items) (map drafted c.add_leaf.new.out.items) (map drafted c.add_leaves.new.out.items)
-    (ap (map leaf_seen) (first_and_rest ls c.leaf-item.result c.in-len1-up.len_at_least c.leaf-item.is)) c.in_ok-add_leaf-in-len1-up.ensures c.in_ok-add_leaves-in-len1-up.ensures
+pub add_leaves-requires : goal.add_leaves-requires
+add_leaves-requires t c =
+    let first = c.split_at.result.0.now in
+    let others = c.split_at.result.1.now in
+    let nest = c.args.asked.now.nest.now in
+    let f = c.split_at.ensures.front_len in
+    let g = c.split_at.ensures.back_len in
+    let l = c.in_default.len_at_least in (
+      omega (arith, f, g, l),
+      (c.requires.scheduled, (c.requires.reads, (c.requires.load, each_front (IsPath nest (length nest.params + length c.args.reader.now.loops)) (map leaf_seen first) (map leaf_seen others) (map leaf_seen c.args.leaves.now) (ap (map leaf_seen) c.split_at.ensures.by_index.0 ∙ map-append leaf_seen first others) c.requires.paths))),
+    )
+
+pub add_leaves-requires-in_default : goal.add_leaves-requires-in_default
+add_leaves-requires-in_default t c =
+    let first = c.split_at.result.0.now in
+    let others = c.split_at.result.1.now in
+    let nest = c.args.asked.now.nest.now in
+    let f = c.split_at.ensures.front_len in
+    let g = c.split_at.ensures.back_len in
+    let l = c.in_default.len_at_least in (
+      omega (arith, f, g, l),
+      (c.requires.scheduled, (c.requires.reads, (c.requires.load, each_back (IsPath nest (length nest.params + length c.args.reader.now.loops)) (map leaf_seen first) (map leaf_seen others) (map leaf_seen c.args.leaves.now) (ap (map leaf_seen) c.split_at.ensures.by_index.0 ∙ map-append leaf_seen first others) c.requires.paths))),
+    )

@@ -5,9 +5,10 @@ use Rattle.std.proofs.lemmas.Option.{slice_get_read}
 use Rattle.affc_maximum.proofs.Laters.{then_later}
 use Rattle.affc_moduli.specs.Slices.{AreSlices}
 use Rattle.affc_moduli.specs.Reduced.{AreReduced}
-use Rattle.affc_moduli.specs.Rows.{AreDone}
+use Rattle.affc_moduli.specs.Rows.{AreKept, AreMarkedOr}
 use Rattle.affc_moduli.proofs.OneRow.{slices_reduced}
-use Rattle.affc_moduli.proofs.Results.{done_more}
+use Rattle.affc_moduli.proofs.Results.{done_more, marked_more, marked_later}
+use Rattle.affc_moduli.proofs.Spent.{none_later}
 use Rattle.affc_moduli.proofs.fold.all_rows.Goals as goal
 
 pub row_done-requires-clause-row : goal.row_done-requires-clause-row
@@ -19,6 +20,9 @@ row_done-requires-clause-slices c =
     subst slices (sym c.as_slice-in-loop-k.ensures.value)
     (slices_reduced c.args.context.now c.args.ranges.now c.args.rows.now c.loop-k.k c.args.pairs.now c.loop-k.regions.items c.in-Ok.reduced.items c.loop-k.invariant.slices
     (subst (λ rs. AreReduced rs c.in-Ok.reduced.items) c.as_slice.ensures.value c.in-Ok.ensures))
+
+pub row_done-requires-clause-none : goal.row_done-requires-clause-none
+row_done-requires-clause-none c = none_later c.args.some.now c.args.budget.now c.loop-k.budget c.loop-k.invariant.later c.requires.none
 
 pub loop-k-preserved : goal.loop-k-preserved
 loop-k-preserved c =
@@ -34,8 +38,10 @@ loop-k-preserved c =
     let grown : length (made ++ m ∷ []) ≡ c.loop-k.k + 1 = let l = length-append made (m ∷ []) in omega arith in
     record {
       count = ap length e ∙ grown;
-      done = subst (λ ms. AreDone context ranges systems rows ms) (sym e)
-          (done_more context ranges systems rows made c.loop-k.k c.index-rows-k.result m count at c.in_ok-modulus.ensures.done c.loop-k.invariant.done);
+      kept = subst (λ ms. AreKept context ranges systems rows ms) (sym e)
+          (done_more context ranges systems rows made c.loop-k.k c.index-rows-k.result m count at c.in_ok-modulus.ensures.kept c.loop-k.invariant.kept);
+      bound = subst (AreMarkedOr c.row_done.new.budget) (sym e)
+          (marked_more c.row_done.new.budget made m c.in_ok-modulus.ensures.bound (marked_later c.loop-k.budget c.row_done.new.budget made c.row_done.ensures.later c.loop-k.invariant.bound));
       slices = c.in_ok-modulus.ensures.slices;
       later = then_later c.args.budget.now c.loop-k.budget c.row_done.new.budget c.loop-k.invariant.later c.row_done.ensures.later;
     }

@@ -2,7 +2,7 @@ use Rattle.std.proofs.Common.{◌≡◌, ◌<◌, length, subst}
 use Rattle.std.specs.Prelude.{IfOk}
 use Rattle.std.proofs.lemmas.Option.{slice_get_within}
 use Rattle.affc_conflicts.specs.Conditions.{IsConflict}
-use Rattle.affc_moduli.specs.Rows.{AreDone}
+use Rattle.affc_moduli.specs.Rows.{AreKept}
 use Rattle.affc_moduli.proofs.Covers.{some_at}
 use Rattle.affc_moduli.proofs.Narrowed.{begun}
 use Rattle.affc_moduli.proofs.Whole.{limits, obeys, admissible, all_at}
@@ -16,34 +16,34 @@ all_rows-requires-clause-slices c =
 
 pub returns-clause-limits : goal.returns-clause-limits
 returns-clause-limits c =
-    let done = subst (λ rs. IfOk c.all_rows.result (λ ms. AreDone c.args.context.now c.args.ranges.now c.args.pairs.now rs ms)) c.as_slice-rows.ensures c.all_rows.ensures.done in
+    let done = subst (λ rs. IfOk c.all_rows.result (λ ms. AreKept c.args.context.now c.args.ranges.now c.args.pairs.now rs ms)) c.as_slice-rows.ensures c.all_rows.ensures.kept in
     let each = subst (λ rs. IfOk c.all_rows.result (λ ms. length ms ≡ length rs)) c.as_slice-rows.ensures c.all_rows.ensures.one_each in
     both _ _ _ c.all_rows.result (λ ms d e. limits c.args.context.now c.args.ranges.now c.args.basis.now.rows c.args.extents.now c.args.pairs.now ms d e) done each
 
 pub returns-clause-obeys : goal.returns-clause-obeys
 returns-clause-obeys c =
-    let done = subst (λ rs. IfOk c.all_rows.result (λ ms. AreDone c.args.context.now c.args.ranges.now c.args.pairs.now rs ms)) c.as_slice-rows.ensures c.all_rows.ensures.done in
+    let done = subst (λ rs. IfOk c.all_rows.result (λ ms. AreKept c.args.context.now c.args.ranges.now c.args.pairs.now rs ms)) c.as_slice-rows.ensures c.all_rows.ensures.kept in
     let each = subst (λ rs. IfOk c.all_rows.result (λ ms. length ms ≡ length rs)) c.as_slice-rows.ensures c.all_rows.ensures.one_each in
     both _ _ _ c.all_rows.result (λ ms d e. λ p here. obeys c.args.context.now c.args.ranges.now c.args.basis.now.rows c.args.extents.now c.args.pairs.now ms d e p here) done each
 
 pub returns-clause-admissible : goal.returns-clause-admissible
 returns-clause-admissible c =
-    let done = subst (λ rs. IfOk c.all_rows.result (λ ms. AreDone c.args.context.now c.args.ranges.now c.args.pairs.now rs ms)) c.as_slice-rows.ensures c.all_rows.ensures.done in
+    let done = subst (λ rs. IfOk c.all_rows.result (λ ms. AreKept c.args.context.now c.args.ranges.now c.args.pairs.now rs ms)) c.as_slice-rows.ensures c.all_rows.ensures.kept in
     let each = subst (λ rs. IfOk c.all_rows.result (λ ms. length ms ≡ length rs)) c.as_slice-rows.ensures c.all_rows.ensures.one_each in
     both _ _ _ c.all_rows.result
     (λ ms d e. λ p here. admissible c.args.context.now c.args.ranges.now c.args.extents.now c.args.basis.now c.args.pairs.now ms d e c.requires.conflicts c.requires.dimensions p here) done each
 
 pub returns-clause-marks : goal.returns-clause-marks
 returns-clause-marks c =
-    let done = subst (λ rs. IfOk c.all_rows.result (λ ms. AreDone c.args.context.now c.args.ranges.now c.args.pairs.now rs ms)) c.as_slice-rows.ensures c.all_rows.ensures.done in
+    let done = subst (λ rs. IfOk c.all_rows.result (λ ms. AreKept c.args.context.now c.args.ranges.now c.args.pairs.now rs ms)) c.as_slice-rows.ensures c.all_rows.ensures.kept in
     both _ _ _ c.all_rows.result (λ ms d e. λ k row m a b. (d k row m a b).mark) done done
 
-pub returns-clause-bound : goal.returns-clause-bound
-returns-clause-bound c =
+pub returns-clause-flat : goal.returns-clause-flat
+returns-clause-flat c =
     let rows = c.args.basis.now.rows in
-    let done = subst (λ rs. IfOk c.all_rows.result (λ ms. AreDone c.args.context.now c.args.ranges.now c.args.pairs.now rs ms)) c.as_slice-rows.ensures c.all_rows.ensures.done in
+    let done = subst (λ rs. IfOk c.all_rows.result (λ ms. AreKept c.args.context.now c.args.ranges.now c.args.pairs.now rs ms)) c.as_slice-rows.ensures c.all_rows.ensures.kept in
     let each = subst (λ rs. IfOk c.all_rows.result (λ ms. length ms ≡ length rs)) c.as_slice-rows.ensures c.all_rows.ensures.one_each in
     both _ _ _ c.all_rows.result
     (λ ms d e. λ k m at is.
     let row = some_at rows k (subst (λ n. k < n) e (slice_get_within ms k m at)) in
-    absurd ((d k row.0 m row.1 at).marked is)) done each
+    (d k row.0 m row.1 at).flat is) done each

@@ -1,0 +1,15 @@
+use Rattle.std.proofs.Common.{subst}
+use Rattle.affc_moduli.specs.Ended.{IsReach, IsFoundOr}
+use Rattle.affc_moduli.specs.declared.extremes.Reach.{Reach}
+use Rattle.affc_moduli.proofs.Done.{kept_of}
+use Rattle.affc_moduli.proofs.Step.{over, ready_forward, ready_backward}
+use Rattle.affc_moduli.proofs.row.asked.Goals as goal
+
+pub farthest-requires-clause-over : goal.farthest-requires-clause-over
+farthest-requires-clause-over c = over c.args.context.now c.args.ranges.now c.args.extents.now c.args.rows.now c.args.pairs.now c.requires.ready c.args.k c.args.row.now c.requires.row c.args.regions.now c.requires.slices
+
+pub farthest-requires-clause-fs_ready : goal.farthest-requires-clause-fs_ready
+farthest-requires-clause-fs_ready c = ready_forward c.args.context.now c.args.ranges.now c.args.extents.now c.args.rows.now c.args.pairs.now c.requires.ready c.args.k c.args.row.now c.requires.row c.args.regions.now c.requires.slices c.args.fs.now c.requires.fs
+
+pub farthest-requires-clause-gs_ready : goal.farthest-requires-clause-gs_ready
+farthest-requires-clause-gs_ready c = ready_backward c.args.context.now c.args.ranges.now c.args.extents.now c.args.rows.now c.args.pairs.now c.requires.ready c.args.k c.args.row.now c.requires.row c.args.regions.now c.requires.slices c.args.gs.now c.requires.gs
