@@ -19,14 +19,6 @@ near_by : (u v w m : ℤ) → (w ≡ u) ⊎ (w ≡ v) → u ≤ℤ m → v ≤�
 near_by u v w m (inl e) h k = subst (λ x. x ≤ℤ m) (sym e) h
 near_by u v w m (inr e) h k = subst (λ x. x ≤ℤ m) (sym e) k
 
-pub no_ceiling : (regions : List Region) (fs gs : List Affine) → IsCeiling 0 regions fs gs (pos 0)
-no_ceiling regions fs gs = record {
-  natural = omega (arith, ints);
-  near = omega (arith, ints);
-  forward = λ i r f l at there. absurd (omega (arith, l));
-  backward = λ i r f l at there. absurd (omega (arith, l));
-}
-
 -- one region more, whose forms are bounded
 pub one_more : (i : ℕ) (regions : List Region) (fs gs : List Affine) (r : Region) (f g : Affine) → slice_get regions i ≡ Some r → slice_get fs i ≡ Some f → slice_get gs i ≡ Some g → (a b once c v : ℤ)
     → IsCeiling i regions fs gs a → IsBounded r f b → b ≤ℤ pos (2 ^ 53) → IsBounded r g c → c ≤ℤ pos (2 ^ 53) → a ≤ℤ once → b ≤ℤ once → (once ≡ a) ⊎ (once ≡ b) → once ≤ℤ v → c ≤ℤ v → (v ≡ once) ⊎ (v ≡ c) → IsCeiling (i + 1) regions fs gs v
@@ -38,15 +30,19 @@ one_more i regions fs gs r f g at there here a b once c v ceiling fb fnear gb gn
 }
 
 -- what is found so far bounds the regions that were asked, and no distance is above the greatest
-pub found_ceiling : (i : ℕ) (regions : List Region) (fs gs : List Affine) (v : ℤ) → pos 0 ≤ℤ v → v ≤ℤ pos (2 ^ 53) → AreBoundedBefore i regions fs v → AreBoundedBefore i regions gs v → IsCeiling i regions fs gs v
-found_ceiling i regions fs gs v h k low high = record { natural = h; near = k; forward = low; backward = high }
-
-pub greatest_ceiling : (i : ℕ) (regions : List Region) (fs gs : List Affine) → AreAskable regions fs (pos (2 ^ 53)) → AreAskable regions gs (pos (2 ^ 53)) → IsCeiling i regions fs gs (pos (2 ^ 53))
-greatest_ceiling i regions fs gs ready_fs ready_gs = record {
-  natural = omega (arith, ints);
-  near = omega (arith, ints);
-  forward = λ j r f l at there. (ready_fs j r f at there).bounded;
-  backward = λ j r g l at there. (ready_gs j r g at there).bounded;
+pub known_ceiling : (i : ℕ) (regions : List Region) (fs gs : List Affine) → AreAskable regions fs (pos (2 ^ 53)) → AreAskable regions gs (pos (2 ^ 53)) → (level v : ℤ) → pos 0 ≤ℤ v → v ≤ℤ pos (2 ^ 53) → (v ≡ level) ⊎ (v ≡ pos (2 ^ 53))
+    → AreBoundedBefore i regions fs level → AreBoundedBefore i regions gs level → IsCeiling i regions fs gs v
+known_ceiling i regions fs gs ready_fs ready_gs level v h k (inl e) low high = record {
+  natural = h;
+  near = k;
+  forward = subst (λ w. AreBoundedBefore i regions fs w) (sym e) low;
+  backward = subst (λ w. AreBoundedBefore i regions gs w) (sym e) high;
+}
+known_ceiling i regions fs gs ready_fs ready_gs level v h k (inr e) low high = record {
+  natural = h;
+  near = k;
+  forward = subst (λ w. AreBoundedBefore i regions fs w) (sym e) (λ j r f l at there. (ready_fs j r f at there).bounded);
+  backward = subst (λ w. AreBoundedBefore i regions gs w) (sym e) (λ j r g l at there. (ready_gs j r g at there).bounded);
 }
 
 natural_number : (v : ℤ) → pos 0 ≤ℤ v → (n : ℕ) × (v ≡ pos n)

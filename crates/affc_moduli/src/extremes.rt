@@ -1,5 +1,5 @@
 //! The greatest distance along a row, and where elements have it.
-ghost use Rattle.std.specs.Prelude.{◌≡◌, ℕ, ◌+◌, ◌^◌, ◌<◌, ◌≤◌, ◌≤ℤ◌, unsigned_abs, pos, ◌+ℤ◌, slice_get, Some, None, IfOk, IfErr, IfSome, IfNone, length};
+ghost use Rattle.std.specs.Prelude.{◌≡◌, ◌⊎◌, ℕ, ◌+◌, ◌^◌, ◌<◌, ◌≤◌, ◌≤ℤ◌, unsigned_abs, pos, ◌+ℤ◌, slice_get, Some, None, IfOk, IfErr, IfSome, IfNone, length};
 ghost use Rattle.affc_rows.specs.Forms.{value};
 ghost use Rattle.affc_split.specs.Budgets.{IsLater};
 ghost use Rattle.affc_maximum.specs.Regions.{InRegion, IsMeasure, IsBounded, IsAskable, AreAskable};
@@ -334,6 +334,23 @@ fn result_of(row: &Form, pairs: &[PairSystem], regions: &[Region], sought: Sough
     }
 }
 
+/// The greatest distance so far as a bound, but at most the greatest that any two elements can have.
+fn level_of(sought: &Sought) -> Bound
+    requires natural { pos 0 ≤ℤ sought.now.level }
+    requires near { unsigned_abs sought.now.level ≤ 2 ^ 55 }
+    ensures natural { pos 0 ≤ℤ result.most }
+    ensures within { result.most ≤ℤ pos (2 ^ 53) }
+    ensures either { (result.most ≡ sought.now.level) ⊎ (result.most ≡ pos (2 ^ 53)) }
+{
+    if sought.level > MOST_DISTANCE {
+        Bound {
+            most: MOST_DISTANCE,
+        }
+    } else {
+        Bound { most: sought.level }
+    }
+}
+
 /// A bound of the regions that were asked.
 fn known_by(regions: &[Region], fs: &[Form], gs: &[Form], i: usize, sought: &Sought) -> Bound
     requires natural { pos 0 ≤ℤ sought.now.level }
@@ -348,13 +365,7 @@ fn known_by(regions: &[Region], fs: &[Form], gs: &[Form], i: usize, sought: &Sou
     let _fs = fs;
     let _gs = gs;
     let _i = i;
-    if sought.level > MOST_DISTANCE {
-        Bound {
-            most: MOST_DISTANCE,
-        }
-    } else {
-        Bound { most: sought.level }
-    }
+    level_of(sought)
 }
 
 /// Where elements lie farthest apart along a row: at the least parameters, and there at the elements that come first. Where

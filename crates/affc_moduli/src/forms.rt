@@ -296,7 +296,7 @@ fn suits(
 }
 
 /// The first proposal that suits.
-pub fn chosen(
+fn first_suited(
     alloc: Global,
     coefs: &[i128],
     extents: &[Form],
@@ -339,4 +339,38 @@ pub fn chosen(
         }
     }
     Ok(None)
+}
+
+/// The first proposal that suits, while the budget lasts.
+pub fn chosen(
+    alloc: Global,
+    coefs: &[i128],
+    extents: &[Form],
+    context: &Region,
+    regions: &[Region],
+    fs: &[Form],
+    gs: &[Form],
+    need: i64,
+    budget: &mut Budget,
+) -> Result<Option<Form>, Stop>
+    requires one_each { length coefs.now ≡ length extents.now }
+    requires few { length extents.now ≤ 4 }
+    requires small { All (λ c. unsigned_abs c ≤ 256) coefs.now }
+    requires wide { HaveColumns context.now.system.columns extents.now }
+    requires fs_each { length fs.now ≡ length regions.now }
+    requires gs_each { length gs.now ≡ length regions.now }
+    requires fs { AreComparable context.now.system.columns regions.now fs.now }
+    requires gs { AreComparable context.now.system.columns regions.now gs.now }
+    requires need { unsigned_abs need ≤ 2 ^ 55 }
+    ensures suitable { IfOk result (λ o. IfSome o (λ f. IsSuitable context.now regions.now fs.now gs.now f need)) }
+    ensures later { IsLater budget.old budget.new }
+    ensures stop { IfErr result (λ e. e ≡ Stop.Memory) }
+{
+    match first_suited(
+        alloc, coefs, extents, context, regions, fs, gs, need, budget,
+    ) {
+        Ok(found) => Ok(found),
+        Err(Stop::Budget) => Ok(None),
+        Err(Stop::Memory) => Err(Stop::Memory),
+    }
 }

@@ -307,12 +307,10 @@ fn formed(
     let need = constant_of(&constant.form);
     let found = chosen(
         alloc, coefs, extents, &region, regions, fs, gs, need, budget,
-    );
+    )?;
     match found {
-        Ok(Some(form)) => Ok(with_form(constant, form)),
-        Ok(None) => Ok(constant),
-        Err(Stop::Budget) => Ok(constant),
-        Err(Stop::Memory) => Err(Stop::Memory),
+        Some(form) => Ok(with_form(constant, form)),
+        None => Ok(constant),
     }
 }
 

@@ -8,13 +8,13 @@ pub ceiling_of-requires : goal.ceiling_of-requires
 ceiling_of-requires c =
     let there = slice_get_read c.args.regions.now (length c.args.regions.now) c.args.i c.index-regions-i.result refl c.requires.within c.index-regions-i.is in
     let at = slice_get_read c.args.fs.now (length c.args.regions.now) c.args.i c.index-fs-i.result (sym c.requires.fs_each) c.requires.within c.index-fs-i.is in
-    c.requires.fs_ready c.args.i c.index-regions-i.result c.index-fs-i.result there at
+    record { askable = c.requires.fs_ready c.args.i c.index-regions-i.result c.index-fs-i.result there at }
 
 pub ceiling_of-requires-2 : goal.ceiling_of-requires-2
 ceiling_of-requires-2 c =
     let there = slice_get_read c.args.regions.now (length c.args.regions.now) c.args.i c.index-regions-i.result refl c.requires.within c.index-regions-i.is in
     let at = slice_get_read c.args.gs.now (length c.args.regions.now) c.args.i c.index-gs-i.result (sym c.requires.gs_each) c.requires.within c.index-gs-i.is in
-    c.requires.gs_ready c.args.i c.index-regions-i.result c.index-gs-i.result there at
+    record { askable = c.requires.gs_ready c.args.i c.index-regions-i.result c.index-gs-i.result there at }
 
 pub returns : goal.returns
 returns c =
