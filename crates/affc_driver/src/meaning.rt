@@ -1,6 +1,7 @@
 //! What is wrong with a program by itself, whatever its schedule: how it uses its arrays, and then its dataflow.
-ghost use Rattle.std.specs.Prelude.{◌≡◌, IfOk, OnOk, IfErr, Some, slice_get};
+ghost use Rattle.std.specs.Prelude.{◌≡◌, ◌≢◌, IfOk, OnOk, IfErr, Some, None, slice_get};
 ghost use Rattle.affc_domain.specs.Plain.{IsPlain};
+ghost use Rattle.affc_domain.specs.Ranges.{first_wide};
 ghost use Rattle.affc_split.specs.Budgets.{IsLater};
 ghost use Rattle.affc_nest.specs.declared.nest.Access.{Access as NestAccess};
 ghost use Rattle.affc_nest.specs.declared.nest.Entry.{Entry as NestEntry};
@@ -16,13 +17,53 @@ ghost use Rattle.affc_driver.specs.Refusals.{MeaningSays};
 
 use crate::refusal::Refusal;
 use affc_ast::tree::{ArrayId, Program};
-use affc_bounds::{Halt, check};
+use affc_bounds::{Halt, check, nest};
 use affc_flow::{FlowStop, find};
 use affc_nest::Nest;
 use affc_quast::Flow;
 use affc_schedtext::Plan;
 use affc_split::Budget;
 use std::alloc::Global;
+
+/// The nest of a program. No unit of a budget is spent.
+pub(crate) fn nest_of(alloc: Global, program: &Program) -> Result<Nest, Refusal>
+    requires plain { IsPlain program.now }
+    ensures nest { IfOk result (λ nest. nest ≡ nest_of program.now) }
+    ensures near { OnOk result (first_wide program.now ≡ None) }
+    ensures err { IfErr result (λ refusal. (plan : Plan) → OfEachPlan program.now plan (λ text schedule. MeaningSays text schedule refusal)) }
+    ensures free { IfErr result (λ refusal. refusal ≢ Refusal.Budget) }
+{
+    match nest(alloc, program) {
+        Ok(nest) => Ok(nest),
+        Err(Halt::Meaning(fault)) => Err(Refusal::Meaning(fault)),
+        Err(Halt::Budget) => unreachable!(),
+        Err(Halt::Memory) => Err(Refusal::Memory),
+    }
+}
+
+/// Whether a program keeps to its arrays.
+pub(crate) fn stays_within(
+    alloc: Global,
+    program: &Program,
+    nest: &Nest,
+    budget: &mut Budget,
+) -> Result<(), Refusal>
+    requires plain { IsPlain program.now }
+    requires arrays { NamesArrays program.now }
+    requires near { first_wide program.now ≡ None }
+    requires nest { nest.now ≡ nest_of program.now }
+    ensures within { OnOk result (StaysWithin program.now) }
+    ensures err { IfErr result (λ refusal. (plan : Plan) → OfEachPlan program.now plan (λ text schedule. MeaningSays text schedule refusal)) }
+    ensures later { IsLater budget.old budget.new }
+    ensures stop { IfErr result (λ refusal. refusal ≡ Refusal.Budget → budget.new.limit ≡ Some budget.new.spent) }
+{
+    match check(alloc, program, nest, budget) {
+        Ok(()) => Ok(()),
+        Err(Halt::Meaning(fault)) => Err(Refusal::Meaning(fault)),
+        Err(Halt::Budget) => Err(Refusal::Budget),
+        Err(Halt::Memory) => Err(Refusal::Memory),
+    }
+}
 
 /// The nest of a program that keeps to its arrays.
 pub(crate) fn nest_within(
@@ -38,12 +79,9 @@ pub(crate) fn nest_within(
     ensures later { IsLater budget.old budget.new }
     ensures stop { IfErr result (λ refusal. refusal ≡ Refusal.Budget → budget.new.limit ≡ Some budget.new.spent) }
 {
-    match check(alloc, program, budget) {
-        Ok(nest) => Ok(nest),
-        Err(Halt::Meaning(fault)) => Err(Refusal::Meaning(fault)),
-        Err(Halt::Budget) => Err(Refusal::Budget),
-        Err(Halt::Memory) => Err(Refusal::Memory),
-    }
+    let nest = nest_of(alloc, program)?;
+    stays_within(alloc, program, &nest, budget)?;
+    Ok(nest)
 }
 
 // The array of an access.
