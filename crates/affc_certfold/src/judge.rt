@@ -5,7 +5,9 @@ ghost use Rattle.serde_json.specs.View.{view, items_view};
 ghost use Rattle.std.specs.Prelude.{◌≡◌, option_map, pos, Some};
 
 use crate::layout::Temporary;
-use affc_certvalue::judge::{any_verdict, counted_numbers_verdict, form_verdict, numbers_verdict, size_verdict};
+use affc_certvalue::judge::{
+    any_verdict, counted_numbers_verdict, form_verdict, numbers_verdict, size_verdict,
+};
 use affc_certvalue::keys::has_keys;
 use affc_certvalue::verdict::Verdict;
 use serde_json::Value;

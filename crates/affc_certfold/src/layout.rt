@@ -1,7 +1,6 @@
 //! What the shape of a fold depends on.
 ghost use Rattle.std.specs.Prelude.{◌≤◌};
 
-
 /// A temporary of at least one dimension, by its `ArrayId`.
 #[derive(Clone, Copy)]
 pub struct Temporary {

@@ -6,7 +6,9 @@ ghost use Rattle.serde_json.specs.View.{view, items_view};
 ghost use Rattle.std.specs.Prelude.{◌≡◌, ◌<◌, ◌≤◌, None, option_map, true};
 
 use crate::kind::Kind;
-use affc_certvalue::judge::{any_verdict, coefs_verdict, entries_verdict, number_verdict, size_verdict};
+use affc_certvalue::judge::{
+    any_verdict, coefs_verdict, entries_verdict, number_verdict, size_verdict,
+};
 use affc_certvalue::verdict::Verdict;
 use serde_json::Value;
 

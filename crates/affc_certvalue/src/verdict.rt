@@ -2,7 +2,6 @@
 ghost use Rattle.affc_certvalue.specs.Verdicts.{worse};
 ghost use Rattle.std.specs.Prelude.{◌≡◌};
 
-
 /// What is wrong with a value: its shape, or where that is right a number in it, or nothing.
 #[derive(Clone, Copy)]
 pub enum Verdict {
