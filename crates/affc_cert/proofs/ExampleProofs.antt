@@ -19,7 +19,7 @@ pub refusals_are_in_order : RefusalsAreInOrder
 refusals_are_in_order = (refl, refl, refl, refl, refl, refl, refl, refl)
 
 pub parts_are_numbered : PartsAreNumbered
-parts_are_numbered = (λ t. refl, λ t. refl, λ t d h. rw h refl, λ t d h. rw h refl, λ t d h. rw h refl, λ t d h. rw h refl, λ t d h. rw h refl)
+parts_are_numbered = (λ t. refl, λ t. refl, λ t d h. rw h refl, λ t d h. rw h refl, λ t d h. rw h refl, λ t d h. rw h refl, λ t d h. refl)
 
 pub objects_are_judged : ObjectsAreJudged
 objects_are_judged = (refl, refl, refl, refl, refl, refl, refl, refl, refl, refl, refl, refl, refl, refl, refl, λ x. refl)

@@ -26,7 +26,7 @@ use crate::refuse::fault;
 use affc_certfold::build::{drafts, multiplied};
 use affc_certfold::draft::Draft;
 use affc_certfold::fold::CertFold;
-use affc_certfold::write;
+use affc_certfold::write::folds as folds_to_value;
 use affc_certproof::build::proof_from_value;
 use affc_certproof::write::proof_to_value;
 use affc_certtree::build::tree_from_value;
@@ -279,7 +279,7 @@ fn to_value(alloc: Global, cert: &Cert) -> Result<Value, AllocError>
 {
     let context = numbers_to_value(alloc, cert.context.as_slice())?;
     let flow = trees_to_value(alloc, cert.flow.trees.as_slice())?;
-    let folds = write::folds(alloc, cert.folds.as_slice())?;
+    let folds = folds_to_value(alloc, cert.folds.as_slice())?;
     let proofs = proofs_to_value(alloc, cert.proofs.as_slice())?;
     let mut map = Map::new(alloc);
     put(&mut map, alloc, "affc", Value::from(1u32))?;

@@ -96,7 +96,7 @@ fn fold(alloc: Global, fold: &CertFold) -> Result<Value, AllocError>
 
 /// The value of folds.
 #[tactic(auto, using(crate::proofs::Found::draft_steps))]
-pub(crate) fn folds(alloc: Global, folds: &[CertFold]) -> Result<Value, AllocError>
+pub fn folds(alloc: Global, folds: &[CertFold]) -> Result<Value, AllocError>
     ensures { IfOk result (λ v. view v ≡ folds_value (map entry_of folds.now)) }
 {
     let mut values = Vec::new(alloc);
