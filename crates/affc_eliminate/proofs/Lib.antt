@@ -1,0 +1,5 @@
+pub mod Values
+pub mod Rooms
+pub mod Exactness
+pub mod Stored
+pub mod ExampleProofs

@@ -1,0 +1,4 @@
+pub mod Points
+pub mod Screens
+pub mod Laws
+pub mod Examples
