@@ -13,7 +13,7 @@ use Rattle.affc_nest.specs.Nests.{nest_of}
 use Rattle.affc_quast.specs.Limits.{narrow, IsTreeWithin}
 use Rattle.affc_quast.specs.Sources.{loads_in, tree_of, NameSources, HaveNearQuotients}
 use Rattle.affc_quast.specs.Trees.{Tree, Input, named_at}
-use Rattle.affc_flow.specs.Laws.{Loads}
+use Rattle.affc_flow.specs.Laws.{Loads, AreWritten}
 use Rattle.affc_flow.specs.Questions.{is_temporary}
 use Rattle.affc_flow.specs.Searches.{IsRightAt}
 
@@ -22,8 +22,7 @@ use Rattle.affc_flow.specs.Searches.{IsRightAt}
 -- at p the trees name the sources of all loads, each load of a temporary has one, and quotients are within 2^60
 pub record NameAllAt (program : Program) (p : List ℤ) (nest : Nest) (trees : List Tree) : Type 0 where
   pub sources : NameSources program p nest trees
-  pub written : (statement load : ℕ) (e : Entry) (x : Access) (tree : Tree) (b : Instance) → slice_get nest.entries statement ≡ Some e → load < loads_in e → slice_get e.accesses load ≡ Some x → IsTrue (is_temporary nest x.array.0)
-      → tree_of nest trees statement load ≡ Some tree → b.statement ≡ statement → IsIn b (trace program p) → (w : Instance) × (named_at tree (p ++ b.iterators) ≡ Some w)
+  pub written : AreWritten program p nest trees
   pub near : HaveNearQuotients program p nest trees
 
 -- they do throughout the context
