@@ -29,6 +29,7 @@ use Rattle.affc_quast.proofs.RangeLemmas.{leaf_is_boxed}
 use Rattle.affc_flow.specs.Laws.{Loads, IsSourceOf, FlowNamesSources, FlowNamesAll}
 use Rattle.affc_flow.specs.Questions.{Question, questions_of_load, questions_of_loads, flow_questions}
 use Rattle.affc_flow.proofs.PathLemmas.{parameters_are, reader_stands}
+use Rattle.affc_flow.proofs.TreeLemmas.{load_there}
 use Rattle.affc_flow.proofs.NamesLemmas.{HoldsLeaves, tree_names}
 
 pub mapped_at : {A B : Type 0} (f : A → B) (xs : List A) (k : ℕ) (a : A) → slice_get xs k ≡ Some a → slice_get (map f xs) k ≡ Some (f a)
@@ -100,6 +101,22 @@ module _ (program : Program) (p : List ℤ) (trees : List Tree) (has : HasNest p
       box_append (nest_of program).params e.ranges p b.iterators (in_ranges program.params p inside.ranges)
       ((ranges_hold_iterators program e.statement e has loaded.entry st.alive).hold p (record { statement = e.statement; iterators = b.iterators }) refl inside loaded.runs)
 
+  pub width : length (nest_of program).params + length e.loops ≡ length p + length b.iterators
+  width = ap (λ k. k + length e.loops) (sym l) ∙ ap (λ k. length p + k) (sym st.long)
+
+  pub among : IsIn e (nest_of program).entries
+  among = st.among
+
+  pub alive : IsTrue e.alive
+  alive = st.alive
+
+  -- the element that is loaded
+  pub loads_it : slice_get (loads_of program p b) k ≡ Some (element_at (p ++ b.iterators) a)
+  loads_it =
+      let here : Instance = record { statement = e.statement; iterators = b.iterators } in
+      subst (λ i. slice_get (loads_of program p i) k ≡ Some (element_at (p ++ b.iterators) a)) (sym is)
+      (load_there (element_at (p ++ b.iterators)) e.accesses (loads_of program p here) (store_of program p here) k a (events_are program has p l e b.iterators st) a_at less)
+
   -- what the tree is said to name is what the load of the instance finds
   pub as_source : (source : Option Instance) (x : Element) → slice_get (loads_of program p b) k ≡ Some x → IsSourceOf program p b.iterators e a source → IsSource program p b x source
   as_source source x load r =
@@ -129,12 +146,10 @@ module _ (program : Program) (p : List ℤ) (trees : List Tree) (has : HasNest p
       → ((q : Question) → IsIn q (flow_questions (nest_of program) trees) → (point : List ℤ) → Holds q.ranges point → IsPoint q.system point → ⊥)
       → IsSourceOf program p b.iterators e a (named_at tree (p ++ b.iterators))
   names Holds join tree there shaped held none =
-      let width : length (nest_of program).params + length e.loops ≡ length p + length b.iterators =
-      ap (λ k. k + length e.loops) (sym l) ∙ ap (λ k. length p + k) (sym st.long) in
       tree_names Holds join program p b.iterators e a ranges tree loaded (subst (λ n. Shaped n tree) width shaped) held (λ q i. none q (asked tree there q i))
 
 -- the access of a load
-load_access : (e : Entry) (k : ℕ) → k < loads_in e → (a : Access) × (slice_get e.accesses k ≡ Some a)
+pub load_access : (e : Entry) (k : ℕ) → k < loads_in e → (a : Access) × (slice_get e.accesses k ≡ Some a)
 load_access e k less = there_is e.accesses k (fewer (length e.accesses) less)
   where
     fewer : (n : ℕ) → k < n - 1 → k < n

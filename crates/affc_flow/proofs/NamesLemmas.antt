@@ -48,7 +48,7 @@ use Rattle.affc_quast.specs.Sources.{loads_in}
 use Rattle.affc_quast.specs.Trees.{Tree, named_at, instance_at, quotients_at}
 use Rattle.affc_quast.proofs.RangeLemmas.{leaves_are_over, leaf_is_boxed}
 use Rattle.affc_quast.proofs.LeafLemmas.{says_negated, leaf_is_named, leaf_is_reached}
-use Rattle.affc_flow.specs.Laws.{Loads, IsSourceOf, LeafNamesSource, TreeNamesSource}
+use Rattle.affc_flow.specs.Laws.{Loads, IsSourceOf, NoneBegins, LeafNamesSource, TreeNamesSource}
 use Rattle.affc_flow.specs.Questions.{Question, Writer, is_temporary, writers, poses, path_rows, reader_posed, here, beside_columns, beside_rows, beside, writer_posed, before_load, earlier_questions, after_named, between_questions, of_named, outside_questions, apart_questions, not_earlier_questions, named_questions, questions_among, input_questions, questions_for, leaf_questions, tree_questions}
 use Rattle.affc_flow.proofs.PathLemmas.{padded_values, short_values, padded_wide, order_at, parameters_are, reader_stands, path_met, read_value, read_wide, reader_is_posed, point_is, beside_long, beside_met, writer_is_posed}
 use Rattle.affc_flow.specs.Stores.{Writes}
@@ -61,7 +61,7 @@ Avoids Holds questions zs = (q : Question) (more : List ℤ) → IsIn q question
 -- Which points ranges hold is left open: those in the box, or all.
 module _ (Holds : List (ℤ × ℤ) → List ℤ → Type 0) (join : (rs ss : List (ℤ × ℤ)) (xs ys : List ℤ) → Holds rs xs → InBox ss ys → Holds (rs ++ ss) (xs ++ ys))
     (program : Program) (p its qs : List ℤ) (e : Entry) (x : Access) (ranges : List (ℤ × ℤ)) (l : Leaf) (h : Loads program p its e x)
-    (over : IsOver (length p + length its) l) (wide : length ((p ++ its) ++ qs) ≡ l.columns) (met : Met ((p ++ its) ++ qs) l.rows) (inside : Holds (path_ranges ranges l.divisions) ((p ++ its) ++ qs)) where
+    (over : (columns : ℕ) × IsOver columns l) (wide : length ((p ++ its) ++ qs) ≡ l.columns) (met : Met ((p ++ its) ++ qs) l.rows) (inside : Holds (path_ranges ranges l.divisions) ((p ++ its) ++ qs)) where
   abbrev n : Nest
   n = nest_of program
 
@@ -191,7 +191,7 @@ module _ (Holds : List (ℤ × ℤ) → List ℤ → Type 0) (join : (rs ss : Li
     images = columns_from l.columns 0 (length (number_ranges program.params)) ++ a.iterators
 
     forms_wide : HaveColumns l.columns a.iterators
-    forms_wide = over.named a l_names
+    forms_wide = over.1.named a l_names
 
     images_wide : HaveColumns (length zs) images
     images_wide =
@@ -400,8 +400,14 @@ module _ (Holds : List (ℤ × ℤ) → List ℤ → Type 0) (join : (rs ss : Li
   leaf_names None named none = input_leaf none
   leaf_names (Some a) named none = among a named (writers n x.array.0) (λ w i. i) none
 
+-- however many of the columns are quotients of the leaf's own divisions
+pub leaf_names_with : (program : Program) (p its qs : List ℤ) (e : Entry) (x : Access) (ranges : List (ℤ × ℤ)) (l : Leaf) → Loads program p its e x → (columns : ℕ) → IsOver columns l
+    → length ((p ++ its) ++ qs) ≡ l.columns → Met ((p ++ its) ++ qs) l.rows → InBox (path_ranges ranges l.divisions) ((p ++ its) ++ qs)
+    → NoneBegins (leaf_questions (nest_of program) e x ranges l) ((p ++ its) ++ qs) → IsSourceOf program p its e x (instance_at l.named ((p ++ its) ++ qs))
+leaf_names_with program p its qs e x ranges l h columns over wide met inside none = leaf_names InBox box_append program p its qs e x ranges l h (columns, over) wide met inside l.named refl none
+
 pub leaf_names_source : LeafNamesSource
-leaf_names_source program p its qs e x ranges l h over wide met inside none = leaf_names InBox box_append program p its qs e x ranges l h over wide met inside l.named refl none
+leaf_names_source program p its qs e x ranges l h over wide met inside none = leaf_names_with program p its qs e x ranges l h (length p + length its) over wide met inside none
 
 -- ---- A tree
 
@@ -427,7 +433,7 @@ module _ (Holds : List (ℤ × ℤ) → List ℤ → Type 0) (join : (rs ss : Li
       let columns : length (p ++ its) ≡ length (nest_of program).params + length e.loops = sym front ∙ ap (λ k. k + length its) len ∙ ap (λ k. length (number_ranges program.params) + k) s.long in
       let there : IsIn l (leaves_of (length (nest_of program).params + length e.loops) tree) = subst (λ k. IsIn l (leaves_of k tree)) columns r.1.of_tree in
       subst (IsSourceOf program p its e x) (sym named.1)
-      (leaf_names Holds join program p its qs e x ranges l h over r.1.width r.1.meets (held l shaped' r.1.of_tree r.1.width r.1.meets) l.named refl (λ q more i is box.
+      (leaf_names Holds join program p its qs e x ranges l h (length p + length its, over) r.1.width r.1.meets (held l shaped' r.1.of_tree r.1.width r.1.meets) l.named refl (λ q more i is box.
       none q (to_flat_map (leaf_questions (nest_of program) e x ranges) (leaves_of (length (nest_of program).params + length e.loops) tree) l q there i) (((p ++ its) ++ qs) ++ more) box is))
 
 pub tree_names_source : TreeNamesSource

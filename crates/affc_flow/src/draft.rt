@@ -1,15 +1,16 @@
 //! Drafts of instances that might be a load's source. Nothing is promised of them.
 //!
-//! An iterator is told by a subscript of the store, where the others are known; or else by the depth of the order: it is the
-//! reader's above the depth, one less at it, and the last one of its loop below.
+//! An iterator is told by a subscript of the store, where the others are known, if need be by a division; or else by the depth
+//! of the order: it is the reader's above the depth, one less at it, and the last one of its loop below.
 
 use crate::asking::column_forms;
 use crate::load::{Load, number};
 use crate::questions::{Unasked, at_images, count};
-use crate::strides::divided;
+use crate::strides::quotient;
 use affc_nest::forms::column;
 use affc_nest::{Access, Entry};
 use affc_order::order::shared;
+use affc_quast::leaves::Division;
 use affc_quast::rows::add_copies;
 use affc_rows::Form;
 use sqlite_items::Items;
@@ -54,48 +55,53 @@ fn less(alloc: Global, a: &Form, b: &Form) -> Result<Form, Unasked> {
     Ok(made)
 }
 
-/// What a subscript of the store, and that of the load in its dimension, say of the iterator at a column, where the rows are
-/// met.
+/// What a subscript of the store, and that of the load in its dimension, say of the iterator at a column: a form, and by what
+/// it is to be divided.
 fn by_subscript(
     alloc: Global,
+    columns: u32,
     images: &[Form],
     at: usize,
     written: &Form,
     read: &Form,
-    rows: &[Form],
-) -> Result<Option<Form>, Unasked> {
+) -> Result<Option<(Form, u128)>, Unasked> {
     let c = last_coefficient(written.coefs.as_slice(), at);
     if c == 0 {
         return Ok(None);
     }
-    let columns = count(read.coefs.len())?;
     let rest = at_images(alloc, columns, images, written)?;
     let made = if c > 0 {
         less(alloc, read, &rest)?
     } else {
         less(alloc, &rest, read)?
     };
-    divided(alloc, made, c.unsigned_abs(), rows)
+    Ok(Some((made, c.unsigned_abs())))
 }
 
-/// What the subscripts say of the iterator at a column, where the rows are met.
+/// What the subscripts say of the iterator at a column: by the first one that needs no division, or else by the first.
 fn by_subscripts(
     alloc: Global,
+    columns: u32,
     images: &[Form],
     at: usize,
     written: &[Form],
     read: &[Form],
-    rows: &[Form],
-) -> Result<Option<Form>, Unasked> {
-    match written {
-        [] => Ok(None),
-        [sub, subs @ ..] => match read {
-            [] => Ok(None),
-            [other, others @ ..] => match by_subscript(alloc, images, at, sub, other, rows)? {
-                Some(form) => Ok(Some(form)),
-                None => by_subscripts(alloc, images, at, subs, others, rows),
-            },
-        },
+) -> Result<Option<(Form, u128)>, Unasked> {
+    let [sub, subs @ ..] = written else {
+        return Ok(None);
+    };
+    let [other, others @ ..] = read else {
+        return Ok(None);
+    };
+    let own = by_subscript(alloc, columns, images, at, sub, other)?;
+    if let Some((_form, 1)) = &own {
+        return Ok(own);
+    }
+    let next = by_subscripts(alloc, columns, images, at, subs, others)?;
+    match &next {
+        Some((_form, 1)) => Ok(next),
+        Some(_) => Ok(if own.is_some() { own } else { next }),
+        None => Ok(own),
     }
 }
 
@@ -120,15 +126,16 @@ fn by_rows(
     }
 }
 
-/// What is drafted: an instance of a statement for a load, over so many columns, at a depth of the order.
+/// What is drafted: an instance of a statement for a load, whose subscripts are given, over so many columns, at a depth of the
+/// order.
 #[derive(Drop)]
-struct Drafting<'a> {
-    load: &'a Load<'a>,
-    writer: &'a Entry,
-    store: &'a Access,
-    columns: u32,
-    params: u32,
-    depth: usize,
+pub(crate) struct Drafting<'a> {
+    pub(crate) load: &'a Load<'a>,
+    pub(crate) read: &'a [Form],
+    pub(crate) writer: &'a Entry,
+    pub(crate) store: &'a Access,
+    pub(crate) columns: u32,
+    pub(crate) depth: usize,
 }
 
 /// What the depth of the order says of an iterator.
@@ -138,7 +145,7 @@ fn by_order(
     images: &[Form],
     k: usize,
 ) -> Result<Option<Form>, Unasked> {
-    let at = (drafting.params as usize).saturating_add(k);
+    let at = drafting.load.nest.params.ranges().len().saturating_add(k);
     let own = drafting.load.reader.loops.as_slice();
     let n = shared(drafting.writer.loops.as_slice(), own);
     if k > drafting.depth || k >= n {
@@ -161,26 +168,47 @@ fn next_form(
     known: &[Form],
     k: usize,
     more: u32,
+    divisions: &mut Vec<Division>,
 ) -> Result<Option<Form>, Unasked> {
     let columns = drafting.columns;
     let images = filled(alloc, columns, known, more)?;
-    let at = (drafting.params as usize).saturating_add(k);
+    let images = images.as_slice();
+    let at = drafting.load.nest.params.ranges().len().saturating_add(k);
     let written = drafting.store.subs.as_slice();
-    let read = drafting.load.access.subs.as_slice();
-    let rows = drafting.load.reader.domain.rows();
-    match by_subscripts(alloc, images.as_slice(), at, written, read, rows)? {
-        Some(form) => Ok(Some(form)),
-        None => by_order(alloc, drafting, images.as_slice(), k),
+    match by_subscripts(alloc, columns, images, at, written, drafting.read)? {
+        Some((form, 1)) => Ok(Some(form)),
+        Some((form, by)) => {
+            let first = drafting.load.reader.domain.columns();
+            match quotient(alloc, columns, first, form, by, divisions)? {
+                Some(form) => Ok(Some(form)),
+                None => by_order(alloc, drafting, images, k),
+            }
+        }
+        None => by_order(alloc, drafting, images, k),
     }
 }
 
-/// The forms of the iterators, if each is told.
-fn forms_of(alloc: Global, drafting: &Drafting<'_>, loops: u32) -> Result<Items<Form>, Unasked> {
-    let own = column_forms(alloc, drafting.columns, 0, drafting.params)?;
+/// A draft of the instance of a statement that a load reads, a form for each iterator, where each is told. Divisions that it
+/// wants are added.
+pub(crate) fn draft(
+    alloc: Global,
+    drafting: &Drafting<'_>,
+    divisions: &mut Vec<Division>,
+) -> Result<Items<Form>, Unasked> {
+    let params = count(drafting.load.nest.params.ranges().len())?;
+    let loops = count(drafting.writer.loops.len())?;
+    let own = column_forms(alloc, drafting.columns, 0, params)?;
     let mut known = Items::from_vec(own);
     let mut forms = Items::new(alloc);
     for k in 0..loops {
-        let next = next_form(alloc, drafting, known.as_slice(), k as usize, loops - k)?;
+        let next = next_form(
+            alloc,
+            drafting,
+            known.as_slice(),
+            k as usize,
+            loops - k,
+            divisions,
+        )?;
         let Some(form) = next else {
             return Err(Unasked::Large);
         };
@@ -189,25 +217,4 @@ fn forms_of(alloc: Global, drafting: &Drafting<'_>, loops: u32) -> Result<Items<
         forms.push(form)?;
     }
     Ok(forms)
-}
-
-/// A draft of the instance of a statement that a load reads, a form for each iterator, at a depth of the order.
-pub(crate) fn draft(
-    alloc: Global,
-    load: &Load<'_>,
-    writer: &Entry,
-    store: &Access,
-    depth: usize,
-) -> Result<Items<Form>, Unasked> {
-    let params = count(load.nest.params.ranges().len())?;
-    let loops = count(writer.loops.len())?;
-    let drafting = Drafting {
-        load,
-        writer,
-        store,
-        columns: load.reader.domain.columns(),
-        params,
-        depth,
-    };
-    forms_of(alloc, &drafting, loops)
 }

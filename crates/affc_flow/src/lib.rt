@@ -3,6 +3,7 @@
 
 mod asking;
 mod candidates;
+mod divided;
 mod draft;
 pub mod examples;
 mod finding;

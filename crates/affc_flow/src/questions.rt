@@ -6,7 +6,7 @@ ghost use Rattle.affc_nest.specs.Domains.{gap_row, with_rows};
 ghost use Rattle.affc_order.specs.Posed.{form_at};
 ghost use Rattle.affc_order.specs.Spread.{spread};
 ghost use Rattle.affc_sched.specs.Questions.{equal_rows};
-ghost use Rattle.affc_quast.specs.Leaves.{negated};
+ghost use Rattle.affc_quast.specs.Leaves.{padded, negated};
 ghost use Rattle.affc_flow.specs.Asked.{asked, on, outside, apart};
 
 use crate::load::number;
@@ -237,6 +237,38 @@ pub(crate) fn add_spread_forms(
             let made = spread_form(alloc, form, params, between, behind)?;
             out.push(made)?;
             add_spread_forms(alloc, rest, params, between, behind, out)?;
+            Ok(())
+        }
+    }
+}
+
+/// A form over more columns.
+fn padded(alloc: Global, columns: u32, form: &Form) -> Result<Form, Unasked>
+    ensures { IfOk result (λ f. f ≡ padded columns form.now) }
+{
+    let own = count(form.coefs.len())?;
+    if own > columns {
+        return Err(Unasked::Large);
+    }
+    let made = spread(alloc, form, 0, 0, columns - own)?;
+    Ok(made)
+}
+
+/// Adds forms, over more columns.
+pub(crate) fn add_padded(
+    alloc: Global,
+    columns: u32,
+    forms: &[Form],
+    out: &mut Items<Form>,
+) -> Result<(), Unasked>
+    ensures { OnOk result (out.new ≡ out.old ++ map (padded columns) forms.now) }
+{
+    match forms {
+        [] => Ok(()),
+        [form, rest @ ..] => {
+            let made = padded(alloc, columns, form)?;
+            out.push(made)?;
+            add_padded(alloc, columns, rest, out)?;
             Ok(())
         }
     }
