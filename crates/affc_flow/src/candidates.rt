@@ -1,7 +1,7 @@
 //! Instances that might be a load's source, from the latest on, and where each might be. Nothing is promised of them.
 
 use crate::asking::{column_forms, store_for};
-use crate::draft::{Drafting, draft};
+use crate::draft::{Drafting, drafts_of};
 use crate::listing::images_of;
 use crate::load::Load;
 use crate::questions::{Unasked, add_padded, at_images, count, gap};
@@ -121,21 +121,6 @@ fn conditions(
     Ok(out)
 }
 
-/// The instance of a statement at a depth of the order.
-fn made_candidate(
-    alloc: Global,
-    drafting: &Drafting<'_>,
-    divisions: &mut Vec<Division>,
-) -> Result<Candidate, Unasked> {
-    let forms = draft(alloc, drafting, divisions)?;
-    let conditions = conditions(alloc, drafting, forms.as_slice())?;
-    Ok(Candidate {
-        statement: drafting.writer.statement,
-        forms,
-        conditions,
-    })
-}
-
 /// Candidates from the latest on, and the divisions that they want, outermost first: the quotients are columns behind those of
 /// the load.
 #[derive(Drop)]
@@ -144,25 +129,47 @@ pub(crate) struct Guess {
     pub(crate) candidates: Vec<Candidate>,
 }
 
-/// Adds the instance of a statement at a depth of the order, if there might be one.
+/// Adds an instance of a statement at a depth of the order, if it might be one.
 fn add_candidate(
+    alloc: Global,
+    drafting: &Drafting<'_>,
+    forms: Items<Form>,
+    out: &mut Vec<Candidate>,
+) -> Result<(), Unasked> {
+    let conditions = conditions(alloc, drafting, forms.as_slice())?;
+    if conditions.as_slice().iter().any(is_never) {
+        return Ok(());
+    }
+    let made = Candidate {
+        statement: drafting.writer.statement,
+        forms,
+        conditions,
+    };
+    match out.push(made) {
+        Ok(()) => Ok(()),
+        Err(_) => Err(Unasked::Memory),
+    }
+}
+
+/// Adds the instances of a statement at a depth of the order, as far as they fit.
+fn add_candidates(
     alloc: Global,
     drafting: &Drafting<'_>,
     out: &mut Guess,
 ) -> Result<(), AllocError> {
-    match made_candidate(alloc, drafting, &mut out.divisions) {
-        Ok(made) => {
-            if made.conditions.as_slice().iter().any(is_never) {
-                return Ok(());
-            }
-            match out.candidates.push(made) {
-                Ok(()) => Ok(()),
-                Err(_) => Err(AllocError),
-            }
+    let drafts = match drafts_of(alloc, drafting, &mut out.divisions) {
+        Ok(drafts) => drafts,
+        Err(Unasked::Large) => return Ok(()),
+        Err(Unasked::Memory) => return Err(AllocError),
+    };
+    for forms in drafts {
+        match add_candidate(alloc, drafting, forms, &mut out.candidates) {
+            Ok(()) => {}
+            Err(Unasked::Large) => {}
+            Err(Unasked::Memory) => return Err(AllocError),
         }
-        Err(Unasked::Large) => Ok(()),
-        Err(Unasked::Memory) => Err(AllocError),
     }
+    Ok(())
 }
 
 /// Whether an instance of a statement can be earlier than the load at this depth of the order.
@@ -191,7 +198,7 @@ fn add_at_depth<'a>(
                     columns,
                     depth,
                 };
-                add_candidate(alloc, &drafting, out)?;
+                add_candidates(alloc, &drafting, out)?;
             }
         }
     }

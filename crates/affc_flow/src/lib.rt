@@ -18,6 +18,7 @@ mod pairs;
 pub mod questions;
 mod ranges;
 mod search;
+mod solved;
 pub mod stop;
 mod strides;
 mod tested;

@@ -6,9 +6,11 @@
 use crate::asking::store_for;
 use crate::load::Load;
 use crate::questions::Unasked;
+use crate::solved::are_opposite;
 use affc_nest::forms::column;
 use affc_quast::leaves::Division;
 use affc_rows::Form;
+use smallvec::SmallVec;
 use sqlite_items::Items;
 use std::alloc::{AllocError, Global};
 
@@ -35,18 +37,6 @@ pub(crate) fn room(load: &Load<'_>) -> u32 {
         }
     }
     0
-}
-
-/// The coefficients divided, if each is a multiple.
-fn divided(form: &Form, by: i128) -> Result<Option<Form>, AllocError> {
-    let mut made = form.clone()?;
-    for c in made.coefs.as_mut_slice() {
-        if c.rem_euclid(by) != 0 {
-            return Ok(None);
-        }
-        *c = c.div_euclid(by);
-    }
-    Ok(Some(made))
 }
 
 /// The number of a division, which is added where it isn't there yet and there is room.
@@ -86,7 +76,7 @@ pub(crate) fn quotient(
     let Form { coefs, constant } = form;
     let constant = -(-constant).div_euclid(by as i128);
     let whole = Form { coefs, constant: 0 };
-    if let Some(made) = divided(&whole, by as i128)? {
+    if let Some(made) = whole_part(alloc, &whole, by as i128)? {
         let Form {
             coefs,
             constant: _none,
@@ -120,4 +110,80 @@ pub(crate) fn cut_forms(
         out.push(made)?;
     }
     Ok(out)
+}
+
+// ---- Without a division.
+
+/// The greatest number by which a form is divided.
+const MOST_EXACT: u128 = 64;
+
+/// A number divided, if it is a multiple.
+fn part(c: i128, by: i128) -> Option<i128> {
+    if by < 1 || c.rem_euclid(by) != 0 {
+        return None;
+    }
+    Some(c.div_euclid(by))
+}
+
+/// A form divided, if each coefficient is a multiple; its constant is rounded down.
+fn whole_part(alloc: Global, form: &Form, by: i128) -> Result<Option<Form>, AllocError> {
+    if by < 1 {
+        return Ok(None);
+    }
+    let mut coefs = SmallVec::new(alloc);
+    for c in form.coefs.as_slice() {
+        let Some(made) = part(*c, by) else {
+            return Ok(None);
+        };
+        coefs.push(made)?;
+    }
+    let constant = form.constant.div_euclid(by);
+    Ok(Some(Form { coefs, constant }))
+}
+
+/// A form that is divided with so many times an equality of these rows, or fewer.
+fn by_equality(
+    alloc: Global,
+    form: &Form,
+    by: i128,
+    rows: &[Form],
+    row: &Form,
+    times: u32,
+) -> Result<Option<Form>, Unasked> {
+    if times == 0 || row.coefs.len() != form.coefs.len() {
+        return Ok(None);
+    }
+    if !rows.iter().any(|r| are_opposite(r, row)) {
+        return Ok(None);
+    }
+    let sum = form.scale_add(alloc, 1, row, i128::from(times))?;
+    match whole_part(alloc, &sum, by)? {
+        Some(made) => Ok(Some(made)),
+        None => by_equality(alloc, form, by, rows, row, times - 1),
+    }
+}
+
+/// A form divided, where each coefficient is a multiple, if need be with an equality of these rows.
+pub(crate) fn divided(
+    alloc: Global,
+    form: Form,
+    by: u128,
+    rows: &[Form],
+) -> Result<Option<Form>, Unasked> {
+    if by == 1 {
+        return Ok(Some(form));
+    }
+    if by > MOST_EXACT {
+        return Ok(None);
+    }
+    let (by, most) = (by as i128, by as u32);
+    if let Some(made) = whole_part(alloc, &form, by)? {
+        return Ok(Some(made));
+    }
+    for row in rows {
+        if let Some(made) = by_equality(alloc, &form, by, rows, row, most)? {
+            return Ok(Some(made));
+        }
+    }
+    Ok(None)
 }
