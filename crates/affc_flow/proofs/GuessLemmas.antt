@@ -333,7 +333,7 @@ module _ (nest : Nest) (e : Entry) (x : Access) (path : Rows) (ranges : List (�
       (division_covers form k range rest w fits small l h (subst (λ rs. CoversOn nest e x (divided_path path form (pos (suc k))) rs (left - 1) divisions rest) r (subst (λ p. CoversOn nest e x p ranges_below (left - 1) divisions rest) y c)))
 
 -- the range of a quotient, by the least and the greatest value of its form
-pub quotient_range_is : (ranges : List (ℤ × ℤ)) (form : Affine) (by low high : ℤ) (range : ℤ × ℤ) → pos 1 ≤ℤ by
+quotient_range_is : (ranges : List (ℤ × ℤ)) (form : Affine) (by low high : ℤ) (range : ℤ × ℤ) → pos 1 ≤ℤ by
     → ((xs : List ℤ) → InBox ranges xs → (low ≤ℤ value form xs) × (value form xs ≤ℤ high)) → range.0 ≡ floor_of low by → range.1 ≡ floor_of high by → IsNear range.0 → IsNear range.1
     → IsQuotientRange ranges form by range
 quotient_range_is ranges form (pos zero) low high range some bounds a b u v = absurd (omega (arith, ints, some))
@@ -345,6 +345,12 @@ quotient_range_is ranges form (pos (suc k)) low high range some bounds a b u v =
   );
   near = (u, v);
 }
+
+pub ends_are : (ranges : List (ℤ × ℤ)) (form : Affine) (by low high : ℤ) (found : Option (ℤ × ℤ)) → pos 1 ≤ℤ by
+    → ((xs : List ℤ) → InBox ranges xs → (low ≤ℤ value form xs) × (value form xs ≤ℤ high)) → IfSome found (λ r. r.0 ≡ floor_of low by) → IfSome found (λ r. r.1 ≡ floor_of high by)
+    → IfSome found (λ r. IsNear r.0 × IsNear r.1) → IfSome found (IsQuotientRange ranges form by)
+ends_are ranges form by low high None some bounds a b n = tt
+ends_are ranges form by low high (Some r) some bounds a b n = quotient_range_is ranges form by low high r some bounds a b n.0 n.1
 
 -- ---- Where the path is the statement's domain
 

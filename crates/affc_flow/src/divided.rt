@@ -1,8 +1,10 @@
 //! Trees that are proposed freely: the divisions of all candidates, and below them a tree of these.
 ghost use Rattle.std.specs.Prelude.{◌≡◌, ◌-◌, ◌^◌, ◌≤◌, ◌≤ℤ◌, ◌++◌, ◌∷◌, [], pos, suc, map, length, IfOk, OnOk, IfErr, IfSome, Some};
+ghost use Rattle.affc_ast.specs.Index.{floor_of};
 ghost use Rattle.affc_split.specs.Budgets.{IsLater};
 ghost use Rattle.affc_quast.specs.Leaves.{multiple};
 ghost use Rattle.affc_quast.specs.Limits.{narrow, FitsForm};
+ghost use Rattle.affc_quast.specs.Paths.{IsNear};
 ghost use Rattle.affc_quast.specs.Seen.{seen};
 ghost use Rattle.affc_quast.specs.Trees.{Div};
 ghost use Rattle.affc_flow.specs.Guesses.{CoversOn, IsPath, IsQuotientRange, divided_path};
@@ -26,7 +28,7 @@ use std::alloc::{AllocError, Global};
 const MOST_ASKS: u32 = 600;
 
 /// The greatest magnitude of a quotient.
-const MOST: u128 = 1 << 60;
+const MOST: i128 = 1 << 60;
 
 /// The greatest divisor.
 const MOST_BY: i64 = 1 << 20;
@@ -67,8 +69,26 @@ fn path_behind(alloc: Global, path: &System, form: &Form, by: i64) -> Result<Sys
     Ok(system)
 }
 
+/// The least and the greatest quotient of numbers between two, if they are within the limits.
+fn quotient_ends(low: i128, high: i128, by: i64) -> Option<(i64, i64)>
+    requires by { pos 1 ≤ℤ by }
+    ensures first { IfSome result (λ r. r.0 ≡ floor_of low by) }
+    ensures last { IfSome result (λ r. r.1 ≡ floor_of high by) }
+    ensures near { IfSome result (λ r. IsNear r.0 × IsNear r.1) }
+    ensures ordered { IfSome result (λ r. r.0 ≤ℤ r.1) }
+{
+    let first = low.div_euclid(i128::from(by));
+    let last = high.div_euclid(i128::from(by));
+    if first < -MOST || first > MOST {
+        return None;
+    }
+    if last < first || last > MOST {
+        return None;
+    }
+    Some((first as i64, last as i64))
+}
+
 /// A range of a form's quotient, if it is within the limits.
-#[tactic(auto, using(crate::proofs::GuessLemmas::quotient_range_is))]
 fn quotient_range(form: &Form, by: i64, ranges: &BoxOf) -> Option<(i64, i64)>
     requires by { pos 1 ≤ℤ by }
     ensures holds { IfSome result (IsQuotientRange ranges.now form.now by) }
@@ -80,12 +100,7 @@ fn quotient_range(form: &Form, by: i64, ranges: &BoxOf) -> Option<(i64, i64)>
     let Ok((low, high)) = interval(form, ranges) else {
         return None;
     };
-    let first = low.div_euclid(i128::from(by));
-    let last = high.div_euclid(i128::from(by));
-    if first.unsigned_abs() > MOST || last.unsigned_abs() > MOST || first > last {
-        return None;
-    }
-    Some((first as i64, last as i64))
+    quotient_ends(low, high, by)
 }
 
 /// The rows behind a division, the ranges of their columns, and the last of these, which is the quotient's.
