@@ -148,21 +148,22 @@ all_orders nest v e y x p its orders found writes o l program is h =
         same_latest (trace program p) (StoresBy (nest_of program) program p its v e y x (source_systems (nest_of program) v.statement e.statement))
         (StoredIn program p (reader_of e its) (element_at (p ++ its) x) (v ∷ [])) (λ u s. (v, inl refl, to w made u s.0 s.1 s.2)) (λ u s. from w made u s.0 s.1 s.2) found k
 
+abbrev Stored : Program → (p its : List ℤ) → Entry → Access → List Entry → Instance → Type 0
+Stored program p its e x es w = StoredIn program p (reader_of e its) (element_at (p ++ its) x) es w
+
+-- those of the first few, and those of the others
 pub parts_joined : (nest : Nest) (e : Entry) (x : Access) (p its : List ℤ) (entries : List Entry) (n : ℕ) (here others latest : Option Instance)
     → IsLatestAmong nest e x p its (take n entries) here → IsLatestAmong nest e x p its (drop n entries) others → IsLaterOf nest p here others latest → IsLatestAmong nest e x p its entries latest
 parts_joined nest e x p its entries n here others latest a b l program is h =
-    subst (λ es. IsLatest (trace program p) (Stored es) latest) (take-append-drop n entries)
-    (same_latest (trace program p) (λ w. Stored (take n entries) w ⊎ Stored (drop n entries) w) (Stored (take n entries ++ drop n entries)) to (λ w s. from w s.0 s.1 s.2) latest
-    (later_joined nest program p is h.has (Stored (take n entries)) (Stored (drop n entries)) (λ w s. s.2.runs) (λ w s. s.2.runs) here others latest (a program is h) (b program is h) l))
+    subst (λ es. IsLatest (trace program p) (Stored program p its e x es) latest) (take-append-drop n entries)
+    (same_latest (trace program p) (λ w. Stored program p its e x (take n entries) w ⊎ Stored program p its e x (drop n entries) w) (Stored program p its e x (take n entries ++ drop n entries)) to (λ w s. from w s.0 s.1 s.2) latest
+    (later_joined nest program p is h.has (Stored program p its e x (take n entries)) (Stored program p its e x (drop n entries)) (λ w s. s.2.runs) (λ w s. s.2.runs) here others latest (a program is h) (b program is h) l))
   where
-    abbrev Stored : List Entry → Instance → Type 0
-    Stored es w = StoredIn program p (reader_of e its) (element_at (p ++ its) x) es w
-
-    to : (w : Instance) → Stored (take n entries) w ⊎ Stored (drop n entries) w → Stored (take n entries ++ drop n entries) w
+    to : (w : Instance) → Stored program p its e x (take n entries) w ⊎ Stored program p its e x (drop n entries) w → Stored program p its e x (take n entries ++ drop n entries) w
     to w (inl s) = (s.0, to_first (take n entries) (drop n entries) s.0 s.1, s.2)
     to w (inr s) = (s.0, to_second (take n entries) (drop n entries) s.0 s.1, s.2)
 
-    from : (w : Instance) (u : Entry) → IsIn u (take n entries ++ drop n entries) → StoresBefore program p (reader_of e its) (element_at (p ++ its) x) u w → Stored (take n entries) w ⊎ Stored (drop n entries) w
+    from : (w : Instance) (u : Entry) → IsIn u (take n entries ++ drop n entries) → StoresBefore program p (reader_of e its) (element_at (p ++ its) x) u w → Stored program p its e x (take n entries) w ⊎ Stored program p its e x (drop n entries) w
     from w u i s = elim (in_parts (take n entries) (drop n entries) u i) [
       | inl j ↦ inl (u, j, s)
       | inr j ↦ inr (u, j, s)

@@ -4,7 +4,7 @@ use Rattle.std.specs.Prelude.{unsigned_abs, slice_get, IfSome}
 use Rattle.std.specs.List.{All}
 use Rattle.std.proofs.lemmas.Int.{ints}
 use Rattle.std.proofs.lemmas.Option.{same_Some}
-use Rattle.std.proofs.lemmas.List.Elements.{All-nil, All-cons, All-head, All-tail, All-weaken}
+use Rattle.std.proofs.lemmas.List.Elements.{All-nil, All-cons, All-head, All-tail, All-weaker}
 use Rattle.affc_rows.specs.Forms.{Affine}
 use Rattle.affc_system.specs.Boxes.{InBox}
 use Rattle.affc_ast.specs.declared.tree.Instance.{Instance}
@@ -36,21 +36,27 @@ use Rattle.affc_flow.proofs.LastLemmas.{near_inside}
 
 -- ---- Numbers
 
-slight_inside : (rs : List (ℤ × ℤ)) (xs : List ℤ) → All IsSlightRange rs → InBox rs xs → All IsNear xs
-slight_inside [] [] h b = All-nil IsNear
+nearer : (xs : List ℤ) → All (λ x. unsigned_abs x ≤ 2 ^ 40) xs → All IsNear xs
+nearer xs h = All-weaker (λ x. unsigned_abs x ≤ 2 ^ 40) IsNear (λ x l. wider (unsigned_abs x) l) xs h
+  where
+    wider : (n : ℕ) → n ≤ 2 ^ 40 → n ≤ 2 ^ 60
+    wider n h = omega (arith, h)
+
+slight_inside : (rs : List (ℤ × ℤ)) (xs : List ℤ) → All IsSlightRange rs → InBox rs xs → All (λ x. unsigned_abs x ≤ 2 ^ 40) xs
+slight_inside [] [] h b = All-nil (λ x. unsigned_abs x ≤ 2 ^ 40)
 slight_inside [] (x ∷ xs) h b = absurd b
 slight_inside (r ∷ rs) [] h b = absurd b
 slight_inside (r ∷ rs) (x ∷ xs) h b =
     let a = All-head IsSlightRange r rs h in
-    All-cons IsNear x xs (between r.0 r.1 x a.0 a.1 b.0 b.1) (slight_inside rs xs (All-tail IsSlightRange r rs h) b.2)
+    All-cons (λ x. unsigned_abs x ≤ 2 ^ 40) x xs (between r.0 r.1 x a.0 a.1 b.0 b.1) (slight_inside rs xs (All-tail IsSlightRange r rs h) b.2)
   where
-    between : (l u x : ℤ) → unsigned_abs l ≤ 2 ^ 40 → unsigned_abs u ≤ 2 ^ 40 → l ≤ℤ x → x ≤ℤ u → unsigned_abs x ≤ 2 ^ 60
+    between : (l u x : ℤ) → unsigned_abs l ≤ 2 ^ 40 → unsigned_abs u ≤ 2 ^ 40 → l ≤ℤ x → x ≤ℤ u → unsigned_abs x ≤ 2 ^ 40
     between l u x a b c d = grind (arith, ints)
 
 -- ---- Limits
 
 wider_form : (f : Affine) → FitsForm narrow f → FitsForm widest f
-wider_form f h = record { coefs_fit = All-weaken (λ c. unsigned_abs c ≤ 2 ^ 20) (λ c. unsigned_abs c ≤ 2 ^ 24) (λ c l. coef (unsigned_abs c) l) f.coefs h.coefs_fit; constant_fits = constant (unsigned_abs f.constant) h.constant_fits }
+wider_form f h = record { coefs_fit = All-weaker (λ c. unsigned_abs c ≤ 2 ^ 20) (λ c. unsigned_abs c ≤ 2 ^ 24) (λ c l. coef (unsigned_abs c) l) f.coefs h.coefs_fit; constant_fits = constant (unsigned_abs f.constant) h.constant_fits }
   where
     coef : (n : ℕ) → n ≤ 2 ^ 20 → n ≤ 2 ^ 24
     coef n h = omega (arith, h)
@@ -64,7 +70,7 @@ wider_tree (Div f by rest) h = (wider_form f h.0, less by h.1, wider_tree rest h
   where
     less : (z : ℤ) → z ≤ℤ pos (2 ^ 20) → z ≤ℤ pos (2 ^ 24)
     less z h = omega (arith, ints, h)
-wider_tree (Source s forms) h = All-weaken (FitsForm narrow) (FitsForm widest) wider_form forms h
+wider_tree (Source s forms) h = All-weaker (FitsForm narrow) (FitsForm widest) wider_form forms h
 wider_tree Input h = tt
 
 -- ---- Instances
@@ -76,11 +82,7 @@ module _ (program : Program) (p : List ℤ) (has : HasNest program) (inside : Is
       let own : Instance = record { statement = r.0.statement; iterators = b.iterators } in
       let there : IsIn own (trace program p) = subst (λ i. IsIn i (trace program p)) (λ i. record { statement = sym r.1 i; iterators = b.iterators }) runs in
       let ranges = ranges_hold_iterators program r.0.statement r.0 has r.2.at r.2.alive in
-      All-weaken (λ x. unsigned_abs x ≤ 2 ^ 40) IsNear (λ x l. wider (unsigned_abs x) l) b.iterators
-      (near_inside r.0.ranges b.iterators (λ q j. (ranges.near q j).1) (ranges.hold p own refl inside there))
-    where
-      wider : (n : ℕ) → n ≤ 2 ^ 40 → n ≤ 2 ^ 60
-      wider n h = omega (arith, h)
+      nearer b.iterators (near_inside r.0.ranges b.iterators (λ q j. (ranges.near q j).1) (ranges.hold p own refl inside there))
 
   source_near : (b : Instance) (x : Element) (source : Option Instance) → IsSource program p b x source → IfSome source (λ w. All IsNear w.iterators)
   source_near b x None s = tt
@@ -105,9 +107,10 @@ found_may_be_asked program p trees has named inside names within s k e tree b at
       limits = wider_tree tree (subst (FitsTree narrow) same t.2.fits);
       short = shorter (depth_of tree) (subst (λ t. depth_of t ≤ 302) same t.2.short);
       few = fewer (length (p ++ b.iterators)) (length (nest_of program).params) (length e.loops) long few_params few_loops;
-      near = slight_inside ((nest_of program).params ++ e.ranges) (p ++ b.iterators)
+      near = nearer (p ++ b.iterators)
+          (slight_inside ((nest_of program).params ++ e.ranges) (p ++ b.iterators)
           (box_slight (nest_of program) nested e among (flow.alive program p trees has named inside s k e at less a.0 a.1 b number runs) few_params few_loops ((nest_of program).params ++ e.ranges) refl)
-          (flow.its_box program p trees has named inside s k e at less a.0 a.1 b number runs);
+          (flow.its_box program p trees has named inside s k e at less a.0 a.1 b number runs));
       quotients = all.near s k e tree at less there b number runs;
       iterators = source_near program p has inside b (element_at (p ++ b.iterators) a.0) (named_at tree (p ++ b.iterators))
           (subst (λ t. IsSource program p b (element_at (p ++ b.iterators) a.0) (named_at t (p ++ b.iterators))) (same_Some source.0 tree (sym source.1 ∙ there))
