@@ -143,7 +143,7 @@ fn less_column(
 
 /// A column, and its form without it.
 #[derive(Drop)]
-struct Known {
+struct Pivot {
     at: usize,
     form: Form,
 }
@@ -160,11 +160,11 @@ fn told_of(
     columns: &Columns<'_>,
     equation: &Form,
     at: usize,
-) -> Result<Option<Known>, Unasked> {
+) -> Result<Option<Pivot>, Unasked> {
     let turned = turned(alloc, equation, at)?;
     match told(alloc, columns, &turned, at)? {
         None => Ok(None),
-        Some(form) => Ok(Some(Known { at, form })),
+        Some(form) => Ok(Some(Pivot { at, form })),
     }
 }
 
@@ -175,7 +175,7 @@ fn parted_of(
     equation: &Form,
     at: usize,
     divisions: &mut Vec<Division>,
-) -> Result<Option<Known>, Unasked> {
+) -> Result<Option<Pivot>, Unasked> {
     let turned = turned(alloc, equation, at)?;
     let Some(rest) = rest_of(columns, &turned, at)? else {
         return Ok(None);
@@ -186,7 +186,7 @@ fn parted_of(
         None => Ok(None),
         Some(part) => {
             let form = less_column(alloc, columns, &part, 1, at)?;
-            Ok(Some(Known { at, form }))
+            Ok(Some(Pivot { at, form }))
         }
     }
 }
@@ -197,7 +197,7 @@ fn first_told(
     columns: &Columns<'_>,
     equations: &[Form],
     divisions: &mut Vec<Division>,
-) -> Result<Option<Known>, Unasked> {
+) -> Result<Option<Pivot>, Unasked> {
     let own = columns.own as usize;
     for equation in equations {
         if let Some(at) = last_column(equation, own) {
