@@ -134,7 +134,8 @@ fn rows_at(alloc: Global, work: &Work<'_>, forms: &[Form]) -> Result<Items<Form>
     let depth = work.drafting.depth;
     if depth < common(work) {
         if let Some(form) = forms.get(depth) {
-            let mut own = column(alloc, all, work.params.saturating_add(depth as u32))?;
+            let place = work.params.saturating_add(count(depth)?);
+            let mut own = column(alloc, all, place)?;
             own.constant = -1;
             let made = mixed(alloc, &own, 1, form, -1)?;
             out.push(made)?;

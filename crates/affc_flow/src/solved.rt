@@ -1,7 +1,7 @@
 //! Equations over the columns of a load and the iterators of a store behind them, solved. Nothing is promised of this.
 
 use crate::load::Load;
-use crate::questions::Unasked;
+use crate::questions::{Unasked, count};
 use crate::strides::{divided, quotient};
 use affc_nest::forms::column;
 use affc_order::columns::spread;
@@ -137,7 +137,7 @@ fn less_column(
     at: usize,
 ) -> Result<Form, Unasked> {
     let part = spread(alloc, part, 0, 0, columns.loops)?;
-    let place = column(alloc, columns.all, at as u32)?;
+    let place = column(alloc, columns.all, count(at)?)?;
     mixed(alloc, &part, times, &place, -1)
 }
 
