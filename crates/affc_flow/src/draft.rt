@@ -134,7 +134,8 @@ fn rows_at(alloc: Global, work: &Work<'_>, forms: &[Form]) -> Result<Items<Form>
     let depth = work.drafting.depth;
     if depth < common(work) {
         if let Some(form) = forms.get(depth) {
-            let mut own = column(alloc, all, work.params.saturating_add(depth as u32))?;
+            let place = work.params.saturating_add(count(depth)?);
+            let mut own = column(alloc, all, place)?;
             own.constant = -1;
             let made = mixed(alloc, &own, 1, form, -1)?;
             out.push(made)?;
@@ -247,7 +248,12 @@ fn add_drafts(
 }
 
 /// Adds the drafts that fit.
-fn add_all(alloc: Global, work: &Work<'_>, divisions: &mut Vec<Division>, out: &mut Vec<Items<Form>>) -> Result<(), Unasked> {
+fn add_all(
+    alloc: Global,
+    work: &Work<'_>,
+    divisions: &mut Vec<Division>,
+    out: &mut Vec<Items<Form>>,
+) -> Result<(), Unasked> {
     let solved = begun(alloc, work, divisions)?;
     let mut tries = MOST_TRIES;
     let loops = work.columns.loops;
@@ -280,7 +286,11 @@ fn arranged<'a>(alloc: Global, drafting: &'a Drafting<'a>) -> Result<Work<'a>, U
 }
 
 /// Drafts of the instance of a statement that a load reads, a form for each iterator. Divisions that they want are added.
-pub(crate) fn drafts_of(alloc: Global, drafting: &Drafting<'_>, divisions: &mut Vec<Division>) -> Result<Vec<Items<Form>>, Unasked> {
+pub(crate) fn drafts_of(
+    alloc: Global,
+    drafting: &Drafting<'_>,
+    divisions: &mut Vec<Division>,
+) -> Result<Vec<Items<Form>>, Unasked> {
     let work = arranged(alloc, drafting)?;
     let mut out = Vec::new(alloc);
     match add_all(alloc, &work, divisions, &mut out) {

@@ -1,7 +1,7 @@
 //! Equations over the columns of a load and the iterators of a store behind them, solved. Nothing is promised of this.
 
 use crate::load::Load;
-use crate::questions::Unasked;
+use crate::questions::{Unasked, count};
 use crate::strides::{divided, quotient};
 use affc_nest::forms::column;
 use affc_order::columns::spread;
@@ -137,13 +137,13 @@ fn less_column(
     at: usize,
 ) -> Result<Form, Unasked> {
     let part = spread(alloc, part, 0, 0, columns.loops)?;
-    let place = column(alloc, columns.all, at as u32)?;
+    let place = column(alloc, columns.all, count(at)?)?;
     mixed(alloc, &part, times, &place, -1)
 }
 
 /// A column, and its form without it.
 #[derive(Drop)]
-struct Told {
+struct Pivot {
     at: usize,
     form: Form,
 }
@@ -160,11 +160,11 @@ fn told_of(
     columns: &Columns<'_>,
     equation: &Form,
     at: usize,
-) -> Result<Option<Told>, Unasked> {
+) -> Result<Option<Pivot>, Unasked> {
     let turned = turned(alloc, equation, at)?;
     match told(alloc, columns, &turned, at)? {
         None => Ok(None),
-        Some(form) => Ok(Some(Told { at, form })),
+        Some(form) => Ok(Some(Pivot { at, form })),
     }
 }
 
@@ -175,7 +175,7 @@ fn parted_of(
     equation: &Form,
     at: usize,
     divisions: &mut Vec<Division>,
-) -> Result<Option<Told>, Unasked> {
+) -> Result<Option<Pivot>, Unasked> {
     let turned = turned(alloc, equation, at)?;
     let Some(rest) = rest_of(columns, &turned, at)? else {
         return Ok(None);
@@ -186,7 +186,7 @@ fn parted_of(
         None => Ok(None),
         Some(part) => {
             let form = less_column(alloc, columns, &part, 1, at)?;
-            Ok(Some(Told { at, form }))
+            Ok(Some(Pivot { at, form }))
         }
     }
 }
@@ -197,7 +197,7 @@ fn first_told(
     columns: &Columns<'_>,
     equations: &[Form],
     divisions: &mut Vec<Division>,
-) -> Result<Option<Told>, Unasked> {
+) -> Result<Option<Pivot>, Unasked> {
     let own = columns.own as usize;
     for equation in equations {
         if let Some(at) = last_column(equation, own) {

@@ -48,7 +48,7 @@ fn number_of(
     let there = divisions.iter().position(|d| d.by == by
         && d.form.coefs.as_slice() == form.coefs.as_slice());
     if let Some(at) = there {
-        return Ok(Some(at as u32));
+        return Ok(u32::try_from(at).ok());
     }
     let at = divisions.len();
     if at >= MOST_DIVISIONS as usize {
