@@ -19,8 +19,8 @@ use affc_nest::{Nest, NestFault, extract};
 use affc_split::{Budget, Stop};
 use std::alloc::Global;
 
-/// The nest of a program, unless the range of a loop passes 2^31.
-fn extracted(alloc: Global, program: &Program) -> Result<Nest, Halt>
+/// The nest of a program, unless the range of a loop passes 2^31. No unit of a budget is spent.
+pub fn nest(alloc: Global, program: &Program) -> Result<Nest, Halt>
     requires plain { IsPlain program.now }
     ensures nest { IfOk result (λ nest. nest ≡ nest_of program.now) }
     ensures near { OnOk result (first_wide program.now ≡ None) }
@@ -66,12 +66,18 @@ fn first_fault(
     }
 }
 
-/// The nest of a program that keeps to its arrays at all values of its parameters, or what is wrong with it. A unit of
-/// the budget is a box of a question that is opened.
-pub fn check(alloc: Global, program: &Program, budget: &mut Budget) -> Result<Nest, Halt>
+/// Whether a program keeps to its arrays at all values of its parameters, or what is wrong with it. A unit of the budget is a
+/// box of a question that is opened.
+pub fn check(
+    alloc: Global,
+    program: &Program,
+    nest: &Nest,
+    budget: &mut Budget,
+) -> Result<(), Halt>
     requires plain { IsPlain program.now }
     requires arrays { NamesArrays program.now }
-    ensures nest { IfOk result (λ nest. nest ≡ nest_of program.now) }
+    requires near { first_wide program.now ≡ None }
+    requires nest { nest.now ≡ nest_of program.now }
     ensures within { OnOk result (StaysWithin program.now) }
     ensures fault { IfErr result (HaltSays program.now) }
     ensures limit { budget.new.limit ≡ budget.old.limit }
@@ -79,9 +85,8 @@ pub fn check(alloc: Global, program: &Program, budget: &mut Budget) -> Result<Ne
     ensures uncounted { IsNone budget.old.limit → budget.new.spent ≡ budget.old.spent }
     ensures stop { IfErr result (λ h. h ≡ Halt.Budget → budget.new.limit ≡ Some budget.new.spent) }
 {
-    let nest = extracted(alloc, program)?;
-    match first_fault(alloc, &nest, budget)? {
-        None => Ok(nest),
+    match first_fault(alloc, nest, budget)? {
+        None => Ok(()),
         Some(fault) => Err(Halt::Meaning(fault)),
     }
 }

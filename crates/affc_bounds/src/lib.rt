@@ -11,5 +11,5 @@ mod found;
 pub mod laws;
 mod points;
 
-pub use checks::check;
+pub use checks::{check, nest};
 pub use fault::{Halt, MeaningFault};

@@ -1,3 +1,4 @@
 pub mod Openings
 pub mod Answers
 pub mod ExampleProofs
+pub mod Spending

@@ -1,5 +1,5 @@
 -- The boxes that are opened in the search of parts.
-use Rattle.std.proofs.Common.{◌≡◌, ◌≢◌, ℕ, zero, suc, ◌+◌, ◌<◌, ◌≤◌, List, [], ◌∷◌, ◌++◌, length, slice_index_or, ℤ, pos, ◌+ℤ◌, ◌≤ℤ◌, ◌<ℤ◌, sym, ap, subst, ◌∙◌, arith, inl, inr}
+use Rattle.std.proofs.Common.{◌≡◌, ◌≢◌, ℕ, zero, suc, ◌+◌, ◌<◌, ◌≤◌, List, [], ◌∷◌, ◌++◌, length, slice_index_or, ℤ, pos, ◌+ℤ◌, ◌≤ℤ◌, ◌<ℤ◌, sym, subst, ◌∙◌, arith, inl, inr}
 use Rattle.std.specs.Prelude.{IfOk}
 use Rattle.std.proofs.Common.{Result, Ok, Err, Vec, Box, Global}
 use Rattle.affc_split.specs.declared.budget.Stop.{Stop}
@@ -139,7 +139,7 @@ itself b x h = h
 
 -- ---- what is opened
 
-none_fewer : (f : Found) → AreFewer 0 f []
+pub none_fewer : (f : Found) → AreFewer 0 f []
 none_fewer (Empty p) = some_nodes p.value
 none_fewer (Point x) = All-nil (IsUpTo x.items)
 
@@ -158,9 +158,9 @@ leaf_opened half a b f u = record {
 later : (a m b n : ℕ) → m ≡ a + 1 → b ≡ m + (0 + n) → b ≡ a + (1 + n)
 later a m b n e f = omega arith
 
--- a half that is opened and then searched
-half_opened : (half : Ranges) (a m b : Account) (f : Found) → m.limit ≡ a.limit → IsUnit a m → Searched 0 half m b (AreFewer 0 f) → Searched 1 half a b (AreFewer 0 f)
-half_opened half a m b f same u s = record {
+-- a box that is opened and then searched
+pub half_opened : (half : Ranges) (a m b : Account) (Suit : List Ranges → Type 0) → m.limit ≡ a.limit → IsUnit a m → Searched 0 half m b Suit → Searched 1 half a b Suit
+half_opened half a m b Suit same u s = record {
   others = s.others;
   distinct = s.distinct;
   ordered = s.ordered;
@@ -170,32 +170,15 @@ half_opened half a m b f same u s = record {
   suit = s.suit;
 }
 
-pub half_searched : (half part : Ranges) (a m b : Account) (r : Result Found Stop) → part ≡ half → m.limit ≡ a.limit → IsUnit a m → IfOk r (λ f. Searched 0 part m b (AreFewer 0 f))
-    → IfOk r (λ f. Searched 1 half a b (AreFewer 0 f))
-half_searched half part a m b (Err e) same l u s = tt
-half_searched half part a m b (Ok f) same l u s = half_opened half a m b f l u (subst (λ w. Searched 0 w m b (AreFewer 0 f)) same s)
-
-pub nothing_spent : (whole : Ranges) (a b : Account) (f : Found) → b.spent ≡ a.spent → Searched 0 whole a b (AreFewer 0 f)
-nothing_spent whole a b f same = record {
+pub nothing_opened : (whole : Ranges) (a : Account) (Suit : List Ranges → Type 0) → Suit [] → Searched 0 whole a a Suit
+nothing_opened whole a Suit n = record {
   others = [];
   distinct = tt;
   ordered = All-nil IsBox;
   parts = All-nil (λ b. IsPart b whole);
   proper = All-nil (IsProper whole);
-  counted = λ l e. omega (arith, same);
-  suit = none_fewer f;
-}
-
--- from an account that says the same
-pub before_kept : (own : ℕ) (part : Ranges) (a m b : Account) (Suit : List Ranges → Type 0) → m.limit ≡ a.limit → m.spent ≡ a.spent → Searched own part m b Suit → Searched own part a b Suit
-before_kept own part a m b Suit l e s = record {
-  others = s.others;
-  distinct = s.distinct;
-  ordered = s.ordered;
-  parts = s.parts;
-  proper = s.proper;
-  counted = λ n h. s.counted n (l ∙ h) ∙ ap (λ k. k + (own + length s.others)) e;
-  suit = s.suit;
+  counted = λ l e. omega arith;
+  suit = n;
 }
 
 -- within a part, as a search of the whole
@@ -211,11 +194,11 @@ more_room c k m p q n a b e = omega arith
 room_zero : (p n : ℕ) → p ≤ n → 0 + p < (n + 1) + 0
 room_zero p n h = omega arith
 
-room_joined : (l p : ℕ) → (l + 1) + p < (((l + p) + 1) + 1) + 0
+pub room_joined : (l p : ℕ) → (l + 1) + p < (((l + p) + 1) + 1) + 0
 room_joined l p = omega arith
 
 -- the search of one part alone
-pub one_part : (part other whole : Ranges) (a b : Account) (f g : Found) (s : Searched 0 part a b (AreFewer 0 f)) → AreParts part other whole → AreFewer 0 g s.others → Searched 0 whole a b (AreFewer 0 g)
+one_part : (part other whole : Ranges) (a b : Account) (f g : Found) (s : Searched 0 part a b (AreFewer 0 f)) → AreParts part other whole → AreFewer 0 g s.others → Searched 0 whole a b (AreFewer 0 g)
 one_part part other whole a b f g s p n =
     let w = wider part other whole s.others p s.parts in
     record {
@@ -232,7 +215,7 @@ pub one_point : (part other whole : Ranges) (a b : Account) (f g : Found) → Ar
 one_point part other whole a b f g p e s = one_part part other whole a b f g s p (subst (λ h. AreFewer 0 h s.others) (sym e) s.suit)
 
 -- more nodes bear more boxes
-roomier : (own k m : ℕ) (part : Ranges) (a b : Account) (p : Box Proof Global) (g : Found) (n : ℕ) → k + nodes p.value < n + 1 + m → HasNodes n g → Searched own part a b (AreFewer m (Empty p)) → Searched own part a b (AreFewer k g)
+pub roomier : (own k m : ℕ) (part : Ranges) (a b : Account) (p : Box Proof Global) (g : Found) (n : ℕ) → k + nodes p.value < n + 1 + m → HasNodes n g → Searched own part a b (AreFewer m (Empty p)) → Searched own part a b (AreFewer k g)
 roomier own k m part a b p (Point x) n l e s = absurd e
 roomier own k m part a b p (Empty q) n l e s = record {
   others = s.others;
@@ -251,11 +234,6 @@ one_proof part other whole a b p n (Err e) q l h s = tt
 one_proof part other whole a b p n (Ok g) q l h s =
     let t = roomier 0 0 0 part a b p g n (room_zero _ _ l) h s in
     one_part part other whole a b g g t q t.suit
-
-pub joined_opened : (half : Ranges) (a b : Account) (low : Proof) (p : Box Proof Global) (r : Result Found Stop) → IfOk r (HasNodes ((nodes low + nodes p.value) + 1))
-    → Searched 1 half a b (AreFewer 0 (Empty p)) → IfOk r (λ g. Searched 1 half a b (AreFewer (nodes low + 1) g))
-joined_opened half a b low p (Err e) h s = tt
-joined_opened half a b low p (Ok g) h s = roomier 1 (nodes low + 1) 0 half a b p g _ (room_joined _ _) h s
 
 pub point_opened : (half : Ranges) (a b : Account) (m : ℕ) (x : Vec ℤ Global) (g : Found) → g ≡ Point x → Searched 1 half a b (AreFewer 0 (Point x)) → Searched 1 half a b (AreFewer m g)
 point_opened half a b m x g e s = subst (λ h. Searched 1 half a b (AreFewer m h)) (sym e) (record {
@@ -312,7 +290,7 @@ both_needed low high cs bs p (Point x) n h a k =
     (All-cons (IsUpTo x.items) high bs (inl a.0) k)
 
 -- the search of the lower half and then of the upper one
-pub both_parts : (low high whole : Ranges) (a m b : Account) (p : Box Proof Global) (f : Found) → AreParts low high whole → m.limit ≡ a.limit
+both_parts : (low high whole : Ranges) (a m b : Account) (p : Box Proof Global) (f : Found) → AreParts low high whole → m.limit ≡ a.limit
     → Searched 1 low a m (AreFewer 0 (Empty p)) → Searched 1 high m b (AreFewer (nodes p.value + 1) f) → IsAfter low high f → Searched 0 whole a b (AreFewer 0 f)
 both_parts low high whole a m b p f parts same s t after =
     let lows = low ∷ s.others in
@@ -351,9 +329,6 @@ halves_searched system bs j at r n a m b p (Ok g) bounds free l u same none answ
     both_parts (ranges_of (lowered bs j at r)) (ranges_of (raised bs j at r)) (ranges_of bs) a m b p g (halves_parts bs j at r r bounds free.there l u) same s t
     (after_low system bs j at r n g free none answer)
 
-pub first_side : (l r : ℕ) → l ≤ (l + r) + 1
-first_side l r = omega arith
-
 pub second_side : (l r : ℕ) → r ≤ (l + r) + 1
 second_side l r = omega arith
 
@@ -390,16 +365,9 @@ point_answer whole part a b x f w e s =
       suit = t.suit;
     }
 
-pub leaf_answer : (whole : Ranges) (a : Account) (q : Proof) → Searched 0 whole a a (AreFewerFor (answer.Empty q))
-leaf_answer whole a q = record {
-  others = [];
-  distinct = tt;
-  ordered = All-nil IsBox;
-  parts = All-nil (λ b. IsPart b whole);
-  proper = All-nil (IsProper whole);
-  counted = λ l e. omega arith;
-  suit = some_nodes q;
-}
+pub none_fewer_for : (g : Answer) → AreFewerFor g []
+none_fewer_for (answer.Empty q) = some_nodes q
+none_fewer_for (answer.Point x) = All-nil (IsUpTo x.items)
 
 -- the whole box counts for itself
 pub whole_opened : (system : Rows) (whole : Ranges) (a b : Account) (r : Result Answer Stop) → IfOk r (λ g. IfPoint g (IsLeastPoint system whole))

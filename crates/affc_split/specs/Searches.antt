@@ -1,14 +1,15 @@
--- The boxes that the search of a part opens.
-use Rattle.std.specs.Prelude.{◌≡◌, ℕ, ◌+◌, ◌<◌, List, length, ℤ, Some}
+-- The boxes that the search of a part opens, and what it spends.
+use Rattle.std.specs.Prelude.{◌≡◌, ℕ, ◌+◌, ◌*◌, ◌<◌, ◌≤◌, List, length, ℤ, Some, Result, IfOk, IfErr}
 use Rattle.std.specs.List.{All}
 use Rattle.affc_system.specs.Boxes.{IsBox, InBox}
+use Rattle.affc_leaf.specs.Points.{points}
+use Rattle.affc_split.specs.declared.budget.Stop.{Stop}
+use Rattle.affc_split.specs.declared.budget.Stop.TheVariants.{Budget}
 use Rattle.affc_split.specs.declared.search.Answer.{Answer}
 use Rattle.affc_split.specs.declared.search.Answer.TheVariants as answer
 use Rattle.affc_split.specs.declared.search.Found.{Found}
 use Rattle.affc_split.specs.declared.search.Found.TheVariants.{Empty, Point}
-use Rattle.affc_split.specs.declared.search.Look.{Look}
-use Rattle.affc_split.specs.declared.search.Look.TheVariants.{Known, Free}
-use Rattle.affc_split.specs.Budgets.{Account}
+use Rattle.affc_split.specs.Budgets.{Account, IsLater}
 use Rattle.affc_split.specs.Openings.{nodes, IsPart, AreDistinct, IsUpTo}
 
 -- the proof has more nodes than these boxes and so many more; none of the boxes lies behind the point
@@ -32,12 +33,21 @@ pub record Searched (own : ℕ) (part : List (ℤ × ℤ)) (before after : Accou
   pub counted : (l : ℕ) → before.limit ≡ Some l → after.spent ≡ before.spent + (own + length others)
   pub suit : Suit others
 
+-- what the search of a part spends and opens: for a part of n points at most 2n - 2 units, and one more where the part itself is
+-- counted here, for boxes that are few for what is found. It stops only where the limit is reached, before so many are spent
+pub record Spends {A : Type 0} (AreFew : A → List (List (ℤ × ℤ)) → Type 0) (own : ℕ) (part : List (ℤ × ℤ)) (before after : Account) (result : Result A Stop) : Type 0 where
+  pub later : IsLater before after
+  pub cost : after.spent + 2 ≤ before.spent + (own + 2 * points part)
+  pub opened : IfOk result (λ found. Searched own part before after (AreFew found))
+  pub stop : IfErr result (λ e. e ≡ Budget → after.limit ≡ Some after.spent)
+  pub short : IfErr result (λ e. e ≡ Budget → after.spent + 3 ≤ before.spent + (own + 2 * points part))
+
 -- the proof has so many nodes
 abbrev pub HasNodes : ℕ → Found → Type 0
 HasNodes n (Empty p) = nodes p.value ≡ n
 HasNodes n (Point x) = ⊥
 
--- P holds of what is found, where something is
-abbrev pub IfKnown : Look → (Found → Type 0) → Type 0
-IfKnown (Known f) P = P f
-IfKnown (Free j) P = Unit {0}
+-- what is found in a whole of which one side has a proof of so many nodes, and this is found in the other side
+abbrev pub IsBeside : ℕ → Found → Found → Type 0
+IsBeside n (Empty p) whole = HasNodes ((n + nodes p.value) + 1) whole
+IsBeside n (Point x) whole = whole ≡ Point x

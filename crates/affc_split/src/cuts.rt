@@ -1,13 +1,13 @@
 //! The search with the cuts of a system's rows.
-ghost use Rattle.std.specs.Prelude.{◌≡◌, ℕ, List, ◌+◌, ◌-◌, ◌*◌, ◌^◌, ◌<◌, ◌≤◌, IfOk, IfErr, IsNone, Some, length};
+ghost use Rattle.std.specs.Prelude.{◌≡◌, ℕ, List, ◌+◌, ◌-◌, ◌*◌, ◌^◌, ◌<◌, ◌≤◌, IfOk, length};
 ghost use Rattle.std.specs.List.{All};
-ghost use Rattle.affc_leaf.specs.Bounds.{ranges_of, size};
+ghost use Rattle.affc_leaf.specs.Bounds.{ranges_of};
 ghost use Rattle.affc_leaf.specs.Parts.{Ready};
-ghost use Rattle.affc_split.specs.Search.{IsFound};
-ghost use Rattle.affc_split.specs.Searches.{AreFewer, Searched};
+ghost use Rattle.affc_split.specs.Search.{IsFound, IsReady};
+ghost use Rattle.affc_split.specs.Searches.{AreFewer, Spends};
 
 use crate::budget::{Budget, Stop};
-use crate::search::{Found, SPARE, inside};
+use crate::search::{Found, Here, SPARE, inside};
 use affc_leaf::Bound;
 use affc_leaf::box_cuts::found_empty;
 use affc_leaf::cuts::{cut_proof, next_cut, push_cut};
@@ -17,34 +17,18 @@ use std::alloc::Global;
 
 /// Searches a box that is open, after a look for a leaf of it.
 #[inline(never)]
-#[tactic(auto, using(affc_leaf::proofs::Halves::some_points))]
-fn rooted(
-    alloc: Global,
-    system: &System,
-    bounds: &[Bound],
-    next: u32,
-    left: u32,
-    budget: &mut Budget,
-) -> Result<Found, Stop>
-    requires ready { Ready system.now.columns bounds.now next left }
-    requires spare { (next + left) + 100 < 2 ^ 32 }
-    ensures answer { IfOk result (λ a. IsFound system.now bounds.now next a) }
-    ensures limit { budget.new.limit ≡ budget.old.limit }
-    ensures uncounted { IsNone budget.old.limit → budget.new.spent ≡ budget.old.spent }
-    ensures grows { budget.old.spent ≤ budget.new.spent }
-    ensures cost { budget.new.spent + 2 ≤ budget.old.spent + 2 * size bounds.now }
-    ensures opened { IfOk result (λ a. Searched 0 (ranges_of bounds.now) budget.old budget.new (AreFewer 0 a)) }
-    ensures stop { IfErr result (λ e. e ≡ Stop.Budget → budget.new.limit ≡ Some budget.new.spent) }
-    ensures short { IfErr result (λ e. e ≡ Stop.Budget → budget.new.spent + 3 ≤ budget.old.spent + 2 * size bounds.now) }
+fn rooted(here: &Here<'_>, budget: &mut Budget) -> Result<Found, Stop>
+    requires ready { IsReady here.now }
+    ensures answer { IfOk result (IsFound here.now.system.now here.now.bounds.now here.now.next) }
+    ensures spends { Spends (AreFewer 0) 0 (ranges_of here.now.bounds.now) budget.old budget.new result }
 {
-    if let Some(proof) = found_empty(alloc, system, bounds, next)? {
+    if let Some(proof) = found_empty(here.alloc, here.system, here.bounds, here.next)? {
         return Ok(Found::Empty(proof));
     }
-    inside(alloc, system, bounds, next, left, SPARE, budget)
+    inside(here, budget)
 }
 
 /// Cuts each row, from a number on, that gains by it, and searches the box with the cuts.
-#[tactic(auto, using(affc_leaf::proofs::Halves::some_points))]
 pub(crate) fn with_cuts(
     alloc: Global,
     mut system: System,
@@ -58,14 +42,8 @@ pub(crate) fn with_cuts(
     requires ready { Ready system.columns bounds.now next left }
     requires next { next ≡ length system.rows }
     requires left { left ≤ 8000 }
-    ensures answer { IfOk result (λ a. IsFound system bounds.now next a) }
-    ensures limit { budget.new.limit ≡ budget.old.limit }
-    ensures uncounted { IsNone budget.old.limit → budget.new.spent ≡ budget.old.spent }
-    ensures grows { budget.old.spent ≤ budget.new.spent }
-    ensures cost { budget.new.spent + 2 ≤ budget.old.spent + 2 * size bounds.now }
-    ensures opened { IfOk result (λ a. Searched 0 (ranges_of bounds.now) budget.old budget.new (AreFewer 0 a)) }
-    ensures stop { IfErr result (λ e. e ≡ Stop.Budget → budget.new.limit ≡ Some budget.new.spent) }
-    ensures short { IfErr result (λ e. e ≡ Stop.Budget → budget.new.spent + 3 ≤ budget.old.spent + 2 * size bounds.now) }
+    ensures answer { IfOk result (IsFound system bounds.now next) }
+    ensures spends { Spends (AreFewer 0) 0 (ranges_of bounds.now) budget.old budget.new result }
 {
     if next < MOST_ROWS as u32 {
         if let Some(cut) = next_cut(alloc, &system, from, count)? {
@@ -80,5 +58,13 @@ pub(crate) fn with_cuts(
             };
         }
     }
-    rooted(alloc, &system, bounds, next, left, budget)
+    let here = Here {
+        alloc,
+        system: &system,
+        bounds,
+        next,
+        left,
+        spare: SPARE,
+    };
+    rooted(&here, budget)
 }

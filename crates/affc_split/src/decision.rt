@@ -12,12 +12,12 @@ ghost use Rattle.affc_leaf.specs.Bounds.{IsBound, size};
 ghost use Rattle.affc_split.specs.Budgets.{IsLater};
 ghost use Rattle.affc_split.specs.Openings.{Opened};
 ghost use Rattle.affc_leaf.specs.Parts.{IsEmpty, Ready, box_bounds};
-ghost use Rattle.affc_split.specs.Searches.{AreFewerFor, Searched};
+ghost use Rattle.affc_split.specs.Searches.{AreFewerFor, Spends};
 
 use crate::budget::{Budget, Stop};
 use crate::cuts::with_cuts;
 use crate::parts::at_lows;
-use crate::search::{Answer, Found, SPARE, inside};
+use crate::search::{Answer, Found, Here, SPARE, inside};
 use affc_farkas::Proof;
 use affc_leaf::boxed::{boxed_system, refuted};
 use affc_leaf::cuts::has_cut;
@@ -134,7 +134,6 @@ fn eliminated(
 }
 
 /// What is found in the whole box with the cuts of the system's rows.
-#[tactic(auto, using(affc_leaf::proofs::Halves::some_in_ranges))]
 fn cut_and_searched(
     alloc: Global,
     system: &System,
@@ -155,13 +154,7 @@ fn cut_and_searched(
     ensures empty { IfOk result (λ a. IfEmpty a (λ p. ValidProof (with_box system.now ranges.now) p)) }
     ensures plain { IfOk result (λ a. IfEmpty a SplitsAtZero) }
     ensures point { IfOk result (λ a. IfPoint a (IsLeastPoint system.now ranges.now)) }
-    ensures limit { budget.new.limit ≡ budget.old.limit }
-    ensures uncounted { IsNone budget.old.limit → budget.new.spent ≡ budget.old.spent }
-    ensures grows { budget.old.spent ≤ budget.new.spent }
-    ensures cost { budget.new.spent + 2 ≤ budget.old.spent + 2 * points ranges.now }
-    ensures opened { IfOk result (λ a. Searched 0 ranges.now budget.old budget.new (AreFewerFor a)) }
-    ensures stop { IfErr result (λ e. e ≡ Stop.Budget → budget.new.limit ≡ Some budget.new.spent) }
-    ensures short { IfErr result (λ e. e ≡ Stop.Budget → budget.new.spent + 3 ≤ budget.old.spent + 2 * points ranges.now) }
+    ensures spends { Spends AreFewerFor 0 ranges.now budget.old budget.new result }
 {
     let count = system.rows().len();
     let boxed = boxed_system(alloc, system, ranges)?;
@@ -192,27 +185,27 @@ fn searched(
     ensures empty { IfOk result (λ a. IfEmpty a (λ p. ValidProof (with_box system.now ranges.now) p)) }
     ensures plain { IfOk result (λ a. IfEmpty a SplitsAtZero) }
     ensures point { IfOk result (λ a. IfPoint a (IsLeastPoint system.now ranges.now)) }
-    ensures limit { budget.new.limit ≡ budget.old.limit }
-    ensures uncounted { IsNone budget.old.limit → budget.new.spent ≡ budget.old.spent }
-    ensures grows { budget.old.spent ≤ budget.new.spent }
-    ensures cost { budget.new.spent + 2 ≤ budget.old.spent + 2 * points ranges.now }
-    ensures opened { IfOk result (λ a. Searched 0 ranges.now budget.old budget.new (AreFewerFor a)) }
-    ensures stop { IfErr result (λ e. e ≡ Stop.Budget → budget.new.limit ≡ Some budget.new.spent) }
-    ensures short { IfErr result (λ e. e ≡ Stop.Budget → budget.new.spent + 3 ≤ budget.old.spent + 2 * points ranges.now) }
+    ensures spends { Spends AreFewerFor 0 ranges.now budget.old budget.new result }
 {
     let _rows = system.rows();
     if next < MOST_ROWS as u32 && has_cut(system) {
-        let answer = cut_and_searched(alloc, system, ranges, bounds, next, left, budget)?;
-        return Ok(answer);
+        return cut_and_searched(alloc, system, ranges, bounds, next, left, budget);
     }
-    match inside(alloc, system, bounds, next, left, SPARE, budget)? {
+    let here = Here {
+        alloc,
+        system,
+        bounds,
+        next,
+        left,
+        spare: SPARE,
+    };
+    match inside(&here, budget)? {
         Found::Empty(proof) => Ok(Answer::Empty(Box::into_inner(proof))),
         Found::Point(point) => Ok(Answer::Point(point)),
     }
 }
 
 /// The decision after the whole box is opened.
-#[tactic(auto, using(affc_leaf::proofs::Halves::some_in_ranges))]
 fn opened(
     alloc: Global,
     system: &System,
@@ -226,17 +219,11 @@ fn opened(
     ensures plain { IfOk result (λ a. IfEmpty a SplitsAtZero) }
     ensures leaf { length system.now.rows + 2 * system.now.columns ≤ 1024 → IfOk result (λ a. IfEmpty a (λ p. IsLeafProof p ⊎ IsHard (with_box system.now ranges.now))) }
     ensures point { IfOk result (λ a. IfPoint a (IsLeastPoint system.now ranges.now)) }
-    ensures limit { budget.new.limit ≡ budget.old.limit }
-    ensures uncounted { IsNone budget.old.limit → budget.new.spent ≡ budget.old.spent }
-    ensures grows { budget.old.spent ≤ budget.new.spent }
-    ensures cost { budget.new.spent + 2 ≤ budget.old.spent + 2 * points ranges.now }
-    ensures opened { IfOk result (λ a. Searched 0 ranges.now budget.old budget.new (AreFewerFor a)) }
+    ensures spends { Spends AreFewerFor 0 ranges.now budget.old budget.new result }
     ensures unit { length system.now.rows + 2 * system.now.columns ≤ 1024 → (budget.new.spent ≤ budget.old.spent) ⊎ IsHard (with_box system.now ranges.now) }
-    ensures stop { IfErr result (λ e. e ≡ Stop.Budget → budget.new.limit ≡ Some budget.new.spent) }
     ensures hard { length system.now.rows + 2 * system.now.columns ≤ 1024 → IfErr result (λ e. e ≡ Stop.Budget → IsHard (with_box system.now ranges.now)) }
     ensures corner { IsPoint system.now (low_corner ranges.now) → budget.new.spent ≤ budget.old.spent }
     ensures corner_stop { IfErr result (λ e. e ≡ Stop.Budget → IsPoint system.now (low_corner ranges.now) → ⊥) }
-    ensures short { IfErr result (λ e. e ≡ Stop.Budget → budget.new.spent + 3 ≤ budget.old.spent + 2 * points ranges.now) }
 {
     let columns = system.columns();
     let next = system.rows().len() as u32 + 2 * columns;
@@ -252,7 +239,7 @@ fn opened(
     if let Some(leaf) = eliminated(alloc, system, ranges, vertex.as_ref(), next)? {
         return Ok(Answer::Empty(leaf));
     }
-    let answer = searched(
+    searched(
         alloc,
         system,
         ranges,
@@ -260,12 +247,10 @@ fn opened(
         next,
         62 * columns,
         budget,
-    )?;
-    Ok(answer)
+    )
 }
 
 /// The decision over a list of ranges.
-#[tactic(auto, using(affc_leaf::proofs::Halves::some_in_ranges))]
 fn decided(
     alloc: Global,
     system: &System,
@@ -279,23 +264,16 @@ fn decided(
     ensures plain { IfOk result (λ a. IfEmpty a SplitsAtZero) }
     ensures leaf { length system.now.rows + 2 * system.now.columns ≤ 1024 → IfOk result (λ a. IfEmpty a (λ p. IsLeafProof p ⊎ IsHard (with_box system.now ranges.now))) }
     ensures point { IfOk result (λ a. IfPoint a (IsLeastPoint system.now ranges.now)) }
-    ensures limit { budget.new.limit ≡ budget.old.limit }
-    ensures uncounted { IsNone budget.old.limit → budget.new.spent ≡ budget.old.spent }
-    ensures grows { budget.old.spent ≤ budget.new.spent }
+    ensures spends { Spends AreFewerFor 1 ranges.now budget.old budget.new result }
     ensures counted { OnOk result ((l : ℕ) → budget.old.limit ≡ Some l → budget.old.spent + 1 ≤ budget.new.spent) }
-    ensures cost { budget.new.spent + 1 ≤ budget.old.spent + 2 * points ranges.now }
-    ensures opened { IfOk result (λ a. Searched 1 ranges.now budget.old budget.new (AreFewerFor a)) }
     ensures unit { length system.now.rows + 2 * system.now.columns ≤ 1024 → (budget.new.spent ≤ budget.old.spent + 1) ⊎ IsHard (with_box system.now ranges.now) }
     ensures corner { IsPoint system.now (low_corner ranges.now) → budget.new.spent ≤ budget.old.spent + 1 }
     ensures corner_stop { IfErr result (λ e. e ≡ Stop.Budget → IsPoint system.now (low_corner ranges.now) → budget.old.limit ≡ Some budget.old.spent) }
     ensures first { budget.old.limit ≡ Some budget.old.spent → result ≡ Err Stop.Budget }
-    ensures stop { IfErr result (λ e. e ≡ Stop.Budget → budget.new.limit ≡ Some budget.new.spent) }
-    ensures short { IfErr result (λ e. e ≡ Stop.Budget → budget.new.spent + 2 ≤ budget.old.spent + 2 * points ranges.now) }
     ensures hard { length system.now.rows + 2 * system.now.columns ≤ 1024 → IfErr result (λ e. e ≡ Stop.Budget → (budget.old.limit ≡ Some budget.old.spent) ⊎ IsHard (with_box system.now ranges.now)) }
 {
     budget.open()?;
-    let answer = opened(alloc, system, ranges, budget)?;
-    Ok(answer)
+    opened(alloc, system, ranges, budget)
 }
 
 /// Whether the system has an integer point in the box: a proof that it has none, or the lexicographically least one.

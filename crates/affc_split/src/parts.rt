@@ -2,14 +2,14 @@
 ghost use Rattle.std.specs.Prelude.{◌≡◌, ℕ, ℤ, List, ◌+◌, ◌<◌, ◌≤ℤ◌, ◌<ℤ◌, pos, IfOk, IfSome, IfNone, OnErr, Err, length};
 ghost use Rattle.std.specs.List.{All};
 ghost use Rattle.affc_system.specs.Systems.{IsPoint};
-ghost use Rattle.affc_leaf.specs.Bounds.{IsBound, FirstFree, AllSingle, lowered, raised, bound_at, lows, top_value};
-ghost use Rattle.affc_leaf.specs.Parts.{IsLeast};
+ghost use Rattle.affc_leaf.specs.Bounds.{IsBound, AllSingle, lows, top_value};
+ghost use Rattle.affc_leaf.specs.Parts.{IsLeast, IsEmpty};
 ghost use Rattle.affc_split.specs.Openings.{nodes};
-ghost use Rattle.affc_split.specs.Search.{IsFound};
-ghost use Rattle.affc_split.specs.Searches.{HasNodes};
+ghost use Rattle.affc_split.specs.Search.{IsFound, IsReady, IsSplit, part_of, other_side};
+ghost use Rattle.affc_split.specs.Searches.{HasNodes, IsBeside};
 
 use crate::budget::Stop;
-use crate::search::Found;
+use crate::search::{Found, Here, Side, Split};
 use affc_farkas::Proof;
 use affc_leaf::bounds::{Bound, low_ends};
 use affc_leaf::parts::unit_form;
@@ -38,112 +38,57 @@ pub(crate) fn single(
     Ok(Found::Point(point))
 }
 
-/// The least point of the lower half is that of the box.
+/// The proof of a box from those of its sides.
 #[inline(never)]
-pub(crate) fn low_point(
-    point: Vec<i64>,
-    system: &System,
-    bounds: &[Bound],
-    j: usize,
-    at: i64,
-    next: u32,
-) -> Found
-    requires free { FirstFree bounds.now j }
-    requires low_in { (bound_at bounds.now j).low ≤ℤ at }
-    requires high_in { at <ℤ (bound_at bounds.now j).high }
-    requires least { IsLeast system.now (lowered bounds.now j at next) point.items }
-    ensures answer { IsFound system.now bounds.now next result }
-    ensures same { result ≡ Found.Point point }
-{
-    let _rows = system.rows();
-    Found::Point(point)
-}
-
-/// The least point of the upper half is that of the box where the lower half has none.
-#[inline(never)]
-pub(crate) fn high_point(
-    point: Vec<i64>,
-    low: Box<Proof>,
-    system: &System,
-    bounds: &[Bound],
-    j: usize,
-    at: i64,
-    next: u32,
-) -> Found
-    requires there { j < length bounds.now }
-    requires low_in { (bound_at bounds.now j).low ≤ℤ at }
-    requires high_in { at <ℤ (bound_at bounds.now j).high }
-    requires none { IsFound system.now (lowered bounds.now j at next) (next + 1) (Found.Empty low) }
-    requires least { IsLeast system.now (raised bounds.now j at next) point.items }
-    ensures answer { IsFound system.now bounds.now next result }
-    ensures same { result ≡ Found.Point point }
-{
-    let _rows = system.rows();
-    drop(low);
-    Found::Point(point)
-}
-
-/// The least point of the lower part is that of the box where the upper part has none.
-#[inline(never)]
-pub(crate) fn low_kept(
-    point: Vec<i64>,
-    high: Box<Proof>,
-    system: &System,
-    bounds: &[Bound],
-    j: usize,
-    at: i64,
-    next: u32,
-) -> Found
-    requires there { j < length bounds.now }
-    requires low_in { (bound_at bounds.now j).low ≤ℤ at }
-    requires high_in { at <ℤ (bound_at bounds.now j).high }
-    requires none { IsFound system.now (raised bounds.now j at next) (next + 1) (Found.Empty high) }
-    requires least { IsLeast system.now (lowered bounds.now j at next) point.items }
-    ensures answer { IsFound system.now bounds.now next result }
-    ensures same { result ≡ Found.Point point }
-{
-    let _rows = system.rows();
-    drop(high);
-    Found::Point(point)
-}
-
-/// The proof of a box from those of its halves.
-#[inline(never)]
-pub(crate) fn joined(
-    alloc: Global,
-    low: Box<Proof>,
-    high: Box<Proof>,
-    system: &System,
-    bounds: &[Bound],
-    j: usize,
-    at: i64,
-    next: u32,
-) -> Result<Found, Stop>
-    requires width { length bounds.now ≡ system.now.columns }
-    requires ranges { All IsBound bounds.now }
-    requires there { j < length bounds.now }
-    requires low_in { (bound_at bounds.now j).low ≤ℤ at }
-    requires high_in { at <ℤ (bound_at bounds.now j).high }
-    requires low { IsFound system.now (lowered bounds.now j at next) (next + 1) (Found.Empty low) }
-    requires high { IsFound system.now (raised bounds.now j at next) (next + 1) (Found.Empty high) }
-    ensures answer { IfOk result (λ a. IsFound system.now bounds.now next a) }
-    ensures nodes { IfOk result (λ a. HasNodes ((nodes low.value + nodes high.value) + 1) a) }
+fn joined(here: &Here<'_>, split: Split, low: Box<Proof>, high: Box<Proof>) -> Result<Found, Stop>
+    requires ready { IsReady here.now }
+    requires split { IsSplit here.now.bounds.now split }
+    requires low { IsEmpty here.now.system.now (part_of Side.Low here.now.bounds.now split here.now.next) (here.now.next + 1) low.value }
+    requires high { IsEmpty here.now.system.now (part_of Side.High here.now.bounds.now split here.now.next) (here.now.next + 1) high.value }
+    ensures answer { IfOk result (IsFound here.now.system.now here.now.bounds.now here.now.next) }
+    ensures nodes { IfOk result (HasNodes ((nodes low.value + nodes high.value) + 1)) }
     ensures memory { OnErr result (result ≡ Err Stop.Memory) }
 {
-    let _rows = system.rows();
-    let Ok(form) = unit_form(alloc, system.columns(), j) else {
-        return Err(Stop::Memory);
-    };
-    let split = Proof::Split {
+    let form = unit_form(here.alloc, here.system.columns(), split.column)?;
+    let both = Proof::Split {
         form,
-        at,
+        at: split.at,
         low,
         high,
     };
-    let Ok(whole) = Box::new(alloc, split) else {
+    let Ok(whole) = Box::new(here.alloc, both) else {
         return Err(Stop::Memory);
     };
     Ok(Found::Empty(whole))
+}
+
+/// What is found in a box of which one side has a proof, by what is found in the other.
+#[inline(never)]
+pub(crate) fn beside(
+    here: &Here<'_>,
+    split: Split,
+    side: Side,
+    proof: Box<Proof>,
+    other: Found,
+) -> Result<Found, Stop>
+    requires ready { IsReady here.now }
+    requires split { IsSplit here.now.bounds.now split }
+    requires proof { IsEmpty here.now.system.now (part_of side here.now.bounds.now split here.now.next) (here.now.next + 1) proof.value }
+    requires other { IsFound here.now.system.now (part_of (other_side side) here.now.bounds.now split here.now.next) (here.now.next + 1) other }
+    ensures answer { IfOk result (IsFound here.now.system.now here.now.bounds.now here.now.next) }
+    ensures beside { IfOk result (IsBeside (nodes proof.value) other) }
+    ensures memory { OnErr result (result ≡ Err Stop.Memory) }
+{
+    match other {
+        Found::Point(point) => {
+            drop(proof);
+            Ok(Found::Point(point))
+        }
+        Found::Empty(other) => match side {
+            Side::Low => joined(here, split, proof, other),
+            Side::High => joined(here, split, other, proof),
+        },
+    }
 }
 
 /// The low corner of a box, where every row is at least 0 there: no point of the box is before it.

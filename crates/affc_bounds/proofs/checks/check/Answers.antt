@@ -7,14 +7,14 @@ use Rattle.affc_bounds.proofs.checks.check.Goals as goal
 
 pub returns-in-None-clause-within : goal.returns-in-None-clause-within
 returns-in-None-clause-within c =
-    let has : HasNest c.args.program.now = record { plain = c.requires.plain; near = c.in_ok-nest.ensures.near } in
+    let has : HasNest c.args.program.now = record { plain = c.requires.plain; near = c.requires.near } in
     clean_stays c.args.program.now has c.requires.arrays
-    (subst IsClean c.in_ok-nest.ensures.nest
-    (subst (λ o. MatchOption o (IsClean c.in_ok-nest.nest) (IsFaultOf c.in_ok-nest.nest)) c.in-None.is c.in_ok-first_fault.ensures.answer))
+    (subst IsClean c.requires.nest
+    (subst (λ o. MatchOption o (IsClean c.args.nest.now) (IsFaultOf c.args.nest.now)) c.in-None.is c.in_ok-first_fault.ensures.answer))
 
 pub returns-in-Some-clause-fault : goal.returns-in-Some-clause-fault
 returns-in-Some-clause-fault c =
-    let has : HasNest c.args.program.now = record { plain = c.requires.plain; near = c.in_ok-nest.ensures.near } in
+    let has : HasNest c.args.program.now = record { plain = c.requires.plain; near = c.requires.near } in
     fault_says c.args.program.now has c.requires.arrays c.in-Some.fault
-    (subst (λ n. IsFaultOf n c.in-Some.fault) c.in_ok-nest.ensures.nest
-    (subst (λ o. MatchOption o (IsClean c.in_ok-nest.nest) (IsFaultOf c.in_ok-nest.nest)) c.in-Some.is c.in_ok-first_fault.ensures.answer))
+    (subst (λ n. IsFaultOf n c.in-Some.fault) c.requires.nest
+    (subst (λ o. MatchOption o (IsClean c.args.nest.now) (IsFaultOf c.args.nest.now)) c.in-Some.is c.in_ok-first_fault.ensures.answer))

@@ -1,9 +1,17 @@
-use Rattle.std.proofs.Common.{◌+◌, subst, IfSome}
+use Rattle.std.proofs.Common.{rules, ◌+◌, subst, IfSome}
 use Rattle.affc_leaf.specs.Cuts.{IsCutOf}
 use Rattle.affc_leaf.specs.Parts.{IsLeast, IsEmpty}
 use Rattle.affc_split.specs.Search.{IsFound}
+use Rattle.affc_split.specs.Searches.{AreFewer}
 use Rattle.affc_leaf.proofs.Divisions.{cut_least, cut_empty}
+use Rattle.affc_split.proofs.Spending.{failed_first}
 use Rattle.affc_split.proofs.cuts.+with_cuts.Goals as goal
+
+pub returns-in_err-cut-clause-spends : goal.returns-in_err-cut-clause-spends
+returns-in_err-cut-clause-spends t c = failed_first (AreFewer 0) 0 _ c.args.budget.now c.from_residual.result (search rules)
+
+pub returns-in_err-push_cut-clause-spends : goal.returns-in_err-push_cut-clause-spends
+returns-in_err-push_cut-clause-spends t c = failed_first (AreFewer 0) 0 _ c.args.budget.now c.from_residual-in_err-push_cut.result (search rules)
 
 pub returns-in-Point-clause-answer : goal.returns-in-Point-clause-answer
 returns-in-Point-clause-answer t c =

@@ -1,8 +1,11 @@
-use Rattle.std.proofs.Common.{refl}
-use Rattle.affc_leaf.specs.Bounds.{ranges_of}
+use Rattle.std.proofs.Common.{rules}
 use Rattle.affc_split.specs.declared.search.Found.TheVariants.{Empty}
-use Rattle.affc_split.proofs.Openings.{nothing_spent}
+use Rattle.affc_split.specs.Searches.{AreFewer}
+use Rattle.affc_split.proofs.Spending.{known, failed_first}
 use Rattle.affc_split.proofs.cuts.rooted.Goals as goal
 
-pub returns-in-Some-clause-opened : goal.returns-in-Some-clause-opened
-returns-in-Some-clause-opened c = nothing_spent (ranges_of c.args.bounds.now) c.args.budget.now c.args.budget.now (Empty c.in-Some.proof) refl
+pub returns-in_err-proof-clause-spends : goal.returns-in_err-proof-clause-spends
+returns-in_err-proof-clause-spends c = failed_first (AreFewer 0) 0 _ c.args.budget.now c.from_residual.result (search rules)
+
+pub returns-in-Some-clause-spends : goal.returns-in-Some-clause-spends
+returns-in-Some-clause-spends c = known _ c.args.budget.now (Empty c.in-Some.proof)

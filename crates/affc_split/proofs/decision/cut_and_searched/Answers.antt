@@ -1,4 +1,4 @@
-use Rattle.std.proofs.Common.{arith, ◌≡◌, ◌∙◌, ◌+◌, ◌*◌, ◌++◌, ap, sym, subst, length}
+use Rattle.std.proofs.Common.{rules, arith, ◌≡◌, ◌∙◌, ◌+◌, ◌*◌, ◌++◌, ap, sym, subst, length}
 use Rattle.std.proofs.lemmas.List.{length-append}
 use Rattle.std.specs.List.{All}
 use Rattle.affc_system.specs.Systems.{Rows, IsRow}
@@ -8,9 +8,10 @@ use Rattle.affc_leaf.specs.Bounds.{ranges_of}
 use Rattle.affc_leaf.specs.Points.{IsLeastPoint}
 use Rattle.affc_leaf.specs.Parts.{IsLeast, IsEmpty}
 use Rattle.affc_split.specs.Search.{IsFound}
+use Rattle.affc_split.specs.Searches.{AreFewerFor}
 use Rattle.affc_leaf.proofs.Whole.{len_rows, ranges_back}
 use Rattle.affc_leaf.proofs.Boxes.{boxed_least, boxed_valid}
-use Rattle.affc_split.proofs.Openings.{empty_answer, point_answer}
+use Rattle.affc_split.proofs.Spending.{failed_first, empty_spends, point_spends}
 use Rattle.affc_split.proofs.decision.cut_and_searched.Goals as goal
 
 pub with_cuts-requires-clause-next : goal.with_cuts-requires-clause-next
@@ -41,12 +42,15 @@ returns-in-Point-clause-point c =
     let b = subst (λ s. IsLeast s c.args.bounds.now x) c.in_ok-boxed.ensures a in
     boxed_least system ranges x (subst (λ rs. IsLeastPoint (with_box system ranges) rs x) (ap ranges_of c.requires.bounds ∙ ranges_back (length system.rows) ranges) b)
 
-pub returns-in-Empty-clause-opened : goal.returns-in-Empty-clause-opened
-returns-in-Empty-clause-opened c =
-    empty_answer c.args.ranges.now (ranges_of c.args.bounds.now) c.args.budget.now _ c.in-Empty.proof c.into_inner.result c.in_ok-proof.field-0
-    (ap ranges_of c.requires.bounds ∙ ranges_back (length c.args.system.now.rows) c.args.ranges.now) c.in-Empty.is c.into_inner.ensures c.in_ok-proof.ensures.opened
+pub returns-in-Empty-clause-spends : goal.returns-in-Empty-clause-spends
+returns-in-Empty-clause-spends c =
+    empty_spends c.args.ranges.now (ranges_of c.args.bounds.now) c.args.budget.now _ c.in-Empty.proof c.into_inner.result c.in_ok-proof.field-0
+    (ap ranges_of c.requires.bounds ∙ ranges_back (length c.args.system.now.rows) c.args.ranges.now) c.in-Empty.is c.into_inner.ensures c.in_ok-proof.ensures.spends
 
-pub returns-in-Point-clause-opened : goal.returns-in-Point-clause-opened
-returns-in-Point-clause-opened c =
-    point_answer c.args.ranges.now (ranges_of c.args.bounds.now) c.args.budget.now _ c.in-Point.point c.in_ok-proof.field-0
-    (ap ranges_of c.requires.bounds ∙ ranges_back (length c.args.system.now.rows) c.args.ranges.now) c.in-Point.is c.in_ok-proof.ensures.opened
+pub returns-in-Point-clause-spends : goal.returns-in-Point-clause-spends
+returns-in-Point-clause-spends c =
+    point_spends c.args.ranges.now (ranges_of c.args.bounds.now) c.args.budget.now _ c.in-Point.point c.in_ok-proof.field-0
+    (ap ranges_of c.requires.bounds ∙ ranges_back (length c.args.system.now.rows) c.args.ranges.now) c.in-Point.is c.in_ok-proof.ensures.spends
+
+pub returns-in_err-boxed-clause-spends : goal.returns-in_err-boxed-clause-spends
+returns-in_err-boxed-clause-spends c = failed_first AreFewerFor 0 _ c.args.budget.now c.from_residual.result (search rules)

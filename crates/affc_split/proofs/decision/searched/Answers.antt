@@ -7,7 +7,7 @@ use Rattle.affc_leaf.specs.Bounds.{ranges_of}
 use Rattle.affc_leaf.specs.Points.{IsLeastPoint}
 use Rattle.affc_split.specs.Search.{IsFound}
 use Rattle.affc_leaf.proofs.Whole.{whole_valid, ranges_back}
-use Rattle.affc_split.proofs.Openings.{empty_answer, point_answer}
+use Rattle.affc_split.proofs.Spending.{empty_spends, point_spends}
 use Rattle.affc_split.proofs.decision.searched.Goals as goal
 
 pub returns-in-Empty-clause-empty : goal.returns-in-Empty-clause-empty
@@ -22,12 +22,12 @@ returns-in-Point-clause-point c =
     let a = subst (λ f. IsFound c.args.system.now c.args.bounds.now c.args.next f) c.in-Point.is c.in_ok-proof.ensures.answer in
     subst (λ rs. IsLeastPoint c.args.system.now rs c.in-Point.point.items) (ap ranges_of c.requires.bounds ∙ ranges_back (length c.args.system.now.rows) c.args.ranges.now) a
 
-pub returns-in-Empty-clause-opened : goal.returns-in-Empty-clause-opened
-returns-in-Empty-clause-opened c =
-    empty_answer c.args.ranges.now (ranges_of c.args.bounds.now) c.args.budget.now _ c.in-Empty.proof c.into_inner.result c.in_ok-proof.field-0
-    (ap ranges_of c.requires.bounds ∙ ranges_back (length c.args.system.now.rows) c.args.ranges.now) c.in-Empty.is c.into_inner.ensures c.in_ok-proof.ensures.opened
+pub returns-in-Empty-clause-spends : goal.returns-in-Empty-clause-spends
+returns-in-Empty-clause-spends c =
+    empty_spends c.args.ranges.now (ranges_of c.args.bounds.now) c.args.budget.now _ c.in-Empty.proof c.into_inner.result c.in_ok-proof.field-0
+    (ap ranges_of c.requires.bounds ∙ ranges_back (length c.args.system.now.rows) c.args.ranges.now) c.in-Empty.is c.into_inner.ensures c.in_ok-proof.ensures.spends
 
-pub returns-in-Point-clause-opened : goal.returns-in-Point-clause-opened
-returns-in-Point-clause-opened c =
-    point_answer c.args.ranges.now (ranges_of c.args.bounds.now) c.args.budget.now _ c.in-Point.point c.in_ok-proof.field-0
-    (ap ranges_of c.requires.bounds ∙ ranges_back (length c.args.system.now.rows) c.args.ranges.now) c.in-Point.is c.in_ok-proof.ensures.opened
+pub returns-in-Point-clause-spends : goal.returns-in-Point-clause-spends
+returns-in-Point-clause-spends c =
+    point_spends c.args.ranges.now (ranges_of c.args.bounds.now) c.args.budget.now _ c.in-Point.point c.in_ok-proof.field-0
+    (ap ranges_of c.requires.bounds ∙ ranges_back (length c.args.system.now.rows) c.args.ranges.now) c.in-Point.is c.in_ok-proof.ensures.spends

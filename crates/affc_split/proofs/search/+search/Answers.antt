@@ -1,145 +1,120 @@
-use Rattle.std.proofs.Common.{rules, ◌≡◌, ◌∙◌, ◌+◌, ◌-◌, refl, sym, ap, subst, IfOk}
-use Rattle.std.specs.Prelude.{FitsSigned}
-use Rattle.std.specs.Int.{w64}
-use Rattle.std.proofs.lemmas.Int.{to_z-of_z}
-use Rattle.affc_split.specs.declared.search.Found.TheVariants.{Empty, Point}
-use Rattle.affc_leaf.specs.Bounds.{lowered, raised, ranges_of}
-use Rattle.affc_split.specs.Search.{IsFound, IsHalf, IsLook, IfFree}
-use Rattle.affc_split.specs.Openings.{nodes}
-use Rattle.affc_split.specs.Searches.{AreFewer, Searched}
-use Rattle.affc_split.proofs.Openings.{nothing_spent, before_kept, leaf_opened, half_searched, halves_parts, turned, one_point, one_proof, low_part, joined_opened, point_opened, halves_searched, first_side, second_side}
+use Rattle.std.proofs.Common.{rules, ◌∙◌, ◌+◌, ap, subst, Ok, Err}
+use Rattle.affc_leaf.specs.Bounds.{ranges_of}
+use Rattle.affc_leaf.proofs.Halves.{halves_points}
+use Rattle.affc_leaf.proofs.Steps.{low_least}
+use Rattle.affc_split.specs.declared.search.Found.TheVariants.{Empty}
+use Rattle.affc_split.specs.declared.search.Side.TheVariants.{Low, High}
+use Rattle.affc_split.specs.Search.{IsFound, part_of, other_side}
+use Rattle.affc_split.specs.Searches.{AreFewer, Spends}
+use Rattle.affc_split.proofs.Openings.{halves_parts}
+use Rattle.affc_split.proofs.Spending.{failed_first, known, known_here, rest_searched, rest_stopped, refused, failed_opened, leaf_found, opened_searched, low_point, low_stopped, high_stopped, both_searched, sides, fewer_points}
 use Rattle.affc_split.proofs.search.+search.Goals as goal
 
-pub looked-returns-in-Some-clause-opened : goal.looked-returns-in-Some-clause-opened
-looked-returns-in-Some-clause-opened t c = nothing_spent (ranges_of c.args.bounds.now) c.args.budget.now c.args.budget.now c.in-Some.found refl
+pub half-returns-in_err-part-clause-spends : goal.half-returns-in_err-part-clause-spends
+half-returns-in_err-part-clause-spends t c = failed_first (AreFewer 0) 1 _ c.args.budget.now c.from_residual.result (search rules)
 
-pub looked-returns-in_ok-found-in-None-clause-opened : goal.looked-returns-in_ok-found-in-None-clause-opened
-looked-returns-in_ok-found-in-None-clause-opened t c =
-    let same : c.if-spare-gt0.budget.spent ≡ c.args.budget.now.spent = search rules in
-    nothing_spent (ranges_of c.args.bounds.now) c.args.budget.now c.if-spare-gt0.budget c.in_ok-found-in-None.found same
+pub half-returns-in_err-open-clause-spends : goal.half-returns-in_err-open-clause-spends
+half-returns-in_err-open-clause-spends t c =
+    let o = c.open.ensures in
+    refused (AreFewer 0) _ c.args.budget.now c.open.new.self c.from_residual-in_err-open.result (record { limit = o.limit; grows = o.grows; uncounted = o.uncounted })
+    c.in_err-open.ensures.unspent (o.limit ∙ c.in_err-open.ensures.stop) (search rules)
 
-pub above-returns-in-Ok-Point-clause-opened : goal.above-returns-in-Ok-Point-clause-opened
-above-returns-in-Ok-Point-clause-opened t c =
-    let bs = c.args.bounds.now in
-    let j = c.args.place.column in
-    let at = c.args.place.at in
-    let low = ranges_of (lowered bs j at c.args.next) in
-    let high = ranges_of (raised bs j at c.args.next) in
-    let parts = turned low high (ranges_of bs) (halves_parts bs j at c.args.next c.args.next c.requires.ranges c.requires.inside c.requires.low_in c.requires.high_in) in
-    let s = subst (λ w. Searched 0 (ranges_of w) c.args.budget.now c.inside.new.budget (AreFewer 0 c.in-Ok-Point.field-0)) c.requires.high c.in-Ok-Point.ensures.opened in
-    one_point high low (ranges_of bs) c.args.budget.now c.inside.new.budget c.in-Ok-Point.field-0 c.high_point.result parts
-    (c.high_point.ensures.same ∙ sym c.in-Ok-Point.field-0-is) s
+pub half-returns-in_err-proof-clause-spends : goal.half-returns-in_err-proof-clause-spends
+half-returns-in_err-proof-clause-spends t c =
+    let o = c.open.ensures in
+    failed_opened _ c.args.budget.now c.open.new.self c.from_residual-in_err-proof.result (record { limit = o.limit; grows = o.grows; uncounted = o.uncounted }) o.step (search rules)
 
-pub above-returns-in-Ok-Empty-clause-opened : goal.above-returns-in-Ok-Empty-clause-opened
-above-returns-in-Ok-Empty-clause-opened t c =
-    let bs = c.args.bounds.now in
-    let j = c.args.place.column in
-    let at = c.args.place.at in
-    let low = ranges_of (lowered bs j at c.args.next) in
-    let high = ranges_of (raised bs j at c.args.next) in
-    let parts = turned low high (ranges_of bs) (halves_parts bs j at c.args.next c.args.next c.requires.ranges c.requires.inside c.requires.low_in c.requires.high_in) in
-    let s = subst (λ w. Searched 0 (ranges_of w) c.args.budget.now c.inside.new.budget (AreFewer 0 c.in-Ok-Empty.field-0)) c.requires.high c.in-Ok-Empty.ensures.opened in
-    let s' = subst (λ f. Searched 0 high c.args.budget.now c.inside.new.budget (AreFewer 0 f)) c.in-Ok-Empty.field-0-is s in
-    one_proof high low (ranges_of bs) c.args.budget.now c.inside.new.budget c.in-Ok-Empty.rest _ c.joined.result parts (second_side _ _) c.joined.ensures.nodes s'
+pub half-returns-in-Some-clause-spends : goal.half-returns-in-Some-clause-spends
+half-returns-in-Some-clause-spends t c =
+    let o = c.open.ensures in
+    leaf_found _ c.args.budget.now c.open.new.self (Empty c.in-Some.proof) (record { limit = o.limit; grows = o.grows; uncounted = o.uncounted }) o.step c.in_ok-open.ensures.counted
 
-pub below-returns-in-Ok-Point-clause-opened : goal.below-returns-in-Ok-Point-clause-opened
-below-returns-in-Ok-Point-clause-opened t c =
-    let bs = c.args.bounds.now in
-    let j = c.args.place.column in
-    let at = c.args.place.at in
-    let low = ranges_of (lowered bs j at c.args.next) in
-    let high = ranges_of (raised bs j at c.args.next) in
-    let parts = halves_parts bs j at c.args.next c.args.next c.requires.ranges c.requires.inside c.requires.low_in c.requires.high_in in
-    let s = subst (λ w. Searched 0 (ranges_of w) c.args.budget.now c.inside.new.budget (AreFewer 0 c.in-Ok-Point.field-0)) c.requires.low c.in-Ok-Point.ensures.opened in
-    one_point low high (ranges_of bs) c.args.budget.now c.inside.new.budget c.in-Ok-Point.field-0 c.low_kept.result parts
-    (c.low_kept.ensures.same ∙ sym c.in-Ok-Point.field-0-is) s
+pub half-returns-clause-spends : goal.half-returns-clause-spends
+half-returns-clause-spends t c =
+    let here = c.args.here.now in
+    let o = c.open.ensures in
+    opened_searched (AreFewer 0) (ranges_of (part_of c.args.side here.bounds.now c.args.split here.next)) (ranges_of c.as_slice.result.now) c.args.budget.now c.open.new.self c.inside.new.budget c.inside.result
+    (ap ranges_of (c.as_slice.ensures.value ∙ c.in_ok-part.ensures.value)) (record { limit = o.limit; grows = o.grows; uncounted = o.uncounted }) o.step c.in_ok-open.ensures.counted c.inside.ensures.spends
 
-pub below-returns-in-Ok-Empty-clause-opened : goal.below-returns-in-Ok-Empty-clause-opened
-below-returns-in-Ok-Empty-clause-opened t c =
-    let bs = c.args.bounds.now in
-    let j = c.args.place.column in
-    let at = c.args.place.at in
-    let low = ranges_of (lowered bs j at c.args.next) in
-    let high = ranges_of (raised bs j at c.args.next) in
-    let parts = halves_parts bs j at c.args.next c.args.next c.requires.ranges c.requires.inside c.requires.low_in c.requires.high_in in
-    let s = subst (λ w. Searched 0 (ranges_of w) c.args.budget.now c.inside.new.budget (AreFewer 0 c.in-Ok-Empty.field-0)) c.requires.low c.in-Ok-Empty.ensures.opened in
-    let s' = subst (λ f. Searched 0 low c.args.budget.now c.inside.new.budget (AreFewer 0 f)) c.in-Ok-Empty.field-0-is s in
-    one_proof low high (ranges_of bs) c.args.budget.now c.inside.new.budget c.in-Ok-Empty.rest _ c.joined.result parts (first_side _ _) c.joined.ensures.nodes s'
+pub halved-returns-in-Ok-Point-clause-answer : goal.halved-returns-in-Ok-Point-clause-answer
+halved-returns-in-Ok-Point-clause-answer t c =
+    let here = c.args.here.now in
+    let s = c.args.split in
+    low_least here.system.now here.bounds.now s.column s.at here.next c.in-Ok-Point.point.items c.requires.free c.requires.split.high_in
+    (subst (λ f. IsFound here.system.now (part_of Low here.bounds.now s here.next) (here.next + 1) f) c.in-Ok-Point.field-0-is c.in-Ok-Point.ensures.answer)
 
-pub inside-returns-in-Point-clause-opened : goal.inside-returns-in-Point-clause-opened
-inside-returns-in-Point-clause-opened t c =
-    let bs = c.args.bounds.now in
-    let j = c.in-Free.j in
-    let at = c.middle_of-at.result in
-    let f : FitsSigned w64 at = search rules in
-    let low = ranges_of (lowered bs j at c.args.next) in
-    let high = ranges_of (raised bs j at c.args.next) in
-    let free = subst (λ v. IsLook c.args.system.now bs c.args.next v) c.in-Free.is c.in_ok-found.ensures.answer in
-    let kept = subst (λ v. IfFree v (c.looked.new.budget.spent ≡ c.args.budget.now.spent)) c.in-Free.is c.in_ok-found.ensures.free in
-    let parts = halves_parts bs j at c.args.next c.args.next c.requires.ready.ranges free.there c.middle_of-at.ensures.low_in c.middle_of-at.ensures.high_in in
-    let a = simp to_z-of_z at c.in_ok-point.ensures.answer in
-    let s = simp to_z-of_z at c.in_ok-point.ensures.opened in
-    let x = subst (λ g. IsFound c.args.system.now (lowered bs j at c.args.next) (c.args.next + 1) g) c.in-Point.is a in
-    let s' = subst (λ g. Searched 1 low c.looked.new.budget c.lower.new.budget (AreFewer 0 g)) c.in-Point.is s in
-    low_part low high (ranges_of bs) c.args.budget.now c.lower.new.budget c.in-Point.point c.low_point.result parts c.low_point.ensures.same
-    (before_kept 1 low c.args.budget.now c.looked.new.budget c.lower.new.budget (AreFewer 0 (Point c.in-Point.point)) c.in_ok-found.ensures.limit kept s') x.inside
+pub halved-returns-in-Ok-Point-clause-spends : goal.halved-returns-in-Ok-Point-clause-spends
+halved-returns-in-Ok-Point-clause-spends t c =
+    let here = c.args.here.now in
+    let bs = here.bounds.now in
+    let s = c.args.split in
+    let h = c.requires.split in
+    let low = ranges_of (part_of Low bs s here.next) in
+    let least = subst (λ f. IsFound here.system.now (part_of Low bs s here.next) (here.next + 1) f) c.in-Ok-Point.field-0-is c.in-Ok-Point.ensures.answer in
+    low_point low (ranges_of (part_of High bs s here.next)) (ranges_of bs) c.args.budget.now c.half.new.budget c.in-Ok-Point.point
+    (halves_parts bs s.column s.at here.next here.next c.requires.ready.box.ranges h.there h.low_in h.high_in)
+    (halves_points bs s.column s.at here.next here.next h.there h.low_in h.high_in) least.inside
+    (subst (λ f. Spends (AreFewer 0) 1 low c.args.budget.now c.half.new.budget (Ok f)) c.in-Ok-Point.field-0-is c.in-Ok-Point.ensures.spends)
 
-pub inside-returns-in-Empty-clause-opened : goal.inside-returns-in-Empty-clause-opened
-inside-returns-in-Empty-clause-opened t c =
-    let bs = c.args.bounds.now in
-    let j = c.in-Free.j in
-    let at = c.middle_of-at.result in
-    let f : FitsSigned w64 at = search rules in
-    let low = ranges_of (lowered bs j at c.args.next) in
-    let free = subst (λ v. IsLook c.args.system.now bs c.args.next v) c.in-Free.is c.in_ok-found.ensures.answer in
-    let kept = subst (λ v. IfFree v (c.looked.new.budget.spent ≡ c.args.budget.now.spent)) c.in-Free.is c.in_ok-found.ensures.free in
-    let a = simp to_z-of_z at c.in_ok-point.ensures.answer in
-    let s = simp to_z-of_z at c.in_ok-point.ensures.opened in
-    let e = subst (λ g. IsFound c.args.system.now (lowered bs j at c.args.next) (c.args.next + 1) g) c.in-Empty.is a in
-    let s' = subst (λ g. Searched 1 low c.looked.new.budget c.lower.new.budget (AreFewer 0 g)) c.in-Empty.is s in
-    halves_searched c.args.system.now bs j at c.args.next c.args.next c.args.budget.now c.lower.new.budget c.upper.new.budget c.in-Empty.low c.upper.result
-    c.requires.ready.ranges free c.middle_of-at.ensures.low_in c.middle_of-at.ensures.high_in (c.in_ok-point.ensures.limit ∙ c.in_ok-found.ensures.limit) e.none c.upper.ensures.answer
-    (before_kept 1 low c.args.budget.now c.looked.new.budget c.lower.new.budget (AreFewer 0 (Empty c.in-Empty.low)) c.in_ok-found.ensures.limit kept s') (simp to_z-of_z at c.upper.ensures.opened)
+pub halved-returns-in-Err-clause-spends : goal.halved-returns-in-Err-clause-spends
+halved-returns-in-Err-clause-spends t c =
+    let here = c.args.here.now in
+    let bs = here.bounds.now in
+    let s = c.args.split in
+    let h = c.requires.split in
+    low_stopped (ranges_of (part_of Low bs s here.next)) (ranges_of (part_of High bs s here.next)) (ranges_of bs) c.args.budget.now c.half.new.budget c.in-Err.stop
+    (halves_points bs s.column s.at here.next here.next h.there h.low_in h.high_in) c.in-Err.ensures.spends
 
-pub lower-returns-in-Leaf-clause-opened : goal.lower-returns-in-Leaf-clause-opened
-lower-returns-in-Leaf-clause-opened t c =
-    leaf_opened (ranges_of (lowered c.args.bounds.now c.args.j c.args.at c.args.next)) c.args.budget.now c.opened_low.new.budget (Empty c.in-Leaf.low) c.in_ok-low.ensures.counted
+pub halved-returns-in-Ok-clause-spends : goal.halved-returns-in-Ok-clause-spends
+halved-returns-in-Ok-clause-spends t c =
+    let here = c.args.here.now in
+    let bs = here.bounds.now in
+    let s = c.args.split in
+    let low = part_of Low bs s here.next in
+    let empty = subst (λ f. IsFound here.system.now low (here.next + 1) f) c.in-Ok-Empty.field-0-is c.in-Ok-Empty.ensures.answer in
+    both_searched here.system.now bs s here.next here.next c.args.budget.now c.half.new.budget c.half-2.new.budget c.in-Ok-Empty.low c.in-Ok.found c.beside.result
+    c.requires.ready.box.ranges c.requires.free c.requires.split empty.none c.beside.ensures.answer c.beside.ensures.memory c.beside.ensures.beside
+    (subst (λ f. Spends (AreFewer 0) 1 (ranges_of low) c.args.budget.now c.half.new.budget (Ok f)) c.in-Ok-Empty.field-0-is c.in-Ok-Empty.ensures.spends) c.in-Ok.ensures.spends
 
-pub lower-returns-in-Open-clause-opened : goal.lower-returns-in-Open-clause-opened
-lower-returns-in-Open-clause-opened t c =
-    let half = lowered c.args.bounds.now c.args.j c.args.at c.args.next in
-    let f : FitsSigned w64 c.args.at = c.ranges.at in
-    let half' = simp to_z-of_z at c.in_ok-low.ensures.half in
-    let h = subst (λ v. IsHalf c.args.system.now half (c.args.next + 1) (c.args.left - 1) v) c.in-Open.is half' in
-    half_searched (ranges_of half) (ranges_of c.as_slice.result.now) c.args.budget.now c.opened_low.new.budget c.inside.new.budget c.inside.result
-    (ap ranges_of (c.as_slice.ensures.value ∙ h.0)) c.in_ok-low.ensures.limit c.in_ok-low.ensures.counted c.inside.ensures.opened
+pub halved-returns-in-Err-half-clause-spends : goal.halved-returns-in-Err-half-clause-spends
+halved-returns-in-Err-half-clause-spends t c =
+    let here = c.args.here.now in
+    let bs = here.bounds.now in
+    let s = c.args.split in
+    let h = c.requires.split in
+    high_stopped (ranges_of (part_of Low bs s here.next)) (ranges_of (part_of High bs s here.next)) (ranges_of bs) c.args.budget.now c.half.new.budget c.half-2.new.budget
+    c.in-Ok-Empty.field-0 c.in-Err-half.stop c.stopped.result (halves_points bs s.column s.at here.next here.next h.there h.low_in h.high_in) c.stopped.ensures
+    c.in-Ok-Empty.ensures.spends c.in-Err-half.ensures.spends
 
-pub upper-returns-in-Ok-Leaf-clause-opened : goal.upper-returns-in-Ok-Leaf-clause-opened
-upper-returns-in-Ok-Leaf-clause-opened t c =
-    let half = ranges_of (raised c.args.bounds.now c.args.j c.args.at c.args.next) in
-    joined_opened half c.args.budget.now c.opened_high.new.budget c.args.low.value c.in-Ok-Leaf.high c.joined.result c.joined.ensures.nodes
-    (leaf_opened half c.args.budget.now c.opened_high.new.budget (Empty c.in-Ok-Leaf.high) c.in-Ok-Leaf.ensures.counted)
+pub inside-returns-in_err-found-clause-spends : goal.inside-returns-in_err-found-clause-spends
+inside-returns-in_err-found-clause-spends t c = failed_first (AreFewer 0) 0 _ c.args.budget.now c.from_residual.result (search rules)
 
-pub upper-returns-in-Ok-Point-clause-opened : goal.upper-returns-in-Ok-Point-clause-opened
-upper-returns-in-Ok-Point-clause-opened t c =
-    let half = raised c.args.bounds.now c.args.j c.args.at c.args.next in
-    let f : FitsSigned w64 c.args.at = c.ranges.at in
-    let half' = simp to_z-of_z at c.in-Ok-Open.ensures.half in
-    let h = subst (λ v. IsHalf c.args.system.now half (c.args.next + 1) (c.args.left - 1) v) c.in-Ok-Open.field-0-is half' in
-    let s = half_searched (ranges_of half) (ranges_of c.as_slice.result.now) c.args.budget.now c.opened_high.new.budget c.inside.new.budget c.inside.result
-    (ap ranges_of (c.as_slice.ensures.value ∙ h.0)) c.in-Ok-Open.ensures.limit c.in-Ok-Open.ensures.counted c.inside.ensures.opened in
-    let s' = subst (λ r. IfOk r (λ f. Searched 1 (ranges_of half) c.args.budget.now c.inside.new.budget (AreFewer 0 f))) c.in-Ok-Point.is s in
-    point_opened (ranges_of half) c.args.budget.now c.inside.new.budget (nodes c.args.low.value + 1) c.in-Ok-Point.point c.high_point.result c.high_point.ensures.same
-    (subst (λ f. Searched 1 (ranges_of half) c.args.budget.now c.inside.new.budget (AreFewer 0 f)) c.in-Ok-Point.field-0-is s')
+pub inside-returns-in-Some-clause-spends : goal.inside-returns-in-Some-clause-spends
+inside-returns-in-Some-clause-spends t c = known _ c.args.budget.now c.in-Some.found
 
-pub upper-returns-in-Ok-Empty-clause-opened : goal.upper-returns-in-Ok-Empty-clause-opened
-upper-returns-in-Ok-Empty-clause-opened t c =
-    let half = raised c.args.bounds.now c.args.j c.args.at c.args.next in
-    let f : FitsSigned w64 c.args.at = c.ranges.at in
-    let half' = simp to_z-of_z at c.in-Ok-Open.ensures.half in
-    let h = subst (λ v. IsHalf c.args.system.now half (c.args.next + 1) (c.args.left - 1) v) c.in-Ok-Open.field-0-is half' in
-    let s = half_searched (ranges_of half) (ranges_of c.as_slice.result.now) c.args.budget.now c.opened_high.new.budget c.inside.new.budget c.inside.result
-    (ap ranges_of (c.as_slice.ensures.value ∙ h.0)) c.in-Ok-Open.ensures.limit c.in-Ok-Open.ensures.counted c.inside.ensures.opened in
-    let s' = subst (λ r. IfOk r (λ f. Searched 1 (ranges_of half) c.args.budget.now c.inside.new.budget (AreFewer 0 f))) c.in-Ok-Empty.is s in
-    joined_opened (ranges_of half) c.args.budget.now c.inside.new.budget c.args.low.value c.in-Ok-Empty.high c.joined-in-Ok-Empty.result c.joined-in-Ok-Empty.ensures.nodes
-    (subst (λ f. Searched 1 (ranges_of half) c.args.budget.now c.inside.new.budget (AreFewer 0 f)) c.in-Ok-Empty.field-0-is s')
+pub inside-returns-in_err-trim-clause-spends : goal.inside-returns-in_err-trim-clause-spends
+inside-returns-in_err-trim-clause-spends t c = failed_first (AreFewer 0) 0 _ c.args.budget.now c.from_residual-in_err-trim.result (search rules)
+
+pub inside-returns-in-None-clause-spends : goal.inside-returns-in-None-clause-spends
+inside-returns-in-None-clause-spends t c = known_here _ c.args.budget.now c.single.result c.single.ensures.memory
+
+pub trimmed-returns-in-Ok-clause-spends : goal.trimmed-returns-in-Ok-clause-spends
+trimmed-returns-in-Ok-clause-spends t c =
+    let here = c.args.here.now in
+    let bs = here.bounds.now in
+    let trim = c.args.trim in
+    let rest = part_of (other_side trim.side) bs trim.split here.next in
+    rest_searched (ranges_of rest) (ranges_of (part_of trim.side bs trim.split here.next)) (ranges_of bs) c.args.budget.now c.inside.new.budget _ c.in-Ok.found c.beside.result
+    (sides bs trim.split trim.side here.next c.requires.ready.box.ranges c.requires.trim.split) (fewer_points bs trim.split (other_side trim.side) here.next c.requires.trim.split)
+    c.beside.ensures.memory c.beside.ensures.beside
+    (subst (λ v. Spends (AreFewer 0) 0 (ranges_of v) c.args.budget.now c.inside.new.budget (Ok c.in-Ok.found)) (c.as_slice.ensures.value ∙ c.requires.trim.rest) c.in-Ok.ensures.spends)
+
+pub trimmed-returns-clause-spends : goal.trimmed-returns-clause-spends
+trimmed-returns-clause-spends t c =
+    let here = c.args.here.now in
+    let bs = here.bounds.now in
+    let trim = c.args.trim in
+    let rest = part_of (other_side trim.side) bs trim.split here.next in
+    rest_stopped (ranges_of rest) (ranges_of bs) c.args.budget.now c.inside.new.budget c.in-Err.stop c.stopped.result
+    (fewer_points bs trim.split (other_side trim.side) here.next c.requires.trim.split) c.stopped.ensures
+    (subst (λ v. Spends (AreFewer 0) 0 (ranges_of v) c.args.budget.now c.inside.new.budget (Err c.in-Err.stop)) (c.as_slice.ensures.value ∙ c.requires.trim.rest) c.in-Err.ensures.spends)
