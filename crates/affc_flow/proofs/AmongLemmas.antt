@@ -1,8 +1,7 @@
 -- The latest store before a load, system by system and statement by statement.
-use Rattle.std.proofs.Common.{◌≡◌, ℕ, ◌-◌, ◌<◌, ℤ, true, false, List, [], ◌∷◌, ◌++◌, length, get_or, take, drop, Option, Some, None, refl, sym, ap, subst, ◌∙◌, ◌⊎◌, inl, inr, arith}
+use Rattle.std.proofs.Common.{◌≡◌, ℕ, ◌-◌, ◌<◌, ℤ, true, false, List, [], ◌∷◌, ◌++◌, length, get_or, Option, Some, None, refl, sym, ap, subst, ◌∙◌, ◌⊎◌, inl, inr, arith}
 use Rattle.std.specs.Prelude.{slice_get}
 use Rattle.std.proofs.lemmas.Option.{same_Some, slice_get_read}
-use Rattle.std.proofs.lemmas.List.{take-append-drop}
 use Rattle.affc_system.specs.Systems.{Rows}
 use Rattle.affc_ast.specs.declared.tree.Instance.{Instance}
 use Rattle.affc_ast.specs.declared.tree.Program.{Program}
@@ -152,19 +151,19 @@ abbrev Stored : Program → (p its : List ℤ) → Entry → Access → List Ent
 Stored program p its e x es w = StoredIn program p (reader_of e its) (element_at (p ++ its) x) es w
 
 -- those of the first few, and those of the others
-pub parts_joined : (nest : Nest) (e : Entry) (x : Access) (p its : List ℤ) (entries : List Entry) (n : ℕ) (here others latest : Option Instance)
-    → IsLatestAmong nest e x p its (take n entries) here → IsLatestAmong nest e x p its (drop n entries) others → IsLaterOf nest p here others latest → IsLatestAmong nest e x p its entries latest
-parts_joined nest e x p its entries n here others latest a b l program is h =
-    subst (λ es. IsLatest (trace program p) (Stored program p its e x es) latest) (take-append-drop n entries)
-    (same_latest (trace program p) (λ w. Stored program p its e x (take n entries) w ⊎ Stored program p its e x (drop n entries) w) (Stored program p its e x (take n entries ++ drop n entries)) to (λ w s. from w s.0 s.1 s.2) latest
-    (later_joined nest program p is h.has (Stored program p its e x (take n entries)) (Stored program p its e x (drop n entries)) (λ w s. s.2.runs) (λ w s. s.2.runs) here others latest (a program is h) (b program is h) l))
+pub parts_joined : (nest : Nest) (e : Entry) (x : Access) (p its : List ℤ) (entries first others : List Entry) (here there latest : Option Instance) → entries ≡ first ++ others
+    → IsLatestAmong nest e x p its first here → IsLatestAmong nest e x p its others there → IsLaterOf nest p here there latest → IsLatestAmong nest e x p its entries latest
+parts_joined nest e x p its entries first others here there latest both a b l program is h =
+    subst (λ es. IsLatest (trace program p) (Stored program p its e x es) latest) (sym both)
+    (same_latest (trace program p) (λ w. Stored program p its e x first w ⊎ Stored program p its e x others w) (Stored program p its e x (first ++ others)) to (λ w s. from w s.0 s.1 s.2) latest
+    (later_joined nest program p is h.has (Stored program p its e x first) (Stored program p its e x others) (λ w s. s.2.runs) (λ w s. s.2.runs) here there latest (a program is h) (b program is h) l))
   where
-    to : (w : Instance) → Stored program p its e x (take n entries) w ⊎ Stored program p its e x (drop n entries) w → Stored program p its e x (take n entries ++ drop n entries) w
-    to w (inl s) = (s.0, to_first (take n entries) (drop n entries) s.0 s.1, s.2)
-    to w (inr s) = (s.0, to_second (take n entries) (drop n entries) s.0 s.1, s.2)
+    to : (w : Instance) → Stored program p its e x first w ⊎ Stored program p its e x others w → Stored program p its e x (first ++ others) w
+    to w (inl s) = (s.0, to_first first others s.0 s.1, s.2)
+    to w (inr s) = (s.0, to_second first others s.0 s.1, s.2)
 
-    from : (w : Instance) (u : Entry) → IsIn u (take n entries ++ drop n entries) → StoresBefore program p (reader_of e its) (element_at (p ++ its) x) u w → Stored program p its e x (take n entries) w ⊎ Stored program p its e x (drop n entries) w
-    from w u i s = elim (in_parts (take n entries) (drop n entries) u i) [
+    from : (w : Instance) (u : Entry) → IsIn u (first ++ others) → StoresBefore program p (reader_of e its) (element_at (p ++ its) x) u w → Stored program p its e x first w ⊎ Stored program p its e x others w
+    from w u i s = elim (in_parts first others u i) [
       | inl j ↦ inl (u, j, s)
       | inr j ↦ inr (u, j, s)
     ]

@@ -56,8 +56,14 @@ padded_spread n k m columns f c e =
     more l c e = omega (arith, c, e)
 
 pub zeros_append : (k l : ℕ) → replicate k (pos 0) ++ replicate l (pos 0) ≡ replicate (k + l) (pos 0)
-zeros_append zero l = refl
-zeros_append (suc k) l = ap (λ zs. pos 0 ∷ zs) (zeros_append k l)
+zeros_append zero l = ap (λ n. replicate n (pos 0)) (none l)
+  where
+    none : (l : ℕ) → l ≡ 0 + l
+    none l = omega arith
+zeros_append (suc k) l = ap (λ zs. pos 0 ∷ zs) (zeros_append k l) ∙ ap (λ n. replicate n (pos 0)) (next k l)
+  where
+    next : (k l : ℕ) → suc (k + l) ≡ suc k + l
+    next k l = omega arith
 
 pub padded_widened : (n k columns : ℕ) (f : Affine) → columns ≡ n + k → length f.coefs ≡ n → padded columns f ≡ widened k f
 padded_widened n k columns f c e = λ i. record { coefs = f.coefs ++ replicate (more (length f.coefs) c e i) (pos 0); constant = f.constant }

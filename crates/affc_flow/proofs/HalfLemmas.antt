@@ -97,7 +97,7 @@ test_fits before behind at h =
 pub test_says_side : (Said : Option Instance → List ℤ → Type 0) (form : Affine) (on off : Tree) (zs : List ℤ)
     → ((pos 0 ≤ℤ value form zs) → Said (named_at on zs) (quotients_at on zs)) → ((value form zs ≤ℤ negsuc 0) → Said (named_at off zs) (quotients_at off zs))
     → Said (named_at (Test form on off) zs) (quotients_at (Test form on off) zs)
-test_says_side Said form on off zs yes no = chosen (int_le (pos 0) (value form zs)) refl
+test_says_side Said form on off zs upper lower = chosen (int_le (pos 0) (value form zs)) refl
   where
     above : (z : ℤ) → int_le (pos 0) z ≡ true → pos 0 ≤ℤ z
     above z e = grind (arith, ints)
@@ -106,15 +106,15 @@ test_says_side Said form on off zs yes no = chosen (int_le (pos 0) (value form z
     below z e = grind (arith, ints)
 
     chosen : (t : Bool) → int_le (pos 0) (value form zs) ≡ t → Said (if int_le (pos 0) (value form zs) then named_at on zs else named_at off zs) (if int_le (pos 0) (value form zs) then quotients_at on zs else quotients_at off zs)
-    chosen true q = subst (λ t. Said (if t then named_at on zs else named_at off zs) (if t then quotients_at on zs else quotients_at off zs)) (sym q) (yes (above (value form zs) q))
-    chosen false q = subst (λ t. Said (if t then named_at on zs else named_at off zs) (if t then quotients_at on zs else quotients_at off zs)) (sym q) (no (below (value form zs) q))
+    chosen true q = subst (λ t. Said (if t then named_at on zs else named_at off zs) (if t then quotients_at on zs else quotients_at off zs)) (sym q) (upper (above (value form zs) q))
+    chosen false q = subst (λ t. Said (if t then named_at on zs else named_at off zs) (if t then quotients_at on zs else quotients_at off zs)) (sym q) (lower (below (value form zs) q))
 
 -- a test of which the first side is right where it is met, and the second elsewhere
 test_right : (program : Program) (p its : List ℤ) (e : Entry) (x : Access) (form : Affine) (on off : Tree)
     → ((pos 0 ≤ℤ value form (p ++ its)) → IsRightAt program p its e x on) → ((value form (p ++ its) ≤ℤ negsuc 0) → IsRightAt program p its e x off)
     → IsRightAt program p its e x (Test form on off)
-test_right program p its e x form on off yes no =
-    let both = test_says_side (λ source quotients. IsSourceOf program p its e x source × All IsNear quotients) form on off (p ++ its) (λ h. ((yes h).source, (yes h).near)) (λ h. ((no h).source, (no h).near)) in
+test_right program p its e x form on off upper lower =
+    let both = test_says_side (λ source quotients. IsSourceOf program p its e x source × All IsNear quotients) form on off (p ++ its) (λ h. ((upper h).source, (upper h).near)) (λ h. ((lower h).source, (lower h).near)) in
     record { source = both.0; near = both.1 }
 
 -- the tree of both halves

@@ -54,7 +54,6 @@ pub(crate) fn has_none(
 }
 
 /// Whether each of these questions is shown to have no point. The recursion is into halves.
-#[tactic(auto, using(crate::proofs::SplitLemmas::both_parts))]
 fn are_empty(
     alloc: Global,
     questions: &[Question],

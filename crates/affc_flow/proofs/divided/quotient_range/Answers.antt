@@ -11,4 +11,4 @@ returns-clause-holds c =
     let fit_high : FitsSigned w128 c.in-Ok.high = search rules in
     let fit_by : FitsSigned w64 c.args.by = c.ranges.by in
     ends_are c.args.ranges.now c.args.form.now c.args.by c.in-Ok.low c.in-Ok.high c.quotient_ends.result c.requires.by (c.in-Ok.ensures.bounds)
-    (simp to_z-of_z at c.quotient_ends.ensures.first) (simp to_z-of_z at c.quotient_ends.ensures.last) (simp to_z-of_z at c.quotient_ends.ensures.near)
+    (simp to_z-of_z at c.quotient_ends.ensures.first) (simp to_z-of_z at c.quotient_ends.ensures.last) c.quotient_ends.ensures.near
