@@ -142,10 +142,11 @@ fn rows_behind(
 }
 
 /// The tree of a division.
-fn division_of(alloc: Global, form: &Form, by: i64, rest: Quast) -> Result<Quast, AllocError>
-    ensures { IfOk result (λ t. seen t ≡ Div form.now by (seen rest)) }
+fn division_of(alloc: Global, division: &Division, rest: Quast) -> Result<Quast, AllocError>
+    ensures { IfOk result (λ t. seen t ≡ Div division.now.form division.now.by (seen rest)) }
 {
-    let form = form.clone()?;
+    let form = division.form.clone()?;
+    let by = division.by;
     let Ok(rest) = Box::new(alloc, rest) else {
         return Err(AllocError);
     };
@@ -175,7 +176,7 @@ fn above(
     ensures right { IfOk result (λ t. CoversOn load.now.nest.now load.now.reader.now load.now.access.now place.now.path.now place.now.ranges.now left (suc (length others.now)) (seen t)) }
 {
     let _rows = place.path.rows();
-    let tree = division_of(alloc, &division.form, division.by, rest)?;
+    let tree = division_of(alloc, division, rest)?;
     Ok(tree)
 }
 
