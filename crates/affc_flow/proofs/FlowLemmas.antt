@@ -160,12 +160,15 @@ load_access e k less = there_is e.accesses k (fewer (length e.accesses) less)
 pub flow_names_sources : FlowNamesSources
 flow_names_sources program p trees has named inside shapes near none s k e at less =
     let t = shapes s k e at less in
-    let a = load_access e k less in
-    (t.0, t.1, λ b x number runs load.
-    as_source program p trees has named inside s k e at less a.0 a.1 b number runs (named_at t.0 (p ++ b.iterators)) x load
-    (names program p trees has named inside s k e at less a.0 a.1 b number runs InBox box_append t.0 t.1 t.2
-    (λ l shaped i wide met. leaf_is_boxed t.0 (p ++ b.iterators) (quotients_at t.0 (p ++ b.iterators)) ((nest_of program).params ++ e.ranges) l shaped i
-    (its_box program p trees has named inside s k e at less a.0 a.1 b number runs) (near s k e t.0 at less t.1 b number runs) wide met) none))
+    let a = load_access e k less in (
+      t.0,
+      t.1,
+      λ b x number runs load.
+          as_source program p trees has named inside s k e at less a.0 a.1 b number runs (named_at t.0 (p ++ b.iterators)) x load
+          (names program p trees has named inside s k e at less a.0 a.1 b number runs InBox box_append t.0 t.1 t.2
+          (λ l shaped i wide met. leaf_is_boxed t.0 (p ++ b.iterators) (quotients_at t.0 (p ++ b.iterators)) ((nest_of program).params ++ e.ranges) l shaped i
+          (its_box program p trees has named inside s k e at less a.0 a.1 b number runs) (near s k e t.0 at less t.1 b number runs) wide met) none),
+    )
 
 -- with no ranges to hold
 module _ (program : Program) (p : List ℤ) (trees : List Tree) (has : HasNest program) (named : NamesArrays program) (inside : IsInContext program p)
@@ -178,13 +181,17 @@ module _ (program : Program) (p : List ℤ) (trees : List Tree) (has : HasNest p
 
 pub flow_names_all : FlowNamesAll
 flow_names_all program p trees has named inside shapes none = (
-    λ s k e at less.
+  λ s k e at less.
       let t = shapes s k e at less in
-      let a = load_access e k less in
-      (t.0, t.1, λ b x number runs load.
-      as_source program p trees has named inside s k e at less a.0 a.1 b number runs (named_at t.0 (p ++ b.iterators)) x load
-      (anywhere program p trees has named inside none s k e at less t.0 t.1 t.2 b number runs a.0 a.1)),
-    λ s k e x tree b at less of temporary there number runs.
+      let a = load_access e k less in (
+        t.0,
+        t.1,
+        λ b x number runs load.
+            as_source program p trees has named inside s k e at less a.0 a.1 b number runs (named_at t.0 (p ++ b.iterators)) x load
+            (anywhere program p trees has named inside none s k e at less t.0 t.1 t.2 b number runs a.0 a.1),
+      ),
+  λ s k e x tree b at less of temporary there number runs.
       let t = shapes s k e at less in
       let same : t.0 ≡ tree = same_Some t.0 tree (sym t.1 ∙ there) in
-      (anywhere program p trees has named inside none s k e at less tree there (subst (Shaped (length (nest_of program).params + length e.loops)) same t.2) b number runs x of).written temporary)
+      (anywhere program p trees has named inside none s k e at less tree there (subst (Shaped (length (nest_of program).params + length e.loops)) same t.2) b number runs x of).written temporary,
+)

@@ -17,7 +17,7 @@ use Rattle.affc_trace.proofs.Members.{to_flat_map}
 use Rattle.affc_trace.proofs.Runs.{length_append}
 use Rattle.affc_domain.proofs.RangeLemmas.{box_push}
 use Rattle.affc_nest.specs.Asked.{IsNest}
-use Rattle.affc_nest.specs.Domains.{with_rows}
+use Rattle.affc_nest.specs.Domains.{gap_row, with_rows}
 use Rattle.affc_nest.specs.Questions.{widened}
 use Rattle.affc_nest.specs.declared.nest.Access.{Access}
 use Rattle.affc_nest.specs.declared.nest.Entry.{Entry}
@@ -28,11 +28,12 @@ use Rattle.affc_nest.proofs.DomainLemmas.{from_all, met_append, met_both}
 use Rattle.affc_nest.proofs.EntryLemmas.{points_are_instances}
 use Rattle.affc_nest.proofs.QuestionLemmas as first
 use Rattle.affc_order.specs.Posed.{Posed}
+use Rattle.affc_order.specs.Spread.{spread}
 use Rattle.affc_sched.proofs.LegalLemmas.{entry_at}
 use Rattle.affc_sched.proofs.PairLemmas.{stands_in, subs_sides}
 use Rattle.affc_sched.proofs.WidthLemmas.{domain_wide}
 use Rattle.affc_quast.specs.Laws.{IsOver}
-use Rattle.affc_quast.specs.Leaves.{Leaf, negated, division_rows}
+use Rattle.affc_quast.specs.Leaves.{Leaf, multiple, negated, division_rows}
 use Rattle.affc_quast.specs.Limits.{narrow, FitsForm, Shaped}
 use Rattle.affc_quast.specs.Paths.{IsNear}
 use Rattle.affc_quast.specs.Seen.{seen}
@@ -209,6 +210,36 @@ path_behind e path more form by h is = record {
   where
     one : (a b : ℕ) → suc (a + b) ≡ a + (b + 1)
     one a b = omega arith
+
+spread_widened : (f : Affine) → spread 0 0 1 f ≡ widened 1 f
+spread_widened f = refl
+
+spread_rows : (rows : List Affine) → map (spread 0 0 1) rows ≡ map (widened 1) rows
+spread_rows [] = refl
+spread_rows (f ∷ rows) = ap (λ gs. widened 1 f ∷ gs) (spread_rows rows)
+
+-- the path behind a division, row by row
+pub divided_is : (path : Rows) (form : Affine) (by : ℤ) (columns : ℕ) (rows : List Affine) (first second third fourth : Rows) (whole least past low high : Affine) → columns ≡ path.columns
+    → first ≡ record { columns = columns + 1; rows = [] } → rows ≡ path.rows → second ≡ with_rows first (map (spread 0 0 1) rows) → whole ≡ spread 0 0 1 form → least ≡ multiple columns by (pos 0)
+    → low ≡ gap_row least whole 0 → third ≡ with_rows second (low ∷ []) → past ≡ multiple columns by by → high ≡ gap_row whole past 1 → fourth ≡ with_rows third (high ∷ []) → fourth ≡ divided_path path form by
+divided_is path form by columns rows first second third fourth whole least past low high c a r b w l lo d p hi e =
+    e ∙ ap (λ s. with_rows s (high ∷ [])) (d ∙ ap (λ s. with_rows s (low ∷ [])) (b ∙ ap (λ s. with_rows s (map (spread 0 0 1) rows)) a))
+    ∙ (λ i. record { columns = next columns path.columns c i; rows = all i })
+  where
+    next : (m n : ℕ) → m ≡ n → m + 1 ≡ suc n
+    next m n e = omega (arith, e)
+
+    low_is : low ≡ gap_row (multiple path.columns by (pos 0)) (widened 1 form) 0
+    low_is =
+        lo ∙ ap (λ f. gap_row f whole 0) (l ∙ ap (λ n. multiple n by (pos 0)) c) ∙ ap (λ f. gap_row (multiple path.columns by (pos 0)) f 0) (w ∙ spread_widened form)
+
+    high_is : high ≡ gap_row (widened 1 form) (multiple path.columns by by) 1
+    high_is = hi ∙ ap (λ f. gap_row f past 1) (w ∙ spread_widened form) ∙ ap (λ f. gap_row (widened 1 form) f 1) (p ∙ ap (λ n. multiple n by by) c)
+
+    all : (map (spread 0 0 1) rows ++ low ∷ []) ++ high ∷ [] ≡ map (widened 1) path.rows ++ division_rows path.columns form by
+    all =
+        append_assoc (map (spread 0 0 1) rows) (low ∷ []) (high ∷ []) ∙ ap (λ rs. rs ++ low ∷ high ∷ []) (ap (map (spread 0 0 1)) r ∙ spread_rows path.rows)
+        ∙ (λ i. map (widened 1) path.rows ++ low_is i ∷ high_is i ∷ [])
 
 -- ---- Tests
 

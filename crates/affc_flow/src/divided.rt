@@ -49,7 +49,6 @@ fn multiple(alloc: Global, columns: u32, by: i64, constant: i64) -> Result<Form,
 }
 
 /// The path behind a division.
-#[tactic(auto, using(affc_sched::proofs::SystemLemmas::added_twice))]
 fn path_behind(alloc: Global, path: &System, form: &Form, by: i64) -> Result<System, Unasked>
     ensures { IfOk result (λ s. s ≡ divided_path path.now form.now by) }
 {
@@ -112,13 +111,17 @@ struct Behind {
 }
 
 /// What is behind a division.
+#[tactic(auto, using(crate::proofs::GuessLemmas::path_behind))]
 fn rows_behind(
     alloc: Global,
+    load: &Load<'_>,
     place: &Place<'_>,
     form: &Form,
     by: i64,
 ) -> Result<Option<Behind>, AllocError>
+    requires under { IsPath load.now.reader.now place.now.path.now }
     requires by { pos 1 ≤ℤ by }
+    ensures under { IfOk result (λ o. IfSome o (λ b. IsPath load.now.reader.now b.path)) }
     ensures path { IfOk result (λ o. IfSome o (λ b. b.path ≡ divided_path place.now.path.now form.now by)) }
     ensures ranges { IfOk result (λ o. IfSome o (λ b. b.ranges ≡ place.now.ranges.now ++ b.range ∷ [])) }
     ensures range { IfOk result (λ o. IfSome o (λ b. IsQuotientRange place.now.ranges.now form.now by b.range)) }
@@ -209,7 +212,7 @@ fn divided(
     if form.coefs.len() != place.path.columns() as usize {
         return Ok(None);
     }
-    let Some(below) = rows_behind(alloc, place, form, by)? else {
+    let Some(below) = rows_behind(alloc, load, place, form, by)? else {
         return Ok(None);
     };
     let there = Place {

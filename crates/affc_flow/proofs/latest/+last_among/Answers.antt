@@ -8,16 +8,18 @@ use Rattle.affc_flow.proofs.latest.+last_among.Goals as goal
 pub last_among-requires : goal.last_among-requires
 last_among-requires t c =
     let f = c.split_at.ensures.front_len in
-    let l = c.in_default.len_at_least in
-    (omega (arith, f, l),
-    (c.requires.reading, each_first (λ v. IsIn v c.args.reading.now.nest.now.entries) c.args.entries.now c.split_at.result.0.now c.split_at.result.1.now c.split_at.ensures.by_index.0 c.requires.entries))
+    let l = c.in_default.len_at_least in (
+      omega (arith, f, l),
+      (c.requires.reading, each_first (λ v. IsIn v c.args.reading.now.nest.now.entries) c.args.entries.now c.split_at.result.0.now c.split_at.result.1.now c.split_at.ensures.by_index.0 c.requires.entries),
+    )
 
 pub last_among-requires-in_default : goal.last_among-requires-in_default
 last_among-requires-in_default t c =
     let g = c.split_at.ensures.back_len in
-    let l = c.in_default.len_at_least in
-    (omega (arith, g, l),
-    (c.requires.reading, each_second (λ v. IsIn v c.args.reading.now.nest.now.entries) c.args.entries.now c.split_at.result.0.now c.split_at.result.1.now c.split_at.ensures.by_index.0 c.requires.entries))
+    let l = c.in_default.len_at_least in (
+      omega (arith, g, l),
+      (c.requires.reading, each_second (λ v. IsIn v c.args.reading.now.nest.now.entries) c.args.entries.now c.split_at.result.0.now c.split_at.result.1.now c.split_at.ensures.by_index.0 c.requires.entries),
+    )
 
 pub returns-in-empty-clause-latest : goal.returns-in-empty-clause-latest
 returns-in-empty-clause-latest t c =
