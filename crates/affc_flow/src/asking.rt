@@ -273,7 +273,7 @@ fn add_between(
 // ---- With all statements that store the array.
 
 /// The store of a statement that can have instances, if it is one of this array.
-pub(crate) fn store_for(entry: &Entry, array: u32) -> Option<&Access>
+pub fn store_for(entry: &Entry, array: u32) -> Option<&Access>
     ensures none { IfNone result (writers_of array entry.now ≡ []) }
     ensures some { IfSome result (λ y. writers_of array entry.now ≡ (entry.now, y.now) ∷ []) }
     ensures living { IfSome result (λ y. IsTrue entry.now.alive) }

@@ -23,5 +23,7 @@ pub mod stop;
 mod strides;
 mod tested;
 
+pub use asking::store_for;
 pub use finding::find;
+pub use load::{is_temporary, number};
 pub use stop::FlowStop;

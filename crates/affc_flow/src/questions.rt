@@ -108,7 +108,7 @@ pub(crate) fn push_rows(system: &mut System, rows: &[Form]) -> Result<(), Unaske
 }
 
 /// The row `b - a - k`.
-pub(crate) fn gap(alloc: Global, a: &Form, b: &Form, k: u32) -> Result<Form, Unasked>
+pub fn gap(alloc: Global, a: &Form, b: &Form, k: u32) -> Result<Form, Unasked>
     ensures { IfOk result (λ f. f ≡ gap_row a.now b.now k) }
 {
     if a.coefs.len() != b.coefs.len() {
@@ -122,7 +122,7 @@ pub(crate) fn gap(alloc: Global, a: &Form, b: &Form, k: u32) -> Result<Form, Una
 }
 
 /// The row that says that a row isn't met.
-pub(crate) fn negation(alloc: Global, row: &Form) -> Result<Form, Unasked>
+pub fn negation(alloc: Global, row: &Form) -> Result<Form, Unasked>
     ensures { IfOk result (λ f. f ≡ negated row.now) }
 {
     let columns = count(row.coefs.len())?;
@@ -132,7 +132,7 @@ pub(crate) fn negation(alloc: Global, row: &Form) -> Result<Form, Unasked>
 }
 
 /// Whether each form has so many columns.
-pub(crate) fn have_columns(columns: u32, forms: &[Form]) -> bool
+pub fn have_columns(columns: u32, forms: &[Form]) -> bool
     ensures { IsTrue result → HaveColumns columns forms.now }
 {
     match forms {
@@ -158,12 +158,7 @@ fn constant_form(alloc: Global, columns: u32, form: &Form) -> Result<Form, Alloc
 }
 
 /// A form with each column replaced by its image.
-pub(crate) fn at_images(
-    alloc: Global,
-    columns: u32,
-    images: &[Form],
-    form: &Form,
-) -> Result<Form, Unasked>
+pub fn at_images(alloc: Global, columns: u32, images: &[Form], form: &Form) -> Result<Form, Unasked>
     ensures { IfOk result (λ f. f ≡ form_at columns images.now form.now) }
 {
     if images.len() != form.coefs.len() {
