@@ -11,6 +11,7 @@ use Rattle.affc_trace.specs.Dataflow.{IsSource}
 use Rattle.affc_trace.specs.Law.{IsIn}
 use Rattle.affc_trace.specs.Orders.{Earlier}
 use Rattle.affc_trace.proofs.Legality.{earlier_is_in}
+use Rattle.affc_trace.proofs.Members.{to_first, to_second}
 use Rattle.affc_nest.specs.declared.nest.Access.{Access}
 use Rattle.affc_nest.specs.declared.nest.Entry.{Entry}
 use Rattle.affc_nest.specs.declared.nest.Nest.{Nest}
@@ -28,6 +29,7 @@ use Rattle.affc_flow.proofs.LastLemmas.{is_stored}
 use Rattle.affc_flow.proofs.LaterLemmas.{same_latest, later_joined}
 use Rattle.affc_flow.proofs.LatestLemmas.{latest_is_source}
 use Rattle.affc_flow.proofs.PathLemmas.{parameters_are}
+use Rattle.affc_flow.proofs.SplitLemmas.{in_parts}
 use Rattle.affc_flow.proofs.StoreLemmas.{stores_point}
 use Rattle.affc_flow.proofs.WriterLemmas.{stored_there}
 
@@ -145,26 +147,26 @@ all_orders nest v e y x p its orders found writes o l program is h =
         same_latest (trace program p) (StoresBy (nest_of program) program p its v e y x (source_systems (nest_of program) v.statement e.statement))
         (StoredIn program p (reader_of e its) (element_at (p ++ its) x) (v ∷ [])) (λ u s. (v, inl refl, to w made u s.0 s.1 s.2)) (λ u s. from w made u s.0 s.1 s.2) found k
 
-pub entry_joined : (nest : Nest) (e : Entry) (x : Access) (p its : List ℤ) (v : Entry) (rest entries : List Entry) (here others latest : Option Instance) → entries ≡ v ∷ rest
-    → IsLatestAmong nest e x p its (v ∷ []) here → IsLatestAmong nest e x p its rest others → IsLaterOf nest p here others latest → IsLatestAmong nest e x p its entries latest
-entry_joined nest e x p its v rest entries here others latest q a b l program is h =
-    subst (λ es. IsLatest (trace program p) (StoredIn program p (reader_of e its) (element_at (p ++ its) x) es) latest) (sym q)
-    (same_latest (trace program p) (λ w. StoredIn program p (reader_of e its) (element_at (p ++ its) x) (v ∷ []) w ⊎ StoredIn program p (reader_of e its) (element_at (p ++ its) x) rest w)
-    (StoredIn program p (reader_of e its) (element_at (p ++ its) x) (v ∷ rest)) to (λ w s. from w s.0 s.1 s.2) latest
-    (later_joined nest program p is h.has (StoredIn program p (reader_of e its) (element_at (p ++ its) x) (v ∷ [])) (StoredIn program p (reader_of e its) (element_at (p ++ its) x) rest) (λ w s. s.2.runs) (λ w s. s.2.runs) here others latest (a program is h) (b program is h) l))
+abbrev Stored : Program → (p its : List ℤ) → Entry → Access → List Entry → Instance → Type 0
+Stored program p its e x es w = StoredIn program p (reader_of e its) (element_at (p ++ its) x) es w
+
+-- those of the first few, and those of the others
+pub parts_joined : (nest : Nest) (e : Entry) (x : Access) (p its : List ℤ) (entries first others : List Entry) (here there latest : Option Instance) → entries ≡ first ++ others
+    → IsLatestAmong nest e x p its first here → IsLatestAmong nest e x p its others there → IsLaterOf nest p here there latest → IsLatestAmong nest e x p its entries latest
+parts_joined nest e x p its entries first others here there latest both a b l program is h =
+    subst (λ es. IsLatest (trace program p) (Stored program p its e x es) latest) (sym both)
+    (same_latest (trace program p) (λ w. Stored program p its e x first w ⊎ Stored program p its e x others w) (Stored program p its e x (first ++ others)) to (λ w s. from w s.0 s.1 s.2) latest
+    (later_joined nest program p is h.has (Stored program p its e x first) (Stored program p its e x others) (λ w s. s.2.runs) (λ w s. s.2.runs) here there latest (a program is h) (b program is h) l))
   where
-    first : (u : Entry) → IsIn u (v ∷ []) → IsIn u (v ∷ rest)
-    first u (inl e) = inl e
-    first u (inr b) = absurd b
+    to : (w : Instance) → Stored program p its e x first w ⊎ Stored program p its e x others w → Stored program p its e x (first ++ others) w
+    to w (inl s) = (s.0, to_first first others s.0 s.1, s.2)
+    to w (inr s) = (s.0, to_second first others s.0 s.1, s.2)
 
-    to : (w : Instance) → StoredIn program p (reader_of e its) (element_at (p ++ its) x) (v ∷ []) w ⊎ StoredIn program p (reader_of e its) (element_at (p ++ its) x) rest w → StoredIn program p (reader_of e its) (element_at (p ++ its) x) (v ∷ rest) w
-    to w (inl s) = (s.0, first s.0 s.1, s.2)
-    to w (inr s) = (s.0, inr s.1, s.2)
-
-    from : (w : Instance) (u : Entry) → IsIn u (v ∷ rest) → StoresBefore program p (reader_of e its) (element_at (p ++ its) x) u w
-        → StoredIn program p (reader_of e its) (element_at (p ++ its) x) (v ∷ []) w ⊎ StoredIn program p (reader_of e its) (element_at (p ++ its) x) rest w
-    from w u (inl e) s = inl (u, inl e, s)
-    from w u (inr i) s = inr (u, i, s)
+    from : (w : Instance) (u : Entry) → IsIn u (first ++ others) → StoresBefore program p (reader_of e its) (element_at (p ++ its) x) u w → Stored program p its e x first w ⊎ Stored program p its e x others w
+    from w u i s = elim (in_parts first others u i) [
+      | inl j ↦ inl (u, j, s)
+      | inr j ↦ inr (u, j, s)
+    ]
 
 -- ---- All statements
 

@@ -1,4 +1,4 @@
--- The questions of a leaf under tests, as the code lists them, are those of the leaf.
+-- The questions of a leaf under tests and divisions, as the code lists them, are those of the leaf.
 use Rattle.std.proofs.Common.{◌≡◌, ℕ, zero, suc, ◌+◌, ◌-◌, ℤ, pos, Bool, true, false, true≢false, if◌then◌else◌, List, [], ◌∷◌, ◌++◌, length, map, flat_map, take, drop, replicate, Option, Some, None, refl, sym, ap, subst, ◌∙◌, inl, inr, arith}
 use Rattle.std.specs.Prelude.{nat_lt, nat_eq, slice_get, ◌&&◌}
 use Rattle.std.proofs.lemmas.Bool.{eq-eqb, eqb-true}
@@ -11,11 +11,12 @@ use Rattle.affc_ast.specs.declared.tree.Rel.TheVariants.{Less, Greater}
 use Rattle.affc_trace.specs.Inverses.{columns_from}
 use Rattle.affc_trace.specs.Law.{IsIn}
 use Rattle.affc_trace.proofs.EndedReads.{append_assoc}
-use Rattle.affc_trace.proofs.LastStores.{append_nil}
+use Rattle.affc_trace.proofs.LastStores.{append_nil, map_append}
 use Rattle.affc_domain.specs.Loops.{shared}
 use Rattle.affc_domain.proofs.Lists.{both_true}
 use Rattle.affc_nest.specs.Asked.{IsNest}
 use Rattle.affc_nest.specs.Domains.{compare_rows}
+use Rattle.affc_nest.specs.Questions.{widened}
 use Rattle.affc_nest.specs.declared.nest.Access.{Access}
 use Rattle.affc_nest.specs.declared.nest.Entry.{Entry}
 use Rattle.affc_nest.specs.declared.nest.Nest.{Nest}
@@ -54,6 +55,34 @@ padded_spread n k m columns f c e =
     more : (l : ℕ) → columns ≡ n + k → l ≡ n → columns - l ≡ k
     more l c e = omega (arith, c, e)
 
+pub zeros_append : (k l : ℕ) → replicate k (pos 0) ++ replicate l (pos 0) ≡ replicate (k + l) (pos 0)
+zeros_append zero l = ap (λ n. replicate n (pos 0)) (none l)
+  where
+    none : (l : ℕ) → l ≡ 0 + l
+    none l = omega arith
+zeros_append (suc k) l = ap (λ zs. pos 0 ∷ zs) (zeros_append k l) ∙ ap (λ n. replicate n (pos 0)) (next k l)
+  where
+    next : (k l : ℕ) → suc (k + l) ≡ suc k + l
+    next k l = omega arith
+
+pub padded_widened : (n k columns : ℕ) (f : Affine) → columns ≡ n + k → length f.coefs ≡ n → padded columns f ≡ widened k f
+padded_widened n k columns f c e = λ i. record { coefs = f.coefs ++ replicate (more (length f.coefs) c e i) (pos 0); constant = f.constant }
+  where
+    more : (l : ℕ) → columns ≡ n + k → l ≡ n → columns - l ≡ k
+    more l c e = omega (arith, c, e)
+
+-- more columns still
+padded_further : (n k l m : ℕ) (f : Affine) → length f.coefs ≡ n → padded ((n + k) + l) f ≡ spread m 0 l (widened k f)
+padded_further n k l m f e =
+    λ i. record {
+      coefs = (ap (λ j. f.coefs ++ replicate j (pos 0)) (more (length f.coefs) e) ∙ ap (λ zs. f.coefs ++ zs) (sym (zeros_append k l)) ∙ sym (append_assoc f.coefs (replicate k (pos 0)) (replicate l (pos 0)))
+          ∙ sym (front_back m (f.coefs ++ replicate k (pos 0)) (replicate l (pos 0)))) i;
+      constant = f.constant;
+    }
+  where
+    more : (a : ℕ) → a ≡ n → ((n + k) + l) - a ≡ k + l
+    more a e = omega (arith, e)
+
 map_same : (F G : Affine → Affine) (n : ℕ) → ((f : Affine) → length f.coefs ≡ n → F f ≡ G f) → (fs : List Affine) → HaveColumns n fs → map F fs ≡ map G fs
 map_same F G n h [] w = refl
 map_same F G n h (f ∷ fs) w =
@@ -63,29 +92,37 @@ map_none : (fs : List Affine) → map (λ f. f) fs ≡ fs
 map_none [] = refl
 map_none (f ∷ fs) = ap (λ gs. f ∷ gs) (map_none fs)
 
+map_twice : (F G : Affine → Affine) (fs : List Affine) → map F (map G fs) ≡ map (λ f. F (G f)) fs
+map_twice F G [] = refl
+map_twice F G (f ∷ fs) = ap (λ hs. F (G f) ∷ hs) (map_twice F G fs)
+
 -- ---- The same questions
 
 flat_same_in : {A B : Type 0} (f g : A → List B) (xs : List A) → ((x : A) → IsIn x xs → f x ≡ g x) → flat_map f xs ≡ flat_map g xs
 flat_same_in f g [] h = refl
 flat_same_in f g (x ∷ xs) h = ap (λ ys. ys ++ flat_map f xs) (h x (inl refl)) ∙ ap (λ ys. g x ++ ys) (flat_same_in f g xs (λ y i. h y (inr i)))
 
--- a leaf over the parameters and the iterators of the load's statement
-module _ (nest : Nest) (n : IsNest nest) (e : Entry) (i : IsIn e nest.entries) (x : Access) (ranges : List (ℤ × ℤ)) (tests : List Affine)
-    (rows_wide : HaveColumns (length nest.params + length e.loops) (e.domain.rows ++ tests)) (subs_wide : HaveColumns (length nest.params + length e.loops) x.subs) where
+-- a leaf over the parameters, the iterators of the load's statement and so many quotients
+module _ (nest : Nest) (n : IsNest nest) (e : Entry) (i : IsIn e nest.entries) (x : Access) (ranges : List (ℤ × ℤ)) (quotients : ℕ) (tests : List Affine)
+    (rows_wide : HaveColumns (length nest.params + length e.loops) e.domain.rows) (tests_wide : HaveColumns ((length nest.params + length e.loops) + quotients) tests)
+    (subs_wide : HaveColumns (length nest.params + length e.loops) x.subs) where
+  abbrev own_width : ℕ
+  own_width = length nest.params + length e.loops
+
   abbrev width : ℕ
-  width = length nest.params + length e.loops
+  width = (length nest.params + length e.loops) + quotients
 
   abbrev place : Rows
-  place = record { columns = length nest.params + length e.loops; rows = e.domain.rows ++ tests }
+  place = record { columns = width; rows = map (widened quotients) e.domain.rows ++ tests }
 
   abbrev leaf : Option Posed → Leaf
-  leaf o = record { columns = length nest.params + length e.loops; rows = tests; divisions = []; named = o }
+  leaf o = record { columns = width; rows = tests; divisions = []; named = o }
 
-  path_same : map (padded width) (e.domain.rows ++ tests) ≡ e.domain.rows ++ tests
-  path_same = map_same (padded width) (λ f. f) width (padded_same width) (e.domain.rows ++ tests) rows_wide ∙ map_none (e.domain.rows ++ tests)
-
-  subs_same : map (padded width) x.subs ≡ x.subs
-  subs_same = map_same (padded width) (λ f. f) width (padded_same width) x.subs subs_wide ∙ map_none x.subs
+  path_same : map (padded width) (e.domain.rows ++ tests) ≡ map (widened quotients) e.domain.rows ++ tests
+  path_same =
+      map_append (padded width) e.domain.rows tests
+      ∙ ap (λ rs. rs ++ map (padded width) tests) (map_same (padded width) (widened quotients) own_width (λ f w. padded_widened own_width quotients width f refl w) e.domain.rows rows_wide)
+      ∙ ap (λ rs. map (widened quotients) e.domain.rows ++ rs) (map_same (padded width) (λ f. f) width (padded_same width) tests tests_wide ∙ map_none tests)
 
   own_loops : loops_of nest e.statement ≡ e.loops
   own_loops = (stands_in nest n e i).loops
@@ -93,27 +130,31 @@ module _ (nest : Nest) (n : IsNest nest) (e : Entry) (i : IsIn e nest.entries) (
   -- ---- With a statement that stores the array
 
   module _ (v : Entry) (j : IsIn v nest.entries) (y : Access) (o : Option Posed) where
-    spread_path : map (padded (width + length v.loops)) (e.domain.rows ++ tests) ≡ map (spread (length nest.params) 0 (length v.loops)) (e.domain.rows ++ tests)
+    spread_path : map (padded (width + length v.loops)) (e.domain.rows ++ tests) ≡ map (spread (length nest.params) 0 (length v.loops)) (map (widened quotients) e.domain.rows ++ tests)
     spread_path =
-        map_same (padded (width + length v.loops)) (spread (length nest.params) 0 (length v.loops)) width (λ f w. padded_spread width (length v.loops) (length nest.params) (width + length v.loops) f refl w) (e.domain.rows ++ tests) rows_wide
+        let more : Affine → Affine = spread (length nest.params) 0 (length v.loops) in
+        map_append (padded (width + length v.loops)) e.domain.rows tests
+        ∙ ap (λ rs. rs ++ map (padded (width + length v.loops)) tests)
+        (map_same (padded (width + length v.loops)) (λ f. more (widened quotients f)) own_width (λ f w. padded_further own_width quotients (length v.loops) (length nest.params) f w) e.domain.rows rows_wide
+        ∙ sym (map_twice more (widened quotients) e.domain.rows))
+        ∙ ap (λ rs. map more (map (widened quotients) e.domain.rows) ++ rs)
+        (map_same (padded (width + length v.loops)) more width (λ f w. padded_spread width (length v.loops) (length nest.params) (width + length v.loops) f refl w) tests tests_wide)
+        ∙ sym (map_append more (map (widened quotients) e.domain.rows) tests)
 
-    spread_subs : map (padded (width + length v.loops)) x.subs ≡ map (spread (length nest.params) 0 (length v.loops)) x.subs
+    spread_subs : map (padded (width + length v.loops)) x.subs ≡ map (spread (length nest.params) 0 (length v.loops)) (map (padded width) x.subs)
     spread_subs =
-        map_same (padded (width + length v.loops)) (spread (length nest.params) 0 (length v.loops)) width (λ f w. padded_spread width (length v.loops) (length nest.params) (width + length v.loops) f refl w) x.subs subs_wide
+        let more : Affine → Affine = spread (length nest.params) 0 (length v.loops) in
+        map_same (padded (width + length v.loops)) (λ f. more (padded width f)) own_width
+        (λ f w. padded_further own_width quotients (length v.loops) (length nest.params) f w ∙ ap more (sym (padded_widened own_width quotients width f refl w))) x.subs subs_wide
+        ∙ sym (map_twice more (padded width) x.subs)
 
-    behind : width - length nest.params ≡ length e.loops
-    behind = less (length nest.params) (length e.loops)
-      where
-        less : (m l : ℕ) → (m + l) - m ≡ l
-        less m l = omega arith
-
-    beside_same : asks.beside_rows nest e x ranges (leaf o) v y ≡ (beside_system nest e x place v y).rows
+    beside_same : asks.beside_rows nest e x ranges (leaf o) v y ≡ (beside_system nest x place v y).rows
     beside_same =
-        ap (λ zs. zs ++ (map (spread (length nest.params) (width - length nest.params) 0) (drop (context_count nest) v.domain.rows) ++ equal_rows (map (padded (width + length v.loops)) x.subs) (map (spread (length nest.params) (width - length nest.params) 0) y.subs))) spread_path
-        ∙ ap (λ k. map (spread (length nest.params) 0 (length v.loops)) (e.domain.rows ++ tests) ++ (map (spread (length nest.params) k 0) (drop (context_count nest) v.domain.rows) ++ equal_rows (map (padded (width + length v.loops)) x.subs) (map (spread (length nest.params) k 0) y.subs))) behind
-        ∙ ap (λ fs. map (spread (length nest.params) 0 (length v.loops)) (e.domain.rows ++ tests) ++ (map (spread (length nest.params) (length e.loops) 0) (drop (context_count nest) v.domain.rows) ++ equal_rows fs (map (spread (length nest.params) (length e.loops) 0) y.subs))) spread_subs
-        ∙ sym (append_assoc (map (spread (length nest.params) 0 (length v.loops)) (e.domain.rows ++ tests)) (map (spread (length nest.params) (length e.loops) 0) (drop (context_count nest) v.domain.rows))
-        (equal_rows (map (spread (length nest.params) 0 (length v.loops)) x.subs) (map (spread (length nest.params) (length e.loops) 0) y.subs)))
+        let k = width - length nest.params in
+        ap (λ zs. zs ++ (map (spread (length nest.params) k 0) (drop (context_count nest) v.domain.rows) ++ equal_rows (map (padded (width + length v.loops)) x.subs) (map (spread (length nest.params) k 0) y.subs))) spread_path
+        ∙ ap (λ fs. map (spread (length nest.params) 0 (length v.loops)) place.rows ++ (map (spread (length nest.params) k 0) (drop (context_count nest) v.domain.rows) ++ equal_rows fs (map (spread (length nest.params) k 0) y.subs))) spread_subs
+        ∙ sym (append_assoc (map (spread (length nest.params) 0 (length v.loops)) place.rows) (map (spread (length nest.params) k 0) (drop (context_count nest) v.domain.rows))
+        (equal_rows (map (spread (length nest.params) 0 (length v.loops)) (map (padded width) x.subs)) (map (spread (length nest.params) k 0) y.subs)))
 
     its_loops : loops_of nest v.statement ≡ v.loops
     its_loops = (stands_in nest n v j).loops
@@ -127,7 +168,7 @@ module _ (nest : Nest) (n : IsNest nest) (e : Entry) (i : IsIn e nest.entries) (
     earlier_same : asks.earlier_questions nest e x ranges (leaf o) v y ≡ earlier nest e x place ranges v y
     earlier_same =
         ap (λ zs. map (λ (u : Rows). record { system = record { columns = width + length v.loops; rows = zs ++ u.rows }; ranges = ranges ++ v.ranges }) (asks.before_load nest e x ranges (leaf o) v y)) beside_same
-        ∙ ap (map (λ (u : Rows). on (beside_system nest e x place v y) (ranges ++ v.ranges) u.rows)) before_same
+        ∙ ap (map (λ (u : Rows). on (beside_system nest x place v y) (ranges ++ v.ranges) u.rows)) before_same
 
     module _ (w : Entry) (l : IsIn w nest.entries) (forms : List Affine) (wide : HaveColumns width forms) where
       abbrev named_by : Posed
@@ -145,8 +186,8 @@ module _ (nest : Nest) (n : IsNest nest) (e : Entry) (i : IsIn e nest.entries) (
       between_same =
           ap (λ zs. flat_map (λ (a : Rows). map (λ (u : Rows). record { system = record { columns = width + length v.loops; rows = zs ++ (a.rows ++ u.rows) }; ranges = ranges ++ v.ranges }) (asks.before_load nest e x ranges (leaf o) v y))
           (asks.after_named nest e x ranges (leaf o) v y named_by)) beside_same
-          ∙ ap (λ bs. flat_map (λ (a : Rows). map (λ (u : Rows). on (beside_system nest e x place v y) (ranges ++ v.ranges) (a.rows ++ u.rows)) bs) (asks.after_named nest e x ranges (leaf o) v y named_by)) before_same
-          ∙ ap (flat_map (λ (a : Rows). map (λ (u : Rows). on (beside_system nest e x place v y) (ranges ++ v.ranges) (a.rows ++ u.rows)) (before nest e place v))) after_same
+          ∙ ap (λ bs. flat_map (λ (a : Rows). map (λ (u : Rows). on (beside_system nest x place v y) (ranges ++ v.ranges) (a.rows ++ u.rows)) bs) (asks.after_named nest e x ranges (leaf o) v y named_by)) before_same
+          ∙ ap (flat_map (λ (a : Rows). map (λ (u : Rows). on (beside_system nest x place v y) (ranges ++ v.ranges) (a.rows ++ u.rows)) (before nest e place v))) after_same
 
   -- ---- A leaf that names none
 
@@ -195,12 +236,10 @@ module _ (nest : Nest) (n : IsNest nest) (e : Entry) (i : IsIn e nest.entries) (
     named_same =
         ap (λ qs. qs ++ (asks.apart_questions nest e x ranges (leaf (Some posed)) posed w z (map (form_at width images) z.subs) (map (padded width) x.subs)
         ++ (asks.not_earlier_questions nest e x ranges (leaf (Some posed)) posed w z ++ flat_map (λ (v : Writer). asks.between_questions nest e x ranges (leaf (Some posed)) v.0 v.1 posed) (writers nest x.array.0)))) outside_same
-        ∙ ap (λ gs. outside place ranges images w.domain.rows ++ (asks.apart_questions nest e x ranges (leaf (Some posed)) posed w z (map (form_at width images) z.subs) gs
-        ++ (asks.not_earlier_questions nest e x ranges (leaf (Some posed)) posed w z ++ flat_map (λ (v : Writer). asks.between_questions nest e x ranges (leaf (Some posed)) v.0 v.1 posed) (writers nest x.array.0)))) subs_same
         ∙ ap (λ qs. outside place ranges images w.domain.rows ++ (qs
-        ++ (asks.not_earlier_questions nest e x ranges (leaf (Some posed)) posed w z ++ flat_map (λ (v : Writer). asks.between_questions nest e x ranges (leaf (Some posed)) v.0 v.1 posed) (writers nest x.array.0)))) (apart_same z.subs x.subs)
-        ∙ ap (λ qs. outside place ranges images w.domain.rows ++ (apart place ranges images z.subs x.subs ++ (qs ++ flat_map (λ (v : Writer). asks.between_questions nest e x ranges (leaf (Some posed)) v.0 v.1 posed) (writers nest x.array.0)))) not_earlier_same
-        ∙ ap (λ qs. outside place ranges images w.domain.rows ++ (apart place ranges images z.subs x.subs ++ (not_earlier nest e x place ranges w forms ++ qs))) all_between_same
+        ++ (asks.not_earlier_questions nest e x ranges (leaf (Some posed)) posed w z ++ flat_map (λ (v : Writer). asks.between_questions nest e x ranges (leaf (Some posed)) v.0 v.1 posed) (writers nest x.array.0)))) (apart_same z.subs (map (padded width) x.subs))
+        ∙ ap (λ qs. outside place ranges images w.domain.rows ++ (apart place ranges images z.subs (map (padded width) x.subs) ++ (qs ++ flat_map (λ (v : Writer). asks.between_questions nest e x ranges (leaf (Some posed)) v.0 v.1 posed) (writers nest x.array.0)))) not_earlier_same
+        ∙ ap (λ qs. outside place ranges images w.domain.rows ++ (apart place ranges images z.subs (map (padded width) x.subs) ++ (not_earlier nest e x place ranges w forms ++ qs))) all_between_same
 
     -- the statement that is named is the only one of its number
     one_writer : (v : Writer) → Writes nest x.array.0 v.0 v.1 → w.statement ≡ v.0.statement → (v.0 ≡ w) × (v.1 ≡ z)

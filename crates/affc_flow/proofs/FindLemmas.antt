@@ -191,11 +191,6 @@ pub no_entries : (nest : Nest) (entries : List Entry) (old new : List Tree) → 
 no_entries nest [] old new l q = ([], q ∙ sym (append_nil old), refl)
 no_entries nest (e ∷ es) old new l q = absurd (omega (arith, l))
 
-pub entry_added : (nest : Nest) (entries rest : List Entry) (e : Entry) (accesses : List Access) (old mid new : List Tree) → entries ≡ e ∷ rest → accesses ≡ e.accesses → AddsTreesOf nest e accesses old mid → AddsTreesFrom nest rest mid new → AddsTreesFrom nest entries old new
-entry_added nest entries rest e accesses old mid new q a f g =
-    subst (λ es. AddsTreesFrom nest es old new) (sym q)
-    (f.0 ++ g.0, g.1 ∙ ap (λ ts. ts ++ g.0) f.1 ∙ append_assoc old f.0 g.0, (f.0, g.0, refl, subst (λ xs. AreTreesOf nest e xs f.0) a f.2, g.2))
-
 trees_long : (nest : Nest) (e : Entry) (xs : List Access) (ts : List Tree) → AreTreesOf nest e xs ts → length ts ≡ length xs - 1
 trees_long nest e [] ts h = ap length h
 trees_long nest e (x ∷ []) ts h = ap length h

@@ -1,30 +1,36 @@
 -- The trees of all loads, none of whose questions has a point.
-use Rattle.std.proofs.Common.{◌≡◌, ℕ, zero, suc, ◌+◌, ◌-◌, ◌<◌, IsTrue, if◌then◌else◌, List, [], ◌∷◌, ◌++◌, length, map, Some, refl, sym, ap, subst, ◌∙◌, arith}
+use Rattle.std.proofs.Common.{◌≡◌, ℕ, zero, suc, ℤ, ◌+◌, ◌-◌, ◌<◌, IsTrue, if◌then◌else◌, List, [], ◌∷◌, ◌++◌, length, map, Option, Some, refl, sym, ap, subst, ◌∙◌, arith}
 use Rattle.std.specs.Prelude.{slice_get}
 use Rattle.std.proofs.lemmas.Option.{same_Some, none-some}
 use Rattle.affc_system.specs.Boxes.{InBox}
+use Rattle.affc_system.specs.Systems.{IsPoint, HasNoPoint}
 use Rattle.affc_ast.specs.declared.tree.Instance.{Instance}
+use Rattle.affc_ast.specs.declared.tree.Program.{Program}
 use Rattle.affc_ast.specs.Store.{Element}
 use Rattle.affc_ast.specs.Trace.{trace, store_of, loads_of}
 use Rattle.affc_trace.specs.Dataflow.{IsSource}
 use Rattle.affc_trace.specs.Law.{IsIn}
+use Rattle.affc_trace.specs.Laws.{IsInContext}
 use Rattle.affc_trace.proofs.Members.{to_first, to_second, to_flat_map}
+use Rattle.affc_domain.specs.Ranges.{number_ranges}
 use Rattle.affc_domain.proofs.RangeLemmas.{in_ranges}
 use Rattle.affc_nest.specs.declared.nest.Access.{Access}
 use Rattle.affc_nest.specs.declared.nest.Entry.{Entry}
 use Rattle.affc_nest.specs.declared.nest.Nest.{Nest}
-use Rattle.affc_nest.specs.Laws.{element_at, IsEntry}
+use Rattle.affc_nest.specs.Laws.{HasNest, NamesArrays, element_at, IsEntry}
 use Rattle.affc_nest.specs.Nests.{nest_of}
 use Rattle.affc_nest.proofs.EntryLemmas.{entries_stand, ranges_hold_iterators}
 use Rattle.affc_nest.proofs.QuestionLemmas.{there_is, stands_in}
-use Rattle.affc_sched.proofs.LegalLemmas.{box_append, events_are}
-use Rattle.affc_quast.specs.Sources.{tree_of}
+use Rattle.affc_sched.proofs.LegalLemmas.{Stood, box_append, events_are}
+use Rattle.affc_quast.specs.Sources.{loads_in, tree_of}
 use Rattle.affc_quast.specs.Limits.{Shaped}
-use Rattle.affc_quast.specs.Trees.{Tree, named_at}
-use Rattle.affc_flow.specs.Laws.{Loads, FlowNamesSources}
+use Rattle.affc_quast.specs.Trees.{Tree, named_at, quotients_at}
+use Rattle.affc_quast.proofs.RangeLemmas.{leaf_is_boxed}
+use Rattle.affc_flow.specs.Laws.{Loads, IsSourceOf, FlowNamesSources, FlowNamesAll}
 use Rattle.affc_flow.specs.Questions.{Question, questions_of_load, questions_of_loads, flow_questions}
 use Rattle.affc_flow.proofs.PathLemmas.{parameters_are, reader_stands}
-use Rattle.affc_flow.proofs.NamesLemmas.{tree_names_source}
+use Rattle.affc_flow.proofs.TreeLemmas.{load_there}
+use Rattle.affc_flow.proofs.NamesLemmas.{HoldsLeaves, tree_names}
 
 pub mapped_at : {A B : Type 0} (f : A → B) (xs : List A) (k : ℕ) (a : A) → slice_get xs k ≡ Some a → slice_get (map f xs) k ≡ Some (f a)
 mapped_at f [] k a e = absurd (none-some a e)
@@ -54,59 +60,138 @@ among_loads nest trees e q (y ∷ z ∷ ys) first (suc k) x at less i =
     moved : (m n : ℕ) → m + suc n ≡ (m + 1) + n
     moved m n = omega arith
 
+-- ---- One load
+
+module _ (program : Program) (p : List ℤ) (trees : List Tree) (has : HasNest program) (named : NamesArrays program) (inside : IsInContext program p)
+    (s k : ℕ) (e : Entry) (at : slice_get (nest_of program).entries s ≡ Some e) (less : k < loads_in e) (a : Access) (a_at : slice_get e.accesses k ≡ Some a)
+    (b : Instance) (number : b.statement ≡ s) (runs : IsIn b (trace program p)) where
+  own : e.statement ≡ s
+  own = ((entries_stand program has).1 s e at).number
+
+  is : b ≡ record { statement = e.statement; iterators = b.iterators }
+  is = λ i. record { statement = (number ∙ sym own) i; iterators = b.iterators }
+
+  enough : suc k < length e.accesses
+  enough = more (length e.accesses) less
+    where
+      more : (n : ℕ) → k < n - 1 → suc k < n
+      more n h = omega (arith, h)
+
+  pub loaded : Loads program p b.iterators e a
+  loaded = record {
+    has = has;
+    named = named;
+    context = inside;
+    entry = subst (λ k. IsEntry program k e) (sym own) at;
+    made = stands_in e.accesses k a a_at;
+    runs = subst (λ i. IsIn i (trace program p)) is runs;
+  }
+
+  l : length p ≡ length (number_ranges program.params)
+  l = parameters_are program p b.iterators e a loaded
+
+  st : Stood program p e b.iterators
+  st = reader_stands program p b.iterators e a loaded
+
+  abbrev ranges : List (ℤ × ℤ)
+  ranges = (nest_of program).params ++ e.ranges
+
+  pub its_box : InBox ((nest_of program).params ++ e.ranges) (p ++ b.iterators)
+  its_box =
+      box_append (nest_of program).params e.ranges p b.iterators (in_ranges program.params p inside.ranges)
+      ((ranges_hold_iterators program e.statement e has loaded.entry st.alive).hold p (record { statement = e.statement; iterators = b.iterators }) refl inside loaded.runs)
+
+  pub width : length (nest_of program).params + length e.loops ≡ length p + length b.iterators
+  width = ap (λ k. k + length e.loops) (sym l) ∙ ap (λ k. length p + k) (sym st.long)
+
+  pub among : IsIn e (nest_of program).entries
+  among = st.among
+
+  pub alive : IsTrue e.alive
+  alive = st.alive
+
+  -- the element that is loaded
+  pub loads_it : slice_get (loads_of program p b) k ≡ Some (element_at (p ++ b.iterators) a)
+  loads_it =
+      let here : Instance = record { statement = e.statement; iterators = b.iterators } in
+      subst (λ i. slice_get (loads_of program p i) k ≡ Some (element_at (p ++ b.iterators) a)) (sym is)
+      (load_there (element_at (p ++ b.iterators)) e.accesses (loads_of program p here) (store_of program p here) k a (events_are program has p l e b.iterators st) a_at less)
+
+  -- what the tree is said to name is what the load of the instance finds
+  pub as_source : (source : Option Instance) (x : Element) → slice_get (loads_of program p b) k ≡ Some x → IsSourceOf program p b.iterators e a source → IsSource program p b x source
+  as_source source x load r =
+      let here : Instance = record { statement = e.statement; iterators = b.iterators } in
+      let element : element_at (p ++ b.iterators) a ≡ x =
+      same_Some (element_at (p ++ b.iterators) a) x
+      (sym (mapped_at (element_at (p ++ b.iterators)) e.accesses k a a_at) ∙ ap (λ es. slice_get es k) (events_are program has p l e b.iterators st)
+      ∙ front_at (loads_of program p here) (store_of program p here ∷ []) k x (subst (λ i. slice_get (loads_of program p i) k ≡ Some x) is load)) in
+      subst (λ i. IsSource program p i x source) (sym is) (subst (λ x. IsSource program p here x source) element r.is)
+
+  asked : (tree : Tree) → tree_of (nest_of program) trees s k ≡ Some tree → (q : Question) → IsIn q (questions_of_load (nest_of program) e a (Some tree)) → IsIn q (flow_questions (nest_of program) trees)
+  asked tree there q i =
+      let all : IsIn q (questions_of_loads (nest_of program) trees e 0 e.accesses) =
+      among_loads (nest_of program) trees e q e.accesses 0 k a a_at enough
+      (subst (λ n. IsIn q (questions_of_load (nest_of program) e a (tree_of (nest_of program) trees e.statement n))) (sym (first k))
+      (subst (λ o. IsIn q (questions_of_load (nest_of program) e a o)) (sym (ap (λ n. tree_of (nest_of program) trees n k) own ∙ there)) i)) in
+      to_flat_map (λ e. if e.alive then questions_of_loads (nest_of program) trees e 0 e.accesses else []) (nest_of program).entries e q st.among
+      (subst (λ t. IsIn q (if t then questions_of_loads (nest_of program) trees e 0 e.accesses else [])) (sym st.alive) all)
+    where
+      first : (n : ℕ) → 0 + n ≡ n
+      first n = omega arith
+
+  -- which points ranges hold is left open
+  pub names : (Holds : List (ℤ × ℤ) → List ℤ → Type 0) → ((rs ss : List (ℤ × ℤ)) (xs ys : List ℤ) → Holds rs xs → InBox ss ys → Holds (rs ++ ss) (xs ++ ys))
+      → (tree : Tree) → tree_of (nest_of program) trees s k ≡ Some tree → Shaped (length (nest_of program).params + length e.loops) tree
+      → HoldsLeaves Holds ((nest_of program).params ++ e.ranges) tree (p ++ b.iterators)
+      → ((q : Question) → IsIn q (flow_questions (nest_of program) trees) → (point : List ℤ) → Holds q.ranges point → IsPoint q.system point → ⊥)
+      → IsSourceOf program p b.iterators e a (named_at tree (p ++ b.iterators))
+  names Holds join tree there shaped held none =
+      tree_names Holds join program p b.iterators e a ranges tree loaded (subst (λ n. Shaped n tree) width shaped) held (λ q i. none q (asked tree there q i))
+
+-- the access of a load
+pub load_access : (e : Entry) (k : ℕ) → k < loads_in e → (a : Access) × (slice_get e.accesses k ≡ Some a)
+load_access e k less = there_is e.accesses k (fewer (length e.accesses) less)
+  where
+    fewer : (n : ℕ) → k < n - 1 → k < n
+    fewer n h = omega (arith, h)
+
+-- ---- The laws
+
 pub flow_names_sources : FlowNamesSources
 flow_names_sources program p trees has named inside shapes near none s k e at less =
     let t = shapes s k e at less in
-    (t.0, t.1, λ b x number runs load. one t.0 t.1 t.2 b x number runs load)
-  where
-    one : (tree : Tree) → tree_of (nest_of program) trees s k ≡ Some tree → Shaped (length (nest_of program).params + length e.loops) tree
-        → (b : Instance) (x : Element) → b.statement ≡ s → IsIn b (trace program p) → slice_get (loads_of program p b) k ≡ Some x → IsSource program p b x (named_at tree (p ++ b.iterators))
-    one tree there shaped b x number runs load =
-        let own : e.statement ≡ s = ((entries_stand program has).1 s e at).number in
-        let is : b ≡ record { statement = e.statement; iterators = b.iterators } = λ i. record { statement = (number ∙ sym own) i; iterators = b.iterators } in
-        let entry : IsEntry program e.statement e = subst (λ k. IsEntry program k e) (sym own) at in
-        let enough : suc k < length e.accesses = more (length e.accesses) less in
-        let a = there_is e.accesses k (fewer (length e.accesses) enough) in
-        let h : Loads program p b.iterators e a.0 = record {
-          has = has;
-          named = named;
-          context = inside;
-          entry = entry;
-          made = stands_in e.accesses k a.0 a.1;
-          runs = subst (λ i. IsIn i (trace program p)) is runs;
-        } in
-        let l = parameters_are program p b.iterators e a.0 h in
-        let st = reader_stands program p b.iterators e a.0 h in
-        let here : Instance = record { statement = e.statement; iterators = b.iterators } in
-        let element : element_at (p ++ b.iterators) a.0 ≡ x =
-        same_Some (element_at (p ++ b.iterators) a.0) x
-        (sym (mapped_at (element_at (p ++ b.iterators)) e.accesses k a.0 a.1) ∙ ap (λ es. slice_get es k) (events_are program has p l e b.iterators st)
-        ∙ front_at (loads_of program p here) (store_of program p here ∷ []) k x (subst (λ i. slice_get (loads_of program p i) k ≡ Some x) is load)) in
-        let width : length (nest_of program).params + length e.loops ≡ length p + length b.iterators =
-        ap (λ k. k + length e.loops) (sym l) ∙ ap (λ k. length p + k) (sym st.long) in
-        let ranges = (nest_of program).params ++ e.ranges in
-        let box : InBox ranges (p ++ b.iterators) =
-        box_append (nest_of program).params e.ranges p b.iterators (in_ranges program.params p inside.ranges)
-        ((ranges_hold_iterators program e.statement e has entry st.alive).hold p here refl inside h.runs) in
-        let r = tree_names_source program p b.iterators e a.0 ranges tree h (subst (λ n. Shaped n tree) width shaped) box (near s k e tree at less there b number runs)
-        (λ q i point within is. none q (asked tree there own a.0 a.1 enough st.alive st.among q i) point within is) in
-        subst (λ i. IsSource program p i x (named_at tree (p ++ b.iterators))) (sym is) (subst (λ x. IsSource program p here x (named_at tree (p ++ b.iterators))) element r.is)
-      where
-        more : (n : ℕ) → k < n - 1 → suc k < n
-        more n h = omega (arith, h)
+    let a = load_access e k less in (
+      t.0,
+      t.1,
+      λ b x number runs load.
+          as_source program p trees has named inside s k e at less a.0 a.1 b number runs (named_at t.0 (p ++ b.iterators)) x load
+          (names program p trees has named inside s k e at less a.0 a.1 b number runs InBox box_append t.0 t.1 t.2
+          (λ l shaped i wide met. leaf_is_boxed t.0 (p ++ b.iterators) (quotients_at t.0 (p ++ b.iterators)) ((nest_of program).params ++ e.ranges) l shaped i
+          (its_box program p trees has named inside s k e at less a.0 a.1 b number runs) (near s k e t.0 at less t.1 b number runs) wide met) none),
+    )
 
-        fewer : (n : ℕ) → suc k < n → k < n
-        fewer n h = omega (arith, h)
+-- with no ranges to hold
+module _ (program : Program) (p : List ℤ) (trees : List Tree) (has : HasNest program) (named : NamesArrays program) (inside : IsInContext program p)
+    (none : (q : Question) → IsIn q (flow_questions (nest_of program) trees) → HasNoPoint q.system)
+    (s k : ℕ) (e : Entry) (at : slice_get (nest_of program).entries s ≡ Some e) (less : k < loads_in e) (tree : Tree) (there : tree_of (nest_of program) trees s k ≡ Some tree)
+    (shaped : Shaped (length (nest_of program).params + length e.loops) tree) (b : Instance) (number : b.statement ≡ s) (runs : IsIn b (trace program p)) where
+  anywhere : (a : Access) → slice_get e.accesses k ≡ Some a → IsSourceOf program p b.iterators e a (named_at tree (p ++ b.iterators))
+  anywhere a a_at =
+      names program p trees has named inside s k e at less a a_at b number runs (λ rs xs. Unit {0}) (λ rs ss xs ys h g. tt) tree there shaped (λ l shaped i wide met. tt) (λ q i point h is. none q i point is)
 
-        asked : (tree : Tree) → tree_of (nest_of program) trees s k ≡ Some tree → e.statement ≡ s → (a : Access) → slice_get e.accesses k ≡ Some a → suc k < length e.accesses → IsTrue e.alive → IsIn e (nest_of program).entries
-            → (q : Question) → IsIn q (questions_of_load (nest_of program) e a (Some tree)) → IsIn q (flow_questions (nest_of program) trees)
-        asked tree there own a a_at enough alive e_in q i =
-            let all : IsIn q (questions_of_loads (nest_of program) trees e 0 e.accesses) =
-            among_loads (nest_of program) trees e q e.accesses 0 k a a_at enough
-            (subst (λ n. IsIn q (questions_of_load (nest_of program) e a (tree_of (nest_of program) trees e.statement n))) (sym (first k))
-            (subst (λ o. IsIn q (questions_of_load (nest_of program) e a o)) (sym (ap (λ n. tree_of (nest_of program) trees n k) own ∙ there)) i)) in
-            to_flat_map (λ e. if e.alive then questions_of_loads (nest_of program) trees e 0 e.accesses else []) (nest_of program).entries e q e_in
-            (subst (λ t. IsIn q (if t then questions_of_loads (nest_of program) trees e 0 e.accesses else [])) (sym alive) all)
-          where
-            first : (n : ℕ) → 0 + n ≡ n
-            first n = omega arith
+pub flow_names_all : FlowNamesAll
+flow_names_all program p trees has named inside shapes none = (
+  λ s k e at less.
+      let t = shapes s k e at less in
+      let a = load_access e k less in (
+        t.0,
+        t.1,
+        λ b x number runs load.
+            as_source program p trees has named inside s k e at less a.0 a.1 b number runs (named_at t.0 (p ++ b.iterators)) x load
+            (anywhere program p trees has named inside none s k e at less t.0 t.1 t.2 b number runs a.0 a.1),
+      ),
+  λ s k e x tree b at less of temporary there number runs.
+      let t = shapes s k e at less in
+      let same : t.0 ≡ tree = same_Some t.0 tree (sym t.1 ∙ there) in
+      (anywhere program p trees has named inside none s k e at less tree there (subst (Shaped (length (nest_of program).params + length e.loops)) same t.2) b number runs x of).written temporary,
+)

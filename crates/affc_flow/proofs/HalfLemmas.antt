@@ -1,6 +1,6 @@
 -- The trees of the halves of a part of the box make the tree of that part.
 use Rattle.std.proofs.Common.{◌≡◌, ℕ, zero, suc, ◌+◌, ◌-◌, ◌*◌, ◌^◌, ◌<◌, ◌≤◌, ℤ, pos, negsuc, neg_ℤ, ◌+ℤ◌, ◌-ℤ◌, ◌*ℤ◌, ◌≤ℤ◌, ◌<ℤ◌, Bool, true, false, if◌then◌else◌, List, [], ◌∷◌, ◌++◌, length, get_or, map, replicate, refl, sym, ap, subst, ◌∙◌, inl, inr, arith}
-use Rattle.std.specs.Prelude.{unsigned_abs, max, int_le}
+use Rattle.std.specs.Prelude.{unsigned_abs, max, int_le, Option}
 use Rattle.std.specs.List.{All}
 use Rattle.std.proofs.lemmas.Int.{ints}
 use Rattle.std.proofs.lemmas.List.Elements.{All-nil, All-cons, All-append}
@@ -8,6 +8,7 @@ use native.Mathlib.Numerals.{unary_clauses}
 use borrow.Author.Differences.{abs_is}
 use Rattle.affc_rows.specs.Forms.{Affine, value, dot}
 use Rattle.affc_system.specs.Boxes.{InBox}
+use Rattle.affc_ast.specs.declared.tree.Instance.{Instance}
 use Rattle.affc_ast.specs.declared.tree.Program.{Program}
 use Rattle.affc_trace.proofs.EndedReads.{append_assoc}
 use Rattle.affc_trace.proofs.LastStores.{map_append}
@@ -92,11 +93,11 @@ test_fits before behind at h =
       constant_fits = h;
     }
 
--- a test of which the first side is right where it is met, and the second elsewhere
-pub test_right : (program : Program) (p its : List ℤ) (e : Entry) (x : Access) (form : Affine) (on off : Tree)
-    → ((pos 0 ≤ℤ value form (p ++ its)) → IsRightAt program p its e x on) → ((value form (p ++ its) ≤ℤ negsuc 0) → IsRightAt program p its e x off)
-    → IsRightAt program p its e x (Test form on off)
-test_right program p its e x form on off yes_right no_right = chosen (int_le (pos 0) (value form (p ++ its))) refl
+-- a test says what the side does to which the point goes
+pub test_says_side : (Said : Option Instance → List ℤ → Type 0) (form : Affine) (on off : Tree) (zs : List ℤ)
+    → ((pos 0 ≤ℤ value form zs) → Said (named_at on zs) (quotients_at on zs)) → ((value form zs ≤ℤ negsuc 0) → Said (named_at off zs) (quotients_at off zs))
+    → Said (named_at (Test form on off) zs) (quotients_at (Test form on off) zs)
+test_says_side Said form on off zs upper lower = chosen (int_le (pos 0) (value form zs)) refl
   where
     above : (z : ℤ) → int_le (pos 0) z ≡ true → pos 0 ≤ℤ z
     above z e = grind (arith, ints)
@@ -104,16 +105,17 @@ test_right program p its e x form on off yes_right no_right = chosen (int_le (po
     below : (z : ℤ) → int_le (pos 0) z ≡ false → z ≤ℤ negsuc 0
     below z e = grind (arith, ints)
 
-    met : (t : Bool) → int_le (pos 0) (value form (p ++ its)) ≡ t → (r : Tree) → IsRightAt program p its e x r → (if t then named_at on (p ++ its) else named_at off (p ++ its)) ≡ named_at r (p ++ its)
-        → (if t then quotients_at on (p ++ its) else quotients_at off (p ++ its)) ≡ quotients_at r (p ++ its) → IsRightAt program p its e x (Test form on off)
-    met t q r right named quotients = record {
-      source = subst (IsSourceOf program p its e x) (sym (ap (λ t. if t then named_at on (p ++ its) else named_at off (p ++ its)) q ∙ named)) right.source;
-      near = subst (All IsNear) (sym (ap (λ t. if t then quotients_at on (p ++ its) else quotients_at off (p ++ its)) q ∙ quotients)) right.near;
-    }
+    chosen : (t : Bool) → int_le (pos 0) (value form zs) ≡ t → Said (if int_le (pos 0) (value form zs) then named_at on zs else named_at off zs) (if int_le (pos 0) (value form zs) then quotients_at on zs else quotients_at off zs)
+    chosen true q = subst (λ t. Said (if t then named_at on zs else named_at off zs) (if t then quotients_at on zs else quotients_at off zs)) (sym q) (upper (above (value form zs) q))
+    chosen false q = subst (λ t. Said (if t then named_at on zs else named_at off zs) (if t then quotients_at on zs else quotients_at off zs)) (sym q) (lower (below (value form zs) q))
 
-    chosen : (t : Bool) → int_le (pos 0) (value form (p ++ its)) ≡ t → IsRightAt program p its e x (Test form on off)
-    chosen true q = met true q on (yes_right (above (value form (p ++ its)) q)) refl refl
-    chosen false q = met false q off (no_right (below (value form (p ++ its)) q)) refl refl
+-- a test of which the first side is right where it is met, and the second elsewhere
+test_right : (program : Program) (p its : List ℤ) (e : Entry) (x : Access) (form : Affine) (on off : Tree)
+    → ((pos 0 ≤ℤ value form (p ++ its)) → IsRightAt program p its e x on) → ((value form (p ++ its) ≤ℤ negsuc 0) → IsRightAt program p its e x off)
+    → IsRightAt program p its e x (Test form on off)
+test_right program p its e x form on off upper lower =
+    let both = test_says_side (λ source quotients. IsSourceOf program p its e x source × All IsNear quotients) form on off (p ++ its) (λ h. ((upper h).source, (upper h).near)) (λ h. ((lower h).source, (lower h).near)) in
+    record { source = both.0; near = both.1 }
 
 -- the tree of both halves
 pub halves_cover : (nest : Nest) (e : Entry) (x : Access) (point : List ℤ) (low high at : ℤ) (rest : List (ℤ × ℤ)) (left : ℕ) (on off tree : Tree)

@@ -18,3 +18,5 @@ pub mod PartLemmas
 pub mod AskedLemmas
 pub mod GuessLemmas
 pub mod ImageLemmas
+pub mod SplitLemmas
+pub mod PointLemmas

@@ -45,17 +45,23 @@ use Rattle.affc_quast.specs.Laws.{IsOver}
 use Rattle.affc_quast.specs.Leaves.{padded, negated, Leaf, leaves_of, path_ranges}
 use Rattle.affc_quast.specs.Limits.{Shaped}
 use Rattle.affc_quast.specs.Sources.{loads_in}
-use Rattle.affc_quast.specs.Trees.{instance_at, quotients_at}
+use Rattle.affc_quast.specs.Trees.{Tree, named_at, instance_at, quotients_at}
 use Rattle.affc_quast.proofs.RangeLemmas.{leaves_are_over, leaf_is_boxed}
 use Rattle.affc_quast.proofs.LeafLemmas.{says_negated, leaf_is_named, leaf_is_reached}
 use Rattle.affc_flow.specs.Laws.{Loads, IsSourceOf, NoneBegins, LeafNamesSource, TreeNamesSource}
-use Rattle.affc_flow.specs.Questions.{Question, Writer, is_temporary, writers, poses, path_rows, reader_posed, here, beside_columns, beside_rows, beside, writer_posed, before_load, earlier_questions, after_named, between_questions, of_named, outside_questions, apart_questions, not_earlier_questions, named_questions, questions_among, input_questions, questions_for, leaf_questions}
+use Rattle.affc_flow.specs.Questions.{Question, Writer, is_temporary, writers, poses, path_rows, reader_posed, here, beside_columns, beside_rows, beside, writer_posed, before_load, earlier_questions, after_named, between_questions, of_named, outside_questions, apart_questions, not_earlier_questions, named_questions, questions_among, input_questions, questions_for, leaf_questions, tree_questions}
 use Rattle.affc_flow.proofs.PathLemmas.{padded_values, short_values, padded_wide, order_at, parameters_are, reader_stands, path_met, read_value, read_wide, reader_is_posed, point_is, beside_long, beside_met, writer_is_posed}
 use Rattle.affc_flow.specs.Stores.{Writes}
 use Rattle.affc_flow.proofs.WriterLemmas.{stored_there, from_writers, to_writers}
 
-module _ (program : Program) (p its qs : List ℤ) (e : Entry) (x : Access) (ranges : List (ℤ × ℤ)) (l : Leaf) (h : Loads program p its e x)
-    (over : IsOver (length p + length its) l) (wide : length ((p ++ its) ++ qs) ≡ l.columns) (met : Met ((p ++ its) ++ qs) l.rows) (inside : InBox (path_ranges ranges l.divisions) ((p ++ its) ++ qs)) where
+-- no question has a point that begins with these numbers and is held by its ranges
+abbrev Avoids : (Holds : List (ℤ × ℤ) → List ℤ → Type 0) → List Question → List ℤ → Type 0
+Avoids Holds questions zs = (q : Question) (more : List ℤ) → IsIn q questions → IsPoint q.system (zs ++ more) → Holds q.ranges (zs ++ more) → ⊥
+
+-- Which points ranges hold is left open: those in the box, or all.
+module _ (Holds : List (ℤ × ℤ) → List ℤ → Type 0) (join : (rs ss : List (ℤ × ℤ)) (xs ys : List ℤ) → Holds rs xs → InBox ss ys → Holds (rs ++ ss) (xs ++ ys))
+    (program : Program) (p its qs : List ℤ) (e : Entry) (x : Access) (ranges : List (ℤ × ℤ)) (l : Leaf) (h : Loads program p its e x)
+    (over : (columns : ℕ) × IsOver columns l) (wide : length ((p ++ its) ++ qs) ≡ l.columns) (met : Met ((p ++ its) ++ qs) l.rows) (inside : Holds (path_ranges ranges l.divisions) ((p ++ its) ++ qs)) where
   abbrev n : Nest
   n = nest_of program
 
@@ -83,8 +89,8 @@ module _ (program : Program) (p its qs : List ℤ) (e : Entry) (x : Access) (ran
         meets = both_met (zs ++ []) (path_rows n e x ranges l l.columns) rows (path_met program p its qs e x ranges l h over wide met l.columns []) q;
       }
 
-  here_inside : InBox (path_ranges ranges l.divisions) (zs ++ [])
-  here_inside = subst (InBox (path_ranges ranges l.divisions)) (sym (append_nil zs)) inside
+  here_inside : Holds (path_ranges ranges l.divisions) (zs ++ [])
+  here_inside = subst (Holds (path_ranges ranges l.divisions)) (sym (append_nil zs)) inside
 
   -- ---- Other stores of the element
 
@@ -137,14 +143,14 @@ module _ (program : Program) (p its qs : List ℤ) (e : Entry) (x : Access) (ran
     beside_point : (rows : List Affine) → All (Meets (zs ++ v.iterators)) rows → IsPoint (beside n e x ranges l o.entry o.access rows).system (zs ++ v.iterators)
     beside_point rows a = record { width = sym columns_are; meets = both_met (zs ++ v.iterators) (beside_rows n e x ranges l o.entry o.access) rows rows_met a }
 
-    beside_inside : InBox (path_ranges ranges l.divisions ++ o.entry.ranges) (zs ++ v.iterators)
+    beside_inside : Holds (path_ranges ranges l.divisions ++ o.entry.ranges) (zs ++ v.iterators)
     beside_inside =
-        box_append (path_ranges ranges l.divisions) o.entry.ranges zs v.iterators inside
+        join (path_ranges ranges l.divisions) o.entry.ranges zs v.iterators inside
         ((ranges_hold_iterators program o.entry.statement o.entry h.has o.stands.at o.stands.alive).hold p (record { statement = o.entry.statement; iterators = v.iterators }) refl h.context there)
 
   -- ---- A leaf that names none
 
-  none_before : IsTrue (is_temporary (nest_of program) x.array.0) ⊎ (is_temporary (nest_of program) x.array.0 ≡ false) → NoneBegins (input_questions (nest_of program) e x ranges l) ((p ++ its) ++ qs)
+  none_before : IsTrue (is_temporary (nest_of program) x.array.0) ⊎ (is_temporary (nest_of program) x.array.0 ≡ false) → Avoids Holds (input_questions (nest_of program) e x ranges l) ((p ++ its) ++ qs)
       → (v : Instance) → element_at (p ++ its) x ≡ store_of program p v → Earlier (trace program p) v (record { statement = e.statement; iterators = its }) → ⊥
   none_before (inl temp) none v stored f =
       none (here n e x ranges l []) []
@@ -162,7 +168,7 @@ module _ (program : Program) (p its qs : List ℤ) (e : Entry) (x : Access) (ran
       (subst (λ t. IsIn q (if t then here n e x ranges l [] ∷ [] else flat_map (λ (v : Writer). earlier_questions n e x ranges l v.0 v.1) (writers n x.array.0))) (sym kept) asked)
       (beside_point v o i u.system.rows u.meets.meets) (beside_inside v o i)
 
-  input_leaf : NoneBegins (input_questions (nest_of program) e x ranges l) ((p ++ its) ++ qs) → IsSourceOf program p its e x None
+  input_leaf : Avoids Holds (input_questions (nest_of program) e x ranges l) ((p ++ its) ++ qs) → IsSourceOf program p its e x None
   input_leaf none = record {
     is = (source_in_its_own_words program p b read).1.1 (record { stands = h.runs; none = none_before (chosen (is_temporary n x.array.0) refl) none });
     written = λ temp. absurd (none (here n e x ranges l []) []
@@ -177,7 +183,7 @@ module _ (program : Program) (p its qs : List ℤ) (e : Entry) (x : Access) (ran
   -- ---- A leaf that names an instance of w, whose store is z
 
   module _ (a : Posed) (l_names : l.named ≡ Some a) (w : Entry) (z : Access) (writes : Writes (nest_of program) x.array.0 w z) (z_made : IsIn z w.accesses)
-      (number : w.statement ≡ a.statement) (many : length a.iterators ≡ length w.loops) (none : NoneBegins (named_questions (nest_of program) e x ranges l a w z) ((p ++ its) ++ qs)) where
+      (number : w.statement ≡ a.statement) (many : length a.iterators ≡ length w.loops) (none : Avoids Holds (named_questions (nest_of program) e x ranges l a w z) ((p ++ its) ++ qs)) where
     abbrev vals : List ℤ
     vals = values_of a.iterators zs
 
@@ -185,7 +191,7 @@ module _ (program : Program) (p its qs : List ℤ) (e : Entry) (x : Access) (ran
     images = columns_from l.columns 0 (length (number_ranges program.params)) ++ a.iterators
 
     forms_wide : HaveColumns l.columns a.iterators
-    forms_wide = over.named a l_names
+    forms_wide = over.1.named a l_names
 
     images_wide : HaveColumns (length zs) images
     images_wide =
@@ -251,7 +257,7 @@ module _ (program : Program) (p its qs : List ℤ) (e : Entry) (x : Access) (ran
 
     -- ---- what it writes
 
-    differs : (f g : Affine) (fs gs : List Affine) → NoneBegins (here n e x ranges l (compare_rows Greater f g) ∷ here n e x ranges l (compare_rows Less f g) ∷ apart_questions n e x ranges l a w z fs gs) zs
+    differs : (f g : Affine) (fs gs : List Affine) → Avoids Holds (here n e x ranges l (compare_rows Greater f g) ∷ here n e x ranges l (compare_rows Less f g) ∷ apart_questions n e x ranges l a w z fs gs) zs
         → length f.coefs ≡ length zs → length g.coefs ≡ length zs → value f zs ≡ value g zs
     differs f g fs gs apart u v = equal (value f zs) (value g zs)
         (λ k. apart (here n e x ranges l (compare_rows Greater f g)) [] (inl refl) (here_point (compare_rows Greater f g) (to_all zs (compare_rows Greater f g) (say_rows f g zs u v Greater k))) here_inside)
@@ -260,7 +266,7 @@ module _ (program : Program) (p its qs : List ℤ) (e : Entry) (x : Access) (ran
         equal : (y z : ℤ) → ((z +ℤ pos 1) ≤ℤ y → ⊥) → ((y +ℤ pos 1) ≤ℤ z → ⊥) → y ≡ z
         equal y z f g = grind (arith, ints)
 
-    same_values : (fs gs : List Affine) → NoneBegins (apart_questions n e x ranges l a w z fs gs) zs → HaveColumns (length zs) fs → HaveColumns (length zs) gs → length fs ≡ length gs → values_of fs zs ≡ values_of gs zs
+    same_values : (fs gs : List Affine) → Avoids Holds (apart_questions n e x ranges l a w z fs gs) zs → HaveColumns (length zs) fs → HaveColumns (length zs) gs → length fs ≡ length gs → values_of fs zs ≡ values_of gs zs
     same_values [] [] apart u v k = refl
     same_values [] (g ∷ gs) apart u v k = absurd (omega arith)
     same_values (f ∷ fs) [] apart u v k = absurd (omega arith)
@@ -375,41 +381,61 @@ module _ (program : Program) (p its qs : List ℤ) (e : Entry) (x : Access) (ran
 
   -- ---- A leaf
 
-  among : (a : Posed) → l.named ≡ Some a → (ws : List Writer) → ((w : Writer) → IsIn w ws → IsIn w (writers (nest_of program) x.array.0)) → NoneBegins (questions_among (nest_of program) e x ranges l a ws) ((p ++ its) ++ qs)
+  among : (a : Posed) → l.named ≡ Some a → (ws : List Writer) → ((w : Writer) → IsIn w ws → IsIn w (writers (nest_of program) x.array.0)) → Avoids Holds (questions_among (nest_of program) e x ranges l a ws) ((p ++ its) ++ qs)
       → IsSourceOf program p its e x (Some (record { statement = a.statement; iterators = values_of a.iterators ((p ++ its) ++ qs) }))
   among a named [] within none = absurd (none (here n e x ranges l []) [] (inl refl) (here_point [] (All-nil (Meets zs))) here_inside)
   among a named (w ∷ ws) within none = by_test (poses a w.0) refl (among a named ws (λ v i. within v (inr i)))
     where
       by_test : (t : Bool) → poses a w.0 ≡ t
-          → (NoneBegins (questions_among (nest_of program) e x ranges l a ws) ((p ++ its) ++ qs) → IsSourceOf program p its e x (Some (record { statement = a.statement; iterators = values_of a.iterators ((p ++ its) ++ qs) })))
+          → (Avoids Holds (questions_among (nest_of program) e x ranges l a ws) ((p ++ its) ++ qs) → IsSourceOf program p its e x (Some (record { statement = a.statement; iterators = values_of a.iterators ((p ++ its) ++ qs) })))
           → IsSourceOf program p its e x (Some (record { statement = a.statement; iterators = values_of a.iterators ((p ++ its) ++ qs) }))
       by_test true q rest =
           let f = from_writers n x.array.0 w (within w (inl refl)) in
           let both = both_hold (nat_eq w.0.statement a.statement) (nat_eq (length a.iterators) (length w.0.loops)) q in
           named_leaf a named w.0 w.1 f (stands_in w.0.accesses (loads_in w.0) w.1 f.last) (eqb-true w.0.statement a.statement both.0) (eqb-true (length a.iterators) (length w.0.loops) both.1)
-          (subst (λ t. NoneBegins (if t then named_questions n e x ranges l a w.0 w.1 else questions_among n e x ranges l a ws) zs) q none)
-      by_test false q rest = rest (subst (λ t. NoneBegins (if t then named_questions n e x ranges l a w.0 w.1 else questions_among n e x ranges l a ws) zs) q none)
+          (subst (λ t. Avoids Holds (if t then named_questions n e x ranges l a w.0 w.1 else questions_among n e x ranges l a ws) zs) q none)
+      by_test false q rest = rest (subst (λ t. Avoids Holds (if t then named_questions n e x ranges l a w.0 w.1 else questions_among n e x ranges l a ws) zs) q none)
 
-  leaf_names : (o : Option Posed) → l.named ≡ o → NoneBegins (questions_for (nest_of program) e x ranges l o) ((p ++ its) ++ qs) → IsSourceOf program p its e x (instance_at o ((p ++ its) ++ qs))
+  leaf_names : (o : Option Posed) → l.named ≡ o → Avoids Holds (questions_for (nest_of program) e x ranges l o) ((p ++ its) ++ qs) → IsSourceOf program p its e x (instance_at o ((p ++ its) ++ qs))
   leaf_names None named none = input_leaf none
   leaf_names (Some a) named none = among a named (writers n x.array.0) (λ w i. i) none
 
+-- however many of the columns are quotients of the leaf's own divisions
+pub leaf_names_with : (program : Program) (p its qs : List ℤ) (e : Entry) (x : Access) (ranges : List (ℤ × ℤ)) (l : Leaf) → Loads program p its e x → (columns : ℕ) → IsOver columns l
+    → length ((p ++ its) ++ qs) ≡ l.columns → Met ((p ++ its) ++ qs) l.rows → InBox (path_ranges ranges l.divisions) ((p ++ its) ++ qs)
+    → NoneBegins (leaf_questions (nest_of program) e x ranges l) ((p ++ its) ++ qs) → IsSourceOf program p its e x (instance_at l.named ((p ++ its) ++ qs))
+leaf_names_with program p its qs e x ranges l h columns over wide met inside none = leaf_names InBox box_append program p its qs e x ranges l h (columns, over) wide met inside l.named refl none
+
 pub leaf_names_source : LeafNamesSource
-leaf_names_source program p its qs e x ranges l h over wide met inside none = leaf_names program p its qs e x ranges l h over wide met inside l.named refl none
+leaf_names_source program p its qs e x ranges l h over wide met inside none = leaf_names_with program p its qs e x ranges l h (length p + length its) over wide met inside none
+
+-- ---- A tree
+
+-- the leaf to which the point leads, with the quotients there, is held by its ranges
+abbrev pub HoldsLeaves : (Holds : List (ℤ × ℤ) → List ℤ → Type 0) → List (ℤ × ℤ) → Tree → List ℤ → Type 0
+HoldsLeaves Holds ranges tree xs = (l : Leaf) → Shaped (length xs) tree → IsIn l (leaves_of (length xs) tree)
+    → length (xs ++ quotients_at tree xs) ≡ l.columns → Met (xs ++ quotients_at tree xs) l.rows → Holds (path_ranges ranges l.divisions) (xs ++ quotients_at tree xs)
+
+module _ (Holds : List (ℤ × ℤ) → List ℤ → Type 0) (join : (rs ss : List (ℤ × ℤ)) (xs ys : List ℤ) → Holds rs xs → InBox ss ys → Holds (rs ++ ss) (xs ++ ys)) where
+  pub tree_names : (program : Program) (p its : List ℤ) (e : Entry) (x : Access) (ranges : List (ℤ × ℤ)) (tree : Tree) → Loads program p its e x → Shaped (length p + length its) tree
+      → HoldsLeaves Holds ranges tree (p ++ its) → ((q : Question) → IsIn q (tree_questions (nest_of program) e x ranges tree) → (point : List ℤ) → Holds q.ranges point → IsPoint q.system point → ⊥)
+      → IsSourceOf program p its e x (named_at tree (p ++ its))
+  tree_names program p its e x ranges tree h shaped held none =
+      let s = reader_stands program p its e x h in
+      let len = parameters_are program p its e x h in
+      let front : length p + length its ≡ length (p ++ its) = sym (length_append p its) in
+      let shaped' : Shaped (length (p ++ its)) tree = subst (λ k. Shaped k tree) front shaped in
+      let r = leaf_is_reached tree (p ++ its) shaped' in
+      let l : Leaf = r.0 in
+      let qs : List ℤ = quotients_at tree (p ++ its) in
+      let over : IsOver (length p + length its) l = subst (λ k. IsOver k l) (sym front) (leaves_are_over (length (p ++ its)) tree l shaped' r.1.of_tree) in
+      let named = leaf_is_named tree (p ++ its) qs l shaped' r.1.of_tree r.1.width r.1.meets in
+      let columns : length (p ++ its) ≡ length (nest_of program).params + length e.loops = sym front ∙ ap (λ k. k + length its) len ∙ ap (λ k. length (number_ranges program.params) + k) s.long in
+      let there : IsIn l (leaves_of (length (nest_of program).params + length e.loops) tree) = subst (λ k. IsIn l (leaves_of k tree)) columns r.1.of_tree in
+      subst (IsSourceOf program p its e x) (sym named.1)
+      (leaf_names Holds join program p its qs e x ranges l h (length p + length its, over) r.1.width r.1.meets (held l shaped' r.1.of_tree r.1.width r.1.meets) l.named refl (λ q more i is box.
+      none q (to_flat_map (leaf_questions (nest_of program) e x ranges) (leaves_of (length (nest_of program).params + length e.loops) tree) l q there i) (((p ++ its) ++ qs) ++ more) box is))
 
 pub tree_names_source : TreeNamesSource
 tree_names_source program p its e x ranges tree h shaped inside near none =
-    let s = reader_stands program p its e x h in
-    let len = parameters_are program p its e x h in
-    let front : length p + length its ≡ length (p ++ its) = sym (length_append p its) in
-    let shaped' : Shaped (length (p ++ its)) tree = subst (λ k. Shaped k tree) front shaped in
-    let r = leaf_is_reached tree (p ++ its) shaped' in
-    let l : Leaf = r.0 in
-    let qs : List ℤ = quotients_at tree (p ++ its) in
-    let over : IsOver (length p + length its) l = subst (λ k. IsOver k l) (sym front) (leaves_are_over (length (p ++ its)) tree l shaped' r.1.of_tree) in
-    let named = leaf_is_named tree (p ++ its) qs l shaped' r.1.of_tree r.1.width r.1.meets in
-    let columns : length (p ++ its) ≡ length (nest_of program).params + length e.loops = sym front ∙ ap (λ k. k + length its) len ∙ ap (λ k. length (number_ranges program.params) + k) s.long in
-    let there : IsIn l (leaves_of (length (nest_of program).params + length e.loops) tree) = subst (λ k. IsIn l (leaves_of k tree)) columns r.1.of_tree in
-    subst (IsSourceOf program p its e x) (sym named.1)
-    (leaf_names_source program p its qs e x ranges l h over r.1.width r.1.meets (leaf_is_boxed tree (p ++ its) qs ranges l shaped' r.1.of_tree inside near r.1.width r.1.meets) (λ q more i is box.
-    none q (to_flat_map (leaf_questions (nest_of program) e x ranges) (leaves_of (length (nest_of program).params + length e.loops) tree) l q there i) (((p ++ its) ++ qs) ++ more) box is))
+    tree_names InBox box_append program p its e x ranges tree h shaped (λ l shaped' i wide met. leaf_is_boxed tree (p ++ its) (quotients_at tree (p ++ its)) ranges l shaped' i inside near wide met) none

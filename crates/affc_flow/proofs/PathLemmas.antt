@@ -91,7 +91,7 @@ reader_stands program p its e x h =
     subst (λ e. Stood program p e its) (same_Some r.0 e (sym at ∙ h.entry)) r.2
 
 module _ (program : Program) (p its qs : List ℤ) (e : Entry) (x : Access) (ranges : List (ℤ × ℤ)) (l : Leaf) (h : Loads program p its e x)
-    (over : IsOver (length p + length its) l) (wide : length ((p ++ its) ++ qs) ≡ l.columns) (met : Met ((p ++ its) ++ qs) l.rows) where
+    (over : (columns : ℕ) × IsOver columns l) (wide : length ((p ++ its) ++ qs) ≡ l.columns) (met : Met ((p ++ its) ++ qs) l.rows) where
   abbrev m : ℕ
   m = length (number_ranges program.params)
 
@@ -116,7 +116,7 @@ module _ (program : Program) (p its qs : List ℤ) (e : Entry) (x : Access) (ran
   rows_narrow : Narrow (length zs) (e.domain.rows ++ l.rows)
   rows_narrow =
       narrow_append (length zs) e.domain.rows l.rows (columns_narrow (length p + length its) (length zs) e.domain.rows front_within (rows_wide program h.has p len e its s))
-      (subst (λ k. Narrow k l.rows) (sym wide) (all_narrow l.columns l.rows over.rows))
+      (subst (λ k. Narrow k l.rows) (sym wide) (all_narrow l.columns l.rows over.1.rows))
 
   domain_met : Met zs e.domain.rows
   domain_met =

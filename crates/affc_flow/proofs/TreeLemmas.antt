@@ -84,6 +84,13 @@ load_at f (a ∷ xs) (y ∷ ys) z (suc k) x e g h = load_at f xs ys z k x (tails
     tails : (x y : Element) (xs ys : List Element) → x ∷ xs ≡ y ∷ ys → xs ≡ ys
     tails x y xs ys e = cc
 
+-- what a load of the trace loads, where its last access is the store
+pub load_there : (f : Access → Element) (xs : List Access) (ys : List Element) (z : Element) (k : ℕ) (x : Access) → map f xs ≡ ys ++ z ∷ [] → slice_get xs k ≡ Some x → k < length xs - 1 → slice_get ys k ≡ Some (f x)
+load_there f xs ys z k x e g h = load_at f xs ys z k x e g (below k (length xs) (length ys) h (sym (length_map f xs) ∙ ap length e ∙ length_append ys (z ∷ [])))
+  where
+    below : (k a b : ℕ) → k < a - 1 → a ≡ b + 1 → k < b
+    below k a b h e = omega (arith, h, e)
+
 -- ---- At the point
 
 module _ (nest : Nest) (e : Entry) (x : Access) (number : ℕ) (h : IsLoad nest e x number) where
@@ -185,12 +192,7 @@ module _ (nest : Nest) (e : Entry) (x : Access) (number : ℕ) (h : IsLoad nest 
           context = r.0;
           runs = r.1;
           element = element_at (p ++ its) x;
-          loaded =
-              load_at (element_at (p ++ its)) e.accesses (loads_of program p b) (store_of program p b) number x ev h.there
-              (below number (length e.accesses) (length (loads_of program p b)) h.load (sym (length_map (element_at (p ++ its)) e.accesses) ∙ ap length ev ∙ length_append (loads_of program p b) (store_of program p b ∷ [])));
+          loaded = load_there (element_at (p ++ its)) e.accesses (loads_of program p b) (store_of program p b) number x ev h.there h.load;
           temporary = subst (λ n. IsTrue (is_temporary n x.array.0)) is temp;
           none = from program is loads;
         }
-      where
-        below : (k a b : ℕ) → k < a - 1 → a ≡ b + 1 → k < b
-        below k a b h e = omega (arith, h, e)

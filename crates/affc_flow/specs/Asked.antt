@@ -1,6 +1,6 @@
--- The questions of a leaf without divisions above it, as the code lists them, where the path is the domain of the load's
--- statement and the rows of the tests above.
-use Rattle.std.specs.Prelude.{ℕ, ◌+◌, ℤ, nat_lt, nat_eq, if◌then◌else◌, List, [], ◌∷◌, ◌++◌, map, flat_map, length, drop}
+-- The questions of a leaf, as the code lists them, where the path is the domain of the load's statement and the rows of the
+-- tests and divisions above, over the columns of the leaf.
+use Rattle.std.specs.Prelude.{ℕ, ◌+◌, ◌-◌, ℤ, nat_lt, nat_eq, if◌then◌else◌, List, [], ◌∷◌, ◌++◌, map, flat_map, length, drop}
 use Rattle.affc_rows.specs.Forms.{Affine}
 use Rattle.affc_system.specs.Systems.{Rows}
 use Rattle.affc_ast.specs.declared.tree.Rel.TheVariants.{Less, Greater}
@@ -14,7 +14,7 @@ use Rattle.affc_order.specs.Posed.{form_at}
 use Rattle.affc_order.specs.Spread.{spread}
 use Rattle.affc_order.specs.Systems.{lex_systems}
 use Rattle.affc_sched.specs.Questions.{context_count, equal_rows}
-use Rattle.affc_quast.specs.Leaves.{negated}
+use Rattle.affc_quast.specs.Leaves.{padded, negated}
 use Rattle.affc_flow.specs.Questions.{Question, Writer, store_of_entry, writer_if, is_temporary}
 use Rattle.affc_flow.specs.declared.questions.Question as held
 
@@ -39,14 +39,14 @@ module _ (path : Rows) (ranges : List (ℤ × ℤ)) (images : List Affine) where
 
 -- ---- With an instance of a statement that stores the array
 
-module _ (nest : Nest) (e : Entry) (x : Access) (path : Rows) (v : Entry) (y : Access) where
+module _ (nest : Nest) (x : Access) (path : Rows) (v : Entry) (y : Access) where
   -- its iterators stand behind the columns of the path
   abbrev pub beside_system : Rows
   beside_system = record {
     columns = path.columns + length v.loops;
     rows =
-        (map (spread (length nest.params) 0 (length v.loops)) path.rows ++ map (spread (length nest.params) (length e.loops) 0) (drop (context_count nest) v.domain.rows))
-        ++ equal_rows (map (spread (length nest.params) 0 (length v.loops)) x.subs) (map (spread (length nest.params) (length e.loops) 0) y.subs);
+        (map (spread (length nest.params) 0 (length v.loops)) path.rows ++ map (spread (length nest.params) (path.columns - length nest.params) 0) (drop (context_count nest) v.domain.rows))
+        ++ equal_rows (map (spread (length nest.params) 0 (length v.loops)) (map (padded path.columns) x.subs)) (map (spread (length nest.params) (path.columns - length nest.params) 0) y.subs);
   }
 
 module _ (nest : Nest) (e : Entry) (path : Rows) (v : Entry) where
@@ -64,10 +64,10 @@ module _ (nest : Nest) (e : Entry) (path : Rows) (v : Entry) where
 
 module _ (nest : Nest) (e : Entry) (x : Access) (path : Rows) (ranges : List (ℤ × ℤ)) (v : Entry) (y : Access) where
   abbrev pub earlier : List Question
-  earlier = map (λ u. on (beside_system nest e x path v y) (ranges ++ v.ranges) u.rows) (before nest e path v)
+  earlier = map (λ u. on (beside_system nest x path v y) (ranges ++ v.ranges) u.rows) (before nest e path v)
 
   abbrev pub between : (w : Entry) → List Affine → List Question
-  between w forms = flat_map (λ o. map (λ u. on (beside_system nest e x path v y) (ranges ++ v.ranges) (o.rows ++ u.rows)) (before nest e path v)) (after nest e path v w forms)
+  between w forms = flat_map (λ o. map (λ u. on (beside_system nest x path v y) (ranges ++ v.ranges) (o.rows ++ u.rows)) (before nest e path v)) (after nest e path v w forms)
 
 module _ (e : Entry) (path : Rows) (ranges : List (ℤ × ℤ)) (w : Entry) (own forms : List Affine) where
   abbrev pub reader_earlier : List Question
@@ -99,7 +99,7 @@ module _ (nest : Nest) (e : Entry) (x : Access) (path : Rows) (ranges : List (�
   abbrev pub all_named : (w : Entry) → (z : Access) → List Affine → List Question
   all_named w z forms =
       let images = columns_from path.columns 0 (length nest.params) ++ forms in
-      outside path ranges images w.domain.rows ++ (apart path ranges images z.subs x.subs ++ (not_earlier w forms ++ all_between w forms nest.entries))
+      outside path ranges images w.domain.rows ++ (apart path ranges images z.subs (map (padded path.columns) x.subs) ++ (not_earlier w forms ++ all_between w forms nest.entries))
 
   -- where none is named
   abbrev pub input_asked : List Question

@@ -1,5 +1,6 @@
 -- The trees of all loads of a nest.
-use Rattle.std.specs.Prelude.{◌≡◌, ℕ, ◌+◌, ◌<◌, ℤ, false, IsTrue, List, [], ◌∷◌, ◌++◌, length, Some, slice_get}
+use Rattle.std.specs.Prelude.{◌≡◌, ℕ, ◌+◌, ◌<◌, ◌≤◌, ℤ, false, List, [], ◌∷◌, ◌++◌, length, Some, IfSome, slice_get}
+use Rattle.std.specs.List.{All}
 use Rattle.affc_ast.specs.declared.tree.Instance.{Instance}
 use Rattle.affc_ast.specs.declared.tree.Program.{Program}
 use Rattle.affc_ast.specs.Trace.{trace}
@@ -10,11 +11,11 @@ use Rattle.affc_nest.specs.declared.nest.Entry.{Entry}
 use Rattle.affc_nest.specs.declared.nest.Nest.{Nest}
 use Rattle.affc_nest.specs.Laws.{HasNest, NamesArrays}
 use Rattle.affc_nest.specs.Nests.{nest_of}
-use Rattle.affc_quast.specs.Limits.{narrow, IsTreeWithin}
+use Rattle.affc_quast.specs.Limits.{narrow, widest, Shaped, FitsTree, IsTreeWithin, AreTreesWithin}
+use Rattle.affc_quast.specs.Paths.{IsNear}
 use Rattle.affc_quast.specs.Sources.{loads_in, tree_of, NameSources, HaveNearQuotients}
-use Rattle.affc_quast.specs.Trees.{Tree, Input, named_at}
-use Rattle.affc_flow.specs.Laws.{Loads}
-use Rattle.affc_flow.specs.Questions.{is_temporary}
+use Rattle.affc_quast.specs.Trees.{Tree, Input, depth_of, named_at, quotients_at}
+use Rattle.affc_flow.specs.Laws.{Loads, AreWritten}
 use Rattle.affc_flow.specs.Searches.{IsRightAt}
 
 -- ---- What is found
@@ -22,8 +23,7 @@ use Rattle.affc_flow.specs.Searches.{IsRightAt}
 -- at p the trees name the sources of all loads, each load of a temporary has one, and quotients are within 2^60
 pub record NameAllAt (program : Program) (p : List ℤ) (nest : Nest) (trees : List Tree) : Type 0 where
   pub sources : NameSources program p nest trees
-  pub written : (statement load : ℕ) (e : Entry) (x : Access) (tree : Tree) (b : Instance) → slice_get nest.entries statement ≡ Some e → load < loads_in e → slice_get e.accesses load ≡ Some x → IsTrue (is_temporary nest x.array.0)
-      → tree_of nest trees statement load ≡ Some tree → b.statement ≡ statement → IsIn b (trace program p) → (w : Instance) × (named_at tree (p ++ b.iterators) ≡ Some w)
+  pub written : AreWritten program p nest trees
   pub near : HaveNearQuotients program p nest trees
 
 -- they do throughout the context
@@ -33,6 +33,25 @@ NameAll nest trees = (program : Program) (p : List ℤ) → nest ≡ nest_of pro
 -- the trees of statements that can have no instances
 abbrev pub AreInputs : Nest → List Tree → Type 0
 AreInputs nest trees = (statement load : ℕ) (e : Entry) (tree : Tree) → slice_get nest.entries statement ≡ Some e → e.alive ≡ false → load < loads_in e → tree_of nest trees statement load ≡ Some tree → tree ≡ Input
+
+-- ---- Asked at a point
+
+-- what `source_at` of affc_quast requires of a tree and a point
+pub record MayBeAsked (tree : Tree) (point : List ℤ) : Type 0 where
+  pub shaped : Shaped (length point) tree
+  pub limits : FitsTree widest tree
+  pub short : depth_of tree ≤ 400
+  pub few : length point ≤ 128
+  pub near : All IsNear point
+  pub quotients : All IsNear (quotients_at tree point)
+  pub iterators : IfSome (named_at tree point) (λ w. All IsNear w.iterators)
+
+-- trees like those that are found may be asked at each instance of the context
+abbrev pub FoundMayBeAsked : Type 0
+FoundMayBeAsked = (program : Program) (p : List ℤ) (trees : List Tree) → HasNest program → NamesArrays program → IsInContext program p
+    → NameAll (nest_of program) trees → AreTreesWithin narrow 302 12 (nest_of program) trees
+    → (statement load : ℕ) (e : Entry) (tree : Tree) (b : Instance) → slice_get (nest_of program).entries statement ≡ Some e → load < loads_in e
+    → tree_of (nest_of program) trees statement load ≡ Some tree → b.statement ≡ statement → IsIn b (trace program p) → MayBeAsked tree (p ++ b.iterators)
 
 -- ---- One after the other
 

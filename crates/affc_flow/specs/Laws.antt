@@ -1,8 +1,8 @@
 -- What the questions on trees decide.
 use Rattle.std.specs.List.{All}
-use Rattle.std.specs.Prelude.{◌≡◌, ◌+◌, ℤ, IsTrue, List, ◌++◌, length, Option, Some}
+use Rattle.std.specs.Prelude.{◌≡◌, ℕ, ◌+◌, ◌<◌, ℤ, IsTrue, List, ◌++◌, length, Option, Some, slice_get}
 use Rattle.affc_system.specs.Boxes.{InBox}
-use Rattle.affc_system.specs.Systems.{Met, IsPoint}
+use Rattle.affc_system.specs.Systems.{Met, IsPoint, HasNoPoint}
 use Rattle.affc_ast.specs.declared.tree.Instance.{Instance}
 use Rattle.affc_ast.specs.declared.tree.Program.{Program}
 use Rattle.affc_ast.specs.Trace.{trace}
@@ -11,13 +11,14 @@ use Rattle.affc_trace.specs.Law.{IsIn}
 use Rattle.affc_trace.specs.Laws.{IsInContext}
 use Rattle.affc_nest.specs.declared.nest.Access.{Access}
 use Rattle.affc_nest.specs.declared.nest.Entry.{Entry}
+use Rattle.affc_nest.specs.declared.nest.Nest.{Nest}
 use Rattle.affc_nest.specs.Laws.{HasNest, IsEntry, NamesArrays, element_at}
 use Rattle.affc_nest.specs.Nests.{nest_of}
 use Rattle.affc_quast.specs.Leaves.{Leaf, path_ranges}
 use Rattle.affc_quast.specs.Laws.{IsOver}
 use Rattle.affc_quast.specs.Limits.{Shaped, HaveShapes}
 use Rattle.affc_quast.specs.Paths.{IsNear}
-use Rattle.affc_quast.specs.Sources.{NameSources, HaveNearQuotients}
+use Rattle.affc_quast.specs.Sources.{loads_in, tree_of, NameSources, HaveNearQuotients}
 use Rattle.affc_quast.specs.Trees.{Tree, instance_at, named_at, quotients_at}
 use Rattle.affc_flow.specs.Questions.{Question, is_temporary, leaf_questions, tree_questions, flow_questions}
 
@@ -74,3 +75,18 @@ FlowNamesSources = (program : Program) (p : List ℤ) (trees : List Tree)
     → HaveShapes (nest_of program) trees → HaveNearQuotients program p (nest_of program) trees
     → NoneHasAPoint (flow_questions (nest_of program) trees)
     → NameSources program p (nest_of program) trees
+
+-- at p the tree of each load of a temporary names an instance
+abbrev pub AreWritten : Program → (p : List ℤ) → Nest → List Tree → Type 0
+AreWritten program p nest trees = (statement load : ℕ) (e : Entry) (x : Access) (tree : Tree) (b : Instance)
+    → slice_get nest.entries statement ≡ Some e → load < loads_in e → slice_get e.accesses load ≡ Some x → IsTrue (is_temporary nest x.array.0)
+    → tree_of nest trees statement load ≡ Some tree → b.statement ≡ statement → IsIn b (trace program p) → (w : Instance) × (named_at tree (p ++ b.iterators) ≡ Some w)
+
+-- Where no question has a point anywhere, the trees of all loads name the sources throughout the context, and those of the
+-- loads of temporaries name one, whatever the quotients are.
+abbrev pub FlowNamesAll : Type 0
+FlowNamesAll = (program : Program) (p : List ℤ) (trees : List Tree)
+    → HasNest program → NamesArrays program → IsInContext program p
+    → HaveShapes (nest_of program) trees
+    → ((q : Question) → IsIn q (flow_questions (nest_of program) trees) → HasNoPoint q.system)
+    → NameSources program p (nest_of program) trees × AreWritten program p (nest_of program) trees

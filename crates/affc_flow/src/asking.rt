@@ -1,5 +1,5 @@
 //! The questions of a leaf with an instance of another statement.
-ghost use Rattle.std.specs.Prelude.{◌≡◌, ◌+◌, ◌≤◌, ◌++◌, ◌∷◌, [], length, map, flat_map, nat_lt, IsTrue, IfOk, OnOk, IfSome, IfNone};
+ghost use Rattle.std.specs.Prelude.{◌≡◌, ◌+◌, ◌-◌, ◌≤◌, ◌++◌, ◌∷◌, [], length, map, flat_map, nat_lt, IsTrue, IfOk, OnOk, IfSome, IfNone};
 ghost use Rattle.std.specs.List.{All};
 ghost use Rattle.affc_trace.specs.Law.{IsIn};
 ghost use Rattle.affc_trace.specs.Inverses.{columns_from};
@@ -11,8 +11,8 @@ ghost use Rattle.affc_flow.specs.Asked.{asked, beside_system, before, after, ear
 
 use crate::load::Load;
 use crate::questions::{
-    Place, Question, Unasked, add_both, add_orders, add_spread_forms, count, push_equal,
-    push_spread,
+    Place, Question, Unasked, add_both, add_orders, add_padded, add_spread_forms, count,
+    push_equal, push_spread,
 };
 use crate::ranges::joined_ranges;
 use affc_nest::{Access, Entry, Nest};
@@ -120,6 +120,17 @@ fn columns_with(path: &System, more: u32) -> Result<u32, Unasked>
     Ok(columns + more)
 }
 
+/// The columns of a path behind the parameters.
+fn columns_behind(path: &System, params: u32) -> Result<u32, Unasked>
+    ensures { IfOk result (λ k. k ≡ path.now.columns - params) }
+{
+    let columns = path.columns();
+    if params > columns {
+        return Err(Unasked::Large);
+    }
+    Ok(columns - params)
+}
+
 // ---- With an instance of a statement that stores the array.
 
 /// The path, the domain of the statement, and equal subscripts.
@@ -133,25 +144,25 @@ fn beside(
     requires nest { IsNest load.now.nest.now }
     requires writer { IsIn writer.now load.now.nest.now.entries }
     requires living { IsTrue writer.now.alive }
-    ensures { IfOk result (λ s. s ≡ beside_system load.now.nest.now load.now.reader.now load.now.access.now path.now writer.now store.now) }
+    ensures { IfOk result (λ s. s ≡ beside_system load.now.nest.now load.now.access.now path.now writer.now store.now) }
 {
     let params = count(load.nest.params.ranges().len())?;
-    let outer = count(load.reader.loops.len())?;
     let inner = count(writer.loops.len())?;
     let columns = columns_with(path, inner)?;
+    let outer = columns_behind(path, params)?;
     let mut system = System::new(alloc, columns);
     push_spread(alloc, &mut system, path.rows(), params, 0, inner)?;
     let own = own_rows(load.nest, writer);
     push_spread(alloc, &mut system, own, params, outer, 0)?;
-    let mut read = Items::new(alloc);
-    add_spread_forms(
+    let mut subs = Items::new(alloc);
+    add_padded(
         alloc,
+        path.columns(),
         load.access.subs.as_slice(),
-        params,
-        0,
-        inner,
-        &mut read,
+        &mut subs,
     )?;
+    let mut read = Items::new(alloc);
+    add_spread_forms(alloc, subs.as_slice(), params, 0, inner, &mut read)?;
     let mut written = Items::new(alloc);
     add_spread_forms(alloc, store.subs.as_slice(), params, outer, 0, &mut written)?;
     push_equal(alloc, &mut system, read.as_slice(), written.as_slice())?;
@@ -262,7 +273,7 @@ fn add_between(
 // ---- With all statements that store the array.
 
 /// The store of a statement that can have instances, if it is one of this array.
-pub(crate) fn store_for(entry: &Entry, array: u32) -> Option<&Access>
+pub fn store_for(entry: &Entry, array: u32) -> Option<&Access>
     ensures none { IfNone result (writers_of array entry.now ≡ []) }
     ensures some { IfSome result (λ y. writers_of array entry.now ≡ (entry.now, y.now) ∷ []) }
     ensures living { IfSome result (λ y. IsTrue entry.now.alive) }
@@ -302,7 +313,7 @@ fn add_earlier_of(
     }
 }
 
-/// Adds the questions whether an instance that stores the array is earlier than the load.
+/// Adds the questions whether an instance that stores the array is earlier than the load. The recursion is into halves.
 pub(crate) fn add_all_earlier(
     alloc: Global,
     load: &Load<'_>,
@@ -316,9 +327,11 @@ pub(crate) fn add_all_earlier(
 {
     match entries {
         [] => Ok(()),
-        [entry, rest @ ..] => {
-            add_earlier_of(alloc, load, place, entry, out)?;
-            add_all_earlier(alloc, load, place, rest, out)?;
+        [entry] => add_earlier_of(alloc, load, place, entry, out),
+        _ => {
+            let (first, others) = entries.split_at(entries.len() / 2);
+            add_all_earlier(alloc, load, place, first, out)?;
+            add_all_earlier(alloc, load, place, others, out)?;
             Ok(())
         }
     }
@@ -347,6 +360,7 @@ fn add_between_of(
 }
 
 /// Adds the questions whether an instance that stores the array is later than the one that is chosen and earlier than the load.
+/// The recursion is into halves.
 pub(crate) fn add_all_between(
     alloc: Global,
     load: &Load<'_>,
@@ -361,9 +375,11 @@ pub(crate) fn add_all_between(
 {
     match entries {
         [] => Ok(()),
-        [entry, rest @ ..] => {
-            add_between_of(alloc, load, place, chosen, entry, out)?;
-            add_all_between(alloc, load, place, chosen, rest, out)?;
+        [entry] => add_between_of(alloc, load, place, chosen, entry, out),
+        _ => {
+            let (first, others) = entries.split_at(entries.len() / 2);
+            add_all_between(alloc, load, place, chosen, first, out)?;
+            add_all_between(alloc, load, place, chosen, others, out)?;
             Ok(())
         }
     }

@@ -1,12 +1,14 @@
 //! Instances that might be a load's source, from the latest on, and where each might be. Nothing is promised of them.
 
 use crate::asking::{column_forms, store_for};
-use crate::draft::draft;
+use crate::draft::{Drafting, drafts_of};
 use crate::listing::images_of;
 use crate::load::Load;
-use crate::questions::{Unasked, at_images, count, gap};
+use crate::questions::{Unasked, add_padded, at_images, count, gap};
+use crate::strides::{cut_forms, room};
 use affc_nest::{Access, Entry};
 use affc_order::order::shared;
+use affc_quast::leaves::Division;
 use affc_rows::Form;
 use sqlite_items::Items;
 use std::alloc::{AllocError, Global};
@@ -101,66 +103,73 @@ fn add_earlier(
 /// The rows that say where a draft might be the source.
 fn conditions(
     alloc: Global,
-    load: &Load<'_>,
-    writer: &Entry,
-    store: &Access,
+    drafting: &Drafting<'_>,
     forms: &[Form],
-    depth: usize,
 ) -> Result<Items<Form>, Unasked> {
-    let columns = load.reader.domain.columns();
+    let (load, writer, columns) = (drafting.load, drafting.writer, drafting.columns);
     let params = count(load.nest.params.ranges().len())?;
     let loops = count(load.reader.loops.len())?;
     let own = column_forms(alloc, columns, params, loops)?;
     let images = images_of(alloc, load, columns, forms)?;
     let images = images.as_slice();
     let n = shared(writer.loops.as_slice(), load.reader.loops.as_slice());
-    let (written, read) = (store.subs.as_slice(), load.access.subs.as_slice());
+    let written = drafting.store.subs.as_slice();
     let mut out = Items::new(alloc);
-    add_stored(alloc, columns, images, written, read, &mut out)?;
-    add_earlier(alloc, forms, own.as_slice(), depth, n, &mut out)?;
+    add_stored(alloc, columns, images, written, drafting.read, &mut out)?;
+    add_earlier(alloc, forms, own.as_slice(), drafting.depth, n, &mut out)?;
     add_at_images(alloc, columns, images, writer.domain.rows(), &mut out)?;
     Ok(out)
 }
 
-/// The instance of a statement at a depth of the order.
-fn made_candidate(
-    alloc: Global,
-    load: &Load<'_>,
-    writer: &Entry,
-    store: &Access,
-    depth: usize,
-) -> Result<Candidate, Unasked> {
-    let forms = draft(alloc, load, writer, store, depth)?;
-    let conditions = conditions(alloc, load, writer, store, forms.as_slice(), depth)?;
-    Ok(Candidate {
-        statement: writer.statement,
-        forms,
-        conditions,
-    })
+/// Candidates from the latest on, and the divisions that they want, outermost first: the quotients are columns behind those of
+/// the load.
+#[derive(Drop)]
+pub(crate) struct Guess {
+    pub(crate) divisions: Vec<Division>,
+    pub(crate) candidates: Vec<Candidate>,
 }
 
-/// Adds the instance of a statement at a depth of the order, if there might be one.
+/// Adds an instance of a statement at a depth of the order, if it might be one.
 fn add_candidate(
     alloc: Global,
-    load: &Load<'_>,
-    writer: &Entry,
-    store: &Access,
-    depth: usize,
+    drafting: &Drafting<'_>,
+    forms: Items<Form>,
     out: &mut Vec<Candidate>,
-) -> Result<(), AllocError> {
-    match made_candidate(alloc, load, writer, store, depth) {
-        Ok(made) => {
-            if made.conditions.as_slice().iter().any(is_never) {
-                return Ok(());
-            }
-            match out.push(made) {
-                Ok(()) => Ok(()),
-                Err(_) => Err(AllocError),
-            }
-        }
-        Err(Unasked::Large) => Ok(()),
-        Err(Unasked::Memory) => Err(AllocError),
+) -> Result<(), Unasked> {
+    let conditions = conditions(alloc, drafting, forms.as_slice())?;
+    if conditions.as_slice().iter().any(is_never) {
+        return Ok(());
     }
+    let made = Candidate {
+        statement: drafting.writer.statement,
+        forms,
+        conditions,
+    };
+    match out.push(made) {
+        Ok(()) => Ok(()),
+        Err(_) => Err(Unasked::Memory),
+    }
+}
+
+/// Adds the instances of a statement at a depth of the order, as far as they fit.
+fn add_candidates(
+    alloc: Global,
+    drafting: &Drafting<'_>,
+    out: &mut Guess,
+) -> Result<(), AllocError> {
+    let drafts = match drafts_of(alloc, drafting, &mut out.divisions) {
+        Ok(drafts) => drafts,
+        Err(Unasked::Large) => return Ok(()),
+        Err(Unasked::Memory) => return Err(AllocError),
+    };
+    for forms in drafts {
+        match add_candidate(alloc, drafting, forms, &mut out.candidates) {
+            Ok(()) => {}
+            Err(Unasked::Large) => {}
+            Err(Unasked::Memory) => return Err(AllocError),
+        }
+    }
+    Ok(())
 }
 
 /// Whether an instance of a statement can be earlier than the load at this depth of the order.
@@ -170,29 +179,83 @@ fn has_depth(load: &Load<'_>, writer: &Entry, depth: usize) -> bool {
 }
 
 /// Adds the instances at a depth of the order, the last statements first.
-fn add_at_depth(
+fn add_at_depth<'a>(
     alloc: Global,
-    load: &Load<'_>,
+    load: &'a Load<'a>,
+    read: &'a [Form],
+    columns: u32,
     depth: usize,
-    out: &mut Vec<Candidate>,
+    out: &mut Guess,
 ) -> Result<(), AllocError> {
     for writer in load.nest.entries.as_slice().iter().rev() {
         if let Some(store) = store_for(writer, load.access.array.0) {
             if has_depth(load, writer, depth) {
-                add_candidate(alloc, load, writer, store, depth, out)?;
+                let drafting = Drafting {
+                    load,
+                    read,
+                    writer,
+                    store,
+                    columns,
+                    depth,
+                };
+                add_candidates(alloc, &drafting, out)?;
             }
         }
     }
     Ok(())
 }
 
-/// The instances that might be the source, from the latest on.
-pub(crate) fn candidates(alloc: Global, load: &Load<'_>) -> Result<Vec<Candidate>, AllocError> {
-    let mut out = Vec::new(alloc);
+/// Forms are cut to the quotients that there are.
+fn cut(alloc: Global, first: u32, guess: Guess) -> Result<Guess, AllocError> {
+    let mut made = Guess {
+        divisions: Vec::new(alloc),
+        candidates: Vec::new(alloc),
+    };
+    let columns = (first as usize).saturating_add(guess.divisions.len());
+    for candidate in guess.candidates.iter() {
+        let forms = cut_forms(alloc, candidate.forms.as_slice(), columns)?;
+        let conditions = cut_forms(alloc, candidate.conditions.as_slice(), columns)?;
+        let Ok(()) = made.candidates.push(Candidate {
+            statement: candidate.statement,
+            forms,
+            conditions,
+        })
+        else {
+            return Err(AllocError);
+        };
+    }
+    for (i, division) in guess.divisions.iter().enumerate() {
+        let mut form = division.form.clone()?;
+        form.coefs.truncate((first as usize).saturating_add(i));
+        let by = division.by;
+        let Ok(()) = made.divisions.push(Division { form, by }) else {
+            return Err(AllocError);
+        };
+    }
+    Ok(made)
+}
+
+/// The instances that might be the source.
+pub(crate) fn drafts(alloc: Global, load: &Load<'_>) -> Result<Guess, AllocError> {
+    let mut out = Guess {
+        divisions: Vec::new(alloc),
+        candidates: Vec::new(alloc),
+    };
+    let first = load.reader.domain.columns();
+    let columns = first.saturating_add(room(load));
+    let mut read = Items::new(alloc);
+    match add_padded(alloc, columns, load.access.subs.as_slice(), &mut read) {
+        Ok(()) => {}
+        Err(Unasked::Large) => return Ok(out),
+        Err(Unasked::Memory) => return Err(AllocError),
+    }
     let most = load.reader.loops.len();
     for up in 0..most {
-        add_at_depth(alloc, load, most - up, &mut out)?;
+        add_at_depth(alloc, &*load, read.as_slice(), columns, most - up, &mut out)?;
     }
-    add_at_depth(alloc, load, 0, &mut out)?;
-    Ok(out)
+    add_at_depth(alloc, &*load, read.as_slice(), columns, 0, &mut out)?;
+    if columns == first {
+        return Ok(out);
+    }
+    cut(alloc, first, out)
 }

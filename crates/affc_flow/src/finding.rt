@@ -120,7 +120,34 @@ fn add_loads(
     }
 }
 
-/// Adds the trees of statements.
+/// Adds the trees of a statement.
+fn add_entry(
+    alloc: Global,
+    nest: &Nest,
+    entry: &Entry,
+    budget: &mut Budget,
+    out: &mut Items<Quast>,
+) -> Result<(), FlowStop>
+    requires nested { IsNamedNest nest.now }
+    requires entry { IsIn entry.now nest.now.entries }
+    ensures trees { OnOk result (AddsTreesOf nest.now entry.now entry.now.accesses (map seen out.old) (map seen out.new)) }
+    ensures unwritten { IfErr result (λ e. IfUnwritten e (IsUnwritten nest.now)) }
+    ensures later { IsLater budget.old budget.new }
+    ensures stop { IfErr result (λ e. e ≡ FlowStop.Budget → budget.new.limit ≡ Some budget.new.spent) }
+{
+    add_loads(
+        alloc,
+        nest,
+        entry,
+        entry.accesses.as_slice(),
+        0,
+        budget,
+        out,
+    )?;
+    Ok(())
+}
+
+/// Adds the trees of statements. The recursion is into halves.
 fn add_entries(
     alloc: Global,
     nest: &Nest,
@@ -137,17 +164,14 @@ fn add_entries(
 {
     match entries {
         [] => Ok(()),
-        [entry, rest @ ..] => {
-            add_loads(
-                alloc,
-                nest,
-                entry,
-                entry.accesses.as_slice(),
-                0,
-                budget,
-                out,
-            )?;
-            add_entries(alloc, nest, rest, budget, out)?;
+        [entry] => {
+            add_entry(alloc, nest, entry, budget, out)?;
+            Ok(())
+        }
+        _ => {
+            let (first, others) = entries.split_at(entries.len() / 2);
+            add_entries(alloc, nest, first, budget, out)?;
+            add_entries(alloc, nest, others, budget, out)?;
             Ok(())
         }
     }

@@ -1,4 +1,4 @@
-//! Trees that are proposed freely and tested leaf by leaf: a test where a candidate might be wrong, and the next candidate beside.
+//! Trees of candidates, tested leaf by leaf: a test where a candidate might be wrong, and the next candidate beside.
 ghost use Rattle.std.specs.Prelude.{◌≡◌, ◌-◌, ◌≤◌, ◌∷◌, [], length, IfOk, IfErr, IfSome, Some};
 ghost use Rattle.affc_split.specs.Budgets.{IsLater};
 ghost use Rattle.affc_nest.specs.Domains.{with_rows};
@@ -7,21 +7,18 @@ ghost use Rattle.affc_quast.specs.Limits.{narrow, FitsForm};
 ghost use Rattle.affc_quast.specs.Seen.{seen};
 ghost use Rattle.affc_quast.specs.Trees.{Test};
 ghost use Rattle.affc_flow.specs.Guesses.{CoversOn, IsPath};
-ghost use Rattle.affc_flow.specs.Searches.{Covers, IsLoad};
+ghost use Rattle.affc_flow.specs.Searches.{IsLoad};
 
 use crate::asking::{Chosen, store_for};
-use crate::candidates::{Candidate, candidates};
+use crate::candidates::Candidate;
 use crate::load::Load;
 use crate::questions::{Place, Unasked, negation, push_row, push_rows};
 use crate::tested::{has_none, input_leaf, is_narrow, source_leaf};
 use affc_quast::Quast;
 use affc_rows::Form;
 use affc_split::{Budget, Stop};
-use affc_system::{BoxOf, System};
+use affc_system::System;
 use std::alloc::{AllocError, Global};
-
-/// How many systems may be asked of in one box.
-const MOST_ASKS: u32 = 600;
 
 // ---- Both sides of a test.
 
@@ -106,16 +103,14 @@ fn joined(
     yes: Quast,
     no: Quast,
 ) -> Result<Quast, AllocError>
-    requires load { IsLoad load.now.nest.now load.now.reader.now load.now.access.now load.now.number }
-    requires path { IsPath load.now.reader.now place.now.path.now }
     requires some { 1 ≤ left }
     requires up { sides.yes ≡ with_rows place.now.path.now (sides.form ∷ []) }
     requires down { sides.no ≡ with_rows place.now.path.now (negated sides.form ∷ []) }
     requires wide { length sides.form.coefs ≡ place.now.path.now.columns }
     requires fits { FitsForm narrow sides.form }
-    requires on { CoversOn load.now.nest.now load.now.reader.now load.now.access.now sides.yes place.now.ranges.now (left - 1) (seen yes) }
-    requires off { CoversOn load.now.nest.now load.now.reader.now load.now.access.now sides.no place.now.ranges.now (left - 1) (seen no) }
-    ensures right { IfOk result (λ t. CoversOn load.now.nest.now load.now.reader.now load.now.access.now place.now.path.now place.now.ranges.now left (seen t)) }
+    requires on { CoversOn load.now.nest.now load.now.reader.now load.now.access.now sides.yes place.now.ranges.now (left - 1) 0 (seen yes) }
+    requires off { CoversOn load.now.nest.now load.now.reader.now load.now.access.now sides.no place.now.ranges.now (left - 1) 0 (seen no) }
+    ensures right { IfOk result (λ t. CoversOn load.now.nest.now load.now.reader.now load.now.access.now place.now.path.now place.now.ranges.now left 0 (seen t)) }
 {
     let tree = test_of(alloc, sides.form, yes, no)?;
     Ok(tree)
@@ -209,7 +204,7 @@ fn leaf_of(
 ) -> Result<Option<Quast>, Stop>
     requires load { IsLoad load.now.nest.now load.now.reader.now load.now.access.now load.now.number }
     requires path { IsPath load.now.reader.now place.now.path.now }
-    ensures right { IfOk result (λ o. IfSome o (λ t. CoversOn load.now.nest.now load.now.reader.now load.now.access.now place.now.path.now place.now.ranges.now 0 (seen t))) }
+    ensures right { IfOk result (λ o. IfSome o (λ t. CoversOn load.now.nest.now load.now.reader.now load.now.access.now place.now.path.now place.now.ranges.now 0 0 (seen t))) }
     ensures later { IsLater budget.old budget.new }
     ensures stop { IfErr result (λ e. e ≡ Stop.Budget → budget.new.limit ≡ Some budget.new.spent) }
 {
@@ -237,20 +232,18 @@ struct Step {
 }
 
 /// What is to be done with a candidate of whose conditions the first few are known.
-#[tactic(auto, using(crate::proofs::GuessLemmas::deeper_some))]
 fn next_step(
     alloc: Global,
     load: &Load<'_>,
     place: &Place<'_>,
     candidate: &Candidate,
     known: usize,
-    left: u32,
     asks: &mut u32,
     budget: &mut Budget,
 ) -> Result<Step, Stop>
     requires load { IsLoad load.now.nest.now load.now.reader.now load.now.access.now load.now.number }
     requires path { IsPath load.now.reader.now place.now.path.now }
-    ensures right { IfOk result (λ s. IfSome s.leaf (λ t. CoversOn load.now.nest.now load.now.reader.now load.now.access.now place.now.path.now place.now.ranges.now left (seen t))) }
+    ensures right { IfOk result (λ s. IfSome s.leaf (λ t. CoversOn load.now.nest.now load.now.reader.now load.now.access.now place.now.path.now place.now.ranges.now 0 0 (seen t))) }
     ensures later { IsLater budget.old budget.new }
     ensures stop { IfErr result (λ e. e ≡ Stop.Budget → budget.new.limit ≡ Some budget.new.spent) }
 {
@@ -261,20 +254,68 @@ fn next_step(
             open: None,
         });
     }
-    match first_open(alloc, place, rows, known, 0, asks, budget)? {
-        Some(at) => Ok(Step {
-            leaf: None,
-            open: Some(at),
-        }),
-        None => {
-            let leaf = leaf_of(alloc, load, place, candidate, asks, budget)?;
-            Ok(Step { leaf, open: None })
+    let open = first_open(alloc, place, rows, known, 0, asks, budget)?;
+    if open.is_some() {
+        return Ok(Step { leaf: None, open });
+    }
+    let leaf = leaf_of(alloc, load, place, candidate, asks, budget)?;
+    Ok(Step { leaf, open: None })
+}
+
+/// A candidate, by its place among others, and what is to be done with it.
+#[derive(Drop)]
+struct Turn {
+    candidate: usize,
+    step: Step,
+}
+
+/// The first of these candidates with which there is something to do; of the first one's conditions the first few are known.
+/// Places are counted on from a number. The recursion is into halves.
+fn first_turn(
+    alloc: Global,
+    load: &Load<'_>,
+    place: &Place<'_>,
+    candidates: &[Candidate],
+    from: usize,
+    known: usize,
+    asks: &mut u32,
+    budget: &mut Budget,
+) -> Result<Option<Turn>, Stop>
+    requires load { IsLoad load.now.nest.now load.now.reader.now load.now.access.now load.now.number }
+    requires path { IsPath load.now.reader.now place.now.path.now }
+    ensures right { IfOk result (λ o. IfSome o (λ u. IfSome u.step.leaf (λ t. CoversOn load.now.nest.now load.now.reader.now load.now.access.now place.now.path.now place.now.ranges.now 0 0 (seen t)))) }
+    ensures later { IsLater budget.old budget.new }
+    ensures stop { IfErr result (λ e. e ≡ Stop.Budget → budget.new.limit ≡ Some budget.new.spent) }
+{
+    match candidates {
+        [] => Ok(None),
+        [candidate] => {
+            let step = next_step(alloc, load, place, candidate, known, asks, budget)?;
+            if step.leaf.is_none() && step.open.is_none() {
+                return Ok(None);
+            }
+            Ok(Some(Turn {
+                candidate: from,
+                step,
+            }))
+        }
+        _ => {
+            let half = candidates.len() / 2;
+            let (first, others) = candidates.split_at(half);
+            let turn = first_turn(alloc, load, place, first, from, known, asks, budget)?;
+            if turn.is_some() {
+                return Ok(turn);
+            }
+            let behind = from.saturating_add(half);
+            first_turn(alloc, load, place, others, behind, 0, asks, budget)
         }
     }
 }
 
-/// A tree of these candidates under a path, if one is found; of the first one's conditions the first few are known.
-fn grow(
+/// A tree of these candidates under a path, if one is found; of the first one's conditions the first few are known. The
+/// recursion is into the sides of a test.
+#[tactic(auto, using(crate::proofs::GuessLemmas::deeper_covers, crate::proofs::GuessLemmas::deeper_ok))]
+pub(crate) fn grow(
     alloc: Global,
     load: &Load<'_>,
     place: &Place<'_>,
@@ -286,20 +327,20 @@ fn grow(
 ) -> Result<Option<Quast>, Stop>
     requires load { IsLoad load.now.nest.now load.now.reader.now load.now.access.now load.now.number }
     requires path { IsPath load.now.reader.now place.now.path.now }
-    ensures right { IfOk result (λ o. IfSome o (λ t. CoversOn load.now.nest.now load.now.reader.now load.now.access.now place.now.path.now place.now.ranges.now left (seen t))) }
+    ensures right { IfOk result (λ o. IfSome o (λ t. CoversOn load.now.nest.now load.now.reader.now load.now.access.now place.now.path.now place.now.ranges.now left 0 (seen t))) }
     ensures later { IsLater budget.old budget.new }
     ensures stop { IfErr result (λ e. e ≡ Stop.Budget → budget.new.limit ≡ Some budget.new.spent) }
 {
-    let [candidate, rest @ ..] = candidates else {
+    let turn = first_turn(alloc, load, place, candidates, 0, known, asks, budget)?;
+    let Some(turn) = turn else {
         return input_leaf(alloc, load, place, asks, budget);
     };
-    let step = next_step(alloc, load, place, candidate, known, left, asks, budget)?;
-    let Step { leaf, open } = step;
-    if leaf.is_some() {
-        return Ok(leaf);
+    let Step { leaf, open } = turn.step;
+    if let Some(leaf) = leaf {
+        return Ok(Some(leaf));
     }
-    let Some(at) = open else {
-        return grow(alloc, load, place, rest, 0, left, asks, budget);
+    let (Some(at), Some(candidate)) = (open, candidates.get(turn.candidate)) else {
+        return Ok(None);
     };
     if left == 0 || *asks == 0 {
         return Ok(None);
@@ -311,47 +352,18 @@ fn grow(
     let path = &sides.yes;
     let on = Place { path, ranges };
     let next = at.saturating_add(1);
-    let yes = grow(alloc, load, &on, candidates, next, left - 1, asks, budget)?;
+    let (_passed, behind) = candidates.split_at(turn.candidate);
+    let yes = grow(alloc, load, &on, behind, next, left - 1, asks, budget)?;
     let Some(yes) = yes else {
         return Ok(None);
     };
     let path = &sides.no;
     let off = Place { path, ranges };
+    let (_own, rest) = behind.split_at(1);
     let no = grow(alloc, load, &off, rest, 0, left - 1, asks, budget)?;
     let Some(no) = no else {
         return Ok(None);
     };
     let tree = joined(alloc, load, place, left, sides, yes, no)?;
     Ok(Some(tree))
-}
-
-/// A tree for the box, if one is found.
-pub(crate) fn guessed(
-    alloc: Global,
-    load: &Load<'_>,
-    ranges: &BoxOf,
-    left: u32,
-    budget: &mut Budget,
-) -> Result<Option<Quast>, Stop>
-    requires load { IsLoad load.now.nest.now load.now.reader.now load.now.access.now load.now.number }
-    ensures right { IfOk result (λ o. IfSome o (λ t. Covers load.now.nest.now load.now.reader.now load.now.access.now ranges.now left (seen t))) }
-    ensures later { IsLater budget.old budget.new }
-    ensures stop { IfErr result (λ e. e ≡ Stop.Budget → budget.new.limit ≡ Some budget.new.spent) }
-{
-    let place = Place {
-        path: &load.reader.domain,
-        ranges,
-    };
-    let drafts = candidates(alloc, load)?;
-    let mut asks = MOST_ASKS;
-    grow(
-        alloc,
-        load,
-        &place,
-        drafts.as_slice(),
-        0,
-        left,
-        &mut asks,
-        budget,
-    )
 }

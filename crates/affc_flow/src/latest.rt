@@ -209,7 +209,7 @@ fn last_of(
     last_store(alloc, reading, writer, store, budget)
 }
 
-/// The latest instance of these statements that stores what is read.
+/// The latest instance of these statements that stores what is read. The recursion is into halves.
 fn last_among(
     alloc: Global,
     reading: &Reading<'_>,
@@ -225,9 +225,11 @@ fn last_among(
 {
     match entries {
         [] => Ok(None),
-        [entry, rest @ ..] => {
-            let here = last_of(alloc, reading, entry, budget)?;
-            let others = last_among(alloc, reading, rest, budget)?;
+        [entry] => last_of(alloc, reading, entry, budget),
+        _ => {
+            let (first, behind) = entries.split_at(entries.len() / 2);
+            let here = last_among(alloc, reading, first, budget)?;
+            let others = last_among(alloc, reading, behind, budget)?;
             let latest = later(alloc, reading.nest, reading.p, here, others)?;
             Ok(latest)
         }

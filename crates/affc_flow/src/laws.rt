@@ -1,5 +1,6 @@
 //! What the questions on trees decide. Each law is the contract of a function that does nothing.
-ghost use Rattle.affc_flow.specs.Laws.{LeafNamesSource, TreeNamesSource, FlowNamesSources};
+ghost use Rattle.affc_flow.specs.Finds.{FoundMayBeAsked};
+ghost use Rattle.affc_flow.specs.Laws.{LeafNamesSource, TreeNamesSource, FlowNamesSources, FlowNamesAll};
 
 /// A leaf names the source at each point of its rows with which no point of its questions begins.
 pub fn leaf_names_source()
@@ -14,4 +15,14 @@ pub fn tree_names_source()
 /// The trees of all loads, none of whose questions has a point, name the sources throughout the context.
 pub fn flow_names_sources()
     ensures law { FlowNamesSources }
+{}
+
+/// Where no question has a point anywhere, they do so whatever the quotients are, and each load of a temporary has a source.
+pub fn flow_names_all()
+    ensures law { FlowNamesAll }
+{}
+
+/// Trees like those that are found may be asked for the source at each instance of the context.
+pub fn found_may_be_asked()
+    ensures law { FoundMayBeAsked }
 {}

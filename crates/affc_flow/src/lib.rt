@@ -3,6 +3,7 @@
 
 mod asking;
 mod candidates;
+mod divided;
 mod draft;
 pub mod examples;
 mod finding;
@@ -17,9 +18,12 @@ mod pairs;
 pub mod questions;
 mod ranges;
 mod search;
+mod solved;
 pub mod stop;
 mod strides;
 mod tested;
 
+pub use asking::store_for;
 pub use finding::find;
+pub use load::{is_temporary, number};
 pub use stop::FlowStop;

@@ -1,4 +1,4 @@
-//! The questions of a leaf without tests and divisions above it.
+//! The questions of a leaf under the rows of a path.
 ghost use Rattle.std.specs.Prelude.{◌≡◌, ◌++◌, ◌∷◌, [], map, length, IsTrue, IfOk, OnOk};
 ghost use Rattle.affc_trace.specs.Inverses.{columns_from};
 ghost use Rattle.affc_nest.specs.Asked.{IsNest};
@@ -8,8 +8,8 @@ ghost use Rattle.affc_flow.specs.Asked.{asked, on, reader_earlier, reader_same, 
 use crate::asking::{Chosen, add_all_between, add_all_earlier, column_forms, lexed};
 use crate::load::{Load, is_temporary};
 use crate::questions::{
-    Place, Question, Unasked, add_apart, add_orders, add_outside, add_question, count, push_equal,
-    push_question,
+    Place, Question, Unasked, add_apart, add_orders, add_outside, add_padded, add_question, count,
+    push_equal, push_question,
 };
 use affc_order::order::shared;
 use affc_quast::rows::add_copies;
@@ -117,7 +117,10 @@ pub(crate) fn add_named(
     ensures { OnOk result (map asked out.new.items ≡ map asked out.old.items ++ all_named load.now.nest.now load.now.reader.now load.now.access.now place.now.path.now place.now.ranges.now chosen.now.writer.now chosen.now.store.now chosen.now.forms.now) }
 {
     let images = images_of(alloc, load, place.path.columns(), chosen.forms)?;
-    let (written, read) = (chosen.store.subs.as_slice(), load.access.subs.as_slice());
+    let written = chosen.store.subs.as_slice();
+    let subs = load.access.subs.as_slice();
+    let mut read = Items::new(alloc);
+    add_padded(alloc, place.path.columns(), subs, &mut read)?;
     add_outside(
         alloc,
         place,
@@ -125,7 +128,14 @@ pub(crate) fn add_named(
         chosen.writer.domain.rows(),
         out,
     )?;
-    add_apart(alloc, place, images.as_slice(), written, read, out)?;
+    add_apart(
+        alloc,
+        place,
+        images.as_slice(),
+        written,
+        read.as_slice(),
+        out,
+    )?;
     add_not_earlier(alloc, load, place, chosen, out)?;
     add_all_between(
         alloc,

@@ -20,7 +20,7 @@ pub(crate) struct Load<'a> {
 }
 
 /// Whether an array is a temporary.
-pub(crate) fn is_temporary(nest: &Nest, array: ArrayId) -> bool
+pub fn is_temporary(nest: &Nest, array: ArrayId) -> bool
     ensures { result ≡ is_temporary nest.now array.0 }
 {
     match nest.arrays.as_slice().get(array.0 as usize) {
@@ -34,7 +34,7 @@ pub(crate) fn is_temporary(nest: &Nest, array: ArrayId) -> bool
 }
 
 /// The form of a number over so many columns.
-pub(crate) fn number(alloc: Global, columns: u32, n: i64) -> Result<Form, AllocError>
+pub fn number(alloc: Global, columns: u32, n: i64) -> Result<Form, AllocError>
     ensures { IfOk result (λ f. f ≡ number_form columns n) }
 {
     let empty = Form {

@@ -6,7 +6,7 @@ ghost use Rattle.affc_nest.specs.Domains.{gap_row, with_rows};
 ghost use Rattle.affc_order.specs.Posed.{form_at};
 ghost use Rattle.affc_order.specs.Spread.{spread};
 ghost use Rattle.affc_sched.specs.Questions.{equal_rows};
-ghost use Rattle.affc_quast.specs.Leaves.{negated};
+ghost use Rattle.affc_quast.specs.Leaves.{padded, negated};
 ghost use Rattle.affc_flow.specs.Asked.{asked, on, outside, apart};
 
 use crate::load::number;
@@ -108,7 +108,7 @@ pub(crate) fn push_rows(system: &mut System, rows: &[Form]) -> Result<(), Unaske
 }
 
 /// The row `b - a - k`.
-pub(crate) fn gap(alloc: Global, a: &Form, b: &Form, k: u32) -> Result<Form, Unasked>
+pub fn gap(alloc: Global, a: &Form, b: &Form, k: u32) -> Result<Form, Unasked>
     ensures { IfOk result (λ f. f ≡ gap_row a.now b.now k) }
 {
     if a.coefs.len() != b.coefs.len() {
@@ -122,7 +122,7 @@ pub(crate) fn gap(alloc: Global, a: &Form, b: &Form, k: u32) -> Result<Form, Una
 }
 
 /// The row that says that a row isn't met.
-pub(crate) fn negation(alloc: Global, row: &Form) -> Result<Form, Unasked>
+pub fn negation(alloc: Global, row: &Form) -> Result<Form, Unasked>
     ensures { IfOk result (λ f. f ≡ negated row.now) }
 {
     let columns = count(row.coefs.len())?;
@@ -132,7 +132,7 @@ pub(crate) fn negation(alloc: Global, row: &Form) -> Result<Form, Unasked>
 }
 
 /// Whether each form has so many columns.
-pub(crate) fn have_columns(columns: u32, forms: &[Form]) -> bool
+pub fn have_columns(columns: u32, forms: &[Form]) -> bool
     ensures { IsTrue result → HaveColumns columns forms.now }
 {
     match forms {
@@ -158,12 +158,7 @@ fn constant_form(alloc: Global, columns: u32, form: &Form) -> Result<Form, Alloc
 }
 
 /// A form with each column replaced by its image.
-pub(crate) fn at_images(
-    alloc: Global,
-    columns: u32,
-    images: &[Form],
-    form: &Form,
-) -> Result<Form, Unasked>
+pub fn at_images(alloc: Global, columns: u32, images: &[Form], form: &Form) -> Result<Form, Unasked>
     ensures { IfOk result (λ f. f ≡ form_at columns images.now form.now) }
 {
     if images.len() != form.coefs.len() {
@@ -237,6 +232,38 @@ pub(crate) fn add_spread_forms(
             let made = spread_form(alloc, form, params, between, behind)?;
             out.push(made)?;
             add_spread_forms(alloc, rest, params, between, behind, out)?;
+            Ok(())
+        }
+    }
+}
+
+/// A form over more columns.
+fn padded(alloc: Global, columns: u32, form: &Form) -> Result<Form, Unasked>
+    ensures { IfOk result (λ f. f ≡ padded columns form.now) }
+{
+    let own = count(form.coefs.len())?;
+    if own > columns {
+        return Err(Unasked::Large);
+    }
+    let made = spread(alloc, form, 0, 0, columns - own)?;
+    Ok(made)
+}
+
+/// Adds forms, over more columns.
+pub(crate) fn add_padded(
+    alloc: Global,
+    columns: u32,
+    forms: &[Form],
+    out: &mut Items<Form>,
+) -> Result<(), Unasked>
+    ensures { OnOk result (out.new ≡ out.old ++ map (padded columns) forms.now) }
+{
+    match forms {
+        [] => Ok(()),
+        [form, rest @ ..] => {
+            let made = padded(alloc, columns, form)?;
+            out.push(made)?;
+            add_padded(alloc, columns, rest, out)?;
             Ok(())
         }
     }

@@ -12,7 +12,7 @@ ghost use Rattle.affc_flow.specs.Searches.{Covers, part_box, Fuel, IsSlight, IsS
 ghost use Rattle.affc_flow.specs.Stores.{pin};
 ghost use Rattle.affc_flow.specs.Unwritten.{IsUnwritten, IfUnwritten};
 
-use crate::guess::guessed;
+use crate::divided::guessed;
 use crate::latest::{Reading, source_of};
 use crate::load::{Load, is_temporary, number};
 use crate::ranges::part_ranges;

@@ -53,7 +53,7 @@ pub(crate) fn has_none(
     }
 }
 
-/// Whether each of these questions is shown to have no point.
+/// Whether each of these questions is shown to have no point. The recursion is into halves.
 fn are_empty(
     alloc: Global,
     questions: &[Question],
@@ -66,13 +66,17 @@ fn are_empty(
 {
     match questions {
         [] => Ok(true),
-        [question, rest @ ..] => {
-            if has_none(alloc, &question.system, &question.ranges, asks, budget)? {
-                let others = are_empty(alloc, rest, asks, budget)?;
-                Ok(others)
-            } else {
-                Ok(false)
+        [question] => {
+            let none = has_none(alloc, &question.system, &question.ranges, asks, budget)?;
+            Ok(none)
+        }
+        _ => {
+            let (first, others) = questions.split_at(questions.len() / 2);
+            if !are_empty(alloc, first, asks, budget)? {
+                return Ok(false);
             }
+            let none = are_empty(alloc, others, asks, budget)?;
+            Ok(none)
         }
     }
 }
@@ -155,7 +159,7 @@ pub(crate) fn source_leaf(
     requires load { IsLoad load.now.nest.now load.now.reader.now load.now.access.now load.now.number }
     requires path { IsPath load.now.reader.now place.now.path.now }
     requires writes { Writes load.now.nest.now load.now.access.now.array.0 chosen.now.writer.now chosen.now.store.now }
-    ensures right { IfOk result (λ o. IfSome o (λ t. CoversOn load.now.nest.now load.now.reader.now load.now.access.now place.now.path.now place.now.ranges.now 0 (seen t))) }
+    ensures right { IfOk result (λ o. IfSome o (λ t. CoversOn load.now.nest.now load.now.reader.now load.now.access.now place.now.path.now place.now.ranges.now 0 0 (seen t))) }
     ensures later { IsLater budget.old budget.new }
     ensures stop { IfErr result (λ e. e ≡ Stop.Budget → budget.new.limit ≡ Some budget.new.spent) }
 {
@@ -216,7 +220,7 @@ pub(crate) fn input_leaf(
 ) -> Result<Option<Quast>, Stop>
     requires load { IsLoad load.now.nest.now load.now.reader.now load.now.access.now load.now.number }
     requires path { IsPath load.now.reader.now place.now.path.now }
-    ensures right { IfOk result (λ o. IfSome o (λ t. CoversOn load.now.nest.now load.now.reader.now load.now.access.now place.now.path.now place.now.ranges.now 0 (seen t))) }
+    ensures right { IfOk result (λ o. IfSome o (λ t. CoversOn load.now.nest.now load.now.reader.now load.now.access.now place.now.path.now place.now.ranges.now 0 0 (seen t))) }
     ensures later { IsLater budget.old budget.new }
     ensures stop { IfErr result (λ e. e ≡ Stop.Budget → budget.new.limit ≡ Some budget.new.spent) }
 {

@@ -1,14 +1,9 @@
-use Rattle.std.proofs.Common.{◌-◌, length, take, drop}
-use Rattle.affc_trace.specs.Law.{IsIn}
-use Rattle.affc_sched.proofs.AnsweredLemmas.{front_is}
-use Rattle.affc_flow.proofs.FindLemmas.{few_accesses}
-use Rattle.affc_flow.proofs.PartLemmas.{first_each, few_from}
+use Rattle.std.proofs.Common.{map}
+use Rattle.affc_quast.specs.Seen.{seen}
+use Rattle.affc_flow.proofs.SplitLemmas.{trees_added}
 use Rattle.affc_flow.proofs.finding.+add_entries.Goals as goal
 
-pub add_loads-requires-clause-few : goal.add_loads-requires-clause-few
-add_loads-requires-clause-few t c =
-    let es = c.args.entries.now in
-    let e = c.entry-item.result in
-    few_from c.as_slice.result.now e.accesses c.as_slice.ensures
-    (few_accesses c.args.nest.now c.requires.nested e
-    (first_each (λ e. IsIn e c.args.nest.now.entries) es (take (length es - 1) (drop 1 es)) e (front_is es e c.in-len1-up.len_at_least c.entry-item.is) c.requires.entries))
+pub returns-in_ok-add_entries-in_default-2-clause-trees : goal.returns-in_ok-add_entries-in_default-2-clause-trees
+returns-in_ok-add_entries-in_default-2-clause-trees t c =
+    trees_added c.args.nest.now c.args.entries.now c.split_at.result.0.now c.split_at.result.1.now (map seen c.args.out.now) (map seen c.add_entries.new.out) (map seen c.add_entries-in_default.new.out)
+    c.split_at.ensures.by_index.0 c.in_ok-add_entries-in_default.ensures.trees c.in_ok-add_entries-in_default-2.ensures.trees

@@ -1,5 +1,4 @@
-use Rattle.std.proofs.Common.{◌+◌, length}
 use Rattle.affc_flow.proofs.guess.+grow.Given as goal
 
 abbrev pub decreases-grow : goal.decreases-grow
-decreases-grow l = l.left + length l.candidates.now
+decreases-grow l = l.left
