@@ -26,6 +26,7 @@ use Rattle.affc_nest.specs.Nests.{nest_of}
 use Rattle.affc_quast.specs.Sources.{NameSources, HaveNearQuotients}
 use Rattle.affc_quast.specs.Trees.{Tree}
 use Rattle.affc_life.specs.Laws.{AreFound}
+pub use Rattle.affc_moduli.specs.Ended.{IsSpent}
 
 -- ---- What is known of a program before it is folded
 
@@ -67,12 +68,6 @@ pub record IsFoldFor (program : Program) (schedule : Schedule) (bases : List (Ar
   pub marks : HasTrueMarks (IsInContext program) (LivePair program schedule array) fold
 
 -- ---- Budgets
-
--- what is spent reaches the limit, so no unit is left
-pub record IsSpent (budget : Account) : Type 0 where
-  pub most : ℕ
-  pub limit : budget.limit ≡ Some most
-  pub reached : most ≤ budget.spent
 
 -- one of the moduli is marked as a bound alone
 pub record HasBound (fold : Fold) : Type 0 where

@@ -92,9 +92,9 @@ fn moduli_along(
     ensures limits { IfOk result (λ ms. All (IsModulus asked.now.nest.now.context.columns) (forms_of ms)) }
     ensures obeys { IfOk result (λ ms. (p : List ℤ) → InContext asked.now.nest.now.context asked.now.nest.now.params p → Exceeds (IsPairOf systems.now p) p basis.now.rows (forms_of ms)) }
     ensures marks { IfOk result (λ ms. (k : ℕ) (row : Affine) (m : Modulus) → slice_get basis.now.rows k ≡ Some row → slice_get ms k ≡ Some m → IsTrueMark (InContext asked.now.nest.now.context asked.now.nest.now.params) (IsPairOf systems.now) basis.now.rows k row m) }
-    ensures bound { IfOk result (λ ms. (k : ℕ) (m : Modulus) → slice_get ms k ≡ Some m → m.mark ≡ Bound → budget.new.limit ≡ Some budget.new.spent) }
+    ensures bound { IfOk result (λ ms. (k : ℕ) (m : Modulus) → slice_get ms k ≡ Some m → m.mark ≡ Bound → IsSpent budget.new) }
     ensures later { IsLater budget.old budget.new }
-    ensures stop { IfErr result (λ e. e ≡ Stop.Budget → budget.new.limit ≡ Some budget.new.spent) }
+    ensures stop { IfErr result (λ e. e ≡ Stop.Memory) }
 {
     let extents = info.extents.as_slice();
     let context = &asked.nest.context;
@@ -103,7 +103,7 @@ fn moduli_along(
 }
 
 /// The fold of an array along its basis.
-#[tactic(auto, using(crate::proofs::FoldLemmas::few_dimensions, crate::proofs::ListLemmas::is_spent))]
+#[tactic(auto, using(crate::proofs::FoldLemmas::few_dimensions))]
 fn fold_along(
     alloc: Global,
     asked: &Asked<'_>,
