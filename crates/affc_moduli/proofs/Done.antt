@@ -79,7 +79,3 @@ module _ (context : Rows) (ranges : List (ℤ × ℤ)) (rows : List Affine) (k :
         mark = subst (λ q. IsTrueOf (InContext context ranges) (IsPairOf systems) rows k row m.form q) (sym mark) tt;
         flat = λ _. ap (λ (f : Affine). f.coefs) e;
       }
-
--- a modulus with a mark
-pub kept_of : (context : Rows) (ranges : List (ℤ × ℤ)) (systems : List PairSystem) (rows : List Affine) (k : ℕ) (row : Affine) (m : Modulus) → IsDone context ranges systems rows k row m → IsKept context ranges systems rows k row m
-kept_of context ranges systems rows k row m done = record { limits = done.limits; enough = done.enough; mark = done.mark; flat = λ e. absurd (done.marked e) }

@@ -1,7 +1,3 @@
-use Rattle.std.proofs.Common.{subst}
-use Rattle.affc_moduli.specs.Ended.{IsReach, IsFoundOr}
-use Rattle.affc_moduli.specs.declared.extremes.Reach.{Reach}
-use Rattle.affc_moduli.proofs.Done.{kept_of}
 use Rattle.affc_moduli.proofs.Step.{over, ready_forward, ready_backward}
 use Rattle.affc_moduli.proofs.row.asked.Goals as goal
 
