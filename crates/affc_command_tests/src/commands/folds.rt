@@ -108,12 +108,12 @@ const REPORTS: [(&str, &str, &str, &str); 4] = [
         "source;\nfold g: (x0, x1); x0 = y0, x1 = y1;\n",
         "array g\n  basis (x0, x1)\n  modulus 0: 2 least at T=1 N=3 pair (0, 0) (1, 0)\n  modulus 1: N least at T=1 N=100 pair (0, 0) (0, 99)\n",
     ),
-    // a budget that ends between two arrays
+    // a budget that ends between two arrays: what needs no question is kept of the second
     (
         "fold a.c a.data --budget 92",
         "#include <stdint.h>\n#pragma affc param N 1 1000\nvoid stages(int64_t N, const uint64_t in[N + 6], uint64_t out[N]) {\n  uint64_t a[N + 5], b[N + 3];\n  for (int64_t i = 0; i < N + 5; i++)\n    a[i] = 3ULL * in[i] + in[i + 1];\n  for (int64_t i = 0; i < N + 3; i++)\n    b[i] = a[i] ^ (a[i + 1] >> 1) ^ (a[i + 2] >> 2);\n  for (int64_t i = 0; i < N; i++)\n    out[i] = b[i + 3] - b[i];\n}\n",
         "time 1;\nS0: (i); i = t0;\nS1: (i + 2); i = t0 - 2;\nS2: (i + 5); i = t0 - 5;\n",
-        "array a\n  basis (x0)\n  modulus 0: 3 least at N=1 pair (0) (2)\narray b\n  whole budget\n",
+        "array a\n  basis (x0)\n  modulus 0: 3 least at N=1 pair (0) (2)\narray b\n  basis (x0)\n  modulus 0: 4 bound\n",
     ),
     // a budget that is enough
     (
