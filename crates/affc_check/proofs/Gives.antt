@@ -25,6 +25,7 @@ use Rattle.affc_nest.specs.Nests.{nest_of}
 use Rattle.affc_quast.specs.Trees.{Tree}
 use Rattle.affc_flow.specs.Questions.{flow_questions}
 use Rattle.affc_flow.specs.Questions as flow
+use Rattle.affc_flow.proofs.FlowLemmas.{flow_names_all}
 use Rattle.affc_conflicts.specs.Conditions.{InContext}
 use Rattle.affc_conflicts.specs.Laws.{IsOver}
 use Rattle.affc_conflicts.specs.Questions.{context_system, distance_questions, greater_question}
@@ -36,7 +37,6 @@ use Rattle.affc_folds.proofs.NestLemmas.{to_context, from_context}
 use Rattle.affc_check.specs.Items.{Item, Question, Shown, LeastShown, ModulusShown, FoldShown, mark_items, row_items, fold_items, pair_item, mark_of, moduli_of, items}
 use Rattle.affc_check.specs.Valid.{AreValid}
 use Rattle.affc_check.specs.Laws.{IsReadFor, IsFoldShown, ValidGives}
-use Rattle.affc_check.proofs.Loads.{name_all}
 use Rattle.affc_check.proofs.Marks.{mark_shown}
 use Rattle.affc_check.proofs.Members.{seen, shown_at, seen_wide, of_row, of_fold}
 use Rattle.affc_check.proofs.Over.{are_shaped, are_over, are_proper}
@@ -118,7 +118,7 @@ module _ (program : Program) (schedule : Schedule) (context : List ℤ) (trees :
     live : (p : List ℤ) → IsInContext program p → (x y : List ℤ) → IsPairOf f.systems p x y ↔ LivePair program schedule f.array p x y
     live p inside x y =
         clashes_are_live_pairs program trees schedule f.array f.systems p x y r.has r.named r.fits (are_shaped program trees r.shapes) (r.arrays f there).systems inside
-        (name_all program p trees r.has r.named inside r.shapes (r.near p inside) unasked).sources
+        (flow_names_all program p trees r.has r.named inside r.shapes unasked).0
 
     obeys : (p : List ℤ) → IsInContext program p → Obeys (LivePair program schedule f.array p) fold p
     obeys p inside =
@@ -146,7 +146,8 @@ pub valid_gives : ValidGives
 valid_gives program schedule context trees folds proofs r valid = record {
   some = (context, context_shown program schedule context trees folds proofs valid r.has);
   stays = stays_within program schedule context trees folds proofs valid r.has r.named;
-  names = λ p inside. name_all program p trees r.has r.named inside r.shapes (r.near p inside) (no_flow program schedule context trees folds proofs valid);
+  sources = λ p inside. (flow_names_all program p trees r.has r.named inside r.shapes (no_flow program schedule context trees folds proofs valid)).0;
+  written = λ p inside. (flow_names_all program p trees r.has r.named inside r.shapes (no_flow program schedule context trees folds proofs valid)).1;
   legal = is_legal program schedule context trees folds proofs valid r.has r.named r.fits;
   folds_right = λ f there. record {
     obeys = obeys program schedule context trees folds proofs r valid f there;

@@ -1,5 +1,5 @@
 -- What the validity of a certificate gives.
-use Rattle.std.specs.Prelude.{◌≡◌, ℤ, List, length, Some, slice_get}
+use Rattle.std.specs.Prelude.{◌≡◌, ℕ, ℤ, List, length, Some, slice_get}
 use Rattle.std.specs.List.{All}
 use Rattle.affc_ast.specs.declared.tree.Program.{Program}
 use Rattle.affc_farkas.specs.declared.proof.Proof.{Proof}
@@ -15,13 +15,16 @@ use Rattle.affc_nest.specs.declared.nest.ArrayInfo.{ArrayInfo}
 use Rattle.affc_nest.specs.Laws.{HasNest, NamesArrays, StaysWithin}
 use Rattle.affc_nest.specs.Nests.{nest_of}
 use Rattle.affc_quast.specs.Limits.{HaveShapes}
-use Rattle.affc_quast.specs.Sources.{HaveNearQuotients}
+use Rattle.affc_quast.specs.Seen.{trees_of}
+use Rattle.affc_quast.specs.Sources.{NameSources}
 use Rattle.affc_quast.specs.Trees.{Tree}
-use Rattle.affc_flow.specs.Finds.{NameAllAt}
+use Rattle.affc_flow.specs.Laws.{AreWritten}
 use Rattle.affc_life.specs.Laws.{AreClashes}
 use Rattle.affc_folds.specs.Folding.{HasTrueMarks}
-use Rattle.affc_check.specs.Items.{FoldShown, moduli_of, items}
-use Rattle.affc_check.specs.Valid.{AreValid}
+use Rattle.affc_cert.specs.declared.cert.Cert.{Cert}
+use Rattle.affc_check.specs.Certs.{AreFoldsSaid, AreItems, IsCertFor}
+use Rattle.affc_check.specs.Items.{Item, FoldShown, moduli_of, items}
+use Rattle.affc_check.specs.Valid.{AreValid, FailsFirst}
 
 -- ---- What is known of a certificate whose text was read
 
@@ -34,14 +37,13 @@ pub record IsFoldOfArray (program : Program) (schedule : Schedule) (trees : List
   pub systems : AreClashes program trees schedule f.array f.systems
 
 -- The program has a nest, the schedule is one of it, and the certificate has its shape: a tree for each load, and folds of its
--- arrays. That throughout the context the quotients on the way of each instance are within 2^60 is a premise for now.
+-- arrays.
 pub record IsReadFor (program : Program) (schedule : Schedule) (trees : List Tree) (folds : List FoldShown) : Type 0 where
   pub has : HasNest program
   pub named : NamesArrays program
   pub fits : IsScheduleOf program schedule
   pub shapes : HaveShapes (nest_of program) trees
   pub arrays : (f : FoldShown) → IsIn f folds → IsFoldOfArray program schedule trees f
-  pub near : (p : List ℤ) → IsInContext program p → HaveNearQuotients program p (nest_of program) trees
 
 -- ---- What is shown
 
@@ -62,7 +64,8 @@ pub record IsRightFold (program : Program) (schedule : Schedule) (f : FoldShown)
 pub record IsShown (program : Program) (schedule : Schedule) (trees : List Tree) (folds : List FoldShown) : Type 0 where
   pub some : (p : List ℤ) × IsInContext program p
   pub stays : (p : List ℤ) → IsInContext program p → StaysWithin program p
-  pub names : (p : List ℤ) → IsInContext program p → NameAllAt program p (nest_of program) trees
+  pub sources : (p : List ℤ) → IsInContext program p → NameSources program p (nest_of program) trees
+  pub written : (p : List ℤ) → IsInContext program p → AreWritten program p (nest_of program) trees
   pub legal : (p : List ℤ) → IsInContext program p → Legal program schedule p
   pub folds_right : (f : FoldShown) → IsIn f folds → IsRightFold program schedule f
 
@@ -74,3 +77,23 @@ ValidGives = (program : Program) (schedule : Schedule) (context : List ℤ) (tre
     → IsReadFor program schedule trees folds
     → AreValid (items (nest_of program) schedule context trees folds) proofs
     → IsShown program schedule trees folds
+
+-- What is known of a certificate for a program's nest: the folds that it says, beside their clash systems, are folds of its arrays.
+abbrev pub CertsAreRead : Type 0
+CertsAreRead = (program : Program) (schedule : Schedule) (c : Cert) (folds : List FoldShown)
+    → HasNest program → NamesArrays program → IsScheduleOf program schedule
+    → IsCertFor (nest_of program) c
+    → AreFoldsSaid (nest_of program) schedule (trees_of c.flow) c.folds folds
+    → IsReadFor program schedule (trees_of c.flow) folds
+
+-- So a valid certificate shows this of the program.
+abbrev pub ValidCertsGive : Type 0
+ValidCertsGive = (program : Program) (schedule : Schedule) (c : Cert) (is : List Item)
+    → HasNest program → NamesArrays program → IsScheduleOf program schedule
+    → IsCertFor (nest_of program) c
+    → (items : AreItems (nest_of program) schedule c is) → AreValid is c.proofs
+    → IsShown program schedule (trees_of c.flow) items.folds
+
+-- The item that fails first is one, and then the certificate isn't valid.
+abbrev pub FailingIsNotValid : Type 0
+FailingIsNotValid = (is : List Item) (proofs : List Proof) (n : ℕ) → FailsFirst is proofs n → ¬ (AreValid is proofs)

@@ -1,4 +1,5 @@
 pub mod Items
 pub mod Valid
+pub mod Certs
 pub mod Laws
 pub mod Examples

@@ -1,5 +1,5 @@
--- When a certificate is valid.
-use Rattle.std.specs.Prelude.{◌≤◌, List, [], ◌∷◌, length}
+-- When a certificate is valid, and which item is the first that fails.
+use Rattle.std.specs.Prelude.{◌≤◌, ℕ, zero, suc, List, [], ◌∷◌, length}
 use Rattle.std.specs.List.{All}
 use Rattle.affc_rows.specs.Forms.{Affine}
 use Rattle.affc_system.specs.Systems.{Rows, IsRow, IsPoint}
@@ -22,3 +22,14 @@ AreValid [] proofs = Unit {0}
 AreValid (Shown system point ∷ is) proofs = IsPoint system point × AreValid is proofs
 AreValid (Question system ∷ is) [] = ⊥
 AreValid (Question system ∷ is) (proof ∷ proofs) = IsProved system proof × AreValid is proofs
+
+-- the item with this number, from 0, is the first that fails: a point that doesn't meet its rows, or a question without a proof, or
+-- whose proof isn't valid
+abbrev pub FailsFirst : List Item → List Proof → ℕ → Type 0
+FailsFirst [] proofs n = ⊥
+FailsFirst (Shown system point ∷ is) proofs zero = ¬ (IsPoint system point)
+FailsFirst (Shown system point ∷ is) proofs (suc n) = IsPoint system point × FailsFirst is proofs n
+FailsFirst (Question system ∷ is) [] zero = Unit {0}
+FailsFirst (Question system ∷ is) [] (suc n) = ⊥
+FailsFirst (Question system ∷ is) (proof ∷ proofs) zero = ¬ (IsProved system proof)
+FailsFirst (Question system ∷ is) (proof ∷ proofs) (suc n) = IsProved system proof × FailsFirst is proofs n
