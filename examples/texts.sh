@@ -1,9 +1,9 @@
 #!/bin/sh
 # Writes the sources, data, outputs and schedules of this folder, and what `fold` prints and reports of each source by its
-# schedule, as the texts that the tests of affc_command_tests run.
+# schedule, as the texts that the tests of affc_fold_tests run.
 # With `--check` it only says whether those are up to date.
 cd "$(dirname "$0")" || exit 1
-table=../crates/affc_command_tests/src/commands/kernels.rt
+table=../crates/affc_fold_tests/src/commands/kernels.rt
 
 # the file as a string literal
 literal() {

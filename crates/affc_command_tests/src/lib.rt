@@ -5,3 +5,4 @@
 
 #[cfg(test)]
 mod commands;
+pub mod served;

@@ -1,5 +1,5 @@
 //! What is wrong with a source at the edges of the language, told at its byte.
-use super::{BLUR, OPEN, WHOLE, plain};
+use crate::served::{BLUR, OPEN, WHOLE, plain};
 use affc_lex::prelude::PRELUDE;
 use std::alloc::{AllocError, Global};
 use std::test::Fail;

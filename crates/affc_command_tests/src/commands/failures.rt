@@ -1,5 +1,5 @@
 //! What each failure outside leaves: in reading, in writing and in taking memory.
-use super::{BLUR, COPY, folder_of, served, sure_sink, words_of};
+use crate::served::{BLUR, COPY, folder_of, served, sure_sink, words_of};
 use affc_cli::serve::serve;
 use affc_io::{Folder, MemSink, ReadFault, Sink, SinkFault, WriteFault};
 use std::alloc::Global;

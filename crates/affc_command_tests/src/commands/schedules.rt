@@ -1,6 +1,5 @@
 //! What `fold` makes of a source in the order of a schedule, with outputs that are known from outside.
-use super::rows::whole;
-use super::{BLUR, COPY, plain};
+use crate::served::{BLUR, COPY, plain, whole};
 use std::alloc::{AllocError, Global};
 use std::test::Fail;
 

@@ -1,5 +1,5 @@
 //! The words as they come, with memory enough.
-use super::words_of;
+use crate::served::words_of;
 use affc_cli::words::{Command, command_of};
 use std::alloc::{AllocError, Global};
 use std::test::Fail;

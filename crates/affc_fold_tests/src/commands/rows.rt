@@ -1,8 +1,6 @@
 //! What `fold` and `run` make of their files where nothing outside fails, with outputs that are known from outside.
 use super::kernels::KERNELS;
-use super::{BLUR, COPY, OPEN, WHOLE, plain};
-use affc_lex::prelude::PRELUDE;
-use std::alloc::{AllocError, Global};
+use affc_command_tests::served::{BLUR, COPY, WHOLE, plain, whole};
 use std::test::Fail;
 
 const PRINTED: &str =
@@ -571,20 +569,6 @@ const RUNS: [(&str, &str, &str, u8, &str, &str); 25] = [
         "",
     ),
 ];
-
-// The text with a long text in place of its name, where it has that.
-fn widened(alloc: Global, text: &str, name: &str, long: &str) -> Result<String, AllocError> {
-    match text.split_once(name) {
-        Some((before, behind)) => format!(in alloc; "{before}{long}{behind}"),
-        None => String::from_str(alloc, text),
-    }
-}
-
-// The source with the texts that its names stand for.
-pub fn whole(alloc: Global, source: &str) -> Result<String, AllocError> {
-    let source = widened(alloc, source, "{open}", OPEN)?;
-    widened(alloc, source.as_str(), "{prelude}", PRELUDE)
-}
 
 #[test]
 fn folds_are_served(rt: HostRuntime) -> Result<(), Fail> {

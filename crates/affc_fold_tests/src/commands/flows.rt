@@ -1,5 +1,5 @@
 //! Last-write trees, each followed at all points of its program beforehand, outside affc.
-use super::plain;
+use affc_command_tests::served::plain;
 use std::test::Fail;
 
 // A source and its trees.
@@ -26,8 +26,8 @@ const FLOWS: [(&str, &str); 5] = [
     ),
     // which statement stored it depends on parity
     (
-        "#include <stdint.h>\n#pragma affc param N 1 3\nvoid both(int64_t N, const uint64_t in[N], uint64_t out[2 * N]) {\n  uint64_t t[2 * N];\n  for (int64_t i = 0; i < N; i++)\n    t[2 * i] = in[i];\n  for (int64_t i = 0; i < N; i++)\n    t[2 * i + 1] = in[i] * 3ULL;\n  for (int64_t i = 0; i < 2 * N; i++)\n    out[i] = t[i];\n}\n",
-        "S0 load 0 in\n  input\nS1 load 0 in\n  input\nS2 load 0 t\n  test -N + 2 >= 0\n    test -N + 1 >= 0\n      test i - 2 * N + 1 >= 0\n        source S1(N - 1)\n        source S0(N - 1)\n      test -i + 2 >= 0\n        test -i + 1 >= 0\n          test -i >= 0\n            source S0(0)\n            source S1(0)\n          source S0(1)\n        source S1(N - 1)\n    test -i + 2 >= 0\n      test -i + 1 >= 0\n        test -i >= 0\n          source S0(0)\n          source S1(0)\n        source S0(1)\n      test -i + 4 >= 0\n        test -i + 3 >= 0\n          source S1(1)\n          source S0(2)\n        source S1(2)\n",
+        "#include <stdint.h>\n#pragma affc param N 1 4096\nvoid both(int64_t N, const uint64_t in[N], uint64_t out[2 * N]) {\n  uint64_t t[2 * N];\n  for (int64_t i = 0; i < N; i++)\n    t[2 * i] = in[i];\n  for (int64_t i = 0; i < N; i++)\n    t[2 * i + 1] = in[i] * 3ULL;\n  for (int64_t i = 0; i < 2 * N; i++)\n    out[i] = t[i];\n}\n",
+        "S0 load 0 in\n  input\nS1 load 0 in\n  input\nS2 load 0 t\n  div q0 = floor((i) / 2)\n    test i - 2 * q0 - 1 >= 0\n      source S1(q0)\n      source S0(q0)\n",
     ),
 ];
 

@@ -1,7 +1,6 @@
 //! What `fold` makes of temporaries: their sizes, the elements that the report shows, and what the folded text gives, all
 //! known from outside.
-use super::plain;
-use super::rows::whole;
+use affc_command_tests::served::{plain, whole};
 use std::alloc::{AllocError, Global};
 use std::test::Fail;
 
