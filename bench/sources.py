@@ -143,8 +143,10 @@ class Source:
 
 
 class Schedule:
+    """An order, and the rows of the bases that are given."""
+
     def __init__(self, text, source):
-        self.times, self.rows = None, {a: [f'x{k}' for k in range(len(source.arrays[a]))] for a in source.temps}
+        self.times, self.rows = None, {}
         for word, forms in re.findall(r'(?:^|;)\s*(S\d+|fold \w+):\s*\((.*?)\);', text.replace('\n', ' ').replace(';', ';;')):
             if word.startswith('fold '):
                 self.rows[word[5:]] = forms.split(',')
@@ -159,6 +161,3 @@ class Schedule:
         at = dict(zip(source.params, p))
         return sorted(range(len(trace)), key=lambda n: (
             eval(self.times[trace[n][0]], {}, at | dict(zip(source.statements[trace[n][0]], trace[n][1]))), trace[n][0]))
-
-    def place(self, array, x):
-        return tuple(eval(row, {}, {f'x{k}': v for k, v in enumerate(x)}) for row in self.rows[array])

@@ -1,5 +1,5 @@
 -- The command forms: their clap commands against the definition.
-use Rattle.std.proofs.Common.{◌≡◌, ◌∙◌, ◌≤◌, ◌-◌, ◌&&◌, ℕ, Bool, cond, true, false, true≢false, List, [], ◌∷◌, ◌++◌, length, take, drop, Option, Some, None, refl, sym, ap, ap₂, subst, arith, codes}
+use Rattle.std.proofs.Common.{◌≡◌, ◌∙◌, ◌≤◌, ◌-◌, ◌&&◌, ◌||◌, ℕ, Bool, cond, true, false, true≢false, List, [], ◌∷◌, ◌++◌, length, take, drop, Option, Some, None, refl, sym, ap, ap₂, subst, arith, codes}
 use Rattle.std.specs.Prelude.{option_and_then, option_map, String, string_bytes}
 use Rattle.std.specs.List.{list_any, slice_index_or}
 use Rattle.std.specs.Option.{is_some}
@@ -15,7 +15,8 @@ use Rattle.clap.specs.declared.parser.matches.ArgMatches.{ArgMatches}
 use Rattle.clap.specs.declared.parser.matches.Found.{Found}
 use Rattle.clap.proofs.FaultLemmas.{leaf_fault}
 use Rattle.clap.proofs.WalkLemmas.{first_value-rows}
-use Rattle.affc_cli.specs.Command.{Fold, Run, Flow, budget_of, Parts, Word, Operand, Named, End, Stray, among, answer, are_options, command_of, flow_of, fold_of, form_of, is_empty, parts_of, run_of, steps_of, texts_of, value_of, word_of}
+use Rattle.affc_cli.specs.declared.words.Settings.{Settings}
+use Rattle.affc_cli.specs.Command.{Fold, Run, Flow, settings_of, Parts, Word, Operand, Named, End, Stray, among, answer, are_options, command_of, flow_of, fold_of, form_of, is_empty, parts_of, run_of, steps_of, texts_of, value_of, word_of}
 use Rattle.affc_cli.specs.Parsed.{Parses, flow_app, fold_app, is_clean, run_app}
 use Rattle.affc_cli.proofs.Clap.Uses.{Text, Uses, or_false, paired, same_name}
 use Rattle.affc_cli.proofs.Clap.Plain.{plain_rule, or_else-first}
@@ -27,7 +28,7 @@ use Rattle.affc_cli.proofs.Clap.Levels.{first, not_value, no_default, no_default
 -- ---- The rules as building leaves them
 
 abbrev pub fold_rules : List Rule
-fold_rules = plain_rule (codes "source") None (Some 1) true ∷ plain_rule (codes "schedule") None (Some 2) false ∷ plain_rule (codes "budget") (Some (codes "budget")) None false ∷ []
+fold_rules = plain_rule (codes "source") None (Some 1) true ∷ plain_rule (codes "schedule") None (Some 2) false ∷ plain_rule (codes "budget") (Some (codes "budget")) None false ∷ plain_rule (codes "cost") (Some (codes "cost")) None false ∷ []
 
 abbrev pub run_rules : List Rule
 run_rules = plain_rule (codes "source") None (Some 1) true ∷ plain_rule (codes "data") None (Some 2) true ∷ plain_rule (codes "steps") (Some (codes "steps")) None false ∷ []
@@ -41,7 +42,7 @@ abbrev fold_ids : List Text
 fold_ids = codes "source" ∷ codes "schedule" ∷ []
 
 abbrev fold_names : List Text
-fold_names = codes "budget" ∷ []
+fold_names = codes "budget" ∷ codes "cost" ∷ []
 
 abbrev run_ids : List Text
 run_ids = codes "source" ∷ codes "data" ∷ []
@@ -57,11 +58,28 @@ and_true false = refl
 only : (name n : Text) → among n (name ∷ []) ≡ true → name ≡ n
 only name n has = same_name name n (sym (or_false (bytes_eq name n)) ∙ has)
 
+-- one of two names
+either : (P : Text → Type 0) (a b n : Text) → P a → P b → among n (a ∷ b ∷ []) ≡ true → P n
+either P a b n first second has = by_test (bytes_eq a n) refl has
+  where
+    by_test : (t : Bool) → bytes_eq a n ≡ t → (t || among n (b ∷ [])) ≡ true → P n
+    by_test true e has = subst P (same_name a n e) first
+    by_test false e has = subst P (only b n has) second
+
+neither_name : (a b n : Text) → among n (a ∷ b ∷ []) ≡ false → (bytes_eq a n ≡ false) × (bytes_eq b n ≡ false)
+neither_name a b n none = by_tests (bytes_eq a n) (bytes_eq b n) none
+  where
+    by_tests : (t u : Bool) → (t || (u || false)) ≡ false → (t ≡ false) × (u ≡ false)
+    by_tests true u e = absurd (true≢false e)
+    by_tests false true e = absurd (true≢false e)
+    by_tests false false e = (refl, refl)
+
 fold_options : HasOptions fold_rules fold_names
 fold_options = record {
-  these = λ n has. subst (λ (x : Text). IsOption fold_rules x) (only (codes "budget") n has)
-      (record { long = Some (codes "budget"); index = None; required = false; by_long = refl; by_id = refl });
-  no_other = λ n none. rw none refl;
+  these = λ n has. either (λ (x : Text). IsOption fold_rules x) (codes "budget") (codes "cost") n
+      (record { long = Some (codes "budget"); index = None; required = false; by_long = refl; by_id = refl })
+      (record { long = Some (codes "cost"); index = None; required = false; by_long = refl; by_id = refl }) has;
+  no_other = λ n none. let e = neither_name (codes "budget") (codes "cost") n none in rw (e.0, e.1) refl;
 }
 
 fold_stands : Stands fold_rules fold_names [] fold_ids fold_names 1
@@ -71,7 +89,7 @@ fold_stands = record {
     (record { long = None; index = Some 2; required = false; by_index = refl; by_id = refl }, refl),
   );
   distinct = refl;
-  apart = λ x has. subst (λ (n : Text). among n fold_ids ≡ false) (only (codes "budget") x has) refl;
+  apart = λ x has. either (λ (n : Text). among n fold_ids ≡ false) (codes "budget") (codes "cost") x refl refl has;
   left = λ x. sym (and_true (among x fold_names));
   fresh = λ x has. refl;
 }
@@ -126,8 +144,10 @@ fold_defaults rows =
         no_default_fault (codes "schedule") None (Some 2) false rows,
         second_kept,
         no_default_fault (codes "budget") (Some (codes "budget")) None false rows,
+        no_default (codes "budget") (Some (codes "budget")) None false rows,
+        no_default_fault (codes "cost") (Some (codes "cost")) None false rows,
       ) refl,
-      rw (first_kept, second_kept, no_default (codes "budget") (Some (codes "budget")) None false rows) refl,
+      rw (first_kept, second_kept, no_default (codes "budget") (Some (codes "budget")) None false rows, no_default (codes "cost") (Some (codes "cost")) None false rows) refl,
     )
 
 run_defaults : HasNoDefaults (codes "run") run_rules
@@ -178,9 +198,9 @@ flow_wants rows e none = let bad = rw e at none in cc
 -- ---- Each form's clap command, against the definition
 
 pub data FoldReads (ws : List Text) : Type 0 where
-  fold_taken : (source : Text) (schedule budget : Option Text) → fault_of fold_app ws ≡ [] → first_of (codes "source") (matches_of fold_app ws) ≡ Some source
+  fold_taken : (source : Text) (schedule budget cost : Option Text) → fault_of fold_app ws ≡ [] → first_of (codes "source") (matches_of fold_app ws) ≡ Some source
       → first_of (codes "schedule") (matches_of fold_app ws) ≡ schedule → first_of (codes "budget") (matches_of fold_app ws) ≡ budget
-      → answer (codes "fold") ws ≡ option_map (Fold source schedule) (budget_of budget) → FoldReads ws
+      → first_of (codes "cost") (matches_of fold_app ws) ≡ cost → answer (codes "fold") ws ≡ option_map (Fold source schedule) (settings_of budget cost) → FoldReads ws
   fold_refused : (fault_of fold_app ws ≡ [] → ⊥) → answer (codes "fold") ws ≡ None → FoldReads ws
 
 abbrev fold_rows : List Text → List Row
@@ -202,18 +222,20 @@ module _ (ws : List Text) (faultless : faults (codes "fold") fold_rules first ws
       fold_refused (λ e. fold_wants (fold_rows ws) (is_found (codes "source") ∙ ap is_some none) (sym (level-faultless (codes "fold") fold_rules ws faultless) ∙ (sym (fold_fault ws) ∙ e))) (rw is refl)
   fold_by (source ∷ []) options is short fit found is_found =
       let none = not_value (codes "schedule") fold_names options fit refl in
-      fold_taken source None (value_of (codes "budget") options)
+      fold_taken source None (value_of (codes "budget") options) (value_of (codes "cost") options)
       (fold_fault ws ∙ level-faultless (codes "fold") fold_rules ws faultless ∙ fold_met (fold_rows ws) (is_found (codes "source")))
       (ap (first_of (codes "source")) (fold_matches ws) ∙ found (codes "source"))
       (ap (first_of (codes "schedule")) (fold_matches ws) ∙ found (codes "schedule") ∙ none)
       (ap (first_of (codes "budget")) (fold_matches ws) ∙ found (codes "budget"))
+      (ap (first_of (codes "cost")) (fold_matches ws) ∙ found (codes "cost"))
       (rw (is, fit) refl)
   fold_by (source ∷ schedule ∷ []) options is short fit found is_found =
-      fold_taken source (Some schedule) (value_of (codes "budget") options)
+      fold_taken source (Some schedule) (value_of (codes "budget") options) (value_of (codes "cost") options)
       (fold_fault ws ∙ level-faultless (codes "fold") fold_rules ws faultless ∙ fold_met (fold_rows ws) (is_found (codes "source")))
       (ap (first_of (codes "source")) (fold_matches ws) ∙ found (codes "source"))
       (ap (first_of (codes "schedule")) (fold_matches ws) ∙ found (codes "schedule"))
       (ap (first_of (codes "budget")) (fold_matches ws) ∙ found (codes "budget"))
+      (ap (first_of (codes "cost")) (fold_matches ws) ∙ found (codes "cost"))
       (rw (is, fit) refl)
   fold_by (source ∷ schedule ∷ more ∷ operands) options is short fit found is_found = absurd (omega arith)
 
@@ -221,7 +243,7 @@ pub fold_reads : (ws : List Text) → is_clean ws ≡ true → FoldReads ws
 fold_reads ws clean = go (read (codes "fold") fold_rules fold_ids fold_names ws fold_options fold_stands clean)
   where
     with_options : (source : Text) (schedule : Option Text) (options : Uses) (b : Bool) → (b ≡ true → ⊥)
-        → cond b (option_map (Fold source schedule) (budget_of (value_of (codes "budget") options))) None ≡ None
+        → cond b (option_map (Fold source schedule) (settings_of (value_of (codes "budget") options) (value_of (codes "cost") options))) None ≡ None
     with_options source schedule options true bad = absurd (bad refl)
     with_options source schedule options false bad = refl
 
@@ -356,24 +378,26 @@ pub fold_none : (ws : List Text) → is_clean ws ≡ true → Parses fold_app ws
 fold_none ws clean fails = go (fold_reads ws clean)
   where
     go : FoldReads ws → answer (codes "fold") ws ≡ None
-    go (fold_taken source schedule budget fault is_source is_schedule is_budget is) = absurd (fails fault)
+    go (fold_taken source schedule budget cost fault is_source is_schedule is_budget is_cost is) = absurd (fails fault)
     go (fold_refused fault is) = is
 
 pub record FoldFinds (ws : List Text) (f : Found) : Type 0 where
   pub source : Text
   pub is_source : first_value f (codes "source") ≡ Some source
-  pub is : answer (codes "fold") ws ≡ option_map (Fold source (first_value f (codes "schedule"))) (budget_of (first_value f (codes "budget")))
+  pub is : answer (codes "fold") ws ≡ option_map (Fold source (first_value f (codes "schedule"))) (settings_of (first_value f (codes "budget")) (first_value f (codes "cost")))
 
 pub fold_some : (ws : List Text) (m : ArgMatches) → is_clean ws ≡ true → Parses fold_app ws (Some m) → FoldFinds ws (found_of m)
 fold_some ws m clean parses = go (fold_reads ws clean)
   where
     go : FoldReads ws → FoldFinds ws (found_of m)
-    go (fold_taken source schedule budget fault is_source is_schedule is_budget is) = record {
+    go (fold_taken source schedule budget cost fault is_source is_schedule is_budget is_cost is) = record {
       source = source;
       is_source = text_at (found_of m) fold_app ws (codes "source") (Some source) parses.1 is_source;
-      is = is ∙ ap₂ (λ s o. option_map (Fold source s) (budget_of o))
+      is = is ∙ ap₂ (λ s o. option_map (Fold source s) (settings_of o cost))
           (sym (text_at (found_of m) fold_app ws (codes "schedule") schedule parses.1 is_schedule))
-          (sym (text_at (found_of m) fold_app ws (codes "budget") budget parses.1 is_budget));
+          (sym (text_at (found_of m) fold_app ws (codes "budget") budget parses.1 is_budget))
+          ∙ ap (λ o. option_map (Fold source (first_value (found_of m) (codes "schedule"))) (settings_of (first_value (found_of m) (codes "budget")) o))
+          (sym (text_at (found_of m) fold_app ws (codes "cost") cost parses.1 is_cost));
     }
     go (fold_refused fault is) = absurd (fault parses.0)
 
@@ -437,19 +461,19 @@ module _ (ws : List Text) (f : Found) where
   pub fold_missing : FoldFinds ws f → None ≡ first_value f (codes "source") → None ≡ answer (codes "fold") ws
   fold_missing finds none = absurd (no_text finds.source (none ∙ finds.is_source))
 
-  fold_answer_is : (source : Text) (schedule : Option Text) (budget : Option (Option ℕ)) → FoldFinds ws f → Some source ≡ first_value f (codes "source")
-      → schedule ≡ first_value f (codes "schedule") → budget ≡ budget_of (first_value f (codes "budget")) → option_map (Fold source schedule) budget ≡ answer (codes "fold") ws
-  fold_answer_is source schedule budget finds is_source is_schedule is_budget =
-      ap₂ (λ s o. option_map (Fold s o) budget) (some_text (is_source ∙ finds.is_source)) is_schedule
-      ∙ ap (option_map (Fold finds.source (first_value f (codes "schedule")))) is_budget ∙ sym finds.is
+  fold_answer_is : (source : Text) (schedule : Option Text) (settings : Option Settings) → FoldFinds ws f → Some source ≡ first_value f (codes "source")
+      → schedule ≡ first_value f (codes "schedule") → settings ≡ settings_of (first_value f (codes "budget")) (first_value f (codes "cost")) → option_map (Fold source schedule) settings ≡ answer (codes "fold") ws
+  fold_answer_is source schedule settings finds is_source is_schedule are_settings =
+      ap₂ (λ s o. option_map (Fold s o) settings) (some_text (is_source ∙ finds.is_source)) is_schedule
+      ∙ ap (option_map (Fold finds.source (first_value f (codes "schedule")))) are_settings ∙ sym finds.is
 
-  pub fold_no_budget : (source : Text) (schedule : Option Text) → FoldFinds ws f → Some source ≡ first_value f (codes "source")
-      → schedule ≡ first_value f (codes "schedule") → None ≡ budget_of (first_value f (codes "budget")) → None ≡ answer (codes "fold") ws
-  fold_no_budget source schedule = fold_answer_is source schedule None
+  pub fold_no_settings : (source : Text) (schedule : Option Text) → FoldFinds ws f → Some source ≡ first_value f (codes "source")
+      → schedule ≡ first_value f (codes "schedule") → None ≡ settings_of (first_value f (codes "budget")) (first_value f (codes "cost")) → None ≡ answer (codes "fold") ws
+  fold_no_settings source schedule = fold_answer_is source schedule None
 
-  pub fold_answer : (source : Text) (schedule : Option Text) (budget : Option ℕ) → FoldFinds ws f → Some source ≡ first_value f (codes "source")
-      → schedule ≡ first_value f (codes "schedule") → Some budget ≡ budget_of (first_value f (codes "budget")) → Some (Fold source schedule budget) ≡ answer (codes "fold") ws
-  fold_answer source schedule budget = fold_answer_is source schedule (Some budget)
+  pub fold_answer : (source : Text) (schedule : Option Text) (settings : Settings) → FoldFinds ws f → Some source ≡ first_value f (codes "source")
+      → schedule ≡ first_value f (codes "schedule") → Some settings ≡ settings_of (first_value f (codes "budget")) (first_value f (codes "cost")) → Some (Fold source schedule settings) ≡ answer (codes "fold") ws
+  fold_answer source schedule settings = fold_answer_is source schedule (Some settings)
 
   pub run_no_source : RunFinds ws f → None ≡ first_value f (codes "source") → None ≡ answer (codes "run") ws
   run_no_source finds none = absurd (no_text finds.source (none ∙ finds.is_source))

@@ -11,6 +11,7 @@ use Rattle.affc_cli.specs.Telling.{IsTold, Reports, IsPut, IsPutShort, IsPutFail
 use Rattle.affc_cli.specs.declared.pieces.Pieces.{Pieces}
 use Rattle.affc_cli.specs.declared.refusal.Operand.TheVariants as operand
 use Rattle.affc_cli.specs.declared.refusal.Refusal.{Refusal}
+use Rattle.affc_cli.specs.declared.words.Settings.{Settings}
 use Rattle.affc_cli.specs.declared.refusal.Refusal.TheVariants.{Words, Unread, Source, Printed, Schedule, Meaning, Stuck, Illegal, Budget, Memory, Steps, Data}
 
 -- ---- Statuses and lines
@@ -58,17 +59,17 @@ is_memory Steps e = absurd (omega arith)
 is_memory (Data number) e = absurd (omega arith)
 
 memory_line : (command : Command) (name : List ℕ) → line_of Memory name ≡ refusal_line command Memory
-memory_line (Fold source schedule budget) name = refl
+memory_line (Fold source schedule settings) name = refl
 memory_line (Run source feed limit) name = refl
 memory_line (Flow source) name = refl
 
 short_line : (command : Command) → refusal_line command Memory ≡ line_of Memory []
-short_line (Fold source schedule budget) = refl
+short_line (Fold source schedule settings) = refl
 short_line (Run source feed limit) = refl
 short_line (Flow source) = refl
 
 memory_cause : (command : Command) (before now : FolderState) → Cause command Memory before now
-memory_cause (Fold source schedule budget) before now = tt
+memory_cause (Fold source schedule settings) before now = tt
 memory_cause (Run source feed limit) before now = tt
 memory_cause (Flow source) before now = tt
 
@@ -77,35 +78,35 @@ memory_reads : (command : Command) (before now : FolderState) → IsReadAtMost (
 memory_reads command before now few = record { exact = λ other. absurd (other refl); few = few }
 
 ends_with_0 : (command : Command) → Contains (statuses_of command) 0
-ends_with_0 (Fold source schedule budget) = (0, lit< tt, refl)
+ends_with_0 (Fold source schedule settings) = (0, lit< tt, refl)
 ends_with_0 (Run source feed limit) = (0, lit< tt, refl)
 ends_with_0 (Flow source) = (0, lit< tt, refl)
 
 ends_with_9 : (command : Command) → Contains (statuses_of command) 9
-ends_with_9 (Fold source schedule budget) = (7, lit< tt, refl)
+ends_with_9 (Fold source schedule settings) = (7, lit< tt, refl)
 ends_with_9 (Run source feed limit) = (4, lit< tt, refl)
 ends_with_9 (Flow source) = (4, lit< tt, refl)
 
 ends_with_10 : (command : Command) → Contains (statuses_of command) 10
-ends_with_10 (Fold source schedule budget) = (8, lit< tt, refl)
+ends_with_10 (Fold source schedule settings) = (8, lit< tt, refl)
 ends_with_10 (Run source feed limit) = (5, lit< tt, refl)
 ends_with_10 (Flow source) = (5, lit< tt, refl)
 
 ends_with : (command : Command) (refusal : Refusal) (before now : FolderState) → Cause command refusal before now → Contains (statuses_of command) (status_of refusal)
-ends_with (Fold source schedule budget) Words before now cause = absurd cause
-ends_with (Fold source schedule budget) (Unread operand.Source why) before now cause = (1, lit< tt, refl)
-ends_with (Fold source schedule budget) (Unread operand.Schedule why) before now cause = (1, lit< tt, refl)
-ends_with (Fold source schedule budget) (Unread operand.Data why) before now cause = absurd cause
-ends_with (Fold source schedule budget) (Source fault) before now cause = (2, lit< tt, refl)
-ends_with (Fold source schedule budget) (Printed place) before now cause = (2, lit< tt, refl)
-ends_with (Fold source schedule budget) (Schedule line) before now cause = (4, lit< tt, refl)
-ends_with (Fold source schedule budget) (Meaning line) before now cause = (3, lit< tt, refl)
-ends_with (Fold source schedule budget) (Stuck line) before now cause = absurd cause
-ends_with (Fold source schedule budget) (Illegal line) before now cause = (5, lit< tt, refl)
-ends_with (Fold source schedule budget) Budget before now cause = (6, lit< tt, refl)
-ends_with (Fold source schedule budget) Memory before now cause = (7, lit< tt, refl)
-ends_with (Fold source schedule budget) Steps before now cause = absurd cause
-ends_with (Fold source schedule budget) (Data number) before now cause = absurd cause
+ends_with (Fold source schedule settings) Words before now cause = absurd cause
+ends_with (Fold source schedule settings) (Unread operand.Source why) before now cause = (1, lit< tt, refl)
+ends_with (Fold source schedule settings) (Unread operand.Schedule why) before now cause = (1, lit< tt, refl)
+ends_with (Fold source schedule settings) (Unread operand.Data why) before now cause = absurd cause
+ends_with (Fold source schedule settings) (Source fault) before now cause = (2, lit< tt, refl)
+ends_with (Fold source schedule settings) (Printed place) before now cause = (2, lit< tt, refl)
+ends_with (Fold source schedule settings) (Schedule line) before now cause = (4, lit< tt, refl)
+ends_with (Fold source schedule settings) (Meaning line) before now cause = (3, lit< tt, refl)
+ends_with (Fold source schedule settings) (Stuck line) before now cause = absurd cause
+ends_with (Fold source schedule settings) (Illegal line) before now cause = (5, lit< tt, refl)
+ends_with (Fold source schedule settings) Budget before now cause = (6, lit< tt, refl)
+ends_with (Fold source schedule settings) Memory before now cause = (7, lit< tt, refl)
+ends_with (Fold source schedule settings) Steps before now cause = absurd cause
+ends_with (Fold source schedule settings) (Data number) before now cause = absurd cause
 ends_with (Run source feed limit) Words before now cause = absurd cause
 ends_with (Run source feed limit) (Unread operand.Source why) before now cause = (1, lit< tt, refl)
 ends_with (Run source feed limit) (Unread operand.Schedule why) before now cause = absurd cause
@@ -316,19 +317,19 @@ source_meant : (refusal : Refusal) (source : List ℕ) → source ≡ fold_file 
 source_meant (Unread operand.Schedule why) source = refl
 source_meant _ source = refl
 
-fold_caused : (source : List ℕ) (budget : Option ℕ) (before now : Outside) (made : Result Pieces Refusal) → IsRead 1 before.folder now.folder
-    → IfErr made (λ refusal. FoldCause refusal source None budget before.folder now.folder) → IfErr made (IsCaused (Fold source None budget) source before now)
-fold_caused source budget before now (Ok text) reads cause = tt
-fold_caused source budget before now (Err refusal) reads cause =
+fold_caused : (source : List ℕ) (settings : Settings) (before now : Outside) (made : Result Pieces Refusal) → IsRead 1 before.folder now.folder
+    → IfErr made (λ refusal. FoldCause refusal source None settings before.folder now.folder) → IfErr made (IsCaused (Fold source None settings) source before now)
+fold_caused source settings before now (Ok text) reads cause = tt
+fold_caused source settings before now (Err refusal) reads cause =
     (cause, (record { exact = λ _. reads; few = (1, (one_of_one, reads)) }, ap (line_of refusal) (source_meant refusal source)))
 
-fold_by_caused : (source schedule : List ℕ) (budget : Option ℕ) (name : List ℕ) (before now : Outside) (made : Result Pieces Refusal)
-    → IfErr made (λ refusal. FoldCause refusal source (Some schedule) budget before.folder now.folder)
-    → IfErr made (λ refusal. HasRead (Fold source (Some schedule) budget) refusal before.folder now.folder)
+fold_by_caused : (source schedule : List ℕ) (settings : Settings) (name : List ℕ) (before now : Outside) (made : Result Pieces Refusal)
+    → IfErr made (λ refusal. FoldCause refusal source (Some schedule) settings before.folder now.folder)
+    → IfErr made (λ refusal. HasRead (Fold source (Some schedule) settings) refusal before.folder now.folder)
     → IfErr made (λ refusal. name ≡ fold_file refusal source (Some schedule))
-    → IfErr made (IsCaused (Fold source (Some schedule) budget) name before now)
-fold_by_caused source schedule budget name before now (Ok text) cause reads is = tt
-fold_by_caused source schedule budget name before now (Err refusal) cause reads is = (cause, (reads, ap (line_of refusal) is))
+    → IfErr made (IsCaused (Fold source (Some schedule) settings) name before now)
+fold_by_caused source schedule settings name before now (Ok text) cause reads is = tt
+fold_by_caused source schedule settings name before now (Err refusal) cause reads is = (cause, (reads, ap (line_of refusal) is))
 
 fold_read : (before now : Outside) (made : Result Pieces Refusal) → IsRead 1 before.folder now.folder → OnOk made (IsRead 1 before.folder now.folder)
 fold_read before now (Ok text) reads = reads
@@ -341,22 +342,22 @@ run_caused : (source feed : List ℕ) (limit : ℕ) (name : List ℕ) (before no
 run_caused source feed limit name before now (Ok text) cause reads is = tt
 run_caused source feed limit name before now (Err refusal) cause reads is = (cause, (reads, ap (line_of refusal) is))
 
-pub fold_ends : (source : List ℕ) (budget : Option ℕ) (before now : Outside) (status : ℕ) (made : Result Pieces Refusal)
-    → IfOk made (λ m. FoldPromises source None budget before.folder.held m.text.items m.report.items) → IfErr made (λ refusal. FoldCause refusal source None budget before.folder now.folder)
+pub fold_ends : (source : List ℕ) (settings : Settings) (before now : Outside) (status : ℕ) (made : Result Pieces Refusal)
+    → IfOk made (λ m. FoldPromises source None settings before.folder.held m.text.items m.report.items) → IfErr made (λ refusal. FoldCause refusal source None settings before.folder now.folder)
     → IsRead 1 before.folder now.folder
-    → Ends made source before.out now.out before.err now.err status → Keeps before now → Runs (Fold source None budget) before now status
-fold_ends source budget before now status made promised cause reads ends keeps =
-    ends_runs (Fold source None budget) source before now status made promised (fold_read before now made reads) (fold_caused source budget before now made reads cause) ends keeps
+    → Ends made source before.out now.out before.err now.err status → Keeps before now → Runs (Fold source None settings) before now status
+fold_ends source settings before now status made promised cause reads ends keeps =
+    ends_runs (Fold source None settings) source before now status made promised (fold_read before now made reads) (fold_caused source settings before now made reads cause) ends keeps
 
-pub fold_by_ends : (source schedule : List ℕ) (budget : Option ℕ) (name : List ℕ) (before now : Outside) (status : ℕ) (made : Result Pieces Refusal)
-    → IfOk made (λ m. FoldPromises source (Some schedule) budget before.folder.held m.text.items m.report.items) → OnOk made (IsRead 2 before.folder now.folder)
-    → IfErr made (λ refusal. FoldCause refusal source (Some schedule) budget before.folder now.folder)
-    → IfErr made (λ refusal. HasRead (Fold source (Some schedule) budget) refusal before.folder now.folder)
+pub fold_by_ends : (source schedule : List ℕ) (settings : Settings) (name : List ℕ) (before now : Outside) (status : ℕ) (made : Result Pieces Refusal)
+    → IfOk made (λ m. FoldPromises source (Some schedule) settings before.folder.held m.text.items m.report.items) → OnOk made (IsRead 2 before.folder now.folder)
+    → IfErr made (λ refusal. FoldCause refusal source (Some schedule) settings before.folder now.folder)
+    → IfErr made (λ refusal. HasRead (Fold source (Some schedule) settings) refusal before.folder now.folder)
     → IfErr made (λ refusal. name ≡ fold_file refusal source (Some schedule))
-    → Ends made name before.out now.out before.err now.err status → Keeps before now → Runs (Fold source (Some schedule) budget) before now status
-fold_by_ends source schedule budget name before now status made promised reads cause refused_reads is ends keeps =
-    ends_runs (Fold source (Some schedule) budget) name before now status made promised reads
-    (fold_by_caused source schedule budget name before now made cause refused_reads is) ends keeps
+    → Ends made name before.out now.out before.err now.err status → Keeps before now → Runs (Fold source (Some schedule) settings) before now status
+fold_by_ends source schedule settings name before now status made promised reads cause refused_reads is ends keeps =
+    ends_runs (Fold source (Some schedule) settings) name before now status made promised reads
+    (fold_by_caused source schedule settings name before now made cause refused_reads is) ends keeps
 
 pub run_ends : (source feed : List ℕ) (limit : ℕ) (name : List ℕ) (before now : Outside) (status : ℕ) (made : Result Pieces Refusal)
     → IfOk made (λ m. RunPromises source feed limit before.folder.held m.text.items m.report.items) → OnOk made (IsRead 2 before.folder now.folder)

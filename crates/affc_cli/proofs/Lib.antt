@@ -8,6 +8,7 @@ pub mod Telling
 pub mod Ending
 pub mod Executed
 pub mod Reading
+pub mod Priced
 pub mod Clap
 pub mod Commands
 pub mod Numbers

@@ -1,5 +1,5 @@
 -- What a source is refused for, from what its compilation said.
-use Rattle.std.proofs.Common.{◌≡◌, ℕ, ℤ, List, Option, Some, None, IsSome, refl, ap, sym, subst, ◌∙◌, inl, inr}
+use Rattle.std.proofs.Common.{◌≡◌, ℕ, ℤ, List, Option, Some, None, ap, sym, ◌∙◌, inl, inr}
 use Rattle.std.proofs.lemmas.Option.{none-some}
 use Rattle.affc_ast.specs.declared.tree.Instance.{Instance}
 use Rattle.affc_ast.specs.declared.tree.Program.{Program}
@@ -11,6 +11,7 @@ use Rattle.affc_cli.specs.Meaning.{meaning_line, unwritten_line, IsMeantLine}
 use Rattle.affc_cli.specs.Schedule.{sched_line, illegal_line, IsSchedLine, IsIllegalLine}
 use Rattle.affc_cli.specs.Refusal.{UnreadCause, MeantCause, TextCause, FlowTextCause}
 use Rattle.affc_cli.specs.declared.refusal.Refusal.{Refusal}
+use Rattle.affc_cli.specs.declared.words.Settings.{Settings}
 use Rattle.affc_cli.specs.declared.refusal.Refusal.TheVariants.{Words, Unread, Source, Printed, Schedule, Meaning, Stuck, Illegal, Budget, Memory, Steps, Data}
 
 -- one text reads as one program
@@ -56,19 +57,19 @@ turned source schedule line p a b program law reads says is = record {
 }
 
 -- a text that is no program is refused so by `fold` too
-pub unread : (source : List ℕ) (schedule : Option (List ℕ)) (budget : Option ℕ) (refusal : Refusal) → UnreadCause source refusal → TextCause source schedule budget refusal
-unread source schedule budget Words cause = absurd cause
-unread source schedule budget (Unread file why) cause = absurd cause
-unread source schedule budget (Source fault) cause = cause
-unread source schedule budget (Printed place) cause = absurd cause
-unread source schedule budget (Schedule line) cause = absurd cause
-unread source schedule budget (Meaning line) cause = absurd cause
-unread source schedule budget (Stuck line) cause = absurd cause
-unread source schedule budget (Illegal line) cause = absurd cause
-unread source schedule budget Budget cause = absurd cause
-unread source schedule budget Memory cause = tt
-unread source schedule budget Steps cause = absurd cause
-unread source schedule budget (Data number) cause = absurd cause
+pub unread : (source : List ℕ) (schedule : Option (List ℕ)) (settings : Settings) (refusal : Refusal) → UnreadCause source refusal → TextCause source schedule settings refusal
+unread source schedule settings Words cause = absurd cause
+unread source schedule settings (Unread file why) cause = absurd cause
+unread source schedule settings (Source fault) cause = cause
+unread source schedule settings (Printed place) cause = absurd cause
+unread source schedule settings (Schedule line) cause = absurd cause
+unread source schedule settings (Meaning line) cause = absurd cause
+unread source schedule settings (Stuck line) cause = absurd cause
+unread source schedule settings (Illegal line) cause = absurd cause
+unread source schedule settings Budget cause = absurd cause
+unread source schedule settings Memory cause = tt
+unread source schedule settings Steps cause = absurd cause
+unread source schedule settings (Data number) cause = absurd cause
 
 -- and by what looks at its program
 pub unread_meant : (source : List ℕ) (schedule : Option (List ℕ)) (refusal : Refusal) → UnreadCause source refusal → MeantCause source schedule refusal
@@ -86,19 +87,19 @@ unread_meant source schedule Steps cause = absurd cause
 unread_meant source schedule (Data number) cause = absurd cause
 
 -- what is wrong with a program is told by `fold`, and by `flow`
-pub meant_text : (source : List ℕ) (schedule : Option (List ℕ)) (budget : Option ℕ) (refusal : Refusal) → MeantCause source schedule refusal → TextCause source schedule budget refusal
-meant_text source schedule budget Words cause = absurd cause
-meant_text source schedule budget (Unread file why) cause = absurd cause
-meant_text source schedule budget (Source fault) cause = cause
-meant_text source schedule budget (Printed place) cause = absurd cause
-meant_text source schedule budget (Schedule line) cause = absurd cause
-meant_text source schedule budget (Meaning line) cause = cause
-meant_text source schedule budget (Stuck line) cause = absurd cause
-meant_text source schedule budget (Illegal line) cause = absurd cause
-meant_text source schedule budget Budget cause = absurd cause
-meant_text source schedule budget Memory cause = tt
-meant_text source schedule budget Steps cause = absurd cause
-meant_text source schedule budget (Data number) cause = absurd cause
+pub meant_text : (source : List ℕ) (schedule : Option (List ℕ)) (settings : Settings) (refusal : Refusal) → MeantCause source schedule refusal → TextCause source schedule settings refusal
+meant_text source schedule settings Words cause = absurd cause
+meant_text source schedule settings (Unread file why) cause = absurd cause
+meant_text source schedule settings (Source fault) cause = cause
+meant_text source schedule settings (Printed place) cause = absurd cause
+meant_text source schedule settings (Schedule line) cause = absurd cause
+meant_text source schedule settings (Meaning line) cause = cause
+meant_text source schedule settings (Stuck line) cause = absurd cause
+meant_text source schedule settings (Illegal line) cause = absurd cause
+meant_text source schedule settings Budget cause = absurd cause
+meant_text source schedule settings Memory cause = tt
+meant_text source schedule settings Steps cause = absurd cause
+meant_text source schedule settings (Data number) cause = absurd cause
 
 pub meant_trees : (source : List ℕ) (refusal : Refusal) → MeantCause source None refusal → FlowTextCause source refusal
 meant_trees source Words cause = absurd cause
@@ -114,10 +115,6 @@ meant_trees source Memory cause = tt
 meant_trees source Steps cause = absurd cause
 meant_trees source (Data number) cause = absurd cause
 
--- units were spent where there is a limit
-pub counted : (budget limit before : Option ℕ) (spent : ℕ) → before ≡ budget → limit ≡ before → limit ≡ Some spent → IsSome budget
-counted budget limit before spent given kept e = subst IsSome (sym e ∙ kept ∙ given) refl
-
--- and none where there is no limit
+-- no units are spent where there is no limit
 pub uncounted : (limit before : Option ℕ) (spent : ℕ) → before ≡ None → limit ≡ before → limit ≡ Some spent → ⊥
 uncounted limit before spent given kept e = none-some spent (sym (kept ∙ given) ∙ e)

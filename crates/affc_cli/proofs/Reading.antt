@@ -9,6 +9,7 @@ use Rattle.affc_cli.specs.Refusal.{TextCause, FoldTexts, FoldCause, FlowTextCaus
 use Rattle.affc_cli.specs.Run.{RunsTo, RunTextCause}
 use Rattle.affc_cli.specs.declared.pieces.Pieces.{Pieces}
 use Rattle.affc_cli.specs.declared.refusal.Refusal.{Refusal}
+use Rattle.affc_cli.specs.declared.words.Settings.{Settings}
 use Rattle.affc_cli.specs.declared.refusal.Refusal.TheVariants.{Words, Unread, Source, Printed, Schedule, Meaning, Stuck, Illegal, Budget, Memory, Steps, Data}
 
 -- ---- The two texts, of which the second was read from a folder that holds the same
@@ -65,30 +66,30 @@ with_schedule held later source schedule s s' f f' has_source is same has_schedu
   schedule_held = subst (Holds held schedule) (sym is') (subst (λ h. Holds h schedule f) same has_schedule);
 }
 
-pub fold_promised : (held : Option Files) (source : List ℕ) (schedule : Option (List ℕ)) (budget : Option ℕ) (t : FoldTexts held source schedule) (made : Result Pieces Refusal)
-    → IfOk made (λ m. FoldsWithin t.source_text t.schedule_text budget m.text.items m.report.items) → IfOk made (λ m. FoldPromises source schedule budget held m.text.items m.report.items)
-fold_promised held source schedule budget t (Ok m) folds = record { texts = t; folds_to = folds }
-fold_promised held source schedule budget t (Err refusal) folds = tt
+pub fold_promised : (held : Option Files) (source : List ℕ) (schedule : Option (List ℕ)) (settings : Settings) (t : FoldTexts held source schedule) (made : Result Pieces Refusal)
+    → IfOk made (λ m. FoldsWithin t.source_text t.schedule_text settings m.text.items m.report.items) → IfOk made (λ m. FoldPromises source schedule settings held m.text.items m.report.items)
+fold_promised held source schedule settings t (Ok m) folds = record { texts = t; folds_to = folds }
+fold_promised held source schedule settings t (Err refusal) folds = tt
 
-refused : (source : List ℕ) (schedule : Option (List ℕ)) (budget : Option ℕ) (before now : FolderState) (t : FoldTexts before.held source schedule) (refusal : Refusal)
-    → TextCause t.source_text t.schedule_text budget refusal → FoldCause refusal source schedule budget before now
-refused source schedule budget before now t Words cause = absurd cause
-refused source schedule budget before now t (Unread file why) cause = absurd cause
-refused source schedule budget before now t (Source fault) cause = record { texts = t; cause = cause }
-refused source schedule budget before now t (Printed place) cause = record { texts = t; cause = cause }
-refused source schedule budget before now t (Schedule line) cause = record { texts = t; cause = cause }
-refused source schedule budget before now t (Meaning line) cause = record { texts = t; cause = cause }
-refused source schedule budget before now t (Stuck line) cause = absurd cause
-refused source schedule budget before now t (Illegal line) cause = record { texts = t; cause = cause }
-refused source schedule budget before now t Budget cause = record { texts = t; cause = cause }
-refused source schedule budget before now t Memory cause = tt
-refused source schedule budget before now t Steps cause = absurd cause
-refused source schedule budget before now t (Data number) cause = absurd cause
+refused : (source : List ℕ) (schedule : Option (List ℕ)) (settings : Settings) (before now : FolderState) (t : FoldTexts before.held source schedule) (refusal : Refusal)
+    → TextCause t.source_text t.schedule_text settings refusal → FoldCause refusal source schedule settings before now
+refused source schedule settings before now t Words cause = absurd cause
+refused source schedule settings before now t (Unread file why) cause = absurd cause
+refused source schedule settings before now t (Source fault) cause = record { texts = t; cause = cause }
+refused source schedule settings before now t (Printed place) cause = record { texts = t; cause = cause }
+refused source schedule settings before now t (Schedule line) cause = record { texts = t; cause = cause }
+refused source schedule settings before now t (Meaning line) cause = record { texts = t; cause = cause }
+refused source schedule settings before now t (Stuck line) cause = absurd cause
+refused source schedule settings before now t (Illegal line) cause = record { texts = t; cause = cause }
+refused source schedule settings before now t Budget cause = record { texts = t; cause = cause }
+refused source schedule settings before now t Memory cause = tt
+refused source schedule settings before now t Steps cause = absurd cause
+refused source schedule settings before now t (Data number) cause = absurd cause
 
-pub fold_refused : (source : List ℕ) (schedule : Option (List ℕ)) (budget : Option ℕ) (before now : FolderState) (t : FoldTexts before.held source schedule) (made : Result Pieces Refusal)
-    → IfErr made (TextCause t.source_text t.schedule_text budget) → IfErr made (λ refusal. FoldCause refusal source schedule budget before now)
-fold_refused source schedule budget before now t (Ok text) cause = tt
-fold_refused source schedule budget before now t (Err refusal) cause = refused source schedule budget before now t refusal cause
+pub fold_refused : (source : List ℕ) (schedule : Option (List ℕ)) (settings : Settings) (before now : FolderState) (t : FoldTexts before.held source schedule) (made : Result Pieces Refusal)
+    → IfErr made (TextCause t.source_text t.schedule_text settings) → IfErr made (λ refusal. FoldCause refusal source schedule settings before now)
+fold_refused source schedule settings before now t (Ok text) cause = tt
+fold_refused source schedule settings before now t (Err refusal) cause = refused source schedule settings before now t refusal cause
 
 -- ---- The source whose trees are told
 

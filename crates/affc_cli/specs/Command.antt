@@ -5,10 +5,13 @@ use Rattle.std.specs.List.{list_all, list_any, before_first, after_first}
 use Rattle.std.specs.Str.{bytes_eq}
 use Rattle.std.specs.Str.Parse.{digits_value}
 use Rattle.std.specs.declared.alloc.Global.{Global}
+use Rattle.affc_cli.specs.declared.words.CostName.{CostName}
+use Rattle.affc_cli.specs.declared.words.CostName.TheVariants.{Words, Sum, Powers}
+use Rattle.affc_cli.specs.declared.words.Settings.{Settings}
 
 -- The command forms.
 pub data Command : Type 0 where
-  Fold : (source : List ℕ) (schedule : Option (List ℕ)) (budget : Option ℕ) → Command
+  Fold : (source : List ℕ) (schedule : Option (List ℕ)) (settings : Settings) → Command
   Run : (source feed : List ℕ) (steps : ℕ) → Command
   Flow : (source : List ℕ) → Command
 
@@ -111,12 +114,28 @@ abbrev pub budget_of : Option (List ℕ) → Option (Option ℕ)
 budget_of None = Some None
 budget_of (Some text) = option_map Some (number_to 9223372036854775807 text)
 
+-- the NAME of `--cost NAME`
+abbrev pub cost_of : Option (List ℕ) → Option CostName
+cost_of None = Some Words
+cost_of (Some text) =
+    if bytes_eq text (codes "words") then Some Words
+    else if bytes_eq text (codes "sum") then Some Sum
+    else if bytes_eq text (codes "powers") then Some Powers
+    else None
+
+abbrev pub settings_with : Option (Option ℕ) → Option CostName → Option Settings
+settings_with None cost = None
+settings_with (Some budget) None = None
+settings_with (Some budget) (Some cost) = Some (record { budget = budget; cost = cost })
+
+abbrev pub settings_of : (budget cost : Option (List ℕ)) → Option Settings
+settings_of budget cost = settings_with (budget_of budget) (cost_of cost)
+
 abbrev pub fold_with : (source : List ℕ) (schedule : Option (List ℕ)) (options : List (List ℕ × List ℕ)) → Option Command
 fold_with source schedule options =
-    if are_options (codes "budget" ∷ []) options
-    then option_map (Fold source schedule) (budget_of (value_of (codes "budget") options)) else None
+    if are_options (codes "budget" ∷ codes "cost" ∷ []) options
+    then option_map (Fold source schedule) (settings_of (value_of (codes "budget") options) (value_of (codes "cost") options)) else None
 
--- `fold SRC [SCHED] [--budget N]`
 abbrev pub fold_of : (operands : List (List ℕ)) (options : List (List ℕ × List ℕ)) → Option Command
 fold_of (source ∷ []) options = fold_with source None options
 fold_of (source ∷ schedule ∷ []) options = fold_with source (Some schedule) options

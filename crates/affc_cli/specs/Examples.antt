@@ -2,9 +2,22 @@
 use Rattle.std.specs.Prelude.{◌≡◌, true, is_none, List, [], ◌∷◌, ℕ, map, None, Some, codes}
 use Rattle.std.specs.List.{list_all}
 use Rattle.affc_cli.specs.Command.{Fold, Run, Flow, command_of}
+use Rattle.affc_cli.specs.declared.words.CostName.{CostName}
+use Rattle.affc_cli.specs.declared.words.CostName.TheVariants.{Words as Plain, Sum, Powers}
+use Rattle.affc_cli.specs.declared.words.Settings.{Settings}
 
 abbrev pub Words : Type 0
 Words = List (List ℕ)
+
+-- by words and without a budget, with one, and by another cost
+abbrev pub plain : Settings
+plain = record { budget = None; cost = Plain }
+
+abbrev pub within : ℕ → Settings
+within n = record { budget = Some n; cost = Plain }
+
+abbrev pub by : CostName → Settings
+by cost = record { budget = None; cost = cost }
 
 abbrev pub AreNone : List Words → Type 0
 AreNone lists = list_all (λ words. is_none (command_of words)) lists ≡ true
@@ -61,6 +74,12 @@ OptionsAreTheForms = AreNone (
     ∷ (codes "fold" ∷ codes "--budget=5" ∷ codes "a" ∷ codes "--budget" ∷ codes "5" ∷ [])
     ∷ (codes "fold" ∷ codes "--budget" ∷ codes "a" ∷ [])
     ∷ (codes "fold" ∷ codes "--budget=5" ∷ [])
+    ∷ (codes "fold" ∷ codes "a" ∷ codes "--cost" ∷ [])
+    ∷ (codes "fold" ∷ codes "a" ∷ codes "--cost=" ∷ [])
+    ∷ (codes "fold" ∷ codes "a" ∷ codes "--cost" ∷ codes "word" ∷ [])
+    ∷ (codes "fold" ∷ codes "a" ∷ codes "--cost=Sum" ∷ [])
+    ∷ (codes "fold" ∷ codes "--cost=sum" ∷ codes "a" ∷ codes "--cost" ∷ codes "sum" ∷ [])
+    ∷ (codes "run" ∷ codes "a" ∷ codes "b" ∷ codes "--cost=sum" ∷ [])
     ∷ (codes "run" ∷ codes "a" ∷ codes "b" ∷ codes "--budget=5" ∷ [])
     ∷ (codes "flow" ∷ codes "a" ∷ codes "--budget=5" ∷ [])
     ∷ (codes "run" ∷ codes "a" ∷ codes "b" ∷ codes "--step=5" ∷ [])
@@ -90,13 +109,13 @@ OperandsFollowTheEnd = map command_of (
     ∷ (codes "run" ∷ codes "a" ∷ codes "b" ∷ codes "--" ∷ [])
     ∷ (codes "flow" ∷ codes "--" ∷ codes "-a" ∷ [])
     ∷ [])
-    ≡ Some (Fold (codes "a") None None)
-    ∷ Some (Fold (codes "a") None None)
-    ∷ Some (Fold (codes "-") None None)
-    ∷ Some (Fold (codes "--") None None)
-    ∷ Some (Fold (codes "help") None None)
-    ∷ Some (Fold (codes "a") (Some (codes "b")) None)
-    ∷ Some (Fold (codes "a") (Some (codes "-b")) None)
+    ≡ Some (Fold (codes "a") None plain)
+    ∷ Some (Fold (codes "a") None plain)
+    ∷ Some (Fold (codes "-") None plain)
+    ∷ Some (Fold (codes "--") None plain)
+    ∷ Some (Fold (codes "help") None plain)
+    ∷ Some (Fold (codes "a") (Some (codes "b")) plain)
+    ∷ Some (Fold (codes "a") (Some (codes "-b")) plain)
     ∷ Some (Run (codes "-a") (codes "-b") 10000000)
     ∷ Some (Run (codes "a") (codes "b") 10000000)
     ∷ Some (Flow (codes "-a"))
@@ -115,6 +134,9 @@ OptionsStandAnywhere = map command_of (
     ∷ (codes "fold" ∷ codes "a" ∷ codes "--budget" ∷ codes "0000000000000000001" ∷ [])
     ∷ (codes "fold" ∷ codes "--" ∷ codes "--budget=5" ∷ [])
     ∷ (codes "fold" ∷ codes "a" ∷ codes "--budget" ∷ codes "5" ∷ codes "b" ∷ [])
+    ∷ (codes "fold" ∷ codes "--cost=sum" ∷ codes "a" ∷ [])
+    ∷ (codes "fold" ∷ codes "a" ∷ codes "--cost" ∷ codes "powers" ∷ codes "b" ∷ [])
+    ∷ (codes "fold" ∷ codes "a" ∷ codes "--cost=words" ∷ codes "--budget=5" ∷ [])
     ∷ [])
     ≡ Some (Run (codes "a") (codes "b") 5)
     ∷ Some (Run (codes "a") (codes "b") 5)
@@ -122,8 +144,11 @@ OptionsStandAnywhere = map command_of (
     ∷ Some (Run (codes "a") (codes "b") 1)
     ∷ Some (Run (codes "a") (codes "b") 7)
     ∷ Some (Run (codes "a") (codes "--steps=5") 1000000000000)
-    ∷ Some (Fold (codes "a") None (Some 9223372036854775807))
-    ∷ Some (Fold (codes "a") None (Some 1))
-    ∷ Some (Fold (codes "--budget=5") None None)
-    ∷ Some (Fold (codes "a") (Some (codes "b")) (Some 5))
+    ∷ Some (Fold (codes "a") None (within 9223372036854775807))
+    ∷ Some (Fold (codes "a") None (within 1))
+    ∷ Some (Fold (codes "--budget=5") None plain)
+    ∷ Some (Fold (codes "a") (Some (codes "b")) (within 5))
+    ∷ Some (Fold (codes "a") None (by Sum))
+    ∷ Some (Fold (codes "a") (Some (codes "b")) (by Powers))
+    ∷ Some (Fold (codes "a") None (within 5))
     ∷ []

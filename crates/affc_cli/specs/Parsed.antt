@@ -27,9 +27,9 @@ option_rule name = record (new_rule name) { long = Some name }
 abbrev pub app_with : (name : List ℕ) → List Rule → App
 app_with name rules = record { top = record (new_shape name) { rules = rules; no_binary_name = true; disable_help_flag = true }; subs = [] }
 
--- `fold SRC [SCHED] [--budget N]`
+-- `fold SRC [SCHED] [--budget N] [--cost NAME]`
 abbrev pub fold_app : App
-fold_app = app_with (codes "fold") (operand_rule (codes "source") ∷ further_rule (codes "schedule") ∷ option_rule (codes "budget") ∷ [])
+fold_app = app_with (codes "fold") (operand_rule (codes "source") ∷ further_rule (codes "schedule") ∷ option_rule (codes "budget") ∷ option_rule (codes "cost") ∷ [])
 
 -- `run SRC DATA [--steps N]`
 abbrev pub run_app : App

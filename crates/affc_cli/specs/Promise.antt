@@ -12,6 +12,7 @@ use Rattle.affc_io.specs.State.{Files, FolderState}
 use Rattle.affc_io.specs.Taken.{grown}
 use Rattle.affc_driver.specs.Flows.{FlowsTo}
 use Rattle.affc_cli.specs.Budgets.{FoldsWithin}
+use Rattle.affc_cli.specs.declared.words.Settings.{Settings}
 use Rattle.affc_cli.specs.Command.{Command, Fold, Run, Flow, command_of, texts_of}
 use Rattle.affc_cli.specs.Outside.{Outside, Keeps, Told, IsRead, IsReadAtMost}
 use Rattle.affc_cli.specs.Refusal.{status_of, line_of, FoldTexts, FoldCause, fold_file, FlowCause, HeldTexts, RunCause, file_of}
@@ -21,10 +22,10 @@ use Rattle.affc_cli.specs.declared.refusal.Refusal.{Refusal}
 use Rattle.affc_cli.specs.declared.refusal.Refusal.TheVariants.{Words, Unread, Memory}
 
 -- Text and report are what is made of the source and the schedule that the names held, where the folder tells what it holds,
--- within this budget or without one.
-pub record FoldPromises (source : List ℕ) (schedule : Option (List ℕ)) (budget : Option ℕ) (held : Option Files) (text report : List ℕ) : Type 0 where
+-- by these settings.
+pub record FoldPromises (source : List ℕ) (schedule : Option (List ℕ)) (settings : Settings) (held : Option Files) (text report : List ℕ) : Type 0 where
   pub texts : FoldTexts held source schedule
-  pub folds_to : FoldsWithin texts.source_text texts.schedule_text budget text report
+  pub folds_to : FoldsWithin texts.source_text texts.schedule_text settings text report
 
 -- The text is what the output arrays hold when the source that one name held has run on the data text that the other
 -- held, where the folder tells what it holds; the report is empty.
@@ -43,41 +44,41 @@ pub record FlowPromises (source : List ℕ) (held : Option Files) (text report :
 
 -- The pieces of status 0: the text for out, then the report for err.
 abbrev pub Promises : Command → Option Files → (text report : List ℕ) → Type 0
-Promises (Fold source schedule budget) held text report = FoldPromises source schedule budget held text report
+Promises (Fold source schedule settings) held text report = FoldPromises source schedule settings held text report
 Promises (Run source feed limit) held text report = RunPromises source feed limit held text report
 Promises (Flow source) held text report = FlowPromises source held text report
 
 -- The statuses that a command ends with.
 abbrev pub statuses_of : Command → List ℕ
-statuses_of (Fold source schedule budget) = 0 ∷ 3 ∷ 4 ∷ 5 ∷ 6 ∷ 7 ∷ 8 ∷ 9 ∷ 10 ∷ []
+statuses_of (Fold source schedule settings) = 0 ∷ 3 ∷ 4 ∷ 5 ∷ 6 ∷ 7 ∷ 8 ∷ 9 ∷ 10 ∷ []
 statuses_of (Run source feed limit) = 0 ∷ 3 ∷ 4 ∷ 5 ∷ 9 ∷ 10 ∷ 12 ∷ 13 ∷ []
 statuses_of (Flow source) = 0 ∷ 3 ∷ 4 ∷ 5 ∷ 9 ∷ 10 ∷ []
 
 -- The line of a refused command.
 abbrev pub refusal_line : Command → Refusal → List ℕ
-refusal_line (Fold source schedule budget) refusal = line_of refusal (fold_file refusal source schedule)
+refusal_line (Fold source schedule settings) refusal = line_of refusal (fold_file refusal source schedule)
 refusal_line (Run source feed limit) refusal = line_of refusal (file_of refusal source feed)
 refusal_line (Flow source) refusal = line_of refusal source
 
 -- How many files a command reads.
 abbrev pub files_of : Command → ℕ
-files_of (Fold source None budget) = 1
-files_of (Fold source (Some schedule) budget) = 2
+files_of (Fold source None settings) = 1
+files_of (Fold source (Some schedule) settings) = 2
 files_of (Run source feed limit) = 2
 files_of (Flow source) = 1
 
 -- How often a command that is refused so reads the folder: it stops at its source where that isn't read.
 abbrev pub reads_of : Command → Refusal → ℕ
-reads_of (Fold source None budget) refusal = 1
-reads_of (Fold source (Some schedule) budget) (Unread operand.Source why) = 1
-reads_of (Fold source (Some schedule) budget) refusal = 2
+reads_of (Fold source None settings) refusal = 1
+reads_of (Fold source (Some schedule) settings) (Unread operand.Source why) = 1
+reads_of (Fold source (Some schedule) settings) refusal = 2
 reads_of (Run source feed limit) (Unread operand.Source why) = 1
 reads_of (Run source feed limit) refusal = 2
 reads_of (Flow source) refusal = 1
 
 -- When a command is refused so.
 abbrev pub Cause : Command → Refusal → FolderState → FolderState → Type 0
-Cause (Fold source schedule budget) refusal before now = FoldCause refusal source schedule budget before now
+Cause (Fold source schedule settings) refusal before now = FoldCause refusal source schedule settings before now
 Cause (Run source feed limit) refusal before now = RunCause refusal source feed limit before now
 Cause (Flow source) refusal before now = FlowCause refusal source before now
 

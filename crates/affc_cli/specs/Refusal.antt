@@ -3,6 +3,8 @@ use Rattle.std.specs.Prelude.{◌≡◌, ◌⊎◌, ℕ, List, ◌++◌, Option,
 use Rattle.affc_io.specs.Count.{Rose}
 use Rattle.affc_io.specs.Files.{Holds, NotHeld, TooLong}
 use Rattle.affc_io.specs.State.{Files, FolderState}
+use Rattle.affc_driver.specs.Accounts.{IsShort}
+use Rattle.affc_cli.specs.declared.words.Settings.{Settings}
 use Rattle.affc_driver.specs.Refusals.{IsSourceFault, IsPrinted}
 use Rattle.affc_cli.specs.Meaning.{IsMeantLine}
 use Rattle.affc_cli.specs.Run.{RunTextCause}
@@ -73,21 +75,21 @@ MeantCause source schedule _ = ⊥
 
 -- ---- `fold`
 
--- When a source with a schedule is refused so, with this budget or without one. Want of memory may come at any time, and the
--- end of a budget where there is one.
-abbrev pub TextCause : (source : List ℕ) → (schedule : Option (List ℕ)) → (budget : Option ℕ) → Refusal → Type 0
-TextCause source schedule budget Words = ⊥
-TextCause source schedule budget (Unread file why) = ⊥
-TextCause source schedule budget (Source fault) = IsSourceFault source fault
-TextCause source schedule budget (Printed place) = IsPrinted source place
-TextCause source schedule budget (Schedule line) = IsSchedLine source schedule line
-TextCause source schedule budget (Meaning line) = IsMeantLine source schedule line
-TextCause source schedule budget (Stuck line) = ⊥
-TextCause source schedule budget (Illegal line) = IsIllegalLine source schedule line
-TextCause source schedule budget Budget = IsSome budget
-TextCause source schedule budget Memory = Unit {0}
-TextCause source schedule budget Steps = ⊥
-TextCause source schedule budget (Data number) = ⊥
+-- When a source with a schedule is refused so, by these settings. Want of memory may come at any time, and the end of a budget
+-- where there is one that is below the threshold.
+abbrev pub TextCause : (source : List ℕ) → (schedule : Option (List ℕ)) → (settings : Settings) → Refusal → Type 0
+TextCause source schedule settings Words = ⊥
+TextCause source schedule settings (Unread file why) = ⊥
+TextCause source schedule settings (Source fault) = IsSourceFault source fault
+TextCause source schedule settings (Printed place) = IsPrinted source place
+TextCause source schedule settings (Schedule line) = IsSchedLine source schedule line
+TextCause source schedule settings (Meaning line) = IsMeantLine source schedule line
+TextCause source schedule settings (Stuck line) = ⊥
+TextCause source schedule settings (Illegal line) = IsIllegalLine source schedule line
+TextCause source schedule settings Budget = IsShort source schedule settings.budget
+TextCause source schedule settings Memory = Unit {0}
+TextCause source schedule settings Steps = ⊥
+TextCause source schedule settings (Data number) = ⊥
 
 -- the text that a name holds, where that is told; no text where there is no name
 abbrev pub HoldsAny : Option Files → (name text : Option (List ℕ)) → Type 0
@@ -103,9 +105,9 @@ pub record FoldTexts (held : Option Files) (source : List ℕ) (schedule : Optio
   pub schedule_held : HoldsAny held schedule schedule_text
 
 -- they were read, and are refused so
-pub record TextRefused (refusal : Refusal) (held : Option Files) (source : List ℕ) (schedule : Option (List ℕ)) (budget : Option ℕ) : Type 0 where
+pub record TextRefused (refusal : Refusal) (held : Option Files) (source : List ℕ) (schedule : Option (List ℕ)) (settings : Settings) : Type 0 where
   pub texts : FoldTexts held source schedule
-  pub cause : TextCause texts.source_text texts.schedule_text budget refusal
+  pub cause : TextCause texts.source_text texts.schedule_text settings refusal
 
 -- the source was read
 abbrev pub IsHeld : Option Files → (source : List ℕ) → Type 0
@@ -118,22 +120,22 @@ IsUnreadAny why (Some name) before now = IsUnread why name before now
 
 -- When `fold` is refused so, from the folder before and after its files were read: the source first, then the schedule, and no
 -- text is looked at before. Want of memory may come at any time.
-abbrev pub FoldCause : Refusal → (source : List ℕ) → (schedule : Option (List ℕ)) → (budget : Option ℕ) → FolderState → FolderState → Type 0
-FoldCause Words source schedule budget before now = ⊥
-FoldCause (Unread operand.Source why) source schedule budget before now = IsUnread why source before now
-FoldCause (Unread operand.Schedule why) source schedule budget before now =
+abbrev pub FoldCause : Refusal → (source : List ℕ) → (schedule : Option (List ℕ)) → (settings : Settings) → FolderState → FolderState → Type 0
+FoldCause Words source schedule settings before now = ⊥
+FoldCause (Unread operand.Source why) source schedule settings before now = IsUnread why source before now
+FoldCause (Unread operand.Schedule why) source schedule settings before now =
     IsHeld before.held source × IsUnreadAny why schedule before now
-FoldCause (Unread operand.Data why) source schedule budget before now = ⊥
-FoldCause (Source fault) source schedule budget before now = TextRefused (Source fault) before.held source schedule budget
-FoldCause (Printed place) source schedule budget before now = TextRefused (Printed place) before.held source schedule budget
-FoldCause (Schedule line) source schedule budget before now = TextRefused (Schedule line) before.held source schedule budget
-FoldCause (Meaning line) source schedule budget before now = TextRefused (Meaning line) before.held source schedule budget
-FoldCause (Stuck line) source schedule budget before now = ⊥
-FoldCause (Illegal line) source schedule budget before now = TextRefused (Illegal line) before.held source schedule budget
-FoldCause Budget source schedule budget before now = TextRefused Budget before.held source schedule budget
-FoldCause Memory source schedule budget before now = Unit {0}
-FoldCause Steps source schedule budget before now = ⊥
-FoldCause (Data number) source schedule budget before now = ⊥
+FoldCause (Unread operand.Data why) source schedule settings before now = ⊥
+FoldCause (Source fault) source schedule settings before now = TextRefused (Source fault) before.held source schedule settings
+FoldCause (Printed place) source schedule settings before now = TextRefused (Printed place) before.held source schedule settings
+FoldCause (Schedule line) source schedule settings before now = TextRefused (Schedule line) before.held source schedule settings
+FoldCause (Meaning line) source schedule settings before now = TextRefused (Meaning line) before.held source schedule settings
+FoldCause (Stuck line) source schedule settings before now = ⊥
+FoldCause (Illegal line) source schedule settings before now = TextRefused (Illegal line) before.held source schedule settings
+FoldCause Budget source schedule settings before now = TextRefused Budget before.held source schedule settings
+FoldCause Memory source schedule settings before now = Unit {0}
+FoldCause Steps source schedule settings before now = ⊥
+FoldCause (Data number) source schedule settings before now = ⊥
 
 -- the file that a refusal of `fold` means: the schedule's, or the source's
 abbrev pub fold_file : Refusal → (source : List ℕ) → (schedule : Option (List ℕ)) → List ℕ

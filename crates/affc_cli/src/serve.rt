@@ -14,7 +14,7 @@ use crate::pieces::Pieces;
 use crate::refusal::{Operand, Refusal, UnreadWhy, tell_short, tell_words};
 use crate::run::run_text;
 use crate::trees::trees;
-use crate::words::{Command, command_of};
+use crate::words::{Command, Settings, command_of};
 use affc_io::{Folder, PutCause, ReadFault, Sink, put_all};
 use std::alloc::Global;
 use std::io;
@@ -52,16 +52,16 @@ fn contents_of<F: Folder>(
 fn folded_alone<F: Folder>(
     alloc: Global,
     source: &str,
-    budget: Option<u64>,
+    settings: Settings,
     folder: &mut F,
 ) -> Result<Pieces, Refusal>
     ensures keeps { FolderKeeps (F.state folder.old) (F.state folder.new) }
     ensures reads { IsRead 1 (F.state folder.old) (F.state folder.new) }
-    ensures ok { IfOk result (λ made. FoldPromises source.now None budget (F.state folder.old).held made.text.items made.report.items) }
-    ensures err { IfErr result (λ refusal. FoldCause refusal source.now None budget (F.state folder.old) (F.state folder.new)) }
+    ensures ok { IfOk result (λ made. FoldPromises source.now None settings (F.state folder.old).held made.text.items made.report.items) }
+    ensures err { IfErr result (λ refusal. FoldCause refusal source.now None settings (F.state folder.old) (F.state folder.new)) }
 {
     let source = contents_of(alloc, Operand::Source, source, folder)?;
-    fold(alloc, &source, None, budget)
+    fold(alloc, &source, None, settings)
 }
 
 // The text for the source that the folder has under one name, in the order of the schedule under the other.
@@ -69,20 +69,20 @@ fn folded_by<F: Folder>(
     alloc: Global,
     source: &str,
     schedule: &str,
-    budget: Option<u64>,
+    settings: Settings,
     folder: &mut F,
 ) -> Result<Pieces, Refusal>
     ensures keeps { FolderKeeps (F.state folder.old) (F.state folder.new) }
     ensures reads { OnOk result (IsRead 2 (F.state folder.old) (F.state folder.new)) }
-    ensures ok { IfOk result (λ made. FoldPromises source.now (Some schedule.now) budget (F.state folder.old).held made.text.items made.report.items) }
-    ensures err { IfErr result (λ refusal. FoldCause refusal source.now (Some schedule.now) budget
+    ensures ok { IfOk result (λ made. FoldPromises source.now (Some schedule.now) settings (F.state folder.old).held made.text.items made.report.items) }
+    ensures err { IfErr result (λ refusal. FoldCause refusal source.now (Some schedule.now) settings
         (F.state folder.old) (F.state folder.new)) }
-    ensures err_reads { IfErr result (λ refusal. HasRead (Fold source.now (Some schedule.now) budget) refusal
+    ensures err_reads { IfErr result (λ refusal. HasRead (Fold source.now (Some schedule.now) settings) refusal
         (F.state folder.old) (F.state folder.new)) }
 {
     let source = contents_of(alloc, Operand::Source, source, folder)?;
     let schedule = contents_of(alloc, Operand::Schedule, schedule, folder)?;
-    fold(alloc, &source, Some(&schedule), budget)
+    fold(alloc, &source, Some(&schedule), settings)
 }
 
 // What the source that the folder has under one name gives on the data that it has under the other.
@@ -191,17 +191,17 @@ fn end<O: Sink, E: Sink>(
 fn run_fold<F: Folder, O: Sink, E: Sink>(
     alloc: Global,
     source: &str,
-    budget: Option<u64>,
+    settings: Settings,
     folder: &mut F,
     out: &mut O,
     err: &mut E,
 ) -> u8
-    ensures { Runs (Fold source.now None budget)
+    ensures { Runs (Fold source.now None settings)
         (outside (F.state folder.old) (O.state out.old) (E.state err.old))
         (outside (F.state folder.new) (O.state out.new) (E.state err.new))
         result }
 {
-    let made = folded_alone(alloc, source, budget, folder);
+    let made = folded_alone(alloc, source, settings, folder);
     end(alloc, made, source, out, err)
 }
 
@@ -210,17 +210,17 @@ fn run_fold_by<F: Folder, O: Sink, E: Sink>(
     alloc: Global,
     source: &str,
     schedule: &str,
-    budget: Option<u64>,
+    settings: Settings,
     folder: &mut F,
     out: &mut O,
     err: &mut E,
 ) -> u8
-    ensures { Runs (Fold source.now (Some schedule.now) budget)
+    ensures { Runs (Fold source.now (Some schedule.now) settings)
         (outside (F.state folder.old) (O.state out.old) (E.state err.old))
         (outside (F.state folder.new) (O.state out.new) (E.state err.new))
         result }
 {
-    let made = folded_by(alloc, source, schedule, budget, folder);
+    let made = folded_by(alloc, source, schedule, settings, folder);
     let name = fold_file(&made, source, schedule);
     end(alloc, made, name, out, err)
 }
@@ -283,19 +283,19 @@ pub fn serve<F: Folder, O: Sink, E: Sink>(
                 Command::Fold {
                     source,
                     schedule: None,
-                    budget,
+                    settings,
                 },
             ),
-        ) => run_fold(alloc, source, budget, folder, out, err),
+        ) => run_fold(alloc, source, settings, folder, out, err),
         Ok(
             Some(
                 Command::Fold {
                     source,
                     schedule: Some(schedule),
-                    budget,
+                    settings,
                 },
             ),
-        ) => run_fold_by(alloc, source, schedule, budget, folder, out, err),
+        ) => run_fold_by(alloc, source, schedule, settings, folder, out, err),
         Ok(
             Some(
                 Command::Run {

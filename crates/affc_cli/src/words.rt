@@ -4,7 +4,7 @@ ghost use Rattle.std.specs.List.{list_all, list_any};
 ghost use Rattle.std.specs.Char.{is_ascii_digit};
 ghost use Rattle.clap.specs.Words.{app_of, is_simple};
 ghost use Rattle.clap.specs.Faults.{is_simple_and_free};
-ghost use Rattle.affc_cli.specs.Command.{answer, texts_of, is_empty, number_to, budget_of, steps_of, command_of};
+ghost use Rattle.affc_cli.specs.Command.{answer, texts_of, is_empty, number_to, budget_of, cost_of, settings_of, steps_of, command_of};
 ghost use Rattle.affc_cli.specs.Parsed.{Parses, fold_app, is_clean, run_app, flow_app};
 ghost use Rattle.affc_cli.specs.Seen.{seen};
 
@@ -12,13 +12,28 @@ use clap::error::ErrorKind;
 use clap::{Arg, ArgMatches};
 use std::alloc::{AllocError, Global};
 
+/// A cost by its name.
+#[derive(Clone, Copy, Debug)]
+pub enum CostName {
+    Words,
+    Sum,
+    Powers,
+}
+
+/// How much may be asked for a fold, if that is limited, and by which cost it is chosen.
+#[derive(Clone, Copy, Debug)]
+pub struct Settings {
+    pub budget: Option<u64>,
+    pub cost: CostName,
+}
+
 /// What the words ask for.
 #[derive(Clone, Copy, Debug)]
 pub enum Command<'a> {
     Fold {
         source: &'a str,
         schedule: Option<&'a str>,
-        budget: Option<u64>,
+        settings: Settings,
     },
     Run {
         source: &'a str,
@@ -56,6 +71,30 @@ fn budget_of(value: Option<&str>) -> Option<Option<u64>>
         None => Some(None),
         Some(text) => number_to(9_223_372_036_854_775_807, text).map(Some),
     }
+}
+
+fn cost_of(value: Option<&str>) -> Option<CostName>
+    ensures { result ≡ cost_of (option_map (λ s. s.now) value.entry) }
+{
+    match value {
+        None => Some(CostName::Words),
+        Some("words") => Some(CostName::Words),
+        Some("sum") => Some(CostName::Sum),
+        Some("powers") => Some(CostName::Powers),
+        Some(_) => None,
+    }
+}
+
+fn settings_of(budget: Option<&str>, cost: Option<&str>) -> Option<Settings>
+    ensures { result ≡ settings_of (option_map (λ s. s.now) budget.entry) (option_map (λ s. s.now) cost.entry) }
+{
+    let Some(budget) = budget_of(budget) else {
+        return None;
+    };
+    let Some(cost) = cost_of(cost) else {
+        return None;
+    };
+    Some(Settings { budget, cost })
 }
 
 fn steps_of(value: Option<&str>) -> Option<u64>
@@ -111,7 +150,7 @@ fn parsed<'a>(
     }
 }
 
-// `fold SRC [SCHED] [--budget N]`
+// `fold SRC [SCHED] [--budget N] [--cost NAME]`
 fn fold_form<'a>(alloc: Global) -> Result<clap::Command<'a>, AllocError>
     ensures { IfOk result (λ form. app_of form ≡ fold_app) }
 {
@@ -120,7 +159,8 @@ fn fold_form<'a>(alloc: Global) -> Result<clap::Command<'a>, AllocError>
         .disable_help_flag(true)
         .arg(Arg::new(alloc, "source").required(true))?
         .arg(Arg::new(alloc, "schedule"))?
-        .arg(Arg::new(alloc, "budget").long("budget"))
+        .arg(Arg::new(alloc, "budget").long("budget"))?
+        .arg(Arg::new(alloc, "cost").long("cost"))
 }
 
 fn read_fold<'a>(alloc: Global, words: &'a [String]) -> Result<Option<Command<'a>>, AllocError>
@@ -135,13 +175,15 @@ fn read_fold<'a>(alloc: Global, words: &'a [String]) -> Result<Option<Command<'a
         return Ok(None);
     };
     let schedule = matches.get_str("schedule");
-    let Some(budget) = budget_of(matches.get_str("budget")) else {
+    let budget = matches.get_str("budget");
+    let cost = matches.get_str("cost");
+    let Some(settings) = settings_of(budget, cost) else {
         return Ok(None);
     };
     Ok(Some(Command::Fold {
         source,
         schedule,
-        budget,
+        settings,
     }))
 }
 

@@ -12,7 +12,7 @@ pub const BLUR: &str =
 
 /// What is reported of the blur in its own order.
 pub const WHOLE: &str =
-    "array t\n  basis (x0)\n  modulus 0: N + 2 least at N=4096 pair (0) (4097)\n";
+    "array t\n  basis (x0)\n  modulus 0: N + 2 least at N=4096 pair (0) (4097)\n  cost 4098\n";
 
 /// How a function begins with the number N, the input `in` and the output `out`.
 pub const OPEN: &str =

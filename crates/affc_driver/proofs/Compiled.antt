@@ -27,6 +27,7 @@ use Rattle.affc_placed.specs.Placed.{HasFoldedLoops}
 use Rattle.affc_rewrite.specs.Laws.{FoldedProgramCompiles}
 use Rattle.affc_rewrite.specs.Rewrite.{folded_program}
 use Rattle.affc_foldprint.specs.Laws.{FoldsWellNamed}
+use Rattle.affc_weigh.specs.declared.choice.Choice.{Choice}
 use Rattle.affc_folds.specs.Folding.{AreFoldsUnder, IsLeftWhole, IsSpent}
 use Rattle.affc_schedtext.specs.declared.plan.Plan.{Plan}
 use Rattle.affc_schedtext.proofs.Scheduled.{is_scheduled, is_limited}
@@ -78,7 +79,7 @@ pub plan_limited : (program : Program) (schedule : Option (List ℕ)) (plan : Pl
 plan_limited program None plan h = ap (λ (x : Plan). within_limits x.schedule) h
 plan_limited program (Some text) plan h = is_limited text program plan h
 
-has_loops : (text : List ℕ) (schedule : Option (List ℕ)) (program : Program) (plan : Plan) → Reads text program → program.prelude ≡ false → StaysWithin program → HasPlan program schedule plan → HasLoops program plan.schedule
+pub has_loops : (text : List ℕ) (schedule : Option (List ℕ)) (program : Program) (plan : Plan) → Reads text program → program.prelude ≡ false → StaysWithin program → HasPlan program schedule plan → HasLoops program plan.schedule
 has_loops text schedule program plan reads bare within planned = record {
   plain = reads_plain text program reads bare;
   near = within.near;
@@ -88,23 +89,23 @@ has_loops text schedule program plan reads bare within planned = record {
 
 -- ---- No folds
 
-pub nothing_folded : (program : Program) (schedule : Schedule) (bases : List (ArrayId × Basis)) (budget : Account) → (IsLeftWhole program [] → IsSpent budget) → AreFoldsUnder program schedule bases budget []
-nothing_folded program schedule bases budget whole = record {
+pub nothing_folded : (Answers : List ℕ → ℕ → Type 0) (program : Program) (schedule : Schedule) (bases : List (ArrayId × Basis)) (budget : Account) → (IsLeftWhole program [] → IsSpent budget) → AreFoldsUnder Answers program schedule bases budget [] []
+nothing_folded Answers program schedule bases budget whole = record {
   in_program = record { different = tt; each = λ array fold is. absurd is };
-  bases_for = λ array fold e. absurd (none-some fold e);
   limits = All-nil (λ (f : ArrayId × Fold). KeepsLimits (numbers_in program.params) f.1);
   obeys = λ p inside array fold e. absurd (none-some fold e);
   marks = λ array fold e. absurd (none-some fold e);
+  chosen = λ array fold e. absurd (none-some fold e);
   bound = λ array fold e has. absurd (none-some fold e);
   whole = whole;
 }
 
 -- ---- Its loops with folds, which are well named
 
-has_folded : (text : List ℕ) (schedule : Option (List ℕ)) (program : Program) (plan : Plan) (budget : Account) (folds : List (ArrayId × Fold))
+pub has_folded : (Answers : List ℕ → ℕ → Type 0) (text : List ℕ) (schedule : Option (List ℕ)) (program : Program) (plan : Plan) (budget : Account) (folds : List (ArrayId × Fold)) (choices : List (ArrayId × Choice))
     → Reads text program → program.prelude ≡ false → StaysWithin program → WrittenThroughout program → HasPlan program schedule plan
-    → LegalThroughout program plan.schedule → AreFoldsUnder program plan.schedule plan.folds budget folds → HasFoldedLoops program plan.schedule folds
-has_folded text schedule program plan budget folds reads bare within written planned legal are = record {
+    → LegalThroughout program plan.schedule → AreFoldsUnder Answers program plan.schedule plan.folds budget folds choices → HasFoldedLoops program plan.schedule folds
+has_folded Answers text schedule program plan budget folds choices reads bare within written planned legal are = record {
   loops = has_loops text schedule program plan reads bare within planned;
   ends = within_never_stuck text program reads bare within written;
   legal = legal;
@@ -112,23 +113,24 @@ has_folded text schedule program plan budget folds reads bare within written pla
   obeys = are.obeys;
 }
 
-module _ (named : FoldsWellNamed) (compiled : FoldedProgramCompiles) where
-  pub folds_to : (text : List ℕ) (schedule : Option (List ℕ)) (program : Program) (plan : Plan) (budget : Account) (folds : List (ArrayId × Fold)) (folded report : List ℕ)
-      → Reads text program → program.prelude ≡ false → StaysWithin program → AreDecided program plan budget folds
-      → HasPlan program schedule plan → IsMadeOf program plan folds folded report → FoldsTo text schedule budget folded report
-  folds_to text schedule program plan budget folds folded report reads bare within decided planned made =
+module _ (named : FoldsWellNamed) (compiled : FoldedProgramCompiles) (Answers : List ℕ → ℕ → Type 0) where
+  unfoldable pub folds_to : (text : List ℕ) (schedule : Option (List ℕ)) (program : Program) (plan : Plan) (budget : Account) (folds : List (ArrayId × Fold)) (choices : List (ArrayId × Choice)) (folded report : List ℕ)
+      → Reads text program → program.prelude ≡ false → StaysWithin program → AreDecided Answers program plan budget folds choices
+      → HasPlan program schedule plan → IsMadeOf program plan folds choices folded report → FoldsTo Answers text schedule budget folded report
+  folds_to text schedule program plan budget folds choices folded report reads bare within decided planned made =
       let written : WrittenThroughout program = decided.written text reads bare in
       let are = decided.are_folds in
       let target = target_program (folded_program program folds) plan.schedule in
       record {
         plan = plan;
         folds = folds;
+        choices = choices;
         compiles = record {
           source = program;
           source_reads = reads;
           target = target;
           target_reads = (reads_back target folded made.printed).0 (named text program plan.schedule folds reads bare (has_loops text schedule program plan reads bare within planned) are.in_program are.limits);
-          compiles = compiled program plan.schedule folds (has_folded text schedule program plan budget folds reads bare within written planned decided.legal are) are.limits;
+          compiles = compiled program plan.schedule folds (has_folded Answers text schedule program plan budget folds choices reads bare within written planned decided.legal are) are.limits;
         };
         loops = refl;
         printed = made.printed;
@@ -141,9 +143,9 @@ module _ (named : FoldsWellNamed) (compiled : FoldedProgramCompiles) where
         told = made.told;
       }
 
-  pub printed_compiles : PrintedCompiles
-  printed_compiles text schedule program plan budget folds reads bare within written planned legal are =
-      folds_to text schedule program plan budget folds (printed_text (target_program (folded_program program folds) plan.schedule)) (report_text program folds) reads bare within
+  pub printed_compiles : PrintedCompiles Answers
+  printed_compiles text schedule program plan budget folds choices reads bare within written planned legal are =
+      folds_to text schedule program plan budget folds choices (printed_text (target_program (folded_program program folds) plan.schedule)) (report_text program folds choices) reads bare within
       (record { written = λ text reads bare. written; legal = legal; are_folds = are })
       planned (record { printed = refl; told = refl })
 
@@ -156,5 +158,5 @@ none_whole program none whole =
     let empty : length program.temps ≡ 0 = ap length none in
     absurd (omega arith)
 
-pub no_folds : (program : Program) (schedule : Schedule) (bases : List (ArrayId × Basis)) (budget : Account) → program.temps ≡ [] → AreFoldsUnder program schedule bases budget []
-no_folds program schedule bases budget none = nothing_folded program schedule bases budget (λ whole. absurd (none_whole program none whole))
+pub no_folds : (Answers : List ℕ → ℕ → Type 0) (program : Program) (schedule : Schedule) (bases : List (ArrayId × Basis)) (budget : Account) → program.temps ≡ [] → AreFoldsUnder Answers program schedule bases budget [] []
+no_folds Answers program schedule bases budget none = nothing_folded Answers program schedule bases budget (λ whole. absurd (none_whole program none whole))

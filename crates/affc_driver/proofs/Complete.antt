@@ -1,7 +1,9 @@
 -- A text is folded exactly where its program is never stuck, and its schedule is legal; then nothing but want
 -- of budget or of memory is in the way. So it is of its trees, without a schedule.
-use Rattle.std.proofs.Common.{◌≡◌, ℕ, ℤ, true≢false, List, [], Option, Some, None, refl, sym, ap, subst, ◌∙◌, ◌⊎◌, inl, inr, arith}
-use Rattle.std.proofs.lemmas.Option.{none-some}
+use Rattle.std.proofs.Common.{◌≡◌, ℕ, ◌<◌, ◌≤◌, ℤ, true≢false, List, [], length, Option, Some, None, refl, sym, ap, subst, ◌∙◌, ◌⊎◌, inl, inr, arith}
+use Rattle.std.specs.Prelude.{slice_get}
+use Rattle.std.proofs.lemmas.Bool.{leb-true}
+use Rattle.std.proofs.lemmas.Option.{none-some, same_Some}
 use Rattle.affc_ast.specs.declared.tree.ArrayId.{ArrayId}
 use Rattle.affc_ast.specs.declared.tree.Instance.{Instance}
 use Rattle.affc_ast.specs.declared.tree.Program.{Program}
@@ -12,6 +14,7 @@ use Rattle.affc_parse.specs.declared.fault.ParseFault.{ParseFault}
 use Rattle.affc_parse.proofs.Refusals.{fault_is_memory}
 use Rattle.affc_cprint.specs.Layout.{printed_text}
 use Rattle.affc_ast.specs.Trace.{loads_of}
+use Rattle.affc_trace.specs.declared.schedule.Schedule.{Schedule as Order}
 use Rattle.affc_trace.specs.Laws.{IsInContext}
 use Rattle.affc_trace.specs.Orders.{Earlier}
 use Rattle.affc_plain.proofs.NoLocals.{plain_has_no_locals}
@@ -20,6 +23,7 @@ use Rattle.affc_safe.specs.Safe.{IsSafe}
 use Rattle.affc_safe.proofs.EndedSafe.{unwritten_instance}
 use Rattle.affc_safe.proofs.FitsThere.{never_stuck_is_safe}
 use Rattle.affc_nest.proofs.QuestionLemmas.{stands_in}
+use Rattle.affc_nest.specs.Nests.{nest_of}
 use Rattle.affc_loops.specs.Loops.{target_program}
 use Rattle.affc_split.specs.Budgets.{Account}
 use Rattle.affc_basis.specs.declared.fold.Fold.{Fold}
@@ -27,7 +31,13 @@ use Rattle.affc_basis.specs.Folds.{fold_of}
 use Rattle.affc_rewrite.specs.Laws.{FoldedProgramCompiles}
 use Rattle.affc_rewrite.specs.Rewrite.{folded_program}
 use Rattle.affc_foldprint.specs.Laws.{FoldsWellNamed}
-use Rattle.affc_folds.specs.Folding.{IsLeftWhole, HasBound, IsSpent}
+use Rattle.affc_basis.specs.declared.basis.Basis.{Basis}
+use Rattle.affc_basis.specs.Listed.{Shape, listing}
+use Rattle.affc_weigh.specs.declared.choice.Choice.{Choice}
+use Rattle.affc_weigh.specs.declared.choice.Price.{Price}
+use Rattle.affc_weigh.proofs.Tops.{beside}
+use Rattle.affc_folds.specs.Folding.{IsLeftWhole, HasBound, IsSpent, IsTaken, IsChoice, given_for}
+use Rattle.affc_folds.proofs.CheapestLemmas.{none_costs_less}
 use Rattle.affc_bounds.specs.Faults.{StaysWithin, IsMeaningFault}
 use Rattle.affc_bounds.proofs.LawProofs.{faults_do_not_stay}
 use Rattle.affc_bounds.specs.declared.fault.MeaningFault.{MeaningFault}
@@ -37,15 +47,18 @@ use Rattle.affc_schedtext.specs.Answers.{IsFault}
 use Rattle.affc_schedtext.proofs.Excludes.{excludes}
 use Rattle.affc_sched.specs.Violations.{IsViolation}
 use Rattle.affc_flow.specs.Unwritten.{LoadsUnwritten}
+use Rattle.affc_threshold.specs.Thresholds.{threshold}
+use Rattle.affc_driver.specs.Accounts.{reaches, IsUnlimited, IsShort}
 use Rattle.affc_driver.specs.Folds.{FoldsTo}
 use Rattle.affc_driver.specs.Flows.{FlowsTo}
-use Rattle.affc_driver.specs.Laws.{NeverStuck, IllegalShows, UnlimitedFoldsAll, IsFoldable, FoldableIsFolded, FoldableIsNotRefused, IsSound, FlowsAreSound, SoundIsNotRefused}
+use Rattle.affc_driver.specs.Laws.{NeverStuck, IllegalShows, UnlimitedFoldsAll, NoneIsCheaper, IsFoldable, FoldableIsFolded, FoldableIsNotRefused, UnlimitedIsNotRefused, IsSound, FlowsAreSound, SoundIsNotRefused}
 use Rattle.affc_driver.specs.Plans.{HasPlan, WrittenThroughout}
 use Rattle.affc_driver.specs.Refusals.{IsSourceFault, IsPrinted, HasSchedFault, HasMeaningFault, HasUnwritten, IsIllegal}
 use Rattle.affc_driver.specs.Reports.{report_text}
 use Rattle.affc_driver.specs.declared.refusal.Refusal.TheVariants.{Source, Printed, Schedule, Meaning, Unwritten, Illegal, Budget, Memory}
 use Rattle.affc_driver.proofs.Compiled.{within_never_stuck, named_is_written, nothing_folded, printed_compiles}
-use Rattle.affc_driver.proofs.OnePlan.{one_target}
+use Rattle.affc_driver.proofs.Counted.{nothing_counted}
+use Rattle.affc_driver.proofs.OnePlan.{one_target, one_threshold}
 use Rattle.affc_driver.proofs.Roles.{reads_roles, temporary_far}
 
 -- ---- A program that is never stuck
@@ -73,45 +86,70 @@ is_written text s p here = (safe_at text s p here).written
 abbrev at_once : Account
 at_once = record { limit = Some 0; spent = 0 }
 
-pub foldable_is_folded : FoldsWellNamed → FoldedProgramCompiles → FoldableIsFolded
-foldable_is_folded named compiled text schedule = (
-  λ f.
-      let s = sound_of text schedule f in
-      let none = nothing_folded f.program f.plan.schedule f.plan.folds at_once (λ whole. record { most = 0; limit = refl; reached = omega arith }) in (
-        at_once,
-        (
-          printed_text (target_program (folded_program f.program []) f.plan.schedule),
+module _ (named : FoldsWellNamed) (compiled : FoldedProgramCompiles) (Answers : List ℕ → ℕ → Type 0) where
+  pub foldable_is_folded : FoldableIsFolded Answers
+  foldable_is_folded text schedule = (
+    λ f.
+        let s = sound_of text schedule f in
+        let none = nothing_folded Answers f.program f.plan.schedule f.plan.folds at_once (λ whole. record { most = 0; limit = refl; reached = omega arith }) in (
+          at_once,
           (
-            report_text f.program [],
-            printed_compiles named compiled text schedule f.program f.plan at_once [] f.reads f.plain (stays_within text s) (is_written text s) f.planned f.legal none,
+            printed_text (target_program (folded_program f.program []) f.plan.schedule),
+            (
+              report_text f.program [] [],
+              printed_compiles named compiled Answers text schedule f.program f.plan at_once [] [] f.reads f.plain (stays_within text s) (is_written text s) f.planned f.legal none,
+            ),
           ),
         ),
-      ),
-  λ r.
-      let folds : FoldsTo text schedule r.0 r.1.0 r.1.1.0 = r.1.1.1 in
-      let program : Program = folds.compiles.source in
-      let reads : Reads text program = folds.compiles.source_reads in
-      record {
-        program = program;
-        reads = reads;
-        plain = folds.plain;
-        near = folds.within.near;
-        some = folds.within.some;
-        never_stuck = within_never_stuck text program reads folds.plain folds.within folds.written;
-        plan = folds.plan;
-        planned = folds.planned;
-        legal = folds.legal;
-      },
-)
+    λ r.
+        let folds : FoldsTo Answers text schedule r.0 r.1.0 r.1.1.0 = r.1.1.1 in
+        let program : Program = folds.compiles.source in
+        let reads : Reads text program = folds.compiles.source_reads in
+        record {
+          program = program;
+          reads = reads;
+          plain = folds.plain;
+          near = folds.within.near;
+          some = folds.within.some;
+          never_stuck = within_never_stuck text program reads folds.plain folds.within folds.written;
+          plan = folds.plan;
+          planned = folds.planned;
+          legal = folds.legal;
+        },
+  )
 
 unlimited : (budget : Account) → budget.limit ≡ None → ¬ (IsSpent budget)
 unlimited budget none spent = absurd (none-some spent.most (sym none ∙ spent.limit))
 
-pub unlimited_folds_all : UnlimitedFoldsAll
-unlimited_folds_all text schedule budget folded report none r = (
-  λ whole. unlimited budget none (r.are_folds.whole whole),
-  λ array fold is has. unlimited budget none (r.are_folds.bound array fold is has),
-)
+-- a price is missing only where no unit is left
+module _ (Answers : List ℕ → ℕ → Type 0) where
+  no_price : (program : Program) (schedule : Order) (bases : List (ArrayId × Basis)) (budget : Account) (array : ℕ) (fold : Fold) (choice : Choice) (given : Option Shape) (j : ℕ)
+      → IsTaken given Answers program schedule budget array fold choice → slice_get choice.prices j ≡ Some None → IsSpent budget
+  no_price program schedule bases budget array fold choice (Some shape) j taken at = absurd (none-some {A = Option Price} None (ap (λ ps. slice_get ps j) (sym taken.1) ∙ at))
+  no_price program schedule bases budget array fold choice None j taken at =
+      let s = beside choice.prices (listing (length fold.basis.rows)) j None (sym taken.prices.one_each) at in
+      taken.prices.each j s.0 None s.1 at
+
+  pub unlimited_folds_all : UnlimitedFoldsAll Answers
+  unlimited_folds_all text schedule left folded report h plenty =
+      let r = h.folds_to in
+      let none : h.account.limit ≡ None = nothing_counted h.account left (threshold (nest_of r.compiles.source) r.plan.schedule) h.counted plenty in (
+        λ whole. unlimited h.account none (r.are_folds.whole whole),
+        λ array fold is has. unlimited h.account none (r.are_folds.bound array fold is has),
+        λ array fold choice j is at missing.
+            let c = r.are_folds.chosen array fold is in
+            let same : c.choice ≡ choice = same_Some c.choice choice (sym c.found ∙ at) in
+            unlimited h.account none
+            (no_price r.compiles.source r.plan.schedule r.plan.folds h.account array fold choice (given_for r.plan.folds array (length fold.basis.rows)) j
+            (subst (λ (d : Choice). IsTaken (given_for r.plan.folds array (length fold.basis.rows)) Answers r.compiles.source r.plan.schedule h.account array fold d) same c.is.taken) missing),
+      )
+
+  pub none_is_cheaper : NoneIsCheaper Answers
+  none_is_cheaper text schedule budget folded report never r array fold choice is at given settled other cost like costs =
+      let c = r.are_folds.chosen array fold is in
+      let same : c.choice ≡ choice = same_Some c.choice choice (sym c.found ∙ at) in
+      none_costs_less Answers r.compiles.source r.plan.schedule r.plan.folds budget array fold choice (reads_plain text r.compiles.source r.compiles.source_reads r.plain) never
+      (subst (IsChoice Answers r.compiles.source r.plan.schedule r.plan.folds budget array fold) same c.is) given settled other cost like costs
 
 pub flows_are_sound : FlowsAreSound
 flows_are_sound text told f = record {
@@ -186,6 +224,24 @@ foldable_is_not_refused text schedule (Unwritten array access p b) f says = absu
 foldable_is_not_refused text schedule (Illegal p a b) f says = absurd (not_illegal text schedule p a b f says)
 foldable_is_not_refused text schedule Budget f says = inl refl
 foldable_is_not_refused text schedule Memory f says = inr refl
+
+not_short : (text : List ℕ) (schedule : Option (List ℕ)) (limit : Option ℕ) (f : IsFoldable text schedule) → IsUnlimited f.program f.plan.schedule limit → IsShort text schedule limit → ⊥
+not_short text schedule limit f (inl none) short = absurd (none-some short.most (sym none ∙ short.limited))
+not_short text schedule limit f (inr plenty) short =
+    let tree = one_tree limits_of text short.of.tree f.program short.of.reads f.reads in
+    let here : HasPlan f.program schedule short.of.plan = subst (λ t. HasPlan t schedule short.of.plan) tree short.of.planned in
+    let same = one_threshold (nest_of f.program) f.program schedule f.plan short.of.plan f.planned here ∙ ap (λ t. threshold (nest_of t) short.of.plan.schedule) (sym tree) in
+    let reached = leb-true (threshold (nest_of f.program) f.plan.schedule) short.most (sym (ap (λ l. reaches l (threshold (nest_of f.program) f.plan.schedule)) short.limited) ∙ plenty) in
+    no_less (threshold (nest_of f.program) f.plan.schedule) (threshold (nest_of short.of.tree) short.of.plan.schedule) short.most same reached short.below
+  where
+    no_less : (n m most : ℕ) → n ≡ m → n ≤ most → most < m → ⊥
+    no_less n m most e f g = omega arith
+
+pub unlimited_is_not_refused : UnlimitedIsNotRefused
+unlimited_is_not_refused text schedule limit refusal f plenty says short = elim (foldable_is_not_refused text schedule refusal f says) [
+  | inl budget ↦ absurd (not_short text schedule limit f plenty (short budget))
+  | inr memory ↦ memory
+]
 
 pub sound_is_not_refused : SoundIsNotRefused
 sound_is_not_refused text (Source fault) s says = absurd (no_source_fault text fault s says)

@@ -1,5 +1,5 @@
 -- What the folds of a program are asked of, and what they give.
-use Rattle.std.proofs.Common.{◌≡◌, ℤ, IsTrue, List, [], ◌∷◌, sym, subst, inl, inr}
+use Rattle.std.proofs.Common.{◌≡◌, ℕ, ℤ, IsTrue, List, [], ◌∷◌, sym, subst, inl, inr}
 use Rattle.affc_ast.specs.declared.tree.ArrayId.{ArrayId}
 use Rattle.affc_ast.specs.declared.tree.Program.{Program}
 use Rattle.affc_ast.specs.declared.tree.Instance.{Instance}
@@ -21,6 +21,7 @@ use Rattle.affc_quast.specs.Limits.{narrow, AreTreesWithin}
 use Rattle.affc_quast.specs.Sources.{NameSources, HaveNearQuotients}
 use Rattle.affc_quast.specs.Trees.{Tree}
 use Rattle.affc_basis.specs.declared.fold.Fold.{Fold}
+use Rattle.affc_weigh.specs.declared.choice.Choice.{Choice}
 use Rattle.affc_schedtext.specs.declared.plan.Plan.{Plan}
 use Rattle.affc_folds.specs.Folding.{IsAnalysed, AreFoldsUnder}
 use Rattle.affc_driver.specs.Flows.{NameThroughout}
@@ -56,17 +57,17 @@ analysed program nest trees schedule plain names is within fits slight named lim
 }
 
 -- where there are no temporaries
-pub decided_without : (program : Program) (plan : Plan) (budget : Account) → NamesArrays program → StaysWithin program → program.temps ≡ [] → LegalThroughout program plan.schedule
-    → AreDecided program plan budget []
-decided_without program plan budget names within none legal = record {
+pub decided_without : (Answers : List ℕ → ℕ → Type 0) (program : Program) (plan : Plan) (budget : Account) → NamesArrays program → StaysWithin program → program.temps ≡ [] → LegalThroughout program plan.schedule
+    → AreDecided Answers program plan budget [] []
+decided_without Answers program plan budget names within none legal = record {
   written = λ text reads bare. none_is_written program names within none;
   legal = legal;
-  are_folds = no_folds program plan.schedule plan.folds budget none;
+  are_folds = no_folds Answers program plan.schedule plan.folds budget none;
 }
 
 pub written_each : (program : Program) (trees : List Tree) → StaysWithin program → NameThroughout program trees → OfEachText program (λ text. WrittenThroughout program)
 written_each program trees within named text reads bare = named_is_written text program trees reads bare within named
 
-pub decided : (program : Program) (plan : Plan) (budget : Account) (trees : List Tree) (folds : List (ArrayId × Fold)) → StaysWithin program → NameThroughout program trees
-    → LegalThroughout program plan.schedule → AreFoldsUnder program plan.schedule plan.folds budget folds → AreDecided program plan budget folds
-decided program plan budget trees folds within named legal are = record { written = written_each program trees within named; legal = legal; are_folds = are }
+pub decided : (Answers : List ℕ → ℕ → Type 0) (program : Program) (plan : Plan) (budget : Account) (trees : List Tree) (folds : List (ArrayId × Fold)) (choices : List (ArrayId × Choice)) → StaysWithin program → NameThroughout program trees
+    → LegalThroughout program plan.schedule → AreFoldsUnder Answers program plan.schedule plan.folds budget folds choices → AreDecided Answers program plan budget folds choices
+decided Answers program plan budget trees folds choices within named legal are = record { written = written_each program trees within named; legal = legal; are_folds = are }

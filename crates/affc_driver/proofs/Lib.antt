@@ -9,3 +9,5 @@ pub mod Complete
 pub mod Refused
 pub mod Told
 pub mod Folded
+pub mod Counted
+pub mod Costed

@@ -46,7 +46,7 @@ no_plan program text fault other is source reads bare = record {
   is_fault = other;
 }
 
-abbrev planned : (program : Program) (plan : Plan) (schedule : Option (List ℕ)) → HasPlan program schedule plan → OfEachText program (λ text. IsPlanned text schedule)
+abbrev pub planned : (program : Program) (plan : Plan) (schedule : Option (List ℕ)) → HasPlan program schedule plan → OfEachText program (λ text. IsPlanned text schedule)
 planned program plan schedule has text reads bare = record { tree = program; reads = reads; plain = bare; plan = plan; planned = has }
 
 pub meant : (program : Program) (fault : MeaningFault) → IsMeaningFault program fault

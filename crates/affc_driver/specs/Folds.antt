@@ -7,6 +7,7 @@ use Rattle.affc_trace.specs.Laws.{in_target_order}
 use Rattle.affc_split.specs.Budgets.{Account}
 use Rattle.affc_basis.specs.declared.fold.Fold.{Fold}
 use Rattle.affc_basis.specs.Folds.{place}
+use Rattle.affc_weigh.specs.declared.choice.Choice.{Choice}
 use Rattle.affc_rewrite.specs.Rewrite.{folded_program}
 use Rattle.affc_loops.specs.Loops.{target_program}
 use Rattle.affc_cprint.specs.Layout.{printed_text}
@@ -20,11 +21,13 @@ use Rattle.affc_driver.specs.Reports.{report_text}
 -- printed text of the schedule's loops, which for the source's own order are the source, with folded subscripts and extents. The
 -- source is without the prelude and keeps to its arrays at all values of its parameters, of which there are some, and each load
 -- of a temporary is written before; the schedule is legal. The folds are of its temporaries, over the plan's bases where it
--- gives them: they keep apart what is live together, and the report shows each with its marks, which are true. This budget is
--- what is left: only where no unit is left a temporary is whole, or a modulus a bound alone.
-pub record FoldsTo (source : List ℕ) (schedule : Option (List ℕ)) (budget : Account) (text report : List ℕ) : Type 0 where
+-- gives them, else over the cheapest that are listed, by what the stored cost answers: they keep apart what is live together, and
+-- the report shows each with its marks, which are true, with its cost and with what the other listed bases come to. This budget is
+-- what is left: only where no unit is left a temporary is whole, a modulus a bound alone, or the price of a basis missing.
+pub record FoldsTo (Answers : List ℕ → ℕ → Type 0) (source : List ℕ) (schedule : Option (List ℕ)) (budget : Account) (text report : List ℕ) : Type 0 where
   pub plan : Plan
   pub folds : List (ArrayId × Fold)
+  pub choices : List (ArrayId × Choice)
   pub compiles : CompilesText Reads ReadsWide text source (in_target_order plan.schedule) (place folds)
   pub loops : compiles.target ≡ target_program (folded_program compiles.source folds) plan.schedule
   pub printed : text ≡ printed_text compiles.target
@@ -33,5 +36,5 @@ pub record FoldsTo (source : List ℕ) (schedule : Option (List ℕ)) (budget : 
   pub written : WrittenThroughout compiles.source
   pub planned : HasPlan compiles.source schedule plan
   pub legal : LegalThroughout compiles.source plan.schedule
-  pub are_folds : AreFoldsUnder compiles.source plan.schedule plan.folds budget folds
-  pub told : report ≡ report_text compiles.source folds
+  pub are_folds : AreFoldsUnder Answers compiles.source plan.schedule plan.folds budget folds choices
+  pub told : report ≡ report_text compiles.source folds choices

@@ -1,5 +1,5 @@
 -- What a compilation's answers say of a source and of its runs.
-use Rattle.std.specs.Prelude.{◌≡◌, ◌↔◌, ◌⊎◌, ℕ, ℤ, false, IsTrue, List, Option, Some, None}
+use Rattle.std.specs.Prelude.{◌≡◌, ◌≢◌, ◌≤◌, ◌↔◌, ◌⊎◌, ℕ, ℤ, false, IsTrue, List, length, Option, Some, None, slice_get}
 use Rattle.affc_ast.specs.declared.tree.ArrayId.{ArrayId}
 use Rattle.affc_ast.specs.declared.tree.Instance.{Instance}
 use Rattle.affc_ast.specs.declared.tree.Program.{Program}
@@ -19,7 +19,12 @@ use Rattle.affc_loops.specs.Loops.{target_program}
 use Rattle.affc_basis.specs.declared.fold.Fold.{Fold}
 use Rattle.affc_basis.specs.Folds.{fold_of}
 use Rattle.affc_rewrite.specs.Rewrite.{folded_program}
-use Rattle.affc_folds.specs.Folding.{AreFoldsUnder, IsLeftWhole, HasBound}
+use Rattle.affc_weigh.specs.declared.choice.Choice.{Choice}
+use Rattle.affc_weigh.specs.Choices.{choice_of}
+use Rattle.affc_weigh.specs.Costs.{NeverFalls}
+use Rattle.affc_weigh.specs.Laws.{IsStoredCost}
+use Rattle.affc_folds.specs.Folding.{AreFoldsUnder, IsLeftWhole, HasBound, given_for}
+use Rattle.affc_folds.specs.Laws.{IsListedFold, IsSettled}
 use Rattle.affc_schedtext.specs.declared.plan.Plan.{Plan}
 use Rattle.affc_bounds.specs.Faults.{StaysWithin}
 use Rattle.affc_bounds.specs.Laws.{IsStuckAt}
@@ -27,6 +32,7 @@ use Rattle.affc_bounds.specs.declared.fault.MeaningFault.{MeaningFault}
 use Rattle.affc_bounds.specs.declared.fault.MeaningFault.TheVariants.{IteratorRange, Context, Extent, Bounds}
 use Rattle.affc_quast.specs.Trees.{Tree}
 use Rattle.affc_sched.specs.Violations.{IsViolation}
+use Rattle.affc_driver.specs.Accounts.{IsUnlimited, FoldsWith, IsShort}
 use Rattle.affc_driver.specs.Flows.{NameThroughout, FlowsTo}
 use Rattle.affc_driver.specs.Folds.{FoldsTo}
 use Rattle.affc_driver.specs.Plans.{HasPlan, LegalThroughout, WrittenThroughout}
@@ -62,17 +68,30 @@ NamedIsWritten = (text : List ℕ) (program : Program) (trees : List Tree)
     → Reads text program → program.prelude ≡ false → StaysWithin program → NameThroughout program trees → WrittenThroughout program
 
 -- So what is printed of the loops of a legal schedule, with folds of the program under it, compiles the text.
-abbrev pub PrintedCompiles : Type 0
-PrintedCompiles = (text : List ℕ) (schedule : Option (List ℕ)) (program : Program) (plan : Plan) (budget : Account) (folds : List (ArrayId × Fold))
+abbrev pub PrintedCompiles : (Answers : List ℕ → ℕ → Type 0) → Type 0
+PrintedCompiles Answers = (text : List ℕ) (schedule : Option (List ℕ)) (program : Program) (plan : Plan) (budget : Account) (folds : List (ArrayId × Fold)) (choices : List (ArrayId × Choice))
     → Reads text program → program.prelude ≡ false → StaysWithin program → WrittenThroughout program
-    → HasPlan program schedule plan → LegalThroughout program plan.schedule → AreFoldsUnder program plan.schedule plan.folds budget folds
-    → FoldsTo text schedule budget (printed_text (target_program (folded_program program folds) plan.schedule)) (report_text program folds)
+    → HasPlan program schedule plan → LegalThroughout program plan.schedule → AreFoldsUnder Answers program plan.schedule plan.folds budget folds choices
+    → FoldsTo Answers text schedule budget (printed_text (target_program (folded_program program folds) plan.schedule)) (report_text program folds choices)
 
--- Without a limit on what is spent, each temporary has a fold, and no modulus is a bound alone.
-abbrev pub UnlimitedFoldsAll : Type 0
-UnlimitedFoldsAll = (text : List ℕ) (schedule : Option (List ℕ)) (budget : Account) (folded report : List ℕ)
-    → budget.limit ≡ None → (r : FoldsTo text schedule budget folded report)
-    → (¬ (IsLeftWhole r.compiles.source r.folds)) × ((array : ℕ) (fold : Fold) → fold_of r.folds array ≡ Some fold → ¬ (HasBound fold))
+-- Without a limit on what is spent, or with one of at least the threshold, each temporary has a fold, no modulus is a bound alone, and no
+-- price of a basis is missing.
+abbrev pub UnlimitedFoldsAll : (Answers : List ℕ → ℕ → Type 0) → Type 0
+UnlimitedFoldsAll Answers = (text : List ℕ) (schedule : Option (List ℕ)) (left : Account) (folded report : List ℕ) (r : FoldsWith Answers text schedule left folded report)
+    → IsUnlimited r.folds_to.compiles.source r.folds_to.plan.schedule left.limit
+    → (¬ (IsLeftWhole r.folds_to.compiles.source r.folds_to.folds))
+    × ((array : ℕ) (fold : Fold) → fold_of r.folds_to.folds array ≡ Some fold → ¬ (HasBound fold))
+    × ((array : ℕ) (fold : Fold) (choice : Choice) (j : ℕ) → fold_of r.folds_to.folds array ≡ Some fold → choice_of r.folds_to.choices array ≡ Some choice → slice_get choice.prices j ≢ Some None)
+
+-- Where the schedule gives no basis for a temporary, all its moduli are marked and no price of another basis is missing, no other
+-- large enough fold over a listed basis costs less.
+abbrev pub NoneIsCheaper : (Answers : List ℕ → ℕ → Type 0) → Type 0
+NoneIsCheaper Answers = (text : List ℕ) (schedule : Option (List ℕ)) (budget : Account) (folded report : List ℕ)
+    → NeverFalls Answers → (r : FoldsTo Answers text schedule budget folded report)
+    → (array : ℕ) (fold : Fold) (choice : Choice) → fold_of r.folds array ≡ Some fold → choice_of r.choices array ≡ Some choice
+    → given_for r.plan.folds array (length fold.basis.rows) ≡ None → IsSettled fold choice
+    → (other : Fold) (cost : ℕ) → IsListedFold r.compiles.source r.plan.schedule array (length fold.basis.rows) other
+    → IsStoredCost Answers (IsInContext r.compiles.source) other cost → choice.cost ≤ cost
 
 -- ---- What is refused
 
@@ -114,14 +133,19 @@ pub record IsFoldable (text : List ℕ) (schedule : Option (List ℕ)) : Type 0 
   pub legal : LegalThroughout program plan.schedule
 
 -- Exactly such a text has one that it is folded to, whatever is left of a budget.
-abbrev pub FoldableIsFolded : Type 0
-FoldableIsFolded = (text : List ℕ) (schedule : Option (List ℕ))
-    → IsFoldable text schedule ↔ ((budget : Account) × ((folded : List ℕ) × ((report : List ℕ) × FoldsTo text schedule budget folded report)))
+abbrev pub FoldableIsFolded : (Answers : List ℕ → ℕ → Type 0) → Type 0
+FoldableIsFolded Answers = (text : List ℕ) (schedule : Option (List ℕ))
+    → IsFoldable text schedule ↔ ((budget : Account) × ((folded : List ℕ) × ((report : List ℕ) × FoldsTo Answers text schedule budget folded report)))
 
 -- It is refused, if at all, for want of budget or of memory.
 abbrev pub FoldableIsNotRefused : Type 0
 FoldableIsNotRefused = (text : List ℕ) (schedule : Option (List ℕ)) (refusal : Refusal)
     → IsFoldable text schedule → RefusalSays text schedule refusal → (refusal ≡ Budget) ⊎ (refusal ≡ Memory)
+
+-- Without a limit on what is spent, or with one of at least the threshold, it is for want of memory.
+abbrev pub UnlimitedIsNotRefused : Type 0
+UnlimitedIsNotRefused = (text : List ℕ) (schedule : Option (List ℕ)) (limit : Option ℕ) (refusal : Refusal) (f : IsFoldable text schedule)
+    → IsUnlimited f.program f.plan.schedule limit → RefusalSays text schedule refusal → (refusal ≡ Budget → IsShort text schedule limit) → refusal ≡ Memory
 
 -- The text reads as a program without the prelude, within the interval rule, that some data fit and that is never stuck.
 pub record IsSound (text : List ℕ) : Type 0 where

@@ -1,6 +1,7 @@
 pub mod Plans
 pub mod Reports
 pub mod Folds
+pub mod Accounts
 pub mod Made
 pub mod Flows
 pub mod Refusals

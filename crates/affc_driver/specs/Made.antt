@@ -4,22 +4,32 @@ use Rattle.affc_ast.specs.declared.tree.ArrayId.{ArrayId}
 use Rattle.affc_ast.specs.declared.tree.Program.{Program}
 use Rattle.affc_split.specs.Budgets.{Account}
 use Rattle.affc_basis.specs.declared.fold.Fold.{Fold}
+use Rattle.affc_weigh.specs.declared.choice.Choice.{Choice}
 use Rattle.affc_rewrite.specs.Rewrite.{folded_program}
 use Rattle.affc_loops.specs.Loops.{target_program}
 use Rattle.affc_cprint.specs.Layout.{printed_text}
 use Rattle.affc_schedtext.specs.declared.plan.Plan.{Plan}
+use Rattle.affc_bounds.specs.Faults.{StaysWithin}
 use Rattle.affc_folds.specs.Folding.{AreFoldsUnder}
 use Rattle.affc_driver.specs.Plans.{LegalThroughout, WrittenThroughout}
 use Rattle.affc_driver.specs.Programs.{OfEachText}
 use Rattle.affc_driver.specs.Reports.{report_text}
 
 -- each load of a temporary is written before, the plan's schedule is legal, and these are folds under it
-pub record AreDecided (program : Program) (plan : Plan) (budget : Account) (folds : List (ArrayId × Fold)) : Type 0 where
+pub record AreDecided (Answers : List ℕ → ℕ → Type 0) (program : Program) (plan : Plan) (budget : Account) (folds : List (ArrayId × Fold)) (choices : List (ArrayId × Choice)) : Type 0 where
   pub written : OfEachText program (λ text. WrittenThroughout program)
   pub legal : LegalThroughout program plan.schedule
-  pub are_folds : AreFoldsUnder program plan.schedule plan.folds budget folds
+  pub are_folds : AreFoldsUnder Answers program plan.schedule plan.folds budget folds choices
 
 -- text and report of the program with these folds
-pub record IsMadeOf (program : Program) (plan : Plan) (folds : List (ArrayId × Fold)) (text report : List ℕ) : Type 0 where
+pub record IsMadeOf (program : Program) (plan : Plan) (folds : List (ArrayId × Fold)) (choices : List (ArrayId × Choice)) (text report : List ℕ) : Type 0 where
   pub printed : text ≡ printed_text (target_program (folded_program program folds) plan.schedule)
-  pub told : report ≡ report_text program folds
+  pub told : report ≡ report_text program folds choices
+
+-- The program keeps to its arrays, and the text and the report are made of it with folds that are decided by its plan.
+pub record IsCompiled (Answers : List ℕ → ℕ → Type 0) (program : Program) (plan : Plan) (budget : Account) (text report : List ℕ) : Type 0 where
+  pub within : StaysWithin program
+  pub folds : List (ArrayId × Fold)
+  pub choices : List (ArrayId × Choice)
+  pub decided : AreDecided Answers program plan budget folds choices
+  pub made : IsMadeOf program plan folds choices text report

@@ -3,9 +3,10 @@ use Rattle.std.specs.Prelude.{ℕ, List}
 use Rattle.affc_ast.specs.declared.tree.ArrayId.{ArrayId}
 use Rattle.affc_ast.specs.declared.tree.Program.{Program}
 use Rattle.affc_basis.specs.declared.fold.Fold.{Fold}
+use Rattle.affc_weigh.specs.declared.choice.Choice.{Choice}
 use Rattle.affc_schedtext.specs.Outline.{outline}
 use Rattle.affc_report.specs.Folds.{fold_report}
 
--- the folds of its temporaries, in order of declaration
-abbrev pub report_text : Program → List (ArrayId × Fold) → List ℕ
-report_text program folds = fold_report (outline program) folds
+-- the folds of its temporaries, in order of declaration, and their costs
+abbrev pub report_text : Program → List (ArrayId × Fold) → List (ArrayId × Choice) → List ℕ
+report_text program folds choices = fold_report (outline program) folds choices

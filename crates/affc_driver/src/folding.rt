@@ -1,8 +1,9 @@
 //! A source, compiled.
-ghost use Rattle.std.specs.Prelude.{◌≡◌, ◌≢◌, ◌≤◌, IfOk, OnOk, IfErr, IsNone, IsTrue, List, Option, option_map, Some, ℕ, Err};
+ghost use Rattle.std.specs.Prelude.{◌≡◌, ◌≢◌, ◌≤◌, IfOk, OnOk, IfErr, IsNone, IsTrue, true, List, Option, option_map, Some, None, ℕ, nat_le, Err};
 ghost use Rattle.affc_ast.specs.Counted.{IsCounted};
 ghost use Rattle.affc_trace.specs.Target.{IsScheduleOf, within_limits};
 ghost use Rattle.affc_domain.specs.Plain.{IsPlain};
+ghost use Rattle.affc_domain.specs.Ranges.{first_wide};
 ghost use Rattle.affc_split.specs.Budgets.{IsLater};
 ghost use Rattle.affc_nest.specs.Laws.{NamesArrays};
 ghost use Rattle.affc_nest.specs.Nests.{nest_of};
@@ -10,14 +11,15 @@ ghost use Rattle.affc_bounds.specs.Faults.{StaysWithin};
 ghost use Rattle.affc_parse.specs.Answers.{Answers};
 ghost use Rattle.affc_basis.specs.FoldLists.{AreFoldsIn};
 ghost use Rattle.affc_rewrite.specs.Rewrite.{KeepLimits};
-ghost use Rattle.affc_driver.specs.Folds.{FoldsTo};
-ghost use Rattle.affc_driver.specs.Made.{IsMadeOf};
+ghost use Rattle.affc_threshold.specs.Thresholds.{threshold};
+ghost use Rattle.affc_driver.specs.Accounts.{FoldsWith, IsShort, IsPlenty, free, is_plenty, reaches};
+ghost use Rattle.affc_driver.specs.Made.{IsCompiled, IsMadeOf};
 ghost use Rattle.affc_driver.specs.Plans.{HasPlan};
 ghost use Rattle.affc_driver.specs.Printed.{HasPrelude, ReadsPrinted, holds_prelude};
 ghost use Rattle.affc_driver.specs.Programs.{OfEachText, OfEachPlan};
 ghost use Rattle.affc_driver.specs.Refusals.{RefusalSays, FlowRefusalSays};
 
-use crate::meaning::nest_within;
+use crate::meaning::{nest_of, stays_within};
 use crate::refusal::Refusal;
 use crate::temporaries::folds_under;
 use affc_ast::tree::{ArrayId, Program};
@@ -38,7 +40,9 @@ use affc_scan::scan;
 use affc_schedtext::program::outline_of;
 use affc_schedtext::{Plan, SchedFault};
 use affc_split::Budget;
+use affc_threshold::bound;
 use affc_trace::schedule::Schedule;
+use affc_weigh::{Choice, Cost, Weigher};
 use sqlite_items::Items;
 use std::alloc::Global;
 
@@ -117,6 +121,7 @@ fn finish(
     nest: &Nest,
     plan: &Plan,
     folds: &[(ArrayId, Fold)],
+    choices: &[(ArrayId, Choice)],
 ) -> Result<Done, Refusal>
     requires plain { IsPlain program.now }
     requires nest { nest.now ≡ nest_of program.now }
@@ -125,14 +130,14 @@ fn finish(
     requires slight { IsTrue (within_limits plan.now.schedule) }
     requires in_program { AreFoldsIn program.now folds.now }
     requires limits { KeepLimits program.now folds.now }
-    ensures ok { IfOk result (λ done. IsMadeOf program.now plan.now folds.now done.text.items done.report.items) }
+    ensures ok { IfOk result (λ done. IsMadeOf program.now plan.now folds.now choices.now done.text.items done.report.items) }
     ensures err { IfErr result (λ refusal. refusal ≡ Refusal.Memory) }
 {
     folds_are_scanned();
     let other = rewrite(alloc, program, nest, folds)?;
     let target = scan(alloc, &other, nest, &plan.schedule)?;
     let outline = outline_of(alloc, program)?;
-    let report = fold_report(alloc, &outline, folds)?;
+    let report = fold_report(alloc, &outline, folds, choices)?;
     match print(alloc, &target) {
         Ok(text) => Ok(Done { text, report }),
         Err(_) => Err(Refusal::Memory),
@@ -140,64 +145,145 @@ fn finish(
 }
 
 // What is made of a plain program by its plan: its arrays are looked at first, then its dataflow, then the order.
-fn compile(
+fn compile_counted<F: Cost>(
+    alloc: Global,
+    program: &Program,
+    nest: &Nest,
+    plan: &Plan,
+    cost: &Weigher<F>,
+    budget: &mut Budget,
+) -> Result<Done, Refusal>
+    requires plain { IsPlain program.now }
+    requires arrays { NamesArrays program.now }
+    requires near { first_wide program.now ≡ None }
+    requires nest { nest.now ≡ nest_of program.now }
+    requires fits { IsScheduleOf program.now plan.now.schedule }
+    requires slight { IsTrue (within_limits plan.now.schedule) }
+    ensures ok { IfOk result (λ done. IsCompiled (F.answers cost.now.cost) program.now plan.now budget.new done.text.items done.report.items) }
+    ensures err { IfErr result (λ refusal. OfEachPlan program.now plan.now (λ text schedule. RefusalSays text schedule refusal)) }
+    ensures later { IsLater budget.old budget.new }
+    ensures stop { IfErr result (λ refusal. refusal ≡ Refusal.Budget → budget.new.limit ≡ Some budget.new.spent) }
+{
+    match stays_within(alloc, program, nest, budget) {
+        Ok(()) => {}
+        Err(refusal) => return Err(refusal),
+    }
+    let folded = folds_under(alloc, program, nest, plan, cost, budget)?;
+    let folds = folded.folds.as_slice();
+    let choices = folded.choices.as_slice();
+    finish(alloc, program, nest, plan, folds, choices)
+}
+
+// The same within no budget.
+fn compile_freely<F: Cost>(
+    alloc: Global,
+    program: &Program,
+    nest: &Nest,
+    plan: &Plan,
+    cost: &Weigher<F>,
+) -> Result<Done, Refusal>
+    requires plain { IsPlain program.now }
+    requires arrays { NamesArrays program.now }
+    requires near { first_wide program.now ≡ None }
+    requires nest { nest.now ≡ nest_of program.now }
+    requires fits { IsScheduleOf program.now plan.now.schedule }
+    requires slight { IsTrue (within_limits plan.now.schedule) }
+    ensures ok { IfOk result (λ done. IsCompiled (F.answers cost.now.cost) program.now plan.now free done.text.items done.report.items) }
+    ensures err { IfErr result (λ refusal. OfEachPlan program.now plan.now (λ text schedule. RefusalSays text schedule refusal)) }
+    ensures free { IfErr result (λ refusal. refusal ≢ Refusal.Budget) }
+{
+    let mut budget = Budget::new(None);
+    compile_counted(alloc, program, nest, plan, cost, &mut budget)
+}
+
+// Whether so many units are at least the threshold.
+fn are_plenty(nest: &Nest, schedule: &Schedule, units: u64) -> bool
+    ensures { result ≡ nat_le (threshold nest.now schedule.now) units }
+{
+    bound(nest, schedule) <= u128::from(units)
+}
+
+// Whether a budget is.
+fn is_plenty(nest: &Nest, schedule: &Schedule, budget: &Budget) -> bool
+    ensures { result ≡ reaches budget.now.limit (threshold nest.now schedule.now) }
+{
+    match budget.limit() {
+        None => false,
+        Some(units) => are_plenty(nest, schedule, units),
+    }
+}
+
+// The same within a budget, which counts as none where it is at least the threshold.
+fn compile<F: Cost>(
     alloc: Global,
     program: &Program,
     plan: &Plan,
+    cost: &Weigher<F>,
     budget: &mut Budget,
 ) -> Result<Done, Refusal>
     requires plain { IsPlain program.now }
     requires arrays { NamesArrays program.now }
     requires fits { IsScheduleOf program.now plan.now.schedule }
     requires slight { IsTrue (within_limits plan.now.schedule) }
-    ensures ok { IfOk result (λ done. OfEachPlan program.now plan.now (λ text schedule. FoldsTo text schedule budget.new done.text.items done.report.items)) }
+    ensures ok { IfOk result (λ done. OfEachPlan program.now plan.now (λ text schedule. FoldsWith (F.answers cost.now.cost) text schedule budget.new done.text.items done.report.items)) }
     ensures err { IfErr result (λ refusal. OfEachPlan program.now plan.now (λ text schedule. RefusalSays text schedule refusal)) }
     ensures later { IsLater budget.old budget.new }
     ensures stop { IfErr result (λ refusal. refusal ≡ Refusal.Budget → budget.new.limit ≡ Some budget.new.spent) }
+    ensures short { IfErr result (λ refusal. refusal ≡ Refusal.Budget → OfEachPlan program.now plan.now (λ text schedule. IsShort text schedule budget.new.limit)) }
+    ensures plenty { is_plenty program.now plan.now.schedule budget.old.limit ≡ true → budget.new ≡ budget.old }
 {
     folds_well_named();
     folded_program_compiles();
-    let nest = match nest_within(alloc, program, budget) {
+    let nest = match nest_of(alloc, program) {
         Ok(nest) => nest,
         Err(refusal) => return Err(refusal),
     };
-    let folds = folds_under(alloc, program, &nest, plan, budget)?;
-    finish(alloc, program, &nest, plan, folds.as_slice())
+    if is_plenty(&nest, &plan.schedule, budget) {
+        return compile_freely(alloc, program, &nest, plan, cost);
+    }
+    compile_counted(alloc, program, &nest, plan, cost, budget)
 }
 
 // What is made of a plain program with a schedule, whose text is read first.
-fn compile_with(
+fn compile_with<F: Cost>(
     alloc: Global,
     program: &Program,
     schedule: Option<&[u8]>,
+    cost: &Weigher<F>,
     budget: &mut Budget,
 ) -> Result<Done, Refusal>
     requires plain { IsPlain program.now }
     requires counted { IsCounted program.now }
     requires arrays { NamesArrays program.now }
-    ensures ok { IfOk result (λ done. OfEachText program.now (λ text. FoldsTo text (option_map (λ t. t.now) schedule.entry) budget.new done.text.items done.report.items)) }
+    ensures ok { IfOk result (λ done. OfEachText program.now (λ text. FoldsWith (F.answers cost.now.cost) text (option_map (λ t. t.now) schedule.entry) budget.new done.text.items done.report.items)) }
     ensures err { IfErr result (λ refusal. OfEachText program.now (λ text. RefusalSays text (option_map (λ t. t.now) schedule.entry) refusal)) }
     ensures later { IsLater budget.old budget.new }
     ensures stop { IfErr result (λ refusal. refusal ≡ Refusal.Budget → budget.new.limit ≡ Some budget.new.spent) }
+    ensures short { IfErr result (λ refusal. refusal ≡ Refusal.Budget → OfEachText program.now (λ text. IsShort text (option_map (λ t. t.now) schedule.entry) budget.new.limit)) }
+    ensures plenty { OfEachText program.now (λ text. IsPlenty text (option_map (λ t. t.now) schedule.entry) budget.old.limit → budget.new ≡ budget.old) }
 {
     let plan = plan_of(alloc, program, schedule)?;
-    compile(alloc, program, &plan, budget)
+    compile(alloc, program, &plan, cost, budget)
 }
 
-/// The text that does what the source does, in the order of the schedule and on folded temporaries, or why there is none. A unit of the budget is
-/// a box of a question that is opened.
-pub fn fold(
+/// The text that does what the source does, in the order of the schedule and on temporaries that are folded at the least cost among the listed
+/// bases, or why there is none. A unit of the budget is a box of a question that is opened; a budget of at least the threshold of
+/// `affc_threshold` counts as none.
+pub fn fold<F: Cost>(
     alloc: Global,
     source: &[u8],
     schedule: Option<&[u8]>,
     budget: &mut Budget,
+    cost: &Weigher<F>,
 ) -> Result<Done, Refusal>
-    ensures ok { IfOk result (λ done. FoldsTo source.now (option_map (λ t. t.now) schedule.entry) budget.new done.text.items done.report.items) }
+    ensures ok { IfOk result (λ done. FoldsWith (F.answers cost.now.cost) source.now (option_map (λ t. t.now) schedule.entry) budget.new done.text.items done.report.items) }
     ensures err { IfErr result (RefusalSays source.now (option_map (λ t. t.now) schedule.entry)) }
     ensures limit { budget.new.limit ≡ budget.old.limit }
     ensures grows { budget.old.spent ≤ budget.new.spent }
     ensures uncounted { IsNone budget.old.limit → budget.new.spent ≡ budget.old.spent }
     ensures stop { IfErr result (λ refusal. refusal ≡ Refusal.Budget → budget.new.limit ≡ Some budget.new.spent) }
+    ensures short { IfErr result (λ refusal. refusal ≡ Refusal.Budget → IsShort source.now (option_map (λ t. t.now) schedule.entry) budget.new.limit) }
+    ensures plenty { IsPlenty source.now (option_map (λ t. t.now) schedule.entry) budget.old.limit → budget.new ≡ budget.old }
 {
     reads_counted();
     match parse(alloc, source) {
@@ -205,7 +291,7 @@ pub fn fold(
             if program.prelude {
                 return Err(printed(alloc, source));
             }
-            compile_with(alloc, &program, schedule, budget)
+            compile_with(alloc, &program, schedule, cost, budget)
         }
         Err(fault) => Err(unread(fault)),
     }

@@ -1,8 +1,9 @@
 //! What a compilation's answers say of a source and of its runs. Each law is the contract of a function that does nothing.
-ghost use Rattle.affc_driver.specs.Laws.{ReadsNamingArrays, CompilesItself, WithinNeverStuck, NamedIsWritten, PrintedCompiles, UnlimitedFoldsAll, FaultsShow, UnwrittenShows, IllegalShows, FoldableIsFolded, FoldableIsNotRefused, FlowsAreSound, SoundIsNotRefused};
+ghost use Rattle.affc_driver.specs.Laws.{ReadsNamingArrays, CompilesItself, WithinNeverStuck, NamedIsWritten, PrintedCompiles, UnlimitedFoldsAll, NoneIsCheaper, FaultsShow, UnwrittenShows, IllegalShows, FoldableIsFolded, FoldableIsNotRefused, UnlimitedIsNotRefused, FlowsAreSound, SoundIsNotRefused};
 
 use affc_foldprint::laws::folds_well_named;
 use affc_rewrite::laws::folded_program_compiles;
+use affc_weigh::laws::Costing;
 
 /// The program that a text reads as names arrays.
 pub fn reads_naming_arrays()
@@ -25,16 +26,22 @@ pub fn named_is_written()
 {}
 
 /// What is printed of the loops of a legal schedule, with folds, compiles the text that the program was read from.
-pub fn printed_compiles()
-    ensures law { PrintedCompiles }
+pub fn printed_compiles<C: Costing>()
+    ensures law { PrintedCompiles C.answers }
 {
     folds_well_named();
     folded_program_compiles();
 }
 
-/// Without a limit on what is spent each temporary is folded, by moduli that are shown to be least.
-pub fn unlimited_folds_all()
-    ensures law { UnlimitedFoldsAll }
+/// Without a limit on what is spent, or with one of at least the threshold, each temporary is folded, by moduli that are shown to be least, and
+/// all listed bases are priced.
+pub fn unlimited_folds_all<C: Costing>()
+    ensures law { UnlimitedFoldsAll C.answers }
+{}
+
+/// No large enough fold over a listed basis costs less than one that was chosen.
+pub fn none_is_cheaper<C: Costing>()
+    ensures law { NoneIsCheaper C.answers }
 {}
 
 /// Where a program leaves its arrays it is stuck; where its context is empty no data fit.
@@ -53,8 +60,8 @@ pub fn illegal_shows()
 {}
 
 /// A text is folded exactly where its program is never stuck, and its schedule is legal.
-pub fn foldable_is_folded()
-    ensures law { FoldableIsFolded }
+pub fn foldable_is_folded<C: Costing>()
+    ensures law { FoldableIsFolded C.answers }
 {
     folds_well_named();
     folded_program_compiles();
@@ -63,6 +70,11 @@ pub fn foldable_is_folded()
 /// Such a text is refused for want of budget or of memory, and for nothing else.
 pub fn foldable_is_not_refused()
     ensures law { FoldableIsNotRefused }
+{}
+
+/// Without a limit on what is spent, or with one of at least the threshold, for want of memory alone.
+pub fn unlimited_is_not_refused()
+    ensures law { UnlimitedIsNotRefused }
 {}
 
 /// Trees are told only of a text whose program is never stuck.

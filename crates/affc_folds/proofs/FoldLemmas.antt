@@ -1,14 +1,11 @@
 -- The fold of an array, from what its moduli are.
-use Rattle.std.proofs.Common.{◌≡◌, ℕ, ◌+◌, ◌-◌, ◌≤◌, ℤ, List, [], ◌∷◌, length, map, Some, refl, sym, ap, subst, ◌∙◌, arith}
+use Rattle.std.proofs.Common.{◌≡◌, ℕ, ◌+◌, ◌-◌, ◌≤◌, ℤ, List, length, map, Some, refl, sym, ap, subst, ◌∙◌, arith}
 use Rattle.std.specs.Prelude.{◌↔◌, slice_get}
 use Rattle.std.specs.List.{All}
-use Rattle.std.proofs.lemmas.Option.{none-some}
-use Rattle.std.proofs.lemmas.List.Elements.{All-nil}
 use Rattle.affc_rows.specs.Forms.{Affine, HaveColumns}
 use Rattle.affc_system.specs.ElementPairs.{IsPairOf}
 use Rattle.affc_system.specs.Pairs.{IsSubscript}
 use Rattle.affc_system.specs.declared.pairs.PairSystem.{PairSystem}
-use Rattle.affc_ast.specs.declared.tree.ArrayId.{ArrayId}
 use Rattle.affc_ast.specs.declared.tree.Program.{Program}
 use Rattle.affc_ast.specs.Meaning.{arrays_of}
 use Rattle.affc_trace.specs.declared.schedule.Schedule.{Schedule}
@@ -16,11 +13,8 @@ use Rattle.affc_trace.specs.Dataflow.{LivePair}
 use Rattle.affc_trace.specs.Laws.{IsInContext}
 use Rattle.affc_trace.specs.Target.{numbers_in}
 use Rattle.affc_domain.specs.Ranges.{number_ranges}
-use Rattle.affc_basis.specs.declared.basis.Basis.{Basis}
 use Rattle.affc_basis.specs.declared.fold.Fold.{Fold}
-use Rattle.affc_basis.specs.declared.fold.Modulus.{Modulus}
 use Rattle.affc_basis.specs.Folds.{forms_of, KeepsLimits, Obeys}
-use Rattle.affc_basis.specs.Listed.{shape_of}
 use Rattle.affc_basis.specs.Moduli.{Exceeds, IsModulus}
 use Rattle.affc_nest.specs.declared.nest.ArrayInfo.{ArrayInfo}
 use Rattle.affc_nest.specs.declared.nest.Nest.{Nest}
@@ -38,7 +32,8 @@ use Rattle.affc_life.proofs.FoundLemmas.{found_trees_keep_limits}
 use Rattle.affc_life.proofs.LightLemmas.{all_of}
 use Rattle.affc_life.proofs.LiveLemmas.{clashes_are_live_pairs}
 use Rattle.affc_life.proofs.SizeLemmas.{found_trees_are_never_large}
-use Rattle.affc_folds.specs.Folding.{IsAnalysed, basis_for, HasTrueMarks, IsFoldFor, HasBound}
+use Rattle.affc_folds.specs.Folding.{IsAnalysed, HasTrueMarks, IsFoldFor}
+use Rattle.affc_folds.specs.Systems.{AreLive}
 use Rattle.affc_folds.proofs.MarkLemmas.{exceeds_others, mark_of_others}
 use Rattle.affc_folds.proofs.NestLemmas.{near_ranges, to_context, from_context, HasForms, has_forms, is_temporary, arrays_in}
 
@@ -103,6 +98,9 @@ module _ (program : Program) (nest : Nest) (trees : List Tree) (schedule : Sched
     pub extents_are_forms : All (IsSubscript nest.context.columns) info.extents
     extents_are_forms = subst (λ (n : Nest). All (IsSubscript n.context.columns) info.extents) (sym a.is) its_forms.forms
 
+    pub extent_widths : All (λ (e : Affine). length nest.params ≡ length e.coefs) info.extents
+    extent_widths = all_of (IsSubscript nest.context.columns) (λ (e : Affine). length nest.params ≡ length e.coefs) (λ e s. as_many_ranges ∙ sym s.width) info.extents extents_are_forms
+
     module _ (systems : List PairSystem) (are : map clash_of systems ≡ clashes nest trees schedule array) where
       are_clashes : map clash_of systems ≡ clashes (nest_of program) trees schedule array
       are_clashes = are ∙ ap (λ (n : Nest). clashes n trees schedule array) a.is
@@ -118,73 +116,38 @@ module _ (program : Program) (nest : Nest) (trees : List Tree) (schedule : Sched
       live : (p : List ℤ) → IsInContext program p → (x y : List ℤ) → IsPairOf systems p x y ↔ LivePair program schedule array p x y
       live p inside x y = clashes_are_live_pairs program trees schedule array systems p x y a.has a.named a.fits shaped are_clashes inside (at_program.sources p inside)
 
-      -- ---- The fold
+      pub live_systems : AreLive program schedule nest array info.extents systems
+      live_systems = record { conflicts = conflicts; pairs = live }
 
-      module _ (fold : Fold) (rows : length fold.basis.rows ≡ length info.extents) (limits : All (IsModulus nest.context.columns) (forms_of fold.moduli)) where
-        to_obey : ((p : List ℤ) → InContext nest.context nest.params p → Exceeds (IsPairOf systems p) p fold.basis.rows (forms_of fold.moduli)) → (p : List ℤ) → IsInContext program p
-            → Obeys (LivePair program schedule array p) fold p
-        to_obey h p inside =
-            exceeds_others (IsPairOf systems p) (LivePair program schedule array p) (live p inside) p fold.basis.rows (forms_of fold.moduli)
-            (h p (subst (λ (n : Nest). InContext n.context n.params p) (sym a.is) (to_context program a.has.plain p inside)))
+    -- ---- The fold
 
-        true_marks : HasTrueMarks (InContext nest.context nest.params) (IsPairOf systems) fold → HasTrueMarks (IsInContext program) (LivePair program schedule array) fold
-        true_marks h k row m at at_m =
-            mark_of_others (InContext nest.context nest.params) (IsInContext program) (IsPairOf systems) (LivePair program schedule array)
-            (λ p i. from_context program a.has.plain p (subst (λ (n : Nest). InContext n.context n.params p) a.is i))
-            (λ p i. subst (λ (n : Nest). InContext n.context n.params p) (sym a.is) (to_context program a.has.plain p i)) live fold.basis.rows k row m.form m.mark (h k row m at at_m)
+    module _ (systems : List PairSystem) (l : AreLive program schedule nest array info.extents systems) (fold : Fold) (rows : length fold.basis.rows ≡ length info.extents) (limits : All (IsModulus nest.context.columns) (forms_of fold.moduli)) where
+      to_obey : ((p : List ℤ) → InContext nest.context nest.params p → Exceeds (IsPairOf systems p) p fold.basis.rows (forms_of fold.moduli)) → (p : List ℤ) → IsInContext program p
+          → Obeys (LivePair program schedule array p) fold p
+      to_obey h p inside =
+          exceeds_others (IsPairOf systems p) (LivePair program schedule array p) (l.pairs p inside) p fold.basis.rows (forms_of fold.moduli)
+          (h p (subst (λ (n : Nest). InContext n.context n.params p) (sym a.is) (to_context program a.has.plain p inside)))
 
-        parameters : nest.context.columns ≡ numbers_in program.params
-        parameters = ap (λ (n : Nest). n.context.columns) a.is ∙ sym (numbers_are program.params)
+      true_marks : HasTrueMarks (InContext nest.context nest.params) (IsPairOf systems) fold → HasTrueMarks (IsInContext program) (LivePair program schedule array) fold
+      true_marks h k row m at at_m =
+          mark_of_others (InContext nest.context nest.params) (IsInContext program) (IsPairOf systems) (LivePair program schedule array)
+          (λ p i. from_context program a.has.plain p (subst (λ (n : Nest). InContext n.context n.params p) a.is i))
+          (λ p i. subst (λ (n : Nest). InContext n.context n.params p) (sym a.is) (to_context program a.has.plain p i)) l.pairs fold.basis.rows k row m.form m.mark (h k row m at at_m)
 
-        limited : KeepsLimits (numbers_in program.params) fold
-        limited = subst (λ n. All (IsModulus n) (forms_of fold.moduli)) parameters limits
+      limited : KeepsLimits (numbers_in program.params) fold
+      limited = subst (λ n. All (IsModulus n) (forms_of fold.moduli)) (ap (λ (n : Nest). n.context.columns) a.is ∙ sym (numbers_are program.params)) limits
 
-        pub fold_made : (bases : List (ArrayId × Basis)) → length (arrays_of program.params) ≤ array → basis_for bases array (length info.extents) ≡ Some (shape_of fold.basis)
-            → ((p : List ℤ) → InContext nest.context nest.params p → Exceeds (IsPairOf systems p) p fold.basis.rows (forms_of fold.moduli))
-            → HasTrueMarks (InContext nest.context nest.params) (IsPairOf systems) fold → IsFoldFor program schedule bases array fold
-        fold_made bases temporary based obeys marks =
-            let t = is_temporary program array info at_nest temporary in
-            record {
-              in_program = record { number = t.number; decl = t.decl; stands = t.stands; behind = t.behind; rows = rows ∙ t.dimensions; moduli = widths (forms_of fold.moduli) limited };
-              basis = ap (basis_for bases array) rows ∙ based;
-              limits = limited;
-              obeys = to_obey obeys;
-              marks = true_marks marks;
-            }
-          where
-            widths : (bs : List Affine) → All (IsModulus (numbers_in program.params)) bs → HaveColumns (numbers_in program.params) bs
-            widths bs h = all_of (IsModulus (numbers_in program.params)) (λ b. length b.coefs ≡ numbers_in program.params) (λ b i. i.width) bs h
-
-    -- ---- An array without dimensions
-
-    pub scalar_made : (fold : Fold) (bases : List (ArrayId × Basis)) → length (arrays_of program.params) ≤ array → length info.extents ≡ 0 → length fold.basis.rows ≡ 0 → basis_for bases array 0 ≡ Some (shape_of fold.basis)
-        → IsFoldFor program schedule bases array fold
-    scalar_made fold bases temporary scalar rows based =
-        let t = is_temporary program array info at_nest temporary in
-        record {
-          in_program = record { number = t.number; decl = t.decl; stands = t.stands; behind = t.behind; rows = rows ∙ sym scalar ∙ t.dimensions; moduli = none_wide fold.moduli (fold.one_each ∙ rows) };
-          basis = ap (basis_for bases array) rows ∙ based;
-          limits = none_large fold.moduli (fold.one_each ∙ rows);
-          obeys = λ p inside k row b at at_b. absurd (no_row fold.basis.rows k row rows at);
-          marks = λ k row m at at_m. absurd (no_row fold.basis.rows k row rows at);
-        }
-      where
-        none_wide : (ms : List Modulus) → length ms ≡ 0 → HaveColumns (numbers_in program.params) (forms_of ms)
-        none_wide [] e = All-nil (λ b. length b.coefs ≡ numbers_in program.params)
-        none_wide (m ∷ ms) e = absurd (omega (arith, e))
-
-        none_large : (ms : List Modulus) → length ms ≡ 0 → All (IsModulus (numbers_in program.params)) (forms_of ms)
-        none_large [] e = All-nil (IsModulus (numbers_in program.params))
-        none_large (m ∷ ms) e = absurd (omega (arith, e))
-
-        no_row : (rs : List Affine) (k : ℕ) (r : Affine) → length rs ≡ 0 → slice_get rs k ≡ Some r → ⊥
-        no_row [] k r e at = none-some r at
-        no_row (x ∷ rs) k r e at = omega (arith, e)
-
--- no modulus is marked as a bound where there is none
-pub no_bound : (fold : Fold) → length fold.basis.rows ≡ 0 → HasBound fold → ⊥
-no_bound fold rows h = none fold.moduli h.number h.modulus (fold.one_each ∙ rows) h.there
-  where
-    none : (ms : List Modulus) (k : ℕ) (m : Modulus) → length ms ≡ 0 → slice_get ms k ≡ Some m → ⊥
-    none [] k m e at = none-some m at
-    none (x ∷ ms) k m e at = omega (arith, e)
+      pub fold_made : length (arrays_of program.params) ≤ array
+          → ((p : List ℤ) → InContext nest.context nest.params p → Exceeds (IsPairOf systems p) p fold.basis.rows (forms_of fold.moduli))
+          → HasTrueMarks (InContext nest.context nest.params) (IsPairOf systems) fold → IsFoldFor program schedule array fold
+      fold_made temporary obeys marks =
+          let t = is_temporary program array info at_nest temporary in
+          record {
+            in_program = record { number = t.number; decl = t.decl; stands = t.stands; behind = t.behind; rows = rows ∙ t.dimensions; moduli = widths (forms_of fold.moduli) limited };
+            limits = limited;
+            obeys = to_obey obeys;
+            marks = true_marks marks;
+          }
+        where
+          widths : (bs : List Affine) → All (IsModulus (numbers_in program.params)) bs → HaveColumns (numbers_in program.params) bs
+          widths bs h = all_of (IsModulus (numbers_in program.params)) (λ b. length b.coefs ≡ numbers_in program.params) (λ b i. i.width) bs h

@@ -4,3 +4,7 @@ pub mod FoldLemmas
 pub mod BasisLemmas
 pub mod ListLemmas
 pub mod ExampleProofs
+pub mod ContextLemmas
+pub mod CheapestLemmas
+pub mod KeptLemmas
+pub mod TryLemmas

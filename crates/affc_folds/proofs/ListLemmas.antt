@@ -1,12 +1,13 @@
 -- Folds one after the other.
-use Rattle.std.proofs.Common.{◌≡◌, ℕ, ◌+◌, ◌<◌, ◌≤◌, Bool, true, false, if◌then◌else◌, List, [], ◌∷◌, ◌++◌, length, map, Some, None, refl, sym, ap, subst, ◌∙◌, ◌⊎◌, inl, inr, arith, true≢false}
+use Rattle.std.proofs.Common.{◌≡◌, ℕ, suc, ◌+◌, ◌-◌, ◌<◌, ◌≤◌, Bool, true, false, if◌then◌else◌, List, [], ◌∷◌, ◌++◌, length, map, take, drop, Option, Some, None, refl, sym, ap, subst, ◌∙◌, ◌⊎◌, inl, inr, arith, true≢false}
 use Rattle.std.specs.Prelude.{nat_eq}
 use Rattle.std.specs.List.{All}
-use Rattle.std.proofs.Math.Nat.{le_refl}
 use Rattle.std.proofs.Math.Numerals.{lt_of_le_of_ne}
-use Rattle.std.proofs.lemmas.Bool.{eq-eqb}
+use Rattle.std.proofs.lemmas.Bool.{eqb-true, eq-eqb}
 use Rattle.std.proofs.lemmas.Option.{none-some, slice_get_within}
+use Rattle.std.proofs.lemmas.List.{take_all}
 use Rattle.std.proofs.lemmas.List.Elements.{All-nil, All-cons}
+use Rattle.affc_rows.specs.Forms.{Affine}
 use Rattle.affc_ast.specs.declared.tree.ArrayId.{ArrayId}
 use Rattle.affc_ast.specs.declared.tree.Program.{Program}
 use Rattle.affc_ast.specs.Meaning.{arrays_of}
@@ -22,20 +23,13 @@ use Rattle.affc_basis.specs.declared.fold.Fold.{Fold}
 use Rattle.affc_basis.specs.FoldLists.{AreFoldsIn}
 use Rattle.affc_basis.specs.Folds.{KeepsLimits, fold_of}
 use Rattle.affc_basis.proofs.FoldsFound.{folds_are_found}
-use Rattle.affc_folds.specs.Folding.{IsFoldFor, IsSpent, HasBound, AreFoldsBelow, IsLeftWhole, AreFoldsUnder}
-
--- ---- Budgets
-
--- where no unit is left, none is left later
-pub stays_spent : (before after : Account) → IsLater before after → IsSpent before → IsSpent after
-stays_spent before after later h = record { most = h.most; limit = later.limit ∙ h.limit; reached = through h.most before.spent after.spent h.reached later.grows }
-  where
-    through : (a b c : ℕ) → a ≤ b → b ≤ c → a ≤ c
-    through a b c h g = omega (arith, h, g)
-
--- what is spent is the limit
-pub is_spent : (budget : Account) → budget.limit ≡ Some budget.spent → IsSpent budget
-is_spent budget e = record { most = budget.spent; limit = e; reached = le_refl budget.spent }
+use Rattle.affc_basis.specs.Listed.{Shape}
+use Rattle.affc_weigh.specs.declared.choice.Choice.{Choice}
+use Rattle.affc_weigh.specs.declared.choice.Price.{Price}
+use Rattle.affc_weigh.specs.Choices.{choice_of}
+use Rattle.affc_moduli.proofs.Spent.{stays_spent}
+use Rattle.affc_folds.specs.Folding.{given_for, IsFoldFor, IsSpent, HasBound, IsPrice, IsTaken, IsChoice, HasChoice, AreFoldsBelow, IsLeftWhole, AreFoldsUnder}
+use Rattle.affc_folds.specs.Tries.{IsFolded}
 
 -- ---- Members
 
@@ -72,39 +66,90 @@ missing_before (x ∷ fs) new array e = by_test (nat_eq x.0.0 array) refl e (mis
     by_test true t e rest = absurd (none-some x.1 (sym e))
     by_test false t e rest = let r = rest e in (ap (λ b. if b then Some x.1 else fold_of fs array) t ∙ r.0, r.1)
 
--- ---- Steps
+-- ---- Choices
 
-module _ (program : Program) (schedule : Schedule) (bases : List (ArrayId × Basis)) where
-  pub none_yet : (budget : Account) (n : ℕ) → n ≡ length (arrays_of program.params) → AreFoldsBelow program schedule bases budget n []
+-- choices that are there stay
+choice_stays : (cs : List (ArrayId × Choice)) (new : ArrayId × Choice) (array : ℕ) (c : Choice) → choice_of cs array ≡ Some c → choice_of (cs ++ new ∷ []) array ≡ Some c
+choice_stays [] new array c e = absurd (none-some c e)
+choice_stays (x ∷ cs) new array c e = by_test (nat_eq x.0.0 array) e (choice_stays cs new array c)
+  where
+    by_test : (t : Bool) → (if t then Some x.1 else choice_of cs array) ≡ Some c → (choice_of cs array ≡ Some c → choice_of (cs ++ new ∷ []) array ≡ Some c) → (if t then Some x.1 else choice_of (cs ++ new ∷ []) array) ≡ Some c
+    by_test true e more = e
+    by_test false e more = more e
+
+-- where there is none, the last one is seen
+last_choice : (cs : List (ArrayId × Choice)) (new : ArrayId × Choice) (array : ℕ) → choice_of cs array ≡ None → choice_of (cs ++ new ∷ []) array ≡ (if nat_eq new.0.0 array then Some new.1 else None)
+last_choice [] new array e = refl
+last_choice (x ∷ cs) new array e = by_test (nat_eq x.0.0 array) e (last_choice cs new array)
+  where
+    by_test : (t : Bool) → (if t then Some x.1 else choice_of cs array) ≡ None → (choice_of cs array ≡ None → choice_of (cs ++ new ∷ []) array ≡ (if nat_eq new.0.0 array then Some new.1 else None))
+        → (if t then Some x.1 else choice_of (cs ++ new ∷ []) array) ≡ (if nat_eq new.0.0 array then Some new.1 else None)
+    by_test true e more = absurd (none-some x.1 (sym e))
+    by_test false e more = more e
+
+module _ (Answers : List ℕ → ℕ → Type 0) (program : Program) (schedule : Schedule) (bases : List (ArrayId × Basis)) where
+  -- ---- What is told of a fold stays true of what is left of the budget later
+
+  module _ (before after : Account) (later : IsLater before after) (array : ℕ) (fold : Fold) where
+    price_later : (rows : List Affine) (price : Option Price) → IsPrice Answers program schedule before array rows price → IsPrice Answers program schedule after array rows price
+    price_later rows None h = stays_spent before after later h
+    price_later rows (Some price) h = h
+
+    taken_later : (given : Option Shape) (choice : Choice) → IsTaken given Answers program schedule before array fold choice → IsTaken given Answers program schedule after array fold choice
+    taken_later (Some shape) choice h = h
+    taken_later None choice h = record {
+      listed = h.listed;
+      prices = record { one_each = h.prices.one_each; each = λ j shape price at at_price. price_later shape.rows price (h.prices.each j shape price at at_price) };
+      lowest = h.lowest;
+    }
+
+    choice_later : (choice : Choice) → IsChoice Answers program schedule bases before array fold choice → IsChoice Answers program schedule bases after array fold choice
+    choice_later choice h = record { cost = h.cost; taken = taken_later (given_for bases array (length fold.basis.rows)) choice h.taken }
+
+    pub has_later : (choices choices' : List (ArrayId × Choice)) → ((c : Choice) → choice_of choices array ≡ Some c → choice_of choices' array ≡ Some c)
+        → HasChoice Answers program schedule bases before choices array fold → HasChoice Answers program schedule bases after choices' array fold
+    has_later choices choices' stay h = record { choice = h.choice; found = stay h.choice h.found; is = choice_later h.choice h.is }
+
+  -- ---- Steps
+
+  pub none_yet : (budget : Account) (n : ℕ) → n ≡ length (arrays_of program.params) → AreFoldsBelow Answers program schedule bases budget n [] []
   none_yet budget n e = record {
     different = tt;
     below = λ array fold i. absurd i;
     each = λ array fold i. absurd i;
     bound = λ array fold i. absurd i;
+    chosen = λ array fold i. absurd i;
+    not_yet = λ array h. refl;
     whole = λ array first under missing. absurd (none (length (arrays_of program.params)) array first (subst (λ k. array < k) e under));
   }
     where
       none : (m k : ℕ) → m ≤ k → k < m → ⊥
       none m k h g = omega (arith, h, g)
 
-  module _ (before after : Account) (later : IsLater before after) (n : ℕ) (folds : List (ArrayId × Fold)) (h : AreFoldsBelow program schedule bases before n folds) where
+  module _ (before after : Account) (later : IsLater before after) (n : ℕ) (folds : List (ArrayId × Fold)) (choices : List (ArrayId × Choice)) (h : AreFoldsBelow Answers program schedule bases before n folds choices) where
     -- an array is left whole
-    pub one_whole : IsSpent after → AreFoldsBelow program schedule bases after (n + 1) folds
+    pub one_whole : IsSpent after → AreFoldsBelow Answers program schedule bases after (n + 1) folds choices
     one_whole spent = record {
       different = h.different;
       below = λ array fold i. more array.0 (h.below array fold i);
       each = h.each;
       bound = λ array fold i b. spent;
+      chosen = λ array fold i. has_later before after later array.0 fold choices choices (λ c e. e) (h.chosen array fold i);
+      not_yet = λ array g. h.not_yet array (beyond array g);
       whole = λ array first under missing. spent;
     }
       where
         more : (k : ℕ) → k < n → k < n + 1
         more k g = omega (arith, g)
 
+        beyond : (k : ℕ) → n + 1 ≤ k → n ≤ k
+        beyond k g = omega (arith, g)
+
     -- an array gets its fold
-    pub one_more : (id : ArrayId) (fold : Fold) (folds' : List (ArrayId × Fold)) → id.0 ≡ n → folds' ≡ folds ++ (id, fold) ∷ [] → IsFoldFor program schedule bases id.0 fold → (HasBound fold → IsSpent after)
-        → AreFoldsBelow program schedule bases after (n + 1) folds'
-    one_more id fold folds' number made is_fold bound_spent = subst (AreFoldsBelow program schedule bases after (n + 1)) (sym made) more
+    pub one_more : (id : ArrayId) (fold : Fold) (choice : Choice) (folds' : List (ArrayId × Fold)) (choices' : List (ArrayId × Choice)) → id.0 ≡ n → folds' ≡ folds ++ (id, fold) ∷ [] → choices' ≡ choices ++ (id, choice) ∷ []
+        → IsFolded Answers program schedule bases after id.0 (fold, choice) → AreFoldsBelow Answers program schedule bases after (n + 1) folds' choices'
+    one_more id fold choice folds' choices' number made chosen is =
+        subst (λ fs. AreFoldsBelow Answers program schedule bases after (n + 1) fs choices') (sym made) (subst (λ cs. AreFoldsBelow Answers program schedule bases after (n + 1) (folds ++ (id, fold) ∷ []) cs) (sym chosen) more)
       where
         last : (f : ArrayId × Fold) → f ≡ (id, fold) → f.0.0 < n + 1
         last f e = below_next f.0.0 (ap number_of e ∙ number)
@@ -124,21 +169,60 @@ module _ (program : Program) (schedule : Schedule) (bases : List (ArrayId × Bas
             at_most : (k : ℕ) → k < n + 1 → k ≤ n
             at_most k g = omega (arith, g)
 
-        more : AreFoldsBelow program schedule bases after (n + 1) (folds ++ (id, fold) ∷ [])
+        its_choice : choice_of (choices ++ (id, choice) ∷ []) id.0 ≡ Some choice
+        its_choice =
+            last_choice choices (id, choice) id.0 (h.not_yet id.0 (le_of (id.0) number)) ∙ ap (λ t. if t then Some choice else None) (eq-eqb id.0 id.0 refl)
+          where
+            le_of : (k : ℕ) → k ≡ n → n ≤ k
+            le_of k e = omega (arith, e)
+
+        later_none : (array : ℕ) → n + 1 ≤ array → choice_of (choices ++ (id, choice) ∷ []) array ≡ None
+        later_none array g =
+            last_choice choices (id, choice) array (h.not_yet array (beyond array g)) ∙ ap (λ t. if t then Some choice else None) (other (nat_eq id.0 array) refl)
+          where
+            beyond : (k : ℕ) → n + 1 ≤ k → n ≤ k
+            beyond k g = omega (arith, g)
+
+            apart : (k m : ℕ) → k ≡ n → n + 1 ≤ m → k ≡ m → ⊥
+            apart k m e g f = omega (arith, e, g, f)
+
+            other : (t : Bool) → nat_eq id.0 array ≡ t → t ≡ false
+            other true t = absurd (apart id.0 array number g (eqb-true id.0 array t))
+            other false t = refl
+
+        more : AreFoldsBelow Answers program schedule bases after (n + 1) (folds ++ (id, fold) ∷ []) (choices ++ (id, choice) ∷ [])
         more = record {
           different = distinct_end folds (id, fold) h.different under_number;
           below = λ array f i. elim (in_end folds (id, fold) (array, f) i) [ inl j ↦ earlier array.0 (h.below array f j) | inr e ↦ last (array, f) e ];
-          each = λ array f i. elim (in_end folds (id, fold) (array, f) i) [ inl j ↦ h.each array f j | inr e ↦ subst (λ (g : ArrayId × Fold). IsFoldFor program schedule bases g.0.0 g.1) (sym e) is_fold ];
+          each = λ array f i. elim (in_end folds (id, fold) (array, f) i) [ inl j ↦ h.each array f j | inr e ↦ subst (λ (g : ArrayId × Fold). IsFoldFor program schedule g.0.0 g.1) (sym e) is.is_fold ];
           bound = λ array f i b. elim (in_end folds (id, fold) (array, f) i) [
             | inl j ↦ stays_spent before after later (h.bound array f j b)
-            | inr e ↦ bound_spent (subst (λ (g : ArrayId × Fold). HasBound g.1) e b)
+            | inr e ↦ is.bound (subst (λ (g : ArrayId × Fold). HasBound g.1) e b)
           ];
+          chosen = λ array f i. elim (in_end folds (id, fold) (array, f) i) [
+            | inl j ↦ has_later before after later array.0 f choices (choices ++ (id, choice) ∷ []) (λ c at. choice_stays choices (id, choice) array.0 c at) (h.chosen array f j)
+            | inr e ↦ subst (λ (g : ArrayId × Fold). HasChoice Answers program schedule bases after (choices ++ (id, choice) ∷ []) g.0.0 g.1) (sym e) (record { choice = choice; found = its_choice; is = is.is_choice })
+          ];
+          not_yet = later_none;
           whole = λ array first under missing. let m = missing_before folds (id, fold) array missing in stays_spent before after later (h.whole array first (not_last array under m.1) m.0);
         }
 
+-- ---- How many are done
+
+pub one_counted : {A : Type 0} (first next : ℕ) (xs : List A) → 1 ≤ length xs → next ≡ first + 1 → next + length (take (length xs - 1) (drop 1 xs)) ≡ first + length xs
+one_counted first next [] h e = absurd (omega (arith, h))
+one_counted first next (x ∷ xs) h e = ap (λ rest. next + length rest) (take_all (length (x ∷ xs) - 1) xs (enough (length xs) (length (x ∷ xs)) refl)) ∙ joined (length xs) (length (x ∷ xs)) refl
+  where
+    enough : (n m : ℕ) → m ≡ suc n → n ≤ m - 1
+    enough n m e = omega (arith, e)
+
+    joined : (n m : ℕ) → m ≡ suc n → next + n ≡ first + m
+    joined n m f = omega (arith, e, f)
+
 -- ---- The whole list
 
-module _ (program : Program) (schedule : Schedule) (bases : List (ArrayId × Basis)) (budget : Account) (n : ℕ) (folds : List (ArrayId × Fold)) (h : AreFoldsBelow program schedule bases budget n folds) where
+module _ (Answers : List ℕ → ℕ → Type 0) (program : Program) (schedule : Schedule) (bases : List (ArrayId × Basis)) (budget : Account) (n : ℕ) (folds : List (ArrayId × Fold)) (choices : List (ArrayId × Choice))
+    (h : AreFoldsBelow Answers program schedule bases budget n folds choices) where
   all_in : AreFoldsIn program folds
   all_in = record { different = h.different; each = λ array fold i. (h.each array fold i).in_program }
 
@@ -149,13 +233,18 @@ module _ (program : Program) (schedule : Schedule) (bases : List (ArrayId × Bas
       each [] g = All-nil (λ (f : ArrayId × Fold). KeepsLimits (numbers_in program.params) f.1)
       each (f ∷ fs) g = All-cons (λ (f : ArrayId × Fold). KeepsLimits (numbers_in program.params) f.1) f fs (g f (inl refl)) (each fs (λ x i. g x (inr i)))
 
-  its_fold : (array : ℕ) (fold : Fold) → fold_of folds array ≡ Some fold → IsFoldFor program schedule bases array fold
+  its_fold : (array : ℕ) (fold : Fold) → fold_of folds array ≡ Some fold → IsFoldFor program schedule array fold
   its_fold array fold e =
       let r = (folds_are_found program folds array fold all_in).0 e in
-      subst (λ k. IsFoldFor program schedule bases k fold) r.1 (h.each r.0 fold r.2)
+      subst (λ k. IsFoldFor program schedule k fold) r.1 (h.each r.0 fold r.2)
 
   its_bound : (array : ℕ) (fold : Fold) → fold_of folds array ≡ Some fold → HasBound fold → IsSpent budget
   its_bound array fold e b = let r = (folds_are_found program folds array fold all_in).0 e in h.bound r.0 fold r.2 b
+
+  its_choice : (array : ℕ) (fold : Fold) → fold_of folds array ≡ Some fold → HasChoice Answers program schedule bases budget choices array fold
+  its_choice array fold e =
+      let r = (folds_are_found program folds array fold all_in).0 e in
+      subst (λ k. HasChoice Answers program schedule bases budget choices k fold) r.1 (h.chosen r.0 fold r.2)
 
   whole_spent : n ≡ length (arrays_of program.params) + length program.temps → IsLeftWhole program folds → IsSpent budget
   whole_spent e left =
@@ -169,13 +258,45 @@ module _ (program : Program) (schedule : Schedule) (bases : List (ArrayId × Bas
       add_below : (a b c : ℕ) → b < c → a + b < a + c
       add_below a b c g = omega (arith, g)
 
-  pub all_made : n ≡ length (arrays_of program.params) + length program.temps → AreFoldsUnder program schedule bases budget folds
+  pub all_made : n ≡ length (arrays_of program.params) + length program.temps → AreFoldsUnder Answers program schedule bases budget folds choices
   all_made e = record {
     in_program = all_in;
-    bases_for = λ array fold at. (its_fold array fold at).basis;
     limits = all_limited;
     obeys = λ p inside array fold at. (its_fold array fold at).obeys p inside;
     marks = λ array fold at. (its_fold array fold at).marks;
+    chosen = its_choice;
     bound = its_bound;
     whole = whole_spent e;
+  }
+
+-- ---- By another account of what is answered
+
+module _ (A B : List ℕ → ℕ → Type 0) (to : (moduli : List ℕ) (answer : ℕ) → A moduli answer → B moduli answer) (program : Program) (schedule : Schedule) (bases : List (ArrayId × Basis)) (budget : Account) where
+  price_by : (array : ℕ) (rows : List Affine) (price : Option Price) → IsPrice A program schedule budget array rows price → IsPrice B program schedule budget array rows price
+  price_by array rows None h = h
+  price_by array rows (Some price) h = (h.0, to price.values price.cost h.1)
+
+  taken_by : (given : Option Shape) (array : ℕ) (fold : Fold) (choice : Choice) → IsTaken given A program schedule budget array fold choice → IsTaken given B program schedule budget array fold choice
+  taken_by (Some shape) array fold choice h = h
+  taken_by None array fold choice h = record {
+    listed = h.listed;
+    prices = record { one_each = h.prices.one_each; each = λ j shape price at at_price. price_by array shape.rows price (h.prices.each j shape price at at_price) };
+    lowest = h.lowest;
+  }
+
+  choice_by : (array : ℕ) (fold : Fold) (choice : Choice) → IsChoice A program schedule bases budget array fold choice → IsChoice B program schedule bases budget array fold choice
+  choice_by array fold choice h = record {
+    cost = record { values = h.cost.values; are_greatest = h.cost.are_greatest; answered = to h.cost.values choice.cost h.cost.answered };
+    taken = taken_by (given_for bases array (length fold.basis.rows)) array fold choice h.taken;
+  }
+
+  pub folds_by : (folds : List (ArrayId × Fold)) (choices : List (ArrayId × Choice)) → AreFoldsUnder A program schedule bases budget folds choices → AreFoldsUnder B program schedule bases budget folds choices
+  folds_by folds choices h = record {
+    in_program = h.in_program;
+    limits = h.limits;
+    obeys = h.obeys;
+    marks = h.marks;
+    chosen = λ array fold at. let c = h.chosen array fold at in record { choice = c.choice; found = c.found; is = choice_by array fold c.choice c.is };
+    bound = h.bound;
+    whole = h.whole;
   }

@@ -1,5 +1,5 @@
 -- What the definitions give at small lists. Each value was found by hand from the rules.
-use Rattle.std.specs.Prelude.{◌≡◌, ℕ, zero, suc, ◌+◌, ◌^◌, ◌≤◌, pos, negsuc, unsigned_abs, List, [], ◌∷◌, length, Some, None, refl}
+use Rattle.std.specs.Prelude.{◌≡◌, ℕ, zero, suc, ◌+◌, ◌^◌, ◌≤◌, pos, negsuc, unsigned_abs, List, [], ◌∷◌, length, Option, Some, None, refl}
 use Rattle.std.proofs.Common.{subst, lit≤, arith}
 use Rattle.std.proofs.lemmas.List.Elements.{All-nil, All-cons}
 use Rattle.std.proofs.lemmas.Option.{same_Some}
@@ -13,8 +13,11 @@ use Rattle.affc_basis.specs.declared.fold.Fold.{Fold}
 use Rattle.affc_basis.specs.declared.fold.Modulus.{Modulus}
 use Rattle.affc_basis.specs.Bases.{AreWithin, HaveCoefsWithin, AreComponents}
 use Rattle.affc_basis.specs.Examples.{whole, onto, fold_at, marked, two_rows, OnePair}
-use Rattle.affc_basis.specs.Listed.{shape_of, columns, square}
-use Rattle.affc_folds.specs.Folding.{basis_for, HasTrueMarks, IsSpent, HasBound, IsLeftWhole, AreFoldsUnder}
+use Rattle.affc_basis.specs.Listed.{shape_of}
+use Rattle.affc_weigh.specs.declared.choice.Choice.{Choice}
+use Rattle.affc_weigh.specs.declared.choice.Price.{Price}
+use Rattle.affc_weigh.specs.Costs.{Gives, words_cost}
+use Rattle.affc_folds.specs.Folding.{given_for, HasTrueMarks, IsSpent, HasBound, IsLowest, IsLeftWhole, AreFoldsUnder}
 
 -- ---- Bases
 
@@ -55,16 +58,13 @@ given_to array basis = (record { 0 = array }, basis)
 abbrev given : List (ArrayId × Basis)
 given = given_to 3 whole ∷ given_to 3 turned ∷ given_to 2 turned ∷ []
 
--- array 3 has the first that is given for it, and array 2 its own, where they have one dimension; else they have the first that
--- is listed, as arrays for which none is given; and an array without dimensions has no row
+-- array 3 has the first that is given for it, and array 2 its own, where they have one dimension; array 1 has none
 abbrev pub BasesOfArrays : Type 0
 BasesOfArrays =
-    (basis_for given 3 1 ≡ Some (shape_of whole))
-    × (basis_for given 2 1 ≡ Some (shape_of turned))
-    × (basis_for given 1 1 ≡ Some (columns (column 1 0 ∷ [])))
-    × (basis_for given 3 2 ≡ Some (square (pos 1) (pos 0) (pos 0) (pos 1) (pos 1) (pos 0) (pos 0) (pos 1)))
-    × (basis_for given 3 0 ≡ Some (columns []))
-    × (basis_for given 3 5 ≡ None)
+    (given_for given 3 1 ≡ Some (shape_of whole))
+    × (given_for given 2 1 ≡ Some (shape_of turned))
+    × (given_for given 1 1 ≡ None)
+    × (given_for given 3 2 ≡ None)
 
 -- ---- Budgets
 
@@ -98,25 +98,50 @@ WholeOrNot =
     × HasBound (onto 3)
     × (HasBound (least 3) → ⊥)
 
-abbrev pub AreOfTheBlur : List (ArrayId × Basis) → Account → List (ArrayId × Fold) → Type 0
-AreOfTheBlur bases budget folds = AreFoldsUnder blur together bases budget folds
+-- ---- Choices
+
+abbrev pub price : List ℕ → ℕ → Option Price
+price values cost = Some (record { values = values; cost = cost })
+
+-- 5 is the least of 7, 5, an unknown price and 5, and the first of them is number 1
+abbrev pub LowestPrices : Type 0
+LowestPrices =
+    let prices = price [] 7 ∷ price [] 5 ∷ None ∷ price [] 5 ∷ [] in
+    IsLowest (least 3) 1 5 prices
+    × (IsLowest (least 3) 0 7 prices → ⊥)
+    × (IsLowest (least 3) 3 5 prices → ⊥)
+    -- the price of the fold itself is missing only where it has a bound
+    × (IsLowest (least 3) 2 5 prices → ⊥)
+    × IsLowest (onto 3) 2 4 prices
+
+abbrev pub AreOfTheBlur : List (ArrayId × Basis) → Account → List (ArrayId × Fold) → List (ArrayId × Choice) → Type 0
+AreOfTheBlur bases budget folds choices = AreFoldsUnder (Gives words_cost) blur together bases budget folds choices
 
 abbrev pub t_has : Fold → List (ArrayId × Fold)
 t_has fold = fold_at 2 fold ∷ []
 
--- Three elements are the least for t, where two units of three are spent; with all three spent they may be a bound, or t whole.
+-- it costs so much, and the one listed basis comes to this
+abbrev pub t_costs : ℕ → Option Price → List (ArrayId × Choice)
+t_costs cost price = (record { 0 = 2 }, record { cost = cost; number = 0; prices = price ∷ [] }) ∷ []
+
+-- Three elements are the least for t and cost 3, where two units of three are spent; with all three spent they may be a bound, or t
+-- whole.
 abbrev pub FoldsOfBlur : Type 0
 FoldsOfBlur =
-    AreOfTheBlur [] (three_of 2) (t_has (least 3))
-    × AreOfTheBlur [] (three_of 3) (t_has (onto 3))
-    × AreOfTheBlur [] (three_of 3) []
-    -- with a unit left they may not
-    × (AreOfTheBlur [] (three_of 2) (t_has (onto 3)) → ⊥)
-    × (AreOfTheBlur [] (three_of 2) [] → ⊥)
+    AreOfTheBlur [] (three_of 2) (t_has (least 3)) (t_costs 3 (price (3 ∷ []) 3))
+    × AreOfTheBlur [] (three_of 3) (t_has (onto 3)) (t_costs 3 None)
+    × AreOfTheBlur [] (three_of 3) [] []
+    -- with a unit left they may not, nor may a price be missing
+    × (AreOfTheBlur [] (three_of 2) (t_has (onto 3)) (t_costs 3 (price (3 ∷ []) 3)) → ⊥)
+    × (AreOfTheBlur [] (three_of 2) [] [] → ⊥)
+    × (AreOfTheBlur [] (three_of 2) (t_has (least 3)) (t_costs 3 None) → ⊥)
     -- two are too few, and four not the least
-    × (AreOfTheBlur [] (three_of 3) (t_has (onto 2)) → ⊥)
-    × (AreOfTheBlur [] (three_of 2) (t_has (least 4)) → ⊥)
+    × (AreOfTheBlur [] (three_of 3) (t_has (onto 2)) (t_costs 2 None) → ⊥)
+    × (AreOfTheBlur [] (three_of 2) (t_has (least 4)) (t_costs 4 (price (4 ∷ []) 4)) → ⊥)
+    -- they cost 3, which is told of them
+    × (AreOfTheBlur [] (three_of 2) (t_has (least 3)) (t_costs 4 (price (3 ∷ []) 3)) → ⊥)
+    × (AreOfTheBlur [] (three_of 2) (t_has (least 3)) [] → ⊥)
     -- the basis that is given for t has to be taken; `out` is no temporary; and a modulus is within its limits
-    × (AreOfTheBlur (given_to 2 turned ∷ []) (three_of 2) (t_has (least 3)) → ⊥)
-    × (AreOfTheBlur [] (three_of 3) (fold_at 1 (onto 3) ∷ []) → ⊥)
-    × (AreOfTheBlur [] (three_of 3) (t_has (onto (2 ^ 55 + 1))) → ⊥)
+    × (AreOfTheBlur (given_to 2 turned ∷ []) (three_of 2) (t_has (least 3)) (t_costs 3 (price (3 ∷ []) 3)) → ⊥)
+    × (AreOfTheBlur [] (three_of 3) (fold_at 1 (onto 3) ∷ []) (t_costs 3 None) → ⊥)
+    × (AreOfTheBlur [] (three_of 3) (t_has (onto (2 ^ 55 + 1))) (t_costs (2 ^ 55 + 1) None) → ⊥)

@@ -20,6 +20,10 @@ use Rattle.affc_basis.specs.declared.fold.Modulus.{Modulus}
 use Rattle.affc_basis.specs.FoldLists.{IsFoldIn, AreFoldsIn}
 use Rattle.affc_basis.specs.Folds.{KeepsLimits, Obeys, IsTrueMark, fold_of}
 use Rattle.affc_basis.specs.Listed.{Shape, shape_of, listing}
+use Rattle.affc_weigh.specs.declared.choice.Choice.{Choice}
+use Rattle.affc_weigh.specs.declared.choice.Price.{Price}
+use Rattle.affc_weigh.specs.Choices.{choice_of, AreNeeds}
+use Rattle.affc_weigh.specs.Laws.{IsStoredCost}
 use Rattle.affc_nest.specs.declared.nest.Nest.{Nest}
 use Rattle.affc_nest.specs.Laws.{HasNest, NamesArrays, StaysWithin}
 use Rattle.affc_nest.specs.Nests.{nest_of}
@@ -46,10 +50,10 @@ pub record IsAnalysed (program : Program) (nest : Nest) (trees : List Tree) (sch
 
 -- ---- Bases
 
--- The basis of an array: the first that is given for it with a row for each dimension, else the first that is listed.
-abbrev pub basis_for : List (ArrayId × Basis) → (array dimensions : ℕ) → Option Shape
-basis_for [] array dimensions = slice_get (listing dimensions) 0
-basis_for (b ∷ bs) array dimensions = if nat_eq b.0.0 array && nat_eq (length b.1.rows) dimensions then Some (shape_of b.1) else basis_for bs array dimensions
+-- the basis that is given for an array: the first of its pairs with a row for each dimension
+abbrev pub given_for : List (ArrayId × Basis) → (array dimensions : ℕ) → Option Shape
+given_for [] array dimensions = None
+given_for (b ∷ bs) array dimensions = if nat_eq b.0.0 array && nat_eq (length b.1.rows) dimensions then Some (shape_of b.1) else given_for bs array dimensions
 
 -- ---- Folds
 
@@ -58,16 +62,13 @@ abbrev pub HasTrueMarks : (InContext : List ℤ → Type 0) (pairs : List ℤ �
 HasTrueMarks InContext pairs fold =
     (k : ℕ) (row : Affine) (m : Modulus) → slice_get fold.basis.rows k ≡ Some row → slice_get fold.moduli k ≡ Some m → IsTrueMark InContext pairs fold.basis.rows k row m
 
--- A fold of a temporary, over its basis. Throughout the context it keeps apart what is live together under the schedule, and
--- what its marks say of its moduli is true.
-pub record IsFoldFor (program : Program) (schedule : Schedule) (bases : List (ArrayId × Basis)) (array : ℕ) (fold : Fold) : Type 0 where
+-- A fold of a temporary. Throughout the context it keeps apart what is live together under the schedule, and what its marks say
+-- of its moduli is true.
+pub record IsFoldFor (program : Program) (schedule : Schedule) (array : ℕ) (fold : Fold) : Type 0 where
   pub in_program : IsFoldIn program array fold
-  pub basis : basis_for bases array (length fold.basis.rows) ≡ Some (shape_of fold.basis)
   pub limits : KeepsLimits (numbers_in program.params) fold
   pub obeys : (p : List ℤ) → IsInContext program p → Obeys (LivePair program schedule array p) fold p
   pub marks : HasTrueMarks (IsInContext program) (LivePair program schedule array) fold
-
--- ---- Budgets
 
 -- one of the moduli is marked as a bound alone
 pub record HasBound (fold : Fold) : Type 0 where
@@ -76,14 +77,61 @@ pub record HasBound (fold : Fold) : Type 0 where
   pub there : slice_get fold.moduli number ≡ Some modulus
   pub marked : modulus.mark ≡ Bound
 
+-- ---- What bases come to
+
+-- A basis with these rows comes to the needs of its rows, and to what the stored cost answers to these. Its price is missing only
+-- where no unit of the budget is left.
+abbrev pub IsPrice : (Answers : List ℕ → ℕ → Type 0) (program : Program) (schedule : Schedule) (budget : Account) (array : ℕ) (rows : List Affine) → Option Price → Type 0
+IsPrice Answers program schedule budget array rows None = IsSpent budget
+IsPrice Answers program schedule budget array rows (Some price) =
+    AreNeeds (IsInContext program) (LivePair program schedule array) rows price.values × Answers price.values price.cost
+
+-- Each of these bases comes to its price.
+pub record ArePrices (Answers : List ℕ → ℕ → Type 0) (program : Program) (schedule : Schedule) (budget : Account) (array : ℕ) (shapes : List Shape) (prices : List (Option Price)) : Type 0 where
+  pub one_each : length prices ≡ length shapes
+  pub each : (j : ℕ) (shape : Shape) (price : Option Price) → slice_get shapes j ≡ Some shape → slice_get prices j ≡ Some price
+      → IsPrice Answers program schedule budget array shape.rows price
+
+-- None of these prices is below the cost, and none before the number-th is as low. The number-th is missing only where the
+-- fold, whose price it would be, has a bound alone.
+pub record IsLowest (fold : Fold) (number cost : ℕ) (prices : List (Option Price)) : Type 0 where
+  pub least : (j : ℕ) (price : Price) → slice_get prices j ≡ Some (Some price) → cost ≤ price.cost
+  pub first : (j : ℕ) (price : Price) → j < number → slice_get prices j ≡ Some (Some price) → cost < price.cost
+  pub own : slice_get prices number ≡ Some None → HasBound fold
+
+-- The fold has the first of the listed bases that cost least.
+pub record IsCheapest (Answers : List ℕ → ℕ → Type 0) (program : Program) (schedule : Schedule) (budget : Account) (array : ℕ) (fold : Fold) (choice : Choice) : Type 0 where
+  pub listed : slice_get (listing (length fold.basis.rows)) choice.number ≡ Some (shape_of fold.basis)
+  pub prices : ArePrices Answers program schedule budget array (listing (length fold.basis.rows)) choice.prices
+  pub lowest : IsLowest fold choice.number choice.cost choice.prices
+
+-- the fold has the basis that is given, and there is no other; where none is given it has the cheapest
+abbrev pub IsTaken : (given : Option Shape) (Answers : List ℕ → ℕ → Type 0) (program : Program) (schedule : Schedule) (budget : Account) (array : ℕ) (fold : Fold) (choice : Choice) → Type 0
+IsTaken (Some shape) Answers program schedule budget array fold choice = (shape_of fold.basis ≡ shape) × (choice.prices ≡ [])
+IsTaken None Answers program schedule budget array fold choice = IsCheapest Answers program schedule budget array fold choice
+
+-- What is told of a fold: what the stored cost answers to the greatest values of its moduli, and why it has its basis.
+pub record IsChoice (Answers : List ℕ → ℕ → Type 0) (program : Program) (schedule : Schedule) (bases : List (ArrayId × Basis)) (budget : Account) (array : ℕ) (fold : Fold) (choice : Choice) : Type 0 where
+  pub cost : IsStoredCost Answers (IsInContext program) fold choice.cost
+  pub taken : IsTaken (given_for bases array (length fold.basis.rows)) Answers program schedule budget array fold choice
+
+-- among these choices
+pub record HasChoice (Answers : List ℕ → ℕ → Type 0) (program : Program) (schedule : Schedule) (bases : List (ArrayId × Basis)) (budget : Account) (choices : List (ArrayId × Choice)) (array : ℕ) (fold : Fold) : Type 0 where
+  pub choice : Choice
+  pub found : choice_of choices array ≡ Some choice
+  pub is : IsChoice Answers program schedule bases budget array fold choice
+
 -- ---- All folds
 
--- Folds of the temporaries before array n, one for each, in their order; one is missing only where no unit is left.
-pub record AreFoldsBelow (program : Program) (schedule : Schedule) (bases : List (ArrayId × Basis)) (budget : Account) (n : ℕ) (folds : List (ArrayId × Fold)) : Type 0 where
+-- Folds of the temporaries before array n, one for each, in their order, with a choice for each; one is missing only where no unit
+-- is left.
+pub record AreFoldsBelow (Answers : List ℕ → ℕ → Type 0) (program : Program) (schedule : Schedule) (bases : List (ArrayId × Basis)) (budget : Account) (n : ℕ) (folds : List (ArrayId × Fold)) (choices : List (ArrayId × Choice)) : Type 0 where
   pub different : AreDistinct (map (λ (f : ArrayId × Fold). f.0.0) folds)
   pub below : (array : ArrayId) (fold : Fold) → IsIn (array, fold) folds → array.0 < n
-  pub each : (array : ArrayId) (fold : Fold) → IsIn (array, fold) folds → IsFoldFor program schedule bases array.0 fold
+  pub each : (array : ArrayId) (fold : Fold) → IsIn (array, fold) folds → IsFoldFor program schedule array.0 fold
   pub bound : (array : ArrayId) (fold : Fold) → IsIn (array, fold) folds → HasBound fold → IsSpent budget
+  pub chosen : (array : ArrayId) (fold : Fold) → IsIn (array, fold) folds → HasChoice Answers program schedule bases budget choices array.0 fold
+  pub not_yet : (array : ℕ) → n ≤ array → choice_of choices array ≡ None
   pub whole : (array : ℕ) → length (arrays_of program.params) ≤ array → array < n → fold_of folds array ≡ None → IsSpent budget
 
 -- this temporary has no fold
@@ -93,14 +141,15 @@ pub record IsLeftWhole (program : Program) (folds : List (ArrayId × Fold)) : Ty
   pub stands : slice_get program.temps number ≡ Some decl
   pub unfolded : fold_of folds (length (arrays_of program.params) + number) ≡ None
 
--- Folds of a program's temporaries under a schedule, over the bases that are given or else the first that are listed, with moduli
--- within the limits. Throughout the context each keeps apart what is live together, and what its marks say is true. A temporary
--- without a fold, and a modulus that is marked as a bound alone, come only where no unit of the budget is left.
-pub record AreFoldsUnder (program : Program) (schedule : Schedule) (bases : List (ArrayId × Basis)) (budget : Account) (folds : List (ArrayId × Fold)) : Type 0 where
+-- Folds of a program's temporaries under a schedule, over the bases that are given or else the cheapest that are listed, with
+-- moduli within the limits. Throughout the context each keeps apart what is live together, and what its marks say is true; of each
+-- is told what it costs, and what other bases would. A temporary without a fold, and a modulus that is marked as a bound alone,
+-- come only where no unit of the budget is left.
+pub record AreFoldsUnder (Answers : List ℕ → ℕ → Type 0) (program : Program) (schedule : Schedule) (bases : List (ArrayId × Basis)) (budget : Account) (folds : List (ArrayId × Fold)) (choices : List (ArrayId × Choice)) : Type 0 where
   pub in_program : AreFoldsIn program folds
-  pub bases_for : (array : ℕ) (fold : Fold) → fold_of folds array ≡ Some fold → basis_for bases array (length fold.basis.rows) ≡ Some (shape_of fold.basis)
   pub limits : All (λ (f : ArrayId × Fold). KeepsLimits (numbers_in program.params) f.1) folds
   pub obeys : (p : List ℤ) → IsInContext program p → (array : ℕ) (fold : Fold) → fold_of folds array ≡ Some fold → Obeys (LivePair program schedule array p) fold p
   pub marks : (array : ℕ) (fold : Fold) → fold_of folds array ≡ Some fold → HasTrueMarks (IsInContext program) (LivePair program schedule array) fold
+  pub chosen : (array : ℕ) (fold : Fold) → fold_of folds array ≡ Some fold → HasChoice Answers program schedule bases budget choices array fold
   pub bound : (array : ℕ) (fold : Fold) → fold_of folds array ≡ Some fold → HasBound fold → IsSpent budget
   pub whole : IsLeftWhole program folds → IsSpent budget

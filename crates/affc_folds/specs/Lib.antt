@@ -1,2 +1,5 @@
 pub mod Folding
+pub mod Systems
+pub mod Tries
+pub mod Laws
 pub mod Examples

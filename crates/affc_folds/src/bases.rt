@@ -1,18 +1,18 @@
-//! The basis of an array.
-ghost use Rattle.std.specs.Prelude.{◌≡◌, ◌++◌, ◌≤◌, OnOk, IfOk, length, slice_get, Some};
-ghost use Rattle.affc_basis.specs.Listed.{shape_of, listing};
-ghost use Rattle.affc_folds.specs.Folding.{basis_for};
+//! Bases that are given, and copies of bases.
+ghost use Rattle.std.specs.Prelude.{◌≡◌, ◌++◌, OnOk, IfOk, IfSome, option_map, length};
+ghost use Rattle.affc_basis.specs.Listed.{shape_of};
+ghost use Rattle.affc_folds.specs.Folding.{given_for};
 
 use affc_ast::tree::ArrayId;
+use affc_basis::Basis;
 use affc_basis::basis::given;
-use affc_basis::{Basis, listed};
 use affc_rows::Form;
 use sqlite_items::Items;
 use std::alloc::{AllocError, Global};
 
 /// Adds copies of forms.
-fn add_copies(forms: &[Form], out: &mut Items<Form>) -> Result<(), AllocError>
-    ensures { OnOk result (out.new ≡ out.old ++ forms.now) }
+fn add_copies(forms: &[Form], out: &mut Vec<Form>) -> Result<(), AllocError>
+    ensures { OnOk result (out.new.items ≡ out.old.items ++ forms.now) }
 {
     match forms {
         [] => Ok(()),
@@ -25,58 +25,46 @@ fn add_copies(forms: &[Form], out: &mut Items<Form>) -> Result<(), AllocError>
 }
 
 /// Copies of forms.
-fn copies(alloc: Global, forms: &[Form]) -> Result<Items<Form>, AllocError>
-    ensures { IfOk result (λ fs. fs ≡ forms.now) }
+pub(crate) fn copies(alloc: Global, forms: &[Form]) -> Result<Vec<Form>, AllocError>
+    ensures { IfOk result (λ fs. fs.items ≡ forms.now) }
 {
-    let mut out = Items::new(alloc);
+    let mut out = Vec::new(alloc);
     add_copies(forms, &mut out)?;
     Ok(out)
 }
 
 /// A copy of a basis.
 #[tactic(auto, using(crate::proofs::BasisLemmas::copy_square, crate::proofs::BasisLemmas::copy_bounds, crate::proofs::BasisLemmas::same_shape))]
-fn copied(alloc: Global, basis: &Basis) -> Result<Basis, AllocError>
+pub(crate) fn copied(alloc: Global, basis: &Basis) -> Result<Basis, AllocError>
     ensures shape { IfOk result (λ b. shape_of b ≡ shape_of basis.now) }
     ensures rows { IfOk result (λ b. b.rows ≡ basis.now.rows) }
 {
-    let rows = copies(alloc, basis.rows.as_slice())?;
-    let inverse = copies(alloc, basis.inverse.as_slice())?;
+    let rows = Items::from_vec(copies(alloc, basis.rows.as_slice())?);
+    let inverse = Items::from_vec(copies(alloc, basis.inverse.as_slice())?);
     match given(rows, inverse) {
         Ok(basis) => Ok(basis),
         Err(_broken) => unreachable!(),
     }
 }
 
-/// The first basis that is listed for so many dimensions.
-#[tactic(auto, using(crate::proofs::BasisLemmas::has_first, crate::proofs::BasisLemmas::first_is, crate::proofs::BasisLemmas::listed_rows))]
-fn first_listed(alloc: Global, dimensions: u32) -> Result<Basis, AllocError>
-    requires few { dimensions ≤ 4 }
-    ensures first { IfOk result (λ b. slice_get (listing dimensions) 0 ≡ Some (shape_of b)) }
-    ensures rows { IfOk result (λ b. length b.rows ≡ dimensions) }
-{
-    let mut bases = listed(alloc, dimensions)?;
-    Ok(bases.remove(0))
-}
-
-/// The basis of an array.
+/// The basis that is given for an array, if one is.
 #[tactic(auto, using(crate::proofs::BasisLemmas::taken, crate::proofs::BasisLemmas::passed))]
-pub(crate) fn basis_of(
+pub(crate) fn given_basis(
     alloc: Global,
     bases: &[(ArrayId, Basis)],
     array: ArrayId,
     dimensions: u32,
-) -> Result<Basis, AllocError>
-    requires few { dimensions ≤ 4 }
-    ensures basis { IfOk result (λ b. basis_for bases.now array.0 dimensions ≡ Some (shape_of b)) }
-    ensures rows { IfOk result (λ b. length b.rows ≡ dimensions) }
+) -> Result<Option<Basis>, AllocError>
+    ensures basis { IfOk result (λ found. given_for bases.now array.0 dimensions ≡ option_map shape_of found) }
+    ensures rows { IfOk result (λ found. IfSome found (λ b. length b.rows ≡ dimensions)) }
 {
     match bases {
-        [] => first_listed(alloc, dimensions),
+        [] => Ok(None),
         [(of, basis), rest @ ..] => {
             if of.0 == array.0 && basis.rows.len() == dimensions as usize {
-                copied(alloc, basis)
+                Ok(Some(copied(alloc, basis)?))
             } else {
-                basis_of(alloc, rest, array, dimensions)
+                given_basis(alloc, rest, array, dimensions)
             }
         }
     }

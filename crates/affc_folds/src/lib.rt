@@ -1,8 +1,12 @@
 //! The folds of a program's temporaries under a schedule.
 #![tactic(auto)]
 
+mod asked;
 mod bases;
 pub mod examples;
 pub mod folding;
+pub mod laws;
+mod systems;
+mod tries;
 
-pub use folding::fold_all;
+pub use folding::{Folded, fold_all};

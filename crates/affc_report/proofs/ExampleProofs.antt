@@ -2,7 +2,7 @@
 use Rattle.std.proofs.Common.{refl, ap}
 use Rattle.std.specs.Fmt.{digits}
 use Rattle.affc_basis.specs.Listed.{Shape}
-use Rattle.affc_report.specs.Examples.{FormsAreWritten, NamesAreWritten, TreesAreWritten, LoadsAreWritten, MarksAreWritten, ModuliAreWritten, BasesAreWritten, FoldsAreWritten}
+use Rattle.affc_report.specs.Examples.{FormsAreWritten, NamesAreWritten, TreesAreWritten, LoadsAreWritten, MarksAreWritten, ModuliAreWritten, BasesAreWritten, ChoicesAreWritten, FoldsAreWritten}
 
 pub forms_are_written : FormsAreWritten
 unfolding digits
@@ -31,6 +31,10 @@ moduli_are_written = refl
 pub bases_are_written : BasesAreWritten
 unfolding digits
 bases_are_written = (refl, refl, refl)
+
+pub choices_are_written : ChoicesAreWritten
+unfolding digits
+choices_are_written = (refl, refl, refl)
 
 pub folds_are_written : FoldsAreWritten
 unfolding digits

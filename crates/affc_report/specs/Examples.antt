@@ -1,5 +1,5 @@
 -- Forms, trees and folds as text, each written by hand.
-use Rattle.std.specs.Prelude.{◌≡◌, ℕ, ℤ, pos, negsuc, Bool, true, false, ◌∷◌, [], codes, List, Option, Some, None}
+use Rattle.std.specs.Prelude.{◌≡◌, ℕ, ◌^◌, ℤ, pos, negsuc, Bool, true, false, ◌∷◌, [], codes, List, Option, Some, None}
 use Rattle.affc_rows.specs.Forms.{Affine}
 use Rattle.affc_ast.specs.declared.tree.ArrayId.{ArrayId}
 use Rattle.affc_basis.specs.declared.fold.Mark.TheVariants.{Least, Bound}
@@ -15,7 +15,9 @@ use Rattle.affc_schedtext.specs.declared.outline.ArrayOutline.{ArrayOutline}
 use Rattle.affc_schedtext.specs.declared.outline.Outline.{Outline}
 use Rattle.affc_report.specs.Forms.{form_text, named_form}
 use Rattle.affc_report.specs.Trees.{tree_text, flow_text}
-use Rattle.affc_report.specs.Folds.{mark_text, moduli_text, basis_text, fold_report}
+use Rattle.affc_weigh.specs.declared.choice.Choice.{Choice}
+use Rattle.affc_weigh.specs.declared.choice.Price.{Price}
+use Rattle.affc_report.specs.Folds.{mark_text, moduli_text, basis_text, choice_text, fold_report}
 
 abbrev form : List ℤ → ℤ → Affine
 form cs k = record { coefs = cs; constant = k }
@@ -107,9 +109,23 @@ folded = record {
 abbrev fold_at : ℕ → Fold → ArrayId × Fold
 fold_at array fold = (record { 0 = array }, fold)
 
--- The first has a fold over the listed basis (x0 + x1, x1), the last one without rows, and the other none. No other array is told of.
+abbrev choice_at : ℕ → Choice → ArrayId × Choice
+choice_at array choice = (record { 0 = array }, choice)
+
+abbrev price : List ℕ → ℕ → Option Price
+price values cost = Some (record { values = values; cost = cost })
+
+-- a cost that 64 bits don't hold, the first and the third of four bases, and no other bases
+abbrev pub ChoicesAreWritten : Type 0
+ChoicesAreWritten = (choice_text (Some (record { cost = 2 ^ 64; number = 3; prices = price (2 ∷ 100 ∷ []) 200 ∷ None ∷ price [] 1 ∷ None ∷ [] }))
+    ≡ codes "  cost 18446744073709551616\n  rival 0: 2 100 cost 200\n  rival 1: budget\n  rival 2: cost 1\n")
+    × (choice_text (Some (record { cost = 7; number = 0; prices = [] })) ≡ codes "  cost 7\n")
+    × (choice_text None ≡ [])
+
+-- The first has a fold over the listed basis (x0 + x1, x1), the last one without rows, and the other none. No other array is told
+-- of. Of the costs only that of the first is known.
 abbrev pub FoldsAreWritten : Type 0
 FoldsAreWritten = (skewed empty : Fold) → shape_of skewed.basis ≡ square (pos 1) (pos 1) (pos 0) (pos 1) (pos 1) (negsuc 0) (pos 0) (pos 1) → skewed.moduli ≡ moduli
     → shape_of empty.basis ≡ columns [] → empty.moduli ≡ []
-    → fold_report folded (fold_at 4 empty ∷ fold_at 1 empty ∷ fold_at 2 skewed ∷ [])
-    ≡ codes "array t\n  basis (x0 + x1, x1)\n  modulus 0: N - 3 * M + 1 least at N=4 M=7 pair (0, -1) (2, 3)\n  modulus 1: 1 bound\narray u\n  whole budget\narray s\n  basis ()\n"
+    → fold_report folded (fold_at 4 empty ∷ fold_at 1 empty ∷ fold_at 2 skewed ∷ []) (choice_at 3 (record { cost = 8; number = 0; prices = [] }) ∷ choice_at 2 (record { cost = 5; number = 1; prices = price (9 ∷ []) 9 ∷ price [] 5 ∷ [] }) ∷ [])
+    ≡ codes "array t\n  basis (x0 + x1, x1)\n  modulus 0: N - 3 * M + 1 least at N=4 M=7 pair (0, -1) (2, 3)\n  modulus 1: 1 bound\n  cost 5\n  rival 0: 9 cost 9\narray u\n  whole budget\narray s\n  basis ()\n"

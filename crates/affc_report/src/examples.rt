@@ -1,5 +1,5 @@
 //! Forms, trees and folds as text.
-ghost use Rattle.affc_report.specs.Examples.{FormsAreWritten, NamesAreWritten, TreesAreWritten, LoadsAreWritten, MarksAreWritten, ModuliAreWritten, BasesAreWritten, FoldsAreWritten};
+ghost use Rattle.affc_report.specs.Examples.{FormsAreWritten, NamesAreWritten, TreesAreWritten, LoadsAreWritten, MarksAreWritten, ModuliAreWritten, BasesAreWritten, ChoicesAreWritten, FoldsAreWritten};
 
 /// Forms.
 pub fn forms_are_written()
@@ -34,6 +34,11 @@ pub fn moduli_are_written()
 /// The rows of a basis.
 pub fn bases_are_written()
     ensures { BasesAreWritten }
+{}
+
+/// What folds and other bases cost.
+pub fn choices_are_written()
+    ensures { ChoicesAreWritten }
 {}
 
 /// The temporaries of a program.

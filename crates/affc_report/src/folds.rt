@@ -2,6 +2,7 @@
 ghost use Rattle.std.specs.Prelude.{◌≡◌, ◌++◌, ◌+◌, ◌<◌, ◌^◌, length, IfOk, OnOk, MatchOption, Some, None, string_bytes};
 ghost use Rattle.std.specs.Fmt.{signed_decimal};
 ghost use Rattle.affc_basis.specs.Folds.{fold_of};
+ghost use Rattle.affc_weigh.specs.Choices.{choice_of};
 ghost use Rattle.affc_report.specs.Forms.{row_text};
 ghost use Rattle.affc_report.specs.Folds as specs;
 
@@ -13,6 +14,7 @@ use affc_ast::tree::ArrayId;
 use affc_basis::{Fold, Mark, Modulus};
 use affc_rows::Form;
 use affc_schedtext::outline::{ArrayOutline, Outline};
+use affc_weigh::{Choice, Price};
 use std::alloc::{AllocError, Global};
 
 // The rows of a basis.
@@ -150,14 +152,6 @@ fn add_basis(out: &mut String, rows: &[Form]) -> Result<(), AllocError>
     out.push_str(")\n")
 }
 
-// Adds the lines of a fold.
-fn add_fold(out: &mut String, parameters: &[Text], fold: &Fold) -> Result<(), AllocError>
-    ensures { OnOk result (string_bytes out.new ≡ string_bytes out.old ++ specs.fold_text parameters.now (Some fold.now)) }
-{
-    add_basis(out, fold.basis.rows.as_slice())?;
-    add_moduli(out, parameters, 0, fold.moduli.as_slice())
-}
-
 // The fold of the array with this number, if it has one.
 fn fold_of(folds: &[(ArrayId, Fold)], array: usize) -> Option<&Fold>
     ensures { MatchOption result (fold_of folds.now array ≡ None) (λ fold. fold_of folds.now array ≡ Some fold.now) }
@@ -174,6 +168,91 @@ fn fold_of(folds: &[(ArrayId, Fold)], array: usize) -> Option<&Fold>
     }
 }
 
+// ---- Costs
+
+// Adds numbers, each behind a space.
+fn add_numbers(out: &mut String, numbers: &[u64]) -> Result<(), AllocError>
+    ensures { OnOk result (string_bytes out.new ≡ string_bytes out.old ++ specs.numbers_text numbers.now) }
+{
+    match numbers {
+        [] => Ok(()),
+        [n, numbers @ ..] => {
+            write!(out, " {n}")?;
+            add_numbers(out, numbers)
+        }
+    }
+}
+
+// Adds what a basis comes to.
+fn add_price(out: &mut String, price: &Option<Price>) -> Result<(), AllocError>
+    ensures { OnOk result (string_bytes out.new ≡ string_bytes out.old ++ specs.price_text price.now) }
+{
+    match price {
+        None => out.push_str(" budget"),
+        Some(price) => {
+            add_numbers(out, price.values.as_slice())?;
+            let cost = price.cost;
+            write!(out, " cost {cost}")
+        }
+    }
+}
+
+// Adds the line of a basis that wasn't chosen.
+fn add_rival(out: &mut String, number: usize, price: &Option<Price>) -> Result<(), AllocError>
+    ensures { OnOk result (string_bytes out.new ≡ string_bytes out.old ++ specs.rival_text number price.now) }
+{
+    write!(out, "  rival {number}:")?;
+    add_price(out, price)?;
+    out.push_str("\n")
+}
+
+// Adds the lines of the bases that weren't chosen, with numbers from this one on.
+fn add_rivals(
+    out: &mut String,
+    chosen: usize,
+    number: usize,
+    prices: &[Option<Price>],
+) -> Result<(), AllocError>
+    requires { number + length prices.now < 2 ^ 64 }
+    ensures { OnOk result (string_bytes out.new ≡ string_bytes out.old ++ specs.rivals_text chosen number prices.now) }
+{
+    match prices {
+        [] => Ok(()),
+        [price, prices @ ..] => {
+            if number != chosen {
+                add_rival(out, number, price)?;
+            }
+            add_rivals(out, chosen, number + 1, prices)
+        }
+    }
+}
+
+// Adds what a fold costs, and the lines of the bases that weren't chosen.
+fn add_choice(out: &mut String, choice: &Choice) -> Result<(), AllocError>
+    ensures { OnOk result (string_bytes out.new ≡ string_bytes out.old ++ specs.choice_text (Some choice.now)) }
+{
+    let cost = choice.cost;
+    write!(out, "  cost {cost}\n")?;
+    let prices = choice.prices.as_slice();
+    add_rivals(out, choice.number as usize, 0, prices)
+}
+
+// The choice of the array with this number, if there is one.
+fn choice_of(choices: &[(ArrayId, Choice)], array: usize) -> Option<&Choice>
+    ensures { MatchOption result (choice_of choices.now array ≡ None) (λ choice. choice_of choices.now array ≡ Some choice.now) }
+{
+    match choices {
+        [] => None,
+        [(of, choice), choices @ ..] => {
+            if of.0 as usize == array {
+                Some(choice)
+            } else {
+                choice_of(choices, array)
+            }
+        }
+    }
+}
+
 // ---- Temporaries
 
 // Adds the line of a temporary that is left whole.
@@ -183,20 +262,39 @@ fn add_whole(out: &mut String) -> Result<(), AllocError>
     out.push_str("  whole budget\n")
 }
 
+// Adds the lines of a fold.
+fn add_fold(
+    out: &mut String,
+    parameters: &[Text],
+    fold: &Fold,
+    choices: &[(ArrayId, Choice)],
+    number: usize,
+) -> Result<(), AllocError>
+    ensures { OnOk result (string_bytes out.new ≡ string_bytes out.old ++ specs.fold_text parameters.now (Some fold.now) (choice_of choices.now number)) }
+{
+    add_basis(out, fold.basis.rows.as_slice())?;
+    add_moduli(out, parameters, 0, fold.moduli.as_slice())?;
+    match choice_of(choices, number) {
+        Some(choice) => add_choice(out, choice),
+        None => Ok(()),
+    }
+}
+
 // Adds a temporary's name and its lines.
 fn add_temporary(
     out: &mut String,
     parameters: &[Text],
     folds: &[(ArrayId, Fold)],
+    choices: &[(ArrayId, Choice)],
     number: usize,
     array: &ArrayOutline,
 ) -> Result<(), AllocError>
-    ensures { OnOk result (string_bytes out.new ≡ string_bytes out.old ++ specs.temporary_text parameters.now array.now.name (fold_of folds.now number)) }
+    ensures { OnOk result (string_bytes out.new ≡ string_bytes out.old ++ specs.temporary_text parameters.now array.now.name (fold_of folds.now number) (choice_of choices.now number)) }
 {
     let name = array.name.as_str();
     write!(out, "array {name}\n")?;
     match fold_of(folds, number) {
-        Some(fold) => add_fold(out, parameters, fold),
+        Some(fold) => add_fold(out, parameters, fold, choices, number),
         None => add_whole(out),
     }
 }
@@ -206,36 +304,40 @@ fn add_temporaries(
     out: &mut String,
     parameters: &[Text],
     folds: &[(ArrayId, Fold)],
+    choices: &[(ArrayId, Choice)],
     number: usize,
     arrays: &[ArrayOutline],
 ) -> Result<(), AllocError>
     requires { number + length arrays.now < 2 ^ 64 }
-    ensures { OnOk result (string_bytes out.new ≡ string_bytes out.old ++ specs.temporaries_text parameters.now folds.now number arrays.now) }
+    ensures { OnOk result (string_bytes out.new ≡ string_bytes out.old ++ specs.temporaries_text parameters.now folds.now choices.now number arrays.now) }
 {
     match arrays {
         [] => Ok(()),
         [array, arrays @ ..] => {
             if array.is_temporary {
-                add_temporary(out, parameters, folds, number, array)?;
+                add_temporary(out, parameters, folds, choices, number, array)?;
             }
-            add_temporaries(out, parameters, folds, number + 1, arrays)
+            add_temporaries(out, parameters, folds, choices, number + 1, arrays)
         }
     }
 }
 
-/// What became of each temporary, as text: the rows of its basis and its moduli, or that it is left whole.
+/// What became of each temporary, as text: the rows of its basis, its moduli, and what this and other bases cost; or that it is
+/// left whole. Of an array that has no choice no cost is told.
 pub fn fold_report(
     alloc: Global,
     outline: &Outline,
     folds: &[(ArrayId, Fold)],
+    choices: &[(ArrayId, Choice)],
 ) -> Result<Vec<u8>, AllocError>
-    ensures { IfOk result (λ text. text.items ≡ specs.fold_report outline.now folds.now) }
+    ensures { IfOk result (λ text. text.items ≡ specs.fold_report outline.now folds.now choices.now) }
 {
     let mut out = String::new(alloc);
     add_temporaries(
         &mut out,
         outline.parameters.as_slice(),
         folds,
+        choices,
         0,
         outline.arrays.as_slice(),
     )?;

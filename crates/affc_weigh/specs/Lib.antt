@@ -1,3 +1,4 @@
 pub mod Costs
+pub mod Choices
 pub mod Laws
 pub mod Examples

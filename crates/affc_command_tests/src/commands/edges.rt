@@ -9,7 +9,7 @@ const READS: &str = "";
 
 // What is reported of a temporary that nothing touches.
 const UNTOUCHED: &str =
-    "array t\n  basis (x0, x1, x2, x3)\n  modulus 0: 1 least no pair\n  modulus 1: 1 least no pair\n  modulus 2: 1 least no pair\n  modulus 3: 1 least no pair\n";
+    "array t\n  basis (x0, x1, x2, x3)\n  modulus 0: 1 least no pair\n  modulus 1: 1 least no pair\n  modulus 2: 1 least no pair\n  modulus 3: 1 least no pair\n  cost 1\n";
 
 // The line that `fold` writes on the error stream for a text.
 fn told(alloc: Global, text: &str) -> Result<Vec<u8>, AllocError> {

@@ -1,8 +1,17 @@
 //! The words as they come, with memory enough.
 use crate::served::words_of;
-use affc_cli::words::{Command, command_of};
+use affc_cli::words::{Command, CostName, command_of};
 use std::alloc::{AllocError, Global};
 use std::test::Fail;
+
+// What is written of a cost; the one that is taken where none is named isn't.
+fn cost_of(cost: CostName) -> &'static str {
+    match cost {
+        CostName::Words => "",
+        CostName::Sum => " by sum",
+        CostName::Powers => " by powers",
+    }
+}
 
 // What the line asks for, in words.
 fn told(alloc: Global, line: &str) -> Result<String, AllocError> {
@@ -14,16 +23,17 @@ fn told(alloc: Global, line: &str) -> Result<String, AllocError> {
             Command::Fold {
                 source,
                 schedule,
-                budget,
+                settings,
             },
         ) => {
             write!(text, "fold [{source}]")?;
             if let Some(schedule) = schedule {
                 write!(text, " [{schedule}]")?;
             }
-            if let Some(units) = budget {
+            if let Some(units) = settings.budget {
                 write!(text, " {units}")?;
             }
+            text.push_str(cost_of(settings.cost))?;
         }
         Some(
             Command::Run {
@@ -48,6 +58,13 @@ fn words_are_read(rt: HostRuntime) -> Result<(), Fail> {
         ("fold help", "fold [help]"),
         ("fold a b", "fold [a] [b]"),
         ("fold a --budget 7 b", "fold [a] [b] 7"),
+        ("fold a --cost words", "fold [a]"),
+        ("fold --cost=sum a --budget 7", "fold [a] 7 by sum"),
+        ("fold a --cost powers b", "fold [a] [b] by powers"),
+        ("fold a --cost best", "none"),
+        ("fold a --cost", "none"),
+        ("fold a --cost sum --cost sum", "none"),
+        ("run a b --cost sum", "none"),
         ("fold a -- -b", "fold [a] [-b]"),
         ("fold a b c", "none"),
         ("fold a -b", "none"),

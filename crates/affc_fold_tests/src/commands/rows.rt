@@ -21,7 +21,7 @@ const SPACED_PRINTED: &str =
 
 // The words, what `a.c` holds, the status, and what the output and the error stream get. In a source `{open}` stands for
 // the beginning of a function, and `{prelude}` for the prelude.
-const FOLDS: [(&str, &str, u8, &str, &str); 38] = [
+const FOLDS: [(&str, &str, u8, &str, &str); 39] = [
     // ---- Words
     ("", COPY, 2, "", "affc: words\n"),
     ("fold", COPY, 2, "", "affc: words\n"),
@@ -30,6 +30,7 @@ const FOLDS: [(&str, &str, u8, &str, &str); 38] = [
     ("fold a b", COPY, 3, "", "affc: read a\n"),
     ("fold a b c", COPY, 2, "", "affc: words\n"),
     ("fold a.c --budget 0", COPY, 2, "", "affc: words\n"),
+    ("fold a.c --cost best", COPY, 2, "", "affc: words\n"),
     ("run a.c a.data --budget 1", COPY, 2, "", "affc: words\n"),
     ("big 63", COPY, 2, "", "affc: words\n"),
     ("unfold a.c", COPY, 2, "", "affc: words\n"),

@@ -4,14 +4,14 @@ use Rattle.affc_cli.proofs.serve.folded_by.Goals as goal
 
 pub returns-clause-ok : goal.returns-clause-ok
 returns-clause-ok g c =
-    fold_promised _ c.args.source.now (Some c.args.schedule.now) c.args.budget
+    fold_promised _ c.args.source.now (Some c.args.schedule.now) c.args.settings
     (with_schedule _ _ c.args.source.now c.args.schedule.now c.in_ok-source.source.items c.deref.result.now c.in_ok-schedule.schedule.items c.deref-2.result.now
     c.in_ok-source.ensures.ok c.deref.ensures.value c.in_ok-source.ensures.keeps.names c.in_ok-schedule.ensures.ok c.deref-2.ensures.value)
     c.fold.result c.fold.ensures.ok
 
 pub returns-clause-err : goal.returns-clause-err
 returns-clause-err g c =
-    fold_refused c.args.source.now (Some c.args.schedule.now) c.args.budget _ _
+    fold_refused c.args.source.now (Some c.args.schedule.now) c.args.settings _ _
     (with_schedule _ _ c.args.source.now c.args.schedule.now c.in_ok-source.source.items c.deref.result.now c.in_ok-schedule.schedule.items c.deref-2.result.now
     c.in_ok-source.ensures.ok c.deref.ensures.value c.in_ok-source.ensures.keeps.names c.in_ok-schedule.ensures.ok c.deref-2.ensures.value)
     c.fold.result c.fold.ensures.err

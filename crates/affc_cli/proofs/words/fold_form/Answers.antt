@@ -12,6 +12,7 @@ returns c =
     let source_is : rule_of c.required.result ≡ operand_rule (codes "source") = search rules in
     let schedule_is : rule_of c.new-3.result ≡ further_rule (codes "schedule") = search rules in
     let budget_is : rule_of c.long.result ≡ option_rule (codes "budget") = search rules in
-    IfOk-weaker c.arg-3.result _ _ (λ r h. h.shape (search rules)
-    ∙ ap₂ with_rule (c.in_ok-arg-2.ensures.shape (search rules) ∙ ap₂ with_rule (c.in_ok-arg.ensures.shape (search rules) ∙ ap₂ with_rule start_is source_is) schedule_is) budget_is)
-    c.arg-3.ensures
+    let cost_is : rule_of c.long-2.result ≡ option_rule (codes "cost") = search rules in
+    IfOk-weaker c.arg-4.result _ _ (λ r h. h.shape (search rules)
+    ∙ ap₂ with_rule (c.in_ok-arg-3.ensures.shape (search rules) ∙ ap₂ with_rule (c.in_ok-arg-2.ensures.shape (search rules) ∙ ap₂ with_rule (c.in_ok-arg.ensures.shape (search rules) ∙ ap₂ with_rule start_is source_is) schedule_is) budget_is) cost_is)
+    c.arg-4.ensures

@@ -4,7 +4,7 @@ use Rattle.clap.specs.Matches.{found_of}
 use Rattle.clap.specs.Simple.{app_of}
 use Rattle.affc_cli.specs.Command.{texts_of}
 use Rattle.affc_cli.specs.Parsed.{Parses, fold_app}
-use Rattle.affc_cli.proofs.Commands.{fold_none, fold_some, fold_missing, fold_no_budget, fold_answer}
+use Rattle.affc_cli.proofs.Commands.{fold_none, fold_some, fold_missing, fold_no_settings, fold_answer}
 use Rattle.affc_cli.proofs.words.read_fold.Goals as goal
 
 pub returns-in_default : goal.returns-in_default
@@ -20,18 +20,18 @@ returns-in_default-get_str c =
     fold_missing (texts_of c.args.words.now) (found_of c.in-Some.matches) (fold_some (texts_of c.args.words.now) c.in-Some.matches c.requires some)
     c.in_default-get_str.ensures
 
-pub returns-in_default-budget_of : goal.returns-in_default-budget_of
-returns-in_default-budget_of c =
+pub returns-in_default-settings_of : goal.returns-in_default-settings_of
+returns-in_default-settings_of c =
     let parses : Parses (app_of c.in_ok-form.form) (texts_of c.args.words.now) c.in_ok-matches.field-0 = c.in_ok-matches.ensures in
     let some : Parses fold_app (texts_of c.args.words.now) (Some c.in-Some.matches) = rw (c.in_ok-form.ensures, c.in-Some.is) at parses in
-    fold_no_budget (texts_of c.args.words.now) (found_of c.in-Some.matches) c.in-Some-get_str.source.now _
+    fold_no_settings (texts_of c.args.words.now) (found_of c.in-Some.matches) c.in-Some-get_str.source.now _
     (fold_some (texts_of c.args.words.now) c.in-Some.matches c.requires some) c.in-Some-get_str.ensures c.get_str-schedule.ensures
-    (rw c.get_str-2.ensures at c.in_default-budget_of.ensures)
+    (rw (c.get_str-budget.ensures, c.get_str-cost.ensures) at c.in_default-settings_of.ensures)
 
 pub returns : goal.returns
 returns c =
     let parses : Parses (app_of c.in_ok-form.form) (texts_of c.args.words.now) c.in_ok-matches.field-0 = c.in_ok-matches.ensures in
     let some : Parses fold_app (texts_of c.args.words.now) (Some c.in-Some.matches) = rw (c.in_ok-form.ensures, c.in-Some.is) at parses in
-    fold_answer (texts_of c.args.words.now) (found_of c.in-Some.matches) c.in-Some-get_str.source.now _ c.in-Some-budget_of.budget
+    fold_answer (texts_of c.args.words.now) (found_of c.in-Some.matches) c.in-Some-get_str.source.now _ c.in-Some-settings_of.settings
     (fold_some (texts_of c.args.words.now) c.in-Some.matches c.requires some) c.in-Some-get_str.ensures c.get_str-schedule.ensures
-    (rw c.get_str-2.ensures at c.in-Some-budget_of.ensures)
+    (rw (c.get_str-budget.ensures, c.get_str-cost.ensures) at c.in-Some-settings_of.ensures)

@@ -1,18 +1,48 @@
-use Rattle.std.proofs.Common.{sym, subst}
-use Rattle.std.proofs.lemmas.Result.{IfOk-weaker}
-use Rattle.affc_driver.specs.Made.{AreDecided}
-use Rattle.affc_driver.proofs.Compiled.{folds_to}
+use Rattle.std.proofs.Common.{◌∙◌, refl, sym, true, false, true≢false, arith}
+use Rattle.std.proofs.lemmas.Result.{IfOk-weaker, IfErr-weaker}
+use Rattle.affc_driver.specs.Accounts.{free}
+use Rattle.affc_driver.proofs.Counted.{folds_with, is_short, test_is, free_counted, all_counted}
 use Rattle.affc_driver.proofs.Refused.{refuses_each}
 use Rattle.affc_driver.proofs.folding.compile.Goals as goal
 
 pub returns-in-Err-clause-err : goal.returns-in-Err-clause-err
-returns-in-Err-clause-err c = refuses_each c.args.program.now c.args.plan.now c.in-Err.refusal c.in-Err.ensures.err
+returns-in-Err-clause-err g c = refuses_each c.args.program.now c.args.plan.now c.in-Err.refusal c.in-Err.ensures.err
+
+pub returns-in-Err-clause-short : goal.returns-in-Err-clause-short
+returns-in-Err-clause-short g c spent = absurd (c.in-Err.ensures.free spent)
+
+pub returns-then-is_plenty-clause-ok : goal.returns-then-is_plenty-clause-ok
+returns-then-is_plenty-clause-ok g c =
+    let A = g.F.Cost.answers c.args.cost.now.cost in
+    let limit = c.args.budget.now.limit in
+    let plenty = test_is c.args.program.now c.in-Ok.nest c.args.plan.now.schedule limit limit c.is_plenty.result true c.in-Ok.ensures.nest c.is_plenty.ensures c.if-is_plenty.true refl in
+    IfOk-weaker c.compile_freely.result _ _
+    (λ done made. folds_with c.folds_well_named.ensures.law c.folded_program_compiles.ensures.law A c.args.program.now c.args.plan.now free c.args.budget.now done.text.items done.report.items
+    (free_counted _ free c.args.budget.now plenty refl) made)
+    c.compile_freely.ensures.ok
+
+pub returns-then-is_plenty-clause-stop : goal.returns-then-is_plenty-clause-stop
+returns-then-is_plenty-clause-stop g c = IfErr-weaker c.compile_freely.result _ _ (λ refusal counted spent. absurd (counted spent)) c.compile_freely.ensures.free
+
+pub returns-then-is_plenty-clause-short : goal.returns-then-is_plenty-clause-short
+returns-then-is_plenty-clause-short g c = IfErr-weaker c.compile_freely.result _ _ (λ refusal counted spent. absurd (counted spent)) c.compile_freely.ensures.free
 
 pub returns-clause-ok : goal.returns-clause-ok
-returns-clause-ok c =
-    let decided = subst (λ folds. AreDecided c.args.program.now c.args.plan.now c.folds_under.new.budget folds) (sym c.as_slice.ensures) c.in_ok-folds.ensures.decided in
-    IfOk-weaker c.finish.result _ _
-    (λ done made schedule has text reads bare.
-    folds_to c.folds_well_named.ensures.law c.folded_program_compiles.ensures.law text schedule c.args.program.now c.args.plan.now c.folds_under.new.budget c.as_slice.result.now done.text.items done.report.items
-    reads bare c.in-Ok.ensures.within decided has made)
-    c.finish.ensures.ok
+returns-clause-ok g c =
+    let A = g.F.Cost.answers c.args.cost.now.cost in
+    let left = c.compile_counted.new.budget in
+    let few = test_is c.args.program.now c.in-Ok.nest c.args.plan.now.schedule c.args.budget.now.limit left.limit c.is_plenty.result false c.in-Ok.ensures.nest c.is_plenty.ensures c.if-is_plenty.false c.compile_counted.ensures.later.limit in
+    IfOk-weaker c.compile_counted.result _ _
+    (λ done made. folds_with c.folds_well_named.ensures.law c.folded_program_compiles.ensures.law A c.args.program.now c.args.plan.now left left done.text.items done.report.items (all_counted _ left few) made)
+    c.compile_counted.ensures.ok
+
+pub returns-clause-short : goal.returns-clause-short
+returns-clause-short g c =
+    let left = c.compile_counted.new.budget in
+    let few = test_is c.args.program.now c.in-Ok.nest c.args.plan.now.schedule c.args.budget.now.limit left.limit c.is_plenty.result false c.in-Ok.ensures.nest c.is_plenty.ensures c.if-is_plenty.false c.compile_counted.ensures.later.limit in
+    IfErr-weaker c.compile_counted.result _ _ (λ refusal stop spent. is_short c.args.program.now c.args.plan.now left.limit left.spent (stop spent) few) c.compile_counted.ensures.stop
+
+pub returns-clause-plenty : goal.returns-clause-plenty
+returns-clause-plenty g c enough =
+    let limit = c.args.budget.now.limit in
+    absurd (true≢false (sym enough ∙ test_is c.args.program.now c.in-Ok.nest c.args.plan.now.schedule limit limit c.is_plenty.result false c.in-Ok.ensures.nest c.is_plenty.ensures c.if-is_plenty.false refl))

@@ -15,5 +15,5 @@ scan-requires c = record {
 pub returns-in-Ok-clause-ok : goal.returns-in-Ok-clause-ok
 returns-in-Ok-clause-ok c = record {
   printed = c.in-Ok.ensures.text ∙ ap printed_text (c.in_ok-target.ensures ∙ ap (λ q. target_program q c.args.plan.now.schedule) c.in_ok-other.ensures);
-  told = c.in_ok-report.ensures ∙ ap (λ o. fold_report o c.args.folds.now) c.in_ok-outline.ensures;
+  told = c.in_ok-report.ensures ∙ ap (λ o. fold_report o c.args.folds.now c.args.choices.now) c.in_ok-outline.ensures;
 }

@@ -2,4 +2,4 @@ use Rattle.affc_driver.proofs.Complete as lemma
 use Rattle.affc_driver.proofs.laws.foldable_is_folded.Goals as goal
 
 pub returns : goal.returns
-returns c = record { law = lemma.foldable_is_folded c.folds_well_named.ensures.law c.folded_program_compiles.ensures.law }
+returns g c = record { law = lemma.foldable_is_folded c.folds_well_named.ensures.law c.folded_program_compiles.ensures.law g.C.Costing.answers }

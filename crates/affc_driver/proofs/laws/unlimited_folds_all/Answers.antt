@@ -2,4 +2,4 @@ use Rattle.affc_driver.proofs.Complete as lemma
 use Rattle.affc_driver.proofs.laws.unlimited_folds_all.Goals as goal
 
 pub returns : goal.returns
-returns c = record { law = lemma.unlimited_folds_all }
+returns g c = record { law = lemma.unlimited_folds_all g.C.Costing.answers }

@@ -4,4 +4,5 @@ use Rattle.affc_folds.proofs.bases.copied.Goals as goal
 
 pub unreachable-requires : goal.unreachable-requires
 unreachable-requires c =
-    none_broken c.args.basis.now c.in_ok-rows.rows c.in_ok-inverse.inverse c.in-Err._broken.component (c.in_ok-rows.ensures ∙ c.as_slice.ensures) (c.in_ok-inverse.ensures ∙ c.as_slice-2.ensures) c.in-Err.ensures.broken
+    none_broken c.args.basis.now c.from_vec-rows.result c.from_vec-inverse.result c.in-Err._broken.component (c.from_vec-rows.ensures ∙ c.in_ok-copies.ensures ∙ c.as_slice.ensures)
+    (c.from_vec-inverse.ensures ∙ c.in_ok-copies-2.ensures ∙ c.as_slice-2.ensures) c.in-Err.ensures.broken

@@ -1,0 +1,43 @@
+-- What is spent of a budget. A budget of at least the threshold counts as none.
+use Rattle.std.specs.Prelude.{◌≡◌, ◌⊎◌, ℕ, ◌<◌, nat_le, Bool, true, false, if◌then◌else◌, List, Option, Some, None}
+use Rattle.affc_ast.specs.declared.tree.Program.{Program}
+use Rattle.affc_trace.specs.declared.schedule.Schedule.{Schedule}
+use Rattle.affc_split.specs.Budgets.{Account}
+use Rattle.affc_nest.specs.Nests.{nest_of}
+use Rattle.affc_threshold.specs.Thresholds.{threshold}
+use Rattle.affc_driver.specs.Folds.{FoldsTo}
+use Rattle.affc_driver.specs.Refusals.{IsPlanned}
+
+-- of which nothing is counted
+abbrev pub free : Account
+free = record { limit = None; spent = 0 }
+
+-- whether the limit is at least the threshold
+abbrev pub reaches : Option ℕ → (threshold : ℕ) → Bool
+reaches None n = false
+reaches (Some l) n = nat_le n l
+
+abbrev pub is_plenty : Program → Schedule → Option ℕ → Bool
+is_plenty program schedule limit = reaches limit (threshold (nest_of program) schedule)
+
+-- there is none, or it is
+abbrev pub IsUnlimited : Program → Schedule → Option ℕ → Type 0
+IsUnlimited program schedule limit = (limit ≡ None) ⊎ (is_plenty program schedule limit ≡ true)
+
+-- The text is made of the source within a budget of which this is left. Where it is plenty, nothing is counted.
+pub record FoldsWith (Answers : List ℕ → ℕ → Type 0) (source : List ℕ) (schedule : Option (List ℕ)) (left : Account) (text report : List ℕ) : Type 0 where
+  pub account : Account
+  pub folds_to : FoldsTo Answers source schedule account text report
+  pub counted : account ≡ (if is_plenty folds_to.compiles.source folds_to.plan.schedule left.limit then free else left)
+
+-- the limit is below the threshold of the program and the plan that are read
+pub record IsShort (source : List ℕ) (schedule : Option (List ℕ)) (limit : Option ℕ) : Type 0 where
+  pub of : IsPlanned source schedule
+  pub most : ℕ
+  pub limited : limit ≡ Some most
+  pub below : most < threshold (nest_of of.tree) of.plan.schedule
+
+-- it is at least the threshold
+pub record IsPlenty (source : List ℕ) (schedule : Option (List ℕ)) (limit : Option ℕ) : Type 0 where
+  pub of : IsPlanned source schedule
+  pub reached : is_plenty of.tree of.plan.schedule limit ≡ true

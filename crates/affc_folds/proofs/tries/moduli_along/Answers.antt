@@ -1,0 +1,17 @@
+use Rattle.std.proofs.Common.{sym, subst}
+use Rattle.std.specs.List.{All}
+use Rattle.affc_system.specs.Pairs.{IsSubscript}
+use Rattle.affc_quast.specs.Seen.{trees_of}
+use Rattle.affc_folds.proofs.FoldLemmas.{near_parameters, some_in_context, extents_are_forms}
+use Rattle.affc_folds.proofs.tries.moduli_along.Goals as goal
+
+pub moduli-requires-clause-near : goal.moduli-requires-clause-near
+moduli-requires-clause-near c = near_parameters c.args.asked.now.program.now c.args.asked.now.nest.now (trees_of c.args.asked.now.flow.now) c.args.asked.now.schedule.now c.requires.analysed
+
+pub moduli-requires-clause-some : goal.moduli-requires-clause-some
+moduli-requires-clause-some c = some_in_context c.args.asked.now.program.now c.args.asked.now.nest.now (trees_of c.args.asked.now.flow.now) c.args.asked.now.schedule.now c.requires.analysed
+
+pub moduli-requires-clause-extents : goal.moduli-requires-clause-extents
+moduli-requires-clause-extents c =
+    subst (All (IsSubscript c.args.asked.now.nest.now.context.columns)) (sym c.as_slice-extents.ensures)
+    (extents_are_forms c.args.asked.now.program.now c.args.asked.now.nest.now (trees_of c.args.asked.now.flow.now) c.args.asked.now.schedule.now c.requires.analysed c.args.array.0 c.args.info.now c.requires.there)

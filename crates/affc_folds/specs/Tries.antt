@@ -1,0 +1,42 @@
+-- What was found of the bases of an array.
+use Rattle.std.specs.Prelude.{◌≡◌, ℕ, true, false, List, Option, Some, None, slice_get}
+use Rattle.affc_ast.specs.declared.tree.ArrayId.{ArrayId}
+use Rattle.affc_ast.specs.declared.tree.Program.{Program}
+use Rattle.affc_trace.specs.declared.schedule.Schedule.{Schedule}
+use Rattle.affc_trace.specs.Dataflow.{LivePair}
+use Rattle.affc_trace.specs.Laws.{IsInContext}
+use Rattle.affc_split.specs.Budgets.{Account}
+use Rattle.affc_basis.specs.declared.basis.Basis.{Basis}
+use Rattle.affc_basis.specs.declared.fold.Fold.{Fold}
+use Rattle.affc_basis.specs.Folds.{forms_of, AreGreatestValues}
+use Rattle.affc_basis.specs.Listed.{Shape, shape_of}
+use Rattle.affc_weigh.specs.declared.choice.Choice.{Choice}
+use Rattle.affc_weigh.specs.declared.ratings.Rated.{Rated}
+use Rattle.affc_weigh.specs.Choices.{AreNeeds}
+use Rattle.affc_folds.specs.Folding.{IsFoldFor, HasBound, IsSpent, IsChoice}
+
+-- a fold over a basis of this shape, with its price
+pub record IsRated (Answers : List ℕ → ℕ → Type 0) (program : Program) (schedule : Schedule) (budget : Account) (array : ℕ) (shape : Shape) (r : Rated) : Type 0 where
+  pub its_shape : shape_of r.fold.basis ≡ shape
+  pub is_fold : IsFoldFor program schedule array r.fold
+  pub values : AreGreatestValues (IsInContext program) (forms_of r.fold.moduli) r.price.values
+  pub cost : Answers r.price.values r.price.cost
+  pub needed : r.marked ≡ true → AreNeeds (IsInContext program) (LivePair program schedule array) r.fold.basis.rows r.price.values
+  pub unmarked : r.marked ≡ false → HasBound r.fold
+  pub bound : HasBound r.fold → IsSpent budget
+
+-- none is found only where no unit is left
+abbrev pub IsTried : (Answers : List ℕ → ℕ → Type 0) (program : Program) (schedule : Schedule) (budget : Account) (array : ℕ) → Shape → Option Rated → Type 0
+IsTried Answers program schedule budget array shape None = IsSpent budget
+IsTried Answers program schedule budget array shape (Some r) = IsRated Answers program schedule budget array shape r
+
+-- as many of these as there are, from the first on
+abbrev pub AreTried : (Answers : List ℕ → ℕ → Type 0) (program : Program) (schedule : Schedule) (budget : Account) (array : ℕ) → List Shape → List (Option Rated) → Type 0
+AreTried Answers program schedule budget array shapes found =
+    (j : ℕ) (shape : Shape) (one : Option Rated) → slice_get shapes j ≡ Some shape → slice_get found j ≡ Some one → IsTried Answers program schedule budget array shape one
+
+-- the fold of an array, and what is told of it
+pub record IsFolded (Answers : List ℕ → ℕ → Type 0) (program : Program) (schedule : Schedule) (bases : List (ArrayId × Basis)) (budget : Account) (array : ℕ) (folded : Fold × Choice) : Type 0 where
+  pub is_fold : IsFoldFor program schedule array folded.0
+  pub is_choice : IsChoice Answers program schedule bases budget array folded.0 folded.1
+  pub bound : HasBound folded.0 → IsSpent budget

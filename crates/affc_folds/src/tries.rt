@@ -1,0 +1,295 @@
+//! The folds of an array along its bases, of which one is taken.
+ghost use Rattle.std.specs.Prelude.{◌≡◌, ℕ, ℤ, List, ◌≤◌, IfOk, IfErr, IfNone, IfSome, Some, length, map, slice_get};
+ghost use Rattle.std.specs.List.{All};
+ghost use Rattle.affc_rows.specs.Forms.{Affine};
+ghost use Rattle.affc_system.specs.ElementPairs.{IsPairOf};
+ghost use Rattle.affc_ast.specs.Meaning.{arrays_of};
+ghost use Rattle.affc_split.specs.Budgets.{IsLater};
+ghost use Rattle.affc_basis.specs.declared.fold.Mark.TheVariants.{Bound};
+ghost use Rattle.affc_basis.specs.declared.fold.Modulus.{Modulus as OneModulus};
+ghost use Rattle.affc_basis.specs.Folds.{forms_of, IsTrueMark};
+ghost use Rattle.affc_basis.specs.Listed.{shape_of, listing};
+ghost use Rattle.affc_basis.specs.Moduli.{Exceeds, IsModulus};
+ghost use Rattle.affc_conflicts.specs.Conditions.{InContext};
+ghost use Rattle.affc_quast.specs.Seen.{trees_of};
+ghost use Rattle.affc_folds.specs.Folding.{IsAnalysed, IsFoldFor, IsSpent, HasBound, given_for};
+ghost use Rattle.affc_folds.specs.Systems.{AreLive};
+ghost use Rattle.affc_folds.specs.Tries.{IsRated, IsTried, AreTried, IsFolded};
+
+use crate::asked::Asked;
+use crate::bases::{copied, given_basis};
+use crate::systems::live_systems;
+use affc_ast::tree::ArrayId;
+use affc_basis::{Basis, Fold, Modulus, listed};
+use affc_moduli::moduli;
+use affc_nest::ArrayInfo;
+use affc_split::{Budget, Stop};
+use affc_system::PairSystem;
+use affc_weigh::{Choice, Cost, Rated, Weigher, choose, rate, whole_cost};
+use sqlite_items::Items;
+use std::alloc::{AllocError, Global};
+
+/// How many dimensions an array has.
+fn dimensions_of(info: &ArrayInfo) -> u32
+    requires { length info.now.extents ≤ 4 }
+    ensures { result ≡ length info.now.extents }
+{
+    info.extents.as_slice().len() as u32
+}
+
+/// The moduli of an array along a basis. No question is asked of an array without dimensions.
+fn moduli_along(
+    alloc: Global,
+    asked: &Asked<'_>,
+    array: ArrayId,
+    info: &ArrayInfo,
+    systems: &[PairSystem],
+    basis: &Basis,
+    budget: &mut Budget,
+) -> Result<Items<Modulus>, Stop>
+    requires analysed { IsAnalysed asked.now.program.now asked.now.nest.now (trees_of asked.now.flow.now) asked.now.schedule.now }
+    requires there { slice_get asked.now.nest.now.arrays array.0 ≡ Some info.now }
+    requires live { AreLive asked.now.program.now asked.now.schedule.now asked.now.nest.now array.0 info.now.extents systems.now }
+    requires rows { length basis.now.rows ≡ length info.now.extents }
+    ensures one_each { IfOk result (λ ms. length ms ≡ length basis.now.rows) }
+    ensures limits { IfOk result (λ ms. All (IsModulus asked.now.nest.now.context.columns) (forms_of ms)) }
+    ensures obeys { IfOk result (λ ms. (p : List ℤ) → InContext asked.now.nest.now.context asked.now.nest.now.params p → Exceeds (IsPairOf systems.now p) p basis.now.rows (forms_of ms)) }
+    ensures marks { IfOk result (λ ms. (k : ℕ) (row : Affine) (m : OneModulus) → slice_get basis.now.rows k ≡ Some row → slice_get ms k ≡ Some m → IsTrueMark (InContext asked.now.nest.now.context asked.now.nest.now.params) (IsPairOf systems.now) basis.now.rows k row m) }
+    ensures bound { IfOk result (λ ms. (k : ℕ) (m : OneModulus) → slice_get ms k ≡ Some m → m.mark ≡ Bound → IsSpent budget.new) }
+    ensures later { IsLater budget.old budget.new }
+    ensures stop { IfErr result (λ e. e ≡ Stop.Memory) }
+{
+    let extents = info.extents.as_slice();
+    if extents.is_empty() {
+        return Ok(Items::new(alloc));
+    }
+    let context = &asked.nest.context;
+    let ranges = &asked.nest.params;
+    moduli(alloc, systems, basis, extents, context, ranges, budget)
+}
+
+/// The fold of an array along a basis.
+fn fold_along(
+    alloc: Global,
+    asked: &Asked<'_>,
+    array: ArrayId,
+    info: &ArrayInfo,
+    systems: &[PairSystem],
+    basis: &Basis,
+    budget: &mut Budget,
+) -> Result<Fold, Stop>
+    requires analysed { IsAnalysed asked.now.program.now asked.now.nest.now (trees_of asked.now.flow.now) asked.now.schedule.now }
+    requires there { slice_get asked.now.nest.now.arrays array.0 ≡ Some info.now }
+    requires temporary { length (arrays_of asked.now.program.now.params) ≤ array.0 }
+    requires live { AreLive asked.now.program.now asked.now.schedule.now asked.now.nest.now array.0 info.now.extents systems.now }
+    requires rows { length basis.now.rows ≡ length info.now.extents }
+    ensures shape { IfOk result (λ fold. shape_of fold.basis ≡ shape_of basis.now) }
+    ensures fold { IfOk result (λ fold. IsFoldFor asked.now.program.now asked.now.schedule.now array.0 fold) }
+    ensures bound { IfOk result (λ fold. HasBound fold → IsSpent budget.new) }
+    ensures later { IsLater budget.old budget.new }
+    ensures stop { IfErr result (λ e. e ≡ Stop.Memory) }
+{
+    let basis = copied(alloc, basis)?;
+    let moduli = moduli_along(alloc, asked, array, info, systems, &basis, budget)?;
+    Ok(Fold { basis, moduli })
+}
+
+/// What a fold of an array along a basis comes to.
+fn priced<F: Cost>(
+    alloc: Global,
+    asked: &Asked<'_>,
+    array: ArrayId,
+    info: &ArrayInfo,
+    systems: &[PairSystem],
+    basis: &Basis,
+    cost: &Weigher<F>,
+    budget: &mut Budget,
+) -> Result<Option<Rated>, Stop>
+    requires analysed { IsAnalysed asked.now.program.now asked.now.nest.now (trees_of asked.now.flow.now) asked.now.schedule.now }
+    requires there { slice_get asked.now.nest.now.arrays array.0 ≡ Some info.now }
+    requires temporary { length (arrays_of asked.now.program.now.params) ≤ array.0 }
+    requires live { AreLive asked.now.program.now asked.now.schedule.now asked.now.nest.now array.0 info.now.extents systems.now }
+    requires rows { length basis.now.rows ≡ length info.now.extents }
+    ensures tried { IfOk result (IsTried (F.answers cost.now.cost) asked.now.program.now asked.now.schedule.now budget.new array.0 (shape_of basis.now)) }
+    ensures later { IsLater budget.old budget.new }
+    ensures stop { IfErr result (λ e. e ≡ Stop.Memory) }
+{
+    let fold = fold_along(alloc, asked, array, info, systems, basis, budget)?;
+    Ok(rate(alloc, fold, cost)?)
+}
+
+/// What a fold comes to, unless it has a bound alone and is no cheaper than the array as it stands.
+#[tactic(auto, using(crate::proofs::TryLemmas::unmarked_spent))]
+fn worth_while<F: Cost>(
+    alloc: Global,
+    asked: &Asked<'_>,
+    array: ArrayId,
+    info: &ArrayInfo,
+    basis: &Basis,
+    one: Rated,
+    cost: &Weigher<F>,
+    budget: &Budget,
+) -> Result<Option<Rated>, AllocError>
+    requires analysed { IsAnalysed asked.now.program.now asked.now.nest.now (trees_of asked.now.flow.now) asked.now.schedule.now }
+    requires there { slice_get asked.now.nest.now.arrays array.0 ≡ Some info.now }
+    requires rated { IsRated (F.answers cost.now.cost) asked.now.program.now asked.now.schedule.now budget.now array.0 (shape_of basis.now) one }
+    ensures { IfOk result (IsTried (F.answers cost.now.cost) asked.now.program.now asked.now.schedule.now budget.now array.0 (shape_of basis.now)) }
+{
+    let _basis = basis;
+    let _budget = budget;
+    if one.marked {
+        return Ok(Some(one));
+    }
+    let ranges = &asked.nest.params;
+    let whole = whole_cost(alloc, info.extents.as_slice(), ranges, cost)?;
+    if one.price.cost < whole {
+        Ok(Some(one))
+    } else {
+        Ok(None)
+    }
+}
+
+/// What an array comes to along a basis.
+fn tried<F: Cost>(
+    alloc: Global,
+    asked: &Asked<'_>,
+    array: ArrayId,
+    info: &ArrayInfo,
+    systems: &[PairSystem],
+    basis: &Basis,
+    cost: &Weigher<F>,
+    budget: &mut Budget,
+) -> Result<Option<Rated>, Stop>
+    requires analysed { IsAnalysed asked.now.program.now asked.now.nest.now (trees_of asked.now.flow.now) asked.now.schedule.now }
+    requires there { slice_get asked.now.nest.now.arrays array.0 ≡ Some info.now }
+    requires temporary { length (arrays_of asked.now.program.now.params) ≤ array.0 }
+    requires live { AreLive asked.now.program.now asked.now.schedule.now asked.now.nest.now array.0 info.now.extents systems.now }
+    requires rows { length basis.now.rows ≡ length info.now.extents }
+    ensures tried { IfOk result (IsTried (F.answers cost.now.cost) asked.now.program.now asked.now.schedule.now budget.new array.0 (shape_of basis.now)) }
+    ensures later { IsLater budget.old budget.new }
+    ensures stop { IfErr result (λ e. e ≡ Stop.Memory) }
+{
+    let Some(one) = priced(alloc, asked, array, info, systems, basis, cost, budget)? else {
+        return Ok(None);
+    };
+    Ok(worth_while(alloc, asked, array, info, basis, one, cost, budget)?)
+}
+
+/// What an array comes to along each listed basis.
+fn all_tried<F: Cost>(
+    alloc: Global,
+    asked: &Asked<'_>,
+    array: ArrayId,
+    info: &ArrayInfo,
+    systems: &[PairSystem],
+    bases: &[Basis],
+    cost: &Weigher<F>,
+    budget: &mut Budget,
+) -> Result<Items<Option<Rated>>, Stop>
+    requires analysed { IsAnalysed asked.now.program.now asked.now.nest.now (trees_of asked.now.flow.now) asked.now.schedule.now }
+    requires there { slice_get asked.now.nest.now.arrays array.0 ≡ Some info.now }
+    requires temporary { length (arrays_of asked.now.program.now.params) ≤ array.0 }
+    requires live { AreLive asked.now.program.now asked.now.schedule.now asked.now.nest.now array.0 info.now.extents systems.now }
+    requires bases { map shape_of bases.now ≡ listing (length info.now.extents) }
+    ensures found { IfOk result (AreTried (F.answers cost.now.cost) asked.now.program.now asked.now.schedule.now budget.new array.0 (listing (length info.now.extents))) }
+    ensures one_each { IfOk result (λ found. length found ≡ length (listing (length info.now.extents))) }
+    ensures later { IsLater budget.old budget.new }
+    ensures stop { IfErr result (λ e. e ≡ Stop.Memory) }
+{
+    let mut found = Items::new(alloc);
+    for basis in bases {
+        let one = tried(alloc, asked, array, info, systems, basis, cost, budget)?;
+        found.push(one)?;
+    }
+    Ok(found)
+}
+
+/// The cheapest fold of an array along the listed bases.
+fn fold_cheapest<F: Cost>(
+    alloc: Global,
+    asked: &Asked<'_>,
+    array: ArrayId,
+    info: &ArrayInfo,
+    cost: &Weigher<F>,
+    budget: &mut Budget,
+) -> Result<Option<(Fold, Choice)>, Stop>
+    requires analysed { IsAnalysed asked.now.program.now asked.now.nest.now (trees_of asked.now.flow.now) asked.now.schedule.now }
+    requires there { slice_get asked.now.nest.now.arrays array.0 ≡ Some info.now }
+    requires temporary { length (arrays_of asked.now.program.now.params) ≤ array.0 }
+    requires none_given { given_for asked.now.bases.now array.0 (length info.now.extents) ≡ None }
+    ensures none { IfOk result (λ taken. IfNone taken (IsSpent budget.new)) }
+    ensures some { IfOk result (λ taken. IfSome taken (IsFolded (F.answers cost.now.cost) asked.now.program.now asked.now.schedule.now asked.now.bases.now budget.new array.0)) }
+    ensures later { IsLater budget.old budget.new }
+    ensures stop { IfErr result (λ e. e ≡ Stop.Memory) }
+{
+    let bases = listed(alloc, dimensions_of(info))?;
+    let bases = bases.as_slice();
+    let systems = match live_systems(alloc, asked, array, info, bases.len() > 1, budget) {
+        Ok(systems) => systems,
+        Err(Stop::Budget) => return Ok(None),
+        Err(Stop::Memory) => return Err(Stop::Memory),
+    };
+    let systems = systems.as_slice();
+    let found = all_tried(alloc, asked, array, info, systems, bases, cost, budget)?;
+    Ok(choose(alloc, found)?)
+}
+
+/// The fold of an array along the basis that is given for it.
+fn fold_given<F: Cost>(
+    alloc: Global,
+    asked: &Asked<'_>,
+    array: ArrayId,
+    info: &ArrayInfo,
+    basis: &Basis,
+    cost: &Weigher<F>,
+    budget: &mut Budget,
+) -> Result<Option<(Fold, Choice)>, Stop>
+    requires analysed { IsAnalysed asked.now.program.now asked.now.nest.now (trees_of asked.now.flow.now) asked.now.schedule.now }
+    requires there { slice_get asked.now.nest.now.arrays array.0 ≡ Some info.now }
+    requires temporary { length (arrays_of asked.now.program.now.params) ≤ array.0 }
+    requires given { given_for asked.now.bases.now array.0 (length info.now.extents) ≡ Some (shape_of basis.now) }
+    requires rows { length basis.now.rows ≡ length info.now.extents }
+    ensures none { IfOk result (λ taken. IfNone taken (IsSpent budget.new)) }
+    ensures some { IfOk result (λ taken. IfSome taken (IsFolded (F.answers cost.now.cost) asked.now.program.now asked.now.schedule.now asked.now.bases.now budget.new array.0)) }
+    ensures later { IsLater budget.old budget.new }
+    ensures stop { IfErr result (λ e. e ≡ Stop.Memory) }
+{
+    let systems = match live_systems(alloc, asked, array, info, false, budget) {
+        Ok(systems) => systems,
+        Err(Stop::Budget) => return Ok(None),
+        Err(Stop::Memory) => return Err(Stop::Memory),
+    };
+    let systems = systems.as_slice();
+    let Some(one) = tried(alloc, asked, array, info, systems, basis, cost, budget)? else {
+        return Ok(None);
+    };
+    let choice = Choice {
+        cost: one.price.cost,
+        number: 0,
+        prices: Items::new(alloc),
+    };
+    Ok(Some((one.fold, choice)))
+}
+
+/// The fold of an array, and what is told of it, unless the budget ends first.
+pub(crate) fn fold_array<F: Cost>(
+    alloc: Global,
+    asked: &Asked<'_>,
+    array: ArrayId,
+    info: &ArrayInfo,
+    cost: &Weigher<F>,
+    budget: &mut Budget,
+) -> Result<Option<(Fold, Choice)>, Stop>
+    requires analysed { IsAnalysed asked.now.program.now asked.now.nest.now (trees_of asked.now.flow.now) asked.now.schedule.now }
+    requires there { slice_get asked.now.nest.now.arrays array.0 ≡ Some info.now }
+    requires temporary { length (arrays_of asked.now.program.now.params) ≤ array.0 }
+    ensures none { IfOk result (λ taken. IfNone taken (IsSpent budget.new)) }
+    ensures some { IfOk result (λ taken. IfSome taken (IsFolded (F.answers cost.now.cost) asked.now.program.now asked.now.schedule.now asked.now.bases.now budget.new array.0)) }
+    ensures later { IsLater budget.old budget.new }
+    ensures stop { IfErr result (λ e. e ≡ Stop.Memory) }
+{
+    match given_basis(alloc, asked.bases, array, dimensions_of(info))? {
+        Some(basis) => fold_given(alloc, asked, array, info, &basis, cost, budget),
+        None => fold_cheapest(alloc, asked, array, info, cost, budget),
+    }
+}
