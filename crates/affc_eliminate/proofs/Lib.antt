@@ -3,3 +3,16 @@ pub mod Rooms
 pub mod Exactness
 pub mod Stored
 pub mod ExampleProofs
+pub mod Sums
+pub mod Merges
+pub mod Mixtures
+pub mod Quotients
+pub mod Sieves
+pub mod Added
+pub mod Works
+pub mod Grown
+pub mod Crossings
+pub mod Replacings
+pub mod Ends
+pub mod Opposed
+pub mod StepExamples

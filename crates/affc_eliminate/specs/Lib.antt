@@ -1,4 +1,9 @@
 pub mod Points
 pub mod Screens
 pub mod Laws
+pub mod Mixtures
+pub mod Steps
+pub mod Merges
+pub mod Sieves
+pub mod Works
 pub mod Examples
