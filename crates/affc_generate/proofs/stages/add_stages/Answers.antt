@@ -1,0 +1,7 @@
+use Rattle.std.proofs.Common.{arith}
+use Rattle.affc_generate.specs.Stages as specs
+use Rattle.affc_generate.proofs.Texts.{more_from_one}
+use Rattle.affc_generate.proofs.stages.add_stages.Goals as goal
+
+pub loop-k-preserved : goal.loop-k-preserved
+loop-k-preserved c = (omega arith, more_from_one _ _ _ (specs.stage c.args.stages) c.loop-k.k c.loop-k.invariant.0 c.loop-k.invariant.1 c.in_ok-add_stage.ensures)
