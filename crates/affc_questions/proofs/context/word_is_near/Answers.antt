@@ -1,0 +1,5 @@
+use Rattle.affc_questions.proofs.SizeLemmas.{within_64}
+use Rattle.affc_questions.proofs.context.word_is_near.Goals as goal
+
+pub returns : goal.returns
+returns c = within_64 c.args.x c.ranges.x

@@ -1,0 +1,44 @@
+use Rattle.std.proofs.Common.{◌≡◌, ℕ, ◌≤◌, List, length, map, sym, ap, subst, ◌∙◌}
+use Rattle.std.specs.List.{All}
+use Rattle.affc_rows.specs.Forms.{Affine}
+use Rattle.affc_system.specs.Systems.{IsRow}
+use Rattle.affc_nest.specs.declared.nest.Nest.{Nest}
+use Rattle.affc_quast.specs.Leaves.{padded}
+use Rattle.affc_quast.specs.SeenLeaves.{leaf_seen}
+use Rattle.affc_life.specs.Asked.{IsLight}
+use Rattle.affc_life.specs.Composed.{AreImages}
+use Rattle.affc_questions.specs.Listed.{images}
+use Rattle.affc_questions.proofs.LeafLemmas.{load_light, load_narrow, images_are, rows_at_images, subs_at_images}
+use Rattle.affc_questions.proofs.named.astray_lists.Goals as goal
+
+images_is : (nest : Nest) (columns : ℕ) (forms own made now : List Affine) → now ≡ made → made ≡ images nest columns own → own ≡ forms → now ≡ images nest columns forms
+images_is nest columns forms own made now e f g = e ∙ (f ∙ ap (images nest columns) g)
+
+pub add_outside-requires-clause-images : goal.add_outside-requires-clause-images
+add_outside-requires-clause-images c =
+    subst (AreImages c.args.leaf.now.columns) (sym (images_is c.args.nest.now c.args.leaf.now.columns c.args.named.now.forms c.as_slice.result.now c.in_ok-images.images.items c.as_slice-images.result.now c.as_slice-images.ensures.value c.in_ok-images.ensures c.as_slice.ensures))
+    (images_are c.args.nest.now c.requires.leaf.nested c.args.leaf.now.columns c.args.named.now.statement c.args.named.now.forms c.args.writer.now c.args.store.now c.requires.writer c.requires.named)
+
+pub add_outside-requires-clause-rows : goal.add_outside-requires-clause-rows
+add_outside-requires-clause-rows c =
+    subst (λ (fs : List Affine). All (IsRow (length fs)) c.rows.result.now) (sym (images_is c.args.nest.now c.args.leaf.now.columns c.args.named.now.forms c.as_slice.result.now c.in_ok-images.images.items c.as_slice-images.result.now c.as_slice-images.ensures.value c.in_ok-images.ensures c.as_slice.ensures))
+    (rows_at_images c.args.nest.now c.requires.leaf.nested c.args.leaf.now.columns c.args.named.now.statement c.args.named.now.forms c.args.writer.now c.args.store.now c.requires.writer c.requires.named c.rows.result.now c.rows.ensures.fit)
+
+pub add_apart-requires-clause-images : goal.add_apart-requires-clause-images
+add_apart-requires-clause-images c =
+    subst (AreImages c.args.leaf.now.columns) (sym (images_is c.args.nest.now c.args.leaf.now.columns c.args.named.now.forms c.as_slice.result.now c.in_ok-images.images.items c.as_slice-images.result.now c.as_slice-images.ensures.value c.in_ok-images.ensures c.as_slice.ensures))
+    (images_are c.args.nest.now c.requires.leaf.nested c.args.leaf.now.columns c.args.named.now.statement c.args.named.now.forms c.args.writer.now c.args.store.now c.requires.writer c.requires.named)
+
+pub add_apart-requires-clause-written : goal.add_apart-requires-clause-written
+add_apart-requires-clause-written c =
+    subst (λ (fs : List Affine). All (IsRow (length fs)) c.as_slice-written.result.now) (sym (images_is c.args.nest.now c.args.leaf.now.columns c.args.named.now.forms c.as_slice.result.now c.in_ok-images.images.items c.as_slice-images.result.now c.as_slice-images.ensures.value c.in_ok-images.ensures c.as_slice.ensures))
+    (subst (All (IsRow (length (images c.args.nest.now c.args.leaf.now.columns c.args.named.now.forms)))) (sym c.as_slice-written.ensures)
+    (subs_at_images c.args.nest.now c.requires.leaf.nested c.args.leaf.now.columns c.args.named.now.statement c.args.named.now.forms c.args.writer.now c.args.store.now c.requires.writer c.requires.named))
+
+pub add_apart-requires-clause-narrow : goal.add_apart-requires-clause-narrow
+add_apart-requires-clause-narrow c =
+    subst (All (λ f. length f.coefs ≤ c.args.leaf.now.columns)) (sym c.as_slice-read.ensures) (load_narrow c.args.nest.now c.args.reader.now c.args.load.now (leaf_seen c.args.leaf.now) c.requires.leaf)
+
+pub add_apart-requires-clause-light : goal.add_apart-requires-clause-light
+add_apart-requires-clause-light c =
+    subst (λ (fs : List Affine). All (IsLight c.args.leaf.now.columns) (map (padded c.args.leaf.now.columns) fs)) (sym c.as_slice-read.ensures) (load_light c.args.nest.now c.args.reader.now c.args.load.now (leaf_seen c.args.leaf.now) c.requires.leaf)

@@ -1,0 +1,204 @@
+//! The questions of a leaf with instances of statements that store the array.
+ghost use Rattle.std.specs.Prelude.{◌≡◌, ◌+◌, ◌≤◌, ◌++◌, ◌∷◌, [], length, IfOk, OnOk};
+ghost use Rattle.std.specs.List.{All};
+ghost use Rattle.affc_trace.specs.Law.{IsIn};
+ghost use Rattle.affc_flow.specs.Questions.{beside_rows};
+ghost use Rattle.affc_quast.specs.SeenLeaves.{leaf_seen};
+ghost use Rattle.affc_life.specs.Asked.{HasForms};
+ghost use Rattle.affc_life.specs.Drafts.{posed};
+ghost use Rattle.affc_questions.specs.Asked.{IsLeafOf, IsWriter};
+ghost use Rattle.affc_questions.specs.Listed.{earlier_systems, between_systems, all_earlier, all_between};
+
+use crate::lists::{add_behind, add_joined};
+use crate::long::Long;
+use crate::rows::add_equals;
+use affc_flow::store_for;
+use affc_life::stores::{front_rows, loaded, loops_round, stored, stored_after, stored_before};
+use affc_nest::{Access, Entry, Nest};
+use affc_quast::leaves::{Leaf, Named};
+use affc_quast::rows::add_copies;
+use affc_rows::Form;
+use affc_trace::schedule::Schedule;
+use sqlite_items::Items;
+use std::alloc::{AllocError, Global};
+
+/// The columns of a leaf and the iterators of a statement.
+fn columns_beside(leaf: &Leaf, writer: &Entry) -> u32
+    requires leaf { leaf.now.columns ≤ 410 }
+    requires writer { length writer.now.loops ≤ 6 }
+    ensures { result ≡ leaf.now.columns + length writer.now.loops }
+{
+    leaf.columns + loops_round(writer)
+}
+
+/// The path, the statement's domain, and equal subscripts.
+fn beside_rows(
+    alloc: Global,
+    nest: &Nest,
+    reader: &Entry,
+    load: &Access,
+    leaf: &Leaf,
+    writer: &Entry,
+    store: &Access,
+) -> Result<Items<Form>, AllocError>
+    requires leaf { IsLeafOf nest.now reader.now load.now (leaf_seen leaf.now) }
+    requires writer { IsWriter nest.now writer.now store.now }
+    ensures { IfOk result (λ r. r ≡ beside_rows nest.now reader.now load.now [] (leaf_seen leaf.now) writer.now store.now) }
+{
+    let columns = columns_beside(leaf, writer);
+    let front = front_rows(alloc, nest, reader, leaf, writer)?;
+    let read = loaded(alloc, nest, reader, load, leaf, writer)?;
+    let written = stored(alloc, nest, reader, leaf, writer, store)?;
+    let mut rows = Items::new(alloc);
+    add_copies(front.as_slice(), &mut rows)?;
+    add_equals(
+        alloc,
+        columns,
+        read.as_slice(),
+        written.as_slice(),
+        &mut rows,
+    )?;
+    Ok(rows)
+}
+
+/// Adds the questions whether an instance of the statement is earlier than the load.
+fn add_earlier(
+    alloc: Global,
+    nest: &Nest,
+    reader: &Entry,
+    load: &Access,
+    leaf: &Leaf,
+    writer: &Entry,
+    store: &Access,
+    out: &mut Vec<Long>,
+) -> Result<(), AllocError>
+    requires leaf { IsLeafOf nest.now reader.now load.now (leaf_seen leaf.now) }
+    requires writer { IsWriter nest.now writer.now store.now }
+    ensures { OnOk result (out.new.items ≡ out.old.items ++ earlier_systems nest.now reader.now load.now (leaf_seen leaf.now) writer.now store.now) }
+{
+    let columns = columns_beside(leaf, writer);
+    let front = beside_rows(alloc, nest, reader, load, leaf, writer, store)?;
+    let before = stored_before(alloc, nest, &Schedule::Source, reader, leaf, writer)?;
+    add_behind(alloc, columns, front.as_slice(), before.as_slice(), out)
+}
+
+/// Adds the questions whether an instance of the statement is later than the one that is named and earlier than the load.
+fn add_between(
+    alloc: Global,
+    nest: &Nest,
+    reader: &Entry,
+    load: &Access,
+    leaf: &Leaf,
+    named: &Named,
+    writer: &Entry,
+    store: &Access,
+    out: &mut Vec<Long>,
+) -> Result<(), AllocError>
+    requires leaf { IsLeafOf nest.now reader.now load.now (leaf_seen leaf.now) }
+    requires named { HasForms nest.now leaf.now.columns named.now.statement named.now.forms }
+    requires writer { IsWriter nest.now writer.now store.now }
+    ensures { OnOk result (out.new.items ≡ out.old.items ++ between_systems nest.now reader.now load.now (leaf_seen leaf.now) writer.now store.now (posed named.now.statement named.now.forms)) }
+{
+    let columns = columns_beside(leaf, writer);
+    let front = beside_rows(alloc, nest, reader, load, leaf, writer, store)?;
+    let before = stored_before(alloc, nest, &Schedule::Source, reader, leaf, writer)?;
+    let after = stored_after(alloc, nest, &Schedule::Source, reader, leaf, named, writer)?;
+    let mut lists = Vec::new(alloc);
+    add_joined(alloc, after.as_slice(), before.as_slice(), &mut lists)?;
+    add_behind(alloc, columns, front.as_slice(), lists.as_slice(), out)
+}
+
+/// Adds those of a statement, if it stores the array.
+fn add_earlier_of(
+    alloc: Global,
+    nest: &Nest,
+    reader: &Entry,
+    load: &Access,
+    leaf: &Leaf,
+    entry: &Entry,
+    out: &mut Vec<Long>,
+) -> Result<(), AllocError>
+    requires leaf { IsLeafOf nest.now reader.now load.now (leaf_seen leaf.now) }
+    requires entry { IsIn entry.now nest.now.entries }
+    ensures { OnOk result (out.new.items ≡ out.old.items ++ all_earlier nest.now reader.now load.now (leaf_seen leaf.now) (entry.now ∷ [])) }
+{
+    match store_for(entry, load.array.0) {
+        None => Ok(()),
+        Some(store) => add_earlier(alloc, nest, reader, load, leaf, entry, store, out),
+    }
+}
+
+/// Adds the questions whether an instance that stores the array is earlier than the load. The recursion is into halves.
+pub(crate) fn add_all_earlier(
+    alloc: Global,
+    nest: &Nest,
+    reader: &Entry,
+    load: &Access,
+    leaf: &Leaf,
+    entries: &[Entry],
+    out: &mut Vec<Long>,
+) -> Result<(), AllocError>
+    requires leaf { IsLeafOf nest.now reader.now load.now (leaf_seen leaf.now) }
+    requires entries { All (λ e. IsIn e nest.now.entries) entries.now }
+    ensures { OnOk result (out.new.items ≡ out.old.items ++ all_earlier nest.now reader.now load.now (leaf_seen leaf.now) entries.now) }
+{
+    match entries {
+        [] => Ok(()),
+        [entry] => add_earlier_of(alloc, nest, reader, load, leaf, entry, out),
+        _ => {
+            let (first, others) = entries.split_at(entries.len() / 2);
+            add_all_earlier(alloc, nest, reader, load, leaf, first, out)?;
+            add_all_earlier(alloc, nest, reader, load, leaf, others, out)
+        }
+    }
+}
+
+/// Adds those of a statement, if it stores the array.
+fn add_between_of(
+    alloc: Global,
+    nest: &Nest,
+    reader: &Entry,
+    load: &Access,
+    leaf: &Leaf,
+    named: &Named,
+    entry: &Entry,
+    out: &mut Vec<Long>,
+) -> Result<(), AllocError>
+    requires leaf { IsLeafOf nest.now reader.now load.now (leaf_seen leaf.now) }
+    requires named { HasForms nest.now leaf.now.columns named.now.statement named.now.forms }
+    requires entry { IsIn entry.now nest.now.entries }
+    ensures { OnOk result (out.new.items ≡ out.old.items ++ all_between nest.now reader.now load.now (leaf_seen leaf.now) (posed named.now.statement named.now.forms) (entry.now ∷ [])) }
+{
+    match store_for(entry, load.array.0) {
+        None => Ok(()),
+        Some(store) => add_between(alloc, nest, reader, load, leaf, named, entry, store, out),
+    }
+}
+
+/// Adds the questions whether an instance that stores the array is later than the one that is named and earlier than the load.
+/// The recursion is into halves.
+pub(crate) fn add_all_between(
+    alloc: Global,
+    nest: &Nest,
+    reader: &Entry,
+    load: &Access,
+    leaf: &Leaf,
+    named: &Named,
+    entries: &[Entry],
+    out: &mut Vec<Long>,
+) -> Result<(), AllocError>
+    requires leaf { IsLeafOf nest.now reader.now load.now (leaf_seen leaf.now) }
+    requires named { HasForms nest.now leaf.now.columns named.now.statement named.now.forms }
+    requires entries { All (λ e. IsIn e nest.now.entries) entries.now }
+    ensures { OnOk result (out.new.items ≡ out.old.items ++ all_between nest.now reader.now load.now (leaf_seen leaf.now) (posed named.now.statement named.now.forms) entries.now) }
+{
+    match entries {
+        [] => Ok(()),
+        [entry] => add_between_of(alloc, nest, reader, load, leaf, named, entry, out),
+        _ => {
+            let (first, others) = entries.split_at(entries.len() / 2);
+            add_all_between(alloc, nest, reader, load, leaf, named, first, out)?;
+            add_all_between(alloc, nest, reader, load, leaf, named, others, out)
+        }
+    }
+}

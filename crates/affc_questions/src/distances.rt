@@ -1,0 +1,255 @@
+//! Questions on the distances between the elements of a clash system along a row of a basis.
+ghost use Rattle.std.specs.Prelude.{◌≡◌, ℕ, ◌-◌, ◌∷◌, [], ◌++◌, ◌≤◌, pos, negsuc, if◌then◌else◌, int_lt, length, take, IsTrue, IfOk, OnOk};
+ghost use Rattle.std.specs.List.{All};
+ghost use Rattle.affc_rows.specs.Forms.{value, mixed_form};
+ghost use Rattle.affc_system.specs.Pairs.{IsSubscript};
+ghost use Rattle.affc_system.specs.Systems.{IsRow};
+ghost use Rattle.affc_trace.specs.Law.{IsIn};
+ghost use Rattle.affc_nest.specs.Domains.{number_form};
+ghost use Rattle.affc_conflicts.specs.Questions.{differences, distance, agree_rows, slice_system, over_columns, distance_question, distance_questions, shown_system};
+ghost use Rattle.affc_questions.specs.Asked.{AreBasisRows, IsAlong, IsModulusOver, AreElements};
+ghost use Rattle.affc_questions.specs.Sizes.{IsBroad};
+
+use crate::image::image_of;
+use crate::long::Long;
+use crate::rows::{add_equal, add_gap, minus, number};
+use affc_order::columns::spread;
+use affc_quast::rows::{add_copies, copied};
+use affc_rows::Form;
+use affc_system::PairSystem;
+use affc_system::system::value_at;
+use sqlite_items::Items;
+use std::alloc::{AllocError, Global};
+
+/// Adds the differences of subscripts in turn.
+#[tactic(auto, using(crate::proofs::SizeLemmas::subscript_broad))]
+fn add_differences(
+    alloc: Global,
+    columns: u32,
+    xs: &[Form],
+    ys: &[Form],
+    out: &mut Vec<Form>,
+) -> Result<(), AllocError>
+    requires firsts { All (IsSubscript columns) xs.now }
+    requires seconds { All (IsSubscript columns) ys.now }
+    ensures { OnOk result (out.new.items ≡ out.old.items ++ differences xs.now ys.now) }
+{
+    match xs {
+        [] => Ok(()),
+        [x, more_xs @ ..] => match ys {
+            [] => Ok(()),
+            [y, more_ys @ ..] => {
+                let made = minus(alloc, columns, x, y)?;
+                out.push(made)?;
+                add_differences(alloc, columns, more_xs, more_ys, out)?;
+                Ok(())
+            }
+        },
+    }
+}
+
+/// A form without its constant.
+fn plain(form: &Form) -> Result<Form, AllocError>
+    ensures { IfOk result (λ f. f ≡ record form.now { constant = pos 0 }) }
+{
+    let coefs = form.coefs.clone()?;
+    Ok(Form { coefs, constant: 0 })
+}
+
+/// How far x lies behind y along a row.
+fn distance(
+    alloc: Global,
+    columns: u32,
+    row: &Form,
+    xs: &[Form],
+    ys: &[Form],
+) -> Result<Form, AllocError>
+    requires { AreElements columns row.now xs.now ys.now }
+    ensures value { IfOk result (λ f. f ≡ distance row.now xs.now ys.now) }
+    ensures broad { IfOk result (λ f. IsBroad columns f) }
+    ensures row { IfOk result (λ f. IsRow columns f) }
+{
+    let mut images = Vec::new(alloc);
+    add_differences(alloc, columns, xs, ys, &mut images)?;
+    let row = plain(row)?;
+    let made = image_of(alloc, columns, images.as_slice(), &row)?;
+    Ok(made)
+}
+
+/// Adds the rows that two elements lie apart along none of these rows.
+fn add_agree(
+    alloc: Global,
+    pair: &PairSystem,
+    rows: &[Form],
+    out: &mut Items<Form>,
+) -> Result<(), AllocError>
+    requires { All (λ row. AreElements pair.now.system.columns row pair.now.x.items pair.now.y.items) rows.now }
+    ensures { OnOk result (out.new ≡ out.old ++ agree_rows pair.now rows.now) }
+{
+    match rows {
+        [] => Ok(()),
+        [row, rest @ ..] => {
+            let columns = pair.system.columns();
+            let apart = distance(alloc, columns, row, pair.x.as_slice(), pair.y.as_slice())?;
+            let zero = number(alloc, columns, 0)?;
+            add_equal(alloc, columns, &apart, &zero, out)?;
+            add_agree(alloc, pair, rest, out)?;
+            Ok(())
+        }
+    }
+}
+
+/// The rows of a clash system and of its slice: the elements lie apart along none of the first k rows.
+fn slice_rows(
+    alloc: Global,
+    rows: &[Form],
+    k: usize,
+    pair: &PairSystem,
+) -> Result<Items<Form>, AllocError>
+    requires { All (λ row. AreElements pair.now.system.columns row pair.now.x.items pair.now.y.items) rows.now }
+    ensures value { IfOk result (λ r. r ≡ (slice_system rows.now k pair.now).rows) }
+    ensures fit { IfOk result (λ r. All (IsRow pair.now.system.columns) r) }
+{
+    let n = if k < rows.len() { k } else { rows.len() };
+    let (first, _others) = rows.split_at(n);
+    let mut made = copied(alloc, pair.system.rows())?;
+    add_agree(alloc, pair, first, &mut made)?;
+    Ok(made)
+}
+
+/// A modulus over more columns.
+fn over_columns(alloc: Global, columns: u32, modulus: &Form) -> Result<Form, AllocError>
+    requires { IsModulusOver columns modulus.now }
+    ensures value { IfOk result (λ f. f ≡ over_columns columns modulus.now) }
+    ensures broad { IfOk result (λ f. IsBroad columns f) }
+{
+    let behind = columns - modulus.coefs.len() as u32;
+    let made = spread(alloc, modulus, 0, 0, behind)?;
+    Ok(made)
+}
+
+/// A modulus less 1, over more columns.
+fn less_one(alloc: Global, columns: u32, modulus: &Form) -> Result<Form, AllocError>
+    requires { IsModulusOver columns modulus.now }
+    ensures value { IfOk result (λ f. f ≡ mixed_form (pos 1) (over_columns columns modulus.now) (negsuc 0) (number_form columns (pos 1))) }
+    ensures broad { IfOk result (λ f. IsBroad columns f) }
+{
+    let most = over_columns(alloc, columns, modulus)?;
+    let one = number(alloc, columns, 1)?;
+    let made = minus(alloc, columns, &most, &one)?;
+    Ok(made)
+}
+
+/// The question whether x lies behind y by at least the modulus.
+fn distance_question(
+    alloc: Global,
+    rows: &[Form],
+    k: usize,
+    row: &Form,
+    modulus: &Form,
+    pair: &PairSystem,
+    xs: &[Form],
+    ys: &[Form],
+) -> Result<Long, AllocError>
+    requires rows { All (λ r. AreElements pair.now.system.columns r pair.now.x.items pair.now.y.items) rows.now }
+    requires elements { AreElements pair.now.system.columns row.now xs.now ys.now }
+    requires modulus { IsModulusOver pair.now.system.columns modulus.now }
+    ensures { IfOk result (λ q. q ≡ distance_question rows.now k row.now modulus.now pair.now xs.now ys.now) }
+{
+    let columns = pair.system.columns();
+    let mut made = slice_rows(alloc, rows, k, pair)?;
+    let most = over_columns(alloc, columns, modulus)?;
+    let apart = distance(alloc, columns, row, xs, ys)?;
+    add_gap(alloc, columns, &most, &apart, 0, &mut made)?;
+    Ok(Long::new(columns, made))
+}
+
+/// The two questions of a clash system: whether, in the slice of the first k rows, the elements lie apart along the row by
+/// at least the modulus, the first one ahead, and the second one ahead.
+pub fn distance_questions(
+    alloc: Global,
+    rows: &[Form],
+    k: usize,
+    row: &Form,
+    modulus: &Form,
+    pair: &PairSystem,
+) -> Result<Vec<Long>, AllocError>
+    requires { IsAlong rows.now row.now modulus.now pair.now }
+    ensures { IfOk result (λ v. v.items ≡ distance_questions rows.now k row.now modulus.now (pair.now ∷ [])) }
+{
+    let (xs, ys) = (pair.x.as_slice(), pair.y.as_slice());
+    let first = distance_question(alloc, rows, k, row, modulus, pair, xs, ys)?;
+    let second = distance_question(alloc, rows, k, row, modulus, pair, ys, xs)?;
+    let mut both = Vec::new(alloc);
+    both.push(first)?;
+    both.push(second)?;
+    Ok(both)
+}
+
+/// Whether at a point the first element lies behind the second along the row.
+pub fn is_behind(
+    alloc: Global,
+    row: &Form,
+    pair: &PairSystem,
+    point: &[i64],
+) -> Result<bool, AllocError>
+    requires elements { AreElements pair.now.system.columns row.now pair.now.x.items pair.now.y.items }
+    requires point { length point.now ≡ pair.now.system.columns }
+    ensures { IfOk result (λ b. b ≡ int_lt (value (distance row.now pair.now.x.items pair.now.y.items) point.now) (pos 0)) }
+{
+    let columns = pair.system.columns();
+    let apart = distance(alloc, columns, row, pair.x.as_slice(), pair.y.as_slice())?;
+    Ok(value_at(&apart, point) < 0)
+}
+
+/// The system at whose points x lies behind y by the modulus less 1, and by at least 1.
+fn shown(
+    alloc: Global,
+    rows: &[Form],
+    k: usize,
+    row: &Form,
+    modulus: &Form,
+    pair: &PairSystem,
+    xs: &[Form],
+    ys: &[Form],
+) -> Result<Long, AllocError>
+    requires rows { All (λ r. AreElements pair.now.system.columns r pair.now.x.items pair.now.y.items) rows.now }
+    requires elements { AreElements pair.now.system.columns row.now xs.now ys.now }
+    requires modulus { IsModulusOver pair.now.system.columns modulus.now }
+    ensures is { IfOk result (λ s. s ≡ shown_system rows.now k row.now modulus.now pair.now xs.now ys.now) }
+    ensures columns { IfOk result (λ s. s.columns ≤ 128) }
+    ensures rows { IfOk result (λ s. All (IsRow s.columns) s.rows) }
+{
+    let columns = pair.system.columns();
+    let mut made = slice_rows(alloc, rows, k, pair)?;
+    let apart = distance(alloc, columns, row, xs, ys)?;
+    let one = number(alloc, columns, 1)?;
+    let less = less_one(alloc, columns, modulus)?;
+    add_equal(alloc, columns, &apart, &less, &mut made)?;
+    add_gap(alloc, columns, &one, &apart, 0, &mut made)?;
+    Ok(Long::new(columns, made))
+}
+
+/// The system at whose points two elements lie apart along the row by the modulus less 1, and by at least 1: the first one
+/// of the clash system ahead, or the second one where they are turned.
+pub fn shown_system(
+    alloc: Global,
+    rows: &[Form],
+    k: usize,
+    row: &Form,
+    modulus: &Form,
+    pair: &PairSystem,
+    turned: bool,
+) -> Result<Long, AllocError>
+    requires { IsAlong rows.now row.now modulus.now pair.now }
+    ensures is { IfOk result (λ s. s ≡ (if turned then shown_system rows.now k row.now modulus.now pair.now pair.now.y.items pair.now.x.items else shown_system rows.now k row.now modulus.now pair.now pair.now.x.items pair.now.y.items)) }
+    ensures columns { IfOk result (λ s. s.columns ≤ 128) }
+    ensures rows { IfOk result (λ s. All (IsRow s.columns) s.rows) }
+{
+    let (xs, ys) = (pair.x.as_slice(), pair.y.as_slice());
+    if turned {
+        shown(alloc, rows, k, row, modulus, pair, ys, xs)
+    } else {
+        shown(alloc, rows, k, row, modulus, pair, xs, ys)
+    }
+}

@@ -1,0 +1,54 @@
+//! Forms whose columns are replaced by others.
+ghost use Rattle.std.specs.Prelude.{◌≡◌, ◌++◌, length, map, IfOk, OnOk};
+ghost use Rattle.std.specs.List.{All};
+ghost use Rattle.affc_system.specs.Systems.{IsRow};
+ghost use Rattle.affc_order.specs.Posed.{form_at};
+ghost use Rattle.affc_life.specs.Composed.{AreImages};
+
+use affc_order::columns::spread;
+use affc_rows::{Form, FormFault};
+use std::alloc::{AllocError, Global};
+
+/// The form with each of its columns replaced by its image, over so many columns.
+pub(crate) fn image_of(
+    alloc: Global,
+    columns: u32,
+    images: &[Form],
+    form: &Form,
+) -> Result<Form, AllocError>
+    requires images { AreImages columns images.now }
+    requires row { IsRow (length images.now) form.now }
+    ensures { IfOk result (λ f. f ≡ form_at columns images.now form.now) }
+{
+    if images.is_empty() {
+        let zeros = spread(alloc, form, 0, 0, columns)?;
+        return Ok(zeros);
+    }
+    match form.compose(alloc, images) {
+        Ok(made) => Ok(made),
+        Err(FormFault::Range) => unreachable!(),
+        Err(FormFault::Memory) => Err(AllocError),
+    }
+}
+
+/// Adds these forms, each with its columns replaced.
+pub(crate) fn add_images(
+    alloc: Global,
+    columns: u32,
+    images: &[Form],
+    forms: &[Form],
+    out: &mut Vec<Form>,
+) -> Result<(), AllocError>
+    requires images { AreImages columns images.now }
+    requires rows { All (IsRow (length images.now)) forms.now }
+    ensures { OnOk result (out.new.items ≡ out.old.items ++ map (form_at columns images.now) forms.now) }
+{
+    match forms {
+        [] => Ok(()),
+        [form, rest @ ..] => {
+            let made = image_of(alloc, columns, images, form)?;
+            out.push(made)?;
+            add_images(alloc, columns, images, rest, out)
+        }
+    }
+}

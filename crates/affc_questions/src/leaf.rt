@@ -1,0 +1,174 @@
+//! The questions of a leaf of a load's tree.
+ghost use Rattle.std.specs.Prelude.{◌≡◌, ℤ, List, [], ◌∷◌, ◌+◌, ◌≤◌, ◌++◌, IfSome, IfNone, Some, None, flat_map, length, IfOk, OnOk};
+ghost use Rattle.std.specs.List.{All};
+ghost use Rattle.affc_trace.specs.Law.{IsIn};
+ghost use Rattle.affc_nest.specs.Asked.{IsNest};
+ghost use Rattle.affc_quast.specs.SeenLeaves.{leaf_seen};
+ghost use Rattle.affc_life.specs.Asked.{HasForms, IsLiving, IsPath};
+ghost use Rattle.affc_life.specs.Drafts.{posed};
+ghost use Rattle.affc_flow.specs.Asked.{writers_of};
+ghost use Rattle.affc_flow.specs.Questions.{leaf_questions};
+ghost use Rattle.affc_questions.specs.Asked.{IsLeafOf, IsWriter, IsInstanceOf};
+ghost use Rattle.affc_questions.specs.Listed.{systems_of, first_posed, over_path, named_systems, found_systems, input_systems};
+
+use crate::beside::{add_all_between, add_all_earlier};
+use crate::lists::add_behind;
+use crate::long::Long;
+use crate::named::{astray_lists, late_lists, own_path};
+use affc_flow::{is_temporary, store_for};
+use affc_nest::{Access, Entry, Nest};
+use affc_quast::leaves::{Leaf, Named};
+use sqlite_items::Items;
+use std::alloc::{AllocError, Global};
+
+/// A statement and its store.
+#[derive(Clone, Copy, Drop)]
+struct Writer<'a> {
+    entry: &'a Entry,
+    store: &'a Access,
+}
+
+/// The statement, if it stores the array and is the one that is named.
+fn named_here<'a>(entry: &'a Entry, array: u32, named: &Named) -> Option<Writer<'a>>
+    ensures none { IfNone result (first_posed (posed named.now.statement named.now.forms) (writers_of array entry.now) ≡ None) }
+    ensures some { IfSome result (λ w. first_posed (posed named.now.statement named.now.forms) (writers_of array entry.now) ≡ Some (w.entry.now, w.store.now)) }
+{
+    let store = store_for(entry, array)?;
+    if entry.statement == named.statement && named.forms.len() == entry.loops.len() {
+        Some(Writer { entry, store })
+    } else {
+        None
+    }
+}
+
+/// The first statement that stores the array and is the one that is named. The recursion is into halves.
+fn named_among<'a>(entries: &'a [Entry], array: u32, named: &Named) -> Option<Writer<'a>>
+    ensures none { IfNone result (first_posed (posed named.now.statement named.now.forms) (flat_map (writers_of array) entries.now) ≡ None) }
+    ensures some { IfSome result (λ w. first_posed (posed named.now.statement named.now.forms) (flat_map (writers_of array) entries.now) ≡ Some (w.entry.now, w.store.now)) }
+{
+    match entries {
+        [] => None,
+        [entry] => named_here(entry, array, named),
+        _ => {
+            let (first, others) = entries.split_at(entries.len() / 2);
+            let found = named_among(first, array, named);
+            match found {
+                Some(_) => found,
+                None => named_among(others, array, named),
+            }
+        }
+    }
+}
+
+/// Adds the question of the path alone.
+fn add_path(
+    alloc: Global,
+    reader: &Entry,
+    leaf: &Leaf,
+    out: &mut Vec<Long>,
+) -> Result<(), AllocError>
+    requires domain { All (λ f. length f.coefs ≤ leaf.now.columns) reader.now.domain.rows }
+    requires tests { All (λ f. length f.coefs ≤ leaf.now.columns) leaf.now.rows }
+    ensures { OnOk result (out.new.items ≡ out.old.items ++ over_path reader.now (leaf_seen leaf.now) ([] ∷ [])) }
+{
+    let path = own_path(alloc, reader, leaf)?;
+    let nothing = [Items::new(alloc)];
+    add_behind(alloc, leaf.columns, path.as_slice(), &nothing, out)
+}
+
+/// Adds the questions of a leaf that names an instance of this statement.
+fn add_named(
+    alloc: Global,
+    nest: &Nest,
+    reader: &Entry,
+    load: &Access,
+    leaf: &Leaf,
+    named: &Named,
+    writer: &Entry,
+    store: &Access,
+    out: &mut Vec<Long>,
+) -> Result<(), AllocError>
+    requires leaf { IsLeafOf nest.now reader.now load.now (leaf_seen leaf.now) }
+    requires writer { IsWriter nest.now writer.now store.now }
+    requires named { IsInstanceOf nest.now leaf.now.columns (posed named.now.statement named.now.forms) writer.now }
+    ensures { OnOk result (out.new.items ≡ out.old.items ++ named_systems nest.now reader.now load.now (leaf_seen leaf.now) (posed named.now.statement named.now.forms) writer.now store.now) }
+{
+    let path = own_path(alloc, reader, leaf)?;
+    let path = path.as_slice();
+    let astray = astray_lists(alloc, nest, reader, load, leaf, named, writer, store)?;
+    add_behind(alloc, leaf.columns, path, astray.as_slice(), out)?;
+    let late = late_lists(alloc, nest, reader, leaf.columns, named)?;
+    add_behind(alloc, leaf.columns, path, late.as_slice(), out)?;
+    let entries = nest.entries.as_slice();
+    add_all_between(alloc, nest, reader, load, leaf, named, entries, out)
+}
+
+/// Adds the questions of a leaf that names an instance.
+fn add_found(
+    alloc: Global,
+    nest: &Nest,
+    reader: &Entry,
+    load: &Access,
+    leaf: &Leaf,
+    named: &Named,
+    out: &mut Vec<Long>,
+) -> Result<(), AllocError>
+    requires leaf { IsLeafOf nest.now reader.now load.now (leaf_seen leaf.now) }
+    requires named { HasForms nest.now leaf.now.columns named.now.statement named.now.forms }
+    ensures { OnOk result (out.new.items ≡ out.old.items ++ found_systems nest.now reader.now load.now (leaf_seen leaf.now) (posed named.now.statement named.now.forms) (first_posed (posed named.now.statement named.now.forms) (flat_map (writers_of load.now.array.0) nest.now.entries))) }
+{
+    match named_among(nest.entries.as_slice(), load.array.0, named) {
+        None => add_path(alloc, reader, leaf, out),
+        Some(writer) => {
+            let (entry, store) = (writer.entry, writer.store);
+            add_named(alloc, nest, reader, load, leaf, named, entry, store, out)
+        }
+    }
+}
+
+/// Adds the questions of a leaf that names none.
+fn add_input(
+    alloc: Global,
+    nest: &Nest,
+    reader: &Entry,
+    load: &Access,
+    leaf: &Leaf,
+    out: &mut Vec<Long>,
+) -> Result<(), AllocError>
+    requires { IsLeafOf nest.now reader.now load.now (leaf_seen leaf.now) }
+    ensures { OnOk result (out.new.items ≡ out.old.items ++ input_systems nest.now reader.now load.now (leaf_seen leaf.now)) }
+{
+    if is_temporary(nest, load.array) {
+        add_path(alloc, reader, leaf, out)
+    } else {
+        let entries = nest.entries.as_slice();
+        add_all_earlier(alloc, nest, reader, load, leaf, entries, out)
+    }
+}
+
+/// The systems of the questions of a leaf, which are to have no integer point.
+pub fn leaf_questions(
+    alloc: Global,
+    nest: &Nest,
+    reader: &Entry,
+    load: &Access,
+    leaf: &Leaf,
+) -> Result<Vec<Long>, AllocError>
+    requires nested { IsNest nest.now }
+    requires reads { IsLiving nest.now reader.now }
+    requires load { IsIn load.now reader.now.accesses }
+    requires path { IsPath nest.now (length nest.now.params + length reader.now.loops) (leaf_seen leaf.now) }
+    ensures { IfOk result (λ v. (ranges : List (ℤ × ℤ)) → v.items ≡ systems_of (leaf_questions nest.now reader.now load.now ranges (leaf_seen leaf.now))) }
+{
+    let mut out = Vec::new(alloc);
+    match &leaf.named {
+        None => {
+            add_input(alloc, nest, reader, load, leaf, &mut out)?;
+            Ok(out)
+        }
+        Some(named) => {
+            add_found(alloc, nest, reader, load, leaf, named, &mut out)?;
+            Ok(out)
+        }
+    }
+}

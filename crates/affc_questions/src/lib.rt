@@ -1,0 +1,17 @@
+//! The questions of a certificate's trees and folds, as systems of any number of rows.
+#![tactic(auto)]
+
+mod beside;
+pub mod context;
+pub mod distances;
+mod image;
+pub mod leaf;
+mod lists;
+pub mod long;
+mod named;
+mod rows;
+
+pub use context::{greater_question, one_system, positive_question, whole_context};
+pub use distances::{distance_questions, is_behind, shown_system};
+pub use leaf::leaf_questions;
+pub use long::Long;

@@ -1,0 +1,155 @@
+//! Lists of rows, and the systems of which they are the last rows.
+ghost use Rattle.std.specs.Prelude.{◌≡◌, ◌++◌, ◌∷◌, [], map, OnOk};
+ghost use Rattle.std.specs.List.{All};
+ghost use Rattle.affc_nest.specs.Domains.{gap_row};
+ghost use Rattle.affc_quast.specs.Leaves.{negated};
+ghost use Rattle.affc_questions.specs.Listed.{behind, sides, joined};
+ghost use Rattle.affc_questions.specs.Sizes.{IsBroad};
+
+use crate::long::Long;
+use crate::rows::{add_gap, negated};
+use affc_quast::rows::{add_copies, copied};
+use affc_rows::Form;
+use sqlite_items::Items;
+use std::alloc::{AllocError, Global};
+
+/// Adds a list of rows.
+pub(crate) fn add_list(rows: Items<Form>, out: &mut Vec<Items<Form>>) -> Result<(), AllocError>
+    ensures { OnOk result (out.new.items ≡ out.old.items ++ rows ∷ []) }
+{
+    let Ok(()) = out.push(rows) else {
+        return Err(AllocError);
+    };
+    Ok(())
+}
+
+/// Adds for each form the row that says that it is below 0.
+pub(crate) fn add_negated(
+    alloc: Global,
+    columns: u32,
+    forms: &[Form],
+    out: &mut Vec<Items<Form>>,
+) -> Result<(), AllocError>
+    requires { All (IsBroad columns) forms.now }
+    ensures { OnOk result (out.new.items ≡ out.old.items ++ map (λ f. negated f ∷ []) forms.now) }
+{
+    match forms {
+        [] => Ok(()),
+        [form, rest @ ..] => {
+            let row = negated(alloc, columns, form)?;
+            let mut rows = Items::new(alloc);
+            rows.push(row)?;
+            add_list(rows, out)?;
+            add_negated(alloc, columns, rest, out)?;
+            Ok(())
+        }
+    }
+}
+
+/// Adds the row that one form is less than another.
+fn add_less(
+    alloc: Global,
+    columns: u32,
+    a: &Form,
+    b: &Form,
+    out: &mut Vec<Items<Form>>,
+) -> Result<(), AllocError>
+    requires first { IsBroad columns a.now }
+    requires second { IsBroad columns b.now }
+    ensures { OnOk result (out.new.items ≡ out.old.items ++ (gap_row a.now b.now 1 ∷ []) ∷ []) }
+{
+    let mut rows = Items::new(alloc);
+    add_gap(alloc, columns, a, b, 1, &mut rows)?;
+    add_list(rows, out)?;
+    Ok(())
+}
+
+/// Adds for each two forms in turn the row that the first is greater, and the row that it is less.
+pub(crate) fn add_sides(
+    alloc: Global,
+    columns: u32,
+    fs: &[Form],
+    gs: &[Form],
+    out: &mut Vec<Items<Form>>,
+) -> Result<(), AllocError>
+    requires firsts { All (IsBroad columns) fs.now }
+    requires seconds { All (IsBroad columns) gs.now }
+    ensures { OnOk result (out.new.items ≡ out.old.items ++ sides fs.now gs.now) }
+{
+    match fs {
+        [] => Ok(()),
+        [f, more_fs @ ..] => match gs {
+            [] => Ok(()),
+            [g, more_gs @ ..] => {
+                add_less(alloc, columns, g, f, out)?;
+                add_less(alloc, columns, f, g, out)?;
+                add_sides(alloc, columns, more_fs, more_gs, out)?;
+                Ok(())
+            }
+        },
+    }
+}
+
+/// Adds each of these lists behind these rows.
+fn add_each(
+    alloc: Global,
+    rows: &[Form],
+    lists: &[Items<Form>],
+    out: &mut Vec<Items<Form>>,
+) -> Result<(), AllocError>
+    ensures { OnOk result (out.new.items ≡ out.old.items ++ map (λ u. rows.now ++ u) lists.now) }
+{
+    match lists {
+        [] => Ok(()),
+        [list, rest @ ..] => {
+            let mut both = copied(alloc, rows)?;
+            add_copies(list.as_slice(), &mut both)?;
+            add_list(both, out)?;
+            add_each(alloc, rows, rest, out)?;
+            Ok(())
+        }
+    }
+}
+
+/// Adds each of the second lists behind each of the first.
+pub(crate) fn add_joined(
+    alloc: Global,
+    firsts: &[Items<Form>],
+    seconds: &[Items<Form>],
+    out: &mut Vec<Items<Form>>,
+) -> Result<(), AllocError>
+    ensures { OnOk result (out.new.items ≡ out.old.items ++ joined firsts.now seconds.now) }
+{
+    match firsts {
+        [] => Ok(()),
+        [first, rest @ ..] => {
+            add_each(alloc, first.as_slice(), seconds, out)?;
+            add_joined(alloc, rest, seconds, out)?;
+            Ok(())
+        }
+    }
+}
+
+/// Adds for each list the system of these rows and the list's.
+pub(crate) fn add_behind(
+    alloc: Global,
+    columns: u32,
+    front: &[Form],
+    lists: &[Items<Form>],
+    out: &mut Vec<Long>,
+) -> Result<(), AllocError>
+    ensures { OnOk result (out.new.items ≡ out.old.items ++ map (behind columns front.now) lists.now) }
+{
+    match lists {
+        [] => Ok(()),
+        [list, rest @ ..] => {
+            let mut rows = copied(alloc, front)?;
+            add_copies(list.as_slice(), &mut rows)?;
+            let Ok(()) = out.push(Long::new(columns, rows)) else {
+                return Err(AllocError);
+            };
+            add_behind(alloc, columns, front, rest, out)?;
+            Ok(())
+        }
+    }
+}

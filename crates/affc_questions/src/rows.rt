@@ -1,0 +1,124 @@
+//! Rows of comparisons between forms.
+ghost use Rattle.std.specs.Prelude.{◌≡◌, ◌≤◌, ◌++◌, ◌∷◌, [], pos, negsuc, length, IfOk, OnOk};
+ghost use Rattle.std.specs.List.{All};
+ghost use Rattle.affc_rows.specs.Forms.{mixed_form};
+ghost use Rattle.affc_ast.specs.declared.tree.Rel.TheVariants.{Equal};
+ghost use Rattle.affc_nest.specs.Domains.{gap_row, compare_rows, number_form};
+ghost use Rattle.affc_quast.specs.Leaves.{negated};
+ghost use Rattle.affc_sched.specs.Questions.{equal_rows};
+ghost use Rattle.affc_questions.specs.Sizes.{IsBroad};
+
+use affc_order::columns::spread;
+use affc_rows::{Form, FormFault};
+use smallvec::SmallVec;
+use sqlite_items::Items;
+use std::alloc::{AllocError, Global};
+
+/// The form of a number over so many columns.
+pub(crate) fn number(alloc: Global, columns: u32, n: i128) -> Result<Form, AllocError>
+    ensures { IfOk result (λ f. f ≡ number_form columns n) }
+{
+    let empty = Form {
+        coefs: SmallVec::new(alloc),
+        constant: n,
+    };
+    spread(alloc, &empty, 0, 0, columns)
+}
+
+/// One form less another.
+#[tactic(auto, using(crate::proofs::BroadLemmas::not_too_wide))]
+pub(crate) fn minus(alloc: Global, columns: u32, a: &Form, b: &Form) -> Result<Form, AllocError>
+    requires first { IsBroad columns a.now }
+    requires second { IsBroad columns b.now }
+    ensures { IfOk result (λ f. f ≡ mixed_form (pos 1) a.now (negsuc 0) b.now) }
+{
+    match a.scale_add(alloc, 1, b, -1) {
+        Ok(form) => Ok(form),
+        Err(FormFault::Range) => unreachable!(),
+        Err(FormFault::Memory) => Err(AllocError),
+    }
+}
+
+/// The row `b - a - k`.
+fn gap(alloc: Global, columns: u32, a: &Form, b: &Form, k: u32) -> Result<Form, AllocError>
+    requires first { IsBroad columns a.now }
+    requires second { IsBroad columns b.now }
+    requires step { k ≤ 1 }
+    ensures { IfOk result (λ f. f ≡ gap_row a.now b.now k) }
+{
+    let Form { coefs, constant } = minus(alloc, columns, b, a)?;
+    Ok(Form {
+        coefs,
+        constant: constant - i128::from(k),
+    })
+}
+
+/// Adds the row `b - a - k`.
+pub(crate) fn add_gap(
+    alloc: Global,
+    columns: u32,
+    a: &Form,
+    b: &Form,
+    k: u32,
+    out: &mut Items<Form>,
+) -> Result<(), AllocError>
+    requires first { IsBroad columns a.now }
+    requires second { IsBroad columns b.now }
+    requires step { k ≤ 1 }
+    ensures { OnOk result (out.new ≡ out.old ++ gap_row a.now b.now k ∷ []) }
+{
+    let row = gap(alloc, columns, a, b, k)?;
+    out.push(row)
+}
+
+/// Adds the rows that two forms are equal.
+#[tactic(auto, using(crate::proofs::BroadLemmas::added_twice))]
+pub(crate) fn add_equal(
+    alloc: Global,
+    columns: u32,
+    a: &Form,
+    b: &Form,
+    out: &mut Items<Form>,
+) -> Result<(), AllocError>
+    requires first { IsBroad columns a.now }
+    requires second { IsBroad columns b.now }
+    ensures { OnOk result (out.new ≡ out.old ++ compare_rows Equal a.now b.now) }
+{
+    add_gap(alloc, columns, b, a, 0, out)?;
+    add_gap(alloc, columns, a, b, 0, out)
+}
+
+/// Adds the rows that forms are equal in turn.
+#[tactic(auto, using(crate::proofs::BroadLemmas::added_twice))]
+pub(crate) fn add_equals(
+    alloc: Global,
+    columns: u32,
+    fs: &[Form],
+    gs: &[Form],
+    out: &mut Items<Form>,
+) -> Result<(), AllocError>
+    requires firsts { All (IsBroad columns) fs.now }
+    requires seconds { All (IsBroad columns) gs.now }
+    ensures { OnOk result (out.new ≡ out.old ++ equal_rows fs.now gs.now) }
+{
+    match fs {
+        [] => Ok(()),
+        [f, more_fs @ ..] => match gs {
+            [] => Ok(()),
+            [g, more_gs @ ..] => {
+                add_equal(alloc, columns, f, g, out)?;
+                add_equals(alloc, columns, more_fs, more_gs, out)?;
+                Ok(())
+            }
+        },
+    }
+}
+
+/// The row that says that a form is below 0.
+pub(crate) fn negated(alloc: Global, columns: u32, form: &Form) -> Result<Form, AllocError>
+    requires { IsBroad columns form.now }
+    ensures { IfOk result (λ f. f ≡ negated form.now) }
+{
+    let zero = number(alloc, columns, 0)?;
+    gap(alloc, columns, form, &zero, 1)
+}
