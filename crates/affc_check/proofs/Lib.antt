@@ -1,6 +1,15 @@
+pub mod CheckLemmas
+pub mod ListLemmas
+pub mod PartLemmas
+pub mod ShownLemmas
+pub mod StopLemmas
+pub mod TreeLemmas
 pub mod Sound
 pub mod Parts
 pub mod Over
+pub mod FoldLemmas
+pub mod ListingLemmas
+pub mod MadeLemmas
 pub mod Members
 pub mod Marks
 pub mod Gives

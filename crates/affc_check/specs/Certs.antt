@@ -8,9 +8,12 @@ use Rattle.affc_nest.specs.declared.nest.ArrayInfo.{ArrayInfo}
 use Rattle.affc_nest.specs.declared.nest.Nest.{Nest}
 use Rattle.affc_quast.specs.Limits.{HaveShapes}
 use Rattle.affc_quast.specs.Seen.{trees_of}
+use Rattle.affc_quast.specs.Sources.{loads_before}
 use Rattle.affc_quast.specs.Trees.{Tree}
+use Rattle.affc_life.specs.Asked.{KeepLimits}
 use Rattle.affc_life.specs.Clashes.{clash_of, clashes}
 use Rattle.affc_cert.specs.declared.cert.Cert.{Cert}
+use Rattle.affc_certfold.specs.Limits.{IsMarkWithin}
 use Rattle.affc_certfold.specs.declared.fold.CertFold.{CertFold}
 use Rattle.affc_certfold.specs.declared.fold.CertLeast.{CertLeast}
 use Rattle.affc_certfold.specs.declared.fold.CertModulus.{CertModulus}
@@ -57,3 +60,17 @@ pub record IsFoldFor (nest : Nest) (c : CertFold) : Type 0 where
 pub record IsCertFor (nest : Nest) (c : Cert) : Type 0 where
   pub shapes : HaveShapes nest (trees_of c.flow)
   pub folds : (f : CertFold) → IsIn f c.folds → IsFoldFor nest f
+
+-- ---- Within the limits of a certificate's text
+
+-- a modulus for each row, each mark with a value for each parameter
+pub record IsFoldWithin (nest : Nest) (c : CertFold) : Type 0 where
+  pub each : length c.moduli ≡ length c.basis.rows
+  pub marks : All (λ m. IsMarkWithin nest.context.columns m.least) c.moduli
+
+-- a certificate for the nest that keeps the limits of one that is read: trees within the widest limits, and no more of them than loads
+pub record IsCertWithin (nest : Nest) (c : Cert) : Type 0 where
+  pub certificate : IsCertFor nest c
+  pub trees : KeepLimits nest (trees_of c.flow)
+  pub no_more : length (trees_of c.flow) ≡ loads_before nest.entries (length nest.entries)
+  pub folds : (f : CertFold) → IsIn f c.folds → IsFoldWithin nest f

@@ -1,0 +1,29 @@
+use Rattle.std.proofs.Common.{◌-◌, length, take, drop, refl, ap, subst, ◌∙◌}
+use Rattle.affc_sched.proofs.AnsweredLemmas.{front_is}
+use Rattle.affc_check.specs.Laws.{IsFoldShown}
+use Rattle.affc_check.specs.Walks.{fold_shown, folds_shown}
+use Rattle.affc_check.proofs.ListingLemmas.{none_below}
+use Rattle.affc_check.proofs.MadeLemmas.{nothing_made, next_made}
+use Rattle.affc_check.proofs.made.+add_made.Goals as goal
+
+pub returns-in-empty : goal.returns-in-empty
+returns-in-empty t c =
+    nothing_made (folds_shown c.args.folds.now c.args.systems.now) c.args.out.now.items (ap (λ z. folds_shown z c.args.systems.now) (none_below c.args.folds.now c.in-empty.len_below))
+
+pub returns-in-empty-systems : goal.returns-in-empty-systems
+returns-in-empty-systems t c =
+    let cs = c.args.folds.now in
+    let is = front_is cs c.fold-item.result c.in-len1-up.len_at_least c.fold-item.is in
+    nothing_made (folds_shown cs c.args.systems.now) c.args.out.now.items
+    (ap (λ z. folds_shown cs z) (none_below c.args.systems.now c.in-empty-systems.len_below) ∙ ap (λ z. folds_shown z _) is)
+
+pub returns-in_ok-add_made-in-len1-up-systems : goal.returns-in_ok-add_made-in-len1-up-systems
+returns-in_ok-add_made-in-len1-up-systems t c =
+    let cs = c.args.folds.now in
+    let ss = c.args.systems.now in
+    let x = c.fold-item.result in
+    let made = c.in_ok-made-in-len1-up-systems.made in
+    next_made cs (take (length cs - 1) (drop 1 cs)) x ss (take (length ss - 1) (drop 1 ss)) c.own-item.result (x.array, made) c.args.out.now.items c.push.new.self.items c.add_made.new.out.items
+    (front_is cs x c.in-len1-up.len_at_least c.fold-item.is) (front_is ss c.own-item.result c.in-len1-up-systems.len_at_least c.own-item.is)
+    (record { array = refl; shown = subst (λ z. IsFoldShown (fold_shown x z) made) c.as_slice.ensures c.in_ok-made-in-len1-up-systems.ensures })
+    c.in_ok-push-in-len1-up-systems.ensures.items c.in_ok-add_made-in-len1-up-systems.ensures

@@ -1,0 +1,25 @@
+//! Items in code.
+ghost use Rattle.std.specs.Prelude.{◌≤◌};
+ghost use Rattle.std.specs.List.{All};
+ghost use Rattle.affc_system.specs.Systems.{IsRow};
+
+use affc_questions::Long;
+use affc_system::System;
+use sqlite_items::Items;
+
+/// A system, which may have more rows than a question, with a point that it is to have.
+#[derive(Drop)]
+pub struct Point {
+    pub system: Long,
+    pub point: Items<i64>,
+    ghost few: { system.columns ≤ 128 },
+    ghost fit: { All (IsRow system.columns) system.rows },
+}
+
+/// An item of a certificate.
+#[derive(Drop)]
+pub enum Item {
+    /// The system is to have no integer point.
+    Question(System),
+    Shown(Point),
+}

@@ -1,0 +1,238 @@
+//! The folds that a certificate says, with their marks.
+ghost use Rattle.std.specs.Prelude.{◌≡◌, ◌++◌, Some, map, length, IfOk, OnOk};
+ghost use Rattle.std.specs.List.{All};
+ghost use Rattle.affc_rows.specs.Forms.{value, values_of};
+ghost use Rattle.affc_sched.specs.Answered.{Each};
+ghost use Rattle.affc_questions.specs.Asked.{IsAlong};
+ghost use Rattle.affc_check.specs.Certs.{least_said, modulus_said};
+ghost use Rattle.affc_check.specs.Items.{elements_at, pair_of, mark_of, moduli_of};
+ghost use Rattle.affc_check.specs.Laws.{IsFoldShown};
+ghost use Rattle.affc_check.specs.Walks.{fold_shown, folds_shown, AreRowsAsked, AreFoldsAsked};
+ghost use Rattle.affc_check.specs.Made.{AreMade};
+
+use crate::shown::{Along, system_at};
+use affc_ast::tree::ArrayId;
+use affc_basis::Basis;
+use affc_basis::basis::given;
+use affc_basis::fold::{Fold, Mark, Modulus};
+use affc_certfold::fold::{CertFold, CertLeast, CertModulus};
+use affc_nest::Nest;
+use affc_quast::rows::copied;
+use affc_questions::is_behind;
+use affc_rows::Form;
+use affc_system::PairSystem;
+use sqlite_items::Items;
+use std::alloc::{AllocError, Global};
+
+/// The value of a form at a point. One past 64 bits is of no valid certificate, since the elements of a clash system's point lie
+/// in their array; it counts as want of memory.
+fn value_at(form: &Form, point: &[i128]) -> Result<i64, AllocError>
+    requires { length point.now ≡ length form.now.coefs }
+    ensures { IfOk result (λ v. v ≡ value form.now point.now) }
+{
+    let Ok(value) = form.eval(point) else {
+        return Err(AllocError);
+    };
+    let Ok(narrow) = i64::try_from(value) else {
+        return Err(AllocError);
+    };
+    Ok(narrow)
+}
+
+/// Adds the values of these forms at a point.
+fn add_values(forms: &[Form], point: &[i128], out: &mut Items<i64>) -> Result<(), AllocError>
+    requires { All (λ f. length point.now ≡ length f.coefs) forms.now }
+    ensures { OnOk result (out.new ≡ out.old ++ values_of forms.now point.now) }
+{
+    match forms {
+        [] => Ok(()),
+        [form, rest @ ..] => {
+            let value = value_at(form, point)?;
+            out.push(value)?;
+            add_values(rest, point, out)?;
+            Ok(())
+        }
+    }
+}
+
+/// Adds these numbers, wider.
+fn add_wide(point: &[i64], wide: &mut Vec<i128>) -> Result<(), AllocError>
+    ensures { OnOk result (wide.new.items ≡ wide.old.items ++ point.now) }
+{
+    match point {
+        [] => Ok(()),
+        [x, rest @ ..] => {
+            wide.push(i128::from(*x))?;
+            add_wide(rest, wide)?;
+            Ok(())
+        }
+    }
+}
+
+/// The element at which these subscripts point.
+fn element(alloc: Global, forms: &[Form], point: &[i64]) -> Result<Items<i64>, AllocError>
+    requires { All (λ f. length point.now ≡ length f.coefs) forms.now }
+    ensures { IfOk result (λ x. x ≡ values_of forms.now point.now) }
+{
+    let mut wide = Vec::new(alloc);
+    add_wide(point, &mut wide)?;
+    let mut out = Items::new(alloc);
+    add_values(forms, wide.as_slice(), &mut out)?;
+    Ok(out)
+}
+
+/// The two elements of a clash system at a point, the second at least as far along the row. A point that isn't one of the
+/// system's columns is of no valid certificate, and counts as want of memory.
+fn elements(
+    alloc: Global,
+    along: &Along<'_>,
+    pair: &PairSystem,
+    point: &[i64],
+) -> Result<(Items<i64>, Items<i64>), AllocError>
+    requires { IsAlong along.now.rows.now along.now.row.now along.now.modulus.now pair.now }
+    ensures { IfOk result (λ e. elements_at along.now.row.now point.now (Some pair.now) ≡ Some e) }
+{
+    if point.len() != pair.system.columns() as usize {
+        return Err(AllocError);
+    }
+    let x = element(alloc, pair.x.as_slice(), point)?;
+    let y = element(alloc, pair.y.as_slice(), point)?;
+    if is_behind(alloc, along.row, pair, point)? {
+        Ok((x, y))
+    } else {
+        Ok((y, x))
+    }
+}
+
+/// The pair that a certificate shows.
+fn pair_said(
+    alloc: Global,
+    along: &Along<'_>,
+    pair: &Option<(i64, Items<i64>)>,
+) -> Result<Option<(Items<i64>, Items<i64>)>, AllocError>
+    requires { Each (IsAlong along.now.rows.now along.now.row.now along.now.modulus.now) along.now.systems.now }
+    ensures { IfOk result (λ p. p ≡ pair_of along.now.systems.now along.now.row.now pair.now) }
+{
+    let Some((number, point)) = pair else {
+        return Ok(None);
+    };
+    let Some(system) = system_at(along.systems, *number) else {
+        return Ok(None);
+    };
+    let both = elements(alloc, along, system, point.as_slice())?;
+    Ok(Some(both))
+}
+
+/// The mark of a modulus.
+fn mark(alloc: Global, along: &Along<'_>, least: &Option<CertLeast>) -> Result<Mark, AllocError>
+    requires { Each (IsAlong along.now.rows.now along.now.row.now along.now.modulus.now) along.now.systems.now }
+    ensures { IfOk result (λ m. m ≡ mark_of along.now.systems.now along.now.row.now (least_said least.now)) }
+{
+    let Some(least) = least else {
+        return Ok(Mark::Bound);
+    };
+    let p = Items::from_slice(alloc, least.p.as_slice())?;
+    let pair = pair_said(alloc, along, &least.pair)?;
+    Ok(Mark::Least { p, pair })
+}
+
+/// Adds the moduli of these rows.
+fn add_moduli(
+    alloc: Global,
+    nest: &Nest,
+    systems: &[PairSystem],
+    rows: &[Form],
+    more: &[Form],
+    moduli: &[CertModulus],
+    out: &mut Items<Modulus>,
+) -> Result<(), AllocError>
+    requires { AreRowsAsked nest.now systems.now rows.now more.now moduli.now }
+    ensures { OnOk result (out.new ≡ out.old ++ moduli_of systems.now more.now (map modulus_said moduli.now)) }
+{
+    match more {
+        [] => Ok(()),
+        [row, more_rows @ ..] => match moduli {
+            [] => Ok(()),
+            [modulus, more_moduli @ ..] => {
+                let along = Along {
+                    nest,
+                    systems,
+                    rows,
+                    k: 0,
+                    row,
+                    modulus: &modulus.form,
+                };
+                let mark = mark(alloc, &along, &modulus.least)?;
+                let form = modulus.form.clone()?;
+                out.push(Modulus { form, mark })?;
+                add_moduli(alloc, nest, systems, rows, more_rows, more_moduli, out)?;
+                Ok(())
+            }
+        },
+    }
+}
+
+/// A copy of a basis.
+#[tactic(auto, using(affc_folds::proofs::BasisLemmas::copy_square, affc_folds::proofs::BasisLemmas::copy_bounds))]
+fn basis_copied(alloc: Global, basis: &Basis) -> Result<Basis, AllocError>
+    ensures rows { IfOk result (λ b. b.rows ≡ basis.now.rows) }
+    ensures inverse { IfOk result (λ b. b.inverse ≡ basis.now.inverse) }
+{
+    let rows = copied(alloc, basis.rows.as_slice())?;
+    let inverse = copied(alloc, basis.inverse.as_slice())?;
+    match given(rows, inverse) {
+        Ok(basis) => Ok(basis),
+        Err(_broken) => unreachable!(),
+    }
+}
+
+/// The fold that a certificate says of an array with these clash systems.
+fn fold_made(
+    alloc: Global,
+    nest: &Nest,
+    fold: &CertFold,
+    systems: &[PairSystem],
+) -> Result<Fold, AllocError>
+    requires asked { AreRowsAsked nest.now systems.now fold.now.basis.rows fold.now.basis.rows fold.now.moduli }
+    requires each { length fold.now.moduli ≡ length fold.now.basis.rows }
+    ensures { IfOk result (λ made. IsFoldShown (fold_shown fold.now systems.now) made) }
+{
+    let rows = fold.basis.rows.as_slice();
+    let mut moduli = Items::new(alloc);
+    add_moduli(
+        alloc,
+        nest,
+        systems,
+        rows,
+        rows,
+        fold.moduli.as_slice(),
+        &mut moduli,
+    )?;
+    let basis = basis_copied(alloc, &fold.basis)?;
+    Ok(Fold { basis, moduli })
+}
+
+/// Adds the folds that a certificate says.
+pub(crate) fn add_made(
+    alloc: Global,
+    nest: &Nest,
+    folds: &[CertFold],
+    systems: &[Items<PairSystem>],
+    out: &mut Vec<(ArrayId, Fold)>,
+) -> Result<(), AllocError>
+    requires { AreFoldsAsked nest.now folds.now systems.now }
+    ensures { OnOk result (AreMade (folds_shown folds.now systems.now) out.old.items out.new.items) }
+{
+    match folds {
+        [] => Ok(()),
+        [fold, more @ ..] => match systems {
+            [] => Ok(()),
+            [own, others @ ..] => {
+                let made = fold_made(alloc, nest, fold, own.as_slice())?;
+                out.push((fold.array, made))?;
+                add_made(alloc, nest, more, others, out)?;
+                Ok(())
+            }
+        },
+    }
+}
