@@ -14,5 +14,6 @@ pub mod Members
 pub mod Marks
 pub mod Gives
 pub mod Read
+pub mod ReadFor
 pub mod ExampleProofs
 pub mod BlurFold

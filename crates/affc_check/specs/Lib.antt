@@ -11,4 +11,5 @@ pub mod Stops
 pub mod Answers
 pub mod Made
 pub mod Laws
+pub mod Layouts
 pub mod Examples

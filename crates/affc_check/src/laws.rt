@@ -1,4 +1,5 @@
 //! What the validity of a certificate gives. Each law is the contract of a function that does nothing.
+ghost use Rattle.affc_check.specs.Layouts.{ReadIsFor};
 ghost use Rattle.affc_check.specs.Laws.{ValidGives, CertsAreRead, ValidCertsGive, FailingIsNotValid};
 
 /// A valid certificate of a program shows that its accesses are right, its schedule is legal and its folds are right.
@@ -19,4 +20,9 @@ pub fn valid_certs_give()
 /// A certificate of which an item fails isn't valid.
 pub fn failing_is_not_valid()
     ensures law { FailingIsNotValid }
+{}
+
+/// A certificate that was read for the layout of a nest keeps the limits that are asked of it.
+pub fn read_is_for()
+    ensures law { ReadIsFor }
 {}
