@@ -1,18 +1,17 @@
 -- Items and their proofs, one after the other.
-use Rattle.std.proofs.Common.{◌≡◌, ℕ, zero, suc, ◌+◌, ◌-◌, ◌<◌, ◌≤◌, IsTrue, List, [], ◌∷◌, length, map, drop, get_or, Some, refl, sym, ap, subst, arith, ◌∙◌}
+use Rattle.std.proofs.Common.{◌≡◌, ℕ, zero, suc, ◌+◌, ◌-◌, ◌<◌, ◌≤◌, List, [], ◌∷◌, length, map, drop, get_or, Some, sym, ap, subst, arith, ◌∙◌}
 use Rattle.std.specs.Prelude.{slice_get}
 use Rattle.std.specs.List.{All}
 use Rattle.affc_rows.specs.Forms.{Affine}
 use Rattle.affc_system.specs.Systems.{Rows, IsRow}
-use Rattle.affc_farkas.specs.Depths.{depth, StandAtNode}
+use Rattle.affc_farkas.specs.Depths.{depth}
 use Rattle.affc_farkas.specs.Proofs.{ValidProof}
 use Rattle.affc_farkas.specs.declared.proof.Proof.{Proof}
 use Rattle.affc_farkas.proofs.DepthLemmas.{few_at_nodes, fullest}
 use Rattle.affc_check.specs.Answers.{FailsAtQuestion, FailsAtPoint}
-use Rattle.affc_check.specs.Items.{Item, Question, Shown}
+use Rattle.affc_items.specs.Items.{Item, Question, Shown}
 use Rattle.affc_check.specs.Steps.{Passes, Fails, fault_said}
 use Rattle.affc_check.specs.Valid.{IsProved, AreValid, FailsFirst}
-use Rattle.affc_check.specs.declared.fault.CheckFault.{CheckFault}
 use Rattle.affc_check.specs.declared.fault.CheckFault.TheVariants as fault
 
 -- ---- One proof

@@ -1,5 +1,5 @@
 -- The folds that a certificate says.
-use Rattle.std.proofs.Common.{◌≡◌, ℤ, Bool, true, false, if◌then◌else◌, List, [], ◌∷◌, ◌++◌, length, map, Option, Some, None, refl, sym, ap, subst, arith, ◌∙◌}
+use Rattle.std.proofs.Common.{◌≡◌, ℤ, Bool, true, false, if◌then◌else◌, List, [], ◌∷◌, ◌++◌, length, map, Option, Some, refl, sym, ap, subst, arith, ◌∙◌}
 use Rattle.std.specs.List.{AllZip}
 use Rattle.affc_ast.specs.declared.tree.ArrayId.{ArrayId}
 use Rattle.affc_rows.specs.Forms.{Affine}
@@ -17,11 +17,11 @@ use Rattle.affc_quast.specs.Trees.{Tree}
 use Rattle.affc_certfold.specs.declared.fold.CertFold.{CertFold}
 use Rattle.affc_certfold.specs.declared.fold.CertModulus.{CertModulus}
 use Rattle.affc_check.specs.Answers.{IsFoldMade}
-use Rattle.affc_check.specs.Certs.{AreFoldsSaid, least_said, modulus_said}
-use Rattle.affc_check.specs.Items.{ModulusShown, FoldShown, mark_of, moduli_of}
+use Rattle.affc_items.specs.Certs.{AreFoldsSaid, least_said, modulus_said}
+use Rattle.affc_items.specs.Items.{ModulusShown, FoldShown, mark_of, moduli_of}
 use Rattle.affc_check.specs.Made.{AreMade}
-use Rattle.affc_check.specs.Walks.{fold_shown, folds_shown, AreFoldsAsked, IsFoldAsked}
-use Rattle.affc_check.proofs.FoldLemmas.{rows_asked}
+use Rattle.affc_items.specs.Walks.{fold_shown, folds_shown, AreFoldsAsked, IsFoldAsked}
+use Rattle.affc_items.proofs.FoldLemmas.{rows_asked}
 
 abbrev both : List ℤ → List ℤ → Option (List ℤ × List ℤ)
 both x y = Some (x, y)

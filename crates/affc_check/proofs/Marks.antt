@@ -29,7 +29,7 @@ use Rattle.affc_conflicts.specs.Laws.{IsOver}
 use Rattle.affc_conflicts.specs.Questions.{greater_question, shown_system}
 use Rattle.affc_conflicts.proofs.Marks.{is_highest, pair_is_shown}
 use Rattle.affc_moduli.proofs.OtherWay.{done_other_way}
-use Rattle.affc_check.specs.Items.{Shown, numbered, is_point_at, is_behind, nothing, farthest, pair_in, pair_item, elements_at, pair_of}
+use Rattle.affc_items.specs.Items.{Shown, numbered, is_point_at, is_behind, nothing, farthest, pair_in, pair_item, elements_at, pair_of}
 use Rattle.affc_check.proofs.Sound.{Holds}
 
 pub nothing_shown : IsPoint (nowhere 0) [] → ⊥
@@ -46,7 +46,7 @@ tied ordering.Greater e = cc
 same_numbers : (xs ys : List ℤ) → is_eq (slice_cmp int_cmp xs ys) ≡ true → xs ≡ ys
 same_numbers xs ys e = slice_cmp-IsAntisymmetric int_cmp-IsAntisymmetric xs ys (tied (slice_cmp int_cmp xs ys) e)
 
-contained : (systems : List PairSystem) (z : ℤ) (s : PairSystem) → numbered systems z ≡ Some s → Contains systems s
+pub contained : (systems : List PairSystem) (z : ℤ) (s : PairSystem) → numbered systems z ≡ Some s → Contains systems s
 contained systems (pos n) s e = let h = slice_get_within systems n s e in (n, h, stands systems n s e)
   where
     stands : (xs : List PairSystem) (n : ℕ) (s : PairSystem) → slice_get xs n ≡ Some s → slice_index_or xs n s ≡ s

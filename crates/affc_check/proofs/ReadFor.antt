@@ -1,9 +1,8 @@
 -- A certificate that was read for the layout of a nest keeps the limits that are asked of it.
-use Rattle.std.proofs.Common.{◌≡◌, ℕ, zero, suc, ◌+◌, ◌<◌, ◌≤◌, Bool, true, false, if◌then◌else◌, List, [], ◌∷◌, length, map, Option, Some, None, refl, sym, ap, subst, inl, inr, arith, ◌∙◌}
+use Rattle.std.proofs.Common.{◌≡◌, ℕ, zero, suc, ◌+◌, Bool, true, false, if◌then◌else◌, List, [], ◌∷◌, length, map, Some, refl, sym, ap, subst, inl, inr, ◌∙◌}
 use Rattle.std.specs.Prelude.{◌==◌, slice_get}
 use Rattle.std.specs.List.{All, AllZip}
 use Rattle.std.proofs.lemmas.Bool.{eqb-true}
-use Rattle.std.proofs.lemmas.List.Elements.{All-nil, All-cons, All-head, All-tail}
 use Rattle.std.proofs.lemmas.Option.{same_Some, none-some}
 use Rattle.std.proofs.lemmas.Slice.Zip.{AllZip-long}
 use Rattle.affc_trace.specs.Law.{IsIn}
@@ -14,14 +13,10 @@ use Rattle.affc_nest.specs.declared.nest.Entry.{Entry}
 use Rattle.affc_nest.specs.declared.nest.Nest.{Nest}
 use Rattle.affc_quast.specs.Limits.{Shaped}
 use Rattle.affc_quast.specs.Seen.{trees_of}
-use Rattle.affc_quast.specs.Sources.{loads_in, loads_before}
+use Rattle.affc_quast.specs.Sources.{loads_before}
 use Rattle.affc_quast.specs.Trees.{Tree, Test, Div, Source, Input}
 use Rattle.affc_life.specs.Asked.{NamesStatements, KeepsLimits}
-use Rattle.affc_cert.specs.Certificates.{seen}
-use Rattle.affc_cert.specs.Within.{IsWithin}
-use Rattle.affc_cert.specs.declared.cert.Cert.{Cert}
-use Rattle.affc_cert.specs.declared.layout.Layout.{Layout}
-use Rattle.affc_certfold.specs.Entries.{FoldEntry, entry_of}
+use Rattle.affc_certfold.specs.Entries.{entry_of}
 use Rattle.affc_certfold.specs.Limits.{IsModulusWithin, IsMarkWithin, IsFoldWithin}
 use Rattle.affc_certfold.specs.declared.fold.CertFold.{CertFold}
 use Rattle.affc_certfold.specs.declared.fold.CertModulus.{CertModulus}
@@ -30,9 +25,9 @@ use Rattle.affc_certtree.specs.Trees.{loops_at}
 use Rattle.affc_certtree.specs.Within.{NamesStores, IsTreeWithin}
 use Rattle.affc_certtree.specs.declared.layout.Load.{Load}
 use Rattle.affc_certtree.specs.declared.layout.Store.{Store}
-use Rattle.affc_check.specs.Certs as of_check
-use Rattle.affc_check.specs.Certs.{IsFoldFor}
-use Rattle.affc_check.specs.Layouts.{IsStoreIn, IsLoadIn, IsTemporaryIn, IsLayoutOf, ReadIsFor}
+use Rattle.affc_items.specs.Certs as of_check
+use Rattle.affc_items.specs.Certs.{IsFoldFor}
+use Rattle.affc_check.specs.Layouts.{IsStoreIn, IsLoadIn, IsTemporaryIn, ReadIsFor}
 
 -- ---- Lists beside one another
 

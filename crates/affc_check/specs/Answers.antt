@@ -1,5 +1,5 @@
 -- What the answers of a check say.
-use Rattle.std.specs.Prelude.{◌≡◌, ℕ, ℤ, List, length, Some, slice_get}
+use Rattle.std.specs.Prelude.{◌≡◌, ℕ, ℤ, List, Some, slice_get}
 use Rattle.std.specs.List.{AllZip}
 use Rattle.affc_ast.specs.declared.tree.ArrayId.{ArrayId}
 use Rattle.affc_system.specs.Systems.{Rows}
@@ -8,10 +8,10 @@ use Rattle.affc_trace.specs.declared.schedule.Schedule.{Schedule}
 use Rattle.affc_basis.specs.declared.fold.Fold.{Fold}
 use Rattle.affc_nest.specs.declared.nest.Nest.{Nest}
 use Rattle.affc_cert.specs.declared.cert.Cert.{Cert}
-use Rattle.affc_check.specs.Certs.{AreItems}
-use Rattle.affc_check.specs.Items.{Item, Question, Shown, FoldShown}
+use Rattle.affc_items.specs.Certs.{AreItems}
+use Rattle.affc_items.specs.Items.{Item, Question, Shown, FoldShown}
 use Rattle.affc_check.specs.Laws.{IsFoldShown}
-use Rattle.affc_check.specs.Passes.{NonePasses}
+use Rattle.affc_items.specs.Passes.{NonePasses}
 use Rattle.affc_check.specs.Valid.{AreValid, FailsFirst}
 use Rattle.affc_check.specs.declared.check.Checked.{Checked}
 

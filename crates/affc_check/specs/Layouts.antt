@@ -12,7 +12,7 @@ use Rattle.affc_cert.specs.declared.layout.Layout.{Layout}
 use Rattle.affc_certfold.specs.declared.layout.Temporary.{Temporary}
 use Rattle.affc_certtree.specs.declared.layout.Load.{Load}
 use Rattle.affc_certtree.specs.declared.layout.Store.{Store}
-use Rattle.affc_check.specs.Certs.{IsCertWithin}
+use Rattle.affc_items.specs.Certs.{IsCertWithin}
 
 -- a statement with so many loops
 pub record IsStoreIn (nest : Nest) (s : Store) : Type 0 where

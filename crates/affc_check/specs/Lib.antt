@@ -1,13 +1,5 @@
-pub mod Items
 pub mod Valid
 pub mod Steps
-pub mod Certs
-pub mod Held
-pub mod Limits
-pub mod Passes
-pub mod Listed
-pub mod Walks
-pub mod Stops
 pub mod Answers
 pub mod Made
 pub mod Laws

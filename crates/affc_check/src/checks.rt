@@ -2,13 +2,13 @@
 ghost use Rattle.std.specs.Prelude.{◌↔◌, ◌≤◌, ◌-◌, ℕ, IfErr, IfSome, IfNone, IsTrue, OnOk, ◌≡◌, ◌≢◌, map};
 ghost use Rattle.affc_system.specs.Systems.{IsPoint};
 ghost use Rattle.affc_check.specs.Answers.{FailsAtQuestion, FailsAtPoint};
-ghost use Rattle.affc_check.specs.Held.{item_said};
+ghost use Rattle.affc_items.specs.Held.{item_said};
 ghost use Rattle.affc_check.specs.Steps.{Passes, Fails, fault_said};
 ghost use Rattle.affc_check.specs.Valid.{IsProved, AreValid};
 
 use crate::fault::CheckFault;
-use crate::item::{Item, Point};
 use affc_farkas::{Proof, check, depth_at_most};
+use affc_items::{Item, Point};
 use affc_system::System;
 use affc_system::system::MOST_ROWS;
 

@@ -1,69 +1,56 @@
 //! The folds that a certificate says, with their marks.
-ghost use Rattle.std.specs.Prelude.{◌≡◌, ◌++◌, Some, map, length, IfOk, OnOk};
+ghost use Rattle.std.specs.Prelude.{◌≡◌, ◌≤◌, ◌++◌, Some, map, length, IfOk, OnOk};
 ghost use Rattle.std.specs.List.{All};
 ghost use Rattle.affc_rows.specs.Forms.{value, values_of};
+ghost use Rattle.affc_system.specs.Pairs.{IsSubscript};
+ghost use Rattle.affc_system.specs.Systems.{FitsRow};
 ghost use Rattle.affc_sched.specs.Answered.{Each};
+ghost use Rattle.affc_certvalue.specs.Limits.{IsWord};
 ghost use Rattle.affc_questions.specs.Asked.{IsAlong};
-ghost use Rattle.affc_check.specs.Certs.{least_said, modulus_said};
-ghost use Rattle.affc_check.specs.Items.{elements_at, pair_of, mark_of, moduli_of};
+ghost use Rattle.affc_items.specs.Certs.{least_said, modulus_said};
+ghost use Rattle.affc_items.specs.Items.{elements_at, pair_of, mark_of, moduli_of};
 ghost use Rattle.affc_check.specs.Laws.{IsFoldShown};
-ghost use Rattle.affc_check.specs.Walks.{fold_shown, folds_shown, AreRowsAsked, AreFoldsAsked};
-ghost use Rattle.affc_check.specs.Made.{AreMade};
+ghost use Rattle.affc_items.specs.Walks.{fold_shown, folds_shown, AreRowsAsked, AreFoldsAsked};
+ghost use Rattle.affc_check.specs.Made.{AreMade, AreWordsAt, IsPairFit, IsMarkFit, AreRowsFit, AreFoldsFit};
 
-use crate::shown::{Along, system_at};
 use affc_ast::tree::ArrayId;
 use affc_basis::Basis;
 use affc_basis::basis::given;
 use affc_basis::fold::{Fold, Mark, Modulus};
 use affc_certfold::fold::{CertFold, CertLeast, CertModulus};
+use affc_items::shown::{Along, system_at};
 use affc_nest::Nest;
 use affc_quast::rows::copied;
 use affc_questions::is_behind;
 use affc_rows::Form;
 use affc_system::PairSystem;
+use affc_system::system::value_at;
 use sqlite_items::Items;
 use std::alloc::{AllocError, Global};
 
-/// The value of a form at a point. One past 64 bits is of no valid certificate, since the elements of a clash system's point lie
-/// in their array; it counts as want of memory.
-fn value_at(form: &Form, point: &[i128]) -> Result<i64, AllocError>
-    requires { length point.now ≡ length form.now.coefs }
-    ensures { IfOk result (λ v. v ≡ value form.now point.now) }
+/// The value of a subscript at a point.
+fn subscript_at(form: &Form, point: &[i64]) -> i64
+    requires fits { FitsRow form.now }
+    requires few { length point.now ≤ 128 }
+    requires width { length form.now.coefs ≡ length point.now }
+    requires word { IsWord (value form.now point.now) }
+    ensures { result ≡ value form.now point.now }
 {
-    let Ok(value) = form.eval(point) else {
-        return Err(AllocError);
-    };
-    let Ok(narrow) = i64::try_from(value) else {
-        return Err(AllocError);
-    };
-    Ok(narrow)
+    value_at(form, point) as i64
 }
 
-/// Adds the values of these forms at a point.
-fn add_values(forms: &[Form], point: &[i128], out: &mut Items<i64>) -> Result<(), AllocError>
-    requires { All (λ f. length point.now ≡ length f.coefs) forms.now }
+/// Adds the values of these subscripts at a point.
+fn add_values(forms: &[Form], point: &[i64], out: &mut Items<i64>) -> Result<(), AllocError>
+    requires few { length point.now ≤ 128 }
+    requires subscripts { All (IsSubscript (length point.now)) forms.now }
+    requires words { All (λ f. IsWord (value f point.now)) forms.now }
     ensures { OnOk result (out.new ≡ out.old ++ values_of forms.now point.now) }
 {
     match forms {
         [] => Ok(()),
         [form, rest @ ..] => {
-            let value = value_at(form, point)?;
-            out.push(value)?;
+            out.push(subscript_at(form, point))?;
             add_values(rest, point, out)?;
-            Ok(())
-        }
-    }
-}
-
-/// Adds these numbers, wider.
-fn add_wide(point: &[i64], wide: &mut Vec<i128>) -> Result<(), AllocError>
-    ensures { OnOk result (wide.new.items ≡ wide.old.items ++ point.now) }
-{
-    match point {
-        [] => Ok(()),
-        [x, rest @ ..] => {
-            wide.push(i128::from(*x))?;
-            add_wide(rest, wide)?;
             Ok(())
         }
     }
@@ -71,30 +58,28 @@ fn add_wide(point: &[i64], wide: &mut Vec<i128>) -> Result<(), AllocError>
 
 /// The element at which these subscripts point.
 fn element(alloc: Global, forms: &[Form], point: &[i64]) -> Result<Items<i64>, AllocError>
-    requires { All (λ f. length point.now ≡ length f.coefs) forms.now }
+    requires few { length point.now ≤ 128 }
+    requires subscripts { All (IsSubscript (length point.now)) forms.now }
+    requires words { All (λ f. IsWord (value f point.now)) forms.now }
     ensures { IfOk result (λ x. x ≡ values_of forms.now point.now) }
 {
-    let mut wide = Vec::new(alloc);
-    add_wide(point, &mut wide)?;
     let mut out = Items::new(alloc);
-    add_values(forms, wide.as_slice(), &mut out)?;
+    add_values(forms, point, &mut out)?;
     Ok(out)
 }
 
-/// The two elements of a clash system at a point, the second at least as far along the row. A point that isn't one of the
-/// system's columns is of no valid certificate, and counts as want of memory.
+/// The two elements of a clash system at a point, the second at least as far along the row.
 fn elements(
     alloc: Global,
     along: &Along<'_>,
     pair: &PairSystem,
     point: &[i64],
 ) -> Result<(Items<i64>, Items<i64>), AllocError>
-    requires { IsAlong along.now.rows.now along.now.row.now along.now.modulus.now pair.now }
+    requires along { IsAlong along.now.rows.now along.now.row.now along.now.modulus.now pair.now }
+    requires words { AreWordsAt pair.now point.now }
     ensures { IfOk result (λ e. elements_at along.now.row.now point.now (Some pair.now) ≡ Some e) }
 {
-    if point.len() != pair.system.columns() as usize {
-        return Err(AllocError);
-    }
+    let _columns = pair.system.columns();
     let x = element(alloc, pair.x.as_slice(), point)?;
     let y = element(alloc, pair.y.as_slice(), point)?;
     if is_behind(alloc, along.row, pair, point)? {
@@ -110,7 +95,8 @@ fn pair_said(
     along: &Along<'_>,
     pair: &Option<(i64, Items<i64>)>,
 ) -> Result<Option<(Items<i64>, Items<i64>)>, AllocError>
-    requires { Each (IsAlong along.now.rows.now along.now.row.now along.now.modulus.now) along.now.systems.now }
+    requires along { Each (IsAlong along.now.rows.now along.now.row.now along.now.modulus.now) along.now.systems.now }
+    requires fits { IsPairFit along.now.systems.now pair.now }
     ensures { IfOk result (λ p. p ≡ pair_of along.now.systems.now along.now.row.now pair.now) }
 {
     let Some((number, point)) = pair else {
@@ -125,7 +111,8 @@ fn pair_said(
 
 /// The mark of a modulus.
 fn mark(alloc: Global, along: &Along<'_>, least: &Option<CertLeast>) -> Result<Mark, AllocError>
-    requires { Each (IsAlong along.now.rows.now along.now.row.now along.now.modulus.now) along.now.systems.now }
+    requires along { Each (IsAlong along.now.rows.now along.now.row.now along.now.modulus.now) along.now.systems.now }
+    requires fits { IsMarkFit along.now.systems.now (least_said least.now) }
     ensures { IfOk result (λ m. m ≡ mark_of along.now.systems.now along.now.row.now (least_said least.now)) }
 {
     let Some(least) = least else {
@@ -146,7 +133,8 @@ fn add_moduli(
     moduli: &[CertModulus],
     out: &mut Items<Modulus>,
 ) -> Result<(), AllocError>
-    requires { AreRowsAsked nest.now systems.now rows.now more.now moduli.now }
+    requires asked { AreRowsAsked nest.now systems.now rows.now more.now moduli.now }
+    requires fit { AreRowsFit systems.now more.now (map modulus_said moduli.now) }
     ensures { OnOk result (out.new ≡ out.old ++ moduli_of systems.now more.now (map modulus_said moduli.now)) }
 {
     match more {
@@ -195,6 +183,7 @@ fn fold_made(
 ) -> Result<Fold, AllocError>
     requires asked { AreRowsAsked nest.now systems.now fold.now.basis.rows fold.now.basis.rows fold.now.moduli }
     requires each { length fold.now.moduli ≡ length fold.now.basis.rows }
+    requires fit { AreRowsFit systems.now fold.now.basis.rows (map modulus_said fold.now.moduli) }
     ensures { IfOk result (λ made. IsFoldShown (fold_shown fold.now systems.now) made) }
 {
     let rows = fold.basis.rows.as_slice();
@@ -220,7 +209,8 @@ pub(crate) fn add_made(
     systems: &[Items<PairSystem>],
     out: &mut Vec<(ArrayId, Fold)>,
 ) -> Result<(), AllocError>
-    requires { AreFoldsAsked nest.now folds.now systems.now }
+    requires asked { AreFoldsAsked nest.now folds.now systems.now }
+    requires fit { AreFoldsFit folds.now systems.now }
     ensures { OnOk result (AreMade (folds_shown folds.now systems.now) out.old.items out.new.items) }
 {
     match folds {

@@ -2,21 +2,31 @@ use Rattle.std.proofs.Common.{map, refl, sym, subst}
 use Rattle.std.proofs.lemmas.Result.{err_from_is_err_and}
 use Rattle.affc_quast.specs.Seen.{trees_of}
 use Rattle.affc_check.specs.Answers.{FailsAtQuestion, FailsAtPoint}
-use Rattle.affc_check.specs.Held.{item_said}
-use Rattle.affc_check.specs.Made.{AreMade}
+use Rattle.affc_items.specs.Held.{item_said}
+use Rattle.affc_check.specs.Made.{AreMade, AreFoldsFit}
 use Rattle.affc_check.specs.Valid.{AreValid}
-use Rattle.affc_check.specs.Walks.{folds_shown, AreFoldsAsked}
-use Rattle.affc_check.proofs.ListingLemmas.{folds_asked, are_items}
+use Rattle.affc_items.specs.Walks.{folds_shown, AreFoldsAsked}
+use Rattle.affc_items.proofs.ListingLemmas.{folds_asked, are_items}
 use Rattle.affc_check.proofs.MadeLemmas.{made_asked, all_made}
+use Rattle.affc_check.proofs.Words.{folds_fit}
 use Rattle.affc_check.proofs.check.check_all.Goals as goal
 
-pub add_made-requires : goal.add_made-requires
-add_made-requires c =
+pub add_made-requires-clause-asked : goal.add_made-requires-clause-asked
+add_made-requires-clause-asked c =
     let nest = c.args.nest.now in
     let cert = c.args.cert.now in
     subst (λ z. AreFoldsAsked nest z c.as_slice-3.result.now) (sym c.as_slice-said.ensures)
     (subst (AreFoldsAsked nest cert.folds) (sym c.as_slice-3.ensures)
     (made_asked nest c.args.schedule.now (trees_of cert.flow) cert.folds c.in-Ok.listing.systems c.requires.asked (folds_asked nest cert cert.folds c.requires.certificate refl) c.in-Ok.ensures.ok.said))
+
+pub add_made-requires-clause-fit : goal.add_made-requires-clause-fit
+add_made-requires-clause-fit c =
+    let items = map item_said c.in-Ok.listing.items.items in
+    let cert = c.args.cert.now in
+    let valid = subst (λ z. AreValid (map item_said z) cert.proofs) c.as_slice.ensures.value (subst (λ z. AreValid (map item_said c.as_slice.result.now) z) c.as_slice-2.ensures c.in_ok-check_items.ensures.ok) in
+    subst (λ z. AreFoldsFit z c.as_slice-3.result.now) (sym c.as_slice-said.ensures)
+    (subst (AreFoldsFit cert.folds) (sym c.as_slice-3.ensures)
+    (folds_fit c.args.nest.now c.args.schedule.now cert items c.in-Ok.listing.systems c.requires.asked c.requires.certificate c.in-Ok.ensures.ok valid))
 
 pub returns-in_err-check_items-clause-proof : goal.returns-in_err-check_items-clause-proof
 returns-in_err-check_items-clause-proof c =

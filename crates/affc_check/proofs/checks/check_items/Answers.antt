@@ -1,5 +1,5 @@
 use Rattle.std.proofs.Common.{◌≡◌, ◌+◌, ℕ, suc, map, sym, subst, ◌∙◌, arith}
-use Rattle.affc_check.specs.Held.{item_said}
+use Rattle.affc_items.specs.Held.{item_said}
 use Rattle.affc_check.specs.Valid.{FailsFirst}
 use Rattle.affc_check.proofs.CheckLemmas.{mapped_at, valid_from, fails_from, fails_at, at_question, at_point}
 use Rattle.affc_check.proofs.checks.check_items.Goals as goal

@@ -1,5 +1,5 @@
 use Rattle.std.proofs.Common.{ℕ, ◌+◌, map, drop}
-use Rattle.affc_check.specs.Held.{item_said}
+use Rattle.affc_items.specs.Held.{item_said}
 use Rattle.affc_check.specs.Valid.{AreValid, FailsFirst}
 use Rattle.affc_check.proofs.checks.check_items.Given as goal
 

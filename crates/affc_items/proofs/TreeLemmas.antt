@@ -1,0 +1,181 @@
+-- The items of trees, load by load.
+use Rattle.std.proofs.Common.{◌≡◌, ◌≢◌, ℕ, zero, suc, ◌+◌, ◌-◌, ◌<◌, ◌≤◌, Bool, true, false, if◌then◌else◌, List, [], ◌∷◌, ◌++◌, length, map, flat_map, drop, replicate, Option, Some, None, refl, sym, ap, subst, arith, ◌∙◌}
+use Rattle.std.specs.Prelude.{nat_eq, slice_get}
+use Rattle.std.proofs.lemmas.List.{map-append, length-replicate}
+use Rattle.std.proofs.lemmas.Bool.{eqb-true}
+use Rattle.affc_trace.specs.Law.{IsIn}
+use Rattle.affc_trace.proofs.EndedReads.{append_assoc}
+use Rattle.affc_nest.specs.declared.nest.Access.{Access}
+use Rattle.affc_nest.specs.declared.nest.Entry.{Entry}
+use Rattle.affc_nest.specs.declared.nest.Nest.{Nest}
+use Rattle.affc_quast.specs.Leaves.{Leaf, leaves_of}
+use Rattle.affc_quast.specs.Sources.{loads_in, loads_before, tree_of}
+use Rattle.affc_quast.specs.Trees.{Tree}
+use Rattle.affc_flow.specs.Questions as flow
+use Rattle.affc_flow.specs.Questions.{leaf_questions, tree_questions, questions_of_load, questions_of_loads, flow_questions}
+use Rattle.affc_life.proofs.WalkLemmas.{later_tree}
+use Rattle.affc_items.specs.Held.{flow_item}
+use Rattle.affc_items.specs.Items.{Item}
+use Rattle.affc_items.specs.Limits.{AnyPasses, HoldsOfNone}
+use Rattle.affc_items.specs.Listed.{AreListed, PartsListed, IsFirstPart}
+use Rattle.affc_items.specs.Passes.{items_by_load, items_by_entry, items_by_tree}
+use Rattle.affc_items.specs.Walks.{leaf_items, load_items, own_items}
+use Rattle.affc_items.proofs.PartLemmas.{no_parts, part_listed, parts_twice, empty_parts, part_here, part_later, part_front, part_behind}
+
+-- ---- A load
+
+flat_by : {A B C : Type 0} (g : B → C) (F : A → List B) (xs : List A) → map g (flat_map F xs) ≡ flat_map (λ x. map g (F x)) xs
+flat_by g F [] = refl
+flat_by g F (x ∷ xs) = map-append g (F x) (flat_map F xs) ∙ ap (λ ys. map g (F x) ++ ys) (flat_by g F xs)
+
+pub flat_both : {A B : Type 0} (F : A → List B) (xs ys : List A) → flat_map F (xs ++ ys) ≡ flat_map F xs ++ flat_map F ys
+flat_both F [] ys = refl
+flat_both F (x ∷ xs) ys = ap (λ l. F x ++ l) (flat_both F xs ys) ∙ sym (append_assoc (F x) (flat_map F xs) (flat_map F ys))
+
+-- the items of a tree, leaf by leaf
+pub tree_items : (nest : Nest) (reader : Entry) (load : Access) (tree : Tree)
+    → flat_map (leaf_items nest reader load) (leaves_of (length nest.params + length reader.loops) tree) ≡ load_items nest reader load (Some tree)
+tree_items nest reader load tree = sym (flat_by flow_item (leaf_questions nest reader load (nest.params ++ reader.ranges)) (leaves_of (length nest.params + length reader.loops) tree))
+
+-- ---- The loads of a statement
+
+one_at_least : (n : ℕ) → nat_eq n 0 ≡ false → 1 ≤ n
+one_at_least zero e = absurd (cc)
+one_at_least (suc n) e = omega arith
+
+pub not_empty : {A : Type 0} (xs : List A) (t : Bool) → t ≡ nat_eq (length xs) 0 → t ≡ false → 1 ≤ length xs
+not_empty xs t e f = one_at_least (length xs) (sym e ∙ f)
+
+pub is_empty : {A : Type 0} (xs : List A) (t : Bool) → t ≡ nat_eq (length xs) 0 → t ≡ true → length xs ≡ 0
+is_empty xs t e f = eqb-true (length xs) 0 (sym e ∙ f)
+
+pub own_next : (nest : Nest) (own : List Tree) (reader : Entry) (n : ℕ) (accesses rest : List Access) (x : Access) → accesses ≡ x ∷ rest → 1 ≤ length rest
+    → own_items nest own reader n accesses ≡ load_items nest reader x (slice_get own n) ∷ own_items nest own reader (n + 1) rest
+own_next nest own reader n accesses [] x e l = absurd (omega (arith, l))
+own_next nest own reader n accesses (y ∷ ys) x e l = ap (own_items nest own reader n) e
+
+pub own_last : (nest : Nest) (own : List Tree) (reader : Entry) (n : ℕ) (accesses rest : List Access) (x : Access) → accesses ≡ x ∷ rest → length rest ≡ 0 → own_items nest own reader n accesses ≡ []
+own_last nest own reader n accesses [] x e l = ap (own_items nest own reader n) e
+own_last nest own reader n accesses (y ∷ ys) x e l = absurd (omega (arith, l))
+
+module _ (nest : Nest) (own : List Tree) (reader : Entry) (n : ℕ) (accesses rest : List Access) (x : Access) (is : accesses ≡ x ∷ rest) (more : 1 ≤ length rest) where
+  pub loads_listed : (a b c : List Item) → AreListed a b (load_items nest reader x (slice_get own n)) → PartsListed b c (own_items nest own reader (n + 1) rest)
+      → PartsListed a c (own_items nest own reader n accesses)
+  loads_listed a b c h g =
+      subst (PartsListed a c) (sym (own_next nest own reader n accesses rest x is more)) (part_listed a b c (load_items nest reader x (slice_get own n)) (own_items nest own reader (n + 1) rest) h g)
+
+  pub load_passes : (first part : ℕ) → part ≡ first → AnyPasses (load_items nest reader x (slice_get own n)) → IsFirstPart AnyPasses first (own_items nest own reader n accesses) part
+  load_passes first part e h =
+      subst (λ ps. IsFirstPart AnyPasses first ps part) (sym (own_next nest own reader n accesses rest x is more))
+      (part_here AnyPasses first part (load_items nest reader x (slice_get own n)) (own_items nest own reader (n + 1) rest) e h)
+
+  pub later_passes : (first next part : ℕ) → next ≡ first + 1 → ¬ (AnyPasses (load_items nest reader x (slice_get own n))) → IsFirstPart AnyPasses next (own_items nest own reader (n + 1) rest) part
+      → IsFirstPart AnyPasses first (own_items nest own reader n accesses) part
+  later_passes first next part e clear h =
+      subst (λ ps. IsFirstPart AnyPasses first ps part) (sym (own_next nest own reader n accesses rest x is more))
+      (part_later AnyPasses first next part (load_items nest reader x (slice_get own n)) (own_items nest own reader (n + 1) rest) e clear h)
+
+pub last_listed : (nest : Nest) (own : List Tree) (reader : Entry) (n : ℕ) (accesses rest : List Access) (x : Access) (a : List Item) → accesses ≡ x ∷ rest → length rest ≡ 0
+    → PartsListed a a (own_items nest own reader n accesses)
+last_listed nest own reader n accesses rest x a is l = subst (PartsListed a a) (sym (own_last nest own reader n accesses rest x is l)) (no_parts a)
+
+-- ---- A statement
+
+module _ (nest : Nest) (trees own : List Tree) (reader : Entry) (is : own ≡ drop (loads_before nest.entries reader.statement) trees) where
+  its_tree : (load : ℕ) → slice_get own load ≡ tree_of nest trees reader.statement load
+  its_tree load = ap (λ ts. slice_get ts load) is ∙ later_tree (loads_before nest.entries reader.statement) load trees
+
+  own_is : (n : ℕ) (xs : List Access) → own_items nest own reader n xs ≡ items_by_load nest trees reader n xs
+  own_is n [] = refl
+  own_is n (x ∷ []) = refl
+  own_is n (x ∷ y ∷ ys) =
+      ap (λ t. load_items nest reader x t ∷ own_items nest own reader (n + 1) (y ∷ ys)) (its_tree n)
+      ∙ ap (λ zs. load_items nest reader x (tree_of nest trees reader.statement n) ∷ zs) (own_is (n + 1) (y ∷ ys))
+
+  -- of a living one
+  by_entry : (accesses : List Access) → accesses ≡ reader.accesses → reader.alive ≡ true → own_items nest own reader 0 accesses ≡ items_by_entry nest trees reader
+  by_entry accesses e alive =
+      ap (own_items nest own reader 0) e ∙ own_is 0 reader.accesses ∙ ap (λ t. if t then items_by_load nest trees reader 0 reader.accesses else replicate (loads_in reader) []) (sym alive)
+
+  pub entry_listed : (accesses : List Access) (a c : List Item) → accesses ≡ reader.accesses → reader.alive ≡ true → PartsListed a c (own_items nest own reader 0 accesses) → PartsListed a c (items_by_entry nest trees reader)
+  entry_listed accesses a c e alive h = subst (PartsListed a c) (by_entry accesses e alive) h
+
+  pub entry_passes : (accesses : List Access) (first part : ℕ) → accesses ≡ reader.accesses → reader.alive ≡ true → IsFirstPart AnyPasses first (own_items nest own reader 0 accesses) part
+      → IsFirstPart AnyPasses first (items_by_entry nest trees reader) part
+  entry_passes accesses first part e alive h = subst (λ ps. IsFirstPart AnyPasses first ps part) (by_entry accesses e alive) h
+
+pub dead_listed : (nest : Nest) (trees : List Tree) (reader : Entry) (a : List Item) → reader.alive ≡ false → PartsListed a a (items_by_entry nest trees reader)
+dead_listed nest trees reader a dead =
+    subst (PartsListed a a) (ap (λ t. if t then items_by_load nest trees reader 0 reader.accesses else replicate (loads_in reader) []) (sym dead)) (empty_parts a (loads_in reader))
+
+-- how many parts it has
+by_load_long : (nest : Nest) (trees : List Tree) (reader : Entry) (n : ℕ) (xs : List Access) → length (items_by_load nest trees reader n xs) ≡ length xs - 1
+by_load_long nest trees reader n [] = refl
+by_load_long nest trees reader n (x ∷ []) = refl
+by_load_long nest trees reader n (x ∷ y ∷ ys) = let h = by_load_long nest trees reader (n + 1) (y ∷ ys) in omega (arith, h)
+
+pub entry_long : (nest : Nest) (trees : List Tree) (e : Entry) → length (items_by_entry nest trees e) ≡ length e.accesses - 1
+entry_long nest trees e = by e.alive
+  where
+    by : (t : Bool) → length (if t then items_by_load nest trees e 0 e.accesses else replicate (loads_in e) []) ≡ length e.accesses - 1
+    by true = by_load_long nest trees e 0 e.accesses
+    by false = length-replicate (loads_in e) []
+
+-- ---- Statements
+
+module _ (nest : Nest) (trees : List Tree) (entries rest : List Entry) (e : Entry) (is : entries ≡ e ∷ rest) where
+  parted : flat_map (items_by_entry nest trees) entries ≡ items_by_entry nest trees e ++ flat_map (items_by_entry nest trees) rest
+  parted = ap (flat_map (items_by_entry nest trees)) is
+
+  pub entries_listed : (a b c : List Item) → PartsListed a b (items_by_entry nest trees e) → PartsListed b c (flat_map (items_by_entry nest trees) rest) → PartsListed a c (flat_map (items_by_entry nest trees) entries)
+  entries_listed a b c h g = subst (PartsListed a c) (sym parted) (parts_twice a b c (items_by_entry nest trees e) (flat_map (items_by_entry nest trees) rest) h g)
+
+  pub entry_first : (first part : ℕ) → IsFirstPart AnyPasses first (items_by_entry nest trees e) part → IsFirstPart AnyPasses first (flat_map (items_by_entry nest trees) entries) part
+  entry_first first part h =
+      subst (λ ps. IsFirstPart AnyPasses first ps part) (sym parted) (part_front AnyPasses first part (items_by_entry nest trees e) (flat_map (items_by_entry nest trees) rest) h)
+
+  pub entry_later : (first next loads part : ℕ) → next ≡ first + loads → loads ≡ length e.accesses - 1 → HoldsOfNone AnyPasses (items_by_entry nest trees e)
+      → IsFirstPart AnyPasses next (flat_map (items_by_entry nest trees) rest) part → IsFirstPart AnyPasses first (flat_map (items_by_entry nest trees) entries) part
+  entry_later first next loads part n l clear h =
+      let long : length (items_by_entry nest trees e) ≡ length e.accesses - 1 = entry_long nest trees e in
+      subst (λ ps. IsFirstPart AnyPasses first ps part) (sym parted)
+      (part_behind AnyPasses first next part (items_by_entry nest trees e) (flat_map (items_by_entry nest trees) rest) (behind first next loads (length e.accesses - 1) (length (items_by_entry nest trees e)) n l long) clear h)
+    where
+      behind : (first next loads n k : ℕ) → next ≡ first + loads → loads ≡ n → k ≡ n → next ≡ first + k
+      behind first next loads n k a b c = omega (arith, a, b, c)
+
+-- ---- All of them
+
+flat_twice : {A B : Type 0} (F : A → List (List B)) (xs : List A) → flat_map (λ z. z) (flat_map F xs) ≡ flat_map (λ x. flat_map (λ z. z) (F x)) xs
+flat_twice F [] = refl
+flat_twice F (x ∷ xs) = flat_both (λ z. z) (F x) (flat_map F xs) ∙ ap (λ l. flat_map (λ z. z) (F x) ++ l) (flat_twice F xs)
+
+flat_same : {A B : Type 0} (f g : A → List B) → ((x : A) → f x ≡ g x) → (xs : List A) → flat_map f xs ≡ flat_map g xs
+flat_same f g h [] = refl
+flat_same f g h (x ∷ xs) = ap (λ ys. ys ++ flat_map f xs) (h x) ∙ ap (λ ys. g x ++ ys) (flat_same f g h xs)
+
+by_load_flat : (nest : Nest) (trees : List Tree) (reader : Entry) (n : ℕ) (xs : List Access)
+    → flat_map (λ z. z) (items_by_load nest trees reader n xs) ≡ map flow_item (questions_of_loads nest trees reader n xs)
+by_load_flat nest trees reader n [] = refl
+by_load_flat nest trees reader n (x ∷ []) = refl
+by_load_flat nest trees reader n (x ∷ y ∷ ys) =
+    let own = questions_of_load nest reader x (tree_of nest trees reader.statement n) in
+    ap (λ l. map flow_item own ++ l) (by_load_flat nest trees reader (n + 1) (y ∷ ys)) ∙ sym (map-append flow_item own (questions_of_loads nest trees reader (n + 1) (y ∷ ys)))
+
+empty_flat : (n : ℕ) → ◌≡◌ {A = List Item} (flat_map (λ z. z) (replicate n [])) []
+empty_flat zero = refl
+empty_flat (suc n) = empty_flat n
+
+entry_flat : (nest : Nest) (trees : List Tree) (e : Entry) → flat_map (λ z. z) (items_by_entry nest trees e) ≡ map flow_item (if e.alive then questions_of_loads nest trees e 0 e.accesses else [])
+entry_flat nest trees e = by e.alive
+  where
+    by : (t : Bool) → flat_map (λ z. z) (if t then items_by_load nest trees e 0 e.accesses else replicate (loads_in e) []) ≡ map flow_item (if t then questions_of_loads nest trees e 0 e.accesses else [])
+    by true = by_load_flat nest trees e 0 e.accesses
+    by false = empty_flat (loads_in e)
+
+-- the items by tree are those of all trees
+pub trees_flat : (nest : Nest) (trees : List Tree) → flat_map (λ z. z) (items_by_tree nest trees) ≡ map flow_item (flow_questions nest trees)
+trees_flat nest trees =
+    flat_twice (items_by_entry nest trees) nest.entries
+    ∙ flat_same (λ e. flat_map (λ z. z) (items_by_entry nest trees e)) (λ e. map flow_item (if e.alive then questions_of_loads nest trees e 0 e.accesses else [])) (entry_flat nest trees) nest.entries
+    ∙ sym (flat_by flow_item (λ e. if e.alive then questions_of_loads nest trees e 0 e.accesses else []) nest.entries)

@@ -1,0 +1,17 @@
+//! The items of certificates: the questions that a certificate answers, and the points that it shows.
+#![tactic(auto)]
+
+pub mod all;
+mod bounds;
+pub mod folds;
+pub mod item;
+mod listing;
+mod orders;
+pub mod shown;
+pub mod stop;
+mod trees;
+
+pub use all::{Listing, list_all};
+pub use folds::items_of_fold;
+pub use item::{Item, Point};
+pub use stop::{PartStop, Stop};
