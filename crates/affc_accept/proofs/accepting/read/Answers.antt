@@ -1,0 +1,12 @@
+use Rattle.std.proofs.Common.{sym, subst}
+use Rattle.affc_accept.specs.Refusals.{AcceptRefuses}
+use Rattle.affc_accept.proofs.Refused.{read_within, text_refused}
+use Rattle.affc_accept.proofs.accepting.read.Goals as goal
+
+pub returns-in-Ok-clause-within : goal.returns-in-Ok-clause-within
+returns-in-Ok-clause-within c = read_within c.args.nest.now c.args.layout.now c.in-Ok.cert c.requires.layout c.in-Ok.ensures.ok.1
+
+pub returns-in-Err-clause-err : goal.returns-in-Err-clause-err
+returns-in-Err-clause-err c plan =
+    subst (AcceptRefuses c.args.nest.now plan c.args.text.now) (sym c.of_text.ensures)
+    (text_refused c.args.nest.now c.args.layout.now plan c.args.text.now c.in-Err.fault c.requires.layout c.in-Err.ensures.json c.in-Err.ensures.err)

@@ -1,0 +1,108 @@
+//! Texts as certificates.
+ghost use Rattle.std.specs.Prelude.{◌≡◌, ℕ, ◌+◌, List, IfOk, IfErr, IfSome, OnOk};
+ghost use Rattle.affc_sched.specs.Legality.{IsAsked};
+ghost use Rattle.affc_schedtext.specs.declared.plan.Plan.{Plan as OfPlan};
+ghost use Rattle.affc_check.specs.Answers.{IsChecked};
+ghost use Rattle.affc_items.specs.Certs.{IsCertWithin};
+ghost use Rattle.affc_accept.specs.Accepted.{IsRead, IsAccepted};
+ghost use Rattle.affc_accept.specs.Bases.{KeepBases};
+ghost use Rattle.affc_accept.specs.Causes.{text_fault, items_fault};
+ghost use Rattle.affc_accept.specs.Layouts.{IsLayout};
+ghost use Rattle.affc_accept.specs.Refusals.{AcceptRefuses};
+
+use crate::bases::first_other;
+use crate::fault::AcceptFault;
+use crate::layout::layout;
+use affc_cert::{Cert, CertFault, Layout, from_json};
+use affc_check::{CheckFault, Checked, check_all};
+use affc_nest::Nest;
+use affc_schedtext::Plan;
+use std::alloc::Global;
+
+// What is said of a text.
+fn of_text(fault: CertFault) -> AcceptFault
+    ensures { result ≡ text_fault fault }
+{
+    match fault {
+        CertFault::Json => AcceptFault::Certificate(CertFault::Json),
+        CertFault::Version => AcceptFault::Certificate(CertFault::Version),
+        CertFault::Shape(part) => AcceptFault::Certificate(CertFault::Shape(part)),
+        CertFault::Number(part) => AcceptFault::Certificate(CertFault::Number(part)),
+        CertFault::Memory => AcceptFault::Memory,
+    }
+}
+
+// What is said of a certificate's items.
+fn of_items(fault: CheckFault) -> AcceptFault
+    ensures { result ≡ items_fault fault }
+{
+    match fault {
+        CheckFault::Number(part) => AcceptFault::Check(CheckFault::Number(part)),
+        CheckFault::Proof(item) => AcceptFault::Check(CheckFault::Proof(item)),
+        CheckFault::Shown(item) => AcceptFault::Check(CheckFault::Shown(item)),
+        CheckFault::Memory => AcceptFault::Memory,
+    }
+}
+
+// The certificate that a text is, for a nest with this layout.
+fn read(alloc: Global, nest: &Nest, layout: &Layout, text: &[u8]) -> Result<Cert, AcceptFault>
+    requires layout { IsLayout nest.now layout.now }
+    ensures read { IfOk result (IsRead nest.now text.now) }
+    ensures within { IfOk result (IsCertWithin nest.now) }
+    ensures err { IfErr result (λ e. (plan : OfPlan) → AcceptRefuses nest.now plan text.now e) }
+{
+    let _nest = nest;
+    match from_json(alloc, text, layout) {
+        Ok(cert) => Ok(cert),
+        Err(fault) => Err(of_text(fault)),
+    }
+}
+
+// The number of a fold's part, behind so many trees.
+fn part_of(trees: usize, fold: usize) -> Option<usize>
+    ensures { IfSome result (λ part. part ≡ (1 + trees) + fold) }
+{
+    trees.checked_add(1)?.checked_add(fold)
+}
+
+// Whether the folds have the plan's bases.
+fn with_bases(alloc: Global, nest: &Nest, plan: &Plan, cert: &Cert) -> Result<(), AcceptFault>
+    ensures kept { OnOk result (KeepBases nest.now plan.now.folds cert.now.folds) }
+    ensures err { IfErr result (λ e. (text : List ℕ) → IsRead nest.now text cert.now → AcceptRefuses nest.now plan.now text e) }
+{
+    let folds = cert.folds.as_slice();
+    let Some(fold) = first_other(alloc, nest, plan.folds.as_slice(), folds)? else {
+        return Ok(());
+    };
+    match part_of(cert.flow.trees.len(), fold) {
+        Some(part) => Err(AcceptFault::Certificate(CertFault::Shape(part))),
+        None => Err(AcceptFault::Memory),
+    }
+}
+
+// Whether a certificate is valid.
+fn checked(alloc: Global, nest: &Nest, plan: &Plan, cert: &Cert) -> Result<Checked, AcceptFault>
+    requires asked { IsAsked nest.now plan.now.schedule }
+    requires within { IsCertWithin nest.now cert.now }
+    requires bases { KeepBases nest.now plan.now.folds cert.now.folds }
+    ensures ok { IfOk result (IsChecked nest.now plan.now.schedule cert.now) }
+    ensures err { IfErr result (λ e. (text : List ℕ) → IsRead nest.now text cert.now → AcceptRefuses nest.now plan.now text e) }
+{
+    match check_all(alloc, nest, &plan.schedule, cert) {
+        Ok(checked) => Ok(checked),
+        Err(fault) => Err(of_items(fault)),
+    }
+}
+
+/// What a text shows as a certificate of a nest and a plan: the folds of the temporaries of at least one dimension, with their
+/// marks. Its shape and numbers are looked at first, then its bases, then the sizes of its questions, and then its items.
+pub fn accept(alloc: Global, nest: &Nest, plan: &Plan, text: &[u8]) -> Result<Checked, AcceptFault>
+    requires asked { IsAsked nest.now plan.now.schedule }
+    ensures ok { IfOk result (λ checked. IsAccepted nest.now plan.now text.now checked.folds.items) }
+    ensures err { IfErr result (AcceptRefuses nest.now plan.now text.now) }
+{
+    let layout = layout(alloc, nest)?;
+    let cert = read(alloc, nest, &layout, text)?;
+    with_bases(alloc, nest, plan, &cert)?;
+    checked(alloc, nest, plan, &cert)
+}

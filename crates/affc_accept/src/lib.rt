@@ -1,0 +1,13 @@
+//! Certificates of a nest and a plan, from their texts.
+#![tactic(auto)]
+
+pub mod accepting;
+pub mod bases;
+pub mod examples;
+pub mod fault;
+pub mod laws;
+pub mod layout;
+
+pub use accepting::accept;
+pub use bases::first_other;
+pub use fault::AcceptFault;
