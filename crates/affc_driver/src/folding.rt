@@ -55,8 +55,8 @@ pub struct Done {
     pub report: Vec<u8>,
 }
 
-// The refusal of a text that is no program.
-pub(crate) fn unread(fault: ParseFault) -> Refusal
+/// The refusal of a text that is no program.
+pub fn unread(fault: ParseFault) -> Refusal
     ensures says { (source : List ℕ) (schedule : Option (List ℕ)) → Answers source (Err fault) → RefusalSays source schedule result }
     ensures trees { (source : List ℕ) → Answers source (Err fault) → FlowRefusalSays source result }
     ensures free { result ≢ Refusal.Budget }
@@ -80,8 +80,8 @@ fn prelude_of(tokens: &[Token]) -> usize
     unreachable!()
 }
 
-// The refusal of a text that reads as a program with the prelude, at the prelude's token.
-pub(crate) fn printed(alloc: Global, source: &[u8]) -> Refusal
+/// The refusal of a text that reads as a program with the prelude, at the prelude's token.
+pub fn printed(alloc: Global, source: &[u8]) -> Refusal
     requires { ReadsPrinted source.now }
     ensures says { (schedule : Option (List ℕ)) → RefusalSays source.now schedule result }
     ensures trees { FlowRefusalSays source.now result }
@@ -93,8 +93,8 @@ pub(crate) fn printed(alloc: Global, source: &[u8]) -> Refusal
     }
 }
 
-// The plan of a schedule's text; without one everything stays as it stands.
-fn plan_of(alloc: Global, program: &Program, schedule: Option<&[u8]>) -> Result<Plan, Refusal>
+/// The plan of a schedule's text; without one everything stays as it stands.
+pub fn plan_of(alloc: Global, program: &Program, schedule: Option<&[u8]>) -> Result<Plan, Refusal>
     requires plain { IsPlain program.now }
     requires counted { IsCounted program.now }
     ensures planned { IfOk result (HasPlan program.now (option_map (λ t. t.now) schedule.entry)) }
@@ -114,8 +114,8 @@ fn plan_of(alloc: Global, program: &Program, schedule: Option<&[u8]>) -> Result<
     }
 }
 
-// What is printed of the loops of a legal schedule, with these folds.
-fn finish(
+/// What is printed of the loops of a legal schedule, with these folds.
+pub fn finish(
     alloc: Global,
     program: &Program,
     nest: &Nest,

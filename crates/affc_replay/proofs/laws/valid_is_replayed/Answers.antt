@@ -1,0 +1,5 @@
+use Rattle.affc_replay.proofs.Valid as lemma
+use Rattle.affc_replay.proofs.laws.valid_is_replayed.Goals as goal
+
+pub returns : goal.returns
+returns c = record { law = lemma.valid_is_replayed c.folds_well_named.ensures.law c.folded_program_compiles.ensures.law }

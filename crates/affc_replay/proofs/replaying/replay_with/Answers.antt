@@ -1,0 +1,25 @@
+use Rattle.std.proofs.Common.{Some}
+use Rattle.std.proofs.lemmas.Result.{err_from_is_err_and, IfOk-weaker, IfErr-weaker}
+use Rattle.affc_driver.proofs.Compiled.{plan_scheduled, plan_limited}
+use Rattle.affc_replay.proofs.Decided.{replays_to}
+use Rattle.affc_replay.proofs.replaying.replay_with.Goals as goal
+
+pub replay_by-requires-clause-fits : goal.replay_by-requires-clause-fits
+replay_by-requires-clause-fits c = plan_scheduled c.args.program.now (Some c.args.schedule.now) c.in_ok-plan.plan c.in_ok-plan.ensures.planned
+
+pub replay_by-requires-clause-slight : goal.replay_by-requires-clause-slight
+replay_by-requires-clause-slight c = plan_limited c.args.program.now (Some c.args.schedule.now) c.in_ok-plan.plan c.in_ok-plan.ensures.planned
+
+pub returns-clause-ok : goal.returns-clause-ok
+returns-clause-ok c =
+    IfOk-weaker c.replay_by.result _ _
+    (λ r is. replays_to c.folds_well_named.ensures.law c.folded_program_compiles.ensures.law c.args.program.now c.in_ok-plan.plan c.args.schedule.now c.args.certificate.now r.text.items r.report.items c.in_ok-plan.ensures.planned is)
+    c.replay_by.ensures.ok
+
+pub returns-clause-err : goal.returns-clause-err
+returns-clause-err c = IfErr-weaker c.replay_by.result _ _ (λ refusal h. h c.args.schedule.now c.in_ok-plan.ensures.planned) c.replay_by.ensures.err
+
+pub returns-in_err-plan-clause-err : goal.returns-in_err-plan-clause-err
+returns-in_err-plan-clause-err c =
+    let p = err_from_is_err_and c.from_residual.result c.from_residual.ensures.1 in
+    rw (p.1, p.2) (c.in_err-plan.ensures.err c.args.certificate.now)

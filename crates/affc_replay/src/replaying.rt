@@ -1,0 +1,262 @@
+//! A source with its schedule, compiled by a certificate.
+ghost use Rattle.std.specs.Prelude.{◌≡◌, ℕ, List, Some, None, IsTrue, IfOk, OnOk, IfErr, Err};
+ghost use Rattle.affc_ast.specs.Counted.{IsCounted};
+ghost use Rattle.affc_trace.specs.Target.{IsScheduleOf, within_limits};
+ghost use Rattle.affc_domain.specs.Plain.{IsPlain};
+ghost use Rattle.affc_domain.specs.Ranges.{first_wide};
+ghost use Rattle.affc_nest.specs.Laws.{NamesArrays};
+ghost use Rattle.affc_nest.specs.Nests.{nest_of};
+ghost use Rattle.affc_parse.specs.Answers.{Answers};
+ghost use Rattle.affc_schedtext.specs.declared.plan.Plan.{Plan as OfPlan};
+ghost use Rattle.affc_accept.specs.Accepted.{IsAccepted};
+ghost use Rattle.affc_driver.specs.Plans.{HasPlan};
+ghost use Rattle.affc_driver.specs.Printed.{ReadsPrinted};
+ghost use Rattle.affc_driver.specs.Programs.{OfEachText};
+ghost use Rattle.affc_replay.specs.Made.{HasOwnTemporaries, IsDecided, IsReplayed};
+ghost use Rattle.affc_replay.specs.Refusals.{printed_said, ReplayRefuses};
+ghost use Rattle.affc_replay.specs.Replays.{ReplaysTo};
+
+use crate::refusal::Refusal;
+use crate::scalars::add_scalars;
+use affc_accept::{AcceptFault, accept};
+use affc_ast::tree::{ArrayId, Program};
+use affc_basis::Fold;
+use affc_check::Checked;
+use affc_driver::Refusal as Uncompiled;
+use affc_driver::folding::{finish, printed};
+use affc_foldprint::laws::folds_well_named;
+use affc_grammar::laws::reads_counted;
+use affc_nest::{Nest, NestFault, extract};
+use affc_parse::fault::ParseFault;
+use affc_parse::parse;
+use affc_plan::read;
+use affc_rewrite::laws::folded_program_compiles;
+use affc_schedtext::{Plan, SchedFault};
+use std::alloc::Global;
+
+/// What is made of a source by a certificate.
+#[derive(Debug, Drop)]
+pub struct Replayed {
+    /// The compiled program, as C.
+    pub text: Vec<u8>,
+    /// What became of each temporary: its fold, and what is known of it.
+    pub report: Vec<u8>,
+}
+
+// The refusal of a text that is no program.
+fn unread(fault: ParseFault) -> Refusal
+    ensures { (source : List ℕ) (schedule : List ℕ) (certificate : List ℕ) → Answers source (Err fault) → ReplayRefuses source schedule certificate result }
+{
+    match fault {
+        ParseFault::Memory => Refusal::Memory,
+        fault => Refusal::Source(fault),
+    }
+}
+
+// What is said where a compilation answers so of a text with the prelude.
+fn said(refusal: Uncompiled) -> Refusal
+    ensures { result ≡ printed_said refusal }
+{
+    match refusal {
+        Uncompiled::Printed(place) => Refusal::Printed(place),
+        Uncompiled::Source(_)
+        | Uncompiled::Schedule(_)
+        | Uncompiled::Meaning(_)
+        | Uncompiled::Unwritten {
+            array: _,
+            access: _,
+            p: _,
+            instance: _,
+        }
+        | Uncompiled::Illegal { p: _, a: _, b: _ }
+        | Uncompiled::Budget
+        | Uncompiled::Memory => Refusal::Memory,
+    }
+}
+
+// The refusal of a text that reads as a program with the prelude.
+fn is_printed(alloc: Global, source: &[u8]) -> Refusal
+    requires { ReadsPrinted source.now }
+    ensures { (schedule : List ℕ) (certificate : List ℕ) → ReplayRefuses source.now schedule certificate result }
+{
+    let refusal = printed(alloc, source);
+    said(refusal)
+}
+
+// The plan that a schedule's text reads as.
+fn plan_of(alloc: Global, program: &Program, schedule: &[u8]) -> Result<Plan, Refusal>
+    requires plain { IsPlain program.now }
+    requires counted { IsCounted program.now }
+    ensures planned { IfOk result (HasPlan program.now (Some schedule.now)) }
+    ensures err { IfErr result (λ refusal. (certificate : List ℕ) → OfEachText program.now (λ text. ReplayRefuses text schedule.now certificate refusal)) }
+{
+    match read(alloc, program, schedule) {
+        Ok(plan) => Ok(plan),
+        Err(SchedFault::Memory) => Err(Refusal::Memory),
+        Err(fault) => Err(Refusal::Schedule(fault)),
+    }
+}
+
+// The nest of a program.
+fn nest_of(alloc: Global, program: &Program) -> Result<Nest, Refusal>
+    requires plain { IsPlain program.now }
+    ensures nest { IfOk result (λ nest. nest ≡ nest_of program.now) }
+    ensures near { OnOk result (first_wide program.now ≡ None) }
+    ensures err { IfErr result (λ refusal. (plan : OfPlan) (schedule : List ℕ) (certificate : List ℕ) → HasPlan program.now (Some schedule) plan → OfEachText program.now (λ text. ReplayRefuses text schedule certificate refusal)) }
+{
+    match extract(alloc, program) {
+        Ok(nest) => Ok(nest),
+        Err(
+            NestFault::IteratorRange {
+                statement,
+                loop_number,
+            },
+        ) => Err(Refusal::IteratorRange {
+            statement,
+            loop_number,
+        }),
+        Err(NestFault::Memory) => Err(Refusal::Memory),
+    }
+}
+
+// What a certificate shows.
+fn accepted(
+    alloc: Global,
+    program: &Program,
+    nest: &Nest,
+    plan: &Plan,
+    certificate: &[u8],
+) -> Result<Checked, Refusal>
+    requires plain { IsPlain program.now }
+    requires arrays { NamesArrays program.now }
+    requires near { first_wide program.now ≡ None }
+    requires nest { nest.now ≡ nest_of program.now }
+    requires fits { IsScheduleOf program.now plan.now.schedule }
+    requires slight { IsTrue (within_limits plan.now.schedule) }
+    ensures ok { IfOk result (λ checked. IsAccepted nest.now plan.now certificate.now checked.folds.items) }
+    ensures err { IfErr result (λ refusal. (schedule : List ℕ) → HasPlan program.now (Some schedule) plan.now → OfEachText program.now (λ text. ReplayRefuses text schedule certificate.now refusal)) }
+{
+    let _program = program;
+    match accept(alloc, nest, plan, certificate) {
+        Ok(checked) => Ok(checked),
+        Err(AcceptFault::Certificate(fault)) => Err(Refusal::Certificate(fault)),
+        Err(AcceptFault::Check(fault)) => Err(Refusal::Check(fault)),
+        Err(AcceptFault::Memory) => Err(Refusal::Memory),
+    }
+}
+
+// The folds that a certificate shows, with those of temporaries without dimensions.
+fn folds_of(
+    alloc: Global,
+    program: &Program,
+    nest: &Nest,
+    plan: &Plan,
+    certificate: &[u8],
+) -> Result<Vec<(ArrayId, Fold)>, Refusal>
+    requires plain { IsPlain program.now }
+    requires arrays { NamesArrays program.now }
+    requires temporaries { HasOwnTemporaries program.now }
+    requires near { first_wide program.now ≡ None }
+    requires nest { nest.now ≡ nest_of program.now }
+    requires fits { IsScheduleOf program.now plan.now.schedule }
+    requires slight { IsTrue (within_limits plan.now.schedule) }
+    ensures decided { IfOk result (λ folds. IsDecided program.now plan.now certificate.now folds.items) }
+    ensures err { IfErr result (λ refusal. (schedule : List ℕ) → HasPlan program.now (Some schedule) plan.now → OfEachText program.now (λ text. ReplayRefuses text schedule certificate.now refusal)) }
+{
+    let checked = accepted(alloc, program, nest, plan, certificate)?;
+    let Checked { folds: shown } = checked;
+    let mut folds = shown;
+    add_scalars(alloc, 0, nest.arrays.as_slice(), &mut folds)?;
+    Ok(folds)
+}
+
+// What is printed with these folds.
+fn written(
+    alloc: Global,
+    program: &Program,
+    nest: &Nest,
+    plan: &Plan,
+    folds: &[(ArrayId, Fold)],
+    certificate: &[u8],
+) -> Result<Replayed, Refusal>
+    requires plain { IsPlain program.now }
+    requires nest { nest.now ≡ nest_of program.now }
+    requires fits { IsScheduleOf program.now plan.now.schedule }
+    requires slight { IsTrue (within_limits plan.now.schedule) }
+    requires decided { IsDecided program.now plan.now certificate.now folds.now }
+    ensures ok { IfOk result (λ r. IsReplayed program.now plan.now certificate.now r.text.items r.report.items) }
+    ensures err { IfErr result (λ refusal. refusal ≡ Refusal.Memory) }
+{
+    let _certificate = certificate;
+    match finish(alloc, program, nest, plan, folds, &[]) {
+        Ok(done) => Ok(Replayed {
+            text: done.text,
+            report: done.report,
+        }),
+        Err(_) => Err(Refusal::Memory),
+    }
+}
+
+// What is made of a plain program by a plan and a certificate.
+fn replay_by(
+    alloc: Global,
+    program: &Program,
+    plan: &Plan,
+    certificate: &[u8],
+) -> Result<Replayed, Refusal>
+    requires plain { IsPlain program.now }
+    requires arrays { NamesArrays program.now }
+    requires temporaries { HasOwnTemporaries program.now }
+    requires fits { IsScheduleOf program.now plan.now.schedule }
+    requires slight { IsTrue (within_limits plan.now.schedule) }
+    ensures ok { IfOk result (λ r. IsReplayed program.now plan.now certificate.now r.text.items r.report.items) }
+    ensures err { IfErr result (λ refusal. (schedule : List ℕ) → HasPlan program.now (Some schedule) plan.now → OfEachText program.now (λ text. ReplayRefuses text schedule certificate.now refusal)) }
+{
+    let nest = nest_of(alloc, program)?;
+    let folds = folds_of(alloc, program, &nest, plan, certificate)?;
+    written(alloc, program, &nest, plan, folds.as_slice(), certificate)
+}
+
+// The same with the schedule's text, which is read first.
+fn replay_with(
+    alloc: Global,
+    program: &Program,
+    schedule: &[u8],
+    certificate: &[u8],
+) -> Result<Replayed, Refusal>
+    requires plain { IsPlain program.now }
+    requires counted { IsCounted program.now }
+    requires arrays { NamesArrays program.now }
+    requires temporaries { HasOwnTemporaries program.now }
+    ensures ok { IfOk result (λ r. OfEachText program.now (λ text. ReplaysTo text schedule.now certificate.now r.text.items r.report.items)) }
+    ensures err { IfErr result (λ refusal. OfEachText program.now (λ text. ReplayRefuses text schedule.now certificate.now refusal)) }
+{
+    folds_well_named();
+    folded_program_compiles();
+    let plan = plan_of(alloc, program, schedule)?;
+    replay_by(alloc, program, &plan, certificate)
+}
+
+/// The text that does what the source does, in the order of the schedule and on temporaries that are folded as the certificate
+/// shows, or why there is none. The source's text is looked at first, then the schedule's, then the ranges of its loops, and then
+/// the certificate.
+pub fn replay(
+    alloc: Global,
+    source: &[u8],
+    schedule: &[u8],
+    certificate: &[u8],
+) -> Result<Replayed, Refusal>
+    ensures ok { IfOk result (λ r. ReplaysTo source.now schedule.now certificate.now r.text.items r.report.items) }
+    ensures err { IfErr result (ReplayRefuses source.now schedule.now certificate.now) }
+{
+    reads_counted();
+    match parse(alloc, source) {
+        Ok(program) => {
+            if program.prelude {
+                return Err(is_printed(alloc, source));
+            }
+            replay_with(alloc, &program, schedule, certificate)
+        }
+        Err(fault) => Err(unread(fault)),
+    }
+}
