@@ -13,6 +13,8 @@ mod farkas;
 #[cfg(test)]
 mod forms;
 #[cfg(test)]
+mod projection;
+#[cfg(test)]
 mod rows;
 #[cfg(test)]
 mod split;

@@ -1,0 +1,10 @@
+pub mod Denses
+pub mod Tables
+pub mod Wides
+pub mod Points
+pub mod Inputs
+pub mod Steps
+pub mod Parts
+pub mod Leasts
+pub mod Ends
+pub mod ExampleProofs

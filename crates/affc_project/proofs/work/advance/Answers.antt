@@ -1,0 +1,25 @@
+use Rattle.std.proofs.Common.{◌≤◌, ◌<◌, length, take, sym, subst, ◌∙◌}
+use Rattle.std.specs.List.{All}
+use Rattle.affc_eliminate.specs.declared.kept.Kept.{Kept}
+use Rattle.affc_project.specs.States.{IsState}
+use Rattle.affc_project.proofs.Parts.{state_part, state_few, state_columns}
+use Rattle.affc_project.proofs.work.advance.Goals as goal
+
+pub enough-count-requires-clause-few : goal.enough-count-requires-clause-few
+enough-count-requires-clause-few g c =
+    subst (λ ks. length ks ≤ 8192) (sym c.as_slice.ensures.value)
+    (state_few c.args.system.now.columns c.args.system.now.rows c.args.column c.args.work.made.items c.args.work.live.items c.requires.column_in c.requires.few c.requires.state)
+
+pub enough-count-requires-clause-columns : goal.enough-count-requires-clause-columns
+enough-count-requires-clause-columns g c =
+    subst (All (λ (k : Kept). c.args.column < length k.row.coefs)) (sym c.as_slice.ensures.value)
+    (state_columns c.args.system.now.columns c.args.system.now.rows c.args.column c.args.work.made.items c.args.work.live.items c.requires.column_in c.requires.state)
+
+pub cancel-requires-clause-state : goal.cancel-requires-clause-state
+cancel-requires-clause-state g c =
+    let rows = c.args.system.now.rows in
+    let columns = c.args.system.now.columns in
+    let made = c.args.work.made.items in
+    let n = c.enough-count.result in
+    subst (λ ms. IsState columns rows ms (take n c.as_slice-then-count-len-2.result.now)) (sym (c.in-Ok.ensures.items ∙ c.as_slice-then-count-len.ensures.value))
+    (subst (λ ks. IsState columns rows made (take n ks)) (sym c.as_slice-then-count-len-2.ensures.value) (state_part columns rows made c.args.work.live.items n c.requires.state))
