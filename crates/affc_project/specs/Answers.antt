@@ -1,11 +1,12 @@
--- What the answers of elimination say.
+-- What the answers of the elimination of all columns say.
 use Rattle.std.specs.Prelude.{◌≡◌, ℕ, List, length}
 use Rattle.affc_rows.specs.Forms.{Affine}
 use Rattle.affc_farkas.specs.Proofs.{IsLeaf}
 use Rattle.affc_farkas.specs.Rational.{RationalPoint}
-use Rattle.affc_farkas.specs.Eliminations.{IsElimination, IsTooWide}
-use Rattle.affc_farkas.specs.declared.elimination.Refutation.{Refutation}
-use Rattle.affc_farkas.specs.declared.elimination.Refutation.TheVariants.{Refuted, Stands, TooMany, TooWide}
+use Rattle.affc_farkas.specs.Eliminations.{IsElimination}
+use Rattle.affc_project.specs.Projections.{IsTooWide}
+use Rattle.affc_project.specs.declared.refutation.Refutation.{Refutation}
+use Rattle.affc_project.specs.declared.refutation.Refutation.TheVariants.{Refuted, Stands, TooMany, TooWide}
 
 -- the multipliers are a leaf; or a rational point meets every row; or the pairs show that a limit was reached
 abbrev pub IsAnswer : ℕ → List Affine → Refutation → Type 0
