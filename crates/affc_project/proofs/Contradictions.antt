@@ -1,5 +1,5 @@
 -- Rows that no point meets.
-use Rattle.std.proofs.Common.{◌≡◌, ◌≢◌, ◌⊎◌, ℕ, ◌+◌, ◌<◌, ◌≤◌, List, [], ◌∷◌, length, take, get_or, replicate, ℤ, pos, negsuc, ◌+ℤ◌, ◌*ℤ◌, ◌≤ℤ◌, ◌<ℤ◌, refl, sym, ap, subst, ◌∙◌, inl, inr, arith}
+use Rattle.std.proofs.Common.{◌≡◌, ◌⊎◌, ℕ, ◌+◌, ◌<◌, ◌≤◌, List, [], ◌∷◌, length, take, get_or, replicate, ℤ, pos, negsuc, ◌+ℤ◌, ◌*ℤ◌, ◌≤ℤ◌, ◌<ℤ◌, refl, sym, ap, subst, ◌∙◌, inl, inr, arith}
 use Rattle.std.specs.Prelude.{◌↔◌}
 use Rattle.std.specs.List.{All, Contains}
 use Rattle.std.proofs.lemmas.Int.{ints}
@@ -22,6 +22,9 @@ use Rattle.affc_project.specs.Projections.{ExtendsWhole}
 use Rattle.affc_project.specs.States.{IsIn, AreZero, IsState, IsCancelled, IsDone, IsContradiction, HasContradiction}
 use Rattle.affc_project.specs.declared.work.Work.{Work}
 use Rattle.affc_project.proofs.Tables.{live_within, live_width}
+
+pub nothing : Kept
+nothing = record { row = record { coefs = []; constant = pos 0 }; from = []; number = 0 }
 
 -- ---- No point
 
@@ -142,11 +145,11 @@ some_point columns rows made live h none =
     let x = replicate columns (pos 0) in
     let one : pos 1 ≤ℤ pos 1 = omega (arith, ints) in
     let holds : All (λ k. pos 0 ≤ℤ scaled_value k.row x (pos 1)) live = λ i d lt.
-        let k = get_or live i d in
-        let zeros : (j : ℕ) → j < length k.row.coefs → entry_of k.row j ≡ pos 0 =
-            λ j jl. h.zeros j (omega arith) (subst (λ n. j < n) (live_width columns rows made live k h.state (Contains-get_or live i d lt)) jl) i d lt in
-        let least : pos 0 ≤ℤ k.row.constant = elim (sign_of k.row.constant) [ inl up ↦ up | inr down ↦ absurd (none i d lt (zeros, down)) ] in
-        holds_everywhere k.row x (pos 1) zeros least one in
+    let k = get_or live i d in
+    let zeros : (j : ℕ) → j < length k.row.coefs → entry_of k.row j ≡ pos 0 =
+    λ j jl. h.zeros j (omega arith) (subst (λ n. j < n) (live_width columns rows made live k h.state (Contains-get_or live i d lt)) jl) i d lt in
+    let least : pos 0 ≤ℤ k.row.constant = elim (sign_of k.row.constant) [ inl up ↦ up | inr down ↦ absurd (none i d lt (zeros, down)) ] in
+    holds_everywhere k.row x (pos 1) zeros least one in
     ((h.same_points [] refl).0 (record {
       point = record {
         x = x;

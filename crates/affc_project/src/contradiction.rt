@@ -1,7 +1,7 @@
 //! Rows that no point meets.
 ghost use Rattle.std.specs.Prelude.{◌≡◌, ◌↔◌, ◌<◌, ◌∷◌, [], length, slice_index_or, IfOk, IfSome, IfNone, IsTrue};
 ghost use Rattle.std.specs.List.{All};
-ghost use Rattle.affc_project.specs.States.{IsContradiction};
+ghost use Rattle.affc_project.specs.States.{IsContradiction, HasContradiction};
 
 use crate::work::Work;
 use affc_eliminate::Kept;
@@ -26,6 +26,16 @@ pub(crate) fn contradiction(live: &[Kept]) -> Option<usize>
         }
     }
     None
+}
+
+/// Whether no point meets some row.
+pub(crate) fn has_contradiction(live: &[Kept]) -> bool
+    ensures { IsTrue result ↔ HasContradiction live.now }
+{
+    match contradiction(live) {
+        Some(_place) => true,
+        None => false,
+    }
 }
 
 /// The row at this place alone, with the pairs that were made.

@@ -91,10 +91,10 @@ pub(crate) fn eliminated<F: Test>(
     };
     'columns: while !left.is_empty() {
         if let Some(place) = contradiction(work.live.as_slice()) {
-            return match alone(alloc, work, place) {
-                Ok(last) => Ok(last),
-                Err(_) => Err(Stop::Memory),
+            let Ok(last) = alone(alloc, work, place) else {
+                return Err(Stop::Memory);
             };
+            return Ok(last);
         }
         let place = fewest(work.live.as_slice(), left.as_slice());
         let column = left.remove(place);

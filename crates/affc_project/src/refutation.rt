@@ -35,6 +35,7 @@ fn answered(system: &System, work: Work) -> Refutation
     match contradiction(live.as_slice()) {
         Some(place) => {
             let kept = live.swap_remove(place);
+            let _pairs = kept.from.pairs();
             Refutation::Refuted(kept.from)
         }
         None => Refutation::Stands,

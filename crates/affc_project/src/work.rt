@@ -4,7 +4,7 @@ ghost use Rattle.std.specs.List.{All};
 ghost use Rattle.affc_project.specs.Projections.{AreFrom};
 ghost use Rattle.affc_project.specs.States.{IsState, HasContradiction, IsCancelled, IsStop};
 
-use crate::contradiction::contradiction;
+use crate::contradiction::has_contradiction;
 use affc_eliminate::{Kept, Screen, Step, Test, eliminate};
 use affc_farkas::Pair;
 use affc_system::System;
@@ -42,7 +42,7 @@ fn may_go_on(live: &[Kept], made: &[Pair]) -> bool
     ensures yes { IsTrue result → (length made.now < 4096) ⊎ HasContradiction live.now }
     ensures no { result ≡ false → 4096 ≤ length made.now }
 {
-    made.len() < MOST_PAIRS || contradiction(live).is_some()
+    made.len() < MOST_PAIRS || has_contradiction(live)
 }
 
 /// Eliminates the column from the rows. More pairs than the most are kept where some row says that there is no point.
@@ -142,7 +142,7 @@ pub(crate) fn advance<F: Test>(
         let first = &live.as_slice()[..count];
         match cancel(alloc, system, screen, column, first, copy) {
             Ok(part) => {
-                if contradiction(part.live.as_slice()).is_some() {
+                if has_contradiction(part.live.as_slice()) {
                     return Ok(part);
                 }
             }
