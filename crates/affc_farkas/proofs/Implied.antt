@@ -1,12 +1,11 @@
 -- A row implies another where both are parallel and its constant is the less, and a constant at least 0 is implied by nothing.
-use Rattle.std.proofs.Common.{◌≡◌, ℕ, suc, ◌<◌, List, [], ◌∷◌, length, get_or, ℤ, pos, ◌+ℤ◌, ◌*ℤ◌, neg_ℤ, ◌≤ℤ◌, sym, ap, subst, ◌∙◌, arith}
+use Rattle.std.proofs.Common.{◌≡◌, ℕ, suc, ◌<◌, List, [], ◌∷◌, length, get_or, ℤ, pos, ◌+ℤ◌, ◌*ℤ◌, neg_ℤ, ◌≤ℤ◌, sym, ap, ◌∙◌, arith}
 use Rattle.std.proofs.lemmas.Int.{ints}
 use lib.IntN.{*ℤ_comm, *ℤ-zero}
 use Rattle.affc_rows.specs.Forms.{Affine, dot}
 use Rattle.affc_rows.proofs.IntLemmas.{mul-add, mul_assoc, neg-mul}
 use Rattle.affc_farkas.specs.Multiples.{entry_of}
 use Rattle.affc_farkas.specs.Rational.{scaled_value}
-use Rattle.affc_farkas.specs.Admissions.{Implies}
 use Rattle.affc_farkas.proofs.Sound.{dot-cancelled}
 use Rattle.affc_farkas.proofs.Between.{nonneg_product, cancel, swap}
 
@@ -45,7 +44,8 @@ weaken d h = omega (arith, ints)
 
 pub implied : (m n : ℤ) (f g : Affine) → pos 1 ≤ℤ m → pos 1 ≤ℤ n → length f.coefs ≡ length g.coefs
     → ((j : ℕ) → j < length f.coefs → get_or f.coefs j (pos 0) *ℤ m ≡ get_or g.coefs j (pos 0) *ℤ n)
-    → (f.constant *ℤ m) ≤ℤ (g.constant *ℤ n) → Implies f g
+    → (f.constant *ℤ m) ≤ℤ (g.constant *ℤ n)
+    → (x : List ℤ) (d : ℤ) → pos 1 ≤ℤ d → pos 0 ≤ℤ scaled_value f x d → pos 0 ≤ℤ scaled_value g x d
 implied m n f g one two l h k x d three met =
     let mf = nonneg_product m (scaled_value f x d) (weaken m one) met in
     let e = mul-add m (dot f.coefs x) (d *ℤ f.constant) in
@@ -62,19 +62,3 @@ only_constant v u w e h = omega (arith, ints)
 -- a row without coefficients and with a constant of at least 0 holds everywhere
 pub holds_everywhere : (f : Affine) (x : List ℤ) (d : ℤ) → ((j : ℕ) → j < length f.coefs → entry_of f j ≡ pos 0) → pos 0 ≤ℤ f.constant → pos 1 ≤ℤ d → pos 0 ≤ℤ scaled_value f x d
 holds_everywhere f x d zeros h one = only_constant (dot f.coefs x) (pos 0) (d *ℤ f.constant) (dot-cancelled f x zeros) (nonneg_product d f.constant (weaken d one) h)
-
-pub implied_lists : (f g : Affine) (cs es : List ℤ) (p q m n : ℤ) → cs ≡ f.coefs → es ≡ g.coefs → p ≡ f.constant → q ≡ g.constant
-    → pos 1 ≤ℤ m → pos 1 ≤ℤ n → length f.coefs ≡ length g.coefs
-    → ((j : ℕ) → j < length cs → get_or cs j (pos 0) *ℤ m ≡ get_or es j (pos 0) *ℤ n) → (p *ℤ m) ≤ℤ (q *ℤ n) → Implies f g
-implied_lists f g cs es p q m n a b k l one two w h o =
-    let h' = subst (λ zs. (j : ℕ) → j < length zs → get_or zs j (pos 0) *ℤ m ≡ get_or es j (pos 0) *ℤ n) a h in
-    let h'' = subst (λ zs. (j : ℕ) → j < length f.coefs → get_or f.coefs j (pos 0) *ℤ m ≡ get_or zs j (pos 0) *ℤ n) b h' in
-    let o' = subst (λ z. (z *ℤ m) ≤ℤ (q *ℤ n)) k o in
-    implied m n f g one two w h'' (subst (λ z. (f.constant *ℤ m) ≤ℤ (z *ℤ n)) l o')
-
-pub implied_back : (f g : Affine) (cs es : List ℤ) (p q m n : ℤ) → cs ≡ f.coefs → es ≡ g.coefs → p ≡ f.constant → q ≡ g.constant
-    → pos 1 ≤ℤ m → pos 1 ≤ℤ n → length f.coefs ≡ length g.coefs
-    → ((j : ℕ) → j < length cs → get_or cs j (pos 0) *ℤ m ≡ get_or es j (pos 0) *ℤ n) → (q *ℤ n) ≤ℤ (p *ℤ m) → Implies g f
-implied_back f g cs es p q m n a b k l one two w h o =
-    let e : length cs ≡ length es = ap length a ∙ w ∙ sym (ap length b) in
-    implied_lists g f es cs q p n m b a l k two one (sym w) (λ j lt. sym (h j (subst (λ n. j < n) (sym e) lt))) o

@@ -1,9 +1,9 @@
--- Lists with one element more, or the first of them.
-use Rattle.std.proofs.Common.{◌≡◌, ℕ, ◌+◌, ◌<◌, ◌≤◌, List, [], ◌∷◌, ◌++◌, length, take, get_or, sym, subst}
+-- The first elements of lists, and what results hold.
+use Rattle.std.proofs.Common.{◌≡◌, ℕ, ◌+◌, ◌<◌, List, [], ◌∷◌, ◌++◌, length, take, get_or, subst}
 use Rattle.std.specs.List.{All}
-use Rattle.std.specs.Prelude.{Result, Ok, Err, IfOk, IfErr, OnOk}
-use Rattle.std.proofs.lemmas.List.{take_more, take_all}
-use Rattle.std.proofs.lemmas.List.Elements.{All-nil, All-cons, All-head, All-tail, All-push}
+use Rattle.std.specs.Prelude.{Result, Ok, Err, IfOk, IfErr}
+use Rattle.std.proofs.lemmas.List.{take_more}
+use Rattle.std.proofs.lemmas.List.Elements.{All-nil, All-cons, All-head, All-tail}
 
 front : {X : Type 0} (P : X → Type 0) (xs : List X) (y : X) → All P (xs ++ y ∷ []) → All P xs
 front P [] y h = All-nil P
@@ -19,18 +19,12 @@ into_front P xs ys y e h = front P xs y (subst (All P) e h)
 pub into_last : {X : Type 0} (P : X → Type 0) (xs ys : List X) (y : X) → ys ≡ xs ++ y ∷ [] → All P ys → P y
 into_last P xs ys y e h = last P xs y (subst (All P) e h)
 
-pub pushed : {X : Type 0} (P : X → Type 0) (xs ys : List X) (y : X) → ys ≡ xs ++ y ∷ [] → All P xs → P y → All P ys
-pushed P xs ys y e h k = subst (All P) (sym e) (All-push P xs y h k)
-
 -- what holds of the first elements and one more holds of each
 pub take_front : {X : Type 0} (P : X → Type 0) (xs : List X) (i : ℕ) (d : X) → i < length xs → All P (take (i + 1) xs) → All P (take i xs)
 take_front P xs i d h a = into_front P (take i xs) (take (i + 1) xs) (get_or xs i d) (take_more xs i d h) a
 
 pub take_last : {X : Type 0} (P : X → Type 0) (xs : List X) (i : ℕ) (d : X) → i < length xs → All P (take (i + 1) xs) → P (get_or xs i d)
 take_last P xs i d h a = into_last P (take i xs) (take (i + 1) xs) (get_or xs i d) (take_more xs i d h) a
-
-pub take_whole : {X : Type 0} (P : X → Type 0) (xs : List X) (i : ℕ) → length xs ≤ i → All P (take i xs) → All P xs
-take_whole P xs i h a = subst (All P) (take_all i xs h) a
 
 -- another fact of the value in a result
 pub on_value : {T E : Type 0} (r : Result T E) (P Q : T → Type 0) → ((x : T) → P x → Q x) → IfOk r P → IfOk r Q
@@ -40,11 +34,3 @@ on_value (Err e) P Q f h = tt
 pub on_fault : {T E : Type 0} (r : Result T E) (P Q : E → Type 0) → ((x : E) → P x → Q x) → IfErr r P → IfErr r Q
 on_fault (Ok x) P Q f h = tt
 on_fault (Err e) P Q f h = f e h
-
-pub on_ok : {T E : Type 0} (r : Result T E) (P Q : Type 0) → (P → Q) → OnOk r P → OnOk r Q
-on_ok (Ok x) P Q f h = f h
-on_ok (Err e) P Q f h = tt
-
-pub on_both : {T E : Type 0} (r : Result T E) (P Q R : Type 0) → (P → Q → R) → OnOk r P → OnOk r Q → OnOk r R
-on_both (Ok x) P Q R f h k = f h k
-on_both (Err e) P Q R f h k = tt

@@ -1,17 +1,16 @@
 -- Weights: their sums, divisors and quotients.
-use Rattle.std.proofs.Common.{◌≡◌, ℕ, zero, suc, ◌+◌, ◌*◌, ◌/◌, ◌^◌, ◌<◌, ◌≤◌, List, [], ◌∷◌, length, take, map, get_or, refl, sym, subst, inl, inr, ◌∙◌, ap, arith}
+use Rattle.std.proofs.Common.{◌≡◌, ℕ, zero, suc, ◌+◌, ◌*◌, ◌/◌, ◌^◌, ◌<◌, ◌≤◌, List, [], ◌∷◌, length, map, get_or, refl, sym, subst, inl, inr, ◌∙◌, ap, arith}
 use Prim.Native.Nat.{◌∣◌}
 use Rattle.std.specs.List.{All}
 use Rattle.std.specs.Int.{IsGcd}
-use Rattle.std.proofs.lemmas.List.Elements.{All-head, All-tail, All-weaker, All-more}
+use Rattle.std.proofs.lemmas.List.Elements.{All-head, All-tail}
 use Rattle.std.proofs.lemmas.List.{get_or-map}
-use Rattle.std.proofs.lemmas.Nat.Gcd.{dvd_trans, dvd_antisymm, dvd-zero, mod-eq-zero_of_dvd}
+use Rattle.std.proofs.lemmas.Nat.Gcd.{dvd_antisymm, dvd-zero, mod-eq-zero_of_dvd}
 use Rattle.std.proofs.Common.{ℤ, pos, ◌+ℤ◌, ◌*ℤ◌, ◌<ℤ◌}
 use Rattle.std.proofs.lemmas.Int.{ints}
 use lib.IntN.{zero-*ℤ}
 use Rattle.affc_rows.specs.Forms.{dot}
 use Rattle.affc_farkas.specs.Eliminations.{mixed_weights, HasFrom, AreDivided, AreFactors, PassesLimit}
-use Rattle.affc_farkas.proofs.Lists.{take_front, take_last}
 
 pub has_from : (bound : ℕ) (ws : List ℕ) (i : ℕ) → i < length ws → bound ≤ get_or ws i 0 → HasFrom bound ws
 has_from bound [] i h k = absurd (omega arith)
@@ -30,11 +29,6 @@ mixed_weights-at s (w ∷ ws) t [] i h k = absurd (omega arith)
 mixed_weights-at s (w ∷ ws) t (v ∷ vs) zero h k = refl
 mixed_weights-at s (w ∷ ws) t (v ∷ vs) (suc i) h k = mixed_weights-at s ws t vs i (omega arith) (omega arith)
 
-pub mixed_wide : (bound s : ℕ) (ws : List ℕ) (t : ℕ) (vs : List ℕ) (i : ℕ) → length ws ≡ length vs → i < length ws
-    → bound ≤ s * get_or ws i 0 + t * get_or vs i 0 → HasFrom bound (mixed_weights s ws t vs)
-mixed_wide bound s ws t vs i h k w =
-    has_from bound (mixed_weights s ws t vs) i (subst (λ n. i < n) (sym (length-mixed_weights s ws t vs h)) k) (subst (λ n. bound ≤ n) (sym (mixed_weights-at s ws t vs i h k)) w)
-
 length-map' : (ws : List ℕ) (divisor : ℕ) → length (map (λ w. w / divisor) ws) ≡ length ws
 length-map' [] divisor = refl
 length-map' (w ∷ ws) divisor = ap suc (length-map' ws divisor)
@@ -42,16 +36,6 @@ length-map' (w ∷ ws) divisor = ap suc (length-map' ws divisor)
 pub divided_wide : (bound divisor : ℕ) (ws : List ℕ) (i : ℕ) → i < length ws → bound ≤ get_or ws i 0 / divisor → HasFrom bound (map (λ w. w / divisor) ws)
 divided_wide bound divisor ws i h k =
     has_from bound (map (λ w. w / divisor) ws) i (omega (arith, length-map' ws divisor)) (subst (λ n. bound ≤ n) (sym (get_or-map (λ w. w / divisor) ws i 0 0 h)) k)
-
--- one number more
-pub divides_more : (old new n : ℕ) (ns : List ℕ) (i : ℕ) → i < length ns → n ≡ get_or ns i 0 → IsGcd old n new → All (λ m. old ∣ m) (take i ns) → All (λ m. new ∣ m) (take (i + 1) ns)
-divides_more old new n ns i h e g a =
-    All-more (λ m. new ∣ m) ns i 0 h (All-weaker (λ m. old ∣ m) (λ m. new ∣ m) (λ m d. dvd_trans new g.0 d) (take i ns) a) (subst (λ m. new ∣ m) e g.1)
-
-pub greatest_more : (old new n : ℕ) (ns : List ℕ) (i : ℕ) → i < length ns → n ≡ get_or ns i 0 → IsGcd old n new
-    → ((k : ℕ) → All (λ m. k ∣ m) (take i ns) → k ∣ old) → (k : ℕ) → All (λ m. k ∣ m) (take (i + 1) ns) → k ∣ new
-greatest_more old new n ns i h e g all k a =
-    g.2 k (all k (take_front (λ m. k ∣ m) ns i 0 h a)) (subst (λ m. k ∣ m) (sym e) (take_last (λ m. k ∣ m) ns i 0 h a))
 
 -- the quotients by a common divisor, times it, are the numbers
 quotient : (d w : ℕ) → 1 ≤ d → d ∣ w → d * (w / d) ≡ w

@@ -89,10 +89,3 @@ pub data IsTable (columns : ℕ) (rows : List Affine) : List Pair → List (List
 pub record IsElimination (columns : ℕ) (rows : List Affine) (made : List Pair) : Type 0 where
   pub table : List (List ℕ)
   pub is_table : IsTable columns rows made table
-
--- the pairs with this one after them are an elimination, in whose last row a weight passes a limit
-pub record IsTooWide (columns : ℕ) (rows : List Affine) (made : List Pair) (next : Pair) : Type 0 where
-  pub table : List (List ℕ)
-  pub is_table : IsTable columns rows made table
-  pub is_next : IsNext columns rows made table next
-  pub wide : IsWide rows next.column (slice_index_or table next.first []) (slice_index_or table next.second [])

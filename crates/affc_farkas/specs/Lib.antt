@@ -3,10 +3,6 @@ pub mod Proofs
 pub mod Chain
 pub mod Rational
 pub mod Eliminations
-pub mod Sums
-pub mod Steps
-pub mod Admissions
-pub mod Answers
 pub mod Examples
 pub mod Measures
 pub mod Depths

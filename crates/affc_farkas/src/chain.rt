@@ -26,7 +26,7 @@ pub(crate) enum Added<'a> {
 }
 
 /// The entry of a row at a place.
-pub(crate) fn entry(row: &Form, column: usize) -> i128
+fn entry(row: &Form, column: usize) -> i128
     requires { column ≤ length row.now.coefs }
     ensures { result ≡ entry_of row.now column }
 {

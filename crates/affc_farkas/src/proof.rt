@@ -248,14 +248,6 @@ impl Multipliers {
         }
     }
 
-    /// These pairs, which keep the rules.
-    pub(crate) fn from_checked(pairs: Vec<(u32, u64)>) -> Multipliers
-        requires { AreMultipliers pairs.items }
-        ensures { result ≡ pairs.items }
-    {
-        Multipliers { pairs }
-    }
-
     /// The pairs of a row number and its multiplier.
     pub fn pairs(&self) -> &[(u32, u64)]
         ensures pairs { result.now ≡ self.now }

@@ -42,6 +42,11 @@ fn small_systems(rt: HostRuntime) -> Result<(), Fail> {
         ([[1, 0, -3], [-1, 0, 2]].as_slice(), 0, Outcome::Rows(1, 1)),
         ([[1, 0, -3], [-1, 0, 2]].as_slice(), 2, Outcome::Rows(2, 0)),
         ([[1, 0, 0], [-1, 0, 5]].as_slice(), 0, Outcome::Rows(0, 1)),
+        (
+            [[1, 1, 0], [0, 0, -1], [1, -1, 0]].as_slice(),
+            1,
+            Outcome::Rows(1, 0),
+        ),
     ] {
         let system = plane(alloc, rows)?;
         assert_eq!(rt; outcome_of(alloc, &system, keep)?, want);

@@ -3,9 +3,10 @@ use Rattle.std.specs.Prelude.{◌≡◌, ◌⊎◌, ℕ, suc, ◌+◌, ◌-◌, 
 use Rattle.affc_rows.specs.Forms.{Affine}
 use Rattle.affc_system.specs.Systems.{Rows}
 use Rattle.affc_farkas.specs.Rational.{RationalPoint}
-use Rattle.affc_farkas.specs.Eliminations.{IsElimination, IsTooWide}
+use Rattle.affc_farkas.specs.Eliminations.{IsElimination}
 use Rattle.affc_farkas.specs.declared.pair.Pair.{Pair}
 use Rattle.affc_farkas.specs.declared.proof.Proof.{Proof, Leaf, Cut', Split'}
+use Rattle.affc_project.specs.Projections.{IsTooWide}
 
 -- the coefficients of column j alone, with n columns after it
 abbrev pub unit : ℕ → ℕ → List ℤ

@@ -15,10 +15,11 @@ use Rattle.affc_eliminate.specs.Mixtures.{forms_of}
 use Rattle.affc_eliminate.specs.declared.kept.Kept.{Kept}
 use Rattle.affc_eliminate.proofs.Values.{entry_last}
 use Rattle.affc_project.specs.Projections.{ExtendsWhole, IsRowOfTable, AreProjected, AreFrom}
-use Rattle.affc_project.specs.States.{IsIn, AreZero, IsState, IsCancelled, AreInputs, AreLeft, IsDone, IsLeast, AreReduced}
+use Rattle.affc_project.specs.States.{IsIn, AreZero, IsState, IsContradiction, HasContradiction, IsCancelled, AreInputs, AreLeft, IsDone, IsLeast, AreReduced}
 use Rattle.affc_project.specs.declared.work.Work.{Work}
 use Rattle.affc_project.proofs.Tables.{live_width, live_entry}
 use Rattle.affc_project.proofs.Points.{same_first, both_ways, itself}
+use Rattle.affc_project.proofs.Contradictions.{no_point, both_none, state_alone, zero_alone, itself_alone}
 use Rattle.affc_project.proofs.Inputs.{forms_of_inputs, state_of_inputs}
 
 -- ---- Columns that are still to be cancelled
@@ -87,7 +88,7 @@ columns_more first column old new le is inside all = (
 -- some columns are still to be cancelled
 pub record IsRun (columns : ℕ) (rows : List Affine) (keep : ℕ) (left : List ℕ) (made : List Pair) (live : List Kept) : Type 0 where
   pub state : IsState columns rows made live
-  pub few : length made < 4096
+  pub few : (length made < 4096) ⊎ HasContradiction live
   pub beyond : AreFrom keep made
   pub left_over : AreLeft columns keep left live
   pub same_points : (whole : List ℤ) → length whole ≡ keep → ExtendsWhole columns (forms_of live) whole ↔ ExtendsWhole columns rows whole
@@ -99,7 +100,7 @@ pub run_start : (columns : ℕ) (rows : List Affine) (keep : ℕ) (left : List �
     → All (λ c. (keep ≤ c) × (c < columns)) left → ((j : ℕ) → keep ≤ j → j < columns → Contains left j) → IsRun columns rows keep left [] live
 run_start columns rows keep left live few w h inside all = record {
   state = state_of_inputs columns rows live few w h;
-  few = none_made;
+  few = inl none_made;
   beyond = All-nil (λ p. keep ≤ p.column);
   left_over = record { inside = inside; others = λ j le lt. inl (all j le lt) };
   same_points = λ whole l. subst (λ fs. ExtendsWhole columns fs whole ↔ ExtendsWhole columns rows whole) (sym (forms_of_inputs rows live h)) (itself (ExtendsWhole columns rows whole));
@@ -141,6 +142,21 @@ run_end columns rows keep left made live e h = record {
   zeros = λ j le lt. elim (h.left_over.others j le lt) [ inl still ↦ absurd (no_element j (subst (λ ns. Contains ns j) e still)) | inr zeros ↦ zeros ];
   same_points = h.same_points;
 }
+
+-- a row that no point meets ends the loop, alone
+pub run_over : (columns : ℕ) (rows : List Affine) (keep : ℕ) (left : List ℕ) (made : List Pair) (live last : List Kept) (k : Kept) → IsRun columns rows keep left made live → Contains live k → IsContradiction k.row → last ≡ k ∷ []
+    → IsDone columns rows keep made last
+run_over columns rows keep left made live last k h c i e = subst (IsDone columns rows keep made) (sym e) (record {
+  state = state_alone columns rows made live k h.state c;
+  beyond = h.beyond;
+  zeros = λ j le lt. zero_alone columns rows made live k j h.state c i lt;
+  same_points = λ whole l. both_none (ExtendsWhole columns (forms_of (k ∷ [])) whole) (ExtendsWhole columns rows whole)
+      (λ e. no_point columns (k ∷ []) (k, itself_alone k, i) e.point)
+      (λ e. no_point columns live (k, c, i) ((h.same_points whole l).1 e).point);
+})
+
+pub run_few : (columns : ℕ) (rows : List Affine) (keep : ℕ) (left : List ℕ) (made : List Pair) (live : List Kept) → IsRun columns rows keep left made live → All (λ k. IsContradiction k.row → ⊥) live → length made < 4096
+run_few columns rows keep left made live h none = elim h.few [ inl few ↦ few | inr some ↦ absurd (All-contains (λ q. IsContradiction q.row → ⊥) live some.0 none some.1 some.2) ]
 
 -- the columns that are left are columns of the rows
 lt_le : (a b : ℕ) → a < b → a ≤ b

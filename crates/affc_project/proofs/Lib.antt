@@ -6,5 +6,6 @@ pub mod Inputs
 pub mod Steps
 pub mod Parts
 pub mod Leasts
+pub mod Contradictions
 pub mod Ends
 pub mod ExampleProofs

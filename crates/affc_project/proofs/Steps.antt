@@ -19,7 +19,7 @@ use Rattle.affc_eliminate.specs.declared.kept.Kept.{Kept}
 use Rattle.affc_eliminate.proofs.Added.{added_all}
 use Rattle.affc_eliminate.proofs.Exactness.{factor_of_zero}
 use Rattle.affc_project.specs.Projections.{AreFrom}
-use Rattle.affc_project.specs.States.{IsIn, AreZero, IsState, IsCancelled}
+use Rattle.affc_project.specs.States.{IsIn, AreZero, IsState, HasContradiction, IsCancelled}
 use Rattle.affc_project.specs.declared.work.Work.{Work}
 use Rattle.affc_project.proofs.Tables.{weights_of, live_width, table_of_step, step_columns, live_in, added_in, first_pairs}
 use Rattle.affc_project.proofs.Wides.{still_from}
@@ -127,7 +127,7 @@ state_of_step Answers columns rows column made ps live new lt h e =
     }
 
 pub cancelled : (Answers : Affine → Affine → Bool → Type 0) (columns : ℕ) (rows : List Affine) (column free : ℕ) (made more : List Pair) (live : List Kept) (new : Work) → column < columns → free ≡ length rows + length made
-    → IsState columns rows made live → AreEliminated Answers live column free new.live.items more → new.made.items ≡ made ++ more → length new.made.items < 4096 → IsCancelled columns rows column made live new
+    → IsState columns rows made live → AreEliminated Answers live column free new.live.items more → new.made.items ≡ made ++ more → (length new.made.items < 4096) ⊎ HasContradiction new.live.items → IsCancelled columns rows column made live new
 cancelled Answers columns rows column free made more live new lt same h e' is few =
     let start = length rows + length made in
     let e = subst (λ z. AreEliminated Answers live column z new.live.items more) same e' in

@@ -1,3 +1,4 @@
 pub mod Projections
 pub mod States
+pub mod Answers
 pub mod Examples

@@ -1,5 +1,5 @@
 -- The state of a projection: the rows that are left, and what the pairs that were made have to do with them.
-use Rattle.std.specs.Prelude.{◌≡◌, ◌⊎◌, ◌↔◌, ℕ, zero, suc, ◌<◌, ◌≤◌, List, [], ◌∷◌, ◌++◌, length, slice_index_or, ℤ, pos, unsigned_abs}
+use Rattle.std.specs.Prelude.{◌≡◌, ◌⊎◌, ◌↔◌, ℕ, zero, suc, ◌<◌, ◌≤◌, List, [], ◌∷◌, ◌++◌, length, slice_index_or, ℤ, pos, ◌<ℤ◌, unsigned_abs}
 use Rattle.std.specs.List.{All, Contains}
 use Prim.Native.Nat.{◌∣◌}
 use Rattle.affc_rows.specs.Forms.{Affine}
@@ -29,6 +29,13 @@ pub record IsIn (count : ℕ) (table : List (List ℕ)) (k : Kept) : Type 0 wher
 abbrev pub AreZero : ℕ → List Kept → Type 0
 AreZero column live = All (λ k. entry_of k.row column ≡ pos 0) live
 
+-- no point meets the row: its coefficients are 0, and its constant is below 0
+abbrev pub IsContradiction : Affine → Type 0
+IsContradiction row = ((j : ℕ) → j < length row.coefs → entry_of row j ≡ pos 0) × (row.constant <ℤ pos 0)
+
+abbrev pub HasContradiction : List Kept → Type 0
+HasContradiction live = (k : Kept) × Contains live k × IsContradiction k.row
+
 -- rows that are left of an elimination: they stand in its table, and are 0 in each column that was cancelled
 pub record IsState (columns : ℕ) (rows : List Affine) (made : List Pair) (live : List Kept) : Type 0 where
   pub table : List (List ℕ)
@@ -38,10 +45,11 @@ pub record IsState (columns : ℕ) (rows : List Affine) (made : List Pair) (live
   pub numbered : AreNumbered live
   pub cancelled : All (λ q. (q.column < columns) × AreZero q.column live) made
 
--- one column less: it is 0 in each row that is left, and the same points extend over the columns before it
+-- one column less: it is 0 in each row that is left, and the same points extend over the columns before it; there are few pairs, or no
+-- point meets some row
 pub record IsCancelled (columns : ℕ) (rows : List Affine) (column : ℕ) (made : List Pair) (live : List Kept) (new : Work) : Type 0 where
   pub state : IsState columns rows new.made.items new.live.items
-  pub few : length new.made.items < 4096
+  pub few : (length new.made.items < 4096) ⊎ HasContradiction new.live.items
   pub zero : AreZero column new.live.items
   pub still : (j : ℕ) → j < columns → AreZero j live → AreZero j new.live.items
   pub beyond : (keep : ℕ) → keep ≤ column → AreFrom keep made → AreFrom keep new.made.items

@@ -3,6 +3,7 @@ ghost use Rattle.std.specs.Prelude.{◌≡◌, ℕ, ◌<◌, ◌≤◌, ◌∷�
 ghost use Rattle.std.specs.List.{All, Contains};
 ghost use Rattle.affc_project.specs.States.{AreInputs, IsDone, IsStop};
 
+use crate::contradiction::{alone, contradiction};
 use crate::work::{Stop, Work, advance, pairs_of};
 use affc_eliminate::{Kept, Screen, Test};
 use affc_farkas::Multipliers;
@@ -67,7 +68,7 @@ fn fewest(live: &[Kept], left: &[u32]) -> usize
     best
 }
 
-/// Eliminates the columns from `keep` on.
+/// Eliminates the columns from `keep` on. Once no point meets some row, that row alone is left.
 pub(crate) fn eliminated<F: Test>(
     alloc: Global,
     system: &System,
@@ -89,6 +90,12 @@ pub(crate) fn eliminated<F: Test>(
         made: Vec::new(alloc),
     };
     'columns: while !left.is_empty() {
+        if let Some(place) = contradiction(work.live.as_slice()) {
+            let Ok(last) = alone(alloc, work, place) else {
+                return Err(Stop::Memory);
+            };
+            return Ok(last);
+        }
         let place = fewest(work.live.as_slice(), left.as_slice());
         let column = left.remove(place);
         work = match advance(alloc, system, screen, column, work) {

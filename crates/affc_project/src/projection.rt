@@ -51,7 +51,8 @@ fn projected_by<F: Test>(
 }
 
 /// The rows over the first `keep` columns that say what the system says of them (Fourier and Motzkin): whole numbers meet them
-/// exactly where they extend to a rational point of the system. Each time the column that makes the fewest pairs is eliminated.
+/// exactly where they extend to a rational point of the system. Each time the column that makes the fewest pairs is eliminated. Once
+/// a row says that a number below 0 is at least 0, that row alone is left.
 pub fn project(alloc: Global, system: &System, keep: u32) -> Result<Projected, AllocError>
     requires { keep ≤ system.now.columns }
     ensures { IfOk result (IsProjection system.now.columns system.now.rows keep) }

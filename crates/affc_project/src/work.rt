@@ -1,9 +1,10 @@
 //! The rows that are left of an elimination, and one column less.
-ghost use Rattle.std.specs.Prelude.{◌≡◌, ℕ, ◌<◌, ◌≤◌, ◌++◌, length, IfOk, IfErr};
+ghost use Rattle.std.specs.Prelude.{◌≡◌, ◌⊎◌, ℕ, ◌<◌, ◌≤◌, ◌++◌, false, length, IfOk, IfErr, IsTrue};
 ghost use Rattle.std.specs.List.{All};
 ghost use Rattle.affc_project.specs.Projections.{AreFrom};
-ghost use Rattle.affc_project.specs.States.{IsState, IsCancelled, IsStop};
+ghost use Rattle.affc_project.specs.States.{IsState, HasContradiction, IsCancelled, IsStop};
 
+use crate::contradiction::has_contradiction;
 use affc_eliminate::{Kept, Screen, Step, Test, eliminate};
 use affc_farkas::Pair;
 use affc_system::System;
@@ -36,7 +37,15 @@ fn joined(made: Vec<Pair>, more: &[Pair]) -> Result<Vec<Pair>, AllocError>
     Ok(all)
 }
 
-/// Eliminates the column from the rows.
+/// Whether these rows are gone on with: the pairs are few, or no point meets some row.
+fn may_go_on(live: &[Kept], made: &[Pair]) -> bool
+    ensures yes { IsTrue result → (length made.now < 4096) ⊎ HasContradiction live.now }
+    ensures no { result ≡ false → 4096 ≤ length made.now }
+{
+    made.len() < MOST_PAIRS || has_contradiction(live)
+}
+
+/// Eliminates the column from the rows. More pairs than the most are kept where some row says that there is no point.
 fn cancel<F: Test>(
     alloc: Global,
     system: &System,
@@ -60,7 +69,7 @@ fn cancel<F: Test>(
             let Ok(mut all) = joined(made, more.as_slice()) else {
                 return Err(Stop::Memory);
             };
-            if all.len() < MOST_PAIRS {
+            if may_go_on(rows.as_slice(), all.as_slice()) {
                 return Ok(Work {
                     live: rows,
                     made: all,
@@ -110,7 +119,7 @@ fn enough(live: &[Kept], column: usize) -> usize
 }
 
 /// Eliminates the column from the rows that are left. Where the first rows make too many pairs, they are asked alone, so that no
-/// more pairs than a few times too many are ever made.
+/// more pairs than a few times too many are ever made; where these have no point, all have none.
 pub(crate) fn advance<F: Test>(
     alloc: Global,
     system: &System,
@@ -132,7 +141,11 @@ pub(crate) fn advance<F: Test>(
         };
         let first = &live.as_slice()[..count];
         match cancel(alloc, system, screen, column, first, copy) {
-            Ok(_) => {}
+            Ok(part) => {
+                if has_contradiction(part.live.as_slice()) {
+                    return Ok(part);
+                }
+            }
             Err(stop) => return Err(stop),
         }
     }

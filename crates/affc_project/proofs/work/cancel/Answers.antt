@@ -1,8 +1,9 @@
-use Rattle.std.proofs.Common.{◌≡◌, ℕ, ◌+◌, ◌≤◌, ◌<◌, ◌++◌, ◌∷◌, [], length, ap, sym, subst, ◌∙◌, arith}
+use Rattle.std.proofs.Common.{◌≡◌, ◌⊎◌, ℕ, refl, ◌+◌, ◌≤◌, ◌<◌, ◌++◌, ◌∷◌, [], length, ap, sym, subst, ◌∙◌, arith}
 use Rattle.affc_farkas.specs.Eliminations.{IsElimination}
 use Rattle.affc_eliminate.specs.Steps.{AreReady, IsStep}
 use Rattle.affc_eliminate.specs.declared.kept.Step.TheVariants.{Rows, TooWide}
 use Rattle.affc_project.specs.Projections.{IsTooWide, AreFrom}
+use Rattle.affc_project.specs.States.{HasContradiction}
 use Rattle.affc_project.proofs.Wides.{too_wide, next_from}
 use Rattle.affc_project.proofs.Steps.{is_ready, cancelled, too_many}
 use Rattle.affc_project.proofs.work.cancel.Goals as goal
@@ -13,14 +14,17 @@ eliminate-requires g c =
     let same : length rows + length c.args.made.items ≡ length c.rows.result.now + c.len.result = omega (arith, ap length c.rows.ensures.rows, c.len.ensures, c.args.made.ok) in
     subst (AreReady c.args.live.now c.args.column) same (is_ready c.args.system.now.columns rows c.args.column c.args.made.items c.args.live.now c.requires.column_in c.requires.few c.requires.state)
 
-pub returns-then-len-lt-MOST_PAIRS-clause-ok : goal.returns-then-len-lt-MOST_PAIRS-clause-ok
-returns-then-len-lt-MOST_PAIRS-clause-ok g c =
+pub returns-then-may_go_on-clause-ok : goal.returns-then-may_go_on-clause-ok
+returns-then-may_go_on-clause-ok g c =
     let rows = c.args.system.now.rows in
     let made = c.args.made.items in
     let A = g.F.Test.answers c.args.screen.now.test in
     let free : ℕ = length c.rows.result.now + c.len.result in
     let same : free ≡ length rows + length made = omega (arith, ap length c.rows.ensures.rows, c.len.ensures, c.args.made.ok) in
-    let few : length c.in-Ok-joined.all.items < 4096 = omega (arith, c.in-Ok-joined.all.ok, c.len-in-Rows.ensures, c.if-len-lt-MOST_PAIRS.true) in
+    let all = c.in-Ok-joined.all.items in
+    let few : (length all < 4096) ⊎ HasContradiction c.in-Rows.rows.items =
+    subst (λ ks. (length all < 4096) ⊎ HasContradiction ks) c.as_slice-in-Rows.ensures.value
+    (subst (λ ms. (length ms < 4096) ⊎ HasContradiction c.as_slice-in-Rows.result.now) c.as_slice-in-Rows-2.ensures.value (c.if-may_go_on.ensures.yes refl)) in
     cancelled A c.args.system.now.columns rows c.args.column free made c.in-Rows.more.items c.args.live.now (record { live = c.in-Rows.rows; made = c.in-Ok-joined.all }) c.requires.column_in same c.requires.state
     (subst (IsStep A c.args.live.now c.args.column free) c.in-Rows.is c.in-Ok.ensures) (c.in-Ok-joined.ensures ∙ ap (λ ms. made ++ ms) c.as_slice.ensures.value) few
 
@@ -32,7 +36,7 @@ returns-in-Rows-clause-stop g c = λ keep le from.
     let A = g.F.Test.answers c.args.screen.now.test in
     let free : ℕ = length c.rows.result.now + c.len.result in
     let all = c.in-Ok-joined.all.items in
-    let many : 4096 ≤ length all = omega (arith, c.in-Ok-joined.all.ok, c.len-in-Rows.ensures, c.if-len-lt-MOST_PAIRS.false) in
+    let many : 4096 ≤ length all = subst (λ ms. 4096 ≤ length ms) c.as_slice-in-Rows-2.ensures.value (c.if-may_go_on.ensures.no refl) in
     let step : IsStep A c.args.live.now c.args.column free (Rows c.in-Rows.rows c.in-Rows.more) = subst (IsStep A c.args.live.now c.args.column free) c.in-Rows.is c.in-Ok.ensures in
     subst (λ ms. IsElimination columns rows ms × (length ms ≡ 4096) × AreFrom keep ms) (sym c.truncate.ensures.items)
     (too_many columns rows c.args.column free made c.in-Rows.more.items all c.args.live.now c.requires.column_in c.requires.state step.add_each
