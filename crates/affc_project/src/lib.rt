@@ -2,6 +2,7 @@
 #![tactic(auto)]
 
 mod contradiction;
+mod direction;
 mod elimination;
 pub mod examples;
 mod least;

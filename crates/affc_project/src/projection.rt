@@ -3,10 +3,11 @@ ghost use Rattle.std.specs.Prelude.{◌≤◌, IfOk};
 ghost use Rattle.affc_eliminate.specs.Screens.{TakesForms, ImpliesWhereTrue};
 ghost use Rattle.affc_project.specs.Projections.{IsProjection};
 
+use crate::direction::same_direction;
 use crate::elimination::eliminated;
 use crate::least::reduced;
 use crate::work::{Stop, Work};
-use affc_eliminate::{Screen, Test, same_slope};
+use affc_eliminate::{Screen, Test};
 use affc_farkas::Pair;
 use affc_rows::Form;
 use affc_system::System;
@@ -57,5 +58,5 @@ pub fn project(alloc: Global, system: &System, keep: u32) -> Result<Projected, A
     requires { keep ≤ system.now.columns }
     ensures { IfOk result (IsProjection system.now.columns system.now.rows keep) }
 {
-    projected_by(alloc, system, keep, same_slope)
+    projected_by(alloc, system, keep, same_direction)
 }

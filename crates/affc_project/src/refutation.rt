@@ -5,9 +5,10 @@ ghost use Rattle.affc_project.specs.Answers.{IsAnswer};
 ghost use Rattle.affc_project.specs.States.{IsDone};
 
 use crate::contradiction::contradiction;
+use crate::direction::same_direction;
 use crate::elimination::eliminated;
 use crate::work::{Stop, Work};
-use affc_eliminate::{Screen, Test, same_slope};
+use affc_eliminate::{Screen, Test};
 use affc_farkas::{Multipliers, Pair};
 use affc_system::System;
 use std::alloc::{AllocError, Global};
@@ -62,5 +63,5 @@ fn refuted_by<F: Test>(alloc: Global, system: &System, test: F) -> Result<Refuta
 pub fn refute(alloc: Global, system: &System) -> Result<Refutation, AllocError>
     ensures { IfOk result (IsAnswer system.now.columns system.now.rows) }
 {
-    refuted_by(alloc, system, same_slope)
+    refuted_by(alloc, system, same_direction)
 }
