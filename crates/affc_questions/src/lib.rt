@@ -12,6 +12,6 @@ mod named;
 mod rows;
 
 pub use context::{greater_question, one_system, positive_question, whole_context};
-pub use distances::{distance_questions, is_behind, shown_system};
+pub use distances::{distance_rows, is_behind, shown_system};
 pub use leaf::leaf_questions;
 pub use long::Long;
