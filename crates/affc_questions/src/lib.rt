@@ -5,6 +5,7 @@ mod beside;
 pub mod context;
 pub mod distances;
 mod image;
+pub mod laws;
 pub mod leaf;
 mod lists;
 pub mod long;

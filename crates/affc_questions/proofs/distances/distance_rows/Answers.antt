@@ -1,8 +1,4 @@
-use Rattle.std.proofs.Common.{sym, subst}
-use Rattle.std.specs.List.{All}
-use Rattle.std.proofs.lemmas.List.Elements.{All-take}
-use Rattle.affc_questions.specs.Asked.{AreElements}
-use Rattle.affc_questions.proofs.DistanceLemmas.{straight_at, turned_at, all_elements, questions_made}
+use Rattle.affc_questions.proofs.DistanceLemmas.{straight_at, turned_at}
 use Rattle.affc_questions.proofs.distances.distance_rows.Goals as goal
 
 pub add_distance-requires-clause-elements : goal.add_distance-requires-clause-elements
