@@ -61,6 +61,27 @@ pub right_is_not_refused : (layout : Layout) (c : Cert) (e : CertFault) → refu
 right_is_not_refused layout c e right (inl h) = let no : None ≡ Some e = sym right ∙ h in absurd (cc)
 right_is_not_refused layout c e right (inr b) = not_broken layout c e b
 
+-- ---- One refusal
+
+-- a fold before the first broken one isn't broken
+not_before : (fs : List FoldEntry) (k n : ℕ) → IsFirstBroken fs k → IsFirstBroken fs n → k < n → ⊥
+not_before fs k n f g h = f.broken (g.before k f.entry h f.there)
+
+first_once : (fs : List FoldEntry) (k n : ℕ) → IsFirstBroken fs k → IsFirstBroken fs n → k ≡ n
+first_once fs k n f g = omega (arith, not_before fs k n f g, not_before fs n k g f)
+
+broken_once : (layout : Layout) (d : Data) (e f : CertFault) → IsBroken layout d e → IsBroken layout d f → e ≡ f
+broken_once layout d e f b c =
+    let same : c.folds ≡ b.folds = folds_same c.folds b.folds (same_Some _ _ (sym c.there ∙ b.there)) in
+    let number : b.number ≡ c.number = first_once b.folds b.number c.number b.first_broken (subst (λ fs. IsFirstBroken fs c.number) same c.first_broken) in
+    b.fault ∙ ap (λ n. fault.Shape (1 + length layout.loads + n)) number ∙ sym c.fault
+
+pub one_refusal : (layout : Layout) (d : Data) (e f : CertFault) → Refuses layout d e → Refuses layout d f → e ≡ f
+one_refusal layout d e f (inl h) (inl g) = same_Some e f (sym h ∙ g)
+one_refusal layout d e f (inl h) (inr c) = let no : Some e ≡ None = sym h ∙ c.else_right in absurd (cc)
+one_refusal layout d e f (inr b) (inl g) = let no : None ≡ Some f = sym b.else_right ∙ g in absurd (cc)
+one_refusal layout d e f (inr b) (inr c) = broken_once layout d e f b c
+
 -- ---- Drafts
 
 more_folds : (fs : List CertFold) (f : CertFold) (ys : List FoldEntry) → map entry_of (fs ++ f ∷ []) ++ ys ≡ map entry_of fs ++ entry_of f ∷ ys

@@ -7,6 +7,7 @@ ghost use Rattle.affc_cert.specs.Within.{IsWithin};
 ghost use Rattle.affc_cert.specs.declared.cert.Cert.{Cert};
 ghost use Rattle.affc_cert.specs.declared.cert.CertFault.{CertFault};
 ghost use Rattle.affc_cert.specs.declared.layout.Layout.{Layout};
+ghost use Rattle.serde_json.specs.Data.{Data};
 ghost use Rattle.std.specs.Prelude.{◌≡◌, None};
 
 /// One JSON value is that of one certificate. So what is read of a text that was written says what was written.
@@ -19,6 +20,12 @@ pub fn one_value_is_of_one_certificate()
 #[tactic(auto, using(crate::proofs::Broken::right_is_not_refused))]
 pub fn a_right_value_is_not_refused()
     ensures { (layout : Layout) (c : Cert) (e : CertFault) → refusal layout (cert_value (seen c)) ≡ None → Refuses layout (cert_value (seen c)) e → ⊥ }
+{}
+
+/// A JSON value is refused for one reason at most.
+#[tactic(auto, using(crate::proofs::Broken::one_refusal))]
+pub fn a_value_has_one_refusal()
+    ensures { (layout : Layout) (d : Data) (e f : CertFault) → Refuses layout d e → Refuses layout d f → e ≡ f }
 {}
 
 /// The value of a certificate within the limits is refused for nothing.

@@ -4,10 +4,8 @@ use Rattle.std.specs.Prelude.{slice_get}
 use Rattle.std.specs.List.{All}
 use Rattle.affc_rows.specs.Forms.{Affine}
 use Rattle.affc_system.specs.Systems.{Rows, IsRow}
-use Rattle.affc_farkas.specs.Depths.{depth}
-use Rattle.affc_farkas.specs.Proofs.{ValidProof}
 use Rattle.affc_farkas.specs.declared.proof.Proof.{Proof}
-use Rattle.affc_farkas.proofs.DepthLemmas.{few_at_nodes, fullest}
+use Rattle.affc_behind.specs.Parts.{IsProof}
 use Rattle.affc_check.specs.Answers.{FailsAtQuestion, FailsAtPoint}
 use Rattle.affc_items.specs.Items.{Item, Question, Shown}
 use Rattle.affc_check.specs.Steps.{Passes, Fails, fault_said}
@@ -16,23 +14,12 @@ use Rattle.affc_check.specs.declared.fault.CheckFault.TheVariants as fault
 
 -- ---- One proof
 
--- no node of a proof that isn't deep has too many rows
-pub proved_by : (q : Rows) (p : Proof) (rows : List Affine) (limit : ℕ) → rows ≡ q.rows → All (IsRow q.columns) rows → q.columns ≤ 128
-    → limit ≡ 1024 - length rows → length rows ≤ 1024 → depth p ≤ limit → ValidProof q p → IsProved q p
-proved_by q p rows limit e fit columns l few deep valid = record {
-  columns = columns;
-  rows = subst (All (IsRow q.columns)) e fit;
-  valid = valid;
-  few = λ above s. omega (arith, ap length e, l, few, deep, few_at_nodes q.rows p above s);
-}
+-- a question within the limits is proved exactly where its proof is one within the limit of rows
+pub is_proved : (q : Rows) (p : Proof) (rows : List Affine) → rows ≡ q.rows → All (IsRow q.columns) rows → q.columns ≤ 128 → IsProof q p → IsProved q p
+is_proved q p rows e fit columns h = record { columns = columns; rows = subst (All (IsRow q.columns)) e fit; valid = h.valid; few = h.few }
 
--- and a deep one has such a node
-pub not_deep : (q : Rows) (p : Proof) (rows : List Affine) (limit : ℕ) → rows ≡ q.rows → limit ≡ 1024 - length rows → length rows ≤ 1024 → IsProved q p → depth p ≤ limit
-not_deep q p rows limit e l few h =
-    let f = fullest q.rows p in
-    let many : length f.rows ≡ length q.rows + depth p = f.many in
-    let room : length f.rows ≤ 1024 = h.few f.rows f.stand in
-    omega (arith, ap length e, l, few, many, room)
+pub is_proof : (q : Rows) (p : Proof) → IsProved q p → IsProof q p
+is_proof q p h = record { valid = h.valid; few = h.few }
 
 -- ---- One item
 

@@ -6,13 +6,13 @@ ghost use Rattle.affc_items.specs.Held.{item_said};
 ghost use Rattle.affc_items.specs.Passes.{PassesFirst, NonePasses};
 ghost use Rattle.affc_check.specs.Answers.{IsChecked, ProofFails, ShownFails};
 
-use crate::checks::check_items;
+use crate::checks::check_listed;
 use crate::fault::CheckFault;
 use crate::made::add_made;
 use affc_ast::tree::ArrayId;
 use affc_basis::Fold;
 use affc_cert::Cert;
-use affc_items::{Item, Listing, PartStop, list_all};
+use affc_items::{Item, PartStop, all_items, list_all, systems_of};
 use affc_nest::Nest;
 use affc_trace::schedule::Schedule;
 use std::alloc::Global;
@@ -38,8 +38,8 @@ pub fn items(
     ensures proof { IfErr result (λ e. (n : ℕ) → e ≢ CheckFault.Proof n) }
     ensures shown { IfErr result (λ e. (n : ℕ) → e ≢ CheckFault.Shown n) }
 {
-    match list_all(alloc, nest, schedule, cert) {
-        Ok(Listing { items, systems: _ }) => Ok(items),
+    match all_items(alloc, nest, schedule, cert) {
+        Ok(items) => Ok(items),
         Err(PartStop::Part(part)) => Err(CheckFault::Number(part)),
         Err(PartStop::Memory) => Err(CheckFault::Memory),
     }
@@ -60,14 +60,16 @@ pub fn check_all(
     ensures proof { IfErr result (λ e. (n : ℕ) → e ≡ CheckFault.Proof n → ProofFails nest.now schedule.now cert.now n) }
     ensures shown { IfErr result (λ e. (n : ℕ) → e ≡ CheckFault.Shown n → ShownFails nest.now schedule.now cert.now n) }
 {
-    let listing = match list_all(alloc, nest, schedule, cert) {
-        Ok(listing) => listing,
+    let systems = systems_of(alloc, nest, schedule, cert)?;
+    let systems = systems.as_slice();
+    let listed = match list_all(alloc, nest, schedule, cert, systems) {
+        Ok(listed) => listed,
         Err(PartStop::Part(part)) => return Err(CheckFault::Number(part)),
         Err(PartStop::Memory) => return Err(CheckFault::Memory),
     };
-    check_items(listing.items.as_slice(), cert.proofs.as_slice())?;
+    check_listed(listed.as_slice(), cert.proofs.as_slice())?;
     let mut folds = Vec::new(alloc);
     let said = cert.folds.as_slice();
-    add_made(alloc, nest, said, listing.systems.as_slice(), &mut folds)?;
+    add_made(alloc, nest, said, systems, &mut folds)?;
     Ok(Checked { folds })
 }

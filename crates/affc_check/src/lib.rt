@@ -2,12 +2,11 @@
 #![tactic(auto)]
 
 pub mod check;
-pub mod checks;
+mod checks;
 pub mod examples;
 pub mod fault;
 pub mod laws;
 mod made;
 
 pub use check::{Checked, check_all, items};
-pub use checks::check_items;
 pub use fault::CheckFault;

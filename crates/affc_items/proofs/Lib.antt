@@ -6,3 +6,5 @@ pub mod TreeLemmas
 pub mod Over
 pub mod FoldLemmas
 pub mod ListingLemmas
+pub mod BehindLemmas
+pub mod FoundLemmas

@@ -8,3 +8,7 @@ use Rattle.affc_items.specs.declared.stop.Stop.TheVariants.{Past, Memory}
 pub stop_is : (s : Stop) (part n : ℕ) → part_stop s part ≡ Part n → (n ≡ part) × (s ≡ Past)
 stop_is Past part n e = (cc, refl)
 stop_is Memory part n e = absurd (cc)
+
+-- a part is told by its number
+pub part_same : (a b : ℕ) → Part a ≡ Part b → b ≡ a
+part_same a b e = cc

@@ -5,9 +5,12 @@ use Rattle.affc_nest.specs.Questions.{whole_context}
 use Rattle.affc_nest.specs.declared.nest.Nest.{Nest}
 use Rattle.affc_sched.specs.Questions as sched
 use Rattle.affc_flow.specs.Questions as flow
+use Rattle.affc_behind.specs.Parts.{behind}
 use Rattle.affc_items.specs.Items as said
 use Rattle.affc_items.specs.declared.item.Item.{Item}
 use Rattle.affc_items.specs.declared.item.Item.TheVariants.{Question, Shown}
+use Rattle.affc_items.specs.declared.item.Listed.{Listed}
+use Rattle.affc_items.specs.declared.item.Listed.TheVariants.{Whole, Over}
 use Rattle.affc_items.specs.declared.item.Point.{Point}
 
 abbrev pub point_item : Point → said.Item
@@ -16,6 +19,10 @@ point_item x = said.Shown x.system x.point
 abbrev pub item_said : Item → said.Item
 item_said (Question system) = said.Question system
 item_said (Shown x) = point_item x
+
+abbrev pub listed_said : Listed → said.Item
+listed_said (Whole item) = item_said item
+listed_said (Over over) = said.Question (behind over.front.now over.more)
 
 -- nothing is shown
 abbrev pub no_item : said.Item

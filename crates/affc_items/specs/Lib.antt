@@ -6,3 +6,4 @@ pub mod Passes
 pub mod Listed
 pub mod Walks
 pub mod Stops
+pub mod Laws

@@ -13,12 +13,14 @@ use Rattle.affc_quast.specs.Seen.{trees_of}
 use Rattle.affc_quast.specs.Trees.{Tree}
 use Rattle.affc_flow.specs.Questions.{leaf_questions, questions_of_load}
 use Rattle.affc_life.specs.Asked.{KeepLimits}
+use Rattle.affc_life.specs.Clashes.{clashes}
+use Rattle.affc_life.specs.Sizes.{AnyLarge}
 use Rattle.affc_cert.specs.declared.cert.Cert.{Cert}
 use Rattle.affc_certfold.specs.Limits.{IsMarkWithin}
 use Rattle.affc_certfold.specs.declared.fold.CertFold.{CertFold}
 use Rattle.affc_certfold.specs.declared.fold.CertModulus.{CertModulus}
 use Rattle.affc_questions.specs.Asked.{IsAlong}
-use Rattle.affc_items.specs.Certs.{modulus_said, AreFoldsSaid, IsFoldFor, IsFoldWithin}
+use Rattle.affc_items.specs.Certs.{modulus_said, IsFoldSaid, AreFoldsSaid, IsFoldFor, IsFoldWithin}
 use Rattle.affc_items.specs.Held.{flow_item}
 use Rattle.affc_items.specs.Items.{Item, FoldShown, fold_items, items}
 use Rattle.affc_items.specs.Limits.{HoldsOfNone}
@@ -72,10 +74,22 @@ folds_shown [] ss = []
 folds_shown (c ∷ cs) [] = []
 folds_shown (c ∷ cs) (s ∷ ss) = fold_shown c s ∷ folds_shown cs ss
 
--- the clash systems of these folds' arrays are put behind, and the folds' items
-pub record FoldsListed (nest : Nest) (schedule : Schedule) (trees : List Tree) (cs : List CertFold) (old new : List Item) (before after : List (List PairSystem)) : Type 0 where
+-- the clash systems of these folds' arrays, up to the first fold of which one passes the limits
+abbrev pub AreSystems : Nest → Schedule → List Tree → List CertFold → List (List PairSystem) → Type 0
+AreSystems nest schedule trees [] [] = Unit {0}
+AreSystems nest schedule trees [] (s ∷ ss) = ⊥
+AreSystems nest schedule trees (c ∷ cs) [] = AnyLarge (clashes nest trees schedule c.array.0)
+AreSystems nest schedule trees (c ∷ cs) (s ∷ ss) =
+    IsFoldSaid nest schedule trees c (fold_shown c s) × ¬ (AnyLarge (clashes nest trees schedule c.array.0)) × AreSystems nest schedule trees cs ss
+
+-- these are put behind
+pub record SystemsAdded (nest : Nest) (schedule : Schedule) (trees : List Tree) (cs : List CertFold) (old new : List (List PairSystem)) : Type 0 where
   pub systems : List (List PairSystem)
-  pub made : after ≡ before ++ systems
+  pub put : new ≡ old ++ systems
+  pub are : AreSystems nest schedule trees cs systems
+
+-- the items of these folds, whose arrays have these clash systems, are put behind
+pub record FoldsListed (nest : Nest) (schedule : Schedule) (trees : List Tree) (cs : List CertFold) (systems : List (List PairSystem)) (old new : List Item) : Type 0 where
   pub said : AreFoldsSaid nest schedule trees cs (folds_shown cs systems)
   pub put : new ≡ old ++ flat_map (fold_items nest) (folds_shown cs systems)
   pub within : HoldsOfNone (FoldPasses nest schedule trees) cs

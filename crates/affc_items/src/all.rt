@@ -3,125 +3,192 @@ ghost use Rattle.std.specs.Prelude.{◌≡◌, ℕ, map, IfOk, IfErr, OnOk};
 ghost use Rattle.affc_quast.specs.Seen.{trees_of};
 ghost use Rattle.affc_sched.specs.Answered.{Each};
 ghost use Rattle.affc_sched.specs.Legality.{IsAsked};
-ghost use Rattle.affc_items.specs.Certs.{IsCertWithin, IsFoldSaid};
-ghost use Rattle.affc_items.specs.Held.{item_said};
+ghost use Rattle.affc_life.specs.Clashes.{clashes};
+ghost use Rattle.affc_life.specs.Sizes.{AnyLarge};
+ghost use Rattle.affc_items.specs.Certs.{IsCertWithin, IsFoldSaid, AreItems};
+ghost use Rattle.affc_items.specs.Held.{item_said, listed_said};
 ghost use Rattle.affc_items.specs.Items.{fold_items};
 ghost use Rattle.affc_items.specs.Listed.{AreListed, IsFirstPart};
-ghost use Rattle.affc_items.specs.Passes.{FoldPasses, PassesFirst};
-ghost use Rattle.affc_items.specs.Walks.{fold_shown, IsFoldAsked, FoldsListed, IsListing};
+ghost use Rattle.affc_items.specs.Passes.{FoldPasses, PassesFirst, NonePasses};
+ghost use Rattle.affc_items.specs.Walks.{fold_shown, IsFoldAsked, AreSystems, SystemsAdded, FoldsListed, IsListing};
 
 use crate::bounds::{add_bound_questions, add_extent_questions};
 use crate::folds::add_fold;
-use crate::item::Item;
-use crate::listing::add_point;
+use crate::item::{Item, Listed};
+use crate::listing::{add_point, wholes};
 use crate::orders::add_legality_questions;
 use crate::shown::context_shown;
 use crate::stop::{PartStop, at_part};
 use crate::trees::add_flow_questions;
 use affc_cert::Cert;
 use affc_certfold::fold::CertFold;
+use affc_life::{ClashFault, clashes};
 use affc_nest::Nest;
 use affc_quast::Flow;
 use affc_system::PairSystem;
 use affc_trace::schedule::Schedule;
 use sqlite_items::Items;
-use std::alloc::Global;
+use std::alloc::{AllocError, Global};
 
-/// The items of a certificate, and the clash systems of the array of each fold.
-#[derive(Drop)]
-pub struct Listing {
-    pub items: Vec<Item>,
-    pub systems: Items<Items<PairSystem>>,
-}
-
-/// Adds the items of a fold, which are those of the part with this number.
-fn add_part(
-    alloc: Global,
-    nest: &Nest,
-    flow: &Flow,
-    schedule: &Schedule,
-    fold: &CertFold,
-    part: usize,
-    out: &mut Vec<Item>,
-) -> Result<Items<PairSystem>, PartStop>
-    requires asked { IsAsked nest.now schedule.now }
-    requires fold { IsFoldAsked nest.now (trees_of flow.now) fold.now }
-    ensures said { IfOk result (λ systems. IsFoldSaid nest.now schedule.now (trees_of flow.now) fold.now (fold_shown fold.now systems)) }
-    ensures ok { IfOk result (λ systems. AreListed (map item_said out.old.items) (map item_said out.new.items) (fold_items nest.now (fold_shown fold.now systems))) }
-    ensures within { OnOk result (¬ (FoldPasses nest.now schedule.now (trees_of flow.now) fold.now)) }
-    ensures past { IfErr result (λ e. (n : ℕ) → e ≡ PartStop.Part n → (n ≡ part) × FoldPasses nest.now schedule.now (trees_of flow.now) fold.now) }
-{
-    match add_fold(alloc, nest, flow, schedule, fold, out) {
-        Ok(systems) => Ok(systems),
-        Err(stop) => Err(at_part(stop, part)),
-    }
-}
-
-/// Adds the items of these folds, whose parts are numbered from `first` on, and the clash systems of their arrays. Past 2^64
-/// parts there is no memory for them.
-fn add_folds(
+/// Adds the clash systems of the arrays of these folds, up to the first of which one passes the limits.
+fn add_systems(
     alloc: Global,
     nest: &Nest,
     flow: &Flow,
     schedule: &Schedule,
     folds: &[CertFold],
-    first: usize,
-    out: &mut Vec<Item>,
-    systems: &mut Items<Items<PairSystem>>,
-) -> Result<(), PartStop>
+    out: &mut Items<Items<PairSystem>>,
+) -> Result<(), AllocError>
     requires asked { IsAsked nest.now schedule.now }
     requires folds { Each (IsFoldAsked nest.now (trees_of flow.now)) folds.now }
-    ensures ok { OnOk result (FoldsListed nest.now schedule.now (trees_of flow.now) folds.now (map item_said out.old.items) (map item_said out.new.items) systems.old systems.new) }
-    ensures past { IfErr result (λ e. (n : ℕ) → e ≡ PartStop.Part n → IsFirstPart (FoldPasses nest.now schedule.now (trees_of flow.now)) first folds.now n) }
+    ensures { OnOk result (SystemsAdded nest.now schedule.now (trees_of flow.now) folds.now out.old out.new) }
 {
     match folds {
         [] => Ok(()),
-        [fold, rest @ ..] => {
-            let own = add_part(alloc, nest, flow, schedule, fold, first, out)?;
-            systems.push(own)?;
-            let Some(next) = first.checked_add(1) else {
-                return Err(PartStop::Memory);
-            };
-            add_folds(alloc, nest, flow, schedule, rest, next, out, systems)
-        }
+        [fold, rest @ ..] => match clashes(alloc, nest, flow, schedule, fold.array) {
+            Ok(systems) => {
+                out.push(Items::from_vec(systems))?;
+                add_systems(alloc, nest, flow, schedule, rest, out)
+            }
+            Err(ClashFault::Large) => Ok(()),
+            Err(ClashFault::Memory) => Err(AllocError),
+        },
     }
 }
 
-/// Lists the items of a certificate: no part of it passes the limits, or the first that does is told.
-pub fn list_all(
+/// The clash systems of the arrays of a certificate's folds, up to the first fold of which one passes the limits.
+pub fn systems_of(
     alloc: Global,
     nest: &Nest,
     schedule: &Schedule,
     cert: &Cert,
-) -> Result<Listing, PartStop>
+) -> Result<Items<Items<PairSystem>>, AllocError>
     requires asked { IsAsked nest.now schedule.now }
     requires certificate { IsCertWithin nest.now cert.now }
-    ensures ok { IfOk result (λ l. IsListing nest.now schedule.now cert.now (map item_said l.items.items) l.systems) }
+    ensures { IfOk result (AreSystems nest.now schedule.now (trees_of cert.now.flow) cert.now.folds) }
+{
+    let mut systems = Items::new(alloc);
+    add_systems(
+        alloc,
+        nest,
+        &cert.flow,
+        schedule,
+        cert.folds.as_slice(),
+        &mut systems,
+    )?;
+    Ok(systems)
+}
+
+/// Adds the items of a fold whose array has these clash systems, which are those of the part with this number.
+fn add_part<'a>(
+    alloc: Global,
+    nest: &'a Nest,
+    flow: &Flow,
+    schedule: &Schedule,
+    fold: &'a CertFold,
+    systems: &'a [PairSystem],
+    part: usize,
+    out: &mut Vec<Listed<'a>>,
+) -> Result<(), PartStop>
+    requires asked { IsAsked nest.now schedule.now }
+    requires fold { IsFoldAsked nest.now (trees_of flow.now) fold.now }
+    requires said { IsFoldSaid nest.now schedule.now (trees_of flow.now) fold.now (fold_shown fold.now systems.now) }
+    requires fits { ¬ (AnyLarge (clashes nest.now (trees_of flow.now) schedule.now fold.now.array.0)) }
+    ensures ok { OnOk result (AreListed (map listed_said out.old.items) (map listed_said out.new.items) (fold_items nest.now (fold_shown fold.now systems.now))) }
+    ensures within { OnOk result (¬ (FoldPasses nest.now schedule.now (trees_of flow.now) fold.now)) }
+    ensures past { IfErr result (λ e. (n : ℕ) → e ≡ PartStop.Part n → (n ≡ part) × FoldPasses nest.now schedule.now (trees_of flow.now) fold.now) }
+{
+    let (_flow, _schedule) = (flow, schedule);
+    match add_fold(alloc, nest, fold, systems, out) {
+        Ok(()) => Ok(()),
+        Err(stop) => Err(at_part(stop, part)),
+    }
+}
+
+/// Adds the items of these folds, whose parts are numbered from `first` on and whose arrays have these clash systems. Past 2^64
+/// parts there is no memory for them.
+fn add_folds<'a>(
+    alloc: Global,
+    nest: &'a Nest,
+    flow: &Flow,
+    schedule: &Schedule,
+    folds: &'a [CertFold],
+    systems: &'a [Items<PairSystem>],
+    first: usize,
+    out: &mut Vec<Listed<'a>>,
+) -> Result<(), PartStop>
+    requires asked { IsAsked nest.now schedule.now }
+    requires folds { Each (IsFoldAsked nest.now (trees_of flow.now)) folds.now }
+    requires systems { AreSystems nest.now schedule.now (trees_of flow.now) folds.now systems.now }
+    ensures ok { OnOk result (FoldsListed nest.now schedule.now (trees_of flow.now) folds.now systems.now (map listed_said out.old.items) (map listed_said out.new.items)) }
+    ensures past { IfErr result (λ e. (n : ℕ) → e ≡ PartStop.Part n → IsFirstPart (FoldPasses nest.now schedule.now (trees_of flow.now)) first folds.now n) }
+{
+    match folds {
+        [] => Ok(()),
+        [fold, rest @ ..] => match systems {
+            [] => Err(PartStop::Part(first)),
+            [own, others @ ..] => {
+                let own = own.as_slice();
+                add_part(alloc, nest, flow, schedule, fold, own, first, out)?;
+                let Some(next) = first.checked_add(1) else {
+                    return Err(PartStop::Memory);
+                };
+                add_folds(alloc, nest, flow, schedule, rest, others, next, out)
+            }
+        },
+    }
+}
+
+/// Lists the items of a certificate, whose folds' arrays have these clash systems: no part of it passes the limits, or the first
+/// that does is told.
+pub fn list_all<'a>(
+    alloc: Global,
+    nest: &'a Nest,
+    schedule: &Schedule,
+    cert: &'a Cert,
+    systems: &'a [Items<PairSystem>],
+) -> Result<Vec<Listed<'a>>, PartStop>
+    requires asked { IsAsked nest.now schedule.now }
+    requires certificate { IsCertWithin nest.now cert.now }
+    requires systems { AreSystems nest.now schedule.now (trees_of cert.now.flow) cert.now.folds systems.now }
+    ensures ok { IfOk result (λ l. IsListing nest.now schedule.now cert.now (map listed_said l.items) systems.now) }
     ensures past { IfErr result (λ e. (n : ℕ) → e ≡ PartStop.Part n → PassesFirst nest.now schedule.now cert.now n) }
 {
     let mut items = Vec::new(alloc);
+    let flow = &cert.flow;
     add_point(
         &mut items,
         context_shown(alloc, nest, cert.context.as_slice())?,
     )?;
     add_extent_questions(alloc, nest, &mut items)?;
     add_bound_questions(alloc, nest, &mut items)?;
-    add_flow_questions(alloc, nest, &cert.flow, &mut items)?;
+    add_flow_questions(alloc, nest, flow, &mut items)?;
     add_legality_questions(alloc, nest, schedule, &mut items)?;
     let Some(first) = cert.flow.trees.len().checked_add(1) else {
         return Err(PartStop::Memory);
     };
-    let mut systems = Items::new(alloc);
     let folds = cert.folds.as_slice();
     add_folds(
-        alloc,
-        nest,
-        &cert.flow,
-        schedule,
-        folds,
-        first,
-        &mut items,
-        &mut systems,
+        alloc, nest, flow, schedule, folds, systems, first, &mut items,
     )?;
-    Ok(Listing { items, systems })
+    Ok(items)
+}
+
+/// The items of a certificate: no part of it passes the limits, or the first that does is told.
+pub fn all_items(
+    alloc: Global,
+    nest: &Nest,
+    schedule: &Schedule,
+    cert: &Cert,
+) -> Result<Vec<Item>, PartStop>
+    requires asked { IsAsked nest.now schedule.now }
+    requires certificate { IsCertWithin nest.now cert.now }
+    ensures ok { IfOk result (λ v. AreItems nest.now schedule.now cert.now (map item_said v.items)) }
+    ensures within { OnOk result (NonePasses nest.now schedule.now cert.now) }
+    ensures past { IfErr result (λ e. (n : ℕ) → e ≡ PartStop.Part n → PassesFirst nest.now schedule.now cert.now n) }
+{
+    let systems = systems_of(alloc, nest, schedule, cert)?;
+    let listed = list_all(alloc, nest, schedule, cert, systems.as_slice())?;
+    let items = wholes(alloc, listed)?;
+    Ok(items)
 }

@@ -4,10 +4,10 @@ ghost use Rattle.affc_trace.specs.Law.{IsIn};
 ghost use Rattle.affc_nest.specs.Asked.{IsNest, IsExtent, IsSubscript};
 ghost use Rattle.affc_nest.specs.Questions.{extent_question, extents_or_none, extents_of_access, questions_of, entry_questions, extent_questions, bound_questions};
 ghost use Rattle.affc_sched.specs.Answered.{Each};
-ghost use Rattle.affc_items.specs.Held.{item_said};
+ghost use Rattle.affc_items.specs.Held.{listed_said};
 ghost use Rattle.affc_items.specs.Items.{Question};
 
-use crate::item::Item;
+use crate::item::Listed;
 use crate::listing::add_question;
 use affc_ast::tree::ArrayId;
 use affc_nest::questions::{extent_at_most_zero, subscript_below_zero, subscript_past_extent};
@@ -20,11 +20,11 @@ fn add_extents(
     alloc: Global,
     nest: &Nest,
     extents: &[Form],
-    out: &mut Vec<Item>,
+    out: &mut Vec<Listed<'_>>,
 ) -> Result<(), AllocError>
     requires nest { IsNest nest.now }
     requires extents { Each (IsExtent nest.now) extents.now }
-    ensures { OnOk result (map item_said out.new.items ≡ map item_said out.old.items ++ map Question (map (extent_question nest.now) extents.now)) }
+    ensures { OnOk result (map listed_said out.new.items ≡ map listed_said out.old.items ++ map Question (map (extent_question nest.now) extents.now)) }
 {
     match extents {
         [] => Ok(()),
@@ -42,11 +42,11 @@ fn add_arrays(
     alloc: Global,
     nest: &Nest,
     arrays: &[ArrayInfo],
-    out: &mut Vec<Item>,
+    out: &mut Vec<Listed<'_>>,
 ) -> Result<(), AllocError>
     requires nest { IsNest nest.now }
     requires arrays { Each (λ a. IsIn a nest.now.arrays) arrays.now }
-    ensures { OnOk result (map item_said out.new.items ≡ map item_said out.old.items ++ map Question (flat_map (λ a. map (extent_question nest.now) a.extents) arrays.now)) }
+    ensures { OnOk result (map listed_said out.new.items ≡ map listed_said out.old.items ++ map Question (flat_map (λ a. map (extent_question nest.now) a.extents) arrays.now)) }
 {
     match arrays {
         [] => Ok(()),
@@ -62,10 +62,10 @@ fn add_arrays(
 pub(crate) fn add_extent_questions(
     alloc: Global,
     nest: &Nest,
-    out: &mut Vec<Item>,
+    out: &mut Vec<Listed<'_>>,
 ) -> Result<(), AllocError>
     requires { IsNest nest.now }
-    ensures { OnOk result (map item_said out.new.items ≡ map item_said out.old.items ++ map Question (extent_questions nest.now)) }
+    ensures { OnOk result (map listed_said out.new.items ≡ map listed_said out.old.items ++ map Question (extent_questions nest.now)) }
 {
     add_arrays(alloc, nest, nest.arrays.as_slice(), out)?;
     Ok(())
@@ -78,13 +78,13 @@ fn add_dimensions(
     entry: &Entry,
     subs: &[Form],
     extents: &[Form],
-    out: &mut Vec<Item>,
+    out: &mut Vec<Listed<'_>>,
 ) -> Result<(), AllocError>
     requires nest { IsNest nest.now }
     requires entry { IsIn entry.now nest.now.entries }
     requires subs { Each (IsSubscript entry.now) subs.now }
     requires extents { Each (IsExtent nest.now) extents.now }
-    ensures { OnOk result (map item_said out.new.items ≡ map item_said out.old.items ++ map Question (questions_of entry.now.domain (length entry.now.loops) subs.now extents.now)) }
+    ensures { OnOk result (map listed_said out.new.items ≡ map listed_said out.old.items ++ map Question (questions_of entry.now.domain (length entry.now.loops) subs.now extents.now)) }
 {
     match subs {
         [] => Ok(()),
@@ -119,12 +119,12 @@ fn add_accesses(
     nest: &Nest,
     entry: &Entry,
     accesses: &[Access],
-    out: &mut Vec<Item>,
+    out: &mut Vec<Listed<'_>>,
 ) -> Result<(), AllocError>
     requires nest { IsNest nest.now }
     requires entry { IsIn entry.now nest.now.entries }
     requires accesses { Each (λ x. IsIn x entry.now.accesses) accesses.now }
-    ensures { OnOk result (map item_said out.new.items ≡ map item_said out.old.items ++ map Question (flat_map (λ x. questions_of entry.now.domain (length entry.now.loops) x.subs (extents_of_access nest.now x)) accesses.now)) }
+    ensures { OnOk result (map listed_said out.new.items ≡ map listed_said out.old.items ++ map Question (flat_map (λ x. questions_of entry.now.domain (length entry.now.loops) x.subs (extents_of_access nest.now x)) accesses.now)) }
 {
     match accesses {
         [] => Ok(()),
@@ -143,11 +143,11 @@ fn add_entry(
     alloc: Global,
     nest: &Nest,
     entry: &Entry,
-    out: &mut Vec<Item>,
+    out: &mut Vec<Listed<'_>>,
 ) -> Result<(), AllocError>
     requires nest { IsNest nest.now }
     requires entry { IsIn entry.now nest.now.entries }
-    ensures { OnOk result (map item_said out.new.items ≡ map item_said out.old.items ++ map Question (entry_questions nest.now entry.now)) }
+    ensures { OnOk result (map listed_said out.new.items ≡ map listed_said out.old.items ++ map Question (entry_questions nest.now entry.now)) }
 {
     if !entry.alive {
         return Ok(());
@@ -161,11 +161,11 @@ fn add_entries(
     alloc: Global,
     nest: &Nest,
     entries: &[Entry],
-    out: &mut Vec<Item>,
+    out: &mut Vec<Listed<'_>>,
 ) -> Result<(), AllocError>
     requires nest { IsNest nest.now }
     requires entries { Each (λ e. IsIn e nest.now.entries) entries.now }
-    ensures { OnOk result (map item_said out.new.items ≡ map item_said out.old.items ++ map Question (flat_map (entry_questions nest.now) entries.now)) }
+    ensures { OnOk result (map listed_said out.new.items ≡ map listed_said out.old.items ++ map Question (flat_map (entry_questions nest.now) entries.now)) }
 {
     match entries {
         [] => Ok(()),
@@ -181,10 +181,10 @@ fn add_entries(
 pub(crate) fn add_bound_questions(
     alloc: Global,
     nest: &Nest,
-    out: &mut Vec<Item>,
+    out: &mut Vec<Listed<'_>>,
 ) -> Result<(), AllocError>
     requires { IsNest nest.now }
-    ensures { OnOk result (map item_said out.new.items ≡ map item_said out.old.items ++ map Question (bound_questions nest.now)) }
+    ensures { OnOk result (map listed_said out.new.items ≡ map listed_said out.old.items ++ map Question (bound_questions nest.now)) }
 {
     add_entries(alloc, nest, nest.entries.as_slice(), out)?;
     Ok(())

@@ -1,5 +1,5 @@
 //! Questions on folds, and what a certificate shows of their marks.
-ghost use Rattle.std.specs.Prelude.{◌≡◌, ℕ, ◌+◌, ◌≤◌, length, map, slice_get, Some, IfOk, IfErr, OnOk};
+ghost use Rattle.std.specs.Prelude.{◌≡◌, ℕ, ◌+◌, ◌≤◌, ◌∷◌, [], length, map, slice_get, Some, IfOk, IfErr, OnOk};
 ghost use Rattle.affc_rows.specs.Forms.{Affine};
 ghost use Rattle.affc_basis.specs.Moduli.{IsModulus};
 ghost use Rattle.affc_conflicts.specs.Questions.{distance_questions};
@@ -9,47 +9,59 @@ ghost use Rattle.affc_sched.specs.Answered.{Each};
 ghost use Rattle.affc_sched.specs.Legality.{IsAsked};
 ghost use Rattle.affc_certfold.specs.Limits.{IsMarkWithin};
 ghost use Rattle.affc_questions.specs.Asked.{IsAlong};
-ghost use Rattle.affc_items.specs.Certs.{modulus_said, IsFoldSaid, AreFoldItems};
-ghost use Rattle.affc_items.specs.Held.{item_said};
+ghost use Rattle.affc_items.specs.Certs.{modulus_said, AreFoldItems};
+ghost use Rattle.affc_items.specs.Held.{item_said, listed_said};
 ghost use Rattle.affc_items.specs.Items.{Question, row_items, rows_items, fold_items};
 ghost use Rattle.affc_items.specs.Limits.{AnyPasses};
 ghost use Rattle.affc_items.specs.Listed.{AreListed};
 ghost use Rattle.affc_items.specs.Passes.{FoldPasses};
 ghost use Rattle.affc_items.specs.Walks.{fold_shown, AreRowsAsked, IsFoldAsked};
 
-use crate::item::Item;
-use crate::listing::{add_long, add_longs};
+use crate::item::{Item, Listed};
+use crate::listing::{add_behind, add_long, wholes};
 use crate::shown::{Along, add_mark};
 use crate::stop::Stop;
 use affc_certfold::fold::{CertFold, CertModulus};
 use affc_life::{ClashFault, clashes};
 use affc_nest::Nest;
 use affc_quast::Flow;
-use affc_questions::{distance_questions, positive_question};
+use affc_questions::{distance_rows, positive_question};
 use affc_rows::Form;
 use affc_system::PairSystem;
 use affc_trace::schedule::Schedule;
-use sqlite_items::Items;
 use std::alloc::Global;
 
-/// Adds the questions on the distances in these clash systems. The recursion is into halves, since there may be many.
-fn add_distances(
+/// Adds the questions on the distances in a clash system.
+fn add_distance<'a>(
     alloc: Global,
-    along: &Along<'_>,
-    systems: &[PairSystem],
-    out: &mut Vec<Item>,
+    along: &Along<'a>,
+    pair: &'a PairSystem,
+    out: &mut Vec<Listed<'a>>,
+) -> Result<(), Stop>
+    requires { IsAlong along.now.rows.now along.now.row.now along.now.modulus.now pair.now }
+    ensures ok { OnOk result (AreListed (map listed_said out.old.items) (map listed_said out.new.items) (map Question (distance_questions along.now.rows.now along.now.k along.now.row.now along.now.modulus.now (pair.now ∷ [])))) }
+    ensures past { IfErr result (λ e. e ≡ Stop.Past → AnyPasses (map Question (distance_questions along.now.rows.now along.now.k along.now.row.now along.now.modulus.now (pair.now ∷ [])))) }
+{
+    let (rows, k, row, modulus) = (along.rows, along.k, along.row, along.modulus);
+    let (first, second) = distance_rows(alloc, rows, k, row, modulus, pair)?;
+    add_behind(&pair.system, first, out)?;
+    add_behind(&pair.system, second, out)
+}
+
+/// Adds the questions on the distances in these clash systems. The recursion is into halves, since there may be many.
+fn add_distances<'a>(
+    alloc: Global,
+    along: &Along<'a>,
+    systems: &'a [PairSystem],
+    out: &mut Vec<Listed<'a>>,
 ) -> Result<(), Stop>
     requires { Each (IsAlong along.now.rows.now along.now.row.now along.now.modulus.now) systems.now }
-    ensures ok { OnOk result (AreListed (map item_said out.old.items) (map item_said out.new.items) (map Question (distance_questions along.now.rows.now along.now.k along.now.row.now along.now.modulus.now systems.now))) }
+    ensures ok { OnOk result (AreListed (map listed_said out.old.items) (map listed_said out.new.items) (map Question (distance_questions along.now.rows.now along.now.k along.now.row.now along.now.modulus.now systems.now))) }
     ensures past { IfErr result (λ e. e ≡ Stop.Past → AnyPasses (map Question (distance_questions along.now.rows.now along.now.k along.now.row.now along.now.modulus.now systems.now))) }
 {
     match systems {
         [] => Ok(()),
-        [pair] => {
-            let (rows, k, row, modulus) = (along.rows, along.k, along.row, along.modulus);
-            let longs = distance_questions(alloc, rows, k, row, modulus, pair)?;
-            add_longs(alloc, longs.as_slice(), out)
-        }
+        [pair] => add_distance(alloc, along, pair, out),
         _ => {
             let (first, others) = systems.split_at(systems.len() / 2);
             add_distances(alloc, along, first, out)?;
@@ -59,21 +71,21 @@ fn add_distances(
 }
 
 /// Adds the items of a row.
-fn add_row(
+fn add_row<'a>(
     alloc: Global,
-    nest: &Nest,
-    systems: &[PairSystem],
-    rows: &[Form],
+    nest: &'a Nest,
+    systems: &'a [PairSystem],
+    rows: &'a [Form],
     k: usize,
-    row: &Form,
-    modulus: &CertModulus,
-    out: &mut Vec<Item>,
+    row: &'a Form,
+    modulus: &'a CertModulus,
+    out: &mut Vec<Listed<'a>>,
 ) -> Result<(), Stop>
     requires nested { IsNest nest.now }
     requires along { Each (IsAlong rows.now row.now modulus.now.form) systems.now }
     requires modulus { IsModulus nest.now.context.columns modulus.now.form }
     requires mark { IsMarkWithin nest.now.context.columns modulus.now.least }
-    ensures ok { OnOk result (AreListed (map item_said out.old.items) (map item_said out.new.items) (row_items nest.now systems.now rows.now k row.now (modulus_said modulus.now))) }
+    ensures ok { OnOk result (AreListed (map listed_said out.old.items) (map listed_said out.new.items) (row_items nest.now systems.now rows.now k row.now (modulus_said modulus.now))) }
     ensures past { IfErr result (λ e. e ≡ Stop.Past → AnyPasses (row_items nest.now systems.now rows.now k row.now (modulus_said modulus.now))) }
 {
     let along = Along {
@@ -91,20 +103,20 @@ fn add_row(
 }
 
 /// Adds the items of the rows from the k-th on, each with its modulus.
-fn add_rows(
+fn add_rows<'a>(
     alloc: Global,
-    nest: &Nest,
-    systems: &[PairSystem],
-    rows: &[Form],
+    nest: &'a Nest,
+    systems: &'a [PairSystem],
+    rows: &'a [Form],
     k: usize,
-    more: &[Form],
-    moduli: &[CertModulus],
-    out: &mut Vec<Item>,
+    more: &'a [Form],
+    moduli: &'a [CertModulus],
+    out: &mut Vec<Listed<'a>>,
 ) -> Result<(), Stop>
     requires nested { IsNest nest.now }
     requires few { k + length more.now ≤ 4 }
     requires asked { AreRowsAsked nest.now systems.now rows.now more.now moduli.now }
-    ensures ok { OnOk result (AreListed (map item_said out.old.items) (map item_said out.new.items) (rows_items nest.now systems.now rows.now k more.now (map modulus_said moduli.now))) }
+    ensures ok { OnOk result (AreListed (map listed_said out.old.items) (map listed_said out.new.items) (rows_items nest.now systems.now rows.now k more.now (map modulus_said moduli.now))) }
     ensures past { IfErr result (λ e. e ≡ Stop.Past → AnyPasses (rows_items nest.now systems.now rows.now k more.now (map modulus_said moduli.now))) }
 {
     match more {
@@ -128,31 +140,22 @@ fn add_rows(
     }
 }
 
-/// Adds the items of a fold. The clash systems of its array come back.
-pub(crate) fn add_fold(
+/// Adds the items of a fold whose array has these clash systems.
+pub(crate) fn add_fold<'a>(
     alloc: Global,
-    nest: &Nest,
-    flow: &Flow,
-    schedule: &Schedule,
-    fold: &CertFold,
-    out: &mut Vec<Item>,
-) -> Result<Items<PairSystem>, Stop>
-    requires asked { IsAsked nest.now schedule.now }
-    requires fold { IsFoldAsked nest.now (trees_of flow.now) fold.now }
-    ensures said { IfOk result (λ systems. IsFoldSaid nest.now schedule.now (trees_of flow.now) fold.now (fold_shown fold.now systems)) }
-    ensures ok { IfOk result (λ systems. AreListed (map item_said out.old.items) (map item_said out.new.items) (fold_items nest.now (fold_shown fold.now systems))) }
-    ensures within { OnOk result (¬ (FoldPasses nest.now schedule.now (trees_of flow.now) fold.now)) }
-    ensures past { IfErr result (λ e. e ≡ Stop.Past → FoldPasses nest.now schedule.now (trees_of flow.now) fold.now) }
+    nest: &'a Nest,
+    fold: &'a CertFold,
+    systems: &'a [PairSystem],
+    out: &mut Vec<Listed<'a>>,
+) -> Result<(), Stop>
+    requires nested { IsNest nest.now }
+    requires asked { AreRowsAsked nest.now systems.now fold.now.basis.rows fold.now.basis.rows fold.now.moduli }
+    ensures ok { OnOk result (AreListed (map listed_said out.old.items) (map listed_said out.new.items) (fold_items nest.now (fold_shown fold.now systems.now))) }
+    ensures past { IfErr result (λ e. e ≡ Stop.Past → AnyPasses (fold_items nest.now (fold_shown fold.now systems.now))) }
 {
-    let systems = match clashes(alloc, nest, flow, schedule, fold.array) {
-        Ok(systems) => systems,
-        Err(ClashFault::Large) => return Err(Stop::Past),
-        Err(ClashFault::Memory) => return Err(Stop::Memory),
-    };
     let rows = fold.basis.rows.as_slice();
     let moduli = fold.moduli.as_slice();
-    add_rows(alloc, nest, systems.as_slice(), rows, 0, rows, moduli, out)?;
-    Ok(Items::from_vec(systems))
+    add_rows(alloc, nest, systems, rows, 0, rows, moduli, out)
 }
 
 /// The items of one fold of a certificate with these trees, in order. Those of `items` end with them, fold by fold.
@@ -169,7 +172,13 @@ pub fn items_of_fold(
     ensures within { OnOk result (¬ (FoldPasses nest.now schedule.now (trees_of flow.now) fold.now)) }
     ensures past { IfErr result (λ e. e ≡ Stop.Past → FoldPasses nest.now schedule.now (trees_of flow.now) fold.now) }
 {
-    let mut items = Vec::new(alloc);
-    add_fold(alloc, nest, flow, schedule, fold, &mut items)?;
+    let systems = match clashes(alloc, nest, flow, schedule, fold.array) {
+        Ok(systems) => systems,
+        Err(ClashFault::Large) => return Err(Stop::Past),
+        Err(ClashFault::Memory) => return Err(Stop::Memory),
+    };
+    let mut listed = Vec::new(alloc);
+    add_fold(alloc, nest, fold, systems.as_slice(), &mut listed)?;
+    let items = wholes(alloc, listed)?;
     Ok(items)
 }

@@ -3,6 +3,7 @@ ghost use Rattle.std.specs.Prelude.{◌≤◌};
 ghost use Rattle.std.specs.List.{All};
 ghost use Rattle.affc_system.specs.Systems.{IsRow};
 
+use affc_behind::Behind;
 use affc_questions::Long;
 use affc_system::System;
 use sqlite_items::Items;
@@ -22,4 +23,11 @@ pub enum Item {
     /// The system is to have no integer point.
     Question(System),
     Shown(Point),
+}
+
+/// An item as it is listed. A question on a clash system shares the system's rows.
+#[derive(Drop)]
+pub enum Listed<'a> {
+    Whole(Item),
+    Over(Behind<'a>),
 }

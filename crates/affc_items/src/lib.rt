@@ -5,13 +5,14 @@ pub mod all;
 mod bounds;
 pub mod folds;
 pub mod item;
+pub mod laws;
 mod listing;
 mod orders;
 pub mod shown;
 pub mod stop;
 mod trees;
 
-pub use all::{Listing, list_all};
+pub use all::{all_items, list_all, systems_of};
 pub use folds::items_of_fold;
-pub use item::{Item, Point};
+pub use item::{Item, Listed, Point};
 pub use stop::{PartStop, Stop};

@@ -4,9 +4,9 @@ ghost use Rattle.affc_trace.specs.Law.{IsIn};
 ghost use Rattle.affc_sched.specs.Answered.{IsTouched, Each};
 ghost use Rattle.affc_sched.specs.Legality.{IsAsked};
 ghost use Rattle.affc_sched.specs.Questions.{touches, pair_questions, questions_of, questions_to, questions_with, questions_from, legality_questions};
-ghost use Rattle.affc_items.specs.Held.{item_said, legality_item};
+ghost use Rattle.affc_items.specs.Held.{listed_said, legality_item};
 
-use crate::item::Item;
+use crate::item::Listed;
 use crate::listing::add_questions;
 use affc_nest::{Access, Entry, Nest};
 use affc_sched::pair_systems;
@@ -28,13 +28,13 @@ fn add_pair(
     schedule: &Schedule,
     from: &Place<'_>,
     to: &Place<'_>,
-    out: &mut Vec<Item>,
+    out: &mut Vec<Listed<'_>>,
 ) -> Result<(), AllocError>
     requires asked { IsAsked nest.now schedule.now }
     requires from { IsTouched nest.now from.now.entry.now from.now.access.now }
     requires to { IsTouched nest.now to.now.entry.now to.now.access.now }
     requires one_array { from.now.access.now.array.0 ≡ to.now.access.now.array.0 }
-    ensures { OnOk result (map item_said out.new.items ≡ map item_said out.old.items ++ map legality_item (pair_questions nest.now from.now.entry.now to.now.entry.now schedule.now from.now.access.now to.now.access.now)) }
+    ensures { OnOk result (map listed_said out.new.items ≡ map listed_said out.old.items ++ map legality_item (pair_questions nest.now from.now.entry.now to.now.entry.now schedule.now from.now.access.now to.now.access.now)) }
 {
     let (a, b) = (from.entry, to.entry);
     let systems = pair_systems(alloc, nest, schedule, a, b, from.access, to.access)?;
@@ -49,12 +49,12 @@ fn add_touch(
     schedule: &Schedule,
     from: &Place<'_>,
     to: &Place<'_>,
-    out: &mut Vec<Item>,
+    out: &mut Vec<Listed<'_>>,
 ) -> Result<(), AllocError>
     requires asked { IsAsked nest.now schedule.now }
     requires from { IsTouched nest.now from.now.entry.now from.now.access.now }
     requires to { IsTouched nest.now to.now.entry.now to.now.access.now }
-    ensures { OnOk result (map item_said out.new.items ≡ map item_said out.old.items ++ map legality_item (questions_of nest.now schedule.now from.now.entry.now (from.now.access.now, from.now.stores) to.now.entry.now (to.now.access.now, to.now.stores))) }
+    ensures { OnOk result (map listed_said out.new.items ≡ map listed_said out.old.items ++ map legality_item (questions_of nest.now schedule.now from.now.entry.now (from.now.access.now, from.now.stores) to.now.entry.now (to.now.access.now, to.now.stores))) }
 {
     if from.access.array.0 != to.access.array.0 {
         return Ok(());
@@ -74,12 +74,12 @@ fn add_accesses(
     from: &Place<'_>,
     b: &Entry,
     accesses: &[Access],
-    out: &mut Vec<Item>,
+    out: &mut Vec<Listed<'_>>,
 ) -> Result<(), AllocError>
     requires asked { IsAsked nest.now schedule.now }
     requires from { IsTouched nest.now from.now.entry.now from.now.access.now }
     requires to { Each (IsTouched nest.now b.now) accesses.now }
-    ensures { OnOk result (map item_said out.new.items ≡ map item_said out.old.items ++ map legality_item (flat_map (questions_of nest.now schedule.now from.now.entry.now (from.now.access.now, from.now.stores) b.now) (touches accesses.now))) }
+    ensures { OnOk result (map listed_said out.new.items ≡ map listed_said out.old.items ++ map legality_item (flat_map (questions_of nest.now schedule.now from.now.entry.now (from.now.access.now, from.now.stores) b.now) (touches accesses.now))) }
 {
     match accesses {
         [] => Ok(()),
@@ -103,12 +103,12 @@ fn add_statement(
     schedule: &Schedule,
     from: &Place<'_>,
     b: &Entry,
-    out: &mut Vec<Item>,
+    out: &mut Vec<Listed<'_>>,
 ) -> Result<(), AllocError>
     requires asked { IsAsked nest.now schedule.now }
     requires from { IsTouched nest.now from.now.entry.now from.now.access.now }
     requires second { IsIn b.now nest.now.entries }
-    ensures { OnOk result (map item_said out.new.items ≡ map item_said out.old.items ++ map legality_item (questions_to nest.now schedule.now from.now.entry.now (from.now.access.now, from.now.stores) b.now)) }
+    ensures { OnOk result (map listed_said out.new.items ≡ map listed_said out.old.items ++ map legality_item (questions_to nest.now schedule.now from.now.entry.now (from.now.access.now, from.now.stores) b.now)) }
 {
     if !b.alive {
         return Ok(());
@@ -125,12 +125,12 @@ fn add_statements(
     schedule: &Schedule,
     from: &Place<'_>,
     entries: &[Entry],
-    out: &mut Vec<Item>,
+    out: &mut Vec<Listed<'_>>,
 ) -> Result<(), AllocError>
     requires asked { IsAsked nest.now schedule.now }
     requires from { IsTouched nest.now from.now.entry.now from.now.access.now }
     requires seconds { Each (λ e. IsIn e nest.now.entries) entries.now }
-    ensures { OnOk result (map item_said out.new.items ≡ map item_said out.old.items ++ map legality_item (flat_map (questions_to nest.now schedule.now from.now.entry.now (from.now.access.now, from.now.stores)) entries.now)) }
+    ensures { OnOk result (map listed_said out.new.items ≡ map listed_said out.old.items ++ map legality_item (flat_map (questions_to nest.now schedule.now from.now.entry.now (from.now.access.now, from.now.stores)) entries.now)) }
 {
     match entries {
         [] => Ok(()),
@@ -149,11 +149,11 @@ fn add_from_accesses(
     schedule: &Schedule,
     a: &Entry,
     accesses: &[Access],
-    out: &mut Vec<Item>,
+    out: &mut Vec<Listed<'_>>,
 ) -> Result<(), AllocError>
     requires asked { IsAsked nest.now schedule.now }
     requires from { Each (IsTouched nest.now a.now) accesses.now }
-    ensures { OnOk result (map item_said out.new.items ≡ map item_said out.old.items ++ map legality_item (flat_map (questions_with nest.now schedule.now a.now) (touches accesses.now))) }
+    ensures { OnOk result (map listed_said out.new.items ≡ map listed_said out.old.items ++ map legality_item (flat_map (questions_with nest.now schedule.now a.now) (touches accesses.now))) }
 {
     match accesses {
         [] => Ok(()),
@@ -177,11 +177,11 @@ fn add_from(
     nest: &Nest,
     schedule: &Schedule,
     a: &Entry,
-    out: &mut Vec<Item>,
+    out: &mut Vec<Listed<'_>>,
 ) -> Result<(), AllocError>
     requires asked { IsAsked nest.now schedule.now }
     requires first { IsIn a.now nest.now.entries }
-    ensures { OnOk result (map item_said out.new.items ≡ map item_said out.old.items ++ map legality_item (questions_from nest.now schedule.now a.now)) }
+    ensures { OnOk result (map listed_said out.new.items ≡ map listed_said out.old.items ++ map legality_item (questions_from nest.now schedule.now a.now)) }
 {
     if !a.alive {
         return Ok(());
@@ -197,11 +197,11 @@ fn add_all(
     nest: &Nest,
     schedule: &Schedule,
     entries: &[Entry],
-    out: &mut Vec<Item>,
+    out: &mut Vec<Listed<'_>>,
 ) -> Result<(), AllocError>
     requires asked { IsAsked nest.now schedule.now }
     requires firsts { Each (λ e. IsIn e nest.now.entries) entries.now }
-    ensures { OnOk result (map item_said out.new.items ≡ map item_said out.old.items ++ map legality_item (flat_map (questions_from nest.now schedule.now) entries.now)) }
+    ensures { OnOk result (map listed_said out.new.items ≡ map listed_said out.old.items ++ map legality_item (flat_map (questions_from nest.now schedule.now) entries.now)) }
 {
     match entries {
         [] => Ok(()),
@@ -218,10 +218,10 @@ pub(crate) fn add_legality_questions(
     alloc: Global,
     nest: &Nest,
     schedule: &Schedule,
-    out: &mut Vec<Item>,
+    out: &mut Vec<Listed<'_>>,
 ) -> Result<(), AllocError>
     requires { IsAsked nest.now schedule.now }
-    ensures { OnOk result (map item_said out.new.items ≡ map item_said out.old.items ++ map legality_item (legality_questions nest.now schedule.now)) }
+    ensures { OnOk result (map listed_said out.new.items ≡ map listed_said out.old.items ++ map legality_item (legality_questions nest.now schedule.now)) }
 {
     match schedule {
         Schedule::Source => Ok(()),

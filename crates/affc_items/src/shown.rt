@@ -9,12 +9,12 @@ ghost use Rattle.affc_sched.specs.Answered.{Each};
 ghost use Rattle.affc_certfold.specs.Limits.{IsMarkWithin};
 ghost use Rattle.affc_questions.specs.Asked.{IsAlong};
 ghost use Rattle.affc_items.specs.Certs.{least_said};
-ghost use Rattle.affc_items.specs.Held.{item_said, point_item, context_item, no_item};
+ghost use Rattle.affc_items.specs.Held.{listed_said, point_item, context_item, no_item};
 ghost use Rattle.affc_items.specs.Items.{numbered, is_point_at, farthest, pair_in, pair_item, mark_items};
 ghost use Rattle.affc_items.specs.Limits.{AnyPasses};
 ghost use Rattle.affc_items.specs.Listed.{AreListed};
 
-use crate::item::{Item, Point};
+use crate::item::{Listed, Point};
 use crate::listing::{add_long, add_point};
 use crate::stop::Stop;
 use affc_certfold::fold::CertLeast;
@@ -161,13 +161,13 @@ pub(crate) fn add_mark(
     alloc: Global,
     along: &Along<'_>,
     least: &Option<CertLeast>,
-    out: &mut Vec<Item>,
+    out: &mut Vec<Listed<'_>>,
 ) -> Result<(), Stop>
     requires nested { IsNest along.now.nest.now }
     requires along { Each (IsAlong along.now.rows.now along.now.row.now along.now.modulus.now) along.now.systems.now }
     requires modulus { IsModulus along.now.nest.now.context.columns along.now.modulus.now }
     requires mark { IsMarkWithin along.now.nest.now.context.columns least.now }
-    ensures ok { OnOk result (AreListed (map item_said out.old.items) (map item_said out.new.items) (mark_items along.now.nest.now along.now.rows.now along.now.k along.now.row.now along.now.modulus.now along.now.systems.now (least_said least.now))) }
+    ensures ok { OnOk result (AreListed (map listed_said out.old.items) (map listed_said out.new.items) (mark_items along.now.nest.now along.now.rows.now along.now.k along.now.row.now along.now.modulus.now along.now.systems.now (least_said least.now))) }
     ensures past { IfErr result (λ e. e ≡ Stop.Past → AnyPasses (mark_items along.now.nest.now along.now.rows.now along.now.k along.now.row.now along.now.modulus.now along.now.systems.now (least_said least.now))) }
 {
     match least {

@@ -8,13 +8,13 @@ ghost use Rattle.affc_quast.specs.Seen.{seen, trees_of};
 ghost use Rattle.affc_quast.specs.SeenLeaves.{leaf_seen};
 ghost use Rattle.affc_quast.specs.Sources.{loads_in, loads_before};
 ghost use Rattle.affc_life.specs.Asked.{KeepLimits, KeepsLimits, IsLiving, IsPath, AreLoads};
-ghost use Rattle.affc_items.specs.Held.{item_said};
+ghost use Rattle.affc_items.specs.Held.{listed_said};
 ghost use Rattle.affc_items.specs.Limits.{AnyPasses};
 ghost use Rattle.affc_items.specs.Listed.{AreListed, PartsListed, IsFirstPart};
 ghost use Rattle.affc_items.specs.Passes.{items_by_entry, items_by_tree};
 ghost use Rattle.affc_items.specs.Walks.{leaf_items, load_items, own_items};
 
-use crate::item::Item;
+use crate::item::Listed;
 use crate::listing::add_longs;
 use crate::stop::{PartStop, Stop, at_part};
 use affc_life::stores::{loops_round, params_in};
@@ -32,13 +32,13 @@ fn add_leaf(
     reader: &Entry,
     load: &Access,
     leaf: &Leaf,
-    out: &mut Vec<Item>,
+    out: &mut Vec<Listed<'_>>,
 ) -> Result<(), Stop>
     requires nested { IsNest nest.now }
     requires reads { IsLiving nest.now reader.now }
     requires load { IsIn load.now reader.now.accesses }
     requires path { IsPath nest.now (length nest.now.params + length reader.now.loops) (leaf_seen leaf.now) }
-    ensures ok { OnOk result (AreListed (map item_said out.old.items) (map item_said out.new.items) (leaf_items nest.now reader.now load.now (leaf_seen leaf.now))) }
+    ensures ok { OnOk result (AreListed (map listed_said out.old.items) (map listed_said out.new.items) (leaf_items nest.now reader.now load.now (leaf_seen leaf.now))) }
     ensures past { IfErr result (λ e. e ≡ Stop.Past → AnyPasses (leaf_items nest.now reader.now load.now (leaf_seen leaf.now))) }
 {
     let longs = leaf_questions(alloc, nest, reader, load, leaf)?;
@@ -52,13 +52,13 @@ fn add_leaves(
     reader: &Entry,
     load: &Access,
     leaves: &[Leaf],
-    out: &mut Vec<Item>,
+    out: &mut Vec<Listed<'_>>,
 ) -> Result<(), Stop>
     requires nested { IsNest nest.now }
     requires reads { IsLiving nest.now reader.now }
     requires load { IsIn load.now reader.now.accesses }
     requires paths { Each (IsPath nest.now (length nest.now.params + length reader.now.loops)) (map leaf_seen leaves.now) }
-    ensures ok { OnOk result (AreListed (map item_said out.old.items) (map item_said out.new.items) (flat_map (leaf_items nest.now reader.now load.now) (map leaf_seen leaves.now))) }
+    ensures ok { OnOk result (AreListed (map listed_said out.old.items) (map listed_said out.new.items) (flat_map (leaf_items nest.now reader.now load.now) (map leaf_seen leaves.now))) }
     ensures past { IfErr result (λ e. e ≡ Stop.Past → AnyPasses (flat_map (leaf_items nest.now reader.now load.now) (map leaf_seen leaves.now))) }
 {
     match leaves {
@@ -89,13 +89,13 @@ fn add_tree(
     reader: &Entry,
     load: &Access,
     tree: &Quast,
-    out: &mut Vec<Item>,
+    out: &mut Vec<Listed<'_>>,
 ) -> Result<(), Stop>
     requires nested { IsNest nest.now }
     requires reads { IsLiving nest.now reader.now }
     requires load { IsIn load.now reader.now.accesses }
     requires tree { KeepsLimits nest.now (length nest.now.params + length reader.now.loops) (seen tree.now) }
-    ensures ok { OnOk result (AreListed (map item_said out.old.items) (map item_said out.new.items) (flat_map (leaf_items nest.now reader.now load.now) (leaves_of (length nest.now.params + length reader.now.loops) (seen tree.now)))) }
+    ensures ok { OnOk result (AreListed (map listed_said out.old.items) (map listed_said out.new.items) (flat_map (leaf_items nest.now reader.now load.now) (leaves_of (length nest.now.params + length reader.now.loops) (seen tree.now)))) }
     ensures past { IfErr result (λ e. e ≡ Stop.Past → AnyPasses (flat_map (leaf_items nest.now reader.now load.now) (leaves_of (length nest.now.params + length reader.now.loops) (seen tree.now)))) }
 {
     let leaves = leaves(alloc, columns_of(nest, reader), tree)?;
@@ -110,14 +110,14 @@ fn add_load(
     trees: &[Quast],
     number: usize,
     load: &Access,
-    out: &mut Vec<Item>,
+    out: &mut Vec<Listed<'_>>,
 ) -> Result<(), Stop>
     requires nested { IsNest nest.now }
     requires reads { IsLiving nest.now reader.now }
     requires loads { AreLoads nest.now reader.now (map seen trees.now) }
     requires load { IsIn load.now reader.now.accesses }
     requires counts { number < loads_in reader.now }
-    ensures ok { OnOk result (AreListed (map item_said out.old.items) (map item_said out.new.items) (load_items nest.now reader.now load.now (slice_get (map seen trees.now) number))) }
+    ensures ok { OnOk result (AreListed (map listed_said out.old.items) (map listed_said out.new.items) (load_items nest.now reader.now load.now (slice_get (map seen trees.now) number))) }
     ensures past { IfErr result (λ e. e ≡ Stop.Past → AnyPasses (load_items nest.now reader.now load.now (slice_get (map seen trees.now) number))) }
 {
     match trees.get(number) {
@@ -135,14 +135,14 @@ fn add_part(
     number: usize,
     part: usize,
     load: &Access,
-    out: &mut Vec<Item>,
+    out: &mut Vec<Listed<'_>>,
 ) -> Result<(), PartStop>
     requires nested { IsNest nest.now }
     requires reads { IsLiving nest.now reader.now }
     requires loads { AreLoads nest.now reader.now (map seen trees.now) }
     requires load { IsIn load.now reader.now.accesses }
     requires counts { number < loads_in reader.now }
-    ensures ok { OnOk result (AreListed (map item_said out.old.items) (map item_said out.new.items) (load_items nest.now reader.now load.now (slice_get (map seen trees.now) number))) }
+    ensures ok { OnOk result (AreListed (map listed_said out.old.items) (map listed_said out.new.items) (load_items nest.now reader.now load.now (slice_get (map seen trees.now) number))) }
     ensures past { IfErr result (λ e. (n : ℕ) → e ≡ PartStop.Part n → (n ≡ part) × AnyPasses (load_items nest.now reader.now load.now (slice_get (map seen trees.now) number))) }
 {
     match add_load(alloc, nest, reader, trees, number, load, out) {
@@ -161,13 +161,13 @@ fn add_loads(
     number: usize,
     first: usize,
     accesses: &[Access],
-    out: &mut Vec<Item>,
+    out: &mut Vec<Listed<'_>>,
 ) -> Result<(), PartStop>
     requires nested { IsNest nest.now }
     requires reads { IsLiving nest.now reader.now }
     requires loads { AreLoads nest.now reader.now (map seen trees.now) }
     requires rest { accesses.now ≡ drop number reader.now.accesses }
-    ensures ok { OnOk result (PartsListed (map item_said out.old.items) (map item_said out.new.items) (own_items nest.now (map seen trees.now) reader.now number accesses.now)) }
+    ensures ok { OnOk result (PartsListed (map listed_said out.old.items) (map listed_said out.new.items) (own_items nest.now (map seen trees.now) reader.now number accesses.now)) }
     ensures past { IfErr result (λ e. (n : ℕ) → e ≡ PartStop.Part n → IsFirstPart AnyPasses first (own_items nest.now (map seen trees.now) reader.now number accesses.now) n) }
 {
     match accesses {
@@ -192,12 +192,12 @@ fn add_reader(
     trees: &[Quast],
     reader: &Entry,
     first: usize,
-    out: &mut Vec<Item>,
+    out: &mut Vec<Listed<'_>>,
 ) -> Result<(), PartStop>
     requires nested { IsNest nest.now }
     requires limits { KeepLimits nest.now (map seen trees.now) }
     requires reader { IsIn reader.now nest.now.entries }
-    ensures ok { OnOk result (PartsListed (map item_said out.old.items) (map item_said out.new.items) (items_by_entry nest.now (map seen trees.now) reader.now)) }
+    ensures ok { OnOk result (PartsListed (map listed_said out.old.items) (map listed_said out.new.items) (items_by_entry nest.now (map seen trees.now) reader.now)) }
     ensures past { IfErr result (λ e. (n : ℕ) → e ≡ PartStop.Part n → IsFirstPart AnyPasses first (items_by_entry nest.now (map seen trees.now) reader.now) n) }
 {
     if !reader.alive {
@@ -216,12 +216,12 @@ fn add_readers(
     trees: &[Quast],
     readers: &[Entry],
     first: usize,
-    out: &mut Vec<Item>,
+    out: &mut Vec<Listed<'_>>,
 ) -> Result<(), PartStop>
     requires nested { IsNest nest.now }
     requires limits { KeepLimits nest.now (map seen trees.now) }
     requires readers { Each (λ e. IsIn e nest.now.entries) readers.now }
-    ensures ok { OnOk result (PartsListed (map item_said out.old.items) (map item_said out.new.items) (flat_map (items_by_entry nest.now (map seen trees.now)) readers.now)) }
+    ensures ok { OnOk result (PartsListed (map listed_said out.old.items) (map listed_said out.new.items) (flat_map (items_by_entry nest.now (map seen trees.now)) readers.now)) }
     ensures past { IfErr result (λ e. (n : ℕ) → e ≡ PartStop.Part n → IsFirstPart AnyPasses first (flat_map (items_by_entry nest.now (map seen trees.now)) readers.now) n) }
 {
     match readers {
@@ -242,11 +242,11 @@ pub(crate) fn add_flow_questions(
     alloc: Global,
     nest: &Nest,
     flow: &Flow,
-    out: &mut Vec<Item>,
+    out: &mut Vec<Listed<'_>>,
 ) -> Result<(), PartStop>
     requires nested { IsNest nest.now }
     requires limits { KeepLimits nest.now (trees_of flow.now) }
-    ensures ok { OnOk result (PartsListed (map item_said out.old.items) (map item_said out.new.items) (items_by_tree nest.now (trees_of flow.now))) }
+    ensures ok { OnOk result (PartsListed (map listed_said out.old.items) (map listed_said out.new.items) (items_by_tree nest.now (trees_of flow.now))) }
     ensures past { IfErr result (λ e. (n : ℕ) → e ≡ PartStop.Part n → IsFirstPart AnyPasses 1 (items_by_tree nest.now (trees_of flow.now)) n) }
 {
     let trees = flow.trees.as_slice();

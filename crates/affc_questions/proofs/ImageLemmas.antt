@@ -34,7 +34,7 @@ dot_below a b (c ∷ cs) (d ∷ ds) h g =
 
 -- ---- Entries of images
 
-entry_below : (n : ℕ) (cs : List ℤ) (j : ℕ) → Below n cs → unsigned_abs (get_or cs j (pos 0)) ≤ n
+pub entry_below : (n : ℕ) (cs : List ℤ) (j : ℕ) → Below n cs → unsigned_abs (get_or cs j (pos 0)) ≤ n
 entry_below n [] j h = omega arith
 entry_below n (c ∷ cs) zero h = All-head (λ c. unsigned_abs c ≤ n) c cs h
 entry_below n (c ∷ cs) (suc j) h = entry_below n cs j (All-tail (λ c. unsigned_abs c ≤ n) c cs h)

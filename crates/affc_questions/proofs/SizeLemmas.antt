@@ -25,7 +25,7 @@ use Rattle.affc_questions.proofs.ImageLemmas.{Below, dot_below}
 
 -- ---- Wider limits
 
-raised : (a b : ℕ) → a ≤ b → (cs : List ℤ) → Below a cs → Below b cs
+pub raised : (a b : ℕ) → a ≤ b → (cs : List ℤ) → Below a cs → Below b cs
 raised a b h cs all = all_of (λ c. unsigned_abs c ≤ a) (λ c. unsigned_abs c ≤ b) (λ c g. more (unsigned_abs c) g) cs all
   where
     more : (n : ℕ) → n ≤ a → n ≤ b
@@ -81,7 +81,7 @@ column_broad n j =
     let s = side_row n (column_form n j) (column_side n j) in
     record { width = s.width; coefs_fit = raised (2 ^ 40) (2 ^ 110) (omega arith) (column_form n j).coefs s.fits.coefs_fit; constant_fits = omega arith }
 
-zeros_below : (b n : ℕ) → Below b (replicate n (pos 0))
+pub zeros_below : (b n : ℕ) → Below b (replicate n (pos 0))
 zeros_below b zero = All-nil (λ c. unsigned_abs c ≤ b)
 zeros_below b (suc n) = All-cons (λ c. unsigned_abs c ≤ b) (pos 0) (replicate n (pos 0)) (omega arith) (zeros_below b n)
 
@@ -139,21 +139,21 @@ value_broad n b p few m h =
 
 -- ---- Differences
 
-differences_below : (a : ℕ) (cs ds : List ℤ) → Below a cs → Below a ds → Below (a + a) (mixed (pos 1) cs (negsuc 0) ds)
-differences_below a [] ds h g = All-nil (λ c. unsigned_abs c ≤ a + a)
-differences_below a (c ∷ cs) [] h g = All-nil (λ c. unsigned_abs c ≤ a + a)
-differences_below a (c ∷ cs) (d ∷ ds) h g =
-    All-cons (λ c. unsigned_abs c ≤ a + a) ((pos 1 *ℤ c) +ℤ (negsuc 0 *ℤ d)) (mixed (pos 1) cs (negsuc 0) ds)
-    (sum (unsigned_abs ((pos 1 *ℤ c) +ℤ (negsuc 0 *ℤ d))) (unsigned_abs c) (unsigned_abs d) (difference_abs c d) (All-head (λ c. unsigned_abs c ≤ a) c cs h) (All-head (λ d. unsigned_abs d ≤ a) d ds g))
-    (differences_below a cs ds (All-tail (λ c. unsigned_abs c ≤ a) c cs h) (All-tail (λ d. unsigned_abs d ≤ a) d ds g))
+pub differences_below : (a b : ℕ) (cs ds : List ℤ) → Below a cs → Below b ds → Below (a + b) (mixed (pos 1) cs (negsuc 0) ds)
+differences_below a b [] ds h g = All-nil (λ c. unsigned_abs c ≤ a + b)
+differences_below a b (c ∷ cs) [] h g = All-nil (λ c. unsigned_abs c ≤ a + b)
+differences_below a b (c ∷ cs) (d ∷ ds) h g =
+    All-cons (λ c. unsigned_abs c ≤ a + b) ((pos 1 *ℤ c) +ℤ (negsuc 0 *ℤ d)) (mixed (pos 1) cs (negsuc 0) ds)
+    (sum (unsigned_abs ((pos 1 *ℤ c) +ℤ (negsuc 0 *ℤ d))) (unsigned_abs c) (unsigned_abs d) (difference_abs c d) (All-head (λ c. unsigned_abs c ≤ a) c cs h) (All-head (λ d. unsigned_abs d ≤ b) d ds g))
+    (differences_below a b cs ds (All-tail (λ c. unsigned_abs c ≤ a) c cs h) (All-tail (λ d. unsigned_abs d ≤ b) d ds g))
   where
-    sum : (s x y : ℕ) → s ≤ x + y → x ≤ a → y ≤ a → s ≤ a + a
+    sum : (s x y : ℕ) → s ≤ x + y → x ≤ a → y ≤ b → s ≤ a + b
     sum s x y e h g = omega (arith, e, h, g)
 
 pub mixed_width : (n : ℕ) (f g : Affine) → length f.coefs ≡ n → length g.coefs ≡ n → length (mixed_form (pos 1) f (negsuc 0) g).coefs ≡ n
 mixed_width n f g v w = length-mixed (pos 1) f.coefs (negsuc 0) g.coefs (v ∙ sym w) ∙ v
 
-less_abs : (z : ℤ) (k m : ℕ) → unsigned_abs z ≤ m → k ≤ 1 → unsigned_abs (z -ℤ pos k) ≤ m + 1
+pub less_abs : (z : ℤ) (k m : ℕ) → unsigned_abs z ≤ m → k ≤ 1 → unsigned_abs (z -ℤ pos k) ≤ m + 1
 less_abs z k m h g = omega (arith, ints)
 
 -- the row b - a - k of mild forms
@@ -163,7 +163,7 @@ gap_row_fits n a b k s t h =
     record {
       width = mixed_width n b a t.width s.width;
       fits = record {
-        coefs_fit = raised (2 ^ 38 + 2 ^ 38) (2 ^ 40) (omega arith) (mixed (pos 1) b.coefs (negsuc 0) a.coefs) (differences_below (2 ^ 38) b.coefs a.coefs t.coefs_fit s.coefs_fit);
+        coefs_fit = raised (2 ^ 38 + 2 ^ 38) (2 ^ 40) (omega arith) (mixed (pos 1) b.coefs (negsuc 0) a.coefs) (differences_below (2 ^ 38) (2 ^ 38) b.coefs a.coefs t.coefs_fit s.coefs_fit);
         constant_fits = most (unsigned_abs (d -ℤ pos k)) (less_abs d k (2 ^ 59) (sum (unsigned_abs d) (unsigned_abs b.constant) (unsigned_abs a.constant) (difference_abs b.constant a.constant) t.constant_fits s.constant_fits) h);
       };
     }
@@ -181,7 +181,7 @@ less_one_mild n b m =
     record {
       width = mixed_width n (over_columns n b) (number_form n (pos 1)) o.width (number_width n (pos 1));
       coefs_fit = raised (2 ^ 30 + 2 ^ 30) (2 ^ 38) (omega arith) (mixed (pos 1) (over_columns n b).coefs (negsuc 0) (number_form n (pos 1)).coefs)
-          (differences_below (2 ^ 30) (over_columns n b).coefs (number_form n (pos 1)).coefs
+          (differences_below (2 ^ 30) (2 ^ 30) (over_columns n b).coefs (number_form n (pos 1)).coefs
           (All-append (λ c. unsigned_abs c ≤ 2 ^ 30) b.coefs (replicate (n - length b.coefs) (pos 0)) m.fits.coefs_fit (zeros_below (2 ^ 30) (n - length b.coefs))) (zeros_below (2 ^ 30) n));
       constant_fits = sum (unsigned_abs ((pos 1 *ℤ b.constant) +ℤ (negsuc 0 *ℤ pos 1))) (unsigned_abs b.constant) (difference_abs b.constant (pos 1)) m.fits.constant_fits;
     }
@@ -194,7 +194,7 @@ pub subscripts_light : (n : ℕ) (x y : Affine) → IsSubscript n x → IsSubscr
 subscripts_light n x y s t = record {
   width = mixed_width n x y s.width t.width;
   fits = record {
-    coefs_fit = raised (65536 + 65536) (2 ^ 24) (omega arith) (mixed (pos 1) x.coefs (negsuc 0) y.coefs) (differences_below 65536 x.coefs y.coefs s.coefs_fit t.coefs_fit);
+    coefs_fit = raised (65536 + 65536) (2 ^ 24) (omega arith) (mixed (pos 1) x.coefs (negsuc 0) y.coefs) (differences_below 65536 65536 x.coefs y.coefs s.coefs_fit t.coefs_fit);
     constant_fits = sum (unsigned_abs ((pos 1 *ℤ x.constant) +ℤ (negsuc 0 *ℤ y.constant))) (unsigned_abs x.constant) (unsigned_abs y.constant) (difference_abs x.constant y.constant) s.constant_fits t.constant_fits;
   };
 }
@@ -203,7 +203,7 @@ subscripts_light n x y s t = record {
     sum s x y e h g = omega (arith, e, h, g)
 
 pub subscripts_below : (n : ℕ) (x y : Affine) → IsSubscript n x → IsSubscript n y → Below (2 ^ 25) (mixed_form (pos 1) x (negsuc 0) y).coefs
-subscripts_below n x y s t = raised (65536 + 65536) (2 ^ 25) (omega arith) (mixed (pos 1) x.coefs (negsuc 0) y.coefs) (differences_below 65536 x.coefs y.coefs s.coefs_fit t.coefs_fit)
+subscripts_below n x y s t = raised (65536 + 65536) (2 ^ 25) (omega arith) (mixed (pos 1) x.coefs (negsuc 0) y.coefs) (differences_below 65536 65536 x.coefs y.coefs s.coefs_fit t.coefs_fit)
 
 pub constants_apart : (n : ℕ) (x y : Affine) → IsSubscript n x → IsSubscript n y → unsigned_abs (mixed_form (pos 1) x (negsuc 0) y).constant ≤ 2 ^ 25
 constants_apart n x y s t = sum (unsigned_abs ((pos 1 *ℤ x.constant) +ℤ (negsuc 0 *ℤ y.constant))) (unsigned_abs x.constant) (unsigned_abs y.constant) (difference_abs x.constant y.constant) s.constant_fits t.constant_fits

@@ -1,3 +1,4 @@
 pub mod Sizes
 pub mod Asked
 pub mod Listed
+pub mod Laws

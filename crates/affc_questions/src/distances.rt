@@ -5,8 +5,8 @@ ghost use Rattle.affc_rows.specs.Forms.{value, mixed_form};
 ghost use Rattle.affc_system.specs.Pairs.{IsSubscript};
 ghost use Rattle.affc_system.specs.Systems.{IsRow};
 ghost use Rattle.affc_trace.specs.Law.{IsIn};
-ghost use Rattle.affc_nest.specs.Domains.{number_form};
-ghost use Rattle.affc_conflicts.specs.Questions.{differences, distance, agree_rows, slice_system, over_columns, distance_question, distance_questions, shown_system};
+ghost use Rattle.affc_nest.specs.Domains.{gap_row, number_form, with_rows};
+ghost use Rattle.affc_conflicts.specs.Questions.{differences, distance, agree_rows, slice_system, over_columns, distance_questions, shown_system};
 ghost use Rattle.affc_questions.specs.Asked.{AreBasisRows, IsAlong, IsModulusOver, AreElements};
 ghost use Rattle.affc_questions.specs.Sizes.{IsBroad};
 
@@ -99,6 +99,15 @@ fn add_agree(
     }
 }
 
+/// The first k rows.
+fn first_rows(rows: &[Form], k: usize) -> &[Form]
+    ensures { result.now ≡ take k rows.now }
+{
+    let n = if k < rows.len() { k } else { rows.len() };
+    let (first, _others) = rows.split_at(n);
+    first
+}
+
 /// The rows of a clash system and of its slice: the elements lie apart along none of the first k rows.
 fn slice_rows(
     alloc: Global,
@@ -110,8 +119,7 @@ fn slice_rows(
     ensures value { IfOk result (λ r. r ≡ (slice_system rows.now k pair.now).rows) }
     ensures fit { IfOk result (λ r. All (IsRow pair.now.system.columns) r) }
 {
-    let n = if k < rows.len() { k } else { rows.len() };
-    let (first, _others) = rows.split_at(n);
+    let first = first_rows(rows, k);
     let mut made = copied(alloc, pair.system.rows())?;
     add_agree(alloc, pair, first, &mut made)?;
     Ok(made)
@@ -140,50 +148,46 @@ fn less_one(alloc: Global, columns: u32, modulus: &Form) -> Result<Form, AllocEr
     Ok(made)
 }
 
-/// The question whether x lies behind y by at least the modulus.
-fn distance_question(
+/// Adds the row that x lies behind y by at least the modulus.
+fn add_distance(
     alloc: Global,
-    rows: &[Form],
-    k: usize,
     row: &Form,
     modulus: &Form,
     pair: &PairSystem,
     xs: &[Form],
     ys: &[Form],
-) -> Result<Long, AllocError>
-    requires rows { All (λ r. AreElements pair.now.system.columns r pair.now.x.items pair.now.y.items) rows.now }
+    out: &mut Items<Form>,
+) -> Result<(), AllocError>
     requires elements { AreElements pair.now.system.columns row.now xs.now ys.now }
     requires modulus { IsModulusOver pair.now.system.columns modulus.now }
-    ensures { IfOk result (λ q. q ≡ distance_question rows.now k row.now modulus.now pair.now xs.now ys.now) }
+    ensures { OnOk result (out.new ≡ out.old ++ gap_row (over_columns pair.now.system.columns modulus.now) (distance row.now xs.now ys.now) 0 ∷ []) }
 {
     let columns = pair.system.columns();
-    let mut made = slice_rows(alloc, rows, k, pair)?;
     let most = over_columns(alloc, columns, modulus)?;
     let apart = distance(alloc, columns, row, xs, ys)?;
-    add_gap(alloc, columns, &most, &apart, 0, &mut made)?;
-    Ok(Long::new(columns, made))
+    add_gap(alloc, columns, &most, &apart, 0, out)
 }
 
-/// The two questions of a clash system: whether, in the slice of the first k rows, the elements lie apart along the row by
-/// at least the modulus, the first one ahead, and the second one ahead.
-pub fn distance_questions(
+/// The rows that the two questions of a clash system have behind the system's: whether, in the slice of the first k rows, the
+/// elements lie apart along the row by at least the modulus, the first one ahead, and the second one ahead.
+pub fn distance_rows(
     alloc: Global,
     rows: &[Form],
     k: usize,
     row: &Form,
     modulus: &Form,
     pair: &PairSystem,
-) -> Result<Vec<Long>, AllocError>
+) -> Result<(Items<Form>, Items<Form>), AllocError>
     requires { IsAlong rows.now row.now modulus.now pair.now }
-    ensures { IfOk result (λ v. v.items ≡ distance_questions rows.now k row.now modulus.now (pair.now ∷ [])) }
+    ensures { IfOk result (λ more. distance_questions rows.now k row.now modulus.now (pair.now ∷ []) ≡ with_rows pair.now.system more.0 ∷ with_rows pair.now.system more.1 ∷ []) }
 {
     let (xs, ys) = (pair.x.as_slice(), pair.y.as_slice());
-    let first = distance_question(alloc, rows, k, row, modulus, pair, xs, ys)?;
-    let second = distance_question(alloc, rows, k, row, modulus, pair, ys, xs)?;
-    let mut both = Vec::new(alloc);
-    both.push(first)?;
-    both.push(second)?;
-    Ok(both)
+    let mut second = Items::new(alloc);
+    add_agree(alloc, pair, first_rows(rows, k), &mut second)?;
+    let mut first = copied(alloc, second.as_slice())?;
+    add_distance(alloc, row, modulus, pair, xs, ys, &mut first)?;
+    add_distance(alloc, row, modulus, pair, ys, xs, &mut second)?;
+    Ok((first, second))
 }
 
 /// Whether at a point the first element lies behind the second along the row.

@@ -5,6 +5,7 @@ mod beside;
 pub mod context;
 pub mod distances;
 mod image;
+pub mod laws;
 pub mod leaf;
 mod lists;
 pub mod long;
@@ -12,6 +13,6 @@ mod named;
 mod rows;
 
 pub use context::{greater_question, one_system, positive_question, whole_context};
-pub use distances::{distance_questions, is_behind, shown_system};
+pub use distances::{distance_rows, is_behind, shown_system};
 pub use leaf::leaf_questions;
 pub use long::Long;

@@ -1,19 +1,12 @@
-use Rattle.std.proofs.Common.{◌≤◌, ◌∙◌, sym, arith}
-use Rattle.std.proofs.lemmas.Bool.{false≢true}
-use Rattle.affc_check.proofs.CheckLemmas.{proved_by, not_deep}
+use Rattle.std.proofs.Common.{◌≤◌, arith}
+use Rattle.affc_check.proofs.CheckLemmas.{is_proved, is_proof}
 use Rattle.affc_check.proofs.checks.is_proved.Goals as goal
 
-pub returns-then-depth_at_most : goal.returns-then-depth_at_most
-returns-then-depth_at_most c =
+pub returns : goal.returns
+returns c =
     let q = c.args.question.now in
+    let p = c.args.proof.now in
     let columns : q.columns ≤ 128 = omega arith in (
-      λ t. proved_by q c.args.proof.now c.rows.result.now c.room-limit.result c.rows.ensures.rows c.rows.ensures.fit columns c.room-limit.ensures c.rows.ensures.few
-          (c.depth_at_most.ensures.0 c.if-depth_at_most.true) (c.check.ensures.exact.0 t),
-      λ h. c.check.ensures.exact.1 h.valid,
+      λ t. is_proved q p c.rows-rows.result.now c.rows-rows.ensures.rows c.rows-rows.ensures.fit columns (c.is_proof.ensures.0 t),
+      λ h. c.is_proof.ensures.1 (is_proof q p h),
     )
-
-pub returns-else-depth_at_most : goal.returns-else-depth_at_most
-returns-else-depth_at_most c = (
-  λ t. absurd (false≢true (sym c.if-depth_at_most.false ∙ t)),
-  λ h. c.depth_at_most.ensures.1 (not_deep c.args.question.now c.args.proof.now c.rows.result.now c.room-limit.result c.rows.ensures.rows c.room-limit.ensures c.rows.ensures.few h),
-)

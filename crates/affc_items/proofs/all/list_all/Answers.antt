@@ -1,7 +1,7 @@
 use Rattle.std.proofs.Common.{◌≡◌, ◌+◌, length, map, ap, arith}
 use Rattle.std.proofs.lemmas.Result.{err_from_is_err_and}
 use Rattle.affc_order.proofs.CodeLemmas.{is_nest}
-use Rattle.affc_items.specs.Held.{item_said}
+use Rattle.affc_items.specs.Held.{listed_said}
 use Rattle.affc_items.specs.Items.{Shown}
 use Rattle.affc_items.proofs.ListingLemmas.{folds_asked, is_listing, tree_is_first, fold_is_first}
 use Rattle.affc_items.proofs.all.list_all.Goals as goal
@@ -41,7 +41,7 @@ pub returns-clause-ok : goal.returns-clause-ok
 returns-clause-ok c =
     let x = c.in_ok-context_shown.field-0 in
     is_listing c.args.nest.now c.args.schedule.now c.args.cert.now c.as_slice.result.now (Shown x.system x.point)
-    (map item_said c.new-items.result.items) (map item_said c.add_point.new.out.items) (map item_said c.add_extent_questions.new.out.items) (map item_said c.add_bound_questions.new.out.items)
-    (map item_said c.add_flow_questions.new.out.items) (map item_said c.add_legality_questions.new.out.items) (map item_said c.add_folds.new.out.items) c.new-systems.result c.add_folds.new.systems c.as_slice-folds.result.now
-    c.as_slice.ensures c.in_ok-context_shown.ensures (ap (map item_said) c.new-items.ensures.items) c.new-systems.ensures c.as_slice-folds.ensures
+    (map listed_said c.new-items.result.items) (map listed_said c.add_point.new.out.items) (map listed_said c.add_extent_questions.new.out.items) (map listed_said c.add_bound_questions.new.out.items)
+    (map listed_said c.add_flow_questions.new.out.items) (map listed_said c.add_legality_questions.new.out.items) (map listed_said c.add_folds.new.out.items) c.args.systems.now c.as_slice-folds.result.now
+    c.as_slice.ensures c.in_ok-context_shown.ensures (ap (map listed_said) c.new-items.ensures.items) c.as_slice-folds.ensures
     c.in_ok-add_point.ensures c.in_ok-add_extent_questions.ensures c.in_ok-add_bound_questions.ensures c.in_ok-add_flow_questions.ensures.ok c.in_ok-add_legality_questions.ensures c.in_ok-add_folds.ensures.ok

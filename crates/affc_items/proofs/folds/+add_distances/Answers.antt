@@ -4,7 +4,7 @@ use Rattle.affc_conflicts.specs.Questions.{distance_questions}
 use Rattle.affc_life.proofs.LimitLemmas.{only_entry}
 use Rattle.affc_life.proofs.WalkLemmas.{each_front, each_back}
 use Rattle.affc_questions.specs.Asked.{IsAlong}
-use Rattle.affc_items.specs.Held.{item_said}
+use Rattle.affc_items.specs.Held.{listed_said}
 use Rattle.affc_items.specs.Items.{Question}
 use Rattle.affc_items.specs.Limits.{AnyPasses}
 use Rattle.affc_items.specs.Listed.{AreListed}
@@ -12,19 +12,19 @@ use Rattle.affc_items.proofs.FoldLemmas.{distances_both}
 use Rattle.affc_items.proofs.PartLemmas.{half_first, half_others, both_halves}
 use Rattle.affc_items.proofs.folds.+add_distances.Goals as goal
 
-pub returns-in_ok-longs-in-len1-clause-ok : goal.returns-in_ok-longs-in-len1-clause-ok
-returns-in_ok-longs-in-len1-clause-ok t c =
+pub returns-in-len1-clause-ok : goal.returns-in-len1-clause-ok
+returns-in-len1-clause-ok t c =
     let a = c.args.along.now in
     let only = only_entry c.args.systems.now c.pair-item.result c.in-len1.len_at_least c.in-len1.len_below c.pair-item.is in
-    let is = ap (map Question) (c.as_slice.ensures.value ∙ c.in_ok-longs-in-len1.ensures) ∙ ap (λ ss. map Question (distance_questions a.rows.now a.k a.row.now a.modulus.now ss)) (sym only) in
-    on_ok_weaker c.add_longs.result (λ h. subst (AreListed (map item_said c.args.out.now.items) (map item_said c.add_longs.new.out.items)) is h) c.add_longs.ensures.ok
+    let is = ap (λ ss. map Question (distance_questions a.rows.now a.k a.row.now a.modulus.now ss)) (sym only) in
+    on_ok_weaker c.add_distance.result (λ h. subst (AreListed (map listed_said c.args.out.now.items) (map listed_said c.add_distance.new.out.items)) is h) c.add_distance.ensures.ok
 
-pub returns-in_ok-longs-in-len1-clause-past : goal.returns-in_ok-longs-in-len1-clause-past
-returns-in_ok-longs-in-len1-clause-past t c =
+pub returns-in-len1-clause-past : goal.returns-in-len1-clause-past
+returns-in-len1-clause-past t c =
     let a = c.args.along.now in
     let only = only_entry c.args.systems.now c.pair-item.result c.in-len1.len_at_least c.in-len1.len_below c.pair-item.is in
-    let is = ap (map Question) (c.as_slice.ensures.value ∙ c.in_ok-longs-in-len1.ensures) ∙ ap (λ ss. map Question (distance_questions a.rows.now a.k a.row.now a.modulus.now ss)) (sym only) in
-    IfErr-weaker c.add_longs.result _ _ (λ e h l. subst AnyPasses is (h l)) c.add_longs.ensures.past
+    let is = ap (λ ss. map Question (distance_questions a.rows.now a.k a.row.now a.modulus.now ss)) (sym only) in
+    IfErr-weaker c.add_distance.result _ _ (λ e h l. subst AnyPasses is (h l)) c.add_distance.ensures.past
 
 pub add_distances-requires : goal.add_distances-requires
 add_distances-requires t c =
@@ -54,7 +54,7 @@ returns-in_err-add_distances-in_default-clause-past t c =
     let first = c.split_at.result.0.now in
     let others = c.split_at.result.1.now in
     let is = c.split_at.ensures.by_index.0 in
-    let p = err_from_is_err_and c.from_residual-in_err-add_distances-in_default.result c.from_residual-in_err-add_distances-in_default.ensures.1 in
+    let p = err_from_is_err_and c.from_residual.result c.from_residual.ensures.1 in
     rw (p.1, p.2) (λ l. half_first (λ ss. map Question (distance_questions a.rows.now a.k a.row.now a.modulus.now ss)) (distances_both a.rows.now a.k a.row.now a.modulus.now) c.args.systems.now first others is (c.in_err-add_distances-in_default.ensures.past l))
 
 pub returns-in_ok-add_distances-in_default-clause-ok : goal.returns-in_ok-add_distances-in_default-clause-ok
@@ -64,7 +64,7 @@ returns-in_ok-add_distances-in_default-clause-ok t c =
     let others = c.split_at.result.1.now in
     let is = c.split_at.ensures.by_index.0 in
     on_ok_weaker c.add_distances-in_default.result
-    (both_halves (λ ss. map Question (distance_questions a.rows.now a.k a.row.now a.modulus.now ss)) (distances_both a.rows.now a.k a.row.now a.modulus.now) c.args.systems.now first others is (map item_said c.args.out.now.items) (map item_said c.add_distances.new.out.items) (map item_said c.add_distances-in_default.new.out.items) c.in_ok-add_distances-in_default.ensures.ok)
+    (both_halves (λ ss. map Question (distance_questions a.rows.now a.k a.row.now a.modulus.now ss)) (distances_both a.rows.now a.k a.row.now a.modulus.now) c.args.systems.now first others is (map listed_said c.args.out.now.items) (map listed_said c.add_distances.new.out.items) (map listed_said c.add_distances-in_default.new.out.items) c.in_ok-add_distances-in_default.ensures.ok)
     c.add_distances-in_default.ensures.ok
 
 pub returns-in_ok-add_distances-in_default-clause-past : goal.returns-in_ok-add_distances-in_default-clause-past

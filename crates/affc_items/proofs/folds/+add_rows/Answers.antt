@@ -1,7 +1,7 @@
 use Rattle.std.proofs.Common.{◌≡◌, ◌+◌, ◌-◌, suc, length, map, take, drop, arith}
 use Rattle.std.proofs.lemmas.Result.{err_from_is_err_and, on_ok_weaker, IfErr-weaker}
 use Rattle.affc_sched.proofs.AnsweredLemmas.{front_is}
-use Rattle.affc_items.specs.Held.{item_said}
+use Rattle.affc_items.specs.Held.{listed_said}
 use Rattle.affc_items.proofs.FoldLemmas.{rows_listed, row_first, row_later}
 use Rattle.affc_items.proofs.folds.+add_rows.Goals as goal
 
@@ -27,7 +27,7 @@ returns-in_ok-add_row-in-len1-up-moduli-clause-ok t c =
     let js = front_is ms c.modulus-item.result c.in-len1-up-moduli.len_at_least c.modulus-item.is in
     let next : c.args.k + 1 ≡ suc c.args.k = omega arith in
     on_ok_weaker c.add_rows.result
-    (rows_listed c.args.nest.now c.args.systems.now c.args.rows.now c.args.k (c.args.k + 1) next more others c.row-item.result ms rest c.modulus-item.result is js (map item_said c.args.out.now.items) (map item_said c.add_row.new.out.items) (map item_said c.add_rows.new.out.items) c.in_ok-add_row-in-len1-up-moduli.ensures.ok) c.add_rows.ensures.ok
+    (rows_listed c.args.nest.now c.args.systems.now c.args.rows.now c.args.k (c.args.k + 1) next more others c.row-item.result ms rest c.modulus-item.result is js (map listed_said c.args.out.now.items) (map listed_said c.add_row.new.out.items) (map listed_said c.add_rows.new.out.items) c.in_ok-add_row-in-len1-up-moduli.ensures.ok) c.add_rows.ensures.ok
 
 pub returns-in_ok-add_row-in-len1-up-moduli-clause-past : goal.returns-in_ok-add_row-in-len1-up-moduli-clause-past
 returns-in_ok-add_row-in-len1-up-moduli-clause-past t c =

@@ -1,7 +1,7 @@
 use Rattle.std.proofs.Common.{◌∷◌, [], map, subst}
 use Rattle.std.proofs.lemmas.Result.{err_from_is_err_and, on_ok_weaker, IfErr-weaker}
 use Rattle.affc_items.specs.Certs.{modulus_said}
-use Rattle.affc_items.specs.Held.{item_said}
+use Rattle.affc_items.specs.Held.{listed_said}
 use Rattle.affc_items.specs.Items.{Question}
 use Rattle.affc_items.specs.Limits.{AnyPasses}
 use Rattle.affc_items.specs.Listed.{AreListed}
@@ -21,8 +21,8 @@ returns-in_err-add_distances-clause-past c =
 pub returns-clause-ok : goal.returns-clause-ok
 returns-clause-ok c =
     on_ok_weaker c.add_mark.result
-    (row_listed c.args.nest.now c.args.systems.now c.args.rows.now c.args.k c.args.row.now (modulus_said c.args.modulus.now) (map item_said c.args.out.now.items) (map item_said c.add_long.new.out.items) (map item_said c.add_distances.new.out.items) (map item_said c.add_mark.new.out.items)
-    (subst (λ q. AreListed (map item_said c.args.out.now.items) (map item_said c.add_long.new.out.items) (Question q ∷ [])) c.in_ok-positive.ensures c.in_ok-add_long.ensures.ok) c.in_ok-add_distances.ensures.ok)
+    (row_listed c.args.nest.now c.args.systems.now c.args.rows.now c.args.k c.args.row.now (modulus_said c.args.modulus.now) (map listed_said c.args.out.now.items) (map listed_said c.add_long.new.out.items) (map listed_said c.add_distances.new.out.items) (map listed_said c.add_mark.new.out.items)
+    (subst (λ q. AreListed (map listed_said c.args.out.now.items) (map listed_said c.add_long.new.out.items) (Question q ∷ [])) c.in_ok-positive.ensures c.in_ok-add_long.ensures.ok) c.in_ok-add_distances.ensures.ok)
     c.add_mark.ensures.ok
 
 pub returns-clause-past : goal.returns-clause-past

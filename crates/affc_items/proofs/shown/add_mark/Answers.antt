@@ -3,7 +3,7 @@ use Rattle.std.proofs.lemmas.Result.{on_ok_weaker, IfErr-weaker}
 use Rattle.affc_certfold.specs.Limits.{IsMarkWithin, IsLeastWithin}
 use Rattle.affc_conflicts.specs.Questions.{greater_question}
 use Rattle.affc_items.specs.Certs.{least_said}
-use Rattle.affc_items.specs.Held.{item_said, context_item}
+use Rattle.affc_items.specs.Held.{listed_said, context_item}
 use Rattle.affc_items.specs.Items.{Question, LeastShown, mark_items}
 use Rattle.affc_items.specs.Limits.{AnyPasses}
 use Rattle.affc_items.specs.Listed.{AreListed}
@@ -22,15 +22,15 @@ returns-in_ok-greater-in-Some-clause-ok c =
     let nest = a.nest.now in
     let least = c.in-Some.least in
     let l : LeastShown = record { p = least.p; pair = least.pair } in
-    let old = map item_said c.args.out.now.items in
-    let second = map item_said c.add_point-in-Some.new.out.items in
-    let new = map item_said c.add_long.new.out.items in
+    let old = map listed_said c.args.out.now.items in
+    let second = map listed_said c.add_point-in-Some.new.out.items in
+    let new = map listed_said c.add_long.new.out.items in
     let x = c.in_ok-context_shown-in-Some.field-0 in
     let y = c.in_ok-need_shown-in-Some.field-0 in
     let greater = c.in_ok-greater-in-Some.ensures ∙ ap (greater_question nest.context nest.params a.modulus.now) c.as_slice-p.ensures in
     on_ok_weaker c.add_long.result
     (λ h. subst (λ o. AreListed old new (mark_items nest a.rows.now a.k a.row.now a.modulus.now a.systems.now (least_said o))) (sym c.in-Some.is)
-    (mark_listed nest a.rows.now a.k a.row.now a.modulus.now a.systems.now l old (map item_said c.add_point.new.out.items) second new x.system y.system x.point y.point
+    (mark_listed nest a.rows.now a.k a.row.now a.modulus.now a.systems.now l old (map listed_said c.add_point.new.out.items) second new x.system y.system x.point y.point
     (c.in_ok-context_shown-in-Some.ensures ∙ ap (context_item nest) c.as_slice-p.ensures) c.in_ok-need_shown-in-Some.ensures c.in_ok-add_point-in-Some.ensures c.in_ok-add_point-in-Some-2.ensures
     (subst (λ q. AreListed second new (Question q ∷ [])) greater h)))
     c.add_long.ensures.ok

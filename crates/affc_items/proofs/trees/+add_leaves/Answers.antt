@@ -6,7 +6,7 @@ use Rattle.affc_quast.specs.SeenLeaves.{leaf_seen}
 use Rattle.affc_life.specs.Asked.{IsPath}
 use Rattle.affc_life.proofs.LimitLemmas.{only_entry}
 use Rattle.affc_life.proofs.WalkLemmas.{each_front, each_back}
-use Rattle.affc_items.specs.Held.{item_said}
+use Rattle.affc_items.specs.Held.{listed_said}
 use Rattle.affc_items.specs.Limits.{AnyPasses}
 use Rattle.affc_items.specs.Listed.{AreListed}
 use Rattle.affc_items.specs.Walks.{leaf_items}
@@ -18,7 +18,7 @@ pub returns-in-len1-clause-ok : goal.returns-in-len1-clause-ok
 returns-in-len1-clause-ok t c =
     let only = only_entry c.args.leaves.now c.leaf-item.result c.in-len1.len_at_least c.in-len1.len_below c.leaf-item.is in
     let is = sym (append_nil (leaf_items c.args.nest.now c.args.reader.now c.args.load.now (leaf_seen c.leaf-item.result))) ∙ ap (λ ls. flat_map (leaf_items c.args.nest.now c.args.reader.now c.args.load.now) (map leaf_seen ls)) (sym only) in
-    on_ok_weaker c.add_leaf.result (λ h. subst (AreListed (map item_said c.args.out.now.items) (map item_said c.add_leaf.new.out.items)) is h) c.add_leaf.ensures.ok
+    on_ok_weaker c.add_leaf.result (λ h. subst (AreListed (map listed_said c.args.out.now.items) (map listed_said c.add_leaf.new.out.items)) is h) c.add_leaf.ensures.ok
 
 pub returns-in-len1-clause-past : goal.returns-in-len1-clause-past
 returns-in-len1-clause-past t c =
@@ -64,7 +64,7 @@ returns-in_ok-add_leaves-in_default-clause-ok t c =
     let others = c.split_at.result.1.now in
     let is = c.split_at.ensures.by_index.0 in
     on_ok_weaker c.add_leaves-in_default.result
-    (both_halves (λ ls. flat_map (leaf_items c.args.nest.now c.args.reader.now c.args.load.now) (map leaf_seen ls)) (λ xs ys. ap (flat_map (leaf_items c.args.nest.now c.args.reader.now c.args.load.now)) (map-append leaf_seen xs ys) ∙ flat_both (leaf_items c.args.nest.now c.args.reader.now c.args.load.now) (map leaf_seen xs) (map leaf_seen ys)) c.args.leaves.now first others is (map item_said c.args.out.now.items) (map item_said c.add_leaves.new.out.items) (map item_said c.add_leaves-in_default.new.out.items) c.in_ok-add_leaves-in_default.ensures.ok)
+    (both_halves (λ ls. flat_map (leaf_items c.args.nest.now c.args.reader.now c.args.load.now) (map leaf_seen ls)) (λ xs ys. ap (flat_map (leaf_items c.args.nest.now c.args.reader.now c.args.load.now)) (map-append leaf_seen xs ys) ∙ flat_both (leaf_items c.args.nest.now c.args.reader.now c.args.load.now) (map leaf_seen xs) (map leaf_seen ys)) c.args.leaves.now first others is (map listed_said c.args.out.now.items) (map listed_said c.add_leaves.new.out.items) (map listed_said c.add_leaves-in_default.new.out.items) c.in_ok-add_leaves-in_default.ensures.ok)
     c.add_leaves-in_default.ensures.ok
 
 pub returns-in_ok-add_leaves-in_default-clause-past : goal.returns-in_ok-add_leaves-in_default-clause-past

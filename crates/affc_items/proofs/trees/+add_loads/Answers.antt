@@ -6,7 +6,7 @@ use Rattle.affc_sched.proofs.AnsweredLemmas.{front_is}
 use Rattle.affc_quast.specs.Seen.{seen}
 use Rattle.affc_life.proofs.SubscriptLemmas.{few_accesses}
 use Rattle.affc_life.proofs.WalkLemmas.{load_there, load_counts}
-use Rattle.affc_items.specs.Held.{item_said}
+use Rattle.affc_items.specs.Held.{listed_said}
 use Rattle.affc_items.proofs.TreeLemmas.{not_empty, is_empty, loads_listed, load_passes, later_passes, last_listed}
 use Rattle.affc_items.proofs.trees.+add_loads.Goals as goal
 
@@ -57,7 +57,7 @@ returns-then-is_empty-clause-ok t c =
     let rest = take (length xs - 1) (drop 1 xs) in
     let x = c.load-item.result in
     let is = front_is xs x c.in-len1-up.len_at_least c.load-item.is in
-    last_listed nest own reader n xs rest x (map item_said c.args.out.now.items) is (is_empty rest c.is_empty.result c.is_empty.ensures c.if-is_empty.true)
+    last_listed nest own reader n xs rest x (map listed_said c.args.out.now.items) is (is_empty rest c.is_empty.result c.is_empty.ensures c.if-is_empty.true)
 
 pub returns-in_err-add_part-in-len1-up-clause-past : goal.returns-in_err-add_part-in-len1-up-clause-past
 returns-in_err-add_part-in-len1-up-clause-past t c =
@@ -85,7 +85,7 @@ returns-in-Some-clause-ok t c =
     let is = front_is xs x c.in-len1-up.len_at_least c.load-item.is in
     let more = not_empty rest c.is_empty.result c.is_empty.ensures c.if-is_empty.false in
     on_ok_weaker c.add_loads.result
-    (loads_listed nest own reader n xs rest x is more (map item_said c.args.out.now.items) (map item_said c.add_part.new.out.items) (map item_said c.add_loads.new.out.items) c.in_ok-add_part-in-len1-up.ensures.ok)
+    (loads_listed nest own reader n xs rest x is more (map listed_said c.args.out.now.items) (map listed_said c.add_part.new.out.items) (map listed_said c.add_loads.new.out.items) c.in_ok-add_part-in-len1-up.ensures.ok)
     c.add_loads.ensures.ok
 
 pub returns-in-Some-clause-past : goal.returns-in-Some-clause-past

@@ -2,7 +2,7 @@ use Rattle.std.proofs.Common.{◌≡◌, ◌+◌, ◌-◌, length, map, take, dr
 use Rattle.std.proofs.lemmas.Result.{err_from_is_err_and, on_ok_weaker, IfErr-weaker}
 use Rattle.affc_sched.proofs.AnsweredLemmas.{front_is}
 use Rattle.affc_quast.specs.Seen.{seen}
-use Rattle.affc_items.specs.Held.{item_said}
+use Rattle.affc_items.specs.Held.{listed_said}
 use Rattle.affc_items.proofs.TreeLemmas.{entries_listed, entry_first, entry_later}
 use Rattle.affc_items.proofs.trees.+add_readers.Goals as goal
 
@@ -26,7 +26,7 @@ returns-in-Some-clause-ok t c =
     let e = c.reader-item.result in
     let is = front_is es e c.in-len1-up.len_at_least c.reader-item.is in
     on_ok_weaker c.add_readers.result
-    (entries_listed nest trees es rest e is (map item_said c.args.out.now.items) (map item_said c.add_reader.new.out.items) (map item_said c.add_readers.new.out.items) c.in_ok-add_reader-in-len1-up.ensures.ok) c.add_readers.ensures.ok
+    (entries_listed nest trees es rest e is (map listed_said c.args.out.now.items) (map listed_said c.add_reader.new.out.items) (map listed_said c.add_readers.new.out.items) c.in_ok-add_reader-in-len1-up.ensures.ok) c.add_readers.ensures.ok
 
 pub returns-in-Some-clause-past : goal.returns-in-Some-clause-past
 returns-in-Some-clause-past t c =

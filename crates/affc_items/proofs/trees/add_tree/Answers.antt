@@ -6,7 +6,7 @@ use Rattle.affc_quast.specs.Seen.{seen}
 use Rattle.affc_quast.specs.SeenLeaves.{leaf_seen}
 use Rattle.affc_quast.specs.Trees.{divisions_of}
 use Rattle.affc_life.proofs.LeafLemmas.{paths_of, few_divisions}
-use Rattle.affc_items.specs.Held.{item_said}
+use Rattle.affc_items.specs.Held.{listed_said}
 use Rattle.affc_items.specs.Limits.{AnyPasses}
 use Rattle.affc_items.specs.Listed.{AreListed}
 use Rattle.affc_items.specs.Walks.{leaf_items}
@@ -28,7 +28,7 @@ add_leaves-requires-clause-paths c =
 pub returns-clause-ok : goal.returns-clause-ok
 returns-clause-ok c =
     let is = ap (flat_map (leaf_items c.args.nest.now c.args.reader.now c.args.load.now)) (ap (map leaf_seen) c.as_slice.ensures.value ∙ c.in_ok-leaves.ensures ∙ ap (λ k. leaves_of k (seen c.args.tree.now)) c.columns_of.ensures.value) in
-    on_ok_weaker c.add_leaves.result (λ h. subst (AreListed (map item_said c.args.out.now.items) (map item_said c.add_leaves.new.out.items)) is h) c.add_leaves.ensures.ok
+    on_ok_weaker c.add_leaves.result (λ h. subst (AreListed (map listed_said c.args.out.now.items) (map listed_said c.add_leaves.new.out.items)) is h) c.add_leaves.ensures.ok
 
 pub returns-clause-past : goal.returns-clause-past
 returns-clause-past c =
