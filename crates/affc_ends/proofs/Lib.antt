@@ -1,0 +1,16 @@
+pub mod Both
+pub mod Scaled
+pub mod Turns
+pub mod Widths
+pub mod Exact
+pub mod Instances
+pub mod Projected
+pub mod Extended
+pub mod Near
+pub mod Composed
+pub mod Given
+pub mod Chosen
+pub mod Asked
+pub mod Bounded
+pub mod Statements
+pub mod ExampleProofs

@@ -1,0 +1,9 @@
+pub mod TimeSets
+pub mod TimeRows
+pub mod Ends
+pub mod Sizes
+pub mod Images
+pub mod Whys
+pub mod Steps
+pub mod Laws
+pub mod Examples

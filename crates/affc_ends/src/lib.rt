@@ -1,0 +1,15 @@
+//! The ends of the loops that scan a statement's times, projected from its time set.
+#![tactic(auto)]
+
+pub mod bounds;
+pub mod ends;
+pub mod examples;
+pub mod laws;
+mod questions;
+pub mod statement;
+pub mod system;
+
+pub use bounds::{Bounds, Why};
+pub use ends::component_ends;
+pub use statement::statement_ends;
+pub use system::time_system;
