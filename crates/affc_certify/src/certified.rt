@@ -12,6 +12,8 @@ use crate::drafting::Draft;
 use crate::kept::{Made, turned};
 use crate::shown::are_shown;
 use affc_accept::accept;
+use affc_accept::columns::in_text;
+use affc_accept::layout::layout;
 use affc_ast::tree::ArrayId;
 use affc_basis::Fold;
 use affc_cert::Cert;
@@ -63,9 +65,22 @@ fn made(
     Ok(made)
 }
 
-/// The text of a certificate.
-fn written(alloc: Global, cert: &Cert) -> Result<Vec<u8>, AllocError> {
-    match to_json(alloc, cert) {
+/// The text of a certificate, which has the iterators first in its trees' forms.
+fn written(alloc: Global, nest: &Nest, cert: Cert) -> Result<Vec<u8>, AllocError> {
+    let Cert {
+        context,
+        flow,
+        folds,
+        proofs,
+    } = cert;
+    let layout = layout(alloc, nest)?;
+    let cert = Cert {
+        context,
+        flow: in_text(alloc, &layout, &flow)?,
+        folds,
+        proofs,
+    };
+    match to_json(alloc, &cert) {
         Ok(text) => Ok(text),
         Err(_) => Err(AllocError),
     }
@@ -129,7 +144,7 @@ pub fn certify(
         folds: entries,
         proofs,
     };
-    let text = written(alloc, &cert)?;
+    let text = written(alloc, nest, cert)?;
     look(alloc, nest, plan, text.as_slice(), kept.as_slice())?;
     Ok(Certified { text, folds: kept })
 }
