@@ -13,7 +13,7 @@ mod wanted;
 use affc_io::{Folder, StdFolder};
 use case::{Case, is_piece};
 use fault::Fault;
-use plain::cut;
+use plain::{cut, number};
 use std::alloc::{AllocError, Global};
 use std::process::ExitCode;
 use std::{env, io};
@@ -69,6 +69,35 @@ fn try_lines<F: Folder>(
     Ok(())
 }
 
+// Adds the words that a part of a line stands for: `0..9` for the numbers from 0 to 9.
+fn add_words(alloc: Global, part: &str, words: &mut Vec<String>) -> Result<(), AllocError> {
+    if let Some((first, last)) = part.split_once("..") {
+        if let (Ok(first), Ok(last)) = (number(first), number(last)) {
+            for word in first..=last {
+                words.push(format!(in alloc; "{word}")?)?;
+            }
+            return Ok(());
+        }
+    }
+    words.push(String::from_str(alloc, part)?)
+}
+
+// The words for which a row is tried, and its lines. A row without words is tried with an empty one.
+fn words_of<'a>(
+    alloc: Global,
+    lines: &'a [&'a str],
+) -> Result<(Vec<String>, &'a [&'a str]), AllocError> {
+    let (line, lines) = match lines {
+        [first, behind @ ..] if first.starts_with("each ") => (cut(first).1, behind),
+        _ => ("", lines),
+    };
+    let mut words = Vec::new(alloc);
+    for part in line.split(' ') {
+        add_words(alloc, part, &mut words)?;
+    }
+    Ok((words, lines))
+}
+
 // Tries a row, and tells what isn't as it should be.
 fn try_row<F: Folder>(
     alloc: Global,
@@ -77,12 +106,9 @@ fn try_row<F: Folder>(
     totals: &mut Totals,
 ) -> Result<String, AllocError> {
     let mut told = String::new(alloc);
-    let (words, lines) = match lines {
-        [first, behind @ ..] if first.starts_with("each ") => (cut(first).1, behind),
-        _ => ("", lines),
-    };
-    for word in words.split(' ') {
-        let mut case = Case::new(alloc, word);
+    let (words, lines) = words_of(alloc, lines)?;
+    for word in words.iter() {
+        let mut case = Case::new(alloc, word.as_str());
         try_lines(alloc, lines, &mut case, data)?;
         totals.calls = totals.calls.saturating_add(case.calls);
         if !case.told.is_empty() {
