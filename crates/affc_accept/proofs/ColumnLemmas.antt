@@ -11,7 +11,7 @@ use Rattle.affc_quast.specs.Trees.{Tree, Test, Div, Source, Input, depth_of}
 use Rattle.affc_certtree.specs.Within.{NamesStores, IsTreeWithin}
 use Rattle.affc_certtree.specs.declared.layout.Load.{Load}
 use Rattle.affc_certtree.specs.declared.layout.Store.{Store}
-use Rattle.affc_accept.specs.Columns.{exchanged, form_exchanged, tree_exchanged, iterators_of, trees_in_text, trees_from_text}
+use Rattle.affc_accept.specs.Columns.{exchanged, form_exchanged, tree_exchanged, iterators_of, trees_in_text, trees_from_text, ColumnsComeBack}
 
 -- ---- Fronts
 
@@ -212,3 +212,17 @@ module _ (p : ℕ) where
 
   pub in_text_within : (loads : List Load) (trees : List Tree) → AllZip IsTreeWithin loads (trees_in_text p loads trees) → AllZip IsTreeWithin loads trees
   in_text_within loads trees h = subst (AllZip IsTreeWithin loads) (from_text_back loads trees h) (from_text_within loads (trees_in_text p loads trees) h)
+
+  within_in_text : (loads : List Load) (trees : List Tree) → AllZip IsTreeWithin loads trees → AllZip IsTreeWithin loads (trees_in_text p loads trees)
+  within_in_text [] trees h = h
+  within_in_text (l ∷ loads) [] h = absurd h
+  within_in_text (l ∷ loads) (t ∷ trees) h = (within_too p (iterators_of p l) l t h.0, within_in_text loads trees h.1)
+
+  pub both_back : (loads : List Load) (trees : List Tree) → AllZip IsTreeWithin loads trees
+      → (trees_in_text p loads (trees_from_text p loads trees) ≡ trees) × (trees_from_text p loads (trees_in_text p loads trees) ≡ trees)
+  both_back loads trees h = (back_in_text loads trees h, from_text_back loads trees (within_in_text loads trees h))
+
+pub columns_come_back : ColumnsComeBack
+columns_come_back layout c w =
+    let h = both_back layout.parameters layout.loads c.trees w.trees in
+    (ap (λ ts. record c { trees = ts }) h.0, ap (λ ts. record c { trees = ts }) h.1)

@@ -1,8 +1,9 @@
 -- The columns of trees in a certificate's text: there the iterators stand first, and then the parameters.
-use Rattle.std.specs.Prelude.{ℕ, ◌-◌, List, [], ◌∷◌, ◌++◌, map, take, drop}
+use Rattle.std.specs.Prelude.{◌≡◌, ℕ, ◌-◌, List, [], ◌∷◌, ◌++◌, map, take, drop}
 use Rattle.affc_rows.specs.Forms.{Affine}
 use Rattle.affc_quast.specs.Trees.{Tree, Test, Div, Source, Input}
 use Rattle.affc_cert.specs.Certificates.{Certificate}
+use Rattle.affc_cert.specs.Within.{IsWithin}
 use Rattle.affc_cert.specs.declared.layout.Layout.{Layout}
 use Rattle.affc_certtree.specs.declared.layout.Load.{Load}
 
@@ -42,3 +43,7 @@ in_text layout c = record c { trees = trees_in_text layout.parameters layout.loa
 
 abbrev pub from_text : Layout → Certificate → Certificate
 from_text layout c = record c { trees = trees_from_text layout.parameters layout.loads c.trees }
+
+-- Of certificates within the limits each undoes the other.
+abbrev pub ColumnsComeBack : Type 0
+ColumnsComeBack = (layout : Layout) (c : Certificate) → IsWithin layout c → (in_text layout (from_text layout c) ≡ c) × (from_text layout (in_text layout c) ≡ c)

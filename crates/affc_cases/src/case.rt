@@ -64,7 +64,7 @@ fn add_repeated(alloc: Global, text: &mut Vec<u8>, more: &str, word: &str) -> Re
     let (count, line) = cut(more);
     let mut part = Vec::new(alloc);
     add_plain(&mut part, line, word)?;
-    let count = number(count)? as usize;
+    let count = number(plain(alloc, count, word)?.as_str())? as usize;
     if let [byte] = part.as_slice() {
         text.resize(text.len().saturating_add(count), *byte)?;
         return Ok(());

@@ -79,7 +79,8 @@ fn add_words(alloc: Global, part: &str, words: &mut Vec<String>) -> Result<(), A
             return Ok(());
         }
     }
-    words.push(String::from_str(alloc, part)?)
+    words.push(String::from_str(alloc, part)?)?;
+    Ok(())
 }
 
 // The words for which a row is tried, and its lines. A row without words is tried with an empty one.
