@@ -1,6 +1,6 @@
 -- Columns that are exchanged and exchanged back.
 use Rattle.std.proofs.Common.{◌≡◌, ℕ, Bool, true, false, ◌==◌, zero, suc, ◌+◌, ◌≤◌, List, [], ◌∷◌, ◌++◌, length, map, take, drop, refl, sym, ap, ap₂, subst, ◌∙◌, inl, inr, arith}
-use Rattle.std.specs.Prelude.{◌-◌, ◌⊎◌, max, unsigned_abs, Some}
+use Rattle.std.specs.Prelude.{◌⊎◌, max, unsigned_abs, Some}
 use Rattle.std.specs.List.{All, AllZip}
 use Rattle.std.proofs.lemmas.List.{take-append-drop, length-append, length-map}
 use Rattle.std.proofs.lemmas.Bool.{eqb-true, eqb-false}

@@ -19,7 +19,7 @@ use Rattle.affc_check.specs.declared.fault.CheckFault.{CheckFault}
 use Rattle.affc_check.specs.declared.fault.CheckFault.TheVariants as items
 use Rattle.affc_check.proofs.ReadFor.{read_is_for}
 use Rattle.serde_json.specs.Data.{Data}
-use Rattle.affc_accept.specs.declared.fault.AcceptFault.TheVariants.{Certificate}
+use Rattle.affc_accept.specs.declared.fault.AcceptFault.TheVariants.{Certificate as OfText}
 use Rattle.affc_accept.specs.Accepted.{IsRead}
 use Rattle.affc_accept.specs.Bases.{KeepBases, HasOther}
 use Rattle.affc_accept.specs.Columns.{in_text, from_text}
@@ -89,5 +89,5 @@ module _ (nest : Nest) (plan : Plan) (bytes : List ℕ) (cert : Cert) (read : Is
 
 -- the first fold with another basis
 pub basis_refused : (nest : Nest) (plan : Plan) (cert : Cert) (fold part : ℕ) → part ≡ (1 + length cert.flow.trees) + fold → IsFirst (HasOther nest plan.folds) cert.folds fold
-    → (bytes : List ℕ) → IsRead nest bytes cert → AcceptRefuses nest plan bytes (Certificate (text.Shape part))
+    → (bytes : List ℕ) → IsRead nest bytes cert → AcceptRefuses nest plan bytes (OfText (text.Shape part))
 basis_refused nest plan cert fold part number first bytes read = inr (record { cert = cert; read = read; fold = fold; number = number; first = first })

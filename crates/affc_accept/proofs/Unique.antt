@@ -4,7 +4,6 @@ use native.Mathlib.Bridge.{le_prop}
 use Rattle.std.proofs.Common.{◌≡◌, ℕ, ◌≤◌, ℤ, List, [], ◌∷◌, ◌++◌, map, Some, None, refl, sym, ap, ap₂, subst, ◌∙◌, inl, inr}
 use Rattle.std.proofs.lemmas.Option.{same_Some}
 use Rattle.affc_ast.specs.declared.tree.ArrayId.{ArrayId}
-use Rattle.affc_farkas.specs.declared.proof.Proof.{Proof}
 use Rattle.affc_trace.specs.declared.schedule.Schedule.{Schedule}
 use Rattle.affc_basis.specs.declared.basis.Basis.{Basis}
 use Rattle.affc_nest.specs.declared.nest.Nest.{Nest}
@@ -77,7 +76,7 @@ one_value bytes d e h k = same_Some d e (sym h.1 ∙ k.1)
 one_before : (l : Layout) (a b : Certificate) → refusal l (cert_value (in_text l a)) ≡ None → refusal l (cert_value (in_text l b)) ≡ None → in_text l a ≡ in_text l b → a ≡ b
 one_before l a b h k e =
     let back : (c : Certificate) → refusal l (cert_value (in_text l c)) ≡ None → trees_from_text l.parameters l.loads (trees_in_text l.parameters l.loads c.trees) ≡ c.trees
-        = λ c right. from_text_back l.parameters l.loads c.trees (is_within l (in_text l c) right).trees in
+    = λ c right. from_text_back l.parameters l.loads c.trees (is_within l (in_text l c) right).trees in
     let trees : a.trees ≡ b.trees = sym (back a h) ∙ ap (λ (c : Certificate). trees_from_text l.parameters l.loads c.trees) e ∙ back b k in
     λ i. record { context = (e i).context; trees = trees i; folds = (e i).folds; proofs = (e i).proofs }
 

@@ -11,12 +11,7 @@ use sqlite_items::Items;
 use std::alloc::{AllocError, Global};
 
 // The form with so many columns at the head behind so many that follow them.
-fn form_exchanged(
-    alloc: Global,
-    form: &Form,
-    first: u32,
-    second: u32,
-) -> Result<Form, AllocError>
+fn form_exchanged(alloc: Global, form: &Form, first: u32, second: u32) -> Result<Form, AllocError>
     ensures { IfOk result (λ f. f ≡ specs.form_exchanged first second form.now) }
 {
     let all = form.coefs.as_slice();
@@ -52,12 +47,7 @@ fn add_exchanged(
 }
 
 // The tree with its forms exchanged so.
-fn tree_exchanged(
-    alloc: Global,
-    tree: &Quast,
-    first: u32,
-    second: u32,
-) -> Result<Quast, AllocError>
+fn tree_exchanged(alloc: Global, tree: &Quast, first: u32, second: u32) -> Result<Quast, AllocError>
     ensures { IfOk result (λ t. seen t ≡ specs.tree_exchanged first second (seen tree.now)) }
 {
     match tree {
@@ -127,7 +117,13 @@ pub fn in_text(alloc: Global, layout: &Layout, flow: &Flow) -> Result<Flow, Allo
 {
     let mut trees = Items::new(alloc);
     let loads = layout.loads.as_slice();
-    add_in_text(alloc, layout.parameters, loads, flow.trees.as_slice(), &mut trees)?;
+    add_in_text(
+        alloc,
+        layout.parameters,
+        loads,
+        flow.trees.as_slice(),
+        &mut trees,
+    )?;
     Ok(Flow { trees })
 }
 
@@ -163,6 +159,12 @@ pub fn from_text(alloc: Global, layout: &Layout, flow: &Flow) -> Result<Flow, Al
 {
     let mut trees = Items::new(alloc);
     let loads = layout.loads.as_slice();
-    add_from_text(alloc, layout.parameters, loads, flow.trees.as_slice(), &mut trees)?;
+    add_from_text(
+        alloc,
+        layout.parameters,
+        loads,
+        flow.trees.as_slice(),
+        &mut trees,
+    )?;
     Ok(Flow { trees })
 }
