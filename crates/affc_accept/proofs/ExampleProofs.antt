@@ -7,7 +7,7 @@ use Rattle.affc_basis.specs.Examples.{whole}
 use Rattle.affc_basis.specs.Listed.{Shape, shape_of}
 use Rattle.affc_folds.specs.Examples.{turned}
 use Rattle.affc_nest.specs.declared.nest.ArrayInfo.{ArrayInfo}
-use Rattle.affc_accept.specs.Examples.{plain_number, DeadStoresNothing, ScalarHasNoFold, GivenIsKept, WholeIsKept, OtherModulusIsNot, OtherBasisIsNot, NoneIsGiven}
+use Rattle.affc_accept.specs.Examples.{plain_number, DeadStoresNothing, ScalarHasNoFold, GivenIsKept, WholeIsKept, OtherModulusIsNot, OtherBasisIsNot, NoneIsGiven, IteratorsComeFirst}
 
 pub dead_stores_nothing : DeadStoresNothing
 dead_stores_nothing = refl
@@ -52,3 +52,6 @@ other_modulus_is_not (inr w) =
 pub other_basis_is_not : OtherBasisIsNot
 other_basis_is_not (inl e) = differ (sym e)
 other_basis_is_not (inr w) = differ (sym w.unit)
+
+pub iterators_come_first : IteratorsComeFirst
+iterators_come_first = refl

@@ -1,5 +1,6 @@
 pub mod Listed
 pub mod Same
+pub mod ColumnLemmas
 pub mod Refused
 pub mod Shows
 pub mod Alike

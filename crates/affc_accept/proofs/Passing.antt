@@ -29,7 +29,6 @@ use Rattle.affc_cert.specs.Refusals.{refusal}
 use Rattle.affc_cert.specs.Values.{cert_value}
 use Rattle.affc_cert.specs.declared.cert.Cert.{Cert}
 use Rattle.affc_cert.specs.declared.layout.Layout.{Layout}
-use Rattle.affc_cert.proofs.Within.{is_within}
 use Rattle.affc_certfold.specs.Entries.{entry_of}
 use Rattle.affc_certfold.specs.Limits.{IsFoldWithin}
 use Rattle.affc_certfold.specs.declared.fold.CertFold.{CertFold}
@@ -42,8 +41,10 @@ use Rattle.affc_items.specs.Passes.{items_by_tree, FoldPasses, PassesFirst}
 use Rattle.affc_check.specs.Valid.{IsProved, AreValid}
 use Rattle.affc_items.proofs.FoldLemmas.{same_fold}
 use Rattle.affc_items.proofs.TreeLemmas.{trees_flat}
+use Rattle.affc_accept.specs.Columns.{in_text}
 use Rattle.affc_accept.specs.Layouts.{dimensions_of, IsLayout}
 use Rattle.affc_accept.proofs.Alike.{same_array, said_alike, like_in}
+use Rattle.affc_accept.proofs.Refused.{certificate_within}
 use Rattle.affc_accept.proofs.Listed.{temporary_in}
 
 -- ---- Questions with a valid proof are within the limits
@@ -177,7 +178,7 @@ has_rows nest layout cs c l within i =
 
 -- ---- Two certificates that say the same
 
-module _ (nest : Nest) (schedule : Schedule) (a b : Cert) (layout : Layout) (same : seen a ≡ seen b) (l : IsLayout nest layout) (right : refusal layout (cert_value (seen a)) ≡ None)
+module _ (nest : Nest) (schedule : Schedule) (a b : Cert) (layout : Layout) (same : seen a ≡ seen b) (l : IsLayout nest layout) (right : refusal layout (cert_value (in_text layout (seen a))) ≡ None)
     (is : List Item) (are : AreItems nest schedule a is) (valid : AreValid is a.proofs) where
   trees_same : trees_of a.flow ≡ trees_of b.flow
   trees_same = ap (λ (s : Certificate). s.trees) same
@@ -218,7 +219,7 @@ module _ (nest : Nest) (schedule : Schedule) (a b : Cert) (layout : Layout) (sam
       elim passes [
         | inl large ↦ (
             let mine : IsFoldSaid nest schedule (trees_of b.flow) r.0 f.0 = subst (λ ts. IsFoldSaid nest schedule ts r.0 f.0) trees_same f.2 in
-            no_large r.0 f.0 (has_rows nest layout a.folds r.0 l (is_within layout (seen a) right).folds r.1) f.1 mine
+            no_large r.0 f.0 (has_rows nest layout a.folds r.0 l (certificate_within layout (seen a) right).folds r.1) f.1 mine
             (subst (λ n. AnyLarge (clashes nest (trees_of b.flow) schedule n)) (sym (same_array r.0 d r.2)) large)
             )
         | inr g ↦ (

@@ -1,10 +1,11 @@
 -- What is read of a text, and why one is refused.
-use Rattle.std.proofs.Common.{◌≡◌, ◌≢◌, ℕ, ◌+◌, List, length, None, refl, inl, inr}
+use Rattle.std.proofs.Common.{◌≡◌, ◌≢◌, ℕ, ◌+◌, List, length, None, refl, sym, ap, subst, ◌∙◌, inl, inr}
 use Rattle.affc_nest.specs.declared.nest.Nest.{Nest}
 use Rattle.affc_schedtext.specs.declared.plan.Plan.{Plan}
-use Rattle.affc_cert.specs.Certificates.{seen}
+use Rattle.affc_cert.specs.Certificates.{Certificate, seen}
 use Rattle.affc_cert.specs.Refusals.{ReadsJson, refusal, Refuses}
 use Rattle.affc_cert.specs.Values.{cert_value}
+use Rattle.affc_cert.specs.Within.{IsWithin}
 use Rattle.affc_cert.specs.declared.cert.Cert.{Cert}
 use Rattle.affc_cert.specs.declared.cert.CertFault.{CertFault}
 use Rattle.affc_cert.specs.declared.cert.CertFault.TheVariants as text
@@ -18,17 +19,45 @@ use Rattle.affc_check.specs.declared.fault.CheckFault.{CheckFault}
 use Rattle.affc_check.specs.declared.fault.CheckFault.TheVariants as items
 use Rattle.affc_check.proofs.ReadFor.{read_is_for}
 use Rattle.serde_json.specs.Data.{Data}
-use Rattle.affc_accept.specs.declared.fault.AcceptFault.TheVariants.{Certificate}
+use Rattle.affc_accept.specs.declared.fault.AcceptFault.TheVariants.{Certificate as OfText}
 use Rattle.affc_accept.specs.Accepted.{IsRead}
 use Rattle.affc_accept.specs.Bases.{KeepBases, HasOther}
+use Rattle.affc_accept.specs.Columns.{in_text, from_text}
 use Rattle.affc_accept.specs.Causes.{text_fault, items_fault}
 use Rattle.affc_accept.specs.Layouts.{IsLayout}
 use Rattle.affc_accept.specs.Refusals.{IsRefused, AcceptRefuses}
+use Rattle.affc_accept.proofs.ColumnLemmas.{back_in_text, in_text_within}
 use Rattle.affc_accept.proofs.Listed.{layouts_are_of_nests}
 
+-- with the parameters first in its trees' forms it keeps the same limits
+pub certificate_within : (layout : Layout) (c : Certificate) → refusal layout (cert_value (in_text layout c)) ≡ None → IsWithin layout c
+certificate_within layout c right =
+    let w = is_within layout (in_text layout c) right in
+    record { each = w.each; words = w.words; trees = in_text_within layout.parameters layout.loads c.trees w.trees; folds = w.folds; proofs = w.proofs }
+
 -- a certificate that was read may be checked
-pub read_within : (nest : Nest) (layout : Layout) (cert : Cert) → IsLayout nest layout → refusal layout (cert_value (seen cert)) ≡ None → IsCertWithin nest cert
-read_within nest layout cert l right = read_is_for nest layout cert (layouts_are_of_nests nest layout l) (is_within layout (seen cert) right)
+pub read_within : (nest : Nest) (layout : Layout) (cert : Cert) → IsLayout nest layout → refusal layout (cert_value (in_text layout (seen cert))) ≡ None → IsCertWithin nest cert
+read_within nest layout cert l right = read_is_for nest layout cert (layouts_are_of_nests nest layout l) (certificate_within layout (seen cert) right)
+
+-- what the text has comes back
+text_back : (layout : Layout) (c : Certificate) → refusal layout (cert_value c) ≡ None → in_text layout (from_text layout c) ≡ c
+text_back layout c right = ap (λ ts. record c { trees = ts }) (back_in_text layout.parameters layout.loads c.trees (is_within layout c right).trees)
+
+module _ (nest : Nest) (layout : Layout) (bytes : List ℕ) (said : Certificate) (cert : Cert) (l : IsLayout nest layout) (same : seen cert ≡ from_text layout said)
+    (reads : ReadsJson bytes (cert_value said)) (right : refusal layout (cert_value said) ≡ None) where
+  back : said ≡ in_text layout (seen cert)
+  back = sym (ap (in_text layout) same ∙ text_back layout said right)
+
+  pub is_read : IsRead nest bytes cert
+  is_read = record {
+    layout = layout;
+    is_layout = l;
+    reads = subst (λ c. ReadsJson bytes (cert_value c)) back reads;
+    right = subst (λ c. refusal layout (cert_value c) ≡ None) back right;
+  }
+
+  pub is_cert_within : IsCertWithin nest cert
+  is_cert_within = read_within nest layout cert l (subst (λ c. refusal layout (cert_value c) ≡ None) back right)
 
 -- ---- Texts
 
@@ -60,5 +89,5 @@ module _ (nest : Nest) (plan : Plan) (bytes : List ℕ) (cert : Cert) (read : Is
 
 -- the first fold with another basis
 pub basis_refused : (nest : Nest) (plan : Plan) (cert : Cert) (fold part : ℕ) → part ≡ (1 + length cert.flow.trees) + fold → IsFirst (HasOther nest plan.folds) cert.folds fold
-    → (bytes : List ℕ) → IsRead nest bytes cert → AcceptRefuses nest plan bytes (Certificate (text.Shape part))
+    → (bytes : List ℕ) → IsRead nest bytes cert → AcceptRefuses nest plan bytes (OfText (text.Shape part))
 basis_refused nest plan cert fold part number first bytes read = inr (record { cert = cert; read = read; fold = fold; number = number; first = first })

@@ -26,7 +26,6 @@ use Rattle.affc_folds.proofs.NestLemmas.{is_temporary}
 use Rattle.affc_cert.specs.Certificates.{seen}
 use Rattle.affc_cert.specs.declared.cert.Cert.{Cert}
 use Rattle.affc_cert.specs.declared.layout.Layout.{Layout}
-use Rattle.affc_cert.proofs.Within.{is_within}
 use Rattle.affc_certfold.specs.Entries.{FoldEntry, entry_of}
 use Rattle.affc_certfold.specs.Limits.{IsFoldWithin}
 use Rattle.affc_certfold.specs.declared.fold.CertFold.{CertFold}
@@ -40,7 +39,7 @@ use Rattle.affc_check.proofs.Read.{certs_are_read, valid_certs_give}
 use Rattle.affc_accept.specs.Laws.{HasTemporariesLast, AcceptedShows}
 use Rattle.affc_accept.specs.Layouts.{Dimensions, dimensions_of, temporaries_from, IsLayout}
 use Rattle.affc_accept.proofs.Listed.{temporary_in}
-use Rattle.affc_accept.proofs.Refused.{read_within}
+use Rattle.affc_accept.proofs.Refused.{certificate_within, read_within}
 
 -- ---- Lists beside one another
 
@@ -135,7 +134,7 @@ accepted_shows program plan text folds has named last fits a =
     let read = certs_are_read program plan.schedule a.cert c.are.folds has named fits within.certificate c.are.said in
     let shown = valid_certs_give program plan.schedule a.cert c.items has named fits within.certificate c.are c.valid in
     let made : AllZip IsFoldMade c.are.folds folds = subst (AllZip IsFoldMade c.are.folds) a.are c.folds in
-    let arrays = all_arrays nest layout plan.schedule a.cert c.are.folds folds a.read.is_layout (is_within layout (seen a.cert) a.read.right).folds c.are.said made in (
+    let arrays = all_arrays nest layout plan.schedule a.cert c.are.folds folds a.read.is_layout (certificate_within layout (seen a.cert) a.read.right).folds c.are.said made in (
       shown,
       record {
         arrays = arrays;

@@ -1,10 +1,9 @@
 -- A text that is accepted isn't refused.
 use mathlib.Core.HLevel.{is_prop→PathP}
 use native.Mathlib.Bridge.{le_prop}
-use Rattle.std.proofs.Common.{◌≡◌, ℕ, ◌≤◌, ℤ, List, [], ◌∷◌, ◌++◌, map, refl, sym, ap, ap₂, subst, ◌∙◌, inl, inr}
+use Rattle.std.proofs.Common.{◌≡◌, ℕ, ◌≤◌, ℤ, List, [], ◌∷◌, ◌++◌, map, Some, None, refl, sym, ap, ap₂, subst, ◌∙◌, inl, inr}
 use Rattle.std.proofs.lemmas.Option.{same_Some}
 use Rattle.affc_ast.specs.declared.tree.ArrayId.{ArrayId}
-use Rattle.affc_farkas.specs.declared.proof.Proof.{Proof}
 use Rattle.affc_trace.specs.declared.schedule.Schedule.{Schedule}
 use Rattle.affc_basis.specs.declared.basis.Basis.{Basis}
 use Rattle.affc_nest.specs.declared.nest.Nest.{Nest}
@@ -15,7 +14,7 @@ use Rattle.affc_flow.specs.Questions.{flow_questions}
 use Rattle.affc_quast.specs.Seen.{trees_of}
 use Rattle.affc_quast.specs.Trees.{Tree}
 use Rattle.affc_cert.specs.Certificates.{Certificate, seen}
-use Rattle.affc_cert.specs.Refusals.{ReadsJson, Refuses}
+use Rattle.affc_cert.specs.Refusals.{ReadsJson, Refuses, refusal}
 use Rattle.affc_cert.specs.Values.{cert_value}
 use Rattle.affc_cert.specs.declared.cert.Cert.{Cert}
 use Rattle.affc_cert.specs.declared.cert.CertFault.{CertFault}
@@ -23,6 +22,7 @@ use Rattle.affc_cert.specs.declared.cert.CertFault.TheVariants as text
 use Rattle.affc_cert.specs.declared.layout.Layout.{Layout}
 use Rattle.affc_cert.proofs.Broken.{right_is_not_refused}
 use Rattle.affc_cert.proofs.Unique.{one_certificate}
+use Rattle.affc_cert.proofs.Within.{is_within, not_refused as not_refused_within}
 use Rattle.affc_certfold.specs.declared.layout.Temporary.{Temporary}
 use Rattle.affc_items.specs.Certs.{AreFoldsSaid, AreItems}
 use Rattle.affc_items.specs.Held.{flow_item, legality_item}
@@ -34,9 +34,12 @@ use Rattle.serde_json.specs.Data.{Data}
 use Rattle.affc_accept.specs.declared.fault.AcceptFault.TheVariants.{Certificate as OfText, Check as OfItems, Memory}
 use Rattle.affc_accept.specs.Accepted.{IsRead}
 use Rattle.affc_accept.specs.Bases.{KeepBases}
+use Rattle.affc_accept.specs.Columns.{in_text, trees_in_text, trees_from_text}
 use Rattle.affc_accept.specs.Laws.{AcceptedIsNotRefused}
 use Rattle.affc_accept.specs.Layouts.{dimensions_of, IsLayout}
 use Rattle.affc_accept.specs.Refusals.{IsRefused, HasOtherBasis}
+use Rattle.affc_accept.proofs.ColumnLemmas.{from_text_back}
+use Rattle.affc_accept.proofs.Refused.{certificate_within}
 use Rattle.affc_accept.proofs.Alike.{like_in, keeps_alike, folds_alike, items_valid_alike}
 use Rattle.affc_accept.proofs.Passing.{valid_passes_nothing}
 
@@ -70,14 +73,33 @@ one_layout nest a b h k = λ i. record {
 one_value : (bytes : List ℕ) (d e : Data) → ReadsJson bytes d → ReadsJson bytes e → d ≡ e
 one_value bytes d e h k = same_Some d e (sym h.1 ∙ k.1)
 
+one_before : (l : Layout) (a b : Certificate) → refusal l (cert_value (in_text l a)) ≡ None → refusal l (cert_value (in_text l b)) ≡ None → in_text l a ≡ in_text l b → a ≡ b
+one_before l a b h k e =
+    let back : (c : Certificate) → refusal l (cert_value (in_text l c)) ≡ None → trees_from_text l.parameters l.loads (trees_in_text l.parameters l.loads c.trees) ≡ c.trees
+    = λ c right. from_text_back l.parameters l.loads c.trees (is_within l (in_text l c) right).trees in
+    let trees : a.trees ≡ b.trees = sym (back a h) ∙ ap (λ (c : Certificate). trees_from_text l.parameters l.loads c.trees) e ∙ back b k in
+    λ i. record { context = (e i).context; trees = trees i; folds = (e i).folds; proofs = (e i).proofs }
+
 one_seen : (nest : Nest) (bytes : List ℕ) (a b : Cert) → IsRead nest bytes a → IsRead nest bytes b → seen a ≡ seen b
-one_seen nest bytes a b h k = one_certificate (seen a) (seen b) (one_value bytes (cert_value (seen a)) (cert_value (seen b)) h.reads k.reads)
+one_seen nest bytes a b h k =
+    let l : Layout = h.layout in
+    let same : k.layout ≡ l = one_layout nest k.layout l k.is_layout h.is_layout in
+    let reads : ReadsJson bytes (cert_value (in_text l (seen b))) = subst (λ (m : Layout). ReadsJson bytes (cert_value (in_text m (seen b)))) same k.reads in
+    let right : refusal l (cert_value (in_text l (seen b))) ≡ None = subst (λ (m : Layout). refusal m (cert_value (in_text m (seen b))) ≡ None) same k.right in
+    one_before l (seen a) (seen b) h.right right
+    (one_certificate (in_text l (seen a)) (in_text l (seen b)) (one_value bytes (cert_value (in_text l (seen a))) (cert_value (in_text l (seen b))) h.reads reads))
+
+text_not_refused : (l : Layout) (c : Cert) (fault : CertFault) → refusal l (cert_value (in_text l (seen c))) ≡ None → Refuses l (cert_value (in_text l (seen c))) fault → ⊥
+text_not_refused l c fault right (inl h) = let no : None ≡ Some fault = sym right ∙ h in absurd (cc)
+text_not_refused l c fault right (inr b) =
+    let fine = not_refused_within l (seen c) (certificate_within l (seen c) right) in
+    right_is_not_refused l c fault fine (inr (record { folds = b.folds; there = b.there; number = b.number; first_broken = b.first_broken; else_right = fine; fault = b.fault }))
 
 not_refused : (nest : Nest) (bytes : List ℕ) (c : Cert) (fault : CertFault) → IsRead nest bytes c → IsRefused nest bytes fault → ⊥
 not_refused nest bytes c fault read r =
-    right_is_not_refused read.layout c fault read.right
-    (subst (λ (l : Layout). Refuses l (cert_value (seen c)) fault) (one_layout nest r.layout read.layout r.is_layout read.is_layout)
-    (subst (λ d. Refuses r.layout d fault) (one_value bytes r.value (cert_value (seen c)) r.reads read.reads) r.refuses))
+    text_not_refused read.layout c fault read.right
+    (subst (λ (l : Layout). Refuses l (cert_value (in_text read.layout (seen c))) fault) (one_layout nest r.layout read.layout r.is_layout read.is_layout)
+    (subst (λ d. Refuses r.layout d fault) (one_value bytes r.value (cert_value (in_text read.layout (seen c))) r.reads read.reads) r.refuses))
 
 -- ---- The bases
 
@@ -118,7 +140,7 @@ module _ (nest : Nest) (schedule : Schedule) (a b : Cert) (same : seen a ≡ see
 
 pub accepted_is_not_refused : AcceptedIsNotRefused
 accepted_is_not_refused nest plan bytes folds Memory a says = refl
-accepted_is_not_refused nest plan bytes folds (OfText text.Json) a says = absurd (says (cert_value (seen a.cert)) a.read.reads)
+accepted_is_not_refused nest plan bytes folds (OfText text.Json) a says = absurd (says (cert_value (in_text a.read.layout (seen a.cert))) a.read.reads)
 accepted_is_not_refused nest plan bytes folds (OfText text.Version) a says = absurd (not_refused nest bytes a.cert text.Version a.read says)
 accepted_is_not_refused nest plan bytes folds (OfText (text.Shape part)) a (inl says) = absurd (not_refused nest bytes a.cert (text.Shape part) a.read says)
 accepted_is_not_refused nest plan bytes folds (OfText (text.Shape part)) a (inr says) = absurd (no_other nest plan.folds bytes a.cert part a.read a.bases says)

@@ -12,15 +12,16 @@ use Rattle.affc_cert.specs.declared.layout.Layout.{Layout}
 use Rattle.affc_check.specs.Answers.{IsChecked}
 use Rattle.affc_check.specs.declared.check.Checked.{Checked}
 use Rattle.affc_accept.specs.Bases.{KeepBases}
+use Rattle.affc_accept.specs.Columns.{in_text}
 use Rattle.affc_accept.specs.Layouts.{IsLayout}
 
--- The text reads as the certificate, which has nothing wrong with it for the nest's layout. That the products of rows and
--- inverse forms are identities is in the type of a basis.
+-- The text reads as the certificate, with the iterators first in its trees' forms, and it has nothing wrong with it for the nest's
+-- layout. That the products of rows and inverse forms are identities is in the type of a basis.
 pub record IsRead (nest : Nest) (text : List ℕ) (cert : Cert) : Type 0 where
   pub layout : Layout
   pub is_layout : IsLayout nest layout
-  pub reads : ReadsJson text (cert_value (seen cert))
-  pub right : refusal layout (cert_value (seen cert)) ≡ None
+  pub reads : ReadsJson text (cert_value (in_text layout (seen cert)))
+  pub right : refusal layout (cert_value (in_text layout (seen cert))) ≡ None
 
 -- The text reads as a certificate with the plan's bases. It is valid for the plan's schedule, and these are its folds, in order.
 pub record IsAccepted (nest : Nest) (plan : Plan) (text : List ℕ) (folds : List (ArrayId × Fold)) : Type 0 where

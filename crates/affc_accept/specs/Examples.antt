@@ -14,6 +14,7 @@ use Rattle.affc_folds.specs.Examples.{turned}
 use Rattle.affc_certfold.specs.declared.fold.CertFold.{CertFold}
 use Rattle.affc_certtree.specs.declared.layout.Store.{Store}
 use Rattle.affc_accept.specs.Bases.{KeepsBasis}
+use Rattle.affc_accept.specs.Columns.{form_exchanged}
 use Rattle.affc_accept.specs.Layouts.{loads_of, temporaries_from}
 
 -- ---- A nest: out = t[0] behind two statements with t[0] = .., of which the second can have no instances, and a temporary u
@@ -82,3 +83,10 @@ OtherBasisIsNot = ¬ (KeepsBasis small_nest given_whole (fold_by turned (plain_n
 -- Where none is given, each does.
 abbrev pub NoneIsGiven : Type 0
 NoneIsGiven = KeepsBasis small_nest [] (fold_by turned (plain_number 2))
+
+-- ---- A form over a parameter, two iterators and a quotient
+
+-- In the text the iterators come first, and the quotient stays the last.
+abbrev pub IteratorsComeFirst : Type 0
+IteratorsComeFirst =
+    form_exchanged 1 2 (record { coefs = pos 2 ∷ pos 3 ∷ pos 4 ∷ pos 5 ∷ []; constant = pos 6 }) ≡ record { coefs = pos 3 ∷ pos 4 ∷ pos 2 ∷ pos 5 ∷ []; constant = pos 6 }

@@ -1,3 +1,4 @@
+pub mod Columns
 pub mod Layouts
 pub mod Bases
 pub mod Same

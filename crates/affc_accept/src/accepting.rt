@@ -1,5 +1,6 @@
 //! Texts as certificates.
 ghost use Rattle.std.specs.Prelude.{◌≡◌, ℕ, ◌+◌, List, IfOk, IfErr, IfSome, OnOk};
+ghost use Rattle.affc_cert.specs.Certificates.{seen};
 ghost use Rattle.affc_sched.specs.Legality.{IsAsked};
 ghost use Rattle.affc_schedtext.specs.declared.plan.Plan.{Plan as OfPlan};
 ghost use Rattle.affc_check.specs.Answers.{IsChecked};
@@ -7,17 +8,19 @@ ghost use Rattle.affc_items.specs.Certs.{IsCertWithin};
 ghost use Rattle.affc_accept.specs.Accepted.{IsRead, IsAccepted};
 ghost use Rattle.affc_accept.specs.Bases.{KeepBases};
 ghost use Rattle.affc_accept.specs.Causes.{text_fault, items_fault};
+ghost use Rattle.affc_accept.specs.Columns as specs;
 ghost use Rattle.affc_accept.specs.Layouts.{IsLayout};
 ghost use Rattle.affc_accept.specs.Refusals.{AcceptRefuses};
 
 use crate::bases::first_other;
+use crate::columns::from_text as flow_from_text;
 use crate::fault::AcceptFault;
 use crate::layout::layout;
 use affc_cert::{Cert, CertFault, Layout, from_json};
 use affc_check::{CheckFault, Checked, check_all};
 use affc_nest::Nest;
 use affc_schedtext::Plan;
-use std::alloc::Global;
+use std::alloc::{AllocError, Global};
 
 // What is said of a text.
 fn of_text(fault: CertFault) -> AcceptFault
@@ -44,6 +47,25 @@ fn of_items(fault: CheckFault) -> AcceptFault
     }
 }
 
+// The certificate that a text has with the iterators first in its trees' forms.
+fn from_text(alloc: Global, layout: &Layout, cert: Cert) -> Result<Cert, AllocError>
+    ensures { IfOk result (λ c. seen c ≡ specs.from_text layout.now (seen cert)) }
+{
+    let Cert {
+        context,
+        flow,
+        folds,
+        proofs,
+    } = cert;
+    let flow = flow_from_text(alloc, layout, &flow)?;
+    Ok(Cert {
+        context,
+        flow,
+        folds,
+        proofs,
+    })
+}
+
 // The certificate that a text is, for a nest with this layout.
 fn read(alloc: Global, nest: &Nest, layout: &Layout, text: &[u8]) -> Result<Cert, AcceptFault>
     requires layout { IsLayout nest.now layout.now }
@@ -53,7 +75,10 @@ fn read(alloc: Global, nest: &Nest, layout: &Layout, text: &[u8]) -> Result<Cert
 {
     let _nest = nest;
     match from_json(alloc, text, layout) {
-        Ok(cert) => Ok(cert),
+        Ok(cert) => match from_text(alloc, layout, cert) {
+            Ok(cert) => Ok(cert),
+            Err(_) => Err(AcceptFault::Memory),
+        },
         Err(fault) => Err(of_text(fault)),
     }
 }

@@ -1,5 +1,5 @@
 //! Layouts of small nests, and folds with bases, as laws: `specs/Examples.antt` says each.
-ghost use Rattle.affc_accept.specs.Examples.{DeadStoresNothing, ScalarHasNoFold, GivenIsKept, WholeIsKept, OtherModulusIsNot, OtherBasisIsNot, NoneIsGiven};
+ghost use Rattle.affc_accept.specs.Examples.{DeadStoresNothing, ScalarHasNoFold, GivenIsKept, WholeIsKept, OtherModulusIsNot, OtherBasisIsNot, NoneIsGiven, IteratorsComeFirst};
 
 /// The layout of a nest.
 pub fn layouts()
@@ -14,4 +14,9 @@ pub fn bases()
     ensures other_modulus_is_not { OtherModulusIsNot }
     ensures other_basis_is_not { OtherBasisIsNot }
     ensures none_is_given { NoneIsGiven }
+{}
+
+/// The columns of a tree's form in a text.
+pub fn columns()
+    ensures iterators_come_first { IteratorsComeFirst }
 {}

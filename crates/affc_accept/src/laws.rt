@@ -1,5 +1,6 @@
 //! What a certificate that is accepted shows. Each law is the contract of a function that does nothing.
 ghost use Rattle.affc_accept.specs.Laws.{AcceptedShows, AcceptedIsNotRefused};
+ghost use Rattle.affc_accept.specs.Columns.{ColumnsComeBack};
 ghost use Rattle.affc_accept.specs.Layouts.{LayoutsAreOfNests};
 
 /// A certificate that is read for the layout of a nest may be checked for it.
@@ -15,4 +16,9 @@ pub fn accepted_shows()
 /// It is refused for want of memory, and for nothing else.
 pub fn accepted_is_not_refused()
     ensures law { AcceptedIsNotRefused }
+{}
+
+/// What a text has with the iterators first comes back.
+pub fn columns_come_back()
+    ensures law { ColumnsComeBack }
 {}

@@ -3,6 +3,7 @@
 
 pub mod accepting;
 pub mod bases;
+pub mod columns;
 pub mod examples;
 pub mod fault;
 pub mod laws;

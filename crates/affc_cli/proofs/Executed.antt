@@ -9,8 +9,8 @@ use Rattle.affc_interp.specs.Budget.{Run, Stop, StuckBy, OutOfSteps}
 use Rattle.affc_interp.specs.DataText.{output_text}
 use Rattle.affc_interp.specs.Runs.{within_limit, steps_of}
 use Rattle.affc_cli.specs.Run.{Runnable, outcome, RunsTo, RunTextCause}
-use Rattle.affc_cli.specs.Telling.{RefusesStop}
-use Rattle.affc_cli.specs.declared.refusal.Refusal.{Refusal}
+use Rattle.affc_lines.specs.Told.{RefusesStop}
+use Rattle.affc_lines.specs.declared.refusal.Refusal.{Refusal}
 
 -- ---- A run that is cut at a limit
 

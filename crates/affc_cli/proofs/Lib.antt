@@ -1,14 +1,5 @@
-pub mod Named
-pub mod Layers
-pub mod Accesses
-pub mod Touched
-pub mod Iterators
-pub mod Meant
-pub mod Telling
+pub mod Putting
 pub mod Ending
 pub mod Executed
 pub mod Reading
 pub mod Priced
-pub mod Clap
-pub mod Commands
-pub mod Numbers

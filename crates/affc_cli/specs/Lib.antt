@@ -1,14 +1,8 @@
 pub mod Budgets
-pub mod Command
-pub mod Examples
-pub mod Parsed
-pub mod Seen
 pub mod Outside
-pub mod Words
-pub mod Stuck
-pub mod Meaning
-pub mod Schedule
 pub mod Run
+pub mod Replay
 pub mod Refusal
+pub mod Big
 pub mod Promise
 pub mod Telling

@@ -6,26 +6,38 @@ use Rattle.std.specs.declared.io.Error.{Error}
 use Rattle.std.specs.declared.io.ErrorKind.{ErrorKind}
 use Rattle.std.specs.declared.io.ErrorKind.TheVariants.{OutOfMemory}
 use Rattle.affc_io.specs.Count.{Rose}
-use Rattle.affc_io.specs.Files.{Holds}
+use Rattle.affc_io.specs.Files.{Holds, IsLeft}
 use Rattle.affc_io.specs.Front.{IsFront}
 use Rattle.affc_io.specs.State.{Files, FolderState}
 use Rattle.affc_io.specs.Taken.{grown}
 use Rattle.affc_driver.specs.Flows.{FlowsTo}
-use Rattle.affc_cli.specs.Budgets.{FoldsWithin}
-use Rattle.affc_cli.specs.declared.words.Settings.{Settings}
-use Rattle.affc_cli.specs.Command.{Command, Fold, Run, Flow, command_of, texts_of}
-use Rattle.affc_cli.specs.Outside.{Outside, Keeps, Told, IsRead, IsReadAtMost}
-use Rattle.affc_cli.specs.Refusal.{status_of, line_of, FoldTexts, FoldCause, fold_file, FlowCause, HeldTexts, RunCause, file_of}
+use Rattle.affc_replay.specs.Replays.{ReplaysTo}
+use Rattle.affc_words.specs.declared.words.Settings.{Settings}
+use Rattle.affc_words.specs.Command.{Command, Fold, Replay, Run, Flow, Big, command_of, texts_of}
+use Rattle.affc_cli.specs.Big.{SumsUp, BigCause}
+use Rattle.affc_cli.specs.Budgets.{FoldMakes}
+use Rattle.affc_cli.specs.Outside.{Outside, Keeps, IsRead, IsReadAtMost}
+use Rattle.affc_lines.specs.Told.{Told}
+use Rattle.affc_lines.specs.Lines.{status_of, line_of}
+use Rattle.affc_cli.specs.Refusal.{FoldTexts, FoldCause, fold_file, FlowCause, HeldTexts, RunCause, file_of, ReplayTexts, ReplayCause, replay_file}
 use Rattle.affc_cli.specs.Run.{RunsTo}
-use Rattle.affc_cli.specs.declared.refusal.Operand.TheVariants as operand
-use Rattle.affc_cli.specs.declared.refusal.Refusal.{Refusal}
-use Rattle.affc_cli.specs.declared.refusal.Refusal.TheVariants.{Words, Unread, Memory}
+use Rattle.affc_lines.specs.declared.refusal.Operand.TheVariants as operand
+use Rattle.affc_lines.specs.declared.refusal.Refusal.{Refusal}
+use Rattle.affc_lines.specs.declared.refusal.Refusal.TheVariants.{Words, Unread, Memory}
+
+-- ---- What each command makes
 
 -- Text and report are what is made of the source and the schedule that the names held, where the folder tells what it holds,
--- by these settings.
-pub record FoldPromises (source : List ℕ) (schedule : Option (List ℕ)) (settings : Settings) (held : Option Files) (text report : List ℕ) : Type 0 where
+-- by these settings, with a certificate where a file is named for it.
+pub record FoldPromises (source : List ℕ) (schedule : Option (List ℕ)) (settings : Settings) (file : Option (List ℕ)) (held : Option Files) (certificate text report : List ℕ) : Type 0 where
   pub texts : FoldTexts held source schedule
-  pub folds_to : FoldsWithin texts.source_text texts.schedule_text settings text report
+  pub makes : FoldMakes file texts.source_text texts.schedule_text settings certificate text report
+
+-- Text and report are what the certificate shows of the source and the schedule, all three as the names held them, where the folder
+-- tells what it holds.
+pub record ReplayPromises (source schedule certificate : List ℕ) (held : Option Files) (text report : List ℕ) : Type 0 where
+  pub texts : ReplayTexts held source schedule certificate
+  pub replays_to : ReplaysTo texts.source_text texts.schedule_text texts.certificate_text text report
 
 -- The text is what the output arrays hold when the source that one name held has run on the data text that the other
 -- held, where the folder tells what it holds; the report is empty.
@@ -42,93 +54,144 @@ pub record FlowPromises (source : List ℕ) (held : Option Files) (text report :
   pub flows_to : FlowsTo source_text text
   pub no_report : report ≡ []
 
--- The pieces of status 0: the text for out, then the report for err.
-abbrev pub Promises : Command → Option Files → (text report : List ℕ) → Type 0
-Promises (Fold source schedule settings) held text report = FoldPromises source schedule settings held text report
-Promises (Run source feed limit) held text report = RunPromises source feed limit held text report
-Promises (Flow source) held text report = FlowPromises source held text report
+-- The text sums up what is made of a pipeline of so many stages; the report is empty.
+pub record BigPromises (stages : ℕ) (text report : List ℕ) : Type 0 where
+  pub sums_up : SumsUp stages text
+  pub no_report : report ≡ []
+
+-- The pieces of status 0: the certificate for its file, where one is named, then the text for out, then the report for err.
+abbrev pub Promises : Command → Option Files → (certificate text report : List ℕ) → Type 0
+Promises (Fold source schedule settings file) held certificate text report = FoldPromises source schedule settings file held certificate text report
+Promises (Replay source schedule shown) held certificate text report = ReplayPromises source schedule shown held text report
+Promises (Run source feed limit) held certificate text report = RunPromises source feed limit held text report
+Promises (Flow source) held certificate text report = FlowPromises source held text report
+Promises (Big stages) held certificate text report = BigPromises stages text report
+
+-- The file that a command writes: that of the certificate, where it is named.
+abbrev pub written_file : Command → Option (List ℕ)
+written_file (Fold source schedule settings file) = file
+written_file _ = None
 
 -- The statuses that a command ends with.
 abbrev pub statuses_of : Command → List ℕ
-statuses_of (Fold source schedule settings) = 0 ∷ 3 ∷ 4 ∷ 5 ∷ 6 ∷ 7 ∷ 8 ∷ 9 ∷ 10 ∷ []
+statuses_of (Fold source schedule settings file) = 0 ∷ 3 ∷ 4 ∷ 5 ∷ 6 ∷ 7 ∷ 8 ∷ 9 ∷ 10 ∷ []
+statuses_of (Replay source schedule certificate) = 0 ∷ 3 ∷ 4 ∷ 5 ∷ 6 ∷ 9 ∷ 10 ∷ 11 ∷ []
 statuses_of (Run source feed limit) = 0 ∷ 3 ∷ 4 ∷ 5 ∷ 9 ∷ 10 ∷ 12 ∷ 13 ∷ []
 statuses_of (Flow source) = 0 ∷ 3 ∷ 4 ∷ 5 ∷ 9 ∷ 10 ∷ []
+statuses_of (Big stages) = 0 ∷ 4 ∷ 5 ∷ 6 ∷ 7 ∷ 9 ∷ 10 ∷ []
 
 -- The line of a refused command.
 abbrev pub refusal_line : Command → Refusal → List ℕ
-refusal_line (Fold source schedule settings) refusal = line_of refusal (fold_file refusal source schedule)
+refusal_line (Fold source schedule settings file) refusal = line_of refusal (fold_file refusal source schedule)
+refusal_line (Replay source schedule certificate) refusal = line_of refusal (replay_file refusal source schedule certificate)
 refusal_line (Run source feed limit) refusal = line_of refusal (file_of refusal source feed)
 refusal_line (Flow source) refusal = line_of refusal source
+refusal_line (Big stages) refusal = line_of refusal []
 
 -- How many files a command reads.
 abbrev pub files_of : Command → ℕ
-files_of (Fold source None settings) = 1
-files_of (Fold source (Some schedule) settings) = 2
+files_of (Fold source None settings file) = 1
+files_of (Fold source (Some schedule) settings file) = 2
+files_of (Replay source schedule certificate) = 3
 files_of (Run source feed limit) = 2
 files_of (Flow source) = 1
+files_of (Big stages) = 0
 
--- How often a command that is refused so reads the folder: it stops at its source where that isn't read.
+-- How often a command that is refused so reads the folder: it stops at the first of its files that isn't read.
 abbrev pub reads_of : Command → Refusal → ℕ
-reads_of (Fold source None settings) refusal = 1
-reads_of (Fold source (Some schedule) settings) (Unread operand.Source why) = 1
-reads_of (Fold source (Some schedule) settings) refusal = 2
+reads_of (Fold source None settings file) refusal = 1
+reads_of (Fold source (Some schedule) settings file) (Unread operand.Source why) = 1
+reads_of (Fold source (Some schedule) settings file) refusal = 2
+reads_of (Replay source schedule certificate) (Unread operand.Source why) = 1
+reads_of (Replay source schedule certificate) (Unread operand.Schedule why) = 2
+reads_of (Replay source schedule certificate) refusal = 3
 reads_of (Run source feed limit) (Unread operand.Source why) = 1
 reads_of (Run source feed limit) refusal = 2
 reads_of (Flow source) refusal = 1
+reads_of (Big stages) refusal = 0
 
 -- When a command is refused so.
 abbrev pub Cause : Command → Refusal → FolderState → FolderState → Type 0
-Cause (Fold source schedule settings) refusal before now = FoldCause refusal source schedule settings before now
+Cause (Fold source schedule settings file) refusal before now = FoldCause refusal source schedule settings before now
+Cause (Replay source schedule certificate) refusal before now = ReplayCause refusal source schedule certificate before now
 Cause (Run source feed limit) refusal before now = RunCause refusal source feed limit before now
 Cause (Flow source) refusal before now = FlowCause refusal source before now
+Cause (Big stages) refusal before now = BigCause stages refusal
 
--- Each file was read once, all pieces were written, and nothing else.
+-- ---- How far the pieces are written
+
+-- Each file was read once, and these are the pieces that the command makes.
+pub record Makes (command : Command) (before now : Outside) : Type 0 where
+  pub certificate : List ℕ
+  pub text : List ℕ
+  pub report : List ℕ
+  pub promised : Promises command before.folder.held certificate text report
+  pub reads : IsRead (files_of command) before.folder now.folder
+
+-- the file holds the certificate, where one is named
+abbrev pub IsFiled : (file : Option (List ℕ)) → (certificate : List ℕ) → FolderState → Type 0
+IsFiled None certificate now = Unit {0}
+IsFiled (Some file) certificate now = Holds now.held file certificate
+
+-- All pieces were written.
 pub record Written (command : Command) (before now : Outside) : Type 0 where
-  pub text : List ℕ
-  pub report : List ℕ
-  pub promised : Promises command before.folder.held text report
-  pub reads : IsRead (files_of command) before.folder now.folder
-  pub out : now.out.taken ≡ grown before.out.taken text
-  pub err : now.err.taken ≡ grown before.err.taken report
+  pub makes : Makes command before now
+  pub filed : IsFiled (written_file command) makes.certificate now.folder
+  pub out : now.out.taken ≡ grown before.out.taken makes.text
+  pub err : now.err.taken ≡ grown before.err.taken makes.report
 
--- Each file was read once, and a front of the text was written, which isn't the whole.
+-- The write of the certificate's file failed: the file holds a front of the certificate, or nothing, as before. Nothing went to out.
+pub record FiledInPart (command : Command) (before now : Outside) : Type 0 where
+  pub makes : Makes command before now
+  pub file : List ℕ
+  pub named : written_file command ≡ Some file
+  pub left : IsLeft before.folder.held now.folder.held file makes.certificate
+  pub out : now.out.taken ≡ before.out.taken
+
+-- The certificate was written, where its file is named, and a front of the text, which isn't the whole.
 pub record WrittenInPart (command : Command) (before now : Outside) : Type 0 where
-  pub text : List ℕ
-  pub report : List ℕ
-  pub promised : Promises command before.folder.held text report
-  pub reads : IsRead (files_of command) before.folder now.folder
+  pub makes : Makes command before now
+  pub filed : IsFiled (written_file command) makes.certificate now.folder
   pub front : List ℕ
-  pub is_front : IsFront text front
-  pub cut : front ≢ text
+  pub is_front : IsFront makes.text front
+  pub cut : front ≢ makes.text
   pub out : now.out.taken ≡ grown before.out.taken front
 
--- Each file was read once, the text was written whole, and behind it a front of the report, which isn't the whole.
+-- The certificate and the text were written, and behind them a front of the report, which isn't the whole.
 pub record ReportedInPart (command : Command) (before now : Outside) : Type 0 where
-  pub text : List ℕ
-  pub report : List ℕ
-  pub promised : Promises command before.folder.held text report
-  pub reads : IsRead (files_of command) before.folder now.folder
-  pub out : now.out.taken ≡ grown before.out.taken text
+  pub makes : Makes command before now
+  pub filed : IsFiled (written_file command) makes.certificate now.folder
+  pub out : now.out.taken ≡ grown before.out.taken makes.text
   pub front : List ℕ
-  pub is_front : IsFront report front
-  pub cut : front ≢ report
+  pub is_front : IsFront makes.report front
+  pub cut : front ≢ makes.report
 
--- Nothing went to out, and err got the line of a refusal that has this status and its cause.
+-- ---- How a command ends
+
+-- No file was written, nothing went to out, and err got the line of a refusal that has this status and its cause.
 pub record IsRefused (command : Command) (before now : Outside) (status : ℕ) : Type 0 where
   pub refusal : Refusal
   pub is_status : status ≡ status_of refusal
   pub cause : Cause command refusal before.folder now.folder
   pub reads : IsRead (reads_of command refusal) before.folder now.folder
+  pub names : now.folder.held ≡ before.folder.held
   pub out : now.out.taken ≡ before.out.taken
   pub told : Told before.err.taken before.err now.err (refusal_line command refusal)
 
--- Memory was short before the first piece was begun; nothing went to out, and err got the line.
+-- Memory was short before the first piece was begun; no file was written, nothing went to out, and err got the line.
 pub record ShortBefore (command : Command) (before now : Outside) : Type 0 where
   pub reads : IsReadAtMost (files_of command) before.folder now.folder
+  pub names : now.folder.held ≡ before.folder.held
   pub out : now.out.taken ≡ before.out.taken
   pub told : Told before.err.taken before.err now.err (line_of Memory [])
 
--- out was short of memory while a piece was written; err got the line behind that.
+-- The folder was short of memory while the certificate was written; err got the line.
+pub record ShortFiling (command : Command) (before now : Outside) : Type 0 where
+  pub written : FiledInPart command before now
+  pub short : Rose before.folder.shortages now.folder.shortages
+  pub told : Told before.err.taken before.err now.err (line_of Memory [])
+
+-- out was short of memory while the text was written; err got the line behind that.
 pub record ShortWithin (command : Command) (before now : Outside) : Type 0 where
   pub written : WrittenInPart command before now
   pub short : Rose before.out.shortages now.out.shortages
@@ -140,8 +203,14 @@ pub record ShortBehind (command : Command) (before now : Outside) : Type 0 where
   pub short : Rose before.err.shortages now.err.shortages
   pub told : Told (grown before.err.taken written.front) before.err now.err (line_of Memory [])
 
+-- The write of the certificate failed; the pieces end there, and no line is written.
+pub record FailedFiling (command : Command) (before now : Outside) : Type 0 where
+  pub written : FiledInPart command before now
+  pub fault : Rose before.folder.faults now.folder.faults
+  pub silent : now.err.taken ≡ before.err.taken
+
 -- A write to out failed; the pieces end there, and no line is written.
-pub record Failed (command : Command) (before now : Outside) : Type 0 where
+pub record FailedWithin (command : Command) (before now : Outside) : Type 0 where
   pub written : WrittenInPart command before now
   pub fault : Rose before.out.faults now.out.faults
   pub silent : now.err.taken ≡ before.err.taken
@@ -152,19 +221,27 @@ pub record FailedBehind (command : Command) (before now : Outside) : Type 0 wher
   pub fault : Rose before.err.faults now.err.faults
   pub err : now.err.taken ≡ grown before.err.taken written.front
 
--- What a command does, by its status: done, short of memory, failed in writing, or refused.
+-- short of memory before the pieces, or in one of them
+abbrev pub Short : Command → (before now : Outside) → Type 0
+Short command before now = ShortBefore command before now ⊎ (ShortFiling command before now ⊎ (ShortWithin command before now ⊎ ShortBehind command before now))
+
+-- failed in one of the pieces
+abbrev pub Failed : Command → (before now : Outside) → Type 0
+Failed command before now = FailedFiling command before now ⊎ (FailedWithin command before now ⊎ FailedBehind command before now)
+
+-- What a command does, by its status: done, short of memory, failed in writing, or refused. All names but the certificate's file stay.
 pub record Runs (command : Command) (before now : Outside) (status : ℕ) : Type 0 where
   pub answers : Contains (statuses_of command) status
-  pub keeps : Keeps before now
+  pub keeps : Keeps (written_file command) before now
   pub done : status ≡ 0 → Written command before now
-  pub short : status ≡ 9 → ShortBefore command before now ⊎ ShortWithin command before now ⊎ ShortBehind command before now
-  pub failed : status ≡ 10 → Failed command before now ⊎ FailedBehind command before now
+  pub short : status ≡ 9 → Short command before now
+  pub failed : status ≡ 10 → Failed command before now
   pub refused : status ≢ 0 → status ≢ 9 → status ≢ 10 → IsRefused command before now status
 
 -- Nothing was read, nothing went to out, and err got this refusal's line.
 pub record IsSaid (said : Refusal) (before now : Outside) (status : ℕ) : Type 0 where
   pub is_status : status ≡ status_of said
-  pub keeps : Keeps before now
+  pub keeps : Keeps None before now
   pub folder : now.folder ≡ before.folder
   pub out : now.out ≡ before.out
   pub told : Told before.err.taken before.err now.err (line_of said [])

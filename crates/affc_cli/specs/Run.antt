@@ -8,9 +8,9 @@ use Rattle.affc_grammar.specs.Reads.{Reads}
 use Rattle.affc_interp.specs.DataText.{FeedReads, IsWrongLine, output_text}
 use Rattle.affc_interp.specs.Runs.{start, steps_of}
 use Rattle.affc_driver.specs.Refusals.{IsSourceFault}
-use Rattle.affc_cli.specs.Stuck.{stuck_line}
-use Rattle.affc_cli.specs.declared.refusal.Refusal.{Refusal}
-use Rattle.affc_cli.specs.declared.refusal.Refusal.TheVariants.{Words, Unread, Source, Printed, Schedule, Meaning, Stuck as StuckRun, Illegal, Budget, Memory, Steps, Data}
+use Rattle.affc_lines.specs.Stuck.{stuck_line}
+use Rattle.affc_lines.specs.declared.refusal.Refusal.{Refusal}
+use Rattle.affc_lines.specs.declared.refusal.Refusal.TheVariants.{Source, Stuck as StuckRun, Memory, Steps, Data}
 
 -- The source reads as a program, with the prelude or without it, and the data text is data of it: the numbers p, and the
 -- values of each array.
@@ -55,15 +55,9 @@ pub record HasWrongLine (source feed : List ℕ) (number : ℕ) : Type 0 where
 
 -- When a source and a data text are refused so. Want of memory may come at any time.
 abbrev pub RunTextCause : (source feed : List ℕ) → (limit : ℕ) → Refusal → Type 0
-RunTextCause source feed limit Words = ⊥
-RunTextCause source feed limit (Unread file why) = ⊥
 RunTextCause source feed limit (Source fault) = IsSourceFault source fault
-RunTextCause source feed limit (Printed place) = ⊥
-RunTextCause source feed limit (Schedule line) = ⊥
-RunTextCause source feed limit (Meaning line) = ⊥
 RunTextCause source feed limit (StuckRun line) = IsStuck source feed limit line
-RunTextCause source feed limit (Illegal line) = ⊥
-RunTextCause source feed limit Budget = ⊥
 RunTextCause source feed limit Memory = Unit {0}
 RunTextCause source feed limit Steps = TakesMore source feed limit
 RunTextCause source feed limit (Data number) = HasWrongLine source feed number
+RunTextCause source feed limit _ = ⊥

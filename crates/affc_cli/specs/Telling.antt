@@ -1,35 +1,22 @@
--- What is told of a refusal, and how a command ends at the two sinks.
-use Rattle.std.specs.Prelude.{◌≡◌, ◌≢◌, ◌⊎◌, ℕ, ℤ, List, [], Option, Some, None, Result, Ok, Err}
-use Rattle.affc_ast.specs.declared.tree.Program.{Program}
-use Rattle.affc_interp.specs.Budget.{Stop, StuckBy, OutOfSteps}
+-- How a command ends at the folder and the two sinks.
+use Rattle.std.specs.Prelude.{◌≡◌, ◌≢◌, ◌⊎◌, ℕ, List, [], Option, Some, None, Result, Ok, Err}
 use Rattle.affc_io.specs.Count.{Rose}
+use Rattle.affc_io.specs.Files.{Holds, IsLeft}
 use Rattle.affc_io.specs.Front.{IsFront}
 use Rattle.affc_io.specs.State.{FolderState, SinkState}
 use Rattle.affc_io.specs.Taken.{grown}
-use Rattle.affc_cli.specs.Outside.{Told, IsRead, IsReadAtMost}
-use Rattle.affc_cli.specs.Command.{Command}
+use Rattle.affc_lines.specs.Told.{Told, IsTold}
+use Rattle.affc_cli.specs.Outside.{IsRead, IsReadAtMost}
+use Rattle.affc_words.specs.Command.{Command}
 use Rattle.affc_cli.specs.Promise.{files_of, reads_of}
-use Rattle.affc_cli.specs.Refusal.{status_of, line_of, IsUnread}
-use Rattle.affc_cli.specs.Stuck.{stuck_line}
+use Rattle.affc_lines.specs.Lines.{line_of}
+use Rattle.affc_cli.specs.Refusal.{IsUnread}
 use Rattle.affc_cli.specs.declared.pieces.Pieces.{Pieces}
-use Rattle.affc_cli.specs.declared.refusal.Operand.{Operand}
-use Rattle.affc_cli.specs.declared.refusal.Refusal.{Refusal}
-use Rattle.affc_cli.specs.declared.refusal.Refusal.TheVariants.{Unread, Stuck, Memory, Steps}
+use Rattle.affc_lines.specs.declared.refusal.Operand.{Operand}
+use Rattle.affc_lines.specs.declared.refusal.Refusal.{Refusal}
+use Rattle.affc_lines.specs.declared.refusal.Refusal.TheVariants.{Unread, Memory}
 
--- The line of the refusal was told, or that of want of memory, and this is the status of it.
-pub record IsTold (refusal : Refusal) (name : List ℕ) (before now : SinkState) (status : ℕ) : Type 0 where
-  pub said : Refusal
-  pub is : (said ≡ refusal) ⊎ (said ≡ Memory)
-  pub is_status : status ≡ status_of said
-  pub told : Told before.taken before now (line_of said name)
-
--- The refusal of a run of the program with these numbers that stops so. Want of memory may come in place of a line.
-abbrev pub RefusesStop : Option Stop → Program → (p : List ℤ) → Refusal → Type 0
-RefusesStop None program p refusal = refusal ≡ Memory
-RefusesStop (Some OutOfSteps) program p refusal = refusal ≡ Steps
-RefusesStop (Some (StuckBy cause)) program p refusal = (refusal ≡ Stuck (stuck_line program p cause)) ⊎ (refusal ≡ Memory)
-
--- ---- How a command ends
+-- ---- Text and report
 
 -- err took the report
 pub record IsReported (report : List ℕ) (err now_err : SinkState) (status : ℕ) : Type 0 where
@@ -83,16 +70,55 @@ pub record IsPutFailed (text : List ℕ) (out now_out err now_err : SinkState) (
   pub fault : Rose out.faults now_out.faults
   pub silent : now_err.taken ≡ err.taken
 
+-- what becomes of a text and a report
+abbrev pub Puts : (text report : List ℕ) → (out now_out err now_err : SinkState) → (status : ℕ) → Type 0
+Puts text report out now_out err now_err status =
+    IsPut text report out now_out err now_err status ⊎ (IsPutShort text out now_out err now_err status ⊎ IsPutFailed text out now_out err now_err status)
+
 -- the refusal was told, and out took nothing
 pub record IsRefusal (refusal : Refusal) (name : List ℕ) (out now_out err now_err : SinkState) (status : ℕ) : Type 0 where
   pub untouched : now_out.taken ≡ out.taken
   pub told : IsTold refusal name err now_err status
 
--- what becomes of a command's pieces, or of its refusal, in which `name` is the file that is meant
+-- what becomes of a command's text and report, or of its refusal, in which `name` is the file that is meant
 abbrev pub Ends : Result Pieces Refusal → (name : List ℕ) → (out now_out err now_err : SinkState) → (status : ℕ) → Type 0
-Ends (Ok made) name out now_out err now_err status =
-    IsPut made.text.items made.report.items out now_out err now_err status ⊎ IsPutShort made.text.items out now_out err now_err status ⊎ IsPutFailed made.text.items out now_out err now_err status
+Ends (Ok made) name out now_out err now_err status = Puts made.text.items made.report.items out now_out err now_err status
 Ends (Err refusal) name out now_out err now_err status = IsRefusal refusal name out now_out err now_err status
+
+-- ---- How a command ends that writes a file first
+
+-- the file holds the certificate, and the other pieces followed
+pub record IsFiledFirst (file certificate text report : List ℕ) (now : FolderState) (out now_out err now_err : SinkState) (status : ℕ) : Type 0 where
+  pub filed : Holds now.held file certificate
+  pub puts : Puts text report out now_out err now_err status
+
+-- the folder was short of memory, and that was told
+pub record IsFilingShort (file certificate : List ℕ) (before now : FolderState) (out now_out err now_err : SinkState) (status : ℕ) : Type 0 where
+  pub is_status : status ≡ 9
+  pub left : IsLeft before.held now.held file certificate
+  pub short : Rose before.shortages now.shortages
+  pub untouched : now_out.taken ≡ out.taken
+  pub told : Told err.taken err now_err (line_of Memory [])
+
+-- the write failed, and nothing was told
+pub record IsFilingFailed (file certificate : List ℕ) (before now : FolderState) (out now_out err now_err : SinkState) (status : ℕ) : Type 0 where
+  pub is_status : status ≡ 10
+  pub left : IsLeft before.held now.held file certificate
+  pub fault : Rose before.faults now.faults
+  pub untouched : now_out.taken ≡ out.taken
+  pub silent : now_err.taken ≡ err.taken
+
+-- what becomes of a command's pieces, or of its refusal, with the folder before and after
+abbrev pub EndsFiled : Result Pieces Refusal → (file name : List ℕ) → (before now : FolderState) → (out now_out err now_err : SinkState) → (status : ℕ) → Type 0
+EndsFiled (Ok made) file name before now out now_out err now_err status =
+    IsFiledFirst file made.certificate.items made.text.items made.report.items now out now_out err now_err status
+    ⊎ (IsFilingShort file made.certificate.items before now out now_out err now_err status ⊎ IsFilingFailed file made.certificate.items before now out now_out err now_err status)
+EndsFiled (Err refusal) file name before now out now_out err now_err status = (now ≡ before) × IsRefusal refusal name out now_out err now_err status
+
+-- the same, where a file may be named
+abbrev pub EndsWith : (file : Option (List ℕ)) → Result Pieces Refusal → (name : List ℕ) → (before now : FolderState) → (out now_out err now_err : SinkState) → (status : ℕ) → Type 0
+EndsWith None made name before now out now_out err now_err status = (now ≡ before) × Ends made name out now_out err now_err status
+EndsWith (Some file) made name before now out now_out err now_err status = EndsFiled made file name before now out now_out err now_err status
 
 -- ---- Reading a file
 

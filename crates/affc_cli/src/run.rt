@@ -3,12 +3,12 @@ ghost use Rattle.std.specs.Prelude.{◌≡◌, [], IfOk, IfErr};
 ghost use Rattle.affc_cli.specs.Run.{RunsTo, RunTextCause};
 
 use crate::pieces::Pieces;
-use crate::refusal::Refusal;
-use crate::source::program_of;
-use crate::stuck::refusal_of;
 use affc_interp::feed::{FeedFault, read_feed};
 use affc_interp::lines::lines;
 use affc_interp::run::run;
+use affc_lines::refusal::Refusal;
+use affc_lines::source::program_of;
+use affc_lines::stuck::refusal_of;
 use std::alloc::Global;
 
 /// What the output arrays hold when the source has run on the data, a line for each, or why there is nothing.
@@ -31,6 +31,7 @@ pub fn run_text(alloc: Global, source: &[u8], feed: &[u8], limit: u64) -> Result
     };
     match lines(alloc, &program, &store) {
         Ok(text) => Ok(Pieces {
+            certificate: Vec::new(alloc),
             text,
             report: Vec::new(alloc),
         }),

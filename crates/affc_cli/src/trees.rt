@@ -5,10 +5,10 @@ ghost use Rattle.affc_driver.specs.Refusals.{FlowRefusalSays};
 ghost use Rattle.affc_driver.specs.declared.refusal.Refusal.TheVariants.{Budget as Spent};
 ghost use Rattle.affc_cli.specs.Refusal.{FlowTextCause};
 
-use crate::meaning::{meaning, unwritten};
 use crate::pieces::Pieces;
-use crate::refusal::Refusal;
 use affc_driver::{Refusal as FlowRefusal, flow};
+use affc_lines::meaning::{meaning, unwritten};
+use affc_lines::refusal::Refusal;
 use affc_split::Budget;
 use std::alloc::Global;
 
@@ -44,6 +44,7 @@ pub fn trees(alloc: Global, source: &[u8]) -> Result<Pieces, Refusal>
     let mut units = Budget::new(None);
     match flow(alloc, source, &mut units) {
         Ok(text) => Ok(Pieces {
+            certificate: Vec::new(alloc),
             text,
             report: Vec::new(alloc),
         }),

@@ -1,5 +1,5 @@
 -- What is printed of the loops of a legal schedule compiles the text that its program was read from.
-use Rattle.std.proofs.Common.{◌≡◌, ◌<◌, ℕ, false, true, IsTrue, List, [], length, map, Option, Some, None, refl, sym, subst, ap, ◌∙◌, arith}
+use Rattle.std.proofs.Common.{◌≡◌, ◌<◌, ℕ, false, IsTrue, List, [], length, map, Option, Some, None, refl, sym, subst, ap, ◌∙◌, arith}
 use Rattle.std.proofs.lemmas.List.Elements.{All-nil}
 use Rattle.std.proofs.lemmas.Option.{slice_get_within, none-some}
 use Rattle.affc_ast.specs.declared.tree.ArrayId.{ArrayId}

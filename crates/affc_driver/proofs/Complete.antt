@@ -1,6 +1,6 @@
 -- A text is folded exactly where its program is never stuck, and its schedule is legal; then nothing but want
 -- of budget or of memory is in the way. So it is of its trees, without a schedule.
-use Rattle.std.proofs.Common.{◌≡◌, ℕ, ◌<◌, ◌≤◌, ℤ, true≢false, List, [], length, Option, Some, None, refl, sym, ap, subst, ◌∙◌, ◌⊎◌, inl, inr, arith}
+use Rattle.std.proofs.Common.{◌≡◌, ℕ, ◌<◌, ◌≤◌, ℤ, true≢false, List, [], length, Option, Some, None, refl, sym, ap, subst, ◌∙◌, inl, inr, arith}
 use Rattle.std.specs.Prelude.{slice_get}
 use Rattle.std.proofs.lemmas.Bool.{leb-true}
 use Rattle.std.proofs.lemmas.Option.{none-some, same_Some}
@@ -27,7 +27,6 @@ use Rattle.affc_nest.specs.Nests.{nest_of}
 use Rattle.affc_loops.specs.Loops.{target_program}
 use Rattle.affc_split.specs.Budgets.{Account}
 use Rattle.affc_basis.specs.declared.fold.Fold.{Fold}
-use Rattle.affc_basis.specs.Folds.{fold_of}
 use Rattle.affc_rewrite.specs.Laws.{FoldedProgramCompiles}
 use Rattle.affc_rewrite.specs.Rewrite.{folded_program}
 use Rattle.affc_foldprint.specs.Laws.{FoldsWellNamed}
@@ -36,7 +35,7 @@ use Rattle.affc_basis.specs.Listed.{Shape, listing}
 use Rattle.affc_weigh.specs.declared.choice.Choice.{Choice}
 use Rattle.affc_weigh.specs.declared.choice.Price.{Price}
 use Rattle.affc_weigh.proofs.Tops.{beside}
-use Rattle.affc_folds.specs.Folding.{IsLeftWhole, HasBound, IsSpent, IsTaken, IsChoice, given_for}
+use Rattle.affc_folds.specs.Folding.{IsSpent, IsTaken, IsChoice, given_for}
 use Rattle.affc_folds.proofs.CheapestLemmas.{none_costs_less}
 use Rattle.affc_bounds.specs.Faults.{StaysWithin, IsMeaningFault}
 use Rattle.affc_bounds.proofs.LawProofs.{faults_do_not_stay}
@@ -50,8 +49,7 @@ use Rattle.affc_flow.specs.Unwritten.{LoadsUnwritten}
 use Rattle.affc_threshold.specs.Thresholds.{threshold}
 use Rattle.affc_driver.specs.Accounts.{reaches, IsUnlimited, IsShort}
 use Rattle.affc_driver.specs.Folds.{FoldsTo}
-use Rattle.affc_driver.specs.Flows.{FlowsTo}
-use Rattle.affc_driver.specs.Laws.{NeverStuck, IllegalShows, UnlimitedFoldsAll, NoneIsCheaper, IsFoldable, FoldableIsFolded, FoldableIsNotRefused, UnlimitedIsNotRefused, IsSound, FlowsAreSound, SoundIsNotRefused}
+use Rattle.affc_driver.specs.Laws.{IllegalShows, UnlimitedFoldsAll, NoneIsCheaper, IsFoldable, FoldableIsFolded, FoldableIsNotRefused, UnlimitedIsNotRefused, IsSound, FlowsAreSound, SoundIsNotRefused}
 use Rattle.affc_driver.specs.Plans.{HasPlan, WrittenThroughout}
 use Rattle.affc_driver.specs.Refusals.{IsSourceFault, IsPrinted, HasSchedFault, HasMeaningFault, HasUnwritten, IsIllegal}
 use Rattle.affc_driver.specs.Reports.{report_text}

@@ -4,7 +4,7 @@ use Rattle.affc_split.specs.Budgets.{Account}
 use Rattle.affc_folds.proofs.ListLemmas.{folds_by}
 use Rattle.affc_driver.specs.Accounts.{FoldsWith}
 
-pub with_answers : (A B : List ℕ → ℕ → Type 0) → ((moduli : List ℕ) (answer : ℕ) → A moduli answer → B moduli answer) → (source : List ℕ) (schedule : Option (List ℕ)) (left : Account) (folded report : List ℕ)
+abbrev pub with_answers : (A B : List ℕ → ℕ → Type 0) → ((moduli : List ℕ) (answer : ℕ) → A moduli answer → B moduli answer) → (source : List ℕ) (schedule : Option (List ℕ)) (left : Account) (folded report : List ℕ)
     → FoldsWith A source schedule left folded report → FoldsWith B source schedule left folded report
 with_answers A B to source schedule left folded report h =
     let f = h.folds_to in

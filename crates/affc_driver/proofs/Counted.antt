@@ -15,23 +15,31 @@ use Rattle.affc_foldprint.specs.Laws.{FoldsWellNamed}
 use Rattle.affc_schedtext.specs.declared.plan.Plan.{Plan}
 use Rattle.affc_threshold.specs.Thresholds.{threshold}
 use Rattle.affc_weigh.specs.Costs.{stopped}
-use Rattle.affc_driver.specs.Accounts.{free, reaches, is_plenty, FoldsWith, IsShort, IsPlenty}
+use Rattle.affc_driver.specs.Accounts.{free, reaches, is_plenty, FoldsMade, IsShort, IsPlenty}
 use Rattle.affc_driver.specs.Made.{IsCompiled}
 use Rattle.affc_driver.specs.Plans.{HasPlan}
 use Rattle.affc_driver.specs.Programs.{OfEachPlan}
+use Rattle.affc_driver.specs.declared.folding.Made.{Made}
+use Rattle.affc_driver.specs.declared.wanted.Wanted.{Wanted}
 use Rattle.affc_driver.proofs.Compiled.{folds_to}
 use Rattle.affc_driver.proofs.OnePlan.{one_threshold}
 use Rattle.affc_driver.proofs.Refused.{planned}
 
 module _ (named : FoldsWellNamed) (compiled : FoldedProgramCompiles) (Answers : List ℕ → ℕ → Type 0) (program : Program) (plan : Plan) where
   -- the account is that of what is left
-  pub folds_with : (account left : Account) (folded report : List ℕ) → account ≡ (if is_plenty program plan.schedule left.limit then free else left)
-      → IsCompiled Answers program plan account folded report → OfEachPlan program plan (λ text schedule. FoldsWith Answers text schedule left folded report)
+  pub folds_made : (account left : Account) (wanted : Wanted) (made : Made) → account ≡ (if is_plenty program plan.schedule left.limit then free else left)
+      → IsCompiled Answers program plan account wanted made → OfEachPlan program plan (λ text schedule. FoldsMade Answers text schedule left wanted made)
   unfolding folds_to
-  folds_with account left folded report is made schedule has text reads bare = record {
-    account = account;
-    folds_to = folds_to named compiled Answers text schedule program plan account made.folds made.choices folded report reads bare made.within made.decided has made.made;
-    counted = is;
+  folds_made account left wanted made is h schedule has text reads bare = record {
+    at_cost = record {
+      folds_with = record {
+        account = account;
+        folds_to = folds_to named compiled Answers text schedule program plan account h.folds h.choices made.done.text.items made.done.report.items reads bare h.within h.decided has h.is;
+        counted = is;
+      };
+      total = h.total;
+    };
+    certified = h.certified;
   }
 
 -- where a limit isn't plenty, it is below the threshold

@@ -9,7 +9,6 @@ use Rattle.affc_trace.specs.declared.schedule.Schedule.{Schedule}
 use Rattle.affc_trace.specs.Effects.{effect}
 use Rattle.affc_trace.specs.Law.{IsIn}
 use Rattle.affc_trace.specs.Orders.{Touches}
-use Rattle.affc_trace.specs.Laws.{IsInContext}
 use Rattle.affc_trace.specs.Target.{IsScheduleOf, within_limits}
 use Rattle.affc_domain.specs.Plain.{IsPlain}
 use Rattle.affc_split.specs.Budgets.{Account}

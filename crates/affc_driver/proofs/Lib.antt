@@ -9,5 +9,8 @@ pub mod Complete
 pub mod Refused
 pub mod Told
 pub mod Folded
+pub mod Kept
+pub mod Drafted
 pub mod Counted
 pub mod Costed
+pub mod Totals

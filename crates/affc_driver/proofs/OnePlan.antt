@@ -6,7 +6,7 @@ use Rattle.affc_trace.specs.declared.schedule.Schedule.TheVariants as order
 use Rattle.affc_trace.specs.Target.{target}
 use Rattle.affc_nest.specs.declared.nest.Nest.{Nest}
 use Rattle.affc_schedtext.specs.declared.plan.Plan.{Plan}
-use Rattle.affc_schedtext.specs.Answers.{draft_of, IsScheduleOfOrder, PlanReads}
+use Rattle.affc_schedtext.specs.Answers.{draft_of, IsScheduleOfOrder}
 use Rattle.affc_schedtext.specs.Draft.{OrderDraft, source, time, Draft}
 use Rattle.affc_schedtext.specs.declared.outline.Outline.{Outline}
 use Rattle.affc_schedtext.specs.Outline.{outline}

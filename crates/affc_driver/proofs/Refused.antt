@@ -1,5 +1,5 @@
 -- What each refusal says of all texts of a program.
-use Rattle.std.proofs.Common.{◌≡◌, ◌≢◌, ◌∙◌, ℕ, ℤ, false, IsTrue, List, Option, Some, None, refl, ap, subst}
+use Rattle.std.proofs.Common.{◌≡◌, ◌≢◌, ◌∙◌, ℕ, ℤ, IsTrue, List, Option, Some, None, refl, ap, subst}
 use Rattle.std.specs.Prelude.{slice_get}
 use Rattle.affc_ast.specs.declared.tree.Instance.{Instance}
 use Rattle.affc_ast.specs.declared.tree.Program.{Program}
@@ -21,7 +21,7 @@ use Rattle.affc_nest.specs.declared.nest.Access.{Access}
 use Rattle.affc_nest.specs.declared.nest.Entry.{Entry}
 use Rattle.affc_flow.specs.Stores.{IsNamedNest}
 use Rattle.affc_flow.specs.Unwritten.{IsUnwritten}
-use Rattle.affc_driver.specs.Plans.{HasPlan, as_it_stands, LegalThroughout, WrittenThroughout}
+use Rattle.affc_driver.specs.Plans.{HasPlan, as_it_stands, WrittenThroughout}
 use Rattle.affc_quast.specs.Limits.{narrow, AreTreesWithin}
 use Rattle.affc_quast.specs.Trees.{Tree}
 use Rattle.affc_flow.specs.Finds.{AreInputs}

@@ -1,6 +1,5 @@
 -- A program that leaves its arrays, or loads what nothing stores, is stuck, and no data fit an empty context.
-use Rattle.std.proofs.Common.{◌≡◌, ℕ, ℤ, List, subst}
-use Rattle.affc_ast.specs.declared.tree.Instance.{Instance}
+use Rattle.std.proofs.Common.{◌≡◌, subst}
 use Rattle.affc_ast.specs.declared.tree.Program.{Program}
 use Rattle.affc_grammar.specs.Limits.{limits_of}
 use Rattle.affc_grammar.proofs.Texts.{one_tree}

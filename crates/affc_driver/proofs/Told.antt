@@ -1,5 +1,5 @@
 -- What the text of trees asks of them, and of their nest.
-use Rattle.std.proofs.Common.{◌≡◌, ℕ, zero, suc, ◌+◌, ◌-◌, ◌^◌, ◌<◌, ◌≤◌, Bool, true, false, List, [], ◌∷◌, length, map, Some, refl, sym, ap, subst, ◌∙◌, arith}
+use Rattle.std.proofs.Common.{◌≡◌, ℕ, suc, ◌+◌, ◌-◌, ◌^◌, ◌<◌, ◌≤◌, Bool, true, false, List, [], ◌∷◌, length, Some, refl, sym, ap, subst, ◌∙◌, arith}
 use Rattle.std.specs.Prelude.{slice_get, nat_lt}
 use Rattle.std.specs.List.{All}
 use Rattle.std.proofs.lemmas.Bool.{ltb-true, ltb-false}
@@ -8,7 +8,6 @@ use Rattle.affc_ast.specs.declared.tree.Program.{Program}
 use Rattle.affc_ast.specs.Trace.{assignments}
 use Rattle.affc_trace.specs.Law.{IsIn}
 use Rattle.affc_domain.proofs.Lists.{length_map}
-use Rattle.affc_nest.specs.declared.nest.Access.{Access}
 use Rattle.affc_nest.specs.declared.nest.Entry.{Entry}
 use Rattle.affc_nest.specs.declared.nest.Nest.{Nest}
 use Rattle.affc_nest.specs.Laws.{HasNest}
@@ -21,7 +20,7 @@ use Rattle.affc_quast.specs.declared.quast.Quast.{Quast}
 use Rattle.affc_quast.specs.Limits.{narrow, AreTreesWithin}
 use Rattle.affc_quast.specs.Seen.{seen, trees_of}
 use Rattle.affc_quast.specs.Sources.{loads_in, loads_before}
-use Rattle.affc_quast.specs.Trees.{Tree, depth_of}
+use Rattle.affc_quast.specs.Trees.{depth_of}
 use Rattle.affc_flow.specs.Stores.{IsNamedNest}
 use Rattle.affc_flow.proofs.FindLemmas.{few_accesses}
 use Rattle.affc_flow.proofs.FlowLemmas.{mapped_at}

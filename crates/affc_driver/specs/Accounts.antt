@@ -1,12 +1,17 @@
 -- What is spent of a budget. A budget of at least the threshold counts as none.
-use Rattle.std.specs.Prelude.{◌≡◌, ◌⊎◌, ℕ, ◌<◌, nat_le, Bool, true, false, if◌then◌else◌, List, Option, Some, None}
+use Rattle.std.specs.Prelude.{◌≡◌, ◌⊎◌, ℕ, ◌<◌, nat_le, Bool, true, false, if◌then◌else◌, List, Option, Some, None, option_map}
 use Rattle.affc_ast.specs.declared.tree.Program.{Program}
 use Rattle.affc_trace.specs.declared.schedule.Schedule.{Schedule}
 use Rattle.affc_split.specs.Budgets.{Account}
 use Rattle.affc_nest.specs.Nests.{nest_of}
 use Rattle.affc_threshold.specs.Thresholds.{threshold}
+use Rattle.affc_certify.specs.Certified.{IsCertified}
+use Rattle.affc_driver.specs.Certificates.{HasCertificate}
+use Rattle.affc_driver.specs.Costs.{total_cost}
 use Rattle.affc_driver.specs.Folds.{FoldsTo}
 use Rattle.affc_driver.specs.Refusals.{IsPlanned}
+use Rattle.affc_driver.specs.declared.folding.Made.{Made}
+use Rattle.affc_driver.specs.declared.wanted.Wanted.{Wanted}
 
 -- of which nothing is counted
 abbrev pub free : Account
@@ -29,6 +34,21 @@ pub record FoldsWith (Answers : List ℕ → ℕ → Type 0) (source : List ℕ)
   pub account : Account
   pub folds_to : FoldsTo Answers source schedule account text report
   pub counted : account ≡ (if is_plenty folds_to.compiles.source folds_to.plan.schedule left.limit then free else left)
+
+-- the same, and this is what the folds cost together
+pub record FoldsAtCost (Answers : List ℕ → ℕ → Type 0) (source : List ℕ) (schedule : Option (List ℕ)) (left : Account) (text report : List ℕ) (cost : ℕ) : Type 0 where
+  pub folds_with : FoldsWith Answers source schedule left text report
+  pub total : cost ≡ total_cost folds_with.folds_to.folds folds_with.folds_to.choices
+
+-- the same, and this is a certificate of the folds, for the plan
+pub record FoldsCertified (Answers : List ℕ → ℕ → Type 0) (source : List ℕ) (schedule : Option (List ℕ)) (left : Account) (text report certificate : List ℕ) : Type 0 where
+  pub folds_with : FoldsWith Answers source schedule left text report
+  pub certified : IsCertified (nest_of folds_with.folds_to.compiles.source) folds_with.folds_to.plan certificate folds_with.folds_to.folds
+
+-- the same of all that is made, with a certificate where one is wanted
+pub record FoldsMade (Answers : List ℕ → ℕ → Type 0) (source : List ℕ) (schedule : Option (List ℕ)) (left : Account) (wanted : Wanted) (made : Made) : Type 0 where
+  pub at_cost : FoldsAtCost Answers source schedule left made.done.text.items made.done.report.items made.done.cost
+  pub certified : HasCertificate wanted (nest_of at_cost.folds_with.folds_to.compiles.source) at_cost.folds_with.folds_to.plan (option_map (λ text. text.items) made.certificate) at_cost.folds_with.folds_to.folds
 
 -- the limit is below the threshold of the program and the plan that are read
 pub record IsShort (source : List ℕ) (schedule : Option (List ℕ)) (limit : Option ℕ) : Type 0 where

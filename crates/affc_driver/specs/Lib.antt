@@ -1,5 +1,7 @@
 pub mod Plans
 pub mod Reports
+pub mod Costs
+pub mod Certificates
 pub mod Folds
 pub mod Accounts
 pub mod Made

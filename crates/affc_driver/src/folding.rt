@@ -12,7 +12,9 @@ ghost use Rattle.affc_parse.specs.Answers.{Answers};
 ghost use Rattle.affc_basis.specs.FoldLists.{AreFoldsIn};
 ghost use Rattle.affc_rewrite.specs.Rewrite.{KeepLimits};
 ghost use Rattle.affc_threshold.specs.Thresholds.{threshold};
-ghost use Rattle.affc_driver.specs.Accounts.{FoldsWith, IsShort, IsPlenty, free, is_plenty, reaches};
+ghost use Rattle.affc_weigh.specs.Choices.{choice_of};
+ghost use Rattle.affc_driver.specs.Accounts.{FoldsAtCost, FoldsCertified, FoldsMade, IsShort, IsPlenty, free, is_plenty, reaches};
+ghost use Rattle.affc_driver.specs.Costs.{cost_in, total_cost};
 ghost use Rattle.affc_driver.specs.Made.{IsCompiled, IsMadeOf};
 ghost use Rattle.affc_driver.specs.Plans.{HasPlan};
 ghost use Rattle.affc_driver.specs.Printed.{HasPrelude, ReadsPrinted, holds_prelude};
@@ -21,7 +23,8 @@ ghost use Rattle.affc_driver.specs.Refusals.{RefusalSays, FlowRefusalSays};
 
 use crate::meaning::{nest_of, stays_within};
 use crate::refusal::Refusal;
-use crate::temporaries::folds_under;
+use crate::temporaries::{Decided, folds_under};
+use crate::wanted::Wanted;
 use affc_ast::tree::{ArrayId, Program};
 use affc_basis::Fold;
 use affc_cprint::print;
@@ -53,6 +56,22 @@ pub struct Done {
     pub text: Vec<u8>,
     /// What became of each temporary: its fold, and what is known of it.
     pub report: Vec<u8>,
+    /// What the folds cost together.
+    pub cost: u128,
+}
+
+/// What is made of a source, and a certificate of its folds.
+#[derive(Debug, Drop)]
+pub struct CertifiedDone {
+    pub done: Done,
+    pub certificate: Vec<u8>,
+}
+
+/// The same, where a certificate may be wanted.
+#[derive(Drop)]
+pub(crate) struct Made {
+    pub(crate) done: Done,
+    pub(crate) certificate: Option<Vec<u8>>,
 }
 
 /// The refusal of a text that is no program.
@@ -114,7 +133,33 @@ pub fn plan_of(alloc: Global, program: &Program, schedule: Option<&[u8]>) -> Res
     }
 }
 
-/// What is printed of the loops of a legal schedule, with these folds.
+// What the choice of an array costs.
+fn cost_of(choices: &[(ArrayId, Choice)], array: ArrayId) -> u128
+    ensures { result ≡ cost_in (choice_of choices.now array.0) }
+{
+    for (of, choice) in choices {
+        if of.0 == array.0 {
+            return choice.cost;
+        }
+    }
+    0
+}
+
+// What these folds cost together.
+#[tactic(auto, using(crate::proofs::Totals::stopped_sum))]
+fn total_cost(folds: &[(ArrayId, Fold)], choices: &[(ArrayId, Choice)]) -> u128
+    ensures { result ≡ total_cost folds.now choices.now }
+{
+    match folds {
+        [] => 0,
+        [(array, _), folds @ ..] => {
+            cost_of(choices, *array).saturating_add(total_cost(folds, choices))
+        }
+    }
+}
+
+/// What is printed of the loops of a legal schedule, with these folds, and told of the folds. Of a fold that has no choice no cost
+/// is told, and it costs nothing.
 pub fn finish(
     alloc: Global,
     program: &Program,
@@ -131,6 +176,7 @@ pub fn finish(
     requires in_program { AreFoldsIn program.now folds.now }
     requires limits { KeepLimits program.now folds.now }
     ensures ok { IfOk result (λ done. IsMadeOf program.now plan.now folds.now choices.now done.text.items done.report.items) }
+    ensures total { IfOk result (λ done. done.cost ≡ total_cost folds.now choices.now) }
     ensures err { IfErr result (λ refusal. refusal ≡ Refusal.Memory) }
 {
     folds_are_scanned();
@@ -138,8 +184,9 @@ pub fn finish(
     let target = scan(alloc, &other, nest, &plan.schedule)?;
     let outline = outline_of(alloc, program)?;
     let report = fold_report(alloc, &outline, folds, choices)?;
+    let cost = total_cost(folds, choices);
     match print(alloc, &target) {
-        Ok(text) => Ok(Done { text, report }),
+        Ok(text) => Ok(Done { text, report, cost }),
         Err(_) => Err(Refusal::Memory),
     }
 }
@@ -151,15 +198,16 @@ fn compile_counted<F: Cost>(
     nest: &Nest,
     plan: &Plan,
     cost: &Weigher<F>,
+    wanted: Wanted,
     budget: &mut Budget,
-) -> Result<Done, Refusal>
+) -> Result<Made, Refusal>
     requires plain { IsPlain program.now }
     requires arrays { NamesArrays program.now }
     requires near { first_wide program.now ≡ None }
     requires nest { nest.now ≡ nest_of program.now }
     requires fits { IsScheduleOf program.now plan.now.schedule }
     requires slight { IsTrue (within_limits plan.now.schedule) }
-    ensures ok { IfOk result (λ done. IsCompiled (F.answers cost.now.cost) program.now plan.now budget.new done.text.items done.report.items) }
+    ensures ok { IfOk result (IsCompiled (F.answers cost.now.cost) program.now plan.now budget.new wanted) }
     ensures err { IfErr result (λ refusal. OfEachPlan program.now plan.now (λ text schedule. RefusalSays text schedule refusal)) }
     ensures later { IsLater budget.old budget.new }
     ensures stop { IfErr result (λ refusal. refusal ≡ Refusal.Budget → budget.new.limit ≡ Some budget.new.spent) }
@@ -168,10 +216,16 @@ fn compile_counted<F: Cost>(
         Ok(()) => {}
         Err(refusal) => return Err(refusal),
     }
-    let folded = folds_under(alloc, program, nest, plan, cost, budget)?;
+    let Decided {
+        folded,
+        certificate,
+    } = folds_under(alloc, program, nest, plan, cost, wanted, budget)?;
     let folds = folded.folds.as_slice();
     let choices = folded.choices.as_slice();
-    finish(alloc, program, nest, plan, folds, choices)
+    match finish(alloc, program, nest, plan, folds, choices) {
+        Ok(done) => Ok(Made { done, certificate }),
+        Err(refusal) => Err(refusal),
+    }
 }
 
 // The same within no budget.
@@ -181,19 +235,20 @@ fn compile_freely<F: Cost>(
     nest: &Nest,
     plan: &Plan,
     cost: &Weigher<F>,
-) -> Result<Done, Refusal>
+    wanted: Wanted,
+) -> Result<Made, Refusal>
     requires plain { IsPlain program.now }
     requires arrays { NamesArrays program.now }
     requires near { first_wide program.now ≡ None }
     requires nest { nest.now ≡ nest_of program.now }
     requires fits { IsScheduleOf program.now plan.now.schedule }
     requires slight { IsTrue (within_limits plan.now.schedule) }
-    ensures ok { IfOk result (λ done. IsCompiled (F.answers cost.now.cost) program.now plan.now free done.text.items done.report.items) }
+    ensures ok { IfOk result (IsCompiled (F.answers cost.now.cost) program.now plan.now free wanted) }
     ensures err { IfErr result (λ refusal. OfEachPlan program.now plan.now (λ text schedule. RefusalSays text schedule refusal)) }
     ensures free { IfErr result (λ refusal. refusal ≢ Refusal.Budget) }
 {
     let mut budget = Budget::new(None);
-    compile_counted(alloc, program, nest, plan, cost, &mut budget)
+    compile_counted(alloc, program, nest, plan, cost, wanted, &mut budget)
 }
 
 // Whether so many units are at least the threshold.
@@ -219,13 +274,14 @@ fn compile<F: Cost>(
     program: &Program,
     plan: &Plan,
     cost: &Weigher<F>,
+    wanted: Wanted,
     budget: &mut Budget,
-) -> Result<Done, Refusal>
+) -> Result<Made, Refusal>
     requires plain { IsPlain program.now }
     requires arrays { NamesArrays program.now }
     requires fits { IsScheduleOf program.now plan.now.schedule }
     requires slight { IsTrue (within_limits plan.now.schedule) }
-    ensures ok { IfOk result (λ done. OfEachPlan program.now plan.now (λ text schedule. FoldsWith (F.answers cost.now.cost) text schedule budget.new done.text.items done.report.items)) }
+    ensures ok { IfOk result (λ made. OfEachPlan program.now plan.now (λ text schedule. FoldsMade (F.answers cost.now.cost) text schedule budget.new wanted made)) }
     ensures err { IfErr result (λ refusal. OfEachPlan program.now plan.now (λ text schedule. RefusalSays text schedule refusal)) }
     ensures later { IsLater budget.old budget.new }
     ensures stop { IfErr result (λ refusal. refusal ≡ Refusal.Budget → budget.new.limit ≡ Some budget.new.spent) }
@@ -239,9 +295,9 @@ fn compile<F: Cost>(
         Err(refusal) => return Err(refusal),
     };
     if is_plenty(&nest, &plan.schedule, budget) {
-        return compile_freely(alloc, program, &nest, plan, cost);
+        return compile_freely(alloc, program, &nest, plan, cost, wanted);
     }
-    compile_counted(alloc, program, &nest, plan, cost, budget)
+    compile_counted(alloc, program, &nest, plan, cost, wanted, budget)
 }
 
 // What is made of a plain program with a schedule, whose text is read first.
@@ -250,12 +306,13 @@ fn compile_with<F: Cost>(
     program: &Program,
     schedule: Option<&[u8]>,
     cost: &Weigher<F>,
+    wanted: Wanted,
     budget: &mut Budget,
-) -> Result<Done, Refusal>
+) -> Result<Made, Refusal>
     requires plain { IsPlain program.now }
     requires counted { IsCounted program.now }
     requires arrays { NamesArrays program.now }
-    ensures ok { IfOk result (λ done. OfEachText program.now (λ text. FoldsWith (F.answers cost.now.cost) text (option_map (λ t. t.now) schedule.entry) budget.new done.text.items done.report.items)) }
+    ensures ok { IfOk result (λ made. OfEachText program.now (λ text. FoldsMade (F.answers cost.now.cost) text (option_map (λ t. t.now) schedule.entry) budget.new wanted made)) }
     ensures err { IfErr result (λ refusal. OfEachText program.now (λ text. RefusalSays text (option_map (λ t. t.now) schedule.entry) refusal)) }
     ensures later { IsLater budget.old budget.new }
     ensures stop { IfErr result (λ refusal. refusal ≡ Refusal.Budget → budget.new.limit ≡ Some budget.new.spent) }
@@ -263,7 +320,35 @@ fn compile_with<F: Cost>(
     ensures plenty { OfEachText program.now (λ text. IsPlenty text (option_map (λ t. t.now) schedule.entry) budget.old.limit → budget.new ≡ budget.old) }
 {
     let plan = plan_of(alloc, program, schedule)?;
-    compile(alloc, program, &plan, cost, budget)
+    compile(alloc, program, &plan, cost, wanted, budget)
+}
+
+// What is made of a source with a schedule.
+fn make<F: Cost>(
+    alloc: Global,
+    source: &[u8],
+    schedule: Option<&[u8]>,
+    cost: &Weigher<F>,
+    wanted: Wanted,
+    budget: &mut Budget,
+) -> Result<Made, Refusal>
+    ensures ok { IfOk result (FoldsMade (F.answers cost.now.cost) source.now (option_map (λ t. t.now) schedule.entry) budget.new wanted) }
+    ensures err { IfErr result (RefusalSays source.now (option_map (λ t. t.now) schedule.entry)) }
+    ensures later { IsLater budget.old budget.new }
+    ensures stop { IfErr result (λ refusal. refusal ≡ Refusal.Budget → budget.new.limit ≡ Some budget.new.spent) }
+    ensures short { IfErr result (λ refusal. refusal ≡ Refusal.Budget → IsShort source.now (option_map (λ t. t.now) schedule.entry) budget.new.limit) }
+    ensures plenty { IsPlenty source.now (option_map (λ t. t.now) schedule.entry) budget.old.limit → budget.new ≡ budget.old }
+{
+    reads_counted();
+    match parse(alloc, source) {
+        Ok(program) => {
+            if program.prelude {
+                return Err(printed(alloc, source));
+            }
+            compile_with(alloc, &program, schedule, cost, wanted, budget)
+        }
+        Err(fault) => Err(unread(fault)),
+    }
 }
 
 /// The text that does what the source does, in the order of the schedule and on temporaries that are folded at the least cost among the listed
@@ -276,7 +361,7 @@ pub fn fold<F: Cost>(
     budget: &mut Budget,
     cost: &Weigher<F>,
 ) -> Result<Done, Refusal>
-    ensures ok { IfOk result (λ done. FoldsWith (F.answers cost.now.cost) source.now (option_map (λ t. t.now) schedule.entry) budget.new done.text.items done.report.items) }
+    ensures ok { IfOk result (λ done. FoldsAtCost (F.answers cost.now.cost) source.now (option_map (λ t. t.now) schedule.entry) budget.new done.text.items done.report.items done.cost) }
     ensures err { IfErr result (RefusalSays source.now (option_map (λ t. t.now) schedule.entry)) }
     ensures limit { budget.new.limit ≡ budget.old.limit }
     ensures grows { budget.old.spent ≤ budget.new.spent }
@@ -285,14 +370,43 @@ pub fn fold<F: Cost>(
     ensures short { IfErr result (λ refusal. refusal ≡ Refusal.Budget → IsShort source.now (option_map (λ t. t.now) schedule.entry) budget.new.limit) }
     ensures plenty { IsPlenty source.now (option_map (λ t. t.now) schedule.entry) budget.old.limit → budget.new ≡ budget.old }
 {
-    reads_counted();
-    match parse(alloc, source) {
-        Ok(program) => {
-            if program.prelude {
-                return Err(printed(alloc, source));
-            }
-            compile_with(alloc, &program, schedule, cost, budget)
-        }
-        Err(fault) => Err(unread(fault)),
+    let Made {
+        done,
+        certificate: _,
+    } = make(alloc, source, schedule, cost, Wanted::Text, budget)?;
+    Ok(done)
+}
+
+/// The same with a certificate, which `affc_accept` accepts for the source's nest and the schedule's plan. The trees of its loads are
+/// looked for also where there are no temporaries, and all that doesn't rest on the folds is proved before they are looked for: the
+/// budget refuses up to there, and afterwards temporaries are left whole.
+pub fn fold_certified<F: Cost>(
+    alloc: Global,
+    source: &[u8],
+    schedule: Option<&[u8]>,
+    budget: &mut Budget,
+    cost: &Weigher<F>,
+) -> Result<CertifiedDone, Refusal>
+    ensures ok { IfOk result (λ c. FoldsCertified (F.answers cost.now.cost) source.now (option_map (λ t. t.now) schedule.entry) budget.new c.done.text.items c.done.report.items c.certificate.items) }
+    ensures cost { IfOk result (λ c. FoldsAtCost (F.answers cost.now.cost) source.now (option_map (λ t. t.now) schedule.entry) budget.new c.done.text.items c.done.report.items c.done.cost) }
+    ensures err { IfErr result (RefusalSays source.now (option_map (λ t. t.now) schedule.entry)) }
+    ensures limit { budget.new.limit ≡ budget.old.limit }
+    ensures grows { budget.old.spent ≤ budget.new.spent }
+    ensures uncounted { IsNone budget.old.limit → budget.new.spent ≡ budget.old.spent }
+    ensures stop { IfErr result (λ refusal. refusal ≡ Refusal.Budget → budget.new.limit ≡ Some budget.new.spent) }
+    ensures short { IfErr result (λ refusal. refusal ≡ Refusal.Budget → IsShort source.now (option_map (λ t. t.now) schedule.entry) budget.new.limit) }
+    ensures plenty { IsPlenty source.now (option_map (λ t. t.now) schedule.entry) budget.old.limit → budget.new ≡ budget.old }
+{
+    let Made { done, certificate } = make(
+        alloc,
+        source,
+        schedule,
+        cost,
+        Wanted::Certificate,
+        budget,
+    )?;
+    match certificate {
+        Some(certificate) => Ok(CertifiedDone { done, certificate }),
+        None => unreachable!(),
     }
 }

@@ -67,12 +67,12 @@ pub fn foldable_is_folded<C: Costing>()
     folded_program_compiles();
 }
 
-/// Such a text is refused for want of budget or of memory, and for nothing else.
+/// Such a text is refused for want of budget or of memory, and for nothing else, by `fold` and with a certificate by `fold_certified`.
 pub fn foldable_is_not_refused()
     ensures law { FoldableIsNotRefused }
 {}
 
-/// Without a limit on what is spent, or with one of at least the threshold, for want of memory alone.
+/// Without a limit on what is spent, or with one of at least the threshold, each refuses it for want of memory alone.
 pub fn unlimited_is_not_refused()
     ensures law { UnlimitedIsNotRefused }
 {}

@@ -7,7 +7,8 @@ pub mod laws;
 mod meaning;
 pub mod refusal;
 mod temporaries;
+mod wanted;
 
 pub use flowing::flow;
-pub use folding::{Done, fold};
+pub use folding::{CertifiedDone, Done, fold, fold_certified};
 pub use refusal::Refusal;

@@ -1,5 +1,5 @@
 //! The folds of a program's temporaries under the schedule of its plan, once its dataflow and the order are looked at.
-ghost use Rattle.std.specs.Prelude.{◌≡◌, ◌≢◌, IfOk, OnOk, IfErr, IsTrue, Some, []};
+ghost use Rattle.std.specs.Prelude.{◌≡◌, ◌≢◌, IfOk, OnOk, IfErr, IsTrue, Some, [], option_map};
 ghost use Rattle.affc_trace.specs.Target.{IsScheduleOf, within_limits};
 ghost use Rattle.affc_domain.specs.Plain.{IsPlain};
 ghost use Rattle.affc_split.specs.Budgets.{IsLater};
@@ -9,6 +9,7 @@ ghost use Rattle.affc_bounds.specs.Faults.{StaysWithin};
 ghost use Rattle.affc_quast.specs.Limits.{narrow, AreTreesWithin};
 ghost use Rattle.affc_quast.specs.Seen.{trees_of};
 ghost use Rattle.affc_folds.specs.Folding.{AreFoldsUnder};
+ghost use Rattle.affc_driver.specs.Certificates.{HasCertificate};
 ghost use Rattle.affc_driver.specs.Flows.{NameThroughout};
 ghost use Rattle.affc_driver.specs.Made.{AreDecided};
 ghost use Rattle.affc_driver.specs.Plans.{LegalThroughout, WrittenThroughout};
@@ -17,16 +18,25 @@ ghost use Rattle.affc_driver.specs.Refusals.{RefusalSays};
 
 use crate::meaning::trees_within;
 use crate::refusal::Refusal;
+use crate::wanted::Wanted;
 use affc_ast::tree::Program;
+use affc_certify::{Certified, Draft, certify, make_draft};
 use affc_folds::{Folded, fold_all};
 use affc_nest::Nest;
 use affc_quast::Flow;
 use affc_sched::{SchedStop, legal};
 use affc_schedtext::Plan;
-use affc_split::Budget;
+use affc_split::{Budget, Stop};
 use affc_weigh::{Cost, Weigher};
 use sqlite_items::Items;
 use std::alloc::Global;
+
+/// The folds of a program, and a certificate of them where one is wanted.
+#[derive(Drop)]
+pub(crate) struct Decided {
+    pub(crate) folded: Folded,
+    pub(crate) certificate: Option<Vec<u8>>,
+}
 
 // Whether the plan's schedule is legal.
 fn in_order(
@@ -114,9 +124,37 @@ fn folds_of<F: Cost>(
     }
 }
 
-/// The folds of a program that keeps to its arrays: its dataflow is looked at first, and then the order. Where there are no
-/// temporaries no trees are looked for.
-pub(crate) fn folds_under<F: Cost>(
+// The last-write trees, where the plan's schedule is legal too.
+fn trees_in_order(
+    alloc: Global,
+    program: &Program,
+    nest: &Nest,
+    plan: &Plan,
+    budget: &mut Budget,
+) -> Result<Flow, Refusal>
+    requires plain { IsPlain program.now }
+    requires arrays { NamesArrays program.now }
+    requires nest { nest.now ≡ nest_of program.now }
+    requires within { StaysWithin program.now }
+    requires fits { IsScheduleOf program.now plan.now.schedule }
+    requires slight { IsTrue (within_limits plan.now.schedule) }
+    ensures named { IfOk result (λ flow. NameThroughout program.now (trees_of flow)) }
+    ensures limits { IfOk result (λ flow. AreTreesWithin narrow 302 12 nest.now (trees_of flow)) }
+    ensures legal { OnOk result (LegalThroughout program.now plan.now.schedule) }
+    ensures err { IfErr result (λ refusal. OfEachPlan program.now plan.now (λ text schedule. RefusalSays text schedule refusal)) }
+    ensures later { IsLater budget.old budget.new }
+    ensures stop { IfErr result (λ refusal. refusal ≡ Refusal.Budget → budget.new.limit ≡ Some budget.new.spent) }
+{
+    let flow = match trees_within(alloc, program, nest, budget) {
+        Ok(flow) => flow,
+        Err(refusal) => return Err(refusal),
+    };
+    in_order(alloc, program, nest, plan, budget)?;
+    Ok(flow)
+}
+
+// The folds alone. Where there are no temporaries no trees are looked for.
+fn folds_alone<F: Cost>(
     alloc: Global,
     program: &Program,
     nest: &Nest,
@@ -138,11 +176,103 @@ pub(crate) fn folds_under<F: Cost>(
     if program.temps.as_slice().is_empty() {
         return without(alloc, program, nest, plan, cost, budget);
     }
-    let flow = match trees_within(alloc, program, nest, budget) {
-        Ok(flow) => flow,
-        Err(refusal) => return Err(refusal),
-    };
-    in_order(alloc, program, nest, plan, budget)?;
+    let flow = trees_in_order(alloc, program, nest, plan, budget)?;
     let folded = folds_of(alloc, program, nest, &flow, plan, cost, budget)?;
     Ok(folded)
+}
+
+// What is proved for a certificate before the folds are looked for.
+fn drafted(
+    alloc: Global,
+    program: &Program,
+    nest: &Nest,
+    flow: &Flow,
+    plan: &Plan,
+    budget: &mut Budget,
+) -> Result<Draft, Refusal>
+    requires plain { IsPlain program.now }
+    requires arrays { NamesArrays program.now }
+    requires nest { nest.now ≡ nest_of program.now }
+    requires within { StaysWithin program.now }
+    requires fits { IsScheduleOf program.now plan.now.schedule }
+    requires slight { IsTrue (within_limits plan.now.schedule) }
+    requires limits { AreTreesWithin narrow 302 12 nest.now (trees_of flow.now) }
+    ensures err { IfErr result (λ refusal. OfEachPlan program.now plan.now (λ text schedule. RefusalSays text schedule refusal)) }
+    ensures later { IsLater budget.old budget.new }
+    ensures stop { IfErr result (λ refusal. refusal ≡ Refusal.Budget → budget.new.limit ≡ Some budget.new.spent) }
+{
+    match make_draft(alloc, nest, flow, &plan.schedule, budget) {
+        Ok(draft) => Ok(draft),
+        Err(Stop::Budget) => Err(Refusal::Budget),
+        Err(Stop::Memory) => Err(Refusal::Memory),
+    }
+}
+
+// The folds and a certificate of them, without those whose questions aren't proved before the budget ends. What doesn't rest on the
+// folds is proved before they are looked for.
+fn certified_folds<F: Cost>(
+    alloc: Global,
+    program: &Program,
+    nest: &Nest,
+    plan: &Plan,
+    cost: &Weigher<F>,
+    budget: &mut Budget,
+) -> Result<Decided, Refusal>
+    requires plain { IsPlain program.now }
+    requires arrays { NamesArrays program.now }
+    requires nest { nest.now ≡ nest_of program.now }
+    requires within { StaysWithin program.now }
+    requires fits { IsScheduleOf program.now plan.now.schedule }
+    requires slight { IsTrue (within_limits plan.now.schedule) }
+    ensures decided { IfOk result (λ d. AreDecided (F.answers cost.now.cost) program.now plan.now budget.new d.folded.folds d.folded.choices) }
+    ensures certified { IfOk result (λ d. HasCertificate Wanted.Certificate nest.now plan.now (option_map (λ t. t.items) d.certificate) d.folded.folds) }
+    ensures err { IfErr result (λ refusal. OfEachPlan program.now plan.now (λ text schedule. RefusalSays text schedule refusal)) }
+    ensures later { IsLater budget.old budget.new }
+    ensures stop { IfErr result (λ refusal. refusal ≡ Refusal.Budget → budget.new.limit ≡ Some budget.new.spent) }
+{
+    let flow = trees_in_order(alloc, program, nest, plan, budget)?;
+    let draft = drafted(alloc, program, nest, &flow, plan, budget)?;
+    let Folded { folds, choices } = folds_of(alloc, program, nest, &flow, plan, cost, budget)?;
+    match certify(alloc, nest, plan, flow, draft, folds, budget) {
+        Ok(Certified { text, folds }) => Ok(Decided {
+            folded: Folded { folds, choices },
+            certificate: Some(text),
+        }),
+        Err(_) => Err(Refusal::Memory),
+    }
+}
+
+/// The folds of a program that keeps to its arrays, and a certificate of them where one is wanted: its dataflow is looked at first,
+/// and then the order.
+pub(crate) fn folds_under<F: Cost>(
+    alloc: Global,
+    program: &Program,
+    nest: &Nest,
+    plan: &Plan,
+    cost: &Weigher<F>,
+    wanted: Wanted,
+    budget: &mut Budget,
+) -> Result<Decided, Refusal>
+    requires plain { IsPlain program.now }
+    requires arrays { NamesArrays program.now }
+    requires nest { nest.now ≡ nest_of program.now }
+    requires within { StaysWithin program.now }
+    requires fits { IsScheduleOf program.now plan.now.schedule }
+    requires slight { IsTrue (within_limits plan.now.schedule) }
+    ensures decided { IfOk result (λ d. AreDecided (F.answers cost.now.cost) program.now plan.now budget.new d.folded.folds d.folded.choices) }
+    ensures certified { IfOk result (λ d. HasCertificate wanted nest.now plan.now (option_map (λ t. t.items) d.certificate) d.folded.folds) }
+    ensures err { IfErr result (λ refusal. OfEachPlan program.now plan.now (λ text schedule. RefusalSays text schedule refusal)) }
+    ensures later { IsLater budget.old budget.new }
+    ensures stop { IfErr result (λ refusal. refusal ≡ Refusal.Budget → budget.new.limit ≡ Some budget.new.spent) }
+{
+    match wanted {
+        Wanted::Text => {
+            let folded = folds_alone(alloc, program, nest, plan, cost, budget)?;
+            Ok(Decided {
+                folded,
+                certificate: None,
+            })
+        }
+        Wanted::Certificate => certified_folds(alloc, program, nest, plan, cost, budget),
+    }
 }

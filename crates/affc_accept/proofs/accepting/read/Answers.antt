@@ -1,10 +1,16 @@
 use Rattle.std.proofs.Common.{sym, subst}
+use Rattle.affc_cert.specs.Certificates.{seen}
 use Rattle.affc_accept.specs.Refusals.{AcceptRefuses}
-use Rattle.affc_accept.proofs.Refused.{read_within, text_refused}
+use Rattle.affc_accept.proofs.Refused.{is_read, is_cert_within, text_refused}
 use Rattle.affc_accept.proofs.accepting.read.Goals as goal
 
-pub returns-in-Ok-clause-within : goal.returns-in-Ok-clause-within
-returns-in-Ok-clause-within c = read_within c.args.nest.now c.args.layout.now c.in-Ok.cert c.requires.layout c.in-Ok.ensures.ok.1
+pub returns-in-Ok-from_text-clause-read : goal.returns-in-Ok-from_text-clause-read
+returns-in-Ok-from_text-clause-read c =
+    is_read c.args.nest.now c.args.layout.now c.args.text.now (seen c.in-Ok.cert) c.in-Ok-from_text.cert c.requires.layout c.in-Ok-from_text.ensures c.in-Ok.ensures.ok.0 c.in-Ok.ensures.ok.1
+
+pub returns-in-Ok-from_text-clause-within : goal.returns-in-Ok-from_text-clause-within
+returns-in-Ok-from_text-clause-within c =
+    is_cert_within c.args.nest.now c.args.layout.now c.args.text.now (seen c.in-Ok.cert) c.in-Ok-from_text.cert c.requires.layout c.in-Ok-from_text.ensures c.in-Ok.ensures.ok.0 c.in-Ok.ensures.ok.1
 
 pub returns-in-Err-clause-err : goal.returns-in-Err-clause-err
 returns-in-Err-clause-err c plan =

@@ -1,5 +1,5 @@
 use Rattle.std.proofs.Common.{◌∙◌}
-use Rattle.affc_cli.proofs.Meant.{turned}
+use Rattle.affc_lines.proofs.Meant.{turned}
 use Rattle.affc_cli.proofs.fold.illegal.Goals as goal
 
 pub returns-in-Ok-illegal_line : goal.returns-in-Ok-illegal_line

@@ -3,6 +3,6 @@ use Rattle.affc_cli.proofs.serve.run_data.Goals as goal
 
 pub returns : goal.returns
 returns g c =
+    let made = c.ran-made.ensures in
     run_ends c.args.source.now c.args.feed.now c.args.limit c.file_of-name.result.now _ _ c.end.result c.ran-made.result
-    c.ran-made.ensures.ok c.ran-made.ensures.reads c.ran-made.ensures.err c.ran-made.ensures.err_reads c.file_of-name.ensures c.end.ensures.ends
-    (record { folder = c.ran-made.ensures.keeps; out = c.end.ensures.out_counts; err = c.end.ensures.err_counts })
+    made.ok made.reads made.err made.err_reads c.file_of-name.ensures made.keeps c.end.ensures.ends c.end.ensures.out_counts c.end.ensures.err_counts

@@ -3,5 +3,5 @@ use Rattle.affc_cli.proofs.serve.run_flow.Goals as goal
 
 pub returns : goal.returns
 returns g c =
-    flow_ends c.args.source.now _ _ c.end.result c.flowed-made.result c.flowed-made.ensures.ok c.flowed-made.ensures.err c.flowed-made.ensures.reads c.end.ensures.ends
-    (record { folder = c.flowed-made.ensures.keeps; out = c.end.ensures.out_counts; err = c.end.ensures.err_counts })
+    let made = c.flowed-made.ensures in
+    flow_ends c.args.source.now _ _ c.end.result c.flowed-made.result made.ok made.err made.reads made.keeps c.end.ensures.ends c.end.ensures.out_counts c.end.ensures.err_counts

@@ -1,7 +1,7 @@
-use Rattle.std.proofs.Common.{◌∙◌, refl, sym, true, false, true≢false, arith}
+use Rattle.std.proofs.Common.{◌∙◌, refl, sym, true, false, true≢false}
 use Rattle.std.proofs.lemmas.Result.{IfOk-weaker, IfErr-weaker}
 use Rattle.affc_driver.specs.Accounts.{free}
-use Rattle.affc_driver.proofs.Counted.{folds_with, is_short, test_is, free_counted, all_counted}
+use Rattle.affc_driver.proofs.Counted.{folds_made, is_short, test_is, free_counted, all_counted}
 use Rattle.affc_driver.proofs.Refused.{refuses_each}
 use Rattle.affc_driver.proofs.folding.compile.Goals as goal
 
@@ -17,8 +17,8 @@ returns-then-is_plenty-clause-ok g c =
     let limit = c.args.budget.now.limit in
     let plenty = test_is c.args.program.now c.in-Ok.nest c.args.plan.now.schedule limit limit c.is_plenty.result true c.in-Ok.ensures.nest c.is_plenty.ensures c.if-is_plenty.true refl in
     IfOk-weaker c.compile_freely.result _ _
-    (λ done made. folds_with c.folds_well_named.ensures.law c.folded_program_compiles.ensures.law A c.args.program.now c.args.plan.now free c.args.budget.now done.text.items done.report.items
-    (free_counted _ free c.args.budget.now plenty refl) made)
+    (λ made h. folds_made c.folds_well_named.ensures.law c.folded_program_compiles.ensures.law A c.args.program.now c.args.plan.now free c.args.budget.now c.args.wanted made
+    (free_counted _ free c.args.budget.now plenty refl) h)
     c.compile_freely.ensures.ok
 
 pub returns-then-is_plenty-clause-stop : goal.returns-then-is_plenty-clause-stop
@@ -33,7 +33,7 @@ returns-clause-ok g c =
     let left = c.compile_counted.new.budget in
     let few = test_is c.args.program.now c.in-Ok.nest c.args.plan.now.schedule c.args.budget.now.limit left.limit c.is_plenty.result false c.in-Ok.ensures.nest c.is_plenty.ensures c.if-is_plenty.false c.compile_counted.ensures.later.limit in
     IfOk-weaker c.compile_counted.result _ _
-    (λ done made. folds_with c.folds_well_named.ensures.law c.folded_program_compiles.ensures.law A c.args.program.now c.args.plan.now left left done.text.items done.report.items (all_counted _ left few) made)
+    (λ made h. folds_made c.folds_well_named.ensures.law c.folded_program_compiles.ensures.law A c.args.program.now c.args.plan.now left left c.args.wanted made (all_counted _ left few) h)
     c.compile_counted.ensures.ok
 
 pub returns-clause-short : goal.returns-clause-short

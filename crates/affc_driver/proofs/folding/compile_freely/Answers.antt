@@ -10,7 +10,7 @@ pub returns-clause-ok : goal.returns-clause-ok
 returns-clause-ok g c =
     let A = g.F.Cost.answers c.args.cost.now.cost in
     let still = stays_free c.new-budget.result c.compile_counted.new.budget c.new-budget.ensures c.compile_counted.ensures.later in
-    IfOk-weaker c.compile_counted.result _ _ (λ done made. subst (λ b. IsCompiled A c.args.program.now c.args.plan.now b done.text.items done.report.items) still made) c.compile_counted.ensures.ok
+    IfOk-weaker c.compile_counted.result _ _ (λ made h. subst (λ b. IsCompiled A c.args.program.now c.args.plan.now b c.args.wanted made) still h) c.compile_counted.ensures.ok
 
 pub returns-clause-free : goal.returns-clause-free
 returns-clause-free g c =

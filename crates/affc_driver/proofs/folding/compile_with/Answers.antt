@@ -11,7 +11,7 @@ pub compile-requires-clause-slight : goal.compile-requires-clause-slight
 compile-requires-clause-slight g c = plan_limited c.args.program.now (option_map (λ t. t.now) c.args.schedule) c.in_ok-plan.plan c.in_ok-plan.ensures.planned
 
 pub returns-clause-ok : goal.returns-clause-ok
-returns-clause-ok g c = IfOk-weaker c.compile.result _ _ (λ done h. h (option_map (λ t. t.now) c.args.schedule) c.in_ok-plan.ensures.planned) c.compile.ensures.ok
+returns-clause-ok g c = IfOk-weaker c.compile.result _ _ (λ made h. h (option_map (λ t. t.now) c.args.schedule) c.in_ok-plan.ensures.planned) c.compile.ensures.ok
 
 pub returns-clause-err : goal.returns-clause-err
 returns-clause-err g c = IfErr-weaker c.compile.result _ _ (λ refusal h. h (option_map (λ t. t.now) c.args.schedule) c.in_ok-plan.ensures.planned) c.compile.ensures.err

@@ -1,0 +1,3 @@
+pub mod DraftLemmas
+pub mod LeftLemmas
+pub mod ShownLemmas

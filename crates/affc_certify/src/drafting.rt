@@ -1,0 +1,80 @@
+//! What is proved of a program before its folds are looked for.
+ghost use Rattle.std.specs.Prelude.{◌≡◌, IfErr, Some, length};
+ghost use Rattle.affc_split.specs.Budgets.{IsLater};
+ghost use Rattle.affc_sched.specs.Legality.{IsAsked};
+ghost use Rattle.affc_quast.specs.Seen.{trees_of};
+ghost use Rattle.affc_certify.specs.Asked.{AreAsked};
+
+use crate::question::add_proofs;
+use crate::trees::copied_flow;
+use affc_cert::Cert;
+use affc_farkas::Proof;
+use affc_items::{Item, all_items};
+use affc_nest::Nest;
+use affc_prove::decided;
+use affc_quast::Flow;
+use affc_split::{Answer, Budget, Stop};
+use affc_trace::schedule::Schedule;
+use sqlite_items::Items;
+use std::alloc::{AllocError, Global};
+
+/// The certificate's point of the context, and the proofs of its questions on extents, accesses, trees and the schedule.
+#[derive(Drop)]
+pub struct Draft {
+    pub(crate) context: Items<i64>,
+    pub(crate) proofs: Items<Proof>,
+}
+
+/// A point of the context.
+fn context_point(alloc: Global, nest: &Nest, budget: &mut Budget) -> Result<Items<i64>, Stop>
+    ensures later { IsLater budget.old budget.new }
+    ensures stop { IfErr result (λ e. e ≡ Stop.Budget → budget.new.limit ≡ Some budget.new.spent) }
+{
+    match decided(alloc, &nest.context, &nest.params, budget)? {
+        Answer::Point(point) => Ok(Items::from_vec(point)),
+        Answer::Empty(_proof) => Err(Stop::Memory),
+    }
+}
+
+/// The items of a certificate without folds.
+fn items_before(
+    alloc: Global,
+    nest: &Nest,
+    flow: &Flow,
+    schedule: &Schedule,
+) -> Result<Vec<Item>, AllocError>
+    requires asked { IsAsked nest.now schedule.now }
+    requires trees { AreAsked nest.now (trees_of flow.now) }
+{
+    let cert = Cert {
+        context: Items::new(alloc),
+        flow: copied_flow(alloc, flow)?,
+        folds: Items::new(alloc),
+        proofs: Items::new(alloc),
+    };
+    match all_items(alloc, nest, schedule, &cert) {
+        Ok(items) => Ok(items),
+        Err(_) => Err(AllocError),
+    }
+}
+
+/// The certificate's point of the context, and the proofs of its questions on extents, accesses, trees and the schedule. Of a program
+/// that isn't right, or where a proof passes the limits of a certificate, want of memory is answered.
+pub fn make_draft(
+    alloc: Global,
+    nest: &Nest,
+    flow: &Flow,
+    schedule: &Schedule,
+    budget: &mut Budget,
+) -> Result<Draft, Stop>
+    requires asked { IsAsked nest.now schedule.now }
+    requires trees { AreAsked nest.now (trees_of flow.now) }
+    ensures later { IsLater budget.old budget.new }
+    ensures stop { IfErr result (λ e. e ≡ Stop.Budget → budget.new.limit ≡ Some budget.new.spent) }
+{
+    let context = context_point(alloc, nest, budget)?;
+    let items = items_before(alloc, nest, flow, schedule)?;
+    let mut proofs = Items::new(alloc);
+    add_proofs(alloc, items.as_slice(), budget, &mut proofs)?;
+    Ok(Draft { context, proofs })
+}

@@ -1,5 +1,0 @@
-use Rattle.affc_cli.proofs.Touched.{array_touched}
-use Rattle.affc_cli.proofs.stuck.arrays_are_touched.Goals as goal
-
-pub returns : goal.returns
-returns c = array_touched

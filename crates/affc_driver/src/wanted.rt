@@ -1,0 +1,8 @@
+//! What is made of a source.
+
+/// Whether a certificate is made beside the text.
+#[derive(Clone, Copy, Debug)]
+pub(crate) enum Wanted {
+    Text,
+    Certificate,
+}

@@ -1,0 +1,7 @@
+pub mod Named
+pub mod Layers
+pub mod Accesses
+pub mod Touched
+pub mod Iterators
+pub mod Meant
+pub mod Telling

@@ -1,0 +1,4 @@
+pub mod Clap
+pub mod Commands
+pub mod Forms
+pub mod Numbers
