@@ -19,5 +19,7 @@ pub mod TimeRanges
 pub mod Sizes
 pub mod SameLoops
 pub mod PlainAlong
+pub mod NumberEnds
+pub mod BetweenLaws
 pub mod LoopLaws
 pub mod ExampleProofs

@@ -1,6 +1,7 @@
 pub mod Trees
 pub mod Spans
 pub mod Loops
+pub mod Between
 pub mod Limits
 pub mod Laws
 pub mod Examples
