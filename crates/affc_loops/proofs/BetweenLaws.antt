@@ -40,7 +40,7 @@ use Rattle.affc_safe.proofs.PlainNear.{plain_has_no_locals, plain_never_overflow
 use Rattle.affc_safe.proofs.SafeLaws.{all_read, wants_unwritten}
 use Rattle.affc_safe.proofs.Walk.{params_sit}
 use Rattle.affc_safe.proofs.Wants.{Wants, wants_ended, wants_reading}
-use Rattle.affc_loops.specs.Between.{body_between, program_between, number_ends, HoldTimes}
+use Rattle.affc_loops.specs.Between.{body_between, program_between, number_ends, RunWithin, HoldTimes}
 use Rattle.affc_loops.specs.Laws.{HasLoops, HaveSameLoops, BetweenDoTarget, BetweenRunTarget, BetweenCompile}
 use Rattle.affc_loops.specs.Limits.{IsSmall}
 use Rattle.affc_loops.specs.Loops.{Piece, boxes, pieces, time_ranges}
@@ -217,6 +217,28 @@ module _ (source other : Program) (n : ℕ) (maps : List TimeMap) (h : HasLoops 
           does = does_at;
           only_unwritten = λ cause steps e. wants_unwritten _ cause steps (wants store) e;
         }
+
+-- ---- ends that hold the times of a source hold those of a program with its loops
+
+pub hold_same : (source other : Program) → HaveSameLoops source other → (maps : List TimeMap) (ends : List (Ix × Ix)) (p : List ℤ) → HoldTimes source maps ends p → HoldTimes other maps ends p
+hold_same source other same maps ends p times = record {
+  one_each = times.one_each ∙ ap length (sym (times_same source other same maps));
+  run = subst (λ ranges. RunWithin ranges ends p) (sym (times_same source other same maps)) times.run;
+  hold = λ a i.
+      let t = (instances_turn other p a).0 i in
+      times.hold a ((instances_turn source p a).1 (t.0, ap (λ rss. slice_get rss a.statement) (sym same.same_rounds) ∙ t.1, t.2));
+}
+
+pub between_do_other : (source other : Program) (n : ℕ) (maps : List TimeMap) (ends : List (Ix × Ix)) (p : List ℤ) → HasLoops source (Time n maps) → HaveSameLoops source other
+    → IsTrue (within_ranges source.params p) → HoldTimes source maps ends p
+    → effects (program_between other maps ends) p ≡ map (placed (λ x. x) (effect other p)) (target other (Time n maps) p)
+between_do_other source other n maps ends p h same within times = does_at source other n maps h same p within ends (hold_same source other same maps ends p times)
+
+pub between_run_other : (source other : Program) (n : ℕ) (maps : List TimeMap) (ends : List (Ix × Ix)) (p : List ℤ) (store : Store) → HasLoops source (Time n maps) → HaveSameLoops source other
+    → IsTrue (within_ranges source.params p) → HoldTimes source maps ends p → NeverOverflows other p → HasExtents other p → KeepsWithin other p
+    → RunsTarget (program_between other maps ends) other (Time n maps) (λ x. x) p store
+between_run_other source other n maps ends p store h same within times safe extents keeps =
+    runs_at source other n maps h same p within ends (hold_same source other same maps ends p times) safe extents keeps store
 
 -- ---- the source's own loops
 
