@@ -19,6 +19,9 @@ pub mod TimeRanges
 pub mod Sizes
 pub mod SameLoops
 pub mod PlainAlong
+pub mod EndTrees
+pub mod Joined
+pub mod RowEnds
 pub mod NumberEnds
 pub mod BetweenLaws
 pub mod LoopLaws

@@ -72,16 +72,16 @@ span_ends box (f ∷ fs) h b (suc k) r e =
 
 -- ---- Hulls
 
-min_below : (a b x : ℤ) → a ≤ℤ x → int_min a b ≤ℤ x
+pub min_below : (a b x : ℤ) → a ≤ℤ x → int_min a b ≤ℤ x
 min_below a b x h = first_of (omega (arith, ints), grind (arith, ints, h))
 
-min_below_too : (a b x : ℤ) → b ≤ℤ x → int_min a b ≤ℤ x
+pub min_below_too : (a b x : ℤ) → b ≤ℤ x → int_min a b ≤ℤ x
 min_below_too a b x h = first_of (omega (arith, ints), grind (arith, ints, h))
 
-max_above : (a b x : ℤ) → x ≤ℤ a → x ≤ℤ int_max a b
+pub max_above : (a b x : ℤ) → x ≤ℤ a → x ≤ℤ int_max a b
 max_above a b x h = first_of (omega (arith, ints), grind (arith, ints, h))
 
-max_above_too : (a b x : ℤ) → x ≤ℤ b → x ≤ℤ int_max a b
+pub max_above_too : (a b x : ℤ) → x ≤ℤ b → x ≤ℤ int_max a b
 max_above_too a b x h = first_of (omega (arith, ints), grind (arith, ints, h))
 
 min_either : (a b : ℤ) → (int_min a b ≡ a) ⊎ (int_min a b ≡ b)
