@@ -22,6 +22,7 @@ pub mod PlainAlong
 pub mod EndTrees
 pub mod Joined
 pub mod RowEnds
+pub mod EndLists
 pub mod NumberEnds
 pub mod BetweenLaws
 pub mod LoopLaws
