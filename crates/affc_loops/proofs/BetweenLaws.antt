@@ -97,13 +97,13 @@ module _ (source other : Program) (n : ℕ) (maps : List TimeMap) (h : HasLoops 
   none_or_long = elim (some_or_none source n maps h) [ inl e ↦ inl (pieces_none source other same maps e) | inr l ↦ inr (ap length ranges_are ∙ l) ]
 
   module _ (p : List ℤ) (within : IsTrue (within_ranges source.params p)) where
-    box : InBox params p
+    pub box : InBox params p
     box = in_ranges source.params p within
 
     same_length : length params ≡ length p
     same_length = sym (box_length params p box)
 
-    numbers : length p ≡ numbers_in other.params
+    pub numbers : length p ≡ numbers_in other.params
     numbers = box_length params p box ∙ sym (numbers_are source.params) ∙ sym (numbers_same source other same)
 
     its_rounds : (k : ℕ) (rs : List Round) → slice_get (rounds other) k ≡ Some rs → slice_get (rounds source) k ≡ Some rs
@@ -115,10 +115,10 @@ module _ (source other : Program) (n : ℕ) (maps : List TimeMap) (h : HasLoops 
         let z : length params + 0 ≡ length p = omega arith in
         ap (λ m. see_outwards m rs) (sym z) ∙ plain_outwards (length params) 0 0 rs (rounds_are_plain source h.plain k rs (its_rounds k rs e))
 
-    scheduled : IsScheduleOf other (Time n maps)
+    pub scheduled : IsScheduleOf other (Time n maps)
     scheduled = schedule_same source other same n maps h.scheduled
 
-    enclosed : Encloses other (boxes other) p
+    pub enclosed : Encloses other (boxes other) p
     enclosed = encloses_same source other same p (encloses source p h.plain h.near within)
 
     covered : Covers maps (boxes other) ranges p
@@ -147,7 +147,7 @@ module _ (source other : Program) (n : ℕ) (maps : List TimeMap) (h : HasLoops 
     no_ranges : all ≡ [] → ranges ≡ []
     no_ranges e = ap (time_ranges (number_ranges other.params)) e
 
-    ranges_small : All IsSmall ranges
+    pub ranges_small : All IsSmall ranges
     ranges_small = elim none_or_long [
       | inl e ↦ subst (All IsSmall) (sym (no_ranges e)) (All-nil IsSmall)
       | inr l ↦ (sizes l).ranges_small

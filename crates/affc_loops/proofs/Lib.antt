@@ -25,5 +25,6 @@ pub mod RowEnds
 pub mod EndLists
 pub mod NumberEnds
 pub mod BetweenLaws
+pub mod RowLaws
 pub mod LoopLaws
 pub mod ExampleProofs

@@ -21,6 +21,7 @@ use Rattle.affc_domain.specs.Ranges.{first_wide, number_ranges}
 use Rattle.affc_domain.specs.Rounds.{rounds}
 use Rattle.affc_safe.specs.Safe.{HasExtents, KeepsWithin}
 use Rattle.affc_loops.specs.Between.{program_between, number_ends, HoldTimes}
+use Rattle.affc_loops.specs.Ends.{Sides, ends_of, AreRowsOfEach}
 use Rattle.affc_loops.specs.Loops.{Piece, pieces, time_ranges, target_program}
 
 -- A plain program no loop of which passes 2^31, and a schedule of it within its limits.
@@ -83,6 +84,13 @@ RangesAreEnds = (source : Program) (length_of_time : ℕ) (maps : List TimeMap)
     → let ends = number_ends (time_ranges (number_ranges source.params) (pieces source maps)) in
     (target_program source (Time length_of_time maps) ≡ program_between source maps ends)
     × ((p : List ℤ) → IsTrue (within_ranges source.params p) → HoldTimes source maps ends p)
+
+-- So are ends by rows that hold at the times of all instances.
+abbrev pub RowsHoldTimes : Type 0
+RowsHoldTimes = (source : Program) (length_of_time : ℕ) (maps : List TimeMap) (rows : List (List Sides)) (p : List ℤ)
+    → HasLoops source (Time length_of_time maps) → IsTrue (within_ranges source.params p)
+    → AreRowsOfEach source maps (time_ranges (number_ranges source.params) (pieces source maps)) p (pieces source maps) rows
+    → HoldTimes source maps (ends_of source maps rows) p
 
 -- x is this component of the time of some statement at a point of its box
 abbrev pub IsTime : (params : List (ℤ × ℤ)) → List Piece → (component : ℕ) → (x : ℤ) → Type 0
