@@ -6,3 +6,4 @@ pub mod Ends
 pub mod Limits
 pub mod Laws
 pub mod Examples
+pub mod EndExamples

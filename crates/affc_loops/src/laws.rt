@@ -1,5 +1,5 @@
 //! What the loops of a schedule do. Each law is the contract of a function that does nothing.
-ghost use Rattle.affc_loops.specs.Laws.{LoopsDoTarget, LoopsRunTarget, LoopsCompile, BetweenDoTarget, BetweenRunTarget, BetweenCompile, RangesAreEnds, RangesOfTimes};
+ghost use Rattle.affc_loops.specs.Laws.{LoopsDoTarget, LoopsRunTarget, LoopsCompile, BetweenDoTarget, BetweenRunTarget, BetweenCompile, RangesAreEnds, RowsHoldTimes, RangesOfTimes};
 
 /// The loops and conditions run the target's instances, each once and in order.
 pub fn loops_do_target()
@@ -34,6 +34,11 @@ pub fn between_compile()
 /// The ranges of all times are such ends.
 pub fn ranges_are_ends()
     ensures law { RangesAreEnds }
+{}
+
+/// So are ends by rows that hold at the times of all instances.
+pub fn rows_hold_times()
+    ensures law { RowsHoldTimes }
 {}
 
 /// The ranges of the loops hold all times, and both ends of each are times.
