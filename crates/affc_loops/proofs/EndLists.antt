@@ -15,15 +15,15 @@ use Rattle.affc_trace.proofs.LastStores.{push_append}
 use Rattle.affc_trace.proofs.Runs.{length_append}
 use Rattle.affc_domain.proofs.RangeLemmas.{box_push}
 use Rattle.affc_safe.specs.Overflow.{IsReadable}
-use Rattle.affc_loops.specs.Between.{LiesBetween, RunWithin}
-use Rattle.affc_loops.specs.Ends.{least_by, greatest_by, lower_end, upper_end, Sides, ends_from, both_ends, IsRow, BoundsBelow, BoundsAbove, AreSidesFrom, HoldFrom}
+use Rattle.affc_loops.specs.Between.{LiesBetween, IsTurn, RunWithin}
+use Rattle.affc_loops.specs.Ends.{least_by, greatest_by, lower_end, upper_end, Sides, ends_from, both_ends, IsRow, BoundsBelow, BoundsAbove, AreSidesFrom, HoldFrom, MeetAlong}
 use Rattle.affc_loops.specs.Limits.{IsSmall}
 use Rattle.affc_loops.specs.Trees.{number}
 use Rattle.affc_loops.proofs.EndTrees.{whole_min, whole_max, reads_min, reads_max}
 use Rattle.affc_loops.proofs.FormReads.{reads_number}
 use Rattle.affc_loops.proofs.FormTrees.{number_is}
-use Rattle.affc_loops.proofs.Joined.{joined_with_all, joined_with_last}
-use Rattle.affc_loops.proofs.RowEnds.{least_holds, greatest_holds, least_reads, greatest_reads}
+use Rattle.affc_loops.proofs.Joined.{joined_with_all, joined_with_last, joined_with_parts}
+use Rattle.affc_loops.proofs.RowEnds.{least_holds, greatest_holds, least_met, greatest_met, least_reads, greatest_reads}
 use Rattle.affc_loops.proofs.TimeRanges.{min_below, min_below_too, max_above, max_above_too}
 
 -- ---- numbers
@@ -33,6 +33,12 @@ min_within a b x h k = first_of (omega (arith, ints), grind (arith, ints, h, k))
 
 max_within : (a b x : ℤ) → a ≤ℤ x → b ≤ℤ x → int_max a b ≤ℤ x
 max_within a b x h k = first_of (omega (arith, ints), grind (arith, ints, h, k))
+
+min_parts : (a b x : ℤ) → x ≤ℤ int_min a b → (x ≤ℤ a) × (x ≤ℤ b)
+min_parts a b x h = (first_of (omega (arith, ints), grind (arith, ints, h)), first_of (omega (arith, ints), grind (arith, ints, h)))
+
+max_parts : (a b x : ℤ) → int_max a b ≤ℤ x → (a ≤ℤ x) × (b ≤ℤ x)
+max_parts a b x h = (first_of (omega (arith, ints), grind (arith, ints, h)), first_of (omega (arith, ints), grind (arith, ints, h)))
 
 -- ---- ranges within ranges
 
@@ -146,6 +152,33 @@ module _ (first column : ℕ) (names : List ℤ) (at : column ≡ length names) 
         joined_with_all Min (λ e. x ≤ℤ whole e names) (λ a b h k. subst (λ z. x ≤ℤ z) (sym (whole_min a b names)) (min_within _ _ x h k)) (map (greatest_by first column) rows) (number high) (uppers_hold rows w b m)
         (subst (λ z. x ≤ℤ z) (sym (number_is high names)) l)
 
+    -- and back
+    lowers_met : (rows : List Affine) → All (IsRow column ranges) rows → All (BoundsBelow column) rows → All (λ e. whole e names ≤ℤ x) (map (least_by first column) rows) → All (Meets (names ++ x ∷ [])) rows
+    lowers_met [] w b h = All-nil (Meets (names ++ x ∷ []))
+    lowers_met (row ∷ rows) w b h =
+        All-cons (Meets (names ++ x ∷ [])) row rows
+        (least_met first row names few_here (row_here row (All-head (IsRow column ranges) row rows w)).width x (below_here row (All-head (BoundsBelow column) row rows b))
+        (subst (λ k. whole (least_by first k row) names ≤ℤ x) at (All-head (λ e. whole e names ≤ℤ x) (least_by first column row) (map (least_by first column) rows) h)))
+        (lowers_met rows (All-tail (IsRow column ranges) row rows w) (All-tail (BoundsBelow column) row rows b) (All-tail (λ e. whole e names ≤ℤ x) (least_by first column row) (map (least_by first column) rows) h))
+
+    uppers_met : (rows : List Affine) → All (IsRow column ranges) rows → All (BoundsAbove column) rows → All (λ e. x ≤ℤ whole e names) (map (greatest_by first column) rows) → All (Meets (names ++ x ∷ [])) rows
+    uppers_met [] w b h = All-nil (Meets (names ++ x ∷ []))
+    uppers_met (row ∷ rows) w b h =
+        All-cons (Meets (names ++ x ∷ [])) row rows
+        (greatest_met first row names few_here (row_here row (All-head (IsRow column ranges) row rows w)).width x (above_here row (All-head (BoundsAbove column) row rows b))
+        (subst (λ k. x ≤ℤ whole (greatest_by first k row) names) at (All-head (λ e. x ≤ℤ whole e names) (greatest_by first column row) (map (greatest_by first column) rows) h)))
+        (uppers_met rows (All-tail (IsRow column ranges) row rows w) (All-tail (BoundsAbove column) row rows b) (All-tail (λ e. x ≤ℤ whole e names) (greatest_by first column row) (map (greatest_by first column) rows) h))
+
+    pub lower_met : (rows : List Affine) (low : ℤ) → All (IsRow column ranges) rows → All (BoundsBelow column) rows → whole (lower_end first column rows low) names ≤ℤ x → All (Meets (names ++ x ∷ [])) rows
+    lower_met rows low w b h =
+        lowers_met rows w b
+        (joined_with_parts Max (λ e. whole e names ≤ℤ x) (λ a b k. max_parts _ _ x (subst (λ z. z ≤ℤ x) (whole_max a b names) k)) (map (least_by first column) rows) (number low) h)
+
+    pub upper_met : (rows : List Affine) (high : ℤ) → All (IsRow column ranges) rows → All (BoundsAbove column) rows → x ≤ℤ whole (upper_end first column rows high) names → All (Meets (names ++ x ∷ [])) rows
+    upper_met rows high w b h =
+        uppers_met rows w b
+        (joined_with_parts Min (λ e. x ≤ℤ whole e names) (λ a b k. min_parts _ _ x (subst (λ z. x ≤ℤ z) (whole_min a b names) k)) (map (greatest_by first column) rows) (number high) h)
+
   -- the range's own number stands last, so that no end passes it
   pub lower_kept : (rows : List Affine) (low : ℤ) → low ≤ℤ whole (lower_end first column rows low) names
   lower_kept rows low =
@@ -235,6 +268,18 @@ lies_from first column (s ∷ ss) (r ∷ box) names (x ∷ t) ranges at few q l 
       lies_from first (suc column) ss box (names ++ x ∷ []) t ranges (next_column column names x at) (omega arith) q.1 (omega arith)
           (subst (HoldFrom (suc column) ss) (sym (push_append names x t)) h.2) b.2,
     )
+
+-- each turn meets the rows
+pub turns_from : (first column : ℕ) (sides : List Sides) (box : List (ℤ × ℤ)) (names ts : List ℤ) (ranges : List (ℤ × ℤ)) → column ≡ length names → first ≤ column
+    → AreSidesFrom column ranges sides → IsTurn (ends_from first column sides box) names ts → MeetAlong sides names ts
+turns_from first column sides box names [] ranges at few s h = tt
+turns_from first column [] box names (x ∷ ts) ranges at few s h = absurd h
+turns_from first column (s ∷ ss) [] names (x ∷ ts) ranges at few q h = absurd h
+turns_from first column (s ∷ ss) (r ∷ box) names (x ∷ ts) ranges at few q h = (
+  lower_met first column names at few ranges x s.0 r.0 (q.0).lower (q.0).below h.0,
+  upper_met first column names at few ranges x s.1 r.1 (q.0).upper (q.0).above h.1,
+  turns_from first (suc column) ss box (names ++ x ∷ []) ts ranges (next_column column names x at) (omega arith) q.1 h.2,
+)
 
 -- ---- the ends of two
 

@@ -67,6 +67,12 @@ mul-neg k (negsuc n) = omega (arith, ints)
 pub to_ceiling : (k : ℕ) (z y : ℤ) → z ≤ℤ (pos (suc k) *ℤ y) → ceiling_of z (pos (suc k)) ≤ℤ y
 to_ceiling k z y h = turned_back y _ (to_floor k (neg_ℤ z) (neg_ℤ y) (subst (λ w. w ≤ℤ neg_ℤ z) (sym (mul-neg k y)) (turned z _ h)))
 
+pub from_ceiling : (k : ℕ) (z y : ℤ) → ceiling_of z (pos (suc k)) ≤ℤ y → z ≤ℤ (pos (suc k) *ℤ y)
+from_ceiling k z y h = turned_over z _ (subst (λ w. w ≤ℤ neg_ℤ z) (mul-neg k y) (from_floor k (neg_ℤ z) (neg_ℤ y) (turned_back _ y h)))
+  where
+    turned_over : (a b : ℤ) → neg_ℤ b ≤ℤ neg_ℤ a → a ≤ℤ b
+    turned_over a b h = omega (arith, ints)
+
 -- ---- one node
 
 pub whole_min : (a b : Ix) (names : List ℤ) → whole (Min a b) names ≡ int_min (whole a names) (whole b names)
@@ -143,3 +149,22 @@ down_is a (pos zero) names y h l = absurd (omega (arith, ints))
 down_is a (pos (suc zero)) names y h l = once_back _ y l
 down_is a (pos (suc (suc k))) names y h l = subst (λ z. y ≤ℤ z) (sym (whole_floord a (pos (suc (suc k))) names)) (to_floor (suc k) (whole a names) y l)
 down_is a (negsuc k) names y h l = absurd (omega (arith, ints))
+
+-- and back
+once_more : (z y : ℤ) → z ≤ℤ y → z ≤ℤ (pos 1 *ℤ y)
+once_more z y h = omega (arith, ints)
+
+once_less : (z y : ℤ) → y ≤ℤ z → (pos 1 *ℤ y) ≤ℤ z
+once_less z y h = omega (arith, ints)
+
+pub up_back : (a : Ix) (c : ℤ) (names : List ℤ) (y : ℤ) → pos 0 <ℤ c → whole (rounded_up a c) names ≤ℤ y → whole a names ≤ℤ (c *ℤ y)
+up_back a (pos zero) names y h l = absurd (omega (arith, ints))
+up_back a (pos (suc zero)) names y h l = once_more _ y l
+up_back a (pos (suc (suc k))) names y h l = from_ceiling (suc k) (whole a names) y (subst (λ z. z ≤ℤ y) (whole_ceild a (pos (suc (suc k))) names) l)
+up_back a (negsuc k) names y h l = absurd (omega (arith, ints))
+
+pub down_back : (a : Ix) (c : ℤ) (names : List ℤ) (y : ℤ) → pos 0 <ℤ c → y ≤ℤ whole (rounded_down a c) names → (c *ℤ y) ≤ℤ whole a names
+down_back a (pos zero) names y h l = absurd (omega (arith, ints))
+down_back a (pos (suc zero)) names y h l = once_less _ y l
+down_back a (pos (suc (suc k))) names y h l = from_floor (suc k) (whole a names) y (subst (λ z. y ≤ℤ z) (whole_floord a (pos (suc (suc k))) names) l)
+down_back a (negsuc k) names y h l = absurd (omega (arith, ints))

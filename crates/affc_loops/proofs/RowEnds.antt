@@ -13,7 +13,7 @@ use Rattle.affc_trace.proofs.LastStores.{append_nil}
 use Rattle.affc_safe.specs.Overflow.{IsReadable}
 use Rattle.affc_loops.specs.Ends.{rest_of, opposite, last_of, rounded_up, rounded_down, least_by, greatest_by, IsRow, BoundsBelow, BoundsAbove}
 use Rattle.affc_loops.specs.Trees.{form_tree}
-use Rattle.affc_loops.proofs.EndTrees.{reads_up, reads_down, up_is, down_is}
+use Rattle.affc_loops.proofs.EndTrees.{reads_up, reads_down, up_is, down_is, up_back, down_back}
 use Rattle.affc_loops.proofs.FormReads.{neg_size, form_reads}
 use Rattle.affc_loops.proofs.FormTrees.{form_is}
 
@@ -174,6 +174,25 @@ module _ (first : ℕ) (row : Affine) (names : List ℤ) (few : first ≤ length
         down_is (form_tree first first rest) (neg_ℤ (last_of (length names) row)) names x (risen _ above)
         (under (value rest names) _ (last_of (length names) row *ℤ x) _ (tree_is rest names first few rest_width) (neg-mul (last_of (length names) row) x)
         (subst (λ z. pos 0 ≤ℤ z) (row_value row names x width) meets))
+
+    -- and back
+    over_back : (v t c : ℤ) → t ≡ neg_ℤ v → t ≤ℤ c → pos 0 ≤ℤ (v +ℤ c)
+    over_back v t c e h = omega (arith, ints)
+
+    under_back : (v t c d : ℤ) → t ≡ v → d ≡ neg_ℤ c → d ≤ℤ t → pos 0 ≤ℤ (v +ℤ c)
+    under_back v t c d e f h = omega (arith, ints)
+
+    pub least_met : (x : ℤ) → BoundsBelow (length names) row → whole (least_by first (length names) row) names ≤ℤ x → Meets (names ++ x ∷ []) row
+    least_met x below h =
+        subst (λ z. pos 0 ≤ℤ z) (sym (row_value row names x width))
+        (over_back (value rest names) _ (last_of (length names) row *ℤ x) (tree_is (opposite rest) names first few opposite_width ∙ opposite_value rest names)
+        (up_back (form_tree first first (opposite rest)) (last_of (length names) row) names x below h))
+
+    pub greatest_met : (x : ℤ) → BoundsAbove (length names) row → x ≤ℤ whole (greatest_by first (length names) row) names → Meets (names ++ x ∷ []) row
+    greatest_met x above h =
+        subst (λ z. pos 0 ≤ℤ z) (sym (row_value row names x width))
+        (under_back (value rest names) _ (last_of (length names) row *ℤ x) _ (tree_is rest names first few rest_width) (neg-mul (last_of (length names) row) x)
+        (down_back (form_tree first first rest) (neg_ℤ (last_of (length names) row)) names x (risen _ above) h))
 
   module _ (before after : List (ℤ × ℤ)) (inside : InBox before names) (is_row : IsRow (length names) (before ++ after) row) where
     size : magnitude (rest is_row.width) names < 2 ^ 63

@@ -21,14 +21,14 @@ use Rattle.affc_domain.specs.Ranges.{number_ranges}
 use Rattle.affc_domain.specs.Rounds.{rounds}
 use Rattle.affc_domain.proofs.PlainLemmas.{has_assignment}
 use Rattle.affc_domain.proofs.TurnLemmas.{instances_turn}
-use Rattle.affc_loops.specs.Between.{LiesBetween, HoldTimes}
+use Rattle.affc_loops.specs.Between.{LiesBetween, IsTurn, HoldTimes}
 use Rattle.affc_loops.specs.Ends.{Sides, joined, ends_from, both_ends, each_ends, all_ends, ends_of, AreRowsOf, AreRowsOfEach}
-use Rattle.affc_loops.specs.Laws.{HasLoops, RowsHoldTimes}
+use Rattle.affc_loops.specs.Laws.{HasLoops, RowsHoldTimes, TurnsMeetRows}
 use Rattle.affc_loops.specs.Loops.{Piece, boxes, pieces, times_of, time_ranges}
 use Rattle.affc_loops.specs.Spans.{span, hulls}
 use Rattle.affc_loops.proofs.BetweenLaws.{few, slight, its_own, box, numbers, scheduled, enclosed, ranges_small}
 use Rattle.affc_loops.proofs.Boxes.{params_ordered}
-use Rattle.affc_loops.proofs.EndLists.{Nested, Keeps, keeps_run, keeps_both, keeps_from, lies_from, both_long, lies_first, lies_second, from_long}
+use Rattle.affc_loops.proofs.EndLists.{Nested, Keeps, keeps_run, keeps_both, keeps_from, lies_from, both_long, lies_first, lies_second, from_long, turns_from}
 use Rattle.affc_loops.proofs.Joined.{joined_all, joined_any}
 use Rattle.affc_loops.proofs.Pieces.{has_piece}
 use Rattle.affc_loops.proofs.Sizes.{spans}
@@ -213,3 +213,10 @@ pub rows_hold_times : RowsHoldTimes
 rows_hold_times source n maps rows p h within r =
     subst (λ first. HoldTimes source maps (all_ends (each_ends first (number_ranges source.params) (pieces source maps) rows)) p) (numbers source source n maps h (its_own source) p within)
     (times_held source n maps h p within (pieces source maps) rows refl r)
+
+-- the rows of one statement alone
+pub turns_meet_rows : TurnsMeetRows
+turns_meet_rows source maps e sides ranges p components q long s turn =
+    turns_from (length p) (length p) sides (times_of (number_ranges source.params) e) p components ranges refl (let z : length p ≤ length p = omega arith in z) s
+    (subst (λ first. IsTurn (all_ends (each_ends first (number_ranges source.params) (e ∷ []) (sides ∷ []))) p components) (sym long)
+    (subst (λ es. IsTurn (all_ends (each_ends (numbers_in source.params) (number_ranges source.params) es (sides ∷ []))) p components) q turn))

@@ -52,6 +52,12 @@ LiesBetween [] names (x ∷ xs) = ⊥
 LiesBetween (e ∷ es) names [] = ⊥
 LiesBetween (e ∷ es) names (x ∷ xs) = (whole e.0 names ≤ℤ x) × (x ≤ℤ whole e.1 names) × LiesBetween es (names ++ x ∷ []) xs
 
+-- a turn of the loops: values of the first components, each between its ends
+abbrev pub IsTurn : (ends : List (Ix × Ix)) → (names : List ℤ) → (components : List ℤ) → Type 0
+IsTurn es names [] = Unit {0}
+IsTurn [] names (x ∷ xs) = ⊥
+IsTurn (e ∷ es) names (x ∷ xs) = (whole e.0 names ≤ℤ x) × (x ≤ℤ whole e.1 names) × IsTurn es (names ++ x ∷ []) xs
+
 -- Wherever the loops come, both ends are read within `int64_t`, and each turn lies in the component's range.
 abbrev pub RunWithin : (ranges : List (ℤ × ℤ)) → (ends : List (Ix × Ix)) → (names : List ℤ) → Type 0
 RunWithin [] [] names = Unit {0}

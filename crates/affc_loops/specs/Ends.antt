@@ -120,6 +120,12 @@ abbrev pub HoldFrom : (column : ℕ) → List Sides → (point : List ℤ) → T
 HoldFrom column [] point = Unit {0}
 HoldFrom column (s ∷ ss) point = All (Meets (take (suc column) point)) s.0 × All (Meets (take (suc column) point)) s.1 × HoldFrom (suc column) ss point
 
+-- after these numbers each of the next ones meets the rows of its column
+abbrev pub MeetAlong : List Sides → (before components : List ℤ) → Type 0
+MeetAlong ss before [] = Unit {0}
+MeetAlong [] before (x ∷ xs) = ⊥
+MeetAlong (s ∷ ss) before (x ∷ xs) = All (Meets (before ++ x ∷ [])) s.0 × All (Meets (before ++ x ∷ [])) s.1 × MeetAlong ss (before ++ x ∷ []) xs
+
 -- rows of a statement for each component, where these are the ranges of all times, which hold at the times of its instances at p
 pub record AreRowsOf (program : Program) (maps : List TimeMap) (ranges : List (ℤ × ℤ)) (p : List ℤ) (e : Piece) (rows : List Sides) : Type 0 where
   pub one_each : length rows ≡ length ranges

@@ -1,5 +1,5 @@
 -- What the loops of a schedule do.
-use Rattle.std.specs.Prelude.{◌≡◌, ℕ, ℤ, IsTrue, List, ◌++◌, Some, None, map, slice_get}
+use Rattle.std.specs.Prelude.{◌≡◌, ℕ, ℤ, IsTrue, List, [], ◌∷◌, ◌++◌, length, Some, None, map, slice_get}
 use Rattle.affc_rows.specs.Forms.{values_of}
 use Rattle.affc_system.specs.Boxes.{InBox}
 use Rattle.affc_ast.specs.declared.tree.Ix.{Ix}
@@ -15,13 +15,13 @@ use Rattle.affc_trace.specs.Dataflow.{Legal}
 use Rattle.affc_trace.specs.Effects.{effect, effects}
 use Rattle.affc_trace.specs.Law.{IsIn, placed}
 use Rattle.affc_trace.specs.Laws.{IsInContext, RunsTarget, in_target_order}
-use Rattle.affc_trace.specs.Target.{target, IsScheduleOf, within_limits}
+use Rattle.affc_trace.specs.Target.{target, numbers_in, IsScheduleOf, within_limits}
 use Rattle.affc_domain.specs.Plain.{IsPlain}
 use Rattle.affc_domain.specs.Ranges.{first_wide, number_ranges}
 use Rattle.affc_domain.specs.Rounds.{rounds}
 use Rattle.affc_safe.specs.Safe.{HasExtents, KeepsWithin}
-use Rattle.affc_loops.specs.Between.{program_between, number_ends, HoldTimes}
-use Rattle.affc_loops.specs.Ends.{Sides, ends_of, AreRowsOfEach}
+use Rattle.affc_loops.specs.Between.{program_between, number_ends, IsTurn, HoldTimes}
+use Rattle.affc_loops.specs.Ends.{Sides, ends_of, AreSidesFrom, MeetAlong, AreRowsOfEach}
 use Rattle.affc_loops.specs.Loops.{Piece, pieces, time_ranges, target_program}
 
 -- A plain program no loop of which passes 2^31, and a schedule of it within its limits.
@@ -91,6 +91,12 @@ RowsHoldTimes = (source : Program) (length_of_time : ℕ) (maps : List TimeMap) 
     → HasLoops source (Time length_of_time maps) → IsTrue (within_ranges source.params p)
     → AreRowsOfEach source maps (time_ranges (number_ranges source.params) (pieces source maps)) p (pieces source maps) rows
     → HoldTimes source maps (ends_of source maps rows) p
+
+-- Where one statement alone can have instances, its rows hold at each turn of the loops.
+abbrev pub TurnsMeetRows : Type 0
+TurnsMeetRows = (source : Program) (maps : List TimeMap) (e : Piece) (sides : List Sides) (ranges : List (ℤ × ℤ)) (p components : List ℤ)
+    → pieces source maps ≡ e ∷ [] → length p ≡ numbers_in source.params → AreSidesFrom (length p) ranges sides
+    → IsTurn (ends_of source maps (sides ∷ [])) p components → MeetAlong sides p components
 
 -- x is this component of the time of some statement at a point of its box
 abbrev pub IsTime : (params : List (ℤ × ℤ)) → List Piece → (component : ℕ) → (x : ℤ) → Type 0

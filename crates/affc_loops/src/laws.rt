@@ -1,5 +1,5 @@
 //! What the loops of a schedule do. Each law is the contract of a function that does nothing.
-ghost use Rattle.affc_loops.specs.Laws.{LoopsDoTarget, LoopsRunTarget, LoopsCompile, BetweenDoTarget, BetweenRunTarget, BetweenCompile, RangesAreEnds, RowsHoldTimes, RangesOfTimes};
+ghost use Rattle.affc_loops.specs.Laws.{LoopsDoTarget, LoopsRunTarget, LoopsCompile, BetweenDoTarget, BetweenRunTarget, BetweenCompile, RangesAreEnds, RowsHoldTimes, TurnsMeetRows, RangesOfTimes};
 
 /// The loops and conditions run the target's instances, each once and in order.
 pub fn loops_do_target()
@@ -39,6 +39,11 @@ pub fn ranges_are_ends()
 /// So are ends by rows that hold at the times of all instances.
 pub fn rows_hold_times()
     ensures law { RowsHoldTimes }
+{}
+
+/// Loops between the ends of one statement take only turns at which its rows hold.
+pub fn turns_meet_rows()
+    ensures law { TurnsMeetRows }
 {}
 
 /// The ranges of the loops hold all times, and both ends of each are times.
