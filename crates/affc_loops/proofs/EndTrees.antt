@@ -1,13 +1,9 @@
 -- The values of the trees of ends, and that they are read.
-use Rattle.std.proofs.Common.{◌≡◌, ℕ, zero, suc, ◌+◌, ◌-◌, ◌^◌, ◌<◌, ◌≤◌, ℤ, pos, negsuc, ◌+ℤ◌, ◌-ℤ◌, ◌*ℤ◌, ◌≤ℤ◌, ◌<ℤ◌, neg_ℤ, Bool, false, if◌then◌else◌, List, [], ◌∷◌, ◌++◌, length, get_or, map, take, drop, Ok, Err, refl, sym, ap, subst, ◌∙◌, arith, length-take, length-drop}
-use Rattle.std.specs.Prelude.{int_lt, unsigned_abs}
+use Rattle.std.proofs.Common.{◌≡◌, ℕ, zero, suc, ◌+◌, ℤ, pos, negsuc, ◌+ℤ◌, ◌-ℤ◌, ◌*ℤ◌, ◌≤ℤ◌, ◌<ℤ◌, neg_ℤ, false, if◌then◌else◌, List, Ok, Err, refl, sym, ap, subst, ◌∙◌, arith}
+use Rattle.std.specs.Prelude.{int_lt}
 use Rattle.std.specs.Int.{int_max, int_min}
-use Rattle.std.specs.List.{All}
 use Rattle.std.proofs.lemmas.Int.{ints}
-use Rattle.std.proofs.lemmas.List.{take-append-drop}
-use Rattle.std.proofs.lemmas.List.Elements.{All-nil, All-cons, All-head, All-tail, All-append, All-map}
-use Rattle.affc_rows.specs.Forms.{Affine, dot, dot_magnitude, value, magnitude}
-use Rattle.affc_rows.proofs.IntLemmas.{mul-add, neg-mul}
+use Rattle.affc_rows.proofs.IntLemmas.{mul-add}
 use Rattle.affc_system.proofs.BoxLemmas.{grows}
 use Rattle.affc_ast.specs.declared.tree.Ix.{Ix}
 use Rattle.affc_ast.specs.declared.tree.Ix.TheVariants.{Min, Max, Floord, Ceild}
@@ -15,13 +11,9 @@ use Rattle.affc_ast.specs.Cause.{Overflow}
 use Rattle.affc_ast.specs.Fits.{whole_step, whole}
 use Rattle.affc_ast.specs.Index.{floor_of, ceiling_of, divided, index_step, index_value, nodes_of_ix}
 use Rattle.affc_ast.proofs.Steps.{min_here, max_here, floord_here, ceild_here}
-use Rattle.affc_trace.proofs.LastStores.{append_nil}
 use Rattle.affc_safe.specs.Overflow.{IsReadable}
 use Rattle.affc_safe.proofs.Wants.{bind_to}
-use Rattle.affc_loops.specs.Ends.{opposite, rounded_up, rounded_down, joined, joined_with}
-use Rattle.affc_loops.specs.Trees.{form_tree}
-use Rattle.affc_loops.proofs.FormReads.{form_reads}
-use Rattle.affc_loops.proofs.FormTrees.{form_is}
+use Rattle.affc_loops.specs.Ends.{rounded_up, rounded_down}
 
 -- ---- floors and ceilings
 

@@ -1,5 +1,5 @@
 -- The number that a row allows: its value, and that it is read.
-use Rattle.std.proofs.Common.{◌≡◌, ℕ, zero, suc, ◌+◌, ◌-◌, ◌*◌, ◌^◌, ◌<◌, ◌≤◌, ℤ, pos, negsuc, ◌+ℤ◌, ◌*ℤ◌, ◌≤ℤ◌, ◌<ℤ◌, neg_ℤ, List, [], ◌∷◌, ◌++◌, length, get_or, map, take, drop, min, max, refl, sym, ap, subst, ◌∙◌, arith, length-take, length-drop}
+use Rattle.std.proofs.Common.{◌≡◌, ℕ, suc, ◌+◌, ◌-◌, ◌*◌, ◌^◌, ◌<◌, ◌≤◌, ℤ, pos, negsuc, ◌+ℤ◌, ◌*ℤ◌, ◌≤ℤ◌, ◌<ℤ◌, neg_ℤ, List, [], ◌∷◌, ◌++◌, length, get_or, map, take, drop, min, max, refl, sym, ap, subst, ◌∙◌, arith, length-take, length-drop}
 use Rattle.std.specs.Prelude.{unsigned_abs}
 use Rattle.std.proofs.Common.{mul-le-mul_left}
 use Rattle.std.proofs.lemmas.Int.{ints}
@@ -11,7 +11,7 @@ use Rattle.affc_system.specs.Systems.{Meets}
 use Rattle.affc_ast.specs.Fits.{whole}
 use Rattle.affc_trace.proofs.LastStores.{append_nil}
 use Rattle.affc_safe.specs.Overflow.{IsReadable}
-use Rattle.affc_loops.specs.Ends.{rest_of, opposite, last_of, rounded_up, rounded_down, least_by, greatest_by, IsRow, BoundsBelow, BoundsAbove}
+use Rattle.affc_loops.specs.Ends.{rest_of, opposite, last_of, least_by, greatest_by, IsRow, BoundsBelow, BoundsAbove}
 use Rattle.affc_loops.specs.Trees.{form_tree}
 use Rattle.affc_loops.proofs.EndTrees.{reads_up, reads_down, up_is, down_is, up_back, down_back}
 use Rattle.affc_loops.proofs.FormReads.{neg_size, form_reads}

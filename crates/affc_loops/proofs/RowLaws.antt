@@ -1,9 +1,9 @@
 -- Ends by rows that hold at the times of all instances hold the times.
-use Rattle.std.proofs.Common.{◌≡◌, ℕ, suc, ◌+◌, ◌≤◌, ℤ, ◌≤ℤ◌, true, IsTrue, List, [], ◌∷◌, ◌++◌, length, map, Some, refl, sym, ap, subst, ◌∙◌, inl, inr, arith}
+use Rattle.std.proofs.Common.{◌≡◌, ℕ, suc, ◌+◌, ◌≤◌, ℤ, ◌≤ℤ◌, true, IsTrue, List, [], ◌∷◌, ◌++◌, length, map, refl, sym, ap, subst, ◌∙◌, inl, inr, arith}
 use Rattle.std.specs.List.{All}
 use Rattle.std.proofs.lemmas.Int.{ints}
 use Rattle.std.proofs.lemmas.List.Elements.{All-nil, All-cons}
-use Rattle.affc_rows.specs.Forms.{Affine, HaveColumns, values_of}
+use Rattle.affc_rows.specs.Forms.{Affine, HaveColumns}
 use Rattle.affc_system.specs.Boxes.{IsBox, IsRange, InBox, corner}
 use Rattle.affc_system.proofs.BoxLemmas.{corner_in_box, corner_is_corner, value_least}
 use Rattle.affc_ast.specs.declared.tree.Instance.{Instance}
@@ -23,14 +23,15 @@ use Rattle.affc_domain.proofs.PlainLemmas.{has_assignment}
 use Rattle.affc_domain.proofs.TurnLemmas.{instances_turn}
 use Rattle.affc_loops.specs.Between.{LiesBetween, IsTurn, HoldTimes}
 use Rattle.affc_loops.specs.Ends.{Sides, joined, ends_from, both_ends, each_ends, all_ends, ends_of, AreRowsOf, AreRowsOfEach}
-use Rattle.affc_loops.specs.Laws.{HasLoops, RowsHoldTimes, TurnsMeetRows}
+use Rattle.affc_loops.specs.Laws.{HasLoops, HaveSameLoops, RowsHoldTimes, TurnsMeetRows}
 use Rattle.affc_loops.specs.Loops.{Piece, boxes, pieces, times_of, time_ranges}
 use Rattle.affc_loops.specs.Spans.{span, hulls}
-use Rattle.affc_loops.proofs.BetweenLaws.{few, slight, its_own, box, numbers, scheduled, enclosed, ranges_small}
+use Rattle.affc_loops.proofs.BetweenLaws.{few, slight, its_own, box, numbers, enclosed, ranges_small}
 use Rattle.affc_loops.proofs.Boxes.{params_ordered}
 use Rattle.affc_loops.proofs.EndLists.{Nested, Keeps, keeps_run, keeps_both, keeps_from, lies_from, both_long, lies_first, lies_second, from_long, turns_from}
 use Rattle.affc_loops.proofs.Joined.{joined_all, joined_any}
 use Rattle.affc_loops.proofs.Pieces.{has_piece}
+use Rattle.affc_loops.proofs.SameLoops.{AreAlike, alike_times, numbers_same, pieces_alike}
 use Rattle.affc_loops.proofs.Sizes.{spans}
 use Rattle.affc_loops.proofs.TimeRanges.{Spans, min_below, min_below_too, max_above, max_above_too, ordered_append, here_long, ranges_long, here_holds}
 
@@ -220,3 +221,19 @@ turns_meet_rows source maps e sides ranges p components q long s turn =
     turns_from (length p) (length p) sides (times_of (number_ranges source.params) e) p components ranges refl (let z : length p ≤ length p = omega arith in z) s
     (subst (λ first. IsTurn (all_ends (each_ends first (number_ranges source.params) (e ∷ []) (sides ∷ []))) p components) (sym long)
     (subst (λ es. IsTurn (all_ends (each_ends (numbers_in source.params) (number_ranges source.params) es (sides ∷ []))) p components) q turn))
+
+-- ---- the ends of programs with the same loops
+
+alike_ends : (first : ℕ) (known : List (ℤ × ℤ)) (es fs : List Piece) (rows : List (List Sides)) → AreAlike es fs → each_ends first known es rows ≡ each_ends first known fs rows
+alike_ends first known [] [] rows h = refl
+alike_ends first known [] (f ∷ fs) rows h = absurd h
+alike_ends first known (e ∷ es) [] rows h = absurd h
+alike_ends first known (e ∷ es) (f ∷ fs) [] h = refl
+alike_ends first known (e ∷ es) (f ∷ fs) (ss ∷ rows) h =
+    ap (λ box. ends_from first first ss box ∷ each_ends first known es rows) (alike_times known e f h.0 h.1) ∙ ap (λ rest. ends_from first first ss (times_of known f) ∷ rest) (alike_ends first known es fs rows h.2)
+
+pub ends_same : (source other : Program) → HaveSameLoops source other → (maps : List TimeMap) (rows : List (List Sides)) → ends_of other maps rows ≡ ends_of source maps rows
+ends_same source other same maps rows =
+    ap (λ first. all_ends (each_ends first (number_ranges other.params) (pieces other maps) rows)) (numbers_same source other same)
+    ∙ ap (λ params. all_ends (each_ends (numbers_in source.params) params (pieces other maps) rows)) same.same_ranges
+    ∙ ap all_ends (alike_ends (numbers_in source.params) (number_ranges source.params) (pieces other maps) (pieces source maps) rows (pieces_alike source other same maps))

@@ -4,7 +4,6 @@ use Rattle.std.proofs.Common.{false, subst, lit≤}
 use Rattle.std.proofs.lemmas.List.Elements.{All-nil, All-cons}
 use Rattle.std.proofs.lemmas.Option.{none-some, same_Some}
 use Rattle.affc_rows.specs.Forms.{Affine, HaveColumns, columns_of, composed_form}
-use Rattle.affc_ast.specs.declared.tree.Ix.{Ix}
 use Rattle.affc_ast.specs.declared.tree.Ix.TheVariants.{Neg, Add, Sub, Mul, Min, Max, Floord, Ceild}
 use Rattle.affc_ast.specs.declared.tree.Param.TheVariants.{Number, Array}
 use Rattle.affc_ast.specs.declared.tree.Program.{Program}
@@ -95,12 +94,12 @@ diagonals =
 abbrev rows_of_triangle : List (List Sides)
 rows_of_triangle =
     (
-      (form (pos 0) (pos 1) (pos 0) ∷ [], form (pos 2) (negsuc 0) (negsuc 1) ∷ [])
-      ∷ (
-        over_two (pos 0) (negsuc 0) (pos 2) (pos 0) ∷ over_two (pos 0) (pos 0) (pos 1) (pos 0) ∷ [],
-        over_two (pos 0) (pos 1) (negsuc 0) (pos 0) ∷ over_two (pos 1) (pos 0) (negsuc 0) (negsuc 0) ∷ [],
-      )
-      ∷ []
+    (form (pos 0) (pos 1) (pos 0) ∷ [], form (pos 2) (negsuc 0) (negsuc 1) ∷ [])
+    ∷ (
+      over_two (pos 0) (negsuc 0) (pos 2) (pos 0) ∷ over_two (pos 0) (pos 0) (pos 1) (pos 0) ∷ [],
+      over_two (pos 0) (pos 1) (negsuc 0) (pos 0) ∷ over_two (pos 1) (pos 0) (negsuc 0) (negsuc 0) ∷ [],
+    )
+    ∷ []
     )
     ∷ []
 
