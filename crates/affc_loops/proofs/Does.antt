@@ -4,6 +4,7 @@ use Rattle.std.specs.Prelude.{slice_get}
 use Rattle.std.proofs.lemmas.Option.{same_Some}
 use Rattle.affc_rows.specs.Forms.{Affine, values_of, columns_of, HaveColumns}
 use Rattle.affc_ast.specs.declared.tree.Instance.{Instance}
+use Rattle.affc_ast.specs.declared.tree.Ix.{Ix}
 use Rattle.affc_ast.specs.declared.tree.Program.{Program}
 use Rattle.affc_ast.specs.declared.tree.Stmt.{Stmt}
 use Rattle.affc_ast.specs.Fits.{all_hold}
@@ -25,14 +26,15 @@ use Rattle.affc_domain.specs.Rounds.{Round, rounds, turns}
 use Rattle.affc_domain.proofs.Lists.{both_true, true_both}
 use Rattle.affc_domain.proofs.PlainLemmas.{has_assignment}
 use Rattle.affc_domain.proofs.TurnLemmas.{instances_turn}
-use Rattle.affc_loops.specs.Loops.{Piece, pieces_from, loop_names, locals_of, box_tests, time_tests, guarded, if_any, moved_assign, block_of, loops, body_of}
-use Rattle.affc_loops.proofs.Boxed.{Encloses, Covers, box_length}
+use Rattle.affc_loops.specs.Loops.{Piece, pieces_from, loop_names, locals_of, box_tests, time_tests, guarded, if_any, moved_assign, block_of}
+use Rattle.affc_loops.specs.Between.{LiesBetween, body_between}
+use Rattle.affc_loops.proofs.Boxed.{Encloses}
 use Rattle.affc_loops.proofs.Guarded.{guarded_does}
 use Rattle.affc_loops.proofs.Guards.{guard_tests, see_outwards}
 use Rattle.affc_loops.proofs.MovedTrees.{moved_effect}
 use Rattle.affc_loops.proofs.NestEffects.{done_by, one_if, one_block, loops_do}
 use Rattle.affc_loops.proofs.Pieces.{loops_are, shape_of, is_piece, has_piece, pieces_rise}
-use Rattle.affc_loops.proofs.PointsOrder.{points, in_points}
+use Rattle.affc_loops.proofs.PointsOrder.{points, in_points, to_points, between_length, points_rise}
 use Rattle.affc_loops.proofs.ScannedOrder.{instance_at, let_through, Finds, scan_is_target}
 use Rattle.affc_loops.proofs.Tests.{locals_are, box_true, times_true, true_times, guards_hold}
 
@@ -151,12 +153,18 @@ own_places source p = λ i b. record { loads = map_same (effect source p b).load
 
 -- ---- entries of the program's lists
 
-module _ (source : Program) (n : ℕ) (maps : List TimeMap) (ranges : List (ℤ × ℤ)) (boxes : List (Option (List (ℤ × ℤ)))) (p : List ℤ)
-    (schedule : IsScheduleOf source (Time n maps)) (numbers : length p ≡ numbers_in source.params) (components : length ranges ≡ n)
+module _ (source : Program) (n : ℕ) (maps : List TimeMap) (ends : List (Ix × Ix)) (boxes : List (Option (List (ℤ × ℤ)))) (p : List ℤ)
+    (schedule : IsScheduleOf source (Time n maps)) (numbers : length p ≡ numbers_in source.params) (components : length ends ≡ n)
     (outwards : (k : ℕ) (gs : List Round) → slice_get (rounds source) k ≡ Some gs → see_outwards (length p) gs ≡ true)
-    (encloses : Encloses source boxes p) (covers : Covers maps boxes ranges p) where
+    (encloses : Encloses source boxes p) (hold : (a : Instance) → IsIn a (trace source p) → LiesBetween ends p (time_of maps p a)) where
   abbrev more : ℕ
-  more = length ranges
+  more = length ends
+
+  abbrev times : List (List ℤ)
+  times = points ends p
+
+  as_long : (t : List ℤ) → IsIn t times → length t ≡ more
+  as_long t i = between_length ends p t (in_points ends p t i)
 
   abbrev all : List Piece
   all = pieces_from 0 (rounds source) (assignments source) maps boxes
@@ -210,12 +218,12 @@ module _ (source : Program) (n : ℕ) (maps : List TimeMap) (ranges : List (ℤ 
   pub forms_wide : (e : Piece) (t : List ℤ) → Fine p more e → HaveColumns (length p + length (found p e t)) e.times.forms
   forms_wide e t f = subst (λ u. HaveColumns (length p + u) e.times.forms) (sym (values_length e.times.inverse (p ++ t))) f.wide
 
-  sound : (e : Piece) (t : List ℤ) → IsIn e all → InBox ranges t → tests_pass p more e t ≡ true
+  sound : (e : Piece) (t : List ℤ) → IsIn e all → IsIn t times → tests_pass p more e t ≡ true
       → IsIn (runs source p more e t) (trace source p) × (time_of maps p (runs source p more e t) ≡ t)
-  sound e t i box pass =
+  sound e t i j pass =
       let h = parts e i in
       let f = fine e h in
-      let l : length t ≡ more = box_length ranges t box in
+      let l : length t ≡ more = as_long t j in
       let xs : List ℤ = found p e t in
       let names : List ℤ = p ++ (t ++ xs) in
       let from : ℕ = length p + more in
@@ -227,7 +235,7 @@ module _ (source : Program) (n : ℕ) (maps : List TimeMap) (ranges : List (ℤ 
       ((instances_turn source p (runs source p more e t)).1 (e.around, h.its_guards, run), ap (λ o. time_by o (p ++ xs)) h.its_times ∙ time)
 
   complete : (a : Instance) → IsIn a (trace source p)
-      → (e : Piece) × IsIn e all × (e.statement ≡ a.statement) × InBox ranges (time_of maps p a) × (tests_pass p more e (time_of maps p a) ≡ true) × (found p e (time_of maps p a) ≡ a.iterators)
+      → (e : Piece) × IsIn e all × (e.statement ≡ a.statement) × IsIn (time_of maps p a) times × (tests_pass p more e (time_of maps p a) ≡ true) × (found p e (time_of maps p a) ≡ a.iterators)
   complete a i =
       let k : ℕ = a.statement in
       let t : List ℤ = time_of maps p a in
@@ -239,8 +247,8 @@ module _ (source : Program) (n : ℕ) (maps : List TimeMap) (ranges : List (ℤ 
       let in_all : IsIn e all = has_piece 0 (rounds source) (assignments source) maps boxes k run.0 a'.0 m.0 box.0 run.1 a'.1 m.1 box.1 in
       let f = fine e (parts e in_all) in
       let time : t ≡ values_of (m.0).forms (p ++ a.iterators) = ap (λ o. time_by o (p ++ a.iterators)) m.1 in
-      let within : InBox ranges t = subst (InBox ranges) (sym time) (covers k box.0 m.0 box.1 m.1 a.iterators box.2) in
-      let l : length t ≡ more = box_length ranges t within in
+      let within : IsIn t times = to_points ends p t (hold a i) in
+      let l : length t ≡ more = as_long t within in
       let loops_equal : length (loop_names run.0) ≡ length a.iterators = same_Some (length (loop_names run.0)) (length a.iterators) (sym (loops_are source k run.0 run.1) ∙ depth source p a i) in
       let columns : length p + length a.iterators ≡ columns_of (m.0).forms =
       (let c : columns_of (m.0).forms ≡ numbers_in source.params + length (loop_names run.0) = (m.2).columns in omega arith) in
@@ -265,21 +273,21 @@ module _ (source : Program) (n : ℕ) (maps : List TimeMap) (ranges : List (ℤ 
         back,
       )
 
-  finds : Finds (λ (e : Piece). e.statement) (tests_pass p more) (found p) ranges all (trace source p) (time_of maps p)
+  finds : Finds (λ (e : Piece). e.statement) (tests_pass p more) (found p) times all (trace source p) (time_of maps p)
   finds = record { sound = sound; complete = complete }
 
-  body_does : (es : List Piece) → done_by (body_of (length p) ranges es) p ≡ flat_map (λ t. done_by (map (block_of (length p) more) es) (p ++ t)) (points ranges)
-  body_does [] = flat_none (λ t. done_by (map (block_of (length p) more) []) (p ++ t)) (λ t. refl) (points ranges)
-  body_does (e ∷ es) = loops_do ranges 0 (map (block_of (length p) more) (e ∷ es)) p
+  body_does : (es : List Piece) → done_by (body_between (length p) ends es) p ≡ flat_map (λ t. done_by (map (block_of (length p) more) es) (p ++ t)) times
+  body_does [] = flat_none (λ t. done_by (map (block_of (length p) more) []) (p ++ t)) (λ t. refl) times
+  body_does (e ∷ es) = loops_do ends 0 (map (block_of (length p) more) (e ∷ es)) p
 
   -- the statements of the printed program
-  pub does : done_by (body_of (numbers_in source.params) ranges all) p ≡ map (placed (λ x. x) (effect source p)) (target source (Time n maps) p)
+  pub does : done_by (body_between (numbers_in source.params) ends all) p ≡ map (placed (λ x. x) (effect source p)) (target source (Time n maps) p)
   does =
-      ap (λ q. done_by (body_of q ranges all) p) (sym numbers)
+      ap (λ q. done_by (body_between q ends all) p) (sym numbers)
       ∙ body_does all
-      ∙ flat_same_in (λ t. done_by (map (block_of (length p) more) all) (p ++ t)) (λ t. map (effect source p) (let_through (λ (e : Piece). e.statement) (tests_pass p more) (found p) all t)) (points ranges)
-      (λ t i. blocks_do source p more all t (box_length ranges t (in_points ranges t i)) (λ e j. let h = parts e j in (fine e h, h.its_assignment)))
-      ∙ map_flat (effect source p) (let_through (λ (e : Piece). e.statement) (tests_pass p more) (found p) all) (points ranges)
-      ∙ ap (map (effect source p)) (scan_is_target source n maps p schedule numbers (λ (e : Piece). e.statement) (tests_pass p more) (found p) ranges all
+      ∙ flat_same_in (λ t. done_by (map (block_of (length p) more) all) (p ++ t)) (λ t. map (effect source p) (let_through (λ (e : Piece). e.statement) (tests_pass p more) (found p) all t)) times
+      (λ t i. blocks_do source p more all t (as_long t i) (λ e j. let h = parts e j in (fine e h, h.its_assignment)))
+      ∙ map_flat (effect source p) (let_through (λ (e : Piece). e.statement) (tests_pass p more) (found p) all) times
+      ∙ ap (map (effect source p)) (scan_is_target source n maps p schedule numbers (λ (e : Piece). e.statement) (tests_pass p more) (found p) times all (points_rise ends p)
       (pieces_rise 0 (rounds source) (assignments source) maps boxes) finds)
       ∙ ap (λ f. map f (target source (Time n maps) p)) (own_places source p)

@@ -72,7 +72,7 @@ reads_times (suc m) x names h =
     let s : unsigned_abs (pos (suc (suc m)) *ℤ get_or names x (pos 0)) ≡ suc (suc m) * unsigned_abs (get_or names x (pos 0)) = unsigned_abs-mul (pos (suc (suc m))) (get_or names x (pos 0)) in
     reads_mul (Lit (pos (suc (suc m)))) (name_at x) names (reads_lit _ names) (reads_name x names) (omega arith)
 
-neg_size : (z : ℤ) → unsigned_abs (neg_ℤ z) ≡ unsigned_abs z
+pub neg_size : (z : ℤ) → unsigned_abs (neg_ℤ z) ≡ unsigned_abs z
 neg_size (pos zero) = refl
 neg_size (pos (suc n)) = refl
 neg_size (negsuc n) = refl

@@ -19,5 +19,12 @@ pub mod TimeRanges
 pub mod Sizes
 pub mod SameLoops
 pub mod PlainAlong
+pub mod EndTrees
+pub mod Joined
+pub mod RowEnds
+pub mod EndLists
+pub mod NumberEnds
+pub mod BetweenLaws
+pub mod RowLaws
 pub mod LoopLaws
 pub mod ExampleProofs

@@ -1,4 +1,4 @@
--- What the loops of a printed program do: what the blocks do, at each point of the loops' ranges.
+-- What the loops of a printed program do: what the blocks do, at each time that the loops run through.
 use Rattle.std.proofs.Common.{◌≡◌, ℕ, suc, ℤ, if◌then◌else◌, List, [], ◌∷◌, ◌++◌, map, flat_map, refl, sym, ap, ◌∙◌}
 use Rattle.affc_ast.specs.declared.tree.Compare.{Compare}
 use Rattle.affc_ast.specs.declared.tree.Ix.{Ix}
@@ -17,9 +17,8 @@ use Rattle.affc_trace.specs.Effects.{with_all, each_of, effects_step}
 use Rattle.affc_trace.proofs.LastStores.{append_nil, push_append}
 use Rattle.affc_trace.proofs.EndedReads.{append_assoc}
 use Rattle.affc_loops.proofs.PointsOrder.{numbers_of, points}
-use Rattle.affc_loops.specs.Trees.{number}
-use Rattle.affc_loops.specs.Loops.{time_name, loops, if_any}
-use Rattle.affc_loops.proofs.FormTrees.{number_is}
+use Rattle.affc_loops.specs.Between.{loops_between}
+use Rattle.affc_loops.specs.Loops.{time_name, if_any}
 
 -- ---- lists
 
@@ -60,18 +59,17 @@ one_if (c ∷ cs) body names =
 pub one_block : (locals : List Local) (body : List Stmt) (names : List ℤ) → by_stmt effects_step (Block locals body) names ≡ done_by body (with_all locals names)
 one_block locals body names = ap (λ f. f names) (block_here effects_step locals body)
 
--- the loops run through the points of the box
-pub loops_do : (ranges : List (ℤ × ℤ)) (component : ℕ) (body : List Stmt) (names : List ℤ)
-    → done_by (loops ranges component body) names ≡ flat_map (λ t. done_by body (names ++ t)) (points ranges)
+-- the loops run through the times between their ends
+pub loops_do : (ends : List (Ix × Ix)) (component : ℕ) (body : List Stmt) (names : List ℤ)
+    → done_by (loops_between ends component body) names ≡ flat_map (λ t. done_by body (names ++ t)) (points ends names)
 loops_do [] component body names = ap (done_by body) (sym (append_nil names)) ∙ sym (append_nil (done_by body (names ++ [])))
-loops_do (r ∷ rs) component body names =
-    one_for (time_name component) (number r.0) (number r.1) (loops rs (suc component) body) names
-    ∙ ap (λ z. flat_map (λ x. done_by (loops rs (suc component) body) (names ++ x ∷ [])) (count_from (turns_of LessEqual z (whole (number r.1) names)) z)) (number_is r.0 names)
-    ∙ ap (λ z. flat_map (λ x. done_by (loops rs (suc component) body) (names ++ x ∷ [])) (count_from (turns_of LessEqual r.0 z) r.0)) (number_is r.1 names)
-    ∙ flat_same (λ x. done_by (loops rs (suc component) body) (names ++ x ∷ [])) (λ x. flat_map (λ t. done_by body (names ++ t)) (map (λ t. x ∷ t) (points rs)))
+loops_do (e ∷ es) component body names =
+    let turns : List ℤ = numbers_of (whole e.0 names, whole e.1 names) in
+    one_for (time_name component) e.0 e.1 (loops_between es (suc component) body) names
+    ∙ flat_same (λ x. done_by (loops_between es (suc component) body) (names ++ x ∷ [])) (λ x. flat_map (λ t. done_by body (names ++ t)) (map (λ t. x ∷ t) (points es (names ++ x ∷ []))))
     (λ x.
-    loops_do rs (suc component) body (names ++ x ∷ [])
-    ∙ flat_same (λ t. done_by body ((names ++ x ∷ []) ++ t)) (λ t. done_by body (names ++ x ∷ t)) (λ t. ap (done_by body) (push_append names x t)) (points rs)
-    ∙ sym (flat_map_mapped (λ t. done_by body (names ++ t)) (λ t. x ∷ t) (points rs)))
-    (numbers_of r)
-    ∙ sym (flat_twice (λ t. done_by body (names ++ t)) (λ x. map (λ t. x ∷ t) (points rs)) (numbers_of r))
+    loops_do es (suc component) body (names ++ x ∷ [])
+    ∙ flat_same (λ t. done_by body ((names ++ x ∷ []) ++ t)) (λ t. done_by body (names ++ x ∷ t)) (λ t. ap (done_by body) (push_append names x t)) (points es (names ++ x ∷ []))
+    ∙ sym (flat_map_mapped (λ t. done_by body (names ++ t)) (λ t. x ∷ t) (points es (names ++ x ∷ []))))
+    turns
+    ∙ sym (flat_twice (λ t. done_by body (names ++ t)) (λ x. map (λ t. x ∷ t) (points es (names ++ x ∷ []))) turns)

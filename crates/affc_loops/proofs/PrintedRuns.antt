@@ -7,6 +7,7 @@ use Rattle.affc_rows.specs.Forms.{values_of, magnitude, HaveColumns}
 use Rattle.affc_ast.specs.declared.tree.Compare.{Compare}
 use Rattle.affc_ast.specs.declared.tree.Instance.{Instance}
 use Rattle.affc_ast.specs.declared.tree.Local.{Local}
+use Rattle.affc_ast.specs.declared.tree.Ix.{Ix}
 use Rattle.affc_ast.specs.declared.tree.Program.{Program}
 use Rattle.affc_ast.specs.declared.tree.Rel.TheVariants.{LessEqual}
 use Rattle.affc_ast.specs.declared.tree.Stmt.{Stmt}
@@ -15,14 +16,14 @@ use Rattle.affc_ast.specs.Fits.{whole, holds, all_hold}
 use Rattle.affc_ast.specs.Index.{conditions, index_value, nodes_of_ix}
 use Rattle.affc_ast.specs.Meaning.{State, Outcome, Position, turns_of, in_order, past, with_iterator, with_locals, stmt_step, part_of, assigned}
 use Rattle.affc_ast.specs.Store.{Store}
-use Rattle.affc_ast.specs.Trace.{Assignment, assignments, loads_of_value}
+use Rattle.affc_ast.specs.Trace.{Assignment, assignments, trace, loads_of_value}
 use Rattle.affc_ast.specs.Values.{Scope, is_within}
 use Rattle.affc_ast.proofs.Steps.{for_here, if_here, block_here}
 use Rattle.affc_system.specs.Boxes.{InBox}
 use Rattle.affc_trace.specs.declared.schedule.TimeMap.{TimeMap}
 use Rattle.affc_trace.specs.declared.schedule.Schedule.TheVariants.{Time}
 use Rattle.affc_trace.specs.Law.{IsIn}
-use Rattle.affc_trace.specs.Target.{IsScheduleOf, numbers_in}
+use Rattle.affc_trace.specs.Target.{IsScheduleOf, numbers_in, time_of}
 use Rattle.affc_trace.proofs.EndedReads.{append_assoc}
 use Rattle.affc_trace.proofs.LastStores.{append_nil, push_append}
 use Rattle.affc_trace.proofs.Members.{in_map}
@@ -35,12 +36,11 @@ use Rattle.affc_safe.proofs.PlainReads.{small_is_int64}
 use Rattle.affc_safe.proofs.Walk.{AllWithin, Wanting, assign_case, done_or_wants}
 use Rattle.affc_safe.proofs.Wants.{Wants, wants_ended, wants_then, wants_reading, wants_if, wants_turns, ReadableAll, conditions_read}
 use Rattle.affc_loops.specs.Limits.{IsSmall}
-use Rattle.affc_loops.specs.Loops.{Piece, pieces_from, loop_names, locals_of, box_tests, time_tests, guarded, if_any, moved_assign, block_of, time_name, loops, body_of}
-use Rattle.affc_loops.specs.Trees.{name_at, number, moved, moved_compare, moved_value}
-use Rattle.affc_loops.proofs.Boxed.{Encloses, Covers, Small, box_length}
+use Rattle.affc_loops.specs.Loops.{Piece, pieces_from, loop_names, locals_of, box_tests, time_tests, guarded, if_any, moved_assign, block_of, time_name}
+use Rattle.affc_loops.specs.Between.{LiesBetween, RunWithin, loops_between, body_between}
+use Rattle.affc_loops.specs.Trees.{name_at, moved, moved_compare, moved_value}
+use Rattle.affc_loops.proofs.Boxed.{Encloses, Small, box_length}
 use Rattle.affc_loops.proofs.Does.{Fine, parts, fine, values_length}
-use Rattle.affc_loops.proofs.FormReads.{reads_number}
-use Rattle.affc_loops.proofs.FormTrees.{number_is}
 use Rattle.affc_loops.proofs.Guards.{guard_tests, see_outwards}
 use Rattle.affc_loops.proofs.MovedReads.{all_readable_move, value_moves}
 use Rattle.affc_loops.proofs.MovedTrees.{moved_are, moved_loads}
@@ -110,26 +110,32 @@ int_end (pos m) r1 (negsuc n) a b l h = absurd (omega (arith, ints))
 int_end (negsuc m) r1 (negsuc zero) a b l h = omega (arith, ints)
 int_end (negsuc m) r1 (negsuc (suc n)) a b l h = omega (arith, ints)
 
--- at each point of the ranges
-loops_want : (ranges : List (ℤ × ℤ)) (component : ℕ) (body : List Stmt) (names : List ℤ) (extents : List (List ℤ)) → All IsSmall ranges
+-- at each time that the loops run through, all of which lie in the ranges
+loops_want : (ranges : List (ℤ × ℤ)) (ends : List (Ix × Ix)) (component : ℕ) (body : List Stmt) (names : List ℤ) (extents : List (List ℤ)) → All IsSmall ranges → RunWithin ranges ends names
     → ((t : List ℤ) (scope : Scope) → InBox ranges t → scope.names ≡ names ++ t → scope.extents ≡ extents → (here : Position) (u : State) → Wants (run_all body here scope u))
-    → (scope : Scope) → scope.names ≡ names → scope.extents ≡ extents → (here : Position) (u : State) → Wants (run_all (loops ranges component body) here scope u)
-loops_want [] component body names extents s h scope n e here u = h [] scope tt (n ∙ sym (append_nil names)) e here u
-loops_want (r ∷ rs) component body names extents s h scope n e here u =
+    → (scope : Scope) → scope.names ≡ names → scope.extents ≡ extents → (here : Position) (u : State) → Wants (run_all (loops_between ends component body) here scope u)
+loops_want [] [] component body names extents s w h scope n e here u = h [] scope tt (n ∙ sym (append_nil names)) e here u
+loops_want [] (d ∷ ds) component body names extents s w h scope n e here u = absurd w
+loops_want (r ∷ rs) [] component body names extents s w h scope n e here u = absurd w
+loops_want (r ∷ rs) (d ∷ ds) component body names extents s w h scope n e here u =
     let small : IsSmall r = s 0 r (omega arith) in
-    let inner : List Stmt = loops rs (suc component) body in
-    let low = reads_number r.0 scope.names (let a : unsigned_abs r.0 < 2 ^ 62 = small.0 in omega arith) in
-    let high = reads_number r.1 scope.names (let a : unsigned_abs r.1 < 2 ^ 62 = small.1 in omega arith) in
-    subst (λ part. Wants (in_order (part ∷ []) here scope u)) (sym (for_here stmt_step (time_name component) (number r.0) LessEqual (number r.1) inner))
+    let inner : List Stmt = loops_between ds (suc component) body in
+    let low : ℤ = whole d.0 names in
+    let high : ℤ = whole d.1 names in
+    subst (λ part. Wants (in_order (part ∷ []) here scope u)) (sym (for_here stmt_step (time_name component) d.0 LessEqual d.1 inner))
     (wants_then _ _
-    (wants_reading (index_value (number r.0) (here.node + 1) scope.names) r.0 u _ (low (here.node + 1) ∙ ap (λ z. Ok z) (number_is r.0 scope.names))
-    (wants_reading (index_value (number r.1) (here.node + 1 + nodes_of_ix (number r.0)) scope.names) r.1 u _ (high _ ∙ ap (λ z. Ok z) (number_is r.1 scope.names))
-    (wants_turns (turns_of LessEqual r.0 r.1) here.node r.0 _ u
-    (λ y i. let b = in_numbers r.0 r.1 y i in small_is_int64 (y +ℤ pos 1) (int_end r.0 r.1 y small.0 small.1 b.0 b.1))
+    (wants_reading (index_value d.0 (here.node + 1) scope.names) low u _ (ap (index_value d.0 (here.node + 1)) n ∙ w.0 (here.node + 1))
+    (wants_reading (index_value d.1 (here.node + 1 + nodes_of_ix d.0) scope.names) high u _ (ap (index_value d.1 (here.node + 1 + nodes_of_ix d.0)) n ∙ w.1 _)
+    (wants_turns (turns_of LessEqual low high) here.node low _ u
+    (λ y i.
+    let b = in_numbers low high y i in
+    let c = w.2 y b.0 b.1 in
+    small_is_int64 (y +ℤ pos 1) (int_end r.0 r.1 y small.0 small.1 c.0 c.1))
     (λ y v i.
-    let b = in_numbers r.0 r.1 y i in
-    loops_want rs (suc component) body (names ++ y ∷ []) extents (λ k x m. s (suc k) x (omega arith))
-    (λ t inside' w m g here' v'. h (y ∷ t) inside' (b.0, b.1, w) (m ∙ push_append names y t) g here' v')
+    let b = in_numbers low high y i in
+    let c = w.2 y b.0 b.1 in
+    loops_want rs ds (suc component) body (names ++ y ∷ []) extents (λ k x m. s (suc k) x (omega arith)) c.2
+    (λ t inside' q m g here' v'. h (y ∷ t) inside' (c.0, c.1, q) (m ∙ push_append names y t) g here' v')
     (with_iterator scope y) (ap (λ l. l ++ y ∷ []) n) e _ v))))
     (λ v. wants_ended v))
 
@@ -197,10 +203,10 @@ piece_wants p t e extents fine along kept ranges_small one_each times_small inve
 
 -- ---- the program
 
-module _ (source : Program) (n : ℕ) (maps : List TimeMap) (ranges : List (ℤ × ℤ)) (boxes : List (Option (List (ℤ × ℤ)))) (p : List ℤ)
-    (schedule : IsScheduleOf source (Time n maps)) (numbers : length p ≡ numbers_in source.params) (components : length ranges ≡ n)
+module _ (source : Program) (n : ℕ) (maps : List TimeMap) (ranges : List (ℤ × ℤ)) (ends : List (Ix × Ix)) (boxes : List (Option (List (ℤ × ℤ)))) (p : List ℤ)
+    (schedule : IsScheduleOf source (Time n maps)) (numbers : length p ≡ numbers_in source.params) (components : length ends ≡ n) (as_many : length ends ≡ length ranges)
     (outwards : (k : ℕ) (gs : List Round) → slice_get (rounds source) k ≡ Some gs → see_outwards (length p) gs ≡ true)
-    (encloses : Encloses source boxes p) (covers : Covers maps boxes ranges p) (small : Small source maps boxes ranges p) (extents : List (List ℤ))
+    (encloses : Encloses source boxes p) (hold : (a : Instance) → IsIn a (trace source p) → LiesBetween ends p (time_of maps p a)) (run : RunWithin ranges ends p) (small : Small source maps boxes ranges p) (extents : List (List ℤ))
     (along : (k : ℕ) (rs : List Round) (box : List (ℤ × ℤ)) → slice_get (rounds source) k ≡ Some rs → slice_get boxes k ≡ Some (Some box) → (xs : List ℤ) → InBox box xs → ReadAlong rs p xs)
     (kept : (k : ℕ) (rs : List Round) (a : Assignment) → slice_get (rounds source) k ≡ Some rs → slice_get (assignments source) k ≡ Some a → (xs : List ℤ) → turns rs p xs ≡ true → Kept a (p ++ xs) extents)
   where
@@ -208,11 +214,11 @@ module _ (source : Program) (n : ℕ) (maps : List TimeMap) (ranges : List (ℤ 
     all = pieces_from 0 (rounds source) (assignments source) maps boxes
 
     block_at : (e : Piece) → IsIn e all → (t : List ℤ) → InBox ranges t → (scope : Scope) → scope.names ≡ p ++ t → scope.extents ≡ extents → (here : Position) (u : State)
-        → Wants ((part_of (block_of (length p) (length ranges) e)).run here scope u)
+        → Wants ((part_of (block_of (length p) (length ends) e)).run here scope u)
     block_at e i t b scope m x here u =
-        let l : length t ≡ length ranges = box_length ranges t b in
-        let h = parts source n maps ranges boxes p schedule numbers components outwards encloses covers e i in
-        let f = fine source n maps ranges boxes p schedule numbers components outwards encloses covers e h in
+        let l : length t ≡ length ends = box_length ranges t b ∙ sym as_many in
+        let h = parts source n maps ends boxes p schedule numbers components outwards encloses hold e i in
+        let f = fine source n maps ends boxes p schedule numbers components outwards encloses hold e h in
         let k = is_piece 0 (rounds source) (assignments source) maps boxes e i in
         let fine_here : Fine p (length t) e = subst (λ q. Fine p q e) (sym l) f in
         subst (λ q. Wants ((part_of (block_of (length p) q e)).run here scope u)) l
@@ -221,15 +227,15 @@ module _ (source : Program) (n : ℕ) (maps : List TimeMap) (ranges : List (ℤ 
         (small.times_small k.at e.ranges e.times k.its_ranges k.its_times) (small.inverse_small k.at e.ranges e.times k.its_ranges k.its_times t b) scope m x here u)
 
     each_wants : (es : List Piece) → ((e : Piece) → IsIn e es → (t : List ℤ) → InBox ranges t → (scope : Scope) → scope.names ≡ p ++ t → scope.extents ≡ extents → (here : Position) (u : State)
-        → Wants ((part_of (block_of (length p) (length ranges) e)).run here scope u))
-        → (scope : Scope) → scope.names ≡ p → scope.extents ≡ extents → (here : Position) (u : State) → Wants (run_all (body_of (length p) ranges es) here scope u)
+        → Wants ((part_of (block_of (length p) (length ends) e)).run here scope u))
+        → (scope : Scope) → scope.names ≡ p → scope.extents ≡ extents → (here : Position) (u : State) → Wants (run_all (body_between (length p) ends es) here scope u)
     each_wants [] h scope m x here u = wants_ended u
     each_wants (e ∷ es) h scope m x here u =
-        loops_want ranges 0 (map (block_of (length p) (length ranges)) (e ∷ es)) p extents small.ranges_small (λ t scope b m x here u.
-        all_want (map (block_of (length p) (length ranges)) (e ∷ es)) scope (λ s i here u.
-        let q = in_map (block_of (length p) (length ranges)) (e ∷ es) s i in
+        loops_want ranges ends 0 (map (block_of (length p) (length ends)) (e ∷ es)) p extents small.ranges_small run (λ t scope b m x here u.
+        all_want (map (block_of (length p) (length ends)) (e ∷ es)) scope (λ s i here u.
+        let q = in_map (block_of (length p) (length ends)) (e ∷ es) s i in
         subst (λ s. Wants ((part_of s).run here scope u)) (sym q.2) (h q.0 q.1 t b scope m x here u)) here u) scope m x here u
 
     -- the statements of the printed program
-    pub body_wants : (scope : Scope) → scope.names ≡ p → scope.extents ≡ extents → (here : Position) (u : State) → Wants (run_all (body_of (numbers_in source.params) ranges all) here scope u)
-    body_wants scope m x here u = subst (λ q. Wants (run_all (body_of q ranges all) here scope u)) numbers (each_wants all block_at scope m x here u)
+    pub body_wants : (scope : Scope) → scope.names ≡ p → scope.extents ≡ extents → (here : Position) (u : State) → Wants (run_all (body_between (numbers_in source.params) ends all) here scope u)
+    body_wants scope m x here u = subst (λ q. Wants (run_all (body_between q ends all) here scope u)) numbers (each_wants all block_at scope m x here u)

@@ -36,7 +36,7 @@ alike k (rs ∷ rss) (a ∷ as') (b ∷ bs) (m ∷ ms) [] l = tt
 alike k (rs ∷ rss) (a ∷ as') (b ∷ bs) (m ∷ ms) (Some box ∷ boxes) l = (refl, refl, alike (suc k) rss as' bs ms boxes (omega (arith, l)))
 alike k (rs ∷ rss) (a ∷ as') (b ∷ bs) (m ∷ ms) (None ∷ boxes) l = alike (suc k) rss as' bs ms boxes (omega (arith, l))
 
-alike_times : (params : List (ℤ × ℤ)) (e f : Piece) → e.times ≡ f.times → e.ranges ≡ f.ranges → times_of params e ≡ times_of params f
+pub alike_times : (params : List (ℤ × ℤ)) (e f : Piece) → e.times ≡ f.times → e.ranges ≡ f.ranges → times_of params e ≡ times_of params f
 alike_times params e f t r = ap (λ (m : TimeMap). times_of params (record e { times = m })) t ∙ ap (λ b. times_of params (record e { times = f.times; ranges = b })) r
 
 alike_ranges : (params : List (ℤ × ℤ)) (es fs : List Piece) → AreAlike es fs → time_ranges params es ≡ time_ranges params fs
@@ -93,7 +93,7 @@ module _ (source other : Program) (same : HaveSameLoops source other) where
   schedule_same n maps h =
       subst (λ m. AreMapsOf m n (loops_round other) maps) (sym numbers_same) (subst (λ ls. AreMapsOf (numbers_in source.params) n ls maps) (sym loops_same) h)
 
-  pieces_alike : (maps : List TimeMap) → AreAlike (pieces other maps) (pieces source maps)
+  pub pieces_alike : (maps : List TimeMap) → AreAlike (pieces other maps) (pieces source maps)
   pieces_alike maps =
       let count = rounds_of_each source in
       let counted = rounds_of_each other in

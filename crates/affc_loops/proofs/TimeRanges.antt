@@ -36,7 +36,7 @@ box_parts (r ∷ rs) ss (z ∷ zs) b =
     let h = box_parts rs ss zs b.2 in
     record { first = z ∷ h.first; second = h.second; is = ap (λ l. z ∷ l) h.is; in_first = (b.0, b.1, h.in_first); in_second = h.in_second }
 
-ordered_append : (rs ss : List (ℤ × ℤ)) → IsBox rs → IsBox ss → IsBox (rs ++ ss)
+pub ordered_append : (rs ss : List (ℤ × ℤ)) → IsBox rs → IsBox ss → IsBox (rs ++ ss)
 ordered_append [] ss b c = c
 ordered_append (r ∷ rs) ss b c = All-cons IsRange r (rs ++ ss) (b 0 r (omega arith)) (ordered_append rs ss (λ i x l. b (suc i) x (omega arith)) c)
 
@@ -72,16 +72,16 @@ span_ends box (f ∷ fs) h b (suc k) r e =
 
 -- ---- Hulls
 
-min_below : (a b x : ℤ) → a ≤ℤ x → int_min a b ≤ℤ x
+pub min_below : (a b x : ℤ) → a ≤ℤ x → int_min a b ≤ℤ x
 min_below a b x h = first_of (omega (arith, ints), grind (arith, ints, h))
 
-min_below_too : (a b x : ℤ) → b ≤ℤ x → int_min a b ≤ℤ x
+pub min_below_too : (a b x : ℤ) → b ≤ℤ x → int_min a b ≤ℤ x
 min_below_too a b x h = first_of (omega (arith, ints), grind (arith, ints, h))
 
-max_above : (a b x : ℤ) → x ≤ℤ a → x ≤ℤ int_max a b
+pub max_above : (a b x : ℤ) → x ≤ℤ a → x ≤ℤ int_max a b
 max_above a b x h = first_of (omega (arith, ints), grind (arith, ints, h))
 
-max_above_too : (a b x : ℤ) → x ≤ℤ b → x ≤ℤ int_max a b
+pub max_above_too : (a b x : ℤ) → x ≤ℤ b → x ≤ℤ int_max a b
 max_above_too a b x h = first_of (omega (arith, ints), grind (arith, ints, h))
 
 min_either : (a b : ℤ) → (int_min a b ≡ a) ⊎ (int_min a b ≡ b)
@@ -155,7 +155,7 @@ module _ (params : List (ℤ × ℤ)) (n : ℕ) (params_ordered : IsBox params) 
   abbrev AllSpan : List Piece → Type 0
   AllSpan es = (e : Piece) → IsIn e es → Spans params n e
 
-  here_long : (e : Piece) → Spans params n e → length (times_of params e) ≡ n
+  pub here_long : (e : Piece) → Spans params n e → length (times_of params e) ≡ n
   here_long e s = map_long (params ++ e.ranges) e.times.forms ∙ s.components
 
   pub ranges_long : (e : Piece) (es : List Piece) → AllSpan (e ∷ es) → length (time_ranges params (e ∷ es)) ≡ n
@@ -168,7 +168,7 @@ module _ (params : List (ℤ × ℤ)) (n : ℕ) (params_ordered : IsBox params) 
   as_long : (e f : Piece) (es : List Piece) → AllSpan (e ∷ f ∷ es) → length (times_of params e) ≡ length (time_ranges params (f ∷ es))
   as_long e f es s = here_long e (s e (inl refl)) ∙ sym (ranges_long f es (λ g i. s g (inr i)))
 
-  here_holds : (e : Piece) → Spans params n e → (p xs : List ℤ) → InBox params p → InBox e.ranges xs → InBox (times_of params e) (values_of e.times.forms (p ++ xs))
+  pub here_holds : (e : Piece) → Spans params n e → (p xs : List ℤ) → InBox params p → InBox e.ranges xs → InBox (times_of params e) (values_of e.times.forms (p ++ xs))
   here_holds e s p xs b c = spans_hold (params ++ e.ranges) e.times.forms (p ++ xs) s.columns (box_append params e.ranges p xs b c)
 
   holds : (es : List Piece) → AllSpan es → (e : Piece) → IsIn e es → (p xs : List ℤ) → InBox params p → InBox e.ranges xs → InBox (time_ranges params es) (values_of e.times.forms (p ++ xs))

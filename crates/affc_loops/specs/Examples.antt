@@ -26,24 +26,24 @@ use Rattle.affc_trace.specs.Inverses.{column}
 use Rattle.affc_loops.specs.Loops.{time_name, target_program}
 use Rattle.affc_loops.specs.Trees.{form_tree}
 
-abbrev lit : ℕ → Ix
+abbrev pub lit : ℕ → Ix
 lit k = Lit (pos k)
 
-abbrev name : ℕ → Ix
+abbrev pub name : ℕ → Ix
 name k = Name (record { 0 = k })
 
-abbrev test : Ix → Rel → Ix → Compare
+abbrev pub test : Ix → Rel → Ix → Compare
 test left rel right = record { rel = rel; left = left; right = right }
 
-abbrev assign : (array : ℕ) → List Ix → Val → Stmt
+abbrev pub assign : (array : ℕ) → List Ix → Val → Stmt
 assign array subs value = Assign None (record { 0 = array }) subs value
 
-abbrev n : Ix
+abbrev pub n : Ix
 n = name 0
 
 -- ---- Forms as expressions, over N and then t0
 
-abbrev form : (n t c : ℤ) → Affine
+abbrev pub form : (n t c : ℤ) → Affine
 form n t c = record { coefs = n ∷ t ∷ []; constant = c }
 
 abbrev tree : Affine → Ix
@@ -76,7 +76,7 @@ timed n i c n' t c' e = record {
 }
 
 -- (-i); i = -t0
-abbrev backwards : TimeMap
+abbrev pub backwards : TimeMap
 backwards = timed (pos 0) (negsuc 0) (pos 0) (pos 0) (negsuc 0) (pos 0) refl
 
 -- (i - N + 1); i = t0 + N - 1
@@ -86,7 +86,7 @@ late = timed (negsuc 0) (pos 1) (pos 1) (pos 1) (pos 1) (negsuc 0) refl
 -- ---- A loop that is run backwards
 
 -- for N from 1 to 4: for (i = 0; i < N; i++) out[i] = in[i];
-abbrev copy : Program
+abbrev pub copy : Program
 copy = record {
   name = [];
   params = Number [] (pos 1) (pos 4)
@@ -100,7 +100,7 @@ copy = record {
 }
 
 -- in holds 7 8 9, and out these
-abbrev holding : (a b c : ℕ) → Store
+abbrev pub holding : (a b c : ℕ) → Store
 holding a b c = (cell 0 0, 7) ∷ (cell 0 1, 8) ∷ (cell 0 2, 9) ∷ (cell 1 0, a) ∷ (cell 1 1, b) ∷ (cell 1 2, c) ∷ []
 
 -- i is from 0 to 3, and so the time from -3 to 0: where N is 3, four turns begin, and three assignments run, the last element first.

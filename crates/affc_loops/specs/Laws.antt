@@ -1,7 +1,8 @@
 -- What the loops of a schedule do.
-use Rattle.std.specs.Prelude.{◌≡◌, ℕ, ℤ, IsTrue, List, ◌++◌, Some, None, map, slice_get}
+use Rattle.std.specs.Prelude.{◌≡◌, ℕ, ℤ, IsTrue, List, [], ◌∷◌, ◌++◌, length, Some, None, map, slice_get}
 use Rattle.affc_rows.specs.Forms.{values_of}
 use Rattle.affc_system.specs.Boxes.{InBox}
+use Rattle.affc_ast.specs.declared.tree.Ix.{Ix}
 use Rattle.affc_ast.specs.declared.tree.Program.{Program}
 use Rattle.affc_ast.specs.Compiles.{Compiles}
 use Rattle.affc_ast.specs.Fits.{Fits, within_ranges}
@@ -14,11 +15,13 @@ use Rattle.affc_trace.specs.Dataflow.{Legal}
 use Rattle.affc_trace.specs.Effects.{effect, effects}
 use Rattle.affc_trace.specs.Law.{IsIn, placed}
 use Rattle.affc_trace.specs.Laws.{IsInContext, RunsTarget, in_target_order}
-use Rattle.affc_trace.specs.Target.{target, IsScheduleOf, within_limits}
+use Rattle.affc_trace.specs.Target.{target, numbers_in, IsScheduleOf, within_limits}
 use Rattle.affc_domain.specs.Plain.{IsPlain}
 use Rattle.affc_domain.specs.Ranges.{first_wide, number_ranges}
 use Rattle.affc_domain.specs.Rounds.{rounds}
 use Rattle.affc_safe.specs.Safe.{HasExtents, KeepsWithin}
+use Rattle.affc_loops.specs.Between.{program_between, number_ends, IsTurn, HoldTimes}
+use Rattle.affc_loops.specs.Ends.{Sides, ends_of, AreSidesFrom, MeetAlong, AreRowsOfEach}
 use Rattle.affc_loops.specs.Loops.{Piece, pieces, time_ranges, target_program}
 
 -- A plain program no loop of which passes 2^31, and a schedule of it within its limits.
@@ -53,6 +56,47 @@ LoopsCompile = (source : Program) (schedule : Schedule)
     → ((p : List ℤ) (store : Store) → Fits source p store → (end : State) × (meaning source p store ≡ Ended end))
     → ((p : List ℤ) → IsInContext source p → Legal source schedule p)
     → Compiles (target_program source schedule) source (in_target_order schedule) (λ p x. x)
+
+-- The same of loops between any ends that hold the times.
+abbrev pub BetweenDoTarget : Type 0
+BetweenDoTarget = (source : Program) (length_of_time : ℕ) (maps : List TimeMap) (ends : List (Ix × Ix)) (p : List ℤ)
+    → HasLoops source (Time length_of_time maps) → IsTrue (within_ranges source.params p) → HoldTimes source maps ends p
+    → effects (program_between source maps ends) p ≡ map (placed (λ x. x) (effect source p)) (target source (Time length_of_time maps) p)
+
+abbrev pub BetweenRunTarget : Type 0
+BetweenRunTarget = (source : Program) (length_of_time : ℕ) (maps : List TimeMap) (ends : List (Ix × Ix)) (p : List ℤ) (store : Store)
+    → HasLoops source (Time length_of_time maps) → IsTrue (within_ranges source.params p) → HoldTimes source maps ends p
+    → HasExtents source p → KeepsWithin source p
+    → RunsTarget (program_between source maps ends) source (Time length_of_time maps) (λ x. x) p store
+
+abbrev pub BetweenCompile : Type 0
+BetweenCompile = (source : Program) (length_of_time : ℕ) (maps : List TimeMap) (ends : List (Ix × Ix))
+    → HasLoops source (Time length_of_time maps)
+    → ((p : List ℤ) → IsInContext source p → HoldTimes source maps ends p)
+    → ((p : List ℤ) (store : Store) → Fits source p store → (end : State) × (meaning source p store ≡ Ended end))
+    → ((p : List ℤ) → IsInContext source p → Legal source (Time length_of_time maps) p)
+    → Compiles (program_between source maps ends) source (in_target_order (Time length_of_time maps)) (λ p x. x)
+
+-- The ranges of all times are such ends, and the loops between them are those above.
+abbrev pub RangesAreEnds : Type 0
+RangesAreEnds = (source : Program) (length_of_time : ℕ) (maps : List TimeMap)
+    → HasLoops source (Time length_of_time maps)
+    → let ends = number_ends (time_ranges (number_ranges source.params) (pieces source maps)) in
+    (target_program source (Time length_of_time maps) ≡ program_between source maps ends)
+    × ((p : List ℤ) → IsTrue (within_ranges source.params p) → HoldTimes source maps ends p)
+
+-- So are ends by rows that hold at the times of all instances.
+abbrev pub RowsHoldTimes : Type 0
+RowsHoldTimes = (source : Program) (length_of_time : ℕ) (maps : List TimeMap) (rows : List (List Sides)) (p : List ℤ)
+    → HasLoops source (Time length_of_time maps) → IsTrue (within_ranges source.params p)
+    → AreRowsOfEach source maps (time_ranges (number_ranges source.params) (pieces source maps)) p (pieces source maps) rows
+    → HoldTimes source maps (ends_of source maps rows) p
+
+-- Where one statement alone can have instances, its rows hold at each turn of the loops.
+abbrev pub TurnsMeetRows : Type 0
+TurnsMeetRows = (source : Program) (maps : List TimeMap) (e : Piece) (sides : List Sides) (ranges : List (ℤ × ℤ)) (p components : List ℤ)
+    → pieces source maps ≡ e ∷ [] → length p ≡ numbers_in source.params → AreSidesFrom (length p) ranges sides
+    → IsTurn (ends_of source maps (sides ∷ [])) p components → MeetAlong sides p components
 
 -- x is this component of the time of some statement at a point of its box
 abbrev pub IsTime : (params : List (ℤ × ℤ)) → List Piece → (component : ℕ) → (x : ℤ) → Type 0

@@ -1,4 +1,5 @@
 //! The loops of small programs, as laws: `specs/Examples.antt` says each, with values that were found by hand.
+ghost use Rattle.affc_loops.specs.EndExamples.{QuotientsOfRows, EndsOfCopy, CopiesBetweenEnds, EndsOfTriangle, StepsOfTriangle, EndsOfMore};
 ghost use Rattle.affc_loops.specs.Examples.{FormsAsExpressions, CopiesBackwards, KeepsItself, LoopsOfThree, NothingToRun, TiesInOrder};
 
 /// Signs, coefficients and order of a form's terms.
@@ -14,4 +15,14 @@ pub fn programs()
     ensures loops_of_three { LoopsOfThree }
     ensures nothing_to_run { NothingToRun }
     ensures ties_in_order { TiesInOrder }
+{}
+
+/// Ends by rows: quotients, the ends of one statement and of several, and whole runs between them.
+pub fn ends()
+    ensures quotients_of_rows { QuotientsOfRows }
+    ensures ends_of_copy { EndsOfCopy }
+    ensures copies_between_ends { CopiesBetweenEnds }
+    ensures ends_of_triangle { EndsOfTriangle }
+    ensures steps_of_triangle { StepsOfTriangle }
+    ensures ends_of_more { EndsOfMore }
 {}

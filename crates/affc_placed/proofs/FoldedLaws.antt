@@ -9,12 +9,14 @@ use Rattle.affc_ast.specs.Fits.{Fits, whole}
 use Rattle.affc_ast.specs.Meaning.{arrays_of}
 use Rattle.affc_ast.specs.Values.{is_within}
 use Rattle.affc_trace.specs.declared.schedule.Schedule.{Schedule}
+use Rattle.affc_trace.specs.declared.schedule.Schedule.TheVariants.{Time}
 use Rattle.affc_trace.specs.Laws.{IsInContext}
 use Rattle.affc_domain.specs.Arrays.{declared_arrays, extents_at}
 use Rattle.affc_domain.proofs.Lists.{both_true, length_map}
 use Rattle.affc_safe.specs.Safe.{IsSafe}
 use Rattle.affc_safe.proofs.FitsThere.{never_stuck_is_safe}
 use Rattle.affc_safe.proofs.PlainNear.{plain_has_no_locals, plain_never_overflows}
+use Rattle.affc_loops.specs.Between.{program_between}
 use Rattle.affc_loops.specs.Loops.{target_program}
 use Rattle.affc_loops.specs.Laws.{HaveSameLoops}
 use Rattle.affc_loops.proofs.LoopLaws.{same_name, same_params, same_context}
@@ -24,10 +26,10 @@ use Rattle.affc_basis.specs.FoldLists.{IsFoldIn}
 use Rattle.affc_basis.specs.Folds.{place}
 use Rattle.affc_basis.specs.Laws.{HasDimensions, AreFoldsOf}
 use Rattle.affc_basis.proofs.FoldPlaces.{compiles_folded}
-use Rattle.affc_placed.specs.Laws.{FoldedLoopsCompile, RefoldedLoopsCompile}
+use Rattle.affc_placed.specs.Laws.{FoldedLoopsCompile, FoldedBetweenCompile, RefoldedLoopsCompile}
 use Rattle.affc_placed.specs.Placed.{HasFoldedLoops}
 use Rattle.affc_placed.specs.Refolds.{refolded}
-use Rattle.affc_placed.proofs.PlacedLaws.{loops_run_placed}
+use Rattle.affc_placed.proofs.PlacedLaws.{loops_run_placed, between_run_placed}
 use Rattle.affc_placed.proofs.RefoldLemmas.{refolded_keeps_shape}
 use Rattle.affc_placed.proofs.ReplaceLemmas.{fold_in, behind_extents, refolded_replaces}
 
@@ -67,6 +69,15 @@ folded_loops_compile other source schedule folds has r =
     (same_name other schedule ∙ r.name) (same_params other schedule ∙ r.params) (same_context other schedule ∙ r.context)
     has.ends has.legal (folds_proper source schedule folds has) has.obeys
     (λ p store fits. loops_run_placed other source schedule (place folds p) p store has.loops same (Fits.ranges fits) (r.replaces p (record { ranges = Fits.ranges fits; context = Fits.context fits })))
+
+pub folded_between_compile : FoldedBetweenCompile
+folded_between_compile other source n maps ends folds has r times =
+    let same : HaveSameLoops source other = record { same_rounds = r.same_rounds; same_ranges = ap number_ranges r.params } in
+    compiles_folded (program_between other maps ends) source (Time n maps) folds (plain_has_no_locals source (has.loops).plain)
+    r.name r.params r.context has.ends has.legal (folds_proper source (Time n maps) folds has) has.obeys
+    (λ p store fits.
+    let inside : IsInContext source p = record { ranges = Fits.ranges fits; context = Fits.context fits } in
+    between_run_placed other source n maps ends (place folds p) p store has.loops same (Fits.ranges fits) (times p inside) (r.replaces p inside))
 
 pub refolded_loops_compile : RefoldedLoopsCompile
 refolded_loops_compile at temps source schedule folds has by =

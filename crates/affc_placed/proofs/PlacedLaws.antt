@@ -4,6 +4,7 @@ use Rattle.affc_ast.specs.declared.tree.Program.{Program}
 use Rattle.affc_ast.specs.Store.{Element}
 use Rattle.affc_ast.specs.Trace.{trace}
 use Rattle.affc_trace.specs.declared.schedule.Schedule.{Schedule}
+use Rattle.affc_trace.specs.declared.schedule.Schedule.TheVariants.{Time}
 use Rattle.affc_trace.specs.Effects.{effect}
 use Rattle.affc_trace.specs.Law.{Effect, IsIn, placed}
 use Rattle.affc_trace.specs.Orders.{IsReordered}
@@ -12,8 +13,9 @@ use Rattle.affc_trace.proofs.Contents.{target_is_reordered_law}
 use Rattle.affc_trace.proofs.Members.{in_map}
 use Rattle.affc_safe.specs.Safe.{LiesWithin, KeepsWithin}
 use Rattle.affc_loops.proofs.Does.{own_places}
+use Rattle.affc_loops.proofs.BetweenLaws.{between_do_other, between_run_other}
 use Rattle.affc_loops.proofs.LoopLaws.{loops_do_other, loops_run_other}
-use Rattle.affc_placed.specs.Laws.{LoopsDoPlaced, LoopsRunPlaced}
+use Rattle.affc_placed.specs.Laws.{LoopsDoPlaced, LoopsRunPlaced, BetweenDoPlaced, BetweenRunPlaced}
 use Rattle.affc_placed.specs.Placed.{StandsFor, PlacesLieWithin}
 
 map_in_same : {A B : Type 0} (f g : A → B) (xs : List A) → ((x : A) → IsIn x xs → f x ≡ g x) → map f xs ≡ map g xs
@@ -48,4 +50,16 @@ pub loops_run_placed : LoopsRunPlaced
 loops_run_placed other source schedule place p store has same within r = record {
   does = loops_do_placed other source schedule place p has same within r.stands;
   only_unwritten = (loops_run_other source other schedule p store has same (r.stands).bare within r.small r.extents (keeps_within other source place p r.stands r.within)).only_unwritten;
+}
+
+-- ---- between ends
+
+pub between_do_placed : BetweenDoPlaced
+between_do_placed other source n maps ends place p has same within times stands =
+    between_do_other source other n maps ends p has same within times ∙ target_at_places other source (Time n maps) place p stands
+
+pub between_run_placed : BetweenRunPlaced
+between_run_placed other source n maps ends place p store has same within times r = record {
+  does = between_do_placed other source n maps ends place p has same within times r.stands;
+  only_unwritten = (between_run_other source other n maps ends p store has same within times r.small r.extents (keeps_within other source place p r.stands r.within)).only_unwritten;
 }

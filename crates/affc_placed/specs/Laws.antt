@@ -1,5 +1,5 @@
 -- What may be concluded of programs that stand for a source at places, and of folded ones.
-use Rattle.std.specs.Prelude.{◌≡◌, ℤ, pos, ◌≤ℤ◌, ◌<ℤ◌, IsTrue, true, List, length, map, Some}
+use Rattle.std.specs.Prelude.{◌≡◌, ℕ, ℤ, pos, ◌≤ℤ◌, ◌<ℤ◌, IsTrue, true, List, length, map, Some}
 use Rattle.std.specs.Int.{int_rem_euclid}
 use Rattle.affc_rows.specs.Forms.{value}
 use Rattle.affc_ast.specs.declared.tree.ArrayId.{ArrayId}
@@ -13,6 +13,8 @@ use Rattle.affc_ast.specs.Store.{Element, Store}
 use Rattle.affc_ast.specs.Trace.{Assignment, trace}
 use Rattle.affc_ast.specs.Values.{is_within}
 use Rattle.affc_trace.specs.declared.schedule.Schedule.{Schedule}
+use Rattle.affc_trace.specs.declared.schedule.Schedule.TheVariants.{Time}
+use Rattle.affc_trace.specs.declared.schedule.TimeMap.{TimeMap}
 use Rattle.affc_trace.specs.Effects.{effect, effect_by, effects, has_no_locals}
 use Rattle.affc_trace.specs.Law.{IsIn, at_place, placed}
 use Rattle.affc_trace.specs.Laws.{IsInContext, RunsTarget, in_target_order}
@@ -20,6 +22,7 @@ use Rattle.affc_trace.specs.Target.{numbers_in, target}
 use Rattle.affc_domain.specs.Accesses.{Access, accesses_of}
 use Rattle.affc_safe.specs.Overflow.{IsReadable, keeps_near, NeverOverflows}
 use Rattle.affc_safe.specs.Safe.{IsSafe}
+use Rattle.affc_loops.specs.Between.{program_between, HoldTimes}
 use Rattle.affc_loops.specs.Laws.{HasLoops, HaveSameLoops}
 use Rattle.affc_loops.specs.Loops.{target_program}
 use Rattle.affc_basis.specs.declared.fold.Fold.{Fold}
@@ -89,6 +92,25 @@ abbrev pub RefoldedLoopsCompile : Type 0
 RefoldedLoopsCompile = (at : Subscripts) (temps : List Decl) (source : Program) (schedule : Schedule) (folds : List (ArrayId × Fold))
     → HasFoldedLoops source schedule folds → ((p : List ℤ) → IsInContext source p → FoldsBy at temps source folds p)
     → Compiles (target_program (refolded at temps source) schedule) source (in_target_order schedule) (place folds)
+
+-- ---- Loops between any ends that hold the times
+
+-- The same of them, for a schedule by times.
+abbrev pub BetweenDoPlaced : Type 0
+BetweenDoPlaced = (other source : Program) (length_of_time : ℕ) (maps : List TimeMap) (ends : List (Ix × Ix)) (place : Element → Element) (p : List ℤ)
+    → HasLoops source (Time length_of_time maps) → HaveSameLoops source other → IsTrue (within_ranges source.params p) → HoldTimes source maps ends p → StandsFor other source place p
+    → effects (program_between other maps ends) p ≡ map (placed place (effect source p)) (target source (Time length_of_time maps) p)
+
+abbrev pub BetweenRunPlaced : Type 0
+BetweenRunPlaced = (other source : Program) (length_of_time : ℕ) (maps : List TimeMap) (ends : List (Ix × Ix)) (place : Element → Element) (p : List ℤ) (store : Store)
+    → HasLoops source (Time length_of_time maps) → HaveSameLoops source other → IsTrue (within_ranges source.params p) → HoldTimes source maps ends p → Replaces other source place p
+    → RunsTarget (program_between other maps ends) source (Time length_of_time maps) place p store
+
+abbrev pub FoldedBetweenCompile : Type 0
+FoldedBetweenCompile = (other source : Program) (length_of_time : ℕ) (maps : List TimeMap) (ends : List (Ix × Ix)) (folds : List (ArrayId × Fold))
+    → HasFoldedLoops source (Time length_of_time maps) folds → ReplacesFolded other source folds
+    → ((p : List ℤ) → IsInContext source p → HoldTimes source maps ends p)
+    → Compiles (program_between other maps ends) source (in_target_order (Time length_of_time maps)) (place folds)
 
 -- ---- Remainders
 

@@ -1,6 +1,6 @@
 //! What may be concluded of programs that stand for a source at places. Each law is the contract of a function that does
 //! nothing.
-ghost use Rattle.affc_placed.specs.Laws.{RefoldedKeepsShape, RefoldedEffect, RefoldedStands, RefoldedReplaces, LoopsDoPlaced, LoopsRunPlaced, FoldedLoopsCompile, RefoldedLoopsCompile, RemainderIsRead, PlaceLiesWithin};
+ghost use Rattle.affc_placed.specs.Laws.{RefoldedKeepsShape, RefoldedEffect, RefoldedStands, RefoldedReplaces, LoopsDoPlaced, LoopsRunPlaced, FoldedLoopsCompile, RefoldedLoopsCompile, BetweenDoPlaced, BetweenRunPlaced, FoldedBetweenCompile, RemainderIsRead, PlaceLiesWithin};
 
 /// A program with other subscripts and temporaries has the instances and loops that it had.
 pub fn refolded_keeps_shape()
@@ -40,6 +40,21 @@ pub fn folded_loops_compile()
 /// So do those of the source with the subscripts and extents of the folds.
 pub fn refolded_loops_compile()
     ensures law { RefoldedLoopsCompile }
+{}
+
+/// Between any ends that hold the times the loops do the target's instances at the places.
+pub fn between_do_placed()
+    ensures law { BetweenDoPlaced }
+{}
+
+/// They are stuck, if at all, for want of a value.
+pub fn between_run_placed()
+    ensures law { BetweenRunPlaced }
+{}
+
+/// With folds that obey they compile the source.
+pub fn folded_between_compile()
+    ensures law { FoldedBetweenCompile }
 {}
 
 /// A remainder is read, and is below its divisor.
