@@ -1,17 +1,19 @@
 -- Whole numbers between the ends extend to time points, at which the ends hold.
-use Rattle.std.proofs.Common.{◌≡◌, ℕ, suc, ◌+◌, List, [], ◌∷◌, ◌++◌, length, map, take, ℤ, pos, ◌≤ℤ◌, refl, sym, ap, subst, ◌∙◌, append_assoc}
+use Rattle.std.proofs.Common.{◌≡◌, ℕ, suc, ◌+◌, List, [], ◌∷◌, ◌++◌, length, map, take, ℤ, pos, ◌≤ℤ◌, refl, sym, ap, subst, ◌∙◌, append_assoc, arith}
+use Rattle.std.proofs.lemmas.List.{take-append-le, take_all}
 use Rattle.std.proofs.lemmas.List.Elements.{All-nil, All-cons, All-append, All-weaker}
 use Rattle.affc_rows.specs.Forms.{Affine, HaveColumns}
 use Rattle.affc_rows.proofs.ValueLemmas.{length-composed}
 use Rattle.affc_farkas.specs.Rational.{scaled_value}
 use Rattle.affc_project.specs.Projections.{ExtendsWhole}
-use Rattle.affc_system.specs.Systems.{Rows}
+use Rattle.affc_system.specs.Systems.{Rows, Meets}
 use Rattle.affc_domain.proofs.FormLemmas.{unit_width}
 use Rattle.affc_nest.specs.Domains.{gap_row, column_form, domain_rows}
-use Rattle.affc_ends.specs.TimeSets.{Timed}
+use Rattle.affc_ends.specs.TimeSets.{Timed, IsShaped, IsTimePoint}
 use Rattle.affc_ends.specs.TimeRows.{images, with_images, component_rows, system_of}
 use Rattle.affc_ends.specs.Ends.{AreEndsFrom, LieBetween, IsProjectedRow}
-use Rattle.affc_ends.specs.Laws.{RowsAreExact, EndsHold, TurnsExtend}
+use Rattle.affc_ends.specs.Laws.{RowsAreExact, EndsHold, TurnsExtend, WholePointsLieBetween}
+use Rattle.affc_ends.proofs.Instances.{whole_value}
 use Rattle.affc_ends.proofs.Exact.{exact}
 use Rattle.affc_ends.proofs.Projected.{row_holds}
 use Rattle.affc_ends.proofs.Turns.{pushed}
@@ -87,3 +89,25 @@ turns_extend s ends p ts shaped l a e b =
       is_time_point = (exact s end.point.x end.point.d shaped end.point.width end.point.divisor).0 end.point.meets;
       begins = end.begins;
     }
+
+-- ---- Whole time points
+
+module _ (s : Timed) (x : List ℤ) (shaped : IsShaped s) (point : IsTimePoint s x (pos 1)) where
+  lie_between : (ends : List (List Affine × List Affine)) (before ts : List ℤ) (column : ℕ) → x ≡ before ++ ts → length before ≡ column → length ts ≡ length ends → AreEndsFrom (system_of s) column ends → LieBetween ends before ts
+  lie_between ends before [] column is at l a = tt
+  lie_between [] before (t ∷ ts) column is at l a = absurd (omega arith)
+  lie_between (e ∷ ends) before (t ∷ ts) column is at l a =
+      let more : length (before ++ t ∷ []) ≡ suc column = pushed before t ∙ ap suc at in
+      let all : x ≡ (before ++ t ∷ []) ++ ts = is ∙ sym (append_assoc before (t ∷ []) ts) in
+      let first : take (suc column) x ≡ before ++ t ∷ [] =
+      ap (take (suc column)) all ∙ take-append-le (suc column) (before ++ t ∷ []) ts (omega arith) ∙ take_all (suc column) (before ++ t ∷ []) (omega arith) in
+      let hold = ends_hold s column e.0 e.1 x (pos 1) shaped a.0 point in
+      let meets : (r : Affine) → pos 0 ≤ℤ scaled_value r (take (suc column) x) (pos 1) → Meets (before ++ t ∷ []) r =
+      λ r h. subst (λ z. pos 0 ≤ℤ z) (ap (λ ys. scaled_value r ys (pos 1)) first ∙ whole_value r (before ++ t ∷ [])) h in (
+        All-weaker (λ r. pos 0 ≤ℤ scaled_value r (take (suc column) x) (pos 1)) (Meets (before ++ t ∷ [])) meets e.0 hold.0,
+        All-weaker (λ r. pos 0 ≤ℤ scaled_value r (take (suc column) x) (pos 1)) (Meets (before ++ t ∷ [])) meets e.1 hold.1,
+        lie_between ends (before ++ t ∷ []) ts (suc column) all more (omega arith) a.1,
+      )
+
+pub whole_points_lie_between : WholePointsLieBetween
+whole_points_lie_between s ends p ts shaped l a point = lie_between s (p ++ ts) shaped point ends p ts (length p) refl refl l a

@@ -56,6 +56,11 @@ abbrev pub TurnsExtend : Type 0
 TurnsExtend = (s : Timed) (ends : List (List Affine × List Affine)) (p ts : List ℤ) → IsShaped s → length p ≡ length s.params
     → AreEndsFrom (system_of s) (length p) ends → ExtendsToTimePoint s p → LieBetween ends p ts → ExtendsToTimePoint s (p ++ ts)
 
+-- The components of each whole time point lie between the ends.
+abbrev pub WholePointsLieBetween : Type 0
+WholePointsLieBetween = (s : Timed) (ends : List (List Affine × List Affine)) (p ts : List ℤ) → IsShaped s → length ts ≡ length ends
+    → AreEndsFrom (system_of s) (length p) ends → IsTimePoint s (p ++ ts) (pos 1) → LieBetween ends p ts
+
 -- Where none is loose, they are the ends of one column after the other.
 abbrev pub BoundsAreEnds : Type 0
 BoundsAreEnds = (system : Rows) (column : ℕ) (ranges : List (ℤ × ℤ)) (bounds : List Bounds) (ends : List (List Affine × List Affine)) → AreBoundsFrom system column ranges bounds → AreBetween bounds ends → AreEndsFrom system column ends

@@ -1,5 +1,5 @@
 //! What follows from the definitions. Each law is the contract of a function that does nothing.
-ghost use Rattle.affc_ends.specs.Laws.{RowsAreExact, ProgramsAreShaped, EntriesAreTimed, InstancesAreTimePoints, EndsHold, TurnsExtend, BoundsAreEnds};
+ghost use Rattle.affc_ends.specs.Laws.{RowsAreExact, ProgramsAreShaped, EntriesAreTimed, InstancesAreTimePoints, EndsHold, TurnsExtend, WholePointsLieBetween, BoundsAreEnds};
 
 /// The rational points of a statement's system are its time points.
 pub fn time_rows_are_exact()
@@ -29,6 +29,11 @@ pub fn bounds_hold()
 /// Each turn between the ends extends to a time point, where the parameters do.
 pub fn turns_extend()
     ensures law { TurnsExtend }
+{}
+
+/// The components of each whole time point lie between the ends.
+pub fn whole_points_lie_between()
+    ensures law { WholePointsLieBetween }
 {}
 
 /// Where none is loose, they are the ends of one column after the other.
