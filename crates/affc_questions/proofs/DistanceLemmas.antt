@@ -1,5 +1,5 @@
 -- Distances along a row, as the code makes them.
-use Rattle.std.proofs.Common.{◌≡◌, ℕ, suc, ◌+◌, ◌*◌, ◌^◌, ◌≤◌, ℤ, pos, negsuc, ◌+ℤ◌, List, [], ◌∷◌, ◌++◌, length, take, refl, sym, ap, ap₂, subst, ◌∙◌, inl, inr, arith}
+use Rattle.std.proofs.Common.{◌≡◌, ℕ, suc, ◌+◌, ◌*◌, ◌^◌, ◌≤◌, ℤ, pos, negsuc, ◌+ℤ◌, List, [], ◌∷◌, ◌++◌, length, refl, sym, ap, subst, ◌∙◌, inl, inr, arith}
 use Rattle.std.specs.Prelude.{unsigned_abs}
 use Rattle.std.specs.List.{All}
 use Rattle.std.proofs.lemmas.List.Elements.{All-nil, All-cons, All-head, All-tail, All-append}
@@ -12,8 +12,7 @@ use Rattle.affc_ast.specs.declared.tree.Rel.TheVariants.{Equal}
 use Rattle.affc_trace.specs.Law.{IsIn}
 use Rattle.affc_basis.specs.Bases.{AreWithin}
 use Rattle.affc_basis.specs.Moduli.{IsModulus}
-use Rattle.affc_trace.proofs.EndedReads.{append_assoc}
-use Rattle.affc_nest.specs.Domains.{gap_row, compare_rows, number_form, box_rows, with_rows}
+use Rattle.affc_nest.specs.Domains.{gap_row, compare_rows, number_form, box_rows}
 use Rattle.affc_nest.specs.Asked.{IsNest}
 use Rattle.affc_nest.specs.declared.nest.Nest.{Nest}
 use Rattle.affc_nest.proofs.QuestionProofs.{nest_near}
@@ -21,7 +20,7 @@ use Rattle.affc_order.specs.Posed.{form_at}
 use Rattle.affc_life.specs.Asked.{IsLight}
 use Rattle.affc_life.specs.Composed.{AreImages}
 use Rattle.affc_life.proofs.LightLemmas.{all_of}
-use Rattle.affc_conflicts.specs.Questions.{differences, distance, agree_rows, over_columns, distance_question, distance_questions}
+use Rattle.affc_conflicts.specs.Questions.{differences, distance, agree_rows, over_columns}
 use Rattle.affc_questions.specs.Asked.{AreElements, IsAlong, IsModulusOver}
 use Rattle.affc_questions.specs.Sizes.{IsBroad, IsMild}
 use Rattle.affc_questions.proofs.ImageLemmas.{IsBelow, composed_below, constant_below, composed_long}
@@ -170,22 +169,6 @@ module _ (rows : List Affine) (row modulus : Affine) (s : PairSystem) (along : I
       over (r ∷ rs) h g =
           All-cons (λ r. AreElements s.system.columns r s.x.items s.y.items) r rs (elements_of r (All-head (λ r. length r.coefs ≡ length rows) r rs h) (All-head (λ r. AreWithin 256 r.coefs) r rs g))
           (over rs (All-tail (λ r. length r.coefs ≡ length rows) r rs h) (All-tail (λ r. AreWithin 256 r.coefs) r rs g))
-
-  -- the two questions, by the rows behind the system's
-  pub questions_made : (k : ℕ) (xs ys first : List Affine) (agree one two : List Affine) → xs ≡ s.x.items → ys ≡ s.y.items → first ≡ take k rows → agree ≡ agree_rows s first
-      → one ≡ agree ++ gap_row (over_columns s.system.columns modulus) (distance row xs ys) 0 ∷ [] → two ≡ agree ++ gap_row (over_columns s.system.columns modulus) (distance row ys xs) 0 ∷ []
-      → distance_questions rows k row modulus (s ∷ []) ≡ with_rows s.system one ∷ with_rows s.system two ∷ []
-  questions_made k xs ys first agree one two x y f a o t =
-      ap₂ (λ p q. p ∷ q ∷ []) (question_made s.x.items s.y.items one (o ∙ ap₂ (λ us vs. agree ++ gap_row (over_columns s.system.columns modulus) (distance row us vs) 0 ∷ []) x y))
-      (question_made s.y.items s.x.items two (t ∙ ap₂ (λ us vs. agree ++ gap_row (over_columns s.system.columns modulus) (distance row us vs) 0 ∷ []) y x))
-    where
-      agree_is : agree ≡ agree_rows s (take k rows)
-      agree_is = a ∙ ap (agree_rows s) f
-
-      question_made : (us vs more : List Affine) → more ≡ agree ++ gap_row (over_columns s.system.columns modulus) (distance row us vs) 0 ∷ [] → distance_question rows k row modulus s us vs ≡ with_rows s.system more
-      question_made us vs more e =
-          let last : List Affine = gap_row (over_columns s.system.columns modulus) (distance row us vs) 0 ∷ [] in
-          ap (λ (zs : List Affine). record { columns = s.system.columns; rows = zs }) (append_assoc s.system.rows (agree_rows s (take k rows)) last ∙ ap (λ zs. s.system.rows ++ zs) (sym (e ∙ ap (λ zs. zs ++ last) agree_is)))
 
 -- ---- What is shown keeps the limits of rows
 

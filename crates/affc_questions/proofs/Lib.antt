@@ -7,3 +7,4 @@ pub mod LeafLemmas
 pub mod TightLemmas
 pub mod PosedLemmas
 pub mod PassLemmas
+pub mod TurnedLemmas

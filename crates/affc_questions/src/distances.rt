@@ -15,7 +15,7 @@ use crate::long::Long;
 use crate::rows::{add_equal, add_gap, minus, number};
 use affc_order::columns::spread;
 use affc_quast::rows::{add_copies, copied};
-use affc_rows::Form;
+use affc_rows::{Form, FormFault};
 use affc_system::PairSystem;
 use affc_system::system::value_at;
 use sqlite_items::Items;
@@ -148,24 +148,41 @@ fn less_one(alloc: Global, columns: u32, modulus: &Form) -> Result<Form, AllocEr
     Ok(made)
 }
 
-/// Adds the row that x lies behind y by at least the modulus.
-fn add_distance(
+/// The row `- apart - most`.
+#[tactic(auto, using(crate::proofs::TurnedLemmas::turned_narrow))]
+fn turned(alloc: Global, columns: u32, apart: &Form, most: &Form) -> Result<Form, AllocError>
+    requires first { IsBroad columns apart.now }
+    requires second { IsBroad columns most.now }
+    ensures { IfOk result (λ f. f ≡ mixed_form (negsuc 0) apart.now (negsuc 0) most.now) }
+{
+    match apart.scale_add(alloc, -1, most, -1) {
+        Ok(form) => Ok(form),
+        Err(FormFault::Range) => unreachable!(),
+        Err(FormFault::Memory) => Err(AllocError),
+    }
+}
+
+/// Adds the row that x lies behind y by at least the modulus to the first rows, and that y lies behind x to the second ones.
+fn add_distances(
     alloc: Global,
     row: &Form,
     modulus: &Form,
     pair: &PairSystem,
-    xs: &[Form],
-    ys: &[Form],
-    out: &mut Items<Form>,
+    first: &mut Items<Form>,
+    second: &mut Items<Form>,
 ) -> Result<(), AllocError>
-    requires elements { AreElements pair.now.system.columns row.now xs.now ys.now }
+    requires straight { AreElements pair.now.system.columns row.now pair.now.x.items pair.now.y.items }
+    requires turned { AreElements pair.now.system.columns row.now pair.now.y.items pair.now.x.items }
     requires modulus { IsModulusOver pair.now.system.columns modulus.now }
-    ensures { OnOk result (out.new ≡ out.old ++ gap_row (over_columns pair.now.system.columns modulus.now) (distance row.now xs.now ys.now) 0 ∷ []) }
+    ensures first { OnOk result (first.new ≡ first.old ++ gap_row (over_columns pair.now.system.columns modulus.now) (distance row.now pair.now.x.items pair.now.y.items) 0 ∷ []) }
+    ensures second { OnOk result (second.new ≡ second.old ++ gap_row (over_columns pair.now.system.columns modulus.now) (distance row.now pair.now.y.items pair.now.x.items) 0 ∷ []) }
 {
     let columns = pair.system.columns();
     let most = over_columns(alloc, columns, modulus)?;
-    let apart = distance(alloc, columns, row, xs, ys)?;
-    add_gap(alloc, columns, &most, &apart, 0, out)
+    let apart = distance(alloc, columns, row, pair.x.as_slice(), pair.y.as_slice())?;
+    add_gap(alloc, columns, &most, &apart, 0, first)?;
+    let row = turned(alloc, columns, &apart, &most)?;
+    second.push(row)
 }
 
 /// The rows that the two questions of a clash system have behind the system's: whether, in the slice of the first k rows, the
@@ -181,12 +198,10 @@ pub fn distance_rows(
     requires { IsAlong rows.now row.now modulus.now pair.now }
     ensures { IfOk result (λ more. distance_questions rows.now k row.now modulus.now (pair.now ∷ []) ≡ with_rows pair.now.system more.0 ∷ with_rows pair.now.system more.1 ∷ []) }
 {
-    let (xs, ys) = (pair.x.as_slice(), pair.y.as_slice());
     let mut second = Items::new(alloc);
     add_agree(alloc, pair, first_rows(rows, k), &mut second)?;
     let mut first = copied(alloc, second.as_slice())?;
-    add_distance(alloc, row, modulus, pair, xs, ys, &mut first)?;
-    add_distance(alloc, row, modulus, pair, ys, xs, &mut second)?;
+    add_distances(alloc, row, modulus, pair, &mut first, &mut second)?;
     Ok((first, second))
 }
 
