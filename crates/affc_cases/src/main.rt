@@ -43,6 +43,28 @@ fn go_on<F: Folder>(
     Ok(case.told.is_empty())
 }
 
+// Whether the line says what to do. Others are pieces of the text that such a line has, are empty or are left out.
+fn is_head(line: &str) -> bool {
+    !line.is_empty() && !line.starts_with('#') && !is_piece(line)
+}
+
+// The pieces between a line that says what to do and the next such line.
+fn pieces_behind<'a>(
+    alloc: Global,
+    lines: &[&'a str],
+    head: usize,
+) -> Result<Vec<&'a str>, AllocError> {
+    let mut pieces = Vec::new(alloc);
+    for line in lines.iter().skip(head.saturating_add(1)) {
+        if is_piece(line) {
+            pieces.push(*line)?;
+        } else if is_head(line) {
+            break;
+        }
+    }
+    Ok(pieces)
+}
+
 // Tries the lines of a row with a word.
 fn try_lines<F: Folder>(
     alloc: Global,
@@ -50,23 +72,15 @@ fn try_lines<F: Folder>(
     case: &mut Case,
     data: &mut F,
 ) -> Result<(), AllocError> {
-    let mut head = "";
-    let mut pieces = Vec::new(alloc);
-    for line in lines {
-        if is_piece(line) {
-            pieces.push(*line)?;
-        } else if !line.is_empty() && !line.starts_with('#') {
-            if !head.is_empty() && !go_on(alloc, case, head, pieces.as_slice(), data)? {
+    for (number, line) in lines.iter().enumerate() {
+        if is_head(line) {
+            let pieces = pieces_behind(alloc, lines, number)?;
+            if !go_on(alloc, case, line, pieces.as_slice(), data)? {
                 return Ok(());
             }
-            head = line;
-            pieces.clear();
         }
     }
-    if head.is_empty() || go_on(alloc, case, head, pieces.as_slice(), data)? {
-        case.settle(alloc)?;
-    }
-    Ok(())
+    case.settle(alloc)
 }
 
 // Adds the words that a part of a line stands for: `0..9` for the numbers from 0 to 9.
@@ -139,6 +153,31 @@ fn print_row<F: Folder>(
     println!(rt; "{name}:{told}")
 }
 
+// The lines between one that begins a row and the next such line.
+fn row_behind<'a>(
+    alloc: Global,
+    lines: &[&'a str],
+    first: usize,
+) -> Result<Vec<&'a str>, AllocError> {
+    let mut row = Vec::new(alloc);
+    for line in lines.iter().skip(first.saturating_add(1)) {
+        if line.starts_with("row ") {
+            break;
+        }
+        row.push(*line)?;
+    }
+    Ok(row)
+}
+
+// The lines of a text.
+fn lines_of<'a>(alloc: Global, text: &'a str) -> Result<Vec<&'a str>, AllocError> {
+    let mut lines = Vec::new(alloc);
+    for line in text.split('\n') {
+        lines.push(line)?;
+    }
+    Ok(lines)
+}
+
 // Tries the rows of a text. What stands before the first belongs to none.
 fn try_rows<F: Folder>(
     rt: &(impl Print + AllocGlobal),
@@ -146,20 +185,14 @@ fn try_rows<F: Folder>(
     data: &mut F,
     totals: &mut Totals,
 ) -> io::Result<()> {
-    let mut name = "";
-    let mut lines = Vec::new(rt.alloc());
-    for line in text.split('\n') {
-        if let Some(next) = line.strip_prefix("row ") {
-            if !name.is_empty() {
-                print_row(rt, name, lines.as_slice(), data, totals)?;
-            }
-            name = next;
-            lines.clear();
-        } else {
-            lines.push(line)?;
+    let lines = lines_of(rt.alloc(), text)?;
+    for (number, line) in lines.iter().enumerate() {
+        if let Some(name) = line.strip_prefix("row ") {
+            let row = row_behind(rt.alloc(), lines.as_slice(), number)?;
+            print_row(rt, name, row.as_slice(), data, totals)?;
         }
     }
-    print_row(rt, name, lines.as_slice(), data, totals)
+    Ok(())
 }
 
 // The text of a file of rows.
