@@ -3,5 +3,5 @@ use Rattle.affc_certify.proofs.DraftLemmas.{no_folds}
 use Rattle.affc_certify.proofs.drafting.items_before.Goals as goal
 
 -- src/drafting.rt:55:11
-pub list_all-requires-clause-certificate : goal.list_all-requires-clause-certificate
-list_all-requires-clause-certificate c = no_folds c.args.nest.now (trees_of c.args.flow.now) _ c.requires.trees c.in_ok-copied_flow.ensures c.new-2.ensures
+pub all_items-requires-clause-certificate : goal.all_items-requires-clause-certificate
+all_items-requires-clause-certificate c = no_folds c.args.nest.now (trees_of c.args.flow.now) _ c.requires.trees c.in_ok-copied_flow.ensures c.new-2.ensures
