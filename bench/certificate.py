@@ -3,7 +3,7 @@
 
     python3 certificate.py SOURCE SCHEDULE CERTIFICATE [--items]
 
-Written from docs/FORMATS.md alone: it shares nothing with affc, and searches for nothing. SCHEDULE may be `-`, the order of
+It follows docs/FORMATS.md, shares no code with affc, and searches for nothing. SCHEDULE may be `-`, the order of
 the source. `--items` also prints how many items of each kind there are. Sources are what `sources.py` reads.
 """
 import json
