@@ -1,5 +1,5 @@
 -- What a compilation's answers say of a source and of its runs.
-use Rattle.std.specs.Prelude.{◌≡◌, ◌≢◌, ◌≤◌, ◌↔◌, ◌⊎◌, ℕ, ℤ, false, IsTrue, List, length, Option, Some, None, slice_get}
+use Rattle.std.specs.Prelude.{◌≡◌, ◌≢◌, ◌≤◌, ◌⊎◌, ℕ, ℤ, false, IsTrue, List, [], ◌∷◌, length, Option, Some, None, slice_get}
 use Rattle.affc_ast.specs.declared.tree.ArrayId.{ArrayId}
 use Rattle.affc_ast.specs.declared.tree.Instance.{Instance}
 use Rattle.affc_ast.specs.declared.tree.Program.{Program}
@@ -10,12 +10,17 @@ use Rattle.affc_ast.specs.Meaning.{State, Ended, meaning}
 use Rattle.affc_ast.specs.Store.{Store}
 use Rattle.affc_grammar.specs.Reads.{Reads}
 use Rattle.affc_cprint.specs.Layout.{printed_text}
+use Rattle.affc_trace.specs.declared.schedule.Schedule.TheVariants.{Time}
+use Rattle.affc_trace.specs.declared.schedule.TimeMap.{TimeMap}
 use Rattle.affc_trace.specs.Effects.{has_no_locals}
 use Rattle.affc_trace.specs.Laws.{IsInContext}
 use Rattle.affc_domain.specs.Ranges.{first_wide}
 use Rattle.affc_split.specs.Budgets.{Account}
 use Rattle.affc_nest.specs.Laws.{NamesArrays}
-use Rattle.affc_loops.specs.Loops.{target_program}
+use Rattle.affc_loops.specs.Loops.{Piece, pieces}
+use Rattle.affc_scanned.specs.declared.scanned.Scanned.{Scanned}
+use Rattle.affc_scanned.specs.Laws.{RunsTightly}
+use Rattle.affc_scanned.specs.Scanned.{Scans}
 use Rattle.affc_basis.specs.declared.fold.Fold.{Fold}
 use Rattle.affc_basis.specs.Folds.{fold_of}
 use Rattle.affc_rewrite.specs.Rewrite.{folded_program}
@@ -67,12 +72,19 @@ abbrev pub NamedIsWritten : Type 0
 NamedIsWritten = (text : List ℕ) (program : Program) (trees : List Tree)
     → Reads text program → program.prelude ≡ false → StaysWithin program → NameThroughout program trees → WrittenThroughout program
 
--- So what is printed of the loops of a legal schedule, with folds of the program under it, compiles the text.
+-- So what is printed of the scanned loops of a legal schedule, with folds of the program under it, compiles the text.
 abbrev pub PrintedCompiles : (Answers : List ℕ → ℕ → Type 0) → Type 0
-PrintedCompiles Answers = (text : List ℕ) (schedule : Option (List ℕ)) (program : Program) (plan : Plan) (budget : Account) (folds : List (ArrayId × Fold)) (choices : List (ArrayId × Choice))
+PrintedCompiles Answers = (text : List ℕ) (schedule : Option (List ℕ)) (program : Program) (plan : Plan) (budget : Account) (folds : List (ArrayId × Fold)) (choices : List (ArrayId × Choice)) (s : Scanned)
     → Reads text program → program.prelude ≡ false → StaysWithin program → WrittenThroughout program
     → HasPlan program schedule plan → LegalThroughout program plan.schedule → AreFoldsUnder Answers program plan.schedule plan.folds budget folds choices
-    → FoldsTo Answers text schedule budget (printed_text (target_program (folded_program program folds) plan.schedule)) (report_text program folds choices)
+    → Scans (folded_program program folds) plan.schedule s → FoldsTo Answers text schedule budget (printed_text s.program) (report_text program folds choices s.loose.items)
+
+-- Where one statement alone can have instances under a schedule by times, and no component is loose, each turn of the printed loops extends to a
+-- point of its time set.
+abbrev pub TextsRunTightly : (Answers : List ℕ → ℕ → Type 0) → Type 0
+TextsRunTightly Answers = (text : List ℕ) (schedule : Option (List ℕ)) (budget : Account) (folded report : List ℕ) (r : FoldsTo Answers text schedule budget folded report)
+    → (length_of_time : ℕ) (maps : List TimeMap) (e : Piece) → r.plan.schedule ≡ Time length_of_time maps → pieces r.compiles.source maps ≡ e ∷ [] → r.scanned.loose.items ≡ []
+    → RunsTightly r.compiles.source (folded_program r.compiles.source r.folds) maps e r.compiles.target
 
 -- Without a limit on what is spent, or with one of at least the threshold, each temporary has a fold, no modulus is a bound alone, and no
 -- price of a basis is missing.
@@ -132,10 +144,14 @@ pub record IsFoldable (text : List ℕ) (schedule : Option (List ℕ)) : Type 0 
   pub planned : HasPlan program schedule plan
   pub legal : LegalThroughout program plan.schedule
 
--- Exactly such a text has one that it is folded to, whatever is left of a budget.
+-- Such a text, where its schedule is scanned, has one that it is folded to, whatever is left of a budget.
 abbrev pub FoldableIsFolded : (Answers : List ℕ → ℕ → Type 0) → Type 0
-FoldableIsFolded Answers = (text : List ℕ) (schedule : Option (List ℕ))
-    → IsFoldable text schedule ↔ ((budget : Account) × ((folded : List ℕ) × ((report : List ℕ) × FoldsTo Answers text schedule budget folded report)))
+FoldableIsFolded Answers = (text : List ℕ) (schedule : Option (List ℕ)) (f : IsFoldable text schedule) (s : Scanned) → Scans f.program f.plan.schedule s
+    → (budget : Account) × ((folded : List ℕ) × ((report : List ℕ) × FoldsTo Answers text schedule budget folded report))
+
+-- And only such a text.
+abbrev pub FoldedIsFoldable : (Answers : List ℕ → ℕ → Type 0) → Type 0
+FoldedIsFoldable Answers = (text : List ℕ) (schedule : Option (List ℕ)) (budget : Account) (folded report : List ℕ) → FoldsTo Answers text schedule budget folded report → IsFoldable text schedule
 
 -- It is refused, if at all, for want of budget or of memory.
 abbrev pub FoldableIsNotRefused : Type 0

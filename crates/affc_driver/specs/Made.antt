@@ -6,7 +6,8 @@ use Rattle.affc_split.specs.Budgets.{Account}
 use Rattle.affc_basis.specs.declared.fold.Fold.{Fold}
 use Rattle.affc_weigh.specs.declared.choice.Choice.{Choice}
 use Rattle.affc_rewrite.specs.Rewrite.{folded_program}
-use Rattle.affc_loops.specs.Loops.{target_program}
+use Rattle.affc_scanned.specs.declared.scanned.Scanned.{Scanned}
+use Rattle.affc_scanned.specs.Scanned.{Scans}
 use Rattle.affc_nest.specs.Nests.{nest_of}
 use Rattle.affc_cprint.specs.Layout.{printed_text}
 use Rattle.affc_schedtext.specs.declared.plan.Plan.{Plan}
@@ -28,8 +29,10 @@ pub record AreDecided (Answers : List ℕ → ℕ → Type 0) (program : Program
 
 -- text and report of the program with these folds
 pub record IsMadeOf (program : Program) (plan : Plan) (folds : List (ArrayId × Fold)) (choices : List (ArrayId × Choice)) (text report : List ℕ) : Type 0 where
-  pub printed : text ≡ printed_text (target_program (folded_program program folds) plan.schedule)
-  pub told : report ≡ report_text program folds choices
+  pub scanned : Scanned
+  pub scans : Scans (folded_program program folds) plan.schedule scanned
+  pub printed : text ≡ printed_text scanned.program
+  pub told : report ≡ report_text program folds choices scanned.loose.items
 
 -- The program keeps to its arrays, and this is made of it with folds that are decided by its plan; they have a certificate where
 -- one is wanted.

@@ -1,15 +1,24 @@
 -- A program with folds is scanned, and printed, as its source is.
-use Rattle.std.specs.Prelude.{◌≡◌, ℕ, false, List}
+use Rattle.std.specs.Prelude.{◌≡◌, ℕ, false, List, [], ◌∷◌}
 use Rattle.affc_ast.specs.declared.tree.ArrayId.{ArrayId}
 use Rattle.affc_ast.specs.declared.tree.Program.{Program}
 use Rattle.affc_grammar.specs.Reads.{Reads, WellNamed}
+use Rattle.affc_ast.specs.Compiles.{Compiles}
 use Rattle.affc_trace.specs.declared.schedule.Schedule.{Schedule}
+use Rattle.affc_trace.specs.declared.schedule.Schedule.TheVariants.{Time}
+use Rattle.affc_trace.specs.declared.schedule.TimeMap.{TimeMap}
+use Rattle.affc_trace.specs.Laws.{in_target_order}
 use Rattle.affc_nest.specs.declared.nest.Nest.{Nest}
 use Rattle.affc_nest.specs.Nests.{nest_of}
 use Rattle.affc_loops.specs.Laws.{HasLoops}
-use Rattle.affc_loops.specs.Loops.{target_program}
+use Rattle.affc_loops.specs.Loops.{Piece, pieces}
+use Rattle.affc_scanned.specs.declared.scanned.Scanned.{Scanned}
+use Rattle.affc_scanned.specs.Laws.{HaveSameTimes, RunsTightly}
+use Rattle.affc_scanned.specs.Scanned.{Scans}
 use Rattle.affc_basis.specs.declared.fold.Fold.{Fold}
 use Rattle.affc_basis.specs.FoldLists.{AreFoldsIn}
+use Rattle.affc_basis.specs.Folds.{place}
+use Rattle.affc_placed.specs.Placed.{HasFoldedLoops}
 use Rattle.affc_scan.specs.Laws.{IsNestFor}
 use Rattle.affc_loopprint.specs.Spare.{IsSpare}
 use Rattle.affc_rewrite.specs.Rewrite.{KeepLimits, folded_program}
@@ -24,8 +33,26 @@ abbrev pub FoldsSpare : Type 0
 FoldsSpare = (text : List ℕ) (source : Program) (folds : List (ArrayId × Fold))
     → Reads text source → source.prelude ≡ false → AreFoldsIn source folds → KeepLimits source folds → IsSpare (folded_program source folds)
 
--- So its loops are well named.
+-- So its loops, as they are scanned, are well named.
 abbrev pub FoldsWellNamed : Type 0
-FoldsWellNamed = (text : List ℕ) (source : Program) (schedule : Schedule) (folds : List (ArrayId × Fold))
+FoldsWellNamed = (text : List ℕ) (source : Program) (schedule : Schedule) (folds : List (ArrayId × Fold)) (s : Scanned)
     → Reads text source → source.prelude ≡ false → HasLoops source schedule → AreFoldsIn source folds → KeepLimits source folds
-    → WellNamed (target_program (folded_program source folds) schedule)
+    → Scans (folded_program source folds) schedule s → WellNamed s.program
+
+-- ---- What they do
+
+-- The folded program has the source's loops, conditions and context.
+abbrev pub FoldsKeepTimes : Type 0
+FoldsKeepTimes = (source : Program) (folds : List (ArrayId × Fold)) → HaveSameTimes source (folded_program source folds)
+
+-- Its loops, as they are scanned, compile the source, under a legal schedule and with folds that obey.
+abbrev pub FoldsCompile : Type 0
+FoldsCompile = (source : Program) (schedule : Schedule) (folds : List (ArrayId × Fold)) (s : Scanned)
+    → HasFoldedLoops source schedule folds → KeepLimits source folds → Scans (folded_program source folds) schedule s
+    → Compiles s.program source (in_target_order schedule) (place folds)
+
+-- Where one statement alone can have instances and no component is loose, each turn extends to a point of its time set.
+abbrev pub FoldsRunTightly : Type 0
+FoldsRunTightly = (source : Program) (length_of_time : ℕ) (maps : List TimeMap) (folds : List (ArrayId × Fold)) (e : Piece) (s : Scanned)
+    → HasLoops source (Time length_of_time maps) → pieces source maps ≡ e ∷ []
+    → Scans (folded_program source folds) (Time length_of_time maps) s → s.loose.items ≡ [] → RunsTightly source (folded_program source folds) maps e s.program

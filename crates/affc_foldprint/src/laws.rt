@@ -1,5 +1,5 @@
 //! What holds of programs with folds. Each law is the contract of a function that does nothing.
-ghost use Rattle.affc_foldprint.specs.Laws.{FoldsAreScanned, FoldsSpare, FoldsWellNamed};
+ghost use Rattle.affc_foldprint.specs.Laws.{FoldsAreScanned, FoldsSpare, FoldsWellNamed, FoldsKeepTimes, FoldsCompile, FoldsRunTightly};
 
 /// The source's nest is one for the folded program.
 pub fn folds_are_scanned()
@@ -14,4 +14,19 @@ pub fn folds_spare()
 /// So the loops of the folded program are well named.
 pub fn folds_well_named()
     ensures law { FoldsWellNamed }
+{}
+
+/// The folded program has the source's loops, conditions and context.
+pub fn folds_keep_times()
+    ensures law { FoldsKeepTimes }
+{}
+
+/// Its loops compile the source, under a legal schedule and with folds that obey.
+pub fn folds_compile()
+    ensures law { FoldsCompile }
+{}
+
+/// Where one statement alone can have instances and no component is loose, each turn extends to a point of its time set.
+pub fn folds_run_tightly()
+    ensures law { FoldsRunTightly }
 {}

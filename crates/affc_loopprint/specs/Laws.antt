@@ -2,19 +2,26 @@
 use Rattle.std.specs.Prelude.{◌≡◌, ℕ, false, List}
 use Rattle.affc_ast.specs.declared.tree.Program.{Program}
 use Rattle.affc_grammar.specs.Reads.{Reads, WellNamed}
-use Rattle.affc_trace.specs.declared.schedule.Schedule.{Schedule}
+use Rattle.affc_trace.specs.declared.schedule.Schedule.TheVariants.{Time}
+use Rattle.affc_trace.specs.declared.schedule.TimeMap.{TimeMap}
+use Rattle.affc_trace.specs.Target.{numbers_in}
+use Rattle.affc_loops.specs.Between.{program_between}
+use Rattle.affc_loops.specs.Ends.{Sides, ends_of}
 use Rattle.affc_loops.specs.Laws.{HasLoops, HaveSameLoops}
-use Rattle.affc_loops.specs.Loops.{target_program}
+use Rattle.affc_loops.specs.Loops.{pieces}
+use Rattle.affc_loopprint.specs.Rows.{ArePrintableOfEach}
 use Rattle.affc_loopprint.specs.Spare.{IsSpare}
 
 -- A program that a text without the prelude reads as has room for loops.
 abbrev pub ReadsSpare : Type 0
 ReadsSpare = (text : List ℕ) (program : Program) → Reads text program → program.prelude ≡ false → IsSpare program
 
--- The loops of a spare program are well named, where the source of its loops is plain and the schedule is the source's.
+-- A spare program is well named.
 abbrev pub SpareWellNamed : Type 0
-SpareWellNamed = (source other : Program) (schedule : Schedule) → HasLoops source schedule → HaveSameLoops source other → IsSpare other → WellNamed (target_program other schedule)
+SpareWellNamed = (program : Program) → IsSpare program → WellNamed program
 
--- The loops of a program that a text without the prelude reads as are well named.
-abbrev pub LoopsWellNamed : Type 0
-LoopsWellNamed = (text : List ℕ) (program : Program) (schedule : Schedule) → Reads text program → program.prelude ≡ false → HasLoops program schedule → WellNamed (target_program program schedule)
+-- So are its loops between the ends of few and small rows, where the source of its loops is plain and the schedule is the source's.
+abbrev pub BetweenWellNamed : Type 0
+BetweenWellNamed = (source other : Program) (length_of_time : ℕ) (maps : List TimeMap) (rows : List (List Sides))
+    → HasLoops source (Time length_of_time maps) → HaveSameLoops source other → IsSpare other
+    → ArePrintableOfEach (numbers_in other.params) length_of_time (pieces other maps) rows → WellNamed (program_between other maps (ends_of other maps rows))

@@ -1,4 +1,5 @@
 pub mod Short
 pub mod Spare
+pub mod Rows
 pub mod Laws
 pub mod Examples

@@ -1,17 +1,17 @@
 //! What is printed of a schedule's loops reads as them. Each law is the contract of a function that does nothing.
-ghost use Rattle.affc_loopprint.specs.Laws.{ReadsSpare, SpareWellNamed, LoopsWellNamed};
+ghost use Rattle.affc_loopprint.specs.Laws.{ReadsSpare, SpareWellNamed, BetweenWellNamed};
 
 /// A program that a text without the prelude reads as has room for loops.
 pub fn reads_spare()
     ensures law { ReadsSpare }
 {}
 
-/// The loops of a program that has room for them are well named.
+/// A program that has room for loops is well named.
 pub fn spare_well_named()
     ensures law { SpareWellNamed }
 {}
 
-/// The loops of a program that reads without the prelude are well named.
-pub fn loops_well_named()
-    ensures law { LoopsWellNamed }
+/// So are its loops between ends by few and small rows.
+pub fn between_well_named()
+    ensures law { BetweenWellNamed }
 {}

@@ -8,7 +8,8 @@ use Rattle.affc_basis.specs.declared.fold.Fold.{Fold}
 use Rattle.affc_basis.specs.Folds.{place}
 use Rattle.affc_nest.specs.Nests.{nest_of}
 use Rattle.affc_rewrite.specs.Rewrite.{folded_program}
-use Rattle.affc_loops.specs.Loops.{target_program}
+use Rattle.affc_scanned.specs.declared.scanned.Scanned.{Scanned}
+use Rattle.affc_scanned.specs.Scanned.{Scans}
 use Rattle.affc_cprint.specs.Layout.{printed_text}
 use Rattle.affc_schedtext.specs.declared.plan.Plan.{Plan}
 use Rattle.affc_bounds.specs.Faults.{StaysWithin}
@@ -19,16 +20,18 @@ use Rattle.affc_replay.specs.Folds.{AreAll, FoldAll}
 
 -- The certificate is one of the source and the plan that the schedule reads as, and the folds are those that it shows, with empty
 -- ones for temporaries without dimensions. The text compiles the source, in the order of the plan's schedule and with each element
--- at its place by these folds. It is the printed text of the schedule's loops with folded subscripts and extents. The source is
+-- at its place by these folds. It is the printed text of the schedule's loops between projected ends, with folded subscripts and extents. The source is
 -- without the prelude and keeps to its arrays at all values of its parameters, of which there are some, and each load of a temporary
 -- is written before; the schedule is legal. The folds keep apart what is live together, and the report shows each with its marks,
--- which are true; of costs it tells nothing.
+-- which are true, and the components that are loose; of costs it tells nothing.
 pub record ReplaysTo (source schedule certificate text report : List ℕ) : Type 0 where
   pub plan : Plan
   pub shown : List (ArrayId × Fold)
   pub folds : List (ArrayId × Fold)
   pub compiles : CompilesText Reads ReadsWide text source (in_target_order plan.schedule) (place folds)
-  pub loops : compiles.target ≡ target_program (folded_program compiles.source folds) plan.schedule
+  pub scanned : Scanned
+  pub scans : Scans (folded_program compiles.source folds) plan.schedule scanned
+  pub loops : compiles.target ≡ scanned.program
   pub printed : text ≡ printed_text compiles.target
   pub plain : compiles.source.prelude ≡ false
   pub within : StaysWithin compiles.source
@@ -38,4 +41,4 @@ pub record ReplaysTo (source schedule certificate text report : List ℕ) : Type
   pub accepted : IsAccepted (nest_of compiles.source) plan certificate shown
   pub are_all : AreAll (nest_of compiles.source) shown folds
   pub fold_all : FoldAll compiles.source plan.schedule folds
-  pub told : report ≡ report_text compiles.source folds []
+  pub told : report ≡ report_text compiles.source folds [] scanned.loose.items

@@ -1,5 +1,5 @@
 -- Folds of temporaries as text: each temporary's name, the rows of its basis, its moduli with what is known of them, and what
--- its fold and the other bases cost.
+-- its fold and the other bases cost. Then the components of times that have no ends, and why.
 use Rattle.std.specs.Prelude.{ℕ, suc, ℤ, nat_eq, if◌then◌else◌, List, [], ◌∷◌, ◌++◌, codes, decimal, Option, Some, None}
 use Rattle.std.specs.Fmt.{signed_decimal}
 use Rattle.std.specs.List.{join_by}
@@ -10,6 +10,9 @@ use Rattle.affc_basis.specs.declared.fold.Mark.TheVariants.{Least, Bound}
 use Rattle.affc_basis.specs.declared.fold.Modulus.{Modulus}
 use Rattle.affc_basis.specs.declared.fold.Fold.{Fold}
 use Rattle.affc_basis.specs.Folds.{fold_of}
+use Rattle.affc_ends.specs.declared.bounds.Why.{Why}
+use Rattle.affc_ends.specs.declared.bounds.Why.TheVariants.{Made, Wide, Large, Nine}
+use Rattle.affc_scanned.specs.declared.scanned.Loose.{Loose}
 use Rattle.affc_weigh.specs.declared.choice.Choice.{Choice}
 use Rattle.affc_weigh.specs.declared.choice.Price.{Price}
 use Rattle.affc_weigh.specs.Choices.{choice_of}
@@ -102,6 +105,24 @@ temporaries_text ps folds choices n [] = []
 temporaries_text ps folds choices n (a ∷ arrays) =
     (if a.is_temporary then temporary_text ps a.name (fold_of folds n) (choice_of choices n) else []) ++ temporaries_text ps folds choices (suc n) arrays
 
--- of each temporary, in order of declaration
-abbrev pub fold_report : Outline → List (ArrayId × Fold) → List (ArrayId × Choice) → List ℕ
-fold_report o folds choices = temporaries_text o.parameters folds choices 0 o.arrays
+-- ---- Components without ends
+
+abbrev pub why_text : Why → List ℕ
+why_text (Made asked made) = codes "made"
+why_text (Wide asked made next) = codes "wide"
+why_text (Large row) = codes "large"
+why_text (Nine rows) = codes "nine"
+
+-- `loose S1 component 0 wide`
+abbrev pub loose_text : Loose → List ℕ
+loose_text l = codes "loose S" ++ decimal l.statement ++ codes " component " ++ decimal l.component ++ codes " " ++ why_text l.why ++ codes "\n"
+
+abbrev pub all_loose_text : List Loose → List ℕ
+all_loose_text [] = []
+all_loose_text (l ∷ ls) = loose_text l ++ all_loose_text ls
+
+-- ---- The report
+
+-- of each temporary, in order of declaration, and then of each component that is loose
+abbrev pub fold_report : Outline → List (ArrayId × Fold) → List (ArrayId × Choice) → List Loose → List ℕ
+fold_report o folds choices loose = temporaries_text o.parameters folds choices 0 o.arrays ++ all_loose_text loose

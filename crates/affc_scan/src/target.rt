@@ -173,23 +173,26 @@ fn statements(
     Ok(made)
 }
 
-/// The program that runs `program` in the order of a schedule: for times, loops over their ranges with a block for each
-/// statement that can have instances; for the source's order, the program itself. The nest is the source's, where `program` is
-/// the source with other subscripts.
+/// The program that runs `program` in the order of a schedule: for times, loops with a block for each statement that can have instances, between
+/// ends that are projected from the statements' time sets; for the source's order, the program itself. The nest is the source's, where
+/// `program` is the source with other subscripts.
 pub fn scan(
     alloc: Global,
     program: &Program,
     nest: &Nest,
     schedule: &Schedule,
-) -> Result<Program, AllocError>
+) -> Result<Scanned, AllocError>
     requires nest { IsNestFor program.now nest.now schedule.now }
-    ensures { IfOk result (λ q. q ≡ specs.target_program program.now schedule.now) }
+    ensures { IfOk result (Scans program.now schedule.now) }
 {
     match schedule {
-        Schedule::Source => program.to_owned(alloc),
-        Schedule::Time { length, maps } => {
-            let body = statements(alloc, program, nest, *length, maps.as_slice())?;
-            with_body(alloc, program, body)
+        Schedule::Source => {
+            let program = program.to_owned(alloc)?;
+            Ok(Scanned {
+                program,
+                loose: Vec::new(alloc),
+            })
         }
+        Schedule::Time { length, maps } => scan_times(alloc, program, nest, *length, maps.as_slice()),
     }
 }
