@@ -1,5 +1,6 @@
 -- Forms, trees and folds as text, each written by hand.
 use Rattle.std.specs.Prelude.{◌≡◌, ℕ, ◌^◌, ℤ, pos, negsuc, Bool, true, false, ◌∷◌, [], codes, List, Option, Some, None, Vec}
+use Rattle.std.specs.declared.alloc.Global.{Global}
 use Rattle.affc_rows.specs.Forms.{Affine}
 use Rattle.affc_system.specs.Systems.{Rows}
 use Rattle.affc_farkas.specs.declared.pair.Pair.{Pair}
