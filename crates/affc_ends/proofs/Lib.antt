@@ -15,3 +15,4 @@ pub mod Remaining
 pub mod Bounded
 pub mod Statements
 pub mod ExampleProofs
+pub mod ForwardProofs

@@ -3,7 +3,7 @@ use Rattle.std.proofs.Common.{◌≡◌, ℕ, suc, ◌+◌, ◌-◌, ◌<◌, �
 use Rattle.std.specs.Prelude.{remove}
 use Rattle.std.specs.List.{All, Contains}
 use Rattle.std.proofs.lemmas.List.Edits.{length-remove}
-use Rattle.std.proofs.lemmas.List.Elements.{All-nil, All-append, All-contains_itself}
+use Rattle.std.proofs.lemmas.List.Elements.{All-append, All-contains_itself}
 use Rattle.affc_rows.specs.Forms.{Affine}
 use Rattle.affc_system.specs.Systems.{Meets}
 use Rattle.affc_farkas.specs.Multiples.{entry_of}
@@ -13,14 +13,6 @@ use Rattle.affc_ends.specs.Steps.{IsAnswer, BoundsEnd, AreFlat, AreLeft, IsEnd}
 use Rattle.affc_ends.proofs.Chosen.{among_all, removed, again, one_more, item_among, modest_printable}
 
 -- ---- Rows that don't look at the column
-
-pub none_flat : (column : ℕ) (ranges : List (ℤ × ℤ)) (rows : List Affine) → AreFlat column ranges rows []
-none_flat column ranges rows = record {
-  few = omega arith;
-  among = All-nil (Contains rows);
-  each = All-nil (λ r. entry_of r column ≡ pos 0);
-  modest = All-nil (IsModest ranges);
-}
 
 pub one_flat : (column : ℕ) (ranges : List (ℤ × ℤ)) (rows flat next : List Affine) (i : ℕ) (r copy : Affine) → AreFlat column ranges rows flat → length flat < 100 → i < length rows → r ≡ get_or rows i r → copy ≡ r
     → entry_of r column ≡ pos 0 → IsModest ranges r → next ≡ flat ++ copy ∷ [] → AreFlat column ranges rows next
@@ -44,13 +36,6 @@ pub implied_left : (columns : ℕ) (rows first others beside : List Affine) (pla
 implied_left columns rows first others beside place row lt e f is h whole l b m =
     again (Meets whole) rows place row lt m
     (subst (Meets whole) is (h whole l (subst (All (Meets whole)) (sym f) (All-append (Meets whole) first beside (subst (All (Meets whole)) (sym e) m) b))))
-
-pub few_asked : (rows first others beside : List Affine) (place : ℕ) → place < length rows → length rows ≤ 8 → length beside ≤ 100 → first ≡ remove rows place → others ≡ first ++ beside → length others ≤ 200
-few_asked rows first others beside place lt few few_beside e f =
-    count (length others) (length first) (length (remove rows place)) (length rows) (length beside) (ap length f ∙ length-append first beside) (ap length e) (length-remove rows place lt) few few_beside
-  where
-    count : (o n r k b : ℕ) → o ≡ n + b → n ≡ r → r + 1 ≡ k → k ≤ 8 → b ≤ 100 → o ≤ 200
-    count o n r k b e f g h i = omega arith
 
 pub printable_asked : (columns : ℕ) (rows first others beside : List Affine) (place : ℕ) (row : Affine) → place < length rows → first ≡ remove rows place → others ≡ first ++ beside → All (IsPrintable columns) rows → All (IsPrintable columns) beside
     → All (IsPrintable columns) others
@@ -114,9 +99,6 @@ module _ (lower : Bool) (columns : ℕ) (ranges : List (ℤ × ℤ)) (rows kept 
 
   pub kept_few : length kept ≤ 8
   kept_few = at_end.few
-
-  pub flat_few : length s ≤ 100
-  flat_few = subst (λ xs. length xs ≤ 100) (sym same) are.few
 
   pub kept_printed : All (IsPrintable columns) kept
   kept_printed = modest_printable columns ranges rows kept widths at_end.among at_end.modest
