@@ -1,6 +1,7 @@
-pub mod TermSteps
+pub mod TestSteps
 pub mod MovedSteps
 pub mod BlockSteps
+pub mod LoopSteps
 pub mod RangeSteps
 pub mod PartSteps
 pub mod ScanSteps

@@ -1,4 +1,3 @@
-pub mod Sums
 pub mod InSight
 pub mod Blocks
 pub mod Pieces
