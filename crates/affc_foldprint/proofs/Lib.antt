@@ -6,3 +6,5 @@ pub mod PassesFolds
 pub mod KnownArrays
 pub mod KnownFolds
 pub mod Spare
+pub mod Printable
+pub mod ScannedFolds

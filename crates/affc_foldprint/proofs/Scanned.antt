@@ -18,7 +18,7 @@ use Rattle.affc_placed.proofs.RefoldLemmas.{refolded_keeps_shape}
 use Rattle.affc_rewrite.specs.Rewrite.{folded_subscripts, folded_temps, folded_program}
 use Rattle.affc_rewrite.specs.Sight.{all_see, value_sees, IsInSight}
 use Rattle.affc_rewrite.proofs.SightLemmas.{folded_in_sight}
-use Rattle.affc_foldprint.specs.Laws.{FoldsAreScanned}
+use Rattle.affc_foldprint.specs.Laws.{FoldsAreScanned, FoldsKeepTimes}
 
 module _ (names : ℕ) (few : names ≤ 1024) where
   all_more : (es : List Ix) → IsTrue (all_see names es) → all_in_sight es ≡ true
@@ -43,11 +43,14 @@ folded_loops source folds =
     let same = (refolded_keeps_shape (folded_subscripts source folds) (folded_temps source folds) source).same_loops in
     record { same_rounds = same.same_rounds; same_ranges = same.same_ranges }
 
+pub folds_keep_times : FoldsKeepTimes
+folds_keep_times source folds = record { same_loops = folded_loops source folds; same_context = refl }
+
 pub folds_are_scanned : FoldsAreScanned
 folds_are_scanned source nest schedule folds has are e = record {
   source = source;
   has_loops = has;
-  same_loops = folded_loops source folds;
+  same_times = folds_keep_times source folds;
   its_nest = e;
   in_sight = λ a i. sight_more a (folded_in_sight source folds a has.plain are i);
 }

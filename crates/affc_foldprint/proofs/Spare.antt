@@ -33,7 +33,6 @@ use Rattle.affc_loopprint.proofs.Entries.{EachTwo}
 use Rattle.affc_loopprint.proofs.ShapeCalls.{plain_function, prelude_is}
 use Rattle.affc_loopprint.proofs.ShapeReads.{ReadParts, reads_parts}
 use Rattle.affc_loopprint.proofs.SpareReads.{reads_spare}
-use Rattle.affc_loopprint.proofs.WellNamedLoops.{spare_well_named}
 use Rattle.affc_basis.specs.declared.fold.Fold.{Fold}
 use Rattle.affc_basis.specs.FoldLists.{AreFoldsIn}
 use Rattle.affc_basis.specs.Folds.{forms_of, fold_of}
@@ -42,7 +41,7 @@ use Rattle.affc_placed.proofs.RefoldLemmas.{flat_is, refolded_keeps_shape}
 use Rattle.affc_rewrite.specs.Rewrite.{printed, decl_by, decls_from, folded_temps, folded_subscripts, folded_program, KeepLimits}
 use Rattle.affc_rewrite.specs.Sizes.{IsPrintable}
 use Rattle.affc_rewrite.proofs.Foldings.{few_rows}
-use Rattle.affc_foldprint.specs.Laws.{FoldsSpare, FoldsWellNamed}
+use Rattle.affc_foldprint.specs.Laws.{FoldsSpare}
 use Rattle.affc_foldprint.proofs.Components.{few_first, moduli_are}
 use Rattle.affc_foldprint.proofs.Scanned.{folded_loops}
 use Rattle.affc_foldprint.proofs.Growth.{modulus_few}
@@ -238,8 +237,3 @@ folds_spare text source folds r off are limits =
       iterators = λ k rs e. own.iterators k rs (ap (λ rss. slice_get rss k) (sym (folded_loops source folds).same_rounds) ∙ e);
       short = short source folds plain are limits (reads_parts text source r off) known;
     }
-
-pub folds_well_named : FoldsWellNamed
-folds_well_named text source schedule folds r off has are limits =
-    spare_well_named source (folded_program source folds) schedule has (folded_loops source folds)
-    (folds_spare text source folds r off are limits)

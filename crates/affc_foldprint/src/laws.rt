@@ -1,6 +1,9 @@
 //! What holds of programs with folds. Each law is the contract of a function that does nothing.
 ghost use Rattle.affc_foldprint.specs.Laws.{FoldsAreScanned, FoldsSpare, FoldsWellNamed, FoldsKeepTimes, FoldsCompile, FoldsRunTightly};
 
+use affc_loopprint::laws::{between_well_named, spare_well_named};
+use affc_scanned::laws::{scans_run_between, turns_extend};
+
 /// The source's nest is one for the folded program.
 pub fn folds_are_scanned()
     ensures law { FoldsAreScanned }
@@ -14,7 +17,10 @@ pub fn folds_spare()
 /// So the loops of the folded program are well named.
 pub fn folds_well_named()
     ensures law { FoldsWellNamed }
-{}
+{
+    spare_well_named();
+    between_well_named();
+}
 
 /// The folded program has the source's loops, conditions and context.
 pub fn folds_keep_times()
@@ -24,9 +30,13 @@ pub fn folds_keep_times()
 /// Its loops compile the source, under a legal schedule and with folds that obey.
 pub fn folds_compile()
     ensures law { FoldsCompile }
-{}
+{
+    scans_run_between();
+}
 
 /// Where one statement alone can have instances and no component is loose, each turn extends to a point of its time set.
 pub fn folds_run_tightly()
     ensures law { FoldsRunTightly }
-{}
+{
+    turns_extend();
+}

@@ -2,7 +2,7 @@
 use Rattle.std.proofs.Common.{refl, ap}
 use Rattle.std.specs.Fmt.{digits}
 use Rattle.affc_basis.specs.Listed.{Shape}
-use Rattle.affc_report.specs.Examples.{FormsAreWritten, NamesAreWritten, TreesAreWritten, LoadsAreWritten, MarksAreWritten, ModuliAreWritten, BasesAreWritten, ChoicesAreWritten, FoldsAreWritten}
+use Rattle.affc_report.specs.Examples.{FormsAreWritten, NamesAreWritten, TreesAreWritten, LoadsAreWritten, MarksAreWritten, ModuliAreWritten, BasesAreWritten, ChoicesAreWritten, LooseAreWritten, FoldsAreWritten}
 
 pub forms_are_written : FormsAreWritten
 unfolding digits
@@ -36,7 +36,11 @@ pub choices_are_written : ChoicesAreWritten
 unfolding digits
 choices_are_written = (refl, refl, refl)
 
+pub loose_are_written : LooseAreWritten
+unfolding digits
+loose_are_written asked made next row rows = refl
+
 pub folds_are_written : FoldsAreWritten
 unfolding digits
-folds_are_written skewed empty shape moduli none rest =
+folds_are_written skewed empty rows shape moduli none rest =
     rw (ap (λ (s : Shape). s.rows) shape, moduli, ap (λ (s : Shape). s.rows) none, rest) refl

@@ -1,6 +1,10 @@
 -- Forms, trees and folds as text, each written by hand.
-use Rattle.std.specs.Prelude.{◌≡◌, ℕ, ◌^◌, ℤ, pos, negsuc, Bool, true, false, ◌∷◌, [], codes, List, Option, Some, None}
+use Rattle.std.specs.Prelude.{◌≡◌, ℕ, ◌^◌, ℤ, pos, negsuc, Bool, true, false, ◌∷◌, [], codes, List, Option, Some, None, Vec}
+use Rattle.std.specs.declared.alloc.Global.{Global}
 use Rattle.affc_rows.specs.Forms.{Affine}
+use Rattle.affc_system.specs.Systems.{Rows}
+use Rattle.affc_farkas.specs.declared.pair.Pair.{Pair}
+use Rattle.affc_ends.specs.declared.bounds.Why.TheVariants.{Made, Wide, Large, Nine}
 use Rattle.affc_ast.specs.declared.tree.ArrayId.{ArrayId}
 use Rattle.affc_basis.specs.declared.fold.Mark.TheVariants.{Least, Bound}
 use Rattle.affc_basis.specs.declared.fold.Modulus.{Modulus}
@@ -17,6 +21,7 @@ use Rattle.affc_report.specs.Forms.{form_text, named_form}
 use Rattle.affc_report.specs.Trees.{tree_text, flow_text}
 use Rattle.affc_weigh.specs.declared.choice.Choice.{Choice}
 use Rattle.affc_weigh.specs.declared.choice.Price.{Price}
+use Rattle.affc_report.specs.Loose.{all_loose_text}
 use Rattle.affc_report.specs.Folds.{mark_text, moduli_text, basis_text, choice_text, fold_report}
 
 abbrev form : List ℤ → ℤ → Affine
@@ -122,10 +127,22 @@ ChoicesAreWritten = (choice_text (Some (record { cost = 2 ^ 64; number = 3; pric
     × (choice_text (Some (record { cost = 7; number = 0; prices = [] })) ≡ codes "  cost 7\n")
     × (choice_text None ≡ [])
 
+-- a line for each cause, in the order of the list
+abbrev pub LooseAreWritten : Type 0
+LooseAreWritten = (asked : Option Rows) (made : Vec Pair Global) (next : Pair) (row : Affine) (rows : Vec Affine Global)
+    → all_loose_text
+    (record { statement = 0; component = 11; why = Made asked made }
+    ∷ record { statement = 2; component = 0; why = Wide asked made next }
+    ∷ record { statement = 2; component = 1; why = Large row }
+    ∷ record { statement = 63; component = 0; why = Nine rows }
+    ∷ [])
+    ≡ codes "loose S0 component 11 made\nloose S2 component 0 wide\nloose S2 component 1 large\nloose S63 component 0 nine\n"
+
 -- The first has a fold over the listed basis (x0 + x1, x1), the last one without rows, and the other none. No other array is told
--- of. Of the costs only that of the first is known.
+-- of. Of the costs only that of the first is known. One component is loose.
 abbrev pub FoldsAreWritten : Type 0
-FoldsAreWritten = (skewed empty : Fold) → shape_of skewed.basis ≡ square (pos 1) (pos 1) (pos 0) (pos 1) (pos 1) (negsuc 0) (pos 0) (pos 1) → skewed.moduli ≡ moduli
+FoldsAreWritten = (skewed empty : Fold) (rows : Vec Affine Global) → shape_of skewed.basis ≡ square (pos 1) (pos 1) (pos 0) (pos 1) (pos 1) (negsuc 0) (pos 0) (pos 1) → skewed.moduli ≡ moduli
     → shape_of empty.basis ≡ columns [] → empty.moduli ≡ []
     → fold_report folded (fold_at 4 empty ∷ fold_at 1 empty ∷ fold_at 2 skewed ∷ []) (choice_at 3 (record { cost = 8; number = 0; prices = [] }) ∷ choice_at 2 (record { cost = 5; number = 1; prices = price (9 ∷ []) 9 ∷ price [] 5 ∷ [] }) ∷ [])
-    ≡ codes "array t\n  basis (x0 + x1, x1)\n  modulus 0: N - 3 * M + 1 least at N=4 M=7 pair (0, -1) (2, 3)\n  modulus 1: 1 bound\n  cost 5\n  rival 0: 9 cost 9\narray u\n  whole budget\narray s\n  basis ()\n"
+    (record { statement = 1; component = 0; why = Nine rows } ∷ [])
+    ≡ codes "array t\n  basis (x0 + x1, x1)\n  modulus 0: N - 3 * M + 1 least at N=4 M=7 pair (0, -1) (2, 3)\n  modulus 1: 1 bound\n  cost 5\n  rival 0: 9 cost 9\narray u\n  whole budget\narray s\n  basis ()\nloose S1 component 0 nine\n"

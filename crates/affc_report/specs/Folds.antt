@@ -10,8 +10,6 @@ use Rattle.affc_basis.specs.declared.fold.Mark.TheVariants.{Least, Bound}
 use Rattle.affc_basis.specs.declared.fold.Modulus.{Modulus}
 use Rattle.affc_basis.specs.declared.fold.Fold.{Fold}
 use Rattle.affc_basis.specs.Folds.{fold_of}
-use Rattle.affc_ends.specs.declared.bounds.Why.{Why}
-use Rattle.affc_ends.specs.declared.bounds.Why.TheVariants.{Made, Wide, Large, Nine}
 use Rattle.affc_scanned.specs.declared.scanned.Loose.{Loose}
 use Rattle.affc_weigh.specs.declared.choice.Choice.{Choice}
 use Rattle.affc_weigh.specs.declared.choice.Price.{Price}
@@ -20,6 +18,7 @@ use Rattle.affc_grammar.specs.Grammar.{Name}
 use Rattle.affc_schedtext.specs.declared.outline.ArrayOutline.{ArrayOutline}
 use Rattle.affc_schedtext.specs.declared.outline.Outline.{Outline}
 use Rattle.affc_report.specs.Forms.{named_form, row_text}
+use Rattle.affc_report.specs.Loose.{all_loose_text}
 
 -- ---- What is known of a modulus
 
@@ -104,22 +103,6 @@ abbrev pub temporaries_text : (parameters : List Name) → List (ArrayId × Fold
 temporaries_text ps folds choices n [] = []
 temporaries_text ps folds choices n (a ∷ arrays) =
     (if a.is_temporary then temporary_text ps a.name (fold_of folds n) (choice_of choices n) else []) ++ temporaries_text ps folds choices (suc n) arrays
-
--- ---- Components without ends
-
-abbrev pub why_text : Why → List ℕ
-why_text (Made asked made) = codes "made"
-why_text (Wide asked made next) = codes "wide"
-why_text (Large row) = codes "large"
-why_text (Nine rows) = codes "nine"
-
--- `loose S1 component 0 wide`
-abbrev pub loose_text : Loose → List ℕ
-loose_text l = codes "loose S" ++ decimal l.statement ++ codes " component " ++ decimal l.component ++ codes " " ++ why_text l.why ++ codes "\n"
-
-abbrev pub all_loose_text : List Loose → List ℕ
-all_loose_text [] = []
-all_loose_text (l ∷ ls) = loose_text l ++ all_loose_text ls
 
 -- ---- The report
 

@@ -1,5 +1,5 @@
 //! Forms, trees and folds as text.
-ghost use Rattle.affc_report.specs.Examples.{FormsAreWritten, NamesAreWritten, TreesAreWritten, LoadsAreWritten, MarksAreWritten, ModuliAreWritten, BasesAreWritten, ChoicesAreWritten, FoldsAreWritten};
+ghost use Rattle.affc_report.specs.Examples.{FormsAreWritten, NamesAreWritten, TreesAreWritten, LoadsAreWritten, MarksAreWritten, ModuliAreWritten, BasesAreWritten, ChoicesAreWritten, LooseAreWritten, FoldsAreWritten};
 
 /// Forms.
 pub fn forms_are_written()
@@ -41,7 +41,12 @@ pub fn choices_are_written()
     ensures { ChoicesAreWritten }
 {}
 
-/// The temporaries of a program.
+/// Components without ends.
+pub fn loose_are_written()
+    ensures { LooseAreWritten }
+{}
+
+/// The temporaries of a program, and a component without ends.
 pub fn folds_are_written()
     ensures { FoldsAreWritten }
 {}

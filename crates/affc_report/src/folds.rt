@@ -8,11 +8,13 @@ ghost use Rattle.affc_report.specs.Folds as specs;
 
 use crate::forms::{add_named, add_row};
 use crate::lists::{WriteItem, add_list};
+use crate::loose::add_loose;
 use affc_ast::Items;
 use affc_ast::text::Text;
 use affc_ast::tree::ArrayId;
 use affc_basis::{Fold, Mark, Modulus};
 use affc_rows::Form;
+use affc_scanned::Loose;
 use affc_schedtext::outline::{ArrayOutline, Outline};
 use affc_weigh::{Choice, Price};
 use std::alloc::{AllocError, Global};
@@ -323,14 +325,15 @@ fn add_temporaries(
 }
 
 /// What became of each temporary, as text: the rows of its basis, its moduli, and what this and other bases cost; or that it is
-/// left whole. Of an array that has no choice no cost is told.
+/// left whole. Of an array that has no choice no cost is told. Then which components of times have no ends, and why.
 pub fn fold_report(
     alloc: Global,
     outline: &Outline,
     folds: &[(ArrayId, Fold)],
     choices: &[(ArrayId, Choice)],
+    loose: &[Loose],
 ) -> Result<Vec<u8>, AllocError>
-    ensures { IfOk result (λ text. text.items ≡ specs.fold_report outline.now folds.now choices.now) }
+    ensures { IfOk result (λ text. text.items ≡ specs.fold_report outline.now folds.now choices.now loose.now) }
 {
     let mut out = String::new(alloc);
     add_temporaries(
@@ -341,5 +344,6 @@ pub fn fold_report(
         0,
         outline.arrays.as_slice(),
     )?;
+    add_loose(&mut out, loose)?;
     Ok(out.into_bytes())
 }

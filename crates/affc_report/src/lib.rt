@@ -5,6 +5,7 @@ pub mod examples;
 mod folds;
 mod forms;
 mod lists;
+mod loose;
 mod trees;
 
 pub use folds::fold_report;

@@ -40,10 +40,9 @@ use Rattle.affc_basis.specs.Moduli.{IsModulus, ArePositive, remainders}
 use Rattle.affc_basis.proofs.FoldsFound.{folds_are_found}
 use Rattle.affc_placed.specs.Placed.{Replaces, HasFoldedLoops}
 use Rattle.affc_placed.specs.Refolds.{refolded, FoldsBy}
-use Rattle.affc_placed.proofs.FoldedLaws.{folded_loops_compile}
 use Rattle.affc_placed.proofs.RefoldLemmas.{refolded_keeps_shape}
 use Rattle.affc_placed.proofs.ReplaceLemmas.{accesses_read, behind_extents, fold_in, refolded_replaces}
-use Rattle.affc_rewrite.specs.Laws.{PrintedFolds, FoldedProgramReplaces, FoldedProgramCompiles}
+use Rattle.affc_rewrite.specs.Laws.{PrintedFolds, FoldedProgramReplaces}
 use Rattle.affc_rewrite.specs.Rewrite.{components_from, subscripts_by, extent_forms, folded_subscripts, folded_temps, has_calls, folded_program, KeepLimits}
 use Rattle.affc_rewrite.specs.Sizes.{AllSides, IsRow}
 use Rattle.affc_rewrite.proofs.Accesses.{access_touches, sides_of, extents_are, parameters_are, named}
@@ -236,6 +235,3 @@ folded_program_replaces source schedule folds has limits =
       same_rounds = ((refolded_keeps_shape at temps source).same_loops).same_rounds;
       replaces = λ p inside. with_prelude (has_calls (refolded at temps source)) (refolded at temps source) source (place folds p) p (replaces_at source schedule folds has limits p inside);
     }
-
-pub folded_program_compiles : FoldedProgramCompiles
-folded_program_compiles source schedule folds has limits = folded_loops_compile (folded_program source folds) source schedule folds has (folded_program_replaces source schedule folds has limits)

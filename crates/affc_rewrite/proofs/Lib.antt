@@ -5,7 +5,7 @@ pub mod Accesses
 pub mod FoldedTemps
 pub mod FoldsPrinted
 pub mod ExampleProofs
-pub mod TermSteps
+pub mod Modest
 pub mod Steps
 pub mod RowSizes
 pub mod Choices

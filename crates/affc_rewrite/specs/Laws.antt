@@ -2,17 +2,14 @@
 use Rattle.std.specs.Prelude.{◌≡◌, ℕ, ℤ, IsTrue, List, Some, None}
 use Rattle.affc_ast.specs.declared.tree.ArrayId.{ArrayId}
 use Rattle.affc_ast.specs.declared.tree.Program.{Program}
-use Rattle.affc_ast.specs.Compiles.{Compiles}
 use Rattle.affc_ast.specs.Fits.{within_ranges}
 use Rattle.affc_trace.specs.declared.schedule.Schedule.{Schedule}
-use Rattle.affc_trace.specs.Laws.{in_target_order}
 use Rattle.affc_domain.specs.Plain.{IsPlain}
 use Rattle.affc_domain.specs.Ranges.{first_wide}
 use Rattle.affc_safe.specs.Safe.{IsSafe}
-use Rattle.affc_loops.specs.Loops.{target_program}
 use Rattle.affc_basis.specs.declared.fold.Fold.{Fold}
 use Rattle.affc_basis.specs.FoldLists.{AreFoldsIn}
-use Rattle.affc_basis.specs.Folds.{forms_of, fold_of, place}
+use Rattle.affc_basis.specs.Folds.{forms_of, fold_of}
 use Rattle.affc_basis.specs.Moduli.{ArePositive}
 use Rattle.affc_placed.specs.Placed.{HasFoldedLoops, ReplacesFolded}
 use Rattle.affc_placed.specs.Refolds.{FoldsBy}
@@ -30,9 +27,3 @@ PrintedFolds = (source : Program) (folds : List (ArrayId × Fold)) (p : List ℤ
 abbrev pub FoldedProgramReplaces : Type 0
 FoldedProgramReplaces = (source : Program) (schedule : Schedule) (folds : List (ArrayId × Fold))
     → HasFoldedLoops source schedule folds → KeepLimits source folds → ReplacesFolded (folded_program source folds) source folds
-
--- And the loops of the folded program compile the source, under a legal schedule and with folds that obey.
-abbrev pub FoldedProgramCompiles : Type 0
-FoldedProgramCompiles = (source : Program) (schedule : Schedule) (folds : List (ArrayId × Fold))
-    → HasFoldedLoops source schedule folds → KeepLimits source folds
-    → Compiles (target_program (folded_program source folds) schedule) source (in_target_order schedule) (place folds)

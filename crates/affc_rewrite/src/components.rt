@@ -9,12 +9,13 @@ ghost use Rattle.affc_ast.specs.declared.tree.Ix.TheVariants as made_trees;
 ghost use Rattle.affc_rewrite.specs.Rewrite as specs;
 ghost use Rattle.affc_rewrite.specs.Sizes.{IsRow, IsPrintable, IsAccess};
 
-use crate::trees::{form_ix, modulo};
 use affc_ast::Items;
 use affc_ast::tree::Ix;
 use affc_basis::Modulus;
 use affc_nest::forms::column;
 use affc_rows::{Form, FormFault};
+use affc_terms::form_ix;
+use affc_terms::trees::modulo;
 use std::alloc::{AllocError, Global};
 
 /// The subscripts of an access as forms over the names in sight, of which the parameters are the first.
@@ -58,6 +59,7 @@ fn is_unit(alloc: Global, dimensions: u32, k: u32, row: &Form) -> Result<bool, A
 }
 
 /// A form over so many names, of which the parameters are the first, as an expression.
+#[tactic(auto, using(crate::proofs::Modest::printable_modest))]
 pub(crate) fn printed(
     alloc: Global,
     parameters: u32,

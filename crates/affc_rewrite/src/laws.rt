@@ -1,5 +1,5 @@
 //! What holds of the folded program. Each law is the contract of a function that does nothing.
-ghost use Rattle.affc_rewrite.specs.Laws.{PrintedFolds, FoldedProgramReplaces, FoldedProgramCompiles};
+ghost use Rattle.affc_rewrite.specs.Laws.{PrintedFolds, FoldedProgramReplaces};
 ghost use Rattle.affc_rewrite.specs.Sight.{FoldedInSight};
 
 /// The printed subscripts are of the places, and what is read keeps within `int64_t`.
@@ -10,11 +10,6 @@ pub fn printed_folds()
 /// The folded program replaces the source throughout the context.
 pub fn folded_program_replaces()
     ensures law { FoldedProgramReplaces }
-{}
-
-/// The loops of the folded program compile the source.
-pub fn folded_program_compiles()
-    ensures law { FoldedProgramCompiles }
 {}
 
 /// Its assignments hold only names in sight.

@@ -10,6 +10,5 @@ mod rewriting;
 mod statements;
 mod subscripts;
 mod temporaries;
-mod trees;
 
 pub use rewriting::rewrite;

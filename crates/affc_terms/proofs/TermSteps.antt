@@ -6,10 +6,6 @@ use Rattle.affc_ast.specs.declared.tree.Ix.{Ix}
 use Rattle.affc_ast.specs.declared.tree.Ix.TheVariants.{Lit, Neg, Mul, Add, Sub}
 use Rattle.std.proofs.lemmas.List.{take_all}
 use Rattle.affc_rows.specs.Forms.{Affine}
-use Rattle.affc_ast.specs.declared.tree.Compare.{Compare}
-use Rattle.affc_ast.specs.declared.tree.Rel.TheVariants.{LessEqual, Equal}
-use Rattle.affc_trace.proofs.EndedReads.{append_assoc}
-use Rattle.affc_loops.specs.Loops.{box_tests, time_tests}
 use Rattle.affc_loops.specs.Trees.{name_at, number, times, Term, and_more, sum_of, terms_from, form_tree}
 use Rattle.affc_terms.specs.Sums.{with_term, and_one, and_all, finished}
 

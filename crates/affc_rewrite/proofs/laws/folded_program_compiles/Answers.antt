@@ -1,5 +1,0 @@
-use Rattle.affc_rewrite.proofs.FoldsPrinted.{folded_program_compiles}
-use Rattle.affc_rewrite.proofs.laws.folded_program_compiles.Goals as goal
-
-pub returns : goal.returns
-returns c = record { law = folded_program_compiles }
