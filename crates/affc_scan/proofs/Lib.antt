@@ -1,10 +1,9 @@
 pub mod TestSteps
 pub mod MovedSteps
 pub mod BlockSteps
+pub mod EndSteps
 pub mod LoopSteps
 pub mod RangeSteps
 pub mod PartSteps
 pub mod ScanSteps
 pub mod SightProofs
-pub mod Fitting
-pub mod Whole

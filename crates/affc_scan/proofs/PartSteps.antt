@@ -51,14 +51,16 @@ pub pieces_of : (ps : List Part) → map piece ps ≡ map piece_in (map numbered
 pieces_of [] = refl
 pieces_of (p ∷ ps) = ap (λ l. piece p ∷ l) (pieces_of ps)
 
+one_or_none : (k : ℕ) (p : Place) (ps : List Place) (e : Entry) (es : List Entry) (m : TimeMap) (ms : List TimeMap) (alive : Bool)
+    → map piece_in (numbered_from (suc k) ps es ms) ≡ pieces_from (suc k) (all_around ps) (all_assigned ps) ms (map box_of es)
+    → map piece_in (alone k p e m alive ++ numbered_from (suc k) ps es ms)
+    ≡ pieces_from k (p.around ∷ all_around ps) (p.assignment ∷ all_assigned ps) (m ∷ ms) ((if alive then Some e.ranges else None) ∷ map box_of es)
+one_or_none k p ps e es m ms true h = ap (λ l. piece_in (record { statement = k; place = p; entry = e; times = m }) ∷ l) h
+one_or_none k p ps e es m ms false h = h
+
 pub pieces_in : (k : ℕ) (ps : List Place) (es : List Entry) (ms : List TimeMap) → map piece_in (numbered_from k ps es ms) ≡ pieces_from k (all_around ps) (all_assigned ps) ms (map box_of es)
 pieces_in k [] es ms = refl
 pieces_in k (p ∷ ps) [] [] = refl
 pieces_in k (p ∷ ps) [] (m ∷ ms) = refl
 pieces_in k (p ∷ ps) (e ∷ es) [] = refl
-pieces_in k (p ∷ ps) (e ∷ es) (m ∷ ms) = by e.alive
-  where
-    by : (alive : Bool) → map piece_in (alone k p e m alive ++ numbered_from (suc k) ps es ms)
-        ≡ pieces_from k (p.around ∷ all_around ps) (p.assignment ∷ all_assigned ps) (m ∷ ms) ((if alive then Some e.ranges else None) ∷ map box_of es)
-    by true = ap (λ l. piece_in (record { statement = k; place = p; entry = e; times = m }) ∷ l) (pieces_in (suc k) ps es ms)
-    by false = pieces_in (suc k) ps es ms
+pieces_in k (p ∷ ps) (e ∷ es) (m ∷ ms) = one_or_none k p ps e es m ms e.alive (pieces_in (suc k) ps es ms)
