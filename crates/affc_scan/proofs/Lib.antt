@@ -6,4 +6,5 @@ pub mod LoopSteps
 pub mod RangeSteps
 pub mod PartSteps
 pub mod ScanSteps
+pub mod Gathering
 pub mod SightProofs

@@ -96,9 +96,11 @@ fn of_part(
 }
 
 /// With what is gathered of one statement more.
+#[tactic(auto, using(affc_loops::proofs::EndLists::both_long))]
 fn joined(alloc: Global, made: Gathered, own: Gathered) -> Result<Gathered, AllocError>
     requires { length made.ends ≡ length own.ends }
     ensures ends { IfOk result (λ all. all.ends ≡ specs.both_ends made.ends own.ends) }
+    ensures long { IfOk result (λ all. length all.ends ≡ length made.ends) }
     ensures loose { IfOk result (λ all. all.loose.items ≡ made.loose.items ++ own.loose.items) }
 {
     let Gathered { ends, mut loose } = made;
