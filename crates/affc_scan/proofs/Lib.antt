@@ -8,3 +8,6 @@ pub mod PartSteps
 pub mod ScanSteps
 pub mod Gathering
 pub mod SightProofs
+pub mod Fitting
+pub mod Numbers
+pub mod Whole
