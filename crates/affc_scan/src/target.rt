@@ -123,10 +123,12 @@ fn scan_times(
     ensures { IfOk result (IsBetween program.now maps.now) }
 {
     let sites = all_sites(alloc, program)?;
-    let parts = all_parts(alloc, sites.as_slice(), nest.entries.as_slice(), maps)?;
+    let entries = nest.entries.as_slice();
+    let found = all_parts(alloc, sites.as_slice(), entries, maps)?;
+    let parts = found.as_slice();
     let first = nest.params.ranges().len() as u32;
-    let Gathered { ends, loose } = projected(alloc, nest, first, parts.as_slice())?;
-    let body = body(alloc, first, ends, parts.as_slice())?;
+    let Gathered { ends, loose } = projected(alloc, nest, first, parts)?;
+    let body = body(alloc, first, ends, parts)?;
     let program = with_body(alloc, program, body)?;
     Ok(Scanned { program, loose })
 }
