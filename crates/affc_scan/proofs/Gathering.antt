@@ -1,5 +1,5 @@
 -- The steps by which the ends of all statements are gathered.
-use Rattle.std.proofs.Common.{◌≡◌, ℕ, zero, suc, ◌+◌, ◌≤◌, ℤ, List, [], ◌∷◌, ◌++◌, map, length, length-append, refl, sym, ap, subst, ◌∙◌, arith}
+use Rattle.std.proofs.Common.{◌≡◌, ℕ, suc, ◌+◌, ℤ, List, [], ◌∷◌, ◌++◌, map, length, refl, sym, ap, ◌∙◌, arith}
 use Rattle.std.specs.List.{All}
 use Rattle.std.proofs.lemmas.List.{length-map}
 use Rattle.affc_rows.specs.Forms.{Affine}
@@ -21,7 +21,7 @@ use Rattle.affc_scanned.specs.declared.scanned.Loose.{Loose}
 use Rattle.affc_scanned.specs.Scanned.{sides_of, loose_from, all_loose, all_sides}
 use Rattle.affc_scan.specs.declared.gathered.Gathered.{Gathered}
 use Rattle.affc_scan.specs.EndRows.{IsEndRow, HaveEndRows}
-use Rattle.affc_scan.specs.Gathered.{IsProjectable, AreBoundsOf, GathersOne, GathersMore, Gathers}
+use Rattle.affc_scan.specs.Gathered.{IsProjectable, GathersOne, GathersMore, Gathers}
 use Rattle.affc_scan.specs.Pieces.{Numbered, piece_in}
 
 -- ---- Projected rows can be printed

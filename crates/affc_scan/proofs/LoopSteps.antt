@@ -1,5 +1,5 @@
 -- The steps by which the loops are made, from the innermost out.
-use Rattle.std.proofs.Common.{◌≡◌, ℕ, suc, ◌+◌, ◌≤◌, List, [], ◌∷◌, ◌++◌, length, length-append, sym, ap, ◌∙◌, arith}
+use Rattle.std.proofs.Common.{◌≡◌, ℕ, suc, ◌+◌, List, [], ◌∷◌, ◌++◌, length, sym, ap, ◌∙◌, arith}
 use Rattle.affc_ast.specs.declared.tree.Ix.{Ix}
 use Rattle.affc_ast.specs.declared.tree.Rel.TheVariants.{LessEqual}
 use Rattle.affc_ast.specs.declared.tree.Stmt.{Stmt}
@@ -20,6 +20,3 @@ pub innermost : (es all : List (Ix × Ix)) (low high : Ix) (component : ℕ) (bo
 innermost es all low high component body a e =
     let q : component ≡ 0 + length es = omega arith in
     ap (λ n. loops_between es 0 (For (time_name n) low LessEqual high body ∷ [])) q ∙ sym (last_inside es (low, high) 0 body) ∙ ap (λ l. loops_between l 0 body) (sym a)
-
-pub fewer : (es all : List (Ix × Ix)) (e : Ix × Ix) → all ≡ es ++ e ∷ [] → length all ≡ suc (length es)
-fewer es all e a = let l : length all ≡ length es + 1 = ap length a ∙ length-append es (e ∷ []) in omega arith

@@ -1,5 +1,5 @@
 -- Each statement that can have instances, with its entry of the nest and its times.
-use Rattle.std.proofs.Common.{◌≡◌, ℕ, zero, suc, ◌+◌, ◌≤◌, ℤ, Bool, true, false, ◌&&◌, IsTrue, List, [], ◌∷◌, ◌++◌, length, length-append, map, Some, refl, sym, ap, subst, ◌∙◌, inl, inr, arith}
+use Rattle.std.proofs.Common.{◌≡◌, ℕ, zero, suc, ◌+◌, ◌≤◌, Bool, true, false, ◌&&◌, IsTrue, List, [], ◌∷◌, ◌++◌, length, Some, refl, sym, ap, subst, ◌∙◌, inl, inr}
 use Rattle.std.specs.Prelude.{slice_get, if◌then◌else◌}
 use Rattle.std.proofs.lemmas.Option.{none-some, same_Some}
 use Rattle.affc_ast.specs.declared.tree.Program.{Program}
@@ -7,13 +7,11 @@ use Rattle.affc_trace.specs.declared.schedule.Schedule.TheVariants.{Time}
 use Rattle.affc_trace.specs.declared.schedule.TimeMap.{TimeMap}
 use Rattle.affc_trace.specs.Law.{IsIn}
 use Rattle.affc_trace.specs.Target.{all_slight, maps_within, numbers_in}
-use Rattle.affc_trace.proofs.Members.{to_map}
 use Rattle.affc_domain.specs.Ranges.{number_ranges, ranges_of}
 use Rattle.affc_domain.specs.Rounds.{rounds, loops_in}
 use Rattle.affc_domain.proofs.Lists.{both_true, to_mapped}
 use Rattle.affc_nest.specs.declared.nest.Entry.{Entry}
-use Rattle.affc_nest.specs.declared.nest.Nest.{Nest}
-use Rattle.affc_nest.specs.Laws.{HasNest, IsEntry}
+use Rattle.affc_nest.specs.Laws.{HasNest}
 use Rattle.affc_nest.specs.Nests.{nest_of}
 use Rattle.affc_nest.specs.Sites.{Place, all_around}
 use Rattle.affc_nest.proofs.EntryLemmas.{site_of, loops_are, ranges_are_within}
@@ -27,7 +25,7 @@ use Rattle.affc_ends.specs.Sizes.{IsTimed}
 use Rattle.affc_ends.specs.TimeRows.{time_system, system_of}
 use Rattle.affc_ends.specs.TimeSets.{timed_in}
 use Rattle.affc_ends.proofs.Statements.{entries_are_timed}
-use Rattle.affc_scan.specs.Pieces.{Numbered, if_alive, numbered_from}
+use Rattle.affc_scan.specs.Pieces.{Numbered, numbered_from}
 
 -- ---- Which statement it is
 

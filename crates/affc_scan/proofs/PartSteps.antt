@@ -1,12 +1,10 @@
 -- The steps by which the statements that can have instances are found.
-use Rattle.std.proofs.Common.{◌≡◌, ℕ, suc, ◌+◌, ℤ, Bool, true, false, if◌then◌else◌, List, [], ◌∷◌, ◌++◌, map, Some, None, refl, sym, ap, ◌∙◌, arith}
+use Rattle.std.proofs.Common.{◌≡◌, ℕ, suc, Bool, true, false, if◌then◌else◌, List, [], ◌∷◌, ◌++◌, map, Some, None, refl, sym, ap, ◌∙◌}
 use Rattle.affc_trace.specs.declared.schedule.TimeMap.{TimeMap}
-use Rattle.affc_trace.proofs.EndedReads.{append_assoc}
 use Rattle.affc_trace.proofs.LastStores.{append_nil}
 use Rattle.affc_nest.specs.declared.nest.Entry.{Entry}
-use Rattle.affc_nest.specs.declared.sites.Site.{Site}
-use Rattle.affc_nest.specs.Sites.{Place, place, places, all_around, all_assigned}
-use Rattle.affc_loops.specs.Loops.{Piece, pieces_from}
+use Rattle.affc_nest.specs.Sites.{Place, all_around, all_assigned}
+use Rattle.affc_loops.specs.Loops.{pieces_from}
 use Rattle.affc_scan.specs.declared.parts.Part.{Part}
 use Rattle.affc_scan.specs.Parts.{numbered, piece}
 use Rattle.affc_scan.specs.Pieces.{box_of, Numbered, piece_in, if_alive, numbered_from}
@@ -31,19 +29,6 @@ pub no_times : (made : List Numbered) (k : ℕ) (ps : List Place) (es : List Ent
 no_times made k [] es = sym (append_nil made)
 no_times made k (p ∷ ps) [] = sym (append_nil made)
 no_times made k (p ∷ ps) (e ∷ es) = sym (append_nil made)
-
-pub parts_last : (old mid new : List Numbered) (k next : ℕ) (ss : List Site) (x : Site) (xs : List Site) (all : List Entry) (e : Entry) (es : List Entry) (maps : List TimeMap) (m : TimeMap) (ms : List TimeMap)
-    → ss ≡ x ∷ xs → all ≡ e ∷ es → maps ≡ m ∷ ms → next ≡ k + 1 → mid ≡ old ++ if_alive k (place x) e m → new ≡ mid ++ numbered_from next (places xs) es ms
-    → new ≡ old ++ numbered_from k (places ss) all maps
-parts_last old mid new k next ss x xs all e es maps m ms f g h n p q =
-    let more : next ≡ suc k = omega arith in
-    q
-    ∙ ap (λ l. l ++ numbered_from next (places xs) es ms) p
-    ∙ append_assoc old (if_alive k (place x) e m) (numbered_from next (places xs) es ms)
-    ∙ ap (λ j. old ++ (if_alive k (place x) e m ++ numbered_from j (places xs) es ms)) more
-    ∙ ap (λ l. old ++ numbered_from k (places l) (e ∷ es) (m ∷ ms)) (sym f)
-    ∙ ap (λ l. old ++ numbered_from k (places ss) l (m ∷ ms)) (sym g)
-    ∙ ap (λ l. old ++ numbered_from k (places ss) all l) (sym h)
 
 -- ---- As pieces
 

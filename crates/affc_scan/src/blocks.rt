@@ -1,15 +1,14 @@
 //! The block of a statement.
 ghost use Rattle.std.specs.Prelude.{◌≡◌, ◌≤◌, ◌+◌, ◌++◌, [], ◌∷◌, length, IfOk, true};
 ghost use Rattle.std.specs.List.{All};
-ghost use Rattle.affc_ast.specs.declared.tree.Stmt.TheVariants as statements;
 ghost use Rattle.affc_domain.specs.Rounds.{Loop, loops_in};
 ghost use Rattle.affc_loops.specs.Limits.{IsSlight, IsSmall};
 ghost use Rattle.affc_loops.specs.Loops.{loop_names, locals_of, if_any, loop_tests, guarded, moved_assign, block_of};
 ghost use Rattle.affc_nest.specs.Frames.{seen, all_seen};
 ghost use Rattle.affc_nest.specs.Sites.{place};
 ghost use Rattle.affc_scan.specs.Blocks.{tested_body, HaveFew, IsPrintable};
-ghost use Rattle.affc_scan.specs.Parts.{piece};
 ghost use Rattle.affc_scan.specs.InSight.{in_sight, round_in_sight, rounds_in_sight, IsInSight};
+ghost use Rattle.affc_scan.specs.Parts.{piece};
 
 use crate::moved::{moved_all, moved_tests, moved_val};
 use crate::parts::Part;
@@ -261,6 +260,13 @@ pub(crate) fn block(
         Items::new(alloc),
     )?;
     let ranges = part.entry.ranges.ranges();
-    let body = tested(alloc, first, more, part.site, ranges, part.times.forms.as_slice())?;
+    let body = tested(
+        alloc,
+        first,
+        more,
+        part.site,
+        ranges,
+        part.times.forms.as_slice(),
+    )?;
     Ok(Stmt::Block { locals, body })
 }

@@ -1,5 +1,5 @@
 //! The ends of loops, by rows.
-ghost use Rattle.std.specs.Prelude.{◌≡◌, ◌≤◌, ◌<◌, ◌+◌, ◌^◌, ◌++◌, suc, length, map, unsigned_abs, neg_ℤ, IfOk};
+ghost use Rattle.std.specs.Prelude.{◌≡◌, ◌≤◌, ◌<◌, ◌+◌, ◌^◌, ◌++◌, length, map, unsigned_abs, neg_ℤ, IfOk};
 ghost use Rattle.std.specs.List.{All};
 ghost use Rattle.affc_ast.specs.declared.tree.Ix.TheVariants as trees;
 ghost use Rattle.affc_loops.specs.Ends as specs;
@@ -70,11 +70,7 @@ fn last_of(column: u32, row: &Form) -> i64
 fn rounded_up(alloc: Global, e: Ix, by: i64) -> Result<Ix, AllocError>
     ensures { IfOk result (λ x. x ≡ specs.rounded_up e by) }
 {
-    if by == 1 {
-        Ok(e)
-    } else {
-        ceild(alloc, e, by)
-    }
+    if by == 1 { Ok(e) } else { ceild(alloc, e, by) }
 }
 
 /// The quotient, rounded down; by 1 it is the expression itself.
@@ -82,11 +78,7 @@ fn rounded_up(alloc: Global, e: Ix, by: i64) -> Result<Ix, AllocError>
 fn rounded_down(alloc: Global, e: Ix, by: i64) -> Result<Ix, AllocError>
     ensures { IfOk result (λ x. x ≡ specs.rounded_down e by) }
 {
-    if by == 1 {
-        Ok(e)
-    } else {
-        floord(alloc, e, by)
-    }
+    if by == 1 { Ok(e) } else { floord(alloc, e, by) }
 }
 
 /// The least number that a row of the lower end allows.

@@ -43,15 +43,18 @@ fn own_ends(
     ensures { IfOk result (λ x. x ≡ specs.ends_from first first (map sides_of bounds.now) (times_of params.now (piece part.now))) }
 {
     let ranges = times_of(alloc, params, part)?;
-    ends_from(alloc, first, first, bounds, ranges.as_slice(), Items::new(alloc))
+    ends_from(
+        alloc,
+        first,
+        first,
+        bounds,
+        ranges.as_slice(),
+        Items::new(alloc),
+    )
 }
 
 /// Adds the components of a statement that are loose.
-fn add_loose(
-    statement: u32,
-    bounds: Items<Bounds>,
-    made: &mut Vec<Loose>,
-) -> Result<(), AllocError>
+fn add_loose(statement: u32, bounds: Items<Bounds>, made: &mut Vec<Loose>) -> Result<(), AllocError>
     requires { length bounds ≤ 1024 }
     ensures { OnOk result (made.new.items ≡ made.old.items ++ loose_from statement 0 bounds) }
 {
@@ -75,7 +78,7 @@ fn add_loose(
 }
 
 /// What is gathered of one statement.
-fn of_part(
+fn gather_one(
     alloc: Global,
     nest: &Nest,
     ranges: &BoxOf,
@@ -114,7 +117,7 @@ fn joined(alloc: Global, made: Gathered, own: Gathered) -> Result<Gathered, Allo
 }
 
 /// With what is gathered of these statements.
-fn of_more(
+fn gather_more(
     alloc: Global,
     nest: &Nest,
     ranges: &BoxOf,
@@ -132,16 +135,16 @@ fn of_more(
     match parts {
         [] => Ok(made),
         [part, rest @ ..] => {
-            let own = of_part(alloc, nest, ranges, first, part)?;
+            let own = gather_one(alloc, nest, ranges, first, part)?;
             let both = joined(alloc, made, own)?;
-            let all = of_more(alloc, nest, ranges, first, rest, both)?;
+            let all = gather_more(alloc, nest, ranges, first, rest, both)?;
             Ok(all)
         }
     }
 }
 
 /// What is gathered of all these statements.
-pub(crate) fn of_parts(
+pub(crate) fn gather_all(
     alloc: Global,
     nest: &Nest,
     ranges: &BoxOf,
@@ -160,8 +163,8 @@ pub(crate) fn of_parts(
             loose: Vec::new(alloc),
         }),
         [part, rest @ ..] => {
-            let own = of_part(alloc, nest, ranges, first, part)?;
-            let all = of_more(alloc, nest, ranges, first, rest, own)?;
+            let own = gather_one(alloc, nest, ranges, first, part)?;
+            let all = gather_more(alloc, nest, ranges, first, rest, own)?;
             Ok(all)
         }
     }

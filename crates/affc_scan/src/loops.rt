@@ -18,7 +18,7 @@ fn time_name(alloc: Global, component: u32) -> Result<Text, AllocError>
 }
 
 /// Loops between these ends round a body.
-#[tactic(auto, using(crate::proofs::LoopSteps::innermost, crate::proofs::LoopSteps::fewer))]
+#[tactic(auto, using(crate::proofs::LoopSteps::innermost))]
 pub(crate) fn loops_between(
     alloc: Global,
     ends: Items<(Ix, Ix)>,

@@ -1,5 +1,5 @@
 //! The ranges of times.
-ghost use Rattle.std.specs.Prelude.{◌≡◌, ◌≤◌, ◌<◌, ◌^◌, ◌+◌, ◌++◌, [], map, length, unsigned_abs, true, IfOk};
+ghost use Rattle.std.specs.Prelude.{◌≡◌, ◌≤◌, ◌^◌, ◌++◌, map, length, unsigned_abs, IfOk};
 ghost use Rattle.std.specs.List.{All};
 ghost use Rattle.affc_loops.specs.Limits.{IsSmall};
 ghost use Rattle.affc_loops.specs.Spans.{span, hull, hulls};

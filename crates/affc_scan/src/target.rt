@@ -11,7 +11,7 @@ ghost use Rattle.affc_scan.specs.Pieces.{AllPrintable, AllSpan};
 ghost use Rattle.affc_scanned.specs.Scanned.{IsBetween, Scans};
 
 use crate::blocks::block;
-use crate::gathered::{Gathered, of_parts};
+use crate::gathered::{Gathered, gather_all};
 use crate::loops::loops_between;
 use crate::parts::{Part, all_parts};
 use crate::times::{time_ranges, wider};
@@ -107,7 +107,7 @@ fn projected(
     let times = time_ranges(alloc, &nest.params, parts)?;
     let params = nest.params.clone()?;
     let ranges = wider(params, times.as_slice())?;
-    let made = of_parts(alloc, nest, &ranges, first, parts)?;
+    let made = gather_all(alloc, nest, &ranges, first, parts)?;
     Ok(made)
 }
 
@@ -153,6 +153,12 @@ pub fn scan(
                 loose: Vec::new(alloc),
             })
         }
-        Schedule::Time { length, maps } => scan_times(alloc, program, nest, *length, maps.as_slice()),
+        Schedule::Time { length, maps } => scan_times(
+            alloc,
+            program,
+            nest,
+            *length,
+            maps.as_slice(),
+        ),
     }
 }

@@ -1,5 +1,5 @@
 //! The locals and tests of a statement's block.
-ghost use Rattle.std.specs.Prelude.{◌≡◌, ◌≤◌, ◌<◌, ◌+◌, ◌++◌, ◌^◌, ℕ, ℤ, unsigned_abs, length, IfOk};
+ghost use Rattle.std.specs.Prelude.{◌≡◌, ◌≤◌, ◌+◌, ◌++◌, length, IfOk};
 ghost use Rattle.std.specs.List.{All};
 ghost use Rattle.affc_loops.specs.Loops as specs;
 ghost use Rattle.affc_loops.specs.Limits.{IsSlight, IsSmall};

@@ -1,5 +1,5 @@
 //! Expressions of a source where more names stand in sight.
-ghost use Rattle.std.specs.Prelude.{◌≡◌, ◌≤◌, ℕ, map, IfOk, true};
+ghost use Rattle.std.specs.Prelude.{◌≡◌, ◌≤◌, IfOk, true};
 ghost use Rattle.affc_loops.specs.Trees.{moved_name, moved};
 ghost use Rattle.affc_scan.specs.InSight.{in_sight};
 

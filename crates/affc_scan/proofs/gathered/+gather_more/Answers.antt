@@ -4,7 +4,7 @@ use Rattle.affc_scan.specs.Gathered.{GathersMore}
 use Rattle.affc_scan.specs.Parts.{numbered}
 use Rattle.affc_scan.proofs.Gathering.{one_more}
 use Rattle.affc_scan.proofs.ScanSteps.{list_is}
-use Rattle.affc_scan.proofs.gathered.+of_more.Goals as goal
+use Rattle.affc_scan.proofs.gathered.+gather_more.Goals as goal
 
 pub returns-in_ok-all-in-len1-up-clause-more : goal.returns-in_ok-all-in-len1-up-clause-more
 returns-in_ok-all-in-len1-up-clause-more t c =

@@ -1,4 +1,4 @@
-use Rattle.std.proofs.Common.{◌≡◌, ℤ, List, length, map, sym, ap, subst, ◌∙◌}
+use Rattle.std.proofs.Common.{List, length, map, sym, ap, subst, ◌∙◌}
 use Rattle.affc_nest.specs.declared.nest.Nest.{Nest}
 use Rattle.affc_loops.specs.Ends.{ends_from}
 use Rattle.affc_loops.specs.Loops.{times_of}
@@ -7,7 +7,7 @@ use Rattle.affc_scanned.specs.Scanned.{sides_of}
 use Rattle.affc_scan.specs.EndRows.{HaveEndRows}
 use Rattle.affc_scan.specs.Parts.{numbered, piece}
 use Rattle.affc_scan.proofs.Gathering.{bounds_rows, own_long}
-use Rattle.affc_scan.proofs.gathered.of_part.Goals as goal
+use Rattle.affc_scan.proofs.gathered.gather_one.Goals as goal
 
 pub own_ends-requires-clause-rows : goal.own_ends-requires-clause-rows
 own_ends-requires-clause-rows c =

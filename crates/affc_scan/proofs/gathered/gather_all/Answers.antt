@@ -4,7 +4,7 @@ use Rattle.affc_scan.specs.Gathered.{Gathers}
 use Rattle.affc_scan.specs.Parts.{numbered}
 use Rattle.affc_scan.proofs.Gathering.{all_of}
 use Rattle.affc_scan.proofs.ScanSteps.{list_is}
-use Rattle.affc_scan.proofs.gathered.of_parts.Goals as goal
+use Rattle.affc_scan.proofs.gathered.gather_all.Goals as goal
 
 pub returns-in_ok-all-in-len1-up-clause-all : goal.returns-in_ok-all-in-len1-up-clause-all
 returns-in_ok-all-in-len1-up-clause-all c =
