@@ -18,15 +18,17 @@ use Rattle.affc_trace.proofs.Targets.{map_map}
 use Rattle.affc_plain.proofs.Programs.{reads_plain}
 use Rattle.affc_safe.proofs.SafeLaws.{safe_runs}
 use Rattle.affc_loops.specs.Laws.{HasLoops}
-use Rattle.affc_loops.specs.Loops.{target_program}
+use Rattle.affc_loops.specs.Loops.{Piece}
+use Rattle.affc_scanned.specs.declared.scanned.Scanned.{Scanned}
+use Rattle.affc_scanned.specs.Laws.{RunsTightly}
+use Rattle.affc_scanned.specs.Scanned.{Scans}
 use Rattle.affc_split.specs.Budgets.{Account}
 use Rattle.affc_basis.specs.declared.basis.Basis.{Basis}
 use Rattle.affc_basis.specs.declared.fold.Fold.{Fold}
 use Rattle.affc_basis.specs.Folds.{KeepsLimits}
 use Rattle.affc_placed.specs.Placed.{HasFoldedLoops}
-use Rattle.affc_rewrite.specs.Laws.{FoldedProgramCompiles}
 use Rattle.affc_rewrite.specs.Rewrite.{folded_program}
-use Rattle.affc_foldprint.specs.Laws.{FoldsWellNamed}
+use Rattle.affc_foldprint.specs.Laws.{FoldsWellNamed, FoldsCompile, FoldsRunTightly}
 use Rattle.affc_weigh.specs.declared.choice.Choice.{Choice}
 use Rattle.affc_folds.specs.Folding.{AreFoldsUnder, IsLeftWhole, IsSpent}
 use Rattle.affc_schedtext.specs.declared.plan.Plan.{Plan}
@@ -38,7 +40,7 @@ use Rattle.affc_driver.specs.Folds.{FoldsTo}
 use Rattle.affc_driver.specs.Made.{AreDecided, IsMadeOf}
 use Rattle.affc_driver.specs.Plans.{HasPlan, LegalThroughout, WrittenThroughout}
 use Rattle.affc_driver.specs.Reports.{report_text}
-use Rattle.affc_driver.specs.Laws.{CompilesItself, WithinNeverStuck, NamedIsWritten, PrintedCompiles}
+use Rattle.affc_driver.specs.Laws.{CompilesItself, WithinNeverStuck, NamedIsWritten, PrintedCompiles, TextsRunTightly}
 use Rattle.affc_driver.proofs.Ranked.{reads_naming_arrays}
 use Rattle.affc_driver.proofs.Roles.{reads_roles}
 use Rattle.affc_driver.proofs.Written.{loads_written}
@@ -113,14 +115,14 @@ has_folded Answers text schedule program plan budget folds choices reads bare wi
   obeys = are.obeys;
 }
 
-module _ (named : FoldsWellNamed) (compiled : FoldedProgramCompiles) (Answers : List ℕ → ℕ → Type 0) where
+module _ (named : FoldsWellNamed) (compiled : FoldsCompile) (Answers : List ℕ → ℕ → Type 0) where
   unfoldable pub folds_to : (text : List ℕ) (schedule : Option (List ℕ)) (program : Program) (plan : Plan) (budget : Account) (folds : List (ArrayId × Fold)) (choices : List (ArrayId × Choice)) (folded report : List ℕ)
       → Reads text program → program.prelude ≡ false → StaysWithin program → AreDecided Answers program plan budget folds choices
       → HasPlan program schedule plan → IsMadeOf program plan folds choices folded report → FoldsTo Answers text schedule budget folded report
   folds_to text schedule program plan budget folds choices folded report reads bare within decided planned made =
       let written : WrittenThroughout program = decided.written text reads bare in
       let are = decided.are_folds in
-      let target = target_program (folded_program program folds) plan.schedule in
+      let target : Program = made.scanned.program in
       record {
         plan = plan;
         folds = folds;
@@ -129,9 +131,11 @@ module _ (named : FoldsWellNamed) (compiled : FoldedProgramCompiles) (Answers : 
           source = program;
           source_reads = reads;
           target = target;
-          target_reads = (reads_back target folded made.printed).0 (named text program plan.schedule folds reads bare (has_loops text schedule program plan reads bare within planned) are.in_program are.limits);
-          compiles = compiled program plan.schedule folds (has_folded Answers text schedule program plan budget folds choices reads bare within written planned decided.legal are) are.limits;
+          target_reads = (reads_back target folded made.printed).0 (named text program plan.schedule folds made.scanned reads bare (has_loops text schedule program plan reads bare within planned) are.in_program are.limits made.scans);
+          compiles = compiled program plan.schedule folds made.scanned (has_folded Answers text schedule program plan budget folds choices reads bare within written planned decided.legal are) are.limits made.scans;
         };
+        scanned = made.scanned;
+        scans = made.scans;
         loops = refl;
         printed = made.printed;
         plain = bare;
@@ -144,10 +148,20 @@ module _ (named : FoldsWellNamed) (compiled : FoldedProgramCompiles) (Answers : 
       }
 
   pub printed_compiles : PrintedCompiles Answers
-  printed_compiles text schedule program plan budget folds choices reads bare within written planned legal are =
-      folds_to text schedule program plan budget folds choices (printed_text (target_program (folded_program program folds) plan.schedule)) (report_text program folds choices) reads bare within
+  printed_compiles text schedule program plan budget folds choices s reads bare within written planned legal are scans =
+      folds_to text schedule program plan budget folds choices (printed_text s.program) (report_text program folds choices s.loose.items) reads bare within
       (record { written = λ text reads bare. written; legal = legal; are_folds = are })
-      planned (record { printed = refl; told = refl })
+      planned (record { scanned = s; scans = scans; printed = refl; told = refl })
+
+-- ---- Its turns
+
+pub texts_run_tightly : FoldsRunTightly → (Answers : List ℕ → ℕ → Type 0) → TextsRunTightly Answers
+texts_run_tightly tightly Answers text schedule budget folded report r n maps e by_times one none =
+    let source : Program = r.compiles.source in
+    let other = folded_program source r.folds in
+    let has = has_loops text schedule source r.plan r.compiles.source_reads r.plain r.within r.planned in
+    subst (RunsTightly source other maps e) (sym r.loops)
+    (tightly source n maps r.folds e r.scanned (subst (HasLoops source) by_times has) one (subst (λ order. Scans other order r.scanned) by_times r.scans) none)
 
 -- ---- Programs without temporaries
 

@@ -24,12 +24,11 @@ use Rattle.affc_safe.proofs.EndedSafe.{unwritten_instance}
 use Rattle.affc_safe.proofs.FitsThere.{never_stuck_is_safe}
 use Rattle.affc_nest.proofs.QuestionLemmas.{stands_in}
 use Rattle.affc_nest.specs.Nests.{nest_of}
-use Rattle.affc_loops.specs.Loops.{target_program}
+use Rattle.affc_scanned.specs.Laws.{SameLoopsScan}
 use Rattle.affc_split.specs.Budgets.{Account}
 use Rattle.affc_basis.specs.declared.fold.Fold.{Fold}
-use Rattle.affc_rewrite.specs.Laws.{FoldedProgramCompiles}
 use Rattle.affc_rewrite.specs.Rewrite.{folded_program}
-use Rattle.affc_foldprint.specs.Laws.{FoldsWellNamed}
+use Rattle.affc_foldprint.specs.Laws.{FoldsWellNamed, FoldsKeepTimes, FoldsCompile}
 use Rattle.affc_basis.specs.declared.basis.Basis.{Basis}
 use Rattle.affc_basis.specs.Listed.{Shape, listing}
 use Rattle.affc_weigh.specs.declared.choice.Choice.{Choice}
@@ -49,12 +48,12 @@ use Rattle.affc_flow.specs.Unwritten.{LoadsUnwritten}
 use Rattle.affc_threshold.specs.Thresholds.{threshold}
 use Rattle.affc_driver.specs.Accounts.{reaches, IsUnlimited, IsShort}
 use Rattle.affc_driver.specs.Folds.{FoldsTo}
-use Rattle.affc_driver.specs.Laws.{IllegalShows, UnlimitedFoldsAll, NoneIsCheaper, IsFoldable, FoldableIsFolded, FoldableIsNotRefused, UnlimitedIsNotRefused, IsSound, FlowsAreSound, SoundIsNotRefused}
+use Rattle.affc_driver.specs.Laws.{IllegalShows, UnlimitedFoldsAll, NoneIsCheaper, IsFoldable, FoldableIsFolded, FoldedIsFoldable, FoldableIsNotRefused, UnlimitedIsNotRefused, IsSound, FlowsAreSound, SoundIsNotRefused}
 use Rattle.affc_driver.specs.Plans.{HasPlan, WrittenThroughout}
 use Rattle.affc_driver.specs.Refusals.{IsSourceFault, IsPrinted, HasSchedFault, HasMeaningFault, HasUnwritten, IsIllegal}
 use Rattle.affc_driver.specs.Reports.{report_text}
 use Rattle.affc_driver.specs.declared.refusal.Refusal.TheVariants.{Source, Printed, Schedule, Meaning, Unwritten, Illegal, Budget, Memory}
-use Rattle.affc_driver.proofs.Compiled.{within_never_stuck, named_is_written, nothing_folded, printed_compiles}
+use Rattle.affc_driver.proofs.Compiled.{within_never_stuck, named_is_written, nothing_folded, printed_compiles, has_loops}
 use Rattle.affc_driver.proofs.Counted.{nothing_counted}
 use Rattle.affc_driver.proofs.OnePlan.{one_target, one_threshold}
 use Rattle.affc_driver.proofs.Roles.{reads_roles, temporary_far}
@@ -78,43 +77,45 @@ stays_within text s = record {
 is_written : (text : List ℕ) (s : IsSound text) → WrittenThroughout s.program
 is_written text s p here = (safe_at text s p here).written
 
--- ---- Exactly such texts are folded
+-- ---- Such texts are folded
 
 -- a budget that is spent at once
 abbrev at_once : Account
 at_once = record { limit = Some 0; spent = 0 }
 
-module _ (named : FoldsWellNamed) (compiled : FoldedProgramCompiles) (Answers : List ℕ → ℕ → Type 0) where
+module _ (times : FoldsKeepTimes) (same : SameLoopsScan) (named : FoldsWellNamed) (compiled : FoldsCompile) (Answers : List ℕ → ℕ → Type 0) where
   pub foldable_is_folded : FoldableIsFolded Answers
-  foldable_is_folded text schedule = (
-    λ f.
-        let s = sound_of text schedule f in
-        let none = nothing_folded Answers f.program f.plan.schedule f.plan.folds at_once (λ whole. record { most = 0; limit = refl; reached = omega arith }) in (
-          at_once,
+  foldable_is_folded text schedule f s scans =
+      let sound = sound_of text schedule f in
+      let stays = stays_within text sound in
+      let none = nothing_folded Answers f.program f.plan.schedule f.plan.folds at_once (λ whole. record { most = 0; limit = refl; reached = omega arith }) in
+      let has = has_loops text schedule f.program f.plan f.reads f.plain stays f.planned in
+      let other = same f.program (folded_program f.program []) f.plan.schedule s has (times f.program []) scans in (
+        at_once,
+        (
+          printed_text other.0.program,
           (
-            printed_text (target_program (folded_program f.program []) f.plan.schedule),
-            (
-              report_text f.program [] [],
-              printed_compiles named compiled Answers text schedule f.program f.plan at_once [] [] f.reads f.plain (stays_within text s) (is_written text s) f.planned f.legal none,
-            ),
+            report_text f.program [] [] other.0.loose.items,
+            printed_compiles named compiled Answers text schedule f.program f.plan at_once [] [] other.0 f.reads f.plain stays (is_written text sound) f.planned f.legal none other.1,
           ),
         ),
-    λ r.
-        let folds : FoldsTo Answers text schedule r.0 r.1.0 r.1.1.0 = r.1.1.1 in
-        let program : Program = folds.compiles.source in
-        let reads : Reads text program = folds.compiles.source_reads in
-        record {
-          program = program;
-          reads = reads;
-          plain = folds.plain;
-          near = folds.within.near;
-          some = folds.within.some;
-          never_stuck = within_never_stuck text program reads folds.plain folds.within folds.written;
-          plan = folds.plan;
-          planned = folds.planned;
-          legal = folds.legal;
-        },
-  )
+      )
+
+pub folded_is_foldable : (Answers : List ℕ → ℕ → Type 0) → FoldedIsFoldable Answers
+folded_is_foldable Answers text schedule budget folded report folds =
+    let program : Program = folds.compiles.source in
+    let reads : Reads text program = folds.compiles.source_reads in
+    record {
+      program = program;
+      reads = reads;
+      plain = folds.plain;
+      near = folds.within.near;
+      some = folds.within.some;
+      never_stuck = within_never_stuck text program reads folds.plain folds.within folds.written;
+      plan = folds.plan;
+      planned = folds.planned;
+      legal = folds.legal;
+    }
 
 unlimited : (budget : Account) → budget.limit ≡ None → ¬ (IsSpent budget)
 unlimited budget none spent = absurd (none-some spent.most (sym none ∙ spent.limit))

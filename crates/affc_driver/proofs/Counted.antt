@@ -10,8 +10,7 @@ use Rattle.affc_trace.specs.declared.schedule.Schedule.{Schedule}
 use Rattle.affc_split.specs.Budgets.{Account, IsLater}
 use Rattle.affc_nest.specs.declared.nest.Nest.{Nest}
 use Rattle.affc_nest.specs.Nests.{nest_of}
-use Rattle.affc_rewrite.specs.Laws.{FoldedProgramCompiles}
-use Rattle.affc_foldprint.specs.Laws.{FoldsWellNamed}
+use Rattle.affc_foldprint.specs.Laws.{FoldsWellNamed, FoldsCompile}
 use Rattle.affc_schedtext.specs.declared.plan.Plan.{Plan}
 use Rattle.affc_threshold.specs.Thresholds.{threshold}
 use Rattle.affc_weigh.specs.Costs.{stopped}
@@ -25,7 +24,7 @@ use Rattle.affc_driver.proofs.Compiled.{folds_to}
 use Rattle.affc_driver.proofs.OnePlan.{one_threshold}
 use Rattle.affc_driver.proofs.Refused.{planned}
 
-module _ (named : FoldsWellNamed) (compiled : FoldedProgramCompiles) (Answers : List ℕ → ℕ → Type 0) (program : Program) (plan : Plan) where
+module _ (named : FoldsWellNamed) (compiled : FoldsCompile) (Answers : List ℕ → ℕ → Type 0) (program : Program) (plan : Plan) where
   -- the account is that of what is left
   pub folds_made : (account left : Account) (wanted : Wanted) (made : Made) → account ≡ (if is_plenty program plan.schedule left.limit then free else left)
       → IsCompiled Answers program plan account wanted made → OfEachPlan program plan (λ text schedule. FoldsMade Answers text schedule left wanted made)

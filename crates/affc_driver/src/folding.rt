@@ -28,7 +28,7 @@ use crate::wanted::Wanted;
 use affc_ast::tree::{ArrayId, Program};
 use affc_basis::Fold;
 use affc_cprint::print;
-use affc_foldprint::laws::{folds_are_scanned, folds_well_named};
+use affc_foldprint::laws::{folds_are_scanned, folds_compile, folds_well_named};
 use affc_grammar::laws::reads_counted;
 use affc_lex::lex;
 use affc_lex::token::{Kind, Token};
@@ -37,7 +37,6 @@ use affc_parse::fault::ParseFault;
 use affc_parse::parse;
 use affc_plan::read;
 use affc_report::fold_report;
-use affc_rewrite::laws::folded_program_compiles;
 use affc_rewrite::rewrite;
 use affc_scan::scan;
 use affc_schedtext::program::outline_of;
@@ -158,8 +157,8 @@ fn total_cost(folds: &[(ArrayId, Fold)], choices: &[(ArrayId, Choice)]) -> u128
     }
 }
 
-/// What is printed of the loops of a legal schedule, with these folds, and told of the folds. Of a fold that has no choice no cost
-/// is told, and it costs nothing.
+/// What is printed of the loops of a legal schedule, with these folds, and told of the folds and of the components that are loose. Of a
+/// fold that has no choice no cost is told, and it costs nothing.
 pub fn finish(
     alloc: Global,
     program: &Program,
@@ -181,11 +180,12 @@ pub fn finish(
 {
     folds_are_scanned();
     let other = rewrite(alloc, program, nest, folds)?;
-    let target = scan(alloc, &other, nest, &plan.schedule)?;
+    let scanned = scan(alloc, &other, nest, &plan.schedule)?;
     let outline = outline_of(alloc, program)?;
-    let report = fold_report(alloc, &outline, folds, choices)?;
+    let loose = scanned.loose.as_slice();
+    let report = fold_report(alloc, &outline, folds, choices, loose)?;
     let cost = total_cost(folds, choices);
-    match print(alloc, &target) {
+    match print(alloc, &scanned.program) {
         Ok(text) => Ok(Done { text, report, cost }),
         Err(_) => Err(Refusal::Memory),
     }
@@ -289,7 +289,7 @@ fn compile<F: Cost>(
     ensures plenty { is_plenty program.now plan.now.schedule budget.old.limit ≡ true → budget.new ≡ budget.old }
 {
     folds_well_named();
-    folded_program_compiles();
+    folds_compile();
     let nest = match nest_of(alloc, program) {
         Ok(nest) => nest,
         Err(refusal) => return Err(refusal),

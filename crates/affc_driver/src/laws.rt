@@ -1,8 +1,8 @@
 //! What a compilation's answers say of a source and of its runs. Each law is the contract of a function that does nothing.
-ghost use Rattle.affc_driver.specs.Laws.{ReadsNamingArrays, CompilesItself, WithinNeverStuck, NamedIsWritten, PrintedCompiles, UnlimitedFoldsAll, NoneIsCheaper, FaultsShow, UnwrittenShows, IllegalShows, FoldableIsFolded, FoldableIsNotRefused, UnlimitedIsNotRefused, FlowsAreSound, SoundIsNotRefused};
+ghost use Rattle.affc_driver.specs.Laws.{ReadsNamingArrays, CompilesItself, WithinNeverStuck, NamedIsWritten, PrintedCompiles, TextsRunTightly, UnlimitedFoldsAll, NoneIsCheaper, FaultsShow, UnwrittenShows, IllegalShows, FoldableIsFolded, FoldedIsFoldable, FoldableIsNotRefused, UnlimitedIsNotRefused, FlowsAreSound, SoundIsNotRefused};
 
-use affc_foldprint::laws::folds_well_named;
-use affc_rewrite::laws::folded_program_compiles;
+use affc_foldprint::laws::{folds_compile, folds_keep_times, folds_run_tightly, folds_well_named};
+use affc_scanned::laws::same_loops_scan;
 use affc_weigh::laws::Costing;
 
 /// The program that a text reads as names arrays.
@@ -30,7 +30,14 @@ pub fn printed_compiles<C: Costing>()
     ensures law { PrintedCompiles C.answers }
 {
     folds_well_named();
-    folded_program_compiles();
+    folds_compile();
+}
+
+/// Where one statement alone can have instances and no component is loose, each turn of the printed loops extends to a point of its time set.
+pub fn texts_run_tightly<C: Costing>()
+    ensures law { TextsRunTightly C.answers }
+{
+    folds_run_tightly();
 }
 
 /// Without a limit on what is spent, or with one of at least the threshold, each temporary is folded, by moduli that are shown to be least, and
@@ -59,13 +66,20 @@ pub fn illegal_shows()
     ensures law { IllegalShows }
 {}
 
-/// A text is folded exactly where its program is never stuck, and its schedule is legal.
+/// A text whose program is never stuck is folded where its schedule, which is legal, is scanned.
 pub fn foldable_is_folded<C: Costing>()
     ensures law { FoldableIsFolded C.answers }
 {
+    folds_keep_times();
+    same_loops_scan();
     folds_well_named();
-    folded_program_compiles();
+    folds_compile();
 }
+
+/// Only such a text is folded.
+pub fn folded_is_foldable<C: Costing>()
+    ensures law { FoldedIsFoldable C.answers }
+{}
 
 /// Such a text is refused for want of budget or of memory, and for nothing else, by `fold` and with a certificate by `fold_certified`.
 pub fn foldable_is_not_refused()

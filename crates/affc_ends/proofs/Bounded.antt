@@ -14,7 +14,7 @@ use Rattle.affc_farkas.specs.Rational.{scaled_value}
 use Rattle.affc_farkas.specs.declared.pair.Pair.{Pair}
 use Rattle.affc_farkas.proofs.Between.{swap, cancel}
 use Rattle.affc_eliminate.proofs.Values.{entry_inside}
-use Rattle.affc_project.specs.Projections.{AreProjected, AreFrom, IsRowOfTable}
+use Rattle.affc_project.specs.Projections.{AreProjected, AreFrom, IsRowOfTable, ExtendsWhole}
 use Rattle.affc_ends.specs.Ends.{IsProjectedRow, AreEnds}
 use Rattle.affc_ends.specs.Sizes.{IsModest}
 use Rattle.affc_ends.specs.Steps.{IsEnd}
@@ -55,6 +55,21 @@ flat_meets row xs d t before one l m e h holds =
     cancel d (value row (before ++ t ∷ [])) one (subst (λ z. pos 0 ≤ℤ z)
     (ap (λ z. z +ℤ (d *ℤ row.constant)) (flat_dot d t row.coefs xs before l m (sym (entry_inside row (length before) (omega arith)) ∙ e) h) ∙ sym (mul-add d (dot row.coefs (before ++ t ∷ [])) row.constant)) holds)
 
+-- those that are projected hold wherever the numbers before the column extend
+flat_met : (system : Rows) (column : ℕ) (rows : List Affine) (before : List ℤ) (t : ℤ) → column < system.columns → HaveColumns system.columns system.rows → All (IsProjectedRow system (suc column)) rows → length before ≡ column
+    → ExtendsWhole system.columns system.rows before → All (λ r. entry_of r column ≡ pos 0 → Meets (before ++ t ∷ []) r) rows
+flat_met system column rows before t inside widths all l e = λ i d lt flat.
+    let p = e.point in
+    let r = get_or rows i d in
+    let xs = take (suc column) p.x in
+    let taken : length xs ≡ suc column = length-take-le (suc column) p.x (subst (λ n. suc column ≤ n) (sym p.width) inside) in
+    flat_meets r xs p.d t before p.divisor ((all i d lt).is_row.terms.width ∙ ap suc (sym l)) (taken ∙ sym (all i d lt).is_row.terms.width) (ap (entry_of r) l ∙ flat)
+    (λ j jl. get_or-take (suc column) p.x j (pos 0) (within j (length before) column jl l) ∙ e.begins j jl)
+    (row_holds system (suc column) r p.x p.d (all i d lt) inside widths p.width p.meets)
+  where
+    within : (j n k : ℕ) → j < n → n ≡ k → j < suc k
+    within j n k lt e = omega arith
+
 -- ---- Ends
 
 sign : (z : ℤ) → (pos 0 <ℤ z) ⊎ ((z <ℤ pos 0) ⊎ (z ≡ pos 0))
@@ -77,25 +92,17 @@ are_ends system column ranges made projected lower upper inside widths h later l
       extend = λ before t l e met_low met_high.
           let whole = before ++ t ∷ [] in
           let long : length whole ≡ suc column = length-append before (t ∷ []) ∙ one (length before) ∙ ap suc l in
-          let p = e.point in
-          let xs = take (suc column) p.x in
-          let taken : length xs ≡ suc column = length-take-le (suc column) p.x (subst (λ n. suc column ≤ n) (sym p.width) inside) in
+          let met = flat_met system column projected before t inside widths all l e in
           (h.same_points whole long).0 (λ i d lt.
-          let r = get_or projected i d in
-          elim (sign (entry_of r column)) [
-            | inl below ↦ low.imply whole long met_low i d lt below
-            | inr (inl above) ↦ high.imply whole long met_high i d lt above
-            | inr (inr flat) ↦ flat_meets r xs p.d t before p.divisor ((all i d lt).is_row.terms.width ∙ ap suc (sym l)) (taken ∙ sym (all i d lt).is_row.terms.width) (ap (entry_of r) l ∙ flat)
-                (λ j jl. get_or-take (suc column) p.x j (pos 0) (within j (length before) column jl l) ∙ e.begins j jl)
-                (row_holds system (suc column) r p.x p.d (all i d lt) inside widths p.width p.meets)
+          elim (sign (entry_of (get_or projected i d) column)) [
+            | inl below ↦ low.imply whole long met met_low i d lt below
+            | inr (inl above) ↦ high.imply whole long met met_high i d lt above
+            | inr (inr flat) ↦ met i d lt flat
           ]);
     }
   where
     one : (n : ℕ) → n + 1 ≡ suc n
     one n = omega arith
-
-    within : (j n k : ℕ) → j < n → n ≡ k → j < suc k
-    within j n k lt e = omega arith
 
 -- ---- What the code is told
 

@@ -164,7 +164,7 @@ is_end lower column columns ranges rows chosen enough e h m g = record {
   among = among_all (Contains rows) chosen enough h.among g.among;
   each = among_all (BoundsEnd lower column) chosen enough h.each g.among;
   modest = among_all (IsModest ranges) chosen enough m g.among;
-  imply = λ whole l met.
+  imply = λ whole l flat met.
       let all = g.imply whole (l ∙ sym e) met in
       All-weaker (λ r. BoundsEnd lower column r → Contains chosen r) (λ r. BoundsEnd lower column r → Meets whole r) (λ r f b. All-contains (Meets whole) chosen r all (f b)) rows h.all;
 }

@@ -100,10 +100,10 @@ none_is_whole t h = odd (pos 1 *ℤ t) h.turn.2.0.0
 
 -- ---- The reversed loop
 
-divisor_of_one : (k : ℕ) → k ∣ 1 → k ≡ 1
+pub divisor_of_one : (k : ℕ) → k ∣ 1 → k ≡ 1
 divisor_of_one k h = dvd_antisymm {m = k} {n = 1} h (one-dvd k)
 
-two_only : (f g : ℕ → ℤ) → f 0 ≡ g 0 → f 1 ≡ g 1 → (j : ℕ) → j < 2 → f j ≡ g j
+pub two_only : (f g : ℕ → ℤ) → f 0 ≡ g 0 → f 1 ≡ g 1 → (j : ℕ) → j < 2 → f j ≡ g j
 two_only f g a b zero h = a
 two_only f g a b (suc zero) h = b
 two_only f g a b (suc (suc j)) h = absurd (omega arith)
@@ -155,7 +155,7 @@ up_to_row = record {
   };
 }
 
-meets_row : (n t : ℤ) (x : List ℤ) (d : ℤ) (r : Affine) → length r.coefs ≡ 2 → entry_of r 1 ≡ pos 0 → length x ≡ 2 → pos 1 ≤ℤ d → ((j : ℕ) → j < 1 → get_or x j (pos 0) ≡ d *ℤ get_or (n ∷ []) j (pos 0)) → pos 0 ≤ℤ scaled_value r x d
+pub meets_row : (n t : ℤ) (x : List ℤ) (d : ℤ) (r : Affine) → length r.coefs ≡ 2 → entry_of r 1 ≡ pos 0 → length x ≡ 2 → pos 1 ≤ℤ d → ((j : ℕ) → j < 1 → get_or x j (pos 0) ≡ d *ℤ get_or (n ∷ []) j (pos 0)) → pos 0 ≤ℤ scaled_value r x d
     → Meets (n ∷ t ∷ []) r
 meets_row n t x d r w z l one b h = flat_meets r x d t (n ∷ []) one w (l ∙ sym w) z b h
 

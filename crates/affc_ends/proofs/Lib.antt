@@ -11,6 +11,8 @@ pub mod Composed
 pub mod Given
 pub mod Chosen
 pub mod Asked
+pub mod Remaining
 pub mod Bounded
 pub mod Statements
 pub mod ExampleProofs
+pub mod ForwardProofs

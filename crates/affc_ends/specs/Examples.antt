@@ -1,5 +1,6 @@
 -- What the definitions give of small statements. Each value was found by hand from the rules.
 use Rattle.std.specs.Prelude.{◌≡◌, ℕ, ℤ, pos, negsuc, List, [], ◌∷◌}
+use Rattle.std.specs.List.{Contains}
 use Rattle.affc_rows.specs.Forms.{Affine}
 use Rattle.affc_ast.specs.declared.tree.Ix.{Ix}
 use Rattle.affc_ast.specs.declared.tree.Ix.TheVariants.{Lit, Name, Add}
@@ -8,6 +9,7 @@ use Rattle.affc_domain.specs.Rounds.{Loop, Test}
 use Rattle.affc_ends.specs.TimeSets.{Timed, IsTimePoint}
 use Rattle.affc_ends.specs.TimeRows.{system_of}
 use Rattle.affc_ends.specs.Ends.{AreEnds}
+use Rattle.affc_ends.specs.Steps.{AreLeft}
 
 abbrev lit : ℕ → Ix
 lit k = Lit (pos k)
@@ -95,6 +97,55 @@ EachAtItsEnd = AreEnds (system_of reversed) 1 (from ∷ []) (from ∷ []) → �
 -- rounded inwards, N - 2 + t is no row of an elimination
 abbrev pub NoOtherRow : Type 0
 NoOtherRow = AreEnds (system_of reversed) 1 (row (pos 1 ∷ pos 1 ∷ []) (negsuc 1) ∷ []) (up_to ∷ []) → ⊥
+
+-- ---- for N from 1 to 4: for (i = 0; i < N; i++) at the time i
+
+abbrev pub forward : Timed
+forward = record {
+  params = (pos 1, pos 4) ∷ [];
+  context = [];
+  around = Loop [] (lit 0) Less (name 0) ∷ [];
+  ranges = (pos 0, pos 3) ∷ [];
+  times = row (pos 0 ∷ pos 1 ∷ []) (pos 0) ∷ [];
+  inverse = row (pos 0 ∷ pos 1 ∷ []) (pos 0) ∷ [];
+}
+
+-- over N and t: t, and N - 1 - t; 3 - t, by the range of i; 4 - N, by that of N
+abbrev pub start : Affine
+start = row (pos 0 ∷ pos 1 ∷ []) (pos 0)
+
+abbrev pub bound : Affine
+bound = row (pos 1 ∷ negsuc 0 ∷ []) (negsuc 0)
+
+abbrev pub greatest : Affine
+greatest = row (pos 0 ∷ negsuc 0 ∷ []) (pos 3)
+
+abbrev pub at_most_four : Affine
+at_most_four = row (negsuc 0 ∷ pos 0 ∷ []) (pos 4)
+
+-- 3 - t is a row of the system, over no column but t
+abbrev pub RangeIsARow : Type 0
+RangeIsARow = Contains (system_of forward).rows greatest
+
+-- the ends are whole without it
+abbrev pub RangeMayGo : Type 0
+RangeMayGo = AreEnds (system_of forward) 1 (start ∷ []) (bound ∷ [])
+
+-- by it alone 3 would be a turn at N = 1
+abbrev pub RangeIsTooLittle : Type 0
+RangeIsTooLittle = AreEnds (system_of forward) 1 (start ∷ []) (greatest ∷ []) → ⊥
+
+-- beside 4 - N it follows from N - 1 - t
+abbrev pub BesideTheParameter : Type 0
+BesideTheParameter = AreLeft 2 (at_most_four ∷ []) (bound ∷ greatest ∷ []) (bound ∷ [])
+
+-- at N = 9 it doesn't
+abbrev pub NotByItself : Type 0
+NotByItself = AreLeft 2 [] (bound ∷ greatest ∷ []) (bound ∷ []) → ⊥
+
+-- nor does N - 1 - t follow from it
+abbrev pub BoundStays : Type 0
+BoundStays = AreLeft 2 (at_most_four ∷ []) (bound ∷ greatest ∷ []) (greatest ∷ []) → ⊥
 
 -- ---- for N from 1 to 9: for (i = 0; i <= 9; i++) if (i + i == N) at the time i
 

@@ -1,8 +1,9 @@
 -- The steps to the ends of a column.
-use Rattle.std.specs.Prelude.{◌≡◌, ℕ, suc, ◌≤◌, Bool, true, false, List, [], ◌∷◌, ◌++◌, length, ℤ}
+use Rattle.std.specs.Prelude.{◌≡◌, ℕ, suc, ◌≤◌, Bool, true, false, List, [], ◌∷◌, ◌++◌, length, ℤ, pos}
 use Rattle.std.specs.List.{All, Contains}
 use Rattle.affc_rows.specs.Forms.{Affine}
 use Rattle.affc_system.specs.Systems.{Rows, Meets}
+use Rattle.affc_farkas.specs.Multiples.{entry_of}
 use Rattle.affc_farkas.specs.Rational.{RationalPoint}
 use Rattle.affc_farkas.specs.Eliminations.{IsElimination}
 use Rattle.affc_project.specs.Projections.{IsTooWide}
@@ -43,10 +44,24 @@ pub record AreOfEnd (lower : Bool) (column : ℕ) (rows chosen : List Affine) : 
   pub each : All (BoundsEnd lower column) chosen
   pub all : All (λ r. BoundsEnd lower column r → Contains chosen r) rows
 
--- enough modest ones of them
+-- of projected rows some modest ones that don't look at the column, at most 100
+pub record AreFlat (column : ℕ) (ranges : List (ℤ × ℤ)) (rows flat : List Affine) : Type 0 where
+  pub few : length flat ≤ 100
+  pub among : All (Contains rows) flat
+  pub each : All (λ r. entry_of r column ≡ pos 0) flat
+  pub modest : All (IsModest ranges) flat
+
+-- some of the rows that are kept: whole numbers that meet those beside them meet them exactly where they meet all that are kept
+pub record AreLeft (columns : ℕ) (beside kept left : List Affine) : Type 0 where
+  pub few : length left ≤ length kept
+  pub among : All (Contains kept) left
+  pub imply : (whole : List ℤ) → length whole ≡ columns → All (Meets whole) beside → All (Meets whole) left → All (Meets whole) kept
+
+-- enough modest rows of this end: whole numbers that meet the rows that don't look at the column meet all of this end where they meet these
 pub record IsEnd (lower : Bool) (column : ℕ) (ranges : List (ℤ × ℤ)) (rows enough : List Affine) : Type 0 where
   pub few : length enough ≤ 8
   pub among : All (Contains rows) enough
   pub each : All (BoundsEnd lower column) enough
   pub modest : All (IsModest ranges) enough
-  pub imply : (whole : List ℤ) → length whole ≡ suc column → All (Meets whole) enough → All (λ r. BoundsEnd lower column r → Meets whole r) rows
+  pub imply : (whole : List ℤ) → length whole ≡ suc column → All (λ r. entry_of r column ≡ pos 0 → Meets whole r) rows → All (Meets whole) enough
+      → All (λ r. BoundsEnd lower column r → Meets whole r) rows

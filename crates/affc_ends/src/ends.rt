@@ -4,14 +4,16 @@ ghost use Rattle.std.specs.List.{All};
 ghost use Rattle.affc_rows.specs.Forms.{Affine};
 ghost use Rattle.affc_system.specs.Boxes.{box_magnitude, reach};
 ghost use Rattle.affc_system.specs.Systems.{Meets, Rows};
+ghost use Rattle.affc_farkas.specs.Multiples.{entry_of};
 ghost use Rattle.affc_farkas.specs.Rational.{RationalPoint};
 ghost use Rattle.affc_ends.specs.Ends.{IsProjectedRow};
 ghost use Rattle.affc_ends.specs.Sizes.{IsModest, IsLarge, IsPrintable};
-ghost use Rattle.affc_ends.specs.Steps.{IsStop, AreEnough, BoundsEnd, AreOfEnd, IsEnd};
+ghost use Rattle.affc_ends.specs.Steps.{IsStop, AreEnough, BoundsEnd, AreOfEnd, AreFlat, IsEnd};
 ghost use Rattle.affc_ends.specs.Whys.{AreOfOneEnd, NoneIsImplied, below_zero, IsBounds};
 
 use crate::bounds::{Answer, Bounds, Stop, Why};
-use crate::questions::ask;
+use crate::left::left_of;
+use crate::questions::{ask, without};
 use affc_project::{Projected, project};
 use affc_rows::Form;
 use affc_system::{BoxOf, System};
@@ -19,6 +21,9 @@ use std::alloc::{AllocError, Global};
 
 /// The most rows of an end.
 const MOST_ROWS: usize = 8;
+
+/// The most rows beside those of an end that are asked with them.
+const MOST_FLAT: usize = 100;
 
 /// The greatest sum of the magnitudes of a row's terms over the box.
 const MOST_MAGNITUDE: u128 = 1 << 62;
@@ -130,18 +135,36 @@ fn of_end(alloc: Global, rows: &[Form], column: usize, lower: bool) -> Result<Ve
     Ok(chosen)
 }
 
-/// The rows without the one at a place.
-fn without(rows: &[Form], place: usize, alloc: Global) -> Result<Vec<Form>, AllocError>
-    requires { place < length rows.now }
-    ensures { IfOk result (λ v. v.items ≡ remove rows.now place) }
+/// Whether the row is modest and doesn't look at the column.
+fn is_flat(row: &Form, column: usize, ranges: &[(i64, i64)]) -> bool
+    requires inside { column < length row.now.coefs }
+    requires few { length row.now.coefs ≤ 128 }
+    ensures flat { IsTrue result → entry_of row.now column ≡ pos 0 }
+    ensures modest { IsTrue result → IsModest ranges.now row.now }
 {
-    let mut others = Vec::new(alloc);
+    let coefficient = row.coefs.as_slice()[column];
+    coefficient == 0 && is_modest(row, ranges)
+}
+
+/// The first of the modest rows that don't look at the column.
+fn flat_among(
+    alloc: Global,
+    rows: &[Form],
+    column: usize,
+    ranges: &[(i64, i64)],
+) -> Result<Vec<Form>, AllocError>
+    requires inside { All (λ f. column < length f.coefs) rows.now }
+    requires few { All (λ f. length f.coefs ≤ 128) rows.now }
+    ensures { IfOk result (λ v. AreFlat column ranges.now rows.now v.items) }
+{
+    let mut flat = Vec::new(alloc);
     for row in rows {
-        let copy = row.clone()?;
-        others.push(copy)?;
+        if flat.len() < MOST_FLAT && is_flat(row, column, ranges) {
+            let copy = row.clone()?;
+            flat.push(copy)?;
+        }
     }
-    others.remove(place);
-    Ok(others)
+    Ok(flat)
 }
 
 /// Whether the other rows imply the one at a place, at whole numbers.
@@ -242,8 +265,8 @@ fn narrowed(alloc: Global, columns: u32, rows: &[Form]) -> Result<Vec<Form>, Sto
     Ok(kept)
 }
 
-/// One end of the column, among rows over the columns up to it.
-fn end_of(
+/// Enough modest rows of one end of the column, among rows over the columns up to it.
+fn enough_of(
     alloc: Global,
     columns: u32,
     lower: bool,
@@ -268,6 +291,30 @@ fn end_of(
         });
     }
     narrowed(alloc, columns, chosen.as_slice())
+}
+
+/// One end of the column, among rows over the columns up to it: of enough rows those that the others and the flat ones don't imply.
+fn end_of(
+    alloc: Global,
+    columns: u32,
+    lower: bool,
+    rows: &[Form],
+    ranges: &[(i64, i64)],
+) -> Result<Vec<Form>, Stop>
+    requires some { 1 ≤ columns }
+    requires columns { columns ≤ 128 }
+    requires widths { All (λ f. length f.coefs ≡ columns) rows.now }
+    ensures ok { IfOk result (λ v. (column : ℕ) → columns ≡ suc column → IsEnd lower column ranges.now rows.now v.items) }
+    ensures stop { IfErr result (λ e. (system : Rows) (column : ℕ) → columns ≡ suc column → All (IsProjectedRow system (suc column)) rows.now → IsStop system column ranges.now e) }
+{
+    let kept = enough_of(alloc, columns, lower, rows, ranges)?;
+    let Ok(flat) = flat_among(alloc, rows, (columns - 1) as usize, ranges) else {
+        return Err(Stop::Memory);
+    };
+    let Ok(left) = left_of(alloc, columns, kept, flat.as_slice()) else {
+        return Err(Stop::Memory);
+    };
+    Ok(left)
 }
 
 /// Both ends of the column, among rows over the columns up to it.

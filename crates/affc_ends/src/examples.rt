@@ -1,6 +1,6 @@
 //! What the definitions give of small statements, as laws: `specs/Examples.antt` says each, with values that were found by hand from
 //! the rules.
-ghost use Rattle.affc_ends.specs.Examples.{TriangleRows, OneOneHasATime, HalvesAreTimePoints, TheDivisorCounts, NotAboveTheDiagonal, BelowIsOneLess, ReversedEnds, OneEndIsTooFew, EachAtItsEnd, NoOtherRow, OneAndAHalfIsATimePoint, NoneIsWhole};
+ghost use Rattle.affc_ends.specs.Examples.{TriangleRows, OneOneHasATime, HalvesAreTimePoints, TheDivisorCounts, NotAboveTheDiagonal, BelowIsOneLess, ReversedEnds, OneEndIsTooFew, EachAtItsEnd, NoOtherRow, RangeIsARow, RangeMayGo, RangeIsTooLittle, BesideTheParameter, NotByItself, BoundStays, OneAndAHalfIsATimePoint, NoneIsWhole};
 
 /// The instances below a diagonal, by their sum.
 pub fn triangles()
@@ -18,6 +18,16 @@ pub fn reverses()
     ensures too_few { OneEndIsTooFew }
     ensures each_at_its_end { EachAtItsEnd }
     ensures no_other_row { NoOtherRow }
+{}
+
+/// A loop whose bound implies the range of its iterator.
+pub fn leaves_out()
+    ensures range_is_a_row { RangeIsARow }
+    ensures range_may_go { RangeMayGo }
+    ensures range_is_too_little { RangeIsTooLittle }
+    ensures beside_the_parameter { BesideTheParameter }
+    ensures not_by_itself { NotByItself }
+    ensures bound_stays { BoundStays }
 {}
 
 /// A time set without a whole point.

@@ -5,6 +5,7 @@ pub mod bounds;
 pub mod ends;
 pub mod examples;
 pub mod laws;
+mod left;
 mod questions;
 pub mod statement;
 pub mod system;

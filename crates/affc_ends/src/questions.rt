@@ -1,5 +1,5 @@
 //! Whether rows imply another one, asked of elimination.
-ghost use Rattle.std.specs.Prelude.{◌≡◌, ℕ, ◌+◌, ◌<◌, ◌≤◌, ◌++◌, ◌∷◌, [], length, neg_ℤ, unsigned_abs, ◌^◌, ◌↔◌, IsTrue, IfOk};
+ghost use Rattle.std.specs.Prelude.{◌≡◌, ℕ, ◌+◌, ◌<◌, ◌≤◌, ◌++◌, ◌∷◌, [], length, neg_ℤ, unsigned_abs, ◌^◌, ◌↔◌, IsTrue, IfOk, remove};
 ghost use Rattle.std.specs.List.{All};
 ghost use Rattle.affc_system.specs.Systems.{Meets};
 ghost use Rattle.affc_ends.specs.Sizes.{IsPrintable};
@@ -14,6 +14,20 @@ use affc_rows::Form;
 use affc_system::System;
 use smallvec::SmallVec;
 use std::alloc::{AllocError, Global};
+
+/// The rows without the one at a place.
+pub(crate) fn without(rows: &[Form], place: usize, alloc: Global) -> Result<Vec<Form>, AllocError>
+    requires { place < length rows.now }
+    ensures { IfOk result (λ v. v.items ≡ remove rows.now place) }
+{
+    let mut others = Vec::new(alloc);
+    for row in rows {
+        let copy = row.clone()?;
+        others.push(copy)?;
+    }
+    others.remove(place);
+    Ok(others)
+}
 
 /// The number with the other sign.
 fn negative(c: i128) -> i128
@@ -41,7 +55,7 @@ fn below_zero(alloc: Global, row: &Form) -> Result<Form, AllocError>
 /// The system of the question whether these rows imply another one.
 fn question(alloc: Global, columns: u32, others: &[Form], row: &Form) -> Result<System, AllocError>
     requires columns { columns ≤ 128 }
-    requires few { length others.now ≤ 8 }
+    requires few { length others.now ≤ 200 }
     requires others { All (IsPrintable columns) others.now }
     requires row { IsPrintable columns row.now }
     ensures { IfOk result (λ s. s ≡ question columns others.now row.now) }
@@ -69,7 +83,7 @@ pub(crate) fn ask(
     row: &Form,
 ) -> Result<Answer, AllocError>
     requires columns { columns ≤ 128 }
-    requires few { length others.now ≤ 8 }
+    requires few { length others.now ≤ 200 }
     requires others { All (IsPrintable columns) others.now }
     requires row { IsPrintable columns row.now }
     ensures { IfOk result (IsAnswer columns others.now row.now) }

@@ -149,7 +149,7 @@ fn columns_from(
 }
 
 /// Adds copies of forms.
-fn add_copies(forms: &[Form], out: &mut Vec<Form>) -> Result<(), AllocError>
+pub(crate) fn add_copies(forms: &[Form], out: &mut Vec<Form>) -> Result<(), AllocError>
     ensures { OnOk result (out.new.items ≡ out.old.items ++ forms.now) }
 {
     match forms {

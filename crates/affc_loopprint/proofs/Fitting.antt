@@ -1,10 +1,13 @@
--- What the limits of a schedule and of its source give of the statements that are printed.
-use Rattle.std.proofs.Common.{◌≡◌, ℕ, ◌+◌, ◌^◌, ◌≤◌, ℤ, true, List, ◌∷◌, length, Some, sym, ap, subst, ◌∙◌, arith}
+-- What the limits of a schedule and of its source give of the statements that are printed, and of the ranges of their times.
+use Rattle.std.proofs.Common.{◌≡◌, ℕ, ◌+◌, ◌^◌, ◌≤◌, ℤ, Bool, true, false, unsigned_abs, List, ◌++◌, length, get_or, Some, sym, ap, subst, ◌∙◌, arith}
 use Rattle.std.specs.Prelude.{slice_get}
 use Rattle.std.specs.List.{All}
+use Rattle.std.proofs.lemmas.List.Elements.{All-append, All-map}
 use Rattle.std.proofs.lemmas.Option.{same_Some}
-use Rattle.affc_rows.specs.Forms.{HaveColumns}
-use Rattle.affc_system.specs.Boxes.{IsBox}
+use Rattle.affc_rows.specs.Forms.{Affine, value, magnitude, HaveColumns}
+use Rattle.affc_system.specs.Boxes.{IsBox, InBox, corner}
+use Rattle.affc_system.proofs.BoxLemmas.{corner_in_box, corner_is_corner}
+use Rattle.affc_ast.specs.declared.tree.Ix.{Ix}
 use Rattle.affc_ast.specs.declared.tree.Program.{Program}
 use Rattle.affc_ast.specs.Trace.{assignments}
 use Rattle.affc_trace.specs.declared.schedule.TimeMap.{TimeMap}
@@ -15,25 +18,28 @@ use Rattle.affc_trace.proofs.Runs.{length_append}
 use Rattle.affc_domain.specs.Ranges.{number_ranges}
 use Rattle.affc_domain.specs.Rounds.{rounds, loops_in}
 use Rattle.affc_domain.proofs.PlainLemmas.{rounds_are_plain, few_loops}
+use Rattle.affc_loops.specs.Between.{body_between}
 use Rattle.affc_loops.specs.Laws.{HasLoops, HaveSameLoops}
 use Rattle.affc_loops.specs.Limits.{IsSlight}
-use Rattle.affc_loops.specs.Loops.{Piece, boxes, pieces, time_ranges, loop_names, body_of}
+use Rattle.affc_loops.specs.Loops.{Piece, boxes, pieces, times_of, loop_names}
+use Rattle.affc_loops.specs.Spans.{span}
+use Rattle.affc_loops.proofs.Boxed.{box_length}
 use Rattle.affc_loops.proofs.Boxes.{sits, near_box, params_ordered}
 use Rattle.affc_loops.proofs.Guards.{names_count}
 use Rattle.affc_loops.proofs.Pieces.{is_piece, shape_of, numbers_are}
-use Rattle.affc_loops.proofs.SameLoops.{boxes_same, numbers_same, times_same}
-use Rattle.affc_loops.proofs.Sizes.{Within, map_within, near_within, time_most, ranges_within}
-use Rattle.affc_loops.proofs.TimeRanges.{Spans, ranges_long}
-use Rattle.affc_loops.proofs.LoopLaws.{few, slight}
+use Rattle.affc_loops.proofs.SameLoops.{boxes_same, numbers_same}
+use Rattle.affc_loops.proofs.Sizes.{Within, map_within, near_within, params_within, time_most, box_within, slight_below, value_within}
+use Rattle.affc_loops.proofs.TimeRanges.{Spans, here_long, ordered_append}
+use Rattle.affc_loops.proofs.LoopLaws.{slight}
 
--- the loops of a program over these ranges, with these statements
-abbrev pub loops_program : Program → List (ℤ × ℤ) → List Piece → Program
-loops_program program ranges es = record {
+-- the loops of a program between these ends, with these statements
+abbrev pub loops_program : Program → List (Ix × Ix) → List Piece → Program
+loops_program program ends es = record {
   name = program.name;
   params = program.params;
   context = program.context;
   temps = program.temps;
-  body = body_of (numbers_in program.params) ranges es;
+  body = body_between (numbers_in program.params) ends es;
   prelude = true;
 }
 
@@ -87,18 +93,64 @@ module _ (source other : Program) (n : ℕ) (maps : List TimeMap) (has : HasLoop
         inverse_slight = w.inverse;
       }
 
-  pub ranges_fit : All (Within time_most) (time_ranges (number_ranges other.params) (pieces other maps))
-  ranges_fit =
-      subst (All (Within time_most)) (sym (times_same source other same maps)) (ranges_within source n maps has.plain has.near has.scheduled (few source n maps has) (slight source n maps has))
+  -- the ranges of a statement's times
 
-  spans : (e : Piece) → IsIn e (pieces other maps) → Spans (number_ranges other.params) n e
+  abbrev known : List (ℤ × ℤ)
+  known = number_ranges other.params
+
+  ordered : IsBox known
+  ordered = subst IsBox (sym same.same_ranges) (params_ordered (number_ranges source.params) (has.plain).ranges)
+
+  spans : (e : Piece) → IsIn e (pieces other maps) → Spans known n e
   spans e i =
       let f = fitting e i in
-      let a = length_append (number_ranges other.params) e.ranges in
+      let a = length_append known e.ranges in
       let b = numbers_are other.params in
       let c = f.box in
       record { components = f.components; columns = subst (λ m. HaveColumns m e.times.forms) (omega (arith, a, b, c)) f.columns; ordered = f.ordered }
 
-  pub ranges_count : (e : Piece) (es : List Piece) → pieces other maps ≡ e ∷ es → length (time_ranges (number_ranges other.params) (e ∷ es)) ≡ n
-  ranges_count e es q =
-      ranges_long (number_ranges other.params) n (subst IsBox (sym same.same_ranges) (params_ordered (number_ranges source.params) (has.plain).ranges)) e es (λ f i. spans f (subst (IsIn f) (sym q) i))
+  pub times_count : (e : Piece) → IsIn e (pieces other maps) → length (times_of known e) ≡ n
+  times_count e i = here_long known n ordered e (spans e i)
+
+  module _ (e : Piece) (i : IsIn e (pieces other maps)) where
+    abbrev box : List (ℤ × ℤ)
+    box = known ++ e.ranges
+
+    known_near : All (Within (2 ^ 31)) known
+    known_near =
+        subst (All (Within (2 ^ 31))) (sym same.same_ranges)
+        (λ j r l.
+        let w : Within (2 ^ 24) (get_or (number_ranges source.params) j r) = params_within (number_ranges source.params) (has.plain).ranges j r l in
+        let a = w.0 in let b = w.1 in
+        (omega (arith, a), omega (arith, b)))
+
+    short : length box ≤ 10
+    short =
+        let f = fitting e i in
+        let a = length_append known e.ranges in
+        let b = ap length same.same_ranges in
+        let c = has.plain.few_numbers in
+        let d = f.box in
+        let g = f.few in
+        omega (arith, a, b, c, d, g)
+
+    at_corner : (greatest : Bool) (g : Affine) → IsSlight g → length g.coefs ≡ length box → unsigned_abs (value g (corner greatest g.coefs box)) ≤ time_most
+    at_corner greatest g s wide =
+        let xs = corner greatest g.coefs box in
+        let there : InBox box xs = corner_in_box box xs (ordered_append known e.ranges ordered (fitting e i).ordered) (corner_is_corner greatest g.coefs box wide) in
+        let long : length xs ≡ length box = box_length box xs there in
+        let l = short in
+        let near : All (Within (2 ^ 31)) box = All-append (Within (2 ^ 31)) known e.ranges known_near (fitting e i).near in
+        let m : magnitude g xs ≤ time_most = slight_below g xs 10 (2 ^ 31) s (box_within box xs (2 ^ 31) there near) (omega (arith, long, l)) in
+        let v : unsigned_abs (value g xs) ≤ magnitude g xs = value_within g xs in
+        omega (arith, m, v)
+
+    pub times_fit : All (Within (2 ^ 62)) (times_of known e)
+    times_fit =
+        All-map (Within (2 ^ 62)) (span box) e.times.forms (λ j g l.
+        let f = get_or e.times.forms j g in
+        let s : IsSlight f = (fitting e i).slight j g l in
+        let w : length f.coefs ≡ length box = (spans e i).columns j g l in
+        let a : unsigned_abs (value f (corner false f.coefs box)) ≤ time_most = at_corner false f s w in
+        let b : unsigned_abs (value f (corner true f.coefs box)) ≤ time_most = at_corner true f s w in
+        (omega (arith, a), omega (arith, b)))

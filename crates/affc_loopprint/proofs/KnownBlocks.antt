@@ -7,6 +7,7 @@ use Rattle.affc_lex.specs.Bytes.{same}
 use Rattle.affc_lex.specs.Pieces.{is_word}
 use Rattle.affc_rows.specs.Forms.{Affine, HaveColumns}
 use Rattle.affc_ast.specs.declared.tree.Compare.{Compare}
+use Rattle.affc_ast.specs.declared.tree.Ix.{Ix}
 use Rattle.affc_ast.specs.declared.tree.Local.{Local}
 use Rattle.affc_ast.specs.declared.tree.Rel.TheVariants.{LessEqual}
 use Rattle.affc_ast.specs.declared.tree.Stmt.{Stmt}
@@ -15,9 +16,10 @@ use Rattle.affc_ast.specs.Trace.{Assignment}
 use Rattle.affc_trace.specs.Law.{IsIn}
 use Rattle.affc_domain.specs.Rounds.{Round, Loop, Test, loops_in}
 use Rattle.affc_grammar.specs.Names.{is_time_name}
+use Rattle.affc_loops.specs.Between.{loops_between, body_between}
 use Rattle.affc_loops.specs.Limits.{IsSlight}
-use Rattle.affc_loops.specs.Loops.{Piece, loop_names, locals_of, box_tests, time_tests, if_any, loop_tests, guarded, moved_assign, block_of, time_name, loops, body_of}
-use Rattle.affc_loops.specs.Trees.{name_at, number, form_tree}
+use Rattle.affc_loops.specs.Loops.{Piece, loop_names, locals_of, box_tests, time_tests, if_any, loop_tests, guarded, moved_assign, block_of, time_name}
+use Rattle.affc_loops.specs.Trees.{name_at, form_tree}
 use Rattle.affc_loops.proofs.Guards.{names_count}
 use Rattle.affc_loops.proofs.Sizes.{Within}
 use Rattle.affc_cprint.proofs.Arms.{for_here, if_here, block_here}
@@ -25,7 +27,9 @@ use Rattle.affc_cprint.proofs.Spelled.{off}
 use Rattle.affc_cprint.specs.Forms.{is_none}
 use Rattle.affc_wellnamed.specs.Known.{Known, and_iterator, and_locals, is_new, is_refused, is_bound, ix_known, compares_known, for_known, if_known, locals_known, block_known, stmt_step, stmt_known, stmts_known}
 use Rattle.affc_loopprint.specs.Spare.{HaveFreeNames}
+use Rattle.affc_loopprint.proofs.EndCases.{EndsFrom}
 use Rattle.affc_loopprint.proofs.KnownAround.{around_known}
+use Rattle.affc_loopprint.proofs.KnownEnds.{KnownAt}
 use Rattle.affc_loopprint.proofs.Moved.{moved_known, all_moved_known, tests_moved_known, moved_takes, moved_value_known}
 use Rattle.affc_loopprint.proofs.Sums.{sums_known, number_has, form_has}
 use Rattle.affc_loopprint.proofs.TimeNames.{time_is_word, time_is_time, times_differ, free_is_other}
@@ -178,24 +182,24 @@ not_refused r true false e f = absurd (cc)
 abbrev TimesFree : Known → ℕ → Type 0
 TimesFree known component = (k : ℕ) → component ≤ k → k < 64 → known.is_taken (time_name k) ≡ false
 
-loops_there : (known : Known) (ranges : List (ℤ × ℤ)) (component most : ℕ) (body : List Stmt) → known.prelude ≡ true → component + length ranges ≤ 64 → TimesFree known component → most ≤ 2 ^ 62 → All (Within most) ranges
-    → ((inner : Known) → Inside known inner (length ranges) → stmts_known inner body ≡ true) → stmts_known known (loops ranges component body) ≡ true
-loops_there known [] component most body calls few free m w inside = inside known (record { calls = calls; numbers = omega arith; arrays = refl; stays = λ v f h. h })
-loops_there known (r ∷ rs) component most body calls few free m w inside =
+-- each end names what stands before its column alone
+loops_there : (known : Known) (ends : List (Ix × Ix)) (component column : ℕ) (body : List Stmt) → known.prelude ≡ true → component + length ends ≤ 64 → TimesFree known component
+    → column ≤ known.numbers → EndsFrom KnownAt column ends
+    → ((inner : Known) → Inside known inner (length ends) → stmts_known inner body ≡ true) → stmts_known known (loops_between ends component body) ≡ true
+loops_there known [] component column body calls few free m w inside = inside known (record { calls = calls; numbers = omega arith; arrays = refl; stays = λ v f h. h })
+loops_there known (e ∷ es) component column body calls few free m w inside =
     let name = time_name component in
-    let e : Within most r = w 0 r (omega arith) in
-    let e0 = e.0 in let e1 = e.1 in
-    let low = number_has (λ z. ix_known known z ≡ true) known.numbers (sums_known known) r.0 (omega (arith, e0, m)) in
-    let high = number_has (λ z. ix_known known z ≡ true) known.numbers (sums_known known) r.1 (omega (arith, e1, m)) in
+    let low = w.0 known calls m in
+    let high = w.1 known calls m in
     let small : component < 2 ^ 64 = omega (arith, few) in
     let new : is_new known true name ≡ true =
     and_from _ _ (and_from _ _ (time_is_word component small) (not_refused (is_reserved name) known.prelude (is_time_name name) calls (time_is_time component small))) (ap not (free component (omega arith) (omega (arith, few)))) in
     let next = and_iterator known name in
     and_from _ true
-    (ap (λ (f : Known → Bool). f known) (for_here stmt_step name (number r.0) LessEqual (number r.1) (loops rs (suc component) body))
-    ∙ and_from (for_known known name (number r.0) LessEqual (number r.1)) _ (and_from _ _ new (and_from _ _ low high))
-    (loops_there next rs (suc component) most body calls (omega (arith, few))
-    (λ k l t. or_from _ _ (times_differ component k small (omega (arith, t)) (omega (arith, l))) (free k (omega (arith, l)) t)) m (λ i y k. w (suc i) y (omega (arith, k)))
+    (ap (λ (f : Known → Bool). f known) (for_here stmt_step name e.0 LessEqual e.1 (loops_between es (suc component) body))
+    ∙ and_from (for_known known name e.0 LessEqual e.1) _ (and_from _ _ new (and_from _ _ low high))
+    (loops_there next es (suc component) (suc column) body calls (omega (arith, few))
+    (λ k l t. or_from _ _ (times_differ component k small (omega (arith, t)) (omega (arith, l))) (free k (omega (arith, l)) t)) (omega (arith, m)) w.2
     (λ inner i. inside inner (record {
       calls = i.calls;
       numbers = (let q = i.numbers in omega (arith, q));
@@ -208,14 +212,14 @@ blocks_there first n inner [] h = refl
 blocks_there first n inner (e ∷ es) h = and_from _ _ (h e (inl refl)) (blocks_there first n inner es (λ f i. h f (inr i)))
 
 -- the body that is printed, where outside so much is known
-pub body_there : (first most : ℕ) (outer known : Known) (ranges : List (ℤ × ℤ)) (es : List Piece) → known.prelude ≡ true → known.numbers ≡ outer.numbers → known.arrays ≡ outer.arrays → StaysFree outer known → outer.numbers ≡ first
-    → length ranges ≤ 12 → TimesFree known 0 → most ≤ 2 ^ 62 → All (Within most) ranges
-    → ((e : Piece) → IsIn e es → Sized first (length ranges) e × (around_known outer e.around e.assignment ≡ true) × HaveFreeNames e.around)
-    → stmts_known known (body_of first ranges es) ≡ true
-body_there first most outer known ranges [] calls numbers arrays stays count few free m w h = refl
-body_there first most outer known ranges (e ∷ es) calls numbers arrays stays count few free m w h =
-    loops_there known ranges 0 most (map (block_of first (length ranges)) (e ∷ es)) calls (omega (arith, few)) free m w
-    (λ inner i. blocks_there first (length ranges) inner (e ∷ es) (λ f k.
+pub body_there : (first : ℕ) (outer known : Known) (ends : List (Ix × Ix)) (es : List Piece) → known.prelude ≡ true → known.numbers ≡ outer.numbers → known.arrays ≡ outer.arrays → StaysFree outer known → outer.numbers ≡ first
+    → length ends ≤ 12 → TimesFree known 0 → EndsFrom KnownAt first ends
+    → ((e : Piece) → IsIn e es → Sized first (length ends) e × (around_known outer e.around e.assignment ≡ true) × HaveFreeNames e.around)
+    → stmts_known known (body_between first ends es) ≡ true
+body_there first outer known ends [] calls numbers arrays stays count few free w h = refl
+body_there first outer known ends (e ∷ es) calls numbers arrays stays count few free w h =
+    loops_there known ends 0 first (map (block_of first (length ends)) (e ∷ es)) calls (omega (arith, few)) free (omega (arith, numbers, count)) w
+    (λ inner i. blocks_there first (length ends) inner (e ∷ es) (λ f k.
     let p = h f k in
-    block_there first (length ranges) outer inner f count
-    (record { calls = i.calls; numbers = i.numbers ∙ ap (λ x. x + length ranges) numbers; arrays = sym arrays ∙ i.arrays; stays = λ v g t. i.stays v g (stays v g t) }) p.0 p.1 p.2))
+    block_there first (length ends) outer inner f count
+    (record { calls = i.calls; numbers = i.numbers ∙ ap (λ x. x + length ends) numbers; arrays = sym arrays ∙ i.arrays; stays = λ v g t. i.stays v g (stays v g t) }) p.0 p.1 p.2))

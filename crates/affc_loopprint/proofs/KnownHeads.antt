@@ -1,12 +1,13 @@
 -- What is known of a program is known of its loops.
-use Rattle.std.proofs.Common.{◌≡◌, ℕ, ◌+◌, ◌^◌, ◌≤◌, ℤ, Bool, true, false, cond, not, ◌&&◌, List, [], ◌∷◌, ◌++◌, length, refl, arith}
-use Rattle.std.specs.List.{All, list_any}
+use Rattle.std.proofs.Common.{◌≡◌, ℕ, ◌+◌, ◌≤◌, Bool, true, false, cond, not, ◌&&◌, List, [], ◌∷◌, ◌++◌, length, refl, arith}
+use Rattle.std.specs.List.{list_any}
 use Rattle.std.proofs.lemmas.Bool.{and_parts, and_from, or_from}
 use Rattle.std.proofs.lemmas.List.Sums.{sum_by-cons}
 use Rattle.affc_lex.specs.Bytes.{same}
 use Rattle.affc_lex.specs.Pieces.{is_word}
 use Rattle.affc_ast.specs.Names.{is_reserved}
 use Rattle.affc_ast.specs.declared.tree.Decl.{Decl}
+use Rattle.affc_ast.specs.declared.tree.Ix.{Ix}
 use Rattle.affc_ast.specs.declared.tree.Param.{Param}
 use Rattle.affc_ast.specs.declared.tree.Param.TheVariants.{Number, Array}
 use Rattle.affc_ast.specs.declared.tree.Program.{Program}
@@ -14,13 +15,14 @@ use Rattle.affc_trace.specs.Law.{IsIn}
 use Rattle.affc_trace.specs.Target.{numbers_in}
 use Rattle.affc_grammar.specs.Grammar.{Name}
 use Rattle.affc_loops.specs.Loops.{Piece, time_name}
-use Rattle.affc_loops.proofs.Sizes.{Within}
 use Rattle.affc_cprint.proofs.Spelled.{off}
 use Rattle.affc_wellnamed.specs.Known.{Known, is_new, is_refused, param_name, is_number, number_count, known_behind, is_temp, param_known, params_known, temp_known, temps_known, is_function, context_known, body_known, program_known}
 use Rattle.affc_loopprint.specs.Spare.{HaveFreeNames}
+use Rattle.affc_loopprint.proofs.EndCases.{EndsFrom}
 use Rattle.affc_loopprint.proofs.Fitting.{loops_program}
 use Rattle.affc_loopprint.proofs.KnownAround.{around_known}
 use Rattle.affc_loopprint.proofs.KnownBlocks.{Sized, body_there}
+use Rattle.affc_loopprint.proofs.KnownEnds.{KnownAt}
 use Rattle.affc_loopprint.proofs.Moved.{all_wider, tests_wider}
 use Rattle.affc_loopprint.proofs.TimeNames.{kept_apart}
 use Rattle.affc_cprint.specs.Forms.{is_none}
@@ -98,10 +100,10 @@ temps_more prelude f qs before (d ∷ ds) h =
 
 -- ---- The program
 
-pub loops_known : (program : Program) (most : ℕ) (ranges : List (ℤ × ℤ)) (es : List Piece) → program_known program ≡ true → length ranges ≤ 12 → most ≤ 2 ^ 62 → All (Within most) ranges
-    → ((e : Piece) → IsIn e es → Sized (numbers_in program.params) (length ranges) e × (around_known (known_behind program.prelude program.name program.params program.temps) e.around e.assignment ≡ true) × HaveFreeNames e.around)
-    → program_known (loops_program program ranges es) ≡ true
-loops_known program most ranges es h few m w pieces =
+pub loops_known : (program : Program) (ends : List (Ix × Ix)) (es : List Piece) → program_known program ≡ true → length ends ≤ 12 → EndsFrom KnownAt (numbers_in program.params) ends
+    → ((e : Piece) → IsIn e es → Sized (numbers_in program.params) (length ends) e × (around_known (known_behind program.prelude program.name program.params program.temps) e.around e.assignment ≡ true) × HaveFreeNames e.around)
+    → program_known (loops_program program ends es) ≡ true
+loops_known program ends es h few w pieces =
     let old = known_behind program.prelude program.name program.params program.temps in
     let new = known_behind true program.name program.params program.temps in
     let a = and_parts (is_function program.name) _ h in
@@ -113,9 +115,9 @@ loops_known program most ranges es h few m w pieces =
     and_from (is_function program.name) _ a.0
     (and_from (not (is_none program.params)) _ b.0
     (and_from (params_known true program.name [] program.params) _ (params_more program.prelude program.name [] program.params c.0)
-    (and_from (context_known (loops_program program ranges es)) _
+    (and_from (context_known (loops_program program ends es)) _
     (tests_wider (known_behind program.prelude program.name program.params []) (known_behind true program.name program.params []) (on program.prelude) (omega arith) program.context d.0)
-    (and_from (temps_known true program.name program.params [] program.temps) (body_known (loops_program program ranges es)) (temps_more program.prelude program.name program.params [] program.temps e.0)
-    (body_there (numbers_in program.params) most old new ranges es refl refl refl (λ v f t. t) (numbers_are program.params) few
+    (and_from (temps_known true program.name program.params [] program.temps) (body_known (loops_program program ends es)) (temps_more program.prelude program.name program.params [] program.temps e.0)
+    (body_there (numbers_in program.params) old new ends es refl refl refl (λ v f t. t) (numbers_are program.params) few
     (λ k l t. or_from _ _ (kept_apart k program.name free_name) (or_from _ _ (params_apart k program.prelude program.name [] program.params c.0) (temps_apart k program.prelude program.name program.params [] program.temps e.0)))
-    m w pieces)))))
+    w pieces)))))

@@ -1,10 +1,11 @@
 -- Where the numbers and products of a program are plain, so are those of its loops.
-use Rattle.std.proofs.Common.{◌≡◌, inl, inr, ℕ, suc, ◌+◌, ◌-◌, ◌^◌, ◌≤◌, ℤ, Bool, true, ◌&&◌, List, [], ◌∷◌, length, map, Some, refl, sym, ap, ◌∙◌, arith}
+use Rattle.std.proofs.Common.{◌≡◌, inl, inr, ℕ, suc, ◌+◌, ◌-◌, ◌^◌, ℤ, Bool, true, ◌&&◌, List, [], ◌∷◌, length, map, Some, refl, sym, ap, ◌∙◌, arith}
 use Rattle.std.specs.Prelude.{slice_get}
 use Rattle.std.specs.List.{All, list_all}
 use Rattle.std.proofs.lemmas.Bool.{and_parts, and_from}
 use Rattle.affc_rows.specs.Forms.{Affine}
 use Rattle.affc_ast.specs.declared.tree.Compare.{Compare}
+use Rattle.affc_ast.specs.declared.tree.Ix.{Ix}
 use Rattle.affc_ast.specs.declared.tree.Program.{Program}
 use Rattle.affc_ast.specs.declared.tree.Rel.TheVariants.{LessEqual}
 use Rattle.affc_ast.specs.declared.tree.Stmt.{Stmt}
@@ -13,16 +14,19 @@ use Rattle.affc_ast.specs.Trace.{Assignment, assignments}
 use Rattle.affc_trace.specs.Law.{IsIn}
 use Rattle.affc_trace.specs.Target.{numbers_in}
 use Rattle.affc_domain.specs.Rounds.{Round, Loop, Test, rounds}
+use Rattle.affc_loops.specs.Between.{loops_between, body_between}
 use Rattle.affc_loops.specs.Limits.{IsSlight}
-use Rattle.affc_loops.specs.Loops.{Piece, loop_names, locals_of, box_tests, time_tests, if_any, loop_tests, guarded, moved_assign, block_of, time_name, loops, body_of}
-use Rattle.affc_loops.specs.Trees.{number, form_tree}
+use Rattle.affc_loops.specs.Loops.{Piece, loop_names, locals_of, box_tests, time_tests, if_any, loop_tests, guarded, moved_assign, block_of, time_name}
+use Rattle.affc_loops.specs.Trees.{form_tree}
 use Rattle.affc_loops.proofs.Sizes.{Within}
 use Rattle.affc_cprint.proofs.Arms.{for_here, if_here, block_here}
 use Rattle.affc_cprint.proofs.ReadBackValues.{Each}
 use Rattle.affc_cprint.specs.Forms.{compare_passes, local_passes, value_passes, stmt_step, stmt_passes, decl_passes, param_passes, program_passes}
 use Rattle.affc_wellnamed.specs.Plain.{is_plain}
+use Rattle.affc_loopprint.proofs.EndCases.{EndsFrom}
 use Rattle.affc_loopprint.proofs.Entries.{Walk, two_at, entries}
 use Rattle.affc_loopprint.proofs.Fitting.{loops_program}
+use Rattle.affc_loopprint.proofs.PlainEnds.{PlainAt}
 use Rattle.affc_loopprint.proofs.Moved.{moved_plain, all_moved_plain, tests_moved_plain, moved_value_plain}
 use Rattle.affc_loopprint.proofs.Sums.{sums_plain, number_has, form_has}
 
@@ -137,27 +141,23 @@ blocks_plain : (first more : ℕ) (es : List Piece) → ((e : Piece) → IsIn e 
 blocks_plain first more [] h = refl
 blocks_plain first more (e ∷ es) h = and_from _ _ (block_plain first more e (h e (inl refl))) (blocks_plain first more es (λ f i. h f (inr i)))
 
-all_loops_plain : (rs : List (ℤ × ℤ)) (component most : ℕ) (body : List Stmt) → most ≤ 2 ^ 62 → All (Within most) rs → all_plain body ≡ true → all_plain (loops rs component body) ≡ true
-all_loops_plain [] component most body m w h = h
-all_loops_plain (r ∷ rs) component most body m w h =
-    let e : Within most r = w 0 r (omega arith) in
-    let e0 = e.0 in let e1 = e.1 in
-    let low = number_has (λ z. is_plain z ≡ true) 0 (sums_plain 0) r.0 (omega (arith, e0, m)) in
-    let high = number_has (λ z. is_plain z ≡ true) 0 (sums_plain 0) r.1 (omega (arith, e1, m)) in
+all_loops_plain : (ends : List (Ix × Ix)) (component column : ℕ) (body : List Stmt) → EndsFrom PlainAt column ends → all_plain body ≡ true → all_plain (loops_between ends component body) ≡ true
+all_loops_plain [] component column body w h = h
+all_loops_plain (e ∷ es) component column body w h =
     and_from _ true
-    (for_passes (time_name component) (number r.0) LessEqual (number r.1) (loops rs (suc component) body)
-    ∙ and_from _ _ low (and_from _ _ high (all_loops_plain rs (suc component) most body m (λ i y k. w (suc i) y (omega (arith, k))) h))) refl
+    (for_passes (time_name component) e.0 LessEqual e.1 (loops_between es (suc component) body)
+    ∙ and_from _ _ w.0 (and_from _ _ w.1 (all_loops_plain es (suc component) (suc column) body w.2 h))) refl
 
-body_plain : (first most : ℕ) (ranges : List (ℤ × ℤ)) (es : List Piece) → most ≤ 2 ^ 62 → All (Within most) ranges → ((e : Piece) → IsIn e es → Slight e) → all_plain (body_of first ranges es) ≡ true
-body_plain first most ranges [] m w h = refl
-body_plain first most ranges (e ∷ es) m w h = all_loops_plain ranges 0 most _ m w (blocks_plain first (length ranges) (e ∷ es) h)
+body_plain : (first : ℕ) (ends : List (Ix × Ix)) (es : List Piece) → EndsFrom PlainAt first ends → ((e : Piece) → IsIn e es → Slight e) → all_plain (body_between first ends es) ≡ true
+body_plain first ends [] w h = refl
+body_plain first ends (e ∷ es) w h = all_loops_plain ends 0 first _ w (blocks_plain first (length ends) (e ∷ es) h)
 
 -- of a program that passes
 pub body_passes : (program : Program) → program_passes is_plain program ≡ true → all_plain program.body ≡ true
 body_passes program h = (and_parts ((list_all (compare_passes is_plain) program.context && list_all (param_passes is_plain) program.params) && list_all (decl_passes is_plain) program.temps) (all_plain program.body) h).1
 
-pub loops_pass : (program : Program) (most : ℕ) (ranges : List (ℤ × ℤ)) (es : List Piece) → program_passes is_plain program ≡ true → most ≤ 2 ^ 62 → All (Within most) ranges → ((e : Piece) → IsIn e es → Slight e)
-    → program_passes is_plain (loops_program program ranges es) ≡ true
-loops_pass program most ranges es h m w pieces =
+pub loops_pass : (program : Program) (ends : List (Ix × Ix)) (es : List Piece) → program_passes is_plain program ≡ true → EndsFrom PlainAt (numbers_in program.params) ends → ((e : Piece) → IsIn e es → Slight e)
+    → program_passes is_plain (loops_program program ends es) ≡ true
+loops_pass program ends es h w pieces =
     let p = and_parts ((list_all (compare_passes is_plain) program.context && list_all (param_passes is_plain) program.params) && list_all (decl_passes is_plain) program.temps) (all_plain program.body) h in
-    and_from _ _ p.0 (body_plain (numbers_in program.params) most ranges es m w pieces)
+    and_from _ _ p.0 (body_plain (numbers_in program.params) ends es w pieces)

@@ -80,23 +80,39 @@ more_few e ((pos (suc m), x) ∷ ts) constant t d f =
 more_few e ((negsuc m, x) ∷ ts) constant t d f =
     few_more (t + 1 + 3 + 4 * length ts + 2) (max d 0) _ _ _ (omega arith) (omega arith) (more_few (Sub e (times m x)) ts constant (t + 1 + 3) (max d 0) (taken t d 3 0 e (times m x) f (times_term m x).summand))
 
+sum_of_fewer : (ts : List Term) (constant : ℤ) → Few (4 * length ts + 4) 1 (extent (sum_of ts constant)).extent
+sum_of_fewer [] constant = few_more 2 0 _ _ _ (omega arith) (omega arith) (subst (Few 2 0) (placed_whole (extent (number constant))) (number_few constant))
+sum_of_fewer ((pos zero, x) ∷ ts) constant = few_more (4 * length ts + 4) 1 _ _ _ (omega arith) (omega arith) (sum_of_fewer ts constant)
+sum_of_fewer ((pos (suc m), x) ∷ ts) constant = few_more (3 + 4 * length ts + 2) 0 _ _ _ (omega arith) (omega arith) (more_few (times m x) ts constant 3 0 (times_term m x).alone)
+sum_of_fewer ((negsuc m, x) ∷ ts) constant = few_more (6 + 4 * length ts + 2) 1 _ _ _ (omega arith) (omega arith) (more_few (Neg (times m x)) ts constant 6 1 (minus m x))
+
 sum_of_few : (ts : List Term) (constant : ℤ) → Few (6 * length ts + 2) 1 (extent (sum_of ts constant)).extent
 sum_of_few [] constant = few_more 2 0 _ _ _ (omega arith) (omega arith) (subst (Few 2 0) (placed_whole (extent (number constant))) (number_few constant))
-sum_of_few ((pos zero, x) ∷ ts) constant = few_more (6 * length ts + 2) 1 _ _ _ (omega arith) (omega arith) (sum_of_few ts constant)
-sum_of_few ((pos (suc m), x) ∷ ts) constant = few_more (3 + 4 * length ts + 2) 0 _ _ _ (omega arith) (omega arith) (more_few (times m x) ts constant 3 0 (times_term m x).alone)
-sum_of_few ((negsuc m, x) ∷ ts) constant = few_more (6 + 4 * length ts + 2) 1 _ _ _ (omega arith) (omega arith) (more_few (Neg (times m x)) ts constant 6 1 (minus m x))
+sum_of_few (t ∷ ts) constant = few_more (4 * length (t ∷ ts) + 4) 1 _ _ _ (omega arith) (omega arith) (sum_of_fewer (t ∷ ts) constant)
 
 terms_count : (from : ℕ) (cs : List ℤ) → length (terms_from from cs) ≡ length cs
 terms_count from [] = refl
 terms_count from (c ∷ cs) = let r = terms_count (suc from) cs in omega (arith, r)
 
--- at most six tokens a column, and two for the constant
-pub form_few : (first from : ℕ) (f : Affine) → Few (6 * length f.coefs + 2) 1 (whole true (form_tree first from f))
-form_few first from f =
+terms_few : (first from : ℕ) (f : Affine) → length (terms_from from (drop first f.coefs) ++ terms_from 0 (take first f.coefs)) ≤ length f.coefs
+terms_few first from f =
     let xs = terms_from from (drop first f.coefs) in
     let ys = terms_from 0 (take first f.coefs) in
     let a = terms_count from (drop first f.coefs) in let b = terms_count 0 (take first f.coefs) in
     let c = length-drop first f.coefs in let d = length-take first f.coefs in
     let n = length-append xs ys in
-    subst (Few (6 * length f.coefs + 2) 1) (sym (placed_whole (extent (form_tree first from f))))
-    (few_more (6 * length (xs ++ ys) + 2) 1 _ _ _ (omega (arith, a, b, c, d, n)) (omega arith) (sum_of_few (xs ++ ys) f.constant))
+    omega (arith, a, b, c, d, n)
+
+-- at most six tokens a column, and two for the constant
+pub form_few : (first from : ℕ) (f : Affine) → Few (6 * length f.coefs + 2) 1 (whole true (form_tree first from f))
+form_few first from f =
+    let ts = terms_from from (drop first f.coefs) ++ terms_from 0 (take first f.coefs) in
+    let n = terms_few first from f in
+    subst (Few (6 * length f.coefs + 2) 1) (sym (placed_whole (extent (form_tree first from f)))) (few_more (6 * length ts + 2) 1 _ _ _ (omega (arith, n)) (omega arith) (sum_of_few ts f.constant))
+
+-- at most four tokens a column, four more for the brackets round the first and for the constant
+pub form_fewer : (first from : ℕ) (f : Affine) → Few (4 * length f.coefs + 4) 1 (whole true (form_tree first from f))
+form_fewer first from f =
+    let ts = terms_from from (drop first f.coefs) ++ terms_from 0 (take first f.coefs) in
+    let n = terms_few first from f in
+    subst (Few (4 * length f.coefs + 4) 1) (sym (placed_whole (extent (form_tree first from f)))) (few_more (4 * length ts + 4) 1 _ _ _ (omega (arith, n)) (omega arith) (sum_of_fewer ts f.constant))

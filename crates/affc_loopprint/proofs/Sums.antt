@@ -23,6 +23,10 @@ pub record SumCases (P : Ix → Type 0) (names : ℕ) : Type 0 where
   pub add : (a b : Ix) → P a → P b → P (Add a b)
   pub sub : (a b : Ix) → P a → P b → P (Sub a b)
 
+-- coefficients up to 2^62
+abbrev pub AreNarrow : List ℤ → Type 0
+AreNarrow cs = All (λ c. unsigned_abs c ≤ 2 ^ 62) cs
+
 module _ (P : Ix → Type 0) (names : ℕ) (c : SumCases P names) where
   pub number_has : (z : ℤ) → unsigned_abs z ≤ 2 ^ 62 → P (number z)
   number_has (pos n) h = c.lit n (omega (arith, ints, h))
@@ -49,9 +53,6 @@ module _ (P : Ix → Type 0) (names : ℕ) (c : SumCases P names) where
   sum_has ((pos zero, x) ∷ ts) k h q = sum_has ts k h.2 q
   sum_has ((pos (suc m), x) ∷ ts) k h q = let s = h.0 in more_has ts (times m x) k h.2 q (times_has m x (omega (arith, ints, s)) h.1)
   sum_has ((negsuc m, x) ∷ ts) k h q = let s = h.0 in more_has ts (Neg (times m x)) k h.2 q (c.neg (times m x) (times_has m x (omega (arith, ints, s)) h.1))
-
-  abbrev AreNarrow : List ℤ → Type 0
-  AreNarrow cs = All (λ c. unsigned_abs c ≤ 2 ^ 62) cs
 
   all_small : (from : ℕ) (cs : List ℤ) → AreNarrow cs → from + length cs ≤ names → AllSmall (terms_from from cs)
   all_small from [] h l = tt

@@ -1,9 +1,10 @@
 -- Where a program keeps the limits on statements, arrays and lines, so do its loops.
-use Rattle.std.proofs.Common.{◌≡◌, inl, inr, ℕ, suc, ◌+◌, ◌≤◌, ℤ, Bool, true, false, ◌&&◌, nat_le, nat_lt, List, [], ◌∷◌, length, map, Some, refl, sym, ap, subst, ◌∙◌, arith, if◌then◌else◌}
+use Rattle.std.proofs.Common.{◌≡◌, inl, inr, ℕ, suc, ◌+◌, ◌≤◌, Bool, true, false, ◌&&◌, nat_le, nat_lt, List, [], ◌∷◌, length, map, Some, refl, sym, ap, subst, ◌∙◌, arith, if◌then◌else◌}
 use Rattle.std.specs.Prelude.{slice_get}
 use Rattle.std.specs.List.{list_all}
 use Rattle.std.proofs.lemmas.Bool.{and_parts, and_from, or_parts, or_from, false≢true, le-leb}
 use Rattle.affc_ast.specs.declared.tree.Compare.{Compare}
+use Rattle.affc_ast.specs.declared.tree.Ix.{Ix}
 use Rattle.affc_ast.specs.declared.tree.Program.{Program}
 use Rattle.affc_ast.specs.declared.tree.Rel.TheVariants.{LessEqual}
 use Rattle.affc_ast.specs.declared.tree.Stmt.{Stmt}
@@ -12,8 +13,8 @@ use Rattle.affc_ast.specs.Trace.{Assignment, assignments}
 use Rattle.affc_trace.specs.Law.{IsIn}
 use Rattle.affc_trace.specs.Target.{numbers_in}
 use Rattle.affc_domain.specs.Rounds.{Round, Loop, Test, rounds}
-use Rattle.affc_loops.specs.Loops.{Piece, loop_names, locals_of, box_tests, time_tests, if_any, loop_tests, guarded, moved_assign, block_of, time_name, loops, body_of}
-use Rattle.affc_loops.specs.Trees.{number}
+use Rattle.affc_loops.specs.Between.{loops_between, body_between}
+use Rattle.affc_loops.specs.Loops.{Piece, loop_names, locals_of, box_tests, time_tests, if_any, loop_tests, guarded, moved_assign, block_of, time_name}
 use Rattle.affc_grammar.specs.Limits.{wide_limits}
 use Rattle.affc_cprint.proofs.Arms.{for_here, if_here, block_here}
 use Rattle.affc_cprint.proofs.ReadBackValues.{Each}
@@ -129,30 +130,31 @@ looped_low false n l h = omega arith
 looped_light : (s l : ℕ) (w : Work) → IsLight s l w → IsLight s (suc l) (looped w)
 looped_light s l w h = record { few = h.few; low = looped_low (nat_lt 0 w.statements) w.loops l h.low; free = h.free }
 
-loops_light : (s : ℕ) (rs : List (ℤ × ℤ)) (component : ℕ) (body : List Stmt) → IsLight s 0 (stmts_behind no_work body) → IsLight s (length rs) (stmts_behind no_work (loops rs component body))
+loops_light : (s : ℕ) (ends : List (Ix × Ix)) (component : ℕ) (body : List Stmt) → IsLight s 0 (stmts_behind no_work body) → IsLight s (length ends) (stmts_behind no_work (loops_between ends component body))
 loops_light s [] component body h = h
-loops_light s (r ∷ rs) component body h =
-    one_light s (suc (length rs)) (work (For (time_name component) (number r.0) LessEqual (number r.1) (loops rs (suc component) body)))
-    (subst (IsLight s (suc (length rs))) (sym (for_here stmt_step (time_name component) (number r.0) LessEqual (number r.1) (loops rs (suc component) body)))
-    (looped_light s (length rs) (stmts_behind no_work (loops rs (suc component) body)) (loops_light s rs (suc component) body h)))
+loops_light s (e ∷ es) component body h =
+    let inner = loops_between es (suc component) body in
+    one_light s (suc (length es)) (work (For (time_name component) e.0 LessEqual e.1 inner))
+    (subst (IsLight s (suc (length es))) (sym (for_here stmt_step (time_name component) e.0 LessEqual e.1 inner))
+    (looped_light s (length es) (stmts_behind no_work inner) (loops_light s es (suc component) body h)))
 
-body_light : (first : ℕ) (ranges : List (ℤ × ℤ)) (es : List Piece) → ((e : Piece) → IsIn e es → is_crowded e.assignment ≡ false) → IsLight (length es) (length ranges) (stmts_behind no_work (body_of first ranges es))
-body_light first ranges [] k = record { few = omega arith; low = omega arith; free = refl }
-body_light first ranges (e ∷ es) k =
-    let r = blocks_light first (length ranges) 0 no_work (e ∷ es) none_light k in
+body_light : (first : ℕ) (ends : List (Ix × Ix)) (es : List Piece) → ((e : Piece) → IsIn e es → is_crowded e.assignment ≡ false) → IsLight (length es) (length ends) (stmts_behind no_work (body_between first ends es))
+body_light first ends [] k = record { few = omega arith; low = omega arith; free = refl }
+body_light first ends (e ∷ es) k =
+    let r = blocks_light first (length ends) 0 no_work (e ∷ es) none_light k in
     let f = r.few in
-    loops_light (length (e ∷ es)) ranges 0 (map (block_of first (length ranges)) (e ∷ es)) (record { few = omega (arith, f); low = r.low; free = r.free })
+    loops_light (length (e ∷ es)) ends 0 (map (block_of first (length ends)) (e ∷ es)) (record { few = omega (arith, f); low = r.low; free = r.free })
 
 light_bounded : (s l : ℕ) (w : Work) → IsLight s l w → s ≤ 64 → l ≤ 12 → is_bounded w ≡ true
 light_bounded s l w h a b =
     let f = h.few in let g = h.low in
     and_from _ _ (and_from _ _ (le-leb w.statements 64 (omega (arith, f, a))) (le-leb w.loops wide_limits.loops (omega (arith, g, b)))) (ap (λ c. if c then false else true) h.free)
 
-pub loops_fit : (program : Program) (ranges : List (ℤ × ℤ)) (es : List Piece) → program_fits program ≡ true → length es ≤ 64 → length ranges ≤ 12 → ((e : Piece) → IsIn e es → is_crowded e.assignment ≡ false)
-    → program_fits (loops_program program ranges es) ≡ true
-loops_fit program ranges es h a b k =
+pub loops_fit : (program : Program) (ends : List (Ix × Ix)) (es : List Piece) → program_fits program ≡ true → length es ≤ 64 → length ends ≤ 12 → ((e : Piece) → IsIn e es → is_crowded e.assignment ≡ false)
+    → program_fits (loops_program program ends es) ≡ true
+loops_fit program ends es h a b k =
     let p = and_parts (before_body program) _ h in
     let q = and_parts (list_all param_fits program.params && list_all has_few program.temps) (is_bounded (stmts_behind no_work program.body)) p.1 in
     and_from (before_body program) _ p.0
     (and_from (list_all param_fits program.params && list_all has_few program.temps) _ q.0
-    (light_bounded (length es) (length ranges) _ (body_light (numbers_in program.params) ranges es k) a b))
+    (light_bounded (length es) (length ends) _ (body_light (numbers_in program.params) ends es k) a b))

@@ -11,11 +11,12 @@ use Rattle.affc_ast.specs.declared.tree.Role.TheVariants.{Output}
 use Rattle.affc_ast.specs.declared.tree.Stmt.{Stmt}
 use Rattle.affc_ast.specs.declared.tree.Stmt.TheVariants.{For, Assign, Block}
 use Rattle.affc_ast.specs.declared.tree.Val.TheVariants.{Const}
-use Rattle.affc_trace.specs.declared.schedule.Schedule.TheVariants.{Time}
 use Rattle.affc_trace.specs.declared.schedule.TimeMap.{TimeMap}
 use Rattle.affc_trace.specs.Examples.{two_columns, undone}
 use Rattle.affc_trace.specs.Inverses.{column}
-use Rattle.affc_loops.specs.Loops.{time_name, target_program}
+use Rattle.affc_loops.specs.Between.{program_between}
+use Rattle.affc_loops.specs.Ends.{Sides, ends_of}
+use Rattle.affc_loops.specs.Loops.{time_name}
 use Rattle.affc_wellnamed.specs.Kept.{is_kept}
 
 abbrev lit : ℕ → Ix
@@ -42,8 +43,13 @@ backwards = record {
   inverts = undone (column 2 0 ∷ minus ∷ []) minus refl;
 }
 
+-- where i is from 0 to N - 1: t0 + N - 1 >= 0 and -t0 >= 0
+abbrev rows : List (List Sides)
+rows = ((record { coefs = pos 1 ∷ pos 1 ∷ []; constant = negsuc 0 } ∷ [], minus ∷ []) ∷ []) ∷ []
+
+-- for (affc_t0 = affc_max(-N + 1, -3); affc_t0 <= affc_min(0, 0); affc_t0++)
 abbrev loops_of : Program → Program
-loops_of program = target_program program (Time 1 (backwards ∷ []))
+loops_of program = program_between program (backwards ∷ []) (ends_of program (backwards ∷ []) rows)
 
 -- for N from 1 to 4
 abbrev filling : (prelude : Bool) → List Stmt → Program

@@ -9,16 +9,13 @@ use Rattle.affc_trace.specs.declared.schedule.Schedule.{Schedule}
 use Rattle.affc_domain.specs.Plain.{IsPlain}
 use Rattle.affc_domain.specs.Ranges.{first_wide}
 use Rattle.affc_basis.specs.declared.fold.Fold.{Fold}
-use Rattle.affc_loops.specs.Loops.{target_program}
 use Rattle.affc_nest.specs.declared.nest.Nest.{Nest}
 use Rattle.affc_nest.specs.Laws.{HasNest, NamesArrays}
 use Rattle.affc_nest.specs.Nests.{nest_of}
 use Rattle.affc_sched.specs.Legality.{IsAsked}
 use Rattle.affc_quast.specs.Seen.{trees_of}
 use Rattle.affc_placed.specs.Placed.{HasFoldedLoops}
-use Rattle.affc_rewrite.specs.Laws.{FoldedProgramCompiles}
-use Rattle.affc_rewrite.specs.Rewrite.{folded_program}
-use Rattle.affc_foldprint.specs.Laws.{FoldsWellNamed}
+use Rattle.affc_foldprint.specs.Laws.{FoldsWellNamed, FoldsCompile}
 use Rattle.affc_schedtext.specs.declared.plan.Plan.{Plan}
 use Rattle.affc_accept.specs.Accepted.{IsAccepted}
 use Rattle.affc_accept.proofs.Shows.{accepted_shows}
@@ -79,14 +76,14 @@ decided_by program nest plan certificate shown folds plain near names own is fit
     let all : AreAll nest shown folds = record { scalars = more.scalars; are_scalars = more.are_empty; both = more.put } in
     decided program plan certificate shown folds (record { plain = plain; near = near }) names own fits (subst (λ n. IsAccepted n plan certificate shown) is accepted) (subst (λ n. AreAll n shown folds) is all)
 
-module _ (named : FoldsWellNamed) (compiled : FoldedProgramCompiles) where
+module _ (named : FoldsWellNamed) (compiled : FoldsCompile) where
   pub replays_to : (program : Program) (plan : Plan) (schedule certificate text report : List ℕ) → HasPlan program (Some schedule) plan → IsReplayed program plan certificate text report
       → OfEachText program (λ source. ReplaysTo source schedule certificate text report)
   replays_to program plan schedule certificate text report planned r source reads bare =
       let d = r.decided in
       let all = d.fold_all in
       let loops = has_loops source (Some schedule) program plan reads bare d.within planned in
-      let target = target_program (folded_program program r.folds) plan.schedule in
+      let target : Program = r.made.scanned.program in
       let folded : HasFoldedLoops program plan.schedule r.folds = record {
         loops = loops;
         ends = within_never_stuck source program reads bare d.within d.written;
@@ -102,9 +99,11 @@ module _ (named : FoldsWellNamed) (compiled : FoldedProgramCompiles) where
           source = program;
           source_reads = reads;
           target = target;
-          target_reads = (reads_back target text r.made.printed).0 (named source program plan.schedule r.folds reads bare loops all.in_program all.limits);
-          compiles = compiled program plan.schedule r.folds folded all.limits;
+          target_reads = (reads_back target text r.made.printed).0 (named source program plan.schedule r.folds r.made.scanned reads bare loops all.in_program all.limits r.made.scans);
+          compiles = compiled program plan.schedule r.folds r.made.scanned folded all.limits r.made.scans;
         };
+        scanned = r.made.scanned;
+        scans = r.made.scans;
         loops = refl;
         printed = r.made.printed;
         plain = bare;

@@ -1,4 +1,4 @@
--- Exactly what is valid is replayed.
+-- What is valid is replayed, and nothing else.
 use Rattle.std.proofs.Common.{◌≡◌, ℕ, true, false, true≢false, List, [], ◌∷◌, ◌++◌, length, map, Some, refl, sym, ap, subst, ◌∙◌, arith}
 use Rattle.std.specs.List.{All}
 use Rattle.std.proofs.lemmas.List.Elements.{All-nil, All-cons}
@@ -13,14 +13,13 @@ use Rattle.affc_parse.proofs.Refusals.{fault_is_memory}
 use Rattle.affc_cprint.specs.Layout.{printed_text}
 use Rattle.affc_plain.proofs.Programs.{reads_plain}
 use Rattle.affc_domain.specs.Ranges.{first_wide}
-use Rattle.affc_loops.specs.Loops.{target_program}
+use Rattle.affc_scanned.specs.Laws.{SameLoopsScan}
 use Rattle.affc_basis.specs.declared.basis.Basis.{Basis}
 use Rattle.affc_basis.specs.declared.fold.Fold.{Fold}
 use Rattle.affc_nest.specs.Laws.{HasNest}
 use Rattle.affc_nest.specs.Nests.{nest_of}
-use Rattle.affc_rewrite.specs.Laws.{FoldedProgramCompiles}
 use Rattle.affc_rewrite.specs.Rewrite.{folded_program}
-use Rattle.affc_foldprint.specs.Laws.{FoldsWellNamed}
+use Rattle.affc_foldprint.specs.Laws.{FoldsWellNamed, FoldsKeepTimes, FoldsCompile}
 use Rattle.affc_schedtext.specs.declared.plan.SchedFault.{SchedFault}
 use Rattle.affc_schedtext.specs.Answers.{PlanReads, IsFault}
 use Rattle.affc_schedtext.proofs.Excludes.{excludes}
@@ -29,12 +28,11 @@ use Rattle.affc_accept.specs.declared.fault.AcceptFault.{AcceptFault}
 use Rattle.affc_accept.specs.declared.fault.AcceptFault.TheVariants as accept
 use Rattle.affc_accept.proofs.Unique.{accepted_is_not_refused}
 use Rattle.affc_driver.specs.Reports.{report_text}
-use Rattle.affc_driver.proofs.Compiled.{plan_scheduled}
+use Rattle.affc_driver.proofs.Compiled.{plan_scheduled, has_loops}
 use Rattle.affc_driver.proofs.Ranked.{reads_naming_arrays}
 use Rattle.affc_replay.specs.Folds.{scalars_from, AreEmptyFolds, AreAll}
-use Rattle.affc_replay.specs.Laws.{IsValid, ValidIsReplayed, ValidIsNotRefused}
+use Rattle.affc_replay.specs.Laws.{IsValid, ValidIsReplayed, ReplayedIsValid, ValidIsNotRefused}
 use Rattle.affc_replay.specs.Refusals.{HasAcceptFault}
-use Rattle.affc_replay.specs.Replays.{ReplaysTo}
 use Rattle.affc_replay.specs.declared.refusal.Refusal.TheVariants.{Source, Printed, Schedule, IteratorRange, Certificate, Check, Memory}
 use Rattle.affc_replay.proofs.Decided.{reads_temporaries, decided, replays_to}
 use Rattle.affc_replay.proofs.Plans.{accepted_too}
@@ -68,34 +66,35 @@ are_empty ns = record { of_arrays = same ns; empty = none ns }
     none [] = All-nil (λ (f : ArrayId × Fold). f.1.basis.rows ≡ [])
     none (n ∷ ns) = All-cons (λ (f : ArrayId × Fold). f.1.basis.rows ≡ []) (scalar_fold n) (map scalar_fold ns) refl (none ns)
 
--- ---- Exactly such have a text
+-- ---- Such have a text
 
-module _ (named : FoldsWellNamed) (compiled : FoldedProgramCompiles) where
+module _ (times : FoldsKeepTimes) (same : SameLoopsScan) (named : FoldsWellNamed) (compiled : FoldsCompile) where
   pub valid_is_replayed : ValidIsReplayed
-  valid_is_replayed source schedule certificate = (
-    λ v.
-        let program : Program = v.program in
-        let scalars = map scalar_fold (scalars_from 0 (nest_of program).arrays) in
-        let folds = v.folds ++ scalars in
-        let all : AreAll (nest_of program) v.folds folds = record { scalars = scalars; are_scalars = are_empty (scalars_from 0 (nest_of program).arrays); both = refl } in
-        let has : HasNest program = record { plain = reads_plain source program v.reads v.plain; near = v.near } in
-        let d = decided program v.plan certificate v.folds folds has (reads_naming_arrays source program v.reads) (reads_temporaries source program v.reads v.plain) (plan_scheduled program (Some schedule) v.plan v.planned) v.accepted all in
-        let text = printed_text (target_program (folded_program program folds) v.plan.schedule) in
-        let report = report_text program folds [] in
-        (text, (report, replays_to named compiled program v.plan schedule certificate text report v.planned (record { folds = folds; decided = d; made = record { printed = refl; told = refl } }) source v.reads v.plain)),
-    λ r.
-        let replayed : ReplaysTo source schedule certificate r.0 r.1.0 = r.1.1 in
-        record {
-          program = replayed.compiles.source;
-          reads = replayed.compiles.source_reads;
-          plain = replayed.plain;
-          near = replayed.within.near;
-          plan = replayed.plan;
-          planned = replayed.planned;
-          folds = replayed.shown;
-          accepted = replayed.accepted;
-        },
-  )
+  valid_is_replayed source schedule certificate v s scans =
+      let program : Program = v.program in
+      let scalars = map scalar_fold (scalars_from 0 (nest_of program).arrays) in
+      let folds = v.folds ++ scalars in
+      let all : AreAll (nest_of program) v.folds folds = record { scalars = scalars; are_scalars = are_empty (scalars_from 0 (nest_of program).arrays); both = refl } in
+      let has : HasNest program = record { plain = reads_plain source program v.reads v.plain; near = v.near } in
+      let d = decided program v.plan certificate v.folds folds has (reads_naming_arrays source program v.reads) (reads_temporaries source program v.reads v.plain) (plan_scheduled program (Some schedule) v.plan v.planned) v.accepted all in
+      let loops = has_loops source (Some schedule) program v.plan v.reads v.plain d.within v.planned in
+      let other = same program (folded_program program folds) v.plan.schedule s loops (times program folds) scans in
+      let text = printed_text other.0.program in
+      let report = report_text program folds [] other.0.loose.items in
+      let made = record { scanned = other.0; scans = other.1; printed = refl; told = refl } in
+      (text, (report, replays_to named compiled program v.plan schedule certificate text report v.planned (record { folds = folds; decided = d; made = made }) source v.reads v.plain))
+
+pub replayed_is_valid : ReplayedIsValid
+replayed_is_valid source schedule certificate text report replayed = record {
+  program = replayed.compiles.source;
+  reads = replayed.compiles.source_reads;
+  plain = replayed.plain;
+  near = replayed.within.near;
+  plan = replayed.plan;
+  planned = replayed.planned;
+  folds = replayed.shown;
+  accepted = replayed.accepted;
+}
 
 -- ---- Nothing else is answered
 

@@ -24,13 +24,12 @@ use affc_basis::Fold;
 use affc_check::Checked;
 use affc_driver::Refusal as Uncompiled;
 use affc_driver::folding::{finish, printed};
-use affc_foldprint::laws::folds_well_named;
+use affc_foldprint::laws::{folds_compile, folds_well_named};
 use affc_grammar::laws::reads_counted;
 use affc_nest::{Nest, NestFault, extract};
 use affc_parse::fault::ParseFault;
 use affc_parse::parse;
 use affc_plan::read;
-use affc_rewrite::laws::folded_program_compiles;
 use affc_schedtext::{Plan, SchedFault};
 use std::alloc::Global;
 
@@ -232,7 +231,7 @@ fn replay_with(
     ensures err { IfErr result (λ refusal. OfEachText program.now (λ text. ReplayRefuses text schedule.now certificate.now refusal)) }
 {
     folds_well_named();
-    folded_program_compiles();
+    folds_compile();
     let plan = plan_of(alloc, program, schedule)?;
     replay_by(alloc, program, &plan, certificate)
 }

@@ -2,3 +2,5 @@ pub mod Same
 pub mod Rows
 pub mod ScanLaws
 pub mod Tight
+pub mod ExampleProofs
+pub mod Refusals

@@ -25,7 +25,7 @@ use Rattle.affc_scanned.specs.Scanned.{sides_of, loose_from, AreBoundsOfEach, Is
 use Rattle.affc_scanned.proofs.Rows.{params, ranges, sides_from, its_shape, numbers_long, bounds_at}
 use Rattle.affc_scanned.proofs.Same.{turned, pieces_same, loose_same, bounds_same}
 
-not_empty : (x : Loose) (xs : List Loose) → (x ∷ xs) ≡ [] → ⊥
+pub not_empty : (x : Loose) (xs : List Loose) → (x ∷ xs) ≡ [] → ⊥
 not_empty x xs e = let l = ap length e in absurd (omega (arith, l))
 
 empty_front : (xs : List Loose) → xs ++ [] ≡ [] → xs ≡ []

@@ -17,7 +17,7 @@ returns-then-is_plenty-clause-ok g c =
     let limit = c.args.budget.now.limit in
     let plenty = test_is c.args.program.now c.in-Ok.nest c.args.plan.now.schedule limit limit c.is_plenty.result true c.in-Ok.ensures.nest c.is_plenty.ensures c.if-is_plenty.true refl in
     IfOk-weaker c.compile_freely.result _ _
-    (λ made h. folds_made c.folds_well_named.ensures.law c.folded_program_compiles.ensures.law A c.args.program.now c.args.plan.now free c.args.budget.now c.args.wanted made
+    (λ made h. folds_made c.folds_well_named.ensures.law c.folds_compile.ensures.law A c.args.program.now c.args.plan.now free c.args.budget.now c.args.wanted made
     (free_counted _ free c.args.budget.now plenty refl) h)
     c.compile_freely.ensures.ok
 
@@ -33,7 +33,7 @@ returns-clause-ok g c =
     let left = c.compile_counted.new.budget in
     let few = test_is c.args.program.now c.in-Ok.nest c.args.plan.now.schedule c.args.budget.now.limit left.limit c.is_plenty.result false c.in-Ok.ensures.nest c.is_plenty.ensures c.if-is_plenty.false c.compile_counted.ensures.later.limit in
     IfOk-weaker c.compile_counted.result _ _
-    (λ made h. folds_made c.folds_well_named.ensures.law c.folded_program_compiles.ensures.law A c.args.program.now c.args.plan.now left left c.args.wanted made (all_counted _ left few) h)
+    (λ made h. folds_made c.folds_well_named.ensures.law c.folds_compile.ensures.law A c.args.program.now c.args.plan.now left left c.args.wanted made (all_counted _ left few) h)
     c.compile_counted.ensures.ok
 
 pub returns-clause-short : goal.returns-clause-short

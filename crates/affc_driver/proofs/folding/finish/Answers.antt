@@ -1,8 +1,8 @@
 use Rattle.std.proofs.Common.{◌∙◌, sym, ap, subst}
 use Rattle.affc_cprint.specs.Layout.{printed_text}
-use Rattle.affc_loops.specs.Loops.{target_program}
 use Rattle.affc_report.specs.Folds.{fold_report}
 use Rattle.affc_scan.specs.Laws.{IsNestFor}
+use Rattle.affc_scanned.specs.Scanned.{Scans}
 use Rattle.affc_driver.proofs.folding.finish.Goals as goal
 
 pub scan-requires : goal.scan-requires
@@ -14,6 +14,8 @@ scan-requires c = record {
 
 pub returns-in-Ok-clause-ok : goal.returns-in-Ok-clause-ok
 returns-in-Ok-clause-ok c = record {
-  printed = c.in-Ok.ensures.text ∙ ap printed_text (c.in_ok-target.ensures ∙ ap (λ q. target_program q c.args.plan.now.schedule) c.in_ok-other.ensures);
-  told = c.in_ok-report.ensures ∙ ap (λ o. fold_report o c.args.folds.now c.args.choices.now) c.in_ok-outline.ensures;
+  scanned = c.in_ok-scanned.scanned;
+  scans = subst (λ q. Scans q c.args.plan.now.schedule c.in_ok-scanned.scanned) c.in_ok-other.ensures c.in_ok-scanned.ensures;
+  printed = c.in-Ok.ensures.text;
+  told = c.in_ok-report.ensures ∙ ap (λ o. fold_report o c.args.folds.now c.args.choices.now c.in_ok-scanned.scanned.loose.items) c.in_ok-outline.ensures;
 }

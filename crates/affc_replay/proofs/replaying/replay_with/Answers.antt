@@ -13,7 +13,7 @@ replay_by-requires-clause-slight c = plan_limited c.args.program.now (Some c.arg
 pub returns-clause-ok : goal.returns-clause-ok
 returns-clause-ok c =
     IfOk-weaker c.replay_by.result _ _
-    (λ r is. replays_to c.folds_well_named.ensures.law c.folded_program_compiles.ensures.law c.args.program.now c.in_ok-plan.plan c.args.schedule.now c.args.certificate.now r.text.items r.report.items c.in_ok-plan.ensures.planned is)
+    (λ r is. replays_to c.folds_well_named.ensures.law c.folds_compile.ensures.law c.args.program.now c.in_ok-plan.plan c.args.schedule.now c.args.certificate.now r.text.items r.report.items c.in_ok-plan.ensures.planned is)
     c.replay_by.ensures.ok
 
 pub returns-clause-err : goal.returns-clause-err

@@ -1,0 +1,84 @@
+//! The rows of an end that say something new.
+ghost use Rattle.std.specs.Prelude.{◌≡◌, ◌+◌, ◌<◌, ◌≤◌, length, remove, ℤ, List, IfOk, IsTrue};
+ghost use Rattle.std.specs.List.{All};
+ghost use Rattle.affc_system.specs.Systems.{Meets};
+ghost use Rattle.affc_ends.specs.Sizes.{IsPrintable};
+ghost use Rattle.affc_ends.specs.Steps.{AreLeft};
+
+use crate::bounds::Answer;
+use crate::questions::{ask, without};
+use crate::system::add_copies;
+use affc_rows::Form;
+use std::alloc::{AllocError, Global};
+
+/// Whether elimination says that the other rows and those beside them imply the one at a place, at whole numbers.
+fn is_left_implied(
+    alloc: Global,
+    columns: u32,
+    rows: &[Form],
+    place: usize,
+    beside: &[Form],
+) -> Result<bool, AllocError>
+    requires columns { columns ≤ 128 }
+    requires few { length rows.now ≤ 8 }
+    requires few_beside { length beside.now ≤ 100 }
+    requires place { place < length rows.now }
+    requires rows { All (IsPrintable columns) rows.now }
+    requires beside { All (IsPrintable columns) beside.now }
+    ensures { IfOk result (λ b. IsTrue b → (whole : List ℤ) → length whole ≡ columns → All (Meets whole) beside.now → All (Meets whole) (remove rows.now place) → All (Meets whole) rows.now) }
+{
+    let mut others = without(rows, place, alloc)?;
+    add_copies(beside, &mut others)?;
+    match ask(alloc, columns, others.as_slice(), &rows[place])? {
+        Answer::Implied => Ok(true),
+        _ => Ok(false),
+    }
+}
+
+/// The rows without the one at a place, if elimination says that the others and those beside them imply it.
+fn without_implied(
+    alloc: Global,
+    columns: u32,
+    rows: Vec<Form>,
+    place: usize,
+    beside: &[Form],
+) -> Result<Vec<Form>, AllocError>
+    requires columns { columns ≤ 128 }
+    requires few { length rows.items ≤ 8 }
+    requires few_beside { length beside.now ≤ 100 }
+    requires place { place < length rows.items }
+    requires rows { All (IsPrintable columns) rows.items }
+    requires beside { All (IsPrintable columns) beside.now }
+    ensures left { IfOk result (λ v. AreLeft columns beside.now rows.items v.items) }
+    ensures one_less { IfOk result (λ v. length rows.items ≤ length v.items + 1) }
+{
+    let mut left = rows;
+    let is_implied = is_left_implied(alloc, columns, left.as_slice(), place, beside)?;
+    if !is_implied {
+        return Ok(left);
+    }
+    left.remove(place);
+    Ok(left)
+}
+
+/// The rows without those that the ones that are left and those beside them imply, each asked for once, from the last to the first.
+pub(crate) fn left_of(
+    alloc: Global,
+    columns: u32,
+    kept: Vec<Form>,
+    beside: &[Form],
+) -> Result<Vec<Form>, AllocError>
+    requires columns { columns ≤ 128 }
+    requires few { length kept.items ≤ 8 }
+    requires few_beside { length beside.now ≤ 100 }
+    requires kept { All (IsPrintable columns) kept.items }
+    requires beside { All (IsPrintable columns) beside.now }
+    ensures { IfOk result (λ v. AreLeft columns beside.now kept.items v.items) }
+{
+    let count = kept.len();
+    let mut left = kept;
+    for place in (0..count).rev() {
+        left = without_implied(alloc, columns, left, place, beside)?;
+    }
+    Ok(left)
+}

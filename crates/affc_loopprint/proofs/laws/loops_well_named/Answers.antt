@@ -1,5 +1,0 @@
-use Rattle.affc_loopprint.proofs.WellNamedLoops as lemma
-use Rattle.affc_loopprint.proofs.laws.loops_well_named.Goals as goal
-
-pub returns : goal.returns
-returns c = record { law = lemma.loops_well_named }
