@@ -1,10 +1,13 @@
 -- The statements under the loops of a plain source can be printed, within the limits of its schedule.
-use Rattle.std.proofs.Common.{◌≡◌, ℕ, suc, ◌+◌, ◌-◌, ◌^◌, ◌≤◌, ℤ, List, [], ◌∷◌, ◌++◌, length, get_or, map, refl, sym, ap, subst, ◌∙◌, inl, inr, arith}
+use Rattle.std.proofs.Common.{◌≡◌, ℕ, suc, ◌+◌, ◌-◌, ◌^◌, ◌≤◌, ℤ, ◌≤ℤ◌, List, [], ◌∷◌, ◌++◌, length, get_or, map, refl, sym, ap, subst, ◌∙◌, inl, inr, arith}
 use Rattle.std.specs.Prelude.{slice_get, unsigned_abs}
 use Rattle.std.specs.List.{All}
+use Rattle.std.proofs.lemmas.Int.{ints}
+use Rattle.std.proofs.lemmas.List.Elements.{All-nil, All-cons, All-head, All-tail}
 use Rattle.std.proofs.lemmas.Option.{same_Some}
 use Rattle.affc_rows.specs.Forms.{Affine, columns_of}
 use Rattle.affc_ast.specs.declared.tree.Program.{Program}
+use Rattle.affc_system.specs.Boxes.{IsBox, IsRange, InBox}
 use Rattle.affc_ast.specs.Trace.{Assignment, assignments}
 use Rattle.affc_trace.specs.declared.schedule.TimeMap.{TimeMap}
 use Rattle.affc_trace.specs.declared.schedule.Schedule.TheVariants.{Time}
@@ -16,18 +19,19 @@ use Rattle.affc_domain.specs.Rounds.{rounds, loops_in}
 use Rattle.affc_domain.proofs.PlainLemmas.{rounds_are_plain, few_loops}
 use Rattle.affc_nest.proofs.QuestionLemmas.{stands_in}
 use Rattle.affc_nest.specs.Sides.{AreNear, IsSide, NearRanges}
-use Rattle.affc_loops.specs.Laws.{HasLoops, HaveSameLoops}
+use Rattle.affc_loops.specs.Laws.{HasLoops, HaveSameLoops, AreTimeRanges}
 use Rattle.affc_loops.specs.Limits.{IsSlight, IsSmall}
 use Rattle.affc_loops.specs.Loops.{Piece, boxes, pieces, loop_names, time_ranges}
-use Rattle.affc_loops.proofs.Boxes.{sits, near_box}
+use Rattle.affc_loops.proofs.Boxes.{sits, near_box, params_ordered}
 use Rattle.affc_loops.proofs.Guards.{names_count}
 use Rattle.affc_loops.proofs.LoopLaws.{few, slight, some_or_none}
 use Rattle.affc_loops.proofs.Pieces.{is_piece, shape_of, numbers_are}
-use Rattle.affc_loops.proofs.SameLoops.{boxes_same, times_same}
-use Rattle.affc_loops.proofs.Sizes.{Within, map_within, near_within, params_within, ranges_within}
+use Rattle.affc_loops.proofs.SameLoops.{boxes_same, pieces_none, times_same}
+use Rattle.affc_loops.proofs.Sizes.{Within, map_within, near_within, params_within, ranges_within, spans, times_are}
+use Rattle.affc_loops.proofs.TimeRanges.{Spans}
 use Rattle.affc_scan.specs.Blocks.{IsPrintable}
 use Rattle.affc_scan.specs.InSight.{IsInSight}
-use Rattle.affc_scan.specs.Pieces.{unnumbered, HasSpans, AllPrintable, AllSpan}
+use Rattle.affc_scan.specs.Pieces.{HasSpans, AllPrintable, AllSpan}
 use Rattle.affc_scan.proofs.SightProofs.{rounds_sight}
 
 near_ranges_of : (most : ℕ) (rs : List (ℤ × ℤ)) → most ≤ 2 ^ 32 → All (Within most) rs → NearRanges rs
@@ -47,11 +51,28 @@ near_coefs (c ∷ cs) h = let w : unsigned_abs c ≤ 256 = h 0 c (omega arith) i
 side_of : (n : ℕ) (f : Affine) → length f.coefs ≡ n → IsSlight f → IsSide n f
 side_of n f l s = record { width = l; coefs_near = near_coefs f.coefs s.0; constant_near = let w : unsigned_abs f.constant ≤ 2 ^ 30 = s.1 in omega arith }
 
+-- the low ends of a box are a point of it
+low_point : (rs : List (ℤ × ℤ)) → IsBox rs → InBox rs (map (λ r. r.0) rs)
+low_point [] o = tt
+low_point (r ∷ rs) o = (same r.0, All-head IsRange r rs o, low_point rs (All-tail IsRange r rs o))
+  where
+    same : (z : ℤ) → z ≤ℤ z
+    same z = omega (arith, ints)
+
+-- where a box has a point, its ends are in order
+box_ordered : (rs : List (ℤ × ℤ)) (xs : List ℤ) → InBox rs xs → IsBox rs
+box_ordered [] xs b = All-nil IsRange
+box_ordered (r ∷ rs) [] b = absurd b
+box_ordered (r ∷ rs) (x ∷ xs) b = All-cons IsRange r rs (through r.0 x r.1 b.0 b.1) (box_ordered rs xs b.2)
+  where
+    through : (a b c : ℤ) → a ≤ℤ b → b ≤ℤ c → a ≤ℤ c
+    through a b c h k = omega (arith, ints)
+
 module _ (source other : Program) (n : ℕ) (maps : List TimeMap) (h : HasLoops source (Time n maps)) (same : HaveSameLoops source other) (sight : (a : Assignment) → IsIn a (assignments other) → IsInSight a) where
   abbrev params : List (ℤ × ℤ)
   params = number_ranges source.params
 
-  fits_one : (e : Piece) → IsIn e (pieces other maps) → IsPrintable (length params) (unnumbered e) × HasSpans params (unnumbered e)
+  pub fits_one : (e : Piece) → IsIn e (pieces other maps) → IsPrintable (length params) e × HasSpans params e
   fits_one e i =
       let few_params : length params ≤ 4 = (h.plain).few_numbers in
       let k = is_piece 0 (rounds other) (assignments other) maps (boxes other) e i in
@@ -95,18 +116,18 @@ module _ (source other : Program) (n : ℕ) (maps : List TimeMap) (h : HasLoops 
         },
       )
 
-  all_printable_from : (es : List Piece) → ((e : Piece) → IsIn e es → IsIn e (pieces other maps)) → AllPrintable (length params) (map unnumbered es)
+  all_printable_from : (es : List Piece) → ((e : Piece) → IsIn e es → IsIn e (pieces other maps)) → AllPrintable (length params) es
   all_printable_from [] i = tt
   all_printable_from (e ∷ es) i = ((fits_one e (i e (inl refl))).0, all_printable_from es (λ f j. i f (inr j)))
 
-  all_span_from : (es : List Piece) → ((e : Piece) → IsIn e es → IsIn e (pieces other maps)) → AllSpan params (map unnumbered es)
+  all_span_from : (es : List Piece) → ((e : Piece) → IsIn e es → IsIn e (pieces other maps)) → AllSpan params es
   all_span_from [] i = tt
   all_span_from (e ∷ es) i = ((fits_one e (i e (inl refl))).1, all_span_from es (λ f j. i f (inr j)))
 
-  pub all_printable : AllPrintable (length params) (map unnumbered (pieces other maps))
+  pub all_printable : AllPrintable (length params) (pieces other maps)
   all_printable = all_printable_from (pieces other maps) (λ e i. i)
 
-  pub all_span : AllSpan params (map unnumbered (pieces other maps))
+  pub all_span : AllSpan params (pieces other maps)
   all_span = all_span_from (pieces other maps) (λ e i. i)
 
   ranges_are : time_ranges params (pieces other maps) ≡ time_ranges params (pieces source maps)
@@ -130,3 +151,27 @@ module _ (source other : Program) (n : ℕ) (maps : List TimeMap) (h : HasLoops 
 
   pub ranges_short : length (time_ranges params (pieces other maps)) ≤ 12
   ranges_short = subst (λ rs. length rs ≤ 12) (sym ranges_are) own_short
+
+  own_ordered : IsBox (time_ranges params (pieces source maps))
+  own_ordered =
+      let short = few source n maps h in
+      let within = slight source n maps h in
+      by (pieces source maps) refl (spans source n maps h.plain h.near h.scheduled short within) (times_are source n maps h.plain h.near h.scheduled short within)
+    where
+      by : (es : List Piece) → pieces source maps ≡ es → ((e : Piece) → IsIn e (pieces source maps) → Spans params n e) → AreTimeRanges params (pieces source maps) (time_ranges params (pieces source maps))
+          → IsBox (time_ranges params (pieces source maps))
+      by [] q s t = subst IsBox (sym (ap (time_ranges params) q)) (All-nil IsRange)
+      by (e ∷ es) q s t =
+          let i : IsIn e (pieces source maps) = subst (IsIn e) (sym q) (inl refl) in
+          box_ordered (time_ranges params (pieces source maps)) _
+          (t.hold e i (map (λ r. r.0) params) (map (λ r. r.0) e.ranges) (low_point params (params_ordered params (h.plain).ranges)) (low_point e.ranges (s e i).ordered))
+
+  pub ranges_ordered : IsBox (time_ranges params (pieces other maps))
+  ranges_ordered = subst IsBox (sym ranges_are) own_ordered
+
+  pub ranges_long : (e : Piece) → IsIn e (pieces other maps) → length (time_ranges params (pieces other maps)) ≡ n
+  ranges_long e i =
+      elim (some_or_none source n maps h) [
+        | inl none ↦ absurd (subst (IsIn e) (pieces_none source other same maps none) i)
+        | inr long ↦ ap length ranges_are ∙ long
+      ]

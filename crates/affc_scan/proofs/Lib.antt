@@ -1,9 +1,13 @@
-pub mod TermSteps
+pub mod TestSteps
 pub mod MovedSteps
 pub mod BlockSteps
+pub mod EndSteps
+pub mod LoopSteps
 pub mod RangeSteps
 pub mod PartSteps
 pub mod ScanSteps
+pub mod Gathering
 pub mod SightProofs
 pub mod Fitting
+pub mod Numbers
 pub mod Whole

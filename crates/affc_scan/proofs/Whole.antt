@@ -1,13 +1,16 @@
 -- What is found by a walk is the program's.
-use Rattle.std.proofs.Common.{◌≡◌, ℕ, zero, suc, ◌+◌, ◌≤◌, ℤ, false, true≢false, List, [], ◌∷◌, length, map, Some, None, refl, sym, ap, subst, ◌∙◌, arith}
+use Rattle.std.proofs.Common.{◌≡◌, ℕ, zero, suc, ◌+◌, ◌≤◌, ℤ, true, false, true≢false, List, [], ◌∷◌, ◌++◌, length, length-append, map, Some, None, refl, sym, ap, subst, ◌∙◌, inl, inr, arith}
 use Rattle.std.specs.Prelude.{slice_get, if◌then◌else◌}
-use Rattle.std.specs.List.{All}
 use Rattle.affc_ast.specs.declared.tree.Compare.{Compare}
 use Rattle.affc_ast.specs.declared.tree.Program.{Program}
 use Rattle.affc_ast.specs.declared.tree.Stmt.{Stmt}
 use Rattle.affc_ast.specs.Trace.{Assignment, assignments}
+use Rattle.affc_system.specs.Boxes.{IsBox}
 use Rattle.affc_trace.specs.declared.schedule.TimeMap.{TimeMap}
 use Rattle.affc_trace.specs.declared.schedule.Schedule.TheVariants.{Time}
+use Rattle.affc_trace.specs.Law.{IsIn}
+use Rattle.affc_trace.specs.Target.{numbers_in}
+use Rattle.affc_trace.proofs.Members.{to_map}
 use Rattle.affc_domain.specs.Loops.{loop_numbers}
 use Rattle.affc_domain.specs.Ranges.{Ranges, Within, Never, Wide, ranges_of, number_ranges}
 use Rattle.affc_domain.specs.Rounds.{Round, rounds, loops_in}
@@ -16,20 +19,32 @@ use Rattle.affc_domain.proofs.PlainLemmas.{rounds_of_each, assignments_are_plain
 use Rattle.affc_nest.specs.declared.nest.Nest.{Nest}
 use Rattle.affc_nest.specs.Laws.{HasNest}
 use Rattle.affc_nest.specs.Nests.{is_alive, ranges_in, entries_of, nest_of}
-use Rattle.affc_nest.specs.Sites.{Place, all_assigned, places_of}
+use Rattle.affc_nest.specs.Sites.{Place, all_around, all_assigned, places_of}
 use Rattle.affc_nest.proofs.PlaceLemmas.{rounds_walked, assignments_walked}
 use Rattle.affc_nest.proofs.QuestionLemmas.{place_of, there_is, below_length}
+use Rattle.affc_loops.specs.Between.{body_between, program_between}
+use Rattle.affc_loops.specs.Ends.{each_ends, all_ends, ends_of}
 use Rattle.affc_loops.specs.Laws.{HaveSameLoops}
-use Rattle.affc_loops.specs.Limits.{IsSmall}
-use Rattle.affc_loops.specs.Loops.{Piece, box_in, boxes, pieces_from, pieces, times_of, time_ranges, block_of, loops, body_of, target_program}
-use Rattle.affc_loops.specs.Spans.{hulls}
+use Rattle.affc_loops.specs.Loops.{Piece, box_in, boxes, pieces_from, pieces, time_ranges}
 use Rattle.affc_loops.proofs.Boxes.{is_wide, none_wide}
 use Rattle.affc_loops.proofs.Pieces.{numbers_are}
 use Rattle.affc_loops.proofs.SameLoops.{boxes_same}
+use Rattle.affc_ends.specs.declared.bounds.Bounds.{Bounds}
+use Rattle.affc_ends.specs.Sizes.{IsTimed}
+use Rattle.affc_ends.specs.TimeRows.{time_system, system_of}
+use Rattle.affc_ends.specs.TimeSets.{Timed, timed_in}
+use Rattle.affc_ends.specs.Whys.{AreBoundsFrom}
+use Rattle.affc_scanned.specs.Scanned.{AreBounds, AreBoundsOfEach, all_loose, all_sides, IsBetween}
+use Rattle.affc_scan.specs.declared.gathered.Gathered.{Gathered}
+use Rattle.affc_scan.specs.declared.parts.Part.{Part}
+use Rattle.affc_scan.specs.Gathered.{IsProjectable, AllProjectable, AreBoundsOf, AreBoundsOfAll, Gathers}
 use Rattle.affc_scan.specs.Laws.{IsNestFor, OwnNest}
-use Rattle.affc_scan.specs.Pieces.{box_of, pieces_at, unnumbered, AllPrintable, AllSpan}
+use Rattle.affc_scan.specs.Parts.{numbered, piece}
+use Rattle.affc_scan.specs.Pieces.{box_of, Numbered, piece_in, numbered_from, HasSpans, AllPrintable, AllSpan}
 use Rattle.affc_scan.proofs.SightProofs.{assignment_sight}
-use Rattle.affc_scan.proofs.Fitting.{all_printable, all_span, ranges_small, ranges_short}
+use Rattle.affc_scan.proofs.Fitting.{fits_one, all_printable, all_span, ranges_ordered, ranges_long}
+use Rattle.affc_scan.proofs.Numbers.{IsNumbered, is_numbered, long, is_timed, its_system}
+use Rattle.affc_scan.proofs.PartSteps.{pieces_of, pieces_in}
 
 -- ---- Boxes
 
@@ -57,79 +72,165 @@ entries_boxes program h =
 nest_boxes : (source other : Program) (nest : Nest) → HasNest source → HaveSameLoops source other → nest ≡ nest_of source → map box_of nest.entries ≡ boxes other
 nest_boxes source other nest h same e = ap (λ (q : Nest). map box_of q.entries) e ∙ entries_boxes source h ∙ sym (boxes_same source other same)
 
-parts_are : (program : Program) (nest : Nest) (maps : List TimeMap) (found : List Place) (ps : List Piece) → map box_of nest.entries ≡ boxes program → found ≡ places_of program
-    → ps ≡ map unnumbered (pieces_at found nest.entries maps) → ps ≡ map unnumbered (pieces program maps)
-parts_are program nest maps found ps e f g =
-    g
-    ∙ ap (λ q. map unnumbered (pieces_at q nest.entries maps)) f
-    ∙ ap (λ rss. map unnumbered (pieces_from 0 rss (all_assigned (places_of program)) maps (map box_of nest.entries))) (rounds_walked program)
-    ∙ ap (λ as'. map unnumbered (pieces_from 0 (rounds program) as' maps (map box_of nest.entries))) (assignments_walked program)
-    ∙ ap (λ bs. map unnumbered (pieces_from 0 (rounds program) (assignments program) maps bs)) e
+-- ---- With other parts
 
--- ---- Numbers don't matter
+abbrev with_body : Program → List Stmt → Program
+with_body program body = record { name = program.name; params = program.params; context = program.context; temps = program.temps; body = body; prelude = true }
 
-times_same : (params : List (ℤ × ℤ)) (es : List Piece) → time_ranges params (map unnumbered es) ≡ time_ranges params es
-times_same params [] = refl
-times_same params (e ∷ []) = refl
-times_same params (e ∷ f ∷ es) = ap (hulls (times_of params e)) (times_same params (f ∷ es))
-
-blocks_same : (first more : ℕ) (es : List Piece) → map (block_of first more) (map unnumbered es) ≡ map (block_of first more) es
-blocks_same first more [] = refl
-blocks_same first more (e ∷ es) = ap (λ l. block_of first more e ∷ l) (blocks_same first more es)
-
-body_same : (first : ℕ) (ranges : List (ℤ × ℤ)) (es : List Piece) → body_of first ranges (map unnumbered es) ≡ body_of first ranges es
-body_same first ranges [] = refl
-body_same first ranges (e ∷ es) = ap (loops ranges 0) (blocks_same first (length ranges) (e ∷ es))
+abbrev timed_by : List (ℤ × ℤ) → List Compare → List Round → (ranges : List (ℤ × ℤ)) → TimeMap → Timed
+timed_by params context rs ranges m = record { params = params; context = context; around = rs; ranges = ranges; times = m.forms; inverse = m.inverse }
 
 -- ---- The whole
 
-module _ (program : Program) (nest : Nest) (n : ℕ) (maps : List TimeMap) (found : List Place) (ps : List Piece) (is : IsNestFor program nest (Time n maps))
-    (walked : found ≡ places_of program) (parts : ps ≡ map unnumbered (pieces_at found nest.entries maps)) where
+module _ (program : Program) (nest : Nest) (n : ℕ) (maps : List TimeMap) (found : List Place) (ps : List Part) (is : IsNestFor program nest (Time n maps))
+    (walked : found ≡ places_of program) (parts : map numbered ps ≡ numbered_from 0 found nest.entries maps) where
   abbrev own : List (ℤ × ℤ)
   own = number_ranges is.source.params
+
+  abbrev ss : List Numbered
+  ss = map numbered ps
+
+  abbrev es : List Piece
+  es = map piece ps
+
+  abbrev times : List (ℤ × ℤ)
+  times = time_ranges nest.params es
+
+  abbrev loops : HaveSameLoops is.source program
+  loops = is.same_times.same_loops
 
   own_params : nest.params ≡ own
   own_params = ap (λ (q : Nest). q.params) is.its_nest
 
   params_are : nest.params ≡ number_ranges program.params
-  params_are = own_params ∙ sym is.same_loops.same_ranges
+  params_are = own_params ∙ sym loops.same_ranges
 
-  same : ps ≡ map unnumbered (pieces program maps)
-  same =
-      parts_are program nest maps found ps
-      (nest_boxes is.source program nest (record { plain = is.has_loops.plain; near = is.has_loops.near }) is.same_loops is.its_nest) walked parts
+  numbered_are : ss ≡ numbered_from 0 (places_of program) nest.entries maps
+  numbered_are = parts ∙ ap (λ q. numbered_from 0 q nest.entries maps) walked
 
-  ranges_own : time_ranges nest.params ps ≡ time_ranges own (pieces program maps)
-  ranges_own = ap (λ q. time_ranges q ps) own_params ∙ ap (time_ranges own) same ∙ times_same own (pieces program maps)
+  same_in : map piece_in ss ≡ pieces program maps
+  same_in =
+      let boxed = nest_boxes is.source program nest (record { plain = is.has_loops.plain; near = is.has_loops.near }) loops is.its_nest in
+      ap (map piece_in) numbered_are
+      ∙ pieces_in 0 (places_of program) nest.entries maps
+      ∙ ap (λ rss. pieces_from 0 rss (all_assigned (places_of program)) maps (map box_of nest.entries)) (rounds_walked program)
+      ∙ ap (λ as'. pieces_from 0 (rounds program) as' maps (map box_of nest.entries)) (assignments_walked program)
+      ∙ ap (λ bs. pieces_from 0 (rounds program) (assignments program) maps bs) boxed
 
-  ranges_same : time_ranges nest.params ps ≡ time_ranges (number_ranges program.params) (pieces program maps)
-  ranges_same = ranges_own ∙ ap (λ q. time_ranges q (pieces program maps)) (sym is.same_loops.same_ranges)
+  same : es ≡ pieces program maps
+  same = pieces_of ps ∙ same_in
 
-  pub few_there : length nest.params ≤ 4
-  few_there = subst (λ q. length q ≤ 4) (sym own_params) is.has_loops.plain.few_numbers
+  times_own : times ≡ time_ranges own (pieces program maps)
+  times_own = ap (λ q. time_ranges q es) own_params ∙ ap (time_ranges own) same
 
-  pub printable_there : (first : ℕ) → first ≡ length nest.params → AllPrintable first ps
+  times_same : times ≡ time_ranges (number_ranges program.params) (pieces program maps)
+  times_same = ap (λ q. time_ranges q es) params_are ∙ ap (time_ranges (number_ranges program.params)) same
+
+  pub few_there : (first : ℕ) → first ≡ length nest.params → first ≤ 4
+  few_there first e = subst (λ k. k ≤ 4) (sym (e ∙ ap length own_params)) is.has_loops.plain.few_numbers
+
+  pub printable_there : (first : ℕ) → first ≡ length nest.params → AllPrintable first es
   printable_there first e =
-      subst (λ k. AllPrintable k ps) (sym (e ∙ ap length own_params)) (subst (AllPrintable (length own)) (sym same) (all_printable is.source program n maps is.has_loops is.same_loops is.in_sight))
+      subst (λ k. AllPrintable k es) (sym (e ∙ ap length own_params)) (subst (AllPrintable (length own)) (sym same) (all_printable is.source program n maps is.has_loops loops is.in_sight))
 
-  pub spans_there : AllSpan nest.params ps
-  spans_there = subst (λ q. AllSpan q ps) (sym own_params) (subst (AllSpan own) (sym same) (all_span is.source program n maps is.has_loops is.same_loops is.in_sight))
+  pub spans_there : AllSpan nest.params es
+  spans_there = subst (λ q. AllSpan q es) (sym own_params) (subst (AllSpan own) (sym same) (all_span is.source program n maps is.has_loops loops is.in_sight))
 
-  pub small_there : All IsSmall (time_ranges nest.params ps)
-  small_there = subst (All IsSmall) (sym ranges_own) (ranges_small is.source program n maps is.has_loops is.same_loops is.in_sight)
+  pub ordered_there : IsBox times
+  ordered_there = subst IsBox (sym times_own) (ranges_ordered is.source program n maps is.has_loops loops is.in_sight)
 
-  pub short_there : length (time_ranges nest.params ps) ≤ 12
-  short_there = subst (λ rs. length rs ≤ 12) (sym ranges_own) (ranges_short is.source program n maps is.has_loops is.same_loops is.in_sight)
+  -- ---- each statement
 
-  pub body_there : (first : ℕ) (b : List Stmt) → first ≡ length nest.params → b ≡ body_of first (time_ranges nest.params ps) ps → b ≡ (target_program program (Time n maps)).body
-  body_there first b f e =
-      e
-      ∙ ap (λ k. body_of k (time_ranges nest.params ps) ps) f
-      ∙ ap (λ rs. body_of (length nest.params) rs ps) ranges_same
-      ∙ ap (λ q. body_of (length q) (time_ranges (number_ranges program.params) (pieces program maps)) ps) params_are
-      ∙ ap (body_of (length (number_ranges program.params)) (time_ranges (number_ranges program.params) (pieces program maps))) same
-      ∙ body_same (length (number_ranges program.params)) (time_ranges (number_ranges program.params) (pieces program maps)) (pieces program maps)
-      ∙ ap (λ k. body_of k (time_ranges (number_ranges program.params) (pieces program maps)) (pieces program maps)) (sym (numbers_are program.params))
+  is_piece : (s : Numbered) → IsIn s ss → IsIn (piece_in s) (pieces program maps)
+  is_piece s i = subst (IsIn (piece_in s)) same_in (to_map piece_in ss s i)
+
+  around : all_around (places_of program) ≡ rounds is.source
+  around = rounds_walked program ∙ loops.same_rounds
+
+  numbered_here : (s : Numbered) → IsIn s ss → IsNumbered 0 (places_of program) (nest_of is.source).entries maps s
+  numbered_here s i = is_numbered 0 (places_of program) (nest_of is.source).entries maps s (subst (IsIn s) (numbered_are ∙ ap (λ (q : Nest). numbered_from 0 (places_of program) q.entries maps) is.its_nest) i)
+
+  projects_one : (s : Numbered) → IsIn s ss → IsProjectable nest (nest.params ++ times) s
+  projects_one s i =
+      let k = numbered_here s i in
+      let components = long is.source n maps is.has_loops (places_of program) around s k in
+      let all = ap length times_own ∙ ranges_long is.source program n maps is.has_loops loops is.in_sight (piece_in s) (is_piece s i) in
+      record {
+        timed = subst (λ (q : Nest). IsTimed q s.entry s.times) (sym is.its_nest) (is_timed is.source n maps is.has_loops (places_of program) around s k);
+        columns = length-append nest.params times ∙ ap (λ c. length nest.params + c) (all ∙ sym components);
+        spans = subst (λ q. HasSpans q (piece_in s)) (sym own_params) (fits_one is.source program n maps is.has_loops loops is.in_sight (piece_in s) (is_piece s i)).1;
+      }
+
+  projects_from : (ts : List Numbered) → ((s : Numbered) → IsIn s ts → IsIn s ss) → AllProjectable nest (nest.params ++ times) ts
+  projects_from [] f = tt
+  projects_from (s ∷ ts) f = (projects_one s (f s (inl refl)), projects_from ts (λ t i. f t (inr i)))
+
+  pub projects_there : AllProjectable nest (nest.params ++ times) ss
+  projects_there = projects_from ss (λ s i. i)
+
+  -- ---- and their bounds
+
+  abbrev ranges : List (ℤ × ℤ)
+  ranges = time_ranges (number_ranges program.params) (pieces program maps)
+
+  timed_same : (s : Numbered) → timed_in is.source s.place.around s.entry.ranges s.times ≡ timed_in program s.place.around s.entry.ranges s.times
+  timed_same s =
+      ap (λ q. timed_by q is.source.context s.place.around s.entry.ranges s.times) (sym loops.same_ranges)
+      ∙ ap (λ c. timed_by (number_ranges program.params) c s.place.around s.entry.ranges s.times) (sym is.same_times.same_context)
+
+  system_same : (s : Numbered) → IsIn s ss
+      → time_system (length nest.params) s.entry.domain.rows s.times.forms s.times.inverse ≡ system_of (timed_in program s.place.around s.entry.ranges s.times)
+  system_same s i =
+      ap (λ (q : Nest). time_system (length q.params) s.entry.domain.rows s.times.forms s.times.inverse) is.its_nest
+      ∙ its_system is.source n maps is.has_loops (places_of program) around s (numbered_here s i)
+      ∙ ap system_of (timed_same s)
+
+  first_column : length nest.params ≡ numbers_in program.params
+  first_column = ap length params_are ∙ sym (numbers_are program.params)
+
+  columns_same : nest.params ++ times ≡ number_ranges program.params ++ ranges
+  columns_same = ap (λ q. q ++ times) params_are ∙ ap (λ q. number_ranges program.params ++ q) times_same
+
+  bounds_one : (s : Numbered) (bs : List Bounds) → IsIn s ss → AreBoundsOf nest (nest.params ++ times) s bs → AreBounds program ranges (piece_in s) bs
+  bounds_one s bs i b = record {
+    one_each = b.one_each;
+    projected =
+        subst (λ q. AreBoundsFrom q (numbers_in program.params) (number_ranges program.params ++ ranges) bs) (system_same s i)
+        (subst (λ k. AreBoundsFrom (time_system (length nest.params) s.entry.domain.rows s.times.forms s.times.inverse) k (number_ranges program.params ++ ranges) bs) first_column
+        (subst (λ q. AreBoundsFrom (time_system (length nest.params) s.entry.domain.rows s.times.forms s.times.inverse) (length nest.params) q bs) columns_same b.projected));
+  }
+
+  bounds_from : (ts : List Numbered) (bss : List (List Bounds)) → ((s : Numbered) → IsIn s ts → IsIn s ss) → AreBoundsOfAll nest (nest.params ++ times) ts bss
+      → AreBoundsOfEach program ranges (map piece_in ts) bss
+  bounds_from [] [] f b = tt
+  bounds_from [] (bs ∷ bss) f b = absurd b
+  bounds_from (s ∷ ts) [] f b = absurd b
+  bounds_from (s ∷ ts) (bs ∷ bss) f b = (bounds_one s bs (f s (inl refl)) b.0, bounds_from ts bss (λ t i. f t (inr i)) b.1)
+
+  -- ---- the program
+
+  module _ (first : ℕ) (made : Gathered) (counted : first ≡ length nest.params) (g : Gathers nest (nest.params ++ times) first ss made) where
+    ends_are : made.ends ≡ ends_of program maps (all_sides g.bounds)
+    ends_are =
+        g.ends
+        ∙ ap (λ k. all_ends (each_ends k nest.params (map piece_in ss) (all_sides g.bounds))) (counted ∙ first_column)
+        ∙ ap (λ q. all_ends (each_ends (numbers_in program.params) q (map piece_in ss) (all_sides g.bounds))) params_are
+        ∙ ap (λ l. all_ends (each_ends (numbers_in program.params) (number_ranges program.params) l (all_sides g.bounds))) same_in
+
+    body_is : (b : List Stmt) → b ≡ body_between first made.ends es → b ≡ (program_between program maps (ends_of program maps (all_sides g.bounds))).body
+    body_is b e =
+        e
+        ∙ ap (λ k. body_between k made.ends es) (counted ∙ first_column)
+        ∙ ap (λ ends. body_between (numbers_in program.params) ends es) ends_are
+        ∙ ap (body_between (numbers_in program.params) (ends_of program maps (all_sides g.bounds))) same
+
+    pub between_there : (b : List Stmt) (q : Program) → b ≡ body_between first made.ends es → q ≡ with_body program b → IsBetween program maps (record { program = q; loose = made.loose })
+    between_there b q e f = record {
+      bounds = g.bounds;
+      are_bounds = subst (λ l. AreBoundsOfEach program ranges l g.bounds) same_in (bounds_from ss g.bounds (λ s i. i) g.are_bounds);
+      is = f ∙ ap (with_body program) (body_is b e);
+      loose = g.loose ∙ ap (λ l. all_loose l g.bounds) same_in;
+    }
 
 -- ---- A source's own nest
 
@@ -137,7 +238,7 @@ pub own_nest : OwnNest
 own_nest source nest schedule h e = record {
   source = source;
   has_loops = h;
-  same_loops = record { same_rounds = refl; same_ranges = refl };
+  same_times = record { same_loops = record { same_rounds = refl; same_ranges = refl }; same_context = refl };
   its_nest = e;
   in_sight = λ a i.
       let k = place_of (assignments source) a i in

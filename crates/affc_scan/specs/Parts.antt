@@ -2,7 +2,10 @@
 use Rattle.affc_nest.specs.Sites.{place}
 use Rattle.affc_loops.specs.Loops.{Piece}
 use Rattle.affc_scan.specs.declared.parts.Part.{Part}
-use Rattle.affc_scan.specs.Blocks.{piece_of}
+use Rattle.affc_scan.specs.Pieces.{Numbered, piece_in}
+
+abbrev pub numbered : Part → Numbered
+numbered p = record { statement = p.statement; place = place p.site.now; entry = p.entry.now; times = p.times.now }
 
 abbrev pub piece : Part → Piece
-piece p = piece_of 0 (place p.site.now) p.times.now p.entry.now.ranges
+piece p = piece_in (numbered p)

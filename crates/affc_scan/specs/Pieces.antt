@@ -1,24 +1,35 @@
 -- The statements that can have instances, as a walk over assignments, entries and times comes to them.
-use Rattle.std.specs.Prelude.{ℕ, ◌≤◌, ℤ, if◌then◌else◌, List, [], ◌∷◌, ◌++◌, Option, Some, None, map, length}
+use Rattle.std.specs.Prelude.{ℕ, suc, ◌≤◌, ℤ, if◌then◌else◌, List, [], ◌∷◌, ◌++◌, Option, Some, None, length}
 use Rattle.std.specs.List.{All}
 use Rattle.affc_system.specs.Boxes.{IsBox}
 use Rattle.affc_trace.specs.declared.schedule.TimeMap.{TimeMap}
-use Rattle.affc_nest.specs.Sites.{Place, all_around, all_assigned}
+use Rattle.affc_nest.specs.Sites.{Place}
 use Rattle.affc_nest.specs.Sides.{IsSide, NearRanges}
 use Rattle.affc_nest.specs.declared.nest.Entry.{Entry}
-use Rattle.affc_loops.specs.Loops.{Piece, pieces_from}
-use Rattle.affc_scan.specs.Blocks.{IsPrintable}
+use Rattle.affc_loops.specs.Loops.{Piece}
+use Rattle.affc_scan.specs.Blocks.{piece_of, IsPrintable}
 
 abbrev pub box_of : Entry → Option (List (ℤ × ℤ))
 box_of e = (if e.alive then Some e.ranges else None)
 
--- numbered from 0 on
-abbrev pub pieces_at : List Place → List Entry → List TimeMap → List Piece
-pieces_at ps es ms = pieces_from 0 (all_around ps) (all_assigned ps) ms (map box_of es)
+-- a statement with its number: its assignment and what stands round that, its entry of the nest, and its times
+pub record Numbered : Type 0 where
+  pub statement : ℕ
+  pub place : Place
+  pub entry : Entry
+  pub times : TimeMap
 
--- nothing that is printed of a statement has its number
-abbrev pub unnumbered : Piece → Piece
-unnumbered e = record e { statement = 0 }
+abbrev pub piece_in : Numbered → Piece
+piece_in s = piece_of s.statement s.place s.times s.entry.ranges
+
+-- the statement, if it can have instances
+abbrev pub if_alive : (statement : ℕ) → Place → Entry → TimeMap → List Numbered
+if_alive statement p e m = (if e.alive then record { statement = statement; place = p; entry = e; times = m } ∷ [] else [])
+
+-- those of these statements that can have instances, numbered from k on
+abbrev pub numbered_from : (k : ℕ) → List Place → List Entry → List TimeMap → List Numbered
+numbered_from k (p ∷ ps) (e ∷ es) (m ∷ ms) = if_alive k p e m ++ numbered_from (suc k) ps es ms
+numbered_from k _ _ _ = []
 
 -- sizes within which the ranges of times are found
 pub record HasSpans (params : List (ℤ × ℤ)) (e : Piece) : Type 0 where

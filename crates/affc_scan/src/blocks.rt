@@ -1,17 +1,17 @@
 //! The block of a statement.
 ghost use Rattle.std.specs.Prelude.{◌≡◌, ◌≤◌, ◌+◌, ◌++◌, [], ◌∷◌, length, IfOk, true};
 ghost use Rattle.std.specs.List.{All};
-ghost use Rattle.affc_ast.specs.declared.tree.Stmt.TheVariants as statements;
 ghost use Rattle.affc_domain.specs.Rounds.{Loop, loops_in};
 ghost use Rattle.affc_loops.specs.Limits.{IsSlight, IsSmall};
 ghost use Rattle.affc_loops.specs.Loops.{loop_names, locals_of, if_any, loop_tests, guarded, moved_assign, block_of};
 ghost use Rattle.affc_nest.specs.Frames.{seen, all_seen};
 ghost use Rattle.affc_nest.specs.Sites.{place};
-ghost use Rattle.affc_scan.specs.Blocks.{piece_of, tested_body, HaveFew, IsPrintable};
+ghost use Rattle.affc_scan.specs.Blocks.{tested_body, HaveFew, IsPrintable};
 ghost use Rattle.affc_scan.specs.InSight.{in_sight, round_in_sight, rounds_in_sight, IsInSight};
+ghost use Rattle.affc_scan.specs.Parts.{piece};
 
-use crate::forms::form_ix;
 use crate::moved::{moved_all, moved_tests, moved_val};
+use crate::parts::Part;
 use crate::tests_of::{box_tests, time_tests};
 use crate::trees::moved_ix;
 use affc_ast::Items;
@@ -19,7 +19,7 @@ use affc_ast::text::Text;
 use affc_ast::tree::{Compare, Ix, Local, NameId, Rel, Stmt};
 use affc_nest::{Frame, Site};
 use affc_rows::Form;
-use affc_trace::TimeMap;
+use affc_terms::form_ix;
 use std::alloc::{AllocError, Global};
 
 /// This statement alone.
@@ -139,6 +139,7 @@ fn under_frames(
 }
 
 /// Adds a local by its form.
+#[tactic(auto, using(crate::proofs::TestSteps::slight_is_modest))]
 fn add_local(
     alloc: Global,
     first: u32,
@@ -239,27 +240,33 @@ fn tested(
     under(alloc, boxed, body)
 }
 
-/// The block of a statement with this number, where so many parameters are the first names, and so many components
-/// of the time stand behind them.
+/// The block of a statement, where so many parameters are the first names, and so many components of the time stand
+/// behind them.
 pub(crate) fn block(
     alloc: Global,
     first: u32,
     more: u32,
-    site: &Site<'_>,
-    ranges: &[(i64, i64)],
-    times: &TimeMap,
+    part: &Part<'_, '_>,
 ) -> Result<Stmt, AllocError>
     requires few { first + more ≤ 512 }
-    requires printable { IsPrintable first (piece_of 0 (place site.now) times.now ranges.now) }
-    ensures { IfOk result (λ s. s ≡ block_of first more (piece_of 0 (place site.now) times.now ranges.now)) }
+    requires printable { IsPrintable first (piece part.now) }
+    ensures { IfOk result (λ s. s ≡ block_of first more (piece part.now)) }
 {
     let locals = add_locals(
         alloc,
         first,
-        site.frames.as_slice(),
-        times.inverse.as_slice(),
+        part.site.frames.as_slice(),
+        part.times.inverse.as_slice(),
         Items::new(alloc),
     )?;
-    let body = tested(alloc, first, more, site, ranges, times.forms.as_slice())?;
+    let ranges = part.entry.ranges.ranges();
+    let body = tested(
+        alloc,
+        first,
+        more,
+        part.site,
+        ranges,
+        part.times.forms.as_slice(),
+    )?;
     Ok(Stmt::Block { locals, body })
 }

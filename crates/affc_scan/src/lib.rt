@@ -2,7 +2,8 @@
 #![tactic(auto)]
 
 mod blocks;
-mod forms;
+mod ends;
+mod gathered;
 pub mod laws;
 mod loops;
 mod moved;
@@ -10,6 +11,7 @@ mod parts;
 mod ranges;
 mod target;
 mod tests_of;
+mod times;
 mod trees;
 
 pub use target::scan;

@@ -1,14 +1,12 @@
 //! The loops round the blocks.
-ghost use Rattle.std.specs.Prelude.{◌≡◌, ◌≤◌, ◌<◌, ◌^◌, ◌+◌, length, IfOk};
-ghost use Rattle.std.specs.List.{All};
-ghost use Rattle.affc_loops.specs.Limits.{IsSmall};
+ghost use Rattle.std.specs.Prelude.{◌≡◌, ◌≤◌, length, IfOk};
+ghost use Rattle.affc_loops.specs.Between as between;
 ghost use Rattle.affc_loops.specs.Loops as specs;
 
 use crate::blocks::one;
-use crate::forms::number;
 use affc_ast::Items;
 use affc_ast::text::Text;
-use affc_ast::tree::{Rel, Stmt};
+use affc_ast::tree::{Ix, Rel, Stmt};
 use std::alloc::{AllocError, Global};
 
 /// The name of a component's loop.
@@ -19,35 +17,30 @@ fn time_name(alloc: Global, component: u32) -> Result<Text, AllocError>
     Ok(Text::from_string(name))
 }
 
-/// Loops over these ranges round a body, for the components from this number on.
-#[tactic(auto, using(crate::proofs::RangeSteps::one_more_loop))]
-pub(crate) fn loops(
+/// Loops between these ends round a body.
+#[tactic(auto, using(crate::proofs::LoopSteps::innermost))]
+pub(crate) fn loops_between(
     alloc: Global,
-    ranges: &[(i64, i64)],
-    component: u32,
+    ends: Items<(Ix, Ix)>,
     body: Items<Stmt>,
 ) -> Result<Items<Stmt>, AllocError>
-    requires small { All IsSmall ranges.now }
-    requires few { component + length ranges.now ≤ 1024 }
-    ensures { IfOk result (λ x. x ≡ specs.loops ranges.now component body) }
+    requires { length ends ≤ 1024 }
+    ensures { IfOk result (λ x. x ≡ between.loops_between ends 0 body) }
 {
-    match ranges {
-        [] => Ok(body),
-        [range, rest @ ..] => {
-            let inner = loops(alloc, rest, component + 1, body)?;
-            let low = number(alloc, range.0)?;
-            let high = number(alloc, range.1)?;
-            let iter = time_name(alloc, component)?;
-            one(
-                alloc,
-                Stmt::For {
-                    iter,
-                    low,
-                    rel: Rel::LessEqual,
-                    high,
-                    body: inner,
-                },
-            )
-        }
-    }
+    let mut outer = ends;
+    let Some((low, high)) = outer.pop() else {
+        return Ok(body);
+    };
+    let iter = time_name(alloc, outer.len() as u32)?;
+    let inner = one(
+        alloc,
+        Stmt::For {
+            iter,
+            low,
+            rel: Rel::LessEqual,
+            high,
+            body,
+        },
+    )?;
+    loops_between(alloc, outer, inner)
 }

@@ -1,8 +1,8 @@
 //! The statements that can have instances, with their times.
-ghost use Rattle.std.specs.Prelude.{◌≡◌, ◌++◌, ◌∷◌, [], map, OnOk, IfOk};
+ghost use Rattle.std.specs.Prelude.{◌≡◌, ◌++◌, map, OnOk, IfOk};
 ghost use Rattle.affc_nest.specs.Sites.{place, places};
-ghost use Rattle.affc_scan.specs.Pieces.{pieces_at, unnumbered};
-ghost use Rattle.affc_scan.specs.Parts.{piece};
+ghost use Rattle.affc_scan.specs.Pieces.{if_alive, numbered_from};
+ghost use Rattle.affc_scan.specs.Parts.{numbered};
 
 use affc_nest::{Entry, Site};
 use affc_trace::TimeMap;
@@ -11,6 +11,8 @@ use std::alloc::{AllocError, Global};
 /// A statement that can have instances.
 #[derive(Clone, Copy, Drop)]
 pub(crate) struct Part<'a, 's> {
+    /// Its number, in the order of the text from 0.
+    pub statement: u32,
     pub site: &'a Site<'s>,
     pub entry: &'a Entry,
     pub times: &'a TimeMap,
@@ -19,31 +21,39 @@ pub(crate) struct Part<'a, 's> {
 /// Adds a statement if it can have instances.
 #[tactic(auto, using(crate::proofs::PartSteps::alive_part, crate::proofs::PartSteps::dead_part))]
 fn add_part<'a, 's>(
+    statement: u32,
     site: &'a Site<'s>,
     entry: &'a Entry,
     times: &'a TimeMap,
     out: &mut Vec<Part<'a, 's>>,
 ) -> Result<(), AllocError>
-    ensures { OnOk result (map piece out.new.items ≡ map piece out.old.items ++ map unnumbered (pieces_at (place site.now ∷ []) (entry.now ∷ []) (times.now ∷ []))) }
+    ensures { OnOk result (map numbered out.new.items ≡ map numbered out.old.items ++ if_alive statement (place site.now) entry.now times.now) }
 {
     if !entry.alive {
         return Ok(());
     }
-    let Ok(()) = out.push(Part { site, entry, times }) else {
+    let part = Part {
+        statement,
+        site,
+        entry,
+        times,
+    };
+    let Ok(()) = out.push(part) else {
         return Err(AllocError);
     };
     Ok(())
 }
 
-/// Adds those of these statements that can have instances.
-#[tactic(auto, using(crate::proofs::PartSteps::one_more_part, crate::proofs::PartSteps::no_site, crate::proofs::PartSteps::no_entry, crate::proofs::PartSteps::no_times))]
+/// Adds those of these statements that can have instances, of which the first has this number.
+#[tactic(auto, using(crate::proofs::PartSteps::no_site, crate::proofs::PartSteps::no_entry, crate::proofs::PartSteps::no_times))]
 fn add_parts<'a, 's>(
+    first: u32,
     sites: &'a [Site<'s>],
     entries: &'a [Entry],
     maps: &'a [TimeMap],
     out: &mut Vec<Part<'a, 's>>,
 ) -> Result<(), AllocError>
-    ensures { OnOk result (map piece out.new.items ≡ map piece out.old.items ++ map unnumbered (pieces_at (places sites.now) entries.now maps.now)) }
+    ensures { OnOk result (map numbered out.new.items ≡ map numbered out.old.items ++ numbered_from first (places sites.now) entries.now maps.now) }
 {
     match sites {
         [] => Ok(()),
@@ -52,8 +62,12 @@ fn add_parts<'a, 's>(
             [entry, entries @ ..] => match maps {
                 [] => Ok(()),
                 [times, maps @ ..] => {
-                    add_part(site, entry, times, out)?;
-                    add_parts(sites, entries, maps, out)?;
+                    add_part(first, site, entry, times, out)?;
+                    // More statements than numbers don't fit into memory.
+                    let Some(next) = first.checked_add(1) else {
+                        return Err(AllocError);
+                    };
+                    add_parts(next, sites, entries, maps, out)?;
                     Ok(())
                 }
             },
@@ -68,9 +82,9 @@ pub(crate) fn all_parts<'a, 's>(
     entries: &'a [Entry],
     maps: &'a [TimeMap],
 ) -> Result<Vec<Part<'a, 's>>, AllocError>
-    ensures { IfOk result (λ v. map piece v.items ≡ map unnumbered (pieces_at (places sites.now) entries.now maps.now)) }
+    ensures { IfOk result (λ v. map numbered v.items ≡ numbered_from 0 (places sites.now) entries.now maps.now) }
 {
     let mut out = Vec::new(alloc);
-    add_parts(sites, entries, maps, &mut out)?;
+    add_parts(0, sites, entries, maps, &mut out)?;
     Ok(out)
 }

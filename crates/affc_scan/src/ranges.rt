@@ -1,7 +1,7 @@
 //! The ranges of times.
-ghost use Rattle.std.specs.Prelude.{◌≡◌, ◌≤◌, ◌<◌, ◌^◌, ◌+◌, ◌++◌, [], map, length, unsigned_abs, true, IfOk};
+ghost use Rattle.std.specs.Prelude.{◌≡◌, ◌≤◌, ◌^◌, ◌++◌, map, length, unsigned_abs, IfOk};
 ghost use Rattle.std.specs.List.{All};
-ghost use Rattle.affc_loops.specs.Limits.{IsSlight};
+ghost use Rattle.affc_loops.specs.Limits.{IsSmall};
 ghost use Rattle.affc_loops.specs.Spans.{span, hull, hulls};
 ghost use Rattle.affc_nest.specs.Sides.{IsSide, NearRanges};
 
@@ -23,7 +23,8 @@ fn span_of(form: &Form, ranges: &BoxOf) -> (i64, i64)
     requires side { IsSide (length ranges.now) form.now }
     requires near { NearRanges ranges.now }
     requires few { length ranges.now ≤ 128 }
-    ensures { result ≡ span ranges.now form.now }
+    ensures value { result ≡ span ranges.now form.now }
+    ensures small { IsSmall result }
 {
     let low = narrow(least(form, ranges));
     let high = narrow(greatest(form, ranges));
@@ -40,7 +41,9 @@ pub(crate) fn add_spans(
     requires sides { All (IsSide (length ranges.now)) forms.now }
     requires near { NearRanges ranges.now }
     requires few { length ranges.now ≤ 128 }
-    ensures { IfOk result (λ x. x ≡ made ++ map (span ranges.now) forms.now) }
+    requires small { All IsSmall made }
+    ensures value { IfOk result (λ x. x ≡ made ++ map (span ranges.now) forms.now) }
+    ensures small { IfOk result (All IsSmall) }
 {
     let mut made = made;
     match forms {

@@ -1,82 +1,28 @@
 //! The program of a schedule.
 ghost use Rattle.std.specs.Prelude.{◌≡◌, ◌≤◌, ◌+◌, ◌++◌, map, length, true, IfOk};
-ghost use Rattle.std.specs.List.{All};
 ghost use Rattle.affc_system.specs.Boxes.{IsBox};
-ghost use Rattle.affc_loops.specs.Limits.{IsSmall};
 ghost use Rattle.affc_trace.specs.declared.schedule.Schedule.TheVariants.{Time};
-ghost use Rattle.affc_loops.specs.Loops as specs;
+ghost use Rattle.affc_loops.specs.Between.{body_between};
+ghost use Rattle.affc_loops.specs.Loops.{block_of, time_ranges as ranges_of};
+ghost use Rattle.affc_scan.specs.Gathered.{AllProjectable, Gathers};
 ghost use Rattle.affc_scan.specs.Laws.{IsNestFor};
-ghost use Rattle.affc_scan.specs.Parts.{piece};
-ghost use Rattle.affc_scan.specs.Pieces.{HasSpans, AllPrintable, AllSpan};
+ghost use Rattle.affc_scan.specs.Parts.{numbered, piece};
+ghost use Rattle.affc_scan.specs.Pieces.{AllPrintable, AllSpan};
+ghost use Rattle.affc_scanned.specs.Scanned.{IsBetween, Scans};
 
 use crate::blocks::block;
-use crate::loops::loops;
+use crate::gathered::{Gathered, gather_all};
+use crate::loops::loops_between;
 use crate::parts::{Part, all_parts};
-use crate::ranges::{add_hulls, add_spans};
+use crate::times::{time_ranges, wider};
 use affc_ast::Items;
 use affc_ast::copies::all as copies;
 use affc_ast::text::Text;
-use affc_ast::tree::{Program, Stmt};
+use affc_ast::tree::{Ix, Program, Stmt};
 use affc_nest::{Nest, all_sites};
-use affc_system::BoxOf;
+use affc_scanned::Scanned;
 use affc_trace::{Schedule, TimeMap};
 use std::alloc::{AllocError, Global};
-
-/// The box with more columns.
-#[tactic(auto, using(affc_trace::proofs::EndedReads::append_assoc, affc_trace::proofs::LastStores::append_nil))]
-fn wider(ranges: BoxOf, more: &[(i64, i64)]) -> Result<BoxOf, AllocError>
-    requires { IsBox more.now }
-    ensures { IfOk result (λ b. b ≡ ranges ++ more.now) }
-{
-    match more {
-        [] => Ok(ranges),
-        [range, rest @ ..] => {
-            let mut ranges = ranges;
-            ranges.push(range.0, range.1)?;
-            wider(ranges, rest)
-        }
-    }
-}
-
-/// The ranges of a statement's times.
-fn times_of(
-    alloc: Global,
-    params: &BoxOf,
-    part: &Part<'_, '_>,
-) -> Result<Items<(i64, i64)>, AllocError>
-    requires { HasSpans params.now (piece part.now) }
-    ensures { IfOk result (λ x. x ≡ specs.times_of params.now (piece part.now)) }
-{
-    let ranges = params.clone()?;
-    let ranges = wider(ranges, part.entry.ranges.ranges())?;
-    add_spans(&ranges, part.times.forms.as_slice(), Items::new(alloc))
-}
-
-/// The ranges of all times.
-fn time_ranges(
-    alloc: Global,
-    params: &BoxOf,
-    parts: &[Part<'_, '_>],
-) -> Result<Items<(i64, i64)>, AllocError>
-    requires { AllSpan params.now (map piece parts.now) }
-    ensures { IfOk result (λ x. x ≡ specs.time_ranges params.now (map piece parts.now)) }
-{
-    match parts {
-        [] => Ok(Items::new(alloc)),
-        [part, rest @ ..] => {
-            let own = times_of(alloc, params, part)?;
-            match rest {
-                [] => Ok(own),
-                [_, ..] => {
-                    let others = time_ranges(alloc, params, rest)?;
-                    let made = Items::new(alloc);
-                    let hulls = add_hulls(own.as_slice(), others.as_slice(), made)?;
-                    Ok(hulls)
-                }
-            }
-        }
-    }
-}
 
 /// Adds the blocks of these statements.
 fn add_blocks(
@@ -88,50 +34,38 @@ fn add_blocks(
 ) -> Result<Items<Stmt>, AllocError>
     requires few { first + more ≤ 512 }
     requires printable { AllPrintable first (map piece parts.now) }
-    ensures { IfOk result (λ x. x ≡ made ++ map (specs.block_of first more) (map piece parts.now)) }
+    ensures { IfOk result (λ x. x ≡ made ++ map (block_of first more) (map piece parts.now)) }
 {
     let mut made = made;
     match parts {
         [] => Ok(made),
         [part, rest @ ..] => {
-            let ranges = part.entry.ranges.ranges();
-            let statement = block(alloc, first, more, part.site, ranges, part.times)?;
-            made.push(statement)?;
+            made.push(block(alloc, first, more, part)?)?;
             let all = add_blocks(alloc, first, more, rest, made)?;
             Ok(all)
         }
     }
 }
 
-fn count(ranges: &[(i64, i64)]) -> u32
-    requires { length ranges.now ≤ 12 }
-    ensures { result ≡ length ranges.now }
-{
-    ranges.len() as u32
-}
-
-/// The loops round the blocks of these statements, where so many parameters are in sight.
+/// The loops between these ends round the blocks of these statements, where so many parameters are in sight.
 fn body(
     alloc: Global,
     first: u32,
-    params: &BoxOf,
+    ends: Items<(Ix, Ix)>,
     parts: &[Part<'_, '_>],
 ) -> Result<Items<Stmt>, AllocError>
     requires few { first ≤ 4 }
+    requires short { length ends ≤ 12 }
     requires printable { AllPrintable first (map piece parts.now) }
-    requires spans { AllSpan params.now (map piece parts.now) }
-    requires small { All IsSmall (specs.time_ranges params.now (map piece parts.now)) }
-    requires short { length (specs.time_ranges params.now (map piece parts.now)) ≤ 12 }
-    ensures { IfOk result (λ x. x ≡ specs.body_of first (specs.time_ranges params.now (map piece parts.now)) (map piece parts.now)) }
+    ensures { IfOk result (λ x. x ≡ body_between first ends (map piece parts.now)) }
 {
     match parts {
         [] => Ok(Items::new(alloc)),
         [_, ..] => {
-            let ranges = time_ranges(alloc, params, parts)?;
-            let more = count(ranges.as_slice());
+            let more = ends.len() as u32;
             let none = Items::new(alloc);
             let blocks = add_blocks(alloc, first, more, parts, none)?;
-            let made = loops(alloc, ranges.as_slice(), 0, blocks)?;
+            let made = loops_between(alloc, ends, blocks)?;
             Ok(made)
         }
     }
@@ -155,22 +89,48 @@ fn with_body(alloc: Global, program: &Program, body: Items<Stmt>) -> Result<Prog
     })
 }
 
-/// The statements of the program of these times, of which each has so many components.
-fn statements(
+/// What is gathered of these statements, by the ranges of all their times.
+fn projected(
+    alloc: Global,
+    nest: &Nest,
+    first: u32,
+    parts: &[Part<'_, '_>],
+) -> Result<Gathered, AllocError>
+    requires first { first ≡ length nest.now.params }
+    requires few { first ≤ 4 }
+    requires spans { AllSpan nest.now.params (map piece parts.now) }
+    requires ordered { IsBox (ranges_of nest.now.params (map piece parts.now)) }
+    requires parts { AllProjectable nest.now (nest.now.params ++ ranges_of nest.now.params (map piece parts.now)) (map numbered parts.now) }
+    ensures all { IfOk result (Gathers nest.now (nest.now.params ++ ranges_of nest.now.params (map piece parts.now)) first (map numbered parts.now)) }
+    ensures short { IfOk result (λ made. length made.ends ≤ 12) }
+{
+    let times = time_ranges(alloc, &nest.params, parts)?;
+    let params = nest.params.clone()?;
+    let ranges = wider(params, times.as_slice())?;
+    let made = gather_all(alloc, nest, &ranges, first, parts)?;
+    Ok(made)
+}
+
+/// The program of these times, of which each has so many components.
+fn scan_times(
     alloc: Global,
     program: &Program,
     nest: &Nest,
     length: u32,
     maps: &[TimeMap],
-) -> Result<Items<Stmt>, AllocError>
+) -> Result<Scanned, AllocError>
     requires nest { IsNestFor program.now nest.now (Time length maps.now) }
-    ensures { IfOk result (λ b. b ≡ (specs.target_program program.now (Time length maps.now)).body) }
+    ensures { IfOk result (IsBetween program.now maps.now) }
 {
     let sites = all_sites(alloc, program)?;
-    let parts = all_parts(alloc, sites.as_slice(), nest.entries.as_slice(), maps)?;
-    let first = count(nest.params.ranges());
-    let made = body(alloc, first, &nest.params, parts.as_slice())?;
-    Ok(made)
+    let entries = nest.entries.as_slice();
+    let found = all_parts(alloc, sites.as_slice(), entries, maps)?;
+    let parts = found.as_slice();
+    let first = nest.params.ranges().len() as u32;
+    let Gathered { ends, loose } = projected(alloc, nest, first, parts)?;
+    let body = body(alloc, first, ends, parts)?;
+    let program = with_body(alloc, program, body)?;
+    Ok(Scanned { program, loose })
 }
 
 /// The program that runs `program` in the order of a schedule: for times, loops with a block for each statement that can have instances, between
@@ -193,6 +153,12 @@ pub fn scan(
                 loose: Vec::new(alloc),
             })
         }
-        Schedule::Time { length, maps } => scan_times(alloc, program, nest, *length, maps.as_slice()),
+        Schedule::Time { length, maps } => scan_times(
+            alloc,
+            program,
+            nest,
+            *length,
+            maps.as_slice(),
+        ),
     }
 }

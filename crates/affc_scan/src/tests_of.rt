@@ -1,17 +1,17 @@
 //! The locals and tests of a statement's block.
-ghost use Rattle.std.specs.Prelude.{◌≡◌, ◌≤◌, ◌<◌, ◌+◌, ◌++◌, ◌^◌, ℕ, ℤ, unsigned_abs, length, IfOk};
+ghost use Rattle.std.specs.Prelude.{◌≡◌, ◌≤◌, ◌+◌, ◌++◌, length, IfOk};
 ghost use Rattle.std.specs.List.{All};
 ghost use Rattle.affc_loops.specs.Loops as specs;
 ghost use Rattle.affc_loops.specs.Limits.{IsSlight, IsSmall};
 
-use crate::forms::{form_ix, number};
 use affc_ast::Items;
 use affc_ast::tree::{Compare, Ix, NameId, Rel};
 use affc_rows::Form;
+use affc_terms::{form_ix, number};
 use std::alloc::{AllocError, Global};
 
 /// And that each iterator lies in its range.
-#[tactic(auto, using(crate::proofs::TermSteps::two_more))]
+#[tactic(auto, using(crate::proofs::TestSteps::two_more))]
 pub(crate) fn box_tests(
     alloc: Global,
     made: Items<Compare>,
@@ -44,7 +44,7 @@ pub(crate) fn box_tests(
 }
 
 /// And that each component is the time of the iterators.
-#[tactic(auto, using(crate::proofs::TermSteps::one_more_time))]
+#[tactic(auto, using(crate::proofs::TestSteps::one_more_time, crate::proofs::TestSteps::slight_is_modest))]
 pub(crate) fn time_tests(
     alloc: Global,
     made: Items<Compare>,

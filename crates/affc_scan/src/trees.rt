@@ -1,11 +1,10 @@
-//! Expressions of a source where more names stand in sight, and affine forms as expressions.
-ghost use Rattle.std.specs.Prelude.{◌≡◌, ◌≤◌, ℕ, map, IfOk, true};
-ghost use Rattle.affc_ast.specs.declared.tree.Ix.TheVariants as trees;
+//! Expressions of a source where more names stand in sight.
+ghost use Rattle.std.specs.Prelude.{◌≡◌, ◌≤◌, IfOk, true};
 ghost use Rattle.affc_loops.specs.Trees.{moved_name, moved};
 ghost use Rattle.affc_scan.specs.InSight.{in_sight};
 
-use affc_ast::Boxed;
 use affc_ast::tree::{Ix, NameId};
+use affc_terms::trees::{add, ceild, floord, max, min, modulo, mul, neg, sub};
 use std::alloc::{AllocError, Global};
 
 fn moved_id(first: u32, more: u32, id: u32) -> NameId
@@ -18,60 +17,6 @@ fn moved_id(first: u32, more: u32, id: u32) -> NameId
     } else {
         NameId(id + more)
     }
-}
-
-pub(crate) fn neg(alloc: Global, a: Ix) -> Result<Ix, AllocError>
-    ensures { IfOk result (λ x. x ≡ trees.Neg a) }
-{
-    Ok(Ix::Neg(Boxed::new(alloc, a)?))
-}
-
-pub(crate) fn add(alloc: Global, a: Ix, b: Ix) -> Result<Ix, AllocError>
-    ensures { IfOk result (λ x. x ≡ trees.Add a b) }
-{
-    let a = Boxed::new(alloc, a)?;
-    let b = Boxed::new(alloc, b)?;
-    Ok(Ix::Add(a, b))
-}
-
-pub(crate) fn sub(alloc: Global, a: Ix, b: Ix) -> Result<Ix, AllocError>
-    ensures { IfOk result (λ x. x ≡ trees.Sub a b) }
-{
-    let a = Boxed::new(alloc, a)?;
-    let b = Boxed::new(alloc, b)?;
-    Ok(Ix::Sub(a, b))
-}
-
-pub(crate) fn mul(alloc: Global, a: Ix, b: Ix) -> Result<Ix, AllocError>
-    ensures { IfOk result (λ x. x ≡ trees.Mul a b) }
-{
-    let a = Boxed::new(alloc, a)?;
-    let b = Boxed::new(alloc, b)?;
-    Ok(Ix::Mul(a, b))
-}
-
-pub(crate) fn min(alloc: Global, a: Ix, b: Ix) -> Result<Ix, AllocError>
-    ensures { IfOk result (λ x. x ≡ trees.Min a b) }
-{
-    let a = Boxed::new(alloc, a)?;
-    let b = Boxed::new(alloc, b)?;
-    Ok(Ix::Min(a, b))
-}
-
-pub(crate) fn max(alloc: Global, a: Ix, b: Ix) -> Result<Ix, AllocError>
-    ensures { IfOk result (λ x. x ≡ trees.Max a b) }
-{
-    let a = Boxed::new(alloc, a)?;
-    let b = Boxed::new(alloc, b)?;
-    Ok(Ix::Max(a, b))
-}
-
-pub(crate) fn modulo(alloc: Global, a: Ix, b: Ix) -> Result<Ix, AllocError>
-    ensures { IfOk result (λ x. x ≡ trees.Mod a b) }
-{
-    let a = Boxed::new(alloc, a)?;
-    let b = Boxed::new(alloc, b)?;
-    Ok(Ix::Mod(a, b))
 }
 
 /// The expression where so many more names stand behind the first ones.
@@ -120,11 +65,11 @@ pub(crate) fn moved_ix(alloc: Global, first: u32, more: u32, e: &Ix) -> Result<I
         }
         Ix::Floord(a, n) => {
             let a = moved_ix(alloc, first, more, a.get())?;
-            Ok(Ix::Floord(Boxed::new(alloc, a)?, *n))
+            floord(alloc, a, *n)
         }
         Ix::Ceild(a, n) => {
             let a = moved_ix(alloc, first, more, a.get())?;
-            Ok(Ix::Ceild(Boxed::new(alloc, a)?, *n))
+            ceild(alloc, a, *n)
         }
     }
 }

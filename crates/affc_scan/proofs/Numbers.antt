@@ -1,0 +1,111 @@
+-- Each statement that can have instances, with its entry of the nest and its times.
+use Rattle.std.proofs.Common.{◌≡◌, ℕ, zero, suc, ◌+◌, ◌≤◌, Bool, true, false, ◌&&◌, IsTrue, List, [], ◌∷◌, ◌++◌, length, Some, refl, sym, ap, subst, ◌∙◌, inl, inr}
+use Rattle.std.specs.Prelude.{slice_get, if◌then◌else◌}
+use Rattle.std.proofs.lemmas.Option.{none-some, same_Some}
+use Rattle.affc_ast.specs.declared.tree.Program.{Program}
+use Rattle.affc_trace.specs.declared.schedule.Schedule.TheVariants.{Time}
+use Rattle.affc_trace.specs.declared.schedule.TimeMap.{TimeMap}
+use Rattle.affc_trace.specs.Law.{IsIn}
+use Rattle.affc_trace.specs.Target.{all_slight, maps_within, numbers_in}
+use Rattle.affc_domain.specs.Ranges.{number_ranges, ranges_of}
+use Rattle.affc_domain.specs.Rounds.{rounds, loops_in}
+use Rattle.affc_domain.proofs.Lists.{both_true, to_mapped}
+use Rattle.affc_nest.specs.declared.nest.Entry.{Entry}
+use Rattle.affc_nest.specs.Laws.{HasNest}
+use Rattle.affc_nest.specs.Nests.{nest_of}
+use Rattle.affc_nest.specs.Sites.{Place, all_around}
+use Rattle.affc_nest.proofs.EntryLemmas.{site_of, loops_are, ranges_are_within}
+use Rattle.affc_nest.proofs.QuestionLemmas.{stands_in}
+use Rattle.affc_loops.specs.Laws.{HasLoops}
+use Rattle.affc_loops.specs.Loops.{loop_names}
+use Rattle.affc_loops.proofs.Guards.{names_count}
+use Rattle.affc_loops.proofs.LoopLaws.{few, slight}
+use Rattle.affc_loops.proofs.Pieces.{numbers_are, shape_of}
+use Rattle.affc_ends.specs.Sizes.{IsTimed}
+use Rattle.affc_ends.specs.TimeRows.{time_system, system_of}
+use Rattle.affc_ends.specs.TimeSets.{timed_in}
+use Rattle.affc_ends.proofs.Statements.{entries_are_timed}
+use Rattle.affc_scan.specs.Pieces.{Numbered, numbered_from}
+
+-- ---- Which statement it is
+
+pub record IsNumbered (k : ℕ) (ps : List Place) (es : List Entry) (ms : List TimeMap) (s : Numbered) : Type 0 where
+  pub at : ℕ
+  pub its_place : slice_get ps at ≡ Some s.place
+  pub its_entry : slice_get es at ≡ Some s.entry
+  pub its_times : slice_get ms at ≡ Some s.times
+  pub alive : IsTrue s.entry.alive
+
+later : (k : ℕ) (p : Place) (ps : List Place) (e : Entry) (es : List Entry) (m : TimeMap) (ms : List TimeMap) (s : Numbered) → IsNumbered (suc k) ps es ms s → IsNumbered k (p ∷ ps) (e ∷ es) (m ∷ ms) s
+later k p ps e es m ms s h = record { at = suc h.at; its_place = h.its_place; its_entry = h.its_entry; its_times = h.its_times; alive = h.alive }
+
+first_or_later : (k : ℕ) (p : Place) (ps : List Place) (e : Entry) (es : List Entry) (m : TimeMap) (ms : List TimeMap) (s : Numbered) (rest : List Numbered) (alive : Bool) → e.alive ≡ alive
+    → (IsIn s rest → IsNumbered (suc k) ps es ms s) → IsIn s ((if alive then record { statement = k; place = p; entry = e; times = m } ∷ [] else []) ++ rest) → IsNumbered k (p ∷ ps) (e ∷ es) (m ∷ ms) s
+first_or_later k p ps e es m ms s rest true a f (inl q) = record {
+  at = 0;
+  its_place = ap (λ (x : Numbered). Some x.place) (sym q);
+  its_entry = ap (λ (x : Numbered). Some x.entry) (sym q);
+  its_times = ap (λ (x : Numbered). Some x.times) (sym q);
+  alive = ap (λ (x : Numbered). x.entry.alive) q ∙ a;
+}
+first_or_later k p ps e es m ms s rest true a f (inr i) = later k p ps e es m ms s (f i)
+first_or_later k p ps e es m ms s rest false a f i = later k p ps e es m ms s (f i)
+
+pub is_numbered : (k : ℕ) (ps : List Place) (es : List Entry) (ms : List TimeMap) (s : Numbered) → IsIn s (numbered_from k ps es ms) → IsNumbered k ps es ms s
+is_numbered k [] es ms s i = absurd i
+is_numbered k (p ∷ ps) [] ms s i = absurd i
+is_numbered k (p ∷ ps) (e ∷ es) [] s i = absurd i
+is_numbered k (p ∷ ps) (e ∷ es) (m ∷ ms) s i = first_or_later k p ps e es m ms s (numbered_from (suc k) ps es ms) e.alive refl (is_numbered (suc k) ps es ms s) i
+
+-- ---- Its time set
+
+slight_at : (ms : List TimeMap) (k : ℕ) (m : TimeMap) → IsTrue (maps_within ms) → slice_get ms k ≡ Some m → IsTrue (all_slight m.forms) × IsTrue (all_slight m.inverse)
+slight_at [] k m h e = absurd (none-some m e)
+slight_at (x ∷ ms) zero m h e =
+    subst (λ (y : TimeMap). IsTrue (all_slight y.forms) × IsTrue (all_slight y.inverse)) (same_Some x m e)
+    (both_true (all_slight x.forms) (all_slight x.inverse) (both_true (all_slight x.forms && all_slight x.inverse) (maps_within ms) h).0)
+slight_at (x ∷ ms) (suc k) m h e = slight_at ms k m (both_true (all_slight x.forms && all_slight x.inverse) (maps_within ms) h).1 e
+
+module _ (source : Program) (n : ℕ) (maps : List TimeMap) (h : HasLoops source (Time n maps)) (ps : List Place) (walked : all_around ps ≡ rounds source) (s : Numbered)
+    (is : IsNumbered 0 ps (nest_of source).entries maps s) where
+  abbrev has : HasNest source
+  has = record { plain = h.plain; near = h.near }
+
+  its_rounds : slice_get (rounds source) is.at ≡ Some s.place.around
+  its_rounds = ap (λ rss. slice_get rss is.at) (sym walked) ∙ to_mapped (λ (p : Place). p.around) ps is.at s.place is.its_place
+
+  pub long : length s.times.forms ≡ n
+  long = (shape_of source n maps h.scheduled is.at s.place.around s.times its_rounds is.its_times).components
+
+  pub is_timed : IsTimed (nest_of source) s.entry s.times
+  is_timed =
+      let shape = shape_of source n maps h.scheduled is.at s.place.around s.times its_rounds is.its_times in
+      let site = site_of source is.at s.entry is.its_entry in
+      let around = same_Some site.its_rounds s.place.around (sym site.rounds_at ∙ its_rounds) in
+      let names : length (loop_names s.place.around) ≡ length s.entry.loops = names_count s.place.around ∙ ap loops_in (sym around) ∙ sym (loops_are source is.at s.entry site) in
+      let numbers : numbers_in source.params ≡ length (number_ranges source.params) = numbers_are source.params in
+      let within = slight_at maps is.at s.times (slight source n maps h) is.its_times in
+      let most : n ≤ 12 = few source n maps h in
+      record {
+        is_nest = record { program = source; has = has; is = refl };
+        there = stands_in (nest_of source).entries is.at s.entry is.its_entry;
+        alive = is.alive;
+        map_of = record {
+          columns = shape.columns ∙ ap (λ k. k + length (loop_names s.place.around)) numbers ∙ ap (λ k. length (number_ranges source.params) + k) names;
+          components = refl;
+          iterators = shape.iterators ∙ names;
+        };
+        few = subst (λ k. k ≤ 12) (sym long) most;
+        forms = within.0;
+        inverse = within.1;
+      }
+
+  -- the system that is made is that of the statement
+  pub its_system : time_system (length (nest_of source).params) s.entry.domain.rows s.times.forms s.times.inverse ≡ system_of (timed_in source s.place.around s.entry.ranges s.times)
+  its_system =
+      let t = entries_are_timed source is.at s.entry s.times has is.its_entry is.alive in
+      let around = same_Some t.0 s.place.around (sym t.2 ∙ its_rounds) in
+      let site = site_of source is.at s.entry is.its_entry in
+      let same = same_Some site.its_rounds t.0 (sym site.rounds_at ∙ t.2) in
+      let ranges = ranges_are_within source is.at s.entry site t.1 (ap (ranges_of (number_ranges source.params)) same ∙ t.3) in
+      t.4 ∙ ap (λ rs. system_of (timed_in source rs t.1 s.times)) around ∙ ap (λ b. system_of (timed_in source s.place.around b s.times)) (sym ranges)

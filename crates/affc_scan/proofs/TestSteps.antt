@@ -1,0 +1,33 @@
+-- The steps by which tests are made.
+use Rattle.std.proofs.Common.{◌≡◌, ℕ, suc, ◌+◌, ◌^◌, ◌≤◌, ℤ, List, [], ◌∷◌, ◌++◌, get_or, ap, ◌∙◌, arith}
+use Rattle.std.specs.Prelude.{unsigned_abs}
+use Rattle.affc_rows.specs.Forms.{Affine}
+use Rattle.affc_ast.specs.declared.tree.Compare.{Compare}
+use Rattle.affc_ast.specs.declared.tree.Rel.TheVariants.{LessEqual, Equal}
+use Rattle.affc_trace.proofs.EndedReads.{append_assoc}
+use Rattle.affc_loops.specs.Limits.{IsSlight}
+use Rattle.affc_loops.specs.Loops.{box_tests, time_tests}
+use Rattle.affc_loops.specs.Trees.{name_at, number, form_tree}
+use Rattle.affc_terms.specs.Sizes.{IsModest}
+
+-- a form of a schedule can be printed
+pub slight_is_modest : (f : Affine) → IsSlight f → IsModest f
+slight_is_modest f s = record {
+  coefs = λ i c l. let w : unsigned_abs (get_or f.coefs i c) ≤ 256 = s.0 i c l in omega arith;
+  constant = let w : unsigned_abs f.constant ≤ 2 ^ 30 = s.1 in omega arith;
+}
+
+pub two_more : (made : List Compare) (r : ℤ × ℤ) (rs : List (ℤ × ℤ)) (from next : ℕ) → next ≡ from + 1
+    → ((made ++ record { rel = LessEqual; left = number r.0; right = name_at from } ∷ []) ++ record { rel = LessEqual; left = name_at from; right = number r.1 } ∷ []) ++ box_tests next rs ≡ made ++ box_tests from (r ∷ rs)
+two_more made r rs from next e =
+    let q : next ≡ suc from = omega arith in
+    let a : Compare = record { rel = LessEqual; left = number r.0; right = name_at from } in
+    let b : Compare = record { rel = LessEqual; left = name_at from; right = number r.1 } in
+    ap (λ n. ((made ++ a ∷ []) ++ b ∷ []) ++ box_tests n rs) q ∙ append_assoc (made ++ a ∷ []) (b ∷ []) (box_tests (suc from) rs) ∙ append_assoc made (a ∷ []) (b ∷ box_tests (suc from) rs)
+
+pub one_more_time : (made : List Compare) (f : Affine) (fs : List Affine) (first from component next : ℕ) → next ≡ component + 1
+    → (made ++ record { rel = Equal; left = name_at component; right = form_tree first from f } ∷ []) ++ time_tests first from next fs ≡ made ++ time_tests first from component (f ∷ fs)
+one_more_time made f fs first from component next e =
+    let q : next ≡ suc component = omega arith in
+    let a : Compare = record { rel = Equal; left = name_at component; right = form_tree first from f } in
+    ap (λ n. (made ++ a ∷ []) ++ time_tests first from n fs) q ∙ append_assoc made (a ∷ []) (time_tests first from (suc component) fs)
