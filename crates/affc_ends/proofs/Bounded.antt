@@ -1,5 +1,5 @@
 -- The ends that are found are the ends of their column.
-use Rattle.std.proofs.Common.{◌≡◌, ℕ, zero, suc, ◌+◌, ◌<◌, ◌≤◌, List, [], ◌∷◌, ◌++◌, length, get_or, take, true, false, ℤ, pos, negsuc, ◌+ℤ◌, ◌*ℤ◌, ◌≤ℤ◌, ◌<ℤ◌, refl, sym, ap, subst, ◌∙◌, inl, inr, arith, length-append}
+use Rattle.std.proofs.Common.{◌≡◌, ℕ, zero, suc, ◌+◌, ◌<◌, ◌≤◌, List, [], ◌∷◌, ◌++◌, length, get_or, take, ℤ, pos, negsuc, ◌+ℤ◌, ◌*ℤ◌, ◌≤ℤ◌, ◌<ℤ◌, refl, sym, ap, subst, ◌∙◌, inl, inr, arith, length-append}
 use Rattle.std.specs.Prelude.{◌⊎◌}
 use Rattle.std.specs.List.{All}
 use Rattle.std.proofs.lemmas.Int.{ints}
@@ -17,7 +17,7 @@ use Rattle.affc_eliminate.proofs.Values.{entry_inside}
 use Rattle.affc_project.specs.Projections.{AreProjected, AreFrom, IsRowOfTable, ExtendsWhole}
 use Rattle.affc_ends.specs.Ends.{IsProjectedRow, AreEnds}
 use Rattle.affc_ends.specs.Sizes.{IsModest}
-use Rattle.affc_ends.specs.Steps.{IsEnd}
+use Rattle.affc_ends.specs.Steps.{AreBothEnds}
 use Rattle.affc_ends.proofs.Chosen.{among_all}
 use Rattle.affc_ends.proofs.Projected.{row_holds}
 
@@ -78,25 +78,26 @@ sign (pos (suc n)) = inl (omega (arith, ints))
 sign (negsuc n) = inr (inl (omega (arith, ints)))
 
 pub are_ends : (system : Rows) (column : ℕ) (ranges : List (ℤ × ℤ)) (made : List Pair) (projected lower upper : List Affine) → column < system.columns → HaveColumns system.columns system.rows
-    → AreProjected system.columns system.rows (suc column) made projected → AreFrom (suc column) made → IsEnd true column ranges projected lower → IsEnd false column ranges projected upper → AreEnds system column lower upper
-are_ends system column ranges made projected lower upper inside widths h later low high =
+    → AreProjected system.columns system.rows (suc column) made projected → AreFrom (suc column) made → AreBothEnds column ranges projected lower upper → AreEnds system column lower upper
+are_ends system column ranges made projected lower upper inside widths h later ends =
     let all = rows_projected system (suc column) made projected h later in
     record {
       inside = inside;
-      projected_lower = among_all (IsProjectedRow system (suc column)) projected lower all low.among;
-      projected_upper = among_all (IsProjectedRow system (suc column)) projected upper all high.among;
-      below = low.each;
-      above = high.each;
-      few_lower = low.few;
-      few_upper = high.few;
+      projected_lower = among_all (IsProjectedRow system (suc column)) projected lower all ends.low.among;
+      projected_upper = among_all (IsProjectedRow system (suc column)) projected upper all ends.high.among;
+      below = ends.low.each;
+      above = ends.high.each;
+      few_lower = ends.low.few;
+      few_upper = ends.high.few;
       extend = λ before t l e met_low met_high.
           let whole = before ++ t ∷ [] in
           let long : length whole ≡ suc column = length-append before (t ∷ []) ∙ one (length before) ∙ ap suc l in
           let met = flat_met system column projected before t inside widths all l e in
+          let all_met = ends.imply whole long met met_low met_high in
           (h.same_points whole long).0 (λ i d lt.
           elim (sign (entry_of (get_or projected i d) column)) [
-            | inl below ↦ low.imply whole long met met_low i d lt below
-            | inr (inl above) ↦ high.imply whole long met met_high i d lt above
+            | inl below ↦ all_met.0 i d lt below
+            | inr (inl above) ↦ all_met.1 i d lt above
             | inr (inr flat) ↦ met i d lt flat
           ]);
     }
@@ -117,9 +118,9 @@ module _ (system : Rows) (column keep : ℕ) (inside : column < system.columns) 
   pub all_projected : All (IsProjectedRow system (suc column)) made_rows
   all_projected = subst (All (IsProjectedRow system (suc column))) (sym same) (rows_projected system (suc column) made projected are_projected from_column)
 
-  pub found_ends : (ranges own : List (ℤ × ℤ)) (lower upper : List Affine) → own ≡ ranges → ((k : ℕ) → keep ≡ suc k → IsEnd true k own made_rows lower) → ((k : ℕ) → keep ≡ suc k → IsEnd false k own made_rows upper)
+  pub found_ends : (ranges own : List (ℤ × ℤ)) (lower upper : List Affine) → own ≡ ranges → ((k : ℕ) → keep ≡ suc k → AreBothEnds k own made_rows lower upper)
       → AreEnds system column lower upper × All (IsModest ranges) lower × All (IsModest ranges) upper
-  found_ends ranges own lower upper e low high =
-      let l : IsEnd true column ranges projected lower = subst (λ rs. IsEnd true column rs projected lower) e (subst (λ rows. IsEnd true column own rows lower) same (low column width)) in
-      let u : IsEnd false column ranges projected upper = subst (λ rs. IsEnd false column rs projected upper) e (subst (λ rows. IsEnd false column own rows upper) same (high column width)) in
-      (are_ends system column ranges made projected lower upper inside widths are_projected from_column l u, l.modest, u.modest)
+  found_ends ranges own lower upper e are =
+      let ends : AreBothEnds column ranges projected lower upper =
+      subst (λ rs. AreBothEnds column rs projected lower upper) e (subst (λ rows. AreBothEnds column own rows lower upper) same (are column width)) in
+      (are_ends system column ranges made projected lower upper inside widths are_projected from_column ends, ends.low.modest, ends.high.modest)

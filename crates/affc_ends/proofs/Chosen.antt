@@ -10,7 +10,7 @@ use Rattle.affc_rows.specs.Forms.{Affine}
 use Rattle.affc_system.specs.Systems.{Meets, Rows}
 use Rattle.affc_ends.specs.Ends.{IsProjectedRow, BoundsBelow, BoundsAbove}
 use Rattle.affc_ends.specs.Sizes.{IsModest, IsLarge, IsPrintable}
-use Rattle.affc_ends.specs.Steps.{AreEnough, BoundsEnd, AreOfEnd, IsEnd}
+use Rattle.affc_ends.specs.Steps.{AreEnough, BoundsEnd, AreOfEnd, IsWholeEnd}
 use Rattle.affc_ends.specs.Whys.{AreOfOneEnd}
 
 -- ---- Lists
@@ -158,12 +158,14 @@ kept_of_end system column columns rows front kept r h f g c =
     of_end_all system column rows (kept ++ r ∷ []) h (one_more (Contains rows) kept r (among_all (Contains rows) front kept f g.among) c)
 
 pub is_end : (lower : Bool) (column columns : ℕ) (ranges : List (ℤ × ℤ)) (rows chosen enough : List Affine) → columns ≡ suc column → AreOfEnd lower column rows chosen → All (IsModest ranges) chosen → AreEnough columns chosen enough
-    → IsEnd lower column ranges rows enough
+    → IsWholeEnd lower column ranges rows enough
 is_end lower column columns ranges rows chosen enough e h m g = record {
-  few = g.few;
-  among = among_all (Contains rows) chosen enough h.among g.among;
-  each = among_all (BoundsEnd lower column) chosen enough h.each g.among;
-  modest = among_all (IsModest ranges) chosen enough m g.among;
+  end = record {
+    few = g.few;
+    among = among_all (Contains rows) chosen enough h.among g.among;
+    each = among_all (BoundsEnd lower column) chosen enough h.each g.among;
+    modest = among_all (IsModest ranges) chosen enough m g.among;
+  };
   imply = λ whole l flat met.
       let all = g.imply whole (l ∙ sym e) met in
       All-weaker (λ r. BoundsEnd lower column r → Contains chosen r) (λ r. BoundsEnd lower column r → Meets whole r) (λ r f b. All-contains (Meets whole) chosen r all (f b)) rows h.all;
@@ -201,7 +203,7 @@ at_column lower columns column rows chosen e h = subst (λ k. AreOfEnd lower k r
     less n k e = omega arith
 
 pub found_end : (lower : Bool) (columns column : ℕ) (ranges : List (ℤ × ℤ)) (rows chosen s t enough : List Affine) → columns ≡ suc column → AreOfEnd lower (columns - 1) rows chosen → s ≡ chosen → t ≡ chosen → All (IsModest ranges) s
-    → AreEnough columns t enough → IsEnd lower column ranges rows enough
+    → AreEnough columns t enough → IsWholeEnd lower column ranges rows enough
 found_end lower columns column ranges rows chosen s t enough e h f g m k =
     is_end lower column columns ranges rows chosen enough e (at_column lower columns column rows chosen e h) (subst (All (IsModest ranges)) f m) (subst (λ xs. AreEnough columns xs enough) g k)
 

@@ -16,3 +16,4 @@ pub mod Bounded
 pub mod Statements
 pub mod ExampleProofs
 pub mod ForwardProofs
+pub mod OtherEndProofs

@@ -1,5 +1,5 @@
--- The rows of an end that are left, beside those that don't look at its column.
-use Rattle.std.proofs.Common.{◌≡◌, ℕ, suc, ◌+◌, ◌-◌, ◌<◌, ◌≤◌, List, [], ◌∷◌, ◌++◌, length, length-append, get_or, Bool, ℤ, pos, sym, ap, subst, ◌∙◌, arith}
+-- The rows of the ends that are left, beside those that don't look at their column.
+use Rattle.std.proofs.Common.{◌≡◌, ℕ, suc, ◌+◌, ◌-◌, ◌<◌, ◌≤◌, List, [], ◌∷◌, ◌++◌, length, length-append, get_or, Bool, true, false, ℤ, pos, sym, ap, subst, ◌∙◌, arith}
 use Rattle.std.specs.Prelude.{remove}
 use Rattle.std.specs.List.{All, Contains}
 use Rattle.std.proofs.lemmas.List.Edits.{length-remove}
@@ -9,7 +9,7 @@ use Rattle.affc_system.specs.Systems.{Meets}
 use Rattle.affc_farkas.specs.Multiples.{entry_of}
 use Rattle.affc_ends.specs.declared.bounds.Answer.TheVariants.{Implied}
 use Rattle.affc_ends.specs.Sizes.{IsModest, IsPrintable}
-use Rattle.affc_ends.specs.Steps.{IsAnswer, BoundsEnd, AreFlat, AreLeft, IsEnd}
+use Rattle.affc_ends.specs.Steps.{IsAnswer, BoundsEnd, AreFlat, AreLeft, IsEnd, IsWholeEnd, AreBothEnds}
 use Rattle.affc_ends.proofs.Chosen.{among_all, removed, again, one_more, item_among, modest_printable}
 
 -- ---- Rows that don't look at the column
@@ -74,42 +74,53 @@ left_printable columns beside kept left h p = among_all (IsPrintable columns) ke
 flat_met : (column : ℕ) (ranges : List (ℤ × ℤ)) (rows flat : List Affine) (whole : List ℤ) → AreFlat column ranges rows flat → All (λ r. entry_of r column ≡ pos 0 → Meets whole r) rows → All (Meets whole) flat
 flat_met column ranges rows flat whole h met = λ i d lt. among_all (λ r. entry_of r column ≡ pos 0 → Meets whole r) rows flat met h.among i d lt (h.each i d lt)
 
-pub left_end : (lower : Bool) (column : ℕ) (ranges : List (ℤ × ℤ)) (rows kept flat left : List Affine) → IsEnd lower column ranges rows kept → AreFlat column ranges rows flat → AreLeft (suc column) flat kept left
-    → IsEnd lower column ranges rows left
-left_end lower column ranges rows kept flat left h f g = record {
+left_end : (lower : Bool) (column columns : ℕ) (ranges : List (ℤ × ℤ)) (rows beside kept left : List Affine) → IsEnd lower column ranges rows kept → AreLeft columns beside kept left → IsEnd lower column ranges rows left
+left_end lower column columns ranges rows beside kept left h g = record {
   few = fewer (length left) (length kept) g.few h.few;
   among = among_all (Contains rows) kept left h.among g.among;
   each = among_all (BoundsEnd lower column) kept left h.each g.among;
   modest = among_all (IsModest ranges) kept left h.modest g.among;
-  imply = λ whole l met m. h.imply whole l met (g.imply whole l (flat_met column ranges rows flat whole f met) m);
 }
   where
     fewer : (n k : ℕ) → n ≤ k → k ≤ 8 → n ≤ 8
     fewer n k h g = omega arith
 
+pub left_ends : (column : ℕ) (ranges : List (ℤ × ℤ)) (rows lower upper flat low high : List Affine) → IsWholeEnd true column ranges rows lower → IsWholeEnd false column ranges rows upper → AreFlat column ranges rows flat
+    → AreLeft (suc column) (flat ++ upper) lower low → AreLeft (suc column) (flat ++ low) upper high → AreBothEnds column ranges rows low high
+left_ends column ranges rows lower upper flat low high l u f g h = record {
+  low = left_end true column (suc column) ranges rows (flat ++ upper) lower low l.end g;
+  high = left_end false column (suc column) ranges rows (flat ++ low) upper high u.end h;
+  imply = λ whole e met a b.
+      let flats = flat_met column ranges rows flat whole f met in
+      let uppers = h.imply whole e (All-append (Meets whole) flat low flats a) b in
+      let lowers = g.imply whole e (All-append (Meets whole) flat upper flats uppers) a in
+      (l.imply whole e met lowers, u.imply whole e met uppers);
+}
+
 -- ---- What the code is told
 
-module _ (lower : Bool) (columns : ℕ) (ranges : List (ℤ × ℤ)) (rows kept flat s : List Affine) (some : 1 ≤ columns) (widths : All (λ f. length f.coefs ≡ columns) rows)
-    (end : (column : ℕ) → columns ≡ suc column → IsEnd lower column ranges rows kept) (are : AreFlat (columns - 1) ranges rows flat) (same : s ≡ flat) where
-  at_end : IsEnd lower (columns - 1) ranges rows kept
-  at_end = end (columns - 1) (last columns some)
-    where
-      last : (n : ℕ) → 1 ≤ n → n ≡ suc (n - 1)
-      last n h = omega arith
+last : (n : ℕ) → 1 ≤ n → n ≡ suc (n - 1)
+last n h = omega arith
 
-  pub kept_few : length kept ≤ 8
-  kept_few = at_end.few
+less : (n k : ℕ) → n ≡ suc k → n - 1 ≡ k
+less n k e = omega arith
 
-  pub kept_printed : All (IsPrintable columns) kept
-  kept_printed = modest_printable columns ranges rows kept widths at_end.among at_end.modest
+pub end_few : (lower : Bool) (columns : ℕ) (ranges : List (ℤ × ℤ)) (rows kept : List Affine) → 1 ≤ columns → ((column : ℕ) → columns ≡ suc column → IsWholeEnd lower column ranges rows kept) → length kept ≤ 8
+end_few lower columns ranges rows kept some end = (end (columns - 1) (last columns some)).end.few
 
-  pub flat_printed : All (IsPrintable columns) s
-  flat_printed = subst (All (IsPrintable columns)) (sym same) (modest_printable columns ranges rows flat widths are.among are.modest)
+pub end_printed : (lower : Bool) (columns : ℕ) (ranges : List (ℤ × ℤ)) (rows kept : List Affine) → 1 ≤ columns → All (λ f. length f.coefs ≡ columns) rows → ((column : ℕ) → columns ≡ suc column → IsWholeEnd lower column ranges rows kept)
+    → All (IsPrintable columns) kept
+end_printed lower columns ranges rows kept some widths end =
+    let at = (end (columns - 1) (last columns some)).end in
+    modest_printable columns ranges rows kept widths at.among at.modest
 
-  pub found_left : (left : List Affine) → AreLeft columns s kept left → (column : ℕ) → columns ≡ suc column → IsEnd lower column ranges rows left
-  found_left left h column e =
-      left_end lower column ranges rows kept flat left (end column e) (subst (λ k. AreFlat k ranges rows flat) (less columns column e) are)
-      (subst (λ n. AreLeft n flat kept left) e (subst (λ xs. AreLeft columns xs kept left) same h))
-    where
-      less : (n k : ℕ) → n ≡ suc k → n - 1 ≡ k
-      less n k e = omega arith
+pub flat_printed : (columns column : ℕ) (ranges : List (ℤ × ℤ)) (rows flat s : List Affine) → All (λ f. length f.coefs ≡ columns) rows → AreFlat column ranges rows flat → s ≡ flat → All (IsPrintable columns) s
+flat_printed columns column ranges rows flat s widths are same = subst (All (IsPrintable columns)) (sym same) (modest_printable columns ranges rows flat widths are.among are.modest)
+
+pub found_left : (columns : ℕ) (ranges : List (ℤ × ℤ)) (rows lower upper flat s low high : List Affine) → ((column : ℕ) → columns ≡ suc column → IsWholeEnd true column ranges rows lower)
+    → ((column : ℕ) → columns ≡ suc column → IsWholeEnd false column ranges rows upper) → AreFlat (columns - 1) ranges rows flat → s ≡ flat → AreLeft columns (s ++ upper) lower low → AreLeft columns (s ++ low) upper high
+    → (column : ℕ) → columns ≡ suc column → AreBothEnds column ranges rows low high
+found_left columns ranges rows lower upper flat s low high l u are same g h column e =
+    left_ends column ranges rows lower upper flat low high (l column e) (u column e) (subst (λ k. AreFlat k ranges rows flat) (less columns column e) are)
+    (subst (λ n. AreLeft n (flat ++ upper) lower low) e (subst (λ xs. AreLeft columns (xs ++ upper) lower low) same g))
+    (subst (λ n. AreLeft n (flat ++ low) upper high) e (subst (λ xs. AreLeft columns (xs ++ low) upper high) same h))

@@ -63,6 +63,24 @@ NotAboveTheDiagonal = IsTimePoint triangle (pos 3 ∷ pos 3 ∷ pos 1 ∷ []) (p
 abbrev pub BelowIsOneLess : Type 0
 BelowIsOneLess = IsTimePoint triangle (pos 6 ∷ pos 5 ∷ pos 5 ∷ []) (pos 2) → ⊥
 
+-- over N, t0, t1: t1, and 2 t1 - t0, from below; t0 - t1, from above
+abbrev pub from_zero : Affine
+from_zero = row (pos 0 ∷ pos 0 ∷ pos 1 ∷ []) (pos 0)
+
+abbrev pub from_half : Affine
+from_half = row (pos 0 ∷ negsuc 0 ∷ pos 2 ∷ []) (pos 0)
+
+abbrev pub up_to_sum : Affine
+up_to_sum = row (pos 0 ∷ pos 1 ∷ negsuc 0 ∷ []) (pos 0)
+
+-- beside the upper row the first lower one follows from the second
+abbrev pub BesideTheOtherEnd : Type 0
+BesideTheOtherEnd = AreLeft 3 (up_to_sum ∷ []) (from_zero ∷ from_half ∷ []) (from_half ∷ [])
+
+-- at t0 = -2 and t1 = -1 it doesn't
+abbrev pub NotByOneEnd : Type 0
+NotByOneEnd = AreLeft 3 [] (from_zero ∷ from_half ∷ []) (from_half ∷ []) → ⊥
+
 -- ---- for N from 1 to 9: for (i = 0; i < N; i++) at the time -i
 
 abbrev pub reversed : Timed

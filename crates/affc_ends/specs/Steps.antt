@@ -57,11 +57,22 @@ pub record AreLeft (columns : ℕ) (beside kept left : List Affine) : Type 0 whe
   pub among : All (Contains kept) left
   pub imply : (whole : List ℤ) → length whole ≡ columns → All (Meets whole) beside → All (Meets whole) left → All (Meets whole) kept
 
--- enough modest rows of this end: whole numbers that meet the rows that don't look at the column meet all of this end where they meet these
-pub record IsEnd (lower : Bool) (column : ℕ) (ranges : List (ℤ × ℤ)) (rows enough : List Affine) : Type 0 where
-  pub few : length enough ≤ 8
-  pub among : All (Contains rows) enough
-  pub each : All (BoundsEnd lower column) enough
-  pub modest : All (IsModest ranges) enough
+-- of projected rows some modest ones that bound this end, at most eight
+pub record IsEnd (lower : Bool) (column : ℕ) (ranges : List (ℤ × ℤ)) (rows chosen : List Affine) : Type 0 where
+  pub few : length chosen ≤ 8
+  pub among : All (Contains rows) chosen
+  pub each : All (BoundsEnd lower column) chosen
+  pub modest : All (IsModest ranges) chosen
+
+-- enough rows of this end: whole numbers that meet the rows that don't look at the column meet all of this end where they meet these
+pub record IsWholeEnd (lower : Bool) (column : ℕ) (ranges : List (ℤ × ℤ)) (rows enough : List Affine) : Type 0 where
+  pub end : IsEnd lower column ranges rows enough
   pub imply : (whole : List ℤ) → length whole ≡ suc column → All (λ r. entry_of r column ≡ pos 0 → Meets whole r) rows → All (Meets whole) enough
       → All (λ r. BoundsEnd lower column r → Meets whole r) rows
+
+-- enough rows of both ends: whole numbers that meet the rows that don't look at the column meet all that do where they meet these
+pub record AreBothEnds (column : ℕ) (ranges : List (ℤ × ℤ)) (rows lower upper : List Affine) : Type 0 where
+  pub low : IsEnd true column ranges rows lower
+  pub high : IsEnd false column ranges rows upper
+  pub imply : (whole : List ℤ) → length whole ≡ suc column → All (λ r. entry_of r column ≡ pos 0 → Meets whole r) rows → All (Meets whole) lower → All (Meets whole) upper
+      → All (λ r. BoundsBelow column r → Meets whole r) rows × All (λ r. BoundsAbove column r → Meets whole r) rows

@@ -1,5 +1,5 @@
 //! The ends of a column, by projection.
-ghost use Rattle.std.specs.Prelude.{◌≡◌, ℕ, suc, ◌+◌, ◌*◌, ◌^◌, ◌<◌, ◌≤◌, ◌↔◌, ◌++◌, ◌∷◌, [], length, remove, slice_index_or, ℤ, List, pos, IfOk, IfErr, IfSome, IfNone, IsTrue, true, false, unsigned_abs};
+ghost use Rattle.std.specs.Prelude.{◌≡◌, ℕ, suc, ◌+◌, ◌*◌, ◌^◌, ◌<◌, ◌≤◌, ◌↔◌, ◌++◌, ◌∷◌, [], length, remove, slice_index_or, ℤ, List, pos, IfOk, IfErr, IfSome, IfNone, IsTrue, false, unsigned_abs};
 ghost use Rattle.std.specs.List.{All};
 ghost use Rattle.affc_rows.specs.Forms.{Affine};
 ghost use Rattle.affc_system.specs.Boxes.{box_magnitude, reach};
@@ -8,11 +8,11 @@ ghost use Rattle.affc_farkas.specs.Multiples.{entry_of};
 ghost use Rattle.affc_farkas.specs.Rational.{RationalPoint};
 ghost use Rattle.affc_ends.specs.Ends.{IsProjectedRow};
 ghost use Rattle.affc_ends.specs.Sizes.{IsModest, IsLarge, IsPrintable};
-ghost use Rattle.affc_ends.specs.Steps.{IsStop, AreEnough, BoundsEnd, AreOfEnd, AreFlat, IsEnd};
+ghost use Rattle.affc_ends.specs.Steps.{IsStop, AreEnough, BoundsEnd, AreOfEnd, AreFlat, IsWholeEnd, AreBothEnds};
 ghost use Rattle.affc_ends.specs.Whys.{AreOfOneEnd, NoneIsImplied, below_zero, IsBounds};
 
 use crate::bounds::{Answer, Bounds, Stop, Why};
-use crate::left::left_of;
+use crate::left::left_of_both;
 use crate::questions::{ask, without};
 use affc_project::{Projected, project};
 use affc_rows::Form;
@@ -276,7 +276,7 @@ fn enough_of(
     requires some { 1 ≤ columns }
     requires columns { columns ≤ 128 }
     requires widths { All (λ f. length f.coefs ≡ columns) rows.now }
-    ensures ok { IfOk result (λ v. (column : ℕ) → columns ≡ suc column → IsEnd lower column ranges.now rows.now v.items) }
+    ensures ok { IfOk result (λ v. (column : ℕ) → columns ≡ suc column → IsWholeEnd lower column ranges.now rows.now v.items) }
     ensures stop { IfErr result (λ e. (system : Rows) (column : ℕ) → columns ≡ suc column → All (IsProjectedRow system (suc column)) rows.now → IsStop system column ranges.now e) }
 {
     let Ok(chosen) = of_end(alloc, rows, (columns - 1) as usize, lower) else {
@@ -293,31 +293,7 @@ fn enough_of(
     narrowed(alloc, columns, chosen.as_slice())
 }
 
-/// One end of the column, among rows over the columns up to it: of enough rows those that the others and the flat ones don't imply.
-fn end_of(
-    alloc: Global,
-    columns: u32,
-    lower: bool,
-    rows: &[Form],
-    ranges: &[(i64, i64)],
-) -> Result<Vec<Form>, Stop>
-    requires some { 1 ≤ columns }
-    requires columns { columns ≤ 128 }
-    requires widths { All (λ f. length f.coefs ≡ columns) rows.now }
-    ensures ok { IfOk result (λ v. (column : ℕ) → columns ≡ suc column → IsEnd lower column ranges.now rows.now v.items) }
-    ensures stop { IfErr result (λ e. (system : Rows) (column : ℕ) → columns ≡ suc column → All (IsProjectedRow system (suc column)) rows.now → IsStop system column ranges.now e) }
-{
-    let kept = enough_of(alloc, columns, lower, rows, ranges)?;
-    let Ok(flat) = flat_among(alloc, rows, (columns - 1) as usize, ranges) else {
-        return Err(Stop::Memory);
-    };
-    let Ok(left) = left_of(alloc, columns, kept, flat.as_slice()) else {
-        return Err(Stop::Memory);
-    };
-    Ok(left)
-}
-
-/// Both ends of the column, among rows over the columns up to it.
+/// Both ends of the column, among rows over the columns up to it: of enough rows those that the others of both ends and the flat ones don't imply.
 fn both_ends(
     alloc: Global,
     columns: u32,
@@ -327,13 +303,18 @@ fn both_ends(
     requires some { 1 ≤ columns }
     requires columns { columns ≤ 128 }
     requires widths { All (λ f. length f.coefs ≡ columns) rows.now }
-    ensures lower { IfOk result (λ ends. (column : ℕ) → columns ≡ suc column → IsEnd true column ranges.now rows.now ends.0.items) }
-    ensures upper { IfOk result (λ ends. (column : ℕ) → columns ≡ suc column → IsEnd false column ranges.now rows.now ends.1.items) }
+    ensures ok { IfOk result (λ ends. (column : ℕ) → columns ≡ suc column → AreBothEnds column ranges.now rows.now ends.0.items ends.1.items) }
     ensures stop { IfErr result (λ e. (system : Rows) (column : ℕ) → columns ≡ suc column → All (IsProjectedRow system (suc column)) rows.now → IsStop system column ranges.now e) }
 {
-    let lower = end_of(alloc, columns, true, rows, ranges)?;
-    let upper = end_of(alloc, columns, false, rows, ranges)?;
-    Ok((lower, upper))
+    let lower = enough_of(alloc, columns, true, rows, ranges)?;
+    let upper = enough_of(alloc, columns, false, rows, ranges)?;
+    let Ok(flat) = flat_among(alloc, rows, (columns - 1) as usize, ranges) else {
+        return Err(Stop::Memory);
+    };
+    let Ok(ends) = left_of_both(alloc, columns, lower, upper, flat.as_slice()) else {
+        return Err(Stop::Memory);
+    };
+    Ok(ends)
 }
 
 /// The ends of a column of a system whose columns have these ranges: rows that are projected onto the columns up to it.

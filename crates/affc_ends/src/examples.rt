@@ -1,6 +1,6 @@
 //! What the definitions give of small statements, as laws: `specs/Examples.antt` says each, with values that were found by hand from
 //! the rules.
-ghost use Rattle.affc_ends.specs.Examples.{TriangleRows, OneOneHasATime, HalvesAreTimePoints, TheDivisorCounts, NotAboveTheDiagonal, BelowIsOneLess, ReversedEnds, OneEndIsTooFew, EachAtItsEnd, NoOtherRow, RangeIsARow, RangeMayGo, RangeIsTooLittle, BesideTheParameter, NotByItself, BoundStays, OneAndAHalfIsATimePoint, NoneIsWhole};
+ghost use Rattle.affc_ends.specs.Examples.{TriangleRows, OneOneHasATime, HalvesAreTimePoints, TheDivisorCounts, NotAboveTheDiagonal, BelowIsOneLess, BesideTheOtherEnd, NotByOneEnd, ReversedEnds, OneEndIsTooFew, EachAtItsEnd, NoOtherRow, RangeIsARow, RangeMayGo, RangeIsTooLittle, BesideTheParameter, NotByItself, BoundStays, OneAndAHalfIsATimePoint, NoneIsWhole};
 
 /// The instances below a diagonal, by their sum.
 pub fn triangles()
@@ -10,6 +10,8 @@ pub fn triangles()
     ensures divisor { TheDivisorCounts }
     ensures not_above { NotAboveTheDiagonal }
     ensures below { BelowIsOneLess }
+    ensures beside_the_other_end { BesideTheOtherEnd }
+    ensures not_by_one_end { NotByOneEnd }
 {}
 
 /// A loop from its end to its start.

@@ -1,5 +1,5 @@
 //! The rows of an end that say something new.
-ghost use Rattle.std.specs.Prelude.{◌≡◌, ◌+◌, ◌<◌, ◌≤◌, length, remove, ℤ, List, IfOk, IsTrue};
+ghost use Rattle.std.specs.Prelude.{◌≡◌, ◌+◌, ◌<◌, ◌≤◌, ◌++◌, length, remove, ℤ, List, IfOk, IsTrue};
 ghost use Rattle.std.specs.List.{All};
 ghost use Rattle.affc_system.specs.Systems.{Meets};
 ghost use Rattle.affc_ends.specs.Sizes.{IsPrintable};
@@ -21,7 +21,7 @@ fn is_left_implied(
 ) -> Result<bool, AllocError>
     requires columns { columns ≤ 128 }
     requires few { length rows.now ≤ 8 }
-    requires few_beside { length beside.now ≤ 100 }
+    requires few_beside { length beside.now ≤ 120 }
     requires place { place < length rows.now }
     requires rows { All (IsPrintable columns) rows.now }
     requires beside { All (IsPrintable columns) beside.now }
@@ -45,7 +45,7 @@ fn without_implied(
 ) -> Result<Vec<Form>, AllocError>
     requires columns { columns ≤ 128 }
     requires few { length rows.items ≤ 8 }
-    requires few_beside { length beside.now ≤ 100 }
+    requires few_beside { length beside.now ≤ 120 }
     requires place { place < length rows.items }
     requires rows { All (IsPrintable columns) rows.items }
     requires beside { All (IsPrintable columns) beside.now }
@@ -62,7 +62,7 @@ fn without_implied(
 }
 
 /// The rows without those that the ones that are left and those beside them imply, each asked for once, from the last to the first.
-pub(crate) fn left_of(
+fn left_of(
     alloc: Global,
     columns: u32,
     kept: Vec<Form>,
@@ -70,7 +70,7 @@ pub(crate) fn left_of(
 ) -> Result<Vec<Form>, AllocError>
     requires columns { columns ≤ 128 }
     requires few { length kept.items ≤ 8 }
-    requires few_beside { length beside.now ≤ 100 }
+    requires few_beside { length beside.now ≤ 120 }
     requires kept { All (IsPrintable columns) kept.items }
     requires beside { All (IsPrintable columns) beside.now }
     ensures { IfOk result (λ v. AreLeft columns beside.now kept.items v.items) }
@@ -81,4 +81,51 @@ pub(crate) fn left_of(
         left = without_implied(alloc, columns, left, place, beside)?;
     }
     Ok(left)
+}
+
+/// The rows without those that the ones that are left and those beside them imply, flat ones and those of the other end.
+fn left_beside(
+    alloc: Global,
+    columns: u32,
+    kept: Vec<Form>,
+    flat: &[Form],
+    other: &[Form],
+) -> Result<Vec<Form>, AllocError>
+    requires columns { columns ≤ 128 }
+    requires few { length kept.items ≤ 8 }
+    requires few_flat { length flat.now ≤ 100 }
+    requires few_other { length other.now ≤ 8 }
+    requires kept { All (IsPrintable columns) kept.items }
+    requires flat { All (IsPrintable columns) flat.now }
+    requires other { All (IsPrintable columns) other.now }
+    ensures { IfOk result (λ v. AreLeft columns (flat.now ++ other.now) kept.items v.items) }
+{
+    let mut beside = Vec::new(alloc);
+    add_copies(flat, &mut beside)?;
+    add_copies(other, &mut beside)?;
+    let left = left_of(alloc, columns, kept, beside.as_slice())?;
+    Ok(left)
+}
+
+/// The rows of both ends without those that the ones that are left and the flat ones imply: first the lower ones, beside all upper ones.
+pub(crate) fn left_of_both(
+    alloc: Global,
+    columns: u32,
+    lower: Vec<Form>,
+    upper: Vec<Form>,
+    flat: &[Form],
+) -> Result<(Vec<Form>, Vec<Form>), AllocError>
+    requires columns { columns ≤ 128 }
+    requires few_lower { length lower.items ≤ 8 }
+    requires few_upper { length upper.items ≤ 8 }
+    requires few_flat { length flat.now ≤ 100 }
+    requires lower { All (IsPrintable columns) lower.items }
+    requires upper { All (IsPrintable columns) upper.items }
+    requires flat { All (IsPrintable columns) flat.now }
+    ensures lower { IfOk result (λ ends. AreLeft columns (flat.now ++ upper.items) lower.items ends.0.items) }
+    ensures upper { IfOk result (λ ends. AreLeft columns (flat.now ++ ends.0.items) upper.items ends.1.items) }
+{
+    let low = left_beside(alloc, columns, lower, flat, upper.as_slice())?;
+    let high = left_beside(alloc, columns, upper, flat, low.as_slice())?;
+    Ok((low, high))
 }

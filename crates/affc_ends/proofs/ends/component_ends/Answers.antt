@@ -12,7 +12,7 @@ returns-in-Ok c =
     found_ends c.args.system.now c.args.column (c.args.column + 1) c.requires.inside
     (system_widths c.args.system.now.columns c.args.system.now.rows (subst (All (IsRow c.args.system.now.columns)) c.rows-fit.ensures.rows c.rows-fit.ensures.fit)) (plus_one c.args.column)
     c.in-Rows.rows.items c.as_slice.result.now c.in-Rows.made.items h.0 h.1 c.as_slice.ensures.value c.args.ranges.now c.ranges-in-Rows.result.now c.in-Ok.lower.items c.in-Ok.upper.items c.ranges-in-Rows.ensures.ranges
-    c.in-Ok.ensures.lower c.in-Ok.ensures.upper
+    c.in-Ok.ensures.ok
 
 pub returns-in-Err-Loose : goal.returns-in-Err-Loose
 returns-in-Err-Loose c =
