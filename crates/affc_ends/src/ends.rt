@@ -23,7 +23,7 @@ use std::alloc::{AllocError, Global};
 const MOST_ROWS: usize = 8;
 
 /// The most rows beside those of an end that are asked with them.
-const MOST_FLAT: usize = 100;
+const MOST_FLAT: usize = 12;
 
 /// The greatest sum of the magnitudes of a row's terms over the box.
 const MOST_MAGNITUDE: u128 = 1 << 62;

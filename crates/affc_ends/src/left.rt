@@ -1,5 +1,5 @@
 //! The rows of an end that say something new.
-ghost use Rattle.std.specs.Prelude.{◌≡◌, ◌+◌, ◌<◌, ◌≤◌, ◌++◌, length, remove, ℤ, List, IfOk, IsTrue};
+ghost use Rattle.std.specs.Prelude.{◌≡◌, ◌+◌, ◌<◌, ◌≤◌, ◌++◌, length, remove, ℤ, List, IfOk};
 ghost use Rattle.std.specs.List.{All};
 ghost use Rattle.affc_system.specs.Systems.{Meets};
 ghost use Rattle.affc_ends.specs.Sizes.{IsPrintable};
@@ -11,54 +11,80 @@ use crate::system::add_copies;
 use affc_rows::Form;
 use std::alloc::{AllocError, Global};
 
+/// What elimination says of a row beside others.
+#[derive(Drop)]
+enum Judged {
+    Implied,
+    Stays,
+    /// It comes to a limit.
+    Open,
+}
+
 /// Whether elimination says that the other rows and those beside them imply the one at a place, at whole numbers.
-fn is_left_implied(
+fn judge(
     alloc: Global,
     columns: u32,
     rows: &[Form],
     place: usize,
     beside: &[Form],
-) -> Result<bool, AllocError>
+) -> Result<Judged, AllocError>
     requires columns { columns ≤ 128 }
     requires few { length rows.now ≤ 8 }
     requires few_beside { length beside.now ≤ 120 }
     requires place { place < length rows.now }
     requires rows { All (IsPrintable columns) rows.now }
     requires beside { All (IsPrintable columns) beside.now }
-    ensures { IfOk result (λ b. IsTrue b → (whole : List ℤ) → length whole ≡ columns → All (Meets whole) beside.now → All (Meets whole) (remove rows.now place) → All (Meets whole) rows.now) }
+    ensures { IfOk result (λ j. j ≡ Judged.Implied → (whole : List ℤ) → length whole ≡ columns → All (Meets whole) beside.now → All (Meets whole) (remove rows.now place) → All (Meets whole) rows.now) }
 {
     let mut others = without(rows, place, alloc)?;
     add_copies(beside, &mut others)?;
     match ask(alloc, columns, others.as_slice(), &rows[place])? {
-        Answer::Implied => Ok(true),
-        _ => Ok(false),
+        Answer::Implied => Ok(Judged::Implied),
+        Answer::Apart => Ok(Judged::Stays),
+        _ => Ok(Judged::Open),
     }
 }
 
-/// The rows without the one at a place, if elimination says that the others and those beside them imply it.
+/// The rows that are left so far.
+#[derive(Drop)]
+struct Left {
+    rows: Vec<Form>,
+    /// Whether the next ones may be asked for too: not where a question came to a limit, since the others would cost as much.
+    goes_on: bool,
+}
+
+/// The rows without the one at a place, if the others and those beside them imply it.
 fn without_implied(
     alloc: Global,
     columns: u32,
-    rows: Vec<Form>,
+    left: Left,
     place: usize,
     beside: &[Form],
-) -> Result<Vec<Form>, AllocError>
+) -> Result<Left, AllocError>
     requires columns { columns ≤ 128 }
-    requires few { length rows.items ≤ 8 }
+    requires few { length left.rows.items ≤ 8 }
     requires few_beside { length beside.now ≤ 120 }
-    requires place { place < length rows.items }
-    requires rows { All (IsPrintable columns) rows.items }
+    requires place { place < length left.rows.items }
+    requires rows { All (IsPrintable columns) left.rows.items }
     requires beside { All (IsPrintable columns) beside.now }
-    ensures left { IfOk result (λ v. AreLeft columns beside.now rows.items v.items) }
-    ensures one_less { IfOk result (λ v. length rows.items ≤ length v.items + 1) }
+    ensures left { IfOk result (λ v. AreLeft columns beside.now left.rows.items v.rows.items) }
+    ensures one_less { IfOk result (λ v. length left.rows.items ≤ length v.rows.items + 1) }
 {
-    let mut left = rows;
-    let is_implied = is_left_implied(alloc, columns, left.as_slice(), place, beside)?;
-    if !is_implied {
-        return Ok(left);
+    let Left { mut rows, goes_on } = left;
+    if !goes_on {
+        return Ok(Left { rows, goes_on });
     }
-    left.remove(place);
-    Ok(left)
+    match judge(alloc, columns, rows.as_slice(), place, beside)? {
+        Judged::Implied => {
+            rows.remove(place);
+            Ok(Left { rows, goes_on })
+        }
+        Judged::Stays => Ok(Left { rows, goes_on }),
+        Judged::Open => Ok(Left {
+            rows,
+            goes_on: false,
+        }),
+    }
 }
 
 /// The rows without those that the ones that are left and those beside them imply, each asked for once, from the last to the first.
@@ -76,11 +102,14 @@ fn left_of(
     ensures { IfOk result (λ v. AreLeft columns beside.now kept.items v.items) }
 {
     let count = kept.len();
-    let mut left = kept;
+    let mut left = Left {
+        rows: kept,
+        goes_on: true,
+    };
     for place in (0..count).rev() {
         left = without_implied(alloc, columns, left, place, beside)?;
     }
-    Ok(left)
+    Ok(left.rows)
 }
 
 /// The rows without those that the ones that are left and those beside them imply, flat ones and those of the other end.

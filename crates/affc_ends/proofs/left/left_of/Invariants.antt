@@ -3,4 +3,4 @@ use Rattle.affc_ends.specs.Steps.{AreLeft}
 use Rattle.affc_ends.proofs.left.left_of.Given as goal
 
 abbrev pub invariant-loop-place : goal.invariant-loop-place
-invariant-loop-place l = AreLeft l.columns l.beside l.fn.kept.items l.left.items × (l.place ≤ length l.left.items)
+invariant-loop-place l = AreLeft l.columns l.beside l.fn.kept.items l.left.rows.items × (l.place ≤ length l.left.rows.items)

@@ -1,6 +1,6 @@
 use Rattle.std.proofs.Common.{◌∙◌}
 use Rattle.affc_ends.proofs.Remaining.{implied_left, printable_asked}
-use Rattle.affc_ends.proofs.left.is_left_implied.Goals as goal
+use Rattle.affc_ends.proofs.left.judge.Goals as goal
 
 pub ask-requires-clause-others : goal.ask-requires-clause-others
 ask-requires-clause-others c = printable_asked c.args.columns c.args.rows.now c.in_ok-others.others.items c.as_slice.result.now c.args.beside.now c.args.place c.index-rows-place.result c.requires.place c.in_ok-others.ensures
