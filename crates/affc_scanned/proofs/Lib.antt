@@ -4,3 +4,4 @@ pub mod ScanLaws
 pub mod Tight
 pub mod ExampleProofs
 pub mod Refusals
+pub mod Numbered

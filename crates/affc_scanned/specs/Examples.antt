@@ -12,9 +12,12 @@ use Rattle.affc_trace.specs.declared.schedule.Schedule.TheVariants.{Source, Time
 use Rattle.affc_loops.specs.Between.{program_between}
 use Rattle.affc_loops.specs.Examples.{lit, n, backwards, copy}
 use Rattle.affc_loops.specs.Laws.{HasLoops}
+use Rattle.affc_loops.specs.Loops.{Piece}
+use Rattle.affc_ends.specs.declared.bounds.Bounds.TheVariants.{Between, Loose as Without}
+use Rattle.affc_ends.specs.declared.bounds.Why.{Why}
 use Rattle.affc_ends.specs.Examples.{from, up_to}
 use Rattle.affc_scanned.specs.declared.scanned.Loose.{Loose}
-use Rattle.affc_scanned.specs.Scanned.{Scans}
+use Rattle.affc_scanned.specs.Scanned.{sides_of, all_loose, Scans}
 
 -- for N from 1 to 9: for (i = 0; i < N; i++) out[i] = in[i];
 abbrev pub nine : Program
@@ -54,3 +57,15 @@ NoRowsWhereLoose = (a b high : Ix) (one : Loose) (named : Vec Loose) → named.i
 abbrev pub ItsOwnOrder : Type 0
 ItsOwnOrder = ((none : Vec Loose) → none.items ≡ [] → Scans nine Source (record { program = nine; loose = none }))
     × ((one : Loose) (named : Vec Loose) → named.items ≡ one ∷ [] → Scans nine Source (record { program = nine; loose = named }) → ⊥)
+
+-- ---- Bounds
+
+-- rows from both sides, and none where the component is loose
+abbrev pub RowsOfBounds : Type 0
+RowsOfBounds = (lower upper : Vec Affine) (why : Why) → (sides_of (Between lower upper) ≡ (lower.items, upper.items)) × (sides_of (Without why) ≡ ([], []))
+
+-- the loose ones by the numbers of their statements, of which some may have no instances, and of their components
+abbrev pub LooseAreNumbered : Type 0
+LooseAreNumbered = (lower upper : Vec Affine) (why other : Why) (e f : Piece) → e.statement ≡ 1 → f.statement ≡ 4
+    → all_loose (e ∷ f ∷ []) ((Without why ∷ Between lower upper ∷ Without other ∷ []) ∷ (Between lower upper ∷ Without why ∷ []) ∷ [])
+    ≡ record { statement = 1; component = 0; why = why } ∷ record { statement = 1; component = 2; why = other } ∷ record { statement = 4; component = 1; why = why } ∷ []

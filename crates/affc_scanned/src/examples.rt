@@ -1,6 +1,6 @@
 //! What may be scanned of a small program, and what not, as laws: `specs/Examples.antt` says each, with values that were found by hand
 //! from the rules.
-ghost use Rattle.affc_scanned.specs.Examples.{NineHasLoops, ScansBetweenRows, NoRowIsLeftOut, NoRowsWhereLoose, ItsOwnOrder};
+ghost use Rattle.affc_scanned.specs.Examples.{NineHasLoops, ScansBetweenRows, NoRowIsLeftOut, NoRowsWhereLoose, ItsOwnOrder, RowsOfBounds, LooseAreNumbered};
 
 /// A loop from its end to its start: between rows from both sides, and not with a row left out or with rows where it is loose.
 pub fn reverses()
@@ -9,4 +9,10 @@ pub fn reverses()
     ensures none_left_out { NoRowIsLeftOut }
     ensures none_where_loose { NoRowsWhereLoose }
     ensures own_order { ItsOwnOrder }
+{}
+
+/// The rows of bounds, and the components that have none.
+pub fn bounds()
+    ensures rows { RowsOfBounds }
+    ensures loose { LooseAreNumbered }
 {}
