@@ -6,8 +6,8 @@ static inline int64_t affc_floord(int64_t a, int64_t b) { return a / b - (a % b 
 static inline int64_t affc_ceild(int64_t a, int64_t b) { return a / b + (a % b > 0); }
 static inline int64_t affc_mod(int64_t a, int64_t b) { return a % b + (a % b < 0 ? b : 0); }
 void sums(int64_t N, uint64_t a[N + 1][N + 1]) {
-  for (int64_t affc_t0 = 0; affc_t0 <= 4; affc_t0++) {
-    for (int64_t affc_t1 = 0; affc_t1 <= 2; affc_t1++) {
+  for (int64_t affc_t0 = affc_max(0, 0); affc_t0 <= affc_min(2 * N - 2, 4); affc_t0++) {
+    for (int64_t affc_t1 = affc_max(affc_max(affc_t0 - N + 1, 0), 0); affc_t1 <= affc_min(affc_min(affc_t0, N - 1), 2); affc_t1++) {
       {
         const int64_t i = affc_t0 - affc_t1;
         const int64_t j = affc_t1;

@@ -3,6 +3,7 @@ use Rattle.affc_cprint.specs.Layout.{printed_text}
 use Rattle.affc_report.specs.Folds.{fold_report}
 use Rattle.affc_scan.specs.Laws.{IsNestFor}
 use Rattle.affc_scanned.specs.Scanned.{Scans}
+use Rattle.affc_schedtext.specs.Outline.{outline}
 use Rattle.affc_driver.proofs.folding.finish.Goals as goal
 
 pub scan-requires : goal.scan-requires
@@ -17,5 +18,8 @@ returns-in-Ok-clause-ok c = record {
   scanned = c.in_ok-scanned.scanned;
   scans = subst (λ q. Scans q c.args.plan.now.schedule c.in_ok-scanned.scanned) c.in_ok-other.ensures c.in_ok-scanned.ensures;
   printed = c.in-Ok.ensures.text;
-  told = c.in_ok-report.ensures ∙ ap (λ o. fold_report o c.args.folds.now c.args.choices.now c.in_ok-scanned.scanned.loose.items) c.in_ok-outline.ensures;
+  told =
+      c.in_ok-report.ensures
+      ∙ ap (λ o. fold_report o c.args.folds.now c.args.choices.now c.as_slice-loose.result.now) c.in_ok-outline.ensures
+      ∙ ap (fold_report (outline c.args.program.now) c.args.folds.now c.args.choices.now) c.as_slice-loose.ensures.value;
 }
