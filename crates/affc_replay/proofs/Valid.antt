@@ -27,6 +27,7 @@ use Rattle.affc_accept.specs.Refusals.{AcceptRefuses}
 use Rattle.affc_accept.specs.declared.fault.AcceptFault.{AcceptFault}
 use Rattle.affc_accept.specs.declared.fault.AcceptFault.TheVariants as accept
 use Rattle.affc_accept.proofs.Unique.{accepted_is_not_refused}
+use Rattle.affc_driver.specs.Made.{IsMadeOf}
 use Rattle.affc_driver.specs.Reports.{report_text}
 use Rattle.affc_driver.proofs.Compiled.{plan_scheduled, has_loops}
 use Rattle.affc_driver.proofs.Ranked.{reads_naming_arrays}
@@ -81,7 +82,7 @@ module _ (times : FoldsKeepTimes) (same : SameLoopsScan) (named : FoldsWellNamed
       let other = same program (folded_program program folds) v.plan.schedule s loops (times program folds) scans in
       let text = printed_text other.0.program in
       let report = report_text program folds [] other.0.loose.items in
-      let made = record { scanned = other.0; scans = other.1; printed = refl; told = refl } in
+      let made : IsMadeOf program v.plan folds [] text report = record { scanned = other.0; scans = other.1; printed = refl; told = refl } in
       (text, (report, replays_to named compiled program v.plan schedule certificate text report v.planned (record { folds = folds; decided = d; made = made }) source v.reads v.plain))
 
 pub replayed_is_valid : ReplayedIsValid
