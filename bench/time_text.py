@@ -45,7 +45,7 @@ def main_of(text, values, calls):
             words.append(f'(void *){each}')
     call = f'{name}({", ".join(words)});'
     return '\n'.join(['#include <stdio.h>', '#include <time.h>', text, 'int main(void) {', *arrays, '  struct timespec begun, ended;',
-                      '  clock_gettime(CLOCK_MONOTONIC, &endedegun);', f'  for (int k = 0; k < {calls}; k++) {{ {call} __asm__ volatile("" ::: "memory"); }}',
+                      '  clock_gettime(CLOCK_MONOTONIC, &begun);', f'  for (int k = 0; k < {calls}; k++) {{ {call} __asm__ volatile("" ::: "memory"); }}',
                       '  clock_gettime(CLOCK_MONOTONIC, &ended);', f'  printf("%.0f\\n", ((ended.tv_sec - begun.tv_sec) * 1e9 + (ended.tv_nsec - begun.tv_nsec)) / {calls});', '}', ''])
 
 
@@ -53,7 +53,7 @@ def time_of(text, values):
     with tempfile.TemporaryDirectory() as folder:
         program = os.path.join(folder, 'main')
         with open(program + '.c', 'w') as file:
-            file.write(main_of(text, values, 20000))
+            file.write(main_of(text, values, 2000))
         subprocess.run(['cc', '-std=gnu11', '-O2', '-w', '-o', program, program + '.c'], check=True)
         return min(int(subprocess.run([program], capture_output=True, check=True).stdout) for _ in range(5))
 
