@@ -37,7 +37,8 @@ ACCESS = AT + rb' in ' + PLACE + rb' access \d+'
 WHY = rb'byte|comment|number|syntax|name (unknown|twice|reserved|const|kind|range)|not affine|limit [a-z]+|printed'
 FORM = rb'-?[^\n]+'
 REPORT = (rb'(array ' + WORD + rb'\n(  whole budget\n|  basis \((' + FORM + rb')?\)\n(  modulus \d+: ' + FORM + rb' (bound|least' + AT
-          + rb'( no pair| pair \(-?\d+(, -?\d+)*\) \(-?\d+(, -?\d+)*\)))\n)*(  cost \d+\n)?(  rival \d+: (budget|(\d+ )*cost \d+)\n)*))*')
+          + rb'( no pair| pair \(-?\d+(, -?\d+)*\) \(-?\d+(, -?\d+)*\)))\n)*(  cost \d+\n)?(  rival \d+: (budget|(\d+ )*cost \d+)\n)*))*'
+          rb'(loose S\d+ component \d+ (made|wide|large|nine)\n)*')
 STUCK = (rb'extent of ' + WORD + AT + rb'|bounds of ' + WORD + ACCESS + rb'|unwritten ' + WORD + ACCESS)
 LINES = {
     4: rb'source at \d+: (' + WHY + rb')', 6: rb'schedule at \d+: (syntax|statement|length|fold|limit)|schedule: (inverse of S\d+|basis of '
