@@ -216,7 +216,7 @@ class Trial:
         source = self.call('run', 'a.c', 'a.data', '--steps', '1000000')
         if source.returncode not in (0, 12, 13):
             self.note(f'{" ".join(words)} is folded, and its source is stuck')
-        printed = self.call('run', 'a.t', 'a.data', '--steps', '20000000')
+        printed = self.call('run', 'a.t', 'a.data', '--steps', '2000000')
         same = printed.stdout == source.stdout if source.returncode == printed.returncode else 12 in (source.returncode, printed.returncode)
         self.counts['compared', 'runs'] += source.returncode == printed.returncode == 0
         if not same:
@@ -234,7 +234,7 @@ class Trial:
         if done.returncode == 0:
             self.write(t=done.stdout)
             source = self.call('run', 'a.c', 'a.data', '--steps', '1000000')
-            printed = self.call('run', 'a.t', 'a.data', '--steps', '20000000')
+            printed = self.call('run', 'a.t', 'a.data', '--steps', '2000000')
             if source.returncode == printed.returncode == 0 and source.stdout != printed.stdout:
                 self.note('what was replayed runs otherwise')
 

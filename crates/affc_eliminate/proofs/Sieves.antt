@@ -82,6 +82,16 @@ sieved_none Answers row = record {
   few = omega arith;
 }
 
+-- none is implied
+pub sieved_all : (Answers : Affine → Affine → Bool → Type 0) (others : List Kept) (row : Affine) → All (λ k. Answers row k.row false) others → AreSieved Answers others row others
+sieved_all Answers others row h = record {
+  among = All-contains_itself others;
+  answered = h;
+  covered = All-weaker (Contains others) (λ k. Contains others k ⊎ Implies row k.row) (λ k c. inl c) others (All-contains_itself others);
+  apart = λ t. t;
+  few = omega arith;
+}
+
 apart_front : (Answers : Affine → Affine → Bool → Type 0) (xs : List Kept) (y : Kept) → AreApart Answers (xs ++ y ∷ []) → AreApart Answers xs
 apart_front Answers xs y h = two_front (λ k q. Answers k.row q.row false × (k.number ≢ q.number)) xs y h
 

@@ -30,7 +30,20 @@ fn is_implied<F: Test>(others: &[Kept], row: &Form, screen: &Screen<F>) -> bool
     false
 }
 
-/// The rows that this one doesn't imply.
+/// Whether the row implies none of these.
+fn implies_none<F: Test>(others: &[Kept], row: &Form, screen: &Screen<F>) -> bool
+    requires { All (λ k. length row.now.coefs ≡ length k.row.coefs) others.now }
+    ensures { IsTrue result → All (λ k. F.answers screen.now.test row.now k.row false) others.now }
+{
+    for other in others {
+        if screen.implies(row, &other.row) {
+            return false;
+        }
+    }
+    true
+}
+
+/// The rows that this one doesn't imply: mostly all of them, which then aren't moved.
 fn without_implied<F: Test>(
     alloc: Global,
     others: Vec<Kept>,
@@ -40,6 +53,9 @@ fn without_implied<F: Test>(
     requires { All (λ k. length row.now.coefs ≡ length k.row.coefs) others.items }
     ensures { IfOk result (λ left. AreSieved (F.answers screen.now.test) others.items row.now left.items) }
 {
+    if implies_none(others.as_slice(), row, screen) {
+        return Ok(others);
+    }
     let mut left = Vec::new(alloc);
     for other in others {
         if !screen.implies(row, &other.row) {

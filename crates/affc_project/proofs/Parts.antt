@@ -1,5 +1,5 @@
 -- The first rows of a state are one.
-use Rattle.std.proofs.Common.{◌≡◌, ℕ, ◌<◌, ◌≤◌, List, length, take, get_or, min, pos, sym, ap, subst, ◌∙◌, arith}
+use Rattle.std.proofs.Common.{◌≡◌, ℕ, ◌<◌, List, length, take, get_or, min, pos, sym, ap, subst, ◌∙◌, arith}
 use Rattle.std.specs.List.{All}
 use Rattle.std.proofs.lemmas.List.{get_or-take, length-take}
 use Rattle.std.proofs.lemmas.List.Elements.{All-take, All-weaker, Contains-get_or}
@@ -9,7 +9,6 @@ use Rattle.affc_farkas.specs.declared.pair.Pair.{Pair}
 use Rattle.affc_eliminate.specs.declared.kept.Kept.{Kept}
 use Rattle.affc_project.specs.States.{IsIn, AreZero, IsState}
 use Rattle.affc_project.proofs.Tables.{live_width}
-use Rattle.affc_project.proofs.Steps.{is_ready}
 
 within : (i n m k : ℕ) → k ≡ min n m → i < k → (i < n) × (i < m)
 within i n m k e h = (omega arith, omega arith)
@@ -36,9 +35,6 @@ state_part columns rows made live n h = record {
       (λ q z. (z.0, All-take (λ k. entry_of k.row q.column ≡ pos 0) n live z.1)) made h.cancelled;
 }
 
--- the rows are few, and have the column
-pub state_few : (columns : ℕ) (rows : List Affine) (column : ℕ) (made : List Pair) (live : List Kept) → column < columns → length made < 4096 → IsState columns rows made live → length live ≤ 8192
-state_few columns rows column made live lt few h = (is_ready columns rows column made live lt few h).few
-
+-- the rows have the column
 pub state_columns : (columns : ℕ) (rows : List Affine) (column : ℕ) (made : List Pair) (live : List Kept) → column < columns → IsState columns rows made live → All (λ k. column < length k.row.coefs) live
 state_columns columns rows column made live lt h = λ i d l. subst (λ n. column < n) (sym (live_width columns rows made live (get_or live i d) h (Contains-get_or live i d l))) lt

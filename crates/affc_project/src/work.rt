@@ -102,24 +102,29 @@ pub(crate) fn pairs_of(live: &[Kept], column: usize) -> usize
     positive.saturating_mul(negative)
 }
 
-/// How many rows, from the first on, make the most pairs of an elimination; all of them where fewer do.
+/// The fewest rows, from the first on, that make the most pairs of an elimination; all of them where all make fewer.
 fn enough(live: &[Kept], column: usize) -> usize
-    requires few { length live.now ≤ 8192 }
-    requires columns { All (λ k. column < length k.row.coefs) live.now }
+    requires { All (λ k. column < length k.row.coefs) live.now }
     ensures { result ≤ length live.now }
 {
-    let mut count = 64usize;
-    while count < live.len() {
-        if pairs_of(&live[..count], column) >= MOST_PAIRS {
-            return count;
+    let mut positive = 0usize;
+    let mut negative = 0usize;
+    for (place, kept) in live.iter().enumerate() {
+        let coefficient = kept.row.coefs.as_slice()[column];
+        if coefficient > 0 {
+            positive = positive.saturating_add(1);
+        } else if coefficient < 0 {
+            negative = negative.saturating_add(1);
         }
-        count *= 2;
+        if positive.saturating_mul(negative) >= MOST_PAIRS {
+            return place + 1;
+        }
     }
     live.len()
 }
 
 /// Eliminates the column from the rows that are left. Where the first rows make too many pairs, they are asked alone, so that no
-/// more pairs than a few times too many are ever made; where these have no point, all have none.
+/// more pairs than just too many are ever made; where these have no point, all have none.
 pub(crate) fn advance<F: Test>(
     alloc: Global,
     system: &System,

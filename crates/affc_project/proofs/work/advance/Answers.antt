@@ -1,18 +1,13 @@
-use Rattle.std.proofs.Common.{refl, ◌≤◌, ◌<◌, length, take, sym, subst, ◌∙◌}
+use Rattle.std.proofs.Common.{refl, ◌<◌, length, take, sym, subst, ◌∙◌}
 use Rattle.std.specs.List.{All}
 use Rattle.affc_eliminate.specs.declared.kept.Kept.{Kept}
 use Rattle.affc_project.specs.States.{IsState, IsCancelled, HasContradiction}
 use Rattle.affc_project.proofs.Contradictions.{over_first}
-use Rattle.affc_project.proofs.Parts.{state_part, state_few, state_columns}
+use Rattle.affc_project.proofs.Parts.{state_part, state_columns}
 use Rattle.affc_project.proofs.work.advance.Goals as goal
 
-pub enough-count-requires-clause-few : goal.enough-count-requires-clause-few
-enough-count-requires-clause-few g c =
-    subst (λ ks. length ks ≤ 8192) (sym c.as_slice.ensures.value)
-    (state_few c.args.system.now.columns c.args.system.now.rows c.args.column c.args.work.made.items c.args.work.live.items c.requires.column_in c.requires.few c.requires.state)
-
-pub enough-count-requires-clause-columns : goal.enough-count-requires-clause-columns
-enough-count-requires-clause-columns g c =
+pub enough-count-requires : goal.enough-count-requires
+enough-count-requires g c =
     subst (All (λ (k : Kept). c.args.column < length k.row.coefs)) (sym c.as_slice.ensures.value)
     (state_columns c.args.system.now.columns c.args.system.now.rows c.args.column c.args.work.made.items c.args.work.live.items c.requires.column_in c.requires.state)
 
