@@ -1,0 +1,12 @@
+pub mod Vecs
+pub mod Lists
+pub mod Gcds
+pub mod Divisors
+pub mod Sums
+pub mod Mixes
+pub mod Columns
+pub mod Left
+pub mod Projected
+pub mod Projects
+pub mod Asked
+pub mod Bounded
