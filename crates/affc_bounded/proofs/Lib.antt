@@ -10,3 +10,4 @@ pub mod Projected
 pub mod Projects
 pub mod Asked
 pub mod Bounded
+pub mod Programs

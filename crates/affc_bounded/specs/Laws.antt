@@ -5,8 +5,13 @@ use Rattle.affc_rows.specs.Forms.{Affine, HaveColumns}
 use Rattle.affc_system.specs.Systems.{Rows}
 use Rattle.affc_project.specs.Projections.{IsProjection}
 use Rattle.affc_project.specs.declared.projection.Projected.{Projected}
+use Rattle.affc_ast.specs.declared.tree.Program.{Program}
+use Rattle.affc_trace.specs.declared.schedule.Schedule.{Schedule}
+use Rattle.affc_loops.specs.Laws.{HasLoops}
 use Rattle.affc_ends.specs.declared.bounds.Bounds.{Bounds}
 use Rattle.affc_ends.specs.Whys.{IsBounds}
+use Rattle.affc_scanned.specs.declared.scanned.Scanned.{Scanned}
+use Rattle.affc_scanned.specs.Scanned.{Scans}
 
 -- Fourier and Motzkin's elimination ends with rows, or comes to a limit. (Of more rows than a `Vec` can hold all may be needed.)
 abbrev pub SystemsProject : Type 0
@@ -16,3 +21,7 @@ SystemsProject = (columns : ℕ) (rows : List Affine) (keep : ℕ) → HaveColum
 abbrev pub ColumnsHaveBounds : Type 0
 ColumnsHaveBounds = (system : Rows) (column : ℕ) (ranges : List (ℤ × ℤ)) → HaveColumns system.columns system.rows → column < system.columns
     → (b : Bounds) × IsBounds system column ranges b
+
+-- So what a schedule's program runs between always is there.
+abbrev pub ProgramsScan : Type 0
+ProgramsScan = (program : Program) (schedule : Schedule) → HasLoops program schedule → (s : Scanned) × Scans program schedule s
