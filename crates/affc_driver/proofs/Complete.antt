@@ -25,6 +25,7 @@ use Rattle.affc_safe.proofs.FitsThere.{never_stuck_is_safe}
 use Rattle.affc_nest.proofs.QuestionLemmas.{stands_in}
 use Rattle.affc_nest.specs.Nests.{nest_of}
 use Rattle.affc_scanned.specs.Laws.{SameLoopsScan}
+use Rattle.affc_bounded.specs.Laws.{ProgramsScan}
 use Rattle.affc_split.specs.Budgets.{Account}
 use Rattle.affc_basis.specs.declared.fold.Fold.{Fold}
 use Rattle.affc_rewrite.specs.Rewrite.{folded_program}
@@ -48,7 +49,7 @@ use Rattle.affc_flow.specs.Unwritten.{LoadsUnwritten}
 use Rattle.affc_threshold.specs.Thresholds.{threshold}
 use Rattle.affc_driver.specs.Accounts.{reaches, IsUnlimited, IsShort}
 use Rattle.affc_driver.specs.Folds.{FoldsTo}
-use Rattle.affc_driver.specs.Laws.{IllegalShows, UnlimitedFoldsAll, NoneIsCheaper, IsFoldable, FoldableIsFolded, FoldedIsFoldable, FoldableIsNotRefused, UnlimitedIsNotRefused, IsSound, FlowsAreSound, SoundIsNotRefused}
+use Rattle.affc_driver.specs.Laws.{IllegalShows, UnlimitedFoldsAll, NoneIsCheaper, IsFoldable, FoldableIsFolded, FoldableIsNotRefused, UnlimitedIsNotRefused, IsSound, FlowsAreSound, SoundIsNotRefused}
 use Rattle.affc_driver.specs.Plans.{HasPlan, WrittenThroughout}
 use Rattle.affc_driver.specs.Refusals.{IsSourceFault, IsPrinted, HasSchedFault, HasMeaningFault, HasUnwritten, IsIllegal}
 use Rattle.affc_driver.specs.Reports.{report_text}
@@ -83,25 +84,7 @@ is_written text s p here = (safe_at text s p here).written
 abbrev at_once : Account
 at_once = record { limit = Some 0; spent = 0 }
 
-module _ (times : FoldsKeepTimes) (same : SameLoopsScan) (named : FoldsWellNamed) (compiled : FoldsCompile) (Answers : List ℕ → ℕ → Type 0) where
-  pub foldable_is_folded : FoldableIsFolded Answers
-  foldable_is_folded text schedule f s scans =
-      let sound = sound_of text schedule f in
-      let stays = stays_within text sound in
-      let none = nothing_folded Answers f.program f.plan.schedule f.plan.folds at_once (λ whole. record { most = 0; limit = refl; reached = omega arith }) in
-      let has = has_loops text schedule f.program f.plan f.reads f.plain stays f.planned in
-      let other = same f.program (folded_program f.program []) f.plan.schedule s has (times f.program []) scans in (
-        at_once,
-        (
-          printed_text other.0.program,
-          (
-            report_text f.program [] [] other.0.loose.items,
-            printed_compiles named compiled Answers text schedule f.program f.plan at_once [] [] other.0 f.reads f.plain stays (is_written text sound) f.planned f.legal none other.1,
-          ),
-        ),
-      )
-
-pub folded_is_foldable : (Answers : List ℕ → ℕ → Type 0) → FoldedIsFoldable Answers
+folded_is_foldable : (Answers : List ℕ → ℕ → Type 0) (text : List ℕ) (schedule : Option (List ℕ)) (budget : Account) (folded report : List ℕ) → FoldsTo Answers text schedule budget folded report → IsFoldable text schedule
 folded_is_foldable Answers text schedule budget folded report folds =
     let program : Program = folds.compiles.source in
     let reads : Reads text program = folds.compiles.source_reads in
@@ -116,6 +99,28 @@ folded_is_foldable Answers text schedule budget folded report folds =
       planned = folds.planned;
       legal = folds.legal;
     }
+
+module _ (times : FoldsKeepTimes) (scan : ProgramsScan) (same : SameLoopsScan) (named : FoldsWellNamed) (compiled : FoldsCompile) (Answers : List ℕ → ℕ → Type 0) where
+  is_folded : (text : List ℕ) (schedule : Option (List ℕ)) → IsFoldable text schedule → (budget : Account) × ((folded : List ℕ) × ((report : List ℕ) × FoldsTo Answers text schedule budget folded report))
+  is_folded text schedule f =
+      let sound = sound_of text schedule f in
+      let stays = stays_within text sound in
+      let none = nothing_folded Answers f.program f.plan.schedule f.plan.folds at_once (λ whole. record { most = 0; limit = refl; reached = omega arith }) in
+      let has = has_loops text schedule f.program f.plan f.reads f.plain stays f.planned in
+      let own = scan f.program f.plan.schedule has in
+      let other = same f.program (folded_program f.program []) f.plan.schedule own.0 has (times f.program []) own.1 in (
+        at_once,
+        (
+          printed_text other.0.program,
+          (
+            report_text f.program [] [] other.0.loose.items,
+            printed_compiles named compiled Answers text schedule f.program f.plan at_once [] [] other.0 f.reads f.plain stays (is_written text sound) f.planned f.legal none other.1,
+          ),
+        ),
+      )
+
+  pub foldable_is_folded : FoldableIsFolded Answers
+  foldable_is_folded text schedule = (is_folded text schedule, (λ h. folded_is_foldable Answers text schedule h.0 h.1.0 h.1.1.0 h.1.1.1))
 
 unlimited : (budget : Account) → budget.limit ≡ None → ¬ (IsSpent budget)
 unlimited budget none spent = absurd (none-some spent.most (sym none ∙ spent.limit))

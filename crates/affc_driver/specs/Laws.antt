@@ -1,5 +1,5 @@
 -- What a compilation's answers say of a source and of its runs.
-use Rattle.std.specs.Prelude.{◌≡◌, ◌≢◌, ◌≤◌, ◌⊎◌, ℕ, ℤ, false, IsTrue, List, [], ◌∷◌, length, Option, Some, None, slice_get}
+use Rattle.std.specs.Prelude.{◌≡◌, ◌≢◌, ◌≤◌, ◌↔◌, ◌⊎◌, ℕ, ℤ, false, IsTrue, List, [], ◌∷◌, length, Option, Some, None, slice_get}
 use Rattle.affc_ast.specs.declared.tree.ArrayId.{ArrayId}
 use Rattle.affc_ast.specs.declared.tree.Instance.{Instance}
 use Rattle.affc_ast.specs.declared.tree.Program.{Program}
@@ -144,14 +144,10 @@ pub record IsFoldable (text : List ℕ) (schedule : Option (List ℕ)) : Type 0 
   pub planned : HasPlan program schedule plan
   pub legal : LegalThroughout program plan.schedule
 
--- Such a text, where its schedule is scanned, has one that it is folded to, whatever is left of a budget.
+-- Exactly such a text has one that it is folded to, whatever is left of a budget.
 abbrev pub FoldableIsFolded : (Answers : List ℕ → ℕ → Type 0) → Type 0
-FoldableIsFolded Answers = (text : List ℕ) (schedule : Option (List ℕ)) (f : IsFoldable text schedule) (s : Scanned) → Scans f.program f.plan.schedule s
-    → (budget : Account) × ((folded : List ℕ) × ((report : List ℕ) × FoldsTo Answers text schedule budget folded report))
-
--- And only such a text.
-abbrev pub FoldedIsFoldable : (Answers : List ℕ → ℕ → Type 0) → Type 0
-FoldedIsFoldable Answers = (text : List ℕ) (schedule : Option (List ℕ)) (budget : Account) (folded report : List ℕ) → FoldsTo Answers text schedule budget folded report → IsFoldable text schedule
+FoldableIsFolded Answers = (text : List ℕ) (schedule : Option (List ℕ))
+    → IsFoldable text schedule ↔ ((budget : Account) × ((folded : List ℕ) × ((report : List ℕ) × FoldsTo Answers text schedule budget folded report)))
 
 -- It is refused, if at all, for want of budget or of memory.
 abbrev pub FoldableIsNotRefused : Type 0

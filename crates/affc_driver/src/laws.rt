@@ -1,6 +1,7 @@
 //! What a compilation's answers say of a source and of its runs. Each law is the contract of a function that does nothing.
-ghost use Rattle.affc_driver.specs.Laws.{ReadsNamingArrays, CompilesItself, WithinNeverStuck, NamedIsWritten, PrintedCompiles, TextsRunTightly, UnlimitedFoldsAll, NoneIsCheaper, FaultsShow, UnwrittenShows, IllegalShows, FoldableIsFolded, FoldedIsFoldable, FoldableIsNotRefused, UnlimitedIsNotRefused, FlowsAreSound, SoundIsNotRefused};
+ghost use Rattle.affc_driver.specs.Laws.{ReadsNamingArrays, CompilesItself, WithinNeverStuck, NamedIsWritten, PrintedCompiles, TextsRunTightly, UnlimitedFoldsAll, NoneIsCheaper, FaultsShow, UnwrittenShows, IllegalShows, FoldableIsFolded, FoldableIsNotRefused, UnlimitedIsNotRefused, FlowsAreSound, SoundIsNotRefused};
 
+use affc_bounded::laws::programs_scan;
 use affc_foldprint::laws::{folds_compile, folds_keep_times, folds_run_tightly, folds_well_named};
 use affc_scanned::laws::same_loops_scan;
 use affc_weigh::laws::Costing;
@@ -66,20 +67,16 @@ pub fn illegal_shows()
     ensures law { IllegalShows }
 {}
 
-/// A text whose program is never stuck is folded where its schedule, which is legal, is scanned.
+/// A text is folded exactly where its program is never stuck, and its schedule is legal.
 pub fn foldable_is_folded<C: Costing>()
     ensures law { FoldableIsFolded C.answers }
 {
     folds_keep_times();
+    programs_scan();
     same_loops_scan();
     folds_well_named();
     folds_compile();
 }
-
-/// Only such a text is folded.
-pub fn folded_is_foldable<C: Costing>()
-    ensures law { FoldedIsFoldable C.answers }
-{}
 
 /// Such a text is refused for want of budget or of memory, and for nothing else, by `fold` and with a certificate by `fold_certified`.
 pub fn foldable_is_not_refused()

@@ -14,6 +14,7 @@ use Rattle.affc_cprint.specs.Layout.{printed_text}
 use Rattle.affc_plain.proofs.Programs.{reads_plain}
 use Rattle.affc_domain.specs.Ranges.{first_wide}
 use Rattle.affc_scanned.specs.Laws.{SameLoopsScan}
+use Rattle.affc_bounded.specs.Laws.{ProgramsScan}
 use Rattle.affc_basis.specs.declared.basis.Basis.{Basis}
 use Rattle.affc_basis.specs.declared.fold.Fold.{Fold}
 use Rattle.affc_nest.specs.Laws.{HasNest}
@@ -32,7 +33,7 @@ use Rattle.affc_driver.specs.Reports.{report_text}
 use Rattle.affc_driver.proofs.Compiled.{plan_scheduled, has_loops}
 use Rattle.affc_driver.proofs.Ranked.{reads_naming_arrays}
 use Rattle.affc_replay.specs.Folds.{scalars_from, AreEmptyFolds, AreAll}
-use Rattle.affc_replay.specs.Laws.{IsValid, ValidIsReplayed, ReplayedIsValid, ValidIsNotRefused}
+use Rattle.affc_replay.specs.Laws.{IsValid, ValidIsReplayed, ValidIsNotRefused}
 use Rattle.affc_replay.specs.Refusals.{HasAcceptFault}
 use Rattle.affc_replay.specs.declared.refusal.Refusal.TheVariants.{Source, Printed, Schedule, IteratorRange, Certificate, Check, Memory}
 use Rattle.affc_replay.proofs.Decided.{reads_temporaries, decided, replays_to}
@@ -69,23 +70,7 @@ are_empty ns = record { of_arrays = same ns; empty = none ns }
 
 -- ---- Such have a text
 
-module _ (times : FoldsKeepTimes) (same : SameLoopsScan) (named : FoldsWellNamed) (compiled : FoldsCompile) where
-  pub valid_is_replayed : ValidIsReplayed
-  valid_is_replayed source schedule certificate v s scans =
-      let program : Program = v.program in
-      let scalars = map scalar_fold (scalars_from 0 (nest_of program).arrays) in
-      let folds = v.folds ++ scalars in
-      let all : AreAll (nest_of program) v.folds folds = record { scalars = scalars; are_scalars = are_empty (scalars_from 0 (nest_of program).arrays); both = refl } in
-      let has : HasNest program = record { plain = reads_plain source program v.reads v.plain; near = v.near } in
-      let d = decided program v.plan certificate v.folds folds has (reads_naming_arrays source program v.reads) (reads_temporaries source program v.reads v.plain) (plan_scheduled program (Some schedule) v.plan v.planned) v.accepted all in
-      let loops = has_loops source (Some schedule) program v.plan v.reads v.plain d.within v.planned in
-      let other = same program (folded_program program folds) v.plan.schedule s loops (times program folds) scans in
-      let text = printed_text other.0.program in
-      let report = report_text program folds [] other.0.loose.items in
-      let made : IsMadeOf program v.plan folds [] text report = record { scanned = other.0; scans = other.1; printed = refl; told = refl } in
-      (text, (report, replays_to named compiled program v.plan schedule certificate text report v.planned (record { folds = folds; decided = d; made = made }) source v.reads v.plain))
-
-pub replayed_is_valid : ReplayedIsValid
+replayed_is_valid : (source schedule certificate text report : List ℕ) → ReplaysTo source schedule certificate text report → IsValid source schedule certificate
 replayed_is_valid source schedule certificate text report replayed = record {
   program = replayed.compiles.source;
   reads = replayed.compiles.source_reads;
@@ -96,6 +81,26 @@ replayed_is_valid source schedule certificate text report replayed = record {
   folds = replayed.shown;
   accepted = replayed.accepted;
 }
+
+module _ (times : FoldsKeepTimes) (scan : ProgramsScan) (same : SameLoopsScan) (named : FoldsWellNamed) (compiled : FoldsCompile) where
+  is_replayed : (source schedule certificate : List ℕ) → IsValid source schedule certificate → (text : List ℕ) × ((report : List ℕ) × ReplaysTo source schedule certificate text report)
+  is_replayed source schedule certificate v =
+      let program : Program = v.program in
+      let scalars = map scalar_fold (scalars_from 0 (nest_of program).arrays) in
+      let folds = v.folds ++ scalars in
+      let all : AreAll (nest_of program) v.folds folds = record { scalars = scalars; are_scalars = are_empty (scalars_from 0 (nest_of program).arrays); both = refl } in
+      let has : HasNest program = record { plain = reads_plain source program v.reads v.plain; near = v.near } in
+      let d = decided program v.plan certificate v.folds folds has (reads_naming_arrays source program v.reads) (reads_temporaries source program v.reads v.plain) (plan_scheduled program (Some schedule) v.plan v.planned) v.accepted all in
+      let loops = has_loops source (Some schedule) program v.plan v.reads v.plain d.within v.planned in
+      let own = scan program v.plan.schedule loops in
+      let other = same program (folded_program program folds) v.plan.schedule own.0 loops (times program folds) own.1 in
+      let text = printed_text other.0.program in
+      let report = report_text program folds [] other.0.loose.items in
+      let made : IsMadeOf program v.plan folds [] text report = record { scanned = other.0; scans = other.1; printed = refl; told = refl } in
+      (text, (report, replays_to named compiled program v.plan schedule certificate text report v.planned (record { folds = folds; decided = d; made = made }) source v.reads v.plain))
+
+  pub valid_is_replayed : ValidIsReplayed
+  valid_is_replayed source schedule certificate = (is_replayed source schedule certificate, (λ h. replayed_is_valid source schedule certificate h.0 h.1.0 h.1.1))
 
 -- ---- Nothing else is answered
 

@@ -1,5 +1,5 @@
 -- Which sources, schedules and certificates are replayed.
-use Rattle.std.specs.Prelude.{◌≡◌, ℕ, false, List, Some, None}
+use Rattle.std.specs.Prelude.{◌≡◌, ◌↔◌, ℕ, false, List, Some, None}
 use Rattle.affc_ast.specs.declared.tree.ArrayId.{ArrayId}
 use Rattle.affc_ast.specs.declared.tree.Program.{Program}
 use Rattle.affc_grammar.specs.Reads.{Reads}
@@ -7,8 +7,6 @@ use Rattle.affc_domain.specs.Ranges.{first_wide}
 use Rattle.affc_basis.specs.declared.fold.Fold.{Fold}
 use Rattle.affc_nest.specs.Nests.{nest_of}
 use Rattle.affc_schedtext.specs.declared.plan.Plan.{Plan}
-use Rattle.affc_scanned.specs.declared.scanned.Scanned.{Scanned}
-use Rattle.affc_scanned.specs.Scanned.{Scans}
 use Rattle.affc_accept.specs.Accepted.{IsAccepted}
 use Rattle.affc_driver.specs.Plans.{HasPlan}
 use Rattle.affc_replay.specs.Refusals.{ReplayRefuses}
@@ -28,14 +26,10 @@ pub record IsValid (source schedule certificate : List ℕ) : Type 0 where
   pub folds : List (ArrayId × Fold)
   pub accepted : IsAccepted (nest_of program) plan certificate folds
 
--- Such have, where the schedule is scanned, a text that they are replayed to.
+-- Exactly such have a text that they are replayed to.
 abbrev pub ValidIsReplayed : Type 0
-ValidIsReplayed = (source schedule certificate : List ℕ) (v : IsValid source schedule certificate) (s : Scanned) → Scans v.program v.plan.schedule s
-    → (text : List ℕ) × ((report : List ℕ) × ReplaysTo source schedule certificate text report)
-
--- And only such.
-abbrev pub ReplayedIsValid : Type 0
-ReplayedIsValid = (source schedule certificate text report : List ℕ) → ReplaysTo source schedule certificate text report → IsValid source schedule certificate
+ValidIsReplayed = (source schedule certificate : List ℕ)
+    → IsValid source schedule certificate ↔ ((text : List ℕ) × ((report : List ℕ) × ReplaysTo source schedule certificate text report))
 
 -- They are refused, if at all, for want of memory.
 abbrev pub ValidIsNotRefused : Type 0
