@@ -1,8 +1,7 @@
 -- Every question is answered: the others imply the row, or some rational point tells it from them.
-use Rattle.std.proofs.Common.{◌≡◌, ℕ, zero, suc, ◌<◌, ◌≤◌, List, [], ◌∷◌, ◌++◌, length, get_or, ℤ, pos, negsuc, neg_ℤ, ◌≤ℤ◌, refl, ap, subst, ◌∙◌, inl, inr, arith}
+use Rattle.std.proofs.Common.{◌≡◌, ℕ, zero, suc, ◌<◌, ◌≤◌, List, [], ◌∷◌, ◌++◌, length, get_or, ℤ, neg_ℤ, refl, ap, subst, ◌∙◌, inl, inr, arith}
 use Rattle.std.specs.Prelude.{◌⊎◌, remove}
 use Rattle.std.specs.List.{All, Contains}
-use Rattle.std.proofs.lemmas.Int.{ints}
 use Rattle.std.proofs.lemmas.Bool.{cases_lt}
 use Rattle.std.proofs.lemmas.List.{get_or_default, length-map}
 use Rattle.std.proofs.lemmas.List.Elements.{All-cons, All-head, All-tail, All-push, All-contains}
@@ -16,10 +15,7 @@ use Rattle.affc_ends.proofs.Asked.{apart, implied}
 use Rattle.affc_ends.proofs.Chosen.{removed, again, among_all, none_enough, few_enough, without_implied}
 use Rattle.affc_bounded.proofs.Lists.{all_or_one, at_first, all_later}
 use Rattle.affc_bounded.proofs.Projected.{projection}
-
-up_or_not : (z : ℤ) → (pos 0 ≤ℤ z) ⊎ ((pos 0 ≤ℤ z) → ⊥)
-up_or_not (pos n) = inl (omega (arith, ints))
-up_or_not (negsuc n) = inr (λ h. absurd (omega (arith, ints)))
+use Rattle.affc_bounded.proofs.Numbers.{least_or_not}
 
 zero_least : (n : ℕ) → 0 ≤ n
 zero_least n = omega arith
@@ -33,7 +29,7 @@ ask columns others row w l =
     let rows = others ++ below_zero row ∷ [] in
     let wide : HaveColumns columns rows = All-push (λ f. length f.coefs ≡ columns) others (below_zero row) w (length-map row.coefs neg_ℤ ∙ l) in
     let p = projection columns rows 0 wide (zero_least columns) in
-    elim (all_or_one (Meets []) (λ f. Meets [] f → ⊥) (λ f. up_or_not (value f [])) p.projected) [
+    elim (all_or_one (Meets []) (λ f. Meets [] f → ⊥) (λ f. least_or_not (value f [])) p.projected) [
       | inl all ↦ inr (apart columns rows p.made p.projected p.are all)
       | inr one ↦ inl (implied columns others row p.made p.projected p.are (λ all. one.2 (All-contains (Meets []) p.projected one.0 all one.1)))
     ]

@@ -1,8 +1,7 @@
 -- Each column has bounds: its ends, or a row that is large, or nine rows of one end of which none is implied.
-use Rattle.std.proofs.Common.{◌≡◌, ℕ, zero, suc, ◌+◌, ◌^◌, ◌<◌, ◌≤◌, Bool, true, false, List, length, ℤ, pos, negsuc, ◌<ℤ◌, sym, subst, ◌∙◌, inl, inr, arith}
+use Rattle.std.proofs.Common.{◌≡◌, ℕ, suc, ◌+◌, ◌^◌, ◌<◌, ◌≤◌, Bool, true, false, List, length, ℤ, pos, sym, subst, ◌∙◌, inl, inr, arith}
 use Rattle.std.specs.Prelude.{◌⊎◌, unsigned_abs}
 use Rattle.std.specs.List.{All, Contains}
-use Rattle.std.proofs.lemmas.Int.{ints}
 use Rattle.std.proofs.lemmas.Bool.{cases_lt}
 use Rattle.std.proofs.lemmas.List.{get_or_default}
 use Rattle.std.proofs.lemmas.List.Elements.{All-weaker, All-contains}
@@ -24,6 +23,7 @@ use Rattle.affc_bounded.proofs.Asked.{HasNine, enough}
 use Rattle.affc_bounded.proofs.Lists.{all_or_one, pick, ArePicked}
 use Rattle.affc_bounded.proofs.Projected.{projection}
 use Rattle.affc_bounded.proofs.Vecs.{vec_of}
+use Rattle.affc_bounded.proofs.Numbers.{above_or_not, below_or_not}
 
 -- ---- Sizes
 
@@ -46,18 +46,9 @@ size_of ranges row = elim (cases_lt (2 ^ 62) (box_magnitude row.coefs ranges + u
 
 -- ---- One end
 
-above_zero : (z : ℤ) → (pos 0 <ℤ z) ⊎ ((pos 0 <ℤ z) → ⊥)
-above_zero (pos zero) = inr (λ h. absurd (omega (arith, ints)))
-above_zero (pos (suc n)) = inl (omega (arith, ints))
-above_zero (negsuc n) = inr (λ h. absurd (omega (arith, ints)))
-
-below_zero : (z : ℤ) → (z <ℤ pos 0) ⊎ ((z <ℤ pos 0) → ⊥)
-below_zero (pos n) = inr (λ h. absurd (omega (arith, ints)))
-below_zero (negsuc n) = inl (omega (arith, ints))
-
 end_or_not : (lower : Bool) (column : ℕ) (r : Affine) → BoundsEnd lower column r ⊎ (BoundsEnd lower column r → ⊥)
-end_or_not true column r = above_zero (entry_of r column)
-end_or_not false column r = below_zero (entry_of r column)
+end_or_not true column r = above_or_not (entry_of r column)
+end_or_not false column r = below_or_not (entry_of r column)
 
 of_end : (lower : Bool) (column : ℕ) (rows chosen : List Affine) → ArePicked (BoundsEnd lower column) rows chosen → AreOfEnd lower column rows chosen
 of_end lower column rows chosen h = record {

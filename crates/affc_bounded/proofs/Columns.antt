@@ -1,8 +1,7 @@
 -- A column is cancelled by pairs of all rows that are positive in it with all that are negative.
-use Rattle.std.proofs.Common.{◌≡◌, ◌≢◌, ℕ, zero, suc, ◌+◌, ◌<◌, ◌≤◌, List, [], ◌∷◌, ◌++◌, length, get_or, ℤ, pos, negsuc, ◌<ℤ◌, refl, sym, ap, subst, ◌∙◌, inl, inr, arith}
+use Rattle.std.proofs.Common.{◌≡◌, ◌≢◌, ℕ, suc, ◌+◌, ◌<◌, ◌≤◌, List, [], ◌∷◌, ◌++◌, length, get_or, pos, ◌<ℤ◌, refl, sym, ap, subst, ◌∙◌, inl, inr, arith}
 use Rattle.std.specs.Prelude.{◌⊎◌}
 use Rattle.std.specs.List.{All, Contains}
-use Rattle.std.proofs.lemmas.Int.{ints}
 use Rattle.std.proofs.lemmas.Bool.{cases_eq}
 use Rattle.std.proofs.lemmas.List.{get_or_default, get_or_append_left, length_push}
 use Rattle.std.proofs.lemmas.List.Elements.{All-push, All-weaker, All-contains, All-contains_itself, Contains-append_left, Contains-push}
@@ -11,6 +10,7 @@ use Rattle.affc_farkas.specs.Eliminations.{combined, coefficient, IsAdded, IsNex
 use Rattle.affc_farkas.specs.declared.pair.Pair.{Pair}
 use Rattle.affc_bounded.proofs.Lists.{all_or_one, walk}
 use Rattle.affc_bounded.proofs.Mixes.{IsMixed, HasMixture, mixture}
+use Rattle.affc_bounded.proofs.Numbers.{le_itself, le_from_lt, above_or_not, below_or_not}
 
 -- the weights stand in the table at this number
 abbrev pub StandAt : List (List ℕ) → ℕ → List ℕ → Type 0
@@ -94,15 +94,6 @@ one_each l a r m n k h e f = omega arith
 not_that : (c k : ℕ) → c ≤ k → k ≢ c → suc c ≤ k
 not_that c k le ne = elim (cases_eq k c) [ inl e ↦ absurd (ne e) | inr d ↦ omega arith ]
 
-sign : (z : ℤ) → (pos 0 <ℤ z) ⊎ ((pos 0 <ℤ z) → ⊥)
-sign (pos zero) = inr (λ h. absurd (omega (arith, ints)))
-sign (pos (suc n)) = inl (omega (arith, ints))
-sign (negsuc n) = inr (λ h. absurd (omega (arith, ints)))
-
-below : (z : ℤ) → (z <ℤ pos 0) ⊎ ((z <ℤ pos 0) → ⊥)
-below (pos n) = inr (λ h. absurd (omega (arith, ints)))
-below (negsuc n) = inl (omega (arith, ints))
-
 -- ---- One pair more
 
 -- no row that was added is lost
@@ -157,11 +148,8 @@ module _ (columns : ℕ) (rows : List Affine) (column : ℕ) (inside : column < 
       }
 
   the_mixture : HasMixture columns rows column f g
-  the_mixture = mixture columns rows column f g (lt_le column columns inside)
+  the_mixture = mixture columns rows column f g (le_from_lt column columns inside)
       (All-contains (λ w. length w ≡ length rows) v.table f v.long f_in) (All-contains (λ w. length w ≡ length rows) v.table g v.long g_in) up down
-    where
-      lt_le : (a b : ℕ) → a < b → a ≤ b
-      lt_le a b h = omega arith
 
   pushed : All (λ q. q ≢ the_pair) v.made → Work columns rows column live
   pushed other =
@@ -178,7 +166,7 @@ module _ (columns : ℕ) (rows : List Affine) (column : ℕ) (inside : column < 
         table = table;
         added = added;
         is_table = more v.made v.table the_pair w v.is_table (is_next other) is_added;
-        later = All-push (λ q. (column ≤ q.column) × (q.column < columns)) v.made the_pair v.later (omega arith, inside);
+        later = All-push (λ q. (column ≤ q.column) × (q.column < columns)) v.made the_pair v.later (le_itself column, inside);
         long = All-push (λ ws. length ws ≡ length rows) v.table w v.long m.long;
         live_in = in_more v.table w live v.live_in;
         added_in = All-push (Contains table) v.added w (in_more v.table w v.added v.added_in) (Contains-push v.table w);
@@ -219,9 +207,9 @@ module _ (columns : ℕ) (rows : List Affine) (column : ℕ) (inside : column < 
 
 module _ (columns : ℕ) (rows : List Affine) (column : ℕ) (inside : column < columns) (live : List (List ℕ)) (zeros : (j : ℕ) → suc column ≤ j → j < columns → All (λ w. combined rows w j ≡ pos 0) live) where
   one_pair : (v : Work columns rows column live) (f g : List ℕ) → Contains live f → Contains live g → (w : Work columns rows column live) × Grows columns rows column live v w × IsDone columns rows column live w f g
-  one_pair v f g cf cg = elim (sign (combined rows f column)) [
+  one_pair v f g cf cg = elim (above_or_not (combined rows f column)) [
     | inr flat ↦ (v, (λ x d. d), (λ up down. absurd (flat up)))
-    | inl up ↦ elim (below (combined rows g column)) [
+    | inl up ↦ elim (below_or_not (combined rows g column)) [
       | inr flat ↦ (v, (λ x d. d), (λ u down. absurd (flat down)))
       | inl down ↦ a_pair columns rows column inside live zeros v f g cf cg up down
     ]

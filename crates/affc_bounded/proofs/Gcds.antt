@@ -5,6 +5,7 @@ use Rattle.std.specs.List.{All}
 use Rattle.std.specs.Int.{IsGcd}
 use Rattle.std.proofs.lemmas.List.Elements.{All-nil, All-cons, All-head, All-tail, All-weaker}
 use Rattle.std.proofs.lemmas.Nat.Gcd.{IsGcd-from_zero, IsGcd-from_mod, dvd_trans, dvd-zero}
+use Rattle.affc_bounded.proofs.Numbers.{le_itself}
 
 no_more : (b : ℕ) → b ≤ 0 → b ≡ 0
 no_more b h = omega arith
@@ -20,11 +21,8 @@ within (suc n) a (suc b) le =
     let r = within n (suc b) (a % suc b) (remainder a b n le) in
     (r.0, IsGcd-from_mod a (suc b) r.0 r.1)
 
-same_le : (n : ℕ) → n ≤ n
-same_le n = omega arith
-
 pub gcd_of : (a b : ℕ) → (g : ℕ) × IsGcd a b g
-gcd_of a b = within b a b (same_le b)
+gcd_of a b = within b a b (le_itself b)
 
 -- the number divides each of these, and each number that divides them all divides it
 abbrev pub IsGcdOf : List ℕ → ℕ → Type 0

@@ -2,7 +2,6 @@
 use Rattle.std.proofs.Common.{◌≡◌, ℕ, zero, suc, ◌+◌, ◌-◌, ◌<◌, ◌≤◌, List, [], ◌∷◌, ◌++◌, length, map, take, get_or, ℤ, pos, ◌<ℤ◌, refl, sym, ap, subst, ◌∙◌, inl, inr, arith}
 use Rattle.std.specs.Prelude.{◌⊎◌, ◌↔◌}
 use Rattle.std.specs.List.{All, Contains}
-use Rattle.std.proofs.lemmas.Int.{ints}
 use Rattle.std.proofs.lemmas.Bool.{cases_eq}
 use Rattle.std.proofs.lemmas.List.{length-append, length-set, length-replicate, get_or-map, map_push, take_more, take_all}
 use Rattle.std.proofs.lemmas.List.Elements.{All-nil, All-push, All-append, All-map, All-weaker, All-contains, All-contains_itself, Contains-append_left, Contains-append_right}
@@ -20,6 +19,7 @@ use Rattle.affc_bounded.proofs.Lists.{image_in, of_image, pick, ArePicked}
 use Rattle.affc_bounded.proofs.Sums.{sum_of, sum_wide, sum_entry, combined_own}
 use Rattle.affc_bounded.proofs.Mixes.{mixed_flat, mixed_zero}
 use Rattle.affc_bounded.proofs.Columns.{Work, IsBetween, IsMade, IsDone, all_pairs}
+use Rattle.affc_bounded.proofs.Numbers.{le_from_lt, one_more, zero_or_not}
 
 -- the rows with these weights
 abbrev pub rows_of : (columns : ℕ) → List Affine → List (List ℕ) → List Affine
@@ -40,8 +40,8 @@ pub record Left (columns : ℕ) (rows : List Affine) (first : ℕ) : Type 0 wher
 
 -- ---- All columns are left
 
-one_more : (m n : ℕ) → suc m ≤ n → (m < n) × (m ≤ n)
-one_more m n h = (omega arith, omega arith)
+still_there : (m n : ℕ) → suc m ≤ n → (m < n) × (m ≤ n)
+still_there m n h = (omega arith, omega arith)
 
 next_number : (m : ℕ) → m + 1 ≡ suc m
 next_number m = omega arith
@@ -55,7 +55,7 @@ own_row columns rows i d w lt =
 own_rows : (columns : ℕ) (rows : List Affine) (m : ℕ) → HaveColumns columns rows → m ≤ length rows → rows_of columns rows (owns (length rows) m) ≡ take m rows
 own_rows columns rows zero w le = refl
 own_rows columns rows (suc m) w le =
-    let h = one_more m (length rows) le in
+    let h = still_there m (length rows) le in
     let d = zero_row columns in
     map_push (sum_of columns rows) (owns (length rows) m) (own (length rows) m)
     ∙ ap (λ xs. xs ++ sum_of columns rows (own (length rows) m) ∷ []) (own_rows columns rows m w h.1)
@@ -94,16 +94,8 @@ all_left columns rows w =
 at_or_above : (c j : ℕ) → c ≤ j → (j ≡ c) ⊎ (suc c ≤ j)
 at_or_above c j le = elim (cases_eq j c) [ inl e ↦ inl e | inr ne ↦ inr (omega arith) ]
 
-earlier : (n c : ℕ) → n ≤ c → n ≤ suc c
-earlier n c h = omega arith
-
 sum_few : (f l a r m n : ℕ) → n ≡ f + a → f ≤ l → l + a ≤ r + m → n ≤ r + m
 sum_few f l a r m n e h k = omega arith
-
-flat_or_not : (z : ℤ) → (z ≡ pos 0) ⊎ (z ≡ pos 0 → ⊥)
-flat_or_not (pos zero) = inl refl
-flat_or_not (pos (suc n)) = inr (λ e. absurd (omega (arith, ints)))
-flat_or_not z = inr (λ e. absurd (omega (arith, ints)))
 
 -- the rows that are left of these, once pairs of all of them are made, are those that are 0 in the column and those that were added
 module _ (columns : ℕ) (rows : List Affine) (column : ℕ) (inside : column < columns) (live : List (List ℕ)) (zeros : (j : ℕ) → suc column ≤ j → j < columns → All (λ w. combined rows w j ≡ pos 0) live) (w : Work columns rows column live)
@@ -112,12 +104,9 @@ module _ (columns : ℕ) (rows : List Affine) (column : ℕ) (inside : column < 
   added_zeros j ge lt = All-weaker (IsBetween columns rows column live) (λ x. combined rows x j ≡ pos 0)
       (λ x b. elim (at_or_above column j ge) [
         | inl e ↦ ap (combined rows x) e ∙ mixed_flat columns rows column b.first b.second x inside b.mixed
-        | inr above ↦ mixed_zero columns rows column b.first b.second x j (lt_le j columns lt) b.mixed
+        | inr above ↦ mixed_zero columns rows column b.first b.second x j (le_from_lt j columns lt) b.mixed
             (All-contains (λ y. combined rows y j ≡ pos 0) live b.first (zeros j above lt) b.first_in) (All-contains (λ y. combined rows y j ≡ pos 0) live b.second (zeros j above lt) b.second_in)
       ]) w.added w.between
-    where
-      lt_le : (a b : ℕ) → a < b → a ≤ b
-      lt_le a b h = omega arith
 
   flat_zeros : (j : ℕ) → column ≤ j → j < columns → All (λ x. combined rows x j ≡ pos 0) flats
   flat_zeros j ge lt = All-weaker (λ x. Contains live x × (combined rows x column ≡ pos 0)) (λ x. combined rows x j ≡ pos 0)
@@ -130,10 +119,7 @@ module _ (columns : ℕ) (rows : List Affine) (column : ℕ) (inside : column < 
   new_zeros j ge lt = All-append (λ x. combined rows x j ≡ pos 0) flats w.added (flat_zeros j ge lt) (added_zeros j ge lt)
 
   entry : (x : List ℕ) → entry_of (sum_of columns rows x) column ≡ combined rows x column
-  entry x = sum_entry columns rows x column (lt_le column columns inside)
-    where
-      lt_le : (a b : ℕ) → a < b → a ≤ b
-      lt_le a b h = omega arith
+  entry x = sum_entry columns rows x column (le_from_lt column columns inside)
 
   in_new : (x : List ℕ) → Contains (flats ++ w.added) x → Contains (rows_of columns rows (flats ++ w.added)) (sum_of columns rows x)
   in_new x c = image_in (sum_of columns rows) (flats ++ w.added) x c
@@ -190,7 +176,7 @@ module _ (columns : ℕ) (rows : List Affine) (column : ℕ) (inside : column < 
     zeros = new_zeros;
     same_points = λ whole le.
         both_ways (ExtendsWhole columns (rows_of columns rows (flats ++ w.added)) whole) (ExtendsWhole columns (rows_of columns rows live) whole) (ExtendsWhole columns rows whole)
-        (step_points whole le) (same whole (earlier (length whole) column le));
+        (step_points whole le) (same whole (one_more (length whole) column le));
   }
 
 -- no pair is of the column yet
@@ -221,7 +207,7 @@ start columns rows column v = record {
 one_less : (columns : ℕ) (rows : List Affine) (column : ℕ) → column < columns → Left columns rows (suc column) → Left columns rows column
 one_less columns rows column inside v =
     let d = all_pairs columns rows column inside v.live v.zeros (start columns rows column v) in
-    let p = pick (λ x. combined rows x column ≡ pos 0) (λ x. flat_or_not (combined rows x column)) v.live in
+    let p = pick (λ x. combined rows x column ≡ pos 0) (λ x. zero_or_not (combined rows x column)) v.live in
     next_left columns rows column inside v.live v.zeros d.0 d.2 p.0 p.1 v.same_points
 
 -- ---- As many as are wanted

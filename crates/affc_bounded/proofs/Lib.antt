@@ -1,3 +1,4 @@
+pub mod Numbers
 pub mod Vecs
 pub mod Lists
 pub mod Gcds

@@ -3,6 +3,7 @@ use Rattle.std.proofs.Common.{◌≡◌, ℕ, zero, suc, ◌<◌, ◌≤◌, Lis
 use Rattle.std.specs.Prelude.{◌⊎◌}
 use Rattle.std.specs.List.{All, Contains}
 use Rattle.std.proofs.lemmas.List.Elements.{All-nil, All-cons, All-head, All-tail, All-weaker}
+use Rattle.affc_bounded.proofs.Numbers.{one_more, both_more}
 
 below_next : (k n : ℕ) → k < n → suc k < suc n
 below_next k n h = omega arith
@@ -61,7 +62,7 @@ pick {X} P decide (x ∷ xs) =
         record {
           each = All-cons (λ y. Contains (x ∷ xs) y × P y) x r.0 (at_first x xs, here) each;
           all = All-cons (λ y. P y → Contains (x ∷ r.0) y) x xs (λ h. at_first x r.0) (All-weaker (λ y. P y → Contains r.0 y) (λ y. P y → Contains (x ∷ r.0) y) (λ y f h. at_later x y r.0 (f h)) xs r.1.all);
-          few = one_more (length r.0) (length xs) r.1.few;
+          few = both_more (length r.0) (length xs) r.1.few;
         },
       )
       | inr none ↦ (
@@ -69,16 +70,10 @@ pick {X} P decide (x ∷ xs) =
         record {
           each = each;
           all = All-cons (λ y. P y → Contains r.0 y) x xs (λ h. absurd (none h)) r.1.all;
-          few = still (length r.0) (length xs) r.1.few;
+          few = one_more (length r.0) (length xs) r.1.few;
         },
       )
     ]
-  where
-    one_more : (n m : ℕ) → n ≤ m → suc n ≤ suc m
-    one_more n m h = omega arith
-
-    still : (n m : ℕ) → n ≤ m → n ≤ suc m
-    still n m h = omega arith
 
 -- a property that each element has or not: all have it, or some one hasn't
 pub all_or_one : {X : Type 0} (P Q : X → Type 0) → ((x : X) → P x ⊎ Q x) → (xs : List X) → All P xs ⊎ ((x : X) × Contains xs x × Q x)

@@ -12,6 +12,7 @@ use Rattle.affc_eliminate.specs.Laws.{IsCombination}
 use Rattle.affc_eliminate.proofs.Exactness.{factor_of_zero, combination_flat}
 use Rattle.affc_bounded.proofs.Divisors.{factors, divided}
 use Rattle.affc_bounded.proofs.Sums.{sum_of, sum_wide, sum_entry, combined_mixed, combined_multiplied}
+use Rattle.affc_bounded.proofs.Numbers.{le_from_lt}
 
 -- the row with the last weights is the combination of the rows with the first two
 abbrev pub IsMixed : (columns : ℕ) → List Affine → (column : ℕ) → (f g w : List ℕ) → Type 0
@@ -69,15 +70,12 @@ mixture columns rows column f g le lf lg up down =
 
 -- ---- Where it is 0
 
-lt_le : (a b : ℕ) → a < b → a ≤ b
-lt_le a b h = omega arith
-
 two_nothings : (s t : ℤ) → (s *ℤ pos 0) +ℤ (t *ℤ pos 0) ≡ pos 0
 two_nothings s t = omega (arith, ints, *ℤ-zero s, *ℤ-zero t)
 
 pub mixed_flat : (columns : ℕ) (rows : List Affine) (column : ℕ) (f g w : List ℕ) → column < columns → IsMixed columns rows column f g w → combined rows w column ≡ pos 0
 mixed_flat columns rows column f g w lt h =
-    let le = lt_le column columns lt in
+    let le = le_from_lt column columns lt in
     sym (sum_entry columns rows w column le)
     ∙ combination_flat column (sum_of columns rows f) (sum_of columns rows g) (sum_of columns rows w) (subst (λ n. column ≤ n) (sym (sum_wide columns rows f)) le) h
 

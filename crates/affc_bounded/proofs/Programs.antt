@@ -29,6 +29,7 @@ use Rattle.affc_scanned.proofs.Rows.{is_own}
 use Rattle.affc_bounded.specs.Laws.{ProgramsScan}
 use Rattle.affc_bounded.proofs.Bounded.{columns_have_bounds}
 use Rattle.affc_bounded.proofs.Vecs.{vec_of}
+use Rattle.affc_bounded.proofs.Numbers.{one_more, both_more}
 
 -- ---- One statement
 
@@ -65,12 +66,6 @@ bounds_of_each program ranges (e ∷ es) =
     (b.0 ∷ bs.0, (b.1, bs.1))
 
 -- ---- The loose components are few
-
-one_more : (n m : ℕ) → n ≤ m → n ≤ suc m
-one_more n m h = omega arith
-
-both_more : (n m : ℕ) → n ≤ m → suc n ≤ suc m
-both_more n m h = omega arith
 
 few_from : (statement component : ℕ) (bs : List Bounds) → length (loose_from statement component bs) ≤ length bs
 few_from statement component [] = omega arith

@@ -24,6 +24,7 @@ use Rattle.affc_bounded.proofs.Lists.{at_first, at_later, of_image}
 use Rattle.affc_bounded.proofs.Sums.{sum_of, sum_wide, sum_entry}
 use Rattle.affc_bounded.proofs.Columns.{stands}
 use Rattle.affc_bounded.proofs.Left.{rows_of, Left, left_at}
+use Rattle.affc_bounded.proofs.Numbers.{le_itself, le_from_lt, one_more, both_more}
 
 -- ---- Least terms
 
@@ -82,9 +83,6 @@ skip_one keep k live blank r =
       };
       few = one_more (length r.reduced) (length live) r.few;
     }
-  where
-    one_more : (n m : ℕ) → n ≤ m → n ≤ suc m
-    one_more n m h = omega arith
 
 keep_one : (keep : ℕ) (k : Kept) (live : List Kept) (f : Affine) → IsLeast keep k.row f → Reduction keep live → Reduction keep (k ∷ live)
 keep_one keep k live f h r =
@@ -96,12 +94,9 @@ keep_one keep k live f h r =
         from = All-cons (In (k ∷ live)) f r.reduced (k, at_first k live, h) (All-weaker (In live) (In (k ∷ live)) (λ g c. (c.0, at_later k c.0 live c.1, c.2)) r.reduced r.are.from);
         into = All-cons (Out (f ∷ r.reduced)) k live (inr (f, at_first f r.reduced, h)) (All-weaker (Out r.reduced) (Out (f ∷ r.reduced)) (λ q o. grown q o) live r.are.into);
       };
-      few = one_more (length r.reduced) (length live) r.few;
+      few = both_more (length r.reduced) (length live) r.few;
     }
   where
-    one_more : (n m : ℕ) → n ≤ m → suc n ≤ suc m
-    one_more n m h = omega arith
-
     grown : (q : Kept) → IsBlank keep q.row ⊎ ((g : Affine) × Contains r.reduced g × IsLeast keep q.row g) → IsBlank keep q.row ⊎ ((g : Affine) × Contains (f ∷ r.reduced) g × IsLeast keep q.row g)
     grown q (inl blank) = inl blank
     grown q (inr c) = inr (c.0, at_later f c.0 r.reduced c.1, c.2)
@@ -131,9 +126,6 @@ row_with columns rows w = record { row = sum_of columns rows w; from = []; numbe
 same_forms : (columns : ℕ) (rows : List Affine) (live : List (List ℕ)) → forms_of (map (row_with columns rows) live) ≡ rows_of columns rows live
 same_forms columns rows [] = refl
 same_forms columns rows (w ∷ live) = ap (λ fs. sum_of columns rows w ∷ fs) (same_forms columns rows live)
-
-le_itself : (n : ℕ) → n ≤ n
-le_itself n = omega arith
 
 weaker : (j n k : ℕ) → j < n → n ≤ k → j ≤ k
 weaker j n k h le = omega arith
@@ -165,7 +157,7 @@ projection_of columns rows keep le v =
     let wide : All (λ k. length k.row.coefs ≡ columns) ks = All-map (λ k. length k.row.coefs ≡ columns) (row_with columns rows) v.live (λ i d lt. sum_wide columns rows (get_or v.live i d)) in
     let r = reduce keep ks (All-weaker (λ k. length k.row.coefs ≡ columns) (λ k. keep ≤ length k.row.coefs) (λ k e. subst (λ n. keep ≤ n) (sym e) le) ks wide) in
     let zeros : (j : ℕ) → keep ≤ j → j < columns → AreZero j ks = λ j ge lt. All-map (λ k. entry_of k.row j ≡ pos 0) (row_with columns rows) v.live
-    (All-weaker (λ w. combined rows w j ≡ pos 0) (λ w. entry_of (sum_of columns rows w) j ≡ pos 0) (λ w e. sum_entry columns rows w j (weaker j columns columns lt (le_itself columns)) ∙ e) v.live (v.zeros j ge lt)) in
+    (All-weaker (λ w. combined rows w j ≡ pos 0) (λ w. entry_of (sum_of columns rows w) j ≡ pos 0) (λ w e. sum_entry columns rows w j (le_from_lt j columns lt) ∙ e) v.live (v.zeros j ge lt)) in
     record {
       made = v.made;
       projected = r.reduced;
