@@ -35,6 +35,7 @@ use Rattle.affc_driver.proofs.Ranked.{reads_naming_arrays}
 use Rattle.affc_replay.specs.Folds.{scalars_from, AreEmptyFolds, AreAll}
 use Rattle.affc_replay.specs.Laws.{IsValid, ValidIsReplayed, ValidIsNotRefused}
 use Rattle.affc_replay.specs.Refusals.{HasAcceptFault}
+use Rattle.affc_replay.specs.Replays.{ReplaysTo}
 use Rattle.affc_replay.specs.declared.refusal.Refusal.TheVariants.{Source, Printed, Schedule, IteratorRange, Certificate, Check, Memory}
 use Rattle.affc_replay.proofs.Decided.{reads_temporaries, decided, replays_to}
 use Rattle.affc_replay.proofs.Plans.{accepted_too}
