@@ -1,9 +1,15 @@
-//! Questions that are rows behind those of a system, and whether proofs show that they have no integer point.
+//! Questions in product form, and whether proofs show that they have no integer point.
 #![tactic(auto)]
 
-pub mod behind;
-mod leaf;
+pub mod block;
+mod chosen;
+mod copies;
+pub mod product;
 pub mod question;
+pub mod step;
+mod walk;
 
-pub use behind::Behind;
+pub use block::Block;
+pub use product::product_fits;
 pub use question::is_proof;
+pub use step::Step;

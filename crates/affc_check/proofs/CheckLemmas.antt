@@ -1,16 +1,21 @@
 -- Items and their proofs, one after the other.
-use Rattle.std.proofs.Common.{◌≡◌, ℕ, zero, suc, ◌+◌, ◌-◌, ◌<◌, ◌≤◌, List, [], ◌∷◌, length, map, drop, get_or, Some, sym, ap, subst, arith, ◌∙◌}
+use Rattle.std.proofs.Common.{◌≡◌, ℕ, zero, suc, ◌+◌, ◌<◌, ◌≤◌, List, [], ◌∷◌, ◌++◌, length, map, flat_map, drop, get_or, Some, refl, sym, ap, subst, arith, ◌∙◌}
 use Rattle.std.specs.Prelude.{slice_get}
 use Rattle.std.specs.List.{All}
 use Rattle.affc_rows.specs.Forms.{Affine}
 use Rattle.affc_system.specs.Systems.{Rows, IsRow}
 use Rattle.affc_farkas.specs.declared.proof.Proof.{Proof}
-use Rattle.affc_behind.specs.Parts.{IsProof}
-use Rattle.affc_check.specs.Answers.{FailsAtQuestion, FailsAtPoint}
+use Rattle.std.proofs.lemmas.List.Elements.{All-head, All-tail}
+use Rattle.affc_behind.specs.Parts.{IsWithin, IsProof}
+use Rattle.affc_behind.specs.Blocks.{AreProved, FailsAt, block_questions}
+use Rattle.affc_behind.specs.declared.block.Block.{Block}
+use Rattle.affc_behind.proofs.ChoiceLemmas.{kept_within}
+use Rattle.affc_items.specs.Held.{listed_said}
+use Rattle.affc_items.specs.declared.item.Listed.{Listed}
+use Rattle.affc_check.specs.Answers.{FailsAtQuestion}
 use Rattle.affc_items.specs.Items.{Item, Question, Shown}
-use Rattle.affc_check.specs.Steps.{Passes, Fails, fault_said}
+use Rattle.affc_check.specs.Steps.{Leaves}
 use Rattle.affc_check.specs.Valid.{IsProved, AreValid, FailsFirst}
-use Rattle.affc_check.specs.declared.fault.CheckFault.TheVariants as fault
 
 -- ---- One proof
 
@@ -21,60 +26,119 @@ is_proved q p rows e fit columns h = record { columns = columns; rows = subst (A
 pub is_proof : (q : Rows) (p : Proof) → IsProved q p → IsProof q p
 is_proof q p h = record { valid = h.valid; few = h.few }
 
--- ---- One item
+-- ---- Items that hold, and others behind them
 
-pub valid_next : (i : Item) (is : List Item) (proofs rest : List Proof) → Passes i proofs rest → AreValid is rest → AreValid (i ∷ is) proofs
-valid_next (Question system) is [] rest h v = absurd h
-valid_next (Question system) is (p ∷ ps) rest h v = (h.0, subst (AreValid is) h.1 v)
-valid_next (Shown system point) is proofs rest h v = (h.0, subst (AreValid is) h.1 v)
+pub valid_behind : (is js : List Item) (proofs rest : List Proof) → Leaves is proofs rest → AreValid js rest → AreValid (is ++ js) proofs
+valid_behind [] js proofs rest h v = subst (AreValid js) h v
+valid_behind (Question system ∷ is) js [] rest h v = absurd h
+valid_behind (Question system ∷ is) js (p ∷ ps) rest h v = (h.0, valid_behind is js ps rest h.1 v)
+valid_behind (Shown system point ∷ is) js proofs rest h v = (h.0, valid_behind is js proofs rest h.1 v)
 
-pub fails_next : (i : Item) (is : List Item) (proofs rest : List Proof) (n : ℕ) → Passes i proofs rest → FailsFirst is rest n → FailsFirst (i ∷ is) proofs (suc n)
-fails_next (Question system) is [] rest n h f = absurd h
-fails_next (Question system) is (p ∷ ps) rest n h f = (h.0, subst (λ ps. FailsFirst is ps n) h.1 f)
-fails_next (Shown system point) is proofs rest n h f = (h.0, subst (λ ps. FailsFirst is ps n) h.1 f)
+pub fails_behind : (is js : List Item) (proofs rest : List Proof) (n m : ℕ) → m ≡ length is + n → Leaves is proofs rest → FailsFirst js rest n → FailsFirst (is ++ js) proofs m
+fails_behind [] js proofs rest n m e h f = let same : n ≡ m = omega (arith, e) in subst (λ ps. FailsFirst js ps m) h (subst (FailsFirst js rest) same f)
+fails_behind (Question system ∷ is) js [] rest n m e h f = absurd h
+fails_behind (Question system ∷ is) js (p ∷ ps) rest n zero e h f = absurd (omega (arith, e))
+fails_behind (Question system ∷ is) js (p ∷ ps) rest n (suc m) e h f = (h.0, fails_behind is js ps rest n m (omega (arith, e)) h.1 f)
+fails_behind (Shown system point ∷ is) js proofs rest n zero e h f = absurd (omega (arith, e))
+fails_behind (Shown system point ∷ is) js proofs rest n (suc m) e h f = (h.0, fails_behind is js proofs rest n m (omega (arith, e)) h.1 f)
 
-pub fails_here : (i : Item) (is : List Item) (proofs : List Proof) → Fails i proofs → FailsFirst (i ∷ is) proofs 0
-fails_here (Question system) is [] h = tt
-fails_here (Question system) is (p ∷ ps) h = h
-fails_here (Shown system point) is proofs h = h
+pub fails_inside : (is js : List Item) (proofs : List Proof) (n : ℕ) → FailsFirst is proofs n → FailsFirst (is ++ js) proofs n
+fails_inside [] js proofs n f = absurd f
+fails_inside (Question system ∷ is) js [] zero f = tt
+fails_inside (Question system ∷ is) js [] (suc n) f = absurd f
+fails_inside (Question system ∷ is) js (p ∷ ps) zero f = f
+fails_inside (Question system ∷ is) js (p ∷ ps) (suc n) f = (f.0, fails_inside is js ps n f.1)
+fails_inside (Shown system point ∷ is) js proofs zero f = f
+fails_inside (Shown system point ∷ is) js proofs (suc n) f = (f.0, fails_inside is js proofs n f.1)
 
--- ---- The item at which the loop stands
+pub get_inside : {A : Type 0} (xs ys : List A) (n : ℕ) (x : A) → slice_get xs n ≡ Some x → slice_get (xs ++ ys) n ≡ Some x
+get_inside [] ys n x e = absurd (cc)
+get_inside (y ∷ xs) ys zero x e = e
+get_inside (y ∷ xs) ys (suc n) x e = get_inside xs ys n x e
+
+-- ---- Questions
+
+-- a question within the limits
+proved_within : (q : Rows) (p : Proof) → IsWithin q → IsProof q p → IsProved q p
+proved_within q p w h = record { columns = w.columns; rows = w.rows; valid = h.valid; few = h.few }
+
+pub questions_leave : (qs : List Rows) (proofs rest : List Proof) → All IsWithin qs → AreProved qs proofs rest → Leaves (map Question qs) proofs rest
+questions_leave [] proofs rest w h = h
+questions_leave (q ∷ qs) [] rest w h = absurd h
+questions_leave (q ∷ qs) (p ∷ ps) rest w h = (proved_within q p (All-head IsWithin q qs w) h.0, questions_leave qs ps rest (All-tail IsWithin q qs w) h.1)
+
+pub questions_fail : (qs : List Rows) (proofs : List Proof) (n : ℕ) → All IsWithin qs → FailsAt qs proofs n → FailsFirst (map Question qs) proofs n
+questions_fail [] proofs n w h = absurd h
+questions_fail (q ∷ qs) [] zero w h = tt
+questions_fail (q ∷ qs) [] (suc n) w h = absurd h
+questions_fail (q ∷ qs) (p ∷ ps) zero w h = λ k. h (is_proof q p k)
+questions_fail (q ∷ qs) (p ∷ ps) (suc n) w h = (proved_within q p (All-head IsWithin q qs w) h.0, questions_fail qs ps n (All-tail IsWithin q qs w) h.1)
+
+-- the one that fails is there
+pub question_there : (qs : List Rows) (proofs : List Proof) (n : ℕ) → FailsAt qs proofs n → (q : Rows) × (slice_get (map Question qs) n ≡ Some (Question q))
+question_there [] proofs n h = absurd h
+question_there (q ∷ qs) [] zero h = (q, refl)
+question_there (q ∷ qs) [] (suc n) h = absurd h
+question_there (q ∷ qs) (p ∷ ps) zero h = (q, refl)
+question_there (q ∷ qs) (p ∷ ps) (suc n) h = question_there qs ps n h.1
+
+-- each takes one proof
+pub proofs_taken : (qs : List Rows) (proofs rest : List Proof) → Leaves (map Question qs) proofs rest → length proofs ≡ length (map Question qs) + length rest
+proofs_taken [] proofs rest h = let e = ap length h in omega (arith, e)
+proofs_taken (q ∷ qs) [] rest h = absurd h
+proofs_taken (q ∷ qs) (p ∷ ps) rest h = let e = proofs_taken qs ps rest h.1 in omega (arith, e)
+
+-- ---- What is listed where the loop stands
 
 pub at_front : {A : Type 0} (xs : List A) (i : ℕ) (x : A) → i < length xs → x ≡ get_or xs i x → drop i xs ≡ x ∷ drop (suc i) xs
 at_front [] i x h e = absurd (omega (arith, h))
 at_front (y ∷ ys) zero x h e = ap (λ z. z ∷ ys) (sym e)
 at_front (y ∷ ys) (suc i) x h e = at_front ys i x (omega (arith, h)) e
 
-pub mapped_at : {A B : Type 0} (f : A → B) (xs : List A) (i : ℕ) (x : A) → i < length xs → x ≡ get_or xs i x → slice_get (map f xs) i ≡ Some (f x)
-mapped_at f [] i x h e = absurd (omega (arith, h))
-mapped_at f (y ∷ ys) zero x h e = ap (λ z. Some (f z)) (sym e)
-mapped_at f (y ∷ ys) (suc i) x h e = mapped_at f ys i x (omega (arith, h)) e
+pub front_of : {A B : Type 0} (f : A → List B) (xs : List A) (i : ℕ) (x : A) → i < length xs → x ≡ get_or xs i x → flat_map f (drop i xs) ≡ f x ++ flat_map f (drop (i + 1) xs)
+front_of f xs i x h e = let s : suc i ≡ i + 1 = omega arith in ap (flat_map f) (at_front xs i x h e ∙ ap (λ k. x ∷ drop k xs) s)
 
--- the items from the number on are the item there and those from the next one on
-front_of : {A B : Type 0} (f : A → B) (xs : List A) (i : ℕ) (x : A) → i < length xs → x ≡ get_or xs i x → map f (drop i xs) ≡ f x ∷ map f (drop (i + 1) xs)
-front_of f xs i x h e = let s : suc i ≡ i + 1 = omega arith in ap (map f) (at_front xs i x h e ∙ ap (λ k. x ∷ drop k xs) s)
+pub get_behind : {A : Type 0} (xs ys : List A) (n m : ℕ) (x : A) → m ≡ length xs + n → slice_get ys n ≡ Some x → slice_get (xs ++ ys) m ≡ Some x
+get_behind [] ys n m x e h = let same : n ≡ m = omega (arith, e) in subst (λ k. slice_get ys k ≡ Some x) same h
+get_behind (y ∷ xs) ys n zero x e h = absurd (omega (arith, e))
+get_behind (y ∷ xs) ys n (suc m) x e h = get_behind xs ys n m x (omega (arith, e)) h
 
-pub valid_from : {A : Type 0} (f : A → Item) (xs : List A) (i : ℕ) (x : A) (proofs rest : List Proof) → i < length xs → x ≡ get_or xs i x → Passes (f x) proofs rest
-    → AreValid (map f (drop (i + 1) xs)) rest → AreValid (map f (drop i xs)) proofs
-valid_from f xs i x proofs rest h e p v = subst (λ is. AreValid is proofs) (sym (front_of f xs i x h e)) (valid_next (f x) (map f (drop (i + 1) xs)) proofs rest p v)
+-- ---- One question, and those of a block
 
-pub fails_from : {A : Type 0} (f : A → Item) (xs : List A) (i : ℕ) (x : A) (proofs rest : List Proof) (n : ℕ) → i < length xs → x ≡ get_or xs i x → Passes (f x) proofs rest
-    → FailsFirst (map f (drop (i + 1) xs)) rest n → FailsFirst (map f (drop i xs)) proofs (suc n)
-fails_from f xs i x proofs rest n h e p v = subst (λ is. FailsFirst is proofs (suc n)) (sym (front_of f xs i x h e)) (fails_next (f x) (map f (drop (i + 1) xs)) proofs rest n p v)
+pub fails_without : (q : Rows) (proofs : List Proof) (n : ℕ) → proofs ≡ [] → 0 ≡ n → FailsAtQuestion (Question q ∷ []) proofs n
+fails_without q proofs n e z = subst (FailsAtQuestion (Question q ∷ []) proofs) z (record { first = subst (λ ps. FailsFirst (Question q ∷ []) ps 0) (sym e) tt; system = q; question = refl })
 
-pub fails_at : {A : Type 0} (f : A → Item) (xs : List A) (i : ℕ) (x : A) (proofs : List Proof) → i < length xs → x ≡ get_or xs i x → Fails (f x) proofs
-    → FailsFirst (map f (drop i xs)) proofs 0
-fails_at f xs i x proofs h e p = subst (λ is. FailsFirst is proofs 0) (sym (front_of f xs i x h e)) (fails_here (f x) (map f (drop (i + 1) xs)) proofs p)
+pub fails_with : (q : Rows) (p : Proof) (proofs rest : List Proof) (n : ℕ) → proofs ≡ p ∷ rest → ¬ (IsProved q p) → 0 ≡ n → FailsAtQuestion (Question q ∷ []) proofs n
+fails_with q p proofs rest n e h z = subst (FailsAtQuestion (Question q ∷ []) proofs) z (record { first = subst (λ ps. FailsFirst (Question q ∷ []) ps 0) (sym e) h; system = q; question = refl })
 
--- the fault names the item's kind
-pub at_question : (is : List Item) (proofs : List Proof) (k n : ℕ) (i : Item) → slice_get is k ≡ Some i → FailsFirst is proofs k → fault_said i k ≡ fault.Proof n → FailsAtQuestion is proofs n
-at_question is proofs k n (Question system) there f e =
-    let same : k ≡ n = cc in
-    record { first = subst (FailsFirst is proofs) same f; system = system; question = subst (λ m. slice_get is m ≡ Some (Question system)) same there }
-at_question is proofs k n (Shown system point) there f e = absurd (cc)
+pub block_within : (b : Block) → All IsWithin (block_questions b)
+block_within b = kept_within b.columns b.front.now b.factors.now b.tails (b.few_columns, b.front_fits, b.factors_fit, b.tails_fit, b.room)
 
-pub at_point : (is : List Item) (proofs : List Proof) (k n : ℕ) (i : Item) → slice_get is k ≡ Some i → FailsFirst is proofs k → fault_said i k ≡ fault.Shown n → FailsAtPoint is proofs n
-at_point is proofs k n (Question system) there f e = absurd (cc)
-at_point is proofs k n (Shown system point) there f e =
-    let same : k ≡ n = cc in
-    record { first = subst (FailsFirst is proofs) same f; system = system; point = point; shown = subst (λ m. slice_get is m ≡ Some (Shown system point)) same there }
+pub block_fails : (b : Block) (proofs : List Proof) (k n : ℕ) → FailsAt (block_questions b) proofs k → k ≡ n → FailsAtQuestion (map Question (block_questions b)) proofs n
+block_fails b proofs k n h e =
+    let qs = block_questions b in
+    let there = question_there qs proofs k h in
+    subst (FailsAtQuestion (map Question qs) proofs) e (record { first = questions_fail qs proofs k (block_within b) h; system = there.0; question = there.1 })
+
+-- ---- An item of what is listed where the loop stands
+
+module _ (xs : List Listed) (i : ℕ) (x : Listed) (within : i < length xs) (is : x ≡ get_or xs i x) (proofs : List Proof) where
+  pub valid_from : (rest : List Proof) → Leaves (listed_said x) proofs rest → AreValid (flat_map listed_said (drop (i + 1) xs)) rest → AreValid (flat_map listed_said (drop i xs)) proofs
+  valid_from rest h v = subst (λ is. AreValid is proofs) (sym (front_of listed_said xs i x within is)) (valid_behind (listed_said x) (flat_map listed_said (drop (i + 1) xs)) proofs rest h v)
+
+  pub fails_from : (rest : List Proof) (n m : ℕ) → m ≡ length (listed_said x) + n → Leaves (listed_said x) proofs rest → FailsFirst (flat_map listed_said (drop (i + 1) xs)) rest n
+      → FailsFirst (flat_map listed_said (drop i xs)) proofs m
+  fails_from rest n m e h f =
+      subst (λ is. FailsFirst is proofs m) (sym (front_of listed_said xs i x within is)) (fails_behind (listed_said x) (flat_map listed_said (drop (i + 1) xs)) proofs rest n m e h f)
+
+  pub there_from : (n m : ℕ) (y : Item) → m ≡ length (listed_said x) + n → slice_get (flat_map listed_said (drop (i + 1) xs)) n ≡ Some y → slice_get (flat_map listed_said (drop i xs)) m ≡ Some y
+  there_from n m y e h = ap (λ is. slice_get is m) (front_of listed_said xs i x within is) ∙ get_behind (listed_said x) (flat_map listed_said (drop (i + 1) xs)) n m y e h
+
+  pub fails_here : (n : ℕ) → FailsFirst (listed_said x) proofs n → FailsFirst (flat_map listed_said (drop i xs)) proofs n
+  fails_here n f = subst (λ is. FailsFirst is proofs n) (sym (front_of listed_said xs i x within is)) (fails_inside (listed_said x) (flat_map listed_said (drop (i + 1) xs)) proofs n f)
+
+  pub there_here : (n : ℕ) (y : Item) → slice_get (listed_said x) n ≡ Some y → slice_get (flat_map listed_said (drop i xs)) n ≡ Some y
+  there_here n y h = ap (λ is. slice_get is n) (front_of listed_said xs i x within is) ∙ get_inside (listed_said x) (flat_map listed_said (drop (i + 1) xs)) n y h
+
+pub next_number : (number count now n length : ℕ) → now ≡ number + count → count ≡ length → number + (length + n) ≡ now + n
+next_number number count now n length e f = omega (arith, e, f)

@@ -1,24 +1,32 @@
--- What one item asks of the proofs from its own on.
+-- Items that hold by the first of the proofs.
 use Rattle.std.specs.Prelude.{◌≡◌, ℕ, List, [], ◌∷◌}
 use Rattle.affc_system.specs.Systems.{IsPoint}
 use Rattle.affc_farkas.specs.declared.proof.Proof.{Proof}
 use Rattle.affc_items.specs.Items.{Item, Question, Shown}
 use Rattle.affc_check.specs.Valid.{IsProved}
-use Rattle.affc_check.specs.declared.fault.CheckFault.{CheckFault}
-use Rattle.affc_check.specs.declared.fault.CheckFault.TheVariants as fault
+use Rattle.affc_check.specs.declared.checks.Outcome.{Outcome}
+use Rattle.affc_check.specs.declared.checks.Outcome.TheVariants.{Holds, Unproved, Unmet}
 
--- the item holds by these proofs, of which it leaves the rest
-abbrev pub Passes : Item → (proofs rest : List Proof) → Type 0
-Passes (Question system) [] rest = ⊥
-Passes (Question system) (p ∷ ps) rest = IsProved system p × (rest ≡ ps)
-Passes (Shown system point) proofs rest = IsPoint system point × (rest ≡ proofs)
+-- the items hold by these proofs, of which they leave the rest
+abbrev pub Leaves : List Item → (proofs rest : List Proof) → Type 0
+Leaves [] proofs rest = rest ≡ proofs
+Leaves (Shown system point ∷ is) proofs rest = IsPoint system point × Leaves is proofs rest
+Leaves (Question system ∷ is) [] rest = ⊥
+Leaves (Question system ∷ is) (p ∷ ps) rest = IsProved system p × Leaves is ps rest
 
-abbrev pub Fails : Item → List Proof → Type 0
-Fails (Question system) [] = Unit {0}
-Fails (Question system) (p ∷ ps) = ¬ (IsProved system p)
-Fails (Shown system point) proofs = ¬ (IsPoint system point)
+-- ---- Outcomes
 
--- what is said where the item with this number is the first that fails
-abbrev pub fault_said : Item → ℕ → CheckFault
-fault_said (Question system) n = fault.Proof n
-fault_said (Shown system point) n = fault.Shown n
+abbrev pub IsHolding : Outcome → List Proof → Type 0
+IsHolding (Holds left) rest = left.now ≡ rest
+IsHolding (Unproved n) rest = ⊥
+IsHolding (Unmet n) rest = ⊥
+
+abbrev pub IsUnproved : Outcome → ℕ → Type 0
+IsUnproved (Holds left) n = ⊥
+IsUnproved (Unproved number) n = number ≡ n
+IsUnproved (Unmet number) n = ⊥
+
+abbrev pub IsUnmet : Outcome → ℕ → Type 0
+IsUnmet (Holds left) n = ⊥
+IsUnmet (Unproved number) n = ⊥
+IsUnmet (Unmet number) n = number ≡ n

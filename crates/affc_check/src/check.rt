@@ -12,7 +12,7 @@ use crate::made::add_made;
 use affc_ast::tree::ArrayId;
 use affc_basis::Fold;
 use affc_cert::Cert;
-use affc_items::{Item, PartStop, all_items, list_all, systems_of};
+use affc_items::{Item, PartStop, all_items, groups_of, list_all, systems_of};
 use affc_nest::Nest;
 use affc_trace::schedule::Schedule;
 use std::alloc::Global;
@@ -62,12 +62,14 @@ pub fn check_all(
 {
     let systems = systems_of(alloc, nest, schedule, cert)?;
     let systems = systems.as_slice();
-    let listed = match list_all(alloc, nest, schedule, cert, systems) {
+    let groups = groups_of(alloc, nest, schedule, cert)?;
+    let groups = groups.as_slice();
+    let listed = match list_all(alloc, nest, schedule, cert, systems, groups) {
         Ok(listed) => listed,
         Err(PartStop::Part(part)) => return Err(CheckFault::Number(part)),
         Err(PartStop::Memory) => return Err(CheckFault::Memory),
     };
-    check_listed(listed.as_slice(), cert.proofs.as_slice())?;
+    check_listed(alloc, listed.as_slice(), cert.proofs.as_slice())?;
     let mut folds = Vec::new(alloc);
     let said = cert.folds.as_slice();
     add_made(alloc, nest, said, systems, &mut folds)?;

@@ -1,18 +1,20 @@
 //! Items and their proofs, one after the other.
-ghost use Rattle.std.specs.Prelude.{◌↔◌, ℕ, IfOk, IfErr, IfSome, IfNone, IsTrue, OnOk, ◌≡◌, ◌≢◌, map};
+ghost use Rattle.std.specs.Prelude.{◌↔◌, ℕ, List, [], ◌∷◌, ◌+◌, length, IfOk, IfErr, IsTrue, OnOk, ◌≡◌, ◌≢◌, map, flat_map};
+ghost use Rattle.affc_farkas.specs.declared.proof.Proof.{Proof};
 ghost use Rattle.affc_system.specs.Systems.{IsPoint};
-ghost use Rattle.affc_behind.specs.Parts.{behind};
+ghost use Rattle.affc_behind.specs.Blocks.{block_questions};
 ghost use Rattle.affc_check.specs.Answers.{FailsAtQuestion, FailsAtPoint};
 ghost use Rattle.affc_items.specs.Held.{listed_said};
-ghost use Rattle.affc_check.specs.Steps.{Passes, Fails, fault_said};
+ghost use Rattle.affc_items.specs.Items.{Question};
+ghost use Rattle.affc_check.specs.Steps.{Leaves, IsHolding, IsUnproved, IsUnmet};
 ghost use Rattle.affc_check.specs.Valid.{IsProved, AreValid};
 
 use crate::fault::CheckFault;
-use affc_behind::{Behind, is_proof};
+use affc_behind::{Block, Step, is_proof};
 use affc_farkas::Proof;
 use affc_items::{Item, Listed, Point};
 use affc_system::System;
-use std::alloc::AllocError;
+use std::alloc::{AllocError, Global};
 
 /// Whether a proof is one of a question.
 fn is_proved(question: &System, proof: &Proof) -> bool
@@ -23,13 +25,6 @@ fn is_proved(question: &System, proof: &Proof) -> bool
     is_proof(question, proof)
 }
 
-/// Whether a proof is one of a question that shares its rows.
-fn is_proved_over(over: &Behind<'_>, proof: &Proof) -> Result<bool, AllocError>
-    ensures { IfOk result (λ b. IsTrue b ↔ IsProved (behind over.now.front.now over.now.more) proof.now) }
-{
-    over.is_proved(proof)
-}
-
 /// Whether a point is one of its system.
 fn is_shown(shown: &Point) -> bool
     ensures { IsTrue result ↔ IsPoint shown.now.system shown.now.point }
@@ -37,66 +32,116 @@ fn is_shown(shown: &Point) -> bool
     shown.system.holds_at(shown.point.as_slice())
 }
 
-/// The proofs that are left behind an item, unless it fails.
-fn after<'a>(item: &Listed<'_>, proofs: &'a [Proof]) -> Result<Option<&'a [Proof]>, AllocError>
-    ensures passes { IfOk result (λ left. IfSome left (λ rest. Passes (listed_said item.now) proofs.now rest.now)) }
-    ensures fails { IfOk result (λ left. IfNone left (Fails (listed_said item.now) proofs.now)) }
+/// What looking at what is listed came to.
+#[derive(Clone, Copy, Drop)]
+enum Outcome<'p> {
+    /// All of it holds, and these proofs are left.
+    Holds(&'p [Proof]),
+    /// The item with this number of it, from 0, is the first that fails: a question.
+    Unproved(usize),
+    /// The same, a point that is shown.
+    Unmet(usize),
+}
+
+/// Looks at a question and the proof that comes next.
+fn question_holds<'p>(question: &System, proofs: &'p [Proof]) -> Outcome<'p>
+    ensures holds { (rest : List Proof) → IsHolding result rest → Leaves (Question question.now ∷ []) proofs.now rest }
+    ensures unproved { (n : ℕ) → IsUnproved result n → FailsAtQuestion (Question question.now ∷ []) proofs.now n }
+    ensures unmet { (n : ℕ) → ¬ (IsUnmet result n) }
 {
-    match item {
-        Listed::Whole(Item::Question(system)) => match proofs {
-            [] => Ok(None),
-            [proof, rest @ ..] => {
-                if is_proved(system, proof) {
-                    Ok(Some(rest))
-                } else {
-                    Ok(None)
-                }
-            }
-        },
-        Listed::Whole(Item::Shown(shown)) => {
-            if is_shown(shown) {
-                Ok(Some(proofs))
+    match proofs {
+        [] => Outcome::Unproved(0),
+        [proof, rest @ ..] => {
+            if is_proved(question, proof) {
+                Outcome::Holds(rest)
             } else {
-                Ok(None)
+                Outcome::Unproved(0)
             }
         }
-        Listed::Over(over) => match proofs {
-            [] => Ok(None),
-            [proof, rest @ ..] => {
-                if is_proved_over(over, proof)? {
-                    Ok(Some(rest))
-                } else {
-                    Ok(None)
-                }
-            }
-        },
     }
 }
 
-/// That the item with this number fails.
-fn fault_of(item: &Listed<'_>, number: usize) -> CheckFault
-    ensures { result ≡ fault_said (listed_said item.now) number }
+/// Looks at a block and the proofs that come next.
+fn block_holds<'p>(
+    alloc: Global,
+    block: &Block<'_>,
+    proofs: &'p [Proof],
+) -> Result<Outcome<'p>, AllocError>
+    ensures holds { IfOk result (λ o. (rest : List Proof) → IsHolding o rest → Leaves (map Question (block_questions block.now)) proofs.now rest) }
+    ensures unproved { IfOk result (λ o. (n : ℕ) → IsUnproved o n → FailsAtQuestion (map Question (block_questions block.now)) proofs.now n) }
+    ensures unmet { IfOk result (λ o. (n : ℕ) → ¬ (IsUnmet o n)) }
 {
-    match item {
-        Listed::Whole(Item::Question(_)) => CheckFault::Proof(number),
-        Listed::Whole(Item::Shown(_)) => CheckFault::Shown(number),
-        Listed::Over(_) => CheckFault::Proof(number),
+    match block.check(alloc, proofs)? {
+        Step::Passed(rest) => Ok(Outcome::Holds(rest)),
+        Step::Failed(number) => Ok(Outcome::Unproved(number)),
+    }
+}
+
+/// Looks at what is listed and the proofs that come next.
+fn outcome_of<'p>(
+    alloc: Global,
+    listed: &Listed<'_>,
+    proofs: &'p [Proof],
+) -> Result<Outcome<'p>, AllocError>
+    ensures holds { IfOk result (λ o. (rest : List Proof) → IsHolding o rest → Leaves (listed_said listed.now) proofs.now rest) }
+    ensures unproved { IfOk result (λ o. (n : ℕ) → IsUnproved o n → FailsAtQuestion (listed_said listed.now) proofs.now n) }
+    ensures unmet { IfOk result (λ o. (n : ℕ) → IsUnmet o n → FailsAtPoint (listed_said listed.now) proofs.now n) }
+{
+    match listed {
+        Listed::One(Item::Question(system)) => Ok(question_holds(system, proofs)),
+        Listed::One(Item::Shown(shown)) => {
+            if is_shown(shown) {
+                Ok(Outcome::Holds(proofs))
+            } else {
+                Ok(Outcome::Unmet(0))
+            }
+        }
+        Listed::Questions(block) => block_holds(alloc, block, proofs),
+    }
+}
+
+/// How many items are listed here, where they hold by these proofs and leave the rest.
+fn count(listed: &Listed<'_>, proofs: &[Proof], rest: &[Proof]) -> usize
+    requires { Leaves (listed_said listed.now) proofs.now rest.now }
+    ensures { result ≡ length (listed_said listed.now) }
+{
+    match listed {
+        Listed::One(_) => 1,
+        Listed::Questions(_) => proofs.len() - rest.len(),
+    }
+}
+
+/// A number so much further on. Past 2^64 items there is no memory for them.
+fn further(number: usize, by: usize) -> Result<usize, AllocError>
+    ensures { IfOk result (λ n. n ≡ number + by) }
+{
+    match number.checked_add(by) {
+        Some(sum) => Ok(sum),
+        None => Err(AllocError),
     }
 }
 
 /// Whether items are valid with these proofs, one for each question in order, or the first item that fails.
-pub(crate) fn check_listed(items: &[Listed<'_>], proofs: &[Proof]) -> Result<(), CheckFault>
-    ensures ok { OnOk result (AreValid (map listed_said items.now) proofs.now) }
-    ensures proof { IfErr result (λ e. (n : ℕ) → e ≡ CheckFault.Proof n → FailsAtQuestion (map listed_said items.now) proofs.now n) }
-    ensures shown { IfErr result (λ e. (n : ℕ) → e ≡ CheckFault.Shown n → FailsAtPoint (map listed_said items.now) proofs.now n) }
+pub(crate) fn check_listed(
+    alloc: Global,
+    items: &[Listed<'_>],
+    proofs: &[Proof],
+) -> Result<(), CheckFault>
+    ensures ok { OnOk result (AreValid (flat_map listed_said items.now) proofs.now) }
+    ensures proof { IfErr result (λ e. (n : ℕ) → e ≡ CheckFault.Proof n → FailsAtQuestion (flat_map listed_said items.now) proofs.now n) }
+    ensures shown { IfErr result (λ e. (n : ℕ) → e ≡ CheckFault.Shown n → FailsAtPoint (flat_map listed_said items.now) proofs.now n) }
     ensures number { IfErr result (λ e. (n : ℕ) → e ≢ CheckFault.Number n) }
 {
     let mut rest = proofs;
-    for (number, item) in items.iter().enumerate() {
-        let left = after(item, rest)?;
-        match left {
-            Some(more) => rest = more,
-            None => return Err(fault_of(item, number)),
+    let mut number = 0;
+    for (i, listed) in items.iter().enumerate() {
+        match outcome_of(alloc, listed, rest)? {
+            Outcome::Holds(more) => {
+                number = further(number, count(listed, rest, more))?;
+                rest = more;
+            }
+            Outcome::Unproved(at) => return Err(CheckFault::Proof(further(number, at)?)),
+            Outcome::Unmet(at) => return Err(CheckFault::Shown(further(number, at)?)),
         }
     }
     Ok(())

@@ -10,7 +10,7 @@ ghost use Rattle.affc_questions.specs.Asked.{IsAlong};
 ghost use Rattle.affc_items.specs.Certs.{least_said, modulus_said};
 ghost use Rattle.affc_items.specs.Items.{elements_at, pair_of, mark_of, moduli_of};
 ghost use Rattle.affc_check.specs.Laws.{IsFoldShown};
-ghost use Rattle.affc_items.specs.Walks.{fold_shown, folds_shown, AreRowsAsked, AreFoldsAsked};
+ghost use Rattle.affc_items.specs.Walks.{clash_systems, fold_shown, folds_shown, AreRowsAsked, AreFoldsAsked};
 ghost use Rattle.affc_check.specs.Made.{AreMade, AreWordsAt, IsPairFit, IsMarkFit, AreRowsFit, AreFoldsFit};
 
 use affc_ast::tree::ArrayId;
@@ -19,6 +19,7 @@ use affc_basis::basis::given;
 use affc_basis::fold::{Fold, Mark, Modulus};
 use affc_certfold::fold::{CertFold, CertLeast, CertModulus};
 use affc_items::shown::{Along, system_at};
+use affc_life::ClashProduct;
 use affc_nest::Nest;
 use affc_quast::rows::copied;
 use affc_questions::is_behind;
@@ -95,25 +96,25 @@ fn pair_said(
     along: &Along<'_>,
     pair: &Option<(i64, Items<i64>)>,
 ) -> Result<Option<(Items<i64>, Items<i64>)>, AllocError>
-    requires along { Each (IsAlong along.now.rows.now along.now.row.now along.now.modulus.now) along.now.systems.now }
-    requires fits { IsPairFit along.now.systems.now pair.now }
-    ensures { IfOk result (λ p. p ≡ pair_of along.now.systems.now along.now.row.now pair.now) }
+    requires along { Each (IsAlong along.now.rows.now along.now.row.now along.now.modulus.now) (clash_systems along.now.systems.now) }
+    requires fits { IsPairFit (clash_systems along.now.systems.now) pair.now }
+    ensures { IfOk result (λ p. p ≡ pair_of (clash_systems along.now.systems.now) along.now.row.now pair.now) }
 {
     let Some((number, point)) = pair else {
         return Ok(None);
     };
-    let Some(system) = system_at(along.systems, *number) else {
+    let Some(found) = system_at(alloc, along.systems, *number)? else {
         return Ok(None);
     };
-    let both = elements(alloc, along, system, point.as_slice())?;
+    let both = elements(alloc, along, &found.product.base, point.as_slice())?;
     Ok(Some(both))
 }
 
 /// The mark of a modulus.
 fn mark(alloc: Global, along: &Along<'_>, least: &Option<CertLeast>) -> Result<Mark, AllocError>
-    requires along { Each (IsAlong along.now.rows.now along.now.row.now along.now.modulus.now) along.now.systems.now }
-    requires fits { IsMarkFit along.now.systems.now (least_said least.now) }
-    ensures { IfOk result (λ m. m ≡ mark_of along.now.systems.now along.now.row.now (least_said least.now)) }
+    requires along { Each (IsAlong along.now.rows.now along.now.row.now along.now.modulus.now) (clash_systems along.now.systems.now) }
+    requires fits { IsMarkFit (clash_systems along.now.systems.now) (least_said least.now) }
+    ensures { IfOk result (λ m. m ≡ mark_of (clash_systems along.now.systems.now) along.now.row.now (least_said least.now)) }
 {
     let Some(least) = least else {
         return Ok(Mark::Bound);
@@ -127,15 +128,15 @@ fn mark(alloc: Global, along: &Along<'_>, least: &Option<CertLeast>) -> Result<M
 fn add_moduli(
     alloc: Global,
     nest: &Nest,
-    systems: &[PairSystem],
+    systems: &[ClashProduct],
     rows: &[Form],
     more: &[Form],
     moduli: &[CertModulus],
     out: &mut Items<Modulus>,
 ) -> Result<(), AllocError>
-    requires asked { AreRowsAsked nest.now systems.now rows.now more.now moduli.now }
-    requires fit { AreRowsFit systems.now more.now (map modulus_said moduli.now) }
-    ensures { OnOk result (out.new ≡ out.old ++ moduli_of systems.now more.now (map modulus_said moduli.now)) }
+    requires asked { AreRowsAsked nest.now (clash_systems systems.now) rows.now more.now moduli.now }
+    requires fit { AreRowsFit (clash_systems systems.now) more.now (map modulus_said moduli.now) }
+    ensures { OnOk result (out.new ≡ out.old ++ moduli_of (clash_systems systems.now) more.now (map modulus_said moduli.now)) }
 {
     match more {
         [] => Ok(()),
@@ -179,12 +180,12 @@ fn fold_made(
     alloc: Global,
     nest: &Nest,
     fold: &CertFold,
-    systems: &[PairSystem],
+    systems: &[ClashProduct],
 ) -> Result<Fold, AllocError>
-    requires asked { AreRowsAsked nest.now systems.now fold.now.basis.rows fold.now.basis.rows fold.now.moduli }
+    requires asked { AreRowsAsked nest.now (clash_systems systems.now) fold.now.basis.rows fold.now.basis.rows fold.now.moduli }
     requires each { length fold.now.moduli ≡ length fold.now.basis.rows }
-    requires fit { AreRowsFit systems.now fold.now.basis.rows (map modulus_said fold.now.moduli) }
-    ensures { IfOk result (λ made. IsFoldShown (fold_shown fold.now systems.now) made) }
+    requires fit { AreRowsFit (clash_systems systems.now) fold.now.basis.rows (map modulus_said fold.now.moduli) }
+    ensures { IfOk result (λ made. IsFoldShown (fold_shown fold.now (clash_systems systems.now)) made) }
 {
     let rows = fold.basis.rows.as_slice();
     let mut moduli = Items::new(alloc);
@@ -206,12 +207,12 @@ pub(crate) fn add_made(
     alloc: Global,
     nest: &Nest,
     folds: &[CertFold],
-    systems: &[Items<PairSystem>],
+    systems: &[Items<ClashProduct>],
     out: &mut Vec<(ArrayId, Fold)>,
 ) -> Result<(), AllocError>
-    requires asked { AreFoldsAsked nest.now folds.now systems.now }
-    requires fit { AreFoldsFit folds.now systems.now }
-    ensures { OnOk result (AreMade (folds_shown folds.now systems.now) out.old.items out.new.items) }
+    requires asked { AreFoldsAsked nest.now folds.now (map clash_systems systems.now) }
+    requires fit { AreFoldsFit folds.now (map clash_systems systems.now) }
+    ensures { OnOk result (AreMade (folds_shown folds.now (map clash_systems systems.now)) out.old.items out.new.items) }
 {
     match folds {
         [] => Ok(()),

@@ -1,10 +1,11 @@
 -- What the items of folds are asked of, and what they depend on.
-use Rattle.std.proofs.Common.{◌≡◌, ℕ, zero, suc, ◌+◌, ◌≤◌, ℤ, pos, negsuc, Bool, true, false, if◌then◌else◌, List, [], ◌∷◌, ◌++◌, length, map, flat_map, take, Option, Some, None, refl, sym, ap, subst, inl, inr, arith, ◌∙◌}
+use Rattle.std.proofs.Common.{◌≡◌, ℕ, zero, suc, ◌≤◌, ℤ, pos, negsuc, if◌then◌else◌, List, [], ◌∷◌, ◌++◌, length, map, flat_map, take, Option, Some, None, refl, sym, ap, subst, inl, inr, arith, ◌∙◌}
 use Rattle.std.specs.Prelude.{nat_eq, int_lt, ◌&&◌, slice_get}
 use Rattle.std.specs.Cmp.Lexicographic.{slice_cmp}
 use Rattle.std.specs.List.{All, Contains}
 use Rattle.std.specs.Ordering.{is_eq, int_cmp}
 use Rattle.std.proofs.lemmas.List.Elements.{All-head, All-tail}
+use Rattle.std.proofs.lemmas.List.Concat.{flat_map-append}
 use Rattle.std.proofs.lemmas.Option.{slice_get_within, get_or_from_slice_get}
 use Rattle.affc_rows.specs.Forms.{Affine, value, mixed_form}
 use Rattle.affc_system.specs.Systems.{Rows}
@@ -13,11 +14,9 @@ use Rattle.affc_ast.specs.declared.tree.Program.{Program}
 use Rattle.affc_ast.specs.declared.tree.Rel.TheVariants.{Equal}
 use Rattle.affc_trace.specs.declared.schedule.Schedule.{Schedule}
 use Rattle.affc_trace.specs.Law.{IsIn}
-use Rattle.affc_trace.specs.Target.{IsScheduleOf}
 use Rattle.affc_basis.specs.Bases.{AreWithin}
 use Rattle.affc_basis.specs.Moduli.{IsModulus}
 use Rattle.affc_nest.specs.Domains.{gap_row, compare_rows, number_form, with_rows}
-use Rattle.affc_nest.specs.declared.nest.Entry.{Entry}
 use Rattle.affc_nest.specs.declared.nest.Nest.{Nest}
 use Rattle.affc_nest.specs.Laws.{HasNest, NamesArrays}
 use Rattle.affc_nest.specs.Nests.{nest_of, nowhere}
@@ -30,17 +29,19 @@ use Rattle.affc_conflicts.specs.Questions.{distance, over_columns, positive_ques
 use Rattle.affc_life.specs.Asked.{KeepLimits}
 use Rattle.affc_life.specs.Clashes.{Clash, clash_of, clashes}
 use Rattle.affc_life.specs.Laws.{AreShaped}
+use Rattle.affc_life.specs.Products.{systems_in}
+use Rattle.affc_life.specs.declared.clash.ClashProduct.{ClashProduct}
 use Rattle.affc_life.specs.Sizes.{AnyLarge}
 use Rattle.affc_certfold.specs.Limits.{IsMarkWithin}
 use Rattle.affc_certfold.specs.declared.fold.CertFold.{CertFold}
 use Rattle.affc_certfold.specs.declared.fold.CertModulus.{CertModulus}
 use Rattle.affc_questions.specs.Asked.{IsAlong, AreElements}
-use Rattle.affc_items.specs.Certs.{modulus_said, IsFoldSaid, IsFoldFor}
+use Rattle.affc_items.specs.Certs.{modulus_said, IsFoldSaid}
 use Rattle.affc_items.specs.Items.{Item, Question, Shown, LeastShown, ModulusShown, FoldShown, numbered, pair_in, pair_item, mark_items, row_items, rows_items, fold_items}
 use Rattle.affc_items.specs.Limits.{AnyPasses}
 use Rattle.affc_items.specs.Listed.{AreListed}
 use Rattle.affc_items.specs.Passes.{FoldPasses}
-use Rattle.affc_items.specs.Walks.{fold_shown, AreRowsAsked, IsFoldAsked}
+use Rattle.affc_items.specs.Walks.{clash_systems, fold_shown, AreRowsAsked, IsFoldAsked}
 use Rattle.affc_items.proofs.Over.{are_over}
 use Rattle.affc_items.proofs.PartLemmas.{passes_front, passes_behind, listed_twice}
 
@@ -205,6 +206,10 @@ pub distances_both : (rows : List Affine) (k : ℕ) (row b : Affine) (xs ys : Li
 distances_both rows k row b [] ys = refl
 distances_both rows k row b (s ∷ ss) ys =
     ap (λ is. Question (distance_question rows k row b s s.x.items s.y.items) ∷ Question (distance_question rows k row b s s.y.items s.x.items) ∷ is) (distances_both rows k row b ss ys)
+
+pub products_both : (rows : List Affine) (k : ℕ) (row b : Affine) (xs ys : List ClashProduct)
+    → map Question (distance_questions rows k row b (clash_systems (xs ++ ys))) ≡ map Question (distance_questions rows k row b (clash_systems xs)) ++ map Question (distance_questions rows k row b (clash_systems ys))
+products_both rows k row b xs ys = ap (λ ss. map Question (distance_questions rows k row b ss)) (flat_map-append systems_in xs ys) ∙ distances_both rows k row b (clash_systems xs) (clash_systems ys)
 
 -- the items of a row
 pub row_listed : (nest : Nest) (systems : List PairSystem) (rows : List Affine) (k : ℕ) (row : Affine) (m : ModulusShown) (a b c d : List Item)

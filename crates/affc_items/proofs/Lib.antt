@@ -6,5 +6,6 @@ pub mod TreeLemmas
 pub mod Over
 pub mod FoldLemmas
 pub mod ListingLemmas
-pub mod BehindLemmas
+pub mod ProductLemmas
 pub mod FoundLemmas
+pub mod GroupLemmas

@@ -6,7 +6,7 @@ use Rattle.affc_trace.proofs.EndedReads.{append_assoc}
 use Rattle.affc_trace.proofs.LastStores.{append_nil}
 use Rattle.affc_system.specs.declared.pairs.PairSystem.{PairSystem}
 use Rattle.affc_domain.proofs.Lists.{length_map}
-use Rattle.affc_nest.specs.Questions.{whole_context, extent_questions, bound_questions}
+use Rattle.affc_nest.specs.Questions.{extent_questions, bound_questions}
 use Rattle.affc_nest.specs.declared.nest.Nest.{Nest}
 use Rattle.affc_sched.specs.Answered.{Each}
 use Rattle.affc_sched.specs.Questions.{legality_questions}
@@ -19,7 +19,7 @@ use Rattle.affc_cert.specs.declared.cert.Cert.{Cert}
 use Rattle.affc_certfold.specs.declared.fold.CertFold.{CertFold}
 use Rattle.affc_items.specs.Certs.{AreFoldsSaid, AreItems, IsCertWithin, IsFoldSaid}
 use Rattle.affc_items.specs.Held.{context_item, flow_item, legality_item}
-use Rattle.affc_items.specs.Items.{Item, Question, Shown, fold_items}
+use Rattle.affc_items.specs.Items.{Item, Question, fold_items}
 use Rattle.affc_items.specs.Limits.{AnyPasses, IsFirst, HoldsOfNone}
 use Rattle.affc_items.specs.Listed.{AreListed, PartsListed, IsFirstPart}
 use Rattle.affc_items.specs.Passes.{FoldPasses, PassesFirst, items_by_tree}

@@ -1,26 +1,22 @@
 -- The items of trees, load by load.
-use Rattle.std.proofs.Common.{◌≡◌, ◌≢◌, ℕ, zero, suc, ◌+◌, ◌-◌, ◌<◌, ◌≤◌, Bool, true, false, if◌then◌else◌, List, [], ◌∷◌, ◌++◌, length, map, flat_map, drop, replicate, Option, Some, None, refl, sym, ap, subst, arith, ◌∙◌}
+use Rattle.std.proofs.Common.{◌≡◌, ℕ, zero, suc, ◌+◌, ◌≤◌, Bool, true, false, if◌then◌else◌, List, [], ◌∷◌, ◌++◌, length, map, flat_map, drop, replicate, Some, refl, sym, ap, arith, ◌∙◌}
 use Rattle.std.specs.Prelude.{nat_eq, slice_get}
-use Rattle.std.proofs.lemmas.List.{map-append, length-replicate}
+use Rattle.std.proofs.lemmas.List.{map-append}
 use Rattle.std.proofs.lemmas.Bool.{eqb-true}
-use Rattle.affc_trace.specs.Law.{IsIn}
 use Rattle.affc_trace.proofs.EndedReads.{append_assoc}
+use Rattle.affc_trace.proofs.LastStores.{append_nil}
 use Rattle.affc_nest.specs.declared.nest.Access.{Access}
 use Rattle.affc_nest.specs.declared.nest.Entry.{Entry}
 use Rattle.affc_nest.specs.declared.nest.Nest.{Nest}
-use Rattle.affc_quast.specs.Leaves.{Leaf, leaves_of}
+use Rattle.affc_quast.specs.Leaves.{leaves_of}
 use Rattle.affc_quast.specs.Sources.{loads_in, loads_before, tree_of}
 use Rattle.affc_quast.specs.Trees.{Tree}
-use Rattle.affc_flow.specs.Questions as flow
-use Rattle.affc_flow.specs.Questions.{leaf_questions, tree_questions, questions_of_load, questions_of_loads, flow_questions}
+use Rattle.affc_flow.specs.Questions.{leaf_questions, questions_of_load, questions_of_loads, flow_questions}
 use Rattle.affc_life.proofs.WalkLemmas.{later_tree}
 use Rattle.affc_items.specs.Held.{flow_item}
 use Rattle.affc_items.specs.Items.{Item}
-use Rattle.affc_items.specs.Limits.{AnyPasses, HoldsOfNone}
-use Rattle.affc_items.specs.Listed.{AreListed, PartsListed, IsFirstPart}
 use Rattle.affc_items.specs.Passes.{items_by_load, items_by_entry, items_by_tree}
 use Rattle.affc_items.specs.Walks.{leaf_items, load_items, own_items}
-use Rattle.affc_items.proofs.PartLemmas.{no_parts, part_listed, parts_twice, empty_parts, part_here, part_later, part_front, part_behind}
 
 -- ---- A load
 
@@ -31,6 +27,14 @@ flat_by g F (x ∷ xs) = map-append g (F x) (flat_map F xs) ∙ ap (λ ys. map g
 pub flat_both : {A B : Type 0} (F : A → List B) (xs ys : List A) → flat_map F (xs ++ ys) ≡ flat_map F xs ++ flat_map F ys
 flat_both F [] ys = refl
 flat_both F (x ∷ xs) ys = ap (λ l. F x ++ l) (flat_both F xs ys) ∙ sym (append_assoc (F x) (flat_map F xs) (flat_map F ys))
+
+-- those of two parts of a list, one after the other
+pub flat_made : {A B : Type 0} (F : A → List B) (xs ys zs : List A) (old first new : List B) → zs ≡ xs ++ ys → first ≡ old ++ flat_map F xs → new ≡ first ++ flat_map F ys → new ≡ old ++ flat_map F zs
+flat_made F xs ys zs old first new i d e =
+    e ∙ ap (λ s. s ++ flat_map F ys) d ∙ append_assoc old (flat_map F xs) (flat_map F ys) ∙ ap (λ s. old ++ s) (sym (flat_both F xs ys) ∙ ap (flat_map F) (sym i))
+
+pub entries_made : {A B : Type 0} (F : A → List B) (xs rest : List A) (x : A) (old first new : List B) → xs ≡ x ∷ rest → first ≡ old ++ F x → new ≡ first ++ flat_map F rest → new ≡ old ++ flat_map F xs
+entries_made F xs rest x old first new i d e = e ∙ ap (λ s. s ++ flat_map F rest) d ∙ append_assoc old (F x) (flat_map F rest) ∙ ap (λ ys. old ++ flat_map F ys) (sym i)
 
 -- the items of a tree, leaf by leaf
 pub tree_items : (nest : Nest) (reader : Entry) (load : Access) (tree : Tree)
@@ -58,26 +62,21 @@ pub own_last : (nest : Nest) (own : List Tree) (reader : Entry) (n : ℕ) (acces
 own_last nest own reader n accesses [] x e l = ap (own_items nest own reader n) e
 own_last nest own reader n accesses (y ∷ ys) x e l = absurd (omega (arith, l))
 
-module _ (nest : Nest) (own : List Tree) (reader : Entry) (n : ℕ) (accesses rest : List Access) (x : Access) (is : accesses ≡ x ∷ rest) (more : 1 ≤ length rest) where
-  pub loads_listed : (a b c : List Item) → AreListed a b (load_items nest reader x (slice_get own n)) → PartsListed b c (own_items nest own reader (n + 1) rest)
-      → PartsListed a c (own_items nest own reader n accesses)
-  loads_listed a b c h g =
-      subst (PartsListed a c) (sym (own_next nest own reader n accesses rest x is more)) (part_listed a b c (load_items nest reader x (slice_get own n)) (own_items nest own reader (n + 1) rest) h g)
+module _ (nest : Nest) (own : List Tree) (reader : Entry) (n : ℕ) (accesses rest : List Access) (x : Access) (is : accesses ≡ x ∷ rest) where
+  -- the part of the first load, and those of the others
+  pub loads_made : 1 ≤ length rest → (old first new : List (List Item)) → first ≡ old ++ load_items nest reader x (slice_get own n) ∷ [] → new ≡ first ++ own_items nest own reader (n + 1) rest
+      → new ≡ old ++ own_items nest own reader n accesses
+  loads_made more old first new d e =
+      let head = load_items nest reader x (slice_get own n) in
+      let tail = own_items nest own reader (n + 1) rest in
+      e ∙ ap (λ s. s ++ tail) d ∙ append_assoc old (head ∷ []) tail ∙ ap (λ s. old ++ s) (sym (own_next nest own reader n accesses rest x is more))
 
-  pub load_passes : (first part : ℕ) → part ≡ first → AnyPasses (load_items nest reader x (slice_get own n)) → IsFirstPart AnyPasses first (own_items nest own reader n accesses) part
-  load_passes first part e h =
-      subst (λ ps. IsFirstPart AnyPasses first ps part) (sym (own_next nest own reader n accesses rest x is more))
-      (part_here AnyPasses first part (load_items nest reader x (slice_get own n)) (own_items nest own reader (n + 1) rest) e h)
+  pub last_made : length rest ≡ 0 → (old : List (List Item)) → old ≡ old ++ own_items nest own reader n accesses
+  last_made l old = sym (append_nil old) ∙ ap (λ s. old ++ s) (sym (own_last nest own reader n accesses rest x is l))
 
-  pub later_passes : (first next part : ℕ) → next ≡ first + 1 → ¬ (AnyPasses (load_items nest reader x (slice_get own n))) → IsFirstPart AnyPasses next (own_items nest own reader (n + 1) rest) part
-      → IsFirstPart AnyPasses first (own_items nest own reader n accesses) part
-  later_passes first next part e clear h =
-      subst (λ ps. IsFirstPart AnyPasses first ps part) (sym (own_next nest own reader n accesses rest x is more))
-      (part_later AnyPasses first next part (load_items nest reader x (slice_get own n)) (own_items nest own reader (n + 1) rest) e clear h)
-
-pub last_listed : (nest : Nest) (own : List Tree) (reader : Entry) (n : ℕ) (accesses rest : List Access) (x : Access) (a : List Item) → accesses ≡ x ∷ rest → length rest ≡ 0
-    → PartsListed a a (own_items nest own reader n accesses)
-last_listed nest own reader n accesses rest x a is l = subst (PartsListed a a) (sym (own_last nest own reader n accesses rest x is l)) (no_parts a)
+-- a part without questions, and more of them
+pub none_made : (loads k : ℕ) (old first new : List (List Item)) → loads ≡ suc k → first ≡ old ++ [] ∷ [] → new ≡ first ++ replicate k [] → new ≡ old ++ replicate loads []
+none_made loads k old first new m d e = e ∙ ap (λ s. s ++ replicate k []) d ∙ append_assoc old ([] ∷ []) (replicate k []) ∙ ap (λ n. old ++ replicate n []) (sym m)
 
 -- ---- A statement
 
@@ -93,56 +92,12 @@ module _ (nest : Nest) (trees own : List Tree) (reader : Entry) (is : own ≡ dr
       ∙ ap (λ zs. load_items nest reader x (tree_of nest trees reader.statement n) ∷ zs) (own_is (n + 1) (y ∷ ys))
 
   -- of a living one
-  by_entry : (accesses : List Access) → accesses ≡ reader.accesses → reader.alive ≡ true → own_items nest own reader 0 accesses ≡ items_by_entry nest trees reader
-  by_entry accesses e alive =
+  pub living_entry : (accesses : List Access) → accesses ≡ reader.accesses → reader.alive ≡ true → own_items nest own reader 0 accesses ≡ items_by_entry nest trees reader
+  living_entry accesses e alive =
       ap (own_items nest own reader 0) e ∙ own_is 0 reader.accesses ∙ ap (λ t. if t then items_by_load nest trees reader 0 reader.accesses else replicate (loads_in reader) []) (sym alive)
 
-  pub entry_listed : (accesses : List Access) (a c : List Item) → accesses ≡ reader.accesses → reader.alive ≡ true → PartsListed a c (own_items nest own reader 0 accesses) → PartsListed a c (items_by_entry nest trees reader)
-  entry_listed accesses a c e alive h = subst (PartsListed a c) (by_entry accesses e alive) h
-
-  pub entry_passes : (accesses : List Access) (first part : ℕ) → accesses ≡ reader.accesses → reader.alive ≡ true → IsFirstPart AnyPasses first (own_items nest own reader 0 accesses) part
-      → IsFirstPart AnyPasses first (items_by_entry nest trees reader) part
-  entry_passes accesses first part e alive h = subst (λ ps. IsFirstPart AnyPasses first ps part) (by_entry accesses e alive) h
-
-pub dead_listed : (nest : Nest) (trees : List Tree) (reader : Entry) (a : List Item) → reader.alive ≡ false → PartsListed a a (items_by_entry nest trees reader)
-dead_listed nest trees reader a dead =
-    subst (PartsListed a a) (ap (λ t. if t then items_by_load nest trees reader 0 reader.accesses else replicate (loads_in reader) []) (sym dead)) (empty_parts a (loads_in reader))
-
--- how many parts it has
-by_load_long : (nest : Nest) (trees : List Tree) (reader : Entry) (n : ℕ) (xs : List Access) → length (items_by_load nest trees reader n xs) ≡ length xs - 1
-by_load_long nest trees reader n [] = refl
-by_load_long nest trees reader n (x ∷ []) = refl
-by_load_long nest trees reader n (x ∷ y ∷ ys) = let h = by_load_long nest trees reader (n + 1) (y ∷ ys) in omega (arith, h)
-
-pub entry_long : (nest : Nest) (trees : List Tree) (e : Entry) → length (items_by_entry nest trees e) ≡ length e.accesses - 1
-entry_long nest trees e = by e.alive
-  where
-    by : (t : Bool) → length (if t then items_by_load nest trees e 0 e.accesses else replicate (loads_in e) []) ≡ length e.accesses - 1
-    by true = by_load_long nest trees e 0 e.accesses
-    by false = length-replicate (loads_in e) []
-
--- ---- Statements
-
-module _ (nest : Nest) (trees : List Tree) (entries rest : List Entry) (e : Entry) (is : entries ≡ e ∷ rest) where
-  parted : flat_map (items_by_entry nest trees) entries ≡ items_by_entry nest trees e ++ flat_map (items_by_entry nest trees) rest
-  parted = ap (flat_map (items_by_entry nest trees)) is
-
-  pub entries_listed : (a b c : List Item) → PartsListed a b (items_by_entry nest trees e) → PartsListed b c (flat_map (items_by_entry nest trees) rest) → PartsListed a c (flat_map (items_by_entry nest trees) entries)
-  entries_listed a b c h g = subst (PartsListed a c) (sym parted) (parts_twice a b c (items_by_entry nest trees e) (flat_map (items_by_entry nest trees) rest) h g)
-
-  pub entry_first : (first part : ℕ) → IsFirstPart AnyPasses first (items_by_entry nest trees e) part → IsFirstPart AnyPasses first (flat_map (items_by_entry nest trees) entries) part
-  entry_first first part h =
-      subst (λ ps. IsFirstPart AnyPasses first ps part) (sym parted) (part_front AnyPasses first part (items_by_entry nest trees e) (flat_map (items_by_entry nest trees) rest) h)
-
-  pub entry_later : (first next loads part : ℕ) → next ≡ first + loads → loads ≡ length e.accesses - 1 → HoldsOfNone AnyPasses (items_by_entry nest trees e)
-      → IsFirstPart AnyPasses next (flat_map (items_by_entry nest trees) rest) part → IsFirstPart AnyPasses first (flat_map (items_by_entry nest trees) entries) part
-  entry_later first next loads part n l clear h =
-      let long : length (items_by_entry nest trees e) ≡ length e.accesses - 1 = entry_long nest trees e in
-      subst (λ ps. IsFirstPart AnyPasses first ps part) (sym parted)
-      (part_behind AnyPasses first next part (items_by_entry nest trees e) (flat_map (items_by_entry nest trees) rest) (behind first next loads (length e.accesses - 1) (length (items_by_entry nest trees e)) n l long) clear h)
-    where
-      behind : (first next loads n k : ℕ) → next ≡ first + loads → loads ≡ n → k ≡ n → next ≡ first + k
-      behind first next loads n k a b c = omega (arith, a, b, c)
+pub dead_entry : (nest : Nest) (trees : List Tree) (reader : Entry) → reader.alive ≡ false → replicate (loads_in reader) [] ≡ items_by_entry nest trees reader
+dead_entry nest trees reader dead = ap (λ t. if t then items_by_load nest trees reader 0 reader.accesses else replicate (loads_in reader) []) (sym dead)
 
 -- ---- All of them
 

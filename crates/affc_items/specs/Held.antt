@@ -1,16 +1,16 @@
 -- What an item in code says, and the items of questions.
-use Rattle.std.specs.Prelude.{ℤ, List, []}
+use Rattle.std.specs.Prelude.{ℤ, List, [], ◌∷◌, map}
 use Rattle.affc_nest.specs.Nests.{nowhere}
 use Rattle.affc_nest.specs.Questions.{whole_context}
 use Rattle.affc_nest.specs.declared.nest.Nest.{Nest}
 use Rattle.affc_sched.specs.Questions as sched
 use Rattle.affc_flow.specs.Questions as flow
-use Rattle.affc_behind.specs.Parts.{behind}
+use Rattle.affc_behind.specs.Blocks.{block_questions}
 use Rattle.affc_items.specs.Items as said
 use Rattle.affc_items.specs.declared.item.Item.{Item}
 use Rattle.affc_items.specs.declared.item.Item.TheVariants.{Question, Shown}
 use Rattle.affc_items.specs.declared.item.Listed.{Listed}
-use Rattle.affc_items.specs.declared.item.Listed.TheVariants.{Whole, Over}
+use Rattle.affc_items.specs.declared.item.Listed.TheVariants.{One, Questions}
 use Rattle.affc_items.specs.declared.item.Point.{Point}
 
 abbrev pub point_item : Point → said.Item
@@ -20,9 +20,9 @@ abbrev pub item_said : Item → said.Item
 item_said (Question system) = said.Question system
 item_said (Shown x) = point_item x
 
-abbrev pub listed_said : Listed → said.Item
-listed_said (Whole item) = item_said item
-listed_said (Over over) = said.Question (behind over.front.now over.more)
+abbrev pub listed_said : Listed → List said.Item
+listed_said (One item) = item_said item ∷ []
+listed_said (Questions block) = map said.Question (block_questions block)
 
 -- nothing is shown
 abbrev pub no_item : said.Item

@@ -5,5 +5,6 @@ pub mod Limits
 pub mod Passes
 pub mod Listed
 pub mod Walks
+pub mod Groups
 pub mod Stops
 pub mod Laws

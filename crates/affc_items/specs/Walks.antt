@@ -14,6 +14,8 @@ use Rattle.affc_quast.specs.Trees.{Tree}
 use Rattle.affc_flow.specs.Questions.{leaf_questions, questions_of_load}
 use Rattle.affc_life.specs.Asked.{KeepLimits}
 use Rattle.affc_life.specs.Clashes.{clashes}
+use Rattle.affc_life.specs.Products.{systems_in}
+use Rattle.affc_life.specs.declared.clash.ClashProduct.{ClashProduct}
 use Rattle.affc_life.specs.Sizes.{AnyLarge}
 use Rattle.affc_cert.specs.declared.cert.Cert.{Cert}
 use Rattle.affc_certfold.specs.Limits.{IsMarkWithin}
@@ -43,6 +45,10 @@ own_items nest own reader load (x ∷ []) = []
 own_items nest own reader load (x ∷ y ∷ ys) = load_items nest reader x (slice_get own load) ∷ own_items nest own reader (load + 1) (y ∷ ys)
 
 -- ---- Folds
+
+-- the clash systems of these products
+abbrev pub clash_systems : List ClashProduct → List PairSystem
+clash_systems products = flat_map systems_in products
 
 -- what a certificate says of a fold of an array with these clash systems
 abbrev pub fold_shown : CertFold → List PairSystem → FoldShown

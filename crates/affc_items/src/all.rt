@@ -1,31 +1,33 @@
 //! All items of a certificate.
-ghost use Rattle.std.specs.Prelude.{◌≡◌, ℕ, map, IfOk, IfErr, OnOk};
+ghost use Rattle.std.specs.Prelude.{flat_map, ◌≡◌, ℕ, map, IfOk, IfErr, OnOk};
 ghost use Rattle.affc_quast.specs.Seen.{trees_of};
 ghost use Rattle.affc_sched.specs.Answered.{Each};
 ghost use Rattle.affc_sched.specs.Legality.{IsAsked};
 ghost use Rattle.affc_life.specs.Clashes.{clashes};
 ghost use Rattle.affc_life.specs.Sizes.{AnyLarge};
 ghost use Rattle.affc_items.specs.Certs.{IsCertWithin, IsFoldSaid, AreItems};
+ghost use Rattle.affc_items.specs.Groups.{AreGroups};
 ghost use Rattle.affc_items.specs.Held.{item_said, listed_said};
 ghost use Rattle.affc_items.specs.Items.{fold_items};
 ghost use Rattle.affc_items.specs.Listed.{AreListed, IsFirstPart};
 ghost use Rattle.affc_items.specs.Passes.{FoldPasses, PassesFirst, NonePasses};
-ghost use Rattle.affc_items.specs.Walks.{fold_shown, IsFoldAsked, AreSystems, SystemsAdded, FoldsListed, IsListing};
+ghost use Rattle.affc_items.specs.Walks.{clash_systems, fold_shown, IsFoldAsked, AreSystems, SystemsAdded, FoldsListed, IsListing};
 
 use crate::bounds::{add_bound_questions, add_extent_questions};
 use crate::folds::add_fold;
+use crate::groups::add_parts;
 use crate::item::{Item, Listed};
 use crate::listing::{add_point, wholes};
 use crate::orders::add_legality_questions;
 use crate::shown::context_shown;
 use crate::stop::{PartStop, at_part};
-use crate::trees::add_flow_questions;
+use crate::trees::tree_groups;
 use affc_cert::Cert;
 use affc_certfold::fold::CertFold;
-use affc_life::{ClashFault, clashes};
+use affc_life::{ClashFault, ClashProduct, clash_products};
 use affc_nest::Nest;
 use affc_quast::Flow;
-use affc_system::PairSystem;
+use affc_questions::Group;
 use affc_trace::schedule::Schedule;
 use sqlite_items::Items;
 use std::alloc::{AllocError, Global};
@@ -37,15 +39,15 @@ fn add_systems(
     flow: &Flow,
     schedule: &Schedule,
     folds: &[CertFold],
-    out: &mut Items<Items<PairSystem>>,
+    out: &mut Items<Items<ClashProduct>>,
 ) -> Result<(), AllocError>
     requires asked { IsAsked nest.now schedule.now }
     requires folds { Each (IsFoldAsked nest.now (trees_of flow.now)) folds.now }
-    ensures { OnOk result (SystemsAdded nest.now schedule.now (trees_of flow.now) folds.now out.old out.new) }
+    ensures { OnOk result (SystemsAdded nest.now schedule.now (trees_of flow.now) folds.now (map clash_systems out.old) (map clash_systems out.new)) }
 {
     match folds {
         [] => Ok(()),
-        [fold, rest @ ..] => match clashes(alloc, nest, flow, schedule, fold.array) {
+        [fold, rest @ ..] => match clash_products(alloc, nest, flow, schedule, fold.array) {
             Ok(systems) => {
                 out.push(Items::from_vec(systems))?;
                 add_systems(alloc, nest, flow, schedule, rest, out)
@@ -62,10 +64,10 @@ pub fn systems_of(
     nest: &Nest,
     schedule: &Schedule,
     cert: &Cert,
-) -> Result<Items<Items<PairSystem>>, AllocError>
+) -> Result<Items<Items<ClashProduct>>, AllocError>
     requires asked { IsAsked nest.now schedule.now }
     requires certificate { IsCertWithin nest.now cert.now }
-    ensures { IfOk result (AreSystems nest.now schedule.now (trees_of cert.now.flow) cert.now.folds) }
+    ensures { IfOk result (λ s. AreSystems nest.now schedule.now (trees_of cert.now.flow) cert.now.folds (map clash_systems s)) }
 {
     let mut systems = Items::new(alloc);
     add_systems(
@@ -79,6 +81,21 @@ pub fn systems_of(
     Ok(systems)
 }
 
+/// The questions of a certificate's trees, a part for each.
+pub fn groups_of(
+    alloc: Global,
+    nest: &Nest,
+    schedule: &Schedule,
+    cert: &Cert,
+) -> Result<Items<Items<Group>>, AllocError>
+    requires asked { IsAsked nest.now schedule.now }
+    requires certificate { IsCertWithin nest.now cert.now }
+    ensures { IfOk result (AreGroups nest.now (trees_of cert.now.flow)) }
+{
+    let _schedule = schedule;
+    tree_groups(alloc, nest, &cert.flow)
+}
+
 /// Adds the items of a fold whose array has these clash systems, which are those of the part with this number.
 fn add_part<'a>(
     alloc: Global,
@@ -86,15 +103,15 @@ fn add_part<'a>(
     flow: &Flow,
     schedule: &Schedule,
     fold: &'a CertFold,
-    systems: &'a [PairSystem],
+    systems: &'a [ClashProduct],
     part: usize,
     out: &mut Vec<Listed<'a>>,
 ) -> Result<(), PartStop>
     requires asked { IsAsked nest.now schedule.now }
     requires fold { IsFoldAsked nest.now (trees_of flow.now) fold.now }
-    requires said { IsFoldSaid nest.now schedule.now (trees_of flow.now) fold.now (fold_shown fold.now systems.now) }
+    requires said { IsFoldSaid nest.now schedule.now (trees_of flow.now) fold.now (fold_shown fold.now (clash_systems systems.now)) }
     requires fits { ¬ (AnyLarge (clashes nest.now (trees_of flow.now) schedule.now fold.now.array.0)) }
-    ensures ok { OnOk result (AreListed (map listed_said out.old.items) (map listed_said out.new.items) (fold_items nest.now (fold_shown fold.now systems.now))) }
+    ensures ok { OnOk result (AreListed (flat_map listed_said out.old.items) (flat_map listed_said out.new.items) (fold_items nest.now (fold_shown fold.now (clash_systems systems.now)))) }
     ensures within { OnOk result (¬ (FoldPasses nest.now schedule.now (trees_of flow.now) fold.now)) }
     ensures past { IfErr result (λ e. (n : ℕ) → e ≡ PartStop.Part n → (n ≡ part) × FoldPasses nest.now schedule.now (trees_of flow.now) fold.now) }
 {
@@ -113,14 +130,14 @@ fn add_folds<'a>(
     flow: &Flow,
     schedule: &Schedule,
     folds: &'a [CertFold],
-    systems: &'a [Items<PairSystem>],
+    systems: &'a [Items<ClashProduct>],
     first: usize,
     out: &mut Vec<Listed<'a>>,
 ) -> Result<(), PartStop>
     requires asked { IsAsked nest.now schedule.now }
     requires folds { Each (IsFoldAsked nest.now (trees_of flow.now)) folds.now }
-    requires systems { AreSystems nest.now schedule.now (trees_of flow.now) folds.now systems.now }
-    ensures ok { OnOk result (FoldsListed nest.now schedule.now (trees_of flow.now) folds.now systems.now (map listed_said out.old.items) (map listed_said out.new.items)) }
+    requires systems { AreSystems nest.now schedule.now (trees_of flow.now) folds.now (map clash_systems systems.now) }
+    ensures ok { OnOk result (FoldsListed nest.now schedule.now (trees_of flow.now) folds.now (map clash_systems systems.now) (flat_map listed_said out.old.items) (flat_map listed_said out.new.items)) }
     ensures past { IfErr result (λ e. (n : ℕ) → e ≡ PartStop.Part n → IsFirstPart (FoldPasses nest.now schedule.now (trees_of flow.now)) first folds.now n) }
 {
     match folds {
@@ -139,19 +156,21 @@ fn add_folds<'a>(
     }
 }
 
-/// Lists the items of a certificate, whose folds' arrays have these clash systems: no part of it passes the limits, or the first
-/// that does is told.
+/// Lists the items of a certificate, whose folds' arrays have these clash systems and whose trees these questions: no part of it
+/// passes the limits, or the first that does is told.
 pub fn list_all<'a>(
     alloc: Global,
     nest: &'a Nest,
     schedule: &Schedule,
     cert: &'a Cert,
-    systems: &'a [Items<PairSystem>],
+    systems: &'a [Items<ClashProduct>],
+    groups: &'a [Items<Group>],
 ) -> Result<Vec<Listed<'a>>, PartStop>
     requires asked { IsAsked nest.now schedule.now }
     requires certificate { IsCertWithin nest.now cert.now }
-    requires systems { AreSystems nest.now schedule.now (trees_of cert.now.flow) cert.now.folds systems.now }
-    ensures ok { IfOk result (λ l. IsListing nest.now schedule.now cert.now (map listed_said l.items) systems.now) }
+    requires systems { AreSystems nest.now schedule.now (trees_of cert.now.flow) cert.now.folds (map clash_systems systems.now) }
+    requires groups { AreGroups nest.now (trees_of cert.now.flow) groups.now }
+    ensures ok { IfOk result (λ l. IsListing nest.now schedule.now cert.now (flat_map listed_said l.items) (map clash_systems systems.now)) }
     ensures past { IfErr result (λ e. (n : ℕ) → e ≡ PartStop.Part n → PassesFirst nest.now schedule.now cert.now n) }
 {
     let mut items = Vec::new(alloc);
@@ -162,7 +181,7 @@ pub fn list_all<'a>(
     )?;
     add_extent_questions(alloc, nest, &mut items)?;
     add_bound_questions(alloc, nest, &mut items)?;
-    add_flow_questions(alloc, nest, flow, &mut items)?;
+    add_parts(alloc, groups, 1, &mut items)?;
     add_legality_questions(alloc, nest, schedule, &mut items)?;
     let Some(first) = cert.flow.trees.len().checked_add(1) else {
         return Err(PartStop::Memory);
@@ -188,7 +207,10 @@ pub fn all_items(
     ensures past { IfErr result (λ e. (n : ℕ) → e ≡ PartStop.Part n → PassesFirst nest.now schedule.now cert.now n) }
 {
     let systems = systems_of(alloc, nest, schedule, cert)?;
-    let listed = list_all(alloc, nest, schedule, cert, systems.as_slice())?;
+    let groups = groups_of(alloc, nest, schedule, cert)?;
+    let systems = systems.as_slice();
+    let groups = groups.as_slice();
+    let listed = list_all(alloc, nest, schedule, cert, systems, groups)?;
     let items = wholes(alloc, listed)?;
     Ok(items)
 }

@@ -24,7 +24,7 @@ fn add_extents(
 ) -> Result<(), AllocError>
     requires nest { IsNest nest.now }
     requires extents { Each (IsExtent nest.now) extents.now }
-    ensures { OnOk result (map listed_said out.new.items ≡ map listed_said out.old.items ++ map Question (map (extent_question nest.now) extents.now)) }
+    ensures { OnOk result (flat_map listed_said out.new.items ≡ flat_map listed_said out.old.items ++ map Question (map (extent_question nest.now) extents.now)) }
 {
     match extents {
         [] => Ok(()),
@@ -46,7 +46,7 @@ fn add_arrays(
 ) -> Result<(), AllocError>
     requires nest { IsNest nest.now }
     requires arrays { Each (λ a. IsIn a nest.now.arrays) arrays.now }
-    ensures { OnOk result (map listed_said out.new.items ≡ map listed_said out.old.items ++ map Question (flat_map (λ a. map (extent_question nest.now) a.extents) arrays.now)) }
+    ensures { OnOk result (flat_map listed_said out.new.items ≡ flat_map listed_said out.old.items ++ map Question (flat_map (λ a. map (extent_question nest.now) a.extents) arrays.now)) }
 {
     match arrays {
         [] => Ok(()),
@@ -65,7 +65,7 @@ pub(crate) fn add_extent_questions(
     out: &mut Vec<Listed<'_>>,
 ) -> Result<(), AllocError>
     requires { IsNest nest.now }
-    ensures { OnOk result (map listed_said out.new.items ≡ map listed_said out.old.items ++ map Question (extent_questions nest.now)) }
+    ensures { OnOk result (flat_map listed_said out.new.items ≡ flat_map listed_said out.old.items ++ map Question (extent_questions nest.now)) }
 {
     add_arrays(alloc, nest, nest.arrays.as_slice(), out)?;
     Ok(())
@@ -84,7 +84,7 @@ fn add_dimensions(
     requires entry { IsIn entry.now nest.now.entries }
     requires subs { Each (IsSubscript entry.now) subs.now }
     requires extents { Each (IsExtent nest.now) extents.now }
-    ensures { OnOk result (map listed_said out.new.items ≡ map listed_said out.old.items ++ map Question (questions_of entry.now.domain (length entry.now.loops) subs.now extents.now)) }
+    ensures { OnOk result (flat_map listed_said out.new.items ≡ flat_map listed_said out.old.items ++ map Question (questions_of entry.now.domain (length entry.now.loops) subs.now extents.now)) }
 {
     match subs {
         [] => Ok(()),
@@ -124,7 +124,7 @@ fn add_accesses(
     requires nest { IsNest nest.now }
     requires entry { IsIn entry.now nest.now.entries }
     requires accesses { Each (λ x. IsIn x entry.now.accesses) accesses.now }
-    ensures { OnOk result (map listed_said out.new.items ≡ map listed_said out.old.items ++ map Question (flat_map (λ x. questions_of entry.now.domain (length entry.now.loops) x.subs (extents_of_access nest.now x)) accesses.now)) }
+    ensures { OnOk result (flat_map listed_said out.new.items ≡ flat_map listed_said out.old.items ++ map Question (flat_map (λ x. questions_of entry.now.domain (length entry.now.loops) x.subs (extents_of_access nest.now x)) accesses.now)) }
 {
     match accesses {
         [] => Ok(()),
@@ -147,7 +147,7 @@ fn add_entry(
 ) -> Result<(), AllocError>
     requires nest { IsNest nest.now }
     requires entry { IsIn entry.now nest.now.entries }
-    ensures { OnOk result (map listed_said out.new.items ≡ map listed_said out.old.items ++ map Question (entry_questions nest.now entry.now)) }
+    ensures { OnOk result (flat_map listed_said out.new.items ≡ flat_map listed_said out.old.items ++ map Question (entry_questions nest.now entry.now)) }
 {
     if !entry.alive {
         return Ok(());
@@ -165,7 +165,7 @@ fn add_entries(
 ) -> Result<(), AllocError>
     requires nest { IsNest nest.now }
     requires entries { Each (λ e. IsIn e nest.now.entries) entries.now }
-    ensures { OnOk result (map listed_said out.new.items ≡ map listed_said out.old.items ++ map Question (flat_map (entry_questions nest.now) entries.now)) }
+    ensures { OnOk result (flat_map listed_said out.new.items ≡ flat_map listed_said out.old.items ++ map Question (flat_map (entry_questions nest.now) entries.now)) }
 {
     match entries {
         [] => Ok(()),
@@ -184,7 +184,7 @@ pub(crate) fn add_bound_questions(
     out: &mut Vec<Listed<'_>>,
 ) -> Result<(), AllocError>
     requires { IsNest nest.now }
-    ensures { OnOk result (map listed_said out.new.items ≡ map listed_said out.old.items ++ map Question (bound_questions nest.now)) }
+    ensures { OnOk result (flat_map listed_said out.new.items ≡ flat_map listed_said out.old.items ++ map Question (bound_questions nest.now)) }
 {
     add_entries(alloc, nest, nest.entries.as_slice(), out)?;
     Ok(())

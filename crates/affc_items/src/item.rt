@@ -3,7 +3,7 @@ ghost use Rattle.std.specs.Prelude.{◌≤◌};
 ghost use Rattle.std.specs.List.{All};
 ghost use Rattle.affc_system.specs.Systems.{IsRow};
 
-use affc_behind::Behind;
+use affc_behind::Block;
 use affc_questions::Long;
 use affc_system::System;
 use sqlite_items::Items;
@@ -25,9 +25,9 @@ pub enum Item {
     Shown(Point),
 }
 
-/// An item as it is listed. A question on a clash system shares the system's rows.
+/// One item as it is listed, or several: questions in product form, whose rows are not copied.
 #[derive(Drop)]
 pub enum Listed<'a> {
-    Whole(Item),
-    Over(Behind<'a>),
+    One(Item),
+    Questions(Block<'a>),
 }

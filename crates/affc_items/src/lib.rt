@@ -4,6 +4,7 @@
 pub mod all;
 mod bounds;
 pub mod folds;
+mod groups;
 pub mod item;
 pub mod laws;
 mod listing;
@@ -12,7 +13,7 @@ pub mod shown;
 pub mod stop;
 mod trees;
 
-pub use all::{all_items, list_all, systems_of};
+pub use all::{all_items, groups_of, list_all, systems_of};
 pub use folds::items_of_fold;
 pub use item::{Item, Listed, Point};
 pub use stop::{PartStop, Stop};

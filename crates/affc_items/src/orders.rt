@@ -34,7 +34,7 @@ fn add_pair(
     requires from { IsTouched nest.now from.now.entry.now from.now.access.now }
     requires to { IsTouched nest.now to.now.entry.now to.now.access.now }
     requires one_array { from.now.access.now.array.0 ≡ to.now.access.now.array.0 }
-    ensures { OnOk result (map listed_said out.new.items ≡ map listed_said out.old.items ++ map legality_item (pair_questions nest.now from.now.entry.now to.now.entry.now schedule.now from.now.access.now to.now.access.now)) }
+    ensures { OnOk result (flat_map listed_said out.new.items ≡ flat_map listed_said out.old.items ++ map legality_item (pair_questions nest.now from.now.entry.now to.now.entry.now schedule.now from.now.access.now to.now.access.now)) }
 {
     let (a, b) = (from.entry, to.entry);
     let systems = pair_systems(alloc, nest, schedule, a, b, from.access, to.access)?;
@@ -54,7 +54,7 @@ fn add_touch(
     requires asked { IsAsked nest.now schedule.now }
     requires from { IsTouched nest.now from.now.entry.now from.now.access.now }
     requires to { IsTouched nest.now to.now.entry.now to.now.access.now }
-    ensures { OnOk result (map listed_said out.new.items ≡ map listed_said out.old.items ++ map legality_item (questions_of nest.now schedule.now from.now.entry.now (from.now.access.now, from.now.stores) to.now.entry.now (to.now.access.now, to.now.stores))) }
+    ensures { OnOk result (flat_map listed_said out.new.items ≡ flat_map listed_said out.old.items ++ map legality_item (questions_of nest.now schedule.now from.now.entry.now (from.now.access.now, from.now.stores) to.now.entry.now (to.now.access.now, to.now.stores))) }
 {
     if from.access.array.0 != to.access.array.0 {
         return Ok(());
@@ -79,7 +79,7 @@ fn add_accesses(
     requires asked { IsAsked nest.now schedule.now }
     requires from { IsTouched nest.now from.now.entry.now from.now.access.now }
     requires to { Each (IsTouched nest.now b.now) accesses.now }
-    ensures { OnOk result (map listed_said out.new.items ≡ map listed_said out.old.items ++ map legality_item (flat_map (questions_of nest.now schedule.now from.now.entry.now (from.now.access.now, from.now.stores) b.now) (touches accesses.now))) }
+    ensures { OnOk result (flat_map listed_said out.new.items ≡ flat_map listed_said out.old.items ++ map legality_item (flat_map (questions_of nest.now schedule.now from.now.entry.now (from.now.access.now, from.now.stores) b.now) (touches accesses.now))) }
 {
     match accesses {
         [] => Ok(()),
@@ -108,7 +108,7 @@ fn add_statement(
     requires asked { IsAsked nest.now schedule.now }
     requires from { IsTouched nest.now from.now.entry.now from.now.access.now }
     requires second { IsIn b.now nest.now.entries }
-    ensures { OnOk result (map listed_said out.new.items ≡ map listed_said out.old.items ++ map legality_item (questions_to nest.now schedule.now from.now.entry.now (from.now.access.now, from.now.stores) b.now)) }
+    ensures { OnOk result (flat_map listed_said out.new.items ≡ flat_map listed_said out.old.items ++ map legality_item (questions_to nest.now schedule.now from.now.entry.now (from.now.access.now, from.now.stores) b.now)) }
 {
     if !b.alive {
         return Ok(());
@@ -130,7 +130,7 @@ fn add_statements(
     requires asked { IsAsked nest.now schedule.now }
     requires from { IsTouched nest.now from.now.entry.now from.now.access.now }
     requires seconds { Each (λ e. IsIn e nest.now.entries) entries.now }
-    ensures { OnOk result (map listed_said out.new.items ≡ map listed_said out.old.items ++ map legality_item (flat_map (questions_to nest.now schedule.now from.now.entry.now (from.now.access.now, from.now.stores)) entries.now)) }
+    ensures { OnOk result (flat_map listed_said out.new.items ≡ flat_map listed_said out.old.items ++ map legality_item (flat_map (questions_to nest.now schedule.now from.now.entry.now (from.now.access.now, from.now.stores)) entries.now)) }
 {
     match entries {
         [] => Ok(()),
@@ -153,7 +153,7 @@ fn add_from_accesses(
 ) -> Result<(), AllocError>
     requires asked { IsAsked nest.now schedule.now }
     requires from { Each (IsTouched nest.now a.now) accesses.now }
-    ensures { OnOk result (map listed_said out.new.items ≡ map listed_said out.old.items ++ map legality_item (flat_map (questions_with nest.now schedule.now a.now) (touches accesses.now))) }
+    ensures { OnOk result (flat_map listed_said out.new.items ≡ flat_map listed_said out.old.items ++ map legality_item (flat_map (questions_with nest.now schedule.now a.now) (touches accesses.now))) }
 {
     match accesses {
         [] => Ok(()),
@@ -181,7 +181,7 @@ fn add_from(
 ) -> Result<(), AllocError>
     requires asked { IsAsked nest.now schedule.now }
     requires first { IsIn a.now nest.now.entries }
-    ensures { OnOk result (map listed_said out.new.items ≡ map listed_said out.old.items ++ map legality_item (questions_from nest.now schedule.now a.now)) }
+    ensures { OnOk result (flat_map listed_said out.new.items ≡ flat_map listed_said out.old.items ++ map legality_item (questions_from nest.now schedule.now a.now)) }
 {
     if !a.alive {
         return Ok(());
@@ -201,7 +201,7 @@ fn add_all(
 ) -> Result<(), AllocError>
     requires asked { IsAsked nest.now schedule.now }
     requires firsts { Each (λ e. IsIn e nest.now.entries) entries.now }
-    ensures { OnOk result (map listed_said out.new.items ≡ map listed_said out.old.items ++ map legality_item (flat_map (questions_from nest.now schedule.now) entries.now)) }
+    ensures { OnOk result (flat_map listed_said out.new.items ≡ flat_map listed_said out.old.items ++ map legality_item (flat_map (questions_from nest.now schedule.now) entries.now)) }
 {
     match entries {
         [] => Ok(()),
@@ -221,7 +221,7 @@ pub(crate) fn add_legality_questions(
     out: &mut Vec<Listed<'_>>,
 ) -> Result<(), AllocError>
     requires { IsAsked nest.now schedule.now }
-    ensures { OnOk result (map listed_said out.new.items ≡ map listed_said out.old.items ++ map legality_item (legality_questions nest.now schedule.now)) }
+    ensures { OnOk result (flat_map listed_said out.new.items ≡ flat_map listed_said out.old.items ++ map legality_item (legality_questions nest.now schedule.now)) }
 {
     match schedule {
         Schedule::Source => Ok(()),

@@ -1,5 +1,5 @@
 //! What a certificate shows of a modulus.
-ghost use Rattle.std.specs.Prelude.{◌≡◌, ◌≤◌, length, map, Some, None, IfOk, IfErr, IfSome, IfNone, OnOk};
+ghost use Rattle.std.specs.Prelude.{flat_map, ◌≡◌, ◌≤◌, length, map, Some, None, IfOk, IfErr, IfSome, IfNone, OnOk};
 ghost use Rattle.std.specs.Cmp.Lexicographic.{slice_cmp};
 ghost use Rattle.std.specs.Ordering.{is_eq, int_cmp};
 ghost use Rattle.affc_basis.specs.Moduli.{IsModulus};
@@ -13,13 +13,20 @@ ghost use Rattle.affc_items.specs.Held.{listed_said, point_item, context_item, n
 ghost use Rattle.affc_items.specs.Items.{numbered, is_point_at, farthest, pair_in, pair_item, mark_items};
 ghost use Rattle.affc_items.specs.Limits.{AnyPasses};
 ghost use Rattle.affc_items.specs.Listed.{AreListed};
+ghost use Rattle.affc_items.specs.Walks.{clash_systems};
+ghost use Rattle.affc_life.specs.Products.{found_system};
+ghost use Rattle.affc_nest.specs.Domains.{with_rows};
+ghost use Rattle.affc_system.specs.Systems.{IsRow};
+ghost use Rattle.std.specs.List.{All};
 
 use crate::item::{Listed, Point};
 use crate::listing::{add_long, add_point};
 use crate::stop::Stop;
 use affc_certfold::fold::CertLeast;
+use affc_life::{ClashProduct, Found, found_at};
 use affc_nest::Nest;
-use affc_questions::{Long, greater_question, is_behind, one_system, shown_system, whole_context};
+use affc_quast::rows::{add_copies, copied};
+use affc_questions::{Long, greater_question, is_behind, one_system, shown_rows, whole_context};
 use affc_rows::Form;
 use affc_system::PairSystem;
 use smallvec::SmallVec;
@@ -30,21 +37,26 @@ use std::alloc::{AllocError, Global};
 #[derive(Clone, Copy, Drop)]
 pub struct Along<'a> {
     pub nest: &'a Nest,
-    pub systems: &'a [PairSystem],
+    pub systems: &'a [ClashProduct],
     pub rows: &'a [Form],
     pub k: usize,
     pub row: &'a Form,
     pub modulus: &'a Form,
 }
 
-/// The clash system with this number.
-pub fn system_at(systems: &[PairSystem], number: i64) -> Option<&PairSystem>
-    ensures some { IfSome result (λ s. numbered systems.now number ≡ Some s.now) }
-    ensures none { IfNone result (numbered systems.now number ≡ None) }
+/// The clash system with this number: its product, and its rows behind the product's.
+pub fn system_at<'a>(
+    alloc: Global,
+    systems: &'a [ClashProduct],
+    number: i64,
+) -> Result<Option<Found<'a>>, AllocError>
+    ensures some { IfOk result (λ o. IfSome o (λ f. numbered (clash_systems systems.now) number ≡ Some (found_system f))) }
+    ensures fit { IfOk result (λ o. IfSome o (λ f. All (IsRow f.product.now.base.system.columns) f.rows)) }
+    ensures none { IfOk result (λ o. IfNone o (numbered (clash_systems systems.now) number ≡ None)) }
 {
     match usize::try_from(number) {
-        Ok(n) => systems.get(n),
-        Err(_) => None,
+        Ok(n) => found_at(alloc, systems, n),
+        Err(_) => Ok(None),
     }
 }
 
@@ -87,20 +99,39 @@ fn nothing(alloc: Global) -> Result<Point, AllocError>
     Ok(Point { system, point })
 }
 
+/// The rows of a clash system, and these behind them.
+fn with_tail(alloc: Global, found: &Found<'_>, tail: &[Form]) -> Result<Long, AllocError>
+    requires found { All (IsRow found.now.product.now.base.system.columns) found.now.rows }
+    requires tail { All (IsRow found.now.product.now.base.system.columns) tail.now }
+    ensures is { IfOk result (λ s. s ≡ with_rows (found_system found.now).system tail.now) }
+    ensures columns { IfOk result (λ s. s.columns ≤ 128) }
+    ensures rows { IfOk result (λ s. All (IsRow s.columns) s.rows) }
+{
+    let system = &found.product.base.system;
+    let columns = system.columns();
+    let mut rows = copied(alloc, system.rows())?;
+    add_copies(found.rows.as_slice(), &mut rows)?;
+    add_copies(tail, &mut rows)?;
+    Ok(Long::new(columns, rows))
+}
+
 /// That two elements of a clash system lie apart at a point by the modulus less 1.
 fn apart(
     alloc: Global,
     along: &Along<'_>,
-    pair: &PairSystem,
+    found: &Found<'_>,
     point: &[i64],
 ) -> Result<Point, AllocError>
-    requires along { IsAlong along.now.rows.now along.now.row.now along.now.modulus.now pair.now }
-    requires point { length point.now ≡ pair.now.system.columns }
-    ensures { IfOk result (λ x. point_item x ≡ farthest along.now.nest.now along.now.rows.now along.now.k along.now.row.now along.now.modulus.now pair.now point.now) }
+    requires along { IsAlong along.now.rows.now along.now.row.now along.now.modulus.now (found_system found.now) }
+    requires found { All (IsRow found.now.product.now.base.system.columns) found.now.rows }
+    requires point { length point.now ≡ found.now.product.now.base.system.columns }
+    ensures { IfOk result (λ x. point_item x ≡ farthest along.now.nest.now along.now.rows.now along.now.k along.now.row.now along.now.modulus.now (found_system found.now) point.now) }
 {
     let (rows, k, row, modulus) = (along.rows, along.k, along.row, along.modulus);
-    let turned = is_behind(alloc, row, pair, point)?;
-    let system = shown_system(alloc, rows, k, row, modulus, pair, turned)?;
+    let base = &found.product.base;
+    let turned = is_behind(alloc, row, base, point)?;
+    let tail = shown_rows(alloc, rows, k, row, modulus, base, turned)?;
+    let system = with_tail(alloc, found, tail.as_slice())?;
     let point = Items::from_slice(alloc, point)?;
     Ok(Point { system, point })
 }
@@ -113,26 +144,26 @@ fn pair_shown(
     number: i64,
     point: &[i64],
 ) -> Result<Point, AllocError>
-    requires along { Each (IsAlong along.now.rows.now along.now.row.now along.now.modulus.now) along.now.systems.now }
+    requires along { Each (IsAlong along.now.rows.now along.now.row.now along.now.modulus.now) (clash_systems along.now.systems.now) }
     requires modulus { IsModulus along.now.nest.now.context.columns along.now.modulus.now }
-    ensures { IfOk result (λ x. point_item x ≡ pair_in along.now.nest.now along.now.rows.now along.now.k along.now.row.now along.now.modulus.now p.now point.now (numbered along.now.systems.now number)) }
+    ensures { IfOk result (λ x. point_item x ≡ pair_in along.now.nest.now along.now.rows.now along.now.k along.now.row.now along.now.modulus.now p.now point.now (numbered (clash_systems along.now.systems.now) number)) }
 {
-    let Some(pair) = system_at(along.systems, number) else {
+    let Some(found) = system_at(alloc, along.systems, number)? else {
         return nothing(alloc);
     };
     let parameters = along.nest.context.columns() as usize;
-    if !is_at(parameters, p, point, pair) {
+    if !is_at(parameters, p, point, &found.product.base) {
         return nothing(alloc);
     }
-    apart(alloc, along, pair, point)
+    apart(alloc, along, &found, point)
 }
 
 /// That the modulus is 1 at p, or a pair there.
 fn need_shown(alloc: Global, along: &Along<'_>, least: &CertLeast) -> Result<Point, AllocError>
     requires nested { IsNest along.now.nest.now }
-    requires along { Each (IsAlong along.now.rows.now along.now.row.now along.now.modulus.now) along.now.systems.now }
+    requires along { Each (IsAlong along.now.rows.now along.now.row.now along.now.modulus.now) (clash_systems along.now.systems.now) }
     requires modulus { IsModulus along.now.nest.now.context.columns along.now.modulus.now }
-    ensures { IfOk result (λ x. point_item x ≡ pair_item along.now.nest.now along.now.rows.now along.now.k along.now.row.now along.now.modulus.now along.now.systems.now least.now.p least.now.pair) }
+    ensures { IfOk result (λ x. point_item x ≡ pair_item along.now.nest.now along.now.rows.now along.now.k along.now.row.now along.now.modulus.now (clash_systems along.now.systems.now) least.now.p least.now.pair) }
 {
     match &least.pair {
         None => {
@@ -164,11 +195,11 @@ pub(crate) fn add_mark(
     out: &mut Vec<Listed<'_>>,
 ) -> Result<(), Stop>
     requires nested { IsNest along.now.nest.now }
-    requires along { Each (IsAlong along.now.rows.now along.now.row.now along.now.modulus.now) along.now.systems.now }
+    requires along { Each (IsAlong along.now.rows.now along.now.row.now along.now.modulus.now) (clash_systems along.now.systems.now) }
     requires modulus { IsModulus along.now.nest.now.context.columns along.now.modulus.now }
     requires mark { IsMarkWithin along.now.nest.now.context.columns least.now }
-    ensures ok { OnOk result (AreListed (map listed_said out.old.items) (map listed_said out.new.items) (mark_items along.now.nest.now along.now.rows.now along.now.k along.now.row.now along.now.modulus.now along.now.systems.now (least_said least.now))) }
-    ensures past { IfErr result (λ e. e ≡ Stop.Past → AnyPasses (mark_items along.now.nest.now along.now.rows.now along.now.k along.now.row.now along.now.modulus.now along.now.systems.now (least_said least.now))) }
+    ensures ok { OnOk result (AreListed (flat_map listed_said out.old.items) (flat_map listed_said out.new.items) (mark_items along.now.nest.now along.now.rows.now along.now.k along.now.row.now along.now.modulus.now (clash_systems along.now.systems.now) (least_said least.now))) }
+    ensures past { IfErr result (λ e. e ≡ Stop.Past → AnyPasses (mark_items along.now.nest.now along.now.rows.now along.now.k along.now.row.now along.now.modulus.now (clash_systems along.now.systems.now) (least_said least.now))) }
 {
     match least {
         None => Ok(()),

@@ -1,36 +1,13 @@
 -- What drafts one after the other are.
-use Rattle.std.proofs.Common.{◌≡◌, ℕ, zero, suc, ◌-◌, ◌≤◌, Bool, List, [], ◌∷◌, ◌++◌, length, map, flat_map, take, drop, refl, sym, ap, ◌∙◌, arith}
+use Rattle.std.proofs.Common.{◌≡◌, ℕ, zero, suc, ◌-◌, ◌≤◌, Bool, List, [], ◌∷◌, ◌++◌, length, map, take, drop, refl, sym, ap, ◌∙◌, arith}
 use Rattle.std.specs.List.{All}
 use Rattle.std.proofs.lemmas.List.Elements.{All-take, All-drop}
 use Rattle.affc_rows.specs.Forms.{Affine}
-use Rattle.affc_ast.specs.declared.tree.Rel.TheVariants.{Less, Greater, Equal}
+use Rattle.affc_ast.specs.declared.tree.Rel.TheVariants.{Less, Equal}
 use Rattle.affc_trace.proofs.EndedReads.{append_assoc}
-use Rattle.affc_trace.proofs.LastStores.{map_append}
 use Rattle.affc_nest.specs.Domains.{compare_rows}
 use Rattle.affc_order.specs.Systems.{lex_systems}
-use Rattle.affc_life.specs.Clashes.{Clash, apart_rows}
 use Rattle.affc_life.specs.Drafts.{rows_in}
-
--- three parts of a list of drafts, one after the other
-pub apart_made : (F : List Affine → Clash) (f g : Affine) (fs gs later_fs later_gs rows less greater equal : List Affine) (old first second new : List Clash)
-    → fs ≡ f ∷ later_fs → gs ≡ g ∷ later_gs
-    → less ≡ rows ++ compare_rows Less f g → greater ≡ rows ++ compare_rows Less g f → equal ≡ rows ++ compare_rows Equal f g
-    → first ≡ old ++ F less ∷ [] → second ≡ first ++ F greater ∷ [] → new ≡ second ++ map F (apart_rows later_fs later_gs equal)
-    → new ≡ old ++ map F (apart_rows fs gs rows)
-apart_made F f g fs gs later_fs later_gs rows less greater equal old first second new i j a b c d e h =
-    let tail : List Clash = map F (apart_rows later_fs later_gs (rows ++ compare_rows Equal f g)) in
-    h ∙ ap (λ r. second ++ map F (apart_rows later_fs later_gs r)) c
-    ∙ ap (λ s. s ++ tail) e ∙ append_assoc first (F greater ∷ []) tail ∙ ap (λ r. first ++ (F r ∷ tail)) b
-    ∙ ap (λ s. s ++ (F (rows ++ compare_rows Greater f g) ∷ tail)) d ∙ append_assoc old (F less ∷ []) (F (rows ++ compare_rows Greater f g) ∷ tail)
-    ∙ ap (λ r. old ++ (F r ∷ F (rows ++ compare_rows Greater f g) ∷ tail)) a
-    ∙ ap (λ xs. old ++ map F (apart_rows xs (g ∷ later_gs) rows)) (sym i) ∙ ap (λ ys. old ++ map F (apart_rows fs ys rows)) (sym j)
-
--- those of the first entry, and those of the others
-pub flat_made : {A : Type 0} (F : List Affine → Clash) (G : A → List (List Affine)) (xs rest : List A) (x : A) (old first new : List Clash)
-    → xs ≡ x ∷ rest → first ≡ old ++ map F (G x) → new ≡ first ++ map F (flat_map G rest) → new ≡ old ++ map F (flat_map G xs)
-flat_made F G xs rest x old first new i d e =
-    e ∙ ap (λ s. s ++ map F (flat_map G rest)) d ∙ append_assoc old (map F (G x)) (map F (flat_map G rest))
-    ∙ ap (λ s. old ++ s) (sym (map_append F (G x) (flat_map G rest))) ∙ ap (λ ys. old ++ map F (flat_map G ys)) (sym i)
 
 -- ---- Comparisons in turn
 

@@ -10,7 +10,6 @@ use Rattle.affc_trace.specs.declared.schedule.Schedule.{Schedule}
 use Rattle.affc_trace.specs.declared.schedule.Schedule.TheVariants.{Source, Time}
 use Rattle.affc_trace.specs.Inverses.{columns_from}
 use Rattle.affc_trace.specs.Law.{IsIn}
-use Rattle.affc_trace.proofs.Members.{to_map}
 use Rattle.affc_nest.specs.Asked.{IsNest}
 use Rattle.affc_nest.specs.declared.nest.Entry.{Entry}
 use Rattle.affc_nest.specs.declared.nest.Nest.{Nest}
@@ -30,10 +29,8 @@ use Rattle.affc_quast.specs.Trees.{Tree}
 use Rattle.affc_quast.proofs.LeafLemmas.{padded_width}
 use Rattle.affc_life.specs.declared.draft.Draft.{Draft}
 use Rattle.affc_life.specs.Asked.{KeepLimits, IsLight, HasForms, AreSeated}
-use Rattle.affc_system.specs.declared.pairs.PairSystem.{PairSystem}
-use Rattle.affc_life.specs.Sizes.{AnyLarge}
-use Rattle.affc_life.specs.Clashes.{Clash, clash_of, clashes_of_entry, clash_columns, of_reader, of_writer, front_rows, reader_posed, named_posed, writer_posed, clashes}
-use Rattle.affc_life.specs.Drafts.{drafted, IsDraft}
+use Rattle.affc_life.specs.Clashes.{Clash, clashes_of_entry, clash_columns, of_reader, of_writer, front_rows, reader_posed, named_posed, writer_posed, clashes}
+use Rattle.affc_life.specs.Drafts.{drafted, IsPaired}
 use Rattle.affc_life.proofs.LeafLemmas.{path_of}
 use Rattle.affc_life.proofs.LightLemmas.{all_of, all_map}
 use Rattle.affc_life.proofs.MadeLemmas.{Made, made}
@@ -163,38 +160,28 @@ module _ (nest : Nest) (n : IsNest nest) (trees : List Tree) (limits : KeepLimit
   pub system_second : All (IsSubscript c.system.columns) c.y
   system_second = subst (λ (d : Clash). All (IsSubscript d.system.columns) d.y) (sym k.of_leaf.is) y_subscripts
 
--- ---- Drafts
+-- ---- All of them
 
--- the drafts of these systems are drafts of pair systems
-pub are_drafts : (nest : Nest) → IsNest nest → (trees : List Tree) → KeepLimits nest trees → (schedule : Schedule) (array : ℕ) (drafts : List Draft) → map drafted drafts ≡ clashes nest trees schedule array → All IsDraft drafts
-are_drafts nest n trees limits schedule array drafts e = all_in drafts (λ d i. subst (IsIn (drafted d)) e (to_map drafted drafts d i))
+pub are_paired : (nest : Nest) → IsNest nest → (trees : List Tree) → KeepLimits nest trees → (schedule : Schedule) (array : ℕ) → All IsPaired (clashes nest trees schedule array)
+are_paired nest n trees limits schedule array = all_in (clashes nest trees schedule array) (λ c i. i)
   where
-    all_in : (ds : List Draft) → ((d : Draft) → IsIn d ds → IsIn (drafted d) (clashes nest trees schedule array)) → All IsDraft ds
-    all_in [] h = All-nil IsDraft
-    all_in (d ∷ ds) h =
-        let k = made nest trees schedule array (drafted d) (h d (inl refl)) in
-        All-cons IsDraft d ds (record {
-          width = system_wide nest n trees limits schedule array (drafted d) k;
-          first = system_first nest n trees limits schedule array (drafted d) k;
-          second = system_second nest n trees limits schedule array (drafted d) k;
-        }) (all_in ds (λ x i. h x (inr i)))
+    all_in : (cs : List Clash) → ((c : Clash) → IsIn c cs → IsIn c (clashes nest trees schedule array)) → All IsPaired cs
+    all_in [] h = All-nil IsPaired
+    all_in (c ∷ cs) h =
+        let k = made nest trees schedule array c (h c (inl refl)) in
+        All-cons IsPaired c cs (record {
+          width = system_wide nest n trees limits schedule array c k;
+          first = system_first nest n trees limits schedule array c k;
+          second = system_second nest n trees limits schedule array c k;
+        }) (all_in cs (λ x i. h x (inr i)))
 
 -- what the walk has added
 module _ (nest : Nest) (trees ts : List Tree) (schedule : Schedule) (array : ℕ) (rs : List Entry) (start out : List Draft) (none : start ≡ []) (all : rs ≡ nest.entries) (same : ts ≡ trees)
-    (added : map drafted out ≡ map drafted start ++ flat_map (clashes_of_entry nest schedule array ts) rs) where
-  pub all_drafted : map drafted out ≡ clashes nest trees schedule array
+    (added : flat_map drafted out ≡ flat_map drafted start ++ flat_map (clashes_of_entry nest schedule array ts) rs) where
+  pub all_drafted : flat_map drafted out ≡ clashes nest trees schedule array
   all_drafted =
-      added ∙ ap (λ ds. map drafted ds ++ flat_map (clashes_of_entry nest schedule array ts) rs) none ∙ ap (λ us. flat_map (clashes_of_entry nest schedule array us) rs) same
+      added ∙ ap (λ ds. flat_map drafted ds ++ flat_map (clashes_of_entry nest schedule array ts) rs) none ∙ ap (λ us. flat_map (clashes_of_entry nest schedule array us) rs) same
       ∙ ap (flat_map (clashes_of_entry nest schedule array trees)) all
 
-  pub these_drafts : IsNest nest → KeepLimits nest trees → (held : List Draft) → held ≡ out → All IsDraft held
-  these_drafts n limits held e = subst (All IsDraft) (sym e) (are_drafts nest n trees limits schedule array out all_drafted)
-
-  pub all_paired : (first systems : List PairSystem) (held : List Draft) → first ≡ [] → held ≡ out → map clash_of systems ≡ map clash_of first ++ map drafted held → map clash_of systems ≡ clashes nest trees schedule array
-  all_paired first systems held f e p = p ∙ ap (λ ss. map clash_of ss ++ map drafted held) f ∙ ap (map drafted) e ∙ all_drafted
-
-  pub any_large : (held : List Draft) → held ≡ out → AnyLarge (map drafted held) → AnyLarge (clashes nest trees schedule array)
-  any_large held e h = subst AnyLarge (ap (map drafted) e ∙ all_drafted) h
-
-  pub none_large : (held : List Draft) → held ≡ out → (AnyLarge (map drafted held) → ⊥) → AnyLarge (clashes nest trees schedule array) → ⊥
-  none_large held e h = subst (λ cs. AnyLarge cs → ⊥) (ap (map drafted) e ∙ all_drafted) h
+  pub all_paired : IsNest nest → KeepLimits nest trees → All IsPaired (flat_map drafted out)
+  all_paired n limits = subst (All IsPaired) (sym all_drafted) (are_paired nest n trees limits schedule array)

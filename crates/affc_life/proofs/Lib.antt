@@ -25,3 +25,7 @@ pub mod FoundLeafLemmas
 pub mod CountLemmas
 pub mod SizeLemmas
 pub mod ConflictLemmas
+pub mod ChoiceLemmas
+pub mod ProductLemmas
+pub mod SoughtLemmas
+pub mod KeptLemmas

@@ -1,5 +1,5 @@
 -- Clash systems as the code makes them, before their limits are looked at.
-use Rattle.std.specs.Prelude.{ℕ, nat_eq, if◌then◌else◌, List, [], slice_get}
+use Rattle.std.specs.Prelude.{ℕ, nat_eq, if◌then◌else◌, List, [], ◌++◌, map, slice_get}
 use Rattle.std.specs.List.{All}
 use Rattle.affc_rows.specs.Forms.{Affine, HaveColumns}
 use Rattle.affc_system.specs.Pairs.{IsSubscript}
@@ -10,24 +10,36 @@ use Rattle.affc_nest.specs.declared.nest.Nest.{Nest}
 use Rattle.affc_order.specs.Posed.{Posed}
 use Rattle.affc_order.specs.Systems.{target_order}
 use Rattle.affc_quast.specs.Leaves.{Leaf}
+use Rattle.affc_behind.specs.Blocks.{choices}
 use Rattle.affc_life.specs.declared.draft.Draft.{Draft}
-use Rattle.affc_life.specs.declared.draft.Shared.{Shared}
 use Rattle.affc_nest.specs.declared.nest.Access.{Access}
 use Rattle.affc_quast.specs.Trees.{Tree}
 use Rattle.affc_life.specs.Clashes.{Clash, clash_columns, named_posed, writer_posed, reader_posed, clashes_of_named, clashes_of_tree}
 
-abbrev pub drafted : Draft → Clash
-drafted d = record { system = record { columns = d.columns; rows = d.rows }; ranges = d.ranges; x = d.x; y = d.y }
+-- the clash system with these rows behind the front
+abbrev pub draft_by : Draft → (rows : List Affine) → Clash
+draft_by d rows = record { system = record { columns = d.columns; rows = d.front.items ++ rows }; ranges = d.ranges; x = d.x.items; y = d.y.items }
+
+-- three lists of rows behind one another, and these behind a front
+abbrev pub chosen_rows : (first second third : List Affine) → List Affine
+chosen_rows first second third = ((first ++ second) ++ third) ++ []
+
+abbrev pub joined_rows : (front first second third : List Affine) → List Affine
+joined_rows front first second third = front ++ chosen_rows first second third
+
+-- those with these rows and then one alternative of each of these factors
+abbrev pub drafts_behind : Draft → (rows : List Affine) → (factors : List (List (List Affine))) → List Clash
+drafts_behind d rows factors = map (λ choice. draft_by d (rows ++ choice)) (choices factors)
+
+-- those of a draft
+abbrev pub drafted : Draft → List Clash
+drafted d = map (draft_by d) (choices d.factors)
 
 -- its rows and its subscripts are over its columns
-pub record IsDraft (d : Draft) : Type 0 where
-  pub width : HaveColumns d.columns d.rows
-  pub first : All (IsSubscript d.columns) d.x
-  pub second : All (IsSubscript d.columns) d.y
-
--- the clash system with these rows
-abbrev pub draft_by : Shared → (rows : List Affine) → Clash
-draft_by s rows = record { system = record { columns = s.columns; rows = rows }; ranges = s.ranges.now; x = s.x.now; y = s.y.now }
+pub record IsPaired (c : Clash) : Type 0 where
+  pub width : HaveColumns c.system.columns c.system.rows
+  pub first : All (IsSubscript c.system.columns) c.x
+  pub second : All (IsSubscript c.system.columns) c.y
 
 abbrev pub rows_in : Rows → List Affine
 rows_in s = s.rows

@@ -5,3 +5,5 @@ pub mod Laws
 pub mod Examples
 pub mod Sizes
 pub mod Drafts
+pub mod Products
+pub mod Sought

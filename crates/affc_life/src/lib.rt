@@ -1,6 +1,7 @@
 //! Elements of an array that are live together, as integer systems.
 #![tactic(auto)]
 
+pub mod clash;
 pub mod columns;
 mod draft;
 mod drafts;
@@ -8,6 +9,8 @@ pub mod examples;
 pub mod fault;
 pub mod laws;
 mod orders;
+pub mod product;
+mod products;
 mod ranges;
 mod rows;
 pub mod stores;
@@ -15,5 +18,7 @@ pub mod systems;
 pub mod times;
 pub mod walk;
 
+pub use clash::ClashProduct;
 pub use fault::ClashFault;
-pub use walk::clashes;
+pub use product::{Found, found_at};
+pub use walk::{clash_products, clashes};

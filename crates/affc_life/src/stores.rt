@@ -1,5 +1,5 @@
 //! The clash systems of a load, a leaf of its tree and a store, as drafts.
-ghost use Rattle.std.specs.Prelude.{◌≡◌, ◌+◌, ◌≤◌, ◌++◌, drop, length, map, IsTrue, IfOk, OnOk};
+ghost use Rattle.std.specs.Prelude.{◌≡◌, ◌+◌, ◌≤◌, ◌++◌, drop, length, map, flat_map, IsTrue, IfOk, OnOk};
 ghost use Rattle.std.specs.List.{All};
 ghost use Rattle.affc_trace.specs.Law.{IsIn};
 ghost use Rattle.affc_nest.specs.Asked.{IsNest};
@@ -11,8 +11,8 @@ ghost use Rattle.affc_life.specs.Clashes.{of_reader, of_writer, front_rows, clas
 ghost use Rattle.affc_life.specs.Drafts.{drafted, posed, rows_in, after_named, before_load};
 
 use crate::columns::{add_padded, columns_from};
-use crate::draft::{Draft, Shared};
-use crate::drafts::add_between;
+use crate::draft::Draft;
+use crate::drafts::factors_between;
 use crate::ranges::clash_ranges;
 use crate::times::target_order;
 use affc_nest::{Access, Entry, Nest};
@@ -202,21 +202,25 @@ pub(crate) fn add_store(
     requires load { IsIn load.now reader.now.accesses }
     requires named { HasForms nest.now leaf.now.columns named.now.statement named.now.forms }
     requires store { IsIn store.now writer.now.accesses }
-    ensures { OnOk result (map drafted out.new.items ≡ map drafted out.old.items ++ clashes_of_store nest.now reader.now (leaf_seen leaf.now) writer.now schedule.now load.now (posed named.now.statement named.now.forms) store.now) }
+    ensures { OnOk result (flat_map drafted out.new.items ≡ flat_map drafted out.old.items ++ clashes_of_store nest.now reader.now (leaf_seen leaf.now) writer.now schedule.now load.now (posed named.now.statement named.now.forms) store.now) }
 {
     let x = loaded(alloc, nest, reader, load, leaf, writer)?;
     let y = stored(alloc, nest, reader, leaf, writer, store)?;
     let ranges = clash_ranges(nest, reader, leaf, writer)?;
-    let shared = Shared {
-        columns: columns_in(leaf, writer),
-        ranges: &ranges,
-        x: x.as_slice(),
-        y: y.as_slice(),
-    };
     let front = front_rows(alloc, nest, reader, leaf, writer)?;
     let after = stored_after(alloc, nest, schedule, reader, leaf, named, writer)?;
     let before = stored_before(alloc, nest, schedule, reader, leaf, writer)?;
-    let (front, after, before) = (front.as_slice(), after.as_slice(), before.as_slice());
-    add_between(alloc, &shared, front, after, before, out)?;
+    let columns = columns_in(leaf, writer);
+    let factors = factors_between(alloc, columns, after, before, x.as_slice(), y.as_slice())?;
+    let Ok(()) = out.push(Draft {
+        columns,
+        front,
+        factors,
+        ranges,
+        x,
+        y,
+    }) else {
+        return Err(AllocError);
+    };
     Ok(())
 }

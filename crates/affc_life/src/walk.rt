@@ -1,5 +1,6 @@
 //! All clash systems of an array.
 ghost use Rattle.std.specs.Prelude.{◌≡◌, ◌+◌, ◌++◌, ◌<◌, Some, drop, length, map, flat_map, slice_get, IfOk, IfErr, OnOk};
+ghost use Rattle.std.specs.List.{All};
 ghost use Rattle.affc_trace.specs.Law.{IsIn};
 ghost use Rattle.affc_order.specs.Asked.{IsScheduled};
 ghost use Rattle.affc_sched.specs.Answered.{Each};
@@ -9,11 +10,14 @@ ghost use Rattle.affc_quast.specs.SeenLeaves.{leaf_seen};
 ghost use Rattle.affc_quast.specs.Sources.{loads_in, loads_before};
 ghost use Rattle.affc_life.specs.Asked.{KeepLimits, KeepsLimits, HasForms, IsLiving, IsPath, AreLoads};
 ghost use Rattle.affc_life.specs.Clashes.{clash_of, clashes_with, clashes_of_entry, numbered_loads, clashes};
-ghost use Rattle.affc_life.specs.Drafts.{drafted, posed, clashes_of_leaf, clashes_of_load};
+ghost use Rattle.affc_life.specs.Drafts.{drafted, IsPaired, posed, clashes_of_leaf, clashes_of_load};
+ghost use Rattle.affc_life.specs.Products.{systems_in};
 ghost use Rattle.affc_life.specs.Sizes.{AnyLarge};
 
+use crate::clash::ClashProduct;
 use crate::draft::Draft;
 use crate::fault::ClashFault;
+use crate::products::products_of;
 use crate::stores::{add_store, loops_round, params_in};
 use crate::systems::add_pairs;
 use affc_ast::tree::ArrayId;
@@ -49,7 +53,7 @@ fn add_writer(
     requires path { IsPath asked.now.nest.now (length asked.now.nest.now.params + length reader.now.loops) (leaf_seen leaf.now) }
     requires named { HasForms asked.now.nest.now leaf.now.columns named.now.statement named.now.forms }
     requires writer { IsIn writer.now asked.now.nest.now.entries }
-    ensures { OnOk result (map drafted out.new.items ≡ map drafted out.old.items ++ clashes_with asked.now.nest.now asked.now.schedule.now asked.now.array.0 reader.now load.now (leaf_seen leaf.now) (posed named.now.statement named.now.forms) writer.now) }
+    ensures { OnOk result (flat_map drafted out.new.items ≡ flat_map drafted out.old.items ++ clashes_with asked.now.nest.now asked.now.schedule.now asked.now.array.0 reader.now load.now (leaf_seen leaf.now) (posed named.now.statement named.now.forms) writer.now) }
 {
     if !writer.alive {
         return Ok(());
@@ -84,7 +88,7 @@ fn add_writers(
     requires path { IsPath asked.now.nest.now (length asked.now.nest.now.params + length reader.now.loops) (leaf_seen leaf.now) }
     requires named { HasForms asked.now.nest.now leaf.now.columns named.now.statement named.now.forms }
     requires writers { Each (λ e. IsIn e asked.now.nest.now.entries) writers.now }
-    ensures { OnOk result (map drafted out.new.items ≡ map drafted out.old.items ++ flat_map (clashes_with asked.now.nest.now asked.now.schedule.now asked.now.array.0 reader.now load.now (leaf_seen leaf.now) (posed named.now.statement named.now.forms)) writers.now) }
+    ensures { OnOk result (flat_map drafted out.new.items ≡ flat_map drafted out.old.items ++ flat_map (clashes_with asked.now.nest.now asked.now.schedule.now asked.now.array.0 reader.now load.now (leaf_seen leaf.now) (posed named.now.statement named.now.forms)) writers.now) }
 {
     match writers {
         [] => Ok(()),
@@ -109,7 +113,7 @@ fn add_leaf(
     requires reads { IsLiving asked.now.nest.now reader.now }
     requires load { IsIn load.now reader.now.accesses }
     requires path { IsPath asked.now.nest.now (length asked.now.nest.now.params + length reader.now.loops) (leaf_seen leaf.now) }
-    ensures { OnOk result (map drafted out.new.items ≡ map drafted out.old.items ++ clashes_of_leaf asked.now.nest.now asked.now.schedule.now asked.now.array.0 reader.now load.now (leaf_seen leaf.now)) }
+    ensures { OnOk result (flat_map drafted out.new.items ≡ flat_map drafted out.old.items ++ clashes_of_leaf asked.now.nest.now asked.now.schedule.now asked.now.array.0 reader.now load.now (leaf_seen leaf.now)) }
 {
     match &leaf.named {
         None => Ok(()),
@@ -134,7 +138,7 @@ fn add_leaves(
     requires reads { IsLiving asked.now.nest.now reader.now }
     requires load { IsIn load.now reader.now.accesses }
     requires paths { Each (IsPath asked.now.nest.now (length asked.now.nest.now.params + length reader.now.loops)) (map leaf_seen leaves.now) }
-    ensures { OnOk result (map drafted out.new.items ≡ map drafted out.old.items ++ flat_map (clashes_of_leaf asked.now.nest.now asked.now.schedule.now asked.now.array.0 reader.now load.now) (map leaf_seen leaves.now)) }
+    ensures { OnOk result (flat_map drafted out.new.items ≡ flat_map drafted out.old.items ++ flat_map (clashes_of_leaf asked.now.nest.now asked.now.schedule.now asked.now.array.0 reader.now load.now) (map leaf_seen leaves.now)) }
 {
     match leaves {
         [] => Ok(()),
@@ -164,7 +168,7 @@ fn add_tree(
     requires reads { IsLiving asked.now.nest.now reader.now }
     requires load { IsIn load.now reader.now.accesses }
     requires tree { KeepsLimits asked.now.nest.now (length asked.now.nest.now.params + length reader.now.loops) (seen tree.now) }
-    ensures { OnOk result (map drafted out.new.items ≡ map drafted out.old.items ++ flat_map (clashes_of_leaf asked.now.nest.now asked.now.schedule.now asked.now.array.0 reader.now load.now) (leaves_of (length asked.now.nest.now.params + length reader.now.loops) (seen tree.now))) }
+    ensures { OnOk result (flat_map drafted out.new.items ≡ flat_map drafted out.old.items ++ flat_map (clashes_of_leaf asked.now.nest.now asked.now.schedule.now asked.now.array.0 reader.now load.now) (leaves_of (length asked.now.nest.now.params + length reader.now.loops) (seen tree.now))) }
 {
     let columns = params_in(asked.nest) + loops_round(reader);
     let leaves = leaves(alloc, columns, tree)?;
@@ -187,7 +191,7 @@ fn add_load(
     requires loads { AreLoads asked.now.nest.now reader.now (map seen trees.now) }
     requires load { slice_get reader.now.accesses number ≡ Some load.now }
     requires counts { number < loads_in reader.now }
-    ensures { OnOk result (map drafted out.new.items ≡ map drafted out.old.items ++ clashes_of_load asked.now.nest.now asked.now.schedule.now asked.now.array.0 reader.now (map seen trees.now) (number, load.now)) }
+    ensures { OnOk result (flat_map drafted out.new.items ≡ flat_map drafted out.old.items ++ clashes_of_load asked.now.nest.now asked.now.schedule.now asked.now.array.0 reader.now (map seen trees.now) (number, load.now)) }
 {
     if load.array.0 != asked.array.0 {
         return Ok(());
@@ -215,7 +219,7 @@ fn add_loads(
     requires reads { IsLiving asked.now.nest.now reader.now }
     requires loads { AreLoads asked.now.nest.now reader.now (map seen trees.now) }
     requires rest { accesses.now ≡ drop number reader.now.accesses }
-    ensures { OnOk result (map drafted out.new.items ≡ map drafted out.old.items ++ flat_map (clashes_of_load asked.now.nest.now asked.now.schedule.now asked.now.array.0 reader.now (map seen trees.now)) (numbered_loads number accesses.now)) }
+    ensures { OnOk result (flat_map drafted out.new.items ≡ flat_map drafted out.old.items ++ flat_map (clashes_of_load asked.now.nest.now asked.now.schedule.now asked.now.array.0 reader.now (map seen trees.now)) (numbered_loads number accesses.now)) }
 {
     match accesses {
         [] => Ok(()),
@@ -261,7 +265,7 @@ fn add_reader(
     requires scheduled { IsScheduled asked.now.nest.now asked.now.schedule.now }
     requires limits { KeepLimits asked.now.nest.now (map seen trees.now) }
     requires reader { IsIn reader.now asked.now.nest.now.entries }
-    ensures { OnOk result (map drafted out.new.items ≡ map drafted out.old.items ++ clashes_of_entry asked.now.nest.now asked.now.schedule.now asked.now.array.0 (map seen trees.now) reader.now) }
+    ensures { OnOk result (flat_map drafted out.new.items ≡ flat_map drafted out.old.items ++ clashes_of_entry asked.now.nest.now asked.now.schedule.now asked.now.array.0 (map seen trees.now) reader.now) }
 {
     if !reader.alive {
         return Ok(());
@@ -283,7 +287,7 @@ fn add_readers(
     requires scheduled { IsScheduled asked.now.nest.now asked.now.schedule.now }
     requires limits { KeepLimits asked.now.nest.now (map seen trees.now) }
     requires readers { Each (λ e. IsIn e asked.now.nest.now.entries) readers.now }
-    ensures { OnOk result (map drafted out.new.items ≡ map drafted out.old.items ++ flat_map (clashes_of_entry asked.now.nest.now asked.now.schedule.now asked.now.array.0 (map seen trees.now)) readers.now) }
+    ensures { OnOk result (flat_map drafted out.new.items ≡ flat_map drafted out.old.items ++ flat_map (clashes_of_entry asked.now.nest.now asked.now.schedule.now asked.now.array.0 (map seen trees.now)) readers.now) }
 {
     match readers {
         [] => Ok(()),
@@ -293,6 +297,30 @@ fn add_readers(
             Ok(())
         }
     }
+}
+
+/// The clash systems of an array, as drafts.
+fn drafts_of(
+    alloc: Global,
+    nest: &Nest,
+    flow: &Flow,
+    schedule: &Schedule,
+    array: ArrayId,
+) -> Result<Vec<Draft>, AllocError>
+    requires scheduled { IsScheduled nest.now schedule.now }
+    requires trees { KeepLimits nest.now (trees_of flow.now) }
+    ensures all { IfOk result (λ drafts. flat_map drafted drafts.items ≡ clashes nest.now (trees_of flow.now) schedule.now array.0) }
+    ensures paired { IfOk result (λ drafts. All IsPaired (flat_map drafted drafts.items)) }
+{
+    let asked = Asked {
+        nest,
+        schedule,
+        array,
+    };
+    let mut drafts = Vec::new(alloc);
+    let trees = flow.trees.as_slice();
+    add_readers(alloc, &asked, trees, nest.entries.as_slice(), &mut drafts)?;
+    Ok(drafts)
 }
 
 /// The clash systems of an array: by loads, leaves of their trees, storing statements, the two orders, and the dimension in
@@ -313,15 +341,27 @@ pub fn clashes(
     ensures fits { IfOk result (λ systems. ¬ (AnyLarge (clashes nest.now (trees_of flow.now) schedule.now array.0))) }
     ensures large { IfErr result (λ e. e ≡ ClashFault.Large → AnyLarge (clashes nest.now (trees_of flow.now) schedule.now array.0)) }
 {
-    let asked = Asked {
-        nest,
-        schedule,
-        array,
-    };
-    let mut drafts = Vec::new(alloc);
-    let trees = flow.trees.as_slice();
-    add_readers(alloc, &asked, trees, nest.entries.as_slice(), &mut drafts)?;
+    let drafts = drafts_of(alloc, nest, flow, schedule, array)?;
     let mut systems = Vec::new(alloc);
     add_pairs(alloc, drafts.as_slice(), &mut systems)?;
     Ok(systems)
+}
+
+/// The clash systems of an array in product form, by loads, leaves of their trees and storing statements: those of `clashes`, in
+/// its order.
+pub fn clash_products(
+    alloc: Global,
+    nest: &Nest,
+    flow: &Flow,
+    schedule: &Schedule,
+    array: ArrayId,
+) -> Result<Vec<ClashProduct>, ClashFault>
+    requires scheduled { IsScheduled nest.now schedule.now }
+    requires trees { KeepLimits nest.now (trees_of flow.now) }
+    ensures ok { IfOk result (λ ps. map clash_of (flat_map systems_in ps.items) ≡ clashes nest.now (trees_of flow.now) schedule.now array.0) }
+    ensures fits { IfOk result (λ ps. ¬ (AnyLarge (clashes nest.now (trees_of flow.now) schedule.now array.0))) }
+    ensures large { IfErr result (λ e. e ≡ ClashFault.Large → AnyLarge (clashes nest.now (trees_of flow.now) schedule.now array.0)) }
+{
+    let drafts = drafts_of(alloc, nest, flow, schedule, array)?;
+    products_of(alloc, drafts)
 }

@@ -1,8 +1,8 @@
 -- Distances along a row, as the code makes them.
-use Rattle.std.proofs.Common.{◌≡◌, ℕ, suc, ◌+◌, ◌*◌, ◌^◌, ◌≤◌, ℤ, pos, negsuc, ◌+ℤ◌, List, [], ◌∷◌, ◌++◌, length, refl, sym, ap, subst, ◌∙◌, inl, inr, arith}
+use Rattle.std.proofs.Common.{◌≡◌, ℕ, suc, ◌+◌, ◌*◌, ◌^◌, ◌≤◌, ℤ, pos, negsuc, ◌+ℤ◌, List, [], ◌∷◌, ◌++◌, length, take, refl, sym, ap, subst, ◌∙◌, inl, inr, arith}
 use Rattle.std.specs.Prelude.{unsigned_abs}
 use Rattle.std.specs.List.{All}
-use Rattle.std.proofs.lemmas.List.Elements.{All-nil, All-cons, All-head, All-tail, All-append}
+use Rattle.std.proofs.lemmas.List.Elements.{All-nil, All-cons, All-head, All-tail, All-append, All-take}
 use Rattle.affc_rows.specs.Forms.{Affine, dot, constants_of, composed, mixed_form}
 use Rattle.affc_rows.proofs.IntLemmas.{abs-add}
 use Rattle.affc_system.specs.Pairs.{IsSubscript}
@@ -23,6 +23,7 @@ use Rattle.affc_life.proofs.LightLemmas.{all_of}
 use Rattle.affc_conflicts.specs.Questions.{differences, distance, agree_rows, over_columns}
 use Rattle.affc_questions.specs.Asked.{AreElements, IsAlong, IsModulusOver}
 use Rattle.affc_questions.specs.Sizes.{IsBroad, IsMild}
+use Rattle.affc_questions.specs.Tails.{shown_tail}
 use Rattle.affc_questions.proofs.ImageLemmas.{IsBelow, composed_below, constant_below, composed_long}
 use Rattle.affc_questions.proofs.SizeLemmas.{subscripts_light, subscripts_below, constants_apart, number_mild, gap_row_fits, less_one_mild, mild_broad, mild_row, modulus_mild, box_fit}
 
@@ -182,26 +183,23 @@ agree_fit s (r ∷ rs) h =
     (equal_fit s.system.columns (distance r s.x.items s.y.items) (number_form s.system.columns (pos 0)) (distance_mild s.system.columns r s.x.items s.y.items (All-head (λ r. AreElements s.system.columns r s.x.items s.y.items) r rs h)) (number_mild s.system.columns (pos 0) (omega arith)))
     (agree_fit s rs (All-tail (λ r. AreElements s.system.columns r s.x.items s.y.items) r rs h))
 
-pub slice_fit : (s : PairSystem) (first own made out : List Affine) → All (IsRow s.system.columns) own → made ≡ own → All (λ r. AreElements s.system.columns r s.x.items s.y.items) first → out ≡ made ++ agree_rows s first
-    → All (IsRow s.system.columns) out
-slice_fit s first own made out fit m all e =
-    subst (All (IsRow s.system.columns)) (sym e) (All-append (IsRow s.system.columns) made (agree_rows s first) (subst (All (IsRow s.system.columns)) (sym m) fit) (agree_fit s first all))
-
 -- over so many columns
 pub fit_at : (n k : ℕ) (rows : List Affine) (s : Rows) → k ≡ n → s ≡ record { columns = k; rows = rows } → All (IsRow n) rows → All (IsRow s.columns) s.rows
 fit_at n k rows s q e fit = subst (λ (t : Rows). All (IsRow t.columns) t.rows) (sym e) (subst (λ j. All (IsRow j) rows) (sym q) fit)
 
-pub shown_rows_fit : (n k : ℕ) (row modulus : Affine) (xs ys : List Affine) → AreElements n row xs ys → IsModulusOver n modulus → (slice first out : List Affine) (apart less one : Affine) (s : Rows) → k ≡ n
-    → All (IsRow n) slice → apart ≡ distance row xs ys → less ≡ mixed_form (pos 1) (over_columns k modulus) (negsuc 0) (number_form k (pos 1)) → one ≡ number_form k (pos 1)
-    → first ≡ slice ++ compare_rows Equal apart less → out ≡ first ++ gap_row one apart 0 ∷ [] → s ≡ record { columns = k; rows = out } → All (IsRow s.columns) s.rows
-shown_rows_fit n k row modulus xs ys e m slice first out apart less one s q fit a l o f g h =
-    let apart_mild : IsMild n apart = subst (IsMild n) (sym a) (distance_mild n row xs ys e) in
-    let less_mild : IsMild n less = subst (IsMild n) (sym (l ∙ ap (λ j. mixed_form (pos 1) (over_columns j modulus) (negsuc 0) (number_form j (pos 1))) q)) (less_one_mild n modulus m) in
-    let one_mild : IsMild n one = subst (IsMild n) (sym (o ∙ ap (λ j. number_form j (pos 1)) q)) (number_mild n (pos 1) (omega arith)) in
-    let all : All (IsRow n) ((slice ++ compare_rows Equal apart less) ++ gap_row one apart 0 ∷ []) =
-    All-append (IsRow n) (slice ++ compare_rows Equal apart less) (gap_row one apart 0 ∷ []) (All-append (IsRow n) slice (compare_rows Equal apart less) fit (equal_fit n apart less apart_mild less_mild))
-    (All-cons (IsRow n) (gap_row one apart 0) [] (gap_row_fits n one apart 0 one_mild apart_mild (omega arith)) (All-nil (IsRow n))) in
-    fit_at n k out s q h (subst (All (IsRow n)) (sym (g ∙ ap (λ zs. zs ++ gap_row one apart 0 ∷ []) f)) all)
+-- what is shown of a mark
+pub shown_tail_fits : (rows : List Affine) (k : ℕ) (row modulus : Affine) (s : PairSystem) (xs ys : List Affine) → All (λ r. AreElements s.system.columns r s.x.items s.y.items) rows
+    → AreElements s.system.columns row xs ys → IsModulusOver s.system.columns modulus → All (IsRow s.system.columns) (shown_tail rows k row modulus s xs ys)
+shown_tail_fits rows k row modulus s xs ys all e m =
+    let n = s.system.columns in
+    let apart = distance row xs ys in
+    let one = number_form n (pos 1) in
+    let less = mixed_form (pos 1) (over_columns n modulus) (negsuc 0) one in
+    let apart_mild : IsMild n apart = distance_mild n row xs ys e in
+    let one_mild : IsMild n one = number_mild n (pos 1) (omega arith) in
+    All-append (IsRow n) (agree_rows s (take k rows)) (compare_rows Equal apart less ++ gap_row one apart 0 ∷ []) (agree_fit s (take k rows) (All-take (λ r. AreElements n r s.x.items s.y.items) k rows all))
+    (All-append (IsRow n) (compare_rows Equal apart less) (gap_row one apart 0 ∷ []) (equal_fit n apart less apart_mild (less_one_mild n modulus m))
+    (All-cons (IsRow n) (gap_row one apart 0) [] (gap_row_fits n one apart 0 one_mild apart_mild (omega arith)) (All-nil (IsRow n))))
 
 -- where a modulus is 1
 pub one_rows_fit : (n k : ℕ) (b one : Affine) (none out : List Affine) (s : Rows) → IsModulus n b → k ≡ n → one ≡ number_form k (pos 1) → none ≡ [] → out ≡ none ++ compare_rows Equal b one → s ≡ record { columns = k; rows = out } → All (IsRow s.columns) s.rows

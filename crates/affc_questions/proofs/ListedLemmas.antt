@@ -7,7 +7,7 @@ use Rattle.affc_system.specs.Systems.{Rows}
 use Rattle.affc_ast.specs.declared.tree.Rel.TheVariants.{Less, Greater}
 use Rattle.affc_trace.specs.Law.{IsIn}
 use Rattle.affc_trace.proofs.EndedReads.{append_assoc}
-use Rattle.affc_trace.proofs.LastStores.{map_append}
+use Rattle.affc_trace.proofs.LastStores.{map_append, append_nil}
 use Rattle.affc_trace.proofs.Once.{in_append}
 use Rattle.affc_nest.specs.Domains.{compare_rows}
 use Rattle.affc_nest.specs.declared.nest.Access.{Access}
@@ -21,7 +21,8 @@ use Rattle.affc_life.specs.Drafts.{posed, rows_in}
 use Rattle.affc_flow.specs.Asked.{writers_of}
 use Rattle.affc_flow.specs.Questions as asks
 use Rattle.affc_flow.specs.Questions.{Question, Writer, poses, is_temporary, store_of_entry, writer_if, writers}
-use Rattle.affc_questions.specs.Listed.{systems_of, behind, sides, joined, first_posed, negations, own_path, over_path, own_columns, images, late_lists, over_beside, earlier_systems, between_systems, all_earlier, all_between, named_systems, found_systems, input_systems, systems_for}
+use Rattle.affc_questions.specs.declared.group.Group.{Group}
+use Rattle.affc_questions.specs.Listed.{group_systems, systems_of, behind, sides, joined, first_posed, negations, own_path, over_path, own_columns, images, late_lists, over_beside, earlier_systems, between_systems, all_earlier, all_between, named_systems, found_systems, input_systems, systems_for}
 
 -- ---- Maps
 
@@ -40,6 +41,19 @@ map_flat f g h e (x ∷ xs) = map_append f (g x) (flat_map g xs) ∙ ap (λ ys. 
 pub flat_append : {A B : Type 0} (f : A → List B) (xs ys : List A) → flat_map f (xs ++ ys) ≡ flat_map f xs ++ flat_map f ys
 flat_append f [] ys = refl
 flat_append f (x ∷ xs) ys = ap (λ zs. f x ++ zs) (flat_append f xs ys) ∙ sym (append_assoc (f x) (flat_map f xs) (flat_map f ys))
+
+-- ---- Groups
+
+-- the systems of one group more
+pub group_more : (gs : List Group) (g : Group) → flat_map group_systems (gs ++ g ∷ []) ≡ flat_map group_systems gs ++ group_systems g
+group_more gs g = flat_append group_systems gs (g ∷ []) ∙ ap (λ zs. flat_map group_systems gs ++ zs) (append_nil (group_systems g))
+
+-- those of two lists behind one front, and others behind them
+pub lists_made : (B : List Affine → Rows) (old first new others : List Rows) (ones twos lists : List (List Affine)) → lists ≡ ones ++ twos → first ≡ old ++ map B lists → new ≡ first ++ others
+    → new ≡ old ++ (map B ones ++ (map B twos ++ others))
+lists_made B old first new others ones twos lists i d e =
+    e ∙ ap (λ s. s ++ others) (d ∙ ap (λ ls. old ++ map B ls) i ∙ ap (λ s. old ++ s) (map_append B ones twos))
+    ∙ append_assoc old (map B ones ++ map B twos) others ∙ ap (λ s. old ++ s) (append_assoc (map B ones) (map B twos) others)
 
 -- ---- The first statement that is named
 

@@ -7,11 +7,10 @@ use Rattle.std.proofs.lemmas.List.Elements.{All-head, All-tail}
 use Rattle.affc_rows.specs.Forms.{Affine, dot, column_of, constants_of, composed, mixed, mixed_form, entry_magnitude, mixed_magnitudes, mixed_form_magnitudes, TooWide}
 use Rattle.affc_rows.proofs.IntLemmas.{mul-add}
 use Rattle.affc_nest.specs.Domains.{gap_row}
-use Rattle.affc_order.specs.Posed.{form_at}
 use Rattle.affc_conflicts.specs.Questions.{differences, distance}
 use Rattle.affc_questions.specs.Asked.{AreElements}
 use Rattle.affc_questions.specs.Sizes.{IsBroad}
-use Rattle.affc_questions.proofs.DistanceLemmas.{plain, distance_is}
+use Rattle.affc_questions.proofs.DistanceLemmas.{distance_is}
 
 -- numbers that sum to 0 in turn
 abbrev AreOpposite : List ℤ → List ℤ → Type 0

@@ -2,3 +2,4 @@ pub mod Sizes
 pub mod Asked
 pub mod Listed
 pub mod Laws
+pub mod Tails

@@ -2,13 +2,6 @@
 use Rattle.std.specs.Prelude.{◌≡◌, ℕ, ◌^◌, ◌≤◌, unsigned_abs, length}
 use Rattle.std.specs.List.{All}
 use Rattle.affc_rows.specs.Forms.{Affine}
-use Rattle.affc_system.specs.Systems.{Rows, IsRow}
-
--- at most 128 columns and 1,024 rows, each row over these columns and within the limits of a row
-pub record IsWithin (s : Rows) : Type 0 where
-  pub columns : s.columns ≤ 128
-  pub few : length s.rows ≤ 1024
-  pub rows : All (IsRow s.columns) s.rows
 
 -- a form over so many columns whose differences can be taken
 pub record IsBroad (columns : ℕ) (form : Affine) : Type 0 where

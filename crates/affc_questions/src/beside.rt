@@ -1,5 +1,5 @@
 //! The questions of a leaf with instances of statements that store the array.
-ghost use Rattle.std.specs.Prelude.{◌≡◌, ◌+◌, ◌≤◌, ◌++◌, ◌∷◌, [], length, IfOk, OnOk};
+ghost use Rattle.std.specs.Prelude.{◌≡◌, ◌+◌, ◌≤◌, ◌++◌, ◌∷◌, [], length, flat_map, IfOk, OnOk};
 ghost use Rattle.std.specs.List.{All};
 ghost use Rattle.affc_trace.specs.Law.{IsIn};
 ghost use Rattle.affc_flow.specs.Questions.{beside_rows};
@@ -7,16 +7,15 @@ ghost use Rattle.affc_quast.specs.SeenLeaves.{leaf_seen};
 ghost use Rattle.affc_life.specs.Asked.{HasForms};
 ghost use Rattle.affc_life.specs.Drafts.{posed};
 ghost use Rattle.affc_questions.specs.Asked.{IsLeafOf, IsWriter};
-ghost use Rattle.affc_questions.specs.Listed.{earlier_systems, between_systems, all_earlier, all_between};
+ghost use Rattle.affc_questions.specs.Listed.{group_systems, earlier_systems, between_systems, all_earlier, all_between};
 
-use crate::lists::{add_behind, add_joined};
-use crate::long::Long;
+use crate::group::Group;
+use crate::lists::{add_each, add_joined};
 use crate::rows::add_equals;
 use affc_flow::store_for;
 use affc_life::stores::{front_rows, loaded, loops_round, stored, stored_after, stored_before};
 use affc_nest::{Access, Entry, Nest};
 use affc_quast::leaves::{Leaf, Named};
-use affc_quast::rows::add_copies;
 use affc_rows::Form;
 use affc_trace::schedule::Schedule;
 use sqlite_items::Items;
@@ -49,8 +48,7 @@ fn beside_rows(
     let front = front_rows(alloc, nest, reader, leaf, writer)?;
     let read = loaded(alloc, nest, reader, load, leaf, writer)?;
     let written = stored(alloc, nest, reader, leaf, writer, store)?;
-    let mut rows = Items::new(alloc);
-    add_copies(front.as_slice(), &mut rows)?;
+    let mut rows = Items::from_vec(front);
     add_equals(
         alloc,
         columns,
@@ -70,16 +68,16 @@ fn add_earlier(
     leaf: &Leaf,
     writer: &Entry,
     store: &Access,
-    out: &mut Vec<Long>,
+    out: &mut Vec<Group>,
 ) -> Result<(), AllocError>
     requires leaf { IsLeafOf nest.now reader.now load.now (leaf_seen leaf.now) }
     requires writer { IsWriter nest.now writer.now store.now }
-    ensures { OnOk result (out.new.items ≡ out.old.items ++ earlier_systems nest.now reader.now load.now (leaf_seen leaf.now) writer.now store.now) }
+    ensures { OnOk result (flat_map group_systems out.new.items ≡ flat_map group_systems out.old.items ++ earlier_systems nest.now reader.now load.now (leaf_seen leaf.now) writer.now store.now) }
 {
     let columns = columns_beside(leaf, writer);
     let front = beside_rows(alloc, nest, reader, load, leaf, writer, store)?;
     let before = stored_before(alloc, nest, &Schedule::Source, reader, leaf, writer)?;
-    add_behind(alloc, columns, front.as_slice(), before.as_slice(), out)
+    add_each(alloc, columns, front, before, out)
 }
 
 /// Adds the questions whether an instance of the statement is later than the one that is named and earlier than the load.
@@ -92,20 +90,18 @@ fn add_between(
     named: &Named,
     writer: &Entry,
     store: &Access,
-    out: &mut Vec<Long>,
+    out: &mut Vec<Group>,
 ) -> Result<(), AllocError>
     requires leaf { IsLeafOf nest.now reader.now load.now (leaf_seen leaf.now) }
     requires named { HasForms nest.now leaf.now.columns named.now.statement named.now.forms }
     requires writer { IsWriter nest.now writer.now store.now }
-    ensures { OnOk result (out.new.items ≡ out.old.items ++ between_systems nest.now reader.now load.now (leaf_seen leaf.now) writer.now store.now (posed named.now.statement named.now.forms)) }
+    ensures { OnOk result (flat_map group_systems out.new.items ≡ flat_map group_systems out.old.items ++ between_systems nest.now reader.now load.now (leaf_seen leaf.now) writer.now store.now (posed named.now.statement named.now.forms)) }
 {
     let columns = columns_beside(leaf, writer);
     let front = beside_rows(alloc, nest, reader, load, leaf, writer, store)?;
     let before = stored_before(alloc, nest, &Schedule::Source, reader, leaf, writer)?;
     let after = stored_after(alloc, nest, &Schedule::Source, reader, leaf, named, writer)?;
-    let mut lists = Vec::new(alloc);
-    add_joined(alloc, after.as_slice(), before.as_slice(), &mut lists)?;
-    add_behind(alloc, columns, front.as_slice(), lists.as_slice(), out)
+    add_joined(alloc, columns, front, after, before, out)
 }
 
 /// Adds those of a statement, if it stores the array.
@@ -116,11 +112,11 @@ fn add_earlier_of(
     load: &Access,
     leaf: &Leaf,
     entry: &Entry,
-    out: &mut Vec<Long>,
+    out: &mut Vec<Group>,
 ) -> Result<(), AllocError>
     requires leaf { IsLeafOf nest.now reader.now load.now (leaf_seen leaf.now) }
     requires entry { IsIn entry.now nest.now.entries }
-    ensures { OnOk result (out.new.items ≡ out.old.items ++ all_earlier nest.now reader.now load.now (leaf_seen leaf.now) (entry.now ∷ [])) }
+    ensures { OnOk result (flat_map group_systems out.new.items ≡ flat_map group_systems out.old.items ++ all_earlier nest.now reader.now load.now (leaf_seen leaf.now) (entry.now ∷ [])) }
 {
     match store_for(entry, load.array.0) {
         None => Ok(()),
@@ -136,11 +132,11 @@ pub(crate) fn add_all_earlier(
     load: &Access,
     leaf: &Leaf,
     entries: &[Entry],
-    out: &mut Vec<Long>,
+    out: &mut Vec<Group>,
 ) -> Result<(), AllocError>
     requires leaf { IsLeafOf nest.now reader.now load.now (leaf_seen leaf.now) }
     requires entries { All (λ e. IsIn e nest.now.entries) entries.now }
-    ensures { OnOk result (out.new.items ≡ out.old.items ++ all_earlier nest.now reader.now load.now (leaf_seen leaf.now) entries.now) }
+    ensures { OnOk result (flat_map group_systems out.new.items ≡ flat_map group_systems out.old.items ++ all_earlier nest.now reader.now load.now (leaf_seen leaf.now) entries.now) }
 {
     match entries {
         [] => Ok(()),
@@ -162,12 +158,12 @@ fn add_between_of(
     leaf: &Leaf,
     named: &Named,
     entry: &Entry,
-    out: &mut Vec<Long>,
+    out: &mut Vec<Group>,
 ) -> Result<(), AllocError>
     requires leaf { IsLeafOf nest.now reader.now load.now (leaf_seen leaf.now) }
     requires named { HasForms nest.now leaf.now.columns named.now.statement named.now.forms }
     requires entry { IsIn entry.now nest.now.entries }
-    ensures { OnOk result (out.new.items ≡ out.old.items ++ all_between nest.now reader.now load.now (leaf_seen leaf.now) (posed named.now.statement named.now.forms) (entry.now ∷ [])) }
+    ensures { OnOk result (flat_map group_systems out.new.items ≡ flat_map group_systems out.old.items ++ all_between nest.now reader.now load.now (leaf_seen leaf.now) (posed named.now.statement named.now.forms) (entry.now ∷ [])) }
 {
     match store_for(entry, load.array.0) {
         None => Ok(()),
@@ -185,12 +181,12 @@ pub(crate) fn add_all_between(
     leaf: &Leaf,
     named: &Named,
     entries: &[Entry],
-    out: &mut Vec<Long>,
+    out: &mut Vec<Group>,
 ) -> Result<(), AllocError>
     requires leaf { IsLeafOf nest.now reader.now load.now (leaf_seen leaf.now) }
     requires named { HasForms nest.now leaf.now.columns named.now.statement named.now.forms }
     requires entries { All (λ e. IsIn e nest.now.entries) entries.now }
-    ensures { OnOk result (out.new.items ≡ out.old.items ++ all_between nest.now reader.now load.now (leaf_seen leaf.now) (posed named.now.statement named.now.forms) entries.now) }
+    ensures { OnOk result (flat_map group_systems out.new.items ≡ flat_map group_systems out.old.items ++ all_between nest.now reader.now load.now (leaf_seen leaf.now) (posed named.now.statement named.now.forms) entries.now) }
 {
     match entries {
         [] => Ok(()),

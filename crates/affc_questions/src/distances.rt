@@ -5,16 +5,17 @@ ghost use Rattle.affc_rows.specs.Forms.{value, mixed_form};
 ghost use Rattle.affc_system.specs.Pairs.{IsSubscript};
 ghost use Rattle.affc_system.specs.Systems.{IsRow};
 ghost use Rattle.affc_trace.specs.Law.{IsIn};
-ghost use Rattle.affc_nest.specs.Domains.{gap_row, number_form, with_rows};
-ghost use Rattle.affc_conflicts.specs.Questions.{differences, distance, agree_rows, slice_system, over_columns, distance_questions, shown_system};
+ghost use Rattle.affc_ast.specs.declared.tree.Rel.TheVariants.{Equal};
+ghost use Rattle.affc_nest.specs.Domains.{gap_row, compare_rows, number_form};
+ghost use Rattle.affc_conflicts.specs.Questions.{differences, distance, agree_rows, over_columns};
 ghost use Rattle.affc_questions.specs.Asked.{AreBasisRows, IsAlong, IsModulusOver, AreElements};
 ghost use Rattle.affc_questions.specs.Sizes.{IsBroad};
+ghost use Rattle.affc_questions.specs.Tails.{distance_tail, shown_tail};
 
 use crate::image::image_of;
-use crate::long::Long;
 use crate::rows::{add_equal, add_gap, minus, number};
 use affc_order::columns::spread;
-use affc_quast::rows::{add_copies, copied};
+use affc_quast::rows::copied;
 use affc_rows::{Form, FormFault};
 use affc_system::PairSystem;
 use affc_system::system::value_at;
@@ -108,23 +109,6 @@ fn first_rows(rows: &[Form], k: usize) -> &[Form]
     first
 }
 
-/// The rows of a clash system and of its slice: the elements lie apart along none of the first k rows.
-fn slice_rows(
-    alloc: Global,
-    rows: &[Form],
-    k: usize,
-    pair: &PairSystem,
-) -> Result<Items<Form>, AllocError>
-    requires { All (λ row. AreElements pair.now.system.columns row pair.now.x.items pair.now.y.items) rows.now }
-    ensures value { IfOk result (λ r. r ≡ (slice_system rows.now k pair.now).rows) }
-    ensures fit { IfOk result (λ r. All (IsRow pair.now.system.columns) r) }
-{
-    let first = first_rows(rows, k);
-    let mut made = copied(alloc, pair.system.rows())?;
-    add_agree(alloc, pair, first, &mut made)?;
-    Ok(made)
-}
-
 /// A modulus over more columns.
 fn over_columns(alloc: Global, columns: u32, modulus: &Form) -> Result<Form, AllocError>
     requires { IsModulusOver columns modulus.now }
@@ -196,7 +180,8 @@ pub fn distance_rows(
     pair: &PairSystem,
 ) -> Result<(Items<Form>, Items<Form>), AllocError>
     requires { IsAlong rows.now row.now modulus.now pair.now }
-    ensures { IfOk result (λ more. distance_questions rows.now k row.now modulus.now (pair.now ∷ []) ≡ with_rows pair.now.system more.0 ∷ with_rows pair.now.system more.1 ∷ []) }
+    ensures first { IfOk result (λ more. more.0 ≡ distance_tail rows.now k row.now modulus.now pair.now pair.now.x.items pair.now.y.items) }
+    ensures second { IfOk result (λ more. more.1 ≡ distance_tail rows.now k row.now modulus.now pair.now pair.now.y.items pair.now.x.items) }
 {
     let mut second = Items::new(alloc);
     add_agree(alloc, pair, first_rows(rows, k), &mut second)?;
@@ -221,7 +206,29 @@ pub fn is_behind(
     Ok(value_at(&apart, point) < 0)
 }
 
-/// The system at whose points x lies behind y by the modulus less 1, and by at least 1.
+/// Adds the rows that x lies behind y by the modulus less 1, and by at least 1.
+fn add_shown(
+    alloc: Global,
+    row: &Form,
+    modulus: &Form,
+    pair: &PairSystem,
+    xs: &[Form],
+    ys: &[Form],
+    out: &mut Items<Form>,
+) -> Result<(), AllocError>
+    requires elements { AreElements pair.now.system.columns row.now xs.now ys.now }
+    requires modulus { IsModulusOver pair.now.system.columns modulus.now }
+    ensures { OnOk result (out.new ≡ out.old ++ (compare_rows Equal (distance row.now xs.now ys.now) (mixed_form (pos 1) (over_columns pair.now.system.columns modulus.now) (negsuc 0) (number_form pair.now.system.columns (pos 1))) ++ gap_row (number_form pair.now.system.columns (pos 1)) (distance row.now xs.now ys.now) 0 ∷ [])) }
+{
+    let columns = pair.system.columns();
+    let apart = distance(alloc, columns, row, xs, ys)?;
+    let one = number(alloc, columns, 1)?;
+    let less = less_one(alloc, columns, modulus)?;
+    add_equal(alloc, columns, &apart, &less, out)?;
+    add_gap(alloc, columns, &one, &apart, 0, out)
+}
+
+/// The rows behind a clash system's at whose points x lies behind y by the modulus less 1, and by at least 1.
 fn shown(
     alloc: Global,
     rows: &[Form],
@@ -231,27 +238,21 @@ fn shown(
     pair: &PairSystem,
     xs: &[Form],
     ys: &[Form],
-) -> Result<Long, AllocError>
+) -> Result<Items<Form>, AllocError>
     requires rows { All (λ r. AreElements pair.now.system.columns r pair.now.x.items pair.now.y.items) rows.now }
     requires elements { AreElements pair.now.system.columns row.now xs.now ys.now }
     requires modulus { IsModulusOver pair.now.system.columns modulus.now }
-    ensures is { IfOk result (λ s. s ≡ shown_system rows.now k row.now modulus.now pair.now xs.now ys.now) }
-    ensures columns { IfOk result (λ s. s.columns ≤ 128) }
-    ensures rows { IfOk result (λ s. All (IsRow s.columns) s.rows) }
+    ensures { IfOk result (λ r. r ≡ shown_tail rows.now k row.now modulus.now pair.now xs.now ys.now) }
 {
-    let columns = pair.system.columns();
-    let mut made = slice_rows(alloc, rows, k, pair)?;
-    let apart = distance(alloc, columns, row, xs, ys)?;
-    let one = number(alloc, columns, 1)?;
-    let less = less_one(alloc, columns, modulus)?;
-    add_equal(alloc, columns, &apart, &less, &mut made)?;
-    add_gap(alloc, columns, &one, &apart, 0, &mut made)?;
-    Ok(Long::new(columns, made))
+    let mut made = Items::new(alloc);
+    add_agree(alloc, pair, first_rows(rows, k), &mut made)?;
+    add_shown(alloc, row, modulus, pair, xs, ys, &mut made)?;
+    Ok(made)
 }
 
-/// The system at whose points two elements lie apart along the row by the modulus less 1, and by at least 1: the first one
-/// of the clash system ahead, or the second one where they are turned.
-pub fn shown_system(
+/// The rows behind a clash system's at whose points two elements lie apart along the row by the modulus less 1, and by at least 1:
+/// the first one of the clash system ahead, or the second one where they are turned.
+pub fn shown_rows(
     alloc: Global,
     rows: &[Form],
     k: usize,
@@ -259,11 +260,10 @@ pub fn shown_system(
     modulus: &Form,
     pair: &PairSystem,
     turned: bool,
-) -> Result<Long, AllocError>
+) -> Result<Items<Form>, AllocError>
     requires { IsAlong rows.now row.now modulus.now pair.now }
-    ensures is { IfOk result (λ s. s ≡ (if turned then shown_system rows.now k row.now modulus.now pair.now pair.now.y.items pair.now.x.items else shown_system rows.now k row.now modulus.now pair.now pair.now.x.items pair.now.y.items)) }
-    ensures columns { IfOk result (λ s. s.columns ≤ 128) }
-    ensures rows { IfOk result (λ s. All (IsRow s.columns) s.rows) }
+    ensures is { IfOk result (λ r. r ≡ (if turned then shown_tail rows.now k row.now modulus.now pair.now pair.now.y.items pair.now.x.items else shown_tail rows.now k row.now modulus.now pair.now pair.now.x.items pair.now.y.items)) }
+    ensures rows { IfOk result (λ r. All (IsRow pair.now.system.columns) r) }
 {
     let (xs, ys) = (pair.x.as_slice(), pair.y.as_slice());
     if turned {

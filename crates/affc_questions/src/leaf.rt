@@ -9,11 +9,11 @@ ghost use Rattle.affc_life.specs.Drafts.{posed};
 ghost use Rattle.affc_flow.specs.Asked.{writers_of};
 ghost use Rattle.affc_flow.specs.Questions.{leaf_questions};
 ghost use Rattle.affc_questions.specs.Asked.{IsLeafOf, IsWriter, IsInstanceOf};
-ghost use Rattle.affc_questions.specs.Listed.{systems_of, first_posed, over_path, named_systems, found_systems, input_systems};
+ghost use Rattle.affc_questions.specs.Listed.{group_systems, systems_of, first_posed, over_path, named_systems, found_systems, input_systems};
 
 use crate::beside::{add_all_between, add_all_earlier};
-use crate::lists::add_behind;
-use crate::long::Long;
+use crate::group::Group;
+use crate::lists::{add_each, add_front};
 use crate::named::{astray_lists, late_lists, own_path};
 use affc_flow::{is_temporary, store_for};
 use affc_nest::{Access, Entry, Nest};
@@ -65,15 +65,14 @@ fn add_path(
     alloc: Global,
     reader: &Entry,
     leaf: &Leaf,
-    out: &mut Vec<Long>,
+    out: &mut Vec<Group>,
 ) -> Result<(), AllocError>
     requires domain { All (λ f. length f.coefs ≤ leaf.now.columns) reader.now.domain.rows }
     requires tests { All (λ f. length f.coefs ≤ leaf.now.columns) leaf.now.rows }
-    ensures { OnOk result (out.new.items ≡ out.old.items ++ over_path reader.now (leaf_seen leaf.now) ([] ∷ [])) }
+    ensures { OnOk result (flat_map group_systems out.new.items ≡ flat_map group_systems out.old.items ++ over_path reader.now (leaf_seen leaf.now) ([] ∷ [])) }
 {
     let path = own_path(alloc, reader, leaf)?;
-    let nothing = [Items::new(alloc)];
-    add_behind(alloc, leaf.columns, path.as_slice(), &nothing, out)
+    add_front(alloc, leaf.columns, Items::from_vec(path), out)
 }
 
 /// Adds the questions of a leaf that names an instance of this statement.
@@ -86,21 +85,21 @@ fn add_named(
     named: &Named,
     writer: &Entry,
     store: &Access,
-    out: &mut Vec<Long>,
+    out: &mut Vec<Group>,
 ) -> Result<(), AllocError>
     requires leaf { IsLeafOf nest.now reader.now load.now (leaf_seen leaf.now) }
     requires writer { IsWriter nest.now writer.now store.now }
     requires named { IsInstanceOf nest.now leaf.now.columns (posed named.now.statement named.now.forms) writer.now }
-    ensures { OnOk result (out.new.items ≡ out.old.items ++ named_systems nest.now reader.now load.now (leaf_seen leaf.now) (posed named.now.statement named.now.forms) writer.now store.now) }
+    ensures { OnOk result (flat_map group_systems out.new.items ≡ flat_map group_systems out.old.items ++ named_systems nest.now reader.now load.now (leaf_seen leaf.now) (posed named.now.statement named.now.forms) writer.now store.now) }
 {
     let path = own_path(alloc, reader, leaf)?;
-    let path = path.as_slice();
-    let astray = astray_lists(alloc, nest, reader, load, leaf, named, writer, store)?;
-    add_behind(alloc, leaf.columns, path, astray.as_slice(), out)?;
-    let late = late_lists(alloc, nest, reader, leaf.columns, named)?;
-    add_behind(alloc, leaf.columns, path, late.as_slice(), out)?;
+    let mut lists = astray_lists(alloc, nest, reader, load, leaf, named, writer, store)?;
+    let mut late = late_lists(alloc, nest, reader, leaf.columns, named)?;
+    lists.append(&mut late)?;
+    add_each(alloc, leaf.columns, Items::from_vec(path), lists, out)?;
     let entries = nest.entries.as_slice();
-    add_all_between(alloc, nest, reader, load, leaf, named, entries, out)
+    add_all_between(alloc, nest, reader, load, leaf, named, entries, out)?;
+    Ok(())
 }
 
 /// Adds the questions of a leaf that names an instance.
@@ -111,11 +110,11 @@ fn add_found(
     load: &Access,
     leaf: &Leaf,
     named: &Named,
-    out: &mut Vec<Long>,
+    out: &mut Vec<Group>,
 ) -> Result<(), AllocError>
     requires leaf { IsLeafOf nest.now reader.now load.now (leaf_seen leaf.now) }
     requires named { HasForms nest.now leaf.now.columns named.now.statement named.now.forms }
-    ensures { OnOk result (out.new.items ≡ out.old.items ++ found_systems nest.now reader.now load.now (leaf_seen leaf.now) (posed named.now.statement named.now.forms) (first_posed (posed named.now.statement named.now.forms) (flat_map (writers_of load.now.array.0) nest.now.entries))) }
+    ensures { OnOk result (flat_map group_systems out.new.items ≡ flat_map group_systems out.old.items ++ found_systems nest.now reader.now load.now (leaf_seen leaf.now) (posed named.now.statement named.now.forms) (first_posed (posed named.now.statement named.now.forms) (flat_map (writers_of load.now.array.0) nest.now.entries))) }
 {
     match named_among(nest.entries.as_slice(), load.array.0, named) {
         None => add_path(alloc, reader, leaf, out),
@@ -133,10 +132,10 @@ fn add_input(
     reader: &Entry,
     load: &Access,
     leaf: &Leaf,
-    out: &mut Vec<Long>,
+    out: &mut Vec<Group>,
 ) -> Result<(), AllocError>
     requires { IsLeafOf nest.now reader.now load.now (leaf_seen leaf.now) }
-    ensures { OnOk result (out.new.items ≡ out.old.items ++ input_systems nest.now reader.now load.now (leaf_seen leaf.now)) }
+    ensures { OnOk result (flat_map group_systems out.new.items ≡ flat_map group_systems out.old.items ++ input_systems nest.now reader.now load.now (leaf_seen leaf.now)) }
 {
     if is_temporary(nest, load.array) {
         add_path(alloc, reader, leaf, out)
@@ -146,19 +145,19 @@ fn add_input(
     }
 }
 
-/// The systems of the questions of a leaf, which are to have no integer point.
+/// The questions of a leaf, whose systems are to have no integer point, in groups.
 pub fn leaf_questions(
     alloc: Global,
     nest: &Nest,
     reader: &Entry,
     load: &Access,
     leaf: &Leaf,
-) -> Result<Vec<Long>, AllocError>
+) -> Result<Vec<Group>, AllocError>
     requires nested { IsNest nest.now }
     requires reads { IsLiving nest.now reader.now }
     requires load { IsIn load.now reader.now.accesses }
     requires path { IsPath nest.now (length nest.now.params + length reader.now.loops) (leaf_seen leaf.now) }
-    ensures { IfOk result (λ v. (ranges : List (ℤ × ℤ)) → v.items ≡ systems_of (leaf_questions nest.now reader.now load.now ranges (leaf_seen leaf.now))) }
+    ensures { IfOk result (λ v. (ranges : List (ℤ × ℤ)) → flat_map group_systems v.items ≡ systems_of (leaf_questions nest.now reader.now load.now ranges (leaf_seen leaf.now))) }
 {
     let mut out = Vec::new(alloc);
     match &leaf.named {

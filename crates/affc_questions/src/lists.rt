@@ -1,14 +1,13 @@
-//! Lists of rows, and the systems of which they are the last rows.
-ghost use Rattle.std.specs.Prelude.{◌≡◌, ◌++◌, ◌∷◌, [], map, OnOk};
+//! Lists of rows, and the groups of questions of which they are the last rows.
+ghost use Rattle.std.specs.Prelude.{◌≡◌, ◌++◌, ◌∷◌, [], map, flat_map, OnOk};
 ghost use Rattle.std.specs.List.{All};
 ghost use Rattle.affc_nest.specs.Domains.{gap_row};
 ghost use Rattle.affc_quast.specs.Leaves.{negated};
-ghost use Rattle.affc_questions.specs.Listed.{behind, sides, joined};
+ghost use Rattle.affc_questions.specs.Listed.{behind, group_systems, sides, joined};
 ghost use Rattle.affc_questions.specs.Sizes.{IsBroad};
 
-use crate::long::Long;
+use crate::group::Group;
 use crate::rows::{add_gap, negated};
-use affc_quast::rows::{add_copies, copied};
 use affc_rows::Form;
 use sqlite_items::Items;
 use std::alloc::{AllocError, Global};
@@ -90,66 +89,62 @@ pub(crate) fn add_sides(
     }
 }
 
-/// Adds each of these lists behind these rows.
-fn add_each(
-    alloc: Global,
-    rows: &[Form],
-    lists: &[Items<Form>],
-    out: &mut Vec<Items<Form>>,
-) -> Result<(), AllocError>
-    ensures { OnOk result (out.new.items ≡ out.old.items ++ map (λ u. rows.now ++ u) lists.now) }
-{
-    match lists {
-        [] => Ok(()),
-        [list, rest @ ..] => {
-            let mut both = copied(alloc, rows)?;
-            add_copies(list.as_slice(), &mut both)?;
-            add_list(both, out)?;
-            add_each(alloc, rows, rest, out)?;
-            Ok(())
-        }
-    }
-}
-
-/// Adds each of the second lists behind each of the first.
-pub(crate) fn add_joined(
-    alloc: Global,
-    firsts: &[Items<Form>],
-    seconds: &[Items<Form>],
-    out: &mut Vec<Items<Form>>,
-) -> Result<(), AllocError>
-    ensures { OnOk result (out.new.items ≡ out.old.items ++ joined firsts.now seconds.now) }
-{
-    match firsts {
-        [] => Ok(()),
-        [first, rest @ ..] => {
-            add_each(alloc, first.as_slice(), seconds, out)?;
-            add_joined(alloc, rest, seconds, out)?;
-            Ok(())
-        }
-    }
-}
-
-/// Adds for each list the system of these rows and the list's.
-pub(crate) fn add_behind(
+/// Adds the question of these rows.
+pub(crate) fn add_front(
     alloc: Global,
     columns: u32,
-    front: &[Form],
-    lists: &[Items<Form>],
-    out: &mut Vec<Long>,
+    front: Items<Form>,
+    out: &mut Vec<Group>,
 ) -> Result<(), AllocError>
-    ensures { OnOk result (out.new.items ≡ out.old.items ++ map (behind columns front.now) lists.now) }
+    ensures { OnOk result (flat_map group_systems out.new.items ≡ flat_map group_systems out.old.items ++ behind columns front [] ∷ []) }
 {
-    match lists {
-        [] => Ok(()),
-        [list, rest @ ..] => {
-            let mut rows = copied(alloc, front)?;
-            add_copies(list.as_slice(), &mut rows)?;
-            let Ok(()) = out.push(Long::new(columns, rows)) else {
-                return Err(AllocError);
-            };
-            add_behind(alloc, columns, front, rest, out)?;
-            Ok(())
-        }
-    }
+    let factors = Items::new(alloc);
+    out.push(Group {
+        columns,
+        front,
+        factors,
+    })?;
+    Ok(())
+}
+
+/// Adds the questions of these lists behind these rows.
+pub(crate) fn add_each(
+    alloc: Global,
+    columns: u32,
+    front: Items<Form>,
+    lists: Vec<Items<Form>>,
+    out: &mut Vec<Group>,
+) -> Result<(), AllocError>
+    ensures { OnOk result (flat_map group_systems out.new.items ≡ flat_map group_systems out.old.items ++ map (behind columns front) lists.items) }
+{
+    let mut factors = Items::new(alloc);
+    factors.push(Items::from_vec(lists))?;
+    out.push(Group {
+        columns,
+        front,
+        factors,
+    })?;
+    Ok(())
+}
+
+/// Adds the questions of each of the second lists behind each of the first, behind these rows.
+pub(crate) fn add_joined(
+    alloc: Global,
+    columns: u32,
+    front: Items<Form>,
+    firsts: Vec<Items<Form>>,
+    seconds: Vec<Items<Form>>,
+    out: &mut Vec<Group>,
+) -> Result<(), AllocError>
+    ensures { OnOk result (flat_map group_systems out.new.items ≡ flat_map group_systems out.old.items ++ map (behind columns front) (joined firsts.items seconds.items)) }
+{
+    let mut factors = Items::new(alloc);
+    factors.push(Items::from_vec(firsts))?;
+    factors.push(Items::from_vec(seconds))?;
+    out.push(Group {
+        columns,
+        front,
+        factors,
+    })?;
+    Ok(())
 }

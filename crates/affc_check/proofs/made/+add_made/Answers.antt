@@ -1,21 +1,21 @@
-use Rattle.std.proofs.Common.{◌-◌, length, take, drop, refl, ap, subst, ◌∙◌}
+use Rattle.std.proofs.Common.{◌-◌, length, map, take, drop, refl, ap, subst, ◌∙◌}
 use Rattle.affc_sched.proofs.AnsweredLemmas.{front_is}
 use Rattle.affc_check.specs.Laws.{IsFoldShown}
-use Rattle.affc_items.specs.Walks.{fold_shown, folds_shown}
+use Rattle.affc_items.specs.Walks.{clash_systems, fold_shown, folds_shown}
 use Rattle.affc_items.proofs.ListingLemmas.{none_below}
 use Rattle.affc_check.proofs.MadeLemmas.{nothing_made, next_made}
 use Rattle.affc_check.proofs.made.+add_made.Goals as goal
 
 pub returns-in-empty : goal.returns-in-empty
 returns-in-empty t c =
-    nothing_made (folds_shown c.args.folds.now c.args.systems.now) c.args.out.now.items (ap (λ z. folds_shown z c.args.systems.now) (none_below c.args.folds.now c.in-empty.len_below))
+    nothing_made (folds_shown c.args.folds.now (map clash_systems c.args.systems.now)) c.args.out.now.items (ap (λ z. folds_shown z (map clash_systems c.args.systems.now)) (none_below c.args.folds.now c.in-empty.len_below))
 
 pub returns-in-empty-systems : goal.returns-in-empty-systems
 returns-in-empty-systems t c =
     let cs = c.args.folds.now in
     let is = front_is cs c.fold-item.result c.in-len1-up.len_at_least c.fold-item.is in
-    nothing_made (folds_shown cs c.args.systems.now) c.args.out.now.items
-    (ap (λ z. folds_shown cs z) (none_below c.args.systems.now c.in-empty-systems.len_below) ∙ ap (λ z. folds_shown z _) is)
+    nothing_made (folds_shown cs (map clash_systems c.args.systems.now)) c.args.out.now.items
+    (ap (λ z. folds_shown cs (map clash_systems z)) (none_below c.args.systems.now c.in-empty-systems.len_below) ∙ ap (λ z. folds_shown z _) is)
 
 pub returns-in_ok-add_made-in-len1-up-systems : goal.returns-in_ok-add_made-in-len1-up-systems
 returns-in_ok-add_made-in-len1-up-systems t c =
@@ -23,7 +23,7 @@ returns-in_ok-add_made-in-len1-up-systems t c =
     let ss = c.args.systems.now in
     let x = c.fold-item.result in
     let made = c.in_ok-made-in-len1-up-systems.made in
-    next_made cs (take (length cs - 1) (drop 1 cs)) x ss (take (length ss - 1) (drop 1 ss)) c.own-item.result (x.array, made) c.args.out.now.items c.push.new.self.items c.add_made.new.out.items
-    (front_is cs x c.in-len1-up.len_at_least c.fold-item.is) (front_is ss c.own-item.result c.in-len1-up-systems.len_at_least c.own-item.is)
-    (record { array = refl; shown = subst (λ z. IsFoldShown (fold_shown x z) made) c.as_slice.ensures c.in_ok-made-in-len1-up-systems.ensures })
+    next_made cs (take (length cs - 1) (drop 1 cs)) x (map clash_systems ss) (map clash_systems (take (length ss - 1) (drop 1 ss))) (clash_systems c.own-item.result) (x.array, made) c.args.out.now.items c.push.new.self.items c.add_made.new.out.items
+    (front_is cs x c.in-len1-up.len_at_least c.fold-item.is) (ap (map clash_systems) (front_is ss c.own-item.result c.in-len1-up-systems.len_at_least c.own-item.is))
+    (record { array = refl; shown = subst (λ z. IsFoldShown (fold_shown x (clash_systems z)) made) c.as_slice.ensures c.in_ok-made-in-len1-up-systems.ensures })
     c.in_ok-push-in-len1-up-systems.ensures.items c.in_ok-add_made-in-len1-up-systems.ensures

@@ -1,4 +1,4 @@
-use Rattle.std.proofs.Common.{◌≡◌, ◌-◌, ◌∷◌, ◌++◌, [], length, map, flat_map, take, drop, sym, ap, subst, ◌∙◌}
+use Rattle.std.proofs.Common.{◌-◌, ◌++◌, length, map, flat_map, take, drop, ap, ◌∙◌}
 use Rattle.affc_nest.specs.Questions.{extents_of_access, questions_of}
 use Rattle.affc_nest.specs.declared.nest.Access.{Access}
 use Rattle.affc_items.specs.Held.{listed_said}
@@ -18,9 +18,9 @@ returns-in_ok-add_accesses-in-len1-up t c =
     let xs = c.args.accesses.now in
     let entry = c.args.entry.now in
     next_listed Question (λ (x : Access). questions_of entry.domain (length entry.loops) x.subs (extents_of_access c.args.nest.now x)) xs (take (length xs - 1) (drop 1 xs)) c.access-item.result
-    (map listed_said c.args.out.now.items) (map listed_said c.add_dimensions.new.out.items) (map listed_said c.add_accesses.new.out.items)
+    (flat_map listed_said c.args.out.now.items) (flat_map listed_said c.add_dimensions.new.out.items) (flat_map listed_said c.add_accesses.new.out.items)
     (front_is xs c.access-item.result c.in-len1-up.len_at_least c.access-item.is)
     (c.in_ok-add_dimensions-in-len1-up.ensures
-    ∙ ap (λ ss. map listed_said c.args.out.now.items ++ map Question (questions_of entry.domain (length entry.loops) ss c.extents_of-extents.result.now)) c.as_slice-subs.ensures
-    ∙ ap (λ es. map listed_said c.args.out.now.items ++ map Question (questions_of entry.domain (length entry.loops) c.access-item.result.subs es)) c.extents_of-extents.ensures.value)
+    ∙ ap (λ ss. flat_map listed_said c.args.out.now.items ++ map Question (questions_of entry.domain (length entry.loops) ss c.extents_of-extents.result.now)) c.as_slice-subs.ensures
+    ∙ ap (λ es. flat_map listed_said c.args.out.now.items ++ map Question (questions_of entry.domain (length entry.loops) c.access-item.result.subs es)) c.extents_of-extents.ensures.value)
     c.in_ok-add_accesses-in-len1-up.ensures

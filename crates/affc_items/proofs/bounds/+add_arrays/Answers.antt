@@ -1,4 +1,4 @@
-use Rattle.std.proofs.Common.{◌≡◌, ◌-◌, ◌∷◌, ◌++◌, [], length, map, flat_map, take, drop, ap, subst, ◌∙◌}
+use Rattle.std.proofs.Common.{◌≡◌, ◌-◌, ◌++◌, length, map, flat_map, take, drop, subst}
 use Rattle.affc_nest.specs.Questions.{extent_question}
 use Rattle.affc_nest.specs.declared.nest.ArrayInfo.{ArrayInfo}
 use Rattle.affc_items.specs.Held.{listed_said}
@@ -17,7 +17,7 @@ pub returns-in_ok-add_arrays-in-len1-up : goal.returns-in_ok-add_arrays-in-len1-
 returns-in_ok-add_arrays-in-len1-up t c =
     let as' = c.args.arrays.now in
     next_listed Question (λ (a : ArrayInfo). map (extent_question c.args.nest.now) a.extents) as' (take (length as' - 1) (drop 1 as')) c.array-item.result
-    (map listed_said c.args.out.now.items) (map listed_said c.add_extents.new.out.items) (map listed_said c.add_arrays.new.out.items)
+    (flat_map listed_said c.args.out.now.items) (flat_map listed_said c.add_extents.new.out.items) (flat_map listed_said c.add_arrays.new.out.items)
     (front_is as' c.array-item.result c.in-len1-up.len_at_least c.array-item.is)
-    (subst (λ es. map listed_said c.add_extents.new.out.items ≡ map listed_said c.args.out.now.items ++ map Question (map (extent_question c.args.nest.now) es)) c.as_slice.ensures c.in_ok-add_extents-in-len1-up.ensures)
+    (subst (λ es. flat_map listed_said c.add_extents.new.out.items ≡ flat_map listed_said c.args.out.now.items ++ map Question (map (extent_question c.args.nest.now) es)) c.as_slice.ensures c.in_ok-add_extents-in-len1-up.ensures)
     c.in_ok-add_arrays-in-len1-up.ensures

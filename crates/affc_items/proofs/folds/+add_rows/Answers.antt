@@ -1,7 +1,8 @@
-use Rattle.std.proofs.Common.{◌≡◌, ◌+◌, ◌-◌, suc, length, map, take, drop, arith}
+use Rattle.std.proofs.Common.{flat_map, ◌≡◌, ◌+◌, ◌-◌, suc, length, take, drop, arith}
 use Rattle.std.proofs.lemmas.Result.{err_from_is_err_and, on_ok_weaker, IfErr-weaker}
 use Rattle.affc_sched.proofs.AnsweredLemmas.{front_is}
 use Rattle.affc_items.specs.Held.{listed_said}
+use Rattle.affc_items.specs.Walks.{clash_systems}
 use Rattle.affc_items.proofs.FoldLemmas.{rows_listed, row_first, row_later}
 use Rattle.affc_items.proofs.folds.+add_rows.Goals as goal
 
@@ -15,7 +16,7 @@ returns-in_err-add_row-in-len1-up-moduli-clause-past t c =
     let js = front_is ms c.modulus-item.result c.in-len1-up-moduli.len_at_least c.modulus-item.is in
     let next : c.args.k + 1 ≡ suc c.args.k = omega arith in
     let p = err_from_is_err_and c.from_residual.result c.from_residual.ensures.1 in
-    rw (p.1, p.2) (λ l. row_first c.args.nest.now c.args.systems.now c.args.rows.now c.args.k (c.args.k + 1) next more others c.row-item.result ms rest c.modulus-item.result is js (c.in_err-add_row-in-len1-up-moduli.ensures.past l))
+    rw (p.1, p.2) (λ l. row_first c.args.nest.now (clash_systems c.args.systems.now) c.args.rows.now c.args.k (c.args.k + 1) next more others c.row-item.result ms rest c.modulus-item.result is js (c.in_err-add_row-in-len1-up-moduli.ensures.past l))
 
 pub returns-in_ok-add_row-in-len1-up-moduli-clause-ok : goal.returns-in_ok-add_row-in-len1-up-moduli-clause-ok
 returns-in_ok-add_row-in-len1-up-moduli-clause-ok t c =
@@ -27,7 +28,7 @@ returns-in_ok-add_row-in-len1-up-moduli-clause-ok t c =
     let js = front_is ms c.modulus-item.result c.in-len1-up-moduli.len_at_least c.modulus-item.is in
     let next : c.args.k + 1 ≡ suc c.args.k = omega arith in
     on_ok_weaker c.add_rows.result
-    (rows_listed c.args.nest.now c.args.systems.now c.args.rows.now c.args.k (c.args.k + 1) next more others c.row-item.result ms rest c.modulus-item.result is js (map listed_said c.args.out.now.items) (map listed_said c.add_row.new.out.items) (map listed_said c.add_rows.new.out.items) c.in_ok-add_row-in-len1-up-moduli.ensures.ok) c.add_rows.ensures.ok
+    (rows_listed c.args.nest.now (clash_systems c.args.systems.now) c.args.rows.now c.args.k (c.args.k + 1) next more others c.row-item.result ms rest c.modulus-item.result is js (flat_map listed_said c.args.out.now.items) (flat_map listed_said c.add_row.new.out.items) (flat_map listed_said c.add_rows.new.out.items) c.in_ok-add_row-in-len1-up-moduli.ensures.ok) c.add_rows.ensures.ok
 
 pub returns-in_ok-add_row-in-len1-up-moduli-clause-past : goal.returns-in_ok-add_row-in-len1-up-moduli-clause-past
 returns-in_ok-add_row-in-len1-up-moduli-clause-past t c =
@@ -38,4 +39,4 @@ returns-in_ok-add_row-in-len1-up-moduli-clause-past t c =
     let is = front_is more c.row-item.result c.in-len1-up.len_at_least c.row-item.is in
     let js = front_is ms c.modulus-item.result c.in-len1-up-moduli.len_at_least c.modulus-item.is in
     let next : c.args.k + 1 ≡ suc c.args.k = omega arith in
-    IfErr-weaker c.add_rows.result _ _ (λ e h l. row_later c.args.nest.now c.args.systems.now c.args.rows.now c.args.k (c.args.k + 1) next more others c.row-item.result ms rest c.modulus-item.result is js (h l)) c.add_rows.ensures.past
+    IfErr-weaker c.add_rows.result _ _ (λ e h l. row_later c.args.nest.now (clash_systems c.args.systems.now) c.args.rows.now c.args.k (c.args.k + 1) next more others c.row-item.result ms rest c.modulus-item.result is js (h l)) c.add_rows.ensures.past

@@ -1,4 +1,4 @@
-use Rattle.std.proofs.Common.{◌≡◌, ◌-◌, ◌∷◌, ◌++◌, [], length, map, flat_map, take, drop, sym, ap, subst, ◌∙◌}
+use Rattle.std.proofs.Common.{◌≡◌, ◌-◌, ◌++◌, length, map, flat_map, take, drop, subst}
 use Rattle.affc_sched.specs.Questions.{touches, questions_to, questions_with}
 use Rattle.affc_sched.proofs.AnsweredLemmas.{front_is, touches_front, is_empty_last}
 use Rattle.affc_items.specs.Held.{listed_said, legality_item}
@@ -14,8 +14,8 @@ returns-in_ok-add_from_accesses-in-len1-up t c =
     let xs = c.args.accesses.now in
     let rest = take (length xs - 1) (drop 1 xs) in
     next_listed legality_item (questions_with c.args.nest.now c.args.schedule.now c.args.a.now) (touches xs) (touches rest) (c.access-item.result, c.is_empty.result)
-    (map listed_said c.args.out.now.items) (map listed_said c.add_statements.new.out.items) (map listed_said c.add_from_accesses.new.out.items)
+    (flat_map listed_said c.args.out.now.items) (flat_map listed_said c.add_statements.new.out.items) (flat_map listed_said c.add_from_accesses.new.out.items)
     (touches_front xs rest c.access-item.result c.is_empty.result (front_is xs c.access-item.result c.in-len1-up.len_at_least c.access-item.is) (is_empty_last rest c.is_empty.result c.is_empty.ensures))
-    (subst (λ es. map listed_said c.add_statements.new.out.items ≡ map listed_said c.args.out.now.items ++ map legality_item (flat_map (questions_to c.args.nest.now c.args.schedule.now c.args.a.now (c.access-item.result, c.is_empty.result)) es))
+    (subst (λ es. flat_map listed_said c.add_statements.new.out.items ≡ flat_map listed_said c.args.out.now.items ++ map legality_item (flat_map (questions_to c.args.nest.now c.args.schedule.now c.args.a.now (c.access-item.result, c.is_empty.result)) es))
     c.as_slice-entries.ensures c.in_ok-add_statements-in-len1-up.ensures)
     c.in_ok-add_from_accesses-in-len1-up.ensures

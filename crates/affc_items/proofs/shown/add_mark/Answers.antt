@@ -1,4 +1,4 @@
-use Rattle.std.proofs.Common.{◌∷◌, [], Some, length, map, sym, ap, subst, ◌∙◌}
+use Rattle.std.proofs.Common.{flat_map, ◌∷◌, [], length, sym, ap, subst, ◌∙◌}
 use Rattle.std.proofs.lemmas.Result.{on_ok_weaker, IfErr-weaker}
 use Rattle.affc_certfold.specs.Limits.{IsMarkWithin, IsLeastWithin}
 use Rattle.affc_conflicts.specs.Questions.{greater_question}
@@ -7,6 +7,7 @@ use Rattle.affc_items.specs.Held.{listed_said, context_item}
 use Rattle.affc_items.specs.Items.{Question, LeastShown, mark_items}
 use Rattle.affc_items.specs.Limits.{AnyPasses}
 use Rattle.affc_items.specs.Listed.{AreListed}
+use Rattle.affc_items.specs.Walks.{clash_systems}
 use Rattle.affc_items.proofs.ShownLemmas.{mark_listed, greater_passes}
 use Rattle.affc_items.proofs.shown.add_mark.Goals as goal
 
@@ -22,15 +23,15 @@ returns-in_ok-greater-in-Some-clause-ok c =
     let nest = a.nest.now in
     let least = c.in-Some.least in
     let l : LeastShown = record { p = least.p; pair = least.pair } in
-    let old = map listed_said c.args.out.now.items in
-    let second = map listed_said c.add_point-in-Some.new.out.items in
-    let new = map listed_said c.add_long.new.out.items in
+    let old = flat_map listed_said c.args.out.now.items in
+    let second = flat_map listed_said c.add_point-in-Some.new.out.items in
+    let new = flat_map listed_said c.add_long.new.out.items in
     let x = c.in_ok-context_shown-in-Some.field-0 in
     let y = c.in_ok-need_shown-in-Some.field-0 in
     let greater = c.in_ok-greater-in-Some.ensures ∙ ap (greater_question nest.context nest.params a.modulus.now) c.as_slice-p.ensures in
     on_ok_weaker c.add_long.result
-    (λ h. subst (λ o. AreListed old new (mark_items nest a.rows.now a.k a.row.now a.modulus.now a.systems.now (least_said o))) (sym c.in-Some.is)
-    (mark_listed nest a.rows.now a.k a.row.now a.modulus.now a.systems.now l old (map listed_said c.add_point.new.out.items) second new x.system y.system x.point y.point
+    (λ h. subst (λ o. AreListed old new (mark_items nest a.rows.now a.k a.row.now a.modulus.now (clash_systems a.systems.now) (least_said o))) (sym c.in-Some.is)
+    (mark_listed nest a.rows.now a.k a.row.now a.modulus.now (clash_systems a.systems.now) l old (flat_map listed_said c.add_point.new.out.items) second new x.system y.system x.point y.point
     (c.in_ok-context_shown-in-Some.ensures ∙ ap (context_item nest) c.as_slice-p.ensures) c.in_ok-need_shown-in-Some.ensures c.in_ok-add_point-in-Some.ensures c.in_ok-add_point-in-Some-2.ensures
     (subst (λ q. AreListed second new (Question q ∷ [])) greater h)))
     c.add_long.ensures.ok
@@ -43,6 +44,6 @@ returns-in_ok-greater-in-Some-clause-past c =
     let l : LeastShown = record { p = least.p; pair = least.pair } in
     let greater = c.in_ok-greater-in-Some.ensures ∙ ap (greater_question nest.context nest.params a.modulus.now) c.as_slice-p.ensures in
     IfErr-weaker c.add_long.result _ _
-    (λ e h q. subst (λ o. AnyPasses (mark_items nest a.rows.now a.k a.row.now a.modulus.now a.systems.now (least_said o))) (sym c.in-Some.is)
-    (greater_passes nest a.rows.now a.k a.row.now a.modulus.now a.systems.now l (subst (λ s. AnyPasses (Question s ∷ [])) greater (h q))))
+    (λ e h q. subst (λ o. AnyPasses (mark_items nest a.rows.now a.k a.row.now a.modulus.now (clash_systems a.systems.now) (least_said o))) (sym c.in-Some.is)
+    (greater_passes nest a.rows.now a.k a.row.now a.modulus.now (clash_systems a.systems.now) l (subst (λ s. AnyPasses (Question s ∷ [])) greater (h q))))
     c.add_long.ensures.past

@@ -1,14 +1,12 @@
-use Rattle.std.proofs.Common.{◌≡◌, ◌+◌, ◌≤◌, length, map, flat_map, ap, sym, subst, ◌∙◌}
-use Rattle.std.proofs.lemmas.Result.{on_ok_weaker, IfErr-weaker}
+use Rattle.std.proofs.Common.{◌+◌, ◌≤◌, ◌++◌, length, map, flat_map, ap, sym, subst, ◌∙◌}
+use Rattle.std.proofs.lemmas.Result.{on_ok_weaker}
 use Rattle.affc_quast.specs.Leaves.{leaves_of}
 use Rattle.affc_quast.specs.Limits.{Shaped}
 use Rattle.affc_quast.specs.Seen.{seen}
 use Rattle.affc_quast.specs.SeenLeaves.{leaf_seen}
 use Rattle.affc_quast.specs.Trees.{divisions_of}
 use Rattle.affc_life.proofs.LeafLemmas.{paths_of, few_divisions}
-use Rattle.affc_items.specs.Held.{listed_said}
-use Rattle.affc_items.specs.Limits.{AnyPasses}
-use Rattle.affc_items.specs.Listed.{AreListed}
+use Rattle.affc_items.specs.Groups.{part_items}
 use Rattle.affc_items.specs.Walks.{leaf_items}
 use Rattle.affc_items.proofs.trees.add_tree.Goals as goal
 
@@ -25,12 +23,7 @@ add_leaves-requires-clause-paths c =
     paths_of c.args.nest.now (length c.args.nest.now.params + length c.args.reader.now.loops) (seen c.args.tree.now) c.requires.tree (map leaf_seen c.as_slice.result.now)
     (ap (map leaf_seen) c.as_slice.ensures.value ∙ c.in_ok-leaves.ensures ∙ ap (λ k. leaves_of k (seen c.args.tree.now)) c.columns_of.ensures.value)
 
-pub returns-clause-ok : goal.returns-clause-ok
-returns-clause-ok c =
+pub returns : goal.returns
+returns c =
     let is = ap (flat_map (leaf_items c.args.nest.now c.args.reader.now c.args.load.now)) (ap (map leaf_seen) c.as_slice.ensures.value ∙ c.in_ok-leaves.ensures ∙ ap (λ k. leaves_of k (seen c.args.tree.now)) c.columns_of.ensures.value) in
-    on_ok_weaker c.add_leaves.result (λ h. subst (AreListed (map listed_said c.args.out.now.items) (map listed_said c.add_leaves.new.out.items)) is h) c.add_leaves.ensures.ok
-
-pub returns-clause-past : goal.returns-clause-past
-returns-clause-past c =
-    let is = ap (flat_map (leaf_items c.args.nest.now c.args.reader.now c.args.load.now)) (ap (map leaf_seen) c.as_slice.ensures.value ∙ c.in_ok-leaves.ensures ∙ ap (λ k. leaves_of k (seen c.args.tree.now)) c.columns_of.ensures.value) in
-    IfErr-weaker c.add_leaves.result _ _ (λ e h l. subst AnyPasses is (h l)) c.add_leaves.ensures.past
+    on_ok_weaker c.add_leaves.result (λ h. h ∙ ap (λ s. part_items c.args.out.now.items ++ s) is) c.add_leaves.ensures

@@ -51,6 +51,6 @@ add_leaves-requires-clause-paths c =
 pub returns : goal.returns
 returns c =
     c.in_ok-add_leaves.ensures
-    ∙ ap (λ ls. map drafted c.args.out.now.items ++ flat_map (clashes_of_leaf c.args.asked.now.nest.now c.args.asked.now.schedule.now c.args.asked.now.array.0 c.args.reader.now c.args.load.now) ls)
+    ∙ ap (λ ls. flat_map drafted c.args.out.now.items ++ flat_map (clashes_of_leaf c.args.asked.now.nest.now c.args.asked.now.schedule.now c.args.asked.now.array.0 c.args.reader.now c.args.load.now) ls)
     (ap (map leaf_seen) c.as_slice.ensures.value ∙ c.in_ok-leaves.ensures
     ∙ ap (λ k. leaves_of k (seen c.args.tree.now)) (sum_is c.params_in.result c.loops_round.result (length c.args.asked.now.nest.now.params) (length c.args.reader.now.loops) c.params_in.ensures c.loops_round.ensures))

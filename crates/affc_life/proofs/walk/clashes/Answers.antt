@@ -1,24 +1,22 @@
-use Rattle.std.proofs.Common.{map, ap, sym, subst}
-use Rattle.affc_order.proofs.CodeLemmas.{is_nest}
-use Rattle.affc_sched.proofs.SettlingLemmas.{all_there}
-use Rattle.affc_quast.specs.Seen.{seen, trees_of}
-use Rattle.affc_life.specs.Asked.{KeepLimits}
-use Rattle.affc_life.proofs.DraftedLemmas.{these_drafts, all_paired, none_large}
+use Rattle.std.proofs.Common.{◌++◌, map, flat_map, ap, sym, subst, ◌∙◌}
+use Rattle.std.specs.List.{All}
+use Rattle.std.proofs.lemmas.Result.{err_from_is_err_and}
+use Rattle.affc_life.specs.Clashes.{clash_of}
+use Rattle.affc_life.specs.Drafts.{drafted, IsPaired}
+use Rattle.affc_life.specs.Sizes.{AnyLarge}
 use Rattle.affc_life.proofs.walk.clashes.Goals as goal
 
-pub add_readers-requires-clause-limits : goal.add_readers-requires-clause-limits
-add_readers-requires-clause-limits c = subst (KeepLimits c.args.nest.now) (ap (map seen) (sym c.as_slice-trees.ensures)) c.requires.trees
-
-pub add_readers-requires-clause-readers : goal.add_readers-requires-clause-readers
-add_readers-requires-clause-readers c = all_there c.args.nest.now c.as_slice.result.now c.as_slice.ensures
-
 pub add_pairs-requires : goal.add_pairs-requires
-add_pairs-requires c = these_drafts c.args.nest.now (trees_of c.args.flow.now) (map seen c.as_slice-trees.result.now) c.args.schedule.now c.args.array.0 c.as_slice.result.now c.new-drafts.result.items c.add_readers.new.out.items c.new-drafts.ensures.items c.as_slice.ensures (ap (map seen) c.as_slice-trees.ensures) c.in_ok-add_readers.ensures (is_nest c.args.nest.now c.args.schedule.now c.requires.scheduled) c.requires.trees c.as_slice-2.result.now c.as_slice-2.ensures.value
+add_pairs-requires c = subst (λ ds. All IsPaired (flat_map drafted ds)) (sym c.as_slice.ensures.value) c.in_ok-drafts.ensures.paired
 
 pub returns-clause-ok : goal.returns-clause-ok
 returns-clause-ok c =
-    all_paired c.args.nest.now (trees_of c.args.flow.now) (map seen c.as_slice-trees.result.now) c.args.schedule.now c.args.array.0 c.as_slice.result.now c.new-drafts.result.items c.add_readers.new.out.items c.new-drafts.ensures.items c.as_slice.ensures (ap (map seen) c.as_slice-trees.ensures) c.in_ok-add_readers.ensures c.new-systems.result.items c.add_pairs.new.out.items c.as_slice-2.result.now c.new-systems.ensures.items c.as_slice-2.ensures.value c.in_ok-add_pairs.ensures.ok
+    c.in_ok-add_pairs.ensures.ok ∙ ap (λ ss. map clash_of ss ++ flat_map drafted c.as_slice.result.now) c.new-systems.ensures.items ∙ ap (flat_map drafted) c.as_slice.ensures.value ∙ c.in_ok-drafts.ensures.all
 
 pub returns-clause-fits : goal.returns-clause-fits
-returns-clause-fits c =
-    none_large c.args.nest.now (trees_of c.args.flow.now) (map seen c.as_slice-trees.result.now) c.args.schedule.now c.args.array.0 c.as_slice.result.now c.new-drafts.result.items c.add_readers.new.out.items c.new-drafts.ensures.items c.as_slice.ensures (ap (map seen) c.as_slice-trees.ensures) c.in_ok-add_readers.ensures c.as_slice-2.result.now c.as_slice-2.ensures.value c.in_ok-add_pairs.ensures.fits
+returns-clause-fits c = subst (λ cs. AnyLarge cs → ⊥) (ap (flat_map drafted) c.as_slice.ensures.value ∙ c.in_ok-drafts.ensures.all) c.in_ok-add_pairs.ensures.fits
+
+pub returns-in_err-add_pairs-clause-large : goal.returns-in_err-add_pairs-clause-large
+returns-in_err-add_pairs-clause-large c =
+    let p = err_from_is_err_and c.from_residual-in_err-add_pairs.result c.from_residual-in_err-add_pairs.ensures.1 in
+    rw (p.1, p.2) (λ l. subst AnyLarge (ap (flat_map drafted) c.as_slice.ensures.value ∙ c.in_ok-drafts.ensures.all) (c.in_err-add_pairs.ensures.large l))

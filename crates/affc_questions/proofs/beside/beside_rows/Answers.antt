@@ -12,8 +12,8 @@ columns_beside-columns-requires-clause-writer c = few_numbered c.args.nest.now c
 
 pub add_equals-requires-clause-firsts : goal.add_equals-requires-clause-firsts
 add_equals-requires-clause-firsts c =
-    read_broad c.args.nest.now c.args.reader.now c.args.load.now (leaf_seen c.args.leaf.now) c.args.writer.now c.args.store.now c.requires.leaf c.requires.writer c.columns_beside-columns.result c.as_slice-2.result.now c.columns_beside-columns.ensures (c.as_slice-2.ensures.value ∙ c.in_ok-read.ensures)
+    read_broad c.args.nest.now c.args.reader.now c.args.load.now (leaf_seen c.args.leaf.now) c.args.writer.now c.args.store.now c.requires.leaf c.requires.writer c.columns_beside-columns.result c.as_slice.result.now c.columns_beside-columns.ensures (c.as_slice.ensures.value ∙ c.in_ok-read.ensures)
 
 pub add_equals-requires-clause-seconds : goal.add_equals-requires-clause-seconds
 add_equals-requires-clause-seconds c =
-    written_broad c.args.nest.now c.args.reader.now c.args.load.now (leaf_seen c.args.leaf.now) c.args.writer.now c.args.store.now c.requires.leaf c.requires.writer c.columns_beside-columns.result c.as_slice-3.result.now c.columns_beside-columns.ensures (c.as_slice-3.ensures.value ∙ c.in_ok-written.ensures)
+    written_broad c.args.nest.now c.args.reader.now c.args.load.now (leaf_seen c.args.leaf.now) c.args.writer.now c.args.store.now c.requires.leaf c.requires.writer c.columns_beside-columns.result c.as_slice-2.result.now c.columns_beside-columns.ensures (c.as_slice-2.ensures.value ∙ c.in_ok-written.ensures)

@@ -1,4 +1,8 @@
+use Rattle.std.proofs.Common.{◌++◌, map, flat_map, ap, ap₂, ◌∙◌}
 use Rattle.affc_quast.specs.SeenLeaves.{leaf_seen}
+use Rattle.affc_life.specs.Drafts.{posed}
+use Rattle.affc_questions.specs.Listed.{group_systems, behind, own_path, astray_lists, late_lists, all_between}
+use Rattle.affc_questions.proofs.ListedLemmas.{lists_made}
 use Rattle.affc_questions.proofs.LeafLemmas.{own_narrow, all_in}
 use Rattle.affc_questions.proofs.leaf.add_named.Goals as goal
 
@@ -7,3 +11,19 @@ own_path-requires-clause-domain c = own_narrow c.args.nest.now c.args.reader.now
 
 pub add_all_between-requires-clause-entries : goal.add_all_between-requires-clause-entries
 add_all_between-requires-clause-entries c = all_in c.args.nest.now c.as_slice-entries.result.now c.as_slice-entries.ensures
+
+pub returns : goal.returns
+returns c =
+    let nest = c.args.nest.now in
+    let reader = c.args.reader.now in
+    let load = c.args.load.now in
+    let leaf = leaf_seen c.args.leaf.now in
+    let a = posed c.args.named.now.statement c.args.named.now.forms in
+    let old = flat_map group_systems c.args.out.now.items in
+    let mid = flat_map group_systems c.add_each.new.out.items in
+    let lists = c.append.new.self.items in
+    lists_made (behind leaf.columns (own_path reader leaf)) old mid (flat_map group_systems c.add_all_between.new.out.items) (all_between nest reader load leaf a nest.entries)
+    (astray_lists nest load leaf.columns a.iterators c.args.writer.now c.args.store.now) (late_lists nest reader leaf.columns a) lists
+    (c.in_ok-append.ensures.items ∙ ap₂ (λ xs ys. xs ++ ys) c.in_ok-lists.ensures c.in_ok-late.ensures)
+    (c.in_ok-add_each.ensures ∙ ap (λ f. old ++ map (behind leaf.columns f) lists) (c.from_vec.ensures ∙ c.in_ok-path.ensures))
+    (c.in_ok-add_all_between.ensures ∙ ap (λ es. mid ++ all_between nest reader load leaf a es) c.as_slice-entries.ensures)

@@ -1,0 +1,19 @@
+use Rattle.std.proofs.Common.{◌≡◌, Some, subst, rules}
+use Rattle.std.specs.Prelude.{IfSome, FitsSigned}
+use Rattle.std.specs.Int.{w64}
+use Rattle.std.proofs.lemmas.Int.{to_z-of_z}
+use Rattle.affc_life.specs.Products.{found_system}
+use Rattle.affc_questions.specs.Asked.{IsAlong}
+use Rattle.affc_items.specs.Items.{numbered}
+use Rattle.affc_items.specs.Walks.{clash_systems}
+use Rattle.affc_items.proofs.ShownLemmas.{each_numbered}
+use Rattle.affc_check.proofs.made.pair_said.Goals as goal
+
+pub elements-requires-clause-along : goal.elements-requires-clause-along
+elements-requires-clause-along c =
+    let a = c.args.along.now in
+    let f : FitsSigned w64 c.in-Some.number = search rules in
+    let some = simp to_z-of_z at c.in_ok-found.ensures.some in
+    let there = subst (λ o. IfSome o (λ f. numbered (clash_systems a.systems.now) c.in-Some.number ≡ Some (found_system f))) c.in-Some-2.is some in
+    let h = each_numbered (IsAlong a.rows.now a.row.now a.modulus.now) (clash_systems a.systems.now) c.in-Some.number (found_system c.in-Some-2.found) c.requires.along there in
+    record { basis = h.basis; there = h.there; over = h.over; first = h.first; second = h.second }

@@ -1,0 +1,72 @@
+-- Lists of choices, and the drafts with them.
+use Rattle.std.proofs.Common.{◌≡◌, List, [], ◌∷◌, ◌++◌, map, flat_map, append_assoc, refl, sym, ap, ◌∙◌}
+use Rattle.std.proofs.lemmas.List.{map-append, append-nil}
+use Rattle.affc_rows.specs.Forms.{Affine}
+use Rattle.affc_behind.specs.Blocks.{choices}
+use Rattle.affc_life.specs.declared.draft.Draft.{Draft}
+use Rattle.affc_life.specs.Drafts.{drafted, draft_by, drafts_behind}
+
+-- ---- Maps
+
+pub map_flat : {A B C : Type 0} (f : B → C) (g : A → List B) (xs : List A) → map f (flat_map g xs) ≡ flat_map (λ x. map f (g x)) xs
+map_flat f g [] = refl
+map_flat f g (x ∷ xs) = map-append f (g x) (flat_map g xs) ∙ ap (λ ys. map f (g x) ++ ys) (map_flat f g xs)
+
+pub map_twice : {A B C : Type 0} (f : B → C) (g : A → B) (xs : List A) → map f (map g xs) ≡ map (λ x. f (g x)) xs
+map_twice f g [] = refl
+map_twice f g (x ∷ xs) = ap (λ ys. f (g x) ∷ ys) (map_twice f g xs)
+
+pub map_same : {A B : Type 0} (f g : A → B) → ((x : A) → f x ≡ g x) → (xs : List A) → map f xs ≡ map g xs
+map_same f g h [] = refl
+map_same f g h (x ∷ xs) = ap (λ y. y ∷ map f xs) (h x) ∙ ap (λ ys. g x ∷ ys) (map_same f g h xs)
+
+pub flat_same : {A B : Type 0} (f g : A → List B) → ((x : A) → f x ≡ g x) → (xs : List A) → flat_map f xs ≡ flat_map g xs
+flat_same f g h [] = refl
+flat_same f g h (x ∷ xs) = ap (λ ys. ys ++ flat_map f xs) (h x) ∙ ap (λ ys. g x ++ ys) (flat_same f g h xs)
+
+-- one entry more
+pub flat_one : {A B : Type 0} (f : A → List B) (xs : List A) (x : A) → flat_map f (xs ++ x ∷ []) ≡ flat_map f xs ++ f x
+flat_one f [] x = append-nil (f x)
+flat_one f (y ∷ xs) x = ap (λ ys. f y ++ ys) (flat_one f xs x) ∙ sym (append_assoc (f y) (flat_map f xs) (f x))
+
+-- ---- Choices
+
+-- those of one factor
+pub one_factor : (us : List (List Affine)) → choices (us ∷ []) ≡ us
+one_factor [] = refl
+one_factor (u ∷ us) = ap (λ r. r ∷ choices (us ∷ [])) (append-nil u) ∙ ap (λ rs. u ∷ rs) (one_factor us)
+
+-- a factor of one empty alternative behind the others adds nothing
+pub with_nothing : (factors : List (List (List Affine))) → choices (factors ++ ([] ∷ []) ∷ []) ≡ choices factors
+with_nothing [] = refl
+with_nothing (us ∷ factors) = ap (λ cs. flat_map (λ u. map (λ v. u ++ v) cs) us) (with_nothing factors)
+
+-- behind these rows those of an alternative and then of the others
+pub behind_both : (front u : List Affine) (cs : List (List Affine)) → map (λ c. front ++ c) (map (λ v. u ++ v) cs) ≡ map (λ c. (front ++ u) ++ c) cs
+behind_both front u cs = map_twice (λ c. front ++ c) (λ v. u ++ v) cs ∙ map_same (λ v. front ++ (u ++ v)) (λ v. (front ++ u) ++ v) (λ v. sym (append_assoc front u v)) cs
+
+pub first_factor : (front : List Affine) (us : List (List Affine)) (factors : List (List (List Affine)))
+    → map (λ c. front ++ c) (choices (us ∷ factors)) ≡ flat_map (λ u. map (λ c. (front ++ u) ++ c) (choices factors)) us
+first_factor front us factors =
+    map_flat (λ c. front ++ c) (λ u. map (λ v. u ++ v) (choices factors)) us
+    ∙ flat_same (λ u. map (λ c. front ++ c) (map (λ v. u ++ v) (choices factors))) (λ u. map (λ c. (front ++ u) ++ c) (choices factors)) (λ u. behind_both front u (choices factors)) us
+
+-- ---- Drafts
+
+-- those of the first alternative of a factor, and those of the others
+pub in_alternatives : (d : Draft) (rows : List Affine) (alternatives rest : List (List Affine)) (factors : List (List (List Affine))) (alternative : List Affine) → alternatives ≡ alternative ∷ rest
+    → drafts_behind d rows (alternatives ∷ factors) ≡ drafts_behind d (rows ++ alternative) factors ++ drafts_behind d rows (rest ∷ factors)
+in_alternatives d rows alternatives rest factors alternative e =
+    ap (λ us. drafts_behind d rows (us ∷ factors)) e
+    ∙ map-append (λ c. draft_by d (rows ++ c)) (map (λ v. alternative ++ v) (choices factors)) (choices (rest ∷ factors))
+    ∙ ap (λ cs. cs ++ drafts_behind d rows (rest ∷ factors)) (
+    map_twice (λ c. draft_by d (rows ++ c)) (λ v. alternative ++ v) (choices factors)
+    ∙ map_same (λ v. draft_by d (rows ++ (alternative ++ v))) (λ v. draft_by d ((rows ++ alternative) ++ v)) (λ v. ap (draft_by d) (sym (append_assoc rows alternative v))) (choices factors)
+    )
+
+-- the three factors of a draft
+pub of_three : (d : Draft) (factors : List (List (List Affine))) (firsts seconds thirds a b e : List (List Affine)) → factors ≡ d.factors → factors ≡ a ∷ b ∷ e ∷ [] → firsts ≡ a → seconds ≡ b → thirds ≡ e
+    → drafts_behind d [] (firsts ∷ seconds ∷ thirds ∷ []) ≡ drafted d
+of_three d factors firsts seconds thirds a b e f g i j k =
+    ap (λ us. drafts_behind d [] (us ∷ seconds ∷ thirds ∷ [])) i ∙ ap (λ us. drafts_behind d [] (a ∷ us ∷ thirds ∷ [])) j ∙ ap (λ us. drafts_behind d [] (a ∷ b ∷ us ∷ [])) k
+    ∙ ap (λ fs. drafts_behind d [] fs) (sym g ∙ f)

@@ -1,0 +1,58 @@
+-- The rows of clash systems as a product.
+use Rattle.std.proofs.Common.{◌≡◌, List, [], ◌∷◌, ◌++◌, map, flat_map, append_assoc, refl, sym, ap, ◌∙◌}
+use Rattle.std.proofs.lemmas.List.{append-nil}
+use Rattle.affc_rows.specs.Forms.{Affine}
+use Rattle.affc_system.specs.Systems.{Rows}
+use Rattle.affc_ast.specs.declared.tree.Rel.TheVariants.{Less, Greater, Equal}
+use Rattle.affc_nest.specs.Domains.{compare_rows}
+use Rattle.affc_behind.specs.Blocks.{choices}
+use Rattle.affc_life.specs.declared.draft.Draft.{Draft}
+use Rattle.affc_life.specs.Clashes.{apart_rows, between_rows}
+use Rattle.affc_life.specs.Drafts.{drafted, draft_by, rows_in}
+use Rattle.affc_life.proofs.ChoiceLemmas.{flat_one, map_twice, flat_same, one_factor, first_factor}
+use Rattle.affc_life.proofs.SeatedLemmas.{clash_by}
+use Rattle.affc_life.proofs.WalkLemmas.{between_is}
+
+-- ---- Elements that differ
+
+-- rows in front of all
+pub apart_behind : (fs gs front rows : List Affine) → apart_rows fs gs (front ++ rows) ≡ map (λ c. front ++ c) (apart_rows fs gs rows)
+apart_behind [] gs front rows = refl
+apart_behind (f ∷ fs) [] front rows = refl
+apart_behind (f ∷ fs) (g ∷ gs) front rows =
+    ap (λ r. r ∷ (((front ++ rows) ++ compare_rows Greater f g) ∷ apart_rows fs gs ((front ++ rows) ++ compare_rows Equal f g))) (append_assoc front rows (compare_rows Less f g))
+    ∙ ap (λ r. (front ++ (rows ++ compare_rows Less f g)) ∷ (r ∷ apart_rows fs gs ((front ++ rows) ++ compare_rows Equal f g))) (append_assoc front rows (compare_rows Greater f g))
+    ∙ ap (λ r. (front ++ (rows ++ compare_rows Less f g)) ∷ ((front ++ (rows ++ compare_rows Greater f g)) ∷ apart_rows fs gs r)) (append_assoc front rows (compare_rows Equal f g))
+    ∙ ap (λ rs. (front ++ (rows ++ compare_rows Less f g)) ∷ ((front ++ (rows ++ compare_rows Greater f g)) ∷ rs)) (apart_behind fs gs front (rows ++ compare_rows Equal f g))
+
+all_apart : (fs gs front : List Affine) → apart_rows fs gs front ≡ map (λ c. front ++ c) (choices (apart_rows fs gs [] ∷ []))
+all_apart fs gs front = ap (apart_rows fs gs) (sym (append-nil front)) ∙ apart_behind fs gs front [] ∙ ap (map (λ c. front ++ c)) (sym (one_factor (apart_rows fs gs [])))
+
+pub between_lists : (front fs gs : List Affine) (os us : List (List Affine))
+    → flat_map (λ o. flat_map (λ u. apart_rows fs gs (front ++ (o ++ u))) us) os ≡ map (λ c. front ++ c) (choices (os ∷ us ∷ apart_rows fs gs [] ∷ []))
+between_lists front fs gs os us =
+    let last : List (List (List Affine)) = apart_rows fs gs [] ∷ [] in
+    flat_same (λ o. flat_map (λ u. apart_rows fs gs (front ++ (o ++ u))) us) (λ o. map (λ c. (front ++ o) ++ c) (choices (us ∷ last)))
+    (λ o. flat_same (λ u. apart_rows fs gs (front ++ (o ++ u))) (λ u. map (λ c. ((front ++ o) ++ u) ++ c) (choices last))
+    (λ u. ap (apart_rows fs gs) (sym (append_assoc front o u)) ∙ all_apart fs gs ((front ++ o) ++ u)) us ∙ sym (first_factor (front ++ o) us last)) os
+    ∙ sym (first_factor front os (us ∷ last))
+
+-- the rows of clash systems are the front's with one choice behind them
+pub between_choices : (front : List Affine) (after before : List Rows) (fs gs : List Affine)
+    → between_rows front after before fs gs ≡ map (λ c. front ++ c) (choices (map rows_in after ∷ map rows_in before ∷ apart_rows fs gs [] ∷ []))
+between_choices front after before fs gs = sym (between_is front after before fs gs) ∙ between_lists front fs gs (map rows_in after) (map rows_in before)
+
+-- ---- Drafts
+
+-- the systems of a draft between two orders
+pub drafted_between : (d : Draft) (after before : List (List Affine)) → d.factors ≡ after ∷ before ∷ apart_rows d.x.items d.y.items [] ∷ []
+    → drafted d ≡ map (clash_by d.columns d.ranges d.x.items d.y.items) (flat_map (λ o. flat_map (λ u. apart_rows d.x.items d.y.items (d.front.items ++ (o ++ u))) before) after)
+drafted_between d after before e =
+    ap (λ fs. map (draft_by d) (choices fs)) e
+    ∙ sym (map_twice (clash_by d.columns d.ranges d.x.items d.y.items) (λ c. d.front.items ++ c) (choices (after ∷ before ∷ apart_rows d.x.items d.y.items [] ∷ [])))
+    ∙ ap (map (clash_by d.columns d.ranges d.x.items d.y.items)) (sym (between_lists d.front.items d.x.items d.y.items after before))
+
+-- one draft more
+pub draft_more : (old new : List Draft) (d : Draft) → new ≡ old ++ d ∷ [] → (after before : List (List Affine)) → d.factors ≡ after ∷ before ∷ apart_rows d.x.items d.y.items [] ∷ []
+    → flat_map drafted new ≡ flat_map drafted old ++ map (clash_by d.columns d.ranges d.x.items d.y.items) (flat_map (λ o. flat_map (λ u. apart_rows d.x.items d.y.items (d.front.items ++ (o ++ u))) before) after)
+draft_more old new d e after before f = ap (flat_map drafted) e ∙ flat_one drafted old d ∙ ap (λ cs. flat_map drafted old ++ cs) (drafted_between d after before f)

@@ -1,0 +1,51 @@
+use Rattle.std.proofs.Common.{◌-◌, ◌++◌, ◌∷◌, [], rules, length, map, take, drop, sym, ap, ◌∙◌}
+use Rattle.std.proofs.lemmas.Result.{err_from_is_err_and, on_ok_weaker, IfErr-weaker}
+use Rattle.affc_life.specs.Clashes.{clash_of}
+use Rattle.affc_life.specs.Drafts.{drafts_behind}
+use Rattle.affc_life.proofs.ChoiceLemmas.{in_alternatives}
+use Rattle.affc_life.proofs.LimitLemmas.{first_and_rest, large_in_first, large_in_others, none_in_parts, paired_first, paired_others, both_added}
+use Rattle.affc_life.proofs.systems.+add_second.Goals as goal
+
+pub add_third-requires : goal.add_third-requires
+add_third-requires t c =
+    let us = c.args.seconds.now in
+    let rest = take (length us - 1) (drop 1 us) in
+    let is = in_alternatives c.args.draft.now (c.args.first.now) us rest (c.args.thirds.now ∷ []) c.as_slice.result.now (first_and_rest us c.second-item.result c.in-len1-up.len_at_least c.second-item.is ∙ ap (λ u. u ∷ rest) (sym c.as_slice.ensures)) in
+    paired_first (drafts_behind c.args.draft.now (c.args.first.now) (us ∷ c.args.thirds.now ∷ [])) (drafts_behind c.args.draft.now (c.args.first.now ++ c.as_slice.result.now) (c.args.thirds.now ∷ [])) (drafts_behind c.args.draft.now (c.args.first.now) (rest ∷ c.args.thirds.now ∷ [])) is c.requires
+
+pub add_second-requires : goal.add_second-requires
+add_second-requires t c =
+    let us = c.args.seconds.now in
+    let rest = take (length us - 1) (drop 1 us) in
+    let is = in_alternatives c.args.draft.now (c.args.first.now) us rest (c.args.thirds.now ∷ []) c.as_slice.result.now (first_and_rest us c.second-item.result c.in-len1-up.len_at_least c.second-item.is ∙ ap (λ u. u ∷ rest) (sym c.as_slice.ensures)) in
+    let l = c.in-len1-up.len_at_least in
+    (search rules, paired_others (drafts_behind c.args.draft.now (c.args.first.now) (us ∷ c.args.thirds.now ∷ [])) (drafts_behind c.args.draft.now (c.args.first.now ++ c.as_slice.result.now) (c.args.thirds.now ∷ [])) (drafts_behind c.args.draft.now (c.args.first.now) (rest ∷ c.args.thirds.now ∷ [])) is c.requires)
+
+pub returns-in_err-add_third-in-len1-up-clause-large : goal.returns-in_err-add_third-in-len1-up-clause-large
+returns-in_err-add_third-in-len1-up-clause-large t c =
+    let us = c.args.seconds.now in
+    let rest = take (length us - 1) (drop 1 us) in
+    let is = in_alternatives c.args.draft.now (c.args.first.now) us rest (c.args.thirds.now ∷ []) c.as_slice.result.now (first_and_rest us c.second-item.result c.in-len1-up.len_at_least c.second-item.is ∙ ap (λ u. u ∷ rest) (sym c.as_slice.ensures)) in
+    let p = err_from_is_err_and c.from_residual.result c.from_residual.ensures.1 in
+    rw (p.1, p.2) (λ l. large_in_first (drafts_behind c.args.draft.now (c.args.first.now) (us ∷ c.args.thirds.now ∷ [])) (drafts_behind c.args.draft.now (c.args.first.now ++ c.as_slice.result.now) (c.args.thirds.now ∷ [])) (drafts_behind c.args.draft.now (c.args.first.now) (rest ∷ c.args.thirds.now ∷ [])) is ((c.in_err-add_third-in-len1-up.ensures.large l)))
+
+pub returns-in_ok-add_third-in-len1-up-clause-ok : goal.returns-in_ok-add_third-in-len1-up-clause-ok
+returns-in_ok-add_third-in-len1-up-clause-ok t c =
+    let us = c.args.seconds.now in
+    let rest = take (length us - 1) (drop 1 us) in
+    let is = in_alternatives c.args.draft.now (c.args.first.now) us rest (c.args.thirds.now ∷ []) c.as_slice.result.now (first_and_rest us c.second-item.result c.in-len1-up.len_at_least c.second-item.is ∙ ap (λ u. u ∷ rest) (sym c.as_slice.ensures)) in
+    on_ok_weaker c.add_second.result (both_added (map clash_of c.args.out.now.items) (map clash_of c.add_third.new.out.items) (map clash_of c.add_second.new.out.items) (drafts_behind c.args.draft.now (c.args.first.now) (us ∷ c.args.thirds.now ∷ [])) (drafts_behind c.args.draft.now (c.args.first.now ++ c.as_slice.result.now) (c.args.thirds.now ∷ [])) (drafts_behind c.args.draft.now (c.args.first.now) (rest ∷ c.args.thirds.now ∷ [])) is c.in_ok-add_third-in-len1-up.ensures.ok) c.add_second.ensures.ok
+
+pub returns-in_ok-add_third-in-len1-up-clause-fits : goal.returns-in_ok-add_third-in-len1-up-clause-fits
+returns-in_ok-add_third-in-len1-up-clause-fits t c =
+    let us = c.args.seconds.now in
+    let rest = take (length us - 1) (drop 1 us) in
+    let is = in_alternatives c.args.draft.now (c.args.first.now) us rest (c.args.thirds.now ∷ []) c.as_slice.result.now (first_and_rest us c.second-item.result c.in-len1-up.len_at_least c.second-item.is ∙ ap (λ u. u ∷ rest) (sym c.as_slice.ensures)) in
+    on_ok_weaker c.add_second.result (none_in_parts (drafts_behind c.args.draft.now (c.args.first.now) (us ∷ c.args.thirds.now ∷ [])) (drafts_behind c.args.draft.now (c.args.first.now ++ c.as_slice.result.now) (c.args.thirds.now ∷ [])) (drafts_behind c.args.draft.now (c.args.first.now) (rest ∷ c.args.thirds.now ∷ [])) is (c.in_ok-add_third-in-len1-up.ensures.fits)) c.add_second.ensures.fits
+
+pub returns-in_ok-add_third-in-len1-up-clause-large : goal.returns-in_ok-add_third-in-len1-up-clause-large
+returns-in_ok-add_third-in-len1-up-clause-large t c =
+    let us = c.args.seconds.now in
+    let rest = take (length us - 1) (drop 1 us) in
+    let is = in_alternatives c.args.draft.now (c.args.first.now) us rest (c.args.thirds.now ∷ []) c.as_slice.result.now (first_and_rest us c.second-item.result c.in-len1-up.len_at_least c.second-item.is ∙ ap (λ u. u ∷ rest) (sym c.as_slice.ensures)) in
+    IfErr-weaker c.add_second.result _ _ (λ e h l. large_in_others (drafts_behind c.args.draft.now (c.args.first.now) (us ∷ c.args.thirds.now ∷ [])) (drafts_behind c.args.draft.now (c.args.first.now ++ c.as_slice.result.now) (c.args.thirds.now ∷ [])) (drafts_behind c.args.draft.now (c.args.first.now) (rest ∷ c.args.thirds.now ∷ [])) is (h l)) c.add_second.ensures.large

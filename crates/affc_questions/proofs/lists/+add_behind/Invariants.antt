@@ -1,5 +1,0 @@
-use Rattle.std.proofs.Common.{length}
-use Rattle.affc_questions.proofs.lists.+add_behind.Given as goal
-
-abbrev pub decreases-add_behind : goal.decreases-add_behind
-decreases-add_behind l = length l.lists.now

@@ -1,0 +1,16 @@
+use Rattle.std.proofs.Common.{◌≡◌, ◌∷◌, ◌++◌, [], map, flat_map, ap, ◌∙◌}
+use Rattle.affc_behind.specs.Products.{product}
+use Rattle.affc_behind.proofs.ProductLemmas.{choices_of_two}
+use Rattle.affc_questions.specs.Listed.{behind, group_systems}
+use Rattle.affc_questions.proofs.ListedLemmas.{group_more}
+use Rattle.affc_questions.proofs.lists.add_joined.Goals as goal
+
+pub returns : goal.returns
+returns c =
+    let old = flat_map group_systems c.args.out.now.items in
+    let columns = c.args.columns in
+    let front = c.args.front in
+    let first : c.push.new.self ≡ c.args.firsts.items ∷ [] = c.in_ok-push.ensures.ok ∙ ap (λ z. z ++ c.from_vec.result ∷ []) c.new-factors.ensures ∙ ap (λ z. z ∷ []) c.from_vec.ensures in
+    let is : c.push-2.new.self ≡ c.args.firsts.items ∷ c.args.seconds.items ∷ [] = c.in_ok-push-2.ensures.ok ∙ ap (λ z. z ++ c.from_vec-2.result ∷ []) first ∙ ap (λ z. c.args.firsts.items ∷ z ∷ []) c.from_vec-2.ensures in
+    ap (flat_map group_systems) c.in_ok-push-3.ensures.items ∙ group_more c.args.out.now.items (record { columns = columns; front = front; factors = c.push-2.new.self })
+    ∙ ap (λ fs. old ++ product columns front fs) is ∙ ap (λ us. old ++ map (behind columns front) us) (choices_of_two c.args.firsts.items c.args.seconds.items)
