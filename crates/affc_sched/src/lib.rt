@@ -9,4 +9,4 @@ pub mod systems;
 mod violation;
 
 pub use legality::{LegalProof, SchedStop, legal};
-pub use systems::pair_systems;
+pub use systems::{pair_rows, pair_systems};

@@ -151,8 +151,9 @@ fn add_orders(
     }
 }
 
-/// Both instances, and equal subscripts.
-fn pair_rows(
+/// The rows that the questions of two accesses of one array begin with: both instances, and equal subscripts. Over the parameters,
+/// the first's iterators and the second's.
+pub fn pair_rows(
     alloc: Global,
     nest: &Nest,
     a: &Entry,
