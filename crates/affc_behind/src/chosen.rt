@@ -46,6 +46,9 @@ fn multiple(times: u64, entry: i128) -> i128
     ensures value { result ≡ pos times *ℤ entry }
     ensures small { unsigned_abs result ≤ 2 ^ 113 }
 {
+    if entry == 0 {
+        return 0;
+    }
     i128::from(times) * entry
 }
 

@@ -63,8 +63,7 @@ pub fn check_all(
     let systems = systems_of(alloc, nest, schedule, cert)?;
     let systems = systems.as_slice();
     let groups = groups_of(alloc, nest, schedule, cert)?;
-    let groups = groups.as_slice();
-    let listed = match list_all(alloc, nest, schedule, cert, systems, groups) {
+    let listed = match list_all(alloc, nest, schedule, cert, systems, &groups) {
         Ok(listed) => listed,
         Err(PartStop::Part(part)) => return Err(CheckFault::Number(part)),
         Err(PartStop::Memory) => return Err(CheckFault::Memory),

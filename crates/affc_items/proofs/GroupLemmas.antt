@@ -1,11 +1,16 @@
 -- Questions in groups.
-use Rattle.std.proofs.Common.{◌≡◌, ℕ, ◌+◌, List, [], ◌∷◌, ◌++◌, map, flat_map, sym, ap, subst, ◌∙◌}
+use Rattle.std.proofs.Common.{◌≡◌, ℕ, ◌+◌, List, [], ◌∷◌, ◌++◌, map, flat_map, sym, ap, subst, inl, inr, ◌∙◌}
+use Rattle.std.specs.List.{All}
+use Rattle.std.proofs.lemmas.List.Elements.{All-head, All-tail}
 use Rattle.std.proofs.lemmas.List.{map-append}
 use Rattle.affc_trace.proofs.LastStores.{append_nil}
-use Rattle.affc_questions.specs.declared.group.Group.{Group}
-use Rattle.affc_questions.specs.Listed.{group_systems}
+use Rattle.affc_system.specs.Systems.{Rows}
+use Rattle.affc_trace.specs.Law.{IsIn}
+use Rattle.affc_behind.specs.Parts.{IsWithin}
+use Rattle.affc_behind.specs.declared.group.Group.{Group}
+use Rattle.affc_behind.specs.Groups.{group_systems}
 use Rattle.affc_items.specs.Groups.{part_items}
-use Rattle.affc_items.specs.Items.{Item, Question}
+use Rattle.affc_items.specs.Items.{Item, Question, Shown}
 use Rattle.affc_items.specs.Limits.{AnyPasses}
 use Rattle.affc_items.specs.Listed.{AreListed, PartsListed, IsFirstPart}
 use Rattle.affc_items.proofs.PartLemmas.{part_listed, part_here, part_later}
@@ -30,3 +35,23 @@ module _ (parts rest : List (List Group)) (part : List Group) (is : parts ≡ pa
 
   pub later_passes : (first next n : ℕ) → next ≡ first + 1 → ¬ (AnyPasses (part_items part)) → IsFirstPart AnyPasses next (map part_items rest) n → IsFirstPart AnyPasses first (map part_items parts) n
   later_passes first next n e clear h = subst (λ ps. IsFirstPart AnyPasses first (map part_items ps) n) (sym is) (part_later AnyPasses first next n (part_items part) (map part_items rest) e clear h)
+
+-- ---- Groups that keep the limits
+
+same_question : (p q : Rows) → Question p ≡ Question q → p ≡ q
+same_question p q e = ap asked e
+  where
+    asked : Item → Rows
+    asked (Question r) = r
+    asked (Shown r x) = r
+
+is_kept : (q : Rows) (ss : List Rows) → All IsWithin ss → IsIn (Question q) (map Question ss) → IsWithin q
+is_kept q [] h i = absurd i
+is_kept q (s ∷ ss) h i =
+    elim i [
+      | inl e ↦ subst IsWithin (sym (same_question q s e)) (All-head IsWithin s ss h)
+      | inr more ↦ is_kept q ss (All-tail IsWithin s ss h) more
+    ]
+
+pub kept_none_passes : (ss : List Rows) → All IsWithin ss → AnyPasses (map Question ss) → ⊥
+kept_none_passes ss h a = a.passes (is_kept a.question ss h a.there)

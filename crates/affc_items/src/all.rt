@@ -15,19 +15,18 @@ ghost use Rattle.affc_items.specs.Walks.{clash_systems, fold_shown, IsFoldAsked,
 
 use crate::bounds::{add_bound_questions, add_extent_questions};
 use crate::folds::add_fold;
-use crate::groups::add_parts;
-use crate::item::{Item, Listed};
+use crate::groups::{add_kept, add_parts};
+use crate::item::{Groups, Item, Listed};
 use crate::listing::{add_point, wholes};
-use crate::orders::add_legality_questions;
 use crate::shown::context_shown;
 use crate::stop::{PartStop, at_part};
 use crate::trees::tree_groups;
 use affc_cert::Cert;
 use affc_certfold::fold::CertFold;
+use affc_legality::legality_groups;
 use affc_life::{ClashFault, ClashProduct, clash_products};
 use affc_nest::Nest;
 use affc_quast::Flow;
-use affc_questions::Group;
 use affc_trace::schedule::Schedule;
 use sqlite_items::Items;
 use std::alloc::{AllocError, Global};
@@ -81,19 +80,23 @@ pub fn systems_of(
     Ok(systems)
 }
 
-/// The questions of a certificate's trees, a part for each.
+/// The questions of a certificate's trees and on the schedule.
 pub fn groups_of(
     alloc: Global,
     nest: &Nest,
     schedule: &Schedule,
     cert: &Cert,
-) -> Result<Items<Items<Group>>, AllocError>
+) -> Result<Groups, AllocError>
     requires asked { IsAsked nest.now schedule.now }
     requires certificate { IsCertWithin nest.now cert.now }
-    ensures { IfOk result (AreGroups nest.now (trees_of cert.now.flow)) }
+    ensures { IfOk result (AreGroups nest.now schedule.now (trees_of cert.now.flow)) }
 {
-    let _schedule = schedule;
-    tree_groups(alloc, nest, &cert.flow)
+    let trees = tree_groups(alloc, nest, &cert.flow)?;
+    let groups = legality_groups(alloc, nest, schedule)?;
+    Ok(Groups {
+        trees,
+        schedule: Items::from_vec(groups),
+    })
 }
 
 /// Adds the items of a fold whose array has these clash systems, which are those of the part with this number.
@@ -156,20 +159,20 @@ fn add_folds<'a>(
     }
 }
 
-/// Lists the items of a certificate, whose folds' arrays have these clash systems and whose trees these questions: no part of it
-/// passes the limits, or the first that does is told.
+/// Lists the items of a certificate, whose folds' arrays have these clash systems and whose trees and schedule these questions: no
+/// part of it passes the limits, or the first that does is told.
 pub fn list_all<'a>(
     alloc: Global,
     nest: &'a Nest,
     schedule: &Schedule,
     cert: &'a Cert,
     systems: &'a [Items<ClashProduct>],
-    groups: &'a [Items<Group>],
+    groups: &'a Groups,
 ) -> Result<Vec<Listed<'a>>, PartStop>
     requires asked { IsAsked nest.now schedule.now }
     requires certificate { IsCertWithin nest.now cert.now }
     requires systems { AreSystems nest.now schedule.now (trees_of cert.now.flow) cert.now.folds (map clash_systems systems.now) }
-    requires groups { AreGroups nest.now (trees_of cert.now.flow) groups.now }
+    requires groups { AreGroups nest.now schedule.now (trees_of cert.now.flow) groups.now }
     ensures ok { IfOk result (λ l. IsListing nest.now schedule.now cert.now (flat_map listed_said l.items) (map clash_systems systems.now)) }
     ensures past { IfErr result (λ e. (n : ℕ) → e ≡ PartStop.Part n → PassesFirst nest.now schedule.now cert.now n) }
 {
@@ -181,8 +184,8 @@ pub fn list_all<'a>(
     )?;
     add_extent_questions(alloc, nest, &mut items)?;
     add_bound_questions(alloc, nest, &mut items)?;
-    add_parts(alloc, groups, 1, &mut items)?;
-    add_legality_questions(alloc, nest, schedule, &mut items)?;
+    add_parts(alloc, groups.trees.as_slice(), 1, &mut items)?;
+    add_kept(alloc, groups.schedule.as_slice(), &mut items)?;
     let Some(first) = cert.flow.trees.len().checked_add(1) else {
         return Err(PartStop::Memory);
     };
@@ -209,8 +212,7 @@ pub fn all_items(
     let systems = systems_of(alloc, nest, schedule, cert)?;
     let groups = groups_of(alloc, nest, schedule, cert)?;
     let systems = systems.as_slice();
-    let groups = groups.as_slice();
-    let listed = list_all(alloc, nest, schedule, cert, systems, groups)?;
+    let listed = list_all(alloc, nest, schedule, cert, systems, &groups)?;
     let items = wholes(alloc, listed)?;
     Ok(items)
 }

@@ -1,6 +1,8 @@
 //! Questions in groups, put behind others.
-ghost use Rattle.std.specs.Prelude.{flat_map, IfOk, ◌≡◌, ℕ, ◌∷◌, [], map, OnOk, IfErr};
-ghost use Rattle.affc_questions.specs.Listed.{group_systems};
+ghost use Rattle.std.specs.Prelude.{flat_map, IfOk, ◌≡◌, ℕ, ◌++◌, ◌∷◌, [], map, OnOk, IfErr};
+ghost use Rattle.std.specs.List.{All};
+ghost use Rattle.affc_behind.specs.Parts.{IsWithin};
+ghost use Rattle.affc_behind.specs.Groups.{group_systems};
 ghost use Rattle.affc_items.specs.Groups.{part_items};
 ghost use Rattle.affc_items.specs.Held.{listed_said};
 ghost use Rattle.affc_items.specs.Items.{Question};
@@ -10,7 +12,7 @@ ghost use Rattle.affc_items.specs.Listed.{AreListed, PartsListed, IsFirstPart};
 use crate::item::Listed;
 use crate::listing::add_product;
 use crate::stop::{PartStop, Stop, at_part};
-use affc_questions::Group;
+use affc_behind::Group;
 use affc_rows::Form;
 use sqlite_items::Items;
 use std::alloc::{AllocError, Global};
@@ -85,5 +87,21 @@ pub(crate) fn add_parts<'a>(
             };
             add_parts(alloc, rest, next, out)
         }
+    }
+}
+
+/// Adds the questions of these groups, each of which keeps the limits.
+pub(crate) fn add_kept<'a>(
+    alloc: Global,
+    groups: &'a [Group],
+    out: &mut Vec<Listed<'a>>,
+) -> Result<(), AllocError>
+    requires { All IsWithin (flat_map group_systems groups.now) }
+    ensures { OnOk result (flat_map listed_said out.new.items ≡ flat_map listed_said out.old.items ++ part_items groups.now) }
+{
+    match add_groups(alloc, groups, out) {
+        Ok(()) => Ok(()),
+        Err(Stop::Past) => unreachable!(),
+        Err(Stop::Memory) => Err(AllocError),
     }
 }

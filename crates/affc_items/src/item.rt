@@ -3,7 +3,7 @@ ghost use Rattle.std.specs.Prelude.{◌≤◌};
 ghost use Rattle.std.specs.List.{All};
 ghost use Rattle.affc_system.specs.Systems.{IsRow};
 
-use affc_behind::Block;
+use affc_behind::{Block, Group};
 use affc_questions::Long;
 use affc_system::System;
 use sqlite_items::Items;
@@ -30,4 +30,13 @@ pub enum Item {
 pub enum Listed<'a> {
     One(Item),
     Questions(Block<'a>),
+}
+
+/// The questions of a certificate that are listed in groups.
+#[derive(Drop)]
+pub struct Groups {
+    /// Those of the trees, a part for each.
+    pub trees: Items<Items<Group>>,
+    /// Those on the schedule.
+    pub schedule: Items<Group>,
 }

@@ -8,12 +8,11 @@ mod groups;
 pub mod item;
 pub mod laws;
 mod listing;
-mod orders;
 pub mod shown;
 pub mod stop;
 mod trees;
 
 pub use all::{all_items, groups_of, list_all, systems_of};
 pub use folds::items_of_fold;
-pub use item::{Item, Listed, Point};
+pub use item::{Groups, Item, Listed, Point};
 pub use stop::{PartStop, Stop};

@@ -31,19 +31,6 @@ pub(crate) fn add_point(out: &mut Vec<Listed<'_>>, point: Point) -> Result<(), A
     Ok(())
 }
 
-/// Adds questions.
-pub(crate) fn add_questions(
-    out: &mut Vec<Listed<'_>>,
-    systems: Vec<System>,
-) -> Result<(), AllocError>
-    ensures { OnOk result (flat_map listed_said out.new.items ≡ flat_map listed_said out.old.items ++ map Question systems.items) }
-{
-    for system in systems {
-        add_question(out, system)?;
-    }
-    Ok(())
-}
-
 /// Adds a question, if it keeps the limits.
 pub(crate) fn add_long(alloc: Global, long: &Long, out: &mut Vec<Listed<'_>>) -> Result<(), Stop>
     ensures ok { OnOk result (AreListed (flat_map listed_said out.old.items) (flat_map listed_said out.new.items) (Question long.now ∷ [])) }

@@ -8,16 +8,17 @@ ghost use Rattle.affc_quast.specs.Seen.{seen, trees_of};
 ghost use Rattle.affc_quast.specs.SeenLeaves.{leaf_seen};
 ghost use Rattle.affc_quast.specs.Sources.{loads_in, loads_before};
 ghost use Rattle.affc_life.specs.Asked.{KeepLimits, KeepsLimits, IsLiving, IsPath, AreLoads};
-ghost use Rattle.affc_items.specs.Groups.{part_items, AreGroups};
+ghost use Rattle.affc_items.specs.Groups.{part_items, AreTreeGroups};
 ghost use Rattle.affc_items.specs.Passes.{items_by_entry};
 ghost use Rattle.affc_items.specs.Walks.{leaf_items, load_items, own_items};
 
+use affc_behind::Group;
 use affc_life::stores::{loops_round, params_in};
 use affc_life::walk::trees_from;
 use affc_nest::{Access, Entry, Nest};
 use affc_quast::leaves::{Leaf, leaves};
 use affc_quast::{Flow, Quast};
-use affc_questions::{Group, leaf_questions};
+use affc_questions::leaf_questions;
 use sqlite_items::Items;
 use std::alloc::{AllocError, Global};
 
@@ -213,7 +214,7 @@ pub(crate) fn tree_groups(
 ) -> Result<Items<Items<Group>>, AllocError>
     requires nested { IsNest nest.now }
     requires limits { KeepLimits nest.now (trees_of flow.now) }
-    ensures { IfOk result (AreGroups nest.now (trees_of flow.now)) }
+    ensures { IfOk result (AreTreeGroups nest.now (trees_of flow.now)) }
 {
     let mut parts = Items::new(alloc);
     let trees = flow.trees.as_slice();

@@ -5,9 +5,25 @@ ghost use Rattle.affc_trace.specs.Inverses.{columns_from};
 ghost use Rattle.affc_quast.specs.Leaves.{padded};
 
 use affc_nest::forms::column;
-use affc_order::columns::spread;
 use affc_rows::Form;
+use smallvec::SmallVec;
 use std::alloc::{AllocError, Global};
+
+/// The form with as many zeros behind as make so many columns.
+fn wider(alloc: Global, columns: u32, form: &Form) -> Result<Form, AllocError>
+    requires { length form.now.coefs ≤ columns }
+    ensures { IfOk result (λ f. f ≡ padded columns form.now) }
+{
+    let behind = columns - form.coefs.len() as u32;
+    let mut coefs = SmallVec::from_slice(alloc, form.coefs.as_slice())?;
+    for _i in 0..behind {
+        coefs.push(0)?;
+    }
+    Ok(Form {
+        coefs,
+        constant: form.constant,
+    })
+}
 
 /// Adds forms, each with as many zeros behind as make so many columns.
 pub fn add_padded(
@@ -19,11 +35,11 @@ pub fn add_padded(
     requires { All (λ f. length f.coefs ≤ columns) forms.now }
     ensures { OnOk result (out.new.items ≡ out.old.items ++ map (padded columns) forms.now) }
 {
+    out.reserve(forms.len())?;
     match forms {
         [] => Ok(()),
         [form, rest @ ..] => {
-            let behind = columns - form.coefs.len() as u32;
-            let made = spread(alloc, form, 0, 0, behind)?;
+            let made = wider(alloc, columns, form)?;
             out.push(made)?;
             add_padded(alloc, columns, rest, out)
         }

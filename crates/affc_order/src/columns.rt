@@ -41,19 +41,6 @@ fn add_zeros(coefs: &mut SmallVec<i128, 16, Global>, n: u32) -> Result<(), Alloc
     Ok(())
 }
 
-/// Adds numbers.
-fn add_all(coefs: &mut SmallVec<i128, 16, Global>, more: &[i128]) -> Result<(), AllocError>
-    ensures { OnOk result (coefs.new.items ≡ coefs.old.items ++ more.now) }
-{
-    match more {
-        [] => Ok(()),
-        [c, rest @ ..] => {
-            coefs.push(*c)?;
-            add_all(coefs, rest)
-        }
-    }
-}
-
 /// The form with so many columns more between its parameters and its iterators, and so many behind.
 pub fn spread(
     alloc: Global,
@@ -66,10 +53,9 @@ pub fn spread(
     ensures { IfOk result (λ f. f ≡ spread params between behind form.now) }
 {
     let (front, back) = form.coefs.as_slice().split_at(params as usize);
-    let mut coefs = SmallVec::new(alloc);
-    add_all(&mut coefs, front)?;
+    let mut coefs = SmallVec::from_slice(alloc, front)?;
     add_zeros(&mut coefs, between)?;
-    add_all(&mut coefs, back)?;
+    coefs.extend_from_slice(back)?;
     add_zeros(&mut coefs, behind)?;
     Ok(Form {
         coefs,

@@ -13,8 +13,6 @@ use Rattle.affc_order.specs.Systems.{source_order}
 use Rattle.affc_sched.specs.Questions.{equal_rows}
 use Rattle.affc_quast.specs.Leaves.{Leaf, padded, negated}
 use Rattle.affc_life.specs.Drafts.{posed, rows_in}
-use Rattle.affc_behind.specs.Blocks.{product}
-use Rattle.affc_questions.specs.declared.group.Group.{Group}
 use Rattle.affc_flow.specs.Asked.{writers_of}
 use Rattle.affc_flow.specs.Questions.{Question, Writer, poses, is_temporary, beside_columns, beside_rows, before_load, after_named}
 
@@ -27,10 +25,6 @@ systems_of questions = map (λ q. q.system) questions
 -- the system of these rows and those
 abbrev pub behind : (columns : ℕ) → (front rows : List Affine) → Rows
 behind columns front rows = record { columns = columns; rows = front ++ rows }
-
--- the systems of the questions of a group
-abbrev pub group_systems : Group → List Rows
-group_systems g = product g.columns g.front g.factors
 
 -- two forms in turn: the first is greater, or less
 abbrev pub sides : (fs gs : List Affine) → List (List Affine)

@@ -4,7 +4,6 @@
 mod beside;
 pub mod context;
 pub mod distances;
-pub mod group;
 mod image;
 pub mod laws;
 pub mod leaf;
@@ -15,6 +14,5 @@ mod rows;
 
 pub use context::{greater_question, one_system, positive_question, whole_context};
 pub use distances::{distance_rows, is_behind, shown_rows};
-pub use group::Group;
 pub use leaf::leaf_questions;
 pub use long::Long;

@@ -1,5 +1,5 @@
 //! Forms: their values, mixtures and compositions.
-ghost use Rattle.std.specs.Prelude.{◌≡◌, ℕ, ◌+◌, ◌-◌, ◌*◌, ◌^◌, ◌<◌, ◌≤◌, ◌+ℤ◌, ◌*ℤ◌, unsigned_abs, IfOk, IfErr, OnOk, OnErr, length};
+ghost use Rattle.std.specs.Prelude.{◌≡◌, ℕ, ◌+◌, ◌-◌, ◌*◌, ◌^◌, ◌<◌, ◌≤◌, ◌+ℤ◌, ◌*ℤ◌, unsigned_abs, pos, negsuc, IsTrue, IfOk, IfErr, OnOk, OnErr, length};
 ghost use Rattle.std.specs.List.{All};
 ghost use Rattle.affc_rows.specs.Forms.{dot, dot_magnitude, value, magnitude, mixed, mixed_magnitudes, mixed_form, mixed_form_magnitudes, entry_magnitude, columns_of, HaveColumns, column_of, constants_of, composed, composed_magnitudes, composed_form, composed_form_magnitudes, AllFit, TooWide};
 
@@ -62,12 +62,32 @@ fn add_products(start: Total, coefs: &[i128], point: &[i128]) -> Result<Total, R
     Ok(total)
 }
 
-/// One entry of `s` times a form plus `t` times another.
+/// Whether a number is far within the limit of a sum.
+fn is_small(x: i128) -> bool
+    ensures { IsTrue result → unsigned_abs x ≤ 2 ^ 124 }
+{
+    x.unsigned_abs() <= 1 << 124
+}
+
+/// One entry of a form less another, of small numbers.
+fn less(c: i128, d: i128) -> i128
+    requires first { unsigned_abs c ≤ 2 ^ 124 }
+    requires second { unsigned_abs d ≤ 2 ^ 124 }
+    ensures value { result ≡ (pos 1 *ℤ c) +ℤ (negsuc 0 *ℤ d) }
+    ensures fits { entry_magnitude (pos 1) c (negsuc 0) d ≤ 2 ^ 126 }
+{
+    c - d
+}
+
+/// One entry of `s` times a form plus `t` times another. Of a difference of small numbers no magnitudes are summed.
 fn entry(s: i128, c: i128, t: i128, d: i128) -> Result<i128, Range>
     ensures value { IfOk result (λ v. v ≡ (s *ℤ c) +ℤ (t *ℤ d)) }
     ensures fits { OnOk result (entry_magnitude s c t d ≤ 2 ^ 126) }
     ensures range { OnErr result (2 ^ 126 < entry_magnitude s c t d) }
 {
+    if s == 1 && t == -1 && is_small(c) && is_small(d) {
+        return Ok(less(c, d));
+    }
     let Ok(first) = Total::zero().add(s, c) else {
         return Err(Range);
     };

@@ -1,0 +1,3 @@
+pub mod AddedLemmas
+pub mod ProductLemmas
+pub mod PairLemmas
