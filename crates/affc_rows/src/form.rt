@@ -1,5 +1,5 @@
 //! Forms: their values, mixtures and compositions.
-ghost use Rattle.std.specs.Prelude.{◌≡◌, ℕ, ◌+◌, ◌-◌, ◌*◌, ◌^◌, ◌<◌, ◌≤◌, ◌+ℤ◌, ◌*ℤ◌, unsigned_abs, pos, negsuc, IsTrue, IfOk, IfErr, OnOk, OnErr, length};
+ghost use Rattle.std.specs.Prelude.{◌≡◌, ℕ, ◌+◌, ◌-◌, ◌*◌, ◌^◌, ◌<◌, ◌≤◌, ◌+ℤ◌, ◌*ℤ◌, unsigned_abs, pos, IfSome, IfOk, IfErr, OnOk, OnErr, length};
 ghost use Rattle.std.specs.List.{All};
 ghost use Rattle.affc_rows.specs.Forms.{dot, dot_magnitude, value, magnitude, mixed, mixed_magnitudes, mixed_form, mixed_form_magnitudes, entry_magnitude, columns_of, HaveColumns, column_of, constants_of, composed, composed_magnitudes, composed_form, composed_form_magnitudes, AllFit, TooWide};
 
@@ -62,32 +62,56 @@ fn add_products(start: Total, coefs: &[i128], point: &[i128]) -> Result<Total, R
     Ok(total)
 }
 
-/// Whether a number is far within the limit of a sum.
-fn is_small(x: i128) -> bool
-    ensures { IsTrue result → unsigned_abs x ≤ 2 ^ 124 }
+/// A small factor times a machine integer.
+#[inline]
+fn times(s: i64, c: i64) -> i128
+    requires { unsigned_abs s ≤ 2 ^ 61 }
+    ensures value { result ≡ s *ℤ c }
+    ensures magnitude { unsigned_abs s * unsigned_abs c ≤ 2 ^ 124 }
+    ensures fits { unsigned_abs result ≤ 2 ^ 124 }
 {
-    x.unsigned_abs() <= 1 << 124
+    i128::from(s) * i128::from(c)
 }
 
-/// One entry of a form less another, of small numbers.
-fn less(c: i128, d: i128) -> i128
-    requires first { unsigned_abs c ≤ 2 ^ 124 }
-    requires second { unsigned_abs d ≤ 2 ^ 124 }
-    ensures value { result ≡ (pos 1 *ℤ c) +ℤ (negsuc 0 *ℤ d) }
-    ensures fits { entry_magnitude (pos 1) c (negsuc 0) d ≤ 2 ^ 126 }
-{
-    c - d
+/// The two factors of a mixture, where machine integers times them can't pass the limit together.
+#[derive(Clone, Copy)]
+struct Weights {
+    s: i64,
+    t: i64,
+    ghost small_s: { unsigned_abs s ≤ 2 ^ 61 },
+    ghost small_t: { unsigned_abs t ≤ 2 ^ 61 },
 }
 
-/// One entry of `s` times a form plus `t` times another. Of a difference of small numbers no magnitudes are summed.
+impl Weights {
+    /// The factors, if they are small.
+    fn of(s: i128, t: i128) -> Option<Weights>
+        ensures { IfSome result (λ w. (w.s ≡ s) × (w.t ≡ t)) }
+    {
+        if s.unsigned_abs() > 1 << 61 || t.unsigned_abs() > 1 << 61 {
+            return None;
+        }
+        let (Ok(s), Ok(t)) = (i64::try_from(s), i64::try_from(t)) else {
+            return None;
+        };
+        Some(Weights { s, t })
+    }
+
+    /// The entry of machine integers.
+    #[inline]
+    fn entry(self, c: i64, d: i64) -> i128
+        ensures value { result ≡ (self.s *ℤ c) +ℤ (self.t *ℤ d) }
+        ensures fits { entry_magnitude self.s c self.t d ≤ 2 ^ 126 }
+    {
+        times(self.s, c) + times(self.t, d)
+    }
+}
+
+/// One entry of `s` times a form plus `t` times another.
 fn entry(s: i128, c: i128, t: i128, d: i128) -> Result<i128, Range>
     ensures value { IfOk result (λ v. v ≡ (s *ℤ c) +ℤ (t *ℤ d)) }
     ensures fits { OnOk result (entry_magnitude s c t d ≤ 2 ^ 126) }
     ensures range { OnErr result (2 ^ 126 < entry_magnitude s c t d) }
 {
-    if s == 1 && t == -1 && is_small(c) && is_small(d) {
-        return Ok(less(c, d));
-    }
     let Ok(first) = Total::zero().add(s, c) else {
         return Err(Range);
     };
@@ -95,6 +119,20 @@ fn entry(s: i128, c: i128, t: i128, d: i128) -> Result<i128, Range>
         return Err(Range);
     };
     Ok(total.value)
+}
+
+/// One entry. Of small factors and machine integers no magnitudes are summed.
+#[inline]
+fn entry_by(weights: Option<Weights>, s: i128, c: i128, t: i128, d: i128) -> Result<i128, Range>
+    requires { IfSome weights (λ w. (w.s ≡ s) × (w.t ≡ t)) }
+    ensures value { IfOk result (λ v. v ≡ (s *ℤ c) +ℤ (t *ℤ d)) }
+    ensures fits { OnOk result (entry_magnitude s c t d ≤ 2 ^ 126) }
+    ensures range { OnErr result (2 ^ 126 < entry_magnitude s c t d) }
+{
+    match (weights, i64::try_from(c), i64::try_from(d)) {
+        (Some(weights), Ok(c), Ok(d)) => Ok(weights.entry(c, d)),
+        _ => entry(s, c, t, d),
+    }
 }
 
 /// `s` times the first list plus `t` times the second.
@@ -110,9 +148,10 @@ fn mixed_coefs(
     ensures fits { OnOk result (AllFit (mixed_magnitudes s first.now t second.now)) }
     ensures range { IfErr result (λ e. e ≡ FormFault.Range → TooWide (mixed_magnitudes s first.now t second.now)) }
 {
+    let weights = Weights::of(s, t);
     let mut coefs = SmallVec::new(alloc);
     for (i, c) in first.iter().enumerate() {
-        let Ok(made) = entry(s, *c, t, second[i]) else {
+        let Ok(made) = entry_by(weights, s, *c, t, second[i]) else {
             return Err(FormFault::Range);
         };
         let Ok(()) = coefs.push(made) else {

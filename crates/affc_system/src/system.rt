@@ -146,6 +146,15 @@ impl System {
         self.rows.as_slice()
     }
 
+    /// The rows, taken out of the system.
+    pub fn into_rows(self) -> Vec<Form>
+        ensures rows { result.items ≡ self.rows }
+        ensures few { length result.items ≤ 1024 }
+        ensures fit { All (IsRow self.columns) result.items }
+    {
+        self.rows
+    }
+
     /// The number of columns.
     pub fn columns(&self) -> u32
         ensures value { result ≡ self.now.columns }
