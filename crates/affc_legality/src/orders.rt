@@ -50,7 +50,7 @@ fn add_pair(
         return Ok(());
     }
     let pair = pair_rows(alloc, nest, a, b, from.access, to.access)?;
-    add_product(alloc, &pair, earlier.as_slice(), later.as_slice(), out)?;
+    add_product(alloc, pair, earlier.as_slice(), later.as_slice(), out)?;
     Ok(())
 }
 

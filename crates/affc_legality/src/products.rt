@@ -12,14 +12,6 @@ use affc_system::System;
 use sqlite_items::Items;
 use std::alloc::{AllocError, Global};
 
-/// A copy of rows.
-fn copied(alloc: Global, rows: &[Form]) -> Result<Items<Form>, AllocError>
-    ensures { IfOk result (λ r. r ≡ rows.now) }
-{
-    let rows = rows.to_vec(alloc)?;
-    Ok(Items::from_vec(rows))
-}
-
 /// The rows of an order over so many columns.
 fn alternative(alloc: Global, columns: u32, order: &System) -> Result<Items<Form>, AllocError>
     requires { IsOrder columns order.now }
@@ -27,7 +19,8 @@ fn alternative(alloc: Global, columns: u32, order: &System) -> Result<Items<Form
     ensures within { IfOk result (λ r. IsAlternative columns r) }
 {
     let _ = columns;
-    copied(alloc, order.rows())
+    let rows = order.rows().to_vec(alloc)?;
+    Ok(Items::from_vec(rows))
 }
 
 /// Adds the rows of each of these orders.
@@ -70,22 +63,22 @@ fn alternatives(
 /// Adds the group of the rows of two accesses, with the orders behind them as its factors.
 pub(crate) fn add_product(
     alloc: Global,
-    pair: &System,
+    pair: System,
     earlier: &[System],
     later: &[System],
     out: &mut Vec<Group>,
 ) -> Result<(), AllocError>
-    requires pair { length pair.now.rows ≤ 900 }
-    requires earlier { All (IsOrder pair.now.columns) earlier.now }
-    requires later { All (IsOrder pair.now.columns) later.now }
-    ensures put { OnOk result (flat_map group_systems out.new.items ≡ flat_map group_systems out.old.items ++ with_orders pair.now earlier.now later.now) }
-    ensures within { OnOk result (All IsWithin (with_orders pair.now earlier.now later.now)) }
+    requires pair { length pair.rows ≤ 900 }
+    requires earlier { All (IsOrder pair.columns) earlier.now }
+    requires later { All (IsOrder pair.columns) later.now }
+    ensures put { OnOk result (flat_map group_systems out.new.items ≡ flat_map group_systems out.old.items ++ with_orders pair earlier.now later.now) }
+    ensures within { OnOk result (All IsWithin (with_orders pair earlier.now later.now)) }
 {
     let columns = pair.columns();
-    let front = copied(alloc, pair.rows())?;
     let mut factors = Items::new(alloc);
     factors.push(alternatives(alloc, columns, earlier)?)?;
     factors.push(alternatives(alloc, columns, later)?)?;
+    let front = Items::from_vec(pair.into_rows());
     out.push(Group {
         columns,
         front,
