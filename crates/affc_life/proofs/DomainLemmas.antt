@@ -1,4 +1,4 @@
--- The rows of a living statement's domain keep the limits of a system's rows.
+-- The rows of a living statement's domain are differences of sides: what holds of each of these holds of each row.
 use Rattle.std.proofs.Common.{ℕ, suc, ◌+◌, ◌^◌, ◌≤◌, ℤ, IsTrue, List, [], ◌∷◌, ◌++◌, length, sym, subst, arith}
 use Rattle.std.specs.Prelude.{unsigned_abs, ◌&&◌}
 use Rattle.std.specs.List.{All}
@@ -26,73 +26,76 @@ use Rattle.affc_nest.proofs.EntryLemmas.{site_of, ranges_there, domain_is}
 use Rattle.affc_nest.proofs.PlaceProofs.{near_numbers, near_within, plain_place}
 use Rattle.affc_nest.proofs.RowLemmas.{plain_side, column_side, number_side, gap_fits}
 
-one_fits : (n k : ℕ) (a b : Affine) → k ≤ 1 → IsSide n a → IsSide n b → All FitsRow (gap_row a b k ∷ [])
-one_fits n k a b h s t = All-cons FitsRow (gap_row a b k) [] (gap_fits n a b k s t h) (All-nil FitsRow)
+module _ (P : Affine → Type 0) (gap : (n : ℕ) (a b : Affine) (k : ℕ) → IsSide n a → IsSide n b → k ≤ 1 → P (gap_row a b k)) where
+  one_row : (n k : ℕ) (a b : Affine) → k ≤ 1 → IsSide n a → IsSide n b → All P (gap_row a b k ∷ [])
+  one_row n k a b h s t = All-cons P (gap_row a b k) [] (gap n a b k s t h) (All-nil P)
 
-compare_fits : (n : ℕ) (rel : Rel) (a b : Affine) → IsSide n a → IsSide n b → All FitsRow (compare_rows rel a b)
-compare_fits n Less a b s t = one_fits n 1 a b (omega arith) s t
-compare_fits n LessEqual a b s t = one_fits n 0 a b (omega arith) s t
-compare_fits n Greater a b s t = one_fits n 1 b a (omega arith) t s
-compare_fits n GreaterEqual a b s t = one_fits n 0 b a (omega arith) t s
-compare_fits n Equal a b s t = All-cons FitsRow (gap_row b a 0) (gap_row a b 0 ∷ []) (gap_fits n b a 0 t s (omega arith)) (one_fits n 0 a b (omega arith) s t)
+  compared : (n : ℕ) (rel : Rel) (a b : Affine) → IsSide n a → IsSide n b → All P (compare_rows rel a b)
+  compared n Less a b s t = one_row n 1 a b (omega arith) s t
+  compared n LessEqual a b s t = one_row n 0 a b (omega arith) s t
+  compared n Greater a b s t = one_row n 1 b a (omega arith) t s
+  compared n GreaterEqual a b s t = one_row n 0 b a (omega arith) t s
+  compared n Equal a b s t = All-cons P (gap_row b a 0) (gap_row a b 0 ∷ []) (gap n b a 0 t s (omega arith)) (one_row n 0 a b (omega arith) s t)
 
-tests_fit : (names more : ℕ) (cs : List Compare) → IsTrue (plain_tests names cs) → All FitsRow (test_rows names more cs)
-tests_fit names more [] h = All-nil FitsRow
-tests_fit names more (c ∷ cs) h =
-    let a = both_true (is_plain names c.left) (is_plain names c.right && plain_tests names cs) h in
-    let b = both_true (is_plain names c.right) (plain_tests names cs) a.1 in
-    All-append FitsRow (compare_rows c.rel (form_of names more c.left) (form_of names more c.right)) (test_rows names more cs)
-    (compare_fits (names + more) c.rel (form_of names more c.left) (form_of names more c.right) (plain_side names more c.left a.0) (plain_side names more c.right b.0)) (tests_fit names more cs b.1)
+  tested : (names more : ℕ) (cs : List Compare) → IsTrue (plain_tests names cs) → All P (test_rows names more cs)
+  tested names more [] h = All-nil P
+  tested names more (c ∷ cs) h =
+      let a = both_true (is_plain names c.left) (is_plain names c.right && plain_tests names cs) h in
+      let b = both_true (is_plain names c.right) (plain_tests names cs) a.1 in
+      All-append P (compare_rows c.rel (form_of names more c.left) (form_of names more c.right)) (test_rows names more cs)
+      (compared (names + more) c.rel (form_of names more c.left) (form_of names more c.right) (plain_side names more c.left a.0) (plain_side names more c.right b.0)) (tested names more cs b.1)
 
-range_fits : (n j : ℕ) (r : ℤ × ℤ) → unsigned_abs r.0 ≤ 2 ^ 32 → unsigned_abs r.1 ≤ 2 ^ 32 → All FitsRow (range_rows n j r)
-range_fits n j r h g =
-    All-cons FitsRow (gap_row (number_form n r.0) (column_form n j) 0) (gap_row (column_form n j) (number_form n r.1) 0 ∷ []) (gap_fits n (number_form n r.0) (column_form n j) 0 (number_side n r.0 h) (column_side n j) (omega arith))
-    (one_fits n 0 (column_form n j) (number_form n r.1) (omega arith) (column_side n j) (number_side n r.1 g))
+  ranged : (n j : ℕ) (r : ℤ × ℤ) → unsigned_abs r.0 ≤ 2 ^ 32 → unsigned_abs r.1 ≤ 2 ^ 32 → All P (range_rows n j r)
+  ranged n j r h g =
+      All-cons P (gap_row (number_form n r.0) (column_form n j) 0) (gap_row (column_form n j) (number_form n r.1) 0 ∷ []) (gap n (number_form n r.0) (column_form n j) 0 (number_side n r.0 h) (column_side n j) (omega arith))
+      (one_row n 0 (column_form n j) (number_form n r.1) (omega arith) (column_side n j) (number_side n r.1 g))
 
-box_fits : (n j : ℕ) (rs : List (ℤ × ℤ)) → NearRanges rs → All FitsRow (box_rows n j rs)
-box_fits n j [] h = All-nil FitsRow
-box_fits n j (r ∷ rs) h = All-append FitsRow (range_rows n j r) (box_rows n (suc j) rs) (range_fits n j r h.0 h.1) (box_fits n (suc j) rs h.2)
+  boxed : (n j : ℕ) (rs : List (ℤ × ℤ)) → NearRanges rs → All P (box_rows n j rs)
+  boxed n j [] h = All-nil P
+  boxed n j (r ∷ rs) h = All-append P (range_rows n j r) (box_rows n (suc j) rs) (ranged n j r h.0 h.1) (boxed n (suc j) rs h.2)
 
-bounds_fit : (names : ℕ) (low : Ix) (rel : Rel) (high : Ix) (more : ℕ) → IsTrue (is_plain names low) → IsTrue (is_plain names high) → All FitsRow (bounds_of names low rel high more)
-bounds_fit names low rel high more h g =
-    let n = names + more in
-    All-cons FitsRow (gap_row (form_of names more low) (column_form n names) 0) (compare_rows rel (column_form n names) (form_of names more high))
-    (gap_fits n (form_of names more low) (column_form n names) 0 (plain_side names more low h) (column_side n names) (omega arith))
-    (compare_fits n rel (column_form n names) (form_of names more high) (column_side n names) (plain_side names more high g))
+  bounded : (names : ℕ) (low : Ix) (rel : Rel) (high : Ix) (more : ℕ) → IsTrue (is_plain names low) → IsTrue (is_plain names high) → All P (bounds_of names low rel high more)
+  bounded names low rel high more h g =
+      let n = names + more in
+      All-cons P (gap_row (form_of names more low) (column_form n names) 0) (compare_rows rel (column_form n names) (form_of names more high))
+      (gap n (form_of names more low) (column_form n names) 0 (plain_side names more low h) (column_side n names) (omega arith))
+      (compared n rel (column_form n names) (form_of names more high) (column_side n names) (plain_side names more high g))
 
-loops_fit : (names : ℕ) (boxes : List (ℤ × ℤ)) (rs : List Round) → NearRanges boxes → IsTrue (plain_at names rs) → All FitsRow (loop_rows names boxes rs)
-loops_fit names boxes [] near h = All-nil FitsRow
-loops_fit names [] (Loop iter low rel high ∷ rs) near h = All-nil FitsRow
-loops_fit names (r ∷ boxes) (Loop iter low rel high ∷ rs) near h =
-    let n = names + suc (loops_in rs) in
-    let a = both_true (is_plain names low) (is_plain names high && plain_at (suc names) rs) h in
-    let b = both_true (is_plain names high) (plain_at (suc names) rs) a.1 in
-    All-append FitsRow (bounds_of names low rel high (suc (loops_in rs))) (range_rows n names r ++ loop_rows (suc names) boxes rs) (bounds_fit names low rel high (suc (loops_in rs)) a.0 b.0)
-    (All-append FitsRow (range_rows n names r) (loop_rows (suc names) boxes rs) (range_fits n names r near.0 near.1) (loops_fit (suc names) boxes rs near.2 b.1))
-loops_fit names [] (Test conds ∷ rs) near h = loops_fit names [] rs near (both_true (plain_tests names conds) (plain_at names rs) h).1
-loops_fit names (r ∷ boxes) (Test conds ∷ rs) near h = loops_fit names (r ∷ boxes) rs near (both_true (plain_tests names conds) (plain_at names rs) h).1
+  looped : (names : ℕ) (boxes : List (ℤ × ℤ)) (rs : List Round) → NearRanges boxes → IsTrue (plain_at names rs) → All P (loop_rows names boxes rs)
+  looped names boxes [] near h = All-nil P
+  looped names [] (Loop iter low rel high ∷ rs) near h = All-nil P
+  looped names (r ∷ boxes) (Loop iter low rel high ∷ rs) near h =
+      let n = names + suc (loops_in rs) in
+      let a = both_true (is_plain names low) (is_plain names high && plain_at (suc names) rs) h in
+      let b = both_true (is_plain names high) (plain_at (suc names) rs) a.1 in
+      All-append P (bounds_of names low rel high (suc (loops_in rs))) (range_rows n names r ++ loop_rows (suc names) boxes rs) (bounded names low rel high (suc (loops_in rs)) a.0 b.0)
+      (All-append P (range_rows n names r) (loop_rows (suc names) boxes rs) (ranged n names r near.0 near.1) (looped (suc names) boxes rs near.2 b.1))
+  looped names [] (Test conds ∷ rs) near h = looped names [] rs near (both_true (plain_tests names conds) (plain_at names rs) h).1
+  looped names (r ∷ boxes) (Test conds ∷ rs) near h = looped names (r ∷ boxes) rs near (both_true (plain_tests names conds) (plain_at names rs) h).1
 
-conditions_fit : (names : ℕ) (rs : List Round) → IsTrue (plain_at names rs) → All FitsRow (condition_rows names rs)
-conditions_fit names [] h = All-nil FitsRow
-conditions_fit names (Loop iter low rel high ∷ rs) h =
-    let a = both_true (is_plain names low) (is_plain names high && plain_at (suc names) rs) h in
-    conditions_fit (suc names) rs (both_true (is_plain names high) (plain_at (suc names) rs) a.1).1
-conditions_fit names (Test conds ∷ rs) h =
-    let a = both_true (plain_tests names conds) (plain_at names rs) h in
-    All-append FitsRow (test_rows names (loops_in rs) conds) (condition_rows names rs) (tests_fit names (loops_in rs) conds a.0) (conditions_fit names rs a.1)
+  conditioned : (names : ℕ) (rs : List Round) → IsTrue (plain_at names rs) → All P (condition_rows names rs)
+  conditioned names [] h = All-nil P
+  conditioned names (Loop iter low rel high ∷ rs) h =
+      let a = both_true (is_plain names low) (is_plain names high && plain_at (suc names) rs) h in
+      conditioned (suc names) rs (both_true (is_plain names high) (plain_at (suc names) rs) a.1).1
+  conditioned names (Test conds ∷ rs) h =
+      let a = both_true (plain_tests names conds) (plain_at names rs) h in
+      All-append P (test_rows names (loops_in rs) conds) (condition_rows names rs) (tested names (loops_in rs) conds a.0) (conditioned names rs a.1)
 
--- ---- A living statement
+  pub domain_rows_are : (program : Program) (has : HasNest program) (statement : ℕ) (e : Entry) → IsEntry program statement e → IsTrue e.alive → All P e.domain.rows
+  domain_rows_are program has statement e h alive =
+      let s = site_of program statement e h in
+      let w = ranges_there program statement e has s alive in
+      let ps = number_ranges program.params in
+      let m = length ps in
+      let n = loops_in s.its_rounds in
+      let place : Place = record { around = s.its_rounds; loops = s.loops; assignment = s.assignment } in
+      let plain : IsTrue (plain_at m s.its_rounds) = (plain_place m place (assignments_are_plain program has.plain statement s.its_rounds s.assignment s.rounds_at s.assignment_at)).rounds in
+      subst (λ (d : Rows). All P d.rows) (sym (domain_is program statement e s w.0 w.1))
+      (All-append P (box_rows (m + n) 0 ps) (test_rows m n program.context ++ (loop_rows m w.0 s.its_rounds ++ condition_rows m s.its_rounds)) (boxed (m + n) 0 ps (near_numbers ps has.plain.ranges))
+      (All-append P (test_rows m n program.context) (loop_rows m w.0 s.its_rounds ++ condition_rows m s.its_rounds) (tested m n program.context has.plain.context)
+      (All-append P (loop_rows m w.0 s.its_rounds) (condition_rows m s.its_rounds) (looped m w.0 s.its_rounds (near_within ps w.0 s.its_rounds w.1) plain) (conditioned m s.its_rounds plain))))
 
+-- they keep the limits of a system's rows
 pub domain_fits : (program : Program) (has : HasNest program) (statement : ℕ) (e : Entry) → IsEntry program statement e → IsTrue e.alive → All FitsRow e.domain.rows
-domain_fits program has statement e h alive =
-    let s = site_of program statement e h in
-    let w = ranges_there program statement e has s alive in
-    let ps = number_ranges program.params in
-    let m = length ps in
-    let n = loops_in s.its_rounds in
-    let place : Place = record { around = s.its_rounds; loops = s.loops; assignment = s.assignment } in
-    let plain : IsTrue (plain_at m s.its_rounds) = (plain_place m place (assignments_are_plain program has.plain statement s.its_rounds s.assignment s.rounds_at s.assignment_at)).rounds in
-    subst (λ (d : Rows). All FitsRow d.rows) (sym (domain_is program statement e s w.0 w.1))
-    (All-append FitsRow (box_rows (m + n) 0 ps) (test_rows m n program.context ++ (loop_rows m w.0 s.its_rounds ++ condition_rows m s.its_rounds)) (box_fits (m + n) 0 ps (near_numbers ps has.plain.ranges))
-    (All-append FitsRow (test_rows m n program.context) (loop_rows m w.0 s.its_rounds ++ condition_rows m s.its_rounds) (tests_fit m n program.context has.plain.context)
-    (All-append FitsRow (loop_rows m w.0 s.its_rounds) (condition_rows m s.its_rounds) (loops_fit m w.0 s.its_rounds (near_within ps w.0 s.its_rounds w.1) plain) (conditions_fit m s.its_rounds plain))))
+domain_fits program has statement e h alive = domain_rows_are FitsRow gap_fits program has statement e h alive
