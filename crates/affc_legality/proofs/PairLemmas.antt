@@ -1,6 +1,6 @@
 -- The questions of two accesses.
-use Rattle.std.proofs.Common.{◌≡◌, Bool, true, List, [], ◌∷◌, ◌++◌, length, map, flat_map, Vec, refl, sym, ap, subst, ◌∙◌, arith}
-use Rattle.std.specs.Prelude.{nat_eq}
+use Rattle.std.proofs.Common.{◌≡◌, Bool, true, false, List, [], ◌∷◌, ◌++◌, length, map, flat_map, Vec, refl, sym, ap, subst, ◌∙◌, arith}
+use Rattle.std.specs.Prelude.{nat_eq, if◌then◌else◌}
 use Rattle.std.specs.List.{All}
 use Rattle.std.proofs.lemmas.Bool.{eqb-true}
 use Rattle.affc_system.specs.Systems.{Rows}
@@ -9,12 +9,12 @@ use Rattle.affc_nest.specs.declared.nest.Access.{Access}
 use Rattle.affc_nest.specs.declared.nest.Entry.{Entry}
 use Rattle.affc_nest.specs.declared.nest.Nest.{Nest}
 use Rattle.affc_order.specs.Systems.{pair_columns, source_systems, turned_systems}
-use Rattle.affc_sched.specs.Questions.{Question, pair_rows, question, pair_questions}
+use Rattle.affc_sched.specs.Questions.{Question, Touch, may_depend, pair_rows, question, pair_questions, questions_of}
 use Rattle.affc_sched.proofs.PairLemmas.{systems_made}
 use Rattle.affc_behind.specs.Parts.{IsWithin}
 use Rattle.affc_behind.specs.Groups.{group_systems}
 use Rattle.affc_behind.specs.declared.group.Group.{Group}
-use Rattle.affc_legality.specs.Added.{AreAdded}
+use Rattle.affc_legality.specs.Added.{AreAdded, NoneDepends}
 use Rattle.affc_legality.specs.Alternatives.{with_orders}
 
 none_of : {X : Type 0} (xs : List X) → length xs ≡ 0 → xs ≡ []
@@ -47,3 +47,32 @@ module _ (nest : Nest) (schedule : Schedule) (a b : Entry) (x y : Access) where
       let e : with_orders pair earlier later ≡ map (λ (q : Question). q.system) (pair_questions nest a b schedule x y) =
       ap (λ us. with_orders pair earlier us) t ∙ ap (λ os. with_orders pair os (turned_systems nest a.statement b.statement schedule)) s ∙ systems_made nest schedule a b x y pair p in
       record { put = put ∙ ap (λ ss. flat_map group_systems old ++ ss) e; within = subst (All IsWithin) e within }
+
+-- ---- None of all
+
+if_none : (t : Bool) (qs : List Question) → qs ≡ [] → (if t then qs else []) ≡ []
+if_none true qs e = e
+if_none false qs e = refl
+
+none_of_all : (F : Touch → List Question) → ((y : Touch) → F y ≡ []) → (ys : List Touch) → flat_map F ys ≡ []
+none_of_all F h [] = refl
+none_of_all F h (y ∷ ys) = ap (λ qs. qs ++ flat_map F ys) (h y) ∙ none_of_all F h ys
+
+module _ (nest : Nest) (schedule : Schedule) (a : Entry) (x : Touch) (b : Entry) where
+  -- no order of the source, or none of the target
+  pub all_none_earlier : (ys : List Touch) (earlier : List Rows) → earlier ≡ [] → earlier ≡ source_systems nest a.statement b.statement → flat_map (questions_of nest schedule a x b) ys ≡ []
+  all_none_earlier ys earlier e s =
+      none_of_all (questions_of nest schedule a x b) (λ y. if_none (may_depend x y) (pair_questions nest a b schedule x.0 y.0) (none_earlier nest schedule a b x.0 y.0 earlier e s)) ys
+
+  pub all_none_later : (ys : List Touch) (later : List Rows) → later ≡ [] → later ≡ turned_systems nest a.statement b.statement schedule → flat_map (questions_of nest schedule a x b) ys ≡ []
+  all_none_later ys later e s =
+      none_of_all (questions_of nest schedule a x b) (λ y. if_none (may_depend x y) (pair_questions nest a b schedule x.0 y.0) (none_later nest schedule a b x.0 y.0 later e s)) ys
+
+  -- none depends
+  pub no_questions : (ys : List Touch) → NoneDepends x ys → flat_map (questions_of nest schedule a x b) ys ≡ []
+  no_questions [] h = refl
+  no_questions (y ∷ ys) h = ap (λ t. (if t then pair_questions nest a b schedule x.0 y.0 else []) ++ flat_map (questions_of nest schedule a x b) ys) h.0 ∙ no_questions ys h.1
+
+-- none of these depends, by their front
+pub front_depends : (x : Touch) (ys rest : List Touch) (y : Touch) → ys ≡ y ∷ rest → may_depend x y ≡ false → NoneDepends x rest → NoneDepends x ys
+front_depends x ys rest y e h g = subst (NoneDepends x) (sym e) (h, g)

@@ -1,12 +1,13 @@
 //! Questions on the schedule.
-ghost use Rattle.std.specs.Prelude.{◌≡◌, map, flat_map, IfOk, OnOk};
+ghost use Rattle.std.specs.Prelude.{◌≡◌, map, flat_map, IsTrue, IfOk, OnOk};
 ghost use Rattle.std.specs.List.{All};
 ghost use Rattle.affc_behind.specs.Groups.{group_systems};
 ghost use Rattle.affc_behind.specs.Parts.{IsWithin};
-ghost use Rattle.affc_legality.specs.Added.{AreAdded};
+ghost use Rattle.affc_legality.specs.Added.{AreAdded, NoneDepends};
+ghost use Rattle.affc_order.specs.Systems.{source_systems, turned_systems};
 ghost use Rattle.affc_sched.specs.Answered.{IsTouched, Each};
 ghost use Rattle.affc_sched.specs.Legality.{IsAsked};
-ghost use Rattle.affc_sched.specs.Questions.{touches, pair_questions, questions_of, questions_to, questions_with, questions_from, legality_questions};
+ghost use Rattle.affc_sched.specs.Questions.{touches, may_depend, pair_questions, questions_of, questions_to, questions_with, questions_from, legality_questions};
 ghost use Rattle.affc_trace.specs.Law.{IsIn};
 
 use crate::products::add_product;
@@ -14,6 +15,7 @@ use affc_behind::Group;
 use affc_nest::{Access, Entry, Nest};
 use affc_order::{source_before, target_after};
 use affc_sched::pair_rows;
+use affc_system::System;
 use affc_trace::schedule::Schedule;
 use std::alloc::{AllocError, Global};
 
@@ -25,56 +27,76 @@ struct Place<'a> {
     stores: bool,
 }
 
+/// The orders of two statements under a schedule: an instance of the first is earlier in the source, and one of the second in the
+/// target.
+#[derive(Drop)]
+struct Orders<'a> {
+    schedule: &'a Schedule,
+    earlier: &'a [System],
+    later: &'a [System],
+}
+
 /// Adds the questions on two accesses of one array.
 fn add_pair(
     alloc: Global,
     nest: &Nest,
-    schedule: &Schedule,
     from: &Place<'_>,
     to: &Place<'_>,
+    orders: &Orders<'_>,
     out: &mut Vec<Group>,
 ) -> Result<(), AllocError>
-    requires asked { IsAsked nest.now schedule.now }
+    requires asked { IsAsked nest.now orders.now.schedule.now }
     requires from { IsTouched nest.now from.now.entry.now from.now.access.now }
     requires to { IsTouched nest.now to.now.entry.now to.now.access.now }
     requires one_array { from.now.access.now.array.0 ≡ to.now.access.now.array.0 }
-    ensures { OnOk result (AreAdded out.old.items out.new.items (pair_questions nest.now from.now.entry.now to.now.entry.now schedule.now from.now.access.now to.now.access.now)) }
+    requires earlier { orders.now.earlier.now ≡ source_systems nest.now from.now.entry.now.statement to.now.entry.now.statement }
+    requires later { orders.now.later.now ≡ turned_systems nest.now from.now.entry.now.statement to.now.entry.now.statement orders.now.schedule.now }
+    ensures { OnOk result (AreAdded out.old.items out.new.items (pair_questions nest.now from.now.entry.now to.now.entry.now orders.now.schedule.now from.now.access.now to.now.access.now)) }
 {
-    let (a, b) = (from.entry, to.entry);
-    let earlier = source_before(alloc, nest, a.statement, b.statement)?;
-    if earlier.is_empty() {
-        return Ok(());
-    }
-    let later = target_after(alloc, nest, schedule, a.statement, b.statement)?;
-    if later.is_empty() {
-        return Ok(());
-    }
-    let pair = pair_rows(alloc, nest, a, b, from.access, to.access)?;
-    add_product(alloc, pair, earlier.as_slice(), later.as_slice(), out)?;
+    let pair = pair_rows(alloc, nest, from.entry, to.entry, from.access, to.access)?;
+    add_product(alloc, pair, orders.earlier, orders.later, out)?;
     Ok(())
+}
+
+/// Whether an instance with the second access can depend on one with the first: they are of one array, and one of them stores.
+fn may_depend(from: &Place<'_>, access: &Access, stores: bool) -> bool
+    ensures { result ≡ may_depend (from.now.access.now, from.now.stores) (access.now, stores) }
+{
+    from.access.array.0 == access.array.0 && (from.stores || stores)
+}
+
+/// Whether one of these last accesses of a statement may depend on an access.
+fn may_any_depend(from: &Place<'_>, accesses: &[Access]) -> bool
+    ensures { ¬ (IsTrue result) → NoneDepends (from.now.access.now, from.now.stores) (touches accesses.now) }
+{
+    match accesses {
+        [] => false,
+        [access, rest @ ..] => {
+            may_depend(from, access, rest.is_empty()) || may_any_depend(from, rest)
+        }
+    }
 }
 
 /// Adds the questions on two accesses.
 fn add_touch(
     alloc: Global,
     nest: &Nest,
-    schedule: &Schedule,
     from: &Place<'_>,
     to: &Place<'_>,
+    orders: &Orders<'_>,
     out: &mut Vec<Group>,
 ) -> Result<(), AllocError>
-    requires asked { IsAsked nest.now schedule.now }
+    requires asked { IsAsked nest.now orders.now.schedule.now }
     requires from { IsTouched nest.now from.now.entry.now from.now.access.now }
     requires to { IsTouched nest.now to.now.entry.now to.now.access.now }
-    ensures { OnOk result (AreAdded out.old.items out.new.items (questions_of nest.now schedule.now from.now.entry.now (from.now.access.now, from.now.stores) to.now.entry.now (to.now.access.now, to.now.stores))) }
+    requires earlier { orders.now.earlier.now ≡ source_systems nest.now from.now.entry.now.statement to.now.entry.now.statement }
+    requires later { orders.now.later.now ≡ turned_systems nest.now from.now.entry.now.statement to.now.entry.now.statement orders.now.schedule.now }
+    ensures { OnOk result (AreAdded out.old.items out.new.items (questions_of nest.now orders.now.schedule.now from.now.entry.now (from.now.access.now, from.now.stores) to.now.entry.now (to.now.access.now, to.now.stores))) }
 {
-    if from.access.array.0 != to.access.array.0 {
+    if !may_depend(from, to.access, to.stores) {
         return Ok(());
     }
-    if !from.stores && !to.stores {
-        return Ok(());
-    }
-    add_pair(alloc, nest, schedule, from, to, out)?;
+    add_pair(alloc, nest, from, to, orders, out)?;
     Ok(())
 }
 
@@ -82,16 +104,18 @@ fn add_touch(
 fn add_accesses(
     alloc: Global,
     nest: &Nest,
-    schedule: &Schedule,
     from: &Place<'_>,
     b: &Entry,
     accesses: &[Access],
+    orders: &Orders<'_>,
     out: &mut Vec<Group>,
 ) -> Result<(), AllocError>
-    requires asked { IsAsked nest.now schedule.now }
+    requires asked { IsAsked nest.now orders.now.schedule.now }
     requires from { IsTouched nest.now from.now.entry.now from.now.access.now }
     requires to { Each (IsTouched nest.now b.now) accesses.now }
-    ensures { OnOk result (AreAdded out.old.items out.new.items (flat_map (questions_of nest.now schedule.now from.now.entry.now (from.now.access.now, from.now.stores) b.now) (touches accesses.now))) }
+    requires earlier { orders.now.earlier.now ≡ source_systems nest.now from.now.entry.now.statement b.now.statement }
+    requires later { orders.now.later.now ≡ turned_systems nest.now from.now.entry.now.statement b.now.statement orders.now.schedule.now }
+    ensures { OnOk result (AreAdded out.old.items out.new.items (flat_map (questions_of nest.now orders.now.schedule.now from.now.entry.now (from.now.access.now, from.now.stores) b.now) (touches accesses.now))) }
 {
     match accesses {
         [] => Ok(()),
@@ -101,11 +125,44 @@ fn add_accesses(
                 access,
                 stores: rest.is_empty(),
             };
-            add_touch(alloc, nest, schedule, from, &to, out)?;
-            add_accesses(alloc, nest, schedule, from, b, rest, out)?;
+            add_touch(alloc, nest, from, &to, orders, out)?;
+            add_accesses(alloc, nest, from, b, rest, orders, out)?;
             Ok(())
         }
     }
+}
+
+/// Adds the questions on an access and those of a living statement. Their orders are made once.
+fn add_living(
+    alloc: Global,
+    nest: &Nest,
+    schedule: &Schedule,
+    from: &Place<'_>,
+    b: &Entry,
+    out: &mut Vec<Group>,
+) -> Result<(), AllocError>
+    requires asked { IsAsked nest.now schedule.now }
+    requires from { IsTouched nest.now from.now.entry.now from.now.access.now }
+    requires second { IsIn b.now nest.now.entries }
+    requires living { IsTrue b.now.alive }
+    ensures { OnOk result (AreAdded out.old.items out.new.items (flat_map (questions_of nest.now schedule.now from.now.entry.now (from.now.access.now, from.now.stores) b.now) (touches b.now.accesses))) }
+{
+    let earlier = source_before(alloc, nest, from.entry.statement, b.statement)?;
+    if earlier.is_empty() {
+        return Ok(());
+    }
+    let later = target_after(alloc, nest, schedule, from.entry.statement, b.statement)?;
+    if later.is_empty() {
+        return Ok(());
+    }
+    let orders = Orders {
+        schedule,
+        earlier: earlier.as_slice(),
+        later: later.as_slice(),
+    };
+    let accesses = b.accesses.as_slice();
+    add_accesses(alloc, nest, from, b, accesses, &orders, out)?;
+    Ok(())
 }
 
 /// Adds the questions on an access and those of a statement.
@@ -125,8 +182,10 @@ fn add_statement(
     if !b.alive {
         return Ok(());
     }
-    let accesses = b.accesses.as_slice();
-    add_accesses(alloc, nest, schedule, from, b, accesses, out)?;
+    if !may_any_depend(from, b.accesses.as_slice()) {
+        return Ok(());
+    }
+    add_living(alloc, nest, schedule, from, b, out)?;
     Ok(())
 }
 
