@@ -9,7 +9,7 @@ use Rattle.affc_nest.specs.declared.nest.Access.{Access}
 use Rattle.affc_nest.specs.declared.nest.Entry.{Entry}
 use Rattle.affc_nest.specs.declared.nest.Nest.{Nest}
 use Rattle.affc_order.specs.Systems.{pair_columns, source_systems, turned_systems}
-use Rattle.affc_sched.specs.Questions.{Question, Touch, may_depend, pair_rows, question, pair_questions, questions_of}
+use Rattle.affc_sched.specs.Questions.{Question, Touch, touches, may_depend, pair_rows, question, pair_questions, questions_of, questions_to}
 use Rattle.affc_sched.proofs.PairLemmas.{systems_made}
 use Rattle.affc_behind.specs.Parts.{IsWithin}
 use Rattle.affc_behind.specs.Groups.{group_systems}
@@ -73,6 +73,6 @@ module _ (nest : Nest) (schedule : Schedule) (a : Entry) (x : Touch) (b : Entry)
   no_questions [] h = refl
   no_questions (y ∷ ys) h = ap (λ t. (if t then pair_questions nest a b schedule x.0 y.0 else []) ++ flat_map (questions_of nest schedule a x b) ys) h.0 ∙ no_questions ys h.1
 
--- none of these depends, by their front
-pub front_depends : (x : Touch) (ys rest : List Touch) (y : Touch) → ys ≡ y ∷ rest → may_depend x y ≡ false → NoneDepends x rest → NoneDepends x ys
-front_depends x ys rest y e h g = subst (NoneDepends x) (sym e) (h, g)
+  pub none_to : (accesses : List Access) → accesses ≡ b.accesses → NoneDepends x (touches accesses) → questions_to nest schedule a x b ≡ []
+  none_to accesses e h =
+      if_none b.alive (flat_map (questions_of nest schedule a x b) (touches b.accesses)) (no_questions (touches b.accesses) (subst (λ xs. NoneDepends x (touches xs)) e h))

@@ -1,5 +1,5 @@
 -- Questions as groups that are put behind others.
-use Rattle.std.specs.Prelude.{◌≡◌, Bool, false, List, [], ◌∷◌, ◌++◌, map, flat_map}
+use Rattle.std.specs.Prelude.{◌≡◌, false, List, [], ◌∷◌, ◌++◌, map, flat_map}
 use Rattle.std.specs.List.{All}
 use Rattle.affc_sched.specs.Questions.{Question, Touch, may_depend}
 use Rattle.affc_behind.specs.Parts.{IsWithin}
