@@ -7,6 +7,7 @@
 pub mod form;
 pub mod laws;
 pub mod total;
+pub mod vocabulary;
 
 pub use form::{Form, FormFault};
 pub use total::{Range, Total};
