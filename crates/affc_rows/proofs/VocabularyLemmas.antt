@@ -1,14 +1,14 @@
 -- Units, zeros, mixtures and images.
 use Rattle.std.proofs.Common.{◌≡◌, ℕ, zero, suc, ◌<◌, ◌≤◌, List, [], ◌∷◌, ◌++◌, length, replicate, take, ℤ, pos, ◌+ℤ◌, refl, sym, ap, ◌∙◌, subst, arith}
-use Rattle.std.specs.Prelude.{Result, Ok, Err, IfOk}
+use Rattle.std.specs.Prelude.{unsigned_abs, ◌^◌, Result, Ok, Err, IfOk}
 use Rattle.std.proofs.Math.ListN.{set}
 use Rattle.std.proofs.lemmas.List.{take_all, drop_all}
 use Rattle.std.proofs.Common.{append-nil}
-use Rattle.std.specs.List.{refill}
+use Rattle.std.specs.List.{All, refill}
 use Rattle.std.proofs.lemmas.Int.{ints}
-use Rattle.std.proofs.lemmas.List.Elements.{All-nil, All-head}
+use Rattle.std.proofs.lemmas.List.Elements.{All-weaker, All-nil, All-head}
 use Rattle.affc_rows.specs.Forms.{Affine, mixed_form, HaveColumns, columns_of, composed, composed_form}
-use Rattle.affc_rows.specs.Vocabulary.{unit_of, number_form, form_at}
+use Rattle.affc_rows.specs.Vocabulary.{HasOpposite, unit_of, number_form, form_at}
 use Rattle.affc_rows.proofs.ValueLemmas.{length-mixed}
 
 -- a column's coefficients: zeros, with a 1 at its place
@@ -69,3 +69,8 @@ image_columns columns (g ∷ gs) h = subst (λ n. HaveColumns n (g ∷ gs)) (sym
 pub composed_is : (columns : ℕ) (images : List Affine) (f made : Affine) → HaveColumns columns images → (length images ≡ 0 → ⊥) → made ≡ composed_form f images → made ≡ form_at columns images f
 composed_is columns [] f made h some e = absurd (some refl)
 composed_is columns (g ∷ gs) f made h some e = e ∙ ap (λ n. form_at n (g ∷ gs) f) (All-head (λ f. length f.coefs ≡ columns) g gs h)
+
+-- numbers within less than 2^127 have opposites
+pub within_opposite : (n m : ℕ) (f : Affine) → n < 2 ^ 127 → m < 2 ^ 127 → All (λ c. unsigned_abs c ≤ n) f.coefs → unsigned_abs f.constant ≤ m → HasOpposite f
+within_opposite n m f h k coefs constant =
+    (All-weaker (λ c. unsigned_abs c ≤ n) (λ c. unsigned_abs c < 2 ^ 127) (λ c l. omega (arith, h, l)) f.coefs coefs, omega (arith, k, constant))
