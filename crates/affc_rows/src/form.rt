@@ -198,6 +198,16 @@ fn constant_sum(coefs: &[i128], images: &[Form]) -> Result<Total, Range>
     Ok(total)
 }
 
+/// The number of columns of forms over the same columns.
+fn columns_of(images: &[Form]) -> usize
+    ensures { result ≡ columns_of images.now }
+{
+    match images {
+        [] => 0,
+        [image, ..] => image.coefs.len(),
+    }
+}
+
 /// The coefficients of a composition over so many columns.
 fn composed_coefs(
     alloc: Global,
@@ -270,10 +280,7 @@ impl Form {
         let Ok(sum) = sum.add(self.constant, 1) else {
             return Err(FormFault::Range);
         };
-        let columns = match images.first() {
-            Some(image) => image.coefs.len(),
-            None => 0,
-        };
+        let columns = columns_of(images);
         let coefs = composed_coefs(alloc, self.coefs.as_slice(), images, columns)?;
         Ok(Form {
             coefs,
