@@ -15,14 +15,14 @@ use Rattle.affc_basis.specs.declared.basis.Basis.{Basis}
 use Rattle.affc_basis.specs.Listed.{Shape, shape_of}
 use Rattle.affc_nest.specs.declared.nest.Nest.{Nest}
 use Rattle.affc_quast.specs.Trees.{Tree}
-use Rattle.affc_certproof.specs.Proofs.{steps_of}
-use Rattle.affc_certfold.specs.Entries.{FoldEntry, coefs_of, entry_of}
-use Rattle.affc_certfold.specs.declared.fold.CertFold.{CertFold}
-use Rattle.affc_certfold.specs.declared.fold.CertModulus.{CertModulus}
-use Rattle.affc_items.specs.Certs.{modulus_said, IsFoldSaid, AreFoldsSaid}
-use Rattle.affc_items.specs.Items.{Item, Question, Shown, FoldShown, fold_items}
+use Rattle.affc_certvalue.specs.proof.Proofs.{steps_of}
+use Rattle.affc_certvalue.specs.fold.Entries.{FoldEntry, coefs_of, entry_of}
+use Rattle.affc_certvalue.specs.fold.declared.fold.CertFold.{CertFold}
+use Rattle.affc_certvalue.specs.fold.declared.fold.CertModulus.{CertModulus}
+use Rattle.affc_check.specs.list.Certs.{modulus_said, IsFoldSaid, AreFoldsSaid}
+use Rattle.affc_check.specs.list.Items.{Item, Question, Shown, FoldShown, fold_items}
 use Rattle.affc_check.specs.Valid.{IsProved, AreValid}
-use Rattle.affc_items.proofs.FoldLemmas.{same_fold}
+use Rattle.affc_check.proofs.list.FoldLemmas.{same_fold}
 use Rattle.affc_folds.specs.Folding.{given_for}
 use Rattle.affc_life.specs.Clashes.{clash_of, clashes}
 use Rattle.affc_accept.specs.Bases.{identity, IsWhole, HasBasis, KeepsBasis}

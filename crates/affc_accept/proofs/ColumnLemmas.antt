@@ -8,9 +8,9 @@ use Rattle.std.proofs.lemmas.List.Elements.{All-nil, All-cons, All-head, All-tai
 use Rattle.affc_rows.specs.Forms.{Affine, HaveColumns}
 use Rattle.affc_quast.specs.Limits.{Shaped, Bounds, FitsForm, FitsTree, widest}
 use Rattle.affc_quast.specs.Trees.{Tree, Test, Div, Source, Input, depth_of}
-use Rattle.affc_certtree.specs.Within.{NamesStores, IsTreeWithin}
-use Rattle.affc_certtree.specs.declared.layout.Load.{Load}
-use Rattle.affc_certtree.specs.declared.layout.Store.{Store}
+use Rattle.affc_cert.specs.tree.Within.{NamesStores, IsTreeWithin}
+use Rattle.affc_cert.specs.tree.declared.layout.Load.{Load}
+use Rattle.affc_cert.specs.tree.declared.layout.Store.{Store}
 use Rattle.affc_accept.specs.Columns.{exchanged, form_exchanged, tree_exchanged, iterators_of, trees_in_text, trees_from_text, ColumnsComeBack}
 
 -- ---- Fronts

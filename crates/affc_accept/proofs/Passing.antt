@@ -29,18 +29,18 @@ use Rattle.affc_cert.specs.Refusals.{refusal}
 use Rattle.affc_cert.specs.Values.{cert_value}
 use Rattle.affc_cert.specs.declared.cert.Cert.{Cert}
 use Rattle.affc_cert.specs.declared.layout.Layout.{Layout}
-use Rattle.affc_certfold.specs.Entries.{entry_of}
-use Rattle.affc_certfold.specs.Limits.{IsFoldWithin}
-use Rattle.affc_certfold.specs.declared.fold.CertFold.{CertFold}
-use Rattle.affc_certfold.specs.declared.fold.CertModulus.{CertModulus}
-use Rattle.affc_items.specs.Certs.{IsFoldSaid, AreFoldsSaid, AreItems, modulus_said}
-use Rattle.affc_items.specs.Held.{flow_item, legality_item}
-use Rattle.affc_items.specs.Items.{Item, Question, Shown, ModulusShown, FoldShown, row_items, rows_items, mark_items, fold_items, items}
-use Rattle.affc_items.specs.Limits.{AnyPasses}
-use Rattle.affc_items.specs.Passes.{items_by_tree, FoldPasses, PassesFirst}
+use Rattle.affc_certvalue.specs.fold.Entries.{entry_of}
+use Rattle.affc_certvalue.specs.fold.Limits.{IsFoldWithin}
+use Rattle.affc_certvalue.specs.fold.declared.fold.CertFold.{CertFold}
+use Rattle.affc_certvalue.specs.fold.declared.fold.CertModulus.{CertModulus}
+use Rattle.affc_check.specs.list.Certs.{IsFoldSaid, AreFoldsSaid, AreItems, modulus_said}
+use Rattle.affc_check.specs.list.Held.{flow_item, legality_item}
+use Rattle.affc_check.specs.list.Items.{Item, Question, Shown, ModulusShown, FoldShown, row_items, rows_items, mark_items, fold_items, items}
+use Rattle.affc_check.specs.list.Limits.{AnyPasses}
+use Rattle.affc_check.specs.list.Passes.{items_by_tree, FoldPasses, PassesFirst}
 use Rattle.affc_check.specs.Valid.{IsProved, AreValid}
-use Rattle.affc_items.proofs.FoldLemmas.{same_fold}
-use Rattle.affc_items.proofs.TreeLemmas.{trees_flat}
+use Rattle.affc_check.proofs.list.FoldLemmas.{same_fold}
+use Rattle.affc_check.proofs.list.TreeLemmas.{trees_flat}
 use Rattle.affc_accept.specs.Columns.{in_text}
 use Rattle.affc_accept.specs.Layouts.{dimensions_of, IsLayout}
 use Rattle.affc_accept.proofs.Alike.{same_array, said_alike, like_in}

@@ -12,9 +12,9 @@ use Rattle.affc_cert.specs.declared.cert.CertFault.TheVariants as text
 use Rattle.affc_cert.specs.declared.layout.Layout.{Layout}
 use Rattle.affc_cert.proofs.Within.{is_within}
 use Rattle.affc_check.specs.Answers.{ProofFails, ShownFails}
-use Rattle.affc_items.specs.Certs.{IsCertWithin}
-use Rattle.affc_items.specs.Limits.{IsFirst}
-use Rattle.affc_items.specs.Passes.{PassesFirst}
+use Rattle.affc_check.specs.list.Certs.{IsCertWithin}
+use Rattle.affc_check.specs.list.Limits.{IsFirst}
+use Rattle.affc_check.specs.list.Passes.{PassesFirst}
 use Rattle.affc_check.specs.declared.fault.CheckFault.{CheckFault}
 use Rattle.affc_check.specs.declared.fault.CheckFault.TheVariants as items
 use Rattle.affc_check.proofs.ReadFor.{read_is_for}

@@ -26,13 +26,13 @@ use Rattle.affc_folds.proofs.NestLemmas.{is_temporary}
 use Rattle.affc_cert.specs.Certificates.{seen}
 use Rattle.affc_cert.specs.declared.cert.Cert.{Cert}
 use Rattle.affc_cert.specs.declared.layout.Layout.{Layout}
-use Rattle.affc_certfold.specs.Entries.{FoldEntry, entry_of}
-use Rattle.affc_certfold.specs.Limits.{IsFoldWithin}
-use Rattle.affc_certfold.specs.declared.fold.CertFold.{CertFold}
-use Rattle.affc_certfold.specs.declared.layout.Temporary.{Temporary}
+use Rattle.affc_certvalue.specs.fold.Entries.{FoldEntry, entry_of}
+use Rattle.affc_certvalue.specs.fold.Limits.{IsFoldWithin}
+use Rattle.affc_certvalue.specs.fold.declared.fold.CertFold.{CertFold}
+use Rattle.affc_certvalue.specs.fold.declared.layout.Temporary.{Temporary}
 use Rattle.affc_check.specs.Answers.{IsFoldMade}
-use Rattle.affc_items.specs.Certs.{AreFoldsSaid}
-use Rattle.affc_items.specs.Items.{ModulusShown, FoldShown, moduli_of}
+use Rattle.affc_check.specs.list.Certs.{AreFoldsSaid}
+use Rattle.affc_check.specs.list.Items.{ModulusShown, FoldShown, moduli_of}
 use Rattle.affc_check.specs.Laws.{IsFoldOfArray, IsRightFold}
 use Rattle.affc_check.proofs.Members.{seen_wide}
 use Rattle.affc_check.proofs.Read.{certs_are_read, valid_certs_give}

@@ -10,8 +10,8 @@ use Rattle.affc_cert.specs.declared.cert.CertFault.{CertFault}
 use Rattle.affc_cert.specs.declared.cert.CertFault.TheVariants as text
 use Rattle.affc_cert.specs.declared.layout.Layout.{Layout}
 use Rattle.affc_check.specs.Answers.{ProofFails, ShownFails}
-use Rattle.affc_items.specs.Limits.{IsFirst}
-use Rattle.affc_items.specs.Passes.{PassesFirst}
+use Rattle.affc_check.specs.list.Limits.{IsFirst}
+use Rattle.affc_check.specs.list.Passes.{PassesFirst}
 use Rattle.affc_check.specs.declared.fault.CheckFault.{CheckFault}
 use Rattle.affc_check.specs.declared.fault.CheckFault.TheVariants as items
 use Rattle.affc_accept.specs.declared.fault.AcceptFault.{AcceptFault}

@@ -4,7 +4,7 @@ ghost use Rattle.affc_cert.specs.Certificates.{seen};
 ghost use Rattle.affc_sched.specs.Legality.{IsAsked};
 ghost use Rattle.affc_schedtext.specs.declared.plan.Plan.{Plan as OfPlan};
 ghost use Rattle.affc_check.specs.Answers.{IsChecked};
-ghost use Rattle.affc_items.specs.Certs.{IsCertWithin};
+ghost use Rattle.affc_check.specs.list.Certs.{IsCertWithin};
 ghost use Rattle.affc_accept.specs.Accepted.{IsRead, IsAccepted};
 ghost use Rattle.affc_accept.specs.Bases.{KeepBases};
 ghost use Rattle.affc_accept.specs.Causes.{text_fault, items_fault};

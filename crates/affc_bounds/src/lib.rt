@@ -10,6 +10,7 @@ pub mod fault;
 mod found;
 pub mod laws;
 mod points;
+pub mod threshold;
 
 pub use checks::{check, nest};
 pub use fault::{Halt, MeaningFault};

@@ -8,17 +8,17 @@ use Rattle.affc_cert.specs.declared.cert.CertFault.{CertFault}
 use Rattle.affc_cert.specs.declared.cert.CertFault.TheVariants as fault
 use Rattle.affc_cert.specs.declared.json.FoldFault.TheVariants as FoldFault
 use Rattle.affc_cert.specs.declared.layout.Layout.{Layout}
-use Rattle.affc_certfold.proofs.Products.{entry_is_basis}
-use Rattle.affc_certfold.proofs.Unique.{folds_same}
-use Rattle.affc_certfold.specs.Bases.{IsBasis}
-use Rattle.affc_certfold.specs.Drafts.{draft_entry}
-use Rattle.affc_certfold.specs.Entries.{FoldEntry, entry_of}
-use Rattle.affc_certfold.specs.Values.{folds_value}
-use Rattle.affc_certfold.specs.declared.draft.Draft.{Draft}
-use Rattle.affc_certfold.specs.declared.fold.CertFold.{CertFold}
-use Rattle.affc_certproof.specs.Proofs.{steps_of}
-use Rattle.affc_certproof.specs.Values.{proof_value}
-use Rattle.affc_certtree.specs.Values.{tree_value}
+use Rattle.affc_certvalue.proofs.fold.Products.{entry_is_basis}
+use Rattle.affc_certvalue.proofs.fold.Unique.{folds_same}
+use Rattle.affc_certvalue.specs.fold.Bases.{IsBasis}
+use Rattle.affc_certvalue.specs.fold.Drafts.{draft_entry}
+use Rattle.affc_certvalue.specs.fold.Entries.{FoldEntry, entry_of}
+use Rattle.affc_certvalue.specs.fold.Values.{folds_value}
+use Rattle.affc_certvalue.specs.fold.declared.draft.Draft.{Draft}
+use Rattle.affc_certvalue.specs.fold.declared.fold.CertFold.{CertFold}
+use Rattle.affc_certvalue.specs.proof.Proofs.{steps_of}
+use Rattle.affc_certvalue.specs.proof.Values.{proof_value}
+use Rattle.affc_cert.specs.tree.Values.{tree_value}
 use Rattle.affc_certvalue.specs.Values.{list_of, numbers_value}
 use Rattle.affc_quast.specs.Seen.{trees_of}
 use Rattle.serde_json.specs.Data.{Data}

@@ -1,12 +1,12 @@
 -- The value of a certificate has no float, and nests only a few levels.
 use Rattle.affc_cert.specs.Certificates.{Certificate}
 use Rattle.affc_cert.specs.Values.{cert_value}
-use Rattle.affc_certfold.proofs.Flat.{fold_flat}
-use Rattle.affc_certfold.specs.Values.{fold_value, folds_value}
-use Rattle.affc_certproof.proofs.Flat.{proof_flat}
-use Rattle.affc_certproof.specs.Values.{proof_value}
-use Rattle.affc_certtree.proofs.Flat.{tree_flat}
-use Rattle.affc_certtree.specs.Values.{tree_value}
+use Rattle.affc_certvalue.proofs.fold.Flat.{fold_flat}
+use Rattle.affc_certvalue.specs.fold.Values.{fold_value, folds_value}
+use Rattle.affc_certvalue.proofs.proof.Flat.{proof_flat}
+use Rattle.affc_certvalue.specs.proof.Values.{proof_value}
+use Rattle.affc_cert.proofs.tree.Flat.{tree_flat}
+use Rattle.affc_cert.specs.tree.Values.{tree_value}
 use Rattle.affc_certvalue.proofs.Flat.{IsFlat, weaker, list_of_flat, numbers_flat, number_flat, none_flat, member_flat, object_flat}
 use Rattle.affc_certvalue.specs.Values.{list_of, whole_value, numbers_value}
 use Rattle.serde_json.specs.Data.{member, no_members, depth}

@@ -1,7 +1,7 @@
 -- What whole certificates are, from what the looks into a value gave.
 use Rattle.affc_cert.proofs.Keyed.{names}
 use Rattle.affc_cert.specs.Drafts.{whole_object}
-use Rattle.affc_certfold.proofs.Found.{is_modulus}
+use Rattle.affc_certvalue.proofs.fold.Found.{is_modulus}
 use Rattle.affc_certvalue.proofs.Keyed.{with_keys, these}
 use Rattle.affc_certvalue.specs.Keys.{has_keys}
 use Rattle.serde_json.specs.Data.{Data, number, unsigned, object}

@@ -1,13 +1,13 @@
 -- Two certificates with one JSON value are one.
 use Rattle.affc_cert.specs.Certificates.{Certificate}
 use Rattle.affc_cert.specs.Values.{cert_value}
-use Rattle.affc_certfold.proofs.Unique.{folds_same}
-use Rattle.affc_certfold.specs.Entries.{FoldEntry}
-use Rattle.affc_certproof.proofs.Unique.{proof_same}
-use Rattle.affc_certproof.specs.Proofs.{Steps}
-use Rattle.affc_certproof.specs.Values.{proof_value}
-use Rattle.affc_certtree.proofs.Unique.{tree_same}
-use Rattle.affc_certtree.specs.Values.{tree_value}
+use Rattle.affc_certvalue.proofs.fold.Unique.{folds_same}
+use Rattle.affc_certvalue.specs.fold.Entries.{FoldEntry}
+use Rattle.affc_certvalue.proofs.proof.Unique.{proof_same}
+use Rattle.affc_certvalue.specs.proof.Proofs.{Steps}
+use Rattle.affc_certvalue.specs.proof.Values.{proof_value}
+use Rattle.affc_cert.proofs.tree.Unique.{tree_same}
+use Rattle.affc_cert.specs.tree.Values.{tree_value}
 use Rattle.affc_certvalue.proofs.Unique.{list_of_same, numbers_same, member_same, members_same, object_same}
 use Rattle.affc_quast.specs.Trees.{Tree}
 use Rattle.std.proofs.Common.{◌≡◌, ℤ, List, ap₂}

@@ -10,26 +10,26 @@ use Rattle.affc_cert.specs.declared.cert.Cert.{Cert}
 use Rattle.affc_cert.specs.declared.cert.CertFault.{CertFault}
 use Rattle.affc_cert.specs.declared.cert.CertFault.TheVariants as fault
 use Rattle.affc_cert.specs.declared.layout.Layout.{Layout}
-use Rattle.affc_certfold.proofs.Within.{fold_fine, fold_is}
-use Rattle.affc_certfold.specs.Entries.{FoldEntry, entry_of}
-use Rattle.affc_certfold.specs.Folds.{fold}
-use Rattle.affc_certfold.specs.Limits.{IsModulusWithin, IsFoldWithin}
-use Rattle.affc_certfold.specs.Values.{fold_value, folds_value}
-use Rattle.affc_certfold.specs.declared.fold.CertFold.{CertFold}
-use Rattle.affc_certfold.specs.declared.fold.CertModulus.{CertModulus}
-use Rattle.affc_certfold.specs.declared.layout.Temporary.{Temporary}
-use Rattle.affc_certproof.proofs.Within.{proof_fine, proof_is, proof_fits}
-use Rattle.affc_certproof.specs.Limits.{FitsProof, IsProofWithin}
-use Rattle.affc_certproof.specs.Proofs.{Steps, steps_of}
-use Rattle.affc_certproof.specs.Values.{proof_value}
-use Rattle.affc_certproof.specs.Verdicts.{proof}
-use Rattle.affc_certtree.proofs.Words.{tree_fits}
-use Rattle.affc_certtree.proofs.Within.{tree_fine, tree_is}
-use Rattle.affc_certtree.specs.Limits.{FitsTree}
-use Rattle.affc_certtree.specs.Trees.{tree}
-use Rattle.affc_certtree.specs.Values.{tree_value}
-use Rattle.affc_certtree.specs.Within.{IsTreeWithin}
-use Rattle.affc_certtree.specs.declared.layout.Load.{Load}
+use Rattle.affc_certvalue.proofs.fold.Within.{fold_fine, fold_is}
+use Rattle.affc_certvalue.specs.fold.Entries.{FoldEntry, entry_of}
+use Rattle.affc_certvalue.specs.fold.Folds.{fold}
+use Rattle.affc_certvalue.specs.fold.Limits.{IsModulusWithin, IsFoldWithin}
+use Rattle.affc_certvalue.specs.fold.Values.{fold_value, folds_value}
+use Rattle.affc_certvalue.specs.fold.declared.fold.CertFold.{CertFold}
+use Rattle.affc_certvalue.specs.fold.declared.fold.CertModulus.{CertModulus}
+use Rattle.affc_certvalue.specs.fold.declared.layout.Temporary.{Temporary}
+use Rattle.affc_certvalue.proofs.proof.Within.{proof_fine, proof_is, proof_fits}
+use Rattle.affc_certvalue.specs.proof.Limits.{FitsProof, IsProofWithin}
+use Rattle.affc_certvalue.specs.proof.Proofs.{Steps, steps_of}
+use Rattle.affc_certvalue.specs.proof.Values.{proof_value}
+use Rattle.affc_certvalue.specs.proof.Verdicts.{proof}
+use Rattle.affc_cert.proofs.tree.Words.{tree_fits}
+use Rattle.affc_cert.proofs.tree.Within.{tree_fine, tree_is}
+use Rattle.affc_cert.specs.tree.Limits.{FitsTree}
+use Rattle.affc_cert.specs.tree.Trees.{tree}
+use Rattle.affc_cert.specs.tree.Values.{tree_value}
+use Rattle.affc_cert.specs.tree.Within.{IsTreeWithin}
+use Rattle.affc_cert.specs.tree.declared.layout.Load.{Load}
 use Rattle.affc_certvalue.proofs.Within.{both_are, if_is, word_fine, word_is, len_map, many_fine, many_are, all_weaker, small_fits}
 use Rattle.affc_certvalue.specs.Limits.{IsWord, FitsForm}
 use Rattle.affc_certvalue.specs.Values.{list_of, whole_value, numbers_value}

@@ -1,7 +1,7 @@
 -- What a certificate says: its numbers, trees, folds and proofs, without where boxes lie.
 use Rattle.affc_cert.specs.declared.cert.Cert.{Cert}
-use Rattle.affc_certfold.specs.Entries.{FoldEntry, entry_of}
-use Rattle.affc_certproof.specs.Proofs.{Steps, steps_of}
+use Rattle.affc_certvalue.specs.fold.Entries.{FoldEntry, entry_of}
+use Rattle.affc_certvalue.specs.proof.Proofs.{Steps, steps_of}
 use Rattle.affc_quast.specs.Seen.{trees_of}
 use Rattle.affc_quast.specs.Trees.{Tree}
 use Rattle.std.specs.Prelude.{ℤ, List, map}

@@ -2,8 +2,8 @@
 use Rattle.affc_cert.specs.Refusals.{IsFirstBroken}
 use Rattle.affc_cert.specs.declared.cert.CertFault.{CertFault}
 use Rattle.affc_cert.specs.declared.cert.CertFault.TheVariants as fault
-use Rattle.affc_certfold.specs.Entries.{FoldEntry}
-use Rattle.affc_certfold.specs.Values.{folds_value}
+use Rattle.affc_certvalue.specs.fold.Entries.{FoldEntry}
+use Rattle.affc_certvalue.specs.fold.Values.{folds_value}
 use Rattle.serde_json.specs.Data.{Data, number, unsigned, object, no_members, member}
 use Rattle.serde_json.specs.Find.{get}
 use Rattle.std.specs.Prelude.{◌≡◌, ℕ, ◌+◌, List, Some, codes}

@@ -5,3 +5,4 @@ pub mod Drafts
 pub mod Limits
 pub mod Examples
 pub mod Within
+pub mod tree

@@ -1,7 +1,7 @@
 -- Certificates whose numbers fit 64 bits.
 use Rattle.affc_cert.specs.declared.cert.Cert.{Cert}
-use Rattle.affc_certproof.specs.Limits.{FitsProof}
-use Rattle.affc_certtree.specs.Limits.{FitsTree}
+use Rattle.affc_certvalue.specs.proof.Limits.{FitsProof}
+use Rattle.affc_cert.specs.tree.Limits.{FitsTree}
 use Rattle.affc_certvalue.specs.Limits.{FitsForm}
 use Rattle.std.specs.List.{All}
 

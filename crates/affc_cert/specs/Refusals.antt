@@ -2,12 +2,12 @@
 use Rattle.affc_cert.specs.declared.cert.CertFault.{CertFault}
 use Rattle.affc_cert.specs.declared.cert.CertFault.TheVariants as fault
 use Rattle.affc_cert.specs.declared.layout.Layout.{Layout}
-use Rattle.affc_certfold.specs.Bases.{IsBasis}
-use Rattle.affc_certfold.specs.Entries.{FoldEntry}
-use Rattle.affc_certfold.specs.Folds.{fold}
-use Rattle.affc_certfold.specs.Values.{folds_value}
-use Rattle.affc_certproof.specs.Verdicts.{proof}
-use Rattle.affc_certtree.specs.Trees.{tree}
+use Rattle.affc_certvalue.specs.fold.Bases.{IsBasis}
+use Rattle.affc_certvalue.specs.fold.Entries.{FoldEntry}
+use Rattle.affc_certvalue.specs.fold.Folds.{fold}
+use Rattle.affc_certvalue.specs.fold.Values.{folds_value}
+use Rattle.affc_certvalue.specs.proof.Verdicts.{proof}
+use Rattle.affc_cert.specs.tree.Trees.{tree}
 use Rattle.affc_certvalue.specs.Verdicts.{any_number, list, many, members}
 use Rattle.affc_certvalue.specs.declared.verdict.Verdict.{Verdict}
 use Rattle.affc_certvalue.specs.declared.verdict.Verdict.TheVariants.{Shape, Number, Fine}

@@ -1,8 +1,8 @@
 -- The JSON value of a certificate.
 use Rattle.affc_cert.specs.Certificates.{Certificate}
-use Rattle.affc_certfold.specs.Values.{folds_value}
-use Rattle.affc_certproof.specs.Values.{proof_value}
-use Rattle.affc_certtree.specs.Values.{tree_value}
+use Rattle.affc_certvalue.specs.fold.Values.{folds_value}
+use Rattle.affc_certvalue.specs.proof.Values.{proof_value}
+use Rattle.affc_cert.specs.tree.Values.{tree_value}
 use Rattle.affc_certvalue.specs.Values.{list_of, numbers_value}
 use Rattle.serde_json.specs.Data.{Data, number, unsigned, object, no_members, member}
 use Rattle.std.specs.Prelude.{codes}

@@ -1,9 +1,9 @@
 -- Certificates within the limits, for a program of some layout.
 use Rattle.affc_cert.specs.Certificates.{Certificate}
 use Rattle.affc_cert.specs.declared.layout.Layout.{Layout}
-use Rattle.affc_certfold.specs.Limits.{IsFoldWithin}
-use Rattle.affc_certproof.specs.Limits.{IsProofWithin}
-use Rattle.affc_certtree.specs.Within.{IsTreeWithin}
+use Rattle.affc_certvalue.specs.fold.Limits.{IsFoldWithin}
+use Rattle.affc_certvalue.specs.proof.Limits.{IsProofWithin}
+use Rattle.affc_cert.specs.tree.Within.{IsTreeWithin}
 use Rattle.affc_certvalue.specs.Limits.{IsWord}
 use Rattle.std.specs.List.{All, AllZip}
 use Rattle.std.specs.Prelude.{◌≡◌, length}

@@ -1,5 +1,5 @@
 //! Certificates.
-use affc_certfold::fold::CertFold;
+use affc_certvalue::fold::fold::CertFold;
 use affc_farkas::Proof;
 use affc_quast::Flow;
 use sqlite_items::Items;

@@ -1,14 +1,14 @@
 //! Whether the numbers of a certificate fit 64 bits.
 ghost use Rattle.affc_cert.specs.Limits.{FitsCert};
-ghost use Rattle.affc_certproof.specs.Limits.{FitsProof};
-ghost use Rattle.affc_certtree.specs.Limits.{FitsTree};
+ghost use Rattle.affc_certvalue.specs.proof.Limits.{FitsProof};
+ghost use Rattle.affc_cert.specs.tree.Limits.{FitsTree};
 ghost use Rattle.std.specs.List.{All};
 ghost use Rattle.std.specs.Prelude.{◌↔◌, IsTrue};
 
 use crate::cert::Cert;
-use affc_certfold::fits::folds_fit;
-use affc_certproof::fits::proof_fits;
-use affc_certtree::fits::tree_fits;
+use crate::tree::fits::tree_fits;
+use affc_certvalue::fold::fits::folds_fit;
+use affc_certvalue::proof::fits::proof_fits;
 use affc_farkas::Proof;
 use affc_quast::Quast;
 

@@ -1,6 +1,6 @@
 //! What the shape of a certificate depends on.
-use affc_certfold::layout::Temporary;
-use affc_certtree::layout::Load;
+use crate::tree::layout::Load;
+use affc_certvalue::fold::layout::Temporary;
 use sqlite_items::Items;
 
 /// The parameters of a program, its loads, statements and loads in order, and its temporaries of at least one dimension, in order.

@@ -8,10 +8,11 @@ pub mod json;
 pub mod laws;
 pub mod layout;
 mod refuse;
+pub mod tree;
 
-pub use affc_certfold::fold::{CertFold, CertLeast, CertModulus};
-pub use affc_certfold::layout::Temporary;
-pub use affc_certtree::layout::{Load, Store};
+pub use crate::tree::layout::{Load, Store};
+pub use affc_certvalue::fold::fold::{CertFold, CertLeast, CertModulus};
+pub use affc_certvalue::fold::layout::Temporary;
 pub use cert::{Cert, CertFault, WriteFault};
 pub use json::{from_json, to_json};
 pub use layout::Layout;

@@ -1,8 +1,8 @@
 //! Why a value is refused.
 ghost use Rattle.affc_cert.specs.Refusals.{counted, each, each_by, fine, first, is_number, is_other_version, is_shape, items_in, part_fault, refusal, top, verdicts};
-ghost use Rattle.affc_certfold.specs.Folds.{fold};
-ghost use Rattle.affc_certproof.specs.Verdicts.{proof};
-ghost use Rattle.affc_certtree.specs.Trees.{tree};
+ghost use Rattle.affc_certvalue.specs.fold.Folds.{fold};
+ghost use Rattle.affc_certvalue.specs.proof.Verdicts.{proof};
+ghost use Rattle.affc_cert.specs.tree.Trees.{tree};
 ghost use Rattle.affc_certvalue.specs.Verdicts.{at_key, list};
 ghost use Rattle.serde_json.specs.Find.{get, as_array};
 ghost use Rattle.serde_json.specs.View.{view, items_view};
@@ -10,12 +10,12 @@ ghost use Rattle.std.specs.Prelude.{◌≡◌, ◌++◌, None, Some, IfOk, OnOk,
 
 use crate::cert::CertFault;
 use crate::layout::Layout;
-use affc_certfold::judge::{fold_verdict, parameters_verdict};
-use affc_certfold::layout::Temporary;
-use affc_certproof::judge::proof_verdict;
-use affc_certtree::judge::tree_verdict;
-use affc_certtree::layout::Load;
+use crate::tree::judge::tree_verdict;
+use crate::tree::layout::Load;
+use affc_certvalue::fold::judge::{fold_verdict, parameters_verdict};
+use affc_certvalue::fold::layout::Temporary;
 use affc_certvalue::keys::has_keys;
+use affc_certvalue::proof::judge::proof_verdict;
 use affc_certvalue::verdict::Verdict;
 use serde_json::Value;
 use std::alloc::{AllocError, Global};

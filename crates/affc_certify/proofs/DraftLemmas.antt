@@ -8,8 +8,8 @@ use Rattle.affc_quast.specs.Seen.{trees_of}
 use Rattle.affc_quast.specs.Trees.{Tree}
 use Rattle.affc_life.specs.Asked.{KeepLimits}
 use Rattle.affc_cert.specs.declared.cert.Cert.{Cert}
-use Rattle.affc_certfold.specs.declared.fold.CertFold.{CertFold}
-use Rattle.affc_items.specs.Certs.{IsCertWithin, IsFoldFor, IsFoldWithin}
+use Rattle.affc_certvalue.specs.fold.declared.fold.CertFold.{CertFold}
+use Rattle.affc_check.specs.list.Certs.{IsCertWithin, IsFoldFor, IsFoldWithin}
 use Rattle.affc_certify.specs.Asked.{AreAsked}
 
 pub no_folds : (nest : Nest) (trees : List Tree) (c : Cert) → AreAsked nest trees → trees_of c.flow ≡ trees → c.folds ≡ [] → IsCertWithin nest c

@@ -10,7 +10,7 @@ use crate::clashing::Asked;
 use crate::folds::{Entry, fold_entry, whole_entry};
 use affc_ast::tree::{ArrayId, Role};
 use affc_basis::Fold;
-use affc_certfold::fold::CertFold;
+use affc_certvalue::fold::fold::CertFold;
 use affc_farkas::Proof;
 use affc_nest::ArrayInfo;
 use affc_split::{Budget, Stop};

@@ -4,7 +4,7 @@ ghost use Rattle.affc_split.specs.Budgets.{IsLater};
 
 use crate::clashing::Clashes;
 use affc_basis::fold::Mark;
-use affc_certfold::fold::CertLeast;
+use affc_certvalue::fold::fold::CertLeast;
 use affc_prove::decided;
 use affc_rows::Form;
 use affc_split::{Answer, Budget, Stop};

@@ -2,8 +2,8 @@
 ghost use Rattle.std.specs.Prelude.{◌≡◌, IfErr, Some};
 ghost use Rattle.affc_split.specs.Budgets.{IsLater};
 
+use affc_check::list::Item;
 use affc_farkas::Proof;
-use affc_items::Item;
 use affc_prove::proof_of;
 use affc_split::{Budget, Stop};
 use sqlite_items::Items;

@@ -3,7 +3,9 @@
 
 pub mod build;
 pub mod fits;
+pub mod fold;
 pub mod judge;
 pub mod keys;
+pub mod proof;
 pub mod verdict;
 pub mod write;

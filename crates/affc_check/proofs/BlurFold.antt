@@ -20,7 +20,7 @@ use Rattle.affc_life.specs.Clashes.{clash_of}
 use Rattle.affc_life.specs.Laws.{AreClashes}
 use Rattle.affc_life.proofs.ExampleProofs.{blur_has_twelve}
 use Rattle.affc_check.specs.Examples.{blur_trees, t_onto, FoldsAreLast, CountOfTheFold, TwoAreTooFew}
-use Rattle.affc_items.specs.Items.{Item, Question, mark_items, row_items}
+use Rattle.affc_check.specs.list.Items.{Item, Question, mark_items, row_items}
 use Rattle.affc_check.proofs.Gives.{valid_gives}
 
 pub folds_are_last : FoldsAreLast

@@ -10,10 +10,10 @@ use Rattle.affc_behind.specs.Parts.{IsWithin, IsProof}
 use Rattle.affc_behind.specs.Blocks.{AreProved, FailsAt, block_questions}
 use Rattle.affc_behind.specs.declared.block.Block.{Block}
 use Rattle.affc_behind.proofs.ChoiceLemmas.{kept_within}
-use Rattle.affc_items.specs.Held.{listed_said}
-use Rattle.affc_items.specs.declared.item.Listed.{Listed}
+use Rattle.affc_check.specs.list.Held.{listed_said}
+use Rattle.affc_check.specs.list.declared.item.Listed.{Listed}
 use Rattle.affc_check.specs.Answers.{FailsAtQuestion}
-use Rattle.affc_items.specs.Items.{Item, Question, Shown}
+use Rattle.affc_check.specs.list.Items.{Item, Question, Shown}
 use Rattle.affc_check.specs.Steps.{Leaves}
 use Rattle.affc_check.specs.Valid.{IsProved, AreValid, FailsFirst}
 

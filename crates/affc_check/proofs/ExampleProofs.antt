@@ -30,7 +30,7 @@ use Rattle.affc_conflicts.specs.Questions.{distance, over_columns}
 use Rattle.affc_quast.specs.Trees.{Tree}
 use Rattle.affc_quast.specs.Trees as tree
 use Rattle.affc_check.specs.Examples.{stored_at, blur_trees, blur_items, context_with, CountsOfTheBlur, ContextIsFirst, ExtentsAreNext, BoundsAreNext, TreesAreNext, ScheduleIsNext, NoneIsValid, is_positive, MarksInOrder, DistancesBetween, PairIsTurned, NothingIsShown, PairInOrder, ModuliAreMarked, between, from_three, sum_of_both, first_alone, OneProofEach, EachIsLookedAt, QuestionsKeepLimits, FewRowsAtNodes}
-use Rattle.affc_items.specs.Items.{Item, Question, Shown}
+use Rattle.affc_check.specs.list.Items.{Item, Question, Shown}
 use Rattle.affc_check.specs.Valid.{IsProved, AreValid}
 use Rattle.affc_check.proofs.Marks.{nothing_shown}
 use Rattle.affc_check.proofs.Sound.{each_holds}

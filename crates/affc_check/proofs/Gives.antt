@@ -34,12 +34,12 @@ use Rattle.affc_life.proofs.LiveLemmas.{clashes_are_live_pairs}
 use Rattle.affc_folds.specs.Folding.{HasTrueMarks}
 use Rattle.affc_folds.proofs.MarkLemmas.{exceeds_others, mark_of_others}
 use Rattle.affc_folds.proofs.NestLemmas.{to_context, from_context}
-use Rattle.affc_items.specs.Items.{Item, Question, Shown, LeastShown, ModulusShown, FoldShown, mark_items, row_items, fold_items, pair_item, mark_of, moduli_of, items}
+use Rattle.affc_check.specs.list.Items.{Item, Question, Shown, LeastShown, ModulusShown, FoldShown, mark_items, row_items, fold_items, pair_item, mark_of, moduli_of, items}
 use Rattle.affc_check.specs.Valid.{AreValid}
 use Rattle.affc_check.specs.Laws.{IsReadFor, IsFoldShown, ValidGives}
 use Rattle.affc_check.proofs.Marks.{mark_shown}
 use Rattle.affc_check.proofs.Members.{seen, shown_at, seen_wide, of_row, of_fold}
-use Rattle.affc_items.proofs.Over.{are_shaped, are_over, are_proper}
+use Rattle.affc_check.proofs.list.Over.{are_shaped, are_over, are_proper}
 use Rattle.affc_check.proofs.Parts.{in_context, context_shown, no_flow, fold_holds, stays_within, is_legal}
 use Rattle.affc_check.proofs.Sound.{Holds}
 

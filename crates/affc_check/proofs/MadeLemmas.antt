@@ -14,14 +14,14 @@ use Rattle.affc_nest.specs.declared.nest.Nest.{Nest}
 use Rattle.affc_sched.specs.Answered.{Each}
 use Rattle.affc_sched.specs.Legality.{IsAsked}
 use Rattle.affc_quast.specs.Trees.{Tree}
-use Rattle.affc_certfold.specs.declared.fold.CertFold.{CertFold}
-use Rattle.affc_certfold.specs.declared.fold.CertModulus.{CertModulus}
+use Rattle.affc_certvalue.specs.fold.declared.fold.CertFold.{CertFold}
+use Rattle.affc_certvalue.specs.fold.declared.fold.CertModulus.{CertModulus}
 use Rattle.affc_check.specs.Answers.{IsFoldMade}
-use Rattle.affc_items.specs.Certs.{AreFoldsSaid, least_said, modulus_said}
-use Rattle.affc_items.specs.Items.{ModulusShown, FoldShown, mark_of, moduli_of}
+use Rattle.affc_check.specs.list.Certs.{AreFoldsSaid, least_said, modulus_said}
+use Rattle.affc_check.specs.list.Items.{ModulusShown, FoldShown, mark_of, moduli_of}
 use Rattle.affc_check.specs.Made.{AreMade}
-use Rattle.affc_items.specs.Walks.{fold_shown, folds_shown, AreFoldsAsked, IsFoldAsked}
-use Rattle.affc_items.proofs.FoldLemmas.{rows_asked}
+use Rattle.affc_check.specs.list.Walks.{fold_shown, folds_shown, AreFoldsAsked, IsFoldAsked}
+use Rattle.affc_check.proofs.list.FoldLemmas.{rows_asked}
 
 abbrev both : List ℤ → List ℤ → Option (List ℤ × List ℤ)
 both x y = Some (x, y)

@@ -29,7 +29,7 @@ use Rattle.affc_conflicts.specs.Laws.{IsOver}
 use Rattle.affc_conflicts.specs.Questions.{greater_question, shown_system}
 use Rattle.affc_conflicts.proofs.Marks.{is_highest, pair_is_shown}
 use Rattle.affc_moduli.proofs.OtherWay.{done_other_way}
-use Rattle.affc_items.specs.Items.{Shown, numbered, is_point_at, is_behind, nothing, farthest, pair_in, pair_item, elements_at, pair_of}
+use Rattle.affc_check.specs.list.Items.{Shown, numbered, is_point_at, is_behind, nothing, farthest, pair_in, pair_item, elements_at, pair_of}
 use Rattle.affc_check.proofs.Sound.{Holds}
 
 pub nothing_shown : IsPoint (nowhere 0) [] → ⊥

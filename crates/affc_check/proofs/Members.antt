@@ -15,7 +15,7 @@ use Rattle.affc_basis.specs.Folds.{forms_of}
 use Rattle.affc_basis.specs.Moduli.{IsModulus}
 use Rattle.affc_nest.specs.declared.nest.Nest.{Nest}
 use Rattle.affc_conflicts.specs.Questions.{distance_questions, mark_questions, row_questions, questions_from}
-use Rattle.affc_items.specs.Items.{Item, Question, LeastShown, ModulusShown, mark_items, row_items, rows_items, mark_of, moduli_of}
+use Rattle.affc_check.specs.list.Items.{Item, Question, LeastShown, ModulusShown, mark_items, row_items, rows_items, mark_of, moduli_of}
 
 -- ---- The moduli
 

@@ -4,7 +4,7 @@ use Rattle.affc_system.specs.Systems.{IsPoint, HasNoPoint}
 use Rattle.affc_farkas.specs.declared.proof.Proof.{Proof}
 use Rattle.affc_farkas.proofs.Sound.{sound_system}
 use Rattle.affc_trace.specs.Law.{IsIn}
-use Rattle.affc_items.specs.Items.{Item, Question, Shown}
+use Rattle.affc_check.specs.list.Items.{Item, Question, Shown}
 use Rattle.affc_check.specs.Valid.{AreValid}
 
 -- a question has no point, and a point that is shown is one

@@ -44,11 +44,11 @@ use Rattle.affc_folds.proofs.NestLemmas.{has_forms}
 use Rattle.affc_cert.specs.declared.cert.Cert.{Cert}
 use Rattle.affc_certvalue.specs.Limits.{IsWord}
 use Rattle.affc_certvalue.proofs.Within.{small_word}
-use Rattle.affc_certfold.specs.declared.fold.CertFold.{CertFold}
-use Rattle.affc_items.specs.Certs.{IsCertWithin}
-use Rattle.affc_items.specs.Items.{Item, Question, Shown, LeastShown, ModulusShown, FoldShown, is_behind, is_point_at, nothing, farthest, pair_in, pair_item, mark_items, row_items, rows_items, items}
-use Rattle.affc_items.specs.Walks.{fold_shown, folds_shown, IsListing}
-use Rattle.affc_items.proofs.Over.{are_shaped, asked_of}
+use Rattle.affc_certvalue.specs.fold.declared.fold.CertFold.{CertFold}
+use Rattle.affc_check.specs.list.Certs.{IsCertWithin}
+use Rattle.affc_check.specs.list.Items.{Item, Question, Shown, LeastShown, ModulusShown, FoldShown, is_behind, is_point_at, nothing, farthest, pair_in, pair_item, mark_items, row_items, rows_items, items}
+use Rattle.affc_check.specs.list.Walks.{fold_shown, folds_shown, IsListing}
+use Rattle.affc_check.proofs.list.Over.{are_shaped, asked_of}
 use Rattle.affc_check.specs.Laws.{IsReadFor}
 use Rattle.affc_check.specs.Made.{AreWordsAt, IsPairFit, IsMarkFit, AreRowsFit, AreFoldsFit}
 use Rattle.affc_check.specs.Valid.{AreValid}

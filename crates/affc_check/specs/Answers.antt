@@ -8,10 +8,10 @@ use Rattle.affc_trace.specs.declared.schedule.Schedule.{Schedule}
 use Rattle.affc_basis.specs.declared.fold.Fold.{Fold}
 use Rattle.affc_nest.specs.declared.nest.Nest.{Nest}
 use Rattle.affc_cert.specs.declared.cert.Cert.{Cert}
-use Rattle.affc_items.specs.Certs.{AreItems}
-use Rattle.affc_items.specs.Items.{Item, Question, Shown, FoldShown}
+use Rattle.affc_check.specs.list.Certs.{AreItems}
+use Rattle.affc_check.specs.list.Items.{Item, Question, Shown, FoldShown}
 use Rattle.affc_check.specs.Laws.{IsFoldShown}
-use Rattle.affc_items.specs.Passes.{NonePasses}
+use Rattle.affc_check.specs.list.Passes.{NonePasses}
 use Rattle.affc_check.specs.Valid.{AreValid, FailsFirst}
 use Rattle.affc_check.specs.declared.check.Checked.{Checked}
 

@@ -19,7 +19,7 @@ use Rattle.affc_quast.specs.Trees as tree
 use Rattle.affc_flow.specs.Questions.{flow_questions}
 use Rattle.affc_conflicts.specs.Examples.{any, up_to_nine, in_range_with, neighbours_with}
 use Rattle.affc_life.specs.Laws.{AreClashes}
-use Rattle.affc_items.specs.Items.{Item, Question, Shown, LeastShown, ModulusShown, FoldShown, pair_item, row_items, fold_items, items, pair_of, moduli_of}
+use Rattle.affc_check.specs.list.Items.{Item, Question, Shown, LeastShown, ModulusShown, FoldShown, pair_item, row_items, fold_items, items, pair_of, moduli_of}
 use Rattle.affc_check.specs.Laws.{IsReadFor}
 use Rattle.affc_check.specs.Valid.{IsProved, AreValid}
 

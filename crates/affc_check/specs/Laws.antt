@@ -22,8 +22,8 @@ use Rattle.affc_flow.specs.Laws.{AreWritten}
 use Rattle.affc_life.specs.Laws.{AreClashes}
 use Rattle.affc_folds.specs.Folding.{HasTrueMarks}
 use Rattle.affc_cert.specs.declared.cert.Cert.{Cert}
-use Rattle.affc_items.specs.Certs.{AreFoldsSaid, AreItems, IsCertFor}
-use Rattle.affc_items.specs.Items.{Item, FoldShown, moduli_of, items}
+use Rattle.affc_check.specs.list.Certs.{AreFoldsSaid, AreItems, IsCertFor}
+use Rattle.affc_check.specs.list.Items.{Item, FoldShown, moduli_of, items}
 use Rattle.affc_check.specs.Valid.{AreValid, FailsFirst}
 
 -- ---- What is known of a certificate whose text was read

@@ -5,3 +5,4 @@ pub mod Made
 pub mod Laws
 pub mod Layouts
 pub mod Examples
+pub mod list

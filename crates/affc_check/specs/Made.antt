@@ -6,9 +6,9 @@ use Rattle.affc_basis.specs.declared.fold.Fold.{Fold}
 use Rattle.affc_rows.specs.Forms.{Affine, value}
 use Rattle.affc_system.specs.declared.pairs.PairSystem.{PairSystem}
 use Rattle.affc_certvalue.specs.Limits.{IsWord}
-use Rattle.affc_certfold.specs.declared.fold.CertFold.{CertFold}
-use Rattle.affc_items.specs.Certs.{modulus_said}
-use Rattle.affc_items.specs.Items.{LeastShown, ModulusShown, FoldShown, numbered}
+use Rattle.affc_certvalue.specs.fold.declared.fold.CertFold.{CertFold}
+use Rattle.affc_check.specs.list.Certs.{modulus_said}
+use Rattle.affc_check.specs.list.Items.{LeastShown, ModulusShown, FoldShown, numbered}
 use Rattle.affc_check.specs.Answers.{IsFoldMade}
 
 -- the folds that these say, each with its array

@@ -2,7 +2,7 @@
 use Rattle.std.specs.Prelude.{◌≡◌, ℕ, List, [], ◌∷◌}
 use Rattle.affc_system.specs.Systems.{IsPoint}
 use Rattle.affc_farkas.specs.declared.proof.Proof.{Proof}
-use Rattle.affc_items.specs.Items.{Item, Question, Shown}
+use Rattle.affc_check.specs.list.Items.{Item, Question, Shown}
 use Rattle.affc_check.specs.Valid.{IsProved}
 use Rattle.affc_check.specs.declared.checks.Outcome.{Outcome}
 use Rattle.affc_check.specs.declared.checks.Outcome.TheVariants.{Holds, Unproved, Unmet}

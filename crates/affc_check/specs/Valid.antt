@@ -6,7 +6,7 @@ use Rattle.affc_system.specs.Systems.{Rows, IsRow, IsPoint}
 use Rattle.affc_farkas.specs.declared.proof.Proof.{Proof}
 use Rattle.affc_farkas.specs.Depths.{StandAtNode}
 use Rattle.affc_farkas.specs.Proofs.{ValidProof}
-use Rattle.affc_items.specs.Items.{Item, Question, Shown}
+use Rattle.affc_check.specs.list.Items.{Item, Question, Shown}
 
 -- a question within the limits of a system, and a valid proof that it has no integer point, at none of whose nodes more than
 -- 1,024 rows stand

@@ -1,18 +1,18 @@
 //! Whether certificates are valid.
 ghost use Rattle.std.specs.Prelude.{◌≡◌, ◌≢◌, ℕ, map, IfOk, IfErr, OnOk};
 ghost use Rattle.affc_sched.specs.Legality.{IsAsked};
-ghost use Rattle.affc_items.specs.Certs.{AreItems, IsCertWithin};
-ghost use Rattle.affc_items.specs.Held.{item_said};
-ghost use Rattle.affc_items.specs.Passes.{PassesFirst, NonePasses};
+ghost use Rattle.affc_check.specs.list.Certs.{AreItems, IsCertWithin};
+ghost use Rattle.affc_check.specs.list.Held.{item_said};
+ghost use Rattle.affc_check.specs.list.Passes.{PassesFirst, NonePasses};
 ghost use Rattle.affc_check.specs.Answers.{IsChecked, ProofFails, ShownFails};
 
 use crate::checks::check_listed;
 use crate::fault::CheckFault;
+use crate::list::{Item, PartStop, all_items, groups_of, list_all, systems_of};
 use crate::made::add_made;
 use affc_ast::tree::ArrayId;
 use affc_basis::Fold;
 use affc_cert::Cert;
-use affc_items::{Item, PartStop, all_items, groups_of, list_all, systems_of};
 use affc_nest::Nest;
 use affc_trace::schedule::Schedule;
 use std::alloc::Global;

@@ -4,15 +4,15 @@ ghost use Rattle.affc_farkas.specs.declared.proof.Proof.{Proof};
 ghost use Rattle.affc_system.specs.Systems.{IsPoint};
 ghost use Rattle.affc_behind.specs.Blocks.{block_questions};
 ghost use Rattle.affc_check.specs.Answers.{FailsAtQuestion, FailsAtPoint};
-ghost use Rattle.affc_items.specs.Held.{listed_said};
-ghost use Rattle.affc_items.specs.Items.{Question};
+ghost use Rattle.affc_check.specs.list.Held.{listed_said};
+ghost use Rattle.affc_check.specs.list.Items.{Question};
 ghost use Rattle.affc_check.specs.Steps.{Leaves, IsHolding, IsUnproved, IsUnmet};
 ghost use Rattle.affc_check.specs.Valid.{IsProved, AreValid};
 
 use crate::fault::CheckFault;
+use crate::list::{Item, Listed, Point};
 use affc_behind::{Block, Step, is_proof};
 use affc_farkas::Proof;
-use affc_items::{Item, Listed, Point};
 use affc_system::System;
 use std::alloc::{AllocError, Global};
 

@@ -6,6 +6,7 @@ mod checks;
 pub mod examples;
 pub mod fault;
 pub mod laws;
+pub mod list;
 mod made;
 
 pub use check::{Checked, check_all, items};

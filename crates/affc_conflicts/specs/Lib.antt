@@ -2,3 +2,4 @@ pub mod Conditions
 pub mod Questions
 pub mod Laws
 pub mod Examples
+pub mod differences

@@ -19,9 +19,9 @@ use Rattle.affc_plain.proofs.Programs.{reads_plain}
 use Rattle.affc_safe.proofs.SafeLaws.{safe_runs}
 use Rattle.affc_loops.specs.Laws.{HasLoops}
 use Rattle.affc_loops.specs.Loops.{Piece}
-use Rattle.affc_scanned.specs.declared.scanned.Scanned.{Scanned}
-use Rattle.affc_scanned.specs.Laws.{RunsTightly}
-use Rattle.affc_scanned.specs.Scanned.{Scans}
+use Rattle.affc_ends.specs.scanned.declared.scanned.Scanned.{Scanned}
+use Rattle.affc_ends.specs.scanned.Laws.{RunsTightly}
+use Rattle.affc_ends.specs.scanned.Scanned.{Scans}
 use Rattle.affc_split.specs.Budgets.{Account}
 use Rattle.affc_basis.specs.declared.basis.Basis.{Basis}
 use Rattle.affc_basis.specs.declared.fold.Fold.{Fold}

@@ -24,8 +24,8 @@ use Rattle.affc_safe.proofs.EndedSafe.{unwritten_instance}
 use Rattle.affc_safe.proofs.FitsThere.{never_stuck_is_safe}
 use Rattle.affc_nest.proofs.QuestionLemmas.{stands_in}
 use Rattle.affc_nest.specs.Nests.{nest_of}
-use Rattle.affc_scanned.specs.Laws.{SameLoopsScan}
-use Rattle.affc_bounded.specs.Laws.{ProgramsScan}
+use Rattle.affc_ends.specs.scanned.Laws.{SameLoopsScan}
+use Rattle.affc_ends.specs.bounding.Laws.{ProgramsScan}
 use Rattle.affc_split.specs.Budgets.{Account}
 use Rattle.affc_basis.specs.declared.fold.Fold.{Fold}
 use Rattle.affc_rewrite.specs.Rewrite.{folded_program}
@@ -46,7 +46,7 @@ use Rattle.affc_schedtext.specs.Answers.{IsFault}
 use Rattle.affc_schedtext.proofs.Excludes.{excludes}
 use Rattle.affc_sched.specs.Violations.{IsViolation}
 use Rattle.affc_flow.specs.Unwritten.{LoadsUnwritten}
-use Rattle.affc_threshold.specs.Thresholds.{threshold}
+use Rattle.affc_bounds.specs.threshold.Thresholds.{threshold}
 use Rattle.affc_driver.specs.Accounts.{reaches, IsUnlimited, IsShort}
 use Rattle.affc_driver.specs.Folds.{FoldsTo}
 use Rattle.affc_driver.specs.Laws.{IllegalShows, UnlimitedFoldsAll, NoneIsCheaper, IsFoldable, FoldableIsFolded, FoldableIsNotRefused, UnlimitedIsNotRefused, IsSound, FlowsAreSound, SoundIsNotRefused}

@@ -12,7 +12,7 @@ use Rattle.affc_nest.specs.declared.nest.Nest.{Nest}
 use Rattle.affc_nest.specs.Nests.{nest_of}
 use Rattle.affc_foldprint.specs.Laws.{FoldsWellNamed, FoldsCompile}
 use Rattle.affc_schedtext.specs.declared.plan.Plan.{Plan}
-use Rattle.affc_threshold.specs.Thresholds.{threshold}
+use Rattle.affc_bounds.specs.threshold.Thresholds.{threshold}
 use Rattle.affc_weigh.specs.Costs.{stopped}
 use Rattle.affc_driver.specs.Accounts.{free, reaches, is_plenty, FoldsMade, IsShort, IsPlenty}
 use Rattle.affc_driver.specs.Made.{IsCompiled}

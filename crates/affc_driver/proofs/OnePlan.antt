@@ -12,7 +12,7 @@ use Rattle.affc_schedtext.specs.declared.outline.Outline.{Outline}
 use Rattle.affc_schedtext.specs.Outline.{outline}
 use Rattle.affc_schedtext.proofs.Agree.{plans_order}
 use Rattle.affc_schedtext.proofs.Excludes.{same_draft}
-use Rattle.affc_threshold.specs.Thresholds.{components_of, threshold}
+use Rattle.affc_bounds.specs.threshold.Thresholds.{components_of, threshold}
 use Rattle.affc_driver.specs.Plans.{HasPlan}
 
 pub one_target : (program : Program) (schedule : Option (List ℕ)) (a b : Plan) → HasPlan program schedule a → HasPlan program schedule b

@@ -22,7 +22,7 @@ use Rattle.affc_flow.specs.Questions.{is_temp, is_temporary_info, is_temporary}
 use Rattle.affc_wellnamed.specs.Known.{is_new, is_function, extents_known, ixs_known, known_behind, array_param_known, param_known, params_known, temp_known, temps_known, context_known, body_known, program_known}
 use Rattle.affc_wellnamed.specs.Known as known
 use Rattle.affc_wellnamed.proofs.Decides.{well_named_is_kept}
-use Rattle.affc_reprint.proofs.Reprinted.{reads_well_named}
+use Rattle.affc_loopprint.proofs.reprint.Reprinted.{reads_well_named}
 
 -- temporaries, and no array parameters, are declared as such
 pub record HasRoles (program : Program) : Type 0 where

@@ -4,7 +4,7 @@ use Rattle.affc_ast.specs.declared.tree.Program.{Program}
 use Rattle.affc_trace.specs.declared.schedule.Schedule.{Schedule}
 use Rattle.affc_split.specs.Budgets.{Account}
 use Rattle.affc_nest.specs.Nests.{nest_of}
-use Rattle.affc_threshold.specs.Thresholds.{threshold}
+use Rattle.affc_bounds.specs.threshold.Thresholds.{threshold}
 use Rattle.affc_certify.specs.Certified.{IsCertified}
 use Rattle.affc_driver.specs.Certificates.{HasCertificate}
 use Rattle.affc_driver.specs.Costs.{total_cost}

@@ -11,7 +11,7 @@ ghost use Rattle.affc_bounds.specs.Faults.{StaysWithin};
 ghost use Rattle.affc_parse.specs.Answers.{Answers};
 ghost use Rattle.affc_basis.specs.FoldLists.{AreFoldsIn};
 ghost use Rattle.affc_rewrite.specs.Rewrite.{KeepLimits};
-ghost use Rattle.affc_threshold.specs.Thresholds.{threshold};
+ghost use Rattle.affc_bounds.specs.threshold.Thresholds.{threshold};
 ghost use Rattle.affc_weigh.specs.Choices.{choice_of};
 ghost use Rattle.affc_driver.specs.Accounts.{FoldsAtCost, FoldsCertified, FoldsMade, IsShort, IsPlenty, free, is_plenty, reaches};
 ghost use Rattle.affc_driver.specs.Costs.{cost_in, total_cost};
@@ -27,6 +27,7 @@ use crate::temporaries::{Decided, folds_under};
 use crate::wanted::Wanted;
 use affc_ast::tree::{ArrayId, Program};
 use affc_basis::Fold;
+use affc_bounds::threshold::bound;
 use affc_cprint::print;
 use affc_foldprint::laws::{folds_are_scanned, folds_compile, folds_well_named};
 use affc_grammar::laws::reads_counted;
@@ -42,7 +43,6 @@ use affc_scan::scan;
 use affc_schedtext::program::outline_of;
 use affc_schedtext::{Plan, SchedFault};
 use affc_split::Budget;
-use affc_threshold::bound;
 use affc_trace::schedule::Schedule;
 use affc_weigh::{Choice, Cost, Weigher};
 use sqlite_items::Items;
@@ -353,7 +353,7 @@ fn make<F: Cost>(
 
 /// The text that does what the source does, in the order of the schedule and on temporaries that are folded at the least cost among the listed
 /// bases, or why there is none. A unit of the budget is a box of a question that is opened; a budget of at least the threshold of
-/// `affc_threshold` counts as none.
+/// `affc_bounds::threshold` counts as none.
 pub fn fold<F: Cost>(
     alloc: Global,
     source: &[u8],

@@ -7,3 +7,4 @@ pub mod Merges
 pub mod Sieves
 pub mod Works
 pub mod Examples
+pub mod project

@@ -8,6 +8,7 @@ pub mod kept;
 pub mod laws;
 mod mixture;
 mod opposites;
+pub mod project;
 pub mod screen;
 mod sieve;
 mod weights;

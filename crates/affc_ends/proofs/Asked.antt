@@ -12,8 +12,8 @@ use Rattle.affc_system.specs.Systems.{Rows, Meets, IsRow}
 use Rattle.affc_farkas.specs.Eliminations.{IsElimination}
 use Rattle.affc_farkas.specs.Rational.{RationalPoint, scaled_value}
 use Rattle.affc_farkas.specs.declared.pair.Pair.{Pair}
-use Rattle.affc_project.specs.Projections.{AreProjected, IsProjection, IsTooWide}
-use Rattle.affc_project.specs.declared.projection.Projected.{Projected}
+use Rattle.affc_eliminate.specs.project.Projections.{AreProjected, IsProjection, IsTooWide}
+use Rattle.affc_eliminate.specs.project.declared.projection.Projected.{Projected}
 use Rattle.affc_ends.specs.declared.bounds.Answer.TheVariants.{Implied}
 use Rattle.affc_ends.specs.Steps.{IsAnswer}
 use Rattle.affc_ends.specs.Sizes.{IsPrintable}

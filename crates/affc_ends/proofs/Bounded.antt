@@ -14,7 +14,7 @@ use Rattle.affc_farkas.specs.Rational.{scaled_value}
 use Rattle.affc_farkas.specs.declared.pair.Pair.{Pair}
 use Rattle.affc_farkas.proofs.Between.{swap, cancel}
 use Rattle.affc_eliminate.proofs.Values.{entry_inside}
-use Rattle.affc_project.specs.Projections.{AreProjected, AreFrom, IsRowOfTable, ExtendsWhole}
+use Rattle.affc_eliminate.specs.project.Projections.{AreProjected, AreFrom, IsRowOfTable, ExtendsWhole}
 use Rattle.affc_ends.specs.Ends.{IsProjectedRow, AreEnds}
 use Rattle.affc_ends.specs.Sizes.{IsModest}
 use Rattle.affc_ends.specs.Steps.{AreBothEnds}

@@ -5,7 +5,7 @@ use Rattle.std.proofs.lemmas.List.Elements.{All-nil, All-cons, All-append, All-w
 use Rattle.affc_rows.specs.Forms.{Affine, HaveColumns}
 use Rattle.affc_rows.proofs.ValueLemmas.{length-composed}
 use Rattle.affc_farkas.specs.Rational.{scaled_value}
-use Rattle.affc_project.specs.Projections.{ExtendsWhole}
+use Rattle.affc_eliminate.specs.project.Projections.{ExtendsWhole}
 use Rattle.affc_system.specs.Systems.{Rows, Meets}
 use Rattle.affc_domain.proofs.FormLemmas.{unit_width}
 use Rattle.affc_nest.specs.Domains.{gap_row, column_form, domain_rows}

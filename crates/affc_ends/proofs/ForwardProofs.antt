@@ -12,7 +12,7 @@ use Rattle.affc_farkas.specs.Multiples.{entry_of}
 use Rattle.affc_farkas.specs.Rational.{scaled_value}
 use Rattle.affc_farkas.specs.Eliminations.{owns, coefficient, none}
 use Rattle.affc_farkas.specs.declared.pair.Pair.{Pair}
-use Rattle.affc_project.specs.Projections.{ExtendsWhole}
+use Rattle.affc_eliminate.specs.project.Projections.{ExtendsWhole}
 use Rattle.affc_ends.specs.TimeRows.{system_of}
 use Rattle.affc_ends.specs.Ends.{IsProjectedRow, BoundsBelow, BoundsAbove}
 use Rattle.affc_ends.specs.Examples.{row, forward, start, bound, greatest, at_most_four, RangeIsARow, RangeMayGo, RangeIsTooLittle, BesideTheParameter, NotByItself, BoundStays}

@@ -15,7 +15,7 @@ use Rattle.affc_farkas.specs.Eliminations.{combined}
 use Rattle.affc_farkas.proofs.Between.{swap, cancel}
 use Rattle.affc_farkas.proofs.Entries.{entry_of-mixed, zeros-at}
 use Rattle.affc_eliminate.proofs.Values.{entry_inside, entry_last}
-use Rattle.affc_project.proofs.Points.{first_value}
+use Rattle.affc_eliminate.proofs.project.Points.{first_value}
 use Rattle.affc_ends.specs.Ends.{IsProjectedRow}
 use Rattle.affc_ends.proofs.Scaled.{mixed_scaled}
 

@@ -6,7 +6,7 @@ use Rattle.affc_system.specs.Systems.{Rows, Meets}
 use Rattle.affc_farkas.specs.Multiples.{entry_of}
 use Rattle.affc_farkas.specs.Eliminations.{IsTable}
 use Rattle.affc_farkas.specs.declared.pair.Pair.{Pair}
-use Rattle.affc_project.specs.Projections.{ExtendsWhole, IsRowOfTable, AreFrom}
+use Rattle.affc_eliminate.specs.project.Projections.{ExtendsWhole, IsRowOfTable, AreFrom}
 
 -- the row is, in least terms, one of the system or one that an elimination of later columns adds, and is 0 in each later column
 pub record IsProjectedRow (system : Rows) (keep : ℕ) (row : Affine) : Type 0 where

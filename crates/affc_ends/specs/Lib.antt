@@ -7,3 +7,5 @@ pub mod Whys
 pub mod Steps
 pub mod Laws
 pub mod Examples
+pub mod scanned
+pub mod bounding

@@ -6,7 +6,7 @@ use Rattle.affc_system.specs.Systems.{Rows, Meets}
 use Rattle.affc_farkas.specs.Multiples.{entry_of}
 use Rattle.affc_farkas.specs.Rational.{RationalPoint}
 use Rattle.affc_farkas.specs.Eliminations.{IsElimination}
-use Rattle.affc_project.specs.Projections.{IsTooWide}
+use Rattle.affc_eliminate.specs.project.Projections.{IsTooWide}
 use Rattle.affc_ends.specs.declared.bounds.Answer.{Answer}
 use Rattle.affc_ends.specs.declared.bounds.Answer.TheVariants.{Implied, Apart, Made, Wide}
 use Rattle.affc_ends.specs.declared.bounds.Stop.{Stop}

@@ -7,7 +7,7 @@ use Rattle.affc_farkas.specs.Proofs.{low_row}
 use Rattle.affc_farkas.specs.Rational.{RationalPoint}
 use Rattle.affc_farkas.specs.Eliminations.{IsElimination}
 use Rattle.affc_farkas.specs.declared.pair.Pair.{Pair}
-use Rattle.affc_project.specs.Projections.{IsTooWide, AreFrom}
+use Rattle.affc_eliminate.specs.project.Projections.{IsTooWide, AreFrom}
 use Rattle.affc_ends.specs.declared.bounds.Bounds.{Bounds}
 use Rattle.affc_ends.specs.declared.bounds.Bounds.TheVariants.{Between, Loose}
 use Rattle.affc_ends.specs.declared.bounds.Why.{Why}

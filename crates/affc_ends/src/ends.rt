@@ -14,7 +14,7 @@ ghost use Rattle.affc_ends.specs.Whys.{AreOfOneEnd, NoneIsImplied, below_zero, I
 use crate::bounds::{Answer, Bounds, Stop, Why};
 use crate::left::left_of_both;
 use crate::questions::{ask, without};
-use affc_project::{Projected, project};
+use affc_eliminate::project::{Projected, project};
 use affc_rows::Form;
 use affc_system::{BoxOf, System};
 use std::alloc::{AllocError, Global};

@@ -7,9 +7,9 @@ ghost use Rattle.affc_ends.specs.Steps.{IsAnswer};
 ghost use Rattle.affc_ends.specs.Whys.{below_zero, question};
 
 use crate::bounds::Answer;
+use affc_eliminate::project::{Projected, project};
 use affc_nest::questions::add_rows;
 use affc_nest::rows::add_row;
-use affc_project::{Projected, project};
 use affc_rows::Form;
 use affc_system::System;
 use smallvec::SmallVec;

@@ -24,7 +24,7 @@ use Rattle.affc_wellnamed.specs.declared.shape.Extent.{Extent}
 use Rattle.affc_wellnamed.specs.declared.shape.ValExtent.{ValExtent}
 use Rattle.affc_wellnamed.specs.Shape.{beside, and_tokens, bracketed, bracketed_if, placed, choice, ix_step, ix_extent, whole, dims_behind, at_level, binary, val_step, val_extent}
 use Rattle.affc_wellnamed.proofs.ShapeParts.{larger_is}
-use Rattle.affc_reprint.proofs.Rows.{Under, under_more, under_both, under_tokens, under_brackets}
+use Rattle.affc_loopprint.proofs.reprint.Rows.{Under, under_more, under_both, under_tokens, under_brackets}
 use Rattle.affc_loopprint.proofs.ShapeForms.{form_few}
 use Rattle.affc_basis.specs.declared.fold.Fold.{Fold}
 use Rattle.affc_basis.specs.FoldLists.{AreFoldsIn}

@@ -17,8 +17,8 @@ use Rattle.affc_ends.specs.declared.bounds.Bounds.TheVariants.{Between, Loose as
 use Rattle.affc_ends.specs.TimeRows.{system_of}
 use Rattle.affc_ends.specs.TimeSets.{timed_in}
 use Rattle.affc_ends.specs.Whys.{AreBoundsFrom}
-use Rattle.affc_scanned.specs.Scanned.{sides_of, AreBoundsOfEach, all_sides}
-use Rattle.affc_scanned.proofs.Rows.{sides_from}
+use Rattle.affc_ends.specs.scanned.Scanned.{sides_of, AreBoundsOfEach, all_sides}
+use Rattle.affc_ends.proofs.scanned.Rows.{sides_from}
 use Rattle.affc_loopprint.specs.Rows.{IsPrintable, ArePrintable, ArePrintableFrom, ArePrintableOfEach}
 use Rattle.affc_loopprint.proofs.Fitting.{fitting}
 

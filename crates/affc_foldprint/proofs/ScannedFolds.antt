@@ -10,8 +10,8 @@ use Rattle.affc_loops.specs.Loops.{pieces, time_ranges}
 use Rattle.affc_placed.proofs.FoldedLaws.{folded_loops_compile, folded_between_compile}
 use Rattle.affc_rewrite.specs.Rewrite.{folded_program}
 use Rattle.affc_rewrite.proofs.FoldsPrinted.{folded_program_replaces}
-use Rattle.affc_scanned.specs.Laws.{ScansRunBetween, TurnsExtend}
-use Rattle.affc_scanned.specs.Scanned.{IsBetween, all_sides}
+use Rattle.affc_ends.specs.scanned.Laws.{ScansRunBetween, TurnsExtend}
+use Rattle.affc_ends.specs.scanned.Scanned.{IsBetween, all_sides}
 use Rattle.affc_loopprint.specs.Laws.{SpareWellNamed, BetweenWellNamed}
 use Rattle.affc_foldprint.specs.Laws.{FoldsWellNamed, FoldsCompile, FoldsRunTightly}
 use Rattle.affc_foldprint.proofs.Printable.{rows_printable}

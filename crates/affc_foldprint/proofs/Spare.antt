@@ -26,8 +26,8 @@ use Rattle.affc_wellnamed.specs.declared.shape.Shape.{Shape}
 use Rattle.affc_wellnamed.specs.Known.{program_known}
 use Rattle.affc_wellnamed.specs.Shape.{beside, bracketed, whole, both, line, all_behind, dims_behind, stmt_step, stmt_shape, decls_behind, head_line, params_extent, lines_shape, function_shape, program_shape, assign_line}
 use Rattle.affc_wellnamed.proofs.ShapeParts.{larger_is}
-use Rattle.affc_reprint.proofs.Rows.{Under, under_more, under_both, under_brackets}
-use Rattle.affc_reprint.proofs.Statements.{numbers_of, AtMost}
+use Rattle.affc_loopprint.proofs.reprint.Rows.{Under, under_more, under_both, under_brackets}
+use Rattle.affc_loopprint.proofs.reprint.Statements.{numbers_of, AtMost}
 use Rattle.affc_loopprint.specs.Short.{KeepsTo, with_prelude, head_shape, tested_shape, IsShort}
 use Rattle.affc_loopprint.proofs.Entries.{EachTwo}
 use Rattle.affc_loopprint.proofs.ShapeCalls.{plain_function, prelude_is}

@@ -12,9 +12,9 @@ use Rattle.affc_nest.specs.declared.nest.Nest.{Nest}
 use Rattle.affc_nest.specs.Nests.{nest_of}
 use Rattle.affc_loops.specs.Laws.{HasLoops}
 use Rattle.affc_loops.specs.Loops.{Piece, pieces}
-use Rattle.affc_scanned.specs.declared.scanned.Scanned.{Scanned}
-use Rattle.affc_scanned.specs.Laws.{HaveSameTimes, RunsTightly}
-use Rattle.affc_scanned.specs.Scanned.{Scans}
+use Rattle.affc_ends.specs.scanned.declared.scanned.Scanned.{Scanned}
+use Rattle.affc_ends.specs.scanned.Laws.{HaveSameTimes, RunsTightly}
+use Rattle.affc_ends.specs.scanned.Scanned.{Scans}
 use Rattle.affc_basis.specs.declared.fold.Fold.{Fold}
 use Rattle.affc_basis.specs.FoldLists.{AreFoldsIn}
 use Rattle.affc_basis.specs.Folds.{place}

@@ -1,8 +1,8 @@
 //! What holds of programs with folds. Each law is the contract of a function that does nothing.
 ghost use Rattle.affc_foldprint.specs.Laws.{FoldsAreScanned, FoldsSpare, FoldsWellNamed, FoldsKeepTimes, FoldsCompile, FoldsRunTightly};
 
+use affc_ends::scanned::laws::{scans_run_between, turns_extend};
 use affc_loopprint::laws::{between_well_named, spare_well_named};
-use affc_scanned::laws::{scans_run_between, turns_extend};
 
 /// The source's nest is one for the folded program.
 pub fn folds_are_scanned()

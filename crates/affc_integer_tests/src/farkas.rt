@@ -2,8 +2,8 @@
 ghost use Rattle.std.specs.Prelude.{◌≡◌, IfOk, length};
 
 use crate::forms::{form, plane};
+use affc_eliminate::project::{Refutation, refute};
 use affc_farkas::{MultiplierFault, Multipliers, Proof, check};
-use affc_project::{Refutation, refute};
 use affc_rows::Form;
 use affc_system::System;
 use std::alloc::{AllocError, Global};

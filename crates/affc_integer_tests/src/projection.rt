@@ -1,7 +1,7 @@
 //! Projections of small systems: that they succeed, and how many rows and pairs they have.
 
 use crate::forms::plane;
-use affc_project::{Projected, project};
+use affc_eliminate::project::{Projected, project};
 use affc_system::System;
 use std::alloc::{AllocError, Global};
 use std::test::Fail;

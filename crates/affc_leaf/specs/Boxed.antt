@@ -6,7 +6,7 @@ use Rattle.affc_farkas.specs.Rational.{RationalPoint}
 use Rattle.affc_farkas.specs.Eliminations.{IsElimination}
 use Rattle.affc_farkas.specs.declared.pair.Pair.{Pair}
 use Rattle.affc_farkas.specs.declared.proof.Proof.{Proof, Leaf, Cut', Split'}
-use Rattle.affc_project.specs.Projections.{IsTooWide}
+use Rattle.affc_eliminate.specs.project.Projections.{IsTooWide}
 
 -- the coefficients of column j alone, with n columns after it
 abbrev pub unit : ℕ → ℕ → List ℤ

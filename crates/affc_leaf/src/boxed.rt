@@ -7,8 +7,8 @@ ghost use Rattle.affc_leaf.specs.Boxed.{unit, range_rows, with_box, IsLeafProof,
 
 use crate::parts::unit_form;
 use crate::vertices::Vertex;
+use affc_eliminate::project::{Refutation, refute};
 use affc_farkas::Proof;
-use affc_project::{Refutation, refute};
 use affc_rows::Form;
 use affc_system::System;
 use std::alloc::{AllocError, Global};

@@ -6,13 +6,13 @@ use Rattle.affc_grammar.specs.Limits.{assigned, assigned_in, empty_bodies, empty
 use Rattle.affc_limits.specs.declared.bodies.Bodies.{Bodies}
 use Rattle.std.proofs.lemmas.List.{drop_all}
 use Rattle.affc_ast.specs.declared.tree.Op.{Op}
-use Rattle.affc_draft.specs.declared.draft.StmtDraft as code
-use Rattle.affc_draft.specs.declared.draft.StmtDraft.TheVariants as s
-use Rattle.affc_draft.specs.declared.draft.HeadDraft.{HeadDraft}
-use Rattle.affc_draft.specs.declared.draft.CompareDraft.{CompareDraft}
-use Rattle.affc_draft.specs.declared.draft.LocalDraft.{LocalDraft}
-use Rattle.affc_draft.proofs.Outs.{stmt-For, stmt-If, stmt-Block}
-use Rattle.affc_draft.specs.Drafts.{stmts_of, stmts_after, stmt, head, compare, local}
+use Rattle.affc_syntax.specs.draft.declared.draft.StmtDraft as code
+use Rattle.affc_syntax.specs.draft.declared.draft.StmtDraft.TheVariants as s
+use Rattle.affc_syntax.specs.draft.declared.draft.HeadDraft.{HeadDraft}
+use Rattle.affc_syntax.specs.draft.declared.draft.CompareDraft.{CompareDraft}
+use Rattle.affc_syntax.specs.draft.declared.draft.LocalDraft.{LocalDraft}
+use Rattle.affc_syntax.proofs.draft.Outs.{stmt-For, stmt-If, stmt-Block}
+use Rattle.affc_syntax.specs.draft.Drafts.{stmts_of, stmts_after, stmt, head, compare, local}
 use Rattle.affc_limits.specs.Places.{least, lesser, place_if}
 use Rattle.affc_limits.specs.Bodies.{bodies, all_bodies, both, under_if, under_for, on_with, no_bodies}
 use Rattle.affc_limits.proofs.PlaceLaws.{any-append, least-append, least_if}

@@ -6,12 +6,12 @@ use Rattle.affc_grammar.specs.Draft as d
 use Rattle.std.specs.List.{flat_map}
 use Rattle.std.proofs.lemmas.List.{append-nil, map-append}
 use Rattle.std.proofs.Math.Seq.{take-suc}
-use Rattle.affc_draft.specs.declared.draft.Choice.{Choice}
-use Rattle.affc_draft.specs.declared.draft.IxDraft as code
-use Rattle.affc_draft.specs.declared.draft.IxDraft.TheVariants as c
-use Rattle.affc_draft.proofs.Nodes.{nodes}
-use Rattle.affc_draft.proofs.Outs.{ix-Sum, ix-Difference, ix-Product, ix-Chosen}
-use Rattle.affc_draft.specs.Drafts.{ix}
+use Rattle.affc_syntax.specs.draft.declared.draft.Choice.{Choice}
+use Rattle.affc_syntax.specs.draft.declared.draft.IxDraft as code
+use Rattle.affc_syntax.specs.draft.declared.draft.IxDraft.TheVariants as c
+use Rattle.affc_syntax.proofs.draft.Nodes.{nodes}
+use Rattle.affc_syntax.proofs.draft.Outs.{ix-Sum, ix-Difference, ix-Product, ix-Chosen}
+use Rattle.affc_syntax.specs.draft.Drafts.{ix}
 use Rattle.affc_grammar.specs.Limits.{at_if, names_in, products_in, holds_names}
 use Rattle.affc_limits.specs.declared.forms.Behind.{Behind}
 use Rattle.affc_limits.specs.declared.forms.Factors.{Factors}

@@ -4,16 +4,16 @@ use Rattle.std.proofs.lemmas.List.{drop_all, append-nil}
 use Rattle.affc_ast.specs.declared.tree.Op.{Op}
 use Rattle.affc_grammar.specs.Draft as d
 use Rattle.affc_grammar.specs.Limits.{sides, stmt_texts, stmts_texts, value_texts}
-use Rattle.affc_draft.specs.declared.draft.StmtDraft as code
-use Rattle.affc_draft.specs.declared.draft.StmtDraft.TheVariants as s
-use Rattle.affc_draft.specs.declared.draft.HeadDraft.{HeadDraft}
-use Rattle.affc_draft.specs.declared.draft.CompareDraft.{CompareDraft}
-use Rattle.affc_draft.specs.declared.draft.LocalDraft.{LocalDraft}
-use Rattle.affc_draft.specs.declared.draft.WordDraft.{WordDraft}
-use Rattle.affc_draft.specs.declared.draft.IxDraft.{IxDraft}
-use Rattle.affc_draft.specs.declared.draft.ValueDraft.{ValueDraft}
-use Rattle.affc_draft.proofs.Outs.{stmt-For, stmt-If, stmt-Block}
-use Rattle.affc_draft.specs.Drafts.{stmts_of, stmts_after, stmt, ix, compare, local, value}
+use Rattle.affc_syntax.specs.draft.declared.draft.StmtDraft as code
+use Rattle.affc_syntax.specs.draft.declared.draft.StmtDraft.TheVariants as s
+use Rattle.affc_syntax.specs.draft.declared.draft.HeadDraft.{HeadDraft}
+use Rattle.affc_syntax.specs.draft.declared.draft.CompareDraft.{CompareDraft}
+use Rattle.affc_syntax.specs.draft.declared.draft.LocalDraft.{LocalDraft}
+use Rattle.affc_syntax.specs.draft.declared.draft.WordDraft.{WordDraft}
+use Rattle.affc_syntax.specs.draft.declared.draft.IxDraft.{IxDraft}
+use Rattle.affc_syntax.specs.draft.declared.draft.ValueDraft.{ValueDraft}
+use Rattle.affc_syntax.proofs.draft.Outs.{stmt-For, stmt-If, stmt-Block}
+use Rattle.affc_syntax.specs.draft.Drafts.{stmts_of, stmts_after, stmt, ix, compare, local, value}
 use Rattle.affc_limits.specs.declared.texts.Rule.{Rule}
 use Rattle.affc_limits.specs.declared.texts.Rule.TheVariants.{Products, Literals, Coefficients}
 use Rattle.affc_limits.specs.Texts.{places_in, place_by, pick, found, with_found, step}

@@ -3,7 +3,7 @@ use Rattle.std.specs.Prelude.{ℕ, ◌==◌, nat_lt, false, not, ◌&&◌, ◌||
 use Rattle.affc_grammar.specs.Draft as d
 use Rattle.affc_grammar.specs.Limits.{assigned_in, empty_bodies, empty_bodies_in, has_assignment, loops_past, loops_past_in}
 use Rattle.affc_limits.specs.declared.bodies.Bodies.{Bodies}
-use Rattle.affc_draft.specs.Drafts.{stmts_of}
+use Rattle.affc_syntax.specs.draft.Drafts.{stmts_of}
 use Rattle.affc_limits.specs.Places.{least, lesser, place_if}
 
 -- where `left` loops more may stand round an assignment

@@ -2,14 +2,14 @@
 
 ghost use Rattle.std.specs.Prelude.{◌≡◌, ◌-◌, map, drop, fold, filter, nat_lt};
 ghost use Rattle.affc_grammar.specs.Limits.{assigned, assigned_in, loads_in};
-ghost use Rattle.affc_draft.specs.Drafts.{stmt, stmts_of, value};
+ghost use Rattle.affc_syntax.specs.draft.Drafts.{stmt, stmts_of, value};
 ghost use Rattle.affc_limits.specs.Assignments as spec;
 ghost use Rattle.affc_limits.specs.Assignments.{count_one, no_tally};
 
 use crate::forms::{lesser, place_if};
 use crate::rests::Rest;
 use affc_ast::tree::Op;
-use affc_draft::draft::{StmtDraft, ValueDraft};
+use affc_syntax::draft::draft::{StmtDraft, ValueDraft};
 
 /// How many assignments more are within their limit, and the least place of one past it, of one that has too many
 /// accesses, and of one under too many comparisons.
@@ -31,7 +31,7 @@ fn with_one(tally: Tally, at: usize, accesses: bool, comparisons: bool) -> Tally
 }
 
 /// How many loads more there is room for behind those of a value. The recursion is into right operands alone.
-#[tactic(auto, using(affc_draft::proofs::Outs::value_outs))]
+#[tactic(auto, using(affc_syntax::proofs::draft::Outs::value_outs))]
 fn room_behind(room: usize, v: &ValueDraft) -> usize
     ensures { result ≡ room - loads_in (value v.now) }
 {

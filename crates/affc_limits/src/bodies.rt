@@ -1,11 +1,11 @@
 //! What is asked of statements and the loops round them.
 
 ghost use Rattle.std.specs.Prelude.{◌≡◌, map};
-ghost use Rattle.affc_draft.specs.Drafts.{stmt};
+ghost use Rattle.affc_syntax.specs.draft.Drafts.{stmt};
 ghost use Rattle.affc_limits.specs.Bodies as spec;
 
 use crate::forms::{lesser, place_if};
-use affc_draft::draft::StmtDraft;
+use affc_syntax::draft::draft::StmtDraft;
 
 /// Whether statements hold an assignment, the least place of a `for` or `if` in them that holds none, and the least
 /// place of a `for` that is one too many round an assignment.
@@ -65,7 +65,7 @@ fn under_for(left: usize, at: usize, inside: Bodies) -> Bodies
 
 /// What the rules on bodies ask of a statement, where `left` loops more may stand round an assignment.
 #[cycle(statements)]
-#[tactic(auto, using(affc_draft::proofs::Outs::stmt_outs, crate::proofs::BodyLaws::body_laws))]
+#[tactic(auto, using(affc_syntax::proofs::draft::Outs::stmt_outs, crate::proofs::BodyLaws::body_laws))]
 fn bodies_of(left: usize, s: &StmtDraft) -> Bodies
     ensures { result ≡ spec.bodies left (stmt s.now) }
 {

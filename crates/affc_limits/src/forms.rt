@@ -3,10 +3,10 @@
 ghost use Rattle.std.specs.List.{flat_map};
 ghost use Rattle.std.specs.Prelude.{map, ◌≡◌};
 ghost use Rattle.affc_grammar.specs.Limits.{literals_past, products_in, value_texts};
-ghost use Rattle.affc_draft.specs.Drafts.{ix, value};
+ghost use Rattle.affc_syntax.specs.draft.Drafts.{ix, value};
 ghost use Rattle.affc_limits.specs.Places as places;
 
-use affc_draft::draft::{IxDraft, ValueDraft};
+use affc_syntax::draft::draft::{IxDraft, ValueDraft};
 
 /// The first, or the second where there is no first.
 pub(crate) fn first_of(a: Option<usize>, b: Option<usize>) -> Option<usize>
@@ -97,7 +97,7 @@ fn before_side(at: usize, side: Factors, behind: Behind) -> Behind
 }
 
 /// What the rule on products asks of an expression. The recursion is into right operands alone.
-#[tactic(auto, using(affc_draft::proofs::Outs::ix_outs, crate::proofs::PlaceLaws::product_laws))]
+#[tactic(auto, using(affc_syntax::proofs::draft::Outs::ix_outs, crate::proofs::PlaceLaws::product_laws))]
 pub fn products(e: &IxDraft) -> Factors
     ensures { result ≡ places.products (ix e.now) }
 {
@@ -141,7 +141,7 @@ pub(crate) fn place_if(passed: bool, at: usize) -> Option<usize>
 }
 
 /// The least place of a literal above the limit. The recursion is into right operands alone.
-#[tactic(auto, using(affc_draft::proofs::Outs::ix_outs, crate::proofs::PlaceLaws::least_laws))]
+#[tactic(auto, using(affc_syntax::proofs::draft::Outs::ix_outs, crate::proofs::PlaceLaws::least_laws))]
 pub(crate) fn literal_past(limit: u64, e: &IxDraft) -> Option<usize>
     ensures { result ≡ places.least (literals_past limit (ix e.now)) }
 {

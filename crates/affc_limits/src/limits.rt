@@ -4,8 +4,8 @@ ghost use Rattle.std.specs.Prelude.{◌≡◌, [], flat_map, if◌then◌else◌
 ghost use Rattle.std.specs.Option.{option_map};
 ghost use Rattle.affc_grammar.specs.Limits as limits;
 ghost use Rattle.affc_grammar.specs.Limits.{affine_texts, large_parts, limits_of, literals_past};
-ghost use Rattle.affc_draft.specs.Drafts.{text};
-ghost use Rattle.affc_draft.specs.Symbols.{passed_seen};
+ghost use Rattle.affc_syntax.specs.draft.Drafts.{text};
+ghost use Rattle.affc_syntax.specs.draft.Symbols.{passed_seen};
 ghost use Rattle.affc_limits.specs.Nearest as spec;
 ghost use Rattle.affc_limits.specs.Places.{least};
 
@@ -13,9 +13,9 @@ use crate::assignments::tally_of;
 use crate::bodies::bodies_of_all;
 use crate::lines::{contexts_past, dimensions_past, parameters_past, ranges_past};
 use crate::texts::{Rule, in_text};
-use affc_draft::draft::TextDraft;
-use affc_draft::passed::Passed;
 use affc_grammar::fault::LimitName;
+use affc_syntax::draft::draft::TextDraft;
+use affc_syntax::draft::passed::Passed;
 use std::alloc::{AllocError, Global};
 
 /// With one limit more, which stands behind the others in the list of limits.

@@ -2,13 +2,13 @@
 
 ghost use Rattle.std.specs.Prelude.{◌≡◌, ◌++◌, drop, filter, length, map, nat_lt};
 ghost use Rattle.affc_grammar.specs.Limits as limits;
-ghost use Rattle.affc_draft.specs.Drafts.{decl, param, pragma};
+ghost use Rattle.affc_syntax.specs.draft.Drafts.{decl, param, pragma};
 ghost use Rattle.affc_limits.specs.Lines as spec;
 ghost use Rattle.affc_limits.specs.Places.{least};
 
 use crate::forms::{lesser, place_if};
 use crate::rests::Rest;
-use affc_draft::draft::{DeclDraft, ParamDraft, PragmaDraft};
+use affc_syntax::draft::draft::{DeclDraft, ParamDraft, PragmaDraft};
 
 fn with_param(rest: Rest, one: &ParamDraft) -> Rest
     ensures { result ≡ spec.with_param rest (param one.now) }

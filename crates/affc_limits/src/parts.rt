@@ -4,7 +4,7 @@ ghost use Rattle.std.specs.Prelude.{◌≡◌, ℕ, pos, IfOk};
 ghost use Rattle.affc_grammar.specs.Draft as grammar;
 ghost use Rattle.affc_grammar.specs.Grammar.{Name};
 ghost use Rattle.affc_grammar.specs.Limits.{coefficient_of, constant_of, is_large, large_parts};
-ghost use Rattle.affc_draft.specs.Drafts.{ix};
+ghost use Rattle.affc_syntax.specs.draft.Drafts.{ix};
 ghost use Rattle.affc_limits.specs.Coefficients.{number_of};
 ghost use Rattle.affc_limits.specs.Parts as spec;
 ghost use Rattle.affc_limits.specs.Parts.{HasForm, IsForm};
@@ -13,7 +13,7 @@ ghost use Rattle.affc_limits.specs.Places.{least, lesser, place_if};
 use crate::forms::{lesser, place_if};
 use crate::terms::Coefficients;
 use crate::whole::Whole;
-use affc_draft::draft::IxDraft;
+use affc_syntax::draft::draft::IxDraft;
 use std::alloc::{AllocError, Global};
 
 /// The size, where it is small.
@@ -64,7 +64,7 @@ fn size_of_choice(a: Option<u64>, b: Option<u64>) -> Option<u64>
 }
 
 /// A bound on the constant and on each coefficient of an expression, where one that is small holds for each part of it.
-#[tactic(auto, using(affc_draft::proofs::Outs::ix_outs))]
+#[tactic(auto, using(affc_syntax::proofs::draft::Outs::ix_outs))]
 fn size(e: &IxDraft) -> Option<u64>
     ensures value { result ≡ spec.size (ix e.now) }
     ensures small { spec.IsSmall result }
@@ -177,7 +177,7 @@ fn product(alloc: Global, a: Form, b: Form) -> Result<Form, AllocError>
 }
 
 /// An expression and each of its parts, once.
-#[tactic(auto, using(affc_draft::proofs::Outs::ix_outs))]
+#[tactic(auto, using(affc_syntax::proofs::draft::Outs::ix_outs))]
 fn formed(alloc: Global, e: &IxDraft) -> Result<Form, AllocError>
     ensures { IfOk result (IsForm (ix e.now)) }
 {
@@ -225,7 +225,7 @@ fn formed(alloc: Global, e: &IxDraft) -> Result<Form, AllocError>
 }
 
 /// The least number of a token with which a part begins.
-#[tactic(auto, using(affc_draft::proofs::Outs::ix_outs))]
+#[tactic(auto, using(affc_syntax::proofs::draft::Outs::ix_outs))]
 fn least_token(e: &IxDraft) -> usize
     ensures { result ≡ spec.least_token (ix e.now) }
 {

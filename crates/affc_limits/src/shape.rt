@@ -5,13 +5,13 @@ ghost use Rattle.std.specs.Option.{option_map};
 ghost use Rattle.affc_lex.specs.Lexes.{is_line_end};
 ghost use Rattle.affc_grammar.specs.Limits as spec;
 ghost use Rattle.affc_grammar.specs.Limits.{limits_of, least, shape_passed};
-ghost use Rattle.affc_draft.specs.Symbols.{seen, passed_seen};
+ghost use Rattle.affc_syntax.specs.draft.Symbols.{seen, passed_seen};
 ghost use Rattle.affc_limits.specs.Shape as shape;
 
-use affc_draft::passed::Passed;
-use affc_draft::symbol::{Symbol, is, is_mark_kind, is_word_kind};
 use affc_grammar::fault::LimitName;
 use affc_lex::token::Kind;
+use affc_syntax::draft::passed::Passed;
+use affc_syntax::draft::symbol::{Symbol, is, is_mark_kind, is_word_kind};
 
 /// What is counted along the tokens; also how far each may be counted.
 #[derive(Clone, Copy, Drop)]

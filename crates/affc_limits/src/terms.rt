@@ -7,7 +7,7 @@ ghost use Rattle.affc_limits.specs.Terms as spec;
 use crate::whole::Whole;
 use affc_ast::Items;
 use affc_ast::text::Text;
-use affc_draft::symbol::is;
+use affc_syntax::draft::symbol::is;
 use std::alloc::{AllocError, Global};
 
 /// A name, and what it is multiplied by.

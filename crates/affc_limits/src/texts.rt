@@ -2,14 +2,14 @@
 
 ghost use Rattle.std.specs.Prelude.{◌≡◌, [], ◌∷◌, map, flat_map, IfOk, IsOk, IsTrue};
 ghost use Rattle.affc_grammar.specs.Limits.{affine_texts, param_texts, pragma_texts, sides, stmt_texts, stmts_texts, value_texts, products_of_names};
-ghost use Rattle.affc_draft.specs.Drafts.{compare, decl, ix, local, param, pragma, stmt, stmts_of, text, value};
+ghost use Rattle.affc_syntax.specs.draft.Drafts.{compare, decl, ix, local, param, pragma, stmt, stmts_of, text, value};
 ghost use Rattle.affc_limits.specs.Places.{first};
 ghost use Rattle.affc_limits.specs.Texts as spec;
 ghost use Rattle.affc_limits.specs.Texts.{takes_none};
 
 use crate::forms::{first_of, first_product_in, lesser, literal_past};
 use crate::parts::large_part;
-use affc_draft::draft::{
+use affc_syntax::draft::draft::{
     CompareDraft, DeclDraft, IxDraft, LocalDraft, ParamDraft, PragmaDraft, StmtDraft, TextDraft,
     ValueDraft,
 };
@@ -78,7 +78,7 @@ fn pick(rule: Rule, a: Option<usize>, b: Option<usize>) -> Option<usize>
 }
 
 /// The recursion is into right operands alone.
-#[tactic(auto, using(affc_draft::proofs::Outs::value_outs, crate::proofs::TextLaws::value_laws))]
+#[tactic(auto, using(affc_syntax::proofs::draft::Outs::value_outs, crate::proofs::TextLaws::value_laws))]
 fn in_value(rule: Rule, before: Option<usize>, v: &ValueDraft) -> Result<Option<usize>, AllocError>
     ensures found { IfOk result (λ p. p ≡ spec.with_found rule before (value_texts (value v.now))) }
     ensures sure { IsTrue (takes_none rule) → IsOk result }

@@ -13,9 +13,9 @@ use Rattle.affc_wellnamed.specs.declared.shape.Extent.{Extent}
 use Rattle.affc_wellnamed.specs.declared.shape.Shape.{Shape}
 use Rattle.affc_wellnamed.specs.Shape.{empty, nothing, whole, compare_extent, both, line, locals_behind, block_head, stmt_step, stmt_shape}
 use Rattle.affc_wellnamed.proofs.ShapeStatements.{Numbers, joined}
-use Rattle.affc_reprint.proofs.Rows.{under_more, under_both, under_tokens}
-use Rattle.affc_reprint.proofs.Values.{all_tokens, all_deep}
-use Rattle.affc_reprint.proofs.Statements.{numbers_of, total, AtMost, most_both}
+use Rattle.affc_loopprint.proofs.reprint.Rows.{under_more, under_both, under_tokens}
+use Rattle.affc_loopprint.proofs.reprint.Values.{all_tokens, all_deep}
+use Rattle.affc_loopprint.proofs.reprint.Statements.{numbers_of, total, AtMost, most_both}
 use Rattle.affc_loops.specs.Trees.{name_at, number, form_tree}
 use Rattle.affc_loops.specs.Loops.{Piece, loop_names, locals_of, box_tests, time_tests, if_any, guarded, moved_assign, block_of}
 use Rattle.affc_loopprint.specs.Short.{IsShort}

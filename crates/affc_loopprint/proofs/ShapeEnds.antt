@@ -6,7 +6,7 @@ use Rattle.affc_cprint.specs.Places.{divides}
 use Rattle.affc_cprint.specs.declared.brackets.Place.TheVariants.{Whole}
 use Rattle.affc_wellnamed.specs.declared.shape.IxExtent.{IxExtent}
 use Rattle.affc_wellnamed.specs.Shape.{placed, quotient, choice, ix_step, ix_extent, whole}
-use Rattle.affc_reprint.proofs.Rows.{Under, under_more, under_both, under_tokens, under_brackets}
+use Rattle.affc_loopprint.proofs.reprint.Rows.{Under, under_more, under_both, under_tokens, under_brackets}
 use Rattle.affc_loopprint.proofs.EndCases.{EndCases}
 use Rattle.affc_loopprint.proofs.ShapeForms.{Few, number_few, form_fewer}
 

@@ -9,8 +9,8 @@ use Rattle.affc_wellnamed.specs.declared.shape.Extent.{Extent}
 use Rattle.affc_wellnamed.specs.declared.shape.IxExtent.{IxExtent}
 use Rattle.affc_wellnamed.specs.Shape.{placed, one_token, sum, product, ix_step, ix_extent, whole}
 use Rattle.affc_ast.proofs.Steps.{neg_here, add_here, sub_here, mul_here}
-use Rattle.affc_reprint.proofs.Rows.{Under, under_more, under_both, under_tokens}
-use Rattle.affc_reprint.proofs.Expressions.{placed_whole}
+use Rattle.affc_loopprint.proofs.reprint.Rows.{Under, under_more, under_both, under_tokens}
+use Rattle.affc_loopprint.proofs.reprint.Expressions.{placed_whole}
 use Rattle.affc_loops.specs.Trees.{name_at, number, times, Term, and_more, sum_of, terms_from, form_tree}
 
 -- at most so many tokens and brackets

@@ -27,8 +27,8 @@ use Rattle.affc_wellnamed.proofs.ShapeStatements as numbers
 use Rattle.affc_domain.specs.Rounds.{Round, Loop, Test, rounds_step, rounds, loops_in, comparisons_in}
 use Rattle.affc_domain.proofs.Lists.{from_map}
 use Rattle.affc_domain.proofs.PlainLemmas.{rounds_of_each}
-use Rattle.affc_reprint.proofs.Rows.{under_more, under_both, under_tokens}
-use Rattle.affc_reprint.proofs.Statements.{numbers_of, total}
+use Rattle.affc_loopprint.proofs.reprint.Rows.{under_more, under_both, under_tokens}
+use Rattle.affc_loopprint.proofs.reprint.Statements.{numbers_of, total}
 use Rattle.affc_loops.specs.Trees.{moved, moved_compare, moved_value}
 use Rattle.affc_loops.specs.Loops.{if_any, loop_tests, guarded, moved_assign}
 use Rattle.affc_loopprint.proofs.ShapeMoved.{two, moved_extent, moved_dims, moved_conds, moved_val}

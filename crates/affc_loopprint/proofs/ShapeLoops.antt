@@ -12,8 +12,8 @@ use Rattle.affc_trace.specs.Law.{IsIn}
 use Rattle.affc_trace.specs.Target.{numbers_in}
 use Rattle.affc_wellnamed.specs.Shape.{nothing, whole, both, line, closed, all_behind, for_head, stmt_step, stmt_shape, lines_shape, program_shape, is_bounded}
 use Rattle.affc_wellnamed.proofs.ShapeStatements.{Numbers, joined, none}
-use Rattle.affc_reprint.proofs.Statements.{numbers_of, total, AtMost, most_both}
-use Rattle.affc_reprint.proofs.Rows.{under_more}
+use Rattle.affc_loopprint.proofs.reprint.Statements.{numbers_of, total, AtMost, most_both}
+use Rattle.affc_loopprint.proofs.reprint.Rows.{under_more}
 use Rattle.affc_loops.specs.Between.{loops_between, body_between}
 use Rattle.affc_loops.specs.Loops.{Piece, block_of, time_name}
 use Rattle.affc_loopprint.specs.Short.{head_shape, IsShort}

@@ -16,9 +16,9 @@ use Rattle.affc_wellnamed.proofs.ShapeStatements.{none}
 use Rattle.affc_wellnamed.proofs.Decides.{well_named_is_kept}
 use Rattle.affc_cprint.proofs.ReadBackValues.{Each}
 use Rattle.affc_loops.specs.Loops.{guarded, moved_assign}
-use Rattle.affc_reprint.proofs.Statements.{numbers_of, AtMost, behind_most}
-use Rattle.affc_reprint.proofs.Whole.{printed_bounded}
-use Rattle.affc_reprint.proofs.Reprinted.{reads_printed, reads_well_named}
+use Rattle.affc_loopprint.proofs.reprint.Statements.{numbers_of, AtMost, behind_most}
+use Rattle.affc_loopprint.proofs.reprint.Whole.{printed_bounded}
+use Rattle.affc_loopprint.proofs.reprint.Reprinted.{reads_printed, reads_well_named}
 use Rattle.affc_loopprint.specs.Short.{KeepsTo, with_prelude, head_shape, tested_shape, IsShort}
 use Rattle.affc_loopprint.proofs.ShapeCalls.{prelude_near}
 use Rattle.affc_loopprint.proofs.ShapeGuards.{guarded_fits, guarded_items}

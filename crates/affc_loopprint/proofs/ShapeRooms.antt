@@ -10,8 +10,8 @@ use Rattle.affc_ast.proofs.Steps.{if_here}
 use Rattle.affc_cprint.proofs.ReadBackValues.{Each}
 use Rattle.affc_wellnamed.proofs.ShapeParts.{larger_is}
 use Rattle.affc_wellnamed.proofs.ShapeStatements.{Numbers, joined, none}
-use Rattle.affc_reprint.proofs.Values.{all_tokens, all_deep, conds_within}
-use Rattle.affc_reprint.proofs.Statements.{numbers_of, total, AtMost, most_self, behind_most}
+use Rattle.affc_loopprint.proofs.reprint.Values.{all_tokens, all_deep, conds_within}
+use Rattle.affc_loopprint.proofs.reprint.Statements.{numbers_of, total, AtMost, most_self, behind_most}
 use Rattle.affc_loops.specs.Loops.{if_any}
 
 -- at most so many tokens, so long a run, so many brackets

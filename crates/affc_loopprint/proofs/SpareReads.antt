@@ -16,7 +16,7 @@ use Rattle.affc_wellnamed.specs.Known.{Known, and_iterator, is_new, is_refused, 
 use Rattle.affc_wellnamed.specs.Plain.{is_plain}
 use Rattle.affc_wellnamed.specs.Work.{program_fits}
 use Rattle.affc_wellnamed.proofs.Decides.{well_named_is_kept}
-use Rattle.affc_reprint.proofs.Reprinted.{reads_well_named}
+use Rattle.affc_loopprint.proofs.reprint.Reprinted.{reads_well_named}
 use Rattle.affc_loopprint.specs.Laws.{ReadsSpare}
 use Rattle.affc_loopprint.specs.Spare.{HaveFreeNames}
 use Rattle.affc_loopprint.proofs.KnownAround.{around_known, all_known, known_body}

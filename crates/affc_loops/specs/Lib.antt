@@ -7,3 +7,4 @@ pub mod Limits
 pub mod Laws
 pub mod Examples
 pub mod EndExamples
+pub mod terms

@@ -11,9 +11,9 @@ use Rattle.affc_system.specs.Systems.{Rows, IsRow}
 use Rattle.affc_system.specs.Boxes.{InBox}
 use Rattle.affc_system.specs.Pairs.{IsSubscript}
 use Rattle.affc_system.specs.declared.pairs.PairSystem.{PairSystem}
-use Rattle.affc_maximum.specs.Regions.{InRegion, IsAskable, AreAskable}
-use Rattle.affc_maximum.specs.declared.region.Region.{Region}
-use Rattle.affc_differences.specs.Differences.{apart}
+use Rattle.affc_split.specs.maximum.Regions.{InRegion, IsAskable, AreAskable}
+use Rattle.affc_split.specs.maximum.declared.region.Region.{Region}
+use Rattle.affc_conflicts.specs.differences.Differences.{apart}
 use Rattle.affc_conflicts.specs.Conditions.{InContext, IsNear, LiesWithin, IsConflict}
 use Rattle.affc_moduli.specs.Slices.{AreSlices}
 use Rattle.affc_moduli.specs.Distances.{AreForward, AreBackward, IsDifference}

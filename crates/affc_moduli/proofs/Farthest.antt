@@ -3,9 +3,9 @@ use Rattle.std.proofs.Common.{◌≡◌, ℕ, ◌<◌, List, length, ℤ, pos, �
 use Rattle.std.proofs.lemmas.Option.{slice_get_within}
 use Rattle.affc_rows.specs.Forms.{Affine}
 use Rattle.affc_system.specs.declared.pairs.PairSystem.{PairSystem}
-use Rattle.affc_maximum.specs.Regions.{AreBounded}
-use Rattle.affc_maximum.specs.declared.region.Region.{Region}
-use Rattle.affc_differences.specs.Differences.{apart}
+use Rattle.affc_split.specs.maximum.Regions.{AreBounded}
+use Rattle.affc_split.specs.maximum.declared.region.Region.{Region}
+use Rattle.affc_conflicts.specs.differences.Differences.{apart}
 use Rattle.affc_moduli.specs.Distances.{AreForward, AreBackward, AreOver, AreApartWithin}
 use Rattle.affc_moduli.proofs.Apart.{apart-turned, within_both}
 use Rattle.affc_moduli.proofs.Covers.{some_at}

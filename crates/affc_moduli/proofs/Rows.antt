@@ -5,9 +5,9 @@ use Rattle.std.proofs.lemmas.Int.{ints}
 use Rattle.affc_rows.specs.Forms.{Affine, dot, value, values_of}
 use Rattle.affc_system.specs.Systems.{Rows}
 use Rattle.affc_system.specs.declared.pairs.PairSystem.{PairSystem}
-use Rattle.affc_maximum.specs.Regions.{InRegion}
-use Rattle.affc_maximum.specs.declared.region.Region.{Region}
-use Rattle.affc_differences.specs.Differences.{apart}
+use Rattle.affc_split.specs.maximum.Regions.{InRegion}
+use Rattle.affc_split.specs.maximum.declared.region.Region.{Region}
+use Rattle.affc_conflicts.specs.differences.Differences.{apart}
 use Rattle.affc_basis.specs.Slices.{along, InSlice}
 use Rattle.affc_basis.specs.Folds.{IsEnough, IsLeastMark}
 use Rattle.affc_system.specs.ElementPairs.{IsPairOf}

@@ -2,11 +2,11 @@
 use Rattle.std.specs.Prelude.{◌≡◌, ℕ, ◌≤◌, ℤ, pos, unsigned_abs, List, length, slice_get, Option, Some, None}
 use Rattle.affc_rows.specs.Forms.{Affine, value}
 use Rattle.affc_system.specs.declared.pairs.PairSystem.{PairSystem}
-use Rattle.affc_maximum.specs.Regions.{InRegion}
-use Rattle.affc_maximum.specs.declared.region.Region.{Region}
-use Rattle.affc_maximum.specs.declared.several.Found.{Found}
+use Rattle.affc_split.specs.maximum.Regions.{InRegion}
+use Rattle.affc_split.specs.maximum.declared.region.Region.{Region}
+use Rattle.affc_split.specs.maximum.declared.several.Found.{Found}
 use Rattle.affc_moduli.specs.Slices.{AreParallel}
-use Rattle.affc_differences.specs.Differences.{apart, IsSmall}
+use Rattle.affc_conflicts.specs.differences.Differences.{apart, IsSmall}
 
 -- the form is the value of the row at xs less that at ys
 pub record IsDifference (columns : ℕ) (cs : List ℤ) (xs ys : List Affine) (f : Affine) : Type 0 where

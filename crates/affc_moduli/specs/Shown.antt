@@ -2,10 +2,10 @@
 use Rattle.std.specs.Prelude.{◌≡◌, ◌^◌, ◌≤◌, ℤ, pos, ◌≤ℤ◌, unsigned_abs, List, Option, Some, None, IfSome, IfNone}
 use Rattle.affc_rows.specs.Forms.{Affine, value}
 use Rattle.affc_system.specs.declared.pairs.PairSystem.{PairSystem}
-use Rattle.affc_maximum.specs.Regions.{InRegion}
-use Rattle.affc_maximum.specs.declared.region.Region.{Region}
-use Rattle.affc_maximum.specs.declared.several.Found.{Found}
-use Rattle.affc_differences.specs.Differences.{apart}
+use Rattle.affc_split.specs.maximum.Regions.{InRegion}
+use Rattle.affc_split.specs.maximum.declared.region.Region.{Region}
+use Rattle.affc_split.specs.maximum.declared.several.Found.{Found}
+use Rattle.affc_conflicts.specs.differences.Differences.{apart}
 use Rattle.affc_basis.specs.declared.fold.Mark.{Mark}
 use Rattle.affc_basis.specs.declared.fold.Mark.TheVariants.{Least, Bound}
 use Rattle.affc_moduli.specs.declared.extremes.Sought.{Sought}

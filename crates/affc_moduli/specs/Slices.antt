@@ -3,8 +3,8 @@ use Rattle.std.specs.Prelude.{◌≡◌, ℕ, ◌+◌, ◌*◌, ◌<◌, ◌≤�
 use Rattle.affc_rows.specs.Forms.{Affine, values_of}
 use Rattle.affc_system.specs.Systems.{Rows, IsPoint}
 use Rattle.affc_system.specs.declared.pairs.PairSystem.{PairSystem}
-use Rattle.affc_maximum.specs.Regions.{InRegion}
-use Rattle.affc_maximum.specs.declared.region.Region.{Region}
+use Rattle.affc_split.specs.maximum.Regions.{InRegion}
+use Rattle.affc_split.specs.maximum.declared.region.Region.{Region}
 use Rattle.affc_basis.specs.Slices.{along}
 use Rattle.affc_conflicts.specs.Conditions.{InContext}
 

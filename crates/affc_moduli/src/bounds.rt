@@ -3,12 +3,12 @@ ghost use Rattle.std.specs.Prelude.{◌≡◌, ℕ, ℤ, List, ◌^◌, ◌<◌,
 ghost use Rattle.std.specs.List.{All};
 ghost use Rattle.affc_rows.specs.Forms.{value};
 ghost use Rattle.affc_system.specs.Systems.{IsRow, Meets};
-ghost use Rattle.affc_maximum.specs.Regions.{InRegion, IsBounded, IsAskable};
+ghost use Rattle.affc_split.specs.maximum.Regions.{InRegion, IsBounded, IsAskable};
 ghost use Rattle.affc_moduli.specs.Parallel.{AreOpposite};
 
 use crate::distances::MOST_DISTANCE;
-use affc_maximum::Region;
 use affc_rows::Form;
+use affc_split::maximum::Region;
 use affc_system::interval;
 
 /// Whether the coefficients of one row are those of another with the other sign.

@@ -1,11 +1,11 @@
 //! How far apart elements can lie along a row, as boxes and parallel rows show without a question.
 ghost use Rattle.std.specs.Prelude.{◌≡◌, ◌+◌, ◌^◌, ◌<◌, ◌≤◌, ◌≤ℤ◌, ◌⊎◌, pos, length};
-ghost use Rattle.affc_maximum.specs.Regions.{AreAskable};
+ghost use Rattle.affc_split.specs.maximum.Regions.{AreAskable};
 ghost use Rattle.affc_moduli.specs.Ended.{IsCeiling};
 
 use crate::bounds::{Bound, ceiling_of};
-use affc_maximum::Region;
 use affc_rows::Form;
+use affc_split::maximum::Region;
 
 /// The greater of two bounds.
 fn greater(a: Bound, b: Bound) -> Bound

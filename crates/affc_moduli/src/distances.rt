@@ -3,7 +3,7 @@ ghost use Rattle.std.specs.Prelude.{◌≡◌, ◌≤◌, unsigned_abs, IfOk, le
 ghost use Rattle.std.specs.List.{All};
 ghost use Rattle.affc_moduli.specs.Distances.{HaveDimensions, AreForward, AreBackward};
 
-use affc_differences::difference;
+use affc_conflicts::differences::difference;
 use affc_rows::Form;
 use affc_system::PairSystem;
 use std::alloc::{AllocError, Global};

@@ -2,16 +2,16 @@
 ghost use Rattle.std.specs.Prelude.{◌≡◌, ℕ, ℤ, List, ◌+◌, ◌-◌, ◌^◌, ◌<◌, ◌≤◌, ◌++◌, ◌-ℤ◌, ◌≤ℤ◌, ◌<ℤ◌, unsigned_abs, pos, Some, slice_get, take, replicate, IfOk, IfErr, IsTrue, length};
 ghost use Rattle.std.specs.List.{All};
 ghost use Rattle.affc_rows.specs.Forms.{Affine, value};
-ghost use Rattle.affc_maximum.specs.declared.region.Region.{Region as Region'};
+ghost use Rattle.affc_split.specs.maximum.declared.region.Region.{Region as Region'};
 ghost use Rattle.affc_split.specs.Budgets.{IsLater};
-ghost use Rattle.affc_maximum.specs.Regions.{InRegion, IsBounded, IsMeasure};
+ghost use Rattle.affc_split.specs.maximum.Regions.{InRegion, IsBounded, IsMeasure};
 ghost use Rattle.affc_basis.specs.Moduli.{IsModulus};
 ghost use Rattle.affc_moduli.specs.Enough.{IsBelow, AreBelow, AreComparable};
 
 use crate::bounds::is_at_most;
 use crate::constant::number;
-use affc_maximum::{Region, reaching};
 use affc_rows::{Form, FormFault};
+use affc_split::maximum::{Region, reaching};
 use affc_split::{Budget, Stop};
 use smallvec::SmallVec;
 use std::alloc::{AllocError, Global};

@@ -9,8 +9,8 @@ ghost use Rattle.affc_moduli.specs.Enough.{AreComparable, IsSuitable};
 
 use crate::constant::number;
 use crate::enough::{all_below, is_positive, is_within};
-use affc_maximum::{Region, maximum};
 use affc_rows::{Form, FormFault};
+use affc_split::maximum::{Region, maximum};
 use affc_split::{Budget, Stop};
 use affc_system::system::MOST_ROWS;
 use affc_system::{BoxOf, System, fits_row, interval};

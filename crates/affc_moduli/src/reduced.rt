@@ -1,14 +1,14 @@
 //! Regions that are seen to have no point, with one row in place of theirs.
 ghost use Rattle.std.specs.Prelude.{◌≡◌, List, ℤ, ◌≤◌, ◌∷◌, [], pos, negsuc, replicate, IfOk, length};
 ghost use Rattle.affc_system.specs.Systems.{IsRow};
-ghost use Rattle.affc_maximum.specs.Regions.{InRegion};
+ghost use Rattle.affc_split.specs.maximum.Regions.{InRegion};
 ghost use Rattle.affc_moduli.specs.Reduced.{IsReduced, AreReduced, below_zero};
 
 use crate::bounds::is_void;
 use crate::constant::number;
 use crate::slices::add;
-use affc_maximum::Region;
 use affc_rows::Form;
+use affc_split::maximum::Region;
 use affc_system::System;
 use std::alloc::{AllocError, Global};
 

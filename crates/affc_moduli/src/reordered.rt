@@ -3,8 +3,8 @@
 ghost use Rattle.std.specs.Prelude.{◌≡◌, ◌+◌, ◌≤◌, IfOk, length};
 
 use crate::forms::with_multiple;
-use affc_maximum::Region;
 use affc_rows::Form;
+use affc_split::maximum::Region;
 use affc_system::system::MOST_COLUMNS;
 use affc_system::{BoxOf, RowFault, System, interval};
 use smallvec::SmallVec;

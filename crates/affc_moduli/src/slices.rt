@@ -4,11 +4,11 @@ ghost use Rattle.std.specs.List.{All};
 ghost use Rattle.affc_rows.specs.Forms.{Affine};
 ghost use Rattle.affc_system.specs.Systems.{IsRow};
 ghost use Rattle.affc_system.specs.Pairs.{IsBoxed};
-ghost use Rattle.affc_maximum.specs.declared.region.Region.{Region as Region'};
+ghost use Rattle.affc_split.specs.maximum.declared.region.Region.{Region as Region'};
 ghost use Rattle.affc_moduli.specs.Slices.{AreCopies, IsNarrowed, AreNarrowed};
 
-use affc_maximum::Region;
 use affc_rows::Form;
+use affc_split::maximum::Region;
 use affc_system::{PairSystem, RowFault, System};
 use std::alloc::{AllocError, Global};
 

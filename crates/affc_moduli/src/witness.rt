@@ -5,11 +5,11 @@ ghost use Rattle.affc_system.specs.Boxes.{InBox};
 ghost use Rattle.affc_system.specs.Pairs.{IsSubscript};
 ghost use Rattle.affc_split.specs.Budgets.{IsLater};
 ghost use Rattle.affc_rows.specs.Forms.{value};
-ghost use Rattle.affc_maximum.specs.Regions.{InRegion, IsMeasure};
+ghost use Rattle.affc_split.specs.maximum.Regions.{InRegion, IsMeasure};
 
 use crate::reordered::{Inserted, Lack, reordered, restored};
-use affc_maximum::Region;
 use affc_rows::Form;
+use affc_split::maximum::Region;
 use affc_split::{Answer, Budget, Stop, decide, within_reach};
 use affc_system::{BoxOf, PairSystem, System, value_at};
 use smallvec::SmallVec;

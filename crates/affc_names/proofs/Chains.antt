@@ -6,8 +6,8 @@ use Rattle.affc_ast.specs.declared.tree.Ix.{Ix}
 use Rattle.affc_ast.specs.declared.tree.Val.{Val}
 use Rattle.affc_grammar.specs.Draft as d
 use Rattle.affc_grammar.specs.Names.{Checked, Refusal, Scope, ◌>>=◌, ix_tree, value_tree}
-use Rattle.affc_draft.specs.Drafts.{ix, value}
-use Rattle.affc_draft.proofs.Nodes.{nodes, value_nodes}
+use Rattle.affc_syntax.specs.draft.Drafts.{ix, value}
+use Rattle.affc_syntax.proofs.draft.Nodes.{nodes, value_nodes}
 use Rattle.affc_names.specs.declared.chain.Join.{Join}
 use Rattle.affc_names.specs.declared.chain.Join.TheVariants.{Plus, Minus, Times}
 use Rattle.affc_names.specs.declared.chain.IxStep.{IxStep}

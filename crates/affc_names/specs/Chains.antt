@@ -6,7 +6,7 @@ use Rattle.affc_ast.specs.declared.tree.Val.{Val}
 use Rattle.affc_ast.specs.declared.tree.Val.TheVariants as val
 use Rattle.affc_grammar.specs.Draft as d
 use Rattle.affc_grammar.specs.Names.{Scope, Checked, ◌>>=◌, ix_tree, value_tree}
-use Rattle.affc_draft.specs.Drafts.{ix, value}
+use Rattle.affc_syntax.specs.draft.Drafts.{ix, value}
 use Rattle.affc_names.specs.Stored as stored
 use Rattle.affc_names.specs.declared.chain.Join.{Join}
 use Rattle.affc_names.specs.declared.chain.Join.TheVariants.{Plus, Minus, Times}

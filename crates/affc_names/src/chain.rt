@@ -3,11 +3,11 @@
 
 ghost use Rattle.std.specs.Prelude.{◌≡◌, reverse, IfOk, MatchOption};
 ghost use Rattle.std.specs.List.{fold};
-ghost use Rattle.affc_draft.specs.Drafts.{ix, value};
+ghost use Rattle.affc_syntax.specs.draft.Drafts.{ix, value};
 ghost use Rattle.affc_names.specs.Chains.{IsOperand, IsValueOperand, with_step, with_value_step};
 
 use affc_ast::tree::Op;
-use affc_draft::draft::{IxDraft, ValueDraft};
+use affc_syntax::draft::draft::{IxDraft, ValueDraft};
 use std::alloc::{AllocError, Global};
 
 /// An operator between two expressions; `at` is the number of the `*`.
@@ -32,7 +32,7 @@ pub(crate) struct IxChain<'a> {
 }
 
 /// What is done last in an expression, and with what.
-#[tactic(auto, using(affc_draft::proofs::Outs::ix_outs))]
+#[tactic(auto, using(affc_syntax::proofs::draft::Outs::ix_outs))]
 fn last_step(draft: &IxDraft) -> Option<(&IxDraft, IxStep<'_>)>
     ensures { MatchOption result (IsOperand (ix draft.now)) (λ r. ix draft.now ≡ with_step (ix r.0.now) r.1) }
 {
@@ -91,7 +91,7 @@ pub(crate) struct ValueChain<'a> {
 }
 
 /// What is done last in a value, and with what.
-#[tactic(auto, using(affc_draft::proofs::Outs::value_outs))]
+#[tactic(auto, using(affc_syntax::proofs::draft::Outs::value_outs))]
 fn last_value_step(draft: &ValueDraft) -> Option<(&ValueDraft, ValueStep<'_>)>
     ensures { MatchOption result (IsValueOperand (value draft.now)) (λ r. value draft.now ≡ with_value_step (value r.0.now) r.1) }
 {

@@ -5,7 +5,7 @@ ghost use Rattle.affc_names.specs.Things.{thing_seen};
 ghost use Rattle.std.specs.Option.{option_map};
 ghost use Rattle.affc_grammar.specs.Names as names;
 ghost use Rattle.affc_ast.specs.declared.tree.Ix.TheVariants as trees;
-ghost use Rattle.affc_draft.specs.Drafts as seen;
+ghost use Rattle.affc_syntax.specs.draft.Drafts as seen;
 ghost use Rattle.affc_names.specs.Chains.{IsOperand, joined_trees, step_tree};
 ghost use Rattle.affc_names.specs.Stored as stored;
 ghost use Rattle.affc_names.specs.Gives.{Gives};
@@ -16,7 +16,7 @@ use crate::scope::{Scope, Thing};
 use crate::why::why_number;
 use affc_ast::tree::{Ix, NameId};
 use affc_ast::{Boxed, Items};
-use affc_draft::draft::{Choice, IxDraft, Rounding};
+use affc_syntax::draft::draft::{Choice, IxDraft, Rounding};
 use std::alloc::{AllocError, Global};
 
 fn number_id(thing: Option<Thing>) -> NameId
@@ -98,7 +98,7 @@ fn joined(alloc: Global, join: Join, a: Ix, b: Ix) -> Result<Ix, AllocError>
 
 /// An expression with no operator between two parts of it.
 #[cycle(ix)]
-#[tactic(auto, using(affc_draft::proofs::Outs::ix_outs))]
+#[tactic(auto, using(affc_syntax::proofs::draft::Outs::ix_outs))]
 fn operand_tree(alloc: Global, scope: &Scope, draft: &IxDraft) -> Result<Ix, NameFault>
     requires { IsOperand (seen.ix draft.now) }
     ensures { Gives result (names.ix_tree scope.now (stored.ix (seen.ix draft.now))) }

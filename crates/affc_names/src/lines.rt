@@ -5,7 +5,7 @@ ghost use Rattle.std.specs.Option.{option_or};
 ghost use Rattle.std.specs.List.{list_any};
 ghost use Rattle.affc_lex.specs.Bytes.{same};
 ghost use Rattle.affc_grammar.specs.Names as names;
-ghost use Rattle.affc_draft.specs.Drafts as seen;
+ghost use Rattle.affc_syntax.specs.draft.Drafts as seen;
 ghost use Rattle.affc_names.specs.Stored as stored;
 ghost use Rattle.affc_names.specs.Gives.{Gives};
 ghost use Rattle.affc_names.specs.Ranges.{lines_of, texts, GiveSameRanges, line_tree, ranged_by};
@@ -17,7 +17,7 @@ use crate::value::compare_trees;
 use crate::why::why_ranged;
 use affc_ast::Items;
 use affc_ast::tree::Compare;
-use affc_draft::draft::{PragmaDraft, WordDraft};
+use affc_syntax::draft::draft::{PragmaDraft, WordDraft};
 use indexmap::{IndexMap, IndexSet};
 use std::alloc::{AllocError, Global};
 

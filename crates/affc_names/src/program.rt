@@ -3,7 +3,7 @@
 ghost use Rattle.std.specs.Prelude.{◌≡◌, map, length, OnOk, IfOk, Ok};
 ghost use Rattle.affc_grammar.specs.Draft as d;
 ghost use Rattle.affc_grammar.specs.Names as names;
-ghost use Rattle.affc_draft.specs.Drafts as seen;
+ghost use Rattle.affc_syntax.specs.draft.Drafts as seen;
 ghost use Rattle.affc_names.specs.Stored as stored;
 ghost use Rattle.affc_names.specs.Gives.{Fails, Gives, GivesWith};
 ghost use Rattle.affc_names.specs.Ranges.{lines_of};
@@ -20,8 +20,8 @@ use crate::why::{why_declared, why_function};
 use affc_ast::Items;
 use affc_ast::text::Text;
 use affc_ast::tree::{Decl, Param, Program};
-use affc_draft::draft::{DeclDraft, ParamDraft, TextDraft, WordDraft};
 use affc_grammar::fault::NameWhy;
+use affc_syntax::draft::draft::{DeclDraft, ParamDraft, TextDraft, WordDraft};
 use std::alloc::{AllocError, Global};
 
 /// A number parameter, which is visible from then on.

@@ -3,7 +3,7 @@
 ghost use Rattle.std.specs.Prelude.{◌≡◌, ◌+◌, None, length, map, OnOk};
 ghost use Rattle.affc_grammar.specs.Draft as d;
 ghost use Rattle.affc_grammar.specs.Names as names;
-ghost use Rattle.affc_draft.specs.Drafts as seen;
+ghost use Rattle.affc_syntax.specs.draft.Drafts as seen;
 ghost use Rattle.affc_names.specs.Stored as stored;
 ghost use Rattle.affc_names.specs.Visible.{without};
 ghost use Rattle.affc_names.specs.Gives.{Gives, GivesWith, Allows};
@@ -17,10 +17,10 @@ use crate::why::{why_declared, why_repeated};
 use affc_ast::Items;
 use affc_ast::text::Text;
 use affc_ast::tree::{Ix, Local, Op, Stmt};
-use affc_draft::draft::{
+use affc_grammar::fault::NameWhy;
+use affc_syntax::draft::draft::{
     CompareDraft, HeadDraft, IxDraft, LocalDraft, StmtDraft, ValueDraft, WordDraft,
 };
-use affc_grammar::fault::NameWhy;
 use std::alloc::{AllocError, Global};
 
 /// The name whose token has this number is refused, where there is a reason.
@@ -181,7 +181,7 @@ fn block_tree(
 }
 
 #[cycle(stmts)]
-#[tactic(auto, using(affc_draft::proofs::Outs::stmt_outs))]
+#[tactic(auto, using(affc_syntax::proofs::draft::Outs::stmt_outs))]
 fn stmt_tree(alloc: Global, scope: &mut Scope, draft: &StmtDraft) -> Result<Stmt, NameFault>
     ensures tree { Gives result (names.stmt_tree scope.old (stored.stmt (seen.stmt draft.now))) }
     ensures same { OnOk result (scope.new ≡ scope.old) }

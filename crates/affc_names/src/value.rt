@@ -3,7 +3,7 @@
 ghost use Rattle.std.specs.Prelude.{◌≡◌, map};
 ghost use Rattle.std.specs.Option.{option_map};
 ghost use Rattle.affc_grammar.specs.Names as names;
-ghost use Rattle.affc_draft.specs.Drafts as seen;
+ghost use Rattle.affc_syntax.specs.draft.Drafts as seen;
 ghost use Rattle.affc_names.specs.Things.{thing_seen};
 ghost use Rattle.affc_names.specs.Chains.{IsValueOperand, value_step_tree};
 ghost use Rattle.affc_names.specs.Stored as stored;
@@ -16,7 +16,7 @@ use crate::scope::{Scope, Thing};
 use crate::why::why_array;
 use affc_ast::tree::{ArrayId, Compare, Val};
 use affc_ast::{Boxed, Items};
-use affc_draft::draft::{CompareDraft, ValueDraft};
+use affc_syntax::draft::draft::{CompareDraft, ValueDraft};
 use std::alloc::Global;
 
 fn array_id(thing: Option<Thing>) -> ArrayId
@@ -85,7 +85,7 @@ fn bits(by: u64) -> u8
 }
 
 /// A value with no `~`, no shift and no operator outside parentheses.
-#[tactic(auto, using(affc_draft::proofs::Outs::value_outs, crate::proofs::Each::lengths))]
+#[tactic(auto, using(affc_syntax::proofs::draft::Outs::value_outs, crate::proofs::Each::lengths))]
 fn operand_tree(alloc: Global, scope: &Scope, draft: &ValueDraft) -> Result<Val, NameFault>
     requires { IsValueOperand (seen.value draft.now) }
     ensures { Gives result (names.value_tree scope.now (stored.value (seen.value draft.now))) }

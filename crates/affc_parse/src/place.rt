@@ -2,11 +2,11 @@
 
 ghost use Rattle.std.specs.Prelude.{◌≡◌, map};
 ghost use Rattle.affc_lex.specs.Lexes.{lexemes};
-ghost use Rattle.affc_draft.specs.Symbols.{seen};
+ghost use Rattle.affc_syntax.specs.draft.Symbols.{seen};
 ghost use Rattle.affc_grammar.specs.Reads as reads;
 
-use affc_draft::symbol::Symbol;
 use affc_lex::token::{Kind, Token};
+use affc_syntax::draft::symbol::Symbol;
 use sqlite_items::at as at_index;
 
 /// Where the token of this number begins; behind the last token, the text's end.

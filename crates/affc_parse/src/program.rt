@@ -2,8 +2,8 @@
 
 ghost use Rattle.std.specs.Prelude.{◌≡◌, map, IfOk, IfErr, Err, None};
 ghost use Rattle.affc_lex.specs.Lexes.{lexemes};
-ghost use Rattle.affc_draft.specs.Drafts as drafts;
-ghost use Rattle.affc_draft.specs.Symbols.{seen};
+ghost use Rattle.affc_syntax.specs.draft.Drafts as drafts;
+ghost use Rattle.affc_syntax.specs.draft.Symbols.{seen};
 ghost use Rattle.affc_grammar.specs.Limits.{limits_of, count_open, products_of_names};
 ghost use Rattle.affc_limits.specs.Places.{first};
 ghost use Rattle.affc_grammar.specs.Reader.{Within};
@@ -19,8 +19,6 @@ use crate::size::{MOST_BYTES, is_long};
 use crate::symbols::symbols_of;
 use crate::tokens::tokens_of;
 use affc_ast::tree::Program;
-use affc_draft::draft::TextDraft;
-use affc_draft::symbol::Symbol;
 use affc_grammar::fault::LimitName;
 use affc_lex::token::Token;
 use affc_limits::limits::limit_fault;
@@ -30,6 +28,8 @@ use affc_names::fault::NameFault;
 use affc_names::program::program_of;
 use affc_names::spread::Spread;
 use affc_syntax::ahead::Stop;
+use affc_syntax::draft::draft::TextDraft;
+use affc_syntax::draft::symbol::Symbol;
 use affc_text::read_text;
 use std::alloc::Global;
 

@@ -3,17 +3,17 @@
 ghost use Rattle.std.specs.Prelude.{◌≡◌, ◌&&◌, All, length, map, slice_range, true, false, IfOk};
 ghost use Rattle.std.specs.List.{list_all};
 ghost use Rattle.affc_lex.specs.Lexes.{IsIn, lexeme, lexemes};
-ghost use Rattle.affc_draft.specs.Numbers.{number_of};
-ghost use Rattle.affc_draft.specs.Symbols.{seen};
+ghost use Rattle.affc_syntax.specs.draft.Numbers.{number_of};
+ghost use Rattle.affc_syntax.specs.draft.Symbols.{seen};
 ghost use Rattle.affc_lex.specs.Bytes as bytes;
 ghost use Rattle.affc_lex.specs.Pieces.{is_number, is_small};
 ghost use Rattle.affc_lex.specs.declared.token.Kind.TheVariants as kinds;
 ghost use Rattle.affc_parse.specs.Shown as shown;
 ghost use Rattle.affc_parse.specs.Shown.{are_bytes, shown_bytes, is_header_kind, fits};
 
-use affc_draft::symbol::Symbol;
 use affc_lex::scan::{digits_length, number};
 use affc_lex::token::{Kind, Token};
+use affc_syntax::draft::symbol::Symbol;
 use std::alloc::{AllocError, Global};
 use std::str::from_utf8;
 

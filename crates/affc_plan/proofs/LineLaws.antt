@@ -11,7 +11,7 @@ use Rattle.affc_schedtext.specs.Rules.{is_in, wrong_statements, statements_in, h
 use Rattle.affc_schedtext.specs.Seen.{line_seen}
 use Rattle.affc_schedtext.proofs.Scheduled.{all_there}
 use Rattle.affc_schedtext.proofs.Walks.{front}
-use Rattle.affc_draft.specs.Drafts.{ix}
+use Rattle.affc_syntax.specs.draft.Drafts.{ix}
 use Rattle.affc_plan.specs.Lines.{head, is_of_statement, is_of_array, wrong_statement, wrong_fold, is_wrong_statement, is_wrong_fold, wrong_from, same_number}
 
 -- ---- Numbers that stand among those before

@@ -7,8 +7,8 @@ use Rattle.std.proofs.lemmas.List.Elements.{All-cons}
 use Rattle.affc_rows.specs.Forms.{Affine, HaveColumns}
 use Rattle.affc_trace.specs.Target.{are_slight, all_slight}
 use Rattle.affc_basis.specs.Bases.{IsSquare, AreWithin, HaveCoefsWithin}
-use Rattle.affc_draft.specs.declared.draft.IxDraft as code
-use Rattle.affc_draft.specs.Drafts.{ix}
+use Rattle.affc_syntax.specs.draft.declared.draft.IxDraft as code
+use Rattle.affc_syntax.specs.draft.Drafts.{ix}
 use Rattle.affc_grammar.specs.Limits.{at_if, first_token}
 use Rattle.affc_schedtext.specs.declared.outline.Outline.{Outline}
 use Rattle.affc_schedtext.specs.Outline.{dimensions_of, array_at}

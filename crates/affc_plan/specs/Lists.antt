@@ -1,8 +1,8 @@
 -- Expressions within the limits.
 use Rattle.std.specs.Prelude.{Bool, List}
 use Rattle.std.specs.List.{list_all}
-use Rattle.affc_draft.specs.declared.draft.IxDraft.{IxDraft}
-use Rattle.affc_draft.specs.Drafts.{ix}
+use Rattle.affc_syntax.specs.draft.declared.draft.IxDraft.{IxDraft}
+use Rattle.affc_syntax.specs.draft.Drafts.{ix}
 use Rattle.affc_schedtext.specs.Rules.{Columns, slight_parts}
 
 abbrev pub are_slight_parts : Columns → List IxDraft → Bool

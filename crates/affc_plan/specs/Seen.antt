@@ -1,6 +1,6 @@
 -- What the definitions see of the code's types.
 use Rattle.std.specs.Prelude.{map}
-use Rattle.affc_draft.specs.Drafts.{ix}
+use Rattle.affc_syntax.specs.draft.Drafts.{ix}
 use Rattle.affc_schedtext.specs.declared.draft.LineDraft.{LineDraft}
 use Rattle.affc_schedtext.specs.Rules as rules
 use Rattle.affc_schedtext.specs.Seen.{scope_seen}

@@ -3,7 +3,7 @@
 ghost use Rattle.std.specs.Prelude.{◌≡◌, ◌≤◌, true, map, flat_map, IfOk};
 ghost use Rattle.std.specs.List.{list_all};
 ghost use Rattle.affc_grammar.specs.Limits as limits;
-ghost use Rattle.affc_draft.specs.Drafts.{ix};
+ghost use Rattle.affc_syntax.specs.draft.Drafts.{ix};
 ghost use Rattle.affc_schedtext.specs.Outline as outlines;
 ghost use Rattle.affc_schedtext.specs.Rules as rules;
 ghost use Rattle.affc_schedtext.specs.Seen.{line_seen};
@@ -15,11 +15,11 @@ ghost use Rattle.affc_plan.specs.Seen.{columns_seen, sides_seen};
 use crate::columns::{Columns, Sides};
 use crate::parts::linear_part;
 use affc_ast::text::Text;
-use affc_draft::draft::IxDraft;
 use affc_rows::Form;
 use affc_schedtext::draft::LineDraft;
 use affc_schedtext::outline::{Outline, array_of, iterators_of};
 use affc_schedtext::scope::Scope;
+use affc_syntax::draft::draft::IxDraft;
 use sqlite_items::Items;
 use std::alloc::{AllocError, Global};
 
@@ -103,7 +103,7 @@ pub(crate) fn fold_sides(outline: &Outline, line: &LineDraft) -> Sides<'static>
 // ---- Limits
 
 /// The number of an expression's first token.
-#[tactic(auto, using(affc_draft::proofs::Outs::ix_outs))]
+#[tactic(auto, using(affc_syntax::proofs::draft::Outs::ix_outs))]
 fn first_token(e: &IxDraft) -> usize
     ensures { result ≡ limits.first_token (ix e.now) }
 {

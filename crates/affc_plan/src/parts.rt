@@ -4,7 +4,7 @@ ghost use Rattle.std.specs.Prelude.{◌≡◌, ◌^◌, ◌≤◌, pos, negsuc, 
 ghost use Rattle.affc_rows.specs.Forms.{mixed_form};
 ghost use Rattle.affc_trace.specs.Target.{are_slight};
 ghost use Rattle.affc_domain.specs.Affine.{unit_of, product_form};
-ghost use Rattle.affc_draft.specs.Drafts.{ix};
+ghost use Rattle.affc_syntax.specs.draft.Drafts.{ix};
 ghost use Rattle.affc_schedtext.specs.Rules.{column_named};
 ghost use Rattle.affc_schedtext.specs.Seen.{scope_seen};
 ghost use Rattle.affc_plan.specs.Few.{AreFew};
@@ -12,9 +12,9 @@ ghost use Rattle.affc_plan.specs.Parts.{is_slight, kept, mixture, multiple, part
 ghost use Rattle.affc_plan.specs.Seen.{columns_seen};
 
 use crate::columns::{Columns, column_of};
-use affc_draft::draft::IxDraft;
 use affc_nest::forms::column;
 use affc_rows::{Form, FormFault};
+use affc_syntax::draft::draft::IxDraft;
 use std::alloc::{AllocError, Global};
 
 /// Whether names stand in an expression, and its form.
@@ -181,7 +181,7 @@ fn name(alloc: Global, columns: Columns<'_>, name: &str) -> Result<Option<Part>,
 }
 
 /// The form of an expression, where each part of it is slight.
-#[tactic(auto, using(affc_draft::proofs::Outs::ix_outs))]
+#[tactic(auto, using(affc_syntax::proofs::draft::Outs::ix_outs))]
 pub(crate) fn linear_part(
     alloc: Global,
     columns: Columns<'_>,

@@ -1,12 +1,12 @@
 //! The first product of names among symbols, found in one pass.
 
 ghost use Rattle.std.specs.Prelude.{◌≡◌, map, IfOk, MatchOption};
-ghost use Rattle.affc_draft.specs.Symbols.{seen};
+ghost use Rattle.affc_syntax.specs.draft.Symbols.{seen};
 ghost use Rattle.affc_schedtext.specs.Answers.{IsFirstProduct, HasNoProduct};
 ghost use Rattle.affc_plan.specs.Products as pass;
 
-use affc_draft::symbol::{Symbol, is};
 use affc_lex::token::Kind;
+use affc_syntax::draft::symbol::{Symbol, is};
 use std::alloc::{AllocError, Global};
 
 /// What a token is in an expression.

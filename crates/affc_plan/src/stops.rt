@@ -2,12 +2,11 @@
 
 ghost use Rattle.std.specs.Prelude.{◌≡◌, ◌≤◌, All, length, map, take, IfOk, IfErr};
 ghost use Rattle.affc_lex.specs.Lexes.{IsIn, Lexes, lexemes};
-ghost use Rattle.affc_draft.specs.Symbols.{seen};
+ghost use Rattle.affc_syntax.specs.draft.Symbols.{seen};
 ghost use Rattle.affc_plan.specs.Stages.{IsStopBehind, IsReach, IsDraftOf, IsFrontPlace, SyntaxFault};
 
 use crate::front::longest;
 use crate::products::first_product;
-use affc_draft::symbol::Symbol;
 use affc_lex::lex;
 use affc_lex::token::{LexFault, Token};
 use affc_parse::place::place_of;
@@ -17,6 +16,7 @@ use affc_schedtext::lines::read_draft;
 use affc_schedtext::outline::Outline;
 use affc_schedtext::plan::SchedFault;
 use affc_syntax::ahead::Stop;
+use affc_syntax::draft::symbol::Symbol;
 use std::alloc::{AllocError, Global};
 
 /// How many brackets may be open at once.

@@ -7,6 +7,7 @@ pub mod distances;
 mod image;
 pub mod laws;
 pub mod leaf;
+pub mod legality;
 mod lists;
 pub mod long;
 mod named;

@@ -24,7 +24,7 @@ use Rattle.affc_quast.specs.Sources.{NameSources}
 use Rattle.affc_quast.specs.Trees.{Tree}
 use Rattle.affc_flow.specs.Laws.{AreWritten}
 use Rattle.affc_flow.specs.Questions.{is_temporary}
-use Rattle.affc_items.specs.Items.{FoldShown}
+use Rattle.affc_check.specs.list.Items.{FoldShown}
 use Rattle.affc_check.specs.Laws.{IsShown}
 use Rattle.affc_driver.specs.Plans.{WrittenThroughout}
 use Rattle.affc_driver.proofs.Written.{load_at}

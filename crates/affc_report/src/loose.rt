@@ -3,7 +3,7 @@ ghost use Rattle.std.specs.Prelude.{◌≡◌, ◌++◌, OnOk, string_bytes};
 ghost use Rattle.affc_report.specs.Loose as specs;
 
 use affc_ends::Why;
-use affc_scanned::Loose;
+use affc_ends::scanned::Loose;
 use std::alloc::AllocError;
 
 // Adds why a component has no ends.

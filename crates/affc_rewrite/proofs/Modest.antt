@@ -2,7 +2,7 @@
 use Rattle.std.proofs.Common.{ℕ, ◌≤◌, ◌^◌, get_or, arith}
 use Rattle.std.specs.Prelude.{unsigned_abs}
 use Rattle.affc_rows.specs.Forms.{Affine}
-use Rattle.affc_terms.specs.Sizes.{IsModest}
+use Rattle.affc_loops.specs.terms.Sizes.{IsModest}
 use Rattle.affc_rewrite.specs.Sizes.{IsPrintable}
 
 pub printable_modest : (names : ℕ) (f : Affine) → IsPrintable names f → IsModest f

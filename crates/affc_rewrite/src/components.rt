@@ -12,10 +12,10 @@ ghost use Rattle.affc_rewrite.specs.Sizes.{IsRow, IsPrintable, IsAccess};
 use affc_ast::Items;
 use affc_ast::tree::Ix;
 use affc_basis::Modulus;
+use affc_loops::terms::form_ix;
+use affc_loops::terms::trees::modulo;
 use affc_nest::forms::column;
 use affc_rows::{Form, FormFault};
-use affc_terms::form_ix;
-use affc_terms::trees::modulo;
 use std::alloc::{AllocError, Global};
 
 /// The subscripts of an access as forms over the names in sight, of which the parameters are the first.

@@ -9,7 +9,7 @@ use Rattle.affc_ast.specs.declared.tree.Ix.{Ix}
 use Rattle.affc_ast.specs.declared.tree.Ix.TheVariants.{Min, Max, Floord, Ceild}
 use Rattle.affc_loops.specs.Ends.{rest_of, opposite, rounded_up, rounded_down, least_by, greatest_by, joined, lower_end, upper_end, both_ends}
 use Rattle.affc_loops.specs.Trees.{number}
-use Rattle.affc_terms.specs.Sizes.{IsModest}
+use Rattle.affc_loops.specs.terms.Sizes.{IsModest}
 use Rattle.affc_scan.specs.EndRows.{IsEndRow}
 
 -- ---- Rows without their last column

@@ -17,8 +17,8 @@ use Rattle.affc_ends.specs.declared.bounds.Bounds.TheVariants.{Between, Loose as
 use Rattle.affc_ends.specs.Ends.{IsProjectedRow}
 use Rattle.affc_ends.specs.Sizes.{IsModest}
 use Rattle.affc_ends.specs.Whys.{AreBoundsFrom}
-use Rattle.affc_scanned.specs.declared.scanned.Loose.{Loose}
-use Rattle.affc_scanned.specs.Scanned.{sides_of, loose_from, all_loose, all_sides}
+use Rattle.affc_ends.specs.scanned.declared.scanned.Loose.{Loose}
+use Rattle.affc_ends.specs.scanned.Scanned.{sides_of, loose_from, all_loose, all_sides}
 use Rattle.affc_scan.specs.declared.gathered.Gathered.{Gathered}
 use Rattle.affc_scan.specs.EndRows.{IsEndRow, HaveEndRows}
 use Rattle.affc_scan.specs.Gathered.{IsProjectable, GathersOne, GathersMore, Gathers}

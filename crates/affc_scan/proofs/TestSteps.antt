@@ -8,7 +8,7 @@ use Rattle.affc_trace.proofs.EndedReads.{append_assoc}
 use Rattle.affc_loops.specs.Limits.{IsSlight}
 use Rattle.affc_loops.specs.Loops.{box_tests, time_tests}
 use Rattle.affc_loops.specs.Trees.{name_at, number, form_tree}
-use Rattle.affc_terms.specs.Sizes.{IsModest}
+use Rattle.affc_loops.specs.terms.Sizes.{IsModest}
 
 -- a form of a schedule can be printed
 pub slight_is_modest : (f : Affine) → IsSlight f → IsModest f

@@ -34,7 +34,7 @@ use Rattle.affc_ends.specs.Sizes.{IsTimed}
 use Rattle.affc_ends.specs.TimeRows.{time_system, system_of}
 use Rattle.affc_ends.specs.TimeSets.{Timed, timed_in}
 use Rattle.affc_ends.specs.Whys.{AreBoundsFrom}
-use Rattle.affc_scanned.specs.Scanned.{AreBounds, AreBoundsOfEach, all_loose, all_sides, IsBetween}
+use Rattle.affc_ends.specs.scanned.Scanned.{AreBounds, AreBoundsOfEach, all_loose, all_sides, IsBetween}
 use Rattle.affc_scan.specs.declared.gathered.Gathered.{Gathered}
 use Rattle.affc_scan.specs.declared.parts.Part.{Part}
 use Rattle.affc_scan.specs.Gathered.{IsProjectable, AllProjectable, AreBoundsOf, AreBoundsOfAll, Gathers}

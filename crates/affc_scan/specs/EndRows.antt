@@ -4,7 +4,7 @@ use Rattle.std.specs.List.{All}
 use Rattle.affc_rows.specs.Forms.{Affine}
 use Rattle.affc_ends.specs.declared.bounds.Bounds.{Bounds}
 use Rattle.affc_ends.specs.declared.bounds.Bounds.TheVariants.{Between, Loose}
-use Rattle.affc_terms.specs.Sizes.{IsModest}
+use Rattle.affc_loops.specs.terms.Sizes.{IsModest}
 
 -- a row over the columns up to this one
 pub record IsEndRow (column : ℕ) (row : Affine) : Type 0 where

@@ -7,7 +7,7 @@ use Rattle.affc_ends.specs.declared.bounds.Bounds.{Bounds}
 use Rattle.affc_ends.specs.Sizes.{IsTimed}
 use Rattle.affc_ends.specs.TimeRows.{time_system}
 use Rattle.affc_ends.specs.Whys.{AreBoundsFrom}
-use Rattle.affc_scanned.specs.Scanned.{sides_of, loose_from, all_loose, all_sides}
+use Rattle.affc_ends.specs.scanned.Scanned.{sides_of, loose_from, all_loose, all_sides}
 use Rattle.affc_scan.specs.declared.gathered.Gathered.{Gathered}
 use Rattle.affc_scan.specs.Pieces.{Numbered, piece_in, HasSpans}
 

@@ -17,9 +17,9 @@ use crate::trees::moved_ix;
 use affc_ast::Items;
 use affc_ast::text::Text;
 use affc_ast::tree::{Compare, Ix, Local, NameId, Rel, Stmt};
+use affc_loops::terms::form_ix;
 use affc_nest::{Frame, Site};
 use affc_rows::Form;
-use affc_terms::form_ix;
 use std::alloc::{AllocError, Global};
 
 /// This statement alone.

@@ -6,8 +6,8 @@ ghost use Rattle.affc_loops.specs.Limits.{IsSlight, IsSmall};
 
 use affc_ast::Items;
 use affc_ast::tree::{Compare, Ix, NameId, Rel};
+use affc_loops::terms::{form_ix, number};
 use affc_rows::Form;
-use affc_terms::{form_ix, number};
 use std::alloc::{AllocError, Global};
 
 /// And that each iterator lies in its range.

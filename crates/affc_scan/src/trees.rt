@@ -4,7 +4,7 @@ ghost use Rattle.affc_loops.specs.Trees.{moved_name, moved};
 ghost use Rattle.affc_scan.specs.InSight.{in_sight};
 
 use affc_ast::tree::{Ix, NameId};
-use affc_terms::trees::{add, ceild, floord, max, min, modulo, mul, neg, sub};
+use affc_loops::terms::trees::{add, ceild, floord, max, min, modulo, mul, neg, sub};
 use std::alloc::{AllocError, Global};
 
 fn moved_id(first: u32, more: u32, id: u32) -> NameId

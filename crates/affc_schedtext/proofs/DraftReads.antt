@@ -4,8 +4,8 @@ use Rattle.std.proofs.lemmas.List.{length-map}
 use Rattle.affc_grammar.specs.Grammar.{Symbol}
 use Rattle.affc_grammar.specs.Reader.{At, Deep, Read}
 use Rattle.affc_grammar.proofs.Closed.{same_ok, same_at}
-use Rattle.affc_draft.specs.declared.symbol.Symbol as code
-use Rattle.affc_draft.specs.Symbols.{seen}
+use Rattle.affc_syntax.specs.draft.declared.symbol.Symbol as code
+use Rattle.affc_syntax.specs.draft.Symbols.{seen}
 use Rattle.affc_syntax.specs.declared.ahead.Stop.TheVariants as s
 use Rattle.affc_syntax.specs.Readers.{mapped}
 use Rattle.affc_schedtext.specs.declared.draft.Draft as code_draft

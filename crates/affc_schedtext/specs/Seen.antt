@@ -1,6 +1,6 @@
 -- What the definitions see of the code's types.
 use Rattle.std.specs.Prelude.{map}
-use Rattle.affc_draft.specs.Drafts.{ix, word}
+use Rattle.affc_syntax.specs.draft.Drafts.{ix, word}
 use Rattle.affc_grammar.specs.Reader.{Turn, going, done}
 use Rattle.affc_schedtext.specs.Outline.{Scope, any_scope, names_scope, components_scope, row_scope, back_scope, Words, these, any, Lists}
 use Rattle.affc_schedtext.specs.Draft.{LineDraft, OrderDraft, source, time, Draft}

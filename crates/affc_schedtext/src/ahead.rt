@@ -4,15 +4,15 @@ ghost use Rattle.std.specs.Prelude.{◌≡◌, drop, map, None, Some, IfOk, Matc
 ghost use Rattle.affc_lex.specs.Bytes as bytes;
 ghost use Rattle.affc_grammar.specs.Draft as d;
 ghost use Rattle.affc_grammar.specs.Reading as tests;
-ghost use Rattle.affc_draft.specs.Drafts.{word};
-ghost use Rattle.affc_draft.specs.Symbols.{seen};
+ghost use Rattle.affc_syntax.specs.draft.Drafts.{word};
+ghost use Rattle.affc_syntax.specs.draft.Symbols.{seen};
 ghost use Rattle.affc_syntax.specs.Ahead as ahead;
 ghost use Rattle.affc_syntax.specs.declared.ahead.Stop.TheVariants as stop;
 
 use affc_ast::text::Text;
-use affc_draft::draft::WordDraft;
-use affc_draft::symbol::{Symbol, is_word_kind};
 use affc_syntax::ahead::{Stop, first};
+use affc_syntax::draft::draft::WordDraft;
+use affc_syntax::draft::symbol::{Symbol, is_word_kind};
 use std::alloc::{AllocError, Global};
 
 fn same(a: &[u8], b: &str) -> bool

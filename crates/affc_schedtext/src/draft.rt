@@ -1,7 +1,7 @@
 //! What a schedule's text says before its rules are looked at.
 
 use affc_ast::Items;
-use affc_draft::draft::{IxDraft, WordDraft};
+use affc_syntax::draft::draft::{IxDraft, WordDraft};
 
 /// The line of a statement or of a fold: the word that names it, and its two lists.
 #[derive(Drop)]

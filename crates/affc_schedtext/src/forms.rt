@@ -1,8 +1,8 @@
 //! Reading forms and lists of forms. `room` is how many brackets may still be opened, `next` is the number of the next token.
 
 ghost use Rattle.std.specs.Prelude.{◌≡◌, ◌+◌, ◌≤◌, drop, length, map};
-ghost use Rattle.affc_draft.specs.Drafts.{ix};
-ghost use Rattle.affc_draft.specs.Symbols.{seen};
+ghost use Rattle.affc_syntax.specs.draft.Drafts.{ix};
+ghost use Rattle.affc_syntax.specs.draft.Symbols.{seen};
 ghost use Rattle.affc_syntax.specs.Readers.{Gives};
 ghost use Rattle.affc_schedtext.specs.Drafting as drafting;
 ghost use Rattle.affc_schedtext.specs.Grammar as grammar;
@@ -14,9 +14,9 @@ use crate::ahead::behind_word;
 use crate::scope::{Scope, Words, first_name, sees};
 use affc_ast::Items;
 use affc_ast::text::Text;
-use affc_draft::draft::IxDraft;
-use affc_draft::symbol::{Symbol, is_word_kind};
 use affc_syntax::ahead::{Answer, Stop, behind, past_mark, past_word};
+use affc_syntax::draft::draft::IxDraft;
+use affc_syntax::draft::symbol::{Symbol, is_word_kind};
 use affc_syntax::expression::read_expression;
 use std::alloc::Global;
 

@@ -1,9 +1,9 @@
 //! Reading the lines of a schedule's text. `room` is how many brackets may still be opened, `next` is the number of the next token.
 
 ghost use Rattle.std.specs.Prelude.{◌≡◌, ◌++◌, ◌∷◌, [], drop, length, map, IfOk};
-ghost use Rattle.affc_draft.specs.Drafts as drafts;
-ghost use Rattle.affc_draft.specs.Drafts.{ix};
-ghost use Rattle.affc_draft.specs.Symbols.{seen};
+ghost use Rattle.affc_syntax.specs.draft.Drafts as drafts;
+ghost use Rattle.affc_syntax.specs.draft.Drafts.{ix};
+ghost use Rattle.affc_syntax.specs.draft.Symbols.{seen};
 ghost use Rattle.affc_syntax.specs.Readers.{Gives};
 ghost use Rattle.affc_schedtext.specs.Drafting as drafting;
 ghost use Rattle.affc_schedtext.specs.Outline as outlines;
@@ -18,9 +18,9 @@ use crate::outline::{
 };
 use crate::scope::{Scope, Words, first_name};
 use affc_ast::Items;
-use affc_draft::draft::{IxDraft, WordDraft};
-use affc_draft::symbol::{Symbol, is};
 use affc_syntax::ahead::{Answer, Stop, behind, first, past_mark, past_number, past_word};
+use affc_syntax::draft::draft::{IxDraft, WordDraft};
+use affc_syntax::draft::symbol::{Symbol, is};
 use affc_syntax::expression::number_of_first;
 use std::alloc::{AllocError, Global};
 

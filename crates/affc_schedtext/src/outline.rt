@@ -9,7 +9,7 @@ ghost use Rattle.affc_schedtext.specs.Seen.{scope_seen, words_seen, lists_seen};
 use crate::scope::{Lists, Scope, Words, first_name, numbered};
 use affc_ast::Items;
 use affc_ast::text::Text;
-use affc_draft::symbol::is;
+use affc_syntax::draft::symbol::is;
 use std::alloc::{AllocError, Global};
 
 #[derive(Drop)]

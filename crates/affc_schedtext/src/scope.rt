@@ -8,8 +8,8 @@ ghost use Rattle.affc_schedtext.specs.Outline as outline;
 ghost use Rattle.affc_schedtext.specs.Seen.{scope_seen};
 
 use affc_ast::text::Text;
-use affc_draft::symbol::is;
 use affc_lex::scan::{is_digit, number};
+use affc_syntax::draft::symbol::is;
 
 /// The names that stand for a column.
 #[derive(Clone, Copy, Drop)]

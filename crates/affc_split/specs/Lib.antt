@@ -6,3 +6,4 @@ pub mod Search
 pub mod Openings
 pub mod Searches
 pub mod Examples
+pub mod maximum

@@ -5,6 +5,7 @@ pub mod budget;
 mod cuts;
 pub mod decision;
 pub mod examples;
+pub mod maximum;
 mod parts;
 pub mod search;
 

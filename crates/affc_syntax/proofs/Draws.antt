@@ -5,8 +5,8 @@ use Rattle.std.proofs.lemmas.List.{length-map}
 use Rattle.affc_grammar.specs.Grammar.{Symbol}
 use Rattle.affc_grammar.specs.Reader.{At, Deep, Read, Reader, then_read, on_some, give, fail, after, either, on, many, all}
 use Rattle.affc_grammar.specs.Reading.{this_mark}
-use Rattle.affc_draft.specs.declared.symbol.Symbol as code
-use Rattle.affc_draft.specs.Symbols.{seen}
+use Rattle.affc_syntax.specs.draft.declared.symbol.Symbol as code
+use Rattle.affc_syntax.specs.draft.Symbols.{seen}
 use Rattle.affc_syntax.specs.Ahead.{past, with_rest}
 use Rattle.affc_syntax.specs.Readers.{mapped, on_past, closed, more, all_more}
 use Rattle.affc_syntax.proofs.Readers.{some_pair}

@@ -2,11 +2,11 @@
 use Rattle.std.proofs.Common.{◌≡◌, ℕ, Bool, ap, ◌∙◌}
 use Rattle.affc_ast.specs.declared.tree.Op.{Op}
 use Rattle.affc_grammar.specs.Draft as d
-use Rattle.affc_draft.specs.declared.draft.ValueDraft.{ValueDraft, map-ValueDraft}
-use Rattle.affc_draft.specs.declared.draft.ValueDraft.TheVariants as v
-use Rattle.affc_draft.specs.declared.draft.ValueDraft.TheOpen.{ValueDraft-F}
-use Rattle.affc_draft.specs.Drafts.{value, value_node}
-use Rattle.affc_draft.proofs.Outs.{value_out}
+use Rattle.affc_syntax.specs.draft.declared.draft.ValueDraft.{ValueDraft, map-ValueDraft}
+use Rattle.affc_syntax.specs.draft.declared.draft.ValueDraft.TheVariants as v
+use Rattle.affc_syntax.specs.draft.declared.draft.ValueDraft.TheOpen.{ValueDraft-F}
+use Rattle.affc_syntax.specs.draft.Drafts.{value, value_node}
+use Rattle.affc_syntax.proofs.draft.Outs.{value_out}
 
 abbrev node_of : ValueDraft-F ValueDraft → d.ValueDraft
 node_of l = value_node (map-ValueDraft ValueDraft d.ValueDraft value l)

@@ -5,7 +5,7 @@ use Rattle.affc_grammar.specs.Reading.{of_choice, of_rounding, callees, choose}
 use Rattle.affc_grammar.specs.Reading as g
 use Rattle.affc_syntax.specs.declared.ahead.Callee.{Callee}
 use Rattle.affc_syntax.specs.declared.ahead.Callee.TheVariants.{OfChoice, OfRounding}
-use Rattle.affc_draft.specs.Drafts.{choice, rounding}
+use Rattle.affc_syntax.specs.draft.Drafts.{choice, rounding}
 
 abbrev pub callee_seen : Callee → g.Callee
 callee_seen (OfChoice f) = of_choice (choice f)

@@ -5,7 +5,7 @@ use Rattle.affc_grammar.specs.Grammar.{Symbol}
 use Rattle.affc_grammar.specs.Draft.{IxDraft, CompareDraft, grouped}
 use Rattle.affc_grammar.specs.Reader.{At, Deep, Reader, then_read}
 use Rattle.affc_grammar.specs.Reading.{this_mark, rel_of}
-use Rattle.affc_draft.specs.Drafts.{compare, ix}
+use Rattle.affc_syntax.specs.draft.Drafts.{compare, ix}
 use Rattle.affc_syntax.specs.declared.condition.Mixed as code
 use Rattle.affc_syntax.specs.declared.condition.Mixed.TheVariants.{Conditions, Index}
 use Rattle.affc_syntax.specs.Ahead.{past}

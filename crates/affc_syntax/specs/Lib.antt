@@ -5,3 +5,4 @@ pub mod IxReading
 pub mod CondReading
 pub mod ValueTests
 pub mod ValueReading
+pub mod draft

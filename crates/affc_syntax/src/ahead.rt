@@ -4,7 +4,7 @@ ghost use Rattle.std.specs.Prelude.{◌≡◌, ◌<◌, ◌≤◌, ◌+◌, ◌�
 ghost use Rattle.affc_lex.specs.Bytes as bytes;
 ghost use Rattle.affc_grammar.specs.Grammar as grammar;
 ghost use Rattle.affc_grammar.specs.Reading as tests;
-ghost use Rattle.affc_draft.specs.Symbols.{seen};
+ghost use Rattle.affc_syntax.specs.draft.Symbols.{seen};
 ghost use Rattle.affc_syntax.specs.Ahead as ahead;
 ghost use Rattle.affc_syntax.specs.Callees as callees;
 ghost use Rattle.affc_syntax.specs.Readers as readers;
@@ -12,9 +12,9 @@ ghost use Rattle.affc_syntax.specs.ValueTests as values;
 ghost use Rattle.affc_syntax.specs.declared.ahead.Stop.TheVariants as stop;
 ghost use Rattle.std.specs.Option.{option_map};
 
+use crate::draft::draft::{Choice, Rounding};
+use crate::draft::symbol::{Symbol, is_mark_kind, is_word_kind};
 use affc_ast::tree::{Op, Rel};
-use affc_draft::draft::{Choice, Rounding};
-use affc_draft::symbol::{Symbol, is_mark_kind, is_word_kind};
 use affc_lex::token::Kind;
 use std::alloc::AllocError;
 

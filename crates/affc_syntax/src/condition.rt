@@ -1,8 +1,8 @@
 //! Reading conditions: comparisons between `&&`, and conditions in parentheses, which become part of the one list.
 
 ghost use Rattle.std.specs.Prelude.{◌≡◌, ◌++◌, ◌≤◌, drop, length, map, IfOk};
-ghost use Rattle.affc_draft.specs.Drafts.{compare, ix};
-ghost use Rattle.affc_draft.specs.Symbols.{seen};
+ghost use Rattle.affc_syntax.specs.draft.Drafts.{compare, ix};
+ghost use Rattle.affc_syntax.specs.draft.Symbols.{seen};
 ghost use Rattle.affc_grammar.specs.Draft as d;
 ghost use Rattle.affc_grammar.specs.Reading as grammar;
 ghost use Rattle.affc_syntax.specs.CondReading as reading;
@@ -12,11 +12,11 @@ ghost use Rattle.affc_syntax.specs.Readers as readers;
 ghost use Rattle.affc_syntax.specs.Readers.{Gives};
 
 use crate::ahead::{Answer, Stop, behind, counted, past_mark, past_relation};
+use crate::draft::draft::{CompareDraft, IxDraft};
+use crate::draft::symbol::Symbol;
 use crate::expression::{expression, factors, grouped, number_of_first, terms};
 use affc_ast::Items;
 use affc_ast::tree::Rel;
-use affc_draft::draft::{CompareDraft, IxDraft};
-use affc_draft::symbol::Symbol;
 use std::alloc::{AllocError, Global};
 
 /// What is read before it is known whether conditions or an expression stands in parentheses.

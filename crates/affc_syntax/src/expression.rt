@@ -1,11 +1,11 @@
 //! Reading whole-number expressions. `room` is how many brackets may still be opened, `next` is the number of the next token.
 
 ghost use Rattle.std.specs.Prelude.{◌≡◌, ◌-◌, ◌≤◌, drop, length, map, IfOk};
-ghost use Rattle.affc_draft.specs.Drafts as drafts;
-ghost use Rattle.affc_draft.specs.Drafts.{ix};
+ghost use Rattle.affc_syntax.specs.draft.Drafts as drafts;
+ghost use Rattle.affc_syntax.specs.draft.Drafts.{ix};
 ghost use Rattle.affc_grammar.specs.Draft as d;
 ghost use Rattle.affc_grammar.specs.Reading as grammar;
-ghost use Rattle.affc_draft.specs.Symbols.{seen};
+ghost use Rattle.affc_syntax.specs.draft.Symbols.{seen};
 ghost use Rattle.affc_syntax.specs.IxReading as reading;
 ghost use Rattle.affc_syntax.specs.Readers as readers;
 ghost use Rattle.affc_syntax.specs.Readers.{Gives};
@@ -15,10 +15,10 @@ use crate::ahead::{
     Answer, Callee, Stop, behind, callee_of, counted, past_divisor, past_mark, past_number,
     past_sign, past_word,
 };
+use crate::draft::draft::{Choice, IxDraft, Rounding};
+use crate::draft::symbol::Symbol;
 use affc_ast::text::Text;
 use affc_ast::{Boxed, Items};
-use affc_draft::draft::{Choice, IxDraft, Rounding};
-use affc_draft::symbol::Symbol;
 use std::alloc::{AllocError, Global};
 
 /// The number of the first of the tokens that are left.
@@ -30,7 +30,7 @@ pub fn number_of_first(symbols: &[Symbol<'_>], next: usize) -> usize
     symbols.len() - left
 }
 
-#[tactic(auto, using(affc_draft::proofs::Outs::ix_made))]
+#[tactic(auto, using(crate::proofs::draft::Outs::ix_made))]
 fn name(alloc: Global, at: usize, word: &str) -> Result<IxDraft, AllocError>
     ensures { IfOk result (λ a. ix a ≡ d.name at word.now) }
 {
@@ -46,7 +46,7 @@ fn closed(mark: &[u8], a: IxDraft, symbols: &[Symbol<'_>], next: usize) -> Answe
     Ok((a, next))
 }
 
-#[tactic(auto, using(affc_draft::proofs::Outs::ix_made))]
+#[tactic(auto, using(crate::proofs::draft::Outs::ix_made))]
 fn joined(alloc: Global, is_plus: bool, a: IxDraft, b: IxDraft) -> Result<IxDraft, AllocError>
     ensures { IfOk result (λ c. ix c ≡ reading.joined is_plus (ix a) (ix b)) }
 {
@@ -59,7 +59,7 @@ fn joined(alloc: Global, is_plus: bool, a: IxDraft, b: IxDraft) -> Result<IxDraf
     }
 }
 
-#[tactic(auto, using(affc_draft::proofs::Outs::ix_made))]
+#[tactic(auto, using(crate::proofs::draft::Outs::ix_made))]
 fn product(alloc: Global, at: usize, a: IxDraft, b: IxDraft) -> Result<IxDraft, AllocError>
     ensures { IfOk result (λ c. ix c ≡ d.product at (ix a) (ix b)) }
 {
@@ -68,7 +68,7 @@ fn product(alloc: Global, at: usize, a: IxDraft, b: IxDraft) -> Result<IxDraft, 
     Ok(IxDraft::Product { at, left, right })
 }
 
-#[tactic(auto, using(affc_draft::proofs::Outs::ix_made))]
+#[tactic(auto, using(crate::proofs::draft::Outs::ix_made))]
 fn chosen(
     alloc: Global,
     at: usize,
@@ -88,7 +88,7 @@ fn chosen(
     })
 }
 
-#[tactic(auto, using(affc_draft::proofs::Outs::ix_made))]
+#[tactic(auto, using(crate::proofs::draft::Outs::ix_made))]
 fn divided(
     alloc: Global,
     at: usize,
@@ -109,7 +109,7 @@ fn divided(
     })
 }
 
-#[tactic(auto, using(affc_draft::proofs::Outs::ix_made))]
+#[tactic(auto, using(crate::proofs::draft::Outs::ix_made))]
 pub(crate) fn grouped(alloc: Global, at: usize, a: IxDraft) -> Result<IxDraft, AllocError>
     ensures { IfOk result (λ c. ix c ≡ d.grouped at (ix a)) }
 {
@@ -117,7 +117,7 @@ pub(crate) fn grouped(alloc: Global, at: usize, a: IxDraft) -> Result<IxDraft, A
     Ok(IxDraft::Grouped { at, inside })
 }
 
-#[tactic(auto, using(affc_draft::proofs::Outs::ix_made))]
+#[tactic(auto, using(crate::proofs::draft::Outs::ix_made))]
 fn negated(alloc: Global, at: usize, a: IxDraft) -> Result<IxDraft, AllocError>
     ensures { IfOk result (λ c. ix c ≡ d.negated at (ix a)) }
 {

@@ -2,8 +2,8 @@
 //! number behind the last token is answered as that of the end.
 
 ghost use Rattle.std.specs.Prelude.{drop, length, map};
-ghost use Rattle.affc_draft.specs.Drafts.{compare, ix, value};
-ghost use Rattle.affc_draft.specs.Symbols.{seen};
+ghost use Rattle.affc_syntax.specs.draft.Drafts.{compare, ix, value};
+ghost use Rattle.affc_syntax.specs.draft.Symbols.{seen};
 ghost use Rattle.affc_syntax.specs.CondReading as conds;
 ghost use Rattle.affc_syntax.specs.IxReading as reading;
 ghost use Rattle.affc_syntax.specs.Readers as readers;
@@ -11,10 +11,10 @@ ghost use Rattle.affc_syntax.specs.Readers.{Gives};
 ghost use Rattle.affc_syntax.specs.ValueReading as values;
 
 use crate::ahead::{Answer, counted};
+use crate::draft::draft::{CompareDraft, IxDraft, ValueDraft};
+use crate::draft::symbol::Symbol;
 use crate::{condition, expression, value};
 use affc_ast::Items;
-use affc_draft::draft::{CompareDraft, IxDraft, ValueDraft};
-use affc_draft::symbol::Symbol;
 use std::alloc::Global;
 
 /// The expression that stands here.

@@ -3,6 +3,7 @@
 
 pub mod ahead;
 pub mod condition;
+pub mod draft;
 pub mod expression;
 pub mod here;
 pub mod value;

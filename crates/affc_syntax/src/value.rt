@@ -1,8 +1,8 @@
 //! Reading values: levels of operators over names, constants, casts and what stands in parentheses.
 
 ghost use Rattle.std.specs.Prelude.{◌≡◌, ◌-◌, ◌+◌, ◌≤◌, drop, length, map, IfOk, Ok};
-ghost use Rattle.affc_draft.specs.Drafts.{ix, value};
-ghost use Rattle.affc_draft.specs.Symbols.{seen};
+ghost use Rattle.affc_syntax.specs.draft.Drafts.{ix, value};
+ghost use Rattle.affc_syntax.specs.draft.Symbols.{seen};
 ghost use Rattle.affc_grammar.specs.Draft as d;
 ghost use Rattle.affc_grammar.specs.Reading as grammar;
 ghost use Rattle.affc_syntax.specs.Readers as readers;
@@ -14,12 +14,12 @@ use crate::ahead::{
     Answer, Stop, behind, counted, past_constant, past_mark, past_operation, past_places,
     past_shift, past_word,
 };
+use crate::draft::draft::{IxDraft, ValueDraft};
+use crate::draft::symbol::{Symbol, is};
 use crate::expression::{dims, inside, number_of_first};
 use affc_ast::Boxed;
 use affc_ast::text::Text;
 use affc_ast::tree::Op;
-use affc_draft::draft::{IxDraft, ValueDraft};
-use affc_draft::symbol::{Symbol, is};
 use std::alloc::{AllocError, Global};
 
 /// The highest level of operators, that of `|`.
@@ -90,7 +90,7 @@ fn is_type_word(first: usize, at: usize, word: &str, subs: &[IxDraft]) -> bool
 }
 
 /// Whether a value is `uint64_t` alone, as the token of this number.
-#[tactic(auto, using(affc_draft::proofs::Outs::value_outs))]
+#[tactic(auto, using(crate::proofs::draft::Outs::value_outs))]
 fn is_type_at(first: usize, v: &ValueDraft) -> bool
     ensures { result ≡ reading.is_type_at first (value v.now) }
 {

@@ -1,11 +1,11 @@
 //! What no clause says: that the calls succeed with ample memory, for numbers of any size.
 use affc_ast::text::Text;
 use affc_ast::{Boxed, Items};
-use affc_draft::draft::{IxDraft, StmtDraft, TextDraft, ValueDraft, WordDraft};
-use affc_draft::passed::Passed;
 use affc_grammar::fault::LimitName;
 use affc_limits::limits::limit_fault;
 use affc_limits::texts::first_product;
+use affc_syntax::draft::draft::{IxDraft, StmtDraft, TextDraft, ValueDraft, WordDraft};
+use affc_syntax::draft::passed::Passed;
 use std::alloc::{AllocError, Global};
 use std::test::Fail;
 

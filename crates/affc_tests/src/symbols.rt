@@ -1,7 +1,7 @@
 //! Tokens from their texts.
 
-use affc_draft::symbol::Symbol;
 use affc_lex::token::Kind;
+use affc_syntax::draft::symbol::Symbol;
 
 pub(crate) fn word<'t>(text: &'t str) -> Symbol<'t> {
     Symbol {

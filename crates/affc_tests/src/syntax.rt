@@ -5,11 +5,11 @@ ghost use Rattle.affc_lex.specs.Bytes.{decimal};
 
 use crate::symbols::{mark, word};
 use affc_ast::tree::Op;
-use affc_draft::draft::ValueDraft;
-use affc_draft::symbol::Symbol;
 use affc_lex::token::Kind;
 use affc_syntax::ahead::Stop;
 use affc_syntax::condition::read_conds;
+use affc_syntax::draft::draft::ValueDraft;
+use affc_syntax::draft::symbol::Symbol;
 use affc_syntax::expression::{read_dims, read_expression, read_inside};
 use affc_syntax::value::read_value;
 use std::alloc::Global;

@@ -1,9 +1,9 @@
 //! Texts whose drafts are known from outside.
 
 use crate::symbols::{mark, word};
-use affc_draft::symbol::Symbol;
 use affc_lex::token::Kind;
 use affc_syntax::ahead::Stop;
+use affc_syntax::draft::symbol::Symbol;
 use affc_text::read_text;
 use std::alloc::Global;
 

@@ -27,10 +27,10 @@ use Rattle.affc_grammar.specs.Grammar.{text_symbols}
 use Rattle.affc_grammar.proofs.Closed.{same_ok, same_at}
 use Rattle.affc_grammar.proofs.Texts.{text_spelled}
 use Rattle.affc_grammar.proofs.Rules.{text_rule}
-use Rattle.affc_draft.specs.declared.draft.TextDraft.{TextDraft}
-use Rattle.affc_draft.specs.Drafts as drafts
-use Rattle.affc_draft.specs.declared.symbol.Symbol as code
-use Rattle.affc_draft.specs.Symbols.{seen}
+use Rattle.affc_syntax.specs.draft.declared.draft.TextDraft.{TextDraft}
+use Rattle.affc_syntax.specs.draft.Drafts as drafts
+use Rattle.affc_syntax.specs.draft.declared.symbol.Symbol as code
+use Rattle.affc_syntax.specs.draft.Symbols.{seen}
 use Rattle.affc_syntax.specs.declared.ahead.Stop.TheVariants as s
 use Rattle.affc_text.specs.Answers.{IsRead}
 use Rattle.affc_text.specs.Parts.{Inside, no_inside, Function, Lines, no_lines}

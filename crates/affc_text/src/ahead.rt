@@ -4,8 +4,8 @@ ghost use Rattle.std.specs.Prelude.{◌≡◌, ◌-◌, drop, length, map, None,
 ghost use Rattle.affc_lex.specs.Bytes as bytes;
 ghost use Rattle.affc_grammar.specs.Draft as d;
 ghost use Rattle.affc_grammar.specs.Reading as tests;
-ghost use Rattle.affc_draft.specs.Drafts.{word};
-ghost use Rattle.affc_draft.specs.Symbols.{seen};
+ghost use Rattle.affc_syntax.specs.draft.Drafts.{word};
+ghost use Rattle.affc_syntax.specs.draft.Symbols.{seen};
 ghost use Rattle.affc_syntax.specs.Ahead as ahead;
 ghost use Rattle.affc_syntax.specs.Readers.{Gives};
 ghost use Rattle.affc_syntax.specs.declared.ahead.Stop.TheVariants as stop;
@@ -14,11 +14,11 @@ ghost use Rattle.affc_text.specs.Parts.{first_seen};
 
 use affc_ast::text::Text;
 use affc_ast::tree::{Op, Rel};
-use affc_draft::draft::WordDraft;
-use affc_draft::symbol::{Symbol, is_mark_kind, is_word_kind};
 use affc_lex::prelude::PRELUDE;
 use affc_lex::token::Kind;
 use affc_syntax::ahead::{Answer, Stop, first, past_mark, past_word};
+use affc_syntax::draft::draft::WordDraft;
+use affc_syntax::draft::symbol::{Symbol, is_mark_kind, is_word_kind};
 use affc_syntax::expression::number_of_first;
 use std::alloc::{AllocError, Global};
 

@@ -1,9 +1,9 @@
 //! Reading the function. `room` is how many brackets may still be opened, `next` is the number of the next token.
 
 ghost use Rattle.std.specs.Prelude.{◌≡◌, [], drop, length, map};
-ghost use Rattle.affc_draft.specs.Drafts as drafts;
-ghost use Rattle.affc_draft.specs.Drafts.{decl, param as param_seen, word};
-ghost use Rattle.affc_draft.specs.Symbols.{seen};
+ghost use Rattle.affc_syntax.specs.draft.Drafts as drafts;
+ghost use Rattle.affc_syntax.specs.draft.Drafts.{decl, param as param_seen, word};
+ghost use Rattle.affc_syntax.specs.draft.Symbols.{seen};
 ghost use Rattle.affc_syntax.specs.Readers.{Gives};
 ghost use Rattle.affc_text.specs.Parts as parts;
 ghost use Rattle.affc_text.specs.Parts.{first_seen, inside_seen, function_seen};
@@ -15,9 +15,9 @@ use crate::ahead::{
 use crate::statement::{is_none, statement};
 use affc_ast::Items;
 use affc_ast::tree::Role;
-use affc_draft::draft::{DeclDraft, ParamDraft, StmtDraft, WordDraft};
-use affc_draft::symbol::Symbol;
 use affc_syntax::ahead::{Answer, Stop, behind, past_mark, past_word};
+use affc_syntax::draft::draft::{DeclDraft, ParamDraft, StmtDraft, WordDraft};
+use affc_syntax::draft::symbol::Symbol;
 use affc_syntax::here::{dims_here, inside_here};
 use std::alloc::Global;
 

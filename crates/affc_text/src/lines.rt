@@ -1,8 +1,8 @@
 //! Reading the lines before the function. `room` is how many brackets may still be opened, `next` is the number of the next token.
 
 ghost use Rattle.std.specs.Prelude.{◌≡◌, [], drop, length, map};
-ghost use Rattle.affc_draft.specs.Drafts.{pragma};
-ghost use Rattle.affc_draft.specs.Symbols.{seen};
+ghost use Rattle.affc_syntax.specs.draft.Drafts.{pragma};
+ghost use Rattle.affc_syntax.specs.draft.Symbols.{seen};
 ghost use Rattle.affc_grammar.specs.Grammar as grammar;
 ghost use Rattle.affc_syntax.specs.Readers.{Gives};
 ghost use Rattle.affc_text.specs.Calls as calls;
@@ -12,9 +12,9 @@ ghost use Rattle.affc_text.specs.TextReading as reading;
 
 use crate::ahead::{behind_line, behind_word, named, number_before, past_hash, past_this_word};
 use affc_ast::Items;
-use affc_draft::draft::PragmaDraft;
-use affc_draft::symbol::{Symbol, is, is_mark_kind, is_word_kind};
 use affc_syntax::ahead::{Answer, Stop, first, past_mark, past_number};
+use affc_syntax::draft::draft::PragmaDraft;
+use affc_syntax::draft::symbol::{Symbol, is, is_mark_kind, is_word_kind};
 use affc_syntax::expression::number_of_first;
 use affc_syntax::here::conditions_here;
 use std::alloc::Global;

@@ -2,8 +2,8 @@
 
 ghost use Rattle.std.specs.Prelude.{◌≡◌, ◌++◌, ◌∷◌, [], drop, length, map, IfOk};
 ghost use Rattle.std.specs.Option.{option_map};
-ghost use Rattle.affc_draft.specs.Drafts.{compare, ix, stmt, word};
-ghost use Rattle.affc_draft.specs.Symbols.{seen};
+ghost use Rattle.affc_syntax.specs.draft.Drafts.{compare, ix, stmt, word};
+ghost use Rattle.affc_syntax.specs.draft.Symbols.{seen};
 ghost use Rattle.affc_grammar.specs.Draft as d;
 ghost use Rattle.affc_grammar.specs.Reading as grammar;
 ghost use Rattle.affc_syntax.specs.Readers.{Gives};
@@ -16,9 +16,11 @@ use crate::ahead::{
     number_before, past_first, past_this_word,
 };
 use affc_ast::Items;
-use affc_draft::draft::{CompareDraft, HeadDraft, IxDraft, LocalDraft, StmtDraft, WordDraft};
-use affc_draft::symbol::Symbol;
 use affc_syntax::ahead::{Answer, Stop, behind, past_mark};
+use affc_syntax::draft::draft::{
+    CompareDraft, HeadDraft, IxDraft, LocalDraft, StmtDraft, WordDraft,
+};
+use affc_syntax::draft::symbol::Symbol;
 use affc_syntax::here::{conditions_here, dims_here, expression_here, inside_here, value_here};
 use std::alloc::{AllocError, Global};
 
@@ -201,7 +203,7 @@ fn and_one(alloc: Global, heads: Option<Heads>, h: Head) -> Result<Heads, AllocE
 
 // ---- A body under heads
 
-#[tactic(auto, using(affc_draft::proofs::Outs::stmt_made))]
+#[tactic(auto, using(affc_syntax::proofs::draft::Outs::stmt_made))]
 fn with_head(h: Head, body: Items<StmtDraft>) -> StmtDraft
     ensures { stmt result ≡ parts.with_head (head_seen h) (parts.stmts body) }
 {
@@ -581,7 +583,7 @@ fn items(
 
 /// Behind the `{` of a block.
 #[cycle(stmt)]
-#[tactic(auto, unfolding(crate::specs::StmtReading::stmts_inside), using(affc_draft::proofs::Outs::stmt_made))]
+#[tactic(auto, unfolding(crate::specs::StmtReading::stmts_inside), using(affc_syntax::proofs::draft::Outs::stmt_made))]
 fn block_inside(
     alloc: Global,
     prelude: bool,

@@ -1,8 +1,8 @@
 //! Reading a whole text.
 
 ghost use Rattle.std.specs.Prelude.{◌≡◌, [], drop, length, map};
-ghost use Rattle.affc_draft.specs.Drafts as drafts;
-ghost use Rattle.affc_draft.specs.Symbols.{seen};
+ghost use Rattle.affc_syntax.specs.draft.Drafts as drafts;
+ghost use Rattle.affc_syntax.specs.draft.Symbols.{seen};
 ghost use Rattle.affc_syntax.specs.Readers.{Gives};
 ghost use Rattle.affc_text.specs.Answers.{IsRead};
 ghost use Rattle.affc_text.specs.Parts.{lines_seen, function_seen};
@@ -11,9 +11,9 @@ ghost use Rattle.affc_text.specs.TextReading as reading;
 use crate::ahead::{behind_hash, behind_header, behind_line, behind_word, past_prelude};
 use crate::function::{Function, read_function};
 use crate::lines::{Lines, read_lines};
-use affc_draft::draft::TextDraft;
-use affc_draft::symbol::Symbol;
 use affc_syntax::ahead::{Answer, Stop, first};
+use affc_syntax::draft::draft::TextDraft;
+use affc_syntax::draft::symbol::Symbol;
 use affc_syntax::expression::number_of_first;
 use std::alloc::Global;
 

@@ -1,6 +1,6 @@
 use Rattle.std.proofs.Common.{◌≡◌, ◌∷◌, map, rules}
 use Rattle.std.specs.Vec.Iter.{into_iter_items}
-use Rattle.affc_certfold.specs.Drafts.{draft_entry}
+use Rattle.affc_certvalue.specs.fold.Drafts.{draft_entry}
 use Rattle.affc_cert.proofs.Broken.{step_broken}
 use Rattle.affc_cert.proofs.json.multiply.Goals as goal
 

@@ -1,7 +1,7 @@
 use Rattle.std.proofs.Common.{◌≡◌, ◌++◌, map}
 use Rattle.std.specs.Vec.Iter.{into_iter_items}
-use Rattle.affc_certfold.specs.Drafts.{draft_entry}
-use Rattle.affc_certfold.specs.Entries.{entry_of}
+use Rattle.affc_certvalue.specs.fold.Drafts.{draft_entry}
+use Rattle.affc_certvalue.specs.fold.Entries.{entry_of}
 use Rattle.affc_cert.proofs.json.multiply.Given as goal
 
 abbrev pub invariant-loop-draft : goal.invariant-loop-draft

@@ -1,7 +1,7 @@
 use Rattle.std.proofs.Common.{◌≡◌, map, take}
 use Rattle.serde_json.specs.View.{view}
-use Rattle.affc_certproof.specs.Values.{proof_value}
-use Rattle.affc_certproof.specs.Proofs.{steps_of}
+use Rattle.affc_certvalue.specs.proof.Values.{proof_value}
+use Rattle.affc_certvalue.specs.proof.Proofs.{steps_of}
 use Rattle.affc_cert.proofs.json.proofs_to_value.Given as goal
 
 abbrev pub invariant-loop-proof : goal.invariant-loop-proof

@@ -1,6 +1,6 @@
 use Rattle.std.proofs.Common.{◌≡◌, map, take}
 use Rattle.serde_json.specs.View.{view}
-use Rattle.affc_certtree.specs.Values.{tree_value}
+use Rattle.affc_cert.specs.tree.Values.{tree_value}
 use Rattle.affc_quast.specs.Seen as quast
 use Rattle.affc_cert.proofs.json.trees_to_value.Given as goal
 

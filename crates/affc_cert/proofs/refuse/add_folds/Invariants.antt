@@ -1,6 +1,6 @@
 use Rattle.std.proofs.Common.{◌≡◌, ◌≤◌, ◌++◌, length, drop}
 use Rattle.serde_json.specs.View.{items_view}
-use Rattle.affc_certfold.specs.Folds.{fold}
+use Rattle.affc_certvalue.specs.fold.Folds.{fold}
 use Rattle.affc_cert.specs.Refusals.{each_by}
 use Rattle.affc_cert.proofs.refuse.add_folds.Given as goal
 

@@ -1,6 +1,6 @@
 use Rattle.std.proofs.Common.{ap, ◌∙◌}
 use Rattle.serde_json.specs.View.{view}
-use Rattle.affc_certproof.specs.Verdicts.{proof}
+use Rattle.affc_certvalue.specs.proof.Verdicts.{proof}
 use Rattle.affc_cert.proofs.Tops.{each_kept}
 use Rattle.affc_cert.proofs.refuse.add_proofs.Goals as goal
 

@@ -1,6 +1,6 @@
 use Rattle.std.proofs.Common.{◌≡◌, ◌++◌, take}
 use Rattle.serde_json.specs.View.{items_view}
-use Rattle.affc_certproof.specs.Verdicts.{proof}
+use Rattle.affc_certvalue.specs.proof.Verdicts.{proof}
 use Rattle.affc_cert.specs.Refusals.{each}
 use Rattle.affc_cert.proofs.refuse.add_proofs.Given as goal
 

@@ -1,6 +1,6 @@
 use Rattle.std.proofs.Common.{◌≡◌, ◌≤◌, ◌++◌, length, drop}
 use Rattle.serde_json.specs.View.{items_view}
-use Rattle.affc_certtree.specs.Trees.{tree}
+use Rattle.affc_cert.specs.tree.Trees.{tree}
 use Rattle.affc_cert.specs.Refusals.{each_by}
 use Rattle.affc_cert.proofs.refuse.add_trees.Given as goal
 

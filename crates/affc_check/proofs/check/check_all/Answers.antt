@@ -2,11 +2,11 @@ use Rattle.std.proofs.Common.{flat_map, map, refl, sym, subst}
 use Rattle.std.proofs.lemmas.Result.{err_from_is_err_and}
 use Rattle.affc_quast.specs.Seen.{trees_of}
 use Rattle.affc_check.specs.Answers.{FailsAtQuestion, FailsAtPoint}
-use Rattle.affc_items.specs.Held.{listed_said}
+use Rattle.affc_check.specs.list.Held.{listed_said}
 use Rattle.affc_check.specs.Made.{AreMade, AreFoldsFit}
 use Rattle.affc_check.specs.Valid.{AreValid}
-use Rattle.affc_items.specs.Walks.{clash_systems, folds_shown, AreFoldsAsked}
-use Rattle.affc_items.proofs.ListingLemmas.{folds_asked, are_items}
+use Rattle.affc_check.specs.list.Walks.{clash_systems, folds_shown, AreFoldsAsked}
+use Rattle.affc_check.proofs.list.ListingLemmas.{folds_asked, are_items}
 use Rattle.affc_check.proofs.MadeLemmas.{made_asked, all_made}
 use Rattle.affc_check.proofs.Words.{folds_fit}
 use Rattle.affc_check.proofs.check.check_all.Goals as goal

@@ -1,7 +1,7 @@
 use Rattle.std.proofs.Common.{map, subst}
 use Rattle.affc_behind.specs.Blocks.{block_questions}
 use Rattle.affc_behind.specs.Steps.{IsStep}
-use Rattle.affc_items.specs.Items.{Question}
+use Rattle.affc_check.specs.list.Items.{Question}
 use Rattle.affc_check.specs.Steps.{Leaves}
 use Rattle.affc_check.proofs.CheckLemmas.{block_within, block_fails, questions_leave}
 use Rattle.affc_check.proofs.checks.block_holds.Goals as goal

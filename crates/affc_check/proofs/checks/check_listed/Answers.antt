@@ -1,7 +1,7 @@
 use Rattle.std.proofs.Common.{◌≡◌, ◌+◌, ℕ, Some, length, flat_map, refl, sym, ap, subst, ◌∙◌}
 use Rattle.std.specs.Prelude.{slice_get}
-use Rattle.affc_items.specs.Held.{listed_said}
-use Rattle.affc_items.specs.Items.{Question, Shown}
+use Rattle.affc_check.specs.list.Held.{listed_said}
+use Rattle.affc_check.specs.list.Items.{Question, Shown}
 use Rattle.affc_check.specs.Steps.{IsHolding, IsUnproved, IsUnmet, Leaves}
 use Rattle.affc_check.specs.Valid.{FailsFirst}
 use Rattle.affc_check.specs.declared.fault.CheckFault.TheVariants as fault

@@ -1,7 +1,7 @@
 use Rattle.std.proofs.Common.{◌≡◌, ℕ, ◌+◌, Some, flat_map, drop}
 use Rattle.std.specs.Prelude.{slice_get}
-use Rattle.affc_items.specs.Held.{listed_said}
-use Rattle.affc_items.specs.Items.{Item}
+use Rattle.affc_check.specs.list.Held.{listed_said}
+use Rattle.affc_check.specs.list.Items.{Item}
 use Rattle.affc_check.specs.Valid.{AreValid, FailsFirst}
 use Rattle.affc_check.proofs.checks.check_listed.Given as goal
 

@@ -1,7 +1,7 @@
 use Rattle.std.proofs.Common.{◌≡◌, ℕ, ◌+◌, ◌-◌, length, map, sym, ap, subst, arith, ◌∙◌}
 use Rattle.affc_behind.specs.Blocks.{block_questions}
-use Rattle.affc_items.specs.Held.{listed_said}
-use Rattle.affc_items.specs.Items.{Question}
+use Rattle.affc_check.specs.list.Held.{listed_said}
+use Rattle.affc_check.specs.list.Items.{Question}
 use Rattle.affc_check.specs.Steps.{Leaves}
 use Rattle.affc_check.proofs.CheckLemmas.{proofs_taken}
 use Rattle.affc_check.proofs.checks.count.Goals as goal

@@ -1,8 +1,8 @@
 use Rattle.std.proofs.Common.{◌-◌, length, map, take, drop, refl, ap, subst, ◌∙◌}
 use Rattle.affc_sched.proofs.AnsweredLemmas.{front_is}
 use Rattle.affc_check.specs.Laws.{IsFoldShown}
-use Rattle.affc_items.specs.Walks.{clash_systems, fold_shown, folds_shown}
-use Rattle.affc_items.proofs.ListingLemmas.{none_below}
+use Rattle.affc_check.specs.list.Walks.{clash_systems, fold_shown, folds_shown}
+use Rattle.affc_check.proofs.list.ListingLemmas.{none_below}
 use Rattle.affc_check.proofs.MadeLemmas.{nothing_made, next_made}
 use Rattle.affc_check.proofs.made.+add_made.Goals as goal
 

@@ -3,8 +3,8 @@ use Rattle.std.specs.List.{All}
 use Rattle.affc_rows.specs.Forms.{Affine, value, values_of}
 use Rattle.affc_system.specs.Pairs.{IsSubscript}
 use Rattle.affc_certvalue.specs.Limits.{IsWord}
-use Rattle.affc_items.specs.Items.{is_behind}
-use Rattle.affc_items.proofs.FoldLemmas.{elements_along}
+use Rattle.affc_check.specs.list.Items.{is_behind}
+use Rattle.affc_check.proofs.list.FoldLemmas.{elements_along}
 use Rattle.affc_check.proofs.MadeLemmas.{behind_pair, ahead_pair}
 use Rattle.affc_check.proofs.made.elements.Goals as goal
 

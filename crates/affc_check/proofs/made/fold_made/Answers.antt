@@ -1,8 +1,8 @@
 use Rattle.std.proofs.Common.{◌++◌, length, map, sym, ap, ◌∙◌}
 use Rattle.affc_domain.proofs.Lists.{length_map}
-use Rattle.affc_items.specs.Certs.{modulus_said}
-use Rattle.affc_items.specs.Items.{moduli_of}
-use Rattle.affc_items.specs.Walks.{clash_systems}
+use Rattle.affc_check.specs.list.Certs.{modulus_said}
+use Rattle.affc_check.specs.list.Items.{moduli_of}
+use Rattle.affc_check.specs.list.Walks.{clash_systems}
 use Rattle.affc_check.proofs.MadeLemmas.{as_many}
 use Rattle.affc_check.proofs.made.fold_made.Goals as goal
 

@@ -4,9 +4,9 @@ use Rattle.std.specs.Int.{w64}
 use Rattle.std.proofs.lemmas.Int.{to_z-of_z}
 use Rattle.affc_life.specs.Products.{found_system}
 use Rattle.affc_questions.specs.Asked.{IsAlong}
-use Rattle.affc_items.specs.Items.{numbered}
-use Rattle.affc_items.specs.Walks.{clash_systems}
-use Rattle.affc_items.proofs.ShownLemmas.{each_numbered}
+use Rattle.affc_check.specs.list.Items.{numbered}
+use Rattle.affc_check.specs.list.Walks.{clash_systems}
+use Rattle.affc_check.proofs.list.ShownLemmas.{each_numbered}
 use Rattle.affc_check.proofs.made.pair_said.Goals as goal
 
 pub elements-requires-clause-along : goal.elements-requires-clause-along

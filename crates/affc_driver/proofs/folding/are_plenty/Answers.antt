@@ -1,5 +1,5 @@
 use Rattle.std.proofs.Common.{◌<◌, ◌^◌, ◌∙◌, ap₂, leb, arith}
-use Rattle.affc_threshold.specs.Thresholds.{threshold}
+use Rattle.affc_bounds.specs.threshold.Thresholds.{threshold}
 use Rattle.affc_driver.proofs.Counted.{stopped_reaches}
 use Rattle.affc_driver.proofs.folding.are_plenty.Goals as goal
 

@@ -1,5 +1,5 @@
 use Rattle.std.proofs.Common.{◌∙◌, sym, ap}
-use Rattle.affc_threshold.specs.Thresholds.{threshold}
+use Rattle.affc_bounds.specs.threshold.Thresholds.{threshold}
 use Rattle.affc_driver.specs.Accounts.{reaches}
 use Rattle.affc_driver.proofs.folding.is_plenty.Goals as goal
 

@@ -1,5 +1,5 @@
 use Rattle.std.proofs.Common.{take, arith}
-use Rattle.affc_maximum.proofs.Laters.{then_later}
+use Rattle.affc_split.proofs.maximum.Laters.{then_later}
 use Rattle.affc_folds.proofs.KeptLemmas.{next_kept}
 use Rattle.affc_folds.proofs.systems.all_kept.Goals as goal
 

@@ -1,6 +1,6 @@
 use Rattle.std.proofs.Common.{◌+◌, ◌-◌, ◌^◌, min, map, refl, ap, fold, ◌∙◌}
 use Rattle.affc_grammar.specs.Limits.{assigned}
-use Rattle.affc_draft.specs.Drafts.{stmt, stmts_of}
+use Rattle.affc_syntax.specs.draft.Drafts.{stmt, stmts_of}
 use Rattle.affc_limits.specs.Assignments.{count_one}
 use Rattle.affc_limits.proofs.AssignmentLaws.{counted_is, of_for, of_if, of_block}
 use Rattle.affc_limits.proofs.assignments.+statements.Goals as goal

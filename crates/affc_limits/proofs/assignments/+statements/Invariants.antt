@@ -1,5 +1,5 @@
 use Rattle.std.proofs.Common.{◌≡◌, map, drop, fold}
-use Rattle.affc_draft.specs.Drafts.{stmt}
+use Rattle.affc_syntax.specs.draft.Drafts.{stmt}
 use Rattle.affc_limits.specs.Assignments.{count_in}
 use Rattle.affc_limits.proofs.assignments.+statements.Given as goal
 

@@ -1,5 +1,5 @@
 use Rattle.std.proofs.Common.{map, refl, ap, ◌∙◌}
-use Rattle.affc_draft.specs.Drafts.{stmt}
+use Rattle.affc_syntax.specs.draft.Drafts.{stmt}
 use Rattle.affc_limits.specs.Bodies.{under_if, under_for, all_bodies}
 use Rattle.affc_limits.proofs.BodyLaws.{inside_is, of_for, of_if, of_block, of_all}
 use Rattle.affc_limits.proofs.bodies.+statements.Goals as goal

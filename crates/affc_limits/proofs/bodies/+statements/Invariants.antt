@@ -1,5 +1,5 @@
 use Rattle.std.proofs.Common.{◌≡◌, map, drop}
-use Rattle.affc_draft.specs.Drafts.{stmt}
+use Rattle.affc_syntax.specs.draft.Drafts.{stmt}
 use Rattle.affc_limits.specs.Bodies.{on_with, no_bodies}
 use Rattle.affc_limits.proofs.bodies.+statements.Given as goal
 

@@ -1,6 +1,6 @@
 use Rattle.std.proofs.Common.{◌≡◌, ◌≤◌}
-use Rattle.affc_draft.proofs.Nodes.{nodes}
-use Rattle.affc_draft.specs.Drafts.{ix}
+use Rattle.affc_syntax.proofs.draft.Nodes.{nodes}
+use Rattle.affc_syntax.specs.draft.Drafts.{ix}
 use Rattle.affc_limits.specs.Places.{closed, products}
 use Rattle.affc_limits.proofs.forms.+products.Given as goal
 

@@ -3,8 +3,8 @@ use Rattle.std.specs.Option.{option_map}
 use Rattle.affc_grammar.specs.declared.fault.LimitName.TheVariants.{Parameters, Range, Loops, Statements, Empty, Accesses, Dimensions, Comparisons, Literal, Coefficient}
 use Rattle.affc_grammar.specs.Limits as l
 use Rattle.affc_grammar.specs.Limits.{passed_at, limits_of}
-use Rattle.affc_draft.specs.Symbols.{passed_seen}
-use Rattle.affc_draft.specs.Drafts.{text, decl, param, pragma, stmt, stmts_of}
+use Rattle.affc_syntax.specs.draft.Symbols.{passed_seen}
+use Rattle.affc_syntax.specs.draft.Drafts.{text, decl, param, pragma, stmt, stmts_of}
 use Rattle.affc_limits.specs.Places.{least}
 use Rattle.affc_limits.specs.Assignments.{count_one, no_tally}
 use Rattle.affc_limits.specs.Bodies.{all_bodies}

@@ -1,6 +1,6 @@
 use Rattle.std.proofs.Common.{map, None, ◌∙◌}
 use Rattle.affc_grammar.specs.Limits.{param_decls}
-use Rattle.affc_draft.specs.Drafts.{param}
+use Rattle.affc_syntax.specs.draft.Drafts.{param}
 use Rattle.affc_limits.specs.Lines.{with_array}
 use Rattle.affc_limits.proofs.LineLaws.{passed_all, arrays_are, decls_are}
 use Rattle.affc_limits.proofs.lines.arrays_past.Goals as goal

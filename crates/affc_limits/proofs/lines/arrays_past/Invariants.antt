@@ -1,5 +1,5 @@
 use Rattle.std.proofs.Common.{◌≡◌, map, drop, fold, None}
-use Rattle.affc_draft.specs.Drafts.{param}
+use Rattle.affc_syntax.specs.draft.Drafts.{param}
 use Rattle.affc_limits.specs.Lines.{with_array}
 use Rattle.affc_limits.proofs.lines.arrays_past.Given as goal
 

@@ -1,5 +1,5 @@
 use Rattle.std.proofs.Common.{map, None, refl, ap, ◌∙◌}
-use Rattle.affc_draft.specs.Drafts.{pragma}
+use Rattle.affc_syntax.specs.draft.Drafts.{pragma}
 use Rattle.affc_limits.specs.Rests.{rest_of}
 use Rattle.affc_limits.specs.Lines.{with_context}
 use Rattle.affc_limits.proofs.LineLaws.{passed_all, contexts_are}

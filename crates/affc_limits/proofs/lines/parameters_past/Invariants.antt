@@ -1,5 +1,5 @@
 use Rattle.std.proofs.Common.{◌≡◌, map, drop, fold}
-use Rattle.affc_draft.specs.Drafts.{param}
+use Rattle.affc_syntax.specs.draft.Drafts.{param}
 use Rattle.affc_limits.specs.Rests.{rest_of}
 use Rattle.affc_limits.specs.Lines.{with_param}
 use Rattle.affc_limits.proofs.lines.parameters_past.Given as goal

@@ -1,5 +1,5 @@
 use Rattle.std.proofs.Common.{map, None, ◌∙◌}
-use Rattle.affc_draft.specs.Drafts.{pragma}
+use Rattle.affc_syntax.specs.draft.Drafts.{pragma}
 use Rattle.affc_limits.specs.Lines.{with_range}
 use Rattle.affc_limits.proofs.LineLaws.{passed_all, ranges_are}
 use Rattle.affc_limits.proofs.lines.ranges_past.Goals as goal

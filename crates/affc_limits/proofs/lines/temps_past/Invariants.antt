@@ -1,5 +1,5 @@
 use Rattle.std.proofs.Common.{◌≡◌, map, drop, fold, None}
-use Rattle.affc_draft.specs.Drafts.{decl}
+use Rattle.affc_syntax.specs.draft.Drafts.{decl}
 use Rattle.affc_limits.specs.Lines.{with_decl}
 use Rattle.affc_limits.proofs.lines.temps_past.Given as goal
 

@@ -1,7 +1,7 @@
 use Rattle.std.proofs.Common.{refl, ap, subst, ◌∙◌}
 use Rattle.affc_grammar.specs.Draft as d
 use Rattle.affc_grammar.specs.Limits.{is_large}
-use Rattle.affc_draft.specs.Drafts.{ix, choice}
+use Rattle.affc_syntax.specs.draft.Drafts.{ix, choice}
 use Rattle.affc_limits.specs.Parts.{IsForm}
 use Rattle.affc_limits.specs.Places.{lesser, place_if}
 use Rattle.affc_limits.proofs.PartLaws.{past-grouped, past-chosen, of_grouped, of_chosen}

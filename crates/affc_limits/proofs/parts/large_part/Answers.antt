@@ -1,5 +1,5 @@
 use Rattle.std.proofs.Common.{◌≡◌, true, is_some, sym, ap, ◌∙◌}
-use Rattle.affc_draft.specs.Drafts.{ix}
+use Rattle.affc_syntax.specs.draft.Drafts.{ix}
 use Rattle.affc_limits.specs.Parts.{is_found_by, least_token}
 use Rattle.affc_limits.specs.Places.{lesser}
 use Rattle.affc_limits.proofs.PartLaws.{lesser-none, none_before, none_large}

@@ -1,7 +1,7 @@
 use Rattle.std.proofs.Common.{ap, sym, ◌∙◌}
 use Rattle.affc_grammar.specs.Limits.{least}
 use Rattle.affc_limits.specs.Shape.{passed_from, nothing, counts_behind}
-use Rattle.affc_draft.specs.Symbols.{seen}
+use Rattle.affc_syntax.specs.draft.Symbols.{seen}
 use Rattle.std.proofs.Common.{map}
 use Rattle.affc_limits.proofs.Counting.{turn, stop, grows}
 use Rattle.affc_limits.proofs.shape.shape_fault.Goals as goal

@@ -1,5 +1,5 @@
 use Rattle.std.proofs.Common.{◌≡◌, ◌≤◌, map, drop}
-use Rattle.affc_draft.specs.Symbols.{seen}
+use Rattle.affc_syntax.specs.draft.Symbols.{seen}
 use Rattle.affc_limits.specs.Shape.{passed_from, nothing}
 use Rattle.affc_limits.proofs.shape.shape_fault.Given as goal
 

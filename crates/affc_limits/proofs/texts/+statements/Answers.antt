@@ -1,6 +1,6 @@
 use Rattle.std.proofs.Common.{◌≡◌, map, flat_map, sym, ap, subst, IfOk, ◌∙◌}
 use Rattle.affc_grammar.specs.Limits.{sides, stmt_texts, stmts_texts, value_texts}
-use Rattle.affc_draft.specs.Drafts.{compare, ix, local, stmt, stmts_of, value}
+use Rattle.affc_syntax.specs.draft.Drafts.{compare, ix, local, stmt, stmts_of, value}
 use Rattle.affc_limits.specs.Texts.{with_found}
 use Rattle.affc_limits.proofs.TextLaws.{gathered, texts_of, of_for, of_if, of_assign, of_block}
 use Rattle.affc_limits.proofs.texts.+statements.Goals as goal

@@ -1,6 +1,6 @@
 use Rattle.std.proofs.Common.{◌≡◌, map, drop, fold}
 use Rattle.affc_grammar.specs.Limits.{stmt_texts}
-use Rattle.affc_draft.specs.Drafts.{stmt}
+use Rattle.affc_syntax.specs.draft.Drafts.{stmt}
 use Rattle.affc_limits.specs.Texts.{step}
 use Rattle.affc_limits.proofs.texts.+statements.Given as goal
 

@@ -1,5 +1,5 @@
 use Rattle.affc_grammar.specs.Limits.{sides}
-use Rattle.affc_draft.specs.Drafts.{compare}
+use Rattle.affc_syntax.specs.draft.Drafts.{compare}
 use Rattle.affc_limits.proofs.TextLaws.{gathered}
 use Rattle.affc_limits.proofs.texts.in_conds.Goals as goal
 

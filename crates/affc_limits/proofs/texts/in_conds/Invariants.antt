@@ -1,6 +1,6 @@
 use Rattle.std.proofs.Common.{◌≡◌, map, drop, fold}
 use Rattle.affc_grammar.specs.Limits.{sides}
-use Rattle.affc_draft.specs.Drafts.{compare}
+use Rattle.affc_syntax.specs.draft.Drafts.{compare}
 use Rattle.affc_limits.specs.Texts.{step}
 use Rattle.affc_limits.proofs.texts.in_conds.Given as goal
 

@@ -1,5 +1,5 @@
 use Rattle.affc_grammar.specs.Draft as d
-use Rattle.affc_draft.specs.Drafts.{decl}
+use Rattle.affc_syntax.specs.draft.Drafts.{decl}
 use Rattle.affc_limits.proofs.TextLaws.{gathered}
 use Rattle.affc_limits.proofs.texts.in_decls.Goals as goal
 

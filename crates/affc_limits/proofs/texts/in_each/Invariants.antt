@@ -1,6 +1,6 @@
 use Rattle.std.proofs.Common.{◌≡◌, [], ◌∷◌, map, drop, fold}
 use Rattle.affc_grammar.specs.Draft as d
-use Rattle.affc_draft.specs.Drafts.{ix}
+use Rattle.affc_syntax.specs.draft.Drafts.{ix}
 use Rattle.affc_limits.specs.Texts.{step}
 use Rattle.affc_limits.proofs.texts.in_each.Given as goal
 

@@ -1,6 +1,6 @@
 use Rattle.std.proofs.Common.{[], ◌∷◌, map, ap, ◌∙◌}
 use Rattle.affc_grammar.specs.Draft as d
-use Rattle.affc_draft.specs.Drafts.{local}
+use Rattle.affc_syntax.specs.draft.Drafts.{local}
 use Rattle.affc_limits.specs.Texts.{with_found}
 use Rattle.affc_limits.proofs.TextLaws.{gathered, singles}
 use Rattle.affc_limits.proofs.texts.in_locals.Goals as goal

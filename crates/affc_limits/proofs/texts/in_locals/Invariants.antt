@@ -1,6 +1,6 @@
 use Rattle.std.proofs.Common.{◌≡◌, [], ◌∷◌, map, drop, fold}
 use Rattle.affc_grammar.specs.Draft as d
-use Rattle.affc_draft.specs.Drafts.{local}
+use Rattle.affc_syntax.specs.draft.Drafts.{local}
 use Rattle.affc_limits.specs.Texts.{step}
 use Rattle.affc_limits.proofs.texts.in_locals.Given as goal
 

@@ -1,5 +1,5 @@
 use Rattle.affc_grammar.specs.Limits.{param_texts}
-use Rattle.affc_draft.specs.Drafts.{param}
+use Rattle.affc_syntax.specs.draft.Drafts.{param}
 use Rattle.affc_limits.proofs.TextLaws.{gathered}
 use Rattle.affc_limits.proofs.texts.in_params.Goals as goal
 

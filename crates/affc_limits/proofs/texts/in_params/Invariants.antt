@@ -1,6 +1,6 @@
 use Rattle.std.proofs.Common.{◌≡◌, map, drop, fold}
 use Rattle.affc_grammar.specs.Limits.{param_texts}
-use Rattle.affc_draft.specs.Drafts.{param}
+use Rattle.affc_syntax.specs.draft.Drafts.{param}
 use Rattle.affc_limits.specs.Texts.{step}
 use Rattle.affc_limits.proofs.texts.in_params.Given as goal
 

@@ -1,5 +1,5 @@
 use Rattle.affc_grammar.specs.Limits.{pragma_texts}
-use Rattle.affc_draft.specs.Drafts.{pragma}
+use Rattle.affc_syntax.specs.draft.Drafts.{pragma}
 use Rattle.affc_limits.proofs.TextLaws.{gathered}
 use Rattle.affc_limits.proofs.texts.in_pragmas.Goals as goal
 

@@ -1,7 +1,7 @@
 use Rattle.std.proofs.Common.{None, map, flat_map, ap, ◌∙◌}
 use Rattle.affc_grammar.specs.Draft as d
 use Rattle.affc_grammar.specs.Limits.{param_texts, pragma_texts, stmts_texts}
-use Rattle.affc_draft.specs.Drafts.{decl, param, pragma, stmt, stmts_of}
+use Rattle.affc_syntax.specs.draft.Drafts.{decl, param, pragma, stmt, stmts_of}
 use Rattle.affc_limits.specs.Texts.{with_found}
 use Rattle.affc_limits.proofs.TextLaws.{whole_text}
 use Rattle.affc_limits.proofs.texts.in_text.Goals as goal

@@ -1,6 +1,6 @@
 use Rattle.std.proofs.Common.{◌≤◌, length, arith, rules}
 use Rattle.std.specs.Prelude.{IsTrue}
-use Rattle.affc_maximum.proofs.Laters.{then_later}
+use Rattle.affc_split.proofs.maximum.Laters.{then_later}
 use Rattle.affc_moduli.proofs.Lifted.{comparable_at, below_more, below_all}
 use Rattle.affc_moduli.proofs.enough.all_below.Goals as goal
 

@@ -1,5 +1,5 @@
 use Rattle.affc_split.specs.Budgets.{IsLater}
-use Rattle.affc_maximum.specs.Searches.{AreBoundedBefore}
+use Rattle.affc_split.specs.maximum.Searches.{AreBoundedBefore}
 use Rattle.affc_moduli.specs.Shown.{IsSought}
 use Rattle.affc_moduli.proofs.extremes.farthest.Given as goal
 

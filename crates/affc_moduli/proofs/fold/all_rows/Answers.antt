@@ -2,7 +2,7 @@ use Rattle.std.proofs.Common.{◌≡◌, ◌∙◌, ◌+◌, ◌∷◌, ◌++◌
 use Rattle.std.specs.Prelude.{slice_get, Some}
 use Rattle.std.proofs.lemmas.List.{length-append}
 use Rattle.std.proofs.lemmas.Option.{slice_get_read}
-use Rattle.affc_maximum.proofs.Laters.{then_later}
+use Rattle.affc_split.proofs.maximum.Laters.{then_later}
 use Rattle.affc_moduli.specs.Slices.{AreSlices}
 use Rattle.affc_moduli.specs.Reduced.{AreReduced}
 use Rattle.affc_moduli.specs.Rows.{AreKept, AreMarkedOr}

@@ -1,4 +1,4 @@
-use Rattle.affc_maximum.proofs.Laters.{then_later}
+use Rattle.affc_split.proofs.maximum.Laters.{then_later}
 use Rattle.affc_moduli.proofs.forms.first_suited.Goals as goal
 
 pub returns-then-branch-clause-later : goal.returns-then-branch-clause-later

@@ -6,7 +6,7 @@ use Rattle.std.proofs.lemmas.Int.{ints, to_z-of_z, fits_signed_from_abs}
 use Rattle.std.proofs.lemmas.Option.{same_Some, slice_get_read, slice_get_within}
 use Rattle.affc_rows.specs.Forms.{Affine, value, values_of}
 use Rattle.affc_system.specs.declared.pairs.PairSystem.{PairSystem}
-use Rattle.affc_differences.specs.Differences.{apart}
+use Rattle.affc_conflicts.specs.differences.Differences.{apart}
 use Rattle.affc_basis.specs.declared.fold.Mark.{Mark}
 use Rattle.affc_basis.specs.declared.fold.Mark.TheVariants.{Least}
 use Rattle.affc_moduli.proofs.Rows.{number}

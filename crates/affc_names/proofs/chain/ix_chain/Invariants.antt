@@ -1,7 +1,7 @@
 use Rattle.std.proofs.Common.{◌≡◌, reverse, fold}
-use Rattle.affc_draft.specs.Drafts.{ix}
+use Rattle.affc_syntax.specs.draft.Drafts.{ix}
 use Rattle.affc_names.specs.Chains.{with_step}
-use Rattle.affc_draft.proofs.Nodes.{nodes}
+use Rattle.affc_syntax.proofs.draft.Nodes.{nodes}
 use Rattle.affc_names.proofs.chain.ix_chain.Given as goal
 
 abbrev pub invariant-loop-left : goal.invariant-loop-left

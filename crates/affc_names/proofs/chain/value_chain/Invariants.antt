@@ -1,7 +1,7 @@
 use Rattle.std.proofs.Common.{◌≡◌, reverse, fold}
-use Rattle.affc_draft.specs.Drafts.{value}
+use Rattle.affc_syntax.specs.draft.Drafts.{value}
 use Rattle.affc_names.specs.Chains.{with_value_step}
-use Rattle.affc_draft.proofs.Nodes.{value_nodes}
+use Rattle.affc_syntax.proofs.draft.Nodes.{value_nodes}
 use Rattle.affc_names.proofs.chain.value_chain.Given as goal
 
 abbrev pub invariant-loop-left : goal.invariant-loop-left

@@ -1,7 +1,7 @@
 use Rattle.std.proofs.Common.{fold, sym, ap, ◌∙◌, arith}
 use Rattle.std.proofs.lemmas.Result.{err_from_is_err_and}
 use Rattle.affc_grammar.specs.Names as names
-use Rattle.affc_draft.specs.Drafts.{ix}
+use Rattle.affc_syntax.specs.draft.Drafts.{ix}
 use Rattle.affc_names.specs.Chains.{with_step, step_tree}
 use Rattle.affc_names.specs.Stored as stored
 use Rattle.affc_names.proofs.Chains.{ix_starts, ix_first_fails, ix_first_smaller, ix_step_smaller, stops}

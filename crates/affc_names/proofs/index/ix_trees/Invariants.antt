@@ -1,6 +1,6 @@
 use Rattle.std.proofs.Common.{◌≡◌, Ok, map, take}
 use Rattle.affc_grammar.specs.Names as names
-use Rattle.affc_draft.specs.Drafts as drafts
+use Rattle.affc_syntax.specs.draft.Drafts as drafts
 use Rattle.affc_names.specs.Stored as stored
 use Rattle.affc_names.proofs.index.ix_trees.Given as goal
 

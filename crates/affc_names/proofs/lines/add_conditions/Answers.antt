@@ -2,7 +2,7 @@ use Rattle.std.proofs.Common.{List, subst, sym, ap, ◌∙◌}
 use Rattle.std.proofs.lemmas.Result.{err_from_is_err_and}
 use Rattle.affc_ast.specs.declared.tree.Compare.{Compare}
 use Rattle.affc_grammar.specs.Names.{why_ranged, thing_of}
-use Rattle.affc_draft.specs.Drafts as seen
+use Rattle.affc_syntax.specs.draft.Drafts as seen
 use Rattle.affc_names.specs.Gives.{Fails}
 use Rattle.affc_names.specs.Ranges.{texts, line_tree}
 use Rattle.affc_names.specs.Stored as stored

@@ -1,4 +1,4 @@
-use Rattle.affc_draft.specs.Drafts as seen
+use Rattle.affc_syntax.specs.draft.Drafts as seen
 use Rattle.affc_names.proofs.Params.{last_from}
 use Rattle.affc_names.proofs.program.last_of_each.Goals as goal
 

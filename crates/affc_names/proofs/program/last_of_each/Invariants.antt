@@ -1,7 +1,7 @@
 use Rattle.std.proofs.Common.{◌≡◌, ◌≤◌, length, map, drop}
 use Rattle.affc_grammar.specs.Grammar.{Name}
 use Rattle.affc_grammar.specs.Names.{thing_of}
-use Rattle.affc_draft.specs.Drafts as seen
+use Rattle.affc_syntax.specs.draft.Drafts as seen
 use Rattle.affc_names.specs.Kinds.{kind_of}
 use Rattle.affc_names.proofs.Params.{kinds_in}
 use Rattle.affc_names.proofs.program.last_of_each.Given as goal

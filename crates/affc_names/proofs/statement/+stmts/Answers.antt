@@ -3,7 +3,7 @@ use Rattle.std.proofs.lemmas.List.{length-map}
 use Rattle.std.proofs.lemmas.Result.{err_from_is_err_and}
 use Rattle.affc_grammar.specs.Draft as d
 use Rattle.affc_grammar.specs.Names as names
-use Rattle.affc_draft.specs.Drafts as seen
+use Rattle.affc_syntax.specs.draft.Drafts as seen
 use Rattle.affc_names.specs.Stored as stored
 use Rattle.affc_names.specs.Gives.{Gives, Fails}
 use Rattle.affc_names.proofs.Statements.{for_is, if_is, block_is, lighter, stmts_turn, stmts_stops, locals_forgotten, answered_stmts}

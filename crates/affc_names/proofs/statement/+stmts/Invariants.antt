@@ -1,6 +1,6 @@
 use Rattle.std.proofs.Common.{◌≡◌, ◌+◌, ◌*◌, Ok, map, take}
 use Rattle.affc_grammar.specs.Names as names
-use Rattle.affc_draft.specs.Drafts as seen
+use Rattle.affc_syntax.specs.draft.Drafts as seen
 use Rattle.affc_names.specs.Stored as stored
 use Rattle.affc_names.proofs.Statements.{weight, weights}
 use Rattle.affc_names.proofs.statement.+stmts.Given as goal

@@ -1,5 +1,5 @@
 use Rattle.std.proofs.lemmas.Result.{err_from_is_err_and}
-use Rattle.affc_draft.specs.Drafts as seen
+use Rattle.affc_syntax.specs.draft.Drafts as seen
 use Rattle.affc_names.specs.Stored as stored
 use Rattle.affc_names.proofs.Statements.{tested_refused, high_refused, stepped_refused}
 use Rattle.affc_names.proofs.statement.bounds.Goals as goal

@@ -1,7 +1,7 @@
 use Rattle.std.proofs.Common.{fold, sym, ap, ◌∙◌, arith}
 use Rattle.std.proofs.lemmas.Result.{err_from_is_err_and}
 use Rattle.affc_grammar.specs.Names as names
-use Rattle.affc_draft.specs.Drafts.{value}
+use Rattle.affc_syntax.specs.draft.Drafts.{value}
 use Rattle.affc_names.specs.Chains.{with_value_step, value_step_tree}
 use Rattle.affc_names.specs.Stored as stored
 use Rattle.affc_names.proofs.Chains.{value_starts, value_first_fails, value_step_smaller, stops}

@@ -1,9 +1,9 @@
 use Rattle.std.proofs.Common.{◌≡◌, ◌+◌, ◌*◌, Ok, drop}
 use Rattle.affc_grammar.specs.Names as names
-use Rattle.affc_draft.specs.Drafts as seen
+use Rattle.affc_syntax.specs.draft.Drafts as seen
 use Rattle.affc_names.specs.Chains.{value_step_tree}
 use Rattle.affc_names.specs.Stored as stored
-use Rattle.affc_draft.proofs.Nodes.{value_nodes}
+use Rattle.affc_syntax.proofs.draft.Nodes.{value_nodes}
 use Rattle.affc_names.proofs.Chains.{step_nodes, followed}
 use Rattle.affc_names.proofs.value.+value.Given as goal
 

@@ -1,5 +1,5 @@
 use Rattle.std.proofs.Common.{◌≡◌, map}
-use Rattle.affc_draft.specs.Symbols.{seen}
+use Rattle.affc_syntax.specs.draft.Symbols.{seen}
 use Rattle.affc_grammar.specs.Reads.{has_prelude}
 use Rattle.affc_parse.proofs.Places.{prelude_from}
 use Rattle.affc_parse.proofs.place.has_prelude.Given as goal

@@ -1,6 +1,6 @@
 use Rattle.std.proofs.Common.{Err}
 use Rattle.affc_lex.specs.Lexes.{lexemes}
-use Rattle.affc_draft.specs.Drafts as drafts
+use Rattle.affc_syntax.specs.draft.Drafts as drafts
 use Rattle.affc_parse.proofs.Joined.{product_answer}
 use Rattle.affc_parse.proofs.program.affine.Goals as goal
 

@@ -1,6 +1,6 @@
 use Rattle.std.proofs.Common.{Err, length, map, subst}
 use Rattle.affc_lex.specs.Lexes.{lexemes}
-use Rattle.affc_draft.specs.Symbols.{seen}
+use Rattle.affc_syntax.specs.draft.Symbols.{seen}
 use Rattle.affc_text.specs.Answers.{IsRead}
 use Rattle.affc_parse.proofs.Joined.{text_written, text_stops, not_deep}
 use Rattle.affc_parse.proofs.program.draft_of.Goals as goal

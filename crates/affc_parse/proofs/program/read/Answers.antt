@@ -1,6 +1,6 @@
 use Rattle.std.proofs.Common.{map}
 use Rattle.affc_lex.specs.Lexes.{lexemes}
-use Rattle.affc_draft.specs.Symbols.{seen}
+use Rattle.affc_syntax.specs.draft.Symbols.{seen}
 use Rattle.affc_grammar.specs.Limits.{limits_of}
 use Rattle.affc_parse.proofs.Joined.{shape_right, shape_wrong, limits_same, room_is_enough}
 use Rattle.affc_parse.proofs.program.read.Goals as goal

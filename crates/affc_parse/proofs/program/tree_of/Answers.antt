@@ -1,6 +1,6 @@
 use Rattle.std.proofs.Common.{Err, sym, subst, ap, ◌∙◌}
 use Rattle.affc_lex.specs.Lexes.{lexemes}
-use Rattle.affc_draft.specs.Drafts as drafts
+use Rattle.affc_syntax.specs.draft.Drafts as drafts
 use Rattle.affc_grammar.specs.Reads.{place_of}
 use Rattle.affc_names.specs.Answers.{Answers as Named}
 use Rattle.affc_parse.specs.Answers.{Answers}

@@ -1,8 +1,8 @@
 use Rattle.std.proofs.Common.{◌≡◌, subst}
 use Rattle.affc_lex.specs.Lexes.{lexemes}
 use Rattle.std.specs.Option.{option_map}
-use Rattle.affc_draft.specs.Drafts as drafts
-use Rattle.affc_draft.specs.Symbols.{passed_seen}
+use Rattle.affc_syntax.specs.draft.Drafts as drafts
+use Rattle.affc_syntax.specs.draft.Symbols.{passed_seen}
 use Rattle.affc_grammar.specs.Limits.{limits_of, least, passed}
 use Rattle.affc_parse.proofs.Joined.{tree_answer, limit_answer}
 use Rattle.affc_parse.proofs.program.within_limits.Goals as goal

@@ -1,6 +1,6 @@
 use Rattle.std.proofs.Common.{sym, ap, ◌∙◌}
 use Rattle.affc_lex.specs.Bytes.{decimal}
-use Rattle.affc_draft.specs.Numbers.{number_of}
+use Rattle.affc_syntax.specs.draft.Numbers.{number_of}
 use Rattle.affc_parse.specs.Shown.{are_bytes}
 use Rattle.affc_parse.proofs.Digits.{value_parts, digits_taken}
 use Rattle.affc_parse.proofs.symbols.value_of.Goals as goal

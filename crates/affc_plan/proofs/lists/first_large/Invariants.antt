@@ -1,5 +1,5 @@
 use Rattle.std.proofs.Common.{◌≡◌, map, drop}
-use Rattle.affc_draft.specs.Drafts.{ix}
+use Rattle.affc_syntax.specs.draft.Drafts.{ix}
 use Rattle.affc_schedtext.specs.Rules.{large_forms}
 use Rattle.affc_plan.specs.Lines.{head}
 use Rattle.affc_plan.specs.Seen.{columns_seen}

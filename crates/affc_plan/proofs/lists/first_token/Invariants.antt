@@ -1,6 +1,6 @@
 use Rattle.std.proofs.Common.{◌≡◌}
-use Rattle.affc_draft.proofs.Nodes.{nodes}
-use Rattle.affc_draft.specs.Drafts.{ix}
+use Rattle.affc_syntax.proofs.draft.Nodes.{nodes}
+use Rattle.affc_syntax.specs.draft.Drafts.{ix}
 use Rattle.affc_grammar.specs.Limits.{first_token}
 use Rattle.affc_plan.proofs.lists.first_token.Given as goal
 

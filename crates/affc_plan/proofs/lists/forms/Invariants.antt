@@ -1,5 +1,5 @@
 use Rattle.std.proofs.Common.{◌≡◌, ◌++◌, true, map, drop}
-use Rattle.affc_draft.specs.Drafts.{ix}
+use Rattle.affc_syntax.specs.draft.Drafts.{ix}
 use Rattle.affc_schedtext.specs.Rules.{form_over}
 use Rattle.affc_plan.specs.Lists.{are_slight_parts}
 use Rattle.affc_plan.specs.Seen.{columns_seen}

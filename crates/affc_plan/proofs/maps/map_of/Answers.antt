@@ -2,8 +2,8 @@ use Rattle.std.proofs.Common.{◌≤◌, length, map, sym, ap, ◌∙◌, subst,
 use Rattle.std.specs.Prelude.{List, IfNone}
 use Rattle.affc_rows.specs.Forms.{columns_of}
 use Rattle.affc_trace.specs.Inverses.{AreInverse}
-use Rattle.affc_draft.specs.declared.draft.IxDraft.{IxDraft}
-use Rattle.affc_draft.specs.Drafts.{ix}
+use Rattle.affc_syntax.specs.draft.declared.draft.IxDraft.{IxDraft}
+use Rattle.affc_syntax.specs.draft.Drafts.{ix}
 use Rattle.affc_schedtext.specs.Rules.{form_over, statement_sides}
 use Rattle.affc_schedtext.specs.Seen.{line_seen}
 use Rattle.affc_schedtext.proofs.Scheduled.{columns_over}

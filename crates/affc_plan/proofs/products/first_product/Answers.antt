@@ -1,5 +1,5 @@
 use Rattle.std.proofs.Common.{◌≤◌, length, map, ap, ◌∙◌, arith}
-use Rattle.affc_draft.specs.Symbols.{seen}
+use Rattle.affc_syntax.specs.draft.Symbols.{seen}
 use Rattle.affc_plan.specs.Products.{turn, walked, walk_seen, start}
 use Rattle.affc_plan.proofs.ProductTurns.{one_turn, all_turns}
 use Rattle.affc_plan.proofs.products.first_product.Goals as goal

@@ -1,5 +1,5 @@
 use Rattle.std.proofs.Common.{◌≡◌, map, drop}
-use Rattle.affc_draft.specs.Symbols.{seen}
+use Rattle.affc_syntax.specs.draft.Symbols.{seen}
 use Rattle.affc_plan.specs.Products.{walk_seen, walked, start}
 use Rattle.affc_plan.proofs.products.first_product.Given as goal
 

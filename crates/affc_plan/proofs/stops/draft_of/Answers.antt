@@ -1,7 +1,7 @@
 use Rattle.std.proofs.Common.{map, take, inl, subst}
 use Rattle.std.specs.Prelude.{Ok, Err, MatchOption}
 use Rattle.affc_lex.specs.Lexes.{lexemes}
-use Rattle.affc_draft.specs.Symbols.{seen}
+use Rattle.affc_syntax.specs.draft.Symbols.{seen}
 use Rattle.affc_parse.proofs.TokenBytes.{tokens_fit}
 use Rattle.affc_schedtext.specs.Answers.{IsFirstProduct, HasNoProduct}
 use Rattle.affc_schedtext.specs.ReadAnswers.{IsRead}

@@ -1,7 +1,7 @@
 use Rattle.std.proofs.Common.{◌≡◌, true, map, take, ap, ◌∙◌, subst}
 use Rattle.affc_lex.specs.Lexes.{lexemes}
 use Rattle.affc_grammar.specs.Reads.{place_of}
-use Rattle.affc_draft.specs.Symbols.{seen}
+use Rattle.affc_syntax.specs.draft.Symbols.{seen}
 use Rattle.affc_parse.specs.Shown.{shown}
 use Rattle.affc_parse.proofs.TokenBytes.{tokens_fit}
 use Rattle.affc_schedtext.specs.Answers.{IsStop}

@@ -1,7 +1,7 @@
 use Rattle.std.proofs.Common.{length, map, sym, subst}
 use Rattle.std.specs.Prelude.{IfOk, Err}
 use Rattle.std.proofs.lemmas.List.{length-map}
-use Rattle.affc_draft.specs.Symbols.{seen}
+use Rattle.affc_syntax.specs.draft.Symbols.{seen}
 use Rattle.affc_schedtext.specs.ReadAnswers.{IsRead}
 use Rattle.affc_plan.specs.Stages.{IsReach}
 use Rattle.affc_plan.proofs.StopLaws.{read_ok, read_at, reach_of, reach_whole}

@@ -3,7 +3,7 @@ use Rattle.affc_nest.specs.declared.nest.Nest.{Nest}
 use Rattle.affc_loops.specs.Ends.{ends_from}
 use Rattle.affc_loops.specs.Loops.{times_of}
 use Rattle.affc_ends.specs.declared.bounds.Bounds.{Bounds}
-use Rattle.affc_scanned.specs.Scanned.{sides_of}
+use Rattle.affc_ends.specs.scanned.Scanned.{sides_of}
 use Rattle.affc_scan.specs.EndRows.{HaveEndRows}
 use Rattle.affc_scan.specs.Parts.{numbered, piece}
 use Rattle.affc_scan.proofs.Gathering.{bounds_rows, own_long}

@@ -1,5 +1,5 @@
 use Rattle.std.proofs.Common.{length}
-use Rattle.affc_draft.specs.Drafts.{ix}
+use Rattle.affc_syntax.specs.draft.Drafts.{ix}
 use Rattle.affc_schedtext.specs.Seen.{scope_seen}
 use Rattle.affc_schedtext.proofs.Ends.{none_stands, form_gives}
 use Rattle.affc_schedtext.proofs.forms.form.Goals as goal

@@ -1,8 +1,8 @@
 use Rattle.affc_schedtext.specs.Seen.{scope_seen}
 use Rattle.std.proofs.Common.{length, map, codes, sym, ◌∙◌}
 use Rattle.std.proofs.lemmas.Result.{err_from_is_err_and}
-use Rattle.affc_draft.specs.Symbols.{seen}
-use Rattle.affc_draft.specs.Drafts.{ix}
+use Rattle.affc_syntax.specs.draft.Symbols.{seen}
+use Rattle.affc_syntax.specs.draft.Drafts.{ix}
 use Rattle.affc_grammar.specs.Reading.{this_mark}
 use Rattle.affc_syntax.proofs.Readers.{past_shorter, loop_on, loop_end, loop_stop, less_left}
 use Rattle.affc_schedtext.specs.Drafting.{free_more}

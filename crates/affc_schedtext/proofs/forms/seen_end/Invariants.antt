@@ -1,5 +1,5 @@
 use Rattle.std.proofs.Common.{◌≡◌, ◌+◌, ◌-◌, ◌≤◌, length, drop, map}
-use Rattle.affc_draft.specs.Symbols.{seen}
+use Rattle.affc_syntax.specs.draft.Symbols.{seen}
 use Rattle.affc_schedtext.specs.Reading.{seen_front}
 use Rattle.affc_schedtext.specs.Seen.{scope_seen}
 use Rattle.affc_schedtext.proofs.forms.seen_end.Given as goal

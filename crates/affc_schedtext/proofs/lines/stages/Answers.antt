@@ -1,6 +1,6 @@
 use Rattle.std.proofs.Common.{length, drop, map, codes, Ok, ap, sym, ◌∙◌}
 use Rattle.std.proofs.lemmas.Result.{err_from_is_err_and}
-use Rattle.affc_draft.specs.Symbols.{seen}
+use Rattle.affc_syntax.specs.draft.Symbols.{seen}
 use Rattle.affc_grammar.specs.Reader.{going}
 use Rattle.affc_grammar.specs.Reading.{this_mark}
 use Rattle.affc_syntax.proofs.Readers.{past_shorter, less_left}

@@ -1,5 +1,5 @@
 use Rattle.std.proofs.Common.{◌≡◌, ◌-◌, length, drop, map}
-use Rattle.affc_draft.specs.Symbols.{seen}
+use Rattle.affc_syntax.specs.draft.Symbols.{seen}
 use Rattle.affc_schedtext.specs.Drafting as drafting
 use Rattle.affc_schedtext.specs.Seen.{stage_seen}
 use Rattle.affc_schedtext.proofs.lines.stages.Given as goal

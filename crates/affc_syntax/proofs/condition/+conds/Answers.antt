@@ -1,7 +1,7 @@
 use Rattle.std.proofs.Common.{length, drop, map, sym, subst, ◌∙◌, arith}
 use Rattle.std.proofs.lemmas.Result.{err_from_is_err_and}
-use Rattle.affc_draft.specs.Drafts.{compare}
-use Rattle.affc_draft.specs.Symbols.{seen}
+use Rattle.affc_syntax.specs.draft.Drafts.{compare}
+use Rattle.affc_syntax.specs.draft.Symbols.{seen}
 use Rattle.affc_syntax.specs.CondReading.{mixed_seen}
 use Rattle.affc_syntax.specs.Readers.{Gives}
 use Rattle.affc_syntax.proofs.CondReads.{mixed_on, ands_err, ands_on, ands_end, ands_less}

@@ -1,6 +1,6 @@
 use Rattle.std.proofs.Common.{◌≡◌, ◌+◌, ◌*◌, ◌-◌, length, drop, map}
-use Rattle.affc_draft.specs.Symbols.{seen}
-use Rattle.affc_draft.specs.Drafts.{compare}
+use Rattle.affc_syntax.specs.draft.Symbols.{seen}
+use Rattle.affc_syntax.specs.draft.Drafts.{compare}
 use Rattle.affc_syntax.proofs.CondReads.{more}
 use Rattle.affc_syntax.proofs.condition.+conds.Given as goal
 

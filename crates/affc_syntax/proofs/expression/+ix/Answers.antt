@@ -1,6 +1,6 @@
 use Rattle.std.proofs.Common.{length, sym, ◌∙◌}
 use Rattle.std.proofs.lemmas.Result.{err_from_is_err_and}
-use Rattle.affc_draft.specs.Drafts.{ix}
+use Rattle.affc_syntax.specs.draft.Drafts.{ix}
 use Rattle.affc_syntax.proofs.IxReads.{factors_err, factors_on, factors_end, factors_less, terms_err, terms_on, terms_end, terms_less}
 use Rattle.affc_syntax.proofs.expression.+ix.Goals as goal
 

@@ -1,6 +1,6 @@
 use Rattle.std.proofs.Common.{length, map, sym, ◌∙◌}
 use Rattle.std.proofs.lemmas.Result.{err_from_is_err_and}
-use Rattle.affc_draft.specs.Drafts.{ix}
+use Rattle.affc_syntax.specs.draft.Drafts.{ix}
 use Rattle.affc_syntax.proofs.IxReads.{dims_err, dims_on, dims_end, dims_less}
 use Rattle.affc_syntax.proofs.expression.dims.Goals as goal
 

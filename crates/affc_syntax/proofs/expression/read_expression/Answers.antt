@@ -1,6 +1,6 @@
 use Rattle.std.proofs.Common.{map, subst}
-use Rattle.affc_draft.specs.Symbols.{seen}
-use Rattle.affc_draft.specs.Drafts.{ix}
+use Rattle.affc_syntax.specs.draft.Symbols.{seen}
+use Rattle.affc_syntax.specs.draft.Drafts.{ix}
 use Rattle.affc_syntax.specs.Readers.{Gives}
 use Rattle.affc_syntax.proofs.IxExact.{expression_exact}
 use Rattle.affc_syntax.proofs.Readers.{counted_gives}

@@ -1,5 +1,5 @@
 use Rattle.std.proofs.Common.{map}
-use Rattle.affc_draft.specs.Drafts.{ix}
+use Rattle.affc_syntax.specs.draft.Drafts.{ix}
 use Rattle.affc_syntax.proofs.Readers.{counted_gives}
 use Rattle.affc_syntax.proofs.here.dims_here.Goals as goal
 

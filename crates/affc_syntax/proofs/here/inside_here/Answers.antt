@@ -1,4 +1,4 @@
-use Rattle.affc_draft.specs.Drafts.{ix}
+use Rattle.affc_syntax.specs.draft.Drafts.{ix}
 use Rattle.affc_syntax.proofs.Readers.{counted_gives}
 use Rattle.affc_syntax.proofs.here.inside_here.Goals as goal
 

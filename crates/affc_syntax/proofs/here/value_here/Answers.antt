@@ -1,4 +1,4 @@
-use Rattle.affc_draft.specs.Drafts.{value}
+use Rattle.affc_syntax.specs.draft.Drafts.{value}
 use Rattle.affc_syntax.proofs.Readers.{counted_gives}
 use Rattle.affc_syntax.proofs.here.value_here.Goals as goal
 

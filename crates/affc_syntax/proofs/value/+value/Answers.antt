@@ -1,7 +1,7 @@
 use Rattle.std.proofs.Common.{◌-◌, length, drop, map, sym, ◌∙◌, arith}
 use Rattle.std.proofs.lemmas.Result.{err_from_is_err_and}
-use Rattle.affc_draft.specs.Drafts.{value}
-use Rattle.affc_draft.specs.Symbols.{seen}
+use Rattle.affc_syntax.specs.draft.Drafts.{value}
+use Rattle.affc_syntax.specs.draft.Symbols.{seen}
 use Rattle.affc_syntax.specs.ValueReading.{primary, value_inside}
 use Rattle.affc_syntax.proofs.ValueReads.{level_at, level_on, no_shifts, operations_err, operations_on, operations_end, operations_less}
 use Rattle.affc_syntax.proofs.value.+value.Goals as goal

@@ -1,5 +1,5 @@
 use Rattle.std.proofs.Common.{◌≡◌}
-use Rattle.affc_draft.specs.Drafts.{value}
+use Rattle.affc_syntax.specs.draft.Drafts.{value}
 use Rattle.affc_syntax.specs.ValueReading.{complements}
 use Rattle.affc_syntax.proofs.value.complements.Given as goal
 

@@ -1,6 +1,6 @@
 use Rattle.std.proofs.Common.{sym, ◌∙◌}
 use Rattle.std.proofs.lemmas.Result.{err_from_is_err_and}
-use Rattle.affc_draft.specs.Drafts.{value}
+use Rattle.affc_syntax.specs.draft.Drafts.{value}
 use Rattle.affc_syntax.proofs.ValueReads.{shifts_err, shifts_on, shifts_end, shifts_less}
 use Rattle.affc_syntax.proofs.value.more_shifts.Goals as goal
 

@@ -1,6 +1,6 @@
 use Rattle.std.proofs.Common.{map, subst}
-use Rattle.affc_draft.specs.Symbols.{seen}
-use Rattle.affc_draft.specs.Drafts.{value}
+use Rattle.affc_syntax.specs.draft.Symbols.{seen}
+use Rattle.affc_syntax.specs.draft.Drafts.{value}
 use Rattle.affc_syntax.specs.Readers.{Gives}
 use Rattle.affc_syntax.proofs.ValueExact.{value_exact}
 use Rattle.affc_syntax.proofs.Readers.{counted_gives}

@@ -1,6 +1,6 @@
 use Rattle.std.proofs.Common.{drop, map, codes, sym, ◌∙◌, arith}
 use Rattle.affc_grammar.specs.Reading.{this_mark}
-use Rattle.affc_draft.specs.Symbols.{seen}
+use Rattle.affc_syntax.specs.draft.Symbols.{seen}
 use Rattle.affc_syntax.proofs.Readers.{past_shorter}
 use Rattle.affc_syntax.proofs.ValueReads.{tildes_on, tildes_end}
 use Rattle.affc_syntax.proofs.value.tildes.Goals as goal

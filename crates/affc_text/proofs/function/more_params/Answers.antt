@@ -1,7 +1,7 @@
 use Rattle.std.proofs.Common.{length, map, codes, sym, ◌∙◌}
 use Rattle.std.proofs.lemmas.Result.{err_from_is_err_and}
-use Rattle.affc_draft.specs.Symbols.{seen}
-use Rattle.affc_draft.specs.Drafts.{param}
+use Rattle.affc_syntax.specs.draft.Symbols.{seen}
+use Rattle.affc_syntax.specs.draft.Drafts.{param}
 use Rattle.affc_grammar.specs.Reading.{this_mark}
 use Rattle.affc_syntax.proofs.Readers.{past_shorter, loop_on, loop_end, loop_stop, less_left}
 use Rattle.affc_text.specs.TextReading.{param_more}

@@ -1,6 +1,6 @@
 use Rattle.std.proofs.Common.{◌≡◌, ◌-◌, length, drop, map}
-use Rattle.affc_draft.specs.Drafts.{param}
-use Rattle.affc_draft.specs.Symbols.{seen}
+use Rattle.affc_syntax.specs.draft.Drafts.{param}
+use Rattle.affc_syntax.specs.draft.Symbols.{seen}
 use Rattle.affc_text.specs.TextReading as reading
 use Rattle.affc_text.proofs.function.more_params.Given as goal
 

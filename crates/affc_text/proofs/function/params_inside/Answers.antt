@@ -1,6 +1,6 @@
 use Rattle.std.proofs.Common.{◌-◌, length, drop, map, subst, ap, sym, ◌∙◌}
-use Rattle.affc_draft.specs.Symbols.{seen}
-use Rattle.affc_draft.specs.Drafts.{param}
+use Rattle.affc_syntax.specs.draft.Symbols.{seen}
+use Rattle.affc_syntax.specs.draft.Drafts.{param}
 use Rattle.affc_grammar.specs.Reader.{then_read}
 use Rattle.affc_syntax.specs.Readers.{Gives}
 use Rattle.affc_text.specs.TextReading.{param_more, more_params}

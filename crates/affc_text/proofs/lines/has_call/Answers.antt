@@ -1,5 +1,5 @@
 use Rattle.std.proofs.Common.{drop, map, sym, ◌∙◌, arith}
-use Rattle.affc_draft.specs.Symbols.{seen}
+use Rattle.affc_syntax.specs.draft.Symbols.{seen}
 use Rattle.affc_text.proofs.TextReads.{call_here, call_later, no_call_left}
 use Rattle.affc_text.proofs.lines.has_call.Goals as goal
 

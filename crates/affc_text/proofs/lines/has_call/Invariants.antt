@@ -1,5 +1,5 @@
 use Rattle.std.proofs.Common.{◌≡◌, take, drop, map}
-use Rattle.affc_draft.specs.Symbols.{seen}
+use Rattle.affc_syntax.specs.draft.Symbols.{seen}
 use Rattle.affc_grammar.specs.Grammar.{has_call}
 use Rattle.affc_text.specs.TextReading.{taken}
 use Rattle.affc_text.proofs.lines.has_call.Given as goal

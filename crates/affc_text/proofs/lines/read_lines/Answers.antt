@@ -1,6 +1,6 @@
 use Rattle.std.proofs.Common.{length, map, sym, ◌∙◌}
 use Rattle.std.proofs.lemmas.Result.{err_from_is_err_and}
-use Rattle.affc_draft.specs.Symbols.{seen}
+use Rattle.affc_syntax.specs.draft.Symbols.{seen}
 use Rattle.affc_text.specs.Parts.{lines_seen}
 use Rattle.affc_grammar.specs.Reading.{hash}
 use Rattle.affc_syntax.proofs.Readers.{past_shorter, loop_on, loop_end, loop_stop, less_left}

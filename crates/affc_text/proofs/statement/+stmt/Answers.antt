@@ -1,8 +1,8 @@
 use Rattle.std.proofs.Common.{drop, map, Ok, ap, sym, ◌∙◌}
 use Rattle.std.proofs.lemmas.Result.{err_from_is_err_and}
 use Rattle.affc_text.specs.Parts.{first_seen, heads_seen, turn_seen, block_seen, stmts}
-use Rattle.affc_draft.specs.Drafts.{stmt}
-use Rattle.affc_draft.specs.Symbols.{seen}
+use Rattle.affc_syntax.specs.draft.Drafts.{stmt}
+use Rattle.affc_syntax.specs.draft.Symbols.{seen}
 use Rattle.affc_text.proofs.StmtReads.{heads_err, heads_on, heads_done, heads_less, heads_end, stmts_err, stmts_on, stmts_less, stmts_end, items_err, items_on, items_less, items_end}
 use Rattle.affc_text.proofs.statement.+stmt.Goals as goal
 

@@ -1,5 +1,5 @@
 use Rattle.std.proofs.Common.{◌≡◌, ◌+◌, ◌*◌, ◌-◌, length, drop, map}
-use Rattle.affc_draft.specs.Symbols.{seen}
+use Rattle.affc_syntax.specs.draft.Symbols.{seen}
 use Rattle.affc_grammar.specs.Draft as d
 use Rattle.affc_text.specs.Parts as parts
 use Rattle.affc_text.specs.Parts.{heads_seen, block_seen}

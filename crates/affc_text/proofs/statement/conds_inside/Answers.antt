@@ -1,6 +1,6 @@
 use Rattle.std.proofs.Common.{length, drop, map, subst}
-use Rattle.affc_draft.specs.Symbols.{seen}
-use Rattle.affc_draft.specs.Drafts.{compare}
+use Rattle.affc_syntax.specs.draft.Symbols.{seen}
+use Rattle.affc_syntax.specs.draft.Drafts.{compare}
 use Rattle.affc_syntax.specs.Readers.{Gives}
 use Rattle.affc_text.proofs.StmtReads.{conds_inside_on}
 use Rattle.affc_text.proofs.statement.conds_inside.Goals as goal

@@ -1,6 +1,6 @@
 use Rattle.std.proofs.Common.{◌∷◌, [], ap, sym, map, ◌∙◌}
 use Rattle.std.proofs.lemmas.List.{map-append}
-use Rattle.affc_draft.specs.Drafts.{stmt}
+use Rattle.affc_syntax.specs.draft.Drafts.{stmt}
 use Rattle.affc_text.specs.Parts.{head_seen, covered, with_head}
 use Rattle.affc_text.proofs.StmtReads.{covered_last}
 use Rattle.affc_text.proofs.statement.covered.Goals as goal

@@ -1,5 +1,5 @@
 use Rattle.std.proofs.Common.{◌≡◌, length, map}
-use Rattle.affc_draft.specs.Drafts.{stmt}
+use Rattle.affc_syntax.specs.draft.Drafts.{stmt}
 use Rattle.affc_text.specs.Parts as parts
 use Rattle.affc_text.specs.Parts.{head_seen}
 use Rattle.affc_text.proofs.statement.covered.Given as goal

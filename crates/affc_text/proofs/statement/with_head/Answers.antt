@@ -1,5 +1,5 @@
 use Rattle.std.proofs.Common.{ap, sym, ◌∙◌}
-use Rattle.affc_draft.proofs.Outs.{stmt-If}
+use Rattle.affc_syntax.proofs.draft.Outs.{stmt-If}
 use Rattle.affc_text.specs.Parts.{with_head, head_seen, stmts}
 use Rattle.affc_text.proofs.statement.with_head.Goals as goal
 

@@ -1,5 +1,5 @@
 use Rattle.std.proofs.Common.{Err, length, map, sym, subst}
-use Rattle.affc_draft.specs.Symbols.{seen}
+use Rattle.affc_syntax.specs.draft.Symbols.{seen}
 use Rattle.affc_syntax.specs.declared.ahead.Stop.TheVariants as s
 use Rattle.affc_syntax.specs.Readers.{Fails}
 use Rattle.affc_text.specs.Answers.{IsRead}

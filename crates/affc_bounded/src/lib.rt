@@ -1,4 +1,0 @@
-//! What there always is: a projection of each system, bounds of each column, and a scanned program.
-#![tactic(auto)]
-
-pub mod laws;

@@ -1,8 +1,0 @@
-use Rattle.std.proofs.Common.{◌≡◌, map, take}
-use Rattle.serde_json.specs.View.{view}
-use Rattle.affc_certfold.specs.Values.{fold_value}
-use Rattle.affc_certfold.specs.Drafts.{draft_entry}
-use Rattle.affc_certfold.proofs.build.drafts_among.Given as goal
-
-abbrev pub invariant-loop-value : goal.invariant-loop-value
-invariant-loop-value l = map fold_value (map draft_entry l.drafts.items) ≡ map view (take l.value-index l.items)

@@ -1,5 +1,0 @@
-use Rattle.affc_certfold.proofs.Products.{broken_draft}
-use Rattle.affc_certfold.proofs.build.multiplied.Goals as goal
-
-pub returns-in-Err-clause-none : goal.returns-in-Err-clause-none
-returns-in-Err-clause-none c = broken_draft c.args.draft c.in-Err.field-0.component c.in-Err.ensures.broken

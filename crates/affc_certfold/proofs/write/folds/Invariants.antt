@@ -1,8 +1,0 @@
-use Rattle.std.proofs.Common.{◌≡◌, map, take}
-use Rattle.serde_json.specs.View.{view}
-use Rattle.affc_certfold.specs.Values.{fold_value}
-use Rattle.affc_certfold.specs.Entries.{entry_of}
-use Rattle.affc_certfold.proofs.write.folds.Given as goal
-
-abbrev pub invariant-loop-item : goal.invariant-loop-item
-invariant-loop-item l = map view l.values.items ≡ map fold_value (map entry_of (take l.item-index l.folds))

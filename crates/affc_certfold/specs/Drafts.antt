@@ -1,6 +1,0 @@
--- What a fold says whose rows and inverse forms are not yet multiplied.
-use Rattle.affc_certfold.specs.Entries.{FoldEntry, coefs_of}
-use Rattle.affc_certfold.specs.declared.draft.Draft.{Draft}
-
-abbrev pub draft_entry : Draft → FoldEntry
-draft_entry d = record { array = d.array.0; rows = coefs_of d.rows; inverse = coefs_of d.inverse; moduli = d.moduli }

@@ -1,6 +1,0 @@
-use Rattle.std.proofs.Common.{◌≡◌, drop}
-use Rattle.affc_certtree.specs.Trees.{loops_at}
-use Rattle.affc_certtree.proofs.judge.find_loops.Given as goal
-
-abbrev pub invariant-loop-statement : goal.invariant-loop-statement
-invariant-loop-statement l = loops_at l.number (drop l.statement-index l.statements) ≡ loops_at l.number l.statements

@@ -1,0 +1,8 @@
+use Rattle.std.proofs.Common.{◌≡◌, drop}
+use Rattle.serde_json.specs.View.{items_view}
+use Rattle.affc_certvalue.specs.Verdicts.{worse, all_of}
+use Rattle.affc_certvalue.specs.proof.Verdicts.{pair}
+use Rattle.affc_certvalue.proofs.proof.judge.pairs_verdict.Given as goal
+
+abbrev pub invariant-loop-value : goal.invariant-loop-value
+invariant-loop-value l = worse l.worst (all_of pair (items_view (drop l.value-index l.items))) ≡ all_of pair (items_view l.items)

@@ -1,0 +1,35 @@
+use Rattle.std.proofs.Common.{◌≡◌, ◌-◌, ◌++◌, [], replicate, map, drop, ap, ◌∙◌}
+use Rattle.std.proofs.lemmas.Result.{on_ok_weaker}
+use Rattle.affc_quast.specs.Seen.{seen}
+use Rattle.affc_quast.specs.Sources.{loads_in, loads_before}
+use Rattle.affc_life.proofs.SeatedLemmas.{its_place}
+use Rattle.affc_life.proofs.WalkLemmas.{own_loads}
+use Rattle.affc_check.specs.list.Groups.{part_items}
+use Rattle.affc_check.proofs.list.TreeLemmas.{living_entry, dead_entry}
+use Rattle.affc_check.proofs.list.trees.add_reader.Goals as goal
+
+pub returns-then-not-reader : goal.returns-then-not-reader
+returns-then-not-reader c =
+    let old = map part_items c.args.out.now in
+    let loads : c.saturating_sub.result ≡ loads_in c.args.reader.now = c.saturating_sub.ensures ∙ ap (λ n. n - 1) c.len.ensures in
+    on_ok_weaker c.add_none.result (λ h. h ∙ ap (λ s. old ++ s) (ap (λ n. replicate n []) loads ∙ dead_entry c.args.nest.now (map seen c.args.trees.now) c.args.reader.now c.if-not-reader.true)) c.add_none.ensures
+
+pub add_loads-requires-clause-reads : goal.add_loads-requires-clause-reads
+add_loads-requires-clause-reads c = record { there = c.requires.reader; alive = c.if-not-reader.false }
+
+pub add_loads-requires-clause-loads : goal.add_loads-requires-clause-loads
+add_loads-requires-clause-loads c =
+    let own = map seen c.trees_from-own.result.now in
+    let trees = map seen c.args.trees.now in
+    let reader = c.args.reader.now in
+    let is = c.trees_from-own.ensures ∙ ap (λ es. drop (loads_before es reader.statement) trees) c.as_slice.ensures in
+    own_loads c.args.nest.now trees own reader is c.requires.limits (its_place c.args.nest.now c.requires.nested reader (record { there = c.requires.reader; alive = c.if-not-reader.false }))
+
+pub returns : goal.returns
+returns c =
+    let own = map seen c.trees_from-own.result.now in
+    let trees = map seen c.args.trees.now in
+    let reader = c.args.reader.now in
+    let is = c.trees_from-own.ensures ∙ ap (λ es. drop (loads_before es reader.statement) trees) c.as_slice.ensures in
+    on_ok_weaker c.add_loads.result
+    (λ h. h ∙ ap (λ s. map part_items c.args.out.now ++ s) (living_entry c.args.nest.now trees own reader is c.as_slice-accesses.result.now c.as_slice-accesses.ensures c.if-not-reader.false)) c.add_loads.ensures

@@ -1,9 +1,0 @@
-use Rattle.std.proofs.Common.{◌≤◌}
-use Rattle.affc_draft.specs.declared.draft.IxDraft.{size-IxDraft}
-use Rattle.affc_draft.proofs.draft.IxDraft.+drop.Given as goal
-
-abbrev pub decreases-drop : goal.decreases-drop
-decreases-drop l = goal.size-drop l
-
-abbrev pub invariant-loop-self : goal.invariant-loop-self
-invariant-loop-self l = size-IxDraft l.self ≤ size-IxDraft l.fn.self

@@ -1,5 +1,0 @@
-use Rattle.affc_items.proofs.ListingLemmas.{folds_asked}
-use Rattle.affc_items.proofs.all.systems_of.Goals as goal
-
-pub add_systems-requires-clause-folds : goal.add_systems-requires-clause-folds
-add_systems-requires-clause-folds c = folds_asked c.args.nest.now c.args.cert.now c.as_slice.result.now c.requires.certificate c.as_slice.ensures

@@ -1,5 +1,0 @@
-use Rattle.std.proofs.Common.{length}
-use Rattle.affc_items.proofs.bounds.+add_arrays.Given as goal
-
-abbrev pub decreases-add_arrays : goal.decreases-add_arrays
-decreases-add_arrays l = length l.arrays.now

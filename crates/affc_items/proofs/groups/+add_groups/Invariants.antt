@@ -1,5 +1,0 @@
-use Rattle.std.proofs.Common.{length}
-use Rattle.affc_items.proofs.groups.+add_groups.Given as goal
-
-abbrev pub decreases-add_groups : goal.decreases-add_groups
-decreases-add_groups l = length l.groups.now

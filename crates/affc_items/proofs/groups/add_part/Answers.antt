@@ -1,8 +1,0 @@
-use Rattle.std.proofs.Common.{sym, ◌∙◌}
-use Rattle.affc_items.proofs.StopLemmas.{stop_is}
-use Rattle.affc_items.proofs.groups.add_part.Goals as goal
-
-pub returns-in-Err-clause-past : goal.returns-in-Err-clause-past
-returns-in-Err-clause-past c = λ n e.
-    let k = stop_is c.in-Err.stop c.args.part n (sym c.at_part.ensures ∙ e) in
-    (k.0, c.in-Err.ensures.past k.1)

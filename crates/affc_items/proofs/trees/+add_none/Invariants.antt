@@ -1,4 +1,0 @@
-use Rattle.affc_items.proofs.trees.+add_none.Given as goal
-
-abbrev pub decreases-add_none : goal.decreases-add_none
-decreases-add_none l = l.loads

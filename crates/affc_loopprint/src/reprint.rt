@@ -1,0 +1,3 @@
+//! What a text without the prelude gives of the text that is printed of its program.
+
+pub mod laws;

@@ -1,9 +1,0 @@
-use Rattle.std.proofs.Common.{length}
-use Rattle.affc_project.proofs.Ends.{IsRun}
-use Rattle.affc_project.proofs.elimination.eliminated.Given as goal
-
-abbrev pub invariant-columns : goal.invariant-columns
-invariant-columns g l = IsRun l.system.columns l.system.rows l.keep l.left.items l.work.made.items l.work.live.items
-
-abbrev pub decreases-columns : goal.decreases-columns
-decreases-columns g l = length l.left.items

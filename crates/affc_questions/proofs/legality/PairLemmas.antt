@@ -1,0 +1,78 @@
+-- The questions of two accesses.
+use Rattle.std.proofs.Common.{◌≡◌, Bool, true, false, List, [], ◌∷◌, ◌++◌, length, map, flat_map, Vec, refl, sym, ap, subst, ◌∙◌, arith}
+use Rattle.std.specs.Prelude.{nat_eq, if◌then◌else◌}
+use Rattle.std.specs.List.{All}
+use Rattle.std.proofs.lemmas.Bool.{eqb-true}
+use Rattle.affc_system.specs.Systems.{Rows}
+use Rattle.affc_trace.specs.declared.schedule.Schedule.{Schedule}
+use Rattle.affc_nest.specs.declared.nest.Access.{Access}
+use Rattle.affc_nest.specs.declared.nest.Entry.{Entry}
+use Rattle.affc_nest.specs.declared.nest.Nest.{Nest}
+use Rattle.affc_order.specs.Systems.{pair_columns, source_systems, turned_systems}
+use Rattle.affc_sched.specs.Questions.{Question, Touch, touches, may_depend, pair_rows, question, pair_questions, questions_of, questions_to}
+use Rattle.affc_sched.proofs.PairLemmas.{systems_made}
+use Rattle.affc_behind.specs.Parts.{IsWithin}
+use Rattle.affc_behind.specs.Groups.{group_systems}
+use Rattle.affc_behind.specs.declared.group.Group.{Group}
+use Rattle.affc_questions.specs.legality.Added.{AreAdded, NoneDepends}
+use Rattle.affc_questions.specs.legality.Alternatives.{with_orders}
+
+none_of : {X : Type 0} (xs : List X) → length xs ≡ 0 → xs ≡ []
+none_of [] e = refl
+none_of (x ∷ xs) e = absurd (omega (arith, e))
+
+pub no_items : {X Z : Type 0} (v : Vec X Z) (t : Bool) → t ≡ nat_eq v.len 0 → t ≡ true → v.items ≡ []
+no_items v t e f = none_of v.items (omega (arith, v.ok, eqb-true v.len 0 (sym e ∙ f)))
+
+none_behind : {A B C : Type 0} (f : A → B → C) (xs : List A) → flat_map (λ x. map (f x) []) xs ≡ []
+none_behind f [] = refl
+none_behind f (x ∷ xs) = none_behind f xs
+
+module _ (nest : Nest) (schedule : Schedule) (a b : Entry) (x y : Access) where
+  -- no order of the source, or none of the target
+  pub none_earlier : (earlier : List Rows) → earlier ≡ [] → earlier ≡ source_systems nest a.statement b.statement → pair_questions nest a b schedule x y ≡ []
+  none_earlier earlier e s =
+      ap (flat_map (λ o. map (question nest a b (pair_rows nest a b x y) o) (turned_systems nest a.statement b.statement schedule))) (sym s ∙ e)
+
+  pub none_later : (later : List Rows) → later ≡ [] → later ≡ turned_systems nest a.statement b.statement schedule → pair_questions nest a b schedule x y ≡ []
+  none_later later e s =
+      ap (λ us. flat_map (λ o. map (question nest a b (pair_rows nest a b x y) o) us) (source_systems nest a.statement b.statement)) (sym s ∙ e)
+      ∙ none_behind (question nest a b (pair_rows nest a b x y)) (source_systems nest a.statement b.statement)
+
+  -- a group of the orders behind the rows of both
+  pub pair_added : (pair : Rows) (earlier later : List Rows) (old new : List Group) → pair ≡ record { columns = pair_columns nest a.statement b.statement; rows = pair_rows nest a b x y }
+      → earlier ≡ source_systems nest a.statement b.statement → later ≡ turned_systems nest a.statement b.statement schedule
+      → flat_map group_systems new ≡ flat_map group_systems old ++ with_orders pair earlier later → All IsWithin (with_orders pair earlier later) → AreAdded old new (pair_questions nest a b schedule x y)
+  pair_added pair earlier later old new p s t put within =
+      let e : with_orders pair earlier later ≡ map (λ (q : Question). q.system) (pair_questions nest a b schedule x y) =
+      ap (λ us. with_orders pair earlier us) t ∙ ap (λ os. with_orders pair os (turned_systems nest a.statement b.statement schedule)) s ∙ systems_made nest schedule a b x y pair p in
+      record { put = put ∙ ap (λ ss. flat_map group_systems old ++ ss) e; within = subst (All IsWithin) e within }
+
+-- ---- None of all
+
+if_none : (t : Bool) (qs : List Question) → qs ≡ [] → (if t then qs else []) ≡ []
+if_none true qs e = e
+if_none false qs e = refl
+
+none_of_all : (F : Touch → List Question) → ((y : Touch) → F y ≡ []) → (ys : List Touch) → flat_map F ys ≡ []
+none_of_all F h [] = refl
+none_of_all F h (y ∷ ys) = ap (λ qs. qs ++ flat_map F ys) (h y) ∙ none_of_all F h ys
+
+module _ (nest : Nest) (schedule : Schedule) (a : Entry) (x : Touch) (b : Entry) where
+  -- no order of the source, or none of the target
+  pub all_none_earlier : (ys : List Touch) (earlier : List Rows) → earlier ≡ [] → earlier ≡ source_systems nest a.statement b.statement → flat_map (questions_of nest schedule a x b) ys ≡ []
+  all_none_earlier ys earlier e s =
+      none_of_all (questions_of nest schedule a x b) (λ y. if_none (may_depend x y) (pair_questions nest a b schedule x.0 y.0) (none_earlier nest schedule a b x.0 y.0 earlier e s)) ys
+
+  pub all_none_later : (ys : List Touch) (later : List Rows) → later ≡ [] → later ≡ turned_systems nest a.statement b.statement schedule → flat_map (questions_of nest schedule a x b) ys ≡ []
+  all_none_later ys later e s =
+      none_of_all (questions_of nest schedule a x b) (λ y. if_none (may_depend x y) (pair_questions nest a b schedule x.0 y.0) (none_later nest schedule a b x.0 y.0 later e s)) ys
+
+  -- none depends
+  pub no_questions : (ys : List Touch) → NoneDepends x ys → flat_map (questions_of nest schedule a x b) ys ≡ []
+  no_questions [] h = refl
+  no_questions (y ∷ ys) h = ap (λ t. (if t then pair_questions nest a b schedule x.0 y.0 else []) ++ flat_map (questions_of nest schedule a x b) ys) h.0 ∙ no_questions ys h.1
+
+  pub none_to : (accesses : List Access) → accesses ≡ b.accesses → NoneDepends x (touches accesses) → questions_to nest schedule a x b ≡ []
+  none_to accesses e h =
+      if_none b.alive (flat_map (questions_of nest schedule a x b) (touches b.accesses)) (no_questions (touches b.accesses) (subst (λ xs. NoneDepends x (touches xs)) e h))

@@ -1,0 +1,88 @@
+//! Systems of orders as factors behind the rows of two accesses.
+ghost use Rattle.std.specs.Prelude.{◌≡◌, ◌≤◌, ◌++◌, ◌∷◌, [], length, flat_map, IfOk, OnOk};
+ghost use Rattle.std.specs.List.{All};
+ghost use Rattle.affc_behind.specs.Groups.{group_systems};
+ghost use Rattle.affc_behind.specs.Parts.{IsWithin};
+ghost use Rattle.affc_sched.specs.Spreadable.{IsOrder};
+ghost use Rattle.affc_questions.specs.legality.Alternatives.{IsAlternative, rows_of_each, with_orders};
+
+use affc_behind::Group;
+use affc_rows::Form;
+use affc_system::System;
+use sqlite_items::Items;
+use std::alloc::{AllocError, Global};
+
+/// The rows of an order over so many columns.
+fn alternative(alloc: Global, columns: u32, order: &System) -> Result<Items<Form>, AllocError>
+    requires { IsOrder columns order.now }
+    ensures value { IfOk result (λ r. r ≡ order.now.rows) }
+    ensures within { IfOk result (λ r. IsAlternative columns r) }
+{
+    let _ = columns;
+    let rows = order.rows().to_vec(alloc)?;
+    Ok(Items::from_vec(rows))
+}
+
+/// Adds the rows of each of these orders.
+fn add_alternatives(
+    alloc: Global,
+    columns: u32,
+    orders: &[System],
+    out: &mut Items<Items<Form>>,
+) -> Result<(), AllocError>
+    requires { All (IsOrder columns) orders.now }
+    ensures put { OnOk result (out.new ≡ out.old ++ rows_of_each orders.now) }
+    ensures within { OnOk result (All (IsAlternative columns) (rows_of_each orders.now)) }
+{
+    match orders {
+        [] => Ok(()),
+        [order, rest @ ..] => {
+            let rows = alternative(alloc, columns, order)?;
+            out.push(rows)?;
+            add_alternatives(alloc, columns, rest, out)?;
+            Ok(())
+        }
+    }
+}
+
+/// The rows of each of these orders.
+fn alternatives(
+    alloc: Global,
+    columns: u32,
+    orders: &[System],
+) -> Result<Items<Items<Form>>, AllocError>
+    requires { All (IsOrder columns) orders.now }
+    ensures value { IfOk result (λ f. f ≡ rows_of_each orders.now) }
+    ensures within { IfOk result (λ f. All (IsAlternative columns) f) }
+{
+    let mut factor = Items::new(alloc);
+    add_alternatives(alloc, columns, orders, &mut factor)?;
+    Ok(factor)
+}
+
+/// Adds the group of the rows of two accesses, with the orders behind them as its factors.
+pub(crate) fn add_product(
+    alloc: Global,
+    pair: System,
+    earlier: &[System],
+    later: &[System],
+    out: &mut Vec<Group>,
+) -> Result<(), AllocError>
+    requires pair { length pair.rows ≤ 900 }
+    requires earlier { All (IsOrder pair.columns) earlier.now }
+    requires later { All (IsOrder pair.columns) later.now }
+    ensures put { OnOk result (flat_map group_systems out.new.items ≡ flat_map group_systems out.old.items ++ with_orders pair earlier.now later.now) }
+    ensures within { OnOk result (All IsWithin (with_orders pair earlier.now later.now)) }
+{
+    let columns = pair.columns();
+    let mut factors = Items::new(alloc);
+    factors.push(alternatives(alloc, columns, earlier)?)?;
+    factors.push(alternatives(alloc, columns, later)?)?;
+    let front = Items::from_vec(pair.into_rows());
+    out.push(Group {
+        columns,
+        front,
+        factors,
+    })?;
+    Ok(())
+}

@@ -1,4 +1,0 @@
-//! What a text without the prelude gives of the text that is printed of its program.
-#![tactic(auto)]
-
-pub mod laws;

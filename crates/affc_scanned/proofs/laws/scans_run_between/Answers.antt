@@ -1,5 +1,0 @@
-use Rattle.affc_scanned.proofs.ScanLaws as lemma
-use Rattle.affc_scanned.proofs.laws.scans_run_between.Goals as goal
-
-pub returns : goal.returns
-returns c = record { law = lemma.run_between }

@@ -1,8 +1,0 @@
-//! The loops of a schedule's program between ends that are projected from its statements' time sets.
-#![tactic(auto)]
-
-pub mod examples;
-pub mod laws;
-mod scanned;
-
-pub use scanned::{Loose, Scanned};

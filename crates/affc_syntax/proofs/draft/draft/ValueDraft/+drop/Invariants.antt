@@ -1,0 +1,9 @@
+use Rattle.std.proofs.Common.{◌≤◌}
+use Rattle.affc_syntax.specs.draft.declared.draft.ValueDraft.{size-ValueDraft}
+use Rattle.affc_syntax.proofs.draft.draft.ValueDraft.+drop.Given as goal
+
+abbrev pub decreases-drop : goal.decreases-drop
+decreases-drop l = goal.size-drop l
+
+abbrev pub invariant-loop-self : goal.invariant-loop-self
+invariant-loop-self l = size-ValueDraft l.self ≤ size-ValueDraft l.fn.self

@@ -1,5 +1,0 @@
-use Rattle.std.proofs.Common.{length}
-use Rattle.affc_terms.proofs.forms.+and_terms.Given as goal
-
-abbrev pub decreases-and_terms : goal.decreases-and_terms
-decreases-and_terms l = length l.coefs.now

@@ -1,8 +1,0 @@
-use Rattle.affc_threshold.proofs.ExampleProofs.{of_the_blur, of_nothing}
-use Rattle.affc_threshold.proofs.examples.blur.Goals as goal
-
-pub returns-clause-sizes : goal.returns-clause-sizes
-returns-clause-sizes c = of_the_blur
-
-pub returns-clause-nothing : goal.returns-clause-nothing
-returns-clause-nothing c = of_nothing

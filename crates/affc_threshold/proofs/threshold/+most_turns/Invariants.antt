@@ -1,5 +1,0 @@
-use Rattle.std.proofs.Common.{length}
-use Rattle.affc_threshold.proofs.threshold.+most_turns.Given as goal
-
-abbrev pub decreases-most_turns : goal.decreases-most_turns
-decreases-most_turns l = length l.entries.now

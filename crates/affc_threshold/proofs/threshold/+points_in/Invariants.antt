@@ -1,5 +1,0 @@
-use Rattle.std.proofs.Common.{length}
-use Rattle.affc_threshold.proofs.threshold.+points_in.Given as goal
-
-abbrev pub decreases-points_in : goal.decreases-points_in
-decreases-points_in l = length l.ranges.now

@@ -1,8 +1,0 @@
-//! The threshold of a small program, as a law.
-ghost use Rattle.affc_threshold.specs.Examples.{OfTheBlur, OfNothing};
-
-/// The blur of affc_trace.
-pub fn blur()
-    ensures sizes { OfTheBlur }
-    ensures nothing { OfNothing }
-{}

@@ -1,7 +1,0 @@
-//! How much work counts as unlimited.
-#![tactic(auto)]
-
-pub mod examples;
-mod threshold;
-
-pub use threshold::bound;
