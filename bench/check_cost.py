@@ -17,7 +17,7 @@ from collections import defaultdict
 TOP = os.path.dirname(os.path.dirname(os.path.abspath(__file__)))
 PROGRAMS = [f'examples/{name}' for name in ('separable', 'integral', 'chain', 'jacobi2d', 'jacobi1d', 'align', 'sweep', 'stages', 'blur')]
 PROGRAMS += ['bench/stages8', 'examples/triangle', 'bench/jacobi2d']
-PARTS = {'clash systems': 'affc_items::all::systems_of', 'trees and schedule': 'affc_items::all::groups_of', 'listing': 'affc_items::all::list_all'}
+PARTS = {'clash systems': 'affc_check::list::all::systems_of', 'trees and schedule': 'affc_check::list::all::groups_of', 'listing': 'affc_check::list::all::list_all'}
 ACCEPT = 'affc_accept::accepting::accept'
 READING = r'affc_cert::json::from_json|affc_farkas::proof::Proof::drop|.*quast\+\+Quast\+Destruct'
 
