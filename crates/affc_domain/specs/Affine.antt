@@ -1,15 +1,10 @@
 -- Index expressions as affine forms, over the names in sight and then columns that they don't see.
-use Rattle.std.specs.Prelude.{ℕ, zero, suc, ◌+◌, ℤ, pos, negsuc, Bool, true, false, not, ◌&&◌, ◌||◌, if◌then◌else◌, nat_le, nat_lt, nat_abs, List, [], ◌∷◌, ◌++◌, replicate}
+use Rattle.std.specs.Prelude.{ℕ, ◌+◌, ℤ, pos, negsuc, Bool, true, false, not, ◌&&◌, ◌||◌, if◌then◌else◌, nat_le, nat_lt, nat_abs, List, [], ◌∷◌, ◌++◌, replicate}
 use Rattle.affc_rows.specs.Forms.{Affine, mixed_form}
 use Rattle.affc_ast.specs.declared.tree.Ix.{Ix}
 use Rattle.affc_ast.specs.declared.tree.Ix.TheOpen.{Ix-F, Lit, Name, Neg, Add, Sub, Mul, Min, Max, Floord, Ceild, Mod}
 use Rattle.affc_ast.specs.Recursion.{by_ix}
-
--- the coefficients of column x alone, of so many; all 0 where there is no such column
-abbrev pub unit_of : (columns x : ℕ) → List ℤ
-unit_of zero x = []
-unit_of (suc n) zero = pos 1 ∷ replicate n (pos 0)
-unit_of (suc n) (suc x) = pos 0 ∷ unit_of n x
+pub use Rattle.affc_rows.specs.Vocabulary.{unit_of}
 
 -- coefficients up to 2^16 in magnitude
 abbrev pub are_small : List ℤ → Bool
