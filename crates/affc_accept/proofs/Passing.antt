@@ -23,7 +23,7 @@ use Rattle.affc_flow.specs.Questions.{flow_questions}
 use Rattle.affc_conflicts.specs.Questions.{distance, agree_rows, over_columns, distance_question, distance_questions}
 use Rattle.affc_life.specs.Clashes.{Clash, clash_of, clashes}
 use Rattle.affc_life.specs.Sizes.{IsLarge, AnyLarge}
-use Rattle.affc_behind.specs.Parts.{IsWithin}
+use Rattle.affc_products.specs.Parts.{IsWithin}
 use Rattle.affc_cert.specs.Certificates.{Certificate, seen}
 use Rattle.affc_cert.specs.Refusals.{refusal}
 use Rattle.affc_cert.specs.Values.{cert_value}

@@ -7,12 +7,12 @@ ghost use Rattle.affc_life.specs.Asked.{KeepLimits};
 
 use crate::question::{add_item_proof, add_proofs};
 use affc_ast::tree::ArrayId;
-use affc_behind::is_proof;
 use affc_certvalue::fold::fold::CertModulus;
 use affc_check::list::Item;
 use affc_farkas::Proof;
 use affc_life::clashes;
 use affc_nest::Nest;
+use affc_products::is_proof;
 use affc_prove::{lengthened, refutation};
 use affc_quast::Flow;
 use affc_split::{Budget, Stop};

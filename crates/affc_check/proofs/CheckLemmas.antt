@@ -6,10 +6,10 @@ use Rattle.affc_rows.specs.Forms.{Affine}
 use Rattle.affc_system.specs.Systems.{Rows, IsRow}
 use Rattle.affc_farkas.specs.declared.proof.Proof.{Proof}
 use Rattle.std.proofs.lemmas.List.Elements.{All-head, All-tail}
-use Rattle.affc_behind.specs.Parts.{IsWithin, IsProof}
-use Rattle.affc_behind.specs.Blocks.{AreProved, FailsAt, block_questions}
-use Rattle.affc_behind.specs.declared.block.Block.{Block}
-use Rattle.affc_behind.proofs.ChoiceLemmas.{kept_within}
+use Rattle.affc_products.specs.Parts.{IsWithin, IsProof}
+use Rattle.affc_products.specs.Blocks.{AreProved, FailsAt, block_questions}
+use Rattle.affc_products.specs.declared.block.Block.{Block}
+use Rattle.affc_products.proofs.ChoiceLemmas.{kept_within}
 use Rattle.affc_check.specs.list.Held.{listed_said}
 use Rattle.affc_check.specs.list.declared.item.Listed.{Listed}
 use Rattle.affc_check.specs.Answers.{FailsAtQuestion}

@@ -2,7 +2,7 @@
 ghost use Rattle.std.specs.Prelude.{◌↔◌, ℕ, List, [], ◌∷◌, ◌+◌, length, IfOk, IfErr, IsTrue, OnOk, ◌≡◌, ◌≢◌, map, flat_map};
 ghost use Rattle.affc_farkas.specs.declared.proof.Proof.{Proof};
 ghost use Rattle.affc_system.specs.Systems.{IsPoint};
-ghost use Rattle.affc_behind.specs.Blocks.{block_questions};
+ghost use Rattle.affc_products.specs.Blocks.{block_questions};
 ghost use Rattle.affc_check.specs.Answers.{FailsAtQuestion, FailsAtPoint};
 ghost use Rattle.affc_check.specs.list.Held.{listed_said};
 ghost use Rattle.affc_check.specs.list.Items.{Question};
@@ -11,8 +11,8 @@ ghost use Rattle.affc_check.specs.Valid.{IsProved, AreValid};
 
 use crate::fault::CheckFault;
 use crate::list::{Item, Listed, Point};
-use affc_behind::{Block, Step, is_proof};
 use affc_farkas::Proof;
+use affc_products::{Block, Step, is_proof};
 use affc_system::System;
 use std::alloc::{AllocError, Global};
 

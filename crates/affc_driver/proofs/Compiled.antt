@@ -19,14 +19,14 @@ use Rattle.affc_plain.proofs.Programs.{reads_plain}
 use Rattle.affc_safe.proofs.SafeLaws.{safe_runs}
 use Rattle.affc_loops.specs.Laws.{HasLoops}
 use Rattle.affc_loops.specs.Loops.{Piece}
-use Rattle.affc_ends.specs.scanned.declared.scanned.Scanned.{Scanned}
-use Rattle.affc_ends.specs.scanned.Laws.{RunsTightly}
-use Rattle.affc_ends.specs.scanned.Scanned.{Scans}
+use Rattle.affc_loopends.specs.scanned.declared.scanned.Scanned.{Scanned}
+use Rattle.affc_loopends.specs.scanned.Laws.{RunsTightly}
+use Rattle.affc_loopends.specs.scanned.Scanned.{Scans}
 use Rattle.affc_split.specs.Budgets.{Account}
 use Rattle.affc_basis.specs.declared.basis.Basis.{Basis}
 use Rattle.affc_basis.specs.declared.fold.Fold.{Fold}
 use Rattle.affc_basis.specs.Folds.{KeepsLimits}
-use Rattle.affc_placed.specs.Placed.{HasFoldedLoops}
+use Rattle.affc_foldloops.specs.Placed.{HasFoldedLoops}
 use Rattle.affc_rewrite.specs.Rewrite.{folded_program}
 use Rattle.affc_foldprint.specs.Laws.{FoldsWellNamed, FoldsCompile, FoldsRunTightly}
 use Rattle.affc_weigh.specs.declared.choice.Choice.{Choice}

@@ -24,8 +24,8 @@ use Rattle.affc_safe.proofs.EndedSafe.{unwritten_instance}
 use Rattle.affc_safe.proofs.FitsThere.{never_stuck_is_safe}
 use Rattle.affc_nest.proofs.QuestionLemmas.{stands_in}
 use Rattle.affc_nest.specs.Nests.{nest_of}
-use Rattle.affc_ends.specs.scanned.Laws.{SameLoopsScan}
-use Rattle.affc_ends.specs.bounding.Laws.{ProgramsScan}
+use Rattle.affc_loopends.specs.scanned.Laws.{SameLoopsScan}
+use Rattle.affc_loopends.specs.bounding.Laws.{ProgramsScan}
 use Rattle.affc_split.specs.Budgets.{Account}
 use Rattle.affc_basis.specs.declared.fold.Fold.{Fold}
 use Rattle.affc_rewrite.specs.Rewrite.{folded_program}

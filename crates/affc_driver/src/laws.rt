@@ -1,9 +1,9 @@
 //! What a compilation's answers say of a source and of its runs. Each law is the contract of a function that does nothing.
 ghost use Rattle.affc_driver.specs.Laws.{ReadsNamingArrays, CompilesItself, WithinNeverStuck, NamedIsWritten, PrintedCompiles, TextsRunTightly, UnlimitedFoldsAll, NoneIsCheaper, FaultsShow, UnwrittenShows, IllegalShows, FoldableIsFolded, FoldableIsNotRefused, UnlimitedIsNotRefused, FlowsAreSound, SoundIsNotRefused};
 
-use affc_ends::bounding::laws::programs_scan;
-use affc_ends::scanned::laws::same_loops_scan;
 use affc_foldprint::laws::{folds_compile, folds_keep_times, folds_run_tightly, folds_well_named};
+use affc_loopends::bounding::laws::programs_scan;
+use affc_loopends::scanned::laws::same_loops_scan;
 use affc_weigh::laws::Costing;
 
 /// The program that a text reads as names arrays.

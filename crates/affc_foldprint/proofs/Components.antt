@@ -21,7 +21,7 @@ use Rattle.affc_basis.specs.FoldLists.{AreFoldsIn}
 use Rattle.affc_basis.specs.Folds.{KeepsLimits, forms_of, fold_of}
 use Rattle.affc_basis.specs.Moduli.{IsModulus}
 use Rattle.affc_basis.proofs.FoldsFound.{folds_are_found}
-use Rattle.affc_placed.specs.Refolds.{Subscripts}
+use Rattle.affc_foldloops.specs.Refolds.{Subscripts}
 use Rattle.affc_rewrite.specs.Rewrite.{is_one, is_unit, same_form, printed, component, components_from, subscripts_by, extent_forms, folded_subscripts, KeepLimits}
 use Rattle.affc_rewrite.specs.Sizes.{IsRow, IsPrintable}
 use Rattle.affc_rewrite.proofs.Accesses.{sides_of}

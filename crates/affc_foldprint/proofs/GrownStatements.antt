@@ -27,7 +27,7 @@ use Rattle.affc_loopprint.proofs.Entries.{EachTwo, two_append}
 use Rattle.affc_loopprint.proofs.ShapeGuards.{moved_line}
 use Rattle.affc_basis.specs.declared.fold.Fold.{Fold}
 use Rattle.affc_basis.specs.FoldLists.{AreFoldsIn}
-use Rattle.affc_placed.specs.Refolds.{Subscripts, refold_value, refold_step, each_under}
+use Rattle.affc_foldloops.specs.Refolds.{Subscripts, refold_value, refold_step, each_under}
 use Rattle.affc_rewrite.specs.Rewrite.{folded_subscripts, KeepLimits}
 use Rattle.affc_foldprint.proofs.Growth.{more_beside, level_more, access_more, value_more}
 

@@ -19,8 +19,8 @@ use Rattle.affc_wellnamed.specs.Known.{takes, param_arrays}
 use Rattle.affc_basis.specs.declared.fold.Fold.{Fold}
 use Rattle.affc_basis.specs.FoldLists.{AreFoldsIn}
 use Rattle.affc_basis.specs.Folds.{forms_of, fold_of}
-use Rattle.affc_placed.specs.Refolds.{Subscripts}
-use Rattle.affc_placed.proofs.ReplaceLemmas.{fold_in}
+use Rattle.affc_foldloops.specs.Refolds.{Subscripts}
+use Rattle.affc_foldloops.proofs.ReplaceLemmas.{fold_in}
 use Rattle.affc_rewrite.specs.Rewrite.{printed, components_from, subscripts_by, extent_forms, folded_subscripts, decl_by, decls_from, folded_temps}
 use Rattle.affc_foldprint.proofs.Components.{components_long}
 

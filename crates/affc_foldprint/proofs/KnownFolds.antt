@@ -43,7 +43,7 @@ use Rattle.affc_loopprint.proofs.Sums.{sums_known}
 use Rattle.affc_basis.specs.declared.fold.Fold.{Fold}
 use Rattle.affc_basis.specs.FoldLists.{AreFoldsIn}
 use Rattle.affc_basis.specs.Folds.{forms_of, fold_of}
-use Rattle.affc_placed.specs.Refolds.{Subscripts, refold_value, refold_step, each_under}
+use Rattle.affc_foldloops.specs.Refolds.{Subscripts, refold_value, refold_step, each_under}
 use Rattle.affc_rewrite.specs.Rewrite.{printed, decl_by, decls_from, folded_temps, folded_subscripts, call_step, has_call, some_call, value_call_step, test_calls, stmt_call_step, folded_program, KeepLimits}
 use Rattle.affc_rewrite.specs.Sizes.{IsPrintable}
 use Rattle.affc_foldprint.proofs.Components.{RemainderOf, at_have, moduli_are}

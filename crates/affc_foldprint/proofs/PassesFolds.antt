@@ -38,7 +38,7 @@ use Rattle.affc_loopprint.proofs.Sums.{SumCases, sums_plain, narrow_has}
 use Rattle.affc_basis.specs.declared.fold.Fold.{Fold}
 use Rattle.affc_basis.specs.FoldLists.{AreFoldsIn}
 use Rattle.affc_basis.specs.Folds.{forms_of, fold_of}
-use Rattle.affc_placed.specs.Refolds.{Subscripts, refold_value, refold_step, each_under}
+use Rattle.affc_foldloops.specs.Refolds.{Subscripts, refold_value, refold_step, each_under}
 use Rattle.affc_rewrite.specs.Rewrite.{printed, decl_by, decls_from, folded_subscripts, folded_program, KeepLimits}
 use Rattle.affc_rewrite.specs.Sizes.{IsPrintable}
 use Rattle.affc_rewrite.proofs.Foldings.{few_rows}

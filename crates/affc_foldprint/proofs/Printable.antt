@@ -12,13 +12,13 @@ use Rattle.affc_domain.specs.Ranges.{number_ranges}
 use Rattle.affc_loops.specs.Ends.{BoundsBelow, BoundsAbove}
 use Rattle.affc_loops.specs.Laws.{HasLoops, HaveSameLoops}
 use Rattle.affc_loops.specs.Loops.{Piece, pieces}
-use Rattle.affc_ends.specs.declared.bounds.Bounds.{Bounds}
-use Rattle.affc_ends.specs.declared.bounds.Bounds.TheVariants.{Between, Loose as Without}
-use Rattle.affc_ends.specs.TimeRows.{system_of}
-use Rattle.affc_ends.specs.TimeSets.{timed_in}
-use Rattle.affc_ends.specs.Whys.{AreBoundsFrom}
-use Rattle.affc_ends.specs.scanned.Scanned.{sides_of, AreBoundsOfEach, all_sides}
-use Rattle.affc_ends.proofs.scanned.Rows.{sides_from}
+use Rattle.affc_loopends.specs.declared.bounds.Bounds.{Bounds}
+use Rattle.affc_loopends.specs.declared.bounds.Bounds.TheVariants.{Between, Loose as Without}
+use Rattle.affc_loopends.specs.TimeRows.{system_of}
+use Rattle.affc_loopends.specs.TimeSets.{timed_in}
+use Rattle.affc_loopends.specs.Whys.{AreBoundsFrom}
+use Rattle.affc_loopends.specs.scanned.Scanned.{sides_of, AreBoundsOfEach, all_sides}
+use Rattle.affc_loopends.proofs.scanned.Rows.{sides_from}
 use Rattle.affc_loopprint.specs.Rows.{IsPrintable, ArePrintable, ArePrintableFrom, ArePrintableOfEach}
 use Rattle.affc_loopprint.proofs.Fitting.{fitting}
 

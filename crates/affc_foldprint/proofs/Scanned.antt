@@ -14,7 +14,7 @@ use Rattle.affc_scan.specs.InSight.{in_sight, all_in_sight, value_in_sight}
 use Rattle.affc_scan.proofs.SightProofs.{sees_more}
 use Rattle.affc_loops.specs.Laws.{HaveSameLoops}
 use Rattle.affc_basis.specs.declared.fold.Fold.{Fold}
-use Rattle.affc_placed.proofs.RefoldLemmas.{refolded_keeps_shape}
+use Rattle.affc_foldloops.proofs.RefoldLemmas.{refolded_keeps_shape}
 use Rattle.affc_rewrite.specs.Rewrite.{folded_subscripts, folded_temps, folded_program}
 use Rattle.affc_rewrite.specs.Sight.{all_see, value_sees, IsInSight}
 use Rattle.affc_rewrite.proofs.SightLemmas.{folded_in_sight}

@@ -7,11 +7,11 @@ use Rattle.affc_trace.specs.Laws.{in_target_order}
 use Rattle.affc_basis.specs.Folds.{place}
 use Rattle.affc_domain.specs.Ranges.{number_ranges}
 use Rattle.affc_loops.specs.Loops.{pieces, time_ranges}
-use Rattle.affc_placed.proofs.FoldedLaws.{folded_loops_compile, folded_between_compile}
+use Rattle.affc_foldloops.proofs.FoldedLaws.{folded_loops_compile, folded_between_compile}
 use Rattle.affc_rewrite.specs.Rewrite.{folded_program}
 use Rattle.affc_rewrite.proofs.FoldsPrinted.{folded_program_replaces}
-use Rattle.affc_ends.specs.scanned.Laws.{ScansRunBetween, TurnsExtend}
-use Rattle.affc_ends.specs.scanned.Scanned.{IsBetween, all_sides}
+use Rattle.affc_loopends.specs.scanned.Laws.{ScansRunBetween, TurnsExtend}
+use Rattle.affc_loopends.specs.scanned.Scanned.{IsBetween, all_sides}
 use Rattle.affc_loopprint.specs.Laws.{SpareWellNamed, BetweenWellNamed}
 use Rattle.affc_foldprint.specs.Laws.{FoldsWellNamed, FoldsCompile, FoldsRunTightly}
 use Rattle.affc_foldprint.proofs.Printable.{rows_printable}

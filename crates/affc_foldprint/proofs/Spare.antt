@@ -36,8 +36,8 @@ use Rattle.affc_loopprint.proofs.SpareReads.{reads_spare}
 use Rattle.affc_basis.specs.declared.fold.Fold.{Fold}
 use Rattle.affc_basis.specs.FoldLists.{AreFoldsIn}
 use Rattle.affc_basis.specs.Folds.{forms_of, fold_of}
-use Rattle.affc_placed.specs.Refolds.{Subscripts, refold_step, each_under}
-use Rattle.affc_placed.proofs.RefoldLemmas.{flat_is, refolded_keeps_shape}
+use Rattle.affc_foldloops.specs.Refolds.{Subscripts, refold_step, each_under}
+use Rattle.affc_foldloops.proofs.RefoldLemmas.{flat_is, refolded_keeps_shape}
 use Rattle.affc_rewrite.specs.Rewrite.{printed, decl_by, decls_from, folded_temps, folded_subscripts, folded_program, KeepLimits}
 use Rattle.affc_rewrite.specs.Sizes.{IsPrintable}
 use Rattle.affc_rewrite.proofs.Foldings.{few_rows}

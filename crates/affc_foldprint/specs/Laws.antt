@@ -12,13 +12,13 @@ use Rattle.affc_nest.specs.declared.nest.Nest.{Nest}
 use Rattle.affc_nest.specs.Nests.{nest_of}
 use Rattle.affc_loops.specs.Laws.{HasLoops}
 use Rattle.affc_loops.specs.Loops.{Piece, pieces}
-use Rattle.affc_ends.specs.scanned.declared.scanned.Scanned.{Scanned}
-use Rattle.affc_ends.specs.scanned.Laws.{HaveSameTimes, RunsTightly}
-use Rattle.affc_ends.specs.scanned.Scanned.{Scans}
+use Rattle.affc_loopends.specs.scanned.declared.scanned.Scanned.{Scanned}
+use Rattle.affc_loopends.specs.scanned.Laws.{HaveSameTimes, RunsTightly}
+use Rattle.affc_loopends.specs.scanned.Scanned.{Scans}
 use Rattle.affc_basis.specs.declared.fold.Fold.{Fold}
 use Rattle.affc_basis.specs.FoldLists.{AreFoldsIn}
 use Rattle.affc_basis.specs.Folds.{place}
-use Rattle.affc_placed.specs.Placed.{HasFoldedLoops}
+use Rattle.affc_foldloops.specs.Placed.{HasFoldedLoops}
 use Rattle.affc_scan.specs.Laws.{IsNestFor}
 use Rattle.affc_loopprint.specs.Spare.{IsSpare}
 use Rattle.affc_rewrite.specs.Rewrite.{KeepLimits, folded_program}

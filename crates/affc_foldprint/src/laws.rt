@@ -1,7 +1,7 @@
 //! What holds of programs with folds. Each law is the contract of a function that does nothing.
 ghost use Rattle.affc_foldprint.specs.Laws.{FoldsAreScanned, FoldsSpare, FoldsWellNamed, FoldsKeepTimes, FoldsCompile, FoldsRunTightly};
 
-use affc_ends::scanned::laws::{scans_run_between, turns_extend};
+use affc_loopends::scanned::laws::{scans_run_between, turns_extend};
 use affc_loopprint::laws::{between_well_named, spare_well_named};
 
 /// The source's nest is one for the folded program.

@@ -2,7 +2,7 @@
 use Rattle.std.proofs.Common.{◌≡◌, List, [], ◌∷◌, ◌++◌, map, flat_map, append_assoc, refl, sym, ap, ◌∙◌}
 use Rattle.std.proofs.lemmas.List.{map-append, append-nil}
 use Rattle.affc_rows.specs.Forms.{Affine}
-use Rattle.affc_behind.specs.Blocks.{choices}
+use Rattle.affc_products.specs.Blocks.{choices}
 use Rattle.affc_life.specs.declared.draft.Draft.{Draft}
 use Rattle.affc_life.specs.Drafts.{drafted, draft_by, drafts_behind}
 

@@ -13,15 +13,15 @@ use Rattle.affc_trace.proofs.Members.{in_map, to_map, to_flat_map}
 use Rattle.affc_domain.proofs.Lists.{from_map}
 use Rattle.affc_nest.specs.Domains.{with_rows}
 use Rattle.affc_nest.proofs.QuestionLemmas.{stands_in}
-use Rattle.affc_behind.specs.Blocks.{choices, product, AnyPast}
-use Rattle.affc_behind.specs.Parts.{IsWithin}
+use Rattle.affc_products.specs.Blocks.{choices, product, AnyPast}
+use Rattle.affc_products.specs.Parts.{IsWithin}
 use Rattle.affc_life.specs.declared.draft.Draft.{Draft}
 use Rattle.affc_life.specs.declared.clash.ClashProduct.{ClashProduct}
 use Rattle.affc_life.specs.Clashes.{Clash, clash_of}
 use Rattle.affc_life.specs.Drafts.{drafted, draft_by, IsPaired}
 use Rattle.affc_life.specs.Products.{systems_in}
 use Rattle.affc_life.specs.Sizes.{IsLarge, AnyLarge}
-use Rattle.affc_behind.proofs.ChoiceLemmas.{Chosen, within_all, factors_all}
+use Rattle.affc_products.proofs.ChoiceLemmas.{Chosen, within_all, factors_all}
 use Rattle.affc_life.proofs.ChoiceLemmas.{with_nothing, map_twice, map_same, flat_one}
 use Rattle.affc_life.proofs.LimitLemmas.{all_first, all_second, larger, none_in_parts}
 

@@ -5,7 +5,7 @@ use Rattle.affc_rows.specs.Forms.{Affine}
 use Rattle.affc_system.specs.Systems.{Rows}
 use Rattle.affc_ast.specs.declared.tree.Rel.TheVariants.{Less, Greater, Equal}
 use Rattle.affc_nest.specs.Domains.{compare_rows}
-use Rattle.affc_behind.specs.Blocks.{choices}
+use Rattle.affc_products.specs.Blocks.{choices}
 use Rattle.affc_life.specs.declared.draft.Draft.{Draft}
 use Rattle.affc_life.specs.Clashes.{apart_rows, between_rows}
 use Rattle.affc_life.specs.Drafts.{drafted, draft_by, rows_in}

@@ -11,9 +11,9 @@ use Rattle.std.specs.List.{All, AllByRecursion as Each}
 use Rattle.std.proofs.lemmas.List.Elements.{All-nil, All-from_recursion}
 use Rattle.std.proofs.lemmas.Option.{same_Some}
 use Rattle.affc_system.specs.Systems.{IsRow}
-use Rattle.affc_behind.specs.Blocks.{choices}
-use Rattle.affc_behind.proofs.ChoiceLemmas.{choices_of_rows, rows_together}
-use Rattle.affc_behind.proofs.Eaches.{each_left}
+use Rattle.affc_products.specs.Blocks.{choices}
+use Rattle.affc_products.proofs.ChoiceLemmas.{choices_of_rows, rows_together}
+use Rattle.affc_products.proofs.Eaches.{each_left}
 use Rattle.affc_life.specs.declared.clash.ClashProduct.{ClashProduct}
 use Rattle.affc_life.specs.Products.{systems_in}
 use Rattle.std.proofs.Math.Seq.{drop-cons}

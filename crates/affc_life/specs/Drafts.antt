@@ -10,7 +10,7 @@ use Rattle.affc_nest.specs.declared.nest.Nest.{Nest}
 use Rattle.affc_order.specs.Posed.{Posed}
 use Rattle.affc_order.specs.Systems.{target_order}
 use Rattle.affc_quast.specs.Leaves.{Leaf}
-use Rattle.affc_behind.specs.Blocks.{choices}
+use Rattle.affc_products.specs.Blocks.{choices}
 use Rattle.affc_life.specs.declared.draft.Draft.{Draft}
 use Rattle.affc_nest.specs.declared.nest.Access.{Access}
 use Rattle.affc_quast.specs.Trees.{Tree}

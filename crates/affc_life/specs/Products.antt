@@ -2,7 +2,7 @@
 use Rattle.std.specs.Prelude.{List, map}
 use Rattle.affc_system.specs.declared.pairs.PairSystem.{PairSystem}
 use Rattle.affc_nest.specs.Domains.{with_rows}
-use Rattle.affc_behind.specs.Blocks.{choices}
+use Rattle.affc_products.specs.Blocks.{choices}
 use Rattle.affc_life.specs.declared.clash.ClashProduct.{ClashProduct}
 use Rattle.affc_life.specs.declared.product.Found.{Found}
 

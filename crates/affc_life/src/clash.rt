@@ -2,7 +2,7 @@
 ghost use Rattle.std.specs.Prelude.{◌≢◌, []};
 ghost use Rattle.std.specs.List.{All};
 ghost use Rattle.affc_system.specs.Systems.{IsRow};
-ghost use Rattle.affc_behind.specs.Products.{choices};
+ghost use Rattle.affc_products.specs.Products.{choices};
 
 use affc_rows::Form;
 use affc_system::PairSystem;

@@ -2,7 +2,7 @@
 ghost use Rattle.std.specs.Prelude.{◌≡◌, ◌++◌, ◌∷◌, flat_map, Some, slice_get, IfOk, IfSome, IfNone};
 ghost use Rattle.std.specs.List.{All};
 ghost use Rattle.affc_system.specs.Systems.{IsRow};
-ghost use Rattle.affc_behind.specs.Blocks.{choices};
+ghost use Rattle.affc_products.specs.Blocks.{choices};
 ghost use Rattle.affc_life.specs.Products.{systems_in, found_system};
 ghost use Rattle.affc_life.specs.Sought.{IsSought};
 

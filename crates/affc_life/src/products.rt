@@ -1,8 +1,8 @@
 //! Drafts as products.
 ghost use Rattle.std.specs.Prelude.{◌≡◌, ◌≢◌, ◌↔◌, ◌++◌, ◌∷◌, [], map, flat_map, IsTrue, IfOk, IfErr, OnOk};
 ghost use Rattle.std.specs.List.{All};
-ghost use Rattle.affc_behind.specs.Blocks.{choices, product};
-ghost use Rattle.affc_behind.specs.Parts.{IsWithin};
+ghost use Rattle.affc_products.specs.Blocks.{choices, product};
+ghost use Rattle.affc_products.specs.Parts.{IsWithin};
 ghost use Rattle.affc_life.specs.Clashes.{clash_of};
 ghost use Rattle.affc_life.specs.Drafts.{drafted, IsPaired};
 ghost use Rattle.affc_life.specs.Products.{systems_in};
@@ -12,7 +12,7 @@ use crate::clash::ClashProduct;
 use crate::draft::Draft;
 use crate::fault::ClashFault;
 use crate::systems::system_of;
-use affc_behind::product_fits;
+use affc_products::product_fits;
 use affc_rows::Form;
 use affc_system::PairSystem;
 use sqlite_items::Items;

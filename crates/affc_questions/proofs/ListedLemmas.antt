@@ -21,9 +21,9 @@ use Rattle.affc_life.specs.Drafts.{posed, rows_in}
 use Rattle.affc_flow.specs.Asked.{writers_of}
 use Rattle.affc_flow.specs.Questions as asks
 use Rattle.affc_flow.specs.Questions.{Question, Writer, poses, is_temporary, store_of_entry, writer_if, writers}
-use Rattle.affc_behind.specs.declared.group.Group.{Group}
+use Rattle.affc_products.specs.declared.group.Group.{Group}
 use Rattle.affc_questions.specs.Listed.{systems_of, behind, sides, joined, first_posed, negations, own_path, over_path, own_columns, images, late_lists, over_beside, earlier_systems, between_systems, all_earlier, all_between, named_systems, found_systems, input_systems, systems_for}
-use Rattle.affc_behind.specs.Groups.{group_systems}
+use Rattle.affc_products.specs.Groups.{group_systems}
 
 -- ---- Maps
 

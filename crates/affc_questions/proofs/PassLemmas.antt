@@ -56,7 +56,7 @@ use Rattle.affc_flow.specs.Questions.{Question, Writer, is_temporary, store_of_e
 use Rattle.affc_questions.specs.Asked.{IsLeafOf, IsWriter}
 use Rattle.affc_questions.specs.Laws.{FoundTreesPassNoLimit}
 use Rattle.affc_questions.specs.Listed.{behind, own_path}
-use Rattle.affc_behind.specs.Parts.{IsWithin}
+use Rattle.affc_products.specs.Parts.{IsWithin}
 use Rattle.affc_questions.specs.Sizes.{IsMild}
 use Rattle.affc_questions.proofs.DistanceLemmas.{equal_fit}
 use Rattle.affc_questions.proofs.ImageLemmas.{Below}

@@ -6,7 +6,7 @@ use Rattle.affc_nest.specs.Nests.{nest_of}
 use Rattle.affc_quast.specs.Trees.{Tree}
 use Rattle.affc_flow.specs.Questions.{Question, flow_questions}
 use Rattle.affc_life.specs.Laws.{AreFound}
-use Rattle.affc_behind.specs.Parts.{IsWithin}
+use Rattle.affc_products.specs.Parts.{IsWithin}
 use Rattle.std.specs.Prelude.{List}
 
 -- No question of such trees passes the limits of a system. A schedule has no part in these questions.

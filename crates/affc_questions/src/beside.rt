@@ -8,14 +8,14 @@ ghost use Rattle.affc_life.specs.Asked.{HasForms};
 ghost use Rattle.affc_life.specs.Drafts.{posed};
 ghost use Rattle.affc_questions.specs.Asked.{IsLeafOf, IsWriter};
 ghost use Rattle.affc_questions.specs.Listed.{earlier_systems, between_systems, all_earlier, all_between};
-ghost use Rattle.affc_behind.specs.Groups.{group_systems};
+ghost use Rattle.affc_products.specs.Groups.{group_systems};
 
 use crate::lists::{add_each, add_joined};
 use crate::rows::add_equals;
-use affc_behind::Group;
 use affc_flow::store_for;
 use affc_life::stores::{front_rows, loaded, loops_round, stored, stored_after, stored_before};
 use affc_nest::{Access, Entry, Nest};
+use affc_products::Group;
 use affc_quast::leaves::{Leaf, Named};
 use affc_rows::Form;
 use affc_trace::schedule::Schedule;

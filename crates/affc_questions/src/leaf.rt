@@ -10,14 +10,14 @@ ghost use Rattle.affc_flow.specs.Asked.{writers_of};
 ghost use Rattle.affc_flow.specs.Questions.{leaf_questions};
 ghost use Rattle.affc_questions.specs.Asked.{IsLeafOf, IsWriter, IsInstanceOf};
 ghost use Rattle.affc_questions.specs.Listed.{systems_of, first_posed, over_path, named_systems, found_systems, input_systems};
-ghost use Rattle.affc_behind.specs.Groups.{group_systems};
+ghost use Rattle.affc_products.specs.Groups.{group_systems};
 
 use crate::beside::{add_all_between, add_all_earlier};
 use crate::lists::{add_each, add_front};
 use crate::named::{astray_lists, late_lists, own_path};
-use affc_behind::Group;
 use affc_flow::{is_temporary, store_for};
 use affc_nest::{Access, Entry, Nest};
+use affc_products::Group;
 use affc_quast::leaves::{Leaf, Named};
 use sqlite_items::Items;
 use std::alloc::{AllocError, Global};

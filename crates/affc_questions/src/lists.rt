@@ -4,11 +4,11 @@ ghost use Rattle.std.specs.List.{All};
 ghost use Rattle.affc_nest.specs.Domains.{gap_row};
 ghost use Rattle.affc_quast.specs.Leaves.{negated};
 ghost use Rattle.affc_questions.specs.Listed.{behind, sides, joined};
-ghost use Rattle.affc_behind.specs.Groups.{group_systems};
+ghost use Rattle.affc_products.specs.Groups.{group_systems};
 ghost use Rattle.affc_questions.specs.Sizes.{IsBroad};
 
 use crate::rows::{add_gap, negated};
-use affc_behind::Group;
+use affc_products::Group;
 use affc_rows::Form;
 use sqlite_items::Items;
 use std::alloc::{AllocError, Global};

@@ -3,7 +3,7 @@ ghost use Rattle.std.specs.Prelude.{◌≡◌, ◌+◌, ◌≤◌, ◌<◌, ◌�
 ghost use Rattle.std.specs.List.{All};
 ghost use Rattle.affc_system.specs.Systems.{IsRow, Meets, IsPoint};
 ghost use Rattle.affc_nest.specs.Domains.{with_rows};
-ghost use Rattle.affc_behind.specs.Parts.{IsWithin};
+ghost use Rattle.affc_products.specs.Parts.{IsWithin};
 
 use affc_nest::rows::add_row;
 use affc_rows::Form;

@@ -14,7 +14,7 @@ use Rattle.affc_nest.specs.Laws.{HasNest, NamesArrays}
 use Rattle.affc_nest.specs.Nests.{nest_of}
 use Rattle.affc_sched.specs.Legality.{IsAsked}
 use Rattle.affc_quast.specs.Seen.{trees_of}
-use Rattle.affc_placed.specs.Placed.{HasFoldedLoops}
+use Rattle.affc_foldloops.specs.Placed.{HasFoldedLoops}
 use Rattle.affc_foldprint.specs.Laws.{FoldsWellNamed, FoldsCompile}
 use Rattle.affc_schedtext.specs.declared.plan.Plan.{Plan}
 use Rattle.affc_accept.specs.Accepted.{IsAccepted}

@@ -13,8 +13,8 @@ use Rattle.affc_parse.proofs.Refusals.{fault_is_memory}
 use Rattle.affc_cprint.specs.Layout.{printed_text}
 use Rattle.affc_plain.proofs.Programs.{reads_plain}
 use Rattle.affc_domain.specs.Ranges.{first_wide}
-use Rattle.affc_ends.specs.scanned.Laws.{SameLoopsScan}
-use Rattle.affc_ends.specs.bounding.Laws.{ProgramsScan}
+use Rattle.affc_loopends.specs.scanned.Laws.{SameLoopsScan}
+use Rattle.affc_loopends.specs.bounding.Laws.{ProgramsScan}
 use Rattle.affc_basis.specs.declared.basis.Basis.{Basis}
 use Rattle.affc_basis.specs.declared.fold.Fold.{Fold}
 use Rattle.affc_nest.specs.Laws.{HasNest}

@@ -1,9 +1,9 @@
 //! Which certificates are replayed. Each law is the contract of a function that does nothing.
 ghost use Rattle.affc_replay.specs.Laws.{ValidIsReplayed, ValidIsNotRefused};
 
-use affc_ends::bounding::laws::programs_scan;
-use affc_ends::scanned::laws::same_loops_scan;
 use affc_foldprint::laws::{folds_compile, folds_keep_times, folds_well_named};
+use affc_loopends::bounding::laws::programs_scan;
+use affc_loopends::scanned::laws::same_loops_scan;
 
 /// Exactly where the certificate is one of the source and its plan there is a text.
 pub fn valid_is_replayed()

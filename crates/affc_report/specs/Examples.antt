@@ -4,7 +4,7 @@ use Rattle.std.specs.declared.alloc.Global.{Global}
 use Rattle.affc_rows.specs.Forms.{Affine}
 use Rattle.affc_system.specs.Systems.{Rows}
 use Rattle.affc_farkas.specs.declared.pair.Pair.{Pair}
-use Rattle.affc_ends.specs.declared.bounds.Why.TheVariants.{Made, Wide, Large, Nine}
+use Rattle.affc_loopends.specs.declared.bounds.Why.TheVariants.{Made, Wide, Large, Nine}
 use Rattle.affc_ast.specs.declared.tree.ArrayId.{ArrayId}
 use Rattle.affc_basis.specs.declared.fold.Mark.TheVariants.{Least, Bound}
 use Rattle.affc_basis.specs.declared.fold.Modulus.{Modulus}

@@ -13,7 +13,7 @@ use affc_ast::Items;
 use affc_ast::text::Text;
 use affc_ast::tree::ArrayId;
 use affc_basis::{Fold, Mark, Modulus};
-use affc_ends::scanned::Loose;
+use affc_loopends::scanned::Loose;
 use affc_rows::Form;
 use affc_schedtext::outline::{ArrayOutline, Outline};
 use affc_weigh::{Choice, Price};

@@ -2,8 +2,8 @@
 ghost use Rattle.std.specs.Prelude.{◌≡◌, ◌++◌, OnOk, string_bytes};
 ghost use Rattle.affc_report.specs.Loose as specs;
 
-use affc_ends::Why;
-use affc_ends::scanned::Loose;
+use affc_loopends::Why;
+use affc_loopends::scanned::Loose;
 use std::alloc::AllocError;
 
 // Adds why a component has no ends.

@@ -17,7 +17,7 @@ use Rattle.affc_ast.proofs.Steps.{for_here, if_here, block_here}
 use Rattle.affc_trace.proofs.EndedReads.{append_assoc}
 use Rattle.affc_domain.specs.Plain.{all_plain, plain_value}
 use Rattle.affc_domain.proofs.Lists.{both_true}
-use Rattle.affc_placed.specs.Refolds.{Subscripts, refold_value, refold_step, each_under}
+use Rattle.affc_foldloops.specs.Refolds.{Subscripts, refold_value, refold_step, each_under}
 use Rattle.affc_rewrite.specs.Rewrite.{has_call, some_call, value_call_step, test_calls, stmt_call_step}
 use Rattle.affc_rewrite.specs.declared.subscripts.Folding.{Folding}
 use Rattle.affc_rewrite.specs.Sizes.{IsWalk, all_under, accesses_step}

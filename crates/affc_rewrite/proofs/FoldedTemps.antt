@@ -14,7 +14,7 @@ use Rattle.affc_basis.specs.declared.fold.Fold.{Fold}
 use Rattle.affc_basis.specs.Bases.{AreWithin}
 use Rattle.affc_basis.specs.Folds.{forms_of, fold_of}
 use Rattle.affc_basis.specs.Moduli.{IsModulus, ArePositive}
-use Rattle.affc_placed.specs.Refolds.{AreSized, extents_by}
+use Rattle.affc_foldloops.specs.Refolds.{AreSized, extents_by}
 use Rattle.affc_rewrite.specs.Rewrite.{printed, decl_by, decls_from}
 use Rattle.affc_rewrite.proofs.PlaceComponents.{modulus_is}
 

@@ -38,10 +38,10 @@ use Rattle.affc_basis.specs.FoldLists.{IsFoldIn, AreFoldsIn}
 use Rattle.affc_basis.specs.Folds.{KeepsLimits, forms_of, fold_of, folded, folded_by, place}
 use Rattle.affc_basis.specs.Moduli.{IsModulus, ArePositive, remainders}
 use Rattle.affc_basis.proofs.FoldsFound.{folds_are_found}
-use Rattle.affc_placed.specs.Placed.{Replaces, HasFoldedLoops}
-use Rattle.affc_placed.specs.Refolds.{refolded, FoldsBy}
-use Rattle.affc_placed.proofs.RefoldLemmas.{refolded_keeps_shape}
-use Rattle.affc_placed.proofs.ReplaceLemmas.{accesses_read, behind_extents, fold_in, refolded_replaces}
+use Rattle.affc_foldloops.specs.Placed.{Replaces, HasFoldedLoops}
+use Rattle.affc_foldloops.specs.Refolds.{refolded, FoldsBy}
+use Rattle.affc_foldloops.proofs.RefoldLemmas.{refolded_keeps_shape}
+use Rattle.affc_foldloops.proofs.ReplaceLemmas.{accesses_read, behind_extents, fold_in, refolded_replaces}
 use Rattle.affc_rewrite.specs.Laws.{PrintedFolds, FoldedProgramReplaces}
 use Rattle.affc_rewrite.specs.Rewrite.{components_from, subscripts_by, extent_forms, folded_subscripts, folded_temps, has_calls, folded_program, KeepLimits}
 use Rattle.affc_rewrite.specs.Sizes.{AllSides, IsRow}

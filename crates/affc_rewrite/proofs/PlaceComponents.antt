@@ -14,7 +14,7 @@ use Rattle.affc_safe.specs.Overflow.{IsReadable, AreReadable}
 use Rattle.affc_loops.proofs.FormTrees.{get_here}
 use Rattle.affc_basis.specs.Bases.{AreWithin}
 use Rattle.affc_basis.specs.Moduli.{IsModulus, ArePositive, remainders}
-use Rattle.affc_placed.proofs.Remainder.{remainder_is_read}
+use Rattle.affc_foldloops.proofs.Remainder.{remainder_is_read}
 use Rattle.affc_rewrite.specs.Rewrite.{is_one, is_unit, same_form, printed, component, components_from}
 use Rattle.affc_rewrite.specs.Sizes.{AllSides, IsRow}
 use Rattle.affc_rewrite.proofs.PrintedForms.{printed_is, printed_reads, modulus_below, no_more, row_below, row_value, row_width}

@@ -28,9 +28,9 @@ use Rattle.affc_loops.proofs.Pieces.{numbers_are}
 use Rattle.affc_basis.specs.declared.fold.Fold.{Fold}
 use Rattle.affc_basis.specs.FoldLists.{AreFoldsIn}
 use Rattle.affc_basis.specs.Folds.{forms_of, fold_of}
-use Rattle.affc_placed.specs.Refolds.{Subscripts, refold_value, refold_step, each_under}
-use Rattle.affc_placed.proofs.RefoldLemmas.{flat_is}
-use Rattle.affc_placed.proofs.ReplaceLemmas.{fold_in}
+use Rattle.affc_foldloops.specs.Refolds.{Subscripts, refold_value, refold_step, each_under}
+use Rattle.affc_foldloops.proofs.RefoldLemmas.{flat_is}
+use Rattle.affc_foldloops.proofs.ReplaceLemmas.{fold_in}
 use Rattle.affc_rewrite.specs.Rewrite.{is_one, is_unit, same_form, printed, component, components_from, subscripts_by, extent_forms, folded_subscripts}
 use Rattle.affc_rewrite.specs.Sight.{all_see, value_sees_step, value_sees, IsInSight, FoldedInSight}
 use Rattle.affc_rewrite.specs.Sizes.{all_under, accesses_step}

@@ -20,7 +20,7 @@ use Rattle.affc_nest.specs.Nests.{array_of, nest_of}
 use Rattle.affc_loops.proofs.Pieces.{numbers_are}
 use Rattle.affc_basis.specs.declared.fold.Fold.{Fold}
 use Rattle.affc_basis.specs.Folds.{KeepsLimits}
-use Rattle.affc_placed.specs.Refolds.{Subscripts, refold_step, each_under}
+use Rattle.affc_foldloops.specs.Refolds.{Subscripts, refold_step, each_under}
 use Rattle.affc_rewrite.specs.declared.subscripts.Folding.{Folding}
 use Rattle.affc_rewrite.specs.Rewrite.{subscripts_at, extent_forms, folded_subscripts, decls_from, folded_temps, KeepLimits}
 use Rattle.affc_rewrite.specs.Sizes.{IsWalk, at, all_under, accesses_step}

@@ -19,7 +19,7 @@ use Rattle.affc_trace.specs.Examples.{blur}
 use Rattle.affc_domain.specs.Affine.{form_of}
 use Rattle.affc_basis.specs.declared.fold.Fold.{Fold}
 use Rattle.affc_basis.specs.Examples.{x0, number, one_more, two_more, with_iterator, onto, by_modulus, folds, fold_at, two_rows}
-use Rattle.affc_placed.specs.Examples.{lit, temporary, folded_blur}
+use Rattle.affc_foldloops.specs.Examples.{lit, temporary, folded_blur}
 use Rattle.affc_rewrite.specs.Rewrite.{is_one, is_unit, same_form, component, components_from, subscripts_by, folded_subscripts, decl_by, folded_temps, has_call, some_call, value_call_step, has_calls, folded_program, KeepLimits}
 use Rattle.affc_rewrite.specs.Sight.{value_sees, IsInSight}
 

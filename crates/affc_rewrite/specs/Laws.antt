@@ -11,8 +11,8 @@ use Rattle.affc_basis.specs.declared.fold.Fold.{Fold}
 use Rattle.affc_basis.specs.FoldLists.{AreFoldsIn}
 use Rattle.affc_basis.specs.Folds.{forms_of, fold_of}
 use Rattle.affc_basis.specs.Moduli.{ArePositive}
-use Rattle.affc_placed.specs.Placed.{HasFoldedLoops, ReplacesFolded}
-use Rattle.affc_placed.specs.Refolds.{FoldsBy}
+use Rattle.affc_foldloops.specs.Placed.{HasFoldedLoops, ReplacesFolded}
+use Rattle.affc_foldloops.specs.Refolds.{FoldsBy}
 use Rattle.affc_rewrite.specs.Rewrite.{KeepLimits, folded_subscripts, folded_temps, folded_program}
 
 -- Where a plain source is safe, and the moduli of its folds are within their limits and at least 1, the printed subscripts and

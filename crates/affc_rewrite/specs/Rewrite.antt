@@ -23,7 +23,7 @@ use Rattle.affc_nest.specs.Domains.{column_form, number_form}
 use Rattle.affc_loops.specs.Trees.{form_tree}
 use Rattle.affc_basis.specs.declared.fold.Fold.{Fold}
 use Rattle.affc_basis.specs.Folds.{KeepsLimits, forms_of, fold_of}
-use Rattle.affc_placed.specs.Refolds.{Subscripts, refolded}
+use Rattle.affc_foldloops.specs.Refolds.{Subscripts, refolded}
 
 -- ---- Forms that are alike
 

@@ -9,7 +9,7 @@ use Rattle.affc_nest.specs.Sides.{IsSide}
 use Rattle.affc_basis.specs.declared.fold.Fold.{Fold}
 use Rattle.affc_basis.specs.Bases.{AreWithin}
 use Rattle.affc_basis.specs.Folds.{KeepsLimits}
-use Rattle.affc_placed.specs.Refolds.{Subscripts}
+use Rattle.affc_foldloops.specs.Refolds.{Subscripts}
 use Rattle.affc_rewrite.specs.declared.components.Access.{Access}
 use Rattle.affc_rewrite.specs.declared.subscripts.Folding.{Folding}
 use Rattle.affc_rewrite.specs.Rewrite.{subscripts_at}

@@ -4,7 +4,7 @@ ghost use Rattle.affc_ast.specs.Recursion.{by_stmt};
 ghost use Rattle.affc_trace.specs.Target.{numbers_in};
 ghost use Rattle.affc_domain.specs.Plain.{IsPlain};
 ghost use Rattle.affc_nest.specs.Nests.{nest_of};
-ghost use Rattle.affc_placed.specs.Refolds.{refold_step, each_under};
+ghost use Rattle.affc_foldloops.specs.Refolds.{refold_step, each_under};
 ghost use Rattle.affc_rewrite.specs.Rewrite as specs;
 
 use crate::calls::calls;

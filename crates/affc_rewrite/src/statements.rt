@@ -4,7 +4,7 @@ ghost use Rattle.affc_ast.specs.Recursion.{by_stmt};
 ghost use Rattle.affc_ast.specs.declared.tree.Stmt.TheVariants as made;
 ghost use Rattle.affc_ast.specs.declared.tree.Val.TheVariants as values;
 ghost use Rattle.affc_domain.specs.Plain.{all_plain, plain_value};
-ghost use Rattle.affc_placed.specs.Refolds.{refold_value, refold_step, each_under};
+ghost use Rattle.affc_foldloops.specs.Refolds.{refold_value, refold_step, each_under};
 ghost use Rattle.affc_rewrite.specs.Sizes.{IsWalk, at, all_under, accesses_step};
 
 use crate::subscripts::{Folding, subscripts};

@@ -12,13 +12,13 @@ use Rattle.affc_loops.specs.Ends.{joined, ends_from, both_ends, each_ends}
 use Rattle.affc_loops.specs.Loops.{times_of}
 use Rattle.affc_loops.specs.Spans.{span}
 use Rattle.affc_loops.proofs.EndLists.{from_long}
-use Rattle.affc_ends.specs.declared.bounds.Bounds.{Bounds}
-use Rattle.affc_ends.specs.declared.bounds.Bounds.TheVariants.{Between, Loose as Without}
-use Rattle.affc_ends.specs.Ends.{IsProjectedRow}
-use Rattle.affc_ends.specs.Sizes.{IsModest}
-use Rattle.affc_ends.specs.Whys.{AreBoundsFrom}
-use Rattle.affc_ends.specs.scanned.declared.scanned.Loose.{Loose}
-use Rattle.affc_ends.specs.scanned.Scanned.{sides_of, loose_from, all_loose, all_sides}
+use Rattle.affc_loopends.specs.declared.bounds.Bounds.{Bounds}
+use Rattle.affc_loopends.specs.declared.bounds.Bounds.TheVariants.{Between, Loose as Without}
+use Rattle.affc_loopends.specs.Ends.{IsProjectedRow}
+use Rattle.affc_loopends.specs.Sizes.{IsModest}
+use Rattle.affc_loopends.specs.Whys.{AreBoundsFrom}
+use Rattle.affc_loopends.specs.scanned.declared.scanned.Loose.{Loose}
+use Rattle.affc_loopends.specs.scanned.Scanned.{sides_of, loose_from, all_loose, all_sides}
 use Rattle.affc_scan.specs.declared.gathered.Gathered.{Gathered}
 use Rattle.affc_scan.specs.EndRows.{IsEndRow, HaveEndRows}
 use Rattle.affc_scan.specs.Gathered.{IsProjectable, GathersOne, GathersMore, Gathers}

@@ -21,10 +21,10 @@ use Rattle.affc_loops.specs.Loops.{loop_names}
 use Rattle.affc_loops.proofs.Guards.{names_count}
 use Rattle.affc_loops.proofs.LoopLaws.{few, slight}
 use Rattle.affc_loops.proofs.Pieces.{numbers_are, shape_of}
-use Rattle.affc_ends.specs.Sizes.{IsTimed}
-use Rattle.affc_ends.specs.TimeRows.{time_system, system_of}
-use Rattle.affc_ends.specs.TimeSets.{timed_in}
-use Rattle.affc_ends.proofs.Statements.{entries_are_timed}
+use Rattle.affc_loopends.specs.Sizes.{IsTimed}
+use Rattle.affc_loopends.specs.TimeRows.{time_system, system_of}
+use Rattle.affc_loopends.specs.TimeSets.{timed_in}
+use Rattle.affc_loopends.proofs.Statements.{entries_are_timed}
 use Rattle.affc_scan.specs.Pieces.{Numbered, numbered_from}
 
 -- ---- Which statement it is

@@ -29,12 +29,12 @@ use Rattle.affc_loops.specs.Loops.{Piece, box_in, boxes, pieces_from, pieces, ti
 use Rattle.affc_loops.proofs.Boxes.{is_wide, none_wide}
 use Rattle.affc_loops.proofs.Pieces.{numbers_are}
 use Rattle.affc_loops.proofs.SameLoops.{boxes_same}
-use Rattle.affc_ends.specs.declared.bounds.Bounds.{Bounds}
-use Rattle.affc_ends.specs.Sizes.{IsTimed}
-use Rattle.affc_ends.specs.TimeRows.{time_system, system_of}
-use Rattle.affc_ends.specs.TimeSets.{Timed, timed_in}
-use Rattle.affc_ends.specs.Whys.{AreBoundsFrom}
-use Rattle.affc_ends.specs.scanned.Scanned.{AreBounds, AreBoundsOfEach, all_loose, all_sides, IsBetween}
+use Rattle.affc_loopends.specs.declared.bounds.Bounds.{Bounds}
+use Rattle.affc_loopends.specs.Sizes.{IsTimed}
+use Rattle.affc_loopends.specs.TimeRows.{time_system, system_of}
+use Rattle.affc_loopends.specs.TimeSets.{Timed, timed_in}
+use Rattle.affc_loopends.specs.Whys.{AreBoundsFrom}
+use Rattle.affc_loopends.specs.scanned.Scanned.{AreBounds, AreBoundsOfEach, all_loose, all_sides, IsBetween}
 use Rattle.affc_scan.specs.declared.gathered.Gathered.{Gathered}
 use Rattle.affc_scan.specs.declared.parts.Part.{Part}
 use Rattle.affc_scan.specs.Gathered.{IsProjectable, AllProjectable, AreBoundsOf, AreBoundsOfAll, Gathers}

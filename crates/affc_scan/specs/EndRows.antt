@@ -2,8 +2,8 @@
 use Rattle.std.specs.Prelude.{◌≡◌, ℕ, suc, List, [], ◌∷◌, length}
 use Rattle.std.specs.List.{All}
 use Rattle.affc_rows.specs.Forms.{Affine}
-use Rattle.affc_ends.specs.declared.bounds.Bounds.{Bounds}
-use Rattle.affc_ends.specs.declared.bounds.Bounds.TheVariants.{Between, Loose}
+use Rattle.affc_loopends.specs.declared.bounds.Bounds.{Bounds}
+use Rattle.affc_loopends.specs.declared.bounds.Bounds.TheVariants.{Between, Loose}
 use Rattle.affc_loops.specs.terms.Sizes.{IsModest}
 
 -- a row over the columns up to this one

@@ -3,11 +3,11 @@ use Rattle.std.specs.Prelude.{◌≡◌, ℕ, ◌+◌, ℤ, List, [], ◌∷◌,
 use Rattle.affc_nest.specs.declared.nest.Nest.{Nest}
 use Rattle.affc_loops.specs.Ends.{joined, ends_from, both_ends, each_ends, all_ends}
 use Rattle.affc_loops.specs.Loops.{times_of}
-use Rattle.affc_ends.specs.declared.bounds.Bounds.{Bounds}
-use Rattle.affc_ends.specs.Sizes.{IsTimed}
-use Rattle.affc_ends.specs.TimeRows.{time_system}
-use Rattle.affc_ends.specs.Whys.{AreBoundsFrom}
-use Rattle.affc_ends.specs.scanned.Scanned.{sides_of, loose_from, all_loose, all_sides}
+use Rattle.affc_loopends.specs.declared.bounds.Bounds.{Bounds}
+use Rattle.affc_loopends.specs.Sizes.{IsTimed}
+use Rattle.affc_loopends.specs.TimeRows.{time_system}
+use Rattle.affc_loopends.specs.Whys.{AreBoundsFrom}
+use Rattle.affc_loopends.specs.scanned.Scanned.{sides_of, loose_from, all_loose, all_sides}
 use Rattle.affc_scan.specs.declared.gathered.Gathered.{Gathered}
 use Rattle.affc_scan.specs.Pieces.{Numbered, piece_in, HasSpans}
 

@@ -7,7 +7,7 @@ use Rattle.affc_trace.specs.Law.{IsIn}
 use Rattle.affc_nest.specs.declared.nest.Nest.{Nest}
 use Rattle.affc_nest.specs.Nests.{nest_of}
 use Rattle.affc_loops.specs.Laws.{HasLoops}
-use Rattle.affc_ends.specs.scanned.Laws.{HaveSameTimes}
+use Rattle.affc_loopends.specs.scanned.Laws.{HaveSameTimes}
 use Rattle.affc_scan.specs.InSight.{IsInSight}
 
 -- The program has the loops and conditions of a source, maybe with other assignments, and this is the source's nest: the source

@@ -5,12 +5,12 @@ ghost use Rattle.affc_ast.specs.declared.tree.Ix.TheVariants as trees;
 ghost use Rattle.affc_loops.specs.Ends as specs;
 ghost use Rattle.affc_loops.specs.Limits.{IsSmall};
 ghost use Rattle.affc_scan.specs.EndRows.{IsEndRow, HasEndRows, HaveEndRows};
-ghost use Rattle.affc_ends.specs.scanned.Scanned.{sides_of};
+ghost use Rattle.affc_loopends.specs.scanned.Scanned.{sides_of};
 ghost use Rattle.affc_loops.specs.terms.Sizes.{IsModest};
 
 use affc_ast::Items;
 use affc_ast::tree::Ix;
-use affc_ends::Bounds;
+use affc_loopends::Bounds;
 use affc_loops::terms::trees::{ceild, floord, max, min};
 use affc_loops::terms::{form_ix, number};
 use affc_rows::Form;

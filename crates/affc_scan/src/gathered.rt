@@ -6,15 +6,15 @@ ghost use Rattle.affc_scan.specs.EndRows.{HaveEndRows};
 ghost use Rattle.affc_scan.specs.Gathered.{IsProjectable, AllProjectable, GathersOne, GathersMore, Gathers};
 ghost use Rattle.affc_scan.specs.Parts.{numbered, piece};
 ghost use Rattle.affc_scan.specs.Pieces.{HasSpans};
-ghost use Rattle.affc_ends.specs.scanned.Scanned.{sides_of, loose_from};
+ghost use Rattle.affc_loopends.specs.scanned.Scanned.{sides_of, loose_from};
 
 use crate::ends::{both_ends, ends_from};
 use crate::parts::Part;
 use crate::times::times_of;
 use affc_ast::Items;
 use affc_ast::tree::Ix;
-use affc_ends::scanned::Loose;
-use affc_ends::{Bounds, statement_ends};
+use affc_loopends::scanned::Loose;
+use affc_loopends::{Bounds, statement_ends};
 use affc_nest::Nest;
 use affc_system::BoxOf;
 use std::alloc::{AllocError, Global};

@@ -8,7 +8,7 @@ ghost use Rattle.affc_scan.specs.Gathered.{AllProjectable, Gathers};
 ghost use Rattle.affc_scan.specs.Laws.{IsNestFor};
 ghost use Rattle.affc_scan.specs.Parts.{numbered, piece};
 ghost use Rattle.affc_scan.specs.Pieces.{AllPrintable, AllSpan};
-ghost use Rattle.affc_ends.specs.scanned.Scanned.{IsBetween, Scans};
+ghost use Rattle.affc_loopends.specs.scanned.Scanned.{IsBetween, Scans};
 
 use crate::blocks::block;
 use crate::gathered::{Gathered, gather_all};
@@ -19,7 +19,7 @@ use affc_ast::Items;
 use affc_ast::copies::all as copies;
 use affc_ast::text::Text;
 use affc_ast::tree::{Ix, Program, Stmt};
-use affc_ends::scanned::Scanned;
+use affc_loopends::scanned::Scanned;
 use affc_nest::{Nest, all_sites};
 use affc_trace::{Schedule, TimeMap};
 use std::alloc::{AllocError, Global};

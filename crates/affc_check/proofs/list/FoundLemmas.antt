@@ -12,7 +12,7 @@ use Rattle.affc_quast.specs.Trees.{Tree}
 use Rattle.affc_flow.specs.Questions as flow
 use Rattle.affc_flow.specs.Questions.{flow_questions}
 use Rattle.affc_life.specs.Laws.{AreFound}
-use Rattle.affc_behind.specs.Parts.{IsWithin}
+use Rattle.affc_products.specs.Parts.{IsWithin}
 use Rattle.affc_questions.proofs.PassLemmas.{found_trees_pass_no_limit}
 use Rattle.affc_check.specs.list.Held.{flow_item}
 use Rattle.affc_check.specs.list.Items.{Item, Question}

@@ -6,9 +6,9 @@ use Rattle.std.proofs.lemmas.List.{map-append}
 use Rattle.affc_trace.proofs.LastStores.{append_nil}
 use Rattle.affc_system.specs.Systems.{Rows}
 use Rattle.affc_trace.specs.Law.{IsIn}
-use Rattle.affc_behind.specs.Parts.{IsWithin}
-use Rattle.affc_behind.specs.declared.group.Group.{Group}
-use Rattle.affc_behind.specs.Groups.{group_systems}
+use Rattle.affc_products.specs.Parts.{IsWithin}
+use Rattle.affc_products.specs.declared.group.Group.{Group}
+use Rattle.affc_products.specs.Groups.{group_systems}
 use Rattle.affc_check.specs.list.Groups.{part_items}
 use Rattle.affc_check.specs.list.Items.{Item, Question, Shown}
 use Rattle.affc_check.specs.list.Limits.{AnyPasses}

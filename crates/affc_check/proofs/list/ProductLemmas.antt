@@ -10,10 +10,10 @@ use Rattle.affc_trace.specs.Law.{IsIn}
 use Rattle.affc_trace.proofs.EndedReads.{append_assoc}
 use Rattle.affc_nest.specs.Domains.{gap_row, with_rows}
 use Rattle.affc_conflicts.specs.Questions.{distance, agree_rows, over_columns, distance_question, distance_questions}
-use Rattle.affc_behind.specs.Parts.{IsWithin}
-use Rattle.affc_behind.specs.Products.{choices, product}
-use Rattle.affc_behind.specs.Blocks.{AnyPast}
-use Rattle.affc_behind.proofs.ProductLemmas.{choices_with_last, choices_without_last}
+use Rattle.affc_products.specs.Parts.{IsWithin}
+use Rattle.affc_products.specs.Products.{choices, product}
+use Rattle.affc_products.specs.Blocks.{AnyPast}
+use Rattle.affc_products.proofs.ProductLemmas.{choices_with_last, choices_without_last}
 use Rattle.affc_life.specs.Products.{systems_in}
 use Rattle.affc_life.specs.declared.clash.ClashProduct.{ClashProduct}
 use Rattle.affc_questions.specs.Asked.{IsAlong}

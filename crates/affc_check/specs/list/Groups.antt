@@ -5,9 +5,9 @@ use Rattle.affc_nest.specs.declared.nest.Nest.{Nest}
 use Rattle.affc_trace.specs.declared.schedule.Schedule.{Schedule}
 use Rattle.affc_sched.specs.Questions.{legality_questions}
 use Rattle.affc_quast.specs.Trees.{Tree}
-use Rattle.affc_behind.specs.Groups.{group_systems}
-use Rattle.affc_behind.specs.Parts.{IsWithin}
-use Rattle.affc_behind.specs.declared.group.Group.{Group}
+use Rattle.affc_products.specs.Groups.{group_systems}
+use Rattle.affc_products.specs.Parts.{IsWithin}
+use Rattle.affc_products.specs.declared.group.Group.{Group}
 use Rattle.affc_check.specs.list.Items.{Item, Question}
 use Rattle.affc_check.specs.list.Held.{legality_item}
 use Rattle.affc_check.specs.list.Passes.{items_by_tree}

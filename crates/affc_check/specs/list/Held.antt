@@ -5,7 +5,7 @@ use Rattle.affc_nest.specs.Questions.{whole_context}
 use Rattle.affc_nest.specs.declared.nest.Nest.{Nest}
 use Rattle.affc_sched.specs.Questions as sched
 use Rattle.affc_flow.specs.Questions as flow
-use Rattle.affc_behind.specs.Blocks.{block_questions}
+use Rattle.affc_products.specs.Blocks.{block_questions}
 use Rattle.affc_check.specs.list.Items as said
 use Rattle.affc_check.specs.list.declared.item.Item.{Item}
 use Rattle.affc_check.specs.list.declared.item.Item.TheVariants.{Question, Shown}

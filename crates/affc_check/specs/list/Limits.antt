@@ -2,7 +2,7 @@
 use Rattle.std.specs.Prelude.{◌≡◌, ℕ, ◌<◌, List, Some, slice_get}
 use Rattle.affc_system.specs.Systems.{Rows}
 use Rattle.affc_trace.specs.Law.{IsIn}
-use Rattle.affc_behind.specs.Parts.{IsWithin}
+use Rattle.affc_products.specs.Parts.{IsWithin}
 use Rattle.affc_check.specs.list.Items.{Item, Question}
 
 -- a question among these items isn't within the limits of a system

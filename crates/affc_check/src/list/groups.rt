@@ -1,8 +1,8 @@
 //! Questions in groups, put behind others.
 ghost use Rattle.std.specs.Prelude.{flat_map, IfOk, ◌≡◌, ℕ, ◌++◌, ◌∷◌, [], map, OnOk, IfErr};
 ghost use Rattle.std.specs.List.{All};
-ghost use Rattle.affc_behind.specs.Parts.{IsWithin};
-ghost use Rattle.affc_behind.specs.Groups.{group_systems};
+ghost use Rattle.affc_products.specs.Parts.{IsWithin};
+ghost use Rattle.affc_products.specs.Groups.{group_systems};
 ghost use Rattle.affc_check.specs.list.Groups.{part_items};
 ghost use Rattle.affc_check.specs.list.Held.{listed_said};
 ghost use Rattle.affc_check.specs.list.Items.{Question};
@@ -12,7 +12,7 @@ ghost use Rattle.affc_check.specs.list.Listed.{AreListed, PartsListed, IsFirstPa
 use crate::list::item::Listed;
 use crate::list::listing::add_product;
 use crate::list::stop::{PartStop, Stop, at_part};
-use affc_behind::Group;
+use affc_products::Group;
 use affc_rows::Form;
 use sqlite_items::Items;
 use std::alloc::{AllocError, Global};

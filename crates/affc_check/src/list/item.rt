@@ -3,7 +3,7 @@ ghost use Rattle.std.specs.Prelude.{◌≤◌};
 ghost use Rattle.std.specs.List.{All};
 ghost use Rattle.affc_system.specs.Systems.{IsRow};
 
-use affc_behind::{Block, Group};
+use affc_products::{Block, Group};
 use affc_questions::Long;
 use affc_system::System;
 use sqlite_items::Items;

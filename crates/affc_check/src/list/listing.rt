@@ -1,6 +1,6 @@
 //! Items put behind others.
 ghost use Rattle.std.specs.Prelude.{flat_map, ◌≡◌, ◌++◌, ◌∷◌, [], map, IfOk, OnOk, IfErr};
-ghost use Rattle.affc_behind.specs.Blocks.{product, block_questions};
+ghost use Rattle.affc_products.specs.Blocks.{product, block_questions};
 ghost use Rattle.affc_check.specs.list.Held.{item_said, listed_said};
 ghost use Rattle.affc_check.specs.list.Items.{Question, Shown};
 ghost use Rattle.affc_check.specs.list.Limits.{AnyPasses};
@@ -8,7 +8,7 @@ ghost use Rattle.affc_check.specs.list.Listed.{AreListed};
 
 use crate::list::item::{Item, Listed, Point};
 use crate::list::stop::Stop;
-use affc_behind::Block;
+use affc_products::Block;
 use affc_questions::Long;
 use affc_rows::Form;
 use affc_system::System;

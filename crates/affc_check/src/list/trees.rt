@@ -12,10 +12,10 @@ ghost use Rattle.affc_check.specs.list.Groups.{part_items, AreTreeGroups};
 ghost use Rattle.affc_check.specs.list.Passes.{items_by_entry};
 ghost use Rattle.affc_check.specs.list.Walks.{leaf_items, load_items, own_items};
 
-use affc_behind::Group;
 use affc_life::stores::{loops_round, params_in};
 use affc_life::walk::trees_from;
 use affc_nest::{Access, Entry, Nest};
+use affc_products::Group;
 use affc_quast::leaves::{Leaf, leaves};
 use affc_quast::{Flow, Quast};
 use affc_questions::leaf_questions;

@@ -7,9 +7,9 @@ use Rattle.affc_trace.proofs.EndedReads.{append_assoc}
 use Rattle.affc_trace.proofs.LastStores.{append_nil}
 use Rattle.affc_system.specs.Systems.{Rows}
 use Rattle.affc_sched.specs.Questions.{Question}
-use Rattle.affc_behind.specs.Parts.{IsWithin}
-use Rattle.affc_behind.specs.Groups.{group_systems}
-use Rattle.affc_behind.specs.declared.group.Group.{Group}
+use Rattle.affc_products.specs.Parts.{IsWithin}
+use Rattle.affc_products.specs.Groups.{group_systems}
+use Rattle.affc_products.specs.declared.group.Group.{Group}
 use Rattle.affc_questions.specs.legality.Added.{AreAdded}
 
 abbrev systems_of : List Question → List Rows

@@ -11,9 +11,9 @@ use Rattle.affc_nest.specs.declared.nest.Nest.{Nest}
 use Rattle.affc_order.specs.Systems.{pair_columns, source_systems, turned_systems}
 use Rattle.affc_sched.specs.Questions.{Question, Touch, touches, may_depend, pair_rows, question, pair_questions, questions_of, questions_to}
 use Rattle.affc_sched.proofs.PairLemmas.{systems_made}
-use Rattle.affc_behind.specs.Parts.{IsWithin}
-use Rattle.affc_behind.specs.Groups.{group_systems}
-use Rattle.affc_behind.specs.declared.group.Group.{Group}
+use Rattle.affc_products.specs.Parts.{IsWithin}
+use Rattle.affc_products.specs.Groups.{group_systems}
+use Rattle.affc_products.specs.declared.group.Group.{Group}
 use Rattle.affc_questions.specs.legality.Added.{AreAdded, NoneDepends}
 use Rattle.affc_questions.specs.legality.Alternatives.{with_orders}
 

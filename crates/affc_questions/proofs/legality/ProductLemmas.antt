@@ -8,12 +8,12 @@ use Rattle.affc_system.specs.Systems.{Rows, IsRow}
 use Rattle.affc_trace.proofs.EndedReads.{append_assoc}
 use Rattle.affc_trace.proofs.LastStores.{append_nil}
 use Rattle.affc_nest.specs.Domains.{with_rows}
-use Rattle.affc_behind.specs.Parts.{IsWithin}
-use Rattle.affc_behind.specs.Products.{product}
-use Rattle.affc_behind.specs.Groups.{group_systems}
-use Rattle.affc_behind.specs.declared.group.Group.{Group}
-use Rattle.affc_behind.proofs.Eaches.{each_append}
-use Rattle.affc_behind.proofs.ProductLemmas.{choices_of_two}
+use Rattle.affc_products.specs.Parts.{IsWithin}
+use Rattle.affc_products.specs.Products.{product}
+use Rattle.affc_products.specs.Groups.{group_systems}
+use Rattle.affc_products.specs.declared.group.Group.{Group}
+use Rattle.affc_products.proofs.Eaches.{each_append}
+use Rattle.affc_products.proofs.ProductLemmas.{choices_of_two}
 use Rattle.affc_questions.specs.legality.Alternatives.{IsAlternative, rows_of_each, with_orders}
 
 -- ---- Which they are

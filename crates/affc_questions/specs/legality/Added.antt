@@ -2,9 +2,9 @@
 use Rattle.std.specs.Prelude.{◌≡◌, false, List, [], ◌∷◌, ◌++◌, map, flat_map}
 use Rattle.std.specs.List.{All}
 use Rattle.affc_sched.specs.Questions.{Question, Touch, may_depend}
-use Rattle.affc_behind.specs.Parts.{IsWithin}
-use Rattle.affc_behind.specs.Groups.{group_systems}
-use Rattle.affc_behind.specs.declared.group.Group.{Group}
+use Rattle.affc_products.specs.Parts.{IsWithin}
+use Rattle.affc_products.specs.Groups.{group_systems}
+use Rattle.affc_products.specs.declared.group.Group.{Group}
 
 -- the systems of these questions are put behind, and each of them keeps the limits of a system
 pub record AreAdded (old new : List Group) (questions : List Question) : Type 0 where

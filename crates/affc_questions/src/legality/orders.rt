@@ -1,8 +1,8 @@
 //! Questions on the schedule.
 ghost use Rattle.std.specs.Prelude.{◌≡◌, map, flat_map, IsTrue, IfOk, OnOk};
 ghost use Rattle.std.specs.List.{All};
-ghost use Rattle.affc_behind.specs.Groups.{group_systems};
-ghost use Rattle.affc_behind.specs.Parts.{IsWithin};
+ghost use Rattle.affc_products.specs.Groups.{group_systems};
+ghost use Rattle.affc_products.specs.Parts.{IsWithin};
 ghost use Rattle.affc_questions.specs.legality.Added.{AreAdded, NoneDepends};
 ghost use Rattle.affc_order.specs.Systems.{source_systems, turned_systems};
 ghost use Rattle.affc_sched.specs.Answered.{IsTouched, Each};
@@ -11,9 +11,9 @@ ghost use Rattle.affc_sched.specs.Questions.{touches, may_depend, pair_questions
 ghost use Rattle.affc_trace.specs.Law.{IsIn};
 
 use crate::legality::products::add_product;
-use affc_behind::Group;
 use affc_nest::{Access, Entry, Nest};
 use affc_order::{source_before, target_after};
+use affc_products::Group;
 use affc_sched::pair_rows;
 use affc_system::System;
 use affc_trace::schedule::Schedule;

@@ -1,12 +1,12 @@
 //! Systems of orders as factors behind the rows of two accesses.
 ghost use Rattle.std.specs.Prelude.{◌≡◌, ◌≤◌, ◌++◌, ◌∷◌, [], length, flat_map, IfOk, OnOk};
 ghost use Rattle.std.specs.List.{All};
-ghost use Rattle.affc_behind.specs.Groups.{group_systems};
-ghost use Rattle.affc_behind.specs.Parts.{IsWithin};
+ghost use Rattle.affc_products.specs.Groups.{group_systems};
+ghost use Rattle.affc_products.specs.Parts.{IsWithin};
 ghost use Rattle.affc_sched.specs.Spreadable.{IsOrder};
 ghost use Rattle.affc_questions.specs.legality.Alternatives.{IsAlternative, rows_of_each, with_orders};
 
-use affc_behind::Group;
+use affc_products::Group;
 use affc_rows::Form;
 use affc_system::System;
 use sqlite_items::Items;

@@ -1,6 +1,6 @@
 use Rattle.std.proofs.Common.{map, subst}
-use Rattle.affc_behind.specs.Blocks.{block_questions}
-use Rattle.affc_behind.specs.Steps.{IsStep}
+use Rattle.affc_products.specs.Blocks.{block_questions}
+use Rattle.affc_products.specs.Steps.{IsStep}
 use Rattle.affc_check.specs.list.Items.{Question}
 use Rattle.affc_check.specs.Steps.{Leaves}
 use Rattle.affc_check.proofs.CheckLemmas.{block_within, block_fails, questions_leave}

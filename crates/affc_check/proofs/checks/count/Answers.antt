@@ -1,5 +1,5 @@
 use Rattle.std.proofs.Common.{◌≡◌, ℕ, ◌+◌, ◌-◌, length, map, sym, ap, subst, arith, ◌∙◌}
-use Rattle.affc_behind.specs.Blocks.{block_questions}
+use Rattle.affc_products.specs.Blocks.{block_questions}
 use Rattle.affc_check.specs.list.Held.{listed_said}
 use Rattle.affc_check.specs.list.Items.{Question}
 use Rattle.affc_check.specs.Steps.{Leaves}

@@ -2,7 +2,7 @@ use Rattle.std.proofs.Common.{◌∙◌, sym, ap, subst}
 use Rattle.affc_cprint.specs.Layout.{printed_text}
 use Rattle.affc_report.specs.Folds.{fold_report}
 use Rattle.affc_scan.specs.Laws.{IsNestFor}
-use Rattle.affc_ends.specs.scanned.Scanned.{Scans}
+use Rattle.affc_loopends.specs.scanned.Scanned.{Scans}
 use Rattle.affc_schedtext.specs.Outline.{outline}
 use Rattle.affc_driver.proofs.folding.finish.Goals as goal
 

@@ -1,7 +1,7 @@
 use Rattle.std.proofs.Common.{sym, subst, ◌∙◌}
 use Rattle.std.specs.List.{All}
 use Rattle.affc_system.specs.Systems.{IsRow}
-use Rattle.affc_behind.specs.Blocks.{choices}
+use Rattle.affc_products.specs.Blocks.{choices}
 use Rattle.affc_life.specs.Sought.{IsSought}
 use Rattle.affc_life.proofs.SoughtLemmas.{sought_here, sought_later, choice_fits}
 use Rattle.affc_life.proofs.product.found_at.Goals as goal

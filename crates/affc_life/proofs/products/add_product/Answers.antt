@@ -1,5 +1,5 @@
 use Rattle.std.proofs.Common.{◌≡◌, [], map, flat_map, sym, ap, ◌∙◌}
-use Rattle.affc_behind.specs.Blocks.{choices}
+use Rattle.affc_products.specs.Blocks.{choices}
 use Rattle.affc_life.specs.Clashes.{clash_of}
 use Rattle.affc_life.specs.Drafts.{drafted, draft_by}
 use Rattle.affc_life.specs.Products.{systems_in}

@@ -1,7 +1,7 @@
 use Rattle.std.proofs.Common.{◌≡◌, ◌++◌, ◌∷◌, [], rules, subst}
 use Rattle.std.specs.List.{All}
-use Rattle.affc_behind.specs.Blocks.{product, AnyPast}
-use Rattle.affc_behind.specs.Parts.{IsWithin}
+use Rattle.affc_products.specs.Blocks.{product, AnyPast}
+use Rattle.affc_products.specs.Parts.{IsWithin}
 use Rattle.affc_life.proofs.KeptLemmas.{all_kept, none_past, one_past}
 use Rattle.affc_life.proofs.products.keeps_limits.Goals as goal
 

@@ -2,7 +2,7 @@ use Rattle.std.proofs.Common.{◌++◌, map, flat_map, ap, ap₂, ◌∙◌}
 use Rattle.affc_quast.specs.SeenLeaves.{leaf_seen}
 use Rattle.affc_life.specs.Drafts.{posed}
 use Rattle.affc_questions.specs.Listed.{behind, own_path, astray_lists, late_lists, all_between}
-use Rattle.affc_behind.specs.Groups.{group_systems}
+use Rattle.affc_products.specs.Groups.{group_systems}
 use Rattle.affc_questions.proofs.ListedLemmas.{lists_made}
 use Rattle.affc_questions.proofs.LeafLemmas.{own_narrow, all_in}
 use Rattle.affc_questions.proofs.leaf.add_named.Goals as goal

@@ -1,7 +1,7 @@
 use Rattle.std.proofs.Common.{Some, None, flat_map, ap}
 use Rattle.affc_quast.specs.SeenLeaves.{leaf_seen, named_seen}
 use Rattle.affc_life.specs.Drafts.{posed}
-use Rattle.affc_behind.specs.Groups.{group_systems}
+use Rattle.affc_products.specs.Groups.{group_systems}
 use Rattle.affc_questions.proofs.ListedLemmas.{leaf_made}
 use Rattle.affc_questions.proofs.leaf.leaf_questions.Goals as goal
 

@@ -1,8 +1,8 @@
 use Rattle.std.proofs.Common.{◌≡◌, ◌∷◌, ◌++◌, [], map, flat_map, ap, ◌∙◌}
-use Rattle.affc_behind.specs.Products.{product}
-use Rattle.affc_behind.proofs.ProductLemmas.{choices_of_one}
+use Rattle.affc_products.specs.Products.{product}
+use Rattle.affc_products.proofs.ProductLemmas.{choices_of_one}
 use Rattle.affc_questions.specs.Listed.{behind}
-use Rattle.affc_behind.specs.Groups.{group_systems}
+use Rattle.affc_products.specs.Groups.{group_systems}
 use Rattle.affc_questions.proofs.ListedLemmas.{group_more}
 use Rattle.affc_questions.proofs.lists.add_each.Goals as goal
 

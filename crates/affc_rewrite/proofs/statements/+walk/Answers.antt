@@ -2,7 +2,7 @@ use Rattle.std.proofs.Common.{◌≡◌, ℕ, ◌+◌, true, List, [], ◌∷◌
 use Rattle.affc_ast.specs.declared.tree.Stmt.{Stmt}
 use Rattle.affc_ast.specs.Recursion.{by_stmt}
 use Rattle.affc_ast.proofs.Outs.{stmt_outs}
-use Rattle.affc_placed.specs.Refolds.{refold_step, each_under}
+use Rattle.affc_foldloops.specs.Refolds.{refold_step, each_under}
 use Rattle.affc_rewrite.specs.Sizes.{IsWalk, at, all_under, accesses_step}
 use Rattle.affc_rewrite.proofs.Arms.{walk_in, for_plain, if_plain, block_plain, for_made, if_made, block_made, rest_plain, statement_front}
 use Rattle.affc_rewrite.proofs.statements.+walk.Goals as goal

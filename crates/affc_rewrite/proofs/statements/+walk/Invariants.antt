@@ -1,6 +1,6 @@
 use Rattle.std.proofs.Common.{◌≡◌, true, ◌++◌, drop, map}
 use Rattle.affc_ast.specs.Recursion.{by_stmt}
-use Rattle.affc_placed.specs.Refolds.{refold_step, each_under}
+use Rattle.affc_foldloops.specs.Refolds.{refold_step, each_under}
 use Rattle.affc_rewrite.specs.Sizes.{at, all_under, accesses_step}
 use Rattle.affc_rewrite.proofs.statements.+walk.Given as goal
 

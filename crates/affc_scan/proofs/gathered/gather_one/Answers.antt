@@ -2,8 +2,8 @@ use Rattle.std.proofs.Common.{List, length, map, sym, ap, subst, ◌∙◌}
 use Rattle.affc_nest.specs.declared.nest.Nest.{Nest}
 use Rattle.affc_loops.specs.Ends.{ends_from}
 use Rattle.affc_loops.specs.Loops.{times_of}
-use Rattle.affc_ends.specs.declared.bounds.Bounds.{Bounds}
-use Rattle.affc_ends.specs.scanned.Scanned.{sides_of}
+use Rattle.affc_loopends.specs.declared.bounds.Bounds.{Bounds}
+use Rattle.affc_loopends.specs.scanned.Scanned.{sides_of}
 use Rattle.affc_scan.specs.EndRows.{HaveEndRows}
 use Rattle.affc_scan.specs.Parts.{numbered, piece}
 use Rattle.affc_scan.proofs.Gathering.{bounds_rows, own_long}

@@ -2,8 +2,8 @@ use Rattle.std.proofs.Common.{flat_map, map, sym, ap, subst, ◌∙◌}
 use Rattle.std.specs.List.{All}
 use Rattle.affc_order.proofs.CodeLemmas.{is_nest}
 use Rattle.affc_sched.specs.Questions.{legality_questions}
-use Rattle.affc_behind.specs.Groups.{group_systems}
-use Rattle.affc_behind.specs.Parts.{IsWithin}
+use Rattle.affc_products.specs.Groups.{group_systems}
+use Rattle.affc_products.specs.Parts.{IsWithin}
 use Rattle.affc_check.specs.list.Items.{Question}
 use Rattle.affc_check.specs.list.Groups.{part_items}
 use Rattle.affc_check.proofs.list.ListLemmas.{by_systems}

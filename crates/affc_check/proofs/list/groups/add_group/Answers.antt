@@ -1,6 +1,6 @@
 use Rattle.std.proofs.Common.{flat_map, ◌∷◌, ◌++◌, [], map, ap, subst, ◌∙◌}
 use Rattle.std.proofs.lemmas.Result.{on_ok_weaker, IfErr-weaker}
-use Rattle.affc_behind.specs.Products.{product}
+use Rattle.affc_products.specs.Products.{product}
 use Rattle.affc_check.specs.list.Held.{listed_said}
 use Rattle.affc_check.specs.list.Items.{Question}
 use Rattle.affc_check.specs.list.Limits.{AnyPasses}

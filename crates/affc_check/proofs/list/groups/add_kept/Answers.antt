@@ -1,5 +1,5 @@
 use Rattle.std.proofs.Common.{flat_map}
-use Rattle.affc_behind.specs.Groups.{group_systems}
+use Rattle.affc_products.specs.Groups.{group_systems}
 use Rattle.affc_check.proofs.list.GroupLemmas.{kept_none_passes}
 use Rattle.affc_check.proofs.list.groups.add_kept.Goals as goal
 

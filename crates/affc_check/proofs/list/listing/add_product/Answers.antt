@@ -1,5 +1,5 @@
 use Rattle.std.proofs.Common.{[], ◌∷◌, ◌++◌, map, flat_map, ap, ◌∙◌}
-use Rattle.affc_behind.specs.Products.{product}
+use Rattle.affc_products.specs.Products.{product}
 use Rattle.affc_check.specs.list.Held.{listed_said}
 use Rattle.affc_check.specs.list.Items.{Question}
 use Rattle.affc_check.proofs.list.ProductLemmas.{past_passes, within_passes}

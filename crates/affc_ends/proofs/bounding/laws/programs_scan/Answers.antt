@@ -1,5 +1,0 @@
-use Rattle.affc_ends.proofs.bounding.Programs as lemma
-use Rattle.affc_ends.proofs.bounding.laws.programs_scan.Goals as goal
-
-pub returns : goal.returns
-returns c = record { law = lemma.programs_scan }

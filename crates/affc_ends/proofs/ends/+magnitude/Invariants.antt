@@ -1,5 +1,0 @@
-use Rattle.std.proofs.Common.{length}
-use Rattle.affc_ends.proofs.ends.+magnitude.Given as goal
-
-abbrev pub decreases-magnitude : goal.decreases-magnitude
-decreases-magnitude l = length l.coefs.now

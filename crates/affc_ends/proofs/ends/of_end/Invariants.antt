@@ -1,6 +1,0 @@
-use Rattle.std.proofs.Common.{take}
-use Rattle.affc_ends.specs.Steps.{AreOfEnd}
-use Rattle.affc_ends.proofs.ends.of_end.Given as goal
-
-abbrev pub invariant-loop-row : goal.invariant-loop-row
-invariant-loop-row l = AreOfEnd l.lower l.column (take l.row-index l.rows) l.chosen.items

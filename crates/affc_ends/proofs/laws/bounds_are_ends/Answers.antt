@@ -1,5 +1,0 @@
-use Rattle.affc_ends.proofs.Statements as lemma
-use Rattle.affc_ends.proofs.laws.bounds_are_ends.Goals as goal
-
-pub returns : goal.returns
-returns c = record { law = lemma.bounds_are_ends }

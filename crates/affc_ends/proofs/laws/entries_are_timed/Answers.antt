@@ -1,5 +1,0 @@
-use Rattle.affc_ends.proofs.Statements as lemma
-use Rattle.affc_ends.proofs.laws.entries_are_timed.Goals as goal
-
-pub returns : goal.returns
-returns c = record { law = lemma.entries_are_timed }

@@ -1,5 +1,0 @@
-use Rattle.affc_ends.proofs.Instances as lemma
-use Rattle.affc_ends.proofs.laws.instances_are_time_points.Goals as goal
-
-pub returns : goal.returns
-returns c = record { law = lemma.instance_is_time_point }

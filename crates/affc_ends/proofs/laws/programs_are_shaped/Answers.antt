@@ -1,5 +1,0 @@
-use Rattle.affc_ends.proofs.Instances as lemma
-use Rattle.affc_ends.proofs.laws.programs_are_shaped.Goals as goal
-
-pub returns : goal.returns
-returns c = record { law = lemma.program_is_shaped }

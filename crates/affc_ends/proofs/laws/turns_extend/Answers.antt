@@ -1,5 +1,0 @@
-use Rattle.affc_ends.proofs.Extended as lemma
-use Rattle.affc_ends.proofs.laws.turns_extend.Goals as goal
-
-pub returns : goal.returns
-returns c = record { law = lemma.turns_extend }

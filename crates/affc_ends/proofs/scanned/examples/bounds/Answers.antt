@@ -1,5 +1,0 @@
-use Rattle.affc_ends.proofs.scanned.Numbered as lemma
-use Rattle.affc_ends.proofs.scanned.examples.bounds.Goals as goal
-
-pub returns : goal.returns
-returns c = record { rows = lemma.rows_of_bounds; loose = lemma.loose_are_numbered }

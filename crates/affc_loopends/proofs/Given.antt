@@ -1,0 +1,165 @@
+-- What the code is given.
+use Rattle.std.proofs.Common.{◌≡◌, ℕ, [], ◌∷◌, ◌++◌, map, length-append, zero, suc, ◌+◌, ◌-◌, ◌*◌, ◌≤◌, ◌<◌, List, length, IsTrue, ℤ, refl, sym, ap, subst, ◌∙◌, arith}
+use Rattle.std.specs.List.{All}
+use Rattle.std.proofs.lemmas.List.{length-map}
+use Rattle.std.proofs.lemmas.List.Elements.{All-nil, All-cons, All-append, All-weaker, All-head, All-tail}
+use Rattle.affc_rows.specs.Forms.{Affine, HaveColumns, columns_of}
+use Rattle.affc_system.specs.Systems.{Rows, IsRow}
+use Rattle.affc_ast.specs.declared.tree.Program.{Program}
+use Rattle.affc_trace.specs.declared.schedule.TimeMap.{TimeMap}
+use Rattle.affc_trace.specs.Law.{IsIn}
+use Rattle.affc_domain.specs.Ranges.{number_ranges}
+use Rattle.affc_domain.specs.Rounds.{loops_in}
+use Rattle.affc_domain.proofs.PlainLemmas.{assignments_are_plain}
+use Rattle.affc_nest.specs.Asked.{IsNest}
+use Rattle.affc_nest.specs.declared.nest.Entry.{Entry}
+use Rattle.affc_nest.specs.declared.nest.Nest.{Nest}
+use Rattle.affc_nest.specs.Domains.{column_form, gap_row}
+use Rattle.affc_nest.specs.Entries.{IsPlainPlace}
+use Rattle.affc_nest.specs.Nests.{nest_of}
+use Rattle.affc_nest.specs.Sites.{Place}
+use Rattle.affc_nest.proofs.EntryLemmas.{SiteOf, site_of, loops_are, ranges_there, domain_is}
+use Rattle.affc_nest.proofs.PlaceProofs.{near_numbers, near_within, plain_place}
+use Rattle.affc_nest.proofs.QuestionLemmas.{place_of}
+use Rattle.affc_nest.proofs.QuestionProofs.{nest_few, few_numbered, domain_small}
+use Rattle.affc_loopends.specs.Images.{AreImages, AreComposable}
+use Rattle.affc_loopends.specs.Sizes.{IsTimed, IsSlight, IsNear}
+use Rattle.affc_loopends.specs.TimeRows.{columns_from, with_images, component_rows}
+use Rattle.affc_loopends.proofs.Composed.{column_slight_form, slight_composed, is_composed, composed_fits, gap_fits, gap_long}
+use Rattle.affc_loopends.proofs.Exact.{images_long}
+use Rattle.affc_loopends.proofs.Near.{domain_near, forms_slight, slight_near}
+
+record OfProgram (program : Program) (e : Entry) : Type 0 where
+  statement : ℕ
+  site : SiteOf program statement e
+  plain : IsPlainPlace (length (number_ranges program.params)) (record { around = site.its_rounds; loops = site.loops; assignment = site.assignment })
+
+entry_in : (nest : Nest) (n : IsNest nest) (e : Entry) → IsIn e nest.entries → OfProgram n.program e
+entry_in nest n e i =
+    let k = place_of (nest_of n.program).entries e (subst (λ (y : Nest). IsIn e y.entries) n.is i) in
+    let s = site_of n.program k.0 e k.1 in
+    let p : Place = record { around = s.its_rounds; loops = s.loops; assignment = s.assignment } in
+    record {
+      statement = k.0;
+      site = s;
+      plain = plain_place (length (number_ranges n.program.params)) p (assignments_are_plain n.program n.has.plain k.0 s.its_rounds s.assignment s.rounds_at s.assignment_at);
+    }
+
+params_are : (nest : Nest) (n : IsNest nest) → nest.params ≡ number_ranges n.program.params
+params_are nest n = ap (λ (x : Nest). x.params) n.is
+
+-- the rows of a domain are near
+rows_near : (nest : Nest) (n : IsNest nest) (e : Entry) → IsIn e nest.entries → IsTrue e.alive → All (IsNear (length nest.params + length e.loops)) e.domain.rows
+rows_near nest n e i alive =
+    let o = entry_in nest n e i in
+    let ps = number_ranges n.program.params in
+    let rs = o.site.its_rounds in
+    let w = ranges_there n.program o.statement e n.has o.site alive in
+    let d = domain_is n.program o.statement e o.site w.0 w.1 in
+    let near = domain_near ps n.program.context w.0 rs (near_numbers ps n.has.plain.ranges) (near_within ps w.0 rs w.1) n.has.plain.context o.plain.rounds in
+    let count : length ps + loops_in rs ≡ length nest.params + length e.loops =
+    ap (λ k. length ps + k) (sym (loops_are n.program o.statement e o.site)) ∙ ap (λ qs. length qs + length e.loops) (sym (params_are nest n)) in
+    subst (λ k. All (IsNear k) e.domain.rows) count (subst (λ (q : Rows). All (IsNear (length ps + loops_in rs)) q.rows) (sym d) near)
+
+own_slight : (c j n : ℕ) → All (IsSlight c) (columns_from c j n)
+own_slight c j zero = All-nil (IsSlight c)
+own_slight c j (suc n) = All-cons (IsSlight c) (column_form c j) (columns_from c (suc j) n) (column_slight_form c j) (own_slight c (suc j) n)
+
+images_rows : (c : ℕ) (gs : List Affine) → AreImages c gs → (rows : List Affine) → All (IsNear (length gs)) rows → All (IsRow c) (map (with_images c gs) rows)
+images_rows c gs are [] h = All-nil (IsRow c)
+images_rows c gs are (r ∷ rs) h =
+    let d = is_composed c gs are r (All-head (IsNear (length gs)) r rs h) in
+    All-cons (IsRow c) (with_images c gs r) (map (with_images c gs) rs) (record { width = d.width; fits = composed_fits c (with_images c gs r) d }) (images_rows c gs are rs (All-tail (IsNear (length gs)) r rs h))
+
+components_rows : (c j : ℕ) (gs : List Affine) → AreImages c gs → (fs : List Affine) → All (IsNear (length gs)) fs → All (IsRow c) (component_rows c j gs fs)
+components_rows c j gs are [] h = All-nil (IsRow c)
+components_rows c j gs are (f ∷ fs) h =
+    let a = column_form c j in
+    let b = with_images c gs f in
+    let p = slight_composed c a (column_slight_form c j) in
+    let q = is_composed c gs are f (All-head (IsNear (length gs)) f fs h) in
+    All-cons (IsRow c) (gap_row b a 0) (gap_row a b 0 ∷ component_rows c (suc j) gs fs) (record { width = gap_long c b a q p; fits = gap_fits c b a q p })
+    (All-cons (IsRow c) (gap_row a b 0) (component_rows c (suc j) gs fs) (record { width = gap_long c a b p q; fits = gap_fits c a b p q }) (components_rows c (suc j) gs are fs (All-tail (IsNear (length gs)) f fs h)))
+
+components_count : (c j : ℕ) (gs fs : List Affine) → length (component_rows c j gs fs) ≡ 2 * length fs
+components_count c j gs [] = refl
+components_count c j gs (f ∷ fs) = let e = components_count c (suc j) gs fs in omega arith
+
+pub composable : (nest : Nest) (e : Entry) (m : TimeMap) → IsTimed nest e m → AreComposable (length nest.params) e.domain.rows m.forms m.inverse
+composable nest e m t =
+    let loops : length m.inverse ≡ length e.loops = t.map_of.iterators in
+    let c = length nest.params + length e.loops in
+    let width : c ≡ length nest.params + length m.inverse = ap (λ k. length nest.params + k) (sym loops) in
+    let forms = forms_slight c m.forms (subst (λ k. HaveColumns k m.forms) t.map_of.columns m.shaped) t.forms in
+    record {
+      few_params = nest_few nest t.is_nest;
+      few_iterators = subst (λ k. k ≤ 6) (sym loops) (few_numbered nest e t.is_nest t.there);
+      few_components = t.few;
+      few_rows = domain_small nest e t.is_nest t.there;
+      slight = forms_slight (length nest.params + length m.forms) m.inverse (subst (λ k. HaveColumns k m.inverse) (same (columns_of m.forms) (length nest.params) (length e.loops) (length m.forms) (length m.inverse) t.map_of.columns loops) m.inverse_shaped) t.inverse;
+      near_rows = subst (λ k. All (IsNear k) e.domain.rows) width (rows_near nest t.is_nest e t.there t.alive);
+      near_times = subst (λ k. All (IsNear k) m.forms) width (All-weaker (IsSlight c) (IsNear c) (slight_near c) m.forms forms);
+    }
+  where
+    same : (c m k n i : ℕ) → c ≡ m + k → i ≡ k → (c - i) + n ≡ m + n
+    same c m k n i e f = omega arith
+
+module _ (params : ℕ) (domain times inverse : List Affine) (h : AreComposable params domain times inverse) (gs : List Affine) (is : gs ≡ columns_from (params + length times) 0 params ++ inverse) where
+  count : length gs ≡ params + length inverse
+  count = ap length is ∙ images_long params (length times) inverse
+
+  pub made_images : AreImages (params + length times) gs
+  made_images = record {
+    few = few (length gs) params (length inverse) count h.few_params h.few_iterators;
+    slight = subst (All (IsSlight (params + length times))) (sym is)
+        (All-append (IsSlight (params + length times)) (columns_from (params + length times) 0 params) inverse (own_slight (params + length times) 0 params) h.slight);
+  }
+    where
+      few : (n p i : ℕ) → n ≡ p + i → p ≤ 4 → i ≤ 6 → n ≤ 10
+      few n p i e g k = omega arith
+
+  pub made_rows : All (IsNear (length gs)) domain
+  made_rows = subst (λ k. All (IsNear k) domain) (sym count) h.near_rows
+
+  pub made_times : All (IsNear (length gs)) times
+  made_times = subst (λ k. All (IsNear k) times) (sym count) h.near_times
+
+  pub made_system : (rows : List Affine) → rows ≡ map (with_images (params + length times) gs) domain ++ component_rows (params + length times) params gs times → All (IsRow (params + length times)) rows
+  made_system rows made =
+      let c = params + length times in
+      subst (All (IsRow c)) (sym made) (All-append (IsRow c) (map (with_images c gs) domain) (component_rows c params gs times) (images_rows c gs made_images domain made_rows) (components_rows c params gs made_images times made_times))
+
+  pub made_count : (rows : List Affine) → rows ≡ map (with_images (params + length times) gs) domain ++ component_rows (params + length times) params gs times → length rows < 1024
+  made_count rows made =
+      let c = params + length times in
+      let a = ap length made ∙ length-append (map (with_images c gs) domain) (component_rows c params gs times) in
+      let b = length-map domain (with_images c gs) in
+      let d = components_count c params gs times in
+      let f = h.few_rows in
+      let g = h.few_components in
+      omega arith
+
+-- ---- What the code has made
+
+pub code_fit : (params : ℕ) (domain times inverse : List Affine) → AreComposable params domain times inverse → (items g1 g2 r0 r1 r2 r3 : List Affine) (s : Rows)
+    → items ≡ columns_from (params + length times) 0 params ++ inverse → g1 ≡ items → g2 ≡ items → r0 ≡ [] → r1 ≡ r0 ++ map (with_images (params + length times) g1) domain
+    → r2 ≡ r1 ++ component_rows (params + length times) params g2 times → r3 ≡ r2 → s ≡ record { columns = params + length times; rows = [] }
+    → All (IsRow s.columns) r3 × (length s.rows + length r3 < 1024)
+code_fit params domain times inverse h items g1 g2 r0 r1 r2 r3 s is e1 e2 f0 f1 f2 f3 g =
+    let c = params + length times in
+    let made : r3 ≡ map (with_images c items) domain ++ component_rows c params items times =
+    f3 ∙ f2 ∙ ap (λ z. z ++ component_rows c params g2 times) (f1 ∙ ap (λ z. z ++ map (with_images c g1) domain) f0) ∙ ap (λ z. map (with_images c z) domain ++ component_rows c params g2 times) e1
+    ∙ ap (λ z. map (with_images c items) domain ++ component_rows c params z times) e2 in
+    let fits : length r3 < 1024 = made_count params domain times inverse h items is r3 made in
+    let start : 0 + length r3 < 1024 = omega arith in (
+      subst (λ (q : Rows). All (IsRow q.columns) r3) (sym g) (made_system params domain times inverse h items is r3 made),
+      subst (λ (q : Rows). length q.rows + length r3 < 1024) (sym g) start,
+    )
+
+pub code_composable : (nest : Nest) (e : Entry) (m : TimeMap) → IsTimed nest e m → (params : List (ℤ × ℤ)) (domain times inverse : List Affine) → params ≡ nest.params → domain ≡ e.domain.rows → times ≡ m.forms → inverse ≡ m.inverse
+    → AreComposable (length params) domain times inverse
+code_composable nest e m t params domain times inverse a b c d =
+    subst (λ ps. AreComposable (length ps) domain times inverse) (sym a)
+    (subst (λ xs. AreComposable (length nest.params) xs times inverse) (sym b)
+    (subst (λ xs. AreComposable (length nest.params) e.domain.rows xs inverse) (sym c)
+    (subst (λ xs. AreComposable (length nest.params) e.domain.rows m.forms xs) (sym d) (composable nest e m t))))

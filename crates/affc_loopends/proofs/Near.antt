@@ -1,0 +1,144 @@
+-- The rows of a domain and the forms of a schedule are near.
+use Rattle.std.proofs.Common.{◌≡◌, ℕ, suc, ◌+◌, ◌^◌, ◌≤◌, List, [], ◌∷◌, ◌++◌, length, get_or, true, IsTrue, ℤ, pos, negsuc, ◌+ℤ◌, ◌-ℤ◌, ◌*ℤ◌, refl, subst, arith}
+use Rattle.std.specs.Prelude.{unsigned_abs, ◌&&◌, nat_le, nat_abs}
+use Rattle.std.specs.List.{All}
+use Rattle.std.proofs.lemmas.Int.{ints}
+use Rattle.std.proofs.lemmas.List.Elements.{All-nil, All-cons, All-append}
+use Rattle.affc_rows.specs.Forms.{Affine, mixed, mixed_form, HaveColumns}
+use Rattle.affc_ast.specs.declared.tree.Compare.{Compare}
+use Rattle.affc_ast.specs.declared.tree.Rel.{Rel}
+use Rattle.affc_ast.specs.declared.tree.Rel.TheVariants.{Less, LessEqual, Greater, GreaterEqual, Equal}
+use Rattle.affc_trace.specs.Target.{are_slight, all_slight}
+use Rattle.affc_domain.specs.Affine.{form_of}
+use Rattle.affc_domain.specs.Plain.{is_plain, plain_tests}
+use Rattle.affc_domain.specs.Rounds.{Round, Loop, Test, loops_in}
+use Rattle.affc_domain.proofs.Lists.{both_true}
+use Rattle.affc_nest.specs.Domains.{gap_row, compare_rows, test_rows, column_form, number_form, range_rows, box_rows, bounds_of, loop_rows, condition_rows, domain_rows}
+use Rattle.affc_nest.specs.Frames.{plain_at}
+use Rattle.affc_nest.specs.Sides.{AreNear, IsSide, NearRanges}
+use Rattle.affc_nest.proofs.RowLemmas.{plain_side, column_side, number_side, difference_abs, constant_near, gap_width}
+use Rattle.affc_loopends.specs.Sizes.{IsSlight, IsNear}
+
+-- ---- Differences of sides
+
+difference_near : (cs ds : List ℤ) → AreNear cs → AreNear ds → All (λ c. unsigned_abs c ≤ 2 ^ 17) (mixed (pos 1) ds (negsuc 0) cs)
+difference_near cs [] h g = All-nil (λ c. unsigned_abs c ≤ 2 ^ 17)
+difference_near [] (d ∷ ds) h g = All-nil (λ c. unsigned_abs c ≤ 2 ^ 17)
+difference_near (c ∷ cs) (d ∷ ds) h g =
+    All-cons (λ z. unsigned_abs z ≤ 2 ^ 17) ((pos 1 *ℤ d) +ℤ (negsuc 0 *ℤ c)) (mixed (pos 1) ds (negsuc 0) cs) (twice (unsigned_abs ((pos 1 *ℤ d) +ℤ (negsuc 0 *ℤ c))) (unsigned_abs d) (unsigned_abs c) (difference_abs d c) g.0 h.0) (difference_near cs ds h.1 g.1)
+  where
+    twice : (w u v : ℕ) → w ≤ u + v → u ≤ 2 ^ 16 → v ≤ 2 ^ 16 → w ≤ 2 ^ 17
+    twice w u v h k l = omega arith
+
+less_near : (z : ℤ) (k : ℕ) → unsigned_abs z ≤ 2 ^ 33 → k ≤ 1 → unsigned_abs (z -ℤ pos k) ≤ 2 ^ 34
+less_near (pos n) k h l = grind (arith, ints)
+less_near (negsuc n) k h l = grind (arith, ints)
+
+gap_near : (n : ℕ) (a b : Affine) (k : ℕ) → IsSide n a → IsSide n b → k ≤ 1 → IsNear n (gap_row a b k)
+gap_near n a b k s t l = record {
+  width = gap_width n a b k s t;
+  coefs = difference_near a.coefs b.coefs s.coefs_near t.coefs_near;
+  last = less_near (mixed_form (pos 1) b (negsuc 0) a).constant k (constant_near n a b s t) l;
+}
+
+compare_near : (n : ℕ) (rel : Rel) (a b : Affine) → IsSide n a → IsSide n b → All (IsNear n) (compare_rows rel a b)
+compare_near n Less a b s t = All-cons (IsNear n) (gap_row a b 1) [] (gap_near n a b 1 s t (omega arith)) (All-nil (IsNear n))
+compare_near n LessEqual a b s t = All-cons (IsNear n) (gap_row a b 0) [] (gap_near n a b 0 s t (omega arith)) (All-nil (IsNear n))
+compare_near n Greater a b s t = All-cons (IsNear n) (gap_row b a 1) [] (gap_near n b a 1 t s (omega arith)) (All-nil (IsNear n))
+compare_near n GreaterEqual a b s t = All-cons (IsNear n) (gap_row b a 0) [] (gap_near n b a 0 t s (omega arith)) (All-nil (IsNear n))
+compare_near n Equal a b s t =
+    All-cons (IsNear n) (gap_row b a 0) (gap_row a b 0 ∷ []) (gap_near n b a 0 t s (omega arith)) (All-cons (IsNear n) (gap_row a b 0) [] (gap_near n a b 0 s t (omega arith)) (All-nil (IsNear n)))
+
+range_near : (n j : ℕ) (r : ℤ × ℤ) → unsigned_abs r.0 ≤ 2 ^ 32 → unsigned_abs r.1 ≤ 2 ^ 32 → All (IsNear n) (range_rows n j r)
+range_near n j r h g =
+    let low = gap_row (number_form n r.0) (column_form n j) 0 in
+    let high = gap_row (column_form n j) (number_form n r.1) 0 in
+    All-cons (IsNear n) low (high ∷ []) (gap_near n (number_form n r.0) (column_form n j) 0 (number_side n r.0 h) (column_side n j) (omega arith))
+    (All-cons (IsNear n) high [] (gap_near n (column_form n j) (number_form n r.1) 0 (column_side n j) (number_side n r.1 g) (omega arith)) (All-nil (IsNear n)))
+
+box_near : (n j : ℕ) (rs : List (ℤ × ℤ)) → NearRanges rs → All (IsNear n) (box_rows n j rs)
+box_near n j [] h = All-nil (IsNear n)
+box_near n j (r ∷ rs) h = All-append (IsNear n) (range_rows n j r) (box_rows n (suc j) rs) (range_near n j r h.0 h.1) (box_near n (suc j) rs h.2)
+
+tests_near : (n m : ℕ) (cs : List Compare) → IsTrue (plain_tests n cs) → All (IsNear (n + m)) (test_rows n m cs)
+tests_near n m [] h = All-nil (IsNear (n + m))
+tests_near n m (c ∷ cs) h =
+    let l = both_true (is_plain n c.left) (is_plain n c.right && plain_tests n cs) h in
+    let r = both_true (is_plain n c.right) (plain_tests n cs) l.1 in
+    All-append (IsNear (n + m)) (compare_rows c.rel (form_of n m c.left) (form_of n m c.right)) (test_rows n m cs)
+    (compare_near (n + m) c.rel (form_of n m c.left) (form_of n m c.right) (plain_side n m c.left l.0) (plain_side n m c.right r.0)) (tests_near n m cs r.1)
+
+one_on : (n k : ℕ) → suc n + k ≡ n + suc k
+one_on n k = omega arith
+
+loops_near : (n : ℕ) (boxes : List (ℤ × ℤ)) (rs : List Round) → NearRanges boxes → IsTrue (plain_at n rs) → All (IsNear (n + loops_in rs)) (loop_rows n boxes rs)
+loops_near n boxes [] b h = All-nil (IsNear (n + 0))
+loops_near n [] (Loop iter low rel high ∷ rs) b h = All-nil (IsNear (n + suc (loops_in rs)))
+loops_near n (r ∷ boxes) (Loop iter low rel high ∷ rs) b h =
+    let m = suc (loops_in rs) in
+    let c = column_form (n + m) n in
+    let P = IsNear (n + m) in
+    let l = both_true (is_plain n low) (is_plain n high && plain_at (suc n) rs) h in
+    let k = both_true (is_plain n high) (plain_at (suc n) rs) l.1 in
+    All-append P (bounds_of n low rel high m) (range_rows (n + m) n r ++ loop_rows (suc n) boxes rs)
+    (All-cons P (gap_row (form_of n m low) c 0) (compare_rows rel c (form_of n m high)) (gap_near (n + m) (form_of n m low) c 0 (plain_side n m low l.0) (column_side (n + m) n) (omega arith))
+    (compare_near (n + m) rel c (form_of n m high) (column_side (n + m) n) (plain_side n m high k.0)))
+    (All-append P (range_rows (n + m) n r) (loop_rows (suc n) boxes rs) (range_near (n + m) n r b.0 b.1)
+    (subst (λ k. All (IsNear k) (loop_rows (suc n) boxes rs)) (one_on n (loops_in rs)) (loops_near (suc n) boxes rs b.2 k.1)))
+loops_near n boxes (Test conds ∷ rs) b h = loops_near n boxes rs b (both_true (plain_tests n conds) (plain_at n rs) h).1
+
+conditions_near : (n : ℕ) (rs : List Round) → IsTrue (plain_at n rs) → All (IsNear (n + loops_in rs)) (condition_rows n rs)
+conditions_near n [] h = All-nil (IsNear (n + 0))
+conditions_near n (Loop iter low rel high ∷ rs) h =
+    let l = both_true (is_plain n low) (is_plain n high && plain_at (suc n) rs) h in
+    let k = both_true (is_plain n high) (plain_at (suc n) rs) l.1 in
+    subst (λ k. All (IsNear k) (condition_rows (suc n) rs)) (one_on n (loops_in rs)) (conditions_near (suc n) rs k.1)
+conditions_near n (Test conds ∷ rs) h =
+    let l = both_true (plain_tests n conds) (plain_at n rs) h in
+    All-append (IsNear (n + loops_in rs)) (test_rows n (loops_in rs) conds) (condition_rows n rs) (tests_near n (loops_in rs) conds l.0) (conditions_near n rs l.1)
+
+pub domain_near : (params : List (ℤ × ℤ)) (context : List Compare) (ranges : List (ℤ × ℤ)) (rs : List Round) → NearRanges params → NearRanges ranges → IsTrue (plain_tests (length params) context) → IsTrue (plain_at (length params) rs)
+    → All (IsNear (length params + loops_in rs)) (domain_rows params context ranges rs)
+domain_near params context ranges rs p r c a =
+    let m = length params in
+    let n = loops_in rs in
+    let P = IsNear (m + n) in
+    All-append P (box_rows (m + n) 0 params) (test_rows m n context ++ (loop_rows m ranges rs ++ condition_rows m rs)) (box_near (m + n) 0 params p)
+    (All-append P (test_rows m n context) (loop_rows m ranges rs ++ condition_rows m rs) (tests_near m n context c)
+    (All-append P (loop_rows m ranges rs) (condition_rows m rs) (loops_near m ranges rs r a) (conditions_near m rs a)))
+
+-- ---- Forms of a schedule
+
+at_most : (n k : ℕ) → nat_le n k ≡ true → n ≤ k
+at_most n k h = grind (arith, ints)
+
+same_abs : (z : ℤ) → nat_abs z ≡ unsigned_abs z
+same_abs (pos n) = refl
+same_abs (negsuc n) = refl
+
+coefs_slight : (cs : List ℤ) → IsTrue (are_slight cs) → All (λ c. unsigned_abs c ≤ 256) cs
+coefs_slight [] h = All-nil (λ c. unsigned_abs c ≤ 256)
+coefs_slight (c ∷ cs) h =
+    let l = both_true (nat_le (nat_abs c) 256) (are_slight cs) h in
+    All-cons (λ z. unsigned_abs z ≤ 256) c cs (subst (λ n. n ≤ 256) (same_abs c) (at_most (nat_abs c) 256 l.0)) (coefs_slight cs l.1)
+
+pub forms_slight : (columns : ℕ) (fs : List Affine) → HaveColumns columns fs → IsTrue (all_slight fs) → All (IsSlight columns) fs
+forms_slight columns [] w h = All-nil (IsSlight columns)
+forms_slight columns (f ∷ fs) w h =
+    let l = both_true (nat_le (nat_abs f.constant) (2 ^ 30) && are_slight f.coefs) (all_slight fs) h in
+    let k = both_true (nat_le (nat_abs f.constant) (2 ^ 30)) (are_slight f.coefs) l.0 in
+    All-cons (IsSlight columns) f fs
+    (record { width = w 0 f (omega arith); coefs = coefs_slight f.coefs k.1; last = subst (λ n. n ≤ 2 ^ 30) (same_abs f.constant) (at_most (nat_abs f.constant) (2 ^ 30) k.0) })
+    (forms_slight columns fs (λ i d lt. w (suc i) d (omega arith)) l.1)
+
+slight_coefs : (cs : List ℤ) → All (λ c. unsigned_abs c ≤ 256) cs → All (λ c. unsigned_abs c ≤ 2 ^ 17) cs
+slight_coefs cs h = λ i d lt. up (unsigned_abs (get_or cs i d)) (h i d lt)
+  where
+    up : (n : ℕ) → n ≤ 256 → n ≤ 2 ^ 17
+    up n h = omega arith
+
+pub slight_near : (columns : ℕ) (f : Affine) → IsSlight columns f → IsNear columns f
+slight_near columns f s = record { width = s.width; coefs = slight_coefs f.coefs s.coefs; last = up (unsigned_abs f.constant) s.last }
+  where
+    up : (n : ℕ) → n ≤ 2 ^ 30 → n ≤ 2 ^ 34
+    up n h = omega arith

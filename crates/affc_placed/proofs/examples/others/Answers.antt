@@ -1,5 +1,0 @@
-use Rattle.affc_placed.proofs.ExampleProofs as x
-use Rattle.affc_placed.proofs.examples.others.Goals as goal
-
-pub returns : goal.returns
-returns c = record { dont_stand = x.others_dont_stand; two_are_too_few = x.two_are_too_few }

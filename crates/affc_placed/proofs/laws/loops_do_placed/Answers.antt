@@ -1,5 +1,0 @@
-use Rattle.affc_placed.proofs.PlacedLaws.{loops_do_placed}
-use Rattle.affc_placed.proofs.laws.loops_do_placed.Goals as goal
-
-pub returns : goal.returns
-returns c = record { law = loops_do_placed }

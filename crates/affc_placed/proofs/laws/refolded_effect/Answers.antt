@@ -1,5 +1,0 @@
-use Rattle.affc_placed.proofs.RefoldLemmas.{refolded_effect}
-use Rattle.affc_placed.proofs.laws.refolded_effect.Goals as goal
-
-pub returns : goal.returns
-returns c = record { law = refolded_effect }

@@ -1,5 +1,0 @@
-use Rattle.affc_placed.proofs.RefoldLemmas.{refolded_keeps_shape}
-use Rattle.affc_placed.proofs.laws.refolded_keeps_shape.Goals as goal
-
-pub returns : goal.returns
-returns c = record { law = refolded_keeps_shape }

@@ -1,5 +1,0 @@
-use Rattle.affc_placed.proofs.ReplaceLemmas.{refolded_replaces}
-use Rattle.affc_placed.proofs.laws.refolded_replaces.Goals as goal
-
-pub returns : goal.returns
-returns c = record { law = refolded_replaces }

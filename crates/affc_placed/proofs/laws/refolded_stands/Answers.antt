@@ -1,5 +1,0 @@
-use Rattle.affc_placed.proofs.StandsLemmas.{refolded_stands}
-use Rattle.affc_placed.proofs.laws.refolded_stands.Goals as goal
-
-pub returns : goal.returns
-returns c = record { law = refolded_stands }

@@ -1,5 +1,0 @@
-use Rattle.affc_placed.proofs.Remainder.{remainder_is_read}
-use Rattle.affc_placed.proofs.laws.remainder_is_read.Goals as goal
-
-pub returns : goal.returns
-returns c = record { law = remainder_is_read }
