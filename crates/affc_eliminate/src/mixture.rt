@@ -7,8 +7,9 @@ ghost use Rattle.affc_eliminate.specs.Mixtures.{PassesSigned, EntryPasses, AreOf
 
 use crate::exact::exact_sum;
 use crate::kept::Kept;
-use crate::weights::{MixFault, gcd, least_multipliers};
+use crate::weights::{MixFault, least_multipliers};
 use affc_rows::Form;
+use affc_rows::vocabulary::gcd;
 use smallvec::SmallVec;
 use std::alloc::Global;
 

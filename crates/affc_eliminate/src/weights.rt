@@ -1,11 +1,11 @@
 //! Multipliers of the sum of two rows, in least terms.
 ghost use Rattle.std.specs.Prelude.{◌≡◌, ℕ, ◌+◌, ◌-◌, ◌*◌, ◌/◌, ◌^◌, ◌<◌, ◌≤◌, drop, map, length, IfOk, IfErr, IfSome, IfNone};
 ghost use Rattle.std.specs.List.{All, Contains};
-ghost use Rattle.std.specs.Int.{IsGcd};
 ghost use Rattle.affc_eliminate.specs.Mixtures.{weight_of, mixed_weight, WeightPasses};
 ghost use Rattle.affc_eliminate.specs.Merges.{AreTimes, IsTerm, AreMerged, IsDivisor, AreLeast};
 
 use affc_farkas::Multipliers;
+use affc_rows::vocabulary::gcd;
 use std::alloc::Global;
 
 const MOST_MULTIPLIER: u128 = 1 << 53;
@@ -34,20 +34,6 @@ pub(crate) struct Term {
 pub(crate) struct Least {
     pub(crate) divisor: u128,
     pub(crate) from: Multipliers,
-}
-
-/// The greatest common divisor (Euclid).
-pub(crate) fn gcd(first: u128, second: u128) -> u128
-    ensures { IsGcd first second result }
-{
-    let mut a = first;
-    let mut b = second;
-    while b != 0 {
-        let rest = a % b;
-        a = b;
-        b = rest;
-    }
-    a
 }
 
 /// The next term of two lists, from these places on.

@@ -42,17 +42,6 @@ pub fn first_free(bounds: &[Bound]) -> Option<usize>
     None
 }
 
-/// A copy of the bounds.
-fn copied(alloc: Global, bounds: &[Bound]) -> Result<Vec<Bound>, AllocError>
-    ensures { IfOk result (λ v. v.items ≡ bounds.now) }
-{
-    let mut copy = Vec::new(alloc);
-    for b in bounds {
-        copy.push(*b)?;
-    }
-    Ok(copy)
-}
-
 /// The half of the box at a middle and below.
 pub fn lower_half(
     alloc: Global,
@@ -64,7 +53,7 @@ pub fn lower_half(
     requires { j < length bounds.now }
     ensures { IfOk result (λ v. v.items ≡ lowered bounds.now j at row) }
 {
-    let mut half = copied(alloc, bounds)?;
+    let mut half = Vec::from_slice(alloc, bounds)?;
     let old = half[j];
     half[j] = Bound {
         low: old.low,
@@ -87,7 +76,7 @@ pub fn upper_half(
     requires near { unsigned_abs at ≤ 2 ^ 60 }
     ensures { IfOk result (λ v. v.items ≡ raised bounds.now j at row) }
 {
-    let mut half = copied(alloc, bounds)?;
+    let mut half = Vec::from_slice(alloc, bounds)?;
     let old = half[j];
     half[j] = Bound {
         low: at + 1,

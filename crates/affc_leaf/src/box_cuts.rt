@@ -89,7 +89,7 @@ fn with_corners(
     ensures sum { IfOk result (λ o. IfSome o (λ m. SameSum m (own.now ++ corner_rows part.now bounds.now))) }
     ensures rules { IfOk result (λ o. IfSome o AreMultipliers) }
 {
-    let mut pairs = copied(alloc, own)?;
+    let mut pairs = Vec::from_slice(alloc, own)?;
     put_corners(&mut pairs, part, bounds)?;
     Ok(Multipliers::from_pairs(pairs))
 }
@@ -171,7 +171,7 @@ fn joined(
 ) -> Result<Option<Vec<(u32, u64)>>, AllocError>
     ensures { IfOk result (λ o. IfSome o (λ v. v.items ≡ own.now ++ behind next over.now)) }
 {
-    let mut pairs = copied(alloc, own)?;
+    let mut pairs = Vec::from_slice(alloc, own)?;
     for pair in over {
         let Some(number) = next.checked_add(pair.0) else {
             return Ok(None);
@@ -332,7 +332,7 @@ fn plan_of(
                 if let (Some(cut), Ok(count)) = (cuts.get(place), u32::try_from(plan.cuts.len())) {
                     plan.over.push((count, *times))?;
                     plan.cuts.push(Candidate {
-                        own: copied(alloc, cut.own.as_slice())?,
+                        own: Vec::from_slice(alloc, cut.own.as_slice())?,
                         g: cut.g,
                     })?;
                 }

@@ -5,7 +5,6 @@ ghost use Rattle.affc_system.specs.Systems.{FitsRow};
 ghost use Rattle.affc_farkas.specs.Proofs.{ValidProof};
 ghost use Rattle.affc_leaf.specs.Boxed.{unit, range_rows, with_box, IsLeafProof, IsHard};
 
-use crate::parts::unit_form;
 use crate::vertices::Vertex;
 use affc_eliminate::project::{Refutation, refute};
 use affc_farkas::Proof;
@@ -25,38 +24,31 @@ pub fn push_row(boxed: &mut System, row: Form) -> Result<(), AllocError>
     Ok(())
 }
 
-/// A form with another constant.
-fn with_constant(form: Form, constant: i64) -> Form
-    ensures { result ≡ record form { constant = constant } }
-{
-    Form {
-        coefs: form.coefs,
-        constant: i128::from(constant),
-    }
-}
-
 /// The row that says the low end of a column's range.
+#[tactic(auto, using(crate::proofs::BoxRows::unit_is))]
 fn low_form(alloc: Global, columns: u32, j: usize, low: i64) -> Result<Form, AllocError>
     requires { j < columns }
     ensures { IfOk result (λ f. f ≡ record { coefs = unit j (columns - (j + 1)); constant = neg_ℤ low }) }
 {
-    let unit = unit_form(alloc, columns, j)?;
+    let column = Form::column(alloc, columns, j as u32)?;
     Ok(Form {
-        coefs: unit.coefs,
+        coefs: column.coefs,
         constant: -i128::from(low),
     })
 }
 
 /// The row that says the high end.
+#[tactic(auto, using(crate::proofs::BoxRows::unit_is, crate::proofs::BoxRows::column_opposite))]
 fn high_form(alloc: Global, columns: u32, j: usize, high: i64) -> Result<Form, AllocError>
     requires { j < columns }
     ensures { IfOk result (λ f. f ≡ record { coefs = map neg_ℤ (unit j (columns - (j + 1))); constant = high }) }
 {
-    let unit = unit_form(alloc, columns, j)?;
-    let Ok(negated) = unit.scale_add(alloc, -1, &unit, 0) else {
-        return Err(AllocError);
-    };
-    Ok(with_constant(negated, high))
+    let column = Form::column(alloc, columns, j as u32)?;
+    let opposite = column.opposite(alloc)?;
+    Ok(Form {
+        coefs: opposite.coefs,
+        constant: i128::from(high),
+    })
 }
 
 /// Adds the rows of a column's range.
@@ -72,10 +64,8 @@ fn push_range(
     ensures rows { OnOk result (boxed.new.rows ≡ boxed.old.rows ++ range_rows boxed.old.columns j (low, high)) }
 {
     let columns = boxed.columns();
-    let low_row = low_form(alloc, columns, j, low)?;
-    let high_row = high_form(alloc, columns, j, high)?;
-    push_row(boxed, low_row)?;
-    push_row(boxed, high_row)
+    push_row(boxed, low_form(alloc, columns, j, low)?)?;
+    push_row(boxed, high_form(alloc, columns, j, high)?)
 }
 
 /// The system with the rows of the box.

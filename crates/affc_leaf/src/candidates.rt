@@ -6,11 +6,11 @@
 ghost use Rattle.std.specs.Prelude.{◌<◌, ◌≤◌};
 
 use crate::bounds::Bound;
-use crate::cuts::common_divisor;
-use crate::leaves::{copied, put_pair};
+use crate::leaves::put_pair;
 use crate::simplex::{at, reduce};
 use crate::vertices::Vertex;
 use affc_rows::Form;
+use affc_rows::vocabulary::gcd;
 use affc_system::System;
 use smallvec::SmallVec;
 use std::alloc::{AllocError, Global};
@@ -83,7 +83,7 @@ fn divisor_but(coefs: &[i128], bounds: &[Bound], but: Option<usize>) -> i64 {
     let mut common = 0u128;
     for (j, (c, bound)) in coefs.iter().zip(bounds.iter()).enumerate() {
         if *c != 0 && bound.low < bound.high && but != Some(j) {
-            common = common_divisor(common, c.unsigned_abs());
+            common = gcd(common, c.unsigned_abs());
             if common == 1 {
                 return 1;
             }
@@ -138,9 +138,7 @@ fn divided_row(
         } else {
             0
         };
-        let Ok(()) = quotients.push(quotient) else {
-            return Err(AllocError);
-        };
+        quotients.push(quotient)?;
     }
     let Some(constant) = greatest.checked_div_euclid(i128::from(g)) else {
         return Ok(None);
@@ -183,7 +181,7 @@ fn add_divided(
     }
     if let Some(row) = divided_row(alloc, coefs, greatest, bounds, g)? {
         search.excludes = search.excludes || is_excluded(&row, search.vertex);
-        let own = copied(alloc, own)?;
+        let own = Vec::from_slice(alloc, own)?;
         let candidate = Candidate { own, g };
         search.found.push(Proposal { candidate, row })?;
     }
@@ -216,24 +214,11 @@ fn add_sum(
     Ok(())
 }
 
-/// Whether each row is the other's opposite.
-fn are_opposite(first: &Form, second: &Form) -> bool {
-    if first.constant.checked_neg() != Some(second.constant) {
-        return false;
-    }
-    first
-        .coefs
-        .as_slice()
-        .iter()
-        .zip(second.coefs.as_slice().iter())
-        .all(|(c, d)| c.checked_neg() == Some(*d))
-}
-
 /// The first row after a number that is its row's opposite.
 fn opposite_of(rows: &[Form], number: usize) -> Option<usize> {
     let row = rows.get(number)?;
     for (other, form) in rows.iter().enumerate() {
-        if other > number && are_opposite(row, form) {
+        if other > number && row.is_opposite(form) {
             return Some(other);
         }
     }
@@ -356,7 +341,7 @@ fn least_pivot(sums: &[Sum], bounds: &[Bound], only: Option<usize>) -> Option<Pi
 fn eliminate(cells: &mut [i128], solved: &[i128], column: usize) -> Option<()> {
     let pivot = at(solved, column);
     let entry = at(cells, column);
-    let common = common_divisor(pivot.unsigned_abs(), entry.unsigned_abs());
+    let common = gcd(pivot.unsigned_abs(), entry.unsigned_abs());
     let common = i128::try_from(common).ok()?;
     let divided = pivot.checked_div(common)?;
     let times = entry.checked_div(common)?;

@@ -7,6 +7,7 @@ ghost use Rattle.affc_leaf.specs.Cuts.{IsDivided, IsCutOf, IsCutBefore};
 use crate::boxed::push_row;
 use affc_farkas::{Multipliers, Proof};
 use affc_rows::Form;
+use affc_rows::vocabulary::gcd;
 use affc_system::System;
 use smallvec::SmallVec;
 use std::alloc::{AllocError, Global};
@@ -19,26 +20,11 @@ pub struct Quotient {
     pub row: Form,
 }
 
-/// The greatest common divisor of two numbers.
-pub(crate) fn common_divisor(first: u128, second: u128) -> u128 {
-    let mut a = first;
-    let mut b = second;
-    for _ in 0..200u32 {
-        if b == 0 {
-            return a;
-        }
-        let rest = a.checked_rem(b).unwrap_or(0);
-        a = b;
-        b = rest;
-    }
-    1
-}
-
 /// The common divisor of a row's coefficients, or 0 where nothing is gained by it: it is 1 or divides the constant too.
 fn divisor_of(row: &Form) -> i64 {
     let mut common = 0u128;
     for c in row.coefs.as_slice() {
-        common = common_divisor(common, c.unsigned_abs());
+        common = gcd(common, c.unsigned_abs());
         if common == 1 {
             return 0;
         }
@@ -78,9 +64,7 @@ fn divided_coefs(
         let Some(q) = whole_quotient(*c, g) else {
             return Ok(None);
         };
-        let Ok(()) = quotients.push(q) else {
-            return Err(AllocError);
-        };
+        quotients.push(q)?;
     }
     Ok(Some(quotients))
 }

@@ -34,21 +34,8 @@ pub(crate) fn put_pair(pairs: &mut Vec<(u32, u64)>, row: u32, times: u64) -> Res
     ensures { OnOk result ((rest : List (ℕ × ℕ)) → SameSum (pairs.new.items ++ rest) (pairs.old.items ++ (row, times) ∷ rest)) }
 {
     let place = place_for(pairs.as_slice(), row);
-    let Ok(()) = pairs.insert(place, (row, times)) else {
-        return Err(AllocError);
-    };
+    pairs.insert(place, (row, times))?;
     Ok(())
-}
-
-/// Copies pairs.
-pub(crate) fn copied(alloc: Global, pairs: &[(u32, u64)]) -> Result<Vec<(u32, u64)>, AllocError>
-    ensures { IfOk result (λ v. v.items ≡ pairs.now) }
-{
-    let mut copy = Vec::new(alloc);
-    for pair in pairs {
-        copy.push(*pair)?;
-    }
-    Ok(copy)
 }
 
 /// The bound that makes a product greatest, as often as the coefficient says.

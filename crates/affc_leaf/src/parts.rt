@@ -1,14 +1,11 @@
 //! The halves of a box, and the parts at a place.
 ghost use Rattle.std.specs.Prelude.{◌≡◌, ℕ, ℤ, List, ◌+◌, ◌-◌, ◌*◌, ◌^◌, ◌<◌, ◌≤◌, ◌+ℤ◌, ◌-ℤ◌, ◌≤ℤ◌, ◌<ℤ◌, pos, IfOk, length};
 ghost use Rattle.std.specs.List.{All};
-ghost use Rattle.affc_leaf.specs.Boxed.{unit};
 ghost use Rattle.affc_leaf.specs.Bounds.{IsBound, size, FirstFree, lowered, raised, bound_at};
 ghost use Rattle.affc_leaf.specs.Parts.{Ready};
 
 use crate::bounds::{Bound, lower_half, middle, upper_half};
-use affc_rows::Form;
 use affc_system::System;
-use smallvec::SmallVec;
 use std::alloc::{AllocError, Global};
 
 /// The middle of a free column.
@@ -47,8 +44,7 @@ pub fn low_box(
     ensures count { IfOk result (λ v. size v.items + size (raised bounds.now j at next) ≡ size bounds.now) }
     ensures more { 1 ≤ size (raised bounds.now j at next) }
 {
-    let half = lower_half(alloc, bounds, j, at, next)?;
-    Ok(half)
+    lower_half(alloc, bounds, j, at, next)
 }
 
 /// The upper half, ready to be searched.
@@ -71,8 +67,7 @@ pub fn high_box(
     ensures ready { IfOk result (λ v. Ready system.now.columns v.items (next + 1) (left - 1)) }
     ensures count { IfOk result (λ v. size v.items ≡ size (raised bounds.now j at next)) }
 {
-    let half = upper_half(alloc, bounds, j, at, next)?;
-    Ok(half)
+    upper_half(alloc, bounds, j, at, next)
 }
 
 /// The part at a place and below, ready to be searched.
@@ -95,8 +90,7 @@ pub fn low_part(
     ensures ready { IfOk result (λ v. Ready system.now.columns v.items (next + 1) left) }
     ensures count { IfOk result (λ v. size v.items ≤ size bounds.now) }
 {
-    let half = lower_half(alloc, bounds, j, at, next)?;
-    Ok(half)
+    lower_half(alloc, bounds, j, at, next)
 }
 
 /// The part above a place, ready to be searched.
@@ -119,29 +113,5 @@ pub fn high_part(
     ensures ready { IfOk result (λ v. Ready system.now.columns v.items (next + 1) left) }
     ensures count { IfOk result (λ v. size v.items ≤ size bounds.now) }
 {
-    let half = upper_half(alloc, bounds, j, at, next)?;
-    Ok(half)
-}
-
-/// The form that is one column.
-pub fn unit_form(alloc: Global, columns: u32, j: usize) -> Result<Form, AllocError>
-    requires { j < columns }
-    ensures coefs { IfOk result (λ f. f.coefs ≡ unit j (columns - (j + 1))) }
-    ensures constant { IfOk result (λ f. f.constant ≡ pos 0) }
-{
-    let mut coefs = SmallVec::new(alloc);
-    for _ in 0..j {
-        let Ok(()) = coefs.push(0) else {
-            return Err(AllocError);
-        };
-    }
-    let Ok(()) = coefs.push(1) else {
-        return Err(AllocError);
-    };
-    for _ in 0..columns as usize - (j + 1) {
-        let Ok(()) = coefs.push(0) else {
-            return Err(AllocError);
-        };
-    }
-    Ok(Form { coefs, constant: 0 })
+    upper_half(alloc, bounds, j, at, next)
 }

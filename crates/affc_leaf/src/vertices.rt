@@ -3,8 +3,8 @@ ghost use Rattle.std.specs.Prelude.{◌≡◌, ◌<◌, ◌≤ℤ◌, ◌+ℤ◌
 ghost use Rattle.std.specs.Bool.{OnTrue};
 ghost use Rattle.affc_farkas.specs.Rational.{RationalPoint, scaled_value};
 
-use crate::cuts::common_divisor;
 use affc_rows::Form;
+use affc_rows::vocabulary::gcd;
 use affc_system::System;
 use std::alloc::{AllocError, Global};
 
@@ -32,7 +32,7 @@ impl Vertex {
             }
             return Some(());
         }
-        let common = common_divisor(numerator.unsigned_abs(), divisor.unsigned_abs());
+        let common = gcd(numerator.unsigned_abs(), divisor.unsigned_abs());
         let common = i128::try_from(common).ok()?;
         let numerator = numerator.checked_div(common)?;
         let divisor = divisor.checked_div(common)?;
@@ -49,7 +49,7 @@ impl Vertex {
         if scale.checked_mul(divisor)? == self.divisor {
             return Some(scale);
         }
-        let common = common_divisor(self.divisor.unsigned_abs(), divisor.unsigned_abs());
+        let common = gcd(self.divisor.unsigned_abs(), divisor.unsigned_abs());
         let times = divisor.checked_div(i128::try_from(common).ok()?)?;
         self.divisor = self.divisor.checked_mul(times)?;
         for numerator in self.numerators.iter_mut() {
@@ -96,8 +96,7 @@ fn scaled(row: &Form, x: &[i128], d: i128) -> Option<i128>
     let Ok(value) = row.eval(x) else {
         return None;
     };
-    let total = with_multiple(value, row.constant, d)?;
-    Some(total)
+    with_multiple(value, row.constant, d)
 }
 
 /// Whether a row is at least 0 at `x / d`.

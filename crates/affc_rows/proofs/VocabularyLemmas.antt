@@ -1,6 +1,6 @@
 -- Units, zeros, mixtures and images.
 use Rattle.std.proofs.Common.{◌≡◌, ℕ, zero, suc, ◌<◌, ◌≤◌, List, [], ◌∷◌, ◌++◌, length, replicate, take, ℤ, pos, ◌+ℤ◌, refl, sym, ap, ◌∙◌, subst, arith}
-use Rattle.std.specs.Prelude.{unsigned_abs, ◌^◌, Result, Ok, Err, IfOk}
+use Rattle.std.specs.Prelude.{unsigned_abs, neg_ℤ, map, ◌^◌, Result, Ok, Err, IfOk}
 use Rattle.std.proofs.Math.ListN.{set}
 use Rattle.std.proofs.lemmas.List.{take_all, drop_all}
 use Rattle.std.proofs.Common.{append-nil}
@@ -8,7 +8,7 @@ use Rattle.std.specs.List.{All, refill}
 use Rattle.std.proofs.lemmas.Int.{ints}
 use Rattle.std.proofs.lemmas.List.Elements.{All-weaker, All-nil, All-head}
 use Rattle.affc_rows.specs.Forms.{Affine, mixed_form, HaveColumns, columns_of, composed, composed_form}
-use Rattle.affc_rows.specs.Vocabulary.{HasOpposite, unit_of, number_form, form_at}
+use Rattle.affc_rows.specs.Vocabulary.{HasOpposite, AreOpposite, opposite, unit_of, number_form, form_at}
 use Rattle.affc_rows.proofs.ValueLemmas.{length-mixed}
 
 -- a column's coefficients: zeros, with a 1 at its place
@@ -74,3 +74,26 @@ composed_is columns (g ∷ gs) f made h some e = e ∙ ap (λ n. form_at n (g �
 pub within_opposite : (n m : ℕ) (f : Affine) → n < 2 ^ 127 → m < 2 ^ 127 → All (λ c. unsigned_abs c ≤ n) f.coefs → unsigned_abs f.constant ≤ m → HasOpposite f
 within_opposite n m f h k coefs constant =
     (All-weaker (λ c. unsigned_abs c ≤ n) (λ c. unsigned_abs c < 2 ^ 127) (λ c l. omega (arith, h, l)) f.coefs coefs, omega (arith, k, constant))
+
+-- a form is opposite to another exactly where it is the other with its signs turned
+other_sign : (x y : ℤ) → x +ℤ y ≡ pos 0 → y ≡ neg_ℤ x
+other_sign x y h = omega (arith, ints, h)
+
+no_sum : (x : ℤ) → x +ℤ neg_ℤ x ≡ pos 0
+no_sum x = omega (arith, ints)
+
+opposites_are : (xs ys : List ℤ) → AreOpposite xs ys → ys ≡ map neg_ℤ xs
+opposites_are [] [] h = refl
+opposites_are [] (y ∷ ys) h = absurd h
+opposites_are (x ∷ xs) [] h = absurd h
+opposites_are (x ∷ xs) (y ∷ ys) h = λ i. other_sign x y h.0 i ∷ opposites_are xs ys h.1 i
+
+are_opposites : (xs : List ℤ) → AreOpposite xs (map neg_ℤ xs)
+are_opposites [] = tt
+are_opposites (x ∷ xs) = (no_sum x, are_opposites xs)
+
+pub opposite_is : (xs : List ℤ) (x : ℤ) (ys : List ℤ) (y : ℤ) → x +ℤ y ≡ pos 0 → AreOpposite xs ys → record { coefs = ys; constant = y } ≡ opposite (record { coefs = xs; constant = x })
+opposite_is xs x ys y h k = λ i. record { coefs = opposites_are xs ys k i; constant = other_sign x y h i }
+
+pub is_opposite : (xs : List ℤ) (x : ℤ) (ys : List ℤ) (y : ℤ) → record { coefs = ys; constant = y } ≡ opposite (record { coefs = xs; constant = x }) → (x +ℤ y ≡ pos 0) × AreOpposite xs ys
+is_opposite xs x ys y e = subst (λ (h : Affine). (x +ℤ h.constant ≡ pos 0) × AreOpposite xs h.coefs) (sym e) (no_sum x, are_opposites xs)

@@ -65,9 +65,25 @@ pub fn are_opposite(xs: &[i128], ys: &[i128]) -> bool
         [] => ys.is_empty(),
         [x, xs @ ..] => match ys {
             [] => false,
-            [y, ys @ ..] => x.checked_neg() == Some(*y) && are_opposite(xs, ys),
+            [y, ys @ ..] => is_negated(*x, *y) && are_opposite(xs, ys),
         },
     }
+}
+
+/// Whether the second number is the first with the other sign.
+#[inline]
+fn is_negated(x: i128, y: i128) -> bool
+    ensures { IsTrue result ↔ (x +ℤ y ≡ pos 0) }
+{
+    x.checked_neg() == Some(y)
+}
+
+/// Whether coefficients and a constant are others with the other sign.
+#[tactic(auto, using(crate::proofs::VocabularyLemmas::opposite_is, crate::proofs::VocabularyLemmas::is_opposite))]
+fn oppose(xs: &[i128], x: i128, ys: &[i128], y: i128) -> bool
+    ensures { IsTrue result ↔ (record { coefs = ys.now; constant = y } ≡ opposite (record { coefs = xs.now; constant = x })) }
+{
+    is_negated(x, y) && are_opposite(xs, ys)
 }
 
 /// The greatest common divisor (Euclid).
@@ -144,10 +160,14 @@ impl Form {
 
     /// Whether this form is the other one with its signs turned.
     pub fn is_opposite(&self, other: &Form) -> bool
-        ensures { IsTrue result ↔ ((self.now.constant +ℤ other.now.constant ≡ pos 0) × AreOpposite self.now.coefs other.now.coefs) }
+        ensures { IsTrue result ↔ (other.now ≡ opposite self.now) }
     {
-        self.constant.checked_neg() == Some(other.constant)
-            && are_opposite(self.coefs.as_slice(), other.coefs.as_slice())
+        oppose(
+            self.coefs.as_slice(),
+            self.constant,
+            other.coefs.as_slice(),
+            other.constant,
+        )
     }
 
     /// The coefficient of a column, or 0 where there is none such.

@@ -1,28 +1,14 @@
 //! Rows over their first columns, in least terms.
 ghost use Rattle.std.specs.Prelude.{◌≡◌, ◌≤◌, ◌++◌, ◌∷◌, [], pos, ◌*ℤ◌, unsigned_abs, map, length, IfOk, IfSome, IfNone};
-ghost use Rattle.std.specs.Int.{IsGcd};
 ghost use Rattle.std.specs.List.{All};
 ghost use Prim.Native.Nat.{◌∣◌};
 ghost use Rattle.affc_eliminate.specs.project.States.{IsDivisor, IsBlank, IsLeast, AreReduced};
 
 use crate::Kept;
 use affc_rows::Form;
+use affc_rows::vocabulary::gcd;
 use smallvec::SmallVec;
 use std::alloc::{AllocError, Global};
-
-/// The greatest common divisor (Euclid).
-fn gcd(first: u128, second: u128) -> u128
-    ensures { IsGcd first second result }
-{
-    let mut a = first;
-    let mut b = second;
-    while b != 0 {
-        let rest = a % b;
-        a = b;
-        b = rest;
-    }
-    a
-}
 
 /// The greatest common divisor of the numbers.
 fn common_divisor(numbers: &[i128], last: i128) -> u128

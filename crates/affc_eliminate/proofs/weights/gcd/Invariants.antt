@@ -1,9 +1,0 @@
-use Rattle.std.proofs.Common.{ℕ}
-use Rattle.std.specs.Int.{IsGcd}
-use Rattle.affc_eliminate.proofs.weights.gcd.Given as goal
-
-abbrev pub invariant-loop-b : goal.invariant-loop-b
-invariant-loop-b l = (g : ℕ) → IsGcd l.a l.b g → IsGcd l.fn.first l.fn.second g
-
-abbrev pub decreases-loop-b : goal.decreases-loop-b
-decreases-loop-b l = l.b
