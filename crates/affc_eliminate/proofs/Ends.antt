@@ -8,7 +8,8 @@ use Rattle.affc_rows.specs.Forms.{Affine, HaveColumns}
 use Rattle.affc_farkas.specs.Multiples.{entry_of, multiple_sum}
 use Rattle.affc_farkas.specs.Rational.{scaled_value}
 use Rattle.affc_farkas.specs.declared.pair.Pair.{Pair}
-use Rattle.affc_eliminate.specs.Points.{HoldAt, Extends, opposite_of}
+use Rattle.affc_eliminate.specs.Points.{HoldAt, Extends}
+use Rattle.affc_rows.specs.Vocabulary.{opposite}
 use Rattle.affc_eliminate.specs.Laws.{IsCombination, IsCombined, IsFrom, AreRowsOf}
 use Rattle.affc_eliminate.specs.Mixtures.{forms_of}
 use Rattle.affc_eliminate.specs.Steps.{AreNumbered, HasOpposite, AreReady, AddEach, AreEliminated}
@@ -197,7 +198,7 @@ replacing_extends Answers rows column free p n state ready two c x d w lt one h 
       | inl e ↦ inl (sym a.2 ∙ ap (λ (q : Kept). q.row) (same_at rows ca.0 p a.0 two.first (at_own_place rows a.0 ca) two.first_at e))
       | inr np ↦ elim (cases_eq ca.0 n) [
         | inl e ↦ absurd (not_both (entry_of two.second.row column) down (subst (λ (q : Kept). pos 0 <ℤ entry_of q.row column) (same_at rows ca.0 n a.0 two.second (at_own_place rows a.0 ca) two.second_at e) up))
-        | inr nn ↦ inr (combined_of rows column free state.made.items c.work.added a.0 two.second f (opposite_of two.first.row) ready.numbered t ca second_in
+        | inr nn ↦ inr (combined_of rows column free state.made.items c.work.added a.0 two.second f (opposite two.first.row) ready.numbered t ca second_in
             (c.pairs.positive ca.0 a.0 two.second ca.1 np nn (at_own_place rows a.0 ca) two.second_at up) a.2 two.opposite)
       ]
     ])

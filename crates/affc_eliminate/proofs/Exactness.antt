@@ -13,7 +13,8 @@ use Rattle.affc_farkas.specs.Rational.{scaled_value}
 use Rattle.affc_farkas.specs.Eliminations.{AreFactors}
 use Rattle.affc_farkas.proofs.Between.{nonneg_product, cancel, LeaveRoom, HoldsFlat}
 use Rattle.affc_farkas.proofs.Implied.{holds_everywhere}
-use Rattle.affc_eliminate.specs.Points.{HoldAt, Extends, with_value, opposite_of}
+use Rattle.affc_eliminate.specs.Points.{HoldAt, Extends, with_value}
+use Rattle.affc_rows.specs.Vocabulary.{opposite}
 use Rattle.affc_eliminate.specs.Laws.{IsCombination, IsCombined, IsFrom, AreRowsOf, StepIsExact, SubstitutionIsExact, ImpliedRowIsSpare, TrivialRowIsSpare}
 use Rattle.affc_eliminate.proofs.Values.{moved_value, mixed_value, shift_of, entry_inside}
 use Rattle.affc_eliminate.proofs.Rooms.{mul-neg, neg_neg, part_at, pos_abs, neg_abs, room_of_mixture, room_by_opposites, extends}
@@ -132,16 +133,16 @@ neg_entries [] xs = refl
 neg_entries (c ∷ cs) [] = refl
 neg_entries (c ∷ cs) (x ∷ xs) = two_negs (neg_ℤ c *ℤ x) (c *ℤ x) (dot (map neg_ℤ cs) xs) (dot cs xs) (neg-mul c x) (neg_entries cs xs)
 
-pub opposite_value : (f : Affine) (x : List ℤ) (d : ℤ) → scaled_value (opposite_of f) x d ≡ neg_ℤ (scaled_value f x d)
+pub opposite_value : (f : Affine) (x : List ℤ) (d : ℤ) → scaled_value (opposite f) x d ≡ neg_ℤ (scaled_value f x d)
 opposite_value f x d = two_negs (dot (map neg_ℤ f.coefs) x) (dot f.coefs x) (d *ℤ neg_ℤ f.constant) (d *ℤ f.constant) (neg_entries f.coefs x) (mul-neg d f.constant)
 
-pub opposite_entry : (f : Affine) (j : ℕ) → j < length f.coefs → entry_of (opposite_of f) j ≡ neg_ℤ (entry_of f j)
+pub opposite_entry : (f : Affine) (j : ℕ) → j < length f.coefs → entry_of (opposite f) j ≡ neg_ℤ (entry_of f j)
 opposite_entry f j lt =
-    entry_inside (opposite_of f) j (subst (λ n. j < n) (sym (length-map f.coefs neg_ℤ)) lt)
+    entry_inside (opposite f) j (subst (λ n. j < n) (sym (length-map f.coefs neg_ℤ)) lt)
     ∙ get_or-map neg_ℤ f.coefs j (pos 0) (pos 0) lt ∙ ap neg_ℤ (sym (entry_inside f j lt))
 
-pub opposite_part : (column : ℕ) (x : List ℤ) (d : ℤ) (p : Affine) → column < length p.coefs → part_at column x d (opposite_of p) ≡ (neg_ℤ (entry_of p column), neg_ℤ (scaled_value p x d))
-opposite_part column x d p lt = ap (λ z. (z, scaled_value (opposite_of p) x d)) (opposite_entry p column lt) ∙ ap (λ z. (neg_ℤ (entry_of p column), z)) (opposite_value p x d)
+pub opposite_part : (column : ℕ) (x : List ℤ) (d : ℤ) (p : Affine) → column < length p.coefs → part_at column x d (opposite p) ≡ (neg_ℤ (entry_of p column), neg_ℤ (scaled_value p x d))
+opposite_part column x d p lt = ap (λ z. (z, scaled_value (opposite p) x d)) (opposite_entry p column lt) ∙ ap (λ z. (neg_ℤ (entry_of p column), z)) (opposite_value p x d)
 
 sum_none : (w v : ℤ) → v ≡ neg_ℤ w → pos 0 ≤ℤ (w +ℤ v)
 sum_none w v e = omega (arith, ints)
@@ -184,7 +185,7 @@ substitution_is_exact column width rows new p x d a inp inn one_p cf cg l one = 
       extends_where_room column width rows new x d a l h (λ f g inf ing above below.
       let first : LeaveRoom (part_at column x d f) n = elim (cf f inf above) [
         | inl e ↦ subst (λ q. LeaveRoom (part_at column x d q) n) (sym e) (own_room (entry_of p column) v)
-        | inr c ↦ subst (λ q. LeaveRoom (part_at column x d f) q) part (room_of_combined column width rows new f (opposite_of p) x d a.widths inf inn h c)
+        | inr c ↦ subst (λ q. LeaveRoom (part_at column x d f) q) part (room_of_combined column width rows new f (opposite p) x d a.widths inf inn h c)
       ] in
       let second : LeaveRoom (part_at column x d p) (part_at column x d g) = elim (cg g ing below) [
         | inl e ↦ subst (λ q. LeaveRoom (part_at column x d p) (part_at column x d q)) (sym e) (subst (λ q. LeaveRoom (part_at column x d p) q) (sym part) (own_room (entry_of p column) v))

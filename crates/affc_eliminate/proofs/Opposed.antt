@@ -9,7 +9,7 @@ use Rattle.std.proofs.lemmas.List.{length-map}
 use Rattle.std.proofs.lemmas.List.Elements.{All-contains, All-map}
 use Rattle.affc_rows.specs.Forms.{Affine, HaveColumns}
 use Rattle.affc_farkas.specs.Multiples.{entry_of}
-use Rattle.affc_eliminate.specs.Points.{opposite_of}
+use Rattle.affc_rows.specs.Vocabulary.{opposite}
 use Rattle.affc_eliminate.specs.Mixtures.{forms_of}
 use Rattle.affc_eliminate.specs.Steps.{HasOpposite}
 use Rattle.affc_eliminate.specs.Works.{IsAt}
@@ -21,45 +21,18 @@ use Rattle.affc_eliminate.proofs.Rooms.{neg_neg}
 use Rattle.affc_eliminate.proofs.Added.{same_at}
 use Rattle.affc_eliminate.proofs.Ends.{row_with_form}
 
--- the entries of the opposite row
-constant_entry : (f : Affine) → entry_of (opposite_of f) (length f.coefs) ≡ neg_ℤ (entry_of f (length f.coefs))
-constant_entry f = entry_last (opposite_of f) (length f.coefs) (length-map f.coefs neg_ℤ) ∙ ap neg_ℤ (sym (entry_last f (length f.coefs) refl))
-
-pub opposite_entries : (f : Affine) (j : ℕ) → j ≤ length f.coefs → entry_of (opposite_of f) j ≡ neg_ℤ (entry_of f j)
-opposite_entries f j le = elim (cases_lt j (length f.coefs)) [
-  | inl lt ↦ opposite_entry f j lt
-  | inr ge ↦ let e : length f.coefs ≡ j = omega arith in subst (λ k. entry_of (opposite_of f) k ≡ neg_ℤ (entry_of f k)) e (constant_entry f)
-]
-
--- a row of these entries is the opposite
-pub opposite_by_entries : (f g : Affine) → length f.coefs ≡ length g.coefs → ((j : ℕ) → j < length f.coefs → entry_of g j ≡ neg_ℤ (entry_of f j))
-    → entry_of g (length f.coefs) ≡ neg_ℤ (entry_of f (length f.coefs)) → g ≡ opposite_of f
-opposite_by_entries f g w h k = same_form g (opposite_of f) (sym w ∙ sym (length-map f.coefs neg_ℤ)) (λ j le'.
-    let le : j ≤ length f.coefs = subst (λ n. j ≤ n) (sym w) le' in
-    elim (cases_lt j (length f.coefs)) [
-      | inl lt ↦ h j lt
-      | inr ge ↦ let e : length f.coefs ≡ j = omega arith in subst (λ n. entry_of g n ≡ neg_ℤ (entry_of f n)) e k
-    ] ∙ sym (opposite_entries f j le))
-
-pub negated_through : (r : Bool) (a b x y : ℤ) → FitsSigned w128 a → FitsSigned w128 b → a ≡ x → b ≡ y
-    → (IsTrue r ↔ (to_z w128 (of_z w128 b) ≡ neg_ℤ (to_z w128 (of_z w128 a)))) → IsTrue r ↔ (y ≡ neg_ℤ x)
-negated_through r a b x y fa fb ea eb h =
-    let u = to_z-of_z w128 a fa ∙ ea in
-    let v = to_z-of_z w128 b fb ∙ eb in
-    ((λ t. sym v ∙ h.0 t ∙ ap neg_ℤ u), (λ e. h.1 (v ∙ e ∙ ap neg_ℤ (sym u))))
-
 back_list : (cs : List ℤ) → map neg_ℤ (map neg_ℤ cs) ≡ cs
 back_list [] = refl
 back_list (c ∷ cs) = ap (λ z. z ∷ map neg_ℤ (map neg_ℤ cs)) (neg_neg c) ∙ ap (λ zs. c ∷ zs) (back_list cs)
 
-back : (f : Affine) → opposite_of (opposite_of f) ≡ f
+back : (f : Affine) → opposite (opposite f) ≡ f
 back f =
     let form : List ℤ → ℤ → Affine = λ cs k. record { coefs = cs; constant = k } in
     ap (λ cs. form cs (neg_ℤ (neg_ℤ f.constant))) (back_list f.coefs) ∙ ap (λ k. form f.coefs k) (neg_neg f.constant)
 
 -- no positive row of the first rows has its opposite among all
 abbrev pub HaveNone : List Kept → ℕ → ℕ → Type 0
-HaveNone rows column i = (a : ℕ) (k : Kept) → a < i → IsAt rows a k → pos 0 <ℤ entry_of k.row column → All (λ q. q.row ≡ opposite_of k.row → ⊥) rows
+HaveNone rows column i = (a : ℕ) (k : Kept) → a < i → IsAt rows a k → pos 0 <ℤ entry_of k.row column → All (λ q. q.row ≡ opposite k.row → ⊥) rows
 
 either : (z : ℤ) → z ≢ pos 0 → (pos 0 <ℤ z) ⊎ (z <ℤ pos 0)
 either (pos zero) h = absurd (h refl)
@@ -69,32 +42,32 @@ either (negsuc n) h = inr (omega (arith, ints))
 turned_up : (z : ℤ) → z <ℤ pos 0 → pos 0 <ℤ neg_ℤ z
 turned_up z h = omega (arith, ints)
 
-no_two : (rows : List Kept) (column : ℕ) (f g : Affine) → HaveNone rows column (length rows) → Contains (forms_of rows) f → Contains (forms_of rows) g → g ≡ opposite_of f → pos 0 <ℤ entry_of f column → ⊥
+no_two : (rows : List Kept) (column : ℕ) (f g : Affine) → HaveNone rows column (length rows) → Contains (forms_of rows) f → Contains (forms_of rows) g → g ≡ opposite f → pos 0 <ℤ entry_of f column → ⊥
 no_two rows column f g none inf ing e up =
     let a = row_with_form rows f inf in
     let b = row_with_form rows g ing in
     let ca = a.1 in
-    All-contains (λ q. q.row ≡ opposite_of a.0.row → ⊥) rows b.0 (none ca.0 a.0 ca.1 (ca.1, ca.2) (subst (λ (q : Affine). pos 0 <ℤ entry_of q column) (sym a.2) up)) b.1
-    (b.2 ∙ e ∙ ap opposite_of (sym a.2))
+    All-contains (λ q. q.row ≡ opposite a.0.row → ⊥) rows b.0 (none ca.0 a.0 ca.1 (ca.1, ca.2) (subst (λ (q : Affine). pos 0 <ℤ entry_of q column) (sym a.2) up)) b.1
+    (b.2 ∙ e ∙ ap opposite (sym a.2))
 
 pub no_opposite : (rows : List Kept) (column n : ℕ) → HaveColumns n (forms_of rows) → column < n → HaveNone rows column (length rows) → HasOpposite column (forms_of rows) → ⊥
 no_opposite rows column n w lt none h =
     let f = h.0 in
     let inside : column < length f.coefs = subst (λ m. column < m) (sym (All-contains (λ g. length g.coefs ≡ n) (forms_of rows) f w h.1)) lt in
     elim (either (entry_of f column) h.3) [
-      | inl up ↦ no_two rows column f (opposite_of f) none h.1 h.2 refl up
-      | inr down ↦ no_two rows column (opposite_of f) f none h.2 h.1 (sym (back f)) (subst (λ z. pos 0 <ℤ z) (sym (opposite_entry f column inside)) (turned_up (entry_of f column) down))
+      | inl up ↦ no_two rows column f (opposite f) none h.1 h.2 refl up
+      | inr down ↦ no_two rows column (opposite f) f none h.2 h.1 (sym (back f)) (subst (λ z. pos 0 <ℤ z) (sym (opposite_entry f column inside)) (turned_up (entry_of f column) down))
     ]
 
 -- one row more
-pub none_more : (rows : List Kept) (column i : ℕ) (k : Kept) → IsAt rows i k → (pos 0 <ℤ entry_of k.row column → All (λ q. q.row ≡ opposite_of k.row → ⊥) rows)
+pub none_more : (rows : List Kept) (column i : ℕ) (k : Kept) → IsAt rows i k → (pos 0 <ℤ entry_of k.row column → All (λ q. q.row ≡ opposite k.row → ⊥) rows)
     → HaveNone rows column i → HaveNone rows column (i + 1)
 none_more rows column i k at h none a q lt qa up = elim (cases_lt a i) [
   | inl m ↦ none a q m qa up
   | inr m ↦
       let e : a ≡ i = omega arith in
       let same = same_at rows a i q k qa at e in
-      subst (λ (z : Kept). All (λ r. r.row ≡ opposite_of z.row → ⊥) rows) (sym same) (h (subst (λ (z : Kept). pos 0 <ℤ entry_of z.row column) same up))
+      subst (λ (z : Kept). All (λ r. r.row ≡ opposite z.row → ⊥) rows) (sym same) (h (subst (λ (z : Kept). pos 0 <ℤ entry_of z.row column) same up))
 ]
 
 under : (a n i : ℕ) → a < n → n ≤ i → a < i

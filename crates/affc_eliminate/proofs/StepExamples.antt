@@ -12,7 +12,8 @@ use Rattle.affc_rows.specs.Forms.{Affine, HaveColumns}
 use Rattle.affc_farkas.specs.Multiples.{multiple_sum, entry_of}
 use Rattle.affc_farkas.specs.Eliminations.{AreFactors}
 use Rattle.affc_farkas.specs.declared.pair.Pair.{Pair}
-use Rattle.affc_eliminate.specs.Points.{IsTrivial, opposite_of}
+use Rattle.affc_eliminate.specs.Points.{IsTrivial}
+use Rattle.affc_rows.specs.Vocabulary.{opposite}
 use Rattle.affc_eliminate.specs.Screens.{HasSameSlope}
 use Rattle.affc_eliminate.specs.Mixtures.{AreSumsOf, weight_of, mixed_weight, IsGreatest, IsMixture, IsWide, WeightPasses, PassesSigned, EntryPasses}
 use Rattle.affc_eliminate.specs.Steps.{EachTwo, AreNumbered, AreScreened, HasOpposite, AreReady, IsNext, AddEach, none, more, AreEliminated}
@@ -459,11 +460,11 @@ no_opposite_there h =
     let b = plane (negsuc 0) (pos 0) (pos 9) in
     let k = λ (f : Affine). f.constant in
     elim (either_of a b h.0 h.1) [
-      | inl e ↦ elim (either_of a b (opposite_of h.0) h.2) [
+      | inl e ↦ elim (either_of a b (opposite h.0) h.2) [
         | inl o ↦ let u : negsuc 1 ≡ (h.0).constant = ap k e in let v : negsuc 1 ≡ neg_ℤ (h.0).constant = ap k o in absurd (omega (arith, ints))
         | inr o ↦ let u : negsuc 1 ≡ (h.0).constant = ap k e in let v : pos 9 ≡ neg_ℤ (h.0).constant = ap k o in absurd (omega (arith, ints))
       ]
-      | inr e ↦ elim (either_of a b (opposite_of h.0) h.2) [
+      | inr e ↦ elim (either_of a b (opposite h.0) h.2) [
         | inl o ↦ let u : pos 9 ≡ (h.0).constant = ap k e in let v : negsuc 1 ≡ neg_ℤ (h.0).constant = ap k o in absurd (omega (arith, ints))
         | inr o ↦ let u : pos 9 ≡ (h.0).constant = ap k e in let v : pos 9 ≡ neg_ℤ (h.0).constant = ap k o in absurd (omega (arith, ints))
       ]

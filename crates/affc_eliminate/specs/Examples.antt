@@ -2,7 +2,8 @@
 use Rattle.std.specs.Prelude.{◌≡◌, ◌↔◌, ℕ, ◌^◌, Bool, IsTrue, List, [], ◌∷◌, length, ℤ, pos, negsuc, ◌≤ℤ◌}
 use Rattle.affc_farkas.specs.declared.pair.Pair.{Pair}
 use Rattle.affc_rows.specs.Forms.{Affine}
-use Rattle.affc_eliminate.specs.Points.{HoldAt, Extends, IsTrivial, opposite_of}
+use Rattle.affc_eliminate.specs.Points.{HoldAt, Extends, IsTrivial}
+use Rattle.affc_rows.specs.Vocabulary.{opposite}
 use Rattle.affc_eliminate.specs.Screens.{HasSameSlope}
 use Rattle.affc_eliminate.specs.Mixtures.{AreSumsOf, weight_of, IsMixture, IsWide}
 use Rattle.affc_eliminate.specs.Steps.{AreNumbered, AreScreened, HasOpposite, AreReady, AddEach, AreEliminated}
@@ -49,7 +50,7 @@ SameSlopes =
     × (HasSameSlope (plane (pos 1) (pos 0) (negsuc 2)) (plane (pos 2) (pos 0) (negsuc 5)) → ⊥)
 
 abbrev pub OppositeOfRow : Type 0
-OppositeOfRow = opposite_of (plane (pos 1) (negsuc 0) (pos 9)) ≡ plane (negsuc 0) (pos 1) (negsuc 8)
+OppositeOfRow = opposite (plane (pos 1) (negsuc 0) (pos 9)) ≡ plane (negsuc 0) (pos 1) (negsuc 8)
 
 -- ---- Rows with multipliers
 

@@ -4,7 +4,8 @@ use Rattle.std.specs.List.{All, Contains}
 use Rattle.affc_rows.specs.Forms.{Affine}
 use Rattle.affc_farkas.specs.Multiples.{entry_of}
 use Rattle.affc_farkas.specs.Eliminations.{AreFactors}
-use Rattle.affc_eliminate.specs.Points.{HoldAt, Implies, IsTrivial, Extends, opposite_of}
+use Rattle.affc_eliminate.specs.Points.{HoldAt, Implies, IsTrivial, Extends}
+use Rattle.affc_rows.specs.Vocabulary.{opposite}
 
 -- r is, up to a positive factor, the sum of positive multiples of f, which is positive in the column, and g, which is negative, and is 0 there
 pub record IsCombination (column : ℕ) (f g r : Affine) : Type 0 where
@@ -42,9 +43,9 @@ StepIsExact = (column width : ℕ) (rows new : List Affine) (x : List ℤ) (d : 
 -- ... where a row and its opposite stand among the rows, of each other row with the one of the two that has the other sign
 abbrev pub SubstitutionIsExact : Type 0
 SubstitutionIsExact = (column width : ℕ) (rows new : List Affine) (p : Affine) (x : List ℤ) (d : ℤ) → AreRowsOf column width rows new
-    → Contains rows p → Contains rows (opposite_of p) → pos 0 <ℤ entry_of p column
-    → ((f : Affine) → Contains rows f → pos 0 <ℤ entry_of f column → f ≡ p ⊎ IsCombined column new f (opposite_of p))
-    → ((g : Affine) → Contains rows g → entry_of g column <ℤ pos 0 → g ≡ opposite_of p ⊎ IsCombined column new p g)
+    → Contains rows p → Contains rows (opposite p) → pos 0 <ℤ entry_of p column
+    → ((f : Affine) → Contains rows f → pos 0 <ℤ entry_of f column → f ≡ p ⊎ IsCombined column new f (opposite p))
+    → ((g : Affine) → Contains rows g → entry_of g column <ℤ pos 0 → g ≡ opposite p ⊎ IsCombined column new p g)
     → length x ≡ width → pos 1 ≤ℤ d → HoldAt x d new ↔ Extends column x d rows
 
 -- a row that another implies can be left out, and so can one that holds everywhere

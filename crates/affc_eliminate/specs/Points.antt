@@ -17,10 +17,6 @@ Implies f g = (x : List ℤ) (d : ℤ) → length x ≡ length f.coefs → pos 1
 abbrev pub IsTrivial : Affine → Type 0
 IsTrivial row = ((j : ℕ) → j < length row.coefs → entry_of row j ≡ pos 0) × (pos 0 ≤ℤ row.constant)
 
--- all numbers with the other sign
-abbrev pub opposite_of : Affine → Affine
-opposite_of row = record { coefs = map neg_ℤ row.coefs; constant = neg_ℤ row.constant }
-
 -- the numbers of the point x / d over the divisor s d, with y / (s d) in the column
 abbrev pub with_value : ℕ → List ℤ → (s y : ℤ) → List ℤ
 with_value column x s y = slice_set (map (λ c. s *ℤ c) x) column y

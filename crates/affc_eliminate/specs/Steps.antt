@@ -4,7 +4,8 @@ use Rattle.std.specs.List.{All, Contains}
 use Rattle.affc_rows.specs.Forms.{Affine, HaveColumns}
 use Rattle.affc_farkas.specs.Multiples.{entry_of}
 use Rattle.affc_farkas.specs.declared.pair.Pair.{Pair}
-use Rattle.affc_eliminate.specs.Points.{HoldAt, Extends, IsTrivial, opposite_of}
+use Rattle.affc_eliminate.specs.Points.{HoldAt, Extends, IsTrivial}
+use Rattle.affc_rows.specs.Vocabulary.{opposite}
 use Rattle.affc_eliminate.specs.Mixtures.{forms_of, AreSumsOf, IsMixture, IsWide}
 use Rattle.affc_eliminate.specs.declared.kept.Kept.{Kept}
 use Rattle.affc_eliminate.specs.declared.kept.Step.{Step}
@@ -24,7 +25,7 @@ AreScreened Answers rows = EachTwo (λ k q. Answers k.row q.row false) rows
 
 -- some row that isn't 0 in the column has its opposite among the rows
 abbrev pub HasOpposite : ℕ → List Affine → Type 0
-HasOpposite column rows = (f : Affine) × Contains rows f × Contains rows (opposite_of f) × (entry_of f column ≢ pos 0)
+HasOpposite column rows = (f : Affine) × Contains rows f × Contains rows (opposite f) × (entry_of f column ≢ pos 0)
 
 -- rows from which a column can be eliminated, where numbers from `free` on are free
 pub record AreReady (rows : List Kept) (column free : ℕ) : Type 0 where

@@ -5,7 +5,8 @@ use Rattle.affc_rows.specs.Forms.{Affine, HaveColumns}
 use Rattle.affc_farkas.specs.Multiples.{entry_of}
 use Rattle.affc_farkas.specs.Rational.{scaled_value}
 use Rattle.affc_farkas.specs.declared.pair.Pair.{Pair}
-use Rattle.affc_eliminate.specs.Points.{HoldAt, IsTrivial, opposite_of}
+use Rattle.affc_eliminate.specs.Points.{HoldAt, IsTrivial}
+use Rattle.affc_rows.specs.Vocabulary as forms
 use Rattle.affc_eliminate.specs.Mixtures.{forms_of}
 use Rattle.affc_eliminate.specs.Steps.{AddEach, IsTooWide}
 use Rattle.affc_eliminate.specs.Sieves.{AreApart}
@@ -83,7 +84,7 @@ pub record AreOpposite (rows : List Kept) (column p n : ℕ) : Type 0 where
   pub first_at : IsAt rows p first
   pub second_at : IsAt rows n second
   pub positive : pos 0 <ℤ entry_of first.row column
-  pub opposite : second.row ≡ opposite_of first.row
+  pub opposite : second.row ≡ forms.opposite first.row
 
 -- the pair of the row at a place with one of the two
 pub record IsReplaced (rows : List Kept) (column p n through : ℕ) (q : Pair) : Type 0 where

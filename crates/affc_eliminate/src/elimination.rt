@@ -4,10 +4,10 @@ ghost use Rattle.affc_eliminate.specs.Steps.{AreReady, AreEliminated, IsStep};
 ghost use Rattle.affc_eliminate.specs.Works.{IsStop, IsPositiveAt, IsCrossing, AreOpposite, IsReplacing};
 
 use crate::kept::{Kept, Step};
-use crate::mixture::entry;
 use crate::opposites::{Places, opposites};
 use crate::screen::{Screen, Test};
 use crate::work::{Stop, Task, Work, combine, keep_flat};
+use affc_farkas::row::entry;
 use std::alloc::{AllocError, Global};
 
 /// The pair of a positive row with the row at this place, where that is negative.

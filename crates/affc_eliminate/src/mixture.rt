@@ -8,23 +8,11 @@ ghost use Rattle.affc_eliminate.specs.Mixtures.{PassesSigned, EntryPasses, AreOf
 use crate::exact::exact_sum;
 use crate::kept::Kept;
 use crate::weights::{MixFault, least_multipliers};
+use affc_farkas::row::entry;
 use affc_rows::Form;
 use affc_rows::vocabulary::gcd;
 use smallvec::SmallVec;
 use std::alloc::Global;
-
-/// The entry of a row at a place.
-pub(crate) fn entry(row: &Form, column: usize) -> i128
-    requires { column ≤ length row.now.coefs }
-    ensures { result ≡ entry_of row.now column }
-{
-    let coefs = row.coefs.as_slice();
-    if column < coefs.len() {
-        coefs[column]
-    } else {
-        row.constant
-    }
-}
 
 /// Two factors.
 #[derive(Clone, Copy)]

@@ -2,13 +2,13 @@
 ghost use Rattle.std.specs.Prelude.{◌≡◌, ◌↔◌, ℕ, ◌<◌, ◌≤◌, neg_ℤ, pos, ◌<ℤ◌, length, IsTrue, IfSome, IfNone};
 ghost use Rattle.std.specs.List.{All, Contains};
 ghost use Rattle.affc_farkas.specs.Multiples.{entry_of};
-ghost use Rattle.affc_eliminate.specs.Points.{opposite_of};
+ghost use Rattle.affc_rows.specs.Vocabulary.{opposite};
 ghost use Rattle.affc_eliminate.specs.Mixtures.{forms_of};
 ghost use Rattle.affc_eliminate.specs.Steps.{HasOpposite};
 ghost use Rattle.affc_eliminate.specs.Works.{IsAt, AreOpposite};
 
 use crate::kept::Kept;
-use crate::mixture::entry;
+use affc_farkas::row::entry;
 use affc_rows::Form;
 
 /// The places of a row that is positive in a column, and of its opposite.
@@ -18,50 +18,13 @@ pub(crate) struct Places {
     pub(crate) negative: usize,
 }
 
-/// Whether the second number is the first with the other sign.
-fn is_negated(a: i128, b: i128) -> bool
-    ensures { IsTrue result ↔ (b ≡ neg_ℤ a) }
-{
-    match a.checked_neg() {
-        Some(negated) => negated == b,
-        None => false,
-    }
-}
-
-/// Whether the entry of the second row at a place is that of the first with the other sign.
-fn entry_is_negated(first: &Form, second: &Form, column: usize) -> bool
-    requires first_in { column ≤ length first.now.coefs }
-    requires second_in { column ≤ length second.now.coefs }
-    ensures { IsTrue result ↔ (entry_of second.now column ≡ neg_ℤ (entry_of first.now column)) }
-{
-    let a = entry(first, column);
-    let b = entry(second, column);
-    is_negated(a, b)
-}
-
-/// Whether the second row is the opposite of the first.
-fn is_opposite(first: &Form, second: &Form) -> bool
-    requires { length first.now.coefs ≡ length second.now.coefs }
-    ensures { IsTrue result ↔ (second.now ≡ opposite_of first.now) }
-{
-    let columns = first.coefs.len();
-    for column in 0..columns {
-        if !entry_is_negated(first, second, column) {
-            return false;
-        }
-    }
-    let last = entry_is_negated(first, second, columns);
-    last
-}
-
 /// The place of the row's opposite.
 fn opposite_place(rows: &[Kept], row: &Form) -> Option<usize>
-    requires { All (λ k. length row.now.coefs ≡ length k.row.coefs) rows.now }
-    ensures some { IfSome result (λ n. (k : _) × IsAt rows.now n k × (k.row ≡ opposite_of row.now)) }
-    ensures none { IfNone result (All (λ k. k.row ≡ opposite_of row.now → ⊥) rows.now) }
+    ensures some { IfSome result (λ n. (k : _) × IsAt rows.now n k × (k.row ≡ opposite row.now)) }
+    ensures none { IfNone result (All (λ k. k.row ≡ opposite row.now → ⊥) rows.now) }
 {
     for (n, other) in rows.iter().enumerate() {
-        if is_opposite(row, &other.row) {
+        if row.is_opposite(&other.row) {
             return Some(n);
         }
     }

@@ -6,6 +6,7 @@ ghost use Rattle.affc_farkas.specs.Proofs.{low_row, high_row};
 ghost use Rattle.affc_farkas.specs.Chain.{frame_row, rows_of, IsChain, IsFront};
 ghost use Rattle.affc_system.specs.Systems.{FitsRow, IsRow};
 
+use crate::row::entry;
 use affc_rows::Form;
 use affc_system::System;
 
@@ -23,19 +24,6 @@ pub(crate) enum Added<'a> {
         before: &'a Added<'a>,
         far: &'a Added<'a>,
     },
-}
-
-/// The entry of a row at a place.
-fn entry(row: &Form, column: usize) -> i128
-    requires { column ≤ length row.now.coefs }
-    ensures { result ≡ entry_of row.now column }
-{
-    let coefs = row.coefs.as_slice();
-    if column < coefs.len() {
-        coefs[column]
-    } else {
-        row.constant
-    }
 }
 
 /// The entry at a place of a row that keeps the limits.

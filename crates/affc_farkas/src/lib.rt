@@ -8,6 +8,7 @@ pub mod examples;
 pub mod laws;
 pub mod pair;
 pub mod proof;
+pub mod row;
 
 pub use checker::check;
 pub use depth::depth_at_most;

@@ -50,10 +50,7 @@ fn quotients(
 {
     let mut parts = SmallVec::new(alloc);
     for number in numbers {
-        let part = quotient(*number, divisor);
-        let Ok(()) = parts.push(part) else {
-            return Err(AllocError);
-        };
+        parts.push(quotient(*number, divisor))?;
     }
     Ok(parts)
 }
@@ -70,10 +67,8 @@ fn least(alloc: Global, row: &Form, keep: usize) -> Result<Option<Form>, AllocEr
         return Ok(None);
     }
     let constant = quotient(row.constant, divisor);
-    match quotients(alloc, first, divisor) {
-        Ok(coefs) => Ok(Some(Form { coefs, constant })),
-        Err(fault) => Err(fault),
-    }
+    let coefs = quotients(alloc, first, divisor)?;
+    Ok(Some(Form { coefs, constant }))
 }
 
 /// The rows with one more, if there is one.

@@ -15,12 +15,6 @@ entry-requires c =
     let lt = c.requires.1 in
     omega (arith, w, lt)
 
-pub opposite_place-requires : goal.opposite_place-requires
-opposite_place-requires c =
-    let k = c.index-rows-positive.result in
-    let w = subst (λ (q : Kept). length q.row.coefs ≡ c.requires.0) (sym c.index-rows-positive.is) (c.requires.2 c.loop-positive.positive k c.loop-positive-test.true) in
-    λ i d lt. w ∙ sym (c.requires.2 i d lt)
-
 pub returns-in-Some-clause-some : goal.returns-in-Some-clause-some
 returns-in-Some-clause-some c =
     let h : pos 0 <ℤ c.entry.result = omega (arith, ints) in

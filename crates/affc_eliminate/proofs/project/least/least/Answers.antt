@@ -19,8 +19,8 @@ returns-then-divisor-eq0-clause-none c =
     (subst (λ ys. IsDivisor d (take c.args.keep ys) c.args.row.now.constant) coefs
     (subst (λ z. IsDivisor d (take c.args.keep c.as_slice.result.now) z) (to_z-of_z w128 k fits ∙ constant) c.common_divisor-divisor.ensures))
 
-pub returns-in-Ok-clause-some : goal.returns-in-Ok-clause-some
-returns-in-Ok-clause-some c =
+pub returns-clause-some : goal.returns-clause-some
+returns-clause-some c =
     let d = c.common_divisor-divisor.result in
     let k = c.row.inside.constant in
     let q = c.quotient-constant.result in
@@ -29,7 +29,7 @@ returns-in-Ok-clause-some c =
     let coefs = c.as_slice.ensures ∙ ap (λ (f : Affine). f.coefs) c.row.view_is in
     let constant = ap (λ (f : Affine). f.constant) c.row.view_is in
     let one : 1 ≤ d = omega arith in
-    least_of c.args.keep c.args.row.now _ d c.requires (ap (take c.args.keep) (sym coefs) ∙ c.in-Ok.ensures)
+    least_of c.args.keep c.args.row.now _ d c.requires (ap (take c.args.keep) (sym coefs) ∙ c.in_ok-coefs.ensures)
     (sym constant ∙ sym (to_z-of_z w128 k fits) ∙ c.quotient-constant.ensures ∙ ap (λ z. pos d *ℤ z) (sym (to_z-of_z w128 q fits_q))) one
     (subst (λ ys. IsDivisor d (take c.args.keep ys) c.args.row.now.constant) coefs
     (subst (λ z. IsDivisor d (take c.args.keep c.as_slice.result.now) z) (to_z-of_z w128 k fits ∙ constant) c.common_divisor-divisor.ensures))
