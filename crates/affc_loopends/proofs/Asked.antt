@@ -13,7 +13,7 @@ use Rattle.affc_farkas.specs.Eliminations.{IsElimination}
 use Rattle.affc_farkas.specs.Rational.{RationalPoint, scaled_value}
 use Rattle.affc_farkas.specs.declared.pair.Pair.{Pair}
 use Rattle.affc_eliminate.specs.project.Projections.{AreProjected, IsProjection, IsTooWide}
-use Rattle.affc_eliminate.specs.project.declared.projection.Projected.{Projected}
+use Rattle.affc_eliminate.specs.declared.project.projection.Projected.{Projected}
 use Rattle.affc_loopends.specs.declared.bounds.Answer.TheVariants.{Implied}
 use Rattle.affc_loopends.specs.Steps.{IsAnswer}
 use Rattle.affc_loopends.specs.Sizes.{IsPrintable}

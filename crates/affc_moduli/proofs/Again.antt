@@ -4,7 +4,7 @@ use Rattle.std.specs.Prelude.{unsigned_abs, slice_get, Some}
 use Rattle.std.proofs.lemmas.Int.{ints}
 use Rattle.affc_rows.specs.Forms.{Affine, value}
 use Rattle.affc_system.specs.declared.pairs.PairSystem.{PairSystem}
-use Rattle.affc_split.specs.maximum.declared.region.Region.{Region}
+use Rattle.affc_split.specs.declared.maximum.region.Region.{Region}
 use Rattle.affc_conflicts.specs.differences.Differences.{apart}
 use Rattle.affc_moduli.specs.Distances.{AreForward, AreBackward, AreOver}
 use Rattle.affc_moduli.specs.Shown.{IsDistance}

@@ -7,7 +7,7 @@ use Rattle.affc_rows.specs.Forms.{Affine, values_of}
 use Rattle.affc_system.specs.Systems.{Rows}
 use Rattle.affc_system.specs.declared.pairs.PairSystem.{PairSystem}
 use Rattle.affc_split.specs.maximum.Regions.{InRegion}
-use Rattle.affc_split.specs.maximum.declared.region.Region.{Region}
+use Rattle.affc_split.specs.declared.maximum.region.Region.{Region}
 use Rattle.affc_basis.specs.Slices.{along, InSlice}
 use Rattle.affc_system.specs.ElementPairs.{IsPairAt, IsPairOf}
 use Rattle.affc_conflicts.specs.Conditions.{InContext}

@@ -4,7 +4,7 @@ use Rattle.std.proofs.lemmas.Option.{slice_get_within}
 use Rattle.affc_rows.specs.Forms.{Affine}
 use Rattle.affc_system.specs.declared.pairs.PairSystem.{PairSystem}
 use Rattle.affc_split.specs.maximum.Regions.{AreBounded}
-use Rattle.affc_split.specs.maximum.declared.region.Region.{Region}
+use Rattle.affc_split.specs.declared.maximum.region.Region.{Region}
 use Rattle.affc_conflicts.specs.differences.Differences.{apart}
 use Rattle.affc_moduli.specs.Distances.{AreForward, AreBackward, AreOver, AreApartWithin}
 use Rattle.affc_moduli.proofs.Apart.{apart-turned, within_both}

@@ -6,7 +6,7 @@ use Rattle.affc_rows.specs.Forms.{Affine, value}
 use Rattle.affc_system.specs.declared.pairs.PairSystem.{PairSystem}
 use Rattle.affc_split.specs.maximum.Regions.{InRegion, IsBounded, AreBounded, AreAskable}
 use Rattle.affc_split.specs.maximum.Searches.{AreBoundedBefore}
-use Rattle.affc_split.specs.maximum.declared.region.Region.{Region}
+use Rattle.affc_split.specs.declared.maximum.region.Region.{Region}
 use Rattle.affc_moduli.specs.Distances.{AreForward, AreBackward, AreOver}
 use Rattle.affc_moduli.specs.Ended.{IsCeiling, IsFar}
 use Rattle.affc_moduli.proofs.Farthest.{bounded_both}

@@ -11,7 +11,7 @@ use Rattle.affc_conflicts.proofs.differences.Mixtures.{dot-zeros, mixed_within, 
 use Rattle.affc_split.specs.maximum.Regions.{IsMeasure}
 use Rattle.affc_basis.specs.Moduli.{IsModulus}
 use Rattle.affc_moduli.specs.Enough.{IsBelow, AreBelow, AreBelowBefore, IsComparable, AreComparable}
-use Rattle.affc_split.specs.maximum.declared.region.Region.{Region}
+use Rattle.affc_split.specs.declared.maximum.region.Region.{Region}
 use Rattle.std.proofs.lemmas.Option.{same_Some, slice_get_read, slice_get_within}
 
 dot-lifted : (cs : List ℤ) (m : ℕ) (z : List ℤ) → dot (cs ++ replicate m (pos 0)) z ≡ dot cs (take (length cs) z)

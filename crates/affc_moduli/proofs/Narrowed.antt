@@ -12,7 +12,7 @@ use Rattle.affc_system.specs.Boxes.{InBox}
 use Rattle.affc_system.specs.declared.pairs.PairSystem.{PairSystem}
 use Rattle.affc_system.proofs.SystemLemmas.{point_of_more_rows, point_of_fewer_rows}
 use Rattle.affc_split.specs.maximum.Regions.{InRegion}
-use Rattle.affc_split.specs.maximum.declared.region.Region.{Region}
+use Rattle.affc_split.specs.declared.maximum.region.Region.{Region}
 use Rattle.affc_conflicts.specs.differences.Differences.{apart}
 use Rattle.affc_basis.specs.Slices.{along}
 use Rattle.affc_conflicts.specs.Conditions.{IsConflict}

@@ -10,7 +10,7 @@ use Rattle.affc_system.specs.Systems.{Rows, IsRow, Meets, IsPoint}
 use Rattle.affc_system.specs.Boxes.{InBox}
 use Rattle.affc_system.specs.declared.pairs.PairSystem.{PairSystem}
 use Rattle.affc_split.specs.maximum.Regions.{InRegion}
-use Rattle.affc_split.specs.maximum.declared.region.Region.{Region}
+use Rattle.affc_split.specs.declared.maximum.region.Region.{Region}
 use Rattle.affc_moduli.specs.Slices.{AreSlices}
 use Rattle.affc_moduli.specs.Reduced.{IsReduced, AreReduced, below_zero}
 use Rattle.affc_moduli.proofs.Covers.{some_at}

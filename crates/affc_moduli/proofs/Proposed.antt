@@ -6,7 +6,7 @@ use Rattle.std.proofs.lemmas.Option.{slice_get_within}
 use Rattle.affc_rows.specs.Forms.{Affine, value}
 use Rattle.affc_system.specs.Systems.{Rows}
 use Rattle.affc_system.specs.declared.pairs.PairSystem.{PairSystem}
-use Rattle.affc_split.specs.maximum.declared.region.Region.{Region}
+use Rattle.affc_split.specs.declared.maximum.region.Region.{Region}
 use Rattle.affc_conflicts.specs.differences.Differences.{apart}
 use Rattle.affc_basis.specs.Slices.{along, InSlice}
 use Rattle.affc_basis.specs.declared.fold.Mark.{Mark}

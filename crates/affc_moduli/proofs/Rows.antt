@@ -6,7 +6,7 @@ use Rattle.affc_rows.specs.Forms.{Affine, dot, value, values_of}
 use Rattle.affc_system.specs.Systems.{Rows}
 use Rattle.affc_system.specs.declared.pairs.PairSystem.{PairSystem}
 use Rattle.affc_split.specs.maximum.Regions.{InRegion}
-use Rattle.affc_split.specs.maximum.declared.region.Region.{Region}
+use Rattle.affc_split.specs.declared.maximum.region.Region.{Region}
 use Rattle.affc_conflicts.specs.differences.Differences.{apart}
 use Rattle.affc_basis.specs.Slices.{along, InSlice}
 use Rattle.affc_basis.specs.Folds.{IsEnough, IsLeastMark}

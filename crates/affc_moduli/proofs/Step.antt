@@ -8,7 +8,7 @@ use Rattle.affc_rows.specs.Forms.{Affine, value}
 use Rattle.affc_system.specs.Systems.{Rows, IsRow}
 use Rattle.affc_system.specs.declared.pairs.PairSystem.{PairSystem}
 use Rattle.affc_split.specs.maximum.Regions.{InRegion, AreAskable}
-use Rattle.affc_split.specs.maximum.declared.region.Region.{Region}
+use Rattle.affc_split.specs.declared.maximum.region.Region.{Region}
 use Rattle.affc_conflicts.specs.differences.Differences.{apart}
 use Rattle.affc_conflicts.specs.Conditions.{IsConflict}
 use Rattle.affc_moduli.specs.Ready.{AreReady}

@@ -5,7 +5,7 @@ use Rattle.std.proofs.lemmas.Int.{ints}
 use Rattle.std.proofs.lemmas.List.{take_all}
 use Rattle.affc_rows.specs.Forms.{Affine, value}
 use Rattle.affc_split.specs.maximum.Regions.{InRegion, IsBounded}
-use Rattle.affc_split.specs.maximum.declared.region.Region.{Region}
+use Rattle.affc_split.specs.declared.maximum.region.Region.{Region}
 use Rattle.affc_basis.specs.Moduli.{IsModulus}
 use Rattle.affc_moduli.specs.Enough.{IsBelow, AreBelow, AreComparable, IsSuitable}
 use Rattle.affc_moduli.proofs.Rows.{number, value_of_number}

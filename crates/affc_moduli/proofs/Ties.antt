@@ -7,8 +7,8 @@ use Rattle.affc_rows.specs.Forms.{Affine, value}
 use Rattle.affc_system.specs.declared.pairs.PairSystem.{PairSystem}
 use Rattle.affc_split.specs.maximum.Regions.{InRegion, IsBounded, AreBounded}
 use Rattle.affc_split.specs.maximum.Searches.{AreBoundedBefore}
-use Rattle.affc_split.specs.maximum.declared.region.Region.{Region}
-use Rattle.affc_split.specs.maximum.declared.several.Found.{Found}
+use Rattle.affc_split.specs.declared.maximum.region.Region.{Region}
+use Rattle.affc_split.specs.declared.maximum.several.Found.{Found}
 use Rattle.affc_moduli.specs.declared.extremes.Candidate.{Candidate}
 use Rattle.affc_moduli.specs.declared.extremes.Sought.{Sought}
 use Rattle.affc_moduli.specs.Distances.{AreForward, AreBackward, AreOver, AreApartWithin, IsApartAt, IsFarthest}

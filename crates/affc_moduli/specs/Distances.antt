@@ -3,8 +3,8 @@ use Rattle.std.specs.Prelude.{◌≡◌, ℕ, ◌≤◌, ℤ, pos, unsigned_abs,
 use Rattle.affc_rows.specs.Forms.{Affine, value}
 use Rattle.affc_system.specs.declared.pairs.PairSystem.{PairSystem}
 use Rattle.affc_split.specs.maximum.Regions.{InRegion}
-use Rattle.affc_split.specs.maximum.declared.region.Region.{Region}
-use Rattle.affc_split.specs.maximum.declared.several.Found.{Found}
+use Rattle.affc_split.specs.declared.maximum.region.Region.{Region}
+use Rattle.affc_split.specs.declared.maximum.several.Found.{Found}
 use Rattle.affc_moduli.specs.Slices.{AreParallel}
 use Rattle.affc_conflicts.specs.differences.Differences.{apart, IsSmall}
 

@@ -4,7 +4,7 @@ use Rattle.affc_rows.specs.Forms.{Affine}
 use Rattle.affc_split.specs.Budgets.{Account}
 use Rattle.affc_system.specs.declared.pairs.PairSystem.{PairSystem}
 use Rattle.affc_split.specs.maximum.Searches.{AreBoundedBefore}
-use Rattle.affc_split.specs.maximum.declared.region.Region.{Region}
+use Rattle.affc_split.specs.declared.maximum.region.Region.{Region}
 use Rattle.affc_moduli.specs.declared.extremes.Reach.{Reach}
 use Rattle.affc_moduli.specs.declared.extremes.Reach.TheVariants.{Farthest, Within}
 use Rattle.affc_moduli.specs.Distances.{AreApartWithin, IsFarthest}

@@ -4,7 +4,7 @@ use Rattle.std.specs.List.{All}
 use Rattle.affc_rows.specs.Forms.{Affine, value}
 use Rattle.affc_basis.specs.Moduli.{IsModulus}
 use Rattle.affc_split.specs.maximum.Regions.{InRegion, IsBounded}
-use Rattle.affc_split.specs.maximum.declared.region.Region.{Region}
+use Rattle.affc_split.specs.declared.maximum.region.Region.{Region}
 
 -- at each point of the region the form is below the modulus at the point's first numbers
 abbrev pub IsBelow : Region → Affine → Affine → Type 0

@@ -2,7 +2,7 @@
 ghost use Rattle.std.specs.Prelude.{◌≡◌, ℕ, ℤ, List, ◌+◌, ◌-◌, ◌^◌, ◌<◌, ◌≤◌, ◌++◌, ◌-ℤ◌, ◌≤ℤ◌, ◌<ℤ◌, unsigned_abs, pos, Some, slice_get, take, replicate, IfOk, IfErr, IsTrue, length};
 ghost use Rattle.std.specs.List.{All};
 ghost use Rattle.affc_rows.specs.Forms.{Affine, value};
-ghost use Rattle.affc_split.specs.maximum.declared.region.Region.{Region as Region'};
+ghost use Rattle.affc_split.specs.declared.maximum.region.Region.{Region as Region'};
 ghost use Rattle.affc_split.specs.Budgets.{IsLater};
 ghost use Rattle.affc_split.specs.maximum.Regions.{InRegion, IsBounded, IsMeasure};
 ghost use Rattle.affc_basis.specs.Moduli.{IsModulus};

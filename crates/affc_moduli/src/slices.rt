@@ -4,7 +4,7 @@ ghost use Rattle.std.specs.List.{All};
 ghost use Rattle.affc_rows.specs.Forms.{Affine};
 ghost use Rattle.affc_system.specs.Systems.{IsRow};
 ghost use Rattle.affc_system.specs.Pairs.{IsBoxed};
-ghost use Rattle.affc_split.specs.maximum.declared.region.Region.{Region as Region'};
+ghost use Rattle.affc_split.specs.declared.maximum.region.Region.{Region as Region'};
 ghost use Rattle.affc_moduli.specs.Slices.{AreCopies, IsNarrowed, AreNarrowed};
 
 use affc_rows::Form;

@@ -20,7 +20,7 @@ use Rattle.affc_eliminate.proofs.Sums.{single_here}
 use Rattle.affc_eliminate.proofs.Added.{each_form}
 use Rattle.affc_eliminate.specs.project.Projections.{ExtendsWhole}
 use Rattle.affc_eliminate.specs.project.States.{IsIn, AreZero, IsState, IsCancelled, IsDone, IsContradiction, HasContradiction}
-use Rattle.affc_eliminate.specs.project.declared.work.Work.{Work}
+use Rattle.affc_eliminate.specs.declared.project.work.Work.{Work}
 use Rattle.affc_eliminate.proofs.project.Tables.{live_within, live_width}
 
 pub nothing : Kept

@@ -16,7 +16,7 @@ use Rattle.affc_eliminate.specs.declared.kept.Kept.{Kept}
 use Rattle.affc_eliminate.proofs.Values.{entry_last}
 use Rattle.affc_eliminate.specs.project.Projections.{ExtendsWhole, IsRowOfTable, AreProjected, AreFrom}
 use Rattle.affc_eliminate.specs.project.States.{IsIn, AreZero, IsState, IsContradiction, HasContradiction, IsCancelled, AreInputs, AreLeft, IsDone, IsLeast, AreReduced}
-use Rattle.affc_eliminate.specs.project.declared.work.Work.{Work}
+use Rattle.affc_eliminate.specs.declared.project.work.Work.{Work}
 use Rattle.affc_eliminate.proofs.project.Tables.{live_width, live_entry}
 use Rattle.affc_eliminate.proofs.project.Points.{same_first, both_ways, itself}
 use Rattle.affc_eliminate.proofs.project.Contradictions.{no_point, both_none, state_alone, zero_alone, itself_alone}

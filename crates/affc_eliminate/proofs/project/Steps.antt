@@ -20,7 +20,7 @@ use Rattle.affc_eliminate.proofs.Added.{added_all}
 use Rattle.affc_eliminate.proofs.Exactness.{factor_of_zero}
 use Rattle.affc_eliminate.specs.project.Projections.{AreFrom}
 use Rattle.affc_eliminate.specs.project.States.{IsIn, AreZero, IsState, HasContradiction, IsCancelled}
-use Rattle.affc_eliminate.specs.project.declared.work.Work.{Work}
+use Rattle.affc_eliminate.specs.declared.project.work.Work.{Work}
 use Rattle.affc_eliminate.proofs.project.Tables.{weights_of, live_width, table_of_step, step_columns, live_in, added_in, first_pairs}
 use Rattle.affc_eliminate.proofs.project.Wides.{still_from}
 use Rattle.affc_eliminate.proofs.project.Points.{points_of_step}

@@ -5,8 +5,8 @@ use Rattle.affc_farkas.specs.Proofs.{IsLeaf}
 use Rattle.affc_farkas.specs.Rational.{RationalPoint}
 use Rattle.affc_farkas.specs.Eliminations.{IsElimination}
 use Rattle.affc_eliminate.specs.project.Projections.{IsTooWide}
-use Rattle.affc_eliminate.specs.project.declared.refutation.Refutation.{Refutation}
-use Rattle.affc_eliminate.specs.project.declared.refutation.Refutation.TheVariants.{Refuted, Stands, TooMany, TooWide}
+use Rattle.affc_eliminate.specs.declared.project.refutation.Refutation.{Refutation}
+use Rattle.affc_eliminate.specs.declared.project.refutation.Refutation.TheVariants.{Refuted, Stands, TooMany, TooWide}
 
 -- the multipliers are a leaf; or a rational point meets every row; or the pairs show that a limit was reached
 abbrev pub IsAnswer : ℕ → List Affine → Refutation → Type 0

@@ -9,8 +9,8 @@ use Rattle.affc_farkas.specs.Rational.{RationalPoint}
 use Rattle.affc_farkas.specs.Eliminations.{combined, coefficient, AreFactors, IsTable, IsNext, IsElimination, IsWide}
 use Rattle.affc_farkas.specs.declared.pair.Pair.{Pair}
 use Rattle.affc_eliminate.specs.Mixtures.{PassesSigned}
-use Rattle.affc_eliminate.specs.project.declared.projection.Projected.{Projected}
-use Rattle.affc_eliminate.specs.project.declared.projection.Projected.TheVariants.{Rows, TooMany, TooWide}
+use Rattle.affc_eliminate.specs.declared.project.projection.Projected.{Projected}
+use Rattle.affc_eliminate.specs.declared.project.projection.Projected.TheVariants.{Rows, TooMany, TooWide}
 
 -- the whole numbers are the first ones of a rational point that meets the rows
 pub record ExtendsWhole (columns : ℕ) (rows : List Affine) (whole : List ℤ) : Type 0 where

@@ -10,9 +10,9 @@ use Rattle.affc_eliminate.specs.Mixtures.{forms_of, AreSumsOf, weight_of}
 use Rattle.affc_eliminate.specs.Steps.{AreNumbered}
 use Rattle.affc_eliminate.specs.declared.kept.Kept.{Kept}
 use Rattle.affc_eliminate.specs.project.Projections.{ExtendsWhole, IsInLeastTerms, IsTooWide, AreFrom}
-use Rattle.affc_eliminate.specs.project.declared.work.Work.{Work}
-use Rattle.affc_eliminate.specs.project.declared.work.Stop.{Stop}
-use Rattle.affc_eliminate.specs.project.declared.work.Stop.TheVariants.{Memory, TooMany, TooWide}
+use Rattle.affc_eliminate.specs.declared.project.work.Work.{Work}
+use Rattle.affc_eliminate.specs.declared.project.work.Stop.{Stop}
+use Rattle.affc_eliminate.specs.declared.project.work.Stop.TheVariants.{Memory, TooMany, TooWide}
 
 -- the weights of so many rows from number i on
 abbrev pub dense : (count i : ℕ) → List (ℕ × ℕ) → List ℕ

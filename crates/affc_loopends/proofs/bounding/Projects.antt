@@ -5,8 +5,8 @@ use Rattle.std.proofs.lemmas.List.{length-take-le}
 use Rattle.std.proofs.lemmas.List.Elements.{All-take}
 use Rattle.affc_rows.specs.Forms.{Affine}
 use Rattle.affc_eliminate.specs.project.Projections.{IsProjection}
-use Rattle.affc_eliminate.specs.project.declared.projection.Projected.{Projected}
-use Rattle.affc_eliminate.specs.project.declared.projection.Projected.TheVariants.{Rows, TooMany}
+use Rattle.affc_eliminate.specs.declared.project.projection.Projected.{Projected}
+use Rattle.affc_eliminate.specs.declared.project.projection.Projected.TheVariants.{Rows, TooMany}
 use Rattle.affc_eliminate.proofs.project.Tables.{first_pairs}
 use Rattle.affc_loopends.specs.bounding.Laws.{SystemsProject}
 use Rattle.affc_loopends.proofs.bounding.Projected.{Projection, projection}

@@ -4,7 +4,7 @@ use Rattle.std.specs.Prelude.{ℕ, ◌^◌, ◌<◌, ◌≤◌, ℤ, List, lengt
 use Rattle.affc_rows.specs.Forms.{Affine, HaveColumns}
 use Rattle.affc_system.specs.Systems.{Rows}
 use Rattle.affc_eliminate.specs.project.Projections.{IsProjection}
-use Rattle.affc_eliminate.specs.project.declared.projection.Projected.{Projected}
+use Rattle.affc_eliminate.specs.declared.project.projection.Projected.{Projected}
 use Rattle.affc_ast.specs.declared.tree.Program.{Program}
 use Rattle.affc_trace.specs.declared.schedule.Schedule.{Schedule}
 use Rattle.affc_loops.specs.Laws.{HasLoops}

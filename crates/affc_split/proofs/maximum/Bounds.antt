@@ -15,9 +15,9 @@ use Rattle.affc_split.specs.Answers.{IfEmpty, IfPoint}
 use Rattle.affc_split.specs.Points.{IsLeastPoint}
 use Rattle.affc_split.specs.maximum.Regions.{InRegion, IsFirstReaching, IsBounded, IsAnswer}
 use Rattle.affc_split.specs.maximum.Searches.{IsReached, IsSearch}
-use Rattle.affc_split.specs.maximum.declared.region.Region.{Region}
-use Rattle.affc_split.specs.maximum.declared.search.Best.{Best}
-use Rattle.affc_split.specs.maximum.declared.search.Search.{Search}
+use Rattle.affc_split.specs.declared.maximum.region.Region.{Region}
+use Rattle.affc_split.specs.declared.maximum.search.Best.{Best}
+use Rattle.affc_split.specs.declared.maximum.search.Search.{Search}
 
 up : (u v w : ℤ) → u ≤ℤ v → v ≤ℤ w → u ≤ℤ w
 up u v w h k = omega (arith, ints)

@@ -5,8 +5,8 @@ use Rattle.affc_rows.specs.Forms.{Affine, value}
 use Rattle.affc_system.specs.Systems.{IsPoint}
 use Rattle.affc_system.specs.Boxes.{InBox}
 use Rattle.affc_system.specs.Order.{LexLe}
-use Rattle.affc_split.specs.maximum.declared.region.Region.{Region}
-use Rattle.affc_split.specs.maximum.declared.search.Best.{Best}
+use Rattle.affc_split.specs.declared.maximum.region.Region.{Region}
+use Rattle.affc_split.specs.declared.maximum.search.Best.{Best}
 
 -- an integer point of the region
 pub record InRegion (region : Region) (z : List ℤ) : Type 0 where

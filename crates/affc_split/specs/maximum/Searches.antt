@@ -2,9 +2,9 @@
 use Rattle.std.specs.Prelude.{◌≡◌, ℕ, ◌^◌, ◌<◌, ◌≤◌, List, slice_get, ℤ, ◌<ℤ◌, unsigned_abs, Option, Some, None}
 use Rattle.affc_rows.specs.Forms.{Affine, value}
 use Rattle.affc_split.specs.maximum.Regions.{InRegion, IsBounded}
-use Rattle.affc_split.specs.maximum.declared.region.Region.{Region}
-use Rattle.affc_split.specs.maximum.declared.search.Best.{Best}
-use Rattle.affc_split.specs.maximum.declared.search.Search.{Search}
+use Rattle.affc_split.specs.declared.maximum.region.Region.{Region}
+use Rattle.affc_split.specs.declared.maximum.search.Best.{Best}
+use Rattle.affc_split.specs.declared.maximum.search.Search.{Search}
 
 -- what is reached so far: the floor, or a value above it that is attained
 abbrev pub IsReached : Region → Affine → (floor low : ℤ) → Option Best → Type 0

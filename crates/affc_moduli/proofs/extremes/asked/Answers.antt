@@ -4,7 +4,7 @@ use Rattle.std.specs.Int.{w64}
 use Rattle.std.proofs.lemmas.Int.{to_z-of_z, fits_signed_from_abs}
 use Rattle.affc_rows.specs.Forms.{value}
 use Rattle.affc_split.specs.maximum.Regions.{IsAnswer}
-use Rattle.affc_split.specs.maximum.declared.search.Best.{Best}
+use Rattle.affc_split.specs.declared.maximum.search.Best.{Best}
 use Rattle.affc_split.proofs.maximum.Laters.{then_later}
 use Rattle.affc_moduli.proofs.Ties.{rises, positive_by, reached_by}
 use Rattle.affc_moduli.proofs.extremes.asked.Goals as goal

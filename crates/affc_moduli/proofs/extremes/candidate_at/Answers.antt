@@ -2,7 +2,7 @@ use Rattle.std.proofs.Common.{arith}
 use Rattle.std.specs.Prelude.{FitsSigned}
 use Rattle.std.specs.Int.{w64}
 use Rattle.std.proofs.lemmas.Int.{to_z-of_z, fits_signed_from_abs}
-use Rattle.affc_split.specs.maximum.declared.several.Found.{Found}
+use Rattle.affc_split.specs.declared.maximum.several.Found.{Found}
 use Rattle.affc_moduli.proofs.Ties.{tie_at}
 use Rattle.affc_moduli.proofs.extremes.candidate_at.Goals as goal
 
