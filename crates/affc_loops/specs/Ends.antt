@@ -16,15 +16,13 @@ use Rattle.affc_trace.specs.Target.{numbers_in, time_of}
 use Rattle.affc_domain.specs.Ranges.{number_ranges}
 use Rattle.affc_loops.specs.Loops.{Piece, pieces, times_of}
 use Rattle.affc_loops.specs.Trees.{number, form_tree}
+pub use Rattle.affc_rows.specs.Vocabulary.{opposite}
 
 -- ---- The number at which a row is 0
 
 -- the row without its last column
 abbrev pub rest_of : (column : ℕ) → Affine → Affine
 rest_of column row = record { coefs = take column row.coefs; constant = row.constant }
-
-abbrev pub opposite : Affine → Affine
-opposite f = record { coefs = map neg_ℤ f.coefs; constant = neg_ℤ f.constant }
 
 abbrev pub last_of : (column : ℕ) → Affine → ℤ
 last_of column row = get_or row.coefs column (pos 0)
