@@ -35,6 +35,7 @@ pub struct Fold {
     ghost one_each: { length moduli ≡ length basis.rows },
 }
 
+/// A coefficient times a component of a point.
 fn product(c: i128, x: i64) -> i128
     requires { unsigned_abs c ≤ 2 ^ 30 }
     ensures value { result ≡ c *ℤ x }
