@@ -4,6 +4,7 @@
 //! magnitudes of the terms that it has to add sum to more than `2^126`. So no number on the way is ever cut off.
 #![tactic(auto)]
 
+pub mod examples;
 pub mod form;
 pub mod laws;
 pub mod total;
