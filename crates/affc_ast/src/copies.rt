@@ -10,7 +10,7 @@ use std::alloc::{AllocError, Global};
 
 /// A part of a tree, which can be copied.
 pub trait Part: Drop {
-    fn copied(&self, alloc: Global) -> Result<Self, AllocError>
+    fn own_copy(&self, alloc: Global) -> Result<Self, AllocError>
         ensures { IfOk result (λ x. x ≡ self.now) };
 }
 
@@ -21,43 +21,43 @@ pub fn all<T: Part>(alloc: Global, items: &[T]) -> Result<Items<T>, AllocError>
 {
     let mut made = Items::new(alloc);
     for item in items {
-        made.push(item.copied(alloc)?)?;
+        made.push(item.own_copy(alloc)?)?;
     }
     Ok(made)
 }
 
 impl Part for Ix {
-    fn copied(&self, alloc: Global) -> Result<Ix, AllocError> {
+    fn own_copy(&self, alloc: Global) -> Result<Ix, AllocError> {
         self.to_owned(alloc)
     }
 }
 
 impl Part for Compare {
-    fn copied(&self, alloc: Global) -> Result<Compare, AllocError> {
+    fn own_copy(&self, alloc: Global) -> Result<Compare, AllocError> {
         self.to_owned(alloc)
     }
 }
 
 impl Part for Local {
-    fn copied(&self, alloc: Global) -> Result<Local, AllocError> {
+    fn own_copy(&self, alloc: Global) -> Result<Local, AllocError> {
         self.to_owned(alloc)
     }
 }
 
 impl Part for Decl {
-    fn copied(&self, alloc: Global) -> Result<Decl, AllocError> {
+    fn own_copy(&self, alloc: Global) -> Result<Decl, AllocError> {
         self.to_owned(alloc)
     }
 }
 
 impl Part for Param {
-    fn copied(&self, alloc: Global) -> Result<Param, AllocError> {
+    fn own_copy(&self, alloc: Global) -> Result<Param, AllocError> {
         self.to_owned(alloc)
     }
 }
 
 impl Part for Stmt {
-    fn copied(&self, alloc: Global) -> Result<Stmt, AllocError> {
+    fn own_copy(&self, alloc: Global) -> Result<Stmt, AllocError> {
         self.to_owned(alloc)
     }
 }

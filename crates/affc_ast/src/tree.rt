@@ -1,17 +1,18 @@
+//! The tree of a program.
+
 use crate::text::Text;
 use sqlite_items::{Boxed, Items};
 
 /// A name that is visible where it stands: the number parameters in order of declaration, then the
 /// enclosing iterators and locals from the outermost on, numbered from 0.
-#[derive(Clone, Copy, PartialEq, Eq, Debug)]
+#[derive(Clone, Copy)]
 pub struct NameId(pub u32);
 
 /// An array: the array parameters in order of declaration, then the temporaries, numbered from 0.
-#[derive(Clone, Copy, PartialEq, Eq, Debug)]
+#[derive(Clone, Copy, Debug)]
 pub struct ArrayId(pub u32);
 
 /// A whole-number expression: a bound, a subscript, an extent, a side of a comparison.
-#[derive(Debug)]
 pub enum Ix {
     Lit(i64),
     Name(NameId),
@@ -51,7 +52,7 @@ impl Drop for Ix {
 }
 
 /// An operation on two values.
-#[derive(Clone, Copy, PartialEq, Eq, Debug)]
+#[derive(Clone, Copy)]
 pub enum Op {
     Add,
     Sub,
@@ -62,7 +63,6 @@ pub enum Op {
 }
 
 /// A value: a `uint64_t`.
-#[derive(Debug)]
 pub enum Val {
     Load {
         array: ArrayId,
@@ -106,7 +106,7 @@ impl Drop for Val {
     }
 }
 
-#[derive(Clone, Copy, PartialEq, Eq, Debug)]
+#[derive(Clone, Copy)]
 pub enum Rel {
     Less,
     LessEqual,
@@ -116,7 +116,7 @@ pub enum Rel {
 }
 
 /// A condition of an `if` or of a `context` line.
-#[derive(Debug, Drop)]
+#[derive(Drop)]
 pub struct Compare {
     pub rel: Rel,
     pub left: Ix,
@@ -124,13 +124,13 @@ pub struct Compare {
 }
 
 /// A local of a block, `const int64_t name = value;`.
-#[derive(Debug, Drop)]
+#[derive(Drop)]
 pub struct Local {
     pub name: Text,
     pub value: Ix,
 }
 
-#[derive(Debug, Drop)]
+#[derive(Drop)]
 pub enum Stmt {
     /// `rel` is `Less` or `LessEqual`, and the step is 1.
     For {
@@ -158,7 +158,7 @@ pub enum Stmt {
     },
 }
 
-#[derive(Clone, Copy, PartialEq, Eq, Debug)]
+#[derive(Clone, Copy, PartialEq, Eq)]
 pub enum Role {
     Input,
     Output,
@@ -166,21 +166,21 @@ pub enum Role {
 }
 
 /// An array: one extent for each dimension.
-#[derive(Debug, Drop)]
+#[derive(Drop)]
 pub struct Decl {
     pub name: Text,
     pub role: Role,
     pub extents: Items<Ix>,
 }
 
-#[derive(Debug, Drop)]
+#[derive(Drop)]
 pub enum Param {
     /// A number with its declared range, both ends included.
     Number { name: Text, low: i64, high: i64 },
     Array(Decl),
 }
 
-#[derive(Debug, Drop)]
+#[derive(Drop)]
 pub struct Program {
     pub name: Text,
     pub params: Items<Param>,

@@ -1,7 +1,7 @@
 //! What can be wrong with a text whose tokens follow the grammar.
 
 /// Why a name is refused. Where several reasons hold, the first of these is given.
-#[derive(Clone, Copy, Debug, PartialEq, Eq, Drop)]
+#[derive(Clone, Copy, Debug)]
 pub enum NameWhy {
     /// Nothing visible has the name.
     Unknown,
@@ -19,7 +19,7 @@ pub enum NameWhy {
 }
 
 /// A limit that a text passes. Where several are passed at one place, the first of these is given.
-#[derive(Clone, Copy, Debug, PartialEq, Eq, Drop)]
+#[derive(Clone, Copy, Debug)]
 pub enum LimitName {
     Size,
     Tokens,

@@ -1,34 +1,28 @@
-// A folder of named files.
+//! A folder of named files.
+
 ghost use Rattle.std.specs.Prelude.{◌≡◌, ◌≢◌, ◌≤◌, List, ℕ, length, is_some, IfOk, IfErr, OnOk, IsErrOf};
 ghost use Rattle.affc_io.specs.Count.{Rose, StaysWhereTold, raised};
 ghost use Rattle.affc_io.specs.Files.{held_under, NotHeld, Holds, TooLong, IsLeft};
 ghost use Rattle.affc_io.specs.State.{FolderState, FolderKeeps};
 
 use std::alloc::Global;
-use thiserror::Error;
 
 /// The most bytes that a read answers: 64 MiB.
 pub const LONGEST_READ: usize = 67_108_864;
 
 /// Why a name wasn't read.
-#[derive(Clone, Copy, Debug, PartialEq, Eq, Error)]
+#[derive(Clone, Copy)]
 pub enum ReadFault {
-    #[error("the file could not be read")]
     Failed,
-    #[error("there is no such file")]
     Missing,
-    #[error("the file is longer than 64 MiB")]
     Long,
-    #[error("out of memory")]
     Memory,
 }
 
 /// Why a name wasn't written.
-#[derive(Clone, Copy, Debug, PartialEq, Eq, Error)]
+#[derive(Clone, Copy)]
 pub enum WriteFault {
-    #[error("the file could not be written")]
     Failed,
-    #[error("out of memory")]
     Memory,
 }
 

@@ -1,4 +1,4 @@
-// What the compiler asks of the outside: a folder of named files, and sinks for bytes.
+//! What the compiler asks of the outside: a folder of named files, and sinks for bytes.
 #![tactic(auto)]
 
 mod files;

@@ -1,4 +1,5 @@
-// A folder and two sinks in memory, which tell all that they hold. Their calls say exactly what they do.
+//! A folder and two sinks in memory, which tell all that they hold. Their calls say exactly what they do.
+
 ghost use Rattle.std.specs.Prelude.{◌≡◌, ◌≢◌, ◌≤◌, ◌↔◌, ◌++◌, [], Some, None, List, ℕ, IfOk, IfErr, OnOk, IsErrOf, IsTrue, length, map};
 ghost use Rattle.affc_io.specs.Answers.{read_failed, read_short, write_failed, write_short, sink_failed, sink_short};
 ghost use Rattle.affc_io.specs.Count.{raised, counted};

@@ -1,4 +1,5 @@
-// A whole piece, in as many writes as it takes.
+//! A whole piece, in as many writes as it takes.
+
 ghost use Rattle.std.specs.Prelude.{◌≡◌, ◌<◌, length, IfErr};
 ghost use Rattle.affc_io.specs.Count.{Rose};
 ghost use Rattle.affc_io.specs.Taken.{grown};
@@ -6,21 +7,17 @@ ghost use Rattle.affc_io.specs.Put.{IsCausedBy, put_of};
 ghost use Rattle.affc_io.specs.State.{SinkCounts};
 
 use crate::{Sink, SinkFault};
-use thiserror::Error;
 
 /// Why a piece wasn't taken whole.
-#[derive(Clone, Copy, Debug, PartialEq, Eq, Error)]
+#[derive(Clone, Copy)]
 pub enum PutCause {
     /// A write failed, or took none of the bytes.
-    #[error("the bytes could not be written")]
     Fault,
-    #[error("out of memory")]
     Memory,
 }
 
 /// How many bytes of the piece were taken, and why no more.
-#[derive(Clone, Copy, Debug, PartialEq, Eq, Error)]
-#[error("{cause} after {written} bytes")]
+#[derive(Clone, Copy)]
 pub struct PutFault {
     pub written: usize,
     pub cause: PutCause,

@@ -1,4 +1,5 @@
-// A sink for bytes.
+//! A sink for bytes.
+
 ghost use Rattle.std.specs.Prelude.{◌≡◌, ◌≢◌, ◌≤◌, ◌<◌, ◌+◌, ◌++◌, List, ℕ, Option, length, take, drop, IfOk, IsErrOf, IsFalse};
 ghost use Rattle.affc_io.specs.Answers.{sink_failed};
 ghost use Rattle.affc_io.specs.Count.{Rose, StaysWhereTold};
@@ -6,14 +7,10 @@ ghost use Rattle.affc_io.specs.Front.{IsFront};
 ghost use Rattle.affc_io.specs.State.{SinkState, SinkCounts};
 ghost use Rattle.affc_io.specs.Taken.{grown, taken_of};
 
-use thiserror::Error;
-
 /// Why a sink took nothing.
-#[derive(Clone, Copy, Debug, PartialEq, Eq, Error)]
+#[derive(Clone, Copy)]
 pub enum SinkFault {
-    #[error("the bytes could not be written")]
     Failed,
-    #[error("out of memory")]
     Memory,
 }
 

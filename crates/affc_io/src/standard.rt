@@ -1,4 +1,5 @@
-// The real files and streams. They tell nothing of content, and count each error.
+//! The real files and streams. They tell nothing of content, and count each error.
+
 ghost use Rattle.std.specs.Prelude.{◌≡◌, ◌≤◌, None, IfOk, length};
 
 use crate::{Folder, LONGEST_READ, ReadFault, Sink, SinkFault, WriteFault};

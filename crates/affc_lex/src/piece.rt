@@ -15,7 +15,7 @@ use crate::scan::{
 use crate::token::Kind;
 
 /// What a piece of a text is.
-#[derive(Clone, Copy, Debug, PartialEq, Eq, Drop)]
+#[derive(Clone, Copy)]
 pub enum What {
     Space,
     Comment,
@@ -23,7 +23,7 @@ pub enum What {
 }
 
 /// Where a piece stands. The bytes of comments are no part of a line here.
-#[derive(Clone, Copy, Debug, PartialEq, Eq, Drop)]
+#[derive(Clone, Copy)]
 pub enum Spot {
     /// with no token between it and the last line feed, or the beginning of the text
     Fresh,
@@ -40,7 +40,7 @@ pub enum Spot {
 }
 
 /// What is found at a spot: a piece of so many bytes, or why none stands there.
-#[derive(Clone, Copy, Debug, PartialEq, Eq, Drop)]
+#[derive(Clone, Copy)]
 pub enum Found {
     Piece(What, usize),
     /// Nothing begins here, or a number or value of so many bytes doesn't end.

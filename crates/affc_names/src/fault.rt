@@ -2,7 +2,7 @@ use affc_grammar::fault::NameWhy;
 use std::alloc::AllocError;
 
 /// What ends the reading of names.
-#[derive(Clone, Copy, Debug, PartialEq, Eq, Drop)]
+#[derive(Clone, Copy)]
 pub enum NameFault {
     Memory,
     /// The name whose token has this number, from 0.

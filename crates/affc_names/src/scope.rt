@@ -17,7 +17,7 @@ use std::alloc::{AllocError, Global};
 use std::marker::Model;
 
 /// What a name stands for; numbers and arrays are counted from 0.
-#[derive(Clone, Copy, Debug, PartialEq, Eq, Drop)]
+#[derive(Clone, Copy)]
 pub(crate) enum Thing {
     Function,
     Number {

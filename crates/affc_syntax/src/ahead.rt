@@ -384,7 +384,7 @@ pub fn callee_of(prelude: bool, word: &str) -> Option<Callee>
 }
 
 /// Why nothing was read: the number of the first token that cannot stand on, or behind the last.
-#[derive(Clone, Copy, Debug, PartialEq, Eq, Drop)]
+#[derive(Clone, Copy)]
 pub enum Stop {
     Memory,
     Deep,

@@ -1,4 +1,5 @@
-// What words stand for, as laws: `specs/Examples.antt` has the words, with what was found by hand from the rules.
+//! What words stand for, as laws: `specs/Examples.antt` has the words, with what was found by hand from the rules.
+
 ghost use Rattle.affc_words.specs.Examples.{CountsAreRight, NamesAreKnown, WordsAreWhole, OptionsAreTheForms, OperandsFollowTheEnd, OptionsStandAnywhere};
 
 pub fn words()

@@ -1,4 +1,5 @@
-// The words of the command line.
+//! The words of the command line.
+
 ghost use Rattle.std.specs.Prelude.{◌≡◌, ◌≤◌, IfOk, IfSome, true, codes, option_map};
 ghost use Rattle.std.specs.List.{list_all, list_any};
 ghost use Rattle.std.specs.Char.{is_ascii_digit};
@@ -14,7 +15,7 @@ use clap::{Arg, ArgMatches};
 use std::alloc::{AllocError, Global};
 
 /// A cost by its name.
-#[derive(Clone, Copy, Debug)]
+#[derive(Clone, Copy)]
 pub enum CostName {
     Words,
     Sum,
@@ -22,14 +23,14 @@ pub enum CostName {
 }
 
 /// How much may be asked for a fold, if that is limited, and by which cost it is chosen.
-#[derive(Clone, Copy, Debug)]
+#[derive(Clone, Copy)]
 pub struct Settings {
     pub budget: Option<u64>,
     pub cost: CostName,
 }
 
 /// What the words ask for.
-#[derive(Clone, Copy, Debug)]
+#[derive(Clone, Copy)]
 pub enum Command<'a> {
     Fold {
         source: &'a str,

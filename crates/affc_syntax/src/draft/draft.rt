@@ -5,7 +5,7 @@ use affc_ast::tree::{Op, Rel, Role};
 use affc_ast::{Boxed, Items};
 
 /// `affc_min`, `affc_max`, `affc_mod`.
-#[derive(Clone, Copy, Debug, PartialEq, Eq, Drop)]
+#[derive(Clone, Copy)]
 pub enum Choice {
     Minimum,
     Maximum,
@@ -13,7 +13,7 @@ pub enum Choice {
 }
 
 /// `affc_floord`, `affc_ceild`.
-#[derive(Clone, Copy, Debug, PartialEq, Eq, Drop)]
+#[derive(Clone, Copy)]
 pub enum Rounding {
     Down,
     Up,
