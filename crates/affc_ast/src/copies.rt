@@ -2,9 +2,10 @@
 ghost use Rattle.std.specs.Prelude.{◌≡◌, IfOk};
 ghost use Rattle.affc_ast.specs.declared.tree.Ix.TheVariants as trees;
 ghost use Rattle.affc_ast.specs.declared.tree.Val.TheVariants as values;
+ghost use Rattle.affc_ast.specs.declared.tree.Stmt.TheVariants as statements;
 
 use crate::text::Text;
-use crate::tree::{Compare, Decl, Ix, Local, Op, Param, Program, Stmt, Val};
+use crate::tree::{ArrayId, Compare, Decl, Ix, Local, Op, Param, Program, Rel, Stmt, Val};
 use sqlite_items::{Boxed, Items};
 use std::alloc::{AllocError, Global};
 
@@ -283,6 +284,61 @@ impl Param {
     }
 }
 
+fn for_copy(
+    alloc: Global,
+    iter: &Text,
+    low: &Ix,
+    rel: Rel,
+    high: &Ix,
+    body: Items<Stmt>,
+) -> Result<Stmt, AllocError>
+    ensures { IfOk result (λ x. x ≡ statements.For iter.now low.now rel high.now body) }
+{
+    let iter = Text::from_str(alloc, iter.as_str())?;
+    let low = low.to_owned(alloc)?;
+    let high = high.to_owned(alloc)?;
+    Ok(Stmt::For {
+        iter,
+        low,
+        rel,
+        high,
+        body,
+    })
+}
+
+fn if_copy(alloc: Global, conds: &Items<Compare>, body: Items<Stmt>) -> Result<Stmt, AllocError>
+    ensures { IfOk result (λ x. x ≡ statements.If conds.now body) }
+{
+    let conds = all(alloc, conds.as_slice())?;
+    Ok(Stmt::If { conds, body })
+}
+
+fn assign_copy(
+    alloc: Global,
+    op: Option<Op>,
+    array: ArrayId,
+    subs: &Items<Ix>,
+    value: &Val,
+) -> Result<Stmt, AllocError>
+    ensures { IfOk result (λ x. x ≡ statements.Assign op array subs.now value.now) }
+{
+    let subs = all(alloc, subs.as_slice())?;
+    let value = value.to_owned(alloc)?;
+    Ok(Stmt::Assign {
+        op,
+        array,
+        subs,
+        value,
+    })
+}
+
+fn block_copy(alloc: Global, locals: &Items<Local>, body: Items<Stmt>) -> Result<Stmt, AllocError>
+    ensures { IfOk result (λ x. x ≡ statements.Block locals.now body) }
+{
+    let locals = all(alloc, locals.as_slice())?;
+    Ok(Stmt::Block { locals, body })
+}
+
 impl Stmt {
     /// A copy.
     #[tactic(auto, using(std::proofs::lemmas::List::take_more, std::proofs::lemmas::List::take_all))]
@@ -297,51 +353,31 @@ impl Stmt {
                 high,
                 body,
             } => {
-                let iter = Text::from_str(alloc, iter.as_str())?;
-                let low = low.to_owned(alloc)?;
-                let high = high.to_owned(alloc)?;
                 let mut made = Items::new(alloc);
                 for inner in body.as_slice() {
                     made.push(inner.to_owned(alloc)?)?;
                 }
-                Ok(Stmt::For {
-                    iter,
-                    low,
-                    rel: *rel,
-                    high,
-                    body: made,
-                })
+                for_copy(alloc, iter, low, *rel, high, made)
             }
             Stmt::If { conds, body } => {
-                let conds = all(alloc, conds.as_slice())?;
                 let mut made = Items::new(alloc);
                 for inner in body.as_slice() {
                     made.push(inner.to_owned(alloc)?)?;
                 }
-                Ok(Stmt::If { conds, body: made })
+                if_copy(alloc, conds, made)
             }
             Stmt::Assign {
                 op,
                 array,
                 subs,
                 value,
-            } => {
-                let subs = all(alloc, subs.as_slice())?;
-                let value = value.to_owned(alloc)?;
-                Ok(Stmt::Assign {
-                    op: *op,
-                    array: *array,
-                    subs,
-                    value,
-                })
-            }
+            } => assign_copy(alloc, *op, *array, subs, value),
             Stmt::Block { locals, body } => {
-                let locals = all(alloc, locals.as_slice())?;
                 let mut made = Items::new(alloc);
                 for inner in body.as_slice() {
                     made.push(inner.to_owned(alloc)?)?;
                 }
-                Ok(Stmt::Block { locals, body: made })
+                block_copy(alloc, locals, made)
             }
         }
     }
