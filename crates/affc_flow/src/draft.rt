@@ -11,7 +11,6 @@ use crate::solved::{
     Columns, Solved, are_opposite, bounds, coefficient, first_column, last_column, mixed, settled,
     with_told,
 };
-use affc_nest::forms::column;
 use affc_nest::{Access, Entry};
 use affc_order::columns::spread;
 use affc_order::order::shared;
@@ -74,8 +73,8 @@ fn add_subscripts(alloc: Global, work: &Work<'_>, out: &mut Items<Form>) -> Resu
 /// An iterator of the load less that of the store, at a place among the loops.
 fn behind(alloc: Global, work: &Work<'_>, k: u32) -> Result<Form, Unasked> {
     let all = work.columns.all;
-    let own = column(alloc, all, work.params.saturating_add(k))?;
-    let other = column(alloc, all, work.columns.own.saturating_add(k))?;
+    let own = Form::column(alloc, all, work.params.saturating_add(k))?;
+    let other = Form::column(alloc, all, work.columns.own.saturating_add(k))?;
     mixed(alloc, &own, 1, &other, -1)
 }
 
@@ -135,7 +134,7 @@ fn rows_at(alloc: Global, work: &Work<'_>, forms: &[Form]) -> Result<Items<Form>
     if depth < common(work) {
         if let Some(form) = forms.get(depth) {
             let place = work.params.saturating_add(count(depth)?);
-            let mut own = column(alloc, all, place)?;
+            let mut own = Form::column(alloc, all, place)?;
             own.constant = -1;
             let made = mixed(alloc, &own, 1, form, -1)?;
             out.push(made)?;

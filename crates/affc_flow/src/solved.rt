@@ -3,7 +3,6 @@
 use crate::load::Load;
 use crate::questions::{Unasked, count};
 use crate::strides::{divided, quotient};
-use affc_nest::forms::column;
 use affc_order::columns::spread;
 use affc_quast::leaves::Division;
 use affc_rows::Form;
@@ -137,7 +136,7 @@ fn less_column(
     at: usize,
 ) -> Result<Form, Unasked> {
     let part = spread(alloc, part, 0, 0, columns.loops)?;
-    let place = column(alloc, columns.all, count(at)?)?;
+    let place = Form::column(alloc, columns.all, count(at)?)?;
     mixed(alloc, &part, times, &place, -1)
 }
 

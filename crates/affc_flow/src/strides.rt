@@ -7,7 +7,6 @@ use crate::asking::store_for;
 use crate::load::Load;
 use crate::questions::Unasked;
 use crate::solved::are_opposite;
-use affc_nest::forms::column;
 use affc_quast::leaves::Division;
 use affc_rows::Form;
 use smallvec::SmallVec;
@@ -93,7 +92,7 @@ pub(crate) fn quotient(
     let Form {
         coefs,
         constant: _none,
-    } = column(alloc, columns, place)?;
+    } = Form::column(alloc, columns, place)?;
     Ok(Some(Form { coefs, constant }))
 }
 

@@ -4,7 +4,6 @@ ghost use Rattle.std.specs.List.{All};
 ghost use Rattle.affc_trace.specs.Inverses.{columns_from};
 ghost use Rattle.affc_quast.specs.Leaves.{padded};
 
-use affc_nest::forms::column;
 use affc_rows::Form;
 use smallvec::SmallVec;
 use std::alloc::{AllocError, Global};
@@ -59,7 +58,7 @@ pub fn columns_from(
 {
     let mut made = Vec::new(alloc);
     for i in 0..n {
-        let form = column(alloc, columns, first + i)?;
+        let form = Form::column(alloc, columns, first + i)?;
         made.push(form)?;
     }
     Ok(made)

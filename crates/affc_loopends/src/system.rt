@@ -7,7 +7,6 @@ ghost use Rattle.affc_loopends.specs.Images.{AreImages, AreComposable};
 ghost use Rattle.affc_loopends.specs.Sizes.{IsTimed, IsNear, IsComposed};
 ghost use Rattle.affc_loopends.specs.TimeRows.{columns_from, with_images, component_rows, time_system};
 
-use affc_nest::forms::column;
 use affc_nest::questions::add_rows;
 use affc_nest::{Entry, Nest};
 use affc_rows::{Form, FormFault};
@@ -95,7 +94,7 @@ fn add_component(
     requires near { IsNear (length images.now) form.now }
     ensures { OnOk result (out.new.items ≡ out.old.items ++ compare_rows Equal (column_form columns component) (with_images columns images.now form.now)) }
 {
-    let own = column(alloc, columns, component)?;
+    let own = Form::column(alloc, columns, component)?;
     let time = image_of(alloc, columns, images, form)?;
     let above = at_most(alloc, columns, &time, &own)?;
     let below = at_most(alloc, columns, &own, &time)?;
@@ -142,7 +141,7 @@ fn columns_from(
     if count == 0 {
         return Ok(());
     }
-    let form = column(alloc, columns, first)?;
+    let form = Form::column(alloc, columns, first)?;
     out.push(form)?;
     columns_from(alloc, columns, first + 1, count - 1, out)?;
     Ok(())

@@ -5,7 +5,6 @@ ghost use Rattle.affc_trace.specs.Inverses.{columns_from};
 ghost use Rattle.affc_nest.specs.Sides.{IsSide};
 ghost use Rattle.affc_order.specs.Spread.{spread};
 
-use affc_nest::forms::column;
 use affc_rows::Form;
 use smallvec::SmallVec;
 use std::alloc::{AllocError, Global};
@@ -25,7 +24,7 @@ pub fn columns_from(
 {
     let mut made = Vec::new(alloc);
     for i in 0..n {
-        let form = column(alloc, columns, first + i)?;
+        let form = Form::column(alloc, columns, first + i)?;
         made.push(form)?;
     }
     Ok(made)

@@ -12,7 +12,6 @@ ghost use Rattle.affc_plan.specs.Maps.{ArePair, IsRightLine, LostIn};
 
 use crate::lists::{forms, statement_sides};
 use crate::lost::Lost;
-use affc_nest::forms::column;
 use affc_rows::{Form, FormFault};
 use affc_schedtext::draft::LineDraft;
 use affc_schedtext::outline::Outline;
@@ -27,7 +26,7 @@ fn first_columns(alloc: Global, columns: u32, first: u32) -> Result<Items<Form>,
 {
     let mut made = Items::new(alloc);
     for j in 0..first {
-        made.push(column(alloc, columns, j)?)?;
+        made.push(Form::column(alloc, columns, j)?)?;
     }
     Ok(made)
 }
@@ -80,7 +79,7 @@ fn is_same(a: &Form, b: &Form) -> bool
 fn is_column(alloc: Global, form: &Form, columns: u32, at: u32) -> Result<bool, AllocError>
     ensures { IfOk result (λ b. IsTrue b ↔ (form.now ≡ column columns at)) }
 {
-    let unit = column(alloc, columns, at)?;
+    let unit = Form::column(alloc, columns, at)?;
     Ok(is_same(form, &unit))
 }
 

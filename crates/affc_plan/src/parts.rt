@@ -12,7 +12,6 @@ ghost use Rattle.affc_plan.specs.Parts.{is_slight, kept, mixture, multiple, part
 ghost use Rattle.affc_plan.specs.Seen.{columns_seen};
 
 use crate::columns::{Columns, column_of};
-use affc_nest::forms::column;
 use affc_rows::{Form, FormFault};
 use affc_syntax::draft::draft::IxDraft;
 use std::alloc::{AllocError, Global};
@@ -154,7 +153,7 @@ fn literal(alloc: Global, columns: u32, value: u64) -> Result<Option<Part>, Allo
     ensures value { IfOk result (λ r. r ≡ kept false (record { coefs = replicate columns (pos 0); constant = pos value })) }
     ensures fits { IfOk result (λ r. IsPartOver columns r) }
 {
-    let Form { coefs, .. } = column(alloc, columns, columns)?;
+    let Form { coefs, .. } = Form::column(alloc, columns, columns)?;
     let constant = i128::from(value);
     Ok(keep(false, Form { coefs, constant }))
 }
@@ -176,7 +175,7 @@ fn name(alloc: Global, columns: Columns<'_>, name: &str) -> Result<Option<Part>,
     ensures fits { IfOk result (λ r. IsPartOver columns.entry.count r) }
 {
     let number = number_of(columns, name);
-    let form = column(alloc, columns.count, number)?;
+    let form = Form::column(alloc, columns.count, number)?;
     Ok(keep(true, form))
 }
 

@@ -14,7 +14,6 @@ ghost use Rattle.affc_questions.specs.Sizes.{IsBroad};
 use crate::long::Long;
 use crate::rows::{add_equal, add_gap, number};
 use affc_nest::Nest;
-use affc_nest::forms::column;
 use affc_quast::rows::add_copies;
 use affc_rows::Form;
 use affc_system::system::value_at;
@@ -42,7 +41,7 @@ fn add_range(
 ) -> Result<(), AllocError>
     ensures { OnOk result (out.new ≡ out.old ++ range_rows columns j (low, high)) }
 {
-    let at = column(alloc, columns, j)?;
+    let at = Form::column(alloc, columns, j)?;
     let first = word(alloc, columns, low)?;
     add_gap(alloc, columns, &first, &at, 0, out)?;
     let last = word(alloc, columns, high)?;

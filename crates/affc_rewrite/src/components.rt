@@ -14,7 +14,6 @@ use affc_ast::tree::Ix;
 use affc_basis::Modulus;
 use affc_loops::terms::form_ix;
 use affc_loops::terms::trees::modulo;
-use affc_nest::forms::column;
 use affc_rows::{Form, FormFault};
 use std::alloc::{AllocError, Global};
 
@@ -54,7 +53,7 @@ fn is_unit(alloc: Global, dimensions: u32, k: u32, row: &Form) -> Result<bool, A
     requires { length row.now.coefs ≡ dimensions }
     ensures { IfOk result (λ b. b ≡ specs.is_unit k row.now) }
 {
-    let unit = column(alloc, dimensions, k)?;
+    let unit = Form::column(alloc, dimensions, k)?;
     Ok(same(row, &unit))
 }
 
