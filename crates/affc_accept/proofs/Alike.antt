@@ -23,7 +23,7 @@ use Rattle.affc_check.specs.list.Certs.{modulus_said, IsFoldSaid, AreFoldsSaid}
 use Rattle.affc_check.specs.list.Items.{Item, Question, Shown, FoldShown, fold_items}
 use Rattle.affc_check.specs.Valid.{IsProved, AreValid}
 use Rattle.affc_check.proofs.list.FoldLemmas.{same_fold}
-use Rattle.affc_folds.specs.Folding.{given_for}
+use Rattle.affc_life.specs.Folding.{given_for}
 use Rattle.affc_life.specs.Clashes.{clash_of, clashes}
 use Rattle.affc_accept.specs.Bases.{identity, IsWhole, HasBasis, KeepsBasis}
 

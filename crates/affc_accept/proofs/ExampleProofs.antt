@@ -5,7 +5,7 @@ use Rattle.affc_rows.specs.Forms.{Affine}
 use Rattle.affc_ast.specs.declared.tree.Role.TheVariants.{Temp}
 use Rattle.affc_basis.specs.Examples.{whole}
 use Rattle.affc_basis.specs.Listed.{Shape, shape_of}
-use Rattle.affc_folds.specs.Examples.{turned}
+use Rattle.affc_basis.specs.Turned.{turned}
 use Rattle.affc_nest.specs.declared.nest.ArrayInfo.{ArrayInfo}
 use Rattle.affc_accept.specs.Examples.{plain_number, DeadStoresNothing, ScalarHasNoFold, GivenIsKept, WholeIsKept, OtherModulusIsNot, OtherBasisIsNot, NoneIsGiven, IteratorsComeFirst}
 

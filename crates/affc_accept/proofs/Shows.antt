@@ -21,8 +21,8 @@ use Rattle.affc_order.proofs.TimeLemmas.{numbers_are}
 use Rattle.affc_quast.specs.Seen.{trees_of}
 use Rattle.affc_quast.specs.Trees.{Tree}
 use Rattle.affc_flow.specs.Questions.{is_temporary_info}
-use Rattle.affc_folds.specs.Folding.{HasTrueMarks, IsFoldFor}
-use Rattle.affc_folds.proofs.NestLemmas.{is_temporary}
+use Rattle.affc_life.specs.Folding.{HasTrueMarks, IsFoldFor}
+use Rattle.affc_life.proofs.NestLemmas.{is_temporary}
 use Rattle.affc_cert.specs.Certificates.{seen}
 use Rattle.affc_cert.specs.declared.cert.Cert.{Cert}
 use Rattle.affc_cert.specs.declared.layout.Layout.{Layout}

@@ -10,7 +10,7 @@ use Rattle.affc_nest.specs.declared.nest.Access.{Access}
 use Rattle.affc_nest.specs.declared.nest.ArrayInfo.{ArrayInfo}
 use Rattle.affc_nest.specs.declared.nest.Entry.{Entry}
 use Rattle.affc_nest.specs.declared.nest.Nest.{Nest}
-use Rattle.affc_folds.specs.Examples.{turned}
+use Rattle.affc_basis.specs.Turned.{turned}
 use Rattle.affc_certvalue.specs.fold.declared.fold.CertFold.{CertFold}
 use Rattle.affc_cert.specs.tree.declared.layout.Store.{Store}
 use Rattle.affc_accept.specs.Bases.{KeepsBasis}

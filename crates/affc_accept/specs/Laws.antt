@@ -12,7 +12,7 @@ use Rattle.affc_nest.specs.Laws.{HasNest, NamesArrays}
 use Rattle.affc_nest.specs.Nests.{nest_of}
 use Rattle.affc_quast.specs.Seen.{trees_of}
 use Rattle.affc_flow.specs.Questions.{is_temporary}
-use Rattle.affc_folds.specs.Folding.{IsFoldFor}
+use Rattle.affc_life.specs.Folding.{IsFoldFor}
 use Rattle.affc_schedtext.specs.declared.plan.Plan.{Plan}
 use Rattle.affc_check.specs.Laws.{IsShown}
 use Rattle.affc_accept.specs.declared.fault.AcceptFault.{AcceptFault}

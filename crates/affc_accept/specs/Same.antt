@@ -8,7 +8,7 @@ use Rattle.affc_basis.specs.declared.basis.Basis.{Basis}
 use Rattle.affc_basis.specs.Listed.{Shape, shape_of}
 use Rattle.affc_nest.specs.declared.nest.ArrayInfo.{ArrayInfo}
 use Rattle.affc_nest.specs.declared.nest.Nest.{Nest}
-use Rattle.affc_folds.specs.Folding.{given_for}
+use Rattle.affc_life.specs.Folding.{given_for}
 use Rattle.affc_certvalue.specs.fold.declared.fold.CertFold.{CertFold}
 use Rattle.affc_certvalue.specs.fold.declared.fold.CertModulus.{CertModulus}
 use Rattle.affc_accept.specs.Bases.{identity}

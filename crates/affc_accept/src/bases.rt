@@ -1,7 +1,7 @@
 //! Whether the folds of a certificate have the bases that a plan gives.
 ghost use Rattle.std.specs.Prelude.{◌≡◌, ◌≤◌, ◌↔◌, IsTrue, length, IfOk, IfNone, IfSome, MatchOption, None, Some};
 ghost use Rattle.affc_basis.specs.Listed.{shape_of};
-ghost use Rattle.affc_folds.specs.Folding.{given_for};
+ghost use Rattle.affc_life.specs.Folding.{given_for};
 ghost use Rattle.affc_check.specs.list.Limits.{IsFirst};
 ghost use Rattle.affc_accept.specs.Bases.{KeepBases, HasOther, identity};
 ghost use Rattle.affc_accept.specs.Same as specs;

@@ -6,3 +6,4 @@ pub mod Folds
 pub mod FoldLists
 pub mod Laws
 pub mod Examples
+pub mod Turned

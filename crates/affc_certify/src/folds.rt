@@ -40,7 +40,7 @@ pub(crate) struct Entry {
 }
 
 /// A copy of a basis.
-#[tactic(auto, using(affc_folds::proofs::BasisLemmas::copy_square, affc_folds::proofs::BasisLemmas::copy_bounds))]
+#[tactic(auto, using(affc_life::proofs::BasisLemmas::copy_square, affc_life::proofs::BasisLemmas::copy_bounds))]
 fn basis_copied(alloc: Global, basis: &Basis) -> Result<Basis, AllocError> {
     let rows = copied(alloc, basis.rows.as_slice())?;
     let inverse = copied(alloc, basis.inverse.as_slice())?;

@@ -31,9 +31,9 @@ use Rattle.affc_conflicts.specs.Laws.{IsOver}
 use Rattle.affc_conflicts.specs.Questions.{context_system, distance_questions, greater_question}
 use Rattle.affc_conflicts.proofs.Decided.{fold_questions_decide}
 use Rattle.affc_life.proofs.LiveLemmas.{clashes_are_live_pairs}
-use Rattle.affc_folds.specs.Folding.{HasTrueMarks}
-use Rattle.affc_folds.proofs.MarkLemmas.{exceeds_others, mark_of_others}
-use Rattle.affc_folds.proofs.NestLemmas.{to_context, from_context}
+use Rattle.affc_life.specs.Folding.{HasTrueMarks}
+use Rattle.affc_life.proofs.MarkLemmas.{exceeds_others, mark_of_others}
+use Rattle.affc_life.proofs.NestLemmas.{to_context, from_context}
 use Rattle.affc_check.specs.list.Items.{Item, Question, Shown, LeastShown, ModulusShown, FoldShown, mark_items, row_items, fold_items, pair_item, mark_of, moduli_of, items}
 use Rattle.affc_check.specs.Valid.{AreValid}
 use Rattle.affc_check.specs.Laws.{IsReadFor, IsFoldShown, ValidGives}

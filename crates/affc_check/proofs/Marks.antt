@@ -16,7 +16,6 @@ use Rattle.affc_system.specs.declared.pairs.PairSystem.{PairSystem}
 use Rattle.affc_ast.specs.declared.tree.Rel.TheVariants.{Equal}
 use Rattle.affc_trace.proofs.Members.{both_hold}
 use Rattle.affc_domain.proofs.FormLemmas.{number_value, number_width}
-use Rattle.affc_basis.specs.declared.fold.Mark.TheVariants.{Least}
 use Rattle.affc_basis.specs.Folds.{IsEnough, IsLeastMark}
 use Rattle.affc_basis.specs.Moduli.{IsModulus}
 use Rattle.affc_basis.specs.Slices.{along}
@@ -28,7 +27,7 @@ use Rattle.affc_conflicts.specs.Conditions.{InContext}
 use Rattle.affc_conflicts.specs.Laws.{IsOver}
 use Rattle.affc_conflicts.specs.Questions.{greater_question, shown_system}
 use Rattle.affc_conflicts.proofs.Marks.{is_highest, pair_is_shown}
-use Rattle.affc_moduli.proofs.OtherWay.{done_other_way}
+use Rattle.affc_conflicts.proofs.Turned.{mark_turned}
 use Rattle.affc_check.specs.list.Items.{Shown, numbered, is_point_at, is_behind, nothing, farthest, pair_in, pair_item, elements_at, pair_of}
 use Rattle.affc_check.proofs.Sound.{Holds}
 
@@ -88,9 +87,7 @@ module _ (nest : Nest) (systems : List PairSystem) (rows : List Affine) (over : 
 
   module _ (point : List ℤ) (s : PairSystem) (there : Contains systems s) (front : take nest.context.columns point ≡ p) where
     swapped : (pair : List ℤ × List ℤ) → Marked (Some pair) → Marked (Some (pair.1, pair.0))
-    swapped pair m =
-        (done_other_way nest.context nest.params systems rows k row (record { form = modulus; mark = Least p (Some pair) }) (record { form = modulus; mark = Least p (Some (pair.1, pair.0)) })
-        (record { limits = limits; enough = enough; mark = m; marked = λ e. cc }) refl refl).mark
+    swapped pair m = mark_turned nest.context nest.params systems rows k row modulus p pair m
 
     far : (behind : Bool)
         → Holds (if behind then Shown (shown_system rows k row modulus s s.y.items s.x.items) point else Shown (shown_system rows k row modulus s s.x.items s.y.items) point)

@@ -25,7 +25,7 @@ use Rattle.affc_flow.specs.Questions.{flow_questions}
 use Rattle.affc_flow.specs.Questions as flow
 use Rattle.affc_conflicts.specs.Conditions.{InContext}
 use Rattle.affc_conflicts.specs.Questions.{context_system}
-use Rattle.affc_folds.proofs.NestLemmas.{from_context}
+use Rattle.affc_life.proofs.NestLemmas.{from_context}
 use Rattle.affc_check.specs.list.Items.{Item, Question, FoldShown, fold_items, items}
 use Rattle.affc_check.specs.Valid.{AreValid}
 use Rattle.affc_check.proofs.Sound.{Holds, each_holds}

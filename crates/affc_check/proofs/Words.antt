@@ -39,8 +39,8 @@ use Rattle.affc_life.specs.Clashes.{clash_of, clashes}
 use Rattle.affc_life.specs.Laws.{AreShaped}
 use Rattle.affc_life.proofs.LiveLemmas.{Cut, facts_at, cut_front, front_long, at_length, x_touched, y_touched, points_are_in_context}
 use Rattle.affc_life.proofs.MadeLemmas.{Made, made}
-use Rattle.affc_folds.proofs.ContextLemmas.{near_context}
-use Rattle.affc_folds.proofs.NestLemmas.{has_forms}
+use Rattle.affc_life.proofs.ContextLemmas.{near_context}
+use Rattle.affc_life.proofs.NestLemmas.{has_forms}
 use Rattle.affc_cert.specs.declared.cert.Cert.{Cert}
 use Rattle.affc_certvalue.specs.Limits.{IsWord}
 use Rattle.affc_certvalue.proofs.Within.{small_word}

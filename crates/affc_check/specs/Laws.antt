@@ -20,7 +20,7 @@ use Rattle.affc_quast.specs.Sources.{NameSources}
 use Rattle.affc_quast.specs.Trees.{Tree}
 use Rattle.affc_flow.specs.Laws.{AreWritten}
 use Rattle.affc_life.specs.Laws.{AreClashes}
-use Rattle.affc_folds.specs.Folding.{HasTrueMarks}
+use Rattle.affc_life.specs.Folding.{HasTrueMarks}
 use Rattle.affc_cert.specs.declared.cert.Cert.{Cert}
 use Rattle.affc_check.specs.list.Certs.{AreFoldsSaid, AreItems, IsCertFor}
 use Rattle.affc_check.specs.list.Items.{Item, FoldShown, moduli_of, items}

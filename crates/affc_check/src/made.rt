@@ -162,7 +162,7 @@ fn add_moduli(
 }
 
 /// A copy of a basis.
-#[tactic(auto, using(affc_folds::proofs::BasisLemmas::copy_square, affc_folds::proofs::BasisLemmas::copy_bounds))]
+#[tactic(auto, using(affc_life::proofs::BasisLemmas::copy_square, affc_life::proofs::BasisLemmas::copy_bounds))]
 fn basis_copied(alloc: Global, basis: &Basis) -> Result<Basis, AllocError>
     ensures rows { IfOk result (λ b. b.rows ≡ basis.now.rows) }
     ensures inverse { IfOk result (λ b. b.inverse ≡ basis.now.inverse) }

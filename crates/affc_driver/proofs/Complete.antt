@@ -35,7 +35,8 @@ use Rattle.affc_basis.specs.Listed.{Shape, listing}
 use Rattle.affc_weigh.specs.declared.choice.Choice.{Choice}
 use Rattle.affc_weigh.specs.declared.choice.Price.{Price}
 use Rattle.affc_weigh.proofs.Tops.{beside}
-use Rattle.affc_folds.specs.Folding.{IsSpent, IsTaken, IsChoice, given_for}
+use Rattle.affc_life.specs.Folding.{given_for}
+use Rattle.affc_folds.specs.Folding.{IsSpent, IsTaken, IsChoice}
 use Rattle.affc_folds.proofs.CheapestLemmas.{none_costs_less}
 use Rattle.affc_bounds.specs.Faults.{StaysWithin, IsMeaningFault}
 use Rattle.affc_bounds.proofs.LawProofs.{faults_do_not_stay}

@@ -28,7 +28,8 @@ use Rattle.affc_weigh.specs.declared.choice.Choice.{Choice}
 use Rattle.affc_weigh.specs.Choices.{choice_of}
 use Rattle.affc_weigh.specs.Costs.{NeverFalls}
 use Rattle.affc_weigh.specs.Laws.{IsStoredCost}
-use Rattle.affc_folds.specs.Folding.{AreFoldsUnder, IsLeftWhole, HasBound, given_for}
+use Rattle.affc_life.specs.Folding.{given_for}
+use Rattle.affc_folds.specs.Folding.{AreFoldsUnder, IsLeftWhole, HasBound}
 use Rattle.affc_folds.specs.Laws.{IsListedFold, IsSettled}
 use Rattle.affc_schedtext.specs.declared.plan.Plan.{Plan}
 use Rattle.affc_bounds.specs.Faults.{StaysWithin}

@@ -20,7 +20,7 @@ use Rattle.affc_weigh.specs.Costs.{AreModuli, AreAtMost, NeverFalls}
 use Rattle.affc_weigh.proofs.Tops.{at_number, by_number, beside, mapped, from_mapped, as_many, value_near}
 use Rattle.affc_folds.specs.Folding.{IsTaken, IsCheapest}
 use Rattle.affc_folds.specs.Laws.{NoneCostsLess}
-use Rattle.affc_folds.proofs.ContextLemmas.{near_context}
+use Rattle.affc_life.proofs.ContextLemmas.{near_context}
 
 -- ---- Greatest values by number
 

@@ -32,7 +32,8 @@ use Rattle.affc_weigh.specs.declared.choice.Choice.{Choice}
 use Rattle.affc_weigh.specs.declared.choice.Price.{Price}
 use Rattle.affc_weigh.specs.Choices.{AreNeeds}
 use Rattle.affc_weigh.specs.Costs.{Gives, words_cost}
-use Rattle.affc_folds.specs.Examples.{BasesOfArrays, SpentOrNot, WholeOrNot, SecondMarkIsFalse, LowestPrices, FoldsOfBlur, AreOfTheBlur, t_has, t_costs, price, by, least, turned, three_of, given_to}
+use Rattle.affc_folds.specs.Examples.{BasesOfArrays, SpentOrNot, WholeOrNot, SecondMarkIsFalse, LowestPrices, FoldsOfBlur, AreOfTheBlur, t_has, t_costs, price, by, least, three_of, given_to}
+use Rattle.affc_basis.specs.Turned.{turned}
 use Rattle.affc_folds.specs.Folding.{IsSpent, HasBound, HasTrueMarks, IsLeftWhole, IsPrice, IsLowest, IsChoice, HasChoice}
 
 pub bases_of_arrays : BasesOfArrays

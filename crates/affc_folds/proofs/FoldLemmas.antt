@@ -34,8 +34,8 @@ use Rattle.affc_life.proofs.LiveLemmas.{clashes_are_live_pairs}
 use Rattle.affc_life.proofs.SizeLemmas.{found_trees_are_never_large}
 use Rattle.affc_folds.specs.Folding.{IsAnalysed, HasTrueMarks, IsFoldFor}
 use Rattle.affc_folds.specs.Systems.{AreLive}
-use Rattle.affc_folds.proofs.MarkLemmas.{exceeds_others, mark_of_others}
-use Rattle.affc_folds.proofs.NestLemmas.{near_ranges, to_context, from_context, HasForms, has_forms, is_temporary, arrays_in}
+use Rattle.affc_life.proofs.MarkLemmas.{exceeds_others, mark_of_others}
+use Rattle.affc_life.proofs.NestLemmas.{near_ranges, to_context, from_context, HasForms, has_forms, is_temporary, arrays_in}
 
 module _ (program : Program) (nest : Nest) (trees : List Tree) (schedule : Schedule) (a : IsAnalysed program nest trees schedule) where
   -- ---- What clash systems are asked of

@@ -1,10 +1,6 @@
-pub mod MarkLemmas
-pub mod NestLemmas
 pub mod FoldLemmas
-pub mod BasisLemmas
 pub mod ListLemmas
 pub mod ExampleProofs
-pub mod ContextLemmas
 pub mod CheapestLemmas
 pub mod KeptLemmas
 pub mod TryLemmas

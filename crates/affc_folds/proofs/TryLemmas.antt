@@ -25,8 +25,8 @@ use Rattle.affc_weigh.specs.Costs.{AreModuli}
 use Rattle.affc_weigh.proofs.Tops as tops
 use Rattle.affc_folds.specs.Folding.{given_for, IsFoldFor, HasBound, IsSpent, IsPrice, ArePrices, IsTaken, IsCheapest}
 use Rattle.affc_folds.specs.Tries.{IsRated, IsTried, AreTried, IsFolded}
-use Rattle.affc_folds.proofs.BasisLemmas.{some_listed, listed_rows}
-use Rattle.affc_folds.proofs.ContextLemmas.{near_context}
+use Rattle.affc_life.proofs.BasisLemmas.{some_listed, listed_rows}
+use Rattle.affc_life.proofs.ContextLemmas.{near_context}
 use Rattle.affc_moduli.proofs.Spent.{stays_spent}
 
 -- ---- One basis

@@ -1,5 +1,5 @@
 -- Folds of the temporaries of a program under a schedule.
-use Rattle.std.specs.Prelude.{◌≡◌, ℕ, ◌+◌, ◌<◌, ◌≤◌, nat_eq, ℤ, IsTrue, ◌&&◌, if◌then◌else◌, List, [], ◌∷◌, length, map, Option, Some, None, slice_get}
+use Rattle.std.specs.Prelude.{◌≡◌, ℕ, ◌+◌, ◌<◌, ◌≤◌, ℤ, IsTrue, if◌then◌else◌, List, [], length, map, Option, Some, None, slice_get}
 use Rattle.std.specs.List.{All}
 use Rattle.affc_rows.specs.Forms.{Affine}
 use Rattle.affc_ast.specs.declared.tree.ArrayId.{ArrayId}
@@ -17,8 +17,8 @@ use Rattle.affc_basis.specs.declared.basis.Basis.{Basis}
 use Rattle.affc_basis.specs.declared.fold.Fold.{Fold}
 use Rattle.affc_basis.specs.declared.fold.Mark.TheVariants.{Bound}
 use Rattle.affc_basis.specs.declared.fold.Modulus.{Modulus}
-use Rattle.affc_basis.specs.FoldLists.{IsFoldIn, AreFoldsIn}
-use Rattle.affc_basis.specs.Folds.{KeepsLimits, Obeys, IsTrueMark, fold_of}
+use Rattle.affc_basis.specs.FoldLists.{AreFoldsIn}
+use Rattle.affc_basis.specs.Folds.{KeepsLimits, Obeys, fold_of}
 use Rattle.affc_basis.specs.Listed.{Shape, shape_of, listing}
 use Rattle.affc_weigh.specs.declared.choice.Choice.{Choice}
 use Rattle.affc_weigh.specs.declared.choice.Price.{Price}
@@ -30,6 +30,7 @@ use Rattle.affc_nest.specs.Nests.{nest_of}
 use Rattle.affc_quast.specs.Sources.{NameSources, HaveNearQuotients}
 use Rattle.affc_quast.specs.Trees.{Tree}
 use Rattle.affc_life.specs.Laws.{AreFound}
+pub use Rattle.affc_life.specs.Folding.{given_for, HasTrueMarks, IsFoldFor}
 pub use Rattle.affc_moduli.specs.Ended.{IsSpent}
 
 -- ---- What is known of a program before it is folded
@@ -48,27 +49,7 @@ pub record IsAnalysed (program : Program) (nest : Nest) (trees : List Tree) (sch
   pub sources : (p : List ℤ) → IsInContext program p → NameSources program p nest trees
   pub near : (p : List ℤ) → IsInContext program p → HaveNearQuotients program p nest trees
 
--- ---- Bases
-
--- the basis that is given for an array: the first of its pairs with a row for each dimension
-abbrev pub given_for : List (ArrayId × Basis) → (array dimensions : ℕ) → Option Shape
-given_for [] array dimensions = None
-given_for (b ∷ bs) array dimensions = if nat_eq b.0.0 array && nat_eq (length b.1.rows) dimensions then Some (shape_of b.1) else given_for bs array dimensions
-
 -- ---- Folds
-
--- the mark of each modulus is true
-abbrev pub HasTrueMarks : (InContext : List ℤ → Type 0) (pairs : List ℤ → List ℤ → List ℤ → Type 0) → Fold → Type 0
-HasTrueMarks InContext pairs fold =
-    (k : ℕ) (row : Affine) (m : Modulus) → slice_get fold.basis.rows k ≡ Some row → slice_get fold.moduli k ≡ Some m → IsTrueMark InContext pairs fold.basis.rows k row m
-
--- A fold of a temporary. Throughout the context it keeps apart what is live together under the schedule, and what its marks say
--- of its moduli is true.
-pub record IsFoldFor (program : Program) (schedule : Schedule) (array : ℕ) (fold : Fold) : Type 0 where
-  pub in_program : IsFoldIn program array fold
-  pub limits : KeepsLimits (numbers_in program.params) fold
-  pub obeys : (p : List ℤ) → IsInContext program p → Obeys (LivePair program schedule array p) fold p
-  pub marks : HasTrueMarks (IsInContext program) (LivePair program schedule array) fold
 
 -- one of the moduli is marked as a bound alone
 pub record HasBound (fold : Fold) : Type 0 where

@@ -34,7 +34,7 @@ pub(crate) fn copies(alloc: Global, forms: &[Form]) -> Result<Vec<Form>, AllocEr
 }
 
 /// A copy of a basis.
-#[tactic(auto, using(crate::proofs::BasisLemmas::copy_square, crate::proofs::BasisLemmas::copy_bounds, crate::proofs::BasisLemmas::same_shape))]
+#[tactic(auto, using(affc_life::proofs::BasisLemmas::copy_square, affc_life::proofs::BasisLemmas::copy_bounds, affc_life::proofs::BasisLemmas::same_shape))]
 pub(crate) fn copied(alloc: Global, basis: &Basis) -> Result<Basis, AllocError>
     ensures shape { IfOk result (λ b. shape_of b ≡ shape_of basis.now) }
     ensures rows { IfOk result (λ b. b.rows ≡ basis.now.rows) }
@@ -48,7 +48,7 @@ pub(crate) fn copied(alloc: Global, basis: &Basis) -> Result<Basis, AllocError>
 }
 
 /// The basis that is given for an array, if one is.
-#[tactic(auto, using(crate::proofs::BasisLemmas::taken, crate::proofs::BasisLemmas::passed))]
+#[tactic(auto, using(affc_life::proofs::BasisLemmas::taken, affc_life::proofs::BasisLemmas::passed))]
 pub(crate) fn given_basis(
     alloc: Global,
     bases: &[(ArrayId, Basis)],

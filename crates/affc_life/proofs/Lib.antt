@@ -29,3 +29,7 @@ pub mod ChoiceLemmas
 pub mod ProductLemmas
 pub mod SoughtLemmas
 pub mod KeptLemmas
+pub mod NestLemmas
+pub mod MarkLemmas
+pub mod BasisLemmas
+pub mod ContextLemmas

@@ -25,8 +25,9 @@ use Rattle.affc_basis.proofs.FoldsFound.{folds_are_found}
 use Rattle.affc_nest.specs.declared.nest.ArrayInfo.{ArrayInfo}
 use Rattle.affc_nest.specs.Nests.{array_of, nest_of}
 use Rattle.affc_flow.specs.Questions.{is_temp, is_temporary_info}
-use Rattle.affc_folds.specs.Folding.{IsFoldFor, HasTrueMarks, IsLeftWhole}
-use Rattle.affc_folds.proofs.NestLemmas.{is_temporary}
+use Rattle.affc_life.specs.Folding.{IsFoldFor, HasTrueMarks}
+use Rattle.affc_folds.specs.Folding.{IsLeftWhole}
+use Rattle.affc_life.proofs.NestLemmas.{is_temporary}
 use Rattle.affc_accept.specs.Laws.{AreRightFolds}
 use Rattle.affc_accept.specs.Layouts.{Dimensions, temporaries_from}
 use Rattle.affc_accept.proofs.Listed.{in_choice, temporary_in}

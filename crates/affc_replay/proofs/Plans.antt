@@ -15,7 +15,7 @@ use Rattle.affc_basis.specs.declared.basis.Basis.{Basis}
 use Rattle.affc_basis.specs.declared.fold.Fold.{Fold}
 use Rattle.affc_basis.specs.Listed.{Shape}
 use Rattle.affc_nest.specs.declared.nest.Nest.{Nest}
-use Rattle.affc_folds.specs.Folding.{given_for}
+use Rattle.affc_life.specs.Folding.{given_for}
 use Rattle.affc_check.specs.Answers.{IsChecked}
 use Rattle.affc_schedtext.specs.declared.plan.Plan.{Plan}
 use Rattle.affc_schedtext.specs.Folded.{fold_said}

@@ -13,7 +13,8 @@ use Rattle.affc_nest.specs.declared.nest.ArrayInfo.{ArrayInfo}
 use Rattle.affc_nest.specs.declared.nest.Nest.{Nest}
 use Rattle.affc_rewrite.specs.Rewrite.{KeepLimits}
 use Rattle.affc_flow.specs.Questions.{is_temp}
-use Rattle.affc_folds.specs.Folding.{HasTrueMarks, IsLeftWhole}
+use Rattle.affc_life.specs.Folding.{HasTrueMarks}
+use Rattle.affc_folds.specs.Folding.{IsLeftWhole}
 
 -- the temporaries without dimensions among these arrays, which have the numbers from this one on
 abbrev pub scalars_from : (first : ℕ) → List ArrayInfo → List ℕ

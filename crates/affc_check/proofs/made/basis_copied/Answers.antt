@@ -1,5 +1,5 @@
 use Rattle.std.proofs.Common.{◌∙◌}
-use Rattle.affc_folds.proofs.BasisLemmas.{none_broken}
+use Rattle.affc_life.proofs.BasisLemmas.{none_broken}
 use Rattle.affc_check.proofs.made.basis_copied.Goals as goal
 
 pub unreachable-requires : goal.unreachable-requires

@@ -1,6 +1,6 @@
 use Rattle.std.proofs.Common.{length, arith}
 use Rattle.affc_split.proofs.maximum.Laters.{then_later}
-use Rattle.affc_folds.proofs.BasisLemmas.{listed_rows}
+use Rattle.affc_life.proofs.BasisLemmas.{listed_rows}
 use Rattle.affc_folds.proofs.TryLemmas.{listed_at, next_tried}
 use Rattle.affc_folds.proofs.tries.all_tried.Goals as goal
 

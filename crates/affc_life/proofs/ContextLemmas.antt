@@ -14,7 +14,7 @@ use Rattle.affc_domain.proofs.RangeLemmas.{box_length}
 use Rattle.affc_order.proofs.TimeLemmas.{numbers_are}
 use Rattle.affc_conflicts.specs.Conditions.{IsNear}
 use Rattle.affc_weigh.specs.Choices.{IsNearContext}
-use Rattle.affc_folds.proofs.NestLemmas.{near_ranges, to_context}
+use Rattle.affc_life.proofs.NestLemmas.{near_ranges, to_context}
 
 near_values : (rs : List (ℤ × ℤ)) (p : List ℤ) → All IsNear rs → InBox rs p → All (λ x. unsigned_abs x ≤ 2 ^ 24) p
 near_values [] [] h b = All-nil (λ x. unsigned_abs x ≤ 2 ^ 24)

@@ -7,7 +7,7 @@ use Rattle.affc_ast.specs.declared.tree.ArrayId.{ArrayId}
 use Rattle.affc_basis.specs.declared.basis.Basis.{Basis}
 use Rattle.affc_basis.specs.Bases.{IsSquare, HaveCoefsWithin, IsFirstBroken}
 use Rattle.affc_basis.specs.Listed.{Shape, shape_of, listing, IsBasis}
-use Rattle.affc_folds.specs.Folding.{given_for}
+use Rattle.affc_life.specs.Folding.{given_for}
 use Rattle.affc_basis.proofs.ListedBases.{listed_bases}
 use Rattle.affc_conflicts.proofs.Decided.{all_at}
 
