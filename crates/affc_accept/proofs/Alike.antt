@@ -17,8 +17,8 @@ use Rattle.affc_nest.specs.declared.nest.Nest.{Nest}
 use Rattle.affc_quast.specs.Trees.{Tree}
 use Rattle.affc_certvalue.specs.proof.Proofs.{steps_of}
 use Rattle.affc_certvalue.specs.fold.Entries.{FoldEntry, coefs_of, entry_of}
-use Rattle.affc_certvalue.specs.fold.declared.fold.CertFold.{CertFold}
-use Rattle.affc_certvalue.specs.fold.declared.fold.CertModulus.{CertModulus}
+use Rattle.affc_certvalue.specs.declared.fold.fold.CertFold.{CertFold}
+use Rattle.affc_certvalue.specs.declared.fold.fold.CertModulus.{CertModulus}
 use Rattle.affc_check.specs.list.Certs.{modulus_said, IsFoldSaid, AreFoldsSaid}
 use Rattle.affc_check.specs.list.Items.{Item, Question, Shown, FoldShown, fold_items}
 use Rattle.affc_check.specs.Valid.{IsProved, AreValid}

@@ -9,8 +9,8 @@ use Rattle.affc_rows.specs.Forms.{Affine, HaveColumns}
 use Rattle.affc_quast.specs.Limits.{Shaped, Bounds, FitsForm, FitsTree, widest}
 use Rattle.affc_quast.specs.Trees.{Tree, Test, Div, Source, Input, depth_of}
 use Rattle.affc_cert.specs.tree.Within.{NamesStores, IsTreeWithin}
-use Rattle.affc_cert.specs.tree.declared.layout.Load.{Load}
-use Rattle.affc_cert.specs.tree.declared.layout.Store.{Store}
+use Rattle.affc_cert.specs.declared.tree.layout.Load.{Load}
+use Rattle.affc_cert.specs.declared.tree.layout.Store.{Store}
 use Rattle.affc_accept.specs.Columns.{exchanged, form_exchanged, tree_exchanged, iterators_of, trees_in_text, trees_from_text, ColumnsComeBack}
 
 -- ---- Fronts

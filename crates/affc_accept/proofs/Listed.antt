@@ -13,8 +13,8 @@ use Rattle.affc_nest.specs.declared.nest.Nest.{Nest}
 use Rattle.affc_quast.specs.Sources.{loads_in, loads_before}
 use Rattle.affc_flow.specs.Asked.{writers_of}
 use Rattle.affc_flow.specs.Questions.{is_temp, store_of_entry, Writer, writer_if}
-use Rattle.affc_cert.specs.tree.declared.layout.Load.{Load}
-use Rattle.affc_cert.specs.tree.declared.layout.Store.{Store}
+use Rattle.affc_cert.specs.declared.tree.layout.Load.{Load}
+use Rattle.affc_cert.specs.declared.tree.layout.Store.{Store}
 use Rattle.affc_check.specs.Layouts.{IsLoadIn}
 use Rattle.affc_accept.specs.Layouts.{is_of, is_writer, stores_from, load_of, loads_among, loads_of, Dimensions, dimensions_of, temporaries_from, LayoutsAreOfNests}
 

@@ -31,8 +31,8 @@ use Rattle.affc_cert.specs.declared.cert.Cert.{Cert}
 use Rattle.affc_cert.specs.declared.layout.Layout.{Layout}
 use Rattle.affc_certvalue.specs.fold.Entries.{entry_of}
 use Rattle.affc_certvalue.specs.fold.Limits.{IsFoldWithin}
-use Rattle.affc_certvalue.specs.fold.declared.fold.CertFold.{CertFold}
-use Rattle.affc_certvalue.specs.fold.declared.fold.CertModulus.{CertModulus}
+use Rattle.affc_certvalue.specs.declared.fold.fold.CertFold.{CertFold}
+use Rattle.affc_certvalue.specs.declared.fold.fold.CertModulus.{CertModulus}
 use Rattle.affc_check.specs.list.Certs.{IsFoldSaid, AreFoldsSaid, AreItems, modulus_said}
 use Rattle.affc_check.specs.list.Held.{flow_item, legality_item}
 use Rattle.affc_check.specs.list.Items.{Item, Question, Shown, ModulusShown, FoldShown, row_items, rows_items, mark_items, fold_items, items}

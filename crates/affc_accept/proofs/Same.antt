@@ -16,8 +16,8 @@ use Rattle.affc_basis.specs.Listed.{Shape, shape_of, listing}
 use Rattle.affc_nest.specs.declared.nest.ArrayInfo.{ArrayInfo}
 use Rattle.affc_nest.specs.declared.nest.Nest.{Nest}
 use Rattle.affc_life.specs.Folding.{given_for}
-use Rattle.affc_certvalue.specs.fold.declared.fold.CertFold.{CertFold}
-use Rattle.affc_certvalue.specs.fold.declared.fold.CertModulus.{CertModulus}
+use Rattle.affc_certvalue.specs.declared.fold.fold.CertFold.{CertFold}
+use Rattle.affc_certvalue.specs.declared.fold.fold.CertModulus.{CertModulus}
 use Rattle.affc_check.specs.list.Limits.{IsFirst}
 use Rattle.affc_accept.specs.Bases.{identity, IsWhole, HasBasis, KeepsBasis, KeepBases, HasOther}
 use Rattle.affc_accept.specs.Same.{same_form, same_forms, same_shape, are_extents, is_identity, is_whole_of, is_whole, has_basis, keeps_basis}

@@ -28,8 +28,8 @@ use Rattle.affc_cert.specs.declared.cert.Cert.{Cert}
 use Rattle.affc_cert.specs.declared.layout.Layout.{Layout}
 use Rattle.affc_certvalue.specs.fold.Entries.{FoldEntry, entry_of}
 use Rattle.affc_certvalue.specs.fold.Limits.{IsFoldWithin}
-use Rattle.affc_certvalue.specs.fold.declared.fold.CertFold.{CertFold}
-use Rattle.affc_certvalue.specs.fold.declared.layout.Temporary.{Temporary}
+use Rattle.affc_certvalue.specs.declared.fold.fold.CertFold.{CertFold}
+use Rattle.affc_certvalue.specs.declared.fold.layout.Temporary.{Temporary}
 use Rattle.affc_check.specs.Answers.{IsFoldMade}
 use Rattle.affc_check.specs.list.Certs.{AreFoldsSaid}
 use Rattle.affc_check.specs.list.Items.{ModulusShown, FoldShown, moduli_of}

@@ -23,7 +23,7 @@ use Rattle.affc_cert.specs.declared.layout.Layout.{Layout}
 use Rattle.affc_cert.proofs.Broken.{right_is_not_refused}
 use Rattle.affc_cert.proofs.Unique.{one_certificate}
 use Rattle.affc_cert.proofs.Within.{is_within, not_refused as not_refused_within}
-use Rattle.affc_certvalue.specs.fold.declared.layout.Temporary.{Temporary}
+use Rattle.affc_certvalue.specs.declared.fold.layout.Temporary.{Temporary}
 use Rattle.affc_check.specs.list.Certs.{AreFoldsSaid, AreItems}
 use Rattle.affc_check.specs.list.Held.{flow_item, legality_item}
 use Rattle.affc_check.specs.list.Items.{Item, Question, Shown, items}

@@ -8,7 +8,7 @@ use Rattle.affc_basis.specs.Listed.{Shape, shape_of, columns}
 use Rattle.affc_nest.specs.declared.nest.ArrayInfo.{ArrayInfo}
 use Rattle.affc_nest.specs.declared.nest.Nest.{Nest}
 use Rattle.affc_life.specs.Folding.{given_for}
-use Rattle.affc_certvalue.specs.fold.declared.fold.CertFold.{CertFold}
+use Rattle.affc_certvalue.specs.declared.fold.fold.CertFold.{CertFold}
 
 -- the unit rows, which undo themselves
 abbrev pub identity : (dimensions : ℕ) → Shape

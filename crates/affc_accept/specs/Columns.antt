@@ -5,7 +5,7 @@ use Rattle.affc_quast.specs.Trees.{Tree, Test, Div, Source, Input}
 use Rattle.affc_cert.specs.Certificates.{Certificate}
 use Rattle.affc_cert.specs.Within.{IsWithin}
 use Rattle.affc_cert.specs.declared.layout.Layout.{Layout}
-use Rattle.affc_cert.specs.tree.declared.layout.Load.{Load}
+use Rattle.affc_cert.specs.declared.tree.layout.Load.{Load}
 
 -- so many elements at the head, behind so many that follow them
 abbrev pub exchanged : {A : Type 0} → (first second : ℕ) → List A → List A

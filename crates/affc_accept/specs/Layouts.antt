@@ -6,9 +6,9 @@ use Rattle.affc_nest.specs.declared.nest.Entry.{Entry}
 use Rattle.affc_nest.specs.declared.nest.Nest.{Nest}
 use Rattle.affc_flow.specs.Questions.{is_temp, store_of_entry}
 use Rattle.affc_cert.specs.declared.layout.Layout.{Layout}
-use Rattle.affc_certvalue.specs.fold.declared.layout.Temporary.{Temporary}
-use Rattle.affc_cert.specs.tree.declared.layout.Load.{Load}
-use Rattle.affc_cert.specs.tree.declared.layout.Store.{Store}
+use Rattle.affc_certvalue.specs.declared.fold.layout.Temporary.{Temporary}
+use Rattle.affc_cert.specs.declared.tree.layout.Load.{Load}
+use Rattle.affc_cert.specs.declared.tree.layout.Store.{Store}
 use Rattle.affc_check.specs.Layouts.{IsLayoutOf}
 
 -- ---- Loads

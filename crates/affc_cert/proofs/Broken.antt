@@ -14,8 +14,8 @@ use Rattle.affc_certvalue.specs.fold.Bases.{IsBasis}
 use Rattle.affc_certvalue.specs.fold.Drafts.{draft_entry}
 use Rattle.affc_certvalue.specs.fold.Entries.{FoldEntry, entry_of}
 use Rattle.affc_certvalue.specs.fold.Values.{folds_value}
-use Rattle.affc_certvalue.specs.fold.declared.draft.Draft.{Draft}
-use Rattle.affc_certvalue.specs.fold.declared.fold.CertFold.{CertFold}
+use Rattle.affc_certvalue.specs.declared.fold.draft.Draft.{Draft}
+use Rattle.affc_certvalue.specs.declared.fold.fold.CertFold.{CertFold}
 use Rattle.affc_certvalue.specs.proof.Proofs.{steps_of}
 use Rattle.affc_certvalue.specs.proof.Values.{proof_value}
 use Rattle.affc_cert.specs.tree.Values.{tree_value}

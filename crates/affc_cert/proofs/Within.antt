@@ -15,9 +15,9 @@ use Rattle.affc_certvalue.specs.fold.Entries.{FoldEntry, entry_of}
 use Rattle.affc_certvalue.specs.fold.Folds.{fold}
 use Rattle.affc_certvalue.specs.fold.Limits.{IsModulusWithin, IsFoldWithin}
 use Rattle.affc_certvalue.specs.fold.Values.{fold_value, folds_value}
-use Rattle.affc_certvalue.specs.fold.declared.fold.CertFold.{CertFold}
-use Rattle.affc_certvalue.specs.fold.declared.fold.CertModulus.{CertModulus}
-use Rattle.affc_certvalue.specs.fold.declared.layout.Temporary.{Temporary}
+use Rattle.affc_certvalue.specs.declared.fold.fold.CertFold.{CertFold}
+use Rattle.affc_certvalue.specs.declared.fold.fold.CertModulus.{CertModulus}
+use Rattle.affc_certvalue.specs.declared.fold.layout.Temporary.{Temporary}
 use Rattle.affc_certvalue.proofs.proof.Within.{proof_fine, proof_is, proof_fits}
 use Rattle.affc_certvalue.specs.proof.Limits.{FitsProof, IsProofWithin}
 use Rattle.affc_certvalue.specs.proof.Proofs.{Steps, steps_of}
@@ -29,7 +29,7 @@ use Rattle.affc_cert.specs.tree.Limits.{FitsTree}
 use Rattle.affc_cert.specs.tree.Trees.{tree}
 use Rattle.affc_cert.specs.tree.Values.{tree_value}
 use Rattle.affc_cert.specs.tree.Within.{IsTreeWithin}
-use Rattle.affc_cert.specs.tree.declared.layout.Load.{Load}
+use Rattle.affc_cert.specs.declared.tree.layout.Load.{Load}
 use Rattle.affc_certvalue.proofs.Within.{both_are, if_is, word_fine, word_is, len_map, many_fine, many_are, all_weaker, small_fits}
 use Rattle.affc_certvalue.specs.Limits.{IsWord, FitsForm}
 use Rattle.affc_certvalue.specs.Values.{list_of, whole_value, numbers_value}

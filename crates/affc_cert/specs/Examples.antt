@@ -3,12 +3,12 @@ use Rattle.affc_cert.specs.Refusals.{refusal}
 use Rattle.affc_cert.specs.declared.cert.CertFault.TheVariants as fault
 use Rattle.affc_cert.specs.declared.layout.Layout.{Layout}
 use Rattle.affc_certvalue.specs.fold.Folds.{matrix, modulus, this_number, fold}
-use Rattle.affc_certvalue.specs.fold.declared.layout.Temporary.{Temporary}
+use Rattle.affc_certvalue.specs.declared.fold.layout.Temporary.{Temporary}
 use Rattle.affc_certvalue.specs.proof.Values.{leaf_node, cut_node, split_node}
 use Rattle.affc_certvalue.specs.proof.Verdicts.{multipliers, proof}
 use Rattle.affc_cert.specs.tree.Trees.{tree, path}
 use Rattle.affc_cert.specs.tree.Values.{input_node}
-use Rattle.affc_cert.specs.tree.declared.layout.Load.{Load}
+use Rattle.affc_cert.specs.declared.tree.layout.Load.{Load}
 use Rattle.affc_certvalue.specs.Values.{list_value, whole_value, numbers_value}
 use Rattle.affc_certvalue.specs.declared.verdict.Verdict.TheVariants.{Shape, Number, Fine}
 use Rattle.serde_json.specs.Data.{Data, null, number, unsigned, float, string, object, Items, no_members, member}

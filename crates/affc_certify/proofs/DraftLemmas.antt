@@ -8,7 +8,7 @@ use Rattle.affc_quast.specs.Seen.{trees_of}
 use Rattle.affc_quast.specs.Trees.{Tree}
 use Rattle.affc_life.specs.Asked.{KeepLimits}
 use Rattle.affc_cert.specs.declared.cert.Cert.{Cert}
-use Rattle.affc_certvalue.specs.fold.declared.fold.CertFold.{CertFold}
+use Rattle.affc_certvalue.specs.declared.fold.fold.CertFold.{CertFold}
 use Rattle.affc_check.specs.list.Certs.{IsCertWithin, IsFoldFor, IsFoldWithin}
 use Rattle.affc_certify.specs.Asked.{AreAsked}
 

@@ -11,7 +11,7 @@ use Rattle.affc_products.specs.Blocks.{AreProved, FailsAt, block_questions}
 use Rattle.affc_products.specs.declared.block.Block.{Block}
 use Rattle.affc_products.proofs.ChoiceLemmas.{kept_within}
 use Rattle.affc_check.specs.list.Held.{listed_said}
-use Rattle.affc_check.specs.list.declared.item.Listed.{Listed}
+use Rattle.affc_check.specs.declared.list.item.Listed.{Listed}
 use Rattle.affc_check.specs.Answers.{FailsAtQuestion}
 use Rattle.affc_check.specs.list.Items.{Item, Question, Shown}
 use Rattle.affc_check.specs.Steps.{Leaves}

@@ -14,8 +14,8 @@ use Rattle.affc_nest.specs.declared.nest.Nest.{Nest}
 use Rattle.affc_sched.specs.Answered.{Each}
 use Rattle.affc_sched.specs.Legality.{IsAsked}
 use Rattle.affc_quast.specs.Trees.{Tree}
-use Rattle.affc_certvalue.specs.fold.declared.fold.CertFold.{CertFold}
-use Rattle.affc_certvalue.specs.fold.declared.fold.CertModulus.{CertModulus}
+use Rattle.affc_certvalue.specs.declared.fold.fold.CertFold.{CertFold}
+use Rattle.affc_certvalue.specs.declared.fold.fold.CertModulus.{CertModulus}
 use Rattle.affc_check.specs.Answers.{IsFoldMade}
 use Rattle.affc_check.specs.list.Certs.{AreFoldsSaid, least_said, modulus_said}
 use Rattle.affc_check.specs.list.Items.{ModulusShown, FoldShown, mark_of, moduli_of}

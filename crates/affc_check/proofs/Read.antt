@@ -11,8 +11,8 @@ use Rattle.affc_quast.specs.Seen.{trees_of}
 use Rattle.affc_quast.specs.Trees.{Tree}
 use Rattle.affc_life.specs.Clashes.{clash_of, clashes}
 use Rattle.affc_life.proofs.LightLemmas.{all_map}
-use Rattle.affc_certvalue.specs.fold.declared.fold.CertFold.{CertFold}
-use Rattle.affc_certvalue.specs.fold.declared.fold.CertModulus.{CertModulus}
+use Rattle.affc_certvalue.specs.declared.fold.fold.CertFold.{CertFold}
+use Rattle.affc_certvalue.specs.declared.fold.fold.CertModulus.{CertModulus}
 use Rattle.affc_check.specs.list.Certs.{modulus_said, IsFoldSaid, AreFoldsSaid, IsFoldFor}
 use Rattle.affc_check.specs.list.Items.{Question, Shown, ModulusShown, FoldShown}
 use Rattle.affc_check.specs.Laws.{CertsAreRead, ValidCertsGive, FailingIsNotValid}

@@ -18,13 +18,13 @@ use Rattle.affc_quast.specs.Trees.{Tree, Test, Div, Source, Input}
 use Rattle.affc_life.specs.Asked.{NamesStatements, KeepsLimits}
 use Rattle.affc_certvalue.specs.fold.Entries.{entry_of}
 use Rattle.affc_certvalue.specs.fold.Limits.{IsModulusWithin, IsMarkWithin, IsFoldWithin}
-use Rattle.affc_certvalue.specs.fold.declared.fold.CertFold.{CertFold}
-use Rattle.affc_certvalue.specs.fold.declared.fold.CertModulus.{CertModulus}
-use Rattle.affc_certvalue.specs.fold.declared.layout.Temporary.{Temporary}
+use Rattle.affc_certvalue.specs.declared.fold.fold.CertFold.{CertFold}
+use Rattle.affc_certvalue.specs.declared.fold.fold.CertModulus.{CertModulus}
+use Rattle.affc_certvalue.specs.declared.fold.layout.Temporary.{Temporary}
 use Rattle.affc_cert.specs.tree.Trees.{loops_at}
 use Rattle.affc_cert.specs.tree.Within.{NamesStores, IsTreeWithin}
-use Rattle.affc_cert.specs.tree.declared.layout.Load.{Load}
-use Rattle.affc_cert.specs.tree.declared.layout.Store.{Store}
+use Rattle.affc_cert.specs.declared.tree.layout.Load.{Load}
+use Rattle.affc_cert.specs.declared.tree.layout.Store.{Store}
 use Rattle.affc_check.specs.list.Certs as of_check
 use Rattle.affc_check.specs.list.Certs.{IsFoldFor}
 use Rattle.affc_check.specs.Layouts.{IsStoreIn, IsLoadIn, IsTemporaryIn, ReadIsFor}

@@ -44,7 +44,7 @@ use Rattle.affc_life.proofs.NestLemmas.{has_forms}
 use Rattle.affc_cert.specs.declared.cert.Cert.{Cert}
 use Rattle.affc_certvalue.specs.Limits.{IsWord}
 use Rattle.affc_certvalue.proofs.Within.{small_word}
-use Rattle.affc_certvalue.specs.fold.declared.fold.CertFold.{CertFold}
+use Rattle.affc_certvalue.specs.declared.fold.fold.CertFold.{CertFold}
 use Rattle.affc_check.specs.list.Certs.{IsCertWithin}
 use Rattle.affc_check.specs.list.Items.{Item, Question, Shown, LeastShown, ModulusShown, FoldShown, is_behind, is_point_at, nothing, farthest, pair_in, pair_item, mark_items, row_items, rows_items, items}
 use Rattle.affc_check.specs.list.Walks.{fold_shown, folds_shown, IsListing}

@@ -9,9 +9,9 @@ use Rattle.affc_cert.specs.Certificates.{seen}
 use Rattle.affc_cert.specs.Within.{IsWithin}
 use Rattle.affc_cert.specs.declared.cert.Cert.{Cert}
 use Rattle.affc_cert.specs.declared.layout.Layout.{Layout}
-use Rattle.affc_certvalue.specs.fold.declared.layout.Temporary.{Temporary}
-use Rattle.affc_cert.specs.tree.declared.layout.Load.{Load}
-use Rattle.affc_cert.specs.tree.declared.layout.Store.{Store}
+use Rattle.affc_certvalue.specs.declared.fold.layout.Temporary.{Temporary}
+use Rattle.affc_cert.specs.declared.tree.layout.Load.{Load}
+use Rattle.affc_cert.specs.declared.tree.layout.Store.{Store}
 use Rattle.affc_check.specs.list.Certs.{IsCertWithin}
 
 -- a statement with so many loops

@@ -6,7 +6,7 @@ use Rattle.affc_basis.specs.declared.fold.Fold.{Fold}
 use Rattle.affc_rows.specs.Forms.{Affine, value}
 use Rattle.affc_system.specs.declared.pairs.PairSystem.{PairSystem}
 use Rattle.affc_certvalue.specs.Limits.{IsWord}
-use Rattle.affc_certvalue.specs.fold.declared.fold.CertFold.{CertFold}
+use Rattle.affc_certvalue.specs.declared.fold.fold.CertFold.{CertFold}
 use Rattle.affc_check.specs.list.Certs.{modulus_said}
 use Rattle.affc_check.specs.list.Items.{LeastShown, ModulusShown, FoldShown, numbered}
 use Rattle.affc_check.specs.Answers.{IsFoldMade}

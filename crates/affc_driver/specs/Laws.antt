@@ -18,7 +18,7 @@ use Rattle.affc_domain.specs.Ranges.{first_wide}
 use Rattle.affc_split.specs.Budgets.{Account}
 use Rattle.affc_nest.specs.Laws.{NamesArrays}
 use Rattle.affc_loops.specs.Loops.{Piece, pieces}
-use Rattle.affc_loopends.specs.scanned.declared.scanned.Scanned.{Scanned}
+use Rattle.affc_loopends.specs.declared.scanned.scanned.Scanned.{Scanned}
 use Rattle.affc_loopends.specs.scanned.Laws.{RunsTightly}
 use Rattle.affc_loopends.specs.scanned.Scanned.{Scans}
 use Rattle.affc_basis.specs.declared.fold.Fold.{Fold}

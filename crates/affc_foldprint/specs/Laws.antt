@@ -12,7 +12,7 @@ use Rattle.affc_nest.specs.declared.nest.Nest.{Nest}
 use Rattle.affc_nest.specs.Nests.{nest_of}
 use Rattle.affc_loops.specs.Laws.{HasLoops}
 use Rattle.affc_loops.specs.Loops.{Piece, pieces}
-use Rattle.affc_loopends.specs.scanned.declared.scanned.Scanned.{Scanned}
+use Rattle.affc_loopends.specs.declared.scanned.scanned.Scanned.{Scanned}
 use Rattle.affc_loopends.specs.scanned.Laws.{HaveSameTimes, RunsTightly}
 use Rattle.affc_loopends.specs.scanned.Scanned.{Scans}
 use Rattle.affc_basis.specs.declared.fold.Fold.{Fold}

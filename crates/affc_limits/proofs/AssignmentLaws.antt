@@ -6,11 +6,11 @@ use Rattle.std.proofs.lemmas.Bool.Decides.{nat_tests}
 use Rattle.affc_ast.specs.declared.tree.Op.{Op}
 use Rattle.affc_grammar.specs.Draft as d
 use Rattle.affc_grammar.specs.Limits.{Assigned, assigned, assigned_in, loads_in}
-use Rattle.affc_syntax.specs.draft.declared.draft.StmtDraft as code
-use Rattle.affc_syntax.specs.draft.declared.draft.StmtDraft.TheVariants as s
-use Rattle.affc_syntax.specs.draft.declared.draft.HeadDraft.{HeadDraft}
-use Rattle.affc_syntax.specs.draft.declared.draft.CompareDraft.{CompareDraft}
-use Rattle.affc_syntax.specs.draft.declared.draft.LocalDraft.{LocalDraft}
+use Rattle.affc_syntax.specs.declared.draft.draft.StmtDraft as code
+use Rattle.affc_syntax.specs.declared.draft.draft.StmtDraft.TheVariants as s
+use Rattle.affc_syntax.specs.declared.draft.draft.HeadDraft.{HeadDraft}
+use Rattle.affc_syntax.specs.declared.draft.draft.CompareDraft.{CompareDraft}
+use Rattle.affc_syntax.specs.declared.draft.draft.LocalDraft.{LocalDraft}
 use Rattle.affc_syntax.proofs.draft.Outs.{stmt-For, stmt-If, stmt-Block}
 use Rattle.affc_syntax.specs.draft.Drafts.{stmts_of, stmts_after, stmt, compare}
 use Rattle.std.proofs.lemmas.List.{length-map}

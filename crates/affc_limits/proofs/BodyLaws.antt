@@ -6,11 +6,11 @@ use Rattle.affc_grammar.specs.Limits.{assigned, assigned_in, empty_bodies, empty
 use Rattle.affc_limits.specs.declared.bodies.Bodies.{Bodies}
 use Rattle.std.proofs.lemmas.List.{drop_all}
 use Rattle.affc_ast.specs.declared.tree.Op.{Op}
-use Rattle.affc_syntax.specs.draft.declared.draft.StmtDraft as code
-use Rattle.affc_syntax.specs.draft.declared.draft.StmtDraft.TheVariants as s
-use Rattle.affc_syntax.specs.draft.declared.draft.HeadDraft.{HeadDraft}
-use Rattle.affc_syntax.specs.draft.declared.draft.CompareDraft.{CompareDraft}
-use Rattle.affc_syntax.specs.draft.declared.draft.LocalDraft.{LocalDraft}
+use Rattle.affc_syntax.specs.declared.draft.draft.StmtDraft as code
+use Rattle.affc_syntax.specs.declared.draft.draft.StmtDraft.TheVariants as s
+use Rattle.affc_syntax.specs.declared.draft.draft.HeadDraft.{HeadDraft}
+use Rattle.affc_syntax.specs.declared.draft.draft.CompareDraft.{CompareDraft}
+use Rattle.affc_syntax.specs.declared.draft.draft.LocalDraft.{LocalDraft}
 use Rattle.affc_syntax.proofs.draft.Outs.{stmt-For, stmt-If, stmt-Block}
 use Rattle.affc_syntax.specs.draft.Drafts.{stmts_of, stmts_after, stmt, head, compare, local}
 use Rattle.affc_limits.specs.Places.{least, lesser, place_if}

@@ -8,7 +8,7 @@ use Rattle.affc_grammar.specs.declared.fault.LimitName.TheVariants.{Tokens, Run,
 use Rattle.affc_grammar.specs.Grammar.{Symbol}
 use Rattle.affc_grammar.specs.Limits.{Passed, passed_at, at_if, nearer, least, tokens_past, count_token, count_run, count_open, count_item, is_separator, is_opening, is_closing, is_item}
 use Rattle.affc_limits.specs.declared.shape.Counts.{Counts}
-use Rattle.affc_syntax.specs.draft.declared.symbol.Symbol as code
+use Rattle.affc_syntax.specs.declared.draft.symbol.Symbol as code
 use Rattle.affc_syntax.specs.draft.Symbols.{seen}
 use Rattle.affc_limits.specs.Shape.{passed_from, counts_behind, first_above}
 

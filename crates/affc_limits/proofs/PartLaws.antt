@@ -13,9 +13,9 @@ use Rattle.affc_grammar.specs.Grammar as g
 use Rattle.affc_grammar.specs.Grammar.{Name}
 use Rattle.affc_grammar.specs.Draft as d
 use Rattle.affc_grammar.specs.Limits.{at_if, names_in, constant_of, coefficient_of, first_token, is_large, large_parts}
-use Rattle.affc_syntax.specs.draft.declared.draft.IxDraft as code
-use Rattle.affc_syntax.specs.draft.declared.draft.IxDraft.TheVariants as c
-use Rattle.affc_syntax.specs.draft.declared.draft.Choice.{Choice}
+use Rattle.affc_syntax.specs.declared.draft.draft.IxDraft as code
+use Rattle.affc_syntax.specs.declared.draft.draft.IxDraft.TheVariants as c
+use Rattle.affc_syntax.specs.declared.draft.draft.Choice.{Choice}
 use Rattle.affc_syntax.specs.draft.Drafts.{ix, choice}
 use Rattle.affc_syntax.proofs.draft.Outs.{ix-Grouped, ix-Chosen}
 use Rattle.affc_limits.specs.declared.parts.Form.{Form}

@@ -6,9 +6,9 @@ use Rattle.affc_grammar.specs.Draft as d
 use Rattle.std.specs.List.{flat_map}
 use Rattle.std.proofs.lemmas.List.{append-nil, map-append}
 use Rattle.std.proofs.Math.Seq.{take-suc}
-use Rattle.affc_syntax.specs.draft.declared.draft.Choice.{Choice}
-use Rattle.affc_syntax.specs.draft.declared.draft.IxDraft as code
-use Rattle.affc_syntax.specs.draft.declared.draft.IxDraft.TheVariants as c
+use Rattle.affc_syntax.specs.declared.draft.draft.Choice.{Choice}
+use Rattle.affc_syntax.specs.declared.draft.draft.IxDraft as code
+use Rattle.affc_syntax.specs.declared.draft.draft.IxDraft.TheVariants as c
 use Rattle.affc_syntax.proofs.draft.Nodes.{nodes}
 use Rattle.affc_syntax.proofs.draft.Outs.{ix-Sum, ix-Difference, ix-Product, ix-Chosen}
 use Rattle.affc_syntax.specs.draft.Drafts.{ix}

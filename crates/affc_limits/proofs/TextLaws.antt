@@ -4,14 +4,14 @@ use Rattle.std.proofs.lemmas.List.{drop_all, append-nil}
 use Rattle.affc_ast.specs.declared.tree.Op.{Op}
 use Rattle.affc_grammar.specs.Draft as d
 use Rattle.affc_grammar.specs.Limits.{sides, stmt_texts, stmts_texts, value_texts}
-use Rattle.affc_syntax.specs.draft.declared.draft.StmtDraft as code
-use Rattle.affc_syntax.specs.draft.declared.draft.StmtDraft.TheVariants as s
-use Rattle.affc_syntax.specs.draft.declared.draft.HeadDraft.{HeadDraft}
-use Rattle.affc_syntax.specs.draft.declared.draft.CompareDraft.{CompareDraft}
-use Rattle.affc_syntax.specs.draft.declared.draft.LocalDraft.{LocalDraft}
-use Rattle.affc_syntax.specs.draft.declared.draft.WordDraft.{WordDraft}
-use Rattle.affc_syntax.specs.draft.declared.draft.IxDraft.{IxDraft}
-use Rattle.affc_syntax.specs.draft.declared.draft.ValueDraft.{ValueDraft}
+use Rattle.affc_syntax.specs.declared.draft.draft.StmtDraft as code
+use Rattle.affc_syntax.specs.declared.draft.draft.StmtDraft.TheVariants as s
+use Rattle.affc_syntax.specs.declared.draft.draft.HeadDraft.{HeadDraft}
+use Rattle.affc_syntax.specs.declared.draft.draft.CompareDraft.{CompareDraft}
+use Rattle.affc_syntax.specs.declared.draft.draft.LocalDraft.{LocalDraft}
+use Rattle.affc_syntax.specs.declared.draft.draft.WordDraft.{WordDraft}
+use Rattle.affc_syntax.specs.declared.draft.draft.IxDraft.{IxDraft}
+use Rattle.affc_syntax.specs.declared.draft.draft.ValueDraft.{ValueDraft}
 use Rattle.affc_syntax.proofs.draft.Outs.{stmt-For, stmt-If, stmt-Block}
 use Rattle.affc_syntax.specs.draft.Drafts.{stmts_of, stmts_after, stmt, ix, compare, local, value}
 use Rattle.affc_limits.specs.declared.texts.Rule.{Rule}

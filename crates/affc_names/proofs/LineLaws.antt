@@ -17,7 +17,7 @@ use Rattle.affc_grammar.specs.declared.fault.NameWhy.{NameWhy}
 use Rattle.affc_grammar.specs.Grammar.{Name}
 use Rattle.affc_grammar.specs.Draft as d
 use Rattle.affc_grammar.specs.Names.{Thing, function, number, array, Scope, Checked, Refusal, ◌>>=◌, allowed, thing_of, why_ranged, each, compare_tree, pragmas_tree, range_of}
-use Rattle.affc_syntax.specs.draft.declared.draft.PragmaDraft as code
+use Rattle.affc_syntax.specs.declared.draft.draft.PragmaDraft as code
 use Rattle.affc_syntax.specs.draft.Drafts as seen
 use Rattle.affc_names.specs.declared.fault.NameFault.{NameFault}
 use Rattle.affc_names.specs.declared.fault.NameFault.TheVariants.{Memory, Refused}

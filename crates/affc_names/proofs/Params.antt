@@ -9,8 +9,8 @@ use Rattle.affc_ast.specs.declared.tree.Param.{Param}
 use Rattle.affc_grammar.specs.Grammar.{Name}
 use Rattle.affc_grammar.specs.Draft as d
 use Rattle.affc_grammar.specs.Names.{Thing, function, number, array, Visible, is_number_thing, is_array_thing, Scope, Checked, ◌>>=◌, allowed, thing_of, with_thing, with_param, with_params, with_array, outermost, number_tree, why_declared, decl_tree, param_tree, params_tree, temps_tree}
-use Rattle.affc_syntax.specs.draft.declared.draft.ParamDraft as code
-use Rattle.affc_syntax.specs.draft.declared.draft.DeclDraft as code_decl
+use Rattle.affc_syntax.specs.declared.draft.draft.ParamDraft as code
+use Rattle.affc_syntax.specs.declared.draft.draft.DeclDraft as code_decl
 use Rattle.affc_syntax.specs.draft.Drafts as seen
 use Rattle.affc_names.specs.declared.fault.NameFault.{NameFault}
 use Rattle.affc_names.specs.declared.fault.NameFault.TheVariants.{Memory, Refused}

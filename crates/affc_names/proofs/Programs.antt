@@ -7,9 +7,9 @@ use Rattle.affc_ast.specs.declared.tree.Program.{Program}
 use Rattle.affc_grammar.specs.declared.fault.NameWhy.{NameWhy}
 use Rattle.affc_grammar.specs.Grammar.{Name}
 use Rattle.affc_grammar.specs.Draft as d
-use Rattle.affc_syntax.specs.draft.declared.draft.TextDraft as code_text
-use Rattle.affc_syntax.specs.draft.declared.draft.PragmaDraft as code_pragma
-use Rattle.affc_syntax.specs.draft.declared.draft.ParamDraft as code_param
+use Rattle.affc_syntax.specs.declared.draft.draft.TextDraft as code_text
+use Rattle.affc_syntax.specs.declared.draft.draft.PragmaDraft as code_pragma
+use Rattle.affc_syntax.specs.declared.draft.draft.ParamDraft as code_param
 use Rattle.affc_syntax.specs.draft.Drafts as seen
 use Rattle.affc_grammar.specs.Names.{function, Scope, Refusal, Checked, ◌>>=◌, allowed, with_thing, with_params, outermost, function_why, pragmas_tree, params_tree, temps_tree, stmts_tree, program_tree}
 use Rattle.affc_names.specs.declared.fault.NameFault.{NameFault}

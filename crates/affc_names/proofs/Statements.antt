@@ -8,11 +8,11 @@ use Rattle.affc_grammar.specs.declared.fault.NameWhy.{NameWhy}
 use Rattle.affc_grammar.specs.Draft as d
 use Rattle.affc_grammar.specs.Names as names
 use Rattle.affc_grammar.specs.Names.{Checked, Refusal, Scope, ◌>>=◌, allowed}
-use Rattle.affc_syntax.specs.draft.declared.draft.StmtDraft as code
-use Rattle.affc_syntax.specs.draft.declared.draft.StmtDraft.TheVariants as s
-use Rattle.affc_syntax.specs.draft.declared.draft.LocalDraft as code_local
-use Rattle.affc_syntax.specs.draft.declared.draft.HeadDraft as code_head
-use Rattle.affc_syntax.specs.draft.declared.draft.CompareDraft as code_compare
+use Rattle.affc_syntax.specs.declared.draft.draft.StmtDraft as code
+use Rattle.affc_syntax.specs.declared.draft.draft.StmtDraft.TheVariants as s
+use Rattle.affc_syntax.specs.declared.draft.draft.LocalDraft as code_local
+use Rattle.affc_syntax.specs.declared.draft.draft.HeadDraft as code_head
+use Rattle.affc_syntax.specs.declared.draft.draft.CompareDraft as code_compare
 use Rattle.affc_syntax.proofs.draft.Outs.{stmt-For, stmt-If, stmt-Block}
 use Rattle.affc_syntax.specs.draft.Drafts.{stmts_of, stmts_after, stmt, local, head, compare}
 use Rattle.affc_names.specs.declared.fault.NameFault.{NameFault}

@@ -14,8 +14,8 @@ use Rattle.affc_grammar.specs.Reads.{Reads, symbols, has_prelude, place_of, tree
 use Rattle.affc_grammar.proofs.Texts.{text_spelled, stops_at, enough_room, within_limit}
 use Rattle.affc_syntax.specs.draft.Drafts as drafts
 use Rattle.affc_syntax.specs.draft.Symbols.{passed_seen}
-use Rattle.affc_syntax.specs.draft.declared.draft.TextDraft.{TextDraft as CodeDraft}
-use Rattle.affc_syntax.specs.draft.declared.passed.Passed.{Passed as CodePassed}
+use Rattle.affc_syntax.specs.declared.draft.draft.TextDraft.{TextDraft as CodeDraft}
+use Rattle.affc_syntax.specs.declared.draft.passed.Passed.{Passed as CodePassed}
 use Rattle.affc_limits.specs.Places.{first}
 use Rattle.affc_names.specs.Answers.{IsNamed}
 use Rattle.affc_names.specs.Stored as stored

@@ -3,7 +3,7 @@ use Rattle.std.proofs.Common.{◌≡◌, ℕ, zero, suc, ◌+◌, ◌<◌, ◌�
 use Rattle.std.proofs.lemmas.List.{drop_all}
 use Rattle.affc_lex.specs.declared.token.Token.{Token}
 use Rattle.affc_lex.specs.Lexes.{lexemes}
-use Rattle.affc_syntax.specs.draft.declared.symbol.Symbol.{Symbol}
+use Rattle.affc_syntax.specs.declared.draft.symbol.Symbol.{Symbol}
 use Rattle.affc_syntax.specs.draft.Symbols.{seen}
 use Rattle.affc_grammar.specs.Reads.{place_of, is_prelude, has_prelude}
 

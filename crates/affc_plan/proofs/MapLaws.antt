@@ -7,7 +7,7 @@ use Rattle.std.proofs.lemmas.List.Elements.{All-cons}
 use Rattle.affc_rows.specs.Forms.{Affine, HaveColumns}
 use Rattle.affc_trace.specs.Target.{are_slight, all_slight}
 use Rattle.affc_basis.specs.Bases.{IsSquare, AreWithin, HaveCoefsWithin}
-use Rattle.affc_syntax.specs.draft.declared.draft.IxDraft as code
+use Rattle.affc_syntax.specs.declared.draft.draft.IxDraft as code
 use Rattle.affc_syntax.specs.draft.Drafts.{ix}
 use Rattle.affc_grammar.specs.Limits.{at_if, first_token}
 use Rattle.affc_schedtext.specs.declared.outline.Outline.{Outline}

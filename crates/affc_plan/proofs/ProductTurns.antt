@@ -2,7 +2,7 @@
 use Rattle.std.proofs.Common.{◌≡◌, ℕ, suc, ◌+◌, ◌<◌, ◌≤◌, List, length, map, drop, get_or, sym, ap, ◌∙◌, arith}
 use Rattle.std.proofs.lemmas.List.{drop_all}
 use Rattle.std.specs.Prelude.{MatchOption}
-use Rattle.affc_syntax.specs.draft.declared.symbol.Symbol.{Symbol}
+use Rattle.affc_syntax.specs.declared.draft.symbol.Symbol.{Symbol}
 use Rattle.affc_syntax.specs.draft.Symbols.{seen}
 use Rattle.affc_schedtext.specs.Answers.{IsFirstProduct, HasNoProduct}
 use Rattle.affc_schedtext.proofs.Walks.{front}

@@ -4,7 +4,7 @@ use Rattle.std.proofs.lemmas.List.{append_cancel_right, take-append-drop, take_a
 use Rattle.std.specs.Prelude.{MatchOption, Ok, Err}
 use Rattle.affc_lex.specs.declared.token.Token.{Token}
 use Rattle.affc_lex.specs.Lexes.{Lexeme, Lexes, lexemes}
-use Rattle.affc_syntax.specs.draft.declared.symbol.Symbol as code_symbol
+use Rattle.affc_syntax.specs.declared.draft.symbol.Symbol as code_symbol
 use Rattle.affc_syntax.specs.draft.Symbols.{seen}
 use Rattle.affc_grammar.specs.Grammar.{Symbol}
 use Rattle.affc_grammar.specs.Reads.{place_of}

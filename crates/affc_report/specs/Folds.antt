@@ -10,7 +10,7 @@ use Rattle.affc_basis.specs.declared.fold.Mark.TheVariants.{Least, Bound}
 use Rattle.affc_basis.specs.declared.fold.Modulus.{Modulus}
 use Rattle.affc_basis.specs.declared.fold.Fold.{Fold}
 use Rattle.affc_basis.specs.Folds.{fold_of}
-use Rattle.affc_loopends.specs.scanned.declared.scanned.Loose.{Loose}
+use Rattle.affc_loopends.specs.declared.scanned.scanned.Loose.{Loose}
 use Rattle.affc_weigh.specs.declared.choice.Choice.{Choice}
 use Rattle.affc_weigh.specs.declared.choice.Price.{Price}
 use Rattle.affc_weigh.specs.Choices.{choice_of}

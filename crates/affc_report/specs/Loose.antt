@@ -2,7 +2,7 @@
 use Rattle.std.specs.Prelude.{ℕ, List, [], ◌∷◌, ◌++◌, codes, decimal}
 use Rattle.affc_loopends.specs.declared.bounds.Why.{Why}
 use Rattle.affc_loopends.specs.declared.bounds.Why.TheVariants.{Made, Wide, Large, Nine}
-use Rattle.affc_loopends.specs.scanned.declared.scanned.Loose.{Loose}
+use Rattle.affc_loopends.specs.declared.scanned.scanned.Loose.{Loose}
 
 abbrev pub why_text : Why → List ℕ
 why_text (Made asked made) = codes "made"

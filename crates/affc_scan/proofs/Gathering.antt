@@ -17,7 +17,7 @@ use Rattle.affc_loopends.specs.declared.bounds.Bounds.TheVariants.{Between, Loos
 use Rattle.affc_loopends.specs.Ends.{IsProjectedRow}
 use Rattle.affc_loopends.specs.Sizes.{IsModest}
 use Rattle.affc_loopends.specs.Whys.{AreBoundsFrom}
-use Rattle.affc_loopends.specs.scanned.declared.scanned.Loose.{Loose}
+use Rattle.affc_loopends.specs.declared.scanned.scanned.Loose.{Loose}
 use Rattle.affc_loopends.specs.scanned.Scanned.{sides_of, loose_from, all_loose, all_sides}
 use Rattle.affc_scan.specs.declared.gathered.Gathered.{Gathered}
 use Rattle.affc_scan.specs.EndRows.{IsEndRow, HaveEndRows}

@@ -4,7 +4,7 @@ use Rattle.std.proofs.lemmas.List.{length-map}
 use Rattle.affc_grammar.specs.Grammar.{Symbol}
 use Rattle.affc_grammar.specs.Reader.{At, Deep, Read}
 use Rattle.affc_grammar.proofs.Closed.{same_ok, same_at}
-use Rattle.affc_syntax.specs.draft.declared.symbol.Symbol as code
+use Rattle.affc_syntax.specs.declared.draft.symbol.Symbol as code
 use Rattle.affc_syntax.specs.draft.Symbols.{seen}
 use Rattle.affc_syntax.specs.declared.ahead.Stop.TheVariants as s
 use Rattle.affc_syntax.specs.Readers.{mapped}

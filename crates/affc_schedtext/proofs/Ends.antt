@@ -7,7 +7,7 @@ use Rattle.affc_grammar.specs.Draft as g
 use Rattle.affc_grammar.specs.Draft.{ix_draft}
 use Rattle.affc_grammar.specs.Reader.{At, after, either, fail}
 use Rattle.affc_grammar.specs.Reading.{read_ix}
-use Rattle.affc_syntax.specs.draft.declared.symbol.Symbol as code
+use Rattle.affc_syntax.specs.declared.draft.symbol.Symbol as code
 use Rattle.affc_syntax.specs.draft.Symbols.{seen}
 use Rattle.affc_syntax.specs.declared.ahead.Stop as stop
 use Rattle.affc_syntax.specs.declared.ahead.Stop.TheVariants as s

@@ -7,7 +7,7 @@ use Rattle.affc_grammar.specs.Reader.{At, Reader, then_read, give, fail, deep, a
 use Rattle.affc_grammar.specs.Reading as r
 use Rattle.affc_grammar.specs.Reading.{Half, this_mark, rel_of, ix_inside}
 use Rattle.affc_grammar.proofs.Rules.{Whole, half_symbols, mixed_symbols, factors_rule, terms_rule, sum_rule, ix_inside_rule, half_rule, cond_rule, and_rule, mixed_inside_rule}
-use Rattle.affc_syntax.specs.draft.declared.symbol.Symbol as code
+use Rattle.affc_syntax.specs.declared.draft.symbol.Symbol as code
 use Rattle.affc_syntax.specs.draft.Symbols.{seen}
 use Rattle.affc_syntax.specs.Ahead.{past}
 use Rattle.affc_syntax.specs.Readers.{on_past, mapped}

@@ -5,7 +5,7 @@ use Rattle.std.proofs.lemmas.List.{length-map}
 use Rattle.affc_grammar.specs.Grammar.{Symbol}
 use Rattle.affc_grammar.specs.Reader.{At, Deep, Read, Reader, then_read, on_some, give, fail, after, either, on, many, all}
 use Rattle.affc_grammar.specs.Reading.{this_mark}
-use Rattle.affc_syntax.specs.draft.declared.symbol.Symbol as code
+use Rattle.affc_syntax.specs.declared.draft.symbol.Symbol as code
 use Rattle.affc_syntax.specs.draft.Symbols.{seen}
 use Rattle.affc_syntax.specs.Ahead.{past, with_rest}
 use Rattle.affc_syntax.specs.Readers.{mapped, on_past, closed, more, all_more}

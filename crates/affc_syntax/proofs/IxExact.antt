@@ -10,7 +10,7 @@ use Rattle.affc_grammar.specs.Reading as r
 use Rattle.affc_grammar.specs.Reading.{Callee, of_choice, of_rounding, this_mark, any_word, any_number, sum_sign, of_kind, is_number_kind, choose, callees, ix_inside}
 use Rattle.affc_grammar.proofs.Rules.{Whole, factor_rule, times_rule, term_rule, plus_rule, ix_inside_rule, dim_rule}
 use Rattle.affc_grammar.proofs.Tests.{sign_mark}
-use Rattle.affc_syntax.specs.draft.declared.symbol.Symbol as code
+use Rattle.affc_syntax.specs.declared.draft.symbol.Symbol as code
 use Rattle.affc_syntax.specs.draft.Symbols.{seen}
 use Rattle.affc_syntax.specs.Ahead.{past, number_value, divisor_value}
 use Rattle.affc_syntax.specs.Callees.{callee}

@@ -5,7 +5,7 @@ use Rattle.affc_grammar.specs.Draft.{IxDraft, literal, name, negated, product, g
 use Rattle.affc_grammar.specs.Reader.{At, Deep, Reader}
 use Rattle.affc_grammar.specs.Reading.{Callee, of_choice, of_rounding, this_mark, any_word, sum_sign}
 use Rattle.affc_syntax.specs.declared.ahead.Stop as stop
-use Rattle.affc_syntax.specs.draft.declared.symbol.Symbol as code
+use Rattle.affc_syntax.specs.declared.draft.symbol.Symbol as code
 use Rattle.affc_syntax.specs.draft.Symbols.{seen}
 use Rattle.affc_syntax.specs.Ahead.{past, number_value, divisor_value}
 use Rattle.affc_syntax.specs.Callees.{callee}

@@ -7,7 +7,7 @@ use Rattle.affc_grammar.specs.Reading.{this_mark}
 use Rattle.affc_grammar.proofs.Closed.{then_ok, then_same}
 use Rattle.affc_syntax.specs.declared.ahead.Stop as stop
 use Rattle.affc_syntax.specs.declared.ahead.Stop.TheVariants as s
-use Rattle.affc_syntax.specs.draft.declared.symbol.Symbol as code
+use Rattle.affc_syntax.specs.declared.draft.symbol.Symbol as code
 use Rattle.affc_syntax.specs.draft.Symbols.{seen}
 use Rattle.affc_syntax.specs.Ahead.{past, with_rest}
 use Rattle.affc_syntax.specs.Readers.{on_past, closed, Fails, Gives, counted, more, all_more}

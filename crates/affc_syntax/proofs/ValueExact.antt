@@ -12,7 +12,7 @@ use Rattle.affc_grammar.specs.Reader.{At, Reader, give, fail, deep, after, on, a
 use Rattle.affc_grammar.specs.Reading as r
 use Rattle.affc_grammar.specs.Reading.{this_mark, any_word, any_value, is_value_kind, is_number_kind, shift_sign, choose, ops, ix_inside, op_of, at_level, op_more, shift_more}
 use Rattle.affc_grammar.proofs.Rules.{Whole, type_name_symbols, tilde_symbols, tildes_rule, primary_rule, op_rule, shift_rule, level_rule, value_inside_rule}
-use Rattle.affc_syntax.specs.draft.declared.symbol.Symbol as code
+use Rattle.affc_syntax.specs.declared.draft.symbol.Symbol as code
 use Rattle.affc_syntax.specs.draft.Symbols.{seen}
 use Rattle.affc_syntax.specs.Ahead.{past}
 use Rattle.affc_syntax.specs.Readers.{mapped}

@@ -2,9 +2,9 @@
 use Rattle.std.proofs.Common.{◌≡◌, ℕ, Bool, ap, ◌∙◌}
 use Rattle.affc_ast.specs.declared.tree.Op.{Op}
 use Rattle.affc_grammar.specs.Draft as d
-use Rattle.affc_syntax.specs.draft.declared.draft.ValueDraft.{ValueDraft, map-ValueDraft}
-use Rattle.affc_syntax.specs.draft.declared.draft.ValueDraft.TheVariants as v
-use Rattle.affc_syntax.specs.draft.declared.draft.ValueDraft.TheOpen.{ValueDraft-F}
+use Rattle.affc_syntax.specs.declared.draft.draft.ValueDraft.{ValueDraft, map-ValueDraft}
+use Rattle.affc_syntax.specs.declared.draft.draft.ValueDraft.TheVariants as v
+use Rattle.affc_syntax.specs.declared.draft.draft.ValueDraft.TheOpen.{ValueDraft-F}
 use Rattle.affc_syntax.specs.draft.Drafts.{value, value_node}
 use Rattle.affc_syntax.proofs.draft.Outs.{value_out}
 

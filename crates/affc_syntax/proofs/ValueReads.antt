@@ -7,7 +7,7 @@ use Rattle.affc_grammar.specs.Draft.{ValueDraft, load, constant, cast, binary, s
 use Rattle.affc_grammar.specs.Reader.{At, Deep, Reader, then_read}
 use Rattle.affc_grammar.specs.Reading.{this_mark, any_word, shift_sign}
 use Rattle.affc_syntax.specs.declared.ahead.Stop as stop
-use Rattle.affc_syntax.specs.draft.declared.symbol.Symbol as code
+use Rattle.affc_syntax.specs.declared.draft.symbol.Symbol as code
 use Rattle.affc_syntax.specs.draft.Symbols.{seen}
 use Rattle.affc_syntax.specs.Ahead.{past}
 use Rattle.affc_syntax.specs.Readers.{Fails}

@@ -8,8 +8,8 @@ use Rattle.affc_grammar.specs.Draft.{IxDraft, CompareDraft, WordDraft, word_draf
 use Rattle.affc_grammar.specs.Reader.{Stop, At, Deep, Reader, then_read, Turn, going, done}
 use Rattle.affc_grammar.specs.Reading.{this_mark, this_word, any_word, one, bound_of, assign_of, choose, head_words, First, a_word, a_brace, first_of}
 use Rattle.affc_grammar.proofs.Closed.{then_same}
-use Rattle.affc_syntax.specs.draft.declared.draft.StmtDraft.{StmtDraft}
-use Rattle.affc_syntax.specs.draft.declared.symbol.Symbol as code
+use Rattle.affc_syntax.specs.declared.draft.draft.StmtDraft.{StmtDraft}
+use Rattle.affc_syntax.specs.declared.draft.symbol.Symbol as code
 use Rattle.affc_syntax.specs.draft.Symbols.{seen}
 use Rattle.affc_syntax.specs.draft.Drafts.{stmt, stmts_after, stmts_of}
 use Rattle.affc_syntax.specs.declared.ahead.Stop as stop

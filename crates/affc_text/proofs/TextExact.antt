@@ -27,9 +27,9 @@ use Rattle.affc_grammar.specs.Grammar.{text_symbols}
 use Rattle.affc_grammar.proofs.Closed.{same_ok, same_at}
 use Rattle.affc_grammar.proofs.Texts.{text_spelled}
 use Rattle.affc_grammar.proofs.Rules.{text_rule}
-use Rattle.affc_syntax.specs.draft.declared.draft.TextDraft.{TextDraft}
+use Rattle.affc_syntax.specs.declared.draft.draft.TextDraft.{TextDraft}
 use Rattle.affc_syntax.specs.draft.Drafts as drafts
-use Rattle.affc_syntax.specs.draft.declared.symbol.Symbol as code
+use Rattle.affc_syntax.specs.declared.draft.symbol.Symbol as code
 use Rattle.affc_syntax.specs.draft.Symbols.{seen}
 use Rattle.affc_syntax.specs.declared.ahead.Stop.TheVariants as s
 use Rattle.affc_text.specs.Answers.{IsRead}

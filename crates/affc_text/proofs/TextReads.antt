@@ -7,7 +7,7 @@ use Rattle.affc_grammar.specs.Grammar.{Symbol, Name, has_call}
 use Rattle.affc_grammar.specs.Draft.{WordDraft, word_draft, and_stmt, DeclDraft, ParamDraft, number_param, array_param, range, context}
 use Rattle.affc_grammar.specs.Reader.{At}
 use Rattle.affc_grammar.specs.Reading.{this_mark, this_word, any_word, First}
-use Rattle.affc_syntax.specs.draft.declared.symbol.Symbol as code
+use Rattle.affc_syntax.specs.declared.draft.symbol.Symbol as code
 use Rattle.affc_syntax.specs.draft.Symbols.{seen}
 use Rattle.affc_syntax.specs.Ahead.{past, number_value}
 use Rattle.affc_syntax.specs.IxReading as ix

@@ -1,7 +1,7 @@
 -- What reading a text answers.
 use Rattle.std.specs.Prelude.{◌≡◌, ◌≤◌, ℕ, List, [], length, drop, Result, Ok, Err}
 use Rattle.affc_syntax.specs.draft.Drafts as drafts
-use Rattle.affc_syntax.specs.draft.declared.draft.TextDraft.{TextDraft}
+use Rattle.affc_syntax.specs.declared.draft.draft.TextDraft.{TextDraft}
 use Rattle.affc_grammar.specs.Grammar.{Symbol, Text}
 use Rattle.affc_grammar.specs.Draft.{text_draft}
 use Rattle.affc_grammar.specs.Reader.{At, Deep}

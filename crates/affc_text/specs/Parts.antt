@@ -4,7 +4,7 @@ use Rattle.affc_grammar.specs.Draft as d
 use Rattle.affc_grammar.specs.Reader as reader
 use Rattle.affc_grammar.specs.Reading as g
 use Rattle.affc_syntax.specs.draft.Drafts.{compare, head, stmt, stmts_of, local, decl, param, pragma, word}
-use Rattle.affc_syntax.specs.draft.declared.draft.StmtDraft.{StmtDraft}
+use Rattle.affc_syntax.specs.declared.draft.draft.StmtDraft.{StmtDraft}
 use Rattle.affc_text.specs.declared.ahead.First as code_first
 use Rattle.affc_text.specs.declared.ahead.First.TheVariants as f
 use Rattle.affc_text.specs.declared.statement.Head as code_head

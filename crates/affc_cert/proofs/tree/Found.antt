@@ -2,7 +2,7 @@
 use Rattle.affc_cert.specs.tree.Stacks.{tree_stack_nodes}
 use Rattle.affc_cert.specs.tree.Trees.{tree_kind_of, tree_kind_of_tag}
 use Rattle.affc_cert.specs.tree.Values.{test_node, div_node, source_node, input_node, tree_nodes_of}
-use Rattle.affc_cert.specs.tree.declared.kind.TreeKind.TheVariants as Kind
+use Rattle.affc_cert.specs.declared.tree.kind.TreeKind.TheVariants as Kind
 use Rattle.affc_certvalue.proofs.Found.{is_array}
 use Rattle.affc_certvalue.specs.Values.{list_value, whole_value, form_value, forms_value}
 use Rattle.affc_quast.specs.Seen.{seen}

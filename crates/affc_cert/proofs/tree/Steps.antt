@@ -1,9 +1,9 @@
 -- Verdicts on the nodes of a tree, at the places of a list.
 use Rattle.affc_cert.specs.tree.Trees.{loops_at, source_number, source_parts, tree_kind_of, kind_in, opened, tree_node, tree_nodes}
-use Rattle.affc_cert.specs.tree.declared.kind.Place.{Place}
-use Rattle.affc_cert.specs.tree.declared.kind.TreeKind.{TreeKind as Kind}
-use Rattle.affc_cert.specs.tree.declared.kind.TreeKind.TheVariants as TreeKind
-use Rattle.affc_cert.specs.tree.declared.layout.Store.{Store}
+use Rattle.affc_cert.specs.declared.tree.kind.Place.{Place}
+use Rattle.affc_cert.specs.declared.tree.kind.TreeKind.{TreeKind as Kind}
+use Rattle.affc_cert.specs.declared.tree.kind.TreeKind.TheVariants as TreeKind
+use Rattle.affc_cert.specs.declared.tree.layout.Store.{Store}
 use Rattle.affc_certvalue.proofs.Parts.{other_than_one, other_than_2, tagged_one, tagged_two}
 use Rattle.affc_certvalue.proofs.Steps.{worse_worse, worse_fine, worse_shape, next_item, no_item}
 use Rattle.affc_certvalue.specs.Verdicts.{worse, exactly, behind_tag, list}

@@ -1,7 +1,7 @@
 -- Two trees with one JSON value are one.
 use Rattle.affc_cert.specs.tree.Trees.{kind_in}
 use Rattle.affc_cert.specs.tree.Values.{tree_nodes_of, tree_value}
-use Rattle.affc_cert.specs.tree.declared.kind.TreeKind.{TreeKind}
+use Rattle.affc_cert.specs.declared.tree.kind.TreeKind.{TreeKind}
 use Rattle.affc_certvalue.proofs.Unique.{head_same, tail_same, list_same, whole_same, form_same, forms_same, natural_same, two_same, three_same}
 use Rattle.affc_quast.specs.Trees.{Tree, Test, Div, Source, Input}
 use Rattle.serde_json.specs.Data.{Data}

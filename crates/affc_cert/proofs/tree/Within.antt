@@ -2,9 +2,9 @@
 use Rattle.affc_cert.specs.tree.Within.{NamesStores, IsTreeWithin}
 use Rattle.affc_cert.specs.tree.Trees.{tree_form, forms, loops_at, source_at, source_by, path, deeper, tree_node, tree_nodes, tree}
 use Rattle.affc_cert.specs.tree.Values.{test_node, div_node, source_node, input_node, tree_nodes_of, tree_value}
-use Rattle.affc_cert.specs.tree.declared.kind.Place.{Place}
-use Rattle.affc_cert.specs.tree.declared.layout.Load.{Load}
-use Rattle.affc_cert.specs.tree.declared.layout.Store.{Store}
+use Rattle.affc_cert.specs.declared.tree.kind.Place.{Place}
+use Rattle.affc_cert.specs.declared.tree.layout.Load.{Load}
+use Rattle.affc_cert.specs.declared.tree.layout.Store.{Store}
 use Rattle.affc_certvalue.proofs.Within.{both_are, between_fine, between_is, many_fine, many_are, over_fine, over_is}
 use Rattle.affc_certvalue.specs.Limits.{IsWord}
 use Rattle.affc_certvalue.specs.Values.{list_value, whole_value, form_value, forms_value}

@@ -1,9 +1,9 @@
 -- What is wrong with a value that stands for a source tree.
-use Rattle.affc_cert.specs.tree.declared.kind.Place.{Place}
-use Rattle.affc_cert.specs.tree.declared.kind.TreeKind.{TreeKind}
-use Rattle.affc_cert.specs.tree.declared.kind.TreeKind.TheVariants.{Test, Div, Source, Input, Other}
-use Rattle.affc_cert.specs.tree.declared.layout.Load.{Load}
-use Rattle.affc_cert.specs.tree.declared.layout.Store.{Store}
+use Rattle.affc_cert.specs.declared.tree.kind.Place.{Place}
+use Rattle.affc_cert.specs.declared.tree.kind.TreeKind.{TreeKind}
+use Rattle.affc_cert.specs.declared.tree.kind.TreeKind.TheVariants.{Test, Div, Source, Input, Other}
+use Rattle.affc_cert.specs.declared.tree.layout.Load.{Load}
+use Rattle.affc_cert.specs.declared.tree.layout.Store.{Store}
 use Rattle.affc_certvalue.specs.Verdicts.{worse, whole, all_of, list, many, exactly, form_over, behind_tag}
 use Rattle.affc_certvalue.specs.declared.verdict.Verdict.{Verdict}
 use Rattle.affc_certvalue.specs.declared.verdict.Verdict.TheVariants.{Shape, Number, Fine}

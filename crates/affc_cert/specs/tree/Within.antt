@@ -1,7 +1,7 @@
 -- Trees within the limits of a certificate's.
 use Rattle.affc_cert.specs.tree.Trees.{loops_at}
-use Rattle.affc_cert.specs.tree.declared.layout.Load.{Load}
-use Rattle.affc_cert.specs.tree.declared.layout.Store.{Store}
+use Rattle.affc_cert.specs.declared.tree.layout.Load.{Load}
+use Rattle.affc_cert.specs.declared.tree.layout.Store.{Store}
 use Rattle.affc_certvalue.specs.Limits.{IsWord}
 use Rattle.affc_quast.specs.Limits.{Shaped, FitsTree, widest}
 use Rattle.affc_quast.specs.Trees.{Tree, Test, Div, Source, Input, depth_of}

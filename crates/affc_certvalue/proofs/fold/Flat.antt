@@ -1,8 +1,8 @@
 -- The value of a fold has no float, and nests only a few levels.
 use Rattle.affc_certvalue.specs.fold.Entries.{FoldEntry}
 use Rattle.affc_certvalue.specs.fold.Values.{matrix_value, clash_value, point_value, least_value, modulus_value, moduli_value, fold_value}
-use Rattle.affc_certvalue.specs.fold.declared.fold.CertLeast.{CertLeast}
-use Rattle.affc_certvalue.specs.fold.declared.fold.CertModulus.{CertModulus}
+use Rattle.affc_certvalue.specs.declared.fold.fold.CertLeast.{CertLeast}
+use Rattle.affc_certvalue.specs.declared.fold.fold.CertModulus.{CertModulus}
 use Rattle.affc_certvalue.proofs.Flat.{IsFlat, weaker, list_of_flat, numbers_flat, form_flat, number_flat, none_flat, member_flat, object_flat}
 use Rattle.affc_certvalue.specs.Values.{whole_value, numbers_value, form_value}
 use Rattle.serde_json.specs.Data.{member, no_members}

@@ -3,8 +3,8 @@ use Rattle.affc_certvalue.proofs.fold.Keyed.{modulus_names, witness_names, fold_
 use Rattle.affc_certvalue.specs.fold.Bases.{plain}
 use Rattle.affc_certvalue.specs.fold.Entries.{FoldEntry, coefs_of}
 use Rattle.affc_certvalue.specs.fold.Values.{matrix_value, clash_value, point_value, least_value, modulus_value, moduli_value, fold_value}
-use Rattle.affc_certvalue.specs.fold.declared.fold.CertLeast.{CertLeast}
-use Rattle.affc_certvalue.specs.fold.declared.fold.CertModulus.{CertModulus}
+use Rattle.affc_certvalue.specs.declared.fold.fold.CertLeast.{CertLeast}
+use Rattle.affc_certvalue.specs.declared.fold.fold.CertModulus.{CertModulus}
 use Rattle.affc_certvalue.proofs.Keyed.{with_keys, these}
 use Rattle.affc_certvalue.specs.Keys.{has_keys}
 use Rattle.affc_certvalue.specs.Values.{whole_value, form_value, numbers_value}

@@ -5,8 +5,8 @@ use Rattle.affc_certvalue.proofs.fold.Found.{plain_form}
 use Rattle.affc_certvalue.specs.fold.Bases.{plain, IsBasis}
 use Rattle.affc_certvalue.specs.fold.Drafts.{draft_entry}
 use Rattle.affc_certvalue.specs.fold.Entries.{coefs_of, entry_of}
-use Rattle.affc_certvalue.specs.fold.declared.draft.Draft.{Draft}
-use Rattle.affc_certvalue.specs.fold.declared.fold.CertFold.{CertFold}
+use Rattle.affc_certvalue.specs.declared.fold.draft.Draft.{Draft}
+use Rattle.affc_certvalue.specs.declared.fold.fold.CertFold.{CertFold}
 use Rattle.affc_rows.specs.Forms.{Affine}
 use Rattle.std.proofs.Common.{◌≡◌, ℕ, suc, pos, List, [], ◌∷◌, Some, refl, sym, ap₂, subst, arith}
 use Rattle.std.proofs.lemmas.Option.{slice_get_within}

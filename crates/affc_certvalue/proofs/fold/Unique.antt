@@ -1,8 +1,8 @@
 -- Two folds with one JSON value are one.
 use Rattle.affc_certvalue.specs.fold.Entries.{FoldEntry}
 use Rattle.affc_certvalue.specs.fold.Values.{matrix_value, clash_value, point_value, least_value, modulus_value, fold_value, folds_value}
-use Rattle.affc_certvalue.specs.fold.declared.fold.CertLeast.{CertLeast}
-use Rattle.affc_certvalue.specs.fold.declared.fold.CertModulus.{CertModulus}
+use Rattle.affc_certvalue.specs.declared.fold.fold.CertLeast.{CertLeast}
+use Rattle.affc_certvalue.specs.declared.fold.fold.CertModulus.{CertModulus}
 use Rattle.affc_certvalue.proofs.Unique.{list_of_same, whole_same, numbers_same, form_same, natural_same, member_same, members_same, object_same}
 use Rattle.affc_certvalue.specs.Values.{numbers_value}
 use Rattle.std.proofs.Common.{◌≡◌, ℕ, ℤ, List, Option, Some, None, refl, ap, ap₂}

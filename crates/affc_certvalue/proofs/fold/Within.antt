@@ -3,9 +3,9 @@ use Rattle.affc_certvalue.specs.fold.Entries.{FoldEntry}
 use Rattle.affc_certvalue.specs.fold.Folds.{matrix, nullable, is_null_there, alike, witness, modulus, same_number, this_number, fold}
 use Rattle.affc_certvalue.specs.fold.Limits.{IsPairWithin, IsLeastWithin, IsMarkWithin, IsModulusWithin, IsRowWithin, IsMatrixWithin, IsFoldWithin}
 use Rattle.affc_certvalue.specs.fold.Values.{matrix_value, clash_value, point_value, least_value, modulus_value, moduli_value, fold_value}
-use Rattle.affc_certvalue.specs.fold.declared.fold.CertLeast.{CertLeast}
-use Rattle.affc_certvalue.specs.fold.declared.fold.CertModulus.{CertModulus}
-use Rattle.affc_certvalue.specs.fold.declared.layout.Temporary.{Temporary}
+use Rattle.affc_certvalue.specs.declared.fold.fold.CertLeast.{CertLeast}
+use Rattle.affc_certvalue.specs.declared.fold.fold.CertModulus.{CertModulus}
+use Rattle.affc_certvalue.specs.declared.fold.layout.Temporary.{Temporary}
 use Rattle.affc_certvalue.proofs.Within.{both_are, both_fine, small_fine, small_is, word_fine, word_is, list_fine, list_is, many_fine, many_are, over_fine, over_is}
 use Rattle.affc_certvalue.specs.Limits.{IsWord}
 use Rattle.affc_certvalue.specs.Values.{whole_value, numbers_value, form_value}

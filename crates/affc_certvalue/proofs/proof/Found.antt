@@ -3,7 +3,7 @@ use Rattle.affc_certvalue.specs.proof.Proofs.{steps_of}
 use Rattle.affc_certvalue.specs.proof.Stacks.{stack_nodes}
 use Rattle.affc_certvalue.specs.proof.Values.{pair_value, multipliers_value, leaf_node, cut_node, split_node, nodes_of}
 use Rattle.affc_certvalue.specs.proof.Verdicts.{kind_of, kind_of_tag}
-use Rattle.affc_certvalue.specs.proof.declared.kind.Kind.TheVariants as Kind
+use Rattle.affc_certvalue.specs.declared.proof.kind.Kind.TheVariants as Kind
 use Rattle.affc_certvalue.proofs.Found.{is_list}
 use Rattle.affc_certvalue.specs.Values.{whole_value, list_value, numbers_value, form_value}
 use Rattle.affc_farkas.specs.declared.proof.Proof.{Proof}

@@ -2,7 +2,7 @@
 use Rattle.affc_certvalue.specs.proof.Proofs.{Steps, Refuted, Cut, Split}
 use Rattle.affc_certvalue.specs.proof.Values.{pair_value, multipliers_value, nodes_of, proof_value}
 use Rattle.affc_certvalue.specs.proof.Verdicts.{kind_of}
-use Rattle.affc_certvalue.specs.proof.declared.kind.Kind.{Kind}
+use Rattle.affc_certvalue.specs.declared.proof.kind.Kind.{Kind}
 use Rattle.affc_certvalue.proofs.Unique.{head_same, tail_same, list_same, list_of_same, whole_same, numbers_same, form_same, natural_same, two_same, three_same, four_same}
 use Rattle.affc_certvalue.specs.Values.{whole_value}
 use Rattle.serde_json.specs.Data.{Data, Items}

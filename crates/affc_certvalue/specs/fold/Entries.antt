@@ -1,6 +1,6 @@
 -- What a fold says: its numbers, without a basis.
-use Rattle.affc_certvalue.specs.fold.declared.fold.CertFold.{CertFold}
-use Rattle.affc_certvalue.specs.fold.declared.fold.CertModulus.{CertModulus}
+use Rattle.affc_certvalue.specs.declared.fold.fold.CertFold.{CertFold}
+use Rattle.affc_certvalue.specs.declared.fold.fold.CertModulus.{CertModulus}
 use Rattle.affc_rows.specs.Forms.{Affine}
 use Rattle.std.specs.Prelude.{ℕ, ℤ, List, map}
 

@@ -1,5 +1,5 @@
 -- What is wrong with a value that stands for a fold.
-use Rattle.affc_certvalue.specs.fold.declared.layout.Temporary.{Temporary}
+use Rattle.affc_certvalue.specs.declared.fold.layout.Temporary.{Temporary}
 use Rattle.affc_certvalue.specs.Verdicts.{any_number, within, all_of, list, many, form_over, members, worse}
 use Rattle.affc_certvalue.specs.declared.verdict.Verdict.{Verdict}
 use Rattle.affc_certvalue.specs.declared.verdict.Verdict.TheVariants.{Shape, Number, Fine}

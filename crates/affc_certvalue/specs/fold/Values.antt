@@ -1,7 +1,7 @@
 -- The JSON value of a fold.
 use Rattle.affc_certvalue.specs.fold.Entries.{FoldEntry}
-use Rattle.affc_certvalue.specs.fold.declared.fold.CertLeast.{CertLeast}
-use Rattle.affc_certvalue.specs.fold.declared.fold.CertModulus.{CertModulus}
+use Rattle.affc_certvalue.specs.declared.fold.fold.CertLeast.{CertLeast}
+use Rattle.affc_certvalue.specs.declared.fold.fold.CertModulus.{CertModulus}
 use Rattle.affc_certvalue.specs.Values.{list_of, whole_value, numbers_value, form_value}
 use Rattle.serde_json.specs.Data.{Data, null, array, object, no_members, member}
 use Rattle.std.specs.Prelude.{ℤ, pos, List, Option, Some, None, codes}

@@ -1,6 +1,6 @@
 -- What is wrong with a value that stands for a proof.
-use Rattle.affc_certvalue.specs.proof.declared.kind.Kind.{Kind}
-use Rattle.affc_certvalue.specs.proof.declared.kind.Kind.TheVariants.{Leaf, Cut, Split, Other}
+use Rattle.affc_certvalue.specs.declared.proof.kind.Kind.{Kind}
+use Rattle.affc_certvalue.specs.declared.proof.kind.Kind.TheVariants.{Leaf, Cut, Split, Other}
 use Rattle.affc_certvalue.specs.Verdicts.{worse, whole, within, any_number, all_of, list, exactly, form_entries, behind_tag}
 use Rattle.affc_certvalue.specs.declared.verdict.Verdict.{Verdict}
 use Rattle.affc_certvalue.specs.declared.verdict.Verdict.TheVariants.{Shape, Fine}

@@ -33,8 +33,8 @@ use Rattle.affc_life.specs.Products.{systems_in}
 use Rattle.affc_life.specs.declared.clash.ClashProduct.{ClashProduct}
 use Rattle.affc_life.specs.Sizes.{AnyLarge}
 use Rattle.affc_certvalue.specs.fold.Limits.{IsMarkWithin}
-use Rattle.affc_certvalue.specs.fold.declared.fold.CertFold.{CertFold}
-use Rattle.affc_certvalue.specs.fold.declared.fold.CertModulus.{CertModulus}
+use Rattle.affc_certvalue.specs.declared.fold.fold.CertFold.{CertFold}
+use Rattle.affc_certvalue.specs.declared.fold.fold.CertModulus.{CertModulus}
 use Rattle.affc_questions.specs.Asked.{IsAlong, AreElements}
 use Rattle.affc_check.specs.list.Certs.{modulus_said, IsFoldSaid}
 use Rattle.affc_check.specs.list.Items.{Item, Question, Shown, LeastShown, ModulusShown, FoldShown, numbered, pair_in, pair_item, mark_items, row_items, rows_items, fold_items}

@@ -16,7 +16,7 @@ use Rattle.affc_flow.specs.Questions.{flow_questions}
 use Rattle.affc_life.specs.Clashes.{clash_of, clashes}
 use Rattle.affc_life.specs.Sizes.{AnyLarge}
 use Rattle.affc_cert.specs.declared.cert.Cert.{Cert}
-use Rattle.affc_certvalue.specs.fold.declared.fold.CertFold.{CertFold}
+use Rattle.affc_certvalue.specs.declared.fold.fold.CertFold.{CertFold}
 use Rattle.affc_check.specs.list.Certs.{AreFoldsSaid, AreItems, IsCertWithin, IsFoldSaid}
 use Rattle.affc_check.specs.list.Held.{context_item, flow_item, legality_item}
 use Rattle.affc_check.specs.list.Items.{Item, Question, fold_items}

@@ -14,9 +14,9 @@ use Rattle.affc_life.specs.Asked.{KeepLimits}
 use Rattle.affc_life.specs.Clashes.{clash_of, clashes}
 use Rattle.affc_cert.specs.declared.cert.Cert.{Cert}
 use Rattle.affc_certvalue.specs.fold.Limits.{IsMarkWithin}
-use Rattle.affc_certvalue.specs.fold.declared.fold.CertFold.{CertFold}
-use Rattle.affc_certvalue.specs.fold.declared.fold.CertLeast.{CertLeast}
-use Rattle.affc_certvalue.specs.fold.declared.fold.CertModulus.{CertModulus}
+use Rattle.affc_certvalue.specs.declared.fold.fold.CertFold.{CertFold}
+use Rattle.affc_certvalue.specs.declared.fold.fold.CertLeast.{CertLeast}
+use Rattle.affc_certvalue.specs.declared.fold.fold.CertModulus.{CertModulus}
 use Rattle.affc_check.specs.list.Items.{Item, LeastShown, ModulusShown, FoldShown, fold_items, items}
 
 -- ---- What it says

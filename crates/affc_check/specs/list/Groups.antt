@@ -11,7 +11,7 @@ use Rattle.affc_products.specs.declared.group.Group.{Group}
 use Rattle.affc_check.specs.list.Items.{Item, Question}
 use Rattle.affc_check.specs.list.Held.{legality_item}
 use Rattle.affc_check.specs.list.Passes.{items_by_tree}
-use Rattle.affc_check.specs.list.declared.item.Groups.{Groups}
+use Rattle.affc_check.specs.declared.list.item.Groups.{Groups}
 
 -- the items of the groups of a part
 abbrev pub part_items : List Group → List Item

@@ -7,11 +7,11 @@ use Rattle.affc_sched.specs.Questions as sched
 use Rattle.affc_flow.specs.Questions as flow
 use Rattle.affc_products.specs.Blocks.{block_questions}
 use Rattle.affc_check.specs.list.Items as said
-use Rattle.affc_check.specs.list.declared.item.Item.{Item}
-use Rattle.affc_check.specs.list.declared.item.Item.TheVariants.{Question, Shown}
-use Rattle.affc_check.specs.list.declared.item.Listed.{Listed}
-use Rattle.affc_check.specs.list.declared.item.Listed.TheVariants.{One, Questions}
-use Rattle.affc_check.specs.list.declared.item.Point.{Point}
+use Rattle.affc_check.specs.declared.list.item.Item.{Item}
+use Rattle.affc_check.specs.declared.list.item.Item.TheVariants.{Question, Shown}
+use Rattle.affc_check.specs.declared.list.item.Listed.{Listed}
+use Rattle.affc_check.specs.declared.list.item.Listed.TheVariants.{One, Questions}
+use Rattle.affc_check.specs.declared.list.item.Point.{Point}
 
 abbrev pub point_item : Point → said.Item
 point_item x = said.Shown x.system x.point

@@ -12,7 +12,7 @@ use Rattle.affc_flow.specs.Questions.{questions_of_load}
 use Rattle.affc_life.specs.Clashes.{clashes}
 use Rattle.affc_life.specs.Sizes.{AnyLarge}
 use Rattle.affc_cert.specs.declared.cert.Cert.{Cert}
-use Rattle.affc_certvalue.specs.fold.declared.fold.CertFold.{CertFold}
+use Rattle.affc_certvalue.specs.declared.fold.fold.CertFold.{CertFold}
 use Rattle.affc_check.specs.list.Certs.{IsFoldSaid}
 use Rattle.affc_check.specs.list.Items.{Item, Question, FoldShown, fold_items}
 use Rattle.affc_check.specs.list.Limits.{AnyPasses, IsFirst, HoldsOfNone}

@@ -1,9 +1,9 @@
 -- Why the items of a part aren't listed.
 use Rattle.std.specs.Prelude.{ℕ}
-use Rattle.affc_check.specs.list.declared.stop.PartStop.{PartStop}
-use Rattle.affc_check.specs.list.declared.stop.PartStop.TheVariants as of_parts
-use Rattle.affc_check.specs.list.declared.stop.Stop.{Stop}
-use Rattle.affc_check.specs.list.declared.stop.Stop.TheVariants.{Past, Memory}
+use Rattle.affc_check.specs.declared.list.stop.PartStop.{PartStop}
+use Rattle.affc_check.specs.declared.list.stop.PartStop.TheVariants as of_parts
+use Rattle.affc_check.specs.declared.list.stop.Stop.{Stop}
+use Rattle.affc_check.specs.declared.list.stop.Stop.TheVariants.{Past, Memory}
 
 -- of the part with this number
 abbrev pub part_stop : Stop → ℕ → PartStop

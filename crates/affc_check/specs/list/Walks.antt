@@ -19,8 +19,8 @@ use Rattle.affc_life.specs.declared.clash.ClashProduct.{ClashProduct}
 use Rattle.affc_life.specs.Sizes.{AnyLarge}
 use Rattle.affc_cert.specs.declared.cert.Cert.{Cert}
 use Rattle.affc_certvalue.specs.fold.Limits.{IsMarkWithin}
-use Rattle.affc_certvalue.specs.fold.declared.fold.CertFold.{CertFold}
-use Rattle.affc_certvalue.specs.fold.declared.fold.CertModulus.{CertModulus}
+use Rattle.affc_certvalue.specs.declared.fold.fold.CertFold.{CertFold}
+use Rattle.affc_certvalue.specs.declared.fold.fold.CertModulus.{CertModulus}
 use Rattle.affc_questions.specs.Asked.{IsAlong}
 use Rattle.affc_check.specs.list.Certs.{modulus_said, IsFoldSaid, AreFoldsSaid, IsFoldFor, IsFoldWithin}
 use Rattle.affc_check.specs.list.Held.{flow_item}

@@ -16,7 +16,7 @@ pub enum Stop {
 
 impl From<AllocError> for Stop {
     ghost use Rattle.std.specs.Prelude.{◌≡◌};
-    ghost use Rattle.affc_check.specs.list.declared.stop.Stop.TheVariants.{Memory};
+    ghost use Rattle.affc_check.specs.declared.list.stop.Stop.TheVariants.{Memory};
 
     ghost from_gives = { λ e stop. stop ≡ Memory };
 
@@ -37,7 +37,7 @@ pub enum PartStop {
 
 impl From<AllocError> for PartStop {
     ghost use Rattle.std.specs.Prelude.{◌≡◌};
-    ghost use Rattle.affc_check.specs.list.declared.stop.PartStop.TheVariants.{Memory};
+    ghost use Rattle.affc_check.specs.declared.list.stop.PartStop.TheVariants.{Memory};
 
     ghost from_gives = { λ e stop. stop ≡ Memory };
 

@@ -23,7 +23,7 @@ use Rattle.affc_loopends.specs.TimeRows.{system_of}
 use Rattle.affc_loopends.specs.TimeSets.{timed_in}
 use Rattle.affc_loopends.specs.Whys.{AreBoundsFrom}
 use Rattle.affc_loopends.proofs.Extended.{system_wide}
-use Rattle.affc_loopends.specs.scanned.declared.scanned.Scanned.{Scanned}
+use Rattle.affc_loopends.specs.declared.scanned.scanned.Scanned.{Scanned}
 use Rattle.affc_loopends.specs.scanned.Scanned.{loose_from, AreBounds, AreBoundsOfEach, all_loose, all_sides, Scans}
 use Rattle.affc_loopends.proofs.scanned.Rows.{is_own}
 use Rattle.affc_loopends.specs.bounding.Laws.{ProgramsScan}

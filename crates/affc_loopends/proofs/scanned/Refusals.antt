@@ -34,7 +34,7 @@ use Rattle.affc_loopends.specs.Examples as ends
 use Rattle.affc_loopends.specs.TimeRows.{system_of}
 use Rattle.affc_loopends.specs.TimeSets.{IsShaped, IsTimePoint, ExtendsToTimePoint}
 use Rattle.affc_loopends.proofs.Extended.{ends_hold, turns_extend}
-use Rattle.affc_loopends.specs.scanned.declared.scanned.Scanned.{Scanned}
+use Rattle.affc_loopends.specs.declared.scanned.scanned.Scanned.{Scanned}
 use Rattle.affc_loopends.specs.scanned.Examples.{nine, loop_between, NoRowIsLeftOut, NoRowsWhereLoose, ItsOwnOrder}
 use Rattle.affc_loopends.specs.scanned.Scanned.{sides_of, AreBoundsOfEach, IsBetween, all_loose, all_sides}
 use Rattle.affc_loopends.proofs.scanned.ExampleProofs.{its_piece, its_ranges, pieces_are}

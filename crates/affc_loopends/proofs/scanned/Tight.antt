@@ -19,7 +19,7 @@ use Rattle.affc_loopends.specs.TimeSets.{ExtendsToTimePoint, timed_in}
 use Rattle.affc_loopends.specs.Whys.{AreBetween}
 use Rattle.affc_loopends.proofs.Extended as ends
 use Rattle.affc_loopends.proofs.Statements.{bounds_are_ends}
-use Rattle.affc_loopends.specs.scanned.declared.scanned.Loose.{Loose}
+use Rattle.affc_loopends.specs.declared.scanned.scanned.Loose.{Loose}
 use Rattle.affc_loopends.specs.scanned.Laws.{TurnsExtend}
 use Rattle.affc_loopends.specs.scanned.Scanned.{sides_of, loose_from, AreBoundsOfEach, IsBetween, all_loose, all_sides}
 use Rattle.affc_loopends.proofs.scanned.Rows.{params, ranges, sides_from, its_shape, numbers_long, bounds_at}

@@ -10,7 +10,7 @@ use Rattle.affc_trace.specs.declared.schedule.Schedule.{Schedule}
 use Rattle.affc_loops.specs.Laws.{HasLoops}
 use Rattle.affc_loopends.specs.declared.bounds.Bounds.{Bounds}
 use Rattle.affc_loopends.specs.Whys.{IsBounds}
-use Rattle.affc_loopends.specs.scanned.declared.scanned.Scanned.{Scanned}
+use Rattle.affc_loopends.specs.declared.scanned.scanned.Scanned.{Scanned}
 use Rattle.affc_loopends.specs.scanned.Scanned.{Scans}
 
 -- Fourier and Motzkin's elimination ends with rows, or comes to a limit. (Of more rows than a `Vec` can hold all may be needed.)

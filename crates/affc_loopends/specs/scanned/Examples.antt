@@ -16,7 +16,7 @@ use Rattle.affc_loops.specs.Loops.{Piece}
 use Rattle.affc_loopends.specs.declared.bounds.Bounds.TheVariants.{Between, Loose as Without}
 use Rattle.affc_loopends.specs.declared.bounds.Why.{Why}
 use Rattle.affc_loopends.specs.Examples.{from, up_to}
-use Rattle.affc_loopends.specs.scanned.declared.scanned.Loose.{Loose}
+use Rattle.affc_loopends.specs.declared.scanned.scanned.Loose.{Loose}
 use Rattle.affc_loopends.specs.scanned.Scanned.{sides_of, all_loose, Scans}
 
 -- for N from 1 to 9: for (i = 0; i < N; i++) out[i] = in[i];

@@ -16,7 +16,7 @@ use Rattle.affc_loops.specs.Between.{program_between, IsTurn, HoldTimes}
 use Rattle.affc_loops.specs.Laws.{HasLoops, HaveSameLoops}
 use Rattle.affc_loops.specs.Loops.{Piece, pieces}
 use Rattle.affc_loopends.specs.TimeSets.{ExtendsToTimePoint, timed_in}
-use Rattle.affc_loopends.specs.scanned.declared.scanned.Scanned.{Scanned}
+use Rattle.affc_loopends.specs.declared.scanned.scanned.Scanned.{Scanned}
 use Rattle.affc_loopends.specs.scanned.Scanned.{Scans}
 
 -- the same loops and conditions round the statements, the same ranges of the parameters, and the same context

@@ -15,8 +15,8 @@ use Rattle.affc_loopends.specs.declared.bounds.Bounds.TheVariants.{Between, Loos
 use Rattle.affc_loopends.specs.TimeRows.{system_of}
 use Rattle.affc_loopends.specs.TimeSets.{timed_in}
 use Rattle.affc_loopends.specs.Whys.{AreBoundsFrom}
-use Rattle.affc_loopends.specs.scanned.declared.scanned.Loose.{Loose}
-use Rattle.affc_loopends.specs.scanned.declared.scanned.Scanned.{Scanned}
+use Rattle.affc_loopends.specs.declared.scanned.scanned.Loose.{Loose}
+use Rattle.affc_loopends.specs.declared.scanned.scanned.Scanned.{Scanned}
 
 -- ---- One statement
 

@@ -2,23 +2,23 @@
 use Rattle.std.proofs.Common.{◌≡◌, ℕ, ◌∷◌, map, refl, sym, ap, ◌∙◌, List}
 use denote.Hole.Carrier.{out, shown}
 use Rattle.affc_grammar.specs.Draft as d
-use Rattle.affc_syntax.specs.draft.declared.draft.IxDraft.{IxDraft, out-IxDraft, map-IxDraft, the_lemmas as ix_lemmas}
-use Rattle.affc_syntax.specs.draft.declared.draft.IxDraft.TheVariants as c
-use Rattle.affc_syntax.specs.draft.declared.draft.IxDraft.TheBlock.{more_of-IxDraft, end_of-IxDraft, shown-the_row-IxDraft-0}
-use Rattle.affc_syntax.specs.draft.declared.draft.IxDraft.TheOpen.{IxDraft-F}
-use Rattle.affc_syntax.specs.draft.declared.draft.Choice.{Choice}
-use Rattle.affc_syntax.specs.draft.declared.draft.Rounding.{Rounding}
-use Rattle.affc_syntax.specs.draft.declared.draft.ValueDraft.{ValueDraft, out-ValueDraft, map-ValueDraft, the_lemmas as value_lemmas}
-use Rattle.affc_syntax.specs.draft.declared.draft.ValueDraft.TheVariants as v
-use Rattle.affc_syntax.specs.draft.declared.draft.ValueDraft.TheBlock.{more_of-ValueDraft, end_of-ValueDraft, shown-the_row-ValueDraft-0}
-use Rattle.affc_syntax.specs.draft.declared.draft.StmtDraft.{StmtDraft, out-StmtDraft, map-StmtDraft, the_lemmas as stmt_lemmas}
-use Rattle.affc_syntax.specs.draft.declared.draft.StmtDraft.TheVariants as s
-use Rattle.affc_syntax.specs.draft.declared.draft.StmtDraft.TheOpen as layer_s
-use Rattle.affc_syntax.specs.draft.declared.draft.StmtDraft.TheOpen.{StmtDraft-F}
-use Rattle.affc_syntax.specs.draft.declared.draft.HeadDraft.{HeadDraft}
-use Rattle.affc_syntax.specs.draft.declared.draft.CompareDraft.{CompareDraft}
-use Rattle.affc_syntax.specs.draft.declared.draft.LocalDraft.{LocalDraft}
-use Rattle.affc_syntax.specs.draft.declared.draft.StmtDraft.TheBlock.{Row_of-StmtDraft, more_of-StmtDraft, end_of-StmtDraft, items-the_row-StmtDraft, items_shown-the_row-StmtDraft-0}
+use Rattle.affc_syntax.specs.declared.draft.draft.IxDraft.{IxDraft, out-IxDraft, map-IxDraft, the_lemmas as ix_lemmas}
+use Rattle.affc_syntax.specs.declared.draft.draft.IxDraft.TheVariants as c
+use Rattle.affc_syntax.specs.declared.draft.draft.IxDraft.TheBlock.{more_of-IxDraft, end_of-IxDraft, shown-the_row-IxDraft-0}
+use Rattle.affc_syntax.specs.declared.draft.draft.IxDraft.TheOpen.{IxDraft-F}
+use Rattle.affc_syntax.specs.declared.draft.draft.Choice.{Choice}
+use Rattle.affc_syntax.specs.declared.draft.draft.Rounding.{Rounding}
+use Rattle.affc_syntax.specs.declared.draft.draft.ValueDraft.{ValueDraft, out-ValueDraft, map-ValueDraft, the_lemmas as value_lemmas}
+use Rattle.affc_syntax.specs.declared.draft.draft.ValueDraft.TheVariants as v
+use Rattle.affc_syntax.specs.declared.draft.draft.ValueDraft.TheBlock.{more_of-ValueDraft, end_of-ValueDraft, shown-the_row-ValueDraft-0}
+use Rattle.affc_syntax.specs.declared.draft.draft.StmtDraft.{StmtDraft, out-StmtDraft, map-StmtDraft, the_lemmas as stmt_lemmas}
+use Rattle.affc_syntax.specs.declared.draft.draft.StmtDraft.TheVariants as s
+use Rattle.affc_syntax.specs.declared.draft.draft.StmtDraft.TheOpen as layer_s
+use Rattle.affc_syntax.specs.declared.draft.draft.StmtDraft.TheOpen.{StmtDraft-F}
+use Rattle.affc_syntax.specs.declared.draft.draft.HeadDraft.{HeadDraft}
+use Rattle.affc_syntax.specs.declared.draft.draft.CompareDraft.{CompareDraft}
+use Rattle.affc_syntax.specs.declared.draft.draft.LocalDraft.{LocalDraft}
+use Rattle.affc_syntax.specs.declared.draft.draft.StmtDraft.TheBlock.{Row_of-StmtDraft, more_of-StmtDraft, end_of-StmtDraft, items-the_row-StmtDraft, items_shown-the_row-StmtDraft-0}
 use Rattle.affc_syntax.specs.draft.Drafts.{ix, ix_node, choice, rounding, value, value_node, stmt, each_stmt, stmt_node, head, compare, local, stmts_of}
 
 pub ix_out : (e : IxDraft) → ix e ≡ ix_node (map-IxDraft IxDraft d.IxDraft ix (out-IxDraft e))

@@ -2,35 +2,35 @@
 use Rattle.std.specs.Prelude.{ℕ, List, [], ◌∷◌, map}
 use Rattle.affc_grammar.specs.Grammar as g
 use Rattle.affc_grammar.specs.Draft as d
-use Rattle.affc_syntax.specs.draft.declared.draft.Choice.{Choice}
-use Rattle.affc_syntax.specs.draft.declared.draft.Choice.TheVariants.{Minimum, Maximum, Remainder}
-use Rattle.affc_syntax.specs.draft.declared.draft.Rounding.{Rounding}
-use Rattle.affc_syntax.specs.draft.declared.draft.Rounding.TheVariants.{Down, Up}
-use Rattle.affc_syntax.specs.draft.declared.draft.IxDraft.{IxDraft}
-use Rattle.affc_syntax.specs.draft.declared.draft.IxDraft.TheVariants as c
-use Rattle.affc_syntax.specs.draft.declared.draft.IxDraft.TheBlock.{more_of-IxDraft, end_of-IxDraft}
-use Rattle.affc_syntax.specs.draft.declared.draft.IxDraft.TheOpen as layer
-use Rattle.affc_syntax.specs.draft.declared.draft.IxDraft.TheOpen.{IxDraft-F}
-use Rattle.affc_syntax.specs.draft.declared.draft.CompareDraft.{CompareDraft}
-use Rattle.affc_syntax.specs.draft.declared.draft.ValueDraft.{ValueDraft}
-use Rattle.affc_syntax.specs.draft.declared.draft.ValueDraft.TheVariants as v
-use Rattle.affc_syntax.specs.draft.declared.draft.ValueDraft.TheBlock.{more_of-ValueDraft, end_of-ValueDraft}
-use Rattle.affc_syntax.specs.draft.declared.draft.ValueDraft.TheOpen as layer_v
-use Rattle.affc_syntax.specs.draft.declared.draft.ValueDraft.TheOpen.{ValueDraft-F}
-use Rattle.affc_syntax.specs.draft.declared.draft.WordDraft.{WordDraft}
-use Rattle.affc_syntax.specs.draft.declared.draft.LocalDraft.{LocalDraft}
-use Rattle.affc_syntax.specs.draft.declared.draft.HeadDraft.{HeadDraft}
-use Rattle.affc_syntax.specs.draft.declared.draft.StmtDraft.{StmtDraft}
-use Rattle.affc_syntax.specs.draft.declared.draft.StmtDraft.TheVariants as s
-use Rattle.affc_syntax.specs.draft.declared.draft.StmtDraft.TheBlock.{Row_of-StmtDraft, more_of-StmtDraft, end_of-StmtDraft}
-use Rattle.affc_syntax.specs.draft.declared.draft.StmtDraft.TheOpen as layer_s
-use Rattle.affc_syntax.specs.draft.declared.draft.StmtDraft.TheOpen.{StmtDraft-F}
-use Rattle.affc_syntax.specs.draft.declared.draft.DeclDraft.{DeclDraft}
-use Rattle.affc_syntax.specs.draft.declared.draft.ParamDraft.{ParamDraft}
-use Rattle.affc_syntax.specs.draft.declared.draft.ParamDraft.TheVariants.{Number, Array}
-use Rattle.affc_syntax.specs.draft.declared.draft.PragmaDraft.{PragmaDraft}
-use Rattle.affc_syntax.specs.draft.declared.draft.PragmaDraft.TheVariants.{Range, Context}
-use Rattle.affc_syntax.specs.draft.declared.draft.TextDraft.{TextDraft}
+use Rattle.affc_syntax.specs.declared.draft.draft.Choice.{Choice}
+use Rattle.affc_syntax.specs.declared.draft.draft.Choice.TheVariants.{Minimum, Maximum, Remainder}
+use Rattle.affc_syntax.specs.declared.draft.draft.Rounding.{Rounding}
+use Rattle.affc_syntax.specs.declared.draft.draft.Rounding.TheVariants.{Down, Up}
+use Rattle.affc_syntax.specs.declared.draft.draft.IxDraft.{IxDraft}
+use Rattle.affc_syntax.specs.declared.draft.draft.IxDraft.TheVariants as c
+use Rattle.affc_syntax.specs.declared.draft.draft.IxDraft.TheBlock.{more_of-IxDraft, end_of-IxDraft}
+use Rattle.affc_syntax.specs.declared.draft.draft.IxDraft.TheOpen as layer
+use Rattle.affc_syntax.specs.declared.draft.draft.IxDraft.TheOpen.{IxDraft-F}
+use Rattle.affc_syntax.specs.declared.draft.draft.CompareDraft.{CompareDraft}
+use Rattle.affc_syntax.specs.declared.draft.draft.ValueDraft.{ValueDraft}
+use Rattle.affc_syntax.specs.declared.draft.draft.ValueDraft.TheVariants as v
+use Rattle.affc_syntax.specs.declared.draft.draft.ValueDraft.TheBlock.{more_of-ValueDraft, end_of-ValueDraft}
+use Rattle.affc_syntax.specs.declared.draft.draft.ValueDraft.TheOpen as layer_v
+use Rattle.affc_syntax.specs.declared.draft.draft.ValueDraft.TheOpen.{ValueDraft-F}
+use Rattle.affc_syntax.specs.declared.draft.draft.WordDraft.{WordDraft}
+use Rattle.affc_syntax.specs.declared.draft.draft.LocalDraft.{LocalDraft}
+use Rattle.affc_syntax.specs.declared.draft.draft.HeadDraft.{HeadDraft}
+use Rattle.affc_syntax.specs.declared.draft.draft.StmtDraft.{StmtDraft}
+use Rattle.affc_syntax.specs.declared.draft.draft.StmtDraft.TheVariants as s
+use Rattle.affc_syntax.specs.declared.draft.draft.StmtDraft.TheBlock.{Row_of-StmtDraft, more_of-StmtDraft, end_of-StmtDraft}
+use Rattle.affc_syntax.specs.declared.draft.draft.StmtDraft.TheOpen as layer_s
+use Rattle.affc_syntax.specs.declared.draft.draft.StmtDraft.TheOpen.{StmtDraft-F}
+use Rattle.affc_syntax.specs.declared.draft.draft.DeclDraft.{DeclDraft}
+use Rattle.affc_syntax.specs.declared.draft.draft.ParamDraft.{ParamDraft}
+use Rattle.affc_syntax.specs.declared.draft.draft.ParamDraft.TheVariants.{Number, Array}
+use Rattle.affc_syntax.specs.declared.draft.draft.PragmaDraft.{PragmaDraft}
+use Rattle.affc_syntax.specs.declared.draft.draft.PragmaDraft.TheVariants.{Range, Context}
+use Rattle.affc_syntax.specs.declared.draft.draft.TextDraft.{TextDraft}
 
 abbrev pub choice : Choice → g.Choice
 choice Minimum = g.minimum

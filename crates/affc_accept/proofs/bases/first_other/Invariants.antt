@@ -1,6 +1,6 @@
 use Rattle.std.proofs.Common.{◌≡◌, ℕ, ◌<◌, true, Some}
 use Rattle.std.specs.Prelude.{slice_get}
-use Rattle.affc_certvalue.specs.fold.declared.fold.CertFold.{CertFold}
+use Rattle.affc_certvalue.specs.declared.fold.fold.CertFold.{CertFold}
 use Rattle.affc_accept.specs.Same.{keeps_basis}
 use Rattle.affc_accept.proofs.bases.first_other.Given as goal
 

@@ -1,6 +1,6 @@
 use Rattle.std.proofs.Common.{◌≡◌, ◌≤◌, ◌-◌}
 use Rattle.affc_grammar.specs.Limits.{loads_in}
-use Rattle.affc_syntax.specs.draft.declared.draft.ValueDraft.{size-ValueDraft}
+use Rattle.affc_syntax.specs.declared.draft.draft.ValueDraft.{size-ValueDraft}
 use Rattle.affc_syntax.specs.draft.Drafts.{value}
 use Rattle.affc_limits.proofs.assignments.+room_behind.Given as goal
 

@@ -1,6 +1,6 @@
 use Rattle.std.proofs.Common.{◌≡◌, ◌≤◌}
 use Rattle.affc_grammar.specs.Limits.{literals_past}
-use Rattle.affc_syntax.specs.draft.declared.draft.IxDraft.{size-IxDraft}
+use Rattle.affc_syntax.specs.declared.draft.draft.IxDraft.{size-IxDraft}
 use Rattle.affc_syntax.specs.draft.Drafts.{ix}
 use Rattle.affc_limits.specs.Places.{least, lesser}
 use Rattle.affc_limits.proofs.forms.+literal_past.Given as goal

@@ -1,6 +1,6 @@
 use Rattle.std.proofs.Common.{◌≡◌, ◌≤◌}
 use Rattle.affc_grammar.specs.Limits.{value_texts}
-use Rattle.affc_syntax.specs.draft.declared.draft.ValueDraft.{size-ValueDraft}
+use Rattle.affc_syntax.specs.declared.draft.draft.ValueDraft.{size-ValueDraft}
 use Rattle.affc_syntax.specs.draft.Drafts.{value}
 use Rattle.affc_limits.specs.Texts.{pick, with_found}
 use Rattle.affc_limits.proofs.texts.+in_value.Given as goal

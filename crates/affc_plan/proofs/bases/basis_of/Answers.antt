@@ -1,5 +1,5 @@
 use Rattle.std.proofs.Common.{map, ap, ◌∙◌}
-use Rattle.affc_syntax.specs.draft.declared.draft.IxDraft.{IxDraft}
+use Rattle.affc_syntax.specs.declared.draft.draft.IxDraft.{IxDraft}
 use Rattle.affc_syntax.specs.draft.Drafts.{ix}
 use Rattle.affc_schedtext.specs.Rules.{form_over, fold_sides}
 use Rattle.affc_schedtext.specs.Seen.{line_seen}

@@ -2,7 +2,7 @@ use Rattle.std.proofs.Common.{◌≤◌, length, map, sym, ap, ◌∙◌, subst,
 use Rattle.std.specs.Prelude.{List, IfNone}
 use Rattle.affc_rows.specs.Forms.{columns_of}
 use Rattle.affc_trace.specs.Inverses.{AreInverse}
-use Rattle.affc_syntax.specs.draft.declared.draft.IxDraft.{IxDraft}
+use Rattle.affc_syntax.specs.declared.draft.draft.IxDraft.{IxDraft}
 use Rattle.affc_syntax.specs.draft.Drafts.{ix}
 use Rattle.affc_schedtext.specs.Rules.{form_over, statement_sides}
 use Rattle.affc_schedtext.specs.Seen.{line_seen}

@@ -1,6 +1,6 @@
 use Rattle.std.proofs.Common.{◌≡◌, ◌++◌, ◌∷◌, [], length, List, refl, sym, subst}
 use Rattle.affc_trace.proofs.LastStores.{append_nil}
-use Rattle.affc_loopends.specs.scanned.declared.scanned.Loose.{Loose}
+use Rattle.affc_loopends.specs.declared.scanned.scanned.Loose.{Loose}
 use Rattle.affc_loopends.specs.scanned.Scanned.{loose_from}
 use Rattle.affc_scan.proofs.Gathering.{last_loose}
 use Rattle.affc_scan.proofs.gathered.+add_loose.Goals as goal

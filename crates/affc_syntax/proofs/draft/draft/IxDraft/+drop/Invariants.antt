@@ -1,5 +1,5 @@
 use Rattle.std.proofs.Common.{◌≤◌}
-use Rattle.affc_syntax.specs.draft.declared.draft.IxDraft.{size-IxDraft}
+use Rattle.affc_syntax.specs.declared.draft.draft.IxDraft.{size-IxDraft}
 use Rattle.affc_syntax.proofs.draft.draft.IxDraft.+drop.Given as goal
 
 abbrev pub decreases-drop : goal.decreases-drop

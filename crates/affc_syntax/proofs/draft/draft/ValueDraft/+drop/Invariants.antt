@@ -1,5 +1,5 @@
 use Rattle.std.proofs.Common.{◌≤◌}
-use Rattle.affc_syntax.specs.draft.declared.draft.ValueDraft.{size-ValueDraft}
+use Rattle.affc_syntax.specs.declared.draft.draft.ValueDraft.{size-ValueDraft}
 use Rattle.affc_syntax.proofs.draft.draft.ValueDraft.+drop.Given as goal
 
 abbrev pub decreases-drop : goal.decreases-drop
