@@ -6,7 +6,7 @@ use affc_wellnamed::well_named;
 use std::alloc::{AllocError, Global};
 use std::test::Fail;
 
-// A function that does nothing, of a number `N` from -1 to this and an array `out` with this extent.
+/// A function that does nothing, of a number `N` from -1 to this and an array `out` with this extent.
 fn idle(alloc: Global, name: &str, high: i64, extent: Ix) -> Result<Program, AllocError> {
     let mut params = Items::new(alloc);
     let number = Text::from_str(alloc, "N")?;
@@ -44,8 +44,8 @@ fn product(alloc: Global, a: Ix, b: Ix) -> Result<Ix, AllocError> {
     Ok(Ix::Mul(left, right))
 }
 
-// `-(-(.. N))`, with so many signs.
-fn negated(alloc: Global, times: u32) -> Result<Ix, AllocError> {
+/// `-(-(.. N))`, with so many signs.
+fn under_signs(alloc: Global, times: u32) -> Result<Ix, AllocError> {
     let mut inner = number();
     for _ in 0..times {
         inner = Ix::Neg(Boxed::new(alloc, inner)?);
@@ -53,42 +53,25 @@ fn negated(alloc: Global, times: u32) -> Result<Ix, AllocError> {
     Ok(inner)
 }
 
-#[test]
-fn a_program_is_well_named(rt: HostRuntime) -> Result<(), Fail> {
-    let alloc = rt.alloc();
-    let program = idle(alloc, "f", 4, number())?;
-    assert!(rt; well_named(&program));
-    Ok(())
+/// Whether such a function is well named.
+fn is_well_named(alloc: Global, name: &str, high: i64, extent: Ix) -> Result<bool, AllocError> {
+    let program = idle(alloc, name, high, extent)?;
+    Ok(well_named(&program))
 }
 
 #[test]
-fn a_reserved_name_is_refused(rt: HostRuntime) -> Result<(), Fail> {
+fn one_for_each_reason(rt: HostRuntime) -> Result<(), Fail> {
     let alloc = rt.alloc();
-    let program = idle(alloc, "static", 4, number())?;
-    assert!(rt; !well_named(&program));
-    Ok(())
-}
-
-#[test]
-fn a_product_of_names_is_refused(rt: HostRuntime) -> Result<(), Fail> {
-    let alloc = rt.alloc();
-    let program = idle(alloc, "f", 4, product(alloc, number(), number())?)?;
-    assert!(rt; !well_named(&program));
-    Ok(())
-}
-
-#[test]
-fn a_range_past_the_limit_is_refused(rt: HostRuntime) -> Result<(), Fail> {
-    let alloc = rt.alloc();
-    let program = idle(alloc, "f", 16777217, number())?;
-    assert!(rt; !well_named(&program));
-    Ok(())
-}
-
-#[test]
-fn brackets_past_the_limit_are_refused(rt: HostRuntime) -> Result<(), Fail> {
-    let alloc = rt.alloc();
-    let program = idle(alloc, "f", 4, negated(alloc, 258)?)?;
-    assert!(rt; !well_named(&program));
+    assert!(rt; is_well_named(alloc, "f", 4, number())?);
+    // a reserved name
+    assert!(rt; !is_well_named(alloc, "static", 4, number())?);
+    // a product of names
+    let square = product(alloc, number(), number())?;
+    assert!(rt; !is_well_named(alloc, "f", 4, square)?);
+    // a range past the limit
+    assert!(rt; !is_well_named(alloc, "f", 16777217, number())?);
+    // brackets past the limit
+    let deep = under_signs(alloc, 258)?;
+    assert!(rt; !is_well_named(alloc, "f", 4, deep)?);
     Ok(())
 }
