@@ -1,16 +1,12 @@
 -- Mixtures of small forms don't pass 2^126.
-use Rattle.std.proofs.Common.{◌≡◌, ℕ, zero, suc, ◌*◌, ◌^◌, ◌<◌, ◌≤◌, ℤ, pos, true, IsTrue, List, [], ◌∷◌, ◌++◌, length, replicate, refl, sym, ap, ◌∙◌, arith, inl, inr}
+use Rattle.std.proofs.Common.{◌≡◌, ℕ, ◌*◌, ◌^◌, ◌<◌, ◌≤◌, ℤ, true, IsTrue, List, [], ◌∷◌, length, sym, ◌∙◌, arith, inl, inr}
 use Rattle.std.specs.Prelude.{unsigned_abs, nat_le, nat_abs}
-use Rattle.std.proofs.Math.ListN.{set}
 use Rattle.std.proofs.Math.Nat.{mul-le-mul_left, mul-le-mul_right}
 use Rattle.std.proofs.lemmas.Bool.{leb-true}
 use Rattle.affc_rows.proofs.ValueLemmas.{length-mixed}
 use Rattle.affc_rows.specs.Forms.{Affine, mixed_form, TooWide, mixed_magnitudes, mixed_form_magnitudes, entry_magnitude}
 use Rattle.affc_domain.proofs.Lists.{both_true}
-use Rattle.std.proofs.lemmas.List.{drop_all, take_all}
-use Rattle.std.specs.List.{refill}
-use Rattle.std.proofs.Common.{append-nil, take}
-use Rattle.affc_domain.specs.Affine.{unit_of, are_small, is_small}
+use Rattle.affc_domain.specs.Affine.{are_small, is_small}
 
 product_below : (a b : ℕ) → a ≤ 2 ^ 24 → b ≤ 2 ^ 24 → a * b ≤ 2 ^ 48
 product_below a b h k =
@@ -59,22 +55,5 @@ constant_small f u =
     let x : unsigned_abs f.constant ≤ 16777216 = small_entry f.constant 16777216 a.0 in
     omega arith
 
--- a name's coefficients: zeros, with a 1 at its place
-pub one_set : (names x : ℕ) → x < names → set (replicate names (pos 0)) x (pos 1) ≡ unit_of names x
-one_set zero x h = absurd (omega arith)
-one_set (suc n) zero h = refl
-one_set (suc n) (suc x) h = ap (λ z. pos 0 ∷ z) (one_set n x (omega arith))
-
-pub none_set : (names x : ℕ) → names ≤ x → replicate names (pos 0) ≡ unit_of names x
-none_set zero x h = refl
-none_set (suc n) zero h = absurd (omega arith)
-none_set (suc n) (suc x) h = ap (λ z. pos 0 ∷ z) (none_set n x (omega arith))
-
 pub mixture_width : (s : ℤ) (f : Affine) (t : ℤ) (g : Affine) (n : ℕ) → length f.coefs ≡ n → length g.coefs ≡ n → length (mixed_form s f t g).coefs ≡ n
 mixture_width s f t g n h k = length-mixed s f.coefs t g.coefs (h ∙ sym k) ∙ h
-
-pub refill_full : (xs ws : List ℤ) → length ws ≡ length xs → refill (length xs) xs ws ≡ ws
-refill_full xs ws h =
-    ap (λ z. take (length xs) (ws ++ z)) (drop_all (length ws) xs (omega arith))
-    ∙ ap (take (length xs)) (append-nil ws)
-    ∙ take_all (length xs) ws (omega arith)

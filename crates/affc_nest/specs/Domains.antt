@@ -1,20 +1,17 @@
 -- The domain of an assignment (Feautrier 1991) as rows over the number parameters, in order of declaration, and then the
 -- iterators round it, from outer to inner. A row says that it is at least 0.
-use Rattle.std.specs.Prelude.{ℕ, suc, ◌+◌, ℤ, pos, negsuc, ◌-ℤ◌, List, [], ◌∷◌, ◌++◌, length, replicate}
-use Rattle.affc_rows.specs.Forms.{Affine, mixed_form}
+use Rattle.std.specs.Prelude.{ℕ, suc, ◌+◌, ℤ, List, [], ◌∷◌, ◌++◌, length}
+use Rattle.affc_rows.specs.Forms.{Affine}
 use Rattle.affc_system.specs.Systems.{Rows}
 use Rattle.affc_ast.specs.declared.tree.Compare.{Compare}
 use Rattle.affc_ast.specs.declared.tree.Ix.{Ix}
 use Rattle.affc_ast.specs.declared.tree.Rel.{Rel}
 use Rattle.affc_ast.specs.declared.tree.Rel.TheVariants.{Less, LessEqual, Greater, GreaterEqual, Equal}
-use Rattle.affc_domain.specs.Affine.{form_of, unit_of}
+use Rattle.affc_domain.specs.Affine.{form_of}
 use Rattle.affc_domain.specs.Rounds.{Round, Loop, Test, loops_in}
+pub use Rattle.affc_rows.specs.Vocabulary.{gap_row, column_form, number_form}
 
 -- ---- Rows
-
--- b - a - k: the row of a + k <= b
-abbrev pub gap_row : (a b : Affine) → (k : ℕ) → Affine
-gap_row a b k = let d = mixed_form (pos 1) b (negsuc 0) a in record d { constant = d.constant -ℤ pos k }
 
 -- the rows of a comparison; "==" first says that the left side is at least the right one
 abbrev pub compare_rows : Rel → (a b : Affine) → List Affine
@@ -28,13 +25,6 @@ compare_rows Equal a b = gap_row b a 0 ∷ gap_row a b 0 ∷ []
 abbrev pub test_rows : (names more : ℕ) → List Compare → List Affine
 test_rows names more [] = []
 test_rows names more (c ∷ cs) = compare_rows c.rel (form_of names more c.left) (form_of names more c.right) ++ test_rows names more cs
-
--- the form of one column, and that of a number
-abbrev pub column_form : (columns j : ℕ) → Affine
-column_form columns j = record { coefs = unit_of columns j; constant = pos 0 }
-
-abbrev pub number_form : (columns : ℕ) → ℤ → Affine
-number_form columns z = record { coefs = replicate columns (pos 0); constant = z }
 
 -- column j from the low to the high end of a range
 abbrev pub range_rows : (columns j : ℕ) → ℤ × ℤ → List Affine

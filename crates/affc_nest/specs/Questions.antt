@@ -1,6 +1,6 @@
 -- Questions on extents and on accesses: systems that have no integer point exactly where each extent is at least 1 and each
 -- access lies within its array, throughout the context.
-use Rattle.std.specs.Prelude.{ℕ, pos, negsuc, if◌then◌else◌, List, [], ◌∷◌, ◌++◌, length, map, flat_map, replicate, Option, Some, None, slice_get}
+use Rattle.std.specs.Prelude.{ℕ, pos, negsuc, if◌then◌else◌, List, [], ◌∷◌, ◌++◌, length, map, flat_map, Option, Some, None, slice_get}
 use Rattle.affc_rows.specs.Forms.{Affine}
 use Rattle.affc_system.specs.Systems.{Rows}
 use Rattle.affc_nest.specs.Domains.{gap_row, number_form, box_rows}
@@ -8,6 +8,7 @@ use Rattle.affc_nest.specs.declared.nest.Access.{Access}
 use Rattle.affc_nest.specs.declared.nest.ArrayInfo.{ArrayInfo}
 use Rattle.affc_nest.specs.declared.nest.Entry.{Entry}
 use Rattle.affc_nest.specs.declared.nest.Nest.{Nest}
+pub use Rattle.affc_rows.specs.Vocabulary.{widened}
 
 -- the system with one row more
 abbrev pub with_row : Rows → Affine → Rows
@@ -44,10 +45,6 @@ extents_of_access nest x = extents_or_none (slice_get nest.arrays x.array.0)
 -- a subscript at most -1
 abbrev pub low_question : (domain : Rows) → (sub : Affine) → Rows
 low_question domain sub = with_row domain (gap_row sub (number_form domain.columns (negsuc 0)) 0)
-
--- a form over the parameters, with so many columns more
-abbrev pub widened : (more : ℕ) → Affine → Affine
-widened more f = record f { coefs = f.coefs ++ replicate more (pos 0) }
 
 -- a subscript at least the extent, in a domain with so many iterators
 abbrev pub high_question : (domain : Rows) → (loops : ℕ) → (sub extent : Affine) → Rows

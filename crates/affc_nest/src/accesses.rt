@@ -36,10 +36,8 @@ fn add_forms(
     match es {
         [] => Ok(()),
         [e, rest @ ..] => {
-            let form = form_over(alloc, names, 0, e)?;
-            forms.push(form)?;
-            add_forms(alloc, names, rest, forms)?;
-            Ok(())
+            forms.push(form_over(alloc, names, 0, e)?)?;
+            add_forms(alloc, names, rest, forms)
         }
     }
 }
@@ -61,20 +59,15 @@ pub(crate) fn add_loads<'a>(value: &'a Val, out: &mut Vec<Touch<'a>>) -> Result<
 {
     match value {
         Val::Load { array, subs } => {
-            let Ok(()) = out.push(Touch {
+            out.push(Touch {
                 array: *array,
                 subs: subs.as_slice(),
-            }) else {
-                return Err(AllocError);
-            };
+            })?;
             Ok(())
         }
         Val::Const(_) => Ok(()),
         Val::Cast(_) => Ok(()),
-        Val::Not(of) => {
-            add_loads(of.get(), out)?;
-            Ok(())
-        }
+        Val::Not(of) => add_loads(of.get(), out),
         Val::Bin { op: _, left, right } => {
             add_loads(left.get(), out)?;
             add_loads(right.get(), out)?;
@@ -84,10 +77,7 @@ pub(crate) fn add_loads<'a>(value: &'a Val, out: &mut Vec<Touch<'a>>) -> Result<
             left: _,
             value,
             by: _,
-        } => {
-            add_loads(value.get(), out)?;
-            Ok(())
-        }
+        } => add_loads(value.get(), out),
     }
 }
 
@@ -109,8 +99,7 @@ pub(crate) fn add_accesses(
                 array: touch.array,
                 subs,
             })?;
-            add_accesses(alloc, columns, rest, out)?;
-            Ok(())
+            add_accesses(alloc, columns, rest, out)
         }
     }
 }
@@ -133,8 +122,7 @@ pub(crate) fn add_arrays(
                 role: decl.role,
                 extents,
             })?;
-            add_arrays(alloc, params, rest, out)?;
-            Ok(())
+            add_arrays(alloc, params, rest, out)
         }
     }
 }
@@ -152,18 +140,14 @@ pub(crate) fn add_array_params(
     match params {
         [] => Ok(()),
         [param, rest @ ..] => match param {
-            Param::Number { .. } => {
-                add_array_params(alloc, numbers, rest, out)?;
-                Ok(())
-            }
+            Param::Number { .. } => add_array_params(alloc, numbers, rest, out),
             Param::Array(decl) => {
                 let extents = forms_of(alloc, numbers, decl.extents.as_slice())?;
                 out.push(ArrayInfo {
                     role: decl.role,
                     extents,
                 })?;
-                add_array_params(alloc, numbers, rest, out)?;
-                Ok(())
+                add_array_params(alloc, numbers, rest, out)
             }
         },
     }
@@ -179,13 +163,9 @@ pub(crate) fn add_numbers(params: &[Param], out: &mut BoxOf) -> Result<(), Alloc
         [param, rest @ ..] => match param {
             Param::Number { name: _, low, high } => {
                 out.push(*low, *high)?;
-                add_numbers(rest, out)?;
-                Ok(())
+                add_numbers(rest, out)
             }
-            Param::Array(_) => {
-                add_numbers(rest, out)?;
-                Ok(())
-            }
+            Param::Array(_) => add_numbers(rest, out),
         },
     }
 }

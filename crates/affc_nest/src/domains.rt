@@ -7,10 +7,11 @@ ghost use Rattle.affc_nest.specs.Domains.{compare_rows, test_rows, bounds_of, ra
 ghost use Rattle.affc_nest.specs.Frames.{all_seen, plain_at};
 ghost use Rattle.affc_nest.specs.Sides.{NearRanges};
 
-use crate::forms::{column, form_over, number};
+use crate::forms::form_over;
 use crate::frames::Frame;
 use crate::rows::{add_compare, add_gap};
 use affc_ast::tree::{Compare, Ix, Rel};
+use affc_rows::Form;
 use affc_system::{BoxOf, System};
 use std::alloc::{AllocError, Global};
 
@@ -71,12 +72,11 @@ fn add_range(
     ensures { OnOk result (system.new ≡ with_rows system.old (range_rows system.old.columns j (low, high))) }
 {
     let columns = system.columns();
-    let x = column(alloc, columns, j)?;
-    let least = number(alloc, columns, low)?;
-    let greatest = number(alloc, columns, high)?;
+    let x = Form::column(alloc, columns, j)?;
+    let least = Form::number(alloc, columns, i128::from(low))?;
+    let greatest = Form::number(alloc, columns, i128::from(high))?;
     add_gap(alloc, system, &least, &x, 0)?;
-    add_gap(alloc, system, &x, &greatest, 0)?;
-    Ok(())
+    add_gap(alloc, system, &x, &greatest, 0)
 }
 
 /// Adds the rows of a loop's bounds: its iterator is the first of so many columns behind the names in sight.
@@ -95,12 +95,11 @@ fn add_bounds(
     requires room { length system.old.rows + 2 < 1024 }
     ensures { OnOk result (system.new ≡ with_rows system.old (bounds_of names low.now rel high.now more)) }
 {
-    let x = column(alloc, system.columns(), names)?;
+    let x = Form::column(alloc, system.columns(), names)?;
     let from = form_over(alloc, names, more, low)?;
     let to = form_over(alloc, names, more, high)?;
     add_gap(alloc, system, &from, &x, 0)?;
-    add_compare(alloc, system, rel, &x, &to)?;
-    Ok(())
+    add_compare(alloc, system, rel, &x, &to)
 }
 
 /// Adds the rows of the ranges of the columns from `j` on.
@@ -121,8 +120,7 @@ pub(crate) fn add_box(
         [] => Ok(()),
         [range, rest @ ..] => {
             add_range(alloc, system, j, range.0, range.1)?;
-            add_box(alloc, system, j + 1, rest)?;
-            Ok(())
+            add_box(alloc, system, j + 1, rest)
         }
     }
 }
@@ -147,10 +145,7 @@ pub(crate) fn add_loops(
     match frames {
         [] => Ok(()),
         [frame, rest @ ..] => match frame {
-            Frame::Test(_) => {
-                add_loops(alloc, system, names, ranges, rest)?;
-                Ok(())
-            }
+            Frame::Test(_) => add_loops(alloc, system, names, ranges, rest),
             Frame::Loop {
                 iter: _,
                 low,
@@ -189,18 +184,14 @@ pub(crate) fn add_conditions(
             Frame::Test(conds) => {
                 let more = system.columns() - names;
                 add_tests(alloc, system, names, more, conds)?;
-                add_conditions(alloc, system, names, rest)?;
-                Ok(())
+                add_conditions(alloc, system, names, rest)
             }
             Frame::Loop {
                 iter: _,
                 low: _,
                 rel: _,
                 high: _,
-            } => {
-                add_conditions(alloc, system, names + 1, rest)?;
-                Ok(())
-            }
+            } => add_conditions(alloc, system, names + 1, rest),
         },
     }
 }

@@ -12,12 +12,12 @@ ghost use Rattle.affc_nest.specs.Touches.{all_touched, AllPlain};
 
 use crate::accesses::{Touch, add_accesses, add_loads};
 use crate::domains::{count_loops, domain};
-use crate::forms::number;
 use crate::nest::{Entry, NestFault};
 use crate::ranges::{Fit, fits};
 use crate::rows::add_row;
 use crate::sites::Site;
 use affc_ast::tree::Compare;
+use affc_rows::Form;
 use affc_system::{BoxOf, System};
 use sqlite_items::Items;
 use std::alloc::{AllocError, Global};
@@ -30,12 +30,10 @@ fn own_loads<'a>(alloc: Global, site: &Site<'a>) -> Result<Vec<Touch<'a>>, Alloc
     match site.op {
         None => Ok(touches),
         Some(_) => {
-            let Ok(()) = touches.push(Touch {
+            touches.push(Touch {
                 array: site.array,
                 subs: site.subs,
-            }) else {
-                return Err(AllocError);
-            };
+            })?;
             Ok(touches)
         }
     }
@@ -48,12 +46,10 @@ fn touches<'a>(alloc: Global, site: &Site<'a>) -> Result<Vec<Touch<'a>>, AllocEr
 {
     let mut touches = own_loads(alloc, site)?;
     add_loads(site.value, &mut touches)?;
-    let Ok(()) = touches.push(Touch {
+    touches.push(Touch {
         array: site.array,
         subs: site.subs,
-    }) else {
-        return Err(AllocError);
-    };
+    })?;
     Ok(touches)
 }
 
@@ -62,7 +58,7 @@ fn empty_domain(alloc: Global, columns: u32) -> Result<System, AllocError>
     requires { columns ≤ 128 }
     ensures { IfOk result (λ s. s ≡ nowhere columns) }
 {
-    let row = number(alloc, columns, -1)?;
+    let row = Form::number(alloc, columns, -1)?;
     let mut system = System::new(alloc, columns);
     add_row(&mut system, row)?;
     Ok(system)
@@ -165,8 +161,7 @@ pub(crate) fn add_entries(
         [site, rest @ ..] => {
             let entry = entry(alloc, params, context, statement, site)?;
             out.push(entry)?;
-            add_entries(alloc, params, context, rest, statement + 1, out)?;
-            Ok(())
+            add_entries(alloc, params, context, rest, statement + 1, out)
         }
     }
 }

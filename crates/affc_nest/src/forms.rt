@@ -1,84 +1,24 @@
 //! Index expressions as affine forms.
-ghost use Rattle.std.specs.Prelude.{◌≡◌, ◌+◌, ◌++◌, ◌^◌, ◌≤◌, ◌<◌, pos, negsuc, true, false, length, replicate, unsigned_abs, IfOk, IsTrue};
+ghost use Rattle.std.specs.Prelude.{◌≡◌, ◌+◌, ◌^◌, ◌≤◌, ◌<◌, pos, negsuc, true, false, length, replicate, unsigned_abs, IfOk, IsTrue};
 ghost use Rattle.affc_rows.specs.Forms.{mixed_form};
 ghost use Rattle.affc_domain.specs.Affine.{form_of, unit_of, are_small, is_small, product_form};
 ghost use Rattle.affc_domain.specs.Plain.{is_plain};
-ghost use Rattle.affc_nest.specs.Domains.{column_form, number_form};
-ghost use Rattle.affc_nest.specs.Questions.{widened};
 ghost use Rattle.affc_nest.specs.Sides.{IsSide};
 ghost use Rattle.affc_nest.specs.Parts.{kept, mixture, multiple, part_of, IsPartOver};
 
 use affc_ast::tree::Ix;
-use affc_rows::{Form, FormFault};
-use smallvec::SmallVec;
+use affc_rows::Form;
 use std::alloc::{AllocError, Global};
 
-/// A row of zeros.
-fn zeros(alloc: Global, columns: u32) -> Result<SmallVec<i128, 16, Global>, AllocError>
-    ensures { IfOk result (λ v. v.items ≡ replicate columns (pos 0)) }
-{
-    let mut made = SmallVec::new(alloc);
-    for _i in 0..columns {
-        made.push(0)?;
-    }
-    Ok(made)
-}
-
 /// `s` times a small form plus `t` times another.
-#[tactic(auto, using(crate::proofs::SmallLemmas::mixture_width))]
-fn mixed(
-    alloc: Global,
-    columns: u32,
-    s: i128,
-    a: &Form,
-    t: i128,
-    b: &Form,
-) -> Result<Form, AllocError>
-    requires columns { (length a.now.coefs ≡ columns) × (length b.now.coefs ≡ columns) }
+fn mixed(alloc: Global, s: i128, a: &Form, t: i128, b: &Form) -> Result<Form, AllocError>
+    requires columns { length a.now.coefs ≡ length b.now.coefs }
     requires factors { (unsigned_abs s ≤ 2 ^ 24) × (unsigned_abs t ≤ 2 ^ 24) }
     requires small { IsTrue (is_small a.now) × IsTrue (is_small b.now) }
     ensures value { IfOk result (λ f. f ≡ mixed_form s a.now t b.now) }
-    ensures width { IfOk result (λ f. length f.coefs ≡ columns) }
+    ensures width { IfOk result (λ f. length f.coefs ≡ length a.now.coefs) }
 {
-    match a.scale_add(alloc, s, b, t) {
-        Ok(form) => Ok(form),
-        Err(FormFault::Range) => unreachable!(),
-        Err(FormFault::Memory) => Err(AllocError),
-    }
-}
-
-/// The form of a number.
-pub(crate) fn number(alloc: Global, columns: u32, n: i64) -> Result<Form, AllocError>
-    ensures value { IfOk result (λ f. f ≡ number_form columns n) }
-    ensures width { IfOk result (λ f. length f.coefs ≡ columns) }
-{
-    let coefs = zeros(alloc, columns)?;
-    Ok(Form {
-        coefs,
-        constant: i128::from(n),
-    })
-}
-
-/// Sets an entry of a row of zeros to 1, if it has one there.
-#[tactic(auto, using(crate::proofs::SmallLemmas::one_set, crate::proofs::SmallLemmas::none_set))]
-fn set_one(coefs: &mut SmallVec<i128, 16, Global>, columns: u32, x: u32)
-    requires { coefs.old.items ≡ replicate columns (pos 0) }
-    ensures value { coefs.new.items ≡ unit_of columns x }
-    ensures width { length coefs.new.items ≡ columns }
-{
-    if x < columns {
-        coefs.as_mut_slice()[x as usize] = 1;
-    }
-}
-
-/// The form of a column.
-pub fn column(alloc: Global, columns: u32, x: u32) -> Result<Form, AllocError>
-    ensures value { IfOk result (λ f. f ≡ column_form columns x) }
-    ensures width { IfOk result (λ f. length f.coefs ≡ columns) }
-{
-    let mut coefs = zeros(alloc, columns)?;
-    set_one(&mut coefs, columns, x);
-    Ok(Form { coefs, constant: 0 })
+    Form::mixture(alloc, s, a, t, b)
 }
 
 /// Whether an expression holds names, and its form.
@@ -138,7 +78,7 @@ fn sum(
     let Some(b) = b else {
         return Ok(None);
     };
-    let form = mixed(alloc, columns, 1, &a.form, t, &b.form)?;
+    let form = mixed(alloc, 1, &a.form, t, &b.form)?;
     Ok(keep(a.named || b.named, form))
 }
 
@@ -151,21 +91,22 @@ fn opposite(alloc: Global, columns: u32, a: Option<Part>) -> Result<Option<Part>
     let Some(a) = a else {
         return Ok(None);
     };
-    let form = mixed(alloc, columns, -1, &a.form, 0, &a.form)?;
+    let form = mixed(alloc, -1, &a.form, 0, &a.form)?;
     Ok(keep(a.named || a.named, form))
 }
 
 /// The form of a product, whose first side holds names or not.
-fn product_of(alloc: Global, columns: u32, a: &Part, b: &Part) -> Result<Form, AllocError>
-    requires first { IsTrue (is_small a.now.form) × (length a.now.form.coefs ≡ columns) }
-    requires second { IsTrue (is_small b.now.form) × (length b.now.form.coefs ≡ columns) }
+fn product_of(alloc: Global, a: &Part, b: &Part) -> Result<Form, AllocError>
+    requires first { IsTrue (is_small a.now.form) }
+    requires second { IsTrue (is_small b.now.form) }
+    requires columns { length a.now.form.coefs ≡ length b.now.form.coefs }
     ensures value { IfOk result (λ f. f ≡ product_form a.now.named a.now.form b.now.form) }
-    ensures width { IfOk result (λ f. length f.coefs ≡ columns) }
+    ensures width { IfOk result (λ f. length f.coefs ≡ length a.now.form.coefs) }
 {
     if a.named {
-        mixed(alloc, columns, b.form.constant, &a.form, 0, &b.form)
+        mixed(alloc, b.form.constant, &a.form, 0, &b.form)
     } else {
-        mixed(alloc, columns, 0, &a.form, a.form.constant, &b.form)
+        mixed(alloc, 0, &a.form, a.form.constant, &b.form)
     }
 }
 
@@ -190,7 +131,7 @@ fn product(
     if a.named && b.named {
         return Ok(None);
     }
-    let form = product_of(alloc, columns, &a, &b)?;
+    let form = product_of(alloc, &a, &b)?;
     Ok(keep(a.named || b.named, form))
 }
 
@@ -198,16 +139,14 @@ fn number_part(alloc: Global, columns: u32, n: i64) -> Result<Option<Part>, Allo
     ensures value { IfOk result (λ r. r ≡ kept false (record { coefs = replicate columns (pos 0); constant = n })) }
     ensures fits { IfOk result (λ r. IsPartOver columns r) }
 {
-    let form = number(alloc, columns, n)?;
-    Ok(keep(false, form))
+    Ok(keep(false, Form::number(alloc, columns, i128::from(n))?))
 }
 
 fn name_part(alloc: Global, names: u32, x: u32) -> Result<Option<Part>, AllocError>
     ensures value { IfOk result (λ r. r ≡ kept true (record { coefs = unit_of names x; constant = pos 0 })) }
     ensures fits { IfOk result (λ r. IsPartOver names r) }
 {
-    let form = column(alloc, names, x)?;
-    Ok(keep(true, form))
+    Ok(keep(true, Form::column(alloc, names, x)?))
 }
 
 /// The form of an expression over the names in sight, where each part is affine and small.
@@ -246,20 +185,6 @@ fn linear_part(alloc: Global, names: u32, e: &Ix) -> Result<Option<Part>, AllocE
     }
 }
 
-/// The form with so many columns more, on which it doesn't rest.
-pub(crate) fn widen(form: Form, more: u32) -> Result<Form, AllocError>
-    ensures { IfOk result (λ f. f ≡ widened more form) }
-{
-    let Form {
-        mut coefs,
-        constant,
-    } = form;
-    for _i in 0..more {
-        coefs.push(0)?;
-    }
-    Ok(Form { coefs, constant })
-}
-
 /// The form of a plain expression over the names in sight, and so many columns more.
 pub fn form_over(alloc: Global, names: u32, more: u32, e: &Ix) -> Result<Form, AllocError>
     requires { IsTrue (is_plain names e.now) }
@@ -269,6 +194,6 @@ pub fn form_over(alloc: Global, names: u32, more: u32, e: &Ix) -> Result<Form, A
     let Some(part) = linear_part(alloc, names, e)? else {
         unreachable!()
     };
-    let form = widen(part.form, more)?;
+    let form = part.form.widened(alloc, more)?;
     Ok(form)
 }

@@ -10,7 +10,6 @@ ghost use Rattle.affc_nest.specs.Questions.{with_row, extent_question, low_quest
 ghost use Rattle.affc_nest.specs.Sides.{IsSide, NearRanges};
 
 use crate::domains::add_box;
-use crate::forms::{number, widen};
 use crate::nest::{Entry, Nest};
 use crate::rows::{add_gap, add_row};
 use affc_rows::Form;
@@ -26,10 +25,8 @@ pub fn add_rows(system: &mut System, rows: &[Form]) -> Result<(), AllocError>
     match rows {
         [] => Ok(()),
         [row, rest @ ..] => {
-            let row = row.clone()?;
-            add_row(system, row)?;
-            add_rows(system, rest)?;
-            Ok(())
+            add_row(system, row.clone()?)?;
+            add_rows(system, rest)
         }
     }
 }
@@ -48,13 +45,13 @@ fn whole_context(alloc: Global, params: &BoxOf, context: &System) -> Result<Syst
 }
 
 /// The system with the row that the form is at most this number.
-fn at_most(alloc: Global, mut system: System, form: &Form, bound: i64) -> Result<System, AllocError>
+fn at_most(alloc: Global, mut system: System, form: &Form, bound: i128) -> Result<System, AllocError>
     requires side { IsSide system.columns form.now }
     requires bound { unsigned_abs bound ≤ 2 ^ 32 }
     requires room { length system.rows < 1024 }
     ensures { IfOk result (λ s. s ≡ with_row system (gap_row form.now (number_form system.columns bound) 0)) }
 {
-    let end = number(alloc, system.columns(), bound)?;
+    let end = Form::number(alloc, system.columns(), bound)?;
     add_gap(alloc, &mut system, form, &end, 0)?;
     Ok(system)
 }
@@ -73,8 +70,7 @@ fn past(
     ensures { IfOk result (λ s. s ≡ high_question domain.now loops sub.now extent.now) }
 {
     let mut system = domain.clone()?;
-    let extent = extent.clone()?;
-    let end = widen(extent, loops)?;
+    let end = extent.widened(alloc, loops)?;
     add_gap(alloc, &mut system, &end, sub, 0)?;
     Ok(system)
 }
@@ -86,8 +82,7 @@ pub fn extent_at_most_zero(alloc: Global, nest: &Nest, extent: &Form) -> Result<
     ensures { IfOk result (λ s. s ≡ extent_question nest.now extent.now) }
 {
     let system = whole_context(alloc, &nest.params, &nest.context)?;
-    let system = at_most(alloc, system, extent, 0)?;
-    Ok(system)
+    at_most(alloc, system, extent, 0)
 }
 
 /// The question whether a subscript is below 0 at some instance.
@@ -103,8 +98,7 @@ pub fn subscript_below_zero(
     ensures { IfOk result (λ s. s ≡ low_question entry.now.domain sub.now) }
 {
     let domain = entry.domain.clone()?;
-    let system = at_most(alloc, domain, sub, -1)?;
-    Ok(system)
+    at_most(alloc, domain, sub, -1)
 }
 
 /// The question whether a subscript is at least an extent at some instance.
@@ -122,6 +116,5 @@ pub fn subscript_past_extent(
     ensures { IfOk result (λ s. s ≡ high_question entry.now.domain (length entry.now.loops) sub.now extent.now) }
 {
     let loops = entry.loops.len() as u32;
-    let system = past(alloc, &entry.domain, loops, sub, extent)?;
-    Ok(system)
+    past(alloc, &entry.domain, loops, sub, extent)
 }

@@ -76,8 +76,7 @@ fn add_both(all: &mut BoxOf, own: &mut BoxOf, first: i128, end: i128) -> Result<
     ensures own { OnOk result (own.new ≡ own.old ++ (first, end) ∷ []) }
 {
     all.push(first as i64, end as i64)?;
-    own.push(first as i64, end as i64)?;
-    Ok(())
+    own.push(first as i64, end as i64)
 }
 
 /// The first and the last turn of a loop, over the ranges of the names in sight.
@@ -132,10 +131,7 @@ pub(crate) fn fits(
     match frames {
         [] => Ok(Fit::Near),
         [frame, rest @ ..] => match frame {
-            Frame::Test(_) => {
-                let fit = fits(alloc, all, own, rest, depth)?;
-                Ok(fit)
-            }
+            Frame::Test(_) => fits(alloc, all, own, rest, depth),
             Frame::Loop {
                 iter: _,
                 low,

@@ -1,41 +1,13 @@
 //! Rows of comparisons, put into a system.
-ghost use Rattle.std.specs.Prelude.{◌≡◌, ◌+◌, ◌*◌, ◌^◌, ◌<◌, ◌≤◌, ◌∷◌, [], length, IfOk, OnOk};
+ghost use Rattle.std.specs.Prelude.{◌≡◌, ◌+◌, ◌<◌, ◌≤◌, ◌∷◌, [], length, OnOk};
 ghost use Rattle.affc_system.specs.Systems.{FitsRow};
 ghost use Rattle.affc_nest.specs.Domains.{gap_row, compare_rows, with_rows};
 ghost use Rattle.affc_nest.specs.Sides.{IsSide};
 
 use affc_ast::tree::Rel;
-use affc_rows::{Form, FormFault};
+use affc_rows::Form;
 use affc_system::{RowFault, System};
 use std::alloc::{AllocError, Global};
-
-/// One side less another.
-#[tactic(auto, using(crate::proofs::RowLemmas::not_too_wide))]
-fn difference(alloc: Global, columns: u32, a: &Form, b: &Form) -> Result<Form, AllocError>
-    requires first { IsSide columns a.now }
-    requires second { IsSide columns b.now }
-    ensures { IfOk result (λ f. f ≡ gap_row a.now b.now 0) }
-{
-    match b.scale_add(alloc, 1, a, -1) {
-        Ok(form) => Ok(form),
-        Err(FormFault::Range) => unreachable!(),
-        Err(FormFault::Memory) => Err(AllocError),
-    }
-}
-
-/// The row `b - a - k`.
-fn gap(alloc: Global, columns: u32, a: &Form, b: &Form, k: u32) -> Result<Form, AllocError>
-    requires first { IsSide columns a.now }
-    requires second { IsSide columns b.now }
-    requires step { k ≤ 1 }
-    ensures { IfOk result (λ f. f ≡ gap_row a.now b.now k) }
-{
-    let Form { coefs, constant } = difference(alloc, columns, a, b)?;
-    Ok(Form {
-        coefs,
-        constant: constant - i128::from(k),
-    })
-}
 
 /// Adds a row that keeps the limits, where there is room.
 pub fn add_row(system: &mut System, row: Form) -> Result<(), AllocError>
@@ -53,6 +25,7 @@ pub fn add_row(system: &mut System, row: Form) -> Result<(), AllocError>
 }
 
 /// Adds the row `b - a - k`.
+#[tactic(auto, using(crate::proofs::RowLemmas::not_too_wide))]
 pub(crate) fn add_gap(
     alloc: Global,
     system: &mut System,
@@ -66,7 +39,7 @@ pub(crate) fn add_gap(
     requires room { length system.old.rows < 1024 }
     ensures { OnOk result (system.new ≡ with_rows system.old (gap_row a.now b.now k ∷ [])) }
 {
-    let row = gap(alloc, system.columns(), a, b, k)?;
+    let row = Form::gap(alloc, a, b, k)?;
     add_row(system, row)
 }
 
