@@ -45,7 +45,12 @@ fn whole_context(alloc: Global, params: &BoxOf, context: &System) -> Result<Syst
 }
 
 /// The system with the row that the form is at most this number.
-fn at_most(alloc: Global, mut system: System, form: &Form, bound: i128) -> Result<System, AllocError>
+fn at_most(
+    alloc: Global,
+    mut system: System,
+    form: &Form,
+    bound: i128,
+) -> Result<System, AllocError>
     requires side { IsSide system.columns form.now }
     requires bound { unsigned_abs bound ≤ 2 ^ 32 }
     requires room { length system.rows < 1024 }
