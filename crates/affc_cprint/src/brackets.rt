@@ -7,7 +7,7 @@ ghost use Rattle.affc_cprint.specs.Levels.{number_of, op_left, op_right};
 use affc_ast::tree::Op;
 
 /// Where an expression stands: there a looser one has brackets.
-#[derive(Clone, Copy, Debug)]
+#[derive(Clone, Copy)]
 pub enum Place {
     /// By itself, or left of `+` and `-`.
     Whole,
@@ -46,7 +46,7 @@ pub fn is_divided(prelude: bool, by: i64) -> bool
 }
 
 /// How tightly binds what stands round a value: there a looser value has brackets.
-#[derive(Clone, Copy, Debug)]
+#[derive(Clone, Copy)]
 pub enum Level {
     Primary,
     Product,

@@ -1,4 +1,4 @@
-// Whole-number expressions.
+//! Whole-number expressions.
 ghost use Rattle.std.specs.Prelude.{◌≡◌, OnOk, string_bytes, slice_get, unwrap_or, map, [], decimal as digits_of};
 ghost use Rattle.affc_ast.specs.Recursion.{by_ix};
 ghost use Rattle.affc_grammar.specs.Printed.{ix_step, number_name};
@@ -48,7 +48,7 @@ pub fn decimal(out: &mut String, n: u64) -> Result<(), AllocError>
 }
 
 // The names that are visible, by their numbers.
-#[derive(Debug, Drop)]
+#[derive(Drop)]
 pub struct Names<'a> {
     pub numbers: Vec<&'a str>,
     pub arrays: Vec<&'a str>,

@@ -1,4 +1,4 @@
-// Lines before the function, its head, its declarations and its body.
+//! Lines before the function, its head, its declarations and its body.
 ghost use Rattle.std.specs.Prelude.{◌≡◌, OnOk, IfOk, string_bytes, codes, [], ◌∷◌};
 ghost use Rattle.std.specs.List.{flat_map};
 ghost use Rattle.affc_grammar.specs.Printed.{no_names, int_text, param_text, array_text, and_param_name, and_array_name, conds_text, params_text, is_input};

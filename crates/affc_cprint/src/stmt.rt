@@ -1,4 +1,4 @@
-// Conditions, locals and statements.
+//! Conditions, locals and statements.
 ghost use Rattle.std.specs.Prelude.{◌≡◌, ◌+◌, OnOk, IfOk, string_bytes, codes, length};
 ghost use Rattle.std.specs.List.{flat_map};
 ghost use Rattle.affc_grammar.specs.Grammar.{rel_mark, assign_mark, bound_mark};

@@ -1,4 +1,4 @@
-// Values.
+//! Values.
 ghost use Rattle.std.specs.Prelude.{◌≡◌, OnOk, string_bytes, codes, nat_lt, decimal as digits_of};
 ghost use Rattle.affc_ast.specs.Recursion.{by_val};
 ghost use Rattle.affc_grammar.specs.Grammar.{op_mark, shift_mark};

@@ -1,4 +1,4 @@
-// The conditions on the parameters, which are read as whole numbers.
+//! The conditions on the parameters, which are read as whole numbers.
 ghost use Rattle.std.specs.Prelude.{◌≡◌, ◌≤◌, ◌+ℤ◌, ◌-ℤ◌, ◌*ℤ◌, neg_ℤ, pos, ◌≤ℤ◌, Ok, IfOk, IfErr, is_err, get_or, ◌&&◌};
 ghost use Rattle.affc_ast.specs.Fits as fits;
 ghost use Rattle.affc_ast.specs.Index.{compares, floor_of, ceiling_of, remainder_of};
@@ -11,7 +11,7 @@ use crate::index::first_operand;
 use affc_ast::tree::{Compare, Ix, Rel};
 
 /// Why an expression gives no whole number here.
-#[derive(Clone, Copy, Debug, PartialEq, Eq)]
+#[derive(Clone, Copy)]
 pub enum NoWhole {
     /// A divisor in it is below 1.
     Undefined,
@@ -102,15 +102,15 @@ fn atom(e: &Ix, names: &[i64]) -> i128
     match e {
         Ix::Lit(n) => i128::from(*n),
         Ix::Name(x) => named(names, x.0),
-        Ix::Neg(_) => unreachable!(),
-        Ix::Add(..) => unreachable!(),
-        Ix::Sub(..) => unreachable!(),
-        Ix::Mul(..) => unreachable!(),
-        Ix::Min(..) => unreachable!(),
-        Ix::Max(..) => unreachable!(),
-        Ix::Floord(..) => unreachable!(),
-        Ix::Ceild(..) => unreachable!(),
-        Ix::Mod(..) => unreachable!(),
+        Ix::Neg(_)
+        | Ix::Add(..)
+        | Ix::Sub(..)
+        | Ix::Mul(..)
+        | Ix::Min(..)
+        | Ix::Max(..)
+        | Ix::Floord(..)
+        | Ix::Ceild(..)
+        | Ix::Mod(..) => unreachable!(),
     }
 }
 

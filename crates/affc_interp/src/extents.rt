@@ -1,4 +1,4 @@
-// How many elements an array has.
+//! How many elements an array has.
 ghost use Rattle.std.specs.Prelude.{◌≡◌, ℕ, ◌+◌, ◌^◌, ◌<◌, SomeIff, sum_by};
 ghost use Rattle.affc_ast.specs.Index.{nodes_of_ix};
 ghost use Rattle.affc_ast.specs.Meaning.{extents_of};

@@ -1,8 +1,9 @@
+//! Why a run is stuck, and why it stops.
 use std::alloc::{AllocError, AllocFailed};
 
 /// Why a run is stuck: the number of the array, of the access in the instance that was begun last, or of
 /// the node.
-#[derive(Clone, Copy, Debug, PartialEq, Eq)]
+#[derive(Clone, Copy)]
 pub enum Fault {
     Extent(u32),
     OutOfBounds(u32),
@@ -22,7 +23,7 @@ impl From<u32> for Fault {
 }
 
 /// Why a run stops before its end.
-#[derive(Clone, Copy, Debug, PartialEq, Eq)]
+#[derive(Clone, Copy)]
 pub enum Halt {
     Fault(Fault),
     Steps,

@@ -1,3 +1,4 @@
+//! Data: what a program is run on, read from a text.
 ghost use Rattle.std.specs.Prelude.{◌≡◌, ◌+◌, ◌^◌, ◌<◌, ◌==◌, ◌&&◌, false, length, IfOk, is_err, Ok};
 ghost use Rattle.affc_ast.specs.Fits.{meets};
 ghost use Rattle.affc_ast.specs.Meaning.{arrays_of, nodes_of_decls};
@@ -14,7 +15,7 @@ use thiserror::Error;
 
 /// What a program is run on: a value for each number parameter, and the elements of each array parameter,
 /// the last subscript running fastest.
-#[derive(Debug, Drop)]
+#[derive(Drop)]
 pub struct Feed {
     pub params: Vec<i64>,
     pub arrays: Vec<Vec<u64>>,
@@ -53,7 +54,7 @@ impl<T: Drop> From<AllocFailed<T>> for FeedFault {
 }
 
 /// Why a line gives nothing.
-#[derive(Clone, Copy, Debug, PartialEq, Eq)]
+#[derive(Clone, Copy)]
 pub enum Stop {
     Wrong,
     Memory,

@@ -1,3 +1,4 @@
+//! Whole-number expressions in 64 bits: how many nodes they have, and what they give.
 ghost use Rattle.std.specs.Prelude.{◌≡◌, ◌≤ℤ◌, ◌+◌, ◌^◌, ◌<◌, ◌≤◌, ◌+ℤ◌, ◌-ℤ◌, ◌*ℤ◌, neg_ℤ, pos, get_or, sum_by, ℕ, Ok, MatchOption, suc};
 ghost use Rattle.affc_ast.specs.Index.{nodes_of_ix, index_value, in_int64, divided, floor_of, ceiling_of, remainder_of, compares, nodes_of_compare, conditions};
 ghost use Rattle.affc_interp.specs.Seen.{as_reading};
@@ -16,41 +17,17 @@ pub fn node_count(e: &Ix) -> u32
     let mut count = 0;
     loop {
         match here {
-            Ix::Lit(_) => return count + 1,
-            Ix::Name(_) => return count + 1,
-            Ix::Neg(a) => {
+            Ix::Lit(_) | Ix::Name(_) => return count + 1,
+            Ix::Neg(a) | Ix::Floord(a, _) | Ix::Ceild(a, _) => {
                 count += 1;
                 here = a.get();
             }
-            Ix::Floord(a, _) => {
-                count += 1;
-                here = a.get();
-            }
-            Ix::Ceild(a, _) => {
-                count += 1;
-                here = a.get();
-            }
-            Ix::Add(a, b) => {
-                count += 1 + node_count(b.get());
-                here = a.get();
-            }
-            Ix::Sub(a, b) => {
-                count += 1 + node_count(b.get());
-                here = a.get();
-            }
-            Ix::Mul(a, b) => {
-                count += 1 + node_count(b.get());
-                here = a.get();
-            }
-            Ix::Min(a, b) => {
-                count += 1 + node_count(b.get());
-                here = a.get();
-            }
-            Ix::Max(a, b) => {
-                count += 1 + node_count(b.get());
-                here = a.get();
-            }
-            Ix::Mod(a, b) => {
+            Ix::Add(a, b)
+            | Ix::Sub(a, b)
+            | Ix::Mul(a, b)
+            | Ix::Min(a, b)
+            | Ix::Max(a, b)
+            | Ix::Mod(a, b) => {
                 count += 1 + node_count(b.get());
                 here = a.get();
             }
@@ -140,17 +117,16 @@ pub(crate) fn first_operand(e: &Ix) -> Option<&Ix>
     ensures { MatchOption result (operators e.now ≡ 0) (λ a. (a.now ≡ row.first_operand e.now) × (operators e.now ≡ suc (operators a.now))) }
 {
     match e {
-        Ix::Lit(_) => None,
-        Ix::Name(_) => None,
-        Ix::Neg(a) => Some(a.get()),
-        Ix::Add(a, _) => Some(a.get()),
-        Ix::Sub(a, _) => Some(a.get()),
-        Ix::Mul(a, _) => Some(a.get()),
-        Ix::Min(a, _) => Some(a.get()),
-        Ix::Max(a, _) => Some(a.get()),
-        Ix::Floord(a, _) => Some(a.get()),
-        Ix::Ceild(a, _) => Some(a.get()),
-        Ix::Mod(a, _) => Some(a.get()),
+        Ix::Lit(_) | Ix::Name(_) => None,
+        Ix::Neg(a)
+        | Ix::Add(a, _)
+        | Ix::Sub(a, _)
+        | Ix::Mul(a, _)
+        | Ix::Min(a, _)
+        | Ix::Max(a, _)
+        | Ix::Floord(a, _)
+        | Ix::Ceild(a, _)
+        | Ix::Mod(a, _) => Some(a.get()),
     }
 }
 
@@ -194,15 +170,15 @@ fn atom_value(e: &Ix, names: &[i64]) -> i64
     match e {
         Ix::Lit(n) => *n,
         Ix::Name(x) => name_value(names, x.0),
-        Ix::Neg(_) => unreachable!(),
-        Ix::Add(..) => unreachable!(),
-        Ix::Sub(..) => unreachable!(),
-        Ix::Mul(..) => unreachable!(),
-        Ix::Min(..) => unreachable!(),
-        Ix::Max(..) => unreachable!(),
-        Ix::Floord(..) => unreachable!(),
-        Ix::Ceild(..) => unreachable!(),
-        Ix::Mod(..) => unreachable!(),
+        Ix::Neg(_)
+        | Ix::Add(..)
+        | Ix::Sub(..)
+        | Ix::Mul(..)
+        | Ix::Min(..)
+        | Ix::Max(..)
+        | Ix::Floord(..)
+        | Ix::Ceild(..)
+        | Ix::Mod(..) => unreachable!(),
     }
 }
 

@@ -1,4 +1,4 @@
-// Lines of data.
+//! Lines of data.
 ghost use Rattle.affc_lex.specs.Bytes.{begins};
 ghost use Rattle.std.specs.Prelude.{◌≡◌, ◌≢◌, ℕ, ℤ, ◌+◌, ◌^◌, ◌<◌, ◌≤◌, false, codes, pos, neg_ℤ, List, ◌∷◌, ◌++◌, length, IfOk, IfSome, MatchOption, SomeIff, int_le, ◌&&◌};
 ghost use Rattle.affc_interp.specs.DataText.{EndsLine, NumberLine};

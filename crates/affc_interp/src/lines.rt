@@ -1,4 +1,4 @@
-// The text of what the output arrays hold.
+//! The text of what the output arrays hold.
 ghost use Rattle.std.specs.Prelude.{◌≡◌, ◌++◌, ◌∷◌, [], OnOk, IfOk, map, get_or, drop, nat_eq};
 ghost use Rattle.affc_ast.specs.Fits.{is_output_role, outputs};
 ghost use Rattle.affc_ast.specs.Meaning.{arrays_of};

@@ -1,3 +1,4 @@
+//! A run: its statements, loops and steps.
 ghost use Rattle.std.specs.Prelude.{◌≡◌, ◌+◌, ◌^◌, ◌<◌, ◌+ℤ◌, ℤ, List, Some, sum_by, length, pos, nat_lt, IsTrue, true, map, OnOk};
 ghost use Rattle.affc_ast.specs.Index.{nodes_of_ix, nodes_of_compare, in_int64, is_int64};
 ghost use Rattle.affc_ast.specs.Meaning.{turns_of, assigned, combined, own_loads, own_value, nodes_of_locals, with_locals, with_iterator};
@@ -17,7 +18,7 @@ use affc_ast::tree::{ArrayId, Compare, Instance, Ix, Local, Op, Rel, Stmt, Val};
 
 /// A run: the values of the visible names, the assignment that was begun last, the arrays, and how many
 /// steps were begun of those that may be.
-#[derive(Debug, Drop)]
+#[derive(Drop)]
 pub struct Machine {
     pub names: Vec<i64>,
     pub here: Instance,

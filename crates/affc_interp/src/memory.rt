@@ -1,3 +1,4 @@
+//! The arrays of a run: their extents, and a cell for each element.
 ghost use Rattle.std.specs.Prelude.{◌≡◌, ◌+◌, ◌^◌, ◌<◌, ℤ, List, [], Some, None, Ok, get_or, slice_set, slice_get, drop, sum_by, length, pos, ◌≤ℤ◌, ◌<ℤ◌, int_le, int_lt, ◌&&◌, if◌then◌else◌, ◌++◌, ◌∷◌, IfOk, IfSome, OnOk};
 ghost use Rattle.affc_ast.specs.Index.{nodes_of_ix, index_values};
 ghost use Rattle.affc_ast.specs.Meaning.{at_least_zero, extents_of, all_extents, arrays_of, nodes_of_decls};
@@ -16,14 +17,14 @@ use std::marker::Model;
 
 /// An array: its extents, and a cell for each element, the last subscript running fastest. A cell is
 /// empty as long as its element has no value.
-#[derive(Debug, Drop)]
+#[derive(Drop)]
 pub struct Buffer {
     pub extents: Vec<i64>,
     pub cells: Vec<Option<u64>>,
 }
 
 /// The arrays of a run, in the order of their numbers.
-#[derive(Debug, Drop)]
+#[derive(Drop)]
 pub struct Memory {
     buffers: Vec<Buffer>,
 }

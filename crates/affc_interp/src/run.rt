@@ -1,3 +1,4 @@
+//! A program run on data, from the first step to the final store.
 ghost use Rattle.std.specs.Prelude.{◌≡◌, ◌+◌, ◌^◌, ◌<◌, [], length};
 ghost use Rattle.affc_ast.specs.Meaning.{meaning, arrays_of, nodes_of_decls};
 ghost use Rattle.affc_ast.specs.Counted.{IsCounted};
@@ -17,7 +18,7 @@ use std::alloc::Global;
 use std::marker::Model;
 
 /// What the arrays hold when a run has ended.
-#[derive(Debug, Drop)]
+#[derive(Drop)]
 pub struct Store {
     pub(crate) memory: Memory,
 }
@@ -32,7 +33,7 @@ impl Model for Store {
 
 /// Why a run has no final store. The numbers are those of the access in its instance, of the node and of
 /// the array.
-#[derive(Debug, Drop)]
+#[derive(Drop)]
 pub enum RunFault {
     OutOfBounds { instance: Instance, access: u32 },
     Unwritten { instance: Instance, access: u32 },

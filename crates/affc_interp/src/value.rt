@@ -1,3 +1,4 @@
+//! Values modulo 2^64: how many nodes and loads they have, and what they give.
 ghost use Rattle.std.specs.Prelude.{◌≡◌, ◌+◌, ◌^◌, ◌<◌, ◌≤◌, Ok, MatchOption, suc};
 ghost use Rattle.affc_ast.specs.Values.{value_of, operate, complement, shifted, converted};
 ghost use Rattle.affc_interp.specs.Seen.{as_value, sight_at};

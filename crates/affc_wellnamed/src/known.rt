@@ -1,4 +1,4 @@
-// What of a tree a text can say where it stands.
+//! What of a tree a text can say where it stands.
 ghost use Rattle.std.specs.Prelude.{◌≡◌, ◌^◌, Bool, [], nat_lt};
 ghost use Rattle.std.specs.List.{list_all};
 ghost use Rattle.affc_lex.specs.Bytes.{is_letter_or_digit};

@@ -1,4 +1,4 @@
-// What is asked of each expression of a tree: products and numbers.
+//! What is asked of each expression of a tree: products and numbers.
 ghost use Rattle.std.specs.Prelude.{◌≡◌};
 ghost use Rattle.std.specs.List.{list_all};
 ghost use Rattle.affc_cprint.specs.Forms as spec;

@@ -1,4 +1,4 @@
-// How many tokens a tree is printed with, and how they stand.
+//! How many tokens a tree is printed with, and how they stand.
 ghost use Rattle.std.specs.Prelude.{◌≡◌};
 ghost use Rattle.affc_wellnamed.specs.Shape as spec;
 
@@ -68,7 +68,7 @@ fn bracketed_if(wanted: bool, a: Extent) -> Extent
 // ---- Expressions
 
 // How tightly an expression is bound.
-#[derive(Clone, Copy, Debug)]
+#[derive(Clone, Copy)]
 pub enum Binding {
     Sum,
     Product,

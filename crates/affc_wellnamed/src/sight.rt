@@ -1,4 +1,4 @@
-// The names that are in sight of a part of a tree.
+//! The names that are in sight of a part of a tree.
 ghost use Rattle.std.specs.Prelude.{◌≡◌, nat_lt, slice_get, ◌++◌, Some};
 ghost use Rattle.std.specs.List.{list_any};
 ghost use Rattle.affc_lex.specs.Bytes.{same};

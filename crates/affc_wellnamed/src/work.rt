@@ -1,4 +1,4 @@
-// What the limits on statements, arrays and lines ask of a tree.
+//! What the limits on statements, arrays and lines ask of a tree.
 ghost use Rattle.std.specs.Prelude.{◌≡◌};
 ghost use Rattle.std.specs.List.{list_all};
 ghost use Rattle.affc_grammar.specs.Limits.{is_range};
