@@ -7,7 +7,9 @@ use Rattle.std.proofs.lemmas.Int.{ints}
 use Rattle.std.proofs.lemmas.List.{length-map}
 use Rattle.std.proofs.lemmas.List.Elements.{All-nil, All-cons, All-append, All-weaker, All-head, All-tail, All-contains_itself}
 use Rattle.affc_rows.specs.Forms.{Affine, dot, value}
+use Rattle.affc_rows.specs.Vocabulary.{opposite, HasOpposite}
 use Rattle.affc_rows.proofs.IntLemmas.{neg-mul}
+use Rattle.affc_rows.proofs.VocabularyLemmas.{within_opposite}
 use Rattle.affc_system.specs.Systems.{Rows, Meets, IsRow}
 use Rattle.affc_farkas.specs.Eliminations.{IsElimination}
 use Rattle.affc_farkas.specs.Rational.{RationalPoint, scaled_value}
@@ -59,6 +61,16 @@ either : (z : ℤ) → (pos 0 ≤ℤ z) ⊎ (pos 0 ≤ℤ (negsuc 0 -ℤ z))
 either (pos n) = inl (omega (arith, ints))
 either (negsuc n) = inr (omega (arith, ints))
 
+turned : (k : ℤ) → neg_ℤ k -ℤ pos 1 ≡ negsuc 0 -ℤ k
+turned k = omega (arith, ints)
+
+-- the opposite less 1 is the row below 0
+pub below_is : (row o made : Affine) → o ≡ opposite row → made ≡ record o { constant = o.constant -ℤ pos 1 } → made ≡ below_zero row
+below_is row o made e f =
+    f
+    ∙ ap (λ (g : Affine). let r : Affine = record { coefs = g.coefs; constant = g.constant -ℤ pos 1 } in r) e
+    ∙ ap (λ (z : ℤ). let r : Affine = record { coefs = map neg_ℤ row.coefs; constant = z } in r) (turned row.constant)
+
 -- ---- Answers
 
 pub apart : (columns : ℕ) (rows : List Affine) (made : List Pair) (projected : List Affine) → AreProjected columns rows 0 made projected → All (Meets []) projected → RationalPoint columns rows
@@ -98,6 +110,16 @@ negated_fits (c ∷ cs) h =
 less_one : (z : ℤ) → unsigned_abs z ≤ 2 ^ 59 → unsigned_abs (negsuc 0 -ℤ z) ≤ 2 ^ 60
 less_one (pos n) h = grind (arith, ints)
 less_one (negsuc n) h = grind (arith, ints)
+
+-- the opposite of such a row is made, and 1 is taken from it
+pub printable_opposite : (columns : ℕ) (row : Affine) → IsPrintable columns row → HasOpposite row
+printable_opposite columns row p = within_opposite (2 ^ 40) (2 ^ 59) row (omega arith) (omega arith) p.coefs p.last
+
+pub opposite_small : (columns : ℕ) (row o : Affine) → IsPrintable columns row → o ≡ opposite row → unsigned_abs o.constant ≤ 2 ^ 126
+opposite_small columns row o p e = more (unsigned_abs o.constant) (unsigned_abs row.constant) (ap (λ (f : Affine). unsigned_abs f.constant) e ∙ negated_abs row.constant) p.last
+  where
+    more : (n m : ℕ) → n ≡ m → m ≤ 2 ^ 59 → n ≤ 2 ^ 126
+    more n m g h = omega (arith, g, h)
 
 pub below_row : (columns : ℕ) (row made : Affine) → IsPrintable columns row → made ≡ below_zero row → IsRow columns made
 below_row columns row made p e = subst (IsRow columns) (sym e) (record {

@@ -3,9 +3,10 @@ use Rattle.std.proofs.Common.{◌≡◌, ℕ, zero, suc, ◌+◌, ◌*◌, ◌^�
 use Rattle.std.specs.Prelude.{unsigned_abs}
 use Rattle.std.specs.List.{All}
 use Rattle.std.proofs.lemmas.Int.{ints}
-use Rattle.std.proofs.lemmas.List.Elements.{All-nil, All-cons, All-head, All-tail}
+use Rattle.std.proofs.lemmas.List.Elements.{All-nil, All-cons, All-head, All-tail, All-weaker}
 use Rattle.std.proofs.Math.Nat.{mul-le-mul_left, mul-le-mul_right}
-use Rattle.affc_rows.specs.Forms.{Affine, dot, dot_magnitude, mixed, mixed_magnitudes, mixed_form_magnitudes, entry_magnitude, columns_of, column_of, constants_of, composed, composed_form, composed_magnitudes, composed_form_magnitudes, TooWide}
+use Rattle.affc_rows.specs.Forms.{Affine, dot, dot_magnitude, mixed, mixed_magnitudes, mixed_form_magnitudes, entry_magnitude, HaveColumns, columns_of, column_of, constants_of, composed, composed_magnitudes, composed_form_magnitudes, TooWide}
+use Rattle.affc_rows.specs.Vocabulary.{form_at}
 use Rattle.affc_rows.proofs.IntLemmas.{abs-add}
 use Rattle.affc_rows.proofs.ValueLemmas.{length-composed}
 use Rattle.affc_system.specs.Systems.{FitsRow}
@@ -16,7 +17,7 @@ use Rattle.affc_domain.specs.Affine.{unit_of}
 use Rattle.affc_domain.proofs.FormLemmas.{unit_width}
 use Rattle.affc_loopends.specs.Images.{AreImages}
 use Rattle.affc_loopends.specs.Sizes.{IsSlight, IsNear, IsComposed}
-use Rattle.affc_loopends.specs.TimeRows.{columns_from, with_images}
+use Rattle.affc_loopends.specs.TimeRows.{columns_from}
 use Rattle.affc_loopends.proofs.Widths.{gap_wide}
 
 -- ---- Products
@@ -113,7 +114,7 @@ module _ (columns : ℕ) (images : List Affine) (are : AreImages columns images)
       more : (a d : ℕ) → a ≤ d → d ≤ 2 ^ 29 → a ≤ 2 ^ 30
       more a d h g = omega (arith, h, g)
 
-  pub is_composed : IsComposed columns (with_images columns images f)
+  pub is_composed : IsComposed columns (form_at columns images f)
   is_composed = record {
     width = length-composed f.coefs images 0 columns;
     coefs = composed_small 0 columns;
@@ -124,31 +125,8 @@ module _ (columns : ℕ) (images : List Affine) (are : AreImages columns images)
       sum : (a d m k : ℕ) → a ≤ d + k → d ≤ m → m ≤ 2 ^ 51 → k ≤ 2 ^ 34 → a ≤ 2 ^ 52
       sum a d m k e h g i = omega (arith, e, h, g, i)
 
--- what is composed is over the images' columns, where there are images
-pub composed_is : (columns : ℕ) (images : List Affine) (f made : Affine) → AreImages columns images → (length images ≡ 0 → ⊥) → made ≡ composed_form f images → made ≡ with_images columns images f
-composed_is columns [] f made are some e = absurd (some refl)
-composed_is columns (g ∷ gs) f made are some e = e ∙ ap (λ n. with_images n (g ∷ gs) f) (All-head (IsSlight columns) g gs are.slight).width
-
--- without images a form is its constant
-no_sum : (cs : List ℤ) → dot cs [] ≡ pos 0
-no_sum [] = refl
-no_sum (c ∷ cs) = refl
-
-flat_row : (cs : List ℤ) (j n : ℕ) → composed cs [] j n ≡ replicate n (pos 0)
-flat_row cs j zero = refl
-flat_row cs j (suc n) = ap (λ z. z ∷ composed cs [] (suc j) n) (no_sum cs) ∙ ap (λ zs. pos 0 ∷ zs) (flat_row cs (suc j) n)
-
-pub flat_is : (columns : ℕ) (images : List Affine) (f made : Affine) → length images ≡ 0 → made.coefs ≡ replicate columns (pos 0) → made.constant ≡ f.constant → made ≡ with_images columns images f
-flat_is columns (g ∷ gs) f made none e k = absurd (omega arith)
-flat_is columns [] f made none e k = same (e ∙ sym (flat_row f.coefs 0 columns)) (k ∙ front f.constant ∙ ap (λ z. z +ℤ f.constant) (sym (no_sum f.coefs)))
-  where
-    front : (z : ℤ) → z ≡ pos 0 +ℤ z
-    front z = omega (arith, ints)
-
-    same : made.coefs ≡ composed f.coefs [] 0 columns → made.constant ≡ dot f.coefs [] +ℤ f.constant → made ≡ with_images columns [] f
-    same h g =
-        ap (λ (cs : List ℤ). let r : Affine = record { coefs = cs; constant = made.constant } in r) h
-        ∙ ap (λ (z : ℤ). let r : Affine = record { coefs = composed f.coefs [] 0 columns; constant = z } in r) g
+pub images_wide : (columns : ℕ) (images : List Affine) → AreImages columns images → HaveColumns columns images
+images_wide columns images are = All-weaker (IsSlight columns) (λ f. length f.coefs ≡ columns) (λ f s. s.width) images are.slight
 
 -- ---- Columns
 
@@ -235,7 +213,7 @@ gap_not_too_wide n a b s t (inr w) = entries_narrow a.coefs b.coefs s.coefs t.co
 
 -- ---- What the code has made
 
-pub image_composed : (columns : ℕ) (images : List Affine) (f made : Affine) → AreImages columns images → IsNear (length images) f → made ≡ with_images columns images f → IsComposed columns made
+pub image_composed : (columns : ℕ) (images : List Affine) (f made : Affine) → AreImages columns images → IsNear (length images) f → made ≡ form_at columns images f → IsComposed columns made
 image_composed columns images f made are near e = subst (IsComposed columns) (sym e) (is_composed columns images are f near)
 
 pub column_composed : (n j : ℕ) (made : Affine) → made ≡ column_form n j → IsComposed n made

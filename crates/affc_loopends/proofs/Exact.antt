@@ -5,6 +5,7 @@ use Rattle.std.specs.List.{All}
 use Rattle.std.proofs.lemmas.List.{take-append-drop, map-append, length-map, length-take-le, length-drop}
 use Rattle.std.proofs.lemmas.List.Elements.{All-nil, All-cons, All-head, All-tail, All-append}
 use Rattle.affc_rows.specs.Forms.{Affine, HaveColumns}
+use Rattle.affc_rows.specs.Vocabulary.{form_at}
 use Rattle.affc_rows.proofs.ValueLemmas.{length-composed}
 use Rattle.affc_farkas.specs.Rational.{scaled_value}
 use Rattle.affc_ast.specs.declared.tree.Rel.TheVariants.{Equal}
@@ -12,7 +13,7 @@ use Rattle.affc_domain.specs.Rounds.{loops_in}
 use Rattle.affc_domain.proofs.FormLemmas.{unit_width}
 use Rattle.affc_nest.specs.Domains.{column_form, compare_rows, domain_rows}
 use Rattle.affc_loopends.specs.TimeSets.{Timed, IsShaped, IsTimePoint, parameters_at, components_at, iterators_at}
-use Rattle.affc_loopends.specs.TimeRows.{columns_from, images, with_images, component_rows, system_of}
+use Rattle.affc_loopends.specs.TimeRows.{columns_from, images, component_rows, system_of}
 use Rattle.affc_loopends.proofs.Both.{itself, both, at_equal}
 use Rattle.affc_loopends.proofs.Scaled.{Held, held_all, held_append, compare_held, column_scaled, images_scaled}
 use Rattle.affc_loopends.proofs.Turns.{domain_held}
@@ -59,12 +60,12 @@ images_wide params components inverse w =
 -- ---- Rows with images
 
 rows_held : (c : ℕ) (gs : List Affine) (x : List ℤ) (d : ℤ) (rows : List Affine) → HaveColumns (length gs) rows → HaveColumns c gs → length x ≡ c
-    → Held x d (map (with_images c gs) rows) ↔ Held (map (λ g. scaled_value g x d) gs) d rows
+    → Held x d (map (form_at c gs) rows) ↔ Held (map (λ g. scaled_value g x d) gs) d rows
 rows_held c gs x d [] w u l = itself (Unit {0})
 rows_held c gs x d (r ∷ rs) w u l =
     let ys = map (λ g. scaled_value g x d) gs in
-    both (pos 0 ≤ℤ scaled_value (with_images c gs r) x d) (pos 0 ≤ℤ scaled_value r ys d) (Held x d (map (with_images c gs) rs)) (Held ys d rs)
-    (at_equal (λ z. pos 0 ≤ℤ z) (scaled_value (with_images c gs r) x d) (scaled_value r ys d) (images_scaled c gs r x d (sym (All-head (λ f. length f.coefs ≡ length gs) r rs w)) u l))
+    both (pos 0 ≤ℤ scaled_value (form_at c gs r) x d) (pos 0 ≤ℤ scaled_value r ys d) (Held x d (map (form_at c gs) rs)) (Held ys d rs)
+    (at_equal (λ z. pos 0 ≤ℤ z) (scaled_value (form_at c gs r) x d) (scaled_value r ys d) (images_scaled c gs r x d (sym (All-head (λ f. length f.coefs ≡ length gs) r rs w)) u l))
     (rows_held c gs x d rs (All-tail (λ f. length f.coefs ≡ length gs) r rs w) u l)
 
 -- ---- Components
@@ -83,7 +84,7 @@ components_held c gs x d (f ∷ fs) front [] j w u l is at e = absurd (omega ari
 components_held c gs x d (f ∷ fs) front (t ∷ ts) j w u l is at e =
     let ys = map (λ g. scaled_value g x d) gs in
     let a = column_form c j in
-    let b = with_images c gs f in
+    let b = form_at c gs f in
     let column : scaled_value a x d ≡ t = ap (λ k. scaled_value (column_form k j) x d) (sym l) ∙ column_scaled x d j ∙ ap (λ k. get_or x k (pos 0)) (sym at) ∙ ap (λ zs. get_or zs (length front) (pos 0)) is ∙ at_front front t ts in
     let value = images_scaled c gs f x d (sym (All-head (λ r. length r.coefs ≡ length gs) f fs w)) u l in
     let here = compare_held x d Equal a b (unit_width c j ∙ sym l) (length-composed f.coefs gs 0 c ∙ sym l) t (scaled_value f ys d) column value in
@@ -125,7 +126,7 @@ module _ (s : Timed) (x : List ℤ) (d : ℤ) (shaped : IsShaped s) (width : len
       let gl : length gs ≡ m + loops_in s.around = images_long m (length s.times) s.inverse ∙ ap (λ k. m + k) shaped.iterators in
       let gw = images_wide m (length s.times) s.inverse shaped.inverse in
       let all = held_all x d (system_of s).rows in
-      let split = held_append x d (map (with_images c gs) rows) (component_rows c m gs s.times) in
+      let split = held_append x d (map (form_at c gs) rows) (component_rows c m gs s.times) in
       let domain = rows_held c gs x d rows (subst (λ k. HaveColumns k rows) (sym gl) (domain_wide s.params s.context s.ranges s.around)) gw width in
       let turn = domain_held d s.params s.context s.ranges s.around p its parameters_long iterators_long shaped.ranges in
       let times = components_held c gs x d s.times p (components_at s x) m (subst (λ k. HaveColumns k s.times) (sym gl) shaped.times) gw width (sym (take-append-drop m x)) parameters_long components_long in (

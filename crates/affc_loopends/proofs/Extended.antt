@@ -3,6 +3,7 @@ use Rattle.std.proofs.Common.{◌≡◌, ℕ, suc, ◌+◌, List, [], ◌∷◌,
 use Rattle.std.proofs.lemmas.List.{take-append-le, take_all}
 use Rattle.std.proofs.lemmas.List.Elements.{All-nil, All-cons, All-append, All-weaker}
 use Rattle.affc_rows.specs.Forms.{Affine, HaveColumns}
+use Rattle.affc_rows.specs.Vocabulary.{form_at}
 use Rattle.affc_rows.proofs.ValueLemmas.{length-composed}
 use Rattle.affc_farkas.specs.Rational.{scaled_value}
 use Rattle.affc_eliminate.specs.project.Projections.{ExtendsWhole}
@@ -10,7 +11,7 @@ use Rattle.affc_system.specs.Systems.{Rows, Meets}
 use Rattle.affc_domain.proofs.FormLemmas.{unit_width}
 use Rattle.affc_nest.specs.Domains.{gap_row, column_form, domain_rows}
 use Rattle.affc_loopends.specs.TimeSets.{Timed, IsShaped, IsTimePoint}
-use Rattle.affc_loopends.specs.TimeRows.{images, with_images, component_rows, system_of}
+use Rattle.affc_loopends.specs.TimeRows.{images, component_rows, system_of}
 use Rattle.affc_loopends.specs.Ends.{AreEndsFrom, LieBetween, IsProjectedRow}
 use Rattle.affc_loopends.specs.Laws.{RowsAreExact, EndsHold, TurnsExtend, WholePointsLieBetween}
 use Rattle.affc_loopends.proofs.Instances.{whole_value}
@@ -24,15 +25,15 @@ rows_are_exact s x d shaped width one = exact s x d shaped width one
 
 -- ---- Widths
 
-with_images_wide : (c : ℕ) (gs rows : List Affine) → HaveColumns c (map (with_images c gs) rows)
-with_images_wide c gs [] = All-nil (Wide c)
-with_images_wide c gs (r ∷ rs) = All-cons (Wide c) (with_images c gs r) (map (with_images c gs) rs) (length-composed r.coefs gs 0 c) (with_images_wide c gs rs)
+form_at_wide : (c : ℕ) (gs rows : List Affine) → HaveColumns c (map (form_at c gs) rows)
+form_at_wide c gs [] = All-nil (Wide c)
+form_at_wide c gs (r ∷ rs) = All-cons (Wide c) (form_at c gs r) (map (form_at c gs) rs) (length-composed r.coefs gs 0 c) (form_at_wide c gs rs)
 
 components_wide : (c j : ℕ) (gs fs : List Affine) → HaveColumns c (component_rows c j gs fs)
 components_wide c j gs [] = All-nil (Wide c)
 components_wide c j gs (f ∷ fs) =
     let a = column_form c j in
-    let b = with_images c gs f in
+    let b = form_at c gs f in
     let u = unit_width c j in
     let v = length-composed f.coefs gs 0 c in
     All-cons (Wide c) (gap_row b a 0) (gap_row a b 0 ∷ component_rows c (suc j) gs fs) (gap_wide c b a 0 v u)
@@ -43,8 +44,8 @@ system_wide s =
     let m = length s.params in
     let c = m + length s.times in
     let gs = images m (length s.times) s.inverse in
-    All-append (Wide c) (map (with_images c gs) (domain_rows s.params s.context s.ranges s.around)) (component_rows c m gs s.times)
-    (with_images_wide c gs (domain_rows s.params s.context s.ranges s.around)) (components_wide c m gs s.times)
+    All-append (Wide c) (map (form_at c gs) (domain_rows s.params s.context s.ranges s.around)) (component_rows c m gs s.times)
+    (form_at_wide c gs (domain_rows s.params s.context s.ranges s.around)) (components_wide c m gs s.times)
 
 -- ---- Ends
 

@@ -4,6 +4,7 @@ use Rattle.std.specs.List.{All}
 use Rattle.std.proofs.lemmas.List.{length-map}
 use Rattle.std.proofs.lemmas.List.Elements.{All-nil, All-cons, All-append, All-weaker, All-head, All-tail}
 use Rattle.affc_rows.specs.Forms.{Affine, HaveColumns, columns_of}
+use Rattle.affc_rows.specs.Vocabulary.{form_at}
 use Rattle.affc_system.specs.Systems.{Rows, IsRow}
 use Rattle.affc_ast.specs.declared.tree.Program.{Program}
 use Rattle.affc_trace.specs.declared.schedule.TimeMap.{TimeMap}
@@ -24,7 +25,7 @@ use Rattle.affc_nest.proofs.QuestionLemmas.{place_of}
 use Rattle.affc_nest.proofs.QuestionProofs.{nest_few, few_numbered, domain_small}
 use Rattle.affc_loopends.specs.Images.{AreImages, AreComposable}
 use Rattle.affc_loopends.specs.Sizes.{IsTimed, IsSlight, IsNear}
-use Rattle.affc_loopends.specs.TimeRows.{columns_from, with_images, component_rows}
+use Rattle.affc_loopends.specs.TimeRows.{columns_from, component_rows}
 use Rattle.affc_loopends.proofs.Composed.{column_slight_form, slight_composed, is_composed, composed_fits, gap_fits, gap_long}
 use Rattle.affc_loopends.proofs.Exact.{images_long}
 use Rattle.affc_loopends.proofs.Near.{domain_near, forms_slight, slight_near}
@@ -65,17 +66,17 @@ own_slight : (c j n : ℕ) → All (IsSlight c) (columns_from c j n)
 own_slight c j zero = All-nil (IsSlight c)
 own_slight c j (suc n) = All-cons (IsSlight c) (column_form c j) (columns_from c (suc j) n) (column_slight_form c j) (own_slight c (suc j) n)
 
-images_rows : (c : ℕ) (gs : List Affine) → AreImages c gs → (rows : List Affine) → All (IsNear (length gs)) rows → All (IsRow c) (map (with_images c gs) rows)
+images_rows : (c : ℕ) (gs : List Affine) → AreImages c gs → (rows : List Affine) → All (IsNear (length gs)) rows → All (IsRow c) (map (form_at c gs) rows)
 images_rows c gs are [] h = All-nil (IsRow c)
 images_rows c gs are (r ∷ rs) h =
     let d = is_composed c gs are r (All-head (IsNear (length gs)) r rs h) in
-    All-cons (IsRow c) (with_images c gs r) (map (with_images c gs) rs) (record { width = d.width; fits = composed_fits c (with_images c gs r) d }) (images_rows c gs are rs (All-tail (IsNear (length gs)) r rs h))
+    All-cons (IsRow c) (form_at c gs r) (map (form_at c gs) rs) (record { width = d.width; fits = composed_fits c (form_at c gs r) d }) (images_rows c gs are rs (All-tail (IsNear (length gs)) r rs h))
 
 components_rows : (c j : ℕ) (gs : List Affine) → AreImages c gs → (fs : List Affine) → All (IsNear (length gs)) fs → All (IsRow c) (component_rows c j gs fs)
 components_rows c j gs are [] h = All-nil (IsRow c)
 components_rows c j gs are (f ∷ fs) h =
     let a = column_form c j in
-    let b = with_images c gs f in
+    let b = form_at c gs f in
     let p = slight_composed c a (column_slight_form c j) in
     let q = is_composed c gs are f (All-head (IsNear (length gs)) f fs h) in
     All-cons (IsRow c) (gap_row b a 0) (gap_row a b 0 ∷ component_rows c (suc j) gs fs) (record { width = gap_long c b a q p; fits = gap_fits c b a q p })
@@ -124,16 +125,16 @@ module _ (params : ℕ) (domain times inverse : List Affine) (h : AreComposable 
   pub made_times : All (IsNear (length gs)) times
   made_times = subst (λ k. All (IsNear k) times) (sym count) h.near_times
 
-  pub made_system : (rows : List Affine) → rows ≡ map (with_images (params + length times) gs) domain ++ component_rows (params + length times) params gs times → All (IsRow (params + length times)) rows
+  pub made_system : (rows : List Affine) → rows ≡ map (form_at (params + length times) gs) domain ++ component_rows (params + length times) params gs times → All (IsRow (params + length times)) rows
   made_system rows made =
       let c = params + length times in
-      subst (All (IsRow c)) (sym made) (All-append (IsRow c) (map (with_images c gs) domain) (component_rows c params gs times) (images_rows c gs made_images domain made_rows) (components_rows c params gs made_images times made_times))
+      subst (All (IsRow c)) (sym made) (All-append (IsRow c) (map (form_at c gs) domain) (component_rows c params gs times) (images_rows c gs made_images domain made_rows) (components_rows c params gs made_images times made_times))
 
-  pub made_count : (rows : List Affine) → rows ≡ map (with_images (params + length times) gs) domain ++ component_rows (params + length times) params gs times → length rows < 1024
+  pub made_count : (rows : List Affine) → rows ≡ map (form_at (params + length times) gs) domain ++ component_rows (params + length times) params gs times → length rows < 1024
   made_count rows made =
       let c = params + length times in
-      let a = ap length made ∙ length-append (map (with_images c gs) domain) (component_rows c params gs times) in
-      let b = length-map domain (with_images c gs) in
+      let a = ap length made ∙ length-append (map (form_at c gs) domain) (component_rows c params gs times) in
+      let b = length-map domain (form_at c gs) in
       let d = components_count c params gs times in
       let f = h.few_rows in
       let g = h.few_components in
@@ -142,14 +143,14 @@ module _ (params : ℕ) (domain times inverse : List Affine) (h : AreComposable 
 -- ---- What the code has made
 
 pub code_fit : (params : ℕ) (domain times inverse : List Affine) → AreComposable params domain times inverse → (items g1 g2 r0 r1 r2 r3 : List Affine) (s : Rows)
-    → items ≡ columns_from (params + length times) 0 params ++ inverse → g1 ≡ items → g2 ≡ items → r0 ≡ [] → r1 ≡ r0 ++ map (with_images (params + length times) g1) domain
+    → items ≡ columns_from (params + length times) 0 params ++ inverse → g1 ≡ items → g2 ≡ items → r0 ≡ [] → r1 ≡ r0 ++ map (form_at (params + length times) g1) domain
     → r2 ≡ r1 ++ component_rows (params + length times) params g2 times → r3 ≡ r2 → s ≡ record { columns = params + length times; rows = [] }
     → All (IsRow s.columns) r3 × (length s.rows + length r3 < 1024)
 code_fit params domain times inverse h items g1 g2 r0 r1 r2 r3 s is e1 e2 f0 f1 f2 f3 g =
     let c = params + length times in
-    let made : r3 ≡ map (with_images c items) domain ++ component_rows c params items times =
-    f3 ∙ f2 ∙ ap (λ z. z ++ component_rows c params g2 times) (f1 ∙ ap (λ z. z ++ map (with_images c g1) domain) f0) ∙ ap (λ z. map (with_images c z) domain ++ component_rows c params g2 times) e1
-    ∙ ap (λ z. map (with_images c items) domain ++ component_rows c params z times) e2 in
+    let made : r3 ≡ map (form_at c items) domain ++ component_rows c params items times =
+    f3 ∙ f2 ∙ ap (λ z. z ++ component_rows c params g2 times) (f1 ∙ ap (λ z. z ++ map (form_at c g1) domain) f0) ∙ ap (λ z. map (form_at c z) domain ++ component_rows c params g2 times) e1
+    ∙ ap (λ z. map (form_at c items) domain ++ component_rows c params z times) e2 in
     let fits : length r3 < 1024 = made_count params domain times inverse h items is r3 made in
     let start : 0 + length r3 < 1024 = omega arith in (
       subst (λ (q : Rows). All (IsRow q.columns) r3) (sym g) (made_system params domain times inverse h items is r3 made),

@@ -7,6 +7,7 @@ use Rattle.std.proofs.lemmas.List.{length-map}
 use Rattle.std.proofs.lemmas.List.Elements.{All-nil, All-cons}
 use lib.IntN.{*ℤ-zero}
 use Rattle.affc_rows.specs.Forms.{Affine, dot, value, mixed, mixed_form, HaveColumns, column_of, constants_of, values_of, composed}
+use Rattle.affc_rows.specs.Vocabulary.{form_at}
 use Rattle.affc_rows.proofs.IntLemmas.{mul-add, mul_assoc}
 use Rattle.affc_rows.proofs.ValueLemmas.{dot-mixed, value-composed}
 use Rattle.affc_farkas.specs.Rational.{scaled_value}
@@ -18,7 +19,6 @@ use Rattle.affc_domain.proofs.FormLemmas.{form_width, column_value, number_value
 use Rattle.affc_nest.specs.Domains.{gap_row, compare_rows, column_form, number_form}
 use Rattle.affc_nest.proofs.WidenLemmas.{widen_form}
 use Rattle.affc_loopends.specs.TimeSets.{scaled_at, AreRelated}
-use Rattle.affc_loopends.specs.TimeRows.{with_images}
 
 -- ---- Rows one after the other
 
@@ -192,7 +192,7 @@ no_columns j (suc n) (y ∷ x) = omega (arith, ints, no_columns (suc j) n x)
 
 -- the value of a form with its columns' images is its value at the images' values
 pub images_scaled : (n : ℕ) (gs : List Affine) (f : Affine) (x : List ℤ) (d : ℤ) → length gs ≡ length f.coefs → HaveColumns n gs → length x ≡ n
-    → scaled_value (with_images n gs f) x d ≡ scaled_value f (map (λ g. scaled_value g x d) gs) d
+    → scaled_value (form_at n gs f) x d ≡ scaled_value f (map (λ g. scaled_value g x d) gs) d
 images_scaled n [] f x d h w l = none f.coefs h
   where
     none : (cs : List ℤ) → 0 ≡ length cs → dot (composed cs [] 0 n) x +ℤ (d *ℤ (dot cs [] +ℤ f.constant)) ≡ dot cs [] +ℤ (d *ℤ f.constant)

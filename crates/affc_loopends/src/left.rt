@@ -7,8 +7,8 @@ ghost use Rattle.affc_loopends.specs.Steps.{AreLeft};
 
 use crate::bounds::Answer;
 use crate::questions::{ask, without};
-use crate::system::add_copies;
 use affc_rows::Form;
+use affc_rows::vocabulary::add_copies;
 use std::alloc::{AllocError, Global};
 
 /// What elimination says of a row beside others.
@@ -132,8 +132,7 @@ fn left_beside(
     let mut beside = Vec::new(alloc);
     add_copies(flat, &mut beside)?;
     add_copies(other, &mut beside)?;
-    let left = left_of(alloc, columns, kept, beside.as_slice())?;
-    Ok(left)
+    left_of(alloc, columns, kept, beside.as_slice())
 }
 
 /// The rows of both ends without those that the ones that are left and the flat ones imply: first the lower ones, beside all upper ones.

@@ -1,5 +1,5 @@
 //! Whether rows imply another one, asked of elimination.
-ghost use Rattle.std.specs.Prelude.{◌≡◌, ℕ, ◌+◌, ◌<◌, ◌≤◌, ◌++◌, ◌∷◌, [], length, neg_ℤ, unsigned_abs, ◌^◌, ◌↔◌, IsTrue, IfOk, remove};
+ghost use Rattle.std.specs.Prelude.{◌≡◌, ℕ, ◌+◌, ◌<◌, ◌≤◌, ◌++◌, ◌∷◌, [], length, ◌↔◌, IsTrue, IfOk, remove};
 ghost use Rattle.std.specs.List.{All};
 ghost use Rattle.affc_system.specs.Systems.{Meets};
 ghost use Rattle.affc_loopends.specs.Sizes.{IsPrintable};
@@ -11,8 +11,8 @@ use affc_eliminate::project::{Projected, project};
 use affc_nest::questions::add_rows;
 use affc_nest::rows::add_row;
 use affc_rows::Form;
+use affc_rows::vocabulary::copies;
 use affc_system::System;
-use smallvec::SmallVec;
 use std::alloc::{AllocError, Global};
 
 /// The rows without the one at a place.
@@ -20,21 +20,9 @@ pub(crate) fn without(rows: &[Form], place: usize, alloc: Global) -> Result<Vec<
     requires { place < length rows.now }
     ensures { IfOk result (λ v. v.items ≡ remove rows.now place) }
 {
-    let mut others = Vec::new(alloc);
-    for row in rows {
-        let copy = row.clone()?;
-        others.push(copy)?;
-    }
+    let mut others = copies(alloc, rows)?;
     others.remove(place);
     Ok(others)
-}
-
-/// The number with the other sign.
-fn negative(c: i128) -> i128
-    requires { unsigned_abs c ≤ 2 ^ 60 }
-    ensures { result ≡ neg_ℤ c }
-{
-    -c
 }
 
 /// The row that a row is at most -1.
@@ -42,14 +30,8 @@ fn below_zero(alloc: Global, row: &Form) -> Result<Form, AllocError>
     requires { IsPrintable (length row.now.coefs) row.now }
     ensures { IfOk result (λ f. f ≡ below_zero row.now) }
 {
-    let mut coefs = SmallVec::new(alloc);
-    for c in row.coefs.as_slice() {
-        coefs.push(negative(*c))?;
-    }
-    Ok(Form {
-        coefs,
-        constant: negative(row.constant) - 1,
-    })
+    let opposite = row.opposite(alloc)?;
+    Ok(opposite.less(1))
 }
 
 /// The system of the question whether these rows imply another one.

@@ -1,49 +1,28 @@
 //! The time set of a statement as a system.
-ghost use Rattle.std.specs.Prelude.{◌≡◌, ℕ, ◌∷◌, [], ◌+◌, ◌*◌, ◌≤◌, ◌<◌, ◌++◌, pos, length, map, replicate, IfOk, OnOk};
+ghost use Rattle.std.specs.Prelude.{◌≡◌, ℕ, ◌∷◌, [], ◌+◌, ◌*◌, ◌≤◌, ◌<◌, ◌++◌, length, map, IfOk, OnOk};
 ghost use Rattle.std.specs.List.{All};
+ghost use Rattle.affc_rows.specs.Vocabulary.{column_form, form_at};
 ghost use Rattle.affc_ast.specs.declared.tree.Rel.TheVariants.{Equal};
-ghost use Rattle.affc_nest.specs.Domains.{gap_row, column_form, compare_rows};
+ghost use Rattle.affc_nest.specs.Domains.{compare_rows};
 ghost use Rattle.affc_loopends.specs.Images.{AreImages, AreComposable};
-ghost use Rattle.affc_loopends.specs.Sizes.{IsTimed, IsNear, IsComposed};
-ghost use Rattle.affc_loopends.specs.TimeRows.{columns_from, with_images, component_rows, time_system};
+ghost use Rattle.affc_loopends.specs.Sizes.{IsTimed, IsNear};
+ghost use Rattle.affc_loopends.specs.TimeRows.{columns_from, component_rows, time_system};
 
 use affc_nest::questions::add_rows;
 use affc_nest::{Entry, Nest};
-use affc_rows::{Form, FormFault};
+use affc_rows::Form;
+use affc_rows::vocabulary::add_copies;
 use affc_system::System;
 use affc_trace::TimeMap;
-use smallvec::SmallVec;
 use std::alloc::{AllocError, Global};
-
-/// A row of zeros.
-fn zeros(alloc: Global, columns: u32) -> Result<SmallVec<i128, 16, Global>, AllocError>
-    ensures { IfOk result (λ v. v.items ≡ replicate columns (pos 0)) }
-{
-    let mut made = SmallVec::new(alloc);
-    for _i in 0..columns {
-        made.push(0)?;
-    }
-    Ok(made)
-}
 
 /// The form with each of its columns replaced by its image, over so many columns.
 fn image_of(alloc: Global, columns: u32, images: &[Form], form: &Form) -> Result<Form, AllocError>
     requires images { AreImages columns images.now }
     requires near { IsNear (length images.now) form.now }
-    ensures { IfOk result (λ f. f ≡ with_images columns images.now form.now) }
+    ensures { IfOk result (λ f. f ≡ form_at columns images.now form.now) }
 {
-    if images.is_empty() {
-        let coefs = zeros(alloc, columns)?;
-        return Ok(Form {
-            coefs,
-            constant: form.constant,
-        });
-    }
-    match form.compose(alloc, images) {
-        Ok(made) => Ok(made),
-        Err(FormFault::Range) => unreachable!(),
-        Err(FormFault::Memory) => Err(AllocError),
-    }
+    form.at_images(alloc, columns, images)
 }
 
 /// Adds forms, each with its columns replaced.
@@ -56,28 +35,14 @@ fn add_images(
 ) -> Result<(), AllocError>
     requires images { AreImages columns images.now }
     requires near { All (IsNear (length images.now)) forms.now }
-    ensures { OnOk result (out.new.items ≡ out.old.items ++ map (with_images columns images.now) forms.now) }
+    ensures { OnOk result (out.new.items ≡ out.old.items ++ map (form_at columns images.now) forms.now) }
 {
     match forms {
         [] => Ok(()),
         [form, rest @ ..] => {
-            let made = image_of(alloc, columns, images, form)?;
-            out.push(made)?;
+            out.push(image_of(alloc, columns, images, form)?)?;
             add_images(alloc, columns, images, rest, out)
         }
-    }
-}
-
-/// The row that the first form is at most the second.
-fn at_most(alloc: Global, columns: u32, a: &Form, b: &Form) -> Result<Form, AllocError>
-    requires first { IsComposed columns a.now }
-    requires second { IsComposed columns b.now }
-    ensures { IfOk result (λ f. f ≡ gap_row a.now b.now 0) }
-{
-    match b.scale_add(alloc, 1, a, -1) {
-        Ok(form) => Ok(form),
-        Err(FormFault::Range) => unreachable!(),
-        Err(FormFault::Memory) => Err(AllocError),
     }
 }
 
@@ -92,12 +57,12 @@ fn add_component(
 ) -> Result<(), AllocError>
     requires images { AreImages columns images.now }
     requires near { IsNear (length images.now) form.now }
-    ensures { OnOk result (out.new.items ≡ out.old.items ++ compare_rows Equal (column_form columns component) (with_images columns images.now form.now)) }
+    ensures { OnOk result (out.new.items ≡ out.old.items ++ compare_rows Equal (column_form columns component) (form_at columns images.now form.now)) }
 {
     let own = Form::column(alloc, columns, component)?;
     let time = image_of(alloc, columns, images, form)?;
-    let above = at_most(alloc, columns, &time, &own)?;
-    let below = at_most(alloc, columns, &own, &time)?;
+    let above = Form::gap(alloc, &time, &own, 0)?;
+    let below = Form::gap(alloc, &own, &time, 0)?;
     out.push(above)?;
     out.push(below)?;
     Ok(())
@@ -141,24 +106,8 @@ fn columns_from(
     if count == 0 {
         return Ok(());
     }
-    let form = Form::column(alloc, columns, first)?;
-    out.push(form)?;
-    columns_from(alloc, columns, first + 1, count - 1, out)?;
-    Ok(())
-}
-
-/// Adds copies of forms.
-pub(crate) fn add_copies(forms: &[Form], out: &mut Vec<Form>) -> Result<(), AllocError>
-    ensures { OnOk result (out.new.items ≡ out.old.items ++ forms.now) }
-{
-    match forms {
-        [] => Ok(()),
-        [form, rest @ ..] => {
-            let copy = form.clone()?;
-            out.push(copy)?;
-            add_copies(rest, out)
-        }
-    }
+    out.push(Form::column(alloc, columns, first)?)?;
+    columns_from(alloc, columns, first + 1, count - 1, out)
 }
 
 /// What stands for the parameters and the iterators: the parameters themselves, and the inverse.
@@ -210,12 +159,11 @@ pub fn time_system(
 {
     let params = nest.params.ranges().len() as u32;
     let domain = entry.domain.rows();
-    let made = system_by(
+    system_by(
         alloc,
         params,
         domain,
         map.forms.as_slice(),
         map.inverse.as_slice(),
-    )?;
-    Ok(made)
+    )
 }

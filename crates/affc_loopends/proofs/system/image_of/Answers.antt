@@ -1,10 +1,12 @@
-use Rattle.std.proofs.Common.{length, sym, ◌∙◌, rules}
-use Rattle.std.proofs.lemmas.Bool.{eqb-true}
-use Rattle.affc_loopends.proofs.Composed.{not_too_wide, flat_is}
+use Rattle.std.proofs.Common.{sym}
+use Rattle.affc_loopends.proofs.Composed.{images_wide, not_too_wide}
 use Rattle.affc_loopends.proofs.system.image_of.Goals as goal
 
-pub returns-then-is_empty : goal.returns-then-is_empty
-returns-then-is_empty c = flat_is c.args.columns c.args.images.now c.args.form.now _ (eqb-true (length c.args.images.now) 0 (sym c.is_empty.ensures ∙ c.if-is_empty.true)) c.in_ok-coefs.ensures (search rules)
+pub at_images-requires-clause-one_each : goal.at_images-requires-clause-one_each
+at_images-requires-clause-one_each c = sym c.requires.near.width
 
-pub unreachable-requires : goal.unreachable-requires
-unreachable-requires c = not_too_wide c.args.columns c.args.images.now c.requires.images c.args.form.now c.requires.near (c.in-Err-Range.ensures.range c.in-Err-Range.field-0-is)
+pub at_images-requires-clause-equal_columns : goal.at_images-requires-clause-equal_columns
+at_images-requires-clause-equal_columns c = images_wide c.args.columns c.args.images.now c.requires.images
+
+pub at_images-requires-clause-fits : goal.at_images-requires-clause-fits
+at_images-requires-clause-fits c = not_too_wide c.args.columns c.args.images.now c.requires.images c.args.form.now c.requires.near
