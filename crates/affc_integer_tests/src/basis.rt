@@ -1,10 +1,10 @@
-//! That the calls succeed, with bases and places that were found by hand.
+//! Places that were found by hand.
 ghost use Rattle.std.specs.Prelude.{◌≡◌, ◌∷◌, [], IfOk, length, pos};
 ghost use Rattle.affc_rows.specs.Forms.{HaveColumns};
 ghost use Rattle.affc_basis.specs.Bases.{AreWithin, HaveCoefsWithin};
 
 use affc_basis::basis::given;
-use affc_basis::{Fold, Mark, Modulus, NotInverse};
+use affc_basis::{Fold, Mark, Modulus};
 use affc_rows::Form;
 use smallvec::SmallVec;
 use sqlite_items::Items;
@@ -36,64 +36,6 @@ fn forms(alloc: Global, rows: [Row; 2]) -> Result<Items<Form>, AllocError>
     forms.push(form(alloc, first)?)?;
     forms.push(form(alloc, second)?)?;
     Ok(forms)
-}
-
-/// The first component that is wrong, if any is.
-fn wrong_component(
-    alloc: Global,
-    rows: [Row; 2],
-    inverse: [Row; 2],
-) -> Result<Option<u32>, AllocError> {
-    match given(forms(alloc, rows)?, forms(alloc, inverse)?) {
-        Ok(_) => Ok(None),
-        Err(NotInverse { component }) => Ok(Some(component)),
-    }
-}
-
-#[test]
-fn bases(rt: HostRuntime) -> Result<(), Fail> {
-    let identity = [[1, 0, 0], [0, 1, 0]];
-    let rows = [
-        (identity, identity, None),
-        ([[1, 1, 0], [0, 1, 0]], [[1, -1, 0], [0, 1, 0]], None),
-        ([[0, 1, 0], [-1, 0, 0]], [[0, -1, 0], [1, 0, 0]], None),
-        // the first component, the second, and both
-        (identity, [[1, 1, 0], [0, 1, 0]], Some(0)),
-        (identity, [[1, 0, 0], [0, -1, 0]], Some(1)),
-        (identity, [[0, 1, 0], [1, 0, 0]], Some(0)),
-        // twice the identity, and constants
-        ([[2, 0, 0], [0, 2, 0]], identity, Some(0)),
-        ([[1, 0, 0], [0, 1, 1]], identity, Some(1)),
-        (identity, [[1, 0, 0], [0, 1, -1]], Some(1)),
-    ];
-    for (rows, inverse, want) in rows {
-        assert_eq!(rt; wrong_component(rt.alloc(), rows, inverse)?, want);
-    }
-    Ok(())
-}
-
-#[test]
-fn faults_have_messages(rt: HostRuntime) -> Result<(), Fail> {
-    let text = format!(in rt.alloc(); "{}", NotInverse { component: 2 })?;
-    assert_eq!(rt;
-        text.as_str(),
-        "the inverse of the basis fails at component 2"
-    );
-    Ok(())
-}
-
-#[test]
-fn rows_are_kept(rt: HostRuntime) -> Result<(), Fail> {
-    let rows = forms(rt.alloc(), [[1, 1, 0], [0, 1, 0]])?;
-    let inverse = forms(rt.alloc(), [[1, -1, 0], [0, 1, 0]])?;
-    let Ok(basis) = given(rows, inverse) else {
-        panic!(rt; "the inverse is right");
-    };
-    let first = &basis.rows.as_slice()[0];
-    assert!(rt; first.coefs.as_slice() == [1, 1].as_slice());
-    let back = &basis.inverse.as_slice()[0];
-    assert!(rt; back.coefs.as_slice() == [1, -1].as_slice());
-    Ok(())
 }
 
 /// `N + constant`.

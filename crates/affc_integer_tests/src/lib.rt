@@ -1,5 +1,4 @@
-//! Calls of the integer crates whose answers are known from outside: that they succeed with ample memory, and what no clause
-//! says.
+//! Calls of the integers' crates that no command reaches, with answers that are known from outside.
 //!
 //! They stand together, since the tests of a crate are built with a second proof of all of it.
 #![tactic(auto)]
@@ -7,16 +6,4 @@
 #[cfg(test)]
 mod basis;
 #[cfg(test)]
-mod cert;
-#[cfg(test)]
 mod farkas;
-#[cfg(test)]
-mod forms;
-#[cfg(test)]
-mod projection;
-#[cfg(test)]
-mod rows;
-#[cfg(test)]
-mod split;
-#[cfg(test)]
-mod system;
