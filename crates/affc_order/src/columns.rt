@@ -1,12 +1,11 @@
 //! Forms at the columns of a question.
-ghost use Rattle.std.specs.Prelude.{◌≡◌, ◌+◌, ◌-◌, ◌≤◌, ◌<◌, ◌++◌, pos, length, replicate, map, IfOk, OnOk};
+ghost use Rattle.std.specs.Prelude.{◌≡◌, ◌+◌, ◌≤◌, ◌++◌, length, map, IfOk, OnOk};
 ghost use Rattle.std.specs.List.{All};
 ghost use Rattle.affc_trace.specs.Inverses.{columns_from};
 ghost use Rattle.affc_nest.specs.Sides.{IsSide};
 ghost use Rattle.affc_order.specs.Spread.{spread};
 
 use affc_rows::Form;
-use smallvec::SmallVec;
 use std::alloc::{AllocError, Global};
 
 /// So many columns from one on, each as a form.
@@ -24,23 +23,13 @@ pub fn columns_from(
 {
     let mut made = Vec::new(alloc);
     for i in 0..n {
-        let form = Form::column(alloc, columns, first + i)?;
-        made.push(form)?;
+        made.push(Form::column(alloc, columns, first + i)?)?;
     }
     Ok(made)
 }
 
-/// Adds so many zeros.
-fn add_zeros(coefs: &mut SmallVec<i128, 16, Global>, n: u32) -> Result<(), AllocError>
-    ensures { OnOk result (coefs.new.items ≡ coefs.old.items ++ replicate n (pos 0)) }
-{
-    for _i in 0..n {
-        coefs.push(0)?;
-    }
-    Ok(())
-}
-
 /// The form with so many columns more between its parameters and its iterators, and so many behind.
+#[inline]
 pub fn spread(
     alloc: Global,
     form: &Form,
@@ -51,15 +40,7 @@ pub fn spread(
     requires { params ≤ length form.now.coefs }
     ensures { IfOk result (λ f. f ≡ spread params between behind form.now) }
 {
-    let (front, back) = form.coefs.as_slice().split_at(params as usize);
-    let mut coefs = SmallVec::from_slice(alloc, front)?;
-    add_zeros(&mut coefs, between)?;
-    coefs.extend_from_slice(back)?;
-    add_zeros(&mut coefs, behind)?;
-    Ok(Form {
-        coefs,
-        constant: form.constant,
-    })
+    form.spread(alloc, params, between, behind)
 }
 
 /// Adds forms, each spread.
@@ -77,8 +58,7 @@ pub fn add_spread(
     match forms {
         [] => Ok(()),
         [form, rest @ ..] => {
-            let made = spread(alloc, form, params, between, behind)?;
-            out.push(made)?;
+            out.push(form.spread(alloc, params, between, behind)?)?;
             add_spread(alloc, rest, params, between, behind, out)
         }
     }
