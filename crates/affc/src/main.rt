@@ -1,4 +1,4 @@
-// affc folds the temporary arrays of affine loop nests onto small buffers, tells their dataflow, and runs programs.
+//! affc folds the temporary arrays of affine loop nests onto small buffers, tells their dataflow, and runs programs.
 #![tactic(auto)]
 
 use affc_cli::serve::answered;

@@ -1,4 +1,4 @@
-// A pipeline of many stages, folded and summed up.
+//! A pipeline of many stages, folded and summed up.
 ghost use Rattle.std.specs.Prelude.{◌≡◌, ◌++◌, [], IfOk, IfErr, OnOk, string_bytes};
 ghost use Rattle.affc_cli.specs.Big.{BigCause, SumsUp, count_line, summary};
 

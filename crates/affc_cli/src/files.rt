@@ -1,4 +1,4 @@
-// Reading the files that a command names.
+//! Reading the files that a command names.
 ghost use Rattle.std.specs.Prelude.{◌≡◌, Some, None, IfOk, IfErr, OnOk, option_map};
 ghost use Rattle.affc_io.specs.Files.{Holds};
 ghost use Rattle.affc_io.specs.State.{FolderKeeps};

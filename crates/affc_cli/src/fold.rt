@@ -1,4 +1,4 @@
-// One source, compiled.
+//! One source, compiled.
 ghost use Rattle.std.specs.Prelude.{◌≡◌, IfOk, IfErr, None, option_map};
 ghost use Rattle.affc_weigh.specs.Costs.{NeverFalls, TakesModuli};
 ghost use Rattle.affc_cli.specs.Budgets.{FoldsWithin, CertifiedWithin, FoldMakes, answers_of};

@@ -1,4 +1,4 @@
-// What affc does with its words, over any folder and any two sinks.
+//! What affc does with its words, over any folder and any two sinks.
 #![tactic(auto)]
 
 mod big;

@@ -1,8 +1,8 @@
-// What a command writes.
+//! What a command writes.
 
 /// The certificate, for the file that is named for it, if one is; the text, which goes to `out`; and the report, which goes to `err`
 /// behind it.
-#[derive(Debug, Drop)]
+#[derive(Drop)]
 pub struct Pieces {
     pub certificate: Vec<u8>,
     pub text: Vec<u8>,

@@ -1,4 +1,4 @@
-// One source, compiled by a certificate.
+//! One source, compiled by a certificate.
 ghost use Rattle.std.specs.Prelude.{IfOk, IfErr};
 ghost use Rattle.affc_replay.specs.Refusals.{ReplayRefuses};
 ghost use Rattle.affc_replay.specs.Replays.{ReplaysTo};

@@ -1,4 +1,4 @@
-// One source, run on data.
+//! One source, run on data.
 ghost use Rattle.std.specs.Prelude.{◌≡◌, [], IfOk, IfErr};
 ghost use Rattle.affc_cli.specs.Run.{RunsTo, RunTextCause};
 

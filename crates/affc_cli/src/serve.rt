@@ -1,4 +1,4 @@
-// The top call.
+//! The top call.
 ghost use Rattle.std.specs.Prelude.{◌≡◌, None, Some, drop, option_map};
 ghost use Rattle.std.specs.Process.{exit_status};
 ghost use Rattle.affc_words.specs.Command.{Fold, Replay, Run, Flow, Big, texts_of};

@@ -1,4 +1,4 @@
-// The last-write trees of one source.
+//! The last-write trees of one source.
 ghost use Rattle.std.specs.Prelude.{◌≡◌, ◌≢◌, [], IfOk, IfErr};
 ghost use Rattle.affc_driver.specs.Flows.{FlowsTo};
 ghost use Rattle.affc_driver.specs.Refusals.{FlowRefusalSays};

@@ -1,4 +1,4 @@
-// Writing what a command makes, or telling why there is nothing.
+//! Writing what a command makes, or telling why there is nothing.
 ghost use Rattle.std.specs.Prelude.{option_map};
 ghost use Rattle.affc_io.specs.State.{SinkCounts};
 ghost use Rattle.affc_cli.specs.Outside.{KeepsBut};

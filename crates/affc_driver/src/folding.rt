@@ -49,7 +49,7 @@ use sqlite_items::Items;
 use std::alloc::Global;
 
 /// What is made of a source.
-#[derive(Debug, Drop)]
+#[derive(Drop)]
 pub struct Done {
     /// The compiled program, as C.
     pub text: Vec<u8>,
@@ -60,7 +60,7 @@ pub struct Done {
 }
 
 /// What is made of a source, and a certificate of its folds.
-#[derive(Debug, Drop)]
+#[derive(Drop)]
 pub struct CertifiedDone {
     pub done: Done,
     pub certificate: Vec<u8>,

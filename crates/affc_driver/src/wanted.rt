@@ -1,7 +1,7 @@
 //! What is made of a source.
 
 /// Whether a certificate is made beside the text.
-#[derive(Clone, Copy, Debug)]
+#[derive(Clone, Copy)]
 pub(crate) enum Wanted {
     Text,
     Certificate,

@@ -1,4 +1,4 @@
-// The lines that say why a certificate isn't one.
+//! The lines that say why a certificate isn't one.
 ghost use Rattle.std.specs.Prelude.{◌≡◌, IfOk, string_bytes};
 ghost use Rattle.affc_lines.specs.Certificate.{numbered_line, certificate_line, check_line};
 

@@ -1,4 +1,4 @@
-// What is wrong with a program, whatever its data: its line, and the refusal that tells it.
+//! What is wrong with a program, whatever its data: its line, and the refusal that tells it.
 ghost use Rattle.std.specs.Prelude.{◌≡◌, ◌+◌, ◌<◌, ◌++◌, [], length, ℕ, get_or, IfOk, MatchResult, flat_map, codes, decimal, option_map, string_bytes};
 ghost use Rattle.affc_ast.specs.Recursion.{by_stmt};
 ghost use Rattle.affc_domain.specs.Rounds.{rounds_step};

@@ -1,4 +1,4 @@
-// Why a command is refused.
+//! Why a command is refused.
 ghost use Rattle.std.specs.Prelude.{◌≡◌, ◌++◌, List, ℕ, IfOk, codes, string_bytes};
 ghost use Rattle.affc_io.specs.State.{SinkCounts};
 ghost use Rattle.affc_lines.specs.Told.{Told, IsTold};
@@ -15,7 +15,7 @@ use affc_parse::fault::ParseFault;
 use std::alloc::{AllocError, Global};
 
 /// A file that a command names.
-#[derive(Clone, Copy, Debug)]
+#[derive(Clone, Copy)]
 pub enum Operand {
     /// SRC
     Source,
@@ -28,7 +28,7 @@ pub enum Operand {
 }
 
 /// Why a file isn't read.
-#[derive(Clone, Copy, Debug)]
+#[derive(Clone, Copy)]
 pub enum UnreadWhy {
     /// It is missing, or its read failed.
     Unreadable,
@@ -37,7 +37,7 @@ pub enum UnreadWhy {
 }
 
 /// Why a command isn't done.
-#[derive(Debug, Drop)]
+#[derive(Drop)]
 pub enum Refusal {
     /// The words are no command form.
     Words,

@@ -1,4 +1,4 @@
-// What is wrong with a schedule: its line, and the refusal that tells it.
+//! What is wrong with a schedule: its line, and the refusal that tells it.
 ghost use Rattle.std.specs.Prelude.{◌≡◌, ◌++◌, IfOk, codes, decimal, option_map, string_bytes};
 ghost use Rattle.affc_driver.specs.Refusals.{HasSchedFault};
 ghost use Rattle.affc_lines.specs.Causes.{PlanCause};

@@ -1,4 +1,4 @@
-// What a source reads as.
+//! What a source reads as.
 ghost use Rattle.std.specs.Prelude.{IfOk, IfErr};
 ghost use Rattle.affc_ast.specs.Counted.{IsCounted};
 ghost use Rattle.affc_grammar.specs.Reads.{Reads};

@@ -1,4 +1,4 @@
-// The line that says why a run is stuck.
+//! The line that says why a run is stuck.
 ghost use Rattle.std.specs.Prelude.{◌≡◌, ◌++◌, ◌∷◌, [], OnOk, IfOk, MatchResult, map, codes, string_bytes};
 ghost use Rattle.affc_ast.specs.Recursion.{by_stmt};
 ghost use Rattle.affc_ast.specs.Trace.{assignments_step};

@@ -34,7 +34,7 @@ use affc_schedtext::{Plan, SchedFault};
 use std::alloc::Global;
 
 /// What is made of a source by a certificate.
-#[derive(Debug, Drop)]
+#[derive(Drop)]
 pub struct Replayed {
     /// The compiled program, as C.
     pub text: Vec<u8>,
