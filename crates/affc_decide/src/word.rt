@@ -3,14 +3,10 @@ ghost use Rattle.std.specs.Prelude.{◌≡◌, ◌↔◌, IsTrue, ◌≤◌, ◌
 ghost use Rattle.std.specs.Str.Parse.{IsNumeral, digits_value};
 ghost use Rattle.affc_decide.specs.Words.{AllSpaces, NoSpaces, EndsSpaces, AreWords, EndsWord, IsFirstWord, Says, SaysNone, texts_of};
 
-use thiserror::Error;
-
 /// Why a line isn't taken.
-#[derive(Debug, Drop, Clone, Copy, PartialEq, Eq, Error)]
+#[derive(Clone, Copy)]
 pub enum Fault {
-    #[error("malformed")]
     Malformed,
-    #[error("out of memory")]
     Memory,
 }
 
