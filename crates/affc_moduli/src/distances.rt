@@ -26,11 +26,9 @@ pub fn forward(alloc: Global, coefs: &[i128], pairs: &[PairSystem]) -> Result<Ve
             coefs,
             s.x.as_slice(),
             s.y.as_slice(),
-            s.system.columns() as usize,
+            s.system.columns(),
         )?;
-        let Ok(()) = forms.push(form) else {
-            return Err(AllocError);
-        };
+        forms.push(form)?;
     }
     Ok(forms)
 }
@@ -54,11 +52,9 @@ pub fn backward(
             coefs,
             s.y.as_slice(),
             s.x.as_slice(),
-            s.system.columns() as usize,
+            s.system.columns(),
         )?;
-        let Ok(()) = forms.push(form) else {
-            return Err(AllocError);
-        };
+        forms.push(form)?;
     }
     Ok(forms)
 }

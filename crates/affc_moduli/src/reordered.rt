@@ -14,7 +14,7 @@ use std::alloc::{AllocError, Global};
 const MOST_DIMENSIONS: usize = 4;
 
 /// Why there is no such region.
-#[derive(Debug, Clone, Copy, PartialEq, Eq)]
+#[derive(Clone, Copy)]
 pub enum Lack {
     Room,
     Memory,
@@ -38,22 +38,14 @@ pub struct Inserted {
     pub count: usize,
 }
 
-/// A coefficient, or 0 where there is none.
-fn coefficient(coefs: &[i128], column: usize) -> i128 {
-    match coefs.get(column) {
-        Some(c) => *c,
-        None => 0,
-    }
-}
-
 /// The coefficient of a column where so many columns are put in.
-fn entry(coefs: &[i128], inserted: Inserted, column: usize) -> i128 {
+fn entry(row: &Form, inserted: Inserted, column: usize) -> i128 {
     if column < inserted.after {
-        coefficient(coefs, column)
+        row.coefficient(column)
     } else if column - inserted.after < inserted.count {
         0
     } else {
-        coefficient(coefs, column - inserted.count)
+        row.coefficient(column - inserted.count)
     }
 }
 
@@ -68,17 +60,14 @@ fn spread(
     requires { columns + inserted.count ≤ 128 }
     ensures { IfOk result (λ f. length f.coefs ≡ columns + inserted.count) }
 {
-    let from = row.coefs.as_slice();
     let mut coefs = SmallVec::new(alloc);
     for j in 0..columns + inserted.count {
         let coef = if less == Some(j) {
             -1
         } else {
-            entry(from, inserted, j)
+            entry(row, inserted, j)
         };
-        let Ok(()) = coefs.push(coef) else {
-            return Err(AllocError);
-        };
+        coefs.push(coef)?;
     }
     Ok(Form {
         coefs,
@@ -173,9 +162,7 @@ fn add_range(ranges: &mut BoxOf, low: i64, high: i64) -> Result<(), Lack> {
     if low > high {
         return Err(Lack::Room);
     }
-    let Ok(()) = ranges.push(low, high) else {
-        return Err(Lack::Memory);
-    };
+    ranges.push(low, high)?;
     Ok(())
 }
 

@@ -5,58 +5,18 @@ ghost use Rattle.affc_rows.specs.Forms.{value};
 ghost use Rattle.affc_system.specs.Pairs.{IsSubscript};
 ghost use Rattle.affc_conflicts.specs.differences.Differences.{apart, IsSmall, IsApart};
 
-use affc_rows::{Form, FormFault};
-use smallvec::SmallVec;
+use affc_rows::Form;
 use std::alloc::{AllocError, Global};
 
 /// The form that is 0.
-fn zero(alloc: Global, columns: usize) -> Result<Form, AllocError>
+fn zero(alloc: Global, columns: u32) -> Result<Form, AllocError>
     ensures small { IfOk result (λ f. IsSmall columns 0 f) }
     ensures value { IfOk result (λ f. (z : List ℤ) → value f z ≡ pos 0) }
 {
-    let coefs = SmallVec::from_elem(alloc, 0, columns)?;
-    Ok(Form { coefs, constant: 0 })
+    Form::number(alloc, columns, 0)
 }
 
-/// One subscript less another.
-fn minus(alloc: Global, x: &Form, y: &Form, columns: usize) -> Result<Form, AllocError>
-    requires x { IsSubscript columns x.now }
-    requires y { IsSubscript columns y.now }
-    ensures { IfOk result (λ f. IsApart columns x.now y.now f) }
-{
-    match x.scale_add(alloc, 1, y, -1) {
-        Ok(form) => Ok(form),
-        Err(FormFault::Memory) => Err(AllocError),
-        Err(FormFault::Range) => unreachable!(),
-    }
-}
-
-/// The sum with a multiple of a difference.
-fn plus_multiple(
-    alloc: Global,
-    sum: &Form,
-    c: i128,
-    form: &Form,
-    n: usize,
-    columns: usize,
-) -> Result<Form, AllocError>
-    requires sum { IsSmall columns n sum.now }
-    requires few { n < 8 }
-    requires small { unsigned_abs c ≤ 256 }
-    requires width { length form.now.coefs ≡ columns }
-    requires coefs { All (λ v. unsigned_abs v ≤ 2 ^ 17) form.now.coefs }
-    requires constant { unsigned_abs form.now.constant ≤ 2 ^ 25 }
-    ensures small { IfOk result (λ f. IsSmall columns (n + 1) f) }
-    ensures value { IfOk result (λ f. (z : List ℤ) → length z ≡ columns → value f z ≡ value sum.now z +ℤ (c *ℤ value form.now z)) }
-{
-    match sum.scale_add(alloc, 1, form, c) {
-        Ok(form) => Ok(form),
-        Err(FormFault::Memory) => Err(AllocError),
-        Err(FormFault::Range) => unreachable!(),
-    }
-}
-
-/// The sum with the difference of one component more.
+/// The sum with a multiple of the difference of one component more.
 fn plus_component(
     alloc: Global,
     sum: &Form,
@@ -64,7 +24,7 @@ fn plus_component(
     x: &Form,
     y: &Form,
     n: usize,
-    columns: usize,
+    columns: u32,
 ) -> Result<Form, AllocError>
     requires sum { IsSmall columns n sum.now }
     requires few { n < 8 }
@@ -74,8 +34,8 @@ fn plus_component(
     ensures small { IfOk result (λ f. IsSmall columns (n + 1) f) }
     ensures value { IfOk result (λ f. (z : List ℤ) → length z ≡ columns → value f z ≡ value sum.now z +ℤ (c *ℤ (value x.now z -ℤ value y.now z))) }
 {
-    let difference = minus(alloc, x, y, columns)?;
-    plus_multiple(alloc, sum, c, &difference, n, columns)
+    let difference = Form::mixture(alloc, 1, x, -1, y)?;
+    Form::mixture(alloc, 1, sum, c, &difference)
 }
 
 /// How far apart two elements lie along a row, as a form over the columns of their subscripts.
@@ -84,7 +44,7 @@ pub fn difference(
     coefs: &[i128],
     x: &[Form],
     y: &[Form],
-    columns: usize,
+    columns: u32,
 ) -> Result<Form, AllocError>
     requires x_each { length x.now ≡ length coefs.now }
     requires y_each { length y.now ≡ length coefs.now }
