@@ -4,7 +4,7 @@ use Rattle.std.proofs.lemmas.Int.{ints}
 use Rattle.affc_rows.specs.Forms.{Affine, dot, value}
 use Rattle.affc_rows.proofs.IntLemmas.{neg-mul}
 use Rattle.affc_system.specs.Systems.{Meets}
-use Rattle.affc_moduli.specs.Parallel.{AreOpposite}
+use Rattle.affc_rows.specs.Vocabulary.{AreOpposite}
 
 other_sign : (x y : ℤ) → x +ℤ y ≡ pos 0 → x ≡ neg_ℤ y
 other_sign x y e = omega (arith, ints)

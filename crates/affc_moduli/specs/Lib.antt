@@ -5,5 +5,4 @@ pub mod Rows
 pub mod Ready
 pub mod Enough
 pub mod Shown
-pub mod Parallel
 pub mod Ended

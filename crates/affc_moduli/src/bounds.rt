@@ -2,29 +2,15 @@
 ghost use Rattle.std.specs.Prelude.{◌≡◌, ℕ, ℤ, List, ◌^◌, ◌<◌, ◌≤◌, ◌≤ℤ◌, ◌<ℤ◌, ◌+ℤ◌, ◌↔◌, unsigned_abs, pos, IsTrue, IfSome};
 ghost use Rattle.std.specs.List.{All};
 ghost use Rattle.affc_rows.specs.Forms.{value};
+ghost use Rattle.affc_rows.specs.Vocabulary.{AreOpposite};
 ghost use Rattle.affc_system.specs.Systems.{IsRow, Meets};
 ghost use Rattle.affc_split.specs.maximum.Regions.{InRegion, IsBounded, IsAskable};
-ghost use Rattle.affc_moduli.specs.Parallel.{AreOpposite};
 
 use crate::distances::MOST_DISTANCE;
 use affc_rows::Form;
+use affc_rows::vocabulary::are_opposite;
 use affc_split::maximum::Region;
 use affc_system::interval;
-
-/// Whether the coefficients of one row are those of another with the other sign.
-fn are_opposite(xs: &[i128], ys: &[i128]) -> bool
-    requires xs { All (λ c. unsigned_abs c ≤ 2 ^ 40) xs.now }
-    requires ys { All (λ c. unsigned_abs c ≤ 2 ^ 40) ys.now }
-    ensures { IsTrue result ↔ AreOpposite xs.now ys.now }
-{
-    match xs {
-        [] => ys.is_empty(),
-        [x, more @ ..] => match ys {
-            [] => false,
-            [y, others @ ..] => *x + *y == 0 && are_opposite(more, others),
-        },
-    }
-}
 
 /// A number within 2^61.
 #[derive(Clone, Copy, Drop)]

@@ -1,5 +1,0 @@
-use Rattle.std.proofs.Common.{length}
-use Rattle.affc_moduli.proofs.bounds.+are_opposite.Given as goal
-
-abbrev pub decreases-are_opposite : goal.decreases-are_opposite
-decreases-are_opposite l = length l.xs.now
