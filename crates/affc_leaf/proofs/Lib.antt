@@ -3,6 +3,7 @@ pub mod Greatest
 pub mod Fuels
 pub mod Steps
 pub mod Sums
+pub mod Checked
 pub mod Corners
 pub mod Splits
 pub mod Whole

@@ -14,7 +14,7 @@ use crate::boxed::push_row;
 use crate::candidates::{Candidate, Proposal, candidates_in, remainder_of};
 use crate::cuts::divided_sum;
 use crate::leaves::{
-    Sight, add_multiple, constant_with, copied, fits_sum, found_leaf, is_below_zero, leaf_with,
+    Sight, add_multiple, constant_with, fits_sum, found_leaf, is_below_zero, leaf_with,
     put_corners, sum_rows,
 };
 use crate::simplex::{Outcome, look_at};

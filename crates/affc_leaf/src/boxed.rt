@@ -38,7 +38,7 @@ fn low_form(alloc: Global, columns: u32, j: usize, low: i64) -> Result<Form, All
 }
 
 /// The row that says the high end.
-#[tactic(auto, using(crate::proofs::BoxRows::unit_is, crate::proofs::BoxRows::column_opposite))]
+#[tactic(auto, using(crate::proofs::BoxRows::unit_is))]
 fn high_form(alloc: Global, columns: u32, j: usize, high: i64) -> Result<Form, AllocError>
     requires { j < columns }
     ensures { IfOk result (λ f. f ≡ record { coefs = map neg_ℤ (unit j (columns - (j + 1))); constant = high }) }

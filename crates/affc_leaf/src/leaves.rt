@@ -153,7 +153,8 @@ pub(crate) fn add_multiple(sum: &mut [i128], times: i128, row: &[i128]) -> bool
 pub(crate) fn constant_with(sum: i128, times: i128, constant: i128) -> Option<i128>
     ensures { IfSome result (λ k. k ≡ (times *ℤ constant) +ℤ (pos 1 *ℤ sum)) }
 {
-    constant.checked_mul(times)?.checked_add(sum)
+    let product = constant.checked_mul(times)?;
+    product.checked_add(sum)
 }
 
 /// Sums these multiples of rows onto zeros, and answers the sum's constant. `None` where a row isn't there or a number is too great.

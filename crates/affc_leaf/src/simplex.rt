@@ -348,6 +348,11 @@ fn turn<N: Number>(line: &mut [N], column: usize) -> Option<()> {
     Some(())
 }
 
+/// `s` times a number plus `t` times another.
+fn combined<N: Number>(s: N, first: N, t: N, second: N) -> Option<N> {
+    first.times(s)?.plus(second.times(t)?)
+}
+
 /// Puts what a variable equals into a line.
 fn substitute<N: Number>(line: &mut [N], solved: &[N], column: usize) -> Option<()> {
     let [constant, divisor, entries @ ..] = line else {
@@ -362,11 +367,9 @@ fn substitute<N: Number>(line: &mut [N], solved: &[N], column: usize) -> Option<
     }
     put(entries, column, N::zero());
     for (entry, other) in entries.iter_mut().zip(others.iter()) {
-        *entry = entry.times(*other_divisor)?.plus(other.times(times)?)?;
+        *entry = combined(*other_divisor, *entry, times, *other)?;
     }
-    *constant = constant
-        .times(*other_divisor)?
-        .plus(other_constant.times(times)?)?;
+    *constant = combined(*other_divisor, *constant, times, *other_constant)?;
     *divisor = divisor.times(*other_divisor)?;
     if (*divisor).magnitude() != 1 {
         reduce(line);

@@ -1,5 +1,5 @@
 //! The greatest values of rows over boxes.
-ghost use Rattle.std.specs.Prelude.{◌≡◌, ℕ, ℤ, ◌+◌, ◌*◌, ◌^◌, ◌<◌, ◌≤◌, ◌≤ℤ◌, ◌<ℤ◌, pos, unsigned_abs, IfSome, IfNone, length};
+ghost use Rattle.std.specs.Prelude.{◌≡◌, ℕ, ℤ, ◌+◌, ◌*◌, ◌*ℤ◌, ◌^◌, ◌<◌, ◌≤◌, ◌≤ℤ◌, ◌<ℤ◌, pos, unsigned_abs, IfSome, IfNone, length};
 ghost use Rattle.std.specs.List.{All};
 ghost use Rattle.affc_farkas.specs.Multiples.{row_at};
 ghost use Rattle.affc_leaf.specs.Bounds.{IsBound, IsSum, top, top_at, top_value};
@@ -7,6 +7,16 @@ ghost use Rattle.affc_leaf.specs.Bounds.{IsBound, IsSum, top, top_at, top_value}
 use crate::bounds::Bound;
 use affc_rows::Form;
 use affc_system::System;
+
+/// A coefficient times an end of a range.
+fn product(c: i128, x: i64) -> i128
+    requires coefficient { unsigned_abs c ≤ 2 ^ 53 }
+    requires end { unsigned_abs x ≤ 2 ^ 60 }
+    ensures value { result ≡ c *ℤ x }
+    ensures small { unsigned_abs result ≤ 2 ^ 113 }
+{
+    c * i128::from(x)
+}
 
 /// One product at its greatest over a range.
 fn top_product(c: i128, bound: Bound) -> i128
@@ -16,9 +26,9 @@ fn top_product(c: i128, bound: Bound) -> i128
     ensures small { unsigned_abs result ≤ 2 ^ 113 }
 {
     if c < 0 {
-        c * i128::from(bound.low)
+        product(c, bound.low)
     } else {
-        c * i128::from(bound.high)
+        product(c, bound.high)
     }
 }
 

@@ -8,6 +8,20 @@ use affc_rows::vocabulary::gcd;
 use affc_system::System;
 use std::alloc::{AllocError, Global};
 
+/// By what a divisor is multiplied so that another one divides it.
+fn lacking(own: i128, other: i128) -> Option<i128> {
+    let common = gcd(own.unsigned_abs(), other.unsigned_abs());
+    other.checked_div(i128::try_from(common).ok()?)
+}
+
+/// Multiplies numbers.
+fn multiply(numbers: &mut [i128], times: i128) -> Option<()> {
+    for number in numbers.iter_mut() {
+        *number = number.checked_mul(times)?;
+    }
+    Some(())
+}
+
 /// A point: these numerators, one for each column, over one divisor.
 #[derive(Drop)]
 pub struct Vertex {
@@ -49,12 +63,9 @@ impl Vertex {
         if scale.checked_mul(divisor)? == self.divisor {
             return Some(scale);
         }
-        let common = gcd(self.divisor.unsigned_abs(), divisor.unsigned_abs());
-        let times = divisor.checked_div(i128::try_from(common).ok()?)?;
+        let times = lacking(self.divisor, divisor)?;
         self.divisor = self.divisor.checked_mul(times)?;
-        for numerator in self.numerators.iter_mut() {
-            *numerator = numerator.checked_mul(times)?;
-        }
+        multiply(self.numerators.as_mut_slice(), times)?;
         self.divisor.checked_div(divisor)
     }
 
@@ -96,7 +107,8 @@ fn scaled(row: &Form, x: &[i128], d: i128) -> Option<i128>
     let Ok(value) = row.eval(x) else {
         return None;
     };
-    with_multiple(value, row.constant, d)
+    let total = with_multiple(value, row.constant, d)?;
+    Some(total)
 }
 
 /// Whether a row is at least 0 at `x / d`.

@@ -12,7 +12,7 @@ use crate::budget::Stop;
 use crate::search::{Found, Here, Side, Split};
 use affc_farkas::Proof;
 use affc_leaf::bounds::{Bound, low_ends};
-use affc_leaf::parts::unit_form;
+use affc_rows::Form;
 use affc_system::System;
 use std::alloc::Global;
 
@@ -49,7 +49,7 @@ fn joined(here: &Here<'_>, split: Split, low: Box<Proof>, high: Box<Proof>) -> R
     ensures nodes { IfOk result (HasNodes ((nodes low.value + nodes high.value) + 1)) }
     ensures memory { OnErr result (result ≡ Err Stop.Memory) }
 {
-    let form = unit_form(here.alloc, here.system.columns(), split.column)?;
+    let form = Form::column(here.alloc, here.system.columns(), split.column as u32)?;
     let both = Proof::Split {
         form,
         at: split.at,
