@@ -4,7 +4,7 @@ ghost use Rattle.std.specs.List.{All};
 ghost use Rattle.affc_rows.specs.Forms.{value, values_of};
 ghost use Rattle.affc_system.specs.Pairs.{IsSubscript};
 ghost use Rattle.affc_system.specs.Systems.{FitsRow};
-ghost use Rattle.affc_sched.specs.Answered.{Each};
+ghost use Rattle.affc_sched.specs.Touched.{Each};
 ghost use Rattle.affc_certvalue.specs.Limits.{IsWord};
 ghost use Rattle.affc_questions.specs.Asked.{IsAlong};
 ghost use Rattle.affc_check.specs.list.Certs.{least_said, modulus_said};

@@ -15,7 +15,8 @@ use Rattle.affc_schedtext.specs.declared.plan.Plan.{Plan}
 use Rattle.affc_schedtext.specs.declared.plan.SchedFault.{SchedFault}
 use Rattle.affc_schedtext.specs.declared.plan.SchedFault.TheVariants.{Memory}
 use Rattle.affc_schedtext.specs.Answers.{IsFault}
-use Rattle.affc_sched.specs.Legality.{IsAsked, IsFor, IsFirstIllegal}
+use Rattle.affc_legal.specs.Legal.{IsFor, IsFirstIllegal}
+use Rattle.affc_sched.specs.Legality.{IsAsked}
 use Rattle.affc_ast.specs.declared.tree.ArrayId.{ArrayId}
 use Rattle.affc_nest.specs.declared.nest.Access.{Access}
 use Rattle.affc_nest.specs.declared.nest.Entry.{Entry}

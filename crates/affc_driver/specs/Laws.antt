@@ -37,7 +37,7 @@ use Rattle.affc_bounds.specs.Laws.{IsStuckAt}
 use Rattle.affc_bounds.specs.declared.fault.MeaningFault.{MeaningFault}
 use Rattle.affc_bounds.specs.declared.fault.MeaningFault.TheVariants.{IteratorRange, Context, Extent, Bounds}
 use Rattle.affc_quast.specs.Trees.{Tree}
-use Rattle.affc_sched.specs.Violations.{IsViolation}
+use Rattle.affc_legal.specs.Violations.{IsViolation}
 use Rattle.affc_driver.specs.Accounts.{IsUnlimited, FoldsWith, IsShort}
 use Rattle.affc_driver.specs.Flows.{NameThroughout, FlowsTo}
 use Rattle.affc_driver.specs.Folds.{FoldsTo}

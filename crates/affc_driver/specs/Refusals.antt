@@ -14,7 +14,7 @@ use Rattle.affc_schedtext.specs.declared.plan.SchedFault.TheVariants as sched
 use Rattle.affc_schedtext.specs.Answers as plans
 use Rattle.affc_bounds.specs.Faults.{StaysWithin, IsMeaningFault}
 use Rattle.affc_bounds.specs.declared.fault.MeaningFault.{MeaningFault}
-use Rattle.affc_sched.specs.Violations.{IsFirstViolation}
+use Rattle.affc_legal.specs.Violations.{IsFirstViolation}
 use Rattle.affc_flow.specs.Unwritten.{LoadsUnwritten}
 use Rattle.affc_driver.specs.Plans.{HasPlan, WrittenThroughout}
 use Rattle.affc_driver.specs.declared.refusal.Refusal.{Refusal}

@@ -24,7 +24,7 @@ use affc_certify::{Certified, Draft, certify, make_draft};
 use affc_folds::{Folded, fold_all};
 use affc_nest::Nest;
 use affc_quast::Flow;
-use affc_sched::{SchedStop, legal};
+use affc_legal::{SchedStop, legal};
 use affc_schedtext::Plan;
 use affc_split::{Budget, Stop};
 use affc_weigh::{Cost, Weigher};

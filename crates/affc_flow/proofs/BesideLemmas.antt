@@ -22,7 +22,7 @@ use Rattle.affc_nest.proofs.EntryLemmas.{ranges_hold_iterators}
 use Rattle.affc_nest.proofs.QuestionLemmas.{stands_in}
 use Rattle.affc_order.specs.Spread.{spread}
 use Rattle.affc_order.specs.Systems.{pair_columns, source_systems}
-use Rattle.affc_sched.specs.Answered.{Each}
+use Rattle.affc_sched.specs.Touched.{Each}
 use Rattle.affc_sched.specs.Legality.{IsAsked}
 use Rattle.affc_sched.specs.Questions.{equal_rows}
 use Rattle.affc_sched.specs.Spreadable.{IsOrder}

@@ -22,7 +22,7 @@ use Rattle.affc_nest.specs.Nests.{nest_of}
 use Rattle.affc_order.specs.Laws.{IsPointOfOne}
 use Rattle.affc_order.specs.Systems.{loops_or_none, loops_of, pair_columns, first_posed, second_posed, source_systems}
 use Rattle.affc_order.proofs.OrderLemmas.{order_columns, systems_are_the_orders}
-use Rattle.affc_sched.specs.Answered.{Each}
+use Rattle.affc_sched.specs.Touched.{Each}
 use Rattle.affc_flow.specs.Latest.{IsLatest}
 use Rattle.affc_flow.specs.Stores.{IsNumbered, IsWriterAt, IsLaterOf}
 use Rattle.affc_flow.proofs.LatestLemmas.{later_of_two, either_order, only_second}

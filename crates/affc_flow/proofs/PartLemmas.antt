@@ -11,8 +11,8 @@ use Rattle.affc_split.specs.Budgets.{Account, IsLater}
 use Rattle.affc_nest.specs.declared.nest.Access.{Access}
 use Rattle.affc_nest.specs.declared.nest.Entry.{Entry}
 use Rattle.affc_nest.specs.declared.nest.Nest.{Nest}
-use Rattle.affc_sched.specs.Answered.{Each}
-use Rattle.affc_sched.proofs.AnsweredLemmas.{front_is}
+use Rattle.affc_sched.specs.Touched.{Each}
+use Rattle.affc_sched.proofs.Lists.{front_is}
 use Rattle.affc_quast.specs.Trees.{Tree, depth_of}
 use Rattle.affc_flow.specs.Searches.{Covers, part_box, Fuel, IsSlight, IsSlightRange}
 use Rattle.affc_flow.proofs.HalfLemmas.{low_fuel, high_fuel}

@@ -7,7 +7,7 @@ use Rattle.affc_trace.proofs.LastStores.{append_nil, map_append}
 use Rattle.affc_nest.specs.declared.nest.Entry.{Entry}
 use Rattle.affc_nest.specs.declared.nest.Nest.{Nest}
 use Rattle.affc_quast.specs.Trees.{Tree}
-use Rattle.affc_sched.specs.Answered.{Each}
+use Rattle.affc_sched.specs.Touched.{Each}
 use Rattle.affc_flow.specs.Asked.{asked, writers_of}
 use Rattle.affc_flow.specs.Finds.{AreTreesFrom, AddsTreesOf, AddsTreesFrom}
 use Rattle.affc_flow.specs.Laws.{NoneHasAPoint}

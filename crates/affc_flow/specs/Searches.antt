@@ -11,7 +11,7 @@ use Rattle.affc_quast.specs.Limits.{narrow, IsTreeWithin}
 use Rattle.affc_quast.specs.Paths.{IsNear}
 use Rattle.affc_quast.specs.Sources.{loads_in}
 use Rattle.affc_quast.specs.Trees.{Tree, named_at, quotients_at}
-use Rattle.affc_sched.specs.Answered.{IsTouched}
+use Rattle.affc_sched.specs.Touched.{IsTouched}
 use Rattle.affc_flow.specs.Laws.{Loads, IsSourceOf}
 use Rattle.affc_flow.specs.Stores.{pin, IsNamedNest}
 

@@ -17,7 +17,7 @@ use Rattle.affc_nest.specs.declared.nest.Nest.{Nest}
 use Rattle.affc_nest.specs.Laws.{HasNest, NamesArrays, element_at}
 use Rattle.affc_nest.specs.Nests.{nest_of}
 use Rattle.affc_order.specs.Systems.{pair_columns}
-use Rattle.affc_sched.specs.Answered.{IsTouched}
+use Rattle.affc_sched.specs.Touched.{IsTouched}
 use Rattle.affc_sched.specs.Questions.{of_first, of_second, equal_rows}
 use Rattle.affc_quast.specs.Paths.{IsNear}
 use Rattle.affc_quast.specs.Sources.{loads_in}

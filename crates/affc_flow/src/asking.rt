@@ -6,7 +6,7 @@ ghost use Rattle.affc_trace.specs.Inverses.{columns_from};
 ghost use Rattle.affc_nest.specs.Asked.{IsNest};
 ghost use Rattle.affc_nest.specs.Sides.{AreNear, IsSide};
 ghost use Rattle.affc_order.specs.Systems.{lex_systems};
-ghost use Rattle.affc_sched.specs.Answered.{Each};
+ghost use Rattle.affc_sched.specs.Touched.{Each};
 ghost use Rattle.affc_flow.specs.Asked.{asked, beside_system, before, after, earlier, between, writers_of, all_earlier, all_between};
 
 use crate::load::Load;

@@ -6,7 +6,7 @@ ghost use Rattle.affc_split.specs.Budgets.{IsLater};
 ghost use Rattle.affc_trace.specs.Law.{IsIn};
 ghost use Rattle.affc_quast.specs.Limits.{narrow, AreTreesWithin};
 ghost use Rattle.affc_quast.specs.Seen.{seen, trees_of};
-ghost use Rattle.affc_sched.specs.Answered.{Each};
+ghost use Rattle.affc_sched.specs.Touched.{Each};
 ghost use Rattle.affc_flow.specs.Finds.{NameAll, AreInputs, IsTreeFor, AddsTreesOf, AddsTreesFrom};
 ghost use Rattle.affc_flow.specs.Searches.{Covers, Fuel, IsSlightRange, IsLoad};
 ghost use Rattle.affc_flow.specs.Stores.{IsNamedNest};

@@ -3,7 +3,7 @@ ghost use Rattle.std.specs.Prelude.{◌≡◌, ◌↔◌, ◌⊎◌, ◌++◌, l
 ghost use Rattle.affc_nest.specs.Asked.{IsNest};
 ghost use Rattle.affc_order.specs.Laws.{IsPointOfOne};
 ghost use Rattle.affc_order.specs.Systems.{source_systems};
-ghost use Rattle.affc_sched.specs.Answered.{Each};
+ghost use Rattle.affc_sched.specs.Touched.{Each};
 ghost use Rattle.affc_flow.specs.Stores.{IsNumbered, IsLaterOf};
 
 use affc_ast::tree::Instance;

@@ -5,7 +5,7 @@ ghost use Rattle.affc_system.specs.Pairs.{WithinReach};
 ghost use Rattle.affc_split.specs.Budgets.{IsLater};
 ghost use Rattle.affc_trace.specs.Law.{IsIn};
 ghost use Rattle.affc_order.specs.Systems.{source_systems};
-ghost use Rattle.affc_sched.specs.Answered.{Each};
+ghost use Rattle.affc_sched.specs.Touched.{Each};
 ghost use Rattle.affc_flow.specs.Stores.{Writes, IsReading, AreBeside, instance_in, IsLastIn, IsLatestBy, IsLatestAmong, IsWriterAt, IsReadFrom};
 
 use crate::greatest::greatest_point;

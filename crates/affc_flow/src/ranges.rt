@@ -37,7 +37,7 @@ fn add_ranges(ranges: &[(i64, i64)], out: &mut BoxOf) -> Result<(), AllocError>
 }
 
 /// The ranges of another statement's iterators between the values of the parameters and of the load's iterators.
-#[tactic(auto, using(affc_sched::proofs::SettlingLemmas::three_ranges))]
+#[tactic(auto, using(affc_sched::proofs::Lists::three_ranges))]
 pub(crate) fn beside_ranges(
     alloc: Global,
     p: &[i64],

@@ -6,8 +6,4 @@ pub mod LegalLemmas
 pub mod ExampleProofs
 pub mod SystemLemmas
 pub mod PairLemmas
-pub mod SpotLemmas
-pub mod AnsweredLemmas
-pub mod RangeLemmas
-pub mod ProofLemmas
-pub mod SettlingLemmas
+pub mod Lists

@@ -1,9 +1,8 @@
 -- What the questions on a schedule decide.
-use Rattle.std.specs.Prelude.{◌≡◌, ◌↔◌, ℤ, List, [], ◌∷◌, ◌++◌, length, take, drop}
+use Rattle.std.specs.Prelude.{◌≡◌, ◌↔◌, ℤ, List, ◌++◌, length, take, drop}
 use Rattle.std.specs.List.{All}
-use Rattle.affc_farkas.specs.declared.proof.Proof.{Proof}
 use Rattle.affc_system.specs.Boxes.{InBox}
-use Rattle.affc_system.specs.Systems.{IsRow, IsPoint, HasNoPoint}
+use Rattle.affc_system.specs.Systems.{IsPoint, HasNoPoint}
 use Rattle.affc_ast.specs.declared.tree.Instance.{Instance}
 use Rattle.affc_ast.specs.declared.tree.Program.{Program}
 use Rattle.affc_trace.specs.declared.schedule.Schedule.{Schedule}
@@ -15,7 +14,6 @@ use Rattle.affc_nest.specs.declared.nest.Nest.{Nest}
 use Rattle.affc_nest.specs.Laws.{HasNest, NamesArrays}
 use Rattle.affc_nest.specs.Nests.{nest_of}
 use Rattle.affc_order.specs.Systems.{loops_of}
-use Rattle.affc_sched.specs.Legality.{AreProofs}
 use Rattle.affc_sched.specs.Questions.{Question, legality_questions}
 
 -- ---- What stands at a point of a question
@@ -69,15 +67,3 @@ abbrev pub PointsAreBoxed : Type 0
 PointsAreBoxed = (program : Program) (schedule : Schedule) (q : Question) (point : List ℤ)
     → HasNest program → NamesArrays program → IsScheduleOf program schedule
     → IsIn q (legality_questions (nest_of program) schedule) → IsPoint q.system point → InBox q.ranges point
-
--- the rows of each question are those of a system
-abbrev pub AreSystems : List Question → Type 0
-AreSystems [] = Unit {0}
-AreSystems (q ∷ qs) = All (IsRow q.system.columns) q.system.rows × AreSystems qs
-
--- Valid proofs of all questions show that the schedule is legal throughout the context.
-abbrev pub ProofsShowLegality : Type 0
-ProofsShowLegality = (program : Program) (schedule : Schedule) (proofs : List Proof)
-    → HasNest program → NamesArrays program → IsScheduleOf program schedule
-    → AreSystems (legality_questions (nest_of program) schedule) → AreProofs (legality_questions (nest_of program) schedule) proofs
-    → (p : List ℤ) → IsInContext program p → Legal program schedule p

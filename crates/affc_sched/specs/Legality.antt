@@ -1,44 +1,10 @@
--- What it means that a schedule of a nest is legal or isn't, and what shows it.
-use Rattle.std.specs.Prelude.{◌≡◌, ℤ, List, [], ◌∷◌}
-use Rattle.affc_ast.specs.declared.tree.Instance.{Instance}
-use Rattle.affc_ast.specs.declared.tree.Program.{Program}
-use Rattle.affc_farkas.specs.declared.proof.Proof.{Proof}
-use Rattle.affc_farkas.specs.Proofs.{ValidProof}
-use Rattle.affc_leaf.specs.Boxed.{with_box}
+-- A nest and a schedule that may be asked whether they are legal.
 use Rattle.affc_trace.specs.declared.schedule.Schedule.{Schedule}
-use Rattle.affc_trace.specs.Dataflow.{Legal}
-use Rattle.affc_trace.specs.Laws.{IsInContext}
-use Rattle.affc_trace.specs.Target.{IsScheduleOf}
 use Rattle.affc_nest.specs.declared.nest.Nest.{Nest}
-use Rattle.affc_nest.specs.Laws.{HasNest, NamesArrays}
-use Rattle.affc_nest.specs.Nests.{nest_of}
+use Rattle.affc_nest.specs.Laws.{NamesArrays}
 use Rattle.affc_order.specs.Asked.{IsScheduled}
-use Rattle.affc_sched.specs.Questions.{Question}
-use Rattle.affc_sched.specs.Violations.{IsFirstViolation}
 
 -- a nest and a schedule that may be asked: each access of the program names an array
 pub record IsAsked (nest : Nest) (schedule : Schedule) : Type 0 where
   pub scheduled : IsScheduled nest schedule
   pub named : NamesArrays scheduled.program
-
--- a program whose nest and schedule these are
-pub record IsFor (program : Program) (nest : Nest) (schedule : Schedule) : Type 0 where
-  pub has : HasNest program
-  pub named : NamesArrays program
-  pub is : nest ≡ nest_of program
-  pub fits : IsScheduleOf program schedule
-
--- throughout the context no dependence is turned round
-abbrev pub IsLegal : Nest → Schedule → Type 0
-IsLegal nest schedule = (program : Program) → IsFor program nest schedule → (p : List ℤ) → IsInContext program p → Legal program schedule p
-
--- the first dependence that is turned round
-abbrev pub IsFirstIllegal : Nest → Schedule → (p : List ℤ) → (a b : Instance) → Type 0
-IsFirstIllegal nest schedule p a b = (program : Program) → IsFor program nest schedule → IsFirstViolation program schedule p a b
-
--- a valid proof for each question, in order, for its system with the rows of its ranges
-abbrev pub AreProofs : List Question → List Proof → Type 0
-AreProofs [] [] = Unit {0}
-AreProofs [] (p ∷ ps) = ⊥
-AreProofs (q ∷ qs) [] = ⊥
-AreProofs (q ∷ qs) (p ∷ ps) = ValidProof (with_box q.system q.ranges) p × AreProofs qs ps

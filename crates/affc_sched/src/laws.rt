@@ -1,5 +1,5 @@
 //! What the questions on a schedule decide. Each law is the contract of a function that does nothing.
-ghost use Rattle.affc_sched.specs.Laws.{PointsViolate, ViolationsArePoints, QuestionsDecide, PointsAreBoxed, ProofsShowLegality};
+ghost use Rattle.affc_sched.specs.Laws.{PointsViolate, ViolationsArePoints, QuestionsDecide, PointsAreBoxed};
 
 /// A point of a question is a dependence that is turned round, at some p of the context.
 pub fn points_violate()
@@ -19,9 +19,4 @@ pub fn questions_decide()
 /// A point of a question lies in its ranges.
 pub fn points_are_boxed()
     ensures law { PointsAreBoxed }
-{}
-
-/// Valid proofs of all questions, in order, show that the schedule is legal throughout the context.
-pub fn proofs_show_legality()
-    ensures law { ProofsShowLegality }
 {}

@@ -21,7 +21,7 @@ use Rattle.affc_nest.specs.declared.nest.Nest.{Nest}
 use Rattle.affc_nest.specs.Laws.{HasNest, NamesArrays}
 use Rattle.affc_nest.specs.Nests.{nest_of, nowhere}
 use Rattle.affc_nest.specs.Questions.{with_row, whole_context}
-use Rattle.affc_sched.specs.Answered.{Each}
+use Rattle.affc_sched.specs.Touched.{Each}
 use Rattle.affc_sched.specs.Legality.{IsAsked}
 use Rattle.affc_quast.specs.Trees.{Tree}
 use Rattle.affc_conflicts.specs.Laws.{IsOver}

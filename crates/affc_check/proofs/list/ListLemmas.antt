@@ -13,7 +13,7 @@ use Rattle.affc_nest.specs.declared.nest.ArrayInfo.{ArrayInfo}
 use Rattle.affc_nest.specs.declared.nest.Entry.{Entry}
 use Rattle.affc_nest.specs.declared.nest.Nest.{Nest}
 use Rattle.affc_nest.proofs.QuestionLemmas.{stands_in}
-use Rattle.affc_sched.specs.Answered.{Each}
+use Rattle.affc_sched.specs.Touched.{Each}
 use Rattle.affc_sched.specs.Questions as sched
 use Rattle.affc_flow.specs.Questions as flow
 use Rattle.affc_check.specs.list.Held.{legality_item, flow_item}

@@ -8,7 +8,7 @@ use Rattle.affc_system.specs.declared.pairs.PairSystem.{PairSystem}
 use Rattle.affc_domain.proofs.Lists.{length_map}
 use Rattle.affc_nest.specs.Questions.{extent_questions, bound_questions}
 use Rattle.affc_nest.specs.declared.nest.Nest.{Nest}
-use Rattle.affc_sched.specs.Answered.{Each}
+use Rattle.affc_sched.specs.Touched.{Each}
 use Rattle.affc_sched.specs.Questions.{legality_questions}
 use Rattle.affc_quast.specs.Seen.{seen, trees_of}
 use Rattle.affc_quast.specs.Trees.{Tree}

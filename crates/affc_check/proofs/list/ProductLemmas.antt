@@ -19,7 +19,7 @@ use Rattle.affc_life.specs.declared.clash.ClashProduct.{ClashProduct}
 use Rattle.affc_questions.specs.Asked.{IsAlong}
 use Rattle.affc_questions.specs.Tails.{distance_tail}
 use Rattle.affc_check.specs.list.Items.{Question}
-use Rattle.affc_sched.specs.Answered.{Each}
+use Rattle.affc_sched.specs.Touched.{Each}
 use Rattle.affc_check.specs.list.Walks.{clash_systems}
 use Rattle.affc_check.specs.list.Limits.{AnyPasses}
 

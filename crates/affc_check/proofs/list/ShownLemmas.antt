@@ -8,7 +8,7 @@ use Rattle.affc_rows.specs.Forms.{Affine}
 use Rattle.affc_system.specs.Systems.{Rows, IsRow}
 use Rattle.affc_system.specs.declared.pairs.PairSystem.{PairSystem}
 use Rattle.affc_nest.specs.declared.nest.Nest.{Nest}
-use Rattle.affc_sched.specs.Answered.{Each}
+use Rattle.affc_sched.specs.Touched.{Each}
 use Rattle.affc_conflicts.specs.Questions.{greater_question}
 use Rattle.affc_check.specs.list.Held.{context_item}
 use Rattle.affc_check.specs.list.Items.{Item, Question, Shown, LeastShown, numbered, pair_item, mark_items}

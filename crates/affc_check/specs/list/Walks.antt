@@ -7,7 +7,7 @@ use Rattle.affc_basis.specs.Moduli.{IsModulus}
 use Rattle.affc_nest.specs.declared.nest.Access.{Access}
 use Rattle.affc_nest.specs.declared.nest.Entry.{Entry}
 use Rattle.affc_nest.specs.declared.nest.Nest.{Nest}
-use Rattle.affc_sched.specs.Answered.{Each}
+use Rattle.affc_sched.specs.Touched.{Each}
 use Rattle.affc_quast.specs.Leaves.{Leaf}
 use Rattle.affc_quast.specs.Seen.{trees_of}
 use Rattle.affc_quast.specs.Trees.{Tree}

@@ -1,7 +1,7 @@
 //! All items of a certificate.
 ghost use Rattle.std.specs.Prelude.{flat_map, ◌≡◌, ℕ, map, IfOk, IfErr, OnOk};
 ghost use Rattle.affc_quast.specs.Seen.{trees_of};
-ghost use Rattle.affc_sched.specs.Answered.{Each};
+ghost use Rattle.affc_sched.specs.Touched.{Each};
 ghost use Rattle.affc_sched.specs.Legality.{IsAsked};
 ghost use Rattle.affc_life.specs.Clashes.{clashes};
 ghost use Rattle.affc_life.specs.Sizes.{AnyLarge};

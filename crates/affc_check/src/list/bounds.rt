@@ -3,7 +3,7 @@ ghost use Rattle.std.specs.Prelude.{◌≡◌, ◌++◌, length, map, flat_map, 
 ghost use Rattle.affc_trace.specs.Law.{IsIn};
 ghost use Rattle.affc_nest.specs.Asked.{IsNest, IsExtent, IsSubscript};
 ghost use Rattle.affc_nest.specs.Questions.{extent_question, extents_or_none, extents_of_access, questions_of, entry_questions, extent_questions, bound_questions};
-ghost use Rattle.affc_sched.specs.Answered.{Each};
+ghost use Rattle.affc_sched.specs.Touched.{Each};
 ghost use Rattle.affc_check.specs.list.Held.{listed_said};
 ghost use Rattle.affc_check.specs.list.Items.{Question};
 

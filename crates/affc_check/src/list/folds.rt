@@ -5,7 +5,7 @@ ghost use Rattle.affc_basis.specs.Moduli.{IsModulus};
 ghost use Rattle.affc_conflicts.specs.Questions.{distance_questions};
 ghost use Rattle.affc_nest.specs.Asked.{IsNest};
 ghost use Rattle.affc_quast.specs.Seen.{trees_of};
-ghost use Rattle.affc_sched.specs.Answered.{Each};
+ghost use Rattle.affc_sched.specs.Touched.{Each};
 ghost use Rattle.affc_sched.specs.Legality.{IsAsked};
 ghost use Rattle.affc_certvalue.specs.fold.Limits.{IsMarkWithin};
 ghost use Rattle.affc_life.specs.Products.{systems_in};

@@ -5,7 +5,7 @@ ghost use Rattle.std.specs.Ordering.{is_eq, int_cmp};
 ghost use Rattle.affc_basis.specs.Moduli.{IsModulus};
 ghost use Rattle.affc_nest.specs.Asked.{IsNest};
 ghost use Rattle.affc_nest.specs.Nests.{nowhere};
-ghost use Rattle.affc_sched.specs.Answered.{Each};
+ghost use Rattle.affc_sched.specs.Touched.{Each};
 ghost use Rattle.affc_certvalue.specs.fold.Limits.{IsMarkWithin};
 ghost use Rattle.affc_questions.specs.Asked.{IsAlong};
 ghost use Rattle.affc_check.specs.list.Certs.{least_said};

@@ -2,7 +2,7 @@
 ghost use Rattle.std.specs.Prelude.{◌≡◌, ◌+◌, ◌-◌, ◌<◌, ◌≤◌, ◌++◌, [], drop, length, map, flat_map, slice_get, replicate, IsTrue, IfOk, OnOk};
 ghost use Rattle.affc_trace.specs.Law.{IsIn};
 ghost use Rattle.affc_nest.specs.Asked.{IsNest};
-ghost use Rattle.affc_sched.specs.Answered.{Each};
+ghost use Rattle.affc_sched.specs.Touched.{Each};
 ghost use Rattle.affc_quast.specs.Leaves.{leaves_of};
 ghost use Rattle.affc_quast.specs.Seen.{seen, trees_of};
 ghost use Rattle.affc_quast.specs.SeenLeaves.{leaf_seen};

@@ -5,7 +5,7 @@ ghost use Rattle.affc_products.specs.Groups.{group_systems};
 ghost use Rattle.affc_products.specs.Parts.{IsWithin};
 ghost use Rattle.affc_questions.specs.legality.Added.{AreAdded, NoneDepends};
 ghost use Rattle.affc_order.specs.Systems.{source_systems, turned_systems};
-ghost use Rattle.affc_sched.specs.Answered.{IsTouched, Each};
+ghost use Rattle.affc_sched.specs.Touched.{IsTouched, Each};
 ghost use Rattle.affc_sched.specs.Legality.{IsAsked};
 ghost use Rattle.affc_sched.specs.Questions.{touches, may_depend, pair_questions, questions_of, questions_to, questions_with, questions_from, legality_questions};
 ghost use Rattle.affc_trace.specs.Law.{IsIn};

@@ -1,5 +1,5 @@
 use Rattle.std.proofs.Common.{◌-◌, length, take, drop}
-use Rattle.affc_sched.proofs.AnsweredLemmas.{front_is}
+use Rattle.affc_sched.proofs.Lists.{front_is}
 use Rattle.affc_check.proofs.list.ListingLemmas.{none_below}
 use Rattle.affc_check.proofs.CheckLemmas.{fails_without, fails_with}
 use Rattle.affc_check.proofs.checks.question_holds.Goals as goal

@@ -1,5 +1,5 @@
 use Rattle.std.proofs.Common.{◌-◌, length, map, take, drop, refl, ap, subst, ◌∙◌}
-use Rattle.affc_sched.proofs.AnsweredLemmas.{front_is}
+use Rattle.affc_sched.proofs.Lists.{front_is}
 use Rattle.affc_check.specs.Laws.{IsFoldShown}
 use Rattle.affc_check.specs.list.Walks.{clash_systems, fold_shown, folds_shown}
 use Rattle.affc_check.proofs.list.ListingLemmas.{none_below}

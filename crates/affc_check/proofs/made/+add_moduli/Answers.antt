@@ -1,5 +1,5 @@
 use Rattle.std.proofs.Common.{◌-◌, length, take, drop}
-use Rattle.affc_sched.proofs.AnsweredLemmas.{front_is}
+use Rattle.affc_sched.proofs.Lists.{front_is}
 use Rattle.affc_check.specs.list.Walks.{clash_systems}
 use Rattle.affc_check.proofs.MadeLemmas.{next_modulus}
 use Rattle.affc_check.proofs.made.+add_moduli.Goals as goal

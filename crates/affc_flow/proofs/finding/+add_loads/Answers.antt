@@ -1,5 +1,5 @@
 use Rattle.std.proofs.Common.{◌-◌, length, take, drop}
-use Rattle.affc_sched.proofs.AnsweredLemmas.{front_is}
+use Rattle.affc_sched.proofs.Lists.{front_is}
 use Rattle.affc_flow.proofs.FindLemmas.{is_load}
 use Rattle.affc_flow.proofs.PartLemmas.{not_empty}
 use Rattle.affc_flow.proofs.finding.+add_loads.Goals as goal

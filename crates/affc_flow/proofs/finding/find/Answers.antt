@@ -1,5 +1,5 @@
 use Rattle.std.proofs.Common.{map, ap}
-use Rattle.affc_sched.proofs.SettlingLemmas.{all_there}
+use Rattle.affc_sched.proofs.Lists.{all_there}
 use Rattle.affc_quast.specs.Seen.{seen}
 use Rattle.affc_flow.proofs.FindLemmas.{all_added, all_named, all_within, all_inputs}
 use Rattle.affc_flow.proofs.finding.find.Goals as goal

@@ -1,5 +1,5 @@
 use Rattle.std.proofs.Common.{arith}
-use Rattle.affc_sched.proofs.AnsweredLemmas.{front_is}
+use Rattle.affc_sched.proofs.Lists.{front_is}
 use Rattle.affc_flow.proofs.AmongLemmas.{none_by, order_joined}
 use Rattle.affc_flow.proofs.LaterLemmas.{writers_numbered, either_writes}
 use Rattle.affc_flow.proofs.latest.+last_by.Goals as goal

@@ -1,4 +1,4 @@
-use Rattle.affc_sched.proofs.SettlingLemmas.{all_there}
+use Rattle.affc_sched.proofs.Lists.{all_there}
 use Rattle.affc_flow.proofs.AmongLemmas.{among_all}
 use Rattle.affc_flow.proofs.latest.source_of.Goals as goal
 

@@ -1,4 +1,4 @@
-use Rattle.affc_sched.proofs.SettlingLemmas.{all_there}
+use Rattle.affc_sched.proofs.Lists.{all_there}
 use Rattle.affc_flow.proofs.listing.add_input.Goals as goal
 
 pub add_all_earlier-requires-clause-entries : goal.add_all_earlier-requires-clause-entries

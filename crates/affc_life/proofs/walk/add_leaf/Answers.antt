@@ -1,5 +1,5 @@
 use Rattle.std.proofs.Common.{ap}
-use Rattle.affc_sched.proofs.SettlingLemmas.{all_there}
+use Rattle.affc_sched.proofs.Lists.{all_there}
 use Rattle.affc_quast.specs.SeenLeaves.{named_seen}
 use Rattle.affc_life.specs.Drafts.{posed}
 use Rattle.affc_life.proofs.walk.add_leaf.Goals as goal

@@ -1,6 +1,6 @@
 use Rattle.std.proofs.Common.{map, ap, sym, subst}
 use Rattle.affc_order.proofs.CodeLemmas.{is_nest}
-use Rattle.affc_sched.proofs.SettlingLemmas.{all_there}
+use Rattle.affc_sched.proofs.Lists.{all_there}
 use Rattle.affc_quast.specs.Seen.{seen, trees_of}
 use Rattle.affc_life.specs.Asked.{KeepLimits}
 use Rattle.affc_life.proofs.DraftedLemmas.{all_drafted, all_paired}

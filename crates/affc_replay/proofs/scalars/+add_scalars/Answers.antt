@@ -1,6 +1,6 @@
 use Rattle.std.proofs.Common.{◌≡◌, ◌+◌, ◌-◌, length, take, drop, arith}
 use Rattle.std.proofs.lemmas.Result.{on_ok_weaker}
-use Rattle.affc_sched.proofs.AnsweredLemmas.{front_is}
+use Rattle.affc_sched.proofs.Lists.{front_is}
 use Rattle.affc_check.proofs.list.ListingLemmas.{none_below}
 use Rattle.affc_replay.proofs.Empty.{no_scalars, scalars_more}
 use Rattle.affc_replay.proofs.scalars.+add_scalars.Goals as goal

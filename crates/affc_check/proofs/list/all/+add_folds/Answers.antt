@@ -1,6 +1,6 @@
 use Rattle.std.proofs.Common.{flat_map, ◌≡◌, ◌+◌, ◌-◌, length, map, take, drop, ap, subst, arith}
 use Rattle.std.proofs.lemmas.Result.{err_from_is_err_and, on_ok_weaker, IfErr-weaker}
-use Rattle.affc_sched.proofs.AnsweredLemmas.{front_is}
+use Rattle.affc_sched.proofs.Lists.{front_is}
 use Rattle.affc_quast.specs.Seen.{trees_of}
 use Rattle.affc_check.specs.list.Held.{listed_said}
 use Rattle.affc_check.specs.list.Items.{fold_items}

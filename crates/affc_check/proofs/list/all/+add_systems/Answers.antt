@@ -1,8 +1,8 @@
 use Rattle.std.proofs.Common.{◌∷◌, [], ◌-◌, length, map, take, drop, ap, subst, ◌∙◌}
 use Rattle.std.proofs.lemmas.List.{map-append}
 use Rattle.std.proofs.lemmas.Result.{on_ok_weaker}
-use Rattle.affc_sched.specs.Answered.{Each}
-use Rattle.affc_sched.proofs.AnsweredLemmas.{front_is}
+use Rattle.affc_sched.specs.Touched.{Each}
+use Rattle.affc_sched.proofs.Lists.{front_is}
 use Rattle.affc_quast.specs.Seen.{trees_of}
 use Rattle.affc_life.specs.Clashes.{clash_of}
 use Rattle.affc_check.specs.list.Walks.{clash_systems, IsFoldAsked}

@@ -3,7 +3,7 @@ use Rattle.affc_nest.specs.Questions.{extents_of_access, questions_of}
 use Rattle.affc_nest.specs.declared.nest.Access.{Access}
 use Rattle.affc_check.specs.list.Held.{listed_said}
 use Rattle.affc_check.specs.list.Items.{Question}
-use Rattle.affc_sched.proofs.AnsweredLemmas.{front_is}
+use Rattle.affc_sched.proofs.Lists.{front_is}
 use Rattle.affc_check.proofs.list.ListLemmas.{next_listed, each_subscript, first_in}
 use Rattle.affc_check.proofs.list.bounds.+add_accesses.Goals as goal
 

@@ -3,7 +3,7 @@ use Rattle.affc_nest.specs.Questions.{extent_question}
 use Rattle.affc_nest.specs.declared.nest.ArrayInfo.{ArrayInfo}
 use Rattle.affc_check.specs.list.Held.{listed_said}
 use Rattle.affc_check.specs.list.Items.{Question}
-use Rattle.affc_sched.proofs.AnsweredLemmas.{front_is}
+use Rattle.affc_sched.proofs.Lists.{front_is}
 use Rattle.affc_check.proofs.list.ListLemmas.{next_listed, each_extent, first_in}
 use Rattle.affc_check.proofs.list.bounds.+add_arrays.Goals as goal
 

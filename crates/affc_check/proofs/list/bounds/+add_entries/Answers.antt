@@ -2,7 +2,7 @@ use Rattle.std.proofs.Common.{◌-◌, length, flat_map, take, drop}
 use Rattle.affc_nest.specs.Questions.{entry_questions}
 use Rattle.affc_check.specs.list.Held.{listed_said}
 use Rattle.affc_check.specs.list.Items.{Question}
-use Rattle.affc_sched.proofs.AnsweredLemmas.{front_is}
+use Rattle.affc_sched.proofs.Lists.{front_is}
 use Rattle.affc_check.proofs.list.ListLemmas.{next_listed}
 use Rattle.affc_check.proofs.list.bounds.+add_entries.Goals as goal
 

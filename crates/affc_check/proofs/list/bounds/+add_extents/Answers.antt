@@ -2,7 +2,7 @@ use Rattle.std.proofs.Common.{◌≡◌, ◌-◌, ◌∷◌, ◌++◌, [], lengt
 use Rattle.affc_nest.specs.Questions.{extent_question}
 use Rattle.affc_check.specs.list.Held.{listed_said}
 use Rattle.affc_check.specs.list.Items.{Question}
-use Rattle.affc_sched.proofs.AnsweredLemmas.{front_is}
+use Rattle.affc_sched.proofs.Lists.{front_is}
 use Rattle.affc_check.proofs.list.ListLemmas.{next_mapped}
 use Rattle.affc_check.proofs.list.bounds.+add_extents.Goals as goal
 

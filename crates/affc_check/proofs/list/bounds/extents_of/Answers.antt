@@ -1,7 +1,7 @@
 use Rattle.std.proofs.Common.{subst, sym}
 use Rattle.affc_nest.specs.Asked.{IsExtent}
 use Rattle.affc_nest.specs.Questions.{extents_or_none}
-use Rattle.affc_sched.specs.Answered.{Each}
+use Rattle.affc_sched.specs.Touched.{Each}
 use Rattle.affc_check.proofs.list.ListLemmas.{extents_there}
 use Rattle.affc_check.proofs.list.bounds.extents_of.Goals as goal
 

@@ -1,6 +1,6 @@
 use Rattle.std.proofs.Common.{flat_map, ◌≡◌, ◌+◌, ◌-◌, suc, length, take, drop, arith}
 use Rattle.std.proofs.lemmas.Result.{err_from_is_err_and, on_ok_weaker, IfErr-weaker}
-use Rattle.affc_sched.proofs.AnsweredLemmas.{front_is}
+use Rattle.affc_sched.proofs.Lists.{front_is}
 use Rattle.affc_check.specs.list.Held.{listed_said}
 use Rattle.affc_check.specs.list.Walks.{clash_systems}
 use Rattle.affc_check.proofs.list.FoldLemmas.{rows_listed, row_first, row_later}

@@ -2,7 +2,7 @@ use Rattle.std.proofs.Common.{◌≡◌, ◌+◌, ◌-◌, ◌≤◌, ◌∷◌,
 use Rattle.std.proofs.lemmas.List.{length-drop, map-append}
 use Rattle.std.proofs.lemmas.Result.{on_ok_weaker}
 use Rattle.affc_nest.proofs.QuestionLemmas.{stands_in}
-use Rattle.affc_sched.proofs.AnsweredLemmas.{front_is}
+use Rattle.affc_sched.proofs.Lists.{front_is}
 use Rattle.affc_quast.specs.Seen.{seen}
 use Rattle.affc_life.proofs.SubscriptLemmas.{few_accesses}
 use Rattle.affc_life.proofs.WalkLemmas.{load_there, load_counts}

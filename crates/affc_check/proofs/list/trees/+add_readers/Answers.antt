@@ -1,6 +1,6 @@
 use Rattle.std.proofs.Common.{◌-◌, length, map, take, drop}
 use Rattle.std.proofs.lemmas.Result.{on_ok_weaker}
-use Rattle.affc_sched.proofs.AnsweredLemmas.{front_is}
+use Rattle.affc_sched.proofs.Lists.{front_is}
 use Rattle.affc_quast.specs.Seen.{seen}
 use Rattle.affc_check.specs.list.Groups.{part_items}
 use Rattle.affc_check.specs.list.Passes.{items_by_entry}

@@ -1,6 +1,6 @@
 use Rattle.std.proofs.Common.{◌-◌, length, take, drop}
 use Rattle.affc_sched.specs.Questions.{questions_from}
-use Rattle.affc_sched.proofs.AnsweredLemmas.{front_is}
+use Rattle.affc_sched.proofs.Lists.{front_is}
 use Rattle.affc_questions.proofs.legality.AddedLemmas.{next_added}
 use Rattle.affc_questions.proofs.legality.orders.+add_all.Goals as goal
 

@@ -1,7 +1,7 @@
 use Rattle.std.proofs.Common.{◌-◌, length, flat_map, take, drop, subst}
 use Rattle.affc_sched.specs.Questions.{touches, questions_to, questions_with}
-use Rattle.affc_sched.proofs.AnsweredLemmas.{front_is, touches_front, is_empty_last}
-use Rattle.affc_sched.proofs.SettlingLemmas.{all_there}
+use Rattle.affc_sched.proofs.Lists.{front_is, touches_front, is_empty_last}
+use Rattle.affc_sched.proofs.Lists.{all_there}
 use Rattle.affc_questions.specs.legality.Added.{AreAdded}
 use Rattle.affc_questions.proofs.legality.AddedLemmas.{next_added}
 use Rattle.affc_questions.proofs.legality.orders.+add_from_accesses.Goals as goal

@@ -1,4 +1,4 @@
-use Rattle.affc_sched.proofs.SettlingLemmas.{all_touched}
+use Rattle.affc_sched.proofs.Lists.{all_touched}
 use Rattle.affc_questions.proofs.legality.orders.add_from.Goals as goal
 
 pub add_from_accesses-requires-clause-from : goal.add_from_accesses-requires-clause-from

@@ -1,7 +1,7 @@
 use Rattle.affc_order.proofs.CodeLemmas.{is_nest}
 use Rattle.affc_sched.specs.Questions.{touches}
 use Rattle.affc_sched.proofs.PairLemmas.{stands_in}
-use Rattle.affc_sched.proofs.SettlingLemmas.{all_touched}
+use Rattle.affc_sched.proofs.Lists.{all_touched}
 use Rattle.affc_questions.proofs.legality.AddedLemmas.{nothing_added}
 use Rattle.affc_questions.proofs.legality.PairLemmas.{no_items, all_none_earlier, all_none_later}
 use Rattle.affc_questions.proofs.legality.orders.add_living.Goals as goal

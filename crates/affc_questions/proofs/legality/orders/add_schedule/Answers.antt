@@ -1,4 +1,4 @@
-use Rattle.affc_sched.proofs.SettlingLemmas.{all_there}
+use Rattle.affc_sched.proofs.Lists.{all_there}
 use Rattle.affc_questions.proofs.legality.orders.add_schedule.Goals as goal
 
 pub add_all-requires-clause-firsts : goal.add_all-requires-clause-firsts

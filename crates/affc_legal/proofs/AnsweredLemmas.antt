@@ -1,0 +1,138 @@
+-- Lists of questions that are answered, one after the other.
+use Rattle.std.proofs.Common.{◌≡◌, ℕ, ◌+◌, ◌-◌, ◌≤◌, ℤ, List, [], ◌∷◌, ◌++◌, length, map, flat_map, take, drop, Option, Some, None, refl, sym, ap, subst, ◌∙◌, inl, inr, arith}
+use Rattle.affc_farkas.specs.declared.proof.Proof.{Proof}
+use Rattle.affc_leaf.specs.Points.{IsLeastPoint}
+use Rattle.affc_system.specs.Boxes.{InBox}
+use Rattle.affc_system.specs.Order.{LexLe}
+use Rattle.affc_system.specs.Systems.{Rows, IsPoint}
+use Rattle.affc_ast.specs.declared.tree.Instance.{Instance}
+use Rattle.affc_trace.specs.declared.schedule.Schedule.{Schedule}
+use Rattle.affc_trace.specs.Law.{IsIn}
+use Rattle.affc_trace.proofs.EndedReads.{append_assoc}
+use Rattle.affc_trace.proofs.LastStores.{append_nil}
+use Rattle.affc_trace.proofs.Members.{to_first, to_second}
+use Rattle.affc_trace.proofs.Once.{in_append}
+use Rattle.affc_nest.specs.declared.nest.Entry.{Entry}
+use Rattle.affc_nest.specs.declared.nest.Nest.{Nest}
+use Rattle.affc_legal.specs.Answered.{IsShown, AreShown, Settles, spot_at, IsFoundAt, IsFirstOf, AreAnswered, IsNearer, question_on, AreRanges}
+use Rattle.affc_sched.specs.Laws.{first_at, second_at}
+use Rattle.affc_sched.specs.Questions.{Question, Touch, questions_to, questions_with}
+use Rattle.affc_legal.specs.Violations.{spot_of}
+use Rattle.affc_legal.specs.declared.violation.Violation.{Violation}
+use Rattle.affc_legal.proofs.SpotLemmas.{lex_trans, points_spots}
+
+-- ---- Questions without a point
+
+are_both : (qs rs : List Question) (ps ss : List Proof) → AreShown qs ps → AreShown rs ss → AreShown (qs ++ rs) (ps ++ ss)
+are_both [] rs [] ss h g = g
+are_both [] rs (p ∷ ps) ss h g = absurd h
+are_both (q ∷ qs) rs [] ss h g = absurd h
+are_both (q ∷ qs) rs (p ∷ ps) ss h g = (h.0, are_both qs rs ps ss h.1 g)
+
+settles_both : (qs rs : List Question) (old mid new : List Proof) → Settles qs old mid → Settles rs mid new → Settles (qs ++ rs) old new
+settles_both qs rs old mid new h g = record {
+  made = h.made ++ g.made;
+  grown = g.grown ∙ ap (λ xs. xs ++ g.made) h.grown ∙ append_assoc old h.made g.made;
+  shown = are_both qs rs h.made g.made h.shown g.shown;
+}
+
+pub none_shown : (qs : List Question) (ps : List Proof) → AreShown qs ps → (q : Question) → IsIn q qs → (x : List ℤ) → InBox q.ranges x → IsPoint q.system x → ⊥
+none_shown [] ps h q i = absurd i
+none_shown (r ∷ qs) [] h q i = absurd h
+none_shown (r ∷ qs) (p ∷ ps) h q (inl e) = subst (λ (z : Question). (x : List ℤ) → InBox z.ranges x → IsPoint z.system x → ⊥) (sym e) h.0.none
+none_shown (r ∷ qs) (p ∷ ps) h q (inr i) = none_shown qs ps h.1 q i
+
+-- ---- The first point of two lists
+
+module _ (nest : Nest) where
+  found_among : (qs rs : List Question) → ((q : Question) → IsIn q qs → IsIn q rs) → (found : Violation) → IsFoundAt nest qs found → IsFoundAt nest rs found
+  found_among qs rs f found h = record { question = h.question; asked = f h.question h.asked; point = h.point; meets = h.meets; p = h.p; a = h.a; b = h.b }
+
+  -- no point of these questions in their ranges stands at an earlier spot
+  abbrev AreLater : List Question → Violation → Type 0
+  AreLater qs found = (q : Question) (point : List ℤ) → IsIn q qs → InBox q.ranges point → IsPoint q.system point → LexLe found.key (spot_at nest q point)
+
+  none_later : (qs : List Question) (ps : List Proof) → AreShown qs ps → (found : Violation) → AreLater qs found
+  none_later qs ps h found q point i inside meets = absurd (none_shown qs ps h q i point inside meets)
+
+  still_later : (qs : List Question) (x y : Violation) → LexLe x.key y.key → AreLater qs y → AreLater qs x
+  still_later qs x y l h q point i inside meets = lex_trans x.key y.key (spot_at nest q point) l (h q point i inside meets)
+
+  both_later : (qs rs : List Question) (found : Violation) → AreLater qs found → AreLater rs found → AreLater (qs ++ rs) found
+  both_later qs rs found h g q point i inside meets = elim (in_append qs rs q i) [ inl j ↦ h q point j inside meets | inr j ↦ g q point j inside meets ]
+
+  module _ (qs rs : List Question) where
+    first_here : (found : Violation) → IsFirstOf nest qs found → AreLater rs found → IsFirstOf nest (qs ++ rs) found
+    first_here found h g = record { key = h.key; there = found_among qs (qs ++ rs) (λ q i. to_first qs rs q i) found h.there; first = both_later qs rs found h.first g }
+
+    first_there : (found : Violation) → AreLater qs found → IsFirstOf nest rs found → IsFirstOf nest (qs ++ rs) found
+    first_there found h g = record { key = g.key; there = found_among rs (qs ++ rs) (λ q i. to_second qs rs q i) found g.there; first = both_later qs rs found h g.first }
+
+    pub answered_both : (old mid new : List Proof) (a b c : Option Violation) → AreAnswered nest qs old mid a → AreAnswered nest rs mid new b → IsNearer a b c → AreAnswered nest (qs ++ rs) old new c
+    answered_both old mid new None None c h g n = subst (AreAnswered nest (qs ++ rs) old new) (sym n) (settles_both qs rs old mid new h g)
+    answered_both old mid new None (Some y) c h g n = subst (AreAnswered nest (qs ++ rs) old new) (sym n) (first_there y (none_later qs h.made h.shown y) g)
+    answered_both old mid new (Some x) None c h g n = subst (AreAnswered nest (qs ++ rs) old new) (sym n) (first_here x h (none_later rs g.made g.shown x))
+    answered_both old mid new (Some x) (Some y) c h g (inl n) = subst (AreAnswered nest (qs ++ rs) old new) (sym n.0) (first_here x h (still_later rs x y n.1 g.first))
+    answered_both old mid new (Some x) (Some y) c h g (inr n) = subst (AreAnswered nest (qs ++ rs) old new) (sym n.0) (first_there y (still_later qs y x n.1 h.first) g)
+
+-- ---- One question after the other
+
+pub answered_none : (nest : Nest) (qs : List Question) (old : List Proof) → qs ≡ [] → AreAnswered nest qs old old None
+answered_none nest qs old e = subst (λ xs. Settles xs old old) (sym e) (record { made = []; grown = sym (append_nil old); shown = tt })
+
+module _ {A : Type 0} (nest : Nest) (f : A → List Question) (xs rest : List A) (x : A) (front : xs ≡ x ∷ rest) where
+  pub answered_next : (old mid new : List Proof) (a b c : Option Violation) → AreAnswered nest (f x) old mid a → AreAnswered nest (flat_map f rest) mid new b → IsNearer a b c
+      → AreAnswered nest (flat_map f xs) old new c
+  answered_next old mid new a b c h g n = subst (λ ys. AreAnswered nest (flat_map f ys) old new c) (sym front) (answered_both nest (f x) (flat_map f rest) old mid new a b c h g n)
+
+-- the questions of an access and those of all statements
+pub answered_with : (nest : Nest) (schedule : Schedule) (a : Entry) (x : Touch) (entries : List Entry) → entries ≡ nest.entries → (old new : List Proof) (found : Option Violation)
+    → AreAnswered nest (flat_map (questions_to nest schedule a x) entries) old new found → AreAnswered nest (questions_with nest schedule a x) old new found
+answered_with nest schedule a x entries e old new found h = subst (λ es. AreAnswered nest (flat_map (questions_to nest schedule a x) es) old new found) e h
+
+pub answered_more : (nest : Nest) (f : Rows → Question) (xs rest : List Rows) (x : Rows) → xs ≡ x ∷ rest → (old mid new : List Proof) (a b c : Option Violation)
+    → AreAnswered nest (f x ∷ []) old mid a → AreAnswered nest (map f rest) mid new b → IsNearer a b c → AreAnswered nest (map f xs) old new c
+answered_more nest f xs rest x front old mid new a b c h g n =
+    subst (λ ys. AreAnswered nest (map f ys) old new c) (sym front) (answered_both nest (f x ∷ []) (map f rest) old mid new a b c h g n)
+
+-- ---- One question
+
+pub one_shown : (nest : Nest) (q : Question) (old new : List Proof) (proof : Proof) → new ≡ old ++ (proof ∷ []) → IsShown q proof → AreAnswered nest (q ∷ []) old new None
+one_shown nest q old new proof grown h = record { made = proof ∷ []; grown = grown; shown = (h, tt) }
+
+module _ (nest : Nest) (first second : Entry) (ranges : List (ℤ × ℤ)) (system : Rows) (are : AreRanges nest first ranges) (columns : length ranges ≡ system.columns) where
+  abbrev placed_at : ℕ → List ℤ → Instance
+  placed_at s its = record { statement = s; iterators = its }
+
+  pub room_there : (point : List ℤ) → length point ≡ system.columns → length nest.params + length first.loops ≤ length point
+  room_there point w = at_least (length nest.params + length first.loops) (length ranges) system.columns (length point) are.room columns w
+    where
+      at_least : (m n k l : ℕ) → m ≤ n → n ≡ k → l ≡ k → m ≤ l
+      at_least m n k l h e f = omega (arith, h, e, f)
+
+  pub one_found : (point : List ℤ) (found : Violation) → IsLeastPoint system ranges point → found.key ≡ spot_of found.p found.a found.b → found.p ≡ take (length nest.params) point
+      → found.a ≡ record { statement = first.statement; iterators = take (length first.loops) (drop (length nest.params) point) }
+      → found.b ≡ record { statement = second.statement; iterators = drop (length first.loops) (drop (length nest.params) point) }
+      → IsFirstOf nest (question_on first second ranges system ∷ []) found
+  one_found point found least key p a b =
+      let a' : found.a ≡ first_at nest (question_on first second ranges system) point =
+      a ∙ ap (λ (ls : List ℕ). placed_at first.statement (take (length ls) (drop (length nest.params) point))) (sym are.loops) in
+      let b' : found.b ≡ second_at nest (question_on first second ranges system) point =
+      b ∙ ap (λ (ls : List ℕ). placed_at second.statement (drop (length ls) (drop (length nest.params) point))) (sym are.loops) in
+      record {
+        key = key;
+        there = record { question = question_on first second ranges system; asked = inl refl; point = point; meets = least.meets; p = p; a = a'; b = b' };
+        first = λ r z i inside meets. elim i [
+          | inl e ↦ later point found least (key ∙ (λ j. spot_of (p j) (a' j) (b' j))) r z e inside meets
+          | inr none ↦ absurd none
+        ];
+      }
+    where
+      later : (point : List ℤ) (found : Violation) → IsLeastPoint system ranges point → found.key ≡ spot_at nest (question_on first second ranges system) point
+          → (r : Question) (z : List ℤ) → r ≡ question_on first second ranges system → InBox r.ranges z → IsPoint r.system z → LexLe found.key (spot_at nest r z)
+      later point found least key r z e =
+          subst (λ (s : Question). InBox s.ranges z → IsPoint s.system z → LexLe found.key (spot_at nest s z)) (sym e)
+          (λ inside meets.
+          let room = subst (λ (ls : List ℕ). length nest.params + length ls ≤ length point) (sym are.loops) (room_there point least.meets.width) in
+          subst (λ k. LexLe k (spot_at nest (question_on first second ranges system) z)) (sym key)
+          (points_spots nest (question_on first second ranges system) point z room (meets.width ∙ sym least.meets.width) (least.least z inside meets)))

@@ -1,0 +1,4 @@
+pub mod Violations
+pub mod Answers
+pub mod Answered
+pub mod Legal

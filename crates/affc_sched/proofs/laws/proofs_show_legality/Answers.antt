@@ -1,5 +1,0 @@
-use Rattle.affc_sched.proofs.ProofLemmas.{proofs_show_legality}
-use Rattle.affc_sched.proofs.laws.proofs_show_legality.Goals as goal
-
-pub returns : goal.returns
-returns c = record { law = proofs_show_legality }
