@@ -46,7 +46,7 @@ use Rattle.affc_schedtext.specs.declared.plan.SchedFault.{SchedFault}
 use Rattle.affc_schedtext.specs.Answers.{IsFault}
 use Rattle.affc_schedtext.proofs.Excludes.{excludes}
 use Rattle.affc_legal.specs.Violations.{IsViolation}
-use Rattle.affc_flow.specs.Unwritten.{LoadsUnwritten}
+use Rattle.affc_dataflow.specs.Unwritten.{LoadsUnwritten}
 use Rattle.affc_bounds.specs.threshold.Thresholds.{threshold}
 use Rattle.affc_driver.specs.Accounts.{reaches, IsUnlimited, IsShort}
 use Rattle.affc_driver.specs.Folds.{FoldsTo}

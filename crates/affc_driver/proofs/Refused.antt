@@ -20,12 +20,12 @@ use Rattle.affc_sched.specs.Legality.{IsAsked}
 use Rattle.affc_ast.specs.declared.tree.ArrayId.{ArrayId}
 use Rattle.affc_nest.specs.declared.nest.Access.{Access}
 use Rattle.affc_nest.specs.declared.nest.Entry.{Entry}
-use Rattle.affc_flow.specs.Stores.{IsNamedNest}
-use Rattle.affc_flow.specs.Unwritten.{IsUnwritten}
+use Rattle.affc_dataflow.specs.Stores.{IsNamedNest}
+use Rattle.affc_dataflow.specs.Unwritten.{IsUnwritten}
 use Rattle.affc_driver.specs.Plans.{HasPlan, as_it_stands, WrittenThroughout}
 use Rattle.affc_quast.specs.Limits.{narrow, AreTreesWithin}
 use Rattle.affc_quast.specs.Trees.{Tree}
-use Rattle.affc_flow.specs.Finds.{AreInputs}
+use Rattle.affc_dataflow.specs.Finds.{AreInputs}
 use Rattle.affc_report.specs.Trees.{flow_text}
 use Rattle.affc_schedtext.specs.Outline.{outline}
 use Rattle.affc_driver.specs.Flows.{NameThroughout, FlowsTo}

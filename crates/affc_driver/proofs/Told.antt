@@ -21,8 +21,8 @@ use Rattle.affc_quast.specs.Limits.{narrow, AreTreesWithin}
 use Rattle.affc_quast.specs.Seen.{seen, trees_of}
 use Rattle.affc_quast.specs.Sources.{loads_in, loads_before}
 use Rattle.affc_quast.specs.Trees.{depth_of}
-use Rattle.affc_flow.specs.Stores.{IsNamedNest}
-use Rattle.affc_flow.proofs.FindLemmas.{few_accesses}
+use Rattle.affc_dataflow.specs.Stores.{IsNamedNest}
+use Rattle.affc_dataflow.proofs.FindLemmas.{few_accesses}
 use Rattle.affc_flow.proofs.FlowLemmas.{mapped_at}
 
 -- the load whose tree has this number

@@ -30,9 +30,9 @@ use Rattle.affc_sched.proofs.LegalLemmas.{instance_of, events_are, stood}
 use Rattle.affc_bounds.specs.Laws.{IsStuckAt}
 use Rattle.affc_quast.specs.Sources.{loads_in}
 use Rattle.affc_quast.specs.Trees.{Tree}
-use Rattle.affc_flow.specs.Finds.{NameAllAt}
+use Rattle.affc_dataflow.specs.Finds.{NameAllAt}
 use Rattle.affc_flow.specs.Questions.{is_temporary}
-use Rattle.affc_flow.specs.Unwritten.{LoadsUnwritten}
+use Rattle.affc_dataflow.specs.Unwritten.{LoadsUnwritten}
 use Rattle.affc_flow.proofs.FlowLemmas.{mapped_at, front_at}
 use Rattle.affc_driver.proofs.Roles.{HasRoles, temporary_far, far_temporary}
 

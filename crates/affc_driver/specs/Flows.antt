@@ -8,7 +8,7 @@ use Rattle.affc_bounds.specs.Faults.{StaysWithin}
 use Rattle.affc_schedtext.specs.Outline.{outline}
 use Rattle.affc_quast.specs.Limits.{narrow, AreTreesWithin}
 use Rattle.affc_quast.specs.Trees.{Tree}
-use Rattle.affc_flow.specs.Finds.{NameAllAt, AreInputs}
+use Rattle.affc_dataflow.specs.Finds.{NameAllAt, AreInputs}
 use Rattle.affc_report.specs.Trees.{flow_text}
 
 -- throughout the context these trees name the sources of all loads, and each load of a temporary has one

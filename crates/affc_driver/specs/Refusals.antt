@@ -15,7 +15,7 @@ use Rattle.affc_schedtext.specs.Answers as plans
 use Rattle.affc_bounds.specs.Faults.{StaysWithin, IsMeaningFault}
 use Rattle.affc_bounds.specs.declared.fault.MeaningFault.{MeaningFault}
 use Rattle.affc_legal.specs.Violations.{IsFirstViolation}
-use Rattle.affc_flow.specs.Unwritten.{LoadsUnwritten}
+use Rattle.affc_dataflow.specs.Unwritten.{LoadsUnwritten}
 use Rattle.affc_driver.specs.Plans.{HasPlan, WrittenThroughout}
 use Rattle.affc_driver.specs.declared.refusal.Refusal.{Refusal}
 use Rattle.affc_driver.specs.declared.refusal.Refusal.TheVariants.{Source, Printed, Schedule, Meaning, Unwritten, Illegal, Budget, Memory}

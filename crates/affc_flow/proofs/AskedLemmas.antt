@@ -32,7 +32,7 @@ use Rattle.affc_flow.specs.Asked.{on, outside, apart, beside_system, before, aft
 use Rattle.affc_flow.specs.Laws.{NoneHasAPoint}
 use Rattle.affc_flow.specs.Questions as asks
 use Rattle.affc_flow.specs.Questions.{Question, Writer, is_temporary, writers, poses}
-use Rattle.affc_flow.specs.Stores.{Writes}
+use Rattle.affc_flow.specs.Writers.{Writes}
 use Rattle.affc_flow.proofs.WriterLemmas.{from_writers, to_writers}
 
 -- ---- Forms over more columns

@@ -29,7 +29,7 @@ use Rattle.affc_quast.proofs.RangeLemmas.{leaf_is_boxed}
 use Rattle.affc_flow.specs.Laws.{Loads, IsSourceOf, FlowNamesSources, FlowNamesAll}
 use Rattle.affc_flow.specs.Questions.{Question, questions_of_load, questions_of_loads, flow_questions}
 use Rattle.affc_flow.proofs.PathLemmas.{parameters_are, reader_stands}
-use Rattle.affc_flow.proofs.TreeLemmas.{load_there}
+use Rattle.affc_flow.proofs.LoadLemmas.{load_there}
 use Rattle.affc_flow.proofs.NamesLemmas.{HoldsLeaves, tree_names}
 
 pub mapped_at : {A B : Type 0} (f : A → B) (xs : List A) (k : ℕ) (a : A) → slice_get xs k ≡ Some a → slice_get (map f xs) k ≡ Some (f a)

@@ -51,7 +51,7 @@ use Rattle.affc_quast.proofs.LeafLemmas.{says_negated, leaf_is_named, leaf_is_re
 use Rattle.affc_flow.specs.Laws.{Loads, IsSourceOf, NoneBegins, LeafNamesSource, TreeNamesSource}
 use Rattle.affc_flow.specs.Questions.{Question, Writer, is_temporary, writers, poses, path_rows, reader_posed, here, beside_columns, beside_rows, beside, writer_posed, before_load, earlier_questions, after_named, between_questions, of_named, outside_questions, apart_questions, not_earlier_questions, named_questions, questions_among, input_questions, questions_for, leaf_questions, tree_questions}
 use Rattle.affc_flow.proofs.PathLemmas.{padded_values, short_values, padded_wide, order_at, parameters_are, reader_stands, path_met, read_value, read_wide, reader_is_posed, point_is, beside_long, beside_met, writer_is_posed}
-use Rattle.affc_flow.specs.Stores.{Writes}
+use Rattle.affc_flow.specs.Writers.{Writes}
 use Rattle.affc_flow.proofs.WriterLemmas.{stored_there, from_writers, to_writers}
 
 -- no question has a point that begins with these numbers and is held by its ranges

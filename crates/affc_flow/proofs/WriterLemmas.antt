@@ -18,7 +18,7 @@ use Rattle.affc_nest.proofs.QuestionLemmas.{stands_in}
 use Rattle.affc_sched.proofs.LegalLemmas.{Stood, events_are}
 use Rattle.affc_quast.specs.Sources.{loads_in}
 use Rattle.affc_flow.specs.Questions.{Writer, store_of_entry, writer_if, writers}
-use Rattle.affc_flow.specs.Stores.{Writes}
+use Rattle.affc_flow.specs.Writers.{Writes}
 
 -- ---- The last of a list
 

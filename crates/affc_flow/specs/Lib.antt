@@ -1,11 +1,5 @@
 pub mod Questions
 pub mod Laws
 pub mod Examples
-pub mod Opposites
-pub mod Latest
-pub mod Stores
-pub mod Searches
-pub mod Unwritten
-pub mod Finds
 pub mod Asked
-pub mod Guesses
+pub mod Writers

@@ -1,5 +1,5 @@
 //! The questions of a leaf with an instance of another statement.
-ghost use Rattle.std.specs.Prelude.{◌≡◌, ◌+◌, ◌-◌, ◌≤◌, ◌++◌, ◌∷◌, [], length, map, flat_map, nat_lt, IsTrue, IfOk, OnOk, IfSome, IfNone};
+ghost use Rattle.std.specs.Prelude.{◌≡◌, ◌+◌, ◌-◌, ◌≤◌, ◌++◌, ◌∷◌, [], map, IsTrue, IfOk, OnOk, IfSome, IfNone};
 ghost use Rattle.std.specs.List.{All};
 ghost use Rattle.affc_trace.specs.Law.{IsIn};
 ghost use Rattle.affc_trace.specs.Inverses.{columns_from};
@@ -69,7 +69,7 @@ fn are_sides(columns: u32, forms: &[Form]) -> bool
 }
 
 /// The systems of an order, where the forms can be compared.
-pub(crate) fn lexed(
+pub fn lexed(
     alloc: Global,
     columns: u32,
     n: usize,
@@ -93,12 +93,7 @@ pub(crate) fn lexed(
 }
 
 /// So many columns from one on.
-pub(crate) fn column_forms(
-    alloc: Global,
-    columns: u32,
-    first: u32,
-    n: u32,
-) -> Result<Vec<Form>, Unasked>
+pub fn column_forms(alloc: Global, columns: u32, first: u32, n: u32) -> Result<Vec<Form>, Unasked>
     ensures { IfOk result (λ v. v.items ≡ columns_from columns first n) }
 {
     if first > 64 || n > 64 {
@@ -191,10 +186,10 @@ fn before(
 
 /// An instance of a statement, by forms for its iterators.
 #[derive(Drop)]
-pub(crate) struct Chosen<'a> {
-    pub(crate) writer: &'a Entry,
-    pub(crate) store: &'a Access,
-    pub(crate) forms: &'a [Form],
+pub struct Chosen<'a> {
+    pub writer: &'a Entry,
+    pub store: &'a Access,
+    pub forms: &'a [Form],
 }
 
 /// The systems of its being later than the instance that is chosen.
@@ -314,7 +309,7 @@ fn add_earlier_of(
 }
 
 /// Adds the questions whether an instance that stores the array is earlier than the load. The recursion is into halves.
-pub(crate) fn add_all_earlier(
+pub fn add_all_earlier(
     alloc: Global,
     load: &Load<'_>,
     place: &Place<'_>,
@@ -361,7 +356,7 @@ fn add_between_of(
 
 /// Adds the questions whether an instance that stores the array is later than the one that is chosen and earlier than the load.
 /// The recursion is into halves.
-pub(crate) fn add_all_between(
+pub fn add_all_between(
     alloc: Global,
     load: &Load<'_>,
     place: &Place<'_>,

@@ -1,5 +1,4 @@
 //! What the questions on trees decide. Each law is the contract of a function that does nothing.
-ghost use Rattle.affc_flow.specs.Finds.{FoundMayBeAsked};
 ghost use Rattle.affc_flow.specs.Laws.{LeafNamesSource, TreeNamesSource, FlowNamesSources, FlowNamesAll};
 
 /// A leaf names the source at each point of its rows with which no point of its questions begins.
@@ -20,9 +19,4 @@ pub fn flow_names_sources()
 /// Where no question has a point anywhere, they do so whatever the quotients are, and each load of a temporary has a source.
 pub fn flow_names_all()
     ensures law { FlowNamesAll }
-{}
-
-/// Trees like those that are found may be asked for the source at each instance of the context.
-pub fn found_may_be_asked()
-    ensures law { FoundMayBeAsked }
 {}

@@ -1,29 +1,13 @@
-//! The search for last-write trees.
+//! The questions on last-write trees, what they decide, and lists of them.
 #![tactic(auto)]
 
-mod asking;
-mod candidates;
-mod divided;
-mod draft;
+pub mod asking;
 pub mod examples;
-mod finding;
-mod greatest;
-mod guess;
-mod later;
-mod latest;
 pub mod laws;
-mod listing;
-mod load;
-mod pairs;
+pub mod listing;
+pub mod load;
 pub mod questions;
-mod ranges;
-mod search;
-mod solved;
-pub mod stop;
-mod strides;
-mod tested;
+pub mod ranges;
 
 pub use asking::store_for;
-pub use finding::find;
 pub use load::{is_temporary, number};
-pub use stop::FlowStop;

@@ -1,5 +1,5 @@
 //! The questions of a leaf under the rows of a path.
-ghost use Rattle.std.specs.Prelude.{◌≡◌, ◌++◌, ◌∷◌, [], map, length, IsTrue, IfOk, OnOk};
+ghost use Rattle.std.specs.Prelude.{◌≡◌, ◌++◌, ◌∷◌, [], map, length, IfOk, OnOk};
 ghost use Rattle.affc_trace.specs.Inverses.{columns_from};
 ghost use Rattle.affc_nest.specs.Asked.{IsNest};
 ghost use Rattle.affc_sched.specs.Questions.{equal_rows};
@@ -90,7 +90,7 @@ fn add_not_earlier(
 }
 
 /// The columns of the parameters, and these forms behind them.
-pub(crate) fn images_of(
+pub fn images_of(
     alloc: Global,
     load: &Load<'_>,
     columns: u32,
@@ -106,7 +106,7 @@ pub(crate) fn images_of(
 }
 
 /// Adds the questions of a leaf that names an instance.
-pub(crate) fn add_named(
+pub fn add_named(
     alloc: Global,
     load: &Load<'_>,
     place: &Place<'_>,
@@ -149,7 +149,7 @@ pub(crate) fn add_named(
 }
 
 /// Adds the questions of a leaf that names none.
-pub(crate) fn add_input(
+pub fn add_input(
     alloc: Global,
     load: &Load<'_>,
     place: &Place<'_>,

@@ -12,11 +12,11 @@ use std::alloc::{AllocError, Global};
 
 /// A load, and its number among the loads of its statement.
 #[derive(Drop)]
-pub(crate) struct Load<'a> {
-    pub(crate) nest: &'a Nest,
-    pub(crate) reader: &'a Entry,
-    pub(crate) access: &'a Access,
-    pub(crate) number: u32,
+pub struct Load<'a> {
+    pub nest: &'a Nest,
+    pub reader: &'a Entry,
+    pub access: &'a Access,
+    pub number: u32,
 }
 
 /// Whether an array is a temporary.

@@ -1,6 +1,5 @@
 //! The questions of a leaf that stands alone, as systems.
 ghost use Rattle.std.specs.Prelude.{◌≡◌, ◌+◌, ◌≤◌, ◌++◌, ◌∷◌, [], length, map, flat_map, IsTrue, IfOk, OnOk};
-ghost use Rattle.std.specs.List.{All};
 ghost use Rattle.affc_rows.specs.Forms.{HaveColumns};
 ghost use Rattle.affc_nest.specs.Domains.{gap_row, with_rows};
 ghost use Rattle.affc_order.specs.Posed.{form_at};
@@ -60,15 +59,15 @@ impl From<RowFault> for Unasked {
 
 /// The rows above a leaf, and the ranges of their columns.
 #[derive(Drop)]
-pub(crate) struct Place<'a> {
-    pub(crate) path: &'a System,
-    pub(crate) ranges: &'a BoxOf,
+pub struct Place<'a> {
+    pub path: &'a System,
+    pub ranges: &'a BoxOf,
 }
 
 // ---- Rows.
 
 /// A number of things.
-pub(crate) fn count(n: usize) -> Result<u32, Unasked>
+pub fn count(n: usize) -> Result<u32, Unasked>
     ensures value { IfOk result (λ k. k ≡ n) }
     ensures few { OnOk result (n ≤ 128) }
 {
@@ -79,7 +78,7 @@ pub(crate) fn count(n: usize) -> Result<u32, Unasked>
 }
 
 /// Adds a row, where it keeps the limits.
-pub(crate) fn push_row(system: &mut System, row: Form) -> Result<(), Unasked>
+pub fn push_row(system: &mut System, row: Form) -> Result<(), Unasked>
     ensures rows { OnOk result (system.new ≡ with_rows system.old (row ∷ [])) }
     ensures wide { OnOk result (length row.coefs ≡ system.old.columns) }
 {
@@ -92,7 +91,7 @@ pub(crate) fn push_row(system: &mut System, row: Form) -> Result<(), Unasked>
 
 /// Adds copies of rows, where they keep the limits.
 #[tactic(auto, using(affc_sched::proofs::SystemLemmas::added_twice))]
-pub(crate) fn push_rows(system: &mut System, rows: &[Form]) -> Result<(), Unasked>
+pub fn push_rows(system: &mut System, rows: &[Form]) -> Result<(), Unasked>
     ensures rows { OnOk result (system.new ≡ with_rows system.old rows.now) }
     ensures wide { OnOk result (HaveColumns system.old.columns rows.now) }
 {
@@ -177,7 +176,7 @@ pub fn at_images(alloc: Global, columns: u32, images: &[Form], form: &Form) -> R
 
 /// Adds rows, each with so many columns more between and behind.
 #[tactic(auto, using(affc_sched::proofs::SystemLemmas::added_twice))]
-pub(crate) fn push_spread(
+pub fn push_spread(
     alloc: Global,
     system: &mut System,
     rows: &[Form],
@@ -216,7 +215,7 @@ fn spread_form(
 }
 
 /// Forms, each with so many columns more between and behind.
-pub(crate) fn add_spread_forms(
+pub fn add_spread_forms(
     alloc: Global,
     forms: &[Form],
     params: u32,
@@ -250,7 +249,7 @@ fn padded(alloc: Global, columns: u32, form: &Form) -> Result<Form, Unasked>
 }
 
 /// Adds forms, over more columns.
-pub(crate) fn add_padded(
+pub fn add_padded(
     alloc: Global,
     columns: u32,
     forms: &[Form],
@@ -283,7 +282,7 @@ fn push_same(alloc: Global, system: &mut System, f: &Form, g: &Form) -> Result<(
 
 /// Adds the rows that forms are equal in turn.
 #[tactic(auto, using(affc_sched::proofs::SystemLemmas::added_twice))]
-pub(crate) fn push_equal(
+pub fn push_equal(
     alloc: Global,
     system: &mut System,
     fs: &[Form],
@@ -307,11 +306,7 @@ pub(crate) fn push_equal(
 // ---- Questions.
 
 /// Adds the question of a system.
-pub(crate) fn push_question(
-    system: System,
-    ranges: &BoxOf,
-    out: &mut Vec<Question>,
-) -> Result<(), Unasked>
+pub fn push_question(system: System, ranges: &BoxOf, out: &mut Vec<Question>) -> Result<(), Unasked>
     ensures { OnOk result (map asked out.new.items ≡ map asked out.old.items ++ record { system = system; ranges = ranges.now } ∷ []) }
 {
     let ranges = ranges.clone()?;
@@ -323,7 +318,7 @@ pub(crate) fn push_question(
 
 /// Adds the question of these rows and those behind the path.
 #[tactic(auto, using(affc_sched::proofs::SystemLemmas::added_twice))]
-pub(crate) fn add_question(
+pub fn add_question(
     place: &Place<'_>,
     first: &[Form],
     second: &[Form],
@@ -354,7 +349,7 @@ fn add_gap(
 }
 
 /// Adds the question of each of these systems behind these rows and the path.
-pub(crate) fn add_orders(
+pub fn add_orders(
     place: &Place<'_>,
     first: &[Form],
     orders: &[System],
@@ -373,7 +368,7 @@ pub(crate) fn add_orders(
 }
 
 /// Adds the question of each of these systems and each of those behind the path.
-pub(crate) fn add_both(
+pub fn add_both(
     place: &Place<'_>,
     after: &[System],
     before: &[System],
@@ -392,7 +387,7 @@ pub(crate) fn add_both(
 }
 
 /// Adds the questions whether the instance with these images lies outside some row.
-pub(crate) fn add_outside(
+pub fn add_outside(
     alloc: Global,
     place: &Place<'_>,
     images: &[Form],
@@ -429,7 +424,7 @@ fn add_sides(
 }
 
 /// Adds the questions whether the instance with these images writes elsewhere than what is read.
-pub(crate) fn add_apart(
+pub fn add_apart(
     alloc: Global,
     place: &Place<'_>,
     images: &[Form],

@@ -1,0 +1,19 @@
+use Rattle.std.proofs.Common.{length, subst}
+use Rattle.std.specs.List.{All}
+use Rattle.affc_system.specs.Systems.{IsRow}
+use Rattle.affc_quast.specs.Seen.{seen}
+use Rattle.affc_dataflow.proofs.GuessLemmas.{rows_wide, above_right}
+use Rattle.affc_dataflow.proofs.divided.above.Goals as goal
+
+pub returns : goal.returns
+returns c =
+    let l = c.args.load.now in
+    let p = c.args.place.now.path.now in
+    let d = c.args.division.now in
+    let b = c.args.below.now in
+    record {
+      right = above_right l.nest.now l.reader.now l.access.now p c.args.place.now.ranges.now c.args.left (length c.args.others.now)
+          (rows_wide p.columns p.rows (subst (λ rows. All (IsRow p.columns) rows) c.rows-rows.ensures.rows c.rows-rows.ensures.fit))
+          d.form d.by b.range b.path b.ranges (seen c.args.rest) (seen c.in_ok-tree.tree) c.requires.wide c.requires.fits c.requires.by c.requires.small c.requires.some c.requires.range c.requires.path c.requires.ranges c.requires.right
+          c.in_ok-tree.ensures;
+    }

@@ -1,0 +1,7 @@
+pub mod Opposites
+pub mod Latest
+pub mod Stores
+pub mod Searches
+pub mod Unwritten
+pub mod Finds
+pub mod Guesses

@@ -1,0 +1,233 @@
+//! Leaves that are tested by their questions, under the rows of a path.
+ghost use Rattle.std.specs.Prelude.{◌≡◌, ◌^◌, ◌≤◌, ℤ, unsigned_abs, List, map, IsTrue, IfOk, IfErr, IfSome, Some};
+ghost use Rattle.std.specs.List.{All};
+ghost use Rattle.affc_system.specs.Boxes.{InBox};
+ghost use Rattle.affc_system.specs.Systems.{IsPoint};
+ghost use Rattle.affc_split.specs.Budgets.{IsLater};
+ghost use Rattle.affc_quast.specs.Limits.{narrow, FitsForm};
+ghost use Rattle.affc_quast.specs.Seen.{seen};
+ghost use Rattle.affc_flow.specs.Asked.{asked, all_named, input_asked};
+ghost use Rattle.affc_flow.specs.Laws.{NoneHasAPoint};
+ghost use Rattle.affc_dataflow.specs.Guesses.{CoversOn, IsPath};
+ghost use Rattle.affc_dataflow.specs.Searches.{IsLoad};
+ghost use Rattle.affc_flow.specs.Writers.{Writes};
+
+use affc_flow::asking::Chosen;
+use affc_flow::listing::{add_input, add_named};
+use affc_flow::load::Load;
+use affc_flow::questions::{Place, Question, Unasked, have_columns};
+use affc_quast::Quast;
+use affc_quast::rows::copied;
+use affc_rows::Form;
+use affc_split::{Answer, Budget, Stop, decide, within_reach};
+use affc_system::{BoxOf, System};
+use std::alloc::Global;
+
+// ---- Questions without points.
+
+/// Whether a system is shown to have no point; no more than so many are asked.
+pub(crate) fn has_none(
+    alloc: Global,
+    system: &System,
+    ranges: &BoxOf,
+    asks: &mut u32,
+    budget: &mut Budget,
+) -> Result<bool, Stop>
+    ensures none { IfOk result (λ t. IsTrue t → (x : List ℤ) → InBox ranges.now x → IsPoint system.now x → ⊥) }
+    ensures later { IsLater budget.old budget.new }
+    ensures stop { IfErr result (λ e. e ≡ Stop.Budget → budget.new.limit ≡ Some budget.new.spent) }
+{
+    if *asks == 0 {
+        return Ok(false);
+    }
+    *asks -= 1;
+    if ranges.ranges().len() != system.columns() as usize {
+        return Ok(false);
+    }
+    if !within_reach(ranges) {
+        return Ok(false);
+    }
+    match decide(alloc, system, ranges, budget)? {
+        Answer::Empty(_) => Ok(true),
+        Answer::Point(_) => Ok(false),
+    }
+}
+
+/// Whether each of these questions is shown to have no point. The recursion is into halves.
+fn are_empty(
+    alloc: Global,
+    questions: &[Question],
+    asks: &mut u32,
+    budget: &mut Budget,
+) -> Result<bool, Stop>
+    ensures none { IfOk result (λ t. IsTrue t → NoneHasAPoint (map asked questions.now)) }
+    ensures later { IsLater budget.old budget.new }
+    ensures stop { IfErr result (λ e. e ≡ Stop.Budget → budget.new.limit ≡ Some budget.new.spent) }
+{
+    match questions {
+        [] => Ok(true),
+        [question] => {
+            let none = has_none(alloc, &question.system, &question.ranges, asks, budget)?;
+            Ok(none)
+        }
+        _ => {
+            let (first, others) = questions.split_at(questions.len() / 2);
+            if !are_empty(alloc, first, asks, budget)? {
+                return Ok(false);
+            }
+            let none = are_empty(alloc, others, asks, budget)?;
+            Ok(none)
+        }
+    }
+}
+
+// ---- A leaf that names an instance.
+
+/// Whether the questions of the instance have no point.
+fn is_source(
+    alloc: Global,
+    load: &Load<'_>,
+    place: &Place<'_>,
+    chosen: &Chosen<'_>,
+    asks: &mut u32,
+    budget: &mut Budget,
+) -> Result<bool, Stop>
+    requires load { IsLoad load.now.nest.now load.now.reader.now load.now.access.now load.now.number }
+    ensures none { IfOk result (λ t. IsTrue t → NoneHasAPoint (all_named load.now.nest.now load.now.reader.now load.now.access.now place.now.path.now place.now.ranges.now chosen.now.writer.now chosen.now.store.now chosen.now.forms.now)) }
+    ensures later { IsLater budget.old budget.new }
+    ensures stop { IfErr result (λ e. e ≡ Stop.Budget → budget.new.limit ≡ Some budget.new.spent) }
+{
+    let mut questions = Vec::new(alloc);
+    match add_named(alloc, load, place, chosen, &mut questions) {
+        Ok(()) => {
+            let none = are_empty(alloc, questions.as_slice(), asks, budget)?;
+            Ok(none)
+        }
+        Err(Unasked::Large) => Ok(false),
+        Err(Unasked::Memory) => Err(Stop::Memory),
+    }
+}
+
+/// Whether coefficients are within 2^20.
+fn are_narrow(coefs: &[i128]) -> bool
+    ensures { IsTrue result → All (λ c. unsigned_abs c ≤ 2 ^ 20) coefs.now }
+{
+    match coefs {
+        [] => true,
+        [c, rest @ ..] => {
+            if c.unsigned_abs() <= 1048576 {
+                are_narrow(rest)
+            } else {
+                false
+            }
+        }
+    }
+}
+
+/// Whether a form keeps the limits of a tree.
+pub(crate) fn is_narrow(form: &Form) -> bool
+    ensures { IsTrue result → FitsForm narrow form.now }
+{
+    form.constant.unsigned_abs() <= 1099511627776 && are_narrow(form.coefs.as_slice())
+}
+
+/// Whether forms keep the limits of a tree.
+fn keep_limits(forms: &[Form]) -> bool
+    ensures { IsTrue result → All (FitsForm narrow) forms.now }
+{
+    match forms {
+        [] => true,
+        [form, rest @ ..] => {
+            if is_narrow(form) {
+                keep_limits(rest)
+            } else {
+                false
+            }
+        }
+    }
+}
+
+/// The leaf that names the instance, if it is right under the path.
+pub(crate) fn source_leaf(
+    alloc: Global,
+    load: &Load<'_>,
+    place: &Place<'_>,
+    chosen: &Chosen<'_>,
+    asks: &mut u32,
+    budget: &mut Budget,
+) -> Result<Option<Quast>, Stop>
+    requires load { IsLoad load.now.nest.now load.now.reader.now load.now.access.now load.now.number }
+    requires path { IsPath load.now.reader.now place.now.path.now }
+    requires writes { Writes load.now.nest.now load.now.access.now.array.0 chosen.now.writer.now chosen.now.store.now }
+    ensures right { IfOk result (λ o. IfSome o (λ t. CoversOn load.now.nest.now load.now.reader.now load.now.access.now place.now.path.now place.now.ranges.now 0 0 (seen t))) }
+    ensures later { IsLater budget.old budget.new }
+    ensures stop { IfErr result (λ e. e ≡ Stop.Budget → budget.new.limit ≡ Some budget.new.spent) }
+{
+    let columns = place.path.columns();
+    let _rows = place.path.rows();
+    if chosen.forms.len() != chosen.writer.loops.len() {
+        return Ok(None);
+    }
+    if !have_columns(columns, chosen.forms) {
+        return Ok(None);
+    }
+    if !keep_limits(chosen.forms) {
+        return Ok(None);
+    }
+    if !is_source(alloc, load, place, chosen, asks, budget)? {
+        return Ok(None);
+    }
+    let forms = copied(alloc, chosen.forms)?;
+    Ok(Some(Quast::Source {
+        statement: chosen.writer.statement,
+        forms,
+    }))
+}
+
+// ---- A leaf that names none.
+
+/// Whether the questions of a leaf that names none have no point.
+fn is_input(
+    alloc: Global,
+    load: &Load<'_>,
+    place: &Place<'_>,
+    asks: &mut u32,
+    budget: &mut Budget,
+) -> Result<bool, Stop>
+    requires load { IsLoad load.now.nest.now load.now.reader.now load.now.access.now load.now.number }
+    ensures none { IfOk result (λ t. IsTrue t → NoneHasAPoint (input_asked load.now.nest.now load.now.reader.now load.now.access.now place.now.path.now place.now.ranges.now)) }
+    ensures later { IsLater budget.old budget.new }
+    ensures stop { IfErr result (λ e. e ≡ Stop.Budget → budget.new.limit ≡ Some budget.new.spent) }
+{
+    let mut questions = Vec::new(alloc);
+    match add_input(alloc, load, place, &mut questions) {
+        Ok(()) => {
+            let none = are_empty(alloc, questions.as_slice(), asks, budget)?;
+            Ok(none)
+        }
+        Err(Unasked::Large) => Ok(false),
+        Err(Unasked::Memory) => Err(Stop::Memory),
+    }
+}
+
+/// The leaf that names none, if it is right under the path.
+pub(crate) fn input_leaf(
+    alloc: Global,
+    load: &Load<'_>,
+    place: &Place<'_>,
+    asks: &mut u32,
+    budget: &mut Budget,
+) -> Result<Option<Quast>, Stop>
+    requires load { IsLoad load.now.nest.now load.now.reader.now load.now.access.now load.now.number }
+    requires path { IsPath load.now.reader.now place.now.path.now }
+    ensures right { IfOk result (λ o. IfSome o (λ t. CoversOn load.now.nest.now load.now.reader.now load.now.access.now place.now.path.now place.now.ranges.now 0 0 (seen t))) }
+    ensures later { IsLater budget.old budget.new }
+    ensures stop { IfErr result (λ e. e ≡ Stop.Budget → budget.new.limit ≡ Some budget.new.spent) }
+{
+    let _rows = place.path.rows();
+    if is_input(alloc, load, place, asks, budget)? {
+        Ok(Some(Quast::Input))
+    } else {
+        Ok(None)
+    }
+}

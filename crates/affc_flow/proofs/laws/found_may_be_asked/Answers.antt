@@ -1,5 +1,0 @@
-use Rattle.affc_flow.proofs.PointLemmas as lemma
-use Rattle.affc_flow.proofs.laws.found_may_be_asked.Goals as goal
-
-pub returns : goal.returns
-returns c = record { law = lemma.found_may_be_asked }

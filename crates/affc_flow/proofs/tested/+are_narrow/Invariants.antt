@@ -1,5 +1,0 @@
-use Rattle.std.proofs.Common.{length}
-use Rattle.affc_flow.proofs.tested.+are_narrow.Given as goal
-
-abbrev pub decreases-are_narrow : goal.decreases-are_narrow
-decreases-are_narrow l = length l.coefs.now
