@@ -36,8 +36,8 @@ returns-clause-value c =
     let f : FitsSigned w128 c.args.c = c.ranges.c in
     let apart = minus_is c.args.columns c.args.x.now c.args.y.now c.in_ok-difference.difference c.requires.x c.requires.y c.in_ok-difference.ensures.value in
     let e = simp to_z-of_z at c.mixture-2.ensures.value in
-    simp to_z-of_z (IfOk-weaker c.mixture-2.result (λ g. g ≡ mixed_form (pos 1) c.args.sum.now c.args.c c.in_ok-difference.difference)
+    IfOk-weaker c.mixture-2.result (λ g. g ≡ mixed_form (pos 1) c.args.sum.now c.args.c c.in_ok-difference.difference)
     (λ g. (z : List ℤ) → length z ≡ c.args.columns → value g z ≡ value c.args.sum.now z +ℤ (c.args.c *ℤ (value c.args.x.now z -ℤ value c.args.y.now z)))
     (λ g h z len.
     plus_value c.args.columns c.args.n c.args.sum.now c.in_ok-difference.difference c.args.c c.requires.few c.requires.sum c.requires.small apart.width apart.coefs_fit apart.constant_fits g h z len
-    ∙ ap (λ u. value c.args.sum.now z +ℤ (c.args.c *ℤ u)) (apart.holds z len)) e)
+    ∙ ap (λ u. value c.args.sum.now z +ℤ (c.args.c *ℤ u)) (apart.holds z len)) e
