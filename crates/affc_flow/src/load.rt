@@ -5,9 +5,7 @@ ghost use Rattle.affc_flow.specs.Questions.{is_temporary};
 
 use affc_ast::tree::{ArrayId, Role};
 use affc_nest::{Access, Entry, Nest};
-use affc_order::columns::spread;
 use affc_rows::Form;
-use smallvec::SmallVec;
 use std::alloc::{AllocError, Global};
 
 /// A load, and its number among the loads of its statement.
@@ -37,9 +35,5 @@ pub fn is_temporary(nest: &Nest, array: ArrayId) -> bool
 pub fn number(alloc: Global, columns: u32, n: i64) -> Result<Form, AllocError>
     ensures { IfOk result (λ f. f ≡ number_form columns n) }
 {
-    let empty = Form {
-        coefs: SmallVec::new(alloc),
-        constant: i128::from(n),
-    };
-    spread(alloc, &empty, 0, 0, columns)
+    Form::number(alloc, columns, i128::from(n))
 }

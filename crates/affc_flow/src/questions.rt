@@ -8,8 +8,6 @@ ghost use Rattle.affc_sched.specs.Questions.{equal_rows};
 ghost use Rattle.affc_quast.specs.Leaves.{padded, negated};
 ghost use Rattle.affc_flow.specs.Asked.{asked, on, outside, apart};
 
-use crate::load::number;
-use affc_order::columns::spread;
 use affc_rows::{Form, FormFault};
 use affc_system::{BoxOf, RowFault, System};
 use sqlite_items::Items;
@@ -98,10 +96,8 @@ pub fn push_rows(system: &mut System, rows: &[Form]) -> Result<(), Unasked>
     match rows {
         [] => Ok(()),
         [row, rest @ ..] => {
-            let copy = row.clone()?;
-            push_row(system, copy)?;
-            push_rows(system, rest)?;
-            Ok(())
+            push_row(system, row.clone()?)?;
+            push_rows(system, rest)
         }
     }
 }
@@ -125,9 +121,8 @@ pub fn negation(alloc: Global, row: &Form) -> Result<Form, Unasked>
     ensures { IfOk result (λ f. f ≡ negated row.now) }
 {
     let columns = count(row.coefs.len())?;
-    let zero = number(alloc, columns, 0)?;
-    let made = gap(alloc, row, &zero, 1)?;
-    Ok(made)
+    let zero = Form::number(alloc, columns, 0)?;
+    gap(alloc, row, &zero, 1)
 }
 
 /// Whether each form has so many columns.
@@ -152,8 +147,7 @@ fn constant_form(alloc: Global, columns: u32, form: &Form) -> Result<Form, Alloc
     requires { length form.now.coefs ≡ 0 }
     ensures { IfOk result (λ f. f ≡ form_at columns [] form.now) }
 {
-    let made = spread(alloc, form, 0, 0, columns)?;
-    Ok(made)
+    form.spread(alloc, 0, 0, columns)
 }
 
 /// A form with each column replaced by its image.
@@ -167,11 +161,9 @@ pub fn at_images(alloc: Global, columns: u32, images: &[Form], form: &Form) -> R
         return Err(Unasked::Large);
     }
     if images.is_empty() {
-        let made = constant_form(alloc, columns, form)?;
-        return Ok(made);
+        return Ok(constant_form(alloc, columns, form)?);
     }
-    let made = form.compose(alloc, images)?;
-    Ok(made)
+    Ok(form.compose(alloc, images)?)
 }
 
 /// Adds rows, each with so many columns more between and behind.
@@ -191,8 +183,7 @@ pub fn push_spread(
         [row, rest @ ..] => {
             let made = spread_form(alloc, row, params, between, behind)?;
             push_row(system, made)?;
-            push_spread(alloc, system, rest, params, between, behind)?;
-            Ok(())
+            push_spread(alloc, system, rest, params, between, behind)
         }
     }
 }
@@ -210,8 +201,7 @@ fn spread_form(
     if params as usize > form.coefs.len() {
         return Err(Unasked::Large);
     }
-    let made = spread(alloc, form, params, between, behind)?;
-    Ok(made)
+    Ok(form.spread(alloc, params, between, behind)?)
 }
 
 /// Forms, each with so many columns more between and behind.
@@ -228,10 +218,8 @@ pub fn add_spread_forms(
     match forms {
         [] => Ok(()),
         [form, rest @ ..] => {
-            let made = spread_form(alloc, form, params, between, behind)?;
-            out.push(made)?;
-            add_spread_forms(alloc, rest, params, between, behind, out)?;
-            Ok(())
+            out.push(spread_form(alloc, form, params, between, behind)?)?;
+            add_spread_forms(alloc, rest, params, between, behind, out)
         }
     }
 }
@@ -240,12 +228,10 @@ pub fn add_spread_forms(
 fn padded(alloc: Global, columns: u32, form: &Form) -> Result<Form, Unasked>
     ensures { IfOk result (λ f. f ≡ padded columns form.now) }
 {
-    let own = count(form.coefs.len())?;
-    if own > columns {
+    if form.coefs.len() > columns as usize {
         return Err(Unasked::Large);
     }
-    let made = spread(alloc, form, 0, 0, columns - own)?;
-    Ok(made)
+    Ok(form.padded(alloc, columns)?)
 }
 
 /// Adds forms, over more columns.
@@ -260,10 +246,8 @@ pub fn add_padded(
     match forms {
         [] => Ok(()),
         [form, rest @ ..] => {
-            let made = padded(alloc, columns, form)?;
-            out.push(made)?;
-            add_padded(alloc, columns, rest, out)?;
-            Ok(())
+            out.push(padded(alloc, columns, form)?)?;
+            add_padded(alloc, columns, rest, out)
         }
     }
 }
@@ -276,8 +260,7 @@ fn push_same(alloc: Global, system: &mut System, f: &Form, g: &Form) -> Result<(
     let low = gap(alloc, g, f, 0)?;
     push_row(system, low)?;
     let high = gap(alloc, f, g, 0)?;
-    push_row(system, high)?;
-    Ok(())
+    push_row(system, high)
 }
 
 /// Adds the rows that forms are equal in turn.
@@ -296,8 +279,7 @@ pub fn push_equal(
             [] => Ok(()),
             [g, more_gs @ ..] => {
                 push_same(alloc, system, f, g)?;
-                push_equal(alloc, system, more_fs, more_gs)?;
-                Ok(())
+                push_equal(alloc, system, more_fs, more_gs)
             }
         },
     }
@@ -329,8 +311,7 @@ pub fn add_question(
     let mut system = place.path.clone()?;
     push_rows(&mut system, first)?;
     push_rows(&mut system, second)?;
-    push_question(system, place.ranges, out)?;
-    Ok(())
+    push_question(system, place.ranges, out)
 }
 
 /// Adds the question of the row `b - a - 1` behind the path.
@@ -344,8 +325,7 @@ fn add_gap(
     ensures { OnOk result (map asked out.new.items ≡ map asked out.old.items ++ on place.now.path.now place.now.ranges.now (gap_row a.now b.now 1 ∷ []) ∷ []) }
 {
     let row = gap(alloc, a, b, 1)?;
-    add_question(place, &[], &[row], out)?;
-    Ok(())
+    add_question(place, &[], &[row], out)
 }
 
 /// Adds the question of each of these systems behind these rows and the path.
@@ -361,8 +341,7 @@ pub fn add_orders(
         [] => Ok(()),
         [order, rest @ ..] => {
             add_question(place, first, order.rows(), out)?;
-            add_orders(place, first, rest, out)?;
-            Ok(())
+            add_orders(place, first, rest, out)
         }
     }
 }
@@ -380,8 +359,7 @@ pub fn add_both(
         [] => Ok(()),
         [order, rest @ ..] => {
             add_orders(place, order.rows(), before, out)?;
-            add_both(place, rest, before, out)?;
-            Ok(())
+            add_both(place, rest, before, out)
         }
     }
 }
@@ -402,8 +380,7 @@ pub fn add_outside(
             let made = at_images(alloc, place.path.columns(), images, row)?;
             let outside = negation(alloc, &made)?;
             add_question(place, &[], &[outside], out)?;
-            add_outside(alloc, place, images, rest, out)?;
-            Ok(())
+            add_outside(alloc, place, images, rest, out)
         }
     }
 }
@@ -419,8 +396,7 @@ fn add_sides(
     ensures { OnOk result (map asked out.new.items ≡ map asked out.old.items ++ on place.now.path.now place.now.ranges.now (gap_row read.now made.now 1 ∷ []) ∷ on place.now.path.now place.now.ranges.now (gap_row made.now read.now 1 ∷ []) ∷ []) }
 {
     add_gap(alloc, place, read, made, out)?;
-    add_gap(alloc, place, made, read, out)?;
-    Ok(())
+    add_gap(alloc, place, made, read, out)
 }
 
 /// Adds the questions whether the instance with these images writes elsewhere than what is read.
@@ -441,8 +417,7 @@ pub fn add_apart(
             [other, others @ ..] => {
                 let made = at_images(alloc, place.path.columns(), images, sub)?;
                 add_sides(alloc, place, &made, other, out)?;
-                add_apart(alloc, place, images, subs, others, out)?;
-                Ok(())
+                add_apart(alloc, place, images, subs, others, out)
             }
         },
     }

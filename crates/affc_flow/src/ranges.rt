@@ -15,8 +15,7 @@ pub fn add_ranges(ranges: &[(i64, i64)], out: &mut BoxOf) -> Result<(), AllocErr
         [] => Ok(()),
         [range, rest @ ..] => {
             out.push(range.0, range.1)?;
-            add_ranges(rest, out)?;
-            Ok(())
+            add_ranges(rest, out)
         }
     }
 }

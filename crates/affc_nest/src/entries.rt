@@ -22,19 +22,19 @@ use affc_system::{BoxOf, System};
 use sqlite_items::Items;
 use std::alloc::{AllocError, Global};
 
-/// The load that `op=` makes of its own element.
-fn own_loads<'a>(alloc: Global, site: &Site<'a>) -> Result<Vec<Touch<'a>>, AllocError>
-    ensures { IfOk result (λ v. all_touched v.items ≡ own_access site.now.op (site.now.array, site.now.subs.now)) }
+/// Adds the load that `op=` makes of its own element.
+#[tactic(auto, using(affc_trace::proofs::LastStores::map_append, affc_trace::proofs::LastStores::append_nil))]
+fn add_own<'a>(site: &Site<'a>, out: &mut Vec<Touch<'a>>) -> Result<(), AllocError>
+    ensures { OnOk result (all_touched out.new.items ≡ all_touched out.old.items ++ own_access site.now.op (site.now.array, site.now.subs.now)) }
 {
-    let mut touches = Vec::new(alloc);
     match site.op {
-        None => Ok(touches),
+        None => Ok(()),
         Some(_) => {
-            touches.push(Touch {
+            out.push(Touch {
                 array: site.array,
                 subs: site.subs,
             })?;
-            Ok(touches)
+            Ok(())
         }
     }
 }
@@ -44,7 +44,8 @@ fn own_loads<'a>(alloc: Global, site: &Site<'a>) -> Result<Vec<Touch<'a>>, Alloc
 fn touches<'a>(alloc: Global, site: &Site<'a>) -> Result<Vec<Touch<'a>>, AllocError>
     ensures { IfOk result (λ v. all_touched v.items ≡ accesses_of (place site.now).assignment) }
 {
-    let mut touches = own_loads(alloc, site)?;
+    let mut touches = Vec::new(alloc);
+    add_own(site, &mut touches)?;
     add_loads(site.value, &mut touches)?;
     touches.push(Touch {
         array: site.array,

@@ -29,9 +29,7 @@ fn with_frame<'a>(
     ensures { IfOk result (λ v. all_seen v.items ≡ all_seen frames.now ++ seen frame.entry ∷ []) }
 {
     let mut inside = Vec::from_slice(alloc, frames)?;
-    let Ok(()) = inside.push(frame) else {
-        return Err(AllocError);
-    };
+    inside.push(frame)?;
     Ok(inside)
 }
 
@@ -40,9 +38,7 @@ fn with_number(alloc: Global, loops: &[u32], number: u32) -> Result<Vec<u32>, Al
     ensures { IfOk result (λ v. v.items ≡ loops.now ++ number ∷ []) }
 {
     let mut inside = Vec::from_slice(alloc, loops)?;
-    let Ok(()) = inside.push(number) else {
-        return Err(AllocError);
-    };
+    inside.push(number)?;
     Ok(inside)
 }
 
@@ -112,9 +108,7 @@ fn walk<'a>(
                 subs: subs.as_slice(),
                 value,
             };
-            let Ok(()) = out.push(site) else {
-                return Err(AllocError);
-            };
+            out.push(site)?;
             Ok(next)
         }
         Stmt::Block { locals: _, body } => {

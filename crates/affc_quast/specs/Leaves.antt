@@ -8,10 +8,7 @@ use Rattle.affc_nest.specs.Domains.{number_form, compare_rows, gap_row}
 use Rattle.affc_nest.specs.Questions.{widened}
 use Rattle.affc_order.specs.Posed.{Posed}
 use Rattle.affc_quast.specs.Trees.{Tree, Test, Div, Source, Input}
-
--- the form over so many columns, of which it sees the first
-abbrev pub padded : (columns : ℕ) → Affine → Affine
-padded columns f = widened (columns - length f.coefs) f
+pub use Rattle.affc_rows.specs.Vocabulary.{padded}
 
 -- the row that says that a row isn't met: the form is below 0
 abbrev pub negated : Affine → Affine

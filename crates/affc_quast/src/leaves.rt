@@ -44,13 +44,11 @@ fn add_divisions(divisions: &[Division], out: &mut Items<Division>) -> Result<()
     match divisions {
         [] => Ok(()),
         [division, rest @ ..] => {
-            let form = division.form.clone()?;
             out.push(Division {
-                form,
+                form: division.form.clone()?,
                 by: division.by,
             })?;
-            add_divisions(rest, out)?;
-            Ok(())
+            add_divisions(rest, out)
         }
     }
 }
@@ -66,8 +64,10 @@ fn with_division(
 {
     let mut out = Items::new(alloc);
     add_divisions(divisions, &mut out)?;
-    let copy = form.clone()?;
-    out.push(Division { form: copy, by })?;
+    out.push(Division {
+        form: form.clone()?,
+        by,
+    })?;
     Ok(out)
 }
 
@@ -85,14 +85,12 @@ fn add_leaf(
     let rows = copied(alloc, rows)?;
     let mut all = Items::new(alloc);
     add_divisions(divisions, &mut all)?;
-    let Ok(()) = out.push(Leaf {
+    out.push(Leaf {
         columns,
         rows,
         divisions: all,
         named,
-    }) else {
-        return Err(AllocError);
-    };
+    })?;
     Ok(())
 }
 
@@ -101,8 +99,7 @@ fn with_test(alloc: Global, rows: &[Form], form: &Form) -> Result<Items<Form>, A
     ensures { IfOk result (λ r. r ≡ rows.now ++ form.now ∷ []) }
 {
     let mut out = copied(alloc, rows)?;
-    let copy = form.clone()?;
-    out.push(copy)?;
+    out.push(form.clone()?)?;
     Ok(out)
 }
 
@@ -117,8 +114,7 @@ fn with_failed(
     ensures { IfOk result (λ r. r ≡ rows.now ++ negated form.now ∷ []) }
 {
     let mut out = copied(alloc, rows)?;
-    let row = negated(alloc, columns, form)?;
-    out.push(row)?;
+    out.push(negated(alloc, columns, form)?)?;
     Ok(out)
 }
 
@@ -143,8 +139,10 @@ fn with_quotient(
 fn forms_of(alloc: Global, statement: u32, forms: &[Form]) -> Result<Named, AllocError>
     ensures { IfOk result (λ n. n ≡ record { statement = statement; forms = forms.now }) }
 {
-    let forms = copied(alloc, forms)?;
-    Ok(Named { statement, forms })
+    Ok(Named {
+        statement,
+        forms: copied(alloc, forms)?,
+    })
 }
 
 /// Adds the leaves of a tree over so many columns, at the end of a path.

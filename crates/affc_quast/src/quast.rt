@@ -132,7 +132,6 @@ impl Quast {
     {
         let mut wide = Vec::new(alloc);
         add_wide(point, &mut wide)?;
-        let named = leaf_at(self, alloc, &mut wide)?;
-        Ok(named)
+        leaf_at(self, alloc, &mut wide)
     }
 }

@@ -1,13 +1,12 @@
 //! Rows of tests and divisions.
-ghost use Rattle.std.specs.Prelude.{◌≡◌, ◌+◌, ◌*ℤ◌, ◌≤◌, ◌++◌, ◌∷◌, [], pos, length, IfOk, OnOk};
-ghost use Rattle.affc_ast.specs.declared.tree.Rel.TheVariants.{Less, LessEqual};
-ghost use Rattle.affc_nest.specs.Domains.{gap_row, compare_rows, number_form};
+ghost use Rattle.std.specs.Prelude.{◌≡◌, ◌+◌, ◌≤◌, ◌++◌, ◌∷◌, [], IfOk, OnOk};
+ghost use Rattle.affc_nest.specs.Domains.{gap_row};
 ghost use Rattle.affc_nest.specs.Questions.{widened};
 ghost use Rattle.affc_quast.specs.Leaves.{multiple, negated, division_rows};
 ghost use Rattle.affc_quast.specs.Wide.{IsWide};
 
-use affc_order::columns::spread;
-use affc_rows::{Form, FormFault};
+use affc_rows::Form;
+use affc_rows::vocabulary::copies;
 use smallvec::SmallVec;
 use sqlite_items::Items;
 use std::alloc::{AllocError, Global};
@@ -19,8 +18,7 @@ pub fn add_copies(rows: &[Form], out: &mut Items<Form>) -> Result<(), AllocError
     match rows {
         [] => Ok(()),
         [row, rest @ ..] => {
-            let copy = row.clone()?;
-            out.push(copy)?;
+            out.push(row.clone()?)?;
             add_copies(rest, out)
         }
     }
@@ -30,40 +28,11 @@ pub fn add_copies(rows: &[Form], out: &mut Items<Form>) -> Result<(), AllocError
 pub fn copied(alloc: Global, rows: &[Form]) -> Result<Items<Form>, AllocError>
     ensures { IfOk result (λ r. r ≡ rows.now) }
 {
-    let mut out = Items::new(alloc);
-    add_copies(rows, &mut out)?;
-    Ok(out)
-}
-
-/// One side less another.
-#[tactic(auto, using(crate::proofs::WideLemmas::not_too_wide))]
-fn difference(alloc: Global, columns: u32, a: &Form, b: &Form) -> Result<Form, AllocError>
-    requires first { IsWide columns a.now }
-    requires second { IsWide columns b.now }
-    ensures { IfOk result (λ f. f ≡ gap_row a.now b.now 0) }
-{
-    match b.scale_add(alloc, 1, a, -1) {
-        Ok(form) => Ok(form),
-        Err(FormFault::Range) => unreachable!(),
-        Err(FormFault::Memory) => Err(AllocError),
-    }
-}
-
-/// The row `b - a - k`.
-fn gap(alloc: Global, columns: u32, a: &Form, b: &Form, k: u32) -> Result<Form, AllocError>
-    requires first { IsWide columns a.now }
-    requires second { IsWide columns b.now }
-    requires step { k ≤ 1 }
-    ensures { IfOk result (λ f. f ≡ gap_row a.now b.now k) }
-{
-    let Form { coefs, constant } = difference(alloc, columns, a, b)?;
-    Ok(Form {
-        coefs,
-        constant: constant - i128::from(k),
-    })
+    Ok(Items::from_vec(copies(alloc, rows)?))
 }
 
 /// Adds the row `b - a - k`.
+#[tactic(auto, using(crate::proofs::WideLemmas::not_too_wide))]
 pub fn add_gap(
     alloc: Global,
     columns: u32,
@@ -77,8 +46,7 @@ pub fn add_gap(
     requires step { k ≤ 1 }
     ensures { OnOk result (out.new ≡ out.old ++ gap_row a.now b.now k ∷ []) }
 {
-    let row = gap(alloc, columns, a, b, k)?;
-    out.push(row)
+    out.push(Form::gap(alloc, a, b, k)?)
 }
 
 /// A form with so many zeros, this coefficient behind them, and this constant.
@@ -91,18 +59,7 @@ fn last_column(alloc: Global, columns: u32, by: i64, constant: i64) -> Result<Fo
         coefs,
         constant: i128::from(constant),
     };
-    spread(alloc, &alone, 0, columns, 0)
-}
-
-/// The form 0 over so many columns.
-fn none(alloc: Global, columns: u32) -> Result<Form, AllocError>
-    ensures { IfOk result (λ f. f ≡ number_form columns (pos 0)) }
-{
-    let empty = Form {
-        coefs: SmallVec::new(alloc),
-        constant: 0,
-    };
-    spread(alloc, &empty, 0, 0, columns)
+    alone.spread(alloc, 0, columns, 0)
 }
 
 /// The row that says that a form is below 0.
@@ -110,8 +67,8 @@ pub(crate) fn negated(alloc: Global, columns: u32, form: &Form) -> Result<Form, 
     requires { IsWide columns form.now }
     ensures { IfOk result (λ f. f ≡ negated form.now) }
 {
-    let zero = none(alloc, columns)?;
-    gap(alloc, columns, form, &zero, 1)
+    let zero = Form::number(alloc, columns, 0)?;
+    Form::gap(alloc, form, &zero, 1)
 }
 
 /// Adds the rows that the column behind so many is the quotient of a form, rounded down.
@@ -126,7 +83,7 @@ pub(crate) fn add_division(
     requires room { columns ≤ 1000 }
     ensures { OnOk result (out.new ≡ out.old ++ division_rows columns form.now by) }
 {
-    let whole = spread(alloc, form, 0, 0, 1)?;
+    let whole = form.widened(alloc, 1)?;
     let low = last_column(alloc, columns, by, 0)?;
     let high = last_column(alloc, columns, by, by)?;
     add_gap(alloc, columns + 1, &low, &whole, 0, out)?;
