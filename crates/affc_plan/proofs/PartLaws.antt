@@ -1,16 +1,11 @@
 -- Forms of parts: mixtures of slight forms don't pass 2^126, and what is found is the form of the expression, where each part is slight.
-use Rattle.std.proofs.Common.{◌≡◌, ℕ, zero, suc, ◌*◌, ◌^◌, ◌<◌, ◌≤◌, ℤ, pos, true, ◌&&◌, List, [], ◌∷◌, replicate, refl, ap, arith, inl, inr}
+use Rattle.std.proofs.Common.{◌≡◌, ℕ, ◌*◌, ◌^◌, ◌<◌, ◌≤◌, ℤ, true, ◌&&◌, List, [], ◌∷◌, arith, inl, inr}
 use Rattle.std.specs.Prelude.{unsigned_abs, nat_le, nat_abs}
 use Rattle.std.proofs.Math.Nat.{mul-le-mul_left, mul-le-mul_right}
 use Rattle.std.proofs.lemmas.Bool.{leb-true, and_parts}
 use Rattle.affc_rows.specs.Forms.{Affine, TooWide, mixed_magnitudes, mixed_form_magnitudes, entry_magnitude}
 use Rattle.affc_trace.specs.Target.{are_slight}
-use Rattle.affc_domain.specs.Affine.{unit_of}
 use Rattle.affc_plan.specs.Parts.{is_slight}
-
-pub zeros : (n : ℕ) → unit_of n n ≡ replicate n (pos 0)
-zeros zero = refl
-zeros (suc n) = ap (λ l. pos 0 ∷ l) (zeros n)
 
 -- ---- Magnitudes
 

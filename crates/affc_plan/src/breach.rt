@@ -18,7 +18,7 @@ use affc_schedtext::scope::numbered;
 use std::alloc::{AllocError, Global};
 
 /// A rule, with the number of the token at which it is broken.
-#[derive(Clone, Copy, Debug, PartialEq, Eq, Drop)]
+#[derive(Clone, Copy, Drop)]
 pub enum Breach {
     Statement(usize),
     Length(usize),

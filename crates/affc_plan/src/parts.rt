@@ -12,7 +12,7 @@ ghost use Rattle.affc_plan.specs.Parts.{is_slight, kept, mixture, multiple, part
 ghost use Rattle.affc_plan.specs.Seen.{columns_seen};
 
 use crate::columns::{Columns, column_of};
-use affc_rows::{Form, FormFault};
+use affc_rows::Form;
 use affc_syntax::draft::draft::IxDraft;
 use std::alloc::{AllocError, Global};
 
@@ -24,7 +24,6 @@ pub(crate) struct Part {
 }
 
 /// `s` times a slight form plus `t` times another.
-#[tactic(auto, using(affc_nest::proofs::SmallLemmas::mixture_width))]
 fn mixed(
     alloc: Global,
     columns: u32,
@@ -39,11 +38,7 @@ fn mixed(
     ensures value { IfOk result (λ f. f ≡ mixed_form s a.now t b.now) }
     ensures width { IfOk result (λ f. length f.coefs ≡ columns) }
 {
-    match a.scale_add(alloc, s, b, t) {
-        Ok(form) => Ok(form),
-        Err(FormFault::Range) => unreachable!(),
-        Err(FormFault::Memory) => Err(AllocError),
-    }
+    Form::mixture(alloc, s, a, t, b)
 }
 
 fn all_slight(coefs: &[i128]) -> bool
@@ -148,14 +143,12 @@ fn product(
     Ok(keep(a.named || b.named, form))
 }
 
-#[tactic(auto, using(crate::proofs::PartLaws::zeros))]
 fn literal(alloc: Global, columns: u32, value: u64) -> Result<Option<Part>, AllocError>
     ensures value { IfOk result (λ r. r ≡ kept false (record { coefs = replicate columns (pos 0); constant = pos value })) }
     ensures fits { IfOk result (λ r. IsPartOver columns r) }
 {
-    let Form { coefs, .. } = Form::column(alloc, columns, columns)?;
-    let constant = i128::from(value);
-    Ok(keep(false, Form { coefs, constant }))
+    let form = Form::number(alloc, columns, i128::from(value))?;
+    Ok(keep(false, form))
 }
 
 /// The number of a column; that of the first where the name stands for none.

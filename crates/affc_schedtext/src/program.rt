@@ -14,20 +14,19 @@ use affc_ast::text::Text;
 use affc_ast::tree::{Decl, Param, Program, Stmt};
 use std::alloc::{AllocError, Global};
 
-fn copied(alloc: Global, name: &Text) -> Result<Text, AllocError>
+fn name_copied(alloc: Global, name: &Text) -> Result<Text, AllocError>
     ensures { IfOk result (λ t. t ≡ name.now) }
 {
-    let copy = Text::from_str(alloc, name.as_str())?;
-    Ok(copy)
+    Text::from_str(alloc, name.as_str())
 }
 
 #[tactic(auto, using(std::proofs::lemmas::List::take_more, std::proofs::lemmas::List::take_all))]
-fn all_copied(alloc: Global, names: &[Text]) -> Result<Items<Text>, AllocError>
+fn names_copied(alloc: Global, names: &[Text]) -> Result<Items<Text>, AllocError>
     ensures { IfOk result (λ copies. copies ≡ names.now) }
 {
     let mut copies = Items::new(alloc);
     for name in names {
-        copies.push(copied(alloc, name)?)?;
+        copies.push(name_copied(alloc, name)?)?;
     }
     Ok(copies)
 }
@@ -36,8 +35,8 @@ fn all_copied(alloc: Global, names: &[Text]) -> Result<Items<Text>, AllocError>
 fn with_name(alloc: Global, names: &[Text], name: &Text) -> Result<Items<Text>, AllocError>
     ensures { IfOk result (λ longer. longer ≡ names.now ++ name.now ∷ []) }
 {
-    let mut longer = all_copied(alloc, names)?;
-    longer.push(copied(alloc, name)?)?;
+    let mut longer = names_copied(alloc, names)?;
+    longer.push(name_copied(alloc, name)?)?;
     Ok(longer)
 }
 
@@ -48,10 +47,7 @@ fn add_number(alloc: Global, param: &Param, names: &mut Items<Text>) -> Result<(
     ensures { OnOk result (names.new ≡ names.old ++ outlines.number_names (param.now ∷ [])) }
 {
     match param {
-        Param::Number { name, .. } => {
-            names.push(copied(alloc, name)?)?;
-            Ok(())
-        }
+        Param::Number { name, .. } => names.push(name_copied(alloc, name)?),
         Param::Array(_) => Ok(()),
     }
 }
@@ -72,7 +68,7 @@ fn number_names(alloc: Global, params: &[Param]) -> Result<Items<Text>, AllocErr
 fn array_outline(alloc: Global, is_temporary: bool, decl: &Decl) -> Result<ArrayOutline, AllocError>
     ensures { IfOk result (λ a. a ≡ outlines.array_outline is_temporary decl.now) }
 {
-    let name = copied(alloc, &decl.name)?;
+    let name = name_copied(alloc, &decl.name)?;
     Ok(ArrayOutline {
         name,
         dimensions: decl.extents.len() as u64,
@@ -90,10 +86,7 @@ fn add_array(
 {
     match param {
         Param::Number { .. } => Ok(()),
-        Param::Array(decl) => {
-            arrays.push(array_outline(alloc, false, decl)?)?;
-            Ok(())
-        }
+        Param::Array(decl) => arrays.push(array_outline(alloc, false, decl)?),
     }
 }
 
@@ -143,26 +136,16 @@ fn walk(
             body,
         } => {
             let inside = with_name(alloc, around, iter)?;
-            walk_all(alloc, body.as_slice(), inside.as_slice(), out)?;
-            Ok(())
+            walk_all(alloc, body.as_slice(), inside.as_slice(), out)
         }
-        Stmt::If { conds: _, body } => {
-            walk_all(alloc, body.as_slice(), around, out)?;
-            Ok(())
-        }
+        Stmt::If { conds: _, body } => walk_all(alloc, body.as_slice(), around, out),
         Stmt::Assign {
             op: _,
             array: _,
             subs: _,
             value: _,
-        } => {
-            out.push(all_copied(alloc, around)?)?;
-            Ok(())
-        }
-        Stmt::Block { locals: _, body } => {
-            walk_all(alloc, body.as_slice(), around, out)?;
-            Ok(())
-        }
+        } => out.push(names_copied(alloc, around)?),
+        Stmt::Block { locals: _, body } => walk_all(alloc, body.as_slice(), around, out),
     }
 }
 

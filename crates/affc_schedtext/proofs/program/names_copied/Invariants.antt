@@ -1,5 +1,5 @@
 use Rattle.std.proofs.Common.{◌≡◌, take}
-use Rattle.affc_schedtext.proofs.program.all_copied.Given as goal
+use Rattle.affc_schedtext.proofs.program.names_copied.Given as goal
 
 abbrev pub invariant-loop-name : goal.invariant-loop-name
 invariant-loop-name l = l.copies ≡ take l.name-index l.names
