@@ -26,3 +26,4 @@ pub mod ExampleProofs
 pub mod Rows
 pub mod Later
 pub mod Bodies
+pub mod Steps
