@@ -27,3 +27,4 @@ pub mod Rows
 pub mod Later
 pub mod Bodies
 pub mod Steps
+pub mod Lists

@@ -1,21 +1,18 @@
 -- What is done last in an expression.
-use Rattle.std.proofs.Common.{◌≡◌, ℕ, suc, ◌+◌, ℤ, ◌+ℤ◌, ◌-ℤ◌, ◌*ℤ◌, neg_ℤ, List, Result, Ok, refl, sym, ap, subst, ◌∙◌, arith, rules}
+use Rattle.std.proofs.Common.{◌≡◌, ℕ, suc, ◌+◌, ℤ, List, Ok, refl, sym, ap, ◌∙◌, arith, rules}
 use denote.Bor.{Bor}
-use Rattle.std.specs.Int.{int_max, int_min}
 use Rattle.affc_ast.specs.declared.tree.Ix.{Ix, out-Ix, map-Ix, the_lemmas as ix_lemmas}
 use Rattle.affc_ast.specs.declared.tree.Ix.TheVariants.{Lit, Name, Neg, Add, Sub, Mul, Min, Max, Floord, Ceild, Mod}
 use Rattle.affc_ast.specs.declared.tree.Ix.TheOpen as layer
 use Rattle.affc_ast.specs.declared.tree.Ix.TheOpen.{Ix-F}
 use Rattle.affc_ast.specs.declared.tree.NameId.{NameId}
-use Rattle.affc_ast.specs.Cause.{Cause, ◌>>=◌}
+use Rattle.affc_ast.specs.Cause.{◌>>=◌}
 use Rattle.affc_ast.specs.Index.{index_step, nodes_of_ix, index_value}
 use Rattle.affc_ast.specs.Recursion.{by_ix}
 use Rattle.affc_ast.proofs.Outs.{by_ix_out}
 use Rattle.affc_interp.specs.Operands.{first_in, first_operand, row_step, operators}
 use Rattle.affc_interp.specs.Wholes.{wide_step, wide_of, with_one}
-use Rattle.affc_interp.specs.Steps.{IsAtom, IsStep, joined, made, wide_joined, wide_made, right_nodes}
-use Rattle.affc_interp.specs.declared.context.NoWhole.{NoWhole}
-use Rattle.affc_interp.specs.declared.step.Join.{Join}
+use Rattle.affc_interp.specs.Steps.{IsAtom, IsStep, made, wide_made, right_nodes}
 use Rattle.affc_interp.specs.declared.step.Join.TheVariants.{Sum, Difference, Product, Least, Greatest, Remainder}
 use Rattle.affc_interp.specs.declared.step.Step.{Step}
 use Rattle.affc_interp.specs.declared.step.Step.TheVariants.{Opposite, Floor, Ceiling, Joined}
@@ -121,3 +118,7 @@ pub step_value : (e a : Ix) (s t : Step) (node : ℕ) (names : List ℤ) (x : �
 step_value e a s t node names x h is inner =
     h.value node names ∙ ap (λ q. q >>= made s node (node + 1 + nodes_of_ix a) names) (ap (λ q. index_value q (node + 1) names) h.first ∙ inner)
     ∙ ap (λ q. made q node (node + 1 + nodes_of_ix a) names x) is
+
+pub step_wide : (e a : Ix) (s t : Step) (names : List ℤ) (x : ℤ) → IsStep e a s → s ≡ t → wide_of (first_operand e) names ≡ Ok x → wide_of e names ≡ wide_made t names x
+step_wide e a s t names x h is inner =
+    h.wide names ∙ ap (λ q. with_one q (wide_made s names)) (ap (λ q. wide_of q names) h.first ∙ inner) ∙ ap (λ q. wide_made q names x) is

@@ -32,9 +32,7 @@ fn right_count(step: Step<'_>) -> u32
     ensures { result ≡ right_nodes step.entry }
 {
     match step {
-        Step::Opposite => 0,
-        Step::Floor(_) => 0,
-        Step::Ceiling(_) => 0,
+        Step::Opposite | Step::Floor(_) | Step::Ceiling(_) => 0,
         Step::Joined(_, b) => node_count(b),
     }
 }
@@ -113,7 +111,7 @@ fn ceiling(node: u32, x: i64, n: i64) -> Result<i64, u32>
     }
 }
 
-fn joined(join: Join, node: u32, x: i64, y: i64) -> Result<i64, u32>
+fn joined_values(join: Join, node: u32, x: i64, y: i64) -> Result<i64, u32>
     ensures { as_reading result ≡ steps.joined join node x y }
 {
     match join {
@@ -239,7 +237,7 @@ fn outermost(e: &Ix, x: i64, node: u32, names: &[i64]) -> Result<i64, u32>
         Step::Ceiling(n) => ceiling(node, x, n),
         Step::Joined(join, b) => {
             let y = second(a, b, node, names)?;
-            joined(join, node, x, y)
+            joined_values(join, node, x, y)
         }
     }
 }

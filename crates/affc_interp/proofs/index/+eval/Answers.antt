@@ -49,7 +49,7 @@ outermost-returns-in_ok-y-in-Joined t c =
     let fits : FitsSigned w64 c.in_ok-y-in-Joined.y = search rules in
     let j = c.in-Joined.join in
     let r = step_value c.args.e.now c.in-Some.a.now c.in-Some.step (Joined j c.in-Joined.b) c.args.node c.args.names.now c.args.x c.in-Some.ensures c.in-Joined.is c.requires.inner in
-    c.joined.ensures ∙ (λ i. joined j c.args.node (to_z-of_z c.ranges.x i) (to_z-of_z fits i)) ∙ ap (λ z. z >>= joined j c.args.node c.args.x) c.in_ok-y-in-Joined.ensures ∙ sym r
+    c.joined_values.ensures ∙ (λ i. joined j c.args.node (to_z-of_z c.ranges.x i) (to_z-of_z fits i)) ∙ ap (λ z. z >>= joined j c.args.node c.args.x) c.in_ok-y-in-Joined.ensures ∙ sym r
 
 pub eval-innermost-count-requires : goal.eval-innermost-count-requires
 eval-innermost-count-requires t c = let h = ix_row_fits c.args.e.now in omega (arith, h)
