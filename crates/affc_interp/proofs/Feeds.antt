@@ -1,5 +1,5 @@
 -- Data is read from line to line.
-use Rattle.std.proofs.Common.{◌≡◌, ◌<◌, ◌≤◌, ◌+◌, ◌^◌, ℕ, zero, suc, ℤ, Bool, true, false, ◌&&◌, ◌==◌, List, [], ◌∷◌, ◌++◌, length, take, drop, get_or, ◌-◌, Result, Ok, Err, Option, refl, sym, ap, subst, ◌∙◌, arith, append_assoc}
+use Rattle.std.proofs.Common.{◌≡◌, ◌<◌, ◌+◌, ◌^◌, ℕ, zero, suc, ℤ, Bool, true, false, ◌&&◌, ◌==◌, List, [], ◌∷◌, ◌++◌, length, take, ◌-◌, Result, Ok, Err, Option, refl, sym, ap, subst, ◌∙◌, arith, append_assoc}
 use Rattle.std.specs.Prelude.{IsTrue, Vec, SomeIff}
 use Rattle.affc_ast.specs.declared.tree.Ix.{Ix}
 use Rattle.affc_ast.specs.Meaning.{extents_of}
@@ -23,12 +23,6 @@ use Rattle.affc_interp.specs.DataText.{NumberLine, ArrayLine, elements_in, eleme
 use Rattle.affc_interp.specs.Scans.{OneNumberLine, AnswersLine}
 use Rattle.affc_interp.specs.Feeds.{OnlyLines, ReadsLines, AnswersFeed}
 use Rattle.affc_interp.proofs.DataLines.{one_array_line}
-
--- ---- The first of a list
-
-pub first_and_rest : {X : Type 0} (xs : List X) (x y : X) → 1 ≤ length xs → x ≡ get_or xs 0 x → x ≡ y → xs ≡ y ∷ take (length xs - 1) (drop 1 xs)
-first_and_rest [] x y h e f = absurd (omega arith)
-first_and_rest (z ∷ zs) x y h e f = ap (λ w. w ∷ zs) (sym e ∙ f) ∙ ap (λ ws. y ∷ ws) (sym (take_all (length (z ∷ zs) - 1) zs (omega arith)))
 
 nothing_left : (xs : List ℕ) → length xs ≡ 0 → xs ≡ []
 nothing_left [] e = refl

@@ -26,3 +26,5 @@ pub mod ExampleProofs
 pub mod Rows
 pub mod Later
 pub mod Bodies
+pub mod Steps
+pub mod Lists

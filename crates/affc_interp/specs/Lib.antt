@@ -13,3 +13,4 @@ pub mod Outputs
 pub mod Earlier
 pub mod Examples
 pub mod Operands
+pub mod Steps

@@ -5,9 +5,11 @@ ghost use Rattle.affc_ast.specs.Index.{compares, floor_of, ceiling_of, remainder
 ghost use Rattle.affc_interp.specs.declared.context.NoWhole.TheVariants.{Wide};
 ghost use Rattle.affc_interp.specs.Operands as row;
 ghost use Rattle.affc_interp.specs.Operands.{operators};
+ghost use Rattle.affc_interp.specs.Steps as steps;
 ghost use Rattle.affc_interp.specs.Wholes.{in_int128, quotient, wide_of, IsWhole, is_met, either_wide, has_wide_side, has_wide};
 
 use crate::index::first_operand;
+use crate::step::{Join, Step, last_step};
 use affc_ast::tree::{Compare, Ix, Rel};
 
 /// Why an expression gives no whole number here.
@@ -19,31 +21,31 @@ pub enum NoWhole {
     Wide,
 }
 
-fn sum(x: i128, y: i128) -> Result<i128, NoWhole>
+fn wide_sum(x: i128, y: i128) -> Result<i128, NoWhole>
     ensures { result ≡ in_int128 (x +ℤ y) }
 {
     x.checked_add(y).ok_or(NoWhole::Wide)
 }
 
-fn difference(x: i128, y: i128) -> Result<i128, NoWhole>
+fn wide_difference(x: i128, y: i128) -> Result<i128, NoWhole>
     ensures { result ≡ in_int128 (x -ℤ y) }
 {
     x.checked_sub(y).ok_or(NoWhole::Wide)
 }
 
-fn product(x: i128, y: i128) -> Result<i128, NoWhole>
+fn wide_product(x: i128, y: i128) -> Result<i128, NoWhole>
     ensures { result ≡ in_int128 (x *ℤ y) }
 {
     x.checked_mul(y).ok_or(NoWhole::Wide)
 }
 
-fn negated(x: i128) -> Result<i128, NoWhole>
+fn wide_opposite(x: i128) -> Result<i128, NoWhole>
     ensures { result ≡ in_int128 (neg_ℤ x) }
 {
     x.checked_neg().ok_or(NoWhole::Wide)
 }
 
-fn floor(x: i128, n: i64) -> Result<i128, NoWhole>
+fn wide_floor(x: i128, n: i64) -> Result<i128, NoWhole>
     ensures { result ≡ quotient floor_of x n }
 {
     if n < 1 {
@@ -64,7 +66,7 @@ fn rounded_up(x: i128, n: i128) -> i128
     }
 }
 
-fn ceiling(x: i128, n: i64) -> Result<i128, NoWhole>
+fn wide_ceiling(x: i128, n: i64) -> Result<i128, NoWhole>
     ensures { result ≡ quotient ceiling_of x n }
 {
     if n < 1 {
@@ -74,13 +76,26 @@ fn ceiling(x: i128, n: i64) -> Result<i128, NoWhole>
     }
 }
 
-fn remainder(x: i128, n: i128) -> Result<i128, NoWhole>
+fn wide_remainder(x: i128, n: i128) -> Result<i128, NoWhole>
     ensures { result ≡ quotient remainder_of x n }
 {
     if n < 1 {
         Err(NoWhole::Undefined)
     } else {
         Ok(x.rem_euclid(n))
+    }
+}
+
+fn wide_joined(join: Join, x: i128, y: i128) -> Result<i128, NoWhole>
+    ensures { result ≡ steps.wide_joined join x y }
+{
+    match join {
+        Join::Sum => wide_sum(x, y),
+        Join::Difference => wide_difference(x, y),
+        Join::Product => wide_product(x, y),
+        Join::Least => Ok(x.min(y)),
+        Join::Greatest => Ok(x.max(y)),
+        Join::Remainder => wide_remainder(x, y),
     }
 }
 
@@ -129,7 +144,6 @@ fn whole(e: &Ix, names: &[i64]) -> Result<i128, NoWhole>
 }
 
 // The value of an expression, from that of its first operand.
-#[tactic(auto, using(affc_ast::proofs::Outs::ix_outs))]
 #[cycle(whole)]
 #[inline(never)]
 fn outermost(e: &Ix, x: i128, names: &[i64]) -> Result<i128, NoWhole>
@@ -137,35 +151,16 @@ fn outermost(e: &Ix, x: i128, names: &[i64]) -> Result<i128, NoWhole>
     requires inner { wide_of (row.first_operand e.now) names.now ≡ Ok x }
     ensures { result ≡ wide_of e.now names.now }
 {
-    match e {
-        Ix::Lit(_) => unreachable!(),
-        Ix::Name(_) => unreachable!(),
-        Ix::Neg(_) => negated(x),
-        Ix::Add(_, b) => {
-            let y = whole(b.get(), names)?;
-            sum(x, y)
-        }
-        Ix::Sub(_, b) => {
-            let y = whole(b.get(), names)?;
-            difference(x, y)
-        }
-        Ix::Mul(_, b) => {
-            let y = whole(b.get(), names)?;
-            product(x, y)
-        }
-        Ix::Min(_, b) => {
-            let y = whole(b.get(), names)?;
-            Ok(x.min(y))
-        }
-        Ix::Max(_, b) => {
-            let y = whole(b.get(), names)?;
-            Ok(x.max(y))
-        }
-        Ix::Floord(_, n) => floor(x, *n),
-        Ix::Ceild(_, n) => ceiling(x, *n),
-        Ix::Mod(_, b) => {
-            let y = whole(b.get(), names)?;
-            remainder(x, y)
+    let Some((_, step)) = last_step(e) else {
+        unreachable!();
+    };
+    match step {
+        Step::Opposite => wide_opposite(x),
+        Step::Floor(n) => wide_floor(x, n),
+        Step::Ceiling(n) => wide_ceiling(x, n),
+        Step::Joined(join, b) => {
+            let y = whole(b, names)?;
+            wide_joined(join, x, y)
         }
     }
 }

@@ -3,35 +3,37 @@ ghost use Rattle.std.specs.Prelude.{◌≡◌, ◌≤ℤ◌, ◌+◌, ◌^◌, �
 ghost use Rattle.affc_ast.specs.Index.{nodes_of_ix, index_value, in_int64, divided, floor_of, ceiling_of, remainder_of, compares, nodes_of_compare, conditions};
 ghost use Rattle.affc_interp.specs.Seen.{as_reading};
 ghost use Rattle.affc_interp.specs.Operands as row;
+ghost use Rattle.affc_interp.specs.Steps as steps;
+ghost use Rattle.affc_interp.specs.Steps.{right_nodes};
 ghost use Rattle.affc_interp.specs.Operands.{operators};
 
+use crate::step::{Join, Step, last_step};
 use affc_ast::tree::{Compare, Ix, Rel};
 
 /// How many nodes the expression has. The recursion is into second operands alone.
-#[tactic(auto, using(affc_ast::proofs::Outs::ix_outs))]
+#[cycle(node_count)]
 pub fn node_count(e: &Ix) -> u32
     requires { nodes_of_ix e.now < 2 ^ 32 }
     ensures { result ≡ nodes_of_ix e.now }
 {
     let mut here = e;
     let mut count = 0;
-    loop {
-        match here {
-            Ix::Lit(_) | Ix::Name(_) => return count + 1,
-            Ix::Neg(a) | Ix::Floord(a, _) | Ix::Ceild(a, _) => {
-                count += 1;
-                here = a.get();
-            }
-            Ix::Add(a, b)
-            | Ix::Sub(a, b)
-            | Ix::Mul(a, b)
-            | Ix::Min(a, b)
-            | Ix::Max(a, b)
-            | Ix::Mod(a, b) => {
-                count += 1 + node_count(b.get());
-                here = a.get();
-            }
-        }
+    while let Some((a, step)) = last_step(here) {
+        count += 1 + right_count(step);
+        here = a;
+    }
+    count + 1
+}
+
+/// How many nodes stand on an operator's right.
+#[cycle(node_count)]
+fn right_count(step: Step<'_>) -> u32
+    requires { right_nodes step < 2 ^ 32 }
+    ensures { result ≡ right_nodes step.entry }
+{
+    match step {
+        Step::Opposite | Step::Floor(_) | Step::Ceiling(_) => 0,
+        Step::Joined(_, b) => node_count(b),
     }
 }
 
@@ -53,7 +55,7 @@ fn product(node: u32, x: i64, y: i64) -> Result<i64, u32>
     x.checked_mul(y).ok_or(node)
 }
 
-fn negated(node: u32, x: i64) -> Result<i64, u32>
+fn opposite(node: u32, x: i64) -> Result<i64, u32>
     ensures { as_reading result ≡ in_int64 node (neg_ℤ x) }
 {
     x.checked_neg().ok_or(node)
@@ -109,24 +111,28 @@ fn ceiling(node: u32, x: i64, n: i64) -> Result<i64, u32>
     }
 }
 
+fn joined_values(join: Join, node: u32, x: i64, y: i64) -> Result<i64, u32>
+    ensures { as_reading result ≡ steps.joined join node x y }
+{
+    match join {
+        Join::Sum => sum(node, x, y),
+        Join::Difference => difference(node, x, y),
+        Join::Product => product(node, x, y),
+        Join::Least => Ok(x.min(y)),
+        Join::Greatest => Ok(x.max(y)),
+        Join::Remainder => remainder(node, x, y),
+    }
+}
+
 // ---- Operators in a row: each stands in the first operand of the next. They are gone along by loops, however many there are.
 
 /// The first operand of the outermost operator, if there is one.
-#[tactic(auto, using(affc_ast::proofs::Outs::ix_outs))]
 pub(crate) fn first_operand(e: &Ix) -> Option<&Ix>
     ensures { MatchOption result (operators e.now ≡ 0) (λ a. (a.now ≡ row.first_operand e.now) × (operators e.now ≡ suc (operators a.now))) }
 {
-    match e {
-        Ix::Lit(_) | Ix::Name(_) => None,
-        Ix::Neg(a)
-        | Ix::Add(a, _)
-        | Ix::Sub(a, _)
-        | Ix::Mul(a, _)
-        | Ix::Min(a, _)
-        | Ix::Max(a, _)
-        | Ix::Floord(a, _)
-        | Ix::Ceild(a, _)
-        | Ix::Mod(a, _) => Some(a.get()),
+    match last_step(e) {
+        Some((a, _)) => Some(a),
+        None => None,
     }
 }
 
@@ -215,7 +221,6 @@ fn outwards(e: &Ix, count: u32, x: i64, node: u32, names: &[i64]) -> Result<i64,
 }
 
 /// The value of an expression, from that of its first operand.
-#[tactic(auto, using(affc_ast::proofs::Outs::ix_outs))]
 #[cycle(eval)]
 fn outermost(e: &Ix, x: i64, node: u32, names: &[i64]) -> Result<i64, u32>
     requires nodes { node + nodes_of_ix e.now < 2 ^ 32 }
@@ -223,35 +228,16 @@ fn outermost(e: &Ix, x: i64, node: u32, names: &[i64]) -> Result<i64, u32>
     requires inner { index_value (row.first_operand e.now) (node + 1) names.now ≡ Ok x }
     ensures { as_reading result ≡ index_value e.now node names.now }
 {
-    match e {
-        Ix::Lit(_) => unreachable!(),
-        Ix::Name(_) => unreachable!(),
-        Ix::Neg(_) => negated(node, x),
-        Ix::Add(a, b) => {
-            let y = second(a.get(), b.get(), node, names)?;
-            sum(node, x, y)
-        }
-        Ix::Sub(a, b) => {
-            let y = second(a.get(), b.get(), node, names)?;
-            difference(node, x, y)
-        }
-        Ix::Mul(a, b) => {
-            let y = second(a.get(), b.get(), node, names)?;
-            product(node, x, y)
-        }
-        Ix::Min(a, b) => {
-            let y = second(a.get(), b.get(), node, names)?;
-            Ok(x.min(y))
-        }
-        Ix::Max(a, b) => {
-            let y = second(a.get(), b.get(), node, names)?;
-            Ok(x.max(y))
-        }
-        Ix::Floord(_, n) => floor(node, x, *n),
-        Ix::Ceild(_, n) => ceiling(node, x, *n),
-        Ix::Mod(a, b) => {
-            let y = second(a.get(), b.get(), node, names)?;
-            remainder(node, x, y)
+    let Some((a, step)) = last_step(e) else {
+        unreachable!();
+    };
+    match step {
+        Step::Opposite => opposite(node, x),
+        Step::Floor(n) => floor(node, x, n),
+        Step::Ceiling(n) => ceiling(node, x, n),
+        Step::Joined(join, b) => {
+            let y = second(a, b, node, names)?;
+            joined_values(join, node, x, y)
         }
     }
 }

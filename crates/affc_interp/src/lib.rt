@@ -13,4 +13,5 @@ pub mod lines;
 mod machine;
 mod memory;
 pub mod run;
+mod step;
 mod value;

@@ -90,8 +90,7 @@ fn write_lines(out: &mut Vec<u8>, params: &[Param], buffers: &[Buffer]) -> Resul
             Param::Number { .. } => write_lines(out, others, buffers),
             Param::Array(decl) => {
                 write_output(out, decl, first_cells(buffers))?;
-                write_lines(out, others, other_buffers(buffers))?;
-                Ok(())
+                write_lines(out, others, other_buffers(buffers))
             }
         },
     }

@@ -23,21 +23,13 @@ pub fn value_nodes(v: &Val) -> u32
             Val::Load { array: _, subs } => return count + (1 + node_sum(subs.as_slice())),
             Val::Const(_) => return count + 1,
             Val::Cast(e) => return count + (1 + node_count(e)),
-            Val::Not(a) => {
+            Val::Not(a) | Val::Shift { value: a, .. } => {
                 count += 1;
                 here = a.get();
             }
             Val::Bin { op: _, left, right } => {
                 count += 1 + value_nodes(right.get());
                 here = left.get();
-            }
-            Val::Shift {
-                left: _,
-                value,
-                by: _,
-            } => {
-                count += 1;
-                here = value.get();
             }
         }
     }
@@ -54,18 +46,12 @@ pub fn load_count(v: &Val) -> u32
     loop {
         match here {
             Val::Load { array: _, subs: _ } => return count + 1,
-            Val::Const(_) => return count,
-            Val::Cast(_) => return count,
-            Val::Not(a) => here = a.get(),
+            Val::Const(_) | Val::Cast(_) => return count,
+            Val::Not(a) | Val::Shift { value: a, .. } => here = a.get(),
             Val::Bin { op: _, left, right } => {
                 count += load_count(right.get());
                 here = left.get();
             }
-            Val::Shift {
-                left: _,
-                value,
-                by: _,
-            } => here = value.get(),
         }
     }
 }
@@ -116,12 +102,8 @@ fn first_operand(v: &Val) -> Option<&Val>
     ensures { MatchOption result (value_operators v.now ≡ 0) (λ a. (a.now ≡ row.first_value v.now) × (value_operators v.now ≡ suc (value_operators a.now))) }
 {
     match v {
-        Val::Load { .. } => None,
-        Val::Const(_) => None,
-        Val::Cast(_) => None,
-        Val::Not(a) => Some(a.get()),
-        Val::Bin { left, .. } => Some(left.get()),
-        Val::Shift { value, .. } => Some(value.get()),
+        Val::Load { .. } | Val::Const(_) | Val::Cast(_) => None,
+        Val::Not(a) | Val::Bin { left: a, .. } | Val::Shift { value: a, .. } => Some(a.get()),
     }
 }
 
@@ -184,9 +166,7 @@ fn operand(
             let x = eval(e, node + 1, names)?;
             Ok(cast(x))
         }
-        Val::Not(_) => unreachable!(),
-        Val::Bin { .. } => unreachable!(),
-        Val::Shift { .. } => unreachable!(),
+        Val::Not(_) | Val::Bin { .. } | Val::Shift { .. } => unreachable!(),
     }
 }
 
@@ -269,9 +249,7 @@ fn outermost(
     ensures { as_value here.now result ≡ (value_of v.now).value (sight_at node access names.now memory.now here.now) }
 {
     match v {
-        Val::Load { .. } => unreachable!(),
-        Val::Const(_) => unreachable!(),
-        Val::Cast(_) => unreachable!(),
+        Val::Load { .. } | Val::Const(_) | Val::Cast(_) => unreachable!(),
         Val::Not(_) => Ok(turned(x)),
         Val::Bin { op, left, right } => {
             let y = second(left.get(), right.get(), node, access, names, memory, here)?;

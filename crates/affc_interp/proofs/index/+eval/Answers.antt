@@ -1,30 +1,55 @@
-use Rattle.std.proofs.Common.{rules, ◌≡◌, ◌+◌, ◌-◌, ◌/◌, ◌≤◌, ◌∙◌, sym, ap, refl, Ok, Err, arith, to_z-of_z, FitsSigned, w64}
+use Rattle.std.proofs.Common.{rules, ◌≡◌, neg_ℤ, ◌+◌, ◌-◌, ◌/◌, ◌≤◌, ◌∙◌, sym, ap, refl, Ok, Err, arith, to_z-of_z, FitsSigned, w64}
 use Rattle.std.proofs.lemmas.Result.{err_from_is_err_and}
-use Rattle.affc_ast.proofs.Outs.{ix_outs}
-use Rattle.affc_ast.specs.Cause.{Overflow}
-use Rattle.affc_ast.specs.Index.{index_value, nodes_of_ix}
+use Rattle.affc_ast.specs.Cause.{Overflow, ◌>>=◌}
+use Rattle.affc_ast.specs.Index.{in_int64, divided, floor_of, ceiling_of, index_value, nodes_of_ix}
 use Rattle.affc_interp.specs.Operands.{below, first_operand, operators}
+use Rattle.affc_interp.specs.Steps.{joined, right_nodes}
+use Rattle.affc_interp.specs.declared.step.Step.TheVariants.{Opposite, Floor, Ceiling, Joined}
+use Rattle.affc_interp.proofs.Steps.{step_value}
 use Rattle.affc_interp.proofs.Rows.{ix_row_fits, ix_part, ix_stuck, some_nodes_ix}
 use Rattle.affc_interp.proofs.Later.{index_later, index_below}
 use Rattle.affc_interp.proofs.index.+eval.Goals as goal
 
-pub outermost-returns-in_ok-y-in-Add : goal.outermost-returns-in_ok-y-in-Add
-outermost-returns-in_ok-y-in-Add t c = grind (arith, to_z-of_z, ix_outs)
+pub outermost-unreachable-requires : goal.outermost-unreachable-requires
+outermost-unreachable-requires t c = let n = c.in_default.ensures.none in let k = c.requires.operator in omega (arith, n, k)
 
-pub outermost-returns-in_ok-y-in-Sub : goal.outermost-returns-in_ok-y-in-Sub
-outermost-returns-in_ok-y-in-Sub t c = grind (arith, to_z-of_z, ix_outs)
+pub outermost-second-requires : goal.outermost-second-requires
+outermost-second-requires t c =
+    let h = c.in-Some.ensures in
+    let n : nodes_of_ix c.args.e.now ≡ 1 + nodes_of_ix c.in-Some.a.now + nodes_of_ix c.in-Joined.b.now = h.nodes ∙ ap (λ s. 1 + nodes_of_ix c.in-Some.a.now + right_nodes s) c.in-Joined.is in
+    let f : nodes_of_ix c.in-Some.a.now ≡ nodes_of_ix (first_operand c.args.e.now) = ap nodes_of_ix h.first in
+    (omega (arith, n, f), omega (arith, n))
 
-pub outermost-returns-in_ok-y-in-Mul : goal.outermost-returns-in_ok-y-in-Mul
-outermost-returns-in_ok-y-in-Mul t c = grind (arith, to_z-of_z, ix_outs)
+pub outermost-returns-in-Opposite : goal.outermost-returns-in-Opposite
+outermost-returns-in-Opposite t c =
+    let r = step_value c.args.e.now c.in-Some.a.now c.in-Some.step Opposite c.args.node c.args.names.now c.args.x c.in-Some.ensures c.in-Opposite.is c.requires.inner in
+    c.opposite.ensures ∙ ap (λ z. in_int64 c.args.node (neg_ℤ z)) (to_z-of_z c.ranges.x) ∙ sym r
 
-pub outermost-returns-in_ok-y-in-Min : goal.outermost-returns-in_ok-y-in-Min
-outermost-returns-in_ok-y-in-Min t c = grind (arith, to_z-of_z, ix_outs)
+pub outermost-returns-in-Floor : goal.outermost-returns-in-Floor
+outermost-returns-in-Floor t c =
+    let fits : FitsSigned w64 c.in-Floor.n = search rules in
+    let r = step_value c.args.e.now c.in-Some.a.now c.in-Some.step (Floor c.in-Floor.n) c.args.node c.args.names.now c.args.x c.in-Some.ensures c.in-Floor.is c.requires.inner in
+    c.floor.ensures ∙ (λ i. divided c.args.node floor_of (to_z-of_z c.ranges.x i) (to_z-of_z fits i)) ∙ sym r
 
-pub outermost-returns-in_ok-y-in-Max : goal.outermost-returns-in_ok-y-in-Max
-outermost-returns-in_ok-y-in-Max t c = grind (arith, to_z-of_z, ix_outs)
+pub outermost-returns-in-Ceiling : goal.outermost-returns-in-Ceiling
+outermost-returns-in-Ceiling t c =
+    let fits : FitsSigned w64 c.in-Ceiling.n = search rules in
+    let r = step_value c.args.e.now c.in-Some.a.now c.in-Some.step (Ceiling c.in-Ceiling.n) c.args.node c.args.names.now c.args.x c.in-Some.ensures c.in-Ceiling.is c.requires.inner in
+    c.ceiling.ensures ∙ (λ i. divided c.args.node ceiling_of (to_z-of_z c.ranges.x i) (to_z-of_z fits i)) ∙ sym r
 
-pub outermost-returns-in-Neg : goal.outermost-returns-in-Neg
-outermost-returns-in-Neg t c = grind (arith, to_z-of_z, ix_outs)
+pub outermost-returns-in_err-y-in-Joined : goal.outermost-returns-in_err-y-in-Joined
+outermost-returns-in_err-y-in-Joined t c =
+    let q = err_from_is_err_and c.from_residual.result c.from_residual.ensures.1 in
+    let j = c.in-Joined.join in
+    let r = step_value c.args.e.now c.in-Some.a.now c.in-Some.step (Joined j c.in-Joined.b) c.args.node c.args.names.now c.args.x c.in-Some.ensures c.in-Joined.is c.requires.inner in
+    rw (q.1, q.2) (ap (λ z. z >>= joined j c.args.node c.args.x) c.in_err-y-in-Joined.ensures ∙ sym r)
+
+pub outermost-returns-in_ok-y-in-Joined : goal.outermost-returns-in_ok-y-in-Joined
+outermost-returns-in_ok-y-in-Joined t c =
+    let fits : FitsSigned w64 c.in_ok-y-in-Joined.y = search rules in
+    let j = c.in-Joined.join in
+    let r = step_value c.args.e.now c.in-Some.a.now c.in-Some.step (Joined j c.in-Joined.b) c.args.node c.args.names.now c.args.x c.in-Some.ensures c.in-Joined.is c.requires.inner in
+    c.joined_values.ensures ∙ (λ i. joined j c.args.node (to_z-of_z c.ranges.x i) (to_z-of_z fits i)) ∙ ap (λ z. z >>= joined j c.args.node c.args.x) c.in_ok-y-in-Joined.ensures ∙ sym r
 
 pub eval-innermost-count-requires : goal.eval-innermost-count-requires
 eval-innermost-count-requires t c = let h = ix_row_fits c.args.e.now in omega (arith, h)
