@@ -5,6 +5,7 @@ use Rattle.std.specs.List.{All}
 use Rattle.std.proofs.lemmas.Int.{ints}
 use Rattle.std.proofs.lemmas.List.{length-append, length-replicate}
 use Rattle.std.proofs.lemmas.List.Elements.{All-append, All-replicate, All-weaker}
+use Rattle.affc_rows.specs.Vocabulary.{padded}
 use Rattle.affc_rows.specs.Forms.{Affine, dot, value, mixed, mixed_form, mixed_form_magnitudes, TooWide}
 use Rattle.affc_rows.proofs.ValueLemmas.{length-mixed}
 use Rattle.affc_conflicts.proofs.differences.Mixtures.{dot-zeros, mixed_within, entry_within, form_fits, value_minus}
@@ -14,44 +15,41 @@ use Rattle.affc_moduli.specs.Enough.{IsBelow, AreBelow, AreBelowBefore, IsCompar
 use Rattle.affc_split.specs.declared.maximum.region.Region.{Region}
 use Rattle.std.proofs.lemmas.Option.{same_Some, slice_get_read, slice_get_within}
 
-dot-lifted : (cs : List ℤ) (m : ℕ) (z : List ℤ) → dot (cs ++ replicate m (pos 0)) z ≡ dot cs (take (length cs) z)
-dot-lifted [] m z = dot-zeros m z
-dot-lifted (c ∷ cs) m [] = refl
-dot-lifted (c ∷ cs) m (x ∷ xs) = ap (λ v. (c *ℤ x) +ℤ v) (dot-lifted cs m xs)
+dot-padded : (cs : List ℤ) (m : ℕ) (z : List ℤ) → dot (cs ++ replicate m (pos 0)) z ≡ dot cs (take (length cs) z)
+dot-padded [] m z = dot-zeros m z
+dot-padded (c ∷ cs) m [] = refl
+dot-padded (c ∷ cs) m (x ∷ xs) = ap (λ v. (c *ℤ x) +ℤ v) (dot-padded cs m xs)
 
-abbrev pub lifted : ℕ → Affine → Affine
-lifted columns b = record b { coefs = b.coefs ++ replicate (columns - length b.coefs) (pos 0) }
+value-padded : (columns : ℕ) (b : Affine) (z : List ℤ) → value (padded columns b) z ≡ value b (take (length b.coefs) z)
+value-padded columns b z = ap (λ v. v +ℤ b.constant) (dot-padded b.coefs (columns - length b.coefs) z)
 
-value-lifted : (columns : ℕ) (b : Affine) (z : List ℤ) → value (lifted columns b) z ≡ value b (take (length b.coefs) z)
-value-lifted columns b z = ap (λ v. v +ℤ b.constant) (dot-lifted b.coefs (columns - length b.coefs) z)
-
-width_of : (columns : ℕ) (b : Affine) → length b.coefs ≤ columns → length (lifted columns b).coefs ≡ columns
+width_of : (columns : ℕ) (b : Affine) → length b.coefs ≤ columns → length (padded columns b).coefs ≡ columns
 width_of columns b h =
     let l = length-append b.coefs (replicate (columns - length b.coefs) (pos 0)) in
     let r = length-replicate (columns - length b.coefs) (pos 0) in
     omega arith
 
-coefs_of : (columns : ℕ) (b : Affine) → All (λ c. unsigned_abs c ≤ 2 ^ 30) b.coefs → All (λ c. unsigned_abs c ≤ 2 ^ 30) (lifted columns b).coefs
+coefs_of : (columns : ℕ) (b : Affine) → All (λ c. unsigned_abs c ≤ 2 ^ 30) b.coefs → All (λ c. unsigned_abs c ≤ 2 ^ 30) (padded columns b).coefs
 coefs_of columns b h = All-append (λ c. unsigned_abs c ≤ 2 ^ 30) b.coefs (replicate (columns - length b.coefs) (pos 0)) h (All-replicate (λ c. unsigned_abs c ≤ 2 ^ 30) (columns - length b.coefs) (pos 0) (lit≤ tt))
 
 module _ (columns : ℕ) (f b : Affine) (width : length f.coefs ≡ columns) (coefs : All (λ c. unsigned_abs c ≤ 2 ^ 27) f.coefs) (constant : unsigned_abs f.constant ≤ 2 ^ 35)
     (modulus : IsModulus (length b.coefs) b) (within : length b.coefs ≤ columns) where
-  pub less_fits : TooWide (mixed_form_magnitudes (pos 1) f (negsuc 0) (lifted columns b)) → ⊥
-  less_fits w = form_fits 1 f (lifted columns b) (negsuc 0) (2 ^ 27) (2 ^ 30) (2 ^ 35) (2 ^ 55) (lit≤ tt) (lit≤ tt) (lit≤ tt) coefs (coefs_of columns b modulus.coefs_fit) constant modulus.constant_fits w
+  pub less_fits : TooWide (mixed_form_magnitudes (pos 1) f (negsuc 0) (padded columns b)) → ⊥
+  less_fits w = form_fits 1 f (padded columns b) (negsuc 0) (2 ^ 27) (2 ^ 30) (2 ^ 35) (2 ^ 55) (lit≤ tt) (lit≤ tt) (lit≤ tt) coefs (coefs_of columns b modulus.coefs_fit) constant modulus.constant_fits w
 
-  same : length f.coefs ≡ length (lifted columns b).coefs
+  same : length f.coefs ≡ length (padded columns b).coefs
   same = width ∙ sym (width_of columns b within)
 
-  pub less_measure : (g : Affine) → g ≡ mixed_form (pos 1) f (negsuc 0) (lifted columns b) → IsMeasure columns g
+  pub less_measure : (g : Affine) → g ≡ mixed_form (pos 1) f (negsuc 0) (padded columns b) → IsMeasure columns g
   less_measure g e = subst (IsMeasure columns) (sym e) (record {
-    width = length-mixed (pos 1) f.coefs (negsuc 0) (lifted columns b).coefs same ∙ width;
-    coefs_fit = All-weaker (λ v. unsigned_abs v ≤ 2 ^ 27 + 1 * 2 ^ 30) (λ v. unsigned_abs v ≤ 2 ^ 40) (λ v l. omega arith) (mixed (pos 1) f.coefs (negsuc 0) (lifted columns b).coefs)
-        (mixed_within 1 f.coefs (lifted columns b).coefs (negsuc 0) (2 ^ 27) (2 ^ 30) (lit≤ tt) coefs (coefs_of columns b modulus.coefs_fit));
+    width = length-mixed (pos 1) f.coefs (negsuc 0) (padded columns b).coefs same ∙ width;
+    coefs_fit = All-weaker (λ v. unsigned_abs v ≤ 2 ^ 27 + 1 * 2 ^ 30) (λ v. unsigned_abs v ≤ 2 ^ 40) (λ v l. omega arith) (mixed (pos 1) f.coefs (negsuc 0) (padded columns b).coefs)
+        (mixed_within 1 f.coefs (padded columns b).coefs (negsuc 0) (2 ^ 27) (2 ^ 30) (lit≤ tt) coefs (coefs_of columns b modulus.coefs_fit));
     constant_fits = let l = entry_within 1 f.constant (negsuc 0) b.constant (2 ^ 35) (2 ^ 55) (lit≤ tt) constant modulus.constant_fits in omega arith;
   })
 
-  pub less_value : (g : Affine) → g ≡ mixed_form (pos 1) f (negsuc 0) (lifted columns b) → (z : List ℤ) → length z ≡ columns → value g z ≡ value f z -ℤ value b (take (length b.coefs) z)
-  less_value g e z len = ap (λ u. value u z) e ∙ value_minus f (lifted columns b) z same (width ∙ sym len) ∙ ap (λ v. value f z -ℤ v) (value-lifted columns b z)
+  pub less_value : (g : Affine) → g ≡ mixed_form (pos 1) f (negsuc 0) (padded columns b) → (z : List ℤ) → length z ≡ columns → value g z ≡ value f z -ℤ value b (take (length b.coefs) z)
+  less_value g e z len = ap (λ u. value u z) e ∙ value_minus f (padded columns b) z same (width ∙ sym len) ∙ ap (λ v. value f z -ℤ v) (value-padded columns b z)
 
 -- a difference that is below 0
 pub below_modulus : (u v d : ℤ) → d ≡ u -ℤ v → d ≤ℤ (pos 0 -ℤ pos 1) → u <ℤ v

@@ -1,8 +1,9 @@
 -- The whole fold, from its rows.
-use Rattle.std.proofs.Common.{◌≡◌, ◌≢◌, inl, inr, ℕ, zero, suc, ◌<◌, List, [], ◌∷◌, length, ℤ, pos, ◌≤ℤ◌, ◌<ℤ◌, refl, sym, ap, subst, ◌∙◌}
+use Rattle.std.proofs.Common.{◌≡◌, ◌≢◌, inl, inr, ℕ, zero, suc, ◌+◌, ◌<◌, List, [], ◌∷◌, ◌++◌, length, drop, add-one, arith, ℤ, pos, ◌≤ℤ◌, ◌<ℤ◌, refl, sym, ap, ap₂, subst, ◌∙◌}
 use Rattle.std.specs.Prelude.{slice_get, get_or, Some}
 use Rattle.std.specs.List.{All}
 use Rattle.std.proofs.lemmas.Option.{same_Some, slice_get_within, slice_get-get_or}
+use Rattle.std.proofs.lemmas.List.{append_assoc}
 use Rattle.std.proofs.lemmas.List.Elements.{All-map, All-get_or}
 use Rattle.affc_rows.specs.Forms.{Affine, value, values_of}
 use Rattle.affc_system.specs.Systems.{Rows}
@@ -26,6 +27,19 @@ form_at (m ∷ ms) (suc k) b e = form_at ms k b e
 values_length : (fs : List Affine) (z : List ℤ) → length (values_of fs z) ≡ length fs
 values_length [] z = refl
 values_length (f ∷ fs) z = ap suc (values_length fs z)
+
+-- the values of the forms from a place on: that of the one there, and those behind it
+values_at : (fs : List Affine) (z : List ℤ) (i : ℕ) (d : Affine) → i < length fs → values_of (drop i fs) z ≡ value (get_or fs i d) z ∷ values_of (drop (suc i) fs) z
+values_at [] z i d h = absurd (omega arith)
+values_at (f ∷ fs) z zero d h = refl
+values_at (f ∷ fs) z (suc i) d h = values_at fs z i d (omega arith)
+
+pub one_value_more : (fs : List Affine) (z : List ℤ) (i : ℕ) (f : Affine) (xs new : List ℤ) (v : ℤ) → i < length fs → f ≡ get_or fs i f → new ≡ xs ++ v ∷ [] → v ≡ value f z
+    → xs ++ values_of (drop i fs) z ≡ values_of fs z → new ++ values_of (drop (i + 1) fs) z ≡ values_of fs z
+one_value_more fs z i f xs new v h at e w before =
+    let there : v ∷ values_of (drop (i + 1) fs) z ≡ values_of (drop i fs) z =
+    ap₂ (λ u q. u ∷ values_of (drop q fs) z) (w ∙ ap (λ g. value g z) at) (add-one i) ∙ sym (values_at fs z i f h) in
+    ap (λ ys. ys ++ values_of (drop (i + 1) fs) z) e ∙ append_assoc xs (v ∷ []) (values_of (drop (i + 1) fs) z) ∙ ap (λ ys. xs ++ ys) there ∙ before
 
 module _ (context : Rows) (ranges : List (ℤ × ℤ)) (rows extents : List Affine) (systems : List PairSystem) (ms : List Modulus) (done : AreKept context ranges systems rows ms) (one_each : length ms ≡ length rows) where
   pub limits : All (IsModulus context.columns) (forms_of ms)

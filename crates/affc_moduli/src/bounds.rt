@@ -2,9 +2,9 @@
 ghost use Rattle.std.specs.Prelude.{◌≡◌, ℕ, ℤ, List, ◌^◌, ◌<◌, ◌≤◌, ◌≤ℤ◌, ◌<ℤ◌, ◌+ℤ◌, ◌↔◌, unsigned_abs, pos, IsTrue, IfSome};
 ghost use Rattle.std.specs.List.{All};
 ghost use Rattle.affc_rows.specs.Forms.{value};
-ghost use Rattle.affc_rows.specs.Vocabulary.{AreOpposite};
 ghost use Rattle.affc_system.specs.Systems.{IsRow, Meets};
 ghost use Rattle.affc_split.specs.maximum.Regions.{InRegion, IsBounded, IsAskable};
+ghost use Rattle.affc_rows.specs.Vocabulary.{AreOpposite};
 
 use crate::distances::MOST_DISTANCE;
 use affc_rows::Form;
@@ -20,12 +20,9 @@ pub struct Bound {
 }
 
 /// Whether a row is parallel to a form, the other way round.
-fn opposes(row: &Form, form: &Form, columns: u32) -> bool
-    requires row { IsRow columns row.now }
-    requires form { IsRow columns form.now }
+fn opposes(row: &Form, form: &Form) -> bool
     ensures { IsTrue result → AreOpposite row.now.coefs form.now.coefs }
 {
-    let _columns = columns;
     are_opposite(row.coefs.as_slice(), form.coefs.as_slice())
 }
 
@@ -49,11 +46,10 @@ fn lowered(region: &Region, row: &Form, form: &Form, bound: Bound) -> Bound
     requires bounded { IsBounded region.now form.now bound.most }
     ensures bounded { IsBounded region.now form.now result.most }
 {
-    let columns = region.system.columns();
-    if !opposes(row, form, columns) {
+    if !opposes(row, form) {
         return bound;
     }
-    let sum = sum_of_constants(row, form, columns);
+    let sum = sum_of_constants(row, form, region.system.columns());
     if sum.most < bound.most { sum } else { bound }
 }
 
@@ -121,11 +117,10 @@ fn is_barred_by(region: &Region, other: &Form, row: &Form) -> bool
     requires meets { (z : List ℤ) → InRegion region.now z → Meets z row.now }
     ensures { IsTrue result → (z : List ℤ) → InRegion region.now z → ⊥ }
 {
-    let columns = region.system.columns();
-    if !is_low(other, row, columns) {
+    if !is_low(other, row, region.system.columns()) {
         return false;
     }
-    opposes(other, row, columns)
+    opposes(other, row)
 }
 
 /// Whether a parallel row of the region is nowhere at least 0 where a row is.

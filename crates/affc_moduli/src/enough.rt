@@ -1,5 +1,5 @@
 //! Tests of moduli that are proposed.
-ghost use Rattle.std.specs.Prelude.{◌≡◌, ℕ, ℤ, List, ◌+◌, ◌-◌, ◌^◌, ◌<◌, ◌≤◌, ◌++◌, ◌-ℤ◌, ◌≤ℤ◌, ◌<ℤ◌, unsigned_abs, pos, Some, slice_get, take, replicate, IfOk, IfErr, IsTrue, length};
+ghost use Rattle.std.specs.Prelude.{◌≡◌, ℕ, ℤ, List, ◌+◌, ◌-◌, ◌^◌, ◌<◌, ◌≤◌, ◌-ℤ◌, ◌≤ℤ◌, ◌<ℤ◌, unsigned_abs, pos, Some, slice_get, take, IfOk, IfErr, IsTrue, length};
 ghost use Rattle.std.specs.List.{All};
 ghost use Rattle.affc_rows.specs.Forms.{Affine, value};
 ghost use Rattle.affc_split.specs.declared.maximum.region.Region.{Region as Region'};
@@ -9,37 +9,17 @@ ghost use Rattle.affc_basis.specs.Moduli.{IsModulus};
 ghost use Rattle.affc_moduli.specs.Enough.{IsBelow, AreBelow, AreComparable};
 
 use crate::bounds::is_at_most;
-use crate::constant::number;
-use affc_rows::{Form, FormFault};
+use affc_rows::Form;
 use affc_split::maximum::{Region, reaching};
 use affc_split::{Budget, Stop};
-use smallvec::SmallVec;
 use std::alloc::{AllocError, Global};
-
-/// The form over more columns, which don't matter.
-fn lifted(alloc: Global, form: &Form, columns: usize) -> Result<Form, AllocError>
-    requires { length form.now.coefs ≤ columns }
-    ensures { IfOk result (λ f. f ≡ record form.now { coefs = form.now.coefs ++ replicate (columns - length form.now.coefs) (pos 0) }) }
-{
-    let mut coefs = SmallVec::from_slice(alloc, form.coefs.as_slice())?;
-    let more = columns - form.coefs.len();
-    for _ in 0..more {
-        let Ok(()) = coefs.push(0) else {
-            return Err(AllocError);
-        };
-    }
-    Ok(Form {
-        coefs,
-        constant: form.constant,
-    })
-}
 
 /// The form less a modulus.
 fn less_modulus(
     alloc: Global,
     form: &Form,
     modulus: &Form,
-    columns: usize,
+    columns: u32,
 ) -> Result<Form, AllocError>
     requires width { length form.now.coefs ≡ columns }
     requires coefs { All (λ c. unsigned_abs c ≤ 2 ^ 27) form.now.coefs }
@@ -49,12 +29,8 @@ fn less_modulus(
     ensures measure { IfOk result (λ f. IsMeasure columns f) }
     ensures value { IfOk result (λ f. (z : List ℤ) → length z ≡ columns → value f z ≡ value form.now z -ℤ value modulus.now (take (length modulus.now.coefs) z)) }
 {
-    let modulus = lifted(alloc, modulus, columns)?;
-    match form.scale_add(alloc, 1, &modulus, -1) {
-        Ok(form) => Ok(form),
-        Err(FormFault::Memory) => Err(AllocError),
-        Err(FormFault::Range) => unreachable!(),
-    }
+    let modulus = modulus.padded(alloc, columns)?;
+    Form::mixture(alloc, 1, form, -1, &modulus)
 }
 
 /// Whether a form is below a modulus at each point of its region.
@@ -75,7 +51,7 @@ fn is_below(
     ensures later { IsLater budget.old budget.new }
     ensures stop { IfErr result (λ e. e ≡ Stop.Budget → budget.new.limit ≡ Some budget.new.spent) }
 {
-    let columns = region.system.columns() as usize;
+    let columns = region.system.columns();
     let Ok(difference) = less_modulus(alloc, form, modulus, columns) else {
         return Err(Stop::Memory);
     };
@@ -83,10 +59,7 @@ fn is_below(
         return Ok(true);
     }
     let found = reaching(alloc, region, &difference, 0, budget)?;
-    match found {
-        Some(_point) => Ok(false),
-        None => Ok(true),
-    }
+    Ok(found.is_none())
 }
 
 /// Whether a modulus is at least 1 at each point of the context.
@@ -102,8 +75,7 @@ pub fn is_positive(
     ensures later { IsLater budget.old budget.new }
     ensures stop { IfErr result (λ e. e ≡ Stop.Budget → budget.new.limit ≡ Some budget.new.spent) }
 {
-    let columns = context.system.columns() as usize;
-    let Ok(nothing) = number(alloc, columns, 0) else {
+    let Ok(nothing) = Form::number(alloc, context.system.columns(), 0) else {
         return Err(Stop::Memory);
     };
     is_below(alloc, context, &nothing, modulus, budget)
@@ -128,10 +100,7 @@ pub fn is_within(
         return Ok(true);
     }
     let found = reaching(alloc, context, modulus, most + 1, budget)?;
-    match found {
-        Some(_point) => Ok(false),
-        None => Ok(true),
-    }
+    Ok(found.is_none())
 }
 
 /// Whether each form is below a modulus at each point of its region.

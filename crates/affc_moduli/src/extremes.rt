@@ -246,13 +246,10 @@ fn asked(
     let found = maximum(alloc, region, form, floor, ceiling, ceiling, budget)?;
     match found {
         None => Ok(sought),
-        Some(best) => {
-            let more = met(
-                alloc, row, pairs, regions, number, system, region, form, turned, sought,
-                best.value, best.point, parameters, budget,
-            )?;
-            Ok(more)
-        }
+        Some(best) => met(
+            alloc, row, pairs, regions, number, system, region, form, turned, sought, best.value,
+            best.point, parameters, budget,
+        ),
     }
 }
 

@@ -7,7 +7,6 @@ ghost use Rattle.affc_basis.specs.Moduli.{IsModulus};
 ghost use Rattle.affc_conflicts.specs.Conditions.{IsNear};
 ghost use Rattle.affc_moduli.specs.Enough.{AreComparable, IsSuitable};
 
-use crate::constant::number;
 use crate::enough::{all_below, is_positive, is_within};
 use affc_rows::{Form, FormFault};
 use affc_split::maximum::{Region, maximum};
@@ -24,13 +23,12 @@ struct Proposal {
 }
 
 /// The context as a region.
-pub fn context_region(alloc: Global, context: &System, ranges: &BoxOf) -> Result<Region, AllocError>
+pub fn context_region(context: &System, ranges: &BoxOf) -> Result<Region, AllocError>
     requires parameters { length ranges.now ≡ context.now.columns }
     requires near { All IsNear ranges.now }
     ensures system { IfOk result (λ r. r.system ≡ context.now) }
     ensures ranges { IfOk result (λ r. r.ranges ≡ ranges.now) }
 {
-    let _alloc = alloc;
     let system = context.clone()?;
     let ranges = ranges.clone()?;
     Ok(Region { system, ranges })
@@ -116,14 +114,14 @@ fn sum_of(
     coefs: &[i128],
     extents: &[Form],
     set: u32,
-    parameters: usize,
+    parameters: u32,
 ) -> Result<Option<Form>, AllocError>
     requires one_each { length coefs.now ≡ length extents.now }
     requires small { All (λ c. unsigned_abs c ≤ 256) coefs.now }
     requires wide { HaveColumns parameters extents.now }
     ensures { IfOk result (λ o. IfSome o (λ f. length f.coefs ≡ parameters)) }
 {
-    let mut sum = number(alloc, parameters, 0)?;
+    let mut sum = Form::number(alloc, parameters, 0)?;
     for (j, extent) in extents.iter().enumerate() {
         if is_idle(set, j, coefs[j], extent) {
             return Ok(None);
@@ -193,8 +191,7 @@ fn proposed(
     ensures later { IsLater budget.old budget.new }
     ensures stop { IfErr result (λ e. e ≡ Stop.Budget → budget.new.limit ≡ Some budget.new.spent) }
 {
-    let parameters = context.system.columns() as usize;
-    let Some(sum) = sum_of(alloc, coefs, extents, set, parameters)? else {
+    let Some(sum) = sum_of(alloc, coefs, extents, set, context.system.columns())? else {
         return Ok(None);
     };
     let slopes = Form {

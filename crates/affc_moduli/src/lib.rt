@@ -3,7 +3,6 @@
 
 mod bounds;
 mod ceilings;
-mod constant;
 mod distances;
 mod enough;
 mod extremes;
@@ -17,3 +16,4 @@ mod witness;
 
 pub use bounds::is_void;
 pub use fold::moduli;
+pub use slices::region_of;

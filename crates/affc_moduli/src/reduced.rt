@@ -5,7 +5,6 @@ ghost use Rattle.affc_split.specs.maximum.Regions.{InRegion};
 ghost use Rattle.affc_moduli.specs.Reduced.{IsReduced, AreReduced, below_zero};
 
 use crate::bounds::is_void;
-use crate::constant::number;
 use crate::slices::add;
 use affc_rows::Form;
 use affc_split::maximum::Region;
@@ -17,7 +16,7 @@ fn below_zero(alloc: Global, columns: u32) -> Result<Form, AllocError>
     ensures form { IfOk result (λ f. f ≡ below_zero columns) }
     ensures row { IfOk result (λ f. IsRow columns f) }
 {
-    number(alloc, columns as usize, -1)
+    Form::number(alloc, columns, -1)
 }
 
 /// The system of one row that is -1 everywhere.
@@ -27,7 +26,7 @@ fn nowhere(alloc: Global, columns: u32) -> Result<System, AllocError>
 {
     let row = below_zero(alloc, columns)?;
     let mut system = System::new(alloc, columns);
-    add(alloc, &mut system, &row)?;
+    add(&mut system, &row)?;
     Ok(system)
 }
 
@@ -43,10 +42,9 @@ fn emptied(alloc: Global, region: &Region) -> Result<Region, AllocError>
 }
 
 /// A copy of a region.
-fn copied(alloc: Global, region: &Region) -> Result<Region, AllocError>
+fn copy_of_region(region: &Region) -> Result<Region, AllocError>
     ensures { IfOk result (λ r. IsReduced region.now r) }
 {
-    let _alloc = alloc;
     let system = region.system.clone()?;
     let ranges = region.ranges.clone()?;
     Ok(Region { system, ranges })
@@ -57,12 +55,12 @@ fn reduced(alloc: Global, region: &Region) -> Result<Region, AllocError>
     ensures { IfOk result (λ r. IsReduced region.now r) }
 {
     if region.system.rows().len() == 0 {
-        return copied(alloc, region);
+        return copy_of_region(region);
     }
     if is_void(region) {
         return emptied(alloc, region);
     }
-    copied(alloc, region)
+    copy_of_region(region)
 }
 
 /// The regions, each of one row where it is seen that it has no point.
@@ -72,9 +70,7 @@ pub fn all_reduced(alloc: Global, regions: &[Region]) -> Result<Vec<Region>, All
     let mut made = Vec::new(alloc);
     for region in regions {
         let same = reduced(alloc, region)?;
-        let Ok(()) = made.push(same) else {
-            return Err(AllocError);
-        };
+        made.push(same)?;
     }
     Ok(made)
 }

@@ -76,7 +76,7 @@ fn spread(
 }
 
 /// The row with the other sign.
-fn negated(alloc: Global, row: &Form) -> Result<Form, Lack>
+fn negated_row(alloc: Global, row: &Form) -> Result<Form, Lack>
     ensures { IfOk result (λ f. length f.coefs ≡ length row.now.coefs) }
 {
     match with_multiple(alloc, row, row, -2)? {
@@ -131,7 +131,7 @@ fn add_subscript(
     ensures { system.new.columns ≡ system.old.columns }
 {
     let least = spread(alloc, form, columns, inserted, Some(column))?;
-    let most = negated(alloc, &least)?;
+    let most = negated_row(alloc, &least)?;
     add(system, least)?;
     add(system, most)
 }

@@ -2,6 +2,7 @@
 ghost use Rattle.std.specs.Prelude.{◌≡◌, ℕ, ℤ, List, ◌+◌, ◌^◌, ◌<◌, ◌≤◌, ◌≤ℤ◌, ◌+ℤ◌, unsigned_abs, pos, Some, None, slice_get, take, replicate, IfOk, IfErr, IfSome, IfNone, length};
 ghost use Rattle.std.specs.List.{All};
 ghost use Rattle.affc_rows.specs.Forms.{Affine, value, values_of};
+ghost use Rattle.affc_rows.specs.Vocabulary.{number_form};
 ghost use Rattle.affc_system.specs.Pairs.{IsSubscript};
 ghost use Rattle.affc_split.specs.Budgets.{IsLater};
 ghost use Rattle.affc_conflicts.specs.Conditions.{InContext};
@@ -14,7 +15,6 @@ ghost use Rattle.affc_moduli.specs.Shown.{other_way, swapped};
 
 use crate::bounds::Bound;
 use crate::ceilings::bound_of;
-use crate::constant::{constant_of, number};
 use crate::distances::{backward, forward};
 use crate::extremes::{Reach, Shown, farthest};
 use crate::forms::{chosen, context_region};
@@ -46,19 +46,25 @@ fn element(alloc: Global, forms: &[Form], point: &[i64]) -> Result<Items<i64>, A
 {
     let mut x = Vec::new(alloc);
     for form in forms {
-        let Ok(()) = x.push(subscript_at(form, point)) else {
-            return Err(AllocError);
-        };
+        x.push(subscript_at(form, point))?;
     }
     Ok(Items::from_vec(x))
 }
 
+/// A number and 1 more, as a form over the parameters.
+fn next_to(alloc: Global, parameters: u32, n: i64) -> Result<Form, AllocError>
+    ensures { IfOk result (λ f. f ≡ number_form parameters (n +ℤ pos 1)) }
+{
+    Form::number(alloc, parameters, i128::from(n) + 1)
+}
+
 /// The modulus 1, of a row along which nothing lies apart.
 fn without_pair(alloc: Global, p: &[i64]) -> Result<Modulus, AllocError>
+    requires { length p.now ≤ 128 }
     ensures form { IfOk result (λ m. m.form ≡ record { coefs = replicate (length p.now) (pos 0); constant = pos 1 }) }
     ensures mark { IfOk result (λ m. m.mark ≡ Mark.Least p.now None) }
 {
-    let form = number(alloc, p.len(), 1)?;
+    let form = Form::number(alloc, p.len() as u32, 1)?;
     let p = Items::from_slice(alloc, p)?;
     Ok(Modulus {
         form,
@@ -72,7 +78,7 @@ fn with_pair(
     system: &PairSystem,
     point: &[i64],
     distance: i64,
-    parameters: usize,
+    parameters: u32,
 ) -> Result<Modulus, AllocError>
     requires width { length point.now ≡ system.now.system.columns }
     requires within { parameters ≤ length point.now }
@@ -83,8 +89,8 @@ fn with_pair(
     ensures form { IfOk result (λ m. m.form ≡ record { coefs = replicate parameters (pos 0); constant = distance +ℤ pos 1 }) }
     ensures mark { IfOk result (λ m. m.mark ≡ Mark.Least (take parameters point.now) (Some (values_of system.now.x.items point.now, values_of system.now.y.items point.now))) }
 {
-    let form = number(alloc, parameters, distance + 1)?;
-    let p = Items::from_slice(alloc, &point[..parameters])?;
+    let form = next_to(alloc, parameters, distance)?;
+    let p = Items::from_slice(alloc, &point[..parameters as usize])?;
     let x = element(alloc, system.x.as_slice(), point)?;
     let y = element(alloc, system.y.as_slice(), point)?;
     Ok(Modulus {
@@ -125,14 +131,9 @@ fn shown(
     let system = &pairs[found.number];
     let columns = system.system.columns();
     prove!(columns <= 128);
-    let parameters = context.columns() as usize;
-    with_pair(
-        alloc,
-        system,
-        found.point.as_slice(),
-        found.value,
-        parameters,
-    )
+    let parameters = context.columns();
+    let point = found.point.as_slice();
+    with_pair(alloc, system, point, found.value, parameters)
 }
 
 /// The modulus of a row along which nothing lies apart.
@@ -257,6 +258,14 @@ fn in_order(
     if turns { turned(modulus) } else { modulus }
 }
 
+/// The constant of a form.
+fn constant_of(form: &Form) -> i64
+    requires { unsigned_abs form.now.constant ≤ 2 ^ 55 }
+    ensures { result ≡ form.now.constant }
+{
+    form.constant as i64
+}
+
 /// The modulus with another form.
 fn with_form(modulus: Modulus, form: Form) -> Modulus
     ensures form { result.form ≡ form }
@@ -300,7 +309,7 @@ fn formed(
     let _pairs = pairs;
     let _rows = rows;
     let _k = k;
-    let Ok(region) = context_region(alloc, context, ranges) else {
+    let Ok(region) = context_region(context, ranges) else {
         return Err(Stop::Memory);
     };
     let coefs = row.coefs.as_slice();
@@ -315,12 +324,12 @@ fn formed(
 }
 
 /// A modulus that is 1 more than a bound, without a mark.
-fn unmarked(alloc: Global, parameters: usize, bound: &Bound) -> Result<Modulus, AllocError>
+fn unmarked(alloc: Global, parameters: u32, bound: &Bound) -> Result<Modulus, AllocError>
     requires { unsigned_abs bound.now.most ≤ 2 ^ 53 }
     ensures form { IfOk result (λ m. m.form ≡ record { coefs = replicate parameters (pos 0); constant = bound.now.most +ℤ pos 1 }) }
     ensures mark { IfOk result (λ m. m.mark ≡ Mark.Bound) }
 {
-    let form = number(alloc, parameters, bound.most + 1)?;
+    let form = next_to(alloc, parameters, bound.most)?;
     Ok(Modulus {
         form,
         mark: Mark::Bound,
@@ -353,8 +362,7 @@ fn bounded(
     let _k = k;
     let _regions = regions;
     let _row = row;
-    let parameters = context.columns() as usize;
-    unmarked(alloc, parameters, bound)
+    unmarked(alloc, context.columns(), bound)
 }
 
 /// The modulus of a row along which elements lie farthest apart where it is shown.
@@ -469,11 +477,10 @@ fn asked(
     let parameters = context.columns() as usize;
     match farthest(alloc, row, pairs, regions, fs, gs, parameters, budget)? {
         Reach::Farthest(shown) => {
-            let modulus = marked(
+            marked(
                 alloc, pairs, extents, context, ranges, rows, k, regions, some, row, fs, gs,
                 &shown, budget,
-            )?;
-            Ok(modulus)
+            )
         }
         Reach::Within(bound) => {
             let Ok(modulus) = bounded(

@@ -13,12 +13,11 @@ use affc_system::{PairSystem, RowFault, System};
 use std::alloc::{AllocError, Global};
 
 /// The region of a system.
-fn whole(alloc: Global, pairs: &PairSystem) -> Result<Region, AllocError>
+pub fn region_of(pairs: &PairSystem) -> Result<Region, AllocError>
     requires { IsBoxed pairs.now.system pairs.now.ranges }
     ensures system { IfOk result (λ r. r.system ≡ pairs.now.system) }
     ensures ranges { IfOk result (λ r. r.ranges ≡ pairs.now.ranges) }
 {
-    let _alloc = alloc;
     let system = pairs.system.clone()?;
     let ranges = pairs.ranges.clone()?;
     Ok(Region { system, ranges })
@@ -31,21 +30,18 @@ pub fn copies(alloc: Global, pairs: &[PairSystem]) -> Result<Vec<Region>, AllocE
 {
     let mut regions = Vec::new(alloc);
     for system in pairs {
-        let region = whole(alloc, system)?;
-        let Ok(()) = regions.push(region) else {
-            return Err(AllocError);
-        };
+        let region = region_of(system)?;
+        regions.push(region)?;
     }
     Ok(regions)
 }
 
 /// Adds a copy of a row.
-pub fn add(alloc: Global, system: &mut System, row: &Form) -> Result<(), AllocError>
+pub fn add(system: &mut System, row: &Form) -> Result<(), AllocError>
     requires row { IsRow system.old.columns row.now }
     requires room { length system.old.rows < 1024 }
     ensures { IfOk result (λ _. system.new ≡ record system.old { rows = system.old.rows ++ row.now ∷ [] }) }
 {
-    let _alloc = alloc;
     let row = row.clone()?;
     match system.push(row) {
         Ok(()) => Ok(()),
@@ -56,15 +52,15 @@ pub fn add(alloc: Global, system: &mut System, row: &Form) -> Result<(), AllocEr
 }
 
 /// A region with two rows more.
-fn narrowed(alloc: Global, region: &Region, f: &Form, g: &Form) -> Result<Region, AllocError>
+fn narrowed(region: &Region, f: &Form, g: &Form) -> Result<Region, AllocError>
     requires f { IsRow region.now.system.columns f.now }
     requires g { IsRow region.now.system.columns g.now }
     requires room { length region.now.system.rows + 2 ≤ 1024 }
     ensures { IfOk result (λ r. IsNarrowed region.now f.now g.now r) }
 {
     let mut system = region.system.clone()?;
-    add(alloc, &mut system, f)?;
-    add(alloc, &mut system, g)?;
+    add(&mut system, f)?;
+    add(&mut system, g)?;
     let ranges = region.ranges.clone()?;
     Ok(Region { system, ranges })
 }
@@ -85,10 +81,8 @@ pub fn all_narrowed(
 {
     let mut made = Vec::new(alloc);
     for i in 0..regions.len() {
-        let region = narrowed(alloc, &regions[i], &fs[i], &gs[i])?;
-        let Ok(()) = made.push(region) else {
-            return Err(AllocError);
-        };
+        let region = narrowed(&regions[i], &fs[i], &gs[i])?;
+        made.push(region)?;
     }
     Ok(made)
 }

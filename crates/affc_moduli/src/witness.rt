@@ -12,7 +12,6 @@ use affc_rows::Form;
 use affc_split::maximum::Region;
 use affc_split::{Answer, Budget, Stop, decide, within_reach};
 use affc_system::{BoxOf, PairSystem, System, value_at};
-use smallvec::SmallVec;
 use std::alloc::{AllocError, Global};
 
 /// The value of a subscript at a point.
@@ -34,6 +33,17 @@ fn add_element(key: &mut Vec<i128>, forms: &[Form], point: &[i64]) -> Result<(),
     Ok(())
 }
 
+/// The subscripts of one of a system's elements.
+fn element_of(system: &PairSystem, second: bool) -> &[Form]
+    ensures { All (IsSubscript system.now.system.columns) result.now }
+{
+    if second {
+        system.y.as_slice()
+    } else {
+        system.x.as_slice()
+    }
+}
+
 /// What the elements of a system at a point are compared by, in the order in which they are shown.
 pub fn key_of(
     alloc: Global,
@@ -41,19 +51,10 @@ pub fn key_of(
     turned: bool,
     point: &[i64],
 ) -> Result<Vec<i128>, AllocError> {
-    let x = system.x.as_slice();
-    let y = system.y.as_slice();
     let mut key = Vec::new(alloc);
-    let columns = system.system.columns();
-    if point.len() != columns as usize {
-        return Ok(key);
-    }
-    if turned {
-        add_element(&mut key, y, point)?;
-        add_element(&mut key, x, point)?;
-    } else {
-        add_element(&mut key, x, point)?;
-        add_element(&mut key, y, point)?;
+    if point.len() == system.system.columns() as usize {
+        add_element(&mut key, element_of(system, turned), point)?;
+        add_element(&mut key, element_of(system, !turned), point)?;
     }
     Ok(key)
 }
@@ -102,17 +103,6 @@ fn has_value(region: &Region, form: &Form, number: i64, point: &[i64]) -> bool
     value_at(form, point) == i128::from(number)
 }
 
-/// The form less a number.
-fn less(alloc: Global, form: &Form, by: i64) -> Result<Form, AllocError>
-    requires { unsigned_abs form.now.constant ≤ 2 ^ 58 }
-{
-    let coefs = SmallVec::from_slice(alloc, form.coefs.as_slice())?;
-    Ok(Form {
-        coefs,
-        constant: form.constant - i128::from(by),
-    })
-}
-
 /// The region's points with a point's parameters at which a form is at least a number, with the columns in the order in which
 /// the elements are shown.
 fn in_order(
@@ -127,14 +117,10 @@ fn in_order(
 ) -> Result<(System, BoxOf), Lack>
     requires { unsigned_abs form.now.constant ≤ 2 ^ 58 }
 {
-    let x = system.x.as_slice();
-    let y = system.y.as_slice();
-    let form = less(alloc, form, value)?;
-    if turned {
-        reordered(alloc, region, &form, point, y, x, parameters)
-    } else {
-        reordered(alloc, region, &form, point, x, y, parameters)
-    }
+    let form = form.clone()?.less(i128::from(value));
+    let first = element_of(system, turned);
+    let second = element_of(system, !turned);
+    reordered(alloc, region, &form, point, first, second, parameters)
 }
 
 /// The least point of a system in a box, without the elements' columns.
@@ -258,6 +244,5 @@ pub fn settled(
         Err(Stop::Budget) => None,
         Err(Stop::Memory) => return Err(Stop::Memory),
     };
-    let point = either(region, form, number, first, known);
-    Ok(point)
+    Ok(either(region, form, number, first, known))
 }

@@ -17,5 +17,5 @@ returns c =
     let dimensions = wide c.args.context.now c.args.ranges.now c.args.extents.now c.args.rows.now c.args.pairs.now c.requires.ready c.args.k c.args.row.now c.requires.row c.args.regions.now c.requires.slices in
     both _ _ _ c.unmarked.result
     (λ m form mark. kept_bound c.args.context.now c.args.ranges.now c.args.rows.now c.args.k c.args.row.now c.args.pairs.now c.args.regions.now c.requires.slices dimensions
-    c.columns-parameters.result c.args.bound.now.most c.columns-parameters.ensures.value c.requires.far m form mark)
+    c.columns.result c.args.bound.now.most c.columns.ensures.value c.requires.far m form mark)
     c.unmarked.ensures.form c.unmarked.ensures.mark

@@ -26,7 +26,7 @@ with_pair-requires-clause-x c =
     let i = c.args.found.now.number in
     let z = c.args.found.now.point.items in
     let here : slice_get c.args.pairs.now i ≡ Some s = slice_get_read c.args.pairs.now (length c.args.pairs.now) i s refl (slice_get_within c.args.pairs.now i a.system a.system_there) c.index-pairs-found.is in
-    subst (λ w. All (λ f. unsigned_abs (value f w) ≤ 2 ^ 43) s.x.items) (sym c.as_slice.ensures.value) (x_near c.args.context.now c.args.ranges.now c.args.extents.now c.args.rows.now c.args.pairs.now c.requires.ready c.args.k c.args.row.now c.requires.row c.args.regions.now c.requires.slices i s a.region z here a.region_there a.inside)
+    subst (λ w. All (λ f. unsigned_abs (value f w) ≤ 2 ^ 43) s.x.items) (sym c.as_slice-point.ensures.value) (x_near c.args.context.now c.args.ranges.now c.args.extents.now c.args.rows.now c.args.pairs.now c.requires.ready c.args.k c.args.row.now c.requires.row c.args.regions.now c.requires.slices i s a.region z here a.region_there a.inside)
 
 pub with_pair-requires-clause-y : goal.with_pair-requires-clause-y
 with_pair-requires-clause-y c =
@@ -36,7 +36,7 @@ with_pair-requires-clause-y c =
     let i = c.args.found.now.number in
     let z = c.args.found.now.point.items in
     let here : slice_get c.args.pairs.now i ≡ Some s = slice_get_read c.args.pairs.now (length c.args.pairs.now) i s refl (slice_get_within c.args.pairs.now i a.system a.system_there) c.index-pairs-found.is in
-    subst (λ w. All (λ f. unsigned_abs (value f w) ≤ 2 ^ 43) s.y.items) (sym c.as_slice.ensures.value) (y_near c.args.context.now c.args.ranges.now c.args.extents.now c.args.rows.now c.args.pairs.now c.requires.ready c.args.k c.args.row.now c.requires.row c.args.regions.now c.requires.slices i s a.region z here a.region_there a.inside)
+    subst (λ w. All (λ f. unsigned_abs (value f w) ≤ 2 ^ 43) s.y.items) (sym c.as_slice-point.ensures.value) (y_near c.args.context.now c.args.ranges.now c.args.extents.now c.args.rows.now c.args.pairs.now c.requires.ready c.args.k c.args.row.now c.requires.row c.args.regions.now c.requires.slices i s a.region z here a.region_there a.inside)
 
 pub with_pair-requires-clause-distance : goal.with_pair-requires-clause-distance
 with_pair-requires-clause-distance c =
@@ -73,9 +73,9 @@ returns-clause-done c =
     let made : record { coefs = replicate c.columns-parameters.result (pos 0); constant = c.args.found.now.value +ℤ pos 1 } ≡ number columns (n + 1) =
     ap (λ (q : ℕ). let f : Affine = record { coefs = replicate q (pos 0); constant = c.args.found.now.value +ℤ pos 1 } in f) at_columns
     ∙ ap (λ (w : ℤ). let f : Affine = record { coefs = replicate columns (pos 0); constant = w } in f) (sum_of c.args.found.now.value n h.1) in
-    let marked : Least (take c.columns-parameters.result c.as_slice.result.now) (Some (values_of s.x.items c.as_slice.result.now, values_of s.y.items c.as_slice.result.now)) ≡ Least (take columns z) (Some (values_of s.x.items z, values_of s.y.items z)) =
-    ap (λ (q : ℕ). let m : Mark = Least (take q c.as_slice.result.now) (Some (values_of s.x.items c.as_slice.result.now, values_of s.y.items c.as_slice.result.now)) in m) at_columns
-    ∙ ap (λ (w : List ℤ). let m : Mark = Least (take columns w) (Some (values_of s.x.items w, values_of s.y.items w)) in m) c.as_slice.ensures.value in
+    let marked : Least (take c.columns-parameters.result c.as_slice-point.result.now) (Some (values_of s.x.items c.as_slice-point.result.now, values_of s.y.items c.as_slice-point.result.now)) ≡ Least (take columns z) (Some (values_of s.x.items z, values_of s.y.items z)) =
+    ap (λ (q : ℕ). let m : Mark = Least (take q c.as_slice-point.result.now) (Some (values_of s.x.items c.as_slice-point.result.now, values_of s.y.items c.as_slice-point.result.now)) in m) at_columns
+    ∙ ap (λ (w : List ℤ). let m : Mark = Least (take columns w) (Some (values_of s.x.items w, values_of s.y.items w)) in m) c.as_slice-point.ensures.value in
     both _ _ _ c.with_pair.result
     (λ m e f. done_some c.args.context.now c.args.ranges.now c.args.rows.now c.args.k c.args.row.now c.args.pairs.now c.args.regions.now c.requires.slices (wide c.args.context.now c.args.ranges.now c.args.extents.now c.args.rows.now c.args.pairs.now c.requires.ready c.args.k c.args.row.now c.requires.row c.args.regions.now c.requires.slices) n i z s a.region h.3 h.2 small here a.region_there a.inside by m (e ∙ made) (f ∙ marked))
     form c.with_pair.ensures.mark
