@@ -1,41 +1,18 @@
 //! Bases that are given, and copies of bases.
-ghost use Rattle.std.specs.Prelude.{◌≡◌, ◌++◌, OnOk, IfOk, IfSome, option_map, length};
+ghost use Rattle.std.specs.Prelude.{◌≡◌, IfOk, IfSome, option_map, length};
 ghost use Rattle.affc_basis.specs.Listed.{shape_of};
 ghost use Rattle.affc_folds.specs.Folding.{given_for};
 
 use affc_ast::tree::ArrayId;
 use affc_basis::Basis;
 use affc_basis::basis::given;
-use affc_rows::Form;
+use affc_rows::vocabulary::copies;
 use sqlite_items::Items;
 use std::alloc::{AllocError, Global};
 
-/// Adds copies of forms.
-fn add_copies(forms: &[Form], out: &mut Vec<Form>) -> Result<(), AllocError>
-    ensures { OnOk result (out.new.items ≡ out.old.items ++ forms.now) }
-{
-    match forms {
-        [] => Ok(()),
-        [form, rest @ ..] => {
-            let copy = form.clone()?;
-            out.push(copy)?;
-            add_copies(rest, out)
-        }
-    }
-}
-
-/// Copies of forms.
-pub(crate) fn copies(alloc: Global, forms: &[Form]) -> Result<Vec<Form>, AllocError>
-    ensures { IfOk result (λ fs. fs.items ≡ forms.now) }
-{
-    let mut out = Vec::new(alloc);
-    add_copies(forms, &mut out)?;
-    Ok(out)
-}
-
 /// A copy of a basis.
 #[tactic(auto, using(affc_life::proofs::BasisLemmas::copy_square, affc_life::proofs::BasisLemmas::copy_bounds, affc_life::proofs::BasisLemmas::same_shape))]
-pub(crate) fn copied(alloc: Global, basis: &Basis) -> Result<Basis, AllocError>
+pub(crate) fn copy_of_basis(alloc: Global, basis: &Basis) -> Result<Basis, AllocError>
     ensures shape { IfOk result (λ b. shape_of b ≡ shape_of basis.now) }
     ensures rows { IfOk result (λ b. b.rows ≡ basis.now.rows) }
 {
@@ -62,7 +39,7 @@ pub(crate) fn given_basis(
         [] => Ok(None),
         [(of, basis), rest @ ..] => {
             if of.0 == array.0 && basis.rows.len() == dimensions as usize {
-                Ok(Some(copied(alloc, basis)?))
+                Ok(Some(copy_of_basis(alloc, basis)?))
             } else {
                 given_basis(alloc, rest, array, dimensions)
             }

@@ -12,11 +12,11 @@ ghost use Rattle.affc_folds.specs.Folding.{IsAnalysed, IsSpent};
 ghost use Rattle.affc_folds.specs.Systems.{AreLive, IsCopy, AreKept};
 
 use crate::asked::Asked;
-use crate::bases::copies;
 use affc_ast::tree::ArrayId;
 use affc_life::{ClashFault, clashes};
-use affc_moduli::is_void;
+use affc_moduli::{is_void, region_of};
 use affc_nest::ArrayInfo;
+use affc_rows::vocabulary::copies;
 use affc_split::maximum::Region;
 use affc_split::{Answer, Budget, Stop, decide};
 use affc_system::PairSystem;
@@ -34,18 +34,6 @@ fn systems_of(alloc: Global, asked: &Asked<'_>, array: ArrayId) -> Result<Vec<Pa
         Err(ClashFault::Memory) => Err(Stop::Memory),
         Err(ClashFault::Large) => unreachable!(),
     }
-}
-
-/// The region of a system.
-fn region_of(alloc: Global, pairs: &PairSystem) -> Result<Region, AllocError>
-    requires { IsBoxed pairs.now.system pairs.now.ranges }
-    ensures system { IfOk result (λ r. r.system ≡ pairs.now.system) }
-    ensures ranges { IfOk result (λ r. r.ranges ≡ pairs.now.ranges) }
-{
-    let _alloc = alloc;
-    let system = pairs.system.clone()?;
-    let ranges = pairs.ranges.clone()?;
-    Ok(Region { system, ranges })
 }
 
 /// Whether a region has no point.
@@ -87,7 +75,7 @@ fn kept(alloc: Global, pairs: &PairSystem, budget: &mut Budget) -> Result<Option
     ensures later { IsLater budget.old budget.new }
     ensures stop { IfErr result (λ e. e ≡ Stop.Budget → budget.new.limit ≡ Some budget.new.spent) }
 {
-    let region = region_of(alloc, pairs)?;
+    let region = region_of(pairs)?;
     if is_empty(alloc, &region, budget)? {
         return Ok(None);
     }

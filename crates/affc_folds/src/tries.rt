@@ -17,7 +17,7 @@ ghost use Rattle.affc_folds.specs.Systems.{AreLive};
 ghost use Rattle.affc_folds.specs.Tries.{IsRated, IsTried, AreTried, IsFolded};
 
 use crate::asked::Asked;
-use crate::bases::{copied, given_basis};
+use crate::bases::{copy_of_basis, given_basis};
 use crate::systems::live_systems;
 use affc_ast::tree::ArrayId;
 use affc_basis::{Basis, Fold, Modulus, listed};
@@ -89,7 +89,7 @@ fn fold_along(
     ensures later { IsLater budget.old budget.new }
     ensures stop { IfErr result (λ e. e ≡ Stop.Memory) }
 {
-    let basis = copied(alloc, basis)?;
+    let basis = copy_of_basis(alloc, basis)?;
     let moduli = moduli_along(alloc, asked, array, info, systems, &basis, budget)?;
     Ok(Fold { basis, moduli })
 }

@@ -224,14 +224,13 @@ impl<'a> Block<'a> {
         let mut chosen = Vec::new(alloc);
         push_all(&mut chosen, self.front)?;
         let tails = self.tails.as_slice();
-        let step = check_factors(
+        check_factors(
             alloc,
             self.columns,
             &mut chosen,
             self.factors,
             tails,
             proofs,
-        )?;
-        Ok(step)
+        )
     }
 }

@@ -76,9 +76,7 @@ fn put(out: &mut Multipliers, row: u32, times: u64) -> Result<(), Lack> {
 
 /// The multipliers of these rows, in order. Those of one row are summed.
 fn gathered(alloc: Global, pairs: &mut Vec<(u32, u64)>) -> Result<Multipliers, Lack> {
-    let Ok(()) = pairs.sort_by_key(|pair| pair.0) else {
-        return Err(Lack::Memory);
-    };
+    pairs.sort_by_key(|pair| pair.0)?;
     let mut out = Multipliers::new(alloc);
     let mut last = None;
     for (row, times) in pairs.as_slice() {
@@ -164,7 +162,7 @@ fn moved(proof: &Proof, alloc: Global, numbers: &Numbers) -> Result<Proof, Lack>
 }
 
 /// A proof behind the cut that makes the row of this end.
-fn behind(
+fn behind_cut(
     alloc: Global,
     columns: u32,
     ends: &Ends,
@@ -194,7 +192,7 @@ fn made(
 ) -> Result<Proof, Lack> {
     let mut whole = moved(proof, alloc, numbers)?;
     for number in numbers.made.as_slice().iter().rev() {
-        whole = behind(alloc, columns, ends, numbers, *number, whole)?;
+        whole = behind_cut(alloc, columns, ends, numbers, *number, whole)?;
     }
     Ok(whole)
 }

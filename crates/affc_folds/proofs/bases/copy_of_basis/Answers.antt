@@ -1,6 +1,6 @@
 use Rattle.std.proofs.Common.{◌∙◌}
 use Rattle.affc_life.proofs.BasisLemmas.{none_broken}
-use Rattle.affc_folds.proofs.bases.copied.Goals as goal
+use Rattle.affc_folds.proofs.bases.copy_of_basis.Goals as goal
 
 pub unreachable-requires : goal.unreachable-requires
 unreachable-requires c =
