@@ -1,8 +1,7 @@
 -- Forms whose columns are replaced by light forms don't leave the range of the code's numbers.
-use Rattle.std.proofs.Common.{◌≡◌, ℕ, zero, suc, ◌+◌, ◌*◌, ◌^◌, ◌<◌, ◌≤◌, ℤ, pos, ◌+ℤ◌, List, [], ◌∷◌, length, map, get_or, replicate, refl, sym, ap, ◌∙◌, inl, inr, arith}
+use Rattle.std.proofs.Common.{◌≡◌, ℕ, zero, suc, ◌+◌, ◌*◌, ◌^◌, ◌<◌, ◌≤◌, ℤ, pos, ◌+ℤ◌, List, [], ◌∷◌, length, map, get_or, refl, ap, inl, inr, arith}
 use Rattle.std.specs.Prelude.{unsigned_abs}
 use Rattle.std.specs.List.{All}
-use Rattle.std.proofs.lemmas.Int.{ints}
 use Rattle.std.proofs.lemmas.List.Elements.{All-nil, All-cons, All-head, All-tail}
 use Rattle.std.proofs.lemmas.Nat.{mul-le}
 use Rattle.std.proofs.Math.Nat.{suc-mul}
@@ -10,7 +9,6 @@ use Rattle.affc_rows.specs.Forms.{Affine, dot, dot_magnitude, columns_of, column
 use Rattle.affc_rows.proofs.IntLemmas.{abs-add}
 use Rattle.affc_system.specs.Systems.{IsRow}
 use Rattle.affc_order.specs.Posed.{form_at}
-use Rattle.affc_order.specs.Spread.{spread}
 use Rattle.affc_life.specs.Asked.{IsLight}
 use Rattle.affc_life.specs.Composed.{AreImages}
 use Rattle.affc_life.proofs.ComposeLemmas.{dot_abs}
@@ -135,19 +133,3 @@ images_broad columns images are [] h = All-nil (IsBroad columns)
 images_broad columns images are (f ∷ fs) h =
     All-cons (IsBroad columns) (form_at columns images f) (map (form_at columns images) fs) (image_broad columns images are f (All-head (IsRow (length images)) f fs h))
     (images_broad columns images are fs (All-tail (IsRow (length images)) f fs h))
-
--- zeros where there are none
-pub none_is : (columns : ℕ) (images : List Affine) (f made : Affine) → length images ≡ 0 → IsRow (length images) f → made ≡ spread 0 0 columns f → made ≡ form_at columns images f
-none_is columns (g ∷ gs) f made none row e = absurd (omega (arith, none))
-none_is columns [] f made none row e = e ∙ at_none f.coefs f.constant row.width
-  where
-    zeros : (j n : ℕ) → composed [] [] j n ≡ replicate n (pos 0)
-    zeros j zero = refl
-    zeros j (suc n) = ap (λ cs. pos 0 ∷ cs) (zeros (suc j) n)
-
-    left : (z : ℤ) → pos 0 +ℤ z ≡ z
-    left z = omega (arith, ints)
-
-    at_none : (cs : List ℤ) (k : ℤ) → length cs ≡ 0 → spread 0 0 columns (record { coefs = cs; constant = k }) ≡ form_at columns [] (record { coefs = cs; constant = k })
-    at_none (c ∷ cs) k w = absurd (omega (arith, w))
-    at_none [] k w = λ i. record { coefs = sym (zeros 0 columns) i; constant = sym (left k) i }

@@ -12,7 +12,7 @@ ghost use Rattle.affc_nest.specs.Questions.{whole_context};
 ghost use Rattle.affc_questions.specs.Sizes.{IsBroad};
 
 use crate::long::Long;
-use crate::rows::{add_equal, add_gap, number};
+use crate::rows::{add_equal, add_gap};
 use affc_nest::Nest;
 use affc_quast::rows::add_copies;
 use affc_rows::Form;
@@ -25,8 +25,7 @@ fn word(alloc: Global, columns: u32, n: i64) -> Result<Form, AllocError>
     ensures value { IfOk result (λ f. f ≡ number_form columns n) }
     ensures broad { IfOk result (λ f. IsBroad columns f) }
 {
-    let made = affc_flow::number(alloc, columns, n)?;
-    Ok(made)
+    Form::number(alloc, columns, i128::from(n))
 }
 
 /// Adds the rows that a column is in a range.
@@ -63,8 +62,7 @@ fn add_box(
         [] => Ok(()),
         [range, rest @ ..] => {
             add_range(alloc, columns, j, range.0, range.1, out)?;
-            add_box(alloc, columns, j + 1, rest, out)?;
-            Ok(())
+            add_box(alloc, columns, j + 1, rest, out)
         }
     }
 }
@@ -107,7 +105,7 @@ pub fn positive_question(alloc: Global, nest: &Nest, modulus: &Form) -> Result<L
 {
     let columns = nest.context.columns();
     let mut rows = context_rows(alloc, nest)?;
-    let zero = number(alloc, columns, 0)?;
+    let zero = Form::number(alloc, columns, 0)?;
     add_gap(alloc, columns, modulus, &zero, 0, &mut rows)?;
     Ok(Long::new(columns, rows))
 }
@@ -142,8 +140,7 @@ fn value_form(alloc: Global, columns: u32, modulus: &Form, p: &[i64]) -> Result<
 {
     words_are_near(p);
     let value = value_at(modulus, p);
-    let made = number(alloc, columns, value)?;
-    Ok(made)
+    Form::number(alloc, columns, value)
 }
 
 /// The question whether a modulus is greater somewhere in the context than at p.
@@ -176,7 +173,7 @@ pub fn one_system(alloc: Global, nest: &Nest, modulus: &Form) -> Result<Long, Al
     ensures rows { IfOk result (λ s. All (IsRow s.columns) s.rows) }
 {
     let columns = nest.context.columns();
-    let one = number(alloc, columns, 1)?;
+    let one = Form::number(alloc, columns, 1)?;
     let mut rows = Items::new(alloc);
     add_equal(alloc, columns, modulus, &one, &mut rows)?;
     Ok(Long::new(columns, rows))

@@ -13,10 +13,9 @@ ghost use Rattle.affc_questions.specs.Sizes.{IsBroad};
 ghost use Rattle.affc_questions.specs.Tails.{distance_tail, shown_tail};
 
 use crate::image::image_of;
-use crate::rows::{add_equal, add_gap, minus, number};
-use affc_order::columns::spread;
+use crate::rows::{add_equal, add_gap, minus};
 use affc_quast::rows::copied;
-use affc_rows::{Form, FormFault};
+use affc_rows::Form;
 use affc_system::PairSystem;
 use affc_system::system::value_at;
 use sqlite_items::Items;
@@ -42,8 +41,7 @@ fn add_differences(
             [y, more_ys @ ..] => {
                 let made = minus(alloc, columns, x, y)?;
                 out.push(made)?;
-                add_differences(alloc, columns, more_xs, more_ys, out)?;
-                Ok(())
+                add_differences(alloc, columns, more_xs, more_ys, out)
             }
         },
     }
@@ -73,8 +71,7 @@ fn distance(
     let mut images = Vec::new(alloc);
     add_differences(alloc, columns, xs, ys, &mut images)?;
     let row = plain(row)?;
-    let made = image_of(alloc, columns, images.as_slice(), &row)?;
-    Ok(made)
+    image_of(alloc, columns, images.as_slice(), &row)
 }
 
 /// Adds the rows that two elements lie apart along none of these rows.
@@ -92,10 +89,9 @@ fn add_agree(
         [row, rest @ ..] => {
             let columns = pair.system.columns();
             let apart = distance(alloc, columns, row, pair.x.as_slice(), pair.y.as_slice())?;
-            let zero = number(alloc, columns, 0)?;
+            let zero = Form::number(alloc, columns, 0)?;
             add_equal(alloc, columns, &apart, &zero, out)?;
-            add_agree(alloc, pair, rest, out)?;
-            Ok(())
+            add_agree(alloc, pair, rest, out)
         }
     }
 }
@@ -115,9 +111,7 @@ fn over_columns(alloc: Global, columns: u32, modulus: &Form) -> Result<Form, All
     ensures value { IfOk result (λ f. f ≡ over_columns columns modulus.now) }
     ensures broad { IfOk result (λ f. IsBroad columns f) }
 {
-    let behind = columns - modulus.coefs.len() as u32;
-    let made = spread(alloc, modulus, 0, 0, behind)?;
-    Ok(made)
+    modulus.padded(alloc, columns)
 }
 
 /// A modulus less 1, over more columns.
@@ -127,9 +121,8 @@ fn less_one(alloc: Global, columns: u32, modulus: &Form) -> Result<Form, AllocEr
     ensures broad { IfOk result (λ f. IsBroad columns f) }
 {
     let most = over_columns(alloc, columns, modulus)?;
-    let one = number(alloc, columns, 1)?;
-    let made = minus(alloc, columns, &most, &one)?;
-    Ok(made)
+    let one = Form::number(alloc, columns, 1)?;
+    minus(alloc, columns, &most, &one)
 }
 
 /// The row `- apart - most`.
@@ -139,11 +132,7 @@ fn turned(alloc: Global, columns: u32, apart: &Form, most: &Form) -> Result<Form
     requires second { IsBroad columns most.now }
     ensures { IfOk result (λ f. f ≡ mixed_form (negsuc 0) apart.now (negsuc 0) most.now) }
 {
-    match apart.scale_add(alloc, -1, most, -1) {
-        Ok(form) => Ok(form),
-        Err(FormFault::Range) => unreachable!(),
-        Err(FormFault::Memory) => Err(AllocError),
-    }
+    Form::mixture(alloc, -1, apart, -1, most)
 }
 
 /// Adds the row that x lies behind y by at least the modulus to the first rows, and that y lies behind x to the second ones.
@@ -222,7 +211,7 @@ fn add_shown(
 {
     let columns = pair.system.columns();
     let apart = distance(alloc, columns, row, xs, ys)?;
-    let one = number(alloc, columns, 1)?;
+    let one = Form::number(alloc, columns, 1)?;
     let less = less_one(alloc, columns, modulus)?;
     add_equal(alloc, columns, &apart, &less, out)?;
     add_gap(alloc, columns, &one, &apart, 0, out)

@@ -5,8 +5,7 @@ ghost use Rattle.affc_system.specs.Systems.{IsRow};
 ghost use Rattle.affc_order.specs.Posed.{form_at};
 ghost use Rattle.affc_life.specs.Composed.{AreImages};
 
-use affc_order::columns::spread;
-use affc_rows::{Form, FormFault};
+use affc_rows::Form;
 use std::alloc::{AllocError, Global};
 
 /// The form with each of its columns replaced by its image, over so many columns.
@@ -20,15 +19,7 @@ pub(crate) fn image_of(
     requires row { IsRow (length images.now) form.now }
     ensures { IfOk result (λ f. f ≡ form_at columns images.now form.now) }
 {
-    if images.is_empty() {
-        let zeros = spread(alloc, form, 0, 0, columns)?;
-        return Ok(zeros);
-    }
-    match form.compose(alloc, images) {
-        Ok(made) => Ok(made),
-        Err(FormFault::Range) => unreachable!(),
-        Err(FormFault::Memory) => Err(AllocError),
-    }
+    form.at_images(alloc, columns, images)
 }
 
 /// Adds these forms, each with its columns replaced.

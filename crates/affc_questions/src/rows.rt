@@ -1,29 +1,16 @@
 //! Rows of comparisons between forms.
-ghost use Rattle.std.specs.Prelude.{◌≡◌, ◌≤◌, ◌++◌, ◌∷◌, [], pos, negsuc, length, IfOk, OnOk};
+ghost use Rattle.std.specs.Prelude.{◌≡◌, ◌≤◌, ◌++◌, ◌∷◌, [], pos, negsuc, IfOk, OnOk};
 ghost use Rattle.std.specs.List.{All};
 ghost use Rattle.affc_rows.specs.Forms.{mixed_form};
 ghost use Rattle.affc_ast.specs.declared.tree.Rel.TheVariants.{Equal};
-ghost use Rattle.affc_nest.specs.Domains.{gap_row, compare_rows, number_form};
+ghost use Rattle.affc_nest.specs.Domains.{gap_row, compare_rows};
 ghost use Rattle.affc_quast.specs.Leaves.{negated};
 ghost use Rattle.affc_sched.specs.Questions.{equal_rows};
 ghost use Rattle.affc_questions.specs.Sizes.{IsBroad};
 
-use affc_order::columns::spread;
-use affc_rows::{Form, FormFault};
-use smallvec::SmallVec;
+use affc_rows::Form;
 use sqlite_items::Items;
 use std::alloc::{AllocError, Global};
-
-/// The form of a number over so many columns.
-pub(crate) fn number(alloc: Global, columns: u32, n: i128) -> Result<Form, AllocError>
-    ensures { IfOk result (λ f. f ≡ number_form columns n) }
-{
-    let empty = Form {
-        coefs: SmallVec::new(alloc),
-        constant: n,
-    };
-    spread(alloc, &empty, 0, 0, columns)
-}
 
 /// One form less another.
 #[tactic(auto, using(crate::proofs::BroadLemmas::not_too_wide))]
@@ -32,25 +19,16 @@ pub(crate) fn minus(alloc: Global, columns: u32, a: &Form, b: &Form) -> Result<F
     requires second { IsBroad columns b.now }
     ensures { IfOk result (λ f. f ≡ mixed_form (pos 1) a.now (negsuc 0) b.now) }
 {
-    match a.scale_add(alloc, 1, b, -1) {
-        Ok(form) => Ok(form),
-        Err(FormFault::Range) => unreachable!(),
-        Err(FormFault::Memory) => Err(AllocError),
-    }
+    Form::mixture(alloc, 1, a, -1, b)
 }
 
 /// The row `b - a - k`.
 fn gap(alloc: Global, columns: u32, a: &Form, b: &Form, k: u32) -> Result<Form, AllocError>
     requires first { IsBroad columns a.now }
     requires second { IsBroad columns b.now }
-    requires step { k ≤ 1 }
     ensures { IfOk result (λ f. f ≡ gap_row a.now b.now k) }
 {
-    let Form { coefs, constant } = minus(alloc, columns, b, a)?;
-    Ok(Form {
-        coefs,
-        constant: constant - i128::from(k),
-    })
+    Form::gap(alloc, a, b, k)
 }
 
 /// Adds the row `b - a - k`.
@@ -107,18 +85,17 @@ pub(crate) fn add_equals(
             [] => Ok(()),
             [g, more_gs @ ..] => {
                 add_equal(alloc, columns, f, g, out)?;
-                add_equals(alloc, columns, more_fs, more_gs, out)?;
-                Ok(())
+                add_equals(alloc, columns, more_fs, more_gs, out)
             }
         },
     }
 }
 
 /// The row that says that a form is below 0.
-pub(crate) fn negated(alloc: Global, columns: u32, form: &Form) -> Result<Form, AllocError>
+pub(crate) fn below_zero(alloc: Global, columns: u32, form: &Form) -> Result<Form, AllocError>
     requires { IsBroad columns form.now }
     ensures { IfOk result (λ f. f ≡ negated form.now) }
 {
-    let zero = number(alloc, columns, 0)?;
+    let zero = Form::number(alloc, columns, 0)?;
     gap(alloc, columns, form, &zero, 1)
 }

@@ -1,8 +1,9 @@
-use Rattle.std.proofs.Common.{◌≡◌, rules, sym, ap, subst, ◌∙◌}
+use Rattle.std.proofs.Common.{◌≡◌, to_z, of_z, rules, sym, ap, subst, ◌∙◌}
 use Rattle.std.specs.Prelude.{FitsSigned}
 use Rattle.std.specs.Int.{w128}
 use Rattle.std.proofs.lemmas.Int.{to_z-of_z}
-use Rattle.affc_rows.specs.Forms.{value}
+use Rattle.std.proofs.lemmas.Result.{IfOk-weaker}
+use Rattle.affc_rows.specs.Forms.{Affine, value}
 use Rattle.affc_nest.specs.Domains.{number_form}
 use Rattle.affc_questions.specs.Sizes.{IsBroad}
 use Rattle.affc_questions.proofs.BroadLemmas.{number_broad}
@@ -14,11 +15,11 @@ value_at-value-requires-clause-fits c = modulus_fits c.args.columns c.args.modul
 
 pub returns : goal.returns
 returns c =
+    let n = c.args.columns in
+    let v = value c.args.modulus.now c.args.p.now in
     let fit : FitsSigned w128 c.value_at-value.result = search rules in
-    let made : c.in_ok-made.made ≡ number_form c.args.columns c.value_at-value.result = simp to_z-of_z at c.in_ok-made.ensures in
-    let is : c.in_ok-made.made ≡ number_form c.args.columns (value c.args.modulus.now c.args.p.now) = made ∙ ap (number_form c.args.columns) c.value_at-value.ensures in
+    let is : (f : Affine) → f ≡ number_form n (to_z w128 (of_z w128 c.value_at-value.result)) → f ≡ number_form n v = λ f e. e ∙ ap (number_form n) (to_z-of_z w128 c.value_at-value.result fit ∙ c.value_at-value.ensures) in
     record {
-      value = is;
-      broad = subst (IsBroad c.args.columns) (sym is)
-          (number_broad c.args.columns (value c.args.modulus.now c.args.p.now) (value_broad c.args.columns c.args.modulus.now c.args.p.now c.requires.few c.requires.modulus c.words_are_near.ensures));
+      value = IfOk-weaker c.number.result _ _ is c.number.ensures.value;
+      broad = IfOk-weaker c.number.result _ (IsBroad n) (λ f e. subst (IsBroad n) (sym (is f e)) (number_broad n v (value_broad n c.args.modulus.now c.args.p.now c.requires.few c.requires.modulus c.words_are_near.ensures))) c.number.ensures.value;
     }

@@ -1,4 +1,7 @@
 use Rattle.std.proofs.Common.{◌≡◌, sym, subst}
+use Rattle.std.proofs.lemmas.Result.{IfOk-weaker}
+use Rattle.affc_rows.specs.Forms.{Affine}
+use Rattle.affc_rows.specs.Vocabulary.{form_at}
 use Rattle.affc_conflicts.specs.Questions.{distance}
 use Rattle.affc_system.specs.Systems.{IsRow}
 use Rattle.affc_questions.specs.Sizes.{IsBroad}
@@ -18,12 +21,12 @@ image_of-requires-clause-row c =
 
 pub returns : goal.returns
 returns c =
-    let is : c.in_ok-made.made ≡ distance c.args.row.now c.args.xs.now c.args.ys.now =
-    distance_made c.args.columns c.args.row.now c.args.xs.now c.args.ys.now c.requires c.as_slice.result.now c.in_ok-row.row c.in_ok-made.made
+    let is : (f : Affine) → f ≡ form_at c.args.columns c.as_slice.result.now c.in_ok-row.row → f ≡ distance c.args.row.now c.args.xs.now c.args.ys.now =
+    λ f e. distance_made c.args.columns c.args.row.now c.args.xs.now c.args.ys.now c.requires c.as_slice.result.now c.in_ok-row.row f
     (images_made c.args.columns c.args.row.now c.args.xs.now c.args.ys.now c.requires c.as_slice.result.now c.add_differences.new.out.items c.new-images.result.items c.as_slice.ensures.value c.in_ok-add_differences.ensures c.new-images.ensures.items)
-    c.in_ok-row.ensures c.in_ok-made.ensures in
+    c.in_ok-row.ensures e in
     record {
-      value = is;
-      broad = subst (IsBroad c.args.columns) (sym is) (distance_broad c.args.columns c.args.row.now c.args.xs.now c.args.ys.now c.requires);
-      row = subst (IsRow c.args.columns) (sym is) (distance_row c.args.columns c.args.row.now c.args.xs.now c.args.ys.now c.requires);
+      value = IfOk-weaker c.image_of.result _ _ is c.image_of.ensures;
+      broad = IfOk-weaker c.image_of.result _ (IsBroad c.args.columns) (λ f e. subst (IsBroad c.args.columns) (sym (is f e)) (distance_broad c.args.columns c.args.row.now c.args.xs.now c.args.ys.now c.requires)) c.image_of.ensures;
+      row = IfOk-weaker c.image_of.result _ (IsRow c.args.columns) (λ f e. subst (IsRow c.args.columns) (sym (is f e)) (distance_row c.args.columns c.args.row.now c.args.xs.now c.args.ys.now c.requires)) c.image_of.ensures;
     }
