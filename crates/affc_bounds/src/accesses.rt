@@ -38,8 +38,7 @@ fn add_ranges(out: &mut BoxOf, ranges: &[(i64, i64)]) -> Result<(), AllocError>
         [] => Ok(()),
         [range, rest @ ..] => {
             out.push(range.0, range.1)?;
-            add_ranges(out, rest)?;
-            Ok(())
+            add_ranges(out, rest)
         }
     }
 }
@@ -240,8 +239,7 @@ fn in_entry(
         entry,
         ranges: &ranges,
     };
-    let found = in_accesses(alloc, &look, 0, entry.accesses.as_slice(), budget)?;
-    Ok(found)
+    in_accesses(alloc, &look, 0, entry.accesses.as_slice(), budget)
 }
 
 /// The first fault among the accesses of these entries.

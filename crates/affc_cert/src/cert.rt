@@ -30,7 +30,7 @@ pub enum CertFault {
 }
 
 /// Why a certificate isn't written.
-#[derive(Debug, Clone, Copy, PartialEq, Eq, Error)]
+#[derive(Debug, Clone, Copy, Error)]
 pub enum WriteFault {
     #[error("a number doesn't fit 64 bits")]
     Wide,

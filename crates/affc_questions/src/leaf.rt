@@ -99,8 +99,7 @@ fn add_named(
     lists.append(&mut late)?;
     add_each(alloc, leaf.columns, Items::from_vec(path), lists, out)?;
     let entries = nest.entries.as_slice();
-    add_all_between(alloc, nest, reader, load, leaf, named, entries, out)?;
-    Ok(())
+    add_all_between(alloc, nest, reader, load, leaf, named, entries, out)
 }
 
 /// Adds the questions of a leaf that names an instance.

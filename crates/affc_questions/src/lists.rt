@@ -7,7 +7,7 @@ ghost use Rattle.affc_questions.specs.Listed.{behind, sides, joined};
 ghost use Rattle.affc_products.specs.Groups.{group_systems};
 ghost use Rattle.affc_questions.specs.Sizes.{IsBroad};
 
-use crate::rows::{add_gap, negated};
+use crate::rows::{add_gap, below_zero};
 use affc_products::Group;
 use affc_rows::Form;
 use sqlite_items::Items;
@@ -17,14 +17,12 @@ use std::alloc::{AllocError, Global};
 pub(crate) fn add_list(rows: Items<Form>, out: &mut Vec<Items<Form>>) -> Result<(), AllocError>
     ensures { OnOk result (out.new.items ≡ out.old.items ++ rows ∷ []) }
 {
-    let Ok(()) = out.push(rows) else {
-        return Err(AllocError);
-    };
+    out.push(rows)?;
     Ok(())
 }
 
 /// Adds for each form the row that says that it is below 0.
-pub(crate) fn add_negated(
+pub(crate) fn add_below_zero(
     alloc: Global,
     columns: u32,
     forms: &[Form],
@@ -36,12 +34,11 @@ pub(crate) fn add_negated(
     match forms {
         [] => Ok(()),
         [form, rest @ ..] => {
-            let row = negated(alloc, columns, form)?;
+            let row = below_zero(alloc, columns, form)?;
             let mut rows = Items::new(alloc);
             rows.push(row)?;
             add_list(rows, out)?;
-            add_negated(alloc, columns, rest, out)?;
-            Ok(())
+            add_below_zero(alloc, columns, rest, out)
         }
     }
 }
@@ -60,8 +57,7 @@ fn add_less(
 {
     let mut rows = Items::new(alloc);
     add_gap(alloc, columns, a, b, 1, &mut rows)?;
-    add_list(rows, out)?;
-    Ok(())
+    add_list(rows, out)
 }
 
 /// Adds for each two forms in turn the row that the first is greater, and the row that it is less.
@@ -83,8 +79,7 @@ pub(crate) fn add_sides(
             [g, more_gs @ ..] => {
                 add_less(alloc, columns, g, f, out)?;
                 add_less(alloc, columns, f, g, out)?;
-                add_sides(alloc, columns, more_fs, more_gs, out)?;
-                Ok(())
+                add_sides(alloc, columns, more_fs, more_gs, out)
             }
         },
     }

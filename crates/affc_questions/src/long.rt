@@ -60,8 +60,7 @@ fn add_all(system: &mut System, rows: &[Form]) -> Result<(), AllocError>
         [row, rest @ ..] => {
             let row = row.clone()?;
             add_row(system, row)?;
-            add_all(system, rest)?;
-            Ok(())
+            add_all(system, rest)
         }
     }
 }

@@ -14,7 +14,7 @@ ghost use Rattle.affc_questions.specs.Asked.{IsLeafOf, IsWriter, IsInstanceOf};
 ghost use Rattle.affc_questions.specs.Listed.{negations, sides, own_path, own_columns, images, astray_lists, late_lists};
 
 use crate::image::add_images;
-use crate::lists::{add_list, add_negated, add_sides};
+use crate::lists::{add_below_zero, add_list, add_sides};
 use crate::rows::add_equals;
 use affc_life::columns::{add_padded, columns_from};
 use affc_life::stores::{loops_round, params_in};
@@ -81,7 +81,7 @@ fn add_outside(
 {
     let mut made = Vec::new(alloc);
     add_images(alloc, columns, images, rows, &mut made)?;
-    add_negated(alloc, columns, made.as_slice(), out)
+    add_below_zero(alloc, columns, made.as_slice(), out)
 }
 
 /// Adds the rows that the instance with these images writes elsewhere than what is read.

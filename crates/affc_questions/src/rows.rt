@@ -92,7 +92,7 @@ pub(crate) fn add_equals(
 }
 
 /// The row that says that a form is below 0.
-pub(crate) fn negated(alloc: Global, columns: u32, form: &Form) -> Result<Form, AllocError>
+pub(crate) fn below_zero(alloc: Global, columns: u32, form: &Form) -> Result<Form, AllocError>
     requires { IsBroad columns form.now }
     ensures { IfOk result (λ f. f ≡ negated form.now) }
 {

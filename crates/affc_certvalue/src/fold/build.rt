@@ -92,8 +92,7 @@ fn mark(alloc: Global, value: &Value) -> Result<Option<CertLeast>, AllocError>
     if value.is_null() {
         return Ok(None);
     }
-    let found = witness(alloc, value)?;
-    Ok(Some(found))
+    Ok(Some(witness(alloc, value)?))
 }
 
 /// The modulus that a value is.
@@ -143,9 +142,7 @@ fn array_id(value: &Value) -> Option<ArrayId>
     ensures { IfSome result (λ a. whole_value (pos a.0) ≡ view value.now) }
 {
     let number = whole(value)?;
-    let Ok(number) = u32::try_from(number) else {
-        return None;
-    };
+    let number = u32::try_from(number).ok()?;
     Some(ArrayId(number))
 }
 

@@ -6,7 +6,7 @@ ghost use Rattle.std.specs.Prelude.{◌≡◌, option_map, pos, Some};
 
 use crate::fold::layout::Temporary;
 use crate::judge::{
-    any_verdict, counted_numbers_verdict, form_verdict, numbers_verdict, size_verdict,
+    any_verdict, coefs_verdict, counted_numbers_verdict, form_verdict, numbers_verdict,
 };
 use crate::keys::has_keys;
 use crate::verdict::Verdict;
@@ -21,18 +21,6 @@ const MOST_COEFFICIENT: i64 = 1 << 30;
 /// The greatest constant of a modulus.
 const MOST_CONSTANT: i64 = 1 << 55;
 
-/// The verdict on entries of a basis.
-#[tactic(auto, using(crate::proofs::Steps::list_steps))]
-fn entries_among(items: &[Value]) -> Verdict
-    ensures { result ≡ all_of (within (pos 256)) (items_view items.now) }
-{
-    let mut worst = Verdict::Fine;
-    for value in items {
-        worst = worst.and(size_verdict(value, MOST_ENTRY));
-    }
-    worst
-}
-
 /// The verdict on a row of a basis.
 #[tactic(auto, using(crate::proofs::Lengths::length_steps))]
 fn row_verdict(value: &Value, count: usize) -> Verdict
@@ -44,7 +32,7 @@ fn row_verdict(value: &Value, count: usize) -> Verdict
     if items.len() != count {
         return Verdict::Shape;
     }
-    entries_among(items.as_slice())
+    coefs_verdict(items.as_slice(), MOST_ENTRY)
 }
 
 /// The verdict on rows of a basis.

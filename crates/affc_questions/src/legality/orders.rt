@@ -54,8 +54,7 @@ fn add_pair(
     ensures { OnOk result (AreAdded out.old.items out.new.items (pair_questions nest.now from.now.entry.now to.now.entry.now orders.now.schedule.now from.now.access.now to.now.access.now)) }
 {
     let pair = pair_rows(alloc, nest, from.entry, to.entry, from.access, to.access)?;
-    add_product(alloc, pair, orders.earlier, orders.later, out)?;
-    Ok(())
+    add_product(alloc, pair, orders.earlier, orders.later, out)
 }
 
 /// Whether an instance with the second access can depend on one with the first: they are of one array, and one of them stores.
@@ -96,8 +95,7 @@ fn add_touch(
     if !may_depend(from, to.access, to.stores) {
         return Ok(());
     }
-    add_pair(alloc, nest, from, to, orders, out)?;
-    Ok(())
+    add_pair(alloc, nest, from, to, orders, out)
 }
 
 /// Adds the questions on an access and these last ones of a living statement.
@@ -126,8 +124,7 @@ fn add_accesses(
                 stores: rest.is_empty(),
             };
             add_touch(alloc, nest, from, &to, orders, out)?;
-            add_accesses(alloc, nest, from, b, rest, orders, out)?;
-            Ok(())
+            add_accesses(alloc, nest, from, b, rest, orders, out)
         }
     }
 }
@@ -161,8 +158,7 @@ fn add_living(
         later: later.as_slice(),
     };
     let accesses = b.accesses.as_slice();
-    add_accesses(alloc, nest, from, b, accesses, &orders, out)?;
-    Ok(())
+    add_accesses(alloc, nest, from, b, accesses, &orders, out)
 }
 
 /// Adds the questions on an access and those of a statement.
@@ -185,8 +181,7 @@ fn add_statement(
     if !may_any_depend(from, b.accesses.as_slice()) {
         return Ok(());
     }
-    add_living(alloc, nest, schedule, from, b, out)?;
-    Ok(())
+    add_living(alloc, nest, schedule, from, b, out)
 }
 
 /// Adds the questions on an access and those of these statements.
@@ -207,8 +202,7 @@ fn add_statements(
         [] => Ok(()),
         [entry, rest @ ..] => {
             add_statement(alloc, nest, schedule, from, entry, out)?;
-            add_statements(alloc, nest, schedule, from, rest, out)?;
-            Ok(())
+            add_statements(alloc, nest, schedule, from, rest, out)
         }
     }
 }
@@ -236,8 +230,7 @@ fn add_from_accesses(
             };
             let entries = nest.entries.as_slice();
             add_statements(alloc, nest, schedule, &from, entries, out)?;
-            add_from_accesses(alloc, nest, schedule, a, rest, out)?;
-            Ok(())
+            add_from_accesses(alloc, nest, schedule, a, rest, out)
         }
     }
 }
@@ -258,8 +251,7 @@ fn add_from(
         return Ok(());
     }
     let accesses = a.accesses.as_slice();
-    add_from_accesses(alloc, nest, schedule, a, accesses, out)?;
-    Ok(())
+    add_from_accesses(alloc, nest, schedule, a, accesses, out)
 }
 
 /// Adds the questions from these statements.
@@ -278,8 +270,7 @@ fn add_all(
         [] => Ok(()),
         [entry, rest @ ..] => {
             add_from(alloc, nest, schedule, entry, out)?;
-            add_all(alloc, nest, schedule, rest, out)?;
-            Ok(())
+            add_all(alloc, nest, schedule, rest, out)
         }
     }
 }
@@ -298,8 +289,7 @@ fn add_schedule(
         Schedule::Source => Ok(()),
         Schedule::Time { .. } => {
             let entries = nest.entries.as_slice();
-            add_all(alloc, nest, schedule, entries, out)?;
-            Ok(())
+            add_all(alloc, nest, schedule, entries, out)
         }
     }
 }

@@ -39,8 +39,7 @@ fn add_alternatives(
         [order, rest @ ..] => {
             let rows = alternative(alloc, columns, order)?;
             out.push(rows)?;
-            add_alternatives(alloc, columns, rest, out)?;
-            Ok(())
+            add_alternatives(alloc, columns, rest, out)
         }
     }
 }

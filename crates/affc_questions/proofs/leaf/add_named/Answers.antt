@@ -1,4 +1,5 @@
 use Rattle.std.proofs.Common.{◌++◌, map, flat_map, ap, ap₂, ◌∙◌}
+use Rattle.std.proofs.lemmas.Result.{on_ok_weaker}
 use Rattle.affc_quast.specs.SeenLeaves.{leaf_seen}
 use Rattle.affc_life.specs.Drafts.{posed}
 use Rattle.affc_questions.specs.Listed.{behind, own_path, astray_lists, late_lists, all_between}
@@ -23,8 +24,9 @@ returns c =
     let old = flat_map group_systems c.args.out.now.items in
     let mid = flat_map group_systems c.add_each.new.out.items in
     let lists = c.append.new.self.items in
-    lists_made (behind leaf.columns (own_path reader leaf)) old mid (flat_map group_systems c.add_all_between.new.out.items) (all_between nest reader load leaf a nest.entries)
+    on_ok_weaker c.add_all_between.result
+    (λ e. lists_made (behind leaf.columns (own_path reader leaf)) old mid (flat_map group_systems c.add_all_between.new.out.items) (all_between nest reader load leaf a nest.entries)
     (astray_lists nest load leaf.columns a.iterators c.args.writer.now c.args.store.now) (late_lists nest reader leaf.columns a) lists
     (c.in_ok-append.ensures.items ∙ ap₂ (λ xs ys. xs ++ ys) c.in_ok-lists.ensures c.in_ok-late.ensures)
     (c.in_ok-add_each.ensures ∙ ap (λ f. old ++ map (behind leaf.columns f) lists) (c.from_vec.ensures ∙ c.in_ok-path.ensures))
-    (c.in_ok-add_all_between.ensures ∙ ap (λ es. mid ++ all_between nest reader load leaf a es) c.as_slice-entries.ensures)
+    (e ∙ ap (λ es. mid ++ all_between nest reader load leaf a es) c.as_slice-entries.ensures)) c.add_all_between.ensures

@@ -1,5 +1,5 @@
 use Rattle.std.proofs.Common.{length}
-use Rattle.affc_questions.proofs.lists.+add_negated.Given as goal
+use Rattle.affc_questions.proofs.lists.+add_below_zero.Given as goal
 
-abbrev pub decreases-add_negated : goal.decreases-add_negated
-decreases-add_negated l = length l.forms.now
+abbrev pub decreases-add_below_zero : goal.decreases-add_below_zero
+decreases-add_below_zero l = length l.forms.now

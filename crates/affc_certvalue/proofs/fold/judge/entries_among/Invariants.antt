@@ -1,7 +1,0 @@
-use Rattle.std.proofs.Common.{◌≡◌, drop, pos}
-use Rattle.serde_json.specs.View.{items_view}
-use Rattle.affc_certvalue.specs.Verdicts.{worse, all_of, within}
-use Rattle.affc_certvalue.proofs.fold.judge.entries_among.Given as goal
-
-abbrev pub invariant-loop-value : goal.invariant-loop-value
-invariant-loop-value l = worse l.worst (all_of (within (pos 256)) (items_view (drop l.value-index l.items))) ≡ all_of (within (pos 256)) (items_view l.items)
