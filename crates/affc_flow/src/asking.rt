@@ -88,8 +88,7 @@ pub fn lexed(
     if !are_sides(columns, gs) {
         return Err(Unasked::Large);
     }
-    let made = lex_systems(alloc, columns, n, fs, gs, tie)?;
-    Ok(made)
+    Ok(lex_systems(alloc, columns, n, fs, gs, tie)?)
 }
 
 /// So many columns from one on.
@@ -99,8 +98,7 @@ pub fn column_forms(alloc: Global, columns: u32, first: u32, n: u32) -> Result<V
     if first > 64 || n > 64 {
         return Err(Unasked::Large);
     }
-    let made = columns_from(alloc, columns, first, n)?;
-    Ok(made)
+    Ok(columns_from(alloc, columns, first, n)?)
 }
 
 /// The columns of a path, and so many behind.
@@ -234,8 +232,7 @@ fn add_earlier(
         path: &system,
         ranges: &ranges,
     };
-    add_orders(&there, &[], orders.as_slice(), out)?;
-    Ok(())
+    add_orders(&there, &[], orders.as_slice(), out)
 }
 
 /// Adds the questions whether an instance of the statement is later than the one that is chosen and earlier than the load.
@@ -261,8 +258,7 @@ fn add_between(
         path: &system,
         ranges: &ranges,
     };
-    add_both(&there, later.as_slice(), orders.as_slice(), out)?;
-    Ok(())
+    add_both(&there, later.as_slice(), orders.as_slice(), out)
 }
 
 // ---- With all statements that store the array.
@@ -301,10 +297,7 @@ fn add_earlier_of(
 {
     match store_for(entry, load.access.array.0) {
         None => Ok(()),
-        Some(store) => {
-            add_earlier(alloc, load, place, entry, store, out)?;
-            Ok(())
-        }
+        Some(store) => { add_earlier(alloc, load, place, entry, store, out) }
     }
 }
 
@@ -326,8 +319,7 @@ pub fn add_all_earlier(
         _ => {
             let (first, others) = entries.split_at(entries.len() / 2);
             add_all_earlier(alloc, load, place, first, out)?;
-            add_all_earlier(alloc, load, place, others, out)?;
-            Ok(())
+            add_all_earlier(alloc, load, place, others, out)
         }
     }
 }
@@ -347,10 +339,7 @@ fn add_between_of(
 {
     match store_for(entry, load.access.array.0) {
         None => Ok(()),
-        Some(store) => {
-            add_between(alloc, load, place, chosen, entry, store, out)?;
-            Ok(())
-        }
+        Some(store) => { add_between(alloc, load, place, chosen, entry, store, out) }
     }
 }
 
@@ -374,8 +363,7 @@ pub fn add_all_between(
         _ => {
             let (first, others) = entries.split_at(entries.len() / 2);
             add_all_between(alloc, load, place, chosen, first, out)?;
-            add_all_between(alloc, load, place, chosen, others, out)?;
-            Ok(())
+            add_all_between(alloc, load, place, chosen, others, out)
         }
     }
 }

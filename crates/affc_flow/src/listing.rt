@@ -29,8 +29,7 @@ fn add_same(
 {
     let mut system = place.path.clone()?;
     push_equal(alloc, &mut system, fs, gs)?;
-    push_question(system, place.ranges, out)?;
-    Ok(())
+    push_question(system, place.ranges, out)
 }
 
 /// Adds the questions whether the load's instance is earlier than the one that is chosen.
@@ -48,8 +47,7 @@ fn add_reader_earlier(
     let tie = load.reader.statement < chosen.writer.statement;
     let columns = place.path.columns();
     let orders = lexed(alloc, columns, n, own, chosen.forms, tie)?;
-    add_orders(place, &[], orders.as_slice(), out)?;
-    Ok(())
+    add_orders(place, &[], orders.as_slice(), out)
 }
 
 /// Adds the question whether the load's instance is the one that is chosen.
@@ -64,8 +62,7 @@ fn add_reader_same(
     ensures { OnOk result (map asked out.new.items ≡ map asked out.old.items ++ reader_same load.now.reader.now place.now.path.now place.now.ranges.now chosen.now.writer.now own.now chosen.now.forms.now) }
 {
     if load.reader.statement == chosen.writer.statement {
-        add_same(alloc, place, own, chosen.forms, out)?;
-        Ok(())
+        add_same(alloc, place, own, chosen.forms, out)
     } else {
         Ok(())
     }
@@ -85,8 +82,7 @@ fn add_not_earlier(
     let loops = count(load.reader.loops.len())?;
     let own = column_forms(alloc, place.path.columns(), params, loops)?;
     add_reader_earlier(alloc, load, place, chosen, own.as_slice(), out)?;
-    add_reader_same(alloc, load, place, chosen, own.as_slice(), out)?;
-    Ok(())
+    add_reader_same(alloc, load, place, chosen, own.as_slice(), out)
 }
 
 /// The columns of the parameters, and these forms behind them.
@@ -144,8 +140,7 @@ pub fn add_named(
         chosen,
         load.nest.entries.as_slice(),
         out,
-    )?;
-    Ok(())
+    )
 }
 
 /// Adds the questions of a leaf that names none.
@@ -159,10 +154,8 @@ pub fn add_input(
     ensures { OnOk result (map asked out.new.items ≡ map asked out.old.items ++ input_asked load.now.nest.now load.now.reader.now load.now.access.now place.now.path.now place.now.ranges.now) }
 {
     if is_temporary(load.nest, load.access.array) {
-        add_question(place, &[], &[], out)?;
-        Ok(())
+        add_question(place, &[], &[], out)
     } else {
-        add_all_earlier(alloc, load, place, load.nest.entries.as_slice(), out)?;
-        Ok(())
+        add_all_earlier(alloc, load, place, load.nest.entries.as_slice(), out)
     }
 }

@@ -1,15 +1,13 @@
 -- The forms of times at light forms stay within the range of the code's numbers.
-use Rattle.std.proofs.Common.{◌≡◌, ℕ, zero, suc, ◌+◌, ◌*◌, ◌^◌, ◌<◌, ◌≤◌, ℤ, pos, ◌+ℤ◌, ◌*ℤ◌, List, [], ◌∷◌, length, map, get_or, replicate, refl, sym, ap, subst, ◌∙◌, inl, inr, arith}
+use Rattle.std.proofs.Common.{◌≡◌, ℕ, zero, suc, ◌+◌, ◌*◌, ◌^◌, ◌<◌, ◌≤◌, ℤ, pos, ◌+ℤ◌, ◌*ℤ◌, List, [], ◌∷◌, length, map, get_or, refl, ap, inl, inr, arith}
 use Rattle.std.specs.Prelude.{unsigned_abs}
 use Rattle.std.specs.List.{All}
-use Rattle.std.proofs.lemmas.Int.{ints}
 use Rattle.std.proofs.lemmas.List.Elements.{All-nil, All-cons, All-head, All-tail}
 use Rattle.std.proofs.Math.Nat.{mul-le-mul_left, mul-le-mul_right}
-use Rattle.affc_rows.specs.Forms.{Affine, dot, dot_magnitude, columns_of, column_of, constants_of, composed, composed_form, composed_magnitudes, composed_form_magnitudes, HaveColumns, TooWide}
+use Rattle.affc_rows.specs.Forms.{Affine, dot, dot_magnitude, columns_of, column_of, constants_of, composed, composed_magnitudes, composed_form_magnitudes, HaveColumns, TooWide}
 use Rattle.affc_rows.proofs.IntLemmas.{abs-add}
 use Rattle.affc_system.proofs.BoxLemmas.{product_within}
 use Rattle.affc_order.specs.Posed.{form_at}
-use Rattle.affc_order.specs.Spread.{spread}
 use Rattle.affc_quast.specs.Wide.{IsWide}
 use Rattle.affc_life.specs.Asked.{IsLight}
 use Rattle.affc_life.specs.Composed.{AreImages, IsSlight}
@@ -119,28 +117,5 @@ images_wide columns images are (f ∷ fs) h =
     All-cons (IsWide columns) (form_at columns images f) (map (form_at columns images) fs) (image_wide columns images are f (All-head (IsSlight (length images)) f fs h))
     (images_wide columns images are fs (All-tail (IsSlight (length images)) f fs h))
 
--- what is composed is over the images' columns, where there are images
-pub composed_is : (columns : ℕ) (images : List Affine) (f made : Affine) → AreImages columns images → (length images ≡ 0 → ⊥) → made ≡ composed_form f images → made ≡ form_at columns images f
-composed_is columns [] f made are some e = absurd (some refl)
-composed_is columns (g ∷ gs) f made are some e = e ∙ ap (λ n. form_at n (g ∷ gs) f) (All-head (IsLight columns) g gs are.light).width
-
-pub have_columns : (columns : ℕ) (images : List Affine) → AreImages columns images → HaveColumns (columns_of images) images
-have_columns columns [] are = All-nil (λ g. length g.coefs ≡ 0)
-have_columns columns (g ∷ gs) are =
-    subst (λ n. HaveColumns n (g ∷ gs)) (sym (All-head (IsLight columns) g gs are.light).width) (all_of (IsLight columns) (λ x. length x.coefs ≡ columns) (λ x l. l.width) (g ∷ gs) are.light)
-
--- and zeros where there are none
-pub none_is : (columns : ℕ) (images : List Affine) (f made : Affine) → length images ≡ 0 → IsSlight (length images) f → made ≡ spread 0 0 columns f → made ≡ form_at columns images f
-none_is columns (g ∷ gs) f made none slight e = absurd (omega (arith, none))
-none_is columns [] f made none slight e = e ∙ at_none f.coefs f.constant slight.width
-  where
-    zeros : (j n : ℕ) → composed [] [] j n ≡ replicate n (pos 0)
-    zeros j zero = refl
-    zeros j (suc n) = ap (λ cs. pos 0 ∷ cs) (zeros (suc j) n)
-
-    left : (z : ℤ) → pos 0 +ℤ z ≡ z
-    left z = omega (arith, ints)
-
-    at_none : (cs : List ℤ) (k : ℤ) → length cs ≡ 0 → spread 0 0 columns (record { coefs = cs; constant = k }) ≡ form_at columns [] (record { coefs = cs; constant = k })
-    at_none (c ∷ cs) k w = absurd (omega (arith, w))
-    at_none [] k w = λ i. record { coefs = sym (zeros 0 columns) i; constant = sym (left k) i }
+pub have_columns : (columns : ℕ) (images : List Affine) → AreImages columns images → HaveColumns columns images
+have_columns columns images are = all_of (IsLight columns) (λ x. length x.coefs ≡ columns) (λ x l. l.width) images are.light

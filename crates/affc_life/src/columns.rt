@@ -2,27 +2,10 @@
 ghost use Rattle.std.specs.Prelude.{◌≡◌, ◌+◌, ◌≤◌, ◌++◌, length, map, IfOk, OnOk};
 ghost use Rattle.std.specs.List.{All};
 ghost use Rattle.affc_trace.specs.Inverses.{columns_from};
-ghost use Rattle.affc_quast.specs.Leaves.{padded};
+ghost use Rattle.affc_rows.specs.Vocabulary.{padded};
 
 use affc_rows::Form;
-use smallvec::SmallVec;
 use std::alloc::{AllocError, Global};
-
-/// The form with as many zeros behind as make so many columns.
-fn wider(alloc: Global, columns: u32, form: &Form) -> Result<Form, AllocError>
-    requires { length form.now.coefs ≤ columns }
-    ensures { IfOk result (λ f. f ≡ padded columns form.now) }
-{
-    let behind = columns - form.coefs.len() as u32;
-    let mut coefs = SmallVec::from_slice(alloc, form.coefs.as_slice())?;
-    for _i in 0..behind {
-        coefs.push(0)?;
-    }
-    Ok(Form {
-        coefs,
-        constant: form.constant,
-    })
-}
 
 /// Adds forms, each with as many zeros behind as make so many columns.
 pub fn add_padded(
@@ -38,8 +21,7 @@ pub fn add_padded(
     match forms {
         [] => Ok(()),
         [form, rest @ ..] => {
-            let made = wider(alloc, columns, form)?;
-            out.push(made)?;
+            out.push(form.padded(alloc, columns)?)?;
             add_padded(alloc, columns, rest, out)
         }
     }
@@ -58,8 +40,7 @@ pub fn columns_from(
 {
     let mut made = Vec::new(alloc);
     for i in 0..n {
-        let form = Form::column(alloc, columns, first + i)?;
-        made.push(form)?;
+        made.push(Form::column(alloc, columns, first + i)?)?;
     }
     Ok(made)
 }

@@ -36,8 +36,7 @@ fn add_apart(
                 out.push(greater)?;
                 let mut equal = copied(alloc, rows)?;
                 add_equal(alloc, columns, f, g, &mut equal)?;
-                add_apart(alloc, columns, later_fs, later_gs, equal.as_slice(), out)?;
-                Ok(())
+                add_apart(alloc, columns, later_fs, later_gs, equal.as_slice(), out)
             }
         },
     }

@@ -22,10 +22,7 @@ fn add_tie(
     ensures { (columns : ℕ) → (fs gs : List Affine) → OnOk result (out.new.items ≡ out.old.items ++ map rows_in (lex_systems columns 0 fs gs equal.now tie)) }
 {
     if tie {
-        let rows = copied(alloc, equal)?;
-        let Ok(()) = out.push(rows) else {
-            return Err(AllocError);
-        };
+        out.push(copied(alloc, equal)?)?;
     }
     Ok(())
 }
@@ -55,9 +52,7 @@ pub(crate) fn add_lex(
     let (g, later_gs) = (&gs[0], &gs[1..]);
     let mut less = copied(alloc, equal)?;
     add_less(alloc, columns, f, g, &mut less)?;
-    let Ok(()) = out.push(less) else {
-        return Err(AllocError);
-    };
+    out.push(less)?;
     let mut both = copied(alloc, equal)?;
     add_equal(alloc, columns, f, g, &mut both)?;
     add_lex(
@@ -69,6 +64,5 @@ pub(crate) fn add_lex(
         both.as_slice(),
         tie,
         out,
-    )?;
-    Ok(())
+    )
 }

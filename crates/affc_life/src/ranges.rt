@@ -68,8 +68,7 @@ fn add_quotients(divisions: &[Division], ranges: &mut BoxOf) -> Result<(), Alloc
         [] => Ok(()),
         [division, rest @ ..] => {
             add_quotient(&division.form, division.by, ranges)?;
-            add_quotients(rest, ranges)?;
-            Ok(())
+            add_quotients(rest, ranges)
         }
     }
 }
@@ -83,8 +82,7 @@ fn add_ranges(more: &[(i64, i64)], out: &mut BoxOf) -> Result<(), AllocError>
         [] => Ok(()),
         [range, rest @ ..] => {
             out.push(range.0, range.1)?;
-            add_ranges(rest, out)?;
-            Ok(())
+            add_ranges(rest, out)
         }
     }
 }

@@ -140,7 +140,7 @@ pub fn stored_after(
     let mut names = Vec::new(alloc);
     add_padded(alloc, columns, named.forms.as_slice(), &mut names)?;
     let stores = columns_from(alloc, columns, leaf.columns, loops)?;
-    let orders = target_order(
+    target_order(
         alloc,
         nest,
         schedule,
@@ -149,8 +149,7 @@ pub fn stored_after(
         names.as_slice(),
         writer.statement,
         stores.as_slice(),
-    )?;
-    Ok(orders)
+    )
 }
 
 /// The rows that say that the schedule runs the store before the load.
@@ -171,7 +170,7 @@ pub fn stored_before(
     let columns = columns_in(leaf, writer);
     let stores = columns_from(alloc, columns, leaf.columns, loops)?;
     let loads = columns_from(alloc, columns, params, loops_round(reader))?;
-    let orders = target_order(
+    target_order(
         alloc,
         nest,
         schedule,
@@ -180,8 +179,7 @@ pub fn stored_before(
         stores.as_slice(),
         reader.statement,
         loads.as_slice(),
-    )?;
-    Ok(orders)
+    )
 }
 
 /// Adds the systems of a load, a leaf that names this instance, and a store.
@@ -212,15 +210,13 @@ pub(crate) fn add_store(
     let before = stored_before(alloc, nest, schedule, reader, leaf, writer)?;
     let columns = columns_in(leaf, writer);
     let factors = factors_between(alloc, columns, after, before, x.as_slice(), y.as_slice())?;
-    let Ok(()) = out.push(Draft {
+    out.push(Draft {
         columns,
         front,
         factors,
         ranges,
         x,
         y,
-    }) else {
-        return Err(AllocError);
-    };
+    })?;
     Ok(())
 }

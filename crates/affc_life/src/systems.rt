@@ -11,6 +11,7 @@ ghost use Rattle.affc_life.specs.Sizes.{IsLarge, AnyLarge};
 use crate::draft::Draft;
 use crate::fault::ClashFault;
 use affc_rows::Form;
+use affc_rows::vocabulary::copies;
 use affc_system::{PairSystem, RowFault, System};
 use sqlite_items::Items;
 use std::alloc::{AllocError, Global};
@@ -75,17 +76,8 @@ pub fn add_forms(forms: &[Form], out: &mut Vec<Form>) -> Result<(), AllocError>
     }
 }
 
-/// Copies of forms.
-fn forms_of(alloc: Global, forms: &[Form]) -> Result<Vec<Form>, AllocError>
-    ensures { IfOk result (λ v. v.items ≡ forms.now) }
-{
-    let mut out = Vec::new(alloc);
-    add_forms(forms, &mut out)?;
-    Ok(out)
-}
-
 /// The system of these four lists of rows, one behind the other, if they keep the limits.
-fn joined(
+fn system_of_four(
     alloc: Global,
     columns: u32,
     front: &[Form],
@@ -120,10 +112,10 @@ fn pair_of(
     ensures large { IfErr result (λ e. e ≡ ClashFault.Large → IsLarge (draft_by draft.now (chosen_rows first.now second.now third.now)).system) }
 {
     let front = draft.front.as_slice();
-    let system = joined(alloc, draft.columns, front, first, second, third)?;
+    let system = system_of_four(alloc, draft.columns, front, first, second, third)?;
     let ranges = draft.ranges.clone()?;
-    let x = forms_of(alloc, draft.x.as_slice())?;
-    let y = forms_of(alloc, draft.y.as_slice())?;
+    let x = copies(alloc, draft.x.as_slice())?;
+    let y = copies(alloc, draft.y.as_slice())?;
     Ok(PairSystem {
         system,
         ranges,

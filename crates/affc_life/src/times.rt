@@ -14,8 +14,7 @@ use crate::columns::columns_from;
 use crate::orders::add_lex;
 use crate::systems::add_forms;
 use affc_nest::Nest;
-use affc_order::columns::spread;
-use affc_rows::{Form, FormFault};
+use affc_rows::Form;
 use affc_trace::schedule::{Schedule, TimeMap};
 use sqlite_items::Items;
 use std::alloc::{AllocError, Global};
@@ -55,15 +54,7 @@ fn image_of(alloc: Global, columns: u32, images: &[Form], form: &Form) -> Result
     requires slight { IsSlight (length images.now) form.now }
     ensures { IfOk result (λ f. f ≡ form_at columns images.now form.now) }
 {
-    if images.is_empty() {
-        let zeros = spread(alloc, form, 0, 0, columns)?;
-        return Ok(zeros);
-    }
-    match form.compose(alloc, images) {
-        Ok(made) => Ok(made),
-        Err(FormFault::Range) => unreachable!(),
-        Err(FormFault::Memory) => Err(AllocError),
-    }
+    form.at_images(alloc, columns, images)
 }
 
 /// Adds these forms, each with its columns replaced.
@@ -81,8 +72,7 @@ fn add_images(
     match forms {
         [] => Ok(()),
         [form, rest @ ..] => {
-            let made = image_of(alloc, columns, images, form)?;
-            out.push(made)?;
+            out.push(image_of(alloc, columns, images, form)?)?;
             add_images(alloc, columns, images, rest, out)
         }
     }

@@ -67,8 +67,7 @@ fn add_writer(
     let (nest, schedule) = (asked.nest, asked.schedule);
     add_store(
         alloc, nest, schedule, reader, load, leaf, named, writer, store, out,
-    )?;
-    Ok(())
+    )
 }
 
 /// Adds the systems of a load, a leaf that names this instance, and these statements.
@@ -94,8 +93,7 @@ fn add_writers(
         [] => Ok(()),
         [writer, rest @ ..] => {
             add_writer(alloc, asked, reader, load, leaf, named, writer, out)?;
-            add_writers(alloc, asked, reader, load, leaf, named, rest, out)?;
-            Ok(())
+            add_writers(alloc, asked, reader, load, leaf, named, rest, out)
         }
     }
 }
@@ -119,8 +117,7 @@ fn add_leaf(
         None => Ok(()),
         Some(named) => {
             let writers = asked.nest.entries.as_slice();
-            add_writers(alloc, asked, reader, load, leaf, named, writers, out)?;
-            Ok(())
+            add_writers(alloc, asked, reader, load, leaf, named, writers, out)
         }
     }
 }
@@ -142,15 +139,11 @@ fn add_leaves(
 {
     match leaves {
         [] => Ok(()),
-        [leaf] => {
-            add_leaf(alloc, asked, reader, load, leaf, out)?;
-            Ok(())
-        }
+        [leaf] => { add_leaf(alloc, asked, reader, load, leaf, out) }
         _ => {
             let (first, others) = leaves.split_at(leaves.len() / 2);
             add_leaves(alloc, asked, reader, load, first, out)?;
-            add_leaves(alloc, asked, reader, load, others, out)?;
-            Ok(())
+            add_leaves(alloc, asked, reader, load, others, out)
         }
     }
 }
@@ -172,8 +165,7 @@ fn add_tree(
 {
     let columns = params_in(asked.nest) + loops_round(reader);
     let leaves = leaves(alloc, columns, tree)?;
-    add_leaves(alloc, asked, reader, load, leaves.as_slice(), out)?;
-    Ok(())
+    add_leaves(alloc, asked, reader, load, leaves.as_slice(), out)
 }
 
 /// Adds the systems of a load with this number.
@@ -198,10 +190,7 @@ fn add_load(
     }
     match trees.get(number) {
         None => Ok(()),
-        Some(tree) => {
-            add_tree(alloc, asked, reader, load, tree, out)?;
-            Ok(())
-        }
+        Some(tree) => { add_tree(alloc, asked, reader, load, tree, out) }
     }
 }
 
@@ -228,8 +217,7 @@ fn add_loads(
                 return Ok(());
             }
             add_load(alloc, asked, reader, trees, number, load, out)?;
-            add_loads(alloc, asked, reader, trees, number + 1, rest, out)?;
-            Ok(())
+            add_loads(alloc, asked, reader, trees, number + 1, rest, out)
         }
     }
 }
@@ -272,8 +260,7 @@ fn add_reader(
     }
     let own = trees_from(asked.nest.entries.as_slice(), reader.statement, trees);
     let accesses = reader.accesses.as_slice();
-    add_loads(alloc, asked, reader, own, 0, accesses, out)?;
-    Ok(())
+    add_loads(alloc, asked, reader, own, 0, accesses, out)
 }
 
 /// Adds the systems of the loads of these statements.
@@ -293,8 +280,7 @@ fn add_readers(
         [] => Ok(()),
         [reader, rest @ ..] => {
             add_reader(alloc, asked, trees, reader, out)?;
-            add_readers(alloc, asked, trees, rest, out)?;
-            Ok(())
+            add_readers(alloc, asked, trees, rest, out)
         }
     }
 }

@@ -38,8 +38,10 @@ returns t c =
     let as_few = c.requires.as_few in
     let later_fs : List Affine = take (length fs - 1) (drop 1 fs) in
     let later_gs : List Affine = take (length gs - 1) (drop 1 gs) in
-    lex_made c.args.columns n (n - 1) f g fs gs later_fs later_gs c.args.equal.now c.add_less.new.out c.add_equal.new.out c.args.tie c.args.out.now.items c.push.new.self.items c.add_lex.new.out.items
+    on_ok_weaker c.add_lex.result
+    (λ e. lex_made c.args.columns n (n - 1) f g fs gs later_fs later_gs c.args.equal.now c.add_less.new.out c.add_equal.new.out c.args.tie c.args.out.now.items c.push.new.self.items c.add_lex.new.out.items
     (omega (arith, h)) (first_and_rest fs f (omega (arith, h, few)) c.index-fs-0.is) (first_and_rest gs g (omega (arith, h, as_few)) c.index-gs-0.is)
     (c.in_ok-add_less.ensures ∙ ap (λ r. r ++ compare_rows Less f g) c.in_ok-less.ensures) (c.in_ok-add_equal.ensures ∙ ap (λ r. r ++ compare_rows Equal f g) c.in_ok-both.ensures)
-    c.in-Ok.ensures.items
-    (c.in_ok-add_lex.ensures ∙ ap (λ r. c.push.new.self.items ++ map rows_in (lex_systems c.args.columns (n - 1) later_fs later_gs r c.args.tie)) c.as_slice.ensures)
+    c.in_ok-push.ensures.items
+    (e ∙ ap (λ r. c.push.new.self.items ++ map rows_in (lex_systems c.args.columns (n - 1) later_fs later_gs r c.args.tie)) c.as_slice.ensures))
+    c.add_lex.ensures

@@ -1,4 +1,5 @@
 use Rattle.std.proofs.Common.{◌≡◌, ◌∷◌, [], ◌-◌, ◌++◌, FitsSigned, w64, length, take, drop, refl, rules, arith, ap}
+use Rattle.std.proofs.lemmas.Result.{on_ok_weaker}
 use Rattle.std.proofs.lemmas.Int.{to_z-of_z}
 use Rattle.affc_quast.specs.Leaves.{quotient_range}
 use Rattle.affc_life.proofs.LimitLemmas.{first_and_rest}
@@ -24,12 +25,14 @@ add_quotients-requires t c =
       ),
     )
 
-pub returns-in_ok-add_quotients-in-len1-up : goal.returns-in_ok-add_quotients-in-len1-up
-returns-in_ok-add_quotients-in-len1-up t c =
+pub returns-in_ok-add_quotient-in-len1-up : goal.returns-in_ok-add_quotient-in-len1-up
+returns-in_ok-add_quotient-in-len1-up t c =
     let ds = c.args.divisions.now in
     let d = c.division-item.result in
     let rest = take (length ds - 1) (drop 1 ds) in
     let is = first_and_rest ds d c.in-len1-up.len_at_least c.division-item.is in
     let fit_by : FitsSigned w64 c.division-item.result.by = search rules in
     let grown : c.add_quotient.new.ranges ≡ c.args.ranges.now ++ quotient_range c.args.ranges.now d.form d.by ∷ [] = simp to_z-of_z at c.in_ok-add_quotient-in-len1-up.ensures in
-    quotient_made c.args.ranges.now c.add_quotient.new.ranges ds rest d is (quotient_range c.args.ranges.now d.form d.by) refl grown c.add_quotients.new.ranges c.in_ok-add_quotients-in-len1-up.ensures
+    on_ok_weaker c.add_quotients.result
+    (quotient_made c.args.ranges.now c.add_quotient.new.ranges ds rest d is (quotient_range c.args.ranges.now d.form d.by) refl grown c.add_quotients.new.ranges)
+    c.add_quotients.ensures

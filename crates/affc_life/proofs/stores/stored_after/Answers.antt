@@ -1,4 +1,5 @@
 use Rattle.std.proofs.Common.{◌≡◌, ◌+◌, ◌≤◌, ℕ, length, arith, sym, subst, ◌∙◌}
+use Rattle.std.proofs.lemmas.Result.{IfOk-weaker}
 use Rattle.std.specs.List.{All}
 use Rattle.affc_quast.specs.SeenLeaves.{leaf_seen}
 use Rattle.affc_life.specs.Clashes.{named_posed, writer_posed}
@@ -42,9 +43,11 @@ target_order-requires-clause-second c =
 
 pub returns : goal.returns
 returns c =
-    order_made c.args.nest.now c.args.reader.now (leaf_seen c.args.leaf.now) c.args.writer.now c.columns_in-columns.result c.columns_in-columns.ensures c.args.schedule.now (named_posed c.args.nest.now c.args.reader.now (leaf_seen c.args.leaf.now) c.args.writer.now (posed c.args.named.now.statement c.args.named.now.forms)) c.as_slice-2.result.now
-    (writer_posed c.args.nest.now c.args.reader.now (leaf_seen c.args.leaf.now) c.args.writer.now) c.as_slice-3.result.now c.in_ok-orders.orders.items
+    IfOk-weaker c.target_order.result _ _
+    (λ v e. order_made c.args.nest.now c.args.reader.now (leaf_seen c.args.leaf.now) c.args.writer.now c.columns_in-columns.result c.columns_in-columns.ensures c.args.schedule.now (named_posed c.args.nest.now c.args.reader.now (leaf_seen c.args.leaf.now) c.args.writer.now (posed c.args.named.now.statement c.args.named.now.forms)) c.as_slice-2.result.now
+    (writer_posed c.args.nest.now c.args.reader.now (leaf_seen c.args.leaf.now) c.args.writer.now) c.as_slice-3.result.now v.items
     (c.as_slice-2.ensures.value ∙ loaded_made c.args.nest.now c.args.reader.now (leaf_seen c.args.leaf.now) c.args.writer.now c.columns_in-columns.result c.as_slice.result.now c.args.named.now.forms c.new-names.result.items c.add_padded.new.out.items c.columns_in-columns.ensures c.new-names.ensures.items c.as_slice.ensures
     c.in_ok-add_padded.ensures)
     (c.as_slice-3.ensures.value ∙ writes_are c.args.nest.now c.args.reader.now (leaf_seen c.args.leaf.now) c.args.writer.now c.columns_in-columns.result c.columns_in-columns.ensures c.loops_round-loops.result c.in_ok-stores.stores.items c.loops_round-loops.ensures c.in_ok-stores.ensures)
-    c.in_ok-orders.ensures
+    e)
+    c.target_order.ensures

@@ -1,4 +1,5 @@
 use Rattle.std.proofs.Common.{◌≡◌, ◌+◌, ◌≤◌, ℕ, length, arith, ◌∙◌}
+use Rattle.std.proofs.lemmas.Result.{IfOk-weaker}
 use Rattle.affc_quast.specs.SeenLeaves.{leaf_seen}
 use Rattle.affc_life.specs.Clashes.{reader_posed, writer_posed}
 use Rattle.affc_life.proofs.SeatedLemmas.{params_few, writer_few, reader_few, leaf_few, reader_forms, writer_forms, writes_are, reads_are, has_forms, order_made}
@@ -46,7 +47,9 @@ target_order-requires-clause-second c =
 
 pub returns : goal.returns
 returns c =
-    order_made c.args.nest.now c.args.reader.now (leaf_seen c.args.leaf.now) c.args.writer.now c.columns_in-columns.result c.columns_in-columns.ensures c.args.schedule.now (writer_posed c.args.nest.now c.args.reader.now (leaf_seen c.args.leaf.now) c.args.writer.now) c.as_slice.result.now (reader_posed c.args.nest.now c.args.reader.now (leaf_seen c.args.leaf.now) c.args.writer.now) c.as_slice-2.result.now c.in_ok-orders.orders.items
+    IfOk-weaker c.target_order.result _ _
+    (λ v e. order_made c.args.nest.now c.args.reader.now (leaf_seen c.args.leaf.now) c.args.writer.now c.columns_in-columns.result c.columns_in-columns.ensures c.args.schedule.now (writer_posed c.args.nest.now c.args.reader.now (leaf_seen c.args.leaf.now) c.args.writer.now) c.as_slice.result.now (reader_posed c.args.nest.now c.args.reader.now (leaf_seen c.args.leaf.now) c.args.writer.now) c.as_slice-2.result.now v.items
     (c.as_slice.ensures.value ∙ writes_are c.args.nest.now c.args.reader.now (leaf_seen c.args.leaf.now) c.args.writer.now c.columns_in-columns.result c.columns_in-columns.ensures c.loops_round-loops.result c.in_ok-stores.stores.items c.loops_round-loops.ensures c.in_ok-stores.ensures)
     (c.as_slice-2.ensures.value ∙ reads_are c.args.nest.now c.args.reader.now (leaf_seen c.args.leaf.now) c.args.writer.now c.columns_in-columns.result c.columns_in-columns.ensures c.params_in-params.result c.loops_round.result c.in_ok-loads.loads.items c.params_in-params.ensures c.loops_round.ensures c.in_ok-loads.ensures)
-    c.in_ok-orders.ensures
+    e)
+    c.target_order.ensures

@@ -4,7 +4,7 @@ use Rattle.affc_rows.specs.Forms.{HaveColumns}
 use Rattle.affc_system.specs.Systems.{Rows}
 use Rattle.affc_nest.specs.Domains.{with_rows}
 use Rattle.affc_life.proofs.LimitLemmas.{wide_front, wide_first, wide_second, wide_third, large_first_of, large_second_of, large_third_of}
-use Rattle.affc_life.proofs.systems.joined.Goals as goal
+use Rattle.affc_life.proofs.systems.system_of_four.Goals as goal
 
 pub system_of-requires : goal.system_of-requires
 system_of-requires c = wide_front c.args.columns c.args.front.now c.args.first.now c.args.second.now c.args.third.now c.requires

@@ -1,4 +1,5 @@
 use Rattle.std.proofs.Common.{◌≡◌, true, map, flat_map, rules}
+use Rattle.std.proofs.lemmas.Result.{on_ok_weaker}
 use Rattle.std.specs.Prelude.{nat_eq}
 use Rattle.std.proofs.lemmas.Bool.{eq-eqb}
 use Rattle.affc_nest.proofs.QuestionLemmas.{stands_in}
@@ -20,10 +21,12 @@ returns-in-None c =
     let a = c.args.asked.now in
     none_more (flat_map drafted c.args.out.now.items) _ (no_tree_load a.nest.now a.schedule.now a.array.0 c.args.reader.now (map seen c.args.trees.now) c.args.number c.args.load.now (tree_not_there seen c.args.trees.now c.args.number c.in-None.ensures.lookup.3))
 
-pub returns-in_ok-add_tree-in-Some : goal.returns-in_ok-add_tree-in-Some
-returns-in_ok-add_tree-in-Some c =
+pub returns-in-Some : goal.returns-in-Some
+returns-in-Some c =
     let a = c.args.asked.now in
     let h = c.in-Some.ensures.lookup in
     let same : nat_eq c.args.load.now.array.0 c.args.asked.now.array.0 ≡ true = search (rules, eq-eqb, c.if-load-asked.false) in
-    load_made a.nest.now a.schedule.now a.array.0 c.args.reader.now (map seen c.args.trees.now) c.args.number c.args.load.now (seen c.in-Some.tree.now) (flat_map drafted c.args.out.now.items) (flat_map drafted c.add_tree.new.out.items) same
-    (tree_there seen c.args.trees.now c.args.number c.in-Some.tree.now h.3.0 h.1) c.in_ok-add_tree-in-Some.ensures
+    on_ok_weaker c.add_tree.result
+    (load_made a.nest.now a.schedule.now a.array.0 c.args.reader.now (map seen c.args.trees.now) c.args.number c.args.load.now (seen c.in-Some.tree.now) (flat_map drafted c.args.out.now.items) (flat_map drafted c.add_tree.new.out.items) same
+    (tree_there seen c.args.trees.now c.args.number c.in-Some.tree.now h.3.0 h.1))
+    c.add_tree.ensures

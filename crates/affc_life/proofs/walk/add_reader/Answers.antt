@@ -1,4 +1,5 @@
 use Rattle.std.proofs.Common.{map, flat_map, drop, ap, ◌∙◌}
+use Rattle.std.proofs.lemmas.Result.{on_ok_weaker}
 use Rattle.affc_order.proofs.CodeLemmas.{is_nest}
 use Rattle.affc_quast.specs.Seen.{seen}
 use Rattle.affc_quast.specs.Sources.{loads_before}
@@ -17,5 +18,7 @@ add_loads-requires-clause-loads c =
 
 pub returns : goal.returns
 returns c =
-    reader_made c.args.asked.now.nest.now (map seen c.args.trees.now) (map seen c.trees_from-own.result.now) c.args.reader.now (c.trees_from-own.ensures ∙ ap (λ es. drop (loads_before es c.args.reader.now.statement) (map seen c.args.trees.now)) c.as_slice.ensures) c.args.asked.now.schedule.now c.args.asked.now.array.0
-    c.as_slice-accesses.result.now (flat_map drafted c.args.out.now.items) (flat_map drafted c.add_loads.new.out.items) c.if-not-reader.false c.as_slice-accesses.ensures c.in_ok-add_loads.ensures
+    on_ok_weaker c.add_loads.result
+    (reader_made c.args.asked.now.nest.now (map seen c.args.trees.now) (map seen c.trees_from-own.result.now) c.args.reader.now (c.trees_from-own.ensures ∙ ap (λ es. drop (loads_before es c.args.reader.now.statement) (map seen c.args.trees.now)) c.as_slice.ensures) c.args.asked.now.schedule.now c.args.asked.now.array.0
+    c.as_slice-accesses.result.now (flat_map drafted c.args.out.now.items) (flat_map drafted c.add_loads.new.out.items) c.if-not-reader.false c.as_slice-accesses.ensures)
+    c.add_loads.ensures

@@ -1,4 +1,5 @@
 use Rattle.std.proofs.Common.{◌≡◌, ◌+◌, ◌≤◌, ◌++◌, ℕ, Fits, w32, rules, arith, length, map, flat_map, ap, sym, subst, ◌∙◌}
+use Rattle.std.proofs.lemmas.Result.{on_ok_weaker}
 use Rattle.affc_nest.proofs.QuestionProofs.{nest_few, few_numbered}
 use Rattle.affc_order.proofs.CodeLemmas.{is_nest}
 use Rattle.affc_quast.specs.Leaves.{leaves_of}
@@ -50,7 +51,9 @@ add_leaves-requires-clause-paths c =
 
 pub returns : goal.returns
 returns c =
-    c.in_ok-add_leaves.ensures
+    on_ok_weaker c.add_leaves.result
+    (λ e. e
     ∙ ap (λ ls. flat_map drafted c.args.out.now.items ++ flat_map (clashes_of_leaf c.args.asked.now.nest.now c.args.asked.now.schedule.now c.args.asked.now.array.0 c.args.reader.now c.args.load.now) ls)
     (ap (map leaf_seen) c.as_slice.ensures.value ∙ c.in_ok-leaves.ensures
-    ∙ ap (λ k. leaves_of k (seen c.args.tree.now)) (sum_is c.params_in.result c.loops_round.result (length c.args.asked.now.nest.now.params) (length c.args.reader.now.loops) c.params_in.ensures c.loops_round.ensures))
+    ∙ ap (λ k. leaves_of k (seen c.args.tree.now)) (sum_is c.params_in.result c.loops_round.result (length c.args.asked.now.nest.now.params) (length c.args.reader.now.loops) c.params_in.ensures c.loops_round.ensures)))
+    c.add_leaves.ensures
