@@ -75,11 +75,11 @@ impl Coefficients {
         Ok(Coefficients { scale, terms })
     }
 
-    pub fn negated(self, alloc: Global) -> Result<Coefficients, AllocError>
+    pub fn opposites(self, alloc: Global) -> Result<Coefficients, AllocError>
         ensures { IfOk result (λ c. (w : Name) → number_of c w ≡ neg_ℤ (number_of self w)) }
     {
         let one = Whole::from_u64(alloc, 1)?;
-        let minus = one.negated(alloc)?;
+        let minus = one.opposite(alloc)?;
         self.times(alloc, &minus)
     }
 

@@ -128,29 +128,29 @@ fn opaque(alloc: Global, first: usize, inside: Option<usize>) -> Form
     }
 }
 
-fn literal(alloc: Global, at: usize, value: u64) -> Result<Form, AllocError>
+fn literal_form(alloc: Global, at: usize, value: u64) -> Result<Form, AllocError>
     ensures { IfOk result (IsForm (grammar.literal at value)) }
 {
     let constant = Whole::from_u64(alloc, value)?;
     Ok(form_of(at, constant, Coefficients::none(alloc), None))
 }
 
-fn name(alloc: Global, at: usize, name: &str) -> Result<Form, AllocError>
+fn name_form(alloc: Global, at: usize, name: &str) -> Result<Form, AllocError>
     ensures { IfOk result (IsForm (grammar.name at name.now)) }
 {
     let coefficients = Coefficients::one(alloc, name)?;
     Ok(form_of(at, Whole::zero(alloc), coefficients, None))
 }
 
-fn negated(alloc: Global, at: usize, a: Form) -> Result<Form, AllocError>
+fn negation_form(alloc: Global, at: usize, a: Form) -> Result<Form, AllocError>
     ensures { IfOk result (λ f. (x : grammar.IxDraft) → IsForm x a → IsForm (grammar.negated at x) f) }
 {
-    let constant = a.constant.negated(alloc)?;
-    let coefficients = a.coefficients.negated(alloc)?;
+    let constant = a.constant.opposite(alloc)?;
+    let coefficients = a.coefficients.opposites(alloc)?;
     Ok(form_of(at, constant, coefficients, a.past))
 }
 
-fn sum(alloc: Global, a: Form, b: Form) -> Result<Form, AllocError>
+fn sum_form(alloc: Global, a: Form, b: Form) -> Result<Form, AllocError>
     ensures { IfOk result (λ f. (x y : grammar.IxDraft) → IsForm x a → IsForm y b → IsForm (grammar.sum x y) f) }
 {
     let constant = a.constant.plus(&b.constant)?;
@@ -158,15 +158,17 @@ fn sum(alloc: Global, a: Form, b: Form) -> Result<Form, AllocError>
     Ok(form_of(a.first, constant, coefficients, lesser(a.past, b.past)))
 }
 
-fn difference(alloc: Global, a: Form, b: Form) -> Result<Form, AllocError>
+fn difference_form(alloc: Global, a: Form, b: Form) -> Result<Form, AllocError>
     ensures { IfOk result (λ f. (x y : grammar.IxDraft) → IsForm x a → IsForm y b → IsForm (grammar.difference x y) f) }
 {
     let constant = a.constant.minus(&b.constant)?;
-    let coefficients = a.coefficients.plus(alloc, b.coefficients.negated(alloc)?)?;
+    let coefficients = a
+        .coefficients
+        .plus(alloc, b.coefficients.opposites(alloc)?)?;
     Ok(form_of(a.first, constant, coefficients, lesser(a.past, b.past)))
 }
 
-fn product(alloc: Global, a: Form, b: Form) -> Result<Form, AllocError>
+fn product_form(alloc: Global, a: Form, b: Form) -> Result<Form, AllocError>
     ensures { IfOk result (λ f. (at : ℕ) (x y : grammar.IxDraft) → IsForm x a → IsForm y b → IsForm (grammar.product at x y) f) }
 {
     let constant = a.constant.times(alloc, &b.constant)?;
@@ -182,26 +184,26 @@ fn formed(alloc: Global, e: &IxDraft) -> Result<Form, AllocError>
     ensures { IfOk result (IsForm (ix e.now)) }
 {
     match e {
-        IxDraft::Literal { at, value } => literal(alloc, *at, *value),
-        IxDraft::Name { at, name: own } => name(alloc, *at, own.as_str()),
+        IxDraft::Literal { at, value } => literal_form(alloc, *at, *value),
+        IxDraft::Name { at, name } => name_form(alloc, *at, name.as_str()),
         IxDraft::Negated { at, of } => {
             let a = formed(alloc, of.get())?;
-            negated(alloc, *at, a)
+            negation_form(alloc, *at, a)
         }
         IxDraft::Sum(left, right) => {
             let a = formed(alloc, left.get())?;
             let b = formed(alloc, right.get())?;
-            sum(alloc, a, b)
+            sum_form(alloc, a, b)
         }
         IxDraft::Difference(left, right) => {
             let a = formed(alloc, left.get())?;
             let b = formed(alloc, right.get())?;
-            difference(alloc, a, b)
+            difference_form(alloc, a, b)
         }
         IxDraft::Product { left, right, .. } => {
             let a = formed(alloc, left.get())?;
             let b = formed(alloc, right.get())?;
-            product(alloc, a, b)
+            product_form(alloc, a, b)
         }
         IxDraft::Grouped { at, inside } => {
             let a = formed(alloc, inside.get())?;

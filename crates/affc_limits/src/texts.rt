@@ -258,8 +258,7 @@ pub(crate) fn in_text(rule: Rule, draft: &TextDraft) -> Result<Option<usize>, Al
     let lines = in_pragmas(rule, None, draft.pragmas.as_slice())?;
     let params = in_params(rule, lines, draft.params.as_slice())?;
     let temps = in_decls(rule, params, draft.temps.as_slice())?;
-    let body = in_stmts(rule, temps, draft.body.as_slice())?;
-    Ok(body)
+    in_stmts(rule, temps, draft.body.as_slice())
 }
 
 /// The `*` of the first product both of whose sides hold names.
