@@ -1,14 +1,12 @@
 //! Why a line of a row isn't done.
 use std::alloc::{AllocError, AllocFailed};
-use thiserror::Error;
 
-#[derive(Clone, Copy, Debug, PartialEq, Eq, Error)]
+#[derive(Clone, Copy)]
 pub enum Fault {
-    #[error("no line of a row")]
+    /// No line of a row.
     Malformed,
-    #[error("a file that is named isn't read")]
+    /// A file that is named isn't read.
     Unread,
-    #[error("out of memory")]
     Memory,
 }
 

@@ -16,3 +16,4 @@ pub mod TreeSizes
 pub mod Ranked
 pub mod Counts
 pub mod Bare
+pub mod Ordinary

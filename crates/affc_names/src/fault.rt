@@ -1,3 +1,5 @@
+//! What ends the reading of names.
+
 use affc_grammar::fault::NameWhy;
 use std::alloc::AllocError;
 

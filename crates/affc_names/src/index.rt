@@ -79,13 +79,13 @@ fn divided(alloc: Global, rounding: Rounding, a: Ix, by: u64) -> Result<Ix, Allo
     }
 }
 
-fn negated(alloc: Global, a: Ix) -> Result<Ix, AllocError>
+fn negation_tree(alloc: Global, a: Ix) -> Result<Ix, AllocError>
     ensures { IfOk result (λ x. x ≡ trees.Neg a) }
 {
     Ok(Ix::Neg(Boxed::new(alloc, a)?))
 }
 
-fn joined(alloc: Global, join: Join, a: Ix, b: Ix) -> Result<Ix, AllocError>
+fn joined_tree(alloc: Global, join: Join, a: Ix, b: Ix) -> Result<Ix, AllocError>
     ensures { IfOk result (λ x. x ≡ joined_trees join a b) }
 {
     let (a, b) = both(alloc, a, b)?;
@@ -111,7 +111,7 @@ fn operand_tree(alloc: Global, scope: &Scope, draft: &IxDraft) -> Result<Ix, Nam
         }
         IxDraft::Negated { of, .. } => {
             let a = ix_tree(alloc, scope, of.get())?;
-            Ok(negated(alloc, a)?)
+            Ok(negation_tree(alloc, a)?)
         }
         IxDraft::Grouped { inside, .. } => ix_tree(alloc, scope, inside.get()),
         IxDraft::Chosen {
@@ -143,7 +143,7 @@ fn with_step(alloc: Global, scope: &Scope, tree: Ix, step: &IxStep<'_>) -> Resul
     ensures { Gives result (step_tree scope.now tree step.now) }
 {
     let right = ix_tree(alloc, scope, step.right)?;
-    Ok(joined(alloc, step.join, tree, right)?)
+    Ok(joined_tree(alloc, step.join, tree, right)?)
 }
 
 /// A chain of operators is walked by a loop, so that the recursion is as deep as brackets are.

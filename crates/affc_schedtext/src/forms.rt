@@ -10,11 +10,10 @@ ghost use Rattle.affc_schedtext.specs.Outline as outline;
 ghost use Rattle.affc_schedtext.specs.Reading as reading;
 ghost use Rattle.affc_schedtext.specs.Seen.{scope_seen, words_seen};
 
-use crate::ahead::behind_word;
 use crate::scope::{Scope, Words, first_name, sees};
 use affc_ast::Items;
 use affc_ast::text::Text;
-use affc_syntax::ahead::{Answer, Stop, behind, past_mark, past_word};
+use affc_syntax::ahead::{Answer, Stop, behind, behind_word, past_mark, past_word};
 use affc_syntax::draft::draft::IxDraft;
 use affc_syntax::draft::symbol::{Symbol, is_word_kind};
 use affc_syntax::expression::read_expression;

@@ -1,7 +1,6 @@
 //! Schedules and folds as texts.
 #![tactic(auto)]
 
-mod ahead;
 pub mod draft;
 pub mod examples;
 mod forms;

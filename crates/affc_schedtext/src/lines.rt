@@ -10,7 +10,6 @@ ghost use Rattle.affc_schedtext.specs.Outline as outlines;
 ghost use Rattle.affc_schedtext.specs.ReadAnswers.{IsRead};
 ghost use Rattle.affc_schedtext.specs.Seen.{line_seen, draft_seen, stage_seen, turn_seen};
 
-use crate::ahead::{behind_word, drafted, past_this_word};
 use crate::draft::{Draft, LineDraft, OrderDraft};
 use crate::forms::{entries, free, list};
 use crate::outline::{
@@ -18,7 +17,10 @@ use crate::outline::{
 };
 use crate::scope::{Scope, Words, first_name};
 use affc_ast::Items;
-use affc_syntax::ahead::{Answer, Stop, behind, first, past_mark, past_number, past_word};
+use affc_syntax::ahead::{
+    Answer, Stop, behind, behind_word, drafted_word, first, past_mark, past_number, past_this_word,
+    past_word,
+};
 use affc_syntax::draft::draft::{IxDraft, WordDraft};
 use affc_syntax::draft::symbol::{Symbol, is};
 use affc_syntax::expression::number_of_first;
@@ -138,7 +140,7 @@ fn fold(
     let at = number_of_first(symbols, next);
     match past_word(symbols, next) {
         Some((name, next)) => {
-            let word = drafted(alloc, at, name)?;
+            let word = drafted_word(alloc, at, name)?;
             let next = behind(b":", symbols, next)?;
             let scope = row_scope(dimensions_of(outline, name));
             let (forms, next) = list(alloc, room, scope, symbols, next)?;
@@ -262,7 +264,7 @@ fn next_stmt(
     let at = number_of_first(symbols, next);
     match past_word(symbols, next) {
         Some((name, next)) => {
-            let word = drafted(alloc, at, name)?;
+            let word = drafted_word(alloc, at, name)?;
             stmt(alloc, outline, room, before, word, symbols, next)
         }
         None => ended(timed(alloc, before), symbols, next),
@@ -313,7 +315,7 @@ fn unknown_more(
             }
             None => {
                 let lines = with_line(before, word, forms, Items::new(alloc))?;
-                let word = drafted(alloc, at, name)?;
+                let word = drafted_word(alloc, at, name)?;
                 stmt(alloc, outline, room, lines, word, symbols, next)
             }
         },

@@ -4,6 +4,8 @@ ghost use Rattle.std.specs.Prelude.{◌≡◌, ◌<◌, ◌≤◌, ◌+◌, ◌�
 ghost use Rattle.affc_lex.specs.Bytes as bytes;
 ghost use Rattle.affc_grammar.specs.Grammar as grammar;
 ghost use Rattle.affc_grammar.specs.Reading as tests;
+ghost use Rattle.affc_grammar.specs.Draft as d;
+ghost use Rattle.affc_syntax.specs.draft.Drafts.{word};
 ghost use Rattle.affc_syntax.specs.draft.Symbols.{seen};
 ghost use Rattle.affc_syntax.specs.Ahead as ahead;
 ghost use Rattle.affc_syntax.specs.Callees as callees;
@@ -12,11 +14,12 @@ ghost use Rattle.affc_syntax.specs.ValueTests as values;
 ghost use Rattle.affc_syntax.specs.declared.ahead.Stop.TheVariants as stop;
 ghost use Rattle.std.specs.Option.{option_map};
 
-use crate::draft::draft::{Choice, Rounding};
+use crate::draft::draft::{Choice, Rounding, WordDraft};
 use crate::draft::symbol::{Symbol, is_mark_kind, is_word_kind};
+use affc_ast::text::Text;
 use affc_ast::tree::{Op, Rel};
 use affc_lex::token::Kind;
-use std::alloc::AllocError;
+use std::alloc::{AllocError, Global};
 
 fn same(a: &[u8], b: &str) -> bool
     ensures { result ≡ bytes.same a.now b.now }
@@ -59,6 +62,42 @@ pub fn past_mark(mark: &[u8], symbols: &[Symbol<'_>], at: usize) -> Option<usize
             }
         }
         None => None,
+    }
+}
+
+fn is_this_word(symbol: &Symbol<'_>, word: &[u8]) -> bool
+    ensures { result ≡ is_some (tests.this_word word.now (seen symbol.now)) }
+{
+    is_word_kind(symbol.kind) && same(word, symbol.text)
+}
+
+/// Behind this word.
+pub fn past_this_word(word: &[u8], symbols: &[Symbol<'_>], at: usize) -> Option<usize>
+    ensures { MatchOption result
+        (ahead.past (tests.this_word word.now) (drop at (map seen symbols.now)) ≡ None)
+        (λ next. ahead.past (tests.this_word word.now) (drop at (map seen symbols.now)) ≡ Some (tt, drop next (map seen symbols.now))) }
+{
+    match first(symbols, at) {
+        Some(symbol) => {
+            if is_this_word(symbol, word) {
+                Some(at + 1)
+            } else {
+                None
+            }
+        }
+        None => None,
+    }
+}
+
+/// Behind this word, which has to stand here.
+pub fn behind_word(word: &[u8], symbols: &[Symbol<'_>], at: usize) -> Result<usize, Stop>
+    ensures { MatchResult result
+        (λ next. ahead.past (tests.this_word word.now) (drop at (map seen symbols.now)) ≡ Some (tt, drop next (map seen symbols.now)))
+        (λ f. (f ≡ stop.At at) × (ahead.past (tests.this_word word.now) (drop at (map seen symbols.now)) ≡ None)) }
+{
+    match past_this_word(word, symbols, at) {
+        Some(next) => Ok(next),
+        None => Err(Stop::At(at)),
     }
 }
 
@@ -428,4 +467,12 @@ pub(crate) fn counted<T: Drop>(symbols: &[Symbol<'_>], answer: Answer<T>) -> Ans
         Err(Stop::Deep) => Err(Stop::Deep),
         Err(Stop::Memory) => Err(Stop::Memory),
     }
+}
+
+/// A word, and the number of its token.
+pub fn drafted_word(alloc: Global, at: usize, name: &str) -> Result<WordDraft, AllocError>
+    ensures { IfOk result (λ w. word w ≡ d.word_draft at name.now) }
+{
+    let name = Text::from_str(alloc, name)?;
+    Ok(WordDraft { at, name })
 }

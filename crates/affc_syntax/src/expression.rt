@@ -47,7 +47,7 @@ fn closed(mark: &[u8], a: IxDraft, symbols: &[Symbol<'_>], next: usize) -> Answe
 }
 
 #[tactic(auto, using(crate::proofs::draft::Outs::ix_made))]
-fn joined(alloc: Global, is_plus: bool, a: IxDraft, b: IxDraft) -> Result<IxDraft, AllocError>
+fn sum_parsed(alloc: Global, is_plus: bool, a: IxDraft, b: IxDraft) -> Result<IxDraft, AllocError>
     ensures { IfOk result (λ c. ix c ≡ reading.joined is_plus (ix a) (ix b)) }
 {
     let a = Boxed::new(alloc, a)?;
@@ -60,7 +60,7 @@ fn joined(alloc: Global, is_plus: bool, a: IxDraft, b: IxDraft) -> Result<IxDraf
 }
 
 #[tactic(auto, using(crate::proofs::draft::Outs::ix_made))]
-fn product(alloc: Global, at: usize, a: IxDraft, b: IxDraft) -> Result<IxDraft, AllocError>
+fn product_parsed(alloc: Global, at: usize, a: IxDraft, b: IxDraft) -> Result<IxDraft, AllocError>
     ensures { IfOk result (λ c. ix c ≡ d.product at (ix a) (ix b)) }
 {
     let left = Boxed::new(alloc, a)?;
@@ -118,7 +118,7 @@ pub(crate) fn grouped(alloc: Global, at: usize, a: IxDraft) -> Result<IxDraft, A
 }
 
 #[tactic(auto, using(crate::proofs::draft::Outs::ix_made))]
-fn negated(alloc: Global, at: usize, a: IxDraft) -> Result<IxDraft, AllocError>
+fn negation_parsed(alloc: Global, at: usize, a: IxDraft) -> Result<IxDraft, AllocError>
     ensures { IfOk result (λ c. ix c ≡ d.negated at (ix a)) }
 {
     let of = Boxed::new(alloc, a)?;
@@ -265,7 +265,7 @@ fn factor(
         Some(behind) => {
             let at = number_of_first(symbols, next);
             let (a, next) = atom(alloc, prelude, room, symbols, behind)?;
-            let a = negated(alloc, at, a)?;
+            let a = negation_parsed(alloc, at, a)?;
             Ok((a, next))
         }
         None => atom(alloc, prelude, room, symbols, next),
@@ -286,7 +286,7 @@ fn multiplied(
 {
     let at = number_of_first(symbols, next).saturating_sub(1);
     let (a, next) = factor(alloc, prelude, room, symbols, next)?;
-    let a = product(alloc, at, left, a)?;
+    let a = product_parsed(alloc, at, left, a)?;
     Ok((a, next))
 }
 
@@ -340,7 +340,7 @@ fn added(
     ensures { Gives (map seen symbols.now) ix result (reading.added prelude (length symbols.now) (reading.inside prelude (length symbols.now) room) is_plus (ix left) (drop next (map seen symbols.now))) }
 {
     let (a, next) = term(alloc, prelude, room, symbols, next)?;
-    let a = joined(alloc, is_plus, left, a)?;
+    let a = sum_parsed(alloc, is_plus, left, a)?;
     Ok((a, next))
 }
 

@@ -1,6 +1,6 @@
 //! What stands first among tokens, of what only statements, the function and the lines before it have.
 
-ghost use Rattle.std.specs.Prelude.{◌≡◌, ◌-◌, drop, length, map, None, Some, IfOk, MatchOption, MatchResult, is_some};
+ghost use Rattle.std.specs.Prelude.{◌≡◌, ◌-◌, drop, length, map, None, Some, MatchOption, MatchResult, is_some};
 ghost use Rattle.affc_lex.specs.Bytes as bytes;
 ghost use Rattle.affc_grammar.specs.Draft as d;
 ghost use Rattle.affc_grammar.specs.Reading as tests;
@@ -12,56 +12,19 @@ ghost use Rattle.affc_syntax.specs.declared.ahead.Stop.TheVariants as stop;
 ghost use Rattle.affc_text.specs.StmtReading as reading;
 ghost use Rattle.affc_text.specs.Parts.{first_seen};
 
-use affc_ast::text::Text;
 use affc_ast::tree::{Op, Rel};
 use affc_lex::prelude::PRELUDE;
 use affc_lex::token::Kind;
-use affc_syntax::ahead::{Answer, Stop, first, past_mark, past_word};
+use affc_syntax::ahead::{Answer, Stop, drafted_word, first, past_mark, past_word};
 use affc_syntax::draft::draft::WordDraft;
-use affc_syntax::draft::symbol::{Symbol, is_mark_kind, is_word_kind};
+use affc_syntax::draft::symbol::{Symbol, is_mark_kind};
 use affc_syntax::expression::number_of_first;
-use std::alloc::{AllocError, Global};
+use std::alloc::Global;
 
 fn same(a: &[u8], b: &str) -> bool
     ensures { result ≡ bytes.same a.now b.now }
 {
     a == b.as_bytes()
-}
-
-fn is_this_word(symbol: &Symbol<'_>, word: &[u8]) -> bool
-    ensures { result ≡ is_some (tests.this_word word.now (seen symbol.now)) }
-{
-    is_word_kind(symbol.kind) && same(word, symbol.text)
-}
-
-/// Behind this word.
-pub(crate) fn past_this_word(word: &[u8], symbols: &[Symbol<'_>], at: usize) -> Option<usize>
-    ensures { MatchOption result
-        (ahead.past (tests.this_word word.now) (drop at (map seen symbols.now)) ≡ None)
-        (λ next. ahead.past (tests.this_word word.now) (drop at (map seen symbols.now)) ≡ Some (tt, drop next (map seen symbols.now))) }
-{
-    match first(symbols, at) {
-        Some(symbol) => {
-            if is_this_word(symbol, word) {
-                Some(at + 1)
-            } else {
-                None
-            }
-        }
-        None => None,
-    }
-}
-
-/// Behind this word, which has to stand here.
-pub(crate) fn behind_word(word: &[u8], symbols: &[Symbol<'_>], at: usize) -> Result<usize, Stop>
-    ensures { MatchResult result
-        (λ next. ahead.past (tests.this_word word.now) (drop at (map seen symbols.now)) ≡ Some (tt, drop next (map seen symbols.now)))
-        (λ f. (f ≡ stop.At at) × (ahead.past (tests.this_word word.now) (drop at (map seen symbols.now)) ≡ None)) }
-{
-    match past_this_word(word, symbols, at) {
-        Some(next) => Ok(next),
-        None => Err(Stop::At(at)),
-    }
 }
 
 fn is_one(symbol: &Symbol<'_>) -> bool
@@ -311,13 +274,6 @@ fn is_same(a: &str, b: &[u8]) -> bool
     a.as_bytes() == b
 }
 
-pub(crate) fn drafted(alloc: Global, at: usize, name: &str) -> Result<WordDraft, AllocError>
-    ensures { IfOk result (λ w. word w ≡ d.word_draft at name.now) }
-{
-    let name = Text::from_str(alloc, name)?;
-    Ok(WordDraft { at, name })
-}
-
 /// The Word that has to stand here.
 pub(crate) fn named(alloc: Global, symbols: &[Symbol<'_>], next: usize) -> Answer<WordDraft>
     ensures { Gives (map seen symbols.now) word result (reading.named (length symbols.now) (drop next (map seen symbols.now))) }
@@ -325,7 +281,7 @@ pub(crate) fn named(alloc: Global, symbols: &[Symbol<'_>], next: usize) -> Answe
     let at = number_of_first(symbols, next);
     match past_word(symbols, next) {
         Some((name, next)) => {
-            let word = drafted(alloc, at, name)?;
+            let word = drafted_word(alloc, at, name)?;
             Ok((word, next))
         }
         None => Err(Stop::At(next)),

@@ -9,13 +9,13 @@ ghost use Rattle.affc_text.specs.Parts as parts;
 ghost use Rattle.affc_text.specs.Parts.{first_seen, inside_seen, function_seen};
 ghost use Rattle.affc_text.specs.TextReading as reading;
 
-use crate::ahead::{
-    First, behind_word, drafted, is_first_word, named, number_before, past_first, past_this_word,
-};
+use crate::ahead::{First, is_first_word, named, number_before, past_first};
 use crate::statement::{is_none, statement};
 use affc_ast::Items;
 use affc_ast::tree::Role;
-use affc_syntax::ahead::{Answer, Stop, behind, past_mark, past_word};
+use affc_syntax::ahead::{
+    Answer, Stop, behind, behind_word, drafted_word, past_mark, past_this_word, past_word,
+};
 use affc_syntax::draft::draft::{DeclDraft, ParamDraft, StmtDraft, WordDraft};
 use affc_syntax::draft::symbol::Symbol;
 use affc_syntax::here::{dims_here, inside_here};
@@ -222,7 +222,7 @@ fn decl_behind(
     ensures { Gives (map seen symbols.now) inside_seen result (reading.decl_behind prelude (length symbols.now) room (inside_seen inside) name.now (drop next (map seen symbols.now))) }
 {
     let at = number_before(symbols, next);
-    let word = drafted(alloc, at, name)?;
+    let word = drafted_word(alloc, at, name)?;
     let Inside { temps, stmts } = inside;
     let (temps, next) = temp(alloc, prelude, room, temps, word, symbols, next)?;
     let (temps, next) = more_temps(alloc, prelude, room, temps, symbols, next)?;

@@ -10,9 +10,11 @@ ghost use Rattle.affc_text.specs.Parts as parts;
 ghost use Rattle.affc_text.specs.Parts.{lines_seen};
 ghost use Rattle.affc_text.specs.TextReading as reading;
 
-use crate::ahead::{behind_line, behind_word, named, number_before, past_hash, past_this_word};
+use crate::ahead::{behind_line, named, number_before, past_hash};
 use affc_ast::Items;
-use affc_syntax::ahead::{Answer, Stop, first, past_mark, past_number};
+use affc_syntax::ahead::{
+    Answer, Stop, behind_word, first, past_mark, past_number, past_this_word,
+};
 use affc_syntax::draft::draft::PragmaDraft;
 use affc_syntax::draft::symbol::{Symbol, is, is_mark_kind, is_word_kind};
 use affc_syntax::expression::number_of_first;

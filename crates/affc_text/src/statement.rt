@@ -12,11 +12,13 @@ ghost use Rattle.affc_text.specs.Parts.{first_seen, head_seen, heads_seen, turn_
 ghost use Rattle.affc_text.specs.StmtReading as reading;
 
 use crate::ahead::{
-    First, assignment, behind_one, behind_word, compared, drafted, head_word, is_first_word, named,
-    number_before, past_first, past_this_word,
+    First, assignment, behind_one, compared, head_word, is_first_word, named, number_before,
+    past_first,
 };
 use affc_ast::Items;
-use affc_syntax::ahead::{Answer, Stop, behind, past_mark};
+use affc_syntax::ahead::{
+    Answer, Stop, behind, behind_word, drafted_word, past_mark, past_this_word,
+};
 use affc_syntax::draft::draft::{
     CompareDraft, HeadDraft, IxDraft, LocalDraft, StmtDraft, WordDraft,
 };
@@ -269,7 +271,7 @@ fn assigned(
 ) -> Answer<StmtDraft>
     ensures { Gives (map seen symbols.now) stmt result (reading.assigned prelude (length symbols.now) room at name.now (drop next (map seen symbols.now))) }
 {
-    let array = drafted(alloc, at, name)?;
+    let array = drafted_word(alloc, at, name)?;
     let (subs, next) = dims_here(alloc, prelude, room, symbols, next)?;
     let (op, next) = assignment(symbols, next)?;
     let (value, next) = value_here(alloc, prelude, room, symbols, next)?;

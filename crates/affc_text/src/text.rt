@@ -8,10 +8,10 @@ ghost use Rattle.affc_text.specs.Answers.{IsRead};
 ghost use Rattle.affc_text.specs.Parts.{lines_seen, function_seen};
 ghost use Rattle.affc_text.specs.TextReading as reading;
 
-use crate::ahead::{behind_hash, behind_header, behind_line, behind_word, past_prelude};
+use crate::ahead::{behind_hash, behind_header, behind_line, past_prelude};
 use crate::function::{Function, read_function};
 use crate::lines::{Lines, read_lines};
-use affc_syntax::ahead::{Answer, Stop, first};
+use affc_syntax::ahead::{Answer, Stop, behind_word, first};
 use affc_syntax::draft::draft::TextDraft;
 use affc_syntax::draft::symbol::Symbol;
 use affc_syntax::expression::number_of_first;

@@ -109,7 +109,7 @@ fn one_token() -> IxExtent
     }
 }
 
-fn joined(binding: Binding, a: Extent, b: Extent) -> IxExtent
+fn joined_extent(binding: Binding, a: Extent, b: Extent) -> IxExtent
     ensures { result ≡ spec.joined binding a b }
 {
     IxExtent {
@@ -118,7 +118,7 @@ fn joined(binding: Binding, a: Extent, b: Extent) -> IxExtent
     }
 }
 
-fn negated(a: Extent) -> IxExtent
+fn negation_extent(a: Extent) -> IxExtent
     ensures { result ≡ spec.negated a }
 {
     IxExtent {
@@ -140,20 +140,20 @@ fn called(may_stand: bool, inside: Extent) -> IxExtent
     }
 }
 
-fn sum(a: IxExtent, b: IxExtent) -> IxExtent
+fn sum_extent(a: IxExtent, b: IxExtent) -> IxExtent
     ensures { result ≡ spec.sum a b }
 {
-    joined(
+    joined_extent(
         Binding::Sum,
         placed(Place::Whole, a),
         placed(Place::RightOfSum, b),
     )
 }
 
-fn product(a: IxExtent, b: IxExtent) -> IxExtent
+fn product_extent(a: IxExtent, b: IxExtent) -> IxExtent
     ensures { result ≡ spec.product a b }
 {
-    joined(
+    joined_extent(
         Binding::Product,
         placed(Place::LeftOfProduct, a),
         placed(Place::RightOfProduct, b),
@@ -181,11 +181,11 @@ fn ix_extent(prelude: bool, e: &Ix) -> IxExtent
 {
     match e {
         Ix::Lit(_) | Ix::Name(_) => one_token(),
-        Ix::Neg(a) => negated(placed(Place::UnderMinus, ix_extent(prelude, a.get()))),
+        Ix::Neg(a) => negation_extent(placed(Place::UnderMinus, ix_extent(prelude, a.get()))),
         Ix::Add(a, b) | Ix::Sub(a, b) => {
-            sum(ix_extent(prelude, a.get()), ix_extent(prelude, b.get()))
+            sum_extent(ix_extent(prelude, a.get()), ix_extent(prelude, b.get()))
         }
-        Ix::Mul(a, b) => product(ix_extent(prelude, a.get()), ix_extent(prelude, b.get())),
+        Ix::Mul(a, b) => product_extent(ix_extent(prelude, a.get()), ix_extent(prelude, b.get())),
         Ix::Min(a, b) | Ix::Max(a, b) | Ix::Mod(a, b) => choice(
             prelude,
             ix_extent(prelude, a.get()),
