@@ -1,0 +1,19 @@
+use Rattle.std.proofs.Common.{◌+ℤ◌, ◌-ℤ◌, ap, ◌∙◌}
+use Rattle.affc_grammar.specs.Draft as d
+use Rattle.affc_limits.specs.Coefficients.{number_of}
+use Rattle.affc_limits.proofs.PartLaws.{past_of_two, past-difference, minus_is}
+use Rattle.affc_limits.proofs.parts.difference_form.Goals as goal
+
+pub returns : goal.returns
+returns c = λ x y f g.
+    c.form_of.ensures (d.difference x y)
+    (record {
+      first_is = f.has.first_is;
+      constant_is = c.in_ok-constant.ensures ∙ (λ i. f.has.constant_is i -ℤ g.has.constant_is i);
+      coefficients_are = λ w.
+          c.in_ok-coefficients.ensures w
+          ∙ ap (λ z. number_of c.args.a.coefficients w +ℤ z) (c.in_ok-opposites.ensures w)
+          ∙ minus_is (number_of c.args.a.coefficients w) (number_of c.args.b.coefficients w)
+          ∙ (λ i. f.has.coefficients_are w i -ℤ g.has.coefficients_are w i);
+    })
+    (past_of_two (d.difference x y) x y c.args.a c.args.b c.lesser.result f g c.lesser.ensures ∙ past-difference x y)
