@@ -76,9 +76,7 @@ fn put(out: &mut Multipliers, row: u32, times: u64) -> Result<(), Lack> {
 
 /// The multipliers of these rows, in order. Those of one row are summed.
 fn gathered(alloc: Global, pairs: &mut Vec<(u32, u64)>) -> Result<Multipliers, Lack> {
-    let Ok(()) = pairs.sort_by_key(|pair| pair.0) else {
-        return Err(Lack::Memory);
-    };
+    pairs.sort_by_key(|pair| pair.0)?;
     let mut out = Multipliers::new(alloc);
     let mut last = None;
     for (row, times) in pairs.as_slice() {
