@@ -1,6 +1,6 @@
 -- The questions of two accesses.
 use Rattle.std.proofs.Common.{◌≡◌, Bool, true, false, List, [], ◌∷◌, ◌++◌, length, map, flat_map, Vec, refl, sym, ap, subst, ◌∙◌, arith}
-use Rattle.std.specs.Prelude.{nat_eq, if◌then◌else◌, Result, Ok, Err, OnOk}
+use Rattle.std.specs.Prelude.{nat_eq, if◌then◌else◌}
 use Rattle.std.specs.List.{All}
 use Rattle.std.proofs.lemmas.Bool.{eqb-true}
 use Rattle.affc_system.specs.Systems.{Rows}
@@ -16,11 +16,6 @@ use Rattle.affc_products.specs.Groups.{group_systems}
 use Rattle.affc_products.specs.declared.group.Group.{Group}
 use Rattle.affc_questions.specs.legality.Added.{AreAdded, NoneDepends}
 use Rattle.affc_questions.specs.legality.Alternatives.{with_orders}
-
--- two facts of one end
-pub on_ok_both : {T E P Q : Type 0} (r : Result T E) → OnOk r P → OnOk r Q → OnOk r (P × Q)
-on_ok_both (Ok x) p q = (p, q)
-on_ok_both (Err e) p q = tt
 
 none_of : {X : Type 0} (xs : List X) → length xs ≡ 0 → xs ≡ []
 none_of [] e = refl

@@ -54,7 +54,8 @@ fn add_pair(
     ensures { OnOk result (AreAdded out.old.items out.new.items (pair_questions nest.now from.now.entry.now to.now.entry.now orders.now.schedule.now from.now.access.now to.now.access.now)) }
 {
     let pair = pair_rows(alloc, nest, from.entry, to.entry, from.access, to.access)?;
-    add_product(alloc, pair, orders.earlier, orders.later, out)
+    add_product(alloc, pair, orders.earlier, orders.later, out)?;
+    Ok(())
 }
 
 /// Whether an instance with the second access can depend on one with the first: they are of one array, and one of them stores.

@@ -39,7 +39,8 @@ fn add_alternatives(
         [order, rest @ ..] => {
             let rows = alternative(alloc, columns, order)?;
             out.push(rows)?;
-            add_alternatives(alloc, columns, rest, out)
+            add_alternatives(alloc, columns, rest, out)?;
+            Ok(())
         }
     }
 }

@@ -1,9 +1,8 @@
 use Rattle.std.proofs.Common.{ap}
-use Rattle.std.proofs.lemmas.Result.{on_ok_weaker}
 use Rattle.affc_system.specs.Systems.{Rows}
 use Rattle.affc_order.proofs.CodeLemmas.{is_nest}
 use Rattle.affc_sched.proofs.PairLemmas.{stands_in, as_many_subs, few_subs, source_orders, turned_orders, orders_at}
-use Rattle.affc_questions.proofs.legality.PairLemmas.{pair_added, on_ok_both}
+use Rattle.affc_questions.proofs.legality.PairLemmas.{pair_added}
 use Rattle.affc_questions.proofs.legality.orders.add_pair.Goals as goal
 
 pub pair_rows-requires-clause-many : goal.pair_rows-requires-clause-many
@@ -32,7 +31,6 @@ add_product-requires-clause-later c =
 
 pub returns : goal.returns
 returns c =
-    on_ok_weaker c.add_product.result
-    (λ e. pair_added c.args.nest.now c.args.orders.now.schedule.now c.args.from.now.entry.now c.args.to.now.entry.now c.args.from.now.access.now c.args.to.now.access.now c.in_ok-pair.pair c.args.orders.now.earlier.now c.args.orders.now.later.now c.args.out.now.items c.add_product.new.out.items
+    pair_added c.args.nest.now c.args.orders.now.schedule.now c.args.from.now.entry.now c.args.to.now.entry.now c.args.from.now.access.now c.args.to.now.access.now c.in_ok-pair.pair c.args.orders.now.earlier.now c.args.orders.now.later.now c.args.out.now.items c.add_product.new.out.items
     c.in_ok-pair.ensures.value c.requires.earlier c.requires.later
-    e.0 e.1) (on_ok_both c.add_product.result c.add_product.ensures.put c.add_product.ensures.within)
+    c.in_ok-add_product.ensures.put c.in_ok-add_product.ensures.within
