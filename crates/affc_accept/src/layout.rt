@@ -65,7 +65,8 @@ fn add_stores(
             let Some(next) = first.checked_add(1) else {
                 return Err(AllocError);
             };
-            add_stores(next, rest, array, out)
+            add_stores(next, rest, array, out)?;
+            Ok(())
         }
     }
 }
@@ -100,7 +101,8 @@ fn add_loads_among(
         [access, rest @ ..] => {
             let load = load(alloc, nest, entry, access)?;
             out.push(load)?;
-            add_loads_among(alloc, nest, entry, rest, out)
+            add_loads_among(alloc, nest, entry, rest, out)?;
+            Ok(())
         }
     }
 }
@@ -118,7 +120,8 @@ fn add_loads(
         [] => Ok(()),
         [entry, rest @ ..] => {
             add_loads_among(alloc, nest, entry, entry.accesses.as_slice(), out)?;
-            add_loads(alloc, nest, rest, out)
+            add_loads(alloc, nest, rest, out)?;
+            Ok(())
         }
     }
 }
@@ -165,7 +168,8 @@ fn add_temporaries(
             let Some(next) = first.checked_add(1) else {
                 return Err(AllocError);
             };
-            add_temporaries(next, rest, out)
+            add_temporaries(next, rest, out)?;
+            Ok(())
         }
     }
 }

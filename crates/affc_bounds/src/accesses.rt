@@ -38,7 +38,8 @@ fn add_ranges(out: &mut BoxOf, ranges: &[(i64, i64)]) -> Result<(), AllocError>
         [] => Ok(()),
         [range, rest @ ..] => {
             out.push(range.0, range.1)?;
-            add_ranges(out, rest)
+            add_ranges(out, rest)?;
+            Ok(())
         }
     }
 }
@@ -239,7 +240,8 @@ fn in_entry(
         entry,
         ranges: &ranges,
     };
-    in_accesses(alloc, &look, 0, entry.accesses.as_slice(), budget)
+    let found = in_accesses(alloc, &look, 0, entry.accesses.as_slice(), budget)?;
+    Ok(found)
 }
 
 /// The first fault among the accesses of these entries.

@@ -7,9 +7,8 @@ pub mod laws;
 mod meaning;
 pub mod refusal;
 mod temporaries;
-pub mod wanted;
+mod wanted;
 
 pub use flowing::flow;
-pub use folding::{Done, Made, fold};
+pub use folding::{CertifiedDone, Done, fold, fold_certified};
 pub use refusal::Refusal;
-pub use wanted::Wanted;

@@ -2,7 +2,7 @@
 
 /// Whether a certificate is made beside the text.
 #[derive(Clone, Copy)]
-pub enum Wanted {
+pub(crate) enum Wanted {
     Text,
     Certificate,
 }

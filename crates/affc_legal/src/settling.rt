@@ -99,7 +99,8 @@ fn add_ranges(out: &mut BoxOf, ranges: &[(i64, i64)]) -> Result<(), AllocError>
         [] => Ok(()),
         [range, rest @ ..] => {
             out.push(range.0, range.1)?;
-            add_ranges(out, rest)
+            add_ranges(out, rest)?;
+            Ok(())
         }
     }
 }
@@ -142,7 +143,8 @@ fn settle_pair(
         second,
         ranges: &ranges,
     };
-    settle_systems(alloc, &pair, systems.as_slice(), budget, out)
+    let found = settle_systems(alloc, &pair, systems.as_slice(), budget, out)?;
+    Ok(found)
 }
 
 // ---- All questions.

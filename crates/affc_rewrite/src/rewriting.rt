@@ -55,7 +55,8 @@ fn body(
         arrays: nest.arrays.as_slice(),
         folds,
     };
-    statements(alloc, &folding, parameters, program.body.as_slice())
+    let made = statements(alloc, &folding, parameters, program.body.as_slice())?;
+    Ok(made)
 }
 
 /// The temporaries with their moduli for extents.
@@ -74,7 +75,8 @@ fn temporaries(
     let parameters = count(nest);
     let first = first_temporary(program, nest);
     let temps = program.temps.as_slice();
-    add_decls(alloc, parameters, folds, first, temps, Items::new(alloc))
+    let made = add_decls(alloc, parameters, folds, first, temps, Items::new(alloc))?;
+    Ok(made)
 }
 
 /// The program with the subscripts and extents of folds, as it is printed: it has the prelude exactly where a statement calls

@@ -161,22 +161,28 @@ fn statement(alloc: Global, folding: &Folding<'_>, names: u32, s: &Stmt) -> Resu
             body,
         } => {
             let body = statements(alloc, folding, names + 1, body.as_slice())?;
-            for_loop(alloc, iter, low, *rel, high, body)
+            let s = for_loop(alloc, iter, low, *rel, high, body)?;
+            Ok(s)
         }
         Stmt::If { conds, body } => {
             let body = statements(alloc, folding, names, body.as_slice())?;
-            tested(alloc, conds.as_slice(), body)
+            let s = tested(alloc, conds.as_slice(), body)?;
+            Ok(s)
         }
         Stmt::Assign {
             op,
             array,
             subs,
             value,
-        } => assignment(alloc, folding, names, *op, *array, subs.as_slice(), value),
+        } => {
+            let s = assignment(alloc, folding, names, *op, *array, subs.as_slice(), value)?;
+            Ok(s)
+        }
         Stmt::Block { locals, body } => {
             let names = inside(names, locals.as_slice());
             let body = statements(alloc, folding, names, body.as_slice())?;
-            block(alloc, locals.as_slice(), body)
+            let s = block(alloc, locals.as_slice(), body)?;
+            Ok(s)
         }
     }
 }

@@ -55,7 +55,8 @@ fn by_rows(
     let rows = fold.basis.rows.as_slice();
     let moduli = fold.moduli.as_slice();
     let made = Items::new(alloc);
-    add_components(alloc, &access, 0, rows, moduli, extents, subs, made)
+    let made = add_components(alloc, &access, 0, rows, moduli, extents, subs, made)?;
+    Ok(made)
 }
 
 /// The subscripts of an array with a fold.

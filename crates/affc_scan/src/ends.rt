@@ -33,6 +33,29 @@ fn rest_of(alloc: Global, column: u32, row: &Form) -> Result<Form, AllocError>
     })
 }
 
+fn negated(c: i128) -> i128
+    requires { unsigned_abs c ≤ 2 ^ 59 }
+    ensures { result ≡ neg_ℤ c }
+{
+    -c
+}
+
+/// The form with its signs turned.
+#[tactic(auto, using(crate::proofs::EndSteps::one_more_opposite))]
+fn opposite(alloc: Global, form: &Form) -> Result<Form, AllocError>
+    requires { IsModest form.now }
+    ensures { IfOk result (λ f. f ≡ specs.opposite form.now) }
+{
+    let mut coefs = SmallVec::new(alloc);
+    for c in form.coefs.as_slice() {
+        coefs.push(negated(*c))?;
+    }
+    Ok(Form {
+        coefs,
+        constant: negated(form.constant),
+    })
+}
+
 /// The coefficient in the last column.
 fn last_of(column: u32, row: &Form) -> i64
     requires { IsEndRow column row.now }
@@ -59,7 +82,7 @@ fn rounded_down(alloc: Global, e: Ix, by: i64) -> Result<Ix, AllocError>
 }
 
 /// The least number that a row of the lower end allows.
-#[tactic(auto, using(crate::proofs::EndSteps::modest_opposite, crate::proofs::EndSteps::opposite_modest, crate::proofs::EndSteps::opposite_long))]
+#[tactic(auto, using(crate::proofs::EndSteps::opposite_modest, crate::proofs::EndSteps::opposite_long))]
 fn least_by(alloc: Global, first: u32, column: u32, row: &Form) -> Result<Ix, AllocError>
     requires few { first ≤ column }
     requires seen { column ≤ 512 }
@@ -67,7 +90,7 @@ fn least_by(alloc: Global, first: u32, column: u32, row: &Form) -> Result<Ix, Al
     ensures { IfOk result (λ x. x ≡ specs.least_by first column row.now) }
 {
     let rest = rest_of(alloc, column, row)?;
-    let turned = rest.opposite(alloc)?;
+    let turned = opposite(alloc, &rest)?;
     let dividend = form_ix(alloc, first, first, &turned)?;
     rounded_up(alloc, dividend, last_of(column, row))
 }
@@ -150,7 +173,8 @@ fn lower_end(
         [row, rest @ ..] => {
             let made = least_by(alloc, first, column, row)?;
             let made = greatest_of(alloc, first, column, made, rest)?;
-            max(alloc, made, last)
+            let end = max(alloc, made, last)?;
+            Ok(end)
         }
     }
 }
@@ -175,7 +199,8 @@ fn upper_end(
         [row, rest @ ..] => {
             let made = greatest_by(alloc, first, column, row)?;
             let made = least_of(alloc, first, column, made, rest)?;
-            min(alloc, made, last)
+            let end = min(alloc, made, last)?;
+            Ok(end)
         }
     }
 }

@@ -38,7 +38,9 @@ fn add_part<'a, 's>(
         entry,
         times,
     };
-    out.push(part)?;
+    let Ok(()) = out.push(part) else {
+        return Err(AllocError);
+    };
     Ok(())
 }
 
@@ -65,7 +67,8 @@ fn add_parts<'a, 's>(
                     let Some(next) = first.checked_add(1) else {
                         return Err(AllocError);
                     };
-                    add_parts(next, sites, entries, maps, out)
+                    add_parts(next, sites, entries, maps, out)?;
+                    Ok(())
                 }
             },
         },

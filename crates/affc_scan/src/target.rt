@@ -41,7 +41,8 @@ fn add_blocks(
         [] => Ok(made),
         [part, rest @ ..] => {
             made.push(block(alloc, first, more, part)?)?;
-            add_blocks(alloc, first, more, rest, made)
+            let all = add_blocks(alloc, first, more, rest, made)?;
+            Ok(all)
         }
     }
 }
@@ -64,7 +65,8 @@ fn body(
             let more = ends.len() as u32;
             let none = Items::new(alloc);
             let blocks = add_blocks(alloc, first, more, parts, none)?;
-            loops_between(alloc, ends, blocks)
+            let made = loops_between(alloc, ends, blocks)?;
+            Ok(made)
         }
     }
 }
@@ -105,7 +107,8 @@ fn projected(
     let times = time_ranges(alloc, &nest.params, parts)?;
     let params = nest.params.clone()?;
     let ranges = wider(params, times.as_slice())?;
-    gather_all(alloc, nest, &ranges, first, parts)
+    let made = gather_all(alloc, nest, &ranges, first, parts)?;
+    Ok(made)
 }
 
 /// The program of these times, of which each has so many components.

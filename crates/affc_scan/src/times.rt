@@ -62,7 +62,8 @@ pub(crate) fn time_ranges(
                 [_, ..] => {
                     let others = time_ranges(alloc, params, rest)?;
                     let made = Items::new(alloc);
-                    add_hulls(own.as_slice(), others.as_slice(), made)
+                    let hulls = add_hulls(own.as_slice(), others.as_slice(), made)?;
+                    Ok(hulls)
                 }
             }
         }

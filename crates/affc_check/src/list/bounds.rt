@@ -31,7 +31,8 @@ fn add_extents(
         [extent, rest @ ..] => {
             let system = extent_at_most_zero(alloc, nest, extent)?;
             add_question(out, system)?;
-            add_extents(alloc, nest, rest, out)
+            add_extents(alloc, nest, rest, out)?;
+            Ok(())
         }
     }
 }
@@ -51,7 +52,8 @@ fn add_arrays(
         [] => Ok(()),
         [array, rest @ ..] => {
             add_extents(alloc, nest, array.extents.as_slice(), out)?;
-            add_arrays(alloc, nest, rest, out)
+            add_arrays(alloc, nest, rest, out)?;
+            Ok(())
         }
     }
 }
@@ -65,7 +67,8 @@ pub(crate) fn add_extent_questions(
     requires { IsNest nest.now }
     ensures { OnOk result (flat_map listed_said out.new.items ≡ flat_map listed_said out.old.items ++ map Question (extent_questions nest.now)) }
 {
-    add_arrays(alloc, nest, nest.arrays.as_slice(), out)
+    add_arrays(alloc, nest, nest.arrays.as_slice(), out)?;
+    Ok(())
 }
 
 /// Adds the questions on an access of a statement, by the subscripts and extents of its dimensions.
@@ -92,7 +95,8 @@ fn add_dimensions(
                 add_question(out, low)?;
                 let high = subscript_past_extent(alloc, nest, entry, sub, extent)?;
                 add_question(out, high)?;
-                add_dimensions(alloc, nest, entry, more_subs, more_extents, out)
+                add_dimensions(alloc, nest, entry, more_subs, more_extents, out)?;
+                Ok(())
             }
         },
     }
@@ -128,7 +132,8 @@ fn add_accesses(
             let extents = extents_of(nest, access.array);
             let subs = access.subs.as_slice();
             add_dimensions(alloc, nest, entry, subs, extents, out)?;
-            add_accesses(alloc, nest, entry, rest, out)
+            add_accesses(alloc, nest, entry, rest, out)?;
+            Ok(())
         }
     }
 }
@@ -147,7 +152,8 @@ fn add_entry(
     if !entry.alive {
         return Ok(());
     }
-    add_accesses(alloc, nest, entry, entry.accesses.as_slice(), out)
+    add_accesses(alloc, nest, entry, entry.accesses.as_slice(), out)?;
+    Ok(())
 }
 
 /// Adds the questions on the accesses of these statements.
@@ -165,7 +171,8 @@ fn add_entries(
         [] => Ok(()),
         [entry, rest @ ..] => {
             add_entry(alloc, nest, entry, out)?;
-            add_entries(alloc, nest, rest, out)
+            add_entries(alloc, nest, rest, out)?;
+            Ok(())
         }
     }
 }
@@ -179,5 +186,6 @@ pub(crate) fn add_bound_questions(
     requires { IsNest nest.now }
     ensures { OnOk result (flat_map listed_said out.new.items ≡ flat_map listed_said out.old.items ++ map Question (bound_questions nest.now)) }
 {
-    add_entries(alloc, nest, nest.entries.as_slice(), out)
+    add_entries(alloc, nest, nest.entries.as_slice(), out)?;
+    Ok(())
 }
