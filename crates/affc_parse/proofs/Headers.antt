@@ -35,7 +35,7 @@ ordinary_right : (s : Symbol) → is_ordinary s.kind ≡ true → is_right s ≡
 ordinary_right s h = ap (λ b. if b then same s.bytes (codes "<stdint.h>") else true) (no_header s.kind h)
 
 pub ix_right : {prelude : Bool} (a : IxText prelude) → AreRight (ix_symbols a)
-ix_right a = all_of is_right ordinary_right _ (ix_ordinary a)
+ix_right a = all_of is_right ordinary_right (ix_symbols a) (ix_ordinary a)
 
 line_right : (l : LineText) → AreRight (include_symbols l)
 line_right g.line_feed = refl
@@ -48,5 +48,5 @@ prelude_right false = refl
 pub text_right : (c : Text) → AreRight (text_symbols c)
 text_right c =
     on (include_symbols c.line) _ (line_right c.line)
-    (on (pragmas_symbols c.pragmas) _ (all_of is_right ordinary_right _ (pragmas_ordinary c.pragmas))
+    (on (pragmas_symbols c.pragmas) _ (all_of is_right ordinary_right (pragmas_symbols c.pragmas) (pragmas_ordinary c.pragmas))
     (on (prelude_symbols c.has_prelude) _ (prelude_right c.has_prelude) (all_of is_right ordinary_right (function_symbols c.function) (function_ordinary c.function))))
