@@ -2,7 +2,7 @@
 ghost use Rattle.std.specs.Prelude.{◌≡◌, ◌+◌, ◌≤◌, ◌++◌, length, slice_get, IsTrue, IfOk, IfErr, OnOk, Some};
 ghost use Rattle.affc_system.specs.Boxes.{IsBox};
 ghost use Rattle.affc_split.specs.Budgets.{IsLater};
-ghost use Rattle.affc_nest.specs.Asked.{IsNest, IsExtent, IsSubscript};
+ghost use Rattle.affc_nest.specs.Asked.{IsExtent, IsSubscript};
 ghost use Rattle.affc_nest.specs.Questions.{extents_or_none};
 ghost use Rattle.affc_bounds.specs.Found.{IsFirst};
 ghost use Rattle.affc_bounds.specs.Looks.{IsOutsideAt, box_of, InDimension, InDimensions, InAccesses, InEntry, InEntries, AreExtents, AreSubscripts, HaveSubscripts, IsAlive, AreAlive};
@@ -38,8 +38,7 @@ fn add_ranges(out: &mut BoxOf, ranges: &[(i64, i64)]) -> Result<(), AllocError>
         [] => Ok(()),
         [range, rest @ ..] => {
             out.push(range.0, range.1)?;
-            add_ranges(out, rest)?;
-            Ok(())
+            add_ranges(out, rest)
         }
     }
 }
@@ -240,8 +239,7 @@ fn in_entry(
         entry,
         ranges: &ranges,
     };
-    let found = in_accesses(alloc, &look, 0, entry.accesses.as_slice(), budget)?;
-    Ok(found)
+    in_accesses(alloc, &look, 0, entry.accesses.as_slice(), budget)
 }
 
 /// The first fault among the accesses of these entries.

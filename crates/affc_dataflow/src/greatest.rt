@@ -7,7 +7,6 @@ ghost use Rattle.affc_split.specs.Budgets.{IsLater};
 ghost use Rattle.affc_nest.specs.Domains.{with_rows};
 ghost use Rattle.affc_dataflow.specs.Opposites.{opposite_row, opposite_system, opposite_range, IsLeastIn, IsGreatestIn};
 
-use affc_nest::rows::add_row;
 use affc_rows::Form;
 use affc_split::{Answer, Budget, Stop, decide};
 use affc_system::{BoxOf, System};
@@ -49,7 +48,7 @@ fn add_opposite_row(alloc: Global, row: &Form, system: &mut System) -> Result<()
     ensures { OnOk result (system.new ≡ with_rows system.old (opposite_row row.now ∷ [])) }
 {
     let turned = opposite_row(alloc, row)?;
-    add_row(system, turned)
+    system.add(turned)
 }
 
 /// Adds rows, each turned round.

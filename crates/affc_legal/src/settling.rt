@@ -99,8 +99,7 @@ fn add_ranges(out: &mut BoxOf, ranges: &[(i64, i64)]) -> Result<(), AllocError>
         [] => Ok(()),
         [range, rest @ ..] => {
             out.push(range.0, range.1)?;
-            add_ranges(out, rest)?;
-            Ok(())
+            add_ranges(out, rest)
         }
     }
 }
@@ -143,8 +142,7 @@ fn settle_pair(
         second,
         ranges: &ranges,
     };
-    let found = settle_systems(alloc, &pair, systems.as_slice(), budget, out)?;
-    Ok(found)
+    settle_systems(alloc, &pair, systems.as_slice(), budget, out)
 }
 
 // ---- All questions.

@@ -1,11 +1,11 @@
 //! Dependences that are turned round, as they are found, in the order of their keys.
-ghost use Rattle.std.specs.Prelude.{◌≡◌, ◌+◌, ◌≤◌, length, take, drop, IfOk, MatchBool};
-ghost use Rattle.affc_system.specs.Order.{LexLe};
+ghost use Rattle.std.specs.Prelude.{◌≡◌, ◌+◌, ◌≤◌, length, take, drop, IfOk};
 ghost use Rattle.affc_legal.specs.Answered.{IsNearer};
 ghost use Rattle.affc_legal.specs.Violations.{spot_of};
 
 use affc_ast::tree::Instance;
 use affc_nest::{Entry, Nest};
+use affc_system::is_at_most;
 use sqlite_items::Items;
 use std::alloc::{AllocError, Global};
 
@@ -16,27 +16,6 @@ pub(crate) struct Violation {
     pub(crate) p: Items<i64>,
     pub(crate) a: Instance,
     pub(crate) b: Instance,
-}
-
-/// Whether the first list is at most the second in lexicographic order.
-fn is_at_most(xs: &[i64], zs: &[i64]) -> bool
-    ensures order { MatchBool result (LexLe xs.now zs.now) (LexLe zs.now xs.now) }
-{
-    match xs {
-        [] => true,
-        [x, more_xs @ ..] => match zs {
-            [] => false,
-            [z, more_zs @ ..] => {
-                if *x < *z {
-                    true
-                } else if *z < *x {
-                    false
-                } else {
-                    is_at_most(more_xs, more_zs)
-                }
-            }
-        },
-    }
 }
 
 /// The first of what two looks have found.

@@ -145,16 +145,16 @@ module _ (params : ℕ) (domain times inverse : List Affine) (h : AreComposable 
 pub code_fit : (params : ℕ) (domain times inverse : List Affine) → AreComposable params domain times inverse → (items g1 g2 r0 r1 r2 r3 : List Affine) (s : Rows)
     → items ≡ columns_from (params + length times) 0 params ++ inverse → g1 ≡ items → g2 ≡ items → r0 ≡ [] → r1 ≡ r0 ++ map (form_at (params + length times) g1) domain
     → r2 ≡ r1 ++ component_rows (params + length times) params g2 times → r3 ≡ r2 → s ≡ record { columns = params + length times; rows = [] }
-    → All (IsRow s.columns) r3 × (length s.rows + length r3 < 1024)
+    → All (IsRow s.columns) r3 × (length s.rows + length r3 ≤ 1024)
 code_fit params domain times inverse h items g1 g2 r0 r1 r2 r3 s is e1 e2 f0 f1 f2 f3 g =
     let c = params + length times in
     let made : r3 ≡ map (form_at c items) domain ++ component_rows c params items times =
     f3 ∙ f2 ∙ ap (λ z. z ++ component_rows c params g2 times) (f1 ∙ ap (λ z. z ++ map (form_at c g1) domain) f0) ∙ ap (λ z. map (form_at c z) domain ++ component_rows c params g2 times) e1
     ∙ ap (λ z. map (form_at c items) domain ++ component_rows c params z times) e2 in
     let fits : length r3 < 1024 = made_count params domain times inverse h items is r3 made in
-    let start : 0 + length r3 < 1024 = omega arith in (
+    let start : 0 + length r3 ≤ 1024 = omega arith in (
       subst (λ (q : Rows). All (IsRow q.columns) r3) (sym g) (made_system params domain times inverse h items is r3 made),
-      subst (λ (q : Rows). length q.rows + length r3 < 1024) (sym g) start,
+      subst (λ (q : Rows). length q.rows + length r3 ≤ 1024) (sym g) start,
     )
 
 pub code_composable : (nest : Nest) (e : Entry) (m : TimeMap) → IsTimed nest e m → (params : List (ℤ × ℤ)) (domain times inverse : List Affine) → params ≡ nest.params → domain ≡ e.domain.rows → times ≡ m.forms → inverse ≡ m.inverse

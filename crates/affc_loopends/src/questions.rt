@@ -1,5 +1,5 @@
 //! Whether rows imply another one, asked of elimination.
-ghost use Rattle.std.specs.Prelude.{◌≡◌, ℕ, ◌+◌, ◌<◌, ◌≤◌, ◌++◌, ◌∷◌, [], length, ◌↔◌, IsTrue, IfOk, remove};
+ghost use Rattle.std.specs.Prelude.{◌≡◌, ◌<◌, ◌≤◌, [], length, ◌↔◌, IsTrue, IfOk, remove};
 ghost use Rattle.std.specs.List.{All};
 ghost use Rattle.affc_system.specs.Systems.{Meets};
 ghost use Rattle.affc_loopends.specs.Sizes.{IsPrintable};
@@ -9,7 +9,6 @@ ghost use Rattle.affc_loopends.specs.Whys.{below_zero, question};
 use crate::bounds::Answer;
 use affc_eliminate::project::{Projected, project};
 use affc_nest::questions::add_rows;
-use affc_nest::rows::add_row;
 use affc_rows::Form;
 use affc_rows::vocabulary::copies;
 use affc_system::System;
@@ -45,7 +44,7 @@ fn question(alloc: Global, columns: u32, others: &[Form], row: &Form) -> Result<
     let mut system = System::new(alloc, columns);
     add_rows(&mut system, others)?;
     let below = below_zero(alloc, row)?;
-    add_row(&mut system, below)?;
+    system.add(below)?;
     Ok(system)
 }
 

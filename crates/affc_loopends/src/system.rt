@@ -1,11 +1,11 @@
 //! The time set of a statement as a system.
-ghost use Rattle.std.specs.Prelude.{◌≡◌, ℕ, ◌∷◌, [], ◌+◌, ◌*◌, ◌≤◌, ◌<◌, ◌++◌, length, map, IfOk, OnOk};
+ghost use Rattle.std.specs.Prelude.{◌≡◌, ◌∷◌, [], ◌+◌, ◌≤◌, ◌<◌, ◌++◌, length, map, IfOk, OnOk};
 ghost use Rattle.std.specs.List.{All};
-ghost use Rattle.affc_rows.specs.Vocabulary.{column_form, form_at};
+ghost use Rattle.affc_rows.specs.Vocabulary.{column_form, form_at, gap_row};
 ghost use Rattle.affc_ast.specs.declared.tree.Rel.TheVariants.{Equal};
 ghost use Rattle.affc_nest.specs.Domains.{compare_rows};
 ghost use Rattle.affc_loopends.specs.Images.{AreImages, AreComposable};
-ghost use Rattle.affc_loopends.specs.Sizes.{IsTimed, IsNear};
+ghost use Rattle.affc_loopends.specs.Sizes.{IsTimed, IsNear, IsComposed};
 ghost use Rattle.affc_loopends.specs.TimeRows.{columns_from, component_rows, time_system};
 
 use affc_nest::questions::add_rows;
@@ -46,6 +46,26 @@ fn add_images(
     }
 }
 
+/// Adds the row that the second form is at least the first.
+fn add_gap(alloc: Global, a: &Form, b: &Form, out: &mut Vec<Form>) -> Result<(), AllocError>
+    requires first { IsComposed (length a.now.coefs) a.now }
+    requires second { IsComposed (length a.now.coefs) b.now }
+    ensures { OnOk result (out.new.items ≡ out.old.items ++ gap_row a.now b.now 0 ∷ []) }
+{
+    out.push(Form::gap(alloc, a, b, 0)?)?;
+    Ok(())
+}
+
+/// Adds the rows that two forms are equal.
+fn add_equal(alloc: Global, a: &Form, b: &Form, out: &mut Vec<Form>) -> Result<(), AllocError>
+    requires first { IsComposed (length a.now.coefs) a.now }
+    requires second { IsComposed (length a.now.coefs) b.now }
+    ensures { OnOk result (out.new.items ≡ out.old.items ++ compare_rows Equal a.now b.now) }
+{
+    add_gap(alloc, b, a, out)?;
+    add_gap(alloc, a, b, out)
+}
+
 /// Adds the rows that a column equals the form of its time.
 fn add_component(
     alloc: Global,
@@ -61,11 +81,7 @@ fn add_component(
 {
     let own = Form::column(alloc, columns, component)?;
     let time = image_of(alloc, columns, images, form)?;
-    let above = Form::gap(alloc, &time, &own, 0)?;
-    let below = Form::gap(alloc, &own, &time, 0)?;
-    out.push(above)?;
-    out.push(below)?;
-    Ok(())
+    add_equal(alloc, &own, &time, out)
 }
 
 /// Adds, for each component, the rows that it equals the form of its time.

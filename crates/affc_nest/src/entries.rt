@@ -3,7 +3,6 @@ ghost use Rattle.std.specs.Prelude.{◌≡◌, ◌+◌, ◌≤◌, ◌∷◌, �
 ghost use Rattle.affc_domain.specs.Accesses.{accesses_of, own_access};
 ghost use Rattle.affc_domain.specs.Plain.{plain_tests};
 ghost use Rattle.affc_domain.specs.Ranges.{first_wide_of};
-ghost use Rattle.affc_domain.specs.Rounds.{loops_in};
 ghost use Rattle.affc_nest.specs.Entries.{ArePlainPlaces, IsPlainPlace, entry_at, entries_at, first_wide_at, FaultSays};
 ghost use Rattle.affc_nest.specs.Nests.{access_form, nowhere};
 ghost use Rattle.affc_nest.specs.Sides.{NearRanges};
@@ -14,7 +13,6 @@ use crate::accesses::{Touch, add_accesses, add_loads};
 use crate::domains::{count_loops, domain};
 use crate::nest::{Entry, NestFault};
 use crate::ranges::{Fit, fits};
-use crate::rows::add_row;
 use crate::sites::Site;
 use affc_ast::tree::Compare;
 use affc_rows::Form;
@@ -61,7 +59,7 @@ fn empty_domain(alloc: Global, columns: u32) -> Result<System, AllocError>
 {
     let row = Form::number(alloc, columns, -1)?;
     let mut system = System::new(alloc, columns);
-    add_row(&mut system, row)?;
+    system.add(row)?;
     Ok(system)
 }
 

@@ -11,7 +11,7 @@ ghost use Rattle.affc_nest.specs.Sides.{IsSide, NearRanges};
 
 use crate::domains::add_box;
 use crate::nest::{Entry, Nest};
-use crate::rows::{add_gap, add_row};
+use crate::rows::add_gap;
 use affc_rows::Form;
 use affc_system::{BoxOf, System};
 use std::alloc::{AllocError, Global};
@@ -19,13 +19,13 @@ use std::alloc::{AllocError, Global};
 /// Adds copies of rows.
 pub fn add_rows(system: &mut System, rows: &[Form]) -> Result<(), AllocError>
     requires fit { All (IsRow system.old.columns) rows.now }
-    requires room { length system.old.rows + length rows.now < 1024 }
+    requires room { length system.old.rows + length rows.now ≤ 1024 }
     ensures { OnOk result (system.new ≡ with_rows system.old rows.now) }
 {
     match rows {
         [] => Ok(()),
         [row, rest @ ..] => {
-            add_row(system, row.clone()?)?;
+            system.add(row.clone()?)?;
             add_rows(system, rest)
         }
     }

@@ -1,28 +1,12 @@
 //! Rows of comparisons, put into a system.
 ghost use Rattle.std.specs.Prelude.{◌≡◌, ◌+◌, ◌<◌, ◌≤◌, ◌∷◌, [], length, OnOk};
-ghost use Rattle.affc_system.specs.Systems.{FitsRow};
 ghost use Rattle.affc_nest.specs.Domains.{gap_row, compare_rows, with_rows};
 ghost use Rattle.affc_nest.specs.Sides.{IsSide};
 
 use affc_ast::tree::Rel;
 use affc_rows::Form;
-use affc_system::{RowFault, System};
+use affc_system::System;
 use std::alloc::{AllocError, Global};
-
-/// Adds a row that keeps the limits, where there is room.
-pub fn add_row(system: &mut System, row: Form) -> Result<(), AllocError>
-    requires fits { FitsRow row }
-    requires width { length row.coefs ≡ system.old.columns }
-    requires room { length system.old.rows < 1024 }
-    ensures { OnOk result (system.new ≡ with_rows system.old (row ∷ [])) }
-{
-    match system.push(row) {
-        Ok(()) => Ok(()),
-        Err(RowFault::Range) => unreachable!(),
-        Err(RowFault::Full) => unreachable!(),
-        Err(RowFault::Memory) => Err(AllocError),
-    }
-}
 
 /// Adds the row `b - a - k`.
 #[tactic(auto, using(crate::proofs::RowLemmas::not_too_wide))]
@@ -40,7 +24,7 @@ pub(crate) fn add_gap(
     ensures { OnOk result (system.new ≡ with_rows system.old (gap_row a.now b.now k ∷ [])) }
 {
     let row = Form::gap(alloc, a, b, k)?;
-    add_row(system, row)
+    system.add(row)
 }
 
 /// Adds the rows of a comparison.

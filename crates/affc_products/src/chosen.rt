@@ -7,7 +7,7 @@ ghost use Rattle.affc_system.specs.Systems.{FitsRow, IsRow};
 ghost use Rattle.affc_products.specs.Parts.{IsProof};
 ghost use Rattle.affc_products.specs.Chosen.{rows_of};
 
-use crate::question::{add_row, is_proof};
+use crate::question::is_proof;
 use affc_farkas::Proof;
 use affc_rows::Form;
 use affc_system::System;
@@ -127,8 +127,7 @@ fn add_copy(system: &mut System, row: &Form) -> Result<(), AllocError>
     requires room { length system.old.rows + 1 ≤ 1024 }
     ensures { OnOk result (system.new ≡ record { columns = system.old.columns; rows = system.old.rows ++ row.now ∷ [] }) }
 {
-    let row = row.clone()?;
-    add_row(system, row)
+    system.add(row.clone()?)
 }
 
 /// A system of copies of these rows.

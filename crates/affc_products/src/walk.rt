@@ -1,10 +1,9 @@
 //! Looks at proofs for the questions of a block, in order. The rows of a question are references: no row is copied.
-ghost use Rattle.std.specs.Prelude.{◌≡◌, ℕ, ◌≤◌, ◌+◌, ◌++◌, ◌∷◌, List, [], length, take, IfOk, OnOk};
+ghost use Rattle.std.specs.Prelude.{◌≡◌, ◌≤◌, ◌+◌, ◌++◌, ◌∷◌, [], length, take, IfOk, OnOk};
 ghost use Rattle.std.specs.List.{All};
 ghost use Rattle.affc_system.specs.Systems.{IsRow};
-ghost use Rattle.std.specs.Borrow.{Bor};
 ghost use Rattle.affc_farkas.specs.declared.proof.Proof.{Proof};
-ghost use Rattle.affc_products.specs.Blocks.{product, block_questions, longest, tallest, AreProved, FailsAt};
+ghost use Rattle.affc_products.specs.Blocks.{product, block_questions, longest, tallest};
 ghost use Rattle.affc_products.specs.Chosen.{rows_of};
 ghost use Rattle.affc_products.specs.Steps.{IsStep};
 

@@ -1,11 +1,10 @@
 //! Systems of any number of rows.
-ghost use Rattle.std.specs.Prelude.{◌≡◌, ◌+◌, ◌≤◌, ◌<◌, ◌↔◌, length, IsTrue, IfOk, IfSome, IfNone, OnOk};
+ghost use Rattle.std.specs.Prelude.{◌≡◌, ◌≤◌, ◌<◌, ◌↔◌, length, IsTrue, IfOk, IfSome, IfNone};
 ghost use Rattle.std.specs.List.{All};
 ghost use Rattle.affc_system.specs.Systems.{IsRow, Meets, IsPoint};
-ghost use Rattle.affc_nest.specs.Domains.{with_rows};
 ghost use Rattle.affc_products.specs.Parts.{IsWithin};
 
-use affc_nest::rows::add_row;
+use affc_nest::questions::add_rows;
 use affc_rows::Form;
 use affc_system::system::{MOST_COLUMNS, MOST_ROWS, value_at};
 use affc_system::{System, fits_row};
@@ -45,22 +44,6 @@ fn are_rows(columns: u32, rows: &[Form]) -> bool
         _ => {
             let (first, others) = rows.split_at(rows.len() / 2);
             are_rows(columns, first) && are_rows(columns, others)
-        }
-    }
-}
-
-/// Adds copies of rows.
-fn add_all(system: &mut System, rows: &[Form]) -> Result<(), AllocError>
-    requires fit { All (IsRow system.old.columns) rows.now }
-    requires room { length system.old.rows + length rows.now ≤ 1024 }
-    ensures { OnOk result (system.new ≡ with_rows system.old rows.now) }
-{
-    match rows {
-        [] => Ok(()),
-        [row, rest @ ..] => {
-            let row = row.clone()?;
-            add_row(system, row)?;
-            add_all(system, rest)
         }
     }
 }
@@ -111,7 +94,7 @@ impl Long {
             return Ok(None);
         }
         let mut system = System::new(alloc, columns);
-        add_all(&mut system, rows)?;
+        add_rows(&mut system, rows)?;
         Ok(Some(system))
     }
 

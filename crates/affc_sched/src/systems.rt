@@ -14,7 +14,7 @@ ghost use Rattle.affc_sched.specs.Spreadable.{IsSpreadable, IsOrder};
 
 use affc_ast::tree::Rel;
 use affc_nest::questions::add_rows;
-use affc_nest::rows::{add_compare, add_row};
+use affc_nest::rows::add_compare;
 use affc_nest::{Access, Entry, Nest};
 use affc_order::columns::spread;
 use affc_order::{source_before, target_after};
@@ -38,7 +38,7 @@ pub fn add_spread_rows(
 {
     for i in 0..rows.len() {
         let made = spread(alloc, &rows[i], params, between, behind)?;
-        add_row(system, made)?;
+        system.add(made)?;
     }
     Ok(())
 }

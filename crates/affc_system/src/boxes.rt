@@ -139,6 +139,9 @@ fn with_column(span: Span, c: i128, range: (i64, i64)) -> Result<Span, Range>
     ensures magnitude { IfOk result (λ s. s.magnitude ≡ span.magnitude + unsigned_abs c * reach range) }
     ensures range { OnErr result (2 ^ 126 < span.magnitude + unsigned_abs c * reach range) }
 {
+    if c == 0 {
+        return Ok(span);
+    }
     let reach = range.0.unsigned_abs().max(range.1.unsigned_abs());
     let Ok(magnitude) = wider(span.magnitude, c, reach) else {
         return Err(Range);

@@ -4,9 +4,11 @@
 pub mod boxes;
 pub mod examples;
 pub mod laws;
+pub mod order;
 pub mod pairs;
 pub mod system;
 
 pub use boxes::{BoxOf, interval};
+pub use order::is_at_most;
 pub use pairs::PairSystem;
 pub use system::{RowFault, System, fits_row, value_at};

@@ -1,5 +1,5 @@
 //! Systems.
-ghost use Rattle.std.specs.Prelude.{◌≡◌, ℕ, ◌+◌, ◌-◌, ◌*◌, ◌^◌, ◌<◌, ◌≤◌, ◌↔◌, ◌++◌, ◌∷◌, [], pos, ◌≤ℤ◌, ◌+ℤ◌, ◌*ℤ◌, unsigned_abs, IfOk, IfErr, OnOk, OnErr, IsTrue, length};
+ghost use Rattle.std.specs.Prelude.{◌≡◌, ℕ, ◌+◌, ◌-◌, ◌*◌, ◌^◌, ◌<◌, ◌≤◌, ◌↔◌, ◌++◌, ◌∷◌, [], pos, ◌≤ℤ◌, ◌+ℤ◌, ◌*ℤ◌, unsigned_abs, IfOk, IfErr, OnOk, OnErr, IsTrue, length, take};
 ghost use Rattle.std.specs.List.{All};
 ghost use Rattle.affc_rows.specs.Forms.{dot, value};
 ghost use Rattle.affc_system.specs.Systems.{FitsRow, IsRow, Meets, IsPoint};
@@ -84,6 +84,9 @@ fn with_term(sum: Total, c: i128, x: i64) -> Total
     ensures value { result.value ≡ sum.value +ℤ (c *ℤ x) }
     ensures magnitude { result.magnitude ≤ sum.magnitude + 2 ^ 103 }
 {
+    if c == 0 {
+        return sum;
+    }
     let Ok(next) = sum.add(c, i128::from(x)) else {
         unreachable!()
     };
@@ -153,6 +156,27 @@ impl System {
         ensures fit { All (IsRow self.columns) result.items }
     {
         self.rows
+    }
+
+    /// Adds a row that keeps the limits, where there is room.
+    pub fn add(&mut self, row: Form) -> Result<(), AllocError>
+        requires row { IsRow self.old.columns row }
+        requires room { length self.old.rows < 1024 }
+        ensures { OnOk result (self.new ≡ record self.old { rows = self.old.rows ++ row ∷ [] }) }
+    {
+        match self.push(row) {
+            Ok(()) => Ok(()),
+            Err(RowFault::Range) => unreachable!(),
+            Err(RowFault::Full) => unreachable!(),
+            Err(RowFault::Memory) => Err(AllocError),
+        }
+    }
+
+    /// Keeps so many rows, the first ones.
+    pub fn truncate(&mut self, count: usize)
+        ensures { self.new ≡ record self.old { rows = take count self.old.rows } }
+    {
+        self.rows.truncate(count);
     }
 
     /// The number of columns.

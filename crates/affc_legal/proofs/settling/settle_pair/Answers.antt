@@ -1,4 +1,5 @@
 use Rattle.std.proofs.Common.{◌∙◌}
+use Rattle.std.proofs.lemmas.Result.{IfOk-weaker}
 use Rattle.affc_order.proofs.CodeLemmas.{is_nest}
 use Rattle.affc_legal.proofs.SettlingLemmas.{pair_answered, ranges_are, ranges_fit}
 use Rattle.affc_legal.proofs.settling.settle_pair.Goals as goal
@@ -15,5 +16,7 @@ settle_systems-requires-clause-columns c =
 
 pub returns-clause-answered : goal.returns-clause-answered
 returns-clause-answered c =
-    pair_answered c.args.nest.now c.args.schedule.now c.args.from.now.entry.now c.args.to.now.entry.now c.args.from.now.access.now c.args.to.now.access.now c.as_slice.result.now c.in_ok-ranges.ranges
-    c.args.out.now.items c.settle_systems.new.out.items c.in_ok-found.found (c.as_slice.ensures.value ∙ c.in_ok-systems.ensures) c.in_ok-ranges.ensures c.in_ok-found.ensures.answered
+    IfOk-weaker c.settle_systems.result _ _
+    (λ found e. pair_answered c.args.nest.now c.args.schedule.now c.args.from.now.entry.now c.args.to.now.entry.now c.args.from.now.access.now c.args.to.now.access.now c.as_slice.result.now c.in_ok-ranges.ranges
+    c.args.out.now.items c.settle_systems.new.out.items found (c.as_slice.ensures.value ∙ c.in_ok-systems.ensures) c.in_ok-ranges.ensures e)
+    c.settle_systems.ensures.answered
