@@ -1,9 +1,11 @@
 -- Large parts, name by name.
-use Rattle.std.proofs.Common.{◌≡◌, ℕ, ◌+◌, ◌*◌, ◌≤◌, min, Bool, true, false, ◌||◌, cond, nat_le, nat_lt, List, [], ◌∷◌, ◌++◌, Option, Some, None, is_some, ℤ, pos, ◌+ℤ◌, ◌-ℤ◌, ◌*ℤ◌, neg_ℤ, nat_abs, ◌⊎◌, inl, inr, refl, sym, ap, ◌∙◌, subst, arith}
+use Rattle.std.proofs.Common.{◌≡◌, ℕ, ◌+◌, ◌*◌, ◌≤◌, min, Bool, true, false, ◌||◌, cond, nat_le, nat_lt, List, [], ◌∷◌, ◌++◌, Option, Some, None, is_some, Result, IfOk, ℤ, pos, ◌+ℤ◌, ◌-ℤ◌, ◌*ℤ◌, neg_ℤ, nat_abs, ◌⊎◌, inl, inr, refl, sym, ap, ◌∙◌, subst, arith}
 use Rattle.std.specs.List.{list_any}
+use Rattle.std.specs.declared.alloc.AllocError.{AllocError}
 use Rattle.std.proofs.lemmas.Bool.{false≢true}
 use Rattle.std.proofs.lemmas.Bool.Decides.{nat_tests}
 use Rattle.std.proofs.lemmas.Int.{ints, unsigned_abs-mul}
+use Rattle.std.proofs.lemmas.Result.{IfOk-weaker}
 use Rattle.std.proofs.Math.IntN.{zero-*ℤ, *ℤ-zero}
 use Rattle.std.proofs.Math.Nat.{mul-le-mul}
 use Rattle.affc_rows.proofs.IntLemmas.{abs-add}
@@ -16,9 +18,12 @@ use Rattle.affc_grammar.specs.Limits.{at_if, names_in, constant_of, coefficient_
 use Rattle.affc_syntax.specs.declared.draft.draft.IxDraft as code
 use Rattle.affc_syntax.specs.declared.draft.draft.IxDraft.TheVariants as c
 use Rattle.affc_syntax.specs.declared.draft.draft.Choice.{Choice}
-use Rattle.affc_syntax.specs.draft.Drafts.{ix, choice}
-use Rattle.affc_syntax.proofs.draft.Outs.{ix-Grouped, ix-Chosen}
+use Rattle.affc_syntax.specs.declared.draft.draft.Rounding.{Rounding}
+use Rattle.affc_syntax.specs.draft.Drafts.{ix, choice, rounding}
+use Rattle.affc_syntax.proofs.draft.Outs.{ix-Negated, ix-Sum, ix-Difference, ix-Product, ix-Grouped, ix-Chosen, ix-Divided}
 use Rattle.affc_limits.specs.declared.parts.Form.{Form}
+use Rattle.affc_limits.specs.declared.terms.Coefficients.{Coefficients}
+use Rattle.affc_limits.specs.Coefficients.{number_of}
 use Rattle.affc_limits.specs.Places.{least, lesser, place_if}
 use Rattle.affc_limits.specs.Parts as p
 use Rattle.affc_limits.specs.Parts.{IsForm}
@@ -299,11 +304,31 @@ past_of_two e x y a b inside f g is =
     ap (λ n. lesser (place_if (is_large e) n) inside) f.has.first_is
     ∙ ap (lesser (place_if (is_large e) (first_token x))) (is ∙ (λ i. lesser (f.past i) (g.past i)))
 
-pub of_grouped : (x : code.IxDraft) (at : ℕ) (inside : code.IxDraft) (f : Form) → x ≡ c.Grouped at inside → IsForm (d.grouped at (ix inside)) f → IsForm (ix x) f
-of_grouped x at inside f is h = subst (λ e. IsForm e f) (sym (ap ix is ∙ ix-Grouped at inside)) h
+-- ---- In the code's results
 
-pub of_chosen : (x : code.IxDraft) (at : ℕ) (k : Choice) (left right : code.IxDraft) (f : Form) → x ≡ c.Chosen at k left right → IsForm (d.chosen at (choice k) (ix left) (ix right)) f → IsForm (ix x) f
-of_chosen x at k left right f is h = subst (λ e. IsForm e f) (sym (ap ix is ∙ ix-Chosen at k left right)) h
+pub ok_are : (r : Result Coefficients AllocError) (f h : Name → ℤ) → IfOk r (λ k. (w : Name) → number_of k w ≡ f w) → ((w : Name) → f w ≡ h w) → IfOk r (λ k. (w : Name) → number_of k w ≡ h w)
+ok_are r f h is e = IfOk-weaker r (λ k. (w : Name) → number_of k w ≡ f w) (λ k. (w : Name) → number_of k w ≡ h w) (λ k p w. p w ∙ e w) is
+
+pub of_negated : (x : code.IxDraft) (at : ℕ) (a b : code.IxDraft) (r : Result Form AllocError) → x ≡ c.Negated at a → b ≡ a → IfOk r (IsForm (d.negated at (ix b))) → IfOk r (IsForm (ix x))
+of_negated x at a b r is s h = subst (λ e. IfOk r (IsForm e)) (ap (λ y. d.negated at (ix y)) s ∙ sym (ap ix is ∙ ix-Negated at a)) h
+
+pub of_grouped : (x : code.IxDraft) (at : ℕ) (a b : code.IxDraft) (r : Result Form AllocError) → x ≡ c.Grouped at a → b ≡ a → IfOk r (IsForm (d.grouped at (ix b))) → IfOk r (IsForm (ix x))
+of_grouped x at a b r is s h = subst (λ e. IfOk r (IsForm e)) (ap (λ y. d.grouped at (ix y)) s ∙ sym (ap ix is ∙ ix-Grouped at a)) h
+
+pub of_divided : (x : code.IxDraft) (at : ℕ) (k : Rounding) (a : code.IxDraft) (by_at by : ℕ) (b : code.IxDraft) (r : Result Form AllocError) → x ≡ c.Divided at k a by_at by → b ≡ a → IfOk r (IsForm (d.divided at (rounding k) (ix b) by_at by)) → IfOk r (IsForm (ix x))
+of_divided x at k a by_at by b r is s h = subst (λ e. IfOk r (IsForm e)) (ap (λ y. d.divided at (rounding k) (ix y) by_at by) s ∙ sym (ap ix is ∙ ix-Divided at k a by_at by)) h
+
+pub of_sum : (x a b a' b' : code.IxDraft) (r : Result Form AllocError) → x ≡ c.Sum a b → a' ≡ a → b' ≡ b → IfOk r (IsForm (d.sum (ix a') (ix b'))) → IfOk r (IsForm (ix x))
+of_sum x a b a' b' r is s t h = subst (λ e. IfOk r (IsForm e)) ((λ i. d.sum (ix (s i)) (ix (t i))) ∙ sym (ap ix is ∙ ix-Sum a b)) h
+
+pub of_difference : (x a b a' b' : code.IxDraft) (r : Result Form AllocError) → x ≡ c.Difference a b → a' ≡ a → b' ≡ b → IfOk r (IsForm (d.difference (ix a') (ix b'))) → IfOk r (IsForm (ix x))
+of_difference x a b a' b' r is s t h = subst (λ e. IfOk r (IsForm e)) ((λ i. d.difference (ix (s i)) (ix (t i))) ∙ sym (ap ix is ∙ ix-Difference a b)) h
+
+pub of_product : (x : code.IxDraft) (at : ℕ) (a b a' b' : code.IxDraft) (r : Result Form AllocError) → x ≡ c.Product at a b → a' ≡ a → b' ≡ b → IfOk r (IsForm (d.product at (ix a') (ix b'))) → IfOk r (IsForm (ix x))
+of_product x at a b a' b' r is s t h = subst (λ e. IfOk r (IsForm e)) ((λ i. d.product at (ix (s i)) (ix (t i))) ∙ sym (ap ix is ∙ ix-Product at a b)) h
+
+pub of_chosen : (x : code.IxDraft) (at : ℕ) (k : Choice) (a b a' b' : code.IxDraft) (r : Result Form AllocError) → x ≡ c.Chosen at k a b → a' ≡ a → b' ≡ b → IfOk r (IsForm (d.chosen at (choice k) (ix a') (ix b'))) → IfOk r (IsForm (ix x))
+of_chosen x at k a b a' b' r is s t h = subst (λ e. IfOk r (IsForm e)) ((λ i. d.chosen at (choice k) (ix (s i)) (ix (t i))) ∙ sym (ap ix is ∙ ix-Chosen at k a b)) h
 
 -- ---- Behind a place that was found
 

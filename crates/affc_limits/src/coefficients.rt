@@ -1,6 +1,6 @@
 //! Coefficients of names.
 
-ghost use Rattle.std.specs.Prelude.{◌≡◌, ◌+ℤ◌, ◌*ℤ◌, ◌≤◌, ◌↔◌, pos, neg_ℤ, nat_abs, nat_lt, true, IfOk};
+ghost use Rattle.std.specs.Prelude.{◌≡◌, ◌+ℤ◌, ◌-ℤ◌, ◌*ℤ◌, ◌≤◌, ◌↔◌, pos, neg_ℤ, nat_abs, nat_lt, true, IfOk};
 ghost use Rattle.affc_grammar.specs.Grammar.{Name};
 ghost use Rattle.affc_limits.specs.Terms as spec;
 ghost use Rattle.affc_limits.specs.Coefficients.{number_of};
@@ -95,6 +95,20 @@ impl Coefficients {
         }
     }
 
+    /// Terms, and those of another one by one.
+    fn joined(
+        alloc: Global,
+        own: Items<Term>,
+        other: Coefficients,
+    ) -> Result<Coefficients, AllocError>
+        requires { spec.AreApart own }
+        ensures { IfOk result (λ c. (w : Name) → number_of c w ≡ spec.coefficient w own +ℤ number_of other w) }
+    {
+        let Coefficients { scale, terms } = other;
+        let terms = with_terms(alloc, own, terms, &scale)?;
+        Ok(Coefficients { scale: None, terms })
+    }
+
     /// Those of another one by one.
     fn with(self, alloc: Global, other: Coefficients) -> Result<Coefficients, AllocError>
         ensures { IfOk result (λ c. (w : Name) → number_of c w ≡ number_of self w +ℤ number_of other w) }
@@ -103,9 +117,7 @@ impl Coefficients {
             return Ok(self);
         }
         let own = self.spread(alloc)?;
-        let Coefficients { scale, terms } = other;
-        let terms = with_terms(alloc, own, terms, &scale)?;
-        Ok(Coefficients { scale: None, terms })
+        Coefficients::joined(alloc, own, other)
     }
 
     /// The sums.
@@ -117,6 +129,29 @@ impl Coefficients {
         } else {
             self.with(alloc, other)
         }
+    }
+
+    /// The differences.
+    pub fn minus(self, alloc: Global, other: Coefficients) -> Result<Coefficients, AllocError>
+        ensures { IfOk result (λ c. (w : Name) → number_of c w ≡ number_of self w -ℤ number_of other w) }
+    {
+        let opposites = other.opposites(alloc)?;
+        self.plus(alloc, opposites)
+    }
+
+    /// The sums of these and others, each of them times a number of its own.
+    pub fn cross(
+        self,
+        alloc: Global,
+        by: &Whole,
+        other: Coefficients,
+        by_other: &Whole,
+    ) -> Result<Coefficients, AllocError>
+        ensures { IfOk result (λ c. (w : Name) → number_of c w ≡ (number_of self w *ℤ by.now) +ℤ (number_of other w *ℤ by_other.now)) }
+    {
+        let own = self.times(alloc, by)?;
+        let more = other.times(alloc, by_other)?;
+        own.plus(alloc, more)
     }
 
     /// Whether one is above 2^16 in magnitude.

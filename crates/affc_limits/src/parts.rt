@@ -1,9 +1,9 @@
 //! Parts of whole-number expressions whose constant or a coefficient is large.
 
-ghost use Rattle.std.specs.Prelude.{◌≡◌, ℕ, pos, IfOk};
+ghost use Rattle.std.specs.Prelude.{◌≡◌, ℕ, pos, IfOk, Ok};
 ghost use Rattle.affc_grammar.specs.Draft as grammar;
-ghost use Rattle.affc_grammar.specs.Grammar.{Name};
-ghost use Rattle.affc_grammar.specs.Limits.{coefficient_of, constant_of, is_large, large_parts};
+ghost use Rattle.affc_grammar.specs.Grammar.{Choice, Name, Rounding};
+ghost use Rattle.affc_grammar.specs.Limits.{coefficient_of, constant_of, first_token, is_large, large_parts};
 ghost use Rattle.affc_syntax.specs.draft.Drafts.{ix};
 ghost use Rattle.affc_limits.specs.Coefficients.{number_of};
 ghost use Rattle.affc_limits.specs.Parts as spec;
@@ -113,6 +113,20 @@ fn form_of(first: usize, constant: Whole, coefficients: Coefficients, inside: Op
     }
 }
 
+/// A part, given its constant and its coefficients where there was memory for them.
+fn form_from(
+    first: usize,
+    constant: Result<Whole, AllocError>,
+    coefficients: Result<Coefficients, AllocError>,
+    inside: Option<usize>,
+) -> Result<Form, AllocError>
+    ensures { (e : grammar.IxDraft) → IfOk constant (λ k. k ≡ constant_of e) → IfOk coefficients (λ c. (w : Name) → number_of c w ≡ coefficient_of w e) → first ≡ first_token e → lesser (place_if (is_large e) first) inside ≡ least (large_parts e) → IfOk result (IsForm e) }
+{
+    let constant = constant?;
+    let coefficients = coefficients?;
+    Ok(form_of(first, constant, coefficients, inside))
+}
+
 /// A part that is taken to be no form, such as a choice.
 fn opaque(alloc: Global, first: usize, inside: Option<usize>) -> Form
     ensures first { result.first ≡ first }
@@ -142,40 +156,111 @@ fn name_form(alloc: Global, at: usize, name: &str) -> Result<Form, AllocError>
     Ok(form_of(at, Whole::zero(alloc), coefficients, None))
 }
 
-fn negation_form(alloc: Global, at: usize, a: Form) -> Result<Form, AllocError>
-    ensures { IfOk result (λ f. (x : grammar.IxDraft) → IsForm x a → IsForm (grammar.negated at x) f) }
+fn negation_form(alloc: Global, at: usize, a: Result<Form, AllocError>) -> Result<Form, AllocError>
+    ensures { (x : grammar.IxDraft) → IfOk a (IsForm x) → IfOk result (IsForm (grammar.negated at x)) }
 {
-    let constant = a.constant.opposite(alloc)?;
-    let coefficients = a.coefficients.opposites(alloc)?;
-    Ok(form_of(at, constant, coefficients, a.past))
+    let a = a?;
+    form_from(
+        at,
+        a.constant.opposite(alloc),
+        a.coefficients.opposites(alloc),
+        a.past,
+    )
 }
 
-fn sum_form(alloc: Global, a: Form, b: Form) -> Result<Form, AllocError>
-    ensures { IfOk result (λ f. (x y : grammar.IxDraft) → IsForm x a → IsForm y b → IsForm (grammar.sum x y) f) }
+fn grouped_form(at: usize, a: Result<Form, AllocError>) -> Result<Form, AllocError>
+    ensures { (x : grammar.IxDraft) → IfOk a (IsForm x) → IfOk result (IsForm (grammar.grouped at x)) }
 {
-    let constant = a.constant.plus(&b.constant)?;
-    let coefficients = a.coefficients.plus(alloc, b.coefficients)?;
-    Ok(form_of(a.first, constant, coefficients, lesser(a.past, b.past)))
+    let a = a?;
+    Ok(form_of(at, a.constant, a.coefficients, a.past))
 }
 
-fn difference_form(alloc: Global, a: Form, b: Form) -> Result<Form, AllocError>
-    ensures { IfOk result (λ f. (x y : grammar.IxDraft) → IsForm x a → IsForm y b → IsForm (grammar.difference x y) f) }
+/// A quotient, which is taken to be no form.
+fn quotient_form(alloc: Global, at: usize, a: Result<Form, AllocError>) -> Result<Form, AllocError>
+    ensures { (k : Rounding) (by_at by : ℕ) (x : grammar.IxDraft) → IfOk a (IsForm x) → IfOk result (IsForm (grammar.divided at k x by_at by)) }
 {
-    let constant = a.constant.minus(&b.constant)?;
-    let coefficients = a
-        .coefficients
-        .plus(alloc, b.coefficients.opposites(alloc)?)?;
-    Ok(form_of(a.first, constant, coefficients, lesser(a.past, b.past)))
+    let a = a?;
+    Ok(opaque(alloc, at, a.past))
 }
 
-fn product_form(alloc: Global, a: Form, b: Form) -> Result<Form, AllocError>
-    ensures { IfOk result (λ f. (at : ℕ) (x y : grammar.IxDraft) → IsForm x a → IsForm y b → IsForm (grammar.product at x y) f) }
+/// Two operands.
+#[derive(Drop)]
+struct Two {
+    left: Form,
+    right: Form,
+}
+
+/// Both operands, where there was memory for them.
+fn both(a: Result<Form, AllocError>, b: Result<Form, AllocError>) -> Result<Two, AllocError>
+    ensures left { IfOk result (λ two. a ≡ Ok two.left) }
+    ensures right { IfOk result (λ two. b ≡ Ok two.right) }
 {
-    let constant = a.constant.times(alloc, &b.constant)?;
-    let left = a.coefficients.times(alloc, &b.constant)?;
-    let right = b.coefficients.times(alloc, &a.constant)?;
-    let coefficients = left.plus(alloc, right)?;
-    Ok(form_of(a.first, constant, coefficients, lesser(a.past, b.past)))
+    let left = a?;
+    let right = b?;
+    Ok(Two { left, right })
+}
+
+fn sum_form(
+    alloc: Global,
+    a: Result<Form, AllocError>,
+    b: Result<Form, AllocError>,
+) -> Result<Form, AllocError>
+    ensures { (x y : grammar.IxDraft) → IfOk a (IsForm x) → IfOk b (IsForm y) → IfOk result (IsForm (grammar.sum x y)) }
+{
+    let two = both(a, b)?;
+    let Two { left: a, right: b } = two;
+    form_from(
+        a.first,
+        a.constant.plus(&b.constant),
+        a.coefficients.plus(alloc, b.coefficients),
+        lesser(a.past, b.past),
+    )
+}
+
+fn difference_form(
+    alloc: Global,
+    a: Result<Form, AllocError>,
+    b: Result<Form, AllocError>,
+) -> Result<Form, AllocError>
+    ensures { (x y : grammar.IxDraft) → IfOk a (IsForm x) → IfOk b (IsForm y) → IfOk result (IsForm (grammar.difference x y)) }
+{
+    let two = both(a, b)?;
+    let Two { left: a, right: b } = two;
+    form_from(
+        a.first,
+        a.constant.minus(&b.constant),
+        a.coefficients.minus(alloc, b.coefficients),
+        lesser(a.past, b.past),
+    )
+}
+
+fn product_form(
+    alloc: Global,
+    a: Result<Form, AllocError>,
+    b: Result<Form, AllocError>,
+) -> Result<Form, AllocError>
+    ensures { (at : ℕ) (x y : grammar.IxDraft) → IfOk a (IsForm x) → IfOk b (IsForm y) → IfOk result (IsForm (grammar.product at x y)) }
+{
+    let two = both(a, b)?;
+    let Two { left: a, right: b } = two;
+    let left = a.coefficients;
+    let right = b.coefficients;
+    let constant = a.constant.times(alloc, &b.constant);
+    let coefficients = left.cross(alloc, &b.constant, right, &a.constant);
+    form_from(a.first, constant, coefficients, lesser(a.past, b.past))
+}
+
+/// A choice, which is taken to be no form.
+fn choice_form(
+    alloc: Global,
+    at: usize,
+    a: Result<Form, AllocError>,
+    b: Result<Form, AllocError>,
+) -> Result<Form, AllocError>
+    ensures { (k : Choice) (x y : grammar.IxDraft) → IfOk a (IsForm x) → IfOk b (IsForm y) → IfOk result (IsForm (grammar.chosen at k x y)) }
+{
+    let two = both(a, b)?;
+    Ok(opaque(alloc, at, lesser(two.left.past, two.right.past)))
 }
 
 /// An expression and each of its parts, once.
@@ -186,43 +271,27 @@ fn formed(alloc: Global, e: &IxDraft) -> Result<Form, AllocError>
     match e {
         IxDraft::Literal { at, value } => literal_form(alloc, *at, *value),
         IxDraft::Name { at, name } => name_form(alloc, *at, name.as_str()),
-        IxDraft::Negated { at, of } => {
-            let a = formed(alloc, of.get())?;
-            negation_form(alloc, *at, a)
-        }
-        IxDraft::Sum(left, right) => {
-            let a = formed(alloc, left.get())?;
-            let b = formed(alloc, right.get())?;
-            sum_form(alloc, a, b)
-        }
-        IxDraft::Difference(left, right) => {
-            let a = formed(alloc, left.get())?;
-            let b = formed(alloc, right.get())?;
-            difference_form(alloc, a, b)
+        IxDraft::Negated { at, of } => negation_form(alloc, *at, formed(alloc, of.get())),
+        IxDraft::Sum(a, b) => sum_form(alloc, formed(alloc, a.get()), formed(alloc, b.get())),
+        IxDraft::Difference(a, b) => {
+            difference_form(alloc, formed(alloc, a.get()), formed(alloc, b.get()))
         }
         IxDraft::Product { left, right, .. } => {
-            let a = formed(alloc, left.get())?;
-            let b = formed(alloc, right.get())?;
-            product_form(alloc, a, b)
+            product_form(alloc, formed(alloc, left.get()), formed(alloc, right.get()))
         }
-        IxDraft::Grouped { at, inside } => {
-            let a = formed(alloc, inside.get())?;
-            Ok(form_of(*at, a.constant, a.coefficients, a.past))
-        }
+        IxDraft::Grouped { at, inside } => grouped_form(*at, formed(alloc, inside.get())),
         IxDraft::Chosen {
             at,
             left,
             right,
             ..
-        } => {
-            let a = formed(alloc, left.get())?;
-            let b = formed(alloc, right.get())?;
-            Ok(opaque(alloc, *at, lesser(a.past, b.past)))
-        }
-        IxDraft::Divided { at, of, .. } => {
-            let a = formed(alloc, of.get())?;
-            Ok(opaque(alloc, *at, a.past))
-        }
+        } => choice_form(
+            alloc,
+            *at,
+            formed(alloc, left.get()),
+            formed(alloc, right.get()),
+        ),
+        IxDraft::Divided { at, of, .. } => quotient_form(alloc, *at, formed(alloc, of.get())),
     }
 }
 

@@ -1,6 +1,6 @@
 //! Terms: names with numbers.
 
-ghost use Rattle.std.specs.Prelude.{◌≡◌, ◌+ℤ◌, ◌*ℤ◌, false, IfOk, MatchOption};
+ghost use Rattle.std.specs.Prelude.{◌≡◌, [], ◌∷◌, ◌++◌, ◌+ℤ◌, ◌*ℤ◌, false, IfOk, MatchOption};
 ghost use Rattle.affc_grammar.specs.Grammar.{Name};
 ghost use Rattle.affc_limits.specs.Terms as spec;
 
@@ -88,6 +88,21 @@ pub(crate) fn with_terms(
     Ok(terms)
 }
 
+/// With one term more behind the others, times a number.
+fn with_product(
+    alloc: Global,
+    mut made: Items<Term>,
+    term: Term,
+    by: &Whole,
+) -> Result<Items<Term>, AllocError>
+    ensures { IfOk result (λ r. r ≡ made ++ (record { name = term.name; number = term.number *ℤ by.now }) ∷ []) }
+{
+    let Term { name, number } = term;
+    let number = number.times(alloc, by)?;
+    made.push(Term { name, number })?;
+    Ok(made)
+}
+
 /// Terms, each times a number.
 pub(crate) fn all_times(
     alloc: Global,
@@ -99,9 +114,7 @@ pub(crate) fn all_times(
 {
     let mut made = Items::new(alloc);
     while let Some(term) = terms.pop() {
-        let Term { name, number } = term;
-        let number = number.times(alloc, by)?;
-        made.push(Term { name, number })?;
+        made = with_product(alloc, made, term, by)?;
     }
     Ok(made)
 }
