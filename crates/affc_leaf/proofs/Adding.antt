@@ -1,8 +1,5 @@
 -- Multiples of rows added onto a sum in place.
 use Rattle.std.proofs.Common.{◌≡◌, ℕ, zero, suc, ◌+◌, ◌<◌, List, [], ◌∷◌, ◌++◌, length, take, drop, slice_index_or, slice_set, ℤ, pos, ◌+ℤ◌, ◌*ℤ◌, refl, ap, ◌∙◌, arith, add-one}
-use Rattle.std.proofs.lemmas.Int.{ints}
-use lib.IntN.{*ℤ_comm}
-use Rattle.affc_rows.proofs.IntLemmas.{one-mul}
 use Rattle.affc_rows.specs.Forms.{Affine, mixed, mixed_form}
 use Rattle.affc_farkas.specs.Multiples.{row_at, multiple_sum}
 
@@ -19,9 +16,6 @@ pub add_step : (t : ℤ) (row sum : List ℤ) (i : ℕ) (v : ℤ) → i < length
     → v ≡ (t *ℤ slice_index_or row i (pos 0)) +ℤ (pos 1 *ℤ slice_index_or sum i (pos 0))
     → take (i + 1) (slice_set sum i v) ++ mixed t (drop (i + 1) row) (pos 1) (drop (i + 1) (slice_set sum i v)) ≡ take i sum ++ mixed t (drop i row) (pos 1) (drop i sum)
 add_step t row sum i v h k e = simp add-one (add_step' t row sum i v h k e)
-
-pub product_added : (t c s p v : ℤ) → p ≡ c *ℤ t → v ≡ p +ℤ s → (t *ℤ c) +ℤ (pos 1 *ℤ s) ≡ v
-product_added t c s p v e f = let a = *ℤ_comm t c in let b = one-mul s in omega (arith, ints)
 
 pub form_is : (f g : Affine) → f.coefs ≡ g.coefs → f.constant ≡ g.constant → f ≡ g
 form_is f g e k = ap (λ c. record f { coefs = c }) e ∙ ap (λ z. record g { constant = z }) k

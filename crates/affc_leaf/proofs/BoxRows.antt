@@ -2,7 +2,7 @@
 use Rattle.std.proofs.Common.{◌≡◌, ℕ, zero, suc, ◌+◌, ◌<◌, List, [], ◌∷◌, ◌++◌, length, drop, map, slice_index_or, ℤ, pos, negsuc, neg_ℤ, ◌+ℤ◌, ◌*ℤ◌, refl, sym, ap, subst, ◌∙◌, arith, append_assoc}
 use Rattle.std.proofs.lemmas.Int.{ints}
 use Rattle.affc_rows.specs.Forms.{mixed}
-use Rattle.std.specs.Prelude.{◌≤◌, ◌-◌, ◌^◌, unsigned_abs, replicate}
+use Rattle.std.specs.Prelude.{◌≤◌, ◌-◌, unsigned_abs, replicate}
 use Rattle.std.specs.List.{All}
 use Rattle.std.proofs.lemmas.List.Elements.{All-nil, All-cons, All-replicate}
 use Rattle.affc_rows.specs.Vocabulary.{unit_of, column_form, HasOpposite}

@@ -16,3 +16,4 @@ pub mod Refuting
 pub mod BoxCuts
 pub mod Scaled
 pub mod Hard
+pub mod Pinning

@@ -9,7 +9,9 @@ use Rattle.affc_farkas.specs.declared.proof.Proof.{Proof}
 use Rattle.affc_leaf.specs.declared.bounds.Bound.{Bound}
 use Rattle.affc_leaf.specs.Bounds.{Inside, top}
 use Rattle.affc_leaf.specs.Boxed.{SplitsAtZero}
-use Rattle.affc_leaf.specs.Parts.{Placed}
+use Rattle.affc_leaf.specs.declared.box_cuts.Seen.{Seen}
+use Rattle.affc_leaf.specs.declared.box_cuts.Seen.TheVariants.{Empty, Point, Nothing}
+use Rattle.affc_leaf.specs.Parts.{Placed, IsEmpty, IsLeast}
 
 -- the row less a part of its products, with the greatest value of that part over the box in their place
 abbrev pub without : Affine → List ℤ → List Bound → Affine
@@ -35,3 +37,9 @@ behind n (p ∷ ps) = (n + p.0, p.1) ∷ behind n ps
 -- the sum of multiples of the system's rows and of further rows
 abbrev pub sum_with : Rows → List Affine → List (ℕ × ℕ) → List (ℕ × ℕ) → Affine
 sum_with system cuts own over = mixed_form (pos 1) (multiple_sum system.columns system.rows own) (pos 1) (multiple_sum system.columns cuts over)
+
+-- what is seen of a box: a proof that it has no point, or its least one
+abbrev pub IsSeen : Rows → List Bound → ℕ → Seen → Type 0
+IsSeen system bounds next (Empty proof) = IsEmpty system bounds next proof.value
+IsSeen system bounds next (Point point) = IsLeast system bounds point.items
+IsSeen system bounds next Nothing = Unit {0}

@@ -6,3 +6,4 @@ pub mod Leaves
 pub mod Cuts
 pub mod BoxCuts
 pub mod Examples
+pub mod Fronts

@@ -1,7 +1,7 @@
 //! Boxes as the bounds of their columns.
-ghost use Rattle.std.specs.Prelude.{◌≡◌, ℕ, ℤ, List, ◌+◌, ◌-◌, ◌*◌, ◌^◌, ◌<◌, ◌≤◌, ◌+ℤ◌, ◌-ℤ◌, ◌*ℤ◌, ◌≤ℤ◌, ◌<ℤ◌, pos, unsigned_abs, IfOk, OnOk, OnErr, IfSome, IfNone, length, ◌⊎◌};
+ghost use Rattle.std.specs.Prelude.{◌≡◌, ℤ, ◌+◌, ◌-◌, ◌^◌, ◌<◌, ◌≤◌, ◌+ℤ◌, ◌-ℤ◌, ◌≤ℤ◌, ◌<ℤ◌, pos, unsigned_abs, IfOk, IfSome, IfNone, length};
 ghost use Rattle.std.specs.List.{All};
-ghost use Rattle.affc_leaf.specs.Bounds.{IsBound, FirstFree, AllSingle, lowered, raised, bound_at, lows};
+ghost use Rattle.affc_leaf.specs.Bounds.{IsBound, FirstFree, AllSingle, lowered, raised, lows};
 
 use std::alloc::{AllocError, Global};
 

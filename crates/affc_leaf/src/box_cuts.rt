@@ -1,10 +1,9 @@
 //! Cuts of sums of rows in a box, and leaves below such cuts.
-ghost use Rattle.std.specs.Prelude.{◌≡◌, ℕ, ℤ, List, ◌+◌, ◌-◌, ◌*◌, ◌^◌, ◌<◌, ◌≤◌, ◌+ℤ◌, ◌*ℤ◌, ◌≤ℤ◌, ◌<ℤ◌, ◌∷◌, ◌++◌, [], pos, replicate, unsigned_abs, IfOk, IfSome, OnOk, OnErr, Err, length};
+ghost use Rattle.std.specs.Prelude.{◌≡◌, ◌+◌, ◌-◌, ◌*◌, ◌^◌, ◌<◌, ◌≤◌, ◌∷◌, ◌++◌, [], pos, replicate, unsigned_abs, IfOk, IfSome, OnOk, Err, length};
 ghost use Rattle.std.specs.List.{All};
-ghost use Rattle.affc_rows.specs.Forms.{Affine};
-ghost use Rattle.affc_farkas.specs.Multiples.{multiple_sum, AreMultipliers};
+ghost use Rattle.affc_farkas.specs.Multiples.{AreMultipliers};
 ghost use Rattle.affc_leaf.specs.Bounds.{IsBound};
-ghost use Rattle.affc_leaf.specs.BoxCuts.{without, IsBoxCut, IsEmptyWith, behind, sum_with};
+ghost use Rattle.affc_leaf.specs.BoxCuts.{without, IsBoxCut, IsEmptyWith, IsSeen, behind, sum_with};
 ghost use Rattle.affc_leaf.specs.Cuts.{IsCutBefore};
 ghost use Rattle.affc_leaf.specs.Leaves.{corner_rows, SameSum};
 ghost use Rattle.affc_leaf.specs.Parts.{IsEmpty};
@@ -14,10 +13,10 @@ use crate::boxed::push_row;
 use crate::candidates::{Candidate, Proposal, candidates_in, remainder_of};
 use crate::cuts::divided_sum;
 use crate::leaves::{
-    Sight, add_multiple, constant_with, fits_sum, found_leaf, is_below_zero, leaf_with,
-    put_corners, sum_rows,
+    Sight, add_multiple, added, fits_sum, found_leaf, is_below_zero, leaf_with, put_corners,
+    sum_rows,
 };
-use crate::simplex::{Outcome, look_at};
+use crate::simplex::{Outcome, Wanted, look_at};
 use crate::tops::top_products;
 use crate::vertices::Vertex;
 use affc_farkas::{Multipliers, Proof};
@@ -158,7 +157,7 @@ fn sum_both(
     if first.len() != sum.len() || !add_multiple(sum, 1, first) {
         return Ok(None);
     }
-    Ok(constant_with(over_constant, 1, own_constant))
+    Ok(added(over_constant, 1, own_constant))
 }
 
 /// The pairs of both lists, those of the second with numbers behind so many rows. `None` where a number is too great.
@@ -358,7 +357,7 @@ fn found_cuts(
     let Some(tried) = tried_cuts(alloc, system, bounds, vertex)? else {
         return Ok(None);
     };
-    let Outcome::Sum(sum) = look_at(alloc, &tried.extended, bounds)? else {
+    let Outcome::Sum(sum) = look_at(alloc, &tried.extended, bounds, Wanted::AnyVertex)? else {
         return Ok(None);
     };
     let rows = system.rows().len();
@@ -384,22 +383,41 @@ fn planned(
     cut_and_leaf(alloc, system, bounds, cuts, plan, 0, next)
 }
 
-/// A proof that a box has no point, where one is found at once: rows whose sum is below 0 in the whole box, after cuts of the rows
-/// in this box if they are wanted.
+/// What is seen of a box at once.
+#[derive(Drop)]
+pub enum Seen {
+    /// It has no point: rows whose sum is below 0 in the whole box, or such rows after cuts of the rows in this box.
+    Empty(Box<Proof>),
+    /// Its least point.
+    Point(Vec<i64>),
+    Nothing,
+}
+
+/// A proof that a box has no point, or its least point, where one is found at once.
 #[inline(never)]
-pub fn found_empty(
+pub fn seen_at(
     alloc: Global,
     system: &System,
     bounds: &[Bound],
     next: u32,
-) -> Result<Option<Box<Proof>>, AllocError>
+) -> Result<Seen, AllocError>
     requires width { length bounds.now ≡ system.now.columns }
     requires ranges { All IsBound bounds.now }
-    ensures answer { IfOk result (λ o. IfSome o (λ p. IsEmpty system.now bounds.now next p.value)) }
+    ensures { IfOk result (IsSeen system.now bounds.now next) }
 {
-    let Sight { leaf, vertex } = found_leaf(alloc, system, bounds, next)?;
+    let Sight {
+        leaf,
+        vertex,
+        least,
+    } = found_leaf(alloc, system, bounds, next)?;
     if let Some(leaf) = leaf {
-        return Ok(Some(leaf));
+        return Ok(Seen::Empty(leaf));
     }
-    found_cuts(alloc, system, bounds, vertex.as_ref(), next)
+    if let Some(point) = least {
+        return Ok(Seen::Point(point));
+    }
+    match found_cuts(alloc, system, bounds, vertex.as_ref(), next)? {
+        Some(proof) => Ok(Seen::Empty(proof)),
+        None => Ok(Seen::Nothing),
+    }
 }

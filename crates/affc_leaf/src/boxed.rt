@@ -1,6 +1,5 @@
 //! A system with the rows of its box, and elimination there.
-ghost use Rattle.std.specs.Prelude.{◌≡◌, ℕ, ℤ, List, ◌+◌, ◌-◌, ◌*◌, ◌^◌, ◌<◌, ◌≤◌, ◌∷◌, ◌++◌, [], pos, neg_ℤ, map, IfOk, IfSome, IfNone, OnOk, OnErr, Err, length};
-ghost use Rattle.std.specs.List.{All};
+ghost use Rattle.std.specs.Prelude.{◌≡◌, ◌+◌, ◌-◌, ◌*◌, ◌<◌, ◌≤◌, ◌∷◌, ◌++◌, [], neg_ℤ, map, IfOk, IfSome, IfNone, OnOk, Err, length};
 ghost use Rattle.affc_system.specs.Systems.{FitsRow};
 ghost use Rattle.affc_farkas.specs.Proofs.{ValidProof};
 ghost use Rattle.affc_leaf.specs.Boxed.{unit, range_rows, with_box, IsLeafProof, IsHard};

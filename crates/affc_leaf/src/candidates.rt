@@ -3,7 +3,7 @@
 //! A sum is one row, or a row in which equalities have eliminated columns. It is divided by the common divisor of its free columns'
 //! coefficients, or of all of them but one, and what the division leaves is put at its greatest. What is found is tested by those who
 //! use it, so nothing is promised here: where a number is too great, no more is looked for.
-ghost use Rattle.std.specs.Prelude.{◌<◌, ◌≤◌};
+ghost use Rattle.std.specs.Prelude.{◌<◌};
 
 use crate::bounds::Bound;
 use crate::leaves::put_pair;

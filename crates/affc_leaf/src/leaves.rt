@@ -1,16 +1,18 @@
 //! Leaves: rows whose sum is below 0 in a whole box.
-ghost use Rattle.std.specs.Prelude.{◌≡◌, ℕ, ℤ, List, ◌+◌, ◌*◌, ◌^◌, ◌<◌, ◌≤◌, ◌+ℤ◌, ◌*ℤ◌, ◌≤ℤ◌, ◌<ℤ◌, ◌∷◌, ◌++◌, [], pos, replicate, unsigned_abs, IfOk, IfSome, IfNone, IsTrue, ◌↔◌, OnOk, OnErr, Err, length};
+ghost use Rattle.std.specs.Prelude.{◌≡◌, ℕ, ℤ, List, ◌+◌, ◌*◌, ◌^◌, ◌<◌, ◌≤◌, ◌+ℤ◌, ◌*ℤ◌, ◌<ℤ◌, ◌∷◌, ◌++◌, [], pos, replicate, unsigned_abs, IfOk, IfSome, IfNone, IsTrue, ◌↔◌, OnOk, Err, length};
 ghost use Rattle.std.specs.Bool.{OnTrue};
 ghost use Rattle.std.specs.List.{All};
-ghost use Rattle.affc_rows.specs.Forms.{Affine, mixed};
+ghost use Rattle.affc_rows.specs.Forms.{mixed};
 ghost use Rattle.affc_farkas.specs.Multiples.{row_at, multiple_sum, AreMultipliers};
 ghost use Rattle.affc_leaf.specs.Boxed.{IsLeafProof};
 ghost use Rattle.affc_leaf.specs.Bounds.{IsBound, FitsSum, top_value};
 ghost use Rattle.affc_leaf.specs.Leaves.{corner_row, corner_rows, SameSum, IsLeafBy};
-ghost use Rattle.affc_leaf.specs.Parts.{IsEmpty};
+ghost use Rattle.affc_leaf.specs.Parts.{IsEmpty, IsLeast};
 
 use crate::bounds::Bound;
-use crate::simplex::{Outcome, look_at};
+use crate::firsts::least_point;
+use crate::least::Least;
+use crate::simplex::{Outcome, Wanted, look_at};
 use crate::tops::top_products;
 use crate::vertices::Vertex;
 use affc_farkas::{Multipliers, Proof};
@@ -132,29 +134,29 @@ pub fn row_leaf(
     }
 }
 
+/// A number with a multiple of another one added, where it fits.
+pub(crate) fn added(sum: i128, times: i128, number: i128) -> Option<i128>
+    ensures { IfSome result (λ k. k ≡ (times *ℤ number) +ℤ (pos 1 *ℤ sum)) }
+{
+    if number == 0 {
+        return Some(sum);
+    }
+    let product = number.checked_mul(times)?;
+    product.checked_add(sum)
+}
+
 /// Adds a multiple of a row to a sum, in place. Answers whether all numbers fit.
 pub(crate) fn add_multiple(sum: &mut [i128], times: i128, row: &[i128]) -> bool
     requires { length row.now ≡ length sum.old }
     ensures { OnTrue result (sum.new ≡ mixed times row.now (pos 1) sum.old) }
 {
     for (i, c) in row.iter().enumerate() {
-        let Some(product) = c.checked_mul(times) else {
-            return false;
-        };
-        let Some(next) = product.checked_add(sum[i]) else {
+        let Some(next) = added(sum[i], times, *c) else {
             return false;
         };
         sum[i] = next;
     }
     true
-}
-
-/// A constant with a multiple of another one added, where it fits.
-pub(crate) fn constant_with(sum: i128, times: i128, constant: i128) -> Option<i128>
-    ensures { IfSome result (λ k. k ≡ (times *ℤ constant) +ℤ (pos 1 *ℤ sum)) }
-{
-    let product = constant.checked_mul(times)?;
-    product.checked_add(sum)
 }
 
 /// Sums these multiples of rows onto zeros, and answers the sum's constant. `None` where a row isn't there or a number is too great.
@@ -176,7 +178,7 @@ pub(crate) fn sum_rows(system: &System, by: &[(u32, u64)], sum: &mut [i128]) -> 
         if !add_multiple(sum, i128::from(times), form.coefs.as_slice()) {
             return None;
         }
-        constant = constant_with(constant, i128::from(times), form.constant)?;
+        constant = added(constant, i128::from(times), form.constant)?;
     }
     Some(constant)
 }
@@ -229,14 +231,33 @@ fn sum_leaf(
     leaf_with(alloc, by, sum, bounds)
 }
 
-/// What a look at a box finds: a leaf, or else a rational point of it if one is found. Nothing is promised of the point.
+/// What a look at a box finds: a leaf, or else a rational point of it if one is found, of which nothing is promised, and the least
+/// whole point if it is.
 #[derive(Drop)]
 pub struct Sight {
     pub leaf: Option<Box<Proof>>,
     pub vertex: Option<Vertex>,
+    pub least: Option<Vec<i64>>,
 }
 
-/// A leaf, where some rows are found whose sum is below 0 in the whole box.
+/// The least point, where one is given and it is shown to be that.
+fn shown_least(
+    alloc: Global,
+    system: &System,
+    bounds: &[Bound],
+    least: Option<Least>,
+) -> Result<Option<Vec<i64>>, AllocError>
+    requires width { length bounds.now ≡ system.now.columns }
+    requires ranges { All IsBound bounds.now }
+    ensures { IfOk result (λ o. IfSome o (λ x. IsLeast system.now bounds.now x.items)) }
+{
+    match least {
+        Some(least) => least_point(alloc, system, bounds, &least),
+        None => Ok(None),
+    }
+}
+
+/// A leaf, where some rows are found whose sum is below 0 in the whole box, or the least point, where such sums show it.
 #[inline(never)]
 pub fn found_leaf(
     alloc: Global,
@@ -248,19 +269,29 @@ pub fn found_leaf(
     requires ranges { All IsBound bounds.now }
     ensures answer { IfOk result (λ s. IfSome s.leaf (λ p. IsEmpty system.now bounds.now next p.value)) }
     ensures leaf { IfOk result (λ s. IfSome s.leaf (λ p. IsLeafProof p.value)) }
+    ensures least { IfOk result (λ s. IfSome s.least (λ x. IsLeast system.now bounds.now x.items)) }
 {
-    match look_at(alloc, system, bounds)? {
+    match look_at(alloc, system, bounds, Wanted::LeastPoint)? {
         Outcome::Sum(by) => {
             let leaf = sum_leaf(alloc, system, bounds, by, next)?;
-            Ok(Sight { leaf, vertex: None })
+            Ok(Sight {
+                leaf,
+                vertex: None,
+                least: None,
+            })
         }
-        Outcome::Vertex(vertex) => Ok(Sight {
-            leaf: None,
-            vertex: Some(vertex),
-        }),
+        Outcome::Vertex(vertex, least) => {
+            let least = shown_least(alloc, system, bounds, least)?;
+            Ok(Sight {
+                leaf: None,
+                vertex: Some(vertex),
+                least,
+            })
+        }
         Outcome::Nothing | Outcome::TooGreat => Ok(Sight {
             leaf: None,
             vertex: None,
+            least: None,
         }),
     }
 }

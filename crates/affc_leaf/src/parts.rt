@@ -1,5 +1,5 @@
 //! The halves of a box, and the parts at a place.
-ghost use Rattle.std.specs.Prelude.{◌≡◌, ℕ, ℤ, List, ◌+◌, ◌-◌, ◌*◌, ◌^◌, ◌<◌, ◌≤◌, ◌+ℤ◌, ◌-ℤ◌, ◌≤ℤ◌, ◌<ℤ◌, pos, IfOk, length};
+ghost use Rattle.std.specs.Prelude.{◌≡◌, ℤ, ◌+◌, ◌-◌, ◌^◌, ◌<◌, ◌≤◌, ◌+ℤ◌, ◌-ℤ◌, ◌≤ℤ◌, ◌<ℤ◌, pos, IfOk, length};
 ghost use Rattle.std.specs.List.{All};
 ghost use Rattle.affc_leaf.specs.Bounds.{IsBound, size, FirstFree, lowered, raised, bound_at};
 ghost use Rattle.affc_leaf.specs.Parts.{Ready};

@@ -5,6 +5,7 @@
 ghost use Rattle.std.specs.Prelude.{◌<◌};
 
 use crate::bounds::Bound;
+use crate::least::{Least, least_of};
 use crate::leaves::put_pair;
 use crate::vertices::Vertex;
 use affc_rows::Form;
@@ -157,9 +158,9 @@ impl Number for i128 {
 /// the other variables, and then a line for each basic one: its constant, its divisor, and an entry for each of the others.
 /// `variables` has the others, and then the basic ones in the order of their lines.
 #[derive(Drop)]
-struct Tableau<N> {
-    cells: Vec<N>,
-    variables: Vec<u32>,
+pub(crate) struct Tableau<N> {
+    pub(crate) cells: Vec<N>,
+    pub(crate) variables: Vec<u32>,
 }
 
 /// The number at a place, or 0.
@@ -171,14 +172,14 @@ pub(crate) fn at<N: Number>(cells: &[N], place: usize) -> N {
 }
 
 /// Changes the number at a place.
-fn put<N: Number>(cells: &mut [N], place: usize, value: N) {
+pub(crate) fn put<N: Number>(cells: &mut [N], place: usize, value: N) {
     if place < cells.len() {
         cells[place] = value;
     }
 }
 
 /// The variable at a place.
-fn variable_at(variables: &[u32], place: usize) -> u32 {
+pub(crate) fn variable_at(variables: &[u32], place: usize) -> u32 {
     match variables.get(place) {
         Some(variable) => *variable,
         None => 0,
@@ -186,7 +187,7 @@ fn variable_at(variables: &[u32], place: usize) -> u32 {
 }
 
 /// The low end of a variable's range: a slack's is 0.
-fn low_of<N: Number>(variable: u32, bounds: &[Bound]) -> N {
+pub(crate) fn low_of<N: Number>(variable: u32, bounds: &[Bound]) -> N {
     match bounds.get(variable as usize) {
         Some(bound) => N::from_word(bound.low),
         None => N::zero(),
@@ -194,7 +195,7 @@ fn low_of<N: Number>(variable: u32, bounds: &[Bound]) -> N {
 }
 
 /// The high end of a variable's range: a slack has none.
-fn high_of<N: Number>(variable: u32, bounds: &[Bound]) -> Option<N> {
+pub(crate) fn high_of<N: Number>(variable: u32, bounds: &[Bound]) -> Option<N> {
     match bounds.get(variable as usize) {
         Some(bound) => Some(N::from_word(bound.high)),
         None => None,
@@ -202,7 +203,7 @@ fn high_of<N: Number>(variable: u32, bounds: &[Bound]) -> Option<N> {
 }
 
 /// A sum of products.
-fn sum_of<N: Number>(start: N, entries: &[N], values: &[N]) -> Option<N> {
+pub(crate) fn sum_of<N: Number>(start: N, entries: &[N], values: &[N]) -> Option<N> {
     let mut sum = start;
     for (entry, value) in entries.iter().zip(values.iter()) {
         if !entry.is_zero() {
@@ -214,17 +215,17 @@ fn sum_of<N: Number>(start: N, entries: &[N], values: &[N]) -> Option<N> {
 
 /// Which way a basic variable has to move.
 #[derive(Clone, Copy, PartialEq, Eq)]
-enum Way {
+pub(crate) enum Way {
     Up,
     Down,
 }
 
 /// A line whose variable is out of its range: the way it has to move, and the end of the range that it meets first.
 #[derive(Clone, Copy)]
-struct Broken<N> {
-    line: usize,
-    way: Way,
-    end: N,
+pub(crate) struct Broken<N> {
+    pub(crate) line: usize,
+    pub(crate) way: Way,
+    pub(crate) end: N,
 }
 
 /// The way in which a line's variable has to move into its range, and the end of the range that it meets first.
@@ -251,7 +252,13 @@ fn way_of<N: Number>(
 }
 
 /// Whether a variable at this value can move so that a line with this entry moves its way.
-fn can_help<N: Number>(variable: u32, value: N, entry: N, way: Way, bounds: &[Bound]) -> bool {
+pub(crate) fn can_help<N: Number>(
+    variable: u32,
+    value: N,
+    entry: N,
+    way: Way,
+    bounds: &[Bound],
+) -> bool {
     if entry.is_zero() {
         return false;
     }
@@ -320,12 +327,22 @@ pub(crate) fn reduce<N: Number>(line: &mut [N]) {
 }
 
 /// The number without its sign.
-fn positive<N: Number>(n: N) -> Option<N> {
+pub(crate) fn positive<N: Number>(n: N) -> Option<N> {
     if n.is_below(N::zero()) {
         n.negated()
     } else {
         Some(n)
     }
+}
+
+/// Turns the signs.
+fn negate_all<N: Number>(entries: &mut [N]) -> Option<()> {
+    for entry in entries.iter_mut() {
+        if !entry.is_zero() {
+            *entry = entry.negated()?;
+        }
+    }
+    Some(())
 }
 
 /// Solves a line for one of the other variables.
@@ -340,9 +357,7 @@ fn turn<N: Number>(line: &mut [N], column: usize) -> Option<()> {
         put(entries, column, old.negated()?);
     } else {
         *constant = constant.negated()?;
-        for entry in entries.iter_mut() {
-            *entry = entry.negated()?;
-        }
+        negate_all(entries)?;
         put(entries, column, old);
     }
     Some(())
@@ -351,6 +366,14 @@ fn turn<N: Number>(line: &mut [N], column: usize) -> Option<()> {
 /// `s` times a number plus `t` times another.
 fn combined<N: Number>(s: N, first: N, t: N, second: N) -> Option<N> {
     first.times(s)?.plus(second.times(t)?)
+}
+
+/// `s` times each number plus `t` times the other one there.
+fn combine_all<N: Number>(s: N, entries: &mut [N], t: N, others: &[N]) -> Option<()> {
+    for (entry, other) in entries.iter_mut().zip(others.iter()) {
+        *entry = combined(s, *entry, t, *other)?;
+    }
+    Some(())
 }
 
 /// Puts what a variable equals into a line.
@@ -366,9 +389,7 @@ fn substitute<N: Number>(line: &mut [N], solved: &[N], column: usize) -> Option<
         return Some(());
     }
     put(entries, column, N::zero());
-    for (entry, other) in entries.iter_mut().zip(others.iter()) {
-        *entry = combined(*other_divisor, *entry, times, *other)?;
-    }
+    combine_all(*other_divisor, entries, times, others)?;
     *constant = combined(*other_divisor, *constant, times, *other_constant)?;
     *divisor = divisor.times(*other_divisor)?;
     if (*divisor).magnitude() != 1 {
@@ -378,7 +399,7 @@ fn substitute<N: Number>(line: &mut [N], solved: &[N], column: usize) -> Option<
 }
 
 /// How many cells a line has.
-fn width_of(columns: usize) -> usize
+pub(crate) fn width_of(columns: usize) -> usize
     ensures { 0 < result }
 {
     columns.saturating_add(2)
@@ -436,7 +457,7 @@ fn exchange_variables(
 }
 
 /// Changes the variable at a place.
-fn put_variable(variables: &mut [u32], place: usize, variable: u32) {
+pub(crate) fn put_variable(variables: &mut [u32], place: usize, variable: u32) {
     if place < variables.len() {
         variables[place] = variable;
     }
@@ -465,7 +486,7 @@ fn solve<N: Number>(
 }
 
 /// Exchanges the variable of a line with another one, and sets it to an end of its range.
-fn exchange<N: Number>(
+pub(crate) fn exchange<N: Number>(
     tableau: &mut Tableau<N>,
     columns: usize,
     broken: Broken<N>,
@@ -496,13 +517,20 @@ fn reach_of<N: Number>(row: &Form, bounds: &[Bound]) -> Option<(N, N)> {
     Some((least, greatest))
 }
 
+/// What is wanted of a box that isn't seen to be empty.
+#[derive(Clone, Copy)]
+pub(crate) enum Wanted {
+    AnyVertex,
+    LeastPoint,
+}
+
 /// What a look at a box comes to.
 #[derive(Drop)]
 pub(crate) enum Outcome {
     /// Rows whose sum is below 0 in the whole box, with multipliers, in the order of the rows.
     Sum(Vec<(u32, u64)>),
-    /// A rational point of the box at which every row is at least 0.
-    Vertex(Vertex),
+    /// A rational point of the box at which every row is at least 0, and the least whole one, where it is asked for and found.
+    Vertex(Vertex, Option<Least>),
     Nothing,
     /// A number doesn't fit.
     TooGreat,
@@ -553,6 +581,7 @@ fn look<N: Number>(
     alloc: Global,
     system: &System,
     bounds: &[Bound],
+    wanted: Wanted,
 ) -> Result<Outcome, AllocError> {
     let rows = system.rows();
     let columns = bounds.len();
@@ -573,7 +602,7 @@ fn look<N: Number>(
             tableau.variables.push(slack)?;
         }
     }
-    pivoted(alloc, tableau, bounds)
+    pivoted(alloc, tableau, bounds, wanted)
 }
 
 /// The first line that is out of its range. `None` where a number doesn't fit.
@@ -595,7 +624,11 @@ fn first_broken<N: Number>(tableau: &Tableau<N>, bounds: &[Bound]) -> Option<Opt
 }
 
 /// The line with a number.
-fn line_at<N: Number>(tableau: &Tableau<N>, columns: usize, number: usize) -> Option<&[N]> {
+pub(crate) fn line_at<N: Number>(
+    tableau: &Tableau<N>,
+    columns: usize,
+    number: usize,
+) -> Option<&[N]> {
     let width = width_of(columns);
     let place = columns.checked_add(number.checked_mul(width)?)?;
     tableau
@@ -615,13 +648,14 @@ fn one_pivot<N: Number>(
     alloc: Global,
     tableau: &mut Tableau<N>,
     bounds: &[Bound],
+    wanted: Wanted,
 ) -> Result<Step, AllocError> {
     let columns = bounds.len();
     let Some(found) = first_broken(tableau, bounds) else {
         return Ok(Step::Ended(Outcome::TooGreat));
     };
     let Some(broken) = found else {
-        return Ok(Step::Ended(vertex_of(alloc, tableau, columns)?));
+        return Ok(Step::Ended(vertex_of(alloc, tableau, bounds, wanted)?));
     };
     let Some(helper) = helper_in(tableau, bounds, broken) else {
         return Ok(Step::Ended(sum_found(alloc, tableau, columns, broken.line)?));
@@ -632,17 +666,23 @@ fn one_pivot<N: Number>(
     }
 }
 
-/// The point at which a tableau stands, where its numbers fit.
+/// The point at which a tableau stands, where its numbers fit, and the least one if it is wanted.
 fn vertex_of<N: Number>(
     alloc: Global,
-    tableau: &Tableau<N>,
-    columns: usize,
+    tableau: &mut Tableau<N>,
+    bounds: &[Bound],
+    wanted: Wanted,
 ) -> Result<Outcome, AllocError> {
+    let columns = bounds.len();
     let mut vertex = Vertex::new(alloc, columns)?;
-    match fill_vertex(tableau, columns, &mut vertex) {
-        Some(()) => Ok(Outcome::Vertex(vertex)),
-        None => Ok(Outcome::Nothing),
-    }
+    let Some(()) = fill_vertex(tableau, columns, &mut vertex) else {
+        return Ok(Outcome::Nothing);
+    };
+    let least = match wanted {
+        Wanted::LeastPoint => least_of(alloc, tableau, bounds)?,
+        Wanted::AnyVertex => None,
+    };
+    Ok(Outcome::Vertex(vertex, least))
 }
 
 /// Sets the columns of a point to their values in a tableau.
@@ -685,7 +725,7 @@ fn helper_in<N: Number>(
 }
 
 /// Adds a variable's row with a multiplier, where the variable is a slack.
-fn push_slack(
+pub(crate) fn push_slack(
     rows: &mut Vec<(u32, u64)>,
     variable: u32,
     columns: usize,
@@ -746,10 +786,11 @@ fn pivoted<N: Number>(
     alloc: Global,
     tableau: Tableau<N>,
     bounds: &[Bound],
+    wanted: Wanted,
 ) -> Result<Outcome, AllocError> {
     let mut tableau = tableau;
     for _ in 0..MOST_PIVOTS {
-        match one_pivot(alloc, &mut tableau, bounds)? {
+        match one_pivot(alloc, &mut tableau, bounds, wanted)? {
             Step::Moved => {}
             Step::Ended(outcome) => return Ok(outcome),
         }
@@ -762,9 +803,10 @@ pub(crate) fn look_at(
     alloc: Global,
     system: &System,
     bounds: &[Bound],
+    wanted: Wanted,
 ) -> Result<Outcome, AllocError> {
-    match look::<i64>(alloc, system, bounds)? {
-        Outcome::TooGreat => look::<i128>(alloc, system, bounds),
+    match look::<i64>(alloc, system, bounds, wanted)? {
+        Outcome::TooGreat => look::<i128>(alloc, system, bounds, wanted),
         found => Ok(found),
     }
 }

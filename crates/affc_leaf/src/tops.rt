@@ -1,5 +1,5 @@
 //! The greatest values of rows over boxes.
-ghost use Rattle.std.specs.Prelude.{◌≡◌, ℕ, ℤ, ◌+◌, ◌*◌, ◌*ℤ◌, ◌^◌, ◌<◌, ◌≤◌, ◌≤ℤ◌, ◌<ℤ◌, pos, unsigned_abs, IfSome, IfNone, length};
+ghost use Rattle.std.specs.Prelude.{◌≡◌, ℤ, ◌+◌, ◌*◌, ◌*ℤ◌, ◌^◌, ◌<◌, ◌≤◌, ◌≤ℤ◌, ◌<ℤ◌, pos, unsigned_abs, IfSome, IfNone, length};
 ghost use Rattle.std.specs.List.{All};
 ghost use Rattle.affc_farkas.specs.Multiples.{row_at};
 ghost use Rattle.affc_leaf.specs.Bounds.{IsBound, IsSum, top, top_at, top_value};
@@ -25,7 +25,9 @@ fn top_product(c: i128, bound: Bound) -> i128
     ensures value { result ≡ top_at c bound }
     ensures small { unsigned_abs result ≤ 2 ^ 113 }
 {
-    if c < 0 {
+    if c == 0 {
+        0
+    } else if c < 0 {
         product(c, bound.low)
     } else {
         product(c, bound.high)

@@ -1,2 +1,3 @@
 pub mod Regions
+pub mod Gaps
 pub mod Searches

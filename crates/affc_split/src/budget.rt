@@ -1,5 +1,5 @@
 //! Budgets.
-ghost use Rattle.std.specs.Prelude.{◌≡◌, ℕ, ◌+◌, ◌-◌, ◌*◌, ◌^◌, ◌<◌, ◌≤◌, OnOk, OnErr, IsNone, Some};
+ghost use Rattle.std.specs.Prelude.{◌≡◌, ◌+◌, ◌-◌, ◌<◌, ◌≤◌, OnOk, OnErr, IsNone, Some};
 ghost use Rattle.affc_split.specs.Budgets.{Account, Within, IsUnit};
 
 use std::alloc::AllocError;

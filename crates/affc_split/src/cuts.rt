@@ -1,6 +1,5 @@
 //! The search with the cuts of a system's rows.
-ghost use Rattle.std.specs.Prelude.{◌≡◌, ℕ, List, ◌+◌, ◌-◌, ◌*◌, ◌^◌, ◌<◌, ◌≤◌, IfOk, length};
-ghost use Rattle.std.specs.List.{All};
+ghost use Rattle.std.specs.Prelude.{◌≡◌, ◌+◌, ◌-◌, ◌<◌, ◌≤◌, IfOk, length};
 ghost use Rattle.affc_leaf.specs.Bounds.{ranges_of};
 ghost use Rattle.affc_leaf.specs.Parts.{Ready};
 ghost use Rattle.affc_split.specs.Search.{IsFound, IsReady};
@@ -9,23 +8,24 @@ ghost use Rattle.affc_split.specs.Searches.{AreFewer, Spends};
 use crate::budget::{Budget, Stop};
 use crate::search::{Found, Here, SPARE, inside};
 use affc_leaf::Bound;
-use affc_leaf::box_cuts::found_empty;
+use affc_leaf::box_cuts::{Seen, seen_at};
 use affc_leaf::cuts::{cut_proof, next_cut, push_cut};
 use affc_system::System;
 use affc_system::system::MOST_ROWS;
 use std::alloc::Global;
 
-/// Searches a box that is open, after a look for a leaf of it.
+/// Searches a box that is open, after a look at it.
 #[inline(never)]
 fn rooted(here: &Here<'_>, budget: &mut Budget) -> Result<Found, Stop>
     requires ready { IsReady here.now }
     ensures answer { IfOk result (IsFound here.now.system.now here.now.bounds.now here.now.next) }
     ensures spends { Spends (AreFewer 0) 0 (ranges_of here.now.bounds.now) budget.old budget.new result }
 {
-    if let Some(proof) = found_empty(here.alloc, here.system, here.bounds, here.next)? {
-        return Ok(Found::Empty(proof));
+    match seen_at(here.alloc, here.system, here.bounds, here.next)? {
+        Seen::Empty(proof) => Ok(Found::Empty(proof)),
+        Seen::Point(point) => Ok(Found::Point(point)),
+        Seen::Nothing => inside(here, budget),
     }
-    inside(here, budget)
 }
 
 /// Cuts each row, from a number on, that gains by it, and searches the box with the cuts.

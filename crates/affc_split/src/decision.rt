@@ -1,5 +1,5 @@
 //! The decision.
-ghost use Rattle.std.specs.Prelude.{◌≡◌, ℕ, ℤ, List, ◌+◌, ◌-◌, ◌*◌, ◌^◌, ◌<◌, ◌≤◌, ◌⊎◌, pos, IfOk, IfErr, IfSome, IfNone, IsTrue, ◌↔◌, OnOk, OnErr, IsNone, Some, Err, length};
+ghost use Rattle.std.specs.Prelude.{◌≡◌, ℕ, ℤ, List, ◌+◌, ◌-◌, ◌*◌, ◌^◌, ◌<◌, ◌≤◌, ◌⊎◌, IfOk, IfErr, IfSome, IfNone, IsTrue, ◌↔◌, OnOk, OnErr, Some, Err, length};
 ghost use Rattle.std.specs.List.{All};
 ghost use Rattle.affc_system.specs.Systems.{IsPoint};
 ghost use Rattle.affc_system.specs.Boxes.{IsBox, InBox};
@@ -11,7 +11,7 @@ ghost use Rattle.affc_leaf.specs.Points.{points, low_corner, IsLeastPoint};
 ghost use Rattle.affc_leaf.specs.Bounds.{IsBound, size};
 ghost use Rattle.affc_split.specs.Budgets.{IsLater};
 ghost use Rattle.affc_split.specs.Openings.{Opened};
-ghost use Rattle.affc_leaf.specs.Parts.{IsEmpty, Ready, box_bounds};
+ghost use Rattle.affc_leaf.specs.Parts.{IsLeast, Ready, box_bounds};
 ghost use Rattle.affc_split.specs.Searches.{AreFewerFor, Spends};
 
 use crate::budget::{Budget, Stop};
@@ -80,10 +80,11 @@ pub fn within_reach(ranges: &BoxOf) -> bool
 struct WholeSight {
     leaf: Option<Proof>,
     vertex: Option<Vertex>,
+    least: Option<Vec<i64>>,
 }
 
-/// A leaf for the whole box, found at once.
-fn whole_leaf(
+/// A leaf for the whole box, or its least point, found at once.
+fn whole_sight(
     alloc: Global,
     system: &System,
     ranges: &[(i64, i64)],
@@ -98,16 +99,26 @@ fn whole_leaf(
     requires next { next ≡ length system.now.rows + 2 * system.now.columns }
     ensures valid { IfOk result (λ s. IfSome s.leaf (λ p. ValidProof (with_box system.now ranges.now) p)) }
     ensures leaf { IfOk result (λ s. IfSome s.leaf IsLeafProof) }
+    ensures least { IfOk result (λ s. IfSome s.least (λ x. IsLeast system.now bounds.now x.items)) }
     ensures memory { OnErr result (result ≡ Err Stop.Memory) }
 {
     let _rows = system.rows();
-    let Sight { leaf, vertex } = found_leaf(alloc, system, bounds, next)?;
+    let Sight {
+        leaf,
+        vertex,
+        least,
+    } = found_leaf(alloc, system, bounds, next)?;
     match leaf {
         Some(leaf) => Ok(WholeSight {
             leaf: Some(Box::into_inner(leaf)),
             vertex,
+            least,
         }),
-        None => Ok(WholeSight { leaf: None, vertex }),
+        None => Ok(WholeSight {
+            leaf: None,
+            vertex,
+            least,
+        }),
     }
 }
 
@@ -164,7 +175,7 @@ fn cut_and_searched(
     }
 }
 
-/// What is found in the whole box, after it is opened and has no leaf.
+/// What is found in the whole box, after it is opened and nothing is seen of it at once.
 fn searched(
     alloc: Global,
     system: &System,
@@ -228,12 +239,19 @@ fn opened(
     let columns = system.columns();
     let next = system.rows().len() as u32 + 2 * columns;
     let bounds = whole(alloc, system, ranges)?;
-    let sight = whole_leaf(alloc, system, ranges, bounds.as_slice(), next)?;
-    let WholeSight { leaf, vertex } = sight;
+    if let Some(corner) = at_lows(alloc, system, bounds.as_slice())? {
+        return Ok(Answer::Point(corner));
+    }
+    let sight = whole_sight(alloc, system, ranges, bounds.as_slice(), next)?;
+    let WholeSight {
+        leaf,
+        vertex,
+        least,
+    } = sight;
     if let Some(leaf) = leaf {
         return Ok(Answer::Empty(leaf));
     }
-    if let Some(point) = at_lows(alloc, system, bounds.as_slice())? {
+    if let Some(point) = least {
         return Ok(Answer::Point(point));
     }
     if let Some(leaf) = eliminated(alloc, system, ranges, vertex.as_ref(), next)? {

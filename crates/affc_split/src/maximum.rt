@@ -1,5 +1,6 @@
 //! The greatest value of a form over the integer points of regions.
 
+mod gap;
 pub mod region;
 pub mod search;
 pub mod several;

@@ -1,5 +1,5 @@
 //! What the parts of a box say of the whole.
-ghost use Rattle.std.specs.Prelude.{◌≡◌, ℕ, ℤ, List, ◌+◌, ◌<◌, ◌≤ℤ◌, ◌<ℤ◌, pos, IfOk, IfSome, IfNone, OnErr, Err, length};
+ghost use Rattle.std.specs.Prelude.{◌≡◌, ℤ, ◌+◌, ◌<◌, ◌≤ℤ◌, pos, IfOk, IfSome, IfNone, OnErr, Err, length};
 ghost use Rattle.std.specs.List.{All};
 ghost use Rattle.affc_system.specs.Systems.{IsPoint};
 ghost use Rattle.affc_leaf.specs.Bounds.{IsBound, AllSingle, lows, top_value};

@@ -1,5 +1,5 @@
 //! The search through the parts of a box.
-ghost use Rattle.std.specs.Prelude.{◌≡◌, ℕ, ℤ, List, ◌+◌, ◌-◌, ◌*◌, ◌^◌, ◌<◌, ◌≤◌, ◌≤ℤ◌, pos, IfOk, IfSome, IfNone, OnErr, Err, length};
+ghost use Rattle.std.specs.Prelude.{◌≡◌, ℤ, ◌+◌, ◌-◌, ◌*◌, ◌<◌, ◌≤◌, ◌≤ℤ◌, pos, IfOk, IfSome, IfNone, OnErr, Err};
 ghost use Rattle.std.specs.List.{All};
 ghost use Rattle.affc_leaf.specs.Bounds.{FirstFree, bound_at, ranges_of, top_value};
 ghost use Rattle.affc_leaf.specs.Parts.{Ready};
@@ -10,7 +10,7 @@ use crate::budget::{Budget, Stop};
 use crate::parts::{at_lows, beside, single};
 use affc_farkas::Proof;
 use affc_leaf::bounds::{Bound, first_free};
-use affc_leaf::box_cuts::found_empty;
+use affc_leaf::box_cuts::{Seen, seen_at};
 use affc_leaf::leaves::row_leaf;
 use affc_leaf::parts::{high_box, high_part, low_box, low_part, middle_of};
 use affc_leaf::places::{find_place, is_below};
@@ -295,7 +295,7 @@ fn halved(here: &Here<'_>, split: Split, budget: &mut Budget) -> Result<Found, S
     }
 }
 
-/// Opens a half of a box, and searches it where it has no leaf.
+/// Opens a half of a box, and searches it where nothing is seen of it at once.
 #[cycle(search)]
 #[inline(never)]
 fn half(here: &Here<'_>, split: Split, side: Side, budget: &mut Budget) -> Result<Found, Stop>
@@ -314,8 +314,9 @@ fn half(here: &Here<'_>, split: Split, side: Side, budget: &mut Budget) -> Resul
         left: here.left - 1,
         ..*here
     };
-    if let Some(proof) = found_empty(there.alloc, there.system, there.bounds, there.next)? {
-        return Ok(Found::Empty(proof));
+    match seen_at(there.alloc, there.system, there.bounds, there.next)? {
+        Seen::Empty(proof) => Ok(Found::Empty(proof)),
+        Seen::Point(point) => Ok(Found::Point(point)),
+        Seen::Nothing => inside(&there, budget),
     }
-    inside(&there, budget)
 }

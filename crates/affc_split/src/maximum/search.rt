@@ -1,14 +1,16 @@
 //! The greatest value of a form in a region.
-ghost use Rattle.std.specs.Prelude.{◌≡◌, ℕ, ℤ, negsuc, List, ◌+◌, ◌-◌, ◌^◌, ◌<◌, ◌≤◌, ◌∷◌, ◌++◌, [], pos, ◌+ℤ◌, ◌-ℤ◌, ◌≤ℤ◌, ◌<ℤ◌, unsigned_abs, IfOk, IfErr, IfSome, IfNone, OnOk, OnErr, Some, length};
+ghost use Rattle.std.specs.Prelude.{◌≡◌, ℤ, negsuc, ◌+◌, ◌-◌, ◌^◌, ◌<◌, ◌≤◌, ◌∷◌, ◌++◌, [], pos, ◌-ℤ◌, ◌≤ℤ◌, ◌<ℤ◌, unsigned_abs, IfOk, IfErr, IfSome, IfNone, Some, length};
 ghost use Rattle.affc_rows.specs.Forms.{value};
 ghost use Rattle.affc_split.specs.maximum.Regions.{InRegion, IsFirstReaching, IsMeasure, IsBounded, IsAnswer};
 ghost use Rattle.affc_split.specs.maximum.Searches.{IsSearch};
 ghost use Rattle.affc_split.specs.Budgets.{IsLater};
 
+use crate::maximum::gap::at_once;
 use crate::maximum::region::Region;
 use crate::{Answer, Budget, Stop, decide};
 use affc_rows::Form;
-use affc_system::{RowFault, System, value_at};
+use affc_system::system::MOST_COLUMNS;
+use affc_system::{System, value_at};
 use smallvec::SmallVec;
 use std::alloc::{AllocError, Global};
 
@@ -20,7 +22,7 @@ pub struct Best {
 }
 
 /// The form less a number.
-fn less(alloc: Global, form: &Form, by: i64) -> Result<Form, AllocError>
+pub(crate) fn less(alloc: Global, form: &Form, by: i64) -> Result<Form, AllocError>
     requires constant_fits { unsigned_abs form.now.constant ≤ 2 ^ 58 }
     requires near { unsigned_abs by ≤ 2 ^ 58 }
     ensures { IfOk result (λ f. f ≡ record form.now { constant = form.now.constant -ℤ by }) }
@@ -41,12 +43,8 @@ fn with_floor(alloc: Global, system: &System, form: &Form, at: i64) -> Result<Sy
 {
     let mut longer = system.clone()?;
     let row = less(alloc, form, at)?;
-    match longer.push(row) {
-        Ok(()) => Ok(longer),
-        Err(RowFault::Memory) => Err(AllocError),
-        Err(RowFault::Range) => unreachable!(),
-        Err(RowFault::Full) => unreachable!(),
-    }
+    longer.add(row)?;
+    Ok(longer)
 }
 
 /// A point of the region at which the form is at least a number, if there is one.
@@ -235,7 +233,8 @@ fn next_turn(turn: u32) -> u32 {
 
 /// The greatest value of a form in a region, with a point that attains it, where it is above the floor.
 ///
-/// The form is known to be nowhere above the ceiling. The likely value only says where to ask early.
+/// The form is known to be nowhere above the ceiling. It is asked for at once where a column more fits, else by halves; the likely
+/// value then says where to ask early.
 pub fn maximum(
     alloc: Global,
     region: &Region,
@@ -255,6 +254,9 @@ pub fn maximum(
     ensures later { IsLater budget.old budget.new }
     ensures stop { IfErr result (λ e. e ≡ Stop.Budget → budget.new.limit ≡ Some budget.new.spent) }
 {
+    if floor < ceiling && region.system.columns() < MOST_COLUMNS {
+        return at_once(alloc, region, form, floor, ceiling, budget);
+    }
     let mut search = begun(region, form, floor, ceiling);
     let mut turn = 0;
     while search.low < search.high {

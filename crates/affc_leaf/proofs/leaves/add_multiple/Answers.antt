@@ -1,8 +1,8 @@
-use Rattle.std.proofs.Common.{arith, rules, ◌∙◌, get_or, pos, sym, length, ◌<◌}
+use Rattle.std.proofs.Common.{arith, rules, ◌∙◌, get_or, pos, length, ◌<◌}
 use Rattle.std.specs.Prelude.{FitsSigned}
 use Rattle.std.specs.Int.{w128}
 use Rattle.std.proofs.lemmas.Int.{to_z-of_z}
-use Rattle.affc_leaf.proofs.Adding.{add_step, product_added}
+use Rattle.affc_leaf.proofs.Adding.{add_step}
 use Rattle.affc_leaf.proofs.leaves.add_multiple.Goals as goal
 
 pub loop-i-preserved : goal.loop-i-preserved
@@ -13,12 +13,9 @@ loop-i-preserved c =
     let ft : FitsSigned w128 c.args.times = c.ranges.times in
     let fr : FitsSigned w128 (get_or row i (pos 0)) = search rules in
     let fs : FitsSigned w128 (get_or sum i (pos 0)) = search rules in
-    let fp : FitsSigned w128 c.in-Some.product = search rules in
-    let fn : FitsSigned w128 c.in-Some-checked_add.next = search rules in
+    let fn : FitsSigned w128 c.in-Some.next = search rules in
     let inv = simp to_z-of_z at c.loop-i.invariant in
-    let p = simp to_z-of_z at c.in-Some.ensures in
-    let n = simp to_z-of_z at c.in-Some-checked_add.ensures in
+    let e = simp to_z-of_z at c.in-Some.ensures in
     let here : i < length row = omega arith in
     let there : i < length sum = omega (arith, c.loop-i.auto.sum, c.requires) in
-    let e = sym (product_added c.args.times (get_or row i (pos 0)) (get_or sum i (pos 0)) c.in-Some.product c.in-Some-checked_add.next p.1 n.1) in
-    simp to_z-of_z (add_step c.args.times row sum i c.in-Some-checked_add.next here there e ∙ inv)
+    simp to_z-of_z (add_step c.args.times row sum i c.in-Some.next here there e ∙ inv)

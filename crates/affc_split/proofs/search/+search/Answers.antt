@@ -2,7 +2,7 @@ use Rattle.std.proofs.Common.{rules, ◌∙◌, ◌+◌, ap, subst, Ok, Err}
 use Rattle.affc_leaf.specs.Bounds.{ranges_of}
 use Rattle.affc_leaf.proofs.Halves.{halves_points}
 use Rattle.affc_leaf.proofs.Steps.{low_least}
-use Rattle.affc_split.specs.declared.search.Found.TheVariants.{Empty}
+use Rattle.affc_split.specs.declared.search.Found.TheVariants.{Empty, Point}
 use Rattle.affc_split.specs.declared.search.Side.TheVariants.{Low, High}
 use Rattle.affc_split.specs.Search.{IsFound, part_of, other_side}
 use Rattle.affc_split.specs.Searches.{AreFewer, Spends}
@@ -24,10 +24,15 @@ half-returns-in_err-proof-clause-spends t c =
     let o = c.open.ensures in
     failed_opened _ c.args.budget.now c.open.new.self c.from_residual-in_err-proof.result (record { limit = o.limit; grows = o.grows; uncounted = o.uncounted }) o.step (search rules)
 
-pub half-returns-in-Some-clause-spends : goal.half-returns-in-Some-clause-spends
-half-returns-in-Some-clause-spends t c =
+pub half-returns-in-Empty-clause-spends : goal.half-returns-in-Empty-clause-spends
+half-returns-in-Empty-clause-spends t c =
     let o = c.open.ensures in
-    leaf_found _ c.args.budget.now c.open.new.self (Empty c.in-Some.proof) (record { limit = o.limit; grows = o.grows; uncounted = o.uncounted }) o.step c.in_ok-open.ensures.counted
+    leaf_found _ c.args.budget.now c.open.new.self (Empty c.in-Empty.proof) (record { limit = o.limit; grows = o.grows; uncounted = o.uncounted }) o.step c.in_ok-open.ensures.counted
+
+pub half-returns-in-Point-clause-spends : goal.half-returns-in-Point-clause-spends
+half-returns-in-Point-clause-spends t c =
+    let o = c.open.ensures in
+    leaf_found _ c.args.budget.now c.open.new.self (Point c.in-Point.point) (record { limit = o.limit; grows = o.grows; uncounted = o.uncounted }) o.step c.in_ok-open.ensures.counted
 
 pub half-returns-clause-spends : goal.half-returns-clause-spends
 half-returns-clause-spends t c =

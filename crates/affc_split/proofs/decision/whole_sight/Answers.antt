@@ -5,7 +5,7 @@ use Rattle.affc_farkas.specs.Proofs.{ValidProof}
 use Rattle.affc_leaf.specs.Boxed.{with_box}
 use Rattle.affc_leaf.specs.Parts.{IsEmpty}
 use Rattle.affc_leaf.proofs.Whole.{whole_valid}
-use Rattle.affc_split.proofs.decision.whole_leaf.Goals as goal
+use Rattle.affc_split.proofs.decision.whole_sight.Goals as goal
 
 pub returns-in-Some-clause-valid : goal.returns-in-Some-clause-valid
 returns-in-Some-clause-valid c =

@@ -1,0 +1,488 @@
+//! The lexicographically least rational point of a box at which every row is at least 0, from a tableau that stands at such a point:
+//! column by column the others are moved so that it gets less, and then those on which it depends are frozen (Feautrier's
+//! parametric integer programming takes the least point in the same order).
+//!
+//! Nothing is promised of it: whoever takes the point tests it, and the sums by which no whole point comes before it.
+use crate::bounds::Bound;
+use crate::simplex::{
+    Broken, Number, Tableau, Way, at, can_help, exchange, high_of, line_at, low_of, positive,
+    push_slack, put, put_variable, sum_of, variable_at, width_of,
+};
+use std::alloc::{AllocError, Global};
+
+/// The most moves for one column.
+const MOST_MOVES: u32 = 400;
+
+/// A whole point, and for each column multiples of rows whose sum says that the column isn't less where those before it are as here.
+/// A column at the low end of its range has none.
+#[derive(Drop)]
+pub(crate) struct Least {
+    pub(crate) point: Vec<i64>,
+    pub(crate) sums: Vec<Vec<(u32, u64)>>,
+}
+
+/// The place of a variable among these.
+fn place_among(variables: &[u32], variable: u32) -> Option<usize> {
+    for (place, other) in variables.iter().enumerate() {
+        if *other == variable {
+            return Some(place);
+        }
+    }
+    None
+}
+
+/// One of the other variables, by its place, and the way in which it moves.
+#[derive(Clone, Copy)]
+struct Entering {
+    place: usize,
+    way: Way,
+}
+
+/// What is done for a column next.
+#[derive(Clone, Copy)]
+enum Move {
+    Done,
+    Enter(Entering),
+}
+
+/// Freezes the other variables on which a line depends: the stage is that of the column for which it is done, from 1 on.
+fn freeze<N: Number>(entries: &[N], stages: &mut [u32], stage: u32) {
+    for (j, entry) in entries.iter().enumerate() {
+        if !entry.is_zero() && variable_at(stages, j) == 0 {
+            put_variable(stages, j, stage);
+        }
+    }
+}
+
+/// The first of the other variables, in the order of their numbers, that isn't frozen and can make a line less.
+fn lessening<N: Number>(
+    entries: &[N],
+    values: &[N],
+    others: &[u32],
+    stages: &[u32],
+    bounds: &[Bound],
+) -> Option<Entering> {
+    let mut found = None;
+    let mut least = u32::MAX;
+    for (place, entry) in entries.iter().enumerate() {
+        let variable = variable_at(others, place);
+        if variable_at(stages, place) == 0
+            && variable < least
+            && can_help(variable, at(values, place), *entry, Way::Down, bounds)
+        {
+            least = variable;
+            let way = if entry.is_below(N::zero()) {
+                Way::Up
+            } else {
+                Way::Down
+            };
+            found = Some(Entering { place, way });
+        }
+    }
+    found
+}
+
+/// What is done next so that a column gets less. Where nothing can be, what it depends on is frozen.
+fn next_move<N: Number>(
+    tableau: &Tableau<N>,
+    bounds: &[Bound],
+    stages: &mut [u32],
+    column: u32,
+) -> Option<Move> {
+    let columns = bounds.len();
+    let stage = column.saturating_add(1);
+    let (others, basics) = tableau.variables.as_slice().split_at_checked(columns)?;
+    let values = tableau.cells.as_slice();
+    if let Some(place) = place_among(others, column) {
+        let low: N = low_of(column, bounds);
+        if variable_at(stages, place) == 0 && low.is_below(at(values, place)) {
+            let way = Way::Down;
+            return Some(Move::Enter(Entering { place, way }));
+        }
+        if variable_at(stages, place) == 0 {
+            put_variable(stages, place, stage);
+        }
+        return Some(Move::Done);
+    }
+    let line = line_at(tableau, columns, place_among(basics, column)?)?;
+    let [_, _, entries @ ..] = line else {
+        return None;
+    };
+    match lessening(entries, values, others, stages, bounds) {
+        Some(entering) => Some(Move::Enter(entering)),
+        None => {
+            freeze(entries, stages, stage);
+            Some(Move::Done)
+        }
+    }
+}
+
+/// How far a variable can move: a quotient, and the line whose variable then meets an end of its range, if one does.
+#[derive(Clone, Copy)]
+struct Reach<N> {
+    over: N,
+    by: N,
+    line: Option<usize>,
+    variable: u32,
+    end: N,
+}
+
+/// Whether a line stops a variable before another reach does, or at the same time and has a lesser number. `None` where a number
+/// doesn't fit.
+fn is_nearer<N: Number>(one: Reach<N>, other: Reach<N>) -> Option<bool> {
+    let here = one.over.times(other.by)?;
+    let there = other.over.times(one.by)?;
+    let is_first = other.line.is_some() && one.variable < other.variable;
+    Some(here.is_below(there) || (!there.is_below(here) && is_first))
+}
+
+/// How far a variable can move within its own range.
+fn own_reach<N: Number>(variable: u32, way: Way, bounds: &[Bound]) -> Option<Option<Reach<N>>> {
+    let low: N = low_of(variable, bounds);
+    let Some(high) = high_of::<N>(variable, bounds) else {
+        return Some(None);
+    };
+    Some(Some(Reach {
+        over: high.plus(low.negated()?)?,
+        by: N::one(),
+        line: None,
+        variable,
+        end: if way == Way::Up { high } else { low },
+    }))
+}
+
+/// The end of a variable's range on this side.
+fn end_of<N: Number>(variable: u32, up: bool, bounds: &[Bound]) -> Option<N> {
+    if up {
+        high_of(variable, bounds)
+    } else {
+        Some(low_of(variable, bounds))
+    }
+}
+
+/// How far a variable can move until a line's variable meets an end of its range.
+fn reach_in<N: Number>(
+    line: &[N],
+    basic: u32,
+    values: &[N],
+    bounds: &[Bound],
+    entering: Entering,
+) -> Option<Option<Reach<N>>> {
+    let [constant, divisor, entries @ ..] = line else {
+        return None;
+    };
+    let entry = at(entries, entering.place);
+    let up = entry.is_below(N::zero()) != (entering.way == Way::Up);
+    let Some(end) = end_of::<N>(basic, up, bounds) else {
+        return Some(None);
+    };
+    if entry.is_zero() {
+        return Some(None);
+    }
+    let value = sum_of(*constant, entries, values)?;
+    let far = end.times(*divisor)?;
+    let gap = far.plus(value.negated()?)?;
+    Some(Some(Reach {
+        over: if up { gap } else { gap.negated()? },
+        by: positive(entry)?,
+        line: None,
+        variable: basic,
+        end,
+    }))
+}
+
+/// The nearer of a reach and what was found in a line.
+fn nearer<N: Number>(reach: Option<Reach<N>>, found: Reach<N>) -> Option<Reach<N>> {
+    match reach {
+        Some(reach) if !is_nearer(found, reach)? => Some(reach),
+        _ => Some(found),
+    }
+}
+
+/// How far one of the other variables can move. `None` where a number doesn't fit.
+fn reach_to<N: Number>(
+    tableau: &Tableau<N>,
+    bounds: &[Bound],
+    entering: Entering,
+) -> Option<Option<Reach<N>>> {
+    let columns = bounds.len();
+    let (others, basics) = tableau.variables.as_slice().split_at_checked(columns)?;
+    let (values, lines) = tableau.cells.as_slice().split_at_checked(columns)?;
+    let mut reach = own_reach(variable_at(others, entering.place), entering.way, bounds)?;
+    for (number, line) in lines.chunks_exact(width_of(columns)).enumerate() {
+        let basic = variable_at(basics, number);
+        if let Some(found) = reach_in(line, basic, values, bounds, entering)? {
+            let line = Some(number);
+            reach = Some(nearer(reach, Reach { line, ..found })?);
+        }
+    }
+    Some(reach)
+}
+
+/// Moves one of the other variables as far as it can.
+fn moved<N: Number>(tableau: &mut Tableau<N>, bounds: &[Bound], entering: Entering) -> Option<()> {
+    let reach = reach_to(tableau, bounds, entering)??;
+    let Some(line) = reach.line else {
+        put(tableau.cells.as_mut_slice(), entering.place, reach.end);
+        return Some(());
+    };
+    let broken = Broken {
+        line,
+        way: entering.way,
+        end: reach.end,
+    };
+    exchange(tableau, bounds.len(), broken, entering.place)
+}
+
+/// Makes a column as little as it can be. `None` where that fails.
+fn settle<N: Number>(
+    tableau: &mut Tableau<N>,
+    bounds: &[Bound],
+    stages: &mut [u32],
+    column: u32,
+) -> Option<()> {
+    for _ in 0..MOST_MOVES {
+        match next_move(tableau, bounds, stages, column)? {
+            Move::Done => return Some(()),
+            Move::Enter(entering) => moved(tableau, bounds, entering)?,
+        }
+    }
+    None
+}
+
+/// The value of a column, where it is whole.
+fn whole_value<N: Number>(tableau: &Tableau<N>, columns: usize, column: u32) -> Option<i64> {
+    let (others, basics) = tableau.variables.as_slice().split_at_checked(columns)?;
+    let values = tableau.cells.as_slice();
+    if let Some(place) = place_among(others, column) {
+        return i64::try_from(at(values, place).wide()).ok();
+    }
+    let line = line_at(tableau, columns, place_among(basics, column)?)?;
+    let [constant, divisor, entries @ ..] = line else {
+        return None;
+    };
+    let value = sum_of(*constant, entries, values)?;
+    if !value.rest(*divisor).is_zero() {
+        return None;
+    }
+    i64::try_from(value.over(*divisor).wide()).ok()
+}
+
+/// A tableau at the least point, and the stage at which each of the other variables was frozen.
+#[derive(Clone, Copy)]
+struct Settled<'a, N> {
+    tableau: &'a Tableau<N>,
+    bounds: &'a [Bound],
+    stages: &'a [u32],
+}
+
+/// A copy of these numbers.
+fn copies<N: Number>(alloc: Global, entries: &[N]) -> Result<Vec<N>, AllocError> {
+    let mut copy = Vec::with_capacity(alloc, entries.len())?;
+    for entry in entries {
+        copy.push(*entry)?;
+    }
+    Ok(copy)
+}
+
+/// The entries of a line, where it is there.
+fn entries_of<N: Number>(
+    alloc: Global,
+    tableau: &Tableau<N>,
+    columns: usize,
+    number: usize,
+) -> Result<Option<Vec<N>>, AllocError> {
+    let Some(line) = line_at(tableau, columns, number) else {
+        return Ok(None);
+    };
+    let [_, _, entries @ ..] = line else {
+        return Ok(None);
+    };
+    Ok(Some(copies(alloc, entries)?))
+}
+
+/// One of the other variables as a sum of them: itself.
+fn itself<N: Number>(alloc: Global, others: &[u32], column: u32) -> Result<Vec<N>, AllocError> {
+    let mut weights = Vec::with_capacity(alloc, others.len())?;
+    for other in others {
+        let weight = if *other == column {
+            N::one()
+        } else {
+            N::zero()
+        };
+        weights.push(weight)?;
+    }
+    Ok(weights)
+}
+
+/// A column as a sum of the other variables: the entries of its line. A column that is one of them, frozen away from its low end
+/// for one before it, is itself.
+fn weights_of<N: Number>(
+    alloc: Global,
+    settled: Settled<'_, N>,
+    column: u32,
+) -> Result<Option<Vec<N>>, AllocError> {
+    let columns = settled.bounds.len();
+    let variables = settled.tableau.variables.as_slice();
+    let Some((others, basics)) = variables.split_at_checked(columns) else {
+        return Ok(None);
+    };
+    match place_among(basics, column) {
+        Some(number) => entries_of(alloc, settled.tableau, columns, number),
+        None => Ok(Some(itself(alloc, others, column)?)),
+    }
+}
+
+/// The quotient of two magnitudes, rounded up.
+fn times_needed<N: Number>(entry: N, other: N) -> Option<N> {
+    let a = entry.magnitude();
+    let b = other.magnitude();
+    let quotient = a.checked_add(b.checked_sub(1)?)?.checked_div(b)?;
+    N::from_wide(i128::try_from(quotient).ok()?)
+}
+
+/// How often an earlier column's line has to be added, so that no variable that was frozen for it can make the sum less.
+fn multiple_for<N: Number>(
+    settled: Settled<'_, N>,
+    column: u32,
+    stage: u32,
+    weights: &[N],
+    helpers: &[N],
+) -> Option<N> {
+    let variables = settled.tableau.variables.as_slice();
+    let values = settled.tableau.cells.as_slice();
+    let mut needed = N::zero();
+    for (j, weight) in weights.iter().enumerate() {
+        let variable = variable_at(variables, j);
+        if variable_at(settled.stages, j) == stage
+            && variable >= column
+            && can_help(variable, at(values, j), *weight, Way::Down, settled.bounds)
+        {
+            let times = times_needed(*weight, at(helpers, j))?;
+            if needed.is_below(times) {
+                needed = times;
+            }
+        }
+    }
+    Some(needed)
+}
+
+/// Adds a multiple of a line. `None` where a number doesn't fit.
+fn add_times<N: Number>(weights: &mut [N], helpers: &[N], times: N) -> Option<()> {
+    for (weight, helper) in weights.iter_mut().zip(helpers.iter()) {
+        *weight = (*weight).plus(helper.times(times)?)?;
+    }
+    Some(())
+}
+
+/// Adds lines of the columns before, so that nothing that was frozen for them can make the sum less.
+fn cancel<N: Number>(settled: Settled<'_, N>, column: u32, weights: &mut [N]) -> Option<()> {
+    let columns = settled.bounds.len();
+    let (_, basics) = settled
+        .tableau
+        .variables
+        .as_slice()
+        .split_at_checked(columns)?;
+    let mut stage = column;
+    while stage > 0 {
+        let before = stage - 1;
+        if let Some(number) = place_among(basics, before) {
+            let line = line_at(settled.tableau, columns, number)?;
+            let [_, _, helpers @ ..] = line else {
+                return None;
+            };
+            let times = multiple_for(settled, column, stage, weights, helpers)?;
+            if !times.is_zero() {
+                add_times(weights, helpers, times)?;
+            }
+        }
+        stage = before;
+    }
+    Some(())
+}
+
+/// The multiples of rows by which a column isn't less. `None` where they don't fit.
+fn sum_for<N: Number>(
+    alloc: Global,
+    settled: Settled<'_, N>,
+    column: u32,
+) -> Result<Option<Vec<(u32, u64)>>, AllocError> {
+    let columns = settled.bounds.len();
+    let Some(mut weights) = weights_of(alloc, settled, column)? else {
+        return Ok(None);
+    };
+    let Some(()) = cancel(settled, column, weights.as_mut_slice()) else {
+        return Ok(None);
+    };
+    let mut rows = Vec::with_capacity(alloc, columns)?;
+    for (j, weight) in weights.iter().enumerate() {
+        let variable = variable_at(settled.tableau.variables.as_slice(), j);
+        if N::zero().is_below(*weight) {
+            push_slack(&mut rows, variable, columns, weight.magnitude())?;
+        }
+    }
+    Ok(Some(rows))
+}
+
+/// The columns' values one after another, each as little as it can be. `None` where one isn't whole.
+fn least_values<N: Number>(
+    alloc: Global,
+    tableau: &mut Tableau<N>,
+    bounds: &[Bound],
+    stages: &mut [u32],
+) -> Result<Option<Vec<i64>>, AllocError> {
+    let mut point = Vec::with_capacity(alloc, bounds.len())?;
+    for j in 0..bounds.len() {
+        let column = u32::try_from(j).unwrap_or(0);
+        let Some(()) = settle(tableau, bounds, stages, column) else {
+            return Ok(None);
+        };
+        let Some(value) = whole_value(tableau, bounds.len(), column) else {
+            return Ok(None);
+        };
+        point.push(value)?;
+    }
+    Ok(Some(point))
+}
+
+/// The sums by which no column is less.
+fn sums_for<N: Number>(
+    alloc: Global,
+    settled: Settled<'_, N>,
+    point: &[i64],
+) -> Result<Option<Vec<Vec<(u32, u64)>>>, AllocError> {
+    let mut sums = Vec::with_capacity(alloc, point.len())?;
+    for (j, (value, bound)) in point.iter().zip(settled.bounds.iter()).enumerate() {
+        let sum = if *value > bound.low {
+            sum_for(alloc, settled, u32::try_from(j).unwrap_or(0))?
+        } else {
+            Some(Vec::new(alloc))
+        };
+        let Some(sum) = sum else {
+            return Ok(None);
+        };
+        sums.push(sum)?;
+    }
+    Ok(Some(sums))
+}
+
+/// The least point, from a tableau at which every variable is in its range. `None` where it isn't whole or isn't found.
+pub(crate) fn least_of<N: Number>(
+    alloc: Global,
+    tableau: &mut Tableau<N>,
+    bounds: &[Bound],
+) -> Result<Option<Least>, AllocError> {
+    let mut stages = vec![in alloc; 0u32; bounds.len()]?;
+    let Some(point) = least_values(alloc, tableau, bounds, stages.as_mut_slice())? else {
+        return Ok(None);
+    };
+    let settled = Settled {
+        tableau,
+        bounds,
+        stages: stages.as_slice(),
+    };
+    match sums_for(alloc, settled, point.as_slice())? {
+        Some(sums) => Ok(Some(Least { point, sums })),
+        None => Ok(None),
+    }
+}
