@@ -1,10 +1,10 @@
 -- Bounds of distances that are found without a question.
-use Rattle.std.proofs.Common.{◌≡◌, ℕ, ◌+◌, ◌^◌, ◌≤◌, List, length, ℤ, pos, negsuc, ◌≤ℤ◌, refl, sym, subst, ◌∙◌, arith, inl, inr, ◌⊎◌}
-use Rattle.std.specs.Prelude.{slice_get, Some, unsigned_abs}
+use Rattle.std.proofs.Common.{◌≡◌, ℕ, ◌+◌, ◌^◌, ◌≤◌, List, length, ℤ, pos, negsuc, ◌≤ℤ◌, refl, sym, subst, arith, inl, inr, ◌⊎◌}
+use Rattle.std.specs.Prelude.{slice_get, Some}
 use Rattle.std.proofs.lemmas.Int.{ints}
 use Rattle.affc_rows.specs.Forms.{Affine, value}
 use Rattle.affc_system.specs.declared.pairs.PairSystem.{PairSystem}
-use Rattle.affc_split.specs.maximum.Regions.{InRegion, IsBounded, AreBounded, AreAskable}
+use Rattle.affc_split.specs.maximum.Regions.{IsBounded, AreBounded, AreAskable}
 use Rattle.affc_split.specs.maximum.Searches.{AreBoundedBefore}
 use Rattle.affc_split.specs.declared.maximum.region.Region.{Region}
 use Rattle.affc_moduli.specs.Distances.{AreForward, AreBackward, AreOver}

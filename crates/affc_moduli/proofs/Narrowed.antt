@@ -131,5 +131,5 @@ all_narrowed context ranges rows k row at_row systems regions narrower fs gs fs_
       let f = some_at fs i (subst (λ m. i < m) (sym fs_each) here) in
       let g = some_at gs i (subst (λ m. i < m) (sym gs_each) here) in
       narrowed_slice context ranges rows k row at_row s f.0 g.0 (wide i s at) (forward i s f.0 at f.1) (backward i s g.0 at g.1) r.0 n
-      (slices.slices i s r.0 at r.1) (narrow.1 i r.0 f.0 g.0 n r.1 f.1 g.1 there);
+      (slices.slices i s r.0 at r.1) (narrow.1 i r.0 n r.1 there f.0 g.0 f.1 g.1);
 }

@@ -7,7 +7,6 @@ use Rattle.std.proofs.lemmas.List.Elements.{All-head, All-replicate}
 use Rattle.std.proofs.lemmas.Option.{slice_get_within}
 use Rattle.affc_rows.specs.Forms.{Affine, dot}
 use Rattle.affc_system.specs.Systems.{Rows, IsRow, Meets, IsPoint}
-use Rattle.affc_system.specs.Boxes.{InBox}
 use Rattle.affc_system.specs.declared.pairs.PairSystem.{PairSystem}
 use Rattle.affc_split.specs.maximum.Regions.{InRegion}
 use Rattle.affc_split.specs.declared.maximum.region.Region.{Region}
@@ -38,16 +37,6 @@ emptied region r n same e some void = record {
         let meets : IsPoint (record { columns = n; rows = below_zero n ∷ [] }) z = subst (λ q. IsPoint q z) same inside.meets in
         absurd (met_nowhere n z (All-head (Meets z) (below_zero n) [] meets.meets)),
     λ inside. absurd (void z inside),
-  );
-}
-
-pub copied : (region r : Region) → r.system ≡ region.system → r.ranges ≡ region.ranges → IsReduced region r
-copied region r same ranges = record {
-  columns = ap (λ (q : Rows). q.columns) same;
-  few = let h = ap (λ (q : Rows). length q.rows) same in omega arith;
-  holds = λ z. (
-    λ inside. record { meets = subst (λ q. IsPoint q z) same inside.meets; inside = subst (λ q. InBox q z) ranges inside.inside },
-    λ inside. record { meets = subst (λ q. IsPoint q z) (sym same) inside.meets; inside = subst (λ q. InBox q z) (sym ranges) inside.inside },
   );
 }
 

@@ -1,5 +1,5 @@
 -- Budgets of which no unit is left.
-use Rattle.std.proofs.Common.{◌≡◌, ℕ, ◌≤◌, ◌∙◌, arith}
+use Rattle.std.proofs.Common.{◌≡◌, ◌∙◌, arith}
 use Rattle.std.specs.Prelude.{Option, Some, None, IfNone}
 use Rattle.affc_split.specs.Budgets.{Account, IsLater}
 use Rattle.affc_moduli.specs.Ended.{IsSpent}

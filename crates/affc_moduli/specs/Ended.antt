@@ -1,5 +1,5 @@
 -- Where the budget ended, and what is known of a row's distances then.
-use Rattle.std.specs.Prelude.{◌≡◌, ℕ, ◌^◌, ◌≤◌, ℤ, pos, ◌≤ℤ◌, List, length, Some}
+use Rattle.std.specs.Prelude.{◌≡◌, ℕ, ◌^◌, ◌≤◌, ℤ, pos, ◌≤ℤ◌, List, Some}
 use Rattle.affc_rows.specs.Forms.{Affine}
 use Rattle.affc_split.specs.Budgets.{Account}
 use Rattle.affc_system.specs.declared.pairs.PairSystem.{PairSystem}

@@ -48,9 +48,15 @@ pub record IsNarrowed (region : Region) (f g : Affine) (narrower : Region) : Typ
   pub system : narrower.system ≡ record region.system { rows = region.system.rows ++ f ∷ g ∷ [] }
   pub ranges : narrower.ranges ≡ region.ranges
 
--- each of those that are there
-abbrev pub AreNarrowedSoFar : List Region → List Affine → List Affine → List Region → Type 0
-AreNarrowedSoFar regions fs gs narrower = (i : ℕ) (r : Region) (f g : Affine) (n : Region) → slice_get regions i ≡ Some r → slice_get fs i ≡ Some f → slice_get gs i ≡ Some g → slice_get narrower i ≡ Some n → IsNarrowed r f g n
+-- with the two rows that lie at one place
+abbrev pub IsNarrowedAt : List Affine → List Affine → ℕ → Region → Region → Type 0
+IsNarrowedAt fs gs i region narrower = (f g : Affine) → slice_get fs i ≡ Some f → slice_get gs i ≡ Some g → IsNarrowed region f g narrower
 
 abbrev pub AreNarrowed : List Region → List Affine → List Affine → List Region → Type 0
-AreNarrowed regions fs gs narrower = (length narrower ≡ length regions) × AreNarrowedSoFar regions fs gs narrower
+AreNarrowed regions fs gs narrower = (length narrower ≡ length regions) × ((i : ℕ) (r n : Region) → slice_get regions i ≡ Some r → slice_get narrower i ≡ Some n → IsNarrowedAt fs gs i r n)
+
+-- the first n elements of a list are changed as P says, and the others are as they were
+pub record AreChanged {A : Type 0} (P : ℕ → A → A → Type 0) (n : ℕ) (before after : List A) : Type 0 where
+  pub one_each : length after ≡ length before
+  pub changed : (i : ℕ) (a b : A) → i < n → slice_get before i ≡ Some a → slice_get after i ≡ Some b → P i a b
+  pub left : (i : ℕ) → n ≤ i → slice_get after i ≡ slice_get before i

@@ -1,16 +1,17 @@
 //! How great a form can be in a region, by its box and by single rows, without a question.
-ghost use Rattle.std.specs.Prelude.{◌≡◌, ℕ, ℤ, List, ◌^◌, ◌<◌, ◌≤◌, ◌≤ℤ◌, ◌<ℤ◌, ◌+ℤ◌, ◌↔◌, unsigned_abs, pos, IsTrue, IfSome};
+ghost use Rattle.std.specs.Prelude.{◌≡◌, ℤ, List, ◌^◌, ◌≤◌, ◌≤ℤ◌, ◌<ℤ◌, ◌+ℤ◌, unsigned_abs, pos, IsTrue, IfSome, length};
 ghost use Rattle.std.specs.List.{All};
-ghost use Rattle.affc_rows.specs.Forms.{value};
 ghost use Rattle.affc_system.specs.Systems.{IsRow, Meets};
 ghost use Rattle.affc_split.specs.maximum.Regions.{InRegion, IsBounded, IsAskable};
 ghost use Rattle.affc_rows.specs.Vocabulary.{AreOpposite};
 
 use crate::distances::MOST_DISTANCE;
+use crate::keys::key_of;
+use crate::tops::top_over;
 use affc_rows::Form;
 use affc_rows::vocabulary::are_opposite;
 use affc_split::maximum::Region;
-use affc_system::interval;
+use affc_system::system::MOST_ROWS;
 
 /// A number within 2^61.
 #[derive(Clone, Copy, Drop)]
@@ -18,6 +19,9 @@ pub struct Bound {
     pub most: i64,
     ghost near: { unsigned_abs most ≤ 2 ^ 61 },
 }
+
+/// The keys of so many rows take little room.
+const FEW_ROWS: usize = 64;
 
 /// Whether a row is parallel to a form, the other way round.
 fn opposes(row: &Form, form: &Form) -> bool
@@ -46,11 +50,12 @@ fn lowered(region: &Region, row: &Form, form: &Form, bound: Bound) -> Bound
     requires bounded { IsBounded region.now form.now bound.most }
     ensures bounded { IsBounded region.now form.now result.most }
 {
-    if !opposes(row, form) {
-        return bound;
-    }
     let sum = sum_of_constants(row, form, region.system.columns());
-    if sum.most < bound.most { sum } else { bound }
+    if sum.most < bound.most && opposes(row, form) {
+        sum
+    } else {
+        bound
+    }
 }
 
 /// The least of a bound and those that parallel rows give.
@@ -66,14 +71,26 @@ fn by_rows(region: &Region, form: &Form, begun: Bound) -> Bound
     bound
 }
 
+/// A number that a form isn't above anywhere in its region: its greatest value over the box.
+fn top_of(region: &Region, form: &Form) -> i128
+    requires { IsRow region.now.system.columns form.now }
+    ensures { IsBounded region.now form.now result }
+{
+    let columns = region.system.columns();
+    prove!(columns <= 128);
+    top_over(form, &region.ranges)
+}
+
 /// The greatest value of a form over the box of its region, where it is within reach.
 fn by_box(region: &Region, form: &Form) -> Option<Bound>
     requires form { IsRow region.now.system.columns form.now }
     ensures bounded { IfSome result (λ b. IsBounded region.now form.now b.most) }
 {
-    match interval(form, &region.ranges) {
-        Ok((_low, high)) if high.unsigned_abs() <= 1 << 61 => Some(Bound { most: high as i64 }),
-        _ => None,
+    let top = top_of(region, form);
+    if top.unsigned_abs() <= 1 << 61 {
+        Some(Bound { most: top as i64 })
+    } else {
+        None
     }
 }
 
@@ -94,10 +111,7 @@ fn is_broken(region: &Region, row: &Form) -> bool
     requires meets { (z : List ℤ) → InRegion region.now z → Meets z row.now }
     ensures { IsTrue result → (z : List ℤ) → InRegion region.now z → ⊥ }
 {
-    match by_box(region, row) {
-        Some(bound) => bound.most < 0,
-        None => false,
-    }
+    top_of(region, row) < 0
 }
 
 /// Whether the sum of the constants is below 0.
@@ -123,14 +137,17 @@ fn is_barred_by(region: &Region, other: &Form, row: &Form) -> bool
     opposes(other, row)
 }
 
-/// Whether a parallel row of the region is nowhere at least 0 where a row is.
-fn is_barred(region: &Region, row: &Form) -> bool
+/// Whether a parallel row of the region is nowhere at least 0 where a row is. Only those of the first rows are compared with it
+/// that have the key, of these keys.
+fn is_barred(region: &Region, row: &Form, key: i64, keys: &[i64]) -> bool
     requires row { IsRow region.now.system.columns row.now }
     requires meets { (z : List ℤ) → InRegion region.now z → Meets z row.now }
+    requires first { length keys.now ≤ length region.now.system.rows }
     ensures { IsTrue result → (z : List ℤ) → InRegion region.now z → ⊥ }
 {
-    for other in region.system.rows() {
-        if is_barred_by(region, other, row) {
+    let rows = region.system.rows();
+    for (i, own) in keys.iter().enumerate() {
+        if *own == key && is_barred_by(region, &rows[i], row) {
             return true;
         }
     }
@@ -149,16 +166,31 @@ fn has_broken_row(region: &Region) -> bool
     false
 }
 
-/// Whether two rows are nowhere both at least 0, since they are parallel.
-fn has_barred_row(region: &Region) -> bool
+/// Whether two rows are nowhere both at least 0, since they are parallel. There is room for the rows' keys.
+fn has_barred_row(region: &Region, keys: &mut [i64]) -> bool
+    requires { length region.now.system.rows ≤ length keys.old }
     ensures { IsTrue result → (z : List ℤ) → InRegion region.now z → ⊥ }
 {
-    for row in region.system.rows() {
-        if is_barred(region, row) {
+    for (i, row) in region.system.rows().iter().enumerate() {
+        let key = key_of(row);
+        if is_barred(region, row, key.wrapping_neg(), &keys[..i]) {
             return true;
         }
+        keys[i] = key;
     }
     false
+}
+
+/// Whether two rows are nowhere both at least 0, since they are parallel.
+fn is_barred_somewhere(region: &Region) -> bool
+    ensures { IsTrue result → (z : List ℤ) → InRegion region.now z → ⊥ }
+{
+    if region.system.rows().len() <= FEW_ROWS {
+        let mut keys = [0i64; FEW_ROWS];
+        return has_barred_row(region, &mut keys);
+    }
+    let mut keys = [0i64; MOST_ROWS];
+    has_barred_row(region, &mut keys)
 }
 
 /// Whether a region is seen to have no point: each row is looked at by the box, and then beside those that are parallel to it.
@@ -168,7 +200,7 @@ pub fn is_void(region: &Region) -> bool
     if has_broken_row(region) {
         return true;
     }
-    has_barred_row(region)
+    is_barred_somewhere(region)
 }
 
 /// Whether the first row is below 0 throughout the box.
@@ -181,6 +213,13 @@ fn starts_broken(region: &Region, rows: &[Form]) -> bool
         [] => false,
         [first, ..] => is_broken(region, first),
     }
+}
+
+/// Whether a region is seen by its first row to have no point, as one is that was reduced.
+pub fn begins_void(region: &Region) -> bool
+    ensures { IsTrue result → (z : List ℤ) → InRegion region.now z → ⊥ }
+{
+    starts_broken(region, region.system.rows())
 }
 
 /// The bound of a region without a point.
@@ -200,7 +239,7 @@ pub fn upper_bound(region: &Region, form: &Form) -> Option<Bound>
     requires form { IsRow region.now.system.columns form.now }
     ensures bounded { IfSome result (λ b. IsBounded region.now form.now b.most) }
 {
-    if starts_broken(region, region.system.rows()) {
+    if begins_void(region) {
         Some(nothing(region, form))
     } else {
         plain_bound(region, form)

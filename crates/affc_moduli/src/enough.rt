@@ -1,14 +1,13 @@
 //! Tests of moduli that are proposed.
-ghost use Rattle.std.specs.Prelude.{◌≡◌, ℕ, ℤ, List, ◌+◌, ◌-◌, ◌^◌, ◌<◌, ◌≤◌, ◌-ℤ◌, ◌≤ℤ◌, ◌<ℤ◌, unsigned_abs, pos, Some, slice_get, take, IfOk, IfErr, IsTrue, length};
+ghost use Rattle.std.specs.Prelude.{◌≡◌, ℤ, List, ◌+◌, ◌-◌, ◌^◌, ◌<◌, ◌≤◌, ◌-ℤ◌, ◌≤ℤ◌, unsigned_abs, pos, Some, take, IfOk, IfErr, IsTrue, length};
 ghost use Rattle.std.specs.List.{All};
-ghost use Rattle.affc_rows.specs.Forms.{Affine, value};
-ghost use Rattle.affc_split.specs.declared.maximum.region.Region.{Region as Region'};
+ghost use Rattle.affc_rows.specs.Forms.{value};
 ghost use Rattle.affc_split.specs.Budgets.{IsLater};
 ghost use Rattle.affc_split.specs.maximum.Regions.{InRegion, IsBounded, IsMeasure};
 ghost use Rattle.affc_basis.specs.Moduli.{IsModulus};
 ghost use Rattle.affc_moduli.specs.Enough.{IsBelow, AreBelow, AreComparable};
 
-use crate::bounds::is_at_most;
+use crate::bounds::{begins_void, is_at_most};
 use affc_rows::Form;
 use affc_split::maximum::{Region, reaching};
 use affc_split::{Budget, Stop};
@@ -51,6 +50,9 @@ fn is_below(
     ensures later { IsLater budget.old budget.new }
     ensures stop { IfErr result (λ e. e ≡ Stop.Budget → budget.new.limit ≡ Some budget.new.spent) }
 {
+    if begins_void(region) {
+        return Ok(true);
+    }
     let columns = region.system.columns();
     let Ok(difference) = less_modulus(alloc, form, modulus, columns) else {
         return Err(Stop::Memory);

@@ -1,5 +1,5 @@
 //! The greatest distance along a row, and where elements have it.
-ghost use Rattle.std.specs.Prelude.{◌≡◌, ◌⊎◌, ℕ, ◌+◌, ◌^◌, ◌<◌, ◌≤◌, ◌≤ℤ◌, unsigned_abs, pos, ◌+ℤ◌, slice_get, Some, None, IfOk, IfErr, IfSome, IfNone, length};
+ghost use Rattle.std.specs.Prelude.{◌≡◌, ◌⊎◌, ◌+◌, ◌^◌, ◌<◌, ◌≤◌, ◌≤ℤ◌, unsigned_abs, pos, ◌+ℤ◌, slice_get, Some, None, IfOk, IfErr, IfSome, IfNone, length};
 ghost use Rattle.affc_rows.specs.Forms.{value};
 ghost use Rattle.affc_split.specs.Budgets.{IsLater};
 ghost use Rattle.affc_split.specs.maximum.Regions.{InRegion, IsMeasure, IsBounded, IsAskable, AreAskable};

@@ -14,7 +14,7 @@ ghost use Rattle.affc_moduli.specs.Slices.{AreSlices};
 ghost use Rattle.affc_moduli.specs.Ended.{IsSpent};
 ghost use Rattle.affc_moduli.specs.Rows.{AreKept, AreMarkedOr};
 
-use crate::reduced::all_reduced;
+use crate::reduced::reduce_all;
 use crate::row::row_done;
 use crate::slices::copies;
 use affc_basis::{Basis, Modulus};
@@ -56,12 +56,12 @@ fn all_rows(
     context: &System,
     ranges: &BoxOf,
     rows: &[Form],
-    first: Vec<Region>,
+    regions: &mut [Region],
     some: &Option<Vec<i64>>,
     budget: &mut Budget,
 ) -> Result<Items<Modulus>, Stop>
     requires ready { AreReady context.now ranges.now extents.now rows.now pairs.now }
-    requires slices { AreSlices context.now ranges.now rows.now 0 pairs.now first.items }
+    requires slices { AreSlices context.now ranges.now rows.now 0 pairs.now regions.old }
     requires some { IfSome some.now (λ p. InContext context.now ranges.now p.items) }
     requires none { IfNone some.now (IsSpent budget.old) }
     ensures one_each { IfOk result (λ ms. length ms ≡ length rows.now) }
@@ -70,29 +70,17 @@ fn all_rows(
     ensures later { IsLater budget.old budget.new }
     ensures stop { IfErr result (λ e. e ≡ Stop.Memory) }
 {
-    let mut regions = first;
     let mut made = Items::new(alloc);
     for k in 0..rows.len() {
-        let Ok(reduced) = all_reduced(alloc, regions.as_slice()) else {
+        let Ok(()) = reduce_all(alloc, regions) else {
             return Err(Stop::Memory);
         };
-        let (modulus, narrower) = row_done(
-            alloc,
-            pairs,
-            extents,
-            context,
-            ranges,
-            rows,
-            k,
-            reduced.as_slice(),
-            some,
-            &rows[k],
-            budget,
+        let modulus = row_done(
+            alloc, pairs, extents, context, ranges, rows, k, regions, some, &rows[k], budget,
         )?;
         let Ok(()) = made.push(modulus) else {
             return Err(Stop::Memory);
         };
-        regions = narrower;
     }
     Ok(made)
 }
@@ -129,12 +117,20 @@ pub fn moduli(
     ensures later { IsLater budget.old budget.new }
     ensures stop { IfErr result (λ e. e ≡ Stop.Memory) }
 {
-    let Ok(regions) = copies(alloc, pairs) else {
+    let Ok(mut regions) = copies(alloc, pairs) else {
         return Err(Stop::Memory);
     };
     let some = context_point(alloc, context, ranges, budget)?;
     let rows = basis.rows.as_slice();
     all_rows(
-        alloc, pairs, extents, context, ranges, rows, regions, &some, budget,
+        alloc,
+        pairs,
+        extents,
+        context,
+        ranges,
+        rows,
+        regions.as_mut_slice(),
+        &some,
+        budget,
     )
 }

@@ -1,5 +1,5 @@
 //! Moduli as forms over the parameters: proposed by the extents of some dimensions, and tested.
-ghost use Rattle.std.specs.Prelude.{◌≡◌, ℕ, ℤ, List, ◌+◌, ◌^◌, ◌<◌, ◌≤◌, ◌≤ℤ◌, ◌+ℤ◌, unsigned_abs, pos, Some, IfOk, IfErr, IfSome, IsTrue, ◌↔◌, length};
+ghost use Rattle.std.specs.Prelude.{◌≡◌, ◌^◌, ◌<◌, ◌≤◌, unsigned_abs, pos, Some, IfOk, IfErr, IfSome, IsTrue, ◌↔◌, length};
 ghost use Rattle.std.specs.List.{All};
 ghost use Rattle.affc_rows.specs.Forms.{HaveColumns};
 ghost use Rattle.affc_split.specs.Budgets.{IsLater};

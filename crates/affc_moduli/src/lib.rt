@@ -8,10 +8,12 @@ mod enough;
 mod extremes;
 pub mod fold;
 mod forms;
+mod keys;
 mod reduced;
 mod reordered;
 mod row;
 mod slices;
+mod tops;
 mod witness;
 
 pub use bounds::is_void;

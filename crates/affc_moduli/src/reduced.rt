@@ -1,11 +1,10 @@
 //! Regions that are seen to have no point, with one row in place of theirs.
-ghost use Rattle.std.specs.Prelude.{◌≡◌, List, ℤ, ◌≤◌, ◌∷◌, [], pos, negsuc, replicate, IfOk, length};
+ghost use Rattle.std.specs.Prelude.{◌≡◌, List, ℤ, ◌≤◌, ◌∷◌, [], IfOk, OnOk, length};
 ghost use Rattle.affc_system.specs.Systems.{IsRow};
 ghost use Rattle.affc_split.specs.maximum.Regions.{InRegion};
 ghost use Rattle.affc_moduli.specs.Reduced.{IsReduced, AreReduced, below_zero};
 
 use crate::bounds::is_void;
-use crate::slices::add;
 use affc_rows::Form;
 use affc_split::maximum::Region;
 use affc_system::System;
@@ -26,51 +25,38 @@ fn nowhere(alloc: Global, columns: u32) -> Result<System, AllocError>
 {
     let row = below_zero(alloc, columns)?;
     let mut system = System::new(alloc, columns);
-    add(&mut system, &row)?;
+    system.add(row)?;
     Ok(system)
 }
 
-/// A region without a point, with one row.
-fn emptied(alloc: Global, region: &Region) -> Result<Region, AllocError>
-    requires void { (z : List ℤ) → InRegion region.now z → ⊥ }
-    requires some { 1 ≤ length region.now.system.rows }
-    ensures { IfOk result (λ r. IsReduced region.now r) }
+/// Leaves one row to a region without a point.
+fn empty(alloc: Global, region: &mut Region) -> Result<(), AllocError>
+    requires void { (z : List ℤ) → InRegion region.old z → ⊥ }
+    requires some { 1 ≤ length region.old.system.rows }
+    ensures { OnOk result (IsReduced region.old region.new) }
 {
     let system = nowhere(alloc, region.system.columns())?;
-    let ranges = region.ranges.clone()?;
-    Ok(Region { system, ranges })
+    region.system = system;
+    Ok(())
 }
 
-/// A copy of a region.
-fn copy_of_region(region: &Region) -> Result<Region, AllocError>
-    ensures { IfOk result (λ r. IsReduced region.now r) }
+/// Leaves one row to a region that has several, where it is seen that there is no point.
+fn reduce(alloc: Global, region: &mut Region) -> Result<(), AllocError>
+    ensures { OnOk result (IsReduced region.old region.new) }
 {
-    let system = region.system.clone()?;
-    let ranges = region.ranges.clone()?;
-    Ok(Region { system, ranges })
+    if region.system.rows().len() <= 1 || !is_void(region) {
+        return Ok(());
+    }
+    empty(alloc, region)
 }
 
-/// A region with the same points, of one row where it is seen that there are none.
-fn reduced(alloc: Global, region: &Region) -> Result<Region, AllocError>
-    ensures { IfOk result (λ r. IsReduced region.now r) }
+/// Leaves one row to each region that has several, where it is seen that there is no point.
+pub fn reduce_all(alloc: Global, regions: &mut [Region]) -> Result<(), AllocError>
+    ensures { OnOk result (AreReduced regions.old regions.new) }
 {
-    if region.system.rows().len() == 0 {
-        return copy_of_region(region);
+    for i in 0..regions.len() {
+        let region = &mut regions[i];
+        reduce(alloc, region)?;
     }
-    if is_void(region) {
-        return emptied(alloc, region);
-    }
-    copy_of_region(region)
-}
-
-/// The regions, each of one row where it is seen that it has no point.
-pub fn all_reduced(alloc: Global, regions: &[Region]) -> Result<Vec<Region>, AllocError>
-    ensures { IfOk result (λ rs. AreReduced regions.now rs.items) }
-{
-    let mut made = Vec::new(alloc);
-    for region in regions {
-        let same = reduced(alloc, region)?;
-        made.push(same)?;
-    }
-    Ok(made)
+    Ok(())
 }

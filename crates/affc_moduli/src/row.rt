@@ -1,7 +1,7 @@
 //! The modulus of one row.
-ghost use Rattle.std.specs.Prelude.{◌≡◌, ℕ, ℤ, List, ◌+◌, ◌^◌, ◌<◌, ◌≤◌, ◌≤ℤ◌, ◌+ℤ◌, unsigned_abs, pos, Some, None, slice_get, take, replicate, IfOk, IfErr, IfSome, IfNone, length};
+ghost use Rattle.std.specs.Prelude.{◌≡◌, ℤ, ◌+◌, ◌^◌, ◌<◌, ◌≤◌, ◌+ℤ◌, unsigned_abs, pos, Some, None, slice_get, take, replicate, IfOk, IfErr, IfSome, IfNone, OnOk, length};
 ghost use Rattle.std.specs.List.{All};
-ghost use Rattle.affc_rows.specs.Forms.{Affine, value, values_of};
+ghost use Rattle.affc_rows.specs.Forms.{value, values_of};
 ghost use Rattle.affc_rows.specs.Vocabulary.{number_form};
 ghost use Rattle.affc_system.specs.Pairs.{IsSubscript};
 ghost use Rattle.affc_split.specs.Budgets.{IsLater};
@@ -18,7 +18,7 @@ use crate::ceilings::bound_of;
 use crate::distances::{backward, forward};
 use crate::extremes::{Reach, Shown, farthest};
 use crate::forms::{chosen, context_region};
-use crate::slices::all_narrowed;
+use crate::slices::narrow_all;
 use affc_basis::{Mark, Modulus};
 use affc_rows::Form;
 use affc_split::maximum::{Found, Region};
@@ -550,7 +550,7 @@ fn modulus_along(
     }
 }
 
-/// The modulus of a row, and the slice of the next, from the forms of the distances.
+/// The modulus of a row, from the forms of the distances. The regions become the slice of the next row, if there is one.
 fn made(
     alloc: Global,
     pairs: &[PairSystem],
@@ -559,38 +559,41 @@ fn made(
     ranges: &BoxOf,
     rows: &[Form],
     k: usize,
-    regions: &[Region],
+    regions: &mut [Region],
     some: &Option<Vec<i64>>,
     row: &Form,
     fs: &[Form],
     gs: &[Form],
     budget: &mut Budget,
-) -> Result<(Modulus, Vec<Region>), Stop>
+) -> Result<Modulus, Stop>
     requires ready { AreReady context.now ranges.now extents.now rows.now pairs.now }
     requires row { slice_get rows.now k ≡ Some row.now }
-    requires slices { AreSlices context.now ranges.now rows.now k pairs.now regions.now }
+    requires slices { AreSlices context.now ranges.now rows.now k pairs.now regions.old }
     requires some { IfSome some.now (λ p. InContext context.now ranges.now p.items) }
     requires none { IfNone some.now (IsSpent budget.old) }
     requires fs_each { length fs.now ≡ length pairs.now }
     requires gs_each { length gs.now ≡ length pairs.now }
     requires fs { AreForward pairs.now row.now.coefs fs.now }
     requires gs { AreBackward pairs.now row.now.coefs gs.now }
-    ensures kept { IfOk result (λ r. IsKept context.now ranges.now pairs.now rows.now k row.now r.0) }
-    ensures bound { IfOk result (λ r. r.0.mark ≡ Mark.Bound → IsSpent budget.new) }
-    ensures slices { IfOk result (λ r. AreSlices context.now ranges.now rows.now (k + 1) pairs.now r.1.items) }
+    ensures kept { IfOk result (λ m. IsKept context.now ranges.now pairs.now rows.now k row.now m) }
+    ensures bound { IfOk result (λ m. m.mark ≡ Mark.Bound → IsSpent budget.new) }
+    ensures slices { OnOk result (k + 1 < length rows.now → AreSlices context.now ranges.now rows.now (k + 1) pairs.now regions.new) }
     ensures later { IsLater budget.old budget.new }
     ensures stop { IfErr result (λ e. e ≡ Stop.Memory) }
 {
     let modulus = modulus_along(
         alloc, pairs, extents, context, ranges, rows, k, regions, some, row, fs, gs, budget,
     )?;
-    let Ok(narrower) = all_narrowed(alloc, regions, fs, gs) else {
+    if rows.len() <= k + 1 {
+        return Ok(modulus);
+    }
+    let Ok(()) = narrow_all(regions, fs, gs) else {
         return Err(Stop::Memory);
     };
-    Ok((modulus, narrower))
+    Ok(modulus)
 }
 
-/// The modulus of a row, and the slice of the next.
+/// The modulus of a row. The regions become the slice of the next row, if there is one.
 pub fn row_done(
     alloc: Global,
     pairs: &[PairSystem],
@@ -599,19 +602,19 @@ pub fn row_done(
     ranges: &BoxOf,
     rows: &[Form],
     k: usize,
-    regions: &[Region],
+    regions: &mut [Region],
     some: &Option<Vec<i64>>,
     row: &Form,
     budget: &mut Budget,
-) -> Result<(Modulus, Vec<Region>), Stop>
+) -> Result<Modulus, Stop>
     requires ready { AreReady context.now ranges.now extents.now rows.now pairs.now }
     requires row { slice_get rows.now k ≡ Some row.now }
-    requires slices { AreSlices context.now ranges.now rows.now k pairs.now regions.now }
+    requires slices { AreSlices context.now ranges.now rows.now k pairs.now regions.old }
     requires some { IfSome some.now (λ p. InContext context.now ranges.now p.items) }
     requires none { IfNone some.now (IsSpent budget.old) }
-    ensures kept { IfOk result (λ r. IsKept context.now ranges.now pairs.now rows.now k row.now r.0) }
-    ensures bound { IfOk result (λ r. r.0.mark ≡ Mark.Bound → IsSpent budget.new) }
-    ensures slices { IfOk result (λ r. AreSlices context.now ranges.now rows.now (k + 1) pairs.now r.1.items) }
+    ensures kept { IfOk result (λ m. IsKept context.now ranges.now pairs.now rows.now k row.now m) }
+    ensures bound { IfOk result (λ m. m.mark ≡ Mark.Bound → IsSpent budget.new) }
+    ensures slices { OnOk result (k + 1 < length rows.now → AreSlices context.now ranges.now rows.now (k + 1) pairs.now regions.new) }
     ensures later { IsLater budget.old budget.new }
     ensures stop { IfErr result (λ e. e ≡ Stop.Memory) }
 {
@@ -619,7 +622,7 @@ pub fn row_done(
     let Ok(fs) = forward(alloc, coefs, pairs) else {
         return Err(Stop::Memory);
     };
-    let Ok(gs) = backward(alloc, coefs, pairs) else {
+    let Ok(gs) = backward(alloc, coefs, pairs, fs.as_slice()) else {
         return Err(Stop::Memory);
     };
     made(

@@ -1,5 +1,5 @@
 //! The slices of the rows, as regions.
-ghost use Rattle.std.specs.Prelude.{◌≡◌, ℕ, ℤ, List, ◌+◌, ◌^◌, ◌<◌, ◌≤◌, ◌∷◌, ◌++◌, [], Some, slice_get, IfOk, length};
+ghost use Rattle.std.specs.Prelude.{◌≡◌, ℕ, ◌+◌, ◌<◌, ◌≤◌, ◌∷◌, ◌++◌, [], Some, slice_get, IfOk, OnOk, length};
 ghost use Rattle.std.specs.List.{All};
 ghost use Rattle.affc_rows.specs.Forms.{Affine};
 ghost use Rattle.affc_system.specs.Systems.{IsRow};
@@ -36,53 +36,44 @@ pub fn copies(alloc: Global, pairs: &[PairSystem]) -> Result<Vec<Region>, AllocE
     Ok(regions)
 }
 
-/// Adds a copy of a row.
-pub fn add(system: &mut System, row: &Form) -> Result<(), AllocError>
-    requires row { IsRow system.old.columns row.now }
+/// Adds a row that keeps the limits to a system that has room.
+fn add(system: &mut System, row: Form) -> Result<(), AllocError>
+    requires row { IsRow system.old.columns row }
     requires room { length system.old.rows < 1024 }
-    ensures { IfOk result (λ _. system.new ≡ record system.old { rows = system.old.rows ++ row.now ∷ [] }) }
+    ensures added { OnOk result (system.new ≡ record system.old { rows = system.old.rows ++ row ∷ [] }) }
+    ensures columns { system.new.columns ≡ system.old.columns }
 {
-    let row = row.clone()?;
     match system.push(row) {
         Ok(()) => Ok(()),
-        Err(RowFault::Memory) => Err(AllocError),
         Err(RowFault::Range) => unreachable!(),
         Err(RowFault::Full) => unreachable!(),
+        Err(RowFault::Memory) => Err(AllocError),
     }
 }
 
-/// A region with two rows more.
-fn narrowed(region: &Region, f: &Form, g: &Form) -> Result<Region, AllocError>
-    requires f { IsRow region.now.system.columns f.now }
-    requires g { IsRow region.now.system.columns g.now }
-    requires room { length region.now.system.rows + 2 ≤ 1024 }
-    ensures { IfOk result (λ r. IsNarrowed region.now f.now g.now r) }
+/// Adds two rows to a region.
+fn narrow(region: &mut Region, f: &Form, g: &Form) -> Result<(), AllocError>
+    requires f { IsRow region.old.system.columns f.now }
+    requires g { IsRow region.old.system.columns g.now }
+    requires room { length region.old.system.rows + 2 ≤ 1024 }
+    ensures { OnOk result (IsNarrowed region.old f.now g.now region.new) }
 {
-    let mut system = region.system.clone()?;
-    add(&mut system, f)?;
-    add(&mut system, g)?;
-    let ranges = region.ranges.clone()?;
-    Ok(Region { system, ranges })
+    add(&mut region.system, f.clone()?)?;
+    add(&mut region.system, g.clone()?)
 }
 
-/// The regions with two rows more each.
-pub fn all_narrowed(
-    alloc: Global,
-    regions: &[Region],
-    fs: &[Form],
-    gs: &[Form],
-) -> Result<Vec<Region>, AllocError>
-    requires fs_each { length fs.now ≡ length regions.now }
-    requires gs_each { length gs.now ≡ length regions.now }
-    requires fs { (i : ℕ) (r : Region') (f : Affine) → slice_get regions.now i ≡ Some r → slice_get fs.now i ≡ Some f → IsRow r.system.columns f }
-    requires gs { (i : ℕ) (r : Region') (f : Affine) → slice_get regions.now i ≡ Some r → slice_get gs.now i ≡ Some f → IsRow r.system.columns f }
-    requires room { All (λ r. length r.system.rows + 2 ≤ 1024) regions.now }
-    ensures { IfOk result (λ rs. AreNarrowed regions.now fs.now gs.now rs.items) }
+/// Adds two rows to each region.
+pub fn narrow_all(regions: &mut [Region], fs: &[Form], gs: &[Form]) -> Result<(), AllocError>
+    requires fs_each { length fs.now ≡ length regions.old }
+    requires gs_each { length gs.now ≡ length regions.old }
+    requires fs { (i : ℕ) (r : Region') (f : Affine) → slice_get regions.old i ≡ Some r → slice_get fs.now i ≡ Some f → IsRow r.system.columns f }
+    requires gs { (i : ℕ) (r : Region') (f : Affine) → slice_get regions.old i ≡ Some r → slice_get gs.now i ≡ Some f → IsRow r.system.columns f }
+    requires room { All (λ r. length r.system.rows + 2 ≤ 1024) regions.old }
+    ensures { OnOk result (AreNarrowed regions.old fs.now gs.now regions.new) }
 {
-    let mut made = Vec::new(alloc);
     for i in 0..regions.len() {
-        let region = narrowed(&regions[i], &fs[i], &gs[i])?;
-        made.push(region)?;
+        let region = &mut regions[i];
+        narrow(region, &fs[i], &gs[i])?;
     }
-    Ok(made)
+    Ok(())
 }

@@ -3,8 +3,6 @@ use Rattle.std.specs.Prelude.{slice_get, Some}
 use Rattle.std.proofs.lemmas.List.{length-append}
 use Rattle.std.proofs.lemmas.Option.{slice_get_read}
 use Rattle.affc_split.proofs.maximum.Laters.{then_later}
-use Rattle.affc_moduli.specs.Slices.{AreSlices}
-use Rattle.affc_moduli.specs.Reduced.{AreReduced}
 use Rattle.affc_moduli.specs.Rows.{AreKept, AreMarkedOr}
 use Rattle.affc_moduli.proofs.OneRow.{slices_reduced}
 use Rattle.affc_moduli.proofs.Results.{done_more, marked_more, marked_later}
@@ -16,10 +14,7 @@ row_done-requires-clause-row c = slice_get_read c.args.rows.now (length c.args.r
 
 pub row_done-requires-clause-slices : goal.row_done-requires-clause-slices
 row_done-requires-clause-slices c =
-    let slices = AreSlices c.args.context.now c.args.ranges.now c.args.rows.now c.loop-k.k c.args.pairs.now in
-    subst slices (sym c.as_slice-in-loop-k.ensures.value)
-    (slices_reduced c.args.context.now c.args.ranges.now c.args.rows.now c.loop-k.k c.args.pairs.now c.loop-k.regions.items c.in-Ok.reduced.items c.loop-k.invariant.slices
-    (subst (λ rs. AreReduced rs c.in-Ok.reduced.items) c.as_slice.ensures.value c.in-Ok.ensures))
+    slices_reduced c.args.context.now c.args.ranges.now c.args.rows.now c.loop-k.k c.args.pairs.now c.loop-k.regions c.reduce_all.new.regions (c.loop-k.invariant.slices c.loop-k-test.true) c.in-Ok.ensures
 
 pub row_done-requires-clause-none : goal.row_done-requires-clause-none
 row_done-requires-clause-none c = none_later c.args.some.now c.args.budget.now c.loop-k.budget c.loop-k.invariant.later c.requires.none

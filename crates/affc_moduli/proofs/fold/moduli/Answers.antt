@@ -1,7 +1,8 @@
-use Rattle.std.proofs.Common.{◌≡◌, ◌<◌, length, subst}
+use Rattle.std.proofs.Common.{◌≡◌, ◌<◌, length, sym, subst}
 use Rattle.std.specs.Prelude.{IfOk}
 use Rattle.std.proofs.lemmas.Option.{slice_get_within}
 use Rattle.affc_conflicts.specs.Conditions.{IsConflict}
+use Rattle.affc_moduli.specs.Slices.{AreSlices}
 use Rattle.affc_moduli.specs.Rows.{AreKept}
 use Rattle.affc_moduli.proofs.Covers.{some_at}
 use Rattle.affc_moduli.proofs.Narrowed.{begun}
@@ -11,8 +12,9 @@ use Rattle.affc_moduli.proofs.fold.moduli.Goals as goal
 
 pub all_rows-requires-clause-slices : goal.all_rows-requires-clause-slices
 all_rows-requires-clause-slices c =
-    begun c.args.context.now c.args.ranges.now c.as_slice-rows.result.now c.args.extents.now c.args.pairs.now c.in-Ok.regions.items
-    (all_at (IsConflict c.args.context.now c.args.ranges.now c.args.extents.now) c.args.pairs.now c.requires.conflicts) c.in-Ok.ensures
+    let slices = begun c.args.context.now c.args.ranges.now c.as_slice-rows.result.now c.args.extents.now c.args.pairs.now c.in-Ok.regions.items
+    (all_at (IsConflict c.args.context.now c.args.ranges.now c.args.extents.now) c.args.pairs.now c.requires.conflicts) c.in-Ok.ensures in
+    subst (AreSlices c.args.context.now c.args.ranges.now c.as_slice-rows.result.now 0 c.args.pairs.now) (sym c.as_mut_slice.ensures.value) slices
 
 pub returns-clause-limits : goal.returns-clause-limits
 returns-clause-limits c =
