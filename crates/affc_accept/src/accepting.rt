@@ -2,6 +2,7 @@
 ghost use Rattle.std.specs.Prelude.{◌≡◌, ℕ, ◌+◌, List, IfOk, IfErr, IfSome, OnOk};
 ghost use Rattle.affc_cert.specs.Certificates.{seen};
 ghost use Rattle.affc_sched.specs.Legality.{IsAsked};
+ghost use Rattle.affc_nest.specs.declared.nest.Nest.{Nest as OfNest};
 ghost use Rattle.affc_schedtext.specs.declared.plan.Plan.{Plan as OfPlan};
 ghost use Rattle.affc_check.specs.Answers.{IsChecked};
 ghost use Rattle.affc_check.specs.list.Certs.{IsCertWithin};
@@ -66,14 +67,12 @@ fn from_text(alloc: Global, layout: &Layout, cert: Cert) -> Result<Cert, AllocEr
     })
 }
 
-// The certificate that a text is, for a nest with this layout.
-fn read(alloc: Global, nest: &Nest, layout: &Layout, text: &[u8]) -> Result<Cert, AcceptFault>
-    requires layout { IsLayout nest.now layout.now }
-    ensures read { IfOk result (IsRead nest.now text.now) }
-    ensures within { IfOk result (IsCertWithin nest.now) }
-    ensures err { IfErr result (λ e. (plan : OfPlan) → AcceptRefuses nest.now plan text.now e) }
+// The certificate that a text is, for each nest with this layout.
+fn read(alloc: Global, layout: &Layout, text: &[u8]) -> Result<Cert, AcceptFault>
+    ensures read { IfOk result (λ cert. (nest : OfNest) → IsLayout nest layout.now → IsRead nest text.now cert) }
+    ensures within { IfOk result (λ cert. (nest : OfNest) → IsLayout nest layout.now → IsCertWithin nest cert) }
+    ensures err { IfErr result (λ e. (nest : OfNest) (plan : OfPlan) → IsLayout nest layout.now → AcceptRefuses nest plan text.now e) }
 {
-    let _nest = nest;
     match from_json(alloc, text, layout) {
         Ok(cert) => match from_text(alloc, layout, cert) {
             Ok(cert) => Ok(cert),
@@ -127,7 +126,7 @@ pub fn accept(alloc: Global, nest: &Nest, plan: &Plan, text: &[u8]) -> Result<Ch
     ensures err { IfErr result (AcceptRefuses nest.now plan.now text.now) }
 {
     let layout = layout(alloc, nest)?;
-    let cert = read(alloc, nest, &layout, text)?;
+    let cert = read(alloc, &layout, text)?;
     with_bases(alloc, nest, plan, &cert)?;
     checked(alloc, nest, plan, &cert)
 }

@@ -65,8 +65,7 @@ fn add_stores(
             let Some(next) = first.checked_add(1) else {
                 return Err(AllocError);
             };
-            add_stores(next, rest, array, out)?;
-            Ok(())
+            add_stores(next, rest, array, out)
         }
     }
 }
@@ -101,8 +100,7 @@ fn add_loads_among(
         [access, rest @ ..] => {
             let load = load(alloc, nest, entry, access)?;
             out.push(load)?;
-            add_loads_among(alloc, nest, entry, rest, out)?;
-            Ok(())
+            add_loads_among(alloc, nest, entry, rest, out)
         }
     }
 }
@@ -120,8 +118,7 @@ fn add_loads(
         [] => Ok(()),
         [entry, rest @ ..] => {
             add_loads_among(alloc, nest, entry, entry.accesses.as_slice(), out)?;
-            add_loads(alloc, nest, rest, out)?;
-            Ok(())
+            add_loads(alloc, nest, rest, out)
         }
     }
 }
@@ -168,8 +165,7 @@ fn add_temporaries(
             let Some(next) = first.checked_add(1) else {
                 return Err(AllocError);
             };
-            add_temporaries(next, rest, out)?;
-            Ok(())
+            add_temporaries(next, rest, out)
         }
     }
 }

@@ -1,5 +1,5 @@
 //! Copies of trees.
-ghost use Rattle.std.specs.Prelude.{◌≡◌, map, IfOk};
+ghost use Rattle.std.specs.Prelude.{◌≡◌, IfOk};
 ghost use Rattle.affc_quast.specs.Seen.{seen, trees_of};
 
 use affc_quast::rows::copied as copied_forms;
@@ -8,19 +8,19 @@ use sqlite_items::Items;
 use std::alloc::{AllocError, Global};
 
 /// A copy of a tree.
-fn copied(tree: &Quast, alloc: Global) -> Result<Quast, AllocError>
+fn tree_copied(tree: &Quast, alloc: Global) -> Result<Quast, AllocError>
     ensures { IfOk result (λ t. seen t ≡ seen tree.now) }
 {
     match tree {
         Quast::Test { form, yes, no } => {
             let form = form.clone()?;
-            let yes = Box::new(alloc, copied(yes, alloc)?)?;
-            let no = Box::new(alloc, copied(no, alloc)?)?;
+            let yes = Box::new(alloc, tree_copied(yes, alloc)?)?;
+            let no = Box::new(alloc, tree_copied(no, alloc)?)?;
             Ok(Quast::Test { form, yes, no })
         }
         Quast::Div { form, by, rest } => {
             let form = form.clone()?;
-            let rest = Box::new(alloc, copied(rest, alloc)?)?;
+            let rest = Box::new(alloc, tree_copied(rest, alloc)?)?;
             Ok(Quast::Div {
                 form,
                 by: *by,
@@ -45,7 +45,7 @@ pub(crate) fn copied_flow(alloc: Global, flow: &Flow) -> Result<Flow, AllocError
 {
     let mut trees = Items::new(alloc);
     for tree in flow.trees.as_slice() {
-        trees.push(copied(tree, alloc)?)?;
+        trees.push(tree_copied(tree, alloc)?)?;
     }
     Ok(Flow { trees })
 }

@@ -51,8 +51,7 @@ fn add_values(forms: &[Form], point: &[i64], out: &mut Items<i64>) -> Result<(),
         [] => Ok(()),
         [form, rest @ ..] => {
             out.push(subscript_at(form, point))?;
-            add_values(rest, point, out)?;
-            Ok(())
+            add_values(rest, point, out)
         }
     }
 }
@@ -154,8 +153,7 @@ fn add_moduli(
                 let mark = mark(alloc, &along, &modulus.least)?;
                 let form = modulus.form.clone()?;
                 out.push(Modulus { form, mark })?;
-                add_moduli(alloc, nest, systems, rows, more_rows, more_moduli, out)?;
-                Ok(())
+                add_moduli(alloc, nest, systems, rows, more_rows, more_moduli, out)
             }
         },
     }
@@ -221,8 +219,7 @@ pub(crate) fn add_made(
             [own, others @ ..] => {
                 let made = fold_made(alloc, nest, fold, own.as_slice())?;
                 out.push((fold.array, made))?;
-                add_made(alloc, nest, more, others, out)?;
-                Ok(())
+                add_made(alloc, nest, more, others, out)
             }
         },
     }

@@ -62,8 +62,7 @@ fn add_loaded(arrays: &mut Vec<u32>, value: &Val) -> Result<(), AllocError>
         Val::Not(a) => add_loaded(arrays, a.get()),
         Val::Bin { op: _, left, right } => {
             add_loaded(arrays, left.get())?;
-            add_loaded(arrays, right.get())?;
-            Ok(())
+            add_loaded(arrays, right.get())
         }
         Val::Shift {
             left: _,

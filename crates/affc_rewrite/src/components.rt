@@ -14,7 +14,7 @@ use affc_ast::tree::Ix;
 use affc_basis::Modulus;
 use affc_loops::terms::form_ix;
 use affc_loops::terms::trees::modulo;
-use affc_rows::{Form, FormFault};
+use affc_rows::Form;
 use std::alloc::{AllocError, Global};
 
 /// The subscripts of an access as forms over the names in sight, of which the parameters are the first.
@@ -73,18 +73,13 @@ pub(crate) fn printed(
 }
 
 /// A row of the subscripts.
-#[tactic(auto, using(crate::proofs::RowSizes::row_printable))]
 fn along(alloc: Global, row: &Form, access: &Access<'_>) -> Result<Form, AllocError>
     requires access { IsAccess access.now }
     requires row { IsRow (length access.now.forms.now) row.now }
     ensures value { IfOk result (λ f. f ≡ composed_form row.now access.now.forms.now) }
     ensures printable { IfOk result (λ f. IsPrintable access.now.names f) }
 {
-    match row.compose(alloc, access.forms) {
-        Ok(form) => Ok(form),
-        Err(FormFault::Range) => unreachable!(),
-        Err(FormFault::Memory) => Err(AllocError),
-    }
+    row.at_images(alloc, access.names, access.forms)
 }
 
 /// The remainder of a row of the subscripts by the modulus.

@@ -55,8 +55,7 @@ fn body(
         arrays: nest.arrays.as_slice(),
         folds,
     };
-    let made = statements(alloc, &folding, parameters, program.body.as_slice())?;
-    Ok(made)
+    statements(alloc, &folding, parameters, program.body.as_slice())
 }
 
 /// The temporaries with their moduli for extents.
@@ -75,8 +74,7 @@ fn temporaries(
     let parameters = count(nest);
     let first = first_temporary(program, nest);
     let temps = program.temps.as_slice();
-    let made = add_decls(alloc, parameters, folds, first, temps, Items::new(alloc))?;
-    Ok(made)
+    add_decls(alloc, parameters, folds, first, temps, Items::new(alloc))
 }
 
 /// The program with the subscripts and extents of folds, as it is printed: it has the prelude exactly where a statement calls

@@ -161,28 +161,22 @@ fn statement(alloc: Global, folding: &Folding<'_>, names: u32, s: &Stmt) -> Resu
             body,
         } => {
             let body = statements(alloc, folding, names + 1, body.as_slice())?;
-            let s = for_loop(alloc, iter, low, *rel, high, body)?;
-            Ok(s)
+            for_loop(alloc, iter, low, *rel, high, body)
         }
         Stmt::If { conds, body } => {
             let body = statements(alloc, folding, names, body.as_slice())?;
-            let s = tested(alloc, conds.as_slice(), body)?;
-            Ok(s)
+            tested(alloc, conds.as_slice(), body)
         }
         Stmt::Assign {
             op,
             array,
             subs,
             value,
-        } => {
-            let s = assignment(alloc, folding, names, *op, *array, subs.as_slice(), value)?;
-            Ok(s)
-        }
+        } => assignment(alloc, folding, names, *op, *array, subs.as_slice(), value),
         Stmt::Block { locals, body } => {
             let names = inside(names, locals.as_slice());
             let body = statements(alloc, folding, names, body.as_slice())?;
-            let s = block(alloc, locals.as_slice(), body)?;
-            Ok(s)
+            block(alloc, locals.as_slice(), body)
         }
     }
 }

@@ -55,8 +55,7 @@ fn by_rows(
     let rows = fold.basis.rows.as_slice();
     let moduli = fold.moduli.as_slice();
     let made = Items::new(alloc);
-    let made = add_components(alloc, &access, 0, rows, moduli, extents, subs, made)?;
-    Ok(made)
+    add_components(alloc, &access, 0, rows, moduli, extents, subs, made)
 }
 
 /// The subscripts of an array with a fold.

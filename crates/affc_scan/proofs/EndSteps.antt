@@ -1,10 +1,12 @@
 -- The steps by which ends are made.
-use Rattle.std.proofs.Common.{◌≡◌, ◌≢◌, ℕ, zero, suc, ◌+◌, ◌^◌, ◌<◌, ◌≤◌, ℤ, pos, negsuc, neg_ℤ, List, [], ◌∷◌, ◌++◌, length, length-append, get_or, map, take, refl, sym, ap, subst, ◌∙◌, arith}
+use Rattle.std.proofs.Common.{◌≡◌, ◌≢◌, ℕ, zero, suc, ◌+◌, ◌^◌, ◌≤◌, ℤ, pos, negsuc, neg_ℤ, List, [], ◌∷◌, ◌++◌, length, length-append, map, refl, sym, ap, subst, ◌∙◌, arith}
 use Rattle.std.specs.Prelude.{unsigned_abs}
 use Rattle.std.specs.List.{All}
-use Rattle.std.proofs.lemmas.List.{length-map, length-take-le, map-append, take_more}
+use Rattle.std.proofs.lemmas.List.{length-map, length-take-le}
 use Rattle.std.proofs.lemmas.List.Elements.{All-nil, All-cons, All-head, All-tail, All-take}
 use Rattle.affc_rows.specs.Forms.{Affine}
+use Rattle.affc_rows.specs.Vocabulary.{HasOpposite}
+use Rattle.affc_rows.proofs.VocabularyLemmas.{within_opposite}
 use Rattle.affc_ast.specs.declared.tree.Ix.{Ix}
 use Rattle.affc_ast.specs.declared.tree.Ix.TheVariants.{Min, Max, Floord, Ceild}
 use Rattle.affc_loops.specs.Ends.{rest_of, opposite, rounded_up, rounded_down, least_by, greatest_by, joined, lower_end, upper_end, both_ends}
@@ -37,14 +39,8 @@ opposite_modest f g e m = subst IsModest (sym e) (record { coefs = opposites f.c
 pub opposite_long : (f g : Affine) → g ≡ opposite f → length g.coefs ≡ length f.coefs
 opposite_long f g e = ap (λ (h : Affine). length h.coefs) e ∙ length-map f.coefs neg_ℤ
 
-pub one_more_opposite : (cs : List ℤ) (i : ℕ) (c d : ℤ) (made more : List ℤ) → i < length cs → made ≡ map neg_ℤ (take i cs) → c ≡ get_or cs i c → d ≡ neg_ℤ c → more ≡ made ++ d ∷ []
-    → more ≡ map neg_ℤ (take (i + 1) cs)
-one_more_opposite cs i c d made more l m e f g =
-    g
-    ∙ ap (λ z. z ++ d ∷ []) m
-    ∙ ap (λ z. map neg_ℤ (take i cs) ++ z ∷ []) (f ∙ ap neg_ℤ e)
-    ∙ sym (map-append neg_ℤ (take i cs) (get_or cs i c ∷ []))
-    ∙ ap (map neg_ℤ) (sym (take_more cs i c l))
+pub modest_opposite : (f : Affine) → IsModest f → HasOpposite f
+modest_opposite f m = within_opposite (2 ^ 40) (2 ^ 59) f (omega arith) (omega arith) m.coefs m.constant
 
 -- ---- Quotients
 

@@ -1,5 +1,5 @@
 //! The ends of loops, by rows.
-ghost use Rattle.std.specs.Prelude.{◌≡◌, ◌≤◌, ◌<◌, ◌+◌, ◌^◌, ◌++◌, length, map, unsigned_abs, neg_ℤ, IfOk};
+ghost use Rattle.std.specs.Prelude.{◌≡◌, ◌≤◌, ◌<◌, ◌+◌, ◌^◌, ◌++◌, length, map, unsigned_abs, IfOk};
 ghost use Rattle.std.specs.List.{All};
 ghost use Rattle.affc_ast.specs.declared.tree.Ix.TheVariants as trees;
 ghost use Rattle.affc_loops.specs.Ends as specs;
@@ -33,29 +33,6 @@ fn rest_of(alloc: Global, column: u32, row: &Form) -> Result<Form, AllocError>
     })
 }
 
-fn negated(c: i128) -> i128
-    requires { unsigned_abs c ≤ 2 ^ 59 }
-    ensures { result ≡ neg_ℤ c }
-{
-    -c
-}
-
-/// The form with its signs turned.
-#[tactic(auto, using(crate::proofs::EndSteps::one_more_opposite))]
-fn opposite(alloc: Global, form: &Form) -> Result<Form, AllocError>
-    requires { IsModest form.now }
-    ensures { IfOk result (λ f. f ≡ specs.opposite form.now) }
-{
-    let mut coefs = SmallVec::new(alloc);
-    for c in form.coefs.as_slice() {
-        coefs.push(negated(*c))?;
-    }
-    Ok(Form {
-        coefs,
-        constant: negated(form.constant),
-    })
-}
-
 /// The coefficient in the last column.
 fn last_of(column: u32, row: &Form) -> i64
     requires { IsEndRow column row.now }
@@ -82,7 +59,7 @@ fn rounded_down(alloc: Global, e: Ix, by: i64) -> Result<Ix, AllocError>
 }
 
 /// The least number that a row of the lower end allows.
-#[tactic(auto, using(crate::proofs::EndSteps::opposite_modest, crate::proofs::EndSteps::opposite_long))]
+#[tactic(auto, using(crate::proofs::EndSteps::modest_opposite, crate::proofs::EndSteps::opposite_modest, crate::proofs::EndSteps::opposite_long))]
 fn least_by(alloc: Global, first: u32, column: u32, row: &Form) -> Result<Ix, AllocError>
     requires few { first ≤ column }
     requires seen { column ≤ 512 }
@@ -90,7 +67,7 @@ fn least_by(alloc: Global, first: u32, column: u32, row: &Form) -> Result<Ix, Al
     ensures { IfOk result (λ x. x ≡ specs.least_by first column row.now) }
 {
     let rest = rest_of(alloc, column, row)?;
-    let turned = opposite(alloc, &rest)?;
+    let turned = rest.opposite(alloc)?;
     let dividend = form_ix(alloc, first, first, &turned)?;
     rounded_up(alloc, dividend, last_of(column, row))
 }
@@ -173,8 +150,7 @@ fn lower_end(
         [row, rest @ ..] => {
             let made = least_by(alloc, first, column, row)?;
             let made = greatest_of(alloc, first, column, made, rest)?;
-            let end = max(alloc, made, last)?;
-            Ok(end)
+            max(alloc, made, last)
         }
     }
 }
@@ -199,8 +175,7 @@ fn upper_end(
         [row, rest @ ..] => {
             let made = greatest_by(alloc, first, column, row)?;
             let made = least_of(alloc, first, column, made, rest)?;
-            let end = min(alloc, made, last)?;
-            Ok(end)
+            min(alloc, made, last)
         }
     }
 }

@@ -100,7 +100,7 @@ fn gather_one(
 
 /// With what is gathered of one statement more.
 #[tactic(auto, using(affc_loops::proofs::EndLists::both_long))]
-fn joined(alloc: Global, made: Gathered, own: Gathered) -> Result<Gathered, AllocError>
+fn gathered_together(alloc: Global, made: Gathered, own: Gathered) -> Result<Gathered, AllocError>
     requires { length made.ends ≡ length own.ends }
     ensures ends { IfOk result (λ all. all.ends ≡ specs.both_ends made.ends own.ends) }
     ensures long { IfOk result (λ all. length all.ends ≡ length made.ends) }
@@ -136,9 +136,8 @@ fn gather_more(
         [] => Ok(made),
         [part, rest @ ..] => {
             let own = gather_one(alloc, nest, ranges, first, part)?;
-            let both = joined(alloc, made, own)?;
-            let all = gather_more(alloc, nest, ranges, first, rest, both)?;
-            Ok(all)
+            let both = gathered_together(alloc, made, own)?;
+            gather_more(alloc, nest, ranges, first, rest, both)
         }
     }
 }
@@ -164,8 +163,7 @@ pub(crate) fn gather_all(
         }),
         [part, rest @ ..] => {
             let own = gather_one(alloc, nest, ranges, first, part)?;
-            let all = gather_more(alloc, nest, ranges, first, rest, own)?;
-            Ok(all)
+            gather_more(alloc, nest, ranges, first, rest, own)
         }
     }
 }

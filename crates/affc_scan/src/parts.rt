@@ -38,9 +38,7 @@ fn add_part<'a, 's>(
         entry,
         times,
     };
-    let Ok(()) = out.push(part) else {
-        return Err(AllocError);
-    };
+    out.push(part)?;
     Ok(())
 }
 
@@ -67,8 +65,7 @@ fn add_parts<'a, 's>(
                     let Some(next) = first.checked_add(1) else {
                         return Err(AllocError);
                     };
-                    add_parts(next, sites, entries, maps, out)?;
-                    Ok(())
+                    add_parts(next, sites, entries, maps, out)
                 }
             },
         },

@@ -41,8 +41,7 @@ fn add_blocks(
         [] => Ok(made),
         [part, rest @ ..] => {
             made.push(block(alloc, first, more, part)?)?;
-            let all = add_blocks(alloc, first, more, rest, made)?;
-            Ok(all)
+            add_blocks(alloc, first, more, rest, made)
         }
     }
 }
@@ -65,8 +64,7 @@ fn body(
             let more = ends.len() as u32;
             let none = Items::new(alloc);
             let blocks = add_blocks(alloc, first, more, parts, none)?;
-            let made = loops_between(alloc, ends, blocks)?;
-            Ok(made)
+            loops_between(alloc, ends, blocks)
         }
     }
 }
@@ -107,8 +105,7 @@ fn projected(
     let times = time_ranges(alloc, &nest.params, parts)?;
     let params = nest.params.clone()?;
     let ranges = wider(params, times.as_slice())?;
-    let made = gather_all(alloc, nest, &ranges, first, parts)?;
-    Ok(made)
+    gather_all(alloc, nest, &ranges, first, parts)
 }
 
 /// The program of these times, of which each has so many components.

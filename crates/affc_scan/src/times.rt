@@ -62,8 +62,7 @@ pub(crate) fn time_ranges(
                 [_, ..] => {
                     let others = time_ranges(alloc, params, rest)?;
                     let made = Items::new(alloc);
-                    let hulls = add_hulls(own.as_slice(), others.as_slice(), made)?;
-                    Ok(hulls)
+                    add_hulls(own.as_slice(), others.as_slice(), made)
                 }
             }
         }

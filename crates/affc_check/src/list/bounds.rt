@@ -1,5 +1,5 @@
 //! Questions on extents and accesses.
-ghost use Rattle.std.specs.Prelude.{◌≡◌, ◌++◌, length, map, flat_map, slice_get, IsTrue, OnOk};
+ghost use Rattle.std.specs.Prelude.{◌≡◌, ◌++◌, length, map, flat_map, slice_get, OnOk};
 ghost use Rattle.affc_trace.specs.Law.{IsIn};
 ghost use Rattle.affc_nest.specs.Asked.{IsNest, IsExtent, IsSubscript};
 ghost use Rattle.affc_nest.specs.Questions.{extent_question, extents_or_none, extents_of_access, questions_of, entry_questions, extent_questions, bound_questions};
@@ -31,8 +31,7 @@ fn add_extents(
         [extent, rest @ ..] => {
             let system = extent_at_most_zero(alloc, nest, extent)?;
             add_question(out, system)?;
-            add_extents(alloc, nest, rest, out)?;
-            Ok(())
+            add_extents(alloc, nest, rest, out)
         }
     }
 }
@@ -52,8 +51,7 @@ fn add_arrays(
         [] => Ok(()),
         [array, rest @ ..] => {
             add_extents(alloc, nest, array.extents.as_slice(), out)?;
-            add_arrays(alloc, nest, rest, out)?;
-            Ok(())
+            add_arrays(alloc, nest, rest, out)
         }
     }
 }
@@ -67,8 +65,7 @@ pub(crate) fn add_extent_questions(
     requires { IsNest nest.now }
     ensures { OnOk result (flat_map listed_said out.new.items ≡ flat_map listed_said out.old.items ++ map Question (extent_questions nest.now)) }
 {
-    add_arrays(alloc, nest, nest.arrays.as_slice(), out)?;
-    Ok(())
+    add_arrays(alloc, nest, nest.arrays.as_slice(), out)
 }
 
 /// Adds the questions on an access of a statement, by the subscripts and extents of its dimensions.
@@ -95,8 +92,7 @@ fn add_dimensions(
                 add_question(out, low)?;
                 let high = subscript_past_extent(alloc, nest, entry, sub, extent)?;
                 add_question(out, high)?;
-                add_dimensions(alloc, nest, entry, more_subs, more_extents, out)?;
-                Ok(())
+                add_dimensions(alloc, nest, entry, more_subs, more_extents, out)
             }
         },
     }
@@ -132,8 +128,7 @@ fn add_accesses(
             let extents = extents_of(nest, access.array);
             let subs = access.subs.as_slice();
             add_dimensions(alloc, nest, entry, subs, extents, out)?;
-            add_accesses(alloc, nest, entry, rest, out)?;
-            Ok(())
+            add_accesses(alloc, nest, entry, rest, out)
         }
     }
 }
@@ -152,8 +147,7 @@ fn add_entry(
     if !entry.alive {
         return Ok(());
     }
-    add_accesses(alloc, nest, entry, entry.accesses.as_slice(), out)?;
-    Ok(())
+    add_accesses(alloc, nest, entry, entry.accesses.as_slice(), out)
 }
 
 /// Adds the questions on the accesses of these statements.
@@ -171,8 +165,7 @@ fn add_entries(
         [] => Ok(()),
         [entry, rest @ ..] => {
             add_entry(alloc, nest, entry, out)?;
-            add_entries(alloc, nest, rest, out)?;
-            Ok(())
+            add_entries(alloc, nest, rest, out)
         }
     }
 }
@@ -186,6 +179,5 @@ pub(crate) fn add_bound_questions(
     requires { IsNest nest.now }
     ensures { OnOk result (flat_map listed_said out.new.items ≡ flat_map listed_said out.old.items ++ map Question (bound_questions nest.now)) }
 {
-    add_entries(alloc, nest, nest.entries.as_slice(), out)?;
-    Ok(())
+    add_entries(alloc, nest, nest.entries.as_slice(), out)
 }

@@ -1,4 +1,5 @@
 use Rattle.std.proofs.Common.{◌-◌, List, length, map, take, drop, sym, ap, subst}
+use Rattle.std.proofs.lemmas.Result.{IfOk-weaker}
 use Rattle.affc_scan.specs.declared.parts.Part.{Part}
 use Rattle.affc_scan.specs.Gathered.{GathersMore}
 use Rattle.affc_scan.specs.Parts.{numbered}
@@ -6,10 +7,11 @@ use Rattle.affc_scan.proofs.Gathering.{one_more}
 use Rattle.affc_scan.proofs.ScanSteps.{list_is}
 use Rattle.affc_scan.proofs.gathered.+gather_more.Goals as goal
 
-pub returns-in_ok-all-in-len1-up-clause-more : goal.returns-in_ok-all-in-len1-up-clause-more
-returns-in_ok-all-in-len1-up-clause-more t c =
+pub returns-in_ok-both-in-len1-up-clause-more : goal.returns-in_ok-both-in-len1-up-clause-more
+returns-in_ok-both-in-len1-up-clause-more t c =
     let ps : List Part = c.args.parts.now in
     let rest : List Part = take (length ps - 1) (drop 1 ps) in
-    subst (λ ss. GathersMore c.args.nest.now c.args.ranges.now c.args.first ss c.args.made c.in_ok-all-in-len1-up.all) (ap (map numbered) (sym (list_is ps c.part-item.result c.in-len1-up.len_at_least c.part-item.is)))
-    (one_more c.args.nest.now c.args.ranges.now c.args.first (numbered c.part-item.result) (map numbered rest) c.args.made c.in_ok-own-in-len1-up.own c.in_ok-both-in-len1-up.both c.in_ok-all-in-len1-up.all
-    c.in_ok-own-in-len1-up.ensures.one c.in_ok-both-in-len1-up.ensures.ends c.in_ok-both-in-len1-up.ensures.loose c.in_ok-all-in-len1-up.ensures.more)
+    IfOk-weaker c.gather_more.result _ _
+    (λ all e. subst (λ ss. GathersMore c.args.nest.now c.args.ranges.now c.args.first ss c.args.made all) (ap (map numbered) (sym (list_is ps c.part-item.result c.in-len1-up.len_at_least c.part-item.is)))
+    (one_more c.args.nest.now c.args.ranges.now c.args.first (numbered c.part-item.result) (map numbered rest) c.args.made c.in_ok-own-in-len1-up.own c.in_ok-both-in-len1-up.both all
+    c.in_ok-own-in-len1-up.ensures.one c.in_ok-both-in-len1-up.ensures.ends c.in_ok-both-in-len1-up.ensures.loose e)) c.gather_more.ensures.more

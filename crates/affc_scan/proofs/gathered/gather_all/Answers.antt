@@ -1,4 +1,5 @@
 use Rattle.std.proofs.Common.{◌-◌, List, length, map, take, drop, sym, ap, subst}
+use Rattle.std.proofs.lemmas.Result.{IfOk-weaker}
 use Rattle.affc_scan.specs.declared.parts.Part.{Part}
 use Rattle.affc_scan.specs.Gathered.{Gathers}
 use Rattle.affc_scan.specs.Parts.{numbered}
@@ -6,10 +7,11 @@ use Rattle.affc_scan.proofs.Gathering.{all_of}
 use Rattle.affc_scan.proofs.ScanSteps.{list_is}
 use Rattle.affc_scan.proofs.gathered.gather_all.Goals as goal
 
-pub returns-in_ok-all-in-len1-up-clause-all : goal.returns-in_ok-all-in-len1-up-clause-all
-returns-in_ok-all-in-len1-up-clause-all c =
+pub returns-in_ok-own-in-len1-up-clause-all : goal.returns-in_ok-own-in-len1-up-clause-all
+returns-in_ok-own-in-len1-up-clause-all c =
     let ps : List Part = c.args.parts.now in
     let rest : List Part = take (length ps - 1) (drop 1 ps) in
-    subst (λ ss. Gathers c.args.nest.now c.args.ranges.now c.args.first ss c.in_ok-all-in-len1-up.all) (ap (map numbered) (sym (list_is ps c.part-item.result c.in-len1-up.len_at_least c.part-item.is)))
-    (all_of c.args.nest.now c.args.ranges.now c.args.first (numbered c.part-item.result) (map numbered rest) c.in_ok-own-in-len1-up.own c.in_ok-all-in-len1-up.all
-    c.in_ok-own-in-len1-up.ensures.one c.in_ok-all-in-len1-up.ensures.more)
+    IfOk-weaker c.gather_more.result _ _
+    (λ all e. subst (λ ss. Gathers c.args.nest.now c.args.ranges.now c.args.first ss all) (ap (map numbered) (sym (list_is ps c.part-item.result c.in-len1-up.len_at_least c.part-item.is)))
+    (all_of c.args.nest.now c.args.ranges.now c.args.first (numbered c.part-item.result) (map numbered rest) c.in_ok-own-in-len1-up.own all
+    c.in_ok-own-in-len1-up.ensures.one e)) c.gather_more.ensures.more
