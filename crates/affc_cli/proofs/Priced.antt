@@ -1,26 +1,31 @@
--- What is made by a function is made by the cost that has its name.
-use Rattle.std.proofs.Common.{◌≡◌, ℕ, List, Option, Result, Ok, Err, IfOk, subst, sym}
+-- What is made by a function is made by the cost that has its name, and its pieces are those that a command makes.
+use Rattle.std.proofs.Common.{◌≡◌, ℕ, List, Option, Result, Ok, Err, Some, None, IfOk, subst, sym}
+use Rattle.std.specs.Prelude.{option_map}
 use Rattle.affc_split.specs.Budgets.{Account}
-use Rattle.affc_driver.specs.Accounts.{FoldsAtCost, FoldsCertified}
-use Rattle.affc_driver.specs.declared.folding.CertifiedDone.{CertifiedDone}
-use Rattle.affc_driver.specs.declared.folding.Done.{Done}
+use Rattle.affc_driver.specs.Accounts.{FoldsCertified, FoldsMade}
+use Rattle.affc_driver.specs.Certificates.{certificate_text}
+use Rattle.affc_driver.specs.declared.folding.Made.{Made}
 use Rattle.affc_driver.specs.declared.refusal.Refusal.{Refusal}
-use Rattle.affc_driver.proofs.Costed.{with_answers}
+use Rattle.affc_driver.specs.declared.wanted.Wanted.{Wanted}
+use Rattle.affc_driver.proofs.Costed.{certified, made_by}
 use Rattle.affc_words.specs.declared.words.CostName.{CostName}
-use Rattle.affc_cli.specs.Budgets.{answers_of}
+use Rattle.affc_words.specs.declared.words.Settings.{Settings}
+use Rattle.affc_cli.specs.Budgets.{FoldMakes, MadeWithin, answers_of, wanted_for}
 
-module _ (A : List ℕ → ℕ → Type 0) (cost name : CostName) (source : List ℕ) (schedule : Option (List ℕ)) (left : Account) (is : cost ≡ name) (to : (moduli : List ℕ) (answer : ℕ) → A moduli answer → answers_of name moduli answer) where
-  pub by_name : (made : Result Done Refusal) → IfOk made (λ done. FoldsAtCost A source schedule left done.text.items done.report.items done.cost)
-      → IfOk made (λ done. FoldsAtCost (answers_of cost) source schedule left done.text.items done.report.items done.cost)
-  by_name (Ok done) folds =
-      subst (λ n. FoldsAtCost (answers_of n) source schedule left done.text.items done.report.items done.cost) (sym is)
-      (record { folds_with = with_answers A (answers_of name) to source schedule left done.text.items done.report.items folds.folds_with; total = folds.total })
-  by_name (Err refusal) folds = tt
+pub by_name : (A : List ℕ → ℕ → Type 0) (cost name : CostName) (source : List ℕ) (schedule : Option (List ℕ)) (left : Account) (wanted : Wanted) → cost ≡ name → ((moduli : List ℕ) (answer : ℕ) → A moduli answer → answers_of name moduli answer)
+    → (result : Result Made Refusal) → IfOk result (FoldsMade A source schedule left wanted) → IfOk result (FoldsMade (answers_of cost) source schedule left wanted)
+by_name A cost name source schedule left wanted is to (Ok made) m =
+    subst (λ n. FoldsMade (answers_of n) source schedule left wanted made) (sym is) (made_by A (answers_of name) to source schedule left wanted made m)
+by_name A cost name source schedule left wanted is to (Err refusal) m = tt
 
-  pub certified_by_name : (made : Result CertifiedDone Refusal)
-      → IfOk made (λ m. FoldsCertified A source schedule left m.done.text.items m.done.report.items m.certificate.items)
-      → IfOk made (λ m. FoldsCertified (answers_of cost) source schedule left m.done.text.items m.done.report.items m.certificate.items)
-  certified_by_name (Ok m) folds =
-      subst (λ n. FoldsCertified (answers_of n) source schedule left m.done.text.items m.done.report.items m.certificate.items) (sym is)
-      (record { folds_with = with_answers A (answers_of name) to source schedule left m.done.text.items m.done.report.items folds.folds_with; certified = folds.certified })
-  certified_by_name (Err refusal) folds = tt
+pub pieces : (file : Option (List ℕ)) (source : List ℕ) (schedule : Option (List ℕ)) (settings : Settings) (made : Made) (certificate : List ℕ)
+    → MadeWithin source schedule settings (wanted_for file) made → certificate ≡ certificate_text (option_map (λ t. t.items) made.certificate)
+    → FoldMakes file source schedule settings certificate made.done.text.items made.done.report.items
+pieces None source schedule settings made certificate m is = (made.done.cost, record { left = m.left; limit = m.limit; folds_to = m.folds.at_cost })
+pieces (Some file) source schedule settings made certificate m is = record {
+  left = m.left;
+  limit = m.limit;
+  folds_to =
+      subst (λ text. FoldsCertified (answers_of settings.cost) source schedule m.left made.done.text.items made.done.report.items text) (sym is)
+      (certified (answers_of settings.cost) source schedule m.left made m.folds);
+}

@@ -2,7 +2,10 @@
 use Rattle.std.specs.Prelude.{◌≡◌, ℕ, List, Option, Some, None}
 use Rattle.affc_split.specs.Budgets.{Account}
 use Rattle.affc_weigh.specs.Costs.{Gives, words_cost, sum_cost, powers_cost}
-use Rattle.affc_driver.specs.Accounts.{FoldsAtCost, FoldsCertified}
+use Rattle.affc_driver.specs.Accounts.{FoldsAtCost, FoldsCertified, FoldsMade}
+use Rattle.affc_driver.specs.declared.folding.Made.{Made}
+use Rattle.affc_driver.specs.declared.wanted.Wanted.{Wanted}
+use Rattle.affc_driver.specs.declared.wanted.Wanted.TheVariants.{Text, Certificate}
 use Rattle.affc_words.specs.declared.words.CostName.{CostName}
 use Rattle.affc_words.specs.declared.words.CostName.TheVariants.{Words, Sum, Powers}
 use Rattle.affc_words.specs.declared.words.Settings.{Settings}
@@ -25,6 +28,17 @@ pub record CertifiedWithin (source : List ℕ) (schedule : Option (List ℕ)) (s
   pub left : Account
   pub limit : left.limit ≡ settings.budget
   pub folds_to : FoldsCertified (answers_of settings.cost) source schedule left text report certificate
+
+-- a certificate is wanted where a file is named for it
+abbrev pub wanted_for : (file : Option (List ℕ)) → Wanted
+wanted_for None = Text
+wanted_for (Some file) = Certificate
+
+-- All this is made so, with a certificate where one is wanted.
+pub record MadeWithin (source : List ℕ) (schedule : Option (List ℕ)) (settings : Settings) (wanted : Wanted) (made : Made) : Type 0 where
+  pub left : Account
+  pub limit : left.limit ≡ settings.budget
+  pub folds : FoldsMade (answers_of settings.cost) source schedule left wanted made
 
 -- They are made so at some cost, with a certificate where a file is named for it.
 abbrev pub FoldMakes : (file : Option (List ℕ)) → (source : List ℕ) → (schedule : Option (List ℕ)) → (settings : Settings) → (certificate text report : List ℕ) → Type 0

@@ -4,6 +4,7 @@ ghost use Rattle.affc_cli.specs.Big.{BigCause, SumsUp, count_line, summary};
 
 use crate::fold::folded;
 use crate::pieces::Pieces;
+use affc_driver::Wanted;
 use affc_generate::{Pipeline, generate, whole};
 use affc_lines::refusal::Refusal;
 use affc_words::stages::Stages;
@@ -43,13 +44,14 @@ pub fn big(alloc: Global, stages: Stages) -> Result<Pieces, Refusal>
         budget: None,
         cost: CostName::Words,
     };
-    let done = folded(
+    let made = folded(
         alloc,
         source.as_bytes(),
         Some(schedule.as_bytes()),
         settings,
+        Wanted::Text,
     )?;
-    match summary(alloc, stages, done.cost) {
+    match summary(alloc, stages, made.done.cost) {
         Ok(text) => Ok(Pieces {
             certificate: Vec::new(alloc),
             text: text.into_bytes(),

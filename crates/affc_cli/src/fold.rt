@@ -1,8 +1,9 @@
 //! One source, compiled.
-ghost use Rattle.std.specs.Prelude.{◌≡◌, IfOk, IfErr, None, option_map};
+ghost use Rattle.std.specs.Prelude.{◌≡◌, IfOk, IfErr, option_map};
 ghost use Rattle.affc_weigh.specs.Costs.{NeverFalls, TakesModuli};
-ghost use Rattle.affc_cli.specs.Budgets.{FoldsWithin, CertifiedWithin, FoldMakes, answers_of};
-ghost use Rattle.affc_driver.specs.Accounts.{FoldsAtCost, FoldsCertified, IsShort};
+ghost use Rattle.affc_cli.specs.Budgets.{FoldsWithin, FoldMakes, MadeWithin, answers_of, wanted_for};
+ghost use Rattle.affc_driver.specs.Accounts.{FoldsMade, IsShort};
+ghost use Rattle.affc_driver.specs.Certificates.{certificate_text};
 ghost use Rattle.affc_driver.specs.Refusals.{IsIllegal, RefusalSays};
 ghost use Rattle.affc_driver.specs.declared.refusal.Refusal.TheVariants.{Budget as Spent};
 ghost use Rattle.affc_cli.specs.Refusal.{TextCause};
@@ -10,7 +11,7 @@ ghost use Rattle.affc_cli.specs.Refusal.{TextCause};
 use crate::pieces::Pieces;
 use affc_ast::text::Text;
 use affc_ast::tree::Instance;
-use affc_driver::{CertifiedDone, Done, Refusal as FoldRefusal};
+use affc_driver::{Made, Refusal as FoldRefusal, Wanted};
 use affc_grammar::laws::one_program;
 use affc_lines::meaning::{meaning, unwritten};
 use affc_lines::refusal::Refusal;
@@ -82,36 +83,18 @@ fn fold_by<F: Cost>(
     source: &[u8],
     schedule: Option<&[u8]>,
     cost: F,
+    wanted: Wanted,
     units: &mut Budget,
-) -> Result<Done, FoldRefusal>
+) -> Result<Made, FoldRefusal>
     requires takes { TakesModuli (F.takes cost) }
     requires never_falls { NeverFalls (F.answers cost) }
-    ensures ok { IfOk result (λ done. FoldsAtCost (F.answers cost) source.now (option_map (λ s. s.now) schedule.entry) units.new done.text.items done.report.items done.cost) }
+    ensures ok { IfOk result (FoldsMade (F.answers cost) source.now (option_map (λ s. s.now) schedule.entry) units.new wanted) }
     ensures err { IfErr result (RefusalSays source.now (option_map (λ s. s.now) schedule.entry)) }
     ensures limit { units.new.limit ≡ units.old.limit }
     ensures short { IfErr result (λ refusal. refusal ≡ Spent → IsShort source.now (option_map (λ s. s.now) schedule.entry) units.new.limit) }
 {
     let weigher = Weigher::new(cost);
-    affc_driver::fold(alloc, source, schedule, units, &weigher)
-}
-
-// The same with a certificate.
-fn certify_by<F: Cost>(
-    alloc: Global,
-    source: &[u8],
-    schedule: Option<&[u8]>,
-    cost: F,
-    units: &mut Budget,
-) -> Result<CertifiedDone, FoldRefusal>
-    requires takes { TakesModuli (F.takes cost) }
-    requires never_falls { NeverFalls (F.answers cost) }
-    ensures ok { IfOk result (λ made. FoldsCertified (F.answers cost) source.now (option_map (λ s. s.now) schedule.entry) units.new made.done.text.items made.done.report.items made.certificate.items) }
-    ensures err { IfErr result (RefusalSays source.now (option_map (λ s. s.now) schedule.entry)) }
-    ensures limit { units.new.limit ≡ units.old.limit }
-    ensures short { IfErr result (λ refusal. refusal ≡ Spent → IsShort source.now (option_map (λ s. s.now) schedule.entry) units.new.limit) }
-{
-    let weigher = Weigher::new(cost);
-    affc_driver::fold_certified(alloc, source, schedule, units, &weigher)
+    affc_driver::fold(alloc, source, schedule, &weigher, wanted, units)
 }
 
 // What is made of it by the cost of this name.
@@ -120,112 +103,59 @@ fn fold_named(
     source: &[u8],
     schedule: Option<&[u8]>,
     cost: CostName,
+    wanted: Wanted,
     units: &mut Budget,
-) -> Result<Done, FoldRefusal>
-    ensures ok { IfOk result (λ done. FoldsAtCost (answers_of cost) source.now (option_map (λ s. s.now) schedule.entry) units.new done.text.items done.report.items done.cost) }
+) -> Result<Made, FoldRefusal>
+    ensures ok { IfOk result (FoldsMade (answers_of cost) source.now (option_map (λ s. s.now) schedule.entry) units.new wanted) }
     ensures err { IfErr result (RefusalSays source.now (option_map (λ s. s.now) schedule.entry)) }
     ensures limit { units.new.limit ≡ units.old.limit }
     ensures short { IfErr result (λ refusal. refusal ≡ Spent → IsShort source.now (option_map (λ s. s.now) schedule.entry) units.new.limit) }
 {
     match cost {
-        CostName::Words => fold_by(alloc, source, schedule, words, units),
-        CostName::Sum => fold_by(alloc, source, schedule, sum, units),
-        CostName::Powers => fold_by(alloc, source, schedule, powers, units),
+        CostName::Words => fold_by(alloc, source, schedule, words, wanted, units),
+        CostName::Sum => fold_by(alloc, source, schedule, sum, wanted, units),
+        CostName::Powers => fold_by(alloc, source, schedule, powers, wanted, units),
     }
 }
 
-// The same with a certificate.
-fn certify_named(
-    alloc: Global,
-    source: &[u8],
-    schedule: Option<&[u8]>,
-    cost: CostName,
-    units: &mut Budget,
-) -> Result<CertifiedDone, FoldRefusal>
-    ensures ok { IfOk result (λ made. FoldsCertified (answers_of cost) source.now (option_map (λ s. s.now) schedule.entry) units.new made.done.text.items made.done.report.items made.certificate.items) }
-    ensures err { IfErr result (RefusalSays source.now (option_map (λ s. s.now) schedule.entry)) }
-    ensures limit { units.new.limit ≡ units.old.limit }
-    ensures short { IfErr result (λ refusal. refusal ≡ Spent → IsShort source.now (option_map (λ s. s.now) schedule.entry) units.new.limit) }
-{
-    match cost {
-        CostName::Words => certify_by(alloc, source, schedule, words, units),
-        CostName::Sum => certify_by(alloc, source, schedule, sum, units),
-        CostName::Powers => certify_by(alloc, source, schedule, powers, units),
-    }
-}
-
-/// The text that does what the source does, in the order of the schedule and on temporaries that are folded at the least cost, or why there is
-/// none. With a budget below the threshold no more boxes of questions are opened than it has units.
+/// The text that does what the source does, in the order of the schedule and on temporaries that are folded at the least cost, with a
+/// certificate where one is wanted, or why there is none. With a budget below the threshold no more boxes of questions are opened than it
+/// has units.
 pub fn folded(
     alloc: Global,
     source: &[u8],
     schedule: Option<&[u8]>,
     settings: Settings,
-) -> Result<Done, Refusal>
-    ensures ok { IfOk result (λ done. FoldsWithin source.now (option_map (λ s. s.now) schedule.entry) settings done.text.items done.report.items done.cost) }
+    wanted: Wanted,
+) -> Result<Made, Refusal>
+    ensures ok { IfOk result (MadeWithin source.now (option_map (λ s. s.now) schedule.entry) settings wanted) }
+    ensures within { IfOk result (λ made. FoldsWithin source.now (option_map (λ s. s.now) schedule.entry) settings made.done.text.items made.done.report.items made.done.cost) }
     ensures err { IfErr result (TextCause source.now (option_map (λ s. s.now) schedule.entry) settings) }
 {
     let mut units = Budget::new(settings.budget);
-    match fold_named(alloc, source, schedule, settings.cost, &mut units) {
-        Ok(done) => Ok(done),
-        Err(refusal) => Err(told(alloc, source, schedule, settings, refusal)),
-    }
-}
-
-// The same with a certificate.
-fn certified(
-    alloc: Global,
-    source: &[u8],
-    schedule: Option<&[u8]>,
-    settings: Settings,
-) -> Result<CertifiedDone, Refusal>
-    ensures ok { IfOk result (λ made. CertifiedWithin source.now (option_map (λ s. s.now) schedule.entry) settings made.certificate.items made.done.text.items made.done.report.items) }
-    ensures err { IfErr result (TextCause source.now (option_map (λ s. s.now) schedule.entry) settings) }
-{
-    let mut units = Budget::new(settings.budget);
-    match certify_named(alloc, source, schedule, settings.cost, &mut units) {
+    match fold_named(alloc, source, schedule, settings.cost, wanted, &mut units) {
         Ok(made) => Ok(made),
         Err(refusal) => Err(told(alloc, source, schedule, settings, refusal)),
     }
 }
 
-// The pieces of a text that is made without a certificate.
-fn plainly(
-    alloc: Global,
-    source: &[u8],
-    schedule: Option<&[u8]>,
-    settings: Settings,
-) -> Result<Pieces, Refusal>
-    ensures ok { IfOk result (λ made. FoldMakes None source.now (option_map (λ s. s.now) schedule.entry) settings made.certificate.items made.text.items made.report.items) }
-    ensures err { IfErr result (TextCause source.now (option_map (λ s. s.now) schedule.entry) settings) }
+// A certificate is wanted where a file is named for it.
+fn wanted_for(file: Option<&str>) -> Wanted
+    ensures { result ≡ wanted_for (option_map (λ s. s.now) file.entry) }
 {
-    match folded(alloc, source, schedule, settings) {
-        Ok(done) => Ok(Pieces {
-            certificate: Vec::new(alloc),
-            text: done.text,
-            report: done.report,
-        }),
-        Err(refusal) => Err(refusal),
+    match file {
+        None => Wanted::Text,
+        Some(_) => Wanted::Certificate,
     }
 }
 
-// The pieces of one that is made with a certificate.
-fn with_certificate(
-    alloc: Global,
-    source: &[u8],
-    schedule: Option<&[u8]>,
-    settings: Settings,
-) -> Result<Pieces, Refusal>
-    ensures ok { IfOk result (λ made. CertifiedWithin source.now (option_map (λ s. s.now) schedule.entry) settings made.certificate.items made.text.items made.report.items) }
-    ensures err { IfErr result (TextCause source.now (option_map (λ s. s.now) schedule.entry) settings) }
+// The text of a certificate, if there is one.
+fn certificate_text(alloc: Global, certificate: Option<Vec<u8>>) -> Vec<u8>
+    ensures { result.items ≡ certificate_text (option_map (λ t. t.items) certificate) }
 {
-    match certified(alloc, source, schedule, settings) {
-        Ok(CertifiedDone { done, certificate }) => Ok(Pieces {
-            certificate,
-            text: done.text,
-            report: done.report,
-        }),
-        Err(refusal) => Err(refusal),
+    match certificate {
+        None => Vec::new(alloc),
+        Some(text) => text,
     }
 }
 
@@ -240,8 +170,12 @@ pub fn fold(
     ensures ok { IfOk result (λ made. FoldMakes (option_map (λ s. s.now) file.entry) source.now (option_map (λ s. s.now) schedule.entry) settings made.certificate.items made.text.items made.report.items) }
     ensures err { IfErr result (TextCause source.now (option_map (λ s. s.now) schedule.entry) settings) }
 {
-    match file {
-        None => plainly(alloc, source, schedule, settings),
-        Some(_) => with_certificate(alloc, source, schedule, settings),
+    match folded(alloc, source, schedule, settings, wanted_for(file)) {
+        Ok(Made { done, certificate }) => Ok(Pieces {
+            certificate: certificate_text(alloc, certificate),
+            text: done.text,
+            report: done.report,
+        }),
+        Err(refusal) => Err(refusal),
     }
 }

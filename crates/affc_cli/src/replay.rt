@@ -11,26 +11,38 @@ use affc_lines::schedule::unplanned;
 use affc_replay::{Refusal as ReplayRefusal, Replayed};
 use std::alloc::Global;
 
+// What is replayed.
+#[derive(Clone, Copy, Drop)]
+struct Texts<'a> {
+    source: &'a [u8],
+    schedule: &'a [u8],
+    certificate: &'a [u8],
+}
+
 // The refusal of texts that aren't replayed, as it is told.
-fn told(
-    alloc: Global,
-    source: &[u8],
-    schedule: &[u8],
-    certificate: &[u8],
-    refusal: ReplayRefusal,
-) -> Refusal
-    requires { ReplayRefuses source.now schedule.now certificate.now refusal }
-    ensures { ReplayTextCause source.now schedule.now certificate.now result }
+fn told(alloc: Global, texts: &Texts<'_>, refusal: ReplayRefusal) -> Refusal
+    requires { ReplayRefuses texts.now.source.now texts.now.schedule.now texts.now.certificate.now refusal }
+    ensures { ReplayTextCause texts.now.source.now texts.now.schedule.now texts.now.certificate.now result }
 {
-    let _certificate = certificate;
     match refusal {
         ReplayRefusal::Source(fault) => Refusal::Source(fault),
         ReplayRefusal::Printed(place) => Refusal::Printed(place),
-        ReplayRefusal::Schedule(fault) => unplanned(alloc, source, Some(schedule), &fault),
+        ReplayRefusal::Schedule(fault) => unplanned(
+            alloc,
+            texts.source,
+            Some(texts.schedule),
+            &fault,
+        ),
         ReplayRefusal::IteratorRange {
             statement,
             loop_number,
-        } => ranged(alloc, source, Some(schedule), statement, loop_number),
+        } => ranged(
+            alloc,
+            texts.source,
+            Some(texts.schedule),
+            statement,
+            loop_number,
+        ),
         ReplayRefusal::Certificate(fault) => Refusal::Certificate(fault),
         ReplayRefusal::Check(fault) => Refusal::Check(fault),
         ReplayRefusal::Memory => Refusal::Memory,
@@ -54,6 +66,13 @@ pub fn replay(
             text,
             report,
         }),
-        Err(refusal) => Err(told(alloc, source, schedule, certificate, refusal)),
+        Err(refusal) => {
+            let texts = Texts {
+                source,
+                schedule,
+                certificate,
+            };
+            Err(told(alloc, &texts, refusal))
+        }
     }
 }

@@ -1,6 +1,7 @@
 //! The top call.
 ghost use Rattle.std.specs.Prelude.{◌≡◌, None, Some, drop, option_map};
 ghost use Rattle.std.specs.Process.{exit_status};
+ghost use Rattle.affc_io.specs.State.{FolderState};
 ghost use Rattle.affc_words.specs.Command.{Fold, Replay, Run, Flow, Big, texts_of};
 ghost use Rattle.affc_cli.specs.Outside.{outside};
 ghost use Rattle.affc_cli.specs.Promise.{Runs, Serves, ServesGiven};
@@ -117,19 +118,12 @@ fn run_flow<F: Folder, O: Sink, E: Sink>(
 }
 
 // Sums up a pipeline of so many stages. The folder isn't looked at.
-fn run_big<F: Folder, O: Sink, E: Sink>(
-    alloc: Global,
-    stages: Stages,
-    folder: &mut F,
-    out: &mut O,
-    err: &mut E,
-) -> u8
-    ensures { Runs (Big stages.count)
-        (outside (F.state folder.old) (O.state out.old) (E.state err.old))
-        (outside (F.state folder.new) (O.state out.new) (E.state err.new))
+fn run_big<O: Sink, E: Sink>(alloc: Global, stages: Stages, out: &mut O, err: &mut E) -> u8
+    ensures { (folder : FolderState) → Runs (Big stages.count)
+        (outside folder (O.state out.old) (E.state err.old))
+        (outside folder (O.state out.new) (E.state err.new))
         result }
 {
-    let _folder = folder;
     let made = big(alloc, stages);
     end(alloc, made, "", out, err)
 }
@@ -198,7 +192,7 @@ pub fn serve<F: Folder, O: Sink, E: Sink>(
             ),
         ) => run_data(alloc, source, feed, steps, folder, out, err),
         Ok(Some(Command::Flow { source })) => run_flow(alloc, source, folder, out, err),
-        Ok(Some(Command::Big { stages })) => run_big(alloc, stages, folder, out, err),
+        Ok(Some(Command::Big { stages })) => run_big(alloc, stages, out, err),
     }
 }
 

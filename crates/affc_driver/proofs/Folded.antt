@@ -1,20 +1,16 @@
 -- What the folds of a program are asked of, and what they give.
-use Rattle.std.proofs.Common.{◌≡◌, ℕ, ℤ, IsTrue, List, [], ◌∷◌, sym, subst, inl, inr}
+use Rattle.std.proofs.Common.{◌≡◌, ℕ, ℤ, List, [], ◌∷◌, sym, subst, inl, inr}
 use Rattle.affc_ast.specs.declared.tree.ArrayId.{ArrayId}
 use Rattle.affc_ast.specs.declared.tree.Program.{Program}
 use Rattle.affc_ast.specs.declared.tree.Instance.{Instance}
 use Rattle.affc_ast.specs.Store.{Element}
 use Rattle.affc_ast.specs.Trace.{loads_of, store_of, events}
-use Rattle.affc_trace.specs.declared.schedule.Schedule.{Schedule}
 use Rattle.affc_trace.specs.Effects.{effect}
 use Rattle.affc_trace.specs.Law.{IsIn}
 use Rattle.affc_trace.specs.Orders.{Touches}
-use Rattle.affc_trace.specs.Target.{IsScheduleOf, within_limits}
-use Rattle.affc_domain.specs.Plain.{IsPlain}
 use Rattle.affc_split.specs.Budgets.{Account}
 use Rattle.affc_nest.specs.declared.nest.Nest.{Nest}
 use Rattle.affc_nest.specs.Laws.{NamesArrays}
-use Rattle.affc_nest.specs.Nests.{nest_of}
 use Rattle.affc_bounds.specs.Faults.{StaysWithin}
 use Rattle.affc_quast.specs.Limits.{narrow, AreTreesWithin}
 use Rattle.affc_quast.specs.Sources.{NameSources, HaveNearQuotients}
@@ -23,6 +19,7 @@ use Rattle.affc_basis.specs.declared.fold.Fold.{Fold}
 use Rattle.affc_weigh.specs.declared.choice.Choice.{Choice}
 use Rattle.affc_schedtext.specs.declared.plan.Plan.{Plan}
 use Rattle.affc_folds.specs.Folding.{IsAnalysed, AreFoldsUnder}
+use Rattle.affc_driver.specs.Compilations.{IsCompilation}
 use Rattle.affc_driver.specs.Flows.{NameThroughout}
 use Rattle.affc_driver.specs.Made.{AreDecided}
 use Rattle.affc_driver.specs.Plans.{LegalThroughout, WrittenThroughout}
@@ -37,22 +34,21 @@ touches program p b x there = elim (in_append (loads_of program p b) (store_of p
   | inr k ↦ elim k [ inl e ↦ inr e | inr none ↦ absurd none ]
 ]
 
-pub analysed : (program : Program) (nest : Nest) (trees : List Tree) (schedule : Schedule) → IsPlain program → NamesArrays program → nest ≡ nest_of program → StaysWithin program
-    → IsScheduleOf program schedule → IsTrue (within_limits schedule) → NameThroughout program trees → AreTreesWithin narrow 302 12 nest trees → IsAnalysed program nest trees schedule
-analysed program nest trees schedule plain names is within fits slight named limits = record {
-  has = record { plain = plain; near = within.near };
-  named = names;
-  is = is;
-  fits = fits;
-  slight = slight;
+pub analysed : (program : Program) (nest : Nest) (plan : Plan) (trees : List Tree) → IsCompilation program nest plan → NameThroughout program trees → AreTreesWithin narrow 302 12 nest trees → IsAnalysed program nest trees plan.schedule
+analysed program nest plan trees c named limits = record {
+  has = record { plain = c.plain; near = c.within.near };
+  named = c.arrays;
+  is = c.is;
+  fits = c.fits;
+  slight = c.slight;
   found = limits;
-  some = within.some;
+  some = c.within.some;
   stays = λ p inside. record {
-    extents = within.extents p inside;
-    accesses = λ b x runs there. within.accesses p inside b x runs (touches program p b x there);
+    extents = c.within.extents p inside;
+    accesses = λ b x runs there. c.within.accesses p inside b x runs (touches program p b x there);
   };
-  sources = λ p inside. subst (λ n. NameSources program p n trees) (sym is) (named p inside).sources;
-  near = λ p inside. subst (λ n. HaveNearQuotients program p n trees) (sym is) (named p inside).near;
+  sources = λ p inside. subst (λ n. NameSources program p n trees) (sym c.is) (named p inside).sources;
+  near = λ p inside. subst (λ n. HaveNearQuotients program p n trees) (sym c.is) (named p inside).near;
 }
 
 -- where there are no temporaries

@@ -1,10 +1,8 @@
 -- What each refusal says of all texts of a program.
-use Rattle.std.proofs.Common.{◌≡◌, ◌≢◌, ◌∙◌, ℕ, ℤ, IsTrue, List, Option, Some, None, refl, ap, subst}
+use Rattle.std.proofs.Common.{◌≡◌, ◌≢◌, ◌∙◌, ℕ, ℤ, List, Option, Some, None, refl, ap, subst}
 use Rattle.std.specs.Prelude.{slice_get}
 use Rattle.affc_ast.specs.declared.tree.Instance.{Instance}
 use Rattle.affc_ast.specs.declared.tree.Program.{Program}
-use Rattle.affc_trace.specs.declared.schedule.Schedule.{Schedule}
-use Rattle.affc_trace.specs.Target.{IsScheduleOf, within_limits}
 use Rattle.affc_domain.specs.Plain.{IsPlain}
 use Rattle.affc_nest.specs.declared.nest.Nest.{Nest}
 use Rattle.affc_nest.specs.Laws.{HasNest, NamesArrays}
@@ -22,6 +20,7 @@ use Rattle.affc_nest.specs.declared.nest.Access.{Access}
 use Rattle.affc_nest.specs.declared.nest.Entry.{Entry}
 use Rattle.affc_dataflow.specs.Stores.{IsNamedNest}
 use Rattle.affc_dataflow.specs.Unwritten.{IsUnwritten}
+use Rattle.affc_driver.specs.Compilations.{IsCompilation}
 use Rattle.affc_driver.specs.Plans.{HasPlan, as_it_stands, WrittenThroughout}
 use Rattle.affc_quast.specs.Limits.{narrow, AreTreesWithin}
 use Rattle.affc_quast.specs.Trees.{Tree}
@@ -101,35 +100,33 @@ pub named_nest : (program : Program) (nest : Nest) → IsPlain program → Names
 named_nest program nest plain names is within = record { program = program; has = record { plain = plain; near = within.near }; is = is; named = names }
 
 -- what legality is asked of
-pub asked : (program : Program) (nest : Nest) (schedule : Schedule) → IsPlain program → NamesArrays program → nest ≡ nest_of program → StaysWithin program
-    → IsScheduleOf program schedule → IsTrue (within_limits schedule) → IsAsked nest schedule
-asked program nest schedule plain names is within fits slight = record {
+pub asked : (program : Program) (nest : Nest) (plan : Plan) → IsCompilation program nest plan → IsAsked nest plan.schedule
+asked program nest plan c = record {
   scheduled = record {
     program = program;
-    has = record { plain = plain; near = within.near };
-    is = is;
-    fits = fits;
-    slight = slight;
+    has = record { plain = c.plain; near = c.within.near };
+    is = c.is;
+    fits = c.fits;
+    slight = c.slight;
   };
-  named = names;
+  named = c.arrays;
 }
 
-pub asked_for : (program : Program) (nest : Nest) (schedule : Schedule) → IsPlain program → NamesArrays program → nest ≡ nest_of program → StaysWithin program
-    → IsScheduleOf program schedule → IsFor program nest schedule
-asked_for program nest schedule plain names is within fits = record {
-  has = record { plain = plain; near = within.near };
-  named = names;
-  is = is;
-  fits = fits;
+pub asked_for : (program : Program) (nest : Nest) (plan : Plan) → IsCompilation program nest plan → IsFor program nest plan.schedule
+asked_for program nest plan c = record {
+  has = record { plain = c.plain; near = c.within.near };
+  named = c.arrays;
+  is = c.is;
+  fits = c.fits;
 }
 
-pub turned : (program : Program) (nest : Nest) (plan : Plan) (p : List ℤ) (a b : Instance) → StaysWithin program → OfEachText program (λ text. WrittenThroughout program) → IsFor program nest plan.schedule
+pub turned : (program : Program) (nest : Nest) (plan : Plan) (p : List ℤ) (a b : Instance) → IsCompilation program nest plan → OfEachText program (λ text. WrittenThroughout program)
     → IsFirstIllegal nest plan.schedule p a b → OfEachPlan program plan (λ source schedule. RefusalSays source schedule (Illegal p a b))
-turned program nest plan p a b within written asked first schedule has source reads bare = record {
+turned program nest plan p a b c written first schedule has source reads bare = record {
   of = planned program plan schedule has source reads bare;
-  within = within;
+  within = c.within;
   written = written source reads bare;
-  first = first program asked;
+  first = first program (asked_for program nest plan c);
 }
 
 -- what the text of trees tells

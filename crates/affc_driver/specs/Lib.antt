@@ -2,6 +2,7 @@ pub mod Plans
 pub mod Reports
 pub mod Costs
 pub mod Certificates
+pub mod Compilations
 pub mod Folds
 pub mod Accounts
 pub mod Made

@@ -1,5 +1,5 @@
 //! A source, compiled.
-ghost use Rattle.std.specs.Prelude.{◌≡◌, ◌≢◌, ◌≤◌, IfOk, OnOk, IfErr, IsNone, IsTrue, true, List, Option, option_map, Some, None, ℕ, nat_le, Err};
+ghost use Rattle.std.specs.Prelude.{◌≡◌, ◌≢◌, IfOk, IfErr, IsTrue, true, List, Option, option_map, Some, None, ℕ, nat_le, Err};
 ghost use Rattle.affc_ast.specs.Counted.{IsCounted};
 ghost use Rattle.affc_trace.specs.Target.{IsScheduleOf, within_limits};
 ghost use Rattle.affc_domain.specs.Plain.{IsPlain};
@@ -13,7 +13,7 @@ ghost use Rattle.affc_basis.specs.FoldLists.{AreFoldsIn};
 ghost use Rattle.affc_rewrite.specs.Rewrite.{KeepLimits};
 ghost use Rattle.affc_bounds.specs.threshold.Thresholds.{threshold};
 ghost use Rattle.affc_weigh.specs.Choices.{choice_of};
-ghost use Rattle.affc_driver.specs.Accounts.{FoldsAtCost, FoldsCertified, FoldsMade, IsShort, IsPlenty, free, is_plenty, reaches};
+ghost use Rattle.affc_driver.specs.Accounts.{FoldsMade, IsShort, IsPlenty, free, is_plenty, reaches};
 ghost use Rattle.affc_driver.specs.Costs.{cost_in, total_cost};
 ghost use Rattle.affc_driver.specs.Made.{IsCompiled, IsMadeOf};
 ghost use Rattle.affc_driver.specs.Plans.{HasPlan};
@@ -23,7 +23,7 @@ ghost use Rattle.affc_driver.specs.Refusals.{RefusalSays, FlowRefusalSays};
 
 use crate::meaning::{nest_of, stays_within};
 use crate::refusal::Refusal;
-use crate::temporaries::{Decided, folds_under};
+use crate::temporaries::{Compilation, Decided, folds_under};
 use crate::wanted::Wanted;
 use affc_ast::tree::{ArrayId, Program};
 use affc_basis::Fold;
@@ -59,18 +59,11 @@ pub struct Done {
     pub cost: u128,
 }
 
-/// What is made of a source, and a certificate of its folds.
+/// What is made of a source, and a certificate of its folds where one is wanted.
 #[derive(Drop)]
-pub struct CertifiedDone {
+pub struct Made {
     pub done: Done,
-    pub certificate: Vec<u8>,
-}
-
-/// The same, where a certificate may be wanted.
-#[derive(Drop)]
-pub(crate) struct Made {
-    pub(crate) done: Done,
-    pub(crate) certificate: Option<Vec<u8>>,
+    pub certificate: Option<Vec<u8>>,
 }
 
 /// The refusal of a text that is no program.
@@ -216,10 +209,15 @@ fn compile_counted<F: Cost>(
         Ok(()) => {}
         Err(refusal) => return Err(refusal),
     }
+    let compiled = Compilation {
+        program,
+        nest,
+        plan,
+    };
     let Decided {
         folded,
         certificate,
-    } = folds_under(alloc, program, nest, plan, cost, wanted, budget)?;
+    } = folds_under(alloc, &compiled, cost, wanted, budget)?;
     let folds = folded.folds.as_slice();
     let choices = folded.choices.as_slice();
     match finish(alloc, program, nest, plan, folds, choices) {
@@ -323,8 +321,14 @@ fn compile_with<F: Cost>(
     compile(alloc, program, &plan, cost, wanted, budget)
 }
 
-// What is made of a source with a schedule.
-fn make<F: Cost>(
+/// The text that does what the source does, in the order of the schedule and on temporaries that are folded at the least cost among the listed
+/// bases, or why there is none. A unit of the budget is a box of a question that is opened; a budget of at least the threshold of
+/// `affc_bounds::threshold` counts as none.
+///
+/// A certificate, where one is wanted, `affc_accept` accepts for the source's nest and the schedule's plan. The trees of its loads are
+/// then looked for also where there are no temporaries, and all that doesn't rest on the folds is proved before they are looked for: the
+/// budget refuses up to there, and afterwards temporaries are left whole.
+pub fn fold<F: Cost>(
     alloc: Global,
     source: &[u8],
     schedule: Option<&[u8]>,
@@ -348,65 +352,5 @@ fn make<F: Cost>(
             compile_with(alloc, &program, schedule, cost, wanted, budget)
         }
         Err(fault) => Err(unread(fault)),
-    }
-}
-
-/// The text that does what the source does, in the order of the schedule and on temporaries that are folded at the least cost among the listed
-/// bases, or why there is none. A unit of the budget is a box of a question that is opened; a budget of at least the threshold of
-/// `affc_bounds::threshold` counts as none.
-pub fn fold<F: Cost>(
-    alloc: Global,
-    source: &[u8],
-    schedule: Option<&[u8]>,
-    budget: &mut Budget,
-    cost: &Weigher<F>,
-) -> Result<Done, Refusal>
-    ensures ok { IfOk result (λ done. FoldsAtCost (F.answers cost.now.cost) source.now (option_map (λ t. t.now) schedule.entry) budget.new done.text.items done.report.items done.cost) }
-    ensures err { IfErr result (RefusalSays source.now (option_map (λ t. t.now) schedule.entry)) }
-    ensures limit { budget.new.limit ≡ budget.old.limit }
-    ensures grows { budget.old.spent ≤ budget.new.spent }
-    ensures uncounted { IsNone budget.old.limit → budget.new.spent ≡ budget.old.spent }
-    ensures stop { IfErr result (λ refusal. refusal ≡ Refusal.Budget → budget.new.limit ≡ Some budget.new.spent) }
-    ensures short { IfErr result (λ refusal. refusal ≡ Refusal.Budget → IsShort source.now (option_map (λ t. t.now) schedule.entry) budget.new.limit) }
-    ensures plenty { IsPlenty source.now (option_map (λ t. t.now) schedule.entry) budget.old.limit → budget.new ≡ budget.old }
-{
-    let Made {
-        done,
-        certificate: _,
-    } = make(alloc, source, schedule, cost, Wanted::Text, budget)?;
-    Ok(done)
-}
-
-/// The same with a certificate, which `affc_accept` accepts for the source's nest and the schedule's plan. The trees of its loads are
-/// looked for also where there are no temporaries, and all that doesn't rest on the folds is proved before they are looked for: the
-/// budget refuses up to there, and afterwards temporaries are left whole.
-pub fn fold_certified<F: Cost>(
-    alloc: Global,
-    source: &[u8],
-    schedule: Option<&[u8]>,
-    budget: &mut Budget,
-    cost: &Weigher<F>,
-) -> Result<CertifiedDone, Refusal>
-    ensures ok { IfOk result (λ c. FoldsCertified (F.answers cost.now.cost) source.now (option_map (λ t. t.now) schedule.entry) budget.new c.done.text.items c.done.report.items c.certificate.items) }
-    ensures cost { IfOk result (λ c. FoldsAtCost (F.answers cost.now.cost) source.now (option_map (λ t. t.now) schedule.entry) budget.new c.done.text.items c.done.report.items c.done.cost) }
-    ensures err { IfErr result (RefusalSays source.now (option_map (λ t. t.now) schedule.entry)) }
-    ensures limit { budget.new.limit ≡ budget.old.limit }
-    ensures grows { budget.old.spent ≤ budget.new.spent }
-    ensures uncounted { IsNone budget.old.limit → budget.new.spent ≡ budget.old.spent }
-    ensures stop { IfErr result (λ refusal. refusal ≡ Refusal.Budget → budget.new.limit ≡ Some budget.new.spent) }
-    ensures short { IfErr result (λ refusal. refusal ≡ Refusal.Budget → IsShort source.now (option_map (λ t. t.now) schedule.entry) budget.new.limit) }
-    ensures plenty { IsPlenty source.now (option_map (λ t. t.now) schedule.entry) budget.old.limit → budget.new ≡ budget.old }
-{
-    let Made { done, certificate } = make(
-        alloc,
-        source,
-        schedule,
-        cost,
-        Wanted::Certificate,
-        budget,
-    )?;
-    match certificate {
-        Some(certificate) => Ok(CertifiedDone { done, certificate }),
-        None => unreachable!(),
     }
 }

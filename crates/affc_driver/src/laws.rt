@@ -78,7 +78,7 @@ pub fn foldable_is_folded<C: Costing>()
     folds_compile();
 }
 
-/// Such a text is refused for want of budget or of memory, and for nothing else, by `fold` and with a certificate by `fold_certified`.
+/// Such a text is refused for want of budget or of memory, and for nothing else, by `fold`, with a certificate or without.
 pub fn foldable_is_not_refused()
     ensures law { FoldableIsNotRefused }
 {}

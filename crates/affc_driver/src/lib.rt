@@ -7,8 +7,9 @@ pub mod laws;
 mod meaning;
 pub mod refusal;
 mod temporaries;
-mod wanted;
+pub mod wanted;
 
 pub use flowing::flow;
-pub use folding::{CertifiedDone, Done, fold, fold_certified};
+pub use folding::{Done, Made, fold};
 pub use refusal::Refusal;
+pub use wanted::Wanted;

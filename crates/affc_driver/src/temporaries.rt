@@ -1,15 +1,11 @@
 //! The folds of a program's temporaries under the schedule of its plan, once its dataflow and the order are looked at.
-ghost use Rattle.std.specs.Prelude.{◌≡◌, ◌≢◌, IfOk, OnOk, IfErr, IsTrue, Some, [], option_map};
-ghost use Rattle.affc_trace.specs.Target.{IsScheduleOf, within_limits};
-ghost use Rattle.affc_domain.specs.Plain.{IsPlain};
+ghost use Rattle.std.specs.Prelude.{◌≡◌, IfOk, OnOk, IfErr, Some, option_map};
 ghost use Rattle.affc_split.specs.Budgets.{IsLater};
-ghost use Rattle.affc_nest.specs.Laws.{NamesArrays};
-ghost use Rattle.affc_nest.specs.Nests.{nest_of};
-ghost use Rattle.affc_bounds.specs.Faults.{StaysWithin};
 ghost use Rattle.affc_quast.specs.Limits.{narrow, AreTreesWithin};
 ghost use Rattle.affc_quast.specs.Seen.{trees_of};
 ghost use Rattle.affc_folds.specs.Folding.{AreFoldsUnder};
 ghost use Rattle.affc_driver.specs.Certificates.{HasCertificate};
+ghost use Rattle.affc_driver.specs.Compilations.{IsCompilation};
 ghost use Rattle.affc_driver.specs.Flows.{NameThroughout};
 ghost use Rattle.affc_driver.specs.Made.{AreDecided};
 ghost use Rattle.affc_driver.specs.Plans.{LegalThroughout, WrittenThroughout};
@@ -31,6 +27,14 @@ use affc_weigh::{Cost, Weigher};
 use sqlite_items::Items;
 use std::alloc::Global;
 
+/// What is compiled: a plain program that keeps to its arrays, its nest, and a plan of it.
+#[derive(Clone, Copy, Drop)]
+pub(crate) struct Compilation<'a> {
+    pub(crate) program: &'a Program,
+    pub(crate) nest: &'a Nest,
+    pub(crate) plan: &'a Plan,
+}
+
 /// The folds of a program, and a certificate of them where one is wanted.
 #[derive(Drop)]
 pub(crate) struct Decided {
@@ -39,26 +43,15 @@ pub(crate) struct Decided {
 }
 
 // Whether the plan's schedule is legal.
-fn in_order(
-    alloc: Global,
-    program: &Program,
-    nest: &Nest,
-    plan: &Plan,
-    budget: &mut Budget,
-) -> Result<(), Refusal>
-    requires plain { IsPlain program.now }
-    requires arrays { NamesArrays program.now }
-    requires nest { nest.now ≡ nest_of program.now }
-    requires within { StaysWithin program.now }
-    requires written { OfEachText program.now (λ text. WrittenThroughout program.now) }
-    requires fits { IsScheduleOf program.now plan.now.schedule }
-    requires slight { IsTrue (within_limits plan.now.schedule) }
-    ensures legal { OnOk result (LegalThroughout program.now plan.now.schedule) }
-    ensures err { IfErr result (λ refusal. OfEachPlan program.now plan.now (λ text schedule. RefusalSays text schedule refusal)) }
+fn in_order(alloc: Global, compiled: &Compilation<'_>, budget: &mut Budget) -> Result<(), Refusal>
+    requires compiled { IsCompilation compiled.now.program.now compiled.now.nest.now compiled.now.plan.now }
+    requires written { OfEachText compiled.now.program.now (λ text. WrittenThroughout compiled.now.program.now) }
+    ensures legal { OnOk result (LegalThroughout compiled.now.program.now compiled.now.plan.now.schedule) }
+    ensures err { IfErr result (λ refusal. OfEachPlan compiled.now.program.now compiled.now.plan.now (λ text schedule. RefusalSays text schedule refusal)) }
     ensures later { IsLater budget.old budget.new }
     ensures stop { IfErr result (λ refusal. refusal ≡ Refusal.Budget → budget.new.limit ≡ Some budget.new.spent) }
 {
-    match legal(alloc, nest, &plan.schedule, budget) {
+    match legal(alloc, compiled.nest, &compiled.plan.schedule, budget) {
         Ok(_) => Ok(()),
         Err(SchedStop::Illegal { p, a, b }) => Err(Refusal::Illegal { p, a, b }),
         Err(SchedStop::Budget) => Err(Refusal::Budget),
@@ -66,59 +59,33 @@ fn in_order(
     }
 }
 
-// The order where there are no temporaries: there is nothing to fold.
-fn without<F: Cost>(
-    alloc: Global,
-    program: &Program,
-    nest: &Nest,
-    plan: &Plan,
-    cost: &Weigher<F>,
-    budget: &mut Budget,
-) -> Result<Folded, Refusal>
-    requires plain { IsPlain program.now }
-    requires arrays { NamesArrays program.now }
-    requires nest { nest.now ≡ nest_of program.now }
-    requires within { StaysWithin program.now }
-    requires fits { IsScheduleOf program.now plan.now.schedule }
-    requires slight { IsTrue (within_limits plan.now.schedule) }
-    requires none { program.now.temps ≡ [] }
-    ensures decided { IfOk result (λ folded. AreDecided (F.answers cost.now.cost) program.now plan.now budget.new folded.folds folded.choices) }
-    ensures err { IfErr result (λ refusal. OfEachPlan program.now plan.now (λ text schedule. RefusalSays text schedule refusal)) }
-    ensures later { IsLater budget.old budget.new }
-    ensures stop { IfErr result (λ refusal. refusal ≡ Refusal.Budget → budget.new.limit ≡ Some budget.new.spent) }
-{
-    let _cost = cost;
-    in_order(alloc, program, nest, plan, budget)?;
-    let folds = Items::new(alloc);
-    let choices = Items::new(alloc);
-    Ok(Folded { folds, choices })
-}
-
 // The folds, where these trees name the sources of all loads and the plan's schedule is legal.
 fn folds_of<F: Cost>(
     alloc: Global,
-    program: &Program,
-    nest: &Nest,
+    compiled: &Compilation<'_>,
     flow: &Flow,
-    plan: &Plan,
     cost: &Weigher<F>,
     budget: &mut Budget,
 ) -> Result<Folded, Refusal>
-    requires plain { IsPlain program.now }
-    requires arrays { NamesArrays program.now }
-    requires nest { nest.now ≡ nest_of program.now }
-    requires within { StaysWithin program.now }
-    requires fits { IsScheduleOf program.now plan.now.schedule }
-    requires slight { IsTrue (within_limits plan.now.schedule) }
-    requires named { NameThroughout program.now (trees_of flow.now) }
-    requires limits { AreTreesWithin narrow 302 12 nest.now (trees_of flow.now) }
-    ensures folds { IfOk result (λ folded. AreFoldsUnder (F.answers cost.now.cost) program.now plan.now.schedule plan.now.folds budget.new folded.folds folded.choices) }
+    requires compiled { IsCompilation compiled.now.program.now compiled.now.nest.now compiled.now.plan.now }
+    requires named { NameThroughout compiled.now.program.now (trees_of flow.now) }
+    requires limits { AreTreesWithin narrow 302 12 compiled.now.nest.now (trees_of flow.now) }
+    ensures folds { IfOk result (λ folded. AreFoldsUnder (F.answers cost.now.cost) compiled.now.program.now compiled.now.plan.now.schedule compiled.now.plan.now.folds budget.new folded.folds folded.choices) }
     ensures err { IfErr result (λ refusal. refusal ≡ Refusal.Memory) }
     ensures later { IsLater budget.old budget.new }
 {
-    let schedule = &plan.schedule;
-    let bases = plan.folds.as_slice();
-    match fold_all(alloc, program, nest, flow, schedule, bases, cost, budget) {
+    let schedule = &compiled.plan.schedule;
+    let bases = compiled.plan.folds.as_slice();
+    match fold_all(
+        alloc,
+        compiled.program,
+        compiled.nest,
+        flow,
+        schedule,
+        bases,
+        cost,
+        budget,
+    ) {
         Ok(folded) => Ok(folded),
         Err(_) => Err(Refusal::Memory),
     }
@@ -127,81 +94,62 @@ fn folds_of<F: Cost>(
 // The last-write trees, where the plan's schedule is legal too.
 fn trees_in_order(
     alloc: Global,
-    program: &Program,
-    nest: &Nest,
-    plan: &Plan,
+    compiled: &Compilation<'_>,
     budget: &mut Budget,
 ) -> Result<Flow, Refusal>
-    requires plain { IsPlain program.now }
-    requires arrays { NamesArrays program.now }
-    requires nest { nest.now ≡ nest_of program.now }
-    requires within { StaysWithin program.now }
-    requires fits { IsScheduleOf program.now plan.now.schedule }
-    requires slight { IsTrue (within_limits plan.now.schedule) }
-    ensures named { IfOk result (λ flow. NameThroughout program.now (trees_of flow)) }
-    ensures limits { IfOk result (λ flow. AreTreesWithin narrow 302 12 nest.now (trees_of flow)) }
-    ensures legal { OnOk result (LegalThroughout program.now plan.now.schedule) }
-    ensures err { IfErr result (λ refusal. OfEachPlan program.now plan.now (λ text schedule. RefusalSays text schedule refusal)) }
+    requires compiled { IsCompilation compiled.now.program.now compiled.now.nest.now compiled.now.plan.now }
+    ensures named { IfOk result (λ flow. NameThroughout compiled.now.program.now (trees_of flow)) }
+    ensures limits { IfOk result (λ flow. AreTreesWithin narrow 302 12 compiled.now.nest.now (trees_of flow)) }
+    ensures legal { OnOk result (LegalThroughout compiled.now.program.now compiled.now.plan.now.schedule) }
+    ensures err { IfErr result (λ refusal. OfEachPlan compiled.now.program.now compiled.now.plan.now (λ text schedule. RefusalSays text schedule refusal)) }
     ensures later { IsLater budget.old budget.new }
     ensures stop { IfErr result (λ refusal. refusal ≡ Refusal.Budget → budget.new.limit ≡ Some budget.new.spent) }
 {
-    let flow = match trees_within(alloc, program, nest, budget) {
+    let flow = match trees_within(alloc, compiled.program, compiled.nest, budget) {
         Ok(flow) => flow,
         Err(refusal) => return Err(refusal),
     };
-    in_order(alloc, program, nest, plan, budget)?;
+    in_order(alloc, compiled, budget)?;
     Ok(flow)
 }
 
-// The folds alone. Where there are no temporaries no trees are looked for.
+// The folds alone. Where there are no temporaries no trees are looked for, and there is nothing to fold.
 fn folds_alone<F: Cost>(
     alloc: Global,
-    program: &Program,
-    nest: &Nest,
-    plan: &Plan,
+    compiled: &Compilation<'_>,
     cost: &Weigher<F>,
     budget: &mut Budget,
 ) -> Result<Folded, Refusal>
-    requires plain { IsPlain program.now }
-    requires arrays { NamesArrays program.now }
-    requires nest { nest.now ≡ nest_of program.now }
-    requires within { StaysWithin program.now }
-    requires fits { IsScheduleOf program.now plan.now.schedule }
-    requires slight { IsTrue (within_limits plan.now.schedule) }
-    ensures decided { IfOk result (λ folded. AreDecided (F.answers cost.now.cost) program.now plan.now budget.new folded.folds folded.choices) }
-    ensures err { IfErr result (λ refusal. OfEachPlan program.now plan.now (λ text schedule. RefusalSays text schedule refusal)) }
+    requires compiled { IsCompilation compiled.now.program.now compiled.now.nest.now compiled.now.plan.now }
+    ensures decided { IfOk result (λ folded. AreDecided (F.answers cost.now.cost) compiled.now.program.now compiled.now.plan.now budget.new folded.folds folded.choices) }
+    ensures err { IfErr result (λ refusal. OfEachPlan compiled.now.program.now compiled.now.plan.now (λ text schedule. RefusalSays text schedule refusal)) }
     ensures later { IsLater budget.old budget.new }
     ensures stop { IfErr result (λ refusal. refusal ≡ Refusal.Budget → budget.new.limit ≡ Some budget.new.spent) }
 {
-    if program.temps.as_slice().is_empty() {
-        return without(alloc, program, nest, plan, cost, budget);
+    if compiled.program.temps.as_slice().is_empty() {
+        in_order(alloc, compiled, budget)?;
+        let folds = Items::new(alloc);
+        let choices = Items::new(alloc);
+        return Ok(Folded { folds, choices });
     }
-    let flow = trees_in_order(alloc, program, nest, plan, budget)?;
-    let folded = folds_of(alloc, program, nest, &flow, plan, cost, budget)?;
-    Ok(folded)
+    let flow = trees_in_order(alloc, compiled, budget)?;
+    folds_of(alloc, compiled, &flow, cost, budget)
 }
 
 // What is proved for a certificate before the folds are looked for.
 fn drafted(
     alloc: Global,
-    program: &Program,
-    nest: &Nest,
+    compiled: &Compilation<'_>,
     flow: &Flow,
-    plan: &Plan,
     budget: &mut Budget,
 ) -> Result<Draft, Refusal>
-    requires plain { IsPlain program.now }
-    requires arrays { NamesArrays program.now }
-    requires nest { nest.now ≡ nest_of program.now }
-    requires within { StaysWithin program.now }
-    requires fits { IsScheduleOf program.now plan.now.schedule }
-    requires slight { IsTrue (within_limits plan.now.schedule) }
-    requires limits { AreTreesWithin narrow 302 12 nest.now (trees_of flow.now) }
-    ensures err { IfErr result (λ refusal. OfEachPlan program.now plan.now (λ text schedule. RefusalSays text schedule refusal)) }
+    requires compiled { IsCompilation compiled.now.program.now compiled.now.nest.now compiled.now.plan.now }
+    requires limits { AreTreesWithin narrow 302 12 compiled.now.nest.now (trees_of flow.now) }
+    ensures err { IfErr result (λ refusal. OfEachPlan compiled.now.program.now compiled.now.plan.now (λ text schedule. RefusalSays text schedule refusal)) }
     ensures later { IsLater budget.old budget.new }
     ensures stop { IfErr result (λ refusal. refusal ≡ Refusal.Budget → budget.new.limit ≡ Some budget.new.spent) }
 {
-    match make_draft(alloc, nest, flow, &plan.schedule, budget) {
+    match make_draft(alloc, compiled.nest, flow, &compiled.plan.schedule, budget) {
         Ok(draft) => Ok(draft),
         Err(Stop::Budget) => Err(Refusal::Budget),
         Err(Stop::Memory) => Err(Refusal::Memory),
@@ -212,28 +160,29 @@ fn drafted(
 // folds is proved before they are looked for.
 fn certified_folds<F: Cost>(
     alloc: Global,
-    program: &Program,
-    nest: &Nest,
-    plan: &Plan,
+    compiled: &Compilation<'_>,
     cost: &Weigher<F>,
     budget: &mut Budget,
 ) -> Result<Decided, Refusal>
-    requires plain { IsPlain program.now }
-    requires arrays { NamesArrays program.now }
-    requires nest { nest.now ≡ nest_of program.now }
-    requires within { StaysWithin program.now }
-    requires fits { IsScheduleOf program.now plan.now.schedule }
-    requires slight { IsTrue (within_limits plan.now.schedule) }
-    ensures decided { IfOk result (λ d. AreDecided (F.answers cost.now.cost) program.now plan.now budget.new d.folded.folds d.folded.choices) }
-    ensures certified { IfOk result (λ d. HasCertificate Wanted.Certificate nest.now plan.now (option_map (λ t. t.items) d.certificate) d.folded.folds) }
-    ensures err { IfErr result (λ refusal. OfEachPlan program.now plan.now (λ text schedule. RefusalSays text schedule refusal)) }
+    requires compiled { IsCompilation compiled.now.program.now compiled.now.nest.now compiled.now.plan.now }
+    ensures decided { IfOk result (λ d. AreDecided (F.answers cost.now.cost) compiled.now.program.now compiled.now.plan.now budget.new d.folded.folds d.folded.choices) }
+    ensures certified { IfOk result (λ d. HasCertificate Wanted.Certificate compiled.now.nest.now compiled.now.plan.now (option_map (λ t. t.items) d.certificate) d.folded.folds) }
+    ensures err { IfErr result (λ refusal. OfEachPlan compiled.now.program.now compiled.now.plan.now (λ text schedule. RefusalSays text schedule refusal)) }
     ensures later { IsLater budget.old budget.new }
     ensures stop { IfErr result (λ refusal. refusal ≡ Refusal.Budget → budget.new.limit ≡ Some budget.new.spent) }
 {
-    let flow = trees_in_order(alloc, program, nest, plan, budget)?;
-    let draft = drafted(alloc, program, nest, &flow, plan, budget)?;
-    let Folded { folds, choices } = folds_of(alloc, program, nest, &flow, plan, cost, budget)?;
-    match certify(alloc, nest, plan, flow, draft, folds, budget) {
+    let flow = trees_in_order(alloc, compiled, budget)?;
+    let draft = drafted(alloc, compiled, &flow, budget)?;
+    let Folded { folds, choices } = folds_of(alloc, compiled, &flow, cost, budget)?;
+    match certify(
+        alloc,
+        compiled.nest,
+        compiled.plan,
+        flow,
+        draft,
+        folds,
+        budget,
+    ) {
         Ok(Certified { text, folds }) => Ok(Decided {
             folded: Folded { folds, choices },
             certificate: Some(text),
@@ -246,33 +195,26 @@ fn certified_folds<F: Cost>(
 /// and then the order.
 pub(crate) fn folds_under<F: Cost>(
     alloc: Global,
-    program: &Program,
-    nest: &Nest,
-    plan: &Plan,
+    compiled: &Compilation<'_>,
     cost: &Weigher<F>,
     wanted: Wanted,
     budget: &mut Budget,
 ) -> Result<Decided, Refusal>
-    requires plain { IsPlain program.now }
-    requires arrays { NamesArrays program.now }
-    requires nest { nest.now ≡ nest_of program.now }
-    requires within { StaysWithin program.now }
-    requires fits { IsScheduleOf program.now plan.now.schedule }
-    requires slight { IsTrue (within_limits plan.now.schedule) }
-    ensures decided { IfOk result (λ d. AreDecided (F.answers cost.now.cost) program.now plan.now budget.new d.folded.folds d.folded.choices) }
-    ensures certified { IfOk result (λ d. HasCertificate wanted nest.now plan.now (option_map (λ t. t.items) d.certificate) d.folded.folds) }
-    ensures err { IfErr result (λ refusal. OfEachPlan program.now plan.now (λ text schedule. RefusalSays text schedule refusal)) }
+    requires compiled { IsCompilation compiled.now.program.now compiled.now.nest.now compiled.now.plan.now }
+    ensures decided { IfOk result (λ d. AreDecided (F.answers cost.now.cost) compiled.now.program.now compiled.now.plan.now budget.new d.folded.folds d.folded.choices) }
+    ensures certified { IfOk result (λ d. HasCertificate wanted compiled.now.nest.now compiled.now.plan.now (option_map (λ t. t.items) d.certificate) d.folded.folds) }
+    ensures err { IfErr result (λ refusal. OfEachPlan compiled.now.program.now compiled.now.plan.now (λ text schedule. RefusalSays text schedule refusal)) }
     ensures later { IsLater budget.old budget.new }
     ensures stop { IfErr result (λ refusal. refusal ≡ Refusal.Budget → budget.new.limit ≡ Some budget.new.spent) }
 {
     match wanted {
         Wanted::Text => {
-            let folded = folds_alone(alloc, program, nest, plan, cost, budget)?;
+            let folded = folds_alone(alloc, compiled, cost, budget)?;
             Ok(Decided {
                 folded,
                 certificate: None,
             })
         }
-        Wanted::Certificate => certified_folds(alloc, program, nest, plan, cost, budget),
+        Wanted::Certificate => certified_folds(alloc, compiled, cost, budget),
     }
 }

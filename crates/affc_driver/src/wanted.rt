@@ -2,7 +2,7 @@
 
 /// Whether a certificate is made beside the text.
 #[derive(Clone, Copy)]
-pub(crate) enum Wanted {
+pub enum Wanted {
     Text,
     Certificate,
 }

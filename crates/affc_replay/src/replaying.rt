@@ -12,7 +12,7 @@ ghost use Rattle.affc_accept.specs.Accepted.{IsAccepted};
 ghost use Rattle.affc_driver.specs.Plans.{HasPlan};
 ghost use Rattle.affc_driver.specs.Printed.{ReadsPrinted};
 ghost use Rattle.affc_driver.specs.Programs.{OfEachText};
-ghost use Rattle.affc_replay.specs.Made.{HasOwnTemporaries, IsDecided, IsReplayed};
+ghost use Rattle.affc_replay.specs.Made.{HasOwnTemporaries, IsDecided, IsReplayed, IsReplaying};
 ghost use Rattle.affc_replay.specs.Refusals.{printed_said, ReplayRefuses};
 ghost use Rattle.affc_replay.specs.Replays.{ReplaysTo};
 
@@ -32,6 +32,15 @@ use affc_parse::parse;
 use affc_plan::read;
 use affc_schedtext::{Plan, SchedFault};
 use std::alloc::Global;
+
+/// What is replayed: a plain program whose iterators keep their ranges, its nest, a plan of it, and the text of a certificate.
+#[derive(Clone, Copy, Drop)]
+struct Replaying<'a> {
+    program: &'a Program,
+    nest: &'a Nest,
+    plan: &'a Plan,
+    certificate: &'a [u8],
+}
 
 /// What is made of a source by a certificate.
 #[derive(Drop)]
@@ -119,24 +128,12 @@ fn nest_of(alloc: Global, program: &Program) -> Result<Nest, Refusal>
 }
 
 // What a certificate shows.
-fn accepted(
-    alloc: Global,
-    program: &Program,
-    nest: &Nest,
-    plan: &Plan,
-    certificate: &[u8],
-) -> Result<Checked, Refusal>
-    requires plain { IsPlain program.now }
-    requires arrays { NamesArrays program.now }
-    requires near { first_wide program.now ≡ None }
-    requires nest { nest.now ≡ nest_of program.now }
-    requires fits { IsScheduleOf program.now plan.now.schedule }
-    requires slight { IsTrue (within_limits plan.now.schedule) }
-    ensures ok { IfOk result (λ checked. IsAccepted nest.now plan.now certificate.now checked.folds.items) }
-    ensures err { IfErr result (λ refusal. (schedule : List ℕ) → HasPlan program.now (Some schedule) plan.now → OfEachText program.now (λ text. ReplayRefuses text schedule certificate.now refusal)) }
+fn accepted(alloc: Global, replaying: &Replaying<'_>) -> Result<Checked, Refusal>
+    requires replaying { IsReplaying replaying.now.program.now replaying.now.nest.now replaying.now.plan.now }
+    ensures ok { IfOk result (λ checked. IsAccepted replaying.now.nest.now replaying.now.plan.now replaying.now.certificate.now checked.folds.items) }
+    ensures err { IfErr result (λ refusal. (schedule : List ℕ) → HasPlan replaying.now.program.now (Some schedule) replaying.now.plan.now → OfEachText replaying.now.program.now (λ text. ReplayRefuses text schedule replaying.now.certificate.now refusal)) }
 {
-    let _program = program;
-    match accept(alloc, nest, plan, certificate) {
+    match accept(alloc, replaying.nest, replaying.plan, replaying.certificate) {
         Ok(checked) => Ok(checked),
         Err(AcceptFault::Certificate(fault)) => Err(Refusal::Certificate(fault)),
         Err(AcceptFault::Check(fault)) => Err(Refusal::Check(fault)),
@@ -145,49 +142,37 @@ fn accepted(
 }
 
 // The folds that a certificate shows, with those of temporaries without dimensions.
-fn folds_of(
-    alloc: Global,
-    program: &Program,
-    nest: &Nest,
-    plan: &Plan,
-    certificate: &[u8],
-) -> Result<Vec<(ArrayId, Fold)>, Refusal>
-    requires plain { IsPlain program.now }
-    requires arrays { NamesArrays program.now }
-    requires temporaries { HasOwnTemporaries program.now }
-    requires near { first_wide program.now ≡ None }
-    requires nest { nest.now ≡ nest_of program.now }
-    requires fits { IsScheduleOf program.now plan.now.schedule }
-    requires slight { IsTrue (within_limits plan.now.schedule) }
-    ensures decided { IfOk result (λ folds. IsDecided program.now plan.now certificate.now folds.items) }
-    ensures err { IfErr result (λ refusal. (schedule : List ℕ) → HasPlan program.now (Some schedule) plan.now → OfEachText program.now (λ text. ReplayRefuses text schedule certificate.now refusal)) }
+fn folds_of(alloc: Global, replaying: &Replaying<'_>) -> Result<Vec<(ArrayId, Fold)>, Refusal>
+    requires replaying { IsReplaying replaying.now.program.now replaying.now.nest.now replaying.now.plan.now }
+    ensures decided { IfOk result (λ folds. IsDecided replaying.now.program.now replaying.now.plan.now replaying.now.certificate.now folds.items) }
+    ensures err { IfErr result (λ refusal. (schedule : List ℕ) → HasPlan replaying.now.program.now (Some schedule) replaying.now.plan.now → OfEachText replaying.now.program.now (λ text. ReplayRefuses text schedule replaying.now.certificate.now refusal)) }
 {
-    let checked = accepted(alloc, program, nest, plan, certificate)?;
+    let checked = accepted(alloc, replaying)?;
     let Checked { folds: shown } = checked;
     let mut folds = shown;
-    add_scalars(alloc, 0, nest.arrays.as_slice(), &mut folds)?;
+    add_scalars(alloc, 0, replaying.nest.arrays.as_slice(), &mut folds)?;
     Ok(folds)
 }
 
 // What is printed with these folds.
 fn written(
     alloc: Global,
-    program: &Program,
-    nest: &Nest,
-    plan: &Plan,
+    replaying: &Replaying<'_>,
     folds: &[(ArrayId, Fold)],
-    certificate: &[u8],
 ) -> Result<Replayed, Refusal>
-    requires plain { IsPlain program.now }
-    requires nest { nest.now ≡ nest_of program.now }
-    requires fits { IsScheduleOf program.now plan.now.schedule }
-    requires slight { IsTrue (within_limits plan.now.schedule) }
-    requires decided { IsDecided program.now plan.now certificate.now folds.now }
-    ensures ok { IfOk result (λ r. IsReplayed program.now plan.now certificate.now r.text.items r.report.items) }
+    requires replaying { IsReplaying replaying.now.program.now replaying.now.nest.now replaying.now.plan.now }
+    requires decided { IsDecided replaying.now.program.now replaying.now.plan.now replaying.now.certificate.now folds.now }
+    ensures ok { IfOk result (λ r. IsReplayed replaying.now.program.now replaying.now.plan.now replaying.now.certificate.now r.text.items r.report.items) }
     ensures err { IfErr result (λ refusal. refusal ≡ Refusal.Memory) }
 {
-    let _certificate = certificate;
-    match finish(alloc, program, nest, plan, folds, &[]) {
+    match finish(
+        alloc,
+        replaying.program,
+        replaying.nest,
+        replaying.plan,
+        folds,
+        &[],
+    ) {
         Ok(done) => Ok(Replayed {
             text: done.text,
             report: done.report,
@@ -212,8 +197,14 @@ fn replay_by(
     ensures err { IfErr result (λ refusal. (schedule : List ℕ) → HasPlan program.now (Some schedule) plan.now → OfEachText program.now (λ text. ReplayRefuses text schedule certificate.now refusal)) }
 {
     let nest = nest_of(alloc, program)?;
-    let folds = folds_of(alloc, program, &nest, plan, certificate)?;
-    written(alloc, program, &nest, plan, folds.as_slice(), certificate)
+    let replaying = Replaying {
+        program,
+        nest: &nest,
+        plan,
+        certificate,
+    };
+    let folds = folds_of(alloc, &replaying)?;
+    written(alloc, &replaying, folds.as_slice())
 }
 
 // The same with the schedule's text, which is read first.

@@ -8,7 +8,14 @@ pub returns-in-Ok-clause-ok : goal.returns-in-Ok-clause-ok
 returns-in-Ok-clause-ok c = record {
   left = c.fold_named.new.units;
   limit = c.fold_named.ensures.limit ∙ ap (λ (b : Account). b.limit) c.new-units.ensures;
-  folds_to = c.in-Ok.ensures.ok;
+  folds = c.in-Ok.ensures.ok;
+}
+
+pub returns-in-Ok-clause-within : goal.returns-in-Ok-clause-within
+returns-in-Ok-clause-within c = record {
+  left = c.fold_named.new.units;
+  limit = c.fold_named.ensures.limit ∙ ap (λ (b : Account). b.limit) c.new-units.ensures;
+  folds_to = c.in-Ok.ensures.ok.at_cost;
 }
 
 pub told-requires-clause-short : goal.told-requires-clause-short

@@ -26,3 +26,15 @@ returns-in-Ok-finish-clause-ok g c =
           subst (λ folds. HasCertificate c.args.wanted (nest_of c.args.program.now) c.args.plan.now (option_map (λ text. text.items) c.in_ok-folded.field-0.certificate) folds) (sym c.as_slice-folds.ensures)
           (subst (λ nest. HasCertificate c.args.wanted nest c.args.plan.now (option_map (λ text. text.items) c.in_ok-folded.field-0.certificate) c.in_ok-folded.field-0.folded.folds) c.requires.nest c.in_ok-folded.ensures.certified);
     }
+
+pub folds_under-requires : goal.folds_under-requires
+folds_under-requires g c = record {
+  compiled = record {
+    plain = c.requires.plain;
+    arrays = c.requires.arrays;
+    is = c.requires.nest;
+    within = c.in-Ok.ensures.within;
+    fits = c.requires.fits;
+    slight = c.requires.slight;
+  };
+}

@@ -3,16 +3,15 @@ use Rattle.affc_driver.proofs.temporaries.in_order.Goals as goal
 
 pub legal-requires : goal.legal-requires
 legal-requires c = record {
-  asked = asked c.args.program.now c.args.nest.now c.args.plan.now.schedule c.requires.plain c.requires.arrays c.requires.nest c.requires.within c.requires.fits c.requires.slight;
+  asked = asked c.args.compiled.now.program.now c.args.compiled.now.nest.now c.args.compiled.now.plan.now c.requires.compiled;
 }
 
 pub returns-in-Ok-clause-legal : goal.returns-in-Ok-clause-legal
 returns-in-Ok-clause-legal c =
-    c.in-Ok.ensures.legal c.args.program.now
-    (asked_for c.args.program.now c.args.nest.now c.args.plan.now.schedule c.requires.plain c.requires.arrays c.requires.nest c.requires.within c.requires.fits)
+    c.in-Ok.ensures.legal c.args.compiled.now.program.now
+    (asked_for c.args.compiled.now.program.now c.args.compiled.now.nest.now c.args.compiled.now.plan.now c.requires.compiled)
 
 pub returns-in-Err-Illegal-clause-err : goal.returns-in-Err-Illegal-clause-err
 returns-in-Err-Illegal-clause-err c =
-    turned c.args.program.now c.args.nest.now c.args.plan.now c.in-Err-Illegal.p c.in-Err-Illegal.a c.in-Err-Illegal.b c.requires.within c.requires.written
-    (asked_for c.args.program.now c.args.nest.now c.args.plan.now.schedule c.requires.plain c.requires.arrays c.requires.nest c.requires.within c.requires.fits)
+    turned c.args.compiled.now.program.now c.args.compiled.now.nest.now c.args.compiled.now.plan.now c.in-Err-Illegal.p c.in-Err-Illegal.a c.in-Err-Illegal.b c.requires.compiled c.requires.written
     (rw c.in-Err-Illegal.field-0-is at c.in-Err-Illegal.ensures.illegal)

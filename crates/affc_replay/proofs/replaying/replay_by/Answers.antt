@@ -15,3 +15,27 @@ pub returns-in_err-nest-clause-err : goal.returns-in_err-nest-clause-err
 returns-in_err-nest-clause-err c =
     let p = err_from_is_err_and c.from_residual.result c.from_residual.ensures.1 in
     rw (p.1, p.2) (λ schedule planned. c.in_err-nest.ensures.err c.args.plan.now schedule c.args.certificate.now planned)
+
+pub folds_of-requires : goal.folds_of-requires
+folds_of-requires c = record {
+  replaying = record {
+    plain = c.requires.plain;
+    arrays = c.requires.arrays;
+    temporaries = c.requires.temporaries;
+    near = c.in_ok-nest.ensures.near;
+    is = c.in_ok-nest.ensures.nest;
+    fits = c.requires.fits;
+    slight = c.requires.slight;
+  };
+}
+
+pub written-requires-clause-replaying : goal.written-requires-clause-replaying
+written-requires-clause-replaying c = record {
+  plain = c.requires.plain;
+  arrays = c.requires.arrays;
+  temporaries = c.requires.temporaries;
+  near = c.in_ok-nest.ensures.near;
+  is = c.in_ok-nest.ensures.nest;
+  fits = c.requires.fits;
+  slight = c.requires.slight;
+}

@@ -11,3 +11,15 @@ finish-requires-clause-limits c = c.requires.decided.fold_all.limits
 
 pub returns-in-Ok-clause-ok : goal.returns-in-Ok-clause-ok
 returns-in-Ok-clause-ok c = record { folds = c.args.folds.now; decided = c.requires.decided; made = c.in-Ok.ensures.ok }
+
+pub finish-requires-clause-plain : goal.finish-requires-clause-plain
+finish-requires-clause-plain c = c.requires.replaying.plain
+
+pub finish-requires-clause-nest : goal.finish-requires-clause-nest
+finish-requires-clause-nest c = c.requires.replaying.is
+
+pub finish-requires-clause-fits : goal.finish-requires-clause-fits
+finish-requires-clause-fits c = c.requires.replaying.fits
+
+pub finish-requires-clause-slight : goal.finish-requires-clause-slight
+finish-requires-clause-slight c = c.requires.replaying.slight
