@@ -13,7 +13,7 @@ the moduli at each value it has looked at.
 import math
 import sys
 
-from sources import Schedule, Source, U
+from sources import LISTED, Schedule, Source, U
 
 
 def live_pairs(source, schedule, p):
@@ -53,15 +53,6 @@ def greatest(pairs, places):
         pairs = [(x, y) for x, y in pairs if places[x][k] == places[y][k]]
     return out
 
-
-LISTED = {
-    0: [()],
-    1: [('x0',)],
-    2: [('x0', 'x1'), ('x1', 'x0'), ('x0 + x1', 'x1'), ('x0 - x1', 'x1'),
-        ('x0 + 2 * x1', 'x1'), ('x0 - 2 * x1', 'x1'), ('2 * x0 + x1', 'x0'), ('2 * x0 - x1', 'x0')],
-    3: [('x0', 'x1', 'x2'), ('x0', 'x2', 'x1'), ('x1', 'x0', 'x2'), ('x1', 'x2', 'x0'), ('x2', 'x0', 'x1'), ('x2', 'x1', 'x0')],
-    4: [('x0', 'x1', 'x2', 'x3')],
-}
 
 COSTS = {
     'words': math.prod,

@@ -5,6 +5,17 @@ import re
 TOKEN = re.compile(r'\d+ULL|\d+|\w+|<<|>>|<=|>=|==|&&|\+\+|[-+*&|^]=|\S')
 
 
+# The bases that are listed for a temporary of so many dimensions, in their order.
+LISTED = {
+    0: [()],
+    1: [('x0',)],
+    2: [('x0', 'x1'), ('x1', 'x0'), ('x0 + x1', 'x1'), ('x0 - x1', 'x1'),
+        ('x0 + 2 * x1', 'x1'), ('x0 - 2 * x1', 'x1'), ('2 * x0 + x1', 'x0'), ('2 * x0 - x1', 'x0')],
+    3: [('x0', 'x1', 'x2'), ('x0', 'x2', 'x1'), ('x1', 'x0', 'x2'), ('x1', 'x2', 'x0'), ('x2', 'x0', 'x1'), ('x2', 'x1', 'x0')],
+    4: [('x0', 'x1', 'x2', 'x3')],
+}
+
+
 class U(int):
     """A number of uint64_t."""
 
@@ -146,12 +157,13 @@ class Schedule:
     """An order, and the rows of the bases that are given."""
 
     def __init__(self, text, source):
-        self.times, self.rows = None, {}
+        self.times, self.forms, self.rows = None, {}, {}
         for word, forms in re.findall(r'(?:^|;)\s*(S\d+|fold \w+):\s*\((.*?)\);', text.replace('\n', ' ').replace(';', ';;')):
             if word.startswith('fold '):
                 self.rows[word[5:]] = forms.split(',')
             else:
                 self.times = self.times or {}
+                self.forms[int(word[1:])] = forms
                 self.times[int(word[1:])] = compile(f'({forms},)', word, 'eval')
 
     def target(self, source, p, trace):
