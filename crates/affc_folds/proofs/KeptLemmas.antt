@@ -1,11 +1,10 @@
 -- Systems without a point have no pairs.
-use Rattle.std.proofs.Common.{◌≡◌, ℕ, zero, suc, ◌+◌, ◌*◌, ◌<◌, ◌≤◌, ℤ, List, [], ◌∷◌, ◌++◌, length, take, refl, sym, ap, subst, ◌∙◌, ◌⊎◌, inl, inr, arith}
+use Rattle.std.proofs.Common.{◌≡◌, ℕ, zero, suc, ◌+◌, ◌*◌, ◌<◌, ◌≤◌, ℤ, List, [], ◌∷◌, ◌++◌, length, take, refl, sym, ap, subst, append_assoc, ◌∙◌, ◌⊎◌, inl, inr, arith}
 use Rattle.std.specs.Prelude.{slice_index_or}
-use Rattle.std.proofs.lemmas.List.{take_more}
 use Rattle.std.specs.List.{All, Contains}
-use Rattle.std.proofs.lemmas.List.Elements.{All-weaker, All-contains, All-contains_itself, Contains-append_left, Contains-append_right, Contains-append_cases}
+use Rattle.std.proofs.lemmas.List.Elements.{All-nil, All-cons, All-weaker, All-contains, All-contains_itself, Contains-append_left, Contains-append_right, Contains-append_cases}
 use Rattle.affc_rows.specs.Forms.{Affine, values_of}
-use Rattle.affc_system.specs.Systems.{Rows, IsPoint, HasNoPoint}
+use Rattle.affc_system.specs.Systems.{Rows, IsPoint}
 use Rattle.affc_system.specs.Pairs.{IsBoxed}
 use Rattle.affc_system.specs.ElementPairs.{IsPairAt, IsPairOf}
 use Rattle.affc_system.specs.declared.pairs.PairSystem.{PairSystem}
@@ -13,7 +12,7 @@ use Rattle.affc_ast.specs.declared.tree.Program.{Program}
 use Rattle.affc_trace.specs.declared.schedule.Schedule.{Schedule}
 use Rattle.affc_nest.specs.declared.nest.Nest.{Nest}
 use Rattle.affc_conflicts.specs.Conditions.{LiesWithin, IsConflict}
-use Rattle.affc_folds.specs.Systems.{AreLive, IsCopy, AreKept}
+use Rattle.affc_folds.specs.Systems.{AreLive, IsCopy, IsVoid, AreKept, Adds}
 
 -- ---- One copy
 
@@ -67,56 +66,64 @@ the_one s new h = by_place h.0 h.1 h.2
 itself : (s : PairSystem) → Contains (s ∷ []) s
 itself s = (0, omega arith, refl)
 
-module _ (systems kept : List PairSystem) (h : AreKept systems kept) (new : PairSystem) where
-  pub one_passed : HasNoPoint new.system → AreKept (systems ++ new ∷ []) kept
-  one_passed none = record {
-    copies = λ s i. let r = h.copies s i in (r.0, Contains-append_left systems (new ∷ []) r.0 r.1, r.2);
-    all = λ of i. elim (Contains-append_cases systems (new ∷ []) of i) [
-      | inl j ↦ h.all of j
-      | inr j ↦ inl (subst (λ (s : PairSystem). HasNoPoint s.system) (sym (the_one of new j)) none)
-    ];
-  }
+-- systems more without a point
+pub all_passed : (more all : List PairSystem) → All IsVoid more → Adds more all all
+all_passed more all none systems h = record {
+  copies = λ s i. let r = h.copies s i in (r.0, Contains-append_left systems more r.0 r.1, r.2);
+  all = λ of i. elim (Contains-append_cases systems more of i) [ inl j ↦ h.all of j | inr j ↦ inl (All-contains IsVoid more of none j) ];
+}
 
-  pub one_kept : (copy : PairSystem) → IsCopy new copy → AreKept (systems ++ new ∷ []) (kept ++ copy ∷ [])
-  one_kept copy c = record {
-    copies = λ s i. elim (Contains-append_cases kept (copy ∷ []) s i) [
-      | inl j ↦ (let r = h.copies s j in (r.0, Contains-append_left systems (new ∷ []) r.0 r.1, r.2))
-      | inr j ↦ (new, Contains-append_right systems (new ∷ []) new (itself new), subst (IsCopy new) (sym (the_one s copy j)) c)
-    ];
-    all = λ of i. elim (Contains-append_cases systems (new ∷ []) of i) [
-      | inl j ↦ elim (h.all of j) [ inl none ↦ inl none | inr r ↦ inr (r.0, Contains-append_left kept (copy ∷ []) r.0 r.1, r.2) ]
-      | inr j ↦ inr (copy, Contains-append_right kept (copy ∷ []) copy (itself copy), subst (λ (o : PairSystem). IsCopy o copy) (sym (the_one of new j)) c)
-    ];
-  }
+-- one system more, without a point
+pub one_passed : (new : PairSystem) (all : List PairSystem) → IsVoid new → Adds (new ∷ []) all all
+one_passed new all none = all_passed (new ∷ []) all (All-cons IsVoid new [] none (All-nil IsVoid))
 
--- one system more of a list
-pub next_kept : (systems : List PairSystem) (i : ℕ) (new : PairSystem) → i < length systems → new ≡ slice_index_or systems i new → (all : List PairSystem) → AreKept (take i systems ++ new ∷ []) all → AreKept (take (i + 1) systems) all
-next_kept systems i new under is all h = subst (λ ss. AreKept ss all) (sym (take_more systems i new under ∙ ap (λ s. take i systems ++ s ∷ []) (sym is))) h
+-- one system more, of which there is a copy
+pub one_kept : (new copy : PairSystem) (all : List PairSystem) → IsCopy new copy → Adds (new ∷ []) all (all ++ copy ∷ [])
+one_kept new copy all c systems h = record {
+  copies = λ s i. elim (Contains-append_cases all (copy ∷ []) s i) [
+    | inl j ↦ (let r = h.copies s j in (r.0, Contains-append_left systems (new ∷ []) r.0 r.1, r.2))
+    | inr j ↦ (new, Contains-append_right systems (new ∷ []) new (itself new), subst (IsCopy new) (sym (the_one s copy j)) c)
+  ];
+  all = λ of i. elim (Contains-append_cases systems (new ∷ []) of i) [
+    | inl j ↦ elim (h.all of j) [ inl none ↦ inl none | inr r ↦ inr (r.0, Contains-append_left all (copy ∷ []) r.0 r.1, r.2) ]
+    | inr j ↦ inr (copy, Contains-append_right all (copy ∷ []) copy (itself copy), subst (λ (o : PairSystem). IsCopy o copy) (sym (the_one of new j)) c)
+  ];
+}
+
+-- these systems, and then those
+pub both_added : (first second more old between new : List PairSystem) → more ≡ first ++ second → Adds first old between → Adds second between new → Adds more old new
+both_added first second more old between new e f g systems h =
+    subst (λ c. AreKept (systems ++ c) new) (sym e) (subst (λ ss. AreKept ss new) (append_assoc systems first second) (g (systems ++ first) (f systems h)))
 
 -- ---- Live pairs
 
 pub all_boxed : (context : Rows) (ranges : List (ℤ × ℤ)) (extents : List Affine) (systems : List PairSystem) → All (IsConflict context ranges extents) systems → All (λ (s : PairSystem). IsBoxed s.system s.ranges) systems
 all_boxed context ranges extents systems h = All-weaker (IsConflict context ranges extents) (λ (s : PairSystem). IsBoxed s.system s.ranges) (λ s i. i.boxed) systems h
 
-module _ (systems kept : List PairSystem) (h : AreKept systems kept) where
+module _ (systems kept : List PairSystem) (h : AreKept systems kept) (boxed : All (λ (s : PairSystem). IsBoxed s.system s.ranges) systems) where
   pairs_of : (p x y : List ℤ) → IsPairOf kept p x y → IsPairOf systems p x y
   pairs_of p x y i =
       let r = h.copies i.system i.there in
       record { system = r.0; there = r.1; either = elim i.either [ inl a ↦ inl (pair_of r.0 i.system r.2 p x y a) | inr b ↦ inr (pair_of r.0 i.system r.2 p y x b) ] }
 
-  point_at : (s : PairSystem) (p x y : List ℤ) → IsPairAt s p x y ⊎ IsPairAt s p y x → HasNoPoint s.system → ⊥
-  point_at s p x y either none = elim either [ inl a ↦ none a.point a.meets | inr b ↦ none b.point b.meets ]
+  point_at : (s : PairSystem) (p x y : List ℤ) → IsBoxed s.system s.ranges → IsPairAt s p x y ⊎ IsPairAt s p y x → IsVoid s → ⊥
+  point_at s p x y b either none = elim either [ inl a ↦ none a.point (b.holds a.point a.meets) a.meets | inr c ↦ none c.point (b.holds c.point c.meets) c.meets ]
 
   pairs_in : (p x y : List ℤ) → IsPairOf systems p x y → IsPairOf kept p x y
   pairs_in p x y i = elim (h.all i.system i.there) [
-    | inl none ↦ absurd (point_at i.system p x y i.either none)
+    | inl none ↦ absurd (point_at i.system p x y (All-contains (λ (s : PairSystem). IsBoxed s.system s.ranges) systems i.system boxed i.there) i.either none)
     | inr r ↦ record { system = r.0; there = r.1; either = elim i.either [ inl a ↦ inl (pair_in i.system r.0 r.2 p x y a) | inr b ↦ inr (pair_in i.system r.0 r.2 p y x b) ] }
   ]
 
-  pub kept_live : (program : Program) (schedule : Schedule) (nest : Nest) (array : ℕ) (extents : List Affine) → AreLive program schedule nest array extents systems → AreLive program schedule nest array extents kept
-  kept_live program schedule nest array extents l = record {
+  are_live : (program : Program) (schedule : Schedule) (nest : Nest) (array : ℕ) (extents : List Affine) → AreLive program schedule nest array extents systems → AreLive program schedule nest array extents kept
+  are_live program schedule nest array extents l = record {
     conflicts = All-weaker (Contains kept) (IsConflict nest.context nest.params extents) (λ s i.
         let r = h.copies s i in
         conflict_in r.0 s r.2 nest.context nest.params extents (All-contains (IsConflict nest.context nest.params extents) systems r.0 l.conflicts r.1)) kept (All-contains_itself kept);
     pairs = λ p inside x y. (λ i. (l.pairs p inside x y).0 (pairs_of p x y i), λ i. pairs_in p x y ((l.pairs p inside x y).1 i));
   }
+
+pub kept_live : (systems kept : List PairSystem) → AreKept systems kept → (program : Program) (schedule : Schedule) (nest : Nest) (array : ℕ) (extents : List Affine) → AreLive program schedule nest array extents systems
+    → AreLive program schedule nest array extents kept
+kept_live systems kept h program schedule nest array extents l =
+    are_live systems kept h (all_boxed nest.context nest.params extents systems l.conflicts) program schedule nest array extents l

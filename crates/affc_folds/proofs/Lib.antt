@@ -3,4 +3,5 @@ pub mod ListLemmas
 pub mod ExampleProofs
 pub mod CheapestLemmas
 pub mod KeptLemmas
+pub mod ChoiceLemmas
 pub mod TryLemmas

@@ -1,39 +1,50 @@
-//! The live pairs of an array, as systems of which none is without a point.
-ghost use Rattle.std.specs.Prelude.{◌≡◌, List, [], ◌∷◌, ◌++◌, ℤ, IsTrue, IfOk, IfErr, OnOk, IfNone, IfSome, Some, map, slice_get};
+//! The live pairs of an array, as systems from products: what is seen to have no point isn't written out.
+ghost use Rattle.std.specs.Prelude.{◌≡◌, ◌+◌, ◌≤◌, List, [], ◌∷◌, ◌++◌, ℤ, IsTrue, IfOk, IfErr, OnOk, Some, length, map, flat_map, slice_get};
 ghost use Rattle.std.specs.List.{All};
-ghost use Rattle.affc_system.specs.Pairs.{IsBoxed};
-ghost use Rattle.affc_system.specs.Systems.{HasNoPoint};
-ghost use Rattle.affc_system.specs.declared.pairs.PairSystem.{PairSystem as OneSystem};
+ghost use Rattle.affc_system.specs.Systems.{IsRow};
 ghost use Rattle.affc_split.specs.Budgets.{IsLater};
 ghost use Rattle.affc_split.specs.maximum.Regions.{InRegion};
 ghost use Rattle.affc_quast.specs.Seen.{trees_of};
+ghost use Rattle.affc_products.specs.Products.{longest, tallest};
 ghost use Rattle.affc_life.specs.Clashes.{clash_of, clashes};
+ghost use Rattle.affc_life.specs.Products.{systems_in};
 ghost use Rattle.affc_folds.specs.Folding.{IsAnalysed, IsSpent};
-ghost use Rattle.affc_folds.specs.Systems.{AreLive, IsCopy, AreKept};
+ghost use Rattle.affc_folds.specs.Systems.{AreLive, IsCopy, AreKept, Adds, IsOver, KeepsRoom, chosen_system, choices_behind};
 
 use crate::asked::Asked;
 use affc_ast::tree::ArrayId;
-use affc_life::{ClashFault, clashes};
-use affc_moduli::{is_void, region_of};
+use affc_life::{ClashFault, ClashProduct, clash_products};
+use affc_moduli::Chosen;
 use affc_nest::ArrayInfo;
+use affc_rows::Form;
 use affc_rows::vocabulary::copies;
 use affc_split::maximum::Region;
 use affc_split::{Answer, Budget, Stop, decide};
 use affc_system::PairSystem;
+use sqlite_items::Items;
 use std::alloc::{AllocError, Global};
 
-/// The clash systems of an array.
+/// The clash systems of an array, in product form.
 #[tactic(auto, using(crate::proofs::FoldLemmas::scheduled, crate::proofs::FoldLemmas::never_large))]
-fn systems_of(alloc: Global, asked: &Asked<'_>, array: ArrayId) -> Result<Vec<PairSystem>, Stop>
+fn products_of(alloc: Global, asked: &Asked<'_>, array: ArrayId) -> Result<Vec<ClashProduct>, Stop>
     requires analysed { IsAnalysed asked.now.program.now asked.now.nest.now (trees_of asked.now.flow.now) asked.now.schedule.now }
-    ensures systems { IfOk result (λ systems. map clash_of systems.items ≡ clashes asked.now.nest.now (trees_of asked.now.flow.now) asked.now.schedule.now array.0) }
+    ensures systems { IfOk result (λ products. map clash_of (flat_map systems_in products.items) ≡ clashes asked.now.nest.now (trees_of asked.now.flow.now) asked.now.schedule.now array.0) }
     ensures stop { IfErr result (λ e. e ≡ Stop.Memory) }
 {
-    match clashes(alloc, asked.nest, asked.flow, asked.schedule, array) {
-        Ok(systems) => Ok(systems),
+    match clash_products(alloc, asked.nest, asked.flow, asked.schedule, array) {
+        Ok(products) => Ok(products),
         Err(ClashFault::Memory) => Err(Stop::Memory),
         Err(ClashFault::Large) => unreachable!(),
     }
+}
+
+/// The systems of a product that are wanted.
+#[derive(Clone, Copy, Drop)]
+struct Wanted<'a> {
+    /// What the product's systems have in common.
+    base: &'a PairSystem,
+    /// Whether only those are wanted that have a point.
+    pointed: bool,
 }
 
 /// Whether a region has no point.
@@ -42,88 +53,200 @@ fn is_empty(alloc: Global, region: &Region, budget: &mut Budget) -> Result<bool,
     ensures later { IsLater budget.old budget.new }
     ensures stop { IfErr result (λ e. e ≡ Stop.Budget → budget.new.limit ≡ Some budget.new.spent) }
 {
-    if is_void(region) {
-        return Ok(true);
-    }
     match decide(alloc, &region.system, &region.ranges, budget)? {
         Answer::Empty(_proof) => Ok(true),
         Answer::Point(_point) => Ok(false),
     }
 }
 
-/// A system with these pairs.
-fn with_pairs(alloc: Global, region: Region, pairs: &PairSystem) -> Result<PairSystem, AllocError>
-    requires system { region.system ≡ pairs.now.system }
-    requires ranges { region.ranges ≡ pairs.now.ranges }
-    ensures { IfOk result (IsCopy pairs.now) }
+/// Whether a region has no point, if that is asked.
+fn is_unwanted(
+    alloc: Global,
+    wanted: &Wanted<'_>,
+    region: &Region,
+    budget: &mut Budget,
+) -> Result<bool, Stop>
+    ensures none { IfOk result (λ unwanted. IsTrue unwanted → (z : List ℤ) → InRegion region.now z → ⊥) }
+    ensures later { IsLater budget.old budget.new }
+    ensures stop { IfErr result (λ e. e ≡ Stop.Budget → budget.new.limit ≡ Some budget.new.spent) }
 {
-    let x = copies(alloc, pairs.x.as_slice())?;
-    let y = copies(alloc, pairs.y.as_slice())?;
+    if wanted.pointed {
+        is_empty(alloc, region, budget)
+    } else {
+        Ok(false)
+    }
+}
+
+/// A copy of the system that is chosen.
+fn copy_of(alloc: Global, base: &PairSystem, region: &Region) -> Result<PairSystem, AllocError>
+    requires over { IsOver base.now region.now }
+    ensures { IfOk result (IsCopy (chosen_system base.now region.now)) }
+{
+    let system = region.system.clone()?;
+    let ranges = region.ranges.clone()?;
+    let x = copies(alloc, base.x.as_slice())?;
+    let y = copies(alloc, base.y.as_slice())?;
     Ok(PairSystem {
-        system: region.system,
-        ranges: region.ranges,
+        system,
+        ranges,
         x,
         y,
     })
 }
 
-/// A copy of a system, if it has a point.
-fn kept(alloc: Global, pairs: &PairSystem, budget: &mut Budget) -> Result<Option<PairSystem>, Stop>
-    requires boxed { IsBoxed pairs.now.system pairs.now.ranges }
-    ensures none { IfOk result (λ found. IfNone found (HasNoPoint pairs.now.system)) }
-    ensures some { IfOk result (λ found. IfSome found (IsCopy pairs.now)) }
+/// Adds a copy of the system that is chosen, if it is wanted.
+fn add_chosen(
+    alloc: Global,
+    wanted: &Wanted<'_>,
+    region: &Region,
+    budget: &mut Budget,
+    out: &mut Vec<PairSystem>,
+) -> Result<(), Stop>
+    requires over { IsOver wanted.now.base.now region.now }
+    ensures kept { OnOk result (Adds (chosen_system wanted.now.base.now region.now ∷ []) out.old.items out.new.items) }
     ensures later { IsLater budget.old budget.new }
     ensures stop { IfErr result (λ e. e ≡ Stop.Budget → budget.new.limit ≡ Some budget.new.spent) }
 {
-    let region = region_of(pairs)?;
-    if is_empty(alloc, &region, budget)? {
-        return Ok(None);
+    if is_unwanted(alloc, wanted, region, budget)? {
+        return Ok(());
     }
-    Ok(Some(with_pairs(alloc, region, pairs)?))
+    let copy = copy_of(alloc, wanted.base, region)?;
+    let Ok(()) = out.push(copy) else {
+        return Err(Stop::Memory);
+    };
+    Ok(())
 }
 
-/// Adds a copy of a system to these, if it has a point.
-fn add_kept(
+/// Adds the systems that have one alternative of a factor behind the rows that are chosen.
+#[cycle(choices)]
+fn add_behind(
     alloc: Global,
-    pairs: &PairSystem,
+    wanted: &Wanted<'_>,
+    chosen: &mut Chosen,
+    rows: &[Form],
+    later: &[Items<Items<Form>>],
     budget: &mut Budget,
-    all: &mut Vec<PairSystem>,
+    out: &mut Vec<PairSystem>,
 ) -> Result<(), Stop>
-    requires boxed { IsBoxed pairs.now.system pairs.now.ranges }
-    ensures kept { OnOk result ((systems : List OneSystem) → AreKept systems all.old.items → AreKept (systems ++ pairs.now ∷ []) all.new.items) }
+    requires over { IsOver wanted.now.base.now chosen.old.region }
+    requires rows { All (IsRow wanted.now.base.now.system.columns) rows.now }
+    requires later { All (All (All (IsRow wanted.now.base.now.system.columns))) later.now }
+    requires room { length chosen.old.region.system.rows + (length rows.now + tallest later.now) ≤ 1024 }
+    ensures kept { OnOk result (Adds (choices_behind wanted.now.base.now (chosen.old.region.system.rows ++ rows.now) later.now) out.old.items out.new.items) }
+    ensures same { OnOk result (chosen.new.region.system ≡ chosen.old.region.system) }
+    ensures ranges { OnOk result (chosen.new.region.ranges ≡ chosen.old.region.ranges) }
     ensures later { IsLater budget.old budget.new }
     ensures stop { IfErr result (λ e. e ≡ Stop.Budget → budget.new.limit ≡ Some budget.new.spent) }
 {
-    match kept(alloc, pairs, budget)? {
-        None => Ok(()),
-        Some(copy) => {
-            let Ok(()) = all.push(copy) else {
-                return Err(Stop::Memory);
-            };
-            Ok(())
+    let count = chosen.count();
+    if chosen.add(rows)? {
+        add_factors(alloc, wanted, chosen, later, budget, out)?;
+    }
+    chosen.cut_back(count);
+    Ok(())
+}
+
+/// Adds the systems that have one of these alternatives, and one of each factor, behind the rows that are chosen.
+#[cycle(choices)]
+fn add_each(
+    alloc: Global,
+    wanted: &Wanted<'_>,
+    chosen: &mut Chosen,
+    first: &[Items<Form>],
+    later: &[Items<Items<Form>>],
+    budget: &mut Budget,
+    out: &mut Vec<PairSystem>,
+) -> Result<(), Stop>
+    requires over { IsOver wanted.now.base.now chosen.old.region }
+    requires first { All (All (IsRow wanted.now.base.now.system.columns)) first.now }
+    requires later { All (All (All (IsRow wanted.now.base.now.system.columns))) later.now }
+    requires room { length chosen.old.region.system.rows + (longest first.now + tallest later.now) ≤ 1024 }
+    ensures kept { OnOk result (Adds (choices_behind wanted.now.base.now chosen.old.region.system.rows (first.now ∷ later.now)) out.old.items out.new.items) }
+    ensures same { OnOk result (chosen.new.region.system ≡ chosen.old.region.system) }
+    ensures ranges { OnOk result (chosen.new.region.ranges ≡ chosen.old.region.ranges) }
+    ensures later { IsLater budget.old budget.new }
+    ensures stop { IfErr result (λ e. e ≡ Stop.Budget → budget.new.limit ≡ Some budget.new.spent) }
+{
+    match first {
+        [] => Ok(()),
+        [rows, others @ ..] => {
+            let rows = rows.as_slice();
+            add_behind(alloc, wanted, chosen, rows, later, budget, out)?;
+            add_each(alloc, wanted, chosen, others, later, budget, out)
         }
     }
 }
 
-/// Copies of the systems that have a point.
-fn all_kept(
+/// Adds the systems that have one alternative of each factor behind the rows that are chosen.
+#[cycle(choices)]
+fn add_factors(
     alloc: Global,
-    systems: &[PairSystem],
+    wanted: &Wanted<'_>,
+    chosen: &mut Chosen,
+    factors: &[Items<Items<Form>>],
+    budget: &mut Budget,
+    out: &mut Vec<PairSystem>,
+) -> Result<(), Stop>
+    requires over { IsOver wanted.now.base.now chosen.old.region }
+    requires factors { All (All (All (IsRow wanted.now.base.now.system.columns))) factors.now }
+    requires room { length chosen.old.region.system.rows + tallest factors.now ≤ 1024 }
+    ensures kept { OnOk result (Adds (choices_behind wanted.now.base.now chosen.old.region.system.rows factors.now) out.old.items out.new.items) }
+    ensures same { OnOk result (chosen.new.region.system ≡ chosen.old.region.system) }
+    ensures ranges { OnOk result (chosen.new.region.ranges ≡ chosen.old.region.ranges) }
+    ensures later { IsLater budget.old budget.new }
+    ensures stop { IfErr result (λ e. e ≡ Stop.Budget → budget.new.limit ≡ Some budget.new.spent) }
+{
+    match factors {
+        [] => add_chosen(alloc, wanted, &chosen.region, budget, out),
+        [first, later @ ..] => {
+            let first = first.as_slice();
+            add_each(alloc, wanted, chosen, first, later, budget, out)
+        }
+    }
+}
+
+/// Adds the systems of a product that are wanted.
+fn add_product(
+    alloc: Global,
+    product: &ClashProduct,
+    pointed: bool,
+    budget: &mut Budget,
+    out: &mut Vec<PairSystem>,
+) -> Result<(), Stop>
+    requires room { KeepsRoom product.now }
+    ensures kept { OnOk result (Adds (systems_in product.now) out.old.items out.new.items) }
+    ensures later { IsLater budget.old budget.new }
+    ensures stop { IfErr result (λ e. e ≡ Stop.Budget → budget.new.limit ≡ Some budget.new.spent) }
+{
+    let base = &product.base;
+    let wanted = Wanted { base, pointed };
+    let ranges = base.ranges.clone()?;
+    let mut chosen = Chosen::over(alloc, base.system.columns(), ranges);
+    let rows = base.system.rows();
+    let factors = product.factors.as_slice();
+    add_behind(alloc, &wanted, &mut chosen, rows, factors, budget, out)
+}
+
+/// The systems of products that are wanted.
+fn all_wanted(
+    alloc: Global,
+    products: &[ClashProduct],
+    pointed: bool,
     budget: &mut Budget,
 ) -> Result<Vec<PairSystem>, Stop>
-    requires boxed { All (λ s. IsBoxed s.system s.ranges) systems.now }
-    ensures kept { IfOk result (λ kept. AreKept systems.now kept.items) }
+    requires room { All KeepsRoom products.now }
+    ensures kept { IfOk result (λ kept. AreKept (flat_map systems_in products.now) kept.items) }
     ensures later { IsLater budget.old budget.new }
     ensures stop { IfErr result (λ e. e ≡ Stop.Budget → budget.new.limit ≡ Some budget.new.spent) }
 {
     let mut all = Vec::new(alloc);
-    for pairs in systems {
-        add_kept(alloc, pairs, budget, &mut all)?;
+    for product in products {
+        add_product(alloc, product, pointed, budget, &mut all)?;
     }
     Ok(all)
 }
 
-/// The systems of an array's live pairs; where several bases are tried, only those that have a point.
+/// The systems of an array's live pairs that aren't seen to have no point; where several bases are tried, only those that have one.
 pub(crate) fn live_systems(
     alloc: Global,
     asked: &Asked<'_>,
@@ -138,10 +261,6 @@ pub(crate) fn live_systems(
     ensures later { IsLater budget.old budget.new }
     ensures stop { IfErr result (λ e. e ≡ Stop.Budget → IsSpent budget.new) }
 {
-    let systems = systems_of(alloc, asked, array)?;
-    if several {
-        all_kept(alloc, systems.as_slice(), budget)
-    } else {
-        Ok(systems)
-    }
+    let products = products_of(alloc, asked, array)?;
+    all_wanted(alloc, products.as_slice(), several, budget)
 }

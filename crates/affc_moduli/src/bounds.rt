@@ -105,11 +105,10 @@ fn plain_bound(region: &Region, form: &Form) -> Option<Bound>
     }
 }
 
-/// Whether a row of a region is below 0 throughout its box.
+/// Whether a row is below 0 throughout the box of a region.
 fn is_broken(region: &Region, row: &Form) -> bool
     requires row { IsRow region.now.system.columns row.now }
-    requires meets { (z : List ℤ) → InRegion region.now z → Meets z row.now }
-    ensures { IsTrue result → (z : List ℤ) → InRegion region.now z → ⊥ }
+    ensures { IsTrue result → (z : List ℤ) → InRegion region.now z → Meets z row.now → ⊥ }
 {
     top_of(region, row) < 0
 }
@@ -123,13 +122,12 @@ fn is_low(row: &Form, form: &Form, columns: u32) -> bool
     sum_of_constants(row, form, columns).most < 0
 }
 
-/// Whether two rows of a region are parallel, and nowhere both at least 0.
+/// Whether a row of a region and another are parallel, and nowhere both at least 0.
 fn is_barred_by(region: &Region, other: &Form, row: &Form) -> bool
     requires other { IsRow region.now.system.columns other.now }
     requires row { IsRow region.now.system.columns row.now }
     requires other_meets { (z : List ℤ) → InRegion region.now z → Meets z other.now }
-    requires meets { (z : List ℤ) → InRegion region.now z → Meets z row.now }
-    ensures { IsTrue result → (z : List ℤ) → InRegion region.now z → ⊥ }
+    ensures { IsTrue result → (z : List ℤ) → InRegion region.now z → Meets z row.now → ⊥ }
 {
     if !is_low(other, row, region.system.columns()) {
         return false;
@@ -141,9 +139,8 @@ fn is_barred_by(region: &Region, other: &Form, row: &Form) -> bool
 /// that have the key, of these keys.
 fn is_barred(region: &Region, row: &Form, key: i64, keys: &[i64]) -> bool
     requires row { IsRow region.now.system.columns row.now }
-    requires meets { (z : List ℤ) → InRegion region.now z → Meets z row.now }
     requires first { length keys.now ≤ length region.now.system.rows }
-    ensures { IsTrue result → (z : List ℤ) → InRegion region.now z → ⊥ }
+    ensures { IsTrue result → (z : List ℤ) → InRegion region.now z → Meets z row.now → ⊥ }
 {
     let rows = region.system.rows();
     for (i, own) in keys.iter().enumerate() {
@@ -152,6 +149,19 @@ fn is_barred(region: &Region, row: &Form, key: i64, keys: &[i64]) -> bool
         }
     }
     false
+}
+
+/// Whether a row more, which has this key, is seen to leave a region no point: it is below 0 throughout the box, or parallel to one
+/// of the first rows, which have these keys.
+pub fn is_out(region: &Region, row: &Form, key: i64, keys: &[i64]) -> bool
+    requires row { IsRow region.now.system.columns row.now }
+    requires first { length keys.now ≤ length region.now.system.rows }
+    ensures { IsTrue result → (z : List ℤ) → InRegion region.now z → Meets z row.now → ⊥ }
+{
+    if is_broken(region, row) {
+        return true;
+    }
+    is_barred(region, row, key.wrapping_neg(), keys)
 }
 
 /// Whether one row is below 0 throughout the box.

@@ -3,6 +3,7 @@
 
 mod bounds;
 mod ceilings;
+mod chosen;
 mod distances;
 mod enough;
 mod extremes;
@@ -16,6 +17,5 @@ mod slices;
 mod tops;
 mod witness;
 
-pub use bounds::is_void;
+pub use chosen::Chosen;
 pub use fold::moduli;
-pub use slices::region_of;

@@ -1,5 +1,5 @@
 //! The slices of the rows, as regions.
-ghost use Rattle.std.specs.Prelude.{◌≡◌, ℕ, ◌+◌, ◌<◌, ◌≤◌, ◌∷◌, ◌++◌, [], Some, slice_get, IfOk, OnOk, length};
+ghost use Rattle.std.specs.Prelude.{◌≡◌, ℕ, ◌+◌, ◌<◌, ◌≤◌, ◌∷◌, ◌++◌, [], Some, slice_get, IfOk, OnOk, OnErr, length};
 ghost use Rattle.std.specs.List.{All};
 ghost use Rattle.affc_rows.specs.Forms.{Affine};
 ghost use Rattle.affc_system.specs.Systems.{IsRow};
@@ -37,11 +37,12 @@ pub fn copies(alloc: Global, pairs: &[PairSystem]) -> Result<Vec<Region>, AllocE
 }
 
 /// Adds a row that keeps the limits to a system that has room.
-fn add(system: &mut System, row: Form) -> Result<(), AllocError>
+pub fn add(system: &mut System, row: Form) -> Result<(), AllocError>
     requires row { IsRow system.old.columns row }
     requires room { length system.old.rows < 1024 }
     ensures added { OnOk result (system.new ≡ record system.old { rows = system.old.rows ++ row ∷ [] }) }
     ensures columns { system.new.columns ≡ system.old.columns }
+    ensures err { OnErr result (system.new ≡ system.old) }
 {
     match system.push(row) {
         Ok(()) => Ok(()),

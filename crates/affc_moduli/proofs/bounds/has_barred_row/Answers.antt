@@ -11,8 +11,8 @@ is_barred-requires-clause-row c =
     slice_get_read c.rows-row-items.result.now (length c.rows-row-items.result.now) c.loop-i.i c.row-item.result refl (omega arith) c.row-item.is in
     all_at (IsRow c.args.region.now.system.columns) c.rows-row-items.result.now c.rows-row-items.ensures.fit c.loop-i.i c.row-item.result here
 
-pub is_barred-requires-clause-meets : goal.is_barred-requires-clause-meets
-is_barred-requires-clause-meets c =
+pub returns-then-is_barred : goal.returns-then-is_barred
+returns-then-is_barred c =
     let here : slice_get c.rows-row-items.result.now c.loop-i.i ≡ Some c.row-item.result =
     slice_get_read c.rows-row-items.result.now (length c.rows-row-items.result.now) c.loop-i.i c.row-item.result refl (omega arith) c.row-item.is in
-    λ z inside. all_at (Meets z) c.args.region.now.system.rows inside.meets.meets c.loop-i.i c.row-item.result (subst (λ rs. slice_get rs c.loop-i.i ≡ Some c.row-item.result) c.rows-row-items.ensures.rows here)
+    λ _ z inside. c.if-is_barred.ensures refl z inside (all_at (Meets z) c.args.region.now.system.rows inside.meets.meets c.loop-i.i c.row-item.result (subst (λ rs. slice_get rs c.loop-i.i ≡ Some c.row-item.result) c.rows-row-items.ensures.rows here))
