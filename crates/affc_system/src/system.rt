@@ -162,7 +162,8 @@ impl System {
     pub fn add(&mut self, row: Form) -> Result<(), AllocError>
         requires row { IsRow self.old.columns row }
         requires room { length self.old.rows < 1024 }
-        ensures { OnOk result (self.new ≡ record self.old { rows = self.old.rows ++ row ∷ [] }) }
+        ensures ok { OnOk result (self.new ≡ record self.old { rows = self.old.rows ++ row ∷ [] }) }
+        ensures err { OnErr result (self.new ≡ self.old) }
     {
         match self.push(row) {
             Ok(()) => Ok(()),
