@@ -14,11 +14,11 @@ add-requires-clause-row c = record {
 
 pub loop-i-preserved : goal.loop-i-preserved
 loop-i-preserved c = record {
-  columns = ap (λ (r : Rows). r.columns) c.in_ok-add.ensures ∙ c.loop-i.invariant.columns;
-  room = spread_room c.loop-i.i (length c.args.system.now.rows) c.loop-i.system c.add.new.self c.in_ok-made.made c.in_ok-add.ensures c.loop-i.invariant.room;
+  columns = ap (λ (r : Rows). r.columns) c.in_ok-add.ensures.ok ∙ c.loop-i.invariant.columns;
+  room = spread_room c.loop-i.i (length c.args.system.now.rows) c.loop-i.system c.add.new.self c.in_ok-made.made c.in_ok-add.ensures.ok c.loop-i.invariant.room;
   rows =
       spread_kept (spread c.args.params c.args.between c.args.behind) c.args.rows.now c.loop-i.i c.index-rows-i.result c.in_ok-made.made c.loop-i.system c.add.new.self _
-      c.loop-i-test.true c.index-rows-i.is c.in_ok-made.ensures c.in_ok-add.ensures c.loop-i.invariant.rows;
+      c.loop-i-test.true c.index-rows-i.is c.in_ok-made.ensures c.in_ok-add.ensures.ok c.loop-i.invariant.rows;
 }
 
 pub returns : goal.returns
