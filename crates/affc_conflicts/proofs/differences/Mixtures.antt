@@ -1,11 +1,11 @@
 -- Mixtures of small forms are small.
-use Rattle.std.proofs.Common.{◌≡◌, ℕ, zero, suc, ◌+◌, ◌*◌, ◌^◌, ◌<◌, ◌≤◌, List, [], ◌∷◌, length, drop, replicate, lit≤, get_or, refl, ℤ, pos, negsuc, ◌+ℤ◌, ◌-ℤ◌, ◌*ℤ◌, sym, ap, subst, ◌∙◌, arith, inl, inr, add-one}
+use Rattle.std.proofs.Common.{◌≡◌, ℕ, zero, suc, ◌+◌, ◌*◌, ◌^◌, ◌<◌, ◌≤◌, List, [], ◌∷◌, length, drop, replicate, lit≤, get_or, refl, ℤ, pos, negsuc, ◌+ℤ◌, ◌-ℤ◌, ◌*ℤ◌, sym, ap, subst, ◌∙◌, arith, add-one}
 use Rattle.std.specs.Prelude.{unsigned_abs}
 use Rattle.std.specs.List.{All}
 use Rattle.std.proofs.lemmas.List.Elements.{All-nil, All-cons, All-head, All-tail, All-weaker}
 use Rattle.std.proofs.lemmas.Int.{ints, unsigned_abs-mul}
 use Rattle.std.proofs.Math.Nat.{mul-le-mul_left, mul_comm}
-use Rattle.affc_rows.specs.Forms.{Affine, dot, value, mixed, mixed_magnitudes, mixed_form, mixed_form_magnitudes, entry_magnitude, TooWide}
+use Rattle.affc_rows.specs.Forms.{Affine, dot, value, mixed, mixed_form}
 use Rattle.std.proofs.lemmas.List.{drop_all}
 use Rattle.affc_system.specs.Pairs.{IsSubscript}
 use Rattle.affc_conflicts.specs.differences.Differences.{apart, IsSmall, IsApart}
@@ -19,9 +19,6 @@ times n c d b h k =
     let p : unsigned_abs c * unsigned_abs d ≤ unsigned_abs c * b = mul-le-mul_left (unsigned_abs c) k in
     let q : b * unsigned_abs c ≤ b * n = mul-le-mul_left b h in
     omega (arith, p, q, mul_comm b n, mul_comm b (unsigned_abs c))
-
-entry_bound : (n : ℕ) (a c d : ℤ) (m b : ℕ) → unsigned_abs c ≤ n → unsigned_abs a ≤ m → unsigned_abs d ≤ b → entry_magnitude (pos 1) a c d ≤ m + n * b
-entry_bound n a c d m b h k l = omega (arith, times n c d b h l)
 
 pub entry_within : (n : ℕ) (a c d : ℤ) (m b : ℕ) → unsigned_abs c ≤ n → unsigned_abs a ≤ m → unsigned_abs d ≤ b → unsigned_abs ((pos 1 *ℤ a) +ℤ (c *ℤ d)) ≤ m + n * b
 entry_within n a c d m b h k l =
@@ -40,23 +37,6 @@ mixed_within n (a ∷ us) (d ∷ ds) c m b h k l =
     All-cons (λ v. unsigned_abs v ≤ m + n * b) ((pos 1 *ℤ a) +ℤ (c *ℤ d)) (mixed (pos 1) us c ds)
     (entry_within n a c d m b h (All-head (λ v. unsigned_abs v ≤ m) a us k) (All-head (λ v. unsigned_abs v ≤ b) d ds l))
     (mixed_within n us ds c m b h (All-tail (λ v. unsigned_abs v ≤ m) a us k) (All-tail (λ v. unsigned_abs v ≤ b) d ds l))
-
-mixed_fits : (n : ℕ) (us ds : List ℤ) (c : ℤ) (m b : ℕ) → unsigned_abs c ≤ n → m + n * b ≤ 2 ^ 126 → All (λ v. unsigned_abs v ≤ m) us → All (λ v. unsigned_abs v ≤ b) ds
-    → TooWide (mixed_magnitudes (pos 1) us c ds) → ⊥
-mixed_fits n [] ds c m b h r k l w = w
-mixed_fits n (a ∷ us) [] c m b h r k l w = w
-mixed_fits n (a ∷ us) (d ∷ ds) c m b h r k l w = elim w [
-  | inl e ↦ absurd (omega (arith, entry_bound n a c d m b h (All-head (λ v. unsigned_abs v ≤ m) a us k) (All-head (λ v. unsigned_abs v ≤ b) d ds l), r, e))
-  | inr f ↦ mixed_fits n us ds c m b h r (All-tail (λ v. unsigned_abs v ≤ m) a us k) (All-tail (λ v. unsigned_abs v ≤ b) d ds l) f
-]
-
-pub form_fits : (n : ℕ) (f g : Affine) (c : ℤ) (m b m' b' : ℕ) → unsigned_abs c ≤ n → m + n * b ≤ 2 ^ 126 → m' + n * b' ≤ 2 ^ 126
-    → All (λ v. unsigned_abs v ≤ m) f.coefs → All (λ v. unsigned_abs v ≤ b) g.coefs → unsigned_abs f.constant ≤ m' → unsigned_abs g.constant ≤ b'
-    → TooWide (mixed_form_magnitudes (pos 1) f c g) → ⊥
-form_fits n f g c m b m' b' h r s k l kc lc w = elim w [
-  | inl e ↦ absurd (omega (arith, entry_bound n f.constant c g.constant m' b' h kc lc, s, e))
-  | inr t ↦ mixed_fits n f.coefs g.coefs c m b h r k l t
-]
 
 pub value_plus : (f g : Affine) (c : ℤ) (z : List ℤ) → length f.coefs ≡ length g.coefs → length f.coefs ≡ length z → value (mixed_form (pos 1) f c g) z ≡ value f z +ℤ (c *ℤ value g z)
 value_plus f g c z h k = value-mixed (pos 1) f c g z h k ∙ ap (λ v. v +ℤ (c *ℤ value g z)) (one-mul (value f z))
@@ -102,9 +82,6 @@ zero_value n cs z e = ap (λ v. dot v z +ℤ pos 0) e ∙ ap (λ v. v +ℤ pos 0
 
 -- ---- the two mixtures
 
-pub minus_fits : (columns : ℕ) (x y : Affine) → IsSubscript columns x → IsSubscript columns y → TooWide (mixed_form_magnitudes (pos 1) x (negsuc 0) y) → ⊥
-minus_fits columns x y h k w = form_fits 1 x y (negsuc 0) 65536 65536 16777216 16777216 (lit≤ tt) (lit≤ tt) (lit≤ tt) h.coefs_fit k.coefs_fit h.constant_fits k.constant_fits w
-
 pub minus_is : (columns : ℕ) (x y f : Affine) → IsSubscript columns x → IsSubscript columns y → f ≡ mixed_form (pos 1) x (negsuc 0) y → IsApart columns x y f
 minus_is columns x y f h k e =
     let same : length x.coefs ≡ length y.coefs = h.width ∙ sym k.width in
@@ -118,9 +95,6 @@ minus_is columns x y f h k e =
 
 module _ (columns n : ℕ) (sum f : Affine) (c : ℤ) (few : n < 8) (h : IsSmall columns n sum) (small : unsigned_abs c ≤ 256) (width : length f.coefs ≡ columns) (coefs : All (λ v. unsigned_abs v ≤ 2 ^ 17) f.coefs)
     (constant : unsigned_abs f.constant ≤ 2 ^ 25) where
-  pub plus_fits : TooWide (mixed_form_magnitudes (pos 1) sum c f) → ⊥
-  plus_fits w = form_fits 256 sum f c (n * 2 ^ 25) (2 ^ 17) (n * 2 ^ 33) (2 ^ 25) small (omega arith) (omega arith) h.coefs_fit coefs h.constant_fits constant w
-
   same : length sum.coefs ≡ length f.coefs
   same = h.width ∙ sym width
 
