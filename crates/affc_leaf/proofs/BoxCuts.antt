@@ -14,7 +14,7 @@ use Rattle.affc_farkas.specs.Multiples.{row_at, zero_row, multiple_sum, entry_of
 use Rattle.affc_farkas.specs.Proofs.{IsCut, IsLeaf, IsValid}
 use Rattle.affc_farkas.specs.declared.proof.Proof.{Proof, Leaf, Cut', Split'}
 use Rattle.affc_farkas.proofs.Sound.{multiple_sum-width, multiple_sum-meets}
-use Rattle.affc_leaf.specs.declared.bounds.Bound.{Bound}
+use Rattle.affc_simplex.specs.declared.bounds.Bound.{Bound}
 use Rattle.affc_leaf.specs.Bounds.{bound_at, Inside, top, top_value}
 use Rattle.affc_leaf.specs.Parts.{Placed, PlacedBound, IsEmpty}
 use Rattle.affc_leaf.specs.Leaves.{corner_rows, SameSum, IsLeafBy}

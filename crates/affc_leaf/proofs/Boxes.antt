@@ -13,7 +13,7 @@ use Rattle.affc_system.proofs.SystemLemmas.{point_of_more_rows, point_of_fewer_r
 use Rattle.affc_farkas.specs.Proofs.{ValidProof}
 use Rattle.affc_farkas.specs.declared.proof.Proof.{Proof}
 use Rattle.affc_farkas.proofs.Sound.{sound_system}
-use Rattle.affc_leaf.specs.declared.bounds.Bound.{Bound}
+use Rattle.affc_simplex.specs.declared.bounds.Bound.{Bound}
 use Rattle.affc_leaf.specs.Boxed.{unit, box_rows, with_box}
 use Rattle.affc_leaf.specs.Points.{IsLeastPoint}
 use Rattle.affc_leaf.specs.Parts.{Placed, IsEmpty, box_bounds}

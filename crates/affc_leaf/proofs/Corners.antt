@@ -10,7 +10,7 @@ use Rattle.affc_system.specs.Systems.{Rows, IsRow}
 use Rattle.affc_farkas.specs.Multiples.{multiple_sum, entry_of, AreMultipliers}
 use Rattle.affc_farkas.specs.Proofs.{IsLeaf}
 use Rattle.affc_farkas.proofs.Sound.{multiple_sum-width}
-use Rattle.affc_leaf.specs.declared.bounds.Bound.{Bound}
+use Rattle.affc_simplex.specs.declared.bounds.Bound.{Bound}
 use Rattle.affc_leaf.specs.Bounds.{bound_at, top, top_value}
 use Rattle.affc_leaf.specs.Boxed.{unit}
 use Rattle.affc_leaf.specs.Leaves.{corner_row, corner_rows, SameSum}

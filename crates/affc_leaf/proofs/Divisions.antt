@@ -11,7 +11,7 @@ use Rattle.affc_system.specs.Systems.{Rows, IsRow, IsPoint, Meets}
 use Rattle.affc_farkas.specs.Multiples.{row_at, zero_row, multiple_sum, entry_of, AreMultipliers}
 use Rattle.affc_farkas.specs.Proofs.{IsCut}
 use Rattle.affc_farkas.specs.declared.proof.Proof.{Proof, Leaf, Cut', Split'}
-use Rattle.affc_leaf.specs.declared.bounds.Bound.{Bound}
+use Rattle.affc_simplex.specs.declared.bounds.Bound.{Bound}
 use Rattle.affc_leaf.specs.Bounds.{bound_at}
 use Rattle.affc_leaf.specs.Parts.{Placed, IsLeast, IsEmpty}
 use Rattle.affc_leaf.specs.Cuts.{IsDivided, IsCutOf, IsCutBefore}

@@ -4,7 +4,7 @@ use Rattle.std.proofs.lemmas.Int.{ints}
 use native.Mathlib.Numerals.{unary_clauses}
 use Rattle.std.specs.Prelude.{unsigned_abs}
 use borrow.Author.Differences.{abs_is}
-use Rattle.affc_leaf.specs.declared.bounds.Bound.{Bound}
+use Rattle.affc_simplex.specs.declared.bounds.Bound.{Bound}
 use Rattle.affc_leaf.specs.Bounds.{gap, Fuel, bound_at}
 
 double : (e : ℕ) → 2 ^ suc e ≡ 2 * 2 ^ e

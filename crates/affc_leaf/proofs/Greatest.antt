@@ -5,7 +5,7 @@ use Rattle.std.specs.List.{All}
 use lib.IntN.{*ℤ_comm}
 use Rattle.affc_rows.specs.Forms.{Affine, dot, value}
 use Rattle.affc_rows.proofs.IntLemmas.{mul-nonneg, mul-add, neg-mul}
-use Rattle.affc_leaf.specs.declared.bounds.Bound.{Bound}
+use Rattle.affc_simplex.specs.declared.bounds.Bound.{Bound}
 use Rattle.affc_leaf.specs.Bounds.{IsBound, Inside, AllSingle, IsSum, bound_at, no_bound, lows, top, top_at, top_value}
 use Rattle.affc_system.specs.Systems.{IsRow}
 use Rattle.affc_system.specs.Order.{LexLe}

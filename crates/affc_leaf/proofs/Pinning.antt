@@ -9,7 +9,7 @@ use borrow.Author.Differences.{abs_is}
 use Rattle.std.specs.List.{All}
 use Rattle.affc_system.specs.Systems.{Rows}
 use Rattle.affc_system.specs.Order.{LexLe}
-use Rattle.affc_leaf.specs.declared.bounds.Bound.{Bound}
+use Rattle.affc_simplex.specs.declared.bounds.Bound.{Bound}
 use Rattle.affc_leaf.specs.Bounds.{IsBound, Inside, bound_at, lowered, no_bound}
 use Rattle.affc_leaf.specs.Parts.{NoneIn, IsLeast}
 use Rattle.affc_leaf.specs.Fronts.{IsFront, IsPinned, pinned}

@@ -6,7 +6,7 @@ use Rattle.std.specs.List.{All}
 use Rattle.affc_system.specs.Systems.{Rows, IsRow}
 use Rattle.affc_farkas.specs.Multiples.{multiple_sum, AreMultipliers}
 use Rattle.affc_farkas.specs.declared.proof.Proof.{Proof, Leaf, Cut', Split'}
-use Rattle.affc_leaf.specs.declared.bounds.Bound.{Bound}
+use Rattle.affc_simplex.specs.declared.bounds.Bound.{Bound}
 use Rattle.affc_leaf.specs.Bounds.{top_value}
 use Rattle.affc_leaf.specs.Leaves.{corner_rows, SameSum, IsLeafBy}
 use Rattle.affc_leaf.specs.Parts.{IsEmpty}

@@ -13,7 +13,7 @@ use Rattle.affc_system.specs.Systems.{Rows, IsRow}
 use Rattle.affc_farkas.specs.Multiples.{row_at, zero_row}
 use Rattle.affc_farkas.specs.Proofs.{IsValid, low_row, high_row}
 use Rattle.affc_farkas.specs.declared.proof.Proof.{Proof}
-use Rattle.affc_leaf.specs.declared.bounds.Bound.{Bound}
+use Rattle.affc_simplex.specs.declared.bounds.Bound.{Bound}
 use Rattle.affc_leaf.specs.Bounds.{bound_at, no_bound, IsBound, lowered, raised}
 use Rattle.affc_leaf.specs.Boxed.{unit}
 use Rattle.affc_leaf.specs.Parts.{PlacedBound, Placed, IsEmpty}

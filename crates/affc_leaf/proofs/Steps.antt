@@ -10,7 +10,7 @@ use Rattle.affc_system.specs.Systems.{Rows, IsRow, IsPoint}
 use Rattle.affc_system.specs.Order.{LexLe}
 use Rattle.affc_farkas.specs.Multiples.{multiple_sum}
 use Rattle.affc_farkas.proofs.Sound.{multiple_sum-width, multiple_sum-meets}
-use Rattle.affc_leaf.specs.declared.bounds.Bound.{Bound}
+use Rattle.affc_simplex.specs.declared.bounds.Bound.{Bound}
 use Rattle.affc_leaf.specs.Bounds.{IsBound, Inside, size, FirstFree, AllSingle, lowered, raised, bound_at, no_bound, lows, top_value}
 use Rattle.affc_leaf.specs.Parts.{IsLeast, NoneIn, Ready}
 use Rattle.affc_leaf.proofs.Halves.{halves_before, in_half, from_lower, from_upper, halves_points}

@@ -86,6 +86,13 @@ insert_same a i p rest =
     (same_trans (take i a ++ p ∷ (drop i a ++ rest)) (p ∷ take i a ++ (drop i a ++ rest)) (a ++ p ∷ rest) (front (take i a) (drop i a ++ rest) p)
     (subst (λ l. SameSum l (a ++ p ∷ rest)) (sym g) (same_sym (a ++ p ∷ rest) (p ∷ a ++ rest) (front a rest p))))
 
+-- the same with what is equal to the list with the multiple, and to the multiple alone
+pub placed_same : (a b : List (ℕ × ℕ)) (i : ℕ) (p : ℕ × ℕ) (row : List (ℕ × ℕ)) → b ≡ insert a i p → row ≡ p ∷ []
+    → (rest : List (ℕ × ℕ)) → SameSum (b ++ rest) (a ++ (row ++ rest))
+placed_same a b i p row e f rest =
+    subst (λ l. SameSum (b ++ rest) (a ++ (l ++ rest))) (sym f)
+    (subst (λ l. SameSum (l ++ rest) (a ++ p ∷ rest)) (sym e) (insert_same a i p rest))
+
 -- ---- the sum of two lists of multiples
 
 zero_added : (d : ℤ) → (pos 1 *ℤ pos 0) +ℤ (pos 1 *ℤ d) ≡ d

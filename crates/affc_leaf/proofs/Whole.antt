@@ -10,7 +10,7 @@ use borrow.Author.Differences.{abs_is}
 use Rattle.affc_rows.specs.Forms.{Affine}
 use Rattle.affc_system.specs.Systems.{Rows, IsRow}
 use Rattle.affc_farkas.specs.Multiples.{row_at, zero_row}
-use Rattle.affc_leaf.specs.declared.bounds.Bound.{Bound}
+use Rattle.affc_simplex.specs.declared.bounds.Bound.{Bound}
 use Rattle.affc_leaf.specs.Bounds.{bound_at, IsBound, Fuel, lows, ranges_of}
 use Rattle.affc_system.specs.Boxes.{IsBox}
 use Rattle.affc_system.specs.Pairs.{WithinReach}

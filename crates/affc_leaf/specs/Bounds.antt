@@ -4,7 +4,7 @@ use Rattle.std.specs.List.{All}
 use Rattle.affc_rows.specs.Forms.{Affine}
 use Rattle.affc_system.specs.Boxes.{InBox}
 use Rattle.affc_leaf.specs.Points.{points}
-use Rattle.affc_leaf.specs.declared.bounds.Bound.{Bound}
+use Rattle.affc_simplex.specs.declared.bounds.Bound.{Bound}
 
 abbrev pub no_bound : Bound
 no_bound = record { low = pos 0; high = pos 0; low_row = 0; high_row = 0 }

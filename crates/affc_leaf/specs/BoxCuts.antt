@@ -6,7 +6,7 @@ use Rattle.affc_system.specs.Systems.{Rows, IsRow, IsPoint, Meets}
 use Rattle.affc_farkas.specs.Multiples.{multiple_sum}
 use Rattle.affc_farkas.specs.Proofs.{IsCut, IsValid}
 use Rattle.affc_farkas.specs.declared.proof.Proof.{Proof}
-use Rattle.affc_leaf.specs.declared.bounds.Bound.{Bound}
+use Rattle.affc_simplex.specs.declared.bounds.Bound.{Bound}
 use Rattle.affc_leaf.specs.Bounds.{Inside, top}
 use Rattle.affc_leaf.specs.Boxed.{SplitsAtZero}
 use Rattle.affc_leaf.specs.declared.box_cuts.Seen.{Seen}

@@ -5,7 +5,7 @@ use Rattle.affc_rows.specs.Forms.{Affine}
 use Rattle.affc_system.specs.Order.{LexLe}
 use Rattle.affc_system.specs.Systems.{Rows}
 use Rattle.affc_farkas.specs.declared.proof.Proof.{Proof, Leaf, Cut', Split'}
-use Rattle.affc_leaf.specs.declared.bounds.Bound.{Bound}
+use Rattle.affc_simplex.specs.declared.bounds.Bound.{Bound}
 use Rattle.affc_leaf.specs.Points.{points}
 use Rattle.affc_leaf.specs.Boxed.{SplitsAtZero, IsLeafProof, IsHard}
 use Rattle.affc_leaf.specs.Cuts.{IsDivided}

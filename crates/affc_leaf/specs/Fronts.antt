@@ -3,7 +3,7 @@ use Rattle.std.specs.Prelude.{◌≡◌, ℕ, ◌<◌, List, length, slice_set, 
 use Rattle.std.specs.List.{All}
 use Rattle.affc_system.specs.Systems.{Rows, IsPoint}
 use Rattle.affc_system.specs.Order.{LexLe}
-use Rattle.affc_leaf.specs.declared.bounds.Bound.{Bound}
+use Rattle.affc_simplex.specs.declared.bounds.Bound.{Bound}
 use Rattle.affc_leaf.specs.Bounds.{IsBound, Inside, bound_at}
 
 -- a part of a box: each point of the system in the box is in the part, or comes behind all that is in the part

@@ -4,7 +4,7 @@ use Rattle.std.specs.List.{All}
 use Rattle.affc_rows.specs.Forms.{Affine}
 use Rattle.affc_farkas.specs.Multiples.{multiple_sum}
 use Rattle.affc_farkas.specs.declared.proof.Proof.{Proof, Leaf, Cut', Split'}
-use Rattle.affc_leaf.specs.declared.bounds.Bound.{Bound}
+use Rattle.affc_simplex.specs.declared.bounds.Bound.{Bound}
 
 -- the bound that makes a product greatest, as often as the coefficient says
 abbrev pub corner_row : ℤ → Bound → List (ℕ × ℕ)

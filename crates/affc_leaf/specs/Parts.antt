@@ -6,7 +6,7 @@ use Rattle.affc_system.specs.Systems.{Rows, IsRow, IsPoint}
 use Rattle.affc_farkas.specs.Multiples.{row_at}
 use Rattle.affc_farkas.specs.Proofs.{IsValid}
 use Rattle.affc_farkas.specs.declared.proof.Proof.{Proof}
-use Rattle.affc_leaf.specs.declared.bounds.Bound.{Bound}
+use Rattle.affc_simplex.specs.declared.bounds.Bound.{Bound}
 use Rattle.affc_leaf.specs.Points.{IsLeastPoint}
 use Rattle.affc_leaf.specs.Boxed.{unit, SplitsAtZero}
 use Rattle.affc_leaf.specs.Bounds.{IsBound, Inside, Fuel, bound_at, ranges_of}

@@ -3,16 +3,8 @@ ghost use Rattle.std.specs.Prelude.{◌≡◌, ℤ, ◌+◌, ◌-◌, ◌^◌, �
 ghost use Rattle.std.specs.List.{All};
 ghost use Rattle.affc_leaf.specs.Bounds.{IsBound, FirstFree, AllSingle, lowered, raised, lows};
 
+use affc_simplex::Bound;
 use std::alloc::{AllocError, Global};
-
-/// The range of a column, and the numbers of the rows that say it.
-#[derive(Clone, Copy)]
-pub struct Bound {
-    pub low: i64,
-    pub high: i64,
-    pub low_row: u32,
-    pub high_row: u32,
-}
 
 /// The middle of a range of two numbers or more.
 pub fn middle(low: i64, high: i64) -> i64

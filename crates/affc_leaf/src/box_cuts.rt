@@ -8,7 +8,6 @@ ghost use Rattle.affc_leaf.specs.Cuts.{IsCutBefore};
 ghost use Rattle.affc_leaf.specs.Leaves.{corner_rows, SameSum};
 ghost use Rattle.affc_leaf.specs.Parts.{IsEmpty};
 
-use crate::bounds::Bound;
 use crate::boxed::push_row;
 use crate::candidates::{Candidate, Proposal, candidates_in, remainder_of};
 use crate::cuts::divided_sum;
@@ -16,11 +15,11 @@ use crate::leaves::{
     Sight, add_multiple, added, fits_sum, found_leaf, is_below_zero, leaf_with, put_corners,
     sum_rows,
 };
-use crate::simplex::{Outcome, Wanted, look_at};
 use crate::tops::top_products;
-use crate::vertices::Vertex;
 use affc_farkas::{Multipliers, Proof};
 use affc_rows::Form;
+use affc_simplex::simplex::{Outcome, Wanted, look_at};
+use affc_simplex::{Bound, Vertex};
 use affc_system::System;
 use affc_system::system::fits_row;
 use std::alloc::{AllocError, Global};

@@ -4,10 +4,11 @@ ghost use Rattle.affc_system.specs.Systems.{FitsRow};
 ghost use Rattle.affc_farkas.specs.Proofs.{ValidProof};
 ghost use Rattle.affc_leaf.specs.Boxed.{unit, range_rows, with_box, IsLeafProof, IsHard};
 
-use crate::vertices::Vertex;
+use crate::vertices::meets;
 use affc_eliminate::project::{Refutation, refute};
 use affc_farkas::Proof;
 use affc_rows::Form;
+use affc_simplex::Vertex;
 use affc_system::System;
 use std::alloc::{AllocError, Global};
 
@@ -99,7 +100,7 @@ pub fn refuted(
 {
     let boxed = boxed_system(alloc, system, ranges)?;
     if let Some(vertex) = vertex {
-        if vertex.meets(&boxed) {
+        if meets(vertex, &boxed) {
             return Ok(None);
         }
     }

@@ -5,12 +5,12 @@
 //! use it, so nothing is promised here: where a number is too great, no more is looked for.
 ghost use Rattle.std.specs.Prelude.{◌<◌};
 
-use crate::bounds::Bound;
-use crate::leaves::put_pair;
-use crate::simplex::{at, reduce};
-use crate::vertices::Vertex;
+use crate::vertices::{is_whole, value_of};
 use affc_rows::Form;
 use affc_rows::vocabulary::gcd;
+use affc_simplex::cells::{at, reduce};
+use affc_simplex::pairs::put_pair;
+use affc_simplex::{Bound, Vertex};
 use affc_system::System;
 use smallvec::SmallVec;
 use std::alloc::{AllocError, Global};
@@ -152,7 +152,7 @@ fn divided_row(
 /// Whether a row is below 0 at the point, or that can't be told.
 fn is_excluded(row: &Form, vertex: Option<&Vertex>) -> bool {
     match vertex {
-        Some(vertex) => match vertex.value_of(row) {
+        Some(vertex) => match value_of(vertex, row) {
             Some(value) => value < 0,
             None => true,
         },
@@ -500,7 +500,7 @@ pub(crate) fn candidates_in(
     bounds: &[Bound],
     vertex: Option<&Vertex>,
 ) -> Result<Option<Vec<Proposal>>, AllocError> {
-    if vertex.is_some_and(|v| v.is_whole()) {
+    if vertex.is_some_and(|v| is_whole(v)) {
         return Ok(None);
     }
     let rows = system.rows();

@@ -5,9 +5,9 @@ ghost use Rattle.affc_leaf.specs.Bounds.{IsBound, bound_at, lowered};
 ghost use Rattle.affc_leaf.specs.Fronts.{IsFront, IsPinned};
 ghost use Rattle.affc_leaf.specs.Parts.{IsLeast, NoneIn};
 
-use crate::bounds::{Bound, low_ends, lower_half};
-use crate::least::Least;
+use crate::bounds::{low_ends, lower_half};
 use crate::leaves::{is_below_zero, sum_rows};
+use affc_simplex::{Bound, Least};
 use affc_system::System;
 use std::alloc::{AllocError, Global};
 

@@ -9,36 +9,15 @@ ghost use Rattle.affc_leaf.specs.Bounds.{IsBound, FitsSum, top_value};
 ghost use Rattle.affc_leaf.specs.Leaves.{corner_row, corner_rows, SameSum, IsLeafBy};
 ghost use Rattle.affc_leaf.specs.Parts.{IsEmpty, IsLeast};
 
-use crate::bounds::Bound;
 use crate::firsts::least_point;
-use crate::least::Least;
-use crate::simplex::{Outcome, Wanted, look_at};
 use crate::tops::top_products;
-use crate::vertices::Vertex;
 use affc_farkas::{Multipliers, Proof};
 use affc_rows::Form;
+use affc_simplex::pairs::put_pair;
+use affc_simplex::simplex::{Outcome, Wanted, look_at};
+use affc_simplex::{Bound, Least, Vertex};
 use affc_system::System;
 use std::alloc::{AllocError, Global};
-
-/// The place at which a row's number keeps the order.
-fn place_for(pairs: &[(u32, u64)], row: u32) -> usize
-    ensures { result ≤ length pairs.now }
-{
-    let mut place = pairs.len();
-    while place > 0 && pairs[place - 1].0 > row {
-        place -= 1;
-    }
-    place
-}
-
-/// Puts a multiple in at its place.
-pub(crate) fn put_pair(pairs: &mut Vec<(u32, u64)>, row: u32, times: u64) -> Result<(), AllocError>
-    ensures { OnOk result ((rest : List (ℕ × ℕ)) → SameSum (pairs.new.items ++ rest) (pairs.old.items ++ (row, times) ∷ rest)) }
-{
-    let place = place_for(pairs.as_slice(), row);
-    pairs.insert(place, (row, times))?;
-    Ok(())
-}
 
 /// The bound that makes a product greatest, as often as the coefficient says.
 fn corner(c: i128, bound: Bound) -> Option<(u32, u64)>

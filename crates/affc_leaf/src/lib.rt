@@ -9,13 +9,8 @@ pub mod cuts;
 pub mod examples;
 mod firsts;
 pub mod laws;
-mod least;
 pub mod leaves;
 pub mod parts;
 pub mod places;
-mod simplex;
 pub mod tops;
-pub mod vertices;
-
-pub use bounds::Bound;
-pub use vertices::Vertex;
+mod vertices;

@@ -4,7 +4,8 @@ ghost use Rattle.std.specs.List.{All};
 ghost use Rattle.affc_leaf.specs.Bounds.{IsBound, size, FirstFree, lowered, raised, bound_at};
 ghost use Rattle.affc_leaf.specs.Parts.{Ready};
 
-use crate::bounds::{Bound, lower_half, middle, upper_half};
+use crate::bounds::{lower_half, middle, upper_half};
+use affc_simplex::Bound;
 use affc_system::System;
 use std::alloc::{AllocError, Global};
 

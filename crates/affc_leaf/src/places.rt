@@ -6,9 +6,9 @@ ghost use Rattle.affc_system.specs.Systems.{IsRow};
 ghost use Rattle.affc_farkas.specs.Multiples.{row_at};
 ghost use Rattle.affc_leaf.specs.Bounds.{IsBound, bound_at, top_value};
 
-use crate::bounds::Bound;
 use crate::tops::top_of;
 use affc_rows::Form;
+use affc_simplex::Bound;
 use affc_system::System;
 
 /// A place to split off a part in which a row is below 0.

@@ -4,8 +4,8 @@ ghost use Rattle.std.specs.List.{All};
 ghost use Rattle.affc_farkas.specs.Multiples.{row_at};
 ghost use Rattle.affc_leaf.specs.Bounds.{IsBound, IsSum, top, top_at, top_value};
 
-use crate::bounds::Bound;
 use affc_rows::Form;
+use affc_simplex::Bound;
 use affc_system::System;
 
 /// A coefficient times an end of a range.

@@ -1,93 +1,30 @@
-//! Rational points of boxes.
+//! Rows at rational points.
 ghost use Rattle.std.specs.Prelude.{◌≡◌, ◌<◌, ◌≤ℤ◌, ◌+ℤ◌, ◌-ℤ◌, ◌*ℤ◌, pos, IfSome, length};
 ghost use Rattle.std.specs.Bool.{OnTrue};
 ghost use Rattle.affc_farkas.specs.Rational.{RationalPoint, scaled_value};
 
 use affc_rows::Form;
-use affc_rows::vocabulary::gcd;
+use affc_simplex::Vertex;
 use affc_system::System;
-use std::alloc::{AllocError, Global};
 
-/// By what a divisor is multiplied so that another one divides it.
-fn lacking(own: i128, other: i128) -> Option<i128> {
-    let common = gcd(own.unsigned_abs(), other.unsigned_abs());
-    other.checked_div(i128::try_from(common).ok()?)
+/// Whether all numbers of a point are whole.
+pub(crate) fn is_whole(vertex: &Vertex) -> bool {
+    vertex.divisor == 1
 }
 
-/// Multiplies numbers.
-fn multiply(numbers: &mut [i128], times: i128) -> Option<()> {
-    for number in numbers.iter_mut() {
-        *number = number.checked_mul(times)?;
+/// As often as the divisor says the value of a row at a point. `None` where a number doesn't fit.
+pub(crate) fn value_of(vertex: &Vertex, row: &Form) -> Option<i128> {
+    if vertex.numerators.len() != row.coefs.len() {
+        return None;
     }
-    Some(())
+    scaled(row, vertex.numerators.as_slice(), vertex.divisor)
 }
 
-/// A point: these numerators, one for each column, over one divisor.
-#[derive(Drop)]
-pub struct Vertex {
-    numerators: Vec<i128>,
-    divisor: i128,
-}
-
-impl Vertex {
-    /// The point at which each column is 0.
-    pub(crate) fn new(alloc: Global, columns: usize) -> Result<Vertex, AllocError> {
-        Ok(Vertex {
-            numerators: vec![in alloc; 0i128; columns]?,
-            divisor: 1,
-        })
-    }
-
-    /// Sets a column to a quotient. `None` where a number doesn't fit.
-    pub(crate) fn set(&mut self, column: usize, numerator: i128, divisor: i128) -> Option<()> {
-        if divisor == 1 && self.divisor == 1 {
-            if column < self.numerators.len() {
-                self.numerators[column] = numerator;
-            }
-            return Some(());
-        }
-        let common = gcd(numerator.unsigned_abs(), divisor.unsigned_abs());
-        let common = i128::try_from(common).ok()?;
-        let numerator = numerator.checked_div(common)?;
-        let divisor = divisor.checked_div(common)?;
-        let scale = self.scaled_for(divisor)?;
-        if column < self.numerators.len() {
-            self.numerators[column] = numerator.checked_mul(scale)?;
-        }
-        Some(())
-    }
-
-    /// Multiplies the point's numbers so that a number divides its divisor, and answers the quotient.
-    fn scaled_for(&mut self, divisor: i128) -> Option<i128> {
-        let scale = self.divisor.checked_div(divisor)?;
-        if scale.checked_mul(divisor)? == self.divisor {
-            return Some(scale);
-        }
-        let times = lacking(self.divisor, divisor)?;
-        self.divisor = self.divisor.checked_mul(times)?;
-        multiply(self.numerators.as_mut_slice(), times)?;
-        self.divisor.checked_div(divisor)
-    }
-
-    /// Whether all its numbers are whole.
-    pub(crate) fn is_whole(&self) -> bool {
-        self.divisor == 1
-    }
-
-    /// As often as the divisor says the value of a row at the point. `None` where a number doesn't fit.
-    pub(crate) fn value_of(&self, row: &Form) -> Option<i128> {
-        if self.numerators.len() != row.coefs.len() {
-            return None;
-        }
-        scaled(row, self.numerators.as_slice(), self.divisor)
-    }
-
-    /// Whether every row is at least 0 at the point. `false` where that can't be told.
-    pub(crate) fn meets(&self, system: &System) -> bool
-        ensures { OnTrue result (RationalPoint system.now.columns system.now.rows) }
-    {
-        self.divisor >= 1 && meet_at(system, self.numerators.as_slice(), self.divisor)
-    }
+/// Whether every row is at least 0 at a point. `false` where that can't be told.
+pub(crate) fn meets(vertex: &Vertex, system: &System) -> bool
+    ensures { OnTrue result (RationalPoint system.now.columns system.now.rows) }
+{
+    vertex.divisor >= 1 && meet_at(system, vertex.numerators.as_slice(), vertex.divisor)
 }
 
 /// A value with a multiple of the constant in place of the constant. `None` where a number is too great.

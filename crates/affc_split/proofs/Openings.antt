@@ -11,7 +11,7 @@ use Rattle.affc_system.specs.Systems.{Rows}
 use Rattle.affc_system.specs.Boxes.{IsRange, IsBox, InBox}
 use Rattle.affc_system.specs.Order.{LexLe}
 use Rattle.affc_farkas.specs.declared.proof.Proof.{Proof, Leaf, Cut', Split'}
-use Rattle.affc_leaf.specs.declared.bounds.Bound.{Bound}
+use Rattle.affc_simplex.specs.declared.bounds.Bound.{Bound}
 use Rattle.affc_split.specs.declared.search.Answer.{Answer}
 use Rattle.affc_split.specs.declared.search.Answer.TheVariants as answer
 use Rattle.affc_split.specs.declared.search.Found.{Found}

@@ -6,7 +6,7 @@ use Rattle.affc_system.specs.Systems.{Rows}
 use Rattle.affc_system.specs.Boxes.{InBox}
 use Rattle.affc_rows.specs.Forms.{Affine}
 use Rattle.affc_farkas.specs.declared.proof.Proof.{Proof, Leaf, Cut', Split'}
-use Rattle.affc_leaf.specs.declared.bounds.Bound.{Bound}
+use Rattle.affc_simplex.specs.declared.bounds.Bound.{Bound}
 use Rattle.affc_leaf.specs.Bounds.{IsBound, FirstFree, ranges_of}
 use Rattle.affc_leaf.specs.Parts.{NoneIn, IsLeast}
 use Rattle.affc_leaf.specs.Cuts.{IsCutBefore}

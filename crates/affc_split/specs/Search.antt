@@ -1,7 +1,7 @@
 -- What the search through the parts of a box says of each of them.
 use Rattle.std.specs.Prelude.{◌≡◌, ℕ, ◌+◌, ◌^◌, ◌<◌, ◌≤◌, List, length, ℤ, pos, ◌+ℤ◌, ◌-ℤ◌, ◌≤ℤ◌, ◌<ℤ◌}
 use Rattle.affc_system.specs.Systems.{Rows}
-use Rattle.affc_leaf.specs.declared.bounds.Bound.{Bound}
+use Rattle.affc_simplex.specs.declared.bounds.Bound.{Bound}
 use Rattle.affc_leaf.specs.Bounds.{bound_at, lowered, raised}
 use Rattle.affc_leaf.specs.Parts.{IsLeast, IsEmpty, Ready}
 use Rattle.affc_split.specs.declared.search.Found.{Found}

@@ -7,9 +7,9 @@ ghost use Rattle.affc_split.specs.Searches.{AreFewer, Spends};
 
 use crate::budget::{Budget, Stop};
 use crate::search::{Found, Here, SPARE, inside};
-use affc_leaf::Bound;
 use affc_leaf::box_cuts::{Seen, seen_at};
 use affc_leaf::cuts::{cut_proof, next_cut, push_cut};
+use affc_simplex::Bound;
 use affc_system::System;
 use affc_system::system::MOST_ROWS;
 use std::alloc::Global;

@@ -22,7 +22,7 @@ use affc_farkas::Proof;
 use affc_leaf::boxed::{boxed_system, refuted};
 use affc_leaf::cuts::has_cut;
 use affc_leaf::leaves::{Sight, found_leaf};
-use affc_leaf::{Bound, Vertex};
+use affc_simplex::{Bound, Vertex};
 use affc_system::system::MOST_ROWS;
 use affc_system::{BoxOf, System};
 use std::alloc::{AllocError, Global};

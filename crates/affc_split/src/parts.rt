@@ -11,8 +11,9 @@ ghost use Rattle.affc_split.specs.Searches.{HasNodes, IsBeside};
 use crate::budget::Stop;
 use crate::search::{Found, Here, Side, Split};
 use affc_farkas::Proof;
-use affc_leaf::bounds::{Bound, low_ends};
+use affc_leaf::bounds::low_ends;
 use affc_rows::Form;
+use affc_simplex::Bound;
 use affc_system::System;
 use std::alloc::Global;
 

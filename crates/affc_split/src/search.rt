@@ -9,12 +9,13 @@ ghost use Rattle.affc_split.specs.Searches.{AreFewer, Spends};
 use crate::budget::{Budget, Stop};
 use crate::parts::{at_lows, beside, single};
 use affc_farkas::Proof;
-use affc_leaf::bounds::{Bound, first_free};
+use affc_leaf::bounds::first_free;
 use affc_leaf::box_cuts::{Seen, seen_at};
 use affc_leaf::leaves::row_leaf;
 use affc_leaf::parts::{high_box, high_part, low_box, low_part, middle_of};
 use affc_leaf::places::{find_place, is_below};
 use affc_leaf::tops::broken;
+use affc_simplex::Bound;
 use affc_system::System;
 use std::alloc::{AllocError, Global};
 

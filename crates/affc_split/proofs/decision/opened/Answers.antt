@@ -1,7 +1,7 @@
 use Rattle.std.proofs.Common.{rules, ◌≡◌, ◌∙◌, ap, sym, subst, length, ℕ, List, ℤ, Ok, Err}
 use Rattle.std.specs.Prelude.{IfSome, IfNone, IfErr}
 use Rattle.affc_system.specs.Systems.{Rows, IsPoint}
-use Rattle.affc_leaf.specs.declared.bounds.Bound.{Bound}
+use Rattle.affc_simplex.specs.declared.bounds.Bound.{Bound}
 use Rattle.affc_leaf.specs.Bounds.{lows, ranges_of}
 use Rattle.affc_leaf.specs.Points.{low_corner, IsLeastPoint}
 use Rattle.affc_leaf.specs.Parts.{IsLeast, box_bounds}

@@ -1,5 +1,5 @@
 use Rattle.std.proofs.Common.{◌≤◌, length}
-use Rattle.affc_leaf.proofs.leaves.place_for.Given as goal
+use Rattle.affc_simplex.proofs.pairs.place_for.Given as goal
 
 abbrev pub invariant-loop-place : goal.invariant-loop-place
 invariant-loop-place l = l.place ≤ length l.pairs

@@ -1,4 +1,4 @@
-use Rattle.affc_leaf.proofs.least.cancel.Given as goal
+use Rattle.affc_simplex.proofs.least.cancel.Given as goal
 
 abbrev pub invariant-loop-stage : goal.invariant-loop-stage
 invariant-loop-stage g l = Unit {0}

@@ -4,21 +4,24 @@
 //!
 //! Nothing is promised of it: whoever takes the point tests it, and the sums by which no whole point comes before it.
 use crate::bounds::Bound;
-use crate::simplex::{
-    Broken, Number, Tableau, Way, at, can_help, exchange, high_of, line_at, low_of, positive,
-    push_slack, put, put_variable, sum_of, variable_at, width_of,
+use crate::cells::{at, positive, put, sum_of};
+use crate::number::Number;
+use crate::simplex::push_slack;
+use crate::tableau::{
+    Broken, Tableau, Way, can_help, exchange, high_of, line_at, low_of, put_variable, variable_at,
+    width_of,
 };
 use std::alloc::{AllocError, Global};
 
 /// The most moves for one column.
 const MOST_MOVES: u32 = 400;
 
-/// A whole point, and for each column multiples of rows whose sum says that the column isn't less where those before it are as here.
+/// A whole point, one number for each column, and for each column multiples of rows, by their numbers, whose sum says that the column isn't less where those before it are as here.
 /// A column at the low end of its range has none.
 #[derive(Drop)]
-pub(crate) struct Least {
-    pub(crate) point: Vec<i64>,
-    pub(crate) sums: Vec<Vec<(u32, u64)>>,
+pub struct Least {
+    pub point: Vec<i64>,
+    pub sums: Vec<Vec<(u32, u64)>>,
 }
 
 /// The place of a variable among these.
