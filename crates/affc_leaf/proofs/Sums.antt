@@ -77,7 +77,7 @@ pub same_refl : (a : List (ℕ × ℕ)) → SameSum a a
 same_refl a = record { sums = λ columns rows. refl; forth = λ n h. h; back = λ n h. h }
 
 -- a multiple put in at some place, in place of the end
-pub insert_same : (a : List (ℕ × ℕ)) (i : ℕ) (p : ℕ × ℕ) (rest : List (ℕ × ℕ)) → SameSum (insert a i p ++ rest) (a ++ p ∷ rest)
+insert_same : (a : List (ℕ × ℕ)) (i : ℕ) (p : ℕ × ℕ) (rest : List (ℕ × ℕ)) → SameSum (insert a i p ++ rest) (a ++ p ∷ rest)
 insert_same a i p rest =
     let e : insert a i p ++ rest ≡ take i a ++ p ∷ (drop i a ++ rest) = append_assoc (take i a) (p ∷ drop i a) rest in
     let g : p ∷ take i a ++ (drop i a ++ rest) ≡ p ∷ a ++ rest =
