@@ -1,5 +1,5 @@
 -- Large parts, name by name.
-use Rattle.std.proofs.Common.{◌≡◌, ℕ, ◌+◌, ◌*◌, ◌≤◌, min, Bool, true, false, ◌||◌, cond, nat_le, nat_lt, List, [], ◌∷◌, ◌++◌, Option, Some, None, is_some, Result, IfOk, ℤ, pos, ◌+ℤ◌, ◌-ℤ◌, ◌*ℤ◌, neg_ℤ, nat_abs, ◌⊎◌, inl, inr, refl, sym, ap, ◌∙◌, subst, arith}
+use Rattle.std.proofs.Common.{◌≡◌, ℕ, ◌+◌, ◌*◌, ◌<◌, ◌≤◌, min, Bool, true, false, ◌||◌, cond, nat_le, nat_lt, List, [], ◌∷◌, ◌++◌, Option, Some, None, is_some, Result, IfOk, ℤ, pos, ◌+ℤ◌, ◌-ℤ◌, ◌*ℤ◌, neg_ℤ, nat_abs, ◌⊎◌, inl, inr, refl, sym, ap, ◌∙◌, subst, arith}
 use Rattle.std.specs.List.{list_any}
 use Rattle.std.specs.declared.alloc.AllocError.{AllocError}
 use Rattle.std.proofs.lemmas.Bool.{false≢true}
@@ -329,6 +329,50 @@ of_product x at a b a' b' r is s t h = subst (λ e. IfOk r (IsForm e)) ((λ i. d
 
 pub of_chosen : (x : code.IxDraft) (at : ℕ) (k : Choice) (a b a' b' : code.IxDraft) (r : Result Form AllocError) → x ≡ c.Chosen at k a b → a' ≡ a → b' ≡ b → IfOk r (IsForm (d.chosen at (choice k) (ix a') (ix b'))) → IfOk r (IsForm (ix x))
 of_chosen x at k a b a' b' r is s t h = subst (λ e. IfOk r (IsForm e)) ((λ i. d.chosen at (choice k) (ix (s i)) (ix (t i))) ∙ sym (ap ix is ∙ ix-Chosen at k a b)) h
+
+-- ---- Nodes
+
+abbrev pub nodes : d.IxDraft → ℕ
+nodes (d.literal at n) = 1
+nodes (d.name at w) = 1
+nodes (d.negated at a) = 1 + nodes a
+nodes (d.sum a b) = 1 + nodes a + nodes b
+nodes (d.difference a b) = 1 + nodes a + nodes b
+nodes (d.product at a b) = 1 + nodes a + nodes b
+nodes (d.grouped at a) = 1 + nodes a
+nodes (d.chosen at f a b) = 1 + nodes a + nodes b
+nodes (d.divided at f a by_at by) = 1 + nodes a
+
+abbrev nodes_in : code.IxDraft → ℕ
+nodes_in x = nodes (ix x)
+
+-- fewer nodes are in an operand than in the whole, and in both operands
+fewer : (n m k : ℕ) → n ≡ 1 + m → k ≡ m → k < n
+fewer n m k e f = omega (arith, e, f)
+
+fewer_in_both : (n l r l' r' : ℕ) → n ≡ 1 + l + r → l' ≡ l → r' ≡ r → l' + r' < n
+fewer_in_both n l r l' r' e f h = omega (arith, e, f, h)
+
+pub fewer-Negated : (x : code.IxDraft) (at : ℕ) (a b : code.IxDraft) → x ≡ c.Negated at a → b ≡ a → nodes (ix b) < nodes (ix x)
+fewer-Negated x at a b is s = fewer _ _ _ (ap nodes_in is ∙ ap nodes (ix-Negated at a)) (ap nodes_in s)
+
+pub fewer-Grouped : (x : code.IxDraft) (at : ℕ) (a b : code.IxDraft) → x ≡ c.Grouped at a → b ≡ a → nodes (ix b) < nodes (ix x)
+fewer-Grouped x at a b is s = fewer _ _ _ (ap nodes_in is ∙ ap nodes (ix-Grouped at a)) (ap nodes_in s)
+
+pub fewer-Divided : (x : code.IxDraft) (at : ℕ) (k : Rounding) (a : code.IxDraft) (by_at by : ℕ) (b : code.IxDraft) → x ≡ c.Divided at k a by_at by → b ≡ a → nodes (ix b) < nodes (ix x)
+fewer-Divided x at k a by_at by b is s = fewer _ _ _ (ap nodes_in is ∙ ap nodes (ix-Divided at k a by_at by)) (ap nodes_in s)
+
+pub fewer-Sum : (x : code.IxDraft) (a b a' b' : code.IxDraft) → x ≡ c.Sum a b → a' ≡ a → b' ≡ b → nodes (ix a') + nodes (ix b') < nodes (ix x)
+fewer-Sum x a b a' b' is s t = fewer_in_both _ _ _ _ _ (ap nodes_in is ∙ ap nodes (ix-Sum a b)) (ap nodes_in s) (ap nodes_in t)
+
+pub fewer-Difference : (x : code.IxDraft) (a b a' b' : code.IxDraft) → x ≡ c.Difference a b → a' ≡ a → b' ≡ b → nodes (ix a') + nodes (ix b') < nodes (ix x)
+fewer-Difference x a b a' b' is s t = fewer_in_both _ _ _ _ _ (ap nodes_in is ∙ ap nodes (ix-Difference a b)) (ap nodes_in s) (ap nodes_in t)
+
+pub fewer-Product : (x : code.IxDraft) (at : ℕ) (a b a' b' : code.IxDraft) → x ≡ c.Product at a b → a' ≡ a → b' ≡ b → nodes (ix a') + nodes (ix b') < nodes (ix x)
+fewer-Product x at a b a' b' is s t = fewer_in_both _ _ _ _ _ (ap nodes_in is ∙ ap nodes (ix-Product at a b)) (ap nodes_in s) (ap nodes_in t)
+
+pub fewer-Chosen : (x : code.IxDraft) (at : ℕ) (k : Choice) (a b a' b' : code.IxDraft) → x ≡ c.Chosen at k a b → a' ≡ a → b' ≡ b → nodes (ix a') + nodes (ix b') < nodes (ix x)
+fewer-Chosen x at k a b a' b' is s t = fewer_in_both _ _ _ _ _ (ap nodes_in is ∙ ap nodes (ix-Chosen at k a b)) (ap nodes_in s) (ap nodes_in t)
 
 -- ---- Behind a place that was found
 

@@ -109,13 +109,21 @@ impl Coefficients {
         Ok(Coefficients { scale: None, terms })
     }
 
-    /// Those of another one by one.
+    /// Those of another one by one, of which there may be none.
     fn with(self, alloc: Global, other: Coefficients) -> Result<Coefficients, AllocError>
         ensures { IfOk result (λ c. (w : Name) → number_of c w ≡ number_of self w +ℤ number_of other w) }
     {
         if other.terms.is_empty() {
-            return Ok(self);
+            Ok(self)
+        } else {
+            self.with_each(alloc, other)
         }
+    }
+
+    /// Those of another one by one.
+    fn with_each(self, alloc: Global, other: Coefficients) -> Result<Coefficients, AllocError>
+        ensures { IfOk result (λ c. (w : Name) → number_of c w ≡ number_of self w +ℤ number_of other w) }
+    {
         let own = self.spread(alloc)?;
         Coefficients::joined(alloc, own, other)
     }

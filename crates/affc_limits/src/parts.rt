@@ -1,6 +1,6 @@
 //! Parts of whole-number expressions whose constant or a coefficient is large.
 
-ghost use Rattle.std.specs.Prelude.{◌≡◌, ℕ, pos, IfOk, Ok};
+ghost use Rattle.std.specs.Prelude.{◌≡◌, ℕ, pos, IfOk};
 ghost use Rattle.affc_grammar.specs.Draft as grammar;
 ghost use Rattle.affc_grammar.specs.Grammar.{Choice, Name, Rounding};
 ghost use Rattle.affc_grammar.specs.Limits.{coefficient_of, constant_of, first_token, is_large, large_parts};
@@ -156,10 +156,9 @@ fn name_form(alloc: Global, at: usize, name: &str) -> Result<Form, AllocError>
     Ok(form_of(at, Whole::zero(alloc), coefficients, None))
 }
 
-fn negation_form(alloc: Global, at: usize, a: Result<Form, AllocError>) -> Result<Form, AllocError>
-    ensures { (x : grammar.IxDraft) → IfOk a (IsForm x) → IfOk result (IsForm (grammar.negated at x)) }
+fn negation_form(alloc: Global, at: usize, a: Form) -> Result<Form, AllocError>
+    ensures { (x : grammar.IxDraft) → IsForm x a → IfOk result (IsForm (grammar.negated at x)) }
 {
-    let a = a?;
     form_from(
         at,
         a.constant.opposite(alloc),
@@ -168,19 +167,17 @@ fn negation_form(alloc: Global, at: usize, a: Result<Form, AllocError>) -> Resul
     )
 }
 
-fn grouped_form(at: usize, a: Result<Form, AllocError>) -> Result<Form, AllocError>
-    ensures { (x : grammar.IxDraft) → IfOk a (IsForm x) → IfOk result (IsForm (grammar.grouped at x)) }
+fn grouped_form(at: usize, a: Form) -> Form
+    ensures { (x : grammar.IxDraft) → IsForm x a → IsForm (grammar.grouped at x) result }
 {
-    let a = a?;
-    Ok(form_of(at, a.constant, a.coefficients, a.past))
+    form_of(at, a.constant, a.coefficients, a.past)
 }
 
 /// A quotient, which is taken to be no form.
-fn quotient_form(alloc: Global, at: usize, a: Result<Form, AllocError>) -> Result<Form, AllocError>
-    ensures { (k : Rounding) (by_at by : ℕ) (x : grammar.IxDraft) → IfOk a (IsForm x) → IfOk result (IsForm (grammar.divided at k x by_at by)) }
+fn quotient_form(alloc: Global, at: usize, a: Form) -> Form
+    ensures { (k : Rounding) (by_at by : ℕ) (x : grammar.IxDraft) → IsForm x a → IsForm (grammar.divided at k x by_at by) result }
 {
-    let a = a?;
-    Ok(opaque(alloc, at, a.past))
+    opaque(alloc, at, a.past)
 }
 
 /// Two operands.
@@ -190,24 +187,9 @@ struct Two {
     right: Form,
 }
 
-/// Both operands, where there was memory for them.
-fn both(a: Result<Form, AllocError>, b: Result<Form, AllocError>) -> Result<Two, AllocError>
-    ensures left { IfOk result (λ two. a ≡ Ok two.left) }
-    ensures right { IfOk result (λ two. b ≡ Ok two.right) }
+fn sum_form(alloc: Global, two: Two) -> Result<Form, AllocError>
+    ensures { (x y : grammar.IxDraft) → IsForm x two.left → IsForm y two.right → IfOk result (IsForm (grammar.sum x y)) }
 {
-    let left = a?;
-    let right = b?;
-    Ok(Two { left, right })
-}
-
-fn sum_form(
-    alloc: Global,
-    a: Result<Form, AllocError>,
-    b: Result<Form, AllocError>,
-) -> Result<Form, AllocError>
-    ensures { (x y : grammar.IxDraft) → IfOk a (IsForm x) → IfOk b (IsForm y) → IfOk result (IsForm (grammar.sum x y)) }
-{
-    let two = both(a, b)?;
     let Two { left: a, right: b } = two;
     form_from(
         a.first,
@@ -217,14 +199,9 @@ fn sum_form(
     )
 }
 
-fn difference_form(
-    alloc: Global,
-    a: Result<Form, AllocError>,
-    b: Result<Form, AllocError>,
-) -> Result<Form, AllocError>
-    ensures { (x y : grammar.IxDraft) → IfOk a (IsForm x) → IfOk b (IsForm y) → IfOk result (IsForm (grammar.difference x y)) }
+fn difference_form(alloc: Global, two: Two) -> Result<Form, AllocError>
+    ensures { (x y : grammar.IxDraft) → IsForm x two.left → IsForm y two.right → IfOk result (IsForm (grammar.difference x y)) }
 {
-    let two = both(a, b)?;
     let Two { left: a, right: b } = two;
     form_from(
         a.first,
@@ -234,14 +211,9 @@ fn difference_form(
     )
 }
 
-fn product_form(
-    alloc: Global,
-    a: Result<Form, AllocError>,
-    b: Result<Form, AllocError>,
-) -> Result<Form, AllocError>
-    ensures { (at : ℕ) (x y : grammar.IxDraft) → IfOk a (IsForm x) → IfOk b (IsForm y) → IfOk result (IsForm (grammar.product at x y)) }
+fn product_form(alloc: Global, two: Two) -> Result<Form, AllocError>
+    ensures { (at : ℕ) (x y : grammar.IxDraft) → IsForm x two.left → IsForm y two.right → IfOk result (IsForm (grammar.product at x y)) }
 {
-    let two = both(a, b)?;
     let Two { left: a, right: b } = two;
     let left = a.coefficients;
     let right = b.coefficients;
@@ -251,19 +223,14 @@ fn product_form(
 }
 
 /// A choice, which is taken to be no form.
-fn choice_form(
-    alloc: Global,
-    at: usize,
-    a: Result<Form, AllocError>,
-    b: Result<Form, AllocError>,
-) -> Result<Form, AllocError>
-    ensures { (k : Choice) (x y : grammar.IxDraft) → IfOk a (IsForm x) → IfOk b (IsForm y) → IfOk result (IsForm (grammar.chosen at k x y)) }
+fn choice_form(alloc: Global, at: usize, two: Two) -> Form
+    ensures { (k : Choice) (x y : grammar.IxDraft) → IsForm x two.left → IsForm y two.right → IsForm (grammar.chosen at k x y) result }
 {
-    let two = both(a, b)?;
-    Ok(opaque(alloc, at, lesser(two.left.past, two.right.past)))
+    opaque(alloc, at, lesser(two.left.past, two.right.past))
 }
 
 /// An expression and each of its parts, once.
+#[cycle(formed)]
 #[tactic(auto, using(affc_syntax::proofs::draft::Outs::ix_outs))]
 fn formed(alloc: Global, e: &IxDraft) -> Result<Form, AllocError>
     ensures { IfOk result (IsForm (ix e.now)) }
@@ -271,28 +238,36 @@ fn formed(alloc: Global, e: &IxDraft) -> Result<Form, AllocError>
     match e {
         IxDraft::Literal { at, value } => literal_form(alloc, *at, *value),
         IxDraft::Name { at, name } => name_form(alloc, *at, name.as_str()),
-        IxDraft::Negated { at, of } => negation_form(alloc, *at, formed(alloc, of.get())),
-        IxDraft::Sum(a, b) => sum_form(alloc, formed(alloc, a.get()), formed(alloc, b.get())),
+        IxDraft::Negated { at, of } => negation_form(alloc, *at, formed(alloc, of.get())?),
+        IxDraft::Sum(a, b) => sum_form(alloc, both_formed(alloc, a.get(), b.get())?),
         IxDraft::Difference(a, b) => {
-            difference_form(alloc, formed(alloc, a.get()), formed(alloc, b.get()))
+            difference_form(alloc, both_formed(alloc, a.get(), b.get())?)
         }
         IxDraft::Product { left, right, .. } => {
-            product_form(alloc, formed(alloc, left.get()), formed(alloc, right.get()))
+            product_form(alloc, both_formed(alloc, left.get(), right.get())?)
         }
-        IxDraft::Grouped { at, inside } => grouped_form(*at, formed(alloc, inside.get())),
+        IxDraft::Grouped { at, inside } => Ok(grouped_form(*at, formed(alloc, inside.get())?)),
         IxDraft::Chosen {
             at,
             left,
             right,
             ..
-        } => choice_form(
-            alloc,
-            *at,
-            formed(alloc, left.get()),
-            formed(alloc, right.get()),
-        ),
-        IxDraft::Divided { at, of, .. } => quotient_form(alloc, *at, formed(alloc, of.get())),
+        } => Ok(choice_form(alloc, *at, both_formed(alloc, left.get(), right.get())?)),
+        IxDraft::Divided { at, of, .. } => {
+            Ok(quotient_form(alloc, *at, formed(alloc, of.get())?))
+        }
     }
+}
+
+/// Both operands, one after the other.
+#[cycle(formed)]
+fn both_formed(alloc: Global, left: &IxDraft, right: &IxDraft) -> Result<Two, AllocError>
+    ensures left { IfOk result (λ two. IsForm (ix left.now) two.left) }
+    ensures right { IfOk result (λ two. IsForm (ix right.now) two.right) }
+{
+    let left = formed(alloc, left)?;
+    let right = formed(alloc, right)?;
+    Ok(Two { left, right })
 }
 
 /// The least number of a token with which a part begins.

@@ -1,7 +1,7 @@
 use Rattle.std.proofs.Common.{◌+ℤ◌, ap}
 use Rattle.affc_limits.specs.Coefficients.{number_of}
 use Rattle.affc_limits.proofs.PartLaws.{ok_are}
-use Rattle.affc_limits.proofs.terms.Coefficients.with.Goals as goal
+use Rattle.affc_limits.proofs.terms.Coefficients.with_each.Goals as goal
 
 pub joined-requires : goal.joined-requires
 joined-requires c = c.in_ok-own.ensures.apart
