@@ -28,3 +28,4 @@ pub mod Later
 pub mod Bodies
 pub mod Steps
 pub mod Lists
+pub mod Reached

@@ -1,5 +1,5 @@
 -- Numbers in decimal digits, and what stands behind them.
-use Rattle.std.proofs.Common.{◌≡◌, ◌<◌, ◌≤◌, ◌+◌, ◌*◌, ◌-◌, ◌^◌, ◌==◌, nat_lt, ℕ, zero, suc, ℤ, pos, negsuc, true, false, not, List, [], ◌∷◌, ◌++◌, length, take, drop, get_or, fold, refl, sym, ap, subst, ◌∙◌, arith, rules, take-append-drop, decimal}
+use Rattle.std.proofs.Common.{◌≡◌, ◌≢◌, ◌<◌, ◌≤◌, ◌+◌, ◌*◌, ◌-◌, ◌^◌, ◌==◌, nat_lt, ℕ, zero, suc, ℤ, pos, negsuc, Bool, true, false, not, ◌&&◌, List, [], ◌∷◌, ◌++◌, length, take, drop, get_or, fold, refl, sym, ap, subst, ◌∙◌, arith, rules, take-append-drop, decimal}
 use Rattle.std.specs.List.{list_all, prefix_len}
 use Rattle.std.proofs.lemmas.List.{take_at, drop_at}
 use Rattle.std.proofs.lemmas.Fmt.{digits_decimal, digits_value-decimal, decimal-digits_value, decimal_nonempty, first_decimal, decimal_digit}
@@ -143,6 +143,18 @@ no_large_negative text rest n here out z more p =
     let q = negative_only text more z p in
     let u = one_natural text n q.0 rest more here q.1 in
     out (omega (arith, q.2, u.0), omega (arith, q.3, u.0))
+
+-- a text that goes on behind no sign begins with none
+pub no_minus : (text : List ℕ) → ((rest : List ℕ) → text ≢ codes "-" ++ rest) → begins (codes "-") text ≡ false
+no_minus [] h = refl
+no_minus (x ∷ xs) h = by_test (45 == x) refl
+  where
+    same : (45 == x) ≡ true → 45 ≡ x
+    same e = grind (arith, nat_tests)
+
+    by_test : (b : Bool) → (45 == x) ≡ b → (b && true) ≡ false
+    by_test true e = absurd (h xs (ap (λ n. n ∷ xs) (sym (same e))))
+    by_test false e = refl
 
 pub positive_here : (text rest : List ℕ) (n : ℕ) (z : ℤ) → IsNatural text n rest → n < 2 ^ 63 → z ≡ pos n → IsInteger text z rest
 positive_here text rest n z p small is = subst (λ y. IsInteger text y rest) (sym is) (below n small, p.1, p.2)

@@ -97,9 +97,9 @@ fn above_zero(read: Option<(u64, &[u8])>) -> Option<(i64, &[u8])>
 fn integer(text: &[u8]) -> Option<(i64, &[u8])>
     ensures { MatchOption result (NoInteger text.now) (λ x. IsInteger text.now x.0 x.1.now) }
 {
-    match text {
-        [b'-', digits @ ..] => below_zero(natural(digits)),
-        _ => above_zero(natural(text)),
+    match after(b"-", text) {
+        Some(digits) => below_zero(natural(digits)),
+        None => above_zero(natural(text)),
     }
 }
 

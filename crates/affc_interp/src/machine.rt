@@ -1,5 +1,5 @@
 //! A run: its statements, loops and steps.
-ghost use Rattle.std.specs.Prelude.{◌≡◌, ◌+◌, ◌^◌, ◌<◌, ◌+ℤ◌, ℤ, List, Some, sum_by, length, pos, nat_lt, IsTrue, true, map, OnOk};
+ghost use Rattle.std.specs.Prelude.{◌≡◌, ◌+◌, ◌^◌, ◌<◌, ◌+ℤ◌, ◌-ℤ◌, ℤ, List, Some, sum_by, length, pos, IsTrue, true, map, OnOk};
 ghost use Rattle.affc_ast.specs.Index.{nodes_of_ix, nodes_of_compare, in_int64, is_int64};
 ghost use Rattle.affc_ast.specs.Meaning.{turns_of, assigned, combined, own_loads, own_value, nodes_of_locals, with_locals, with_iterator};
 ghost use Rattle.affc_ast.specs.Meaning as meaning;
@@ -125,13 +125,27 @@ impl Machine {
     }
 }
 
+// How often a loop turns whose iterator stays below the last value.
+fn turns_below(first: i64, last: i64) -> u128
+    ensures { result ≡ meaning.at_least_zero (last -ℤ first) }
+{
+    at_least_zero(i128::from(last) - i128::from(first))
+}
+
+// How often a loop turns whose iterator reaches the last value.
+fn turns_up_to(first: i64, last: i64) -> u128
+    ensures { result ≡ meaning.at_least_zero (last +ℤ pos 1 -ℤ first) }
+{
+    at_least_zero(i128::from(last) + 1 - i128::from(first))
+}
+
 // How often a loop turns.
 fn turn_count(rel: Rel, first: i64, last: i64) -> u128
     ensures { result ≡ turns_of rel first last }
 {
     match rel {
-        Rel::Less => at_least_zero(i128::from(last) - i128::from(first)),
-        Rel::LessEqual => at_least_zero(i128::from(last) + 1 - i128::from(first)),
+        Rel::Less => turns_below(first, last),
+        Rel::LessEqual => turns_up_to(first, last),
         Rel::Greater => 0,
         Rel::GreaterEqual => 0,
         Rel::Equal => 0,

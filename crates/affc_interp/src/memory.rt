@@ -63,6 +63,16 @@ fn step(size: usize, place: Option<usize>, x: i64, extent: i64) -> Option<usize>
     }
 }
 
+// Where one subscript more leads, and the extents of those behind it.
+fn one_on(size: usize, place: Option<usize>, x: i64, extents: &[i64]) -> (Option<usize>, &[i64])
+    ensures { (xs : List ℤ) → place_from size result.0 xs result.1.now ≡ place_from size place (x ∷ xs) extents.now }
+{
+    match extents {
+        [] => (None, extents),
+        [n, more @ ..] => (step(size, place, x, *n), more),
+    }
+}
+
 // The place of an element, whose first subscripts have led so far. All subscripts are read.
 fn place_on(
     size: usize,
@@ -79,11 +89,8 @@ fn place_on(
         [] => Ok(if extents.is_empty() { place } else { None }),
         [e, rest @ ..] => {
             let x = eval(e, node, names)?;
-            let next = node + node_count(e);
-            match extents {
-                [] => place_on(size, None, rest, extents, next, names),
-                [n, more @ ..] => place_on(size, step(size, place, x, *n), rest, more, next, names),
-            }
+            let (next, more) = one_on(size, place, x, extents);
+            place_on(size, next, rest, more, node + node_count(e), names)
         }
     }
 }

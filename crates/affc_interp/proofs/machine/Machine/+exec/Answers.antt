@@ -1,4 +1,4 @@
-use Rattle.std.proofs.Common.{rules, subst, ℤ, ◌≡◌, ◌+◌, ◌+ℤ◌, pos, ◌∙◌, ap, sym, map, length, arith, to_z, of_z, to_z-of_z, FitsSigned, w64}
+use Rattle.std.proofs.Common.{rules, subst, ℤ, ◌≡◌, ◌+◌, ◌^◌, ◌<◌, ◌+ℤ◌, pos, ◌∙◌, ap, sym, map, length, arith, to_z, of_z, to_z-of_z, FitsSigned, w64}
 use Rattle.std.proofs.lemmas.Result.{err_from_is_err_and}
 use Rattle.std.specs.Prelude.{sum_by}
 use Rattle.affc_ast.specs.Index.{nodes_of_ix, nodes_of_compare}
@@ -92,7 +92,7 @@ exec-exec_for-requires t c =
     let e = for_is c.args.s.now c.in-For.iter c.in-For.low c.in-For.rel c.in-For.high c.in-For.body c.as_slice.result.now c.in-For.is c.as_slice.ensures in
     let n : (exec_of c.args.s.now).nodes ≡ 1 + nodes_of_ix c.in-For.low + nodes_of_ix c.in-For.high + nodes_among (map exec_of c.as_slice.result.now) = ap (λ x. x.nodes) e in
     let a : (exec_of c.args.s.now).assigns ≡ assigns_among (map exec_of c.as_slice.result.now) = ap (λ x. x.assigns) e in
-    (omega arith, (omega arith, (omega arith, ap (λ x. x.within (length c.args.self.now.memory.extents)) (sym e) ∙ c.requires.within)))
+    (omega (arith, n), (subst (λ k. c.args.node + k < 2 ^ 32) n c.requires.nodes, (subst (λ k. c.args.statement + k < 2 ^ 32) a c.requires.assigns, ap (λ x. x.within (length c.args.self.now.memory.extents)) (sym e) ∙ c.requires.within)))
 
 pub exec-returns-in-For : goal.exec-returns-in-For
 exec-returns-in-For t c =
@@ -104,7 +104,7 @@ exec-exec_if-requires t c =
     let e = if_is c.args.s.now c.in-If.conds c.as_slice-in-If.result.now c.in-If.body c.as_slice-in-If-2.result.now c.in-If.is c.as_slice-in-If.ensures c.as_slice-in-If-2.ensures in
     let n : (exec_of c.args.s.now).nodes ≡ 1 + sum_by nodes_of_compare c.as_slice-in-If.result.now + nodes_among (map exec_of c.as_slice-in-If-2.result.now) = ap (λ x. x.nodes) e in
     let a : (exec_of c.args.s.now).assigns ≡ assigns_among (map exec_of c.as_slice-in-If-2.result.now) = ap (λ x. x.assigns) e in
-    (omega arith, (omega arith, (omega arith, ap (λ x. x.within (length c.args.self.now.memory.extents)) (sym e) ∙ c.requires.within)))
+    (omega (arith, n), (subst (λ k. c.args.node + k < 2 ^ 32) n c.requires.nodes, (subst (λ k. c.args.statement + k < 2 ^ 32) a c.requires.assigns, ap (λ x. x.within (length c.args.self.now.memory.extents)) (sym e) ∙ c.requires.within)))
 
 pub exec-returns-in-If : goal.exec-returns-in-If
 exec-returns-in-If t c =
@@ -116,7 +116,7 @@ exec-exec_block-requires t c =
     let e = block_is c.args.s.now c.in-Block.locals c.as_slice-in-Block.result.now c.in-Block.body c.as_slice-in-Block-2.result.now c.in-Block.is c.as_slice-in-Block.ensures c.as_slice-in-Block-2.ensures in
     let n : (exec_of c.args.s.now).nodes ≡ 1 + nodes_of_locals c.as_slice-in-Block.result.now + nodes_among (map exec_of c.as_slice-in-Block-2.result.now) = ap (λ x. x.nodes) e in
     let a : (exec_of c.args.s.now).assigns ≡ assigns_among (map exec_of c.as_slice-in-Block-2.result.now) = ap (λ x. x.assigns) e in
-    (omega arith, (omega arith, (omega arith, ap (λ x. x.within (length c.args.self.now.memory.extents)) (sym e) ∙ c.requires.within)))
+    (omega (arith, n), (subst (λ k. c.args.node + k < 2 ^ 32) n c.requires.nodes, (subst (λ k. c.args.statement + k < 2 ^ 32) a c.requires.assigns, ap (λ x. x.within (length c.args.self.now.memory.extents)) (sym e) ∙ c.requires.within)))
 
 pub exec-returns-in-Block : goal.exec-returns-in-Block
 exec-returns-in-Block t c =
