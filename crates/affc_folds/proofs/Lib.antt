@@ -5,3 +5,4 @@ pub mod CheapestLemmas
 pub mod KeptLemmas
 pub mod ChoiceLemmas
 pub mod TryLemmas
+pub mod AgainLemmas

@@ -224,6 +224,12 @@ module _ (Answers : List ℕ → ℕ → Type 0) (program : Program) (schedule :
           bound = rated.bound;
         }
 
+    pub chosen_rows : (fold : Fold) (choice : Choice) → IsChosen found fold choice → length fold.basis.rows ≡ dimensions
+    chosen_rows fold choice c =
+        let place = tops.beside found (listing dimensions) choice.number (Some c.one) (sym many) c.is_first.there in
+        let rated : IsRated Answers program schedule budget array place.0 c.one = h choice.number place.0 (Some c.one) place.1 c.is_first.there in
+        ap (λ (f : Fold). length f.basis.rows) c.its_fold ∙ listed_rows dimensions choice.number c.one.fold.basis (place.1 ∙ ap (λ s. Some s) (sym rated.its_shape))
+
     pub none_left : dimensions ≤ 4 → (taken : Option (Fold × Choice)) → IfNone taken (NoneFound found) → IfNone taken (IsSpent budget)
     none_left few None none = none_taken few none
     none_left few (Some t) none = tt

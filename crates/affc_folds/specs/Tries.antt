@@ -1,5 +1,5 @@
 -- What was found of the bases of an array.
-use Rattle.std.specs.Prelude.{◌≡◌, ℕ, true, false, List, Option, Some, None, slice_get}
+use Rattle.std.specs.Prelude.{◌≡◌, ◌⊎◌, ℕ, true, false, List, Option, Some, None, slice_get}
 use Rattle.affc_ast.specs.declared.tree.ArrayId.{ArrayId}
 use Rattle.affc_ast.specs.declared.tree.Program.{Program}
 use Rattle.affc_trace.specs.declared.schedule.Schedule.{Schedule}
@@ -40,3 +40,8 @@ pub record IsFolded (Answers : List ℕ → ℕ → Type 0) (program : Program) 
   pub is_fold : IsFoldFor program schedule array folded.0
   pub is_choice : IsChoice Answers program schedule bases budget array folded.0 folded.1
   pub bound : HasBound folded.0 → IsSpent budget
+
+-- the first fold, or one that was found and that costs as much, where the price of the basis isn't missing
+abbrev pub IsEither : (fold : Fold) → Choice → Option Rated → (taken : Fold) → Type 0
+IsEither fold choice one taken =
+    (taken ≡ fold) ⊎ ((r : Rated) × (one ≡ Some r) × (taken ≡ r.fold) × (r.price.cost ≡ choice.cost) × (slice_get choice.prices choice.number ≡ Some None → ⊥))

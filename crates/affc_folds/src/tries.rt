@@ -1,5 +1,5 @@
 //! The folds of an array along its bases, of which one is taken.
-ghost use Rattle.std.specs.Prelude.{◌≡◌, ℕ, ℤ, List, ◌≤◌, IfOk, IfErr, IfNone, IfSome, Some, length, map, slice_get};
+ghost use Rattle.std.specs.Prelude.{◌≡◌, ℕ, ℤ, List, ◌≤◌, IfOk, IfErr, IfNone, IfSome, Some, None, length, map, slice_get};
 ghost use Rattle.std.specs.List.{All};
 ghost use Rattle.affc_rows.specs.Forms.{Affine};
 ghost use Rattle.affc_system.specs.ElementPairs.{IsPairOf};
@@ -14,14 +14,14 @@ ghost use Rattle.affc_conflicts.specs.Conditions.{InContext};
 ghost use Rattle.affc_quast.specs.Seen.{trees_of};
 ghost use Rattle.affc_folds.specs.Folding.{IsAnalysed, IsFoldFor, IsSpent, HasBound, given_for};
 ghost use Rattle.affc_folds.specs.Systems.{AreLive};
-ghost use Rattle.affc_folds.specs.Tries.{IsRated, IsTried, AreTried, IsFolded};
+ghost use Rattle.affc_folds.specs.Tries.{IsRated, IsTried, AreTried, IsFolded, IsEither};
 
 use crate::asked::Asked;
 use crate::bases::{copy_of_basis, given_basis};
 use crate::systems::live_systems;
 use affc_ast::tree::ArrayId;
 use affc_basis::{Basis, Fold, Modulus, listed};
-use affc_moduli::moduli;
+use affc_moduli::{Hint, moduli};
 use affc_nest::ArrayInfo;
 use affc_split::{Budget, Stop};
 use affc_system::PairSystem;
@@ -45,6 +45,7 @@ fn moduli_along(
     info: &ArrayInfo,
     systems: &[PairSystem],
     basis: &Basis,
+    hint: Hint<'_>,
     budget: &mut Budget,
 ) -> Result<Items<Modulus>, Stop>
     requires analysed { IsAnalysed asked.now.program.now asked.now.nest.now (trees_of asked.now.flow.now) asked.now.schedule.now }
@@ -65,7 +66,9 @@ fn moduli_along(
     }
     let context = &asked.nest.context;
     let ranges = &asked.nest.params;
-    moduli(alloc, systems, basis, extents, context, ranges, budget)
+    moduli(
+        alloc, systems, basis, extents, context, ranges, hint, budget,
+    )
 }
 
 /// The fold of an array along a basis.
@@ -76,6 +79,7 @@ fn fold_along(
     info: &ArrayInfo,
     systems: &[PairSystem],
     basis: &Basis,
+    hint: Hint<'_>,
     budget: &mut Budget,
 ) -> Result<Fold, Stop>
     requires analysed { IsAnalysed asked.now.program.now asked.now.nest.now (trees_of asked.now.flow.now) asked.now.schedule.now }
@@ -90,7 +94,7 @@ fn fold_along(
     ensures stop { IfErr result (λ e. e ≡ Stop.Memory) }
 {
     let basis = copy_of_basis(alloc, basis)?;
-    let moduli = moduli_along(alloc, asked, array, info, systems, &basis, budget)?;
+    let moduli = moduli_along(alloc, asked, array, info, systems, &basis, hint, budget)?;
     Ok(Fold { basis, moduli })
 }
 
@@ -103,6 +107,7 @@ fn priced<F: Cost>(
     systems: &[PairSystem],
     basis: &Basis,
     cost: &Weigher<F>,
+    hint: Hint<'_>,
     budget: &mut Budget,
 ) -> Result<Option<Rated>, Stop>
     requires analysed { IsAnalysed asked.now.program.now asked.now.nest.now (trees_of asked.now.flow.now) asked.now.schedule.now }
@@ -114,7 +119,7 @@ fn priced<F: Cost>(
     ensures later { IsLater budget.old budget.new }
     ensures stop { IfErr result (λ e. e ≡ Stop.Memory) }
 {
-    let fold = fold_along(alloc, asked, array, info, systems, basis, budget)?;
+    let fold = fold_along(alloc, asked, array, info, systems, basis, hint, budget)?;
     Ok(rate(alloc, fold, cost)?)
 }
 
@@ -158,6 +163,7 @@ fn tried<F: Cost>(
     systems: &[PairSystem],
     basis: &Basis,
     cost: &Weigher<F>,
+    hint: Hint<'_>,
     budget: &mut Budget,
 ) -> Result<Option<Rated>, Stop>
     requires analysed { IsAnalysed asked.now.program.now asked.now.nest.now (trees_of asked.now.flow.now) asked.now.schedule.now }
@@ -169,7 +175,10 @@ fn tried<F: Cost>(
     ensures later { IsLater budget.old budget.new }
     ensures stop { IfErr result (λ e. e ≡ Stop.Memory) }
 {
-    let Some(one) = priced(alloc, asked, array, info, systems, basis, cost, budget)? else {
+    let Some(one) = priced(
+        alloc, asked, array, info, systems, basis, cost, hint, budget,
+    )?
+    else {
         return Ok(None);
     };
     Ok(worth_while(alloc, asked, array, info, basis, one, cost, budget)?)
@@ -184,6 +193,7 @@ fn all_tried<F: Cost>(
     systems: &[PairSystem],
     bases: &[Basis],
     cost: &Weigher<F>,
+    hint: Hint<'_>,
     budget: &mut Budget,
 ) -> Result<Items<Option<Rated>>, Stop>
     requires analysed { IsAnalysed asked.now.program.now asked.now.nest.now (trees_of asked.now.flow.now) asked.now.schedule.now }
@@ -198,10 +208,76 @@ fn all_tried<F: Cost>(
 {
     let mut found = Items::new(alloc);
     for basis in bases {
-        let one = tried(alloc, asked, array, info, systems, basis, cost, budget)?;
+        let one = tried(
+            alloc, asked, array, info, systems, basis, cost, hint, budget,
+        )?;
         found.push(one)?;
     }
     Ok(found)
+}
+
+/// What the moduli of the basis that is chosen come to, if that is known.
+fn known_of(choice: &Choice) -> &[u64]
+    ensures { 1 ≤ length result.now → slice_get choice.now.prices choice.now.number ≡ Some None → ⊥ }
+{
+    match choice.prices.as_slice().get(choice.number as usize) {
+        Some(Some(price)) => price.values.as_slice(),
+        _ => &[],
+    }
+}
+
+/// A fold along the basis that is chosen, if it costs as much, or else the one by which it was chosen.
+fn with_marks(fold: Fold, choice: &Choice, one: Option<Rated>) -> Fold
+    ensures { IsEither fold choice.now one result }
+{
+    match one {
+        None => fold,
+        Some(one) => {
+            if one.price.cost != choice.cost || known_of(choice).is_empty() {
+                return fold;
+            }
+            one.fold
+        }
+    }
+}
+
+/// The fold that is chosen with all that is shown of it, in place of the one by which it was chosen. Both cost the same.
+fn in_full<F: Cost>(
+    alloc: Global,
+    asked: &Asked<'_>,
+    array: ArrayId,
+    info: &ArrayInfo,
+    systems: &[PairSystem],
+    bases: &[Basis],
+    cost: &Weigher<F>,
+    chosen: (Fold, Choice),
+    budget: &mut Budget,
+) -> Result<(Fold, Choice), Stop>
+    requires analysed { IsAnalysed asked.now.program.now asked.now.nest.now (trees_of asked.now.flow.now) asked.now.schedule.now }
+    requires there { slice_get asked.now.nest.now.arrays array.0 ≡ Some info.now }
+    requires temporary { length (arrays_of asked.now.program.now.params) ≤ array.0 }
+    requires live { AreLive asked.now.program.now asked.now.schedule.now asked.now.nest.now array.0 info.now.extents systems.now }
+    requires bases { map shape_of bases.now ≡ listing (length info.now.extents) }
+    requires none_given { given_for asked.now.bases.now array.0 (length info.now.extents) ≡ None }
+    requires rows { length chosen.0.basis.rows ≡ length info.now.extents }
+    requires folded { IsFolded (F.answers cost.now.cost) asked.now.program.now asked.now.schedule.now asked.now.bases.now budget.old array.0 chosen }
+    ensures folded { IfOk result (IsFolded (F.answers cost.now.cost) asked.now.program.now asked.now.schedule.now asked.now.bases.now budget.new array.0) }
+    ensures later { IsLater budget.old budget.new }
+    ensures stop { IfErr result (λ e. e ≡ Stop.Memory) }
+{
+    let (fold, choice) = chosen;
+    let Some(basis) = bases.get(choice.number as usize) else {
+        return Ok((fold, choice));
+    };
+    let hint = Hint {
+        quick: false,
+        known: known_of(&choice),
+    };
+    let one = tried(
+        alloc, asked, array, info, systems, basis, cost, hint, budget,
+    )?;
+    let full = with_marks(fold, &choice, one);
+    Ok((full, choice))
 }
 
 /// The cheapest fold of an array along the listed bases.
@@ -224,14 +300,30 @@ fn fold_cheapest<F: Cost>(
 {
     let bases = listed(alloc, dimensions_of(info))?;
     let bases = bases.as_slice();
-    let systems = match live_systems(alloc, asked, array, info, bases.len() > 1, budget) {
+    let several = bases.len() > 1;
+    let systems = match live_systems(alloc, asked, array, info, several, budget) {
         Ok(systems) => systems,
         Err(Stop::Budget) => return Ok(None),
         Err(Stop::Memory) => return Err(Stop::Memory),
     };
     let systems = systems.as_slice();
-    let found = all_tried(alloc, asked, array, info, systems, bases, cost, budget)?;
-    Ok(choose(alloc, found)?)
+    let quick = several && budget.limit().is_none();
+    let hint = Hint { quick, known: &[] };
+    let found = all_tried(
+        alloc, asked, array, info, systems, bases, cost, hint, budget,
+    )?;
+    match choose(alloc, found)? {
+        None => Ok(None),
+        Some(chosen) => {
+            if !quick {
+                return Ok(Some(chosen));
+            }
+            let done = in_full(
+                alloc, asked, array, info, systems, bases, cost, chosen, budget,
+            )?;
+            Ok(Some(done))
+        }
+    }
 }
 
 /// The fold of an array along the basis that is given for it.
@@ -260,7 +352,14 @@ fn fold_given<F: Cost>(
         Err(Stop::Memory) => return Err(Stop::Memory),
     };
     let systems = systems.as_slice();
-    let Some(one) = tried(alloc, asked, array, info, systems, basis, cost, budget)? else {
+    let hint = Hint {
+        quick: false,
+        known: &[],
+    };
+    let Some(one) = tried(
+        alloc, asked, array, info, systems, basis, cost, hint, budget,
+    )?
+    else {
         return Ok(None);
     };
     let choice = Choice {

@@ -1,5 +1,5 @@
 -- The search for the greatest distance, and the points that have it.
-use Rattle.std.proofs.Common.{◌≡◌, ℕ, ◌+◌, ◌^◌, ◌≤◌, List, length, ℤ, pos, negsuc, ◌+ℤ◌, ◌≤ℤ◌, ◌<ℤ◌, refl, sym, ap, subst, ◌∙◌, arith, inl, inr}
+use Rattle.std.proofs.Common.{◌≡◌, ℕ, ◌+◌, ◌^◌, ◌≤◌, Bool, true, false, IsTrue, List, length, ℤ, pos, negsuc, ◌+ℤ◌, ◌≤ℤ◌, ◌<ℤ◌, refl, sym, ap, subst, ◌∙◌, arith, inl, inr}
 use Rattle.std.specs.Prelude.{unsigned_abs, slice_get, Option, Some, None, IfSome, IfNone}
 use Rattle.std.proofs.lemmas.Int.{ints}
 use Rattle.std.proofs.lemmas.Option.{same_Some, slice_get_within}
@@ -16,6 +16,10 @@ use Rattle.affc_moduli.specs.Shown.{IsDistance, IsTie, IsSought}
 use Rattle.affc_moduli.proofs.Farthest.{bounded_both}
 use Rattle.affc_moduli.proofs.Lifted.{before_or_at}
 
+pub not_true : (b : Bool) → b ≡ false → IsTrue b → ⊥
+not_true true e h = absurd (cc)
+not_true false e h = absurd (cc)
+
 natural_of : (v : ℤ) → pos 1 ≤ℤ v → pos 0 ≤ℤ v
 natural_of v h = omega (arith, ints)
 
@@ -29,12 +33,12 @@ pub reached_by : (level floor v : ℤ) → level ≤ℤ (floor +ℤ pos 1) → f
 reached_by level floor v h k = omega (arith, ints)
 
 module _ (systems : List PairSystem) (regions : List Region) (cs : List ℤ) where
-  pub one_found : (s : Sought) (c : Candidate) → s.level ≡ c.found.value → s.best ≡ Some c → unsigned_abs c.found.value ≤ 2 ^ 55 → IsTie systems regions cs c.found.value c.found → IsSought systems regions cs s
-  one_found s c e b near tie = record {
+  pub one_found : (start : ℤ) (s : Sought) (c : Candidate) → s.level ≡ c.found.value → s.best ≡ Some c → unsigned_abs c.found.value ≤ 2 ^ 55 → IsTie systems regions cs c.found.value c.found → IsSought systems regions cs start s
+  one_found start s c e b near tie = record {
     natural = subst (λ (v : ℤ). pos 0 ≤ℤ v) (sym e) (natural_of c.found.value tie.positive);
     near = subst (λ (v : ℤ). unsigned_abs v ≤ 2 ^ 55) (sym e) near;
     best = subst (λ (o : Option Candidate). IfSome o (λ q. IsTie systems regions cs s.level q.found)) (sym b) (subst (λ (v : ℤ). IsTie systems regions cs v c.found) (sym e) tie);
-    none = subst (λ (o : Option Candidate). IfNone o (s.level ≡ pos 0)) (sym b) tt;
+    none = subst (λ (o : Option Candidate). IfNone o (s.level ≡ start)) (sym b) tt;
   }
 
   pub tie_at : (found : Found) (s : PairSystem) (r : Region) (f : Affine) → slice_get systems found.number ≡ Some s → slice_get regions found.number ≡ Some r → IsDistance cs s r f
@@ -80,7 +84,7 @@ module _ (systems : List PairSystem) (regions : List Region) (cs : List ℤ) whe
       nothing v n e f = omega (arith, ints)
 
   module _ (fs gs : List Affine) (regions_each : length regions ≡ length systems) (fs_each : length fs ≡ length systems) (gs_each : length gs ≡ length systems) (over : AreOver systems regions)
-      (forward : AreForward systems cs fs) (backward : AreBackward systems cs gs) (s : Sought) (sought : IsSought systems regions cs s) (low : AreBounded regions fs s.level) (high : AreBounded regions gs s.level) where
+      (forward : AreForward systems cs fs) (backward : AreBackward systems cs gs) (start : ℤ) (s : Sought) (sought : IsSought systems regions cs start s) (low : AreBounded regions fs s.level) (high : AreBounded regions gs s.level) where
     within : AreApartWithin systems regions cs (natural s.level sought.natural).0
     within =
         let n = natural s.level sought.natural in
@@ -89,8 +93,12 @@ module _ (systems : List PairSystem) (regions : List Region) (cs : List ℤ) whe
     pub best_is_farthest : IfSome s.best (λ c. IsFarthest systems regions cs (Some c.found))
     best_is_farthest = let n = natural s.level sought.natural in some_farthest s.level n.0 n.1 within s.best sought.best
 
-    pub none_is_farthest : IfNone s.best (IsFarthest systems regions cs None)
-    none_is_farthest = let n = natural s.level sought.natural in none_farthest s.level n.0 n.1 within s.best sought.none
+    at_zero : (o : Option Candidate) → IfNone o (s.level ≡ start) → IfNone o (start ≡ pos 0) → IfNone o (s.level ≡ pos 0)
+    at_zero None h k = h ∙ k
+    at_zero (Some c) h k = tt
+
+    pub none_is_farthest : IfNone s.best (start ≡ pos 0) → IfNone s.best (IsFarthest systems regions cs None)
+    none_is_farthest h = let n = natural s.level sought.natural in none_farthest s.level n.0 n.1 within s.best (at_zero s.best sought.none h)
 
 up : (u v w : ℤ) → u ≤ℤ v → v ≤ℤ w → u ≤ℤ w
 up u v w h k = omega (arith, ints)

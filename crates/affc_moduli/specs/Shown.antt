@@ -21,12 +21,12 @@ pub record IsTie (systems : List PairSystem) (regions : List Region) (cs : List 
   pub positive : pos 1 ≤ℤ level
   pub apart : IsApartAt systems regions cs found.number found.point.items (unsigned_abs level)
 
--- the greatest distance so far, which some elements have unless it is 0
-pub record IsSought (systems : List PairSystem) (regions : List Region) (cs : List ℤ) (sought : Sought) : Type 0 where
+-- the greatest distance so far, which some elements have unless it is the start
+pub record IsSought (systems : List PairSystem) (regions : List Region) (cs : List ℤ) (start : ℤ) (sought : Sought) : Type 0 where
   pub natural : pos 0 ≤ℤ sought.level
   pub near : unsigned_abs sought.level ≤ 2 ^ 55
   pub best : IfSome sought.best (λ c. IsTie systems regions cs sought.level c.found)
-  pub none : IfNone sought.best (sought.level ≡ pos 0)
+  pub none : IfNone sought.best (sought.level ≡ start)
 
 -- two elements in the other order
 abbrev pub swapped : Option (List ℤ × List ℤ) → Option (List ℤ × List ℤ)

@@ -14,6 +14,8 @@ ghost use Rattle.affc_moduli.specs.Slices.{AreSlices};
 ghost use Rattle.affc_moduli.specs.Ended.{IsSpent};
 ghost use Rattle.affc_moduli.specs.Rows.{AreKept, AreMarkedOr};
 
+use crate::distances::MOST_DISTANCE;
+use crate::extremes::Aim;
 use crate::reduced::reduce_all;
 use crate::row::row_done;
 use crate::slices::copies;
@@ -24,6 +26,27 @@ use affc_split::{Answer, Budget, Stop, decide};
 use affc_system::{BoxOf, PairSystem, System};
 use sqlite_items::Items;
 use std::alloc::Global;
+
+/// What is wanted of moduli, and what is known of them.
+#[derive(Clone, Copy, Drop)]
+pub struct Hint<'a> {
+    /// Whether only the least constants are wanted, with any elements that have the distance.
+    pub quick: bool,
+    /// The least constant of each row, as far as these are known. What is wrong here costs time alone.
+    pub known: &'a [u64],
+}
+
+/// How the greatest distance along the row with this number is sought.
+fn aim_at(hint: Hint<'_>, k: usize) -> Aim {
+    let start = match hint.known.get(k) {
+        Some(value) if 1 <= *value && *value <= MOST_DISTANCE as u64 => (*value - 1) as i64,
+        _ => 0,
+    };
+    Aim {
+        quick: hint.quick,
+        start,
+    }
+}
 
 /// A point of the context, if the budget lasts.
 fn context_point(
@@ -58,6 +81,7 @@ fn all_rows(
     rows: &[Form],
     regions: &mut [Region],
     some: &Option<Vec<i64>>,
+    hint: Hint<'_>,
     budget: &mut Budget,
 ) -> Result<Items<Modulus>, Stop>
     requires ready { AreReady context.now ranges.now extents.now rows.now pairs.now }
@@ -76,7 +100,18 @@ fn all_rows(
             return Err(Stop::Memory);
         };
         let modulus = row_done(
-            alloc, pairs, extents, context, ranges, rows, k, regions, some, &rows[k], budget,
+            alloc,
+            pairs,
+            extents,
+            context,
+            ranges,
+            rows,
+            k,
+            regions,
+            some,
+            &rows[k],
+            aim_at(hint, k),
+            budget,
         )?;
         let Ok(()) = made.push(modulus) else {
             return Err(Stop::Memory);
@@ -94,6 +129,7 @@ pub fn moduli(
     extents: &[Form],
     context: &System,
     ranges: &BoxOf,
+    hint: Hint<'_>,
     budget: &mut Budget,
 ) -> Result<Items<Modulus>, Stop>
     requires parameters { length ranges.now ≡ context.now.columns }
@@ -131,6 +167,7 @@ pub fn moduli(
         rows,
         regions.as_mut_slice(),
         &some,
+        hint,
         budget,
     )
 }

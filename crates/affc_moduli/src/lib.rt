@@ -18,4 +18,4 @@ mod tops;
 mod witness;
 
 pub use chosen::Chosen;
-pub use fold::moduli;
+pub use fold::{Hint, moduli};

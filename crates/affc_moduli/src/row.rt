@@ -16,7 +16,7 @@ ghost use Rattle.affc_moduli.specs.Shown.{other_way, swapped};
 use crate::bounds::Bound;
 use crate::ceilings::bound_of;
 use crate::distances::{backward, forward};
-use crate::extremes::{Reach, Shown, farthest};
+use crate::extremes::{Aim, Reach, Shown, farthest};
 use crate::forms::{chosen, context_region};
 use crate::slices::narrow_all;
 use affc_basis::{Mark, Modulus};
@@ -380,6 +380,7 @@ fn marked(
     fs: &[Form],
     gs: &[Form],
     shown: &Shown,
+    aim: Aim,
     budget: &mut Budget,
 ) -> Result<Modulus, Stop>
     requires ready { AreReady context.now ranges.now extents.now rows.now pairs.now }
@@ -411,6 +412,9 @@ fn marked(
         return Err(Stop::Memory);
     };
     let constant = in_order(pairs, context, ranges, rows, k, row, modulus, shown.turned);
+    if aim.quick {
+        return Ok(constant);
+    }
     formed(
         alloc, pairs, extents, context, ranges, rows, k, regions, row, fs, gs, constant, budget,
     )
@@ -459,6 +463,7 @@ fn asked(
     row: &Form,
     fs: &[Form],
     gs: &[Form],
+    aim: Aim,
     budget: &mut Budget,
 ) -> Result<Modulus, Stop>
     requires ready { AreReady context.now ranges.now extents.now rows.now pairs.now }
@@ -475,11 +480,11 @@ fn asked(
     ensures stop { IfErr result (λ e. e ≡ Stop.Memory) }
 {
     let parameters = context.columns() as usize;
-    match farthest(alloc, row, pairs, regions, fs, gs, parameters, budget)? {
+    match farthest(alloc, row, pairs, regions, fs, gs, parameters, aim, budget)? {
         Reach::Farthest(shown) => {
             marked(
                 alloc, pairs, extents, context, ranges, rows, k, regions, some, row, fs, gs,
-                &shown, budget,
+                &shown, aim, budget,
             )
         }
         Reach::Within(bound) => {
@@ -507,6 +512,7 @@ fn modulus_along(
     row: &Form,
     fs: &[Form],
     gs: &[Form],
+    aim: Aim,
     budget: &mut Budget,
 ) -> Result<Modulus, Stop>
     requires ready { AreReady context.now ranges.now extents.now rows.now pairs.now }
@@ -537,6 +543,7 @@ fn modulus_along(
             row,
             fs,
             gs,
+            aim,
             budget,
         ),
         None => {
@@ -564,6 +571,7 @@ fn made(
     row: &Form,
     fs: &[Form],
     gs: &[Form],
+    aim: Aim,
     budget: &mut Budget,
 ) -> Result<Modulus, Stop>
     requires ready { AreReady context.now ranges.now extents.now rows.now pairs.now }
@@ -582,7 +590,7 @@ fn made(
     ensures stop { IfErr result (λ e. e ≡ Stop.Memory) }
 {
     let modulus = modulus_along(
-        alloc, pairs, extents, context, ranges, rows, k, regions, some, row, fs, gs, budget,
+        alloc, pairs, extents, context, ranges, rows, k, regions, some, row, fs, gs, aim, budget,
     )?;
     if rows.len() <= k + 1 {
         return Ok(modulus);
@@ -605,6 +613,7 @@ pub fn row_done(
     regions: &mut [Region],
     some: &Option<Vec<i64>>,
     row: &Form,
+    aim: Aim,
     budget: &mut Budget,
 ) -> Result<Modulus, Stop>
     requires ready { AreReady context.now ranges.now extents.now rows.now pairs.now }
@@ -638,6 +647,7 @@ pub fn row_done(
         row,
         fs.as_slice(),
         gs.as_slice(),
+        aim,
         budget,
     )
 }

@@ -11,4 +11,4 @@ returns-clause-sought c =
     let near = c.requires.near in
     let f : FitsSigned w64 c.args.candidate.found.value = fits_signed_from_abs w64 c.args.candidate.found.value (omega (arith, near)) in
     let s : Sought = record { level = c.args.candidate.found.value; best = Some c.args.candidate } in
-    simp to_z-of_z (one_found c.args.pairs.now c.args.regions.now c.args.row.now.coefs s c.args.candidate refl refl near c.requires.tie)
+    simp to_z-of_z (one_found c.args.pairs.now c.args.regions.now c.args.row.now.coefs c.args.aim.start s c.args.candidate refl refl near c.requires.tie)
