@@ -6,3 +6,4 @@ pub mod Ready
 pub mod Enough
 pub mod Shown
 pub mod Ended
+pub mod Barred

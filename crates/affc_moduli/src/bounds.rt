@@ -1,12 +1,12 @@
 //! How great a form can be in a region, by its box and by single rows, without a question.
-ghost use Rattle.std.specs.Prelude.{◌≡◌, ℤ, List, ◌^◌, ◌≤◌, ◌≤ℤ◌, ◌<ℤ◌, ◌+ℤ◌, unsigned_abs, pos, IsTrue, IfSome, length};
+ghost use Rattle.std.specs.Prelude.{◌≡◌, ℤ, List, ◌^◌, ◌≤◌, ◌≤ℤ◌, ◌+ℤ◌, unsigned_abs, pos, IsTrue, IfSome, length};
 ghost use Rattle.std.specs.List.{All};
 ghost use Rattle.affc_system.specs.Systems.{IsRow, Meets};
 ghost use Rattle.affc_split.specs.maximum.Regions.{InRegion, IsBounded, IsAskable};
 ghost use Rattle.affc_rows.specs.Vocabulary.{AreOpposite};
 
 use crate::distances::MOST_DISTANCE;
-use crate::keys::key_of;
+use crate::keys::{barring_by_key, key_of};
 use crate::tops::top_over;
 use affc_rows::Form;
 use affc_rows::vocabulary::are_opposite;
@@ -113,42 +113,14 @@ fn is_broken(region: &Region, row: &Form) -> bool
     top_of(region, row) < 0
 }
 
-/// Whether the sum of the constants is below 0.
-fn is_low(row: &Form, form: &Form, columns: u32) -> bool
-    requires row { IsRow columns row.now }
-    requires form { IsRow columns form.now }
-    ensures { IsTrue result → (row.now.constant +ℤ form.now.constant) <ℤ pos 0 }
-{
-    sum_of_constants(row, form, columns).most < 0
-}
-
-/// Whether a row of a region and another are parallel, and nowhere both at least 0.
-fn is_barred_by(region: &Region, other: &Form, row: &Form) -> bool
-    requires other { IsRow region.now.system.columns other.now }
-    requires row { IsRow region.now.system.columns row.now }
-    requires other_meets { (z : List ℤ) → InRegion region.now z → Meets z other.now }
-    ensures { IsTrue result → (z : List ℤ) → InRegion region.now z → Meets z row.now → ⊥ }
-{
-    if !is_low(other, row, region.system.columns()) {
-        return false;
-    }
-    opposes(other, row)
-}
-
-/// Whether a parallel row of the region is nowhere at least 0 where a row is. Only those of the first rows are compared with it
-/// that have the key, of these keys.
+/// Whether a parallel row of the region is nowhere at least 0 where a row is, which has this key. Only the first rows are looked
+/// at, of which these are the keys.
 fn is_barred(region: &Region, row: &Form, key: i64, keys: &[i64]) -> bool
     requires row { IsRow region.now.system.columns row.now }
     requires first { length keys.now ≤ length region.now.system.rows }
     ensures { IsTrue result → (z : List ℤ) → InRegion region.now z → Meets z row.now → ⊥ }
 {
-    let rows = region.system.rows();
-    for (i, own) in keys.iter().enumerate() {
-        if *own == key && is_barred_by(region, &rows[i], row) {
-            return true;
-        }
-    }
-    false
+    barring_by_key(&region.system, keys, row, key).is_some()
 }
 
 /// Whether a row more, which has this key, is seen to leave a region no point: it is below 0 throughout the box, or parallel to one
@@ -161,7 +133,7 @@ pub fn is_out(region: &Region, row: &Form, key: i64, keys: &[i64]) -> bool
     if is_broken(region, row) {
         return true;
     }
-    is_barred(region, row, key.wrapping_neg(), keys)
+    is_barred(region, row, key, keys)
 }
 
 /// Whether one row is below 0 throughout the box.
@@ -183,7 +155,7 @@ fn has_barred_row(region: &Region, keys: &mut [i64]) -> bool
 {
     for (i, row) in region.system.rows().iter().enumerate() {
         let key = key_of(row);
-        if is_barred(region, row, key.wrapping_neg(), &keys[..i]) {
+        if is_barred(region, row, key, &keys[..i]) {
             return true;
         }
         keys[i] = key;

@@ -19,3 +19,4 @@ mod witness;
 
 pub use chosen::Chosen;
 pub use fold::{Hint, moduli};
+pub use keys::{barring, key_of};
