@@ -8,10 +8,11 @@ use Rattle.std.proofs.lemmas.List.Elements.{All-append, All-replicate, All-weake
 use Rattle.affc_rows.specs.Vocabulary.{padded}
 use Rattle.affc_rows.specs.Forms.{Affine, dot, value, mixed, mixed_form, mixed_form_magnitudes, TooWide}
 use Rattle.affc_rows.proofs.ValueLemmas.{length-mixed}
-use Rattle.affc_conflicts.proofs.differences.Mixtures.{dot-zeros, mixed_within, entry_within, form_fits, value_minus}
+use Rattle.affc_conflicts.proofs.differences.Mixtures.{dot-zeros, mixed_within, entry_within, value_minus}
 use Rattle.affc_split.specs.maximum.Regions.{IsMeasure}
 use Rattle.affc_basis.specs.Moduli.{IsModulus}
 use Rattle.affc_moduli.specs.Enough.{IsBelow, AreBelow, AreBelowBefore, IsComparable, AreComparable}
+use Rattle.affc_moduli.proofs.Fits.{form_fits}
 use Rattle.affc_split.specs.declared.maximum.region.Region.{Region}
 use Rattle.std.proofs.lemmas.Option.{same_Some, slice_get_read, slice_get_within}
 
