@@ -1,6 +1,6 @@
 -- Trees that are right under the tests and divisions above them: leaves by their questions, tests by both sides, and divisions.
 use Rattle.std.proofs.Common.{◌≡◌, ℕ, zero, suc, ◌+◌, ◌-◌, ◌^◌, ◌≤◌, ℤ, pos, negsuc, ◌≤ℤ◌, false, List, [], ◌∷◌, ◌++◌, length, map, replicate, Option, Some, None, refl, sym, ap, subst, ◌∙◌, inl, arith}
-use Rattle.std.specs.Prelude.{max, int_le, slice_get, Result, Ok, Err, IfOk, IfSome}
+use Rattle.std.specs.Prelude.{max, int_le, slice_get, IfSome}
 use Rattle.std.specs.List.{All}
 use Rattle.std.proofs.lemmas.Int.{ints}
 use Rattle.std.proofs.lemmas.Option.{same_Some}
@@ -36,8 +36,6 @@ use Rattle.affc_quast.specs.Laws.{IsOver}
 use Rattle.affc_quast.specs.Leaves.{Leaf, multiple, negated, division_rows}
 use Rattle.affc_quast.specs.Limits.{narrow, FitsForm, Shaped}
 use Rattle.affc_quast.specs.Paths.{IsNear}
-use Rattle.affc_quast.specs.Seen.{seen}
-use Rattle.affc_quast.specs.declared.quast.Quast.{Quast}
 use Rattle.affc_quast.specs.Trees.{Tree, Test, Div, Source, Input, instance_at, named_at, quotients_at, depth_of, divisions_of}
 use Rattle.affc_quast.proofs.RangeLemmas.{floor_grows}
 use Rattle.affc_quast.proofs.LeafLemmas.{padded_value, short_value, says_negated, division_met, floor_is}
@@ -244,22 +242,15 @@ divided_is path form by columns rows first second third fourth whole least past 
 -- ---- Tests
 
 module _ (nest : Nest) (e : Entry) (x : Access) (path : Rows) (ranges : List (ℤ × ℤ)) (left divisions : ℕ) where
-  pub deeper_covers : (tree : Tree) → CoversOn nest e x path ranges 0 divisions tree → CoversOn nest e x path ranges left divisions tree
-  deeper_covers tree c = record {
+  -- a leaf has no tests and no divisions above it
+  pub leaf_covers : (tree : Tree) → CoversOn nest e x path ranges 0 0 tree → CoversOn nest e x path ranges left divisions tree
+  leaf_covers tree c = record {
     right = c.right;
-    within = record { shaped = c.within.shaped; stores = c.within.stores; fits = c.within.fits; short = more c.within.short; few = c.within.few };
+    within = record { shaped = c.within.shaped; stores = c.within.stores; fits = c.within.fits; short = more left c.within.short; few = more divisions c.within.few };
   }
     where
-      more : {d : ℕ} → d ≤ 0 → d ≤ left
-      more h = omega (arith, h)
-
-  pub deeper_some : (found : Option Quast) → IfSome found (λ t. CoversOn nest e x path ranges 0 divisions (seen t)) → IfSome found (λ t. CoversOn nest e x path ranges left divisions (seen t))
-  deeper_some None h = tt
-  deeper_some (Some t) h = deeper_covers (seen t) h
-
-  pub deeper_ok : {E : Type 0} (r : Result (Option Quast) E) → IfOk r (λ o. IfSome o (λ t. CoversOn nest e x path ranges 0 divisions (seen t))) → IfOk r (λ o. IfSome o (λ t. CoversOn nest e x path ranges left divisions (seen t)))
-  deeper_ok (Ok o) h = deeper_some o h
-  deeper_ok (Err f) h = tt
+      more : {d : ℕ} (n : ℕ) → d ≤ 0 → d ≤ n
+      more n h = omega (arith, h)
 
   pub sides_cover : (form : Affine) (up down : Rows) (on off tree : Tree) → up ≡ with_rows path (form ∷ []) → down ≡ with_rows path (negated form ∷ []) → length form.coefs ≡ path.columns
       → FitsForm narrow form → 1 ≤ left → tree ≡ Test form on off → CoversOn nest e x up ranges (left - 1) divisions on → CoversOn nest e x down ranges (left - 1) divisions off → CoversOn nest e x path ranges left divisions tree
@@ -311,10 +302,10 @@ near_between : (a q b : ℤ) → IsNear a → IsNear b → a ≤ℤ q → q ≤�
 near_between a q b h g l u = grind (arith, ints)
 
 module _ (nest : Nest) (e : Entry) (x : Access) (path : Rows) (ranges : List (ℤ × ℤ)) (left divisions : ℕ) (wide : HaveColumns path.columns path.rows) where
-  pub division_covers : (form : Affine) (k : ℕ) (range : ℤ × ℤ) (rest : Tree) → length form.coefs ≡ path.columns → FitsForm narrow form → pos (suc k) ≤ℤ pos (2 ^ 20) → 1 ≤ left
+  pub division_covers : (form : Affine) (k : ℕ) (range : ℤ × ℤ) (rest : Tree) → length form.coefs ≡ path.columns → FitsForm narrow form → pos (suc k) ≤ℤ pos (2 ^ 20) → 1 ≤ left → 1 ≤ divisions
       → IsQuotientRange ranges form (pos (suc k)) range
-      → CoversOn nest e x (divided_path path form (pos (suc k))) (ranges ++ range ∷ []) (left - 1) divisions rest → CoversOn nest e x path ranges left (suc divisions) (Div form (pos (suc k)) rest)
-  division_covers form k range rest w fits small some within_range c = record {
+      → CoversOn nest e x (divided_path path form (pos (suc k))) (ranges ++ range ∷ []) (left - 1) (divisions - 1) rest → CoversOn nest e x path ranges left divisions (Div form (pos (suc k)) rest)
+  division_covers form k range rest w fits small some another within_range c = record {
     right = λ program p its qs is loads long inside met.
         let zs = (p ++ its) ++ qs in
         let q = floor_of (value form zs) (pos (suc k)) in
@@ -337,7 +328,7 @@ module _ (nest : Nest) (e : Entry) (x : Access) (path : Rows) (ranges : List (�
       stores = c.within.stores;
       fits = (fits, small, c.within.fits);
       short = deeper (depth_of rest) some c.within.short;
-      few = more (divisions_of rest) c.within.few;
+      few = more (divisions_of rest) another c.within.few;
     };
   }
     where
@@ -350,18 +341,18 @@ module _ (nest : Nest) (e : Entry) (x : Access) (path : Rows) (ranges : List (�
       deeper : (a : ℕ) → 1 ≤ left → a ≤ left - 1 → suc a ≤ left
       deeper a h g = omega (arith, h, g)
 
-      more : (a : ℕ) → a ≤ divisions → suc a ≤ suc divisions
-      more a h = omega (arith, h)
+      more : (a : ℕ) → 1 ≤ divisions → a ≤ divisions - 1 → suc a ≤ divisions
+      more a h g = omega (arith, h, g)
 
   -- the tree of a division, where that below it is right
-  pub above_right : (form : Affine) (by : ℤ) (range : ℤ × ℤ) (path_below : Rows) (ranges_below : List (ℤ × ℤ)) (rest tree : Tree) → length form.coefs ≡ path.columns → FitsForm narrow form → pos 1 ≤ℤ by → by ≤ℤ pos (2 ^ 20) → 1 ≤ left
+  pub above_right : (form : Affine) (by : ℤ) (range : ℤ × ℤ) (path_below : Rows) (ranges_below : List (ℤ × ℤ)) (rest tree : Tree) → length form.coefs ≡ path.columns → FitsForm narrow form → pos 1 ≤ℤ by → by ≤ℤ pos (2 ^ 20) → 1 ≤ left → 1 ≤ divisions
       → IsQuotientRange ranges form by range → path_below ≡ divided_path path form by → ranges_below ≡ ranges ++ range ∷ []
-      → CoversOn nest e x path_below ranges_below (left - 1) divisions rest → tree ≡ Div form by rest → CoversOn nest e x path ranges left (suc divisions) tree
-  above_right form (pos zero) range path_below ranges_below rest tree w fits some small l h y r c is = absurd (omega (arith, ints, some))
-  above_right form (negsuc k) range path_below ranges_below rest tree w fits some small l h y r c is = absurd (omega (arith, ints, some))
-  above_right form (pos (suc k)) range path_below ranges_below rest tree w fits some small l h y r c is =
-      subst (CoversOn nest e x path ranges left (suc divisions)) (sym is)
-      (division_covers form k range rest w fits small l h (subst (λ rs. CoversOn nest e x (divided_path path form (pos (suc k))) rs (left - 1) divisions rest) r (subst (λ p. CoversOn nest e x p ranges_below (left - 1) divisions rest) y c)))
+      → CoversOn nest e x path_below ranges_below (left - 1) (divisions - 1) rest → tree ≡ Div form by rest → CoversOn nest e x path ranges left divisions tree
+  above_right form (pos zero) range path_below ranges_below rest tree w fits some small l d h y r c is = absurd (omega (arith, ints, some))
+  above_right form (negsuc k) range path_below ranges_below rest tree w fits some small l d h y r c is = absurd (omega (arith, ints, some))
+  above_right form (pos (suc k)) range path_below ranges_below rest tree w fits some small l d h y r c is =
+      subst (CoversOn nest e x path ranges left divisions) (sym is)
+      (division_covers form k range rest w fits small l d h (subst (λ rs. CoversOn nest e x (divided_path path form (pos (suc k))) rs (left - 1) (divisions - 1) rest) r (subst (λ p. CoversOn nest e x p ranges_below (left - 1) (divisions - 1) rest) y c)))
 
 -- the range of a quotient, by the least and the greatest value of its form
 quotient_range_is : (ranges : List (ℤ × ℤ)) (form : Affine) (by low high : ℤ) (range : ℤ × ℤ) → pos 1 ≤ℤ by
@@ -386,7 +377,7 @@ ends_are ranges form by low high (Some r) some bounds a b n = quotient_range_is 
 -- ---- Where the path is the statement's domain
 
 module _ (nest : Nest) (e : Entry) (x : Access) (number : ℕ) (h : IsLoad nest e x number) (ranges : List (ℤ × ℤ)) (left divisions : ℕ) (few : divisions ≤ 12) where
-  whole_covers : (tree : Tree) → CoversOn nest e x e.domain ranges left divisions tree → Covers nest e x ranges left tree
+  pub whole_covers : (tree : Tree) → CoversOn nest e x e.domain ranges left divisions tree → Covers nest e x ranges left tree
   whole_covers tree c =
       let columns : e.domain.columns ≡ length nest.params + length e.loops = (stands_in nest (is_nest nest h.nested) e h.touched.there).columns in
       record {
@@ -410,11 +401,3 @@ module _ (nest : Nest) (e : Entry) (x : Access) (number : ℕ) (h : IsLoad nest 
     where
       through : (a : ℕ) → a ≤ divisions → a ≤ 12
       through a g = omega (arith, few, g)
-
-  whole_some : (found : Option Quast) → IfSome found (λ t. CoversOn nest e x e.domain ranges left divisions (seen t)) → IfSome found (λ t. Covers nest e x ranges left (seen t))
-  whole_some None c = tt
-  whole_some (Some t) c = whole_covers (seen t) c
-
-  pub whole_ok : {E : Type 0} (r : Result (Option Quast) E) → IfOk r (λ o. IfSome o (λ t. CoversOn nest e x e.domain ranges left divisions (seen t))) → IfOk r (λ o. IfSome o (λ t. Covers nest e x ranges left (seen t)))
-  whole_ok (Ok o) c = whole_some o c
-  whole_ok (Err f) c = tt

@@ -1,5 +1,6 @@
 pub mod Opposites
 pub mod Latest
+pub mod Moves
 pub mod Stores
 pub mod Searches
 pub mod Unwritten

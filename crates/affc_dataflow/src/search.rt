@@ -12,7 +12,7 @@ ghost use Rattle.affc_dataflow.specs.Searches.{Covers, part_box, Fuel, IsSlight,
 ghost use Rattle.affc_dataflow.specs.Stores.{pin};
 ghost use Rattle.affc_dataflow.specs.Unwritten.{IsUnwritten, IfUnwritten};
 
-use crate::divided::guessed;
+use crate::grown::guessed;
 use crate::latest::{Reading, source_of};
 use crate::pinned::part_ranges;
 use crate::stop::FlowStop;

@@ -7,6 +7,6 @@ returns c =
     let l = c.args.load.now in
     let s = c.args.sides in
     record {
-      right = sides_cover l.nest.now l.reader.now l.access.now c.args.place.now.path.now c.args.place.now.ranges.now c.args.left 0 s.form s.yes s.no (seen c.args.yes) (seen c.args.no)
+      right = sides_cover l.nest.now l.reader.now l.access.now c.args.place.now.path.now c.args.place.now.ranges.now c.args.depth.left c.args.depth.divisions s.form s.yes s.no (seen c.args.yes) (seen c.args.no)
           (seen c.in_ok-tree.tree) c.requires.up c.requires.down c.requires.wide c.requires.fits c.requires.some c.in_ok-tree.ensures c.requires.on c.requires.off;
     }

@@ -1,12 +1,12 @@
 //! Instances that might be a load's source, from the latest on, and where each might be. Nothing is promised of them.
 
 use crate::draft::{Drafting, drafts_of};
-use crate::strides::{cut_forms, room};
+use crate::strides::room;
 use affc_flow::asking::{column_forms, store_for};
 use affc_flow::listing::images_of;
 use affc_flow::load::Load;
 use affc_flow::questions::{Unasked, add_padded, at_images, count, gap};
-use affc_nest::{Access, Entry};
+use affc_nest::Entry;
 use affc_order::order::shared;
 use affc_quast::leaves::Division;
 use affc_rows::Form;
@@ -15,11 +15,11 @@ use std::alloc::{AllocError, Global};
 
 /// An instance of a statement, by forms for its iterators.
 #[derive(Drop)]
-pub(crate) struct Candidate {
-    pub(crate) statement: u32,
-    pub(crate) forms: Items<Form>,
+pub struct Candidate {
+    pub statement: u32,
+    pub forms: Items<Form>,
     /// The rows that say that it is an instance, that it stores what is read, and that it is earlier than the load.
-    pub(crate) conditions: Items<Form>,
+    pub conditions: Items<Form>,
 }
 
 /// Whether a row has no coefficient but 0.
@@ -121,29 +121,40 @@ fn conditions(
     Ok(out)
 }
 
-/// Candidates from the latest on, and the divisions that they want, outermost first: the quotients are columns behind those of
-/// the load.
+/// Candidates from the latest on, and the divisions that they want, each of which names those before it alone: the quotients
+/// are columns behind those of the load.
 #[derive(Drop)]
-pub(crate) struct Guess {
-    pub(crate) divisions: Vec<Division>,
-    pub(crate) candidates: Vec<Candidate>,
+pub struct Guess {
+    pub divisions: Vec<Division>,
+    pub candidates: Vec<Candidate>,
+}
+
+/// An instance of a statement at a depth of the order, if it might be one.
+fn candidate_of(
+    alloc: Global,
+    drafting: &Drafting<'_>,
+    forms: Items<Form>,
+) -> Result<Option<Candidate>, Unasked> {
+    let conditions = conditions(alloc, drafting, forms.as_slice())?;
+    if conditions.as_slice().iter().any(is_never) {
+        return Ok(None);
+    }
+    Ok(Some(Candidate {
+        statement: drafting.writer.statement,
+        forms,
+        conditions,
+    }))
 }
 
 /// Adds an instance of a statement at a depth of the order, if it might be one.
-fn add_candidate(
+pub(crate) fn add_candidate(
     alloc: Global,
     drafting: &Drafting<'_>,
     forms: Items<Form>,
     out: &mut Vec<Candidate>,
 ) -> Result<(), Unasked> {
-    let conditions = conditions(alloc, drafting, forms.as_slice())?;
-    if conditions.as_slice().iter().any(is_never) {
+    let Some(made) = candidate_of(alloc, drafting, forms)? else {
         return Ok(());
-    }
-    let made = Candidate {
-        statement: drafting.writer.statement,
-        forms,
-        conditions,
     };
     match out.push(made) {
         Ok(()) => Ok(()),
@@ -205,38 +216,8 @@ fn add_at_depth<'a>(
     Ok(())
 }
 
-/// Forms are cut to the quotients that there are.
-fn cut(alloc: Global, first: u32, guess: Guess) -> Result<Guess, AllocError> {
-    let mut made = Guess {
-        divisions: Vec::new(alloc),
-        candidates: Vec::new(alloc),
-    };
-    let columns = (first as usize).saturating_add(guess.divisions.len());
-    for candidate in guess.candidates.iter() {
-        let forms = cut_forms(alloc, candidate.forms.as_slice(), columns)?;
-        let conditions = cut_forms(alloc, candidate.conditions.as_slice(), columns)?;
-        let Ok(()) = made.candidates.push(Candidate {
-            statement: candidate.statement,
-            forms,
-            conditions,
-        })
-        else {
-            return Err(AllocError);
-        };
-    }
-    for (i, division) in guess.divisions.iter().enumerate() {
-        let mut form = division.form.clone()?;
-        form.coefs.truncate((first as usize).saturating_add(i));
-        let by = division.by;
-        let Ok(()) = made.divisions.push(Division { form, by }) else {
-            return Err(AllocError);
-        };
-    }
-    Ok(made)
-}
-
 /// The instances that might be the source.
-pub(crate) fn drafts(alloc: Global, load: &Load<'_>) -> Result<Guess, AllocError> {
+pub fn drafts(alloc: Global, load: &Load<'_>) -> Result<Guess, AllocError> {
     let mut out = Guess {
         divisions: Vec::new(alloc),
         candidates: Vec::new(alloc),
@@ -254,8 +235,5 @@ pub(crate) fn drafts(alloc: Global, load: &Load<'_>) -> Result<Guess, AllocError
         add_at_depth(alloc, &*load, read.as_slice(), columns, most - up, &mut out)?;
     }
     add_at_depth(alloc, &*load, read.as_slice(), columns, 0, &mut out)?;
-    if columns == first {
-        return Ok(out);
-    }
-    cut(alloc, first, out)
+    Ok(out)
 }

@@ -10,7 +10,7 @@ use sqlite_items::Items;
 use std::alloc::{AllocError, Global};
 
 /// The most rows that are kept while columns are taken out of them.
-const MOST_ROWS: usize = 64;
+const MOST_ROWS: usize = 96;
 
 // ---- Forms.
 
@@ -117,7 +117,11 @@ pub(crate) fn told(
 }
 
 /// A form without an iterator's column, over the load's columns, where it names no other iterator.
-fn rest_of(columns: &Columns<'_>, form: &Form, at: usize) -> Result<Option<Form>, AllocError> {
+pub(crate) fn rest_of(
+    columns: &Columns<'_>,
+    form: &Form,
+    at: usize,
+) -> Result<Option<Form>, AllocError> {
     let own = columns.own as usize;
     if first_column(form, own) != Some(at) || last_column(form, own) != Some(at) {
         return Ok(None);
@@ -128,7 +132,7 @@ fn rest_of(columns: &Columns<'_>, form: &Form, at: usize) -> Result<Option<Form>
 }
 
 /// So many times a form over the load's columns, less a column.
-fn less_column(
+pub(crate) fn less_column(
     alloc: Global,
     columns: &Columns<'_>,
     part: &Form,
@@ -142,9 +146,9 @@ fn less_column(
 
 /// A column, and its form without it.
 #[derive(Drop)]
-struct Pivot {
-    at: usize,
-    form: Form,
+pub(crate) struct Pivot {
+    pub(crate) at: usize,
+    pub(crate) form: Form,
 }
 
 /// An equation, turned so that the coefficient of a column is below 0.
@@ -191,7 +195,7 @@ fn parted_of(
 }
 
 /// The first that an equation tells of its last iterator; or else of any; or else by a division.
-fn first_told(
+pub(crate) fn first_told(
     alloc: Global,
     columns: &Columns<'_>,
     equations: &[Form],
@@ -270,7 +274,20 @@ pub(crate) fn settled(
     Ok(now)
 }
 
-// ---- Bounds.
+// ---- Rows without columns.
+
+/// Whether a row stands among others, or a sharper one.
+pub fn stands(row: &Form, rows: &[Form]) -> bool {
+    rows.iter().any(|r| r.constant <= row.constant && r.coefs.as_slice() == row.coefs.as_slice())
+}
+
+/// Adds a row, if none stands there that says as much.
+fn add_row(row: Form, out: &mut Items<Form>) -> Result<(), AllocError> {
+    if out.len() >= MOST_ROWS || stands(&row, out.as_slice()) {
+        return Ok(());
+    }
+    out.push(row)
+}
 
 /// Adds what two rows say together when a column is taken out of them, if it fits.
 fn add_both(
@@ -284,7 +301,7 @@ fn add_both(
         return Ok(());
     };
     match mixed(alloc, low, by, high, coefficient(low, at)) {
-        Ok(made) => out.push(made),
+        Ok(made) => add_row(made, out),
         Err(Unasked::Large) => Ok(()),
         Err(Unasked::Memory) => Err(AllocError),
     }
@@ -296,13 +313,13 @@ fn without(alloc: Global, rows: &[Form], at: usize) -> Result<Items<Form>, Alloc
     for row in rows {
         if coefficient(row, at) == 0 {
             let copy = row.clone()?;
-            out.push(copy)?;
+            add_row(copy, &mut out)?;
         }
     }
     for low in rows {
         if coefficient(low, at) > 0 {
             for high in rows {
-                if coefficient(high, at) < 0 && out.len() < MOST_ROWS {
+                if coefficient(high, at) < 0 {
                     add_both(alloc, low, high, at, &mut out)?;
                 }
             }
@@ -310,6 +327,26 @@ fn without(alloc: Global, rows: &[Form], at: usize) -> Result<Items<Form>, Alloc
     }
     Ok(out)
 }
+
+/// Rows without the iterators of the store but one.
+pub(crate) fn without_others(
+    alloc: Global,
+    columns: &Columns<'_>,
+    rows: Items<Form>,
+    at: usize,
+) -> Result<Items<Form>, AllocError> {
+    let mut rows = rows;
+    for back in 0..columns.loops {
+        let place = columns.all.saturating_sub(back).saturating_sub(1) as usize;
+        if place != at {
+            let next = without(alloc, rows.as_slice(), place)?;
+            rows = next;
+        }
+    }
+    Ok(rows)
+}
+
+// ---- Bounds.
 
 /// Whether one of these forms has the same coefficients, and a constant that is no greater, or no less.
 fn has_sharper(forms: &[Form], form: &Form, up: bool) -> bool {
@@ -325,14 +362,7 @@ pub(crate) fn bounds(
     at: usize,
     up: bool,
 ) -> Result<Items<Form>, Unasked> {
-    let mut rows = rows;
-    for back in 0..columns.loops {
-        let place = columns.all.saturating_sub(back).saturating_sub(1) as usize;
-        if place != at {
-            let next = without(alloc, rows.as_slice(), place)?;
-            rows = next;
-        }
-    }
+    let rows = without_others(alloc, columns, rows, at)?;
     let mut out = Items::new(alloc);
     for row in rows.as_slice() {
         let c = coefficient(row, at);

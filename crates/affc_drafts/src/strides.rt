@@ -1,7 +1,8 @@
 //! Divisions that drafts want. Nothing is promised of them.
 //!
-//! While candidates are drafted each form has room for so many quotients behind the columns of the load; in the end each is cut
-//! to those that there are.
+//! Each form has room for so many quotients behind the columns of the load, in the order in which the divisions were first
+//! wanted.
+ghost use Rattle.std.specs.Prelude.{◌≤ℤ◌, pos, IfOk, IfSome};
 
 use crate::solved::are_opposite;
 use affc_flow::asking::store_for;
@@ -9,12 +10,12 @@ use affc_flow::load::Load;
 use affc_flow::questions::Unasked;
 use affc_quast::leaves::Division;
 use affc_rows::Form;
+use affc_rows::vocabulary::gcd;
 use smallvec::SmallVec;
-use sqlite_items::Items;
 use std::alloc::{AllocError, Global};
 
-/// The most divisions above a leaf.
-const MOST_DIVISIONS: u32 = 12;
+/// How many quotients there is room for.
+pub const ROOM: u32 = 24;
 
 /// The greatest magnitude of a constant and of a divisor.
 const MOST_CONSTANT: u128 = 1 << 40;
@@ -31,7 +32,7 @@ pub(crate) fn room(load: &Load<'_>) -> u32 {
     for writer in load.nest.entries.as_slice() {
         if let Some(store) = store_for(writer, load.access.array.0) {
             if has_stride(store.subs.as_slice()) {
-                return MOST_DIVISIONS;
+                return ROOM;
             }
         }
     }
@@ -45,18 +46,39 @@ fn number_of(
     divisions: &mut Vec<Division>,
 ) -> Result<Option<u32>, AllocError> {
     let there = divisions.iter().position(|d| d.by == by
+        && d.form.constant == form.constant
         && d.form.coefs.as_slice() == form.coefs.as_slice());
     if let Some(at) = there {
         return Ok(u32::try_from(at).ok());
     }
     let at = divisions.len();
-    if at >= MOST_DIVISIONS as usize {
+    if at >= ROOM as usize {
         return Ok(None);
     }
     match divisions.push(Division { form, by }) {
         Ok(()) => Ok(Some(at as u32)),
         Err(_) => Err(AllocError),
     }
+}
+
+/// The column of a division's quotient, over so many columns, of which the quotients begin at one.
+fn column_of(
+    alloc: Global,
+    columns: u32,
+    first: u32,
+    form: Form,
+    by: i64,
+    divisions: &mut Vec<Division>,
+) -> Result<Option<Form>, AllocError> {
+    if columns < first.saturating_add(ROOM) {
+        return Ok(None);
+    }
+    let Some(at) = number_of(form, by, divisions)? else {
+        return Ok(None);
+    };
+    let place = first.saturating_add(at);
+    let column = Form::column(alloc, columns, place)?;
+    Ok(Some(column))
 }
 
 /// The quotient of a form where it is a multiple, over so many columns, of which the quotients begin at one. The division is
@@ -82,33 +104,106 @@ pub(crate) fn quotient(
         } = made;
         return Ok(Some(Form { coefs, constant }));
     }
-    let Some(at) = number_of(whole, by as i64, divisions)? else {
-        return Ok(None);
-    };
-    let place = first.saturating_add(at);
-    if place >= columns {
-        return Ok(None);
+    match column_of(alloc, columns, first, whole, by as i64, divisions)? {
+        None => Ok(None),
+        Some(column) => {
+            let Form {
+                coefs,
+                constant: _none,
+            } = column;
+            Ok(Some(Form { coefs, constant }))
+        }
     }
-    let Form {
-        coefs,
-        constant: _none,
-    } = Form::column(alloc, columns, place)?;
-    Ok(Some(Form { coefs, constant }))
 }
 
-/// Forms, cut to so many columns.
-pub(crate) fn cut_forms(
-    alloc: Global,
-    forms: &[Form],
-    columns: usize,
-) -> Result<Items<Form>, AllocError> {
-    let mut out = Items::new(alloc);
-    for form in forms {
-        let mut made = form.clone()?;
-        made.coefs.truncate(columns);
-        out.push(made)?;
+// ---- Rounded down.
+
+/// A form of each number's quotient, rounded down.
+fn quotients(alloc: Global, form: &Form, by: i128) -> Result<Form, AllocError>
+    requires { pos 1 ≤ℤ by }
+{
+    let mut coefs = SmallVec::new(alloc);
+    for c in form.coefs.as_slice() {
+        coefs.push(c.div_euclid(by))?;
     }
-    Ok(out)
+    let constant = form.constant.div_euclid(by);
+    Ok(Form { coefs, constant })
+}
+
+/// A form of what these leave.
+fn remainders(alloc: Global, form: &Form, by: i128) -> Result<Form, AllocError>
+    requires { pos 1 ≤ℤ by }
+{
+    let mut coefs = SmallVec::new(alloc);
+    for c in form.coefs.as_slice() {
+        coefs.push(c.rem_euclid(by))?;
+    }
+    let constant = form.constant.rem_euclid(by);
+    Ok(Form { coefs, constant })
+}
+
+/// The greatest number that divides a number and each coefficient of a form.
+fn common_divisor(form: &Form, by: u128) -> u128 {
+    let mut divisor = by;
+    for c in form.coefs.as_slice() {
+        divisor = gcd(divisor, c.unsigned_abs());
+    }
+    divisor
+}
+
+/// A form and a number by which it is divided.
+#[derive(Drop)]
+struct Least {
+    form: Form,
+    by: i64,
+}
+
+/// A form's part in least terms; its constant is rounded down.
+fn least_terms(alloc: Global, form: &Form, by: u128) -> Result<Option<Least>, AllocError>
+    ensures { IfOk result (λ o. IfSome o (λ l. pos 1 ≤ℤ l.by)) }
+{
+    let divisor = common_divisor(form, by);
+    if divisor < 1 || divisor > MOST_BY {
+        return Ok(None);
+    }
+    let by = by / divisor;
+    if by < 1 || by > MOST_BY {
+        return Ok(None);
+    }
+    let form = quotients(alloc, form, divisor as i128)?;
+    Ok(Some(Least {
+        form,
+        by: by as i64,
+    }))
+}
+
+/// The quotient of a form, rounded down, over so many columns, of which the quotients begin at one. It is in least terms, and
+/// whole multiples are taken out of the division.
+pub(crate) fn floored(
+    alloc: Global,
+    columns: u32,
+    first: u32,
+    form: &Form,
+    by: u128,
+    divisions: &mut Vec<Division>,
+) -> Result<Option<Form>, Unasked> {
+    let Some(Least { form, by }) = least_terms(alloc, form, by)? else {
+        return Ok(None);
+    };
+    let wide = i128::from(by);
+    let whole = quotients(alloc, &form, wide)?;
+    if by == 1 {
+        return Ok(Some(whole));
+    }
+    let rest = remainders(alloc, &form, wide)?;
+    let Some(column) = column_of(alloc, columns, first, rest, by, divisions)? else {
+        return Ok(None);
+    };
+    if column.coefs.len() != whole.coefs.len() {
+        return Ok(None);
+    }
+    let made = whole.scale_add(alloc, 1, &column, 1)?;
+    Ok(Some(made))
 }
 
 // ---- Without a division.

@@ -40,10 +40,10 @@ pub(crate) struct Drafting<'a> {
 
 /// What is drafted, and how its columns are arranged.
 #[derive(Drop)]
-struct Work<'a> {
-    drafting: &'a Drafting<'a>,
-    columns: Columns<'a>,
-    params: u32,
+pub(crate) struct Work<'a> {
+    pub(crate) drafting: &'a Drafting<'a>,
+    pub(crate) columns: Columns<'a>,
+    pub(crate) params: u32,
 }
 
 // ---- Equations.
@@ -112,8 +112,8 @@ fn add_equalities(alloc: Global, work: &Work<'_>, out: &mut Items<Form>) -> Resu
     Ok(())
 }
 
-/// What the equations tell.
-fn begun(alloc: Global, work: &Work<'_>, divisions: &mut Vec<Division>) -> Result<Solved, Unasked> {
+/// The equations, with nothing told.
+pub(crate) fn posed(alloc: Global, work: &Work<'_>) -> Result<Solved, Unasked> {
     let columns = &work.columns;
     let mut equations = Items::new(alloc);
     add_subscripts(alloc, work, &mut equations)?;
@@ -121,13 +121,23 @@ fn begun(alloc: Global, work: &Work<'_>, divisions: &mut Vec<Division>) -> Resul
     add_equalities(alloc, work, &mut equations)?;
     let forms = column_forms(alloc, columns.all, columns.own, columns.loops)?;
     let forms = Items::from_vec(forms);
-    settled(alloc, columns, Solved { equations, forms }, divisions)
+    Ok(Solved { equations, forms })
+}
+
+/// What the equations tell.
+fn begun(alloc: Global, work: &Work<'_>, divisions: &mut Vec<Division>) -> Result<Solved, Unasked> {
+    let solved = posed(alloc, work)?;
+    settled(alloc, &work.columns, solved, divisions)
 }
 
 // ---- Rows.
 
 /// The row of the order at its depth, and those of the domain, at these forms.
-fn rows_at(alloc: Global, work: &Work<'_>, forms: &[Form]) -> Result<Items<Form>, Unasked> {
+pub(crate) fn rows_at(
+    alloc: Global,
+    work: &Work<'_>,
+    forms: &[Form],
+) -> Result<Items<Form>, Unasked> {
     let all = work.columns.all;
     let mut out = Items::new(alloc);
     let depth = work.drafting.depth;
@@ -184,7 +194,7 @@ fn is_false(equation: &Form) -> bool {
 // ---- Drafts.
 
 /// The outermost column that isn't told, and whether a greater number there is later.
-fn open_column(forms: &[Form], own: usize) -> Option<(usize, bool)> {
+pub(crate) fn open_column(forms: &[Form], own: usize) -> Option<(usize, bool)> {
     for form in forms {
         if let Some(at) = first_column(form, own) {
             return Some((at, coefficient(form, at) > 0));
@@ -194,7 +204,7 @@ fn open_column(forms: &[Form], own: usize) -> Option<(usize, bool)> {
 }
 
 /// Forms over the load's columns alone.
-fn cut(alloc: Global, forms: &[Form], own: usize) -> Result<Items<Form>, AllocError> {
+pub(crate) fn cut(alloc: Global, forms: &[Form], own: usize) -> Result<Items<Form>, AllocError> {
     let mut out = Items::new(alloc);
     for form in forms {
         let mut made = form.clone()?;
@@ -260,7 +270,7 @@ fn add_all(
 }
 
 /// What is drafted, with its columns arranged.
-fn arranged<'a>(alloc: Global, drafting: &'a Drafting<'a>) -> Result<Work<'a>, Unasked> {
+pub(crate) fn arranged<'a>(alloc: Global, drafting: &'a Drafting<'a>) -> Result<Work<'a>, Unasked> {
     let own = drafting.columns;
     let params = count(drafting.load.nest.params.ranges().len())?;
     let loops = count(drafting.writer.loops.len())?;
