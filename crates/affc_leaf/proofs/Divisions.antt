@@ -60,7 +60,7 @@ cut_meets system i g cut x d p = record {
   meets = All-push (Meets x) system.rows cut p.meets (divided_meets (row_at system.columns system.rows i) g cut x d.divided (p.meets i (zero_row system.columns) d.there));
 }
 
-fewer_meets : (system : Rows) (cut : Affine) (x : List ℤ) → IsPoint (with_cut system cut) x → IsPoint system x
+pub fewer_meets : (system : Rows) (cut : Affine) (x : List ℤ) → IsPoint (with_cut system cut) x → IsPoint system x
 fewer_meets system cut x p = record {
   width = p.width;
   meets = λ k d l. subst (λ (r : Affine). Meets x r) (get_or_append_left system.rows (cut ∷ []) d k l) (p.meets k d (let e = length-append system.rows (cut ∷ []) in omega arith));
@@ -125,7 +125,7 @@ own_later system rows next bs cut p n i h = by_lt_z (pos i) (pos (length system.
     let here : i ≡ length system.rows = omega arith in
     new_row system.columns rows cut i (p.count ∙ n ∙ sym here) ∙ sym (new_row system.columns system.rows cut i (sym here)))
 
-cut_placed : (system : Rows) (rows : List Affine) (next : ℕ) (bs : List Bound) (cut : Affine) → Placed system rows next bs → next ≡ length system.rows
+pub cut_placed : (system : Rows) (rows : List Affine) (next : ℕ) (bs : List Bound) (cut : Affine) → Placed system rows next bs → next ≡ length system.rows
     → IsRow system.columns cut → Placed (with_cut system cut) (rows ++ cut ∷ []) (next + 1) bs
 cut_placed system rows next bs cut p n f = record {
   count = longer rows cut ∙ ap (λ n. n + 1) p.count;

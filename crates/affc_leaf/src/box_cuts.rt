@@ -27,9 +27,9 @@ use std::alloc::{AllocError, Global};
 /// A cut of some rows in a box.
 #[derive(Drop)]
 pub(crate) struct BoxCut {
-    by: Multipliers,
-    g: i64,
-    row: Form,
+    pub(crate) by: Multipliers,
+    pub(crate) g: i64,
+    pub(crate) row: Form,
 }
 
 /// A leaf's multiples of the system's rows, and of the cuts before it, each of which has its own multiples of rows.
@@ -94,7 +94,7 @@ fn with_corners(
 
 /// The cut by `g` of these multiples of rows in a box. `None` where a number is too great.
 #[inline(never)]
-fn box_cut(
+pub(crate) fn box_cut(
     alloc: Global,
     system: &System,
     bounds: &[Bound],
@@ -213,7 +213,7 @@ fn leaf_below(
 }
 
 /// A cut before the rest of a proof.
-fn before(alloc: Global, cut: BoxCut, rest: Box<Proof>) -> Result<Box<Proof>, AllocError>
+pub(crate) fn before(alloc: Global, cut: BoxCut, rest: Box<Proof>) -> Result<Box<Proof>, AllocError>
     ensures answer { IfOk result (λ p. IsCutBefore cut.by cut.g cut.row rest.value p.value) }
 {
     let BoxCut { by, g, row } = cut;
@@ -224,7 +224,7 @@ fn before(alloc: Global, cut: BoxCut, rest: Box<Proof>) -> Result<Box<Proof>, Al
 }
 
 /// Adds the row of a cut.
-fn push_copy(cuts: &mut System, cut: &BoxCut) -> Result<(), AllocError>
+pub(crate) fn push_copy(cuts: &mut System, cut: &BoxCut) -> Result<(), AllocError>
     requires { length cut.now.row.coefs ≡ cuts.old.columns }
     ensures value { OnOk result (cuts.new ≡ record cuts.old { rows = cuts.old.rows ++ cut.now.row ∷ [] }) }
 {

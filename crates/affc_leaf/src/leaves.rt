@@ -185,7 +185,7 @@ pub(crate) fn is_below_zero(coefs: &[i128], constant: i128, bounds: &[Bound]) ->
 
 /// A leaf of these multiples of rows, where their sum is below 0 in the whole box.
 #[inline(never)]
-fn sum_leaf(
+pub(crate) fn sum_leaf(
     alloc: Global,
     system: &System,
     bounds: &[Bound],

@@ -12,5 +12,6 @@ pub mod laws;
 pub mod leaves;
 pub mod parts;
 pub mod places;
+pub mod rounds;
 pub mod tops;
 mod vertices;

@@ -427,25 +427,35 @@ fn sum_for<N: Number>(
     Ok(Some(rows))
 }
 
-/// The columns' values one after another, each as little as it can be. `None` where one isn't whole.
+/// The columns' values, each as little as it can be.
+#[derive(Drop)]
+enum Values {
+    Whole(Vec<i64>),
+    /// One isn't whole.
+    Parted,
+    /// They aren't found.
+    Failed,
+}
+
+/// The columns' values one after another, each as little as it can be, until one isn't whole.
 fn least_values<N: Number>(
     alloc: Global,
     tableau: &mut Tableau<N>,
     bounds: &[Bound],
     stages: &mut [u32],
-) -> Result<Option<Vec<i64>>, AllocError> {
+) -> Result<Values, AllocError> {
     let mut point = Vec::with_capacity(alloc, bounds.len())?;
     for j in 0..bounds.len() {
         let column = u32::try_from(j).unwrap_or(0);
         let Some(()) = settle(tableau, bounds, stages, column) else {
-            return Ok(None);
+            return Ok(Values::Failed);
         };
         let Some(value) = whole_value(tableau, bounds.len(), column) else {
-            return Ok(None);
+            return Ok(Values::Parted);
         };
         point.push(value)?;
     }
-    Ok(Some(point))
+    Ok(Values::Whole(point))
 }
 
 /// The sums by which no column is less.
@@ -469,15 +479,28 @@ fn sums_for<N: Number>(
     Ok(Some(sums))
 }
 
-/// The least point, from a tableau at which every variable is in its range. `None` where it isn't whole or isn't found.
-pub(crate) fn least_of<N: Number>(
+/// The least rational point.
+#[derive(Drop)]
+pub(crate) enum Lowest {
+    Whole(Least),
+    /// A column isn't whole.
+    Parted,
+    /// It isn't found.
+    Failed,
+}
+
+/// The least rational point, from a tableau at which every variable is in its range. Where a column isn't whole, those behind it
+/// aren't looked at.
+pub(crate) fn lowest_of<N: Number>(
     alloc: Global,
     tableau: &mut Tableau<N>,
     bounds: &[Bound],
-) -> Result<Option<Least>, AllocError> {
+) -> Result<Lowest, AllocError> {
     let mut stages = vec![in alloc; 0u32; bounds.len()]?;
-    let Some(point) = least_values(alloc, tableau, bounds, stages.as_mut_slice())? else {
-        return Ok(None);
+    let point = match least_values(alloc, tableau, bounds, stages.as_mut_slice())? {
+        Values::Whole(point) => point,
+        Values::Parted => return Ok(Lowest::Parted),
+        Values::Failed => return Ok(Lowest::Failed),
     };
     let settled = Settled {
         tableau,
@@ -485,7 +508,19 @@ pub(crate) fn least_of<N: Number>(
         stages: stages.as_slice(),
     };
     match sums_for(alloc, settled, point.as_slice())? {
-        Some(sums) => Ok(Some(Least { point, sums })),
-        None => Ok(None),
+        Some(sums) => Ok(Lowest::Whole(Least { point, sums })),
+        None => Ok(Lowest::Failed),
+    }
+}
+
+/// The least point, from a tableau at which every variable is in its range. `None` where it isn't whole or isn't found.
+pub(crate) fn least_of<N: Number>(
+    alloc: Global,
+    tableau: &mut Tableau<N>,
+    bounds: &[Bound],
+) -> Result<Option<Least>, AllocError> {
+    match lowest_of(alloc, tableau, bounds)? {
+        Lowest::Whole(least) => Ok(Some(least)),
+        Lowest::Parted | Lowest::Failed => Ok(None),
     }
 }

@@ -7,6 +7,7 @@ pub mod cells;
 mod least;
 pub mod number;
 pub mod pairs;
+pub mod rounds;
 pub mod simplex;
 mod tableau;
 pub mod vertices;

@@ -139,33 +139,56 @@ fn one_row(alloc: Global, row: u32, columns: usize) -> Result<Vec<(u32, u64)>, A
     Ok(rows)
 }
 
+/// The tableau of a system's rows, or what is seen before there is one.
+#[derive(Drop)]
+pub(crate) enum Start<N> {
+    Tableau(Tableau<N>),
+    Ended(Outcome),
+}
+
 /// Goes along the rows: one that is below 0 in the whole box is a sum by itself, and one that is at least 0 there is in no sum.
-fn look<N: Number>(
+pub(crate) fn started<N: Number>(
     alloc: Global,
     system: &System,
     bounds: &[Bound],
-    wanted: Wanted,
-) -> Result<Outcome, AllocError> {
+) -> Result<Start<N>, AllocError> {
     let rows = system.rows();
     let columns = bounds.len();
     let mut tableau = empty_tableau::<N>(alloc, bounds, rows.len())?;
     for (i, row) in rows.iter().enumerate() {
         let number = u32::try_from(i).unwrap_or(0);
         let Some((least, greatest)) = reach_of::<N>(row, bounds) else {
-            return Ok(Outcome::TooGreat);
+            return Ok(Start::Ended(Outcome::TooGreat));
         };
         if greatest.is_below(N::zero()) {
-            return Ok(Outcome::Sum(one_row(alloc, number, columns)?));
+            return Ok(Start::Ended(Outcome::Sum(one_row(alloc, number, columns)?)));
         }
         if least.is_below(N::zero()) {
             let Some(()) = push_line(&mut tableau.cells, row)? else {
-                return Ok(Outcome::TooGreat);
+                return Ok(Start::Ended(Outcome::TooGreat));
             };
             let slack = u32::try_from(columns).unwrap_or(0).saturating_add(number);
             tableau.variables.push(slack)?;
         }
     }
-    pivoted(alloc, tableau, bounds, wanted)
+    Ok(Start::Tableau(tableau))
+}
+
+/// What a look at a box comes to, with numbers of one width.
+fn look<N: Number>(
+    alloc: Global,
+    system: &System,
+    bounds: &[Bound],
+    wanted: Wanted,
+) -> Result<Outcome, AllocError> {
+    let mut tableau = match started::<N>(alloc, system, bounds)? {
+        Start::Tableau(tableau) => tableau,
+        Start::Ended(outcome) => return Ok(outcome),
+    };
+    match stand(alloc, &mut tableau, bounds)? {
+        Some(outcome) => Ok(outcome),
+        None => vertex_of(alloc, &mut tableau, bounds, wanted),
+    }
 }
 
 /// The first line that is out of its range. `None` where a number doesn't fit.
@@ -189,6 +212,8 @@ fn first_broken<N: Number>(tableau: &Tableau<N>, bounds: &[Bound]) -> Option<Opt
 /// What one step comes to.
 enum Step {
     Moved,
+    /// No line is out of its range.
+    Stands,
     Ended(Outcome),
 }
 
@@ -197,14 +222,13 @@ fn one_pivot<N: Number>(
     alloc: Global,
     tableau: &mut Tableau<N>,
     bounds: &[Bound],
-    wanted: Wanted,
 ) -> Result<Step, AllocError> {
     let columns = bounds.len();
     let Some(found) = first_broken(tableau, bounds) else {
         return Ok(Step::Ended(Outcome::TooGreat));
     };
     let Some(broken) = found else {
-        return Ok(Step::Ended(vertex_of(alloc, tableau, bounds, wanted)?));
+        return Ok(Step::Stands);
     };
     let Some(helper) = helper_in(tableau, bounds, broken) else {
         return Ok(Step::Ended(sum_found(alloc, tableau, columns, broken.line)?));
@@ -330,21 +354,20 @@ fn sum_found<N: Number>(
     Ok(Outcome::Sum(rows))
 }
 
-/// The pivots of a tableau, until a line can't be helped or none is out of its range.
-fn pivoted<N: Number>(
+/// The pivots of a tableau, until none of its lines is out of its range: `None`, or else what they end in.
+pub(crate) fn stand<N: Number>(
     alloc: Global,
-    tableau: Tableau<N>,
+    tableau: &mut Tableau<N>,
     bounds: &[Bound],
-    wanted: Wanted,
-) -> Result<Outcome, AllocError> {
-    let mut tableau = tableau;
+) -> Result<Option<Outcome>, AllocError> {
     for _ in 0..MOST_PIVOTS {
-        match one_pivot(alloc, &mut tableau, bounds, wanted)? {
+        match one_pivot(alloc, tableau, bounds)? {
             Step::Moved => {}
-            Step::Ended(outcome) => return Ok(outcome),
+            Step::Stands => return Ok(None),
+            Step::Ended(outcome) => return Ok(Some(outcome)),
         }
     }
-    Ok(Outcome::Nothing)
+    Ok(Some(Outcome::Nothing))
 }
 
 /// Rows whose sum is below 0 in the whole box, or a rational point of it, where one of them is found. The box has a range for each

@@ -9,19 +9,36 @@ use crate::budget::{Budget, Stop};
 use crate::search::{Found, Here, SPARE, inside};
 use affc_leaf::box_cuts::{Seen, seen_at};
 use affc_leaf::cuts::{cut_proof, next_cut, push_cut};
+use affc_leaf::rounds::seen_by_rounds;
 use affc_simplex::Bound;
 use affc_system::System;
 use affc_system::system::MOST_ROWS;
 use std::alloc::Global;
 
-/// Searches a box that is open, after a look at it.
+/// Searches a box that is open, after a look at it, and after cuts at its least rational point.
 #[inline(never)]
 fn rooted(here: &Here<'_>, budget: &mut Budget) -> Result<Found, Stop>
     requires ready { IsReady here.now }
+    requires next { here.now.next ≡ length here.now.system.now.rows }
     ensures answer { IfOk result (IsFound here.now.system.now here.now.bounds.now here.now.next) }
     ensures spends { Spends (AreFewer 0) 0 (ranges_of here.now.bounds.now) budget.old budget.new result }
 {
     match seen_at(here.alloc, here.system, here.bounds, here.next)? {
+        Seen::Empty(proof) => Ok(Found::Empty(proof)),
+        Seen::Point(point) => Ok(Found::Point(point)),
+        Seen::Nothing => in_rounds(here, budget),
+    }
+}
+
+/// Searches a box that is open, after cuts at its least rational point.
+#[inline(never)]
+fn in_rounds(here: &Here<'_>, budget: &mut Budget) -> Result<Found, Stop>
+    requires ready { IsReady here.now }
+    requires next { here.now.next ≡ length here.now.system.now.rows }
+    ensures answer { IfOk result (IsFound here.now.system.now here.now.bounds.now here.now.next) }
+    ensures spends { Spends (AreFewer 0) 0 (ranges_of here.now.bounds.now) budget.old budget.new result }
+{
+    match seen_by_rounds(here.alloc, here.system, here.bounds, here.next)? {
         Seen::Empty(proof) => Ok(Found::Empty(proof)),
         Seen::Point(point) => Ok(Found::Point(point)),
         Seen::Nothing => inside(here, budget),

@@ -19,9 +19,11 @@ use crate::cuts::with_cuts;
 use crate::parts::at_lows;
 use crate::search::{Answer, Found, Here, SPARE, inside};
 use affc_farkas::Proof;
+use affc_leaf::box_cuts::Seen;
 use affc_leaf::boxed::{boxed_system, refuted};
 use affc_leaf::cuts::has_cut;
 use affc_leaf::leaves::{Sight, found_leaf};
+use affc_leaf::rounds::seen_by_rounds;
 use affc_simplex::{Bound, Vertex};
 use affc_system::system::MOST_ROWS;
 use affc_system::{BoxOf, System};
@@ -175,6 +177,36 @@ fn cut_and_searched(
     }
 }
 
+/// What is seen of the whole box by cuts at its least rational point.
+fn seen_whole(
+    alloc: Global,
+    system: &System,
+    ranges: &[(i64, i64)],
+    bounds: &[Bound],
+    next: u32,
+) -> Result<Option<Answer>, Stop>
+    requires columns { length ranges.now ≡ system.now.columns }
+    requires reach { All WithinReach ranges.now }
+    requires ranges { All IsBound bounds.now }
+    requires bounds { bounds.now ≡ box_bounds (length system.now.rows) ranges.now }
+    requires next { next ≡ length system.now.rows + 2 * system.now.columns }
+    ensures empty { IfOk result (λ o. IfSome o (λ a. IfEmpty a (λ p. ValidProof (with_box system.now ranges.now) p))) }
+    ensures plain { IfOk result (λ o. IfSome o (λ a. IfEmpty a SplitsAtZero)) }
+    ensures point { IfOk result (λ o. IfSome o (λ a. IfPoint a (IsLeastPoint system.now ranges.now))) }
+    ensures memory { OnErr result (result ≡ Err Stop.Memory) }
+{
+    let _rows = system.rows();
+    if next >= MOST_ROWS as u32 {
+        return Ok(None);
+    }
+    let boxed = boxed_system(alloc, system, ranges)?;
+    match seen_by_rounds(alloc, &boxed, bounds, next)? {
+        Seen::Empty(proof) => Ok(Some(Answer::Empty(Box::into_inner(proof)))),
+        Seen::Point(point) => Ok(Some(Answer::Point(point))),
+        Seen::Nothing => Ok(None),
+    }
+}
+
 /// What is found in the whole box, after it is opened and nothing is seen of it at once.
 fn searched(
     alloc: Global,
@@ -201,6 +233,9 @@ fn searched(
     let _rows = system.rows();
     if next < MOST_ROWS as u32 && has_cut(system) {
         return cut_and_searched(alloc, system, ranges, bounds, next, left, budget);
+    }
+    if let Some(answer) = seen_whole(alloc, system, ranges, bounds, next)? {
+        return Ok(answer);
     }
     let here = Here {
         alloc,

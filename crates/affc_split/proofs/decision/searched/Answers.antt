@@ -1,4 +1,4 @@
-use Rattle.std.proofs.Common.{◌∙◌, ap, sym, subst, length}
+use Rattle.std.proofs.Common.{rules, ◌∙◌, ap, sym, subst, length}
 use Rattle.std.specs.List.{All}
 use Rattle.affc_system.specs.Systems.{IsRow}
 use Rattle.affc_farkas.specs.Proofs.{ValidProof}
@@ -7,7 +7,8 @@ use Rattle.affc_leaf.specs.Bounds.{ranges_of}
 use Rattle.affc_leaf.specs.Points.{IsLeastPoint}
 use Rattle.affc_split.specs.Search.{IsFound}
 use Rattle.affc_leaf.proofs.Whole.{whole_valid, ranges_back}
-use Rattle.affc_split.proofs.Spending.{empty_spends, point_spends}
+use Rattle.affc_split.specs.Searches.{AreFewerFor}
+use Rattle.affc_split.proofs.Spending.{answer_known, failed_first, empty_spends, point_spends}
 use Rattle.affc_split.proofs.decision.searched.Goals as goal
 
 pub returns-in-Empty-clause-empty : goal.returns-in-Empty-clause-empty
@@ -31,3 +32,9 @@ pub returns-in-Point-clause-spends : goal.returns-in-Point-clause-spends
 returns-in-Point-clause-spends c =
     point_spends c.args.ranges.now (ranges_of c.args.bounds.now) c.args.budget.now _ c.in-Point.point c.in_ok-proof.field-0
     (ap ranges_of c.requires.bounds ∙ ranges_back (length c.args.system.now.rows) c.args.ranges.now) c.in-Point.is c.in_ok-proof.ensures.spends
+
+pub returns-in-Some-clause-spends : goal.returns-in-Some-clause-spends
+returns-in-Some-clause-spends c = answer_known c.args.ranges.now c.args.budget.now c.in-Some.answer
+
+pub returns-in_err-answer-clause-spends : goal.returns-in_err-answer-clause-spends
+returns-in_err-answer-clause-spends c = failed_first AreFewerFor 0 _ c.args.budget.now c.from_residual.result (search rules)
