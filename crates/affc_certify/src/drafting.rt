@@ -1,14 +1,14 @@
 //! What is proved of a program before its folds are looked for.
-ghost use Rattle.std.specs.Prelude.{◌≡◌, IfErr, Some, length};
+ghost use Rattle.std.specs.Prelude.{◌≡◌, IfErr, Some};
 ghost use Rattle.affc_split.specs.Budgets.{IsLater};
 ghost use Rattle.affc_sched.specs.Legality.{IsAsked};
 ghost use Rattle.affc_quast.specs.Seen.{trees_of};
 ghost use Rattle.affc_certify.specs.Asked.{AreAsked};
 
-use crate::question::add_proofs;
+use crate::streamed::proofs_of;
 use crate::trees::copied_flow;
 use affc_cert::Cert;
-use affc_check::list::{Item, all_items};
+use affc_check::list::{groups_of, list_all, systems_of};
 use affc_farkas::Proof;
 use affc_nest::Nest;
 use affc_prove::decided;
@@ -16,7 +16,7 @@ use affc_quast::Flow;
 use affc_split::{Answer, Budget, Stop};
 use affc_trace::schedule::Schedule;
 use sqlite_items::Items;
-use std::alloc::{AllocError, Global};
+use std::alloc::Global;
 
 /// The certificate's point of the context, and the proofs of its questions on extents, accesses, trees and the schedule.
 #[derive(Drop)]
@@ -36,15 +36,18 @@ fn context_point(alloc: Global, nest: &Nest, budget: &mut Budget) -> Result<Item
     }
 }
 
-/// The items of a certificate without folds.
-fn items_before(
+/// The proofs of a certificate without folds. A part past the limits of a system counts as want of memory.
+fn proofs_before(
     alloc: Global,
     nest: &Nest,
     flow: &Flow,
     schedule: &Schedule,
-) -> Result<Vec<Item>, AllocError>
+    budget: &mut Budget,
+) -> Result<Items<Proof>, Stop>
     requires asked { IsAsked nest.now schedule.now }
     requires trees { AreAsked nest.now (trees_of flow.now) }
+    ensures later { IsLater budget.old budget.new }
+    ensures stop { IfErr result (λ e. e ≡ Stop.Budget → budget.new.limit ≡ Some budget.new.spent) }
 {
     let cert = Cert {
         context: Items::new(alloc),
@@ -52,10 +55,13 @@ fn items_before(
         folds: Items::new(alloc),
         proofs: Items::new(alloc),
     };
-    match all_items(alloc, nest, schedule, &cert) {
-        Ok(items) => Ok(items),
-        Err(_) => Err(AllocError),
-    }
+    let systems = systems_of(alloc, nest, schedule, &cert)?;
+    let groups = groups_of(alloc, nest, schedule, &cert)?;
+    let systems = systems.as_slice();
+    let Ok(listed) = list_all(alloc, nest, schedule, &cert, systems, &groups) else {
+        return Err(Stop::Memory);
+    };
+    proofs_of(alloc, listed.as_slice(), None, budget)
 }
 
 /// The certificate's point of the context, and the proofs of its questions on extents, accesses, trees and the schedule. Of a program
@@ -73,8 +79,6 @@ pub fn make_draft(
     ensures stop { IfErr result (λ e. e ≡ Stop.Budget → budget.new.limit ≡ Some budget.new.spent) }
 {
     let context = context_point(alloc, nest, budget)?;
-    let items = items_before(alloc, nest, flow, schedule)?;
-    let mut proofs = Items::new(alloc);
-    add_proofs(alloc, items.as_slice(), budget, &mut proofs)?;
+    let proofs = proofs_before(alloc, nest, flow, schedule, budget)?;
     Ok(Draft { context, proofs })
 }

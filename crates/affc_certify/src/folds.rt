@@ -1,5 +1,5 @@
 //! Entries of a certificate for temporaries, with the proofs of their questions.
-ghost use Rattle.std.specs.Prelude.{◌≡◌, IfErr, IsTrue, Some};
+ghost use Rattle.std.specs.Prelude.{◌≡◌, IfOk, IfErr, IsTrue, Some};
 ghost use Rattle.std.specs.List.{All};
 ghost use Rattle.affc_split.specs.Budgets.{IsLater};
 ghost use Rattle.affc_basis.specs.Moduli.{IsModulus};
@@ -9,16 +9,18 @@ ghost use Rattle.affc_life.specs.Asked.{KeepLimits};
 ghost use Rattle.affc_certvalue.specs.fold.Limits.{IsMarkWithin, IsPairWithin};
 ghost use Rattle.affc_certvalue.specs.Limits.{IsWord};
 ghost use Rattle.affc_check.specs.list.Certs.{IsFoldFor, IsFoldWithin};
+ghost use Rattle.affc_certify.specs.Asked.{AreClashesOf};
 
-use crate::clashing::{Asked, Clashes, add_fold_proofs, clashes_of};
+use crate::clashing::{Asked, Clashes, clashes_of};
 use crate::marks::mark_shown;
+use crate::streamed::proofs_of;
 use affc_ast::tree::ArrayId;
 use affc_basis::basis::given;
 use affc_basis::fold::{Fold, Modulus};
 use affc_basis::{Basis, listed};
 use affc_certvalue::fits::is_word;
 use affc_certvalue::fold::fold::{CertFold, CertLeast, CertModulus};
-use affc_check::list::{Item, items_of_fold};
+use affc_check::list::list_fold;
 use affc_farkas::Proof;
 use affc_nest::{ArrayInfo, Nest};
 use affc_quast::rows::copied;
@@ -90,6 +92,7 @@ fn fold_shown(
     fold: &Fold,
     budget: &mut Budget,
 ) -> Result<CertFold, Stop>
+    ensures of_array { IfOk result (λ f. f.array ≡ array) }
     ensures later { IsLater budget.old budget.new }
     ensures stop { IfErr result (λ e. e ≡ Stop.Budget → budget.new.limit ≡ Some budget.new.spent) }
 {
@@ -115,7 +118,9 @@ fn identity(alloc: Global, dimensions: usize) -> Result<Basis, AllocError> {
 }
 
 /// The entry of an array that is left whole.
-fn whole_shown(alloc: Global, array: ArrayId, info: &ArrayInfo) -> Result<CertFold, AllocError> {
+fn whole_shown(alloc: Global, array: ArrayId, info: &ArrayInfo) -> Result<CertFold, AllocError>
+    ensures { IfOk result (λ f. f.array ≡ array) }
+{
     let basis = identity(alloc, info.extents.len())?;
     let mut moduli = Items::new(alloc);
     for extent in info.extents.as_slice() {
@@ -201,18 +206,28 @@ fn may_be_asked(nest: &Nest, fold: &CertFold) -> bool
         && may_be_moduli(nest.context.columns(), fold.moduli.as_slice())
 }
 
-/// The items of an entry.
-fn items_of(alloc: Global, asked: Asked<'_>, fold: &CertFold) -> Result<Vec<Item>, AllocError>
+/// The proofs of the questions of an entry that may be asked. One past the limits of a system counts as want of memory.
+fn proofs_of_fold(
+    alloc: Global,
+    asked: Asked<'_>,
+    clashes: &Clashes,
+    fold: &CertFold,
+    budget: &mut Budget,
+) -> Result<Items<Proof>, Stop>
     requires asked { IsAsked asked.nest.now asked.schedule.now }
     requires trees { KeepLimits asked.nest.now (trees_of asked.flow.now) }
+    requires of_array { IsFoldFor asked.nest.now fold.now }
+    requires within { IsFoldWithin asked.nest.now fold.now }
+    requires clashes { AreClashesOf asked.nest.now (trees_of asked.flow.now) asked.schedule.now fold.now.array.0 clashes.now.products.items }
+    ensures later { IsLater budget.old budget.new }
+    ensures stop { IfErr result (λ e. e ≡ Stop.Budget → budget.new.limit ≡ Some budget.new.spent) }
 {
-    if !may_be_asked(asked.nest, fold) {
-        return Err(AllocError);
-    }
-    match items_of_fold(alloc, asked.nest, asked.flow, asked.schedule, fold) {
-        Ok(items) => Ok(items),
-        Err(_) => Err(AllocError),
-    }
+    let (nest, flow, schedule) = (asked.nest, asked.flow, asked.schedule);
+    let systems = clashes.products.as_slice();
+    let Ok(listed) = list_fold(alloc, nest, flow, schedule, fold, systems) else {
+        return Err(Stop::Memory);
+    };
+    proofs_of(alloc, listed.as_slice(), Some(clashes), budget)
 }
 
 /// An entry with the proofs of its questions.
@@ -225,20 +240,14 @@ fn proved(
 ) -> Result<Entry, Stop>
     requires asked { IsAsked asked.nest.now asked.schedule.now }
     requires trees { KeepLimits asked.nest.now (trees_of asked.flow.now) }
+    requires clashes { AreClashesOf asked.nest.now (trees_of asked.flow.now) asked.schedule.now fold.array.0 clashes.now.products.items }
     ensures later { IsLater budget.old budget.new }
     ensures stop { IfErr result (λ e. e ≡ Stop.Budget → budget.new.limit ≡ Some budget.new.spent) }
 {
-    let items = items_of(alloc, asked, &fold)?;
-    let mut proofs = Items::new(alloc);
-    let moduli = fold.moduli.as_slice();
-    add_fold_proofs(
-        alloc,
-        items.as_slice(),
-        clashes,
-        moduli,
-        budget,
-        &mut proofs,
-    )?;
+    if !may_be_asked(asked.nest, &fold) {
+        return Err(Stop::Memory);
+    }
+    let proofs = proofs_of_fold(alloc, asked, clashes, &fold, budget)?;
     Ok(Entry { fold, proofs })
 }
 

@@ -9,7 +9,9 @@ mod kept;
 mod marks;
 mod question;
 mod shown;
+mod streamed;
 mod trees;
+mod written;
 
 pub use certified::{Certified, certify};
 pub use drafting::{Draft, make_draft};

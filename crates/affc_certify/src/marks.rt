@@ -2,7 +2,7 @@
 ghost use Rattle.std.specs.Prelude.{◌≡◌, IfErr, Some};
 ghost use Rattle.affc_split.specs.Budgets.{IsLater};
 
-use crate::clashing::Clashes;
+use crate::clashing::{Clash, Clashes};
 use affc_basis::fold::Mark;
 use affc_certvalue::fold::fold::CertLeast;
 use affc_prove::decided;
@@ -95,37 +95,56 @@ fn add_equal(
     Ok(())
 }
 
+/// A clash system of a product with this base.
+#[derive(Clone, Copy, Drop)]
+struct Live<'a> {
+    base: &'a PairSystem,
+    system: &'a System,
+}
+
 /// The points of a clash system with these elements.
 fn with_elements(
     alloc: Global,
-    pair: &PairSystem,
+    live: Live<'_>,
     x: &[i64],
     y: &[i64],
 ) -> Result<System, AllocError> {
-    let mut system = pair.system.clone()?;
-    add_equal(alloc, &mut system, pair.x.as_slice(), x)?;
-    add_equal(alloc, &mut system, pair.y.as_slice(), y)?;
+    let mut system = live.system.clone()?;
+    add_equal(alloc, &mut system, live.base.x.as_slice(), x)?;
+    add_equal(alloc, &mut system, live.base.y.as_slice(), y)?;
     Ok(system)
 }
 
 /// A point of a clash system at which it has these elements, if there is one.
 fn point_in(
     alloc: Global,
-    pair: &PairSystem,
+    live: Live<'_>,
     elements: Elements<'_>,
     budget: &mut Budget,
 ) -> Result<Option<Items<i64>>, Stop>
     ensures later { IsLater budget.old budget.new }
     ensures stop { IfErr result (λ e. e ≡ Stop.Budget → budget.new.limit ≡ Some budget.new.spent) }
 {
-    let Some(ranges) = narrowed(alloc, &pair.ranges, elements.p)? else {
+    let Some(ranges) = narrowed(alloc, &live.base.ranges, elements.p)? else {
         return Ok(None);
     };
-    let system = with_elements(alloc, pair, elements.x, elements.y)?;
+    let system = with_elements(alloc, live, elements.x, elements.y)?;
     match decided(alloc, &system, &ranges, budget)? {
         Answer::Point(point) => Ok(Some(Items::from_vec(point))),
         Answer::Empty(_proof) => Ok(None),
     }
+}
+
+/// A clash system, unless it is known to have no point.
+fn live_one<'a>(clashes: &'a Clashes, clash: &'a Clash) -> Option<Live<'a>> {
+    let Clash::Live(product, system) = clash else {
+        return None;
+    };
+    let product = clashes.products.get(*product)?;
+    Some(Live {
+        base: &product.base,
+        system,
+    })
 }
 
 /// The first clash system that has these elements, in this order or in the other, with a point. Those without points are passed.
@@ -143,17 +162,17 @@ fn pair_shown(
         x: elements.y,
         y: elements.x,
     };
-    for (number, pair) in clashes.systems.as_slice().iter().enumerate() {
-        if clashes.is_void(number) {
+    for (number, clash) in clashes.known.as_slice().iter().enumerate() {
+        let Some(live) = live_one(clashes, clash) else {
             continue;
-        }
+        };
         let Ok(number) = i64::try_from(number) else {
             return Err(Stop::Memory);
         };
-        if let Some(point) = point_in(alloc, pair, elements, budget)? {
+        if let Some(point) = point_in(alloc, live, elements, budget)? {
             return Ok((number, point));
         }
-        if let Some(point) = point_in(alloc, pair, turned, budget)? {
+        if let Some(point) = point_in(alloc, live, turned, budget)? {
             return Ok((number, point));
         }
     }

@@ -28,19 +28,3 @@ pub(crate) fn add_item_proof(
         Item::Shown(_) => Ok(()),
     }
 }
-
-/// Adds a proof for each question among these items, in order.
-pub(crate) fn add_proofs(
-    alloc: Global,
-    items: &[Item],
-    budget: &mut Budget,
-    out: &mut Items<Proof>,
-) -> Result<(), Stop>
-    ensures later { IsLater budget.old budget.new }
-    ensures stop { IfErr result (λ e. e ≡ Stop.Budget → budget.new.limit ≡ Some budget.new.spent) }
-{
-    for item in items {
-        add_item_proof(alloc, item, budget, out)?;
-    }
-    Ok(())
-}

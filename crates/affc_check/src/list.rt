@@ -12,6 +12,6 @@ pub mod stop;
 mod trees;
 
 pub use all::{all_items, groups_of, list_all, systems_of};
-pub use folds::items_of_fold;
+pub use folds::list_fold;
 pub use item::{Groups, Item, Listed, Point};
 pub use stop::{PartStop, Stop};

@@ -1,6 +1,5 @@
 //! Questions on folds, and what a certificate shows of their marks.
-ghost use Rattle.std.specs.Prelude.{flat_map, ◌≡◌, ℕ, ◌+◌, ◌≤◌, ◌∷◌, [], length, map, slice_get, Some, IfOk, IfErr, OnOk};
-ghost use Rattle.affc_rows.specs.Forms.{Affine};
+ghost use Rattle.std.specs.Prelude.{flat_map, ◌≡◌, ◌+◌, ◌≤◌, ◌∷◌, [], length, map, IfOk, IfErr, OnOk};
 ghost use Rattle.affc_basis.specs.Moduli.{IsModulus};
 ghost use Rattle.affc_conflicts.specs.Questions.{distance_questions};
 ghost use Rattle.affc_nest.specs.Asked.{IsNest};
@@ -8,23 +7,25 @@ ghost use Rattle.affc_quast.specs.Seen.{trees_of};
 ghost use Rattle.affc_sched.specs.Touched.{Each};
 ghost use Rattle.affc_sched.specs.Legality.{IsAsked};
 ghost use Rattle.affc_certvalue.specs.fold.Limits.{IsMarkWithin};
+ghost use Rattle.affc_life.specs.Clashes.{clash_of, clashes};
 ghost use Rattle.affc_life.specs.Products.{systems_in};
+ghost use Rattle.affc_life.specs.Sizes.{AnyLarge};
 ghost use Rattle.affc_questions.specs.Asked.{IsAlong};
 ghost use Rattle.affc_questions.specs.Tails.{distance_tail};
 ghost use Rattle.affc_check.specs.list.Certs.{modulus_said, AreFoldItems};
-ghost use Rattle.affc_check.specs.list.Held.{item_said, listed_said};
+ghost use Rattle.affc_check.specs.list.Held.{listed_said};
 ghost use Rattle.affc_check.specs.list.Items.{Question, row_items, rows_items, fold_items};
 ghost use Rattle.affc_check.specs.list.Limits.{AnyPasses};
 ghost use Rattle.affc_check.specs.list.Listed.{AreListed};
 ghost use Rattle.affc_check.specs.list.Passes.{FoldPasses};
 ghost use Rattle.affc_check.specs.list.Walks.{clash_systems, fold_shown, AreRowsAsked, IsFoldAsked};
 
-use crate::list::item::{Item, Listed};
-use crate::list::listing::{add_long, add_product, wholes};
+use crate::list::item::Listed;
+use crate::list::listing::{add_long, add_product};
 use crate::list::shown::{Along, add_mark};
 use crate::list::stop::Stop;
 use affc_certvalue::fold::fold::{CertFold, CertModulus};
-use affc_life::{ClashFault, ClashProduct, clash_products};
+use affc_life::ClashProduct;
 use affc_nest::Nest;
 use affc_quast::Flow;
 use affc_questions::{distance_rows, positive_question};
@@ -178,27 +179,25 @@ pub(crate) fn add_fold<'a>(
     add_rows(alloc, nest, systems, rows, 0, rows, moduli, out)
 }
 
-/// The items of one fold of a certificate with these trees, in order. Those of `items` end with them, fold by fold.
-pub fn items_of_fold(
+/// Lists the items of one fold of a certificate with these trees, whose array has these clash systems.
+pub fn list_fold<'a>(
     alloc: Global,
-    nest: &Nest,
+    nest: &'a Nest,
     flow: &Flow,
     schedule: &Schedule,
-    fold: &CertFold,
-) -> Result<Vec<Item>, Stop>
+    fold: &'a CertFold,
+    systems: &'a [ClashProduct],
+) -> Result<Vec<Listed<'a>>, Stop>
     requires asked { IsAsked nest.now schedule.now }
     requires fold { IsFoldAsked nest.now (trees_of flow.now) fold.now }
-    ensures ok { IfOk result (λ v. AreFoldItems nest.now schedule.now (trees_of flow.now) fold.now (map item_said v.items)) }
+    requires systems { map clash_of (clash_systems systems.now) ≡ clashes nest.now (trees_of flow.now) schedule.now fold.now.array.0 }
+    requires fits { ¬ (AnyLarge (clashes nest.now (trees_of flow.now) schedule.now fold.now.array.0)) }
+    ensures ok { IfOk result (λ l. AreFoldItems nest.now schedule.now (trees_of flow.now) fold.now (flat_map listed_said l.items)) }
     ensures within { OnOk result (¬ (FoldPasses nest.now schedule.now (trees_of flow.now) fold.now)) }
     ensures past { IfErr result (λ e. e ≡ Stop.Past → FoldPasses nest.now schedule.now (trees_of flow.now) fold.now) }
 {
-    let systems = match clash_products(alloc, nest, flow, schedule, fold.array) {
-        Ok(systems) => systems,
-        Err(ClashFault::Large) => return Err(Stop::Past),
-        Err(ClashFault::Memory) => return Err(Stop::Memory),
-    };
+    let (_flow, _schedule) = (flow, schedule);
     let mut listed = Vec::new(alloc);
-    add_fold(alloc, nest, fold, systems.as_slice(), &mut listed)?;
-    let items = wholes(alloc, listed)?;
-    Ok(items)
+    add_fold(alloc, nest, fold, systems, &mut listed)?;
+    Ok(listed)
 }

@@ -1,5 +1,5 @@
 use Rattle.affc_split.specs.Budgets.{IsLater}
-use Rattle.affc_certify.proofs.clashing.add_distance_proofs.Given as goal
+use Rattle.affc_certify.proofs.streamed.known_of.Given as goal
 
 abbrev pub invariant-loop-number : goal.invariant-loop-number
 invariant-loop-number l = IsLater l.fn.budget l.budget
