@@ -1,12 +1,12 @@
 -- Differences of broad forms don't leave the range of the code's numbers.
-use Rattle.std.proofs.Common.{◌≡◌, ℕ, zero, suc, ◌^◌, ◌<◌, ◌≤◌, ℤ, pos, negsuc, List, [], ◌∷◌, ◌++◌, replicate, inl, inr, arith}
+use Rattle.std.proofs.Common.{◌≡◌, ℕ, zero, suc, ◌^◌, ◌<◌, ◌≤◌, ℤ, pos, negsuc, List, [], ◌∷◌, ◌++◌, replicate, inl, inr, arith, ap, ap₂, ◌∙◌}
 use Rattle.std.specs.Prelude.{unsigned_abs}
 use Rattle.std.specs.List.{All}
 use Rattle.std.proofs.lemmas.List.Elements.{All-nil, All-cons, All-head, All-tail}
 use Rattle.affc_rows.specs.Forms.{Affine, entry_magnitude, mixed_magnitudes, mixed_form_magnitudes, TooWide}
 use Rattle.affc_trace.proofs.EndedReads.{append_assoc}
 use Rattle.affc_domain.proofs.FormLemmas.{number_width}
-use Rattle.affc_nest.specs.Domains.{number_form}
+use Rattle.affc_nest.specs.Domains.{gap_row, column_form, number_form, range_rows}
 use Rattle.affc_questions.specs.Sizes.{IsBroad}
 
 entry_narrow : (c d : ℤ) → unsigned_abs c ≤ 2 ^ 110 → unsigned_abs d ≤ 2 ^ 110 → 2 ^ 126 < entry_magnitude (pos 1) c (negsuc 0) d → ⊥
@@ -24,6 +24,13 @@ not_too_wide n a b s t (inr w) = entries_narrow a.coefs b.coefs s.coefs_fit t.co
 
 pub added_twice : (xs ys zs : List Affine) → (xs ++ ys) ++ zs ≡ xs ++ (ys ++ zs)
 added_twice xs ys zs = append_assoc xs ys zs
+
+-- the rows that a column is in a range, one after the other
+pub range_made : (n j : ℕ) (low high least most : ℤ) (at : Affine) (old mid new : List Affine) → at ≡ column_form n j → least ≡ low → most ≡ high → mid ≡ old ++ gap_row (number_form n least) at 0 ∷ [] → new ≡ mid ++ gap_row at (number_form n most) 0 ∷ []
+    → new ≡ old ++ range_rows n j (low, high)
+range_made n j low high least most at old mid new e l m f g =
+    let both : Affine → ℤ → ℤ → List Affine = λ h a b. old ++ gap_row (number_form n a) h 0 ∷ gap_row h (number_form n b) 0 ∷ [] in
+    g ∙ (ap (λ zs. zs ++ gap_row at (number_form n most) 0 ∷ []) f ∙ (added_twice old (gap_row (number_form n least) at 0 ∷ []) (gap_row at (number_form n most) 0 ∷ []) ∙ (ap (λ h. both h least most) e ∙ ap₂ (λ a b. both (column_form n j) a b) l m)))
 
 -- ---- Numbers
 

@@ -12,6 +12,7 @@ ghost use Rattle.affc_products.specs.Groups.{group_systems};
 
 use crate::lists::{add_each, add_joined};
 use crate::rows::add_equals;
+use crate::writer::Writer;
 use affc_flow::store_for;
 use affc_life::stores::{front_rows, loaded, loops_round, stored, stored_after, stored_before};
 use affc_nest::{Access, Entry, Nest};
@@ -89,19 +90,19 @@ fn add_between(
     load: &Access,
     leaf: &Leaf,
     named: &Named,
-    writer: &Entry,
-    store: &Access,
+    writer: &Writer<'_>,
     out: &mut Vec<Group>,
 ) -> Result<(), AllocError>
     requires leaf { IsLeafOf nest.now reader.now load.now (leaf_seen leaf.now) }
     requires named { HasForms nest.now leaf.now.columns named.now.statement named.now.forms }
-    requires writer { IsWriter nest.now writer.now store.now }
-    ensures { OnOk result (flat_map group_systems out.new.items ≡ flat_map group_systems out.old.items ++ between_systems nest.now reader.now load.now (leaf_seen leaf.now) writer.now store.now (posed named.now.statement named.now.forms)) }
+    requires writer { IsWriter nest.now writer.now.entry.now writer.now.store.now }
+    ensures { OnOk result (flat_map group_systems out.new.items ≡ flat_map group_systems out.old.items ++ between_systems nest.now reader.now load.now (leaf_seen leaf.now) writer.now.entry.now writer.now.store.now (posed named.now.statement named.now.forms)) }
 {
-    let columns = columns_beside(leaf, writer);
-    let front = beside_rows(alloc, nest, reader, load, leaf, writer, store)?;
-    let before = stored_before(alloc, nest, &Schedule::Source, reader, leaf, writer)?;
-    let after = stored_after(alloc, nest, &Schedule::Source, reader, leaf, named, writer)?;
+    let (entry, store) = (writer.entry, writer.store);
+    let columns = columns_beside(leaf, entry);
+    let front = beside_rows(alloc, nest, reader, load, leaf, entry, store)?;
+    let before = stored_before(alloc, nest, &Schedule::Source, reader, leaf, entry)?;
+    let after = stored_after(alloc, nest, &Schedule::Source, reader, leaf, named, entry)?;
     add_joined(alloc, columns, front, after, before, out)
 }
 
@@ -168,7 +169,10 @@ fn add_between_of(
 {
     match store_for(entry, load.array.0) {
         None => Ok(()),
-        Some(store) => add_between(alloc, nest, reader, load, leaf, named, entry, store, out),
+        Some(store) => {
+            let writer = Writer { entry, store };
+            add_between(alloc, nest, reader, load, leaf, named, &writer, out)
+        }
     }
 }
 

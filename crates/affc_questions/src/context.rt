@@ -12,7 +12,7 @@ ghost use Rattle.affc_nest.specs.Questions.{whole_context};
 ghost use Rattle.affc_questions.specs.Sizes.{IsBroad};
 
 use crate::long::Long;
-use crate::rows::{add_equal, add_gap};
+use crate::rows::{add_at_least, add_at_most, add_equal, add_gap};
 use affc_nest::Nest;
 use affc_quast::rows::add_copies;
 use affc_rows::Form;
@@ -20,16 +20,7 @@ use affc_system::system::value_at;
 use sqlite_items::Items;
 use std::alloc::{AllocError, Global};
 
-/// A number as a form.
-fn word(alloc: Global, columns: u32, n: i64) -> Result<Form, AllocError>
-    ensures value { IfOk result (λ f. f ≡ number_form columns n) }
-    ensures broad { IfOk result (λ f. IsBroad columns f) }
-{
-    Form::number(alloc, columns, i128::from(n))
-}
-
 /// Adds the rows that a column is in a range.
-#[tactic(auto, using(crate::proofs::BroadLemmas::added_twice, crate::proofs::SizeLemmas::column_broad))]
 fn add_range(
     alloc: Global,
     columns: u32,
@@ -41,10 +32,8 @@ fn add_range(
     ensures { OnOk result (out.new ≡ out.old ++ range_rows columns j (low, high)) }
 {
     let at = Form::column(alloc, columns, j)?;
-    let first = word(alloc, columns, low)?;
-    add_gap(alloc, columns, &first, &at, 0, out)?;
-    let last = word(alloc, columns, high)?;
-    add_gap(alloc, columns, &at, &last, 0, out)
+    add_at_least(alloc, columns, &at, low, out)?;
+    add_at_most(alloc, columns, &at, high, out)
 }
 
 /// Adds the rows that the columns from `j` on are in their ranges.

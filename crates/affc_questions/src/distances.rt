@@ -13,7 +13,7 @@ ghost use Rattle.affc_questions.specs.Sizes.{IsBroad};
 ghost use Rattle.affc_questions.specs.Tails.{distance_tail, shown_tail};
 
 use crate::image::image_of;
-use crate::rows::{add_equal, add_gap, minus};
+use crate::rows::{add_at_least, add_equal, add_gap, add_zero, minus};
 use affc_quast::rows::copied;
 use affc_rows::Form;
 use affc_system::PairSystem;
@@ -74,7 +74,23 @@ fn distance(
     image_of(alloc, columns, images.as_slice(), &row)
 }
 
+/// Adds the rows that two elements don't lie apart along a row.
+fn add_level(
+    alloc: Global,
+    pair: &PairSystem,
+    row: &Form,
+    out: &mut Items<Form>,
+) -> Result<(), AllocError>
+    requires { AreElements pair.now.system.columns row.now pair.now.x.items pair.now.y.items }
+    ensures { OnOk result (out.new ≡ out.old ++ compare_rows Equal (distance row.now pair.now.x.items pair.now.y.items) (number_form pair.now.system.columns (pos 0))) }
+{
+    let columns = pair.system.columns();
+    let apart = distance(alloc, columns, row, pair.x.as_slice(), pair.y.as_slice())?;
+    add_zero(alloc, columns, &apart, out)
+}
+
 /// Adds the rows that two elements lie apart along none of these rows.
+#[tactic(auto, using(crate::proofs::BroadLemmas::added_twice))]
 fn add_agree(
     alloc: Global,
     pair: &PairSystem,
@@ -87,10 +103,7 @@ fn add_agree(
     match rows {
         [] => Ok(()),
         [row, rest @ ..] => {
-            let columns = pair.system.columns();
-            let apart = distance(alloc, columns, row, pair.x.as_slice(), pair.y.as_slice())?;
-            let zero = Form::number(alloc, columns, 0)?;
-            add_equal(alloc, columns, &apart, &zero, out)?;
+            add_level(alloc, pair, row, out)?;
             add_agree(alloc, pair, rest, out)
         }
     }
@@ -195,6 +208,22 @@ pub fn is_behind(
     Ok(value_at(&apart, point) < 0)
 }
 
+/// Adds the rows that a form is a modulus less 1.
+fn add_less_one(
+    alloc: Global,
+    columns: u32,
+    form: &Form,
+    modulus: &Form,
+    out: &mut Items<Form>,
+) -> Result<(), AllocError>
+    requires form { IsBroad columns form.now }
+    requires modulus { IsModulusOver columns modulus.now }
+    ensures { OnOk result (out.new ≡ out.old ++ compare_rows Equal form.now (mixed_form (pos 1) (over_columns columns modulus.now) (negsuc 0) (number_form columns (pos 1)))) }
+{
+    let less = less_one(alloc, columns, modulus)?;
+    add_equal(alloc, columns, form, &less, out)
+}
+
 /// Adds the rows that x lies behind y by the modulus less 1, and by at least 1.
 fn add_shown(
     alloc: Global,
@@ -211,10 +240,8 @@ fn add_shown(
 {
     let columns = pair.system.columns();
     let apart = distance(alloc, columns, row, xs, ys)?;
-    let one = Form::number(alloc, columns, 1)?;
-    let less = less_one(alloc, columns, modulus)?;
-    add_equal(alloc, columns, &apart, &less, out)?;
-    add_gap(alloc, columns, &one, &apart, 0, out)
+    add_less_one(alloc, columns, &apart, modulus, out)?;
+    add_at_least(alloc, columns, &apart, 1, out)
 }
 
 /// The rows behind a clash system's at whose points x lies behind y by the modulus less 1, and by at least 1.

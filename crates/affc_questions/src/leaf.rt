@@ -15,19 +15,13 @@ ghost use Rattle.affc_products.specs.Groups.{group_systems};
 use crate::beside::{add_all_between, add_all_earlier};
 use crate::lists::{add_each, add_front};
 use crate::named::{astray_lists, late_lists, own_path};
+use crate::writer::Writer;
 use affc_flow::{is_temporary, store_for};
 use affc_nest::{Access, Entry, Nest};
 use affc_products::Group;
 use affc_quast::leaves::{Leaf, Named};
 use sqlite_items::Items;
 use std::alloc::{AllocError, Global};
-
-/// A statement and its store.
-#[derive(Clone, Copy, Drop)]
-struct Writer<'a> {
-    entry: &'a Entry,
-    store: &'a Access,
-}
 
 /// The statement, if it stores the array and is the one that is named.
 fn named_here<'a>(entry: &'a Entry, array: u32, named: &Named) -> Option<Writer<'a>>
@@ -84,17 +78,16 @@ fn add_named(
     load: &Access,
     leaf: &Leaf,
     named: &Named,
-    writer: &Entry,
-    store: &Access,
+    writer: &Writer<'_>,
     out: &mut Vec<Group>,
 ) -> Result<(), AllocError>
     requires leaf { IsLeafOf nest.now reader.now load.now (leaf_seen leaf.now) }
-    requires writer { IsWriter nest.now writer.now store.now }
-    requires named { IsInstanceOf nest.now leaf.now.columns (posed named.now.statement named.now.forms) writer.now }
-    ensures { OnOk result (flat_map group_systems out.new.items ≡ flat_map group_systems out.old.items ++ named_systems nest.now reader.now load.now (leaf_seen leaf.now) (posed named.now.statement named.now.forms) writer.now store.now) }
+    requires writer { IsWriter nest.now writer.now.entry.now writer.now.store.now }
+    requires named { IsInstanceOf nest.now leaf.now.columns (posed named.now.statement named.now.forms) writer.now.entry.now }
+    ensures { OnOk result (flat_map group_systems out.new.items ≡ flat_map group_systems out.old.items ++ named_systems nest.now reader.now load.now (leaf_seen leaf.now) (posed named.now.statement named.now.forms) writer.now.entry.now writer.now.store.now) }
 {
     let path = own_path(alloc, reader, leaf)?;
-    let mut lists = astray_lists(alloc, nest, reader, load, leaf, named, writer, store)?;
+    let mut lists = astray_lists(alloc, nest, reader, load, leaf, named, writer)?;
     let mut late = late_lists(alloc, nest, reader, leaf.columns, named)?;
     lists.append(&mut late)?;
     add_each(alloc, leaf.columns, Items::from_vec(path), lists, out)?;
@@ -118,10 +111,7 @@ fn add_found(
 {
     match named_among(nest.entries.as_slice(), load.array.0, named) {
         None => add_path(alloc, reader, leaf, out),
-        Some(writer) => {
-            let (entry, store) = (writer.entry, writer.store);
-            add_named(alloc, nest, reader, load, leaf, named, entry, store, out)
-        }
+        Some(writer) => add_named(alloc, nest, reader, load, leaf, named, &writer, out),
     }
 }
 

@@ -12,6 +12,7 @@ mod lists;
 pub mod long;
 mod named;
 mod rows;
+mod writer;
 
 pub use context::{greater_question, one_system, positive_question, whole_context};
 pub use distances::{distance_rows, is_behind, shown_rows};

@@ -16,6 +16,7 @@ ghost use Rattle.affc_questions.specs.Listed.{negations, sides, own_path, own_co
 use crate::image::add_images;
 use crate::lists::{add_below_zero, add_list, add_sides};
 use crate::rows::add_equals;
+use crate::writer::Writer;
 use affc_life::columns::{add_padded, columns_from};
 use affc_life::stores::{loops_round, params_in};
 use affc_life::systems::add_forms;
@@ -115,21 +116,26 @@ pub(crate) fn astray_lists(
     load: &Access,
     leaf: &Leaf,
     named: &Named,
-    writer: &Entry,
-    store: &Access,
+    writer: &Writer<'_>,
 ) -> Result<Vec<Items<Form>>, AllocError>
     requires leaf { IsLeafOf nest.now reader.now load.now (leaf_seen leaf.now) }
-    requires writer { IsWriter nest.now writer.now store.now }
-    requires named { IsInstanceOf nest.now leaf.now.columns (posed named.now.statement named.now.forms) writer.now }
-    ensures { IfOk result (λ v. v.items ≡ astray_lists nest.now load.now leaf.now.columns named.now.forms writer.now store.now) }
+    requires writer { IsWriter nest.now writer.now.entry.now writer.now.store.now }
+    requires named { IsInstanceOf nest.now leaf.now.columns (posed named.now.statement named.now.forms) writer.now.entry.now }
+    ensures { IfOk result (λ v. v.items ≡ astray_lists nest.now load.now leaf.now.columns named.now.forms writer.now.entry.now writer.now.store.now) }
 {
     let _reader = reader.statement;
     let columns = leaf.columns;
     let images = images(alloc, nest, columns, named.forms.as_slice())?;
     let images = images.as_slice();
-    let (written, read) = (store.subs.as_slice(), load.subs.as_slice());
+    let (written, read) = (writer.store.subs.as_slice(), load.subs.as_slice());
     let mut lists = Vec::new(alloc);
-    add_outside(alloc, columns, images, writer.domain.rows(), &mut lists)?;
+    add_outside(
+        alloc,
+        columns,
+        images,
+        writer.entry.domain.rows(),
+        &mut lists,
+    )?;
     add_apart(alloc, columns, images, written, read, &mut lists)?;
     Ok(lists)
 }

@@ -3,7 +3,7 @@ ghost use Rattle.std.specs.Prelude.{◌≡◌, ◌≤◌, ◌++◌, ◌∷◌, [
 ghost use Rattle.std.specs.List.{All};
 ghost use Rattle.affc_rows.specs.Forms.{mixed_form};
 ghost use Rattle.affc_ast.specs.declared.tree.Rel.TheVariants.{Equal};
-ghost use Rattle.affc_nest.specs.Domains.{gap_row, compare_rows};
+ghost use Rattle.affc_nest.specs.Domains.{gap_row, compare_rows, number_form};
 ghost use Rattle.affc_quast.specs.Leaves.{negated};
 ghost use Rattle.affc_sched.specs.Questions.{equal_rows};
 ghost use Rattle.affc_questions.specs.Sizes.{IsBroad};
@@ -11,6 +11,14 @@ ghost use Rattle.affc_questions.specs.Sizes.{IsBroad};
 use affc_rows::Form;
 use sqlite_items::Items;
 use std::alloc::{AllocError, Global};
+
+/// A number as a form.
+fn word(alloc: Global, columns: u32, n: i64) -> Result<Form, AllocError>
+    ensures value { IfOk result (λ f. f ≡ number_form columns n) }
+    ensures broad { IfOk result (λ f. IsBroad columns f) }
+{
+    Form::number(alloc, columns, i128::from(n))
+}
 
 /// One form less another.
 #[tactic(auto, using(crate::proofs::BroadLemmas::not_too_wide))]
@@ -49,6 +57,36 @@ pub(crate) fn add_gap(
     out.push(row)
 }
 
+/// Adds the row that a form is at least a number.
+pub(crate) fn add_at_least(
+    alloc: Global,
+    columns: u32,
+    form: &Form,
+    low: i64,
+    out: &mut Items<Form>,
+) -> Result<(), AllocError>
+    requires { IsBroad columns form.now }
+    ensures { OnOk result (out.new ≡ out.old ++ gap_row (number_form columns low) form.now 0 ∷ []) }
+{
+    let low = word(alloc, columns, low)?;
+    add_gap(alloc, columns, &low, form, 0, out)
+}
+
+/// Adds the row that a form is at most a number.
+pub(crate) fn add_at_most(
+    alloc: Global,
+    columns: u32,
+    form: &Form,
+    high: i64,
+    out: &mut Items<Form>,
+) -> Result<(), AllocError>
+    requires { IsBroad columns form.now }
+    ensures { OnOk result (out.new ≡ out.old ++ gap_row form.now (number_form columns high) 0 ∷ []) }
+{
+    let high = word(alloc, columns, high)?;
+    add_gap(alloc, columns, form, &high, 0, out)
+}
+
 /// Adds the rows that two forms are equal.
 #[tactic(auto, using(crate::proofs::BroadLemmas::added_twice))]
 pub(crate) fn add_equal(
@@ -64,6 +102,20 @@ pub(crate) fn add_equal(
 {
     add_gap(alloc, columns, b, a, 0, out)?;
     add_gap(alloc, columns, a, b, 0, out)
+}
+
+/// Adds the rows that a form is 0.
+pub(crate) fn add_zero(
+    alloc: Global,
+    columns: u32,
+    form: &Form,
+    out: &mut Items<Form>,
+) -> Result<(), AllocError>
+    requires { IsBroad columns form.now }
+    ensures { OnOk result (out.new ≡ out.old ++ compare_rows Equal form.now (number_form columns (pos 0))) }
+{
+    let zero = word(alloc, columns, 0)?;
+    add_equal(alloc, columns, form, &zero, out)
 }
 
 /// Adds the rows that forms are equal in turn.

@@ -26,7 +26,7 @@ returns c =
     let lists = c.append.new.self.items in
     on_ok_weaker c.add_all_between.result
     (λ e. lists_made (behind leaf.columns (own_path reader leaf)) old mid (flat_map group_systems c.add_all_between.new.out.items) (all_between nest reader load leaf a nest.entries)
-    (astray_lists nest load leaf.columns a.iterators c.args.writer.now c.args.store.now) (late_lists nest reader leaf.columns a) lists
+    (astray_lists nest load leaf.columns a.iterators c.args.writer.now.entry.now c.args.writer.now.store.now) (late_lists nest reader leaf.columns a) lists
     (c.in_ok-append.ensures.items ∙ ap₂ (λ xs ys. xs ++ ys) c.in_ok-lists.ensures c.in_ok-late.ensures)
     (c.in_ok-add_each.ensures ∙ ap (λ f. old ++ map (behind leaf.columns f) lists) (c.from_vec.ensures ∙ c.in_ok-path.ensures))
     (e ∙ ap (λ es. mid ++ all_between nest reader load leaf a es) c.as_slice-entries.ensures)) c.add_all_between.ensures

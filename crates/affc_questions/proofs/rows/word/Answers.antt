@@ -6,7 +6,7 @@ use Rattle.affc_nest.specs.Domains.{number_form}
 use Rattle.affc_questions.specs.Sizes.{IsBroad}
 use Rattle.affc_questions.proofs.BroadLemmas.{number_broad}
 use Rattle.affc_questions.proofs.SizeLemmas.{word_broad}
-use Rattle.affc_questions.proofs.context.word.Goals as goal
+use Rattle.affc_questions.proofs.rows.word.Goals as goal
 
 pub returns-clause-broad : goal.returns-clause-broad
 returns-clause-broad c =

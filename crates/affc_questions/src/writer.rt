@@ -1,0 +1,9 @@
+//! Statements that store an array.
+use affc_nest::{Access, Entry};
+
+/// A statement and its store.
+#[derive(Clone, Copy, Drop)]
+pub(crate) struct Writer<'a> {
+    pub entry: &'a Entry,
+    pub store: &'a Access,
+}
