@@ -1,4 +1,4 @@
-use Rattle.std.proofs.Common.{◌≡◌, ◌<◌, ◌≤◌, length, arith, sym, subst}
+use Rattle.std.proofs.Common.{◌<◌, ◌≤◌, length, arith, sym, subst}
 use Rattle.std.proofs.lemmas.Option.{slice_get_within}
 use Rattle.affc_certify.proofs.written.crossed.Goals as goal
 
