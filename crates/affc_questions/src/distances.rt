@@ -148,6 +148,24 @@ fn turned(alloc: Global, columns: u32, apart: &Form, most: &Form) -> Result<Form
     Form::mixture(alloc, -1, apart, -1, most)
 }
 
+/// Adds the row `apart - most` to the first rows, and `- apart - most` to the second ones.
+fn add_both_ways(
+    alloc: Global,
+    columns: u32,
+    apart: &Form,
+    most: &Form,
+    first: &mut Items<Form>,
+    second: &mut Items<Form>,
+) -> Result<(), AllocError>
+    requires apart { IsBroad columns apart.now }
+    requires most { IsBroad columns most.now }
+    ensures first { OnOk result (first.new ≡ first.old ++ gap_row most.now apart.now 0 ∷ []) }
+    ensures second { OnOk result (second.new ≡ second.old ++ mixed_form (negsuc 0) apart.now (negsuc 0) most.now ∷ []) }
+{
+    add_gap(alloc, columns, most, apart, 0, first)?;
+    second.push(turned(alloc, columns, apart, most)?)
+}
+
 /// Adds the row that x lies behind y by at least the modulus to the first rows, and that y lies behind x to the second ones.
 fn add_distances(
     alloc: Global,
@@ -166,9 +184,7 @@ fn add_distances(
     let columns = pair.system.columns();
     let most = over_columns(alloc, columns, modulus)?;
     let apart = distance(alloc, columns, row, pair.x.as_slice(), pair.y.as_slice())?;
-    add_gap(alloc, columns, &most, &apart, 0, first)?;
-    let row = turned(alloc, columns, &apart, &most)?;
-    second.push(row)
+    add_both_ways(alloc, columns, &apart, &most, first, second)
 }
 
 /// The rows that the two questions of a clash system have behind the system's: whether, in the slice of the first k rows, the
