@@ -188,6 +188,7 @@ fn seen_whole(
     requires columns { length ranges.now ≡ system.now.columns }
     requires reach { All WithinReach ranges.now }
     requires ranges { All IsBound bounds.now }
+    requires width { length bounds.now ≡ system.now.columns }
     requires bounds { bounds.now ≡ box_bounds (length system.now.rows) ranges.now }
     requires next { next ≡ length system.now.rows + 2 * system.now.columns }
     ensures empty { IfOk result (λ o. IfSome o (λ a. IfEmpty a (λ p. ValidProof (with_box system.now ranges.now) p))) }
