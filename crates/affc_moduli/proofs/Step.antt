@@ -30,7 +30,7 @@ module _ (context : Rows) (ranges : List (ℤ × ℤ)) (extents rows : List Affi
   pub dimensions : length row.coefs ≡ length extents
   dimensions = width ∙ sym ready.dimensions
 
-  few : length row.coefs ≤ 4
+  pub few : length row.coefs ≤ 4
   few = subst (λ n. n ≤ 4) (sym width) ready.few_rows
 
   pub small : All (λ c. unsigned_abs c ≤ 256) row.coefs

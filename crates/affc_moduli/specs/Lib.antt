@@ -7,3 +7,4 @@ pub mod Enough
 pub mod Shown
 pub mod Ended
 pub mod Barred
+pub mod Asked

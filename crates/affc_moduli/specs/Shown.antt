@@ -1,13 +1,15 @@
 -- The pair of a mark: which is sought, and its order.
-use Rattle.std.specs.Prelude.{◌≡◌, ◌^◌, ◌≤◌, ℤ, pos, ◌≤ℤ◌, unsigned_abs, List, Option, Some, None, IfSome, IfNone}
+use Rattle.std.specs.Prelude.{◌≡◌, ◌⊎◌, ◌^◌, ◌≤◌, ℤ, pos, ◌≤ℤ◌, unsigned_abs, List, Option, Some, None, IfSome, IfNone}
 use Rattle.affc_rows.specs.Forms.{Affine, value}
 use Rattle.affc_system.specs.declared.pairs.PairSystem.{PairSystem}
 use Rattle.affc_split.specs.maximum.Regions.{InRegion}
 use Rattle.affc_split.specs.declared.maximum.region.Region.{Region}
 use Rattle.affc_split.specs.declared.maximum.several.Found.{Found}
 use Rattle.affc_conflicts.specs.differences.Differences.{apart}
+use Rattle.affc_basis.specs.declared.fold.Modulus.{Modulus}
 use Rattle.affc_basis.specs.declared.fold.Mark.{Mark}
 use Rattle.affc_basis.specs.declared.fold.Mark.TheVariants.{Least, Bound}
+use Rattle.affc_moduli.specs.declared.extremes.Candidate.{Candidate}
 use Rattle.affc_moduli.specs.declared.extremes.Sought.{Sought}
 use Rattle.affc_moduli.specs.Distances.{IsApartAt}
 
@@ -28,6 +30,10 @@ pub record IsSought (systems : List PairSystem) (regions : List Region) (cs : Li
   pub best : IfSome sought.best (λ c. IsTie systems regions cs sought.level c.found)
   pub none : IfNone sought.best (sought.level ≡ start)
 
+-- either what was known, which has the candidate's distance, or the candidate
+abbrev pub IsJoined : Sought → Candidate → Sought → Type 0
+IsJoined sought candidate after = ((after ≡ sought) × (candidate.found.value ≡ sought.level)) ⊎ ((after.level ≡ candidate.found.value) × (after.best ≡ Some candidate))
+
 -- two elements in the other order
 abbrev pub swapped : Option (List ℤ × List ℤ) → Option (List ℤ × List ℤ)
 swapped (Some pair) = Some (pair.1, pair.0)
@@ -37,3 +43,7 @@ swapped None = None
 abbrev pub other_way : Mark → Mark
 other_way (Least p pair) = Least p (swapped pair)
 other_way Bound = Bound
+
+-- the same modulus, or with its two elements in the other order
+abbrev pub IsEitherWay : Modulus → Modulus → Type 0
+IsEitherWay old new = (new ≡ old) ⊎ ((new.form ≡ old.form) × (new.mark ≡ other_way old.mark))

@@ -1,7 +1,7 @@
 //! How great a form can be in a region, by its box and by single rows, without a question.
-ghost use Rattle.std.specs.Prelude.{◌≡◌, ℤ, List, ◌^◌, ◌≤◌, ◌≤ℤ◌, ◌+ℤ◌, unsigned_abs, pos, IsTrue, IfSome, length};
+ghost use Rattle.std.specs.Prelude.{◌≡◌, ℤ, List, ◌^◌, ◌≤◌, ◌≤ℤ◌, ◌+ℤ◌, ◌⊎◌, unsigned_abs, pos, IsTrue, IfSome, length};
 ghost use Rattle.std.specs.List.{All};
-ghost use Rattle.affc_system.specs.Systems.{IsRow, Meets};
+ghost use Rattle.affc_system.specs.Systems.{FitsRow, IsRow, Meets};
 ghost use Rattle.affc_split.specs.maximum.Regions.{InRegion, IsBounded, IsAskable};
 ghost use Rattle.affc_rows.specs.Vocabulary.{AreOpposite};
 
@@ -31,12 +31,11 @@ fn opposes(row: &Form, form: &Form) -> bool
 }
 
 /// The sum of the constants.
-fn sum_of_constants(row: &Form, form: &Form, columns: u32) -> Bound
-    requires row { IsRow columns row.now }
-    requires form { IsRow columns form.now }
+fn sum_of_constants(row: &Form, form: &Form) -> Bound
+    requires row { FitsRow row.now }
+    requires form { FitsRow form.now }
     ensures { result.most ≡ row.now.constant +ℤ form.now.constant }
 {
-    let _columns = columns;
     Bound {
         most: (row.constant + form.constant) as i64,
     }
@@ -50,7 +49,7 @@ fn lowered(region: &Region, row: &Form, form: &Form, bound: Bound) -> Bound
     requires bounded { IsBounded region.now form.now bound.most }
     ensures bounded { IsBounded region.now form.now result.most }
 {
-    let sum = sum_of_constants(row, form, region.system.columns());
+    let sum = sum_of_constants(row, form);
     if sum.most < bound.most && opposes(row, form) {
         sum
     } else {
@@ -204,16 +203,6 @@ pub fn begins_void(region: &Region) -> bool
     starts_broken(region, region.system.rows())
 }
 
-/// The bound of a region without a point.
-fn nothing(region: &Region, form: &Form) -> Bound
-    requires void { (z : List ℤ) → InRegion region.now z → ⊥ }
-    ensures bounded { IsBounded region.now form.now result.most }
-{
-    let _region = region;
-    let _form = form;
-    Bound { most: -1 }
-}
-
 /// A number that a form isn't above anywhere in its region, if one is seen without a question.
 ///
 /// A region that is reduced shows by its first row that it has no point.
@@ -222,10 +211,9 @@ pub fn upper_bound(region: &Region, form: &Form) -> Option<Bound>
     ensures bounded { IfSome result (λ b. IsBounded region.now form.now b.most) }
 {
     if begins_void(region) {
-        Some(nothing(region, form))
-    } else {
-        plain_bound(region, form)
+        return Some(Bound { most: -1 });
     }
+    plain_bound(region, form)
 }
 
 /// Whether a form is seen to be at most a number throughout its region.
@@ -240,15 +228,11 @@ pub fn is_at_most(region: &Region, form: &Form, most: i64) -> bool
 }
 
 /// A bound, but from 0 to the greatest distance.
-fn within_distances(region: &Region, form: &Form, bound: Bound) -> Bound
-    requires askable { IsAskable region.now form.now (pos (2 ^ 53)) }
-    requires bounded { IsBounded region.now form.now bound.most }
-    ensures bounded { IsBounded region.now form.now result.most }
+fn within_distances(bound: Bound) -> Bound
     ensures positive { pos 0 ≤ℤ result.most }
     ensures within { result.most ≤ℤ pos (2 ^ 53) }
+    ensures above { (bound.most ≤ℤ result.most) ⊎ (result.most ≡ pos (2 ^ 53)) }
 {
-    let _region = region;
-    let _form = form;
     if bound.most < 0 {
         Bound { most: 0 }
     } else if bound.most > MOST_DISTANCE {
@@ -267,14 +251,10 @@ pub fn ceiling_of(region: &Region, form: &Form) -> Bound
     ensures positive { pos 0 ≤ℤ result.most }
     ensures within { result.most ≤ℤ pos (2 ^ 53) }
 {
-    match upper_bound(region, form) {
-        Some(bound) => within_distances(region, form, bound),
-        None => within_distances(
-            region,
-            form,
-            Bound {
-                most: MOST_DISTANCE,
-            },
-        ),
-    }
+    let Some(bound) = upper_bound(region, form) else {
+        return Bound {
+            most: MOST_DISTANCE,
+        };
+    };
+    within_distances(bound)
 }

@@ -2,7 +2,7 @@
 ghost use Rattle.std.specs.Prelude.{◌≡◌, ◌≤◌, unsigned_abs, map, IfOk, length};
 ghost use Rattle.std.specs.List.{All};
 ghost use Rattle.affc_rows.specs.Vocabulary.{opposite, HasOpposite};
-ghost use Rattle.affc_moduli.specs.Distances.{HaveDimensions, AreForward, AreBackward};
+ghost use Rattle.affc_moduli.specs.Distances.{HaveDimensions, AreForward};
 
 use affc_conflicts::differences::difference;
 use affc_rows::Form;
@@ -34,8 +34,8 @@ pub fn forward(alloc: Global, coefs: &[i128], pairs: &[PairSystem]) -> Result<Ve
     Ok(forms)
 }
 
-/// The forms with their signs turned.
-fn opposites(alloc: Global, forms: &[Form]) -> Result<Vec<Form>, AllocError>
+/// The forms with their signs turned: what is forward becomes backward.
+pub fn opposites(alloc: Global, forms: &[Form]) -> Result<Vec<Form>, AllocError>
     requires { All HasOpposite forms.now }
     ensures { IfOk result (λ fs. fs.items ≡ map opposite forms.now) }
 {
@@ -44,21 +44,4 @@ fn opposites(alloc: Global, forms: &[Form]) -> Result<Vec<Form>, AllocError>
         made.push(form.opposite(alloc)?)?;
     }
     Ok(made)
-}
-
-/// For each system the row's value at the second element less that at the first, from the other way round.
-pub fn backward(
-    alloc: Global,
-    coefs: &[i128],
-    pairs: &[PairSystem],
-    forms: &[Form],
-) -> Result<Vec<Form>, AllocError>
-    requires one_each { length forms.now ≡ length pairs.now }
-    requires forward { AreForward pairs.now coefs.now forms.now }
-    ensures one_each { IfOk result (λ gs. length gs.items ≡ length pairs.now) }
-    ensures forms { IfOk result (λ gs. AreBackward pairs.now coefs.now gs.items) }
-{
-    let _coefs = coefs;
-    let _pairs = pairs;
-    opposites(alloc, forms)
 }

@@ -9,13 +9,11 @@ ghost use Rattle.affc_basis.specs.Moduli.{Exceeds, Separates, IsModulus};
 ghost use Rattle.affc_split.specs.Budgets.{IsLater};
 ghost use Rattle.affc_system.specs.ElementPairs.{IsPairOf};
 ghost use Rattle.affc_conflicts.specs.Conditions.{InContext, IsNear, IsConflict};
-ghost use Rattle.affc_moduli.specs.Ready.{AreReady};
-ghost use Rattle.affc_moduli.specs.Slices.{AreSlices};
+ghost use Rattle.affc_moduli.specs.Asked.{IsGiven, AreSlicesOf};
 ghost use Rattle.affc_moduli.specs.Ended.{IsSpent};
 ghost use Rattle.affc_moduli.specs.Rows.{AreKept, AreMarkedOr};
 
-use crate::distances::MOST_DISTANCE;
-use crate::extremes::Aim;
+use crate::asked::{Given, Hint};
 use crate::reduced::reduce_all;
 use crate::row::row_done;
 use crate::slices::copies;
@@ -26,27 +24,6 @@ use affc_split::{Answer, Budget, Stop, decide};
 use affc_system::{BoxOf, PairSystem, System};
 use sqlite_items::Items;
 use std::alloc::Global;
-
-/// What is wanted of moduli, and what is known of them.
-#[derive(Clone, Copy, Drop)]
-pub struct Hint<'a> {
-    /// Whether only the least constants are wanted, with any elements that have the distance.
-    pub quick: bool,
-    /// The least constant of each row, as far as these are known. What is wrong here costs time alone.
-    pub known: &'a [u64],
-}
-
-/// How the greatest distance along the row with this number is sought.
-fn aim_at(hint: Hint<'_>, k: usize) -> Aim {
-    let start = match hint.known.get(k) {
-        Some(value) if 1 <= *value && *value <= MOST_DISTANCE as u64 => (*value - 1) as i64,
-        _ => 0,
-    };
-    Aim {
-        quick: hint.quick,
-        start,
-    }
-}
 
 /// A point of the context, if the budget lasts.
 fn context_point(
@@ -74,45 +51,25 @@ fn context_point(
 /// A modulus for each row.
 fn all_rows(
     alloc: Global,
-    pairs: &[PairSystem],
-    extents: &[Form],
-    context: &System,
-    ranges: &BoxOf,
-    rows: &[Form],
+    given: &Given<'_>,
     regions: &mut [Region],
-    some: &Option<Vec<i64>>,
-    hint: Hint<'_>,
     budget: &mut Budget,
 ) -> Result<Items<Modulus>, Stop>
-    requires ready { AreReady context.now ranges.now extents.now rows.now pairs.now }
-    requires slices { AreSlices context.now ranges.now rows.now 0 pairs.now regions.old }
-    requires some { IfSome some.now (λ p. InContext context.now ranges.now p.items) }
-    requires none { IfNone some.now (IsSpent budget.old) }
-    ensures one_each { IfOk result (λ ms. length ms ≡ length rows.now) }
-    ensures kept { IfOk result (λ ms. AreKept context.now ranges.now pairs.now rows.now ms) }
-    ensures bound { IfOk result (λ ms. AreMarkedOr budget.new ms) }
+    requires given { IsGiven given.now }
+    requires slices { AreSlicesOf given.now 0 regions.old }
+    requires none { IfNone given.now.some.now (IsSpent budget.old) }
+    ensures one_each { IfOk result (λ ms. length ms ≡ length given.now.rows.now) }
+    ensures kept { IfOk result (AreKept given.now.context.now given.now.ranges.now given.now.pairs.now given.now.rows.now) }
+    ensures bound { IfOk result (AreMarkedOr budget.new) }
     ensures later { IsLater budget.old budget.new }
     ensures stop { IfErr result (λ e. e ≡ Stop.Memory) }
 {
     let mut made = Items::new(alloc);
-    for k in 0..rows.len() {
+    for k in 0..given.rows.len() {
         let Ok(()) = reduce_all(alloc, regions) else {
             return Err(Stop::Memory);
         };
-        let modulus = row_done(
-            alloc,
-            pairs,
-            extents,
-            context,
-            ranges,
-            rows,
-            k,
-            regions,
-            some,
-            &rows[k],
-            aim_at(hint, k),
-            budget,
-        )?;
+        let modulus = row_done(alloc, given, k, &given.rows[k], regions, budget)?;
         let Ok(()) = made.push(modulus) else {
             return Err(Stop::Memory);
         };
@@ -158,16 +115,14 @@ pub fn moduli(
     };
     let some = context_point(alloc, context, ranges, budget)?;
     let rows = basis.rows.as_slice();
-    all_rows(
-        alloc,
+    let given = Given {
         pairs,
         extents,
         context,
         ranges,
         rows,
-        regions.as_mut_slice(),
-        &some,
+        some: &some,
         hint,
-        budget,
-    )
+    };
+    all_rows(alloc, &given, regions.as_mut_slice(), budget)
 }

@@ -5,8 +5,10 @@ ghost use Rattle.affc_rows.specs.Forms.{HaveColumns};
 ghost use Rattle.affc_split.specs.Budgets.{IsLater};
 ghost use Rattle.affc_basis.specs.Moduli.{IsModulus};
 ghost use Rattle.affc_conflicts.specs.Conditions.{IsNear};
-ghost use Rattle.affc_moduli.specs.Enough.{AreComparable, IsSuitable};
+ghost use Rattle.affc_moduli.specs.Asked.{IsAsked};
+ghost use Rattle.affc_moduli.specs.Enough.{IsSuitable};
 
+use crate::asked::Asked;
 use crate::enough::{all_below, is_positive, is_within};
 use affc_rows::{Form, FormFault};
 use affc_split::maximum::{Region, maximum};
@@ -178,20 +180,21 @@ fn top_of(
 /// The form of a set of dimensions whose greatest value is the need, where it is below the need at the low ends of the ranges.
 fn proposed(
     alloc: Global,
-    coefs: &[i128],
-    extents: &[Form],
+    asked: &Asked<'_>,
     set: u32,
     context: &Region,
     need: i64,
     budget: &mut Budget,
 ) -> Result<Option<Proposal>, Stop>
-    requires one_each { length coefs.now ≡ length extents.now }
-    requires small { All (λ c. unsigned_abs c ≤ 256) coefs.now }
-    requires wide { HaveColumns context.now.system.columns extents.now }
+    requires asked { IsAsked asked.now }
+    requires context { context.now.system ≡ asked.now.given.context.now }
     ensures later { IsLater budget.old budget.new }
     ensures stop { IfErr result (λ e. e ≡ Stop.Budget → budget.new.limit ≡ Some budget.new.spent) }
 {
-    let Some(sum) = sum_of(alloc, coefs, extents, set, context.system.columns())? else {
+    let row = asked.line.row;
+    let coefs = row.coefs.as_slice();
+    let parameters = context.system.columns();
+    let Some(sum) = sum_of(alloc, coefs, asked.given.extents, set, parameters)? else {
         return Ok(None);
     };
     let slopes = Form {
@@ -229,23 +232,20 @@ fn place_of(proposals: &[Proposal], low: i128) -> usize
 /// The forms of all sets of dimensions that are below the need at the low ends of the ranges, the least first.
 fn all_proposed(
     alloc: Global,
-    coefs: &[i128],
-    extents: &[Form],
+    asked: &Asked<'_>,
     context: &Region,
     need: i64,
     budget: &mut Budget,
 ) -> Result<Vec<Proposal>, Stop>
-    requires one_each { length coefs.now ≡ length extents.now }
-    requires few { length extents.now ≤ 4 }
-    requires small { All (λ c. unsigned_abs c ≤ 256) coefs.now }
-    requires wide { HaveColumns context.now.system.columns extents.now }
+    requires asked { IsAsked asked.now }
+    requires context { context.now.system ≡ asked.now.given.context.now }
     ensures later { IsLater budget.old budget.new }
     ensures stop { IfErr result (λ e. e ≡ Stop.Budget → budget.new.limit ≡ Some budget.new.spent) }
 {
     let mut proposals = Vec::new(alloc);
-    let sets = 1u32 << extents.len();
+    let sets = 1u32 << asked.given.extents.len();
     for set in 1..sets {
-        if let Some(made) = proposed(alloc, coefs, extents, set, context, need, budget)? {
+        if let Some(made) = proposed(alloc, asked, set, context, need, budget)? {
             let place = place_of(proposals.as_slice(), made.low);
             let Ok(()) = proposals.insert(place, made) else {
                 return Err(Stop::Memory);
@@ -258,21 +258,17 @@ fn all_proposed(
 /// Whether a form is a modulus that exceeds each distance, is at least 1, and is nowhere above the need.
 fn suits(
     alloc: Global,
+    asked: &Asked<'_>,
     context: &Region,
-    regions: &[Region],
-    fs: &[Form],
-    gs: &[Form],
     form: &Form,
     need: i64,
     budget: &mut Budget,
 ) -> Result<bool, Stop>
+    requires asked { IsAsked asked.now }
+    requires context { context.now.system ≡ asked.now.given.context.now }
     requires room { length context.now.system.rows < 1024 }
-    requires fs_each { length fs.now ≡ length regions.now }
-    requires gs_each { length gs.now ≡ length regions.now }
-    requires fs { AreComparable context.now.system.columns regions.now fs.now }
-    requires gs { AreComparable context.now.system.columns regions.now gs.now }
     requires need { unsigned_abs need ≤ 2 ^ 55 }
-    ensures suitable { IfOk result (λ b. IsTrue b → IsSuitable context.now regions.now fs.now gs.now form.now need) }
+    ensures suitable { IfOk result (λ b. IsTrue b → IsSuitable context.now asked.now.regions.now asked.now.line.fs.now asked.now.line.gs.now form.now need) }
     ensures later { IsLater budget.old budget.new }
     ensures stop { IfErr result (λ e. e ≡ Stop.Budget → budget.new.limit ≡ Some budget.new.spent) }
 {
@@ -286,52 +282,33 @@ fn suits(
     if !is_positive(alloc, context, form, budget)? {
         return Ok(false);
     }
-    if !all_below(alloc, regions, fs, form, budget)? {
+    if !all_below(alloc, asked.regions, asked.line.fs, form, budget)? {
         return Ok(false);
     }
-    all_below(alloc, regions, gs, form, budget)
+    all_below(alloc, asked.regions, asked.line.gs, form, budget)
 }
 
 /// The first proposal that suits.
 fn first_suited(
     alloc: Global,
-    coefs: &[i128],
-    extents: &[Form],
+    asked: &Asked<'_>,
     context: &Region,
-    regions: &[Region],
-    fs: &[Form],
-    gs: &[Form],
     need: i64,
     budget: &mut Budget,
 ) -> Result<Option<Form>, Stop>
-    requires one_each { length coefs.now ≡ length extents.now }
-    requires few { length extents.now ≤ 4 }
-    requires small { All (λ c. unsigned_abs c ≤ 256) coefs.now }
-    requires wide { HaveColumns context.now.system.columns extents.now }
-    requires fs_each { length fs.now ≡ length regions.now }
-    requires gs_each { length gs.now ≡ length regions.now }
-    requires fs { AreComparable context.now.system.columns regions.now fs.now }
-    requires gs { AreComparable context.now.system.columns regions.now gs.now }
+    requires asked { IsAsked asked.now }
+    requires context { context.now.system ≡ asked.now.given.context.now }
     requires need { unsigned_abs need ≤ 2 ^ 55 }
-    ensures suitable { IfOk result (λ o. IfSome o (λ f. IsSuitable context.now regions.now fs.now gs.now f need)) }
+    ensures suitable { IfOk result (λ o. IfSome o (λ f. IsSuitable context.now asked.now.regions.now asked.now.line.fs.now asked.now.line.gs.now f need)) }
     ensures later { IsLater budget.old budget.new }
     ensures stop { IfErr result (λ e. e ≡ Stop.Budget → budget.new.limit ≡ Some budget.new.spent) }
 {
     if context.system.rows().len() >= MOST_ROWS {
         return Ok(None);
     }
-    let proposals = all_proposed(alloc, coefs, extents, context, need, budget)?;
+    let proposals = all_proposed(alloc, asked, context, need, budget)?;
     for proposal in proposals {
-        if suits(
-            alloc,
-            context,
-            regions,
-            fs,
-            gs,
-            &proposal.form,
-            need,
-            budget,
-        )? {
+        if suits(alloc, asked, context, &proposal.form, need, budget)? {
             return Ok(Some(proposal.form));
         }
     }
@@ -341,31 +318,19 @@ fn first_suited(
 /// The first proposal that suits, while the budget lasts.
 pub fn chosen(
     alloc: Global,
-    coefs: &[i128],
-    extents: &[Form],
+    asked: &Asked<'_>,
     context: &Region,
-    regions: &[Region],
-    fs: &[Form],
-    gs: &[Form],
     need: i64,
     budget: &mut Budget,
 ) -> Result<Option<Form>, Stop>
-    requires one_each { length coefs.now ≡ length extents.now }
-    requires few { length extents.now ≤ 4 }
-    requires small { All (λ c. unsigned_abs c ≤ 256) coefs.now }
-    requires wide { HaveColumns context.now.system.columns extents.now }
-    requires fs_each { length fs.now ≡ length regions.now }
-    requires gs_each { length gs.now ≡ length regions.now }
-    requires fs { AreComparable context.now.system.columns regions.now fs.now }
-    requires gs { AreComparable context.now.system.columns regions.now gs.now }
+    requires asked { IsAsked asked.now }
+    requires context { context.now.system ≡ asked.now.given.context.now }
     requires need { unsigned_abs need ≤ 2 ^ 55 }
-    ensures suitable { IfOk result (λ o. IfSome o (λ f. IsSuitable context.now regions.now fs.now gs.now f need)) }
+    ensures suitable { IfOk result (λ o. IfSome o (λ f. IsSuitable context.now asked.now.regions.now asked.now.line.fs.now asked.now.line.gs.now f need)) }
     ensures later { IsLater budget.old budget.new }
     ensures stop { IfErr result (λ e. e ≡ Stop.Memory) }
 {
-    match first_suited(
-        alloc, coefs, extents, context, regions, fs, gs, need, budget,
-    ) {
+    match first_suited(alloc, asked, context, need, budget) {
         Ok(found) => Ok(found),
         Err(Stop::Budget) => Ok(None),
         Err(Stop::Memory) => Err(Stop::Memory),

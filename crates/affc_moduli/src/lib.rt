@@ -1,6 +1,7 @@
 //! Successive moduli of an array along the rows of a basis, over the pairs of elements that are to be kept apart.
 #![tactic(auto)]
 
+mod asked;
 mod bounds;
 mod ceilings;
 mod chosen;
@@ -17,6 +18,7 @@ mod slices;
 mod tops;
 mod witness;
 
+pub use asked::Hint;
 pub use chosen::Chosen;
-pub use fold::{Hint, moduli};
+pub use fold::moduli;
 pub use keys::{barring, key_of};

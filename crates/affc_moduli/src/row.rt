@@ -1,29 +1,28 @@
 //! The modulus of one row.
-ghost use Rattle.std.specs.Prelude.{◌≡◌, ℤ, ◌+◌, ◌^◌, ◌<◌, ◌≤◌, ◌+ℤ◌, unsigned_abs, pos, Some, None, slice_get, take, replicate, IfOk, IfErr, IfSome, IfNone, OnOk, length};
+ghost use Rattle.std.specs.Prelude.{◌≡◌, ℤ, ◌+◌, ◌^◌, ◌<◌, ◌≤◌, ◌+ℤ◌, unsigned_abs, pos, Some, None, slice_get, take, replicate, IfOk, IfErr, IfNone, OnOk, length};
 ghost use Rattle.std.specs.List.{All};
 ghost use Rattle.affc_rows.specs.Forms.{value, values_of};
 ghost use Rattle.affc_rows.specs.Vocabulary.{number_form};
 ghost use Rattle.affc_system.specs.Pairs.{IsSubscript};
 ghost use Rattle.affc_split.specs.Budgets.{IsLater};
 ghost use Rattle.affc_conflicts.specs.Conditions.{InContext};
-ghost use Rattle.affc_moduli.specs.Slices.{AreSlices};
-ghost use Rattle.affc_moduli.specs.Distances.{AreApartWithin, AreForward, AreBackward, IsFarthest};
+ghost use Rattle.affc_moduli.specs.Asked.{IsGiven, IsLine, IsAsked, AreSlicesOf, IsDoneFor, IsKeptFor, IsFarthestOf};
 ghost use Rattle.affc_moduli.specs.Ended.{IsSpent, IsFar};
-ghost use Rattle.affc_moduli.specs.Rows.{IsDone, IsKept};
-ghost use Rattle.affc_moduli.specs.Ready.{AreReady};
-ghost use Rattle.affc_moduli.specs.Shown.{other_way, swapped};
+ghost use Rattle.affc_moduli.specs.Rows.{IsKept};
+ghost use Rattle.affc_moduli.specs.Shown.{other_way, swapped, IsEitherWay};
 
+use crate::asked::{Aim, Asked, Given, Hint, Line};
 use crate::bounds::Bound;
 use crate::ceilings::bound_of;
-use crate::distances::{backward, forward};
-use crate::extremes::{Aim, Reach, Shown, farthest};
+use crate::distances::{MOST_DISTANCE, forward, opposites};
+use crate::extremes::{Reach, Shown, farthest};
 use crate::forms::{chosen, context_region};
 use crate::slices::narrow_all;
 use affc_basis::{Mark, Modulus};
 use affc_rows::Form;
 use affc_split::maximum::{Found, Region};
 use affc_split::{Budget, Stop};
-use affc_system::{BoxOf, PairSystem, System, value_at};
+use affc_system::{PairSystem, value_at};
 use sqlite_items::Items;
 use std::alloc::{AllocError, Global};
 
@@ -103,100 +102,36 @@ fn with_pair(
 }
 
 /// The modulus of a row along which two elements at a point of a region lie farthest apart.
-fn shown(
-    alloc: Global,
-    pairs: &[PairSystem],
-    extents: &[Form],
-    context: &System,
-    ranges: &BoxOf,
-    rows: &[Form],
-    k: usize,
-    regions: &[Region],
-    found: &Found,
-    row: &Form,
-) -> Result<Modulus, AllocError>
-    requires ready { AreReady context.now ranges.now extents.now rows.now pairs.now }
-    requires row { slice_get rows.now k ≡ Some row.now }
-    requires slices { AreSlices context.now ranges.now rows.now k pairs.now regions.now }
-    requires farthest { IsFarthest pairs.now regions.now row.now.coefs (Some found.now) }
-    ensures done { IfOk result (λ m. IsDone context.now ranges.now pairs.now rows.now k row.now m) }
-    ensures flat { IfOk result (λ m. m.form.coefs ≡ replicate context.now.columns (pos 0)) }
+fn shown(alloc: Global, asked: &Asked<'_>, found: &Found) -> Result<Modulus, AllocError>
+    requires asked { IsAsked asked.now }
+    requires farthest { IsFarthestOf asked.now (Some found.now) }
+    ensures done { IfOk result (IsDoneFor asked.now.given asked.now.line) }
+    ensures flat { IfOk result (λ m. m.form.coefs ≡ replicate asked.now.given.context.now.columns (pos 0)) }
 {
-    let _extents = extents;
-    let _ranges = ranges;
-    let _rows = rows;
-    let _k = k;
-    let _regions = regions;
-    let _row = row;
-    let system = &pairs[found.number];
+    let system = &asked.given.pairs[found.number];
     let columns = system.system.columns();
     prove!(columns <= 128);
-    let parameters = context.columns();
+    let parameters = asked.given.context.columns();
     let point = found.point.as_slice();
     with_pair(alloc, system, point, found.value, parameters)
-}
-
-/// The modulus of a row along which nothing lies apart.
-fn unshown(
-    alloc: Global,
-    pairs: &[PairSystem],
-    extents: &[Form],
-    context: &System,
-    ranges: &BoxOf,
-    rows: &[Form],
-    k: usize,
-    regions: &[Region],
-    some: &[i64],
-    row: &Form,
-) -> Result<Modulus, AllocError>
-    requires ready { AreReady context.now ranges.now extents.now rows.now pairs.now }
-    requires row { slice_get rows.now k ≡ Some row.now }
-    requires slices { AreSlices context.now ranges.now rows.now k pairs.now regions.now }
-    requires none { AreApartWithin pairs.now regions.now row.now.coefs 0 }
-    requires some { InContext context.now ranges.now some.now }
-    ensures done { IfOk result (λ m. IsDone context.now ranges.now pairs.now rows.now k row.now m) }
-    ensures flat { IfOk result (λ m. m.form.coefs ≡ replicate context.now.columns (pos 0)) }
-{
-    let _pairs = pairs;
-    let _extents = extents;
-    let _context = context;
-    let _ranges = ranges;
-    let _rows = rows;
-    let _k = k;
-    let _regions = regions;
-    let _row = row;
-    without_pair(alloc, some)
 }
 
 /// The modulus of a row, from the greatest distance in its slice.
 fn modulus_of(
     alloc: Global,
-    pairs: &[PairSystem],
-    extents: &[Form],
-    context: &System,
-    ranges: &BoxOf,
-    rows: &[Form],
-    k: usize,
-    regions: &[Region],
-    found: &Option<Found>,
+    asked: &Asked<'_>,
     some: &[i64],
-    row: &Form,
+    found: &Option<Found>,
 ) -> Result<Modulus, AllocError>
-    requires ready { AreReady context.now ranges.now extents.now rows.now pairs.now }
-    requires row { slice_get rows.now k ≡ Some row.now }
-    requires slices { AreSlices context.now ranges.now rows.now k pairs.now regions.now }
-    requires farthest { IsFarthest pairs.now regions.now row.now.coefs found.now }
-    requires some { InContext context.now ranges.now some.now }
-    ensures done { IfOk result (λ m. IsDone context.now ranges.now pairs.now rows.now k row.now m) }
-    ensures flat { IfOk result (λ m. m.form.coefs ≡ replicate context.now.columns (pos 0)) }
+    requires asked { IsAsked asked.now }
+    requires some { InContext asked.now.given.context.now asked.now.given.ranges.now some.now }
+    requires farthest { IsFarthestOf asked.now found.now }
+    ensures done { IfOk result (IsDoneFor asked.now.given asked.now.line) }
+    ensures flat { IfOk result (λ m. m.form.coefs ≡ replicate asked.now.given.context.now.columns (pos 0)) }
 {
     match found {
-        None => unshown(
-            alloc, pairs, extents, context, ranges, rows, k, regions, some, row,
-        ),
-        Some(f) => shown(
-            alloc, pairs, extents, context, ranges, rows, k, regions, f, row,
-        ),
+        None => without_pair(alloc, some),
+        Some(f) => shown(alloc, asked, f),
     }
 }
 
@@ -234,27 +169,9 @@ fn turned(modulus: Modulus) -> Modulus
 }
 
 /// The modulus with the elements of its mark in the order in which they are shown.
-fn in_order(
-    pairs: &[PairSystem],
-    context: &System,
-    ranges: &BoxOf,
-    rows: &[Form],
-    k: usize,
-    row: &Form,
-    modulus: Modulus,
-    turns: bool,
-) -> Modulus
-    requires done { IsDone context.now ranges.now pairs.now rows.now k row.now modulus }
-    requires flat { modulus.form.coefs ≡ replicate context.now.columns (pos 0) }
-    ensures done { IsDone context.now ranges.now pairs.now rows.now k row.now result }
-    ensures flat { result.form.coefs ≡ replicate context.now.columns (pos 0) }
+fn in_order(modulus: Modulus, turns: bool) -> Modulus
+    ensures { IsEitherWay modulus result }
 {
-    let _pairs = pairs;
-    let _context = context;
-    let _ranges = ranges;
-    let _rows = rows;
-    let _k = k;
-    let _row = row;
     if turns { turned(modulus) } else { modulus }
 }
 
@@ -280,44 +197,22 @@ fn with_form(modulus: Modulus, form: Form) -> Modulus
 /// The modulus of a row, with the form that is chosen in place of a constant while the budget lasts.
 fn formed(
     alloc: Global,
-    pairs: &[PairSystem],
-    extents: &[Form],
-    context: &System,
-    ranges: &BoxOf,
-    rows: &[Form],
-    k: usize,
-    regions: &[Region],
-    row: &Form,
-    fs: &[Form],
-    gs: &[Form],
+    asked: &Asked<'_>,
     constant: Modulus,
     budget: &mut Budget,
 ) -> Result<Modulus, Stop>
-    requires ready { AreReady context.now ranges.now extents.now rows.now pairs.now }
-    requires row { slice_get rows.now k ≡ Some row.now }
-    requires slices { AreSlices context.now ranges.now rows.now k pairs.now regions.now }
-    requires fs_each { length fs.now ≡ length pairs.now }
-    requires gs_each { length gs.now ≡ length pairs.now }
-    requires fs { AreForward pairs.now row.now.coefs fs.now }
-    requires gs { AreBackward pairs.now row.now.coefs gs.now }
-    requires done { IsDone context.now ranges.now pairs.now rows.now k row.now constant }
-    requires flat { constant.form.coefs ≡ replicate context.now.columns (pos 0) }
-    ensures done { IfOk result (λ m. IsDone context.now ranges.now pairs.now rows.now k row.now m) }
+    requires asked { IsAsked asked.now }
+    requires done { IsDoneFor asked.now.given asked.now.line constant }
+    requires flat { constant.form.coefs ≡ replicate asked.now.given.context.now.columns (pos 0) }
+    ensures done { IfOk result (IsDoneFor asked.now.given asked.now.line) }
     ensures later { IsLater budget.old budget.new }
     ensures stop { IfErr result (λ e. e ≡ Stop.Memory) }
 {
-    let _pairs = pairs;
-    let _rows = rows;
-    let _k = k;
-    let Ok(region) = context_region(context, ranges) else {
+    let Ok(context) = context_region(asked.given.context, asked.given.ranges) else {
         return Err(Stop::Memory);
     };
-    let coefs = row.coefs.as_slice();
     let need = constant_of(&constant.form);
-    let found = chosen(
-        alloc, coefs, extents, &region, regions, fs, gs, need, budget,
-    )?;
-    match found {
+    match chosen(alloc, asked, &context, need, budget)? {
         Some(form) => Ok(with_form(constant, form)),
         None => Ok(constant),
     }
@@ -337,160 +232,79 @@ fn unmarked(alloc: Global, parameters: u32, bound: &Bound) -> Result<Modulus, Al
 }
 
 /// The modulus of a row along which no elements lie farther apart than a bound says: 1 more, without a mark.
-fn bounded(
-    alloc: Global,
-    pairs: &[PairSystem],
-    extents: &[Form],
-    context: &System,
-    ranges: &BoxOf,
-    rows: &[Form],
-    k: usize,
-    regions: &[Region],
-    row: &Form,
-    bound: &Bound,
-) -> Result<Modulus, AllocError>
-    requires ready { AreReady context.now ranges.now extents.now rows.now pairs.now }
-    requires row { slice_get rows.now k ≡ Some row.now }
-    requires slices { AreSlices context.now ranges.now rows.now k pairs.now regions.now }
-    requires far { IsFar pairs.now regions.now row.now.coefs bound.now.most }
-    ensures { IfOk result (λ m. IsKept context.now ranges.now pairs.now rows.now k row.now m) }
+fn bounded(alloc: Global, asked: &Asked<'_>, bound: &Bound) -> Result<Modulus, AllocError>
+    requires asked { IsAsked asked.now }
+    requires far { IsFar asked.now.given.pairs.now asked.now.regions.now asked.now.line.row.now.coefs bound.now.most }
+    ensures { IfOk result (IsKeptFor asked.now.given asked.now.line) }
 {
-    let _pairs = pairs;
-    let _extents = extents;
-    let _ranges = ranges;
-    let _rows = rows;
-    let _k = k;
-    let _regions = regions;
-    let _row = row;
-    unmarked(alloc, context.columns(), bound)
+    unmarked(alloc, asked.given.context.columns(), bound)
 }
 
 /// The modulus of a row along which elements lie farthest apart where it is shown.
 fn marked(
     alloc: Global,
-    pairs: &[PairSystem],
-    extents: &[Form],
-    context: &System,
-    ranges: &BoxOf,
-    rows: &[Form],
-    k: usize,
-    regions: &[Region],
+    asked: &Asked<'_>,
     some: &[i64],
-    row: &Form,
-    fs: &[Form],
-    gs: &[Form],
     shown: &Shown,
-    aim: Aim,
     budget: &mut Budget,
 ) -> Result<Modulus, Stop>
-    requires ready { AreReady context.now ranges.now extents.now rows.now pairs.now }
-    requires row { slice_get rows.now k ≡ Some row.now }
-    requires slices { AreSlices context.now ranges.now rows.now k pairs.now regions.now }
-    requires some { InContext context.now ranges.now some.now }
-    requires fs_each { length fs.now ≡ length pairs.now }
-    requires gs_each { length gs.now ≡ length pairs.now }
-    requires fs { AreForward pairs.now row.now.coefs fs.now }
-    requires gs { AreBackward pairs.now row.now.coefs gs.now }
-    requires farthest { IsFarthest pairs.now regions.now row.now.coefs shown.now.found }
-    ensures done { IfOk result (λ m. IsDone context.now ranges.now pairs.now rows.now k row.now m) }
+    requires asked { IsAsked asked.now }
+    requires some { InContext asked.now.given.context.now asked.now.given.ranges.now some.now }
+    requires farthest { IsFarthestOf asked.now shown.now.found }
+    ensures done { IfOk result (IsDoneFor asked.now.given asked.now.line) }
     ensures later { IsLater budget.old budget.new }
     ensures stop { IfErr result (λ e. e ≡ Stop.Memory) }
 {
-    let Ok(modulus) = modulus_of(
-        alloc,
-        pairs,
-        extents,
-        context,
-        ranges,
-        rows,
-        k,
-        regions,
-        &shown.found,
-        some,
-        row,
-    ) else {
+    let Ok(modulus) = modulus_of(alloc, asked, some, &shown.found) else {
         return Err(Stop::Memory);
     };
-    let constant = in_order(pairs, context, ranges, rows, k, row, modulus, shown.turned);
-    if aim.quick {
+    let constant = in_order(modulus, shown.turned);
+    if asked.given.hint.quick {
         return Ok(constant);
     }
-    formed(
-        alloc, pairs, extents, context, ranges, rows, k, regions, row, fs, gs, constant, budget,
-    )
+    formed(alloc, asked, constant, budget)
 }
 
 /// The modulus of a row for which no question is asked.
-fn unasked(
-    alloc: Global,
-    pairs: &[PairSystem],
-    extents: &[Form],
-    context: &System,
-    ranges: &BoxOf,
-    rows: &[Form],
-    k: usize,
-    regions: &[Region],
-    row: &Form,
-    fs: &[Form],
-    gs: &[Form],
-) -> Result<Modulus, AllocError>
-    requires ready { AreReady context.now ranges.now extents.now rows.now pairs.now }
-    requires row { slice_get rows.now k ≡ Some row.now }
-    requires slices { AreSlices context.now ranges.now rows.now k pairs.now regions.now }
-    requires fs_each { length fs.now ≡ length pairs.now }
-    requires gs_each { length gs.now ≡ length pairs.now }
-    requires fs { AreForward pairs.now row.now.coefs fs.now }
-    requires gs { AreBackward pairs.now row.now.coefs gs.now }
-    ensures { IfOk result (λ m. IsKept context.now ranges.now pairs.now rows.now k row.now m) }
+fn unasked(alloc: Global, asked: &Asked<'_>) -> Result<Modulus, AllocError>
+    requires asked { IsAsked asked.now }
+    ensures { IfOk result (IsKeptFor asked.now.given asked.now.line) }
 {
-    let bound = bound_of(regions, fs, gs, 0, Bound { most: 0 });
-    bounded(
-        alloc, pairs, extents, context, ranges, rows, k, regions, row, &bound,
-    )
+    let bound = bound_of(asked, 0, Bound { most: 0 });
+    bounded(alloc, asked, &bound)
+}
+
+/// How the greatest distance along the row with this number is sought.
+fn aim_at(hint: Hint<'_>, k: usize) -> Aim {
+    let start = match hint.known.get(k) {
+        Some(value) if 1 <= *value && *value <= MOST_DISTANCE as u64 => (*value - 1) as i64,
+        _ => 0,
+    };
+    Aim {
+        quick: hint.quick,
+        start,
+    }
 }
 
 /// The modulus of a row, by questions while the budget lasts.
-fn asked(
+fn by_questions(
     alloc: Global,
-    pairs: &[PairSystem],
-    extents: &[Form],
-    context: &System,
-    ranges: &BoxOf,
-    rows: &[Form],
-    k: usize,
-    regions: &[Region],
+    asked: &Asked<'_>,
     some: &[i64],
-    row: &Form,
-    fs: &[Form],
-    gs: &[Form],
-    aim: Aim,
     budget: &mut Budget,
 ) -> Result<Modulus, Stop>
-    requires ready { AreReady context.now ranges.now extents.now rows.now pairs.now }
-    requires row { slice_get rows.now k ≡ Some row.now }
-    requires slices { AreSlices context.now ranges.now rows.now k pairs.now regions.now }
-    requires some { InContext context.now ranges.now some.now }
-    requires fs_each { length fs.now ≡ length pairs.now }
-    requires gs_each { length gs.now ≡ length pairs.now }
-    requires fs { AreForward pairs.now row.now.coefs fs.now }
-    requires gs { AreBackward pairs.now row.now.coefs gs.now }
-    ensures kept { IfOk result (λ m. IsKept context.now ranges.now pairs.now rows.now k row.now m) }
+    requires asked { IsAsked asked.now }
+    requires some { InContext asked.now.given.context.now asked.now.given.ranges.now some.now }
+    ensures kept { IfOk result (IsKeptFor asked.now.given asked.now.line) }
     ensures bound { IfOk result (λ m. m.mark ≡ Mark.Bound → IsSpent budget.new) }
     ensures later { IsLater budget.old budget.new }
     ensures stop { IfErr result (λ e. e ≡ Stop.Memory) }
 {
-    let parameters = context.columns() as usize;
-    match farthest(alloc, row, pairs, regions, fs, gs, parameters, aim, budget)? {
-        Reach::Farthest(shown) => {
-            marked(
-                alloc, pairs, extents, context, ranges, rows, k, regions, some, row, fs, gs,
-                &shown, aim, budget,
-            )
-        }
+    let aim = aim_at(asked.given.hint, asked.line.k);
+    match farthest(alloc, asked, aim, budget)? {
+        Reach::Farthest(shown) => marked(alloc, asked, some, &shown, budget),
         Reach::Within(bound) => {
-            let Ok(modulus) = bounded(
-                alloc, pairs, extents, context, ranges, rows, k, regions, row, &bound,
-            ) else {
+            let Ok(modulus) = bounded(alloc, asked, &bound) else {
                 return Err(Stop::Memory);
             };
             Ok(modulus)
@@ -501,55 +315,29 @@ fn asked(
 /// The modulus of a row. Without a point of the context no question is asked.
 fn modulus_along(
     alloc: Global,
-    pairs: &[PairSystem],
-    extents: &[Form],
-    context: &System,
-    ranges: &BoxOf,
-    rows: &[Form],
-    k: usize,
+    given: &Given<'_>,
+    line: &Line<'_>,
     regions: &[Region],
-    some: &Option<Vec<i64>>,
-    row: &Form,
-    fs: &[Form],
-    gs: &[Form],
-    aim: Aim,
     budget: &mut Budget,
 ) -> Result<Modulus, Stop>
-    requires ready { AreReady context.now ranges.now extents.now rows.now pairs.now }
-    requires row { slice_get rows.now k ≡ Some row.now }
-    requires slices { AreSlices context.now ranges.now rows.now k pairs.now regions.now }
-    requires some { IfSome some.now (λ p. InContext context.now ranges.now p.items) }
-    requires none { IfNone some.now (IsSpent budget.old) }
-    requires fs_each { length fs.now ≡ length pairs.now }
-    requires gs_each { length gs.now ≡ length pairs.now }
-    requires fs { AreForward pairs.now row.now.coefs fs.now }
-    requires gs { AreBackward pairs.now row.now.coefs gs.now }
-    ensures kept { IfOk result (λ m. IsKept context.now ranges.now pairs.now rows.now k row.now m) }
+    requires given { IsGiven given.now }
+    requires line { IsLine given.now line.now }
+    requires slices { AreSlicesOf given.now line.now.k regions.now }
+    requires none { IfNone given.now.some.now (IsSpent budget.old) }
+    ensures kept { IfOk result (IsKeptFor given.now line.now) }
     ensures bound { IfOk result (λ m. m.mark ≡ Mark.Bound → IsSpent budget.new) }
     ensures later { IsLater budget.old budget.new }
     ensures stop { IfErr result (λ e. e ≡ Stop.Memory) }
 {
-    match some {
-        Some(p) => asked(
-            alloc,
-            pairs,
-            extents,
-            context,
-            ranges,
-            rows,
-            k,
-            regions,
-            p.as_slice(),
-            row,
-            fs,
-            gs,
-            aim,
-            budget,
-        ),
+    let asked = Asked {
+        given: *given,
+        line: *line,
+        regions,
+    };
+    match given.some {
+        Some(p) => by_questions(alloc, &asked, p.as_slice(), budget),
         None => {
-            let Ok(modulus) = unasked(
-                alloc, pairs, extents, context, ranges, rows, k, regions, row, fs, gs,
-            ) else {
+            let Ok(modulus) = unasked(alloc, &asked) else {
                 return Err(Stop::Memory);
             };
             Ok(modulus)
@@ -560,94 +348,62 @@ fn modulus_along(
 /// The modulus of a row, from the forms of the distances. The regions become the slice of the next row, if there is one.
 fn made(
     alloc: Global,
-    pairs: &[PairSystem],
-    extents: &[Form],
-    context: &System,
-    ranges: &BoxOf,
-    rows: &[Form],
-    k: usize,
+    given: &Given<'_>,
+    line: &Line<'_>,
     regions: &mut [Region],
-    some: &Option<Vec<i64>>,
-    row: &Form,
-    fs: &[Form],
-    gs: &[Form],
-    aim: Aim,
     budget: &mut Budget,
 ) -> Result<Modulus, Stop>
-    requires ready { AreReady context.now ranges.now extents.now rows.now pairs.now }
-    requires row { slice_get rows.now k ≡ Some row.now }
-    requires slices { AreSlices context.now ranges.now rows.now k pairs.now regions.old }
-    requires some { IfSome some.now (λ p. InContext context.now ranges.now p.items) }
-    requires none { IfNone some.now (IsSpent budget.old) }
-    requires fs_each { length fs.now ≡ length pairs.now }
-    requires gs_each { length gs.now ≡ length pairs.now }
-    requires fs { AreForward pairs.now row.now.coefs fs.now }
-    requires gs { AreBackward pairs.now row.now.coefs gs.now }
-    ensures kept { IfOk result (λ m. IsKept context.now ranges.now pairs.now rows.now k row.now m) }
+    requires given { IsGiven given.now }
+    requires line { IsLine given.now line.now }
+    requires slices { AreSlicesOf given.now line.now.k regions.old }
+    requires none { IfNone given.now.some.now (IsSpent budget.old) }
+    ensures kept { IfOk result (IsKeptFor given.now line.now) }
     ensures bound { IfOk result (λ m. m.mark ≡ Mark.Bound → IsSpent budget.new) }
-    ensures slices { OnOk result (k + 1 < length rows.now → AreSlices context.now ranges.now rows.now (k + 1) pairs.now regions.new) }
+    ensures slices { OnOk result (line.now.k + 1 < length given.now.rows.now → AreSlicesOf given.now (line.now.k + 1) regions.new) }
     ensures later { IsLater budget.old budget.new }
     ensures stop { IfErr result (λ e. e ≡ Stop.Memory) }
 {
-    let modulus = modulus_along(
-        alloc, pairs, extents, context, ranges, rows, k, regions, some, row, fs, gs, aim, budget,
-    )?;
-    if rows.len() <= k + 1 {
+    let modulus = modulus_along(alloc, given, line, regions, budget)?;
+    if given.rows.len() <= line.k + 1 {
         return Ok(modulus);
     }
-    let Ok(()) = narrow_all(regions, fs, gs) else {
+    let Ok(()) = narrow_all(regions, line.fs, line.gs) else {
         return Err(Stop::Memory);
     };
     Ok(modulus)
 }
 
-/// The modulus of a row. The regions become the slice of the next row, if there is one.
+/// The modulus of the row with this number. The regions become the slice of the next row, if there is one.
 pub fn row_done(
     alloc: Global,
-    pairs: &[PairSystem],
-    extents: &[Form],
-    context: &System,
-    ranges: &BoxOf,
-    rows: &[Form],
+    given: &Given<'_>,
     k: usize,
-    regions: &mut [Region],
-    some: &Option<Vec<i64>>,
     row: &Form,
-    aim: Aim,
+    regions: &mut [Region],
     budget: &mut Budget,
 ) -> Result<Modulus, Stop>
-    requires ready { AreReady context.now ranges.now extents.now rows.now pairs.now }
-    requires row { slice_get rows.now k ≡ Some row.now }
-    requires slices { AreSlices context.now ranges.now rows.now k pairs.now regions.old }
-    requires some { IfSome some.now (λ p. InContext context.now ranges.now p.items) }
-    requires none { IfNone some.now (IsSpent budget.old) }
-    ensures kept { IfOk result (λ m. IsKept context.now ranges.now pairs.now rows.now k row.now m) }
+    requires given { IsGiven given.now }
+    requires row { slice_get given.now.rows.now k ≡ Some row.now }
+    requires slices { AreSlicesOf given.now k regions.old }
+    requires none { IfNone given.now.some.now (IsSpent budget.old) }
+    ensures kept { IfOk result (IsKept given.now.context.now given.now.ranges.now given.now.pairs.now given.now.rows.now k row.now) }
     ensures bound { IfOk result (λ m. m.mark ≡ Mark.Bound → IsSpent budget.new) }
-    ensures slices { OnOk result (k + 1 < length rows.now → AreSlices context.now ranges.now rows.now (k + 1) pairs.now regions.new) }
+    ensures slices { OnOk result (k + 1 < length given.now.rows.now → AreSlicesOf given.now (k + 1) regions.new) }
     ensures later { IsLater budget.old budget.new }
     ensures stop { IfErr result (λ e. e ≡ Stop.Memory) }
 {
     let coefs = row.coefs.as_slice();
-    let Ok(fs) = forward(alloc, coefs, pairs) else {
+    let Ok(fs) = forward(alloc, coefs, given.pairs) else {
         return Err(Stop::Memory);
     };
-    let Ok(gs) = backward(alloc, coefs, pairs, fs.as_slice()) else {
+    let Ok(gs) = opposites(alloc, fs.as_slice()) else {
         return Err(Stop::Memory);
     };
-    made(
-        alloc,
-        pairs,
-        extents,
-        context,
-        ranges,
-        rows,
+    let line = Line {
         k,
-        regions,
-        some,
         row,
-        fs.as_slice(),
-        gs.as_slice(),
-        aim,
-        budget,
-    )
+        fs: fs.as_slice(),
+        gs: gs.as_slice(),
+    };
+    made(alloc, given, &line, regions, budget)
 }

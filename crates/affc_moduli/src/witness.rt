@@ -7,6 +7,7 @@ ghost use Rattle.affc_split.specs.Budgets.{IsLater};
 ghost use Rattle.affc_rows.specs.Forms.{value};
 ghost use Rattle.affc_split.specs.maximum.Regions.{InRegion, IsMeasure};
 
+use crate::asked::Way;
 use crate::reordered::{Inserted, Lack, reordered, restored};
 use affc_rows::Form;
 use affc_split::maximum::Region;
@@ -107,20 +108,17 @@ fn has_value(region: &Region, form: &Form, number: i64, point: &[i64]) -> bool
 /// the elements are shown.
 fn in_order(
     alloc: Global,
-    system: &PairSystem,
-    region: &Region,
-    form: &Form,
+    way: &Way<'_>,
     value: i64,
-    turned: bool,
     point: &[i64],
     parameters: usize,
 ) -> Result<(System, BoxOf), Lack>
-    requires { unsigned_abs form.now.constant ≤ 2 ^ 58 }
+    requires { unsigned_abs way.now.form.now.constant ≤ 2 ^ 58 }
 {
-    let form = form.clone()?.less(i128::from(value));
-    let first = element_of(system, turned);
-    let second = element_of(system, !turned);
-    reordered(alloc, region, &form, point, first, second, parameters)
+    let form = way.form.clone()?.less(i128::from(value));
+    let first = element_of(way.system, way.turned);
+    let second = element_of(way.system, !way.turned);
+    reordered(alloc, way.region, &form, point, first, second, parameters)
 }
 
 /// The least point of a system in a box, without the elements' columns.
@@ -151,30 +149,22 @@ fn least_of(
 /// The point with a point's parameters at which the elements that lie as far apart come first, where there is room to ask.
 fn closer(
     alloc: Global,
-    system: &PairSystem,
-    region: &Region,
-    form: &Form,
+    way: &Way<'_>,
     value: i64,
-    turned: bool,
     point: &[i64],
     parameters: usize,
     budget: &mut Budget,
 ) -> Result<Option<Vec<i64>>, Stop>
-    requires { unsigned_abs form.now.constant ≤ 2 ^ 58 }
+    requires { unsigned_abs way.now.form.now.constant ≤ 2 ^ 58 }
     ensures later { IsLater budget.old budget.new }
     ensures stop { IfErr result (λ e. e ≡ Stop.Budget → budget.new.limit ≡ Some budget.new.spent) }
 {
+    let (x, y) = (way.system.x.as_slice(), way.system.y.as_slice());
     let inserted = Inserted {
         after: parameters,
-        count: system
-            .x
-            .as_slice()
-            .len()
-            .saturating_add(system.y.as_slice().len()),
+        count: x.len().saturating_add(y.len()),
     };
-    match in_order(
-        alloc, system, region, form, value, turned, point, parameters,
-    ) {
+    match in_order(alloc, way, value, point, parameters) {
         Ok((rows, ranges)) => least_of(alloc, &rows, &ranges, inserted, budget),
         Err(Lack::Room) => Ok(None),
         Err(Lack::Memory) => Err(Stop::Memory),
@@ -182,26 +172,20 @@ fn closer(
 }
 
 /// The first of two points, if it is one of the region at which the form has a value, or else the second.
-fn either(
-    region: &Region,
-    form: &Form,
-    number: i64,
-    first: Option<Vec<i64>>,
-    known: Vec<i64>,
-) -> Vec<i64>
-    requires measure { IsMeasure region.now.system.columns form.now }
-    requires inside { InRegion region.now known.items }
-    requires attained { value form.now known.items ≡ number }
-    ensures inside { InRegion region.now result.items }
-    ensures attained { value form.now result.items ≡ number }
+fn either(way: &Way<'_>, number: i64, first: Option<Vec<i64>>, known: Vec<i64>) -> Vec<i64>
+    requires measure { IsMeasure way.now.region.now.system.columns way.now.form.now }
+    requires inside { InRegion way.now.region.now known.items }
+    requires attained { value way.now.form.now known.items ≡ number }
+    ensures inside { InRegion way.now.region.now result.items }
+    ensures attained { value way.now.form.now result.items ≡ number }
 {
     let Some(first) = first else {
         return known;
     };
-    if !is_in_region(region, first.as_slice()) {
+    if !is_in_region(way.region, first.as_slice()) {
         return known;
     }
-    if has_value(region, form, number, first.as_slice()) {
+    if has_value(way.region, way.form, number, first.as_slice()) {
         first
     } else {
         known
@@ -212,37 +196,24 @@ fn either(
 /// ask and the budget lasts, or else the point that is known.
 pub fn settled(
     alloc: Global,
-    system: &PairSystem,
-    region: &Region,
-    form: &Form,
+    way: &Way<'_>,
     number: i64,
-    turned: bool,
     known: Vec<i64>,
     parameters: usize,
     budget: &mut Budget,
 ) -> Result<Vec<i64>, Stop>
-    requires measure { IsMeasure region.now.system.columns form.now }
-    requires inside { InRegion region.now known.items }
-    requires attained { value form.now known.items ≡ number }
-    ensures inside { IfOk result (λ z. InRegion region.now z.items) }
-    ensures attained { IfOk result (λ z. value form.now z.items ≡ number) }
+    requires measure { IsMeasure way.now.region.now.system.columns way.now.form.now }
+    requires inside { InRegion way.now.region.now known.items }
+    requires attained { value way.now.form.now known.items ≡ number }
+    ensures inside { IfOk result (λ z. InRegion way.now.region.now z.items) }
+    ensures attained { IfOk result (λ z. value way.now.form.now z.items ≡ number) }
     ensures later { IsLater budget.old budget.new }
     ensures stop { IfErr result (λ e. e ≡ Stop.Budget → budget.new.limit ≡ Some budget.new.spent) }
 {
-    let first = match closer(
-        alloc,
-        system,
-        region,
-        form,
-        number,
-        turned,
-        known.as_slice(),
-        parameters,
-        budget,
-    ) {
+    let first = match closer(alloc, way, number, known.as_slice(), parameters, budget) {
         Ok(first) => first,
         Err(Stop::Budget) => None,
         Err(Stop::Memory) => return Err(Stop::Memory),
     };
-    Ok(either(region, form, number, first, known))
+    Ok(either(way, number, first, known))
 }

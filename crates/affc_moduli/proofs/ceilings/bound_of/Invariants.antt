@@ -4,6 +4,6 @@ use Rattle.affc_moduli.proofs.ceilings.bound_of.Given as goal
 
 abbrev pub invariant-loop-i : goal.invariant-loop-i
 invariant-loop-i l = record {
-  within : l.i ≤ length l.regions;
-  ceiling : IsCeiling l.i l.regions l.fs l.gs l.bound.most;
+  within : l.i ≤ length l.asked.regions.now;
+  ceiling : IsCeiling l.i l.asked.regions.now l.asked.line.fs.now l.asked.line.gs.now l.bound.most;
 }

@@ -14,8 +14,8 @@ unmarked-requires c = size_of c.args.bound.now.most c.requires.far.0 c.requires.
 
 pub returns : goal.returns
 returns c =
-    let dimensions = wide c.args.context.now c.args.ranges.now c.args.extents.now c.args.rows.now c.args.pairs.now c.requires.ready c.args.k c.args.row.now c.requires.row c.args.regions.now c.requires.slices in
+    let dimensions = wide c.args.asked.now.given.context.now c.args.asked.now.given.ranges.now c.args.asked.now.given.extents.now c.args.asked.now.given.rows.now c.args.asked.now.given.pairs.now c.requires.asked.given.ready c.args.asked.now.line.k c.args.asked.now.line.row.now c.requires.asked.line.there c.args.asked.now.regions.now c.requires.asked.slices in
     both _ _ _ c.unmarked.result
-    (λ m form mark. kept_bound c.args.context.now c.args.ranges.now c.args.rows.now c.args.k c.args.row.now c.args.pairs.now c.args.regions.now c.requires.slices dimensions
+    (λ m form mark. kept_bound c.args.asked.now.given.context.now c.args.asked.now.given.ranges.now c.args.asked.now.given.rows.now c.args.asked.now.line.k c.args.asked.now.line.row.now c.args.asked.now.given.pairs.now c.args.asked.now.regions.now c.requires.asked.slices dimensions
     c.columns.result c.args.bound.now.most c.columns.ensures.value c.requires.far m form mark)
     c.unmarked.ensures.form c.unmarked.ensures.mark
