@@ -2,13 +2,13 @@
 """Says by counting what `affc fold` has to report of a source and a schedule: which elements of each temporary are live
 together, the least moduli along its basis and their cost, and what the other listed bases come to.
 
-    python3 folds.py SOURCE [SCHEDULE] [--each] [--cost=words|sum|powers] [NAME=HIGH ..]
+    python3 folds.py SOURCE [SCHEDULE] [--each] [--cost=words|sum|powers] [--step=1] [NAME=HIGH ..]
 
 It runs the trace of the source for all values of the parameters up to a small bound (HIGH, or four above the least) and
-looks at every pair of elements. Where the declared ranges go further, it does so for some more bounds and carries the
-report on to the declared ones, if all that it has seen changes evenly with the bounds. Each fold is also tried: the
-trace in the order of the schedule, over arrays of these sizes, has to leave the outputs of the source. `--each` shows
-the moduli at each value it has looked at.
+looks at every pair of elements. Where the declared ranges go further, it does so for some more bounds, `--step` apart,
+and carries the report on to the declared ones, if all that it has seen changes evenly with the bounds. Each fold is also
+tried: the trace in the order of the schedule, over arrays of these sizes, has to leave the outputs of the source.
+`--each` shows the moduli at each value it has looked at.
 """
 import math
 import sys
@@ -66,15 +66,15 @@ def place(rows, x):
 
 
 class Analysis:
-    def __init__(self, source, schedule):
-        self.source, self.schedule, self.seen, self.far = source, schedule, {}, {}
+    def __init__(self, source, schedule, step=1):
+        self.source, self.schedule, self.step, self.seen, self.far = source, schedule, step, {}, {}
 
     def at(self, p, array, rows):
         if p not in self.seen:
             self.seen[p] = live_pairs(self.source, self.schedule, p)
         if (p, array, rows) not in self.far:
             pairs = self.seen[p][array]
-            places = {x: place(rows, x) for pair in pairs for x in pair}
+            places = {x: place(rows, x) for x in {x for pair in pairs for x in pair}}
             self.far[p, array, rows] = greatest(pairs, places) or [(0, None)] * len(rows)
         return self.far[p, array, rows]
 
@@ -110,15 +110,16 @@ class Analysis:
         declared = [self.source.declared[n][1] for n in self.source.params]
         if all(d <= h for d, h in zip(declared, highs)):
             return found(declared)
-        steps = [[h + (i == j) for i, h in enumerate(highs)] for j in range(len(highs))]
-        first, *others = [found(h) for h in [highs] + steps + [[h + 2 for h in highs]]]
+        steps = [[h + self.step * (i == j) for i, h in enumerate(highs)] for j in range(len(highs))]
+        last = [h + 2 * self.step for h in highs]
+        first, *others = [found(h) for h in [highs] + steps + [last]]
 
         def carry(to):
-            ways = zip(others, to, highs)
-            rates = [(other, t - h) for other, t, h in ways]
+            rates = [(other, (t - h) // self.step) for other, t, h in zip(others, to, highs)]
             return [[v + sum((other[part][k] - v) * by for other, by in rates) for k, v in enumerate(values)]
                     for part, values in enumerate(first)]
-        assert carry([h + 2 for h in highs]) == others[-1], f'{array} {wanted} changes unevenly: {first} {others}'
+        assert all((d - h) % self.step == 0 for d, h in zip(declared, highs)), f'{highs}: not a number of steps to {declared}'
+        assert carry(last) == others[-1], f'{array} {wanted} changes unevenly: {first} {others}'
         return carry(declared)
 
     def shown(self, array, rows, k, highs):
@@ -196,9 +197,10 @@ def report(analysis, highs, cost):
 def main(words):
     bounds = dict(w.split('=') for w in words if '=' in w and not w.startswith('--'))
     cost = next((w[7:] for w in words if w.startswith('--cost=')), 'words')
+    step = next((int(w[7:]) for w in words if w.startswith('--step=')), 1)
     files = [open(w).read() for w in words if '=' not in w and w != '--each']
     source = Source(files[0])
-    analysis = Analysis(source, Schedule(files[1] if len(files) > 1 else '', source))
+    analysis = Analysis(source, Schedule(files[1] if len(files) > 1 else '', source), step)
     highs = [min(int(bounds.get(n, source.declared[n][0] + 4)), source.declared[n][1]) for n in source.params]
     chosen = report(analysis, highs, COSTS[cost])
     analysis.tried(chosen, highs)
@@ -207,4 +209,5 @@ def main(words):
         print(at, ' '.join(f'{a}: ' + ' '.join(str(1 + far) for far, _ in analysis.at(p, a, rows)) for a, rows in chosen.items()))
 
 
-main(sys.argv[1:])
+if __name__ == '__main__':
+    main(sys.argv[1:])
