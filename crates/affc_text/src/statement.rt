@@ -271,11 +271,11 @@ fn assigned(
 ) -> Answer<StmtDraft>
     ensures { Gives (map seen symbols.now) stmt result (reading.assigned prelude (length symbols.now) room at name.now (drop next (map seen symbols.now))) }
 {
-    let array = drafted_word(alloc, at, name)?;
     let (subs, next) = dims_here(alloc, prelude, room, symbols, next)?;
     let (op, next) = assignment(symbols, next)?;
     let (value, next) = value_here(alloc, prelude, room, symbols, next)?;
     let next = behind(b";", symbols, next)?;
+    let array = drafted_word(alloc, at, name)?;
     Ok((
         StmtDraft::Assign {
             array,
