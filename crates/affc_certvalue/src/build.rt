@@ -3,7 +3,7 @@ ghost use Rattle.affc_certvalue.specs.Values.{whole_value, numbers_value, form_v
 ghost use Rattle.serde_json.specs.View.{view};
 ghost use Rattle.std.specs.Prelude.{◌≡◌, map, pos, IfOk, IfSome, Some};
 
-use affc_rows::Form;
+use affc_rows::{Coefs, Form};
 use serde_json::Value;
 use smallvec::SmallVec;
 use sqlite_items::Items;
@@ -26,7 +26,7 @@ pub fn whole(value: &Value) -> Option<i64>
 
 /// The whole numbers that these values are.
 #[tactic(auto, using(crate::proofs::Found::map_steps))]
-fn wholes(alloc: Global, items: &[Value]) -> Result<SmallVec<i128, 16, Global>, AllocError>
+fn wholes(alloc: Global, items: &[Value]) -> Result<Coefs, AllocError>
     ensures { IfOk result (λ v. map whole_value v.items ≡ map view items.now) }
 {
     let mut numbers = SmallVec::new(alloc);

@@ -7,7 +7,7 @@ ghost use Rattle.affc_split.specs.Budgets.{IsLater};
 ghost use Rattle.affc_nest.specs.Domains.{with_rows};
 ghost use Rattle.affc_dataflow.specs.Opposites.{opposite_row, opposite_system, opposite_range, IsLeastIn, IsGreatestIn};
 
-use affc_rows::Form;
+use affc_rows::{Coefs, Form};
 use affc_split::{Answer, Budget, Stop, decide};
 use affc_system::{BoxOf, System};
 use smallvec::SmallVec;
@@ -15,7 +15,7 @@ use sqlite_items::Items;
 use std::alloc::{AllocError, Global};
 
 /// Adds the opposites of coefficients.
-fn add_coefs(coefs: &[i128], out: &mut SmallVec<i128, 16, Global>) -> Result<(), AllocError>
+fn add_coefs(coefs: &[i128], out: &mut Coefs) -> Result<(), AllocError>
     requires { All (λ c. unsigned_abs c ≤ 2 ^ 40) coefs.now }
     ensures { OnOk result (out.new.items ≡ out.old.items ++ map neg_ℤ coefs.now) }
 {

@@ -6,8 +6,8 @@ ghost use Rattle.affc_leaf.specs.Cuts.{IsDivided, IsCutOf, IsCutBefore};
 
 use crate::boxed::push_row;
 use affc_farkas::{Multipliers, Proof};
-use affc_rows::Form;
 use affc_rows::vocabulary::gcd;
+use affc_rows::{Coefs, Form};
 use affc_system::System;
 use smallvec::SmallVec;
 use std::alloc::{AllocError, Global};
@@ -52,11 +52,7 @@ fn whole_quotient(c: i128, g: i64) -> Option<i128>
 }
 
 /// The coefficients divided by a number that divides them all.
-fn divided_coefs(
-    alloc: Global,
-    coefs: &[i128],
-    g: i64,
-) -> Result<Option<SmallVec<i128, 16, Global>>, AllocError>
+fn divided_coefs(alloc: Global, coefs: &[i128], g: i64) -> Result<Option<Coefs>, AllocError>
     ensures { IfOk result (λ o. IfSome o (λ qs. map (λ q. g *ℤ q) qs.items ≡ coefs.now)) }
 {
     let mut quotients = SmallVec::new(alloc);

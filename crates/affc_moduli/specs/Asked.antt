@@ -48,11 +48,11 @@ pub record IsWay (asked : Asked) (way : Way) : Type 0 where
 
 -- ---- What is answered
 
--- the modulus is enough for the row and has a true mark
+-- the modulus is enough for the row, and has a mark, which is true
 abbrev pub IsDoneFor : Given → Line → Modulus → Type 0
 IsDoneFor given line m = IsDone given.context.now given.ranges.now given.pairs.now given.rows.now line.k line.row.now m
 
--- the modulus is enough for the row, and its mark is true
+-- the modulus is enough for the row, and its mark is true, where it has one; it is a constant, where it has none
 abbrev pub IsKeptFor : Given → Line → Modulus → Type 0
 IsKeptFor given line m = IsKept given.context.now given.ranges.now given.pairs.now given.rows.now line.k line.row.now m
 

@@ -9,12 +9,13 @@ use std::alloc::{AllocError, Global};
 use std::marker::Model;
 use thiserror::Error;
 
+/// The coefficients of a form. Up to twelve lie in the value itself; contracts see them as a list.
+pub type Coefs = SmallVec<i128, 12, Global>;
+
 /// An affine form: a coefficient for each column, in the columns' order, and a constant.
-///
-/// Up to sixteen coefficients lie in the value itself. Contracts see the coefficients as a list.
 #[derive(Drop)]
 pub struct Form {
-    pub coefs: SmallVec<i128, 16, Global>,
+    pub coefs: Coefs,
     pub constant: i128,
 }
 
@@ -142,7 +143,7 @@ fn mixed_coefs(
     first: &[i128],
     t: i128,
     second: &[i128],
-) -> Result<SmallVec<i128, 16, Global>, FormFault>
+) -> Result<Coefs, FormFault>
     requires { length first.now ≡ length second.now }
     ensures ok { IfOk result (λ v. v.items ≡ mixed s first.now t second.now) }
     ensures fits { OnOk result (AllFit (mixed_magnitudes s first.now t second.now)) }
@@ -214,7 +215,7 @@ fn composed_coefs(
     coefs: &[i128],
     images: &[Form],
     columns: usize,
-) -> Result<SmallVec<i128, 16, Global>, FormFault>
+) -> Result<Coefs, FormFault>
     requires one_each { length images.now ≡ length coefs.now }
     requires equal_columns { HaveColumns columns images.now }
     ensures ok { IfOk result (λ v. v.items ≡ composed coefs.now images.now 0 columns) }

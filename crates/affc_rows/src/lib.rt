@@ -10,5 +10,5 @@ pub mod laws;
 pub mod total;
 pub mod vocabulary;
 
-pub use form::{Form, FormFault};
+pub use form::{Coefs, Form, FormFault};
 pub use total::{Range, Total};

@@ -4,12 +4,12 @@ ghost use Rattle.std.specs.Int.{IsGcd};
 ghost use Rattle.affc_rows.specs.Forms.{mixed_form, mixed_form_magnitudes, HaveColumns, composed_form_magnitudes, TooWide};
 ghost use Rattle.affc_rows.specs.Vocabulary.{unit_of, column_form, number_form, opposite, HasOpposite, AreOpposite, spread, widened, padded, gap_row, form_at};
 
-use crate::form::{Form, FormFault};
+use crate::form::{Coefs, Form, FormFault};
 use smallvec::SmallVec;
 use std::alloc::{AllocError, Global};
 
 /// Adds so many zeros.
-fn add_zeros(coefs: &mut SmallVec<i128, 16, Global>, n: u32) -> Result<(), AllocError>
+fn add_zeros(coefs: &mut Coefs, n: u32) -> Result<(), AllocError>
     ensures { OnOk result (coefs.new.items ≡ coefs.old.items ++ replicate n (pos 0)) }
 {
     for _i in 0..n {
@@ -19,7 +19,7 @@ fn add_zeros(coefs: &mut SmallVec<i128, 16, Global>, n: u32) -> Result<(), Alloc
 }
 
 /// So many zeros.
-fn zeros(alloc: Global, n: u32) -> Result<SmallVec<i128, 16, Global>, AllocError>
+fn zeros(alloc: Global, n: u32) -> Result<Coefs, AllocError>
     ensures { IfOk result (λ v. v.items ≡ replicate n (pos 0)) }
 {
     let mut made = SmallVec::new(alloc);
@@ -29,7 +29,7 @@ fn zeros(alloc: Global, n: u32) -> Result<SmallVec<i128, 16, Global>, AllocError
 
 /// Sets an entry of a row of zeros to 1, if it has one there.
 #[tactic(auto, using(crate::proofs::VocabularyLemmas::none_set))]
-fn set_one(coefs: &mut SmallVec<i128, 16, Global>, columns: u32, x: u32)
+fn set_one(coefs: &mut Coefs, columns: u32, x: u32)
     requires { coefs.old.items ≡ replicate columns (pos 0) }
     ensures { coefs.new.items ≡ unit_of columns x }
 {

@@ -5,8 +5,8 @@ ghost use Prim.Native.Nat.{◌∣◌};
 ghost use Rattle.affc_eliminate.specs.project.States.{IsDivisor, IsBlank, IsLeast, AreReduced};
 
 use crate::Kept;
-use affc_rows::Form;
 use affc_rows::vocabulary::gcd;
+use affc_rows::{Coefs, Form};
 use smallvec::SmallVec;
 use std::alloc::{AllocError, Global};
 
@@ -39,11 +39,7 @@ fn quotient(number: i128, divisor: u128) -> i128
 }
 
 /// The numbers divided by one that divides each.
-fn quotients(
-    alloc: Global,
-    numbers: &[i128],
-    divisor: u128,
-) -> Result<SmallVec<i128, 16, Global>, AllocError>
+fn quotients(alloc: Global, numbers: &[i128], divisor: u128) -> Result<Coefs, AllocError>
     requires positive { 1 ≤ divisor }
     requires divides { All (λ n. divisor ∣ unsigned_abs n) numbers.now }
     ensures { IfOk result (λ v. numbers.now ≡ map (λ z. pos divisor *ℤ z) v.items) }
