@@ -4,12 +4,12 @@
 //!
 //! Nothing is promised of it: whoever takes the point tests it, and the sums by which no whole point comes before it.
 use crate::bounds::Bound;
-use crate::cells::{at, positive, put, sum_of};
+use crate::cells::{at, combine_all, positive, put, sum_of};
 use crate::number::Number;
 use crate::simplex::push_slack;
 use crate::tableau::{
-    Broken, Tableau, Way, can_help, exchange, high_of, line_at, low_of, put_variable, variable_at,
-    width_of,
+    Broken, Tableau, Way, can_help, entries_at, exchange, high_of, line_at, low_of, put_variable,
+    spend, variable_at, width_of,
 };
 use std::alloc::{AllocError, Global};
 
@@ -107,10 +107,7 @@ fn next_move<N: Number>(
         }
         return Some(Move::Done);
     }
-    let line = line_at(tableau, columns, place_among(basics, column)?)?;
-    let [_, _, entries @ ..] = line else {
-        return None;
-    };
+    let entries = entries_at(tableau, columns, place_among(basics, column)?)?;
     match lessening(entries, values, others, stages, bounds) {
         Some(entering) => Some(Move::Enter(entering)),
         None => {
@@ -121,7 +118,7 @@ fn next_move<N: Number>(
 }
 
 /// How far a variable can move: a quotient, and the line whose variable then meets an end of its range, if one does.
-#[derive(Clone, Copy)]
+#[derive(Drop)]
 struct Reach<N> {
     over: N,
     by: N,
@@ -132,7 +129,7 @@ struct Reach<N> {
 
 /// Whether a line stops a variable before another reach does, or at the same time and has a lesser number. `None` where a number
 /// doesn't fit.
-fn is_nearer<N: Number>(one: Reach<N>, other: Reach<N>) -> Option<bool> {
+fn is_nearer<N: Number>(one: &Reach<N>, other: &Reach<N>) -> Option<bool> {
     let here = one.over.times(other.by)?;
     let there = other.over.times(one.by)?;
     let is_first = other.line.is_some() && one.variable < other.variable;
@@ -196,9 +193,13 @@ fn reach_in<N: Number>(
 
 /// The nearer of a reach and what was found in a line.
 fn nearer<N: Number>(reach: Option<Reach<N>>, found: Reach<N>) -> Option<Reach<N>> {
-    match reach {
-        Some(reach) if !is_nearer(found, reach)? => Some(reach),
-        _ => Some(found),
+    let Some(reach) = reach else {
+        return Some(found);
+    };
+    if is_nearer(&found, &reach)? {
+        Some(found)
+    } else {
+        Some(reach)
     }
 }
 
@@ -224,6 +225,7 @@ fn reach_to<N: Number>(
 
 /// Moves one of the other variables as far as it can.
 fn moved<N: Number>(tableau: &mut Tableau<N>, bounds: &[Bound], entering: Entering) -> Option<()> {
+    spend(tableau)?;
     let reach = reach_to(tableau, bounds, entering)??;
     let Some(line) = reach.line else {
         put(tableau.cells.as_mut_slice(), entering.place, reach.end);
@@ -272,36 +274,11 @@ fn whole_value<N: Number>(tableau: &Tableau<N>, columns: usize, column: u32) -> 
 }
 
 /// A tableau at the least point, and the stage at which each of the other variables was frozen.
-#[derive(Clone, Copy)]
+#[derive(Drop)]
 struct Settled<'a, N> {
     tableau: &'a Tableau<N>,
     bounds: &'a [Bound],
     stages: &'a [u32],
-}
-
-/// A copy of these numbers.
-fn copies<N: Number>(alloc: Global, entries: &[N]) -> Result<Vec<N>, AllocError> {
-    let mut copy = Vec::with_capacity(alloc, entries.len())?;
-    for entry in entries {
-        copy.push(*entry)?;
-    }
-    Ok(copy)
-}
-
-/// The entries of a line, where it is there.
-fn entries_of<N: Number>(
-    alloc: Global,
-    tableau: &Tableau<N>,
-    columns: usize,
-    number: usize,
-) -> Result<Option<Vec<N>>, AllocError> {
-    let Some(line) = line_at(tableau, columns, number) else {
-        return Ok(None);
-    };
-    let [_, _, entries @ ..] = line else {
-        return Ok(None);
-    };
-    Ok(Some(copies(alloc, entries)?))
 }
 
 /// One of the other variables as a sum of them: itself.
@@ -322,7 +299,7 @@ fn itself<N: Number>(alloc: Global, others: &[u32], column: u32) -> Result<Vec<N
 /// for one before it, is itself.
 fn weights_of<N: Number>(
     alloc: Global,
-    settled: Settled<'_, N>,
+    settled: &Settled<'_, N>,
     column: u32,
 ) -> Result<Option<Vec<N>>, AllocError> {
     let columns = settled.bounds.len();
@@ -331,36 +308,50 @@ fn weights_of<N: Number>(
         return Ok(None);
     };
     match place_among(basics, column) {
-        Some(number) => entries_of(alloc, settled.tableau, columns, number),
+        Some(number) => match entries_at(settled.tableau, columns, number) {
+            Some(entries) => Ok(Some(Vec::from_slice(alloc, entries)?)),
+            None => Ok(None),
+        },
         None => Ok(Some(itself(alloc, others, column)?)),
     }
 }
 
 /// The quotient of two magnitudes, rounded up.
 fn times_needed<N: Number>(entry: N, other: N) -> Option<N> {
-    let a = entry.magnitude();
-    let b = other.magnitude();
-    let quotient = a.checked_add(b.checked_sub(1)?)?.checked_div(b)?;
+    let divisor = other.magnitude();
+    if divisor == 0 {
+        return None;
+    }
+    let quotient = entry.magnitude().div_ceil(divisor);
     N::from_wide(i128::try_from(quotient).ok()?)
+}
+
+/// Whether a variable that was frozen at this stage can make a column's sum less.
+fn is_held<N: Number>(
+    settled: &Settled<'_, N>,
+    column: u32,
+    stage: u32,
+    place: usize,
+    weight: N,
+) -> bool {
+    let variable = variable_at(settled.tableau.variables.as_slice(), place);
+    let value = at(settled.tableau.cells.as_slice(), place);
+    variable_at(settled.stages, place) == stage
+        && variable >= column
+        && can_help(variable, value, weight, Way::Down, settled.bounds)
 }
 
 /// How often an earlier column's line has to be added, so that no variable that was frozen for it can make the sum less.
 fn multiple_for<N: Number>(
-    settled: Settled<'_, N>,
+    settled: &Settled<'_, N>,
     column: u32,
     stage: u32,
     weights: &[N],
     helpers: &[N],
 ) -> Option<N> {
-    let variables = settled.tableau.variables.as_slice();
-    let values = settled.tableau.cells.as_slice();
     let mut needed = N::zero();
     for (j, weight) in weights.iter().enumerate() {
-        let variable = variable_at(variables, j);
-        if variable_at(settled.stages, j) == stage
-            && variable >= column
-            && can_help(variable, at(values, j), *weight, Way::Down, settled.bounds)
-        {
+        if is_held(settled, column, stage, j, *weight) {
             let times = times_needed(*weight, at(helpers, j))?;
             if needed.is_below(times) {
                 needed = times;
@@ -370,36 +361,34 @@ fn multiple_for<N: Number>(
     Some(needed)
 }
 
-/// Adds a multiple of a line. `None` where a number doesn't fit.
-fn add_times<N: Number>(weights: &mut [N], helpers: &[N], times: N) -> Option<()> {
-    for (weight, helper) in weights.iter_mut().zip(helpers.iter()) {
-        *weight = (*weight).plus(helper.times(times)?)?;
-    }
-    Some(())
-}
-
-/// Adds lines of the columns before, so that nothing that was frozen for them can make the sum less.
-fn cancel<N: Number>(settled: Settled<'_, N>, column: u32, weights: &mut [N]) -> Option<()> {
+/// Adds the line of one column before, so that nothing that was frozen for it can make the sum less.
+fn cancel_at<N: Number>(
+    settled: &Settled<'_, N>,
+    column: u32,
+    before: u32,
+    weights: &mut [N],
+) -> Option<()> {
     let columns = settled.bounds.len();
     let (_, basics) = settled
         .tableau
         .variables
         .as_slice()
         .split_at_checked(columns)?;
-    let mut stage = column;
-    while stage > 0 {
-        let before = stage - 1;
-        if let Some(number) = place_among(basics, before) {
-            let line = line_at(settled.tableau, columns, number)?;
-            let [_, _, helpers @ ..] = line else {
-                return None;
-            };
-            let times = multiple_for(settled, column, stage, weights, helpers)?;
-            if !times.is_zero() {
-                add_times(weights, helpers, times)?;
-            }
-        }
-        stage = before;
+    let Some(number) = place_among(basics, before) else {
+        return Some(());
+    };
+    let helpers = entries_at(settled.tableau, columns, number)?;
+    let times = multiple_for(settled, column, before.saturating_add(1), weights, helpers)?;
+    if times.is_zero() {
+        return Some(());
+    }
+    combine_all(N::one(), weights, times, helpers)
+}
+
+/// Adds lines of the columns before, so that nothing that was frozen for them can make the sum less.
+fn cancel<N: Number>(settled: &Settled<'_, N>, column: u32, weights: &mut [N]) -> Option<()> {
+    for before in (0..column).rev() {
+        cancel_at(settled, column, before, weights)?;
     }
     Some(())
 }
@@ -407,7 +396,7 @@ fn cancel<N: Number>(settled: Settled<'_, N>, column: u32, weights: &mut [N]) ->
 /// The multiples of rows by which a column isn't less. `None` where they don't fit.
 fn sum_for<N: Number>(
     alloc: Global,
-    settled: Settled<'_, N>,
+    settled: &Settled<'_, N>,
     column: u32,
 ) -> Result<Option<Vec<(u32, u64)>>, AllocError> {
     let columns = settled.bounds.len();
@@ -427,41 +416,40 @@ fn sum_for<N: Number>(
     Ok(Some(rows))
 }
 
-/// The columns' values, each as little as it can be.
-#[derive(Drop)]
+/// What comes of the columns' values.
+#[derive(Clone, Copy)]
 enum Values {
-    Whole(Vec<i64>),
+    Whole,
     /// One isn't whole.
     Parted,
     /// They aren't found.
     Failed,
 }
 
-/// The columns' values one after another, each as little as it can be, until one isn't whole.
+/// Sets a point to the columns' values one after another, each as little as it can be, until one isn't whole.
 fn least_values<N: Number>(
-    alloc: Global,
     tableau: &mut Tableau<N>,
     bounds: &[Bound],
     stages: &mut [u32],
-) -> Result<Values, AllocError> {
-    let mut point = Vec::with_capacity(alloc, bounds.len())?;
-    for j in 0..bounds.len() {
+    point: &mut [i64],
+) -> Values {
+    for (j, value) in point.iter_mut().enumerate() {
         let column = u32::try_from(j).unwrap_or(0);
         let Some(()) = settle(tableau, bounds, stages, column) else {
-            return Ok(Values::Failed);
+            return Values::Failed;
         };
-        let Some(value) = whole_value(tableau, bounds.len(), column) else {
-            return Ok(Values::Parted);
+        let Some(least) = whole_value(tableau, bounds.len(), column) else {
+            return Values::Parted;
         };
-        point.push(value)?;
+        *value = least;
     }
-    Ok(Values::Whole(point))
+    Values::Whole
 }
 
 /// The sums by which no column is less.
 fn sums_for<N: Number>(
     alloc: Global,
-    settled: Settled<'_, N>,
+    settled: &Settled<'_, N>,
     point: &[i64],
 ) -> Result<Option<Vec<Vec<(u32, u64)>>>, AllocError> {
     let mut sums = Vec::with_capacity(alloc, point.len())?;
@@ -497,17 +485,18 @@ pub(crate) fn lowest_of<N: Number>(
     bounds: &[Bound],
 ) -> Result<Lowest, AllocError> {
     let mut stages = vec![in alloc; 0u32; bounds.len()]?;
-    let point = match least_values(alloc, tableau, bounds, stages.as_mut_slice())? {
-        Values::Whole(point) => point,
+    let mut point = vec![in alloc; 0i64; bounds.len()]?;
+    match least_values(tableau, bounds, stages.as_mut_slice(), point.as_mut_slice()) {
+        Values::Whole => {}
         Values::Parted => return Ok(Lowest::Parted),
         Values::Failed => return Ok(Lowest::Failed),
-    };
+    }
     let settled = Settled {
         tableau,
         bounds,
         stages: stages.as_slice(),
     };
-    match sums_for(alloc, settled, point.as_slice())? {
+    match sums_for(alloc, &settled, point.as_slice())? {
         Some(sums) => Ok(Lowest::Whole(Least { point, sums })),
         None => Ok(Lowest::Failed),
     }

@@ -312,6 +312,7 @@ fn without_slack<N: Number>(
     let mut kept = Tableau {
         cells: Vec::with_capacity(alloc, tableau.cells.len())?,
         variables: Vec::with_capacity(alloc, tableau.variables.len())?,
+        left: tableau.left,
     };
     for (place, variable) in tableau.variables.iter().enumerate() {
         match place.checked_sub(columns) {

@@ -8,7 +8,8 @@ use crate::least::{Least, least_of};
 use crate::number::Number;
 use crate::pairs::put_pair;
 use crate::tableau::{
-    Broken, Tableau, Way, can_help, exchange, high_of, line_at, low_of, variable_at, width_of,
+    Broken, MOST_CELLS, Tableau, Way, can_help, entries_at, exchange, high_of, line_at, low_of,
+    spend, variable_at, width_of,
 };
 use crate::vertices::Vertex;
 use affc_rows::Form;
@@ -129,7 +130,11 @@ fn empty_tableau<N: Number>(
         cells.push(N::from_word(bound.low))?;
         variables.push(u32::try_from(j).unwrap_or(0))?;
     }
-    Ok(Tableau { cells, variables })
+    Ok(Tableau {
+        cells,
+        variables,
+        left: MOST_CELLS,
+    })
 }
 
 /// One row with the multiplier 1.
@@ -284,12 +289,8 @@ fn helper_in<N: Number>(
     bounds: &[Bound],
     broken: Broken<N>,
 ) -> Option<usize> {
-    let line = line_at(tableau, bounds.len(), broken.line)?;
-    let [_, _, entries @ ..] = line else {
-        return None;
-    };
     helper_of(
-        entries,
+        entries_at(tableau, bounds.len(), broken.line)?,
         tableau.cells.as_slice(),
         tableau.variables.as_slice(),
         broken.way,
@@ -361,6 +362,9 @@ pub(crate) fn stand<N: Number>(
     bounds: &[Bound],
 ) -> Result<Option<Outcome>, AllocError> {
     for _ in 0..MOST_PIVOTS {
+        let Some(()) = spend(tableau) else {
+            return Ok(Some(Outcome::Nothing));
+        };
         match one_pivot(alloc, tableau, bounds)? {
             Step::Moved => {}
             Step::Stands => return Ok(None),

@@ -5,6 +5,9 @@ use crate::bounds::Bound;
 use crate::cells::{at, combine_all, combined, negate_all, positive, put, reduce};
 use crate::number::Number;
 
+/// The most cells that moves go over in one tableau, however many rounds cut it: many rows mean few moves.
+pub(crate) const MOST_CELLS: usize = 1 << 25;
+
 /// The basic variables as sums of multiples of the other ones and a constant, each over a divisor of its own.
 ///
 /// The variables are the columns, and then a slack for each row of the system, which is the row's value. `cells` has the values of
@@ -14,6 +17,14 @@ use crate::number::Number;
 pub(crate) struct Tableau<N> {
     pub(crate) cells: Vec<N>,
     pub(crate) variables: Vec<u32>,
+    /// How many more cells moves may go over.
+    pub(crate) left: usize,
+}
+
+/// Takes what a move goes over from what is left. `None` where that isn't enough.
+pub(crate) fn spend<N: Number>(tableau: &mut Tableau<N>) -> Option<()> {
+    tableau.left = tableau.left.checked_sub(tableau.cells.len())?;
+    Some(())
 }
 
 /// The variable at a place.
@@ -61,11 +72,18 @@ pub(crate) fn line_at<N: Number>(
     number: usize,
 ) -> Option<&[N]> {
     let width = width_of(columns);
-    let place = columns.checked_add(number.checked_mul(width)?)?;
-    tableau
-        .cells
-        .as_slice()
-        .get(place..place.saturating_add(width))
+    let place = columns.saturating_add(number.saturating_mul(width));
+    let cells = tableau.cells.as_slice();
+    cells.get(place..place.saturating_add(width))
+}
+
+/// The entries of the line with a number.
+pub(crate) fn entries_at<N: Number>(
+    tableau: &Tableau<N>,
+    columns: usize,
+    number: usize,
+) -> Option<&[N]> {
+    line_at(tableau, columns, number)?.get(2..)
 }
 
 /// Which way a basic variable has to move.
