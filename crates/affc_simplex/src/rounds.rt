@@ -463,34 +463,55 @@ fn renumber_ending(ending: &mut Ending, rows: usize, numbers: &[u32]) {
     }
 }
 
-/// The cuts that the ending or a needed cut behind them uses.
-fn needed(
+/// Marks the cuts that the ending or a needed cut behind them uses.
+fn marks_of(
     alloc: Global,
-    cuts: Vec<Cut>,
-    ending: Ending,
+    cuts: &[Cut],
+    ending: &Ending,
     rows: usize,
-) -> Result<Rounds, AllocError> {
-    let mut ending = ending;
+) -> Result<Vec<bool>, AllocError> {
     let mut marks = vec![in alloc; false; cuts.len()]?;
     let used = marks.as_mut_slice();
-    mark_ending(used, rows, &ending);
+    mark_ending(used, rows, ending);
     for (before, cut) in cuts.iter().rev().enumerate() {
         let place = used.len().saturating_sub(before).saturating_sub(1);
         if is_marked(used, place) {
             mark(used, rows, cut.own.as_slice());
         }
     }
-    let numbers = numbers_of(alloc, used, rows)?;
+    Ok(marks)
+}
+
+/// The cuts that are marked, with the new numbers of their rows.
+fn marked(
+    alloc: Global,
+    cuts: Vec<Cut>,
+    used: &[bool],
+    rows: usize,
+    numbers: &[u32],
+) -> Result<Vec<Cut>, AllocError> {
     let mut kept = Vec::new(alloc);
-    for (place, cut) in cuts.into_iter().enumerate() {
+    for (place, mut cut) in cuts.into_iter().enumerate() {
         if is_marked(used, place) {
-            let mut cut = cut;
-            renumber(cut.own.as_mut_slice(), rows, numbers.as_slice());
+            renumber(cut.own.as_mut_slice(), rows, numbers);
             kept.push(cut)?;
         }
     }
+    Ok(kept)
+}
+
+/// The cuts that the ending or a needed cut behind them uses, and the ending.
+fn needed(
+    alloc: Global,
+    cuts: Vec<Cut>,
+    mut ending: Ending,
+    rows: usize,
+) -> Result<Rounds, AllocError> {
+    let used = marks_of(alloc, cuts.as_slice(), &ending, rows)?;
+    let numbers = numbers_of(alloc, used.as_slice(), rows)?;
     renumber_ending(&mut ending, rows, numbers.as_slice());
-    Ok(Rounds { cuts: kept, ending })
+    let cuts = marked(alloc, cuts, used.as_slice(), rows, numbers.as_slice())?;
+    Ok(Rounds { cuts, ending })
 }
 
 /// Whether a cut is marked.
