@@ -1,9 +1,10 @@
 -- What is known in the course of a search for a greatest value.
 use Rattle.std.specs.Prelude.{◌≡◌, ℕ, ◌^◌, ◌<◌, ◌≤◌, List, slice_get, ℤ, ◌<ℤ◌, unsigned_abs, Option, Some, None}
 use Rattle.affc_rows.specs.Forms.{Affine, value}
-use Rattle.affc_split.specs.maximum.Regions.{InRegion, IsBounded}
+use Rattle.affc_split.specs.maximum.Regions.{InRegion, IsMeasure, IsBounded}
 use Rattle.affc_split.specs.declared.maximum.region.Region.{Region}
 use Rattle.affc_split.specs.declared.maximum.search.Best.{Best}
+use Rattle.affc_split.specs.declared.maximum.search.Asked.{Asked}
 use Rattle.affc_split.specs.declared.maximum.search.Search.{Search}
 
 -- what is reached so far: the floor, or a value above it that is attained
@@ -11,11 +12,18 @@ abbrev pub IsReached : Region → Affine → (floor low : ℤ) → Option Best �
 IsReached region form floor low None = low ≡ floor
 IsReached region form floor low (Some b) = (b.value ≡ low) × (floor <ℤ low) × InRegion region b.point.items × (value form b.point.items ≡ low)
 
+-- a form over the region's columns that is nowhere above the ceiling, and two ends within 2^55
+pub record IsAsked (asked : Asked) : Type 0 where
+  pub measure : IsMeasure asked.region.now.system.columns asked.form.now
+  pub floor_near : unsigned_abs asked.floor ≤ 2 ^ 55
+  pub ceiling_near : unsigned_abs asked.ceiling ≤ 2 ^ 55
+  pub bounded : IsBounded asked.region.now asked.form.now asked.ceiling
+
 -- a search: the greatest value is at most the high one, and the low one is reached
-pub record IsSearch (region : Region) (form : Affine) (search : Search) : Type 0 where
-  pub bounded : IsBounded region form search.high
-  pub reached : IsReached region form search.floor search.low search.best
-  pub floor_near : unsigned_abs search.floor ≤ 2 ^ 55
+pub record IsSearch (search : Search) : Type 0 where
+  pub asked : IsAsked search.asked
+  pub bounded : IsBounded search.asked.region.now search.asked.form.now search.high
+  pub reached : IsReached search.asked.region.now search.asked.form.now search.asked.floor search.low search.best
   pub low_near : unsigned_abs search.low ≤ 2 ^ 55
   pub high_near : unsigned_abs search.high ≤ 2 ^ 55
 

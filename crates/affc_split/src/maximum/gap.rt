@@ -6,11 +6,11 @@ ghost use Rattle.affc_system.specs.Systems.{IsRow};
 ghost use Rattle.affc_system.specs.Boxes.{IsBox};
 ghost use Rattle.affc_leaf.specs.Points.{IsLeastPoint};
 ghost use Rattle.affc_split.specs.Budgets.{IsLater};
-ghost use Rattle.affc_split.specs.maximum.Regions.{IsMeasure, IsBounded, IsAnswer};
+ghost use Rattle.affc_split.specs.maximum.Regions.{IsMeasure, IsAnswer};
+ghost use Rattle.affc_split.specs.maximum.Searches.{IsAsked};
 ghost use Rattle.affc_split.specs.maximum.Gaps.{behind, gap_system, gap_box};
 
-use crate::maximum::region::Region;
-use crate::maximum::search::{Best, less};
+use crate::maximum::search::{Asked, Best, less};
 use crate::{Answer, Budget, Stop, decide};
 use affc_rows::Form;
 use affc_system::{BoxOf, System};
@@ -100,29 +100,17 @@ fn box_with_gap(
 }
 
 /// The greatest value, from the least point that has a gap before it.
-fn best_at(
-    alloc: Global,
-    region: &Region,
-    form: &Form,
-    floor: i64,
-    ceiling: i64,
-    point: &[i64],
-) -> Result<Best, AllocError>
-    requires measure { IsMeasure region.now.system.columns form.now }
-    requires floor_near { unsigned_abs floor ≤ 2 ^ 55 }
-    requires ceiling_near { unsigned_abs ceiling ≤ 2 ^ 55 }
-    requires bounded { IsBounded region.now form.now ceiling }
-    requires least { IsLeastPoint (gap_system region.now.system form.now ceiling) (gap_box region.now.ranges floor ceiling) point.now }
-    ensures answer { IfOk result (λ b. IsAnswer region.now form.now floor (Some b)) }
+fn best_at(alloc: Global, asked: &Asked<'_>, point: &[i64]) -> Result<Best, AllocError>
+    requires asked { IsAsked asked.now }
+    requires least { IsLeastPoint (gap_system asked.now.region.now.system asked.now.form.now asked.now.ceiling) (gap_box asked.now.region.now.ranges asked.now.floor asked.now.ceiling) point.now }
+    ensures answer { IfOk result (λ b. IsAnswer asked.now.region.now asked.now.form.now asked.now.floor (Some b)) }
     ensures near { IfOk result (λ b. unsigned_abs b.value ≤ 2 ^ 55) }
 {
-    let _region = region;
-    let _form = form;
     let [gap, rest @ ..] = point else {
         unreachable!()
     };
     Ok(Best {
-        value: ceiling - *gap,
+        value: asked.ceiling - *gap,
         point: Vec::from_slice(alloc, rest)?,
     })
 }
@@ -130,31 +118,23 @@ fn best_at(
 /// The greatest value above the floor, with the least point that attains it.
 pub(crate) fn at_once(
     alloc: Global,
-    region: &Region,
-    form: &Form,
-    floor: i64,
-    ceiling: i64,
+    asked: &Asked<'_>,
     budget: &mut Budget,
 ) -> Result<Option<Best>, Stop>
-    requires measure { IsMeasure region.now.system.columns form.now }
-    requires floor_near { unsigned_abs floor ≤ 2 ^ 55 }
-    requires ceiling_near { unsigned_abs ceiling ≤ 2 ^ 55 }
-    requires order { floor <ℤ ceiling }
-    requires room { length region.now.system.rows < 1024 }
-    requires few { region.now.system.columns < 128 }
-    requires bounded { IsBounded region.now form.now ceiling }
-    ensures answer { IfOk result (λ o. IsAnswer region.now form.now floor o) }
+    requires asked { IsAsked asked.now }
+    requires order { asked.now.floor <ℤ asked.now.ceiling }
+    requires room { length asked.now.region.now.system.rows < 1024 }
+    requires few { asked.now.region.now.system.columns < 128 }
+    ensures answer { IfOk result (λ o. IsAnswer asked.now.region.now asked.now.form.now asked.now.floor o) }
     ensures near { IfOk result (λ o. IfSome o (λ b. unsigned_abs b.value ≤ 2 ^ 55)) }
     ensures later { IsLater budget.old budget.new }
     ensures stop { IfErr result (λ e. e ≡ Stop.Budget → budget.new.limit ≡ Some budget.new.spent) }
 {
-    let system = with_gap(alloc, &region.system, form, ceiling)?;
-    let ranges = box_with_gap(alloc, &region.ranges, floor, ceiling)?;
+    let region = asked.region;
+    let system = with_gap(alloc, &region.system, asked.form, asked.ceiling)?;
+    let ranges = box_with_gap(alloc, &region.ranges, asked.floor, asked.ceiling)?;
     match decide(alloc, &system, &ranges, budget)? {
-        Answer::Point(point) => {
-            let best = best_at(alloc, region, form, floor, ceiling, point.as_slice())?;
-            Ok(Some(best))
-        }
+        Answer::Point(point) => Ok(Some(best_at(alloc, asked, point.as_slice())?)),
         Answer::Empty(_proof) => Ok(None),
     }
 }

@@ -2,7 +2,7 @@
 ghost use Rattle.std.specs.Prelude.{◌≡◌, ℤ, negsuc, ◌+◌, ◌-◌, ◌^◌, ◌<◌, ◌≤◌, ◌∷◌, ◌++◌, [], pos, ◌-ℤ◌, ◌≤ℤ◌, ◌<ℤ◌, unsigned_abs, IfOk, IfErr, IfSome, IfNone, Some, length};
 ghost use Rattle.affc_rows.specs.Forms.{value};
 ghost use Rattle.affc_split.specs.maximum.Regions.{InRegion, IsFirstReaching, IsMeasure, IsBounded, IsAnswer};
-ghost use Rattle.affc_split.specs.maximum.Searches.{IsSearch};
+ghost use Rattle.affc_split.specs.maximum.Searches.{IsAsked, IsSearch};
 ghost use Rattle.affc_split.specs.Budgets.{IsLater};
 
 use crate::maximum::gap::at_once;
@@ -116,30 +116,37 @@ fn reached(region: &Region, form: &Form, point: &[i64], high: i64) -> i64
     value_at(form, point) as i64
 }
 
+/// What is asked: the greatest value of a form in a region, where it is above the floor. It is nowhere above the ceiling.
+#[derive(Clone, Copy, Drop)]
+pub(crate) struct Asked<'a> {
+    pub region: &'a Region,
+    pub form: &'a Form,
+    pub floor: i64,
+    pub ceiling: i64,
+}
+
 /// A search for the greatest value: it lies from the low to the high value, and the low one is attained or the floor.
 #[derive(Drop)]
-pub(crate) struct Search {
-    floor: i64,
+pub(crate) struct Search<'a> {
+    asked: Asked<'a>,
     low: i64,
     high: i64,
     best: Option<Best>,
 }
 
 /// The search, after no point was found at which the form is at least a number.
-fn lowered(region: &Region, form: &Form, search: Search, at: i64) -> Search
-    requires search { IsSearch region.now form.now search }
+fn lowered<'a>(search: Search<'a>, at: i64) -> Search<'a>
+    requires search { IsSearch search }
     requires above { search.low <ℤ at }
     requires within { at ≤ℤ search.high }
-    requires none { IsBounded region.now form.now (at -ℤ pos 1) }
-    ensures search { IsSearch region.now form.now result }
-    ensures floor { result.floor ≡ search.floor }
+    requires none { IsBounded search.asked.region.now search.asked.form.now (at -ℤ pos 1) }
+    ensures search { IsSearch result }
+    ensures asked { result.asked ≡ search.entry.asked }
     ensures order { result.low ≤ℤ result.high }
-    ensures less { (result.high -ℤ result.low) <ℤ (search.high -ℤ search.low) }
+    ensures less { (result.high -ℤ result.low) <ℤ (search.entry.high -ℤ search.entry.low) }
 {
-    let _region = region;
-    let _form = form;
     Search {
-        floor: search.floor,
+        asked: search.asked,
         low: search.low,
         high: at - 1,
         best: search.best,
@@ -147,20 +154,20 @@ fn lowered(region: &Region, form: &Form, search: Search, at: i64) -> Search
 }
 
 /// The search, after a point was found at which the form is at least a number.
-fn raised(region: &Region, form: &Form, search: Search, at: i64, point: Vec<i64>) -> Search
-    requires measure { IsMeasure region.now.system.columns form.now }
-    requires search { IsSearch region.now form.now search }
+fn raised<'a>(search: Search<'a>, at: i64, point: Vec<i64>) -> Search<'a>
+    requires search { IsSearch search }
     requires above { search.low <ℤ at }
-    requires inside { InRegion region.now point.items }
-    requires reaches { at ≤ℤ value form.now point.items }
-    ensures search { IsSearch region.now form.now result }
-    ensures floor { result.floor ≡ search.floor }
+    requires inside { InRegion search.asked.region.now point.items }
+    requires reaches { at ≤ℤ value search.asked.form.now point.items }
+    ensures search { IsSearch result }
+    ensures asked { result.asked ≡ search.entry.asked }
     ensures order { result.low ≤ℤ result.high }
-    ensures less { (result.high -ℤ result.low) <ℤ (search.high -ℤ search.low) }
+    ensures less { (result.high -ℤ result.low) <ℤ (search.entry.high -ℤ search.entry.low) }
 {
-    let value = reached(region, form, point.as_slice(), search.high);
+    let asked = search.asked;
+    let value = reached(asked.region, asked.form, point.as_slice(), search.high);
     Search {
-        floor: search.floor,
+        asked,
         low: value,
         high: search.high,
         best: Some(Best { value, point }),
@@ -168,61 +175,52 @@ fn raised(region: &Region, form: &Form, search: Search, at: i64, point: Vec<i64>
 }
 
 /// One question more.
-fn step(
+fn step<'a>(
     alloc: Global,
-    region: &Region,
-    form: &Form,
-    search: Search,
+    search: Search<'a>,
     likely: i64,
     turn: u32,
     budget: &mut Budget,
-) -> Result<Search, Stop>
-    requires measure { IsMeasure region.now.system.columns form.now }
-    requires room { length region.now.system.rows < 1024 }
-    requires search { IsSearch region.now form.now search }
+) -> Result<Search<'a>, Stop>
+    requires room { length search.asked.region.now.system.rows < 1024 }
+    requires search { IsSearch search }
     requires open { search.low <ℤ search.high }
-    ensures search { IfOk result (λ s. IsSearch region.now form.now s) }
-    ensures floor { IfOk result (λ s. s.floor ≡ search.floor) }
+    ensures search { IfOk result (λ s. IsSearch s) }
+    ensures asked { IfOk result (λ s. s.asked ≡ search.entry.asked) }
     ensures order { IfOk result (λ s. s.low ≤ℤ s.high) }
-    ensures less { IfOk result (λ s. (s.high -ℤ s.low) <ℤ (search.high -ℤ search.low)) }
+    ensures less { IfOk result (λ s. (s.high -ℤ s.low) <ℤ (search.entry.high -ℤ search.entry.low)) }
     ensures later { IsLater budget.old budget.new }
     ensures stop { IfErr result (λ e. e ≡ Stop.Budget → budget.new.limit ≡ Some budget.new.spent) }
 {
     let at = next_question(search.low, search.high, likely, turn);
-    match reaching(alloc, region, form, at, budget)? {
-        Some(point) => Ok(raised(region, form, search, at, point)),
-        None => Ok(lowered(region, form, search, at)),
+    match reaching(alloc, search.asked.region, search.asked.form, at, budget)? {
+        Some(point) => Ok(raised(search, at, point)),
+        None => Ok(lowered(search, at)),
     }
 }
 
 /// A search that begins.
-fn begun(region: &Region, form: &Form, floor: i64, ceiling: i64) -> Search
-    requires floor_near { unsigned_abs floor ≤ 2 ^ 55 }
-    requires ceiling_near { unsigned_abs ceiling ≤ 2 ^ 55 }
-    requires bounded { IsBounded region.now form.now ceiling }
-    ensures search { IsSearch region.now form.now result }
-    ensures floor { result.floor ≡ floor }
+fn begun<'a>(asked: &Asked<'a>) -> Search<'a>
+    requires { IsAsked asked.now }
+    ensures search { IsSearch result }
+    ensures asked { result.asked ≡ asked.now }
 {
-    let _region = region;
-    let _form = form;
     Search {
-        floor,
-        low: floor,
-        high: ceiling,
+        asked: *asked,
+        low: asked.floor,
+        high: asked.ceiling,
         best: None,
     }
 }
 
 /// What a search found that is at its end.
 #[tactic(auto, using(crate::proofs::maximum::Bounds::ended))]
-fn best_of(region: &Region, form: &Form, search: Search) -> Option<Best>
-    requires search { IsSearch region.now form.now search }
+fn best_of(search: Search<'_>) -> Option<Best>
+    requires search { IsSearch search }
     requires closed { search.high ≤ℤ search.low }
-    ensures answer { IsAnswer region.now form.now search.floor result }
+    ensures answer { IsAnswer search.entry.asked.region.now search.entry.asked.form.now search.entry.asked.floor result }
     ensures near { IfSome result (λ b. unsigned_abs b.value ≤ 2 ^ 55) }
 {
-    let _region = region;
-    let _form = form;
     search.best
 }
 
@@ -254,14 +252,20 @@ pub fn maximum(
     ensures later { IsLater budget.old budget.new }
     ensures stop { IfErr result (λ e. e ≡ Stop.Budget → budget.new.limit ≡ Some budget.new.spent) }
 {
+    let asked = Asked {
+        region,
+        form,
+        floor,
+        ceiling,
+    };
     if floor < ceiling && region.system.columns() < MOST_COLUMNS {
-        return at_once(alloc, region, form, floor, ceiling, budget);
+        return at_once(alloc, &asked, budget);
     }
-    let mut search = begun(region, form, floor, ceiling);
+    let mut search = begun(&asked);
     let mut turn = 0;
     while search.low < search.high {
-        search = step(alloc, region, form, search, likely, turn, budget)?;
+        search = step(alloc, search, likely, turn, budget)?;
         turn = next_turn(turn);
     }
-    Ok(best_of(region, form, search))
+    Ok(best_of(search))
 }

@@ -7,13 +7,10 @@ use Rattle.affc_split.proofs.maximum.search.lowered.Goals as goal
 
 pub returns-clause-search : goal.returns-clause-search
 returns-clause-search c =
-    let r = c.args.region.now in
-    let f = c.args.form.now in
     let s = c.args.search in
     let h = c.requires.search in
-    let near = near_lowered r f s c.args.at h c.requires.above c.requires.within in
+    let near = near_lowered s c.args.at h c.requires.above c.requires.within in
     let a : FitsSigned w64 c.args.at = c.ranges.at in
-    let fl : FitsSigned w64 s.floor = fits_signed_from_abs w64 s.floor (let b = h.floor_near in omega arith) in
     let lo : FitsSigned w64 s.low = fits_signed_from_abs w64 s.low (let b = h.low_near in omega arith) in
     let hi : FitsSigned w64 (c.args.at -ℤ pos 1) = fits_signed_from_abs w64 (c.args.at -ℤ pos 1) (omega (arith, near)) in
-    simp to_z-of_z (lowered_search r f s c.args.at h c.requires.above c.requires.within c.requires.none)
+    simp to_z-of_z (lowered_search s c.args.at h c.requires.above c.requires.within c.requires.none)

@@ -1,7 +1,8 @@
-use Rattle.std.proofs.Common.{◌∙◌, ◌<◌, ◌≤ℤ◌, ◌<ℤ◌, ◌-ℤ◌, ℤ, arith}
+use Rattle.std.proofs.Common.{ap, ◌∙◌, ◌<◌, ◌≤ℤ◌, ◌<ℤ◌, ◌-ℤ◌, ℤ, arith}
 use Rattle.std.specs.Prelude.{unsigned_abs}
 use Rattle.std.proofs.lemmas.Int.{ints}
-use Rattle.affc_split.proofs.maximum.Laters.{then_later}
+use Rattle.affc_split.specs.declared.maximum.search.Asked.{Asked}
+use Rattle.affc_split.proofs.maximum.Laters.{same, then_later}
 use Rattle.affc_split.proofs.maximum.search.maximum.Goals as goal
 
 pub returns-in_err-search-clause-later : goal.returns-in_err-search-clause-later
@@ -13,9 +14,20 @@ smaller a b c d h k = omega (arith, ints)
 pub loop-search-smaller : goal.loop-search-smaller
 loop-search-smaller c = smaller c.loop-search.search.low c.loop-search.search.high c.in_ok-search.search.low c.in_ok-search.search.high c.in_ok-search.ensures.order c.in_ok-search.ensures.less
 
+pub loop-search-init : goal.loop-search-init
+loop-search-init c = record {
+  search = c.begun-search.ensures.search;
+  region = ap (λ (a : Asked). a.region.now) c.begun-search.ensures.asked;
+  form = ap (λ (a : Asked). a.form.now) c.begun-search.ensures.asked;
+  floor = ap (λ (a : Asked). a.floor) c.begun-search.ensures.asked;
+  later = same c.args.budget.now;
+}
+
 pub loop-search-preserved : goal.loop-search-preserved
 loop-search-preserved c = record {
   search = c.in_ok-search.ensures.search;
-  floor = c.in_ok-search.ensures.floor ∙ c.loop-search.invariant.floor;
+  region = ap (λ (a : Asked). a.region.now) c.in_ok-search.ensures.asked ∙ c.loop-search.invariant.region;
+  form = ap (λ (a : Asked). a.form.now) c.in_ok-search.ensures.asked ∙ c.loop-search.invariant.form;
+  floor = ap (λ (a : Asked). a.floor) c.in_ok-search.ensures.asked ∙ c.loop-search.invariant.floor;
   later = then_later c.args.budget.now c.loop-search.budget c.step.new.budget c.loop-search.invariant.later c.step.ensures.later;
 }
