@@ -7,8 +7,8 @@ use Rattle.affc_certvalue.specs.declared.verdict.Verdict.TheVariants.{Shape}
 use Rattle.serde_json.proofs.Views.{Entry}
 use Rattle.serde_json.specs.Data.{Data, null, boolean, number, string, array, object, Members, no_members, member}
 use Rattle.serde_json.specs.View.{members_view}
-use Rattle.std.proofs.Common.{◌≡◌, ℕ, zero, suc, ◌+◌, ◌<◌, ◌≤◌, nat_eq, List, [], ◌∷◌, length, get_or, drop, map, Bor, string_bytes, add-one, Bool, true, false, ◌&&◌, true≢false, if◌then◌else◌, bytes_eq, refl, sym, ap, ap₂, ◌∙◌, arith}
-use Rattle.std.proofs.Math.Dec.{eqb-zero-suc, eqb-suc-suc}
+use Rattle.std.proofs.Common.{◌≡◌, ℕ, zero, suc, ◌-◌, ◌<◌, ◌≤◌, nat_eq, List, [], ◌∷◌, length, get_or, take, drop, map, Bor, string_bytes, Bool, true, false, ◌&&◌, true≢false, if◌then◌else◌, bytes_eq, take_all, refl, sym, ap, ap₂, ◌∙◌, arith}
+use Rattle.std.proofs.Math.Dec.{eqb-suc-zero}
 use Rattle.std.proofs.lemmas.Slice.Eq.{bytes_eq-Decides}
 
 -- ---- Key by key
@@ -16,35 +16,29 @@ use Rattle.std.proofs.lemmas.Slice.Eq.{bytes_eq-Decides}
 abbrev texts : List (Bor (List ℕ)) → List (List ℕ)
 texts ks = map (λ k. k.now) ks
 
-pub keys_many : (ks : List (Bor (List ℕ))) (i : ℕ) (es : List Entry) (e : Entry) (left : List Entry) → es ≡ e ∷ left → i ≡ length ks → are_keys (texts (drop i ks)) (members_view es) ≡ false
-keys_many [] zero es e left h n = rw h refl
-keys_many [] (suc i) es e left h n = rw h refl
-keys_many (k ∷ ks) zero es e left h n = absurd (omega (arith, n))
-keys_many (k ∷ ks) (suc i) es e left h n = keys_many ks i es e left h (omega (arith, n))
-
-keys_here : (ks : List (Bor (List ℕ))) (i : ℕ) (d : Bor (List ℕ)) → i < length ks → texts (drop i ks) ≡ (get_or ks i d).now ∷ texts (drop (suc i) ks)
-keys_here [] i d h = absurd (omega (arith, h))
-keys_here (k ∷ ks) zero d h = refl
-keys_here (k ∷ ks) (suc i) d h = keys_here ks i d (omega (arith, h))
+front : (ks : List (Bor (List ℕ))) (d : Bor (List ℕ)) → 1 ≤ length ks → ks ≡ get_or ks 0 d ∷ take (length ks - 1) (drop 1 ks)
+front [] d h = absurd (omega (arith, h))
+front (k ∷ ks) d h = let n : length (k ∷ ks) - 1 ≡ length ks = omega arith in rw n (ap (λ xs. k ∷ xs) (sym (take_all (length ks) ks (omega arith))))
 
 step_by : (ks : List (List ℕ)) (k : List ℕ) (rest : List (List ℕ)) (es : List Entry) (e : Entry) (left : List Entry) (b : Bool) → ks ≡ k ∷ rest → es ≡ e ∷ left → bytes_eq (string_bytes e.0) k ≡ b
     → are_keys ks (members_view es) ≡ (b && are_keys rest (members_view left))
 step_by ks k rest es e left b h g w = rw (h, g) (ap (λ x. x && are_keys rest (members_view left)) w)
 
-pub keys_other : (ks : List (Bor (List ℕ))) (i : ℕ) (d : Bor (List ℕ)) (es : List Entry) (e : Entry) (left : List Entry) → es ≡ e ∷ left → i < length ks → bytes_eq (string_bytes e.0) (get_or ks i d).now ≡ false
-    → are_keys (texts (drop i ks)) (members_view es) ≡ false
-keys_other ks i d es e left g h w = step_by (texts (drop i ks)) (get_or ks i d).now (texts (drop (suc i) ks)) es e left false (keys_here ks i d h) g w
+pub keys_many : (ks : List (Bor (List ℕ))) (es : List Entry) (e : Entry) (left : List Entry) → es ≡ e ∷ left → length ks < 1 → are_keys (texts ks) (members_view es) ≡ false
+keys_many [] es e left h n = rw h refl
+keys_many (k ∷ ks) es e left h n = absurd (omega (arith, n))
 
-pub keys_same : (ks : List (Bor (List ℕ))) (i : ℕ) (d : Bor (List ℕ)) (es : List Entry) (e : Entry) (left : List Entry) → es ≡ e ∷ left → i < length ks → bytes_eq (string_bytes e.0) (get_or ks i d).now ≡ true
-    → are_keys (texts (drop i ks)) (members_view es) ≡ are_keys (texts (drop (i + 1) ks)) (members_view left)
-keys_same ks i d es e left g h w =
-    step_by (texts (drop i ks)) (get_or ks i d).now (texts (drop (suc i) ks)) es e left true (keys_here ks i d h) g w ∙ ap (λ j. are_keys (texts (drop j ks)) (members_view left)) (sym (add-one i))
+pub keys_other : (ks : List (Bor (List ℕ))) (d : Bor (List ℕ)) (es : List Entry) (e : Entry) (left : List Entry) → es ≡ e ∷ left → 1 ≤ length ks → bytes_eq (string_bytes e.0) (get_or ks 0 d).now ≡ false
+    → are_keys (texts ks) (members_view es) ≡ false
+keys_other ks d es e left g h w = step_by (texts ks) (get_or ks 0 d).now (texts (take (length ks - 1) (drop 1 ks))) es e left false (ap texts (front ks d h)) g w
 
-pub keys_done : (ks : List (Bor (List ℕ))) (i : ℕ) (es : List Entry) → es ≡ [] → i ≤ length ks → are_keys (texts (drop i ks)) (members_view es) ≡ nat_eq i (length ks)
-keys_done [] zero es g h = rw g refl
-keys_done [] (suc i) es g h = absurd (omega (arith, h))
-keys_done (k ∷ ks) zero es g h = rw g (sym (eqb-zero-suc (length ks)))
-keys_done (k ∷ ks) (suc i) es g h = keys_done ks i es g (omega (arith, h)) ∙ sym (eqb-suc-suc i (length ks))
+pub keys_same : (ks : List (Bor (List ℕ))) (d : Bor (List ℕ)) (es : List Entry) (e : Entry) (left : List Entry) → es ≡ e ∷ left → 1 ≤ length ks → bytes_eq (string_bytes e.0) (get_or ks 0 d).now ≡ true
+    → are_keys (texts ks) (members_view es) ≡ are_keys (texts (take (length ks - 1) (drop 1 ks))) (members_view left)
+keys_same ks d es e left g h w = step_by (texts ks) (get_or ks 0 d).now (texts (take (length ks - 1) (drop 1 ks))) es e left true (ap texts (front ks d h)) g w
+
+pub keys_done : (ks : List (Bor (List ℕ))) (es : List Entry) → es ≡ [] → are_keys (texts ks) (members_view es) ≡ nat_eq (length ks) 0
+keys_done [] es g = rw g refl
+keys_done (k ∷ ks) es g = rw g (sym (eqb-suc-zero (length ks)))
 
 pub ruleset key_steps = (keys_many, keys_other, keys_same, keys_done)
 

@@ -10,17 +10,17 @@ use serde_json::{Map, Value};
 fn are_keys(entries: &Map<String, Value>, keys: &[&str]) -> bool
     ensures { result ≡ are_keys (map (λ k. k.now) keys.now) (members_view entries.now.entries) }
 {
-    let mut place = 0;
+    let mut rest = keys;
     for (key, _) in entries.iter() {
-        if place == keys.len() {
+        let [first, others @ ..] = rest else {
+            return false;
+        };
+        if key.as_str() != *first {
             return false;
         }
-        if key.as_str() != keys[place] {
-            return false;
-        }
-        place += 1;
+        rest = others;
     }
-    place == keys.len()
+    rest.is_empty()
 }
 
 /// Whether a value is an object with exactly these keys, which are in order by bytes.

@@ -1,8 +1,9 @@
 //! JSON values of folds.
 ghost use Rattle.affc_certvalue.specs.fold.Entries.{coefs_of, entry_of};
 ghost use Rattle.affc_certvalue.specs.fold.Values.{clash_value, fold_value, folds_value, least_value, matrix_value, moduli_value, modulus_value, point_value};
-ghost use Rattle.serde_json.specs.View.{view};
-ghost use Rattle.std.specs.Prelude.{◌≡◌, map, IfOk};
+ghost use Rattle.serde_json.specs.Data.{put as with_member};
+ghost use Rattle.serde_json.specs.View.{view, members_view};
+ghost use Rattle.std.specs.Prelude.{◌≡◌, map, IfOk, OnOk};
 
 use crate::fold::fold::{CertFold, CertLeast, CertModulus};
 use crate::write::{coefs, form, list, numbers};
@@ -21,6 +22,18 @@ fn matrix(alloc: Global, forms: &[Form]) -> Result<Value, AllocError>
         values.push(coefs(alloc, form.coefs.as_slice())?)?;
     }
     Ok(list(values))
+}
+
+/// Puts rows without constants under a key.
+fn put_matrix(
+    alloc: Global,
+    map: &mut Map<String, Value>,
+    key: &str,
+    forms: &[Form],
+) -> Result<(), AllocError>
+    ensures { OnOk result (members_view map.new.entries ≡ with_member key.now (matrix_value (coefs_of forms.now)) (members_view map.old.entries)) }
+{
+    put(map, alloc, key, matrix(alloc, forms)?)
 }
 
 /// The value of the number of a clash system.
@@ -82,15 +95,16 @@ fn moduli_list(alloc: Global, moduli: &[CertModulus]) -> Result<Value, AllocErro
 fn fold(alloc: Global, fold: &CertFold) -> Result<Value, AllocError>
     ensures { IfOk result (λ v. view v ≡ fold_value (entry_of fold.now)) }
 {
-    let array = Value::from(fold.array.0);
-    let inverse = matrix(alloc, fold.basis.inverse.as_slice())?;
-    let moduli = moduli_list(alloc, fold.moduli.as_slice())?;
-    let rows = matrix(alloc, fold.basis.rows.as_slice())?;
     let mut map = Map::new(alloc);
-    put(&mut map, alloc, "array", array)?;
-    put(&mut map, alloc, "inverse", inverse)?;
-    put(&mut map, alloc, "moduli", moduli)?;
-    put(&mut map, alloc, "rows", rows)?;
+    put(&mut map, alloc, "array", Value::from(fold.array.0))?;
+    put_matrix(alloc, &mut map, "inverse", fold.basis.inverse.as_slice())?;
+    put(
+        &mut map,
+        alloc,
+        "moduli",
+        moduli_list(alloc, fold.moduli.as_slice())?,
+    )?;
+    put_matrix(alloc, &mut map, "rows", fold.basis.rows.as_slice())?;
     Ok(Value::Object(map))
 }
 

@@ -2,7 +2,7 @@
 ghost use Rattle.affc_certvalue.specs.proof.Proofs.{steps_of};
 ghost use Rattle.affc_certvalue.specs.proof.Values.{pair_value, multipliers_value, leaf_node, cut_node, split_node, nodes_of, proof_value};
 ghost use Rattle.serde_json.specs.View.{view};
-ghost use Rattle.std.specs.Prelude.{◌≡◌, ◌++◌, ◌-ℤ◌, map, IfOk, OnOk};
+ghost use Rattle.std.specs.Prelude.{◌≡◌, [], ◌∷◌, ◌++◌, ◌-ℤ◌, map, IfOk, OnOk};
 
 use crate::write::{coefs, form, list, whole};
 use affc_farkas::{Multipliers, Proof};
@@ -32,31 +32,39 @@ fn multipliers(alloc: Global, by: &Multipliers) -> Result<Value, AllocError>
     Ok(list(values))
 }
 
-/// The node of a leaf.
-fn leaf(alloc: Global, by: &Multipliers) -> Result<Value, AllocError>
-    ensures { IfOk result (λ v. view v ≡ leaf_node by.now) }
+/// Adds the node of a leaf to a list.
+fn add_leaf(alloc: Global, nodes: &mut Vec<Value>, by: &Multipliers) -> Result<(), AllocError>
+    ensures { OnOk result (map view nodes.new.items ≡ map view nodes.old.items ++ leaf_node by.now ∷ []) }
 {
     let mut values = Vec::new(alloc);
     values.push(Value::try_from_str(alloc, "f")?)?;
     values.push(multipliers(alloc, by)?)?;
-    Ok(list(values))
+    nodes.push(list(values))?;
+    Ok(())
 }
 
-/// The node of a cut.
-fn cut(alloc: Global, by: &Multipliers, g: i64, row: &Form) -> Result<Value, AllocError>
-    ensures { IfOk result (λ v. view v ≡ cut_node by.now g row.now) }
+/// Adds the node of a cut to a list.
+fn add_cut(
+    alloc: Global,
+    nodes: &mut Vec<Value>,
+    by: &Multipliers,
+    g: i64,
+    row: &Form,
+) -> Result<(), AllocError>
+    ensures { OnOk result (map view nodes.new.items ≡ map view nodes.old.items ++ cut_node by.now g row.now ∷ []) }
 {
     let mut values = Vec::new(alloc);
     values.push(Value::try_from_str(alloc, "c")?)?;
     values.push(multipliers(alloc, by)?)?;
     values.push(Value::from(g))?;
     values.push(form(alloc, row)?)?;
-    Ok(list(values))
+    nodes.push(list(values))?;
+    Ok(())
 }
 
-/// The node of a split.
-fn split(alloc: Global, form: &Form, at: i64) -> Result<Value, AllocError>
-    ensures { IfOk result (λ v. view v ≡ split_node form.now.coefs (at -ℤ form.now.constant)) }
+/// Adds the node of a split to a list.
+fn add_split(alloc: Global, nodes: &mut Vec<Value>, form: &Form, at: i64) -> Result<(), AllocError>
+    ensures { OnOk result (map view nodes.new.items ≡ map view nodes.old.items ++ split_node form.now.coefs (at -ℤ form.now.constant) ∷ []) }
 {
     let Some(at) = i128::from(at).checked_sub(form.constant) else {
         return Err(AllocError);
@@ -65,7 +73,8 @@ fn split(alloc: Global, form: &Form, at: i64) -> Result<Value, AllocError>
     values.push(Value::try_from_str(alloc, "s")?)?;
     values.push(coefs(alloc, form.coefs.as_slice())?)?;
     values.push(whole(at)?)?;
-    Ok(list(values))
+    nodes.push(list(values))?;
+    Ok(())
 }
 
 /// Adds the nodes of a proof to a list, as deep as the proof is.
@@ -73,12 +82,9 @@ fn add_nodes(alloc: Global, nodes: &mut Vec<Value>, proof: &Proof) -> Result<(),
     ensures { OnOk result (map view nodes.new.items ≡ map view nodes.old.items ++ nodes_of (steps_of proof.now)) }
 {
     match proof {
-        Proof::Leaf(by) => {
-            nodes.push(leaf(alloc, by)?)?;
-            Ok(())
-        }
+        Proof::Leaf(by) => add_leaf(alloc, nodes, by),
         Proof::Cut { by, g, row, rest } => {
-            nodes.push(cut(alloc, by, *g, row)?)?;
+            add_cut(alloc, nodes, by, *g, row)?;
             add_nodes(alloc, nodes, rest)
         }
         Proof::Split {
@@ -87,7 +93,7 @@ fn add_nodes(alloc: Global, nodes: &mut Vec<Value>, proof: &Proof) -> Result<(),
             low,
             high,
         } => {
-            nodes.push(split(alloc, form, *at)?)?;
+            add_split(alloc, nodes, form, *at)?;
             add_nodes(alloc, nodes, low)?;
             add_nodes(alloc, nodes, high)
         }
