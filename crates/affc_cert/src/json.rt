@@ -277,16 +277,32 @@ fn proofs_to_value(alloc: Global, proofs: &[Proof]) -> Result<Value, AllocError>
 fn to_value(alloc: Global, cert: &Cert) -> Result<Value, AllocError>
     ensures { IfOk result (λ v. view v ≡ cert_value (seen cert.now)) }
 {
-    let context = numbers_to_value(alloc, cert.context.as_slice())?;
-    let flow = trees_to_value(alloc, cert.flow.trees.as_slice())?;
-    let folds = folds_to_value(alloc, cert.folds.as_slice())?;
-    let proofs = proofs_to_value(alloc, cert.proofs.as_slice())?;
     let mut map = Map::new(alloc);
     put(&mut map, alloc, "affc", Value::from(1u32))?;
-    put(&mut map, alloc, "context", context)?;
-    put(&mut map, alloc, "flow", flow)?;
-    put(&mut map, alloc, "folds", folds)?;
-    put(&mut map, alloc, "proofs", proofs)?;
+    put(
+        &mut map,
+        alloc,
+        "context",
+        numbers_to_value(alloc, cert.context.as_slice())?,
+    )?;
+    put(
+        &mut map,
+        alloc,
+        "flow",
+        trees_to_value(alloc, cert.flow.trees.as_slice())?,
+    )?;
+    put(
+        &mut map,
+        alloc,
+        "folds",
+        folds_to_value(alloc, cert.folds.as_slice())?,
+    )?;
+    put(
+        &mut map,
+        alloc,
+        "proofs",
+        proofs_to_value(alloc, cert.proofs.as_slice())?,
+    )?;
     Ok(Value::Object(map))
 }
 
@@ -297,8 +313,7 @@ fn text_of(alloc: Global, cert: &Cert) -> Result<Vec<u8>, AllocError>
     ensures reads { IfOk result (λ b. ReadsJson b.items (cert_value (seen cert.now))) }
 {
     let value = to_value(alloc, cert)?;
-    let text = value.to_vec(alloc)?;
-    Ok(text)
+    value.to_vec(alloc)
 }
 
 /// The text of a certificate: compact, its keys in order by bytes.

@@ -255,8 +255,34 @@ fn take(places: &mut Vec<Place>) -> Option<Place>
     places.pop()
 }
 
-/// The verdict on the nodes of a tree in preorder.
+/// The verdict on nodes in preorder, at the places that are open.
 #[tactic(auto, using(crate::proofs::tree::Steps::place_steps))]
+fn verdict_at(
+    places: &mut Vec<Place>,
+    nodes: &[Value],
+    statements: &[Store],
+) -> Result<Verdict, AllocError>
+    ensures { IfOk result (λ v. v ≡ tree_nodes statements.now (reverse places.old.items) (items_view nodes.now)) }
+{
+    let mut worst = Verdict::Fine;
+    for value in nodes {
+        let Some(place) = take(places) else {
+            return Ok(Verdict::Shape);
+        };
+        if place.columns > MOST_COLUMNS || place.inner > MOST_COLUMNS {
+            return Err(AllocError);
+        }
+        let (verdict, kind) = step_verdict(value, statements, place);
+        worst = worst.and(verdict);
+        open(places, place, kind)?;
+    }
+    if take(places).is_some() {
+        return Ok(Verdict::Shape);
+    }
+    Ok(worst)
+}
+
+/// The verdict on the nodes of a tree in preorder.
 fn nodes_verdict(
     alloc: Global,
     nodes: &[Value],
@@ -267,22 +293,7 @@ fn nodes_verdict(
 {
     let mut places = Vec::new(alloc);
     places.push(Place { columns, inner: 0 })?;
-    let mut worst = Verdict::Fine;
-    for value in nodes {
-        let Some(place) = take(&mut places) else {
-            return Ok(Verdict::Shape);
-        };
-        if place.columns > MOST_COLUMNS || place.inner > MOST_COLUMNS {
-            return Err(AllocError);
-        }
-        let (verdict, kind) = step_verdict(value, statements, place);
-        worst = worst.and(verdict);
-        open(&mut places, place, kind)?;
-    }
-    if take(&mut places).is_some() {
-        return Ok(Verdict::Shape);
-    }
-    Ok(worst)
+    verdict_at(&mut places, nodes, statements)
 }
 
 /// The verdict on the tree of a load.

@@ -3,7 +3,7 @@ ghost use Rattle.affc_cert.specs.tree.Values.{test_node, div_node, source_node, 
 ghost use Rattle.affc_certvalue.specs.Values.{forms_value};
 ghost use Rattle.affc_quast.specs.Seen.{seen};
 ghost use Rattle.serde_json.specs.View.{view};
-ghost use Rattle.std.specs.Prelude.{◌≡◌, ◌++◌, map, IfOk, OnOk};
+ghost use Rattle.std.specs.Prelude.{◌≡◌, [], ◌∷◌, ◌++◌, map, IfOk, OnOk};
 
 use affc_certvalue::write::{form, list};
 use affc_quast::Quast;
@@ -11,25 +11,27 @@ use affc_rows::Form;
 use serde_json::Value;
 use std::alloc::{AllocError, Global};
 
-/// The node of a test.
-fn test(alloc: Global, row: &Form) -> Result<Value, AllocError>
-    ensures { IfOk result (λ v. view v ≡ test_node row.now) }
+/// Adds the node of a test to a list.
+fn add_test(alloc: Global, nodes: &mut Vec<Value>, row: &Form) -> Result<(), AllocError>
+    ensures { OnOk result (map view nodes.new.items ≡ map view nodes.old.items ++ test_node row.now ∷ []) }
 {
     let mut values = Vec::new(alloc);
     values.push(Value::try_from_str(alloc, "t")?)?;
     values.push(form(alloc, row)?)?;
-    Ok(list(values))
+    nodes.push(list(values))?;
+    Ok(())
 }
 
-/// The node of a division.
-fn div(alloc: Global, row: &Form, by: i64) -> Result<Value, AllocError>
-    ensures { IfOk result (λ v. view v ≡ div_node row.now by) }
+/// Adds the node of a division to a list.
+fn add_div(alloc: Global, nodes: &mut Vec<Value>, row: &Form, by: i64) -> Result<(), AllocError>
+    ensures { OnOk result (map view nodes.new.items ≡ map view nodes.old.items ++ div_node row.now by ∷ []) }
 {
     let mut values = Vec::new(alloc);
     values.push(Value::try_from_str(alloc, "d")?)?;
     values.push(form(alloc, row)?)?;
     values.push(Value::from(by))?;
-    Ok(list(values))
+    nodes.push(list(values))?;
+    Ok(())
 }
 
 /// The value of forms.
@@ -43,24 +45,31 @@ fn forms(alloc: Global, rows: &[Form]) -> Result<Value, AllocError>
     Ok(list(values))
 }
 
-/// The node of a leaf that names a statement.
-fn source(alloc: Global, statement: u32, rows: &[Form]) -> Result<Value, AllocError>
-    ensures { IfOk result (λ v. view v ≡ source_node statement rows.now) }
+/// Adds the node of a leaf that names a statement to a list.
+fn add_source(
+    alloc: Global,
+    nodes: &mut Vec<Value>,
+    statement: u32,
+    rows: &[Form],
+) -> Result<(), AllocError>
+    ensures { OnOk result (map view nodes.new.items ≡ map view nodes.old.items ++ source_node statement rows.now ∷ []) }
 {
     let mut values = Vec::new(alloc);
     values.push(Value::try_from_str(alloc, "w")?)?;
     values.push(Value::from(statement))?;
     values.push(forms(alloc, rows)?)?;
-    Ok(list(values))
+    nodes.push(list(values))?;
+    Ok(())
 }
 
-/// The node of a leaf for what was handed in.
-fn input(alloc: Global) -> Result<Value, AllocError>
-    ensures { IfOk result (λ v. view v ≡ input_node) }
+/// Adds the node of a leaf for what was handed in to a list.
+fn add_input(alloc: Global, nodes: &mut Vec<Value>) -> Result<(), AllocError>
+    ensures { OnOk result (map view nodes.new.items ≡ map view nodes.old.items ++ input_node ∷ []) }
 {
     let mut values = Vec::new(alloc);
     values.push(Value::try_from_str(alloc, "i")?)?;
-    Ok(list(values))
+    nodes.push(list(values))?;
+    Ok(())
 }
 
 /// Adds the nodes of a tree to a list, as deep as the tree is.
@@ -69,22 +78,18 @@ fn add_nodes(alloc: Global, nodes: &mut Vec<Value>, tree: &Quast) -> Result<(), 
 {
     match tree {
         Quast::Test { form, yes, no } => {
-            nodes.push(test(alloc, form)?)?;
+            add_test(alloc, nodes, form)?;
             add_nodes(alloc, nodes, yes)?;
             add_nodes(alloc, nodes, no)
         }
         Quast::Div { form, by, rest } => {
-            nodes.push(div(alloc, form, *by)?)?;
+            add_div(alloc, nodes, form, *by)?;
             add_nodes(alloc, nodes, rest)
         }
         Quast::Source { statement, forms } => {
-            nodes.push(source(alloc, *statement, forms.as_slice())?)?;
-            Ok(())
+            add_source(alloc, nodes, *statement, forms.as_slice())
         }
-        Quast::Input => {
-            nodes.push(input(alloc)?)?;
-            Ok(())
-        }
+        Quast::Input => add_input(alloc, nodes),
     }
 }
 
