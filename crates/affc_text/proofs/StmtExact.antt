@@ -6,7 +6,7 @@ use Rattle.affc_grammar.specs.Grammar as g
 use Rattle.affc_grammar.specs.Grammar.{Symbol, Name, mark, word, IxText, StepText, LocalsText, StmtsText, StmtText, SimpleText, BodyText, ix_symbols, dims_symbols, conds_symbols, step_symbols, locals_symbols, stmts_symbols}
 use Rattle.affc_grammar.specs.Draft as d
 use Rattle.affc_grammar.specs.Draft.{StmtDraft, StmtsDraft, and_stmt, no_stmts, WordDraft, word_draft, ix_draft, dims_draft, conds_draft, value_draft, step_draft, bound_rel, head_draft, head_length, locals_draft, stmts_draft, stmt_draft, simple_draft, body_draft}
-use Rattle.affc_grammar.specs.Reader.{At, Reader, then_read, give, fail, deep, after, on, all, Turn, going, done, tries, until, and_on, inside}
+use Rattle.affc_grammar.specs.Reader.{At, Deep, Read, Reader, then_read, give, fail, deep, after, on, all, Turn, going, done, tries, until, and_on, inside}
 use Rattle.affc_grammar.specs.Reading as r
 use Rattle.affc_grammar.specs.Reading.{this_mark, this_word, any_word, one, bound_of, assign_of, choose, head_words, First, a_word, a_brace, first_of}
 use Rattle.affc_grammar.specs.Reading.{stmts_inside as grammar_stmts, block_inside as grammar_block}
@@ -15,7 +15,7 @@ use Rattle.affc_grammar.proofs.Rule.{Rule}
 use Rattle.affc_grammar.proofs.Tests.{first_symbol}
 use Rattle.affc_grammar.specs.Limits.{count_open}
 use Rattle.affc_syntax.specs.Ahead.{past}
-use Rattle.affc_syntax.specs.Readers.{on_past, mapped, all_more}
+use Rattle.affc_syntax.specs.Readers.{on_past, closed, mapped, all_more}
 use Rattle.affc_syntax.specs.IxReading as ix
 use Rattle.affc_syntax.specs.ValueReading.{value}
 use Rattle.affc_syntax.proofs.Draws.{Draws, Placed, then_is, either_mapped, past_one, failed, closed_is, all_is, lifted}
@@ -23,7 +23,7 @@ use Rattle.affc_syntax.proofs.IxExact.{expression_is, inside_is, dims_is}
 use Rattle.affc_syntax.proofs.CondExact.{conds_is}
 use Rattle.affc_syntax.proofs.ValueExact.{value_is}
 use Rattle.affc_text.specs.Parts.{Head, for_head, if_head, Heads, Block, no_items, with_head, under, and_one, whole}
-use Rattle.affc_text.specs.StmtReading.{conds_inside, expression, named, stepped, step, tested, for_behind, if_behind, head_behind, assigned, assigned_under, worded, body_turn, going_on, tries_more, until_done, under_heads, simple, statement, stmt_more, is_none, local_behind, block_stmt, block_more, stmts_inside, block_inside}
+use Rattle.affc_text.specs.StmtReading.{conds_inside, expression, named, stepped, step, step_closed, tested, for_behind, if_behind, head_behind, assigned, assigned_under, worded, body_turn, going_on, tries_more, until_done, under_heads, simple, statement, stmt_more, is_none, local_behind, block_stmt, block_more, stmts_inside, block_inside}
 use Rattle.affc_text.proofs.StmtReads.{covered_last}
 
 -- ---- A token, and what is read behind it
@@ -34,6 +34,15 @@ on_is test f h e ts k = either_mapped test f fail h (Err (At ts)) e ts k (failed
 then_on : {K A B : Type 0} (o : Option (K × List Symbol)) (c : K → A) (ts : List Symbol) (h : A → Reader Symbol B) → then_read (on_past o (λ k us. Ok (c k, us)) (Err (At ts))) h ≡ on_past o (λ k us. h (c k) us) (Err (At ts))
 then_on None c ts h = refl
 then_on (Some p) c ts h = refl
+
+pub past_then : {K A B : Type 0} (o : Option (K × List Symbol)) (f : K → Reader Symbol A) (ts : List Symbol) (h : A → Reader Symbol B) → then_read (on_past o f (Err (At ts))) h ≡ on_past o (λ k us. then_read (f k us) h) (Err (At ts))
+past_then None f ts h = refl
+past_then (Some p) f ts h = refl
+
+pub then_assoc : {A B C : Type 0} (x : Read Symbol A) (f : A → Reader Symbol B) (h : B → Reader Symbol C) → then_read x (λ a us. then_read (f a us) h) ≡ then_read (then_read x f) h
+then_assoc (Ok x) f h = refl
+then_assoc (Err (At ts)) f h = refl
+then_assoc (Err Deep) f h = refl
 
 pub drawn_then : {K A B D : Type 0} (test : Symbol → Option K) (c : K → A) (f : K → Reader Symbol B) (h : A → Reader Symbol D) (e : B → D) (ts : List Symbol) → ((k : K) (us : List Symbol) → past test ts ≡ Some (k, us) → h (c k) us ≡ mapped e (f k us))
     → then_read (on_past (past test ts) (λ k us. Ok (c k, us)) (Err (At ts))) h ≡ mapped e (on test f ts)
@@ -79,6 +88,17 @@ step_is end ts le =
     either_mapped (this_mark (codes "++")) _ _ (λ _ vs. Ok (word_draft at w, vs)) _ (step_draft at) us (λ k vs o. refl)
     (on_is (this_mark (codes "+=")) _ (λ _ vs. on_past (past one vs) (λ _ ws. Ok (word_draft at w, ws)) (Err (At vs))) (step_draft at) us (λ k vs o.
     on_is one _ (λ _ ws. Ok (word_draft at w, ws)) (step_draft at) vs (λ k ws u. refl)))))
+
+-- the step is read, and joins what stands before it
+step_as_read : {A : Type 0} (end : ℕ) (h : WordDraft → A) (ws : List Symbol) → then_read (step_closed end ws) (λ s us. Ok (h s, us))
+    ≡ on_past (past (this_mark (codes ";")) ws) (λ _ xs. then_read (step end xs) (λ s ys. closed (codes ")") (h s) ys)) (Err (At ws))
+step_as_read {A} end h ws = past_then (past (this_mark (codes ";")) ws) _ ws joins ∙ (λ i. on_past (past (this_mark (codes ";")) ws) (λ _ xs. behind_mark xs i) (Err (At ws)))
+  where
+    joins : WordDraft → Reader Symbol A
+    joins s us = Ok (h s, us)
+
+    behind_mark : (xs : List Symbol) → then_read (then_read (step end xs) (λ s ys. closed (codes ")") s ys)) joins ≡ then_read (step end xs) (λ s ys. closed (codes ")") (h s) ys)
+    behind_mark xs = sym (then_assoc (step end xs) _ joins) ∙ (λ i. then_read (step end xs) (λ s ys. past_then (past (this_mark (codes ")")) ys) (λ _ zs. Ok (s, zs)) ys joins i))
 
 -- ---- Heads
 
@@ -153,6 +173,7 @@ module _ (prelude : Bool) (end room : ℕ) where
       let high_at : end - length vs ≡ n + 2 = omega arith in
       then_is (ix.inside prelude end room vs) (r.ix_inside prelude room vs) (ix_draft (end - length vs)) _ _ (head_of at) (inside_is prelude end room vs less) (λ high ws q.
       let count = ap length ((ix_inside_rule prelude room).sound vs high ws q) ∙ length-append (ix_symbols high) ws in
+      step_as_read end (λ s. for_head (record { at = at; iterator = word_draft (at + 3) iterator; low = ix_draft (at + 5) low; tested = word_draft (end - length ts) w; rel = bound_rel strict; high = ix_draft (end - length vs) high; stepped = s })) ws ∙
       on_is (this_mark (codes ";")) _ _ (head_of at) ws (λ k xs c.
       let third = past_one (this_mark (codes ";")) ws k xs c in
       let fewer : length xs ≤ end = omega arith in
@@ -231,12 +252,38 @@ never true true = refl
 never true false = refl
 never false c = refl
 
+-- the local is read, and joins the others
+local_as_read : (end room : ℕ) (b : Block) (us : List Symbol) → local_behind end room b us ≡
+    then_read (named end us) (λ w vs.
+    on_past (past (this_mark (codes "=")) vs) (λ _ ws.
+    then_read (expression true end room ws) (λ a xs. closed (codes ";") (record { locals = b.locals ++ record { at = w.at; name = w.name; value = a } ∷ []; stmts = b.stmts }) xs))
+    (Err (At vs)))
+local_as_read end room b us = sym (then_assoc (named end us) _ joins) ∙ (λ i. then_read (named end us) (λ w vs. behind_name w vs i))
+  where
+    joins : d.LocalDraft → Reader Symbol Block
+    joins l xs = Ok (record { locals = b.locals ++ l ∷ []; stmts = b.stmts }, xs)
+
+    given : WordDraft → d.IxDraft → d.LocalDraft
+    given w a = record { at = w.at; name = w.name; value = a }
+
+    behind_mark : (w : WordDraft) (ws : List Symbol) → then_read (then_read (expression true end room ws) (λ a xs. closed (codes ";") (given w a) xs)) joins ≡ then_read (expression true end room ws) (λ a xs. closed (codes ";") (record { locals = b.locals ++ given w a ∷ []; stmts = b.stmts }) xs)
+    behind_mark w ws =
+        sym (then_assoc (expression true end room ws) _ joins)
+        ∙ (λ i. then_read (expression true end room ws) (λ a xs. past_then (past (this_mark (codes ";")) xs) (λ _ ys. Ok (given w a, ys)) xs joins i))
+
+    behind_name : (w : WordDraft) (vs : List Symbol) → then_read (on_past (past (this_mark (codes "=")) vs) (λ _ ws. then_read (expression true end room ws) (λ a xs. closed (codes ";") (given w a) xs)) (Err (At vs))) joins
+        ≡ on_past (past (this_mark (codes "=")) vs) (λ _ ws. then_read (expression true end room ws) (λ a xs. closed (codes ";") (record { locals = b.locals ++ given w a ∷ []; stmts = b.stmts }) xs)) (Err (At vs))
+    behind_name w vs =
+        past_then (past (this_mark (codes "=")) vs) _ vs joins
+        ∙ (λ i. on_past (past (this_mark (codes "=")) vs) (λ _ ws. behind_mark w ws i) (Err (At vs)))
+
 -- behind `const int64_t`
 local_is : (end room p : ℕ) (ls : LocalsText true) (us : List Symbol) → length us ≤ end → end - length us ≡ p + length (locals_symbols ls) + 2
     → local_behind end room (record { locals = locals_draft p ls; stmts = no_stmts }) us ≡ mapped (block_of p) (r.local_behind room ls us)
 unfolding after
 local_is end room p ls us le e =
     let next = p + length (locals_symbols ls) in
+    local_as_read end room (record { locals = locals_draft p ls; stmts = no_stmts }) us ∙
     drawn_then any_word (word_draft (end - length us)) _ _ (block_of p) us (λ w vs c.
     let first = past_one any_word us w vs c in
     on_is (this_mark (codes "=")) _ _ (block_of p) vs (λ k ws c.

@@ -24,7 +24,7 @@ use Rattle.affc_syntax.proofs.IxReads.{inside_left, expression_left, dims_left}
 use Rattle.affc_syntax.proofs.CondReads.{conds_left}
 use Rattle.affc_syntax.proofs.ValueReads.{value_left}
 use Rattle.affc_text.specs.Parts.{Head, for_head, if_head, Heads, Block, no_items, with_head, covered, under, and_one, whole, stmts}
-use Rattle.affc_text.specs.StmtReading.{conds_inside, expression, compared, assignment, named, stepped, step, tested, for_behind, if_behind, head_behind, assigned, assigned_under, worded, body_turn, going_on, tries_more, until_done, under_heads, simple, statement, stmt_more, is_none, local_behind, block_stmt, may_be_local, block_more, stmts_inside, block_inside, stmts as read_stmts, items}
+use Rattle.affc_text.specs.StmtReading.{conds_inside, expression, compared, assignment, named, stepped, step, step_closed, tested, for_behind, if_behind, head_behind, assigned, assigned_under, worded, body_turn, going_on, tries_more, until_done, under_heads, simple, statement, stmt_more, is_none, local, local_behind, block_stmt, may_be_local, block_more, stmts_inside, block_inside, stmts as read_stmts, items}
 
 -- ---- Lists of statements and of heads
 
@@ -134,11 +134,21 @@ stepped_left w ts =
 pub step_left : (end : ℕ) → Shrinks (step end)
 step_left end ts = on_test (this_mark (codes "++")) _ _ ts (λ _ us. named_left end us) (left_then (named end ts) stepped (length ts) (named_left end ts) stepped_left)
 
+step_closed_left : (end : ℕ) → Shrinks (step_closed end)
+step_closed_left end ts = on_test (this_mark (codes ";")) _ (Err (At ts)) ts (λ _ us. left_then (step end us) _ (length us) (step_left end us) (λ s. closed_left (codes ")") s)) (left_fail (At ts) (length ts))
+
 compared_left : Shrinks compared
 compared_left ts = on_test bound_of _ _ ts (λ strict us. left_give (bound_rel strict) us (length us) (omega arith)) (left_fail (At ts) (length ts))
 
 assignment_left : Shrinks assignment
 assignment_left ts = on_test assign_of _ _ ts (λ op us. left_give op us (length us) (omega arith)) (left_fail (At ts) (length ts))
+
+local_left : (end room : ℕ) → Shrinks (local end room)
+local_left end room ts =
+    left_then (named end ts) _ (length ts) (named_left end ts) (λ w us.
+    on_test (this_mark (codes "=")) _ (Err (At us)) us (λ _ vs.
+    left_then (expression true end room vs) _ (length vs) (expression_left true end (ix.inside true end room) (inside_left true end room) vs) (λ a. closed_left (codes ";") _))
+    (left_fail (At us) (length us)))
 
 conds_inside_left : (prelude : Bool) (end room : ℕ) → Shrinks (conds_inside prelude end room)
 unfolding conds_inside
@@ -154,7 +164,7 @@ module _ (prelude : Bool) (end room : ℕ) where
       left_then (named end ts) _ (length ts) (named_left end ts) (λ v us.
       left_then (compared us) _ (length us) (compared_left us) (λ rel vs.
       left_then (ix.inside prelude end room vs) _ (length vs) (inside_left prelude end room vs) (λ high ws.
-      on_test (this_mark (codes ";")) _ (Err (At ws)) ws (λ _ xs. left_then (step end xs) _ (length xs) (step_left end xs) (λ n. closed_left (codes ")") (for_head (record { at = at; iterator = w; low = low; tested = v; rel = rel; high = high; stepped = n })))) (left_fail (At ws) (length ws)))))
+      left_then (step_closed end ws) _ (length ws) (step_closed_left end ws) (λ n xs. left_give (for_head (record { at = at; iterator = w; low = low; tested = v; rel = rel; high = high; stepped = n })) xs (length xs) (omega arith)))))
 
   for_left : (at : ℕ) → Shrinks (for_behind prelude end room at)
   for_left at ts =
@@ -213,15 +223,11 @@ module _ (prelude : Bool) (end room : ℕ) where
     pub block_more_left : (first : First) (b : Block) → Shrinks (block_more prelude end room body inner first b)
     block_more_left first b us = of_test (may_be_local prelude first b.stmts)
       where
-        local_left : Shrinks (local_behind end room b)
-        local_left ts =
-            left_then (named end ts) _ (length ts) (named_left end ts) (λ w vs.
-            on_test (this_mark (codes "=")) _ (Err (At vs)) vs (λ _ ws.
-            left_then (expression true end room ws) _ (length ws) (expression_left true end (ix.inside true end room) (inside_left true end room) ws) (λ a. closed_left (codes ";") _))
-            (left_fail (At vs) (length vs)))
+        behind_left : Shrinks (local_behind end room b)
+        behind_left ts = left_then (local end room ts) _ (length ts) (local_left end room ts) (λ l vs. left_give (record { locals = b.locals ++ l ∷ []; stmts = b.stmts }) vs (length vs) (omega arith))
 
         of_test : (t : Bool) → Left (if t then on_past (past (this_word (codes "int64_t")) us) (λ _ vs. local_behind end room b vs) (block_stmt prelude end room body inner first b us) else block_stmt prelude end room body inner first b us) (length us)
-        of_test true = on_test (this_word (codes "int64_t")) _ _ us (λ _ vs. local_left vs) (block_stmt_left first b us)
+        of_test true = on_test (this_word (codes "int64_t")) _ _ us (λ _ vs. behind_left vs) (block_stmt_left first b us)
         of_test false = block_stmt_left first b us
 
 mutual

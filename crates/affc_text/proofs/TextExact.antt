@@ -6,7 +6,7 @@ use Rattle.affc_ast.specs.declared.tree.Role.TheVariants.{Input, Output, Temp}
 use Rattle.affc_grammar.specs.Grammar as g
 use Rattle.affc_grammar.specs.Grammar.{Symbol, Name, LineText, line_feed, text_end, mark, word, StmtsText, ParamText, ParamsText, NamesText, DeclsText, FunctionText, PragmasText, Text, has_call, context_calls, ix_symbols, dims_symbols, dim_symbols, conds_symbols, stmts_symbols, const_symbols, param_symbols, params_symbols, names_symbols, decls_symbols, function_symbols, int_symbols, line_symbols, pragmas_symbols, include_symbols, prelude_symbols}
 use Rattle.affc_grammar.specs.Draft as d
-use Rattle.affc_grammar.specs.Draft.{StmtsDraft, and_stmt, no_stmts, DeclDraft, ParamDraft, number_param, array_param, word_draft, ix_draft, dims_draft, conds_draft, stmts_draft, stmt_draft, array_role, param_draft, params_draft, temp_draft, names_draft, decls_draft, int_value, pragmas_draft, text_draft}
+use Rattle.affc_grammar.specs.Draft.{StmtsDraft, and_stmt, no_stmts, IxDraft, DeclDraft, ParamDraft, number_param, array_param, word_draft, ix_draft, dims_draft, conds_draft, stmts_draft, stmt_draft, array_role, param_draft, params_draft, temp_draft, names_draft, decls_draft, int_value, pragmas_draft, text_draft}
 use Rattle.affc_grammar.specs.Reader.{At, Deep, Read, Reader, then_read, give, fail, deep, after, either, on, all, inside, finished}
 use Rattle.affc_grammar.specs.Reading as r
 use Rattle.affc_grammar.specs.Reading.{this_mark, this_word, any_word, any_number, is_number_kind, hash, header, the_prelude, line_end, First, a_word, a_brace, first_of, read_text, holding}
@@ -35,20 +35,41 @@ use Rattle.affc_syntax.specs.declared.ahead.Stop.TheVariants as s
 use Rattle.affc_text.specs.Answers.{IsRead}
 use Rattle.affc_text.specs.Parts.{Inside, no_inside, Function, Lines, no_lines}
 use Rattle.affc_text.specs.StmtReading.{named, ends_line, is_none, statement, stmts_inside, block_inside}
-use Rattle.affc_text.specs.TextReading.{array, param, param_more, params, params_inside, temp, temp_more, more_temps, decl_behind, inside_stmt, inside_more, inner, function_inside, function, int, line_closed, range_behind, taken, context_behind, line_more, more_lines, ended, rest, lines_behind, include_behind, text}
-use Rattle.affc_text.proofs.StmtExact.{on_is, drawn_then, statement_is, stmts_inside_is, block_inside_is}
+use Rattle.affc_text.specs.TextReading.{extents, array, param, param_more, params, params_inside, temp, temp_more, more_temps, decl_behind, inside_stmt, inside_more, inner, function_inside, function, int, line_closed, range_behind, taken, context_behind, line_more, more_lines, ended, rest, lines_behind, include_behind, text}
+use Rattle.affc_text.proofs.StmtExact.{on_is, past_then, drawn_then, then_assoc, statement_is, stmts_inside_is, block_inside_is}
 
 mapped_give : {A D E : Type 0} (x : Read Symbol A) (f : A → D) (c : D → E) → then_read (mapped f x) (λ a us. Ok (c a, us)) ≡ mapped (λ a. c (f a)) x
 mapped_give (Ok x) f c = refl
 mapped_give (Err (At ts)) f c = refl
 mapped_give (Err Deep) f c = refl
 
-then_assoc : {A B C : Type 0} (x : Read Symbol A) (f : A → Reader Symbol B) (h : B → Reader Symbol C) → then_read x (λ a us. then_read (f a us) h) ≡ then_read (then_read x f) h
-then_assoc (Ok x) f h = refl
-then_assoc (Err (At ts)) f h = refl
-then_assoc (Err Deep) f h = refl
-
 -- ---- Parameters
+
+-- the extents are read, and join what stands before them
+extents_as_read : {A : Type 0} (prelude : Bool) (end room : ℕ) (h : List IxDraft → A) (us : List Symbol) → then_read (extents prelude end room us) (λ es vs. Ok (h es, vs))
+    ≡ on_past (past (this_mark (codes "[")) us) (λ _ vs.
+    then_read (ix.inside prelude end room vs) (λ a ws.
+    on_past (past (this_mark (codes "]")) ws) (λ _ xs. then_read (ix.dims prelude end room xs) (λ ds ys. Ok (h (a ∷ ds), ys))) (Err (At ws))))
+    (Err (At us))
+extents_as_read {A} prelude end room h us = past_then (past (this_mark (codes "[")) us) _ us joins ∙ (λ i. on_past (past (this_mark (codes "[")) us) (λ _ vs. behind_mark vs i) (Err (At us)))
+  where
+    joins : List IxDraft → Reader Symbol A
+    joins es vs = Ok (h es, vs)
+
+    others : IxDraft → Reader Symbol (List IxDraft)
+    others a xs = then_read (ix.dims prelude end room xs) (λ ds ys. Ok (a ∷ ds, ys))
+
+    behind_first : (a : IxDraft) (ws : List Symbol) → then_read (on_past (past (this_mark (codes "]")) ws) (λ _ xs. others a xs) (Err (At ws))) joins
+        ≡ on_past (past (this_mark (codes "]")) ws) (λ _ xs. then_read (ix.dims prelude end room xs) (λ ds ys. Ok (h (a ∷ ds), ys))) (Err (At ws))
+    behind_first a ws =
+        past_then (past (this_mark (codes "]")) ws) (λ _ xs. others a xs) ws joins
+        ∙ (λ i. on_past (past (this_mark (codes "]")) ws) (λ _ xs. sym (then_assoc (ix.dims prelude end room xs) (λ ds ys. Ok (a ∷ ds, ys)) joins) i) (Err (At ws)))
+
+    behind_mark : (vs : List Symbol) → then_read (then_read (ix.inside prelude end room vs) (λ a ws. on_past (past (this_mark (codes "]")) ws) (λ _ xs. others a xs) (Err (At ws)))) joins
+        ≡ then_read (ix.inside prelude end room vs) (λ a ws. on_past (past (this_mark (codes "]")) ws) (λ _ xs. then_read (ix.dims prelude end room xs) (λ ds ys. Ok (h (a ∷ ds), ys))) (Err (At ws)))
+    behind_mark vs =
+        sym (then_assoc (ix.inside prelude end room vs) (λ a ws. on_past (past (this_mark (codes "]")) ws) (λ _ xs. others a xs) (Err (At ws))) joins)
+        ∙ (λ i. then_read (ix.inside prelude end room vs) (λ a ws. behind_first a ws i))
 
 module _ (prelude : Bool) (end room : ℕ) where
   array_is : (at : ℕ) (is_const : Bool) (ts : List Symbol) → length ts ≤ end → end - length ts ≡ at + length (const_symbols is_const) + 1 → array prelude end room (array_role is_const) ts ≡ mapped (param_draft at) (r.read_array prelude room is_const ts)
@@ -57,6 +78,7 @@ module _ (prelude : Bool) (end room : ℕ) where
       let n = at + length (const_symbols is_const) + 1 in
       drawn_then any_word (word_draft (end - length ts)) _ _ (param_draft at) ts (λ w us c.
       let one = past_one any_word ts w us c in
+      extents_as_read prelude end room (λ es. array_param (record { word = word_draft (end - length ts) w; role = array_role is_const; extents = es })) us ∙
       on_is (this_mark (codes "[")) _ _ (param_draft at) us (λ k vs c.
       let two = past_one (this_mark (codes "[")) us k vs c in
       let less : length vs ≤ end = omega arith in

@@ -19,19 +19,23 @@ use Rattle.affc_syntax.proofs.CondReads.{conds_left}
 use Rattle.affc_text.specs.Calls.{begins_call}
 use Rattle.affc_text.specs.Parts.{Inside, Lines}
 use Rattle.affc_text.specs.StmtReading.{named, ends_line, statement, stmts_inside, block_inside}
-use Rattle.affc_text.specs.TextReading.{array, param, param_more, params, params_inside, temp, temp_more, more_temps, decl_behind, inside_stmt, may_be_decl, inside_more, int, line_closed, range_behind, taken, context_behind, line_more}
+use Rattle.affc_text.specs.TextReading.{extents, array, param, param_more, params, params_inside, temp, temp_more, more_temps, decl_behind, inside_stmt, may_be_decl, inside_more, int, line_closed, range_behind, taken, context_behind, line_more}
 use Rattle.affc_text.proofs.StmtReads.{named_left, statement_left, stmts_inside_left, block_inside_left}
 
 module _ (prelude : Bool) (end room : ℕ) where
+  extents_left : Shrinks (extents prelude end room)
+  extents_left ts =
+      on_test (this_mark (codes "[")) _ (Err (At ts)) ts (λ _ us.
+      left_then (ix.inside prelude end room us) _ (length us) (inside_left prelude end room us) (λ a vs.
+      on_test (this_mark (codes "]")) _ (Err (At vs)) vs (λ _ ws.
+      left_then (ix.dims prelude end room ws) _ (length ws) (dims_left prelude end room ws) (λ ds xs. left_give (a ∷ ds) xs (length xs) (omega arith)))
+      (left_fail (At vs) (length vs))))
+      (left_fail (At ts) (length ts))
+
   array_left : (role : Role) → Shrinks (array prelude end room role)
   array_left role ts =
       left_then (named end ts) _ (length ts) (named_left end ts) (λ w us.
-      on_test (this_mark (codes "[")) _ (Err (At us)) us (λ _ vs.
-      left_then (ix.inside prelude end room vs) _ (length vs) (inside_left prelude end room vs) (λ a ws.
-      on_test (this_mark (codes "]")) _ (Err (At ws)) ws (λ _ xs.
-      left_then (ix.dims prelude end room xs) _ (length xs) (dims_left prelude end room xs) (λ ds ys. left_give (array_param (record { word = w; role = role; extents = a ∷ ds })) ys (length ys) (omega arith)))
-      (left_fail (At ws) (length ws))))
-      (left_fail (At us) (length us)))
+      left_then (extents prelude end room us) _ (length us) (extents_left us) (λ es vs. left_give (array_param (record { word = w; role = role; extents = es })) vs (length vs) (omega arith)))
 
   param_left : Shrinks (param prelude end room)
   param_left ts =

@@ -6,7 +6,7 @@ use Rattle.affc_lex.specs.Bytes.{same}
 use Rattle.affc_ast.specs.declared.tree.Op.{Op}
 use Rattle.affc_ast.specs.declared.tree.Rel.{Rel}
 use Rattle.affc_grammar.specs.Grammar.{Symbol, Name}
-use Rattle.affc_grammar.specs.Draft.{IxDraft, CompareDraft, WordDraft, StmtsDraft, no_stmts, and_stmt, StmtDraft, assign, block, word_draft, bound_rel}
+use Rattle.affc_grammar.specs.Draft.{IxDraft, CompareDraft, LocalDraft, WordDraft, StmtsDraft, no_stmts, and_stmt, StmtDraft, assign, block, word_draft, bound_rel}
 use Rattle.affc_grammar.specs.Reader.{At, Deep, Reader, then_read, Turn, going, done}
 use Rattle.affc_grammar.specs.Reading.{this_mark, this_word, any_word, line_end, one, bound_of, assign_of, choose, head_words, First, a_word, a_brace, first_of}
 use Rattle.affc_syntax.specs.Ahead.{past}
@@ -58,15 +58,17 @@ stepped w ts =
 abbrev pub step : (end : ℕ) → Reader Symbol WordDraft
 step end ts = on_past (past (this_mark (codes "++")) ts) (λ _ us. named end us) (then_read (named end ts) stepped)
 
+-- behind the bounds of a `for`: its step, up to its `)`
+abbrev pub step_closed : (end : ℕ) → Reader Symbol WordDraft
+step_closed end ts = on_past (past (this_mark (codes ";")) ts) (λ _ us. then_read (step end us) (λ s vs. closed (codes ")") s vs)) (Err (At ts))
+
 -- behind the first `;` of a `for`
 abbrev pub tested : (prelude : Bool) (end room at : ℕ) (iterator : WordDraft) (low : IxDraft) → Reader Symbol Head
 tested prelude end room at iterator low ts =
     then_read (named end ts) (λ w us.
     then_read (compared us) (λ rel vs.
     then_read (ix.inside prelude end room vs) (λ high ws.
-    on_past (past (this_mark (codes ";")) ws) (λ _ xs.
-    then_read (step end xs) (λ s ys. closed (codes ")") (for_head (record { at = at; iterator = iterator; low = low; tested = w; rel = rel; high = high; stepped = s })) ys))
-    (Err (At ws)))))
+    then_read (step_closed end ws) (λ s xs. Ok (for_head (record { at = at; iterator = iterator; low = low; tested = w; rel = rel; high = high; stepped = s }), xs)))))
 
 -- behind `for (`
 abbrev pub for_behind : (prelude : Bool) (end room at : ℕ) → Reader Symbol Head
@@ -139,13 +141,17 @@ abbrev pub is_none : StmtsDraft → Bool
 is_none no_stmts = true
 is_none (and_stmt ss s) = false
 
+-- a local, behind its `const int64_t`
+abbrev pub local : (end room : ℕ) → Reader Symbol LocalDraft
+local end room ts =
+    then_read (named end ts) (λ w us.
+    on_past (past (this_mark (codes "=")) us) (λ _ vs.
+    then_read (expression true end room vs) (λ a ws. closed (codes ";") (record { at = w.at; name = w.name; value = a }) ws))
+    (Err (At us)))
+
 -- behind `const int64_t`
 abbrev pub local_behind : (end room : ℕ) → Block → Reader Symbol Block
-local_behind end room b us =
-    then_read (named end us) (λ w vs.
-    on_past (past (this_mark (codes "=")) vs) (λ _ ws.
-    then_read (expression true end room ws) (λ a xs. closed (codes ";") (record { locals = b.locals ++ record { at = w.at; name = w.name; value = a } ∷ []; stmts = b.stmts }) xs))
-    (Err (At vs)))
+local_behind end room b ts = then_read (local end room ts) (λ l us. Ok (record { locals = b.locals ++ l ∷ []; stmts = b.stmts }, us))
 
 abbrev pub block_stmt : (prelude : Bool) (end room : ℕ) → Reader Symbol StmtsDraft → Reader Symbol StmtDraft → First → Block → Reader Symbol Block
 block_stmt prelude end room body inner first b us = then_read (statement prelude end room body inner first us) (λ s vs. Ok (record { locals = b.locals; stmts = and_stmt b.stmts s }, vs))

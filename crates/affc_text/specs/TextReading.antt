@@ -4,7 +4,7 @@ use Rattle.std.specs.Prelude.{[], ◌∷◌, ◌++◌, ℕ, zero, suc, ◌-◌, 
 use Rattle.affc_ast.specs.declared.tree.Role.{Role}
 use Rattle.affc_ast.specs.declared.tree.Role.TheVariants.{Input, Output, Temp}
 use Rattle.affc_grammar.specs.Grammar.{Symbol, Name, has_call}
-use Rattle.affc_grammar.specs.Draft.{WordDraft, word_draft, StmtsDraft, and_stmt, DeclDraft, ParamDraft, number_param, array_param, range, context, TextDraft}
+use Rattle.affc_grammar.specs.Draft.{IxDraft, WordDraft, word_draft, StmtsDraft, and_stmt, DeclDraft, ParamDraft, number_param, array_param, range, context, TextDraft}
 use Rattle.affc_grammar.specs.Reader.{At, Deep, Reader, then_read}
 use Rattle.affc_grammar.specs.Reading.{this_mark, this_word, any_word, hash, header, the_prelude, First, first_of}
 use Rattle.affc_syntax.specs.Ahead.{past, number_value}
@@ -16,16 +16,18 @@ use Rattle.affc_text.specs.StmtReading.{named, ends_line, is_none, is_first_word
 
 -- ---- Parameters
 
+-- extents, each in its brackets, of which there is one or more
+abbrev pub extents : (prelude : Bool) (end room : ℕ) → Reader Symbol (List IxDraft)
+extents prelude end room ts =
+    on_past (past (this_mark (codes "[")) ts) (λ _ us.
+    then_read (ix.inside prelude end room us) (λ a vs.
+    on_past (past (this_mark (codes "]")) vs) (λ _ ws. then_read (ix.dims prelude end room ws) (λ ds xs. Ok (a ∷ ds, xs)))
+    (Err (At vs))))
+    (Err (At ts))
+
 -- behind `uint64_t`
 abbrev pub array : (prelude : Bool) (end room : ℕ) → Role → Reader Symbol ParamDraft
-array prelude end room role ts =
-    then_read (named end ts) (λ w us.
-    on_past (past (this_mark (codes "[")) us) (λ _ vs.
-    then_read (ix.inside prelude end room vs) (λ a ws.
-    on_past (past (this_mark (codes "]")) ws) (λ _ xs.
-    then_read (ix.dims prelude end room xs) (λ ds ys. Ok (array_param (record { word = w; role = role; extents = a ∷ ds }), ys)))
-    (Err (At ws))))
-    (Err (At us)))
+array prelude end room role ts = then_read (named end ts) (λ w us. then_read (extents prelude end room us) (λ es vs. Ok (array_param (record { word = w; role = role; extents = es }), vs)))
 
 abbrev pub param : (prelude : Bool) (end room : ℕ) → Reader Symbol ParamDraft
 param prelude end room ts =

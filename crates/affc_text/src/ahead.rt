@@ -224,7 +224,7 @@ pub(crate) fn assignment(symbols: &[Symbol<'_>], at: usize) -> Answer<Option<Op>
 }
 
 /// The first token of a statement.
-#[derive(Clone, Copy, Drop)]
+#[derive(Clone, Copy)]
 pub(crate) enum First<'t> {
     Word(&'t str),
     Brace,

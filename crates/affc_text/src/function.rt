@@ -2,7 +2,7 @@
 
 ghost use Rattle.std.specs.Prelude.{◌≡◌, [], drop, length, map};
 ghost use Rattle.affc_syntax.specs.draft.Drafts as drafts;
-ghost use Rattle.affc_syntax.specs.draft.Drafts.{decl, param as param_seen, word};
+ghost use Rattle.affc_syntax.specs.draft.Drafts.{decl, ix, param as param_seen, word};
 ghost use Rattle.affc_syntax.specs.draft.Symbols.{seen};
 ghost use Rattle.affc_syntax.specs.Readers.{Gives};
 ghost use Rattle.affc_text.specs.Parts as parts;
@@ -16,7 +16,7 @@ use affc_ast::tree::Role;
 use affc_syntax::ahead::{
     Answer, Stop, behind, behind_word, drafted_word, past_mark, past_this_word, past_word,
 };
-use affc_syntax::draft::draft::{DeclDraft, ParamDraft, StmtDraft, WordDraft};
+use affc_syntax::draft::draft::{DeclDraft, IxDraft, ParamDraft, StmtDraft, WordDraft};
 use affc_syntax::draft::symbol::Symbol;
 use affc_syntax::here::{dims_here, inside_here};
 use std::alloc::Global;
@@ -39,8 +39,28 @@ pub(crate) struct Function {
 
 // ---- Parameters
 
-/// Behind `uint64_t`.
+/// The extents that stand here, of which there is one or more.
 #[tactic(auto, using(crate::proofs::StmtReads::parts))]
+fn extents(
+    alloc: Global,
+    prelude: bool,
+    room: u32,
+    symbols: &[Symbol<'_>],
+    next: usize,
+) -> Answer<Items<IxDraft>>
+    ensures { Gives (map seen symbols.now) (map ix) result (reading.extents prelude (length symbols.now) room (drop next (map seen symbols.now))) }
+{
+    let next = behind(b"[", symbols, next)?;
+    let (first, next) = inside_here(alloc, prelude, room, symbols, next)?;
+    let next = behind(b"]", symbols, next)?;
+    let (others, next) = dims_here(alloc, prelude, room, symbols, next)?;
+    let mut extents = Items::new(alloc);
+    extents.push(first)?;
+    extents.append(others)?;
+    Ok((extents, next))
+}
+
+/// Behind `uint64_t`.
 fn array(
     alloc: Global,
     prelude: bool,
@@ -52,13 +72,7 @@ fn array(
     ensures { Gives (map seen symbols.now) param_seen result (reading.array prelude (length symbols.now) room role (drop next (map seen symbols.now))) }
 {
     let (word, next) = named(alloc, symbols, next)?;
-    let next = behind(b"[", symbols, next)?;
-    let (first, next) = inside_here(alloc, prelude, room, symbols, next)?;
-    let next = behind(b"]", symbols, next)?;
-    let (others, next) = dims_here(alloc, prelude, room, symbols, next)?;
-    let mut extents = Items::new(alloc);
-    extents.push(first)?;
-    extents.append(others)?;
+    let (extents, next) = extents(alloc, prelude, room, symbols, next)?;
     let array = DeclDraft {
         word,
         role,

@@ -2,7 +2,7 @@
 
 ghost use Rattle.std.specs.Prelude.{◌≡◌, ◌++◌, ◌∷◌, [], drop, length, map, IfOk};
 ghost use Rattle.std.specs.Option.{option_map};
-ghost use Rattle.affc_syntax.specs.draft.Drafts.{compare, ix, stmt, word};
+ghost use Rattle.affc_syntax.specs.draft.Drafts.{compare, ix, local as local_seen, stmt, word};
 ghost use Rattle.affc_syntax.specs.draft.Symbols.{seen};
 ghost use Rattle.affc_grammar.specs.Draft as d;
 ghost use Rattle.affc_grammar.specs.Reading as grammar;
@@ -102,6 +102,16 @@ fn step(alloc: Global, symbols: &[Symbol<'_>], next: usize) -> Answer<WordDraft>
     }
 }
 
+/// The step of a `for`, from the `;` before it up to its `)`.
+fn step_closed(alloc: Global, symbols: &[Symbol<'_>], next: usize) -> Answer<WordDraft>
+    ensures { Gives (map seen symbols.now) word result (reading.step_closed (length symbols.now) (drop next (map seen symbols.now))) }
+{
+    let next = behind(b";", symbols, next)?;
+    let (stepped, next) = step(alloc, symbols, next)?;
+    let next = behind(b")", symbols, next)?;
+    Ok((stepped, next))
+}
+
 /// Behind the first `;` of a `for`.
 fn tested(
     alloc: Global,
@@ -118,9 +128,7 @@ fn tested(
     let (tested, next) = named(alloc, symbols, next)?;
     let (rel, next) = compared(symbols, next)?;
     let (high, next) = inside_here(alloc, prelude, room, symbols, next)?;
-    let next = behind(b";", symbols, next)?;
-    let (stepped, next) = step(alloc, symbols, next)?;
-    let next = behind(b")", symbols, next)?;
+    let (stepped, next) = step_closed(alloc, symbols, next)?;
     let head = HeadDraft {
         at,
         iterator,
@@ -484,6 +492,18 @@ pub(crate) fn stmts_inside(
     Ok((stmts, next))
 }
 
+/// A local, behind its `const int64_t`.
+fn local(alloc: Global, room: u32, symbols: &[Symbol<'_>], next: usize) -> Answer<LocalDraft>
+    ensures { Gives (map seen symbols.now) local_seen result (reading.local (length symbols.now) room (drop next (map seen symbols.now))) }
+{
+    let (word, next) = named(alloc, symbols, next)?;
+    let next = behind(b"=", symbols, next)?;
+    let (value, next) = expression_here(alloc, true, room, symbols, next)?;
+    let next = behind(b";", symbols, next)?;
+    let WordDraft { at, name } = word;
+    Ok((LocalDraft { at, name, value }, next))
+}
+
 /// Behind `const int64_t`.
 #[tactic(auto, using(crate::proofs::StmtReads::parts))]
 fn local_behind(
@@ -495,13 +515,9 @@ fn local_behind(
 ) -> Answer<Block>
     ensures { Gives (map seen symbols.now) block_seen result (reading.local_behind (length symbols.now) room (block_seen block) (drop next (map seen symbols.now))) }
 {
-    let (word, next) = named(alloc, symbols, next)?;
-    let next = behind(b"=", symbols, next)?;
-    let (value, next) = expression_here(alloc, true, room, symbols, next)?;
-    let next = behind(b";", symbols, next)?;
-    let WordDraft { at, name } = word;
+    let (local, next) = local(alloc, room, symbols, next)?;
     let Block { mut locals, stmts } = block;
-    locals.push(LocalDraft { at, name, value })?;
+    locals.push(local)?;
     Ok((Block { locals, stmts }, next))
 }
 
