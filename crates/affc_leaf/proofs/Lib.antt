@@ -18,3 +18,4 @@ pub mod RootCuts
 pub mod Scaled
 pub mod Hard
 pub mod Pinning
+pub mod SmallFronts

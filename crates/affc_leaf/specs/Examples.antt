@@ -10,6 +10,7 @@ use Rattle.affc_leaf.specs.Points.{points}
 use Rattle.affc_leaf.specs.Boxed.{SplitsAtZero, IsLeafProof, IsHard}
 use Rattle.affc_leaf.specs.Cuts.{IsDivided}
 use Rattle.affc_leaf.specs.BoxCuts.{without, behind, sum_with}
+use Rattle.affc_leaf.specs.Fronts.{IsFront, IsPinned, pinned}
 
 -- 0 to 9 are ten numbers, -2 to 2 five
 abbrev pub TenTimesFivePoints : Type 0
@@ -50,6 +51,43 @@ RowsBehindTenOthers = behind 10 ((0, 3) ∷ (2, 5) ∷ []) ≡ (10, 3) ∷ (12, 
 abbrev pub SumOfBothLists : Type 0
 SumOfBothLists = sum_with (record { columns = 2; rows = plane (pos 1) (negsuc 0) (negsuc 2) ∷ [] }) (plane (negsuc 0) (pos 0) (pos 2) ∷ []) ((0, 1) ∷ []) ((0, 2) ∷ [])
     ≡ plane (negsuc 0) (negsuc 0) (pos 1)
+
+-- ---- Fronts of that box where x is at least 2
+
+abbrev pub from_two : Rows
+from_two = record { columns = 2; rows = plane (pos 1) (pos 0) (negsuc 1) ∷ [] }
+
+-- the box with one value of x
+abbrev pub at_x : ℤ → List Bound
+at_x v = pinned ten_by_three 0 v
+
+-- what has an x of 2 comes before all points with another one, and (0, 1) is no point
+abbrev pub LeastColumnIsAFront : Type 0
+LeastColumnIsAFront = IsFront from_two ten_by_three (at_x (pos 2))
+
+-- (2, 1) comes before (3, 1)
+abbrev pub LaterColumnIsNoFront : Type 0
+LaterColumnIsNoFront = IsFront from_two ten_by_three (at_x (pos 3)) → ⊥
+
+-- (0, 1) isn't in the box with an x of 2
+abbrev pub WiderPartIsNoFront : Type 0
+WiderPartIsNoFront = IsFront from_two (at_x (pos 2)) ten_by_three → ⊥
+
+-- the point (2, 1) isn't in the box with an x of 3
+abbrev pub BoxIsItsOwnFront : Type 0
+BoxIsItsOwnFront = IsFront from_two (at_x (pos 3)) (at_x (pos 3))
+
+-- y is 2, its rows have their numbers, and x is as it was
+abbrev pub OneValueIsLeft : Type 0
+OneValueIsLeft = pinned ten_by_three 1 (pos 2) ≡ record { low = pos 0; high = pos 9; low_row = 0; high_row = 1 } ∷ record { low = pos 2; high = pos 2; low_row = 2; high_row = 3 } ∷ []
+
+-- with an x of 2 the first column is pinned, the second isn't, and there is no third
+abbrev pub FirstColumnIsPinned : Type 0
+FirstColumnIsPinned = IsPinned 2 (at_x (pos 2)) 1 × (IsPinned 2 (at_x (pos 2)) 2 → ⊥) × (IsPinned 3 (at_x (pos 2)) 1 → ⊥)
+
+-- from 3 to 1 is no range
+abbrev pub TurnedRangeIsNone : Type 0
+TurnedRangeIsNone = IsPinned 1 (record { low = pos 3; high = pos 1; low_row = 0; high_row = 1 } ∷ []) 0 → ⊥
 
 -- ---- Proofs (the boxes hold the proofs in them)
 

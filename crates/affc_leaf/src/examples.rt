@@ -1,6 +1,6 @@
 //! What the definitions give at small boxes, as laws: `specs/Examples.antt` says each, with values that were found
 //! by hand from the rules.
-ghost use Rattle.affc_leaf.specs.Examples.{TenTimesFivePoints, FirstColumnDecides, PartIsAtItsGreatest, PartOfAProductIsTaken, ConstantIsRoundedDown, RowsBehindTenOthers, SumOfBothLists, NoSplitOfMoreThanTheColumn, OnlyLeavesAreLeaves, ContradictionIsNotHard, HalfIsHard};
+ghost use Rattle.affc_leaf.specs.Examples.{TenTimesFivePoints, FirstColumnDecides, PartIsAtItsGreatest, PartOfAProductIsTaken, ConstantIsRoundedDown, RowsBehindTenOthers, SumOfBothLists, LeastColumnIsAFront, LaterColumnIsNoFront, WiderPartIsNoFront, BoxIsItsOwnFront, OneValueIsLeft, FirstColumnIsPinned, TurnedRangeIsNone, NoSplitOfMoreThanTheColumn, OnlyLeavesAreLeaves, ContradictionIsNotHard, HalfIsHard};
 
 /// How many points a box has, and in which order they are.
 pub fn boxes()
@@ -15,6 +15,17 @@ pub fn cuts()
     ensures constant_is_rounded_down { ConstantIsRoundedDown }
     ensures rows_behind_ten_others { RowsBehindTenOthers }
     ensures sum_of_both_lists { SumOfBothLists }
+{}
+
+/// Which parts of a box are its fronts, and which columns are pinned.
+pub fn fronts()
+    ensures least_column_is_a_front { LeastColumnIsAFront }
+    ensures later_column_is_no_front { LaterColumnIsNoFront }
+    ensures wider_part_is_no_front { WiderPartIsNoFront }
+    ensures box_is_its_own_front { BoxIsItsOwnFront }
+    ensures one_value_is_left { OneValueIsLeft }
+    ensures first_column_is_pinned { FirstColumnIsPinned }
+    ensures turned_range_is_none { TurnedRangeIsNone }
 {}
 
 /// Which proofs split columns alone, and which are leaves.
