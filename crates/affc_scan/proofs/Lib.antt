@@ -1,5 +1,6 @@
 pub mod TestSteps
 pub mod MovedSteps
+pub mod MovedParts
 pub mod BlockSteps
 pub mod EndSteps
 pub mod LoopSteps

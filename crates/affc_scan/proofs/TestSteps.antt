@@ -3,11 +3,11 @@ use Rattle.std.proofs.Common.{◌≡◌, ℕ, suc, ◌+◌, ◌^◌, ◌≤◌, 
 use Rattle.std.specs.Prelude.{unsigned_abs}
 use Rattle.affc_rows.specs.Forms.{Affine}
 use Rattle.affc_ast.specs.declared.tree.Compare.{Compare}
-use Rattle.affc_ast.specs.declared.tree.Rel.TheVariants.{LessEqual, Equal}
+use Rattle.affc_ast.specs.declared.tree.Rel.TheVariants.{Equal}
 use Rattle.affc_trace.proofs.EndedReads.{append_assoc}
 use Rattle.affc_loops.specs.Limits.{IsSlight}
 use Rattle.affc_loops.specs.Loops.{box_tests, time_tests}
-use Rattle.affc_loops.specs.Trees.{name_at, number, form_tree}
+use Rattle.affc_loops.specs.Trees.{name_at, form_tree}
 use Rattle.affc_loops.specs.terms.Sizes.{IsModest}
 
 -- a form of a schedule can be printed
@@ -17,13 +17,10 @@ slight_is_modest f s = record {
   constant = let w : unsigned_abs f.constant ≤ 2 ^ 30 = s.1 in omega arith;
 }
 
-pub two_more : (made : List Compare) (r : ℤ × ℤ) (rs : List (ℤ × ℤ)) (from next : ℕ) → next ≡ from + 1
-    → ((made ++ record { rel = LessEqual; left = number r.0; right = name_at from } ∷ []) ++ record { rel = LessEqual; left = name_at from; right = number r.1 } ∷ []) ++ box_tests next rs ≡ made ++ box_tests from (r ∷ rs)
-two_more made r rs from next e =
+pub one_more_range : (made : List Compare) (r : ℤ × ℤ) (rs : List (ℤ × ℤ)) (from next : ℕ) → next ≡ from + 1 → (made ++ box_tests from (r ∷ [])) ++ box_tests next rs ≡ made ++ box_tests from (r ∷ rs)
+one_more_range made r rs from next e =
     let q : next ≡ suc from = omega arith in
-    let a : Compare = record { rel = LessEqual; left = number r.0; right = name_at from } in
-    let b : Compare = record { rel = LessEqual; left = name_at from; right = number r.1 } in
-    ap (λ n. ((made ++ a ∷ []) ++ b ∷ []) ++ box_tests n rs) q ∙ append_assoc (made ++ a ∷ []) (b ∷ []) (box_tests (suc from) rs) ∙ append_assoc made (a ∷ []) (b ∷ box_tests (suc from) rs)
+    ap (λ n. (made ++ box_tests from (r ∷ [])) ++ box_tests n rs) q ∙ append_assoc made (box_tests from (r ∷ [])) (box_tests (suc from) rs)
 
 pub one_more_time : (made : List Compare) (f : Affine) (fs : List Affine) (first from component next : ℕ) → next ≡ component + 1
     → (made ++ record { rel = Equal; left = name_at component; right = form_tree first from f } ∷ []) ++ time_tests first from next fs ≡ made ++ time_tests first from component (f ∷ fs)

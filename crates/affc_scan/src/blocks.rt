@@ -12,11 +12,11 @@ ghost use Rattle.affc_scan.specs.Parts.{piece};
 
 use crate::moved::{moved_all, moved_tests, moved_val};
 use crate::parts::Part;
-use crate::tests_of::{box_tests, time_tests};
+use crate::tests_of::{add_between, box_tests, time_tests};
 use crate::trees::moved_ix;
 use affc_ast::Items;
 use affc_ast::text::Text;
-use affc_ast::tree::{Compare, Ix, Local, NameId, Rel, Stmt};
+use affc_ast::tree::{Compare, Ix, Local, Rel, Stmt};
 use affc_loops::terms::form_ix;
 use affc_nest::{Frame, Site};
 use affc_rows::Form;
@@ -57,19 +57,10 @@ fn bounds(
     requires high_seen { in_sight high.now ≡ true }
     ensures { IfOk result (λ x. x ≡ loop_tests first more from (Loop [] low.now rel high.now)) }
 {
-    let mut conds = Items::new(alloc);
     let low = moved_ix(alloc, first, more, low)?;
-    conds.push(Compare {
-        rel: Rel::LessEqual,
-        left: low,
-        right: Ix::Name(NameId(from)),
-    })?;
     let high = moved_ix(alloc, first, more, high)?;
-    conds.push(Compare {
-        rel,
-        left: Ix::Name(NameId(from)),
-        right: high,
-    })?;
+    let mut conds = Items::new(alloc);
+    add_between(low, from, rel, high, &mut conds)?;
     Ok(conds)
 }
 

@@ -1,7 +1,9 @@
 //! The locals and tests of a statement's block.
-ghost use Rattle.std.specs.Prelude.{◌≡◌, ◌≤◌, ◌+◌, ◌++◌, length, IfOk};
+ghost use Rattle.std.specs.Prelude.{◌≡◌, ◌≤◌, ◌+◌, ◌++◌, [], ◌∷◌, length, IfOk, OnOk};
 ghost use Rattle.std.specs.List.{All};
+ghost use Rattle.affc_ast.specs.declared.tree.Rel.TheVariants.{LessEqual};
 ghost use Rattle.affc_loops.specs.Loops as specs;
+ghost use Rattle.affc_loops.specs.Trees.{name_at};
 ghost use Rattle.affc_loops.specs.Limits.{IsSlight, IsSmall};
 
 use affc_ast::Items;
@@ -10,8 +12,47 @@ use affc_loops::terms::{form_ix, number};
 use affc_rows::Form;
 use std::alloc::{AllocError, Global};
 
+/// Adds that a name lies between these ends.
+pub(crate) fn add_between(
+    low: Ix,
+    name: u32,
+    rel: Rel,
+    high: Ix,
+    out: &mut Items<Compare>,
+) -> Result<(), AllocError>
+    ensures { OnOk result (out.new ≡ out.old ++ record { rel = LessEqual; left = low; right = name_at name } ∷ record { rel = rel; left = name_at name; right = high } ∷ []) }
+{
+    let name = NameId(name);
+    out.push(Compare {
+        rel: Rel::LessEqual,
+        left: low,
+        right: Ix::Name(name),
+    })?;
+    out.push(Compare {
+        rel,
+        left: Ix::Name(name),
+        right: high,
+    })?;
+    Ok(())
+}
+
+/// Adds that an iterator lies in its range.
+fn add_range(
+    alloc: Global,
+    name: u32,
+    range: (i64, i64),
+    out: &mut Items<Compare>,
+) -> Result<(), AllocError>
+    requires { IsSmall range }
+    ensures { OnOk result (out.new ≡ out.old ++ specs.box_tests name (range ∷ [])) }
+{
+    let low = number(alloc, range.0)?;
+    let high = number(alloc, range.1)?;
+    add_between(low, name, Rel::LessEqual, high, out)
+}
+
 /// And that each iterator lies in its range.
-#[tactic(auto, using(crate::proofs::TestSteps::two_more))]
+#[tactic(auto, using(crate::proofs::TestSteps::one_more_range))]
 pub(crate) fn box_tests(
     alloc: Global,
     made: Items<Compare>,
@@ -26,18 +67,7 @@ pub(crate) fn box_tests(
     match ranges {
         [] => Ok(made),
         [range, rest @ ..] => {
-            let low = number(alloc, range.0)?;
-            made.push(Compare {
-                rel: Rel::LessEqual,
-                left: low,
-                right: Ix::Name(NameId(from)),
-            })?;
-            let high = number(alloc, range.1)?;
-            made.push(Compare {
-                rel: Rel::LessEqual,
-                left: Ix::Name(NameId(from)),
-                right: high,
-            })?;
+            add_range(alloc, from, *range, &mut made)?;
             box_tests(alloc, made, from + 1, rest)
         }
     }
