@@ -71,18 +71,18 @@ fn keep(named: bool, form: Form) -> Option<Part>
     }
 }
 
-/// `s` times one form plus `t` times another, if it is slight.
+/// One form plus `t` times another, if it is slight.
 fn sum(
     alloc: Global,
     columns: u32,
-    a: Option<Part>,
+    a: &Option<Part>,
     t: i128,
-    b: Option<Part>,
+    b: &Option<Part>,
 ) -> Result<Option<Part>, AllocError>
     requires factor { unsigned_abs t ≤ 1 }
-    requires first { IsPartOver columns a }
-    requires second { IsPartOver columns b }
-    ensures value { IfOk result (λ r. r ≡ mixture (pos 1) a t b) }
+    requires first { IsPartOver columns a.now }
+    requires second { IsPartOver columns b.now }
+    ensures value { IfOk result (λ r. r ≡ mixture (pos 1) a.now t b.now) }
     ensures fits { IfOk result (λ r. IsPartOver columns r) }
 {
     let Some(a) = a else {
@@ -95,9 +95,9 @@ fn sum(
     Ok(keep(a.named || b.named, form))
 }
 
-fn opposite(alloc: Global, columns: u32, a: Option<Part>) -> Result<Option<Part>, AllocError>
-    requires part { IsPartOver columns a }
-    ensures value { IfOk result (λ r. r ≡ mixture (negsuc 0) a (pos 0) a) }
+fn opposite(alloc: Global, columns: u32, a: &Option<Part>) -> Result<Option<Part>, AllocError>
+    requires part { IsPartOver columns a.now }
+    ensures value { IfOk result (λ r. r ≡ mixture (negsuc 0) a.now (pos 0) a.now) }
     ensures fits { IfOk result (λ r. IsPartOver columns r) }
 {
     let Some(a) = a else {
@@ -125,12 +125,12 @@ fn product_of(alloc: Global, columns: u32, a: &Part, b: &Part) -> Result<Form, A
 fn product(
     alloc: Global,
     columns: u32,
-    a: Option<Part>,
-    b: Option<Part>,
+    a: &Option<Part>,
+    b: &Option<Part>,
 ) -> Result<Option<Part>, AllocError>
-    requires first { IsPartOver columns a }
-    requires second { IsPartOver columns b }
-    ensures value { IfOk result (λ r. r ≡ multiple a b) }
+    requires first { IsPartOver columns a.now }
+    requires second { IsPartOver columns b.now }
+    ensures value { IfOk result (λ r. r ≡ multiple a.now b.now) }
     ensures fits { IfOk result (λ r. IsPartOver columns r) }
 {
     let Some(a) = a else {
@@ -139,7 +139,7 @@ fn product(
     let Some(b) = b else {
         return Ok(None);
     };
-    let form = product_of(alloc, columns, &a, &b)?;
+    let form = product_of(alloc, columns, a, b)?;
     Ok(keep(a.named || b.named, form))
 }
 
@@ -188,22 +188,22 @@ pub(crate) fn linear_part(
         IxDraft::Name { name: own, .. } => name(alloc, columns, own.as_str()),
         IxDraft::Negated { of, .. } => {
             let a = linear_part(alloc, columns, of.get())?;
-            opposite(alloc, columns.count, a)
+            opposite(alloc, columns.count, &a)
         }
         IxDraft::Sum(a, b) => {
             let a = linear_part(alloc, columns, a.get())?;
             let b = linear_part(alloc, columns, b.get())?;
-            sum(alloc, columns.count, a, 1, b)
+            sum(alloc, columns.count, &a, 1, &b)
         }
         IxDraft::Difference(a, b) => {
             let a = linear_part(alloc, columns, a.get())?;
             let b = linear_part(alloc, columns, b.get())?;
-            sum(alloc, columns.count, a, -1, b)
+            sum(alloc, columns.count, &a, -1, &b)
         }
         IxDraft::Product { left, right, .. } => {
             let a = linear_part(alloc, columns, left.get())?;
             let b = linear_part(alloc, columns, right.get())?;
-            product(alloc, columns.count, a, b)
+            product(alloc, columns.count, &a, &b)
         }
         IxDraft::Grouped { inside, .. } => linear_part(alloc, columns, inside.get()),
         IxDraft::Chosen { .. } | IxDraft::Divided { .. } => Ok(None),
