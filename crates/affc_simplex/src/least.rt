@@ -14,7 +14,7 @@ use crate::tableau::{
 use std::alloc::{AllocError, Global};
 
 /// The most moves for one column.
-const MOST_MOVES: u32 = 400;
+pub(crate) const MOST_MOVES: u32 = 400;
 
 /// A whole point, one number for each column, and for each column multiples of rows, by their numbers, whose sum says that the column isn't less where those before it are as here.
 /// A column at the low end of its range has none.
@@ -25,7 +25,7 @@ pub struct Least {
 }
 
 /// The place of a variable among these.
-fn place_among(variables: &[u32], variable: u32) -> Option<usize> {
+pub(crate) fn place_among(variables: &[u32], variable: u32) -> Option<usize> {
     for (place, other) in variables.iter().enumerate() {
         if *other == variable {
             return Some(place);
@@ -36,9 +36,9 @@ fn place_among(variables: &[u32], variable: u32) -> Option<usize> {
 
 /// One of the other variables, by its place, and the way in which it moves.
 #[derive(Clone, Copy)]
-struct Entering {
-    place: usize,
-    way: Way,
+pub(crate) struct Entering {
+    pub(crate) place: usize,
+    pub(crate) way: Way,
 }
 
 /// What is done for a column next.
@@ -224,7 +224,11 @@ fn reach_to<N: Number>(
 }
 
 /// Moves one of the other variables as far as it can.
-fn moved<N: Number>(tableau: &mut Tableau<N>, bounds: &[Bound], entering: Entering) -> Option<()> {
+pub(crate) fn moved<N: Number>(
+    tableau: &mut Tableau<N>,
+    bounds: &[Bound],
+    entering: Entering,
+) -> Option<()> {
     spend(tableau)?;
     let reach = reach_to(tableau, bounds, entering)??;
     let Some(line) = reach.line else {

@@ -1,9 +1,12 @@
 //! Boxes as the bounds of their columns, and what the simplex method finds in them: sums of rows that are below 0 in a whole box,
-//! rational points, least points. Nothing of it is promised; whoever takes it tests it.
+//! rational points, least points, forms that take few values. Nothing of it is promised; whoever takes it tests it.
 #![tactic(auto)]
 
+mod basis;
 pub mod bounds;
 pub mod cells;
+mod center;
+pub mod flat;
 mod least;
 pub mod number;
 pub mod pairs;
