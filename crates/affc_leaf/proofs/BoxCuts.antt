@@ -60,7 +60,7 @@ len-neg (c ∷ cs) = ap suc (len-neg cs)
 negated_dot : (m d : ℤ) → m ≡ (negsuc 0 *ℤ d) +ℤ (pos 0 *ℤ d) → m ≡ neg_ℤ d
 negated_dot m d e = let a = neg-mul (pos 1) d in let b = one-mul d in omega (arith, ints)
 
-dot-neg : (cs xs : List ℤ) → length cs ≡ length xs → dot (map neg_ℤ cs) xs ≡ neg_ℤ (dot cs xs)
+pub dot-neg : (cs xs : List ℤ) → length cs ≡ length xs → dot (map neg_ℤ cs) xs ≡ neg_ℤ (dot cs xs)
 dot-neg cs xs h = negated_dot (dot (map neg_ℤ cs) xs) (dot cs xs) (ap (λ l. dot l xs) (sym (negated_once cs)) ∙ dot-mixed (negsuc 0) cs (pos 0) cs xs refl h)
 
 rest_least : (n d t : ℤ) → n ≡ neg_ℤ d → (d +ℤ pos 0) ≤ℤ (t +ℤ pos 0) → pos 0 ≤ℤ (n +ℤ t)

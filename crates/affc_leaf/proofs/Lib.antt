@@ -14,6 +14,7 @@ pub mod Orders
 pub mod Adding
 pub mod Refuting
 pub mod BoxCuts
+pub mod FlatParts
 pub mod RootCuts
 pub mod Scaled
 pub mod Hard

@@ -181,7 +181,7 @@ fn joined(
 
 /// A leaf of these multiples of rows and of cuts, where their sum is below 0 in the whole box.
 #[inline(never)]
-fn leaf_below(
+pub(crate) fn leaf_below(
     alloc: Global,
     system: &System,
     bounds: &[Bound],
@@ -281,7 +281,7 @@ struct Tried {
 }
 
 /// Adds a row, where it fits.
-fn add_row(system: &mut System, row: Form) -> bool {
+pub(crate) fn add_row(system: &mut System, row: Form) -> bool {
     if row.coefs.len() != system.columns() as usize {
         return false;
     }

@@ -8,6 +8,7 @@ mod candidates;
 pub mod cuts;
 pub mod examples;
 mod firsts;
+pub mod flat;
 pub mod laws;
 pub mod leaves;
 pub mod parts;
