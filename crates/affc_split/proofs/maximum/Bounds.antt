@@ -110,27 +110,27 @@ just_below at high h = omega (arith, ints)
 pub near_lowered : (s : Search) (at : ℤ) → IsSearch s → s.low <ℤ at → at ≤ℤ s.high → unsigned_abs (at -ℤ pos 1) ≤ 2 ^ 55
 near_lowered s at h above within = near_between s.low (at -ℤ pos 1) s.high h.low_near h.high_near (not_below s.low at above) (just_below at s.high within)
 
-pub lowered_search : (s : Search) (at : ℤ) → IsSearch s → s.low <ℤ at → at ≤ℤ s.high → IsBounded s.asked.region.now s.asked.form.now (at -ℤ pos 1)
-    → IsSearch (record { asked = s.asked; low = s.low; high = at -ℤ pos 1; best = s.best })
+pub lowered_search : (s : Search) (at : ℤ) → IsSearch s → s.low <ℤ at → at ≤ℤ s.high → IsBounded s.objective.region.now s.objective.form.now (at -ℤ pos 1)
+    → IsSearch (record { objective = s.objective; low = s.low; high = at -ℤ pos 1; best = s.best })
 lowered_search s at h above within none = record {
-  asked = h.asked;
+  objective = h.objective;
   bounded = none;
   reached = h.reached;
   low_near = h.low_near;
   high_near = near_lowered s at h above within;
 }
 
-pub raised_search : (s : Search) (at v : ℤ) (point : Vec ℤ Global) → IsSearch s → s.low <ℤ at → InRegion s.asked.region.now point.items → at ≤ℤ value s.asked.form.now point.items → v ≡ value s.asked.form.now point.items
-    → IsSearch (record { asked = s.asked; low = v; high = s.high; best = Some (record { value = v; point = point }) })
+pub raised_search : (s : Search) (at v : ℤ) (point : Vec ℤ Global) → IsSearch s → s.low <ℤ at → InRegion s.objective.region.now point.items → at ≤ℤ value s.objective.form.now point.items → v ≡ value s.objective.form.now point.items
+    → IsSearch (record { objective = s.objective; low = v; high = s.high; best = Some (record { value = v; point = point }) })
 raised_search s at v point h above inside reaches e =
-    let r : Region = s.asked.region.now in
-    let f : Affine = s.asked.form.now in
+    let r : Region = s.objective.region.now in
+    let f : Affine = s.objective.form.now in
     let capped : v ≤ℤ s.high = subst (λ w. w ≤ℤ s.high) (sym e) (h.bounded point.items inside) in
     let rises : s.low <ℤ v = at_or_above s.low s.low at v (same s.low) above (subst (λ w. at ≤ℤ w) (sym e) reaches) in
     record {
-      asked = h.asked;
+      objective = h.objective;
       bounded = h.bounded;
-      reached = reached_more r f s.asked.floor s.low at s.best (record { value = v; point = point }) h.reached above reaches inside e;
+      reached = reached_more r f s.objective.floor s.low at s.best (record { value = v; point = point }) h.reached above reaches inside e;
       low_near = near_between s.low v s.high h.low_near h.high_near (below s.low v rises) capped;
       high_near = h.high_near;
     }

@@ -4,7 +4,7 @@ use Rattle.affc_rows.specs.Forms.{Affine, value}
 use Rattle.affc_split.specs.maximum.Regions.{InRegion, IsMeasure, IsBounded}
 use Rattle.affc_split.specs.declared.maximum.region.Region.{Region}
 use Rattle.affc_split.specs.declared.maximum.search.Best.{Best}
-use Rattle.affc_split.specs.declared.maximum.search.Asked.{Asked}
+use Rattle.affc_split.specs.declared.maximum.search.Objective.{Objective}
 use Rattle.affc_split.specs.declared.maximum.search.Search.{Search}
 
 -- what is reached so far: the floor, or a value above it that is attained
@@ -13,17 +13,17 @@ IsReached region form floor low None = low ≡ floor
 IsReached region form floor low (Some b) = (b.value ≡ low) × (floor <ℤ low) × InRegion region b.point.items × (value form b.point.items ≡ low)
 
 -- a form over the region's columns that is nowhere above the ceiling, and two ends within 2^55
-pub record IsAsked (asked : Asked) : Type 0 where
-  pub measure : IsMeasure asked.region.now.system.columns asked.form.now
-  pub floor_near : unsigned_abs asked.floor ≤ 2 ^ 55
-  pub ceiling_near : unsigned_abs asked.ceiling ≤ 2 ^ 55
-  pub bounded : IsBounded asked.region.now asked.form.now asked.ceiling
+pub record IsObjective (objective : Objective) : Type 0 where
+  pub measure : IsMeasure objective.region.now.system.columns objective.form.now
+  pub floor_near : unsigned_abs objective.floor ≤ 2 ^ 55
+  pub ceiling_near : unsigned_abs objective.ceiling ≤ 2 ^ 55
+  pub bounded : IsBounded objective.region.now objective.form.now objective.ceiling
 
 -- a search: the greatest value is at most the high one, and the low one is reached
 pub record IsSearch (search : Search) : Type 0 where
-  pub asked : IsAsked search.asked
-  pub bounded : IsBounded search.asked.region.now search.asked.form.now search.high
-  pub reached : IsReached search.asked.region.now search.asked.form.now search.asked.floor search.low search.best
+  pub objective : IsObjective search.objective
+  pub bounded : IsBounded search.objective.region.now search.objective.form.now search.high
+  pub reached : IsReached search.objective.region.now search.objective.form.now search.objective.floor search.low search.best
   pub low_near : unsigned_abs search.low ≤ 2 ^ 55
   pub high_near : unsigned_abs search.high ≤ 2 ^ 55
 

@@ -7,10 +7,10 @@ ghost use Rattle.affc_system.specs.Boxes.{IsBox};
 ghost use Rattle.affc_leaf.specs.Points.{IsLeastPoint};
 ghost use Rattle.affc_split.specs.Budgets.{IsLater};
 ghost use Rattle.affc_split.specs.maximum.Regions.{IsMeasure, IsAnswer};
-ghost use Rattle.affc_split.specs.maximum.Searches.{IsAsked};
+ghost use Rattle.affc_split.specs.maximum.Searches.{IsObjective};
 ghost use Rattle.affc_split.specs.maximum.Gaps.{behind, gap_system, gap_box};
 
-use crate::maximum::search::{Asked, Best, less};
+use crate::maximum::search::{Best, Objective, less};
 use crate::{Answer, Budget, Stop, decide};
 use affc_rows::Form;
 use affc_system::{BoxOf, System};
@@ -100,17 +100,17 @@ fn box_with_gap(
 }
 
 /// The greatest value, from the least point that has a gap before it.
-fn best_at(alloc: Global, asked: &Asked<'_>, point: &[i64]) -> Result<Best, AllocError>
-    requires asked { IsAsked asked.now }
-    requires least { IsLeastPoint (gap_system asked.now.region.now.system asked.now.form.now asked.now.ceiling) (gap_box asked.now.region.now.ranges asked.now.floor asked.now.ceiling) point.now }
-    ensures answer { IfOk result (λ b. IsAnswer asked.now.region.now asked.now.form.now asked.now.floor (Some b)) }
+fn best_at(alloc: Global, objective: &Objective<'_>, point: &[i64]) -> Result<Best, AllocError>
+    requires objective { IsObjective objective.now }
+    requires least { IsLeastPoint (gap_system objective.now.region.now.system objective.now.form.now objective.now.ceiling) (gap_box objective.now.region.now.ranges objective.now.floor objective.now.ceiling) point.now }
+    ensures answer { IfOk result (λ b. IsAnswer objective.now.region.now objective.now.form.now objective.now.floor (Some b)) }
     ensures near { IfOk result (λ b. unsigned_abs b.value ≤ 2 ^ 55) }
 {
     let [gap, rest @ ..] = point else {
         unreachable!()
     };
     Ok(Best {
-        value: asked.ceiling - *gap,
+        value: objective.ceiling - *gap,
         point: Vec::from_slice(alloc, rest)?,
     })
 }
@@ -118,23 +118,23 @@ fn best_at(alloc: Global, asked: &Asked<'_>, point: &[i64]) -> Result<Best, Allo
 /// The greatest value above the floor, with the least point that attains it.
 pub(crate) fn at_once(
     alloc: Global,
-    asked: &Asked<'_>,
+    objective: &Objective<'_>,
     budget: &mut Budget,
 ) -> Result<Option<Best>, Stop>
-    requires asked { IsAsked asked.now }
-    requires order { asked.now.floor <ℤ asked.now.ceiling }
-    requires room { length asked.now.region.now.system.rows < 1024 }
-    requires few { asked.now.region.now.system.columns < 128 }
-    ensures answer { IfOk result (λ o. IsAnswer asked.now.region.now asked.now.form.now asked.now.floor o) }
+    requires objective { IsObjective objective.now }
+    requires order { objective.now.floor <ℤ objective.now.ceiling }
+    requires room { length objective.now.region.now.system.rows < 1024 }
+    requires few { objective.now.region.now.system.columns < 128 }
+    ensures answer { IfOk result (λ o. IsAnswer objective.now.region.now objective.now.form.now objective.now.floor o) }
     ensures near { IfOk result (λ o. IfSome o (λ b. unsigned_abs b.value ≤ 2 ^ 55)) }
     ensures later { IsLater budget.old budget.new }
     ensures stop { IfErr result (λ e. e ≡ Stop.Budget → budget.new.limit ≡ Some budget.new.spent) }
 {
-    let region = asked.region;
-    let system = with_gap(alloc, &region.system, asked.form, asked.ceiling)?;
-    let ranges = box_with_gap(alloc, &region.ranges, asked.floor, asked.ceiling)?;
+    let region = objective.region;
+    let system = with_gap(alloc, &region.system, objective.form, objective.ceiling)?;
+    let ranges = box_with_gap(alloc, &region.ranges, objective.floor, objective.ceiling)?;
     match decide(alloc, &system, &ranges, budget)? {
-        Answer::Point(point) => Ok(Some(best_at(alloc, asked, point.as_slice())?)),
+        Answer::Point(point) => Ok(Some(best_at(alloc, objective, point.as_slice())?)),
         Answer::Empty(_proof) => Ok(None),
     }
 }

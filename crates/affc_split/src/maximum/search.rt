@@ -2,7 +2,7 @@
 ghost use Rattle.std.specs.Prelude.{◌≡◌, ℤ, negsuc, ◌+◌, ◌-◌, ◌^◌, ◌<◌, ◌≤◌, ◌∷◌, ◌++◌, [], pos, ◌-ℤ◌, ◌≤ℤ◌, ◌<ℤ◌, unsigned_abs, IfOk, IfErr, IfSome, IfNone, Some, length};
 ghost use Rattle.affc_rows.specs.Forms.{value};
 ghost use Rattle.affc_split.specs.maximum.Regions.{InRegion, IsFirstReaching, IsMeasure, IsBounded, IsAnswer};
-ghost use Rattle.affc_split.specs.maximum.Searches.{IsAsked, IsSearch};
+ghost use Rattle.affc_split.specs.maximum.Searches.{IsObjective, IsSearch};
 ghost use Rattle.affc_split.specs.Budgets.{IsLater};
 
 use crate::maximum::gap::at_once;
@@ -116,9 +116,9 @@ fn reached(region: &Region, form: &Form, point: &[i64], high: i64) -> i64
     value_at(form, point) as i64
 }
 
-/// What is asked: the greatest value of a form in a region, where it is above the floor. It is nowhere above the ceiling.
+/// An objective: the greatest value of a form in a region, where it is above the floor. It is nowhere above the ceiling.
 #[derive(Clone, Copy, Drop)]
-pub(crate) struct Asked<'a> {
+pub(crate) struct Objective<'a> {
     pub region: &'a Region,
     pub form: &'a Form,
     pub floor: i64,
@@ -128,7 +128,7 @@ pub(crate) struct Asked<'a> {
 /// A search for the greatest value: it lies from the low to the high value, and the low one is attained or the floor.
 #[derive(Drop)]
 pub(crate) struct Search<'a> {
-    asked: Asked<'a>,
+    objective: Objective<'a>,
     low: i64,
     high: i64,
     best: Option<Best>,
@@ -139,14 +139,14 @@ fn lowered<'a>(search: Search<'a>, at: i64) -> Search<'a>
     requires search { IsSearch search }
     requires above { search.low <ℤ at }
     requires within { at ≤ℤ search.high }
-    requires none { IsBounded search.asked.region.now search.asked.form.now (at -ℤ pos 1) }
+    requires none { IsBounded search.objective.region.now search.objective.form.now (at -ℤ pos 1) }
     ensures search { IsSearch result }
-    ensures asked { result.asked ≡ search.entry.asked }
+    ensures objective { result.objective ≡ search.entry.objective }
     ensures order { result.low ≤ℤ result.high }
     ensures less { (result.high -ℤ result.low) <ℤ (search.entry.high -ℤ search.entry.low) }
 {
     Search {
-        asked: search.asked,
+        objective: search.objective,
         low: search.low,
         high: at - 1,
         best: search.best,
@@ -157,17 +157,22 @@ fn lowered<'a>(search: Search<'a>, at: i64) -> Search<'a>
 fn raised<'a>(search: Search<'a>, at: i64, point: Vec<i64>) -> Search<'a>
     requires search { IsSearch search }
     requires above { search.low <ℤ at }
-    requires inside { InRegion search.asked.region.now point.items }
-    requires reaches { at ≤ℤ value search.asked.form.now point.items }
+    requires inside { InRegion search.objective.region.now point.items }
+    requires reaches { at ≤ℤ value search.objective.form.now point.items }
     ensures search { IsSearch result }
-    ensures asked { result.asked ≡ search.entry.asked }
+    ensures objective { result.objective ≡ search.entry.objective }
     ensures order { result.low ≤ℤ result.high }
     ensures less { (result.high -ℤ result.low) <ℤ (search.entry.high -ℤ search.entry.low) }
 {
-    let asked = search.asked;
-    let value = reached(asked.region, asked.form, point.as_slice(), search.high);
+    let objective = search.objective;
+    let value = reached(
+        objective.region,
+        objective.form,
+        point.as_slice(),
+        search.high,
+    );
     Search {
-        asked,
+        objective,
         low: value,
         high: search.high,
         best: Some(Best { value, point }),
@@ -182,33 +187,39 @@ fn step<'a>(
     turn: u32,
     budget: &mut Budget,
 ) -> Result<Search<'a>, Stop>
-    requires room { length search.asked.region.now.system.rows < 1024 }
+    requires room { length search.objective.region.now.system.rows < 1024 }
     requires search { IsSearch search }
     requires open { search.low <ℤ search.high }
     ensures search { IfOk result (λ s. IsSearch s) }
-    ensures asked { IfOk result (λ s. s.asked ≡ search.entry.asked) }
+    ensures objective { IfOk result (λ s. s.objective ≡ search.entry.objective) }
     ensures order { IfOk result (λ s. s.low ≤ℤ s.high) }
     ensures less { IfOk result (λ s. (s.high -ℤ s.low) <ℤ (search.entry.high -ℤ search.entry.low)) }
     ensures later { IsLater budget.old budget.new }
     ensures stop { IfErr result (λ e. e ≡ Stop.Budget → budget.new.limit ≡ Some budget.new.spent) }
 {
     let at = next_question(search.low, search.high, likely, turn);
-    match reaching(alloc, search.asked.region, search.asked.form, at, budget)? {
+    match reaching(
+        alloc,
+        search.objective.region,
+        search.objective.form,
+        at,
+        budget,
+    )? {
         Some(point) => Ok(raised(search, at, point)),
         None => Ok(lowered(search, at)),
     }
 }
 
 /// A search that begins.
-fn begun<'a>(asked: &Asked<'a>) -> Search<'a>
-    requires { IsAsked asked.now }
+fn begun<'a>(objective: &Objective<'a>) -> Search<'a>
+    requires { IsObjective objective.now }
     ensures search { IsSearch result }
-    ensures asked { result.asked ≡ asked.now }
+    ensures objective { result.objective ≡ objective.now }
 {
     Search {
-        asked: *asked,
-        low: asked.floor,
-        high: asked.ceiling,
+        objective: *objective,
+        low: objective.floor,
+        high: objective.ceiling,
         best: None,
     }
 }
@@ -218,7 +229,7 @@ fn begun<'a>(asked: &Asked<'a>) -> Search<'a>
 fn best_of(search: Search<'_>) -> Option<Best>
     requires search { IsSearch search }
     requires closed { search.high ≤ℤ search.low }
-    ensures answer { IsAnswer search.entry.asked.region.now search.entry.asked.form.now search.entry.asked.floor result }
+    ensures answer { IsAnswer search.entry.objective.region.now search.entry.objective.form.now search.entry.objective.floor result }
     ensures near { IfSome result (λ b. unsigned_abs b.value ≤ 2 ^ 55) }
 {
     search.best
@@ -252,16 +263,16 @@ pub fn maximum(
     ensures later { IsLater budget.old budget.new }
     ensures stop { IfErr result (λ e. e ≡ Stop.Budget → budget.new.limit ≡ Some budget.new.spent) }
 {
-    let asked = Asked {
+    let objective = Objective {
         region,
         form,
         floor,
         ceiling,
     };
     if floor < ceiling && region.system.columns() < MOST_COLUMNS {
-        return at_once(alloc, &asked, budget);
+        return at_once(alloc, &objective, budget);
     }
-    let mut search = begun(&asked);
+    let mut search = begun(&objective);
     let mut turn = 0;
     while search.low < search.high {
         search = step(alloc, search, likely, turn, budget)?;

@@ -7,8 +7,8 @@ use Rattle.affc_split.proofs.maximum.gap.at_once.Goals as goal
 
 pub returns-clause-answer : goal.returns-clause-answer
 returns-clause-answer c =
-    let a = c.args.asked.now in
-    let q = c.requires.asked in
+    let a = c.args.objective.now in
+    let q = c.requires.objective in
     let fl : FitsSigned w64 a.floor = fits_signed_from_abs w64 a.floor (let b = q.floor_near in omega arith) in
     let fc : FitsSigned w64 a.ceiling = fits_signed_from_abs w64 a.ceiling (let b = q.ceiling_near in omega arith) in
     let e = simp to_z-of_z at c.in_ok-system.ensures in

@@ -8,8 +8,8 @@ use Rattle.affc_split.proofs.maximum.gap.best_at.Goals as goal
 
 pub overflow_sub-result : goal.overflow_sub-result
 overflow_sub-result c =
-    let a = c.args.asked.now in
-    let q = c.requires.asked in
+    let a = c.args.objective.now in
+    let q = c.requires.objective in
     let t = front c.args.point.now in
     let h = front_in a.region.now a.form.now a.floor a.ceiling c.args.point.now c.requires.least in
     let fc : FitsSigned w64 a.ceiling = fits_signed_from_abs w64 a.ceiling (let b = q.ceiling_near in omega arith) in
@@ -18,8 +18,8 @@ overflow_sub-result c =
 
 pub returns-clause-answer : goal.returns-clause-answer
 returns-clause-answer c =
-    let a = c.args.asked.now in
-    let q = c.requires.asked in
+    let a = c.args.objective.now in
+    let q = c.requires.objective in
     let t = front c.args.point.now in
     let h = front_in a.region.now a.form.now a.floor a.ceiling c.args.point.now c.requires.least in
     let fc : FitsSigned w64 a.ceiling = fits_signed_from_abs w64 a.ceiling (let b = q.ceiling_near in omega arith) in
@@ -30,8 +30,8 @@ returns-clause-answer c =
 
 pub returns-clause-near : goal.returns-clause-near
 returns-clause-near c =
-    let a = c.args.asked.now in
-    let q = c.requires.asked in
+    let a = c.args.objective.now in
+    let q = c.requires.objective in
     let t = front c.args.point.now in
     let h = front_in a.region.now a.form.now a.floor a.ceiling c.args.point.now c.requires.least in
     let fc : FitsSigned w64 a.ceiling = fits_signed_from_abs w64 a.ceiling (let b = q.ceiling_near in omega arith) in

@@ -7,9 +7,9 @@ use Rattle.affc_split.proofs.maximum.search.maximum.Given as goal
 abbrev pub invariant-loop-search : goal.invariant-loop-search
 invariant-loop-search l = record {
   search : IsSearch l.search;
-  region : l.search.asked.region.now ≡ l.fn.region;
-  form : l.search.asked.form.now ≡ l.fn.form;
-  floor : l.search.asked.floor ≡ l.fn.floor;
+  region : l.search.objective.region.now ≡ l.fn.region;
+  form : l.search.objective.form.now ≡ l.fn.form;
+  floor : l.search.objective.floor ≡ l.fn.floor;
   later : IsLater l.fn.budget l.budget;
 }
 

@@ -9,7 +9,7 @@ use Rattle.affc_split.proofs.maximum.search.raised.Goals as goal
 pub returns-clause-search : goal.returns-clause-search
 returns-clause-search c =
     let s = c.args.search in
-    let f = s.asked.form.now in
+    let f = s.objective.form.now in
     let h = c.requires.search in
     let e : c.reached-value.result ≡ value f c.args.point.items = c.reached-value.ensures ∙ ap (value f) c.as_slice.ensures.value in
     let made = raised_search s c.args.at c.reached-value.result c.args.point h c.requires.above c.requires.inside c.requires.reaches e in
