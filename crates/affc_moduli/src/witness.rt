@@ -1,7 +1,6 @@
 //! The point at which the elements that are shown for a distance come first.
 ghost use Rattle.std.specs.Prelude.{◌≡◌, ◌^◌, ◌≤◌, ◌↔◌, unsigned_abs, Some, IfOk, IfErr, IsTrue, length};
 ghost use Rattle.std.specs.List.{All};
-ghost use Rattle.affc_system.specs.Boxes.{InBox};
 ghost use Rattle.affc_system.specs.Pairs.{IsSubscript};
 ghost use Rattle.affc_split.specs.Budgets.{IsLater};
 ghost use Rattle.affc_rows.specs.Forms.{value};
@@ -11,6 +10,7 @@ use crate::asked::Way;
 use crate::reordered::{Inserted, Lack, reordered, restored};
 use affc_rows::Form;
 use affc_split::maximum::Region;
+use affc_split::points::lies_in;
 use affc_split::{Answer, Budget, Stop, decide, within_reach};
 use affc_system::{BoxOf, PairSystem, System, value_at};
 use std::alloc::{AllocError, Global};
@@ -70,19 +70,6 @@ pub fn is_before(first: &[i128], second: &[i128]) -> bool {
     false
 }
 
-/// Whether a point lies in a box.
-fn is_inside(ranges: &[(i64, i64)], point: &[i64]) -> bool
-    ensures { IsTrue result ↔ InBox ranges.now point.now }
-{
-    match ranges {
-        [] => point.is_empty(),
-        [range, more @ ..] => match point {
-            [] => false,
-            [x, others @ ..] => range.0 <= *x && *x <= range.1 && is_inside(more, others),
-        },
-    }
-}
-
 /// Whether a point is one of a region.
 fn is_in_region(region: &Region, point: &[i64]) -> bool
     ensures { IsTrue result → InRegion region.now point.now }
@@ -90,7 +77,7 @@ fn is_in_region(region: &Region, point: &[i64]) -> bool
     if point.len() != region.system.columns() as usize {
         return false;
     }
-    region.system.holds_at(point) && is_inside(region.ranges.ranges(), point)
+    region.system.holds_at(point) && lies_in(point, region.ranges.ranges())
 }
 
 /// Whether a form has a value at a point.

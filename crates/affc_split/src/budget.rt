@@ -1,6 +1,6 @@
 //! Budgets.
-ghost use Rattle.std.specs.Prelude.{◌≡◌, ◌+◌, ◌-◌, ◌<◌, ◌≤◌, OnOk, OnErr, IsNone, Some};
-ghost use Rattle.affc_split.specs.Budgets.{Account, Within, IsUnit};
+ghost use Rattle.std.specs.Prelude.{◌≡◌, ℕ, ◌+◌, ◌-◌, ◌<◌, ◌≤◌, OnOk, OnErr, IsSomeAnd, IsNone, Some};
+ghost use Rattle.affc_split.specs.Budgets.{Account, Within, IsUnit, IsLater};
 
 use std::alloc::AllocError;
 use std::marker::Model;
@@ -85,5 +85,32 @@ impl Budget {
             self.spent += 1;
         }
         Ok(())
+    }
+
+    /// A budget of no more than so many units of this one.
+    pub(crate) fn part(&self, units: u64) -> Budget
+        ensures spent { result.spent ≡ self.now.spent }
+        ensures limit { IsSomeAnd result.limit (λ k. (l : ℕ) → self.now.limit ≡ Some l → k ≤ l) }
+    {
+        let most = self.spent.saturating_add(units);
+        let limit = match self.limit {
+            Some(limit) => limit.min(most),
+            None => most,
+        };
+        Budget {
+            limit: Some(limit),
+            spent: self.spent,
+        }
+    }
+
+    /// Counts what a part of this budget has spent.
+    pub(crate) fn charge(&mut self, part: &Budget)
+        requires grows { self.old.spent ≤ part.now.spent }
+        ensures later { IsLater self.old self.new }
+        ensures spent { (l : ℕ) → self.old.limit ≡ Some l → part.now.spent ≤ l → self.new.spent ≡ part.now.spent }
+    {
+        if let Some(limit) = self.limit {
+            self.spent = part.spent.min(limit);
+        }
     }
 }

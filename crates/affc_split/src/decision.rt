@@ -17,7 +17,7 @@ ghost use Rattle.affc_split.specs.Searches.{AreFewerFor, Spends};
 use crate::budget::{Budget, Stop};
 use crate::cuts::with_cuts;
 use crate::parts::at_lows;
-use crate::search::{Answer, Found, Here, SPARE, inside};
+use crate::search::{Answer, Found, Here, MOST_HALVES, SPARE, inside};
 use affc_farkas::Proof;
 use affc_leaf::box_cuts::Seen;
 use affc_leaf::boxed::{boxed_system, refuted};
@@ -30,7 +30,11 @@ use affc_system::{BoxOf, System};
 use std::alloc::{AllocError, Global};
 
 /// The bounds of a box whose rows come after those of the system.
-fn bounds_of(alloc: Global, ranges: &[(i64, i64)], rows: u32) -> Result<Vec<Bound>, AllocError>
+pub(crate) fn bounds_of(
+    alloc: Global,
+    ranges: &[(i64, i64)],
+    rows: u32,
+) -> Result<Vec<Bound>, AllocError>
     requires few { length ranges.now ≤ 128 }
     requires rows { rows ≤ 1024 }
     ensures { IfOk result (λ v. v.items ≡ box_bounds rows ranges.now) }
@@ -299,7 +303,7 @@ fn opened(
         ranges,
         bounds.as_slice(),
         next,
-        62 * columns,
+        MOST_HALVES * columns,
         budget,
     )
 }

@@ -7,8 +7,10 @@ pub mod decision;
 pub mod examples;
 pub mod maximum;
 mod parts;
+pub mod points;
 pub mod search;
 
 pub use budget::{Budget, Stop};
 pub use decision::{decide, within_reach};
+pub use points::decide_any;
 pub use search::Answer;

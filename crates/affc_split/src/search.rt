@@ -2,7 +2,7 @@
 ghost use Rattle.std.specs.Prelude.{◌≡◌, ℤ, ◌+◌, ◌-◌, ◌*◌, ◌<◌, ◌≤◌, ◌≤ℤ◌, pos, IfOk, IfSome, IfNone, OnErr, Err};
 ghost use Rattle.std.specs.List.{All};
 ghost use Rattle.affc_leaf.specs.Bounds.{FirstFree, bound_at, ranges_of, top_value};
-ghost use Rattle.affc_leaf.specs.Parts.{Ready};
+ghost use Rattle.affc_leaf.specs.Parts.{IsEmpty, Ready};
 ghost use Rattle.affc_split.specs.Search.{IsFound, IsReady, IsSplit, IsEven, IsTrim, part_of, other_side};
 ghost use Rattle.affc_split.specs.Searches.{AreFewer, Spends};
 
@@ -11,6 +11,7 @@ use crate::parts::{at_lows, beside, single};
 use affc_farkas::Proof;
 use affc_leaf::bounds::first_free;
 use affc_leaf::box_cuts::{Seen, seen_at};
+use affc_leaf::flat::found_flat;
 use affc_leaf::leaves::row_leaf;
 use affc_leaf::parts::{high_box, high_part, low_box, low_part, middle_of};
 use affc_leaf::places::{find_place, is_below};
@@ -35,6 +36,12 @@ pub(crate) enum Found {
 
 /// The most uneven splits on the way to a part of the box.
 pub(crate) const SPARE: u32 = 100;
+
+/// How many times a column can be halved.
+pub(crate) const MOST_HALVES: u32 = 62;
+
+/// How many times a box is halved before forms that take few values in it are looked for.
+const FEW_HALVES: u32 = 3;
 
 /// Where a search stands: a box that is open, and what is left on the way down from it.
 #[derive(Clone, Copy)]
@@ -224,6 +231,20 @@ fn half_of(here: &Here<'_>, split: Split, side: Side) -> Result<Vec<Bound>, Allo
     }
 }
 
+/// A proof that a box has no point by splits on forms that take few values in it, where it was halved a few times.
+#[inline(never)]
+fn flat_proof(here: &Here<'_>) -> Result<Option<Box<Proof>>, Stop>
+    requires ready { IsReady here.now }
+    ensures answer { IfOk result (λ o. IfSome o (λ p. IsEmpty here.now.system.now here.now.bounds.now here.now.next p.value)) }
+    ensures memory { OnErr result (result ≡ Err Stop.Memory) }
+{
+    let whole = here.system.columns().saturating_mul(MOST_HALVES);
+    if whole.saturating_sub(here.left) < FEW_HALVES {
+        return Ok(None);
+    }
+    Ok(found_flat(here.alloc, here.system, here.bounds, here.next)?)
+}
+
 /// Searches a box that is open for its least point.
 #[cycle(search)]
 #[inline(never)]
@@ -237,6 +258,9 @@ pub(crate) fn inside(here: &Here<'_>, budget: &mut Budget) -> Result<Found, Stop
     }
     if let Some(trim) = trim_of(here)? {
         return trimmed(here, trim, budget);
+    }
+    if let Some(proof) = flat_proof(here)? {
+        return Ok(Found::Empty(proof));
     }
     match first_free(here.bounds) {
         Some(column) => {

@@ -100,6 +100,12 @@ inside-returns-in-Some-clause-spends t c = known _ c.args.budget.now c.in-Some.f
 pub inside-returns-in_err-trim-clause-spends : goal.inside-returns-in_err-trim-clause-spends
 inside-returns-in_err-trim-clause-spends t c = failed_first (AreFewer 0) 0 _ c.args.budget.now c.from_residual-in_err-trim.result (search rules)
 
+pub inside-returns-in_err-proof-clause-spends : goal.inside-returns-in_err-proof-clause-spends
+inside-returns-in_err-proof-clause-spends t c = failed_first (AreFewer 0) 0 _ c.args.budget.now c.from_residual-in_err-proof.result (search rules)
+
+pub inside-returns-in-Some-3-clause-spends : goal.inside-returns-in-Some-3-clause-spends
+inside-returns-in-Some-3-clause-spends t c = known _ c.args.budget.now (Empty c.in-Some-3.proof)
+
 pub inside-returns-in-None-clause-spends : goal.inside-returns-in-None-clause-spends
 inside-returns-in-None-clause-spends t c = known_here _ c.args.budget.now c.single.result c.single.ensures.memory
 
