@@ -17,7 +17,7 @@ use affc_flow::questions::{Place, Question, Unasked, gap};
 use affc_order::order::shared;
 use affc_quast::leaves::Division;
 use affc_rows::Form;
-use affc_split::{Answer, Budget, Stop, decide, within_reach};
+use affc_split::{Answer, Budget, Stop, decide_any, within_reach};
 use sqlite_items::Items;
 use std::alloc::{AllocError, Global};
 
@@ -44,7 +44,7 @@ fn point_of(
     if !within_reach(ranges) {
         return Ok(None);
     }
-    match decide(alloc, system, ranges, budget)? {
+    match decide_any(alloc, system, ranges, budget)? {
         Answer::Empty(_) => Ok(None),
         Answer::Point(point) => Ok(Some(Items::from_vec(point))),
     }

@@ -19,7 +19,7 @@ use affc_flow::questions::{Place, Question, Unasked, have_columns};
 use affc_quast::Quast;
 use affc_quast::rows::copied;
 use affc_rows::Form;
-use affc_split::{Answer, Budget, Stop, decide, within_reach};
+use affc_split::{Answer, Budget, Stop, decide_any, within_reach};
 use affc_system::{BoxOf, System};
 use std::alloc::Global;
 
@@ -47,7 +47,7 @@ pub(crate) fn has_none(
     if !within_reach(ranges) {
         return Ok(false);
     }
-    match decide(alloc, system, ranges, budget)? {
+    match decide_any(alloc, system, ranges, budget)? {
         Answer::Empty(_) => Ok(true),
         Answer::Point(_) => Ok(false),
     }
