@@ -3,3 +3,4 @@ pub mod Ending
 pub mod Executed
 pub mod Reading
 pub mod Priced
+pub mod Causes

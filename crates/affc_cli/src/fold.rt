@@ -1,120 +1,87 @@
 //! One source, compiled.
-ghost use Rattle.std.specs.Prelude.{◌≡◌, IfOk, IfErr, option_map};
+ghost use Rattle.std.specs.Prelude.{◌≡◌, ℕ, List, Option, IfOk, IfErr, option_map};
+ghost use Rattle.affc_grammar.specs.Reads.{Reads};
 ghost use Rattle.affc_weigh.specs.Costs.{NeverFalls, TakesModuli};
 ghost use Rattle.affc_cli.specs.Budgets.{FoldsWithin, FoldMakes, MadeWithin, answers_of, wanted_for};
 ghost use Rattle.affc_driver.specs.Accounts.{FoldsMade, IsShort};
 ghost use Rattle.affc_driver.specs.Certificates.{certificate_text};
-ghost use Rattle.affc_driver.specs.Refusals.{IsIllegal, RefusalSays};
+ghost use Rattle.affc_driver.specs.Programs.{IsOfText, OfEachText};
+ghost use Rattle.affc_driver.specs.Refusals.{RefusalSays};
 ghost use Rattle.affc_driver.specs.declared.refusal.Refusal.TheVariants.{Budget as Spent};
 ghost use Rattle.affc_cli.specs.Refusal.{TextCause};
 
 use crate::pieces::Pieces;
-use affc_ast::text::Text;
-use affc_ast::tree::Instance;
-use affc_driver::{Made, Refusal as FoldRefusal, Wanted};
-use affc_grammar::laws::one_program;
+use affc_ast::tree::Program;
+use affc_driver::{Made, Refusal as FoldRefusal, Wanted, fold_program, read};
 use affc_lines::meaning::{meaning, unwritten};
 use affc_lines::refusal::Refusal;
-use affc_lines::schedule::{illegal_line, unplanned};
-use affc_lines::source::program_of;
+use affc_lines::schedule::{illegal, unplanned};
 use affc_split::Budget;
 use affc_weigh::{Cost, Weigher, powers, sum, words};
 use affc_words::words::{CostName, Settings};
 use std::alloc::Global;
 
-// The refusal of a source that reads as a program of which the schedule turns this dependence round.
-fn illegal(
-    alloc: Global,
-    source: &[u8],
-    schedule: Option<&[u8]>,
-    settings: Settings,
-    p: &[i64],
-    a: &Instance,
-    b: &Instance,
-) -> Refusal
-    requires { IsIllegal source.now (option_map (λ s. s.now) schedule) p.now a.now b.now }
-    ensures { TextCause source.now (option_map (λ s. s.now) schedule.entry) settings result }
-{
-    one_program();
-    let program = match program_of(alloc, source) {
-        Ok(program) => program,
-        Err(refusal) => return refusal,
-    };
-    match illegal_line(alloc, &program, p, a, b) {
-        Ok(line) => Refusal::Illegal(Text::from_string(line)),
-        Err(_) => Refusal::Memory,
-    }
-}
-
-// The refusal of a source that isn't compiled, as it is told.
-fn told(
-    alloc: Global,
-    source: &[u8],
-    schedule: Option<&[u8]>,
-    settings: Settings,
-    refusal: FoldRefusal,
-) -> Refusal
-    requires says { RefusalSays source.now (option_map (λ s. s.now) schedule) refusal }
-    requires short { refusal ≡ Spent → IsShort source.now (option_map (λ s. s.now) schedule) settings.budget }
-    ensures { TextCause source.now (option_map (λ s. s.now) schedule.entry) settings result }
+// The refusal of a program that isn't compiled, as it is told of a source that reads as it.
+fn told(alloc: Global, program: &Program, settings: Settings, refusal: FoldRefusal) -> Refusal
+    ensures { (source : List ℕ) (schedule : Option (List ℕ)) → Reads source program.now → RefusalSays source schedule refusal → (refusal ≡ Spent → IsShort source schedule settings.budget) → TextCause source schedule settings result }
 {
     match refusal {
         FoldRefusal::Source(fault) => Refusal::Source(fault),
         FoldRefusal::Printed(place) => Refusal::Printed(place),
-        FoldRefusal::Schedule(fault) => unplanned(alloc, source, schedule, &fault),
-        FoldRefusal::Meaning(fault) => meaning(alloc, source, schedule, &fault),
+        FoldRefusal::Schedule(fault) => unplanned(alloc, program, &fault),
+        FoldRefusal::Meaning(fault) => meaning(alloc, program, &fault),
         FoldRefusal::Unwritten {
             array: _,
             access,
             p,
             instance,
-        } => unwritten(alloc, source, schedule, access, p.as_slice(), &instance),
-        FoldRefusal::Illegal { p, a, b } => {
-            illegal(alloc, source, schedule, settings, p.as_slice(), &a, &b)
-        }
+        } => unwritten(alloc, program, access, p.as_slice(), &instance),
+        FoldRefusal::Illegal { p, a, b } => illegal(alloc, program, p.as_slice(), &a, &b),
         FoldRefusal::Budget => Refusal::Budget,
         FoldRefusal::Memory => Refusal::Memory,
     }
 }
 
-// What is made of a source by this cost.
+// What is made of a program by this cost.
 fn fold_by<F: Cost>(
     alloc: Global,
-    source: &[u8],
+    program: &Program,
     schedule: Option<&[u8]>,
     cost: F,
     wanted: Wanted,
     units: &mut Budget,
 ) -> Result<Made, FoldRefusal>
+    requires of_text { IsOfText program.now }
     requires takes { TakesModuli (F.takes cost) }
     requires never_falls { NeverFalls (F.answers cost) }
-    ensures ok { IfOk result (FoldsMade (F.answers cost) source.now (option_map (λ s. s.now) schedule.entry) units.new wanted) }
-    ensures err { IfErr result (RefusalSays source.now (option_map (λ s. s.now) schedule.entry)) }
+    ensures ok { IfOk result (λ made. OfEachText program.now (λ text. FoldsMade (F.answers cost) text (option_map (λ s. s.now) schedule.entry) units.new wanted made)) }
+    ensures err { IfErr result (λ refusal. OfEachText program.now (λ text. RefusalSays text (option_map (λ s. s.now) schedule.entry) refusal)) }
     ensures limit { units.new.limit ≡ units.old.limit }
-    ensures short { IfErr result (λ refusal. refusal ≡ Spent → IsShort source.now (option_map (λ s. s.now) schedule.entry) units.new.limit) }
+    ensures short { IfErr result (λ refusal. refusal ≡ Spent → OfEachText program.now (λ text. IsShort text (option_map (λ s. s.now) schedule.entry) units.new.limit)) }
 {
     let weigher = Weigher::new(cost);
-    affc_driver::fold(alloc, source, schedule, &weigher, wanted, units)
+    fold_program(alloc, program, schedule, &weigher, wanted, units)
 }
 
 // What is made of it by the cost of this name.
 fn fold_named(
     alloc: Global,
-    source: &[u8],
+    program: &Program,
     schedule: Option<&[u8]>,
     cost: CostName,
     wanted: Wanted,
     units: &mut Budget,
 ) -> Result<Made, FoldRefusal>
-    ensures ok { IfOk result (FoldsMade (answers_of cost) source.now (option_map (λ s. s.now) schedule.entry) units.new wanted) }
-    ensures err { IfErr result (RefusalSays source.now (option_map (λ s. s.now) schedule.entry)) }
+    requires { IsOfText program.now }
+    ensures ok { IfOk result (λ made. OfEachText program.now (λ text. FoldsMade (answers_of cost) text (option_map (λ s. s.now) schedule.entry) units.new wanted made)) }
+    ensures err { IfErr result (λ refusal. OfEachText program.now (λ text. RefusalSays text (option_map (λ s. s.now) schedule.entry) refusal)) }
     ensures limit { units.new.limit ≡ units.old.limit }
-    ensures short { IfErr result (λ refusal. refusal ≡ Spent → IsShort source.now (option_map (λ s. s.now) schedule.entry) units.new.limit) }
+    ensures short { IfErr result (λ refusal. refusal ≡ Spent → OfEachText program.now (λ text. IsShort text (option_map (λ s. s.now) schedule.entry) units.new.limit)) }
 {
     match cost {
-        CostName::Words => fold_by(alloc, source, schedule, words, wanted, units),
-        CostName::Sum => fold_by(alloc, source, schedule, sum, wanted, units),
-        CostName::Powers => fold_by(alloc, source, schedule, powers, wanted, units),
+        CostName::Words => fold_by(alloc, program, schedule, words, wanted, units),
+        CostName::Sum => fold_by(alloc, program, schedule, sum, wanted, units),
+        CostName::Powers => fold_by(alloc, program, schedule, powers, wanted, units),
     }
 }
 
@@ -132,10 +99,11 @@ pub fn folded(
     ensures within { IfOk result (λ made. FoldsWithin source.now (option_map (λ s. s.now) schedule.entry) settings made.done.text.items made.done.report.items made.done.cost) }
     ensures err { IfErr result (TextCause source.now (option_map (λ s. s.now) schedule.entry) settings) }
 {
+    let program = read(alloc, source)?;
     let mut units = Budget::new(settings.budget);
-    match fold_named(alloc, source, schedule, settings.cost, wanted, &mut units) {
+    match fold_named(alloc, &program, schedule, settings.cost, wanted, &mut units) {
         Ok(made) => Ok(made),
-        Err(refusal) => Err(told(alloc, source, schedule, settings, refusal)),
+        Err(refusal) => Err(told(alloc, &program, settings, refusal)),
     }
 }
 

@@ -1,48 +1,31 @@
 //! One source, compiled by a certificate.
-ghost use Rattle.std.specs.Prelude.{IfOk, IfErr};
+ghost use Rattle.std.specs.Prelude.{ℕ, List, IfOk, IfErr};
+ghost use Rattle.affc_grammar.specs.Reads.{Reads};
 ghost use Rattle.affc_replay.specs.Refusals.{ReplayRefuses};
 ghost use Rattle.affc_replay.specs.Replays.{ReplaysTo};
 ghost use Rattle.affc_cli.specs.Replay.{ReplayTextCause};
 
 use crate::pieces::Pieces;
+use affc_ast::tree::Program;
+use affc_driver::read;
 use affc_lines::meaning::ranged;
 use affc_lines::refusal::Refusal;
 use affc_lines::schedule::unplanned;
-use affc_replay::{Refusal as ReplayRefusal, Replayed};
+use affc_replay::{Refusal as ReplayRefusal, Replayed, replay_program};
 use std::alloc::Global;
 
-// What is replayed.
-#[derive(Clone, Copy, Drop)]
-struct Texts<'a> {
-    source: &'a [u8],
-    schedule: &'a [u8],
-    certificate: &'a [u8],
-}
-
-// The refusal of texts that aren't replayed, as it is told.
-fn told(alloc: Global, texts: &Texts<'_>, refusal: ReplayRefusal) -> Refusal
-    requires { ReplayRefuses texts.now.source.now texts.now.schedule.now texts.now.certificate.now refusal }
-    ensures { ReplayTextCause texts.now.source.now texts.now.schedule.now texts.now.certificate.now result }
+// The refusal of a program that isn't replayed, as it is told of a source that reads as it.
+fn told(alloc: Global, program: &Program, refusal: ReplayRefusal) -> Refusal
+    ensures { (source : List ℕ) (schedule : List ℕ) (certificate : List ℕ) → Reads source program.now → ReplayRefuses source schedule certificate refusal → ReplayTextCause source schedule certificate result }
 {
     match refusal {
         ReplayRefusal::Source(fault) => Refusal::Source(fault),
         ReplayRefusal::Printed(place) => Refusal::Printed(place),
-        ReplayRefusal::Schedule(fault) => unplanned(
-            alloc,
-            texts.source,
-            Some(texts.schedule),
-            &fault,
-        ),
+        ReplayRefusal::Schedule(fault) => unplanned(alloc, program, &fault),
         ReplayRefusal::IteratorRange {
             statement,
             loop_number,
-        } => ranged(
-            alloc,
-            texts.source,
-            Some(texts.schedule),
-            statement,
-            loop_number,
-        ),
+        } => ranged(alloc, program, statement, loop_number),
         ReplayRefusal::Certificate(fault) => Refusal::Certificate(fault),
         ReplayRefusal::Check(fault) => Refusal::Check(fault),
         ReplayRefusal::Memory => Refusal::Memory,
@@ -60,19 +43,13 @@ pub fn replay(
     ensures ok { IfOk result (λ made. ReplaysTo source.now schedule.now certificate.now made.text.items made.report.items) }
     ensures err { IfErr result (ReplayTextCause source.now schedule.now certificate.now) }
 {
-    match affc_replay::replay(alloc, source, schedule, certificate) {
+    let program = read(alloc, source)?;
+    match replay_program(alloc, &program, schedule, certificate) {
         Ok(Replayed { text, report }) => Ok(Pieces {
             certificate: Vec::new(alloc),
             text,
             report,
         }),
-        Err(refusal) => {
-            let texts = Texts {
-                source,
-                schedule,
-                certificate,
-            };
-            Err(told(alloc, &texts, refusal))
-        }
+        Err(refusal) => Err(told(alloc, &program, refusal)),
     }
 }

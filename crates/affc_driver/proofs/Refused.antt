@@ -29,9 +29,11 @@ use Rattle.affc_report.specs.Trees.{flow_text}
 use Rattle.affc_schedtext.specs.Outline.{outline}
 use Rattle.affc_driver.specs.Flows.{NameThroughout, FlowsTo}
 use Rattle.affc_driver.specs.Programs.{OfEachText, OfEachPlan}
-use Rattle.affc_driver.specs.Refusals.{RefusalSays, FlowRefusalSays, MeaningSays, IsPlanned}
+use Rattle.affc_driver.specs.Refusals.{RefusalSays, FlowRefusalSays, MeaningSays, IsPlanned, UnreadSays, refusal_of}
 use Rattle.affc_driver.specs.declared.refusal.Refusal.{Refusal}
 use Rattle.affc_driver.specs.declared.refusal.Refusal.TheVariants.{Source, Printed, Schedule as NoPlan, Meaning, Unwritten, Illegal, Budget, Memory as Short}
+use Rattle.affc_driver.specs.declared.unread.Unread.{Unread}
+use Rattle.affc_driver.specs.declared.unread.Unread.TheVariants as unread
 use Rattle.affc_driver.proofs.Written.{array_read}
 
 pub no_plan : (program : Program) (text : List ℕ) (fault : SchedFault) → fault ≢ Memory → IsFault text program fault
@@ -94,6 +96,17 @@ refuses_trees source Short h = tt
 pub refuses_each_tree : (program : Program) (refusal : Refusal) → ((plan : Plan) → OfEachPlan program plan (λ source schedule. MeaningSays source schedule refusal))
     → OfEachText program (λ source. FlowRefusalSays source refusal)
 refuses_each_tree program refusal h source reads bare = refuses_trees source refusal (h as_it_stands None refl source reads bare)
+
+-- a source that isn't read is neither compiled nor asked for its trees
+pub unread_refuses : (source : List ℕ) (schedule : Option (List ℕ)) (fault : Unread) → UnreadSays source fault → RefusalSays source schedule (refusal_of fault)
+unread_refuses source schedule (unread.Source fault) h = h
+unread_refuses source schedule (unread.Printed place) h = h
+unread_refuses source schedule unread.Memory h = tt
+
+pub unread_refuses_trees : (source : List ℕ) (fault : Unread) → UnreadSays source fault → FlowRefusalSays source (refusal_of fault)
+unread_refuses_trees source (unread.Source fault) h = h
+unread_refuses_trees source (unread.Printed place) h = h
+unread_refuses_trees source unread.Memory h = tt
 
 -- what dataflow is asked of
 pub named_nest : (program : Program) (nest : Nest) → IsPlain program → NamesArrays program → nest ≡ nest_of program → StaysWithin program → IsNamedNest nest

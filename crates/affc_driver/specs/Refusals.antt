@@ -19,6 +19,8 @@ use Rattle.affc_dataflow.specs.Unwritten.{LoadsUnwritten}
 use Rattle.affc_driver.specs.Plans.{HasPlan, WrittenThroughout}
 use Rattle.affc_driver.specs.declared.refusal.Refusal.{Refusal}
 use Rattle.affc_driver.specs.declared.refusal.Refusal.TheVariants.{Source, Printed, Schedule, Meaning, Unwritten, Illegal, Budget, Memory}
+use Rattle.affc_driver.specs.declared.unread.Unread.{Unread}
+use Rattle.affc_driver.specs.declared.unread.Unread.TheVariants as unread
 
 -- no program reads as the source, for this reason
 pub record IsSourceFault (source : List ℕ) (fault : ParseFault) : Type 0 where
@@ -37,6 +39,18 @@ pub record IsPrinted (source : List ℕ) (place : ℕ) : Type 0 where
   pub is_in : slice_get tokens number ≡ Some token
   pub kind : token.kind ≡ Prelude
   pub its_place : place ≡ token.start
+
+-- When a source is read as no program so. Want of memory may come at any time.
+abbrev pub UnreadSays : (source : List ℕ) → Unread → Type 0
+UnreadSays source (unread.Source fault) = IsSourceFault source fault
+UnreadSays source (unread.Printed place) = IsPrinted source place
+UnreadSays source unread.Memory = Unit {0}
+
+-- the refusal of a compilation for it
+abbrev pub refusal_of : Unread → Refusal
+refusal_of (unread.Source fault) = Source fault
+refusal_of (unread.Printed place) = Printed place
+refusal_of unread.Memory = Memory
 
 -- the source reads as a program without the prelude, and the schedule as no plan of it, for this reason
 pub record HasSchedFault (source : List ℕ) (schedule : Option (List ℕ)) (fault : SchedFault) : Type 0 where

@@ -10,15 +10,14 @@ ghost use Rattle.affc_quast.specs.Seen.{trees_of};
 ghost use Rattle.affc_report.specs.Trees.{flow_text};
 ghost use Rattle.affc_schedtext.specs.Outline.{outline};
 ghost use Rattle.affc_driver.specs.Flows.{FlowsTo};
-ghost use Rattle.affc_driver.specs.Programs.{OfEachText};
+ghost use Rattle.affc_driver.specs.Programs.{IsOfText, OfEachText};
 ghost use Rattle.affc_driver.specs.Refusals.{FlowRefusalSays};
 
-use crate::folding::{printed, unread};
 use crate::meaning::{nest_within, trees_within};
+use crate::reading::read;
 use crate::refusal::Refusal;
 use affc_ast::tree::Program;
 use affc_nest::Nest;
-use affc_parse::parse;
 use affc_quast::Flow;
 use affc_report::flow_text;
 use affc_schedtext::program::outline_of;
@@ -43,10 +42,13 @@ fn trees_text(
     flow_text(alloc, &outline, nest, flow)
 }
 
-// The trees of a plain program.
-fn flow_of(alloc: Global, program: &Program, budget: &mut Budget) -> Result<Vec<u8>, Refusal>
-    requires plain { IsPlain program.now }
-    requires arrays { NamesArrays program.now }
+/// The last-write trees of the loads of a program that was read, as text, or why there are none.
+pub fn flow_program(
+    alloc: Global,
+    program: &Program,
+    budget: &mut Budget,
+) -> Result<Vec<u8>, Refusal>
+    requires { IsOfText program.now }
     ensures ok { IfOk result (λ text. OfEachText program.now (λ source. FlowsTo source text.items)) }
     ensures err { IfErr result (λ refusal. OfEachText program.now (λ source. FlowRefusalSays source refusal)) }
     ensures later { IsLater budget.old budget.new }
@@ -76,13 +78,6 @@ pub fn flow(alloc: Global, source: &[u8], budget: &mut Budget) -> Result<Vec<u8>
     ensures uncounted { IsNone budget.old.limit → budget.new.spent ≡ budget.old.spent }
     ensures stop { IfErr result (λ refusal. refusal ≡ Refusal.Budget → budget.new.limit ≡ Some budget.new.spent) }
 {
-    match parse(alloc, source) {
-        Ok(program) => {
-            if program.prelude {
-                return Err(printed(alloc, source));
-            }
-            flow_of(alloc, &program, budget)
-        }
-        Err(fault) => Err(unread(fault)),
-    }
+    let program = read(alloc, source)?;
+    flow_program(alloc, &program, budget)
 }

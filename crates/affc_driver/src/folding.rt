@@ -8,7 +8,6 @@ ghost use Rattle.affc_split.specs.Budgets.{IsLater};
 ghost use Rattle.affc_nest.specs.Laws.{NamesArrays};
 ghost use Rattle.affc_nest.specs.Nests.{nest_of};
 ghost use Rattle.affc_bounds.specs.Faults.{StaysWithin};
-ghost use Rattle.affc_parse.specs.Answers.{Answers};
 ghost use Rattle.affc_basis.specs.FoldLists.{AreFoldsIn};
 ghost use Rattle.affc_rewrite.specs.Rewrite.{KeepLimits};
 ghost use Rattle.affc_bounds.specs.threshold.Thresholds.{threshold};
@@ -17,11 +16,11 @@ ghost use Rattle.affc_driver.specs.Accounts.{FoldsMade, IsShort, IsPlenty, free,
 ghost use Rattle.affc_driver.specs.Costs.{cost_in, total_cost};
 ghost use Rattle.affc_driver.specs.Made.{IsCompiled, IsMadeOf};
 ghost use Rattle.affc_driver.specs.Plans.{HasPlan};
-ghost use Rattle.affc_driver.specs.Printed.{HasPrelude, ReadsPrinted, holds_prelude};
-ghost use Rattle.affc_driver.specs.Programs.{OfEachText, OfEachPlan};
-ghost use Rattle.affc_driver.specs.Refusals.{RefusalSays, FlowRefusalSays};
+ghost use Rattle.affc_driver.specs.Programs.{IsOfText, OfEachText, OfEachPlan};
+ghost use Rattle.affc_driver.specs.Refusals.{RefusalSays};
 
 use crate::meaning::{nest_of, stays_within};
+use crate::reading::read;
 use crate::refusal::Refusal;
 use crate::temporaries::{Compilation, Decided, folds_under};
 use crate::wanted::Wanted;
@@ -31,12 +30,8 @@ use affc_bounds::threshold::bound;
 use affc_cprint::print;
 use affc_foldprint::laws::{folds_are_scanned, folds_compile, folds_well_named};
 use affc_grammar::laws::reads_counted;
-use affc_lex::lex;
-use affc_lex::token::{Kind, Token};
 use affc_nest::Nest;
-use affc_parse::fault::ParseFault;
-use affc_parse::parse;
-use affc_plan::read;
+use affc_plan::read as plan_read;
 use affc_report::fold_report;
 use affc_rewrite::rewrite;
 use affc_scan::scan;
@@ -66,44 +61,6 @@ pub struct Made {
     pub certificate: Option<Vec<u8>>,
 }
 
-/// The refusal of a text that is no program.
-pub fn unread(fault: ParseFault) -> Refusal
-    ensures says { (source : List ℕ) (schedule : Option (List ℕ)) → Answers source (Err fault) → RefusalSays source schedule result }
-    ensures trees { (source : List ℕ) → Answers source (Err fault) → FlowRefusalSays source result }
-    ensures free { result ≢ Refusal.Budget }
-{
-    match fault {
-        ParseFault::Memory => Refusal::Memory,
-        fault => Refusal::Source(fault),
-    }
-}
-
-// The place of the prelude, which is one of the tokens.
-fn prelude_of(tokens: &[Token]) -> usize
-    requires { IsTrue (holds_prelude tokens.now) }
-    ensures { HasPrelude tokens.now result }
-{
-    for token in tokens {
-        if token.kind == Kind::Prelude {
-            return token.start;
-        }
-    }
-    unreachable!()
-}
-
-/// The refusal of a text that reads as a program with the prelude, at the prelude's token.
-pub fn printed(alloc: Global, source: &[u8]) -> Refusal
-    requires { ReadsPrinted source.now }
-    ensures says { (schedule : Option (List ℕ)) → RefusalSays source.now schedule result }
-    ensures trees { FlowRefusalSays source.now result }
-    ensures free { result ≢ Refusal.Budget }
-{
-    match lex(alloc, source) {
-        Ok(tokens) => Refusal::Printed(prelude_of(&tokens)),
-        Err(_) => Refusal::Memory,
-    }
-}
-
 /// The plan of a schedule's text; without one everything stays as it stands.
 pub fn plan_of(alloc: Global, program: &Program, schedule: Option<&[u8]>) -> Result<Plan, Refusal>
     requires plain { IsPlain program.now }
@@ -118,7 +75,7 @@ pub fn plan_of(alloc: Global, program: &Program, schedule: Option<&[u8]>) -> Res
             folds: Items::new(alloc),
         });
     };
-    match read(alloc, program, text) {
+    match plan_read(alloc, program, text) {
         Ok(plan) => Ok(plan),
         Err(SchedFault::Memory) => Err(Refusal::Memory),
         Err(fault) => Err(Refusal::Schedule(fault)),
@@ -298,8 +255,8 @@ fn compile<F: Cost>(
     compile_counted(alloc, program, &nest, plan, cost, wanted, budget)
 }
 
-// What is made of a plain program with a schedule, whose text is read first.
-fn compile_with<F: Cost>(
+/// What `fold` makes of a program that was read, in the order of a schedule whose text is read first.
+pub fn fold_program<F: Cost>(
     alloc: Global,
     program: &Program,
     schedule: Option<&[u8]>,
@@ -307,9 +264,7 @@ fn compile_with<F: Cost>(
     wanted: Wanted,
     budget: &mut Budget,
 ) -> Result<Made, Refusal>
-    requires plain { IsPlain program.now }
-    requires counted { IsCounted program.now }
-    requires arrays { NamesArrays program.now }
+    requires { IsOfText program.now }
     ensures ok { IfOk result (λ made. OfEachText program.now (λ text. FoldsMade (F.answers cost.now.cost) text (option_map (λ t. t.now) schedule.entry) budget.new wanted made)) }
     ensures err { IfErr result (λ refusal. OfEachText program.now (λ text. RefusalSays text (option_map (λ t. t.now) schedule.entry) refusal)) }
     ensures later { IsLater budget.old budget.new }
@@ -317,6 +272,7 @@ fn compile_with<F: Cost>(
     ensures short { IfErr result (λ refusal. refusal ≡ Refusal.Budget → OfEachText program.now (λ text. IsShort text (option_map (λ t. t.now) schedule.entry) budget.new.limit)) }
     ensures plenty { OfEachText program.now (λ text. IsPlenty text (option_map (λ t. t.now) schedule.entry) budget.old.limit → budget.new ≡ budget.old) }
 {
+    reads_counted();
     let plan = plan_of(alloc, program, schedule)?;
     compile(alloc, program, &plan, cost, wanted, budget)
 }
@@ -343,14 +299,6 @@ pub fn fold<F: Cost>(
     ensures short { IfErr result (λ refusal. refusal ≡ Refusal.Budget → IsShort source.now (option_map (λ t. t.now) schedule.entry) budget.new.limit) }
     ensures plenty { IsPlenty source.now (option_map (λ t. t.now) schedule.entry) budget.old.limit → budget.new ≡ budget.old }
 {
-    reads_counted();
-    match parse(alloc, source) {
-        Ok(program) => {
-            if program.prelude {
-                return Err(printed(alloc, source));
-            }
-            compile_with(alloc, &program, schedule, cost, wanted, budget)
-        }
-        Err(fault) => Err(unread(fault)),
-    }
+    let program = read(alloc, source)?;
+    fold_program(alloc, &program, schedule, cost, wanted, budget)
 }

@@ -1,5 +1,6 @@
 //! Why there is no text.
 
+use crate::unread::Unread;
 use affc_ast::tree::{ArrayId, Instance};
 use affc_bounds::MeaningFault;
 use affc_parse::fault::ParseFault;
@@ -52,5 +53,20 @@ impl From<AllocError> for Refusal {
 
     fn from(_e: AllocError) -> Refusal {
         Refusal::Memory
+    }
+}
+
+impl From<Unread> for Refusal {
+    ghost use Rattle.std.specs.Prelude.{◌≡◌};
+    ghost use Rattle.affc_driver.specs.Refusals.{refusal_of};
+
+    ghost from_gives = { λ unread refusal. refusal ≡ refusal_of unread };
+
+    fn from(unread: Unread) -> Refusal {
+        match unread {
+            Unread::Source(fault) => Refusal::Source(fault),
+            Unread::Printed(place) => Refusal::Printed(place),
+            Unread::Memory => Refusal::Memory,
+        }
     }
 }

@@ -1,13 +1,13 @@
 //! What is wrong with a program, whatever its data: its line, and the refusal that tells it.
-ghost use Rattle.std.specs.Prelude.{◌≡◌, ◌+◌, ◌<◌, ◌++◌, [], length, ℕ, get_or, IfOk, MatchResult, flat_map, codes, decimal, option_map, string_bytes};
+ghost use Rattle.std.specs.Prelude.{◌≡◌, ◌+◌, ◌<◌, ◌++◌, [], List, Option, length, ℕ, get_or, IfOk, MatchResult, flat_map, codes, decimal, string_bytes};
 ghost use Rattle.affc_ast.specs.Recursion.{by_stmt};
 ghost use Rattle.affc_domain.specs.Rounds.{rounds_step};
+ghost use Rattle.affc_grammar.specs.Reads.{Reads};
 ghost use Rattle.affc_driver.specs.Refusals.{HasMeaningFault, HasUnwritten};
 ghost use Rattle.affc_lines.specs.Meaning.{iterator_of, iterator_name, meaning_line};
 ghost use Rattle.affc_lines.specs.Causes.{MeantCause, RangeCause};
 
 use crate::refusal::Refusal;
-use crate::source::program_of;
 use crate::stuck::{access_line, extent_line};
 use affc_ast::text::Text;
 use affc_ast::tree::{Instance, Program, Stmt};
@@ -127,67 +127,40 @@ fn meaning_line(
 
 // ---- Its refusal
 
-/// The refusal of a source that reads as a program with this fault.
-pub fn meaning(
-    alloc: Global,
-    source: &[u8],
-    schedule: Option<&[u8]>,
-    fault: &MeaningFault,
-) -> Refusal
-    requires { HasMeaningFault source.now (option_map (λ s. s.now) schedule) fault.now }
-    ensures { MeantCause source.now (option_map (λ s. s.now) schedule.entry) result }
+/// The refusal of a source that reads as the program, which has this fault.
+pub fn meaning(alloc: Global, program: &Program, fault: &MeaningFault) -> Refusal
+    ensures { (source : List ℕ) (schedule : Option (List ℕ)) → Reads source program.now → HasMeaningFault source schedule fault.now → MeantCause source schedule result }
 {
     one_program();
-    let program = match program_of(alloc, source) {
-        Ok(program) => program,
-        Err(refusal) => return refusal,
-    };
-    match meaning_line(alloc, &program, fault) {
+    match meaning_line(alloc, program, fault) {
         Ok(line) => Refusal::Meaning(Text::from_string(line)),
         Err(_) => Refusal::Memory,
     }
 }
 
-/// The refusal of a source that reads as a program in which the range of this loop's iterator is too wide.
-pub fn ranged(
-    alloc: Global,
-    source: &[u8],
-    schedule: Option<&[u8]>,
-    statement: u32,
-    loop_number: u32,
-) -> Refusal
-    requires { HasMeaningFault source.now (option_map (λ s. s.now) schedule) (MeaningFault.IteratorRange statement loop_number) }
-    ensures { RangeCause source.now (option_map (λ s. s.now) schedule.entry) result }
+/// The refusal of a source that reads as the program, in which the range of this loop's iterator is too wide.
+pub fn ranged(alloc: Global, program: &Program, statement: u32, loop_number: u32) -> Refusal
+    ensures { (source : List ℕ) (schedule : Option (List ℕ)) → Reads source program.now → HasMeaningFault source schedule (MeaningFault.IteratorRange statement loop_number) → RangeCause source schedule result }
 {
     one_program();
-    let program = match program_of(alloc, source) {
-        Ok(program) => program,
-        Err(refusal) => return refusal,
-    };
-    match range_line(alloc, &program, statement, loop_number) {
+    match range_line(alloc, program, statement, loop_number) {
         Ok(line) => Refusal::Meaning(Text::from_string(line)),
         Err(_) => Refusal::Memory,
     }
 }
 
-/// The refusal of a source that reads as a program with a load of a temporary that nothing has written.
+/// The refusal of a source that reads as the program, which has a load of a temporary that nothing has written.
 pub fn unwritten(
     alloc: Global,
-    source: &[u8],
-    schedule: Option<&[u8]>,
+    program: &Program,
     access: u32,
     p: &[i64],
     instance: &Instance,
 ) -> Refusal
-    requires { (array : ℕ) × HasUnwritten source.now (option_map (λ s. s.now) schedule) array access p.now instance.now }
-    ensures { MeantCause source.now (option_map (λ s. s.now) schedule.entry) result }
+    ensures { (source : List ℕ) (schedule : Option (List ℕ)) → Reads source program.now → (array : ℕ) × HasUnwritten source schedule array access p.now instance.now → MeantCause source schedule result }
 {
     one_program();
-    let program = match program_of(alloc, source) {
-        Ok(program) => program,
-        Err(refusal) => return refusal,
-    };
-    match access_line(alloc, "affc: unwritten ", &program, p, instance, access) {
+    match access_line(alloc, "affc: unwritten ", program, p, instance, access) {
         Ok(line) => Refusal::Meaning(Text::from_string(line)),
         Err(_) => Refusal::Memory,
     }

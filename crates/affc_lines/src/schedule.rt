@@ -1,12 +1,12 @@
 //! What is wrong with a schedule: its line, and the refusal that tells it.
-ghost use Rattle.std.specs.Prelude.{◌≡◌, ◌++◌, IfOk, codes, decimal, option_map, string_bytes};
-ghost use Rattle.affc_driver.specs.Refusals.{HasSchedFault};
-ghost use Rattle.affc_lines.specs.Causes.{PlanCause};
+ghost use Rattle.std.specs.Prelude.{◌≡◌, ◌++◌, ℕ, List, Option, IfOk, codes, decimal, string_bytes};
+ghost use Rattle.affc_grammar.specs.Reads.{Reads};
+ghost use Rattle.affc_driver.specs.Refusals.{HasSchedFault, IsIllegal};
+ghost use Rattle.affc_lines.specs.Causes.{PlanCause, TurnedCause};
 ghost use Rattle.affc_lines.specs.Schedule.{schedule_line, sched_line, illegal_line};
 ghost use Rattle.affc_lines.specs.Stuck.{array_name};
 
 use crate::refusal::Refusal;
-use crate::source::program_of;
 use crate::stuck::{add_instance, add_numbers, array_name};
 use affc_ast::text::Text;
 use affc_ast::tree::{Instance, Program};
@@ -52,12 +52,8 @@ fn basis_line(
     Ok(line)
 }
 
-/// What is said of a schedule that is no plan of the program, without the line's end.
-pub fn sched_line(
-    alloc: Global,
-    program: &Program,
-    fault: &SchedFault,
-) -> Result<String, AllocError>
+// What is said of a schedule that is no plan of the program, without the line's end.
+fn sched_line(alloc: Global, program: &Program, fault: &SchedFault) -> Result<String, AllocError>
     ensures { IfOk result (λ line. string_bytes line ≡ sched_line program.now fault.now) }
 {
     match fault {
@@ -75,8 +71,8 @@ pub fn sched_line(
     }
 }
 
-/// What is said of a schedule that at `p` doesn't run `a` before `b`, which depends on it, without the line's end.
-pub fn illegal_line(
+// What is said of a schedule that at `p` doesn't run `a` before `b`, which depends on it, without the line's end.
+fn illegal_line(
     alloc: Global,
     program: &Program,
     p: &[i64],
@@ -94,23 +90,24 @@ pub fn illegal_line(
     Ok(line)
 }
 
-/// The refusal of a source that reads as a program of which the schedule is no plan. The names in its line are the program's.
-pub fn unplanned(
-    alloc: Global,
-    source: &[u8],
-    schedule: Option<&[u8]>,
-    fault: &SchedFault,
-) -> Refusal
-    requires { HasSchedFault source.now (option_map (λ s. s.now) schedule) fault.now }
-    ensures { PlanCause source.now (option_map (λ s. s.now) schedule.entry) result }
+/// The refusal of a source that reads as the program, of which the schedule is no plan.
+pub fn unplanned(alloc: Global, program: &Program, fault: &SchedFault) -> Refusal
+    ensures { (source : List ℕ) (schedule : Option (List ℕ)) → Reads source program.now → HasSchedFault source schedule fault.now → PlanCause source schedule result }
 {
     one_program();
-    let program = match program_of(alloc, source) {
-        Ok(program) => program,
-        Err(refusal) => return refusal,
-    };
-    match sched_line(alloc, &program, fault) {
+    match sched_line(alloc, program, fault) {
         Ok(line) => Refusal::Schedule(Text::from_string(line)),
+        Err(_) => Refusal::Memory,
+    }
+}
+
+/// The refusal of a source that reads as the program, of which the schedule turns this dependence round at `p`.
+pub fn illegal(alloc: Global, program: &Program, p: &[i64], a: &Instance, b: &Instance) -> Refusal
+    ensures { (source : List ℕ) (schedule : Option (List ℕ)) → Reads source program.now → IsIllegal source schedule p.now a.now b.now → TurnedCause source schedule result }
+{
+    one_program();
+    match illegal_line(alloc, program, p, a, b) {
+        Ok(line) => Refusal::Illegal(Text::from_string(line)),
         Err(_) => Refusal::Memory,
     }
 }

@@ -10,11 +10,11 @@ use Rattle.affc_accept.specs.Refusals.{AcceptRefuses}
 use Rattle.affc_accept.specs.declared.fault.AcceptFault.{AcceptFault}
 use Rattle.affc_driver.specs.Plans.{HasPlan}
 use Rattle.affc_driver.specs.Programs.{OfEachText}
-use Rattle.affc_driver.specs.Refusals.{HasMeaningFault, RefusalSays}
-use Rattle.affc_driver.specs.declared.refusal.Refusal as driver
-use Rattle.affc_driver.specs.declared.refusal.Refusal.TheVariants as of_driver
+use Rattle.affc_driver.specs.Refusals.{HasMeaningFault, UnreadSays}
+use Rattle.affc_driver.specs.declared.unread.Unread.{Unread}
+use Rattle.affc_driver.specs.declared.unread.Unread.TheVariants as unread
 use Rattle.affc_driver.proofs.Refused.{planned}
-use Rattle.affc_replay.specs.Refusals.{printed_said, HasAcceptFault, ReplayRefuses}
+use Rattle.affc_replay.specs.Refusals.{refusal_of, HasAcceptFault, ReplayRefuses}
 use Rattle.affc_replay.specs.declared.refusal.Refusal.{Refusal}
 use Rattle.affc_replay.specs.declared.refusal.Refusal.TheVariants.{Memory}
 
@@ -33,13 +33,8 @@ not_accepted program nest plan schedule certificate fault near is refuses has so
   refuses = subst (λ n. AcceptRefuses n plan certificate fault) is refuses;
 }
 
--- a text with the prelude is refused for it
-pub printed_refuses : (source schedule certificate : List ℕ) (refusal : driver.Refusal) → ((order : Option (List ℕ)) → RefusalSays source order refusal) → ReplayRefuses source schedule certificate (printed_said refusal)
-printed_refuses source schedule certificate (of_driver.Printed place) says = says None
-printed_refuses source schedule certificate (of_driver.Source fault) says = tt
-printed_refuses source schedule certificate (of_driver.Schedule fault) says = tt
-printed_refuses source schedule certificate (of_driver.Meaning fault) says = tt
-printed_refuses source schedule certificate (of_driver.Unwritten array access p instance) says = tt
-printed_refuses source schedule certificate (of_driver.Illegal p a b) says = tt
-printed_refuses source schedule certificate of_driver.Budget says = tt
-printed_refuses source schedule certificate of_driver.Memory says = tt
+-- a source that isn't read is refused for it
+pub unread_refuses : (source schedule certificate : List ℕ) (fault : Unread) → UnreadSays source fault → ReplayRefuses source schedule certificate (refusal_of fault)
+unread_refuses source schedule certificate (unread.Source fault) says = says
+unread_refuses source schedule certificate (unread.Printed place) says = says
+unread_refuses source schedule certificate unread.Memory says = tt

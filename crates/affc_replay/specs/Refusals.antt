@@ -6,22 +6,17 @@ use Rattle.affc_bounds.specs.declared.fault.MeaningFault.TheVariants as meaning
 use Rattle.affc_accept.specs.Refusals.{AcceptRefuses}
 use Rattle.affc_accept.specs.declared.fault.AcceptFault.{AcceptFault}
 use Rattle.affc_accept.specs.declared.fault.AcceptFault.TheVariants as accept
-use Rattle.affc_driver.specs.declared.refusal.Refusal as driver
-use Rattle.affc_driver.specs.declared.refusal.Refusal.TheVariants as of_driver
+use Rattle.affc_driver.specs.declared.unread.Unread.{Unread}
+use Rattle.affc_driver.specs.declared.unread.Unread.TheVariants as unread
 use Rattle.affc_driver.specs.Refusals.{IsSourceFault, IsPrinted, HasSchedFault, HasMeaningFault, IsPlanned}
 use Rattle.affc_replay.specs.declared.refusal.Refusal.{Refusal}
 use Rattle.affc_replay.specs.declared.refusal.Refusal.TheVariants.{Source, Printed, Schedule, IteratorRange, Certificate, Check, Memory}
 
--- what is said where a compilation answers so of a text that reads as a program with the prelude
-abbrev pub printed_said : driver.Refusal → Refusal
-printed_said (of_driver.Printed place) = Printed place
-printed_said (of_driver.Source fault) = Memory
-printed_said (of_driver.Schedule fault) = Memory
-printed_said (of_driver.Meaning fault) = Memory
-printed_said (of_driver.Unwritten array access p instance) = Memory
-printed_said (of_driver.Illegal p a b) = Memory
-printed_said of_driver.Budget = Memory
-printed_said of_driver.Memory = Memory
+-- the refusal where a source is read as no program so
+abbrev pub refusal_of : Unread → Refusal
+refusal_of (unread.Source fault) = Source fault
+refusal_of (unread.Printed place) = Printed place
+refusal_of unread.Memory = Memory
 
 -- the source reads as a program without the prelude and within the interval rule, of which this is a plan of the schedule, and the
 -- certificate isn't one of them for this reason

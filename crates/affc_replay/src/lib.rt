@@ -7,4 +7,4 @@ pub mod replaying;
 mod scalars;
 
 pub use refusal::Refusal;
-pub use replaying::{Replayed, replay};
+pub use replaying::{Replayed, replay, replay_program};

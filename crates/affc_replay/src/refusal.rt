@@ -2,6 +2,7 @@
 
 use affc_cert::CertFault;
 use affc_check::CheckFault;
+use affc_driver::Unread;
 use affc_parse::fault::ParseFault;
 use affc_schedtext::SchedFault;
 use std::alloc::AllocError;
@@ -40,5 +41,20 @@ impl From<AllocError> for Refusal {
 
     fn from(_e: AllocError) -> Refusal {
         Refusal::Memory
+    }
+}
+
+impl From<Unread> for Refusal {
+    ghost use Rattle.std.specs.Prelude.{◌≡◌};
+    ghost use Rattle.affc_replay.specs.Refusals.{refusal_of};
+
+    ghost from_gives = { λ unread refusal. refusal ≡ refusal_of unread };
+
+    fn from(unread: Unread) -> Refusal {
+        match unread {
+            Unread::Source(fault) => Refusal::Source(fault),
+            Unread::Printed(place) => Refusal::Printed(place),
+            Unread::Memory => Refusal::Memory,
+        }
     }
 }

@@ -1,19 +1,17 @@
 //! A source with its schedule, compiled by a certificate.
-ghost use Rattle.std.specs.Prelude.{◌≡◌, ℕ, List, Some, None, IsTrue, IfOk, OnOk, IfErr, Err};
+ghost use Rattle.std.specs.Prelude.{◌≡◌, ℕ, List, Some, None, IsTrue, IfOk, OnOk, IfErr};
 ghost use Rattle.affc_ast.specs.Counted.{IsCounted};
 ghost use Rattle.affc_trace.specs.Target.{IsScheduleOf, within_limits};
 ghost use Rattle.affc_domain.specs.Plain.{IsPlain};
 ghost use Rattle.affc_domain.specs.Ranges.{first_wide};
 ghost use Rattle.affc_nest.specs.Laws.{NamesArrays};
 ghost use Rattle.affc_nest.specs.Nests.{nest_of};
-ghost use Rattle.affc_parse.specs.Answers.{Answers};
 ghost use Rattle.affc_schedtext.specs.declared.plan.Plan.{Plan as OfPlan};
 ghost use Rattle.affc_accept.specs.Accepted.{IsAccepted};
 ghost use Rattle.affc_driver.specs.Plans.{HasPlan};
-ghost use Rattle.affc_driver.specs.Printed.{ReadsPrinted};
-ghost use Rattle.affc_driver.specs.Programs.{OfEachText};
+ghost use Rattle.affc_driver.specs.Programs.{IsOfText, OfEachText};
 ghost use Rattle.affc_replay.specs.Made.{HasOwnTemporaries, IsDecided, IsReplayed, IsReplaying};
-ghost use Rattle.affc_replay.specs.Refusals.{printed_said, ReplayRefuses};
+ghost use Rattle.affc_replay.specs.Refusals.{ReplayRefuses};
 ghost use Rattle.affc_replay.specs.Replays.{ReplaysTo};
 
 use crate::refusal::Refusal;
@@ -22,14 +20,12 @@ use affc_accept::{AcceptFault, accept};
 use affc_ast::tree::{ArrayId, Program};
 use affc_basis::Fold;
 use affc_check::Checked;
-use affc_driver::Refusal as Uncompiled;
-use affc_driver::folding::{finish, printed};
+use affc_driver::folding::finish;
+use affc_driver::read;
 use affc_foldprint::laws::{folds_compile, folds_well_named};
 use affc_grammar::laws::reads_counted;
 use affc_nest::{Nest, NestFault, extract};
-use affc_parse::fault::ParseFault;
-use affc_parse::parse;
-use affc_plan::read;
+use affc_plan::read as plan_read;
 use affc_schedtext::{Plan, SchedFault};
 use std::alloc::Global;
 
@@ -51,46 +47,6 @@ pub struct Replayed {
     pub report: Vec<u8>,
 }
 
-// The refusal of a text that is no program.
-fn unread(fault: ParseFault) -> Refusal
-    ensures { (source : List ℕ) (schedule : List ℕ) (certificate : List ℕ) → Answers source (Err fault) → ReplayRefuses source schedule certificate result }
-{
-    match fault {
-        ParseFault::Memory => Refusal::Memory,
-        fault => Refusal::Source(fault),
-    }
-}
-
-// What is said where a compilation answers so of a text with the prelude.
-fn said(refusal: Uncompiled) -> Refusal
-    ensures { result ≡ printed_said refusal }
-{
-    match refusal {
-        Uncompiled::Printed(place) => Refusal::Printed(place),
-        Uncompiled::Source(_)
-        | Uncompiled::Schedule(_)
-        | Uncompiled::Meaning(_)
-        | Uncompiled::Unwritten {
-            array: _,
-            access: _,
-            p: _,
-            instance: _,
-        }
-        | Uncompiled::Illegal { p: _, a: _, b: _ }
-        | Uncompiled::Budget
-        | Uncompiled::Memory => Refusal::Memory,
-    }
-}
-
-// The refusal of a text that reads as a program with the prelude.
-fn is_printed(alloc: Global, source: &[u8]) -> Refusal
-    requires { ReadsPrinted source.now }
-    ensures { (schedule : List ℕ) (certificate : List ℕ) → ReplayRefuses source.now schedule certificate result }
-{
-    let refusal = printed(alloc, source);
-    said(refusal)
-}
-
 // The plan that a schedule's text reads as.
 fn plan_of(alloc: Global, program: &Program, schedule: &[u8]) -> Result<Plan, Refusal>
     requires plain { IsPlain program.now }
@@ -98,7 +54,7 @@ fn plan_of(alloc: Global, program: &Program, schedule: &[u8]) -> Result<Plan, Re
     ensures planned { IfOk result (HasPlan program.now (Some schedule.now)) }
     ensures err { IfErr result (λ refusal. (certificate : List ℕ) → OfEachText program.now (λ text. ReplayRefuses text schedule.now certificate refusal)) }
 {
-    match read(alloc, program, schedule) {
+    match plan_read(alloc, program, schedule) {
         Ok(plan) => Ok(plan),
         Err(SchedFault::Memory) => Err(Refusal::Memory),
         Err(fault) => Err(Refusal::Schedule(fault)),
@@ -207,20 +163,18 @@ fn replay_by(
     written(alloc, &replaying, folds.as_slice())
 }
 
-// The same with the schedule's text, which is read first.
-fn replay_with(
+/// What `replay` makes of a program that was read.
+pub fn replay_program(
     alloc: Global,
     program: &Program,
     schedule: &[u8],
     certificate: &[u8],
 ) -> Result<Replayed, Refusal>
-    requires plain { IsPlain program.now }
-    requires counted { IsCounted program.now }
-    requires arrays { NamesArrays program.now }
-    requires temporaries { HasOwnTemporaries program.now }
+    requires { IsOfText program.now }
     ensures ok { IfOk result (λ r. OfEachText program.now (λ text. ReplaysTo text schedule.now certificate.now r.text.items r.report.items)) }
     ensures err { IfErr result (λ refusal. OfEachText program.now (λ text. ReplayRefuses text schedule.now certificate.now refusal)) }
 {
+    reads_counted();
     folds_well_named();
     folds_compile();
     let plan = plan_of(alloc, program, schedule)?;
@@ -239,14 +193,6 @@ pub fn replay(
     ensures ok { IfOk result (λ r. ReplaysTo source.now schedule.now certificate.now r.text.items r.report.items) }
     ensures err { IfErr result (ReplayRefuses source.now schedule.now certificate.now) }
 {
-    reads_counted();
-    match parse(alloc, source) {
-        Ok(program) => {
-            if program.prelude {
-                return Err(is_printed(alloc, source));
-            }
-            replay_with(alloc, &program, schedule, certificate)
-        }
-        Err(fault) => Err(unread(fault)),
-    }
+    let program = read(alloc, source)?;
+    replay_program(alloc, &program, schedule, certificate)
 }

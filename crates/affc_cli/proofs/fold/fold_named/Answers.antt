@@ -16,10 +16,10 @@ pub fold_by-requires-in-Powers-clause-never_falls : goal.fold_by-requires-in-Pow
 fold_by-requires-in-Powers-clause-never_falls c = answers_never_fall _ powers_cost (λ moduli answer e. search rules) named_never_fall.powers
 
 pub returns-in-Words-clause-ok : goal.returns-in-Words-clause-ok
-returns-in-Words-clause-ok c = by_name _ c.args.cost Words c.args.source.now (option_map (λ s. s.now) c.args.schedule) c.fold_by.new.units c.args.wanted c.in-Words.is (λ moduli answer e. search rules) c.fold_by.result c.fold_by.ensures.ok
+returns-in-Words-clause-ok c = by_name _ c.args.cost Words c.args.program.now (option_map (λ s. s.now) c.args.schedule) c.fold_by.new.units c.args.wanted c.in-Words.is (λ moduli answer e. search rules) c.fold_by.result c.fold_by.ensures.ok
 
 pub returns-in-Sum-clause-ok : goal.returns-in-Sum-clause-ok
-returns-in-Sum-clause-ok c = by_name _ c.args.cost Sum c.args.source.now (option_map (λ s. s.now) c.args.schedule) c.fold_by-in-Sum.new.units c.args.wanted c.in-Sum.is (λ moduli answer e. search rules) c.fold_by-in-Sum.result c.fold_by-in-Sum.ensures.ok
+returns-in-Sum-clause-ok c = by_name _ c.args.cost Sum c.args.program.now (option_map (λ s. s.now) c.args.schedule) c.fold_by-in-Sum.new.units c.args.wanted c.in-Sum.is (λ moduli answer e. search rules) c.fold_by-in-Sum.result c.fold_by-in-Sum.ensures.ok
 
 pub returns-in-Powers-clause-ok : goal.returns-in-Powers-clause-ok
-returns-in-Powers-clause-ok c = by_name _ c.args.cost Powers c.args.source.now (option_map (λ s. s.now) c.args.schedule) c.fold_by-in-Powers.new.units c.args.wanted c.in-Powers.is (λ moduli answer e. search rules) c.fold_by-in-Powers.result c.fold_by-in-Powers.ensures.ok
+returns-in-Powers-clause-ok c = by_name _ c.args.cost Powers c.args.program.now (option_map (λ s. s.now) c.args.schedule) c.fold_by-in-Powers.new.units c.args.wanted c.in-Powers.is (λ moduli answer e. search rules) c.fold_by-in-Powers.result c.fold_by-in-Powers.ensures.ok

@@ -8,16 +8,19 @@ pub returns-in-Ok-clause-ok : goal.returns-in-Ok-clause-ok
 returns-in-Ok-clause-ok c = record {
   left = c.fold_named.new.units;
   limit = c.fold_named.ensures.limit ∙ ap (λ (b : Account). b.limit) c.new-units.ensures;
-  folds = c.in-Ok.ensures.ok;
+  folds = c.in-Ok.ensures.ok c.args.source.now c.in_ok-program.ensures.ok.reads c.in_ok-program.ensures.ok.bare;
 }
 
 pub returns-in-Ok-clause-within : goal.returns-in-Ok-clause-within
 returns-in-Ok-clause-within c = record {
   left = c.fold_named.new.units;
   limit = c.fold_named.ensures.limit ∙ ap (λ (b : Account). b.limit) c.new-units.ensures;
-  folds_to = c.in-Ok.ensures.ok.at_cost;
+  folds_to = (c.in-Ok.ensures.ok c.args.source.now c.in_ok-program.ensures.ok.reads c.in_ok-program.ensures.ok.bare).at_cost;
 }
 
-pub told-requires-clause-short : goal.told-requires-clause-short
-told-requires-clause-short c spent =
-    subst (λ l. IsShort c.args.source.now (option_map (λ s. s.now) c.args.schedule) l) (c.fold_named.ensures.limit ∙ ap (λ (b : Account). b.limit) c.new-units.ensures) (c.in-Err.ensures.short spent)
+pub returns-clause-err : goal.returns-clause-err
+returns-clause-err c =
+    let schedule = option_map (λ s. s.now) c.args.schedule in
+    let read = c.in_ok-program.ensures.ok in
+    c.told.ensures c.args.source.now schedule read.reads (c.in-Err.ensures.err c.args.source.now read.reads read.bare)
+    (λ spent. subst (IsShort c.args.source.now schedule) (c.fold_named.ensures.limit ∙ ap (λ (b : Account). b.limit) c.new-units.ensures) (c.in-Err.ensures.short spent c.args.source.now read.reads read.bare))

@@ -1,12 +1,8 @@
-use Rattle.affc_plain.proofs.Programs.{reads_plain}
-use Rattle.affc_driver.proofs.Ranked.{reads_naming_arrays}
+use Rattle.std.proofs.lemmas.Result.{IfOk-weaker, IfErr-weaker}
 use Rattle.affc_driver.proofs.flowing.flow.Goals as goal
 
-pub flow_of-requires-clause-plain : goal.flow_of-requires-clause-plain
-flow_of-requires-clause-plain c = reads_plain c.args.source.now c.in-Ok.program c.in-Ok.ensures c.if-program.false
+pub returns-clause-ok : goal.returns-clause-ok
+returns-clause-ok c = IfOk-weaker c.flow_program.result _ _ (λ text h. h c.args.source.now c.in_ok-program.ensures.ok.reads c.in_ok-program.ensures.ok.bare) c.flow_program.ensures.ok
 
-pub flow_of-requires-clause-arrays : goal.flow_of-requires-clause-arrays
-flow_of-requires-clause-arrays c = reads_naming_arrays c.args.source.now c.in-Ok.program c.in-Ok.ensures
-
-pub returns-in-Err-clause-err : goal.returns-in-Err-clause-err
-returns-in-Err-clause-err c = c.unread.ensures.trees c.args.source.now c.in-Err.ensures
+pub returns-clause-err : goal.returns-clause-err
+returns-clause-err c = IfErr-weaker c.flow_program.result _ _ (λ refusal h. h c.args.source.now c.in_ok-program.ensures.ok.reads c.in_ok-program.ensures.ok.bare) c.flow_program.ensures.err

@@ -1,8 +1,22 @@
 use Rattle.std.specs.Prelude.{option_map}
 use Rattle.std.proofs.lemmas.Result.{IfOk-weaker, IfErr-weaker}
+use Rattle.affc_plain.proofs.Programs.{reads_plain}
 use Rattle.affc_driver.proofs.Compiled.{plan_scheduled, plan_limited}
 use Rattle.affc_driver.proofs.Counted.{plenty_here}
-use Rattle.affc_driver.proofs.folding.compile_with.Goals as goal
+use Rattle.affc_driver.proofs.Ranked.{reads_naming_arrays}
+use Rattle.affc_driver.proofs.folding.fold_program.Goals as goal
+
+pub plan_of-requires-clause-plain : goal.plan_of-requires-clause-plain
+plan_of-requires-clause-plain g c = reads_plain c.requires.0 c.args.program.now c.requires.1.reads c.requires.1.bare
+
+pub plan_of-requires-clause-counted : goal.plan_of-requires-clause-counted
+plan_of-requires-clause-counted g c = c.reads_counted.ensures.plain c.requires.0 c.args.program.now c.requires.1.reads
+
+pub compile-requires-clause-plain : goal.compile-requires-clause-plain
+compile-requires-clause-plain g c = reads_plain c.requires.0 c.args.program.now c.requires.1.reads c.requires.1.bare
+
+pub compile-requires-clause-arrays : goal.compile-requires-clause-arrays
+compile-requires-clause-arrays g c = reads_naming_arrays c.requires.0 c.args.program.now c.requires.1.reads
 
 pub compile-requires-clause-fits : goal.compile-requires-clause-fits
 compile-requires-clause-fits g c = plan_scheduled c.args.program.now (option_map (λ t. t.now) c.args.schedule) c.in_ok-plan.plan c.in_ok-plan.ensures.planned
