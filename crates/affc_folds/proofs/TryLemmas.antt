@@ -24,7 +24,7 @@ use Rattle.affc_weigh.specs.Choices.{AreNeeds, are_known, is_marked, top, HasTop
 use Rattle.affc_weigh.specs.Costs.{AreModuli}
 use Rattle.affc_weigh.proofs.Tops as tops
 use Rattle.affc_folds.specs.Folding.{given_for, IsFoldFor, HasBound, IsSpent, IsPrice, ArePrices, IsTaken, IsCheapest}
-use Rattle.affc_folds.specs.Tries.{IsRated, IsTried, AreTried, IsFolded}
+use Rattle.affc_folds.specs.Tries.{IsRated, IsTried, AreTried, IsFolded, IsWorth}
 use Rattle.affc_life.proofs.BasisLemmas.{some_listed, listed_rows}
 use Rattle.affc_life.proofs.ContextLemmas.{near_context}
 use Rattle.affc_moduli.proofs.Spent.{stays_spent}
@@ -85,8 +85,9 @@ module _ (Answers : List ℕ → ℕ → Type 0) (program : Program) (schedule :
     bound = λ b. stays_spent before after later (h.bound b);
   }
 
-  pub unmarked_spent : (budget : Account) (shape : Shape) (r : Rated) → IsRated Answers program schedule budget array shape r → r.marked ≡ false → IsSpent budget
-  unmarked_spent budget shape r t e = t.bound (t.unmarked e)
+  pub worth_tried : (budget : Account) (shape : Shape) (r : Rated) → IsRated Answers program schedule budget array shape r → (o : Option Rated) → IsWorth r o → IsTried Answers program schedule budget array shape o
+  worth_tried budget shape r t None e = t.bound (t.unmarked e)
+  worth_tried budget shape r t (Some q) e = subst (IsRated Answers program schedule budget array shape) (sym e) t
 
   pub none_tried : (budget : Account) (shapes : List Shape) → AreTried Answers program schedule budget array shapes []
   none_tried budget shapes j shape one at at_one = absurd (none-some one at_one)

@@ -13,10 +13,9 @@ ghost use Rattle.affc_basis.specs.Moduli.{Exceeds, IsModulus};
 ghost use Rattle.affc_conflicts.specs.Conditions.{InContext};
 ghost use Rattle.affc_quast.specs.Seen.{trees_of};
 ghost use Rattle.affc_folds.specs.Folding.{IsAnalysed, IsFoldFor, IsSpent, HasBound, given_for};
-ghost use Rattle.affc_folds.specs.Systems.{AreLive};
-ghost use Rattle.affc_folds.specs.Tries.{IsRated, IsTried, AreTried, IsFolded, IsEither};
+ghost use Rattle.affc_folds.specs.Tries.{IsTemporary, IsTriedFor, AreTriedFor, IsFolded, IsFoldedFor, IsEither, IsWorth};
 
-use crate::asked::Asked;
+use crate::asked::{Asked, Temporary};
 use crate::bases::{copy_of_basis, given_basis};
 use crate::systems::live_systems;
 use affc_ast::tree::ArrayId;
@@ -24,7 +23,6 @@ use affc_basis::{Basis, Fold, Modulus, listed};
 use affc_moduli::{Hint, moduli};
 use affc_nest::ArrayInfo;
 use affc_split::{Budget, Stop};
-use affc_system::PairSystem;
 use affc_weigh::{Choice, Cost, Rated, Weigher, choose, rate, whole_cost};
 use sqlite_items::Items;
 use std::alloc::{AllocError, Global};
@@ -40,113 +38,94 @@ fn dimensions_of(info: &ArrayInfo) -> u32
 /// The moduli of an array along a basis. No question is asked of an array without dimensions.
 fn moduli_along(
     alloc: Global,
-    asked: &Asked<'_>,
-    array: ArrayId,
-    info: &ArrayInfo,
-    systems: &[PairSystem],
+    temporary: &Temporary<'_>,
     basis: &Basis,
     hint: Hint<'_>,
     budget: &mut Budget,
 ) -> Result<Items<Modulus>, Stop>
-    requires analysed { IsAnalysed asked.now.program.now asked.now.nest.now (trees_of asked.now.flow.now) asked.now.schedule.now }
-    requires there { slice_get asked.now.nest.now.arrays array.0 ≡ Some info.now }
-    requires live { AreLive asked.now.program.now asked.now.schedule.now asked.now.nest.now array.0 info.now.extents systems.now }
-    requires rows { length basis.now.rows ≡ length info.now.extents }
+    requires temporary { IsTemporary temporary.now }
+    requires rows { length basis.now.rows ≡ length temporary.now.info.now.extents }
     ensures one_each { IfOk result (λ ms. length ms ≡ length basis.now.rows) }
-    ensures limits { IfOk result (λ ms. All (IsModulus asked.now.nest.now.context.columns) (forms_of ms)) }
-    ensures obeys { IfOk result (λ ms. (p : List ℤ) → InContext asked.now.nest.now.context asked.now.nest.now.params p → Exceeds (IsPairOf systems.now p) p basis.now.rows (forms_of ms)) }
-    ensures marks { IfOk result (λ ms. (k : ℕ) (row : Affine) (m : OneModulus) → slice_get basis.now.rows k ≡ Some row → slice_get ms k ≡ Some m → IsTrueMark (InContext asked.now.nest.now.context asked.now.nest.now.params) (IsPairOf systems.now) basis.now.rows k row m) }
+    ensures limits { IfOk result (λ ms. All (IsModulus temporary.now.asked.nest.now.context.columns) (forms_of ms)) }
+    ensures obeys { IfOk result (λ ms. (p : List ℤ) → InContext temporary.now.asked.nest.now.context temporary.now.asked.nest.now.params p → Exceeds (IsPairOf temporary.now.systems.now p) p basis.now.rows (forms_of ms)) }
+    ensures marks { IfOk result (λ ms. (k : ℕ) (row : Affine) (m : OneModulus) → slice_get basis.now.rows k ≡ Some row → slice_get ms k ≡ Some m → IsTrueMark (InContext temporary.now.asked.nest.now.context temporary.now.asked.nest.now.params) (IsPairOf temporary.now.systems.now) basis.now.rows k row m) }
     ensures bound { IfOk result (λ ms. (k : ℕ) (m : OneModulus) → slice_get ms k ≡ Some m → m.mark ≡ Bound → IsSpent budget.new) }
     ensures later { IsLater budget.old budget.new }
     ensures stop { IfErr result (λ e. e ≡ Stop.Memory) }
 {
-    let extents = info.extents.as_slice();
+    let extents = temporary.info.extents.as_slice();
     if extents.is_empty() {
         return Ok(Items::new(alloc));
     }
-    let context = &asked.nest.context;
-    let ranges = &asked.nest.params;
+    let context = &temporary.asked.nest.context;
+    let ranges = &temporary.asked.nest.params;
     moduli(
-        alloc, systems, basis, extents, context, ranges, hint, budget,
+        alloc,
+        temporary.systems,
+        basis,
+        extents,
+        context,
+        ranges,
+        hint,
+        budget,
     )
 }
 
 /// The fold of an array along a basis.
 fn fold_along(
     alloc: Global,
-    asked: &Asked<'_>,
-    array: ArrayId,
-    info: &ArrayInfo,
-    systems: &[PairSystem],
+    temporary: &Temporary<'_>,
     basis: &Basis,
     hint: Hint<'_>,
     budget: &mut Budget,
 ) -> Result<Fold, Stop>
-    requires analysed { IsAnalysed asked.now.program.now asked.now.nest.now (trees_of asked.now.flow.now) asked.now.schedule.now }
-    requires there { slice_get asked.now.nest.now.arrays array.0 ≡ Some info.now }
-    requires temporary { length (arrays_of asked.now.program.now.params) ≤ array.0 }
-    requires live { AreLive asked.now.program.now asked.now.schedule.now asked.now.nest.now array.0 info.now.extents systems.now }
-    requires rows { length basis.now.rows ≡ length info.now.extents }
+    requires temporary { IsTemporary temporary.now }
+    requires rows { length basis.now.rows ≡ length temporary.now.info.now.extents }
     ensures shape { IfOk result (λ fold. shape_of fold.basis ≡ shape_of basis.now) }
-    ensures fold { IfOk result (λ fold. IsFoldFor asked.now.program.now asked.now.schedule.now array.0 fold) }
+    ensures fold { IfOk result (λ fold. IsFoldFor temporary.now.asked.program.now temporary.now.asked.schedule.now temporary.now.array.0 fold) }
     ensures bound { IfOk result (λ fold. HasBound fold → IsSpent budget.new) }
     ensures later { IsLater budget.old budget.new }
     ensures stop { IfErr result (λ e. e ≡ Stop.Memory) }
 {
     let basis = copy_of_basis(alloc, basis)?;
-    let moduli = moduli_along(alloc, asked, array, info, systems, &basis, hint, budget)?;
+    let moduli = moduli_along(alloc, temporary, &basis, hint, budget)?;
     Ok(Fold { basis, moduli })
 }
 
 /// What a fold of an array along a basis comes to.
 fn priced<F: Cost>(
     alloc: Global,
-    asked: &Asked<'_>,
-    array: ArrayId,
-    info: &ArrayInfo,
-    systems: &[PairSystem],
+    temporary: &Temporary<'_>,
     basis: &Basis,
     cost: &Weigher<F>,
     hint: Hint<'_>,
     budget: &mut Budget,
 ) -> Result<Option<Rated>, Stop>
-    requires analysed { IsAnalysed asked.now.program.now asked.now.nest.now (trees_of asked.now.flow.now) asked.now.schedule.now }
-    requires there { slice_get asked.now.nest.now.arrays array.0 ≡ Some info.now }
-    requires temporary { length (arrays_of asked.now.program.now.params) ≤ array.0 }
-    requires live { AreLive asked.now.program.now asked.now.schedule.now asked.now.nest.now array.0 info.now.extents systems.now }
-    requires rows { length basis.now.rows ≡ length info.now.extents }
-    ensures tried { IfOk result (IsTried (F.answers cost.now.cost) asked.now.program.now asked.now.schedule.now budget.new array.0 (shape_of basis.now)) }
+    requires temporary { IsTemporary temporary.now }
+    requires rows { length basis.now.rows ≡ length temporary.now.info.now.extents }
+    ensures tried { IfOk result (IsTriedFor (F.answers cost.now.cost) temporary.now budget.new (shape_of basis.now)) }
     ensures later { IsLater budget.old budget.new }
     ensures stop { IfErr result (λ e. e ≡ Stop.Memory) }
 {
-    let fold = fold_along(alloc, asked, array, info, systems, basis, hint, budget)?;
+    let fold = fold_along(alloc, temporary, basis, hint, budget)?;
     Ok(rate(alloc, fold, cost)?)
 }
 
 /// What a fold comes to, unless it has a bound alone and is no cheaper than the array as it stands.
-#[tactic(auto, using(crate::proofs::TryLemmas::unmarked_spent))]
 fn worth_while<F: Cost>(
     alloc: Global,
-    asked: &Asked<'_>,
-    array: ArrayId,
-    info: &ArrayInfo,
-    basis: &Basis,
+    temporary: &Temporary<'_>,
     one: Rated,
     cost: &Weigher<F>,
-    budget: &Budget,
 ) -> Result<Option<Rated>, AllocError>
-    requires analysed { IsAnalysed asked.now.program.now asked.now.nest.now (trees_of asked.now.flow.now) asked.now.schedule.now }
-    requires there { slice_get asked.now.nest.now.arrays array.0 ≡ Some info.now }
-    requires rated { IsRated (F.answers cost.now.cost) asked.now.program.now asked.now.schedule.now budget.now array.0 (shape_of basis.now) one }
-    ensures { IfOk result (IsTried (F.answers cost.now.cost) asked.now.program.now asked.now.schedule.now budget.now array.0 (shape_of basis.now)) }
+    requires temporary { IsTemporary temporary.now }
+    ensures { IfOk result (IsWorth one) }
 {
-    let _basis = basis;
-    let _budget = budget;
     if one.marked {
         return Ok(Some(one));
     }
-    let ranges = &asked.nest.params;
-    let whole = whole_cost(alloc, info.extents.as_slice(), ranges, cost)?;
+    let ranges = &temporary.asked.nest.params;
+    let whole = whole_cost(alloc, temporary.info.extents.as_slice(), ranges, cost)?;
     if one.price.cost < whole {
         Ok(Some(one))
     } else {
@@ -157,60 +136,43 @@ fn worth_while<F: Cost>(
 /// What an array comes to along a basis.
 fn tried<F: Cost>(
     alloc: Global,
-    asked: &Asked<'_>,
-    array: ArrayId,
-    info: &ArrayInfo,
-    systems: &[PairSystem],
+    temporary: &Temporary<'_>,
     basis: &Basis,
     cost: &Weigher<F>,
     hint: Hint<'_>,
     budget: &mut Budget,
 ) -> Result<Option<Rated>, Stop>
-    requires analysed { IsAnalysed asked.now.program.now asked.now.nest.now (trees_of asked.now.flow.now) asked.now.schedule.now }
-    requires there { slice_get asked.now.nest.now.arrays array.0 ≡ Some info.now }
-    requires temporary { length (arrays_of asked.now.program.now.params) ≤ array.0 }
-    requires live { AreLive asked.now.program.now asked.now.schedule.now asked.now.nest.now array.0 info.now.extents systems.now }
-    requires rows { length basis.now.rows ≡ length info.now.extents }
-    ensures tried { IfOk result (IsTried (F.answers cost.now.cost) asked.now.program.now asked.now.schedule.now budget.new array.0 (shape_of basis.now)) }
+    requires temporary { IsTemporary temporary.now }
+    requires rows { length basis.now.rows ≡ length temporary.now.info.now.extents }
+    ensures tried { IfOk result (IsTriedFor (F.answers cost.now.cost) temporary.now budget.new (shape_of basis.now)) }
     ensures later { IsLater budget.old budget.new }
     ensures stop { IfErr result (λ e. e ≡ Stop.Memory) }
 {
-    let Some(one) = priced(
-        alloc, asked, array, info, systems, basis, cost, hint, budget,
-    )?
-    else {
+    let Some(one) = priced(alloc, temporary, basis, cost, hint, budget)? else {
         return Ok(None);
     };
-    Ok(worth_while(alloc, asked, array, info, basis, one, cost, budget)?)
+    Ok(worth_while(alloc, temporary, one, cost)?)
 }
 
 /// What an array comes to along each listed basis.
 fn all_tried<F: Cost>(
     alloc: Global,
-    asked: &Asked<'_>,
-    array: ArrayId,
-    info: &ArrayInfo,
-    systems: &[PairSystem],
+    temporary: &Temporary<'_>,
     bases: &[Basis],
     cost: &Weigher<F>,
     hint: Hint<'_>,
     budget: &mut Budget,
 ) -> Result<Items<Option<Rated>>, Stop>
-    requires analysed { IsAnalysed asked.now.program.now asked.now.nest.now (trees_of asked.now.flow.now) asked.now.schedule.now }
-    requires there { slice_get asked.now.nest.now.arrays array.0 ≡ Some info.now }
-    requires temporary { length (arrays_of asked.now.program.now.params) ≤ array.0 }
-    requires live { AreLive asked.now.program.now asked.now.schedule.now asked.now.nest.now array.0 info.now.extents systems.now }
-    requires bases { map shape_of bases.now ≡ listing (length info.now.extents) }
-    ensures found { IfOk result (AreTried (F.answers cost.now.cost) asked.now.program.now asked.now.schedule.now budget.new array.0 (listing (length info.now.extents))) }
-    ensures one_each { IfOk result (λ found. length found ≡ length (listing (length info.now.extents))) }
+    requires temporary { IsTemporary temporary.now }
+    requires bases { map shape_of bases.now ≡ listing (length temporary.now.info.now.extents) }
+    ensures found { IfOk result (AreTriedFor (F.answers cost.now.cost) temporary.now budget.new (listing (length temporary.now.info.now.extents))) }
+    ensures one_each { IfOk result (λ found. length found ≡ length (listing (length temporary.now.info.now.extents))) }
     ensures later { IsLater budget.old budget.new }
     ensures stop { IfErr result (λ e. e ≡ Stop.Memory) }
 {
     let mut found = Items::new(alloc);
     for basis in bases {
-        let one = tried(
-            alloc, asked, array, info, systems, basis, cost, hint, budget,
-        )?;
+        let one = tried(alloc, temporary, basis, cost, hint, budget)?;
         found.push(one)?;
     }
     Ok(found)
@@ -244,24 +206,18 @@ fn with_marks(fold: Fold, choice: &Choice, one: Option<Rated>) -> Fold
 /// The fold that is chosen with all that is shown of it, in place of the one by which it was chosen. Both cost the same.
 fn in_full<F: Cost>(
     alloc: Global,
-    asked: &Asked<'_>,
-    array: ArrayId,
-    info: &ArrayInfo,
-    systems: &[PairSystem],
+    temporary: &Temporary<'_>,
     bases: &[Basis],
     cost: &Weigher<F>,
     chosen: (Fold, Choice),
     budget: &mut Budget,
 ) -> Result<(Fold, Choice), Stop>
-    requires analysed { IsAnalysed asked.now.program.now asked.now.nest.now (trees_of asked.now.flow.now) asked.now.schedule.now }
-    requires there { slice_get asked.now.nest.now.arrays array.0 ≡ Some info.now }
-    requires temporary { length (arrays_of asked.now.program.now.params) ≤ array.0 }
-    requires live { AreLive asked.now.program.now asked.now.schedule.now asked.now.nest.now array.0 info.now.extents systems.now }
-    requires bases { map shape_of bases.now ≡ listing (length info.now.extents) }
-    requires none_given { given_for asked.now.bases.now array.0 (length info.now.extents) ≡ None }
-    requires rows { length chosen.0.basis.rows ≡ length info.now.extents }
-    requires folded { IsFolded (F.answers cost.now.cost) asked.now.program.now asked.now.schedule.now asked.now.bases.now budget.old array.0 chosen }
-    ensures folded { IfOk result (IsFolded (F.answers cost.now.cost) asked.now.program.now asked.now.schedule.now asked.now.bases.now budget.new array.0) }
+    requires temporary { IsTemporary temporary.now }
+    requires bases { map shape_of bases.now ≡ listing (length temporary.now.info.now.extents) }
+    requires none_given { given_for temporary.now.asked.bases.now temporary.now.array.0 (length temporary.now.info.now.extents) ≡ None }
+    requires rows { length chosen.0.basis.rows ≡ length temporary.now.info.now.extents }
+    requires folded { IsFoldedFor (F.answers cost.now.cost) temporary.now budget.old chosen }
+    ensures folded { IfOk result (IsFoldedFor (F.answers cost.now.cost) temporary.now budget.new) }
     ensures later { IsLater budget.old budget.new }
     ensures stop { IfErr result (λ e. e ≡ Stop.Memory) }
 {
@@ -273,9 +229,7 @@ fn in_full<F: Cost>(
         quick: false,
         known: known_of(&choice),
     };
-    let one = tried(
-        alloc, asked, array, info, systems, basis, cost, hint, budget,
-    )?;
+    let one = tried(alloc, temporary, basis, cost, hint, budget)?;
     let full = with_marks(fold, &choice, one);
     Ok((full, choice))
 }
@@ -307,20 +261,22 @@ fn fold_cheapest<F: Cost>(
         Err(Stop::Memory) => return Err(Stop::Memory),
     };
     let systems = systems.as_slice();
+    let temporary = Temporary {
+        asked: *asked,
+        array,
+        info,
+        systems,
+    };
     let quick = several && budget.limit().is_none();
     let hint = Hint { quick, known: &[] };
-    let found = all_tried(
-        alloc, asked, array, info, systems, bases, cost, hint, budget,
-    )?;
+    let found = all_tried(alloc, &temporary, bases, cost, hint, budget)?;
     match choose(alloc, found)? {
         None => Ok(None),
         Some(chosen) => {
             if !quick {
                 return Ok(Some(chosen));
             }
-            let done = in_full(
-                alloc, asked, array, info, systems, bases, cost, chosen, budget,
-            )?;
+            let done = in_full(alloc, &temporary, bases, cost, chosen, budget)?;
             Ok(Some(done))
         }
     }
@@ -352,14 +308,17 @@ fn fold_given<F: Cost>(
         Err(Stop::Memory) => return Err(Stop::Memory),
     };
     let systems = systems.as_slice();
+    let temporary = Temporary {
+        asked: *asked,
+        array,
+        info,
+        systems,
+    };
     let hint = Hint {
         quick: false,
         known: &[],
     };
-    let Some(one) = tried(
-        alloc, asked, array, info, systems, basis, cost, hint, budget,
-    )?
-    else {
+    let Some(one) = tried(alloc, &temporary, basis, cost, hint, budget)? else {
         return Ok(None);
     };
     let choice = Choice {
