@@ -2,6 +2,7 @@
 
 use crate::draft::{Drafting, drafts_of};
 use crate::strides::room;
+use crate::telling::telling_rows;
 use affc_flow::asking::{column_forms, store_for};
 use affc_flow::listing::images_of;
 use affc_flow::load::Load;
@@ -117,7 +118,7 @@ fn conditions(
     let mut out = Items::new(alloc);
     add_stored(alloc, columns, images, written, drafting.read, &mut out)?;
     add_earlier(alloc, forms, own.as_slice(), drafting.depth, n, &mut out)?;
-    add_at_images(alloc, columns, images, writer.domain.rows(), &mut out)?;
+    add_at_images(alloc, columns, images, drafting.rows, &mut out)?;
     Ok(out)
 }
 
@@ -201,10 +202,12 @@ fn add_at_depth<'a>(
     for writer in load.nest.entries.as_slice().iter().rev() {
         if let Some(store) = store_for(writer, load.access.array.0) {
             if has_depth(load, writer, depth) {
+                let rows = telling_rows(alloc, load.nest, writer)?;
                 let drafting = Drafting {
-                    load,
-                    read,
+                    load: &*load,
+                    read: &*read,
                     writer,
+                    rows: rows.as_slice(),
                     store,
                     columns,
                     depth,

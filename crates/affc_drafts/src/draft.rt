@@ -33,6 +33,8 @@ pub(crate) struct Drafting<'a> {
     pub(crate) load: &'a Load<'a>,
     pub(crate) read: &'a [Form],
     pub(crate) writer: &'a Entry,
+    /// The rows of the statement's domain that tell where its instances are.
+    pub(crate) rows: &'a [Form],
     pub(crate) store: &'a Access,
     pub(crate) columns: u32,
     pub(crate) depth: usize,
@@ -132,7 +134,7 @@ fn begun(alloc: Global, work: &Work<'_>, divisions: &mut Vec<Division>) -> Resul
 
 // ---- Rows.
 
-/// The row of the order at its depth, and those of the domain, at these forms.
+/// The row of the order at its depth, and those that tell where instances are, at these forms.
 pub(crate) fn rows_at(
     alloc: Global,
     work: &Work<'_>,
@@ -153,7 +155,7 @@ pub(crate) fn rows_at(
     let own = column_forms(alloc, all, 0, work.params)?;
     let mut images = Items::from_vec(own);
     add_copies(forms, &mut images)?;
-    for row in work.drafting.writer.domain.rows() {
+    for row in work.drafting.rows {
         let made = at_images(alloc, all, images.as_slice(), row)?;
         out.push(made)?;
     }

@@ -6,6 +6,7 @@ mod draft;
 mod sampled;
 mod solved;
 mod strides;
+mod telling;
 
 pub use candidates::{Candidate, Guess, drafts};
 pub use sampled::{through, value_of};

@@ -3,7 +3,8 @@
 //! Equations are solved over the whole numbers: where each iterator in them has a coefficient, one is turned into itself and
 //! some times another, until some coefficient is 1 or only one is left, which a division tells. Of the iterators that are left,
 //! from the outer on, each is as late as that row lets it be that comes nearest to the sample; rounded down, less the distance
-//! at the sample.
+//! at the sample. Before these stands the draft that is as far from the load everywhere as the instance is at the sample, where that
+//! stores what is read: it wants no division.
 
 use crate::candidates::{Candidate, add_candidate};
 use crate::draft::{Drafting, Work, arranged, cut, open_column, posed, rows_at};
@@ -12,10 +13,12 @@ use crate::solved::{
     without_others,
 };
 use crate::strides::{ROOM, floored};
+use crate::telling::telling_rows;
 use affc_ast::tree::Instance;
 use affc_flow::asking::store_for;
+use affc_flow::listing::images_of;
 use affc_flow::load::Load;
-use affc_flow::questions::{Unasked, add_padded, count};
+use affc_flow::questions::{Unasked, add_padded, at_images, count};
 use affc_order::order::shared;
 use affc_quast::leaves::Division;
 use affc_rows::Form;
@@ -394,6 +397,58 @@ fn all_values(
     Ok(all)
 }
 
+/// The load's iterators, each with as much added as the store's is greater at the sample.
+fn shifted(
+    alloc: Global,
+    drafting: &Drafting<'_>,
+    iterators: &[i64],
+    instance: &Instance,
+) -> Result<Items<Form>, Unasked> {
+    let params = drafting.load.nest.params.ranges().len();
+    let mut out = Items::new(alloc);
+    for (k, (x, y)) in iterators
+        .iter()
+        .zip(instance.iterators.as_slice())
+        .enumerate()
+    {
+        let place = count(params.saturating_add(k))?;
+        let mut form = Form::column(alloc, drafting.columns, place)?;
+        form.constant = i128::from(*y) - i128::from(*x);
+        out.push(form)?;
+    }
+    Ok(out)
+}
+
+/// Whether an instance stores what is read, wherever it is.
+fn stores_read(alloc: Global, drafting: &Drafting<'_>, forms: &[Form]) -> Result<bool, Unasked> {
+    if forms.len() != drafting.writer.loops.len() {
+        return Ok(false);
+    }
+    let images = images_of(alloc, drafting.load, drafting.columns, forms)?;
+    for (sub, other) in drafting.store.subs.as_slice().iter().zip(drafting.read) {
+        let made = at_images(alloc, drafting.columns, images.as_slice(), sub)?;
+        if made.constant != other.constant || made.coefs.as_slice() != other.coefs.as_slice() {
+            return Ok(false);
+        }
+    }
+    Ok(true)
+}
+
+/// Adds the candidate that is as far from the load as the instance at the sample is, if it stores what is read.
+fn add_shifted(
+    alloc: Global,
+    drafting: &Drafting<'_>,
+    iterators: &[i64],
+    instance: &Instance,
+    out: &mut Vec<Candidate>,
+) -> Result<(), Unasked> {
+    let forms = shifted(alloc, drafting, iterators, instance)?;
+    if stores_read(alloc, drafting, forms.as_slice())? {
+        add_candidate(alloc, drafting, forms, out)?;
+    }
+    Ok(())
+}
+
 /// Adds candidates that name an instance where the load's iterators have these values, and its columns and the quotients of
 /// the divisions those.
 fn add_through<'a>(
@@ -419,15 +474,18 @@ fn add_through<'a>(
     let columns = load.reader.domain.columns().saturating_add(ROOM);
     let mut read = Items::new(alloc);
     add_padded(alloc, columns, load.access.subs.as_slice(), &mut read)?;
+    let rows = telling_rows(alloc, load.nest, writer)?;
     let n = shared(writer.loops.as_slice(), load.reader.loops.as_slice());
     let drafting = Drafting {
         load,
         read: read.as_slice(),
         writer,
+        rows: rows.as_slice(),
         store,
         columns,
         depth: same(iterators, instance.iterators.as_slice(), n),
     };
+    add_shifted(alloc, &drafting, iterators, instance, out)?;
     let all = all_values(alloc, values, columns, instance)?;
     for forms in drafts_at(alloc, &drafting, all, divisions)? {
         add_candidate(alloc, &drafting, forms, out)?;
