@@ -9,7 +9,7 @@ use crate::number::Number;
 use crate::simplex::push_slack;
 use crate::tableau::{
     Broken, Tableau, Way, can_help, entries_at, exchange, high_of, line_at, low_of, put_variable,
-    spend, variable_at, width_of,
+    spend, variable_at,
 };
 use std::alloc::{AllocError, Global};
 
@@ -85,6 +85,26 @@ fn lessening<N: Number>(
     found
 }
 
+/// What is done next so that a column that is one of the other variables gets less.
+fn move_of_other<N: Number>(
+    value: N,
+    bounds: &[Bound],
+    stages: &mut [u32],
+    place: usize,
+    column: u32,
+) -> Move {
+    if variable_at(stages, place) != 0 {
+        return Move::Done;
+    }
+    let low: N = low_of(column, bounds);
+    if low.is_below(value) {
+        let way = Way::Down;
+        return Move::Enter(Entering { place, way });
+    }
+    put_variable(stages, place, column.saturating_add(1));
+    Move::Done
+}
+
 /// What is done next so that a column gets less. Where nothing can be, what it depends on is frozen.
 fn next_move<N: Number>(
     tableau: &Tableau<N>,
@@ -93,32 +113,22 @@ fn next_move<N: Number>(
     column: u32,
 ) -> Option<Move> {
     let columns = bounds.len();
-    let stage = column.saturating_add(1);
     let (others, basics) = tableau.variables.as_slice().split_at_checked(columns)?;
     let values = tableau.cells.as_slice();
     if let Some(place) = place_among(others, column) {
-        let low: N = low_of(column, bounds);
-        if variable_at(stages, place) == 0 && low.is_below(at(values, place)) {
-            let way = Way::Down;
-            return Some(Move::Enter(Entering { place, way }));
-        }
-        if variable_at(stages, place) == 0 {
-            put_variable(stages, place, stage);
-        }
-        return Some(Move::Done);
+        let value = at(values, place);
+        return Some(move_of_other(value, bounds, stages, place, column));
     }
     let entries = entries_at(tableau, columns, place_among(basics, column)?)?;
-    match lessening(entries, values, others, stages, bounds) {
-        Some(entering) => Some(Move::Enter(entering)),
-        None => {
-            freeze(entries, stages, stage);
-            Some(Move::Done)
-        }
+    if let Some(entering) = lessening(entries, values, others, stages, bounds) {
+        return Some(Move::Enter(entering));
     }
+    freeze(entries, stages, column.saturating_add(1));
+    Some(Move::Done)
 }
 
 /// How far a variable can move: a quotient, and the line whose variable then meets an end of its range, if one does.
-#[derive(Drop)]
+#[derive(Clone, Copy)]
 struct Reach<N> {
     over: N,
     by: N,
@@ -160,33 +170,33 @@ fn end_of<N: Number>(variable: u32, up: bool, bounds: &[Bound]) -> Option<N> {
     }
 }
 
-/// How far a variable can move until a line's variable meets an end of its range.
+/// How far a variable can move until the variable of a line of this number meets an end of its range.
 fn reach_in<N: Number>(
-    line: &[N],
-    basic: u32,
-    values: &[N],
+    tableau: &Tableau<N>,
     bounds: &[Bound],
     entering: Entering,
+    number: usize,
 ) -> Option<Option<Reach<N>>> {
-    let [constant, divisor, entries @ ..] = line else {
+    let columns = bounds.len();
+    let [constant, divisor, entries @ ..] = line_at(tableau, columns, number)? else {
         return None;
     };
     let entry = at(entries, entering.place);
-    let up = entry.is_below(N::zero()) != (entering.way == Way::Up);
-    let Some(end) = end_of::<N>(basic, up, bounds) else {
-        return Some(None);
-    };
     if entry.is_zero() {
         return Some(None);
     }
-    let value = sum_of(*constant, entries, values)?;
-    let far = end.times(*divisor)?;
-    let gap = far.plus(value.negated()?)?;
+    let variable = variable_at(tableau.variables.as_slice(), columns.saturating_add(number));
+    let up = entry.is_below(N::zero()) != (entering.way == Way::Up);
+    let Some(end) = end_of::<N>(variable, up, bounds) else {
+        return Some(None);
+    };
+    let value = sum_of(*constant, entries, tableau.cells.as_slice())?;
+    let gap = end.times(*divisor)?.plus(value.negated()?)?;
     Some(Some(Reach {
         over: if up { gap } else { gap.negated()? },
         by: positive(entry)?,
-        line: None,
-        variable: basic,
+        line: Some(number),
+        variable,
         end,
     }))
 }
@@ -211,13 +221,10 @@ fn reach_to<N: Number>(
 ) -> Option<Option<Reach<N>>> {
     let columns = bounds.len();
     let (others, basics) = tableau.variables.as_slice().split_at_checked(columns)?;
-    let (values, lines) = tableau.cells.as_slice().split_at_checked(columns)?;
     let mut reach = own_reach(variable_at(others, entering.place), entering.way, bounds)?;
-    for (number, line) in lines.chunks_exact(width_of(columns)).enumerate() {
-        let basic = variable_at(basics, number);
-        if let Some(found) = reach_in(line, basic, values, bounds, entering)? {
-            let line = Some(number);
-            reach = Some(nearer(reach, Reach { line, ..found })?);
+    for number in 0..basics.len() {
+        if let Some(found) = reach_in(tableau, bounds, entering, number)? {
+            reach = Some(nearer(reach, found)?);
         }
     }
     Some(reach)
