@@ -41,6 +41,7 @@ pub data Said : Type 0 where
   Limit : (limit : ℕ) → Said
   Row : (row : Affine) → Said
   ExpectEmpty : Said
+  ExpectAny : Said
   ExpectStopped : Said
   ExpectPoint : (point : List ℤ) → Said
 
@@ -53,6 +54,7 @@ IsSaid (Ranges ranges) words = (more : List (List ℕ)) × (words ≡ codes "ran
 IsSaid (Limit limit) words = (word : List ℕ) × (words ≡ codes "limit" ∷ word ∷ []) × Says word (pos limit)
 IsSaid (Row row) words = Say words (row.coefs ++ row.constant ∷ [])
 IsSaid ExpectEmpty words = words ≡ codes "expect" ∷ codes "empty" ∷ []
+IsSaid ExpectAny words = words ≡ codes "expect" ∷ codes "any" ∷ []
 IsSaid ExpectStopped words = words ≡ codes "expect" ∷ codes "stopped" ∷ []
 IsSaid (ExpectPoint point) words = (more : List (List ℕ)) × (words ≡ codes "expect" ∷ codes "point" ∷ more) × Say more point
 
@@ -79,6 +81,7 @@ IsTaken (Ranges ranges) before added after = (b : Block) × (before ≡ Some b) 
 IsTaken (Limit limit) before added after = (b : Block) × (before ≡ Some b) × (added ≡ line.Nothing) × (after ≡ Some (record b { limit = limit }))
 IsTaken (Row row) before added after = (b : Block) × (before ≡ Some b) × (added ≡ line.Nothing) × AddsRow b row after
 IsTaken ExpectEmpty before added after = (added ≡ line.Empty) × (after ≡ before)
+IsTaken ExpectAny before added after = (added ≡ line.Any) × (after ≡ before)
 IsTaken ExpectStopped before added after = (added ≡ line.Stopped) × (after ≡ before)
 IsTaken (ExpectPoint point) before added after = (v : Vec ℤ Global) × (added ≡ line.Point v) × (v.items ≡ point) × (after ≡ before)
 
@@ -108,4 +111,5 @@ pub record IsReady (block : Block) : Type 0 where
 abbrev pub IsExpected : Answer → Line → Type 0
 IsExpected (answer.Empty proof) (line.Empty) = Unit {0}
 IsExpected (answer.Point point) (line.Point wanted) = point.items ≡ wanted.items
+IsExpected (answer.Point point) (line.Any) = Unit {0}
 IsExpected found expected = ⊥

@@ -30,6 +30,8 @@ pub enum Line {
     Nothing,
     Empty,
     Point(Vec<i64>),
+    /// A point, whichever it is.
+    Any,
     Stopped,
 }
 
@@ -241,6 +243,9 @@ fn expected(alloc: Global, more: &[&[u8]]) -> Result<Line, Fault>
     }
     if is_word(first, b"empty") {
         return Ok(Line::Empty);
+    }
+    if is_word(first, b"any") {
+        return Ok(Line::Any);
     }
     if is_word(first, b"stopped") {
         return Ok(Line::Stopped);

@@ -9,7 +9,7 @@ ghost use Rattle.affc_split.specs.Openings.{nodes};
 ghost use Rattle.affc_decide.specs.Blocks.{IsExpected, IsReady, TakesLine, TakesNoLine};
 
 use affc_farkas::Proof;
-use affc_split::{Answer, Budget, Stop, decide, within_reach};
+use affc_split::{Answer, Budget, Stop, decide, decide_any, within_reach};
 use block::{Block, Line, read_line};
 use std::alloc::Global;
 use std::io;
@@ -60,6 +60,10 @@ fn print_answer(
             writeln!(out, "empty {spent} {count}")?;
             Ok(matches!(expected, Line::Empty))
         }
+        Answer::Point(_) if matches!(expected, Line::Any) => {
+            writeln!(out, "any {spent}")?;
+            Ok(true)
+        }
         Answer::Point(point) => {
             write!(out, "point")?;
             for x in point {
@@ -92,7 +96,10 @@ fn settle(
         return Ok(false);
     }
     let mut budget = Budget::new(Some(block.limit));
-    let found = decide(alloc, &block.system, ranges, &mut budget);
+    let found = match expected {
+        Line::Any => decide_any(alloc, &block.system, ranges, &mut budget),
+        _ => decide(alloc, &block.system, ranges, &mut budget),
+    };
     let spent = budget.spent();
     totals.units = totals.units.saturating_add(spent);
     match found {

@@ -5,5 +5,6 @@ pub mod Parts
 pub mod Leaves
 pub mod Cuts
 pub mod BoxCuts
+pub mod Flat
 pub mod Examples
 pub mod Fronts

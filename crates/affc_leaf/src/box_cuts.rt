@@ -9,7 +9,7 @@ ghost use Rattle.affc_leaf.specs.Leaves.{corner_rows, SameSum};
 ghost use Rattle.affc_leaf.specs.Parts.{IsEmpty};
 
 use crate::boxed::push_row;
-use crate::candidates::{Candidate, Proposal, candidates_in, remainder_of};
+use crate::candidates::{Proposal, candidates_in, remainder_of};
 use crate::cuts::divided_sum;
 use crate::leaves::{
     Sight, add_multiple, added, fits_sum, found_leaf, is_below_zero, leaf_with, put_corners,
@@ -18,6 +18,7 @@ use crate::leaves::{
 use crate::tops::top_products;
 use affc_farkas::{Multipliers, Proof};
 use affc_rows::Form;
+use affc_simplex::rounds::Cut;
 use affc_simplex::simplex::{Outcome, Wanted, look_at};
 use affc_simplex::{Bound, Vertex};
 use affc_system::System;
@@ -35,7 +36,7 @@ pub(crate) struct BoxCut {
 /// A leaf's multiples of the system's rows, and of the cuts before it, each of which has its own multiples of rows.
 #[derive(Drop)]
 struct Plan {
-    cuts: Vec<Candidate>,
+    cuts: Vec<Cut>,
     own: Vec<(u32, u64)>,
     over: Vec<(u32, u64)>,
 }
@@ -259,7 +260,7 @@ fn cut_and_leaf(
         );
     }
     let _cuts = cuts.rows();
-    let planned: &Candidate = &plan.cuts[from];
+    let planned: &Cut = &plan.cuts[from];
     let Some(cut) = box_cut(alloc, system, bounds, planned.own.as_slice(), planned.g)? else {
         return Ok(None);
     };
@@ -277,7 +278,7 @@ fn cut_and_leaf(
 #[derive(Drop)]
 struct Tried {
     extended: System,
-    cuts: Vec<Candidate>,
+    cuts: Vec<Cut>,
 }
 
 /// Adds a row, where it fits.
@@ -303,9 +304,9 @@ fn tried_cuts(
         cuts: Vec::new(alloc),
     };
     for proposal in found {
-        let Proposal { candidate, row } = proposal;
+        let Proposal { cut, row } = proposal;
         if add_row(&mut tried.extended, row) {
-            tried.cuts.push(candidate)?;
+            tried.cuts.push(cut)?;
         }
     }
     Ok(Some(tried))
@@ -315,7 +316,7 @@ fn tried_cuts(
 fn plan_of(
     alloc: Global,
     rows: usize,
-    cuts: &[Candidate],
+    cuts: &[Cut],
     sum: &[(u32, u64)],
 ) -> Result<Plan, AllocError> {
     let mut plan = Plan {
@@ -329,7 +330,7 @@ fn plan_of(
             Some(place) => {
                 if let (Some(cut), Ok(count)) = (cuts.get(place), u32::try_from(plan.cuts.len())) {
                     plan.over.push((count, *times))?;
-                    plan.cuts.push(Candidate {
+                    plan.cuts.push(Cut {
                         own: Vec::from_slice(alloc, cut.own.as_slice())?,
                         g: cut.g,
                     })?;

@@ -10,6 +10,7 @@ use affc_rows::Form;
 use affc_rows::vocabulary::gcd;
 use affc_simplex::cells::{at, reduce};
 use affc_simplex::pairs::put_pair;
+use affc_simplex::rounds::Cut;
 use affc_simplex::{Bound, Vertex};
 use affc_system::System;
 use smallvec::SmallVec;
@@ -21,17 +22,10 @@ const MOST_CANDIDATES: usize = 64;
 /// The most eliminations in a box.
 const MOST_ELIMINATIONS: u32 = 256;
 
-/// Multiples of rows, and the number by which their sum is divided.
-#[derive(Drop)]
-pub(crate) struct Candidate {
-    pub own: Vec<(u32, u64)>,
-    pub g: i64,
-}
-
-/// A candidate with the row that its division gives.
+/// A cut with the row that its division gives.
 #[derive(Drop)]
 pub(crate) struct Proposal {
-    pub candidate: Candidate,
+    pub cut: Cut,
     pub row: Form,
 }
 
@@ -182,8 +176,8 @@ fn add_divided(
     if let Some(row) = divided_row(alloc, coefs, greatest, bounds, g)? {
         search.excludes = search.excludes || is_excluded(&row, search.vertex);
         let own = Vec::from_slice(alloc, own)?;
-        let candidate = Candidate { own, g };
-        search.found.push(Proposal { candidate, row })?;
+        let cut = Cut { own, g };
+        search.found.push(Proposal { cut, row })?;
     }
     Ok(())
 }

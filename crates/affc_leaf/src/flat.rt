@@ -1,11 +1,11 @@
-//! Proofs that a box has no point by splits on forms that take few values in it (Lenstra's flat directions).
+//! Proofs that a box has no point, and points of it, by splits on forms that take few values in it (Lenstra's flat directions).
 ghost use Rattle.std.specs.Prelude.{◌≡◌, ◌-ℤ◌, ◌++◌, ◌∷◌, [], pos, IfOk, IfSome, IsTrue, length};
 ghost use Rattle.std.specs.List.{All};
 ghost use Rattle.affc_farkas.specs.Proofs.{low_row, high_row};
 ghost use Rattle.affc_system.specs.Systems.{IsRow, FitsRow};
 ghost use Rattle.affc_leaf.specs.Bounds.{IsBound};
 ghost use Rattle.affc_leaf.specs.BoxCuts.{IsEmptyWith};
-ghost use Rattle.affc_leaf.specs.Parts.{IsEmpty};
+ghost use Rattle.affc_leaf.specs.Flat.{IsMet, IsMetWith, IsMetPoint};
 
 use crate::box_cuts::{add_row, leaf_below};
 use affc_farkas::Proof;
@@ -17,17 +17,21 @@ use affc_system::System;
 use affc_system::system::{RowFault, fits_row};
 use std::alloc::{AllocError, Global};
 
-/// The most parts that are looked at in one box.
+/// The most parts that are looked at in one box, and the most that stand one in another.
 const MOST_PARTS: u32 = 64;
-
-/// The most splits one below another. Where forms take few values a handful is enough, and a box with a point is left soon.
-const MOST_SPLITS: u32 = 16;
 
 /// The most cells of rows in all these parts.
 const MOST_CELLS: u32 = 1 << 16;
 
 /// The most columns of a system for which forms are looked for.
 const MOST_COLUMNS: u32 = 24;
+
+/// What is found of a box: a proof that it has no point, or a point that may be one of it.
+#[derive(Drop)]
+pub enum Met {
+    Empty(Box<Proof>),
+    Point(Vec<i64>),
+}
 
 /// What is split: a box of a system, with the number of the row that a split adds, and the forms.
 #[derive(Clone, Copy)]
@@ -109,19 +113,15 @@ fn shares_of(alloc: Global, rows: u32, sum: &[(u32, u64)]) -> Result<Shares, All
 }
 
 /// A leaf for a part of the box, by this sum of rows.
-fn leaf_of(
-    here: &Flat<'_>,
-    part: &System,
-    sum: &[(u32, u64)],
-) -> Result<Option<Box<Proof>>, AllocError>
+fn leaf_of(here: &Flat<'_>, part: &System, sum: &[(u32, u64)]) -> Result<Option<Met>, AllocError>
     requires width { length here.now.bounds.now ≡ here.now.system.now.columns }
     requires ranges { All IsBound here.now.bounds.now }
     requires columns { part.now.columns ≡ here.now.system.now.columns }
-    ensures answer { IfOk result (λ o. IfSome o (λ p. IsEmptyWith here.now.system.now here.now.bounds.now here.now.next part.now.rows p.value)) }
+    ensures answer { IfOk result (λ o. IfSome o (IsMetWith here.now.system.now here.now.bounds.now here.now.next part.now.rows)) }
 {
     let rows = here.system.rows().len() as u32;
     let shares = shares_of(here.alloc, rows, sum)?;
-    leaf_below(
+    let leaf = leaf_below(
         here.alloc,
         here.system,
         here.bounds,
@@ -129,7 +129,11 @@ fn leaf_of(
         shares.own.as_slice(),
         shares.over.as_slice(),
         here.next,
-    )
+    )?;
+    match leaf {
+        Some(leaf) => Ok(Some(Met::Empty(leaf))),
+        None => Ok(None),
+    }
 }
 
 /// The part with one row more. `None` where the row breaks a limit, or there is no room.
@@ -189,14 +193,14 @@ fn joined(
     at: i64,
     low: Box<Proof>,
     high: Box<Proof>,
-) -> Result<Option<Box<Proof>>, AllocError>
+) -> Result<Option<Met>, AllocError>
     requires width { length here.now.bounds.now ≡ here.now.system.now.columns }
     requires zero { form.now.constant ≡ pos 0 }
     requires low_fits { IsRow here.now.system.now.columns (low_row form.now at) }
     requires high_fits { IsRow here.now.system.now.columns (high_row form.now at) }
     requires low { IsEmptyWith here.now.system.now here.now.bounds.now here.now.next (part.now.rows ++ low_row form.now at ∷ []) low.value }
     requires high { IsEmptyWith here.now.system.now here.now.bounds.now here.now.next (part.now.rows ++ high_row form.now at ∷ []) high.value }
-    ensures answer { IfOk result (λ o. IfSome o (λ p. IsEmptyWith here.now.system.now here.now.bounds.now here.now.next part.now.rows p.value)) }
+    ensures answer { IfOk result (λ o. IfSome o (IsMetWith here.now.system.now here.now.bounds.now here.now.next part.now.rows)) }
 {
     let form = form.clone()?;
     let Ok(proof) = Box::new(
@@ -210,15 +214,7 @@ fn joined(
     ) else {
         return Err(AllocError);
     };
-    Ok(Some(proof))
-}
-
-/// The split of a part of the box. `None` where the rational point that is found there is whole, or none is found.
-fn split_of(here: &Flat<'_>, outcome: &Outcome) -> Option<Split> {
-    match outcome {
-        Outcome::Vertex(vertex, _) => split_at(here.forms, vertex),
-        _ => None,
-    }
+    Ok(Some(Met::Empty(proof)))
 }
 
 /// Whether a split on the form can be written: it has the constant 0, and keeps the limits of rows.
@@ -229,53 +225,78 @@ fn is_plain(form: &Form) -> bool
     form.constant == 0 && fits_row(form)
 }
 
-/// A proof that a part of the box has no point, by at most so many splits one below another. `None` where none is found in the number
-/// of parts that are left.
-fn part_proof(
+/// What is found of a part of the box, where at most so many parts stand one in another. `None` where nothing is found in the number of
+/// parts that are left.
+#[cycle(parts)]
+fn part_found(
     here: &Flat<'_>,
     part: &System,
     deep: u32,
     left: &mut u32,
-) -> Result<Option<Box<Proof>>, AllocError>
+) -> Result<Option<Met>, AllocError>
     requires width { length here.now.bounds.now ≡ here.now.system.now.columns }
     requires ranges { All IsBound here.now.bounds.now }
     requires columns { part.now.columns ≡ here.now.system.now.columns }
-    ensures answer { IfOk result (λ o. IfSome o (λ p. IsEmptyWith here.now.system.now here.now.bounds.now here.now.next part.now.rows p.value)) }
+    ensures answer { IfOk result (λ o. IfSome o (IsMetWith here.now.system.now here.now.bounds.now here.now.next part.now.rows)) }
 {
     let (Some(deeper), Some(rest)) = (deep.checked_sub(1), left.checked_sub(1)) else {
         return Ok(None);
     };
     *left = rest;
-    let outcome = look_below(here, part)?;
-    if let Outcome::Sum(sum) = &outcome {
-        return leaf_of(here, part, sum.as_slice());
+    match look_below(here, part)? {
+        Outcome::Sum(sum) => leaf_of(here, part, sum.as_slice()),
+        Outcome::Vertex(vertex, _) => match split_at(here.forms, &vertex) {
+            Some(split) => halves_found(here, part, split, deeper, left),
+            None => whole_point(here.alloc, &vertex),
+        },
+        _ => Ok(None),
     }
-    let Some(split) = split_of(here, &outcome) else {
-        return Ok(None);
-    };
+}
+
+/// What is found of the two parts of a part.
+#[cycle(parts)]
+fn halves_found(
+    here: &Flat<'_>,
+    part: &System,
+    split: Split,
+    deep: u32,
+    left: &mut u32,
+) -> Result<Option<Met>, AllocError>
+    requires width { length here.now.bounds.now ≡ here.now.system.now.columns }
+    requires ranges { All IsBound here.now.bounds.now }
+    requires columns { part.now.columns ≡ here.now.system.now.columns }
+    ensures answer { IfOk result (λ o. IfSome o (IsMetWith here.now.system.now here.now.bounds.now here.now.next part.now.rows)) }
+{
     let Some(form) = here.forms.get(split.place) else {
         return Ok(None);
     };
     if !is_plain(form) {
         return Ok(None);
     }
-    let Some(lower) = lower_part(here.alloc, part, form, split.at)? else {
+    let (Some(lower), Some(upper)) = (
+        lower_part(here.alloc, part, form, split.at)?,
+        upper_part(part, form, split.at)?,
+    ) else {
         return Ok(None);
     };
-    let Some(low) = part_proof(here, &lower, deeper, left)? else {
-        return Ok(None);
-    };
-    let Some(upper) = upper_part(part, form, split.at)? else {
-        return Ok(None);
-    };
-    let Some(high) = part_proof(here, &upper, deeper, left)? else {
-        return Ok(None);
-    };
-    joined(here, part, form, split.at, low, high)
+    let low = part_found(here, &lower, deep, left)?;
+    if let Some(Met::Point(point)) = low {
+        return Ok(Some(Met::Point(point)));
+    }
+    let high = part_found(here, &upper, deep, left)?;
+    match (low, high) {
+        (Some(Met::Empty(low)), Some(Met::Empty(high))) => {
+            joined(here, part, form, split.at, low, high)
+        }
+        (_, Some(Met::Point(point))) => Ok(Some(Met::Point(point))),
+        _ => Ok(None),
+    }
 }
 
 /// The numbers of a point, where all are whole.
-fn whole_point(alloc: Global, vertex: &Vertex) -> Result<Option<Vec<i64>>, AllocError> {
+fn whole_point(alloc: Global, vertex: &Vertex) -> Result<Option<Met>, AllocError>
+    ensures { IfOk result (λ o. IfSome o IsMetPoint) }
+{
     let mut point = Vec::with_capacity(alloc, vertex.numerators.len())?;
     for x in vertex.numerators.iter() {
         if x.checked_rem(vertex.divisor) != Some(0) {
@@ -289,66 +310,7 @@ fn whole_point(alloc: Global, vertex: &Vertex) -> Result<Option<Vec<i64>>, Alloc
         };
         point.push(value)?;
     }
-    Ok(Some(point))
-}
-
-/// A whole point of a part of the box, where one is found in the number of parts that are left.
-fn part_point(
-    here: &Flat<'_>,
-    part: &System,
-    deep: u32,
-    left: &mut u32,
-) -> Result<Option<Vec<i64>>, AllocError> {
-    let (Some(deeper), Some(rest)) = (deep.checked_sub(1), left.checked_sub(1)) else {
-        return Ok(None);
-    };
-    *left = rest;
-    let Outcome::Vertex(vertex, _) = look_below(here, part)? else {
-        return Ok(None);
-    };
-    let Some(split) = split_at(here.forms, &vertex) else {
-        return whole_point(here.alloc, &vertex);
-    };
-    let Some(form) = here.forms.get(split.place) else {
-        return Ok(None);
-    };
-    if !is_plain(form) {
-        return Ok(None);
-    }
-    if let Some(lower) = lower_part(here.alloc, part, form, split.at)? {
-        let point = part_point(here, &lower, deeper, left)?;
-        if point.is_some() {
-            return Ok(point);
-        }
-    }
-    match upper_part(part, form, split.at)? {
-        Some(upper) => part_point(here, &upper, deeper, left),
-        None => Ok(None),
-    }
-}
-
-/// A whole point of a box where the system's rows hold, where one is found by splits on forms that take few values. Nothing is
-/// promised of it: whoever takes it tests it. The box has a range for each column of the system.
-#[inline(never)]
-pub fn found_point(
-    alloc: Global,
-    system: &System,
-    bounds: &[Bound],
-) -> Result<Option<Vec<i64>>, AllocError> {
-    let forms = forms_for(alloc, system, bounds)?;
-    if forms.is_empty() {
-        return Ok(None);
-    }
-    let here = Flat {
-        alloc,
-        system,
-        bounds,
-        next: 0,
-        forms: forms.as_slice(),
-    };
-    let whole = System::new(alloc, system.columns());
-    let mut left = parts_for(system);
-    part_point(&here, &whole, MOST_PARTS, &mut left)
+    Ok(Some(Met::Point(point)))
 }
 
 /// How many parts are looked at: many rows mean few parts.
@@ -368,7 +330,8 @@ fn forms_for(alloc: Global, system: &System, bounds: &[Bound]) -> Result<Vec<For
     flat_forms(alloc, system, bounds)
 }
 
-/// A proof that a box has no point, by splits on forms that take few values in it, where one is found.
+/// A proof that a box has no point, or a point of it, by splits on forms that take few values in it, where one is found. Nothing is
+/// promised of a point: whoever takes it tests it.
 #[inline(never)]
 #[tactic(auto, using(crate::proofs::BoxCuts::empty_alone))]
 pub fn found_flat(
@@ -376,10 +339,10 @@ pub fn found_flat(
     system: &System,
     bounds: &[Bound],
     next: u32,
-) -> Result<Option<Box<Proof>>, AllocError>
+) -> Result<Option<Met>, AllocError>
     requires width { length bounds.now ≡ system.now.columns }
     requires ranges { All IsBound bounds.now }
-    ensures answer { IfOk result (λ o. IfSome o (λ p. IsEmpty system.now bounds.now next p.value)) }
+    ensures answer { IfOk result (λ o. IfSome o (IsMet system.now bounds.now next)) }
 {
     let forms = forms_for(alloc, system, bounds)?;
     if forms.is_empty() {
@@ -394,5 +357,5 @@ pub fn found_flat(
     };
     let whole = System::new(alloc, system.columns());
     let mut left = parts_for(system);
-    part_proof(&here, &whole, MOST_SPLITS, &mut left)
+    part_found(&here, &whole, MOST_PARTS, &mut left)
 }

@@ -1,12 +1,12 @@
 -- What the definitions give at small boxes.
-use Rattle.std.proofs.Common.{◌≡◌, inl, inr, ℕ, suc, ◌+◌, ◌≤◌, List, [], ◌∷◌, length, ℤ, pos, ◌≤ℤ◌, ◌<ℤ◌, refl, sym, subst, arith}
+use Rattle.std.proofs.Common.{◌≡◌, inl, inr, ℕ, suc, ◌+◌, ◌≤◌, List, [], ◌∷◌, length, ℤ, pos, ◌≤ℤ◌, ◌<ℤ◌, Some, refl, sym, subst, arith}
 use Rattle.std.proofs.lemmas.Int.{ints}
 use Rattle.std.proofs.lemmas.List.Elements.{All-head, All-tail}
 use Rattle.std.specs.List.{All}
 use Rattle.affc_system.specs.Boxes.{InBox}
 use Rattle.affc_system.specs.Order.{LexLe}
 use Rattle.affc_split.specs.Openings.{IsPart, IsUpTo}
-use Rattle.affc_split.specs.Examples.{range, PartsLieWithin, NoBoxBehindThePoint, NoBoxBehindTheAnswer, AUnitIsOne, ALeafCostsOneUnit}
+use Rattle.affc_split.specs.Examples.{range, PartsLieWithin, NoBoxBehindThePoint, NoBoxBehindTheAnswer, AUnitIsOne, ALeafCostsOneUnit, APartOfFive}
 
 -- ---- Boxes of one column
 
@@ -87,3 +87,18 @@ none_are_too_few n e = omega arith
 
 pub a_leaf_costs_one_unit : ALeafCostsOneUnit
 a_leaf_costs_one_unit whole = (λ o. two_are_too_many _ (o.counted 5 refl) o.needed, λ o. none_are_too_few (length o.others) (o.counted 5 refl))
+
+beyond_four : 5 ≤ 4 → ⊥
+beyond_four h = omega arith
+
+beyond_five : 6 ≤ 5 → ⊥
+beyond_five h = omega arith
+
+five_or_three : (five three : ℕ) → five ≡ 5 → three ≡ 3 → Some five ≡ Some three → ⊥
+five_or_three five three f t e = grind (arith, f, t, e)
+
+two_or_three : (two three : ℕ) → two ≡ 2 → three ≡ 3 → two ≡ three → ⊥
+two_or_three two three f t e = omega (arith, f, t, e)
+
+pub a_part_of_five : APartOfFive
+a_part_of_five = (λ h. beyond_four h.few, λ h. beyond_five (h.within 5 refl), λ h. five_or_three 5 3 refl refl (h.unspent (omega arith) refl), λ h. two_or_three 2 3 refl refl h.spent)

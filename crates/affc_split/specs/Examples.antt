@@ -4,7 +4,7 @@ use Rattle.std.specs.declared.alloc.Global.{Global}
 use Rattle.std.specs.declared.vec.Vec.{Vec}
 use Rattle.affc_farkas.specs.declared.proof.Proof.{Proof, Leaf, Cut', Split'}
 use Rattle.affc_split.specs.declared.search.Answer.TheVariants.{Empty, Point}
-use Rattle.affc_split.specs.Budgets.{Account, Within, IsUnit, IsLater}
+use Rattle.affc_split.specs.Budgets.{Account, Within, IsUnit, IsLater, IsPartOf}
 use Rattle.affc_split.specs.Openings.{nodes, IsPart, AreDistinct, IsUpTo, AreNeeded, Opened}
 
 -- ---- Boxes of one column
@@ -68,6 +68,11 @@ TheLimitStays = IsLater (five 3) (record { limit = Some 6; spent = 3 }) → ⊥
 
 abbrev pub UncountedIsUnspent : Type 0
 UncountedIsUnspent = IsLater (no_limit 3) (no_limit 4) → ⊥
+
+-- three of five are spent: a part of one unit doesn't end at five, and one of three not at six; it doesn't end at once, and as much is spent
+abbrev pub APartOfFive : Type 0
+APartOfFive = (IsPartOf 1 (five 3) (five 3) → ⊥) × (IsPartOf 3 (record { limit = Some 6; spent = 3 }) (five 3) → ⊥)
+    × (IsPartOf 1 (record { limit = Some 3; spent = 3 }) (five 3) → ⊥) × (IsPartOf 1 (record { limit = Some 4; spent = 2 }) (five 3) → ⊥)
 
 -- two units are one too many beside a leaf, and none is one too few
 abbrev pub ALeafCostsOneUnit : Type 0

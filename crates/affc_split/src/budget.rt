@@ -1,6 +1,6 @@
 //! Budgets.
-ghost use Rattle.std.specs.Prelude.{◌≡◌, ℕ, ◌+◌, ◌-◌, ◌<◌, ◌≤◌, OnOk, OnErr, IsSomeAnd, IsNone, Some};
-ghost use Rattle.affc_split.specs.Budgets.{Account, Within, IsUnit, IsLater};
+ghost use Rattle.std.specs.Prelude.{◌≡◌, ℕ, ◌+◌, ◌-◌, ◌<◌, ◌≤◌, ◌↔◌, IsTrue, OnOk, OnErr, IsSomeAnd, IsNone, Some};
+ghost use Rattle.affc_split.specs.Budgets.{Account, Within, IsUnit, IsLater, IsPartOf};
 
 use std::alloc::AllocError;
 use std::marker::Model;
@@ -87,18 +87,23 @@ impl Budget {
         Ok(())
     }
 
+    /// Whether all of the budget is spent.
+    pub(crate) fn is_spent(&self) -> bool
+        ensures { IsTrue result ↔ (self.now.limit ≡ Some self.now.spent) }
+    {
+        self.limit == Some(self.spent)
+    }
+
     /// A budget of no more than so many units of this one.
     pub(crate) fn part(&self, units: u64) -> Budget
-        ensures spent { result.spent ≡ self.now.spent }
-        ensures limit { IsSomeAnd result.limit (λ k. (l : ℕ) → self.now.limit ≡ Some l → k ≤ l) }
+        ensures { IsPartOf units result self.now }
     {
-        let most = self.spent.saturating_add(units);
-        let limit = match self.limit {
-            Some(limit) => limit.min(most),
-            None => most,
+        let limit = match self.spent.checked_add(units) {
+            Some(most) => Some(self.limit.map_or(most, |limit| limit.min(most))),
+            None => self.limit,
         };
         Budget {
-            limit: Some(limit),
+            limit,
             spent: self.spent,
         }
     }
@@ -107,7 +112,8 @@ impl Budget {
     pub(crate) fn charge(&mut self, part: &Budget)
         requires grows { self.old.spent ≤ part.now.spent }
         ensures later { IsLater self.old self.new }
-        ensures spent { (l : ℕ) → self.old.limit ≡ Some l → part.now.spent ≤ l → self.new.spent ≡ part.now.spent }
+        ensures most { self.new.spent ≤ part.now.spent }
+        ensures spent { (l : ℕ) → self.old.limit ≡ Some l → IsSomeAnd part.now.limit (λ k. k ≤ l) → self.new.spent ≡ part.now.spent }
     {
         if let Some(limit) = self.limit {
             self.spent = part.spent.min(limit);

@@ -1,7 +1,7 @@
 //! The decision.
 ghost use Rattle.std.specs.Prelude.{◌≡◌, ℕ, ℤ, List, ◌+◌, ◌-◌, ◌*◌, ◌^◌, ◌<◌, ◌≤◌, ◌⊎◌, IfOk, IfErr, IfSome, IfNone, IsTrue, ◌↔◌, OnOk, OnErr, Some, Err, length};
 ghost use Rattle.std.specs.List.{All};
-ghost use Rattle.affc_system.specs.Systems.{IsPoint};
+ghost use Rattle.affc_system.specs.Systems.{IsPoint, IsRow};
 ghost use Rattle.affc_system.specs.Boxes.{IsBox, InBox};
 ghost use Rattle.affc_system.specs.Pairs.{WithinReach};
 ghost use Rattle.affc_farkas.specs.Proofs.{ValidProof};
@@ -30,11 +30,7 @@ use affc_system::{BoxOf, System};
 use std::alloc::{AllocError, Global};
 
 /// The bounds of a box whose rows come after those of the system.
-pub(crate) fn bounds_of(
-    alloc: Global,
-    ranges: &[(i64, i64)],
-    rows: u32,
-) -> Result<Vec<Bound>, AllocError>
+fn bounds_of(alloc: Global, ranges: &[(i64, i64)], rows: u32) -> Result<Vec<Bound>, AllocError>
     requires few { length ranges.now ≤ 128 }
     requires rows { rows ≤ 1024 }
     ensures { IfOk result (λ v. v.items ≡ box_bounds rows ranges.now) }
@@ -52,7 +48,11 @@ pub(crate) fn bounds_of(
 }
 
 /// The bounds of the whole box, ready to be searched.
-fn whole(alloc: Global, system: &System, ranges: &[(i64, i64)]) -> Result<Vec<Bound>, Stop>
+pub(crate) fn whole(
+    alloc: Global,
+    system: &System,
+    ranges: &[(i64, i64)],
+) -> Result<Vec<Bound>, Stop>
     requires columns { length ranges.now ≡ system.now.columns }
     requires ordered { IsBox ranges.now }
     requires reach { All WithinReach ranges.now }
@@ -65,6 +65,15 @@ fn whole(alloc: Global, system: &System, ranges: &[(i64, i64)]) -> Result<Vec<Bo
     let rows = system.rows().len() as u32;
     let bounds = bounds_of(alloc, ranges, rows)?;
     Ok(bounds)
+}
+
+/// The number of the first row behind those of a system and of its box.
+pub(crate) fn next_row(system: &System) -> u32
+    ensures value { result ≡ length system.now.rows + 2 * system.now.columns }
+    ensures few { result ≤ 1280 }
+    ensures fit { All (IsRow system.now.columns) system.now.rows }
+{
+    system.rows().len() as u32 + 2 * system.columns()
 }
 
 /// Whether both ends of a range are within 2^60.
@@ -277,7 +286,7 @@ fn opened(
     ensures corner_stop { IfErr result (λ e. e ≡ Stop.Budget → IsPoint system.now (low_corner ranges.now) → ⊥) }
 {
     let columns = system.columns();
-    let next = system.rows().len() as u32 + 2 * columns;
+    let next = next_row(system);
     let bounds = whole(alloc, system, ranges)?;
     if let Some(corner) = at_lows(alloc, system, bounds.as_slice())? {
         return Ok(Answer::Point(corner));

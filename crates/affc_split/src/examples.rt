@@ -1,6 +1,6 @@
 //! What the definitions give at small boxes, as laws: `specs/Examples.antt` says each, with values that were found
 //! by hand from the rules.
-ghost use Rattle.affc_split.specs.Examples.{PartsLieWithin, NoBoxTwice, NoBoxTwiceInTheRest, NoBoxBehindThePoint, EachNodeIsCounted, NoMoreBoxesThanNodes, NoBoxBehindTheAnswer, FiveOfFive, AUnitIsOne, LaterIsNoLess, TheLimitStays, UncountedIsUnspent, ALeafCostsOneUnit};
+ghost use Rattle.affc_split.specs.Examples.{PartsLieWithin, NoBoxTwice, NoBoxTwiceInTheRest, NoBoxBehindThePoint, EachNodeIsCounted, NoMoreBoxesThanNodes, NoBoxBehindTheAnswer, FiveOfFive, AUnitIsOne, LaterIsNoLess, TheLimitStays, UncountedIsUnspent, APartOfFive, ALeafCostsOneUnit};
 
 /// Which boxes may be opened.
 pub fn boxes()
@@ -20,5 +20,6 @@ pub fn budgets()
     ensures later_is_no_less { LaterIsNoLess }
     ensures the_limit_stays { TheLimitStays }
     ensures uncounted_is_unspent { UncountedIsUnspent }
+    ensures a_part_of_five { APartOfFive }
     ensures a_leaf_costs_one_unit { ALeafCostsOneUnit }
 {}

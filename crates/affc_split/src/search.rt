@@ -11,7 +11,7 @@ use crate::parts::{at_lows, beside, single};
 use affc_farkas::Proof;
 use affc_leaf::bounds::first_free;
 use affc_leaf::box_cuts::{Seen, seen_at};
-use affc_leaf::flat::found_flat;
+use affc_leaf::flat::{Met, found_flat};
 use affc_leaf::leaves::row_leaf;
 use affc_leaf::parts::{high_box, high_part, low_box, low_part, middle_of};
 use affc_leaf::places::{find_place, is_below};
@@ -242,7 +242,10 @@ fn flat_proof(here: &Here<'_>) -> Result<Option<Box<Proof>>, Stop>
     if whole.saturating_sub(here.left) < FEW_HALVES {
         return Ok(None);
     }
-    Ok(found_flat(here.alloc, here.system, here.bounds, here.next)?)
+    match found_flat(here.alloc, here.system, here.bounds, here.next)? {
+        Some(Met::Empty(proof)) => Ok(Some(proof)),
+        _ => Ok(None),
+    }
 }
 
 /// Searches a box that is open for its least point.

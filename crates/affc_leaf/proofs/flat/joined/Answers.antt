@@ -2,7 +2,6 @@ use Rattle.std.proofs.Common.{rules, ◌≡◌, sym, subst, refl}
 use Rattle.std.specs.Prelude.{FitsSigned}
 use Rattle.std.specs.Int.{w64}
 use Rattle.std.proofs.lemmas.Int.{to_z-of_z}
-use Rattle.affc_rows.specs.Forms.{Affine}
 use Rattle.affc_leaf.proofs.FlatParts.{IsSplitOf, split_answer}
 use Rattle.affc_leaf.proofs.flat.joined.Goals as goal
 
