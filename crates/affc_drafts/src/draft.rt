@@ -64,12 +64,16 @@ fn of_store(alloc: Global, work: &Work<'_>, form: &Form) -> Result<Form, Unasked
 fn add_subscripts(alloc: Global, work: &Work<'_>, out: &mut Items<Form>) -> Result<(), Unasked> {
     let written = work.drafting.store.subs.as_slice();
     for (sub, other) in written.iter().zip(work.drafting.read) {
-        let first = of_store(alloc, work, sub)?;
-        let second = spread(alloc, other, 0, 0, work.columns.loops)?;
-        let made = mixed(alloc, &first, 1, &second, -1)?;
-        out.push(made)?;
+        out.push(written_less(alloc, work, sub, other)?)?;
     }
     Ok(())
+}
+
+/// A subscript of the store less one of the load.
+fn written_less(alloc: Global, work: &Work<'_>, sub: &Form, other: &Form) -> Result<Form, Unasked> {
+    let first = of_store(alloc, work, sub)?;
+    let second = spread(alloc, other, 0, 0, work.columns.loops)?;
+    mixed(alloc, &first, 1, &second, -1)
 }
 
 /// An iterator of the load less that of the store, at a place among the loops.
@@ -134,6 +138,27 @@ fn begun(alloc: Global, work: &Work<'_>, divisions: &mut Vec<Division>) -> Resul
 
 // ---- Rows.
 
+/// Adds the row of the order at its depth, at these forms, if there is one.
+fn add_depth(
+    alloc: Global,
+    work: &Work<'_>,
+    forms: &[Form],
+    out: &mut Items<Form>,
+) -> Result<(), Unasked> {
+    let depth = work.drafting.depth;
+    if depth >= common(work) {
+        return Ok(());
+    }
+    let Some(form) = forms.get(depth) else {
+        return Ok(());
+    };
+    let place = work.params.saturating_add(count(depth)?);
+    let mut own = Form::column(alloc, work.columns.all, place)?;
+    own.constant = -1;
+    let made = mixed(alloc, &own, 1, form, -1)?;
+    Ok(out.push(made)?)
+}
+
 /// The row of the order at its depth, and those that tell where instances are, at these forms.
 pub(crate) fn rows_at(
     alloc: Global,
@@ -141,20 +166,10 @@ pub(crate) fn rows_at(
     forms: &[Form],
 ) -> Result<Items<Form>, Unasked> {
     let all = work.columns.all;
-    let mut out = Items::new(alloc);
-    let depth = work.drafting.depth;
-    if depth < common(work) {
-        if let Some(form) = forms.get(depth) {
-            let place = work.params.saturating_add(count(depth)?);
-            let mut own = Form::column(alloc, all, place)?;
-            own.constant = -1;
-            let made = mixed(alloc, &own, 1, form, -1)?;
-            out.push(made)?;
-        }
-    }
-    let own = column_forms(alloc, all, 0, work.params)?;
-    let mut images = Items::from_vec(own);
+    let mut images = Items::from_vec(column_forms(alloc, all, 0, work.params)?);
     add_copies(forms, &mut images)?;
+    let mut out = Items::new(alloc);
+    add_depth(alloc, work, forms, &mut out)?;
     for row in work.drafting.rows {
         let made = at_images(alloc, all, images.as_slice(), row)?;
         out.push(made)?;
@@ -206,7 +221,7 @@ pub(crate) fn open_column(forms: &[Form], own: usize) -> Option<(usize, bool)> {
 }
 
 /// Forms over the load's columns alone.
-pub(crate) fn cut(alloc: Global, forms: &[Form], own: usize) -> Result<Items<Form>, AllocError> {
+fn cut(alloc: Global, forms: &[Form], own: usize) -> Result<Items<Form>, AllocError> {
     let mut out = Items::new(alloc);
     for form in forms {
         let mut made = form.clone()?;
@@ -216,44 +231,67 @@ pub(crate) fn cut(alloc: Global, forms: &[Form], own: usize) -> Result<Items<For
     Ok(out)
 }
 
+/// Drafts, and how many choices may still be looked at for them.
+#[derive(Drop)]
+pub(crate) struct Drafts {
+    pub(crate) tries: u32,
+    pub(crate) made: Vec<Items<Form>>,
+}
+
+impl Drafts {
+    /// Adds the forms of the iterators.
+    pub(crate) fn add(&mut self, alloc: Global, forms: &[Form], own: usize) -> Result<(), Unasked> {
+        let made = cut(alloc, forms, own)?;
+        match self.made.push(made) {
+            Ok(()) => Ok(()),
+            Err(_) => Err(Unasked::Memory),
+        }
+    }
+}
+
+/// What is known, with what a column is, and all that this tells.
+fn settled_by(
+    alloc: Global,
+    work: &Work<'_>,
+    solved: &Solved,
+    at: usize,
+    choice: &Form,
+    divisions: &mut Vec<Division>,
+) -> Result<Solved, Unasked> {
+    let next = with_told(alloc, solved, at, choice)?;
+    settled(alloc, &work.columns, next, divisions)
+}
+
 /// Adds the drafts with what is told so far, where so many iterators aren't told at most.
 fn add_drafts(
     alloc: Global,
     work: &Work<'_>,
     solved: &Solved,
     left: u32,
-    tries: &mut u32,
     divisions: &mut Vec<Division>,
-    out: &mut Vec<Items<Form>>,
+    out: &mut Drafts,
 ) -> Result<(), Unasked> {
-    if *tries == 0 || out.len() >= MOST_DRAFTS {
+    if out.tries == 0 || out.made.len() >= MOST_DRAFTS {
         return Ok(());
     }
-    *tries -= 1;
+    out.tries -= 1;
     let forms = solved.forms.as_slice();
-    if solved.equations.as_slice().iter().any(is_false) {
-        return Ok(());
-    }
     let rows = rows_at(alloc, work, forms)?;
-    if rows.as_slice().iter().any(|r| is_refused(work, r)) {
+    let refused = rows.as_slice().iter().any(|r| is_refused(work, r));
+    if refused || solved.equations.as_slice().iter().any(is_false) {
         return Ok(());
     }
     let own = work.columns.own as usize;
     let Some((at, up)) = open_column(forms, own) else {
-        let made = cut(alloc, forms, own)?;
-        return match out.push(made) {
-            Ok(()) => Ok(()),
-            Err(_) => Err(Unasked::Memory),
-        };
+        return out.add(alloc, forms, own);
     };
     if left == 0 {
         return Ok(());
     }
     let choices = bounds(alloc, &work.columns, rows, at, up)?;
     for choice in choices.as_slice() {
-        let next = with_told(alloc, solved, at, choice)?;
-        let next = settled(alloc, &work.columns, next, divisions)?;
-        add_drafts(alloc, work, &next, left - 1, tries, divisions, out)?;
+        let next = settled_by(alloc, work, solved, at, choice, divisions)?;
+        add_drafts(alloc, work, &next, left - 1, divisions, out)?;
     }
     Ok(())
 }
@@ -263,12 +301,10 @@ fn add_all(
     alloc: Global,
     work: &Work<'_>,
     divisions: &mut Vec<Division>,
-    out: &mut Vec<Items<Form>>,
+    out: &mut Drafts,
 ) -> Result<(), Unasked> {
     let solved = begun(alloc, work, divisions)?;
-    let mut tries = MOST_TRIES;
-    let loops = work.columns.loops;
-    add_drafts(alloc, work, &solved, loops, &mut tries, divisions, out)
+    add_drafts(alloc, work, &solved, work.columns.loops, divisions, out)
 }
 
 /// What is drafted, with its columns arranged.
@@ -303,10 +339,13 @@ pub(crate) fn drafts_of(
     divisions: &mut Vec<Division>,
 ) -> Result<Vec<Items<Form>>, Unasked> {
     let work = arranged(alloc, drafting)?;
-    let mut out = Vec::new(alloc);
+    let mut out = Drafts {
+        tries: MOST_TRIES,
+        made: Vec::new(alloc),
+    };
     match add_all(alloc, &work, divisions, &mut out) {
-        Ok(()) => Ok(out),
-        Err(Unasked::Large) => Ok(out),
+        Ok(()) => Ok(out.made),
+        Err(Unasked::Large) => Ok(out.made),
         Err(Unasked::Memory) => Err(Unasked::Memory),
     }
 }

@@ -7,7 +7,7 @@
 //! stores what is read: it wants no division.
 
 use crate::candidates::{Candidate, add_candidate};
-use crate::draft::{Drafting, Work, arranged, cut, open_column, posed, rows_at};
+use crate::draft::{Drafting, Drafts, Work, arranged, open_column, posed, rows_at};
 use crate::solved::{
     Solved, coefficient, first_column, first_told, less_column, mixed, rest_of, with_told,
     without_others,
@@ -117,28 +117,31 @@ fn turned_value(values: &[i128], turn: &Turn) -> Option<i128> {
     values.get(turn.at)?.checked_add(more)
 }
 
-/// Forms and values with a column turned.
-fn turned(
-    alloc: Global,
-    work: &Work<'_>,
-    sampled: Sampled,
-    turn: &Turn,
-) -> Result<Sampled, Unasked> {
-    let Sampled { solved, values } = sampled;
-    let (Some(less), Some(value)) = (
-        turn.times.checked_neg(),
-        turned_value(values.as_slice(), turn),
-    ) else {
+/// What a column is beside a turn of it: a multiple of another one.
+fn turned_column(alloc: Global, work: &Work<'_>, turn: &Turn) -> Result<Form, Unasked> {
+    let Some(less) = turn.times.checked_neg() else {
         return Err(Unasked::Large);
     };
     let place = Form::column(alloc, work.columns.all, count(turn.other)?)?;
-    let rest = mixed(alloc, &place, less, &place, 0)?;
-    let solved = with_told(alloc, &solved, turn.at, &rest)?;
-    let mut values = values;
-    if turn.at < values.len() {
-        values.set(turn.at, value);
+    mixed(alloc, &place, less, &place, 0)
+}
+
+/// A column is turned in forms and values.
+fn turn_by(
+    alloc: Global,
+    work: &Work<'_>,
+    sampled: &mut Sampled,
+    turn: &Turn,
+) -> Result<(), Unasked> {
+    let Some(value) = turned_value(sampled.values.as_slice(), turn) else {
+        return Err(Unasked::Large);
+    };
+    let rest = turned_column(alloc, work, turn)?;
+    sampled.solved = with_told(alloc, &sampled.solved, turn.at, &rest)?;
+    if turn.at < sampled.values.len() {
+        sampled.values.set(turn.at, value);
     }
-    Ok(Sampled { solved, values })
+    Ok(())
 }
 
 /// What the equations tell, or turns of them, is put in.
@@ -159,8 +162,7 @@ fn settled_wholly(
             let Some(turn) = first_turn(equations, own) else {
                 return Ok(now);
             };
-            let next = turned(alloc, work, now, &turn)?;
-            now = next;
+            turn_by(alloc, work, &mut now, &turn)?;
         }
     }
     Ok(now)
@@ -174,8 +176,7 @@ fn straightened(alloc: Global, work: &Work<'_>, sampled: Sampled) -> Result<Samp
         let Some(turn) = outermost_turn(now.solved.forms.as_slice(), own) else {
             return Ok(now);
         };
-        let next = turned(alloc, work, now, &turn)?;
-        now = next;
+        turn_by(alloc, work, &mut now, &turn)?;
     }
     Ok(now)
 }
@@ -238,20 +239,32 @@ fn told_less(
     let Some(rest) = rest_of(columns, row, at)? else {
         return Ok(None);
     };
-    let c = coefficient(row, at);
     let first = columns.load.reader.domain.columns();
-    let by = c.unsigned_abs();
-    let Some(part) = floored(alloc, columns.own, first, &rest, by, divisions)? else {
+    let by = coefficient(row, at).unsigned_abs();
+    match floored(alloc, columns.own, first, &rest, by, divisions)? {
+        Some(part) => slackened(alloc, work, row, at, slack, part),
+        None => Ok(None),
+    }
+}
+
+/// What a column is by a row's quotient, less itself, with so much taken away.
+fn slackened(
+    alloc: Global,
+    work: &Work<'_>,
+    row: &Form,
+    at: usize,
+    slack: i128,
+    part: Form,
+) -> Result<Option<Form>, Unasked> {
+    let Some(constant) = part.constant.checked_sub(slack) else {
         return Ok(None);
     };
-    let Form { coefs, constant } = part;
-    let Some(constant) = constant.checked_sub(slack) else {
-        return Ok(None);
+    let sign = if coefficient(row, at) < 0 { 1 } else { -1 };
+    let part = Form {
+        coefs: part.coefs,
+        constant,
     };
-    let sign = if c < 0 { 1 } else { -1 };
-    let part = Form { coefs, constant };
-    let made = less_column(alloc, columns, &part, sign, at)?;
-    Ok(Some(made))
+    Ok(Some(less_column(alloc, &work.columns, &part, sign, at)?))
 }
 
 /// Whether a form is one of others.
@@ -289,14 +302,15 @@ fn nearest(
 
 // ---- Drafts.
 
-/// Drafts, and how many choices may still be looked at for them.
-#[derive(Drop)]
-struct Drafts {
-    tries: u32,
-    made: Vec<Items<Form>>,
+/// What is known, with what a column is.
+fn told_by(alloc: Global, now: &Sampled, at: usize, choice: &Form) -> Result<Sampled, Unasked> {
+    let values = Items::from_slice(alloc, now.values.as_slice())?;
+    let solved = with_told(alloc, &now.solved, at, choice)?;
+    Ok(Sampled { solved, values })
 }
 
 /// Adds the drafts with what is told so far, where so many iterators aren't told at most.
+#[cycle(directed)]
 fn add_directed(
     alloc: Global,
     work: &Work<'_>,
@@ -312,22 +326,29 @@ fn add_directed(
     let own = work.columns.own as usize;
     let now = straightened(alloc, work, sampled)?;
     let forms = now.solved.forms.as_slice();
-    let Some((at, up)) = open_column(forms, own) else {
-        let made = cut(alloc, forms, own)?;
-        return match out.made.push(made) {
-            Ok(()) => Ok(()),
-            Err(_) => Err(Unasked::Memory),
-        };
-    };
-    if left == 0 {
-        return Ok(());
+    match open_column(forms, own) {
+        None => out.add(alloc, forms, own),
+        Some(_) if left == 0 => Ok(()),
+        Some(open) => add_choices(alloc, work, &now, open, left - 1, divisions, out),
     }
-    let choices = nearest(alloc, work, &now, at, up, divisions)?;
+}
+
+/// Adds the drafts with each choice for a column that isn't told: its place, and whether it is wanted great.
+#[cycle(directed)]
+fn add_choices(
+    alloc: Global,
+    work: &Work<'_>,
+    now: &Sampled,
+    open: (usize, bool),
+    left: u32,
+    divisions: &mut Vec<Division>,
+    out: &mut Drafts,
+) -> Result<(), Unasked> {
+    let (at, up) = open;
+    let choices = nearest(alloc, work, now, at, up, divisions)?;
     for choice in choices.as_slice() {
-        let solved = with_told(alloc, &now.solved, at, choice)?;
-        let values = Items::from_slice(alloc, now.values.as_slice())?;
-        let next = Sampled { solved, values };
-        add_directed(alloc, work, next, left - 1, divisions, out)?;
+        let next = told_by(alloc, now, at, choice)?;
+        add_directed(alloc, work, next, left, divisions, out)?;
     }
     Ok(())
 }

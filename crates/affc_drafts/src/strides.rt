@@ -187,23 +187,42 @@ pub(crate) fn floored(
     by: u128,
     divisions: &mut Vec<Division>,
 ) -> Result<Option<Form>, Unasked> {
-    let Some(Least { form, by }) = least_terms(alloc, form, by)? else {
-        return Ok(None);
-    };
-    let wide = i128::from(by);
-    let whole = quotients(alloc, &form, wide)?;
-    if by == 1 {
-        return Ok(Some(whole));
+    match least_terms(alloc, form, by)? {
+        Some(least) => least_floored(alloc, columns, first, &least, divisions),
+        None => Ok(None),
     }
-    let rest = remainders(alloc, &form, wide)?;
-    let Some(column) = column_of(alloc, columns, first, rest, by, divisions)? else {
-        return Ok(None);
-    };
+}
+
+/// The quotient of a form in least terms, rounded down.
+fn least_floored(
+    alloc: Global,
+    columns: u32,
+    first: u32,
+    least: &Least,
+    divisions: &mut Vec<Division>,
+) -> Result<Option<Form>, Unasked>
+    requires { pos 1 ≤ℤ least.now.by }
+{
+    let by = i128::from(least.by);
+    if least.by == 1 {
+        return Ok(Some(quotients(alloc, &least.form, by)?));
+    }
+    let rest = remainders(alloc, &least.form, by)?;
+    match column_of(alloc, columns, first, rest, least.by, divisions)? {
+        Some(column) => quotients_with(alloc, least, &column),
+        None => Ok(None),
+    }
+}
+
+/// The quotients of a form's coefficients, with a column added, if both have the same columns.
+fn quotients_with(alloc: Global, least: &Least, column: &Form) -> Result<Option<Form>, Unasked>
+    requires { pos 1 ≤ℤ least.now.by }
+{
+    let whole = quotients(alloc, &least.form, i128::from(least.by))?;
     if column.coefs.len() != whole.coefs.len() {
         return Ok(None);
     }
-    let made = whole.scale_add(alloc, 1, &column, 1)?;
-    Ok(Some(made))
+    Ok(Some(whole.scale_add(alloc, 1, column, 1)?))
 }
 
 // ---- Without a division.
