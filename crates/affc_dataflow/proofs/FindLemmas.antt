@@ -41,9 +41,9 @@ use Rattle.affc_dataflow.specs.Finds.{NameAll, AreInputs, IsTreeFor, AreTreesOf,
 use Rattle.affc_flow.specs.Laws.{Loads}
 use Rattle.affc_flow.specs.Questions.{is_temporary}
 use Rattle.affc_dataflow.specs.Searches.{IsRightAt, Covers, Fuel, IsSlightRange, IsLoad}
-use Rattle.affc_dataflow.specs.Stores.{IsNamedNest}
+use Rattle.affc_latest.specs.Stores.{IsNamedNest}
 use Rattle.affc_flow.proofs.FlowLemmas.{mapped_at, front_at}
-use Rattle.affc_dataflow.proofs.LastLemmas.{within}
+use Rattle.affc_latest.proofs.LastLemmas.{within}
 use Rattle.affc_flow.proofs.PathLemmas.{parameters_are, reader_stands}
 
 -- ---- Accesses

@@ -46,7 +46,7 @@ use Rattle.affc_flow.specs.Questions.{leaf_questions}
 use Rattle.affc_dataflow.specs.Searches.{Covers, IsLoad}
 use Rattle.affc_flow.specs.Writers.{Writes}
 use Rattle.affc_flow.proofs.AskedLemmas.{zeros_append, padded_widened, input_same, source_same}
-use Rattle.affc_dataflow.proofs.BesideLemmas.{is_nest}
+use Rattle.affc_latest.proofs.BesideLemmas.{is_nest}
 use Rattle.affc_dataflow.proofs.HalfLemmas.{test_says_side}
 use Rattle.affc_flow.proofs.NamesLemmas.{leaf_names_with}
 use Rattle.affc_flow.proofs.PathLemmas.{parameters_are, reader_stands}

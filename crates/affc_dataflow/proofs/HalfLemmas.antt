@@ -23,7 +23,7 @@ use Rattle.affc_quast.specs.Paths.{IsNear}
 use Rattle.affc_quast.specs.Trees.{Tree, Test, named_at, quotients_at, depth_of, divisions_of}
 use Rattle.affc_flow.specs.Laws.{IsSourceOf}
 use Rattle.affc_dataflow.specs.Searches.{IsRightAt, Covers, part_box, Fuel, IsSlight}
-use Rattle.affc_dataflow.specs.Stores.{pin}
+use Rattle.affc_latest.specs.Stores.{pin}
 
 -- ---- Halves
 

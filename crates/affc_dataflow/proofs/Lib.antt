@@ -1,11 +1,4 @@
-pub mod OppositeLemmas
-pub mod LatestLemmas
 pub mod HalfLemmas
-pub mod StoreLemmas
-pub mod LastLemmas
-pub mod LaterLemmas
-pub mod AmongLemmas
-pub mod BesideLemmas
 pub mod TreeLemmas
 pub mod FindLemmas
 pub mod SlightLemmas

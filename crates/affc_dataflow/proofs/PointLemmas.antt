@@ -28,11 +28,11 @@ use Rattle.affc_quast.specs.Paths.{IsNear}
 use Rattle.affc_quast.specs.Trees.{Tree, Test, Div, Source, Input, depth_of, named_at}
 use Rattle.affc_dataflow.specs.Finds.{FoundMayBeAsked}
 use Rattle.affc_dataflow.specs.Searches.{IsSlightRange}
-use Rattle.affc_dataflow.specs.Stores.{IsNamedNest}
-use Rattle.affc_dataflow.proofs.BesideLemmas.{is_nest}
+use Rattle.affc_latest.specs.Stores.{IsNamedNest}
+use Rattle.affc_latest.proofs.BesideLemmas.{is_nest}
 use Rattle.affc_dataflow.proofs.FindLemmas.{box_slight}
 use Rattle.affc_flow.proofs.FlowLemmas as flow
-use Rattle.affc_dataflow.proofs.LastLemmas.{near_inside}
+use Rattle.affc_latest.proofs.LastLemmas.{near_inside}
 
 -- ---- Numbers
 

@@ -9,7 +9,7 @@ use Rattle.affc_nest.specs.declared.nest.Entry.{Entry}
 use Rattle.affc_nest.specs.declared.nest.Nest.{Nest}
 use Rattle.affc_nest.proofs.QuestionProofs.{nest_few, few_numbered}
 use Rattle.affc_dataflow.specs.Searches.{IsSlight, IsLoad}
-use Rattle.affc_dataflow.proofs.BesideLemmas.{is_nest}
+use Rattle.affc_latest.proofs.BesideLemmas.{is_nest}
 
 pub slight_near : (x : ℤ) → IsSlight x → unsigned_abs x ≤ 2 ^ 60
 slight_near x h = near (unsigned_abs x) h

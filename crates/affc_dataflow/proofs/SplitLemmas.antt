@@ -9,36 +9,13 @@ use Rattle.affc_nest.specs.declared.nest.Nest.{Nest}
 use Rattle.affc_quast.specs.Trees.{Tree}
 use Rattle.affc_sched.specs.Touched.{Each}
 use Rattle.affc_flow.specs.Asked.{asked, writers_of}
+use Rattle.affc_latest.proofs.Lists.{in_parts}
 use Rattle.affc_dataflow.specs.Finds.{AreTreesFrom, AddsTreesOf, AddsTreesFrom}
 use Rattle.affc_flow.specs.Laws.{NoneHasAPoint}
 use Rattle.affc_flow.specs.Questions.{Question, Writer}
 use Rattle.affc_flow.specs.declared.questions.Question as held
 
--- ---- What holds of each
-
-pub each_first : {A : Type 0} (P : A → Type 0) (whole xs ys : List A) → whole ≡ xs ++ ys → Each P whole → Each P xs
-each_first {A} P whole xs ys is h = front xs (subst (Each P) is h)
-  where
-    front : (zs : List A) → Each P (zs ++ ys) → Each P zs
-    front [] h = tt
-    front (z ∷ zs) h = (h.0, front zs h.1)
-
-pub each_second : {A : Type 0} (P : A → Type 0) (whole xs ys : List A) → whole ≡ xs ++ ys → Each P whole → Each P ys
-each_second {A} P whole xs ys is h = back xs (subst (Each P) is h)
-  where
-    back : (zs : List A) → Each P (zs ++ ys) → Each P ys
-    back [] h = h
-    back (z ∷ zs) h = back zs h.1
-
 -- ---- Questions
-
-pub in_parts : {A : Type 0} (xs ys : List A) (a : A) → IsIn a (xs ++ ys) → IsIn a xs ⊎ IsIn a ys
-in_parts [] ys a i = inr i
-in_parts (x ∷ xs) ys a (inl e) = inl (inl e)
-in_parts (x ∷ xs) ys a (inr i) = elim (in_parts xs ys a i) [
-  | inl j ↦ inl (inr j)
-  | inr j ↦ inr j
-]
 
 none_in_parts : (xs ys : List Question) → NoneHasAPoint xs → NoneHasAPoint ys → NoneHasAPoint (xs ++ ys)
 none_in_parts xs ys f g q i = elim (in_parts xs ys q i) [
@@ -49,15 +26,6 @@ none_in_parts xs ys f g q i = elim (in_parts xs ys q i) [
 pub both_parts : (questions first others : List held.Question) → questions ≡ first ++ others → NoneHasAPoint (map asked first) → NoneHasAPoint (map asked others) → NoneHasAPoint (map asked questions)
 both_parts questions first others is f g =
     subst NoneHasAPoint (sym (ap (map asked) is ∙ map_append asked first others)) (none_in_parts (map asked first) (map asked others) f g)
-
--- questions of the statements that store the array, added one part after the other
-pub added_parts : (array : ℕ) (f : Writer → List Question) (entries first others : List Entry) (old mid new : List Question) → entries ≡ first ++ others → mid ≡ old ++ flat_map f (flat_map (writers_of array) first)
-    → new ≡ mid ++ flat_map f (flat_map (writers_of array) others) → new ≡ old ++ flat_map f (flat_map (writers_of array) entries)
-added_parts array f entries first others old mid new is a b =
-    let xs = flat_map (writers_of array) first in
-    let ys = flat_map (writers_of array) others in
-    b ∙ ap (λ qs. qs ++ flat_map f ys) a ∙ append_assoc old (flat_map f xs) (flat_map f ys)
-    ∙ ap (λ qs. old ++ qs) (sym (flat_map-append f xs ys) ∙ ap (flat_map f) (sym (flat_map-append (writers_of array) first others) ∙ ap (flat_map (writers_of array)) (sym is)))
 
 -- ---- Trees
 

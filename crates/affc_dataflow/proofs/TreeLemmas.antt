@@ -26,9 +26,9 @@ use Rattle.affc_quast.specs.Trees.{Tree, Source, Input}
 use Rattle.affc_flow.specs.Laws.{Loads, IsSourceOf}
 use Rattle.affc_flow.specs.Questions.{is_temporary}
 use Rattle.affc_dataflow.specs.Searches.{IsRightAt, Covers, IsSlight, IsLoad}
-use Rattle.affc_dataflow.specs.Stores.{pin, IsReading, IsReadFrom, IsWriterAt}
+use Rattle.affc_latest.specs.Stores.{pin, IsReading, IsReadFrom, IsWriterAt}
 use Rattle.affc_dataflow.specs.Unwritten.{IsUnwritten}
-use Rattle.affc_dataflow.proofs.LastLemmas.{pinned_is}
+use Rattle.affc_latest.proofs.LastLemmas.{pinned_is}
 use Rattle.affc_flow.proofs.LoadLemmas.{load_there}
 use Rattle.affc_flow.proofs.PathLemmas.{parameters_are, reader_stands}
 

@@ -13,7 +13,7 @@ use Rattle.affc_quast.specs.Sources.{loads_in}
 use Rattle.affc_quast.specs.Trees.{Tree, named_at, quotients_at}
 use Rattle.affc_sched.specs.Touched.{IsTouched}
 use Rattle.affc_flow.specs.Laws.{Loads, IsSourceOf}
-use Rattle.affc_dataflow.specs.Stores.{pin, IsNamedNest}
+use Rattle.affc_latest.specs.Stores.{pin, IsNamedNest}
 
 -- what is to be said at one instance
 pub record IsRightAt (program : Program) (p iterators : List ℤ) (e : Entry) (x : Access) (tree : Tree) : Type 0 where

@@ -9,7 +9,7 @@ ghost use Rattle.affc_quast.specs.Seen.{seen, trees_of};
 ghost use Rattle.affc_sched.specs.Touched.{Each};
 ghost use Rattle.affc_dataflow.specs.Finds.{NameAll, AreInputs, IsTreeFor, AddsTreesOf, AddsTreesFrom};
 ghost use Rattle.affc_dataflow.specs.Searches.{Covers, Fuel, IsSlightRange, IsLoad};
-ghost use Rattle.affc_dataflow.specs.Stores.{IsNamedNest};
+ghost use Rattle.affc_latest.specs.Stores.{IsNamedNest};
 ghost use Rattle.affc_dataflow.specs.Unwritten.{IsUnwritten, IfUnwritten};
 
 use crate::search::{leaf, search};

@@ -3,15 +3,11 @@
 
 mod divided;
 mod finding;
-mod greatest;
 mod grown;
 mod growth;
 mod guess;
-mod later;
-mod latest;
 pub mod laws;
-mod pairs;
-mod pinned;
+mod parts;
 mod samples;
 mod search;
 pub mod stop;

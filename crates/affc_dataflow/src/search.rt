@@ -9,15 +9,15 @@ ghost use Rattle.affc_quast.specs.Seen.{seen};
 ghost use Rattle.affc_quast.specs.Trees.{Test, Source};
 ghost use Rattle.affc_flow.specs.Questions.{is_temporary};
 ghost use Rattle.affc_dataflow.specs.Searches.{Covers, part_box, Fuel, IsSlight, IsSlightRange, IsLoad};
-ghost use Rattle.affc_dataflow.specs.Stores.{pin};
+ghost use Rattle.affc_latest.specs.Stores.{pin};
 ghost use Rattle.affc_dataflow.specs.Unwritten.{IsUnwritten, IfUnwritten};
 
 use crate::grown::guessed;
-use crate::latest::{Reading, source_of};
-use crate::pinned::part_ranges;
+use crate::parts::part_ranges;
 use crate::stop::FlowStop;
 use affc_ast::tree::Instance;
-use affc_flow::load::{Load, is_temporary, number};
+use affc_flow::load::{Load, is_temporary};
+use affc_latest::{Reading, source_of};
 use affc_leaf::bounds::middle;
 use affc_order::columns::spread;
 use affc_quast::Quast;
@@ -39,8 +39,7 @@ fn add_numbers(
     match numbers {
         [] => Ok(()),
         [n, rest @ ..] => {
-            let form = number(alloc, columns, *n)?;
-            out.push(form)?;
+            out.push(Form::number(alloc, columns, i128::from(*n))?)?;
             add_numbers(alloc, columns, rest, out)
         }
     }

@@ -18,7 +18,7 @@ use Rattle.affc_sched.specs.Legality.{IsAsked}
 use Rattle.affc_ast.specs.declared.tree.ArrayId.{ArrayId}
 use Rattle.affc_nest.specs.declared.nest.Access.{Access}
 use Rattle.affc_nest.specs.declared.nest.Entry.{Entry}
-use Rattle.affc_dataflow.specs.Stores.{IsNamedNest}
+use Rattle.affc_latest.specs.Stores.{IsNamedNest}
 use Rattle.affc_dataflow.specs.Unwritten.{IsUnwritten}
 use Rattle.affc_driver.specs.Compilations.{IsCompilation}
 use Rattle.affc_driver.specs.Plans.{HasPlan, as_it_stands, WrittenThroughout}

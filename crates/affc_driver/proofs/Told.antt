@@ -21,7 +21,7 @@ use Rattle.affc_quast.specs.Limits.{narrow, AreTreesWithin}
 use Rattle.affc_quast.specs.Seen.{seen, trees_of}
 use Rattle.affc_quast.specs.Sources.{loads_in, loads_before}
 use Rattle.affc_quast.specs.Trees.{depth_of}
-use Rattle.affc_dataflow.specs.Stores.{IsNamedNest}
+use Rattle.affc_latest.specs.Stores.{IsNamedNest}
 use Rattle.affc_dataflow.proofs.FindLemmas.{few_accesses}
 use Rattle.affc_flow.proofs.FlowLemmas.{mapped_at}
 

@@ -10,4 +10,4 @@ pub mod questions;
 pub mod ranges;
 
 pub use asking::store_for;
-pub use load::{is_temporary, number};
+pub use load::is_temporary;

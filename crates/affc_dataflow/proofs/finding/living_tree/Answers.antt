@@ -1,7 +1,7 @@
 use Rattle.std.proofs.Common.{◌∙◌}
 use Rattle.affc_nest.proofs.QuestionProofs.{nest_few, few_numbered}
 use Rattle.affc_quast.specs.Seen.{seen}
-use Rattle.affc_dataflow.proofs.BesideLemmas.{is_nest}
+use Rattle.affc_latest.proofs.BesideLemmas.{is_nest}
 use Rattle.affc_dataflow.proofs.FindLemmas.{box_width, box_slight, box_fuel, box_tree}
 use Rattle.affc_dataflow.proofs.finding.living_tree.Goals as goal
 

@@ -3,9 +3,9 @@ use Rattle.std.specs.Prelude.{IfSome}
 use Rattle.affc_sched.proofs.PairLemmas.{stands_in}
 use Rattle.affc_quast.specs.Trees.{Input}
 use Rattle.affc_quast.specs.Seen.{seen}
-use Rattle.affc_dataflow.specs.Stores.{IsReadFrom, IsWriterAt}
+use Rattle.affc_latest.specs.Stores.{IsReadFrom, IsWriterAt}
 use Rattle.affc_dataflow.specs.Unwritten.{IsUnwritten, IfUnwritten}
-use Rattle.affc_dataflow.proofs.BesideLemmas.{is_nest}
+use Rattle.affc_latest.proofs.BesideLemmas.{is_nest}
 use Rattle.affc_dataflow.proofs.TreeLemmas.{named_covers, input_covers, is_unwritten}
 use Rattle.affc_dataflow.proofs.search.instance_leaf.Goals as goal
 

@@ -1,7 +1,7 @@
 use Rattle.std.proofs.Common.{true≢false, refl, sym, ◌∙◌}
 use Rattle.affc_sched.proofs.PairLemmas.{stands_in}
 use Rattle.affc_quast.specs.Trees.{Input}
-use Rattle.affc_dataflow.proofs.BesideLemmas.{is_nest}
+use Rattle.affc_latest.proofs.BesideLemmas.{is_nest}
 use Rattle.affc_dataflow.proofs.TreeLemmas.{nothing_covers}
 use Rattle.affc_dataflow.proofs.search.leaf.Goals as goal
 

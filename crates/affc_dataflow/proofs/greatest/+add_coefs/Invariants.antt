@@ -1,5 +1,0 @@
-use Rattle.std.proofs.Common.{length}
-use Rattle.affc_dataflow.proofs.greatest.+add_coefs.Given as goal
-
-abbrev pub decreases-add_coefs : goal.decreases-add_coefs
-decreases-add_coefs l = length l.coefs.now

@@ -1,0 +1,36 @@
+use Rattle.std.proofs.Common.{length, refl, ap}
+use Rattle.affc_latest.proofs.BesideLemmas.{order_fits, ranges_long, ranges_room, ranges_reach, one_latest, one_writer}
+use Rattle.affc_latest.proofs.latest.last_by_one.Goals as goal
+
+pub with_order-requires-clause-order : goal.with_order-requires-clause-order
+with_order-requires-clause-order c =
+    let b = c.args.beside.now in
+    order_fits b.nest.now b.writer.now b.reader.now b.store.now b.load.now b.p.now b.iterators.now b.pair.now b.ranges.now c.requires.beside c.args.order.now c.requires.order
+
+pub last_in-requires-clause-columns : goal.last_in-requires-clause-columns
+last_in-requires-clause-columns c =
+    let b = c.args.beside.now in
+    ranges_long b.nest.now b.writer.now b.reader.now b.store.now b.load.now b.p.now b.iterators.now b.pair.now b.ranges.now c.requires.beside c.args.order.now c.in_ok-system.system c.in_ok-system.ensures
+
+pub last_in-requires-clause-reach : goal.last_in-requires-clause-reach
+last_in-requires-clause-reach c =
+    let b = c.args.beside.now in
+    ranges_reach b.nest.now b.writer.now b.reader.now b.store.now b.load.now b.p.now b.iterators.now b.pair.now b.ranges.now c.requires.beside
+
+pub last_in-requires-clause-room : goal.last_in-requires-clause-room
+last_in-requires-clause-room c =
+    let b = c.args.beside.now in
+    ranges_room b.nest.now b.writer.now b.reader.now b.store.now b.load.now b.p.now b.iterators.now b.pair.now b.ranges.now c.requires.beside (length c.ranges-params.result.now) c.len-loops.result
+    (ap length c.ranges-params.ensures.ranges) c.len-loops.ensures
+
+pub returns-clause-latest : goal.returns-clause-latest
+returns-clause-latest c =
+    let b = c.args.beside.now in
+    one_latest b.nest.now b.writer.now b.reader.now b.store.now b.load.now b.p.now b.iterators.now b.pair.now b.ranges.now c.requires.beside c.args.order.now c.in_ok-system.system b.writer.now.statement
+    (length c.ranges-params.result.now) c.len-loops.result c.in_ok-system.ensures refl (ap length c.ranges-params.ensures.ranges) c.len-loops.ensures c.in_ok-found.found c.in_ok-found.ensures.last c.requires.order
+
+pub returns-clause-writer : goal.returns-clause-writer
+returns-clause-writer c =
+    let b = c.args.beside.now in
+    one_writer b.nest.now b.writer.now b.reader.now b.store.now b.load.now b.p.now b.iterators.now b.pair.now b.ranges.now c.requires.beside c.args.order.now c.in_ok-system.system b.writer.now.statement
+    (length c.ranges-params.result.now) c.len-loops.result c.in_ok-system.ensures refl (ap length c.ranges-params.ensures.ranges) c.len-loops.ensures c.in_ok-found.found c.in_ok-found.ensures.last

@@ -1,0 +1,255 @@
+//! The latest store before a load: its source.
+ghost use Rattle.std.specs.Prelude.{◌≡◌, ◌+◌, ◌≤◌, ◌∷◌, [], ℕ, Some, length, IfOk, IfErr, IfSome};
+ghost use Rattle.std.specs.List.{All};
+ghost use Rattle.affc_system.specs.Pairs.{WithinReach};
+ghost use Rattle.affc_split.specs.Budgets.{IsLater};
+ghost use Rattle.affc_trace.specs.Law.{IsIn};
+ghost use Rattle.affc_order.specs.Systems.{source_systems};
+ghost use Rattle.affc_sched.specs.Touched.{Each};
+ghost use Rattle.affc_flow.specs.Writers.{Writes};
+ghost use Rattle.affc_latest.specs.Stores.{IsReading, AreBeside, instance_in, IsLastIn, IsLatestBy, IsLatestAmong, IsWriterAt, IsReadFrom};
+
+use crate::greatest::greatest_point;
+use crate::later::later;
+use crate::pairs::{store_rows, with_order};
+use crate::pinned::beside_ranges;
+use affc_ast::tree::Instance;
+use affc_nest::{Access, Entry, Nest};
+use affc_order::source_before;
+use affc_split::{Budget, Stop};
+use affc_system::{BoxOf, System};
+use sqlite_items::Items;
+use std::alloc::{AllocError, Global};
+
+/// A load at values of the parameters and of the iterators of its statement.
+#[derive(Drop)]
+pub struct Reading<'a> {
+    pub nest: &'a Nest,
+    pub reader: &'a Entry,
+    pub load: &'a Access,
+    pub p: &'a [i64],
+    pub iterators: &'a [i64],
+}
+
+/// A store of what a load reads: the rows of both, and the ranges at the load's values.
+#[derive(Drop)]
+struct Beside<'a> {
+    nest: &'a Nest,
+    writer: &'a Entry,
+    store: &'a Access,
+    reader: &'a Entry,
+    load: &'a Access,
+    p: &'a [i64],
+    iterators: &'a [i64],
+    pair: &'a System,
+    ranges: &'a BoxOf,
+}
+
+/// The instance of a statement whose iterators stand behind the parameters in a point.
+fn instance_in(
+    alloc: Global,
+    statement: u32,
+    params: usize,
+    loops: usize,
+    point: &[i64],
+) -> Result<Instance, AllocError>
+    requires { params + loops ≤ length point.now }
+    ensures { IfOk result (λ i. i ≡ instance_in statement params loops point.now) }
+{
+    let (_numbers, behind) = point.split_at(params);
+    let (own, _others) = behind.split_at(loops);
+    let iterators = Items::from_slice(alloc, own)?;
+    Ok(Instance {
+        statement,
+        iterators,
+    })
+}
+
+/// The instance at the greatest point of a system, if it has one.
+fn last_in(
+    alloc: Global,
+    system: &System,
+    ranges: &BoxOf,
+    statement: u32,
+    params: usize,
+    loops: usize,
+    budget: &mut Budget,
+) -> Result<Option<Instance>, Stop>
+    requires columns { length ranges.now ≡ system.now.columns }
+    requires reach { All WithinReach ranges.now }
+    requires room { params + loops ≤ length ranges.now }
+    ensures last { IfOk result (IsLastIn system.now ranges.now statement params loops) }
+    ensures later { IsLater budget.old budget.new }
+    ensures stop { IfErr result (λ e. e ≡ Stop.Budget → budget.new.limit ≡ Some budget.new.spent) }
+{
+    match greatest_point(alloc, system, ranges, budget)? {
+        None => Ok(None),
+        Some(point) => {
+            let found = instance_in(alloc, statement, params, loops, point.as_slice())?;
+            Ok(Some(found))
+        }
+    }
+}
+
+/// The latest store by one system of the order.
+fn last_by_one(
+    alloc: Global,
+    beside: &Beside<'_>,
+    order: &System,
+    budget: &mut Budget,
+) -> Result<Option<Instance>, Stop>
+    requires beside { AreBeside beside.now.nest.now beside.now.writer.now beside.now.reader.now beside.now.store.now beside.now.load.now beside.now.p.now beside.now.iterators.now beside.now.pair.now beside.now.ranges.now }
+    requires order { IsIn order.now (source_systems beside.now.nest.now beside.now.writer.now.statement beside.now.reader.now.statement) }
+    ensures latest { IfOk result (IsLatestBy beside.now.nest.now beside.now.writer.now beside.now.reader.now beside.now.store.now beside.now.load.now beside.now.p.now beside.now.iterators.now (order.now ∷ [])) }
+    ensures writer { IfOk result (λ o. IfSome o (IsWriterAt beside.now.nest.now beside.now.load.now.array.0)) }
+    ensures later { IsLater budget.old budget.new }
+    ensures stop { IfErr result (λ e. e ≡ Stop.Budget → budget.new.limit ≡ Some budget.new.spent) }
+{
+    let system = with_order(beside.pair, order)?;
+    let params = beside.nest.params.ranges().len();
+    let loops = beside.writer.loops.len();
+    let statement = beside.writer.statement;
+    let found = last_in(
+        alloc,
+        &system,
+        beside.ranges,
+        statement,
+        params,
+        loops,
+        budget,
+    )?;
+    Ok(found)
+}
+
+/// The latest store by any of these systems of the order.
+fn last_by(
+    alloc: Global,
+    beside: &Beside<'_>,
+    orders: &[System],
+    budget: &mut Budget,
+) -> Result<Option<Instance>, Stop>
+    requires beside { AreBeside beside.now.nest.now beside.now.writer.now beside.now.reader.now beside.now.store.now beside.now.load.now beside.now.p.now beside.now.iterators.now beside.now.pair.now beside.now.ranges.now }
+    requires orders { Each (λ o. IsIn o (source_systems beside.now.nest.now beside.now.writer.now.statement beside.now.reader.now.statement)) orders.now }
+    ensures latest { IfOk result (IsLatestBy beside.now.nest.now beside.now.writer.now beside.now.reader.now beside.now.store.now beside.now.load.now beside.now.p.now beside.now.iterators.now orders.now) }
+    ensures writer { IfOk result (λ o. IfSome o (IsWriterAt beside.now.nest.now beside.now.load.now.array.0)) }
+    ensures later { IsLater budget.old budget.new }
+    ensures stop { IfErr result (λ e. e ≡ Stop.Budget → budget.new.limit ≡ Some budget.new.spent) }
+{
+    match orders {
+        [] => Ok(None),
+        [order, rest @ ..] => {
+            let here = last_by_one(alloc, beside, order, budget)?;
+            let others = last_by(alloc, beside, rest, budget)?;
+            let latest = later(alloc, beside.nest, beside.p, here, others)?;
+            Ok(latest)
+        }
+    }
+}
+
+/// The latest of a statement's stores of what is read.
+fn last_store(
+    alloc: Global,
+    reading: &Reading<'_>,
+    writer: &Entry,
+    store: &Access,
+    budget: &mut Budget,
+) -> Result<Option<Instance>, Stop>
+    requires reading { IsReading reading.now.nest.now reading.now.reader.now reading.now.load.now reading.now.p.now reading.now.iterators.now }
+    requires writes { Writes reading.now.nest.now reading.now.load.now.array.0 writer.now store.now }
+    ensures latest { IfOk result (IsLatestAmong reading.now.nest.now reading.now.reader.now reading.now.load.now reading.now.p.now reading.now.iterators.now (writer.now ∷ [])) }
+    ensures writer { IfOk result (λ o. IfSome o (IsWriterAt reading.now.nest.now reading.now.load.now.array.0)) }
+    ensures later { IsLater budget.old budget.new }
+    ensures stop { IfErr result (λ e. e ≡ Stop.Budget → budget.new.limit ≡ Some budget.new.spent) }
+{
+    let (nest, reader, load) = (reading.nest, reading.reader, reading.load);
+    let (p, iterators) = (reading.p, reading.iterators);
+    let pair = store_rows(alloc, nest, writer, reader, store, load)?;
+    let ranges = beside_ranges(alloc, p, &writer.ranges, iterators)?;
+    let orders = source_before(alloc, nest, writer.statement, reader.statement)?;
+    let beside = Beside {
+        nest,
+        writer,
+        store,
+        reader,
+        load,
+        p,
+        iterators,
+        pair: &pair,
+        ranges: &ranges,
+    };
+    let found = last_by(alloc, &beside, orders.as_slice(), budget)?;
+    Ok(found)
+}
+
+/// The latest instance of a statement that stores what is read.
+fn last_of(
+    alloc: Global,
+    reading: &Reading<'_>,
+    writer: &Entry,
+    budget: &mut Budget,
+) -> Result<Option<Instance>, Stop>
+    requires reading { IsReading reading.now.nest.now reading.now.reader.now reading.now.load.now reading.now.p.now reading.now.iterators.now }
+    requires writer { IsIn writer.now reading.now.nest.now.entries }
+    ensures latest { IfOk result (IsLatestAmong reading.now.nest.now reading.now.reader.now reading.now.load.now reading.now.p.now reading.now.iterators.now (writer.now ∷ [])) }
+    ensures writer { IfOk result (λ o. IfSome o (IsWriterAt reading.now.nest.now reading.now.load.now.array.0)) }
+    ensures later { IsLater budget.old budget.new }
+    ensures stop { IfErr result (λ e. e ≡ Stop.Budget → budget.new.limit ≡ Some budget.new.spent) }
+{
+    if !writer.alive {
+        return Ok(None);
+    }
+    let accesses = writer.accesses.as_slice();
+    if accesses.is_empty() {
+        return Ok(None);
+    }
+    let store = &accesses[accesses.len() - 1];
+    let other = store.array.0 != reading.load.array.0;
+    if other {
+        return Ok(None);
+    }
+    last_store(alloc, reading, writer, store, budget)
+}
+
+/// The latest instance of these statements that stores what is read. The recursion is into halves.
+fn last_among(
+    alloc: Global,
+    reading: &Reading<'_>,
+    entries: &[Entry],
+    budget: &mut Budget,
+) -> Result<Option<Instance>, Stop>
+    requires reading { IsReading reading.now.nest.now reading.now.reader.now reading.now.load.now reading.now.p.now reading.now.iterators.now }
+    requires entries { Each (λ v. IsIn v reading.now.nest.now.entries) entries.now }
+    ensures latest { IfOk result (IsLatestAmong reading.now.nest.now reading.now.reader.now reading.now.load.now reading.now.p.now reading.now.iterators.now entries.now) }
+    ensures writer { IfOk result (λ o. IfSome o (IsWriterAt reading.now.nest.now reading.now.load.now.array.0)) }
+    ensures later { IsLater budget.old budget.new }
+    ensures stop { IfErr result (λ e. e ≡ Stop.Budget → budget.new.limit ≡ Some budget.new.spent) }
+{
+    match entries {
+        [] => Ok(None),
+        [entry] => last_of(alloc, reading, entry, budget),
+        _ => {
+            let (first, behind) = entries.split_at(entries.len() / 2);
+            let here = last_among(alloc, reading, first, budget)?;
+            let others = last_among(alloc, reading, behind, budget)?;
+            let latest = later(alloc, reading.nest, reading.p, here, others)?;
+            Ok(latest)
+        }
+    }
+}
+
+/// The source of a load at an instance: the latest instance before it that stores what it reads, if one does.
+pub fn source_of(
+    alloc: Global,
+    reading: &Reading<'_>,
+    budget: &mut Budget,
+) -> Result<Option<Instance>, Stop>
+    requires reading { IsReading reading.now.nest.now reading.now.reader.now reading.now.load.now reading.now.p.now reading.now.iterators.now }
+    ensures source { IfOk result (IsReadFrom reading.now.nest.now reading.now.reader.now reading.now.load.now reading.now.p.now reading.now.iterators.now) }
+    ensures writer { IfOk result (λ o. IfSome o (IsWriterAt reading.now.nest.now reading.now.load.now.array.0)) }
+    ensures later { IsLater budget.old budget.new }
+    ensures stop { IfErr result (λ e. e ≡ Stop.Budget → budget.new.limit ≡ Some budget.new.spent) }
+{
+    let entries = reading.nest.entries.as_slice();
+    let found = last_among(alloc, reading, entries, budget)?;
+    Ok(found)
+}
