@@ -62,19 +62,31 @@ fn add_cut(
     Ok(())
 }
 
+/// Adds the node of a split with these coefficients, at this number, to a list.
+fn add_split_at(
+    alloc: Global,
+    nodes: &mut Vec<Value>,
+    numbers: &[i128],
+    at: i128,
+) -> Result<(), AllocError>
+    ensures { OnOk result (map view nodes.new.items ≡ map view nodes.old.items ++ split_node numbers.now at ∷ []) }
+{
+    let mut values = Vec::new(alloc);
+    values.push(Value::try_from_str(alloc, "s")?)?;
+    values.push(coefs(alloc, numbers)?)?;
+    values.push(whole(at)?)?;
+    nodes.push(list(values))?;
+    Ok(())
+}
+
 /// Adds the node of a split to a list.
 fn add_split(alloc: Global, nodes: &mut Vec<Value>, form: &Form, at: i64) -> Result<(), AllocError>
     ensures { OnOk result (map view nodes.new.items ≡ map view nodes.old.items ++ split_node form.now.coefs (at -ℤ form.now.constant) ∷ []) }
 {
-    let Some(at) = i128::from(at).checked_sub(form.constant) else {
-        return Err(AllocError);
-    };
-    let mut values = Vec::new(alloc);
-    values.push(Value::try_from_str(alloc, "s")?)?;
-    values.push(coefs(alloc, form.coefs.as_slice())?)?;
-    values.push(whole(at)?)?;
-    nodes.push(list(values))?;
-    Ok(())
+    match i128::from(at).checked_sub(form.constant) {
+        None => Err(AllocError),
+        Some(at) => add_split_at(alloc, nodes, form.coefs.as_slice(), at),
+    }
 }
 
 /// Adds the nodes of a proof to a list, as deep as the proof is.
