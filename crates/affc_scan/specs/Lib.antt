@@ -1,3 +1,4 @@
+pub mod Operators
 pub mod InSight
 pub mod Blocks
 pub mod Pieces

@@ -7,6 +7,7 @@ mod gathered;
 pub mod laws;
 mod loops;
 mod moved;
+mod operators;
 mod parts;
 mod ranges;
 mod target;

@@ -3,8 +3,8 @@ ghost use Rattle.std.specs.Prelude.{◌≡◌, ◌≤◌, IfOk, true};
 ghost use Rattle.affc_loops.specs.Trees.{moved_name, moved};
 ghost use Rattle.affc_scan.specs.InSight.{in_sight};
 
+use crate::operators::{Shape, shape_of, with_one, with_two};
 use affc_ast::tree::{Ix, NameId};
-use affc_loops::terms::trees::{add, ceild, floord, max, min, modulo, mul, neg, sub};
 use std::alloc::{AllocError, Global};
 
 fn moved_id(first: u32, more: u32, id: u32) -> NameId
@@ -26,50 +26,17 @@ pub(crate) fn moved_ix(alloc: Global, first: u32, more: u32, e: &Ix) -> Result<I
     requires seen { in_sight e.now ≡ true }
     ensures { IfOk result (λ x. x ≡ moved first more e.now) }
 {
-    match e {
-        Ix::Lit(n) => Ok(Ix::Lit(*n)),
-        Ix::Name(id) => Ok(Ix::Name(moved_id(first, more, id.0))),
-        Ix::Neg(a) => {
-            let a = moved_ix(alloc, first, more, a.get())?;
-            neg(alloc, a)
+    match shape_of(e) {
+        Shape::Number(n) => Ok(Ix::Lit(n)),
+        Shape::Name(id) => Ok(Ix::Name(moved_id(first, more, id.0))),
+        Shape::One(operator, a) => {
+            let a = moved_ix(alloc, first, more, a)?;
+            with_one(alloc, operator, a)
         }
-        Ix::Add(a, b) => {
-            let a = moved_ix(alloc, first, more, a.get())?;
-            let b = moved_ix(alloc, first, more, b.get())?;
-            add(alloc, a, b)
-        }
-        Ix::Sub(a, b) => {
-            let a = moved_ix(alloc, first, more, a.get())?;
-            let b = moved_ix(alloc, first, more, b.get())?;
-            sub(alloc, a, b)
-        }
-        Ix::Mul(a, b) => {
-            let a = moved_ix(alloc, first, more, a.get())?;
-            let b = moved_ix(alloc, first, more, b.get())?;
-            mul(alloc, a, b)
-        }
-        Ix::Min(a, b) => {
-            let a = moved_ix(alloc, first, more, a.get())?;
-            let b = moved_ix(alloc, first, more, b.get())?;
-            min(alloc, a, b)
-        }
-        Ix::Max(a, b) => {
-            let a = moved_ix(alloc, first, more, a.get())?;
-            let b = moved_ix(alloc, first, more, b.get())?;
-            max(alloc, a, b)
-        }
-        Ix::Mod(a, b) => {
-            let a = moved_ix(alloc, first, more, a.get())?;
-            let b = moved_ix(alloc, first, more, b.get())?;
-            modulo(alloc, a, b)
-        }
-        Ix::Floord(a, n) => {
-            let a = moved_ix(alloc, first, more, a.get())?;
-            floord(alloc, a, *n)
-        }
-        Ix::Ceild(a, n) => {
-            let a = moved_ix(alloc, first, more, a.get())?;
-            ceild(alloc, a, *n)
+        Shape::Two(operator, a, b) => {
+            let a = moved_ix(alloc, first, more, a)?;
+            let b = moved_ix(alloc, first, more, b)?;
+            with_two(alloc, operator, a, b)
         }
     }
 }
