@@ -5,7 +5,7 @@ ghost use Rattle.affc_certvalue.specs.proof.Values.{pair_value, multipliers_valu
 ghost use Rattle.affc_certvalue.specs.proof.Verdicts.{kind_of};
 ghost use Rattle.serde_json.specs.Data.{array};
 ghost use Rattle.serde_json.specs.View.{view, items_view};
-ghost use Rattle.std.specs.Prelude.{◌≡◌, ◌∷◌, ◌-ℤ◌, map, pos, IfOk, IfSome, OnOk};
+ghost use Rattle.std.specs.Prelude.{◌≡◌, ◌∷◌, ◌++◌, ◌-ℤ◌, map, pos, IfOk, IfSome, OnOk};
 
 use crate::build::{coefs, form, whole};
 use crate::proof::judge::kind;
@@ -120,6 +120,17 @@ fn put_leaf(stack: &mut Vec<Proof>, by: Multipliers) -> Result<(), AllocError>
     Ok(())
 }
 
+/// Takes the proof on the top of the stack, in a box.
+#[tactic(auto, using(crate::proofs::proof::Found::stack_top))]
+fn boxed_top(alloc: Global, stack: &mut Vec<Proof>) -> Result<Box<Proof>, AllocError>
+    ensures { IfOk result (λ p. stack_nodes stack.old.items ≡ nodes_of (steps_of p.value) ++ stack_nodes stack.new.items) }
+{
+    match stack.pop() {
+        None => Err(AllocError),
+        Some(proof) => Ok(Box::new(alloc, proof)?),
+    }
+}
+
 /// Puts a cut on the stack, over the proof on its top.
 #[tactic(auto, using(crate::proofs::proof::Found::stack_steps))]
 fn put_cut(
@@ -131,10 +142,7 @@ fn put_cut(
 ) -> Result<(), AllocError>
     ensures { OnOk result (stack_nodes stack.new.items ≡ cut_node by g row ∷ stack_nodes stack.old.items) }
 {
-    let Some(rest) = stack.pop() else {
-        return Err(AllocError);
-    };
-    let rest = Box::new(alloc, rest)?;
+    let rest = boxed_top(alloc, stack)?;
     stack.push(Proof::Cut { by, g, row, rest })?;
     Ok(())
 }
@@ -144,14 +152,8 @@ fn put_cut(
 fn put_split(alloc: Global, stack: &mut Vec<Proof>, form: Form, at: i64) -> Result<(), AllocError>
     ensures { OnOk result (stack_nodes stack.new.items ≡ split_node form.coefs (at -ℤ form.constant) ∷ stack_nodes stack.old.items) }
 {
-    let Some(low) = stack.pop() else {
-        return Err(AllocError);
-    };
-    let Some(high) = stack.pop() else {
-        return Err(AllocError);
-    };
-    let low = Box::new(alloc, low)?;
-    let high = Box::new(alloc, high)?;
+    let low = boxed_top(alloc, stack)?;
+    let high = boxed_top(alloc, stack)?;
     stack.push(Proof::Split {
         form,
         at,
