@@ -1,5 +1,6 @@
 pub mod Values
 pub mod Trees
+pub mod Taken
 pub mod Stacks
 pub mod Limits
 pub mod Within

@@ -1,4 +1,5 @@
 -- Verdicts on the nodes of a tree, at the places of a list.
+use Rattle.affc_cert.specs.tree.Taken.{IsTaken}
 use Rattle.affc_cert.specs.tree.Trees.{loops_at, source_number, source_parts, tree_kind_of, kind_in, opened, tree_node, tree_nodes}
 use Rattle.affc_cert.specs.declared.tree.kind.Place.{Place}
 use Rattle.affc_cert.specs.declared.tree.kind.TreeKind.{TreeKind as Kind}
@@ -9,11 +10,12 @@ use Rattle.affc_certvalue.proofs.Steps.{worse_worse, worse_fine, worse_shape, ne
 use Rattle.affc_certvalue.specs.Verdicts.{worse, exactly, behind_tag, list}
 use Rattle.affc_certvalue.specs.declared.verdict.Verdict.{Verdict}
 use Rattle.affc_certvalue.specs.declared.verdict.Verdict.TheVariants.{Shape, Fine}
+use Rattle.serde_json.specs.Data.{Data, item}
 use Rattle.serde_json.specs.Find.{as_number, as_array}
 use Rattle.serde_json.specs.View.{view, items_view}
 use Rattle.serde_json.specs.declared.value.Value.{Value}
-use Rattle.std.proofs.Common.{◌≡◌, ◌≢◌, ℕ, zero, suc, ◌+◌, ◌<◌, ◌≤◌, List, [], ◌∷◌, ◌++◌, length, get_or, drop, reverse, Some, None, refl, sym, ap, ap₂, ◌∙◌, arith, add-one, eq-eqb, ne_eqb}
-use Rattle.std.proofs.lemmas.List.{reverse-append}
+use Rattle.std.proofs.Common.{◌≡◌, ◌≢◌, ℕ, zero, suc, ◌+◌, ◌<◌, ◌≤◌, List, [], ◌∷◌, ◌++◌, length, get_or, drop, reverse, Some, None, refl, sym, ap, ap₂, subst, ◌∙◌, arith, add-one, eq-eqb, ne_eqb}
+use Rattle.std.proofs.lemmas.List.{reverse-append, length-reverse}
 
 loop_other_by_one : (ss : List Store) (n i : ℕ) (d : Store) → i < length ss → (get_or ss i d).statement ≢ n → loops_at n (drop i ss) ≡ loops_at n (drop (suc i) ss)
 loop_other_by_one [] n i d h e = absurd (omega arith)
@@ -73,25 +75,32 @@ top_place xs x = reverse-append xs (x ∷ [])
 
 pub ruleset open_steps = (top_place, add-one)
 
+pub node_taken : (ss : List Store) (place : Place) (before now after : List Place) (kind : Kind) (d : Data) (x : Verdict) → before ≡ place ∷ now → x ≡ list (tree_node ss place) d
+    → kind ≡ kind_in (as_array d) → after ≡ opened place kind now → IsTaken ss d x before after
+node_taken ss place before now after kind d x b g k a ds =
+    ap (λ ps. tree_nodes ss ps (item d ds)) b ∙ ap₂ (λ v ps. worse v (tree_nodes ss ps ds)) (sym g) (sym (a ∙ ap (λ t. opened place t now) k))
+
 pub no_place : (ss : List Store) (vs : List Value) (i : ℕ) → i < length vs → tree_nodes ss [] (items_view (drop i vs)) ≡ Shape
 no_place ss [] i h = absurd (omega arith)
 no_place ss (v ∷ vs) zero h = refl
 no_place ss (v ∷ vs) (suc i) h = no_place ss vs i (omega arith)
 
-pub places_left : (ss : List Store) (vs : List Value) (i : ℕ) (places : List Place) → length vs ≤ i → 0 < length places → tree_nodes ss places (items_view (drop i vs)) ≡ Shape
+places_left : (ss : List Store) (vs : List Value) (i : ℕ) (places : List Place) → length vs ≤ i → 0 < length places → tree_nodes ss places (items_view (drop i vs)) ≡ Shape
 places_left ss vs i [] h some = absurd (omega arith)
 places_left ss vs i (p ∷ ps) h some = ap (tree_nodes ss (p ∷ ps)) (no_item vs i h)
 
-pub no_place_left : (ss : List Store) (vs : List Value) (i : ℕ) → length vs ≤ i → tree_nodes ss [] (items_view (drop i vs)) ≡ Fine
-no_place_left ss vs i h = ap (tree_nodes ss []) (no_item vs i h)
+pub left_open : (ss : List Store) (vs : List Value) (i : ℕ) (places : List Place) (w whole : Verdict) → length vs ≤ i → 0 < length places → worse w (tree_nodes ss (reverse places) (items_view (drop i vs))) ≡ whole → Shape ≡ whole
+left_open ss vs i places w whole h some e =
+    sym (ap (worse w) (places_left ss vs i (reverse places) h (subst (λ n. 0 < n) (sym (length-reverse places)) some)) ∙ worse_shape w) ∙ e
 
-pub place_kept : (ss : List Store) (vs : List Value) (i : ℕ) (d : Value) (place : Place) (before now after : List Place) (kind : Kind) (w v x whole : Verdict) → i < length vs
-    → worse w (tree_nodes ss before (items_view (drop i vs))) ≡ whole → before ≡ place ∷ now → v ≡ worse w x → x ≡ list (tree_node ss place) (view (get_or vs i d))
-    → kind ≡ kind_in (as_array (view (get_or vs i d))) → after ≡ opened place kind now → worse v (tree_nodes ss after (items_view (drop (i + 1) vs))) ≡ whole
-place_kept ss vs i d place before now after kind w v x whole h e b f g k a =
-    let here = list (tree_node ss place) (view (get_or vs i d)) in
-    let behind = tree_nodes ss (opened place (kind_in (as_array (view (get_or vs i d)))) now) (items_view (drop (suc i) vs)) in
-    let rest : tree_nodes ss after (items_view (drop (i + 1) vs)) ≡ behind = ap₂ (λ ps j. tree_nodes ss ps (items_view (drop j vs))) (a ∙ ap (λ t. opened place t now) k) (add-one i) in
-    ap₂ worse (f ∙ ap (worse w) g) rest ∙ worse_worse w here behind ∙ ap (λ ds. worse w (tree_nodes ss (place ∷ now) ds)) (sym (next_item vs i d h)) ∙ ap (λ ps. worse w (tree_nodes ss ps (items_view (drop i vs)))) (sym b) ∙ e
+pub all_closed : (ss : List Store) (vs : List Value) (i : ℕ) (places : List Place) (w whole : Verdict) → length vs ≤ i → length places ≡ 0 → worse w (tree_nodes ss (reverse places) (items_view (drop i vs))) ≡ whole → w ≡ whole
+all_closed ss vs i [] w whole h none e = sym (ap (worse w) (ap (tree_nodes ss []) (no_item vs i h)) ∙ worse_fine w) ∙ e
+all_closed ss vs i (p ∷ ps) w whole h none e = absurd (omega arith)
 
-pub ruleset place_steps = (worse_shape, worse_fine, no_place, places_left, no_place_left)
+pub place_kept : (ss : List Store) (vs : List Value) (i : ℕ) (d : Value) (before after : List Place) (w v x whole : Verdict) → i < length vs
+    → worse w (tree_nodes ss before (items_view (drop i vs))) ≡ whole → v ≡ worse w x → IsTaken ss (view (get_or vs i d)) x before after
+    → worse v (tree_nodes ss after (items_view (drop (i + 1) vs))) ≡ whole
+place_kept ss vs i d before after w v x whole h e f taken =
+    let behind = items_view (drop (suc i) vs) in
+    ap₂ worse f (ap (λ j. tree_nodes ss after (items_view (drop j vs))) (add-one i)) ∙ worse_worse w x (tree_nodes ss after behind) ∙ ap (worse w) (sym (taken behind))
+    ∙ ap (λ ds. worse w (tree_nodes ss before ds)) (sym (next_item vs i d h)) ∙ e

@@ -6,7 +6,7 @@ ghost use Rattle.affc_certvalue.specs.Values.{form_value, forms_value};
 ghost use Rattle.affc_quast.specs.Seen.{seen};
 ghost use Rattle.serde_json.specs.Data.{array};
 ghost use Rattle.serde_json.specs.View.{view, items_view};
-ghost use Rattle.std.specs.Prelude.{◌≡◌, ◌∷◌, map, IfOk, OnOk};
+ghost use Rattle.std.specs.Prelude.{◌≡◌, ◌∷◌, ◌++◌, map, IfOk, OnOk};
 
 use crate::tree::judge::tree_kind;
 use crate::tree::kind::TreeKind;
@@ -105,15 +105,23 @@ fn put_input(stack: &mut Vec<Quast>) -> Result<(), AllocError>
     Ok(())
 }
 
+/// Takes the tree on the top of the stack, in a box.
+#[tactic(auto, using(crate::proofs::tree::Found::tree_stack_top))]
+fn boxed_top(alloc: Global, stack: &mut Vec<Quast>) -> Result<Box<Quast>, AllocError>
+    ensures { IfOk result (λ t. tree_stack_nodes stack.old.items ≡ tree_nodes_of (seen t.value) ++ tree_stack_nodes stack.new.items) }
+{
+    match stack.pop() {
+        None => Err(AllocError),
+        Some(tree) => Ok(Box::new(alloc, tree)?),
+    }
+}
+
 /// Puts a division on the stack, over the tree on its top.
 #[tactic(auto, using(crate::proofs::tree::Found::tree_stack_steps))]
 fn put_div(alloc: Global, stack: &mut Vec<Quast>, form: Form, by: i64) -> Result<(), AllocError>
     ensures { OnOk result (tree_stack_nodes stack.new.items ≡ div_node form by ∷ tree_stack_nodes stack.old.items) }
 {
-    let Some(rest) = stack.pop() else {
-        return Err(AllocError);
-    };
-    let rest = Box::new(alloc, rest)?;
+    let rest = boxed_top(alloc, stack)?;
     stack.push(Quast::Div { form, by, rest })?;
     Ok(())
 }
@@ -123,14 +131,8 @@ fn put_div(alloc: Global, stack: &mut Vec<Quast>, form: Form, by: i64) -> Result
 fn put_test(alloc: Global, stack: &mut Vec<Quast>, form: Form) -> Result<(), AllocError>
     ensures { OnOk result (tree_stack_nodes stack.new.items ≡ test_node form ∷ tree_stack_nodes stack.old.items) }
 {
-    let Some(yes) = stack.pop() else {
-        return Err(AllocError);
-    };
-    let Some(no) = stack.pop() else {
-        return Err(AllocError);
-    };
-    let yes = Box::new(alloc, yes)?;
-    let no = Box::new(alloc, no)?;
+    let yes = boxed_top(alloc, stack)?;
+    let no = boxed_top(alloc, stack)?;
     stack.push(Quast::Test { form, yes, no })?;
     Ok(())
 }

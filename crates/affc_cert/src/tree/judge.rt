@@ -1,5 +1,6 @@
 //! Verdicts on source trees.
 ghost use Rattle.affc_cert.specs.tree.Trees.{tree_form, forms, loops_at, loops_of, source_by, source_parts, path, tree_kind_of_tag, tree_kind_of, tree_node, opened, kind_in, tree_nodes, tree};
+ghost use Rattle.affc_cert.specs.tree.Taken.{IsTaken};
 ghost use Rattle.affc_certvalue.specs.Verdicts.{list, many, behind_tag};
 ghost use Rattle.serde_json.specs.Find.{as_array};
 ghost use Rattle.serde_json.specs.View.{view, items_view};
@@ -255,8 +256,28 @@ fn take(places: &mut Vec<Place>) -> Option<Place>
     places.pop()
 }
 
+/// The verdict on the next node, at the place that is taken for it, if one is open.
+#[tactic(auto, using(crate::proofs::tree::Steps::node_taken))]
+fn next_verdict(
+    places: &mut Vec<Place>,
+    value: &Value,
+    statements: &[Store],
+) -> Result<Option<Verdict>, AllocError>
+    ensures { IfOk result (λ o. MatchOption o (reverse places.old.items ≡ []) (λ v. IsTaken statements.now (view value.now) v (reverse places.old.items) (reverse places.new.items))) }
+{
+    let Some(place) = take(places) else {
+        return Ok(None);
+    };
+    if place.columns > MOST_COLUMNS || place.inner > MOST_COLUMNS {
+        return Err(AllocError);
+    }
+    let (verdict, kind) = step_verdict(value, statements, place);
+    open(places, place, kind)?;
+    Ok(Some(verdict))
+}
+
 /// The verdict on nodes in preorder, at the places that are open.
-#[tactic(auto, using(crate::proofs::tree::Steps::place_steps))]
+#[tactic(auto, using(crate::proofs::tree::Steps::no_place))]
 fn verdict_at(
     places: &mut Vec<Place>,
     nodes: &[Value],
@@ -266,20 +287,17 @@ fn verdict_at(
 {
     let mut worst = Verdict::Fine;
     for value in nodes {
-        let Some(place) = take(places) else {
+        let next = next_verdict(places, value, statements)?;
+        let Some(verdict) = next else {
             return Ok(Verdict::Shape);
         };
-        if place.columns > MOST_COLUMNS || place.inner > MOST_COLUMNS {
-            return Err(AllocError);
-        }
-        let (verdict, kind) = step_verdict(value, statements, place);
         worst = worst.and(verdict);
-        open(places, place, kind)?;
     }
-    if take(places).is_some() {
-        return Ok(Verdict::Shape);
+    if places.is_empty() {
+        Ok(worst)
+    } else {
+        Ok(Verdict::Shape)
     }
-    Ok(worst)
 }
 
 /// The verdict on the nodes of a tree in preorder.
