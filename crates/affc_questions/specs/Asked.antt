@@ -13,6 +13,8 @@ use Rattle.affc_nest.specs.declared.nest.Entry.{Entry}
 use Rattle.affc_nest.specs.declared.nest.Nest.{Nest}
 use Rattle.affc_order.specs.Posed.{Posed}
 use Rattle.affc_quast.specs.Leaves.{Leaf}
+use Rattle.affc_quast.specs.SeenLeaves.{leaf_seen}
+use Rattle.affc_questions.specs.declared.reading.Reading.{Reading}
 use Rattle.affc_life.specs.Asked.{HasForms, IsLiving, IsPath}
 
 -- ---- Leaves
@@ -23,6 +25,9 @@ pub record IsLeafOf (nest : Nest) (reader : Entry) (load : Access) (leaf : Leaf)
   pub reads : IsLiving nest reader
   pub loads : IsIn load reader.accesses
   pub path : IsPath nest (length nest.params + length reader.loops) leaf
+
+abbrev pub IsReading : Reading → Type 0
+IsReading r = IsLeafOf r.nest.now r.reader.now r.load.now (leaf_seen r.leaf.now)
 
 -- an access of a living statement
 pub record IsWriter (nest : Nest) (v : Entry) (y : Access) : Type 0 where

@@ -6,16 +6,17 @@ ghost use Rattle.affc_flow.specs.Questions.{beside_rows};
 ghost use Rattle.affc_quast.specs.SeenLeaves.{leaf_seen};
 ghost use Rattle.affc_life.specs.Asked.{HasForms};
 ghost use Rattle.affc_life.specs.Drafts.{posed};
-ghost use Rattle.affc_questions.specs.Asked.{IsLeafOf, IsWriter};
+ghost use Rattle.affc_questions.specs.Asked.{IsReading, IsWriter};
 ghost use Rattle.affc_questions.specs.Listed.{earlier_systems, between_systems, all_earlier, all_between};
 ghost use Rattle.affc_products.specs.Groups.{group_systems};
 
 use crate::lists::{add_each, add_joined};
+use crate::reading::Reading;
 use crate::rows::add_equals;
 use crate::writer::Writer;
 use affc_flow::store_for;
 use affc_life::stores::{front_rows, loaded, loops_round, stored, stored_after, stored_before};
-use affc_nest::{Access, Entry, Nest};
+use affc_nest::Entry;
 use affc_products::Group;
 use affc_quast::leaves::{Leaf, Named};
 use affc_rows::Form;
@@ -35,21 +36,19 @@ fn columns_beside(leaf: &Leaf, writer: &Entry) -> u32
 /// The path, the statement's domain, and equal subscripts.
 fn beside_rows(
     alloc: Global,
-    nest: &Nest,
-    reader: &Entry,
-    load: &Access,
-    leaf: &Leaf,
-    writer: &Entry,
-    store: &Access,
+    reading: &Reading<'_>,
+    writer: &Writer<'_>,
 ) -> Result<Items<Form>, AllocError>
-    requires leaf { IsLeafOf nest.now reader.now load.now (leaf_seen leaf.now) }
-    requires writer { IsWriter nest.now writer.now store.now }
-    ensures { IfOk result (λ r. r ≡ beside_rows nest.now reader.now load.now [] (leaf_seen leaf.now) writer.now store.now) }
+    requires reading { IsReading reading.now }
+    requires writer { IsWriter reading.now.nest.now writer.now.entry.now writer.now.store.now }
+    ensures { IfOk result (λ r. r ≡ beside_rows reading.now.nest.now reading.now.reader.now reading.now.load.now [] (leaf_seen reading.now.leaf.now) writer.now.entry.now writer.now.store.now) }
 {
-    let columns = columns_beside(leaf, writer);
-    let front = front_rows(alloc, nest, reader, leaf, writer)?;
-    let read = loaded(alloc, nest, reader, load, leaf, writer)?;
-    let written = stored(alloc, nest, reader, leaf, writer, store)?;
+    let (nest, reader, leaf) = (reading.nest, reading.reader, reading.leaf);
+    let entry = writer.entry;
+    let columns = columns_beside(leaf, entry);
+    let front = front_rows(alloc, nest, reader, leaf, entry)?;
+    let read = loaded(alloc, nest, reader, reading.load, leaf, entry)?;
+    let written = stored(alloc, nest, reader, leaf, entry, writer.store)?;
     let mut rows = Items::from_vec(front);
     add_equals(
         alloc,
@@ -64,43 +63,38 @@ fn beside_rows(
 /// Adds the questions whether an instance of the statement is earlier than the load.
 fn add_earlier(
     alloc: Global,
-    nest: &Nest,
-    reader: &Entry,
-    load: &Access,
-    leaf: &Leaf,
-    writer: &Entry,
-    store: &Access,
+    reading: &Reading<'_>,
+    writer: &Writer<'_>,
     out: &mut Vec<Group>,
 ) -> Result<(), AllocError>
-    requires leaf { IsLeafOf nest.now reader.now load.now (leaf_seen leaf.now) }
-    requires writer { IsWriter nest.now writer.now store.now }
-    ensures { OnOk result (flat_map group_systems out.new.items ≡ flat_map group_systems out.old.items ++ earlier_systems nest.now reader.now load.now (leaf_seen leaf.now) writer.now store.now) }
+    requires reading { IsReading reading.now }
+    requires writer { IsWriter reading.now.nest.now writer.now.entry.now writer.now.store.now }
+    ensures { OnOk result (flat_map group_systems out.new.items ≡ flat_map group_systems out.old.items ++ earlier_systems reading.now.nest.now reading.now.reader.now reading.now.load.now (leaf_seen reading.now.leaf.now) writer.now.entry.now writer.now.store.now) }
 {
-    let columns = columns_beside(leaf, writer);
-    let front = beside_rows(alloc, nest, reader, load, leaf, writer, store)?;
-    let before = stored_before(alloc, nest, &Schedule::Source, reader, leaf, writer)?;
+    let (nest, reader, leaf) = (reading.nest, reading.reader, reading.leaf);
+    let columns = columns_beside(leaf, writer.entry);
+    let front = beside_rows(alloc, reading, writer)?;
+    let before = stored_before(alloc, nest, &Schedule::Source, reader, leaf, writer.entry)?;
     add_each(alloc, columns, front, before, out)
 }
 
 /// Adds the questions whether an instance of the statement is later than the one that is named and earlier than the load.
 fn add_between(
     alloc: Global,
-    nest: &Nest,
-    reader: &Entry,
-    load: &Access,
-    leaf: &Leaf,
+    reading: &Reading<'_>,
     named: &Named,
     writer: &Writer<'_>,
     out: &mut Vec<Group>,
 ) -> Result<(), AllocError>
-    requires leaf { IsLeafOf nest.now reader.now load.now (leaf_seen leaf.now) }
-    requires named { HasForms nest.now leaf.now.columns named.now.statement named.now.forms }
-    requires writer { IsWriter nest.now writer.now.entry.now writer.now.store.now }
-    ensures { OnOk result (flat_map group_systems out.new.items ≡ flat_map group_systems out.old.items ++ between_systems nest.now reader.now load.now (leaf_seen leaf.now) writer.now.entry.now writer.now.store.now (posed named.now.statement named.now.forms)) }
+    requires reading { IsReading reading.now }
+    requires named { HasForms reading.now.nest.now reading.now.leaf.now.columns named.now.statement named.now.forms }
+    requires writer { IsWriter reading.now.nest.now writer.now.entry.now writer.now.store.now }
+    ensures { OnOk result (flat_map group_systems out.new.items ≡ flat_map group_systems out.old.items ++ between_systems reading.now.nest.now reading.now.reader.now reading.now.load.now (leaf_seen reading.now.leaf.now) writer.now.entry.now writer.now.store.now (posed named.now.statement named.now.forms)) }
 {
-    let (entry, store) = (writer.entry, writer.store);
+    let (nest, reader, leaf) = (reading.nest, reading.reader, reading.leaf);
+    let entry = writer.entry;
     let columns = columns_beside(leaf, entry);
-    let front = beside_rows(alloc, nest, reader, load, leaf, entry, store)?;
+    let front = beside_rows(alloc, reading, writer)?;
     let before = stored_before(alloc, nest, &Schedule::Source, reader, leaf, entry)?;
     let after = stored_after(alloc, nest, &Schedule::Source, reader, leaf, named, entry)?;
     add_joined(alloc, columns, front, after, before, out)
@@ -109,44 +103,38 @@ fn add_between(
 /// Adds those of a statement, if it stores the array.
 fn add_earlier_of(
     alloc: Global,
-    nest: &Nest,
-    reader: &Entry,
-    load: &Access,
-    leaf: &Leaf,
+    reading: &Reading<'_>,
     entry: &Entry,
     out: &mut Vec<Group>,
 ) -> Result<(), AllocError>
-    requires leaf { IsLeafOf nest.now reader.now load.now (leaf_seen leaf.now) }
-    requires entry { IsIn entry.now nest.now.entries }
-    ensures { OnOk result (flat_map group_systems out.new.items ≡ flat_map group_systems out.old.items ++ all_earlier nest.now reader.now load.now (leaf_seen leaf.now) (entry.now ∷ [])) }
+    requires reading { IsReading reading.now }
+    requires entry { IsIn entry.now reading.now.nest.now.entries }
+    ensures { OnOk result (flat_map group_systems out.new.items ≡ flat_map group_systems out.old.items ++ all_earlier reading.now.nest.now reading.now.reader.now reading.now.load.now (leaf_seen reading.now.leaf.now) (entry.now ∷ [])) }
 {
-    match store_for(entry, load.array.0) {
+    match store_for(entry, reading.load.array.0) {
         None => Ok(()),
-        Some(store) => add_earlier(alloc, nest, reader, load, leaf, entry, store, out),
+        Some(store) => add_earlier(alloc, reading, &Writer { entry, store }, out),
     }
 }
 
 /// Adds the questions whether an instance that stores the array is earlier than the load. The recursion is into halves.
 pub(crate) fn add_all_earlier(
     alloc: Global,
-    nest: &Nest,
-    reader: &Entry,
-    load: &Access,
-    leaf: &Leaf,
+    reading: &Reading<'_>,
     entries: &[Entry],
     out: &mut Vec<Group>,
 ) -> Result<(), AllocError>
-    requires leaf { IsLeafOf nest.now reader.now load.now (leaf_seen leaf.now) }
-    requires entries { All (λ e. IsIn e nest.now.entries) entries.now }
-    ensures { OnOk result (flat_map group_systems out.new.items ≡ flat_map group_systems out.old.items ++ all_earlier nest.now reader.now load.now (leaf_seen leaf.now) entries.now) }
+    requires reading { IsReading reading.now }
+    requires entries { All (λ e. IsIn e reading.now.nest.now.entries) entries.now }
+    ensures { OnOk result (flat_map group_systems out.new.items ≡ flat_map group_systems out.old.items ++ all_earlier reading.now.nest.now reading.now.reader.now reading.now.load.now (leaf_seen reading.now.leaf.now) entries.now) }
 {
     match entries {
         [] => Ok(()),
-        [entry] => add_earlier_of(alloc, nest, reader, load, leaf, entry, out),
+        [entry] => add_earlier_of(alloc, reading, entry, out),
         _ => {
             let (first, others) = entries.split_at(entries.len() / 2);
-            add_all_earlier(alloc, nest, reader, load, leaf, first, out)?;
-            add_all_earlier(alloc, nest, reader, load, leaf, others, out)
+            add_all_earlier(alloc, reading, first, out)?;
+            add_all_earlier(alloc, reading, others, out)
         }
     }
 }
@@ -154,25 +142,19 @@ pub(crate) fn add_all_earlier(
 /// Adds those of a statement, if it stores the array.
 fn add_between_of(
     alloc: Global,
-    nest: &Nest,
-    reader: &Entry,
-    load: &Access,
-    leaf: &Leaf,
+    reading: &Reading<'_>,
     named: &Named,
     entry: &Entry,
     out: &mut Vec<Group>,
 ) -> Result<(), AllocError>
-    requires leaf { IsLeafOf nest.now reader.now load.now (leaf_seen leaf.now) }
-    requires named { HasForms nest.now leaf.now.columns named.now.statement named.now.forms }
-    requires entry { IsIn entry.now nest.now.entries }
-    ensures { OnOk result (flat_map group_systems out.new.items ≡ flat_map group_systems out.old.items ++ all_between nest.now reader.now load.now (leaf_seen leaf.now) (posed named.now.statement named.now.forms) (entry.now ∷ [])) }
+    requires reading { IsReading reading.now }
+    requires named { HasForms reading.now.nest.now reading.now.leaf.now.columns named.now.statement named.now.forms }
+    requires entry { IsIn entry.now reading.now.nest.now.entries }
+    ensures { OnOk result (flat_map group_systems out.new.items ≡ flat_map group_systems out.old.items ++ all_between reading.now.nest.now reading.now.reader.now reading.now.load.now (leaf_seen reading.now.leaf.now) (posed named.now.statement named.now.forms) (entry.now ∷ [])) }
 {
-    match store_for(entry, load.array.0) {
+    match store_for(entry, reading.load.array.0) {
         None => Ok(()),
-        Some(store) => {
-            let writer = Writer { entry, store };
-            add_between(alloc, nest, reader, load, leaf, named, &writer, out)
-        }
+        Some(store) => add_between(alloc, reading, named, &Writer { entry, store }, out),
     }
 }
 
@@ -180,26 +162,23 @@ fn add_between_of(
 /// The recursion is into halves.
 pub(crate) fn add_all_between(
     alloc: Global,
-    nest: &Nest,
-    reader: &Entry,
-    load: &Access,
-    leaf: &Leaf,
+    reading: &Reading<'_>,
     named: &Named,
     entries: &[Entry],
     out: &mut Vec<Group>,
 ) -> Result<(), AllocError>
-    requires leaf { IsLeafOf nest.now reader.now load.now (leaf_seen leaf.now) }
-    requires named { HasForms nest.now leaf.now.columns named.now.statement named.now.forms }
-    requires entries { All (λ e. IsIn e nest.now.entries) entries.now }
-    ensures { OnOk result (flat_map group_systems out.new.items ≡ flat_map group_systems out.old.items ++ all_between nest.now reader.now load.now (leaf_seen leaf.now) (posed named.now.statement named.now.forms) entries.now) }
+    requires reading { IsReading reading.now }
+    requires named { HasForms reading.now.nest.now reading.now.leaf.now.columns named.now.statement named.now.forms }
+    requires entries { All (λ e. IsIn e reading.now.nest.now.entries) entries.now }
+    ensures { OnOk result (flat_map group_systems out.new.items ≡ flat_map group_systems out.old.items ++ all_between reading.now.nest.now reading.now.reader.now reading.now.load.now (leaf_seen reading.now.leaf.now) (posed named.now.statement named.now.forms) entries.now) }
 {
     match entries {
         [] => Ok(()),
-        [entry] => add_between_of(alloc, nest, reader, load, leaf, named, entry, out),
+        [entry] => add_between_of(alloc, reading, named, entry, out),
         _ => {
             let (first, others) = entries.split_at(entries.len() / 2);
-            add_all_between(alloc, nest, reader, load, leaf, named, first, out)?;
-            add_all_between(alloc, nest, reader, load, leaf, named, others, out)
+            add_all_between(alloc, reading, named, first, out)?;
+            add_all_between(alloc, reading, named, others, out)
         }
     }
 }

@@ -102,9 +102,7 @@ pub fn positive_question(alloc: Global, nest: &Nest, modulus: &Form) -> Result<L
 /// A number of 64 bits is within 2^63.
 fn word_is_near(x: i64)
     ensures { unsigned_abs x ≤ 2 ^ 63 }
-{
-    let _x = x;
-}
+{}
 
 /// And each of these is.
 fn words_are_near(p: &[i64])

@@ -8,13 +8,14 @@ ghost use Rattle.affc_life.specs.Asked.{HasForms, IsLiving, IsPath};
 ghost use Rattle.affc_life.specs.Drafts.{posed};
 ghost use Rattle.affc_flow.specs.Asked.{writers_of};
 ghost use Rattle.affc_flow.specs.Questions.{leaf_questions};
-ghost use Rattle.affc_questions.specs.Asked.{IsLeafOf, IsWriter, IsInstanceOf};
+ghost use Rattle.affc_questions.specs.Asked.{IsReading, IsWriter, IsInstanceOf};
 ghost use Rattle.affc_questions.specs.Listed.{systems_of, first_posed, over_path, named_systems, found_systems, input_systems};
 ghost use Rattle.affc_products.specs.Groups.{group_systems};
 
 use crate::beside::{add_all_between, add_all_earlier};
 use crate::lists::{add_each, add_front};
 use crate::named::{astray_lists, late_lists, own_path};
+use crate::reading::Reading;
 use crate::writer::Writer;
 use affc_flow::{is_temporary, store_for};
 use affc_nest::{Access, Entry, Nest};
@@ -73,65 +74,52 @@ fn add_path(
 /// Adds the questions of a leaf that names an instance of this statement.
 fn add_named(
     alloc: Global,
-    nest: &Nest,
-    reader: &Entry,
-    load: &Access,
-    leaf: &Leaf,
+    reading: &Reading<'_>,
     named: &Named,
     writer: &Writer<'_>,
     out: &mut Vec<Group>,
 ) -> Result<(), AllocError>
-    requires leaf { IsLeafOf nest.now reader.now load.now (leaf_seen leaf.now) }
-    requires writer { IsWriter nest.now writer.now.entry.now writer.now.store.now }
-    requires named { IsInstanceOf nest.now leaf.now.columns (posed named.now.statement named.now.forms) writer.now.entry.now }
-    ensures { OnOk result (flat_map group_systems out.new.items ≡ flat_map group_systems out.old.items ++ named_systems nest.now reader.now load.now (leaf_seen leaf.now) (posed named.now.statement named.now.forms) writer.now.entry.now writer.now.store.now) }
+    requires reading { IsReading reading.now }
+    requires writer { IsWriter reading.now.nest.now writer.now.entry.now writer.now.store.now }
+    requires named { IsInstanceOf reading.now.nest.now reading.now.leaf.now.columns (posed named.now.statement named.now.forms) writer.now.entry.now }
+    ensures { OnOk result (flat_map group_systems out.new.items ≡ flat_map group_systems out.old.items ++ named_systems reading.now.nest.now reading.now.reader.now reading.now.load.now (leaf_seen reading.now.leaf.now) (posed named.now.statement named.now.forms) writer.now.entry.now writer.now.store.now) }
 {
+    let (nest, reader, leaf) = (reading.nest, reading.reader, reading.leaf);
     let path = own_path(alloc, reader, leaf)?;
-    let mut lists = astray_lists(alloc, nest, reader, load, leaf, named, writer)?;
+    let mut lists = astray_lists(alloc, reading, named, writer)?;
     let mut late = late_lists(alloc, nest, reader, leaf.columns, named)?;
     lists.append(&mut late)?;
     add_each(alloc, leaf.columns, Items::from_vec(path), lists, out)?;
-    let entries = nest.entries.as_slice();
-    add_all_between(alloc, nest, reader, load, leaf, named, entries, out)
+    add_all_between(alloc, reading, named, nest.entries.as_slice(), out)
 }
 
 /// Adds the questions of a leaf that names an instance.
 fn add_found(
     alloc: Global,
-    nest: &Nest,
-    reader: &Entry,
-    load: &Access,
-    leaf: &Leaf,
+    reading: &Reading<'_>,
     named: &Named,
     out: &mut Vec<Group>,
 ) -> Result<(), AllocError>
-    requires leaf { IsLeafOf nest.now reader.now load.now (leaf_seen leaf.now) }
-    requires named { HasForms nest.now leaf.now.columns named.now.statement named.now.forms }
-    ensures { OnOk result (flat_map group_systems out.new.items ≡ flat_map group_systems out.old.items ++ found_systems nest.now reader.now load.now (leaf_seen leaf.now) (posed named.now.statement named.now.forms) (first_posed (posed named.now.statement named.now.forms) (flat_map (writers_of load.now.array.0) nest.now.entries))) }
+    requires reading { IsReading reading.now }
+    requires named { HasForms reading.now.nest.now reading.now.leaf.now.columns named.now.statement named.now.forms }
+    ensures { OnOk result (flat_map group_systems out.new.items ≡ flat_map group_systems out.old.items ++ found_systems reading.now.nest.now reading.now.reader.now reading.now.load.now (leaf_seen reading.now.leaf.now) (posed named.now.statement named.now.forms) (first_posed (posed named.now.statement named.now.forms) (flat_map (writers_of reading.now.load.now.array.0) reading.now.nest.now.entries))) }
 {
-    match named_among(nest.entries.as_slice(), load.array.0, named) {
-        None => add_path(alloc, reader, leaf, out),
-        Some(writer) => add_named(alloc, nest, reader, load, leaf, named, &writer, out),
+    let entries = reading.nest.entries.as_slice();
+    match named_among(entries, reading.load.array.0, named) {
+        None => add_path(alloc, reading.reader, reading.leaf, out),
+        Some(writer) => add_named(alloc, reading, named, &writer, out),
     }
 }
 
 /// Adds the questions of a leaf that names none.
-fn add_input(
-    alloc: Global,
-    nest: &Nest,
-    reader: &Entry,
-    load: &Access,
-    leaf: &Leaf,
-    out: &mut Vec<Group>,
-) -> Result<(), AllocError>
-    requires { IsLeafOf nest.now reader.now load.now (leaf_seen leaf.now) }
-    ensures { OnOk result (flat_map group_systems out.new.items ≡ flat_map group_systems out.old.items ++ input_systems nest.now reader.now load.now (leaf_seen leaf.now)) }
+fn add_input(alloc: Global, reading: &Reading<'_>, out: &mut Vec<Group>) -> Result<(), AllocError>
+    requires { IsReading reading.now }
+    ensures { OnOk result (flat_map group_systems out.new.items ≡ flat_map group_systems out.old.items ++ input_systems reading.now.nest.now reading.now.reader.now reading.now.load.now (leaf_seen reading.now.leaf.now)) }
 {
-    if is_temporary(nest, load.array) {
-        add_path(alloc, reader, leaf, out)
+    if is_temporary(reading.nest, reading.load.array) {
+        add_path(alloc, reading.reader, reading.leaf, out)
     } else {
-        let entries = nest.entries.as_slice();
-        add_all_earlier(alloc, nest, reader, load, leaf, entries, out)
+        add_all_earlier(alloc, reading, reading.nest.entries.as_slice(), out)
     }
 }
 
@@ -149,14 +137,20 @@ pub fn leaf_questions(
     requires path { IsPath nest.now (length nest.now.params + length reader.now.loops) (leaf_seen leaf.now) }
     ensures { IfOk result (λ v. (ranges : List (ℤ × ℤ)) → flat_map group_systems v.items ≡ systems_of (leaf_questions nest.now reader.now load.now ranges (leaf_seen leaf.now))) }
 {
+    let reading = Reading {
+        nest,
+        reader,
+        load,
+        leaf,
+    };
     let mut out = Vec::new(alloc);
     match &leaf.named {
         None => {
-            add_input(alloc, nest, reader, load, leaf, &mut out)?;
+            add_input(alloc, &reading, &mut out)?;
             Ok(out)
         }
         Some(named) => {
-            add_found(alloc, nest, reader, load, leaf, named, &mut out)?;
+            add_found(alloc, &reading, named, &mut out)?;
             Ok(out)
         }
     }

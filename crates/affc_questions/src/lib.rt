@@ -11,6 +11,7 @@ pub mod legality;
 mod lists;
 pub mod long;
 mod named;
+mod reading;
 mod rows;
 mod writer;
 

@@ -10,11 +10,12 @@ ghost use Rattle.affc_life.specs.Asked.{IsLight, IsLiving, HasForms};
 ghost use Rattle.affc_life.specs.Composed.{AreImages};
 ghost use Rattle.affc_life.specs.Drafts.{posed};
 ghost use Rattle.affc_sched.specs.Questions.{equal_rows};
-ghost use Rattle.affc_questions.specs.Asked.{IsLeafOf, IsWriter, IsInstanceOf};
+ghost use Rattle.affc_questions.specs.Asked.{IsReading, IsWriter, IsInstanceOf};
 ghost use Rattle.affc_questions.specs.Listed.{negations, sides, own_path, own_columns, images, astray_lists, late_lists};
 
 use crate::image::add_images;
 use crate::lists::{add_below_zero, add_list, add_sides};
+use crate::reading::Reading;
 use crate::rows::add_equals;
 use crate::writer::Writer;
 use affc_life::columns::{add_padded, columns_from};
@@ -111,23 +112,19 @@ fn add_apart(
 /// the load reads.
 pub(crate) fn astray_lists(
     alloc: Global,
-    nest: &Nest,
-    reader: &Entry,
-    load: &Access,
-    leaf: &Leaf,
+    reading: &Reading<'_>,
     named: &Named,
     writer: &Writer<'_>,
 ) -> Result<Vec<Items<Form>>, AllocError>
-    requires leaf { IsLeafOf nest.now reader.now load.now (leaf_seen leaf.now) }
-    requires writer { IsWriter nest.now writer.now.entry.now writer.now.store.now }
-    requires named { IsInstanceOf nest.now leaf.now.columns (posed named.now.statement named.now.forms) writer.now.entry.now }
-    ensures { IfOk result (λ v. v.items ≡ astray_lists nest.now load.now leaf.now.columns named.now.forms writer.now.entry.now writer.now.store.now) }
+    requires reading { IsReading reading.now }
+    requires writer { IsWriter reading.now.nest.now writer.now.entry.now writer.now.store.now }
+    requires named { IsInstanceOf reading.now.nest.now reading.now.leaf.now.columns (posed named.now.statement named.now.forms) writer.now.entry.now }
+    ensures { IfOk result (λ v. v.items ≡ astray_lists reading.now.nest.now reading.now.load.now reading.now.leaf.now.columns named.now.forms writer.now.entry.now writer.now.store.now) }
 {
-    let _reader = reader.statement;
-    let columns = leaf.columns;
-    let images = images(alloc, nest, columns, named.forms.as_slice())?;
+    let columns = reading.leaf.columns;
+    let images = images(alloc, reading.nest, columns, named.forms.as_slice())?;
     let images = images.as_slice();
-    let (written, read) = (writer.store.subs.as_slice(), load.subs.as_slice());
+    let (written, read) = (writer.store.subs.as_slice(), reading.load.subs.as_slice());
     let mut lists = Vec::new(alloc);
     add_outside(
         alloc,

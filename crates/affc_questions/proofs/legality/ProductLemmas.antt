@@ -1,5 +1,5 @@
 -- The systems of a group of two factors.
-use Rattle.std.proofs.Common.{◌≡◌, ℕ, ◌≤◌, List, [], ◌∷◌, ◌++◌, length, map, flat_map, refl, sym, ap, ◌∙◌, arith, length-append}
+use Rattle.std.proofs.Common.{◌≡◌, ℕ, ◌≤◌, List, [], ◌∷◌, ◌++◌, length, map, flat_map, refl, sym, ap, subst, ◌∙◌, arith, length-append}
 use Rattle.std.specs.List.{All, AllByRecursion as Each}
 use Rattle.std.proofs.lemmas.List.{map-append}
 use Rattle.std.proofs.lemmas.List.Elements.{All-append, All-from_recursion, recursion_from_All}
@@ -14,7 +14,8 @@ use Rattle.affc_products.specs.Groups.{group_systems}
 use Rattle.affc_products.specs.declared.group.Group.{Group}
 use Rattle.affc_products.proofs.Eaches.{each_append}
 use Rattle.affc_products.proofs.ProductLemmas.{choices_of_two}
-use Rattle.affc_questions.specs.legality.Alternatives.{IsAlternative, rows_of_each, with_orders}
+use Rattle.affc_sched.specs.Spreadable.{IsOrder}
+use Rattle.affc_questions.specs.legality.Alternatives.{FitsColumns, IsAlternative, rows_of_each, with_orders}
 
 -- ---- Which they are
 
@@ -53,6 +54,10 @@ group_put pair earlier later columns front factors old new e c r f =
 
 -- ---- That they keep the limits
 
+each_alternative : (columns : ℕ) (orders : List Rows) → Each (IsOrder columns) orders → Each FitsColumns orders → Each (IsAlternative columns) (rows_of_each orders)
+each_alternative columns [] h g = tt
+each_alternative columns (o ∷ os) h g = (record { few = h.0.few; fit = subst (λ n. All (IsRow n) o.rows) h.0.columns_are g.0 }, each_alternative columns os h.1 g.1)
+
 one_within : (pair : Rows) (u v : List Affine) → pair.columns ≤ 128 → length pair.rows ≤ 900 → All (IsRow pair.columns) pair.rows → IsAlternative pair.columns u → IsAlternative pair.columns v
     → IsWithin (with_rows pair (u ++ v))
 one_within pair u v c few fit h g = record {
@@ -70,7 +75,8 @@ module _ (pair : Rows) (c : pair.columns ≤ 128) (few : length pair.rows ≤ 90
   orders_within [] later h g = tt
   orders_within (o ∷ os) later h g = each_append IsWithin (map (λ u. with_rows pair (o.rows ++ u.rows)) later) (with_orders pair os later) (later_within o.rows h.0 later g) (orders_within os later h.1 g)
 
-  pub all_within : (earlier later : List Rows) → All (IsAlternative pair.columns) (rows_of_each earlier) → All (IsAlternative pair.columns) (rows_of_each later) → All IsWithin (with_orders pair earlier later)
-  all_within earlier later h g =
+  pub all_within : (earlier later : List Rows) → All (IsOrder pair.columns) earlier → All FitsColumns earlier → All (IsOrder pair.columns) later → All FitsColumns later → All IsWithin (with_orders pair earlier later)
+  all_within earlier later h e g l =
       All-from_recursion IsWithin (with_orders pair earlier later)
-      (orders_within earlier later (recursion_from_All (IsAlternative pair.columns) (rows_of_each earlier) h) (recursion_from_All (IsAlternative pair.columns) (rows_of_each later) g))
+      (orders_within earlier later (each_alternative pair.columns earlier (recursion_from_All (IsOrder pair.columns) earlier h) (recursion_from_All FitsColumns earlier e))
+      (each_alternative pair.columns later (recursion_from_All (IsOrder pair.columns) later g) (recursion_from_All FitsColumns later l)))

@@ -5,6 +5,10 @@ use Rattle.affc_rows.specs.Forms.{Affine}
 use Rattle.affc_system.specs.Systems.{Rows, IsRow}
 use Rattle.affc_nest.specs.Domains.{with_rows}
 
+-- the rows are within the limits of a system over its columns
+abbrev pub FitsColumns : Rows → Type 0
+FitsColumns s = All (IsRow s.columns) s.rows
+
 -- few rows, within the limits of a system over so many columns
 pub record IsAlternative (columns : ℕ) (rows : List Affine) : Type 0 where
   pub few : length rows ≤ 26

@@ -4,7 +4,7 @@ ghost use Rattle.std.specs.List.{All};
 ghost use Rattle.affc_products.specs.Groups.{group_systems};
 ghost use Rattle.affc_products.specs.Parts.{IsWithin};
 ghost use Rattle.affc_sched.specs.Spreadable.{IsOrder};
-ghost use Rattle.affc_questions.specs.legality.Alternatives.{IsAlternative, rows_of_each, with_orders};
+ghost use Rattle.affc_questions.specs.legality.Alternatives.{FitsColumns, rows_of_each, with_orders};
 
 use affc_products::Group;
 use affc_rows::Form;
@@ -12,13 +12,11 @@ use affc_system::System;
 use sqlite_items::Items;
 use std::alloc::{AllocError, Global};
 
-/// The rows of an order over so many columns.
-fn alternative(alloc: Global, columns: u32, order: &System) -> Result<Items<Form>, AllocError>
-    requires { IsOrder columns order.now }
+/// The rows of an order.
+fn alternative(alloc: Global, order: &System) -> Result<Items<Form>, AllocError>
     ensures value { IfOk result (λ r. r ≡ order.now.rows) }
-    ensures within { IfOk result (λ r. IsAlternative columns r) }
+    ensures fit { OnOk result (FitsColumns order.now) }
 {
-    let _ = columns;
     let rows = order.rows().to_vec(alloc)?;
     Ok(Items::from_vec(rows))
 }
@@ -26,37 +24,28 @@ fn alternative(alloc: Global, columns: u32, order: &System) -> Result<Items<Form
 /// Adds the rows of each of these orders.
 fn add_alternatives(
     alloc: Global,
-    columns: u32,
     orders: &[System],
     out: &mut Items<Items<Form>>,
 ) -> Result<(), AllocError>
-    requires { All (IsOrder columns) orders.now }
     ensures put { OnOk result (out.new ≡ out.old ++ rows_of_each orders.now) }
-    ensures within { OnOk result (All (IsAlternative columns) (rows_of_each orders.now)) }
+    ensures fit { OnOk result (All FitsColumns orders.now) }
 {
     match orders {
         [] => Ok(()),
         [order, rest @ ..] => {
-            let rows = alternative(alloc, columns, order)?;
-            out.push(rows)?;
-            add_alternatives(alloc, columns, rest, out)?;
-            Ok(())
+            out.push(alternative(alloc, order)?)?;
+            add_alternatives(alloc, rest, out)
         }
     }
 }
 
 /// The rows of each of these orders.
-fn alternatives(
-    alloc: Global,
-    columns: u32,
-    orders: &[System],
-) -> Result<Items<Items<Form>>, AllocError>
-    requires { All (IsOrder columns) orders.now }
+fn alternatives(alloc: Global, orders: &[System]) -> Result<Items<Items<Form>>, AllocError>
     ensures value { IfOk result (λ f. f ≡ rows_of_each orders.now) }
-    ensures within { IfOk result (λ f. All (IsAlternative columns) f) }
+    ensures fit { OnOk result (All FitsColumns orders.now) }
 {
     let mut factor = Items::new(alloc);
-    add_alternatives(alloc, columns, orders, &mut factor)?;
+    add_alternatives(alloc, orders, &mut factor)?;
     Ok(factor)
 }
 
@@ -76,8 +65,8 @@ pub(crate) fn add_product(
 {
     let columns = pair.columns();
     let mut factors = Items::new(alloc);
-    factors.push(alternatives(alloc, columns, earlier)?)?;
-    factors.push(alternatives(alloc, columns, later)?)?;
+    factors.push(alternatives(alloc, earlier)?)?;
+    factors.push(alternatives(alloc, later)?)?;
     let front = Items::from_vec(pair.into_rows());
     out.push(Group {
         columns,

@@ -3,7 +3,7 @@ use Rattle.affc_questions.proofs.LeafLemmas.{own_narrow, all_in}
 use Rattle.affc_questions.proofs.leaf.add_input.Goals as goal
 
 pub add_path-requires-clause-domain : goal.add_path-requires-clause-domain
-add_path-requires-clause-domain c = own_narrow c.args.nest.now c.args.reader.now c.args.load.now (leaf_seen c.args.leaf.now) c.requires
+add_path-requires-clause-domain c = own_narrow c.args.reading.now.nest.now c.args.reading.now.reader.now c.args.reading.now.load.now (leaf_seen c.args.reading.now.leaf.now) c.requires
 
 pub add_all_earlier-requires-clause-entries : goal.add_all_earlier-requires-clause-entries
-add_all_earlier-requires-clause-entries c = all_in c.args.nest.now c.as_slice-entries.result.now c.as_slice-entries.ensures
+add_all_earlier-requires-clause-entries c = all_in c.args.reading.now.nest.now c.as_slice.result.now c.as_slice.ensures

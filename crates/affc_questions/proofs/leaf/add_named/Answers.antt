@@ -9,17 +9,17 @@ use Rattle.affc_questions.proofs.LeafLemmas.{own_narrow, all_in}
 use Rattle.affc_questions.proofs.leaf.add_named.Goals as goal
 
 pub own_path-requires-clause-domain : goal.own_path-requires-clause-domain
-own_path-requires-clause-domain c = own_narrow c.args.nest.now c.args.reader.now c.args.load.now (leaf_seen c.args.leaf.now) c.requires.leaf
+own_path-requires-clause-domain c = own_narrow c.args.reading.now.nest.now c.args.reading.now.reader.now c.args.reading.now.load.now (leaf_seen c.args.reading.now.leaf.now) c.requires.reading
 
 pub add_all_between-requires-clause-entries : goal.add_all_between-requires-clause-entries
-add_all_between-requires-clause-entries c = all_in c.args.nest.now c.as_slice-entries.result.now c.as_slice-entries.ensures
+add_all_between-requires-clause-entries c = all_in c.args.reading.now.nest.now c.as_slice.result.now c.as_slice.ensures
 
 pub returns : goal.returns
 returns c =
-    let nest = c.args.nest.now in
-    let reader = c.args.reader.now in
-    let load = c.args.load.now in
-    let leaf = leaf_seen c.args.leaf.now in
+    let nest = c.args.reading.now.nest.now in
+    let reader = c.args.reading.now.reader.now in
+    let load = c.args.reading.now.load.now in
+    let leaf = leaf_seen c.args.reading.now.leaf.now in
     let a = posed c.args.named.now.statement c.args.named.now.forms in
     let old = flat_map group_systems c.args.out.now.items in
     let mid = flat_map group_systems c.add_each.new.out.items in
@@ -29,4 +29,4 @@ returns c =
     (astray_lists nest load leaf.columns a.iterators c.args.writer.now.entry.now c.args.writer.now.store.now) (late_lists nest reader leaf.columns a) lists
     (c.in_ok-append.ensures.items ∙ ap₂ (λ xs ys. xs ++ ys) c.in_ok-lists.ensures c.in_ok-late.ensures)
     (c.in_ok-add_each.ensures ∙ ap (λ f. old ++ map (behind leaf.columns f) lists) (c.from_vec.ensures ∙ c.in_ok-path.ensures))
-    (e ∙ ap (λ es. mid ++ all_between nest reader load leaf a es) c.as_slice-entries.ensures)) c.add_all_between.ensures
+    (e ∙ ap (λ es. mid ++ all_between nest reader load leaf a es) c.as_slice.ensures)) c.add_all_between.ensures

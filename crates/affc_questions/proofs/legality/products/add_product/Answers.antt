@@ -1,7 +1,7 @@
 use Rattle.std.proofs.Common.{◌∷◌, ◌++◌, [], ap, subst, ◌∙◌, ◌≤◌}
 use Rattle.std.specs.List.{All}
 use Rattle.affc_system.specs.Systems.{IsRow}
-use Rattle.affc_questions.specs.legality.Alternatives.{IsAlternative, rows_of_each}
+use Rattle.affc_questions.specs.legality.Alternatives.{rows_of_each}
 use Rattle.affc_questions.proofs.legality.ProductLemmas.{group_put, all_within}
 use Rattle.affc_questions.proofs.legality.products.add_product.Goals as goal
 
@@ -19,5 +19,4 @@ returns-clause-within c =
     let pair = c.args.pair in
     let k = c.columns-columns.ensures.value in
     all_within pair (subst (λ n. n ≤ 128) k c.columns-columns.ensures.few) c.requires.pair (subst (All (IsRow pair.columns)) c.into_rows.ensures.rows c.into_rows.ensures.fit) c.args.earlier.now c.args.later.now
-    (subst (λ n. All (IsAlternative n) (rows_of_each c.args.earlier.now)) k (subst (All (IsAlternative c.columns-columns.result)) c.in_ok-alternatives.ensures.value c.in_ok-alternatives.ensures.within))
-    (subst (λ n. All (IsAlternative n) (rows_of_each c.args.later.now)) k (subst (All (IsAlternative c.columns-columns.result)) c.in_ok-alternatives-2.ensures.value c.in_ok-alternatives-2.ensures.within))
+    c.requires.earlier c.in_ok-alternatives.ensures.fit c.requires.later c.in_ok-alternatives-2.ensures.fit
