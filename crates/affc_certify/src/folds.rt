@@ -8,7 +8,7 @@ ghost use Rattle.affc_quast.specs.Seen.{trees_of};
 ghost use Rattle.affc_life.specs.Asked.{KeepLimits};
 ghost use Rattle.affc_certvalue.specs.fold.Limits.{IsMarkWithin, IsPairWithin};
 ghost use Rattle.affc_certvalue.specs.Limits.{IsWord};
-ghost use Rattle.affc_check.specs.list.Certs.{IsFoldFor, IsFoldWithin};
+ghost use Rattle.affc_check.specs.list.Certs.{IsFoldFor, IsFoldWithin, Under};
 ghost use Rattle.affc_certify.specs.Asked.{AreClashesOf};
 
 use crate::clashing::{Asked, Clashes, clashes_of};
@@ -214,17 +214,17 @@ fn proofs_of_fold(
     fold: &CertFold,
     budget: &mut Budget,
 ) -> Result<Items<Proof>, Stop>
-    requires asked { IsAsked asked.nest.now asked.schedule.now }
-    requires trees { KeepLimits asked.nest.now (trees_of asked.flow.now) }
+    ghost under: { Under }
+    requires asked { IsAsked asked.nest.now under.schedule }
+    requires trees { KeepLimits asked.nest.now under.trees }
     requires of_array { IsFoldFor asked.nest.now fold.now }
     requires within { IsFoldWithin asked.nest.now fold.now }
-    requires clashes { AreClashesOf asked.nest.now (trees_of asked.flow.now) asked.schedule.now fold.now.array.0 clashes.now.products.items }
+    requires clashes { AreClashesOf asked.nest.now under.trees under.schedule fold.now.array.0 clashes.now.products.items }
     ensures later { IsLater budget.old budget.new }
     ensures stop { IfErr result (λ e. e ≡ Stop.Budget → budget.new.limit ≡ Some budget.new.spent) }
 {
-    let (nest, flow, schedule) = (asked.nest, asked.flow, asked.schedule);
     let systems = clashes.products.as_slice();
-    let Ok(listed) = list_fold(alloc, nest, flow, schedule, fold, systems) else {
+    let Ok(listed) = list_fold(alloc, asked.nest, fold, systems) else {
         return Err(Stop::Memory);
     };
     proofs_of(alloc, listed.as_slice(), Some(clashes), budget)

@@ -41,6 +41,11 @@ AreFoldsSaid nest schedule trees [] (f ∷ fs) = ⊥
 AreFoldsSaid nest schedule trees (c ∷ cs) [] = ⊥
 AreFoldsSaid nest schedule trees (c ∷ cs) (f ∷ fs) = IsFoldSaid nest schedule trees c f × AreFoldsSaid nest schedule trees cs fs
 
+-- what one fold of a certificate is looked at under
+pub record Under : Type 0 where
+  pub schedule : Schedule
+  pub trees : List Tree
+
 -- the items of one fold
 pub record AreFoldItems (nest : Nest) (schedule : Schedule) (trees : List Tree) (c : CertFold) (is : List Item) : Type 0 where
   pub fold : FoldShown

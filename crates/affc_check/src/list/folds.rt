@@ -3,7 +3,6 @@ ghost use Rattle.std.specs.Prelude.{flat_map, ◌≡◌, ◌+◌, ◌≤◌, ◌
 ghost use Rattle.affc_basis.specs.Moduli.{IsModulus};
 ghost use Rattle.affc_conflicts.specs.Questions.{distance_questions};
 ghost use Rattle.affc_nest.specs.Asked.{IsNest};
-ghost use Rattle.affc_quast.specs.Seen.{trees_of};
 ghost use Rattle.affc_sched.specs.Touched.{Each};
 ghost use Rattle.affc_sched.specs.Legality.{IsAsked};
 ghost use Rattle.affc_certvalue.specs.fold.Limits.{IsMarkWithin};
@@ -12,7 +11,7 @@ ghost use Rattle.affc_life.specs.Products.{systems_in};
 ghost use Rattle.affc_life.specs.Sizes.{AnyLarge};
 ghost use Rattle.affc_questions.specs.Asked.{IsAlong};
 ghost use Rattle.affc_questions.specs.Tails.{distance_tail};
-ghost use Rattle.affc_check.specs.list.Certs.{modulus_said, AreFoldItems};
+ghost use Rattle.affc_check.specs.list.Certs.{modulus_said, AreFoldItems, Under};
 ghost use Rattle.affc_check.specs.list.Held.{listed_said};
 ghost use Rattle.affc_check.specs.list.Items.{Question, row_items, rows_items, fold_items};
 ghost use Rattle.affc_check.specs.list.Limits.{AnyPasses};
@@ -27,11 +26,9 @@ use crate::list::stop::Stop;
 use affc_certvalue::fold::fold::{CertFold, CertModulus};
 use affc_life::ClashProduct;
 use affc_nest::Nest;
-use affc_quast::Flow;
 use affc_questions::{distance_rows, positive_question};
 use affc_rows::Form;
 use affc_system::PairSystem;
-use affc_trace::schedule::Schedule;
 use sqlite_items::Items;
 use std::alloc::{AllocError, Global};
 
@@ -179,24 +176,22 @@ pub(crate) fn add_fold<'a>(
     add_rows(alloc, nest, systems, rows, 0, rows, moduli, out)
 }
 
-/// Lists the items of one fold of a certificate with these trees, whose array has these clash systems.
+/// Lists the items of one fold of a certificate under a schedule and with these trees, whose array has these clash systems.
 pub fn list_fold<'a>(
     alloc: Global,
     nest: &'a Nest,
-    flow: &Flow,
-    schedule: &Schedule,
     fold: &'a CertFold,
     systems: &'a [ClashProduct],
 ) -> Result<Vec<Listed<'a>>, Stop>
-    requires asked { IsAsked nest.now schedule.now }
-    requires fold { IsFoldAsked nest.now (trees_of flow.now) fold.now }
-    requires systems { map clash_of (clash_systems systems.now) ≡ clashes nest.now (trees_of flow.now) schedule.now fold.now.array.0 }
-    requires fits { ¬ (AnyLarge (clashes nest.now (trees_of flow.now) schedule.now fold.now.array.0)) }
-    ensures ok { IfOk result (λ l. AreFoldItems nest.now schedule.now (trees_of flow.now) fold.now (flat_map listed_said l.items)) }
-    ensures within { OnOk result (¬ (FoldPasses nest.now schedule.now (trees_of flow.now) fold.now)) }
-    ensures past { IfErr result (λ e. e ≡ Stop.Past → FoldPasses nest.now schedule.now (trees_of flow.now) fold.now) }
+    ghost under: { Under }
+    requires asked { IsAsked nest.now under.schedule }
+    requires fold { IsFoldAsked nest.now under.trees fold.now }
+    requires systems { map clash_of (clash_systems systems.now) ≡ clashes nest.now under.trees under.schedule fold.now.array.0 }
+    requires fits { ¬ (AnyLarge (clashes nest.now under.trees under.schedule fold.now.array.0)) }
+    ensures ok { IfOk result (λ l. AreFoldItems nest.now under.schedule under.trees fold.now (flat_map listed_said l.items)) }
+    ensures within { OnOk result (¬ (FoldPasses nest.now under.schedule under.trees fold.now)) }
+    ensures past { IfErr result (λ e. e ≡ Stop.Past → FoldPasses nest.now under.schedule under.trees fold.now) }
 {
-    let (_flow, _schedule) = (flow, schedule);
     let mut listed = Vec::new(alloc);
     add_fold(alloc, nest, fold, systems, &mut listed)?;
     Ok(listed)
