@@ -58,17 +58,27 @@ fn rounded_down(alloc: Global, e: Ix, by: i64) -> Result<Ix, AllocError>
     if by == 1 { Ok(e) } else { floord(alloc, e, by) }
 }
 
-/// The least number that a row of the lower end allows.
+/// The opposite of the row without its last column.
 #[tactic(auto, using(crate::proofs::EndSteps::modest_opposite, crate::proofs::EndSteps::opposite_modest, crate::proofs::EndSteps::opposite_long))]
+fn opposite_rest_of(alloc: Global, column: u32, row: &Form) -> Result<Form, AllocError>
+    requires { IsEndRow column row.now }
+    ensures value { IfOk result (λ f. f ≡ specs.opposite (specs.rest_of column row.now)) }
+    ensures modest { IfOk result IsModest }
+    ensures width { IfOk result (λ f. length f.coefs ≡ column) }
+{
+    let rest = rest_of(alloc, column, row)?;
+    rest.opposite(alloc)
+}
+
+/// The least number that a row of the lower end allows.
 fn least_by(alloc: Global, first: u32, column: u32, row: &Form) -> Result<Ix, AllocError>
     requires few { first ≤ column }
     requires seen { column ≤ 512 }
     requires row { IsEndRow column row.now }
     ensures { IfOk result (λ x. x ≡ specs.least_by first column row.now) }
 {
-    let rest = rest_of(alloc, column, row)?;
-    let turned = rest.opposite(alloc)?;
-    let dividend = form_ix(alloc, first, first, &turned)?;
+    let rest = opposite_rest_of(alloc, column, row)?;
+    let dividend = form_ix(alloc, first, first, &rest)?;
     rounded_up(alloc, dividend, last_of(column, row))
 }
 
