@@ -3,6 +3,7 @@ use Rattle.std.specs.Prelude.{◌≡◌, ℕ, ℤ, List, Some, slice_get}
 use Rattle.std.specs.List.{AllZip}
 use Rattle.affc_ast.specs.declared.tree.ArrayId.{ArrayId}
 use Rattle.affc_system.specs.Systems.{Rows}
+use Rattle.affc_system.specs.declared.pairs.PairSystem.{PairSystem}
 use Rattle.affc_farkas.specs.declared.proof.Proof.{Proof}
 use Rattle.affc_trace.specs.declared.schedule.Schedule.{Schedule}
 use Rattle.affc_basis.specs.declared.fold.Fold.{Fold}
@@ -12,6 +13,7 @@ use Rattle.affc_check.specs.list.Certs.{AreItems}
 use Rattle.affc_check.specs.list.Items.{Item, Question, Shown, FoldShown}
 use Rattle.affc_check.specs.Laws.{IsFoldShown}
 use Rattle.affc_check.specs.list.Passes.{NonePasses}
+use Rattle.affc_check.specs.list.Walks.{IsListing}
 use Rattle.affc_check.specs.Valid.{AreValid, FailsFirst}
 use Rattle.affc_check.specs.declared.check.Checked.{Checked}
 
@@ -36,6 +38,12 @@ pub record FailsAtPoint (items : List Item) (proofs : List Proof) (n : ℕ) : Ty
 pub record IsFoldMade (f : FoldShown) (made : ArrayId × Fold) : Type 0 where
   pub array : made.0.0 ≡ f.array
   pub shown : IsFoldShown f made.1
+
+-- the items of the certificate, whose folds' arrays have these clash systems, are valid
+pub record IsProved (nest : Nest) (schedule : Schedule) (c : Cert) (systems : List (List PairSystem)) : Type 0 where
+  pub items : List Item
+  pub listing : IsListing nest schedule c items systems
+  pub valid : AreValid items c.proofs
 
 -- the certificate is valid, and these are its folds, in order
 pub record IsChecked (nest : Nest) (schedule : Schedule) (c : Cert) (checked : Checked) : Type 0 where
