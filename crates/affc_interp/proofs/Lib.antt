@@ -28,4 +28,5 @@ pub mod Later
 pub mod Bodies
 pub mod Steps
 pub mod Lists
+pub mod Conditions
 pub mod Reached

@@ -1,5 +1,5 @@
 //! Whole-number expressions in 64 bits: how many nodes they have, and what they give.
-ghost use Rattle.std.specs.Prelude.{◌≡◌, ◌≤ℤ◌, ◌+◌, ◌^◌, ◌<◌, ◌≤◌, ◌+ℤ◌, ◌-ℤ◌, ◌*ℤ◌, neg_ℤ, pos, get_or, sum_by, ℕ, Ok, MatchOption, suc};
+ghost use Rattle.std.specs.Prelude.{◌≡◌, ◌∷◌, [], ◌≤ℤ◌, ◌+◌, ◌^◌, ◌<◌, ◌≤◌, ◌+ℤ◌, ◌-ℤ◌, ◌*ℤ◌, neg_ℤ, pos, get_or, sum_by, ℕ, Ok, MatchOption, suc};
 ghost use Rattle.affc_ast.specs.Index.{nodes_of_ix, index_value, in_int64, divided, floor_of, ceiling_of, remainder_of, compares, nodes_of_compare, conditions};
 ghost use Rattle.affc_interp.specs.Seen.{as_reading};
 ghost use Rattle.affc_interp.specs.Operands as row;
@@ -266,6 +266,24 @@ fn compare(rel: Rel, x: i64, y: i64) -> bool
     }
 }
 
+/// Whether the condition holds.
+fn holds(c: &Compare, node: u32, names: &[i64]) -> Result<bool, u32>
+    requires { node + nodes_of_compare c.now < 2 ^ 32 }
+    ensures { as_reading result ≡ conditions (c.now ∷ []) node names.now }
+{
+    let x = eval(&c.left, node + 1, names)?;
+    let y = eval(&c.right, node + 1 + node_count(&c.left), names)?;
+    Ok(compare(c.rel, x, y))
+}
+
+/// How many nodes the condition has.
+fn compare_nodes(c: &Compare) -> u32
+    requires { nodes_of_compare c.now < 2 ^ 32 }
+    ensures { result ≡ nodes_of_compare c.now }
+{
+    1 + node_count(&c.left) + node_count(&c.right)
+}
+
 /// Whether all conditions hold, read from the left up to the first that is false.
 pub fn all_hold(conds: &[Compare], node: u32, names: &[i64]) -> Result<bool, u32>
     requires { node + sum_by nodes_of_compare conds.now < 2 ^ 32 }
@@ -274,11 +292,8 @@ pub fn all_hold(conds: &[Compare], node: u32, names: &[i64]) -> Result<bool, u32
     match conds {
         [] => Ok(true),
         [c, rest @ ..] => {
-            let left = node_count(&c.left);
-            let x = eval(&c.left, node + 1, names)?;
-            let y = eval(&c.right, node + 1 + left, names)?;
-            if compare(c.rel, x, y) {
-                all_hold(rest, node + 1 + left + node_count(&c.right), names)
+            if holds(c, node, names)? {
+                all_hold(rest, node + compare_nodes(c), names)
             } else {
                 Ok(false)
             }
@@ -293,7 +308,7 @@ pub fn compare_sum(conds: &[Compare]) -> u32
 {
     match conds {
         [] => 0,
-        [c, rest @ ..] => 1 + node_count(&c.left) + node_count(&c.right) + compare_sum(rest),
+        [c, rest @ ..] => compare_nodes(c) + compare_sum(rest),
     }
 }
 
