@@ -1,24 +1,23 @@
 -- What is written for a value at its place, with the brackets that it has there.
-use Rattle.std.proofs.Common.{◌≡◌, ℕ, Bool, true, false, nat_lt, Option, Some, None, is_some, IsTrue, List, ◌++◌, refl, sym, ap, ◌∙◌, codes, append_assoc, if◌then◌else◌, decimal as digits_of}
+use Rattle.std.proofs.Common.{◌≡◌, ℕ, Bool, true, false, nat_lt, Option, Some, None, is_some, IsTrue, List, ◌++◌, refl, sym, ap, ◌∙◌, codes, if◌then◌else◌, decimal as digits_of}
 use Rattle.std.proofs.lemmas.List.{append-nil}
 use Rattle.std.specs.List.{flat_map}
 use Rattle.affc_ast.specs.declared.tree.ArrayId.{ArrayId}
 use Rattle.affc_ast.specs.declared.tree.Ix.{Ix}
 use Rattle.affc_ast.specs.declared.tree.Val.{Val}
-use Rattle.affc_ast.specs.declared.tree.Val.TheVariants.{Load}
+use Rattle.affc_ast.specs.declared.tree.Val.TheVariants.{Load, Const, Cast}
 use Rattle.affc_ast.specs.Recursion.{by_val}
 use Rattle.affc_ast.specs.declared.tree.Op.{Op}
 use Rattle.affc_ast.specs.declared.tree.Op.TheVariants as op
-use Rattle.affc_ast.proofs.Outs.{val_outs}
-use Rattle.affc_grammar.specs.Grammar.{Digits, ValueText, load, binary, op_mark, shift_mark, level_of, is_shift}
-use Rattle.affc_grammar.specs.Printed.{Names, array_name, dims_text, value_step, ValueWritten, primary_written, times_written, plus_written, shift_written, and_written, xor_written, or_written, binary_written, shift_by, holding}
+use Rattle.affc_grammar.specs.Grammar.{Digits, ValueText, load, constant, cast, complement, binary, op_mark, shift_mark, level_of, is_shift}
+use Rattle.affc_grammar.specs.Printed.{Names, array_name, ix_text, dims_text, value_step, ValueWritten, primary_written, times_written, plus_written, shift_written, and_written, xor_written, or_written, binary_written, shift_by, holding}
 use Rattle.affc_cprint.specs.declared.brackets.Level.{Level}
 use Rattle.affc_cprint.specs.declared.brackets.Level.TheVariants.{Primary, Product, Sum, Shifted, And, Xor, Or}
-use Rattle.affc_cprint.specs.Layout.{◌then◌, value_layout}
+use Rattle.affc_cprint.specs.Layout.{◌then◌, ix_layout, value_layout}
 use Rattle.affc_cprint.specs.Places.{bracketed}
 use Rattle.affc_cprint.specs.Statements.{dim_added}
 use Rattle.affc_cprint.proofs.Chains.{dims_are}
-use Rattle.affc_cprint.specs.Levels.{value_at, number_of, op_left, op_right, amount_layout}
+use Rattle.affc_cprint.specs.Levels.{value_at, number_of, op_left, op_right, amount_layout, binary_layout, shift_layout}
 
 pub primary_at : {prelude : Bool} (level : Level) (v : ValueText prelude 0) → value_at level (primary_written v) ≡ value_layout v
 primary_at Primary v = refl
@@ -121,4 +120,20 @@ load_pieces prelude names level v id subs slice is same =
     ∙ ap (λ t. array_name names id ++ t) (dims_are prelude names subs)
     ∙ ap (λ es. array_name names id ++ flat_map (dim_added prelude names) es) (sym same)
 
-pub ruleset at_levels = (val_outs, primary_at, binary_at, shift_at_level, append_assoc)
+pub const_text : (prelude : Bool) (names : Names) (level : Level) (v : Val) (n : ℕ) → v ≡ Const n → value_at level (by_val (value_step prelude names) v) ≡ digits_of n ++ codes "ULL"
+const_text prelude names level v n is = ap (λ x. value_at level (by_val (value_step prelude names) x)) is ∙ primary_at level (constant (digits_of n ++ codes "ULL"))
+
+pub cast_text : (prelude : Bool) (names : Names) (level : Level) (v : Val) (e : Ix) → v ≡ Cast e
+    → value_at level (by_val (value_step prelude names) v) ≡ codes "(uint64_t)(" then ix_layout (ix_text prelude names e) then codes ")"
+cast_text prelude names level v e is = ap (λ x. value_at level (by_val (value_step prelude names) x)) is ∙ primary_at level (cast (ix_text prelude names e))
+
+pub not_text : {prelude : Bool} (level : Level) (v a : ValueWritten prelude) → v ≡ primary_written (complement a.level_0) → value_at level v ≡ codes "~" ++ value_at Primary a
+not_text level v a is = ap (value_at level) is ∙ primary_at level (complement a.level_0)
+
+pub binary_text : {prelude : Bool} (level : Level) (v : ValueWritten prelude) (o : Op) (a b : ValueWritten prelude) → v ≡ binary_written o a b
+    → value_at level v ≡ bracketed (nat_lt (number_of level) (level_of o)) (binary_layout o a b)
+binary_text level v o a b is = ap (value_at level) is ∙ binary_at level o a b
+
+pub shift_text : {prelude : Bool} (level : Level) (v : ValueWritten prelude) (left : Bool) (a : ValueWritten prelude) (by : ℕ)
+    → v ≡ shift_written (shift_by left a.level_3 (digits_of by) (holding (is_shift (digits_of by)))) → value_at level v ≡ bracketed (nat_lt (number_of level) 3) (shift_layout left a by)
+shift_text level v left a by is = ap (value_at level) is ∙ shift_at_level level left a by

@@ -1,5 +1,5 @@
 //! Conditions, locals and statements.
-ghost use Rattle.std.specs.Prelude.{◌≡◌, ◌+◌, OnOk, IfOk, string_bytes, codes, length};
+ghost use Rattle.std.specs.Prelude.{◌≡◌, ◌+◌, ◌++◌, OnOk, IfOk, string_bytes, codes, length};
 ghost use Rattle.std.specs.List.{flat_map};
 ghost use Rattle.affc_grammar.specs.Grammar.{rel_mark, assign_mark, bound_mark};
 ghost use Rattle.affc_grammar.specs.Printed.{is_less, cond_text, conds_text, stmt_text};
@@ -214,6 +214,49 @@ fn restore(names: &mut Names<'_>, held: usize)
     names.numbers.truncate(held)
 }
 
+// The head of a loop, whose iterator is in sight behind it.
+fn loop_head<'a>(
+    out: &mut String,
+    prelude: bool,
+    names: &mut Names<'a>,
+    i: &'a str,
+    low: &Ix,
+    rel: Rel,
+    high: &Ix,
+) -> Result<(), AllocError>
+    ensures { OnOk result (Adds (string_bytes out.old) (string_bytes out.new) (head_layout prelude (seen names.old) i.now low.now rel high.now) × (seen names.new ≡ and_number (seen names.old) i.now)) }
+{
+    head(out, prelude, names, i, low, rel, high)?;
+    show(names, i)
+}
+
+fn if_head(
+    out: &mut String,
+    prelude: bool,
+    names: &Names<'_>,
+    cs: &[Compare],
+) -> Result<(), AllocError>
+    ensures { OnOk result (Adds (string_bytes out.old) (string_bytes out.new) (codes "if (" ++ (conds_layout (conds_text prelude (seen names.now) cs.now) ++ codes ") {\n"))) }
+{
+    push(out, "if (")?;
+    conds(out, prelude, names, cs)?;
+    push(out, ") {\n")
+}
+
+// The beginning of a block, whose locals are in sight behind it.
+fn block_head<'a>(
+    out: &mut String,
+    prelude: bool,
+    names: &mut Names<'a>,
+    list: &'a [Local],
+    level: usize,
+) -> Result<(), AllocError>
+    ensures { OnOk result (Adds (string_bytes out.old) (string_bytes out.new) (codes "{\n" ++ locals_added prelude level (seen names.old) list.now) × (seen names.new ≡ with_locals (seen names.old) list.now)) }
+{
+    push(out, "{\n")?;
+    locals(out, prelude, names, list, level)
+}
+
 /// A statement behind its indent. The names in sight are those from before.
 #[cycle(statements)]
 pub fn stmt<'a>(
@@ -233,19 +276,16 @@ pub fn stmt<'a>(
             high,
             body,
         } => {
-            head(out, prelude, names, iter.as_str(), low, *rel, high)?;
             let inner = deeper(level)?;
             let held = held(names);
-            show(names, iter.as_str())?;
+            loop_head(out, prelude, names, iter.as_str(), low, *rel, high)?;
             stmts(out, prelude, names, body.as_slice(), inner)?;
             restore(names, held);
             end(out, level)
         }
         Stmt::If { conds: cs, body } => {
-            push(out, "if (")?;
-            conds(out, prelude, names, cs.as_slice())?;
-            push(out, ") {\n")?;
             let inner = deeper(level)?;
+            if_head(out, prelude, names, cs.as_slice())?;
             stmts(out, prelude, names, body.as_slice(), inner)?;
             end(out, level)
         }
@@ -256,10 +296,9 @@ pub fn stmt<'a>(
             value: v,
         } => { assign(out, prelude, names, *op, *id, subs.as_slice(), v) }
         Stmt::Block { locals: ls, body } => {
-            push(out, "{\n")?;
             let inner = deeper(level)?;
             let held = held(names);
-            locals(out, prelude, names, ls.as_slice(), inner)?;
+            block_head(out, prelude, names, ls.as_slice(), inner)?;
             stmts(out, prelude, names, body.as_slice(), inner)?;
             restore(names, held);
             end(out, level)

@@ -1,5 +1,4 @@
 use Rattle.affc_cprint.specs.Seen.{seen}
-use Rattle.affc_cprint.proofs.Writes.{◌next◌}
 use Rattle.affc_cprint.proofs.Arms.{for_exit, if_exit, block_exit, assign_exit, assign_pieces}
 use Rattle.affc_cprint.specs.Layout.{stmt_layout}
 use Rattle.affc_cprint.specs.Statements.{assign_layout}
@@ -8,17 +7,17 @@ use Rattle.affc_cprint.proofs.stmt.+statements.Goals as goal
 
 pub stmt-returns-in_ok-stmts-in-For : goal.stmt-returns-in_ok-stmts-in-For
 stmt-returns-in_ok-stmts-in-For t c =
-    for_exit c.end.result _ c.args.prelude c.args.level (seen c.args.names.now) c.args.s.now c.in-For.iter c.as_str.result.now c.as_str-in-For.result.now c.in-For.low c.in-For.rel c.in-For.high c.in-For.body c.as_slice.result.now
-    (seen c.show.new.names) (seen c.stmts.new.names) (seen c.restore.new.names) c.in_ok-inner-in-For.inner c.held-held.result
-    c.in-For.is c.as_slice.ensures c.as_str.ensures c.as_str-in-For.ensures c.in_ok-inner-in-For.ensures c.held-held.ensures
-    c.in_ok-head-in-For.ensures c.in_ok-show-in-For.ensures c.in_ok-stmts-in-For.ensures.0 c.in_ok-stmts-in-For.ensures.1 c.restore.ensures c.end.ensures
+    for_exit c.end.result _ c.args.prelude c.args.level (seen c.args.names.now) c.args.s.now c.in-For.iter c.as_str.result.now c.as_str.result.now c.in-For.low c.in-For.rel c.in-For.high c.in-For.body c.as_slice.result.now
+    (seen c.loop_head.new.names) (seen c.stmts.new.names) (seen c.restore.new.names) c.in_ok-inner-in-For.inner c.held-held.result
+    c.in-For.is c.as_slice.ensures c.as_str.ensures c.as_str.ensures c.in_ok-inner-in-For.ensures c.held-held.ensures
+    c.in_ok-loop_head-in-For.ensures.0 c.in_ok-loop_head-in-For.ensures.1 c.in_ok-stmts-in-For.ensures.0 c.in_ok-stmts-in-For.ensures.1 c.restore.ensures c.end.ensures
 
 pub stmt-returns-in_ok-stmts-in-If : goal.stmt-returns-in_ok-stmts-in-If
 stmt-returns-in_ok-stmts-in-If t c =
     if_exit c.end-in-If.result _ c.args.prelude c.args.level (seen c.args.names.now) c.args.s.now c.in-If.cs c.as_slice-in-If.result.now c.in-If.body c.as_slice-in-If-2.result.now
     (seen c.stmts-in-If.new.names) c.in_ok-inner-in-If.inner
     c.in-If.is c.as_slice-in-If.ensures c.as_slice-in-If-2.ensures c.in_ok-inner-in-If.ensures
-    (c.in_ok-push-in-If.ensures next c.in_ok-conds-in-If.ensures next c.in_ok-push-in-If-2.ensures) c.in_ok-stmts-in-If.ensures.0 c.in_ok-stmts-in-If.ensures.1 c.end-in-If.ensures
+    c.in_ok-if_head-in-If.ensures c.in_ok-stmts-in-If.ensures.0 c.in_ok-stmts-in-If.ensures.1 c.end-in-If.ensures
 
 pub stmt-returns-in-Assign : goal.stmt-returns-in-Assign
 stmt-returns-in-Assign t c =
@@ -28,6 +27,6 @@ stmt-returns-in-Assign t c =
 pub stmt-returns-in_ok-stmts-in-Block : goal.stmt-returns-in_ok-stmts-in-Block
 stmt-returns-in_ok-stmts-in-Block t c =
     block_exit c.end-in-Block.result _ c.args.prelude c.args.level (seen c.args.names.now) c.args.s.now c.in-Block.ls c.as_slice-in-Block.result.now c.in-Block.body c.as_slice-in-Block-2.result.now
-    (seen c.locals.new.names) (seen c.stmts-in-Block.new.names) (seen c.restore-in-Block.new.names) c.in_ok-inner-in-Block.inner c.held-held-in-Block.result
+    (seen c.block_head.new.names) (seen c.stmts-in-Block.new.names) (seen c.restore-in-Block.new.names) c.in_ok-inner-in-Block.inner c.held-held-in-Block.result
     c.in-Block.is c.as_slice-in-Block.ensures c.as_slice-in-Block-2.ensures c.in_ok-inner-in-Block.ensures c.held-held-in-Block.ensures
-    (c.in_ok-push-in-Block.ensures next c.in_ok-locals-in-Block.ensures.0) c.in_ok-locals-in-Block.ensures.1 c.in_ok-stmts-in-Block.ensures.0 c.in_ok-stmts-in-Block.ensures.1 c.restore-in-Block.ensures c.end-in-Block.ensures
+    c.in_ok-block_head-in-Block.ensures.0 c.in_ok-block_head-in-Block.ensures.1 c.in_ok-stmts-in-Block.ensures.0 c.in_ok-stmts-in-Block.ensures.1 c.restore-in-Block.ensures c.end-in-Block.ensures
