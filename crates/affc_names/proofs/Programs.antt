@@ -120,28 +120,27 @@ refused_param c s (Refused at why) xs h g a p =
 abbrev outermost_of : code_text.TextDraft → Scope
 outermost_of k = outermost (seen.text k)
 
-outermost_is : (k : code_text.TextDraft) (empty s : Scope) (name : Name) → empty ≡ record { has_prelude = k.has_prelude; visible = [] } → name ≡ k.function.name → s ≡ with_thing empty name function → s ≡ outermost_of k
+pub outermost_is : (k : code_text.TextDraft) (empty s : Scope) (name : Name) → empty ≡ record { has_prelude = k.has_prelude; visible = [] } → name ≡ k.function.name → s ≡ with_thing empty name function → s ≡ outermost_of k
 outermost_is k empty s name none named is = is ∙ ap (λ e. with_thing e name function) none ∙ ap (λ w. with_thing (record { has_prelude = k.has_prelude; visible = [] }) w function) named
 
-pub program_ok : (k : code_text.TextDraft) (pragmas : List code_pragma.PragmaDraft) (params : List code_param.ParamDraft) (ls : List d.PragmaDraft) (empty s0 s1 : Scope) (name : Name) (xs : List Param) (r : Result Program NameFault)
-    → pragmas ≡ k.pragmas → params ≡ k.params → empty ≡ record { has_prelude = k.has_prelude; visible = [] } → name ≡ k.function.name → s0 ≡ with_thing empty name function
-    → GiveSameRanges ls (map stored.pragma (map seen.pragma pragmas)) → params_tree s0 ls (map stored.param (map seen.param params)) ≡ Ok xs → s1 ≡ with_params s0 (map stored.param (map seen.param params))
+pub program_ok : (k : code_text.TextDraft) (params : List code_param.ParamDraft) (ls : List d.PragmaDraft) (s0 s1 : Scope) (xs : List Param) (r : Result Program NameFault)
+    → params ≡ k.params → s0 ≡ outermost_of k
+    → GiveSameRanges ls (map stored.pragma (map seen.pragma k.pragmas)) → params_tree s0 ls (map stored.param (map seen.param params)) ≡ Ok xs → s1 ≡ with_params s0 (map stored.param (map seen.param params))
     → Gives r (tree_behind s1 (Ok xs) (stored.text (seen.text k))) → Answers r (seen.text k)
-program_ok k pragmas params ls empty s0 s1 name xs r lines words none named is same tree visible g =
-    let out = outermost_is k empty s0 name none named is in
+program_ok k params ls s0 s1 xs r words out same tree visible g =
     answers_named (seen.text k) s1 xs ls r
     (ap (λ s. params_tree s ls (map stored.param (map seen.param k.params))) (sym out) ∙ ap (λ l. params_tree s0 ls (map stored.param (map seen.param l))) (sym words) ∙ tree)
-    (subst (λ l. GiveSameRanges ls (map stored.pragma (map seen.pragma l))) lines same)
+    same
     (visible ∙ ap (λ l. with_params s0 (map stored.param (map seen.param l))) words ∙ ap (λ s. with_params s (map stored.param (map seen.param k.params))) out)
     g
 
-pub program_err : (k : code_text.TextDraft) (pragmas : List code_pragma.PragmaDraft) (params : List code_param.ParamDraft) (ls : List d.PragmaDraft) (empty s0 : Scope) (name : Name) (f : NameFault)
-    → pragmas ≡ k.pragmas → params ≡ k.params → empty ≡ record { has_prelude = k.has_prelude; visible = [] } → name ≡ k.function.name → s0 ≡ with_thing empty name function
-    → GiveSameRanges ls (map stored.pragma (map seen.pragma pragmas)) → Fails f (params_tree s0 ls (map stored.param (map seen.param params)))
+pub program_err : (k : code_text.TextDraft) (params : List code_param.ParamDraft) (ls : List d.PragmaDraft) (s0 : Scope) (f : NameFault)
+    → params ≡ k.params → s0 ≡ outermost_of k
+    → GiveSameRanges ls (map stored.pragma (map seen.pragma k.pragmas)) → Fails f (params_tree s0 ls (map stored.param (map seen.param params)))
     → Fails f (params_tree (outermost (seen.text k)) (map seen.pragma k.pragmas) (map seen.param k.params))
-program_err k pragmas params ls empty s0 name f lines words none named is same fails =
-    fails_plain (seen.text k) ls f (subst (λ l. GiveSameRanges ls (map stored.pragma (map seen.pragma l))) lines same)
-    (subst (λ s. Fails f (params_tree s ls (map stored.param (map seen.param k.params)))) (outermost_is k empty s0 name none named is)
+program_err k params ls s0 f words out same fails =
+    fails_plain (seen.text k) ls f same
+    (subst (λ s. Fails f (params_tree s ls (map stored.param (map seen.param k.params)))) out
     (subst (λ l. Fails f (params_tree s0 ls (map stored.param (map seen.param l)))) words fails))
 
 abbrev pub inside_of : code_text.TextDraft → Scope

@@ -1,11 +1,12 @@
 -- Chains of operators: the first operand, and step by step what is done with it.
-use Rattle.std.specs.Prelude.{Ok}
+use Rattle.std.specs.Prelude.{ℤ, Ok}
 use Rattle.affc_ast.specs.declared.tree.Ix.{Ix}
-use Rattle.affc_ast.specs.declared.tree.Ix.TheVariants.{Add, Sub, Mul}
+use Rattle.affc_ast.specs.declared.tree.Ix.TheVariants.{Neg, Add, Sub, Mul}
 use Rattle.affc_ast.specs.declared.tree.Val.{Val}
 use Rattle.affc_ast.specs.declared.tree.Val.TheVariants as val
 use Rattle.affc_grammar.specs.Draft as d
-use Rattle.affc_grammar.specs.Names.{Scope, Checked, ◌>>=◌, ix_tree, value_tree}
+use Rattle.affc_grammar.specs.Grammar as g
+use Rattle.affc_grammar.specs.Names.{Scope, Checked, ◌>>=◌, choice_tree, rounding_tree, ix_tree, value_tree}
 use Rattle.affc_syntax.specs.draft.Drafts.{ix, value}
 use Rattle.affc_names.specs.Stored as stored
 use Rattle.affc_names.specs.declared.chain.Join.{Join}
@@ -40,6 +41,16 @@ joined_trees (Times at) = Mul
 -- a tree, and one step more
 abbrev pub step_tree : Scope → Ix → IxStep → Checked Ix
 step_tree scope x s = ix_tree scope (stored.ix (ix s.right.now)) >>= (λ y. Ok (joined_trees s.join x y))
+
+-- one operator, by what is read of its operands
+abbrev pub negation_read : Checked Ix → Checked Ix
+negation_read a = a >>= (λ x. Ok (Neg x))
+
+abbrev pub choice_read : g.Choice → Checked Ix → Checked Ix → Checked Ix
+choice_read f a b = a >>= (λ x. b >>= (λ y. Ok (choice_tree f x y)))
+
+abbrev pub rounding_read : g.Rounding → Checked Ix → ℤ → Checked Ix
+rounding_read f a by = a >>= (λ x. Ok (rounding_tree f x by))
 
 -- ---- Values
 

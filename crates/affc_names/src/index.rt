@@ -6,7 +6,7 @@ ghost use Rattle.std.specs.Option.{option_map};
 ghost use Rattle.affc_grammar.specs.Names as names;
 ghost use Rattle.affc_ast.specs.declared.tree.Ix.TheVariants as trees;
 ghost use Rattle.affc_syntax.specs.draft.Drafts as seen;
-ghost use Rattle.affc_names.specs.Chains.{IsOperand, joined_trees, step_tree};
+ghost use Rattle.affc_names.specs.Chains.{IsOperand, joined_trees, step_tree, negation_read, choice_read, rounding_read};
 ghost use Rattle.affc_names.specs.Stored as stored;
 ghost use Rattle.affc_names.specs.Gives.{Gives};
 
@@ -109,32 +109,62 @@ fn operand_tree(alloc: Global, scope: &Scope, draft: &IxDraft) -> Result<Ix, Nam
             let id = number_named(scope, *at, name.as_str())?;
             Ok(Ix::Name(id))
         }
-        IxDraft::Negated { of, .. } => {
-            let a = ix_tree(alloc, scope, of.get())?;
-            Ok(negation_tree(alloc, a)?)
-        }
+        IxDraft::Negated { of, .. } => negated(alloc, scope, of.get()),
         IxDraft::Grouped { inside, .. } => ix_tree(alloc, scope, inside.get()),
         IxDraft::Chosen {
             choice,
             left,
             right,
             ..
-        } => {
-            let a = ix_tree(alloc, scope, left.get())?;
-            let b = ix_tree(alloc, scope, right.get())?;
-            Ok(chosen(alloc, *choice, a, b)?)
-        }
+        } => chosen_of(alloc, scope, *choice, left.get(), right.get()),
         IxDraft::Divided {
             rounding,
             of,
             by,
             ..
-        } => {
-            let a = ix_tree(alloc, scope, of.get())?;
-            Ok(divided(alloc, *rounding, a, *by)?)
-        }
+        } => divided_of(alloc, scope, *rounding, of.get(), *by),
         IxDraft::Sum(..) | IxDraft::Difference(..) | IxDraft::Product { .. } => unreachable!(),
     }
+}
+
+/// A minus before an expression.
+#[cycle(ix)]
+fn negated(alloc: Global, scope: &Scope, of: &IxDraft) -> Result<Ix, NameFault>
+    ensures { Gives result (negation_read (names.ix_tree scope.now (stored.ix (seen.ix of.now)))) }
+{
+    let a = ix_tree(alloc, scope, of)?;
+    Ok(negation_tree(alloc, a)?)
+}
+
+/// A call of two expressions, the first of which is read first.
+#[cycle(ix)]
+fn chosen_of(
+    alloc: Global,
+    scope: &Scope,
+    choice: Choice,
+    left: &IxDraft,
+    right: &IxDraft,
+) -> Result<Ix, NameFault>
+    ensures { Gives result (choice_read (seen.choice choice) (names.ix_tree scope.now (stored.ix (seen.ix left.now))) (names.ix_tree scope.now (stored.ix (seen.ix right.now)))) }
+{
+    let a = ix_tree(alloc, scope, left)?;
+    let b = ix_tree(alloc, scope, right)?;
+    Ok(chosen(alloc, choice, a, b)?)
+}
+
+/// A quotient of an expression by a number.
+#[cycle(ix)]
+fn divided_of(
+    alloc: Global,
+    scope: &Scope,
+    rounding: Rounding,
+    of: &IxDraft,
+    by: u64,
+) -> Result<Ix, NameFault>
+    ensures { Gives result (rounding_read (seen.rounding rounding) (names.ix_tree scope.now (stored.ix (seen.ix of.now))) (pos (stored.number by))) }
+{
+    let a = ix_tree(alloc, scope, of)?;
+    Ok(divided(alloc, rounding, a, by)?)
 }
 
 /// The tree of what comes before a step, and the step.

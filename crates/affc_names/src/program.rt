@@ -6,7 +6,7 @@ ghost use Rattle.affc_grammar.specs.Names as names;
 ghost use Rattle.affc_syntax.specs.draft.Drafts as seen;
 ghost use Rattle.affc_names.specs.Stored as stored;
 ghost use Rattle.affc_names.specs.Gives.{Fails, Gives, GivesWith};
-ghost use Rattle.affc_names.specs.Ranges.{lines_of};
+ghost use Rattle.affc_names.specs.Ranges.{lines_of, GiveSameRanges};
 ghost use Rattle.affc_names.specs.Kinds.{AreAlike, IsBeneath, NamesFunction};
 ghost use Rattle.affc_names.specs.Answers.{Answers, tree_behind};
 
@@ -211,6 +211,33 @@ fn with_params(
     })
 }
 
+/// What the lines and the parameters see: the function alone.
+fn outermost(alloc: Global, spread: Spread, draft: &TextDraft) -> Result<Scope, AllocError>
+    ensures { IfOk result (λ scope. scope ≡ names.outermost (seen.text draft.now)) }
+{
+    let mut scope = Scope::new(alloc, spread, draft.has_prelude);
+    scope.add_function(alloc, draft.function.name.as_str())?;
+    Ok(scope)
+}
+
+/// The tree of a draft, from its lines and the scope that its parameters are to be visible in.
+fn program_within(
+    alloc: Global,
+    spread: Spread,
+    ranges: &Ranges,
+    scope: &mut Scope,
+    draft: &TextDraft,
+) -> Result<Program, NameFault>
+    requires ranges { GiveSameRanges (lines_of ranges.now.entries) (map stored.pragma (map seen.pragma draft.now.pragmas)) }
+    requires scope { scope.old ≡ names.outermost (seen.text draft.now) }
+    ensures { Answers result (seen.text draft.now) }
+{
+    match add_params(alloc, scope, ranges, draft.params.as_slice()) {
+        Ok(params) => with_params(alloc, spread, scope, draft, params),
+        Err(fault) => first_refused(alloc, spread, draft, fault),
+    }
+}
+
 /// The tree of a draft, or the first of its names that is refused. A number that a tree can't hold is cut: one of
 /// 2^63 or more is 2^63 - 1 in the tree, such a bound of a range is 0, and so is a shift by 256 or more. All else is as
 /// in the draft. A text with such a number passes a limit. Names are looked up in tables that are hashed by `spread`.
@@ -218,10 +245,6 @@ pub fn program_of(alloc: Global, spread: Spread, draft: &TextDraft) -> Result<Pr
     ensures { Answers result (seen.text draft.now) }
 {
     let ranges = ranges_of(alloc, spread, draft.pragmas.as_slice())?;
-    let mut scope = Scope::new(alloc, spread, draft.has_prelude);
-    scope.add_function(alloc, draft.function.name.as_str())?;
-    match add_params(alloc, &mut scope, &ranges, draft.params.as_slice()) {
-        Ok(params) => with_params(alloc, spread, &mut scope, draft, params),
-        Err(fault) => first_refused(alloc, spread, draft, fault),
-    }
+    let mut scope = outermost(alloc, spread, draft)?;
+    program_within(alloc, spread, &ranges, &mut scope, draft)
 }

@@ -13,6 +13,15 @@ decreases-ix_tree l = 3 * nodes (seen.ix l.draft.now) + 1
 abbrev pub decreases-operand_tree : goal.decreases-operand_tree
 decreases-operand_tree l = 3 * nodes (seen.ix l.draft.now)
 
+abbrev pub decreases-negated : goal.decreases-negated
+decreases-negated l = 3 * nodes (seen.ix l.of.now) + 2
+
+abbrev pub decreases-chosen_of : goal.decreases-chosen_of
+decreases-chosen_of l = 3 * (nodes (seen.ix l.left.now) + nodes (seen.ix l.right.now)) + 2
+
+abbrev pub decreases-divided_of : goal.decreases-divided_of
+decreases-divided_of l = 3 * nodes (seen.ix l.of.now) + 2
+
 abbrev pub decreases-with_step : goal.decreases-with_step
 decreases-with_step l = 3 * nodes (seen.ix l.step.now.right.now) + 2
 
