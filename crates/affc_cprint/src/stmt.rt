@@ -230,6 +230,7 @@ fn loop_head<'a>(
     show(names, i)
 }
 
+// What stands before the body of an `if`.
 fn if_head(
     out: &mut String,
     prelude: bool,

@@ -73,6 +73,7 @@ fn load(
     dims(out, prelude, names, subs)
 }
 
+// A number as a value.
 fn constant(out: &mut String, n: u64) -> Result<(), AllocError>
     ensures { OnOk result (Adds (string_bytes out.old) (string_bytes out.new) (digits_of n ++ codes "ULL")) }
 {
@@ -115,6 +116,7 @@ pub fn value(
     }
 }
 
+/// A value under a `~`.
 #[cycle(value)]
 fn complement(out: &mut String, prelude: bool, names: &Names<'_>, a: &Val) -> Result<(), AllocError>
     ensures { OnOk result (Adds (string_bytes out.old) (string_bytes out.new) (codes "~" ++ value_at Primary (by_val (value_step prelude (seen names.now)) a.now))) }
