@@ -61,7 +61,7 @@ temporaries_same (a ∷ as') (b ∷ bs) e =
     let more : map dimensions_of as' ≡ map dimensions_of bs = cc in
     ap₂ (λ x xs. x ∷ xs) (temporary_same a b first) (temporaries_same as' bs more)
 
-one_layout : (nest : Nest) (a b : Layout) → IsLayout nest a → IsLayout nest b → a ≡ b
+pub one_layout : (nest : Nest) (a b : Layout) → IsLayout nest a → IsLayout nest b → a ≡ b
 one_layout nest a b h k = λ i. record {
   parameters = (h.parameters ∙ sym k.parameters) i;
   loads = (h.loads ∙ sym k.loads) i;

@@ -14,12 +14,13 @@ ghost use Rattle.affc_accept.specs.Layouts.{IsLayout};
 ghost use Rattle.affc_accept.specs.Refusals.{AcceptRefuses};
 
 use crate::bases::first_other;
-use crate::columns::from_text as flow_from_text;
+use crate::columns::{from_text as flow_from_text, in_text as flow_in_text};
 use crate::fault::AcceptFault;
 use crate::layout::layout;
-use affc_cert::{Cert, CertFault, Layout, from_json};
+use affc_cert::{Cert, CertFault, Layout, from_json, to_json_for};
 use affc_check::{CheckFault, Checked, check_all};
 use affc_nest::Nest;
+use affc_quast::Flow;
 use affc_schedtext::Plan;
 use std::alloc::{AllocError, Global};
 
@@ -129,4 +130,83 @@ pub fn accept(alloc: Global, nest: &Nest, plan: &Plan, text: &[u8]) -> Result<Ch
     let cert = read(alloc, &layout, text)?;
     with_bases(alloc, nest, plan, &cert)?;
     checked(alloc, nest, plan, &cert)
+}
+
+/// A certificate that is accepted: its text, and what it shows.
+#[derive(Drop)]
+pub struct Accepted {
+    pub text: Vec<u8>,
+    pub checked: Checked,
+}
+
+// A certificate as its text has it, with the iterators first in its trees' forms, and its own trees.
+fn turned(alloc: Global, layout: &Layout, cert: Cert) -> Result<(Cert, Flow), AllocError>
+    ensures turned { IfOk result (λ w. seen w.0 ≡ specs.in_text layout.now (seen cert)) }
+    ensures same { IfOk result (λ w. record w.0 { flow = w.1 } ≡ cert) }
+{
+    let turned = flow_in_text(alloc, layout, &cert.flow)?;
+    let Cert {
+        context,
+        flow,
+        folds,
+        proofs,
+    } = cert;
+    let cert = Cert {
+        context,
+        flow: turned,
+        folds,
+        proofs,
+    };
+    Ok((cert, flow))
+}
+
+// The certificate with these trees.
+fn with_flow(cert: Cert, flow: Flow) -> Cert
+    ensures { result ≡ record cert { flow = flow } }
+{
+    let Cert {
+        context,
+        flow: _,
+        folds,
+        proofs,
+    } = cert;
+    Cert {
+        context,
+        flow,
+        folds,
+        proofs,
+    }
+}
+
+// The text of a certificate, and the certificate again.
+fn written(alloc: Global, layout: &Layout, cert: Cert) -> Result<(Vec<u8>, Cert), AcceptFault>
+    ensures read { IfOk result (λ w. (nest : OfNest) → IsLayout nest layout.now → IsRead nest w.0.items w.1) }
+    ensures within { IfOk result (λ w. (nest : OfNest) → IsLayout nest layout.now → IsCertWithin nest w.1) }
+    ensures same { IfOk result (λ w. w.1 ≡ cert) }
+    ensures err { IfErr result (λ e. (nest : OfNest) (plan : OfPlan) (text : List ℕ) → IsLayout nest layout.now → IsRead nest text cert → AcceptRefuses nest plan text e) }
+{
+    let (cert, flow) = turned(alloc, layout, cert)?;
+    match to_json_for(alloc, &cert, layout) {
+        Ok(text) => Ok((text, with_flow(cert, flow))),
+        Err(fault) => Err(of_text(fault)),
+    }
+}
+
+/// Accepts a certificate that isn't written yet: its text, in which the iterators come first in its trees' forms, and what it shows. It
+/// is refused as its text would be.
+pub fn accept_cert(
+    alloc: Global,
+    nest: &Nest,
+    plan: &Plan,
+    cert: Cert,
+) -> Result<Accepted, AcceptFault>
+    requires asked { IsAsked nest.now plan.now.schedule }
+    ensures ok { IfOk result (λ a. IsAccepted nest.now plan.now a.text.items a.checked.folds.items) }
+    ensures err { IfErr result (λ e. (text : List ℕ) → IsRead nest.now text cert → AcceptRefuses nest.now plan.now text e) }
+{
+    let layout = layout(alloc, nest)?;
+    let (text, cert) = written(alloc, &layout, cert)?;
+    with_bases(alloc, nest, plan, &cert)?;
+    let checked = checked(alloc, nest, plan, &cert)?;
+    Ok(Accepted { text, checked })
 }

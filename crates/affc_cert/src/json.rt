@@ -14,10 +14,10 @@ ghost use Rattle.affc_certvalue.specs.proof.Values.{proof_value};
 ghost use Rattle.affc_cert.specs.tree.Values.{tree_value};
 ghost use Rattle.affc_certvalue.specs.Values.{list_of};
 ghost use Rattle.affc_quast.specs.Seen as quast;
-ghost use Rattle.serde_json.specs.Data.{Data, number, unsigned};
+ghost use Rattle.serde_json.specs.Data.{Data, depth, number, unsigned};
 ghost use Rattle.serde_json.specs.View.{view};
-ghost use Rattle.serde_json.specs.Written.{compact_text};
-ghost use Rattle.std.specs.Prelude.{◌≡◌, ◌≢◌, ℕ, ◌+◌, map, IfErr, IfOk, IfSome, IsTrue, MatchResult, None, OnOk};
+ghost use Rattle.serde_json.specs.Written.{compact_text, has_float};
+ghost use Rattle.std.specs.Prelude.{◌≡◌, ◌≢◌, ◌≤◌, ℕ, ◌+◌, map, false, IfErr, IfOk, IfSome, IsTrue, MatchResult, None, OnOk};
 
 use crate::cert::{Cert, CertFault, WriteFault};
 use crate::fits::cert_fits;
@@ -328,5 +328,38 @@ pub fn to_json(alloc: Global, cert: &Cert) -> Result<Vec<u8>, WriteFault>
     match text_of(alloc, cert) {
         Ok(text) => Ok(text),
         Err(_) => Err(WriteFault::Memory),
+    }
+}
+
+/// The text of a value that has nothing wrong with it, or what is wrong.
+fn right_text(alloc: Global, value: &Value, layout: &Layout) -> Result<Vec<u8>, CertFault>
+    ensures text { IfOk result (λ b. has_float (view value.now) ≡ false → b.items ≡ compact_text (view value.now)) }
+    ensures reads { IfOk result (λ b. depth (view value.now) ≤ 127 → ReadsJson b.items (view value.now)) }
+    ensures right { OnOk result (refusal layout.now (view value.now) ≡ None) }
+    ensures err { IfErr result (λ e. e ≢ CertFault.Memory → Refuses layout.now (view value.now) e) }
+{
+    let Ok(found) = fault(alloc, value, layout) else {
+        return Err(CertFault::Memory);
+    };
+    if let Some(fault) = found {
+        return Err(fault);
+    }
+    match value.to_vec(alloc) {
+        Ok(text) => Ok(text),
+        Err(_) => Err(CertFault::Memory),
+    }
+}
+
+/// The text of a certificate that has nothing wrong with it for a program of this layout, or what is wrong with it: what `from_json`
+/// would say of the text, without reading it.
+pub fn to_json_for(alloc: Global, cert: &Cert, layout: &Layout) -> Result<Vec<u8>, CertFault>
+    ensures text { IfOk result (λ b. b.items ≡ compact_text (cert_value (seen cert.now))) }
+    ensures reads { IfOk result (λ b. ReadsJson b.items (cert_value (seen cert.now))) }
+    ensures right { OnOk result (refusal layout.now (cert_value (seen cert.now)) ≡ None) }
+    ensures err { IfErr result (λ e. e ≢ CertFault.Memory → Refuses layout.now (cert_value (seen cert.now)) e) }
+{
+    match to_value(alloc, cert) {
+        Ok(value) => right_text(alloc, &value, layout),
+        Err(_) => Err(CertFault::Memory),
     }
 }
