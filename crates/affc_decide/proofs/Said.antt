@@ -4,7 +4,7 @@ use Rattle.std.proofs.Math.Seq.{take-length}
 use Rattle.std.proofs.lemmas.Bool.{eqb-true}
 use Rattle.affc_system.specs.Boxes.{IsBox}
 use Rattle.affc_decide.specs.Words.{Says, SaysNone, texts_of}
-use Rattle.affc_decide.specs.Blocks.{Say, ends_of, Said, IsSaid, Blank, System, Ranges, Limit, Row, ExpectEmpty, ExpectStopped, ExpectPoint, IsTaken, TakesNone}
+use Rattle.affc_decide.specs.Blocks.{Say, ends_of, Said, IsSaid, Blank, System, Ranges, Limit, Row, ExpectEmpty, ExpectAny, ExpectStopped, ExpectPoint, IsTaken, TakesNone}
 use Rattle.affc_decide.specs.declared.block.Block.{Block}
 use Rattle.affc_decide.specs.declared.block.Line.{Line}
 use Rattle.affc_rows.specs.Forms.{Affine}
@@ -174,6 +174,7 @@ system_only (Limit limit) more s = absurd (omega (arith, ap letter s.1))
 system_only (Row row) more s = absurd (no_numbers (codes "system") more row.coefs row.constant not_system s)
 system_only ExpectEmpty more s = absurd (omega (arith, ap letter s))
 system_only ExpectStopped more s = absurd (omega (arith, ap letter s))
+system_only ExpectAny more s = absurd (omega (arith, ap letter s))
 system_only (ExpectPoint point) more s = absurd (omega (arith, ap letter s.1))
 
 pub ranges_only : (said : Said) (more : List (List ℕ)) → IsSaid said (codes "ranges" ∷ more) → (ranges : List (ℤ × ℤ)) × (said ≡ Ranges ranges)
@@ -184,6 +185,7 @@ ranges_only (Limit limit) more s = absurd (omega (arith, ap letter s.1))
 ranges_only (Row row) more s = absurd (no_numbers (codes "ranges") more row.coefs row.constant not_ranges s)
 ranges_only ExpectEmpty more s = absurd (omega (arith, ap letter s))
 ranges_only ExpectStopped more s = absurd (omega (arith, ap letter s))
+ranges_only ExpectAny more s = absurd (omega (arith, ap letter s))
 ranges_only (ExpectPoint point) more s = absurd (omega (arith, ap letter s.1))
 
 pub limit_only : (said : Said) (more : List (List ℕ)) → IsSaid said (codes "limit" ∷ more) → (limit : ℕ) × (said ≡ Limit limit)
@@ -194,17 +196,8 @@ limit_only (Limit limit) more s = (limit, refl)
 limit_only (Row row) more s = absurd (no_numbers (codes "limit") more row.coefs row.constant not_limit s)
 limit_only ExpectEmpty more s = absurd (omega (arith, ap letter s))
 limit_only ExpectStopped more s = absurd (omega (arith, ap letter s))
+limit_only ExpectAny more s = absurd (omega (arith, ap letter s))
 limit_only (ExpectPoint point) more s = absurd (omega (arith, ap letter s.1))
-
-pub expect_only : (said : Said) (more : List (List ℕ)) → IsSaid said (codes "expect" ∷ more) → (said ≡ ExpectEmpty) ⊎ (said ≡ ExpectStopped) ⊎ ((point : List ℤ) × (said ≡ ExpectPoint point))
-expect_only Blank more s = absurd (omega (arith, ap length s))
-expect_only (System columns rows) more s = absurd (omega (arith, ap letter s.3))
-expect_only (Ranges ranges) more s = absurd (omega (arith, ap letter s.1))
-expect_only (Limit limit) more s = absurd (omega (arith, ap letter s.1))
-expect_only (Row row) more s = absurd (no_numbers (codes "expect") more row.coefs row.constant not_expect s)
-expect_only ExpectEmpty more s = inl refl
-expect_only ExpectStopped more s = inr (inl refl)
-expect_only (ExpectPoint point) more s = inr (inr (point, refl))
 
 abbrev head_word : List (List ℕ) → List ℕ
 head_word [] = []
@@ -219,6 +212,7 @@ row_only (Limit limit) w more no_system no_ranges no_limit no_expect s = absurd 
 row_only (Row row) w more no_system no_ranges no_limit no_expect s = (row, refl)
 row_only ExpectEmpty w more no_system no_ranges no_limit no_expect s = absurd (no_expect (ap head_word s))
 row_only ExpectStopped w more no_system no_ranges no_limit no_expect s = absurd (no_expect (ap head_word s))
+row_only ExpectAny w more no_system no_ranges no_limit no_expect s = absurd (no_expect (ap head_word s))
 row_only (ExpectPoint point) w more no_system no_ranges no_limit no_expect s = absurd (no_expect (ap head_word s.1))
 
 -- ---- What no line of a kind can be

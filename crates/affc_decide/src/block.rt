@@ -244,11 +244,11 @@ fn expected(alloc: Global, more: &[&[u8]]) -> Result<Line, Fault>
     if is_word(first, b"empty") {
         return Ok(Line::Empty);
     }
-    if is_word(first, b"any") {
-        return Ok(Line::Any);
-    }
     if is_word(first, b"stopped") {
         return Ok(Line::Stopped);
+    }
+    if is_word(first, b"any") {
+        return Ok(Line::Any);
     }
     Err(Fault::Malformed)
 }
