@@ -1,5 +1,5 @@
 //! Certificates that are accepted.
-ghost use Rattle.std.specs.Prelude.{IfOk, OnOk};
+ghost use Rattle.std.specs.Prelude.{IfOk};
 ghost use Rattle.affc_split.specs.Budgets.{IsLater};
 ghost use Rattle.affc_sched.specs.Legality.{IsAsked};
 ghost use Rattle.affc_quast.specs.Seen.{trees_of};
@@ -11,13 +11,10 @@ use crate::clashing::Asked;
 use crate::drafting::Draft;
 use crate::kept::{Made, turned};
 use crate::shown::are_shown;
-use affc_accept::accept;
-use affc_accept::columns::in_text;
-use affc_accept::layout::layout;
+use affc_accept::{Accepted, accept_cert};
 use affc_ast::tree::ArrayId;
 use affc_basis::Fold;
 use affc_cert::Cert;
-use affc_cert::json::to_json;
 use affc_farkas::Proof;
 use affc_nest::Nest;
 use affc_quast::Flow;
@@ -65,43 +62,22 @@ fn made(
     Ok(made)
 }
 
-/// The text of a certificate, which has the iterators first in its trees' forms.
-fn written(alloc: Global, nest: &Nest, cert: Cert) -> Result<Vec<u8>, AllocError> {
-    let Cert {
-        context,
-        flow,
-        folds,
-        proofs,
-    } = cert;
-    let layout = layout(alloc, nest)?;
-    let cert = Cert {
-        context,
-        flow: in_text(alloc, &layout, &flow)?,
-        folds,
-        proofs,
-    };
-    match to_json(alloc, &cert) {
-        Ok(text) => Ok(text),
-        Err(_) => Err(AllocError),
-    }
-}
-
-/// Looks whether a text is accepted and shows these folds.
-fn look(
+/// The text of a certificate that is accepted and shows these folds.
+fn shown_text(
     alloc: Global,
     nest: &Nest,
     plan: &Plan,
-    text: &[u8],
+    cert: Cert,
     folds: &[(ArrayId, Fold)],
-) -> Result<(), AllocError>
+) -> Result<Vec<u8>, AllocError>
     requires asked { IsAsked nest.now plan.now.schedule }
-    ensures { OnOk result (IsCertified nest.now plan.now text.now folds.now) }
+    ensures { IfOk result (λ text. IsCertified nest.now plan.now text.items folds.now) }
 {
-    let Ok(checked) = accept(alloc, nest, plan, text) else {
+    let Ok(Accepted { text, checked }) = accept_cert(alloc, nest, plan, cert) else {
         return Err(AllocError);
     };
     if are_shown(alloc, nest, folds, checked.folds.as_slice())? {
-        Ok(())
+        Ok(text)
     } else {
         Err(AllocError)
     }
@@ -144,7 +120,6 @@ pub fn certify(
         folds: entries,
         proofs,
     };
-    let text = written(alloc, nest, cert)?;
-    look(alloc, nest, plan, text.as_slice(), kept.as_slice())?;
+    let text = shown_text(alloc, nest, plan, cert, kept.as_slice())?;
     Ok(Certified { text, folds: kept })
 }
