@@ -7,8 +7,8 @@ ghost use Rattle.affc_life.specs.Asked.{KeepLimits};
 ghost use Rattle.affc_certify.specs.Certified.{IsCertified};
 ghost use Rattle.affc_certify.specs.Left.{AreLeft};
 
-use crate::clashing::Asked;
-use crate::drafting::Draft;
+use crate::clashing::Subject;
+use crate::drafting::CertDraft;
 use crate::kept::{Made, turned};
 use crate::shown::are_shown;
 use affc_accept::{Accepted, accept_cert};
@@ -33,7 +33,7 @@ pub struct Certified {
 /// The entries of all temporaries, with their proofs behind these.
 fn made(
     alloc: Global,
-    asked: Asked<'_>,
+    asked: Subject<'_>,
     proofs: Items<Proof>,
     folds: Items<(ArrayId, Fold)>,
     budget: &mut Budget,
@@ -93,7 +93,7 @@ pub fn certify(
     nest: &Nest,
     plan: &Plan,
     flow: Flow,
-    draft: Draft,
+    draft: CertDraft,
     folds: Items<(ArrayId, Fold)>,
     budget: &mut Budget,
 ) -> Result<Certified, AllocError>
@@ -103,8 +103,8 @@ pub fn certify(
     ensures left { IfOk result (λ c. AreLeft budget.new folds c.folds) }
     ensures later { IsLater budget.old budget.new }
 {
-    let Draft { context, proofs } = draft;
-    let asked = Asked {
+    let CertDraft { context, proofs } = draft;
+    let asked = Subject {
         nest,
         flow: &flow,
         schedule: &plan.schedule,

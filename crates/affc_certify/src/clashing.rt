@@ -22,7 +22,7 @@ use std::alloc::{AllocError, Global};
 
 /// A program's nest, its trees and its schedule.
 #[derive(Clone, Copy, Drop)]
-pub(crate) struct Asked<'a> {
+pub(crate) struct Subject<'a> {
     pub nest: &'a Nest,
     pub flow: &'a Flow,
     pub schedule: &'a Schedule,
@@ -65,7 +65,7 @@ impl Clashes {
 /// The clash systems of an array, and what is known of each. One past the limits of a system counts as want of memory.
 pub(crate) fn clashes_of(
     alloc: Global,
-    asked: Asked<'_>,
+    asked: Subject<'_>,
     array: ArrayId,
     budget: &mut Budget,
 ) -> Result<Clashes, Stop>

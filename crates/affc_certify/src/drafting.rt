@@ -20,7 +20,7 @@ use std::alloc::Global;
 
 /// The certificate's point of the context, and the proofs of its questions on extents, accesses, trees and the schedule.
 #[derive(Drop)]
-pub struct Draft {
+pub struct CertDraft {
     pub(crate) context: Items<i64>,
     pub(crate) proofs: Items<Proof>,
 }
@@ -72,7 +72,7 @@ pub fn make_draft(
     flow: &Flow,
     schedule: &Schedule,
     budget: &mut Budget,
-) -> Result<Draft, Stop>
+) -> Result<CertDraft, Stop>
     requires asked { IsAsked nest.now schedule.now }
     requires trees { AreAsked nest.now (trees_of flow.now) }
     ensures later { IsLater budget.old budget.new }
@@ -80,5 +80,5 @@ pub fn make_draft(
 {
     let context = context_point(alloc, nest, budget)?;
     let proofs = proofs_before(alloc, nest, flow, schedule, budget)?;
-    Ok(Draft { context, proofs })
+    Ok(CertDraft { context, proofs })
 }

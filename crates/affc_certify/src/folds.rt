@@ -11,7 +11,7 @@ ghost use Rattle.affc_certvalue.specs.Limits.{IsWord};
 ghost use Rattle.affc_check.specs.list.Certs.{IsFoldFor, IsFoldWithin, Under};
 ghost use Rattle.affc_certify.specs.Asked.{AreClashesOf};
 
-use crate::clashing::{Asked, Clashes, clashes_of};
+use crate::clashing::{Clashes, Subject, clashes_of};
 use crate::marks::mark_shown;
 use crate::streamed::proofs_of;
 use affc_ast::tree::ArrayId;
@@ -209,7 +209,7 @@ fn may_be_asked(nest: &Nest, fold: &CertFold) -> bool
 /// The proofs of the questions of an entry that may be asked. One past the limits of a system counts as want of memory.
 fn proofs_of_fold(
     alloc: Global,
-    asked: Asked<'_>,
+    asked: Subject<'_>,
     clashes: &Clashes,
     fold: &CertFold,
     budget: &mut Budget,
@@ -233,7 +233,7 @@ fn proofs_of_fold(
 /// An entry with the proofs of its questions.
 fn proved(
     alloc: Global,
-    asked: Asked<'_>,
+    asked: Subject<'_>,
     clashes: &Clashes,
     fold: CertFold,
     budget: &mut Budget,
@@ -254,7 +254,7 @@ fn proved(
 /// The entry of a fold.
 pub(crate) fn fold_entry(
     alloc: Global,
-    asked: Asked<'_>,
+    asked: Subject<'_>,
     array: ArrayId,
     fold: &Fold,
     budget: &mut Budget,
@@ -272,7 +272,7 @@ pub(crate) fn fold_entry(
 /// The entry of an array that is left whole, within a budget.
 fn whole_proved(
     alloc: Global,
-    asked: Asked<'_>,
+    asked: Subject<'_>,
     array: ArrayId,
     info: &ArrayInfo,
     budget: &mut Budget,
@@ -288,7 +288,7 @@ fn whole_proved(
 /// The entry of an array that is left whole. No units are counted.
 pub(crate) fn whole_entry(
     alloc: Global,
-    asked: Asked<'_>,
+    asked: Subject<'_>,
     array: ArrayId,
     info: &ArrayInfo,
 ) -> Result<Entry, AllocError>

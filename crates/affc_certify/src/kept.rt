@@ -6,7 +6,7 @@ ghost use Rattle.affc_quast.specs.Seen.{trees_of};
 ghost use Rattle.affc_life.specs.Asked.{KeepLimits};
 ghost use Rattle.affc_certify.specs.Making.{IsPut, KeepTaken};
 
-use crate::clashing::Asked;
+use crate::clashing::Subject;
 use crate::folds::{Entry, fold_entry, whole_entry};
 use affc_ast::tree::{ArrayId, Role};
 use affc_basis::Fold;
@@ -75,7 +75,7 @@ impl Made {
     fn add_fold(
         &mut self,
         alloc: Global,
-        asked: Asked<'_>,
+        asked: Subject<'_>,
         fold: (ArrayId, Fold),
         info: &ArrayInfo,
         budget: &mut Budget,
@@ -102,7 +102,7 @@ impl Made {
     pub(crate) fn add_array(
         &mut self,
         alloc: Global,
-        asked: Asked<'_>,
+        asked: Subject<'_>,
         array: ArrayId,
         info: &ArrayInfo,
         left: &mut Items<(ArrayId, Fold)>,

@@ -14,4 +14,4 @@ mod trees;
 mod written;
 
 pub use certified::{Certified, certify};
-pub use drafting::{Draft, make_draft};
+pub use drafting::{CertDraft, make_draft};

@@ -16,7 +16,7 @@ use crate::meaning::trees_within;
 use crate::refusal::Refusal;
 use crate::wanted::Wanted;
 use affc_ast::tree::Program;
-use affc_certify::{Certified, Draft, certify, make_draft};
+use affc_certify::{CertDraft, Certified, certify, make_draft};
 use affc_folds::{Folded, fold_all};
 use affc_legal::{SchedStop, legal};
 use affc_nest::Nest;
@@ -142,7 +142,7 @@ fn drafted(
     compiled: &Compilation<'_>,
     flow: &Flow,
     budget: &mut Budget,
-) -> Result<Draft, Refusal>
+) -> Result<CertDraft, Refusal>
     requires compiled { IsCompilation compiled.now.program.now compiled.now.nest.now compiled.now.plan.now }
     requires limits { AreTreesWithin narrow 302 12 compiled.now.nest.now (trees_of flow.now) }
     ensures err { IfErr result (λ refusal. OfEachPlan compiled.now.program.now compiled.now.plan.now (λ text schedule. RefusalSays text schedule refusal)) }
