@@ -7,3 +7,4 @@ pub mod Alike
 pub mod Passing
 pub mod Unique
 pub mod ExampleProofs
+pub mod Written
