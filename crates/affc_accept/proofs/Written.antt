@@ -43,6 +43,7 @@ unwritten nest layout plan bytes cert turned fault l is why read = by fault why
     right : refusal layout (cert_value (seen turned)) ≡ None
     right = subst (λ c. refusal layout (cert_value c) ≡ None) (sym is)
         (subst (λ (m : Layout). refusal m (cert_value (in_text m (seen cert))) ≡ None) (one_layout nest read.layout layout read.is_layout l) read.right)
+
     by : (f : CertFault) → (f ≢ text.Memory → Refuses layout (cert_value (seen turned)) f) → AcceptRefuses nest plan bytes (text_fault f)
     by text.Json why = absurd (right_is_not_refused layout turned text.Json right (why (λ (e : text.Json ≡ text.Memory). cc)))
     by text.Version why = absurd (right_is_not_refused layout turned text.Version right (why (λ (e : text.Version ≡ text.Memory). cc)))
