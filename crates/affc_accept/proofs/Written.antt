@@ -1,5 +1,5 @@
 -- A certificate that isn't written yet.
-use Rattle.std.proofs.Common.{◌≡◌, ◌≢◌, ℕ, List, None, ap, sym, subst, ◌∙◌}
+use Rattle.std.proofs.Common.{◌≡◌, ◌≢◌, ℕ, List, None, sym, subst}
 use Rattle.affc_nest.specs.declared.nest.Nest.{Nest}
 use Rattle.affc_schedtext.specs.declared.plan.Plan.{Plan}
 use Rattle.affc_cert.specs.Certificates.{seen}

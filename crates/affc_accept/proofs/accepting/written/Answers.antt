@@ -5,13 +5,13 @@ use Rattle.affc_accept.proofs.accepting.written.Goals as goal
 
 pub returns-in-Ok-clause-read : goal.returns-in-Ok-clause-read
 returns-in-Ok-clause-read c nest is =
-    written_reads nest c.args.layout.now c.in-Ok.text.items c.args.cert c.in_ok-turned.cert c.with_flow.result is (c.with_flow.ensures ∙ c.in_ok-turned.ensures.same) c.in_ok-turned.ensures.turned c.in-Ok.ensures.reads c.in-Ok.ensures.right
+    written_reads nest c.args.layout.now c.in-Ok.text.items c.args.cert c.in_ok-cert.cert c.with_flow.result is (c.with_flow.ensures ∙ c.in_ok-cert.ensures.same) c.in_ok-cert.ensures.turned c.in-Ok.ensures.reads c.in-Ok.ensures.right
 
 pub returns-in-Ok-clause-within : goal.returns-in-Ok-clause-within
 returns-in-Ok-clause-within c nest is =
-    written_within nest c.args.layout.now c.in-Ok.text.items c.args.cert c.in_ok-turned.cert c.with_flow.result is (c.with_flow.ensures ∙ c.in_ok-turned.ensures.same) c.in_ok-turned.ensures.turned c.in-Ok.ensures.reads c.in-Ok.ensures.right
+    written_within nest c.args.layout.now c.in-Ok.text.items c.args.cert c.in_ok-cert.cert c.with_flow.result is (c.with_flow.ensures ∙ c.in_ok-cert.ensures.same) c.in_ok-cert.ensures.turned c.in-Ok.ensures.reads c.in-Ok.ensures.right
 
 pub returns-in-Err-clause-err : goal.returns-in-Err-clause-err
 returns-in-Err-clause-err c nest plan text is read =
     subst (AcceptRefuses nest plan text) (sym c.of_text.ensures)
-    (unwritten nest c.args.layout.now plan text c.args.cert c.in_ok-turned.cert c.in-Err.fault is c.in_ok-turned.ensures.turned c.in-Err.ensures.err read)
+    (unwritten nest c.args.layout.now plan text c.args.cert c.in_ok-cert.cert c.in-Err.fault is c.in_ok-cert.ensures.turned c.in-Err.ensures.err read)
