@@ -9,7 +9,8 @@ ghost use Rattle.affc_dataflow.specs.Searches.{Covers, IsLoad};
 
 use crate::divided::{above, rows_behind};
 use crate::growth::{
-    Growth, Site, both, by_use, first_numbers, fitted, fitted_candidate, missing, missing_division,
+    Growth, Site, both, candidates_again, first_numbers, fitted, fitted_candidate, missing,
+    missing_division,
 };
 use crate::guess::{Depth, first_open, has_none_with, joined, leaf_of, sides_of};
 use crate::samples::{Help, Parting, helped};
@@ -612,10 +613,12 @@ fn smaller(
     ensures later { IsLater budget.old budget.new }
     ensures stop { IfErr result (λ e. e ≡ Stop.Budget → budget.new.limit ≡ Some budget.new.spent) }
 {
-    let list = by_use(alloc, growth.used.as_slice())?;
-    if times == 0 || list.len() == growth.used.len() {
+    if times == 0 {
         return Ok(tree);
     }
+    let Some(list) = candidates_again(alloc, growth)? else {
+        return Ok(tree);
+    };
     let again = tree_of(alloc, load, place, growth, list, left, budget)?;
     let Some(next) = again else {
         return Ok(tree);

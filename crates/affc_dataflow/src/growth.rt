@@ -152,7 +152,7 @@ fn uses_of(alloc: Global, used: &[usize]) -> Result<Vec<Use>, AllocError> {
 }
 
 /// The candidates of leaves, those with the most leaves first.
-pub(crate) fn by_use(alloc: Global, used: &[usize]) -> Result<Items<usize>, AllocError> {
+fn by_use(alloc: Global, used: &[usize]) -> Result<Items<usize>, AllocError> {
     let uses = uses_of(alloc, used)?;
     let mut out = Items::new(alloc);
     for fewer in 0..used.len() {
@@ -163,4 +163,32 @@ pub(crate) fn by_use(alloc: Global, used: &[usize]) -> Result<Items<usize>, Allo
         }
     }
     Ok(out)
+}
+
+/// The candidates of leaves with which a smaller tree is tried: those with the most leaves first, where one has several, and the last one
+/// first, where two leaves name instances of one statement. `None` where neither is so.
+pub(crate) fn candidates_again(
+    alloc: Global,
+    growth: &Growth,
+) -> Result<Option<Items<usize>>, AllocError> {
+    let used = growth.used.as_slice();
+    let list = by_use(alloc, used)?;
+    if list.len() != used.len() {
+        return Ok(Some(list));
+    }
+    let [first, second] = used else {
+        return Ok(None);
+    };
+    match (
+        growth.candidates.get(*first),
+        growth.candidates.get(*second),
+    ) {
+        (Some(one), Some(other)) if one.statement == other.statement => {
+            let mut turned = Items::new(alloc);
+            turned.push(*second)?;
+            turned.push(*first)?;
+            Ok(Some(turned))
+        }
+        _ => Ok(None),
+    }
 }
