@@ -1,18 +1,15 @@
 -- Lists that are taken in two parts.
-use Rattle.std.proofs.Common.{◌≡◌, ℕ, List, [], ◌∷◌, ◌++◌, map, flat_map, refl, sym, ap, subst, ◌∙◌, ◌⊎◌, inl, inr}
-use Rattle.std.proofs.lemmas.Grind.{flat_map-append}
-use Rattle.affc_trace.specs.Law.{IsIn}
+use Rattle.std.proofs.Common.{◌≡◌, List, [], ◌∷◌, ◌++◌, map, refl, sym, ap, subst, ◌∙◌, inl, inr}
 use Rattle.affc_trace.proofs.EndedReads.{append_assoc}
 use Rattle.affc_trace.proofs.LastStores.{append_nil, map_append}
 use Rattle.affc_nest.specs.declared.nest.Entry.{Entry}
 use Rattle.affc_nest.specs.declared.nest.Nest.{Nest}
 use Rattle.affc_quast.specs.Trees.{Tree}
-use Rattle.affc_sched.specs.Touched.{Each}
-use Rattle.affc_flow.specs.Asked.{asked, writers_of}
+use Rattle.affc_flow.specs.Asked.{asked}
 use Rattle.affc_latest.proofs.Lists.{in_parts}
 use Rattle.affc_dataflow.specs.Finds.{AreTreesFrom, AddsTreesOf, AddsTreesFrom}
 use Rattle.affc_flow.specs.Laws.{NoneHasAPoint}
-use Rattle.affc_flow.specs.Questions.{Question, Writer}
+use Rattle.affc_flow.specs.Questions.{Question}
 use Rattle.affc_flow.specs.declared.questions.Question as held
 
 -- ---- Questions

@@ -1,5 +1,4 @@
 -- Leaves among what is to be done while a tree grows.
-use Rattle.std.specs.Prelude.{ℕ}
 use Rattle.affc_quast.specs.declared.quast.Quast.{Quast}
 use Rattle.affc_dataflow.specs.declared.grown.Move.{Move}
 use Rattle.affc_dataflow.specs.declared.grown.Move.TheVariants as move

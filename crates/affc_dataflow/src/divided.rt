@@ -168,6 +168,5 @@ pub(crate) fn above(
     ensures right { IfOk result (λ t. CoversOn load.now.nest.now load.now.reader.now load.now.access.now place.now.path.now place.now.ranges.now depth.left depth.divisions (seen t)) }
 {
     let _rows = place.path.rows();
-    let tree = division_of(alloc, division, rest)?;
-    Ok(tree)
+    division_of(alloc, division, rest)
 }

@@ -60,8 +60,7 @@ fn living_tree(alloc: Global, load: &Load<'_>, budget: &mut Budget) -> Result<Qu
     ensures stop { IfErr result (λ e. e ≡ FlowStop.Budget → budget.new.limit ≡ Some budget.new.spent) }
 {
     let ranges = entry_ranges(load.nest, load.reader)?;
-    let tree = tree_in(alloc, load, ranges.ranges(), budget)?;
-    Ok(tree)
+    tree_in(alloc, load, ranges.ranges(), budget)
 }
 
 /// The tree of a load.
@@ -114,8 +113,7 @@ fn add_loads(
             };
             let tree = tree_of(alloc, &load, budget)?;
             out.push(tree)?;
-            add_loads(alloc, nest, entry, rest, number + 1, budget, out)?;
-            Ok(())
+            add_loads(alloc, nest, entry, rest, number + 1, budget, out)
         }
     }
 }
@@ -143,8 +141,7 @@ fn add_entry(
         0,
         budget,
         out,
-    )?;
-    Ok(())
+    )
 }
 
 /// Adds the trees of statements. The recursion is into halves.
@@ -164,15 +161,11 @@ fn add_entries(
 {
     match entries {
         [] => Ok(()),
-        [entry] => {
-            add_entry(alloc, nest, entry, budget, out)?;
-            Ok(())
-        }
+        [entry] => { add_entry(alloc, nest, entry, budget, out) }
         _ => {
             let (first, others) = entries.split_at(entries.len() / 2);
             add_entries(alloc, nest, first, budget, out)?;
-            add_entries(alloc, nest, others, budget, out)?;
-            Ok(())
+            add_entries(alloc, nest, others, budget, out)
         }
     }
 }

@@ -115,8 +115,7 @@ pub(crate) fn joined(
     requires off { CoversOn load.now.nest.now load.now.reader.now load.now.access.now sides.no place.now.ranges.now (depth.left - 1) depth.divisions (seen no) }
     ensures right { IfOk result (λ t. CoversOn load.now.nest.now load.now.reader.now load.now.access.now place.now.path.now place.now.ranges.now depth.left depth.divisions (seen t)) }
 {
-    let tree = test_of(alloc, sides.form, yes, no)?;
-    Ok(tree)
+    test_of(alloc, sides.form, yes, no)
 }
 
 // ---- What is known of a candidate under a path.

@@ -66,17 +66,13 @@ fn are_empty(
 {
     match questions {
         [] => Ok(true),
-        [question] => {
-            let none = has_none(alloc, &question.system, &question.ranges, asks, budget)?;
-            Ok(none)
-        }
+        [question] => { has_none(alloc, &question.system, &question.ranges, asks, budget) }
         _ => {
             let (first, others) = questions.split_at(questions.len() / 2);
             if !are_empty(alloc, first, asks, budget)? {
                 return Ok(false);
             }
-            let none = are_empty(alloc, others, asks, budget)?;
-            Ok(none)
+            are_empty(alloc, others, asks, budget)
         }
     }
 }
@@ -99,10 +95,7 @@ fn is_source(
 {
     let mut questions = Vec::new(alloc);
     match add_named(alloc, load, place, chosen, &mut questions) {
-        Ok(()) => {
-            let none = are_empty(alloc, questions.as_slice(), asks, budget)?;
-            Ok(none)
-        }
+        Ok(()) => { are_empty(alloc, questions.as_slice(), asks, budget) }
         Err(Unasked::Large) => Ok(false),
         Err(Unasked::Memory) => Err(Stop::Memory),
     }
@@ -201,10 +194,7 @@ fn is_input(
 {
     let mut questions = Vec::new(alloc);
     match add_input(alloc, load, place, &mut questions) {
-        Ok(()) => {
-            let none = are_empty(alloc, questions.as_slice(), asks, budget)?;
-            Ok(none)
-        }
+        Ok(()) => { are_empty(alloc, questions.as_slice(), asks, budget) }
         Err(Unasked::Large) => Ok(false),
         Err(Unasked::Memory) => Err(Stop::Memory),
     }

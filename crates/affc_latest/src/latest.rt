@@ -109,7 +109,7 @@ fn last_by_one(
     let params = beside.nest.params.ranges().len();
     let loops = beside.writer.loops.len();
     let statement = beside.writer.statement;
-    let found = last_in(
+    last_in(
         alloc,
         &system,
         beside.ranges,
@@ -117,8 +117,7 @@ fn last_by_one(
         params,
         loops,
         budget,
-    )?;
-    Ok(found)
+    )
 }
 
 /// The latest store by any of these systems of the order.
@@ -177,8 +176,7 @@ fn last_store(
         pair: &pair,
         ranges: &ranges,
     };
-    let found = last_by(alloc, &beside, orders.as_slice(), budget)?;
-    Ok(found)
+    last_by(alloc, &beside, orders.as_slice(), budget)
 }
 
 /// The latest instance of a statement that stores what is read.
@@ -250,6 +248,5 @@ pub fn source_of(
     ensures stop { IfErr result (λ e. e ≡ Stop.Budget → budget.new.limit ≡ Some budget.new.spent) }
 {
     let entries = reading.nest.entries.as_slice();
-    let found = last_among(alloc, reading, entries, budget)?;
-    Ok(found)
+    last_among(alloc, reading, entries, budget)
 }

@@ -1,4 +1,5 @@
 use Rattle.std.proofs.Common.{◌∙◌}
+use Rattle.std.proofs.lemmas.Result.{IfOk-weaker}
 use Rattle.affc_nest.proofs.QuestionProofs.{nest_few, few_numbered}
 use Rattle.affc_quast.specs.Seen.{seen}
 use Rattle.affc_latest.proofs.BesideLemmas.{is_nest}
@@ -31,5 +32,7 @@ returns-clause-right c =
     let l = c.args.load.now in
     let h = c.requires.load in
     let n = is_nest l.nest.now h.nested in
-    box_tree l.nest.now h.nested l.reader.now h.touched.there h.touched.alive (nest_few l.nest.now n) (few_numbered l.nest.now l.reader.now n h.touched.there) l.access.now c.ranges-3.result.now (seen c.in_ok-tree.tree)
-    (c.ranges-3.ensures.ranges ∙ c.in_ok-ranges.ensures) c.in_ok-tree.ensures.right
+    IfOk-weaker c.tree_in.result _ _
+    (λ tree. box_tree l.nest.now h.nested l.reader.now h.touched.there h.touched.alive (nest_few l.nest.now n) (few_numbered l.nest.now l.reader.now n h.touched.there) l.access.now c.ranges-3.result.now (seen tree)
+    (c.ranges-3.ensures.ranges ∙ c.in_ok-ranges.ensures))
+    c.tree_in.ensures.right

@@ -1,4 +1,5 @@
 use Rattle.std.proofs.Common.{length, refl, ap}
+use Rattle.std.proofs.lemmas.Result.{IfOk-weaker}
 use Rattle.affc_latest.proofs.BesideLemmas.{order_fits, ranges_long, ranges_room, ranges_reach, one_latest, one_writer}
 use Rattle.affc_latest.proofs.latest.last_by_one.Goals as goal
 
@@ -26,11 +27,11 @@ last_in-requires-clause-room c =
 pub returns-clause-latest : goal.returns-clause-latest
 returns-clause-latest c =
     let b = c.args.beside.now in
-    one_latest b.nest.now b.writer.now b.reader.now b.store.now b.load.now b.p.now b.iterators.now b.pair.now b.ranges.now c.requires.beside c.args.order.now c.in_ok-system.system b.writer.now.statement
-    (length c.ranges-params.result.now) c.len-loops.result c.in_ok-system.ensures refl (ap length c.ranges-params.ensures.ranges) c.len-loops.ensures c.in_ok-found.found c.in_ok-found.ensures.last c.requires.order
+    IfOk-weaker c.last_in.result _ _ (λ found last. one_latest b.nest.now b.writer.now b.reader.now b.store.now b.load.now b.p.now b.iterators.now b.pair.now b.ranges.now c.requires.beside c.args.order.now c.in_ok-system.system b.writer.now.statement
+    (length c.ranges-params.result.now) c.len-loops.result c.in_ok-system.ensures refl (ap length c.ranges-params.ensures.ranges) c.len-loops.ensures found last c.requires.order) c.last_in.ensures.last
 
 pub returns-clause-writer : goal.returns-clause-writer
 returns-clause-writer c =
     let b = c.args.beside.now in
-    one_writer b.nest.now b.writer.now b.reader.now b.store.now b.load.now b.p.now b.iterators.now b.pair.now b.ranges.now c.requires.beside c.args.order.now c.in_ok-system.system b.writer.now.statement
-    (length c.ranges-params.result.now) c.len-loops.result c.in_ok-system.ensures refl (ap length c.ranges-params.ensures.ranges) c.len-loops.ensures c.in_ok-found.found c.in_ok-found.ensures.last
+    IfOk-weaker c.last_in.result _ _ (λ found last. one_writer b.nest.now b.writer.now b.reader.now b.store.now b.load.now b.p.now b.iterators.now b.pair.now b.ranges.now c.requires.beside c.args.order.now c.in_ok-system.system b.writer.now.statement
+    (length c.ranges-params.result.now) c.len-loops.result c.in_ok-system.ensures refl (ap length c.ranges-params.ensures.ranges) c.len-loops.ensures found last) c.last_in.ensures.last

@@ -1,4 +1,5 @@
 use Rattle.std.proofs.Common.{◌∙◌}
+use Rattle.std.proofs.lemmas.Result.{IfOk-weaker}
 use Rattle.affc_latest.proofs.AmongLemmas.{all_orders}
 use Rattle.affc_latest.proofs.BesideLemmas.{is_nest, counted_entry, its_store_is, as_many_dimensions, few_dimensions, all_source}
 use Rattle.affc_latest.proofs.latest.last_store.Goals as goal
@@ -42,5 +43,7 @@ last_by-requires-clause-orders c =
 pub returns-clause-latest : goal.returns-clause-latest
 returns-clause-latest c =
     let r = c.args.reading.now in
-    all_orders r.nest.now c.args.writer.now r.reader.now c.args.store.now r.load.now r.p.now r.iterators.now c.as_slice.result.now c.in_ok-found.found c.requires.writes
-    (c.as_slice.ensures.value ∙ c.in_ok-orders.ensures) c.in_ok-found.ensures.latest
+    IfOk-weaker c.last_by.result _ _
+    (λ found latest. all_orders r.nest.now c.args.writer.now r.reader.now c.args.store.now r.load.now r.p.now r.iterators.now c.as_slice.result.now found c.requires.writes
+    (c.as_slice.ensures.value ∙ c.in_ok-orders.ensures) latest)
+    c.last_by.ensures.latest
