@@ -4,8 +4,8 @@
     python3 check_cost.py AFFC [NAME ..]
 
 For each program of the table below (or those named): the whole of `fold --cert`, the whole of `fold`, and within `replay`
-the check of the certificate, that is all that `accept` does but reading the text and letting go of what was read. Prints a
-row of Markdown for each. AFFC is to be the executable that the gate builds: others have other calls within `accept`.
+the check of the certificate, that is all that is asked of its items once its text is read and its bases are looked at. Prints a
+row of Markdown for each. AFFC is to be the executable that the gate builds: others have other calls within the check.
 """
 import os
 import re
@@ -18,8 +18,7 @@ TOP = os.path.dirname(os.path.dirname(os.path.abspath(__file__)))
 PROGRAMS = [f'examples/{name}' for name in ('separable', 'integral', 'chain', 'jacobi2d', 'jacobi1d', 'align', 'sweep', 'stages', 'blur')]
 PROGRAMS += ['bench/stages8', 'examples/triangle', 'bench/jacobi2d']
 PARTS = {'clash systems': 'affc_check::list::all::systems_of', 'trees and schedule': 'affc_check::list::all::groups_of', 'listing': 'affc_check::list::all::list_all'}
-ACCEPT = 'affc_accept::accepting::accept'
-READING = r'affc_cert::json::from_json|affc_farkas::proof::Proof::drop|.*quast\+\+Quast\+Destruct'
+CHECK = 'affc_accept::accepting::checked'
 
 
 def profile(words):
@@ -54,9 +53,9 @@ def row(affc, name):
         plain = sum(profile([affc, 'fold', source, schedule])[0].values())
         made = sum(profile([affc, 'fold', source, schedule, '--cert', certificate])[0].values())
         alone, calls = profile([affc, 'replay', source, schedule, certificate])
-    checks = {called: cost for (caller, called), cost in calls.items() if caller == ACCEPT and not re.match(READING, called)}
+    checks = {called: cost for (caller, called), cost in calls.items() if caller == CHECK}
     parts = [checks.get(part, 0) for part in PARTS.values()]
-    whole = alone[ACCEPT] + sum(checks.values())
+    whole = alone[CHECK] + sum(checks.values())
     cells = [f'{part / 1e6:.1f}' for part in (*parts, whole - sum(parts))]
     of = [f'{100 * whole / it:.1f} %' for it in (made, plain)]
     return f'| `{name}` | {made / 1e6:.1f} | {whole / 1e6:.2f} | {of[0]} | {plain / 1e6:.1f} | {of[1]} | ' + ' | '.join(cells) + ' |'
