@@ -53,6 +53,9 @@ pub(crate) fn positive<N: Number>(n: N) -> Option<N> {
 
 /// Divides a line by the common divisor of its numbers, up to its sign.
 pub fn reduce<N: Number>(line: &mut [N]) {
+    if line.iter().any(|cell| cell.magnitude() == 1) {
+        return;
+    }
     let mut common = N::zero();
     for cell in line.iter() {
         if common.magnitude() != 1 {
