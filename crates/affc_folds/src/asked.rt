@@ -9,7 +9,7 @@ use affc_trace::schedule::Schedule;
 
 /// A program with its analysis and a schedule, and the bases that are given.
 #[derive(Clone, Copy, Drop)]
-pub struct Asked<'a> {
+pub struct Compilation<'a> {
     pub program: &'a Program,
     pub nest: &'a Nest,
     pub flow: &'a Flow,
@@ -20,7 +20,7 @@ pub struct Asked<'a> {
 /// A temporary whose fold is asked for, and the systems of its live pairs.
 #[derive(Clone, Copy, Drop)]
 pub struct Temporary<'a> {
-    pub asked: Asked<'a>,
+    pub asked: Compilation<'a>,
     pub array: ArrayId,
     pub info: &'a ArrayInfo,
     pub systems: &'a [PairSystem],

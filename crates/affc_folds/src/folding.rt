@@ -6,7 +6,7 @@ ghost use Rattle.affc_quast.specs.Seen.{trees_of};
 ghost use Rattle.affc_weigh.specs.Costs.{NeverFalls};
 ghost use Rattle.affc_folds.specs.Folding.{IsAnalysed, AreFoldsBelow, AreFoldsUnder};
 
-use crate::asked::Asked;
+use crate::asked::Compilation;
 use crate::tries::fold_array;
 use affc_ast::tree::{ArrayId, Program};
 use affc_basis::{Basis, Fold};
@@ -28,7 +28,7 @@ pub struct Folded {
 /// Adds the fold of an array, unless the budget ends first.
 fn add_fold<F: Cost>(
     alloc: Global,
-    asked: &Asked<'_>,
+    asked: &Compilation<'_>,
     array: ArrayId,
     info: &ArrayInfo,
     cost: &Weigher<F>,
@@ -56,7 +56,7 @@ fn add_fold<F: Cost>(
 /// Adds the folds of these arrays, of which the first has this number. Past 2^32 arrays there is no memory for them.
 fn add_folds<F: Cost>(
     alloc: Global,
-    asked: &Asked<'_>,
+    asked: &Compilation<'_>,
     first: u32,
     arrays: &[ArrayInfo],
     cost: &Weigher<F>,
@@ -110,7 +110,7 @@ pub fn fold_all<F: Cost>(
         return Err(Stop::Memory);
     };
     let (_given, temporaries) = arrays.split_at(given);
-    let asked = Asked {
+    let asked = Compilation {
         program,
         nest,
         flow,

@@ -11,7 +11,7 @@ ghost use Rattle.affc_life.specs.Products.{systems_in};
 ghost use Rattle.affc_folds.specs.Folding.{IsAnalysed, IsSpent};
 ghost use Rattle.affc_folds.specs.Systems.{AreLive, IsCopy, AreKept, Adds, IsOver, KeepsRoom, chosen_system, choices_behind};
 
-use crate::asked::Asked;
+use crate::asked::Compilation;
 use affc_ast::tree::ArrayId;
 use affc_life::{ClashFault, ClashProduct, clash_products};
 use affc_moduli::Chosen;
@@ -26,7 +26,11 @@ use std::alloc::{AllocError, Global};
 
 /// The clash systems of an array, in product form.
 #[tactic(auto, using(crate::proofs::FoldLemmas::scheduled, crate::proofs::FoldLemmas::never_large))]
-fn products_of(alloc: Global, asked: &Asked<'_>, array: ArrayId) -> Result<Vec<ClashProduct>, Stop>
+fn products_of(
+    alloc: Global,
+    asked: &Compilation<'_>,
+    array: ArrayId,
+) -> Result<Vec<ClashProduct>, Stop>
     requires analysed { IsAnalysed asked.now.program.now asked.now.nest.now (trees_of asked.now.flow.now) asked.now.schedule.now }
     ensures systems { IfOk result (λ products. map clash_of (flat_map systems_in products.items) ≡ clashes asked.now.nest.now (trees_of asked.now.flow.now) asked.now.schedule.now array.0) }
     ensures stop { IfErr result (λ e. e ≡ Stop.Memory) }
@@ -249,7 +253,7 @@ fn all_wanted(
 /// The systems of an array's live pairs that aren't seen to have no point; where several bases are tried, only those that have one.
 pub(crate) fn live_systems(
     alloc: Global,
-    asked: &Asked<'_>,
+    asked: &Compilation<'_>,
     array: ArrayId,
     info: &ArrayInfo,
     several: bool,

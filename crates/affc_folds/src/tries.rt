@@ -15,7 +15,7 @@ ghost use Rattle.affc_quast.specs.Seen.{trees_of};
 ghost use Rattle.affc_folds.specs.Folding.{IsAnalysed, IsFoldFor, IsSpent, HasBound, given_for};
 ghost use Rattle.affc_folds.specs.Tries.{IsTemporary, IsTriedFor, AreTriedFor, IsFolded, IsFoldedFor, IsEither, IsWorth};
 
-use crate::asked::{Asked, Temporary};
+use crate::asked::{Compilation, Temporary};
 use crate::bases::{copy_of_basis, given_basis};
 use crate::systems::live_systems;
 use affc_ast::tree::ArrayId;
@@ -237,7 +237,7 @@ fn in_full<F: Cost>(
 /// The cheapest fold of an array along the listed bases.
 fn fold_cheapest<F: Cost>(
     alloc: Global,
-    asked: &Asked<'_>,
+    asked: &Compilation<'_>,
     array: ArrayId,
     info: &ArrayInfo,
     cost: &Weigher<F>,
@@ -285,7 +285,7 @@ fn fold_cheapest<F: Cost>(
 /// The fold of an array along the basis that is given for it.
 fn fold_given<F: Cost>(
     alloc: Global,
-    asked: &Asked<'_>,
+    asked: &Compilation<'_>,
     array: ArrayId,
     info: &ArrayInfo,
     basis: &Basis,
@@ -332,7 +332,7 @@ fn fold_given<F: Cost>(
 /// The fold of an array, and what is told of it, unless the budget ends first.
 pub(crate) fn fold_array<F: Cost>(
     alloc: Global,
-    asked: &Asked<'_>,
+    asked: &Compilation<'_>,
     array: ArrayId,
     info: &ArrayInfo,
     cost: &Weigher<F>,

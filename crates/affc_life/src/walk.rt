@@ -30,7 +30,7 @@ use std::alloc::{AllocError, Global};
 
 /// What is asked: the clash systems of an array.
 #[derive(Clone, Copy, Drop)]
-struct Asked<'a> {
+struct Clashing<'a> {
     nest: &'a Nest,
     schedule: &'a Schedule,
     array: ArrayId,
@@ -39,7 +39,7 @@ struct Asked<'a> {
 /// Adds the systems of a load, a leaf that names this instance, and a statement.
 fn add_writer(
     alloc: Global,
-    asked: &Asked<'_>,
+    asked: &Clashing<'_>,
     reader: &Entry,
     load: &Access,
     leaf: &Leaf,
@@ -73,7 +73,7 @@ fn add_writer(
 /// Adds the systems of a load, a leaf that names this instance, and these statements.
 fn add_writers(
     alloc: Global,
-    asked: &Asked<'_>,
+    asked: &Clashing<'_>,
     reader: &Entry,
     load: &Access,
     leaf: &Leaf,
@@ -101,7 +101,7 @@ fn add_writers(
 /// Adds the systems of a load and a leaf.
 fn add_leaf(
     alloc: Global,
-    asked: &Asked<'_>,
+    asked: &Clashing<'_>,
     reader: &Entry,
     load: &Access,
     leaf: &Leaf,
@@ -125,7 +125,7 @@ fn add_leaf(
 /// Adds the systems of a load and these leaves. The recursion is into halves, since there may be many.
 fn add_leaves(
     alloc: Global,
-    asked: &Asked<'_>,
+    asked: &Clashing<'_>,
     reader: &Entry,
     load: &Access,
     leaves: &[Leaf],
@@ -151,7 +151,7 @@ fn add_leaves(
 /// Adds the systems of a load with this tree.
 fn add_tree(
     alloc: Global,
-    asked: &Asked<'_>,
+    asked: &Clashing<'_>,
     reader: &Entry,
     load: &Access,
     tree: &Quast,
@@ -171,7 +171,7 @@ fn add_tree(
 /// Adds the systems of a load with this number.
 fn add_load(
     alloc: Global,
-    asked: &Asked<'_>,
+    asked: &Clashing<'_>,
     reader: &Entry,
     trees: &[Quast],
     number: usize,
@@ -197,7 +197,7 @@ fn add_load(
 /// Adds the systems of the loads from one on.
 fn add_loads(
     alloc: Global,
-    asked: &Asked<'_>,
+    asked: &Clashing<'_>,
     reader: &Entry,
     trees: &[Quast],
     number: usize,
@@ -245,7 +245,7 @@ pub fn trees_from<'a>(entries: &[Entry], statement: u32, trees: &'a [Quast]) -> 
 /// Adds the systems of a statement's loads.
 fn add_reader(
     alloc: Global,
-    asked: &Asked<'_>,
+    asked: &Clashing<'_>,
     trees: &[Quast],
     reader: &Entry,
     out: &mut Vec<Draft>,
@@ -266,7 +266,7 @@ fn add_reader(
 /// Adds the systems of the loads of these statements.
 fn add_readers(
     alloc: Global,
-    asked: &Asked<'_>,
+    asked: &Clashing<'_>,
     trees: &[Quast],
     readers: &[Entry],
     out: &mut Vec<Draft>,
@@ -298,7 +298,7 @@ fn drafts_of(
     ensures all { IfOk result (λ drafts. flat_map drafted drafts.items ≡ clashes nest.now (trees_of flow.now) schedule.now array.0) }
     ensures paired { IfOk result (λ drafts. All IsPaired (flat_map drafted drafts.items)) }
 {
-    let asked = Asked {
+    let asked = Clashing {
         nest,
         schedule,
         array,

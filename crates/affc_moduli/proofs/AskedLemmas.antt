@@ -10,7 +10,7 @@ use Rattle.affc_split.specs.declared.maximum.region.Region.{Region}
 use Rattle.affc_split.specs.declared.maximum.several.Found.{Found}
 use Rattle.affc_basis.specs.declared.fold.Modulus.{Modulus}
 use Rattle.affc_moduli.specs.declared.asked.Aim.{Aim}
-use Rattle.affc_moduli.specs.declared.asked.Asked.{Asked}
+use Rattle.affc_moduli.specs.declared.asked.AskedRow.{AskedRow}
 use Rattle.affc_moduli.specs.declared.asked.Way.{Way}
 use Rattle.affc_moduli.specs.declared.extremes.Candidate.{Candidate}
 use Rattle.affc_moduli.specs.declared.extremes.Sought.{Sought}
@@ -31,7 +31,7 @@ pub bounded_above : (region : Region) (form : Affine) (b r : ℤ) → IsBounded 
 bounded_above region form b r high low (inl h) = λ z inside. ties.rises (value form z) b r (low z inside) h
 bounded_above region form b r high low (inr e) = subst (IsBounded region form) (sym e) high
 
-module _ (asked : Asked) (h : IsAsked asked) where
+module _ (asked : AskedRow) (h : IsAsked asked) where
   pub dimensions : length asked.line.row.now.coefs ≡ length asked.given.extents.now
   dimensions = step.dimensions asked.given.context.now asked.given.ranges.now asked.given.extents.now asked.given.rows.now asked.given.pairs.now h.given.ready asked.line.k asked.line.row.now h.line.there asked.regions.now h.slices
 
@@ -117,7 +117,7 @@ module _ (asked : Asked) (h : IsAsked asked) where
       (ties.none_is_farthest asked.given.pairs.now asked.regions.now asked.line.row.now.coefs asked.line.fs.now asked.line.gs.now h.slices.one_each h.line.fs_each h.line.gs_each over h.line.forward h.line.backward start s sought low high missed)
 
 -- two elements at a point of one way's region, at which the form has this value
-pub tie_of : (asked : Asked) (way : Way) → IsWay asked way → (found : Found) (most : ℤ) (point : List ℤ) → found.number ≡ way.number → found.value ≡ most → found.point.items ≡ point → InRegion way.region.now point
+pub tie_of : (asked : AskedRow) (way : Way) → IsWay asked way → (found : Found) (most : ℤ) (point : List ℤ) → found.number ≡ way.number → found.value ≡ most → found.point.items ≡ point → InRegion way.region.now point
     → value way.form.now point ≡ most → pos 1 ≤ℤ most → IsTie asked.given.pairs.now asked.regions.now asked.line.row.now.coefs found.value found
 tie_of asked way w found most point n v p inside attained positive =
     ties.tie_at asked.given.pairs.now asked.regions.now asked.line.row.now.coefs found way.system.now way.region.now way.form.now
@@ -125,7 +125,7 @@ tie_of asked way w found most point n v p inside attained positive =
     (subst (InRegion way.region.now) (sym p) inside) (ap (value way.form.now) p ∙ attained ∙ sym v) (subst (λ (u : ℤ). pos 1 ≤ℤ u) (sym v) positive)
 
 -- nothing is known yet
-pub begun_sought : (asked : Asked) (aim : Aim) (s : Sought) → s.level ≡ aim.start → s.best ≡ None → IsSoughtOf asked aim.start s
+pub begun_sought : (asked : AskedRow) (aim : Aim) (s : Sought) → s.level ≡ aim.start → s.best ≡ None → IsSoughtOf asked aim.start s
 begun_sought asked aim s e b = record {
   natural = subst (λ (v : ℤ). pos 0 ≤ℤ v) (sym e) aim.natural;
   near = subst (λ (v : ℤ). unsigned_abs v ≤ 2 ^ 55) (sym e) (start_near aim.start aim.natural aim.near);
@@ -137,7 +137,7 @@ begun_sought asked aim s e b = record {
     start_near v h k = omega (arith, ints)
 
 -- what is known with a candidate more
-pub joined_sought : (asked : Asked) (start : ℤ) (s : Sought) (c : Candidate) (after : Sought) → IsSoughtOf asked start s → IsTie asked.given.pairs.now asked.regions.now asked.line.row.now.coefs c.found.value c.found
+pub joined_sought : (asked : AskedRow) (start : ℤ) (s : Sought) (c : Candidate) (after : Sought) → IsSoughtOf asked start s → IsTie asked.given.pairs.now asked.regions.now asked.line.row.now.coefs c.found.value c.found
     → unsigned_abs c.found.value ≤ 2 ^ 55 → IsJoined s c after → IsSoughtOf asked start after
 joined_sought asked start s c after sought tie near (inl h) = subst (IsSoughtOf asked start) (sym h.0) sought
 joined_sought asked start s c after sought tie near (inr h) = ties.one_found asked.given.pairs.now asked.regions.now asked.line.row.now.coefs start after c h.0 h.1 near tie
@@ -147,7 +147,7 @@ joined_level s c after (inl h) = ap (λ (q : Sought). q.level) h.0 ∙ sym h.1
 joined_level s c after (inr h) = h.0
 
 -- the modulus with its elements in either order
-pub done_either_way : (asked : Asked) (old new : Modulus) → IsEitherWay old new → IsDoneFor asked.given asked.line old → IsDoneFor asked.given asked.line new
+pub done_either_way : (asked : AskedRow) (old new : Modulus) → IsEitherWay old new → IsDoneFor asked.given asked.line old → IsDoneFor asked.given asked.line new
 done_either_way asked old new (inl e) done = subst (IsDoneFor asked.given asked.line) (sym e) done
 done_either_way asked old new (inr e) done =
     done_other_way asked.given.context.now asked.given.ranges.now asked.given.pairs.now asked.given.rows.now asked.line.k asked.line.row.now old new done e.0 e.1

@@ -7,7 +7,7 @@ use Rattle.affc_basis.specs.declared.fold.Modulus.{Modulus}
 use Rattle.affc_conflicts.specs.Conditions.{InContext}
 use Rattle.affc_moduli.specs.declared.asked.Given.{Given}
 use Rattle.affc_moduli.specs.declared.asked.Line.{Line}
-use Rattle.affc_moduli.specs.declared.asked.Asked.{Asked}
+use Rattle.affc_moduli.specs.declared.asked.AskedRow.{AskedRow}
 use Rattle.affc_moduli.specs.declared.asked.Way.{Way}
 use Rattle.affc_moduli.specs.declared.extremes.Sought.{Sought}
 use Rattle.affc_moduli.specs.Ready.{AreReady}
@@ -34,13 +34,13 @@ abbrev pub AreSlicesOf : Given → ℕ → List Region → Type 0
 AreSlicesOf given k regions = AreSlices given.context.now given.ranges.now given.rows.now k given.pairs.now regions
 
 -- the modulus of a row is asked, over the regions of its slice
-pub record IsAsked (asked : Asked) : Type 0 where
+pub record IsAsked (asked : AskedRow) : Type 0 where
   pub given : IsGiven asked.given
   pub line : IsLine asked.given asked.line
   pub slices : AreSlicesOf asked.given asked.line.k asked.regions.now
 
 -- one way of one of the systems
-pub record IsWay (asked : Asked) (way : Way) : Type 0 where
+pub record IsWay (asked : AskedRow) (way : Way) : Type 0 where
   pub system : slice_get asked.given.pairs.now way.number ≡ Some way.system.now
   pub region : slice_get asked.regions.now way.number ≡ Some way.region.now
   pub askable : IsAskable way.region.now way.form.now (pos (2 ^ 53))
@@ -57,8 +57,8 @@ abbrev pub IsKeptFor : Given → Line → Modulus → Type 0
 IsKeptFor given line m = IsKept given.context.now given.ranges.now given.pairs.now given.rows.now line.k line.row.now m
 
 -- the greatest distance along the row, and so far
-abbrev pub IsFarthestOf : Asked → Option Found → Type 0
+abbrev pub IsFarthestOf : AskedRow → Option Found → Type 0
 IsFarthestOf asked found = IsFarthest asked.given.pairs.now asked.regions.now asked.line.row.now.coefs found
 
-abbrev pub IsSoughtOf : Asked → (start : ℤ) → Sought → Type 0
+abbrev pub IsSoughtOf : AskedRow → (start : ℤ) → Sought → Type 0
 IsSoughtOf asked start sought = IsSought asked.given.pairs.now asked.regions.now asked.line.row.now.coefs start sought

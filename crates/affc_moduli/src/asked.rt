@@ -38,7 +38,7 @@ pub struct Line<'a> {
 
 /// What is asked: the modulus of a row, over its slice of each system.
 #[derive(Clone, Copy, Drop)]
-pub struct Asked<'a> {
+pub struct AskedRow<'a> {
     pub given: Given<'a>,
     pub line: Line<'a>,
     pub regions: &'a [Region],

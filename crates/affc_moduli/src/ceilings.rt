@@ -3,7 +3,7 @@ ghost use Rattle.std.specs.Prelude.{◌≡◌, ◌+◌, ◌<◌, ◌≤◌, ◌�
 ghost use Rattle.affc_moduli.specs.Asked.{IsAsked};
 ghost use Rattle.affc_moduli.specs.Ended.{IsCeiling};
 
-use crate::asked::Asked;
+use crate::asked::AskedRow;
 use crate::bounds::{Bound, ceiling_of};
 
 /// The greater of two bounds.
@@ -16,7 +16,7 @@ fn greater(a: Bound, b: Bound) -> Bound
 }
 
 /// A bound of one region more, both ways.
-fn with_region(asked: &Asked<'_>, i: usize, bound: Bound) -> Bound
+fn with_region(asked: &AskedRow<'_>, i: usize, bound: Bound) -> Bound
     requires asked { IsAsked asked.now }
     requires within { i < length asked.now.regions.now }
     requires ceiling { IsCeiling i asked.now.regions.now asked.now.line.fs.now asked.now.line.gs.now bound.most }
@@ -30,7 +30,7 @@ fn with_region(asked: &Asked<'_>, i: usize, bound: Bound) -> Bound
 }
 
 /// A bound of all regions, of which the first ones have this one.
-pub fn bound_of(asked: &Asked<'_>, first: usize, known: Bound) -> Bound
+pub fn bound_of(asked: &AskedRow<'_>, first: usize, known: Bound) -> Bound
     requires asked { IsAsked asked.now }
     requires within { first ≤ length asked.now.regions.now }
     requires ceiling { IsCeiling first asked.now.regions.now asked.now.line.fs.now asked.now.line.gs.now known.most }

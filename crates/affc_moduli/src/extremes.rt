@@ -8,7 +8,7 @@ ghost use Rattle.affc_moduli.specs.Asked.{IsAsked, IsWay, IsSoughtOf};
 ghost use Rattle.affc_moduli.specs.Ended.{IsReach, IsFoundOr};
 ghost use Rattle.affc_moduli.specs.Shown.{IsJoined};
 
-use crate::asked::{Aim, Asked, Way};
+use crate::asked::{Aim, AskedRow, Way};
 use crate::bounds::{Bound, ceiling_of};
 use crate::ceilings::bound_of;
 use crate::distances::MOST_DISTANCE;
@@ -147,7 +147,7 @@ fn shown_at(
 /// What is known with the greatest value of a form in its region, where that is at least as great as any before.
 fn met(
     alloc: Global,
-    asked: &Asked<'_>,
+    asked: &AskedRow<'_>,
     way: &Way<'_>,
     sought: Sought,
     best: Best,
@@ -195,7 +195,7 @@ fn floor_of(level: i64, quick: bool) -> i64
 /// What is known with one way of a system more.
 fn with_way(
     alloc: Global,
-    asked: &Asked<'_>,
+    asked: &AskedRow<'_>,
     way: &Way<'_>,
     sought: Sought,
     aim: Aim,
@@ -219,7 +219,7 @@ fn with_way(
 }
 
 /// One of the systems, forward.
-fn forward_at<'a>(asked: &Asked<'a>, i: usize) -> Way<'a>
+fn forward_at<'a>(asked: &AskedRow<'a>, i: usize) -> Way<'a>
     requires asked { IsAsked asked.now }
     requires within { i < length asked.now.regions.now }
     ensures way { IsWay asked.now result }
@@ -236,7 +236,7 @@ fn forward_at<'a>(asked: &Asked<'a>, i: usize) -> Way<'a>
 }
 
 /// One of the systems, backward.
-fn backward_at<'a>(asked: &Asked<'a>, i: usize) -> Way<'a>
+fn backward_at<'a>(asked: &AskedRow<'a>, i: usize) -> Way<'a>
     requires asked { IsAsked asked.now }
     requires within { i < length asked.now.regions.now }
     ensures way { IsWay asked.now result }
@@ -255,7 +255,7 @@ fn backward_at<'a>(asked: &Asked<'a>, i: usize) -> Way<'a>
 /// What is known with one region more, both ways.
 fn both_ways(
     alloc: Global,
-    asked: &Asked<'_>,
+    asked: &AskedRow<'_>,
     i: usize,
     sought: Sought,
     aim: Aim,
@@ -338,7 +338,7 @@ fn is_missed(sought: &Sought, aim: Aim) -> bool
 /// beyond which they nowhere lie.
 fn reached(
     alloc: Global,
-    asked: &Asked<'_>,
+    asked: &AskedRow<'_>,
     aim: Aim,
     budget: &mut Budget,
 ) -> Result<Option<Reach>, Stop>
@@ -372,7 +372,7 @@ fn reached(
 /// elements that come first. Where the budget ends first, a number beyond which they nowhere lie.
 pub fn farthest(
     alloc: Global,
-    asked: &Asked<'_>,
+    asked: &AskedRow<'_>,
     aim: Aim,
     budget: &mut Budget,
 ) -> Result<Reach, Stop>

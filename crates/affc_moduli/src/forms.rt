@@ -8,7 +8,7 @@ ghost use Rattle.affc_conflicts.specs.Conditions.{IsNear};
 ghost use Rattle.affc_moduli.specs.Asked.{IsAsked};
 ghost use Rattle.affc_moduli.specs.Enough.{IsSuitable};
 
-use crate::asked::Asked;
+use crate::asked::AskedRow;
 use crate::enough::{all_below, is_positive, is_within};
 use affc_rows::{Form, FormFault};
 use affc_split::maximum::{Region, maximum};
@@ -180,7 +180,7 @@ fn top_of(
 /// The form of a set of dimensions whose greatest value is the need, where it is below the need at the low ends of the ranges.
 fn proposed(
     alloc: Global,
-    asked: &Asked<'_>,
+    asked: &AskedRow<'_>,
     set: u32,
     context: &Region,
     need: i64,
@@ -232,7 +232,7 @@ fn place_of(proposals: &[Proposal], low: i128) -> usize
 /// The forms of all sets of dimensions that are below the need at the low ends of the ranges, the least first.
 fn all_proposed(
     alloc: Global,
-    asked: &Asked<'_>,
+    asked: &AskedRow<'_>,
     context: &Region,
     need: i64,
     budget: &mut Budget,
@@ -258,7 +258,7 @@ fn all_proposed(
 /// Whether a form is a modulus that exceeds each distance, is at least 1, and is nowhere above the need.
 fn suits(
     alloc: Global,
-    asked: &Asked<'_>,
+    asked: &AskedRow<'_>,
     context: &Region,
     form: &Form,
     need: i64,
@@ -291,7 +291,7 @@ fn suits(
 /// The first proposal that suits.
 fn first_suited(
     alloc: Global,
-    asked: &Asked<'_>,
+    asked: &AskedRow<'_>,
     context: &Region,
     need: i64,
     budget: &mut Budget,
@@ -318,7 +318,7 @@ fn first_suited(
 /// The first proposal that suits, while the budget lasts.
 pub fn chosen(
     alloc: Global,
-    asked: &Asked<'_>,
+    asked: &AskedRow<'_>,
     context: &Region,
     need: i64,
     budget: &mut Budget,

@@ -11,7 +11,7 @@ ghost use Rattle.affc_moduli.specs.Ended.{IsSpent, IsFar};
 ghost use Rattle.affc_moduli.specs.Rows.{IsKept};
 ghost use Rattle.affc_moduli.specs.Shown.{other_way, swapped, IsEitherWay};
 
-use crate::asked::{Aim, Asked, Given, Hint, Line};
+use crate::asked::{Aim, AskedRow, Given, Hint, Line};
 use crate::bounds::Bound;
 use crate::ceilings::bound_of;
 use crate::distances::{MOST_DISTANCE, forward, opposites};
@@ -102,7 +102,7 @@ fn with_pair(
 }
 
 /// The modulus of a row along which two elements at a point of a region lie farthest apart.
-fn shown(alloc: Global, asked: &Asked<'_>, found: &Found) -> Result<Modulus, AllocError>
+fn shown(alloc: Global, asked: &AskedRow<'_>, found: &Found) -> Result<Modulus, AllocError>
     requires asked { IsAsked asked.now }
     requires farthest { IsFarthestOf asked.now (Some found.now) }
     ensures done { IfOk result (IsDoneFor asked.now.given asked.now.line) }
@@ -119,7 +119,7 @@ fn shown(alloc: Global, asked: &Asked<'_>, found: &Found) -> Result<Modulus, All
 /// The modulus of a row, from the greatest distance in its slice.
 fn modulus_of(
     alloc: Global,
-    asked: &Asked<'_>,
+    asked: &AskedRow<'_>,
     some: &[i64],
     found: &Option<Found>,
 ) -> Result<Modulus, AllocError>
@@ -197,7 +197,7 @@ fn with_form(modulus: Modulus, form: Form) -> Modulus
 /// The modulus of a row, with the form that is chosen in place of a constant while the budget lasts.
 fn formed(
     alloc: Global,
-    asked: &Asked<'_>,
+    asked: &AskedRow<'_>,
     constant: Modulus,
     budget: &mut Budget,
 ) -> Result<Modulus, Stop>
@@ -232,7 +232,7 @@ fn unmarked(alloc: Global, parameters: u32, bound: &Bound) -> Result<Modulus, Al
 }
 
 /// The modulus of a row along which no elements lie farther apart than a bound says: 1 more, without a mark.
-fn bounded(alloc: Global, asked: &Asked<'_>, bound: &Bound) -> Result<Modulus, AllocError>
+fn bounded(alloc: Global, asked: &AskedRow<'_>, bound: &Bound) -> Result<Modulus, AllocError>
     requires asked { IsAsked asked.now }
     requires far { IsFar asked.now.given.pairs.now asked.now.regions.now asked.now.line.row.now.coefs bound.now.most }
     ensures { IfOk result (IsKeptFor asked.now.given asked.now.line) }
@@ -243,7 +243,7 @@ fn bounded(alloc: Global, asked: &Asked<'_>, bound: &Bound) -> Result<Modulus, A
 /// The modulus of a row along which elements lie farthest apart where it is shown.
 fn marked(
     alloc: Global,
-    asked: &Asked<'_>,
+    asked: &AskedRow<'_>,
     some: &[i64],
     shown: &Shown,
     budget: &mut Budget,
@@ -266,7 +266,7 @@ fn marked(
 }
 
 /// The modulus of a row for which no question is asked.
-fn unasked(alloc: Global, asked: &Asked<'_>) -> Result<Modulus, AllocError>
+fn unasked(alloc: Global, asked: &AskedRow<'_>) -> Result<Modulus, AllocError>
     requires asked { IsAsked asked.now }
     ensures { IfOk result (IsKeptFor asked.now.given asked.now.line) }
 {
@@ -289,7 +289,7 @@ fn aim_at(hint: Hint<'_>, k: usize) -> Aim {
 /// The modulus of a row, by questions while the budget lasts.
 fn by_questions(
     alloc: Global,
-    asked: &Asked<'_>,
+    asked: &AskedRow<'_>,
     some: &[i64],
     budget: &mut Budget,
 ) -> Result<Modulus, Stop>
@@ -329,7 +329,7 @@ fn modulus_along(
     ensures later { IsLater budget.old budget.new }
     ensures stop { IfErr result (λ e. e ≡ Stop.Memory) }
 {
-    let asked = Asked {
+    let asked = AskedRow {
         given: *given,
         line: *line,
         regions,
