@@ -1,5 +1,5 @@
 -- The layout of a nest as it is listed, and what it says.
-use Rattle.std.proofs.Common.{◌≡◌, ℕ, zero, suc, ◌+◌, ◌-◌, ◌<◌, nat_eq, nat_lt, Bool, true, false, ◌&&◌, if◌then◌else◌, List, [], ◌∷◌, ◌++◌, length, Option, Some, None, refl, sym, ap, subst, inl, inr, arith, ◌∙◌, length-append, append_assoc, append-nil}
+use Rattle.std.proofs.Common.{◌≡◌, ℕ, zero, suc, ◌+◌, ◌-◌, ◌<◌, nat_eq, nat_lt, Bool, true, false, ◌&&◌, if◌then◌else◌, List, [], ◌∷◌, ◌++◌, length, Option, Some, None, refl, sym, ap, subst, inl, inr, arith, ◌∙◌, length-append, append-nil}
 use Rattle.std.specs.Prelude.{flat_map, slice_get}
 use Rattle.std.proofs.lemmas.Bool.{and_parts}
 use Rattle.std.proofs.lemmas.Option.{same_Some, none-some}
@@ -196,39 +196,9 @@ layouts_are_of_nests nest layout is = record {
 
 -- ---- Lists as they are put together
 
-put_more : {A : Type 0} (old mid new a b all : List A) → mid ≡ old ++ a → new ≡ mid ++ b → all ≡ a ++ b → new ≡ old ++ all
-put_more old mid new a b all e f g = f ∙ ap (λ z. z ++ b) e ∙ append_assoc old a b ∙ ap (λ z. old ++ z) (sym g)
-
--- the list of what a slice begins with
-abbrev store_if : (array first : ℕ) → Entry → List Store
-store_if array first e = if is_writer array e then record { statement = first; loops = length e.loops } ∷ [] else []
-
-pub stores_more : (array first next : ℕ) (es rest : List Entry) (e : Entry) (old mid new : List Store) → es ≡ e ∷ rest → next ≡ first + 1 → mid ≡ old ++ (if is_writer array e then record { statement = first; loops = length e.loops } ∷ [] else [])
-    → new ≡ mid ++ stores_from array next rest → new ≡ old ++ stores_from array first es
-stores_more array first next es rest e old mid new is n f g =
-    put_more old mid new (store_if array first e) (stores_from array next rest) (stores_from array first es) f g
-    (ap (stores_from array first) is ∙ ap (λ m. store_if array first e ++ stores_from array m rest) (sym n))
-
-abbrev temporary_if : (first : ℕ) → ArrayInfo → List Dimensions
-temporary_if first a = if is_temp a.role && nat_lt 0 (length a.extents) then (first, length a.extents) ∷ [] else []
-
-pub temporaries_more : (first next : ℕ) (as' rest : List ArrayInfo) (a : ArrayInfo) (old mid new : List Dimensions) → as' ≡ a ∷ rest → next ≡ first + 1
-    → mid ≡ old ++ (if is_temp a.role && nat_lt 0 (length a.extents) then (first, length a.extents) ∷ [] else []) → new ≡ mid ++ temporaries_from next rest → new ≡ old ++ temporaries_from first as'
-temporaries_more first next as' rest a old mid new is n f g =
-    put_more old mid new (temporary_if first a) (temporaries_from next rest) (temporaries_from first as') f g
-    (ap (temporaries_from first) is ∙ ap (λ m. temporary_if first a ++ temporaries_from m rest) (sym n))
-
 behind_one : (nest : Nest) (e : Entry) (x : Access) (rest : List Access) → 0 < length rest → loads_among nest e (x ∷ rest) ≡ load_of nest e x ∷ loads_among nest e rest
 behind_one nest e x [] l = absurd (omega (arith, l))
 behind_one nest e x (y ∷ rest) l = refl
-
-pub among_more : (nest : Nest) (e : Entry) (xs rest : List Access) (x : Access) (load : Load) (old mid new : List Load) → xs ≡ x ∷ rest → 0 < length rest → load ≡ load_of nest e x → mid ≡ old ++ load ∷ [] → new ≡ mid ++ loads_among nest e rest
-    → new ≡ old ++ loads_among nest e xs
-among_more nest e xs rest x load old mid new is l own f g =
-    put_more old mid new (load_of nest e x ∷ []) (loads_among nest e rest) (loads_among nest e xs) (f ∙ ap (λ z. old ++ z ∷ []) own) g (ap (loads_among nest e) is ∙ behind_one nest e x rest l)
-
-pub loads_more : (nest : Nest) (es rest : List Entry) (e : Entry) (old mid new : List Load) → es ≡ e ∷ rest → mid ≡ old ++ loads_among nest e e.accesses → new ≡ mid ++ flat_map (loads_of nest) rest → new ≡ old ++ flat_map (loads_of nest) es
-loads_more nest es rest e old mid new is f g = put_more old mid new (loads_of nest e) (flat_map (loads_of nest) rest) (flat_map (loads_of nest) es) f g (ap (flat_map (loads_of nest)) is)
 
 pub nothing_among : (nest : Nest) (e : Entry) (xs : List Access) (old : List Load) → length xs < 2 → old ≡ old ++ loads_among nest e xs
 nothing_among nest e [] old l = sym (append-nil old)

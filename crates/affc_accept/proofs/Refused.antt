@@ -1,5 +1,5 @@
 -- What is read of a text, and why one is refused.
-use Rattle.std.proofs.Common.{◌≡◌, ◌≢◌, ℕ, ◌+◌, List, length, None, refl, sym, ap, subst, ◌∙◌, inl, inr}
+use Rattle.std.proofs.Common.{◌≡◌, ◌≢◌, ℕ, List, None, refl, sym, ap, subst, ◌∙◌, inl}
 use Rattle.affc_nest.specs.declared.nest.Nest.{Nest}
 use Rattle.affc_schedtext.specs.declared.plan.Plan.{Plan}
 use Rattle.affc_cert.specs.Certificates.{Certificate, seen}
@@ -13,15 +13,13 @@ use Rattle.affc_cert.specs.declared.layout.Layout.{Layout}
 use Rattle.affc_cert.proofs.Within.{is_within}
 use Rattle.affc_check.specs.Answers.{ProofFails, ShownFails}
 use Rattle.affc_check.specs.list.Certs.{IsCertWithin}
-use Rattle.affc_check.specs.list.Limits.{IsFirst}
 use Rattle.affc_check.specs.list.Passes.{PassesFirst}
 use Rattle.affc_check.specs.declared.fault.CheckFault.{CheckFault}
 use Rattle.affc_check.specs.declared.fault.CheckFault.TheVariants as items
 use Rattle.affc_check.proofs.ReadFor.{read_is_for}
 use Rattle.serde_json.specs.Data.{Data}
-use Rattle.affc_accept.specs.declared.fault.AcceptFault.TheVariants.{Certificate as OfText}
 use Rattle.affc_accept.specs.Accepted.{IsRead}
-use Rattle.affc_accept.specs.Bases.{KeepBases, HasOther}
+use Rattle.affc_accept.specs.Bases.{KeepBases}
 use Rattle.affc_accept.specs.Columns.{in_text, from_text}
 use Rattle.affc_accept.specs.Causes.{text_fault, items_fault}
 use Rattle.affc_accept.specs.Layouts.{IsLayout}
@@ -86,8 +84,3 @@ module _ (nest : Nest) (plan : Plan) (bytes : List ℕ) (cert : Cert) (read : Is
   items_refused (items.Proof n) number proof shown = record { cert = cert; read = read; bases_kept = kept; says = proof n refl }
   items_refused (items.Shown n) number proof shown = record { cert = cert; read = read; bases_kept = kept; says = shown n refl }
   items_refused items.Memory number proof shown = tt
-
--- the first fold with another basis
-pub basis_refused : (nest : Nest) (plan : Plan) (cert : Cert) (fold part : ℕ) → part ≡ (1 + length cert.flow.trees) + fold → IsFirst (HasOther nest plan.folds) cert.folds fold
-    → (bytes : List ℕ) → IsRead nest bytes cert → AcceptRefuses nest plan bytes (OfText (text.Shape part))
-basis_refused nest plan cert fold part number first bytes read = inr (record { cert = cert; read = read; fold = fold; number = number; first = first })

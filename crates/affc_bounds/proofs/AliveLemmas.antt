@@ -103,6 +103,3 @@ all_alive nest n = subst (λ (x : Nest). AreAlive x x.entries) (sym n.is) (some_
 pub params_reach : (nest : Nest) → IsNest nest → All WithinReach nest.params
 params_reach nest n =
     subst (λ (x : Nest). All WithinReach x.params) (sym n.is) (all_reach (number_ranges n.program.params) (plain_reach (number_ranges n.program.params) n.has.plain.ranges))
-
-pub params_columns : (nest : Nest) → IsNest nest → length nest.params ≡ nest.context.columns
-params_columns nest n = subst (λ (x : Nest). length x.params ≡ x.context.columns) (sym n.is) refl

@@ -3,9 +3,6 @@ use Rattle.std.proofs.Common.{ℕ, Option, refl, sym, subst, ◌∙◌, arith}
 use Rattle.std.specs.Prelude.{◌≤◌, IsNone}
 use Rattle.affc_split.specs.Budgets.{Account, IsLater}
 
-pub later_same : (a : Account) → IsLater a a
-later_same a = record { limit = refl; grows = omega arith; uncounted = λ n. refl }
-
 pub later_later : (a b c : Account) → IsLater a b → IsLater b c → IsLater a c
 later_later a b c h k = record {
   limit = k.limit ∙ h.limit;

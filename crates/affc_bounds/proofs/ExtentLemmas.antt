@@ -29,10 +29,6 @@ use Rattle.affc_bounds.proofs.OrderLemmas.{lex_append, lex_refl, first_of_both, 
 
 -- ---- One extent
 
--- no point, and nothing is found
-pub no_point_found : (nest : Nest) (array : ℕ) (extent : Affine) (question : _) → question ≡ extent_question nest extent → IsLeastIn question nest.params None → IsFirst (IsNarrowAt nest array extent) None
-no_point_found nest array extent question e none = λ f n. none n.p n.inside (subst (λ q. IsPoint q n.p) (sym e) n.meets)
-
 -- the least point is the first that is found
 pub least_found : (nest : Nest) (array : ℕ) (extent : Affine) (question : _) (p : List ℤ) (found : Found) → question ≡ extent_question nest extent → IsLeastIn question nest.params (Some p)
     → found.key ≡ p ++ pos array ∷ [] → found.fault ≡ Extent (record { 0 = array }) p → IsFirst (IsNarrowAt nest array extent) (Some found)

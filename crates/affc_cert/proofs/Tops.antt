@@ -4,11 +4,7 @@ use Rattle.affc_certvalue.specs.declared.verdict.Verdict.{Verdict}
 use Rattle.serde_json.specs.Data.{Data}
 use Rattle.serde_json.specs.View.{view, items_view}
 use Rattle.serde_json.specs.declared.value.Value.{Value}
-use Rattle.std.proofs.Common.{◌≡◌, ℕ, zero, suc, ◌+◌, ◌<◌, ◌≤◌, List, [], ◌∷◌, ◌++◌, length, get_or, take, drop, map, Bool, true, false, Some, None, refl, sym, ap, ap₂, ◌∙◌, arith, add-one, append_assoc, append-nil}
-
-pub each_is_map : (judge : Data → Verdict) (vs : List Value) → each judge (items_view vs) ≡ map (λ v. judge (view v)) vs
-each_is_map judge [] = refl
-each_is_map judge (v ∷ vs) = ap (λ xs. judge (view v) ∷ xs) (each_is_map judge vs)
+use Rattle.std.proofs.Common.{◌≡◌, ℕ, zero, suc, ◌+◌, ◌<◌, ◌≤◌, List, [], ◌∷◌, ◌++◌, length, get_or, take, drop, Bool, true, false, Some, None, refl, sym, ap, ap₂, ◌∙◌, arith, add-one, append_assoc, append-nil}
 
 each_more_by_one : (judge : Data → Verdict) (vs : List Value) (i : ℕ) (d : Value) → i < length vs
     → each judge (items_view (take (suc i) vs)) ≡ each judge (items_view (take i vs)) ++ judge (view (get_or vs i d)) ∷ []
@@ -52,13 +48,6 @@ pub ruleset more_steps = (append_assoc, append-nil)
 
 -- ---- Each by what has its place in a list
 
-zip_here : {A : Type 0} (judge : A → Data → Verdict) (xs : List A) (vs : List Value) (i : ℕ) (d : A) (e : Value) → i < length xs → i < length vs
-    → each_by judge (drop i xs) (items_view (drop i vs)) ≡ judge (get_or xs i d) (view (get_or vs i e)) ∷ each_by judge (drop (suc i) xs) (items_view (drop (suc i) vs))
-zip_here judge [] vs i d e h g = absurd (omega arith)
-zip_here judge (x ∷ xs) [] i d e h g = absurd (omega arith)
-zip_here judge (x ∷ xs) (v ∷ vs) zero d e h g = refl
-zip_here judge (x ∷ xs) (v ∷ vs) (suc i) d e h g = zip_here judge xs vs i d e (omega arith) (omega arith)
-
 none_by : {A : Type 0} (judge : A → Data → Verdict) (xs : List A) → each_by judge xs (items_view []) ≡ []
 none_by judge [] = refl
 none_by judge (x ∷ xs) = refl
@@ -76,14 +65,6 @@ zip_done judge [] vs (suc i) h = refl
 zip_done judge (x ∷ xs) vs zero h = absurd (omega arith)
 zip_done judge (x ∷ xs) [] (suc i) h = none_by judge (drop i xs)
 zip_done judge (x ∷ xs) (v ∷ vs) (suc i) h = zip_done judge xs vs i (omega arith)
-
-pub zip_kept : {A : Type 0} (judge : A → Data → Verdict) (xs : List A) (vs : List Value) (i : ℕ) (d : A) (e : Value) (now new all : List Verdict) (x : Verdict) → i < length xs → i < length vs
-    → now ++ each_by judge (drop i xs) (items_view (drop i vs)) ≡ all → new ≡ now ++ x ∷ [] → x ≡ judge (get_or xs i d) (view (get_or vs i e))
-    → new ++ each_by judge (drop (i + 1) xs) (items_view (drop (i + 1) vs)) ≡ all
-zip_kept judge xs vs i d e now new all x h g same f k =
-    let rest = each_by judge (drop (suc i) xs) (items_view (drop (suc i) vs)) in
-    ap₂ (λ ys j. ys ++ each_by judge (drop j xs) (items_view (drop j vs))) (f ∙ ap (λ y. now ++ y ∷ []) k) (add-one i) ∙ append_assoc now (judge (get_or xs i d) (view (get_or vs i e)) ∷ []) rest
-    ∙ ap (λ ys. now ++ ys) (sym (zip_here judge xs vs i d e h g)) ∙ same
 
 pub zip_end : (now none all : List Verdict) → none ≡ [] → now ++ none ≡ all → now ≡ all
 zip_end now none all e same = sym (append-nil now) ∙ ap (λ ys. now ++ ys) (sym e) ∙ same

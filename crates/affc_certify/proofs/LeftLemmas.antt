@@ -1,12 +1,12 @@
 -- Folds that are taken one after the other.
 use Rattle.std.proofs.Common.{◌≡◌, List, [], ◌∷◌, ◌++◌, reverse, refl, sym, ap, subst, ◌∙◌, inl, inr}
-use Rattle.std.specs.Prelude.{◌⊎◌, Some}
+use Rattle.std.specs.Prelude.{◌⊎◌}
 use Rattle.std.proofs.lemmas.List.{append-nil, append_assoc, reverse-append, reverse-reverse}
 use Rattle.affc_ast.specs.declared.tree.ArrayId.{ArrayId}
 use Rattle.affc_basis.specs.declared.fold.Fold.{Fold}
 use Rattle.affc_split.specs.Budgets.{Account, IsLater}
 use Rattle.affc_moduli.specs.Ended.{IsSpent}
-use Rattle.affc_moduli.proofs.Spent.{is_spent, stays_spent}
+use Rattle.affc_moduli.proofs.Spent.{stays_spent}
 use Rattle.affc_certify.specs.Left.{IsPart, AreLeft}
 use Rattle.affc_certify.specs.Making.{AreTaken, IsPut}
 
@@ -94,10 +94,3 @@ one_put folds before after left rest kept kept' fold e later put h = elim put [
 pub all_taken : (folds : Folds) (budget : Account) (left kept : Folds) → left ≡ [] → AreTaken folds budget left kept → AreLeft budget folds kept
 all_taken folds budget left kept e h =
     subst (λ fs. AreLeft budget fs kept) (sym (h.split ∙ ap (λ l. h.taken ++ reverse l) e ∙ append-nil h.taken)) h.are
-
--- what is put, by the answer of a search
-pub put_kept : (budget : Account) (fold : ArrayId × Fold) (old new : Folds) → new ≡ old ++ fold ∷ [] → IsPut budget fold old new
-put_kept budget fold old new e = inl e
-
-pub put_none : (budget : Account) (fold : ArrayId × Fold) (old new : Folds) → new ≡ old → budget.limit ≡ Some budget.spent → IsPut budget fold old new
-put_none budget fold old new e s = inr (e, is_spent budget s)

@@ -2,7 +2,7 @@
 use Rattle.affc_certvalue.specs.Values.{whole_value, list_value, numbers_value, form_value}
 use Rattle.affc_rows.specs.Forms.{Affine}
 use Rattle.serde_json.specs.Data.{Num, unsigned, negative, float, Data, null, boolean, number, string, array, object, Items}
-use Rattle.serde_json.specs.Find.{as_number, as_i64, as_u64, as_array, as_str, of_integer}
+use Rattle.serde_json.specs.Find.{as_number, as_i64, as_u64, as_array, of_integer}
 use Rattle.serde_json.specs.View.{view, items_view}
 use Rattle.serde_json.specs.declared.value.Value.{Value}
 use Rattle.std.proofs.Common.{◌≡◌, ℕ, zero, suc, ◌+◌, ◌-◌, ◌<◌, ℤ, pos, negsuc, ◌<ℤ◌, List, [], ◌∷◌, ◌++◌, length, get_or, take, map, Some, None, refl, sym, ap, ap₂, ◌∙◌, arith, add-one}
@@ -23,14 +23,6 @@ is_number (number m) n e = cc
 is_number (string s) n e = absurd (cc)
 is_number (array ds) n e = absurd (cc)
 is_number (object ms) n e = absurd (cc)
-
-pub is_string : (d : Data) (s : List ℕ) → Some s ≡ as_str d → string s ≡ d
-is_string null s e = absurd (cc)
-is_string (boolean b) s e = absurd (cc)
-is_string (number n) s e = absurd (cc)
-is_string (string t) s e = cc
-is_string (array ds) s e = absurd (cc)
-is_string (object ms) s e = absurd (cc)
 
 pub is_unsigned : (n : Num) (k : ℕ) → Some k ≡ as_u64 n → unsigned k ≡ n
 is_unsigned (unsigned m) k e = cc

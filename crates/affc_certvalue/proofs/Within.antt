@@ -101,10 +101,6 @@ list_fine judge f P each xs h = all_fine judge f P each xs (recursion_from_All P
 pub list_is : {A : Type 0} (judge : Data → Verdict) (f : A → Data) (P : A → Type 0) → ((a : A) → judge (f a) ≡ Fine → P a) → (xs : List A) → list (all_of judge) (list_of f xs) ≡ Fine → All P xs
 list_is judge f P each xs e = All-from_recursion P xs (all_are judge f P each xs e)
 
-pub len_of : (ds : List Data) → items_len (items_of ds) ≡ length ds
-len_of [] = refl
-len_of (d ∷ ds) = ap suc (len_of ds)
-
 pub len_map : {A : Type 0} (f : A → Data) (xs : List A) → items_len (items_of (map f xs)) ≡ length xs
 len_map f [] = refl
 len_map f (x ∷ xs) = ap suc (len_map f xs)

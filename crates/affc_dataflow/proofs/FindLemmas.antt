@@ -14,7 +14,6 @@ use Rattle.affc_ast.specs.Store.{Element}
 use Rattle.affc_ast.specs.Trace.{trace, loads_of, store_of}
 use Rattle.affc_trace.specs.Dataflow.{IsSource}
 use Rattle.affc_trace.specs.Law.{IsIn}
-use Rattle.affc_trace.proofs.EndedReads.{append_assoc}
 use Rattle.affc_trace.proofs.LastStores.{append_nil}
 use Rattle.affc_trace.proofs.Runs.{length_append}
 use Rattle.affc_domain.specs.Accesses.{accesses_of}
@@ -37,7 +36,7 @@ use Rattle.affc_quast.specs.Limits.{narrow, AreTreesWithin}
 use Rattle.affc_quast.specs.Paths.{IsNear}
 use Rattle.affc_quast.specs.Sources.{loads_in, loads_before}
 use Rattle.affc_quast.specs.Trees.{Tree, Input, named_at, quotients_at}
-use Rattle.affc_dataflow.specs.Finds.{NameAll, AreInputs, IsTreeFor, AreTreesOf, AreTreesFrom, AddsTreesOf, AddsTreesFrom}
+use Rattle.affc_dataflow.specs.Finds.{NameAll, AreInputs, IsTreeFor, AreTreesOf, AreTreesFrom, AddsTreesFrom}
 use Rattle.affc_flow.specs.Laws.{Loads}
 use Rattle.affc_flow.specs.Questions.{is_temporary}
 use Rattle.affc_dataflow.specs.Searches.{IsRightAt, Covers, Fuel, IsSlightRange, IsLoad}
@@ -172,20 +171,6 @@ dead_tree nest e x tree dead t = subst (IsTreeFor nest e x) (sym t) (record {
 })
 
 -- ---- Lists of trees
-
-pub no_loads : (nest : Nest) (e : Entry) (accesses : List Access) (old new : List Tree) → length accesses ≡ 0 → new ≡ old → AddsTreesOf nest e accesses old new
-no_loads nest e [] old new l q = ([], q ∙ sym (append_nil old), refl)
-no_loads nest e (x ∷ xs) old new l q = absurd (omega (arith, l))
-
-pub store_alone : (nest : Nest) (e : Entry) (accesses rest : List Access) (x : Access) (old new : List Tree) → accesses ≡ x ∷ rest → length rest ≡ 0 → new ≡ old → AddsTreesOf nest e accesses old new
-store_alone nest e accesses [] x old new a l q = subst (λ xs. AddsTreesOf nest e xs old new) (sym a) ([], q ∙ sym (append_nil old), refl)
-store_alone nest e accesses (y ∷ rest) x old new a l q = absurd (omega (arith, l))
-
-pub load_added : (nest : Nest) (e : Entry) (accesses rest : List Access) (x : Access) (t : Tree) (old mid new : List Tree) → accesses ≡ x ∷ rest → (length rest ≡ 0 → ⊥) → IsTreeFor nest e x t → mid ≡ old ++ t ∷ []
-    → AddsTreesOf nest e rest mid new → AddsTreesOf nest e accesses old new
-load_added nest e accesses [] x t old mid new a l h m g = absurd (l refl)
-load_added nest e accesses (y ∷ rest) x t old mid new a l h m g =
-    subst (λ xs. AddsTreesOf nest e xs old new) (sym a) (t ∷ g.0, g.1 ∙ ap (λ ts. ts ++ g.0) m ∙ append_assoc old (t ∷ []) g.0, (h, g.2))
 
 pub no_entries : (nest : Nest) (entries : List Entry) (old new : List Tree) → length entries ≡ 0 → new ≡ old → AddsTreesFrom nest entries old new
 no_entries nest [] old new l q = ([], q ∙ sym (append_nil old), refl)

@@ -11,7 +11,6 @@ use Rattle.affc_split.specs.Budgets.{Account, IsLater}
 use Rattle.affc_nest.specs.declared.nest.Access.{Access}
 use Rattle.affc_nest.specs.declared.nest.Entry.{Entry}
 use Rattle.affc_nest.specs.declared.nest.Nest.{Nest}
-use Rattle.affc_sched.specs.Touched.{Each}
 use Rattle.affc_sched.proofs.Lists.{front_is}
 use Rattle.affc_quast.specs.Trees.{Tree, depth_of}
 use Rattle.affc_dataflow.specs.Searches.{Covers, part_box, Fuel, IsSlight, IsSlightRange}
@@ -139,12 +138,6 @@ first_whole nest e x ranges rest r low high left tree q a b h = subst (λ rs. Co
 
 pub not_empty : (t : Bool) (n : ℕ) → t ≡ (n == 0) → t ≡ false → n ≡ 0 → ⊥
 not_empty t n e f z = first_of (grind (arith, nat_tests), grind arith, search (rules))
-
-pub first_each : {A : Type 0} (P : A → Type 0) (xs rest : List A) (x : A) → xs ≡ x ∷ rest → Each P xs → P x
-first_each {A} P xs rest x q h = first (subst (Each P) q h)
-  where
-    first : Each P (x ∷ rest) → P x
-    first g = g.0
 
 pub few_from : {A : Type 0} (xs ys : List A) → xs ≡ ys → length ys ≤ 16 → 0 + length xs ≤ 16
 few_from xs ys e h = count (length xs) (length ys) (ap length e) h

@@ -1,13 +1,13 @@
 -- Lists that are taken in two parts.
 use Rattle.std.proofs.Common.{◌≡◌, List, [], ◌∷◌, ◌++◌, map, refl, sym, ap, subst, ◌∙◌, inl, inr}
 use Rattle.affc_trace.proofs.EndedReads.{append_assoc}
-use Rattle.affc_trace.proofs.LastStores.{append_nil, map_append}
+use Rattle.affc_trace.proofs.LastStores.{map_append}
 use Rattle.affc_nest.specs.declared.nest.Entry.{Entry}
 use Rattle.affc_nest.specs.declared.nest.Nest.{Nest}
 use Rattle.affc_quast.specs.Trees.{Tree}
 use Rattle.affc_flow.specs.Asked.{asked}
 use Rattle.affc_latest.proofs.Lists.{in_parts}
-use Rattle.affc_dataflow.specs.Finds.{AreTreesFrom, AddsTreesOf, AddsTreesFrom}
+use Rattle.affc_dataflow.specs.Finds.{AreTreesFrom, AddsTreesFrom}
 use Rattle.affc_flow.specs.Laws.{NoneHasAPoint}
 use Rattle.affc_flow.specs.Questions.{Question}
 use Rattle.affc_flow.specs.declared.questions.Question as held
@@ -36,6 +36,3 @@ trees_added nest entries first others old mid new is f g = (
   g.1 ∙ ap (λ ts. ts ++ g.0) f.1 ∙ append_assoc old f.0 g.0,
   subst (λ es. AreTreesFrom nest es (f.0 ++ g.0)) (sym is) (trees_in_parts nest first others f.0 g.0 f.2 g.2),
 )
-
-pub entry_trees : (nest : Nest) (e : Entry) (old new : List Tree) → AddsTreesOf nest e e.accesses old new → AddsTreesFrom nest (e ∷ []) old new
-entry_trees nest e old new h = (h.0, h.1, (h.0, [], sym (append_nil h.0), h.2, refl))

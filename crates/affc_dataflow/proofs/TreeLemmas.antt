@@ -26,7 +26,7 @@ use Rattle.affc_quast.specs.Trees.{Tree, Source, Input}
 use Rattle.affc_flow.specs.Laws.{Loads, IsSourceOf}
 use Rattle.affc_flow.specs.Questions.{is_temporary}
 use Rattle.affc_dataflow.specs.Searches.{IsRightAt, Covers, IsSlight, IsLoad}
-use Rattle.affc_latest.specs.Stores.{pin, IsReading, IsReadFrom, IsWriterAt}
+use Rattle.affc_latest.specs.Stores.{pin, IsReadFrom, IsWriterAt}
 use Rattle.affc_dataflow.specs.Unwritten.{IsUnwritten}
 use Rattle.affc_latest.proofs.LastLemmas.{pinned_is}
 use Rattle.affc_flow.proofs.LoadLemmas.{load_there}
@@ -40,9 +40,6 @@ near_all (x ∷ xs) h = All-cons IsNear x xs (near x (All-head IsSlight x xs h))
   where
     near : (x : ℤ) → unsigned_abs x ≤ 2 ^ 40 → unsigned_abs x ≤ 2 ^ 60
     near x h = omega (arith, h)
-
-pub is_reading : (nest : Nest) (e : Entry) (x : Access) (number : ℕ) (p its : List ℤ) → IsLoad nest e x number → length p ≡ length nest.params → length its ≡ length e.loops → All IsSlight p → All IsSlight its → IsReading nest e x p its
-is_reading nest e x number p its h l k a b = record { nested = h.nested; touched = h.touched; params = l; loops = k; params_near = near_all p a; loops_near = near_all its b }
 
 -- ---- Forms of numbers
 

@@ -1,11 +1,11 @@
 -- Digits are read one at a time, and a sign before them.
-use Rattle.std.proofs.Common.{◌≡◌, ◌≢◌, ◌∙◌, refl, sym, ap, subst, ℕ, zero, suc, ◌+◌, ◌*◌, ◌^◌, ◌<◌, ◌≤◌, List, [], ◌∷◌, length, get_or, drop, cond, ℤ, pos, neg_ℤ, FitsSigned, w64, arith}
+use Rattle.std.proofs.Common.{◌≡◌, ◌≢◌, ◌∙◌, refl, ap, subst, ℕ, zero, suc, ◌+◌, ◌*◌, ◌^◌, ◌<◌, ◌≤◌, List, [], ◌∷◌, length, get_or, drop, cond, ℤ, pos, neg_ℤ, FitsSigned, w64, arith}
 use Rattle.std.proofs.Math.Seq.{drop-cons}
 use Rattle.std.proofs.Math.ListN.{drop_of_length-le}
 use Rattle.std.specs.Char.{digit_value}
 use Rattle.std.specs.Str.Parse.{AllDigits, IsNumeral, digits_value_after, digits_value, without_leading_plus, without_leading_sign, signed_digits_value}
-use borrow.Author.Tests.{eq-eqb, ne_eqb}
-use Rattle.affc_decide.specs.Words.{Says, SaysNone}
+use borrow.Author.Tests.{ne_eqb}
+use Rattle.affc_decide.specs.Words.{SaysNone}
 
 -- of the digits `all`, those before `rest` write n
 pub record IsRead (all rest : List ℕ) (n : ℕ) : Type 0 where
@@ -46,21 +46,6 @@ all_read all bs at n read past =
 
 -- ---- Signs
 
-minus_rest : (bs : List ℕ) → get_or bs 0 0 ≡ 45 → without_leading_sign bs ≡ drop 1 bs
-minus_rest bs first = ap (λ t. cond t (drop 1 bs) (without_leading_plus bs)) (eq-eqb _ 45 first)
-
-minus_value : (bs : List ℕ) → get_or bs 0 0 ≡ 45 → signed_digits_value 10 bs ≡ neg_ℤ (pos (digits_value 10 (drop 1 bs)))
-minus_value bs first =
-    let ds = without_leading_sign bs in
-    ap (λ t. cond t (neg_ℤ (pos (digits_value 10 ds))) (pos (digits_value 10 ds))) (eq-eqb _ 45 first)
-    ∙ ap (λ (l : List ℕ). neg_ℤ (pos (digits_value 10 l))) (minus_rest bs first)
-
-plus_rest : (bs : List ℕ) → get_or bs 0 0 ≡ 43 → without_leading_plus bs ≡ drop 1 bs
-plus_rest bs first = ap (λ t. drop (cond t 1 0) bs) (eq-eqb _ 43 first)
-
-none_rest : (bs : List ℕ) → get_or bs 0 0 ≢ 43 → without_leading_plus bs ≡ bs
-none_rest bs first = ap (λ t. drop (cond t 1 0) bs) (ne_eqb _ 43 first)
-
 other_rest : (bs : List ℕ) → get_or bs 0 0 ≢ 45 → without_leading_sign bs ≡ without_leading_plus bs
 other_rest bs first = ap (λ t. cond t (drop 1 bs) (without_leading_plus bs)) (ne_eqb _ 45 first)
 
@@ -69,34 +54,6 @@ other_value bs first =
     let ds = without_leading_sign bs in
     ap (λ t. cond t (neg_ℤ (pos (digits_value 10 ds))) (pos (digits_value 10 ds))) (ne_eqb _ 45 first)
     ∙ ap (λ (l : List ℕ). pos (digits_value 10 l)) (other_rest bs first)
-
-negative_fits : (n : ℕ) → n ≤ 2 ^ 63 → FitsSigned w64 (neg_ℤ (pos n))
-negative_fits zero h = record { sfits = omega arith }
-negative_fits (suc n) h = record { sfits = h }
-
-fits_negative : (n : ℕ) → FitsSigned w64 (neg_ℤ (pos n)) → n ≤ 2 ^ 63
-fits_negative zero h = omega arith
-fits_negative (suc n) h = h.sfits
-
--- what digits say behind a minus, behind a plus and alone
-abbrev pub IsSize : List ℕ → ℕ → Type 0
-IsSize ds n = IsNumeral 10 ds × (n ≡ digits_value 10 ds) × (n ≤ 2 ^ 63)
-
-abbrev pub NoSize : List ℕ → Type 0
-NoSize ds = IsNumeral 10 ds → 2 ^ 63 < digits_value 10 ds
-
-pub says_minus : (bs : List ℕ) (n : ℕ) → get_or bs 0 0 ≡ 45 → IsSize (drop 1 bs) n → Says bs (neg_ℤ (pos n))
-says_minus bs n first size = (subst (λ (l : List ℕ). IsNumeral 10 l) (sym (minus_rest bs first)) size.0, negative_fits n size.2, ap (λ (k : ℕ). neg_ℤ (pos k)) size.1 ∙ sym (minus_value bs first))
-
-pub none_minus : (bs : List ℕ) → get_or bs 0 0 ≡ 45 → NoSize (drop 1 bs) → SaysNone bs
-none_minus bs first none n says =
-    let numeral : IsNumeral 10 (drop 1 bs) = subst (λ (l : List ℕ). IsNumeral 10 l) (minus_rest bs first) says.0 in
-    let fits = fits_negative (digits_value 10 (drop 1 bs)) (subst (λ (z : ℤ). FitsSigned w64 z) (says.2 ∙ minus_value bs first) says.1) in
-    let large = none numeral in
-    omega (arith, fits, large)
-
-pub says_plus : (bs ds : List ℕ) (n : ℕ) → get_or bs 0 0 ≢ 45 → without_leading_plus bs ≡ ds → IsSize ds n → n < 2 ^ 63 → Says bs (pos n)
-says_plus bs ds n first rest size small = (subst (λ (l : List ℕ). IsNumeral 10 l) (sym (other_rest bs first ∙ rest)) size.0, record { sfits = small }, ap (λ (k : ℕ). pos k) size.1 ∙ ap (λ (l : List ℕ). pos (digits_value 10 l)) (sym rest) ∙ sym (other_value bs first))
 
 pub none_plus : (bs ds : List ℕ) → get_or bs 0 0 ≢ 45 → without_leading_plus bs ≡ ds → (IsNumeral 10 ds → 2 ^ 63 ≤ digits_value 10 ds) → SaysNone bs
 none_plus bs ds first rest none n says =

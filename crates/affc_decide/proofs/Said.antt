@@ -163,9 +163,6 @@ not_ranges n s = omega (arith, s.0.1.0)
 not_limit : (n : ℤ) → Says (codes "limit") n → ⊥
 not_limit n s = omega (arith, s.0.1.0)
 
-not_expect : (n : ℤ) → Says (codes "expect") n → ⊥
-not_expect n s = omega (arith, s.0.1.0)
-
 pub system_only : (said : Said) (more : List (List ℕ)) → IsSaid said (codes "system" ∷ more) → (columns : ℕ) × (rows : ℕ) × (said ≡ System columns rows)
 system_only Blank more s = absurd (omega (arith, ap length s))
 system_only (System columns rows) more s = (columns, rows, refl)

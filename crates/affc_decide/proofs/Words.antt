@@ -8,10 +8,6 @@ use Rattle.std.specs.Char.{is_ascii_whitespace}
 use Rattle.std.specs.List.{All}
 use Rattle.affc_decide.specs.Words.{AreWords, AllSpaces, NoSpaces, EndsSpaces, IsWord, EndsWord, IsFirstWord, texts_of}
 
-pub no_bytes : (P : ℕ → Type 0) (text : List ℕ) → All P (take 0 text)
-no_bytes P [] k d within = absurd (omega (arith, within))
-no_bytes P (b ∷ text) k d within = absurd (omega (arith, within))
-
 pub one_more : (P : ℕ → Type 0) (text : List ℕ) (at : ℕ) → at < length text → All P (take at text) → P (get_or text at 0) → All P (take (at + 1) text)
 one_more P text at within all holds =
     let next : suc at ≡ at + 1 = omega arith in
@@ -25,9 +21,6 @@ ends text at within space = subst (λ (l : List ℕ). EndsWord l) (sym (drop-con
 
 pub nothing_begins : (text : List ℕ) (at : ℕ) → length text ≤ at → EndsSpaces (drop at text)
 nothing_begins text at past = subst (λ (l : List ℕ). EndsSpaces l) (sym (drop_of_length-le text past)) tt
-
-pub nothing_ends : (text : List ℕ) (at : ℕ) → length text ≤ at → EndsWord (drop at text)
-nothing_ends text at past = subst (λ (l : List ℕ). EndsWord l) (sym (drop_of_length-le text past)) tt
 
 true_is_false : true ≡ false → ⊥
 true_is_false e = cc
@@ -56,11 +49,6 @@ first text behind word rest g n spaces is begin some within letters end is_word 
       subst (λ (w : List ℕ). IsWord w) (sym is_word) (omega (arith, long, more), letters),
       subst (λ (r : List ℕ). EndsWord r) (sym is_rest) end,
     )
-
-pub only_spaces : (text : List ℕ) (g : ℕ) → AllSpaces (take g text) → length (drop g text) ≡ 0 → AllSpaces text
-only_spaces text g spaces none =
-    let nothing : drop g text ≡ [] = empty (drop g text) none in
-    subst (λ (l : List ℕ). AllSpaces l) (ap (λ (l : List ℕ). take g text ++ l) (sym nothing) ∙ take-append-drop g text) (subst (λ (l : List ℕ). AllSpaces l) (sym (append-nil (take g text))) spaces)
 
 -- the words found so far stand before those of the rest
 abbrev pub Precede : List ℕ → List (List ℕ) → List ℕ → Type 0

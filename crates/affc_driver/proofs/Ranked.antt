@@ -1,11 +1,9 @@
 -- Each access of a program that a text gives names an array, and has its subscripts.
-use Rattle.std.proofs.Common.{◌≡◌, ℕ, zero, suc, ◌<◌, true, true≢false, List, [], ◌∷◌, ◌++◌, length, map, Option, Some, None, refl, sym, subst, inl, inr}
+use Rattle.std.proofs.Common.{◌≡◌, ℕ, zero, suc, true, true≢false, List, [], ◌∷◌, ◌++◌, length, map, Option, Some, None, refl, sym, subst, inl, inr}
 use Rattle.std.specs.Prelude.{slice_get}
 use Rattle.std.proofs.lemmas.Bool.{eqb-true}
-use Rattle.std.proofs.lemmas.Option.{slice_get_within}
 use Rattle.affc_ast.specs.declared.tree.Decl.{Decl}
 use Rattle.affc_ast.specs.declared.tree.Op.{Op}
-use Rattle.affc_ast.specs.declared.tree.Program.{Program}
 use Rattle.affc_ast.specs.declared.tree.Val.{Val}
 use Rattle.affc_ast.specs.declared.tree.Val.TheVariants as v
 use Rattle.affc_ast.specs.declared.tree.Val.TheBlock.{more_of-Val, end_of-Val}
@@ -20,7 +18,6 @@ use Rattle.affc_trace.proofs.Once.{in_append}
 use Rattle.affc_domain.specs.Accesses.{Access, accesses_in, own_access, accesses_of}
 use Rattle.affc_domain.specs.Arrays.{declared_arrays}
 use Rattle.affc_safe.proofs.Reasons.{from_all}
-use Rattle.affc_nest.specs.Laws.{NamesArrays}
 use Rattle.affc_driver.specs.Laws.{ReadsNamingArrays}
 
 -- the access is of an array of this rank
@@ -68,7 +65,3 @@ pub reads_naming_arrays : ReadsNamingArrays
 reads_naming_arrays text program reads a x i j =
     let ranked = reads_ranked limits_of text program reads in
     declared (declared_arrays program) x.0.0 (length x.1) (in_assignment (ranks program) a x (from_all (is_ranked (ranks program)) (assignments program) ranked a i) j)
-
--- so its number is that of a declared array
-pub are_declared : (program : Program) → NamesArrays program → (a : Assignment) (x : Access) → IsIn a (assignments program) → IsIn x (accesses_of a) → x.0.0 < length (declared_arrays program)
-are_declared program names a x i j = let d = names a x i j in slice_get_within (declared_arrays program) x.0.0 d.0 d.1

@@ -103,11 +103,6 @@ unread_refuses source schedule (unread.Source fault) h = h
 unread_refuses source schedule (unread.Printed place) h = h
 unread_refuses source schedule unread.Memory h = tt
 
-pub unread_refuses_trees : (source : List ℕ) (fault : Unread) → UnreadSays source fault → FlowRefusalSays source (refusal_of fault)
-unread_refuses_trees source (unread.Source fault) h = h
-unread_refuses_trees source (unread.Printed place) h = h
-unread_refuses_trees source unread.Memory h = tt
-
 -- what dataflow is asked of
 pub named_nest : (program : Program) (nest : Nest) → IsPlain program → NamesArrays program → nest ≡ nest_of program → StaysWithin program → IsNamedNest nest
 named_nest program nest plain names is within = record { program = program; has = record { plain = plain; near = within.near }; is = is; named = names }

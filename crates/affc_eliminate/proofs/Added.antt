@@ -23,13 +23,6 @@ contains_form rows k c = (
   get_or-map (λ (q : Kept). q.row) rows c.0 k k.row c.1 ∙ ap (λ (q : Kept). q.row) c.2,
 )
 
--- a row with the form
-pub row_of_form : (rows : List Kept) (f : Affine) → Contains (forms_of rows) f → (k : Kept) → (a : Kept) × Contains rows a × (a.row ≡ f)
-row_of_form rows f c k =
-    let lt : c.0 < length rows = subst (λ n. c.0 < n) (length-map rows (λ (q : Kept). q.row)) c.1 in
-    let a = get_or rows c.0 k in
-    (a, (c.0, lt, get_or_default rows c.0 a k lt), sym (get_or-map (λ (q : Kept). q.row) rows c.0 k f lt) ∙ c.2)
-
 -- what holds of all forms holds of the form of each row
 pub each_form : (P : Affine → Type 0) (rows : List Kept) (k : Kept) → All P (forms_of rows) → Contains rows k → P k.row
 each_form P rows k h c = All-contains P (forms_of rows) k.row h (contains_form rows k c)

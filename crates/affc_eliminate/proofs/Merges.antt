@@ -324,9 +324,6 @@ divided_times d sums one h t = record {
 pub multipliers_from : (by : List (ℕ × ℕ)) → AreTimes by → All (λ p. p.1 ≤ 2 ^ 53) by → AreMultipliers by
 multipliers_from by h small = record { few = few_times by h; positive = h.positive; small = small; rising = h.rising }
 
-pub times_from : (by : List (ℕ × ℕ)) → AreMultipliers by → All (λ p. p.0 < 1024) by → AreTimes by
-times_from by h named = record { rising = h.rising; positive = h.positive; named = named }
-
 -- the divisor is at least 1, and below 2^127
 zero_divides : (w : ℕ) → 0 ∣ w → w ≡ 0
 zero_divides w h = dvd_antisymm (dvd-zero w) h
@@ -395,17 +392,9 @@ pub first_alone : (first : List (ℕ × ℕ)) (i : ℕ) (second : List (ℕ × �
     → IsTerm first i second j (record { number = p.0; first = p.1; second = 0; left = i + 1; right = j })
 first_alone first i second j p lt e le = record { first_is = taken_here first i p lt e; second_is = taken_past second j p.0 le; some = one_side i j }
 
-pub second_alone : (first : List (ℕ × ℕ)) (i : ℕ) (second : List (ℕ × ℕ)) (j : ℕ) (q : ℕ × ℕ) → length first ≤ i → j < length second → q ≡ get_or second j q
-    → IsTerm first i second j (record { number = q.0; first = 0; second = q.1; left = i; right = j + 1 })
-second_alone first i second j q le lt e = record { first_is = taken_past first i q.0 le; second_is = taken_here second j q lt e; some = other_side i j }
-
 pub first_below : (first : List (ℕ × ℕ)) (i : ℕ) (second : List (ℕ × ℕ)) (j : ℕ) (p q : ℕ × ℕ) → i < length first → p ≡ get_or first i p → j < length second → q ≡ get_or second j q
     → p.0 < q.0 → IsRising (drop j second) → IsTerm first i second j (record { number = p.0; first = p.1; second = 0; left = i + 1; right = j })
 first_below first i second j p q lt e lt' e' h r = record { first_is = taken_here first i p lt e; second_is = taken_above second j p.0 q lt' e' h r; some = one_side i j }
-
-pub second_below : (first : List (ℕ × ℕ)) (i : ℕ) (second : List (ℕ × ℕ)) (j : ℕ) (p q : ℕ × ℕ) → i < length first → p ≡ get_or first i p → j < length second → q ≡ get_or second j q
-    → q.0 < p.0 → IsRising (drop i first) → IsTerm first i second j (record { number = q.0; first = 0; second = q.1; left = i; right = j + 1 })
-second_below first i second j p q lt e lt' e' h r = record { first_is = taken_above first i q.0 p lt e h r; second_is = taken_here second j q lt' e'; some = other_side i j }
 
 pub both_here : (first : List (ℕ × ℕ)) (i : ℕ) (second : List (ℕ × ℕ)) (j : ℕ) (p q : ℕ × ℕ) → i < length first → p ≡ get_or first i p → j < length second → q ≡ get_or second j q
     → q.0 ≡ p.0 → IsTerm first i second j (record { number = p.0; first = p.1; second = q.1; left = i + 1; right = j + 1 })
@@ -426,9 +415,6 @@ term_falls first left second right term h = elim h.first_is [
 ]
 
 -- ---- The greatest common divisor, one multiplier more
-
-pub divisor_none : IsDivisor 0 []
-divisor_none = record { divides = All-nil (λ p. 0 ∣ p.1); greatest = λ k h. dvd-zero k }
 
 front_of : (P : ℕ × ℕ → Type 0) (by : List (ℕ × ℕ)) (i : ℕ) (d : ℕ × ℕ) → i < length by → All P (take (i + 1) by) → All P (take i by) × P (get_or by i d)
 front_of P by i d lt h = (take_front P by i d lt h, take_last P by i d lt h)

@@ -4,50 +4,19 @@ use Rattle.std.specs.Prelude.{unsigned_abs, FitsSigned}
 use Rattle.std.specs.Int.{w128}
 use Rattle.std.proofs.lemmas.Bool.{cases_lt}
 use Rattle.std.proofs.lemmas.List.{get_or_append_left, get_or_push}
-use Rattle.affc_rows.specs.Forms.{Affine}
-use Rattle.affc_farkas.specs.Multiples.{entry_of}
 use Rattle.std.specs.Int.RustNames.{int_div, int_rem}
 use Rattle.std.proofs.lemmas.Int.{ints, to_z-of_z, quot-rem, rem_below, unsigned_abs-mul}
 use lib.IntN.{*ℤ_comm}
 use Rattle.affc_rows.proofs.IntLemmas.{mul-add}
-use Rattle.affc_eliminate.specs.Mixtures.{PassesSigned, IsQuotient}
+use Rattle.affc_eliminate.specs.Mixtures.{PassesSigned}
 use Rattle.affc_eliminate.proofs.Rooms.{mul-neg}
 
 -- ---- Products by sign
 
-pub up_product : (s : ℕ) (a : ℤ) → pos 0 ≤ℤ a → pos s *ℤ a ≡ pos (s * unsigned_abs a)
-up_product s (pos m) h = refl
-up_product s (negsuc m) h = absurd (omega (arith, ints))
-
-pub down_product : (s : ℕ) (a : ℤ) → a <ℤ pos 0 → pos s *ℤ a ≡ neg_ℤ (pos (s * unsigned_abs a))
-down_product s (pos m) h = absurd (omega (arith, ints))
-down_product s (negsuc m) h = mul-neg (pos s) (pos (suc m))
-
-two_down : (p q : ℕ) → neg_ℤ (pos p) +ℤ neg_ℤ (pos q) ≡ neg_ℤ (pos (p + q))
-two_down p q = omega (arith, ints)
-
 turned : (p q : ℕ) → neg_ℤ (pos p) +ℤ pos q ≡ pos q +ℤ neg_ℤ (pos p)
 turned p q = omega (arith, ints)
 
-pub both_up : (s : ℕ) (a : ℤ) (t : ℕ) (b : ℤ) → pos 0 ≤ℤ a → pos 0 ≤ℤ b → (pos s *ℤ a) +ℤ (pos t *ℤ b) ≡ pos (s * unsigned_abs a + t * unsigned_abs b)
-both_up s a t b h k = ap (λ z. z +ℤ (pos t *ℤ b)) (up_product s a h) ∙ ap (λ z. pos (s * unsigned_abs a) +ℤ z) (up_product t b k)
-
-pub both_down : (s : ℕ) (a : ℤ) (t : ℕ) (b : ℤ) → a <ℤ pos 0 → b <ℤ pos 0 → (pos s *ℤ a) +ℤ (pos t *ℤ b) ≡ neg_ℤ (pos (s * unsigned_abs a + t * unsigned_abs b))
-both_down s a t b h k = ap (λ z. z +ℤ (pos t *ℤ b)) (down_product s a h) ∙ ap (λ z. neg_ℤ (pos (s * unsigned_abs a)) +ℤ z) (down_product t b k) ∙ two_down (s * unsigned_abs a) (t * unsigned_abs b)
-
-pub first_up : (s : ℕ) (a : ℤ) (t : ℕ) (b : ℤ) → pos 0 ≤ℤ a → b <ℤ pos 0 → (pos s *ℤ a) +ℤ (pos t *ℤ b) ≡ pos (s * unsigned_abs a) +ℤ neg_ℤ (pos (t * unsigned_abs b))
-first_up s a t b h k = ap (λ z. z +ℤ (pos t *ℤ b)) (up_product s a h) ∙ ap (λ z. pos (s * unsigned_abs a) +ℤ z) (down_product t b k)
-
-pub second_up : (s : ℕ) (a : ℤ) (t : ℕ) (b : ℤ) → a <ℤ pos 0 → pos 0 ≤ℤ b → (pos s *ℤ a) +ℤ (pos t *ℤ b) ≡ pos (t * unsigned_abs b) +ℤ neg_ℤ (pos (s * unsigned_abs a))
-second_up s a t b h k = ap (λ z. z +ℤ (pos t *ℤ b)) (down_product s a h) ∙ ap (λ z. neg_ℤ (pos (s * unsigned_abs a)) +ℤ z) (up_product t b k) ∙ turned (s * unsigned_abs a) (t * unsigned_abs b)
-
 -- ---- Sums that pass
-
-pub passes_up : (p : ℕ) → 2 ^ 128 ≤ p → PassesSigned (pos p)
-passes_up p h = inr (omega (arith, ints))
-
-pub passes_down : (p : ℕ) → 2 ^ 128 ≤ p → PassesSigned (neg_ℤ (pos p))
-passes_down p h = inl (omega (arith, ints))
 
 far_below : (p q : ℕ) → p + 2 ^ 128 ≤ q → (pos p +ℤ neg_ℤ (pos q)) <ℤ neg_ℤ (pos (2 ^ 127))
 far_below p q h = omega (arith, ints)
@@ -68,15 +37,6 @@ pub below_is : (p q v : ℕ) → v + p ≡ q → pos p +ℤ neg_ℤ (pos q) ≡ 
 below_is p q v e = omega (arith, ints)
 
 -- ---- The difference of two products by their halves
-
-pub same_halves : (low high lower upper p q v : ℕ) → low + high * 2 ^ 128 ≡ p → lower + upper * 2 ^ 128 ≡ q → high ≡ upper → v + lower ≡ low → v + q ≡ p
-same_halves low high lower upper p q v a b h e = omega arith
-
-pub same_halves_less : (low high lower upper p q : ℕ) → low + high * 2 ^ 128 ≡ p → lower + upper * 2 ^ 128 ≡ q → high ≡ upper → low < lower → p < q
-same_halves_less low high lower upper p q a b h e = omega arith
-
-pub next_half : (low high lower upper p q v : ℕ) → low + high * 2 ^ 128 ≡ p → lower + upper * 2 ^ 128 ≡ q → high ≡ upper + 1 → low < lower → v + lower ≡ low + 2 ^ 128 → v + q ≡ p
-next_half low high lower upper p q v a b h l e = omega arith
 
 pub other_halves : (low high lower upper p q : ℕ) → low < 2 ^ 128 → lower < 2 ^ 128 → low + high * 2 ^ 128 ≡ p → lower + upper * 2 ^ 128 ≡ q
     → (high < upper) ⊎ ((upper + 2 ≤ high) ⊎ ((high ≡ upper + 1) × (lower ≤ low))) → (p < q) ⊎ (q + 2 ^ 128 ≤ p)
@@ -129,13 +89,3 @@ quotients_more divisor entry old new column part l e h k j lt =
       | inl m ↦ ap (λ z. pos divisor *ℤ z) (get_or_append_left old (part ∷ []) (pos 0) j (subst (λ n. j < n) (sym l) m)) ∙ h j m
       | inr m ↦ let same : column ≡ j = omega arith in ap (λ z. pos divisor *ℤ z) (get_or_push old part (pos 0) j (l ∙ same)) ∙ k ∙ ap entry same
     ]
-
--- the whole row
-pub quotient_row : (divisor s : ℕ) (f : Affine) (t : ℕ) (g : Affine) (coefs : List ℤ) (constant : ℤ) → length coefs ≡ length f.coefs
-    → ((j : ℕ) → j < length f.coefs → pos divisor *ℤ get_or coefs j (pos 0) ≡ (pos s *ℤ entry_of f j) +ℤ (pos t *ℤ entry_of g j))
-    → pos divisor *ℤ constant ≡ (pos s *ℤ entry_of f (length f.coefs)) +ℤ (pos t *ℤ entry_of g (length f.coefs))
-    → IsQuotient divisor s f t g (record { coefs = coefs; constant = constant })
-quotient_row divisor s f t g coefs constant w h k =
-    let n = length f.coefs in
-    let more = quotients_more divisor (λ j. (pos s *ℤ entry_of f j) +ℤ (pos t *ℤ entry_of g j)) coefs (coefs ++ constant ∷ []) n constant w refl h k in
-    record { width = w; entries = λ j le. more j (omega arith) }

@@ -53,17 +53,8 @@ zeros-at zero (suc j) = refl
 zeros-at (suc n) zero = refl
 zeros-at (suc n) (suc j) = zeros-at n j
 
-sum-none : (columns : ℕ) (rows : List Affine) (by : List (ℕ × ℕ)) (n j : ℕ) → length by ≤ n → entry_of (multiple_sum columns rows (drop n by)) j ≡ pos 0
-sum-none columns rows [] zero j h = zeros-at columns j
-sum-none columns rows [] (suc n) j h = zeros-at columns j
-sum-none columns rows (p ∷ ps) zero j h = absurd (omega arith)
-sum-none columns rows (p ∷ ps) (suc n) j h = sum-none columns rows ps n j (omega arith)
-
 ended : (a b w : ℤ) → b ≡ pos 0 → a +ℤ b ≡ w → a ≡ w
 ended a b w z e = omega (arith, ints)
-
-pub sum-end : (columns : ℕ) (rows : List Affine) (by : List (ℕ × ℕ)) (n j : ℕ) (sum whole : ℤ) → length by ≤ n → sum +ℤ entry_of (multiple_sum columns rows (drop n by)) j ≡ whole → sum ≡ whole
-sum-end columns rows by n j sum whole h e = let z = sum-none columns rows by n j h in ended sum _ whole z e
 
 pub part_step : (new old term left rest whole : ℤ) → new ≡ old +ℤ term → left ≡ term +ℤ rest → old +ℤ left ≡ whole → new +ℤ rest ≡ whole
 part_step new old term left rest whole n l w = ap (λ z. z +ℤ rest) n ∙ +ℤ_assoc old term rest ∙ ap (λ z. old +ℤ z) (sym l) ∙ w

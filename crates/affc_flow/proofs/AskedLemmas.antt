@@ -5,8 +5,7 @@ use Rattle.std.proofs.lemmas.Bool.{eq-eqb, eqb-true}
 use Rattle.std.proofs.lemmas.Option.{same_Some}
 use Rattle.std.proofs.lemmas.List.Elements.{All-head, All-tail}
 use Rattle.affc_rows.specs.Forms.{Affine, HaveColumns}
-use Rattle.affc_system.specs.Boxes.{InBox}
-use Rattle.affc_system.specs.Systems.{Rows, IsPoint}
+use Rattle.affc_system.specs.Systems.{Rows}
 use Rattle.affc_ast.specs.declared.tree.Rel.TheVariants.{Less, Greater}
 use Rattle.affc_trace.specs.Inverses.{columns_from}
 use Rattle.affc_trace.specs.Law.{IsIn}
@@ -31,7 +30,7 @@ use Rattle.affc_quast.specs.Leaves.{Leaf, padded, negated}
 use Rattle.affc_flow.specs.Asked.{on, outside, apart, beside_system, before, after, earlier, between, reader_same, not_earlier, all_between, all_named, input_asked}
 use Rattle.affc_flow.specs.Laws.{NoneHasAPoint}
 use Rattle.affc_flow.specs.Questions as asks
-use Rattle.affc_flow.specs.Questions.{Question, Writer, is_temporary, writers, poses}
+use Rattle.affc_flow.specs.Questions.{Writer, is_temporary, writers, poses}
 use Rattle.affc_flow.specs.Writers.{Writes}
 use Rattle.affc_flow.proofs.WriterLemmas.{from_writers, to_writers}
 
@@ -279,7 +278,3 @@ module _ (nest : Nest) (n : IsNest nest) (e : Entry) (i : IsIn e nest.entries) (
 
 pub none_of_none : NoneHasAPoint []
 none_of_none q i = absurd i
-
-pub none_of_more : (q : Question) (qs : List Question) → ((point : List ℤ) → InBox q.ranges point → IsPoint q.system point → ⊥) → NoneHasAPoint qs → NoneHasAPoint (q ∷ qs)
-none_of_more q qs h g r (inl e) point b m = h point (subst (λ (z : Question). InBox z.ranges point) e b) (subst (λ (z : Question). IsPoint z.system point) e m)
-none_of_more q qs h g r (inr i) point b m = g r i point b m

@@ -1,7 +1,7 @@
 -- The systems of products, by the choices of their factors.
 use Rattle.std.proofs.Common.{◌≡◌, ◌≢◌, ℕ, ◌+◌, ◌-◌, ◌*◌, ◌≤◌, ◌<◌, ℤ, List, [], ◌∷◌, ◌++◌, length, take, drop, Bool, true, false, IsTrue, map, flat_map, get_or, append_assoc, refl, sym, ap, ap₂, subst, ◌∙◌, arith, length-append}
 use Rattle.std.specs.List.{All, AllByRecursion as Each}
-use Rattle.std.proofs.lemmas.List.{map-append, append-nil, take_all}
+use Rattle.std.proofs.lemmas.List.{map-append, take_all}
 use Rattle.std.proofs.lemmas.List.Elements.{All-nil, All-cons, All-head, All-tail}
 use Rattle.affc_rows.specs.Forms.{Affine}
 use Rattle.affc_system.specs.Boxes.{InBox}
@@ -54,11 +54,6 @@ choices_more base rows alternatives u others later e =
     ap (λ us. choices_behind base rows (us ∷ later)) e
     ∙ map-append (with_more base rows) (map (λ v. u ++ v) (choices later)) (choices (others ∷ later))
     ∙ ap (λ ss. ss ++ choices_behind base rows (others ∷ later)) (maps_behind base rows u (choices later))
-
--- the one behind which no factor is left
-pub choice_alone : (base : PairSystem) (region : Region) (factors : List (List (List Affine))) → factors ≡ [] → chosen_system base region ∷ [] ≡ choices_behind base region.system.rows factors
-choice_alone base region factors e =
-    ap (λ (rs : List Affine). record base { system = record base.system { rows = rs } } ∷ []) (sym (append-nil region.system.rows)) ∙ ap (choices_behind base region.system.rows) (sym e)
 
 -- the region's system is the one that is chosen
 pub the_system : (base : PairSystem) (region : Region) → IsOver base region → region.system ≡ (chosen_system base region).system

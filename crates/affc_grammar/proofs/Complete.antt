@@ -26,9 +26,6 @@ EndsIx rest = NotNext sum_sign rest × NotNext (this_mark (codes "*")) rest × E
 
 -- ---- Whole-number expressions
 
-abbrev inner_of : (calls : Bool) → ℕ → Reader Symbol (IxText calls)
-inner_of calls room = ix_inside calls room
-
 called_on : (room : ℕ) (f : Callee) {ts rest : List Symbol} {a : AtomText true} → Gets (read_call (ix_inside true room) f) ts a rest → Gets (read_called (ix_inside true room) (callee_name f) (choose callees (callee_name f))) (mark (codes "(") ∷ ts) a rest
 called_on room f {ts} {rest} {a} h = subst (λ o. Gets (read_called (ix_inside true room) (callee_name f) o) (mark (codes "(") ∷ ts) a rest) (sym (callee_passes f)) (gets_on _ _ _ refl h)
 
@@ -51,9 +48,6 @@ not_minus (g.name w) rest = refl
 not_minus (g.grouped a) rest = refl
 not_minus (g.chosen h f a b) rest = refl
 not_minus (g.divided h f a by k) rest = refl
-
-sign_ends : (b : Bool) (ts : List Symbol) → EndsTerm (mark (codes "+") ∷ ts)
-sign_ends b ts = (refl, refl)
 
 times_reader : (calls : Bool) (room : ℕ) (x : Symbol) (k : Unit {0}) → this_mark (codes "*") x ≡ Some k → (a : TermText calls) → IsReader (times_more calls (ix_inside calls room) k a)
 times_reader calls room x k q a = (times_rule (ix_inside_rule calls room) k a).reader

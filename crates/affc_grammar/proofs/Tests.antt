@@ -305,7 +305,3 @@ head_word false = codes "if"
 
 pub head_is : (w : Name) (is_for : Bool) → choose head_words w ≡ Some is_for → w ≡ head_word is_for
 head_is = chosen_bytes head_word head_words (refl, (refl, tt))
-
-pub head_passes : (is_for : Bool) → choose head_words (head_word is_for) ≡ Some is_for
-head_passes true = refl
-head_passes false = refl

@@ -11,9 +11,6 @@ use Rattle.affc_interp.specs.Budget.{Run, OutOfSteps, after, stuck_or, once, tur
 pub read_so : (node : ℕ) (z y : ℤ) → ◌≡◌ {A = Result ℤ Cause} (Ok y) (in_int64 node z) → (is_int64 z ≡ true) × (y ≡ z)
 read_so node z y e = elim (is_int64 z) as (λ (t : Bool). ◌≡◌ {A = Result ℤ Cause} (Ok y) (if t then Ok z else Err (Overflow node)) → (t ≡ true) × (y ≡ z)) [ true ↦ λ h. (refl, cc) | false ↦ λ h. cc ] e
 
-pub read_when : (node : ℕ) (z : ℤ) → is_int64 z ≡ true → in_int64 node z ≡ Ok z
-read_when node z e = ap (λ (t : Bool). if t then Ok z else Err (Overflow node)) e
-
 module _ (limit node : ℕ) (body : ℤ → Store → ℕ → Run) where
   abbrev on : ℕ → ℤ → Store → ℕ → Run
   on count x store n = after (body x store n) (λ left m. stuck_or (in_int64 node (x +ℤ pos 1)) (λ next. turns_within limit node count next body left m))

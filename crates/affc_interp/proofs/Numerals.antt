@@ -6,7 +6,7 @@ use Rattle.std.proofs.lemmas.Fmt.{digits_decimal, digits_value-decimal, decimal-
 use Rattle.std.proofs.lemmas.Str.Parse.{IsDigitsTest, FoldsDigits, IsNumeralModel, numerals_by_fold}
 use Rattle.std.proofs.lemmas.Bool.{and_parts, eq-eqb, not-true, true≢false}
 use Rattle.std.proofs.lemmas.Bool.Decides.{nat_tests}
-use Rattle.std.specs.Prelude.{IsTrue, codes, neg_ℤ}
+use Rattle.std.specs.Prelude.{IsTrue, codes}
 use Rattle.affc_ast.specs.Index.{is_int64}
 use Rattle.affc_lex.specs.Bytes.{is_digit, next_is, begins, decimal as value_of}
 use Rattle.affc_lex.proofs.Lists.{run_at, run_stops}
@@ -125,11 +125,6 @@ one_integer text (negsuc m) (negsuc n) rest more p q =
     let u = one_natural (drop 1 text) (suc m) (suc n) rest more (omega (arith, small_negative m p.0), p.1, ap (drop 1) p.2) (omega (arith, small_negative n q.0), q.1, ap (drop 1) q.2) in
     (ap negsuc (omega (arith, u.0)), u.1)
 
-pub negative_here : (text rest : List ℕ) (n : ℕ) (z : ℤ) → IsNatural text n rest → 0 < n → n ≤ 2 ^ 63 → z ≡ neg_ℤ (pos n) → IsInteger (45 ∷ text) z rest
-negative_here text rest zero z p some small is = absurd (omega arith)
-negative_here text rest (suc n) z p some small is =
-    subst (λ y. IsInteger (45 ∷ text) y rest) (sym is) (below n (omega arith), p.1, ap (λ l. 45 ∷ l) p.2)
-
 pub negative_only : (text rest : List ℕ) (z : ℤ) → IsInteger (45 ∷ text) z rest → (n : ℕ) × IsNatural text n rest × (0 < n) × (n ≤ 2 ^ 63)
 negative_only text rest (pos n) p = absurd (unsigned n rest text (omega (arith, small_positive n p.0)) (sym p.2))
 negative_only text rest (negsuc n) p = (suc n, (omega (arith, small_negative n p.0), p.1, ap (drop 1) p.2), omega arith, omega (arith, small_negative n p.0))
@@ -156,15 +151,9 @@ no_minus (x ∷ xs) h = by_test (45 == x) refl
     by_test true e = absurd (h xs (ap (λ n. n ∷ xs) (sym (same e))))
     by_test false e = refl
 
-pub positive_here : (text rest : List ℕ) (n : ℕ) (z : ℤ) → IsNatural text n rest → n < 2 ^ 63 → z ≡ pos n → IsInteger text z rest
-positive_here text rest n z p small is = subst (λ y. IsInteger text y rest) (sym is) (below n small, p.1, p.2)
-
 pub positive_only : (text rest : List ℕ) (z : ℤ) → begins (codes "-") text ≡ false → IsInteger text z rest → (n : ℕ) × IsNatural text n rest × (n < 2 ^ 63)
 positive_only text rest (pos n) plain p = (n, (omega (arith, small_positive n p.0), p.1, p.2), small_positive n p.0)
 positive_only text rest (negsuc n) plain p = absurd (true≢false (sym (ap (begins (codes "-")) p.2) ∙ plain))
-
-pub no_positive : (text : List ℕ) → begins (codes "-") text ≡ false → NoNatural text → NoInteger text
-no_positive text plain none z rest p = let q = positive_only text rest z plain p in none q.0 rest q.1
 
 pub no_large_positive : (text rest : List ℕ) (n : ℕ) → begins (codes "-") text ≡ false → IsNatural text n rest → (n < 2 ^ 63 → ⊥) → NoInteger text
 no_large_positive text rest n plain here out z more p =

@@ -1,9 +1,9 @@
 -- The output lines, by the arrays' cells.
-use Rattle.std.proofs.Common.{◌≡◌, ℕ, zero, suc, ◌+◌, ◌<◌, ℤ, Bool, true, false, cond, decimal, if◌then◌else◌, nat_eq, List, [], ◌∷◌, ◌++◌, length, map, drop, take, get_or, Option, Some, None, Result, refl, sym, ap, subst, ◌∙◌, arith, append_assoc}
-use Rattle.std.specs.Prelude.{filter, slice_get, codes, OnOk}
+use Rattle.std.proofs.Common.{◌≡◌, ℕ, zero, suc, ◌+◌, ◌<◌, ℤ, Bool, true, false, cond, decimal, if◌then◌else◌, nat_eq, List, [], ◌∷◌, ◌++◌, length, map, drop, take, get_or, Option, Some, None, refl, sym, ap, subst, ◌∙◌, arith, append_assoc}
+use Rattle.std.specs.Prelude.{filter, slice_get, codes}
 use Rattle.std.proofs.lemmas.List.{take_more}
 use Rattle.affc_ast.specs.declared.tree.Param.{Param}
-use Rattle.affc_ast.specs.declared.tree.Param.TheVariants.{Array, Number}
+use Rattle.affc_ast.specs.declared.tree.Param.TheVariants.{Array}
 use Rattle.std.proofs.lemmas.Bool.{eq-eqb}
 use Rattle.std.proofs.lemmas.Bool.Decides.{nat_tests}
 use Rattle.std.proofs.Math.ListN.{length-map}
@@ -187,9 +187,6 @@ pub written_output : (params : List Param) (others : List Param) (d : Decl) (css
 written_output params others d css rest o0 o1 o2 cells e c r f g =
     g ∙ ap (λ l. l ++ lines_held (arrays_of others) rest) f ∙ append_assoc o0 (line_held d cells) (lines_held (arrays_of others) rest)
     ∙ (λ i. o0 ++ (line_held d (c i) ++ lines_held (arrays_of others) (r i))) ∙ ap (λ ps. o0 ++ lines_held (arrays_of ps) css) (sym e)
-
-pub written_number : {E : Type 0} (r : Result (Unit {0}) E) (params others : List Param) (name : List ℕ) (low high : ℤ) (css : List (List (Option ℕ))) (o0 o1 : List ℕ) → params ≡ Number name low high ∷ others → OnOk r (o1 ≡ o0 ++ lines_held (arrays_of others) css) → OnOk r (o1 ≡ o0 ++ lines_held (arrays_of params) css)
-written_number r params others name low high css o0 o1 e h = subst (λ ps. OnOk r (o1 ≡ o0 ++ lines_held (arrays_of ps) css)) (sym e) h
 
 pub outputs_written : (program : Program) (params : List Param) (bs : List Buffer) (held : Held) (o0 o1 : List ℕ) → params ≡ program.params → AreWhole bs → held ≡ held_in bs → o0 ≡ [] → o1 ≡ o0 ++ lines_held (arrays_of params) (cells_of bs) → o1 ≡ output_text program (outputs program held.store)
 outputs_written program params bs held o0 o1 p w h e f =

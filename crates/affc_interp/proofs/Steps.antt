@@ -2,10 +2,9 @@
 use Rattle.std.proofs.Common.{◌≡◌, ℕ, suc, ◌+◌, ℤ, List, Ok, refl, sym, ap, ◌∙◌, arith, rules}
 use denote.Bor.{Bor}
 use Rattle.affc_ast.specs.declared.tree.Ix.{Ix, out-Ix, map-Ix, the_lemmas as ix_lemmas}
-use Rattle.affc_ast.specs.declared.tree.Ix.TheVariants.{Lit, Name, Neg, Add, Sub, Mul, Min, Max, Floord, Ceild, Mod}
+use Rattle.affc_ast.specs.declared.tree.Ix.TheVariants.{Neg, Add, Sub, Mul, Min, Max, Floord, Ceild, Mod}
 use Rattle.affc_ast.specs.declared.tree.Ix.TheOpen as layer
 use Rattle.affc_ast.specs.declared.tree.Ix.TheOpen.{Ix-F}
-use Rattle.affc_ast.specs.declared.tree.NameId.{NameId}
 use Rattle.affc_ast.specs.Cause.{◌>>=◌}
 use Rattle.affc_ast.specs.Index.{index_step, nodes_of_ix, index_value}
 use Rattle.affc_ast.specs.Recursion.{by_ix}
@@ -40,12 +39,6 @@ module _ (e : Ix) (l : Ix-F Ix) (is : out-Ix e ≡ l) where
 
 -- ---- As the code takes an expression apart
 
-literal_out : (n : ℤ) → out-Ix (Lit n) ≡ layer.Lit n
-literal_out n = first_of (simp ix_lemmas, search (rules, ix_lemmas))
-
-name_out : (x : NameId) → out-Ix (Name x) ≡ layer.Name x
-name_out x = first_of (simp ix_lemmas, search (rules, ix_lemmas))
-
 neg_out : (a : Ix) → out-Ix (Neg a) ≡ layer.Neg a
 neg_out a = first_of (simp ix_lemmas, search (rules, ix_lemmas))
 
@@ -72,12 +65,6 @@ max_out a b = first_of (simp ix_lemmas, search (rules, ix_lemmas))
 
 mod_out : (a b : Ix) → out-Ix (Mod a b) ≡ layer.Mod a b
 mod_out a b = first_of (simp ix_lemmas, search (rules, ix_lemmas))
-
-pub literal_atom : (e : Ix) (n : ℤ) → e ≡ Lit n → IsAtom e
-literal_atom e n is = atom e (layer.Lit n) (ap out-Ix is ∙ literal_out n) refl refl
-
-pub name_atom : (e : Ix) (x : NameId) → e ≡ Name x → IsAtom e
-name_atom e x is = atom e (layer.Name x) (ap out-Ix is ∙ name_out x) refl refl
 
 -- on one expression, which the code reaches as a
 pub opposite_step : (e x a : Ix) → e ≡ Neg x → a ≡ x → IsStep e a Opposite

@@ -44,10 +44,6 @@ one_is (Err Wide) w f g h k u = tt
 no_first : (x y : Bool) → x ≡ false → (x && y) ≡ false
 no_first x y e = ap (λ b. b && y) e
 
-no_second : (x y : Bool) → y ≡ false → (x && y) ≡ false
-no_second true y e = e
-no_second false y e = refl
-
 both_is : (r s : Result ℤ NoWhole) (v w : Whole) (f : ℤ → ℤ → Result ℤ NoWhole) (g : Whole → Whole → Whole) → IsWhole r v → IsWhole s w → ((y z : ℤ) → IsWhole (f y z) (g (is_number y) (is_number z)))
     → (v.defined ≡ false → (g v w).defined ≡ false) → ((y : ℤ) → w.defined ≡ false → (g (is_number y) w).defined ≡ false) → IsWhole (with_one r (λ x. with_one s (f x))) (g v w)
 both_is r s v w f g h k fg first second = one_is r v (λ y. with_one s (f y)) (λ u. g u w) h (λ y. one_is s w (f y) (g (is_number y)) k (fg y) (second y)) first

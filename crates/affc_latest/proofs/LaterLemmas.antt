@@ -1,8 +1,8 @@
 -- The later of two instances, and the latest of more and more of them.
-use Rattle.std.proofs.Common.{◌≡◌, ℕ, ◌+◌, ℤ, Bool, true, false, true≢false, IsTrue, List, [], ◌∷◌, ◌++◌, length, Option, Some, None, refl, sym, ap, subst, ◌∙◌, ◌⊎◌, inl, inr, arith}
+use Rattle.std.proofs.Common.{◌≡◌, ℕ, ◌+◌, ℤ, Bool, true, false, true≢false, List, [], ◌∷◌, ◌++◌, length, Option, Some, None, refl, sym, ap, subst, ◌∙◌, ◌⊎◌, inl, inr, arith}
 use Rattle.std.specs.Prelude.{◌↔◌, IfSome, ◌<◌}
 use Rattle.std.proofs.lemmas.Option.{slice_get_within}
-use Rattle.affc_system.specs.Systems.{Rows, IsPoint}
+use Rattle.affc_system.specs.Systems.{Rows}
 use Rattle.affc_ast.specs.declared.tree.Instance.{Instance}
 use Rattle.affc_ast.specs.declared.tree.Program.{Program}
 use Rattle.affc_ast.specs.Trace.{trace}
@@ -28,22 +28,6 @@ use Rattle.affc_latest.specs.Stores.{IsNumbered, IsWriterAt, IsLaterOf}
 use Rattle.affc_latest.proofs.LatestLemmas.{later_of_two, either_order, only_second}
 
 -- ---- A point of one of some systems
-
-pub none_meets : (systems : List Rows) (point : List ℤ) → length systems ≡ 0 → IsTrue false ↔ IsPointOfOne systems point
-none_meets [] point e = ((λ t. absurd (cc)), λ o. absurd o.there)
-none_meets (s ∷ ss) point e = absurd (omega (arith, e))
-
-pub first_meets : (systems rest : List Rows) (s : Rows) (point : List ℤ) → systems ≡ s ∷ rest → IsPoint s point → IsTrue true ↔ IsPointOfOne systems point
-first_meets systems rest s point e m = ((λ t. subst (λ ss. IsPointOfOne ss point) (sym e) (record { system = s; there = inl refl; meets = m })), λ o. refl)
-
-pub rest_meets : (systems rest : List Rows) (s : Rows) (point : List ℤ) → systems ≡ s ∷ rest → (IsPoint s point → ⊥) → (t : Bool) → IsTrue t ↔ IsPointOfOne rest point → IsTrue t ↔ IsPointOfOne systems point
-rest_meets systems rest s point e m t h =
-    subst (λ ss. IsTrue t ↔ IsPointOfOne ss point) (sym e)
-    ((λ k. let o = h.0 k in record { system = o.system; there = inr o.there; meets = o.meets }), λ o. h.1 (shorter o.system o.there o.meets))
-  where
-    shorter : (q : Rows) → IsIn q (s ∷ rest) → IsPoint q point → IsPointOfOne rest point
-    shorter q (inl k) n = absurd (m (subst (λ r. IsPoint r point) k n))
-    shorter q (inr i) n = record { system = q; there = i; meets = n }
 
 -- ---- Two instances at the columns of their orders
 
@@ -81,10 +65,6 @@ systems_wide nest p point u w systems l a b e f =
   where
     sum : (a b c m k n : ℕ) → a ≡ m → b ≡ k → c ≡ n → a + (b + c) ≡ (m + k) + n
     sum a b c m k n e f g = omega (arith, e, f, g)
-
-pub at_their_point : (nest : Nest) (p point : List ℤ) (u w : Instance) (systems : List Rows) (t : Bool) → systems ≡ source_systems nest u.statement w.statement → point ≡ p ++ (u.iterators ++ w.iterators)
-    → IsTrue t ↔ IsPointOfOne systems point → IsTrue t ↔ IsPointOfOne (source_systems nest u.statement w.statement) (p ++ (u.iterators ++ w.iterators))
-at_their_point nest p point u w systems t e f h = subst (λ ss. IsTrue t ↔ IsPointOfOne ss (p ++ (u.iterators ++ w.iterators))) e (subst (λ zs. IsTrue t ↔ IsPointOfOne systems zs) f h)
 
 -- ---- The later
 

@@ -186,9 +186,3 @@ corner-drop' i (c ∷ cs) [] h k = absurd (omega arith)
 pub corner-drop : (i : ℕ) (cs : List ℤ) (bs : List Bound) → i < length cs → i < length bs
     → corner_rows (drop i cs) (drop i bs) ≡ corner_row (slice_index_or cs i (pos 0)) (bound_at bs i) ++ corner_rows (drop (i + 1) cs) (drop (i + 1) bs)
 corner-drop i cs bs h k = simp add-one (corner-drop' i cs bs h k)
-
-pub corner-end : (cs : List ℤ) (bs : List Bound) (n : ℕ) → length cs ≤ n → corner_rows (drop n cs) bs ≡ []
-corner-end [] bs zero h = refl
-corner-end [] bs (suc n) h = refl
-corner-end (c ∷ cs) bs zero h = absurd (omega arith)
-corner-end (c ∷ cs) bs (suc n) h = corner-end cs bs n (omega arith)

@@ -1,5 +1,5 @@
 -- The greatest values over boxes.
-use Rattle.std.proofs.Common.{◌≡◌, ℕ, zero, suc, ◌+◌, ◌<◌, ◌≤◌, List, [], ◌∷◌, length, drop, slice_index_or, ℤ, pos, negsuc, ◌+ℤ◌, ◌*ℤ◌, ◌≤ℤ◌, neg_ℤ, refl, ap, ◌∙◌, arith, inl, inr, add-one}
+use Rattle.std.proofs.Common.{◌≡◌, ℕ, zero, suc, ◌+◌, ◌<◌, List, [], ◌∷◌, length, drop, slice_index_or, ℤ, pos, negsuc, ◌+ℤ◌, ◌*ℤ◌, ◌≤ℤ◌, neg_ℤ, refl, ap, ◌∙◌, arith, inl, inr, add-one}
 use Rattle.std.proofs.lemmas.Int.{ints, by_lt_z}
 use Rattle.std.specs.List.{All}
 use lib.IntN.{*ℤ_comm}
@@ -20,12 +20,6 @@ top-drop' i (c ∷ cs) [] h k = absurd (omega arith)
 pub top-drop : (i : ℕ) (cs : List ℤ) (bs : List Bound) → i < length cs → i < length bs
     → top (drop i cs) (drop i bs) ≡ top_at (slice_index_or cs i (pos 0)) (bound_at bs i) +ℤ top (drop (i + 1) cs) (drop (i + 1) bs)
 top-drop i cs bs h k = simp add-one (top-drop' i cs bs h k)
-
-pub top-end : (cs : List ℤ) (bs : List Bound) (n : ℕ) → length cs ≤ n → top (drop n cs) bs ≡ pos 0
-top-end [] bs zero h = refl
-top-end [] bs (suc n) h = refl
-top-end (c ∷ cs) bs zero h = absurd (omega arith)
-top-end (c ∷ cs) bs (suc n) h = top-end cs bs n (omega arith)
 
 step_up : (c lo x : ℤ) (w u v : ℤ) → pos 0 ≤ℤ w → w ≡ u +ℤ v → v ≡ neg_ℤ (c *ℤ lo) → u ≡ c *ℤ x → (c *ℤ lo) ≤ℤ (c *ℤ x)
 step_up c lo x w u v h e f g = omega (arith, ints)

@@ -9,12 +9,11 @@ use Rattle.affc_ast.specs.declared.tree.Instance.{Instance}
 use Rattle.affc_trace.specs.declared.schedule.Schedule.{Schedule}
 use Rattle.affc_trace.specs.Law.{IsIn}
 use Rattle.affc_trace.proofs.EndedReads.{append_assoc}
-use Rattle.affc_trace.proofs.LastStores.{append_nil}
 use Rattle.affc_trace.proofs.Members.{to_first, to_second}
 use Rattle.affc_trace.proofs.Once.{in_append}
 use Rattle.affc_nest.specs.declared.nest.Entry.{Entry}
 use Rattle.affc_nest.specs.declared.nest.Nest.{Nest}
-use Rattle.affc_legal.specs.Answered.{IsShown, AreShown, Settles, spot_at, IsFoundAt, IsFirstOf, AreAnswered, IsNearer, question_on, AreRanges}
+use Rattle.affc_legal.specs.Answered.{AreShown, Settles, spot_at, IsFoundAt, IsFirstOf, AreAnswered, IsNearer, question_on, AreRanges}
 use Rattle.affc_sched.specs.Laws.{first_at, second_at}
 use Rattle.affc_sched.specs.Questions.{Question, Touch, questions_to, questions_with}
 use Rattle.affc_legal.specs.Violations.{spot_of}
@@ -77,9 +76,6 @@ module _ (nest : Nest) where
 
 -- ---- One question after the other
 
-pub answered_none : (nest : Nest) (qs : List Question) (old : List Proof) → qs ≡ [] → AreAnswered nest qs old old None
-answered_none nest qs old e = subst (λ xs. Settles xs old old) (sym e) (record { made = []; grown = sym (append_nil old); shown = tt })
-
 module _ {A : Type 0} (nest : Nest) (f : A → List Question) (xs rest : List A) (x : A) (front : xs ≡ x ∷ rest) where
   pub answered_next : (old mid new : List Proof) (a b c : Option Violation) → AreAnswered nest (f x) old mid a → AreAnswered nest (flat_map f rest) mid new b → IsNearer a b c
       → AreAnswered nest (flat_map f xs) old new c
@@ -96,9 +92,6 @@ answered_more nest f xs rest x front old mid new a b c h g n =
     subst (λ ys. AreAnswered nest (map f ys) old new c) (sym front) (answered_both nest (f x ∷ []) (map f rest) old mid new a b c h g n)
 
 -- ---- One question
-
-pub one_shown : (nest : Nest) (q : Question) (old new : List Proof) (proof : Proof) → new ≡ old ++ (proof ∷ []) → IsShown q proof → AreAnswered nest (q ∷ []) old new None
-one_shown nest q old new proof grown h = record { made = proof ∷ []; grown = grown; shown = (h, tt) }
 
 module _ (nest : Nest) (first second : Entry) (ranges : List (ℤ × ℤ)) (system : Rows) (are : AreRanges nest first ranges) (columns : length ranges ≡ system.columns) where
   abbrev placed_at : ℕ → List ℤ → Instance

@@ -47,11 +47,6 @@ lex_spots p q xs us ys vs s t l m h =
     subst (λ z. LexLe z (q ++ (us ++ (t ∷ vs)))) (append_assoc p xs (t ∷ ys)) (subst (LexLe ((p ++ xs) ++ (t ∷ ys))) (append_assoc q us (t ∷ vs)) two) in
     lex_between p q (xs ++ (t ∷ ys)) (us ++ (t ∷ vs)) s l three
 
--- the numbers of a pair as they are put together
-pub key_made : (p xs ys : List ℤ) (s t : ℤ) → (((p ++ s ∷ []) ++ xs) ++ t ∷ []) ++ ys ≡ p ++ (s ∷ (xs ++ (t ∷ ys)))
-key_made p xs ys s t =
-    append_assoc ((p ++ s ∷ []) ++ xs) (t ∷ []) ys ∙ append_assoc (p ++ s ∷ []) xs (t ∷ ys) ∙ append_assoc p (s ∷ []) (xs ++ (t ∷ ys))
-
 -- ---- Points
 
 module _ (nest : Nest) (q : Question) where

@@ -277,12 +277,6 @@ stop_is_fault text found at s = of_found found s.found_is (subst (FoundAt (spot 
         }))))
         h
 
-fault_after : (at : ℕ) (found : Found) → is_piece found ≡ false → at ≤ fault_place (fault_of at found)
-fault_after at (a_piece what n) e = absurd (true≢false e)
-fault_after at (Bad n) e = omega arith
-fault_after at Open e = omega arith
-fault_after at Long e = omega arith
-
 -- and no other fault that shows a stop stands before it
 stop_is_first : (text : List ℕ) (found : Found) (at : ℕ) (other : LexFault) → Stops text found at → Shown text other → fault_place (fault_of at found) ≤ fault_place other
 stop_is_first text found at other s o =

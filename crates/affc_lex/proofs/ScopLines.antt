@@ -1,8 +1,8 @@
 -- Tokens left out of a list, from its beginning on.
 use Rattle.std.proofs.Common.{◌≡◌, ℕ, suc, ◌+◌, ◌-◌, ◌<◌, ◌≤◌, true, false, List, [], ◌∷◌, ◌++◌, length, take, drop, set, get_or, refl, sym, ap, ◌∙◌, subst, arith, append_assoc}
 use Rattle.std.specs.List.{All}
-use Rattle.std.proofs.lemmas.List.{drop_more, drop_all, take_more_set, drop-set-lt, map_push, length-set, append-nil}
-use Rattle.std.proofs.lemmas.List.Elements.{All-take, All-set}
+use Rattle.std.proofs.lemmas.List.{drop_more, take_more_set, drop-set-lt, map_push, length-set}
+use Rattle.std.proofs.lemmas.List.Elements.{All-set}
 use Rattle.std.proofs.lemmas.Bool.{cond-true, cond-false}
 use Rattle.affc_lex.specs.declared.token.Kind.TheVariants.{Word}
 use Rattle.affc_lex.specs.declared.token.Token.{Token}
@@ -14,9 +14,6 @@ pub record Dropped (text : List ℕ) (old now : List Token) (at kept left : ℕ)
   pub behind : kept ≤ at
   pub same_length : length now ≡ length old
   pub within : All (IsIn (length text)) now
-
-pub dropped_start : (text : List ℕ) (tokens : List Token) → All (IsIn (length text)) tokens → Dropped text tokens tokens 0 0 0
-dropped_start text tokens within = record { so_far = refl; behind = omega arith; same_length = refl; within = within }
 
 -- the tokens from a place on, as the text shows them
 seen_more : (text : List ℕ) (now : List Token) (at : ℕ) (d : Token) → at < length now → lexemes text (drop at now) ≡ lexeme text (get_or now at d) ∷ lexemes text (drop (at + 1) now)
@@ -60,14 +57,6 @@ dropped_kept text old now at kept x so inside no_line x_is =
       same_length = length-set now kept x ∙ so.same_length;
       within = All-set (IsIn (length text)) now kept x (subst (IsIn (length text)) (sym x_is) (so.within at x inside)) so.within;
     }
-
-pub dropped_all : (text : List ℕ) (old now : List Token) (at kept left : ℕ) → Dropped text old now at kept left → length now ≤ at → lexemes text (take kept now) ≡ without_scop_lines 0 (lexemes text old)
-dropped_all text old now at kept left so past =
-    let nothing : drop at now ≡ [] = drop_all at now past in
-    sym (so.so_far ∙ ap (λ ts. lexemes text (take kept now) ++ without_scop_lines left (lexemes text ts)) nothing ∙ append-nil (lexemes text (take kept now)))
-
-pub dropped_within : (text : List ℕ) (old now : List Token) (at kept left : ℕ) → Dropped text old now at kept left → All (IsIn (length text)) (take kept now)
-dropped_within text old now at kept left so = All-take (IsIn (length text)) kept now so.within
 
 pub dropped_as : (text : List ℕ) (old now now' : List Token) (at kept kept' left left' : ℕ) → now' ≡ now → kept' ≡ kept → left' ≡ left → Dropped text old now at kept left → Dropped text old now' at kept' left'
 dropped_as text old now now' at kept kept' left left' e f g so =

@@ -2,16 +2,14 @@
 use Rattle.std.proofs.Common.{◌≡◌, List, [], ◌∷◌, ◌++◌, map, flat_map, append_assoc, refl, sym, ap, ◌∙◌}
 use Rattle.std.proofs.lemmas.List.{append-nil}
 use Rattle.affc_rows.specs.Forms.{Affine}
-use Rattle.affc_system.specs.Systems.{Rows}
 use Rattle.affc_ast.specs.declared.tree.Rel.TheVariants.{Less, Greater, Equal}
 use Rattle.affc_nest.specs.Domains.{compare_rows}
 use Rattle.affc_products.specs.Blocks.{choices}
 use Rattle.affc_life.specs.declared.draft.Draft.{Draft}
-use Rattle.affc_life.specs.Clashes.{apart_rows, between_rows}
-use Rattle.affc_life.specs.Drafts.{drafted, draft_by, rows_in}
+use Rattle.affc_life.specs.Clashes.{apart_rows}
+use Rattle.affc_life.specs.Drafts.{drafted, draft_by}
 use Rattle.affc_life.proofs.ChoiceLemmas.{flat_one, map_twice, flat_same, one_factor, first_factor}
 use Rattle.affc_life.proofs.SeatedLemmas.{clash_by}
-use Rattle.affc_life.proofs.WalkLemmas.{between_is}
 
 -- ---- Elements that differ
 
@@ -36,11 +34,6 @@ between_lists front fs gs os us =
     (λ o. flat_same (λ u. apart_rows fs gs (front ++ (o ++ u))) (λ u. map (λ c. ((front ++ o) ++ u) ++ c) (choices last))
     (λ u. ap (apart_rows fs gs) (sym (append_assoc front o u)) ∙ all_apart fs gs ((front ++ o) ++ u)) us ∙ sym (first_factor (front ++ o) us last)) os
     ∙ sym (first_factor front os (us ∷ last))
-
--- the rows of clash systems are the front's with one choice behind them
-pub between_choices : (front : List Affine) (after before : List Rows) (fs gs : List Affine)
-    → between_rows front after before fs gs ≡ map (λ c. front ++ c) (choices (map rows_in after ∷ map rows_in before ∷ apart_rows fs gs [] ∷ []))
-between_choices front after before fs gs = sym (between_is front after before fs gs) ∙ between_lists front fs gs (map rows_in after) (map rows_in before)
 
 -- ---- Drafts
 

@@ -1,8 +1,8 @@
 -- Seeking an entry of lists one behind the other by its number.
-use Rattle.std.proofs.Common.{◌≡◌, ℕ, zero, suc, ◌+◌, ◌<◌, ◌≤◌, List, [], ◌∷◌, ◌++◌, length, map, flat_map, drop, get_or, Some, None, sym, ap, subst, ◌∙◌, arith}
+use Rattle.std.proofs.Common.{◌≡◌, ℕ, zero, suc, ◌+◌, ◌<◌, List, [], ◌∷◌, ◌++◌, length, map, flat_map, drop, get_or, Some, sym, ap, subst, ◌∙◌, arith}
 use Rattle.std.specs.Prelude.{slice_get}
 use Rattle.std.proofs.lemmas.List.{length-map}
-use Rattle.affc_trace.proofs.Runs.{slice_left, slice_right, length_append}
+use Rattle.affc_trace.proofs.Runs.{slice_left, slice_right}
 use Rattle.affc_domain.proofs.Lists.{to_mapped}
 use Rattle.affc_rows.specs.Forms.{Affine}
 use Rattle.affc_nest.specs.Domains.{with_rows}
@@ -17,7 +17,6 @@ use Rattle.affc_products.proofs.Eaches.{each_left}
 use Rattle.affc_life.specs.declared.clash.ClashProduct.{ClashProduct}
 use Rattle.affc_life.specs.Products.{systems_in}
 use Rattle.std.proofs.Math.Seq.{drop-cons}
-use Rattle.std.proofs.Math.ListN.{drop_of_length-le}
 
 -- how many steps seeking among choices takes at most
 abbrev pub steps : List (List (List Affine)) → ℕ
@@ -40,23 +39,6 @@ with_first alternatives rest factors first rows all number is a e =
     ap (λ us. slice_get (choices (us ∷ factors)) number) is
     ∙ in_first (map (λ v. first ++ v) (choices factors)) (choices (rest ∷ factors)) number (first ++ rows) (to_mapped (λ v. first ++ v) (choices factors) number rows e)
     ∙ ap Some (sym a)
-
--- one past those with the first alternative
-pub with_others : (alternatives rest : List (List Affine)) (factors : List (List (List Affine))) (first : List Affine) (number left : ℕ) → alternatives ≡ first ∷ rest
-    → number ≡ length (choices factors) + left → slice_get (choices (alternatives ∷ factors)) number ≡ slice_get (choices (rest ∷ factors)) left
-with_others alternatives rest factors first number left is e =
-    ap (λ us. slice_get (choices (us ∷ factors)) number) is
-    ∙ in_second (map (λ v. first ++ v) (choices factors)) (choices (rest ∷ factors)) number left (e ∙ ap (λ n. n + left) (sym (length-map (choices factors) (λ v. first ++ v))))
-
-pub past_others : (alternatives rest : List (List Affine)) (factors : List (List (List Affine))) (first : List Affine) (number left further : ℕ) → alternatives ≡ first ∷ rest
-    → number ≡ length (choices factors) + left → left ≡ length (choices (rest ∷ factors)) + further → number ≡ length (choices (alternatives ∷ factors)) + further
-past_others alternatives rest factors first number left further is e f =
-    more number (length (choices factors)) left (length (choices (rest ∷ factors))) further (length (map (λ v. first ++ v) (choices factors))) (length (choices ((first ∷ rest) ∷ factors)))
-    (length-map (choices factors) (λ v. first ++ v)) (length_append (map (λ v. first ++ v) (choices factors)) (choices (rest ∷ factors))) e f
-    ∙ ap (λ us. length (choices (us ∷ factors)) + further) (sym is)
-  where
-    more : (n c l r f m a : ℕ) → m ≡ c → a ≡ m + r → n ≡ c + l → l ≡ r + f → n ≡ a + f
-    more n c l r f m a i j e g = omega (arith, i, j, e, g)
 
 -- ---- Products
 
@@ -97,8 +79,3 @@ choice_fits columns fs n rows h e =
     All-from_recursion (IsRow columns) rows
     (choice_at (IsRow columns) (choices fs) n rows
     (choices_of_rows (IsRow columns) fs (each_left (Each (Each (IsRow columns))) fs ([] ∷ []) (rows_together columns fs [] h (All-nil (All (IsRow columns)))))) e)
-
--- past the last
-pub sought_nowhere : (products : List ClashProduct) (i number left : ℕ) → length products ≤ i → slice_get (flat_map systems_in products) number ≡ slice_get (flat_map systems_in (drop i products)) left
-    → slice_get (flat_map systems_in products) number ≡ None
-sought_nowhere products i number left h e = e ∙ ap (λ ps. slice_get (flat_map systems_in ps) left) (drop_of_length-le products h)

@@ -3,7 +3,6 @@ use Rattle.std.proofs.Common.{◌≡◌, ℕ, zero, suc, ◌+◌, ◌-◌, ◌<�
 use Rattle.std.specs.Prelude.{nat_eq, slice_get}
 use Rattle.std.proofs.lemmas.List.{drop-drop, length-drop}
 use Rattle.std.proofs.lemmas.Option.{slice_get_read, slice_get_past}
-use Rattle.std.proofs.Math.ListN.{drop_of_length-le}
 use Rattle.affc_rows.specs.Forms.{Affine}
 use Rattle.affc_system.specs.Systems.{Rows}
 use Rattle.affc_trace.specs.declared.schedule.Schedule.{Schedule}
@@ -72,11 +71,6 @@ loads_made F accesses (y ∷ ys) x n m old first new i l k d e =
     e ∙ ap (λ j. first ++ flat_map F (numbered_loads j (y ∷ ys))) k ∙ ap (λ s. s ++ flat_map F (numbered_loads (suc n) (y ∷ ys))) d ∙ append_assoc old (F (n, x)) (flat_map F (numbered_loads (suc n) (y ∷ ys)))
     ∙ ap (λ ys. old ++ flat_map F (numbered_loads n ys)) (sym i)
 
--- an assignment's last access is no load
-pub last_alone : (F : ℕ × Access → List Clash) (accesses rest : List Access) (x : Access) (n : ℕ) → accesses ≡ x ∷ rest → length rest ≡ 0 → flat_map F (numbered_loads n accesses) ≡ []
-last_alone F accesses [] x n i l = ap (λ ys. flat_map F (numbered_loads n ys)) i
-last_alone F accesses (y ∷ ys) x n i l = absurd (omega (arith, l))
-
 -- the next load, and what is behind it
 pub load_there : (whole accesses rest : List Access) (x : Access) (n : ℕ) → accesses ≡ drop n whole → accesses ≡ x ∷ rest → slice_get whole n ≡ Some x
 load_there [] accesses rest x zero d i = absurd (not_empty (sym i ∙ d))
@@ -89,9 +83,6 @@ load_there [] accesses rest x (suc n) d i = absurd (not_empty (sym i ∙ d))
     not_empty e = absurd (cc)
 load_there (y ∷ ys) accesses rest x zero d i = ap (λ zs. slice_get zs 0) (sym d ∙ i)
 load_there (y ∷ ys) accesses rest x (suc n) d i = load_there ys accesses rest x n d i
-
-pub rest_there : (whole accesses rest : List Access) (x : Access) (n : ℕ) → accesses ≡ drop n whole → accesses ≡ x ∷ rest → rest ≡ drop (n + 1) whole
-rest_there whole accesses rest x n d i = sym (ap (drop 1) (sym d ∙ i)) ∙ drop-drop 1 n whole
 
 pub load_counts : (whole accesses rest : List Access) (x : Access) (n : ℕ) → accesses ≡ drop n whole → accesses ≡ x ∷ rest → 1 ≤ length rest → n < length whole - 1
 load_counts whole accesses rest x n d i l = more (length whole) (length accesses) (length rest) (ap length d ∙ length-drop n whole) (ap length i) l
@@ -139,16 +130,6 @@ pub trees_behind : (e : Entry) (entries rest : List Entry) (trees others : List 
 trees_behind e entries rest trees others result statement before loads i s l o r =
     r ∙ ap (drop (loads_before rest before)) o ∙ drop-drop (loads_before rest before) loads trees ∙ ap (λ n. drop (n + loads_before rest before) trees) l
     ∙ ap (λ es. drop (loads_before es (suc before)) trees) (sym i) ∙ ap (λ n. drop (loads_before entries n) trees) (sym s)
-
--- there are none behind the last
-pub no_trees : (e : Entry) (entries rest : List Entry) (trees : List Tree) (statement before loads : ℕ) → entries ≡ e ∷ rest → statement ≡ suc before → loads ≡ loads_in e → length trees < loads
-    → [] ≡ drop (loads_before entries statement) trees
-no_trees e entries rest trees statement before loads i s l h =
-    sym (drop_of_length-le trees (more (length trees) loads (loads_in e) (loads_before rest before) l h))
-    ∙ ap (λ es. drop (loads_before es (suc before)) trees) (sym i) ∙ ap (λ n. drop (loads_before entries n) trees) (sym s)
-  where
-    more : (t l k m : ℕ) → l ≡ k → t < l → t ≤ k + m
-    more t l k m e h = omega (arith, e, h)
 
 -- ---- One load
 

@@ -31,12 +31,6 @@ use Rattle.affc_limits.proofs.PlaceLaws.{least-append, least_if, lesser_assoc}
 
 -- ---- The least of two tests' places
 
-lesser_comm : (a b : Option ℕ) → lesser a b ≡ lesser b a
-lesser_comm None None = refl
-lesser_comm None (Some b) = refl
-lesser_comm (Some a) None = refl
-lesser_comm (Some a) (Some b) = grind (arith, nat_tests)
-
 one_inside : (t : Bool) (at : ℕ) (xs : List ℕ) → least (at_if t at ++ xs) ≡ lesser (place_if t at) (least xs)
 one_inside t at xs = least-append (at_if t at) xs ∙ ap (λ o. lesser o (least xs)) (least_if t at)
 

@@ -182,14 +182,6 @@ pub ruleset least_laws = (least-append, least_if, lesser_assoc, lesser-none)
 
 -- ---- Of several expressions
 
-pub least-snoc : (f : d.IxDraft → List ℕ) (xs : List d.IxDraft) (x : d.IxDraft) → least (flat_map f (xs ++ x ∷ [])) ≡ lesser (least (flat_map f xs)) (least (f x))
-least-snoc f [] x = ap least (append-nil (f x))
-least-snoc f (y ∷ ys) x =
-    least-append (f y) (flat_map f (ys ++ x ∷ []))
-    ∙ ap (lesser (least (f y))) (least-snoc f ys x)
-    ∙ lesser_assoc (least (f y)) (least (flat_map f ys)) (least (f x))
-    ∙ ap (λ o. lesser o (least (f x))) (sym (least-append (f y) (flat_map f ys)))
-
 pub least-one : (f : d.IxDraft → List ℕ) (x : d.IxDraft) → least (flat_map f (x ∷ [])) ≡ least (f x)
 least-one f x = ap least (append-nil (f x))
 
@@ -202,14 +194,6 @@ least-both f (x ∷ xs) ys =
     ∙ ap (λ o. lesser o (least (flat_map f ys))) (sym (least-append (f x) (flat_map f xs)))
 
 pub ruleset value_laws = (least-one, least-both)
-
--- one expression more
-pub least_turn : (f : d.IxDraft → List ℕ) (es : List code.IxDraft) (i : ℕ) (e : code.IxDraft) → i < length es → e ≡ get_or es i e
-    → lesser (least (flat_map f (map ix (take i es)))) (least (f (ix e))) ≡ least (flat_map f (map ix (take (i + 1) es)))
-least_turn f es i e lt is =
-    sym (least-snoc f (map ix (take i es)) (ix e))
-    ∙ ap (λ l. least (flat_map f l)) (sym (map-append ix (take i es) (e ∷ [])))
-    ∙ ap (λ l. least (flat_map f (map ix l))) (ap (λ x. take i es ++ x ∷ []) is ∙ sym (take-suc es i e lt) ∙ ap (λ n. take n es) (sym (add-one i)))
 
 first-snoc : (f : d.IxDraft → List ℕ) (xs : List d.IxDraft) (x : d.IxDraft) → first (flat_map f (xs ++ x ∷ [])) ≡ first_of (first (flat_map f xs)) (first (f x))
 first-snoc f [] x = ap first (append-nil (f x))

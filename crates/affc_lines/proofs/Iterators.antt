@@ -137,6 +137,3 @@ none_there program slice statement loop rest same e =
     let past : length (flat_map rounds_in slice) ≤ statement = omega arith in
     let nothing : get_or (rounds program) statement [] ≡ [] = ap (λ l. get_or (flat_map rounds_in l) statement []) (sym same) ∙ get_past (flat_map rounds_in slice) statement [] past in
     sym (ap (λ rs. iterator_of rs loop) nothing ∙ get_past {X = List ℕ} [] loop [] (omega arith))
-
-pub named_there : (program : Program) (slice : List Stmt) (statement loop : ℕ) (name : List ℕ) → slice ≡ program.body → IsName (flat_map rounds_in slice) statement loop name → name ≡ iterator_name program statement loop
-named_there program slice statement loop name same h = h.1 ∙ ap (λ l. iterator_of (get_or (flat_map rounds_in l) statement []) loop) same

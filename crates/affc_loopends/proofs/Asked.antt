@@ -130,12 +130,6 @@ below_row columns row made p e = subst (IsRow columns) (sym e) (record {
 up : (n : ℕ) → n ≤ 2 ^ 59 → n ≤ 2 ^ 60
 up n h = omega arith
 
-pub printable_row : (columns : ℕ) (f : Affine) → IsPrintable columns f → IsRow columns f
-printable_row columns f p = record { width = p.width; fits = record { coefs_fit = p.coefs; constant_fits = up (unsigned_abs f.constant) p.last } }
-
-pub printable_rows : (columns : ℕ) (fs : List Affine) → All (IsPrintable columns) fs → All (IsRow columns) fs
-printable_rows columns fs h = All-weaker (IsPrintable columns) (IsRow columns) (printable_row columns) fs h
-
 -- ---- What the code is told
 
 pub projected_of : (columns : ℕ) (others : List Affine) (row : Affine) (asked : Rows) (p q : Projected) → asked ≡ question columns others row → p ≡ q → IsProjection asked.columns asked.rows 0 p → IsProjection columns (others ++ below_zero row ∷ []) 0 q

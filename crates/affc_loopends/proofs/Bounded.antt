@@ -36,9 +36,6 @@ system_widths columns rows h = All-weaker (IsRow columns) (λ f. length f.coefs 
 no_term : (c x t d : ℤ) → c ≡ pos 0 → (c *ℤ x) +ℤ pos 0 ≡ d *ℤ ((c *ℤ t) +ℤ pos 0)
 no_term c x t d e = ap (λ z. (z *ℤ x) +ℤ pos 0) e ∙ ap (λ z. z +ℤ pos 0) (zero-*ℤ x) ∙ sym (ap (λ z. d *ℤ (z +ℤ pos 0)) (ap (λ z. z *ℤ t) e ∙ zero-*ℤ t) ∙ *ℤ-zero d)
 
-no_dot : (xs : List ℤ) → dot [] xs ≡ pos 0
-no_dot xs = refl
-
 flat_dot : (d t : ℤ) (cs xs before : List ℤ) → length cs ≡ suc (length before) → length xs ≡ length cs → get_or cs (length before) (pos 0) ≡ pos 0
     → ((j : ℕ) → j < length before → get_or xs j (pos 0) ≡ d *ℤ get_or before j (pos 0)) → dot cs xs ≡ d *ℤ dot cs (before ++ t ∷ [])
 flat_dot d t [] xs before l m e h = absurd (omega arith)

@@ -71,9 +71,6 @@ item_among xs i x lt e = (i, lt, sym e)
 
 -- ---- Those of one end
 
-pub none_chosen : (lower : Bool) (column : ℕ) → AreOfEnd lower column [] []
-none_chosen lower column = record { among = All-nil (Contains []); each = All-nil (BoundsEnd lower column); all = All-nil (λ r. BoundsEnd lower column r → Contains [] r) }
-
 pub one_chosen : (lower : Bool) (column : ℕ) (xs cs next : List Affine) (r : Affine) → AreOfEnd lower column xs cs → BoundsEnd lower column r → next ≡ cs ++ r ∷ [] → AreOfEnd lower column (xs ++ r ∷ []) next
 one_chosen lower column xs cs next r h b e = subst (AreOfEnd lower column (xs ++ r ∷ [])) (sym e) (record {
   among = one_more (Contains (xs ++ r ∷ [])) cs r (still xs r cs h.among) (here_last xs r);
@@ -138,13 +135,7 @@ pub enough_step : (columns : ℕ) (rows : List Affine) (i : ℕ) (r copy : Affin
 enough_step columns rows i r copy kept next lt e f h g =
     subst (λ xs. AreEnough columns xs next) (ap (λ q. take i rows ++ q ∷ []) (f ∙ e) ∙ sym (next_taken rows i r lt)) (enough_more columns (take i rows) kept next copy h g)
 
-pub enough_taken : (columns : ℕ) (rows : List Affine) (i : ℕ) (kept : List Affine) → length rows ≤ i → AreEnough columns (take i rows) kept → AreEnough columns rows kept
-enough_taken columns rows i kept le h = subst (λ xs. AreEnough columns xs kept) (take_all i rows le) h
-
 -- ---- What those have that are enough
-
-pub enough_printable : (columns : ℕ) (xs kept : List Affine) → AreEnough columns xs kept → All (IsPrintable columns) xs → All (IsPrintable columns) kept
-enough_printable columns xs kept h p = among_all (IsPrintable columns) xs kept p h.among
 
 pub of_end_all : (system : Rows) (column : ℕ) (xs ys : List Affine) → AreOfOneEnd system column xs → All (Contains xs) ys → AreOfOneEnd system column ys
 of_end_all system column xs ys h a = record {

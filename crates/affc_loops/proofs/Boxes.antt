@@ -72,10 +72,6 @@ near_box outer (Test conds ∷ rs) box e = let h = near_box outer rs box e in re
 
 -- ---- The boxes of a program
 
-abbrev box_or : List (ℤ × ℤ) → Option (List (ℤ × ℤ)) → List (ℤ × ℤ)
-box_or d None = d
-box_or d (Some b) = b
-
 is_there : (r : Ranges) (box : List (ℤ × ℤ)) → Some box ≡ box_in r → r ≡ Within box
 is_there (Within rs) box e = ap (λ b. Within b) (sym (same_Some box rs e))
 is_there Never box e = absurd (none-some box (sym e))

@@ -26,6 +26,3 @@ within_both a b n h k l = omega (arith, ints)
 
 pub size_of : (a : ℤ) (n : ℕ) → a ≡ pos n → unsigned_abs a ≡ n
 size_of a n h = omega (arith, ints)
-
-pub size_turned : (a b : ℤ) (n : ℕ) → b ≡ neg_ℤ a → b ≡ pos n → unsigned_abs a ≡ n
-size_turned a b n h k = omega (arith, ints)

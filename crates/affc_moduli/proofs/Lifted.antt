@@ -1,8 +1,7 @@
 -- A modulus as a form over more columns.
-use Rattle.std.proofs.Common.{◌≡◌, ℕ, zero, suc, ◌+◌, ◌-◌, ◌*◌, ◌^◌, ◌<◌, ◌≤◌, List, [], ◌∷◌, ◌++◌, length, take, replicate, ℤ, pos, negsuc, ◌+ℤ◌, ◌-ℤ◌, ◌*ℤ◌, ◌≤ℤ◌, ◌<ℤ◌, refl, sym, ap, subst, ◌∙◌, arith, lit≤, ◌⊎◌, inl, inr}
+use Rattle.std.proofs.Common.{◌≡◌, ℕ, zero, suc, ◌+◌, ◌-◌, ◌*◌, ◌^◌, ◌<◌, ◌≤◌, List, [], ◌∷◌, ◌++◌, length, take, replicate, ℤ, pos, negsuc, ◌+ℤ◌, ◌-ℤ◌, ◌*ℤ◌, refl, sym, ap, subst, ◌∙◌, arith, lit≤, ◌⊎◌, inl, inr}
 use Rattle.std.specs.Prelude.{unsigned_abs, slice_get, get_or}
 use Rattle.std.specs.List.{All}
-use Rattle.std.proofs.lemmas.Int.{ints}
 use Rattle.std.proofs.lemmas.List.{length-append, length-replicate}
 use Rattle.std.proofs.lemmas.List.Elements.{All-append, All-replicate, All-weaker}
 use Rattle.affc_rows.specs.Vocabulary.{padded}
@@ -51,10 +50,6 @@ module _ (columns : ℕ) (f b : Affine) (width : length f.coefs ≡ columns) (co
 
   pub less_value : (g : Affine) → g ≡ mixed_form (pos 1) f (negsuc 0) (padded columns b) → (z : List ℤ) → length z ≡ columns → value g z ≡ value f z -ℤ value b (take (length b.coefs) z)
   less_value g e z len = ap (λ u. value u z) e ∙ value_minus f (padded columns b) z same (width ∙ sym len) ∙ ap (λ v. value f z -ℤ v) (value-padded columns b z)
-
--- a difference that is below 0
-pub below_modulus : (u v d : ℤ) → d ≡ u -ℤ v → d ≤ℤ (pos 0 -ℤ pos 1) → u <ℤ v
-below_modulus u v d e h = omega (arith, ints)
 
 -- ---- comparisons of several forms
 

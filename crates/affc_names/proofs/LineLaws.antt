@@ -179,12 +179,6 @@ conditions_stop s e cs i c done (Refused at why) lt is here =
     ∙ ap (behind done) (line_on s e (stored.pragma (seen.pragma c)) rest)
     ∙ ap (λ m. behind done (m >>= (λ ys. behind ys (pragmas_tree s (e ++ ranged_by (stored.pragma (seen.pragma c))) rest)))) here
 
-pub conditions_end : (s : Scope) (e : List Name) (done : List Compare) → behind done (pragmas_tree s e []) ≡ Ok done
-conditions_end s e done = ap (λ (l : List Compare). answered l) (append-nil done)
-  where
-    answered : List Compare → Checked (List Compare)
-    answered l = Ok l
-
 -- ---- Names that were given a range
 
 pub among : {A : Type 0} (w : Name) (ks : List (String A)) → list_any (λ k. bytes_eq w (string_bytes k)) ks ≡ list_any (same w) (texts ks)

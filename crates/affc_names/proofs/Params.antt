@@ -1,5 +1,5 @@
 -- Parameters and temporaries, one after another, and what lines see where parameters have one name.
-use Rattle.std.proofs.Common.{◌≡◌, ℕ, suc, ◌+◌, ◌<◌, ◌≤◌, arith, Bool, true, false, cond, count_by, is_some, List, [], ◌∷◌, ◌++◌, length, get_or, drop, map, Option, Some, None, Ok, Err, refl, sym, ap, ◌∙◌, subst, append_assoc, append-nil, drop-cons, add-one}
+use Rattle.std.proofs.Common.{◌≡◌, ℕ, suc, ◌+◌, ◌<◌, ◌≤◌, arith, Bool, true, false, cond, count_by, is_some, List, [], ◌∷◌, ◌++◌, length, get_or, drop, map, Option, Some, None, Ok, Err, refl, sym, ap, ◌∙◌, subst, append_assoc, append-nil}
 use Rattle.std.proofs.lemmas.List.{length-map}
 use Rattle.std.specs.Option.{option_or}
 use Rattle.std.specs.List.{find}
@@ -8,7 +8,7 @@ use Rattle.affc_ast.specs.declared.tree.Decl.{Decl}
 use Rattle.affc_ast.specs.declared.tree.Param.{Param}
 use Rattle.affc_grammar.specs.Grammar.{Name}
 use Rattle.affc_grammar.specs.Draft as d
-use Rattle.affc_grammar.specs.Names.{Thing, function, number, array, Visible, is_number_thing, is_array_thing, Scope, Checked, ◌>>=◌, allowed, thing_of, with_thing, with_param, with_params, with_array, outermost, number_tree, why_declared, decl_tree, param_tree, params_tree, temps_tree}
+use Rattle.affc_grammar.specs.Names.{Thing, function, number, array, Visible, is_number_thing, is_array_thing, Scope, Checked, ◌>>=◌, allowed, thing_of, with_param, with_params, with_array, outermost, number_tree, why_declared, decl_tree, param_tree, params_tree, temps_tree}
 use Rattle.affc_syntax.specs.declared.draft.draft.ParamDraft as code
 use Rattle.affc_syntax.specs.declared.draft.draft.DeclDraft as code_decl
 use Rattle.affc_syntax.specs.draft.Drafts as seen
@@ -29,10 +29,6 @@ seen_params qs = map stored.param (map seen.param qs)
 
 abbrev pub behind : List Param → Checked (List Param) → Checked (List Param)
 behind done m = m >>= (λ xs. Ok (done ++ xs))
-
-pub params_start : (m : Checked (List Param)) → m ≡ behind [] m
-params_start (Ok xs) = refl
-params_start (Err r) = refl
 
 abbrev answered : List Param → Checked (List Param)
 answered l = Ok l
@@ -88,15 +84,8 @@ behind_temps done m = m >>= (λ o. Ok (done ++ o.0, o.1))
 abbrev join_temp : Decl → List Decl × Scope → Checked (List Decl × Scope)
 join_temp x o = Ok (x ∷ o.0, o.1)
 
-pub temps_start : (m : Checked (List Decl × Scope)) → m ≡ behind_temps [] m
-temps_start (Ok o) = refl
-temps_start (Err r) = refl
-
 abbrev with_scope : Scope → List Decl → Checked (List Decl × Scope)
 with_scope s l = Ok (l, s)
-
-pub temps_end : (s : Scope) (done : List Decl) → behind_temps done (temps_tree s []) ≡ Ok (done, s)
-temps_end s done = ap (with_scope s) (append-nil done)
 
 regrouped_temps : (done : List Decl) (x : Decl) (m : Checked (List Decl × Scope)) → behind_temps done (m >>= (λ o. Ok (x ∷ o.0, o.1))) ≡ behind_temps (done ++ x ∷ []) m
 regrouped_temps done x (Err r) = refl
@@ -186,31 +175,6 @@ number_there s t v h e = record { has_prelude = ap (λ u. u.has_prelude) e; kind
 
 pub array_there : (s t : Scope) (k : d.DeclDraft) → is_some (thing_of s k.word.name) ≡ true → t ≡ s → IsBeneath (d.array_param k) s t
 array_there s t k h e = record { has_prelude = ap (λ u. u.has_prelude) e; kinds = λ w. ap (λ u. kind_of (thing_of u w)) e ∙ there s k.word.name w (array 0 k.role (length k.extents)) h }
-
-pub number_new : (s t : Scope) (v : d.WordDraft) → thing_of s v.name ≡ None → t ≡ with_param s (d.number_param v) → IsBeneath (d.number_param v) s t
-number_new s t v h e = record { has_prelude = ap (λ u. u.has_prelude) e; kinds = λ w. ap (λ u. kind_of (thing_of u w)) e ∙ one_kind s (d.number_param v) w ∙ not_there s v.name w (number 0 false) h }
-
-pub array_new : (s t : Scope) (k : d.DeclDraft) → thing_of s k.word.name ≡ None → t ≡ with_param s (d.array_param k) → IsBeneath (d.array_param k) s t
-array_new s t k h e = record { has_prelude = ap (λ u. u.has_prelude) e; kinds = λ w. ap (λ u. kind_of (thing_of u w)) e ∙ one_kind s (d.array_param k) w ∙ not_there s k.word.name w (array 0 k.role (length k.extents)) h }
-
-function_kind : (s : Scope) (name w : Name) → kind_of (thing_of (with_thing s name function) w) ≡ option_or (cond (same name w) (Some function) None) (kind_of (thing_of s w))
-function_kind s name w = by (same name w) (find (λ u. same u.name w) s.visible)
-  where
-    by : (b : Bool) (o : Option Visible) → kind_of (thing_in (cond b (Some (record { name = name; thing = function })) o)) ≡ option_or (cond b (Some function) None) (kind_of (thing_in o))
-    by true o = refl
-    by false o = refl
-
-pub function_there : (s t : Scope) (name : Name) → is_some (thing_of s name) ≡ true → t ≡ s → NamesFunction name s t
-function_there s t name h e = record { has_prelude = ap (λ u. u.has_prelude) e; kinds = λ w. ap (λ u. kind_of (thing_of u w)) e ∙ there s name w function h }
-
-pub function_new : (s t : Scope) (name : Name) → thing_of s name ≡ None → t ≡ with_thing s name function → NamesFunction name s t
-function_new s t name h e = record { has_prelude = ap (λ u. u.has_prelude) e; kinds = λ w. ap (λ u. kind_of (thing_of u w)) e ∙ function_kind s name w ∙ not_there s name w function h }
-
-pub beneath_turn : (s t : Scope) (cs : List code.ParamDraft) (i : ℕ) (c : code.ParamDraft) → i < length cs → c ≡ get_or cs i c → IsBeneath (seen.param c) s t
-    → ((w : Name) → kind_of (thing_of s w) ≡ kinds_in (map seen.param (drop (i + 1) cs)) w) → (w : Name) → kind_of (thing_of t w) ≡ kinds_in (map seen.param (drop i cs)) w
-beneath_turn s t cs i c lt is h k w =
-    h.kinds w ∙ ap (λ o. option_or o (param_kind (seen.param c) w)) (k w)
-    ∙ ap (λ l. kinds_in l w) (sym (ap (map seen.param) (drop-cons cs i c lt) ∙ ap (λ x. seen.param x ∷ map seen.param (drop (suc i) cs)) (sym is) ∙ ap (λ n. seen.param c ∷ map seen.param (drop n cs)) (sym (add-one i))))
 
 pub last_alike : (c : d.TextDraft) (qs : List d.ParamDraft) (s t : Scope) → s.has_prelude ≡ c.has_prelude → ((w : Name) → kind_of (thing_of s w) ≡ kinds_in qs w) → NamesFunction c.function.name s t
     → AreAlike t (with_params (outermost c) qs)

@@ -7,7 +7,7 @@ use Rattle.affc_ast.specs.declared.tree.Program.{Program}
 use Rattle.affc_grammar.specs.declared.fault.NameWhy.{NameWhy}
 use Rattle.affc_grammar.specs.Grammar.{Name}
 use Rattle.affc_grammar.specs.Draft as d
-use Rattle.affc_grammar.specs.Names.{Thing, function, number, array, Scope, thing_of, with_number, with_array, with_param, with_params, outermost, is_refused_word, why_number, why_array, why_declared, why_repeated, why_ranged, function_why, Refusal, Checked, ◌>>=◌, allowed, each, number_named, array_named, ix_tree, compare_tree, value_tree, locals_tree, head_tree, stmts_tree, stmt_tree, pragmas_tree, range_of, number_tree, decl_tree, param_tree, params_tree, temps_tree, program_tree}
+use Rattle.affc_grammar.specs.Names.{Thing, function, number, array, Scope, thing_of, with_number, with_array, with_param, with_params, outermost, why_number, why_array, why_declared, why_repeated, why_ranged, function_why, Refusal, Checked, ◌>>=◌, allowed, each, number_named, array_named, ix_tree, compare_tree, value_tree, locals_tree, head_tree, stmts_tree, stmt_tree, pragmas_tree, range_of, number_tree, decl_tree, param_tree, params_tree, temps_tree, program_tree}
 use Rattle.affc_names.specs.Kinds.{kind_of, AreAlike}
 use Rattle.affc_names.specs.Stored as stored
 
@@ -43,9 +43,6 @@ same_each h f g k [] = tt
 same_each h f g k (x ∷ xs) = same_bind Any Any (f (h x)) (g x) _ _ (k x) (λ a b _. same_bind Any Any (each f (map h xs)) (each g xs) _ _ (same_each h f g k xs) (λ _ _ _. tt))
 
 -- ---- Names
-
-word_alike : (s t : Scope) (it : Bool) (w : Name) → s.has_prelude ≡ t.has_prelude → is_refused_word s it w ≡ is_refused_word t it w
-word_alike s t it w h = ap (λ b. is_refused_word (record { has_prelude = b; visible = [] }) it w) h
 
 number_why : (s t : Scope) (w : Name) (a b : Option Thing) → s.has_prelude ≡ t.has_prelude → kind_of a ≡ kind_of b → why_number s w a ≡ why_number t w b
 number_why s t w a b h e = plain s a ∙ ap (why_number s w) e ∙ over s t (kind_of b) h ∙ sym (plain t b)

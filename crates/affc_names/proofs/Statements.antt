@@ -102,10 +102,6 @@ lighter cs i c lt is =
 abbrev pub behind : List Local → Checked (List Local × Scope) → Checked (List Local × Scope)
 behind done m = m >>= (λ o. Ok (done ++ o.0, o.1))
 
-pub locals_start : (m : Checked (List Local × Scope)) → m ≡ behind [] m
-locals_start (Ok o) = refl
-locals_start (Err r) = refl
-
 abbrev answered : Scope → List Local → Checked (List Local × Scope)
 answered scope done = Ok (done, scope)
 
@@ -205,9 +201,6 @@ one_without n scope = sym (ap (λ (vs : List names.Visible). with_visible vs) (a
   where
     with_visible : List names.Visible → Scope
     with_visible vs = record scope { visible = vs }
-
-pub none_without : (scope : Scope) → scope ≡ without 0 scope
-none_without scope = refl
 
 -- ---- The head of a `for`
 

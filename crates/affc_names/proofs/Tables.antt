@@ -131,17 +131,6 @@ counted_more a b v is none numbers arrays h = record {
   arrays = arrays ∙ ap (λ n. n + cond (is_array_thing v) 1 0) h.arrays ∙ sym (counted is_array_thing v (latest_first a.things.entries)) ∙ ap (count_by is_array_thing) (sym is);
 }
 
-pub counted_less : (a b : Inside) (v : Visible) → latest_first a.things.entries ≡ v ∷ latest_first b.things.entries
-    → a.numbers ≡ b.numbers + cond (is_number_thing v) 1 0 → a.arrays ≡ b.arrays + cond (is_array_thing v) 1 0 → IsCounted a → IsCounted b
-counted_less a b v is numbers arrays h =
-    let n : count_by is_number_thing (latest_first a.things.entries) ≡ count_by is_number_thing (latest_first b.things.entries) + cond (is_number_thing v) 1 0 = ap (count_by is_number_thing) is ∙ counted is_number_thing v (latest_first b.things.entries) in
-    let m : count_by is_array_thing (latest_first a.things.entries) ≡ count_by is_array_thing (latest_first b.things.entries) + cond (is_array_thing v) 1 0 = ap (count_by is_array_thing) is ∙ counted is_array_thing v (latest_first b.things.entries) in
-    record {
-      apart = (subst AreApart is h.apart).1;
-      numbers = omega (arith, n, numbers, h.numbers);
-      arrays = omega (arith, m, arrays, h.arrays);
-    }
-
 -- the count of a list with a thing that is counted isn't 0
 pub one_at_least : (p : Visible → Bool) (v : Visible) (vs all : List Visible) (count : ℕ) → count ≡ count_by p all → all ≡ v ∷ vs → p v ≡ true → 1 ≤ count
 one_at_least p v vs all count is here e =

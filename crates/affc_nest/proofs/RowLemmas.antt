@@ -137,9 +137,6 @@ few_compare Greater a b = omega arith
 few_compare GreaterEqual a b = omega arith
 few_compare Equal a b = omega arith
 
-pub rows_grow : (s t : Rows) (xs : List Affine) → t ≡ with_rows s xs → length t.rows ≡ length s.rows + length xs
-rows_grow s t xs e = ap (λ (r : Rows). length r.rows) e ∙ length_append s.rows xs
-
 pub columns_stay : (s t : Rows) (xs : List Affine) → t ≡ with_rows s xs → t.columns ≡ s.columns
 columns_stay s t xs e = ap (λ (r : Rows). r.columns) e
 
@@ -160,10 +157,6 @@ few_tests names more (c ∷ cs) =
     let b = few_tests names more cs in
     let d = length_append (compare_rows c.rel (form_of names more c.left) (form_of names more c.right)) (test_rows names more cs) in
     omega arith
-
-pub head_and_rest : {A : Type 0} (xs : List A) (x : A) → 1 ≤ length xs → x ≡ get_or xs 0 x → xs ≡ x ∷ drop 1 xs
-head_and_rest [] x h e = absurd (omega arith)
-head_and_rest (y ∷ xs) x h e = ap (λ z. z ∷ xs) (sym e)
 
 pub loops_after : (s t u : Rows) (names n m : ℕ) (iter : List ℕ) (low : Ix) (rel : Rel) (high : Ix) (r : ℤ × ℤ) (boxes : List (ℤ × ℤ)) (rs : List Round)
     → t ≡ with_rows (with_rows s (bounds_of names low rel high m)) (range_rows (names + m) names r) → m ≡ suc (loops_in rs) → n ≡ suc names → u ≡ with_rows t (loop_rows n boxes rs)

@@ -98,13 +98,6 @@ lex_step columns n i fs gs rows tie f g h k l e d =
     next : (xs : List Affine) (i : ℕ) (x : Affine) → i < length xs → x ≡ get_or xs i x → drop i xs ≡ x ∷ drop (i + 1) xs
     next xs i x h e = split xs i x h e ∙ ap (λ m. x ∷ drop m xs) (one i)
 
--- where all pairs are compared
-pub lex_end : (columns n : ℕ) (fs gs rows : List Affine) (tie : Bool) → lex_systems columns (n - n) (drop n fs) (drop n gs) rows tie ≡ lex_systems columns 0 [] [] rows tie
-lex_end columns n fs gs rows tie = ap (λ m. lex_systems columns m (drop n fs) (drop n gs) rows tie) (none n)
-  where
-    none : (n : ℕ) → n - n ≡ 0
-    none n = omega arith
-
 -- ---- Times
 
 -- a form over the parameters and iterators, put at the columns of the parameters and those from c on

@@ -20,10 +20,6 @@ pub calls_both : (xs ys : List IxDraft) → NoCalls xs → NoCalls ys → NoCall
 calls_both [] ys h k = k
 calls_both (x ∷ xs) ys h k = (h.0, calls_both xs ys h.1 k)
 
-pub calls_parts : (xs ys : List IxDraft) → NoCalls (xs ++ ys) → NoCalls xs × NoCalls ys
-calls_parts [] ys h = (tt, h)
-calls_parts (x ∷ xs) ys h = let r = calls_parts xs ys h.1 in ((h.0, r.0), r.1)
-
 pub fine_all : (ds : List IxDraft) → NoCalls ds → flat_map products_in ds ≡ [] → flat_map large_parts ds ≡ [] → AllFine ds
 fine_all [] h p l = tt
 fine_all (x ∷ ds) h p l =

@@ -1,5 +1,5 @@
 -- The bases of folds, one after the other.
-use Rattle.std.proofs.Common.{◌≡◌, ℕ, ◌+◌, ◌<◌, ◌^◌, List, [], ◌∷◌, ◌++◌, length, map, take, drop, get_or, All, Option, Some, sym, ap, ◌∙◌, subst, arith}
+use Rattle.std.proofs.Common.{◌≡◌, ℕ, ◌+◌, ◌<◌, List, [], ◌∷◌, ◌++◌, length, map, take, drop, get_or, All, Some, sym, ap, ◌∙◌, subst, arith}
 use Rattle.std.proofs.lemmas.List.{take_more, map-append, take-append-drop}
 use Rattle.std.proofs.lemmas.List.Elements.{All-cons}
 use Rattle.affc_rows.specs.Forms.{Affine}
@@ -13,18 +13,9 @@ use Rattle.affc_schedtext.specs.Draft.{LineDraft}
 use Rattle.affc_schedtext.specs.Rules.{fold_sides, there_forms, back_forms}
 use Rattle.affc_schedtext.specs.Answers.{AreBasesOfLines, IsBasis, LosesSubscript}
 use Rattle.affc_schedtext.specs.Seen.{line_seen}
-use Rattle.affc_schedtext.proofs.Scheduled.{within}
 use Rattle.affc_schedtext.proofs.Walks.{front}
 use Rattle.affc_plan.specs.Folds.{AreRightFolds}
-use Rattle.affc_plan.specs.Lines.{IsFew}
 use Rattle.affc_plan.specs.Maps.{IsRightFold, IsBasisOfLine}
-
-pub id_fits : (o : Outline) (l : LineDraft) (number : ℕ) → IsFew o → IsRightFold o l → array_of o l.name ≡ Some number → number < 2 ^ 32
-id_fits o l number few r e =
-    let same : r.number ≡ number = let both : ◌≡◌ {A = Option ℕ} (Some r.number) (Some number) = sym r.named ∙ e in cc in
-    let less = within o.arrays r.number r.array r.stands in
-    let bound = few.arrays in
-    omega arith
 
 pub right_here : (o : Outline) (ls : List code.LineDraft) (i : ℕ) (l : code.LineDraft) → i < length ls → l ≡ get_or ls i l → AreRightFolds o (drop i ls) → IsRightFold o (line_seen l) × AreRightFolds o (drop (i + 1) ls)
 right_here o ls i l lt e h = subst (AreRightFolds o) (front ls i l lt e) h

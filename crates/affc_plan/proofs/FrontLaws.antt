@@ -5,10 +5,6 @@ use Rattle.std.specs.Prelude.{MatchOption}
 use Rattle.affc_lex.specs.declared.token.LexFault.TheVariants.{BadByte, OpenComment, LongNumber, Memory}
 use Rattle.affc_lex.specs.Lexes.{Lexeme, Lexes}
 
-pub empty_lexes : (text : List ℕ) → Lexes (take 0 text) []
-empty_lexes [] = record { pieces = []; spelled = refl; standing = refl; ended = refl; unrefused = refl; its_tokens = refl }
-empty_lexes (b ∷ bs) = record { pieces = []; spelled = refl; standing = refl; ended = refl; unrefused = refl; its_tokens = refl }
-
 pub no_byte : (at : ℕ) → BadByte at ≡ Memory → ⊥
 no_byte at e = cc
 

@@ -1,21 +1,12 @@
 -- The first of several lists.
-use Rattle.std.proofs.Common.{◌≡◌, ℕ, ◌+◌, ◌<◌, ◌≤◌, List, [], ◌∷◌, ◌++◌, length, map, drop, get_or, Option, Some, None, refl, sym, ap, ◌∙◌}
+use Rattle.std.proofs.Common.{◌≡◌, ℕ, ◌+◌, ◌<◌, ◌≤◌, List, [], ◌∷◌, ◌++◌, length, drop, get_or, Option, Some, None, refl, sym, ap, ◌∙◌}
 use Rattle.std.proofs.lemmas.List.{drop_all}
-use Rattle.std.specs.Option.{option_map}
 use Rattle.affc_schedtext.proofs.Walks.{front}
 use Rattle.affc_plan.specs.Lines.{head}
 
 abbrev pub first_of : {A : Type 0} → Option A → Option A → Option A
 first_of None other = other
 first_of (Some x) other = Some x
-
-pub head-append : {A : Type 0} (xs ys : List A) → head (xs ++ ys) ≡ first_of (head xs) (head ys)
-head-append [] ys = refl
-head-append (x ∷ xs) ys = refl
-
-pub head-map : {A B : Type 0} (f : A → B) (xs : List A) → head (map f xs) ≡ option_map f (head xs)
-head-map f [] = refl
-head-map f (x ∷ xs) = refl
 
 -- the first stands in the first list
 pub head_left : {A : Type 0} (xs ys : List A) (x : A) → Some x ≡ head xs → Some x ≡ head (xs ++ ys)

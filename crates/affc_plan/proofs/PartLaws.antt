@@ -54,6 +54,3 @@ mixture_fits s f t g h k u v (inr w) =
     let a = slight_sides f u in
     let b = slight_sides g v in
     not_wide s t f.coefs g.coefs h k a.1 b.1 w
-
-pub constant_slight : (f : Affine) → is_slight f ≡ true → unsigned_abs f.constant ≤ 2 ^ 30
-constant_slight f u = (slight_sides f u).0

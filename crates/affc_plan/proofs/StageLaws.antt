@@ -25,7 +25,7 @@ use Rattle.affc_plan.specs.Folds.{AreRightFolds, FoldsFault}
 use Rattle.affc_plan.specs.declared.breach.Breach as code_breach
 use Rattle.affc_plan.specs.Lines.{head, breach_seen}
 use Rattle.affc_plan.specs.Maps.{AreRight, AreRightLines, IsRightOrder}
-use Rattle.affc_plan.specs.Stages.{IsDraftOf, SyntaxFault, BreachFault, HasLines, FormsFault, IsPlanOf}
+use Rattle.affc_plan.specs.Stages.{IsDraftOf, HasLines, FormsFault, IsPlanOf}
 use Rattle.affc_plan.specs.Times.{AreRightTimes}
 use Rattle.affc_plan.proofs.RightDrafts.{right_drafts, first_kept}
 use Rattle.affc_plan.proofs.TimeLaws.{undone_map}
@@ -113,32 +113,6 @@ basis_fault o d s (fault.Inverse k c) i h = absurd h
 basis_fault o d s (fault.Basis a c) i h = (undone_order o d.order s i, h)
 
 -- ---- The whole
-
-syntax_here : (text : List ℕ) (program : Program) (f : SchedFault) → SyntaxFault text (outline program) f → IsFault text program f
-syntax_here text program fault.Memory h = tt
-syntax_here text program (fault.Syntax p) h = h
-syntax_here text program (fault.Statement p) h = absurd h
-syntax_here text program (fault.Length p) h = absurd h
-syntax_here text program (fault.Fold p) h = absurd h
-syntax_here text program (fault.Limit p) h = absurd h
-syntax_here text program (fault.Inverse s c) h = absurd h
-syntax_here text program (fault.Basis a c) h = absurd h
-
-pub syntax_fault : (text : List ℕ) (program : Program) (o : Outline) → o ≡ outline program → (f : SchedFault) → SyntaxFault text o f → IsFault text program f
-syntax_fault text program o e f h = syntax_here text program f (subst (λ x. SyntaxFault text x f) e h)
-
-breach_here : (text : List ℕ) (program : Program) (f : SchedFault) → BreachFault text (outline program) f → IsFault text program f
-breach_here text program fault.Memory h = tt
-breach_here text program (fault.Syntax p) h = absurd h
-breach_here text program (fault.Statement p) h = h
-breach_here text program (fault.Length p) h = h
-breach_here text program (fault.Fold p) h = h
-breach_here text program (fault.Limit p) h = h
-breach_here text program (fault.Inverse s c) h = absurd h
-breach_here text program (fault.Basis a c) h = absurd h
-
-pub breach_fault : (text : List ℕ) (program : Program) (o : Outline) → o ≡ outline program → (f : SchedFault) → BreachFault text o f → IsFault text program f
-breach_fault text program o e f h = breach_here text program f (subst (λ x. BreachFault text x f) e h)
 
 forms_here : (text : List ℕ) (program : Program) (tokens : List Lexeme) (d : code.Draft) (f : SchedFault) → Kept text tokens d (outline program) → FormsFault (outline program) (draft_seen d) f → IsFault text program f
 forms_here text program tokens d f k h =

@@ -2,7 +2,7 @@
 use Rattle.std.proofs.Common.{◌≡◌, ℕ, zero, suc, ◌+◌, ◌-◌, ◌*◌, ◌^◌, ◌<◌, ◌≤◌, List, [], ◌∷◌, ◌++◌, length, get_or, drop, ℤ, pos, ◌+ℤ◌, ◌*ℤ◌, refl, sym, ap, ◌∙◌, arith, add-one}
 use lib.IntN.{+ℤ_assoc}
 use Rattle.std.specs.Prelude.{unsigned_abs}
-use Rattle.std.proofs.Common.{append_assoc, append-nil, subst, inl, inr}
+use Rattle.std.proofs.Common.{append_assoc, subst, inl, inr}
 use Rattle.affc_rows.specs.Forms.{Affine, AllFit, TooWide, column_of, constants_of, composed, composed_magnitudes, dot, dot_magnitude, mixed, mixed_magnitudes, entry_magnitude}
 
 dot-drop' : (i : ℕ) (cs xs : List ℤ) → i < length cs → i < length xs
@@ -27,18 +27,6 @@ dot_magnitude-drop' i (c ∷ cs) [] h k = absurd (omega arith)
 pub dot_magnitude-drop : (i : ℕ) (cs xs : List ℤ) → i < length cs → i < length xs
     → dot_magnitude (drop i cs) (drop i xs) ≡ unsigned_abs (get_or cs i (pos 0)) * unsigned_abs (get_or xs i (pos 0)) + dot_magnitude (drop (i + 1) cs) (drop (i + 1) xs)
 dot_magnitude-drop i cs xs h k = rw add-one (dot_magnitude-drop' i cs xs h k)
-
-dot-end' : (cs xs : List ℤ) (n : ℕ) → length cs ≤ n → (dot (drop n cs) xs ≡ pos 0) × (dot_magnitude (drop n cs) xs ≡ 0)
-dot-end' [] xs zero h = (refl, refl)
-dot-end' [] xs (suc n) h = (refl, refl)
-dot-end' (c ∷ cs) xs zero h = absurd (omega arith)
-dot-end' (c ∷ cs) xs (suc n) h = dot-end' cs xs n (omega arith)
-
-pub dot-end : (cs xs : List ℤ) (n : ℕ) → length cs ≤ n → dot (drop n cs) xs ≡ pos 0
-dot-end cs xs n h = (dot-end' cs xs n h).0
-
-pub dot_magnitude-end : (cs xs : List ℤ) (n : ℕ) → length cs ≤ n → dot_magnitude (drop n cs) xs ≡ 0
-dot_magnitude-end cs xs n h = (dot-end' cs xs n h).1
 
 -- one term goes from what is left to the sum
 pub sum_step : (new old term left rest whole : ℤ) → new ≡ old +ℤ term → left ≡ term +ℤ rest → old +ℤ left ≡ whole → new +ℤ rest ≡ whole
@@ -69,33 +57,14 @@ pub mixed_magnitudes-drop : (i : ℕ) (s : ℤ) (cs : List ℤ) (t : ℤ) (ds : 
     → mixed_magnitudes s (drop i cs) t (drop i ds) ≡ entry_magnitude s (get_or cs i (pos 0)) t (get_or ds i (pos 0)) ∷ mixed_magnitudes s (drop (i + 1) cs) t (drop (i + 1) ds)
 mixed_magnitudes-drop i s cs t ds h k = rw add-one (mixed_magnitudes-drop' i s cs t ds h k)
 
-pub mixed-end : (s : ℤ) (cs : List ℤ) (t : ℤ) (ds : List ℤ) (n : ℕ) → length cs ≤ n → mixed s (drop n cs) t ds ≡ []
-mixed-end s [] t ds zero h = refl
-mixed-end s [] t ds (suc n) h = refl
-mixed-end s (c ∷ cs) t ds zero h = absurd (omega arith)
-mixed-end s (c ∷ cs) t ds (suc n) h = mixed-end s cs t ds n (omega arith)
-
-pub mixed_magnitudes-end : (s : ℤ) (cs : List ℤ) (t : ℤ) (ds : List ℤ) (n : ℕ) → length cs ≤ n → mixed_magnitudes s (drop n cs) t ds ≡ []
-mixed_magnitudes-end s [] t ds zero h = refl
-mixed_magnitudes-end s [] t ds (suc n) h = refl
-mixed_magnitudes-end s (c ∷ cs) t ds zero h = absurd (omega arith)
-mixed_magnitudes-end s (c ∷ cs) t ds (suc n) h = mixed_magnitudes-end s cs t ds n (omega arith)
-
 -- one entry goes from what is left to what is made
 pub made_step : {A : Type 0} (new old : List A) (entry : A) (left rest whole : List A)
     → new ≡ old ++ entry ∷ [] → left ≡ entry ∷ rest → old ++ left ≡ whole → new ++ rest ≡ whole
 made_step new old entry left rest whole n l w = ap (λ z. z ++ rest) n ∙ append_assoc old (entry ∷ []) rest ∙ ap (λ z. old ++ z) (sym l) ∙ w
 
--- nothing is left
-pub made_end : {A : Type 0} (out left whole : List A) → left ≡ [] → out ++ left ≡ whole → out ≡ whole
-made_end out left whole e w = sym (append-nil out) ∙ ap (λ z. out ++ z) (sym e) ∙ w
-
 -- what is left of the sums of magnitudes fits where its first one and the rest do
 pub fit_back : (n : ℕ) (left rest : List ℕ) → left ≡ n ∷ rest → n ≤ 2 ^ 126 → AllFit rest → AllFit left
 fit_back n left rest e fits r = subst AllFit (sym e) (fits, r)
-
-pub fit_end : (left : List ℕ) → left ≡ [] → AllFit left
-fit_end left e = subst AllFit (sym e) tt
 
 -- what is left is too wide where the rest is, or the first one
 pub wide_back : (n : ℕ) (left rest : List ℕ) → left ≡ n ∷ rest → TooWide rest → TooWide left
@@ -103,11 +72,6 @@ wide_back n left rest e w = subst TooWide (sym e) (inr w)
 
 pub wide_here : (n : ℕ) (left rest : List ℕ) → left ≡ n ∷ rest → 2 ^ 126 < n → TooWide left
 wide_here n left rest e w = subst TooWide (sym e) (inl w)
-
--- not both
-pub fit_not_wide : (ns : List ℕ) → AllFit ns → TooWide ns → ⊥
-fit_not_wide [] f w = w
-fit_not_wide (n ∷ ns) f w = elim w [ inl h ↦ absurd (omega arith) | inr k ↦ fit_not_wide ns f.1 k ]
 
 -- a loop that adds the products of two lists: one product goes from what is left to the sum
 pub dot_step : (i : ℕ) (cs xs : List ℤ) (x new old whole : ℤ) → i < length cs → i < length xs → x ≡ get_or xs i (pos 0)

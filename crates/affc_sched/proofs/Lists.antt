@@ -39,9 +39,6 @@ each_from P (x ∷ xs) h = (h x (inl refl), each_from P xs (λ y i. h y (inr i))
 pub each_first : {A : Type 0} (P : A → Type 0) (xs rest : List A) (x : A) → xs ≡ x ∷ rest → Each P xs → P x
 each_first P xs rest x e h = (subst (Each P) e h).0
 
-pub each_rest : {A : Type 0} (P : A → Type 0) (xs rest : List A) (x : A) → xs ≡ x ∷ rest → Each P xs → Each P rest
-each_rest P xs rest x e h = (subst (Each P) e h).1
-
 -- ---- Entries and accesses
 
 pub all_there : (nest : Nest) (entries : List Entry) → entries ≡ nest.entries → Each (λ e. IsIn e nest.entries) entries

@@ -4,9 +4,9 @@ use Rattle.std.specs.Prelude.{unsigned_abs}
 use Rattle.std.specs.List.{All}
 use Rattle.std.proofs.Math.Seq.{drop-length}
 use Rattle.std.proofs.lemmas.List.{length-drop}
-use Rattle.std.proofs.lemmas.List.Elements.{All-nil, All-cons, All-head, All-tail, All-append, All-take, All-drop}
+use Rattle.std.proofs.lemmas.List.Elements.{All-nil, All-cons, All-append, All-take, All-drop}
 use Rattle.affc_rows.specs.Forms.{Affine}
-use Rattle.affc_system.specs.Systems.{Rows, FitsRow, IsRow}
+use Rattle.affc_system.specs.Systems.{Rows, FitsRow}
 use Rattle.affc_ast.specs.declared.tree.Rel.TheVariants.{Equal}
 use Rattle.affc_trace.specs.Law.{IsIn}
 use Rattle.affc_trace.proofs.EndedReads.{append_assoc}
@@ -62,16 +62,6 @@ module _ (m k n columns : ℕ) (rows : List Affine) (i : ℕ) (row : Affine) (th
       sum : (r l : ℕ) → l ≡ m + r → l + (k + n) ≡ columns → ((m + k) + r) + n ≡ columns
       sum r l e f = omega (arith, e, f)
 
-pub spreadable : (m l more columns : ℕ) (rows : List Affine) → All (IsRow (m + l)) rows → (m + l) + more ≡ columns → All (IsSpreadable m more columns) rows
-spreadable m l more columns [] h e = All-nil (IsSpreadable m more columns)
-spreadable m l more columns (r ∷ rows) h e =
-    let a = All-head (IsRow (m + l)) r rows h in
-    All-cons (IsSpreadable m more columns) r rows (record { params_there = enough m l (length r.coefs) a.width; width = ap (λ k. k + more) a.width ∙ e; fits = a.fits })
-    (spreadable m l more columns rows (All-tail (IsRow (m + l)) r rows h) e)
-  where
-    enough : (m l n : ℕ) → n ≡ m + l → m ≤ n
-    enough m l n e = omega (arith, e)
-
 -- ---- Equal forms
 
 map_next : (F : Affine → Affine) (xs : List Affine) (i : ℕ) (x : Affine) → i < length xs → x ≡ get_or xs i x → drop i (map F xs) ≡ F x ∷ drop (i + 1) (map F xs)
@@ -102,18 +92,6 @@ equal_room i old system system' f g e h =
     let l = length_append system.rows (compare_rows Equal f g) in
     let r : length system'.rows ≡ length (system.rows ++ compare_rows Equal f g) = ap (λ (r : Rows). length r.rows) e in
     omega (arith, h, l, r)
-
--- where all pairs are compared
-pub equal_end : (F G : Affine → Affine) (fs gs : List Affine) (i : ℕ) (old system : Rows) → i ≡ length fs → system.columns ≡ old.columns
-    → system.rows ++ equal_rows (drop i (map F fs)) (drop i (map G gs)) ≡ old.rows ++ equal_rows (map F fs) (map G gs) → system ≡ with_rows old (equal_rows (map F fs) (map G gs))
-equal_end F G fs gs i old system e c kept =
-    let none : drop i (map F fs) ≡ [] = ap (λ k. drop k (map F fs)) e ∙ past fs in
-    let rows : system.rows ≡ old.rows ++ equal_rows (map F fs) (map G gs) = sym (append_nil system.rows) ∙ ap (λ xs. system.rows ++ equal_rows xs (drop i (map G gs))) (sym none) ∙ kept in
-    λ j. record { columns = c j; rows = rows j }
-  where
-    past : (xs : List Affine) → drop (length xs) (map F xs) ≡ []
-    past [] = refl
-    past (x ∷ xs) = past xs
 
 -- ---- Orders
 

@@ -41,9 +41,6 @@ zero_atom = g.literal (codes "0")
 zero_completes : {C : Type 0} (spelled : C → List Symbol) (c : C) → spelled c ≡ number (codes "0") ∷ [] → Completes spelled []
 zero_completes spelled c e = record { whole = c; more = number (codes "0") ∷ []; is = e; without = refl }
 
-wholly : {C : Type 0} (spelled : C → List Symbol) (c : C) → Completes spelled (spelled c)
-wholly spelled c = record { whole = c; more = []; is = sym (append-nil (spelled c)); without = refl }
-
 -- behind a first token
 head_of : {A : Type 0} (x y : A) (xs ys : List A) → x ∷ xs ≡ y ∷ ys → (x ≡ y) × (xs ≡ ys)
 head_of x y xs ys e = (cc, cc)

@@ -1,20 +1,15 @@
 -- Walks over a program's tree: what is found further on stands behind what was found.
-use Rattle.std.proofs.Common.{◌≡◌, ℕ, suc, ◌+◌, ◌<◌, Bool, false, true, List, [], ◌∷◌, ◌++◌, map, length, drop, get_or, drop-cons, refl, sym, ap, ◌∙◌, arith, append_assoc, append-nil, flat_map}
-use Rattle.std.proofs.lemmas.List.{map-append}
-use Rattle.affc_ast.specs.declared.tree.Decl.{Decl}
-use Rattle.affc_ast.specs.declared.tree.Param.{Param}
-use Rattle.affc_ast.specs.declared.tree.Param.TheVariants.{Number, Array}
+use Rattle.std.proofs.Common.{◌≡◌, ℕ, suc, ◌+◌, ◌<◌, Bool, List, [], ◌∷◌, ◌++◌, map, length, drop, get_or, drop-cons, refl, sym, ap, ◌∙◌, arith, append_assoc, append-nil, flat_map}
 use Rattle.affc_ast.specs.declared.tree.Stmt.{Stmt, out-Stmt, map-Stmt, the_lemmas as stmt_lemmas}
 use Rattle.affc_ast.specs.declared.tree.Stmt.TheOpen as layer
 use Rattle.affc_ast.specs.declared.tree.Stmt.TheOpen.{Stmt-F}
 use Rattle.affc_ast.specs.declared.tree.Stmt.TheVariants as c
-use Rattle.affc_ast.specs.Meaning.{arrays_of}
 use Rattle.affc_ast.specs.Recursion.{by_stmt}
 use Rattle.affc_ast.specs.Trace.{joined}
 use Rattle.affc_ast.proofs.Outs.{by_stmt_out}
 use Rattle.affc_domain.specs.Rounds.{Round, Loop, Test, rounds_step}
 use Rattle.affc_grammar.specs.Grammar.{Name}
-use Rattle.affc_schedtext.specs.Outline.{array_outline, number_names, iterators_in}
+use Rattle.affc_schedtext.specs.Outline.{iterators_in}
 use Rattle.affc_schedtext.specs.Walking.{iterators_under}
 
 pub ruleset ends = (append-nil)
@@ -32,29 +27,10 @@ module _ {A B : Type 0} (f : List A → List B) (split : (x : A) (xs : List A) �
       ∙ append_assoc o (f (x ∷ [])) (f (drop (i + 1) xs))
       ∙ ap (λ l. o ++ l) (sym (ap f (front xs i x h e) ∙ split x (drop (i + 1) xs)))
 
-pub numbers_split : (p : Param) (ps : List Param) → number_names (p ∷ ps) ≡ number_names (p ∷ []) ++ number_names ps
-numbers_split (Number name low high) ps = refl
-numbers_split (Array decl) ps = refl
-
-pub arrays_split : (p : Param) (ps : List Param) → map (array_outline false) (arrays_of (p ∷ ps)) ≡ map (array_outline false) (arrays_of (p ∷ [])) ++ map (array_outline false) (arrays_of ps)
-arrays_split (Number name low high) ps = refl
-arrays_split (Array decl) ps = refl
-
-pub temporaries_split : (d : Decl) (ds : List Decl) → map (array_outline true) (d ∷ ds) ≡ map (array_outline true) (d ∷ []) ++ map (array_outline true) ds
-temporaries_split d ds = refl
-
 -- ---- Statements
 
 abbrev all_rounds : List Stmt → List (List Round)
 all_rounds ss = joined (map (by_stmt rounds_step) ss)
-
-pub under_split : (around : List Name) (s : Stmt) (ss : List Stmt) → iterators_under around (all_rounds (s ∷ ss)) ≡ iterators_under around (all_rounds (s ∷ [])) ++ iterators_under around (all_rounds ss)
-under_split around s ss =
-    map-append (λ rs. around ++ iterators_in rs) (by_stmt rounds_step s) (all_rounds ss)
-    ∙ ap (λ l. iterators_under around l ++ iterators_under around (all_rounds ss)) (sym (append-nil (by_stmt rounds_step s)))
-
-pub one_under : (around : List Name) (s : Stmt) → iterators_under around (by_stmt rounds_step s) ≡ iterators_under around (all_rounds (s ∷ []))
-one_under around s = ap (iterators_under around) (sym (append-nil (by_stmt rounds_step s)))
 
 under_loop : (around : List Name) (iter : Name) (low : _) (rel : _) (high : _) (rss : List (List Round)) → iterators_under (around ++ iter ∷ []) rss ≡ iterators_under around (map (λ rs. Loop iter low rel high ∷ rs) rss)
 under_loop around iter low rel high [] = refl
@@ -79,11 +55,6 @@ if_under around s conds body ss g q =
     (λ i. iterators_under around (all_rounds (q i)))
     ∙ under_test around conds (all_rounds body)
     ∙ ap (iterators_under around) (sym (unrolled s (layer.If conds body) (ap out-Stmt g ∙ simp stmt_lemmas)))
-
-pub assign_under : (around own : List Name) (s : Stmt) (op : _) (array : _) (subs : _) (value : _) → s ≡ c.Assign op array subs value → own ≡ around → own ∷ [] ≡ iterators_under around (by_stmt rounds_step s)
-assign_under around own s op array subs value g e =
-    ap (λ l. l ∷ []) (e ∙ sym (append-nil around))
-    ∙ ap (iterators_under around) (sym (unrolled s (layer.Assign op array subs value) (ap out-Stmt g ∙ simp stmt_lemmas)))
 
 pub block_under : (around : List Name) (s : Stmt) (locals : _) (body ss : List Stmt) → s ≡ c.Block locals body → ss ≡ body → iterators_under around (all_rounds ss) ≡ iterators_under around (by_stmt rounds_step s)
 block_under around s locals body ss g q =

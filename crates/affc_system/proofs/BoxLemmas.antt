@@ -160,7 +160,3 @@ pub box_magnitude_step : (i : ℕ) (cs : List ℤ) (rs : List (ℤ × ℤ)) (new
     → new ≡ old + unsigned_abs (get_or cs i (pos 0)) * reach (get_or rs i (pos 0, pos 0))
     → old + box_magnitude (drop i cs) (drop i rs) ≡ whole → new + box_magnitude (drop (i + 1) cs) (drop (i + 1) rs) ≡ whole
 box_magnitude_step i cs rs new old whole h k n w = simp add-one (weight_step _ _ _ _ _ _ n (box_magnitude-drop i cs rs h k) w)
-
-pub box_magnitude_past : (m i : ℕ) (cs : List ℤ) (rs : List (ℤ × ℤ)) (old whole : ℕ) → i < length cs → i < length rs
-    → m < old + unsigned_abs (get_or cs i (pos 0)) * reach (get_or rs i (pos 0, pos 0)) → old + box_magnitude (drop i cs) (drop i rs) ≡ whole → m < whole
-box_magnitude_past m i cs rs old whole h k p w = omega (arith, box_magnitude-drop i cs rs h k)

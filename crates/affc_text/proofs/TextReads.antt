@@ -1,6 +1,5 @@
 -- The readers of the function and of the lines before it leave no more tokens than they were given, and their loops, as the code runs them.
-use Rattle.std.proofs.Common.{◌≡◌, ℕ, zero, suc, ◌+◌, ◌-◌, Bool, true, false, ◌||◌, codes, ◌≤◌, ◌<◌, List, [], ◌∷◌, ◌++◌, length, take, drop, map, length-drop, Err, if◌then◌else◌, neg_ℤ, pos, refl, sym, ap, ◌∙◌, arith}
-use Rattle.std.proofs.lemmas.List.{length-map}
+use Rattle.std.proofs.Common.{◌≡◌, ℕ, zero, suc, ◌+◌, ◌-◌, Bool, true, false, ◌||◌, codes, ◌<◌, List, [], ◌∷◌, ◌++◌, length, take, drop, Err, if◌then◌else◌, neg_ℤ, pos, refl, sym, ap, ◌∙◌, arith}
 use Rattle.affc_ast.specs.declared.tree.Role.{Role}
 use Rattle.affc_ast.specs.declared.tree.Role.TheVariants.{Input, Output, Temp}
 use Rattle.affc_grammar.specs.Grammar.{Symbol, Name, has_call}
@@ -8,7 +7,6 @@ use Rattle.affc_grammar.specs.Draft.{WordDraft, word_draft, and_stmt, DeclDraft,
 use Rattle.affc_grammar.specs.Reader.{At}
 use Rattle.affc_grammar.specs.Reading.{this_mark, this_word, any_word, First}
 use Rattle.affc_syntax.specs.declared.draft.symbol.Symbol as code
-use Rattle.affc_syntax.specs.draft.Symbols.{seen}
 use Rattle.affc_syntax.specs.Ahead.{past, number_value}
 use Rattle.affc_syntax.specs.IxReading as ix
 use Rattle.affc_syntax.specs.CondReading.{conds}
@@ -105,11 +103,6 @@ no_call_left (suc zero) [] p = refl
 no_call_left (suc zero) (x ∷ ts) p = refl
 no_call_left (suc (suc n)) ts p = absurd (omega arith)
 
-pub no_call_empty : (n : ℕ) (ts : List Symbol) → length ts ≡ 0 → has_call (take n ts) ≡ false
-no_call_empty zero [] p = refl
-no_call_empty (suc n) [] p = refl
-no_call_empty n (x ∷ ts) p = absurd (omega (arith, p))
-
 pub call_step : (n : ℕ) (ts : List Symbol) → has_call (take (suc (suc n)) ts) ≡ begins_call ts || has_call (take (suc n) (drop 1 ts))
 call_step n [] = refl
 call_step n (x ∷ []) = refl
@@ -137,17 +130,3 @@ call_here left at ss p b = call_on left at ss p ∙ ap (λ x. x || has_call (tak
 
 pub call_later : (left at : ℕ) (ss : List Symbol) → 1 < left → false ≡ begins_call (drop at ss) → has_call (take (left - 1) (drop (at + 1) ss)) ≡ has_call (take left (drop at ss))
 call_later left at ss p b = sym (call_on left at ss p ∙ ap (λ x. x || has_call (take (left - 1) (drop (at + 1) ss))) (sym b))
-
-pub calls_start : (symbols : List code.Symbol) (from to : ℕ) → has_call (take ((length symbols - length (drop to (map seen symbols))) - (length symbols - length (drop from (map seen symbols)))) (drop from (map seen symbols))) ≡ has_call (taken (drop from (map seen symbols)) (drop to (map seen symbols)))
-calls_start symbols from to =
-    let all = length-map symbols seen in
-    let one = length-drop from (map seen symbols) in
-    let two = length-drop to (map seen symbols) in
-    let e : (length symbols - length (drop to (map seen symbols))) - (length symbols - length (drop from (map seen symbols))) ≡ length (drop from (map seen symbols)) - length (drop to (map seen symbols)) = omega arith in
-    ap (λ n. has_call (take n (drop from (map seen symbols)))) e
-
-pub no_call_behind : (symbols : List code.Symbol) (left at : ℕ) → length symbols ≤ at → has_call (take left (drop at (map seen symbols))) ≡ false
-no_call_behind symbols left at p =
-    let all = length-map symbols seen in
-    let one = length-drop at (map seen symbols) in
-    no_call_empty left (drop at (map seen symbols)) (omega arith)

@@ -80,17 +80,6 @@ spans_brackets first last ss a b p =
 pub spans_one : (s : Symbol) → IsPlain s → Spans (s ∷ []) (record { tokens = 1; depth = 0 })
 spans_one s p = record { count = 1; deep = 0; row = plain_row s p; tokens = refl; depth = refl }
 
-pub spans_more : (s : Symbol) (ss : List Symbol) (n : ℕ) (a : Extent) → IsPlain s → Spans ss (and_tokens n a) → Spans (s ∷ ss) (and_tokens (suc n) a)
-spans_more s ss n a p q =
-    let t = q.tokens in
-    record { count = 1 + q.count; deep = q.deep; row = row_more q.count q.deep s ss p q.row; tokens = omega (arith, t); depth = q.depth }
-
-pub spans_end : (s : Symbol) (ss : List Symbol) (n : ℕ) (a : Extent) → IsPlain s → Spans ss (and_tokens n a) → Spans (ss ++ s ∷ []) (and_tokens (suc n) a)
-spans_end s ss n a p q =
-    let t = q.tokens in
-    let e : max q.deep 0 ≡ q.deep = omega arith in
-    record { count = q.count + 1; deep = q.deep; row = subst (λ m. Row (q.count + 1) m (ss ++ s ∷ [])) e (row_both q.count 1 q.deep 0 ss (s ∷ []) q.row (plain_row s p)); tokens = omega (arith, t); depth = q.depth }
-
 -- a token between two parts
 pub spans_joined : (s : Symbol) (xs ys : List Symbol) (a b : Extent) → IsPlain s → Spans xs a → Spans ys b → Spans (xs ++ s ∷ ys) (and_tokens 1 (beside a b))
 spans_joined s xs ys a b p q r =

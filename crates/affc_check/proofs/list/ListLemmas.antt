@@ -1,5 +1,5 @@
 -- Items put behind others.
-use Rattle.std.proofs.Common.{◌≡◌, ℕ, Option, Some, None, List, [], ◌∷◌, ◌++◌, length, map, flat_map, refl, sym, ap, subst, inl, inr, ◌∙◌}
+use Rattle.std.proofs.Common.{◌≡◌, ℕ, Option, Some, None, List, [], ◌∷◌, ◌++◌, map, flat_map, refl, sym, ap, subst, inl, inr, ◌∙◌}
 use Rattle.std.specs.Prelude.{slice_get}
 use Rattle.std.proofs.lemmas.List.{map-append}
 use Rattle.affc_rows.specs.Forms.{Affine}
@@ -7,7 +7,7 @@ use Rattle.affc_trace.specs.Law.{IsIn}
 use Rattle.affc_trace.proofs.EndedReads.{append_assoc}
 use Rattle.affc_trace.proofs.LastStores.{append_nil}
 use Rattle.affc_nest.specs.Asked.{IsExtent, IsSubscript}
-use Rattle.affc_nest.specs.Questions.{extents_or_none, low_question, high_question, questions_of}
+use Rattle.affc_nest.specs.Questions.{extents_or_none}
 use Rattle.affc_nest.specs.declared.nest.Access.{Access}
 use Rattle.affc_nest.specs.declared.nest.ArrayInfo.{ArrayInfo}
 use Rattle.affc_nest.specs.declared.nest.Entry.{Entry}
@@ -17,7 +17,7 @@ use Rattle.affc_sched.specs.Touched.{Each}
 use Rattle.affc_sched.specs.Questions as sched
 use Rattle.affc_flow.specs.Questions as flow
 use Rattle.affc_check.specs.list.Held.{legality_item, flow_item}
-use Rattle.affc_check.specs.list.Items.{Item, Question}
+use Rattle.affc_check.specs.list.Items.{Question}
 
 -- nothing more
 pub none_more : {A : Type 0} (xs more : List A) → more ≡ [] → xs ≡ xs ++ more
@@ -78,19 +78,3 @@ extents_there nest array = there (slice_get nest.arrays array) refl
     there (Some a) e = each_extent nest a a.extents (stands_in nest.arrays array a e) refl
 
 -- ---- Subscripts and extents in turn
-
-pub next_dimension : (entry : Entry) (ss ss' es es' : List Affine) (s e : Affine) (old low both new : List Item) → ss ≡ s ∷ ss' → es ≡ e ∷ es'
-    → low ≡ old ++ Question (low_question entry.domain s) ∷ [] → both ≡ low ++ Question (high_question entry.domain (length entry.loops) s e) ∷ []
-    → new ≡ both ++ map Question (questions_of entry.domain (length entry.loops) ss' es') → new ≡ old ++ map Question (questions_of entry.domain (length entry.loops) ss es)
-next_dimension entry ss ss' es es' s e old low both new i j a b c =
-    let rest = map Question (questions_of entry.domain (length entry.loops) ss' es') in
-    c ∙ ap (λ z. z ++ rest) b ∙ append_assoc low (Question (high_question entry.domain (length entry.loops) s e) ∷ []) rest
-    ∙ ap (λ z. z ++ (Question (high_question entry.domain (length entry.loops) s e) ∷ rest)) a ∙ append_assoc old (Question (low_question entry.domain s) ∷ []) (Question (high_question entry.domain (length entry.loops) s e) ∷ rest)
-    ∙ ap (λ z. old ++ map Question (questions_of entry.domain (length entry.loops) z (e ∷ es'))) (sym i) ∙ ap (λ z. old ++ map Question (questions_of entry.domain (length entry.loops) ss z)) (sym j)
-
-pub no_dimension : (entry : Entry) (old : List Item) (ss es : List Affine) → es ≡ [] → old ≡ old ++ map Question (questions_of entry.domain (length entry.loops) ss es)
-no_dimension entry old ss es e = none_more old _ (ap (λ z. map Question (questions_of entry.domain (length entry.loops) ss z)) e ∙ none_of ss)
-  where
-    none_of : (ss : List Affine) → map Question (questions_of entry.domain (length entry.loops) ss []) ≡ []
-    none_of [] = refl
-    none_of (s ∷ ss) = refl

@@ -55,13 +55,7 @@ neither_passes xs ys h g = λ (a : AnyPasses (xs ++ ys)).
       | inr i ↦ g (record { question = a.question; there = i; passes = a.passes })
     ]
 
-pub nothing_passes : ¬ (AnyPasses [])
-nothing_passes = λ (a : AnyPasses []). absurd a.there
-
 -- ---- Items that are put behind
-
-pub nothing_listed : (old : List Item) → AreListed old old []
-nothing_listed old = record { put = sym (append_nil old); within = nothing_passes }
 
 pub listed_twice : (a b c xs ys : List Item) → AreListed a b xs → AreListed b c ys → AreListed a c (xs ++ ys)
 listed_twice a b c xs ys h g = record {

@@ -6,7 +6,6 @@ use Rattle.std.proofs.lemmas.List.Elements.{All-nil, All-cons, All-head, All-tai
 use Rattle.std.proofs.lemmas.Int.{ints, unsigned_abs-mul}
 use Rattle.std.proofs.Math.Nat.{mul-le-mul_left, mul_comm}
 use Rattle.affc_rows.specs.Forms.{Affine, dot, value, mixed, mixed_form}
-use Rattle.std.proofs.lemmas.List.{drop_all}
 use Rattle.affc_system.specs.Pairs.{IsSubscript}
 use Rattle.affc_conflicts.specs.differences.Differences.{apart, IsSmall, IsApart}
 use Rattle.affc_rows.proofs.FormLemmas.{sum_step}
@@ -68,9 +67,6 @@ apart_step i cs xs ys x y z new old whole h k l a b n w =
     let e : new ≡ old +ℤ (c *ℤ (value (get_or xs i x) z -ℤ value (get_or ys i y) z)) =
     n ∙ ap (λ u. old +ℤ (c *ℤ (value u z -ℤ value y z))) a ∙ ap (λ u. old +ℤ (c *ℤ (value (get_or xs i x) z -ℤ value u z))) b in
     sum_step new old _ _ _ whole e (apart-drop i cs xs ys x y z h k l) w
-
-pub apart-end : (n : ℕ) (cs : List ℤ) (xs ys : List Affine) (z : List ℤ) → length cs ≤ n → apart (drop n cs) (drop n xs) (drop n ys) z ≡ pos 0
-apart-end n cs xs ys z h = ap (λ v. apart v (drop n xs) (drop n ys) z) (drop_all n cs h)
 
 pub dot-zeros : (n : ℕ) (xs : List ℤ) → dot (replicate n (pos 0)) xs ≡ pos 0
 dot-zeros zero xs = refl

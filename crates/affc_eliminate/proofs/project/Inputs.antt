@@ -136,6 +136,3 @@ first_more rows count old new k is h a = subst (AreFirst rows (count + 1)) (sym 
   where
     not_both : (i n : ℕ) → i < n → n ≤ i → ⊥
     not_both i n l ge = absurd (omega arith)
-
-pub first_all : (rows : List Affine) (live : List Kept) (count : ℕ) → count ≡ length rows → AreFirst rows count live → AreInputs rows live
-first_all rows live count e h = record { long = h.long ∙ e; each = h.each }

@@ -5,7 +5,7 @@ use Rattle.std.specs.List.{All, Contains}
 use Rattle.std.specs.Int.{IsGcd}
 use Prim.Native.Nat.{◌∣◌}
 use Rattle.std.proofs.lemmas.Int.{ints, unsigned_abs-mul}
-use Rattle.std.proofs.lemmas.List.{get_or-take, get_or-map, length-map, length-take-le, take_more, take_all, map_push, get_or_default}
+use Rattle.std.proofs.lemmas.List.{get_or-take, get_or-map, length-map, length-take-le, take_more, map_push, get_or_default}
 use Rattle.std.proofs.lemmas.List.Elements.{All-nil, All-more, All-push, All-weaker, Contains-push, Contains-append_left}
 use Rattle.std.proofs.lemmas.Nat.Gcd.{dvd_refl, dvd_trans, dvd-zero, dvd_antisymm, le_of_dvd}
 use Rattle.std.proofs.Math.Nat.{mul-div_cancel', dvd-mul_right}
@@ -33,9 +33,6 @@ divisor_more old new magnitude numbers last i lt e g h = record {
   divides_last = dvd_trans new g.0 h.divides_last;
   greatest = λ k all m. g.2 k (h.greatest k (take_front (λ n. k ∣ unsigned_abs n) numbers i (pos 0) lt all) m) (subst (λ z. k ∣ z) (sym e) (take_last (λ n. k ∣ unsigned_abs n) numbers i (pos 0) lt all));
 }
-
-pub divisor_whole : (divisor : ℕ) (numbers : List ℤ) (last : ℤ) (i : ℕ) → length numbers ≤ i → IsDivisor divisor (take i numbers) last → IsDivisor divisor numbers last
-divisor_whole divisor numbers last i le h = subst (λ ns. IsDivisor divisor ns last) (take_all i numbers le) h
 
 -- ---- Quotients
 
@@ -180,6 +177,3 @@ pub reduced_next : (keep : ℕ) (live : List Kept) (i : ℕ) (k : Kept) (row : O
     → IfSome row (λ f. new ≡ rows ++ f ∷ []) → IfNone row (new ≡ rows) → AreReduced keep (take i live) rows → AreReduced keep (take (i + 1) live) new
 reduced_next keep live i k (Some f) rows new lt e least blank is same h = reduced_more keep live i k rows new f lt e is least h
 reduced_next keep live i k None rows new lt e least blank is same h = subst (AreReduced keep (take (i + 1) live)) (sym same) (reduced_blank keep live i k rows lt e blank h)
-
-pub reduced_whole : (keep : ℕ) (live : List Kept) (i : ℕ) (rows : List Affine) → length live ≤ i → AreReduced keep (take i live) rows → AreReduced keep live rows
-reduced_whole keep live i rows le h = subst (λ ks. AreReduced keep ks rows) (take_all i live le) h
