@@ -3,7 +3,7 @@ use Rattle.std.specs.Prelude.{ℕ, ◌+◌, ◌^◌, ◌<◌, nat_lt, length, ma
 use Rattle.std.specs.List.{list_all}
 use Rattle.affc_ast.specs.declared.tree.Program.{Program}
 use Rattle.affc_ast.specs.Index.{nodes_of_compare}
-use Rattle.affc_ast.specs.Meaning.{arrays_of, nodes_of_decls, nodes_in, assigns_in, part_of}
+use Rattle.affc_ast.specs.Meaning.{arrays_of, nodes_of_decls, nodes_in, assigns_in, denotation_of}
 use Rattle.affc_ast.specs.Trace.{assignments}
 
 -- how many arrays the program has
@@ -18,11 +18,11 @@ abbrev pub body_node : Program → ℕ
 body_node program = temps_node program + nodes_of_decls program.temps
 
 abbrev pub node_total : Program → ℕ
-node_total program = body_node program + nodes_in (map part_of program.body)
+node_total program = body_node program + nodes_in (map denotation_of program.body)
 
 -- The numbers of arrays, nodes and assignments are below 2^32, and each assignment is to one of the program's arrays.
 pub record IsCounted (program : Program) : Type 0 where
   pub arrays : array_count program < 2 ^ 32
   pub nodes : node_total program < 2 ^ 32
-  pub assigns : assigns_in (map part_of program.body) < 2 ^ 32
+  pub assigns : assigns_in (map denotation_of program.body) < 2 ^ 32
   pub own_arrays : IsTrue (list_all (λ a. nat_lt a.array.0 (array_count program)) (assignments program))

@@ -57,19 +57,19 @@ pub record Position : Type 0 where
   pub statement : ℕ
 
 -- a statement: how many nodes and assignments it has, and what it does where it stands
-pub record Part : Type 0 where
+pub record Denotation : Type 0 where
   pub nodes : ℕ
   pub assigns : ℕ
   pub run : Position → Scope → State → Outcome
 
-abbrev pub nodes_in : List Part → ℕ
+abbrev pub nodes_in : List Denotation → ℕ
 nodes_in ps = sum_by (λ p. p.nodes) ps
 
-abbrev pub assigns_in : List Part → ℕ
+abbrev pub assigns_in : List Denotation → ℕ
 assigns_in ps = sum_by (λ p. p.assigns) ps
 
 -- the position after a statement
-abbrev pub past : Part → Position → Position
+abbrev pub past : Denotation → Position → Position
 past p here = record { node = here.node + p.nodes; statement = here.statement + p.assigns }
 
 -- the position after the first nodes of a statement
@@ -77,7 +77,7 @@ abbrev pub inside : Position → (nodes : ℕ) → Position
 inside here nodes = record here { node = here.node + nodes }
 
 -- one statement after another
-abbrev pub in_order : List Part → Position → Scope → State → Outcome
+abbrev pub in_order : List Denotation → Position → Scope → State → Outcome
 in_order [] here scope state = Ended state
 in_order (p ∷ ps) here scope state = then_do (p.run here scope state) (in_order ps (past p here) scope)
 
@@ -149,7 +149,7 @@ with_locals (l ∷ ls) node scope =
 
 -- ---- What each statement does, once what each statement in its body does is known
 
-abbrev pub stmt_step : Stmt-F Part → Part
+abbrev pub stmt_step : Stmt-F Denotation → Denotation
 -- The lower bound is read once (6.8.5.3). The upper bound is read before each turn: it holds the same names with
 -- the same values each time, so it is what it was before the first turn, and the number of turns is known then.
 stmt_step (For iter low rel high body) =
@@ -191,8 +191,8 @@ stmt_step (Block locals body) =
           in_order body (inside here head) inner state);
     }
 
-abbrev pub part_of : Stmt → Part
-part_of = by_stmt stmt_step
+abbrev pub denotation_of : Stmt → Denotation
+denotation_of = by_stmt stmt_step
 
 -- ---- Programs
 
@@ -232,4 +232,4 @@ meaning program p store =
     let body = temps + nodes_of_decls program.temps in
     reading (all_extents 0 arrays 0 p) start (λ given.
     reading (all_extents (length arrays) program.temps temps p) start (λ own.
-    in_order (map part_of program.body) (record { node = body; statement = 0 }) (record { names = p; iterators = []; extents = given ++ own }) start))
+    in_order (map denotation_of program.body) (record { node = body; statement = 0 }) (record { names = p; iterators = []; extents = given ++ own }) start))

@@ -10,14 +10,14 @@ use sqlite_items::{Boxed, Items};
 use std::alloc::{AllocError, Global};
 
 /// A part of a tree, which can be copied.
-pub trait Part: Drop {
+pub trait Copied: Drop {
     fn own_copy(&self, alloc: Global) -> Result<Self, AllocError>
         ensures { IfOk result (λ x. x ≡ self.now) };
 }
 
 /// A copy of each.
 #[tactic(auto, using(std::proofs::lemmas::List::take_more, std::proofs::lemmas::List::take_all))]
-pub fn all<T: Part>(alloc: Global, items: &[T]) -> Result<Items<T>, AllocError>
+pub fn all<T: Copied>(alloc: Global, items: &[T]) -> Result<Items<T>, AllocError>
     ensures { IfOk result (λ xs. xs ≡ items.now) }
 {
     let mut made = Items::new(alloc);
@@ -27,37 +27,37 @@ pub fn all<T: Part>(alloc: Global, items: &[T]) -> Result<Items<T>, AllocError>
     Ok(made)
 }
 
-impl Part for Ix {
+impl Copied for Ix {
     fn own_copy(&self, alloc: Global) -> Result<Ix, AllocError> {
         self.to_owned(alloc)
     }
 }
 
-impl Part for Compare {
+impl Copied for Compare {
     fn own_copy(&self, alloc: Global) -> Result<Compare, AllocError> {
         self.to_owned(alloc)
     }
 }
 
-impl Part for Local {
+impl Copied for Local {
     fn own_copy(&self, alloc: Global) -> Result<Local, AllocError> {
         self.to_owned(alloc)
     }
 }
 
-impl Part for Decl {
+impl Copied for Decl {
     fn own_copy(&self, alloc: Global) -> Result<Decl, AllocError> {
         self.to_owned(alloc)
     }
 }
 
-impl Part for Param {
+impl Copied for Param {
     fn own_copy(&self, alloc: Global) -> Result<Param, AllocError> {
         self.to_owned(alloc)
     }
 }
 
-impl Part for Stmt {
+impl Copied for Stmt {
     fn own_copy(&self, alloc: Global) -> Result<Stmt, AllocError> {
         self.to_owned(alloc)
     }

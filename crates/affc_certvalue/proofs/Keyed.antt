@@ -42,10 +42,10 @@ keys_done (k ∷ ks) es g = rw g (sym (eqb-suc-zero (length ks)))
 
 pub ruleset key_steps = (keys_many, keys_other, keys_same, keys_done)
 
-abbrev pub Part : Type 0
-Part = List ℕ × (Data → Verdict)
+abbrev pub Field : Type 0
+Field = List ℕ × (Data → Verdict)
 
-abbrev keys_of : List Part → List (List ℕ)
+abbrev keys_of : List Field → List (List ℕ)
 keys_of parts = map (λ p. p.0) parts
 
 -- ---- Other keys
@@ -54,13 +54,13 @@ unkeyed_by : (b : Bool) (v rest : Verdict) (more : Bool) → (b && more) ≡ fal
 unkeyed_by true v rest more e h = ap (worse v) (h e) ∙ worse_shape v
 unkeyed_by false v rest more e h = refl
 
-unkeyed : (parts : List Part) (ms : Members) → are_keys (keys_of parts) ms ≡ false → keyed parts ms ≡ Shape
+unkeyed : (parts : List Field) (ms : Members) → are_keys (keys_of parts) ms ≡ false → keyed parts ms ≡ Shape
 unkeyed [] no_members e = absurd (true≢false e)
 unkeyed [] (member l d ms) e = refl
 unkeyed (p ∷ ps) no_members e = refl
 unkeyed (p ∷ ps) (member l d ms) e = unkeyed_by (bytes_eq l p.0) (p.1 d) (keyed ps ms) (are_keys (keys_of ps) ms) e (unkeyed ps ms)
 
-pub other_keys : (parts : List Part) (d : Data) → has_keys (keys_of parts) d ≡ false → members parts d ≡ Shape
+pub other_keys : (parts : List Field) (d : Data) → has_keys (keys_of parts) d ≡ false → members parts d ≡ Shape
 other_keys parts null e = refl
 other_keys parts (boolean b) e = refl
 other_keys parts (number n) e = refl

@@ -11,7 +11,7 @@ use Rattle.affc_ast.specs.declared.tree.Val.{Val}
 use Rattle.affc_ast.specs.declared.tree.Stmt.{Stmt}
 use Rattle.affc_ast.specs.Index.{Index, index_step, nodes_of_ix, nodes_of_compare}
 use Rattle.affc_ast.specs.Values.{Value, value_step, value_of}
-use Rattle.affc_ast.specs.Meaning.{Part, stmt_step, part_of, nodes_in, assigns_in, nodes_of_locals}
+use Rattle.affc_ast.specs.Meaning.{Part, stmt_step, denotation_of, nodes_in, assigns_in, nodes_of_locals}
 use Rattle.affc_grammar.specs.Grammar.{Choice, minimum, maximum, remainder, Rounding, down, up}
 use Rattle.affc_grammar.specs.Draft.{IxDraft, literal, name, negated, sum, difference, product, grouped, chosen, divided, CompareDraft, ValueDraft, load, constant, cast, complement, binary, shift, LocalDraft, StmtsDraft, no_stmts, and_stmt, StmtDraft, for_loop, if_all, assign, block}
 use Rattle.affc_grammar.specs.Names.{Scope, Checked, each, choice_tree, rounding_tree, number_named, array_named, ix_tree, compare_tree, value_tree, locals_tree, head_tree, stmts_tree, stmt_tree, why_declared, why_repeated, with_number}
@@ -151,22 +151,22 @@ Has n ps = (nodes_in ps ≤ n) × (assigns_in ps ≤ n)
 abbrev HasOne : ℕ → Part → Type 0
 HasOne n p = (p.nodes ≤ n) × (p.assigns ≤ n)
 
-has_more : (m n : ℕ) (xs : List Stmt) (x : Stmt) → Has m (map part_of xs) → HasOne n (part_of x) → Has (m + n) (map part_of (xs ++ x ∷ []))
+has_more : (m n : ℕ) (xs : List Stmt) (x : Stmt) → Has m (map denotation_of xs) → HasOne n (denotation_of x) → Has (m + n) (map denotation_of (xs ++ x ∷ []))
 has_more m n xs x h k =
-    subst (Has (m + n)) (sym (map-append part_of xs (x ∷ []))) (
-      omega (arith, h.0, k.0, sum_by-append (λ (p : Part). p.nodes) (map part_of xs) (part_of x ∷ []), sum_by-cons (λ (p : Part). p.nodes) (part_of x) []),
-      omega (arith, h.1, k.1, sum_by-append (λ (p : Part). p.assigns) (map part_of xs) (part_of x ∷ []), sum_by-cons (λ (p : Part). p.assigns) (part_of x) []),
+    subst (Has (m + n)) (sym (map-append denotation_of xs (x ∷ []))) (
+      omega (arith, h.0, k.0, sum_by-append (λ (p : Part). p.nodes) (map denotation_of xs) (denotation_of x ∷ []), sum_by-cons (λ (p : Part). p.nodes) (denotation_of x) []),
+      omega (arith, h.1, k.1, sum_by-append (λ (p : Part). p.assigns) (map denotation_of xs) (denotation_of x ∷ []), sum_by-cons (λ (p : Part). p.assigns) (denotation_of x) []),
     )
 
 mutual
-  pub stmts_has : (scope : Scope) (cs : StmtsDraft) (xs : List Stmt) → stmts_tree scope cs ≡ Ok xs → Has (stmts_size cs) (map part_of xs)
-  stmts_has scope no_stmts xs e = subst (λ (l : List Stmt). Has 0 (map part_of l)) (ok_of e) (omega arith, omega arith)
+  pub stmts_has : (scope : Scope) (cs : StmtsDraft) (xs : List Stmt) → stmts_tree scope cs ≡ Ok xs → Has (stmts_size cs) (map denotation_of xs)
+  stmts_has scope no_stmts xs e = subst (λ (l : List Stmt). Has 0 (map denotation_of l)) (ok_of e) (omega arith, omega arith)
   stmts_has scope (and_stmt cs c) xs e =
       let p = then_is (stmts_tree scope cs) _ xs e in
       let q = then_is (stmt_tree scope c) _ xs p.2 in
-      subst (λ (l : List Stmt). Has (stmts_size cs + stmt_size c) (map part_of l)) (ok_of q.2) (has_more (stmts_size cs) (stmt_size c) p.0 q.0 (stmts_has scope cs p.0 p.1) (stmt_has scope c q.0 q.1))
+      subst (λ (l : List Stmt). Has (stmts_size cs + stmt_size c) (map denotation_of l)) (ok_of q.2) (has_more (stmts_size cs) (stmt_size c) p.0 q.0 (stmts_has scope cs p.0 p.1) (stmt_has scope c q.0 q.1))
 
-  stmt_has : (scope : Scope) (c : StmtDraft) (x : Stmt) → stmt_tree scope c ≡ Ok x → HasOne (stmt_size c) (part_of x)
+  stmt_has : (scope : Scope) (c : StmtDraft) (x : Stmt) → stmt_tree scope c ≡ Ok x → HasOne (stmt_size c) (denotation_of x)
   stmt_has scope (for_loop h body) x e =
       let p = then_is (head_tree scope h) _ x e in
       let q = then_is (stmts_tree (with_number true scope h.iterator.name) body) _ x p.2 in
@@ -182,7 +182,7 @@ mutual
       let last : nodes_of_ix high.0 ≡ nodes_of_ix p.0.1 = ap (λ (z : Ix × Ix). nodes_of_ix z.1) bounds in
       let k = stmts_has (with_number true scope h.iterator.name) body q.0 q.1 in
       let here = for_here stmt_step h.iterator.name p.0.0 h.rel p.0.1 q.0 in
-      subst (λ (y : Stmt). HasOne (stmt_size (for_loop h body)) (part_of y)) (ok_of q.2)
+      subst (λ (y : Stmt). HasOne (stmt_size (for_loop h body)) (denotation_of y)) (ok_of q.2)
       (omega (arith, m, n, first, last, k.0, ap (λ (a : Part). a.nodes) here), omega (arith, k.1, ap (λ (a : Part). a.assigns) here))
   stmt_has scope (if_all at cs body) x e =
       let p = then_is (each (compare_tree scope) cs) _ x e in
@@ -190,7 +190,7 @@ mutual
       let m = compares_nodes scope cs p.0 p.1 in
       let k = stmts_has scope body q.0 q.1 in
       let here = if_here stmt_step p.0 q.0 in
-      subst (λ (y : Stmt). HasOne (stmt_size (if_all at cs body)) (part_of y)) (ok_of q.2)
+      subst (λ (y : Stmt). HasOne (stmt_size (if_all at cs body)) (denotation_of y)) (ok_of q.2)
       (omega (arith, m, k.0, ap (λ (a : Part). a.nodes) here), omega (arith, k.1, ap (λ (a : Part). a.assigns) here))
   stmt_has scope (assign w subs op v) x e =
       let p = then_is (array_named scope w.at w.name true (length subs)) _ x e in
@@ -198,12 +198,12 @@ mutual
       let r = then_is (value_tree scope v) _ x q.2 in
       let m = all_nodes scope subs q.0 q.1 in
       let n = value_nodes scope v r.0 r.1 in
-      subst (λ (y : Stmt). HasOne (stmt_size (assign w subs op v)) (part_of y)) (ok_of r.2) (omega arith, omega arith)
+      subst (λ (y : Stmt). HasOne (stmt_size (assign w subs op v)) (denotation_of y)) (ok_of r.2) (omega arith, omega arith)
   stmt_has scope (block cs body) x e =
       let p = then_is (locals_tree scope cs) _ x e in
       let q = then_is (stmts_tree p.0.1 body) _ x p.2 in
       let m = locals_nodes scope cs p.0 p.1 in
       let k = stmts_has p.0.1 body q.0 q.1 in
       let here = block_here stmt_step p.0.0 q.0 in
-      subst (λ (y : Stmt). HasOne (stmt_size (block cs body)) (part_of y)) (ok_of q.2)
+      subst (λ (y : Stmt). HasOne (stmt_size (block cs body)) (denotation_of y)) (ok_of q.2)
       (omega (arith, m, k.0, ap (λ (a : Part). a.nodes) here), omega (arith, k.1, ap (λ (a : Part). a.assigns) here))

@@ -8,7 +8,7 @@ use Rattle.affc_ast.specs.declared.tree.Stmt.TheVariants as s
 use Rattle.affc_ast.specs.declared.tree.Stmt.TheBlock.{Row_of-Stmt, more_of-Stmt, end_of-Stmt}
 use Rattle.affc_ast.specs.Cause.{Cause}
 use Rattle.affc_ast.specs.Index.{index_value, in_int64, nodes_of_ix, nodes_of_compare, conditions}
-use Rattle.affc_ast.specs.Meaning.{State, Outcome, Ended, Stuck, then_do, reading, begun, write, Position, Part, nodes_in, assigns_in, past, inside, in_order, with_iterator, turns_of, turns, assigned, with_locals, nodes_of_locals, stmt_step, part_of}
+use Rattle.affc_ast.specs.Meaning.{State, Outcome, Ended, Stuck, then_do, reading, begun, write, Position, Denotation, nodes_in, assigns_in, past, inside, in_order, with_iterator, turns_of, turns, assigned, with_locals, nodes_of_locals, stmt_step, denotation_of}
 use Rattle.affc_ast.specs.Recursion.{by_each}
 use Rattle.affc_ast.specs.Store.{Element, Store, with_value}
 use Rattle.affc_ast.specs.Values.{Scope}
@@ -54,35 +54,35 @@ step_same limit n o g grows same =
 
 -- ---- Parts
 
-pub record Agrees (p : Part) (q : Exec) : Type 0 where
+pub record Agrees (p : Denotation) (q : Exec) : Type 0 where
   pub nodes : q.nodes ≡ p.nodes
   pub assigns : q.assigns ≡ p.assigns
   pub grows : (here : Position) (scope : Scope) (state : State) → state.steps ≤ steps_of (p.run here scope state)
   pub same : (limit : ℕ) (here : Position) (scope : Scope) (state : State) → state.steps ≤ limit → within_limit limit (p.run here scope state) ≡ q.run limit here scope state.store state.steps
 
-abbrev pub AllAgree : List Part → List Exec → Type 0
+abbrev pub AllAgree : List Denotation → List Exec → Type 0
 AllAgree [] [] = Unit {0}
 AllAgree (p ∷ ps) (q ∷ qs) = Agrees p q × AllAgree ps qs
 AllAgree _ _ = ⊥
 
-pub all_nodes : (ps : List Part) (qs : List Exec) → AllAgree ps qs → sum_by (λ q. q.nodes) qs ≡ nodes_in ps
+pub all_nodes : (ps : List Denotation) (qs : List Exec) → AllAgree ps qs → sum_by (λ q. q.nodes) qs ≡ nodes_in ps
 all_nodes [] [] h = refl
 all_nodes [] (q ∷ qs) h = absurd h
 all_nodes (p ∷ ps) [] h = absurd h
 all_nodes (p ∷ ps) (q ∷ qs) h = sum_by-cons (λ q. q.nodes) q qs ∙ (λ i. h.0.nodes i + all_nodes ps qs h.1 i) ∙ sym (sum_by-cons (λ p. p.nodes) p ps)
 
-pub all_assigns : (ps : List Part) (qs : List Exec) → AllAgree ps qs → sum_by (λ q. q.assigns) qs ≡ assigns_in ps
+pub all_assigns : (ps : List Denotation) (qs : List Exec) → AllAgree ps qs → sum_by (λ q. q.assigns) qs ≡ assigns_in ps
 all_assigns [] [] h = refl
 all_assigns [] (q ∷ qs) h = absurd h
 all_assigns (p ∷ ps) [] h = absurd h
 all_assigns (p ∷ ps) (q ∷ qs) h = sum_by-cons (λ q. q.assigns) q qs ∙ (λ i. h.0.assigns i + all_assigns ps qs h.1 i) ∙ sym (sum_by-cons (λ p. p.assigns) p ps)
 
-all_grow : (ps : List Part) (qs : List Exec) → AllAgree ps qs → (here : Position) (scope : Scope) (state : State) → state.steps ≤ steps_of (in_order ps here scope state)
+all_grow : (ps : List Denotation) (qs : List Exec) → AllAgree ps qs → (here : Position) (scope : Scope) (state : State) → state.steps ≤ steps_of (in_order ps here scope state)
 all_grow [] qs h here scope state = omega arith
 all_grow (p ∷ ps) [] h here scope state = absurd h
 all_grow (p ∷ ps) (q ∷ qs) h here scope state = grown (p.run here scope state) (in_order ps (past p here) scope) state.steps (h.0.grows here scope state) (all_grow ps qs h.1 (past p here) scope)
 
-pub all_same : (ps : List Part) (qs : List Exec) → AllAgree ps qs → (limit : ℕ) (here : Position) (scope : Scope) (state : State) → state.steps ≤ limit
+pub all_same : (ps : List Denotation) (qs : List Exec) → AllAgree ps qs → (limit : ℕ) (here : Position) (scope : Scope) (state : State) → state.steps ≤ limit
     → within_limit limit (in_order ps here scope state) ≡ all_of limit qs here scope state.store state.steps
 all_same [] [] h limit here scope state le = ap (λ (t : Bool). if t then Ok (state.store, state.steps) else Err OutOfSteps) (le-leb state.steps limit le)
 all_same [] (q ∷ qs) h limit here scope state le = absurd h
@@ -140,9 +140,9 @@ assign_same limit r state =
     (λ x. ap (λ (t : Bool). if t then Ok (with_value state.store x.0 x.1, state.steps + 1) else Err OutOfSteps) (le-leb (state.steps + 1) limit le)))
 
 mutual
-  pub agrees : (stmt : Stmt) → Agrees (part_of stmt) (exec_of stmt)
+  pub agrees : (stmt : Stmt) → Agrees (denotation_of stmt) (exec_of stmt)
   agrees (s.For' iter low rel high shape body) =
-      let ps : List Part = by_each stmt_step body in
+      let ps : List Denotation = by_each stmt_step body in
       let qs : List Exec = by_each exec_step body in
       let h : AllAgree ps qs = agree_each body in
       let head : ℕ = 1 + nodes_of_ix low + nodes_of_ix high in
@@ -160,7 +160,7 @@ mutual
             (λ y s. all_grow ps qs h (inside here head) (with_iterator scope y) s) (λ y s l. all_same ps qs h limit (inside here head) (with_iterator scope y) s l) state le));
       }
   agrees (s.If' conds shape body) =
-      let ps : List Part = by_each stmt_step body in
+      let ps : List Denotation = by_each stmt_step body in
       let qs : List Exec = by_each exec_step body in
       let h : AllAgree ps qs = agree_each body in
       let head : ℕ = 1 + sum_by nodes_of_compare conds in
@@ -177,7 +177,7 @@ mutual
     same = λ limit here scope state le. assign_same limit (assigned op array subs value here.node scope state.store (record { statement = here.statement; iterators = scope.iterators })) state;
   }
   agrees (s.Block' locals shape body) =
-      let ps : List Part = by_each stmt_step body in
+      let ps : List Denotation = by_each stmt_step body in
       let qs : List Exec = by_each exec_step body in
       let h : AllAgree ps qs = agree_each body in
       let head : ℕ = 1 + nodes_of_locals locals in
@@ -192,15 +192,15 @@ mutual
   agree_each end_of-Stmt = tt
   agree_each (more_of-Stmt x rest) = (agrees x, agree_each rest)
 
-pub all_agree : (body : List Stmt) → AllAgree (map part_of body) (map exec_of body)
+pub all_agree : (body : List Stmt) → AllAgree (map denotation_of body) (map exec_of body)
 all_agree [] = tt
 all_agree (x ∷ xs) = (agrees x, all_agree xs)
 
-pub runs_cut : (limit : ℕ) (body : List Stmt) (here : Position) (scope : Scope) (store : Store) → within_limit limit (in_order (map part_of body) here scope (record { store = store; written = []; steps = 0 })) ≡ all_of limit (map exec_of body) here scope store 0
-runs_cut limit body here scope store = all_same (map part_of body) (map exec_of body) (all_agree body) limit here scope (record { store = store; written = []; steps = 0 }) (omega arith)
+pub runs_cut : (limit : ℕ) (body : List Stmt) (here : Position) (scope : Scope) (store : Store) → within_limit limit (in_order (map denotation_of body) here scope (record { store = store; written = []; steps = 0 })) ≡ all_of limit (map exec_of body) here scope store 0
+runs_cut limit body here scope store = all_same (map denotation_of body) (map exec_of body) (all_agree body) limit here scope (record { store = store; written = []; steps = 0 }) (omega arith)
 
-pub run_nodes : (body : List Stmt) → sum_by (λ q. q.nodes) (map exec_of body) ≡ nodes_in (map part_of body)
-run_nodes body = all_nodes (map part_of body) (map exec_of body) (all_agree body)
+pub run_nodes : (body : List Stmt) → sum_by (λ q. q.nodes) (map exec_of body) ≡ nodes_in (map denotation_of body)
+run_nodes body = all_nodes (map denotation_of body) (map exec_of body) (all_agree body)
 
-pub run_assigns : (body : List Stmt) → sum_by (λ q. q.assigns) (map exec_of body) ≡ assigns_in (map part_of body)
-run_assigns body = all_assigns (map part_of body) (map exec_of body) (all_agree body)
+pub run_assigns : (body : List Stmt) → sum_by (λ q. q.assigns) (map exec_of body) ≡ assigns_in (map denotation_of body)
+run_assigns body = all_assigns (map denotation_of body) (map exec_of body) (all_agree body)

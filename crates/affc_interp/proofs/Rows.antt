@@ -49,7 +49,7 @@ module _ {A B : Type 0} (first : A → A) (row nodes : A → ℕ) (read : A → 
       a.stuck n c (stuck_below k (first e) (n + 1) c (let f = a.fewer in omega (arith, f, h)) (ap (read (below first k (first e))) z ∙ s))
 
   -- what stands h down, on the way to what stands h + j down
-  pub record Part (e m : A) (h j n : ℕ) : Type 0 where
+  pub record Way (e m : A) (h j n : ℕ) : Type 0 where
     pub fewer : row e ≡ h + row m
     pub smaller : nodes m + h ≤ nodes e
     pub less : nodes (below first j m) + j ≤ nodes m
@@ -57,7 +57,7 @@ module _ {A B : Type 0} (first : A → A) (row nodes : A → ℕ) (read : A → 
     pub inner : below first (h + j) e ≡ below first j m
     pub read_on : read (below first (h + j) e) (n + (h + j)) ≡ read (below first j m) (n + h + j)
 
-  pub part_way : (e m : A) (h j n : ℕ) → m ≡ below first h e → h + j ≤ row e → Part e m h j n
+  pub part_way : (e m : A) (h j n : ℕ) → m ≡ below first h e → h + j ≤ row e → Way e m h j n
   part_way e m h j n is le =
       let r : row e ≡ h + row m = row_below h e (omega (arith, le)) ∙ ap (λ x. h + row x) (sym is) in
       let s : nodes m + h ≤ nodes e = let t = nodes_below h e (omega (arith, le)) in let q : nodes m ≡ nodes (below first h e) = ap nodes is in omega (arith, t, q) in
@@ -129,7 +129,7 @@ some_nodes_value (v.Bin' op s (more_of-Val a end_of-Val) t (more_of-Val b end_of
 some_nodes_value (v.Shift' left s (more_of-Val a end_of-Val) by) = omega arith
 
 module _ (names : List ℤ) (e m : Ix) (h n : ℕ) (is : m ≡ below first_operand h e) where
-  pub ix_part : (j : ℕ) → h + j ≤ operators e → Part first_operand operators nodes_of_ix (read_ix names) (ix_adds names) e m h j n
+  pub ix_part : (j : ℕ) → h + j ≤ operators e → Way first_operand operators nodes_of_ix (read_ix names) (ix_adds names) e m h j n
   ix_part j le = part_way first_operand operators nodes_of_ix (read_ix names) (ix_adds names) e m h j n is le
 
   pub ix_stuck : (cause : Cause) → h ≤ operators e → Err cause ≡ index_value m (n + h) names → Err cause ≡ index_value e n names
@@ -139,7 +139,7 @@ pub ix_row_fits : (e : Ix) → operators e < nodes_of_ix e
 ix_row_fits e = fits first_operand operators nodes_of_ix (read_ix []) (ix_adds []) e (some_nodes_ix (below first_operand (operators e) e))
 
 module _ (access : ℕ) (names : List ℤ) (memory : Held) (here : Instance) (e m : Val) (h n : ℕ) (is : m ≡ below first_value h e) where
-  pub value_part : (j : ℕ) → h + j ≤ value_operators e → Part first_value value_operators value_nodes (read_value access names memory here) (value_adds access names memory here) e m h j n
+  pub value_part : (j : ℕ) → h + j ≤ value_operators e → Way first_value value_operators value_nodes (read_value access names memory here) (value_adds access names memory here) e m h j n
   value_part j le = part_way first_value value_operators value_nodes (read_value access names memory here) (value_adds access names memory here) e m h j n is le
 
   pub value_stuck : (cause : Cause) → h ≤ value_operators e → Err cause ≡ (value_of m).value (sight_at (n + h) access names memory here) → Err cause ≡ (value_of e).value (sight_at n access names memory here)

@@ -14,7 +14,7 @@ use Rattle.affc_interp.specs.declared.fault.Halt.TheVariants as halt
 use Rattle.affc_interp.specs.declared.machine.Machine.{Machine}
 use Rattle.affc_interp.specs.declared.run.RunFault.{RunFault}
 use Rattle.affc_ast.specs.declared.tree.Program.{Program}
-use Rattle.affc_ast.specs.Meaning.{State, arrays_of, extents_of, all_extents, part_of, meaning}
+use Rattle.affc_ast.specs.Meaning.{State, arrays_of, extents_of, all_extents, denotation_of, meaning}
 use Rattle.affc_ast.specs.Store.{Store}
 use Rattle.affc_interp.specs.Budget.{Run, Stop, stuck_or, all_of, exec_of}
 use Rattle.affc_interp.specs.Machines.{Finishes, Halts, scope_of, position}
@@ -31,7 +31,7 @@ run_is limit program p store =
     let state : State = record { store = store; written = []; steps = 0 } in
     read_same limit (all_extents 0 (arrays_of program.params) 0 p) state _ _ (omega arith) (λ given.
     read_same limit (all_extents (length (arrays_of program.params)) program.temps (temps_node program) p) state _ _ (omega arith) (λ own.
-    all_same (map part_of program.body) (map exec_of program.body) (all_agree program.body) limit (position (body_node program) 0) (record { names = p; iterators = []; extents = given ++ own }) state (omega arith)))
+    all_same (map denotation_of program.body) (map exec_of program.body) (all_agree program.body) limit (position (body_node program) 0) (record { names = p; iterators = []; extents = given ++ own }) state (omega arith)))
 
 module _ (limit : ℕ) (program : Program) (p : List ℤ) (values : List (List ℕ)) where
   abbrev outcome : Run

@@ -3,7 +3,7 @@ ghost use Rattle.std.specs.Prelude.{◌≡◌, ℕ, ℤ, true, List, [], map};
 ghost use Rattle.affc_ast.specs.declared.tree.Program.{Program};
 ghost use Rattle.affc_ast.specs.Fits.{Fits};
 ghost use Rattle.affc_ast.specs.declared.tree.Stmt.{Stmt};
-ghost use Rattle.affc_ast.specs.Meaning.{Position, part_of, in_order};
+ghost use Rattle.affc_ast.specs.Meaning.{Position, denotation_of, in_order};
 ghost use Rattle.affc_ast.specs.Store.{Store};
 ghost use Rattle.affc_ast.specs.Values.{Scope};
 ghost use Rattle.affc_interp.specs.Budget.{exec_of, all_of};
@@ -13,7 +13,7 @@ ghost use Rattle.affc_interp.specs.Runs.{within_limit, start};
 
 /// A run that counts its steps is the meaning, cut where the steps are used up.
 pub fn runs_are_cut_at_their_limit()
-    ensures { (limit : ℕ) (body : List Stmt) (here : Position) (scope : Scope) (store : Store) → within_limit limit (in_order (map part_of body) here scope (record { store = store; written = []; steps = 0 })) ≡ all_of limit (map exec_of body) here scope store 0 }
+    ensures { (limit : ℕ) (body : List Stmt) (here : Position) (scope : Scope) (store : Store) → within_limit limit (in_order (map denotation_of body) here scope (record { store = store; written = []; steps = 0 })) ≡ all_of limit (map exec_of body) here scope store 0 }
 {}
 
 /// Data that a text gives fits the program, where each extent holds the names of parameters before it alone.

@@ -14,7 +14,7 @@ use Rattle.affc_ast.specs.declared.tree.Stmt.{Stmt}
 use Rattle.affc_ast.specs.declared.tree.Stmt.TheVariants.{Block}
 use Rattle.affc_ast.specs.Fits.{whole, holds, all_hold}
 use Rattle.affc_ast.specs.Index.{conditions, index_value, nodes_of_ix}
-use Rattle.affc_ast.specs.Meaning.{State, Outcome, Position, turns_of, in_order, past, with_iterator, with_locals, stmt_step, part_of, assigned}
+use Rattle.affc_ast.specs.Meaning.{State, Outcome, Position, turns_of, in_order, past, with_iterator, with_locals, stmt_step, denotation_of, assigned}
 use Rattle.affc_ast.specs.Store.{Store}
 use Rattle.affc_ast.specs.Trace.{Assignment, assignments, trace, loads_of_value}
 use Rattle.affc_ast.specs.Values.{Scope, is_within}
@@ -52,7 +52,7 @@ use Rattle.affc_loops.proofs.TestReads.{Inner, locals_read, box_reads, true_box,
 -- ---- statements
 
 abbrev pub run_all : List Stmt → Position → Scope → State → Outcome
-run_all body = in_order (map part_of body)
+run_all body = in_order (map denotation_of body)
 
 -- under tests that can be read
 if_wants : (conds : List Compare) (body : List Stmt) (scope : Scope) → ReadableAll conds scope.names
@@ -90,16 +90,16 @@ guarded_wants first more from (Test conds ∷ gs) body scope r h here t =
     guarded_wants first more from gs body scope (parts.1 held) (λ rest. h (all_append cs (guard_tests first more from gs) scope.names ∙ true_both (all_hold cs scope.names) _ held rest))) here t
 
 block_wants : (locals : List Local) (body : List Stmt) (here : Position) (scope : Scope) (names : List ℤ) (t : State) → ((node : ℕ) → (i : Scope) × (with_locals locals node scope ≡ Ok i) × Inner scope i names)
-    → ((i : Scope) → i.names ≡ names → i.extents ≡ scope.extents → (here : Position) (t : State) → Wants (run_all body here i t)) → Wants ((part_of (Block locals body)).run here scope t)
+    → ((i : Scope) → i.names ≡ names → i.extents ≡ scope.extents → (here : Position) (t : State) → Wants (run_all body here i t)) → Wants ((denotation_of (Block locals body)).run here scope t)
 block_wants locals body here scope names t r h =
     let l = r (here.node + 1) in
     subst (λ part. Wants (part.run here scope t)) (sym (block_here stmt_step locals body))
     (wants_reading (with_locals locals (here.node + 1) scope) l.0 t _ l.1 (h l.0 (l.2).its_names (l.2).its_extents _ t))
 
-all_want : (body : List Stmt) (scope : Scope) → ((x : Stmt) → IsIn x body → (here : Position) (t : State) → Wants ((part_of x).run here scope t)) → (here : Position) (t : State) → Wants (run_all body here scope t)
+all_want : (body : List Stmt) (scope : Scope) → ((x : Stmt) → IsIn x body → (here : Position) (t : State) → Wants ((denotation_of x).run here scope t)) → (here : Position) (t : State) → Wants (run_all body here scope t)
 all_want [] scope h here t = wants_ended t
 all_want (x ∷ body) scope h here t =
-    wants_then ((part_of x).run here scope t) _ (h x (inl refl) here t) (λ u. all_want body scope (λ y i. h y (inr i)) (past (part_of x) here) u)
+    wants_then ((denotation_of x).run here scope t) _ (h x (inl refl) here t) (λ u. all_want body scope (λ y i. h y (inr i)) (past (denotation_of x) here) u)
 
 -- ---- loops
 
@@ -168,7 +168,7 @@ piece_wants : (p t : List ℤ) (e : Piece) (extents : List (List ℤ)) → Fine 
     → ((xs : List ℤ) → InBox e.ranges xs → ReadAlong e.around p xs) → ((xs : List ℤ) → turns e.around p xs ≡ true → Kept e.assignment (p ++ xs) extents)
     → All IsSmall e.ranges → length e.ranges ≡ length (loop_names e.around)
     → ((xs : List ℤ) → InBox e.ranges xs → All (λ f. magnitude f (p ++ xs) < 2 ^ 63) e.times.forms) → All (λ g. magnitude g (p ++ t) < 2 ^ 63) e.times.inverse
-    → (scope : Scope) → scope.names ≡ p ++ t → scope.extents ≡ extents → (here : Position) (u : State) → Wants ((part_of (block_of (length p) (length t) e)).run here scope u)
+    → (scope : Scope) → scope.names ≡ p ++ t → scope.extents ≡ extents → (here : Position) (u : State) → Wants ((denotation_of (block_of (length p) (length t) e)).run here scope u)
 piece_wants p t e extents fine along kept ranges_small one_each times_small inverse_small scope n x here u =
     let xs : List ℤ = values_of e.times.inverse (p ++ t) in
     let names : List ℤ = p ++ (t ++ xs) in
@@ -214,27 +214,27 @@ module _ (source : Program) (n : ℕ) (maps : List TimeMap) (ranges : List (ℤ 
     all = pieces_from 0 (rounds source) (assignments source) maps boxes
 
     block_at : (e : Piece) → IsIn e all → (t : List ℤ) → InBox ranges t → (scope : Scope) → scope.names ≡ p ++ t → scope.extents ≡ extents → (here : Position) (u : State)
-        → Wants ((part_of (block_of (length p) (length ends) e)).run here scope u)
+        → Wants ((denotation_of (block_of (length p) (length ends) e)).run here scope u)
     block_at e i t b scope m x here u =
         let l : length t ≡ length ends = box_length ranges t b ∙ sym as_many in
         let h = parts source n maps ends boxes p schedule numbers components outwards encloses hold e i in
         let f = fine source n maps ends boxes p schedule numbers components outwards encloses hold e h in
         let k = is_piece 0 (rounds source) (assignments source) maps boxes e i in
         let fine_here : Fine p (length t) e = subst (λ q. Fine p q e) (sym l) f in
-        subst (λ q. Wants ((part_of (block_of (length p) q e)).run here scope u)) l
+        subst (λ q. Wants ((denotation_of (block_of (length p) q e)).run here scope u)) l
         (piece_wants p t e extents fine_here (along k.at e.around e.ranges k.its_guards k.its_ranges) (kept e.statement e.around e.assignment h.its_guards h.its_assignment)
         (small.boxes_small k.at e.ranges k.its_ranges) (small.one_each k.at e.ranges e.around k.its_ranges k.its_guards)
         (small.times_small k.at e.ranges e.times k.its_ranges k.its_times) (small.inverse_small k.at e.ranges e.times k.its_ranges k.its_times t b) scope m x here u)
 
     each_wants : (es : List Piece) → ((e : Piece) → IsIn e es → (t : List ℤ) → InBox ranges t → (scope : Scope) → scope.names ≡ p ++ t → scope.extents ≡ extents → (here : Position) (u : State)
-        → Wants ((part_of (block_of (length p) (length ends) e)).run here scope u))
+        → Wants ((denotation_of (block_of (length p) (length ends) e)).run here scope u))
         → (scope : Scope) → scope.names ≡ p → scope.extents ≡ extents → (here : Position) (u : State) → Wants (run_all (body_between (length p) ends es) here scope u)
     each_wants [] h scope m x here u = wants_ended u
     each_wants (e ∷ es) h scope m x here u =
         loops_want ranges ends 0 (map (block_of (length p) (length ends)) (e ∷ es)) p extents small.ranges_small run (λ t scope b m x here u.
         all_want (map (block_of (length p) (length ends)) (e ∷ es)) scope (λ s i here u.
         let q = in_map (block_of (length p) (length ends)) (e ∷ es) s i in
-        subst (λ s. Wants ((part_of s).run here scope u)) (sym q.2) (h q.0 q.1 t b scope m x here u)) here u) scope m x here u
+        subst (λ s. Wants ((denotation_of s).run here scope u)) (sym q.2) (h q.0 q.1 t b scope m x here u)) here u) scope m x here u
 
     -- the statements of the printed program
     pub body_wants : (scope : Scope) → scope.names ≡ p → scope.extents ≡ extents → (here : Position) (u : State) → Wants (run_all (body_between (numbers_in source.params) ends all) here scope u)

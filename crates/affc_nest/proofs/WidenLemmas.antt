@@ -13,8 +13,8 @@ use Rattle.affc_domain.specs.Affine.{sees, unit_of, are_small, is_small, linear,
 use Rattle.affc_domain.specs.Plain.{is_plain}
 use Rattle.affc_domain.proofs.FormLemmas.{form_width, same_named}
 use Rattle.affc_domain.proofs.Lists.{both_true, true_both}
-use Rattle.affc_nest.specs.declared.forms.Part.{Part}
-use Rattle.affc_nest.specs.Parts.{kept, mixture, multiple, part_of}
+use Rattle.affc_nest.specs.declared.forms.Operand.{Operand}
+use Rattle.affc_nest.specs.Operands.{kept, mixture, multiple, operand_of}
 use Rattle.affc_nest.specs.Questions.{widened}
 
 -- ---- Columns more
@@ -113,10 +113,10 @@ opposite_small f h =
     true_both (nat_le (nat_abs ((negsuc 0 *ℤ f.constant) +ℤ (pos 0 *ℤ f.constant))) 16777216) (are_small (mixed (negsuc 0) f.coefs (pos 0) f.coefs))
     (ap (λ n. nat_le n 16777216) (opposite_abs f.constant) ∙ a.0) (opposites_small f.coefs a.1)
 
--- ---- Parts
+-- ---- Operands
 
 is_kept : (named : Bool) (f : Affine) → is_small f ≡ true → kept named f ≡ Some (record { named = named; form = f })
-is_kept named f h = ap (λ t. if t then Some (let r : Part = record { named = named; form = f } in r) else None) h
+is_kept named f h = ap (λ t. if t then Some (let r : Operand = record { named = named; form = f } in r) else None) h
 
 -- small where its parts are
 pub small_form : (n : ℕ) (e : Ix) → (linear n 0 e).small ≡ true → is_small (form_of n 0 e) ≡ true
@@ -136,70 +136,70 @@ not_both : (t : Bool) → not t ≡ true → t ≡ false
 not_both true h = absurd (true≢false (sym h))
 not_both false h = refl
 
-pub part_is : (n : ℕ) (e : Ix) → (linear n 0 e).affine ≡ true → (linear n 0 e).small ≡ true → part_of n e ≡ Some (record { named = (linear n 0 e).named; form = (linear n 0 e).form })
-part_is n (c.Lit z) a h =
+pub operand_is : (n : ℕ) (e : Ix) → (linear n 0 e).affine ≡ true → (linear n 0 e).small ≡ true → operand_of n e ≡ Some (record { named = (linear n 0 e).named; form = (linear n 0 e).form })
+operand_is n (c.Lit z) a h =
     is_kept false (record { coefs = replicate n (pos 0); constant = z }) (true_both (nat_le (nat_abs z) 16777216) (are_small (replicate n (pos 0))) h (zeros_small n))
-    ∙ ap (λ k. Some (let r : Part = record { named = false; form = record { coefs = replicate k (pos 0); constant = z } } in r)) (no_more n)
+    ∙ ap (λ k. Some (let r : Operand = record { named = false; form = record { coefs = replicate k (pos 0); constant = z } } in r)) (no_more n)
   where
     no_more : (n : ℕ) → n ≡ n + 0
     no_more n = omega arith
-part_is n (c.Name x) a h =
+operand_is n (c.Name x) a h =
     is_kept true (record { coefs = unit_of n x.0; constant = pos 0 }) (unit_small n x.0)
-    ∙ ap (λ cs. Some (let r : Part = record { named = true; form = record { coefs = cs; constant = pos 0 } } in r)) (sym (append_nil (unit_of n x.0)))
-part_is n (c.Neg' s (more_of-Ix e end_of-Ix)) a h =
-    let p = part_is n e a h in
+    ∙ ap (λ cs. Some (let r : Operand = record { named = true; form = record { coefs = cs; constant = pos 0 } } in r)) (sym (append_nil (unit_of n x.0)))
+operand_is n (c.Neg' s (more_of-Ix e end_of-Ix)) a h =
+    let p = operand_is n e a h in
     let l = linear n 0 e in
     ap (λ o. mixture (negsuc 0) o (pos 0) o) p ∙ is_kept (l.named || l.named) (mixed_form (negsuc 0) l.form (pos 0) l.form) (opposite_small l.form (small_form n e h))
-    ∙ ap (λ t. Some (let r : Part = record { named = t; form = mixed_form (negsuc 0) l.form (pos 0) l.form } in r)) (twice l.named)
+    ∙ ap (λ t. Some (let r : Operand = record { named = t; form = mixed_form (negsuc 0) l.form (pos 0) l.form } in r)) (twice l.named)
   where
     twice : (t : Bool) → t || t ≡ t
     twice true = refl
     twice false = refl
-part_is n (c.Add' s (more_of-Ix d end_of-Ix) t (more_of-Ix e end_of-Ix)) a h =
+operand_is n (c.Add' s (more_of-Ix d end_of-Ix) t (more_of-Ix e end_of-Ix)) a h =
     let x = linear n 0 d in
     let y = linear n 0 e in
     let f = both_true x.affine y.affine a in
     let g = both_true (x.small && y.small) (is_small (mixed_form (pos 1) x.form (pos 1) y.form)) h in
     let k = both_true x.small y.small g.0 in
-    ap (λ o. mixture (pos 1) o (pos 1) (part_of n e)) (part_is n d f.0 k.0) ∙ ap (λ o. mixture (pos 1) (Some (record { named = x.named; form = x.form })) (pos 1) o) (part_is n e f.1 k.1)
+    ap (λ o. mixture (pos 1) o (pos 1) (operand_of n e)) (operand_is n d f.0 k.0) ∙ ap (λ o. mixture (pos 1) (Some (record { named = x.named; form = x.form })) (pos 1) o) (operand_is n e f.1 k.1)
     ∙ is_kept (x.named || y.named) (mixed_form (pos 1) x.form (pos 1) y.form) g.1
-part_is n (c.Sub' s (more_of-Ix d end_of-Ix) t (more_of-Ix e end_of-Ix)) a h =
+operand_is n (c.Sub' s (more_of-Ix d end_of-Ix) t (more_of-Ix e end_of-Ix)) a h =
     let x = linear n 0 d in
     let y = linear n 0 e in
     let f = both_true x.affine y.affine a in
     let g = both_true (x.small && y.small) (is_small (mixed_form (pos 1) x.form (negsuc 0) y.form)) h in
     let k = both_true x.small y.small g.0 in
-    ap (λ o. mixture (pos 1) o (negsuc 0) (part_of n e)) (part_is n d f.0 k.0) ∙ ap (λ o. mixture (pos 1) (Some (record { named = x.named; form = x.form })) (negsuc 0) o) (part_is n e f.1 k.1)
+    ap (λ o. mixture (pos 1) o (negsuc 0) (operand_of n e)) (operand_is n d f.0 k.0) ∙ ap (λ o. mixture (pos 1) (Some (record { named = x.named; form = x.form })) (negsuc 0) o) (operand_is n e f.1 k.1)
     ∙ is_kept (x.named || y.named) (mixed_form (pos 1) x.form (negsuc 0) y.form) g.1
-part_is n (c.Mul' s (more_of-Ix d end_of-Ix) t (more_of-Ix e end_of-Ix)) a h =
+operand_is n (c.Mul' s (more_of-Ix d end_of-Ix) t (more_of-Ix e end_of-Ix)) a h =
     let x = linear n 0 d in
     let y = linear n 0 e in
     let b = both_true (x.affine && y.affine) (not (x.named && y.named)) a in
     let f = both_true x.affine y.affine b.0 in
     let g = both_true (x.small && y.small) (is_small (product_form x.named x.form y.form)) h in
     let k = both_true x.small y.small g.0 in
-    ap (λ o. multiple o (part_of n e)) (part_is n d f.0 k.0) ∙ ap (λ o. multiple (Some (record { named = x.named; form = x.form })) o) (part_is n e f.1 k.1)
+    ap (λ o. multiple o (operand_of n e)) (operand_is n d f.0 k.0) ∙ ap (λ o. multiple (Some (record { named = x.named; form = x.form })) o) (operand_is n e f.1 k.1)
     ∙ ap (λ t. if t then None else kept (x.named || y.named) (product_form x.named x.form y.form)) (not_both (x.named && y.named) b.1)
     ∙ is_kept (x.named || y.named) (product_form x.named x.form y.form) g.1
-part_is n (c.Min' s (more_of-Ix d end_of-Ix) t (more_of-Ix e end_of-Ix)) a h = absurd (true≢false (sym a))
-part_is n (c.Max' s (more_of-Ix d end_of-Ix) t (more_of-Ix e end_of-Ix)) a h = absurd (true≢false (sym a))
-part_is n (c.Floord' s (more_of-Ix d end_of-Ix) z) a h = absurd (true≢false (sym a))
-part_is n (c.Ceild' s (more_of-Ix d end_of-Ix) z) a h = absurd (true≢false (sym a))
-part_is n (c.Mod' s (more_of-Ix d end_of-Ix) t (more_of-Ix e end_of-Ix)) a h = absurd (true≢false (sym a))
+operand_is n (c.Min' s (more_of-Ix d end_of-Ix) t (more_of-Ix e end_of-Ix)) a h = absurd (true≢false (sym a))
+operand_is n (c.Max' s (more_of-Ix d end_of-Ix) t (more_of-Ix e end_of-Ix)) a h = absurd (true≢false (sym a))
+operand_is n (c.Floord' s (more_of-Ix d end_of-Ix) z) a h = absurd (true≢false (sym a))
+operand_is n (c.Ceild' s (more_of-Ix d end_of-Ix) z) a h = absurd (true≢false (sym a))
+operand_is n (c.Mod' s (more_of-Ix d end_of-Ix) t (more_of-Ix e end_of-Ix)) a h = absurd (true≢false (sym a))
 
 -- ---- Plain expressions
 
 plain_parts : (n : ℕ) (e : Ix) → IsTrue (is_plain n e) → ((linear n 0 e).affine ≡ true) × ((linear n 0 e).small ≡ true)
 plain_parts n e h = both_true (linear n 0 e).affine (linear n 0 e).small (both_true (sees n e) ((linear n 0 e).affine && (linear n 0 e).small) h).1
 
-pub no_part : (n : ℕ) (e : Ix) → IsTrue (is_plain n e) → None ≡ part_of n e → ⊥
-no_part n e h g = let p = plain_parts n e h in none-some (record { named = (linear n 0 e).named; form = (linear n 0 e).form }) (g ∙ part_is n e p.0 p.1)
+pub no_operand : (n : ℕ) (e : Ix) → IsTrue (is_plain n e) → None ≡ operand_of n e → ⊥
+no_operand n e h g = let p = plain_parts n e h in none-some (record { named = (linear n 0 e).named; form = (linear n 0 e).form }) (g ∙ operand_is n e p.0 p.1)
 
-pub part_form : (n k : ℕ) (e : Ix) (a : Part) → IsTrue (is_plain n e) → Some a ≡ part_of n e → widened k a.form ≡ form_of n k e
-part_form n k e a h g =
+pub operand_form : (n k : ℕ) (e : Ix) (a : Operand) → IsTrue (is_plain n e) → Some a ≡ operand_of n e → widened k a.form ≡ form_of n k e
+operand_form n k e a h g =
     let p = plain_parts n e h in
-    let same : a ≡ record { named = (linear n 0 e).named; form = (linear n 0 e).form } = same_Some a _ (g ∙ part_is n e p.0 p.1) in
-    ap (λ (x : Part). widened k x.form) same ∙ sym (widen_form n k e)
+    let same : a ≡ record { named = (linear n 0 e).named; form = (linear n 0 e).form } = same_Some a _ (g ∙ operand_is n e p.0 p.1) in
+    ap (λ (x : Operand). widened k x.form) same ∙ sym (widen_form n k e)
 
 pub plain_small : (n k : ℕ) (e : Ix) → IsTrue (is_plain n e) → IsTrue (is_small (form_of n k e))
 plain_small n k e h = subst (λ f. IsTrue (is_small f)) (sym (widen_form n k e)) (widened_small k (form_of n 0 e) (small_form n e (plain_parts n e h).1))

@@ -2,7 +2,7 @@ pub mod Domains
 pub mod Nests
 pub mod Questions
 pub mod Laws
-pub mod Parts
+pub mod Operands
 pub mod Sides
 pub mod Frames
 pub mod Touches

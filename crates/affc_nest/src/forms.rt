@@ -4,7 +4,7 @@ ghost use Rattle.affc_rows.specs.Forms.{mixed_form};
 ghost use Rattle.affc_domain.specs.Affine.{form_of, unit_of, are_small, is_small, product_form};
 ghost use Rattle.affc_domain.specs.Plain.{is_plain};
 ghost use Rattle.affc_nest.specs.Sides.{IsSide};
-ghost use Rattle.affc_nest.specs.Parts.{kept, mixture, multiple, part_of, IsPartOver};
+ghost use Rattle.affc_nest.specs.Operands.{kept, mixture, multiple, operand_of, IsOperandOver};
 
 use affc_ast::tree::Ix;
 use affc_rows::Form;
@@ -23,7 +23,7 @@ fn mixed(alloc: Global, s: i128, a: &Form, t: i128, b: &Form) -> Result<Form, Al
 
 /// Whether an expression holds names, and its form.
 #[derive(Drop)]
-pub(crate) struct Part {
+pub(crate) struct Operand {
     pub named: bool,
     pub form: Form,
 }
@@ -47,12 +47,12 @@ fn all_small(coefs: &[i128]) -> bool
 }
 
 /// The form, if it is small.
-fn keep(named: bool, form: Form) -> Option<Part>
+fn keep(named: bool, form: Form) -> Option<Operand>
     ensures value { result ≡ kept named form }
-    ensures fits { IsPartOver (length form.coefs) result }
+    ensures fits { IsOperandOver (length form.coefs) result }
 {
     if has_small(&form) {
-        Some(Part { named, form })
+        Some(Operand { named, form })
     } else {
         None
     }
@@ -62,15 +62,15 @@ fn keep(named: bool, form: Form) -> Option<Part>
 fn sum(
     alloc: Global,
     columns: u32,
-    a: Option<Part>,
+    a: Option<Operand>,
     t: i128,
-    b: Option<Part>,
-) -> Result<Option<Part>, AllocError>
+    b: Option<Operand>,
+) -> Result<Option<Operand>, AllocError>
     requires factor { unsigned_abs t ≤ 1 }
-    requires first { IsPartOver columns a }
-    requires second { IsPartOver columns b }
+    requires first { IsOperandOver columns a }
+    requires second { IsOperandOver columns b }
     ensures value { IfOk result (λ r. r ≡ mixture (pos 1) a t b) }
-    ensures fits { IfOk result (λ r. IsPartOver columns r) }
+    ensures fits { IfOk result (λ r. IsOperandOver columns r) }
 {
     let Some(a) = a else {
         return Ok(None);
@@ -83,10 +83,10 @@ fn sum(
 }
 
 /// The opposite, if it is small.
-fn opposite(alloc: Global, columns: u32, a: Option<Part>) -> Result<Option<Part>, AllocError>
-    requires part { IsPartOver columns a }
+fn opposite(alloc: Global, columns: u32, a: Option<Operand>) -> Result<Option<Operand>, AllocError>
+    requires operand { IsOperandOver columns a }
     ensures value { IfOk result (λ r. r ≡ mixture (negsuc 0) a (pos 0) a) }
-    ensures fits { IfOk result (λ r. IsPartOver columns r) }
+    ensures fits { IfOk result (λ r. IsOperandOver columns r) }
 {
     let Some(a) = a else {
         return Ok(None);
@@ -96,7 +96,7 @@ fn opposite(alloc: Global, columns: u32, a: Option<Part>) -> Result<Option<Part>
 }
 
 /// The form of a product, whose first side holds names or not.
-fn product_of(alloc: Global, a: &Part, b: &Part) -> Result<Form, AllocError>
+fn product_of(alloc: Global, a: &Operand, b: &Operand) -> Result<Form, AllocError>
     requires first { IsTrue (is_small a.now.form) }
     requires second { IsTrue (is_small b.now.form) }
     requires columns { length a.now.form.coefs ≡ length b.now.form.coefs }
@@ -114,13 +114,13 @@ fn product_of(alloc: Global, a: &Part, b: &Part) -> Result<Form, AllocError>
 fn product(
     alloc: Global,
     columns: u32,
-    a: Option<Part>,
-    b: Option<Part>,
-) -> Result<Option<Part>, AllocError>
-    requires first { IsPartOver columns a }
-    requires second { IsPartOver columns b }
+    a: Option<Operand>,
+    b: Option<Operand>,
+) -> Result<Option<Operand>, AllocError>
+    requires first { IsOperandOver columns a }
+    requires second { IsOperandOver columns b }
     ensures value { IfOk result (λ r. r ≡ multiple a b) }
-    ensures fits { IfOk result (λ r. IsPartOver columns r) }
+    ensures fits { IfOk result (λ r. IsOperandOver columns r) }
 {
     let Some(a) = a else {
         return Ok(None);
@@ -135,29 +135,29 @@ fn product(
     Ok(keep(a.named || b.named, form))
 }
 
-fn number_part(alloc: Global, columns: u32, n: i64) -> Result<Option<Part>, AllocError>
+fn number_operand(alloc: Global, columns: u32, n: i64) -> Result<Option<Operand>, AllocError>
     ensures value { IfOk result (λ r. r ≡ kept false (record { coefs = replicate columns (pos 0); constant = n })) }
-    ensures fits { IfOk result (λ r. IsPartOver columns r) }
+    ensures fits { IfOk result (λ r. IsOperandOver columns r) }
 {
     Ok(keep(false, Form::number(alloc, columns, i128::from(n))?))
 }
 
-fn name_part(alloc: Global, names: u32, x: u32) -> Result<Option<Part>, AllocError>
+fn name_operand(alloc: Global, names: u32, x: u32) -> Result<Option<Operand>, AllocError>
     ensures value { IfOk result (λ r. r ≡ kept true (record { coefs = unit_of names x; constant = pos 0 })) }
-    ensures fits { IfOk result (λ r. IsPartOver names r) }
+    ensures fits { IfOk result (λ r. IsOperandOver names r) }
 {
     Ok(keep(true, Form::column(alloc, names, x)?))
 }
 
 /// The form of an expression over the names in sight, where each part is affine and small.
 #[tactic(auto, using(affc_ast::proofs::Outs::ix_outs))]
-fn linear_part(alloc: Global, names: u32, e: &Ix) -> Result<Option<Part>, AllocError>
-    ensures form { IfOk result (λ r. r ≡ part_of names e.now) }
-    ensures fits { IfOk result (λ r. IsPartOver names r) }
+fn linear_part(alloc: Global, names: u32, e: &Ix) -> Result<Option<Operand>, AllocError>
+    ensures form { IfOk result (λ r. r ≡ operand_of names e.now) }
+    ensures fits { IfOk result (λ r. IsOperandOver names r) }
 {
     match e {
-        Ix::Lit(n) => number_part(alloc, names, *n),
-        Ix::Name(x) => name_part(alloc, names, x.0),
+        Ix::Lit(n) => number_operand(alloc, names, *n),
+        Ix::Name(x) => name_operand(alloc, names, x.0),
         Ix::Neg(a) => {
             let a = linear_part(alloc, names, a.get())?;
             opposite(alloc, names, a)

@@ -9,7 +9,7 @@ use Rattle.affc_trace.specs.Target.{are_slight, all_slight}
 use Rattle.affc_schedtext.proofs.Scheduled.{within}
 use Rattle.affc_plan.specs.Composed.{IsComposable}
 use Rattle.affc_plan.specs.Maps.{ArePair}
-use Rattle.affc_plan.specs.Parts.{is_slight}
+use Rattle.affc_plan.specs.Operands.{is_slight}
 use Rattle.affc_plan.proofs.Composing.{slight_fits, images_slight}
 
 abbrev pub images_of : (forms inverse : List Affine) → List Affine

@@ -6,8 +6,8 @@ use Rattle.std.proofs.lemmas.Bool.{and_parts, and_from}
 use Rattle.affc_rows.specs.Forms.{Affine, dot_magnitude, column_of, constants_of, columns_of, composed_magnitudes, composed_form_magnitudes, TooWide}
 use Rattle.affc_trace.specs.Inverses.{zeros, unit_row, columns_from}
 use Rattle.affc_trace.specs.Target.{are_slight, all_slight}
-use Rattle.affc_plan.specs.Parts.{is_slight}
-use Rattle.affc_plan.proofs.PartLaws.{slight_entry, slight_sides}
+use Rattle.affc_plan.specs.Operands.{is_slight}
+use Rattle.affc_plan.proofs.OperandLaws.{slight_entry, slight_sides}
 
 abbrev Bounded : List ℤ → Type 0
 Bounded [] = Unit {0}

@@ -1,6 +1,6 @@
 pub mod ColumnLaws
-pub mod PartLaws
-pub mod PartForms
+pub mod OperandLaws
+pub mod OperandForms
 pub mod Heads
 pub mod LineLaws
 pub mod ColumnForms

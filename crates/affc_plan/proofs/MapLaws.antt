@@ -22,7 +22,7 @@ use Rattle.affc_schedtext.specs.declared.draft.LineDraft as line
 use Rattle.affc_plan.specs.declared.columns.Sides as own
 use Rattle.affc_plan.specs.Maps.{IsRightFold, ArePair}
 use Rattle.affc_plan.specs.Seen.{columns_seen, sides_seen}
-use Rattle.affc_plan.proofs.PartLaws.{slight_entry}
+use Rattle.affc_plan.proofs.OperandLaws.{slight_entry}
 use Rattle.affc_plan.proofs.Pairs.{widths}
 
 -- no expression is large where each is slight

@@ -1,6 +1,6 @@
 pub mod Few
 pub mod Seen
-pub mod Parts
+pub mod Operands
 pub mod Lines
 pub mod Lists
 pub mod Maps

@@ -10,7 +10,7 @@ pub mod laws;
 mod lists;
 pub mod lost;
 pub mod maps;
-mod parts;
+mod operands;
 pub mod products;
 mod reading;
 mod stops;

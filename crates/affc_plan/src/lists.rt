@@ -13,7 +13,7 @@ ghost use Rattle.affc_plan.specs.Lists.{are_slight_parts};
 ghost use Rattle.affc_plan.specs.Seen.{columns_seen, sides_seen};
 
 use crate::columns::{Columns, Sides};
-use crate::parts::linear_part;
+use crate::operands::linear_operand;
 use affc_ast::text::Text;
 use affc_rows::Form;
 use affc_schedtext::draft::LineDraft;
@@ -123,12 +123,12 @@ fn first_token(e: &IxDraft) -> usize
 }
 
 /// Whether each part of an expression is within the limits.
-#[tactic(auto, using(crate::proofs::PartForms::parts))]
+#[tactic(auto, using(crate::proofs::OperandForms::parts))]
 fn is_slight(alloc: Global, columns: Columns<'_>, e: &IxDraft) -> Result<bool, AllocError>
     requires { AreFew columns.scope }
     ensures { IfOk result (λ b. b ≡ rules.slight_parts (columns_seen columns.entry) (ix e.now)) }
 {
-    match linear_part(alloc, columns, e)? {
+    match linear_operand(alloc, columns, e)? {
         Some(_) => Ok(true),
         None => Ok(false),
     }
@@ -208,13 +208,13 @@ pub(crate) fn first_large_of_folds(
 // ---- Forms
 
 /// The form of an expression whose parts are all within the limits.
-#[tactic(auto, using(crate::proofs::PartForms::parts))]
+#[tactic(auto, using(crate::proofs::OperandForms::parts))]
 fn slight_form(alloc: Global, columns: Columns<'_>, e: &IxDraft) -> Result<Form, AllocError>
     requires few { AreFew columns.scope }
     requires slight { rules.slight_parts (columns_seen columns) (ix e.now) ≡ true }
     ensures { IfOk result (λ f. f ≡ rules.form_over (columns_seen columns.entry) (ix e.now)) }
 {
-    match linear_part(alloc, columns, e)? {
+    match linear_operand(alloc, columns, e)? {
         Some(part) => Ok(part.form),
         None => unreachable!(),
     }

@@ -12,7 +12,7 @@ use Rattle.affc_ast.specs.declared.tree.Stmt.TheBlock.{Row_of-Stmt, more_of-Stmt
 use Rattle.affc_ast.specs.Cause.{Cause}
 use Rattle.affc_ast.specs.Fits.{whole, all_hold}
 use Rattle.affc_ast.specs.Index.{in_int64, conditions, index_value, nodes_of_ix, nodes_of_compare, compares}
-use Rattle.affc_ast.specs.Meaning.{State, Outcome, Ended, Stuck, Position, then_do, reading, begun, turns_of, turns, in_order, with_iterator, inside, past, assigned, stmt_step, part_of, all_extents, arrays_of, nodes_of_decls, meaning}
+use Rattle.affc_ast.specs.Meaning.{State, Outcome, Ended, Stuck, Position, then_do, reading, begun, turns_of, turns, in_order, with_iterator, inside, past, assigned, stmt_step, denotation_of, all_extents, arrays_of, nodes_of_decls, meaning}
 use Rattle.affc_ast.specs.Recursion.{by_stmt, by_each}
 use Rattle.affc_ast.specs.Trace.{count_from, Assignment, assignments_step, assignments}
 use Rattle.affc_ast.specs.Values.{Scope}
@@ -133,7 +133,7 @@ if_ended true o t u h e = e
 if_ended false o t u h e = absurd (true≢false (sym h))
 
 mutual
-  stmt_comes : (x : Stmt) (place : Position) (scope : Scope) (t u : State) → T (by_stmt plain_step x) → (part_of x).run place scope t ≡ Ended u
+  stmt_comes : (x : Stmt) (place : Position) (scope : Scope) (t u : State) → T (by_stmt plain_step x) → (denotation_of x).run place scope t ≡ Ended u
       → ComesAt (by_stmt rounds_step x) (by_stmt assignments_step x) scope.names scope.extents
   stmt_comes (s.For' iter low rel high shape body) place scope t u plain e m rs a g f xs =
       let first = reading_ended (index_value low (place.node + 1) scope.names) t _ u e in
@@ -166,12 +166,12 @@ mutual
   row_comes end_of-Stmt place scope t u plain e = λ m rs a g f xs. absurd (none-some rs g)
   row_comes (more_of-Stmt x rest) place scope t u plain e =
       let both = both_parts (by_stmt plain_step x) (all_true (by_each plain_step rest)) plain in
-      let first = then_ended ((part_of x).run place scope t) _ u e in
+      let first = then_ended ((denotation_of x).run place scope t) _ u e in
       from_both (by_stmt rounds_step x) (joined_rounds rest) (by_stmt assignments_step x) (joined_assignments rest) scope.names scope.extents (as_many x)
       (stmt_comes x place scope t first.0 both.0 first.1)
-      (row_comes rest (past (part_of x) place) scope first.0 u both.1 first.2)
+      (row_comes rest (past (denotation_of x) place) scope first.0 u both.1 first.2)
 
-list_comes : (body : List Stmt) (place : Position) (scope : Scope) (t u : State) → T (all_true (map (by_stmt plain_step) body)) → in_order (map part_of body) place scope t ≡ Ended u
+list_comes : (body : List Stmt) (place : Position) (scope : Scope) (t u : State) → T (all_true (map (by_stmt plain_step) body)) → in_order (map denotation_of body) place scope t ≡ Ended u
     → ComesAt (flat_map (by_stmt rounds_step) body) (flat_map (by_stmt assignments_step) body) scope.names scope.extents
 list_comes body place scope t u plain e =
     subst (λ rss. ComesAt rss (flat_map (by_stmt assignments_step) body) scope.names scope.extents) (sym (flat_unrolled rounds_step body))

@@ -21,7 +21,7 @@ use Rattle.affc_ast.specs.declared.tree.Val.TheBlock.{more_of-Val, end_of-Val}
 use Rattle.affc_ast.specs.Cause.{Cause, OutOfBounds, ◌>>=◌}
 use Rattle.affc_ast.specs.Fits.{whole, all_hold, within_ranges}
 use Rattle.affc_ast.specs.Index.{index_value, index_values, nodes_of_ix, nodes_of_compare, conditions}
-use Rattle.affc_ast.specs.Meaning.{State, Ended, Position, reading, begun, write, turns_of, in_order, with_iterator, inside, past, own_value, assigned, stmt_step, part_of}
+use Rattle.affc_ast.specs.Meaning.{State, Ended, Position, reading, begun, write, turns_of, in_order, with_iterator, inside, past, own_value, assigned, stmt_step, denotation_of}
 use Rattle.affc_ast.specs.Recursion.{by_stmt, by_each}
 use Rattle.affc_ast.specs.Store.{Element, Store, at}
 use Rattle.affc_ast.specs.Trace.{count_from, Assignment, assignments_step, walk_step, in_walk_order, loads_of_value, own_load, element}
@@ -198,7 +198,7 @@ module _ (all : List Assignment) (p : List ℤ) (extents : List (List ℤ)) wher
 
     stmt_wants : (x : Stmt) (k : ℕ) (ts : List ℤ) (ranges : List (ℤ × ℤ)) → T (by_stmt plain_step x) → IsTrue (by_stmt near_step x ranges) → PartsAt all k (by_stmt assignments_step x)
         → Keep ((by_stmt (walk_step p) x).instances k ts)
-        → (place : Position) (scope : Scope) (t : State) → Sits ranges scope.names → scope.names ≡ p ++ ts → scope.extents ≡ extents → Wants ((part_of x).run place scope t)
+        → (place : Position) (scope : Scope) (t : State) → Sits ranges scope.names → scope.names ≡ p ++ ts → scope.extents ≡ extents → Wants ((denotation_of x).run place scope t)
     stmt_wants (s.For' iter low rel high shape body) k ts ranges bare small parts keep place scope t sits n x =
         let f = both_hold (nat_lt (length ranges) 16) _ small in
         let a = both_hold (is_plain (length ranges) low) _ f.1 in
@@ -247,13 +247,13 @@ module _ (all : List Assignment) (p : List ℤ) (extents : List (List ℤ)) wher
         let others : List Assignment = flat_map (λ a. a) (by_each assignments_step rest) in
         let right : PartsAt all (k + (by_stmt (walk_step p) first).assigns) others =
         subst (λ m. PartsAt all (k + m) others) (sym (walk_count p first ∙ part_count first)) (parts_right all k (by_stmt assignments_step first) others parts) in
-        wants_then ((part_of first).run place scope t) _
+        wants_then ((denotation_of first).run place scope t) _
         (stmt_wants first k ts ranges both.0 q.0 (parts_left all k _ others parts) (λ b j. keep b (to_first _ _ b j)) place scope t sits n x)
-        (λ u. row_wants rest (k + (by_stmt (walk_step p) first).assigns) ts ranges both.1 q.1 right (λ b j. keep b (to_second ((by_stmt (walk_step p) first).instances k ts) _ b j)) (past (part_of first) place) scope u sits n x)
+        (λ u. row_wants rest (k + (by_stmt (walk_step p) first).assigns) ts ranges both.1 q.1 right (λ b j. keep b (to_second ((by_stmt (walk_step p) first).instances k ts) _ b j)) (past (denotation_of first) place) scope u sits n x)
 
   pub list_wants : (body : List Stmt) (k : ℕ) (ts : List ℤ) (ranges : List (ℤ × ℤ)) → T (all_true (map (by_stmt plain_step) body)) → IsTrue (all_near (map (by_stmt near_step) body) ranges)
       → PartsAt all k (flat_map (by_stmt assignments_step) body) → Keep (in_walk_order (map (by_stmt (walk_step p)) body) k ts)
-      → (place : Position) (scope : Scope) (t : State) → Sits ranges scope.names → scope.names ≡ p ++ ts → scope.extents ≡ extents → Wants (in_order (map part_of body) place scope t)
+      → (place : Position) (scope : Scope) (t : State) → Sits ranges scope.names → scope.names ≡ p ++ ts → scope.extents ≡ extents → Wants (in_order (map denotation_of body) place scope t)
   list_wants body k ts ranges bare near parts keep place scope t sits n x =
       subst (λ ps. Wants (in_order ps place scope t)) (sym (unrolled stmt_step body))
       (row_wants (row_of body) k ts ranges (subst (λ bs. T (all_true bs)) (unrolled plain_step body) bare) (subst (λ fs. IsTrue (all_near fs ranges)) (unrolled near_step body) near)

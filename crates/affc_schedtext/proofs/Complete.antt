@@ -10,7 +10,7 @@ use Rattle.affc_grammar.proofs.Done.{IsDone, Gets, NotNext, gets_give, gets_afte
 use Rattle.affc_grammar.proofs.Complete.{EndsIx, regroup, sum_gets}
 use Rattle.affc_schedtext.specs.Outline.{Outline, Scope, Words, these, any, Presence, never, always, maybe, statement_lists, statement_presence, fold_lists}
 use Rattle.affc_schedtext.specs.Grammar.{is_seen, all_seen, FormText, form_symbols, FormsText, one_form, and_form, forms_symbols, GivenText, last_entry, entry_then, given_symbols, FreeText, one_entry, and_entry, free_symbols, EntriesText, given, free, entries_symbols, InverseText, without, written, skipped, taken, inverse_symbols, LineText, head_symbols, line_symbols, StmtsText, no_stmts, and_stmt, stmts_symbols, source, time, Text, order, and_fold, text_symbols}
-use Rattle.affc_schedtext.specs.Reading.{seen_front, unseen_rest, followed_by, with_seen, read_form, form_more, read_forms, read_given, entry_more, read_free, read_entries, Part, source_word, time_number, stmt_forms, stmt_line, fold_forms, fold_line, read_list, Next, read_fold, next_fold, read_stmt, next_stmt, stmt_more, part_more, read_text}
+use Rattle.affc_schedtext.specs.Reading.{seen_front, unseen_rest, followed_by, with_seen, read_form, form_more, read_forms, read_given, entry_more, read_free, read_entries, Front, source_word, time_number, stmt_forms, stmt_line, fold_forms, fold_line, read_list, Next, read_fold, next_fold, read_stmt, next_stmt, stmt_more, part_more, read_text}
 use Rattle.affc_schedtext.proofs.FormRules.{inner, opened, front_and_rest}
 use Rattle.affc_schedtext.proofs.TextRules.{form_more_rule, entry_more_rule, part_rule}
 
@@ -111,14 +111,14 @@ NoEntry [] = Unit {0}
 NoEntry (x ∷ rest) = NotNext (this_mark (codes "=")) rest
 
 module _ (o : Outline) (room : ℕ) where
-  abbrev parts : Part o → Reader Symbol (Text o)
+  abbrev parts : Front o → Reader Symbol (Text o)
   parts = until (this_mark (codes ";")) (part_more o room)
 
-  part_reader : (x : Symbol) (k : Unit {0}) → this_mark (codes ";") x ≡ Some k → (p : Part o) → IsReader (part_more o room k p)
+  part_reader : (x : Symbol) (k : Unit {0}) → this_mark (codes ";") x ≡ Some k → (p : Front o) → IsReader (part_more o room k p)
   part_reader x k q p = (part_rule o room k p).reader
 
   -- behind a ";", with what follows it
-  turned : (p : Part o) {ts rest : List Symbol} {d : Text o} → Gets (after (part_more o room tt p) (and_on parts)) ts d rest → Gets (parts p) (mark (codes ";") ∷ ts) d rest
+  turned : (p : Front o) {ts rest : List Symbol} {d : Text o} → Gets (after (part_more o room tt p) (and_on parts)) ts d rest → Gets (parts p) (mark (codes ";") ∷ ts) d rest
   turned p h = gets_until part_reader p refl h
 
   module _ (digits : Digits) where
@@ -146,7 +146,7 @@ module _ (o : Outline) (room : ℕ) where
             passed w (y ∷ ts) n = ap (λ q. on_some q (λ _. after (read_free room scope w) (λ g. give (going (stmt_line digits ss (line (taken g))))) ts) (read_stmt o room digits (and_stmt ss (line skipped)) w (y ∷ ts))) n
 
     inverse_opens : {scope : Scope} {words : Words} (ss : StmtsText o (decimal digits)) (presence : Presence) (line : InverseText scope words presence → Line) (i : InverseText scope words presence) (rest : List Symbol) (d : Text o) (end : List Symbol) → NoEntry rest
-        → Gets (after (next_stmt o room digits (and_stmt ss (line i))) (and_on parts)) rest d end → (p : Part o) → part_more o room tt p ≡ stmt_more o room digits ss scope words presence line
+        → Gets (after (next_stmt o room digits (and_stmt ss (line i))) (and_on parts)) rest d end → (p : Front o) → part_more o room tt p ≡ stmt_more o room digits ss scope words presence line
         → Gets (parts p) (inverse_symbols i ++ mark (codes ";") ∷ rest) d end
     inverse_opens {scope} {words} ss never line without rest d end n h p e = turned p (subst (λ r. Gets (after r (and_on parts)) rest d end) (sym e) h)
     inverse_opens {scope} {words} ss always line (written g) rest d end n h p e =

@@ -15,7 +15,7 @@ use Rattle.affc_schedtext.specs.Grammar as g
 use Rattle.affc_schedtext.specs.Grammar.{all_seen, FormText, form_symbols, FormsText, one_form, and_form, forms_symbols, GivenText, last_entry, entry_then, given_symbols, entry_symbols, FreeText, one_entry, and_entry, free_symbols, EntriesText, entries_symbols, InverseText, without, written, skipped, taken, inverse_symbols, LineText, head_symbols, open_symbols, StmtsText, no_stmts, and_stmt, stmts_symbols, OrderText, order_symbols, Text, order, and_fold, text_symbols}
 use Rattle.affc_schedtext.specs.Draft.{forms_draft, given_draft, free_draft, entries_draft}
 use Rattle.affc_schedtext.specs.Reading as r
-use Rattle.affc_schedtext.specs.Reading.{seen_front, unseen_rest, followed_by, with_seen, Part, source_word, time_number, stmt_forms, stmt_line, fold_forms, fold_line, part_symbols}
+use Rattle.affc_schedtext.specs.Reading.{seen_front, unseen_rest, followed_by, with_seen, Front, source_word, time_number, stmt_forms, stmt_line, fold_forms, fold_line, part_symbols}
 use Rattle.affc_schedtext.specs.Drafting as d
 use Rattle.affc_schedtext.proofs.FormRules.{front_seen, seen_before, opened, form_rule}
 use Rattle.affc_schedtext.proofs.TextRules.{form_more_rule, entry_more_rule}

@@ -10,7 +10,7 @@ use Rattle.affc_grammar.proofs.Rules.{ix_rule}
 use Rattle.affc_grammar.proofs.Texts.{within_length}
 use Rattle.affc_schedtext.specs.Outline.{Outline, Scope, Words, these, any, Presence, never, always, maybe, statement_lists, statement_presence, fold_lists}
 use Rattle.affc_schedtext.specs.Grammar.{all_seen, FormText, one_form, one_entry, InverseText, without, skipped, LineText, StmtsText, no_stmts, and_stmt, source, time, Text, order, and_fold}
-use Rattle.affc_schedtext.specs.Reading.{seen_front, unseen_rest, followed_by, with_seen, read_form, read_forms, read_given, read_free, read_entries, Part, source_word, time_number, stmt_forms, stmt_line, fold_forms, fold_line, read_list, read_fold, next_fold, read_first_fold, read_stmt, next_stmt, stmt_more, part_more, read_parts, read_text}
+use Rattle.affc_schedtext.specs.Reading.{seen_front, unseen_rest, followed_by, with_seen, read_form, read_forms, read_given, read_free, read_entries, Front, source_word, time_number, stmt_forms, stmt_line, fold_forms, fold_line, read_list, read_fold, next_fold, read_first_fold, read_stmt, next_stmt, stmt_more, part_more, read_parts, read_text}
 use Rattle.affc_schedtext.proofs.FormRules.{front_and_rest, opened, inner, form_reader}
 use Rattle.affc_schedtext.proofs.TextRules.{form_more_rule, forms_rule, given_rule, entry_more_rule, free_rule, entries_rule, list_rule, part_rule}
 
@@ -171,7 +171,7 @@ module _ (o : Outline) (room : ℕ) where
   roomy_more digits ss scope words maybe line =
       roomy_either room _ (λ w. roomy_either room _ (λ _. roomy_after room (free_rule room scope w).reader (roomy_free room scope w) λ g. roomy_give room _) (roomy_stmt digits (and_stmt ss (line skipped)) w)) (roomy_finished room _)
 
-  roomy_part : (k : Unit {0}) (p : Part o) → Roomy room (part_more o room k p)
+  roomy_part : (k : Unit {0}) (p : Front o) → Roomy room (part_more o room k p)
   roomy_part k source_word = roomy_next_fold (order source)
   roomy_part k (time_number digits) = roomy_next_stmt digits no_stmts
   roomy_part k (stmt_forms digits ss w fs) = roomy_more digits ss (statement_lists o (decimal digits) w).back (statement_lists o (decimal digits) w).words (statement_presence o w) (λ i. record { name = w; forms = fs; inverse = i })
@@ -179,7 +179,7 @@ module _ (o : Outline) (room : ℕ) where
   roomy_part k (fold_forms c w fs) = roomy_after room (entries_rule room (fold_lists o w).back (fold_lists o w).words).reader (roomy_entries room (fold_lists o w).back (fold_lists o w).words) λ e. roomy_give room _
   roomy_part k (fold_line c l) = roomy_next_fold (and_fold c l)
 
-  roomy_parts : (p : Part o) → Roomy room (read_parts o room p)
+  roomy_parts : (p : Front o) → Roomy room (read_parts o room p)
   roomy_parts p = roomy_until room _ (λ k q. (part_rule o room k q).reader) roomy_part p
 
   pub roomy_text : Roomy room (read_text o room)

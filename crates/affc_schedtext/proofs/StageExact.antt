@@ -15,13 +15,13 @@ use Rattle.affc_schedtext.specs.Grammar as g
 use Rattle.affc_schedtext.specs.Grammar.{FormsText, forms_symbols, FreeText, free_symbols, EntriesText, entries_symbols, InverseText, without, written, skipped, taken, inverse_symbols, LineText, head_symbols, open_symbols, line_symbols, StmtsText, no_stmts, and_stmt, stmts_symbols, order_symbols, Text, order, and_fold, text_symbols}
 use Rattle.affc_schedtext.specs.Draft.{source, Draft, forms_draft, free_draft, entries_draft, inverse_draft, stmts_draft, text_draft}
 use Rattle.affc_schedtext.specs.Reading as r
-use Rattle.affc_schedtext.specs.Reading.{Part, source_word, time_number, stmt_forms, stmt_line, fold_forms, fold_line, part_symbols}
+use Rattle.affc_schedtext.specs.Reading.{Front, source_word, time_number, stmt_forms, stmt_line, fold_forms, fold_line, part_symbols}
 use Rattle.affc_schedtext.specs.Drafting as d
 use Rattle.affc_schedtext.proofs.DraftExact.{entries_is, free_is, list_is}
 use Rattle.affc_schedtext.proofs.TextRules.{part_rule}
 
 -- what a part says
-abbrev pub stage_of : {o : Outline} → Part o → d.Stage
+abbrev pub stage_of : {o : Outline} → Front o → d.Stage
 stage_of source_word = d.folds (record { order = source; folds = [] })
 stage_of (time_number digits) = d.stmts (decimal digits) []
 stage_of (stmt_forms digits ss w fs) = d.stmt_forms (decimal digits) (stmts_draft 3 ss) (word_draft (3 + length (stmts_symbols ss)) w) (forms_draft (3 + length (stmts_symbols ss) + 3) fs)
@@ -29,7 +29,7 @@ stage_of (stmt_line digits ss l) = d.stmts (decimal digits) (stmts_draft 3 (and_
 stage_of (fold_forms c w fs) = d.fold_forms (text_draft c) (word_draft (length (text_symbols c) + 1) w) (forms_draft (length (text_symbols c) + 1 + 3) fs)
 stage_of (fold_line c l) = d.folds (text_draft (and_fold c l))
 
-abbrev pub turn_of : {o : Outline} → Turn (Part o) (Text o) → Turn d.Stage Draft
+abbrev pub turn_of : {o : Outline} → Turn (Front o) (Text o) → Turn d.Stage Draft
 turn_of = turned stage_of text_draft
 
 pub number_turned : (x : Symbol) → number_value x ≡ option_map decimal (any_number x)
@@ -40,7 +40,7 @@ number_turned x = by_kind (is_number_kind x.kind)
     by_kind false = refl
 
 module _ (o : Outline) (end room : ℕ) where
-  abbrev whole : Text o → Turn (Part o) (Text o)
+  abbrev whole : Text o → Turn (Front o) (Text o)
   whole c = done c
 
   ended_is : (c : Text o) (ts : List Symbol) → d.ended (text_draft c) ts ≡ mapped turn_of (finished (whole c) ts)
@@ -164,7 +164,7 @@ module _ (o : Outline) (end room : ℕ) where
       let b = length-append (open_symbols l) (mark (codes ";") ∷ []) in
       omega (arith, a, b)
 
-  part_more_is : (k : Unit {0}) (p : Part o) (ts us : List Symbol) → past (this_mark (codes ";")) ts ≡ Some (k, us) → Placed end 0 (length (part_symbols p)) ts → d.stage_more o end room k (stage_of p) us ≡ mapped turn_of (r.part_more o room k p us)
+  part_more_is : (k : Unit {0}) (p : Front o) (ts us : List Symbol) → past (this_mark (codes ";")) ts ≡ Some (k, us) → Placed end 0 (length (part_symbols p)) ts → d.stage_more o end room k (stage_of p) us ≡ mapped turn_of (r.part_more o room k p us)
   unfolding after give
   part_more_is k source_word ts us q here =
       let one = past_one (this_mark (codes ";")) ts k us q in
@@ -208,7 +208,7 @@ module _ (o : Outline) (end room : ℕ) where
       let b = fold_size c l in
       next_fold_is (and_fold c l) us (record { within = omega arith; place = omega (arith, a, b) })
 
-  part_keeps : (k : Unit {0}) (p : Part o) (ts us : List Symbol) → past (this_mark (codes ";")) ts ≡ Some (k, us) → Placed end 0 (length (part_symbols p)) ts → (b : Part o) (vs : List Symbol) → r.part_more o room k p us ≡ Ok (going b, vs) → Placed end 0 (length (part_symbols b)) vs
+  part_keeps : (k : Unit {0}) (p : Front o) (ts us : List Symbol) → past (this_mark (codes ";")) ts ≡ Some (k, us) → Placed end 0 (length (part_symbols p)) ts → (b : Front o) (vs : List Symbol) → r.part_more o room k p us ≡ Ok (going b, vs) → Placed end 0 (length (part_symbols b)) vs
   part_keeps k p ts us q here b vs h =
       let one = past_one (this_mark (codes ";")) ts k us q in
       let le = here.within in
@@ -218,7 +218,7 @@ module _ (o : Outline) (end room : ℕ) where
       let back = length-append (part_symbols b) vs in
       record { within = omega arith; place = omega arith }
 
-  stages_is : (p : Part o) (ts : List Symbol) → Placed end 0 (length (part_symbols p)) ts → d.stages o end room (stage_of p) ts ≡ mapped text_draft (r.read_parts o room p ts)
+  stages_is : (p : Front o) (ts : List Symbol) → Placed end 0 (length (part_symbols p)) ts → d.stages o end room (stage_of p) ts ≡ mapped text_draft (r.read_parts o room p ts)
   stages_is p ts here = until_drawn (this_mark (codes ";")) (r.part_more o room) (d.stage_more o end room) stage_of text_draft (λ p ts. Placed end 0 (length (part_symbols p)) ts) part_more_is part_keeps p ts here
 
 pub text_is : (o : Outline) (room : ℕ) (ss : List Symbol) → d.text o (length ss) room ss ≡ mapped text_draft (r.read_text o room ss)

@@ -7,7 +7,7 @@ use Rattle.affc_grammar.proofs.Rule.{give_rule, fail_rule, after_rule, nested_ru
 use Rattle.affc_grammar.proofs.Tests.{same_bytes, mark_test, word_test, any_word_test, any_number_test}
 use Rattle.affc_schedtext.specs.Outline.{Outline, Scope, Words, these, any, Presence, never, always, maybe, statement_lists, statement_presence, fold_lists, fold_presence}
 use Rattle.affc_schedtext.specs.Grammar.{FormsText, one_form, and_form, forms_symbols, last_entry, entry_then, given_symbols, FreeText, one_entry, and_entry, free_symbols, EntriesText, given, free, entries_symbols, InverseText, without, written, skipped, taken, inverse_symbols, LineText, head_symbols, open_symbols, StmtsText, no_stmts, and_stmt, source, time, order_symbols, Text, order, and_fold, text_symbols}
-use Rattle.affc_schedtext.specs.Reading.{form_more, read_forms, read_given, entry_more, read_free, read_entries, Part, source_word, time_number, stmt_forms, stmt_line, fold_forms, fold_line, part_symbols, read_list, read_fold, next_fold, read_first_fold, read_stmt, next_stmt, stmt_more, part_more, read_parts, read_text}
+use Rattle.affc_schedtext.specs.Reading.{form_more, read_forms, read_given, entry_more, read_free, read_entries, Front, source_word, time_number, stmt_forms, stmt_line, fold_forms, fold_line, part_symbols, read_list, read_fold, next_fold, read_first_fold, read_stmt, next_stmt, stmt_more, part_more, read_parts, read_text}
 use Rattle.affc_schedtext.proofs.FormRules.{Exact, form_rule, zero_form}
 
 -- ---- Lists of forms
@@ -44,7 +44,7 @@ module _ (room : ℕ) (scope : Scope) where
 -- ---- Lines
 
 module _ (o : Outline) (room : ℕ) where
-  abbrev turn_symbols : Turn (Part o) (Text o) → List Symbol
+  abbrev turn_symbols : Turn (Front o) (Text o) → List Symbol
   turn_symbols = turn_spelled part_symbols text_symbols
 
   pub fold_rule : (c : Text o) → Exact turn_symbols (λ r. text_symbols c ++ word (codes "fold") ∷ r) (read_fold o room c)
@@ -112,7 +112,7 @@ module _ (o : Outline) (room : ℕ) where
       moved : (xs ys zs r : List Symbol) → (xs ++ word (codes "fold") ∷ ys) ++ mark (codes ";") ∷ (zs ++ r) ≡ (xs ++ word (codes "fold") ∷ (ys ++ mark (codes ";") ∷ zs)) ++ r
       moved xs ys zs r = simp append_assoc
 
-  pub part_rule : (k : Unit {0}) (p : Part o) → Exact turn_symbols (λ r. part_symbols p ++ mark (codes ";") ∷ r) (part_more o room k p)
+  pub part_rule : (k : Unit {0}) (p : Front o) → Exact turn_symbols (λ r. part_symbols p ++ mark (codes ";") ∷ r) (part_more o room k p)
   part_rule k source_word = next_fold_rule (order source)
   part_rule k (time_number digits) = next_stmt_rule digits no_stmts
   part_rule k (stmt_forms digits ss w fs) =
@@ -128,7 +128,7 @@ module _ (o : Outline) (room : ℕ) where
   inverse_can scope words always = written (entries_rule room scope words).can.0
   inverse_can scope words maybe = skipped
 
-  part_can : (p : Part o) → (c : Text o) × (tail : List Symbol) × (text_symbols c ≡ part_symbols p ++ tail)
+  part_can : (p : Front o) → (c : Text o) × (tail : List Symbol) × (text_symbols c ≡ part_symbols p ++ tail)
   part_can source_word = (order source, mark (codes ";") ∷ [], refl)
   part_can (time_number digits) = (order (time digits no_stmts), mark (codes ";") ∷ [], refl)
   part_can (stmt_line digits ss l) = (order (time digits (and_stmt ss l)), mark (codes ";") ∷ [], sym (append-nil (order_symbols (time digits (and_stmt ss l)))) ∙ behind_line digits ss l (open_symbols l) refl [])
@@ -147,7 +147,7 @@ module _ (o : Outline) (room : ℕ) where
       moved : (xs ys zs : List Symbol) → xs ++ word (codes "fold") ∷ ((ys ++ mark (codes ";") ∷ zs) ++ mark (codes ";") ∷ []) ≡ (xs ++ word (codes "fold") ∷ ys) ++ mark (codes ";") ∷ (zs ++ mark (codes ";") ∷ [])
       moved xs ys zs = simp append_assoc
 
-  pub parts_rule : (p : Part o) → Exact text_symbols (λ r. part_symbols p ++ r) (read_parts o room p)
+  pub parts_rule : (p : Front o) → Exact text_symbols (λ r. part_symbols p ++ r) (read_parts o room p)
   parts_rule p = until_rule (mark_test (codes ";")) (λ k n. refl) part_rule part_can p
 
   pub text_rule : Exact text_symbols (λ r. r) (read_text o room)

@@ -59,15 +59,15 @@ read_entries room scope any = on any_word λ w. on (this_mark (codes "=")) λ _.
 -- ---- Lines
 
 -- what stands before a ";"
-pub data Part (o : Outline) : Type 0 where
-  source_word : Part o
-  time_number : Digits → Part o
-  stmt_forms : (digits : Digits) → StmtsText o (decimal digits) → (w : Name) → FormsText (statement_lists o (decimal digits) w).there → Part o
-  stmt_line : (digits : Digits) → StmtsText o (decimal digits) → LineText (statement_lists o (decimal digits)) (statement_presence o) → Part o
-  fold_forms : Text o → (w : Name) → FormsText (fold_lists o w).there → Part o
-  fold_line : Text o → LineText (fold_lists o) fold_presence → Part o
+pub data Front (o : Outline) : Type 0 where
+  source_word : Front o
+  time_number : Digits → Front o
+  stmt_forms : (digits : Digits) → StmtsText o (decimal digits) → (w : Name) → FormsText (statement_lists o (decimal digits) w).there → Front o
+  stmt_line : (digits : Digits) → StmtsText o (decimal digits) → LineText (statement_lists o (decimal digits)) (statement_presence o) → Front o
+  fold_forms : Text o → (w : Name) → FormsText (fold_lists o w).there → Front o
+  fold_line : Text o → LineText (fold_lists o) fold_presence → Front o
 
-abbrev pub part_symbols : {o : Outline} → Part o → List Symbol
+abbrev pub part_symbols : {o : Outline} → Front o → List Symbol
 part_symbols source_word = word (codes "source") ∷ []
 part_symbols (time_number digits) = time_symbols digits
 part_symbols (stmt_forms digits ss w fs) = order_symbols (time digits ss) ++ head_symbols w fs
@@ -76,7 +76,7 @@ part_symbols (fold_forms c w fs) = text_symbols c ++ word (codes "fold") ∷ hea
 part_symbols (fold_line c l) = text_symbols c ++ word (codes "fold") ∷ open_symbols l
 
 abbrev pub Next : Outline → Type 0
-Next o = Reader Symbol (Turn (Part o) (Text o))
+Next o = Reader Symbol (Turn (Front o) (Text o))
 
 -- behind ":"
 abbrev pub read_list : (room : ℕ) (scope : Scope) → Reader Symbol (FormsText scope)
@@ -112,7 +112,7 @@ stmt_more o room digits ss scope words maybe line =
     (finished (done (order (time digits (and_stmt ss (line skipped))))))
 
 -- behind a ";"
-abbrev pub part_more : (o : Outline) (room : ℕ) → Unit {0} → Part o → Next o
+abbrev pub part_more : (o : Outline) (room : ℕ) → Unit {0} → Front o → Next o
 part_more o room _ source_word = next_fold o room (order source)
 part_more o room _ (time_number digits) = next_stmt o room digits no_stmts
 part_more o room _ (stmt_forms digits ss w fs) =
@@ -122,7 +122,7 @@ part_more o room _ (stmt_line digits ss l) = next_stmt o room digits (and_stmt s
 part_more o room _ (fold_forms c w fs) = after (read_entries room (fold_lists o w).back (fold_lists o w).words) λ e. give (going (fold_line c (record { name = w; forms = fs; inverse = written e })))
 part_more o room _ (fold_line c l) = next_fold o room (and_fold c l)
 
-abbrev pub read_parts : (o : Outline) (room : ℕ) → Part o → Reader Symbol (Text o)
+abbrev pub read_parts : (o : Outline) (room : ℕ) → Front o → Reader Symbol (Text o)
 read_parts o room = until (this_mark (codes ";")) (part_more o room)
 
 unfoldable pub read_text : (o : Outline) (room : ℕ) → Reader Symbol (Text o)

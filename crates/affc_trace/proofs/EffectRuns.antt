@@ -18,7 +18,7 @@ use Rattle.affc_ast.specs.Store.{Element, Store, at, element_cmp}
 use Rattle.affc_ast.specs.Cause.{Cause, Extent, Overflow, OutOfBounds, Unwritten, ◌>>=◌}
 use Rattle.affc_ast.specs.Index.{in_int64, conditions, index_value, index_values, nodes_of_ix, compares}
 use Rattle.affc_ast.specs.Values.{Scope, load, touch, value_of}
-use Rattle.affc_ast.specs.Meaning.{State, Outcome, Ended, Stuck, Position, then_do, reading, begun, write, past, in_order, with_iterator, with_local, inside, turns_of, turns, with_locals, assigned, stmt_step, part_of, extents_of, all_extents, arrays_of, meaning}
+use Rattle.affc_ast.specs.Meaning.{State, Outcome, Ended, Stuck, Position, then_do, reading, begun, write, past, in_order, with_iterator, with_local, inside, turns_of, turns, with_locals, assigned, stmt_step, denotation_of, extents_of, all_extents, arrays_of, meaning}
 use Rattle.affc_ast.specs.Fits.{whole}
 use Rattle.affc_ast.specs.Trace.{count_from, loads_of_value, element}
 use Rattle.affc_ast.specs.Recursion.{by_stmt, by_each}
@@ -206,7 +206,7 @@ module _ (start : Element → Option ℕ) where
   ran_if false t is o a r = ran_nothing t a
 
   mutual
-    pub stmt_ran : (x : Stmt) (place : Position) (scope : Scope) (t : State) → Agrees t → Ran t (by_stmt effects_step x scope.names) ((part_of x).run place scope t)
+    pub stmt_ran : (x : Stmt) (place : Position) (scope : Scope) (t : State) → Agrees t → Ran t (by_stmt effects_step x scope.names) ((denotation_of x).run place scope t)
     stmt_ran (s.For' iter low rel high shape body) place scope t a =
         let f : ℤ → List (Effect Element ℕ) = λ x. each_of (by_each effects_step body) (scope.names ++ x ∷ []) in
         ran_reading t t _ _ (index_value low (place.node + 1) scope.names) (index_fine low scope.names _) (λ first e.
@@ -229,15 +229,15 @@ module _ (start : Element → Option ℕ) where
         → Ran t (each_of (by_each effects_step body) scope.names) (in_order (by_each stmt_step body) place scope t)
     body_ran end_of-Stmt place scope t a = ran_nothing t a
     body_ran (more_of-Stmt x rest) place scope t a =
-        ran_then t (by_stmt effects_step x scope.names) (each_of (by_each effects_step rest) scope.names) _ ((part_of x).run place scope t)
-        (stmt_ran x place scope t a) (λ t' a'. body_ran rest (past (part_of x) place) scope t' a')
+        ran_then t (by_stmt effects_step x scope.names) (each_of (by_each effects_step rest) scope.names) _ ((denotation_of x).run place scope t)
+        (stmt_ran x place scope t a) (λ t' a'. body_ran rest (past (denotation_of x) place) scope t' a')
 
   stmts_ran : (body : List Stmt) (place : Position) (scope : Scope) (t : State) → Agrees t
-      → Ran t (each_of (map (by_stmt effects_step) body) scope.names) (in_order (map part_of body) place scope t)
+      → Ran t (each_of (map (by_stmt effects_step) body) scope.names) (in_order (map denotation_of body) place scope t)
   stmts_ran [] place scope t a = ran_nothing t a
   stmts_ran (x ∷ rest) place scope t a =
-      ran_then t (by_stmt effects_step x scope.names) (each_of (map (by_stmt effects_step) rest) scope.names) _ ((part_of x).run place scope t)
-      (stmt_ran x place scope t a) (λ t' a'. stmts_ran rest (past (part_of x) place) scope t' a')
+      ran_then t (by_stmt effects_step x scope.names) (each_of (map (by_stmt effects_step) rest) scope.names) _ ((denotation_of x).run place scope t)
+      (stmt_ran x place scope t a) (λ t' a'. stmts_ran rest (past (denotation_of x) place) scope t' a')
 
 extents_fine : (es : List Ix) (array node : ℕ) (names : List ℤ) → Fine (extents_of array es node names)
 extents_fine [] array node names = tt

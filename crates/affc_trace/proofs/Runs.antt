@@ -8,7 +8,7 @@ use Rattle.affc_ast.specs.declared.tree.Stmt.{Stmt}
 use Rattle.affc_ast.specs.declared.tree.Stmt.TheVariants as s
 use Rattle.affc_ast.specs.declared.tree.Stmt.TheBlock.{Row_of-Stmt, more_of-Stmt, end_of-Stmt}
 use Rattle.affc_ast.specs.Store.{Element, element_cmp}
-use Rattle.affc_ast.specs.Meaning.{stmt_step, part_of}
+use Rattle.affc_ast.specs.Meaning.{stmt_step, denotation_of}
 use Rattle.affc_ast.specs.Trace.{walk_step, Assignment, assignments_step}
 use Rattle.affc_ast.specs.Recursion.{by_stmt, by_each}
 use Rattle.affc_trace.specs.Law.{Effect, or_else, and_then, last_at, held, all_held, both_of, stores_of}
@@ -90,7 +90,7 @@ length_append [] ys = omega arith
 length_append (x ∷ xs) ys = let e : length (xs ++ ys) ≡ length xs + length ys = length_append xs ys in omega arith
 
 mutual
-  pub part_count : (x : Stmt) → (part_of x).assigns ≡ length (by_stmt assignments_step x)
+  pub part_count : (x : Stmt) → (denotation_of x).assigns ≡ length (by_stmt assignments_step x)
   part_count (s.For' iter low rel high shape body) = parts_count body
   part_count (s.If' conds shape body) = parts_count body
   part_count (s.Assign op array subs value) = refl
@@ -105,7 +105,7 @@ mutual
       ∙ sym (length_append (by_stmt assignments_step x) (flat_map (λ a. a) (by_each assignments_step rest)))
 
 mutual
-  pub walk_count : (p : List ℤ) (x : Stmt) → (by_stmt (walk_step p) x).assigns ≡ (part_of x).assigns
+  pub walk_count : (p : List ℤ) (x : Stmt) → (by_stmt (walk_step p) x).assigns ≡ (denotation_of x).assigns
   walk_count p (s.For' iter low rel high shape body) = walks_count p body
   walk_count p (s.If' conds shape body) = walks_count p body
   walk_count p (s.Assign op array subs value) = refl
@@ -116,7 +116,7 @@ mutual
   walks_count p (more_of-Stmt x rest) =
       sum_by-cons (λ w. w.assigns) (by_stmt (walk_step p) x) (by_each (walk_step p) rest)
       ∙ ap (λ u. u + sum_by (λ w. w.assigns) (by_each (walk_step p) rest)) (walk_count p x)
-      ∙ ap (λ u. (part_of x).assigns + u) (walks_count p rest)
+      ∙ ap (λ u. (denotation_of x).assigns + u) (walks_count p rest)
       ∙ sym (sum_by-cons (λ p. p.assigns) (by_stmt stmt_step x) (by_each stmt_step rest))
 
 abbrev pub one_entry : Element → ℕ → Option (List (Element × ℕ))

@@ -1,5 +1,5 @@
 -- The objects of a fold: what stands under each key.
-use Rattle.affc_certvalue.proofs.Keyed.{Part, other_keys, with_keys, these}
+use Rattle.affc_certvalue.proofs.Keyed.{Field, other_keys, with_keys, these}
 use Rattle.affc_certvalue.proofs.Steps.{worse_fine}
 use Rattle.affc_certvalue.specs.Keys.{has_keys}
 use Rattle.affc_certvalue.specs.Verdicts.{worse, at_key, members}
@@ -53,7 +53,7 @@ pub ruleset witness_keys = (other_keys, witness_members)
 abbrev pub fold_names : List (List ℕ)
 fold_names = codes "array" ∷ codes "inverse" ∷ codes "moduli" ∷ codes "rows" ∷ []
 
-abbrev fold_parts : (f g h i : Data → Verdict) → List Part
+abbrev fold_parts : (f g h i : Data → Verdict) → List Field
 fold_parts f g h i = (codes "array", f) ∷ (codes "inverse", g) ∷ (codes "moduli", h) ∷ (codes "rows", i) ∷ []
 
 fold_at : (f g h i : Data → Verdict) (ds : List Data) → length ds ≡ 4

@@ -1,5 +1,5 @@
 use Rattle.std.proofs.Common.{◌≡◌, ◌+◌, ◌^◌, ◌<◌, ◌∙◌, ap, sym, map, Ok, arith}
-use Rattle.affc_ast.specs.Meaning.{nodes_in, assigns_in, part_of}
+use Rattle.affc_ast.specs.Meaning.{nodes_in, assigns_in, denotation_of}
 use Rattle.affc_interp.specs.Arrays.{values_in}
 use Rattle.affc_interp.specs.Budget.{exec_of, nodes_among, assigns_among, all_within}
 use Rattle.affc_ast.specs.Counted.{body_node}
@@ -14,14 +14,14 @@ returns-in-Err c = unbegun c.args.steps c.args.program.now c.args.feed.now.param
 pub exec_all-requires-clause-nodes : goal.exec_all-requires-clause-nodes
 exec_all-requires-clause-nodes c =
     let n : c.in-Ok.begun.1 ≡ body_node c.args.program.now = c.in-Ok.ensures.8 in
-    let s : nodes_among (map exec_of c.as_slice.result.now) ≡ nodes_in (map part_of c.args.program.now.body) = ap (λ b. nodes_among (map exec_of b)) c.as_slice.ensures ∙ run_nodes c.args.program.now.body in
-    let t : body_node c.args.program.now + nodes_in (map part_of c.args.program.now.body) < 2 ^ 32 = c.requires.nodes in
+    let s : nodes_among (map exec_of c.as_slice.result.now) ≡ nodes_in (map denotation_of c.args.program.now.body) = ap (λ b. nodes_among (map exec_of b)) c.as_slice.ensures ∙ run_nodes c.args.program.now.body in
+    let t : body_node c.args.program.now + nodes_in (map denotation_of c.args.program.now.body) < 2 ^ 32 = c.requires.nodes in
     omega arith
 
 pub exec_all-requires-clause-assigns : goal.exec_all-requires-clause-assigns
 exec_all-requires-clause-assigns c =
-    let s : assigns_among (map exec_of c.as_slice.result.now) ≡ assigns_in (map part_of c.args.program.now.body) = ap (λ b. assigns_among (map exec_of b)) c.as_slice.ensures ∙ run_assigns c.args.program.now.body in
-    let t : assigns_in (map part_of c.args.program.now.body) < 2 ^ 32 = c.requires.assigns in
+    let s : assigns_among (map exec_of c.as_slice.result.now) ≡ assigns_in (map denotation_of c.args.program.now.body) = ap (λ b. assigns_among (map exec_of b)) c.as_slice.ensures ∙ run_assigns c.args.program.now.body in
+    let t : assigns_in (map denotation_of c.args.program.now.body) < 2 ^ 32 = c.requires.assigns in
     omega arith
 
 pub exec_all-requires-clause-within : goal.exec_all-requires-clause-within

@@ -8,7 +8,7 @@ ghost use Rattle.affc_syntax.specs.draft.Drafts.{ix};
 ghost use Rattle.affc_schedtext.specs.Rules.{column_named};
 ghost use Rattle.affc_schedtext.specs.Seen.{scope_seen};
 ghost use Rattle.affc_plan.specs.Few.{AreFew};
-ghost use Rattle.affc_plan.specs.Parts.{is_slight, kept, mixture, multiple, part_of, IsPartOver};
+ghost use Rattle.affc_plan.specs.Operands.{is_slight, kept, mixture, multiple, operand_of, IsOperandOver};
 ghost use Rattle.affc_plan.specs.Seen.{columns_seen};
 
 use crate::columns::{Columns, column_of};
@@ -18,7 +18,7 @@ use std::alloc::{AllocError, Global};
 
 /// Whether names stand in an expression, and its form.
 #[derive(Drop)]
-pub(crate) struct Part {
+pub(crate) struct Operand {
     pub named: bool,
     pub form: Form,
 }
@@ -60,12 +60,12 @@ fn has_slight(form: &Form) -> bool
 }
 
 /// The form, if it is slight.
-fn keep(named: bool, form: Form) -> Option<Part>
+fn keep(named: bool, form: Form) -> Option<Operand>
     ensures value { result ≡ kept named form }
-    ensures fits { IsPartOver (length form.coefs) result }
+    ensures fits { IsOperandOver (length form.coefs) result }
 {
     if has_slight(&form) {
-        Some(Part { named, form })
+        Some(Operand { named, form })
     } else {
         None
     }
@@ -75,15 +75,15 @@ fn keep(named: bool, form: Form) -> Option<Part>
 fn sum(
     alloc: Global,
     columns: u32,
-    a: &Option<Part>,
+    a: &Option<Operand>,
     t: i128,
-    b: &Option<Part>,
-) -> Result<Option<Part>, AllocError>
+    b: &Option<Operand>,
+) -> Result<Option<Operand>, AllocError>
     requires factor { unsigned_abs t ≤ 1 }
-    requires first { IsPartOver columns a.now }
-    requires second { IsPartOver columns b.now }
+    requires first { IsOperandOver columns a.now }
+    requires second { IsOperandOver columns b.now }
     ensures value { IfOk result (λ r. r ≡ mixture (pos 1) a.now t b.now) }
-    ensures fits { IfOk result (λ r. IsPartOver columns r) }
+    ensures fits { IfOk result (λ r. IsOperandOver columns r) }
 {
     let Some(a) = a else {
         return Ok(None);
@@ -95,10 +95,10 @@ fn sum(
     Ok(keep(a.named || b.named, form))
 }
 
-fn opposite(alloc: Global, columns: u32, a: &Option<Part>) -> Result<Option<Part>, AllocError>
-    requires part { IsPartOver columns a.now }
+fn opposite(alloc: Global, columns: u32, a: &Option<Operand>) -> Result<Option<Operand>, AllocError>
+    requires operand { IsOperandOver columns a.now }
     ensures value { IfOk result (λ r. r ≡ mixture (negsuc 0) a.now (pos 0) a.now) }
-    ensures fits { IfOk result (λ r. IsPartOver columns r) }
+    ensures fits { IfOk result (λ r. IsOperandOver columns r) }
 {
     let Some(a) = a else {
         return Ok(None);
@@ -108,7 +108,7 @@ fn opposite(alloc: Global, columns: u32, a: &Option<Part>) -> Result<Option<Part
 }
 
 /// The form of a product, whose first side holds names or not.
-fn product_of(alloc: Global, columns: u32, a: &Part, b: &Part) -> Result<Form, AllocError>
+fn product_of(alloc: Global, columns: u32, a: &Operand, b: &Operand) -> Result<Form, AllocError>
     requires first { (is_slight a.now.form ≡ true) × (length a.now.form.coefs ≡ columns) }
     requires second { (is_slight b.now.form ≡ true) × (length b.now.form.coefs ≡ columns) }
     ensures value { IfOk result (λ f. f ≡ product_form a.now.named a.now.form b.now.form) }
@@ -125,13 +125,13 @@ fn product_of(alloc: Global, columns: u32, a: &Part, b: &Part) -> Result<Form, A
 fn product(
     alloc: Global,
     columns: u32,
-    a: &Option<Part>,
-    b: &Option<Part>,
-) -> Result<Option<Part>, AllocError>
-    requires first { IsPartOver columns a.now }
-    requires second { IsPartOver columns b.now }
+    a: &Option<Operand>,
+    b: &Option<Operand>,
+) -> Result<Option<Operand>, AllocError>
+    requires first { IsOperandOver columns a.now }
+    requires second { IsOperandOver columns b.now }
     ensures value { IfOk result (λ r. r ≡ multiple a.now b.now) }
-    ensures fits { IfOk result (λ r. IsPartOver columns r) }
+    ensures fits { IfOk result (λ r. IsOperandOver columns r) }
 {
     let Some(a) = a else {
         return Ok(None);
@@ -143,9 +143,9 @@ fn product(
     Ok(keep(a.named || b.named, form))
 }
 
-fn literal(alloc: Global, columns: u32, value: u64) -> Result<Option<Part>, AllocError>
+fn literal(alloc: Global, columns: u32, value: u64) -> Result<Option<Operand>, AllocError>
     ensures value { IfOk result (λ r. r ≡ kept false (record { coefs = replicate columns (pos 0); constant = pos value })) }
-    ensures fits { IfOk result (λ r. IsPartOver columns r) }
+    ensures fits { IfOk result (λ r. IsOperandOver columns r) }
 {
     let form = Form::number(alloc, columns, i128::from(value))?;
     Ok(keep(false, form))
@@ -162,10 +162,10 @@ fn number_of(columns: Columns<'_>, name: &str) -> u32
     }
 }
 
-fn name(alloc: Global, columns: Columns<'_>, name: &str) -> Result<Option<Part>, AllocError>
+fn name(alloc: Global, columns: Columns<'_>, name: &str) -> Result<Option<Operand>, AllocError>
     requires { AreFew columns.scope }
     ensures value { IfOk result (λ r. r ≡ kept true (record { coefs = unit_of columns.entry.count (column_named (scope_seen columns.entry.scope name.now)); constant = pos 0 })) }
-    ensures fits { IfOk result (λ r. IsPartOver columns.entry.count r) }
+    ensures fits { IfOk result (λ r. IsOperandOver columns.entry.count r) }
 {
     let number = number_of(columns, name);
     let form = Form::column(alloc, columns.count, number)?;
@@ -174,38 +174,38 @@ fn name(alloc: Global, columns: Columns<'_>, name: &str) -> Result<Option<Part>,
 
 /// The form of an expression, where each part of it is slight.
 #[tactic(auto, using(affc_syntax::proofs::draft::Outs::ix_outs))]
-pub(crate) fn linear_part(
+pub(crate) fn linear_operand(
     alloc: Global,
     columns: Columns<'_>,
     e: &IxDraft,
-) -> Result<Option<Part>, AllocError>
+) -> Result<Option<Operand>, AllocError>
     requires { AreFew columns.scope }
-    ensures form { IfOk result (λ r. r ≡ part_of (columns_seen columns.entry) (ix e.now)) }
-    ensures fits { IfOk result (λ r. IsPartOver columns.entry.count r) }
+    ensures form { IfOk result (λ r. r ≡ operand_of (columns_seen columns.entry) (ix e.now)) }
+    ensures fits { IfOk result (λ r. IsOperandOver columns.entry.count r) }
 {
     match e {
         IxDraft::Literal { value, .. } => literal(alloc, columns.count, *value),
         IxDraft::Name { name: own, .. } => name(alloc, columns, own.as_str()),
         IxDraft::Negated { of, .. } => {
-            let a = linear_part(alloc, columns, of.get())?;
+            let a = linear_operand(alloc, columns, of.get())?;
             opposite(alloc, columns.count, &a)
         }
         IxDraft::Sum(a, b) => {
-            let a = linear_part(alloc, columns, a.get())?;
-            let b = linear_part(alloc, columns, b.get())?;
+            let a = linear_operand(alloc, columns, a.get())?;
+            let b = linear_operand(alloc, columns, b.get())?;
             sum(alloc, columns.count, &a, 1, &b)
         }
         IxDraft::Difference(a, b) => {
-            let a = linear_part(alloc, columns, a.get())?;
-            let b = linear_part(alloc, columns, b.get())?;
+            let a = linear_operand(alloc, columns, a.get())?;
+            let b = linear_operand(alloc, columns, b.get())?;
             sum(alloc, columns.count, &a, -1, &b)
         }
         IxDraft::Product { left, right, .. } => {
-            let a = linear_part(alloc, columns, left.get())?;
-            let b = linear_part(alloc, columns, right.get())?;
+            let a = linear_operand(alloc, columns, left.get())?;
+            let b = linear_operand(alloc, columns, right.get())?;
             product(alloc, columns.count, &a, &b)
         }
-        IxDraft::Grouped { inside, .. } => linear_part(alloc, columns, inside.get()),
+        IxDraft::Grouped { inside, .. } => linear_operand(alloc, columns, inside.get()),
         IxDraft::Chosen { .. } | IxDraft::Divided { .. } => Ok(None),
     }
 }

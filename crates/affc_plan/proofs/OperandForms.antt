@@ -8,17 +8,17 @@ use Rattle.affc_domain.specs.Affine.{unit_of, Linear, linear, linear_step, produ
 use Rattle.affc_grammar.specs.Draft.{IxDraft, literal, name, negated, sum, difference, product, grouped, chosen, divided}
 use Rattle.affc_schedtext.specs.Rules.{Columns, column_named, over_columns, form_over, slight_parts}
 use Rattle.affc_schedtext.proofs.Slight.{slight_of}
-use Rattle.affc_plan.specs.declared.parts.Part.{Part}
-use Rattle.affc_plan.specs.Parts.{is_slight, kept, mixture, multiple, part_of}
+use Rattle.affc_plan.specs.declared.operands.Operand.{Operand}
+use Rattle.affc_plan.specs.Operands.{is_slight, kept, mixture, multiple, operand_of}
 
 abbrev linear_over : Columns → IxDraft → Linear
 linear_over k e = linear k.count 0 (over_columns k.scope e)
 
 -- a part, where the test holds
-abbrev slot : Bool → Bool → Affine → Option Part
+abbrev slot : Bool → Bool → Affine → Option Operand
 slot b named f = if b then Some (record { named = named; form = f }) else None
 
-abbrev found : Bool → Linear → Option Part
+abbrev found : Bool → Linear → Option Operand
 found b l = slot b l.named l.form
 
 -- ---- Tests of two and of the whole
@@ -74,42 +74,42 @@ opposite_found k a true e =
     ∙ ap (λ n. slot true n (mixed_form (negsuc 0) l.form (pos 0) l.form)) (or_same l.named)
     ∙ ap (λ (m : Linear). slot true m.named m.form) (sym it)
 
-pub part_is : (k : Columns) (e : IxDraft) → part_of k e ≡ found (slight_parts k e) (linear_over k e)
-part_is k (literal at n) = ap (kept false) (literal_form k n)
-part_is k (name at w) =
+pub operand_is : (k : Columns) (e : IxDraft) → operand_of k e ≡ found (slight_parts k e) (linear_over k e)
+operand_is k (literal at n) = ap (kept false) (literal_form k n)
+operand_is k (name at w) =
     ap (kept true) (name_form k w) ∙ ap (λ b. slot b true (form_over k (name 0 w))) (slight_form k (name 0 w) refl)
-part_is k (negated at a) = (λ i. mixture (negsuc 0) (part_is k a i) (pos 0) (part_is k a i)) ∙ opposite_found k a (slight_parts k a) refl
-part_is k (sum a b) =
-    (λ i. mixture (pos 1) (part_is k a i) (pos 1) (part_is k b i))
+operand_is k (negated at a) = (λ i. mixture (negsuc 0) (operand_is k a i) (pos 0) (operand_is k a i)) ∙ opposite_found k a (slight_parts k a) refl
+operand_is k (sum a b) =
+    (λ i. mixture (pos 1) (operand_is k a i) (pos 1) (operand_is k b i))
     ∙ two_found (slight_parts k a) (slight_parts k b) (linear_over k a) (linear_over k b) (pos 1) (pos 1)
     ∙ ap (λ (r : Linear). slot (is_slight r.form && slight_parts k a && slight_parts k b) r.named r.form) (sym (add_here (linear_step k.count 0) (over_columns k.scope a) (over_columns k.scope b)))
-part_is k (difference a b) =
-    (λ i. mixture (pos 1) (part_is k a i) (negsuc 0) (part_is k b i))
+operand_is k (difference a b) =
+    (λ i. mixture (pos 1) (operand_is k a i) (negsuc 0) (operand_is k b i))
     ∙ two_found (slight_parts k a) (slight_parts k b) (linear_over k a) (linear_over k b) (pos 1) (negsuc 0)
     ∙ ap (λ (r : Linear). slot (is_slight r.form && slight_parts k a && slight_parts k b) r.named r.form) (sym (sub_here (linear_step k.count 0) (over_columns k.scope a) (over_columns k.scope b)))
-part_is k (product at a b) =
-    (λ i. multiple (part_is k a i) (part_is k b i))
+operand_is k (product at a b) =
+    (λ i. multiple (operand_is k a i) (operand_is k b i))
     ∙ product_found (slight_parts k a) (slight_parts k b) (linear_over k a) (linear_over k b)
     ∙ ap (λ (r : Linear). slot (is_slight r.form && slight_parts k a && slight_parts k b) r.named r.form) (sym (mul_here (linear_step k.count 0) (over_columns k.scope a) (over_columns k.scope b)))
-part_is k (grouped at a) = part_is k a
-part_is k (chosen at f a b) = refl
-part_is k (divided at f a by_at by) = refl
+operand_is k (grouped at a) = operand_is k a
+operand_is k (chosen at f a b) = refl
+operand_is k (divided at f a by_at by) = refl
 
-some_found : (b : Bool) (l : Linear) (p : Part) → found b l ≡ Some p → (true ≡ b) × (p.form ≡ l.form)
-some_found true l p h = (refl, let same : ◌≡◌ {A = Part} (record { named = l.named; form = l.form }) p = cc in ap (λ (q : Part). q.form) (sym same))
+some_found : (b : Bool) (l : Linear) (p : Operand) → found b l ≡ Some p → (true ≡ b) × (p.form ≡ l.form)
+some_found true l p h = (refl, let same : ◌≡◌ {A = Operand} (record { named = l.named; form = l.form }) p = cc in ap (λ (q : Operand). q.form) (sym same))
 some_found false l p h = absurd (cc)
 
 none_found : (b : Bool) (l : Linear) → found b l ≡ None → false ≡ b
 none_found true l h = absurd (cc)
 none_found false l h = refl
 
-pub found_slight : (k : Columns) (e : IxDraft) (p : Part) → part_of k e ≡ Some p → true ≡ slight_parts k e
-found_slight k e p h = (some_found (slight_parts k e) (linear_over k e) p (sym (part_is k e) ∙ h)).0
+pub found_slight : (k : Columns) (e : IxDraft) (p : Operand) → operand_of k e ≡ Some p → true ≡ slight_parts k e
+found_slight k e p h = (some_found (slight_parts k e) (linear_over k e) p (sym (operand_is k e) ∙ h)).0
 
-pub found_none : (k : Columns) (e : IxDraft) → part_of k e ≡ None → false ≡ slight_parts k e
-found_none k e h = none_found (slight_parts k e) (linear_over k e) (sym (part_is k e) ∙ h)
+pub found_none : (k : Columns) (e : IxDraft) → operand_of k e ≡ None → false ≡ slight_parts k e
+found_none k e h = none_found (slight_parts k e) (linear_over k e) (sym (operand_is k e) ∙ h)
 
-pub found_form : (k : Columns) (e : IxDraft) (p : Part) → part_of k e ≡ Some p → p.form ≡ form_over k e
-found_form k e p h = (some_found (slight_parts k e) (linear_over k e) p (sym (part_is k e) ∙ h)).1
+pub found_form : (k : Columns) (e : IxDraft) (p : Operand) → operand_of k e ≡ Some p → p.form ≡ form_over k e
+found_form k e p h = (some_found (slight_parts k e) (linear_over k e) p (sym (operand_is k e) ∙ h)).1
 
 pub ruleset parts = (found_slight, found_none, found_form)

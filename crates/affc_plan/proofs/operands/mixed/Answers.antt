@@ -2,8 +2,8 @@ use Rattle.std.proofs.Common.{◌≤◌, ◌^◌, ℤ, to_z, of_z, sym, subst, �
 use Rattle.std.specs.Prelude.{FitsSigned, unsigned_abs}
 use Rattle.std.specs.Int.{w128}
 use Rattle.std.proofs.lemmas.Int.{to_z-of_z}
-use Rattle.affc_plan.proofs.PartLaws.{mixture_fits}
-use Rattle.affc_plan.proofs.parts.mixed.Goals as goal
+use Rattle.affc_plan.proofs.OperandLaws.{mixture_fits}
+use Rattle.affc_plan.proofs.operands.mixed.Goals as goal
 
 pub mixture-requires-clause-columns : goal.mixture-requires-clause-columns
 mixture-requires-clause-columns c = c.requires.columns.0 ∙ sym c.requires.columns.1

@@ -5,7 +5,7 @@ use Rattle.std.proofs.Math.Nat.{mul-le-mul_left, mul-le-mul_right}
 use Rattle.std.proofs.lemmas.Bool.{leb-true, and_parts}
 use Rattle.affc_rows.specs.Forms.{Affine, TooWide, mixed_magnitudes, mixed_form_magnitudes, entry_magnitude}
 use Rattle.affc_trace.specs.Target.{are_slight}
-use Rattle.affc_plan.specs.Parts.{is_slight}
+use Rattle.affc_plan.specs.Operands.{is_slight}
 
 -- ---- Magnitudes
 

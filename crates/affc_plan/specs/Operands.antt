@@ -1,0 +1,42 @@
+-- The operands of an expression as forms, where each is slight.
+use Rattle.std.specs.Prelude.{◌≡◌, ℕ, ℤ, pos, negsuc, Bool, true, false, ◌||◌, if◌then◌else◌, [], ◌∷◌, length, replicate, Option, Some, None}
+use Rattle.affc_rows.specs.Forms.{Affine, mixed_form}
+use Rattle.affc_trace.specs.Target.{all_slight}
+use Rattle.affc_domain.specs.Affine.{unit_of, product_form}
+use Rattle.affc_grammar.specs.Draft.{IxDraft, literal, name, negated, sum, difference, product, grouped, chosen, divided}
+use Rattle.affc_schedtext.specs.Rules.{Columns, column_named}
+use Rattle.affc_plan.specs.declared.operands.Operand.{Operand}
+
+abbrev pub is_slight : Affine → Bool
+is_slight f = all_slight (f ∷ [])
+
+-- a form, if it is slight, and whether names stand in it
+abbrev pub kept : Bool → Affine → Option Operand
+kept named form = if is_slight form then Some (record { named = named; form = form }) else None
+
+abbrev pub mixture : ℤ → Option Operand → ℤ → Option Operand → Option Operand
+mixture s None t b = None
+mixture s (Some a) t None = None
+mixture s (Some a) t (Some b) = kept (a.named || b.named) (mixed_form s a.form t b.form)
+
+abbrev pub multiple : Option Operand → Option Operand → Option Operand
+multiple None b = None
+multiple (Some a) None = None
+multiple (Some a) (Some b) = kept (a.named || b.named) (product_form a.named a.form b.form)
+
+-- an expression over these columns; nothing where an operand isn't slight
+abbrev pub operand_of : Columns → IxDraft → Option Operand
+operand_of c (literal at n) = kept false (record { coefs = replicate c.count (pos 0); constant = pos n })
+operand_of c (name at w) = kept true (record { coefs = unit_of c.count (column_named (c.scope w)); constant = pos 0 })
+operand_of c (negated at a) = mixture (negsuc 0) (operand_of c a) (pos 0) (operand_of c a)
+operand_of c (sum a b) = mixture (pos 1) (operand_of c a) (pos 1) (operand_of c b)
+operand_of c (difference a b) = mixture (pos 1) (operand_of c a) (negsuc 0) (operand_of c b)
+operand_of c (product at a b) = multiple (operand_of c a) (operand_of c b)
+operand_of c (grouped at a) = operand_of c a
+operand_of c (chosen at f a b) = None
+operand_of c (divided at f a by_at by) = None
+
+-- an operand has a slight form over so many columns
+abbrev pub IsOperandOver : ℕ → Option Operand → Type 0
+IsOperandOver n None = Unit {0}
+IsOperandOver n (Some a) = (is_slight a.form ≡ true) × (length a.form.coefs ≡ n)
