@@ -11,7 +11,7 @@ use Rattle.affc_ast.specs.declared.tree.Val.{Val}
 use Rattle.affc_ast.specs.declared.tree.Stmt.{Stmt}
 use Rattle.affc_ast.specs.Index.{Index, index_step, nodes_of_ix, nodes_of_compare}
 use Rattle.affc_ast.specs.Values.{Value, value_step, value_of}
-use Rattle.affc_ast.specs.Meaning.{Part, stmt_step, denotation_of, nodes_in, assigns_in, nodes_of_locals}
+use Rattle.affc_ast.specs.Meaning.{Denotation, stmt_step, denotation_of, nodes_in, assigns_in, nodes_of_locals}
 use Rattle.affc_grammar.specs.Grammar.{Choice, minimum, maximum, remainder, Rounding, down, up}
 use Rattle.affc_grammar.specs.Draft.{IxDraft, literal, name, negated, sum, difference, product, grouped, chosen, divided, CompareDraft, ValueDraft, load, constant, cast, complement, binary, shift, LocalDraft, StmtsDraft, no_stmts, and_stmt, StmtDraft, for_loop, if_all, assign, block}
 use Rattle.affc_grammar.specs.Names.{Scope, Checked, each, choice_tree, rounding_tree, number_named, array_named, ix_tree, compare_tree, value_tree, locals_tree, head_tree, stmts_tree, stmt_tree, why_declared, why_repeated, with_number}
@@ -145,17 +145,17 @@ locals_nodes scope (c ∷ cs) r e =
     (omega (arith, sum_by-cons (λ (l : Local). nodes_of_ix l.value) one q.0.0, sum_by-cons local_size c cs))
 
 -- so many nodes at most, and so many assignments
-abbrev Has : ℕ → List Part → Type 0
+abbrev Has : ℕ → List Denotation → Type 0
 Has n ps = (nodes_in ps ≤ n) × (assigns_in ps ≤ n)
 
-abbrev HasOne : ℕ → Part → Type 0
+abbrev HasOne : ℕ → Denotation → Type 0
 HasOne n p = (p.nodes ≤ n) × (p.assigns ≤ n)
 
 has_more : (m n : ℕ) (xs : List Stmt) (x : Stmt) → Has m (map denotation_of xs) → HasOne n (denotation_of x) → Has (m + n) (map denotation_of (xs ++ x ∷ []))
 has_more m n xs x h k =
     subst (Has (m + n)) (sym (map-append denotation_of xs (x ∷ []))) (
-      omega (arith, h.0, k.0, sum_by-append (λ (p : Part). p.nodes) (map denotation_of xs) (denotation_of x ∷ []), sum_by-cons (λ (p : Part). p.nodes) (denotation_of x) []),
-      omega (arith, h.1, k.1, sum_by-append (λ (p : Part). p.assigns) (map denotation_of xs) (denotation_of x ∷ []), sum_by-cons (λ (p : Part). p.assigns) (denotation_of x) []),
+      omega (arith, h.0, k.0, sum_by-append (λ (p : Denotation). p.nodes) (map denotation_of xs) (denotation_of x ∷ []), sum_by-cons (λ (p : Denotation). p.nodes) (denotation_of x) []),
+      omega (arith, h.1, k.1, sum_by-append (λ (p : Denotation). p.assigns) (map denotation_of xs) (denotation_of x ∷ []), sum_by-cons (λ (p : Denotation). p.assigns) (denotation_of x) []),
     )
 
 mutual
@@ -183,7 +183,7 @@ mutual
       let k = stmts_has (with_number true scope h.iterator.name) body q.0 q.1 in
       let here = for_here stmt_step h.iterator.name p.0.0 h.rel p.0.1 q.0 in
       subst (λ (y : Stmt). HasOne (stmt_size (for_loop h body)) (denotation_of y)) (ok_of q.2)
-      (omega (arith, m, n, first, last, k.0, ap (λ (a : Part). a.nodes) here), omega (arith, k.1, ap (λ (a : Part). a.assigns) here))
+      (omega (arith, m, n, first, last, k.0, ap (λ (a : Denotation). a.nodes) here), omega (arith, k.1, ap (λ (a : Denotation). a.assigns) here))
   stmt_has scope (if_all at cs body) x e =
       let p = then_is (each (compare_tree scope) cs) _ x e in
       let q = then_is (stmts_tree scope body) _ x p.2 in
@@ -191,7 +191,7 @@ mutual
       let k = stmts_has scope body q.0 q.1 in
       let here = if_here stmt_step p.0 q.0 in
       subst (λ (y : Stmt). HasOne (stmt_size (if_all at cs body)) (denotation_of y)) (ok_of q.2)
-      (omega (arith, m, k.0, ap (λ (a : Part). a.nodes) here), omega (arith, k.1, ap (λ (a : Part). a.assigns) here))
+      (omega (arith, m, k.0, ap (λ (a : Denotation). a.nodes) here), omega (arith, k.1, ap (λ (a : Denotation). a.assigns) here))
   stmt_has scope (assign w subs op v) x e =
       let p = then_is (array_named scope w.at w.name true (length subs)) _ x e in
       let q = then_is (each (ix_tree scope) subs) _ x p.2 in
@@ -206,4 +206,4 @@ mutual
       let k = stmts_has p.0.1 body q.0 q.1 in
       let here = block_here stmt_step p.0.0 q.0 in
       subst (λ (y : Stmt). HasOne (stmt_size (block cs body)) (denotation_of y)) (ok_of q.2)
-      (omega (arith, m, k.0, ap (λ (a : Part). a.nodes) here), omega (arith, k.1, ap (λ (a : Part). a.assigns) here))
+      (omega (arith, m, k.0, ap (λ (a : Denotation). a.nodes) here), omega (arith, k.1, ap (λ (a : Denotation). a.assigns) here))
