@@ -33,7 +33,8 @@ use Rattle.affc_sched.proofs.LegalLemmas.{entry_at}
 use Rattle.affc_sched.proofs.PairLemmas.{stands_in, subs_sides}
 use Rattle.affc_sched.proofs.WidthLemmas.{domain_wide}
 use Rattle.affc_quast.specs.Laws.{IsOver}
-use Rattle.affc_quast.specs.Leaves.{Leaf, multiple, negated, division_rows}
+use Rattle.affc_nest.specs.Divisions.{multiple, division_rows}
+use Rattle.affc_quast.specs.Leaves.{Leaf, negated}
 use Rattle.affc_quast.specs.Limits.{narrow, FitsForm, Shaped}
 use Rattle.affc_quast.specs.Paths.{IsNear}
 use Rattle.affc_quast.specs.Trees.{Tree, Test, Div, Source, Input, instance_at, named_at, quotients_at, depth_of, divisions_of}

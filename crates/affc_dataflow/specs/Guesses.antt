@@ -11,7 +11,7 @@ use Rattle.affc_nest.specs.declared.nest.Access.{Access}
 use Rattle.affc_nest.specs.declared.nest.Entry.{Entry}
 use Rattle.affc_nest.specs.declared.nest.Nest.{Nest}
 use Rattle.affc_nest.specs.Nests.{nest_of}
-use Rattle.affc_quast.specs.Leaves.{division_rows}
+use Rattle.affc_nest.specs.Divisions.{division_rows}
 use Rattle.affc_quast.specs.Limits.{narrow, IsTreeWithin}
 use Rattle.affc_quast.specs.Paths.{IsNear}
 use Rattle.affc_quast.specs.Trees.{Tree, named_at, quotients_at}

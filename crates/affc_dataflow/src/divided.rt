@@ -1,7 +1,7 @@
 //! What is behind a division, and its tree.
 ghost use Rattle.std.specs.Prelude.{◌≡◌, ◌-◌, ◌^◌, ◌≤◌, ◌≤ℤ◌, ◌++◌, ◌∷◌, [], pos, length, IfOk, IfSome, Some};
 ghost use Rattle.affc_ast.specs.Index.{floor_of};
-ghost use Rattle.affc_quast.specs.Leaves.{multiple};
+ghost use Rattle.affc_nest.specs.Divisions.{multiple};
 ghost use Rattle.affc_quast.specs.Limits.{narrow, FitsForm};
 ghost use Rattle.affc_quast.specs.Paths.{IsNear};
 ghost use Rattle.affc_quast.specs.Seen.{seen};

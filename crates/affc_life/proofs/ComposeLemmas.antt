@@ -8,7 +8,7 @@ use Rattle.affc_rows.specs.Forms.{Affine, dot, dot_magnitude, columns_of, column
 use Rattle.affc_rows.proofs.IntLemmas.{abs-add}
 use Rattle.affc_system.proofs.BoxLemmas.{product_within}
 use Rattle.affc_order.specs.Posed.{form_at}
-use Rattle.affc_quast.specs.Wide.{IsWide}
+use Rattle.affc_nest.specs.Wide.{IsWide}
 use Rattle.affc_life.specs.Asked.{IsLight}
 use Rattle.affc_life.specs.Composed.{AreImages, IsSlight}
 use Rattle.affc_life.proofs.LightLemmas.{all_of}

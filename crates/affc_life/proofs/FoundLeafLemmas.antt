@@ -12,7 +12,8 @@ use Rattle.affc_trace.proofs.Once.{in_append}
 use Rattle.affc_nest.specs.Domains.{number_form, gap_row}
 use Rattle.affc_nest.specs.Questions.{widened}
 use Rattle.affc_order.specs.Posed.{Posed}
-use Rattle.affc_quast.specs.Leaves.{Leaf, negated, multiple, division_rows, behind, divided, leaves_of}
+use Rattle.affc_nest.specs.Divisions.{multiple, division_rows}
+use Rattle.affc_quast.specs.Leaves.{Leaf, negated, behind, divided, leaves_of}
 use Rattle.affc_quast.specs.Limits.{Shaped, FitsForm, FitsTree, narrow}
 use Rattle.affc_quast.specs.Trees.{Tree, Test, Div, Source, Input, depth_of, divisions_of}
 use Rattle.affc_life.proofs.LightLemmas.{all_of}

@@ -9,7 +9,7 @@ use Rattle.affc_nest.specs.Sides.{AreNear, IsSide}
 use Rattle.affc_order.specs.Spread.{spread}
 use Rattle.affc_order.proofs.CodeLemmas.{columns_sides, spread_side}
 use Rattle.affc_quast.specs.Leaves.{padded}
-use Rattle.affc_quast.specs.Wide.{IsWide}
+use Rattle.affc_nest.specs.Wide.{IsWide}
 use Rattle.affc_quast.proofs.LeafLemmas.{padded_width}
 use Rattle.affc_quast.proofs.PathLemmas.{wide_of}
 use Rattle.affc_life.specs.Asked.{IsLight}

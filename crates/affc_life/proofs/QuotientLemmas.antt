@@ -11,57 +11,13 @@ use Rattle.affc_system.proofs.BoxLemmas.{corner_in_box, corner_is_corner, value_
 use Rattle.affc_ast.specs.Index.{floor_of}
 use Rattle.affc_trace.proofs.Runs.{length_append}
 use Rattle.affc_quast.specs.declared.leaves.Division.{Division}
-use Rattle.affc_quast.specs.Leaves.{held, quotient_range, path_ranges}
+use Rattle.affc_nest.specs.Divisions.{held, quotient_range}
+use Rattle.affc_quast.specs.Leaves.{path_ranges}
 use Rattle.affc_quast.specs.Paths.{IsNear}
 use Rattle.affc_quast.specs.SeenLeaves.{division_seen}
 use Rattle.affc_quast.proofs.NearLemmas.{has_value}
 use Rattle.affc_quast.proofs.RangeLemmas.{held_near, floor_grows}
 use Rattle.affc_life.specs.Asked.{IsLight, AreDivisions}
-
--- ---- Held numbers
-
-held_grows : (n : ℕ) (a b : ℤ) → a ≤ℤ b → held n a ≤ℤ held n b
-held_grows n a b h = chosen (int_lt a (neg_ℤ (pos n))) (int_lt (pos n) a) (int_lt b (neg_ℤ (pos n))) (int_lt (pos n) b) refl refl refl refl
-  where
-    low : neg_ℤ (pos n) ≤ℤ pos n
-    low = grind (arith, ints)
-
-    same : (z : ℤ) → z ≤ℤ z
-    same z = omega (arith, ints)
-
-    fell : (a b : ℤ) → a ≤ℤ b → int_lt a (neg_ℤ (pos n)) ≡ false → int_lt b (neg_ℤ (pos n)) ≡ true → ⊥
-    fell a b h e f = grind (arith, ints)
-
-    rose : (a b : ℤ) → a ≤ℤ b → int_lt (pos n) a ≡ true → int_lt (pos n) b ≡ false → ⊥
-    rose a b h e f = grind (arith, ints)
-
-    at_least : (z : ℤ) → int_lt z (neg_ℤ (pos n)) ≡ false → neg_ℤ (pos n) ≤ℤ z
-    at_least z e = grind (arith, ints)
-
-    at_most : (z : ℤ) → int_lt (pos n) z ≡ false → z ≤ℤ pos n
-    at_most z e = grind (arith, ints)
-
-    chosen : (t u v w : Bool) → int_lt a (neg_ℤ (pos n)) ≡ t → int_lt (pos n) a ≡ u → int_lt b (neg_ℤ (pos n)) ≡ v → int_lt (pos n) b ≡ w
-        → (if t then neg_ℤ (pos n) else (if u then pos n else a)) ≤ℤ (if v then neg_ℤ (pos n) else (if w then pos n else b))
-    chosen true u true w e f g i = same (neg_ℤ (pos n))
-    chosen true u false true e f g i = low
-    chosen true u false false e f g i = at_least b g
-    chosen false u true w e f g i = absurd (fell a b h e g)
-    chosen false true false true e f g i = same (pos n)
-    chosen false true false false e f g i = absurd (rose a b h f i)
-    chosen false false false true e f g i = at_most a f
-    chosen false false false false e f g i = h
-
--- ---- Ends
-
-pub range_ordered : (ranges : List (ℤ × ℤ)) (f : Affine) (by : ℤ) → IsBox ranges → length f.coefs ≡ length ranges → pos 1 ≤ℤ by → (quotient_range ranges f by).0 ≤ℤ (quotient_range ranges f by).1
-range_ordered ranges f (pos zero) box w h = absurd (omega (arith, ints, h))
-range_ordered ranges f (negsuc k) box w h = absurd (omega (arith, ints, h))
-range_ordered ranges f (pos (suc k)) box w h =
-    let low : ℤ = value f (corner false f.coefs ranges) in
-    let high : ℤ = value f (corner true f.coefs ranges) in
-    held_grows (2 ^ 60) (floor_of low (pos (suc k))) (floor_of high (pos (suc k)))
-    (floor_grows k low high (value_least f ranges (corner true f.coefs ranges) w (corner_in_box ranges (corner true f.coefs ranges) box (corner_is_corner true f.coefs ranges w))))
 
 pub range_near : (ranges : List (ℤ × ℤ)) (f : Affine) (by : ℤ) → WithinReach (quotient_range ranges f by)
 range_near ranges f by = record { low = held_near (2 ^ 60) (floor_of (value f (corner false f.coefs ranges)) by); high = held_near (2 ^ 60) (floor_of (value f (corner true f.coefs ranges)) by) }
@@ -102,16 +58,6 @@ not_past ranges f light near few past = over (magnitude f past.0) (corner_fits r
     over n h g = absurd (omega (arith, h, g))
 
 -- ---- What the code makes
-
-pub range_is : (ranges : List (ℤ × ℤ)) (f : Affine) (by low high first last : ℤ) → low ≡ value f (corner false f.coefs ranges) → high ≡ value f (corner true f.coefs ranges)
-    → first ≡ held (2 ^ 60) (floor_of low by) → last ≡ held (2 ^ 60) (floor_of high by) → ◌≡◌ {A = ℤ × ℤ} (first, last) (quotient_range ranges f by)
-range_is ranges f by low high first last l h a b =
-    let one : first ≡ (quotient_range ranges f by).0 = a ∙ ap (λ z. held (2 ^ 60) (floor_of z by)) l in
-    let two : last ≡ (quotient_range ranges f by).1 = b ∙ ap (λ z. held (2 ^ 60) (floor_of z by)) h in
-    ap (λ (z : ℤ). let r : ℤ × ℤ = (z, last) in r) one ∙ ap (λ (z : ℤ). let r : ℤ × ℤ = ((quotient_range ranges f by).0, z) in r) two
-
-pub ordered_is : (ranges : List (ℤ × ℤ)) (f : Affine) (by first last : ℤ) → IsBox ranges → length f.coefs ≡ length ranges → pos 1 ≤ℤ by → ◌≡◌ {A = ℤ × ℤ} (first, last) (quotient_range ranges f by) → first ≤ℤ last
-ordered_is ranges f by first last box w h e = subst (λ (r : ℤ × ℤ). r.0 ≤ℤ r.1) (sym e) (range_ordered ranges f by box w h)
 
 -- one division more
 module _ (ranges more : List (ℤ × ℤ)) (divisions rest : List Division) (d : Division) (is : divisions ≡ d ∷ rest) (r : ℤ × ℤ) (range : r ≡ quotient_range ranges d.form d.by) (grown : more ≡ ranges ++ r ∷ []) where

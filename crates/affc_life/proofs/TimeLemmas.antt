@@ -21,7 +21,7 @@ use Rattle.affc_order.specs.Systems.{loops_or_none, loops_of, forms_or_none, tim
 use Rattle.affc_order.proofs.CodeLemmas.{few_loops, is_nest}
 use Rattle.affc_order.proofs.ColumnLemmas.{first_columns, later_columns, from_long}
 use Rattle.affc_order.proofs.DepthLemmas.{timed}
-use Rattle.affc_quast.specs.Wide.{IsWide}
+use Rattle.affc_nest.specs.Wide.{IsWide}
 use Rattle.affc_life.specs.Asked.{IsLight, HasForms}
 use Rattle.affc_life.specs.Composed.{AreImages, IsSlight, IsTimed}
 use Rattle.affc_life.specs.Drafts.{posed}

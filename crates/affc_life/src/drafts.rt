@@ -2,7 +2,7 @@
 ghost use Rattle.std.specs.Prelude.{◌≡◌, ◌++◌, ◌∷◌, [], IfOk, OnOk};
 ghost use Rattle.std.specs.List.{All};
 ghost use Rattle.affc_life.specs.Clashes.{apart_rows};
-ghost use Rattle.affc_quast.specs.Wide.{IsWide};
+ghost use Rattle.affc_nest.specs.Wide.{IsWide};
 
 use crate::rows::{add_equal, add_less};
 use affc_quast::rows::copied;

@@ -4,7 +4,7 @@ ghost use Rattle.std.specs.List.{All};
 ghost use Rattle.affc_rows.specs.Forms.{Affine};
 ghost use Rattle.affc_order.specs.Systems.{lex_systems};
 ghost use Rattle.affc_life.specs.Drafts.{rows_in};
-ghost use Rattle.affc_quast.specs.Wide.{IsWide};
+ghost use Rattle.affc_nest.specs.Wide.{IsWide};
 
 use crate::rows::{add_equal, add_less};
 use affc_quast::rows::copied;

@@ -2,7 +2,7 @@
 ghost use Rattle.std.specs.Prelude.{◌≡◌, ◌++◌, OnOk};
 ghost use Rattle.affc_ast.specs.declared.tree.Rel.TheVariants.{Less, Equal};
 ghost use Rattle.affc_nest.specs.Domains.{compare_rows};
-ghost use Rattle.affc_quast.specs.Wide.{IsWide};
+ghost use Rattle.affc_nest.specs.Wide.{IsWide};
 
 use affc_quast::rows::add_gap;
 use affc_rows::Form;

@@ -97,7 +97,8 @@ pub entries_stand : EntriesStand
 entries_stand program has = (
   each_entry (number_ranges program.params) program.context (rounds program) (loop_numbers program) (assignments program) 0 (rounds_of_each program) (numbers_of_each program),
   λ statement e h. let s = site_of program statement e h in record {
-    number = ap (λ (x : Entry). x.statement) s.is ∙ no_less statement;
+    number = ap (λ (x : Entry). x.part) s.is ∙ no_less statement;
+    statement = ap (λ (x : Entry). x.statement) s.is ∙ no_less statement;
     columns = columns_are program statement e s ∙ ap (λ n. length (number_ranges program.params) + n) (sym (loops_are program statement e s));
   },
 )

@@ -12,3 +12,5 @@ pub mod SiteLemmas
 pub mod PlaceLemmas
 pub mod PlaceProofs
 pub mod QuestionProofs
+pub mod DivisionLemmas
+pub mod WideLemmas

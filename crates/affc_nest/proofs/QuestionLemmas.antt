@@ -128,7 +128,7 @@ value_widened [] (x ∷ xs) ys n l = absurd (omega arith)
 value_widened (c ∷ cs) [] ys n l = absurd (omega arith)
 value_widened (c ∷ cs) (x ∷ xs) ys n l = omega (arith, ints, value_widened cs xs ys n (omega arith))
 
-widened_is : (f : Affine) (p its : List ℤ) (n : ℕ) → length f.coefs ≡ length p → value (widened n f) (p ++ its) ≡ value f p
+pub widened_is : (f : Affine) (p its : List ℤ) (n : ℕ) → length f.coefs ≡ length p → value (widened n f) (p ++ its) ≡ value f p
 widened_is f p its n l = omega (arith, ints, value_widened f.coefs p its n l)
 
 widened_width : (f : Affine) (m n k : ℕ) → length f.coefs ≡ m → k ≡ m + n → length (widened n f).coefs ≡ k

@@ -67,6 +67,7 @@ TriangleNest = nest_of triangle ≡ record {
   arrays = record { role = Output; extents = row (pos 2 ∷ []) (pos 0) ∷ [] } ∷ [];
   entries =
       record {
+        part = 0;
         statement = 0;
         alive = true;
         loops = 0 ∷ 1 ∷ [];
@@ -75,6 +76,7 @@ TriangleNest = nest_of triangle ≡ record {
         accesses = record { array = record { 0 = 0 }; subs = row (pos 0 ∷ pos 1 ∷ pos 1 ∷ []) (pos 0) ∷ [] } ∷ [];
       }
       ∷ record {
+        part = 1;
         statement = 1;
         alive = false;
         loops = 2 ∷ [];
@@ -159,6 +161,7 @@ SieveNest = nest_of sieve ≡ record {
   arrays = record { role = Output; extents = row (pos 1 ∷ []) (pos 1) ∷ row (pos 2 ∷ []) (pos 1) ∷ [] } ∷ record { role = Temp; extents = [] } ∷ [];
   entries =
       record {
+        part = 0;
         statement = 0;
         alive = true;
         loops = 0 ∷ [];
@@ -167,6 +170,7 @@ SieveNest = nest_of sieve ≡ record {
         accesses = own ∷ array_with 1 [] ∷ own ∷ [];
       }
       ∷ record {
+        part = 1;
         statement = 1;
         alive = false;
         loops = 0 ∷ 1 ∷ [];
@@ -175,6 +179,7 @@ SieveNest = nest_of sieve ≡ record {
         accesses = array_with 0 (row (pos 0 ∷ pos 1 ∷ pos 0 ∷ []) (pos 0) ∷ row (pos 0 ∷ pos 2 ∷ pos 0 ∷ []) (pos 0) ∷ []) ∷ array_with 1 [] ∷ [];
       }
       ∷ record {
+        part = 2;
         statement = 2;
         alive = false;
         loops = 2 ∷ 3 ∷ [];
@@ -237,6 +242,7 @@ OnePointNest = nest_of one_point ≡ record {
   arrays = record { role = Output; extents = [] } ∷ [];
   entries =
       record {
+        part = 0;
         statement = 0;
         alive = true;
         loops = [];
@@ -295,6 +301,7 @@ six_rows =
 abbrev pub SixLoopsNest : Type 0
 SixLoopsNest = (nest_of six).entries
     ≡ record {
+      part = 0;
       statement = 0;
       alive = true;
       loops = 0 ∷ 1 ∷ 2 ∷ 3 ∷ 4 ∷ 5 ∷ [];
@@ -303,6 +310,7 @@ SixLoopsNest = (nest_of six).entries
       accesses = array_with 1 (row (between 5 0 (pos 1 ∷ [])) (pos 3) ∷ []) ∷ [];
     }
     ∷ record {
+      part = 1;
       statement = 1;
       alive = true;
       loops = [];

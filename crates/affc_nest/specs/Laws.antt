@@ -1,13 +1,14 @@
 -- What a nest says of its program.
-use Rattle.std.specs.Prelude.{◌≡◌, ◌↔◌, ◌⊎◌, ℕ, ◌+◌, ℤ, pos, negsuc, ◌≤ℤ◌, false, ◌&&◌, IsTrue, List, [], ◌++◌, length, map, get_or, Some, None, slice_get}
-use Rattle.affc_rows.specs.Forms.{Affine, values_of}
+use Rattle.std.specs.Prelude.{◌≡◌, ◌↔◌, ◌⊎◌, ℕ, ◌+◌, ◌^◌, ◌≤◌, ℤ, pos, negsuc, ◌≤ℤ◌, unsigned_abs, false, ◌&&◌, IsTrue, List, [], ◌∷◌, ◌++◌, length, map, get_or, Some, None, slice_get}
+use Rattle.affc_rows.specs.Forms.{Affine, value, values_of}
 use Rattle.affc_system.specs.Boxes.{InBox}
-use Rattle.affc_system.specs.Systems.{Rows, IsPoint, HasNoPoint}
+use Rattle.affc_system.specs.Systems.{Rows, Met, IsPoint, HasNoPoint}
 use Rattle.affc_ast.specs.declared.tree.Decl.{Decl}
 use Rattle.affc_ast.specs.declared.tree.Instance.{Instance}
 use Rattle.affc_ast.specs.declared.tree.Ix.{Ix}
 use Rattle.affc_ast.specs.declared.tree.Program.{Program}
 use Rattle.affc_ast.specs.Fits.{whole}
+use Rattle.affc_ast.specs.Index.{floor_of}
 use Rattle.affc_ast.specs.Store.{Element}
 use Rattle.affc_ast.specs.Trace.{Assignment, assignments, trace, events}
 use Rattle.affc_ast.specs.Values.{is_within}
@@ -20,7 +21,9 @@ use Rattle.affc_domain.specs.Plain.{IsPlain}
 use Rattle.affc_domain.specs.Ranges.{is_near, first_wide, number_ranges}
 use Rattle.affc_nest.specs.declared.nest.Access.{Access}
 use Rattle.affc_nest.specs.declared.nest.Entry.{Entry}
+use Rattle.affc_nest.specs.Divisions.{division_rows, quotient_range}
 use Rattle.affc_nest.specs.Nests.{nest_of}
+use Rattle.affc_nest.specs.Parts.{coordinates}
 use Rattle.affc_nest.specs.Questions.{extent_at, extent_question, extent_questions, extents_of_access, low_question, high_question, bound_questions}
 
 -- a program that has a nest: it is plain, and no loop that is entered passes 2^31
@@ -28,20 +31,21 @@ pub record HasNest (program : Program) : Type 0 where
   pub plain : IsPlain program
   pub near : first_wide program ≡ None
 
--- this entry stands for the statement with this number
-abbrev pub IsEntry : Program → (statement : ℕ) → Entry → Type 0
-IsEntry program statement e = slice_get (nest_of program).entries statement ≡ Some e
+-- this entry stands for the part with this number
+abbrev pub IsEntry : Program → (part : ℕ) → Entry → Type 0
+IsEntry program part e = slice_get (nest_of program).entries part ≡ Some e
 
 -- ---- Domains
 
--- Each assignment has its entry, over a column for each parameter and each loop round it.
-pub record Stands (program : Program) (statement : ℕ) (e : Entry) : Type 0 where
-  pub number : e.statement ≡ statement
-  pub columns : e.domain.columns ≡ length (number_ranges program.params) + length e.loops
+-- Each assignment is one part and has its entry under its number, over a column for each parameter and each coordinate.
+pub record Stands (program : Program) (part : ℕ) (e : Entry) : Type 0 where
+  pub number : e.part ≡ part
+  pub statement : e.statement ≡ part
+  pub columns : e.domain.columns ≡ length (number_ranges program.params) + coordinates e
 
 abbrev pub EntriesStand : Type 0
 EntriesStand = (program : Program) → HasNest program
-    → (length (nest_of program).entries ≡ length (assignments program)) × ((statement : ℕ) (e : Entry) → IsEntry program statement e → Stands program statement e)
+    → (length (nest_of program).entries ≡ length (assignments program)) × ((part : ℕ) (e : Entry) → IsEntry program part e → Stands program part e)
 
 -- The integer points of a domain are the p of the context with the iterators of the instances there.
 abbrev pub PointsAreInstances : Type 0
@@ -57,15 +61,15 @@ NoneWhereNotAlive = (program : Program) (e : Entry) (b : Instance)
 
 -- ---- Ranges
 
--- Where a statement is alive there is a range for each loop, its ends in order and within 2^31, and all iterators lie in them.
-pub record AreRanges (program : Program) (statement : ℕ) (e : Entry) : Type 0 where
-  pub each : length e.ranges ≡ length e.loops
+-- Where a part is alive there is a range for each coordinate, its ends in order and within 2^31, and all iterators lie in them.
+pub record AreRanges (program : Program) (part : ℕ) (e : Entry) : Type 0 where
+  pub each : length e.ranges ≡ coordinates e
   pub near : (r : ℤ × ℤ) → IsIn r e.ranges → (r.0 ≤ℤ r.1) × IsTrue (is_near r.0 && is_near r.1)
-  pub hold : (p : List ℤ) (b : Instance) → b.statement ≡ statement → IsInContext program p → IsIn b (trace program p) → InBox e.ranges b.iterators
+  pub hold : (p : List ℤ) (b : Instance) → b.statement ≡ part → IsInContext program p → IsIn b (trace program p) → InBox e.ranges b.iterators
 
 abbrev pub RangesHold : Type 0
-RangesHold = (program : Program) (statement : ℕ) (e : Entry)
-    → HasNest program → IsEntry program statement e → IsTrue e.alive → AreRanges program statement e
+RangesHold = (program : Program) (part : ℕ) (e : Entry)
+    → HasNest program → IsEntry program part e → IsTrue e.alive → AreRanges program part e
 
 -- ---- Accesses, context, extents
 
@@ -136,5 +140,19 @@ AccessPoint = (program : Program) (p : List ℤ) (here : Instance) (e : Entry) (
     → HasNest program → IsEntry program here.statement e → IsTrue e.alive
     → slice_get e.accesses access ≡ Some x → slice_get x.subs dimension ≡ Some sub → slice_get (extents_of_access (nest_of program) x) dimension ≡ Some extent
     → length p ≡ length (number_ranges program.params)
-    → IsPoint (low_question e.domain sub) (p ++ here.iterators) ⊎ IsPoint (high_question e.domain (length e.loops) sub extent) (p ++ here.iterators)
+    → IsPoint (low_question e.domain sub) (p ++ here.iterators) ⊎ IsPoint (high_question e.domain (coordinates e) sub extent) (p ++ here.iterators)
     → LiesOutside program p here access dimension
+
+-- ---- Quotients
+
+-- A column behind a point meets the rows of a division exactly where it is the quotient of the form there, rounded down.
+abbrev pub DivisionsAreQuotients : Type 0
+DivisionsAreQuotients = (form : Affine) (by q : ℤ) (xs : List ℤ)
+    → length form.coefs ≡ length xs → pos 1 ≤ℤ by
+    → Met (xs ++ q ∷ []) (division_rows (length xs) form by) ↔ (q ≡ floor_of (value form xs) by)
+
+-- Where a point lies in these ranges and the quotient there is within 2^60, it lies in its range.
+abbrev pub QuotientsKeepRanges : Type 0
+QuotientsKeepRanges = (ranges : List (ℤ × ℤ)) (form : Affine) (by : ℤ) (xs : List ℤ)
+    → length form.coefs ≡ length ranges → pos 1 ≤ℤ by → InBox ranges xs → unsigned_abs (floor_of (value form xs) by) ≤ 2 ^ 60
+    → ((quotient_range ranges form by).0 ≤ℤ floor_of (value form xs) by) × (floor_of (value form xs) by ≤ℤ (quotient_range ranges form by).1)

@@ -1,5 +1,8 @@
 pub mod Domains
 pub mod Nests
+pub mod Parts
+pub mod Divisions
+pub mod Wide
 pub mod Questions
 pub mod Laws
 pub mod Operands

@@ -48,11 +48,12 @@ domain_by params context inside rs =
 abbrev pub access_form : (columns : ℕ) → said.Access → Access
 access_form columns x = record { array = x.0; subs = map (form_of columns 0) x.1 }
 
--- assignment number `statement`, with what stands round it and the numbers of the loops among that
+-- assignment number `statement`, which is one part, with what stands round it and the numbers of the loops among that
 abbrev pub entry_of : (params : List (ℤ × ℤ)) → List Compare → (statement : ℕ) → List Round → (loops : List ℕ) → Assignment → Entry
 entry_of params context statement rs loops a =
     let inside = ranges_of params rs in
     record {
+      part = statement;
       statement = statement;
       alive = is_alive inside;
       loops = loops;

@@ -4,6 +4,7 @@ use Rattle.std.specs.Prelude.{ℕ, pos, negsuc, if◌then◌else◌, List, [], �
 use Rattle.affc_rows.specs.Forms.{Affine}
 use Rattle.affc_system.specs.Systems.{Rows}
 use Rattle.affc_nest.specs.Domains.{gap_row, number_form, box_rows}
+use Rattle.affc_nest.specs.Parts.{coordinates}
 use Rattle.affc_nest.specs.declared.nest.Access.{Access}
 use Rattle.affc_nest.specs.declared.nest.ArrayInfo.{ArrayInfo}
 use Rattle.affc_nest.specs.declared.nest.Entry.{Entry}
@@ -57,7 +58,7 @@ questions_of domain loops _ _ = []
 
 abbrev pub entry_questions : Nest → Entry → List Rows
 entry_questions nest entry =
-    if entry.alive then flat_map (λ x. questions_of entry.domain (length entry.loops) x.subs (extents_of_access nest x)) entry.accesses else []
+    if entry.alive then flat_map (λ x. questions_of entry.domain (coordinates entry) x.subs (extents_of_access nest x)) entry.accesses else []
 
 -- per statement that can have instances, access and dimension
 abbrev pub bound_questions : Nest → List Rows

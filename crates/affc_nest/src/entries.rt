@@ -74,6 +74,7 @@ fn entry_with(
     ranges: BoxOf,
 ) -> Result<Entry, AllocError>
     requires plain { AllPlain columns (accesses_of (place site.now).assignment) }
+    ensures part { IfOk result (λ e. e.part ≡ statement) }
     ensures statement { IfOk result (λ e. e.statement ≡ statement) }
     ensures alive { IfOk result (λ e. e.alive ≡ alive) }
     ensures loops { IfOk result (λ e. e.loops ≡ (place site.now).loops) }
@@ -86,6 +87,7 @@ fn entry_with(
     let mut accesses = Items::new(alloc);
     add_accesses(alloc, columns, touches.as_slice(), &mut accesses)?;
     Ok(Entry {
+        part: statement,
         statement,
         alive,
         loops,

@@ -1,8 +1,8 @@
 //! What a nest says of its program. Each law is the contract of a function that does nothing.
 ghost use Rattle.affc_nest.specs.Asked.{NestsAreAsked, ExtentsAreAsked, SubscriptsAreAsked, EntriesAreAsked};
-ghost use Rattle.affc_nest.specs.Laws.{EntriesStand, PointsAreInstances, NoneWhereNotAlive, RangesHold, AccessesAreEvents, ContextIsTheContext, ExtentsAreExtents, QuestionsDecide, ExtentPoint, AccessPoint};
+ghost use Rattle.affc_nest.specs.Laws.{EntriesStand, PointsAreInstances, NoneWhereNotAlive, RangesHold, AccessesAreEvents, ContextIsTheContext, ExtentsAreExtents, QuestionsDecide, ExtentPoint, AccessPoint, DivisionsAreQuotients, QuotientsKeepRanges};
 
-/// Each assignment has its entry, over a column for each parameter and each loop round it.
+/// Each assignment is one part and has its entry, over a column for each parameter and each coordinate.
 pub fn entries_stand()
     ensures law { EntriesStand }
 {}
@@ -17,7 +17,7 @@ pub fn none_where_not_alive()
     ensures law { NoneWhereNotAlive }
 {}
 
-/// Where a statement is alive there is a range for each loop, within 2^31, and all iterators lie in them.
+/// Where a part is alive there is a range for each coordinate, within 2^31, and all iterators lie in them.
 pub fn ranges_hold()
     ensures law { RangesHold }
 {}
@@ -60,4 +60,10 @@ pub fn questions_are_asked()
     ensures extents { ExtentsAreAsked }
     ensures subscripts { SubscriptsAreAsked }
     ensures entries { EntriesAreAsked }
+{}
+
+/// A column meets the rows of a division exactly where it is the quotient, which lies in its range.
+pub fn divisions_are_quotients()
+    ensures rows { DivisionsAreQuotients }
+    ensures ranges { QuotientsKeepRanges }
 {}

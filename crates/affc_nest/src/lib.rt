@@ -3,6 +3,7 @@
 #![tactic(auto)]
 
 mod accesses;
+pub mod divisions;
 mod domains;
 mod entries;
 pub mod examples;
@@ -16,6 +17,7 @@ mod ranges;
 pub mod rows;
 mod sites;
 
+pub use divisions::Division;
 pub use extraction::{all_sites, extract};
 pub use frames::Frame;
 pub use nest::{Access, ArrayInfo, Entry, Nest, NestFault};

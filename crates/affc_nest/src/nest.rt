@@ -1,4 +1,6 @@
 //! Nests: what the rest of a compilation knows of a program.
+ghost use Rattle.std.specs.Prelude.{◌≡◌};
+ghost use Rattle.affc_nest.specs.Parts.{coordinates};
 
 use affc_ast::tree::{ArrayId, Role};
 use affc_rows::Form;
@@ -21,11 +23,13 @@ pub struct Access {
     pub subs: Items<Form>,
 }
 
-/// An assignment. The columns of its domain are the number parameters in order of declaration, and then the
-/// iterators round it, from outer to inner.
+/// A part of an assignment; each assignment is one part. The columns of its domain are the number parameters in order of
+/// declaration, and then its coordinates: the iterators round it, from outer to inner.
 #[derive(Drop)]
 pub struct Entry {
-    /// Its number, in the order of the text from 0.
+    /// Its own number: its place among the nest's entries, from 0.
+    pub part: u32,
+    /// The assignment's number, in the order of the text from 0.
     pub statement: u32,
     /// Whether it can have instances, by the interval rule.
     pub alive: bool,
@@ -38,6 +42,16 @@ pub struct Entry {
     pub accesses: Items<Access>,
 }
 
+impl Entry {
+    /// How many coordinates an instance has in its domain.
+    #[inline]
+    pub fn coordinates(&self) -> usize
+        ensures { result ≡ coordinates self.now }
+    {
+        self.loops.len()
+    }
+}
+
 /// A program as integer systems.
 #[derive(Drop)]
 pub struct Nest {
@@ -47,7 +61,7 @@ pub struct Nest {
     pub context: System,
     /// The array parameters and then the temporaries, in order of declaration.
     pub arrays: Items<ArrayInfo>,
-    /// One for each assignment, in the order of the text.
+    /// One for each part of an assignment, in the order of the text.
     pub entries: Items<Entry>,
 }
 

@@ -6,6 +6,7 @@ ghost use Rattle.affc_system.specs.Systems.{IsRow};
 ghost use Rattle.affc_trace.specs.Law.{IsIn};
 ghost use Rattle.affc_nest.specs.Asked.{IsNest, IsExtent, IsSubscript};
 ghost use Rattle.affc_nest.specs.Domains.{gap_row, number_form, box_rows, with_rows};
+ghost use Rattle.affc_nest.specs.Parts.{coordinates};
 ghost use Rattle.affc_nest.specs.Questions.{with_row, extent_question, low_question, widened, high_question};
 ghost use Rattle.affc_nest.specs.Sides.{IsSide, NearRanges};
 
@@ -118,8 +119,8 @@ pub fn subscript_past_extent(
     requires entry { IsIn entry.now nest.now.entries }
     requires sub { IsSubscript entry.now sub.now }
     requires extent { IsExtent nest.now extent.now }
-    ensures { IfOk result (λ s. s ≡ high_question entry.now.domain (length entry.now.loops) sub.now extent.now) }
+    ensures { IfOk result (λ s. s ≡ high_question entry.now.domain (coordinates entry.now) sub.now extent.now) }
 {
-    let loops = entry.loops.len() as u32;
-    past(alloc, &entry.domain, loops, sub, extent)
+    let coordinates = entry.coordinates() as u32;
+    past(alloc, &entry.domain, coordinates, sub, extent)
 }

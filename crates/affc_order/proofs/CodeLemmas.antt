@@ -28,10 +28,11 @@ use Rattle.affc_nest.proofs.QuestionProofs.{few_numbered}
 use Rattle.affc_nest.proofs.RowLemmas.{column_side}
 use Rattle.affc_order.specs.Asked.{IsScheduled}
 use Rattle.affc_order.specs.declared.order.Placed.{Placed}
+use Rattle.affc_nest.specs.Parts.{statement_of}
 use Rattle.affc_order.specs.Placed.{posed, HasColumns, HasMap}
 use Rattle.affc_order.specs.Posed.{form_at}
 use Rattle.affc_order.specs.Spread.{spread}
-use Rattle.affc_order.specs.Systems.{lex_systems, loops_or_none, loops_of, forms_or_none, time_forms}
+use Rattle.affc_order.specs.Systems.{lex_systems, loops_or_none, loops_of, coordinates_of, forms_or_none, time_forms}
 use Rattle.affc_order.proofs.ColumnLemmas.{first_columns, later_columns}
 use Rattle.affc_order.proofs.SpreadLemmas.{at_columns, spread_width}
 
@@ -179,59 +180,59 @@ all_kept m k l n columns (f ∷ fs) h e =
 
 -- ---- Times at their columns
 
-module _ (nest : Nest) (maps : List TimeMap) (columns : ℕ) (a : Placed) (placed : HasColumns nest columns a) (has : HasMap nest maps a.statement) where
+module _ (nest : Nest) (maps : List TimeMap) (columns : ℕ) (a : Placed) (placed : HasColumns nest columns a) (has : HasMap nest maps a.part) where
   abbrev params : ℕ
   params = length nest.params
 
-  abbrev loops : ℕ
-  loops = length (loops_of nest a.statement)
+  abbrev own : ℕ
+  own = coordinates_of nest a.part
 
-  its_map : (m : TimeMap) → m ≡ get_or maps a.statement m → m ≡ has.time_map
-  its_map m e = e ∙ get_or_from_slice_get maps a.statement has.time_map m has.there
+  its_map : (m : TimeMap) → m ≡ get_or maps (statement_of nest a.part) m → m ≡ has.time_map
+  its_map m e = e ∙ get_or_from_slice_get maps (statement_of nest a.part) has.time_map m has.there
 
-  pub map_wide : (m : TimeMap) → m ≡ get_or maps a.statement m → All (λ f. length nest.params ≤ length f.coefs) m.forms
-  map_wide m e = subst (λ (x : TimeMap). All (λ f. length nest.params ≤ length f.coefs) x.forms) (sym (its_map m e)) (wide_enough params loops has.time_map.forms has.columns)
+  pub map_wide : (m : TimeMap) → m ≡ get_or maps (statement_of nest a.part) m → All (λ f. length nest.params ≤ length f.coefs) m.forms
+  map_wide m e = subst (λ (x : TimeMap). All (λ f. length nest.params ≤ length f.coefs) x.forms) (sym (its_map m e)) (wide_enough params own has.time_map.forms has.columns)
 
-  pub map_there : a.statement < length maps
-  map_there = slice_get_within maps a.statement has.time_map has.there
+  pub map_there : statement_of nest a.part < length maps
+  map_there = slice_get_within maps (statement_of nest a.part) has.time_map has.there
 
-  pub time_forms_are : (m : TimeMap) → m ≡ get_or maps a.statement m
-      → map (spread (length nest.params) (a.column - length nest.params) (columns - a.column - length (loops_of nest a.statement))) m.forms ≡ time_forms maps (length nest.params) columns (posed nest columns a)
+  pub time_forms_are : (m : TimeMap) → m ≡ get_or maps (statement_of nest a.part) m
+      → map (spread (length nest.params) (a.column - length nest.params) (columns - a.column - coordinates_of nest a.part)) m.forms ≡ time_forms nest maps columns (posed nest columns a)
   time_forms_are m e =
-      ap (λ (x : TimeMap). map (spread params (a.column - params) (columns - a.column - loops)) x.forms) (its_map m e)
-      ∙ all_at_place params a.column loops columns has.time_map.forms placed.behind placed.room has.columns
-      ∙ sym (ap (λ o. map (form_at columns (columns_from columns 0 params ++ columns_from columns a.column loops)) (forms_or_none o)) has.there)
+      ap (λ (x : TimeMap). map (spread params (a.column - params) (columns - a.column - own)) x.forms) (its_map m e)
+      ∙ all_at_place params a.column own columns has.time_map.forms placed.behind placed.room has.columns
+      ∙ sym (ap (λ o. map (form_at columns (columns_from columns 0 params ++ columns_from columns a.column own)) (forms_or_none o)) has.there)
 
   -- what the code has made of them
-  pub time_made : (m : TimeMap) → m ≡ get_or maps a.statement m → (out start forms : List Affine) (rs : List (ℤ × ℤ)) (ls : List ℕ) → start ≡ [] → forms ≡ m.forms → rs ≡ nest.params → ls ≡ loops_of nest a.statement
-      → out ≡ start ++ map (spread (length rs) (a.column - length rs) (columns - a.column - length ls)) forms → out ≡ time_forms maps (length nest.params) columns (posed nest columns a)
-  time_made m e out start forms rs ls none same ranges numbers made =
-      made ∙ ap (λ xs. xs ++ map (spread (length rs) (a.column - length rs) (columns - a.column - length ls)) forms) none
-      ∙ ap (map (spread (length rs) (a.column - length rs) (columns - a.column - length ls))) same
-      ∙ ap (λ ps. map (spread (length ps) (a.column - length ps) (columns - a.column - length ls)) m.forms) ranges
-      ∙ ap (λ ks. map (spread params (a.column - params) (columns - a.column - length ks)) m.forms) numbers ∙ time_forms_are m e
+  pub time_made : (m : TimeMap) → m ≡ get_or maps (statement_of nest a.part) m → (out start forms : List Affine) (rs : List (ℤ × ℤ)) (n : ℕ) → start ≡ [] → forms ≡ m.forms → rs ≡ nest.params → n ≡ own
+      → out ≡ start ++ map (spread (length rs) (a.column - length rs) (columns - a.column - n)) forms → out ≡ time_forms nest maps columns (posed nest columns a)
+  time_made m e out start forms rs n none same ranges numbers made =
+      made ∙ ap (λ xs. xs ++ map (spread (length rs) (a.column - length rs) (columns - a.column - n)) forms) none
+      ∙ ap (map (spread (length rs) (a.column - length rs) (columns - a.column - n))) same
+      ∙ ap (λ ps. map (spread (length ps) (a.column - length ps) (columns - a.column - n)) m.forms) ranges
+      ∙ ap (λ k. map (spread params (a.column - params) (columns - a.column - k)) m.forms) numbers ∙ time_forms_are m e
 
-  pub time_long : length (time_forms maps (length nest.params) columns (posed nest columns a)) ≡ length has.time_map.forms
+  pub time_long : length (time_forms nest maps columns (posed nest columns a)) ≡ length has.time_map.forms
   time_long =
-      length_map (form_at columns (columns_from columns 0 params ++ columns_from columns a.column loops)) (forms_or_none (slice_get maps a.statement))
+      length_map (form_at columns (columns_from columns 0 params ++ columns_from columns a.column own)) (forms_or_none (slice_get maps (statement_of nest a.part)))
       ∙ ap (λ o. length (forms_or_none o)) has.there
 
-  pub time_sides : All (IsSide columns) (time_forms maps (length nest.params) columns (posed nest columns a))
+  pub time_sides : All (IsSide columns) (time_forms nest maps columns (posed nest columns a))
   time_sides =
-      subst (All (IsSide columns)) (all_at_place params a.column loops columns has.time_map.forms placed.behind placed.room has.columns
-      ∙ sym (ap (λ o. map (form_at columns (columns_from columns 0 params ++ columns_from columns a.column loops)) (forms_or_none o)) has.there))
-      (all_kept params (a.column - params) loops (columns - a.column - loops) columns has.time_map.forms (slight_sides (params + loops) has.time_map.forms has.columns has.slight)
-      (whole params a.column loops columns placed.behind placed.room))
+      subst (All (IsSide columns)) (all_at_place params a.column own columns has.time_map.forms placed.behind placed.room has.columns
+      ∙ sym (ap (λ o. map (form_at columns (columns_from columns 0 params ++ columns_from columns a.column own)) (forms_or_none o)) has.there))
+      (all_kept params (a.column - params) own (columns - a.column - own) columns has.time_map.forms (slight_sides (params + own) has.time_map.forms has.columns has.slight)
+      (whole params a.column own columns placed.behind placed.room))
     where
       whole : (m c l columns : ℕ) → m ≤ c → c + l ≤ columns → ((m + (c - m)) + l) + (columns - c - l) ≡ columns
       whole m c l columns h g = omega arith
 
 -- ---- Counts
 
-pub few_loops : (nest : Nest) → IsNest nest → (statement : ℕ) → statement < length nest.entries → length (loops_of nest statement) ≤ 6
-few_loops nest n statement h =
-    let e = there_is nest.entries statement h in
-    subst (λ o. length (loops_or_none o) ≤ 6) (sym e.1) (few_numbered nest e.0 n (stands_in nest.entries statement e.0 e.1))
+pub few_loops : (nest : Nest) → IsNest nest → (part : ℕ) → part < length nest.entries → coordinates_of nest part ≤ 6
+few_loops nest n part h =
+    let e = there_is nest.entries part h in
+    subst (λ o. length (loops_or_none o) ≤ 6) (sym e.1) (few_numbered nest e.0 n (stands_in nest.entries part e.0 e.1))
 
 pub is_nest : (nest : Nest) (schedule : Schedule) → IsScheduled nest schedule → IsNest nest
 is_nest nest schedule q = record { program = q.program; has = q.has; is = q.is }

@@ -22,10 +22,11 @@ use Rattle.affc_nest.specs.declared.nest.Entry.{Entry}
 use Rattle.affc_nest.specs.declared.nest.Nest.{Nest}
 use Rattle.affc_nest.specs.Laws.{IsEntry}
 use Rattle.affc_nest.specs.Sides.{IsSide}
-use Rattle.affc_nest.proofs.EntryLemmas.{site_of}
+use Rattle.affc_nest.proofs.EntryLemmas.{site_of, entries_stand}
 use Rattle.affc_nest.proofs.QuestionLemmas.{there_is}
 use Rattle.affc_order.specs.Asked.{IsScheduled}
 use Rattle.affc_order.specs.declared.order.Placed.{Placed}
+use Rattle.affc_nest.specs.Parts.{statement_or_none, statement_of}
 use Rattle.affc_order.specs.Placed.{posed, HasColumns, HasMap}
 use Rattle.affc_order.specs.Systems.{loops_or_none, loops_of, time_forms}
 use Rattle.affc_order.proofs.CodeLemmas.{time_long, time_sides}
@@ -78,30 +79,31 @@ slight_at (x ∷ ms) zero m w e =
     subst (λ (z : TimeMap). IsTrue (all_slight z.forms)) (same_Some x m e) (both_true (all_slight x.forms) (all_slight x.inverse) a.0).0
 slight_at (x ∷ ms) (suc k) m w e = slight_at ms k m (both_true (all_slight x.forms && all_slight x.inverse) (maps_within ms) w).1 e
 
--- what a schedule of a nest's program gives of each statement
-pub record Timed (nest : Nest) (components : ℕ) (maps : List TimeMap) (statement : ℕ) : Type 0 where
-  pub has : HasMap nest maps statement
+-- what a schedule of a nest's program gives of each part's statement
+pub record Timed (nest : Nest) (components : ℕ) (maps : List TimeMap) (part : ℕ) : Type 0 where
+  pub has : HasMap nest maps part
   pub long : length has.time_map.forms ≡ components
 
 pub timed : (nest : Nest) (schedule : Schedule) (q : IsScheduled nest schedule) (components : ℕ) (maps : List TimeMap) → schedule ≡ Time components maps
-    → (statement : ℕ) → statement < length nest.entries → Timed nest components maps statement
-timed nest schedule q components maps is statement h =
+    → (part : ℕ) → part < length nest.entries → Timed nest components maps part
+timed nest schedule q components maps is part h =
     let program = q.program in
     let fits : IsScheduleOf program (Time components maps) = subst (IsScheduleOf program) is q.fits in
     let limits : IsTrue (within_limits (Time components maps)) = subst (λ s. IsTrue (within_limits s)) is q.slight in
-    let e = there_is nest.entries statement h in
-    let at : IsEntry program statement e.0 = subst (λ (n : Nest). slice_get n.entries statement ≡ Some e.0) q.is e.1 in
-    let r = map_of (numbers_in program.params) components (loops_round program) maps fits statement (length e.0.loops) (counted program statement e.0 at) in
+    let e = there_is nest.entries part h in
+    let at : IsEntry program part e.0 = subst (λ (n : Nest). slice_get n.entries part ≡ Some e.0) q.is e.1 in
+    let statement : statement_of nest part ≡ part = ap statement_or_none e.1 ∙ ((entries_stand program q.has).1 part e.0 at).statement in
+    let r = map_of (numbers_in program.params) components (loops_round program) maps fits part (length e.0.loops) (counted program part e.0 at) in
     let m : TimeMap = r.0 in
     let shape : IsMapOf (numbers_in program.params) (length e.0.loops) components m = r.2 in
     let params : numbers_in program.params ≡ length nest.params = numbers_are program.params ∙ ap (λ (n : Nest). length n.params) (sym q.is) in
-    let loops : length e.0.loops ≡ length (loops_of nest statement) = ap (λ o. length (loops_or_none o)) (sym e.1) in
+    let loops : length e.0.loops ≡ length (loops_of nest part) = ap (λ o. length (loops_or_none o)) (sym e.1) in
     record {
       has = record {
         time_map = m;
-        there = r.1;
+        there = ap (slice_get maps) statement ∙ r.1;
         columns = subst (λ k. HaveColumns k m.forms) (shape.columns ∙ ap (λ k. k + length e.0.loops) params ∙ ap (λ k. length nest.params + k) loops) m.shaped;
-        slight = slight_at maps statement m (both_true _ (maps_within maps) limits).1 r.1;
+        slight = slight_at maps part m (both_true _ (maps_within maps) limits).1 r.1;
       };
       long = shape.components;
     }
@@ -110,16 +112,16 @@ timed nest schedule q components maps is statement h =
 
 module _ (nest : Nest) (schedule : Schedule) (q : IsScheduled nest schedule) (components : ℕ) (maps : List TimeMap) (is : schedule ≡ Time components maps) (columns : ℕ) (a : Placed) (placed : HasColumns nest columns a)
     (held : List TimeMap) (same : held ≡ maps) where
-  pub has_map : HasMap nest held a.statement
-  has_map = subst (λ ms. HasMap nest ms a.statement) (sym same) (timed nest schedule q components maps is a.statement placed.statement).has
+  pub has_map : HasMap nest held a.part
+  has_map = subst (λ ms. HasMap nest ms a.part) (sym same) (timed nest schedule q components maps is a.part placed.part).has
 
-  pub times_long : (forms : List Affine) → forms ≡ time_forms held (length nest.params) columns (posed nest columns a) → components ≤ length forms
+  pub times_long : (forms : List Affine) → forms ≡ time_forms nest held columns (posed nest columns a) → components ≤ length forms
   times_long forms e =
-      let t = timed nest schedule q components maps is a.statement placed.statement in
-      let long : length forms ≡ components = ap length e ∙ ap (λ ms. length (time_forms ms (length nest.params) columns (posed nest columns a))) same ∙ time_long nest maps columns a placed t.has ∙ t.long in
+      let t = timed nest schedule q components maps is a.part placed.part in
+      let long : length forms ≡ components = ap length e ∙ ap (λ ms. length (time_forms nest ms columns (posed nest columns a))) same ∙ time_long nest maps columns a placed t.has ∙ t.long in
       omega (arith, long)
 
-  pub times_sides : (forms : List Affine) → forms ≡ time_forms held (length nest.params) columns (posed nest columns a) → All (IsSide columns) forms
+  pub times_sides : (forms : List Affine) → forms ≡ time_forms nest held columns (posed nest columns a) → All (IsSide columns) forms
   times_sides forms e =
-      let t = timed nest schedule q components maps is a.statement placed.statement in
-      subst (All (IsSide columns)) (sym (e ∙ ap (λ ms. time_forms ms (length nest.params) columns (posed nest columns a)) same)) (time_sides nest maps columns a placed t.has)
+      let t = timed nest schedule q components maps is a.part placed.part in
+      subst (All (IsSide columns)) (sym (e ∙ ap (λ ms. time_forms nest ms columns (posed nest columns a)) same)) (time_sides nest maps columns a placed t.has)

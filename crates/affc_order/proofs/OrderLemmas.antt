@@ -1,5 +1,5 @@
 -- The systems of an order hold a point exactly where the first of two instances is earlier.
-use Rattle.std.proofs.Common.{◌≡◌, ℕ, ◌+◌, ◌<◌, ℤ, IsTrue, List, [], ◌++◌, length, Some, refl, sym, ap, subst, ◌∙◌, arith}
+use Rattle.std.proofs.Common.{◌≡◌, ℕ, ◌+◌, ◌<◌, ℤ, IsTrue, List, [], ◌++◌, length, map, Some, refl, sym, ap, subst, ◌∙◌, arith}
 use Rattle.std.specs.Prelude.{nat_lt, slice_get, ◌↔◌}
 use Rattle.std.specs.declared.cmp.Ordering.TheVariants as ord
 use Rattle.std.specs.Ordering.{nat_cmp}
@@ -29,10 +29,11 @@ use Rattle.affc_nest.specs.declared.nest.Entry.{Entry}
 use Rattle.affc_nest.specs.declared.nest.Nest.{Nest}
 use Rattle.affc_nest.specs.Laws.{HasNest, IsEntry}
 use Rattle.affc_nest.specs.Nests.{nest_of}
+use Rattle.affc_nest.specs.Parts.{statement_or_none, statement_of}
 use Rattle.affc_nest.proofs.EntryLemmas.{site_of, entries_stand}
 use Rattle.affc_nest.proofs.QuestionLemmas.{there_is}
 use Rattle.affc_order.specs.Laws.{IsPointOfOne, SourceOrderIsTheTrace, TargetOrderIsTheTarget, SystemsAreTheOrders, SchedulesAreAsked}
-use Rattle.affc_order.specs.Posed.{Posed, IsPosed}
+use Rattle.affc_order.specs.Posed.{Posed, IsPosed, form_at}
 use Rattle.affc_order.specs.Systems.{loops_or_none, loops_of, source_order, forms_or_none, time_forms, target_order, pair_columns, first_posed, second_posed}
 use Rattle.affc_order.proofs.ColumnLemmas.{at_width, from_width, segment_at}
 use Rattle.affc_order.proofs.LexLemmas.{lex_columns, lex_is_before, before_is_lex}
@@ -50,6 +51,12 @@ entry_of_instance program p i has stands =
     fewer : {x y k : ℕ} → x ≡ y → k < y → k < x
     fewer e h = omega (arith, e, h)
 
+-- an instance stands under the number of its statement
+pub statement_is : (program : Program) (p : List ℤ) (i : Instance) → HasNest program → IsIn i (trace program p) → statement_of (nest_of program) i.statement ≡ i.statement
+statement_is program p i has stands =
+    let e = entry_of_instance program p i has stands in
+    ap statement_or_none e.1 ∙ ((entries_stand program has).1 i.statement e.0 e.1).statement
+
 -- a nest's loops are the program's
 pub loops_are_numbered : (program : Program) (p : List ℤ) (i : Instance) → HasNest program → IsIn i (trace program p) → slice_get (loop_numbers program) i.statement ≡ Some (loops_of (nest_of program) i.statement)
 loops_are_numbered program p i has stands =
@@ -61,9 +68,9 @@ loops_are_numbered program p i has stands =
 -- each system of an order is over the columns
 pub order_columns : (nest : Nest) (schedule : Schedule) (columns : ℕ) (a b : Posed) (s : Rows) → IsIn s (target_order nest schedule columns a b) → s.columns ≡ columns
 order_columns nest Source columns a b s i =
-    lex_columns columns (shared (loops_of nest a.statement) (loops_of nest b.statement)) a.iterators b.iterators [] (nat_lt a.statement b.statement) s i
+    lex_columns columns (shared (loops_of nest a.part) (loops_of nest b.part)) a.iterators b.iterators [] (nat_lt (statement_of nest a.part) (statement_of nest b.part)) s i
 order_columns nest (Time n maps) columns a b s i =
-    lex_columns columns n (time_forms maps (length nest.params) columns a) (time_forms maps (length nest.params) columns b) [] (nat_lt a.statement b.statement) s i
+    lex_columns columns n (time_forms nest maps columns a) (time_forms nest maps columns b) [] (nat_lt (statement_of nest a.part) (statement_of nest b.part)) s i
 
 -- ---- Posed instances
 
@@ -83,14 +90,18 @@ source_order_is_the_trace program p more a b i j has stands stands' f g =
     let zs : List ℤ = p ++ more in
     let ls : List ℕ = loops_of (nest_of program) i.statement in
     let ms : List ℕ = loops_of (nest_of program) j.statement in
-    let n = shared (loops_of (nest_of program) a.statement) (loops_of (nest_of program) b.statement) in
+    let n = shared (loops_of (nest_of program) a.part) (loops_of (nest_of program) b.part) in
     let numbers : n ≡ shared ls ms =
-    ap (λ k. shared (loops_of (nest_of program) k) (loops_of (nest_of program) b.statement)) f.statement ∙ ap (λ k. shared ls (loops_of (nest_of program) k)) g.statement in
-    let tie = nat_lt a.statement b.statement in
+    ap (λ k. shared (loops_of (nest_of program) k) (loops_of (nest_of program) b.part)) f.part ∙ ap (λ k. shared ls (loops_of (nest_of program) k)) g.part in
+    let first = statement_of (nest_of program) a.part in
+    let second = statement_of (nest_of program) b.part in
+    let first_is : first ≡ i.statement = ap (statement_of (nest_of program)) f.part ∙ statement_is program p i has stands in
+    let second_is : second ≡ j.statement = ap (statement_of (nest_of program)) g.part ∙ statement_is program p j has stands' in
+    let tie = nat_lt first second in
     let law = order_of_the_text program p i j ls ms stands stands' (loops_are_numbered program p i has stands) (loops_are_numbered program p j has stands') in
     let same : IsBefore n (values_of a.iterators zs) (values_of b.iterators zs) (IsTrue tie) ≡ IsBefore (shared ls ms) i.iterators j.iterators (IsTrue (nat_lt i.statement j.statement)) =
     ap (λ k. IsBefore k (values_of a.iterators zs) (values_of b.iterators zs) (IsTrue tie)) numbers
-    ∙ same_before (shared ls ms) (values_of a.iterators zs) (values_of b.iterators zs) i.iterators j.iterators a.statement b.statement i.statement j.statement f.iterators g.iterators f.statement g.statement in (
+    ∙ same_before (shared ls ms) (values_of a.iterators zs) (values_of b.iterators zs) i.iterators j.iterators first second i.statement j.statement f.iterators g.iterators first_is second_is in (
       λ o. law.1 (before_tie (shared ls ms) i.iterators j.iterators (IsTrue (nat_lt i.statement j.statement)) (i.statement < j.statement) (less_of i.statement j.statement)
           (subst (λ T. T) same (lex_is_before zs n a.iterators b.iterators tie f.columns g.columns o))),
       λ e. before_is_lex zs n a.iterators b.iterators tie f.columns g.columns
@@ -104,21 +115,25 @@ target_order_is_the_target program (Time n maps) p more a b i j has fits long st
     let zs : List ℤ = p ++ more in
     let m = length (number_ranges program.params) in
     let numbers : length p ≡ numbers_in program.params = long ∙ sym (numbers_are program.params) in
-    let u = time_value program n maps p more fits numbers a i stands f in
-    let v = time_value program n maps p more fits numbers b j stands' g in
-    let fs : List Affine = time_forms maps m (length zs) a in
-    let gs : List Affine = time_forms maps m (length zs) b in
-    let wf : HaveColumns (length zs) fs = at_width (length zs) (columns_from (length zs) 0 m ++ a.iterators) (forms_or_none (slice_get maps a.statement)) in
-    let wg : HaveColumns (length zs) gs = at_width (length zs) (columns_from (length zs) 0 m ++ b.iterators) (forms_or_none (slice_get maps b.statement)) in
+    let first = statement_of (nest_of program) a.part in
+    let second = statement_of (nest_of program) b.part in
+    let first_is : first ≡ i.statement = ap (statement_of (nest_of program)) f.part ∙ statement_is program p i has stands in
+    let second_is : second ≡ j.statement = ap (statement_of (nest_of program)) g.part ∙ statement_is program p j has stands' in
+    let u = time_value program n maps p more fits numbers a i stands f first first_is in
+    let v = time_value program n maps p more fits numbers b j stands' g second second_is in
+    let fs : List Affine = time_forms (nest_of program) maps (length zs) a in
+    let gs : List Affine = time_forms (nest_of program) maps (length zs) b in
+    let wf : HaveColumns (length zs) fs = at_width (length zs) (columns_from (length zs) 0 m ++ a.iterators) (forms_or_none (slice_get maps first)) in
+    let wg : HaveColumns (length zs) gs = at_width (length zs) (columns_from (length zs) 0 m ++ b.iterators) (forms_or_none (slice_get maps second)) in
     let xs : List ℤ = time_of maps p i in
     let ys : List ℤ = time_of maps p j in
     let r = nat_cmp i.statement j.statement in
-    let tie = nat_lt a.statement b.statement in
-    let fv : values_of fs zs ≡ xs = subst (λ k. values_of (time_forms maps k (length zs) a) zs ≡ xs) long u.0 in
-    let gv : values_of gs zs ≡ ys = subst (λ k. values_of (time_forms maps k (length zs) b) zs ≡ ys) long v.0 in
+    let tie = nat_lt first second in
+    let fv : values_of fs zs ≡ xs = subst (λ k. values_of (map (form_at (length zs) (columns_from (length zs) 0 k ++ a.iterators)) (forms_or_none (slice_get maps first))) zs ≡ xs) long u.0 in
+    let gv : values_of gs zs ≡ ys = subst (λ k. values_of (map (form_at (length zs) (columns_from (length zs) 0 k ++ b.iterators)) (forms_or_none (slice_get maps second))) zs ≡ ys) long v.0 in
     let law = target_is_by_time program n maps p i j fits numbers in
     let same : IsBefore n (values_of fs zs) (values_of gs zs) (IsTrue tie) ≡ IsBefore n xs ys (IsTrue (nat_lt i.statement j.statement)) =
-    same_before n (values_of fs zs) (values_of gs zs) xs ys a.statement b.statement i.statement j.statement fv gv f.statement g.statement in (
+    same_before n (values_of fs zs) (values_of gs zs) xs ys first second i.statement j.statement fv gv first_is second_is in (
       λ o. law.1 (
         stands,
         stands',
@@ -151,7 +166,7 @@ module _ (program : Program) (p : List ℤ) (i j : Instance) (has : HasNest prog
 
   pub first_is_posed : IsPosed zs (first_posed (nest_of program) i.statement j.statement) i
   first_is_posed = record {
-    statement = refl;
+    part = refl;
     iterators = segment_at zs p i.iterators j.iterators (pair_columns (nest_of program) i.statement j.statement) (length (number_ranges program.params)) (length (loops_of (nest_of program) i.statement)) refl pair_width (sym long) first_long;
     columns = subst (λ k. HaveColumns k (columns_from (pair_columns (nest_of program) i.statement j.statement) (length (number_ranges program.params)) (length (loops_of (nest_of program) i.statement)))) pair_width
         (from_width (pair_columns (nest_of program) i.statement j.statement) (length (number_ranges program.params)) (length (loops_of (nest_of program) i.statement)));
@@ -165,7 +180,7 @@ module _ (program : Program) (p : List ℤ) (i j : Instance) (has : HasNest prog
       let l = length (loops_of (nest_of program) j.statement) in
       let front : k ≡ length (p ++ i.iterators) = ap (λ x. x + length (loops_of (nest_of program) i.statement)) (sym long) ∙ ap (λ x. length p + x) first_long ∙ sym (length_append p i.iterators) in
       record {
-        statement = refl;
+        part = refl;
         iterators = segment_at zs (p ++ i.iterators) j.iterators [] n k l
             (sym (append_assoc p i.iterators j.iterators) ∙ ap (λ ys. (p ++ i.iterators) ++ ys) (sym (append_nil j.iterators))) pair_width front second_long;
         columns = subst (λ x. HaveColumns x (columns_from n k l)) pair_width (from_width n k l);

@@ -23,7 +23,7 @@ use Rattle.affc_trace.proofs.Ordered.{map_of}
 use Rattle.affc_domain.specs.Loops.{IsBefore}
 use Rattle.affc_domain.specs.Ranges.{number_ranges}
 use Rattle.affc_order.specs.Posed.{Posed, IsPosed, form_at}
-use Rattle.affc_order.specs.Systems.{forms_or_none, time_forms}
+use Rattle.affc_order.specs.Systems.{forms_or_none}
 use Rattle.affc_order.proofs.ColumnLemmas.{append_columns, values_append, values_long, forms_append, at_values, from_width, from_long, segment}
 
 -- ---- Comparisons
@@ -100,7 +100,7 @@ module _ (program : Program) (n : ℕ) (maps : List TimeMap) (p more : List ℤ)
   abbrev zs : List ℤ
   zs = p ++ more
 
-  abbrev images : List Affine
+  abbrev pub images : List Affine
   images = columns_from (length zs) 0 (length p) ++ a.iterators
 
   images_width : HaveColumns (length zs) images
@@ -116,12 +116,12 @@ module _ (program : Program) (n : ℕ) (maps : List TimeMap) (p more : List ℤ)
       forms_append (columns_from (length zs) 0 (length p)) a.iterators
       ∙ omega (arith, from_long (length zs) 0 (length p), values_long a.iterators zs, ap length posed.iterators)
 
-  -- the forms of a time at the point, and how many components it has
-  pub time_value : (values_of (time_forms maps (length p) (length zs) a) zs ≡ time_of maps p i) × (length (time_of maps p i) ≡ n)
-  time_value =
+  -- the forms of a time at the point, where this is the number of the instance's statement, and how many components it has
+  pub time_value : (statement : ℕ) → statement ≡ i.statement → (values_of (map (form_at (length zs) images) (forms_or_none (slice_get maps statement))) zs ≡ time_of maps p i) × (length (time_of maps p i) ≡ n)
+  time_value statement same =
       let r = map_of (numbers_in program.params) n (loops_round program) maps fits i.statement (length i.iterators) (depth program p i stands) in
       let m : TimeMap = r.0 in
-      let at : slice_get maps a.statement ≡ Some m = ap (slice_get maps) posed.statement ∙ r.1 in
+      let at : slice_get maps statement ≡ Some m = ap (slice_get maps) same ∙ r.1 in
       let shape : IsMapOf (numbers_in program.params) (length i.iterators) n m = r.2 in
       let w : HaveColumns (length images) m.forms = subst (λ k. HaveColumns k m.forms) (shape.columns ∙ ap (λ k. k + length i.iterators) (sym numbers) ∙ sym images_long) m.shaped in
       let time : time_of maps p i ≡ values_of m.forms (p ++ i.iterators) = ap (λ o. time_by o (p ++ i.iterators)) r.1 in (

@@ -22,15 +22,15 @@ abbrev over : (columns : ℕ) → List Affine → Rows
 over n rows = record { columns = n; rows = rows }
 
 abbrev entry : (statement : ℕ) → (loops : List ℕ) → Entry
-entry statement loops = record { statement = statement; alive = true; loops = loops; domain = over 0 []; ranges = []; accesses = [] }
+entry statement loops = record { part = statement; statement = statement; alive = true; loops = loops; domain = over 0 []; ranges = []; accesses = [] }
 
--- over N: for i { S0; for j { S1 } }, and S2 in a loop of its own
+-- over N: for i { S0; for j { S1 } }, S2 in a loop of its own, and a second part of S1
 abbrev nest : Nest
 nest = record {
   params = (pos 1, pos 9) ∷ [];
   context = over 1 [];
   arrays = [];
-  entries = entry 0 (0 ∷ []) ∷ entry 1 (0 ∷ 1 ∷ []) ∷ entry 2 (2 ∷ []) ∷ [];
+  entries = entry 0 (0 ∷ []) ∷ entry 1 (0 ∷ 1 ∷ []) ∷ entry 2 (2 ∷ []) ∷ record (entry 1 (0 ∷ 1 ∷ [])) { part = 3 } ∷ [];
 }
 
 -- ---- The source
@@ -122,6 +122,10 @@ TurnedTimesAreCompared = turned_systems nest 0 1 exchanged
     ∷ form (pos 0 ∷ pos 0 ∷ negsuc 0 ∷ pos 0 ∷ []) (pos 0) ∷ []
     )
     ∷ []
+
+-- two parts of one statement stand in one place and have its times
+abbrev pub PartsOfOneStatement : Type 0
+PartsOfOneStatement = (source_systems nest 1 3 ≡ source_systems nest 1 1) × (target_systems nest 0 3 exchanged ≡ target_systems nest 0 1 exchanged)
 
 -- the order of the source
 abbrev pub SourceIsATarget : Type 0

@@ -12,6 +12,7 @@ use Rattle.affc_domain.specs.Loops.{shared}
 use Rattle.affc_nest.specs.Domains.{compare_rows}
 use Rattle.affc_nest.specs.declared.nest.Entry.{Entry}
 use Rattle.affc_nest.specs.declared.nest.Nest.{Nest}
+use Rattle.affc_nest.specs.Parts.{statement_of}
 use Rattle.affc_order.specs.Posed.{Posed, form_at}
 
 -- Behind these rows, so many pairs of forms are compared in turn: one system says that the first is less, and the others
@@ -29,14 +30,18 @@ abbrev pub loops_or_none : Option Entry → List ℕ
 loops_or_none None = []
 loops_or_none (Some e) = e.loops
 
--- the numbers of the loops round a statement
-abbrev pub loops_of : Nest → (statement : ℕ) → List ℕ
-loops_of nest statement = loops_or_none (slice_get nest.entries statement)
+-- the numbers of the loops round a part
+abbrev pub loops_of : Nest → (part : ℕ) → List ℕ
+loops_of nest part = loops_or_none (slice_get nest.entries part)
+
+-- how many coordinates an instance has there
+abbrev pub coordinates_of : Nest → (part : ℕ) → ℕ
+coordinates_of nest part = length (loops_of nest part)
 
 -- by the iterators of the loops that both share, and then by the statements' numbers
 abbrev pub source_order : Nest → (columns : ℕ) → (first second : Posed) → List Rows
 source_order nest columns a b =
-    lex_systems columns (shared (loops_of nest a.statement) (loops_of nest b.statement)) a.iterators b.iterators [] (nat_lt a.statement b.statement)
+    lex_systems columns (shared (loops_of nest a.part) (loops_of nest b.part)) a.iterators b.iterators [] (nat_lt (statement_of nest a.part) (statement_of nest b.part))
 
 -- ---- The order of a schedule
 
@@ -45,26 +50,26 @@ forms_or_none None = []
 forms_or_none (Some m) = m.forms
 
 -- the components of an instance's time as forms
-abbrev pub time_forms : List TimeMap → (params columns : ℕ) → Posed → List Affine
-time_forms maps params columns a = map (form_at columns (columns_from columns 0 params ++ a.iterators)) (forms_or_none (slice_get maps a.statement))
+abbrev pub time_forms : Nest → List TimeMap → (columns : ℕ) → Posed → List Affine
+time_forms nest maps columns a = map (form_at columns (columns_from columns 0 (length nest.params) ++ a.iterators)) (forms_or_none (slice_get maps (statement_of nest a.part)))
 
 -- by the components of time, and then by the statements' numbers
 abbrev pub target_order : Nest → Schedule → (columns : ℕ) → (first second : Posed) → List Rows
 target_order nest Source columns a b = source_order nest columns a b
 target_order nest (Time components maps) columns a b =
-    lex_systems columns components (time_forms maps (length nest.params) columns a) (time_forms maps (length nest.params) columns b) [] (nat_lt a.statement b.statement)
+    lex_systems columns components (time_forms nest maps columns a) (time_forms nest maps columns b) [] (nat_lt (statement_of nest a.part) (statement_of nest b.part))
 
--- ---- Two statements, over the parameters, the first's iterators and the second's
+-- ---- Two parts, over the parameters, the first's coordinates and the second's
 
 module _ (nest : Nest) (first second : ℕ) where
   abbrev pub pair_columns : ℕ
-  pair_columns = (length nest.params + length (loops_of nest first)) + length (loops_of nest second)
+  pair_columns = (length nest.params + coordinates_of nest first) + coordinates_of nest second
 
   abbrev pub first_posed : Posed
-  first_posed = record { statement = first; iterators = columns_from pair_columns (length nest.params) (length (loops_of nest first)) }
+  first_posed = record { part = first; iterators = columns_from pair_columns (length nest.params) (coordinates_of nest first) }
 
   abbrev pub second_posed : Posed
-  second_posed = record { statement = second; iterators = columns_from pair_columns (length nest.params + length (loops_of nest first)) (length (loops_of nest second)) }
+  second_posed = record { part = second; iterators = columns_from pair_columns (length nest.params + coordinates_of nest first) (coordinates_of nest second) }
 
   -- in the source the first is earlier
   abbrev pub source_systems : List Rows

@@ -1,5 +1,5 @@
 //! The systems of two statements, as laws: `specs/Examples.antt` says each, with rows that were found by hand.
-ghost use Rattle.affc_order.specs.Examples.{FirstInTheLoop, SecondInTheLoop, TwoOfOneStatement, NoLoopIsShared, TimesAreCompared, TurnedTimesAreCompared, SourceIsATarget, ColumnsBetween};
+ghost use Rattle.affc_order.specs.Examples.{FirstInTheLoop, SecondInTheLoop, TwoOfOneStatement, NoLoopIsShared, TimesAreCompared, TurnedTimesAreCompared, PartsOfOneStatement, SourceIsATarget, ColumnsBetween};
 
 /// The order of the text.
 pub fn source()
@@ -13,6 +13,7 @@ pub fn source()
 pub fn target()
     ensures times_are_compared { TimesAreCompared }
     ensures turned_times_are_compared { TurnedTimesAreCompared }
+    ensures parts_of_one_statement { PartsOfOneStatement }
     ensures source_is_a_target { SourceIsATarget }
     ensures columns_between { ColumnsBetween }
 {}

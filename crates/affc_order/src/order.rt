@@ -1,12 +1,13 @@
-//! Which of two instances is earlier, as systems over the parameters, the iterators of an instance of one statement and
-//! those of an instance of another.
-ghost use Rattle.std.specs.Prelude.{◌≡◌, ◌+◌, ◌-◌, ◌<◌, ◌≤◌, length, IfOk};
+//! Which of two instances is earlier, as systems over the parameters, the coordinates of an instance of one part and those
+//! of an instance of another.
+ghost use Rattle.std.specs.Prelude.{nat_lt, ◌≡◌, ◌+◌, ◌-◌, ◌<◌, ◌≤◌, length, IfOk};
 ghost use Rattle.affc_trace.specs.Inverses.{columns_from};
 ghost use Rattle.affc_domain.specs.Loops.{shared};
 ghost use Rattle.affc_nest.specs.Asked.{IsNest};
+ghost use Rattle.affc_nest.specs.Parts.{statement_of};
 ghost use Rattle.affc_order.specs.Asked.{IsScheduled};
 ghost use Rattle.affc_order.specs.Placed.{posed, HasColumns, HasMap};
-ghost use Rattle.affc_order.specs.Systems.{loops_of, source_order, time_forms, target_order, pair_columns, source_systems, target_systems, turned_systems};
+ghost use Rattle.affc_order.specs.Systems.{loops_of, coordinates_of, source_order, time_forms, target_order, pair_columns, source_systems, target_systems, turned_systems};
 
 use crate::columns::{add_spread, columns_from};
 use crate::lex::lex_systems;
@@ -16,10 +17,10 @@ use affc_system::System;
 use affc_trace::schedule::{Schedule, TimeMap};
 use std::alloc::{AllocError, Global};
 
-/// An instance of a statement whose iterators are the columns from one on.
+/// An instance of a part whose coordinates are the columns from one on.
 #[derive(Clone, Copy)]
 pub(crate) struct Placed {
-    pub statement: u32,
+    pub part: u32,
     pub column: u32,
 }
 
@@ -37,12 +38,38 @@ pub fn shared(ls: &[u32], ms: &[u32]) -> usize
     ls.len()
 }
 
-/// The numbers of the loops round a statement.
-fn loops(nest: &Nest, statement: u32) -> &[u32]
-    requires { statement < length nest.now.entries }
-    ensures { result.now ≡ loops_of nest.now statement }
+/// The numbers of the loops round a part.
+fn loops(nest: &Nest, part: u32) -> &[u32]
+    requires { part < length nest.now.entries }
+    ensures { result.now ≡ loops_of nest.now part }
 {
-    nest.entries.as_slice()[statement as usize].loops.as_slice()
+    nest.entries.as_slice()[part as usize].loops.as_slice()
+}
+
+/// How many coordinates an instance of a part has.
+fn coordinates(nest: &Nest, part: u32) -> u32
+    requires there { part < length nest.now.entries }
+    requires few { coordinates_of nest.now part ≤ 128 }
+    ensures { result ≡ coordinates_of nest.now part }
+{
+    nest.entries.as_slice()[part as usize].coordinates() as u32
+}
+
+/// The number of a part's statement.
+fn statement(nest: &Nest, part: u32) -> u32
+    requires { part < length nest.now.entries }
+    ensures { result ≡ statement_of nest.now part }
+{
+    nest.entries.as_slice()[part as usize].statement
+}
+
+/// Whether the first part's statement stands before the second's.
+fn stands_before(nest: &Nest, a: Placed, b: Placed) -> bool
+    requires first { a.part < length nest.now.entries }
+    requires second { b.part < length nest.now.entries }
+    ensures { result ≡ nat_lt (statement_of nest.now a.part) (statement_of nest.now b.part) }
+{
+    statement(nest, a.part) < statement(nest, b.part)
 }
 
 /// The systems of the order of the text.
@@ -59,17 +86,17 @@ fn source_order(
     requires second { HasColumns nest.now columns b }
     ensures { IfOk result (λ v. v.items ≡ source_order nest.now columns (posed nest.now columns a) (posed nest.now columns b)) }
 {
-    let ls = loops(nest, a.statement);
-    let ms = loops(nest, b.statement);
-    let fs = columns_from(alloc, columns, a.column, ls.len() as u32)?;
-    let gs = columns_from(alloc, columns, b.column, ms.len() as u32)?;
+    let ls = loops(nest, a.part);
+    let ms = loops(nest, b.part);
+    let fs = columns_from(alloc, columns, a.column, coordinates(nest, a.part))?;
+    let gs = columns_from(alloc, columns, b.column, coordinates(nest, b.part))?;
     lex_systems(
         alloc,
         columns,
         shared(ls, ms),
         fs.as_slice(),
         gs.as_slice(),
-        a.statement < b.statement,
+        stands_before(nest, a, b),
     )
 }
 
@@ -84,19 +111,19 @@ fn time_forms(
     requires few { columns ≤ 128 }
     requires params { length nest.now.params ≤ 4 }
     requires placed { HasColumns nest.now columns a }
-    requires timed { HasMap nest.now maps.now a.statement }
-    ensures { IfOk result (λ v. v.items ≡ time_forms maps.now (length nest.now.params) columns (posed nest.now columns a)) }
+    requires timed { HasMap nest.now maps.now a.part }
+    ensures { IfOk result (λ v. v.items ≡ time_forms nest.now maps.now columns (posed nest.now columns a)) }
 {
     let params = nest.params.ranges().len() as u32;
-    let loops = loops(nest, a.statement).len() as u32;
-    let map = &maps[a.statement as usize];
+    let own = coordinates(nest, a.part);
+    let map = &maps[statement(nest, a.part) as usize];
     let mut forms = Vec::new(alloc);
     add_spread(
         alloc,
         map.forms.as_slice(),
         params,
         a.column - params,
-        columns - a.column - loops,
+        columns - a.column - own,
         &mut forms,
     )?;
     Ok(forms)
@@ -129,13 +156,13 @@ fn target_order(
                 *length as usize,
                 fs.as_slice(),
                 gs.as_slice(),
-                a.statement < b.statement,
+                stands_before(nest, a, b),
             )
         }
     }
 }
 
-/// Two statements at the columns of their question.
+/// Two parts at the columns of their question.
 #[derive(Clone, Copy)]
 struct Pair {
     columns: u32,
@@ -143,33 +170,33 @@ struct Pair {
     second: Placed,
 }
 
-/// The parameters, the iterators of an instance of the first statement, and those of an instance of the second.
+/// The parameters, the coordinates of an instance of the first part, and those of an instance of the second.
 fn pair_of(nest: &Nest, first: u32, second: u32) -> Pair
     requires nest { IsNest nest.now }
     requires first { first < length nest.now.entries }
     requires second { second < length nest.now.entries }
     ensures columns { result.columns ≡ pair_columns nest.now first second }
     ensures few { result.columns ≤ 128 }
-    ensures first { result.first ≡ record { statement = first; column = length nest.now.params } }
-    ensures second { result.second ≡ record { statement = second; column = length nest.now.params + length (loops_of nest.now first) } }
+    ensures first { result.first ≡ record { part = first; column = length nest.now.params } }
+    ensures second { result.second ≡ record { part = second; column = length nest.now.params + coordinates_of nest.now first } }
 {
     let params = nest.params.ranges().len() as u32;
-    let outer = loops(nest, first).len() as u32;
-    let inner = loops(nest, second).len() as u32;
+    let outer = coordinates(nest, first);
+    let inner = coordinates(nest, second);
     Pair {
         columns: params + outer + inner,
         first: Placed {
-            statement: first,
+            part: first,
             column: params,
         },
         second: Placed {
-            statement: second,
+            part: second,
             column: params + outer,
         },
     }
 }
 
-/// The systems that say that in the source an instance of the first statement is earlier than one of the second.
+/// The systems that say that in the source an instance of the first part is earlier than one of the second.
 pub fn source_before(
     alloc: Global,
     nest: &Nest,
@@ -185,7 +212,7 @@ pub fn source_before(
     source_order(alloc, nest, pair.columns, pair.first, pair.second)
 }
 
-/// The systems that say that in the target an instance of the first statement is earlier than one of the second.
+/// The systems that say that in the target an instance of the first part is earlier than one of the second.
 pub fn target_before(
     alloc: Global,
     nest: &Nest,
@@ -202,7 +229,7 @@ pub fn target_before(
     target_order(alloc, nest, schedule, pair.columns, pair.first, pair.second)
 }
 
-/// The systems that say that in the target an instance of the second statement is earlier than one of the first, over
+/// The systems that say that in the target an instance of the second part is earlier than one of the first, over
 /// the same columns.
 pub fn target_after(
     alloc: Global,

@@ -24,7 +24,9 @@ use Rattle.affc_quast.specs.Limits.{Shaped}
 use Rattle.affc_quast.specs.Laws.{Leads, LeafIsReached, LeafIsNamed}
 use Rattle.affc_quast.specs.Trees.{Tree, Test, Div, Source, Input, named_at, instance_at, quotients_at}
 use Rattle.affc_order.specs.Posed.{Posed}
-use Rattle.affc_quast.specs.Leaves.{padded, negated, multiple, division_rows, Leaf, behind, divided, leaves_of}
+use Rattle.affc_nest.specs.Divisions.{multiple, division_rows}
+use Rattle.affc_nest.proofs.DivisionLemmas.{floor_is, one_quotient, multiple_width, met_division, division_met}
+use Rattle.affc_quast.specs.Leaves.{padded, negated, Leaf, behind, divided, leaves_of}
 
 -- ---- Forms over more columns
 
@@ -108,99 +110,6 @@ module _ (f : Affine) (xs : List ℤ) (w : length f.coefs ≡ length xs) where
     where
       below : (y z : ℤ) → int_le (pos 0) y ≡ false → z ≡ pos 0 → (y +ℤ pos 1) ≤ℤ z
       below y z h e = grind (arith, ints)
-
--- ---- Quotients
-
-module _ (k : ℕ) (z : ℤ) where
-  abbrev pub Quotient : ℤ → Type 0
-  Quotient q = (pos 0 ≤ℤ (z -ℤ (pos (suc k) *ℤ q))) × ((z -ℤ (pos (suc k) *ℤ q)) ≤ℤ pos k)
-
-  pub floor_is : Quotient (floor_of z (pos (suc k)))
-  floor_is = by_sign z
-    where
-      by_sign : (z : ℤ) → (pos 0 ≤ℤ (z -ℤ (pos (suc k) *ℤ floor_of z (pos (suc k))))) × ((z -ℤ (pos (suc k) *ℤ floor_of z (pos (suc k)))) ≤ℤ pos k)
-      by_sign (pos a) = (omega (arith, ints), omega (arith, ints))
-      by_sign (negsuc a) = (omega (arith, ints), omega (arith, ints))
-
-  not_less : (q r : ℤ) → Quotient q → Quotient r → (q +ℤ pos 1) ≤ℤ r → ⊥
-  not_less q r h g l = past _ _ _ (grows (suc k) (q +ℤ pos 1) r l) (mul-add (pos (suc k)) q (pos 1)) h.1 g.0
-    where
-      past : (a b c : ℤ) → a ≤ℤ b → a ≡ c +ℤ (pos (suc k) *ℤ pos 1) → (z -ℤ c) ≤ℤ pos k → pos 0 ≤ℤ (z -ℤ b) → ⊥
-      past a b c h e i j = omega (arith, ints)
-
-  pub one_quotient : (q : ℤ) → Quotient q → q ≡ floor_of z (pos (suc k))
-  one_quotient q h = same q (floor_of z (pos (suc k))) (not_less q _ h floor_is) (not_less _ q floor_is h)
-    where
-      same : (q r : ℤ) → ((q +ℤ pos 1) ≤ℤ r → ⊥) → ((r +ℤ pos 1) ≤ℤ q → ⊥) → q ≡ r
-      same q r a b = grind (arith, ints)
-
-multiple_value : (columns : ℕ) (by constant q : ℤ) (xs : List ℤ) → length xs ≡ columns → value (multiple columns by constant) (xs ++ q ∷ []) ≡ (by *ℤ q) +ℤ constant
-multiple_value columns by constant q xs e = ap (λ d. d +ℤ constant) (last columns xs e)
-  where
-    none_before : (x d : ℤ) → (pos 0 *ℤ x) +ℤ d ≡ d
-    none_before x d = omega (arith, ints)
-
-    alone : (a : ℤ) → a +ℤ pos 0 ≡ a
-    alone a = omega (arith, ints)
-
-    last : (columns : ℕ) (xs : List ℤ) → length xs ≡ columns → dot (replicate columns (pos 0) ++ by ∷ []) (xs ++ q ∷ []) ≡ by *ℤ q
-    last zero [] e = alone (by *ℤ q)
-    last zero (x ∷ xs) e = absurd (omega (arith, e))
-    last (suc n) [] e = absurd (omega (arith, e))
-    last (suc n) (x ∷ xs) e = none_before x (dot (replicate n (pos 0) ++ by ∷ []) (xs ++ q ∷ [])) ∙ last n xs (omega (arith, e))
-
-multiple_width : (columns : ℕ) (by constant : ℤ) → length (multiple columns by constant).coefs ≡ suc columns
-multiple_width columns by constant = length_append (replicate columns (pos 0)) (by ∷ []) ∙ ap (λ n. n + 1) (number_width columns (pos 0)) ∙ one columns
-  where
-    one : (n : ℕ) → n + 1 ≡ suc n
-    one n = omega arith
-
-module _ (xs : List ℤ) (q : ℤ) (f : Affine) (k : ℕ) (w : length f.coefs ≡ length xs) where
-  abbrev ys : List ℤ
-  ys = xs ++ q ∷ []
-
-  abbrev g : Affine
-  g = widened 1 f
-
-  abbrev low : Affine
-  low = multiple (length xs) (pos (suc k)) (pos 0)
-
-  abbrev high : Affine
-  high = multiple (length xs) (pos (suc k)) (pos (suc k))
-
-  g_width : length g.coefs ≡ length ys
-  g_width = length_append f.coefs (pos 0 ∷ []) ∙ ap (λ n. n + 1) w ∙ sym (length_append xs (q ∷ []))
-
-  g_value : value g ys ≡ value f xs
-  g_value = ap (λ d. d +ℤ f.constant) (padded_dot f.coefs 1 ys) ∙ short_value f xs (q ∷ []) (omega (arith, w))
-
-  side_width : (c : ℤ) → length (multiple (length xs) (pos (suc k)) c).coefs ≡ length ys
-  side_width c = multiple_width (length xs) (pos (suc k)) c ∙ sym (length_push xs q)
-
-  pub division_met : Quotient k (value f xs) q → Met ys (division_rows (length xs) f (pos (suc k)))
-  division_met h =
-      met_append ys (compare_rows LessEqual low g) (compare_rows Less g high)
-      (say_rows low g ys (side_width (pos 0)) g_width LessEqual (at_most (value low ys) (value g ys) (value f xs) (pos (suc k) *ℤ q) (multiple_value (length xs) (pos (suc k)) (pos 0) q xs refl) g_value h.0))
-      (say_rows g high ys g_width (side_width (pos (suc k))) Less (less (value high ys) (value g ys) (value f xs) (pos (suc k) *ℤ q) (multiple_value (length xs) (pos (suc k)) (pos (suc k)) q xs refl) g_value h.1))
-    where
-      at_most : (l u z m : ℤ) → l ≡ m +ℤ pos 0 → u ≡ z → pos 0 ≤ℤ (z -ℤ m) → l ≤ℤ u
-      at_most l u z m e i h = omega (arith, ints, e, i, h)
-
-      less : (t u z m : ℤ) → t ≡ m +ℤ pos (suc k) → u ≡ z → (z -ℤ m) ≤ℤ pos k → (u +ℤ pos 1) ≤ℤ t
-      less t u z m e i h = omega (arith, ints, e, i, h)
-
-  pub met_division : Met ys (division_rows (length xs) f (pos (suc k))) → Quotient k (value f xs) q
-  met_division m =
-      let b = met_both ys (compare_rows LessEqual low g) (compare_rows Less g high) m in (
-        at_most (value low ys) (value g ys) (value f xs) (pos (suc k) *ℤ q) (multiple_value (length xs) (pos (suc k)) (pos 0) q xs refl) g_value (rows_say low g ys (side_width (pos 0)) g_width LessEqual b.0),
-        less (value high ys) (value g ys) (value f xs) (pos (suc k) *ℤ q) (multiple_value (length xs) (pos (suc k)) (pos (suc k)) q xs refl) g_value (rows_say g high ys g_width (side_width (pos (suc k))) Less b.1),
-      )
-    where
-      at_most : (l u z m : ℤ) → l ≡ m +ℤ pos 0 → u ≡ z → l ≤ℤ u → pos 0 ≤ℤ (z -ℤ m)
-      at_most l u z m e i h = omega (arith, ints, e, i, h)
-
-      less : (t u z m : ℤ) → t ≡ m +ℤ pos (suc k) → u ≡ z → (u +ℤ pos 1) ≤ℤ t → (z -ℤ m) ≤ℤ pos k
-      less t u z m e i h = omega (arith, ints, e, i, h)
 
 -- ---- Leaves
 

@@ -2,5 +2,4 @@ pub mod LeafLemmas
 pub mod RangeLemmas
 pub mod NearLemmas
 pub mod ExampleProofs
-pub mod WideLemmas
 pub mod PathLemmas

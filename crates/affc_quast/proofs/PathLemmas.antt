@@ -6,11 +6,12 @@ use Rattle.std.proofs.lemmas.List.Elements.{All-nil, All-cons, All-head, All-tai
 use Rattle.affc_rows.specs.Forms.{Affine}
 use Rattle.affc_trace.proofs.EndedReads.{append_assoc}
 use Rattle.affc_trace.proofs.LastStores.{map_append, append_nil}
-use Rattle.affc_quast.specs.Leaves.{Leaf, negated, division_rows, behind, divided, leaves_of}
+use Rattle.affc_nest.specs.Divisions.{division_rows}
+use Rattle.affc_quast.specs.Leaves.{Leaf, negated, behind, divided, leaves_of}
 use Rattle.affc_quast.specs.Limits.{FitsForm, widest}
 use Rattle.affc_quast.specs.SeenLeaves.{under}
 use Rattle.affc_quast.specs.Trees.{Tree, Test, Div}
-use Rattle.affc_quast.specs.Wide.{IsWide}
+use Rattle.affc_nest.specs.Wide.{IsWide}
 use Rattle.affc_quast.proofs.LeafLemmas.{negated_width}
 
 all_fit : (cs : List ℤ) → All (λ c. unsigned_abs c ≤ 2 ^ 24) cs → All (λ c. unsigned_abs c ≤ 2 ^ 64) cs

@@ -20,73 +20,12 @@ use Rattle.affc_domain.proofs.RangeLemmas.{box_push, box_length}
 use Rattle.affc_nest.proofs.DomainLemmas.{length_push, met_both}
 use Rattle.affc_quast.specs.Laws.{LeavesAreOver, LeafIsBoxed, RangesOfLeaf}
 use Rattle.affc_quast.specs.Limits.{Shaped}
+use Rattle.affc_quast.specs.Paths.{IsNear}
 use Rattle.affc_quast.specs.Trees.{Tree, Test, Div, Source, Input, quotients_at}
-use Rattle.affc_quast.specs.Leaves.{negated, division_rows, Leaf, behind, divided, leaves_of, held, quotient_range, path_ranges}
-use Rattle.affc_quast.proofs.LeafLemmas.{Narrow, Quotient, floor_is, one_quotient, met_division, division_narrow, negated_width, negated_says, short_value, longer_met, leaf_over}
-
--- ---- Numbers held within a limit
-
-module _ (n : ℕ) where
-  held_low : (z q : ℤ) → z ≤ℤ q → neg_ℤ (pos n) ≤ℤ q → held n z ≤ℤ q
-  held_low z q h l = chosen (int_lt z (neg_ℤ (pos n))) (int_lt (pos n) z) refl
-    where
-      above : (z : ℤ) → int_lt (pos n) z ≡ true → pos n ≤ℤ z
-      above z e = grind (arith, ints)
-
-      through : (a b c : ℤ) → a ≤ℤ b → b ≤ℤ c → a ≤ℤ c
-      through a b c h g = omega (arith, ints)
-
-      chosen : (t u : Bool) → int_lt (pos n) z ≡ u → (if t then neg_ℤ (pos n) else (if u then pos n else z)) ≤ℤ q
-      chosen true u e = l
-      chosen false true e = through _ _ _ (above z e) h
-      chosen false false e = h
-
-  held_high : (z q : ℤ) → q ≤ℤ z → q ≤ℤ pos n → q ≤ℤ held n z
-  held_high z q h l = chosen (int_lt z (neg_ℤ (pos n))) refl (int_lt (pos n) z)
-    where
-      below : (z y : ℤ) → int_lt z y ≡ true → z ≤ℤ y
-      below z y e = grind (arith, ints)
-
-      through : (a b c : ℤ) → a ≤ℤ b → b ≤ℤ c → a ≤ℤ c
-      through a b c h g = omega (arith, ints)
-
-      chosen : (t : Bool) → int_lt z (neg_ℤ (pos n)) ≡ t → (u : Bool) → q ≤ℤ (if t then neg_ℤ (pos n) else (if u then pos n else z))
-      chosen true e u = through _ _ _ h (below z _ e)
-      chosen false e true = l
-      chosen false e false = h
-
-  pub held_near : (z : ℤ) → unsigned_abs (held n z) ≤ n
-  held_near z = chosen (int_lt z (neg_ℤ (pos n))) (int_lt (pos n) z) refl refl
-    where
-      at_low : unsigned_abs (neg_ℤ (pos n)) ≤ n
-      at_low = grind (arith, ints)
-
-      at_high : unsigned_abs (pos n) ≤ n
-      at_high = grind (arith, ints)
-
-      between : (z : ℤ) → int_lt z (neg_ℤ (pos n)) ≡ false → int_lt (pos n) z ≡ false → unsigned_abs z ≤ n
-      between z e f = grind (arith, ints)
-
-      chosen : (t u : Bool) → int_lt z (neg_ℤ (pos n)) ≡ t → int_lt (pos n) z ≡ u → unsigned_abs (if t then neg_ℤ (pos n) else (if u then pos n else z)) ≤ n
-      chosen true u e f = at_low
-      chosen false true e f = at_high
-      chosen false false e f = between z e f
-
--- the floor grows with the number
-pub floor_grows : (k : ℕ) (a b : ℤ) → a ≤ℤ b → floor_of a (pos (suc k)) ≤ℤ floor_of b (pos (suc k))
-floor_grows k a b h = by_order (floor_of a (pos (suc k))) (floor_of b (pos (suc k))) (floor_is k a) (floor_is k b)
-  where
-    past : (x y m : ℤ) → x ≤ℤ y → x ≡ m +ℤ (pos (suc k) *ℤ pos 1) → (b -ℤ m) ≤ℤ pos k → pos 0 ≤ℤ (a -ℤ y) → ⊥
-    past x y m g e i j = omega (arith, ints, h)
-
-    not_past : (x y : ℤ) → Quotient k a x → Quotient k b y → (y +ℤ pos 1) ≤ℤ x → ⊥
-    not_past x y u v g = past _ _ (pos (suc k) *ℤ y) (grows (suc k) (y +ℤ pos 1) x g) (mul-add (pos (suc k)) y (pos 1)) v.1 u.0
-
-    by_order : (x y : ℤ) → Quotient k a x → Quotient k b y → x ≤ℤ y
-    by_order x y u v = at_most x y (not_past x y u v)
-      where
-        at_most : (x y : ℤ) → ((y +ℤ pos 1) ≤ℤ x → ⊥) → x ≤ℤ y
-        at_most x y n = grind (arith, ints)
+use Rattle.affc_nest.specs.Divisions.{division_rows, quotient_range}
+use Rattle.affc_nest.proofs.DivisionLemmas.{held_near, divisions_are_quotients, quotients_keep_ranges}
+use Rattle.affc_quast.specs.Leaves.{negated, Leaf, behind, divided, leaves_of, path_ranges}
+use Rattle.affc_quast.proofs.LeafLemmas.{Narrow, division_narrow, negated_width, negated_says, short_value, longer_met, leaf_over}
 
 -- ---- Boxes
 
@@ -123,32 +62,18 @@ leaf_count columns (Source s forms) l (inr i) = absurd i
 leaf_count columns Input l (inl e) = subst (λ l. l.columns ≡ columns + length l.divisions) (sym e) (omega arith)
 leaf_count columns Input l (inr i) = absurd i
 
-abbrev AreHeld : ℕ → List ℤ → Type 0
-AreHeld n [] = Unit {0}
-AreHeld n (q ∷ qs) = (neg_ℤ (pos n) ≤ℤ q) × (q ≤ℤ pos n) × AreHeld n qs
-
-held_all : (n : ℕ) (qs : List ℤ) → All (λ q. unsigned_abs q ≤ n) qs → AreHeld n qs
-held_all n [] h = tt
-held_all n (q ∷ qs) h = (low q (All-head (λ q. unsigned_abs q ≤ n) q qs h), high q (All-head (λ q. unsigned_abs q ≤ n) q qs h), held_all n qs (All-tail (λ q. unsigned_abs q ≤ n) q qs h))
-  where
-    low : (q : ℤ) → unsigned_abs q ≤ n → neg_ℤ (pos n) ≤ℤ q
-    low q h = grind (arith, ints)
-
-    high : (q : ℤ) → unsigned_abs q ≤ n → q ≤ℤ pos n
-    high q h = grind (arith, ints)
-
 -- where a leaf's rows are met, its ranges hold the point
 abbrev Holds : List ℤ → List (ℤ × ℤ) → Leaf → Type 0
 Holds zs ranges l = length zs ≡ l.columns → Met zs l.rows → InBox (path_ranges ranges l.divisions) zs
 
-leaf_held : (tree : Tree) (xs qs : List ℤ) (ranges : List (ℤ × ℤ)) (l : Leaf) → Shaped (length xs) tree → IsIn l (leaves_of (length xs) tree) → InBox ranges xs → AreHeld (2 ^ 60) (quotients_at tree xs) → Holds (xs ++ qs) ranges l
+leaf_held : (tree : Tree) (xs qs : List ℤ) (ranges : List (ℤ × ℤ)) (l : Leaf) → Shaped (length xs) tree → IsIn l (leaves_of (length xs) tree) → InBox ranges xs → All IsNear (quotients_at tree xs) → Holds (xs ++ qs) ranges l
 leaf_held (Test f on off) xs qs ranges l h i b n = elim (in_append _ _ l i) [
   | inl j ↦ (let r = in_map (behind (f ∷ [])) (leaves_of (length xs) on) l j in
       subst (Holds (xs ++ qs) ranges) (sym r.2) (λ e m.
-      leaf_held on xs qs ranges r.0 h.1 r.1 b (subst (λ t. AreHeld (2 ^ 60) (if t then quotients_at on xs else quotients_at off xs)) (above (value f xs) (subst (λ z. pos 0 ≤ℤ z) (short_value f xs qs (omega (arith, h.0))) m.0)) n) e m.1))
+      leaf_held on xs qs ranges r.0 h.1 r.1 b (subst (λ t. All IsNear (if t then quotients_at on xs else quotients_at off xs)) (above (value f xs) (subst (λ z. pos 0 ≤ℤ z) (short_value f xs qs (omega (arith, h.0))) m.0)) n) e m.1))
   | inr j ↦ (let r = in_map (behind (negated f ∷ [])) (leaves_of (length xs) off) l j in
       subst (Holds (xs ++ qs) ranges) (sym r.2) (λ e m.
-      leaf_held off xs qs ranges r.0 h.2 r.1 b (subst (λ t. AreHeld (2 ^ 60) (if t then quotients_at on xs else quotients_at off xs)) (negated_says f xs h.0 (subst (λ z. pos 0 ≤ℤ z) (short_value (negated f) xs qs (omega (arith, negated_width f, h.0))) m.0)) n) e m.1))
+      leaf_held off xs qs ranges r.0 h.2 r.1 b (subst (λ t. All IsNear (if t then quotients_at on xs else quotients_at off xs)) (negated_says f xs h.0 (subst (λ z. pos 0 ≤ℤ z) (short_value (negated f) xs qs (omega (arith, negated_width f, h.0))) m.0)) n) e m.1))
 ]
   where
     above : (z : ℤ) → pos 0 ≤ℤ z → int_le (pos 0) z ≡ true
@@ -167,15 +92,15 @@ leaf_held (Div f (pos (suc k)) rest) xs (q ∷ qs) ranges l h i b n =
     subst (Holds (xs ++ q ∷ qs) ranges) (sym r.2) (subst (λ zs. Holds zs ranges (divided (length xs) f (pos (suc k)) r.0)) same (λ e m.
     let c = met_both (ys ++ qs) (division_rows (length xs) f (pos (suc k))) (r.0).rows m in
     let d : Met ys (division_rows (length xs) f (pos (suc k))) = longer_met (division_rows (length xs) f (pos (suc k))) ys qs (subst (λ n. Narrow n (division_rows (length xs) f (pos (suc k)))) wide (division_narrow (length xs) f (pos (suc k)) h.0)) c.0 in
-    let is : q ≡ floor_of (value f xs) (pos (suc k)) = one_quotient k (value f xs) q (met_division xs q f k h.0 d) in
+    let by : ℤ = pos (suc k) in
+    let first : ℤ = floor_of (value f xs) by in
+    let is : q ≡ first = (divisions_are_quotients f by q xs h.0 h.1).0 d in
     let long : length f.coefs ≡ length ranges = h.0 ∙ sym (box_length ranges xs b) in
-    let range = quotient_range ranges f (pos (suc k)) in
-    let low : range.0 ≤ℤ q = held_low (2 ^ 60) (floor_of (value f (corner false f.coefs ranges)) (pos (suc k))) q
-    (subst (λ z. floor_of (value f (corner false f.coefs ranges)) (pos (suc k)) ≤ℤ z) (sym is) (floor_grows k _ _ (value_least f ranges xs long b))) (subst (λ z. neg_ℤ (pos (2 ^ 60)) ≤ℤ z) (sym is) n.0) in
-    let high : q ≤ℤ range.1 = held_high (2 ^ 60) (floor_of (value f (corner true f.coefs ranges)) (pos (suc k))) q
-    (subst (λ z. z ≤ℤ floor_of (value f (corner true f.coefs ranges)) (pos (suc k))) (sym is) (floor_grows k _ _ (value_greatest f ranges xs long b))) (subst (λ z. z ≤ℤ pos (2 ^ 60)) (sym is) n.1) in
-    leaf_held rest ys qs (ranges ++ range ∷ []) r.0 (subst (λ n. Shaped n rest) wide h.2) (subst (λ n. IsIn r.0 (leaves_of n rest)) wide r.1) (box_push ranges xs range q b low high)
-    (subst (λ z. AreHeld (2 ^ 60) (quotients_at rest (xs ++ z ∷ []))) (sym is) n.2) e c.1))
+    let range = quotient_range ranges f by in
+    let keeps = quotients_keep_ranges ranges f by xs long h.1 b (All-head IsNear first (quotients_at rest (xs ++ first ∷ [])) n) in
+    leaf_held rest ys qs (ranges ++ range ∷ []) r.0 (subst (λ n. Shaped n rest) wide h.2) (subst (λ n. IsIn r.0 (leaves_of n rest)) wide r.1)
+    (box_push ranges xs range q b (subst (λ z. range.0 ≤ℤ z) (sym is) keeps.0) (subst (λ z. z ≤ℤ range.1) (sym is) keeps.1))
+    (subst (λ z. All IsNear (quotients_at rest (xs ++ z ∷ []))) (sym is) (All-tail IsNear first (quotients_at rest (xs ++ first ∷ [])) n)) e c.1))
 leaf_held (Source s forms) xs qs ranges l h (inl e) b n = subst (Holds (xs ++ qs) ranges) (sym e) (λ w m. subst (InBox ranges) (sym (none_more xs qs w)) b)
   where
     none_more : (xs qs : List ℤ) → length (xs ++ qs) ≡ length xs → xs ++ qs ≡ xs
@@ -193,7 +118,7 @@ leaf_held Input xs qs ranges l h (inr i) b n = absurd i
 
 pub leaf_box : (tree : Tree) (xs qs : List ℤ) (ranges : List (ℤ × ℤ)) (l : Leaf) → Shaped (length xs) tree → IsIn l (leaves_of (length xs) tree) → InBox ranges xs → All (λ q. unsigned_abs q ≤ 2 ^ 60) (quotients_at tree xs)
     → length (xs ++ qs) ≡ l.columns → Met (xs ++ qs) l.rows → InBox (path_ranges ranges l.divisions) (xs ++ qs)
-leaf_box tree xs qs ranges l h i b n e m = leaf_held tree xs qs ranges l h i b (held_all (2 ^ 60) (quotients_at tree xs) n) e m
+leaf_box tree xs qs ranges l h i b n e m = leaf_held tree xs qs ranges l h i b n e m
 
 -- ---- Laws
 

@@ -4,7 +4,8 @@ use Rattle.affc_rows.specs.Forms.{Affine}
 use Rattle.affc_nest.specs.declared.nest.Access.{Access}
 use Rattle.affc_nest.specs.declared.nest.Entry.{Entry}
 use Rattle.affc_nest.specs.declared.nest.Nest.{Nest}
-use Rattle.affc_quast.specs.Leaves.{leaves_of, padded, quotient_range, path_ranges}
+use Rattle.affc_nest.specs.Divisions.{quotient_range}
+use Rattle.affc_quast.specs.Leaves.{leaves_of, padded, path_ranges}
 use Rattle.affc_quast.specs.Sources.{loads_before, tree_of}
 use Rattle.affc_quast.specs.Trees.{Tree, Test, Div, Source, Input, named_at, quotients_at, depth_of, divisions_of}
 

@@ -6,5 +6,4 @@ pub mod Paths
 pub mod Limits
 pub mod Laws
 pub mod Examples
-pub mod Wide
 pub mod SeenLeaves

@@ -1,11 +1,12 @@
 //! The leaves of a tree.
 ghost use Rattle.std.specs.Prelude.{◌≡◌, ◌+◌, ◌≤◌, ◌++◌, ◌∷◌, [], map, OnOk, IfOk};
-ghost use Rattle.affc_quast.specs.Leaves.{leaves_of, negated, division_rows};
+ghost use Rattle.affc_nest.specs.Divisions.{division_rows};
+ghost use Rattle.affc_quast.specs.Leaves.{leaves_of, negated};
 ghost use Rattle.affc_quast.specs.Limits.{Shaped, FitsTree, widest};
 ghost use Rattle.affc_quast.specs.Seen.{seen};
 ghost use Rattle.affc_quast.specs.SeenLeaves.{division_seen, named_seen, leaf_seen, under, ending};
 ghost use Rattle.affc_quast.specs.Trees.{divisions_of};
-ghost use Rattle.affc_quast.specs.Wide.{IsWide};
+ghost use Rattle.affc_nest.specs.Wide.{IsWide};
 
 use crate::quast::Quast;
 use crate::rows::{add_division, copied, negated};

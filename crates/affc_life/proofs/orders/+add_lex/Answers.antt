@@ -5,7 +5,7 @@ use Rattle.affc_ast.specs.declared.tree.Rel.TheVariants.{Less, Equal}
 use Rattle.affc_nest.specs.Domains.{compare_rows}
 use Rattle.affc_order.specs.Systems.{lex_systems}
 use Rattle.affc_life.specs.Drafts.{rows_in}
-use Rattle.affc_quast.specs.Wide.{IsWide}
+use Rattle.affc_nest.specs.Wide.{IsWide}
 use Rattle.affc_life.proofs.DraftLemmas.{lex_made, later_long, later_all}
 use Rattle.affc_life.proofs.LimitLemmas.{first_and_rest}
 use Rattle.affc_life.proofs.orders.+add_lex.Goals as goal

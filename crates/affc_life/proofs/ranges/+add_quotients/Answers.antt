@@ -1,7 +1,7 @@
 use Rattle.std.proofs.Common.{◌≡◌, ◌∷◌, [], ◌-◌, ◌++◌, FitsSigned, w64, length, take, drop, refl, rules, arith, ap}
 use Rattle.std.proofs.lemmas.Result.{on_ok_weaker}
 use Rattle.std.proofs.lemmas.Int.{to_z-of_z}
-use Rattle.affc_quast.specs.Leaves.{quotient_range}
+use Rattle.affc_nest.specs.Divisions.{quotient_range}
 use Rattle.affc_life.proofs.LimitLemmas.{first_and_rest}
 use Rattle.affc_life.proofs.QuotientLemmas.{quotient_asks, quotient_near, quotient_few, quotient_made}
 use Rattle.affc_life.proofs.ranges.+add_quotients.Goals as goal

@@ -1,7 +1,7 @@
 use Rattle.std.proofs.Common.{◌+◌, ◌∷◌, [], length, flat_map, sym, ap, subst, ◌∙◌}
 use Rattle.std.specs.List.{All}
 use Rattle.affc_quast.specs.SeenLeaves.{leaf_seen}
-use Rattle.affc_quast.specs.Wide.{IsWide}
+use Rattle.affc_nest.specs.Wide.{IsWide}
 use Rattle.affc_life.proofs.LightLemmas.{lights_wide}
 use Rattle.affc_life.specs.Clashes.{apart_rows}
 use Rattle.affc_life.specs.Drafts.{drafted, posed}

@@ -1,6 +1,6 @@
 use Rattle.std.proofs.Common.{sym, subst, ◌∙◌}
 use Rattle.std.specs.List.{All}
-use Rattle.affc_quast.specs.Wide.{IsWide}
+use Rattle.affc_nest.specs.Wide.{IsWide}
 use Rattle.affc_life.proofs.TimeLemmas.{times_wide}
 use Rattle.affc_life.proofs.times.add_time_order.Goals as goal
 

@@ -3,5 +3,5 @@ use Rattle.affc_order.proofs.order.time_forms.Goals as goal
 
 pub returns : goal.returns
 returns c =
-    time_made c.args.nest.now c.args.maps.now c.args.columns c.args.a c.requires.placed c.requires.timed c.index-maps-a.result c.index-maps-a.is
-    c.add_spread.new.out.items c.new-forms.result.items c.as_slice.result.now c.ranges-2.result.now c.loops.result.now c.new-forms.ensures.items c.as_slice.ensures c.ranges-2.ensures.ranges c.loops.ensures c.in_ok-add_spread.ensures
+    time_made c.args.nest.now c.args.maps.now c.args.columns c.args.a c.requires.placed c.requires.timed c.index-maps-statement.result c.index-maps-statement.is
+    c.add_spread.new.out.items c.new-forms.result.items c.as_slice.result.now c.ranges-2.result.now c.coordinates-own.result c.new-forms.ensures.items c.as_slice.ensures c.ranges-2.ensures.ranges c.coordinates-own.ensures c.in_ok-add_spread.ensures

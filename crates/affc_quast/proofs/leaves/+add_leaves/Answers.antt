@@ -1,7 +1,8 @@
 use Rattle.std.proofs.Common.{◌≡◌, ℕ, ℤ, suc, ◌+◌, ◌++◌, ◌∷◌, [], List, rules, FitsSigned, w64, map, sym, ap, ◌∙◌, arith}
 use Rattle.std.proofs.lemmas.Int.{to_z-of_z}
 use Rattle.affc_rows.specs.Forms.{Affine}
-use Rattle.affc_quast.specs.Leaves.{Leaf, leaves_of, division_rows}
+use Rattle.affc_nest.specs.Divisions.{division_rows}
+use Rattle.affc_quast.specs.Leaves.{Leaf, leaves_of}
 use Rattle.affc_quast.specs.Seen.{seen}
 use Rattle.affc_quast.specs.SeenLeaves.{division_seen, leaf_seen, under}
 use Rattle.affc_quast.specs.Trees.{Tree}

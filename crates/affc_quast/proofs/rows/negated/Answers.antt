@@ -1,6 +1,6 @@
 use Rattle.std.proofs.Common.{sym, subst}
-use Rattle.affc_quast.specs.Wide.{IsWide}
-use Rattle.affc_quast.proofs.WideLemmas.{not_too_wide, none_wide}
+use Rattle.affc_nest.specs.Wide.{IsWide}
+use Rattle.affc_nest.proofs.WideLemmas.{not_too_wide, none_wide}
 use Rattle.affc_quast.proofs.rows.negated.Goals as goal
 
 pub gap-requires-clause-fits : goal.gap-requires-clause-fits

@@ -10,8 +10,8 @@ use Rattle.affc_trace.proofs.Runs.{length_append}
 use Rattle.affc_domain.proofs.FormLemmas.{number_width}
 use Rattle.affc_nest.specs.Domains.{number_form}
 use Rattle.affc_nest.specs.Questions.{widened}
-use Rattle.affc_quast.specs.Leaves.{multiple}
-use Rattle.affc_quast.specs.Wide.{IsWide}
+use Rattle.affc_nest.specs.Divisions.{multiple}
+use Rattle.affc_nest.specs.Wide.{IsWide}
 
 entry_narrow : (c d : ℤ) → unsigned_abs c ≤ 2 ^ 64 → unsigned_abs d ≤ 2 ^ 64 → 2 ^ 126 < entry_magnitude (pos 1) c (negsuc 0) d → ⊥
 entry_narrow c d h g w = absurd (omega arith)

@@ -5,16 +5,16 @@ use Rattle.affc_rows.specs.Forms.{Affine}
 use Rattle.affc_trace.proofs.EndedReads.{append_assoc}
 use Rattle.affc_nest.specs.Domains.{gap_row}
 use Rattle.affc_nest.specs.Questions.{widened}
-use Rattle.affc_quast.specs.Leaves.{multiple}
-use Rattle.affc_quast.specs.Wide.{IsWide}
-use Rattle.affc_quast.proofs.WideLemmas.{multiple_wide, widened_wide, within_64}
-use Rattle.affc_quast.proofs.rows.add_division.Goals as goal
+use Rattle.affc_nest.specs.Divisions.{multiple}
+use Rattle.affc_nest.specs.Wide.{IsWide}
+use Rattle.affc_nest.proofs.WideLemmas.{multiple_wide, widened_wide, within_64}
+use Rattle.affc_nest.proofs.divisions.add_division.Goals as goal
 
-pub add_gap-requires-2-clause-first : goal.add_gap-requires-2-clause-first
-add_gap-requires-2-clause-first c = subst (IsWide (c.args.columns + 1)) (sym c.in_ok-whole.ensures) (widened_wide c.args.columns c.args.form.now c.requires.form)
+pub add_gap_row-requires-2-clause-first : goal.add_gap_row-requires-2-clause-first
+add_gap_row-requires-2-clause-first c = subst (IsWide (c.args.columns + 1)) (sym c.in_ok-whole.ensures) (widened_wide c.args.columns c.args.form.now c.requires.form)
 
-pub add_gap-requires-2-clause-second : goal.add_gap-requires-2-clause-second
-add_gap-requires-2-clause-second c =
+pub add_gap_row-requires-2-clause-second : goal.add_gap_row-requires-2-clause-second
+add_gap_row-requires-2-clause-second c =
     let fit : FitsSigned w64 c.args.by = c.ranges.by in
     let bound = within_64 c.args.by fit in
     let is : c.in_ok-high.high ≡ multiple c.args.columns c.args.by c.args.by = simp to_z-of_z at c.in_ok-high.ensures in
@@ -28,7 +28,7 @@ returns c =
     let fit : FitsSigned w64 c.args.by = c.ranges.by in
     let low_is : c.in_ok-low.low ≡ low = simp to_z-of_z at c.in_ok-low.ensures in
     let high_is : c.in_ok-high.high ≡ high = simp to_z-of_z at c.in_ok-high.ensures in
-    c.in_ok-add_gap-2.ensures ∙ ap (λ rows. rows ++ gap_row c.in_ok-whole.whole c.in_ok-high.high 1 ∷ []) c.in_ok-add_gap.ensures
+    c.in_ok-add_gap_row-2.ensures ∙ ap (λ rows. rows ++ gap_row c.in_ok-whole.whole c.in_ok-high.high 1 ∷ []) c.in_ok-add_gap_row.ensures
     ∙ append_assoc c.args.out.now (gap_row c.in_ok-low.low c.in_ok-whole.whole 0 ∷ []) (gap_row c.in_ok-whole.whole c.in_ok-high.high 1 ∷ [])
     ∙ ap (λ (l : Affine). c.args.out.now ++ gap_row l c.in_ok-whole.whole 0 ∷ gap_row c.in_ok-whole.whole c.in_ok-high.high 1 ∷ []) low_is
     ∙ ap (λ (w : Affine). c.args.out.now ++ gap_row low w 0 ∷ gap_row w c.in_ok-high.high 1 ∷ []) c.in_ok-whole.ensures
