@@ -1,4 +1,4 @@
--- Folds that obey put elements that are live together at different places.
+-- Folds that obey put the elements of a pair, such as those that are live together, at different places.
 use Rattle.std.proofs.Common.{◌≡◌, ◌≢◌, ℕ, suc, ◌<◌, ℤ, List, [], ◌∷◌, length, map, refl, sym, ap, subst, ◌∙◌, inl, inr, arith, Option, Some, None}
 use Rattle.affc_ast.specs.declared.tree.ArrayId.{ArrayId}
 use Rattle.affc_ast.specs.declared.tree.Program.{Program}
@@ -9,14 +9,13 @@ use Rattle.affc_trace.specs.declared.schedule.Schedule.{Schedule}
 use Rattle.affc_trace.specs.Orders.{StoredBetween}
 use Rattle.affc_trace.specs.Target.{target}
 use Rattle.affc_trace.specs.Effects.{effect}
-use Rattle.affc_trace.specs.Dataflow.{same_element, AreLive, LivePair, Admissible}
-use Rattle.affc_trace.specs.Laws.{IsInContext}
+use Rattle.affc_trace.specs.Dataflow.{unshared, same_element, AreLive, LivePair, Admissible}
 use Rattle.affc_trace.proofs.Legality.{later_is_in}
 use Rattle.affc_trace.proofs.Contents.{target_is_reordered_law}
 use Rattle.affc_trace.proofs.Composed.{compiles_source}
 use Rattle.affc_basis.specs.declared.fold.Fold.{Fold}
-use Rattle.affc_basis.specs.Folds.{forms_of, folded_by, IsAdmissible, fold_of, place}
-use Rattle.affc_basis.specs.Laws.{HasDimensions, AreFoldsOf, RowsSeparate, PlacesMeetInTheLattice, ObeyingFoldSeparates, ObeyingFoldIsAdmissible, AdmissibleFoldsSeparate, FoldsKeepParameters, CompilesFolded, FoldedPremisesCompile}
+use Rattle.affc_basis.specs.Folds.{forms_of, folded_by, IsAdmissible, Obeys, fold_of, place}
+use Rattle.affc_basis.specs.Laws.{HasDimensions, AreFoldsOf, AreDifferent, RowsSeparate, PlacesMeetInTheLattice, ObeyingFoldSeparates, AdmissibleFoldsSeparate, LivePairsAreDifferent, PlacesAreAdmissible, FoldsKeepParameters, CompilesFolded, FoldedPremisesCompile}
 use Rattle.affc_basis.proofs.Remainders.{in_lattice_of_equal, equal_of_in_lattice}
 use Rattle.affc_basis.proofs.Separation.{rows_separate, separated}
 
@@ -44,48 +43,57 @@ module _ (program : Program) (schedule : Schedule) (array n : ℕ) (p : List ℤ
         dimensions s.other y (reordered.no_other s.other (later_is_in (target program schedule p) s.store s.other s.after)) (inr s.stores),
       )
 
-  pub proper_pair : (x y : List ℤ) → LivePair program schedule array p x y → (x ≢ y) × (length x ≡ n) × (length y ≡ n)
-  proper_pair x y live =
+  different : AreDifferent (LivePair program schedule array p) n
+  different x y live =
       let lengths : (length x ≡ n) × (length y ≡ n) = elim live.between [ inl s ↦ both_have x y s | inr s ↦ (let r = both_have y x s in (r.1, r.0)) ] in
       (λ e. live.distinct (ap (λ z. (array, z)) e), lengths.0, lengths.1)
 
+pub live_pairs_are_different : LivePairsAreDifferent
+live_pairs_are_different program schedule array n p dimensions = different program schedule array n p dimensions
+
+-- ---- a fold that obeys
+
 pub obeying_fold_separates : (pairs : List ℤ → List ℤ → List ℤ → Type 0) → ObeyingFoldSeparates pairs
-obeying_fold_separates pairs fold p proper obeys =
+obeying_fold_separates pairs fold p differ obeys =
     let separates : IsAdmissible (pairs p) fold p =
     separated (pairs p) p fold.basis.rows (forms_of fold.moduli) (length-map (λ m. m.form) fold.moduli ∙ fold.one_each) obeys
-    fold.basis.inverse fold.basis.square fold.basis.identity proper in (
+    fold.basis.inverse fold.basis.square fold.basis.identity differ in (
       separates,
       λ x y pair same.
-          let q = proper x y pair in
+          let q = differ x y pair in
           separates.apart x y pair (in_lattice_of_equal p fold.basis.rows (forms_of fold.moduli) x y separates.positive (q.1 ∙ sym q.2) same),
     )
 
-pub obeying_fold_is_admissible : ObeyingFoldIsAdmissible
-obeying_fold_is_admissible program schedule array p fold dimensions obeys =
-    (obeying_fold_separates (LivePair program schedule array) fold p (proper_pair program schedule array (length fold.basis.rows) p dimensions) obeys).0
+-- so it obeys for pairs that are among these
+obeys_for : (pairs fewer : List ℤ → List ℤ → Type 0) (fold : Fold) (p : List ℤ) → ((x y : List ℤ) → fewer x y → pairs x y) → Obeys pairs fold p → Obeys fewer fold p
+obeys_for pairs fewer fold p among obeys k row b at at_b =
+    let o = obeys k row b at at_b in
+    (o.0, λ x y s. o.1 x y (record { pair = among x y s.pair; agrees = s.agrees }))
 
 -- ---- places
 
-module _ (program : Program) (schedule : Schedule) (folds : List (ArrayId × Fold)) (p : List ℤ) (proper : AreFoldsOf program folds) (here : IsInContext program p)
-    (admissible : (array : ℕ) (fold : Fold) → fold_of folds array ≡ Some fold → IsAdmissible (LivePair program schedule array p) fold p) where
-  apart_in : (array : ℕ) (x y : List ℤ) (o : Option Fold) → fold_of folds array ≡ o → LivePair program schedule array p x y → folded_by o p x ≡ folded_by o p y → ⊥
-  apart_in array x y None e live same = live.distinct (ap (λ z. (array, z)) same)
-  apart_in array x y (Some fold) e live same =
-      let lengths = proper_pair program schedule array (length fold.basis.rows) p (proper.dimensions array fold e p here) x y live in
-      let separates = admissible array fold e in
-      separates.apart x y live (in_lattice_of_equal p fold.basis.rows (forms_of fold.moduli) x y separates.positive (lengths.1 ∙ sym lengths.2) same)
+pub admissible_folds_separate : (pairs : ℕ → List ℤ → List ℤ → List ℤ → Type 0) → AdmissibleFoldsSeparate pairs
+admissible_folds_separate pairs folds p differ admissible array x y pair e = apart (fold_of folds array) refl (ap (λ z. z.1) e)
+  where
+    apart : (o : Option Fold) → fold_of folds array ≡ o → folded_by o p x ≡ folded_by o p y → ⊥
+    apart None f same = differ array x y pair same
+    apart (Some fold) f same =
+        let each = admissible array fold f in
+        let lengths = each.0 x y pair in
+        each.1.apart x y pair (in_lattice_of_equal p fold.basis.rows (forms_of fold.moduli) x y each.1.positive (lengths.1 ∙ sym lengths.2) same)
 
-  pub places_apart : Admissible program schedule p (place folds p)
-  places_apart x y live e =
-      let one : y.0 ≡ x.0 = sym live.one_array in
-      let same_array : y ≡ (x.0, y.1) = λ i. (one i, y.1) in
-      let moved : AreLive program schedule p x (x.0, y.1) = subst (AreLive program schedule p x) same_array live in
-      let same : folded_by (fold_of folds x.0) p x.1 ≡ folded_by (fold_of folds x.0) p y.1 =
-      ap (λ z. z.1) e ∙ ap (λ a. folded_by (fold_of folds a) p y.1) one in
-      apart_in x.0 x.1 y.1 (fold_of folds x.0) refl moved same
+-- where no two elements of a live pair of an array have one place, places are admissible
+in_each_array : (program : Program) (schedule : Schedule) (p : List ℤ) (place : Element → Element)
+    → ((array : ℕ) (x y : List ℤ) → LivePair program schedule array p x y → place (array, x) ≢ place (array, y)) → Admissible unshared program schedule p place
+in_each_array program schedule p place apart x y live e =
+    let one : y ≡ (x.0, y.1) = λ i. (sym live.one_array i, y.1) in
+    apart x.0 x.1 y.1 (subst (AreLive program schedule p x) one live) (e ∙ ap place one)
 
-pub admissible_folds_separate : AdmissibleFoldsSeparate
-admissible_folds_separate program schedule folds p proper here admissible = places_apart program schedule folds p proper here admissible
+pub places_are_admissible : PlacesAreAdmissible
+places_are_admissible program schedule folds p proper here admissible =
+    in_each_array program schedule p (place folds p) (admissible_folds_separate (LivePair program schedule) folds p
+    (λ array x y live e. live.distinct (ap (λ z. (array, z)) e))
+    (λ array fold e. (live_pairs_are_different program schedule array (length fold.basis.rows) p (proper.dimensions array fold e p here), admissible array fold e)))
 
 own_place : (program : Program) (folds : List (ArrayId × Fold)) (p : List ℤ) → AreFoldsOf program folds → (x : Element) → x.0 < length (arrays_of program.params) → place folds p x ≡ x
 own_place program folds p proper x h = by_fold (fold_of folds x.0) refl
@@ -95,15 +103,17 @@ own_place program folds p proper x h = by_fold (fold_of folds x.0) refl
     by_fold (Some fold) e = let low = proper.temporary x.0 fold e in absurd (omega arith)
 
 pub folds_keep_parameters : FoldsKeepParameters
-folds_keep_parameters program folds p proper = record { same_array = λ x. refl; own = own_place program folds p proper }
+folds_keep_parameters program folds p proper = record { in_buffer = λ x. refl; own = own_place program folds p proper; no_other = λ array h. h }
 
-pub compiles_folded : CompilesFolded
-compiles_folded printed source schedule folds plain name params context ends legal proper obeys runs =
-    compiles_source printed source schedule (place folds) plain name params context ends legal
-    (λ p here. admissible_folds_separate source schedule folds p proper here (λ array fold e.
-    obeying_fold_is_admissible source schedule array p fold (proper.dimensions array fold e p here) (obeys p here array fold e)))
+pub compiles_folded : (pairs : ℕ → List ℤ → List ℤ → List ℤ → Type 0) → CompilesFolded pairs
+compiles_folded pairs printed source schedule folds plain name params context ends legal proper live obeys runs =
+    compiles_source unshared printed source schedule (place folds) plain name params context ends legal
+    (λ p here. places_are_admissible source schedule folds p proper here (λ array fold e.
+    (obeying_fold_separates (LivePair source schedule array) fold p
+    (live_pairs_are_different source schedule array (length fold.basis.rows) p (proper.dimensions array fold e p here))
+    (obeys_for (pairs array p) (LivePair source schedule array p) fold p (live p here array) (obeys p here array fold e))).0))
     (λ p here. folds_keep_parameters source folds p proper) runs
 
-pub folded_premises_compile : FoldedPremisesCompile
-folded_premises_compile printed source schedule folds p =
-    compiles_folded printed source schedule folds p.plain p.name p.params p.context p.ends p.legal p.folds_of p.obeys p.runs
+pub folded_premises_compile : (pairs : ℕ → List ℤ → List ℤ → List ℤ → Type 0) → FoldedPremisesCompile pairs
+folded_premises_compile pairs printed source schedule folds p =
+    compiles_folded pairs printed source schedule folds p.plain p.name p.params p.context p.ends p.legal p.folds_of p.live p.obeys p.runs

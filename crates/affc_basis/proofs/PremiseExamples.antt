@@ -9,7 +9,7 @@ use Rattle.affc_ast.specs.declared.tree.Ix.TheBlock.{shape-the_row-Ix-0, hidden-
 use Rattle.affc_ast.specs.declared.tree.Val.TheBlock.{shape-the_row-Val-0, hidden-the_row-Val-0}
 use Rattle.affc_ast.specs.declared.tree.Stmt.TheBlock.{shape-the_row-Stmt-0, hidden-the_row-Stmt-0}
 use Rattle.std.proofs.lemmas.List.Elements.{All-nil, All-cons, All-head}
-use Rattle.affc_rows.specs.Forms.{Affine, HaveColumns, value}
+use Rattle.affc_rows.specs.Forms.{HaveColumns, value}
 use Rattle.affc_ast.specs.declared.tree.ArrayId.{ArrayId}
 use Rattle.affc_ast.specs.declared.tree.Decl.{Decl}
 use Rattle.affc_trace.specs.Law.{IsIn}
@@ -20,7 +20,7 @@ use Rattle.affc_basis.specs.declared.fold.Fold.{Fold}
 use Rattle.affc_basis.specs.FoldLists.{IsFoldIn}
 use Rattle.affc_basis.specs.Folds.{fold_of}
 use Rattle.affc_basis.specs.Examples.{number, by_modulus, onto, folds, with_iterator, two_dimensions, FoldsOfTheBlur, ListsOfFolds, one_more, two_more, BlurLiesWithin}
-use Rattle.affc_basis.specs.Laws.{AreFoldsOf, LiesWithin}
+use Rattle.affc_basis.specs.Laws.{AreFoldsOf, IsWithinExtents, LiesWithin}
 
 -- ---- the fold
 
@@ -70,7 +70,7 @@ folds_of_the_blur = (are_folds, λ proper. not_temporary (proper.temporary 1 (on
 -- ---- the extent, at N = 2
 
 abbrev Inside : List ℤ → Type 0
-Inside x = (k : ℕ) (extent : Affine) → slice_get (two_more ∷ []) k ≡ Some extent → (pos 0 ≤ℤ get_or x k (pos 0)) × (get_or x k (pos 0) <ℤ value extent two)
+Inside x = IsWithinExtents two (two_more ∷ []) x
 
 below_four : (n : ℕ) (v : ℤ) → v ≡ pos 4 → n ≤ 3 → (pos 0 ≤ℤ pos n) × (pos n <ℤ v)
 below_four n v e h = (omega (arith, ints), omega (arith, ints))

@@ -1,7 +1,7 @@
 //! What may be concluded about folds. Each law is the contract of a function that does nothing.
-ghost use Rattle.std.specs.Prelude.{List, ℤ};
+ghost use Rattle.std.specs.Prelude.{List, ℕ, ℤ};
 ghost use Rattle.affc_basis.specs.Listed.{ListedAreBases};
-ghost use Rattle.affc_basis.specs.Laws.{RowsSeparate, PlacesMeetInTheLattice, SliceIsFound, GreatestIsFound, ObeyingFoldSeparates, ObeyingFoldIsAdmissible, WholeArrayObeys, AdmissibleFoldsSeparate, FoldsKeepParameters, LeastMarkIsNeed, NeedIsLeast, ObeyingIsEnough, GreatestIsUnique, NeedIsUnique, GreatestValueIsUnique, CostIsUnique, FoldsAreFound, CompilesFolded, FoldedPremisesCompile};
+ghost use Rattle.affc_basis.specs.Laws.{RowsSeparate, PlacesMeetInTheLattice, SliceIsFound, GreatestIsFound, ObeyingFoldSeparates, WholeArrayObeys, AdmissibleFoldsSeparate, LivePairsAreDifferent, LivePairsLieWithin, PlacesAreAdmissible, FoldsKeepParameters, LeastMarkIsNeed, NeedIsLeast, ObeyingIsEnough, GreatestIsUnique, NeedIsUnique, GreatestValueIsUnique, CostIsUnique, FoldsAreFound, CompilesFolded, FoldedPremisesCompile};
 
 /// Conflicts over a context: which elements of an array, by their subscripts, are to have different places. The live
 /// pairs of a program are such pairs; the laws over `C` hold of any.
@@ -10,6 +10,12 @@ pub trait Conflicts {
     ghost in_context: { List ℤ → Type 0 };
     /// Which two elements are a pair, at values of the parameters.
     ghost pairs: { List ℤ → List ℤ → List ℤ → Type 0 };
+}
+
+/// Conflicts of each array, by its number: those of `LivePair program schedule`, or others.
+pub trait ArrayConflicts {
+    /// Which two elements of an array are a pair, at values of the parameters.
+    ghost pairs: { ℕ → List ℤ → List ℤ → List ℤ → Type 0 };
 }
 
 /// A basis loses nothing: elements that lie apart along no row are equal.
@@ -42,19 +48,21 @@ pub fn obeying_fold_separates<C: Conflicts>()
     ensures law { ObeyingFoldSeparates C.pairs }
 {}
 
-/// And so they make a fold that is admissible for live pairs.
-pub fn obeying_fold_is_admissible()
-    ensures law { ObeyingFoldIsAdmissible }
-{}
-
 /// An array that is left whole obeys.
-pub fn whole_array_obeys()
-    ensures law { WholeArrayObeys }
+pub fn whole_array_obeys<C: Conflicts>()
+    ensures law { WholeArrayObeys C.pairs }
 {}
 
-/// No elements that are live together have one place, where each fold is admissible.
-pub fn admissible_folds_separate()
-    ensures law { AdmissibleFoldsSeparate }
+/// No two elements of a pair have one place, where each fold is admissible.
+pub fn admissible_folds_separate<C: ArrayConflicts>()
+    ensures law { AdmissibleFoldsSeparate C.pairs }
+{}
+
+/// The live pairs of a program are such pairs, and so no elements that are live together have one place.
+pub fn live_pairs_are_pairs()
+    ensures different { LivePairsAreDifferent }
+    ensures within { LivePairsLieWithin }
+    ensures admissible { PlacesAreAdmissible }
 {}
 
 /// Folds of temporaries leave the parameter arrays as they are.
@@ -99,11 +107,11 @@ pub fn folds_are_found()
 {}
 
 /// A program that runs the target of a legal schedule, at the places of folds that obey, compiles its source.
-pub fn compiles_folded()
-    ensures law { CompilesFolded }
+pub fn compiles_folded<C: ArrayConflicts>()
+    ensures law { CompilesFolded C.pairs }
 {}
 
 /// The same with the premises as a record.
-pub fn folded_premises_compile()
-    ensures law { FoldedPremisesCompile }
+pub fn folded_premises_compile<C: ArrayConflicts>()
+    ensures law { FoldedPremisesCompile C.pairs }
 {}

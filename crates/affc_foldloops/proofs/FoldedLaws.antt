@@ -10,6 +10,7 @@ use Rattle.affc_ast.specs.Meaning.{arrays_of}
 use Rattle.affc_ast.specs.Values.{is_within}
 use Rattle.affc_trace.specs.declared.schedule.Schedule.{Schedule}
 use Rattle.affc_trace.specs.declared.schedule.Schedule.TheVariants.{Time}
+use Rattle.affc_trace.specs.Dataflow.{LivePair}
 use Rattle.affc_trace.specs.Laws.{IsInContext}
 use Rattle.affc_domain.specs.Arrays.{declared_arrays, extents_at}
 use Rattle.affc_domain.proofs.Lists.{both_true, length_map}
@@ -65,16 +66,16 @@ module _ (source : Program) (schedule : Schedule) (folds : List (ArrayId × Fold
 pub folded_loops_compile : FoldedLoopsCompile
 folded_loops_compile other source schedule folds has r =
     let same : HaveSameLoops source other = record { same_rounds = r.same_rounds; same_ranges = ap number_ranges r.params } in
-    compiles_folded (target_program other schedule) source schedule folds (plain_has_no_locals source (has.loops).plain)
+    compiles_folded (LivePair source schedule) (target_program other schedule) source schedule folds (plain_has_no_locals source (has.loops).plain)
     (same_name other schedule ∙ r.name) (same_params other schedule ∙ r.params) (same_context other schedule ∙ r.context)
-    has.ends has.legal (folds_proper source schedule folds has) has.obeys
+    has.ends has.legal (folds_proper source schedule folds has) (λ p inside array x y live. live) has.obeys
     (λ p store fits. loops_run_placed other source schedule (place folds p) p store has.loops same (Fits.ranges fits) (r.replaces p (record { ranges = Fits.ranges fits; context = Fits.context fits })))
 
 pub folded_between_compile : FoldedBetweenCompile
 folded_between_compile other source n maps ends folds has r times =
     let same : HaveSameLoops source other = record { same_rounds = r.same_rounds; same_ranges = ap number_ranges r.params } in
-    compiles_folded (program_between other maps ends) source (Time n maps) folds (plain_has_no_locals source (has.loops).plain)
-    r.name r.params r.context has.ends has.legal (folds_proper source (Time n maps) folds has) has.obeys
+    compiles_folded (LivePair source (Time n maps)) (program_between other maps ends) source (Time n maps) folds (plain_has_no_locals source (has.loops).plain)
+    r.name r.params r.context has.ends has.legal (folds_proper source (Time n maps) folds has) (λ p inside array x y live. live) has.obeys
     (λ p store fits.
     let inside : IsInContext source p = record { ranges = Fits.ranges fits; context = Fits.context fits } in
     between_run_placed other source n maps ends (place folds p) p store has.loops same (Fits.ranges fits) (times p inside) (r.replaces p inside))

@@ -16,6 +16,7 @@ use Rattle.affc_ast.specs.Values.{Scope}
 use Rattle.affc_system.specs.Boxes.{InBox}
 use Rattle.affc_trace.specs.declared.schedule.Schedule.TheVariants.{Time}
 use Rattle.affc_trace.specs.declared.schedule.TimeMap.{TimeMap}
+use Rattle.affc_trace.specs.Dataflow.{unshared}
 use Rattle.affc_trace.specs.Effects.{effect, effects}
 use Rattle.affc_trace.specs.Law.{IsIn, placed}
 use Rattle.affc_trace.specs.Laws.{RunsTarget}
@@ -255,9 +256,9 @@ between_run_target source n maps ends p store h within times extents keeps =
 pub between_compile : BetweenCompile
 between_compile source n maps ends h times terminates legal =
     let plain = plain_has_no_locals source h.plain in
-    compiles_source (program_between source maps ends) source (Time n maps) (λ p x. x) plain refl refl refl terminates legal
+    compiles_source unshared (program_between source maps ends) source (Time n maps) (λ p x. x) plain refl refl refl terminates legal
     (λ p here x y live. live.distinct)
-    (λ p here. record { same_array = λ x. refl; own = λ x l. refl })
+    (λ p here. record { in_buffer = λ x. refl; own = λ x l. refl; no_other = λ array h. h })
     (λ p store fits.
     let e = terminates p store fits in
     let safe = ended_is_safe source p store e.0 plain fits e.1 in

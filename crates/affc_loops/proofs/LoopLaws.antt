@@ -8,6 +8,7 @@ use Rattle.affc_ast.specs.Trace.{trace}
 use Rattle.affc_trace.specs.declared.schedule.Schedule.{Schedule}
 use Rattle.affc_trace.specs.declared.schedule.Schedule.TheVariants.{Source, Time}
 use Rattle.affc_trace.specs.declared.schedule.TimeMap.{TimeMap}
+use Rattle.affc_trace.specs.Dataflow.{unshared}
 use Rattle.affc_trace.specs.Effects.{effect, effects, has_no_locals}
 use Rattle.affc_trace.specs.Law.{placed}
 use Rattle.affc_trace.specs.Laws.{RunsTarget}
@@ -85,9 +86,9 @@ same_context source (Time n maps) = refl
 pub loops_compile : LoopsCompile
 loops_compile source schedule h ends legal =
     let plain = plain_has_no_locals source h.plain in
-    compiles_source _ source schedule (λ p x. x) plain (same_name source schedule) (same_params source schedule) (same_context source schedule) ends legal
+    compiles_source unshared _ source schedule (λ p x. x) plain (same_name source schedule) (same_params source schedule) (same_context source schedule) ends legal
     (λ p here x y live. live.distinct)
-    (λ p here. record { same_array = λ x. refl; own = λ x l. refl })
+    (λ p here. record { in_buffer = λ x. refl; own = λ x l. refl; no_other = λ array h. h })
     (λ p store fits.
     let e = ends p store fits in
     let safe = ended_is_safe source p store e.0 plain fits e.1 in

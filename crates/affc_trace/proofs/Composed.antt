@@ -17,7 +17,7 @@ use Rattle.affc_trace.specs.Law.{Effect, placed, stores_of, as_stored, HandedIn}
 use Rattle.affc_trace.specs.Orders.{KeepsArrays}
 use Rattle.affc_trace.specs.Target.{target}
 use Rattle.affc_trace.specs.Effects.{effect}
-use Rattle.affc_trace.specs.Dataflow.{same_element, OneArray}
+use Rattle.affc_trace.specs.Dataflow.{same_element, Buffers, OneBuffer}
 use Rattle.affc_trace.specs.Laws.{IsInContext, HoldsParameters, LeavesParameters, KeepsParameters, IsUnwritten, in_target_order, FittingDataIsKept, LoadsWithoutSource, EqualLastStores, KeepsSources, RunsAsSource, CompilesSource, PremisesCompile}
 use Rattle.affc_trace.proofs.LastStores.{equal_last_stores}
 use Rattle.affc_trace.proofs.Legality.{keeps_sources, loads_are_given}
@@ -39,24 +39,27 @@ holds_parameters source p store fits x u e =
     slice_get_within (arrays_of source.params) x.0 d.0 d.1
 
 -- an element of a parameter array shares its place with no other
-alone : (source : Program) (place : Element → Element) → KeepsParameters source place → (x y : Element) → x.0 < length (arrays_of source.params) → place x ≡ place y → x ≡ y
-alone source place keeps x y in_parameter e =
-    let n : x.0 ≡ y.0 = sym (keeps.same_array x) ∙ ap (λ z. z.0) e ∙ keeps.same_array y in
-    sym (keeps.own x in_parameter) ∙ e ∙ keeps.own y (subst (λ m. m < length (arrays_of source.params)) n in_parameter)
+alone : (buffer : Buffers) (source : Program) (place : Element → Element) → KeepsParameters buffer source place
+    → (x y : Element) → x.0 < length (arrays_of source.params) → place x ≡ place y → x ≡ y
+alone buffer source place keeps x y in_parameter e =
+    let own : place x ≡ x = keeps.own x in_parameter in
+    let here : x.0 ≡ buffer y.0 = ap (λ z. z.0) (sym own ∙ e) ∙ keeps.in_buffer y in
+    sym own ∙ e ∙ keeps.own y (keeps.no_other y.0 (subst (λ m. m < length (arrays_of source.params)) here in_parameter))
 
-keeps_arrays : (source : Program) (store : Store) (place : Element → Element) → HoldsParameters source store → KeepsParameters source place → KeepsArrays OneArray place (at store)
-keeps_arrays source store place holds keeps = record {
-  apart = λ x y e. sym (keeps.same_array x) ∙ ap (λ z. z.0) e ∙ keeps.same_array y;
-  own = λ x y u h e. alone source place keeps x y (holds x u h) e;
+keeps_arrays : (buffer : Buffers) (source : Program) (store : Store) (place : Element → Element)
+    → HoldsParameters source store → KeepsParameters buffer source place → KeepsArrays (OneBuffer buffer) place (at store)
+keeps_arrays buffer source store place holds keeps = record {
+  apart = λ x y e. sym (keeps.in_buffer x) ∙ ap (λ z. z.0) e ∙ keeps.in_buffer y;
+  own = λ x y u h e. alone buffer source place keeps x y (holds x u h) e;
 }
 
 handed : (source : Program) (store : Store) (place : Element → Element) → HoldsParameters source store → LeavesParameters source place → HandedIn place (at store) (at store)
 handed source store place holds leaves x u e = ap (at store) (leaves x (holds x u e)) ∙ e
 
 pub fitting_data_is_kept : FittingDataIsKept
-fitting_data_is_kept source p store place fits keeps =
+fitting_data_is_kept buffer source p store place fits keeps =
     let holds = holds_parameters source p store fits in
-    (holds, keeps_arrays source store place holds keeps, handed source store place holds keeps.own)
+    (holds, keeps_arrays buffer source store place holds keeps, handed source store place holds keeps.own)
 
 -- ---- the law of last stores, and its premise
 
@@ -66,11 +69,11 @@ equal_last_stores_law source p store end place v order plain holds ended values 
     (ended_run source p store end plain ended ∙ ap Some values) same (handed source store place holds leaves)
 
 pub keeps_sources_law : KeepsSources
-keeps_sources_law source schedule p store end place plain holds ended legal fold keeps =
+keeps_sources_law buffer source schedule p store end place plain holds ended legal fold keeps =
     let its : Instance → Effect Element ℕ = effect source p in
     let values = values_by_instance source p store end plain ended in
-    keeps_sources its same_element same_element same_element_decides same_element_decides OneArray place (at store) (trace source p) (target source schedule p)
-    (target_is_reordered_law source schedule p) legal fold (keeps_arrays source store place holds keeps)
+    keeps_sources its same_element same_element same_element_decides same_element_decides (OneBuffer buffer) place (at store) (trace source p) (target source schedule p)
+    (target_is_reordered_law source schedule p) legal fold (keeps_arrays buffer source store place holds keeps)
     (loads_are_given its same_element (at store) values.0 (trace source p) (ended_run source p store end plain ended ∙ ap Some values.1))
 
 pub loads_without_source : LoadsWithoutSource
@@ -131,18 +134,18 @@ same_where test s t g h same =
     by_test q false e = refl
 
 pub runs_as_source : RunsAsSource
-runs_as_source printed source schedule p store end place plain params fits ended legal fold keeps runs =
+runs_as_source buffer printed source schedule p store end place plain params fits ended legal fold keeps runs =
     let its : Instance → Effect Element ℕ = effect source p in
     let values = values_by_instance source p store end plain ended in
     let v : Instance → ℕ = values.0 in
     let holds = holds_parameters source p store fits in
-    let same = keeps_sources_law source schedule p store end place plain holds ended legal fold keeps in
+    let same = keeps_sources_law buffer source schedule p store end place plain holds ended legal fold keeps in
     let run = equal_last_stores_law source p store end place v (target source schedule p) plain holds ended values.1 keeps.own same in
     let last = ends printed p store (as_stored (placed place its) v (target source schedule p))
     (ap (stores_of same_element (at store) []) runs.does ∙ run) (λ c n e. no_other c (runs.only_unwritten c n e)) in
     let sorted : T (is_sorted element_cmp store) = subst T (sym fits.ordered) tt in
     let contents : (x : Element) → x.0 < length (arrays_of source.params) → at last.0.store x ≡ at end.store x =
-    λ x h. same_contents printed source schedule p store end last.0 place v ended last.1 legal values.1 last.2 x (keeps.own x h) (λ y e. alone source place keeps x y h e) in
+    λ x h. same_contents printed source schedule p store end last.0 place v ended last.1 legal values.1 last.2 x (keeps.own x h) (λ y e. alone buffer source place keeps x y h e) in
     record {
       follows = record {
         source_end = end;
@@ -159,16 +162,16 @@ runs_as_source printed source schedule p store end place plain params fits ended
     }
 
 pub compiles_source : CompilesSource
-compiles_source printed source schedule place plain name params context ends legal fold keeps runs = record {
+compiles_source buffer printed source schedule place plain name params context ends legal fold keeps runs = record {
   name = name;
   parameters = params;
   context = context;
   runs = λ p store fits.
       let end = ends p store fits in
       let here : IsInContext source p = record { ranges = fits.ranges; context = fits.context } in
-      runs_as_source printed source schedule p store end.0 (place p) plain params fits end.1 (legal p here) (fold p here) (keeps p here) (runs p store fits);
+      runs_as_source buffer printed source schedule p store end.0 (place p) plain params fits end.1 (legal p here) (fold p here) (keeps p here) (runs p store fits);
 }
 
 pub premises_compile : PremisesCompile
-premises_compile printed source schedule place p =
-    compiles_source printed source schedule place p.plain p.name p.params p.context p.ends p.legal p.admissible p.keeps p.runs
+premises_compile buffer printed source schedule place p =
+    compiles_source buffer printed source schedule place p.plain p.name p.params p.context p.ends p.legal p.admissible p.keeps p.runs

@@ -26,6 +26,17 @@ same_instance a b = is_eq (instance_cmp a b)
 abbrev pub OneArray : Element → Element → Type 0
 OneArray x y = x.0 ≡ y.0
 
+-- the number of the array whose buffer each array's elements are put into
+abbrev pub Buffers : Type 0
+Buffers = ℕ → ℕ
+
+-- each array has its own
+abbrev pub unshared : Buffers
+unshared array = array
+
+abbrev pub OneBuffer : Buffers → Element → Element → Type 0
+OneBuffer buffer x y = buffer x.0 ≡ buffer y.0
+
 -- ---- The notions of Orders, at a program's instances
 
 -- at p no dependence is turned round
@@ -62,9 +73,9 @@ AreLive program schedule p x y = orders.LivePair (effect program p) same_element
 abbrev pub LivePair : Program → Schedule → (array : ℕ) → (p : List ℤ) → List ℤ → List ℤ → Type 0
 LivePair program schedule array p x y = AreLive program schedule p (array, x) (array, y)
 
--- no two elements that are live together have one place
-abbrev pub Admissible : Program → Schedule → (p : List ℤ) → (Element → Element) → Type 0
-Admissible program schedule p place = orders.Admissible (effect program p) same_element OneArray place (trace program p) (target program schedule p)
+-- No two elements of one buffer that are live together have one place. Where no buffer is shared, these are the elements of one array.
+abbrev pub Admissible : Buffers → Program → Schedule → (p : List ℤ) → (Element → Element) → Type 0
+Admissible buffer program schedule p place = orders.Admissible (effect program p) same_element (OneBuffer buffer) place (trace program p) (target program schedule p)
 
 -- ---- Lists of them
 

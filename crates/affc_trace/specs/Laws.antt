@@ -17,7 +17,7 @@ use Rattle.affc_trace.specs.Law.{IsIn, placed, stores_of, as_stored, SameLastSto
 use Rattle.affc_trace.specs.Orders.{Earlier, IsReordered, KeepsArrays}
 use Rattle.affc_trace.specs.Target.{time_cmp, ordered, target, IsInOrder, numbers_in, IsScheduleOf}
 use Rattle.affc_trace.specs.Effects.{effect, effects, has_no_locals}
-use Rattle.affc_trace.specs.Dataflow.{same_element, OneArray, Legal, Violates, IsSource, IsLastWrite, NoneWrites, AreLive, Admissible, source, live_pairs, violations}
+use Rattle.affc_trace.specs.Dataflow.{same_element, Buffers, OneBuffer, Legal, Violates, IsSource, IsLastWrite, NoneWrites, AreLive, Admissible, source, live_pairs, violations}
 
 -- ---- Premises
 
@@ -34,10 +34,11 @@ HoldsParameters program store = (x : Element) (v : ℕ) → at store x ≡ Some 
 abbrev pub LeavesParameters : Program → (Element → Element) → Type 0
 LeavesParameters program place = (x : Element) → x.0 < length (arrays_of program.params) → place x ≡ x
 
--- and arrays stay apart
-pub record KeepsParameters (program : Program) (place : Element → Element) : Type 0 where
-  pub same_array : (x : Element) → (place x).0 ≡ x.0
+-- An element's place is in its array's buffer, and no other array is put into one that is handed in.
+pub record KeepsParameters (buffer : Buffers) (program : Program) (place : Element → Element) : Type 0 where
+  pub in_buffer : (x : Element) → (place x).0 ≡ buffer x.0
   pub own : LeavesParameters program place
+  pub no_other : (array : ℕ) → buffer array < length (arrays_of program.params) → array < length (arrays_of program.params)
 
 abbrev pub IsUnwritten : Cause → Type 0
 IsUnwritten (Unwritten instance access) = Unit {0}
@@ -56,15 +57,15 @@ abbrev pub in_target_order : Schedule → List ℤ → List Stored → List Stor
 in_target_order schedule p = ordered (λ (s : Stored). s.instance) schedule p
 
 -- What is shown of a printed program, so that it compiles its source: see CompilesSource, whose premises these are.
-pub record SourcePremises (printed source : Program) (schedule : Schedule) (place : List ℤ → Element → Element) : Type 0 where
+pub record SourcePremises (buffer : Buffers) (printed source : Program) (schedule : Schedule) (place : List ℤ → Element → Element) : Type 0 where
   pub plain : IsTrue (has_no_locals source)
   pub name : printed.name ≡ source.name
   pub params : printed.params ≡ source.params
   pub context : printed.context ≡ source.context
   pub ends : (p : List ℤ) (store : Store) → Fits source p store → (end : State) × (meaning source p store ≡ Ended end)
   pub legal : (p : List ℤ) → IsInContext source p → Legal source schedule p
-  pub admissible : (p : List ℤ) → IsInContext source p → Admissible source schedule p (place p)
-  pub keeps : (p : List ℤ) → IsInContext source p → KeepsParameters source (place p)
+  pub admissible : (p : List ℤ) → IsInContext source p → Admissible buffer source schedule p (place p)
+  pub keeps : (p : List ℤ) → IsInContext source p → KeepsParameters buffer source (place p)
   pub runs : (p : List ℤ) (store : Store) → Fits source p store → RunsTarget printed source schedule (place p) p store
 
 -- ---- Laws
@@ -128,9 +129,9 @@ ValuesByInstance = (source : Program) (p : List ℤ) (store : Store) (end : Stat
 -- Data that fit give values to parameter arrays alone, and so they are found at their places, each at a place that no other
 -- element has, where parameters keep theirs.
 abbrev pub FittingDataIsKept : Type 0
-FittingDataIsKept = (source : Program) (p : List ℤ) (store : Store) (place : Element → Element)
-    → Fits source p store → KeepsParameters source place
-    → HoldsParameters source store × KeepsArrays OneArray place (at store) × HandedIn place (at store) (at store)
+FittingDataIsKept = (buffer : Buffers) (source : Program) (p : List ℤ) (store : Store) (place : Element → Element)
+    → Fits source p store → KeepsParameters buffer source place
+    → HoldsParameters source store × KeepsArrays (OneBuffer buffer) place (at store) × HandedIn place (at store) (at store)
 
 -- Where the run ends and parameter arrays alone hold values at the start, a load without a source is of an element of a
 -- parameter array, which is handed in with a value.
@@ -153,32 +154,32 @@ EqualLastStores = (source : Program) (p : List ℤ) (store : Store) (end : State
 
 -- A legal schedule and admissible places give the premise of that law, where the source's run ends.
 abbrev pub KeepsSources : Type 0
-KeepsSources = (source : Program) (schedule : Schedule) (p : List ℤ) (store : Store) (end : State) (place : Element → Element)
+KeepsSources = (buffer : Buffers) (source : Program) (schedule : Schedule) (p : List ℤ) (store : Store) (end : State) (place : Element → Element)
     → IsTrue (has_no_locals source) → HoldsParameters source store → meaning source p store ≡ Ended end
-    → Legal source schedule p → Admissible source schedule p place → KeepsParameters source place
+    → Legal source schedule p → Admissible buffer source schedule p place → KeepsParameters buffer source place
     → SameLastStores same_element same_element place (effect source p) (trace source p) (target source schedule p)
 
 -- So a printed program that runs the target follows the source, and the output arrays hold the same at both ends.
 abbrev pub RunsAsSource : Type 0
-RunsAsSource = (printed source : Program) (schedule : Schedule) (p : List ℤ) (store : Store) (end : State) (place : Element → Element)
+RunsAsSource = (buffer : Buffers) (printed source : Program) (schedule : Schedule) (p : List ℤ) (store : Store) (end : State) (place : Element → Element)
     → IsTrue (has_no_locals source) → printed.params ≡ source.params → Fits source p store → meaning source p store ≡ Ended end
-    → Legal source schedule p → Admissible source schedule p place → KeepsParameters source place
+    → Legal source schedule p → Admissible buffer source schedule p place → KeepsParameters buffer source place
     → RunsTarget printed source schedule place p store
     → RunsAs printed source (in_target_order schedule p) place p store
 
 -- The same for all data that fit.
 abbrev pub CompilesSource : Type 0
-CompilesSource = (printed source : Program) (schedule : Schedule) (place : List ℤ → Element → Element)
+CompilesSource = (buffer : Buffers) (printed source : Program) (schedule : Schedule) (place : List ℤ → Element → Element)
     → IsTrue (has_no_locals source)
     → printed.name ≡ source.name → printed.params ≡ source.params → printed.context ≡ source.context
     → ((p : List ℤ) (store : Store) → Fits source p store → (end : State) × (meaning source p store ≡ Ended end))
     → ((p : List ℤ) → IsInContext source p → Legal source schedule p)
-    → ((p : List ℤ) → IsInContext source p → Admissible source schedule p (place p))
-    → ((p : List ℤ) → IsInContext source p → KeepsParameters source (place p))
+    → ((p : List ℤ) → IsInContext source p → Admissible buffer source schedule p (place p))
+    → ((p : List ℤ) → IsInContext source p → KeepsParameters buffer source (place p))
     → ((p : List ℤ) (store : Store) → Fits source p store → RunsTarget printed source schedule (place p) p store)
     → Compiles printed source (in_target_order schedule) place
 
 -- With the premises as a record.
 abbrev pub PremisesCompile : Type 0
-PremisesCompile = (printed source : Program) (schedule : Schedule) (place : List ℤ → Element → Element)
-    → SourcePremises printed source schedule place → Compiles printed source (in_target_order schedule) place
+PremisesCompile = (buffer : Buffers) (printed source : Program) (schedule : Schedule) (place : List ℤ → Element → Element)
+    → SourcePremises buffer printed source schedule place → Compiles printed source (in_target_order schedule) place
