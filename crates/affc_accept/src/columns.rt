@@ -66,11 +66,11 @@ fn tree_exchanged(alloc: Global, tree: &Quast, first: u32, second: u32) -> Resul
                 rest,
             })
         }
-        Quast::Source { statement, forms } => {
+        Quast::Source { part, forms } => {
             let mut exchanged = Items::new(alloc);
             add_exchanged(alloc, forms.as_slice(), first, second, &mut exchanged)?;
             Ok(Quast::Source {
-                statement: *statement,
+                part: *part,
                 forms: exchanged,
             })
         }

@@ -27,10 +27,10 @@ fn tree_copied(tree: &Quast, alloc: Global) -> Result<Quast, AllocError>
                 rest,
             })
         }
-        Quast::Source { statement, forms } => {
+        Quast::Source { part, forms } => {
             let forms = copied_forms(alloc, forms.as_slice())?;
             Ok(Quast::Source {
-                statement: *statement,
+                part: *part,
                 forms,
             })
         }

@@ -9,11 +9,11 @@ ghost use Rattle.affc_quast.specs.Trees.{Div};
 ghost use Rattle.affc_dataflow.specs.Guesses.{CoversOn, IsPath, IsQuotientRange, divided_path};
 
 use crate::guess::Depth;
+use affc_nest::Division;
 use affc_flow::load::Load;
 use affc_flow::questions::{Place, Unasked, gap, push_row, push_spread};
 use affc_order::columns::spread;
 use affc_quast::Quast;
-use affc_quast::leaves::Division;
 use affc_rows::Form;
 use affc_system::{BoxOf, System, interval};
 use smallvec::SmallVec;

@@ -15,11 +15,11 @@ use crate::growth::{
 use crate::guess::{Depth, first_open, has_none_with, joined, leaf_of, sides_of};
 use crate::samples::{Help, Parting, helped};
 use crate::tested::{input_leaf, is_narrow};
+use affc_nest::Division;
 use affc_drafts::{Candidate, Guess, ROOM, drafts};
 use affc_flow::load::Load;
 use affc_flow::questions::Place;
 use affc_quast::Quast;
-use affc_quast::leaves::Division;
 use affc_rows::Form;
 use affc_split::{Budget, Stop};
 use affc_system::BoxOf;
@@ -556,7 +556,7 @@ fn size_of(tree: &Quast) -> u32 {
             rest,
         } => size_of(rest).saturating_add(1),
         Quast::Source {
-            statement: _statement,
+            part: _part,
             forms: _forms,
         } => 1,
         Quast::Input => 1,

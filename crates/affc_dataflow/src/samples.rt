@@ -7,6 +7,7 @@ ghost use Rattle.affc_dataflow.specs.Searches.{IsLoad};
 
 use crate::growth::{Growth, Site, fitted_candidate};
 use crate::guess::first_open;
+use affc_nest::Division;
 use affc_ast::tree::Instance;
 use affc_drafts::{Candidate, through, value_of};
 use affc_flow::asking::{Chosen, store_for};
@@ -15,7 +16,6 @@ use affc_flow::load::Load;
 use affc_flow::questions::{Place, Question, Unasked, gap};
 use affc_latest::{Reading, source_of};
 use affc_order::order::shared;
-use affc_quast::leaves::Division;
 use affc_rows::Form;
 use affc_split::{Answer, Budget, Stop, decide_any, within_reach};
 use sqlite_items::Items;

@@ -53,7 +53,7 @@ fn named(alloc: Global, columns: u32, instance: &Instance) -> Result<Quast, Allo
     let iterators = instance.iterators.as_slice();
     add_numbers(alloc, columns, iterators, &mut forms)?;
     Ok(Quast::Source {
-        statement: instance.statement,
+        part: instance.statement,
         forms,
     })
 }

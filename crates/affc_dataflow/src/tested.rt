@@ -172,7 +172,7 @@ pub(crate) fn source_leaf(
     }
     let forms = copied(alloc, chosen.forms)?;
     Ok(Some(Quast::Source {
-        statement: chosen.writer.statement,
+        part: chosen.writer.part,
         forms,
     }))
 }

@@ -14,13 +14,13 @@ use crate::solved::{
 };
 use crate::strides::{ROOM, floored};
 use crate::telling::telling_rows;
+use affc_nest::Division;
 use affc_ast::tree::Instance;
 use affc_flow::asking::store_for;
 use affc_flow::listing::images_of;
 use affc_flow::load::Load;
 use affc_flow::questions::{Unasked, add_padded, at_images, count};
 use affc_order::order::shared;
-use affc_quast::leaves::Division;
 use affc_rows::Form;
 use sqlite_items::Items;
 use std::alloc::{AllocError, Global};

@@ -53,7 +53,7 @@ module _ (nest : Nest) (n : IsNest nest) (trees : List Tree) (limits : KeepLimit
     writes = record { there = k.of_leaf.writer_in; alive = k.of_leaf.writer_alive };
   }
 
-  pub named_has : HasForms nest k.leaf.columns k.of_leaf.named.statement k.of_leaf.named.iterators
+  pub named_has : HasForms nest k.leaf.columns k.of_leaf.named.part k.of_leaf.named.iterators
   named_has = seated.path.named k.of_leaf.named k.of_leaf.names
 
   pub load_among : IsIn k.load k.reader.accesses

@@ -146,7 +146,7 @@ module _ (program : Program) (has : HasNest program) (trees : List Tree) (schedu
         leaf_is_named k.tree (p ++ t.bs) t.qs k.leaf (subst (λ n. Shaped n k.tree) path_long shape) (subst (λ n. IsIn k.leaf (leaves_of n k.tree)) path_long k.leaf_in) t.q_long facts_at.path
 
     abbrev named_instance : Instance
-    named_instance = record { statement = k.of_leaf.named.statement; iterators = values_of k.of_leaf.named.iterators ((p ++ t.bs) ++ t.qs) }
+    named_instance = record { statement = k.of_leaf.named.part; iterators = values_of k.of_leaf.named.iterators ((p ++ t.bs) ++ t.qs) }
 
     read_events : map (element_at (p ++ t.bs)) k.reader.accesses ≡ loads_of program p (instance_of k.reader t.bs) ++ store_of program p (instance_of k.reader t.bs) ∷ []
     read_events = events_are program has p l k.reader t.bs t.reads

@@ -10,7 +10,7 @@ use Rattle.affc_system.specs.Pairs.{WithinReach}
 use Rattle.affc_system.proofs.BoxLemmas.{corner_in_box, corner_is_corner, value_least}
 use Rattle.affc_ast.specs.Index.{floor_of}
 use Rattle.affc_trace.proofs.Runs.{length_append}
-use Rattle.affc_quast.specs.declared.leaves.Division.{Division}
+use Rattle.affc_nest.specs.declared.divisions.Division.{Division}
 use Rattle.affc_nest.specs.Divisions.{held, quotient_range}
 use Rattle.affc_quast.specs.Leaves.{path_ranges}
 use Rattle.affc_quast.specs.Paths.{IsNear}

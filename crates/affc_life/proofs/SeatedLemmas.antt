@@ -173,13 +173,13 @@ module _ (nest : Nest) (reader : Entry) (leaf : Leaf) (writer : Entry) (s : AreS
   pub writer_forms : HasForms nest (clash_columns nest reader leaf writer) writer.statement (writer_posed nest reader leaf writer).iterators
   writer_forms = its_columns nest s.nested writer s.writes (clash_columns nest reader leaf writer) leaf.columns
 
-  pub named_forms : (named : Posed) → HasForms nest leaf.columns named.statement named.iterators → HasForms nest (clash_columns nest reader leaf writer) named.statement (named_posed nest reader leaf writer named).iterators
+  pub named_forms : (named : Posed) → HasForms nest leaf.columns named.part named.iterators → HasForms nest (clash_columns nest reader leaf writer) named.part (named_posed nest reader leaf writer named).iterators
   named_forms named h = record {
     named = record { entry = h.named.entry; there = h.named.there; loops = length_map (padded (clash_columns nest reader leaf writer)) named.iterators ∙ h.named.loops };
     light = all_padded leaf.columns (clash_columns nest reader leaf writer) named.iterators leaf_first h.light;
   }
 
-  pub named_narrow : (named : Posed) → HasForms nest leaf.columns named.statement named.iterators → All (λ f. length f.coefs ≤ clash_columns nest reader leaf writer) named.iterators
+  pub named_narrow : (named : Posed) → HasForms nest leaf.columns named.part named.iterators → All (λ f. length f.coefs ≤ clash_columns nest reader leaf writer) named.iterators
   named_narrow named h = light_narrow leaf.columns (clash_columns nest reader leaf writer) named.iterators leaf_first h.light
 
   -- ---- Ranges

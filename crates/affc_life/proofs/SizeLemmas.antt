@@ -145,7 +145,7 @@ module _ (program : Program) (has : HasNest program) (named : NamesArrays progra
   six_of : (a : Posed) → HasForms (nest_of program) (columns nest nested trees limits schedule array c k) a.statement a.iterators → length a.iterators ≤ 6
   six_of a h = subst (λ n. n ≤ 6) (sym h.named.loops) (few_numbered nest h.named.entry nested (stands_in nest.entries a.statement h.named.entry h.named.there))
 
-  named_has_forms : HasForms (nest_of program) (columns nest nested trees limits schedule array c k) k.of_leaf.named.statement (named_posed (nest_of program) k.reader k.leaf k.of_leaf.writer k.of_leaf.named).iterators
+  named_has_forms : HasForms (nest_of program) (columns nest nested trees limits schedule array c k) k.of_leaf.named.part (named_posed (nest_of program) k.reader k.leaf k.of_leaf.writer k.of_leaf.named).iterators
   named_has_forms = named_forms nest k.reader k.leaf k.of_leaf.writer seats k.of_leaf.named (named_has nest nested trees limits schedule array c k)
 
   writer_has_forms : HasForms (nest_of program) (columns nest nested trees limits schedule array c k) k.of_leaf.writer.statement (writer_posed (nest_of program) k.reader k.leaf k.of_leaf.writer).iterators

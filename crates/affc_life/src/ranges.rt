@@ -10,8 +10,8 @@ ghost use Rattle.affc_quast.specs.SeenLeaves.{division_seen, leaf_seen};
 ghost use Rattle.affc_life.specs.Asked.{IsLight, AreDivisions, AreSeated};
 ghost use Rattle.affc_life.specs.Clashes.{clash_ranges};
 
-use affc_nest::{Entry, Nest};
-use affc_quast::leaves::{Division, Leaf};
+use affc_nest::{Division, Entry, Nest};
+use affc_quast::leaves::Leaf;
 use affc_rows::Form;
 use affc_system::{BoxOf, interval};
 use std::alloc::AllocError;

@@ -132,8 +132,8 @@ pub fn stored_after(
 ) -> Result<Vec<Items<Form>>, AllocError>
     requires asked { IsScheduled nest.now schedule.now }
     requires seated { AreSeated nest.now reader.now (leaf_seen leaf.now) writer.now }
-    requires named { HasForms nest.now leaf.now.columns named.now.statement named.now.forms }
-    ensures { IfOk result (λ v. v.items ≡ map rows_in (after_named nest.now schedule.now reader.now (leaf_seen leaf.now) (posed named.now.statement named.now.forms) writer.now)) }
+    requires named { HasForms nest.now leaf.now.columns named.now.part named.now.forms }
+    ensures { IfOk result (λ v. v.items ≡ map rows_in (after_named nest.now schedule.now reader.now (leaf_seen leaf.now) (posed named.now.part named.now.forms) writer.now)) }
 {
     let loops = loops_round(writer);
     let columns = columns_in(leaf, writer);
@@ -145,7 +145,7 @@ pub fn stored_after(
         nest,
         schedule,
         columns,
-        named.statement,
+        named.part,
         names.as_slice(),
         writer.statement,
         stores.as_slice(),
@@ -198,9 +198,9 @@ pub(crate) fn add_store(
     requires asked { IsScheduled nest.now schedule.now }
     requires seated { AreSeated nest.now reader.now (leaf_seen leaf.now) writer.now }
     requires load { IsIn load.now reader.now.accesses }
-    requires named { HasForms nest.now leaf.now.columns named.now.statement named.now.forms }
+    requires named { HasForms nest.now leaf.now.columns named.now.part named.now.forms }
     requires store { IsIn store.now writer.now.accesses }
-    ensures { OnOk result (flat_map drafted out.new.items ≡ flat_map drafted out.old.items ++ clashes_of_store nest.now reader.now (leaf_seen leaf.now) writer.now schedule.now load.now (posed named.now.statement named.now.forms) store.now) }
+    ensures { OnOk result (flat_map drafted out.new.items ≡ flat_map drafted out.old.items ++ clashes_of_store nest.now reader.now (leaf_seen leaf.now) writer.now schedule.now load.now (posed named.now.part named.now.forms) store.now) }
 {
     let x = loaded(alloc, nest, reader, load, leaf, writer)?;
     let y = stored(alloc, nest, reader, leaf, writer, store)?;

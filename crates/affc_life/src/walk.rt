@@ -51,9 +51,9 @@ fn add_writer(
     requires reads { IsLiving asked.now.nest.now reader.now }
     requires load { IsIn load.now reader.now.accesses }
     requires path { IsPath asked.now.nest.now (length asked.now.nest.now.params + length reader.now.loops) (leaf_seen leaf.now) }
-    requires named { HasForms asked.now.nest.now leaf.now.columns named.now.statement named.now.forms }
+    requires named { HasForms asked.now.nest.now leaf.now.columns named.now.part named.now.forms }
     requires writer { IsIn writer.now asked.now.nest.now.entries }
-    ensures { OnOk result (flat_map drafted out.new.items ≡ flat_map drafted out.old.items ++ clashes_with asked.now.nest.now asked.now.schedule.now asked.now.array.0 reader.now load.now (leaf_seen leaf.now) (posed named.now.statement named.now.forms) writer.now) }
+    ensures { OnOk result (flat_map drafted out.new.items ≡ flat_map drafted out.old.items ++ clashes_with asked.now.nest.now asked.now.schedule.now asked.now.array.0 reader.now load.now (leaf_seen leaf.now) (posed named.now.part named.now.forms) writer.now) }
 {
     if !writer.alive {
         return Ok(());
@@ -85,9 +85,9 @@ fn add_writers(
     requires reads { IsLiving asked.now.nest.now reader.now }
     requires load { IsIn load.now reader.now.accesses }
     requires path { IsPath asked.now.nest.now (length asked.now.nest.now.params + length reader.now.loops) (leaf_seen leaf.now) }
-    requires named { HasForms asked.now.nest.now leaf.now.columns named.now.statement named.now.forms }
+    requires named { HasForms asked.now.nest.now leaf.now.columns named.now.part named.now.forms }
     requires writers { Each (λ e. IsIn e asked.now.nest.now.entries) writers.now }
-    ensures { OnOk result (flat_map drafted out.new.items ≡ flat_map drafted out.old.items ++ flat_map (clashes_with asked.now.nest.now asked.now.schedule.now asked.now.array.0 reader.now load.now (leaf_seen leaf.now) (posed named.now.statement named.now.forms)) writers.now) }
+    ensures { OnOk result (flat_map drafted out.new.items ≡ flat_map drafted out.old.items ++ flat_map (clashes_with asked.now.nest.now asked.now.schedule.now asked.now.array.0 reader.now load.now (leaf_seen leaf.now) (posed named.now.part named.now.forms)) writers.now) }
 {
     match writers {
         [] => Ok(()),

@@ -263,7 +263,7 @@ reached (Div f (pos (suc k)) rest) xs h =
             (division_met xs q f k h.0 (floor_is k (value f xs)))) (r.1).meets);
       },
     )
-reached (Source s forms) xs h = (record { columns = length xs; rows = []; divisions = []; named = Some (record { statement = s; iterators = forms }) }, record { of_tree = inl refl; width = ap length (append_nil xs); meets = tt })
+reached (Source s forms) xs h = (record { columns = length xs; rows = []; divisions = []; named = Some (record { part = s; iterators = forms }) }, record { of_tree = inl refl; width = ap length (append_nil xs); meets = tt })
 reached Input xs h = (record { columns = length xs; rows = []; divisions = []; named = None }, record { of_tree = inl refl; width = ap length (append_nil xs); meets = tt })
 
 pub leaf_is_reached : LeafIsReached

@@ -47,13 +47,13 @@ LeavesInOrder = leaves_of 2 tree
       columns = 2;
       rows = form (pos 0 ∷ pos 1 ∷ []) (negsuc 0) ∷ [];
       divisions = [];
-      named = Some (record { statement = 0; iterators = form (pos 0 ∷ pos 1 ∷ []) (negsuc 0) ∷ [] });
+      named = Some (record { part = 0; iterators = form (pos 0 ∷ pos 1 ∷ []) (negsuc 0) ∷ [] });
     }
     ∷ record {
       columns = 3;
       rows = form (pos 0 ∷ negsuc 0 ∷ []) (pos 0) ∷ form (pos 0 ∷ pos 1 ∷ negsuc 1 ∷ []) (pos 1) ∷ form (pos 0 ∷ negsuc 0 ∷ pos 2 ∷ []) (pos 0) ∷ [];
       divisions = (form (pos 0 ∷ pos 1 ∷ []) (pos 1), pos 2) ∷ [];
-      named = Some (record { statement = 1; iterators = form (pos 0 ∷ pos 0 ∷ pos 1 ∷ []) (pos 0) ∷ [] });
+      named = Some (record { part = 1; iterators = form (pos 0 ∷ pos 0 ∷ pos 1 ∷ []) (pos 0) ∷ [] });
     }
     ∷ []
 
@@ -72,7 +72,7 @@ abbrev access : Access
 access = record { array = record { 0 = 0 }; subs = [] }
 
 abbrev entry : (statement : ℕ) → List Access → Entry
-entry statement accesses = record { statement = statement; alive = true; loops = []; domain = record { columns = 0; rows = [] }; ranges = []; accesses = accesses }
+entry statement accesses = record { part = statement; statement = statement; alive = true; loops = []; domain = record { columns = 0; rows = [] }; ranges = []; accesses = accesses }
 
 -- statements with one load, with two and with none
 abbrev nest : Nest

@@ -30,7 +30,7 @@ divided columns f by l = record l { rows = division_rows columns f by ++ l.rows;
 abbrev pub leaves_of : (columns : ℕ) → Tree → List Leaf
 leaves_of columns (Test f on off) = map (behind (f ∷ [])) (leaves_of columns on) ++ map (behind (negated f ∷ [])) (leaves_of columns off)
 leaves_of columns (Div f by rest) = map (divided columns f by) (leaves_of (suc columns) rest)
-leaves_of columns (Source s forms) = record { columns = columns; rows = []; divisions = []; named = Some (record { statement = s; iterators = forms }) } ∷ []
+leaves_of columns (Source s forms) = record { columns = columns; rows = []; divisions = []; named = Some (record { part = s; iterators = forms }) } ∷ []
 leaves_of columns Input = record { columns = columns; rows = []; divisions = []; named = None } ∷ []
 
 -- ---- Ranges

@@ -5,6 +5,7 @@ use Rattle.affc_rows.specs.Forms.{Affine, HaveColumns}
 use Rattle.affc_nest.specs.declared.nest.Access.{Access}
 use Rattle.affc_nest.specs.declared.nest.Entry.{Entry}
 use Rattle.affc_nest.specs.declared.nest.Nest.{Nest}
+use Rattle.affc_nest.specs.Parts.{coordinates}
 use Rattle.affc_quast.specs.Sources.{loads_in, loads_before, tree_of}
 use Rattle.affc_quast.specs.Trees.{Tree, Test, Div, Source, Input, depth_of, divisions_of}
 
@@ -17,27 +18,27 @@ Shaped columns (Div f by rest) = (length f.coefs ≡ columns) × (pos 1 ≤ℤ b
 Shaped columns (Source s forms) = HaveColumns columns forms
 Shaped columns Input = Unit {0}
 
--- A statement that stores the array and can have instances, and a form for each of its loops. Its store is its last access.
-pub record IsStoreOf (nest : Nest) (array statement : ℕ) (forms : List Affine) : Type 0 where
+-- A part that stores the array and can have instances, and a form for each of its coordinates. Its store is its last access.
+pub record IsStoreOf (nest : Nest) (array part : ℕ) (forms : List Affine) : Type 0 where
   pub entry : Entry
-  pub there : slice_get nest.entries statement ≡ Some entry
+  pub there : slice_get nest.entries part ≡ Some entry
   pub alive : IsTrue entry.alive
   pub store : Access
   pub is_store : slice_get entry.accesses (loads_in entry) ≡ Some store
   pub of_array : store.array.0 ≡ array
-  pub loops : length forms ≡ length entry.loops
+  pub each : length forms ≡ coordinates entry
 
--- each instance that the tree names is one of such a statement
+-- each instance that the tree names is one of such a part
 abbrev pub NamesStores : Nest → (array : ℕ) → Tree → Type 0
 NamesStores nest array (Test f on off) = NamesStores nest array on × NamesStores nest array off
 NamesStores nest array (Div f by rest) = NamesStores nest array rest
 NamesStores nest array (Source s forms) = IsStoreOf nest array s forms
 NamesStores nest array Input = Unit {0}
 
--- each load of a nest has a tree, over the parameters and the iterators of its statement
+-- each load of a nest has a tree, over the parameters and the coordinates of its part
 abbrev pub HaveShapes : Nest → List Tree → Type 0
-HaveShapes nest trees = (statement load : ℕ) (e : Entry) → slice_get nest.entries statement ≡ Some e → load < loads_in e
-    → (tree : Tree) × (tree_of nest trees statement load ≡ Some tree) × Shaped (length nest.params + length e.loops) tree
+HaveShapes nest trees = (part load : ℕ) (e : Entry) → slice_get nest.entries part ≡ Some e → load < loads_in e
+    → (tree : Tree) × (tree_of nest trees part load ≡ Some tree) × Shaped (length nest.params + coordinates e) tree
 
 -- ---- Limits
 
@@ -73,8 +74,8 @@ pub record IsTreeWithin (bounds : Bounds) (depth divisions : ℕ) (nest : Nest) 
   pub short : depth_of tree ≤ depth
   pub few : divisions_of tree ≤ divisions
 
--- each load of a nest has such a tree, over the parameters and the iterators of its statement
+-- each load of a nest has such a tree, over the parameters and the coordinates of its part
 pub record AreTreesWithin (bounds : Bounds) (depth divisions : ℕ) (nest : Nest) (trees : List Tree) : Type 0 where
-  pub each : (statement load : ℕ) (e : Entry) (x : Access) → slice_get nest.entries statement ≡ Some e → load < loads_in e → slice_get e.accesses load ≡ Some x
-      → (tree : Tree) × (tree_of nest trees statement load ≡ Some tree) × IsTreeWithin bounds depth divisions nest x.array.0 (length nest.params + length e.loops) tree
+  pub each : (part load : ℕ) (e : Entry) (x : Access) → slice_get nest.entries part ≡ Some e → load < loads_in e → slice_get e.accesses load ≡ Some x
+      → (tree : Tree) × (tree_of nest trees part load ≡ Some tree) × IsTreeWithin bounds depth divisions nest x.array.0 (length nest.params + coordinates e) tree
   pub no_more : length trees ≡ loads_before nest.entries (length nest.entries)

@@ -7,24 +7,24 @@ use Rattle.affc_ast.specs.Index.{floor_of}
 use Rattle.affc_order.specs.Posed.{Posed}
 use Rattle.affc_rows.specs.Forms.{values_of}
 
--- a test whether a form is at least 0; a quotient, rounded down, that is a column more; an instance by forms for its
--- iterators; or none
+-- a test whether a form is at least 0; a quotient, rounded down, that is a column more; an instance by its part and forms
+-- for its coordinates; or none
 pub data Tree : Type 0 where
   Test : (form : Affine) → (on off : Tree) → Tree
   Div : (form : Affine) → (by : ℤ) → (rest : Tree) → Tree
-  Source : (statement : ℕ) → (forms : List Affine) → Tree
+  Source : (part : ℕ) → (forms : List Affine) → Tree
   Input : Tree
 
 -- the instance that is posed there, if one is
 abbrev pub instance_at : Option Posed → List ℤ → Option Instance
 instance_at None xs = None
-instance_at (Some a) xs = Some (record { statement = a.statement; iterators = values_of a.iterators xs })
+instance_at (Some a) xs = Some (record { statement = a.part; iterators = values_of a.iterators xs })
 
 -- the instance that a tree names at a point: that of the leaf to which the point leads
 abbrev pub named_at : Tree → List ℤ → Option Instance
 named_at (Test f on off) xs = if int_le (pos 0) (value f xs) then named_at on xs else named_at off xs
 named_at (Div f by rest) xs = named_at rest (xs ++ floor_of (value f xs) by ∷ [])
-named_at (Source s forms) xs = instance_at (Some (record { statement = s; iterators = forms })) xs
+named_at (Source s forms) xs = instance_at (Some (record { part = s; iterators = forms })) xs
 named_at Input xs = instance_at None xs
 
 -- the quotients on the way to that leaf, outermost first

@@ -9,22 +9,17 @@ ghost use Rattle.affc_quast.specs.Trees.{divisions_of};
 ghost use Rattle.affc_nest.specs.Wide.{IsWide};
 
 use crate::quast::Quast;
-use crate::rows::{add_division, copied, negated};
+use crate::rows::{copied, negated};
+use affc_nest::Division;
+use affc_nest::divisions::add_division;
 use affc_rows::Form;
 use sqlite_items::Items;
 use std::alloc::{AllocError, Global};
 
-/// A form and the number by which it is divided.
-#[derive(Drop)]
-pub struct Division {
-    pub form: Form,
-    pub by: i64,
-}
-
-/// An instance of a statement, with a form for each of its iterators.
+/// An instance of a part, with a form for each of its coordinates.
 #[derive(Drop)]
 pub struct Named {
-    pub statement: u32,
+    pub part: u32,
     pub forms: Items<Form>,
 }
 
@@ -137,11 +132,11 @@ fn with_quotient(
 }
 
 /// Copies of forms.
-fn forms_of(alloc: Global, statement: u32, forms: &[Form]) -> Result<Named, AllocError>
-    ensures { IfOk result (λ n. n ≡ record { statement = statement; forms = forms.now }) }
+fn forms_of(alloc: Global, part: u32, forms: &[Form]) -> Result<Named, AllocError>
+    ensures { IfOk result (λ n. n ≡ record { part = part; forms = forms.now }) }
 {
     Ok(Named {
-        statement,
+        part,
         forms: copied(alloc, forms)?,
     })
 }
@@ -175,8 +170,8 @@ fn add_leaves(
             add_leaves(alloc, more, rest, path.as_slice(), all.as_slice(), out)?;
             Ok(())
         }
-        Quast::Source { statement, forms } => {
-            let named = forms_of(alloc, *statement, forms.as_slice())?;
+        Quast::Source { part, forms } => {
+            let named = forms_of(alloc, *part, forms.as_slice())?;
             add_leaf(alloc, columns, rows, divisions, Some(named), out)
         }
         Quast::Input => add_leaf(alloc, columns, rows, divisions, None, out),

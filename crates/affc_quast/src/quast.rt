@@ -30,16 +30,16 @@ pub enum Quast {
         by: i64,
         rest: Box<Quast>,
     },
-    /// The instance of this statement with a form for each of its iterators.
+    /// The instance of this part with a form for each of its coordinates.
     Source {
-        statement: u32,
+        part: u32,
         forms: Items<Form>,
     },
     /// What was handed in: no instance stores it before.
     Input,
 }
 
-/// A tree for each load, statements and loads in order.
+/// A tree for each load, parts and loads in order.
 #[derive(Drop)]
 pub struct Flow {
     pub trees: Items<Quast>,
@@ -93,11 +93,11 @@ fn leaf_at(
             point.push(quotient)?;
             leaf_at(rest, alloc, point)
         }
-        Quast::Source { statement, forms } => {
+        Quast::Source { part, forms } => {
             let mut iterators = Items::new(alloc);
             add_values(forms.as_slice(), point.as_slice(), &mut iterators)?;
             Ok(Some(Instance {
-                statement: *statement,
+                statement: *part,
                 iterators,
             }))
         }

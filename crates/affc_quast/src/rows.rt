@@ -1,14 +1,10 @@
-//! Rows of tests and divisions.
-ghost use Rattle.std.specs.Prelude.{◌≡◌, ◌+◌, ◌≤◌, ◌++◌, ◌∷◌, [], IfOk, OnOk};
-ghost use Rattle.affc_nest.specs.Domains.{gap_row};
-ghost use Rattle.affc_nest.specs.Questions.{widened};
-ghost use Rattle.affc_nest.specs.Divisions.{multiple, division_rows};
-ghost use Rattle.affc_quast.specs.Leaves.{negated};
+//! Rows of tests, and copies of rows.
+ghost use Rattle.std.specs.Prelude.{◌≡◌, ◌++◌, IfOk, OnOk};
 ghost use Rattle.affc_nest.specs.Wide.{IsWide};
+ghost use Rattle.affc_quast.specs.Leaves.{negated};
 
 use affc_rows::Form;
 use affc_rows::vocabulary::copies;
-use smallvec::SmallVec;
 use sqlite_items::Items;
 use std::alloc::{AllocError, Global};
 

@@ -87,9 +87,9 @@ fn add_between(
     out: &mut Vec<Group>,
 ) -> Result<(), AllocError>
     requires reading { IsReading reading.now }
-    requires named { HasForms reading.now.nest.now reading.now.leaf.now.columns named.now.statement named.now.forms }
+    requires named { HasForms reading.now.nest.now reading.now.leaf.now.columns named.now.part named.now.forms }
     requires writer { IsWriter reading.now.nest.now writer.now.entry.now writer.now.store.now }
-    ensures { OnOk result (flat_map group_systems out.new.items ≡ flat_map group_systems out.old.items ++ between_systems reading.now.nest.now reading.now.reader.now reading.now.load.now (leaf_seen reading.now.leaf.now) writer.now.entry.now writer.now.store.now (posed named.now.statement named.now.forms)) }
+    ensures { OnOk result (flat_map group_systems out.new.items ≡ flat_map group_systems out.old.items ++ between_systems reading.now.nest.now reading.now.reader.now reading.now.load.now (leaf_seen reading.now.leaf.now) writer.now.entry.now writer.now.store.now (posed named.now.part named.now.forms)) }
 {
     let (nest, reader, leaf) = (reading.nest, reading.reader, reading.leaf);
     let entry = writer.entry;
@@ -148,9 +148,9 @@ fn add_between_of(
     out: &mut Vec<Group>,
 ) -> Result<(), AllocError>
     requires reading { IsReading reading.now }
-    requires named { HasForms reading.now.nest.now reading.now.leaf.now.columns named.now.statement named.now.forms }
+    requires named { HasForms reading.now.nest.now reading.now.leaf.now.columns named.now.part named.now.forms }
     requires entry { IsIn entry.now reading.now.nest.now.entries }
-    ensures { OnOk result (flat_map group_systems out.new.items ≡ flat_map group_systems out.old.items ++ all_between reading.now.nest.now reading.now.reader.now reading.now.load.now (leaf_seen reading.now.leaf.now) (posed named.now.statement named.now.forms) (entry.now ∷ [])) }
+    ensures { OnOk result (flat_map group_systems out.new.items ≡ flat_map group_systems out.old.items ++ all_between reading.now.nest.now reading.now.reader.now reading.now.load.now (leaf_seen reading.now.leaf.now) (posed named.now.part named.now.forms) (entry.now ∷ [])) }
 {
     match store_for(entry, reading.load.array.0) {
         None => Ok(()),
@@ -168,9 +168,9 @@ pub(crate) fn add_all_between(
     out: &mut Vec<Group>,
 ) -> Result<(), AllocError>
     requires reading { IsReading reading.now }
-    requires named { HasForms reading.now.nest.now reading.now.leaf.now.columns named.now.statement named.now.forms }
+    requires named { HasForms reading.now.nest.now reading.now.leaf.now.columns named.now.part named.now.forms }
     requires entries { All (λ e. IsIn e reading.now.nest.now.entries) entries.now }
-    ensures { OnOk result (flat_map group_systems out.new.items ≡ flat_map group_systems out.old.items ++ all_between reading.now.nest.now reading.now.reader.now reading.now.load.now (leaf_seen reading.now.leaf.now) (posed named.now.statement named.now.forms) entries.now) }
+    ensures { OnOk result (flat_map group_systems out.new.items ≡ flat_map group_systems out.old.items ++ all_between reading.now.nest.now reading.now.reader.now reading.now.load.now (leaf_seen reading.now.leaf.now) (posed named.now.part named.now.forms) entries.now) }
 {
     match entries {
         [] => Ok(()),

@@ -26,11 +26,11 @@ use std::alloc::{AllocError, Global};
 
 /// The statement, if it stores the array and is the one that is named.
 fn named_here<'a>(entry: &'a Entry, array: u32, named: &Named) -> Option<Writer<'a>>
-    ensures none { IfNone result (first_posed (posed named.now.statement named.now.forms) (writers_of array entry.now) ≡ None) }
-    ensures some { IfSome result (λ w. first_posed (posed named.now.statement named.now.forms) (writers_of array entry.now) ≡ Some (w.entry.now, w.store.now)) }
+    ensures none { IfNone result (first_posed (posed named.now.part named.now.forms) (writers_of array entry.now) ≡ None) }
+    ensures some { IfSome result (λ w. first_posed (posed named.now.part named.now.forms) (writers_of array entry.now) ≡ Some (w.entry.now, w.store.now)) }
 {
     let store = store_for(entry, array)?;
-    if entry.statement == named.statement && named.forms.len() == entry.loops.len() {
+    if entry.statement == named.part && named.forms.len() == entry.loops.len() {
         Some(Writer { entry, store })
     } else {
         None
@@ -39,8 +39,8 @@ fn named_here<'a>(entry: &'a Entry, array: u32, named: &Named) -> Option<Writer<
 
 /// The first statement that stores the array and is the one that is named. The recursion is into halves.
 fn named_among<'a>(entries: &'a [Entry], array: u32, named: &Named) -> Option<Writer<'a>>
-    ensures none { IfNone result (first_posed (posed named.now.statement named.now.forms) (flat_map (writers_of array) entries.now) ≡ None) }
-    ensures some { IfSome result (λ w. first_posed (posed named.now.statement named.now.forms) (flat_map (writers_of array) entries.now) ≡ Some (w.entry.now, w.store.now)) }
+    ensures none { IfNone result (first_posed (posed named.now.part named.now.forms) (flat_map (writers_of array) entries.now) ≡ None) }
+    ensures some { IfSome result (λ w. first_posed (posed named.now.part named.now.forms) (flat_map (writers_of array) entries.now) ≡ Some (w.entry.now, w.store.now)) }
 {
     match entries {
         [] => None,
@@ -81,8 +81,8 @@ fn add_named(
 ) -> Result<(), AllocError>
     requires reading { IsReading reading.now }
     requires writer { IsWriter reading.now.nest.now writer.now.entry.now writer.now.store.now }
-    requires named { IsInstanceOf reading.now.nest.now reading.now.leaf.now.columns (posed named.now.statement named.now.forms) writer.now.entry.now }
-    ensures { OnOk result (flat_map group_systems out.new.items ≡ flat_map group_systems out.old.items ++ named_systems reading.now.nest.now reading.now.reader.now reading.now.load.now (leaf_seen reading.now.leaf.now) (posed named.now.statement named.now.forms) writer.now.entry.now writer.now.store.now) }
+    requires named { IsInstanceOf reading.now.nest.now reading.now.leaf.now.columns (posed named.now.part named.now.forms) writer.now.entry.now }
+    ensures { OnOk result (flat_map group_systems out.new.items ≡ flat_map group_systems out.old.items ++ named_systems reading.now.nest.now reading.now.reader.now reading.now.load.now (leaf_seen reading.now.leaf.now) (posed named.now.part named.now.forms) writer.now.entry.now writer.now.store.now) }
 {
     let (nest, reader, leaf) = (reading.nest, reading.reader, reading.leaf);
     let path = own_path(alloc, reader, leaf)?;
@@ -101,8 +101,8 @@ fn add_found(
     out: &mut Vec<Group>,
 ) -> Result<(), AllocError>
     requires reading { IsReading reading.now }
-    requires named { HasForms reading.now.nest.now reading.now.leaf.now.columns named.now.statement named.now.forms }
-    ensures { OnOk result (flat_map group_systems out.new.items ≡ flat_map group_systems out.old.items ++ found_systems reading.now.nest.now reading.now.reader.now reading.now.load.now (leaf_seen reading.now.leaf.now) (posed named.now.statement named.now.forms) (first_posed (posed named.now.statement named.now.forms) (flat_map (writers_of reading.now.load.now.array.0) reading.now.nest.now.entries))) }
+    requires named { HasForms reading.now.nest.now reading.now.leaf.now.columns named.now.part named.now.forms }
+    ensures { OnOk result (flat_map group_systems out.new.items ≡ flat_map group_systems out.old.items ++ found_systems reading.now.nest.now reading.now.reader.now reading.now.load.now (leaf_seen reading.now.leaf.now) (posed named.now.part named.now.forms) (first_posed (posed named.now.part named.now.forms) (flat_map (writers_of reading.now.load.now.array.0) reading.now.nest.now.entries))) }
 {
     let entries = reading.nest.entries.as_slice();
     match named_among(entries, reading.load.array.0, named) {

@@ -118,7 +118,7 @@ pub(crate) fn astray_lists(
 ) -> Result<Vec<Items<Form>>, AllocError>
     requires reading { IsReading reading.now }
     requires writer { IsWriter reading.now.nest.now writer.now.entry.now writer.now.store.now }
-    requires named { IsInstanceOf reading.now.nest.now reading.now.leaf.now.columns (posed named.now.statement named.now.forms) writer.now.entry.now }
+    requires named { IsInstanceOf reading.now.nest.now reading.now.leaf.now.columns (posed named.now.part named.now.forms) writer.now.entry.now }
     ensures { IfOk result (λ v. v.items ≡ astray_lists reading.now.nest.now reading.now.load.now reading.now.leaf.now.columns named.now.forms writer.now.entry.now writer.now.store.now) }
 {
     let columns = reading.leaf.columns;
@@ -169,13 +169,13 @@ pub(crate) fn late_lists(
 ) -> Result<Vec<Items<Form>>, AllocError>
     requires nested { IsNest nest.now }
     requires reads { IsLiving nest.now reader.now }
-    requires named { HasForms nest.now columns named.now.statement named.now.forms }
-    ensures { IfOk result (λ v. v.items ≡ late_lists nest.now reader.now columns (posed named.now.statement named.now.forms)) }
+    requires named { HasForms nest.now columns named.now.part named.now.forms }
+    ensures { IfOk result (λ v. v.items ≡ late_lists nest.now reader.now columns (posed named.now.part named.now.forms)) }
 {
     let own = own_columns(alloc, nest, reader, columns)?;
     let own = own.as_slice();
     let forms = named.forms.as_slice();
-    let (a, b) = (reader.statement, named.statement);
+    let (a, b) = (reader.statement, named.part);
     let mut lists = target_order(alloc, nest, &Schedule::Source, columns, a, own, b, forms)?;
     add_same(alloc, columns, a, own, b, forms, &mut lists)?;
     Ok(lists)

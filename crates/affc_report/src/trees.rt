@@ -61,8 +61,8 @@ fn add_tree(
             write!(out, ") / {by})\n")?;
             add_tree(out, names, level + 1, divisions + 1, rest)
         }
-        Quast::Source { statement, forms } => {
-            write!(out, "source S{statement}(")?;
+        Quast::Source { part, forms } => {
+            write!(out, "source S{part}(")?;
             add_list(out, names, forms.as_slice())?;
             out.push_str(")\n")
         }

@@ -26,9 +26,9 @@ pub record Asked (nest : Nest) (schedule : Schedule) (q : Question) : Type 0 whe
   pub to_in : IsIn to_touch (touches second.accesses)
   pub may : IsTrue (may_depend from_touch to_touch)
   pub earlier : Rows
-  pub earlier_in : IsIn earlier (source_systems nest first.statement second.statement)
+  pub earlier_in : IsIn earlier (source_systems nest first.part second.part)
   pub later : Rows
-  pub later_in : IsIn later (turned_systems nest first.statement second.statement schedule)
+  pub later_in : IsIn later (turned_systems nest first.part second.part schedule)
   pub is : q ≡ question nest first second (pair_rows nest first second from_touch.0 to_touch.0) earlier later
 
 in_if : {A : Type 0} (t : Bool) (xs : List A) (a : A) → IsIn a (if t then xs else []) → IsTrue t × IsIn a xs
@@ -57,8 +57,8 @@ module _ (nest : Nest) (components : ℕ) (maps : List TimeMap) where
       let y : Touch = d.0 in
       let dw = in_if (may_depend x y) (pair_questions nest e v (Time components maps) x.0 y.0) q d.2 in
       let rows = pair_rows nest e v x.0 y.0 in
-      let second = turned_systems nest e.statement v.statement (Time components maps) in
-      let o = in_flat_map (λ earlier. map (question nest e v rows earlier) second) (source_systems nest e.statement v.statement) q dw.1 in
+      let second = turned_systems nest e.part v.part (Time components maps) in
+      let o = in_flat_map (λ earlier. map (question nest e v rows earlier) second) (source_systems nest e.part v.part) q dw.1 in
       let u = in_map (question nest e v rows o.0) second q o.2 in
       record {
         first = e;
@@ -86,9 +86,9 @@ module _ (nest : Nest) (components : ℕ) (maps : List TimeMap) where
       let x : Touch = k.from_touch in
       let y : Touch = k.to_touch in
       let rows = pair_rows nest e v x.0 y.0 in
-      let second = turned_systems nest e.statement v.statement (Time components maps) in
+      let second = turned_systems nest e.part v.part (Time components maps) in
       let one : IsIn (question nest e v rows k.earlier k.later) (pair_questions nest e v (Time components maps) x.0 y.0) =
-      to_flat_map (λ earlier. map (question nest e v rows earlier) second) (source_systems nest e.statement v.statement) k.earlier (question nest e v rows k.earlier k.later) k.earlier_in
+      to_flat_map (λ earlier. map (question nest e v rows earlier) second) (source_systems nest e.part v.part) k.earlier (question nest e v rows k.earlier k.later) k.earlier_in
       (to_map (question nest e v rows k.earlier) second k.later k.later_in) in
       let pair : IsIn q (pair_questions nest e v (Time components maps) x.0 y.0) = subst (λ z. IsIn z (pair_questions nest e v (Time components maps) x.0 y.0)) (sym k.is) one in
       to_flat_map (questions_from nest (Time components maps)) nest.entries e q k.first_in

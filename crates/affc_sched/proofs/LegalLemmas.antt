@@ -34,28 +34,33 @@ use Rattle.affc_nest.specs.declared.nest.Entry.{Entry}
 use Rattle.affc_nest.specs.declared.nest.Nest.{Nest}
 use Rattle.affc_nest.specs.Laws.{HasNest, IsEntry, NamesArrays, element_at}
 use Rattle.affc_nest.specs.Nests.{nest_of}
+use Rattle.affc_nest.specs.Parts.{statement_or_none, statement_of}
 use Rattle.affc_nest.specs.Questions.{extents_or_none}
 use Rattle.affc_nest.proofs.AccessLemmas.{accesses_are_events}
 use Rattle.affc_nest.proofs.EntryLemmas.{entries_stand, points_are_instances, none_where_not_alive, ranges_hold_iterators}
 use Rattle.affc_nest.proofs.QuestionLemmas.{place_of, stands_in, as_many}
 use Rattle.affc_nest.proofs.QuestionProofs.{sub_side, nests_are_asked}
-use Rattle.affc_order.specs.Systems.{loops_or_none, loops_of, pair_columns, source_systems, turned_systems, first_posed, second_posed}
+use Rattle.affc_order.specs.Systems.{loops_or_none, loops_of, coordinates_of, pair_columns, source_systems, turned_systems, first_posed, second_posed}
 use Rattle.affc_order.proofs.ColumnLemmas.{no_columns, more_columns}
 use Rattle.affc_order.proofs.LexLemmas.{both_met, met_both}
 use Rattle.affc_order.proofs.OrderLemmas.{entry_of_instance, as_many_loops, pair_width, order_columns, systems_are_the_orders}
 use Rattle.affc_sched.specs.Laws.{parameters_at, first_at, second_at, PointsViolate, Answers, ViolationsArePoints, QuestionsDecide, PointsAreBoxed}
 use Rattle.affc_sched.specs.Questions.{Question, Touch, touches, may_depend, equal_rows, context_count, of_first, of_second, pair_domain, pair_rows, question}
 use Rattle.affc_sched.proofs.AskedLemmas.{Asked, asked, is_asked}
-use Rattle.affc_sched.proofs.PointLemmas.{spread_met, met_spread, spread_values, all_spread, length_map, equal_values, values_equal}
+use Rattle.affc_sched.proofs.PointLemmas.{front, middle, end, front_long, middle_long, end_long, front_middle_end, spread_met, met_spread, spread_values, all_spread, length_map, equal_values, values_equal}
 use Rattle.affc_sched.proofs.TouchLemmas.{touch_in, touched, stored, touching, storing}
 use Rattle.affc_sched.proofs.WidthLemmas.{domain_wide, context_rows_met}
 
 -- ---- Entries
 
-pub entry_at : (program : Program) → HasNest program → (e : Entry) → IsIn e (nest_of program).entries → IsEntry program e.statement e
+pub entry_at : (program : Program) → HasNest program → (e : Entry) → IsIn e (nest_of program).entries → IsEntry program e.part e
 entry_at program has e i =
     let k = place_of (nest_of program).entries e i in
     subst (λ s. slice_get (nest_of program).entries s ≡ Some e) (sym ((entries_stand program has).1 k.0 e k.1).number) k.1
+
+-- the number of its statement
+pub statement_at : (program : Program) → HasNest program → (e : Entry) → IsEntry program e.part e → statement_of (nest_of program) e.part ≡ e.part
+statement_at program has e h = ap statement_or_none h ∙ ((entries_stand program has).1 e.part e h).statement
 
 loops_at : (program : Program) (statement : ℕ) (e : Entry) → IsEntry program statement e → loops_of (nest_of program) statement ≡ e.loops
 loops_at program statement e h = ap loops_or_none h
@@ -73,24 +78,24 @@ subs_have program has e i x j =
 -- an entry with an instance
 pub record Stood (program : Program) (p : List ℤ) (e : Entry) (its : List ℤ) : Type 0 where
   pub among : IsIn e (nest_of program).entries
-  pub at : IsEntry program e.statement e
+  pub at : IsEntry program e.part e
   pub alive : IsTrue e.alive
   pub long : length its ≡ length e.loops
 
 abbrev pub instance_of : Entry → List ℤ → Instance
-instance_of e its = record { statement = e.statement; iterators = its }
+instance_of e its = record { statement = e.part; iterators = its }
 
 module _ (program : Program) (has : HasNest program) (p : List ℤ) (l : length p ≡ length (number_ranges program.params)) (e : Entry) (its : List ℤ) (s : Stood program p e its) where
   pub entry_columns : e.domain.columns ≡ length p + length its
   entry_columns =
-      ((entries_stand program has).1 e.statement e s.at).columns ∙ ap (λ k. k + length e.loops) (sym l) ∙ ap (λ k. length p + k) (sym s.long)
+      ((entries_stand program has).1 e.part e s.at).columns ∙ ap (λ k. k + length e.loops) (sym l) ∙ ap (λ k. length p + k) (sym s.long)
 
   pub point_long : length (p ++ its) ≡ e.domain.columns
   point_long = length_append p its ∙ sym entry_columns
 
   pub rows_wide : HaveColumns (length p + length its) e.domain.rows
   rows_wide =
-      subst (λ k. HaveColumns k e.domain.rows) (ap (λ k. k + length e.loops) (sym l) ∙ ap (λ k. length p + k) (sym s.long)) (domain_wide program has e.statement e s.at s.alive)
+      subst (λ k. HaveColumns k e.domain.rows) (ap (λ k. k + length e.loops) (sym l) ∙ ap (λ k. length p + k) (sym s.long)) (domain_wide program has e.part e s.at s.alive)
 
   pub subs_wide : (x : Access) → IsIn x e.accesses → HaveColumns (length p + length its) x.subs
   subs_wide x i = subst (λ k. HaveColumns k x.subs) entry_columns (subs_have program has e s.among x i)
@@ -105,7 +110,7 @@ module _ (program : Program) (has : HasNest program) (p : List ℤ) (l : length 
   pub runs_behind : IsInContext program p → All (Meets (p ++ its)) (drop (context_count (nest_of program)) e.domain.rows) → IsIn (instance_of e its) (trace program p)
   runs_behind inside m =
       let k = context_count (nest_of program) in
-      let front = context_rows_met program has e.statement e s.at s.alive p its inside s.long in
+      let front = context_rows_met program has e.part e s.at s.alive p its inside s.long in
       (runs (subst (All (Meets (p ++ its))) (take-append-drop k e.domain.rows) (All-append (Meets (p ++ its)) (take k e.domain.rows) (drop k e.domain.rows) front m))).1
 
   pub events_are : map (element_at (p ++ its)) e.accesses ≡ loads_of program p (instance_of e its) ++ store_of program p (instance_of e its) ∷ []
@@ -122,13 +127,13 @@ module _ (program : Program) (has : HasNest program) (p bs cs : List ℤ) (l : l
   abbrev zs : List ℤ
   zs = p ++ (bs ++ cs)
 
-  first_long : length (loops_of (nest_of program) a.statement) ≡ length bs
-  first_long = ap length (loops_at program a.statement a s.at) ∙ sym s.long
+  first_long : length (loops_of (nest_of program) a.part) ≡ length bs
+  first_long = ap length (loops_at program a.part a s.at) ∙ sym s.long
 
-  second_long : length (loops_of (nest_of program) b.statement) ≡ length cs
-  second_long = ap length (loops_at program b.statement b t.at) ∙ sym t.long
+  second_long : length (loops_of (nest_of program) b.part) ≡ length cs
+  second_long = ap length (loops_at program b.part b t.at) ∙ sym t.long
 
-  pub zs_long : pair_columns (nest_of program) a.statement b.statement ≡ length zs
+  pub zs_long : pair_columns (nest_of program) a.part b.part ≡ length zs
   zs_long = pair_width program p (instance_of a bs) (instance_of b cs) has l first_long second_long
 
   whole : zs ≡ p ++ (bs ++ (cs ++ []))
@@ -159,8 +164,8 @@ module _ (program : Program) (has : HasNest program) (p bs cs : List ℤ) (l : l
 
       counted : (length (number_ranges program.params) + length a.loops) + length b.loops ≡ length zs
       counted =
-          ap (λ k. (length (number_ranges program.params) + k) + length b.loops) (sym (ap length (loops_at program a.statement a s.at)))
-          ∙ ap (λ k. (length (number_ranges program.params) + length (loops_of (nest_of program) a.statement)) + k) (sym (ap length (loops_at program b.statement b t.at))) ∙ zs_long
+          ap (λ k. (length (number_ranges program.params) + k) + length b.loops) (sym (ap length (loops_at program a.part a s.at)))
+          ∙ ap (λ k. (length (number_ranges program.params) + length (loops_of (nest_of program) a.part)) + k) (sym (ap length (loops_at program b.part b t.at))) ∙ zs_long
 
   ys_wide : HaveColumns (length zs) (map (of_second (nest_of program) a b) y.subs)
   ys_wide =
@@ -173,8 +178,8 @@ module _ (program : Program) (has : HasNest program) (p bs cs : List ℤ) (l : l
 
       counted : (length (number_ranges program.params) + length a.loops) + length b.loops ≡ length zs
       counted =
-          ap (λ k. (length (number_ranges program.params) + k) + length b.loops) (sym (ap length (loops_at program a.statement a s.at)))
-          ∙ ap (λ k. (length (number_ranges program.params) + length (loops_of (nest_of program) a.statement)) + k) (sym (ap length (loops_at program b.statement b t.at))) ∙ zs_long
+          ap (λ k. (length (number_ranges program.params) + k) + length b.loops) (sym (ap length (loops_at program a.part a s.at)))
+          ∙ ap (λ k. (length (number_ranges program.params) + length (loops_of (nest_of program) a.part)) + k) (sym (ap length (loops_at program b.part b t.at))) ∙ zs_long
 
   -- what the rows say
   pub record Facts : Type 0 where
@@ -233,10 +238,10 @@ may_be x y e (inl s) = hold_both (nat_eq x.0.array.0 y.0.array.0) (x.1 || y.1) (
 may_be x y e (inr s) = hold_both (nat_eq x.0.array.0 y.0.array.0) (x.1 || y.1) (eq-eqb x.0.array.0 y.0.array.0 e) (holds_second x.1 y.1 s)
 
 -- accesses of one array have equally many subscripts
-pub as_many_each : (program : Program) (has : HasNest program) → NamesArrays program → (a b : Entry) → IsEntry program a.statement a → IsEntry program b.statement b
+pub as_many_each : (program : Program) (has : HasNest program) → NamesArrays program → (a b : Entry) → IsEntry program a.part a → IsEntry program b.part b
     → (x y : Access) → IsIn x a.accesses → IsIn y b.accesses → x.array.0 ≡ y.array.0 → length x.subs ≡ length y.subs
 as_many_each program has named a b h g x y i j e =
-    as_many program a.statement a named h x i ∙ ap (λ k. length (extents_or_none (slice_get (nest_of program).arrays k))) e ∙ sym (as_many program b.statement b named g y j)
+    as_many program a.part a named h x i ∙ ap (λ k. length (extents_or_none (slice_get (nest_of program).arrays k))) e ∙ sym (as_many program b.part b named g y j)
 
 -- ---- One question
 
@@ -252,21 +257,21 @@ module _ (program : Program) (has : HasNest program) (named : NamesArrays progra
   j = instance_of b cs
 
   pub violates : (x y : Touch) → IsIn x (touches a.accesses) → IsIn y (touches b.accesses) → IsTrue (may_depend x y)
-      → (earlier later : Rows) → IsIn earlier (source_systems (nest_of program) a.statement b.statement) → IsIn later (turned_systems (nest_of program) a.statement b.statement sch)
+      → (earlier later : Rows) → IsIn earlier (source_systems (nest_of program) a.part b.part) → IsIn later (turned_systems (nest_of program) a.part b.part sch)
       → All (Meets (p ++ (bs ++ cs))) (pair_rows (nest_of program) a b x.0 y.0 ++ (earlier.rows ++ later.rows)) → IsInContext program p × Violates program sch p i j
   violates x y x_in y_in may earlier later e_in l_in m =
       let n = nest_of program in
       let zs : List ℤ = p ++ (bs ++ cs) in
       let x_at = touch_in a.accesses x x_in in
       let y_at = touch_in b.accesses y y_in in
-      let w : pair_columns n a.statement b.statement ≡ length zs = zs_long program has p bs cs l a b s t x.0 y.0 x_at y_at in
+      let w : pair_columns n a.part b.part ≡ length zs = zs_long program has p bs cs l a b s t x.0 y.0 x_at y_at in
       let array = one_array x y may in
       let u = met_both zs (pair_rows n a b x.0 y.0) (earlier.rows ++ later.rows) m in
       let o = met_both zs earlier.rows later.rows u.1 in
       let f = rows_say program has p bs cs l a b s t x.0 y.0 x_at y_at (as_many_each program has named a b s.at t.at x.0 y.0 x_at y_at array) u.0 in
       let say = systems_are_the_orders program sch p i j has fits l f.first_runs f.second_runs in
-      let e_columns : earlier.columns ≡ pair_columns n a.statement b.statement = order_columns n Source (pair_columns n a.statement b.statement) (first_posed n a.statement b.statement) (second_posed n a.statement b.statement) earlier e_in in
-      let l_columns : later.columns ≡ pair_columns n a.statement b.statement = order_columns n sch (pair_columns n a.statement b.statement) (second_posed n a.statement b.statement) (first_posed n a.statement b.statement) later l_in in
+      let e_columns : earlier.columns ≡ pair_columns n a.part b.part = order_columns n Source (pair_columns n a.part b.part) (first_posed n a.part b.part) (second_posed n a.part b.part) earlier e_in in
+      let l_columns : later.columns ≡ pair_columns n a.part b.part = order_columns n sch (pair_columns n a.part b.part) (second_posed n a.part b.part) (first_posed n a.part b.part) later l_in in
       let first : Earlier (trace program p) i j = say.in_source.0 (record { system = earlier; there = e_in; meets = record { width = sym (e_columns ∙ w); meets = o.0 } }) in
       let turned : Earlier (target program sch p) j i = say.turned_round.0 (record { system = later; there = l_in; meets = record { width = sym (l_columns ∙ w); meets = o.1 } }) in
       let distinct = once program p in
@@ -342,7 +347,7 @@ module _ (program : Program) (has : HasNest program) (named : NamesArrays progra
       let u = say.turned_round.1 turned in
       let rows = pair_rows n a b c.x.0 c.y.0 in
       let q : Question = question n a b rows o.system u.system in
-      let w : pair_columns n a.statement b.statement ≡ length zs = zs_long program has p bs cs l a b s t c.x.0 c.y.0 x_at y_at in
+      let w : pair_columns n a.part b.part ≡ length zs = zs_long program has p bs cs l a b s t c.x.0 c.y.0 x_at y_at in
       let f : All (Meets zs) rows = say_rows program has p bs cs l a b s t c.x.0 c.y.0 x_at y_at (record { context = inside; first_runs = i_in; second_runs = j_in; equal = c.equal }) in
       record {
         question = q;
@@ -373,11 +378,11 @@ module _ (program : Program) (has : HasNest program) (named : NamesArrays progra
 
 -- an instance of the trace stands with its entry
 pub stood : (program : Program) (has : HasNest program) (p : List ℤ) (i : Instance) → IsInContext program p → IsIn i (trace program p)
-    → (e : Entry) × (e.statement ≡ i.statement) × Stood program p e i.iterators
+    → (e : Entry) × (e.part ≡ i.statement) × Stood program p e i.iterators
 stood program has p i inside r =
     let e = entry_of_instance program p i has r in
-    let number : e.0.statement ≡ i.statement = ((entries_stand program has).1 i.statement e.0 e.1).number in
-    let h : IsEntry program e.0.statement e.0 = subst (λ k. IsEntry program k e.0) (sym number) e.1 in
+    let number : e.0.part ≡ i.statement = ((entries_stand program has).1 i.statement e.0 e.1).number in
+    let h : IsEntry program e.0.part e.0 = subst (λ k. IsEntry program k e.0) (sym number) e.1 in
     let alive : IsTrue e.0.alive = living e.0 e.1 e.0.alive refl in
     (e.0, number, record { among = stands_in (nest_of program).entries i.statement e.0 e.1; at = h; alive = alive; long = sym (as_many_loops program p i has r) ∙ ap length (loops_at program i.statement e.0 e.1) })
   where
@@ -398,47 +403,29 @@ points_violate program (Time components maps) q point has named fits i is =
     m : ℕ
     m = length (number_ranges program.params)
 
-    core : (k : Asked (nest_of program) (Time components maps) q) → IsPoint (question (nest_of program) k.first k.second (pair_rows (nest_of program) k.first k.second k.from_touch.0 k.to_touch.0) k.earlier k.later).system point
-        → IsInContext program (take (length (number_ranges program.params)) point)
-        × Violates program (Time components maps) (take (length (number_ranges program.params)) point)
-        (record { statement = k.first.statement; iterators = take (length (loops_of (nest_of program) k.first.statement)) (drop (length (number_ranges program.params)) point) })
-        (record { statement = k.second.statement; iterators = drop (length (loops_of (nest_of program) k.first.statement)) (drop (length (number_ranges program.params)) point) })
+    core : (k : Asked (nest_of program) (Time components maps) q) → (there : IsPoint (question (nest_of program) k.first k.second (pair_rows (nest_of program) k.first k.second k.from_touch.0 k.to_touch.0) k.earlier k.later).system point)
+        → IsInContext program (take m point)
+        × Violates program (Time components maps) (take m point)
+        (record { statement = statement_of n k.first.part; iterators = middle m (coordinates_of n k.first.part) (coordinates_of n k.second.part) point there.width })
+        (record { statement = statement_of n k.second.part; iterators = end m (coordinates_of n k.first.part) (coordinates_of n k.second.part) point there.width })
     core k is =
         let a : Entry = k.first in
         let b : Entry = k.second in
         let ha = entry_at program has a k.first_in in
         let hb = entry_at program has b k.second_in in
-        let l1 = length (loops_of (nest_of program) a.statement) in
-        let l2 = length (loops_of (nest_of program) b.statement) in
-        let m = length (number_ranges program.params) in
+        let l1 = coordinates_of n a.part in
+        let l2 = coordinates_of n b.part in
         let w : length point ≡ (m + l1) + l2 = is.width in
-        let p : List ℤ = take m point in
-        let rest : List ℤ = drop m point in
-        let bs : List ℤ = take l1 rest in
-        let cs : List ℤ = drop l1 rest in
-        let lp : length p ≡ m = length-take-le m point (at_least m l1 l2 (length point) w) in
-        let whole : p ++ rest ≡ point = take-append-drop m point in
-        let lr : length rest ≡ l1 + l2 = remains m l1 l2 (length point) (length p) (length rest) w lp (sym (length_append p rest) ∙ ap length whole) in
-        let lb : length bs ≡ l1 = length-take-le l1 rest (first_part l1 l2 (length rest) lr) in
-        let parts : bs ++ cs ≡ rest = take-append-drop l1 rest in
-        let lc : length cs ≡ l2 = second_part l1 l2 (length rest) (length bs) (length cs) lr lb (sym (length_append bs cs) ∙ ap length parts) in
-        let is' : p ++ (bs ++ cs) ≡ point = ap (λ ys. p ++ ys) parts ∙ whole in
-        let s : Stood program p a bs = record { among = k.first_in; at = ha; alive = k.first_alive; long = lb ∙ ap length (loops_at program a.statement a ha) } in
-        let t : Stood program p b cs = record { among = k.second_in; at = hb; alive = k.second_alive; long = lc ∙ ap length (loops_at program b.statement b hb) } in
-        violates program has named components maps fits p bs cs lp a b s t k.from_touch k.to_touch k.from_in k.to_in k.may k.earlier k.later k.earlier_in k.later_in
-        (subst (λ zs. All (Meets zs) (pair_rows (nest_of program) a b k.from_touch.0 k.to_touch.0 ++ (k.earlier.rows ++ k.later.rows))) (sym is') is.meets)
-      where
-        at_least : (x y z w : ℕ) → w ≡ (x + y) + z → x ≤ w
-        at_least x y z w e = omega (arith, e)
-
-        remains : (x y z w p r : ℕ) → w ≡ (x + y) + z → p ≡ x → p + r ≡ w → r ≡ y + z
-        remains x y z w p r e f g = omega (arith, e, f, g)
-
-        first_part : (y z r : ℕ) → r ≡ y + z → y ≤ r
-        first_part y z r e = omega (arith, e)
-
-        second_part : (y z r b c : ℕ) → r ≡ y + z → b ≡ y → b + c ≡ r → c ≡ z
-        second_part y z r b c e f g = omega (arith, e, f, g)
+        let p : List ℤ = front m l1 l2 point w in
+        let bs : List ℤ = middle m l1 l2 point w in
+        let cs : List ℤ = end m l1 l2 point w in
+        let s : Stood program p a bs = record { among = k.first_in; at = ha; alive = k.first_alive; long = middle_long m l1 l2 point w ∙ ap length (loops_at program a.part a ha) } in
+        let t : Stood program p b cs = record { among = k.second_in; at = hb; alive = k.second_alive; long = end_long m l1 l2 point w ∙ ap length (loops_at program b.part b hb) } in
+        let found = violates program has named components maps fits p bs cs (front_long m l1 l2 point w) a b s t k.from_touch k.to_touch k.from_in k.to_in k.may k.earlier k.later k.earlier_in k.later_in
+        (subst (λ zs. All (Meets zs) (pair_rows n a b k.from_touch.0 k.to_touch.0 ++ (k.earlier.rows ++ k.later.rows))) (sym (front_middle_end m l1 l2 point w)) is.meets) in
+        subst (λ x. IsInContext program p × Violates program (Time components maps) p (record { statement = x; iterators = bs }) (record { statement = statement_of n b.part; iterators = cs }))
+        (sym (statement_at program has a ha))
+        (subst (λ y. IsInContext program p × Violates program (Time components maps) p (record { statement = a.part; iterators = bs }) (record { statement = y; iterators = cs })) (sym (statement_at program has b hb)) found)
 
 turned_question : (program : Program) (components : ℕ) (maps : List TimeMap) (p : List ℤ) (a b : Instance) → HasNest program → NamesArrays program → IsScheduleOf program (Time components maps) → IsInContext program p
     → Dependent (effect program p) a b → Earlier (trace program p) a b → Earlier (target program (Time components maps) p) b a → Answers program (Time components maps) p a b
@@ -495,15 +482,18 @@ points_are_boxed program (Time components maps) q point has named fits i is =
     let v = points_violate program (Time components maps) q point has named fits i is in
     let p : List ℤ = parameters_at n q point in
     let m = length (number_ranges program.params) in
-    let rest : List ℤ = drop m point in
-    let l1 = length (loops_of n q.first) in
+    let ha = entry_at program has k.first k.first_in in
+    let hb = entry_at program has k.second k.second_in in
     let first : Instance = first_at n q point in
     let second : Instance = second_at n q point in
     let first_in = earlier_is_in (trace program p) first second v.1.earlier in
     let second_in = later_is_in (trace program p) first second v.1.earlier in
-    let a = (ranges_hold_iterators program k.first.statement k.first has (entry_at program has k.first k.first_in) k.first_alive).hold p first (ap (λ (z : Question). z.first) k.is) v.0 first_in in
-    let b = (ranges_hold_iterators program k.second.statement k.second has (entry_at program has k.second k.second_in) k.second_alive).hold p second (ap (λ (z : Question). z.second) k.is) v.0 second_in in
-    let whole : p ++ (first.iterators ++ second.iterators) ≡ point = ap (λ ys. p ++ ys) (take-append-drop l1 rest) ∙ take-append-drop m point in
+    let first_of : first.statement ≡ k.first.part = ap (λ (z : Question). statement_of n z.first) k.is ∙ statement_at program has k.first ha in
+    let second_of : second.statement ≡ k.second.part = ap (λ (z : Question). statement_of n z.second) k.is ∙ statement_at program has k.second hb in
+    let a = (ranges_hold_iterators program k.first.part k.first has ha k.first_alive).hold p first first_of v.0 first_in in
+    let b = (ranges_hold_iterators program k.second.part k.second has hb k.second_alive).hold p second second_of v.0 second_in in
+    let w : length point ≡ (m + coordinates_of n q.first) + coordinates_of n q.second = is.width ∙ ap (λ (z : Question). z.system.columns) k.is ∙ sym (ap (λ (z : Question). pair_columns n z.first z.second) k.is) in
+    let whole : p ++ (first.iterators ++ second.iterators) ≡ point = front_middle_end m (coordinates_of n q.first) (coordinates_of n q.second) point w in
     subst (InBox q.ranges) whole
     (subst (λ rs. InBox rs (p ++ (first.iterators ++ second.iterators))) (sym (ap (λ (z : Question). z.ranges) k.is))
     (box_append n.params (k.first.ranges ++ k.second.ranges) p (first.iterators ++ second.iterators) (in_ranges program.params p v.0.ranges)

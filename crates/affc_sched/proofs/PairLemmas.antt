@@ -33,6 +33,7 @@ use Rattle.affc_nest.specs.declared.nest.Nest.{Nest}
 use Rattle.affc_nest.specs.Laws.{HasNest}
 use Rattle.affc_domain.specs.Arrays.{declared_arrays}
 use Rattle.affc_nest.specs.Nests.{array_of, nest_of}
+use Rattle.affc_nest.specs.Parts.{statement_of}
 use Rattle.affc_nest.specs.Questions.{extents_or_none, extents_of_access}
 use Rattle.affc_nest.proofs.AccessLemmas.{plain_append}
 use Rattle.affc_nest.proofs.EntryLemmas.{entries_stand}
@@ -53,26 +54,26 @@ use Rattle.affc_sched.proofs.LegalLemmas.{entry_at, as_many_each}
 
 pub record StandsIn (nest : Nest) (e : Entry) : Type 0 where
   pub columns : e.domain.columns ≡ length nest.params + length e.loops
-  pub loops : loops_of nest e.statement ≡ e.loops
-  pub counted : e.statement < length nest.entries
+  pub loops : loops_of nest e.part ≡ e.loops
+  pub counted : e.part < length nest.entries
 
 stands_of : (program : Program) → HasNest program → (e : Entry) → IsIn e (nest_of program).entries → StandsIn (nest_of program) e
 stands_of program has e i =
     let h = entry_at program has e i in
     record {
-      columns = ((entries_stand program has).1 e.statement e h).columns;
+      columns = ((entries_stand program has).1 e.part e h).columns;
       loops = ap loops_or_none h;
-      counted = slice_get_within (nest_of program).entries e.statement e h;
+      counted = slice_get_within (nest_of program).entries e.part e h;
     }
 
 pub stands_in : (nest : Nest) → IsNest nest → (e : Entry) → IsIn e nest.entries → StandsIn nest e
 stands_in nest n e i =
     subst (λ (x : Nest). StandsIn x e) (sym n.is) (stands_of n.program n.has e (subst (λ (x : Nest). IsIn e x.entries) n.is i))
 
-pub columns_of_pair : (nest : Nest) → IsNest nest → (a b : Entry) → IsIn a nest.entries → IsIn b nest.entries → (length nest.params + length a.loops) + length b.loops ≡ pair_columns nest a.statement b.statement
+pub columns_of_pair : (nest : Nest) → IsNest nest → (a b : Entry) → IsIn a nest.entries → IsIn b nest.entries → (length nest.params + length a.loops) + length b.loops ≡ pair_columns nest a.part b.part
 columns_of_pair nest n a b i j =
     ap (λ ls. (length nest.params + length ls) + length b.loops) (sym (stands_in nest n a i).loops)
-    ∙ ap (λ ls. (length nest.params + length (loops_of nest a.statement)) + length ls) (sym (stands_in nest n b j).loops)
+    ∙ ap (λ ls. (length nest.params + length (loops_of nest a.part)) + length ls) (sym (stands_in nest n b j).loops)
 
 pub all_from : {A : Type 0} (P : A → Type 0) (xs : List A) → ((x : A) → IsIn x xs → P x) → All P xs
 all_from P [] h = All-nil P
@@ -114,16 +115,16 @@ lex_few columns (suc n) (f ∷ fs) (g ∷ gs) rows tie s (inr i) =
     two : (x n y z : ℕ) → z ≡ x + 2 → y ≤ (z + 2 * n) + 1 → y ≤ (x + 2 * suc n) + 1
     two x n y z e h = omega (arith, e, h)
 
-pub source_few : (nest : Nest) → IsNest nest → (columns : ℕ) (a b : Posed) → a.statement < length nest.entries → (s : Rows) → IsIn s (source_order nest columns a b) → length s.rows ≤ 26
+pub source_few : (nest : Nest) → IsNest nest → (columns : ℕ) (a b : Posed) → a.part < length nest.entries → (s : Rows) → IsIn s (source_order nest columns a b) → length s.rows ≤ 26
 source_few nest n columns a b h s i =
-    bound (length s.rows) (shared (loops_of nest a.statement) (loops_of nest b.statement)) (length (loops_of nest a.statement))
-    (lex_few columns (shared (loops_of nest a.statement) (loops_of nest b.statement)) a.iterators b.iterators [] (nat_lt a.statement b.statement) s i) (shared_left (loops_of nest a.statement) (loops_of nest b.statement))
-    (few_loops nest n a.statement h)
+    bound (length s.rows) (shared (loops_of nest a.part) (loops_of nest b.part)) (length (loops_of nest a.part))
+    (lex_few columns (shared (loops_of nest a.part) (loops_of nest b.part)) a.iterators b.iterators [] (nat_lt (statement_of nest a.part) (statement_of nest b.part)) s i) (shared_left (loops_of nest a.part) (loops_of nest b.part))
+    (few_loops nest n a.part h)
   where
     bound : (y k l : ℕ) → y ≤ (0 + 2 * k) + 1 → k ≤ l → l ≤ 6 → y ≤ 26
     bound y k l h g f = omega (arith, h, g, f)
 
-target_few : (nest : Nest) (schedule : Schedule) → IsScheduled nest schedule → (columns : ℕ) (a b : Posed) → a.statement < length nest.entries → (s : Rows) → IsIn s (target_order nest schedule columns a b) → length s.rows ≤ 26
+target_few : (nest : Nest) (schedule : Schedule) → IsScheduled nest schedule → (columns : ℕ) (a b : Posed) → a.part < length nest.entries → (s : Rows) → IsIn s (target_order nest schedule columns a b) → length s.rows ≤ 26
 target_few nest schedule q columns a b h s i = by_kind schedule q.slight i
   where
     bound : (y n : ℕ) → y ≤ (0 + 2 * n) + 1 → n ≤ 12 → y ≤ 26
@@ -134,7 +135,7 @@ target_few nest schedule q columns a b h s i = by_kind schedule q.slight i
     by_kind (Time n maps) w i =
         let u = both_true (nat_le 1 n && nat_le n 12) (maps_within maps) w in
         let v = both_true (nat_le 1 n) (nat_le n 12) u.0 in
-        bound (length s.rows) n (lex_few columns n (time_forms maps (length nest.params) columns a) (time_forms maps (length nest.params) columns b) [] (nat_lt a.statement b.statement) s i) (leb-true n 12 v.1)
+        bound (length s.rows) n (lex_few columns n (time_forms nest maps columns a) (time_forms nest maps columns b) [] (nat_lt (statement_of nest a.part) (statement_of nest b.part)) s i) (leb-true n 12 v.1)
 
 pub source_orders : (nest : Nest) → IsNest nest → (first second : ℕ) → first < length nest.entries → All (IsOrder (pair_columns nest first second)) (source_systems nest first second)
 source_orders nest n first second h =
@@ -161,13 +162,13 @@ flat_same f g h [] = refl
 flat_same f g h (x ∷ xs) = ap (λ ys. ys ++ flat_map f xs) (h x) ∙ ap (λ ys. g x ++ ys) (flat_same f g h xs)
 
 -- what the code has made are the questions' systems
-pub systems_made : (nest : Nest) (schedule : Schedule) (a b : Entry) (x y : Access) (pair : Rows) → pair ≡ record { columns = pair_columns nest a.statement b.statement; rows = pair_rows nest a b x y }
-    → flat_map (λ o. map (λ u. with_rows pair (o.rows ++ u.rows)) (turned_systems nest a.statement b.statement schedule)) (source_systems nest a.statement b.statement)
+pub systems_made : (nest : Nest) (schedule : Schedule) (a b : Entry) (x y : Access) (pair : Rows) → pair ≡ record { columns = pair_columns nest a.part b.part; rows = pair_rows nest a b x y }
+    → flat_map (λ o. map (λ u. with_rows pair (o.rows ++ u.rows)) (turned_systems nest a.part b.part schedule)) (source_systems nest a.part b.part)
     ≡ map (λ q. q.system) (pair_questions nest a b schedule x y)
 systems_made nest schedule a b x y pair e =
-    let later = turned_systems nest a.statement b.statement schedule in
-    let earlier = source_systems nest a.statement b.statement in
-    let whole : Rows = record { columns = pair_columns nest a.statement b.statement; rows = pair_rows nest a b x y } in
+    let later = turned_systems nest a.part b.part schedule in
+    let earlier = source_systems nest a.part b.part in
+    let whole : Rows = record { columns = pair_columns nest a.part b.part; rows = pair_rows nest a b x y } in
     ap (λ p. flat_map (λ o. map (λ u. with_rows p (o.rows ++ u.rows)) later) earlier) e
     ∙ flat_same (λ o. map (λ u. with_rows whole (o.rows ++ u.rows)) later) (λ o. map (λ q. q.system) (map (question nest a b (pair_rows nest a b x y) o) later))
     (λ o. sym (map_map (question nest a b (pair_rows nest a b x y) o) (λ (q : Question). q.system) later)) earlier
@@ -191,7 +192,7 @@ few_subs nest schedule q a i x j =
     let s = q.scheduled in
     let program = s.program in
     let m = length (number_ranges program.params) in
-    let many : length x.subs ≡ length (extents_of_access (nest_of program) x) = as_many program a.statement a q.named (entry_at program s.has a (subst (λ (z : Nest). IsIn a z.entries) s.is i)) x j in
+    let many : length x.subs ≡ length (extents_of_access (nest_of program) x) = as_many program a.part a q.named (entry_at program s.has a (subst (λ (z : Nest). IsIn a z.entries) s.is i)) x j in
     let few : length (extents_of_access (nest_of program) x) ≤ 4 =
     decls_few m (declared_arrays program) x.array.0 (plain_append m (arrays_of program.params) program.temps s.has.plain.arrays s.has.plain.temps) in
     omega arith
@@ -229,10 +230,10 @@ whole_pair rows ps outer inner own xs ys = record {
 
 pub pair_made : (nest : Nest) (a b : Entry) (x y : Access) (ps : List (ℤ × ℤ)) (outer inner : ℕ) (own xs ys : List Affine) (system system' : Rows)
     → ps ≡ nest.params → outer ≡ length a.loops → inner ≡ length b.loops → own ≡ drop (context_count nest) b.domain.rows → xs ≡ x.subs → ys ≡ y.subs
-    → (length nest.params + length a.loops) + length b.loops ≡ pair_columns nest a.statement b.statement
+    → (length nest.params + length a.loops) + length b.loops ≡ pair_columns nest a.part b.part
     → system ≡ record { columns = (length ps + outer) + inner; rows = map (spread (length ps) 0 inner) a.domain.rows ++ map (spread (length ps) outer 0) own }
     → system' ≡ with_rows system (equal_rows (map (spread (length ps) 0 inner) xs) (map (spread (length ps) outer 0) ys))
-    → system' ≡ record { columns = pair_columns nest a.statement b.statement; rows = pair_rows nest a b x y }
+    → system' ≡ record { columns = pair_columns nest a.part b.part; rows = pair_rows nest a b x y }
 pair_made nest a b x y ps outer inner own xs ys system system' p o i w u v columns one two =
     two ∙ ap (λ (s : Rows). with_rows s (equal_rows (map (spread (length ps) 0 inner) xs) (map (spread (length ps) outer 0) ys))) one
     ∙ ap (λ rs. whole_pair a.domain.rows rs outer inner own xs ys) p
@@ -247,10 +248,10 @@ pub orders_at : (k k' : ℕ) (systems held : List Rows) → k' ≡ k → held �
 orders_at k k' systems held e f h = subst (λ n. All (IsOrder n) held) (sym e) (subst (All (IsOrder k)) (sym f) h)
 
 pub all_made : (nest : Nest) (schedule : Schedule) (a b : Entry) (x y : Access) (pair : Rows) (out start earlier later : List Rows)
-    → pair ≡ record { columns = pair_columns nest a.statement b.statement; rows = pair_rows nest a b x y } → start ≡ [] → earlier ≡ source_systems nest a.statement b.statement → later ≡ turned_systems nest a.statement b.statement schedule
+    → pair ≡ record { columns = pair_columns nest a.part b.part; rows = pair_rows nest a b x y } → start ≡ [] → earlier ≡ source_systems nest a.part b.part → later ≡ turned_systems nest a.part b.part schedule
     → out ≡ start ++ flat_map (λ o. map (λ u. with_rows pair (o.rows ++ u.rows)) later) earlier → out ≡ map (λ q. q.system) (pair_questions nest a b schedule x y)
 all_made nest schedule a b x y pair out start earlier later p s e l made =
     made ∙ ap (λ xs. xs ++ flat_map (λ o. map (λ u. with_rows pair (o.rows ++ u.rows)) later) earlier) s
     ∙ ap (λ us. flat_map (λ o. map (λ u. with_rows pair (o.rows ++ u.rows)) us) earlier) l
-    ∙ ap (flat_map (λ o. map (λ u. with_rows pair (o.rows ++ u.rows)) (turned_systems nest a.statement b.statement schedule))) e
+    ∙ ap (flat_map (λ o. map (λ u. with_rows pair (o.rows ++ u.rows)) (turned_systems nest a.part b.part schedule))) e
     ∙ systems_made nest schedule a b x y pair p

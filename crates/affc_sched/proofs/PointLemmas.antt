@@ -1,6 +1,7 @@
 -- A point of two instances: what spread rows and equal forms say there.
-use Rattle.std.proofs.Common.{◌≡◌, ℕ, suc, ◌+◌, ℤ, pos, ◌≤ℤ◌, List, [], ◌∷◌, ◌++◌, length, map, refl, sym, ap, subst, arith}
+use Rattle.std.proofs.Common.{◌≡◌, ℕ, suc, ◌+◌, ℤ, pos, ◌≤ℤ◌, List, [], ◌∷◌, ◌++◌, length, map, take, drop, refl, sym, ap, subst, ◌∙◌, arith}
 use Rattle.std.specs.List.{All}
+use Rattle.std.proofs.lemmas.List.{take-append-drop, length-take-le, length-drop, take_all}
 use Rattle.std.proofs.lemmas.List.Elements.{All-nil, All-cons, All-head, All-tail}
 use Rattle.affc_rows.specs.Forms.{Affine, value, values_of, HaveColumns}
 use Rattle.affc_system.specs.Systems.{Meets}
@@ -72,3 +73,29 @@ module _ (zs : List ℤ) where
       both_met zs (compare_rows Equal f g) (equal_rows fs gs)
       (equal_met zs f g (first_columns (length zs) f fs h) (first_columns (length zs) g gs k) (heads (value f zs) (value g zs) (values_of fs zs) (values_of gs zs) e))
       (values_equal fs gs (later_columns (length zs) f fs h) (later_columns (length zs) g gs k) (tails (value f zs) (value g zs) (values_of fs zs) (values_of gs zs) e))
+
+-- ---- The numbers of a point, by how many there are
+
+module _ (m k l : ℕ) (point : List ℤ) (w : length point ≡ (m + k) + l) where
+  abbrev pub front : List ℤ
+  front = take m point
+
+  abbrev pub middle : List ℤ
+  middle = take k (drop m point)
+
+  abbrev pub end : List ℤ
+  end = take l (drop k (drop m point))
+
+  pub front_long : length front ≡ m
+  front_long = length-take-le m point (omega (arith, w))
+
+  pub middle_long : length middle ≡ k
+  middle_long = length-take-le k (drop m point) (let d = length-drop m point in omega (arith, w, d))
+
+  pub end_long : length end ≡ l
+  end_long = length-take-le l (drop k (drop m point)) (let d = length-drop m point in let e = length-drop k (drop m point) in omega (arith, w, d, e))
+
+  pub front_middle_end : front ++ (middle ++ end) ≡ point
+  front_middle_end =
+      ap (λ ys. front ++ (middle ++ ys)) (take_all l (drop k (drop m point)) (let d = length-drop m point in let e = length-drop k (drop m point) in omega (arith, w, d, e)))
+      ∙ ap (λ ys. front ++ ys) (take-append-drop k (drop m point)) ∙ take-append-drop m point

@@ -151,7 +151,7 @@ side_second m outer inner columns gs i g g' all h is e c =
 pub enough_rows : (nest : Nest) (n : IsNest nest) (e : Entry) → IsIn e nest.entries → IsTrue e.alive → context_count nest ≤ length e.domain.rows
 enough_rows nest n e i alive =
     subst (λ (x : Nest). context_count x ≤ length e.domain.rows) (sym n.is)
-    (context_rows_first n.program n.has e.statement e (entry_at n.program n.has e (subst (λ (x : Nest). IsIn e x.entries) n.is i)) alive)
+    (context_rows_first n.program n.has e.part e (entry_at n.program n.has e (subst (λ (x : Nest). IsIn e x.entries) n.is i)) alive)
 
 pub fewer : (k : ℕ) (rows own : List Affine) → own ≡ drop k rows → length rows ≤ 134 → length own ≤ 134
 fewer k rows own e h = let l = length-drop k rows in let r : length own ≡ length (drop k rows) = ap length e in omega (arith, h, l, r)

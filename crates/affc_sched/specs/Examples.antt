@@ -34,6 +34,7 @@ next = access 0 (form (pos 0 ∷ pos 1 ∷ []) (pos 1) ∷ [])
 -- over N from 1 to 9, where N >= 2: for (i = 0; i < N; i++) A[i + 1] = A[i];
 abbrev shifts : Entry
 shifts = record {
+  part = 1;
   statement = 1;
   alive = true;
   loops = 0 ∷ [];
@@ -48,6 +49,7 @@ shifts = record {
 -- A[N] = 7;
 abbrev last : Entry
 last = record {
+  part = 2;
   statement = 2;
   alive = true;
   loops = [];
@@ -58,10 +60,10 @@ last = record {
 
 -- the same in a loop that is never entered, and to another array
 abbrev never : (statement : ℕ) → Entry
-never statement = record last { statement = statement; alive = false }
+never statement = record last { part = statement; statement = statement; alive = false }
 
 abbrev other : Entry
-other = record last { statement = 4; accesses = access 1 (form (pos 1 ∷ []) (pos 0) ∷ []) ∷ [] }
+other = record last { part = 4; statement = 4; accesses = access 1 (form (pos 1 ∷ []) (pos 0) ∷ []) ∷ [] }
 
 abbrev nest : Nest
 nest = record {

@@ -13,7 +13,8 @@ use Rattle.affc_trace.specs.Target.{IsScheduleOf}
 use Rattle.affc_nest.specs.declared.nest.Nest.{Nest}
 use Rattle.affc_nest.specs.Laws.{HasNest, NamesArrays}
 use Rattle.affc_nest.specs.Nests.{nest_of}
-use Rattle.affc_order.specs.Systems.{loops_of}
+use Rattle.affc_nest.specs.Parts.{statement_of}
+use Rattle.affc_order.specs.Systems.{loops_of, coordinates_of}
 use Rattle.affc_sched.specs.Questions.{Question, legality_questions}
 
 -- ---- What stands at a point of a question
@@ -23,10 +24,10 @@ module _ (nest : Nest) (q : Question) (point : List ℤ) where
   parameters_at = take (length nest.params) point
 
   abbrev pub first_at : Instance
-  first_at = record { statement = q.first; iterators = take (length (loops_of nest q.first)) (drop (length nest.params) point) }
+  first_at = record { statement = statement_of nest q.first; iterators = take (length (loops_of nest q.first)) (drop (length nest.params) point) }
 
   abbrev pub second_at : Instance
-  second_at = record { statement = q.second; iterators = drop (length (loops_of nest q.first)) (drop (length nest.params) point) }
+  second_at = record { statement = statement_of nest q.second; iterators = take (length (loops_of nest q.second)) (drop (coordinates_of nest q.first) (drop (length nest.params) point)) }
 
 -- A point of a question is a violation: at its parameters, which are in the context, the second instance depends on the
 -- first, and the schedule doesn't run it later.

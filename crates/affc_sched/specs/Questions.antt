@@ -9,11 +9,12 @@ use Rattle.affc_nest.specs.Domains.{compare_rows}
 use Rattle.affc_nest.specs.declared.nest.Access.{Access}
 use Rattle.affc_nest.specs.declared.nest.Entry.{Entry}
 use Rattle.affc_nest.specs.declared.nest.Nest.{Nest}
+use Rattle.affc_nest.specs.Parts.{coordinates}
 use Rattle.affc_order.specs.Spread.{spread}
 use Rattle.affc_order.specs.Systems.{pair_columns, source_systems, turned_systems}
 
--- Two statements, a system over the parameters, the first's iterators and the second's, and the ranges of these columns. At
--- its integer points an instance of the second depends on one of the first that the schedule runs later.
+-- Two parts, a system over the parameters, the first's coordinates and the second's, and the ranges of these columns. At its
+-- integer points an instance of the second depends on one of the first that the schedule runs later.
 pub record Question : Type 0 where
   pub first : ℕ
   pub second : ℕ
@@ -52,12 +53,12 @@ abbrev pub context_count : Nest → ℕ
 context_count nest = 2 * length nest.params + length nest.context.rows
 
 module _ (nest : Nest) (a b : Entry) where
-  -- a form of the first statement, and one of the second
+  -- a form of the first part, and one of the second
   abbrev pub of_first : Affine → Affine
-  of_first = spread (length nest.params) 0 (length b.loops)
+  of_first = spread (length nest.params) 0 (coordinates b)
 
   abbrev pub of_second : Affine → Affine
-  of_second = spread (length nest.params) (length a.loops) 0
+  of_second = spread (length nest.params) (coordinates a) 0
 
   -- both domains; the rows of the parameters and of the context stand once
   abbrev pub pair_domain : List Affine
@@ -69,18 +70,18 @@ module _ (nest : Nest) (a b : Entry) where
 
   abbrev pub question : (rows : List Affine) → (earlier later : Rows) → Question
   question rows earlier later = record {
-    first = a.statement;
-    second = b.statement;
-    system = record { columns = pair_columns nest a.statement b.statement; rows = rows ++ (earlier.rows ++ later.rows) };
+    first = a.part;
+    second = b.part;
+    system = record { columns = pair_columns nest a.part b.part; rows = rows ++ (earlier.rows ++ later.rows) };
     ranges = nest.params ++ (a.ranges ++ b.ranges);
   }
 
   -- the first is earlier in the source, and the second in the target
   abbrev pub pair_questions : Schedule → (x y : Access) → List Question
   pair_questions schedule x y =
-      flat_map (λ earlier. map (question (pair_rows x y) earlier) (turned_systems nest a.statement b.statement schedule)) (source_systems nest a.statement b.statement)
+      flat_map (λ earlier. map (question (pair_rows x y) earlier) (turned_systems nest a.part b.part schedule)) (source_systems nest a.part b.part)
 
--- ---- All questions: per statement and access, and then per statement and access of the other
+-- ---- All questions: per part and access, and then per part and access of the other
 
 abbrev pub questions_of : Nest → Schedule → Entry → Touch → Entry → Touch → List Question
 questions_of nest schedule a x b y = if may_depend x y then pair_questions nest a b schedule x.0 y.0 else []

@@ -169,7 +169,7 @@ pub fn pair_rows(
     requires to { IsIn y.now b.now.accesses }
     requires many { length x.now.subs ≡ length y.now.subs }
     requires few { length x.now.subs ≤ 4 }
-    ensures value { IfOk result (λ s. s ≡ record { columns = pair_columns nest.now a.now.statement b.now.statement; rows = pair_rows nest.now a.now b.now x.now y.now }) }
+    ensures value { IfOk result (λ s. s ≡ record { columns = pair_columns nest.now a.now.part b.now.part; rows = pair_rows nest.now a.now b.now x.now y.now }) }
     ensures few { IfOk result (λ s. length s.rows ≤ 900) }
 {
     let params = nest.params.ranges().len() as u32;
@@ -202,8 +202,8 @@ pub fn pair_systems(
     ensures { IfOk result (λ v. v.items ≡ map (λ q. q.system) (pair_questions nest.now a.now b.now schedule.now x.now y.now)) }
 {
     let pair = pair_rows(alloc, nest, a, b, x, y)?;
-    let earlier = source_before(alloc, nest, a.statement, b.statement)?;
-    let later = target_after(alloc, nest, schedule, a.statement, b.statement)?;
+    let earlier = source_before(alloc, nest, a.part, b.part)?;
+    let later = target_after(alloc, nest, schedule, a.part, b.part)?;
     let mut systems = Vec::new(alloc);
     add_orders(&pair, earlier.as_slice(), later.as_slice(), &mut systems)?;
     Ok(systems)

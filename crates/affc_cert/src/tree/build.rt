@@ -68,7 +68,7 @@ fn forms(alloc: Global, value: &Value) -> Result<Items<Form>, AllocError>
     forms_among(alloc, items.as_slice())
 }
 
-/// The parts of the node of a leaf that names a statement.
+/// The parts of the node of a leaf that names a part.
 #[tactic(auto, using(crate::proofs::tree::Found::tree_parts_found))]
 fn source(alloc: Global, items: &[Value]) -> Result<(u32, Items<Form>), AllocError>
     requires { tree_kind_of (items_view items.now) ≡ TreeKind.Source }
@@ -80,19 +80,19 @@ fn source(alloc: Global, items: &[Value]) -> Result<(u32, Items<Form>), AllocErr
     let Some(number) = whole(&items[1]) else {
         return Err(AllocError);
     };
-    let Ok(statement) = u32::try_from(number) else {
+    let Ok(part) = u32::try_from(number) else {
         return Err(AllocError);
     };
     let forms = forms(alloc, &items[2])?;
-    Ok((statement, forms))
+    Ok((part, forms))
 }
 
-/// Puts a leaf that names a statement on the stack.
+/// Puts a leaf that names a part on the stack.
 #[tactic(auto, using(crate::proofs::tree::Found::tree_stack_steps))]
-fn put_source(stack: &mut Vec<Quast>, statement: u32, forms: Items<Form>) -> Result<(), AllocError>
-    ensures { OnOk result (tree_stack_nodes stack.new.items ≡ source_node statement forms ∷ tree_stack_nodes stack.old.items) }
+fn put_source(stack: &mut Vec<Quast>, part: u32, forms: Items<Form>) -> Result<(), AllocError>
+    ensures { OnOk result (tree_stack_nodes stack.new.items ≡ source_node part forms ∷ tree_stack_nodes stack.old.items) }
 {
-    stack.push(Quast::Source { statement, forms })?;
+    stack.push(Quast::Source { part, forms })?;
     Ok(())
 }
 

@@ -34,7 +34,7 @@ returns c =
     let old = flat_map drafted c.args.out.now.items in
     let factors =
     c.in_ok-factors.ensures ∙ ap (λ xs. after ∷ before ∷ apart_rows xs c.as_slice-2.result.now [] ∷ []) c.as_slice.ensures.value ∙ ap (λ ys. after ∷ before ∷ apart_rows c.in_ok-x.x.items ys [] ∷ []) c.as_slice-2.ensures.value in
-    store_made c.args.nest.now c.args.reader.now (leaf_seen c.args.leaf.now) c.args.writer.now c.args.schedule.now c.args.load.now (posed c.args.named.now.statement c.args.named.now.forms) c.args.store.now c.columns_in-columns.result c.in_ok-ranges.ranges
+    store_made c.args.nest.now c.args.reader.now (leaf_seen c.args.leaf.now) c.args.writer.now c.args.schedule.now c.args.load.now (posed c.args.named.now.part c.args.named.now.forms) c.args.store.now c.columns_in-columns.result c.in_ok-ranges.ranges
     c.in_ok-x.x.items c.in_ok-y.y.items c.in_ok-front.front.items after before old (flat_map drafted c.push.new.self.items) c.columns_in-columns.ensures
     c.in_ok-ranges.ensures c.in_ok-x.ensures c.in_ok-y.ensures c.in_ok-front.ensures c.in_ok-after.ensures c.in_ok-before.ensures
     (draft_more c.args.out.now.items c.push.new.self.items _ c.in_ok-push.ensures.items after before factors)

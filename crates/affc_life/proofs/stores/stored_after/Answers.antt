@@ -23,17 +23,17 @@ pub add_padded-requires : goal.add_padded-requires
 add_padded-requires c =
     subst (λ k. All (λ f. length f.coefs ≤ k) c.as_slice.result.now) (sym c.columns_in-columns.ensures)
     (subst (All (λ f. length f.coefs ≤ c.args.leaf.now.columns + length c.args.writer.now.loops)) (sym c.as_slice.ensures)
-    (named_narrow c.args.nest.now c.args.reader.now (leaf_seen c.args.leaf.now) c.args.writer.now c.requires.seated (posed c.args.named.now.statement c.args.named.now.forms) c.requires.named))
+    (named_narrow c.args.nest.now c.args.reader.now (leaf_seen c.args.leaf.now) c.args.writer.now c.requires.seated (posed c.args.named.now.part c.args.named.now.forms) c.requires.named))
 
 pub columns_from-requires : goal.columns_from-requires
 columns_from-requires c = few_more c.args.leaf.now.columns c.loops_round-loops.result c.args.leaf.now.columns (length c.args.writer.now.loops) (λ i. c.args.leaf.now.columns) c.loops_round-loops.ensures (leaf_few c.args.nest.now c.args.reader.now (leaf_seen c.args.leaf.now) c.args.writer.now c.requires.seated) (writer_few c.args.nest.now c.args.reader.now (leaf_seen c.args.leaf.now) c.args.writer.now c.requires.seated)
 
 pub target_order-requires-clause-first : goal.target_order-requires-clause-first
 target_order-requires-clause-first c =
-    has_forms c.args.nest.now c.args.reader.now (leaf_seen c.args.leaf.now) c.args.writer.now c.columns_in-columns.result c.columns_in-columns.ensures c.args.named.now.statement c.as_slice-2.result.now _
+    has_forms c.args.nest.now c.args.reader.now (leaf_seen c.args.leaf.now) c.args.writer.now c.columns_in-columns.result c.columns_in-columns.ensures c.args.named.now.part c.as_slice-2.result.now _
     (c.as_slice-2.ensures.value ∙ loaded_made c.args.nest.now c.args.reader.now (leaf_seen c.args.leaf.now) c.args.writer.now c.columns_in-columns.result c.as_slice.result.now c.args.named.now.forms c.new-names.result.items c.add_padded.new.out.items c.columns_in-columns.ensures c.new-names.ensures.items c.as_slice.ensures
     c.in_ok-add_padded.ensures)
-    (named_forms c.args.nest.now c.args.reader.now (leaf_seen c.args.leaf.now) c.args.writer.now c.requires.seated (posed c.args.named.now.statement c.args.named.now.forms) c.requires.named)
+    (named_forms c.args.nest.now c.args.reader.now (leaf_seen c.args.leaf.now) c.args.writer.now c.requires.seated (posed c.args.named.now.part c.args.named.now.forms) c.requires.named)
 
 pub target_order-requires-clause-second : goal.target_order-requires-clause-second
 target_order-requires-clause-second c =
@@ -44,7 +44,7 @@ target_order-requires-clause-second c =
 pub returns : goal.returns
 returns c =
     IfOk-weaker c.target_order.result _ _
-    (λ v e. order_made c.args.nest.now c.args.reader.now (leaf_seen c.args.leaf.now) c.args.writer.now c.columns_in-columns.result c.columns_in-columns.ensures c.args.schedule.now (named_posed c.args.nest.now c.args.reader.now (leaf_seen c.args.leaf.now) c.args.writer.now (posed c.args.named.now.statement c.args.named.now.forms)) c.as_slice-2.result.now
+    (λ v e. order_made c.args.nest.now c.args.reader.now (leaf_seen c.args.leaf.now) c.args.writer.now c.columns_in-columns.result c.columns_in-columns.ensures c.args.schedule.now (named_posed c.args.nest.now c.args.reader.now (leaf_seen c.args.leaf.now) c.args.writer.now (posed c.args.named.now.part c.args.named.now.forms)) c.as_slice-2.result.now
     (writer_posed c.args.nest.now c.args.reader.now (leaf_seen c.args.leaf.now) c.args.writer.now) c.as_slice-3.result.now v.items
     (c.as_slice-2.ensures.value ∙ loaded_made c.args.nest.now c.args.reader.now (leaf_seen c.args.leaf.now) c.args.writer.now c.columns_in-columns.result c.as_slice.result.now c.args.named.now.forms c.new-names.result.items c.add_padded.new.out.items c.columns_in-columns.ensures c.new-names.ensures.items c.as_slice.ensures
     c.in_ok-add_padded.ensures)

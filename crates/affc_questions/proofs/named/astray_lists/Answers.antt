@@ -17,23 +17,23 @@ images_is nest columns forms own made now e f g = e ∙ (f ∙ ap (images nest c
 pub add_outside-requires-clause-images : goal.add_outside-requires-clause-images
 add_outside-requires-clause-images c =
     subst (AreImages c.args.reading.now.leaf.now.columns) (sym (images_is c.args.reading.now.nest.now c.args.reading.now.leaf.now.columns c.args.named.now.forms c.as_slice.result.now c.in_ok-images.images.items c.as_slice-images.result.now c.as_slice-images.ensures.value c.in_ok-images.ensures c.as_slice.ensures))
-    (images_are c.args.reading.now.nest.now c.requires.reading.nested c.args.reading.now.leaf.now.columns c.args.named.now.statement c.args.named.now.forms c.args.writer.now.entry.now c.args.writer.now.store.now c.requires.writer c.requires.named)
+    (images_are c.args.reading.now.nest.now c.requires.reading.nested c.args.reading.now.leaf.now.columns c.args.named.now.part c.args.named.now.forms c.args.writer.now.entry.now c.args.writer.now.store.now c.requires.writer c.requires.named)
 
 pub add_outside-requires-clause-rows : goal.add_outside-requires-clause-rows
 add_outside-requires-clause-rows c =
     subst (λ (fs : List Affine). All (IsRow (length fs)) c.rows.result.now) (sym (images_is c.args.reading.now.nest.now c.args.reading.now.leaf.now.columns c.args.named.now.forms c.as_slice.result.now c.in_ok-images.images.items c.as_slice-images.result.now c.as_slice-images.ensures.value c.in_ok-images.ensures c.as_slice.ensures))
-    (rows_at_images c.args.reading.now.nest.now c.requires.reading.nested c.args.reading.now.leaf.now.columns c.args.named.now.statement c.args.named.now.forms c.args.writer.now.entry.now c.args.writer.now.store.now c.requires.writer c.requires.named c.rows.result.now c.rows.ensures.fit)
+    (rows_at_images c.args.reading.now.nest.now c.requires.reading.nested c.args.reading.now.leaf.now.columns c.args.named.now.part c.args.named.now.forms c.args.writer.now.entry.now c.args.writer.now.store.now c.requires.writer c.requires.named c.rows.result.now c.rows.ensures.fit)
 
 pub add_apart-requires-clause-images : goal.add_apart-requires-clause-images
 add_apart-requires-clause-images c =
     subst (AreImages c.args.reading.now.leaf.now.columns) (sym (images_is c.args.reading.now.nest.now c.args.reading.now.leaf.now.columns c.args.named.now.forms c.as_slice.result.now c.in_ok-images.images.items c.as_slice-images.result.now c.as_slice-images.ensures.value c.in_ok-images.ensures c.as_slice.ensures))
-    (images_are c.args.reading.now.nest.now c.requires.reading.nested c.args.reading.now.leaf.now.columns c.args.named.now.statement c.args.named.now.forms c.args.writer.now.entry.now c.args.writer.now.store.now c.requires.writer c.requires.named)
+    (images_are c.args.reading.now.nest.now c.requires.reading.nested c.args.reading.now.leaf.now.columns c.args.named.now.part c.args.named.now.forms c.args.writer.now.entry.now c.args.writer.now.store.now c.requires.writer c.requires.named)
 
 pub add_apart-requires-clause-written : goal.add_apart-requires-clause-written
 add_apart-requires-clause-written c =
     subst (λ (fs : List Affine). All (IsRow (length fs)) c.as_slice-written.result.now) (sym (images_is c.args.reading.now.nest.now c.args.reading.now.leaf.now.columns c.args.named.now.forms c.as_slice.result.now c.in_ok-images.images.items c.as_slice-images.result.now c.as_slice-images.ensures.value c.in_ok-images.ensures c.as_slice.ensures))
     (subst (All (IsRow (length (images c.args.reading.now.nest.now c.args.reading.now.leaf.now.columns c.args.named.now.forms)))) (sym c.as_slice-written.ensures)
-    (subs_at_images c.args.reading.now.nest.now c.requires.reading.nested c.args.reading.now.leaf.now.columns c.args.named.now.statement c.args.named.now.forms c.args.writer.now.entry.now c.args.writer.now.store.now c.requires.writer c.requires.named))
+    (subs_at_images c.args.reading.now.nest.now c.requires.reading.nested c.args.reading.now.leaf.now.columns c.args.named.now.part c.args.named.now.forms c.args.writer.now.entry.now c.args.writer.now.store.now c.requires.writer c.requires.named))
 
 pub add_apart-requires-clause-narrow : goal.add_apart-requires-clause-narrow
 add_apart-requires-clause-narrow c =

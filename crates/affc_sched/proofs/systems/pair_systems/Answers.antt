@@ -27,13 +27,13 @@ pub add_orders-requires-clause-earlier : goal.add_orders-requires-clause-earlier
 add_orders-requires-clause-earlier c =
     let n = is_nest c.args.nest.now c.args.schedule.now c.requires.asked.scheduled in
     orders_at _ c.in_ok-pair.pair.columns _ c.as_slice.result.now (ap (λ (r : Rows). r.columns) c.in_ok-pair.ensures.value) (c.as_slice.ensures.value ∙ c.in_ok-earlier.ensures)
-    (source_orders c.args.nest.now n c.args.a.now.statement c.args.b.now.statement (stands_in c.args.nest.now n c.args.a.now c.requires.first).counted)
+    (source_orders c.args.nest.now n c.args.a.now.part c.args.b.now.part (stands_in c.args.nest.now n c.args.a.now c.requires.first).counted)
 
 pub add_orders-requires-clause-later : goal.add_orders-requires-clause-later
 add_orders-requires-clause-later c =
     let n = is_nest c.args.nest.now c.args.schedule.now c.requires.asked.scheduled in
     orders_at _ c.in_ok-pair.pair.columns _ c.as_slice-2.result.now (ap (λ (r : Rows). r.columns) c.in_ok-pair.ensures.value) (c.as_slice-2.ensures.value ∙ c.in_ok-later.ensures)
-    (turned_orders c.args.nest.now c.args.schedule.now c.requires.asked.scheduled c.args.a.now.statement c.args.b.now.statement (stands_in c.args.nest.now n c.args.b.now c.requires.second).counted)
+    (turned_orders c.args.nest.now c.args.schedule.now c.requires.asked.scheduled c.args.a.now.part c.args.b.now.part (stands_in c.args.nest.now n c.args.b.now c.requires.second).counted)
 
 pub returns : goal.returns
 returns c =
