@@ -29,26 +29,12 @@ struct Look<'a> {
     ranges: &'a BoxOf,
 }
 
-/// Adds ranges to a box.
-fn add_ranges(out: &mut BoxOf, ranges: &[(i64, i64)]) -> Result<(), AllocError>
-    requires { IsBox ranges.now }
-    ensures { OnOk result (out.new ≡ out.old ++ ranges.now) }
-{
-    match ranges {
-        [] => Ok(()),
-        [range, rest @ ..] => {
-            out.push(range.0, range.1)?;
-            add_ranges(out, rest)
-        }
-    }
-}
-
 /// The ranges of the parameters, and then of the entry's iterators.
 fn box_with(nest: &Nest, entry: &Entry) -> Result<BoxOf, AllocError>
     ensures { IfOk result (λ b. b ≡ box_of nest.now entry.now) }
 {
     let mut out = nest.params.clone()?;
-    add_ranges(&mut out, entry.ranges.ranges())?;
+    out.append(entry.ranges.ranges())?;
     Ok(out)
 }
 

@@ -7,7 +7,7 @@ use Rattle.std.proofs.lemmas.List.Elements.{All-nil, All-cons, All-append}
 use native.Mathlib.Numerals.{unary_clauses}
 use borrow.Author.Differences.{abs_is}
 use Rattle.affc_rows.specs.Forms.{Affine, value, dot}
-use Rattle.affc_system.specs.Boxes.{InBox}
+use Rattle.affc_system.specs.Boxes.{InBox, pin}
 use Rattle.affc_ast.specs.declared.tree.Instance.{Instance}
 use Rattle.affc_ast.specs.declared.tree.Program.{Program}
 use Rattle.affc_trace.proofs.EndedReads.{append_assoc}
@@ -23,7 +23,6 @@ use Rattle.affc_quast.specs.Paths.{IsNear}
 use Rattle.affc_quast.specs.Trees.{Tree, Test, named_at, quotients_at, depth_of, divisions_of}
 use Rattle.affc_flow.specs.Laws.{IsSourceOf}
 use Rattle.affc_dataflow.specs.Searches.{IsRightAt, Covers, part_box, Fuel, IsSlight}
-use Rattle.affc_latest.specs.Stores.{pin}
 
 -- ---- Halves
 

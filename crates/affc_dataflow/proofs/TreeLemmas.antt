@@ -4,6 +4,7 @@ use Rattle.std.specs.Prelude.{unsigned_abs}
 use Rattle.std.specs.List.{All}
 use Rattle.std.proofs.lemmas.List.Elements.{All-nil, All-cons, All-head, All-tail}
 use Rattle.affc_rows.specs.Forms.{value, values_of, HaveColumns}
+use Rattle.affc_system.specs.Boxes.{pin}
 use Rattle.affc_system.specs.Systems.{IsPoint}
 use Rattle.affc_ast.specs.declared.tree.Instance.{Instance}
 use Rattle.affc_ast.specs.declared.tree.Program.{Program}
@@ -26,7 +27,7 @@ use Rattle.affc_quast.specs.Trees.{Tree, Source, Input}
 use Rattle.affc_flow.specs.Laws.{Loads, IsSourceOf}
 use Rattle.affc_flow.specs.Questions.{is_temporary}
 use Rattle.affc_dataflow.specs.Searches.{IsRightAt, Covers, IsSlight, IsLoad}
-use Rattle.affc_latest.specs.Stores.{pin, IsReadFrom, IsWriterAt}
+use Rattle.affc_latest.specs.Stores.{IsReadFrom, IsWriterAt}
 use Rattle.affc_dataflow.specs.Unwritten.{IsUnwritten}
 use Rattle.affc_latest.proofs.LastLemmas.{pinned_is}
 use Rattle.affc_flow.proofs.LoadLemmas.{load_there}

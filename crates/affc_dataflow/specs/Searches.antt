@@ -1,7 +1,7 @@
 -- What the search for the tree of a load says of a part of the box of its parameters and iterators.
 use Rattle.std.specs.Prelude.{◌≡◌, ℕ, ◌+◌, ◌-◌, ◌^◌, ◌<◌, ◌≤◌, ℤ, ◌-ℤ◌, unsigned_abs, List, [], ◌∷◌, ◌++◌, map, length, Some, slice_get}
 use Rattle.std.specs.List.{All}
-use Rattle.affc_system.specs.Boxes.{InBox}
+use Rattle.affc_system.specs.Boxes.{InBox, pin}
 use Rattle.affc_ast.specs.declared.tree.Program.{Program}
 use Rattle.affc_nest.specs.declared.nest.Access.{Access}
 use Rattle.affc_nest.specs.declared.nest.Entry.{Entry}
@@ -13,7 +13,7 @@ use Rattle.affc_quast.specs.Sources.{loads_in}
 use Rattle.affc_quast.specs.Trees.{Tree, named_at, quotients_at}
 use Rattle.affc_sched.specs.Touched.{IsTouched}
 use Rattle.affc_flow.specs.Laws.{Loads, IsSourceOf}
-use Rattle.affc_latest.specs.Stores.{pin, IsNamedNest}
+use Rattle.affc_latest.specs.Stores.{IsNamedNest}
 
 -- what is to be said at one instance
 pub record IsRightAt (program : Program) (p iterators : List ℤ) (e : Entry) (x : Access) (tree : Tree) : Type 0 where

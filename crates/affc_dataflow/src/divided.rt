@@ -9,9 +9,9 @@ ghost use Rattle.affc_quast.specs.Trees.{Div};
 ghost use Rattle.affc_dataflow.specs.Guesses.{CoversOn, IsPath, IsQuotientRange, divided_path};
 
 use crate::guess::Depth;
-use affc_nest::Division;
 use affc_flow::load::Load;
 use affc_flow::questions::{Place, Unasked, gap, push_row, push_spread};
+use affc_nest::Division;
 use affc_order::columns::spread;
 use affc_quast::Quast;
 use affc_rows::Form;

@@ -3,9 +3,9 @@
 //! A candidate is over the columns of the load and, behind them, the quotients of all divisions that are known. A path has some
 //! of these, in an order of its own.
 
-use affc_nest::Division;
 use affc_drafts::Candidate;
 use affc_flow::questions::Place;
+use affc_nest::Division;
 use affc_rows::Form;
 use smallvec::SmallVec;
 use sqlite_items::Items;

@@ -3,8 +3,6 @@ ghost use Rattle.std.specs.Prelude.{◌≡◌, ◌≤ℤ◌, IfOk};
 ghost use Rattle.affc_system.specs.Boxes.{IsBox};
 ghost use Rattle.affc_dataflow.specs.Searches.{part_box};
 
-use affc_flow::ranges::add_ranges;
-use affc_latest::pinned::add_pinned;
 use affc_system::BoxOf;
 use std::alloc::{AllocError, Global};
 
@@ -21,8 +19,8 @@ pub(crate) fn part_ranges(
     ensures { IfOk result (λ r. r ≡ part_box point.now low high rest.now) }
 {
     let mut out = BoxOf::new(alloc);
-    add_pinned(point, &mut out)?;
+    out.pin(point)?;
     out.push(low, high)?;
-    add_ranges(rest, &mut out)?;
+    out.append(rest)?;
     Ok(out)
 }

@@ -7,7 +7,6 @@ ghost use Rattle.affc_dataflow.specs.Searches.{IsLoad};
 
 use crate::growth::{Growth, Site, fitted_candidate};
 use crate::guess::first_open;
-use affc_nest::Division;
 use affc_ast::tree::Instance;
 use affc_drafts::{Candidate, through, value_of};
 use affc_flow::asking::{Chosen, store_for};
@@ -15,6 +14,7 @@ use affc_flow::listing::{add_input, add_named};
 use affc_flow::load::Load;
 use affc_flow::questions::{Place, Question, Unasked, gap};
 use affc_latest::{Reading, source_of};
+use affc_nest::Division;
 use affc_order::order::shared;
 use affc_rows::Form;
 use affc_split::{Answer, Budget, Stop, decide_any, within_reach};

@@ -4,6 +4,7 @@ use Rattle.std.specs.Prelude.{◌&&◌, IfSome}
 use Rattle.std.specs.List.{All}
 use Rattle.std.proofs.lemmas.List.Elements.{All-nil, All-cons, All-head, All-tail, All-append}
 use Rattle.affc_rows.specs.Forms.{Affine}
+use Rattle.affc_system.specs.Boxes.{pin}
 use Rattle.affc_system.specs.Pairs.{WithinReach}
 use Rattle.affc_system.specs.Systems.{Rows}
 use Rattle.affc_ast.specs.declared.tree.Instance.{Instance}
@@ -33,7 +34,7 @@ use Rattle.affc_quast.specs.Paths.{IsNear}
 use Rattle.affc_quast.specs.Sources.{loads_in}
 use Rattle.affc_latest.specs.Latest.{IsLatest}
 use Rattle.affc_flow.specs.Writers.{Writes}
-use Rattle.affc_latest.specs.Stores.{store_rows, store_system, pin, beside_box, IsLastIn, IsNamedNest, AreBeside, IsStoreBy, IsLatestBy, IsWriterAt}
+use Rattle.affc_latest.specs.Stores.{store_rows, store_system, beside_box, IsLastIn, IsNamedNest, AreBeside, IsStoreBy, IsLatestBy, IsWriterAt}
 use Rattle.affc_latest.proofs.AmongLemmas.{one_by}
 use Rattle.affc_latest.proofs.LastLemmas.{within, latest_by, names_writer}
 use Rattle.affc_latest.proofs.LaterLemmas.{each_one}

@@ -5,7 +5,7 @@ use Rattle.std.specs.List.{All}
 use Rattle.std.proofs.lemmas.Bool.{leb-true}
 use Rattle.std.proofs.lemmas.Int.{ints}
 use Rattle.std.proofs.lemmas.List.Elements.{All-nil, All-cons}
-use Rattle.affc_system.specs.Boxes.{InBox}
+use Rattle.affc_system.specs.Boxes.{InBox, pin}
 use Rattle.affc_system.specs.Order.{LexLe}
 use Rattle.affc_system.specs.Systems.{Rows, IsPoint}
 use Rattle.affc_ast.specs.declared.tree.Instance.{Instance}
@@ -26,7 +26,7 @@ use Rattle.affc_sched.proofs.LegalLemmas.{entry_at, box_append}
 use Rattle.affc_latest.specs.Latest.{IsLatest}
 use Rattle.affc_flow.specs.Laws.{Loads}
 use Rattle.affc_flow.specs.Writers.{Writes}
-use Rattle.affc_latest.specs.Stores.{StoresBefore, store_system, pin, beside_box, IsLastIn, IsStoreBy, IsWriterAt}
+use Rattle.affc_latest.specs.Stores.{StoresBefore, store_system, beside_box, IsLastIn, IsStoreBy, IsWriterAt}
 use Rattle.affc_latest.proofs.LatestLemmas.{in_lex_order}
 use Rattle.affc_flow.proofs.PathLemmas.{parameters_are}
 use Rattle.affc_latest.proofs.StoreLemmas.{point_stores}

@@ -2,7 +2,7 @@
 use Rattle.std.specs.Prelude.{◌≡◌, ◌⊎◌, ℕ, ◌^◌, ◌≤◌, ℤ, unsigned_abs, List, ◌++◌, map, take, drop, length, IsTrue, Option, Some, None, slice_get}
 use Rattle.std.specs.List.{All}
 use Rattle.affc_rows.specs.Forms.{Affine}
-use Rattle.affc_system.specs.Boxes.{InBox}
+use Rattle.affc_system.specs.Boxes.{InBox, pin}
 use Rattle.affc_system.specs.Systems.{Rows, IsPoint}
 use Rattle.affc_ast.specs.declared.tree.Instance.{Instance}
 use Rattle.affc_ast.specs.declared.tree.Program.{Program}
@@ -47,10 +47,6 @@ module _ (nest : Nest) (v e : Entry) (y x : Access) where
   -- and by a system of the order it is earlier
   abbrev pub store_system : Rows → Rows
   store_system order = record { columns = pair_columns nest v.statement e.statement; rows = store_rows ++ order.rows }
-
--- a range of one number
-abbrev pub pin : ℤ → ℤ × ℤ
-pin x = (x, x)
 
 -- the parameters and the last iterators have these values, and the iterators between them these ranges
 abbrev pub beside_box : (p : List ℤ) → List (ℤ × ℤ) → (its : List ℤ) → List (ℤ × ℤ)

@@ -1,23 +1,9 @@
 //! Ranges of one number, round others.
 ghost use Rattle.std.specs.Prelude.{◌≡◌, ◌++◌, map, IfOk, OnOk};
-ghost use Rattle.affc_latest.specs.Stores.{pin, beside_box};
+ghost use Rattle.affc_latest.specs.Stores.{beside_box};
 
-use affc_flow::ranges::add_ranges;
 use affc_system::BoxOf;
 use std::alloc::{AllocError, Global};
-
-/// Adds ranges of one number each.
-pub fn add_pinned(point: &[i64], out: &mut BoxOf) -> Result<(), AllocError>
-    ensures { OnOk result (out.new ≡ out.old ++ map pin point.now) }
-{
-    match point {
-        [] => Ok(()),
-        [x, rest @ ..] => {
-            out.push(*x, *x)?;
-            add_pinned(rest, out)
-        }
-    }
-}
 
 /// The ranges of another statement's iterators between the values of the parameters and of the load's iterators.
 #[tactic(auto, using(affc_sched::proofs::Lists::three_ranges))]
@@ -30,8 +16,8 @@ pub(crate) fn beside_ranges(
     ensures { IfOk result (λ r. r ≡ beside_box p.now ranges.now iterators.now) }
 {
     let mut out = BoxOf::new(alloc);
-    add_pinned(p, &mut out)?;
-    add_ranges(ranges.ranges(), &mut out)?;
-    add_pinned(iterators, &mut out)?;
+    out.pin(p)?;
+    out.append(ranges.ranges())?;
+    out.pin(iterators)?;
     Ok(out)
 }

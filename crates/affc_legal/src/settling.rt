@@ -90,28 +90,14 @@ fn settle_systems(
     }
 }
 
-/// Adds ranges to a box.
-fn add_ranges(out: &mut BoxOf, ranges: &[(i64, i64)]) -> Result<(), AllocError>
-    requires { IsBox ranges.now }
-    ensures { OnOk result (out.new ≡ out.old ++ ranges.now) }
-{
-    match ranges {
-        [] => Ok(()),
-        [range, rest @ ..] => {
-            out.push(range.0, range.1)?;
-            add_ranges(out, rest)
-        }
-    }
-}
-
 /// The ranges of the parameters, of the first's iterators and of the second's.
 #[tactic(auto, using(affc_sched::proofs::Lists::three_ranges))]
 fn pair_ranges(nest: &Nest, a: &Entry, b: &Entry) -> Result<BoxOf, AllocError>
     ensures { IfOk result (λ r. r ≡ nest.now.params ++ (a.now.ranges ++ b.now.ranges)) }
 {
     let mut out = nest.params.clone()?;
-    add_ranges(&mut out, a.ranges.ranges())?;
-    add_ranges(&mut out, b.ranges.ranges())?;
+    out.append(a.ranges.ranges())?;
+    out.append(b.ranges.ranges())?;
     Ok(out)
 }
 

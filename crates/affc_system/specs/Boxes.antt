@@ -10,6 +10,10 @@ IsRange range = range.0 ≤ℤ range.1
 abbrev pub IsBox : List (ℤ × ℤ) → Type 0
 IsBox ranges = All IsRange ranges
 
+-- the range of one number
+abbrev pub pin : ℤ → ℤ × ℤ
+pin x = (x, x)
+
 -- the point has one number for each range, from its low to its high end
 abbrev pub InBox : List (ℤ × ℤ) → List ℤ → Type 0
 InBox [] [] = Unit {0}

@@ -1,8 +1,8 @@
 //! Boxes, and the least and greatest values of forms over them.
-ghost use Rattle.std.specs.Prelude.{◌≡◌, ℕ, ℤ, List, [], ◌∷◌, ◌++◌, ◌+◌, ◌*◌, ◌^◌, ◌<◌, ◌≤◌, ◌+ℤ◌, ◌*ℤ◌, ◌≤ℤ◌, pos, unsigned_abs, true, false, IfOk, OnOk, OnErr, length};
+ghost use Rattle.std.specs.Prelude.{◌≡◌, ℕ, ℤ, List, [], ◌∷◌, ◌++◌, ◌+◌, ◌*◌, ◌^◌, ◌<◌, ◌≤◌, ◌+ℤ◌, ◌*ℤ◌, ◌≤ℤ◌, pos, unsigned_abs, true, false, IfOk, OnOk, OnErr, length, map};
 ghost use Rattle.std.specs.List.{All};
 ghost use Rattle.affc_rows.specs.Forms.{dot, value, magnitude};
-ghost use Rattle.affc_system.specs.Boxes.{IsBox, InBox, IsCorner, end_of, corner, reach, box_magnitude};
+ghost use Rattle.affc_system.specs.Boxes.{pin, IsBox, InBox, IsCorner, end_of, corner, reach, box_magnitude};
 
 use affc_rows::total::MOST_MAGNITUDE;
 use affc_rows::{Form, Range};
@@ -56,6 +56,33 @@ impl BoxOf {
             return Err(AllocError);
         };
         Ok(())
+    }
+
+    /// Adds the ranges of columns more.
+    pub fn append(&mut self, ranges: &[(i64, i64)]) -> Result<(), AllocError>
+        requires { IsBox ranges.now }
+        ensures { OnOk result (self.new ≡ self.old ++ ranges.now) }
+    {
+        match ranges {
+            [] => Ok(()),
+            [range, rest @ ..] => {
+                self.push(range.0, range.1)?;
+                self.append(rest)
+            }
+        }
+    }
+
+    /// Adds columns more that have these values alone.
+    pub fn pin(&mut self, values: &[i64]) -> Result<(), AllocError>
+        ensures { OnOk result (self.new ≡ self.old ++ map pin values.now) }
+    {
+        match values {
+            [] => Ok(()),
+            [value, rest @ ..] => {
+                self.push(*value, *value)?;
+                self.pin(rest)
+            }
+        }
     }
 }
 

@@ -67,20 +67,6 @@ fn with_gap(alloc: Global, system: &System, form: &Form, ceiling: i64) -> Result
     Ok(longer)
 }
 
-/// Adds ranges.
-fn add_ranges(ranges: &[(i64, i64)], out: &mut BoxOf) -> Result<(), AllocError>
-    requires { IsBox ranges.now }
-    ensures { OnOk result (out.new ≡ out.old ++ ranges.now) }
-{
-    match ranges {
-        [] => Ok(()),
-        [range, rest @ ..] => {
-            out.push(range.0, range.1)?;
-            add_ranges(rest, out)
-        }
-    }
-}
-
 /// The box with a range for the gap, where the form is above the floor.
 fn box_with_gap(
     alloc: Global,
@@ -95,7 +81,7 @@ fn box_with_gap(
 {
     let mut longer = BoxOf::new(alloc);
     longer.push(0, ceiling - floor - 1)?;
-    add_ranges(ranges.ranges(), &mut longer)?;
+    longer.append(ranges.ranges())?;
     Ok(longer)
 }
 

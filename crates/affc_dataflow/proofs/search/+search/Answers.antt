@@ -1,10 +1,9 @@
 use Rattle.std.proofs.Common.{◌≡◌, suc, ◌-◌, ◌≤◌, pos, ◌+ℤ◌, to_z, of_z, w64, rules, [], ◌∷◌, ◌++◌, length, get_or, map, take, drop, ap, subst, ◌∙◌, arith}
 use Rattle.std.proofs.lemmas.Result.{IfOk-weaker}
-use Rattle.affc_system.specs.Boxes.{IsRange}
+use Rattle.affc_system.specs.Boxes.{IsRange, pin}
 use Rattle.affc_quast.specs.Seen.{seen}
 use Rattle.affc_quast.specs.Trees.{Test}
 use Rattle.affc_dataflow.specs.Searches.{Covers, part_box, Fuel, IsSlightRange}
-use Rattle.affc_latest.specs.Stores.{pin}
 use Rattle.affc_dataflow.proofs.HalfLemmas.{test_form, halves_cover, next_covers, leaf_covers, next_fuel}
 use Rattle.affc_dataflow.proofs.PartLemmas.{passed, next_passed, less_passed, not_less_passed, part_passed, covers_passed, middle_passed, some_left, at_slight, behind_slight, low_part, high_part, equal_ends, first_there, next_width, rest_all, then_later}
 use Rattle.affc_dataflow.proofs.SlightLemmas.{one_more_slight, few_columns, front_fits, back_fits}
