@@ -19,13 +19,14 @@ use Rattle.affc_nest.specs.Questions.{widened}
 use Rattle.affc_nest.specs.declared.nest.Access.{Access}
 use Rattle.affc_nest.specs.declared.nest.Entry.{Entry}
 use Rattle.affc_nest.specs.declared.nest.Nest.{Nest}
+use Rattle.affc_nest.specs.Parts.{coordinates, statement_of}
 use Rattle.affc_nest.specs.Nests.{nest_of}
 use Rattle.affc_order.specs.Posed.{Posed, form_at}
 use Rattle.affc_order.specs.Spread.{spread}
 use Rattle.affc_order.specs.Systems.{lex_systems, loops_of}
 use Rattle.affc_sched.specs.Questions.{context_count, equal_rows}
 use Rattle.affc_sched.proofs.LegalLemmas.{entry_at}
-use Rattle.affc_sched.proofs.PairLemmas.{stands_in}
+use Rattle.affc_sched.proofs.PairLemmas.{stands_in, ordered_as}
 use Rattle.affc_quast.specs.Leaves.{Leaf, padded, negated}
 use Rattle.affc_flow.specs.Asked.{on, outside, apart, beside_system, before, after, earlier, between, reader_same, not_earlier, all_between, all_named, input_asked}
 use Rattle.affc_flow.specs.Laws.{NoneHasAPoint}
@@ -123,9 +124,6 @@ module _ (nest : Nest) (n : IsNest nest) (e : Entry) (i : IsIn e nest.entries) (
       ∙ ap (λ rs. rs ++ map (padded width) tests) (map_same (padded width) (widened quotients) own_width (λ f w. padded_widened own_width quotients width f refl w) e.domain.rows rows_wide)
       ∙ ap (λ rs. map (widened quotients) e.domain.rows ++ rs) (map_same (padded width) (λ f. f) width (padded_same width) tests tests_wide ∙ map_none tests)
 
-  own_loops : loops_of nest e.statement ≡ e.loops
-  own_loops = (stands_in nest n e i).loops
-
   -- ---- With a statement that stores the array
 
   module _ (v : Entry) (j : IsIn v nest.entries) (y : Access) (o : Option Posed) where
@@ -155,14 +153,10 @@ module _ (nest : Nest) (n : IsNest nest) (e : Entry) (i : IsIn e nest.entries) (
         ∙ sym (append_assoc (map (spread (length nest.params) 0 (length v.loops)) place.rows) (map (spread (length nest.params) k 0) (drop (context_count nest) v.domain.rows))
         (equal_rows (map (spread (length nest.params) 0 (length v.loops)) (map (padded width) x.subs)) (map (spread (length nest.params) k 0) y.subs)))
 
-    its_loops : loops_of nest v.statement ≡ v.loops
-    its_loops = (stands_in nest n v j).loops
-
     before_same : asks.before_load nest e x ranges (leaf o) v y ≡ before nest e place v
     before_same =
-        let k = width + length v.loops in
-        ap (λ ls. lex_systems k (shared ls (loops_of nest e.statement)) (columns_from k width (length v.loops)) (columns_from k (length nest.params) (length e.loops)) [] (nat_lt v.statement e.statement)) its_loops
-        ∙ ap (λ ls. lex_systems k (shared v.loops ls) (columns_from k width (length v.loops)) (columns_from k (length nest.params) (length e.loops)) [] (nat_lt v.statement e.statement)) own_loops
+        let k = width + coordinates v in
+        ordered_as nest n k v e j i (columns_from k width (coordinates v)) (columns_from k (length nest.params) (coordinates e))
 
     earlier_same : asks.earlier_questions nest e x ranges (leaf o) v y ≡ earlier nest e x place ranges v y
     earlier_same =
@@ -171,13 +165,12 @@ module _ (nest : Nest) (n : IsNest nest) (e : Entry) (i : IsIn e nest.entries) (
 
     module _ (w : Entry) (l : IsIn w nest.entries) (forms : List Affine) (wide : HaveColumns width forms) where
       abbrev named_by : Posed
-      named_by = record { statement = w.statement; iterators = forms }
+      named_by = record { part = w.part; iterators = forms }
 
       after_same : asks.after_named nest e x ranges (leaf o) v y named_by ≡ after nest e place v w forms
       after_same =
-          let k = width + length v.loops in
-          ap (λ ls. lex_systems k (shared ls (loops_of nest v.statement)) (map (padded k) forms) (columns_from k width (length v.loops)) [] (nat_lt w.statement v.statement)) (stands_in nest n w l).loops
-          ∙ ap (λ ls. lex_systems k (shared w.loops ls) (map (padded k) forms) (columns_from k width (length v.loops)) [] (nat_lt w.statement v.statement)) its_loops
+          let k = width + coordinates v in
+          ordered_as nest n k w v l j (map (padded k) forms) (columns_from k width (coordinates v))
           ∙ ap (λ fs. lex_systems k (shared w.loops v.loops) fs (columns_from k width (length v.loops)) [] (nat_lt w.statement v.statement))
           (map_same (padded k) (spread (length nest.params) 0 (length v.loops)) width (λ f u. padded_spread width (length v.loops) (length nest.params) k f refl u) forms wide)
 
@@ -202,7 +195,7 @@ module _ (nest : Nest) (n : IsNest nest) (e : Entry) (i : IsIn e nest.entries) (
 
   module _ (w : Entry) (z : Access) (writes : Writes nest x.array.0 w z) (forms : List Affine) (wide : HaveColumns width forms) (each : length forms ≡ length w.loops) where
     abbrev posed : Posed
-    posed = record { statement = w.statement; iterators = forms }
+    posed = record { part = w.part; iterators = forms }
 
     abbrev images : List Affine
     images = columns_from width 0 (length nest.params) ++ forms
@@ -220,11 +213,12 @@ module _ (nest : Nest) (n : IsNest nest) (e : Entry) (i : IsIn e nest.entries) (
 
     not_earlier_same : asks.not_earlier_questions nest e x ranges (leaf (Some posed)) posed w z ≡ not_earlier nest e x place ranges w forms
     not_earlier_same =
-        let own = columns_from width (length nest.params) (length e.loops) in
-        ap (λ zs. map (λ (o : Rows). record { system = record { columns = width; rows = zs ++ o.rows }; ranges = ranges }) (lex_systems width (shared (loops_of nest e.statement) (loops_of nest w.statement)) own forms [] (nat_lt e.statement w.statement))
-        ++ (if nat_eq e.statement w.statement then (record { system = record { columns = width; rows = zs ++ equal_rows own forms }; ranges = ranges }) ∷ [] else [])) path_same
-        ∙ ap (λ ls. map (λ (o : Rows). on place ranges o.rows) (lex_systems width (shared ls (loops_of nest w.statement)) own forms [] (nat_lt e.statement w.statement)) ++ reader_same e place ranges w own forms) own_loops
-        ∙ ap (λ ls. map (λ (o : Rows). on place ranges o.rows) (lex_systems width (shared e.loops ls) own forms [] (nat_lt e.statement w.statement)) ++ reader_same e place ranges w own forms) (stands_in nest n w writes.among).loops
+        let own = columns_from width (length nest.params) (coordinates e) in
+        let other = statement_of nest w.part in
+        ap (λ zs. map (λ (o : Rows). record { system = record { columns = width; rows = zs ++ o.rows }; ranges = ranges }) (lex_systems width (shared (loops_of nest e.part) (loops_of nest w.part)) own forms [] (nat_lt (statement_of nest e.part) other))
+        ++ (if nat_eq e.statement other then (record { system = record { columns = width; rows = zs ++ equal_rows own forms }; ranges = ranges }) ∷ [] else [])) path_same
+        ∙ ap (λ orders. map (λ (o : Rows). on place ranges o.rows) orders ++ (if nat_eq e.statement other then on place ranges (equal_rows own forms) ∷ [] else [])) (ordered_as nest n width e w i writes.among own forms)
+        ∙ ap (λ s. map (λ (o : Rows). on place ranges o.rows) (lex_systems width (shared e.loops w.loops) own forms [] (nat_lt e.statement w.statement)) ++ (if nat_eq e.statement s then on place ranges (equal_rows own forms) ∷ [] else [])) (stands_in nest n w writes.among).statement
 
     all_between_same : flat_map (λ (v : Writer). asks.between_questions nest e x ranges (leaf (Some posed)) v.0 v.1 posed) (writers nest x.array.0) ≡ all_between nest e x place ranges w forms nest.entries
     all_between_same =
@@ -241,7 +235,7 @@ module _ (nest : Nest) (n : IsNest nest) (e : Entry) (i : IsIn e nest.entries) (
         ∙ ap (λ qs. outside place ranges images w.domain.rows ++ (apart place ranges images z.subs (map (padded width) x.subs) ++ (not_earlier nest e x place ranges w forms ++ qs))) all_between_same
 
     -- the statement that is named is the only one of its number
-    one_writer : (v : Writer) → Writes nest x.array.0 v.0 v.1 → w.statement ≡ v.0.statement → (v.0 ≡ w) × (v.1 ≡ z)
+    one_writer : (v : Writer) → Writes nest x.array.0 v.0 v.1 → w.part ≡ v.0.part → (v.0 ≡ w) × (v.1 ≡ z)
     one_writer v h s =
         let at = entry_at n.program n.has w (subst (λ (m : Nest). IsIn w m.entries) n.is writes.among) in
         let at' = entry_at n.program n.has v.0 (subst (λ (m : Nest). IsIn v.0 m.entries) n.is h.among) in
@@ -249,7 +243,7 @@ module _ (nest : Nest) (n : IsNest nest) (e : Entry) (i : IsIn e nest.entries) (
         (same, same_Some v.1 z (sym h.last ∙ (ap asks.store_of_entry same ∙ writes.last)))
 
     posed_here : poses posed w ≡ true
-    posed_here = both (nat_eq w.statement w.statement) (nat_eq (length forms) (length w.loops)) (eq-eqb w.statement w.statement refl) (eq-eqb (length forms) (length w.loops) each)
+    posed_here = both (nat_eq w.part w.part) (nat_eq (length forms) (length w.loops)) (eq-eqb w.part w.part refl) (eq-eqb (length forms) (length w.loops) each)
       where
         both : (a b : Bool) → a ≡ true → b ≡ true → (a && b) ≡ true
         both a b p q = ap (λ t. t && b) p ∙ q
@@ -262,8 +256,8 @@ module _ (nest : Nest) (n : IsNest nest) (e : Entry) (i : IsIn e nest.entries) (
         chosen : (t : Bool) → poses posed v.0 ≡ t → IsIn (w, z) (v ∷ ws) → (IsIn (w, z) ws → asks.questions_among nest e x ranges (leaf (Some posed)) posed ws ≡ asks.named_questions nest e x ranges (leaf (Some posed)) posed w z)
             → asks.questions_among nest e x ranges (leaf (Some posed)) posed (v ∷ ws) ≡ asks.named_questions nest e x ranges (leaf (Some posed)) posed w z
         chosen true q k rest =
-            let b = both_true (nat_eq v.0.statement w.statement) (nat_eq (length forms) (length v.0.loops)) q in
-            let o = one_writer v (h v (inl refl)) (sym (eqb-true v.0.statement w.statement b.0)) in
+            let b = both_true (nat_eq v.0.part w.part) (nat_eq (length forms) (length v.0.loops)) q in
+            let o = one_writer v (h v (inl refl)) (sym (eqb-true v.0.part w.part b.0)) in
             ap (λ t. if t then asks.named_questions nest e x ranges (leaf (Some posed)) posed v.0 v.1 else asks.questions_among nest e x ranges (leaf (Some posed)) posed ws) q
             ∙ ap (λ u. asks.named_questions nest e x ranges (leaf (Some posed)) posed u v.1) o.0 ∙ ap (λ u. asks.named_questions nest e x ranges (leaf (Some posed)) posed w u) o.1
         chosen false q (inl s) rest = absurd (true≢false (sym posed_here ∙ (ap (λ (u : Writer). poses posed u.0) s ∙ q)))

@@ -44,18 +44,18 @@ front_at (x ∷ xs) ys (suc k) a e = front_at xs ys k a e
 
 -- the questions of one load are among those of all
 among_loads : (nest : Nest) (trees : List Tree) (e : Entry) (q : Question) (xs : List Access) (first k : ℕ) (x : Access) → slice_get xs k ≡ Some x → suc k < length xs
-    → IsIn q (questions_of_load nest e x (tree_of nest trees e.statement (first + k))) → IsIn q (questions_of_loads nest trees e first xs)
+    → IsIn q (questions_of_load nest e x (tree_of nest trees e.part (first + k))) → IsIn q (questions_of_loads nest trees e first xs)
 among_loads nest trees e q [] first k x at less i = absurd (none-some x at)
 among_loads nest trees e q (y ∷ []) first k x at less i = absurd (omega (arith, less))
 among_loads nest trees e q (y ∷ z ∷ ys) first zero x at less i =
-    to_first (questions_of_load nest e y (tree_of nest trees e.statement first)) (questions_of_loads nest trees e (first + 1) (z ∷ ys)) q
-    (subst (λ n. IsIn q (questions_of_load nest e y (tree_of nest trees e.statement n))) (none first) (subst (λ x. IsIn q (questions_of_load nest e x (tree_of nest trees e.statement (first + 0)))) (sym (same_Some y x at)) i))
+    to_first (questions_of_load nest e y (tree_of nest trees e.part first)) (questions_of_loads nest trees e (first + 1) (z ∷ ys)) q
+    (subst (λ n. IsIn q (questions_of_load nest e y (tree_of nest trees e.part n))) (none first) (subst (λ x. IsIn q (questions_of_load nest e x (tree_of nest trees e.part (first + 0)))) (sym (same_Some y x at)) i))
   where
     none : (n : ℕ) → n + 0 ≡ n
     none n = omega arith
 among_loads nest trees e q (y ∷ z ∷ ys) first (suc k) x at less i =
-    to_second (questions_of_load nest e y (tree_of nest trees e.statement first)) (questions_of_loads nest trees e (first + 1) (z ∷ ys)) q
-    (among_loads nest trees e q (z ∷ ys) (first + 1) k x at (omega (arith, less)) (subst (λ n. IsIn q (questions_of_load nest e x (tree_of nest trees e.statement n))) (moved first k) i))
+    to_second (questions_of_load nest e y (tree_of nest trees e.part first)) (questions_of_loads nest trees e (first + 1) (z ∷ ys)) q
+    (among_loads nest trees e q (z ∷ ys) (first + 1) k x at (omega (arith, less)) (subst (λ n. IsIn q (questions_of_load nest e x (tree_of nest trees e.part n))) (moved first k) i))
   where
     moved : (m n : ℕ) → m + suc n ≡ (m + 1) + n
     moved m n = omega arith
@@ -65,10 +65,10 @@ among_loads nest trees e q (y ∷ z ∷ ys) first (suc k) x at less i =
 module _ (program : Program) (p : List ℤ) (trees : List Tree) (has : HasNest program) (named : NamesArrays program) (inside : IsInContext program p)
     (s k : ℕ) (e : Entry) (at : slice_get (nest_of program).entries s ≡ Some e) (less : k < loads_in e) (a : Access) (a_at : slice_get e.accesses k ≡ Some a)
     (b : Instance) (number : b.statement ≡ s) (runs : IsIn b (trace program p)) where
-  own : e.statement ≡ s
+  own : e.part ≡ s
   own = ((entries_stand program has).1 s e at).number
 
-  is : b ≡ record { statement = e.statement; iterators = b.iterators }
+  is : b ≡ record { statement = e.part; iterators = b.iterators }
   is = λ i. record { statement = (number ∙ sym own) i; iterators = b.iterators }
 
   enough : suc k < length e.accesses
@@ -99,7 +99,7 @@ module _ (program : Program) (p : List ℤ) (trees : List Tree) (has : HasNest p
   pub its_box : InBox ((nest_of program).params ++ e.ranges) (p ++ b.iterators)
   its_box =
       box_append (nest_of program).params e.ranges p b.iterators (in_ranges program.params p inside.ranges)
-      ((ranges_hold_iterators program e.statement e has loaded.entry st.alive).hold p (record { statement = e.statement; iterators = b.iterators }) refl inside loaded.runs)
+      ((ranges_hold_iterators program e.part e has loaded.entry st.alive).hold p (record { statement = e.part; iterators = b.iterators }) refl inside loaded.runs)
 
   pub width : length (nest_of program).params + length e.loops ≡ length p + length b.iterators
   width = ap (λ k. k + length e.loops) (sym l) ∙ ap (λ k. length p + k) (sym st.long)
@@ -113,14 +113,14 @@ module _ (program : Program) (p : List ℤ) (trees : List Tree) (has : HasNest p
   -- the element that is loaded
   pub loads_it : slice_get (loads_of program p b) k ≡ Some (element_at (p ++ b.iterators) a)
   loads_it =
-      let here : Instance = record { statement = e.statement; iterators = b.iterators } in
+      let here : Instance = record { statement = e.part; iterators = b.iterators } in
       subst (λ i. slice_get (loads_of program p i) k ≡ Some (element_at (p ++ b.iterators) a)) (sym is)
       (load_there (element_at (p ++ b.iterators)) e.accesses (loads_of program p here) (store_of program p here) k a (events_are program has p l e b.iterators st) a_at less)
 
   -- what the tree is said to name is what the load of the instance finds
   pub as_source : (source : Option Instance) (x : Element) → slice_get (loads_of program p b) k ≡ Some x → IsSourceOf program p b.iterators e a source → IsSource program p b x source
   as_source source x load r =
-      let here : Instance = record { statement = e.statement; iterators = b.iterators } in
+      let here : Instance = record { statement = e.part; iterators = b.iterators } in
       let element : element_at (p ++ b.iterators) a ≡ x =
       same_Some (element_at (p ++ b.iterators) a) x
       (sym (mapped_at (element_at (p ++ b.iterators)) e.accesses k a a_at) ∙ ap (λ es. slice_get es k) (events_are program has p l e b.iterators st)
@@ -131,7 +131,7 @@ module _ (program : Program) (p : List ℤ) (trees : List Tree) (has : HasNest p
   asked tree there q i =
       let all : IsIn q (questions_of_loads (nest_of program) trees e 0 e.accesses) =
       among_loads (nest_of program) trees e q e.accesses 0 k a a_at enough
-      (subst (λ n. IsIn q (questions_of_load (nest_of program) e a (tree_of (nest_of program) trees e.statement n))) (sym (first k))
+      (subst (λ n. IsIn q (questions_of_load (nest_of program) e a (tree_of (nest_of program) trees e.part n))) (sym (first k))
       (subst (λ o. IsIn q (questions_of_load (nest_of program) e a o)) (sym (ap (λ n. tree_of (nest_of program) trees n k) own ∙ there)) i)) in
       to_flat_map (λ e. if e.alive then questions_of_loads (nest_of program) trees e 0 e.accesses else []) (nest_of program).entries e q st.among
       (subst (λ t. IsIn q (if t then questions_of_loads (nest_of program) trees e 0 e.accesses else [])) (sym st.alive) all)

@@ -27,11 +27,12 @@ use Rattle.affc_domain.specs.Ranges.{number_ranges}
 use Rattle.affc_nest.specs.declared.nest.Access.{Access}
 use Rattle.affc_nest.specs.declared.nest.Entry.{Entry}
 use Rattle.affc_nest.specs.declared.nest.Nest.{Nest}
+use Rattle.affc_nest.specs.Parts.{statement_of}
 use Rattle.affc_nest.specs.Domains.{compare_rows}
 use Rattle.affc_nest.specs.Laws.{element_at}
 use Rattle.affc_nest.specs.Nests.{nest_of}
 use Rattle.affc_nest.proofs.DomainLemmas.{to_all, say_rows}
-use Rattle.affc_nest.proofs.EntryLemmas.{ranges_hold_iterators}
+use Rattle.affc_nest.proofs.EntryLemmas.{entries_stand, ranges_hold_iterators}
 use Rattle.affc_nest.proofs.QuestionLemmas.{stands_in}
 use Rattle.affc_order.specs.Laws.{IsPointOfOne}
 use Rattle.affc_order.specs.Posed.{Posed, IsPosed, form_at}
@@ -39,7 +40,7 @@ use Rattle.affc_order.specs.Systems.{source_order}
 use Rattle.affc_order.proofs.ColumnLemmas.{values_append, values_long, forms_append, append_columns, at_value, at_values, at_width, from_width, from_long, segment_at, first_columns, later_columns}
 use Rattle.affc_order.proofs.LexLemmas.{both_met}
 use Rattle.affc_sched.specs.Questions.{equal_rows}
-use Rattle.affc_sched.proofs.LegalLemmas.{Stood, stood, box_append, entry_at, rows_wide, subs_wide, runs, as_many_each}
+use Rattle.affc_sched.proofs.LegalLemmas.{Stood, stood, box_append, entry_at, statement_at, rows_wide, subs_wide, runs, as_many_each}
 use Rattle.affc_sched.proofs.PointLemmas.{length_map, values_equal}
 use Rattle.affc_quast.specs.Laws.{IsOver}
 use Rattle.affc_quast.specs.Leaves.{padded, negated, Leaf, leaves_of, path_ranges}
@@ -69,7 +70,7 @@ module _ (Holds : List (ℤ × ℤ) → List ℤ → Type 0) (join : (rs ss : Li
   zs = (p ++ its) ++ qs
 
   abbrev b : Instance
-  b = record { statement = e.statement; iterators = its }
+  b = record { statement = e.part; iterators = its }
 
   abbrev read : Element
   read = element_at (p ++ its) x
@@ -98,7 +99,7 @@ module _ (Holds : List (ℤ × ℤ) → List ℤ → Type 0) (join : (rs ss : Li
   record Other (v : Instance) : Type 0 where
     entry : Entry
     stands : Stood program p entry v.iterators
-    is : record { statement = entry.statement; iterators = v.iterators } ≡ v
+    is : record { statement = entry.part; iterators = v.iterators } ≡ v
     access : Access
     made : IsIn access entry.accesses
     writes : Writes (nest_of program) x.array.0 entry access
@@ -107,7 +108,7 @@ module _ (Holds : List (ℤ × ℤ) → List ℤ → Type 0) (join : (rs ss : Li
   other : (v : Instance) → IsIn v (trace program p) → element_at (p ++ its) x ≡ store_of program p v → Other v
   other v i stored =
       let r = stood program h.has p v h.context i in
-      let is : record { statement = r.0.statement; iterators = v.iterators } ≡ v = λ k. record { statement = r.1 k; iterators = v.iterators } in
+      let is : record { statement = r.0.part; iterators = v.iterators } ≡ v = λ k. record { statement = r.1 k; iterators = v.iterators } in
       let y = stored_there program h.has p len r.0 v.iterators r.2 in
       let element : element_at (p ++ its) x ≡ element_at (p ++ v.iterators) y.access = stored ∙ ap (store_of program p) (sym is) ∙ sym y.is in
       record {
@@ -122,7 +123,7 @@ module _ (Holds : List (ℤ × ℤ) → List ℤ → Type 0) (join : (rs ss : Li
 
   -- the systems of such an instance that is earlier than the load
   module _ (v : Instance) (o : Other v) (i : IsIn v (trace program p)) where
-    there : IsIn (record { statement = o.entry.statement; iterators = v.iterators }) (trace program p)
+    there : IsIn (record { statement = o.entry.part; iterators = v.iterators }) (trace program p)
     there = subst (λ z. IsIn z (trace program p)) (sym o.is) i
 
     columns_are : beside_columns n e x ranges l o.entry o.access ≡ length (zs ++ v.iterators)
@@ -135,7 +136,7 @@ module _ (Holds : List (ℤ × ℤ) → List ℤ → Type 0) (join : (rs ss : Li
     before f =
         let columns = beside_columns n e x ranges l o.entry o.access in
         (order_at program p ((its ++ qs) ++ v.iterators) (zs ++ v.iterators) columns (writer_posed n e x ranges l o.entry o.access) (reader_posed n e x ranges l columns)
-        (record { statement = o.entry.statement; iterators = v.iterators }) b (point_is program p its qs e x ranges l h over wide met v.iterators) columns_are h.has there h.runs
+        (record { statement = o.entry.part; iterators = v.iterators }) b (point_is program p its qs e x ranges l h over wide met v.iterators) columns_are h.has there h.runs
         (writer_is_posed program p its qs e x ranges l h over wide met o.entry v.iterators o.stands there o.access o.made)
         (reader_is_posed program p its qs e x ranges l h over wide met columns v.iterators columns_are)).1
         (subst (λ z. Earlier (trace program p) z b) (sym o.is) f)
@@ -146,12 +147,12 @@ module _ (Holds : List (ℤ × ℤ) → List ℤ → Type 0) (join : (rs ss : Li
     beside_inside : Holds (path_ranges ranges l.divisions ++ o.entry.ranges) (zs ++ v.iterators)
     beside_inside =
         join (path_ranges ranges l.divisions) o.entry.ranges zs v.iterators inside
-        ((ranges_hold_iterators program o.entry.statement o.entry h.has o.stands.at o.stands.alive).hold p (record { statement = o.entry.statement; iterators = v.iterators }) refl h.context there)
+        ((ranges_hold_iterators program o.entry.part o.entry h.has o.stands.at o.stands.alive).hold p (record { statement = o.entry.part; iterators = v.iterators }) refl h.context there)
 
   -- ---- A leaf that names none
 
   none_before : IsTrue (is_temporary (nest_of program) x.array.0) ⊎ (is_temporary (nest_of program) x.array.0 ≡ false) → Avoids Holds (input_questions (nest_of program) e x ranges l) ((p ++ its) ++ qs)
-      → (v : Instance) → element_at (p ++ its) x ≡ store_of program p v → Earlier (trace program p) v (record { statement = e.statement; iterators = its }) → ⊥
+      → (v : Instance) → element_at (p ++ its) x ≡ store_of program p v → Earlier (trace program p) v (record { statement = e.part; iterators = its }) → ⊥
   none_before (inl temp) none v stored f =
       none (here n e x ranges l []) []
       (subst (λ t. IsIn (here n e x ranges l []) (if t then here n e x ranges l [] ∷ [] else flat_map (λ (v : Writer). earlier_questions n e x ranges l v.0 v.1) (writers n x.array.0))) (sym temp) (inl refl))
@@ -183,7 +184,7 @@ module _ (Holds : List (ℤ × ℤ) → List ℤ → Type 0) (join : (rs ss : Li
   -- ---- A leaf that names an instance of w, whose store is z
 
   module _ (a : Posed) (l_names : l.named ≡ Some a) (w : Entry) (z : Access) (writes : Writes (nest_of program) x.array.0 w z) (z_made : IsIn z w.accesses)
-      (number : w.statement ≡ a.statement) (many : length a.iterators ≡ length w.loops) (none : Avoids Holds (named_questions (nest_of program) e x ranges l a w z) ((p ++ its) ++ qs)) where
+      (number : w.part ≡ a.part) (many : length a.iterators ≡ length w.loops) (none : Avoids Holds (named_questions (nest_of program) e x ranges l a w z) ((p ++ its) ++ qs)) where
     abbrev vals : List ℤ
     vals = values_of a.iterators zs
 
@@ -250,9 +251,9 @@ module _ (Holds : List (ℤ × ℤ) → List ℤ → Type 0) (join : (rs ss : Li
         All-cons (Meets (p ++ vals)) r rows (row_met r (i r (inl refl)) (first_columns (length p + length vals) r rows k)) (all_met rows (λ g j. i g (inr j)) (later_columns (length p + length vals) r rows k))
 
     abbrev c : Instance
-    c = record { statement = w.statement; iterators = vals }
+    c = record { statement = w.part; iterators = vals }
 
-    c_runs : IsIn (record { statement = w.statement; iterators = vals }) (trace program p)
+    c_runs : IsIn (record { statement = w.part; iterators = vals }) (trace program p)
     c_runs = (runs program h.has p len w vals w_stands (all_met w.domain.rows (λ r i. i) (rows_wide program h.has p len w vals w_stands))).1
 
     -- ---- what it writes
@@ -292,7 +293,7 @@ module _ (Holds : List (ℤ × ℤ) → List ℤ → Type 0) (join : (rs ss : Li
         at_most : {i j : ℕ} → i ≡ j → i ≤ j
         at_most e = omega (arith, e)
 
-    stored : element_at (p ++ its) x ≡ store_of program p (record { statement = w.statement; iterators = vals })
+    stored : element_at (p ++ its) x ≡ store_of program p (record { statement = w.part; iterators = vals })
     stored =
         let y = stored_there program h.has p len w vals w_stands in
         let is : y.access ≡ z = same_Some y.access z (sym y.last ∙ writes.last) in
@@ -302,7 +303,7 @@ module _ (Holds : List (ℤ × ℤ) → List ℤ → Type 0) (join : (rs ss : Li
     -- ---- where it stands
 
     named_posed : IsPosed zs a c
-    named_posed = record { statement = sym number; iterators = refl; columns = subst (λ k. HaveColumns k a.iterators) (sym wide) forms_wide }
+    named_posed = record { part = sym number; iterators = refl; columns = subst (λ k. HaveColumns k a.iterators) (sym wide) forms_wide }
 
     read_posed : IsPosed zs (reader_posed n e x ranges l l.columns) b
     read_posed =
@@ -328,15 +329,17 @@ module _ (Holds : List (ℤ × ℤ) → List ℤ → Type 0) (join : (rs ss : Li
     apart same =
         let rows = equal_rows (reader_posed n e x ranges l l.columns).iterators a.iterators in
         let q = here n e x ranges l rows in
-        let statements : e.statement ≡ a.statement = sym (ap (λ (i : Instance). i.statement) same) ∙ number in
+        let parts : e.part ≡ a.part = sym (ap (λ (i : Instance). i.statement) same) ∙ number in
+        let own : e.statement ≡ e.part = ((entries_stand program h.has).1 e.part e h.entry).statement in
+        let statements : e.statement ≡ statement_of n a.part = own ∙ sym (statement_at program h.has e h.entry) ∙ ap (statement_of n) parts in
         none q []
         (asked_here q (to_second (map (λ o. here n e x ranges l o.rows) (source_order n l.columns (reader_posed n e x ranges l l.columns) a)) _ q
-        (subst (λ t. IsIn q (if t then here n e x ranges l rows ∷ [] else [])) (sym (eq-eqb e.statement a.statement statements)) (inl refl))))
+        (subst (λ t. IsIn q (if t then here n e x ranges l rows ∷ [] else [])) (sym (eq-eqb e.statement (statement_of n a.part) statements)) (inl refl))))
         (here_point rows (values_equal zs (reader_posed n e x ranges l l.columns).iterators a.iterators read_posed.columns named_posed.columns
         (read_posed.iterators ∙ sym (ap (λ (i : Instance). i.iterators) same)))) here_inside
 
-    nothing_between : (v : Instance) → element_at (p ++ its) x ≡ store_of program p v → Earlier (trace program p) (record { statement = w.statement; iterators = vals }) v
-        → Earlier (trace program p) v (record { statement = e.statement; iterators = its }) → ⊥
+    nothing_between : (v : Instance) → element_at (p ++ its) x ≡ store_of program p v → Earlier (trace program p) (record { statement = w.part; iterators = vals }) v
+        → Earlier (trace program p) v (record { statement = e.part; iterators = its }) → ⊥
     nothing_between v same f g =
         let i = earlier_is_in (trace program p) v b g in
         let o = other v i same in
@@ -345,12 +348,12 @@ module _ (Holds : List (ℤ × ℤ) → List ℤ → Type 0) (join : (rs ss : Li
         let named : Posed = record a { iterators = map (padded columns) a.iterators } in
         let long : columns ≡ length (zs ++ v.iterators) = columns_are v o i in
         let posed : IsPosed (zs ++ v.iterators) named c = record {
-          statement = sym number;
+          part = sym number;
           iterators = padded_values columns a.iterators (zs ++ v.iterators) ∙ short_values l.columns a.iterators zs v.iterators forms_wide (at_most (sym wide));
           columns = subst (λ k. HaveColumns k (map (padded columns) a.iterators)) long (padded_wide columns l.columns a.iterators forms_wide (first_of l.columns (length o.entry.loops)));
         } in
         let t = (order_at program p ((its ++ qs) ++ v.iterators) (zs ++ v.iterators) columns named (writer_posed n e x ranges l o.entry o.access)
-        c (record { statement = o.entry.statement; iterators = v.iterators }) (point_is program p its qs e x ranges l h over wide met v.iterators) long h.has c_runs (there v o i) posed
+        c (record { statement = o.entry.part; iterators = v.iterators }) (point_is program p its qs e x ranges l h over wide met v.iterators) long h.has c_runs (there v o i) posed
         (writer_is_posed program p its qs e x ranges l h over wide met o.entry v.iterators o.stands (there v o i) o.access o.made)).1
         (subst (λ z. Earlier (trace program p) c z) (sym o.is) f) in
         let q = beside n e x ranges l o.entry o.access (t.system.rows ++ u.system.rows) in
@@ -370,9 +373,9 @@ module _ (Holds : List (ℤ × ℤ) → List ℤ → Type 0) (join : (rs ss : Li
         first_of : (i j : ℕ) → i ≤ i + j
         first_of i j = omega arith
 
-    named_leaf : IsSourceOf program p its e x (Some (record { statement = a.statement; iterators = values_of a.iterators zs }))
+    named_leaf : IsSourceOf program p its e x (Some (record { statement = a.part; iterators = values_of a.iterators zs }))
     named_leaf =
-        let is : c ≡ record { statement = a.statement; iterators = vals } = λ i. record { statement = number i; iterators = vals } in
+        let is : c ≡ record { statement = a.part; iterators = vals } = λ i. record { statement = number i; iterators = vals } in
         let earlier : Earlier (trace program p) c b = elim (either_way (trace program p) c b apart c_runs h.runs) [ inl f ↦ f | inr f ↦ absurd (not_after f) ] in
         subst (λ i. IsSourceOf program p its e x (Some i)) is (record {
           is = ((source_in_its_own_words program p b read).0 c).1 (record { earlier = earlier; stores = stored; none_between = nothing_between });
@@ -382,17 +385,17 @@ module _ (Holds : List (ℤ × ℤ) → List ℤ → Type 0) (join : (rs ss : Li
   -- ---- A leaf
 
   among : (a : Posed) → l.named ≡ Some a → (ws : List Writer) → ((w : Writer) → IsIn w ws → IsIn w (writers (nest_of program) x.array.0)) → Avoids Holds (questions_among (nest_of program) e x ranges l a ws) ((p ++ its) ++ qs)
-      → IsSourceOf program p its e x (Some (record { statement = a.statement; iterators = values_of a.iterators ((p ++ its) ++ qs) }))
+      → IsSourceOf program p its e x (Some (record { statement = a.part; iterators = values_of a.iterators ((p ++ its) ++ qs) }))
   among a named [] within none = absurd (none (here n e x ranges l []) [] (inl refl) (here_point [] (All-nil (Meets zs))) here_inside)
   among a named (w ∷ ws) within none = by_test (poses a w.0) refl (among a named ws (λ v i. within v (inr i)))
     where
       by_test : (t : Bool) → poses a w.0 ≡ t
-          → (Avoids Holds (questions_among (nest_of program) e x ranges l a ws) ((p ++ its) ++ qs) → IsSourceOf program p its e x (Some (record { statement = a.statement; iterators = values_of a.iterators ((p ++ its) ++ qs) })))
-          → IsSourceOf program p its e x (Some (record { statement = a.statement; iterators = values_of a.iterators ((p ++ its) ++ qs) }))
+          → (Avoids Holds (questions_among (nest_of program) e x ranges l a ws) ((p ++ its) ++ qs) → IsSourceOf program p its e x (Some (record { statement = a.part; iterators = values_of a.iterators ((p ++ its) ++ qs) })))
+          → IsSourceOf program p its e x (Some (record { statement = a.part; iterators = values_of a.iterators ((p ++ its) ++ qs) }))
       by_test true q rest =
           let f = from_writers n x.array.0 w (within w (inl refl)) in
-          let both = both_hold (nat_eq w.0.statement a.statement) (nat_eq (length a.iterators) (length w.0.loops)) q in
-          named_leaf a named w.0 w.1 f (stands_in w.0.accesses (loads_in w.0) w.1 f.last) (eqb-true w.0.statement a.statement both.0) (eqb-true (length a.iterators) (length w.0.loops) both.1)
+          let both = both_hold (nat_eq w.0.part a.part) (nat_eq (length a.iterators) (length w.0.loops)) q in
+          named_leaf a named w.0 w.1 f (stands_in w.0.accesses (loads_in w.0) w.1 f.last) (eqb-true w.0.part a.part both.0) (eqb-true (length a.iterators) (length w.0.loops) both.1)
           (subst (λ t. Avoids Holds (if t then named_questions n e x ranges l a w.0 w.1 else questions_among n e x ranges l a ws) zs) q none)
       by_test false q rest = rest (subst (λ t. Avoids Holds (if t then named_questions n e x ranges l a w.0 w.1 else questions_among n e x ranges l a ws) zs) q none)
 

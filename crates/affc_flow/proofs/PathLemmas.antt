@@ -86,8 +86,8 @@ parameters_are program p its e x h = sym (box_length (number_ranges program.para
 
 pub reader_stands : (program : Program) (p its : List ℤ) (e : Entry) (x : Access) → Loads program p its e x → Stood program p e its
 reader_stands program p its e x h =
-    let r = stood program h.has p (record { statement = e.statement; iterators = its }) h.context h.runs in
-    let at : slice_get (nest_of program).entries e.statement ≡ Some r.0 = subst (λ s. slice_get (nest_of program).entries s ≡ Some r.0) r.1 r.2.at in
+    let r = stood program h.has p (record { statement = e.part; iterators = its }) h.context h.runs in
+    let at : slice_get (nest_of program).entries e.part ≡ Some r.0 = subst (λ s. slice_get (nest_of program).entries s ≡ Some r.0) r.1 r.2.at in
     subst (λ e. Stood program p e its) (same_Some r.0 e (sym at ∙ h.entry)) r.2
 
 module _ (program : Program) (p its qs : List ℤ) (e : Entry) (x : Access) (ranges : List (ℤ × ℤ)) (l : Leaf) (h : Loads program p its e x)
@@ -147,9 +147,9 @@ module _ (program : Program) (p its qs : List ℤ) (e : Entry) (x : Access) (ran
       through : {a b c : ℕ} → a ≤ b → b ≤ c → a ≤ c
       through h g = omega (arith, h, g)
 
-  pub reader_is_posed : (columns : ℕ) (vs : List ℤ) → columns ≡ length (zs ++ vs) → IsPosed (zs ++ vs) (reader_posed (nest_of program) e x ranges l columns) (record { statement = e.statement; iterators = its })
+  pub reader_is_posed : (columns : ℕ) (vs : List ℤ) → columns ≡ length (zs ++ vs) → IsPosed (zs ++ vs) (reader_posed (nest_of program) e x ranges l columns) (record { statement = e.part; iterators = its })
   reader_is_posed columns vs c = record {
-    statement = refl;
+    part = refl;
     iterators = segment_at (zs ++ vs) p its (qs ++ vs) columns (length (number_ranges program.params)) (length e.loops) (append_assoc (p ++ its) qs vs ∙ append_assoc p its (qs ++ vs)) c (sym len) (sym s.long);
     columns = subst (λ k. HaveColumns k (columns_from columns (length (number_ranges program.params)) (length e.loops))) c (from_width columns (length (number_ranges program.params)) (length e.loops));
   }
@@ -159,7 +159,7 @@ module _ (program : Program) (p its qs : List ℤ) (e : Entry) (x : Access) (ran
 
   -- ---- An instance of a store beside it
 
-  module _ (v : Entry) (vs : List ℤ) (t : Stood program p v vs) (runs : IsIn (record { statement = v.statement; iterators = vs }) (trace program p)) (y : Access) (made : IsIn y v.accesses) where
+  module _ (v : Entry) (vs : List ℤ) (t : Stood program p v vs) (runs : IsIn (record { statement = v.part; iterators = vs }) (trace program p)) (y : Access) (made : IsIn y v.accesses) where
     pub beside_long : beside_columns (nest_of program) e x ranges l v y ≡ length (zs ++ vs)
     beside_long = ap (λ k. k + length v.loops) (sym wide) ∙ ap (λ k. length zs + k) (sym t.long) ∙ sym (length_append zs vs)
 
@@ -214,11 +214,11 @@ module _ (program : Program) (p its qs : List ℤ) (e : Entry) (x : Access) (ran
         both_met (zs ++ vs) (path_rows n e x ranges l columns) (own ++ equal_rows read written) (path_met columns vs)
         (both_met (zs ++ vs) own (equal_rows read written) own_met (values_equal (zs ++ vs) read written read_w written_wide (read_value columns vs h.made ∙ same ∙ sym written_value)))
 
-    pub writer_is_posed : IsPosed (zs ++ vs) (writer_posed (nest_of program) e x ranges l v y) (record { statement = v.statement; iterators = vs })
+    pub writer_is_posed : IsPosed (zs ++ vs) (writer_posed (nest_of program) e x ranges l v y) (record { statement = v.part; iterators = vs })
     writer_is_posed =
         let columns = beside_columns (nest_of program) e x ranges l v y in
         record {
-          statement = refl;
+          part = refl;
           iterators = segment_at (zs ++ vs) zs vs [] columns l.columns (length v.loops) (ap (λ ys. zs ++ ys) (sym (append_nil vs))) beside_long (sym wide) (sym t.long);
           columns = subst (λ k. HaveColumns k (columns_from columns l.columns (length v.loops))) beside_long (from_width columns l.columns (length v.loops));
         }

@@ -44,11 +44,11 @@ pub record Stored (program : Program) (p : List ℤ) (e : Entry) (its : List ℤ
   pub access : Access
   pub last : store_of_entry e ≡ Some access
   pub made : IsIn access e.accesses
-  pub is : element_at (p ++ its) access ≡ store_of program p (record { statement = e.statement; iterators = its })
+  pub is : element_at (p ++ its) access ≡ store_of program p (record { statement = e.part; iterators = its })
 
 pub stored_there : (program : Program) (has : HasNest program) (p : List ℤ) (l : length p ≡ length (number_ranges program.params)) (e : Entry) (its : List ℤ) → Stood program p e its → Stored program p e its
 stored_there program has p l e its s =
-    let b : Instance = record { statement = e.statement; iterators = its } in
+    let b : Instance = record { statement = e.part; iterators = its } in
     let ev = events_are program has p l e its s in
     let r = last_at (element_at (p ++ its)) e.accesses (loads_of program p b) (store_of program p b) ev in
     let count : length (loads_of program p b) ≡ loads_in e =

@@ -1,4 +1,4 @@
--- The questions of a leaf, as the code lists them, where the path is the domain of the load's statement and the rows of the
+-- The questions of a leaf, as the code lists them, where the path is the domain of the load's part and the rows of the
 -- tests and divisions above, over the columns of the leaf.
 use Rattle.std.specs.Prelude.{ℕ, ◌+◌, ◌-◌, ℤ, nat_lt, nat_eq, if◌then◌else◌, List, [], ◌∷◌, ◌++◌, map, flat_map, length, drop}
 use Rattle.affc_rows.specs.Forms.{Affine}
@@ -10,6 +10,7 @@ use Rattle.affc_nest.specs.Domains.{compare_rows, with_rows}
 use Rattle.affc_nest.specs.declared.nest.Access.{Access}
 use Rattle.affc_nest.specs.declared.nest.Entry.{Entry}
 use Rattle.affc_nest.specs.declared.nest.Nest.{Nest}
+use Rattle.affc_nest.specs.Parts.{coordinates}
 use Rattle.affc_order.specs.Posed.{form_at}
 use Rattle.affc_order.specs.Spread.{spread}
 use Rattle.affc_order.specs.Systems.{lex_systems}
@@ -37,30 +38,30 @@ module _ (path : Rows) (ranges : List (ℤ × ℤ)) (images : List Affine) where
   apart (f ∷ fs) [] = []
   apart (f ∷ fs) (g ∷ gs) = on path ranges (compare_rows Greater (form_at path.columns images f) g) ∷ on path ranges (compare_rows Less (form_at path.columns images f) g) ∷ apart fs gs
 
--- ---- With an instance of a statement that stores the array
+-- ---- With an instance of a part that stores the array
 
 module _ (nest : Nest) (x : Access) (path : Rows) (v : Entry) (y : Access) where
-  -- its iterators stand behind the columns of the path
+  -- its coordinates stand behind the columns of the path
   abbrev pub beside_system : Rows
   beside_system = record {
-    columns = path.columns + length v.loops;
+    columns = path.columns + coordinates v;
     rows =
-        (map (spread (length nest.params) 0 (length v.loops)) path.rows ++ map (spread (length nest.params) (path.columns - length nest.params) 0) (drop (context_count nest) v.domain.rows))
-        ++ equal_rows (map (spread (length nest.params) 0 (length v.loops)) (map (padded path.columns) x.subs)) (map (spread (length nest.params) (path.columns - length nest.params) 0) y.subs);
+        (map (spread (length nest.params) 0 (coordinates v)) path.rows ++ map (spread (length nest.params) (path.columns - length nest.params) 0) (drop (context_count nest) v.domain.rows))
+        ++ equal_rows (map (spread (length nest.params) 0 (coordinates v)) (map (padded path.columns) x.subs)) (map (spread (length nest.params) (path.columns - length nest.params) 0) y.subs);
   }
 
 module _ (nest : Nest) (e : Entry) (path : Rows) (v : Entry) where
   -- it is earlier than the load
   abbrev pub before : List Rows
   before =
-      let n = path.columns + length v.loops in
-      lex_systems n (shared v.loops e.loops) (columns_from n path.columns (length v.loops)) (columns_from n (length nest.params) (length e.loops)) [] (nat_lt v.statement e.statement)
+      let n = path.columns + coordinates v in
+      lex_systems n (shared v.loops e.loops) (columns_from n path.columns (coordinates v)) (columns_from n (length nest.params) (coordinates e)) [] (nat_lt v.statement e.statement)
 
   -- it is later than the instance of w that is named
   abbrev pub after : (w : Entry) → List Affine → List Rows
   after w forms =
-      let n = path.columns + length v.loops in
-      lex_systems n (shared w.loops v.loops) (map (spread (length nest.params) 0 (length v.loops)) forms) (columns_from n path.columns (length v.loops)) [] (nat_lt w.statement v.statement)
+      let n = path.columns + coordinates v in
+      lex_systems n (shared w.loops v.loops) (map (spread (length nest.params) 0 (coordinates v)) forms) (columns_from n path.columns (coordinates v)) [] (nat_lt w.statement v.statement)
 
 module _ (nest : Nest) (e : Entry) (x : Access) (path : Rows) (ranges : List (ℤ × ℤ)) (v : Entry) (y : Access) where
   abbrev pub earlier : List Question
@@ -76,9 +77,9 @@ module _ (e : Entry) (path : Rows) (ranges : List (ℤ × ℤ)) (w : Entry) (own
   abbrev pub reader_same : List Question
   reader_same = if nat_eq e.statement w.statement then on path ranges (equal_rows own forms) ∷ [] else []
 
--- ---- With all statements that store the array
+-- ---- With all parts that store the array
 
--- the store of the array, if the statement can have instances and has one
+-- the store of the array, if the part can have instances and has one
 abbrev pub writers_of : (array : ℕ) → Entry → List Writer
 writers_of array e = if e.alive then writer_if array e (store_of_entry e) else []
 
@@ -92,7 +93,7 @@ module _ (nest : Nest) (e : Entry) (x : Access) (path : Rows) (ranges : List (�
   -- the load's instance is earlier than the one that is named, or is the same
   abbrev pub not_earlier : (w : Entry) → List Affine → List Question
   not_earlier w forms =
-      let own = columns_from path.columns (length nest.params) (length e.loops) in
+      let own = columns_from path.columns (length nest.params) (coordinates e) in
       reader_earlier e path ranges w own forms ++ reader_same e path ranges w own forms
 
   -- where an instance of w, whose store is z, is named

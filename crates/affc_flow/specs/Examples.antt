@@ -25,7 +25,7 @@ abbrev domain : Rows
 domain = record { columns = 2; rows = form (pos 1 ∷ pos 0 ∷ []) (negsuc 0) ∷ form (negsuc 0 ∷ pos 0 ∷ []) (pos 9) ∷ form (pos 0 ∷ pos 1 ∷ []) (pos 0) ∷ [] }
 
 abbrev entry : (statement loop : ℕ) → List Access → Entry
-entry statement loop accesses = record { statement = statement; alive = true; loops = loop ∷ []; domain = domain; ranges = (pos 0, pos 8) ∷ []; accesses = accesses }
+entry statement loop accesses = record { part = statement; statement = statement; alive = true; loops = loop ∷ []; domain = domain; ranges = (pos 0, pos 8) ∷ []; accesses = accesses }
 
 -- for (i ..) t[i] = in[i];
 abbrev fills : Entry
@@ -88,7 +88,7 @@ OwnStoreIsLater = rows_of (tree_questions nest again (access 1) box (Source 2 (f
     ∷ path_beside (form (pos 0 ∷ negsuc 0 ∷ pos 1 ∷ []) (negsuc 0) ∷ form (pos 0 ∷ pos 1 ∷ negsuc 0 ∷ []) (negsuc 0) ∷ [])
     ∷ []
 
--- an instance of a statement that doesn't store the array, or with too few iterators: the path alone
+-- an instance of a part that doesn't store the array, or with too few coordinates: the path alone
 abbrev pub NoSuchStore : Type 0
 NoSuchStore = (rows_of (tree_questions nest reads (access 2) box (Source 1 (form (pos 0 ∷ pos 1 ∷ []) (pos 0) ∷ []))) ≡ path [] ∷ [])
     × (rows_of (tree_questions nest reads (access 2) box (Source 0 [])) ≡ path [] ∷ [])

@@ -24,18 +24,18 @@ use Rattle.affc_flow.specs.Questions.{Question, is_temporary, leaf_questions, tr
 
 -- ---- A load at an instance
 
--- at p of the context, the load x of the instance with these iterators, of the statement of e
+-- at p of the context, the load x of the instance with these iterators, of the part of e
 pub record Loads (program : Program) (p iterators : List ℤ) (e : Entry) (x : Access) : Type 0 where
   pub has : HasNest program
   pub named : NamesArrays program
   pub context : IsInContext program p
-  pub entry : IsEntry program e.statement e
+  pub entry : IsEntry program e.part e
   pub made : IsIn x e.accesses
-  pub runs : IsIn (record { statement = e.statement; iterators = iterators }) (trace program p)
+  pub runs : IsIn (record { statement = e.part; iterators = iterators }) (trace program p)
 
 -- this is the source of the load, and a load of a temporary has one
 pub record IsSourceOf (program : Program) (p iterators : List ℤ) (e : Entry) (x : Access) (source : Option Instance) : Type 0 where
-  pub is : IsSource program p (record { statement = e.statement; iterators = iterators }) (element_at (p ++ iterators) x) source
+  pub is : IsSource program p (record { statement = e.part; iterators = iterators }) (element_at (p ++ iterators) x) source
   pub written : IsTrue (is_temporary (nest_of program) x.array.0) → (w : Instance) × (source ≡ Some w)
 
 -- ---- Leaves
@@ -78,9 +78,9 @@ FlowNamesSources = (program : Program) (p : List ℤ) (trees : List Tree)
 
 -- at p the tree of each load of a temporary names an instance
 abbrev pub AreWritten : Program → (p : List ℤ) → Nest → List Tree → Type 0
-AreWritten program p nest trees = (statement load : ℕ) (e : Entry) (x : Access) (tree : Tree) (b : Instance)
-    → slice_get nest.entries statement ≡ Some e → load < loads_in e → slice_get e.accesses load ≡ Some x → IsTrue (is_temporary nest x.array.0)
-    → tree_of nest trees statement load ≡ Some tree → b.statement ≡ statement → IsIn b (trace program p) → (w : Instance) × (named_at tree (p ++ b.iterators) ≡ Some w)
+AreWritten program p nest trees = (part load : ℕ) (e : Entry) (x : Access) (tree : Tree) (b : Instance)
+    → slice_get nest.entries part ≡ Some e → load < loads_in e → slice_get e.accesses load ≡ Some x → IsTrue (is_temporary nest x.array.0)
+    → tree_of nest trees part load ≡ Some tree → b.statement ≡ part → IsIn b (trace program p) → (w : Instance) × (named_at tree (p ++ b.iterators) ≡ Some w)
 
 -- Where no question has a point anywhere, the trees of all loads name the sources throughout the context, and those of the
 -- loads of temporaries name one, whatever the quotients are.

@@ -11,6 +11,7 @@ use Rattle.affc_nest.specs.declared.nest.Access.{Access}
 use Rattle.affc_nest.specs.declared.nest.ArrayInfo.{ArrayInfo}
 use Rattle.affc_nest.specs.declared.nest.Entry.{Entry}
 use Rattle.affc_nest.specs.declared.nest.Nest.{Nest}
+use Rattle.affc_nest.specs.Parts.{coordinates, statement_of}
 use Rattle.affc_order.specs.Posed.{Posed, form_at}
 use Rattle.affc_order.specs.Spread.{spread}
 use Rattle.affc_order.specs.Systems.{source_order}
@@ -19,8 +20,8 @@ use Rattle.affc_quast.specs.Leaves.{padded, negated, Leaf, leaves_of, path_range
 use Rattle.affc_quast.specs.Sources.{loads_in, tree_of}
 use Rattle.affc_quast.specs.Trees.{Tree}
 
--- A system over the parameters, the iterators of the load's statement, the quotients of the leaf and, where another store is
--- asked of, its iterators; and the ranges of these columns.
+-- A system over the parameters, the coordinates of the load's part, the quotients of the leaf and, where another store is asked
+-- of, its coordinates; and the ranges of these columns.
 pub record Question : Type 0 where
   pub system : Rows
   pub ranges : List (ℤ × ℤ)
@@ -43,7 +44,7 @@ is_temporary nest array = is_temporary_info (slice_get nest.arrays array)
 abbrev pub store_of_entry : Entry → Option Access
 store_of_entry e = slice_get e.accesses (loads_in e)
 
--- a statement and its store
+-- a part and its store
 abbrev pub Writer : Type 0
 Writer = Entry × Access
 
@@ -51,42 +52,42 @@ abbrev pub writer_if : (array : ℕ) → Entry → Option Access → List Writer
 writer_if array e None = []
 writer_if array e (Some y) = if nat_eq y.array.0 array then (e, y) ∷ [] else []
 
--- the statements that can have instances and store this array
+-- the parts that can have instances and store this array
 abbrev pub writers : Nest → (array : ℕ) → List Writer
 writers nest array = flat_map (λ e. if e.alive then writer_if array e (store_of_entry e) else []) nest.entries
 
--- whether it is an instance of this statement
+-- whether it is an instance of this part
 abbrev pub poses : Posed → Entry → Bool
-poses a w = nat_eq w.statement a.statement && nat_eq (length a.iterators) (length w.loops)
+poses a w = nat_eq w.part a.part && nat_eq (length a.iterators) (coordinates w)
 
--- ---- The questions of a leaf of the tree of a load, where the parameters and the iterators of its statement have these ranges
+-- ---- The questions of a leaf of the tree of a load, where the parameters and the coordinates of its part have these ranges
 
 module _ (nest : Nest) (reader : Entry) (load : Access) (ranges : List (ℤ × ℤ)) (leaf : Leaf) where
-  -- over so many columns: the statement's domain, and the rows of the tests and divisions above the leaf
+  -- over so many columns: the part's domain, and the rows of the tests and divisions above the leaf
   abbrev pub path_rows : (columns : ℕ) → List Affine
   path_rows columns = map (padded columns) (reader.domain.rows ++ leaf.rows)
 
   abbrev pub reader_posed : (columns : ℕ) → Posed
-  reader_posed columns = record { statement = reader.statement; iterators = columns_from columns (length nest.params) (length reader.loops) }
+  reader_posed columns = record { part = reader.part; iterators = columns_from columns (length nest.params) (coordinates reader) }
 
   -- the path, and these rows
   abbrev pub here : List Affine → Question
   here rows = record { system = record { columns = leaf.columns; rows = path_rows leaf.columns ++ rows }; ranges = path_ranges ranges leaf.divisions }
 
-  -- ---- with an instance of a statement that stores the array
+  -- ---- with an instance of a part that stores the array
 
   module _ (v : Entry) (y : Access) where
     abbrev pub beside_columns : ℕ
-    beside_columns = leaf.columns + length v.loops
+    beside_columns = leaf.columns + coordinates v
 
-    -- a form of that statement
+    -- a form of that part
     abbrev pub of_writer : Affine → Affine
     of_writer = spread (length nest.params) (leaf.columns - length nest.params) 0
 
     abbrev pub writer_posed : Posed
-    writer_posed = record { statement = v.statement; iterators = columns_from beside_columns leaf.columns (length v.loops) }
+    writer_posed = record { part = v.part; iterators = columns_from beside_columns leaf.columns (coordinates v) }
 
-    -- the path, that statement's domain, and equal subscripts
+    -- the path, that part's domain, and equal subscripts
     abbrev pub beside_rows : List Affine
     beside_rows =
         path_rows beside_columns
@@ -112,7 +113,7 @@ module _ (nest : Nest) (reader : Entry) (load : Access) (ranges : List (ℤ × �
     abbrev pub between_questions : Posed → List Question
     between_questions a = flat_map (λ o. map (λ u. beside (o.rows ++ u.rows)) before_load) (after_named a)
 
-  -- ---- The instance that is named: of its statement w, whose store is z
+  -- ---- The instance that is named: of its part w, whose store is z
 
   module _ (a : Posed) (w : Entry) (z : Access) where
     -- a form of w at the instance
@@ -132,7 +133,7 @@ module _ (nest : Nest) (reader : Entry) (load : Access) (ranges : List (ℤ × �
     abbrev pub not_earlier_questions : List Question
     not_earlier_questions =
         map (λ o. here o.rows) (source_order nest leaf.columns (reader_posed leaf.columns) a)
-        ++ (if nat_eq reader.statement a.statement then here (equal_rows (reader_posed leaf.columns).iterators a.iterators) ∷ [] else [])
+        ++ (if nat_eq reader.statement (statement_of nest a.part) then here (equal_rows (reader_posed leaf.columns).iterators a.iterators) ∷ [] else [])
 
     abbrev pub named_questions : List Question
     named_questions =
@@ -140,7 +141,7 @@ module _ (nest : Nest) (reader : Entry) (load : Access) (ranges : List (ℤ × �
         ++ (apart_questions (map of_named z.subs) (map (padded leaf.columns) load.subs)
         ++ (not_earlier_questions ++ flat_map (λ (v : Writer). between_questions v.0 v.1 a) (writers nest load.array.0)))
 
-  -- where no such statement is named, with a form for each of its iterators, the path alone
+  -- where no such part is named, with a form for each of its coordinates, the path alone
   abbrev pub questions_among : Posed → List Writer → List Question
   questions_among a [] = here [] ∷ []
   questions_among a (w ∷ ws) = if poses a w.0 then named_questions a w.0 w.1 else questions_among a ws
@@ -159,7 +160,7 @@ module _ (nest : Nest) (reader : Entry) (load : Access) (ranges : List (ℤ × �
 -- ---- The questions of a tree, and of the trees of all loads
 
 abbrev pub tree_questions : Nest → (reader : Entry) → (load : Access) → (ranges : List (ℤ × ℤ)) → Tree → List Question
-tree_questions nest reader load ranges tree = flat_map (leaf_questions nest reader load ranges) (leaves_of (length nest.params + length reader.loops) tree)
+tree_questions nest reader load ranges tree = flat_map (leaf_questions nest reader load ranges) (leaves_of (length nest.params + coordinates reader) tree)
 
 abbrev pub questions_of_load : Nest → Entry → Access → Option Tree → List Question
 questions_of_load nest reader load None = []
@@ -170,8 +171,8 @@ abbrev pub questions_of_loads : Nest → List Tree → Entry → (load : ℕ) �
 questions_of_loads nest trees reader load [] = []
 questions_of_loads nest trees reader load (x ∷ []) = []
 questions_of_loads nest trees reader load (x ∷ y ∷ ys) =
-    questions_of_load nest reader x (tree_of nest trees reader.statement load) ++ questions_of_loads nest trees reader (load + 1) (y ∷ ys)
+    questions_of_load nest reader x (tree_of nest trees reader.part load) ++ questions_of_loads nest trees reader (load + 1) (y ∷ ys)
 
--- a statement that can have no instances asks nothing
+-- a part that can have no instances asks nothing
 abbrev pub flow_questions : Nest → List Tree → List Question
 flow_questions nest trees = flat_map (λ e. if e.alive then questions_of_loads nest trees e 0 e.accesses else []) nest.entries

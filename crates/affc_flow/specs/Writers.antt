@@ -1,4 +1,4 @@
--- The statements that store an array.
+-- The parts that store an array.
 use Rattle.std.specs.Prelude.{◌≡◌, ℕ, IsTrue, Some}
 use Rattle.affc_trace.specs.Law.{IsIn}
 use Rattle.affc_nest.specs.declared.nest.Access.{Access}
@@ -6,7 +6,7 @@ use Rattle.affc_nest.specs.declared.nest.Entry.{Entry}
 use Rattle.affc_nest.specs.declared.nest.Nest.{Nest}
 use Rattle.affc_flow.specs.Questions.{store_of_entry}
 
--- a statement that can have instances, and its store of the array
+-- a part that can have instances, and its store of the array
 pub record Writes (nest : Nest) (array : ℕ) (e : Entry) (y : Access) : Type 0 where
   pub among : IsIn e nest.entries
   pub alive : IsTrue e.alive

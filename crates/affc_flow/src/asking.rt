@@ -1,4 +1,4 @@
-//! The questions of a leaf with an instance of another statement.
+//! The questions of a leaf with an instance of another part.
 ghost use Rattle.std.specs.Prelude.{◌≡◌, ◌+◌, ◌-◌, ◌≤◌, ◌++◌, ◌∷◌, [], map, IsTrue, IfOk, OnOk, IfSome, IfNone};
 ghost use Rattle.std.specs.List.{All};
 ghost use Rattle.affc_trace.specs.Law.{IsIn};
@@ -124,9 +124,9 @@ fn columns_behind(path: &System, params: u32) -> Result<u32, Unasked>
     Ok(columns - params)
 }
 
-// ---- With an instance of a statement that stores the array.
+// ---- With an instance of a part that stores the array.
 
-/// The path, the domain of the statement, and equal subscripts.
+/// The path, the domain of the part, and equal subscripts.
 fn beside(
     alloc: Global,
     load: &Load<'_>,
@@ -140,7 +140,7 @@ fn beside(
     ensures { IfOk result (λ s. s ≡ beside_system load.now.nest.now load.now.access.now path.now writer.now store.now) }
 {
     let params = count(load.nest.params.ranges().len())?;
-    let inner = count(writer.loops.len())?;
+    let inner = count(writer.coordinates())?;
     let columns = columns_with(path, inner)?;
     let outer = columns_behind(path, params)?;
     let mut system = System::new(alloc, columns);
@@ -172,8 +172,8 @@ fn before(
     ensures { IfOk result (λ v. v.items ≡ before load.now.nest.now load.now.reader.now path.now writer.now) }
 {
     let params = count(load.nest.params.ranges().len())?;
-    let outer = count(load.reader.loops.len())?;
-    let inner = count(writer.loops.len())?;
+    let outer = count(load.reader.coordinates())?;
+    let inner = count(writer.coordinates())?;
     let columns = columns_with(path, inner)?;
     let own = column_forms(alloc, columns, path.columns(), inner)?;
     let reads = column_forms(alloc, columns, params, outer)?;
@@ -182,7 +182,7 @@ fn before(
     lexed(alloc, columns, n, own.as_slice(), reads.as_slice(), tie)
 }
 
-/// An instance of a statement, by forms for its iterators.
+/// An instance of a part, by forms for its coordinates.
 #[derive(Drop)]
 pub struct Chosen<'a> {
     pub writer: &'a Entry,
@@ -201,7 +201,7 @@ fn after(
     ensures { IfOk result (λ v. v.items ≡ after load.now.nest.now load.now.reader.now path.now writer.now chosen.now.writer.now chosen.now.forms.now) }
 {
     let params = count(load.nest.params.ranges().len())?;
-    let inner = count(writer.loops.len())?;
+    let inner = count(writer.coordinates())?;
     let columns = columns_with(path, inner)?;
     let mut named = Items::new(alloc);
     add_spread_forms(alloc, chosen.forms, params, 0, inner, &mut named)?;
@@ -211,7 +211,7 @@ fn after(
     lexed(alloc, columns, n, named.as_slice(), own.as_slice(), tie)
 }
 
-/// Adds the questions whether an instance of the statement is earlier than the load.
+/// Adds the questions whether an instance of the part is earlier than the load.
 fn add_earlier(
     alloc: Global,
     load: &Load<'_>,
@@ -235,7 +235,7 @@ fn add_earlier(
     add_orders(&there, &[], orders.as_slice(), out)
 }
 
-/// Adds the questions whether an instance of the statement is later than the one that is chosen and earlier than the load.
+/// Adds the questions whether an instance of the part is later than the one that is chosen and earlier than the load.
 fn add_between(
     alloc: Global,
     load: &Load<'_>,
@@ -261,9 +261,9 @@ fn add_between(
     add_both(&there, later.as_slice(), orders.as_slice(), out)
 }
 
-// ---- With all statements that store the array.
+// ---- With all parts that store the array.
 
-/// The store of a statement that can have instances, if it is one of this array.
+/// The store of a part that can have instances, if it is one of this array.
 pub fn store_for(entry: &Entry, array: u32) -> Option<&Access>
     ensures none { IfNone result (writers_of array entry.now ≡ []) }
     ensures some { IfSome result (λ y. writers_of array entry.now ≡ (entry.now, y.now) ∷ []) }
@@ -283,7 +283,7 @@ pub fn store_for(entry: &Entry, array: u32) -> Option<&Access>
     Some(store)
 }
 
-/// Adds those of a statement, if it stores the array.
+/// Adds those of a part, if it stores the array.
 fn add_earlier_of(
     alloc: Global,
     load: &Load<'_>,
@@ -324,7 +324,7 @@ pub fn add_all_earlier(
     }
 }
 
-/// Adds those of a statement, if it stores the array.
+/// Adds those of a part, if it stores the array.
 fn add_between_of(
     alloc: Global,
     load: &Load<'_>,

@@ -79,7 +79,7 @@ fn add_not_earlier(
     ensures { OnOk result (map asked out.new.items ≡ map asked out.old.items ++ not_earlier load.now.nest.now load.now.reader.now load.now.access.now place.now.path.now place.now.ranges.now chosen.now.writer.now chosen.now.forms.now) }
 {
     let params = count(load.nest.params.ranges().len())?;
-    let loops = count(load.reader.loops.len())?;
+    let loops = count(load.reader.coordinates())?;
     let own = column_forms(alloc, place.path.columns(), params, loops)?;
     add_reader_earlier(alloc, load, place, chosen, own.as_slice(), out)?;
     add_reader_same(alloc, load, place, chosen, own.as_slice(), out)

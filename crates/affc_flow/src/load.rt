@@ -1,11 +1,11 @@
-//! Loads of statements.
+//! Loads of parts.
 ghost use Rattle.std.specs.Prelude.{◌≡◌};
 ghost use Rattle.affc_flow.specs.Questions.{is_temporary};
 
 use affc_ast::tree::{ArrayId, Role};
 use affc_nest::{Access, Entry, Nest};
 
-/// A load, and its number among the loads of its statement.
+/// A load, and its number among the loads of its part.
 #[derive(Drop)]
 pub struct Load<'a> {
     pub nest: &'a Nest,

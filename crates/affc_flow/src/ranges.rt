@@ -15,7 +15,7 @@ pub fn joined_ranges(first: &BoxOf, second: &BoxOf) -> Result<BoxOf, AllocError>
     Ok(out)
 }
 
-/// The ranges of the parameters and of a statement's iterators.
+/// The ranges of the parameters and of a part's coordinates.
 pub fn entry_ranges(nest: &Nest, entry: &Entry) -> Result<BoxOf, AllocError>
     ensures { IfOk result (λ r. r ≡ nest.now.params ++ entry.now.ranges) }
 {

@@ -13,7 +13,9 @@ use Rattle.affc_trace.proofs.Members.{to_first, to_second}
 use Rattle.affc_trace.proofs.Once.{in_append}
 use Rattle.affc_nest.specs.declared.nest.Entry.{Entry}
 use Rattle.affc_nest.specs.declared.nest.Nest.{Nest}
-use Rattle.affc_legal.specs.Answered.{AreShown, Settles, spot_at, IsFoundAt, IsFirstOf, AreAnswered, IsNearer, question_on, AreRanges}
+use Rattle.affc_nest.specs.Parts.{coordinates, statement_of}
+use Rattle.affc_order.specs.Systems.{loops_of, coordinates_of}
+use Rattle.affc_legal.specs.Answered.{AreShown, Settles, spot_at, IsFoundAt, IsFirstOf, AreAnswered, IsNearer, question_on, IsFoundAs, AreRanges}
 use Rattle.affc_sched.specs.Laws.{first_at, second_at}
 use Rattle.affc_sched.specs.Questions.{Question, Touch, questions_to, questions_with}
 use Rattle.affc_legal.specs.Violations.{spot_of}
@@ -93,25 +95,23 @@ answered_more nest f xs rest x front old mid new a b c h g n =
 
 -- ---- One question
 
-module _ (nest : Nest) (first second : Entry) (ranges : List (ℤ × ℤ)) (system : Rows) (are : AreRanges nest first ranges) (columns : length ranges ≡ system.columns) where
-  abbrev placed_at : ℕ → List ℤ → Instance
-  placed_at s its = record { statement = s; iterators = its }
+module _ (nest : Nest) (first second : Entry) (ranges : List (ℤ × ℤ)) (system : Rows) (are : AreRanges nest first second ranges) (columns : length ranges ≡ system.columns) where
+  pub width_there : (point : List ℤ) → length point ≡ system.columns → length point ≡ (length nest.params + coordinates first) + coordinates second
+  width_there point w = w ∙ sym columns ∙ are.each
 
-  pub room_there : (point : List ℤ) → length point ≡ system.columns → length nest.params + length first.loops ≤ length point
-  room_there point w = at_least (length nest.params + length first.loops) (length ranges) system.columns (length point) are.room columns w
-    where
-      at_least : (m n k l : ℕ) → m ≤ n → n ≡ k → l ≡ k → m ≤ l
-      at_least m n k l h e f = omega (arith, h, e, f)
+  -- the instance of a part by numbers of these loops
+  placed_at : (e : Entry) → IsFoundAs nest e → (numbers : List ℤ) → ◌≡◌ {A = Instance} (record { statement = e.statement; iterators = take (length e.loops) numbers }) (record { statement = statement_of nest e.part; iterators = take (length (loops_of nest e.part)) numbers })
+  placed_at e found numbers = λ i. record { statement = sym found.statement i; iterators = take (length (sym found.loops i)) numbers }
 
   pub one_found : (point : List ℤ) (found : Violation) → IsLeastPoint system ranges point → found.key ≡ spot_of found.p found.a found.b → found.p ≡ take (length nest.params) point
       → found.a ≡ record { statement = first.statement; iterators = take (length first.loops) (drop (length nest.params) point) }
-      → found.b ≡ record { statement = second.statement; iterators = drop (length first.loops) (drop (length nest.params) point) }
+      → found.b ≡ record { statement = second.statement; iterators = take (length second.loops) (drop (coordinates first) (drop (length nest.params) point)) }
       → IsFirstOf nest (question_on first second ranges system ∷ []) found
   one_found point found least key p a b =
-      let a' : found.a ≡ first_at nest (question_on first second ranges system) point =
-      a ∙ ap (λ (ls : List ℕ). placed_at first.statement (take (length ls) (drop (length nest.params) point))) (sym are.loops) in
+      let a' : found.a ≡ first_at nest (question_on first second ranges system) point = a ∙ placed_at first are.first_found (drop (length nest.params) point) in
       let b' : found.b ≡ second_at nest (question_on first second ranges system) point =
-      b ∙ ap (λ (ls : List ℕ). placed_at second.statement (drop (length ls) (drop (length nest.params) point))) (sym are.loops) in
+      b ∙ placed_at second are.second_found (drop (coordinates first) (drop (length nest.params) point))
+      ∙ ap (λ (ls : List ℕ). let i : Instance = record { statement = statement_of nest second.part; iterators = take (length (loops_of nest second.part)) (drop (length ls) (drop (length nest.params) point)) } in i) (sym (are.first_found).loops) in
       record {
         key = key;
         there = record { question = question_on first second ranges system; asked = inl refl; point = point; meets = least.meets; p = p; a = a'; b = b' };
@@ -126,6 +126,8 @@ module _ (nest : Nest) (first second : Entry) (ranges : List (ℤ × ℤ)) (syst
       later point found least key r z e =
           subst (λ (s : Question). InBox s.ranges z → IsPoint s.system z → LexLe found.key (spot_at nest s z)) (sym e)
           (λ inside meets.
-          let room = subst (λ (ls : List ℕ). length nest.params + length ls ≤ length point) (sym are.loops) (room_there point least.meets.width) in
+          let width : length point ≡ (length nest.params + coordinates_of nest first.part) + coordinates_of nest second.part =
+          width_there point least.meets.width ∙ ap (λ (ls : List ℕ). (length nest.params + length ls) + coordinates second) (sym (are.first_found).loops)
+          ∙ ap (λ (ls : List ℕ). (length nest.params + coordinates_of nest first.part) + length ls) (sym (are.second_found).loops) in
           subst (λ k. LexLe k (spot_at nest (question_on first second ranges system) z)) (sym key)
-          (points_spots nest (question_on first second ranges system) point z room (meets.width ∙ sym least.meets.width) (least.least z inside meets)))
+          (points_spots nest (question_on first second ranges system) point z width (meets.width ∙ sym least.meets.width) (least.least z inside meets)))

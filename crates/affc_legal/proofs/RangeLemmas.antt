@@ -13,9 +13,10 @@ use Rattle.affc_domain.proofs.Lists.{both_true}
 use Rattle.affc_nest.specs.Asked.{IsNest}
 use Rattle.affc_nest.specs.declared.nest.Entry.{Entry}
 use Rattle.affc_nest.specs.declared.nest.Nest.{Nest}
+use Rattle.affc_nest.specs.Parts.{coordinates}
 use Rattle.affc_nest.proofs.EntryLemmas.{ranges_hold_iterators}
 use Rattle.affc_order.specs.Systems.{pair_columns}
-use Rattle.affc_legal.specs.Answered.{AreRanges}
+use Rattle.affc_legal.specs.Answered.{IsFoundAs, AreRanges}
 use Rattle.affc_sched.proofs.LegalLemmas.{entry_at}
 use Rattle.affc_sched.proofs.PairLemmas.{all_from, stands_in, columns_of_pair}
 
@@ -39,12 +40,12 @@ plain_reach (q ∷ rs) h r (inl is) =
 plain_reach (q ∷ rs) h r (inr i) = plain_reach rs (both_true (plain_range q) (plain_ranges rs) h).1 r i
 
 record HasRanges (e : Entry) : Type 0 where
-  each : length e.ranges ≡ length e.loops
+  each : length e.ranges ≡ coordinates e
   reach : (r : ℤ × ℤ) → IsIn r e.ranges → WithinReach r
 
 has_ranges : (nest : Nest) → IsNest nest → (e : Entry) → IsIn e nest.entries → IsTrue e.alive → HasRanges e
 has_ranges nest n e i alive =
-    let h = ranges_hold_iterators n.program e.statement e n.has (entry_at n.program n.has e (subst (λ (z : Nest). IsIn e z.entries) n.is i)) alive in
+    let h = ranges_hold_iterators n.program e.part e n.has (entry_at n.program n.has e (subst (λ (z : Nest). IsIn e z.entries) n.is i)) alive in
     record { each = h.each; reach = λ r k. near_reach r (h.near r k).1 }
 
 params_reach : (nest : Nest) → IsNest nest → (r : ℤ × ℤ) → IsIn r nest.params → WithinReach r
@@ -63,7 +64,7 @@ module _ (nest : Nest) (n : IsNest nest) (a b : Entry) (a_in : IsIn a nest.entri
         ]
       ]))
 
-  pub ranges_long : length ranges ≡ pair_columns nest a.statement b.statement
+  pub ranges_long : length ranges ≡ pair_columns nest a.part b.part
   ranges_long =
       let u : length ranges ≡ length (nest.params ++ (a.ranges ++ b.ranges)) = ap length are in
       let v = length_append nest.params (a.ranges ++ b.ranges) in
@@ -76,12 +77,16 @@ module _ (nest : Nest) (n : IsNest nest) (a b : Entry) (a_in : IsIn a nest.entri
       sum : (m k n l o t : ℕ) → t ≡ m + (k + n) → k ≡ l → n ≡ o → t ≡ (m + l) + o
       sum m k n l o t e f g = omega (arith, e, f, g)
 
-  pub are_ranges : AreRanges nest a ranges
+  found_as : (e : Entry) → IsIn e nest.entries → IsFoundAs nest e
+  found_as e i = record {
+    loops = (stands_in nest n e i).loops;
+    statement = (stands_in nest n e i).statement;
+  }
+
+  pub are_ranges : AreRanges nest a b ranges
   are_ranges = record {
     reach = ranges_reach;
-    loops = (stands_in nest n a a_in).loops;
-    room = room (length nest.params) (length a.loops) (length b.loops) (length ranges) (ranges_long ∙ sym (columns_of_pair nest n a b a_in b_in));
+    first_found = found_as a a_in;
+    second_found = found_as b b_in;
+    each = ranges_long ∙ sym (columns_of_pair nest n a b a_in b_in);
   }
-    where
-      room : (m k n l : ℕ) → l ≡ (m + k) + n → m + k ≤ l
-      room m k n l e = omega (arith, e)

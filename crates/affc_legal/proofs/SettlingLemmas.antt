@@ -1,6 +1,7 @@
 -- What the code that answers all questions keeps.
-use Rattle.std.proofs.Common.{◌≡◌, ℤ, List, [], ◌∷◌, ◌++◌, length, map, take, drop, Option, refl, sym, ap, subst, ◌∙◌, inl, inr}
+use Rattle.std.proofs.Common.{◌≡◌, ℤ, List, [], ◌∷◌, ◌++◌, length, map, take, drop, Option, refl, sym, ap, subst, ◌∙◌, inl, inr, arith}
 use Rattle.std.proofs.Math.Seq.{take-append_seam}
+use Rattle.std.proofs.lemmas.List.{take_all}
 use Rattle.affc_farkas.specs.declared.proof.Proof.{Proof}
 use Rattle.affc_system.specs.Order.{LexLe}
 use Rattle.affc_system.specs.Systems.{Rows}
@@ -10,7 +11,7 @@ use Rattle.affc_ast.specs.Trace.{trace}
 use Rattle.affc_trace.specs.declared.schedule.Schedule.{Schedule}
 use Rattle.affc_trace.specs.Law.{IsIn}
 use Rattle.affc_trace.specs.Target.{IsScheduleOf}
-use Rattle.affc_trace.proofs.Legality.{earlier_is_in}
+use Rattle.affc_trace.proofs.Legality.{earlier_is_in, later_is_in}
 use Rattle.affc_trace.proofs.Members.{in_map}
 use Rattle.affc_trace.proofs.Once.{in_flat_map}
 use Rattle.affc_domain.specs.Ranges.{number_ranges}
@@ -21,8 +22,9 @@ use Rattle.affc_nest.specs.declared.nest.Entry.{Entry}
 use Rattle.affc_nest.specs.declared.nest.Nest.{Nest}
 use Rattle.affc_nest.specs.Laws.{HasNest, NamesArrays}
 use Rattle.affc_nest.specs.Nests.{nest_of}
-use Rattle.affc_order.specs.Systems.{loops_of, pair_columns, source_systems, turned_systems}
-use Rattle.affc_order.proofs.OrderLemmas.{as_many_loops}
+use Rattle.affc_nest.specs.Parts.{statement_of}
+use Rattle.affc_order.specs.Systems.{loops_of, coordinates_of, pair_columns, source_systems, turned_systems}
+use Rattle.affc_order.proofs.OrderLemmas.{as_many_loops, statement_is}
 use Rattle.affc_sched.specs.Touched.{IsTouched, Each}
 use Rattle.affc_legal.specs.Answered.{AreShown, Settles, spot_at, IsFirstOf, AreAnswered, AreRanges, question_on}
 use Rattle.affc_sched.specs.Laws.{parameters_at, first_at, second_at, NoneHasAPoint}
@@ -38,16 +40,16 @@ use Rattle.affc_legal.proofs.RangeLemmas.{ranges_long, are_ranges}
 -- ---- One pair of accesses
 
 record IsPaired (nest : Nest) (a b : Entry) (q : Question) : Type 0 where
-  first : q.first ≡ a.statement
-  second : q.second ≡ b.statement
-  columns : q.system.columns ≡ pair_columns nest a.statement b.statement
+  first : q.first ≡ a.part
+  second : q.second ≡ b.part
+  columns : q.system.columns ≡ pair_columns nest a.part b.part
   ranges : q.ranges ≡ nest.params ++ (a.ranges ++ b.ranges)
 
 paired : (nest : Nest) (schedule : Schedule) (a b : Entry) (x y : Access) (q : Question) → IsIn q (pair_questions nest a b schedule x y) → IsPaired nest a b q
 paired nest schedule a b x y q i =
     let rows = pair_rows nest a b x y in
-    let later = turned_systems nest a.statement b.statement schedule in
-    let o = in_flat_map (λ earlier. map (question nest a b rows earlier) later) (source_systems nest a.statement b.statement) q i in
+    let later = turned_systems nest a.part b.part schedule in
+    let o = in_flat_map (λ earlier. map (question nest a b rows earlier) later) (source_systems nest a.part b.part) q i in
     let u = in_map (question nest a b rows o.0) later q o.2 in
     record {
       first = ap (λ (z : Question). z.first) u.2;
@@ -83,7 +85,7 @@ ranges_fit nest n schedule a b x y from to ranges are systems e =
     ranges_long nest n a b from.there to.there from.alive to.alive ranges are ∙ sym (ap (λ (r : Rows). r.columns) k.2 ∙ (paired nest schedule a b x y k.0 k.1).columns)))
 
 pub ranges_are : (nest : Nest) (n : IsNest nest) (a b : Entry) (x y : Access) → IsTouched nest a x → IsTouched nest b y
-    → (ranges : List (ℤ × ℤ)) → ranges ≡ nest.params ++ (a.ranges ++ b.ranges) → AreRanges nest a ranges
+    → (ranges : List (ℤ × ℤ)) → ranges ≡ nest.params ++ (a.ranges ++ b.ranges) → AreRanges nest a b ranges
 ranges_are nest n a b x y from to ranges are = are_ranges nest n a b from.there to.there from.alive to.alive ranges are
 
 -- ---- All questions
@@ -111,15 +113,21 @@ module _ (program : Program) (schedule : Schedule) (has : HasNest program) (name
       let n = nest_of program in
       let its : List ℤ = a.iterators ++ b.iterators in
       let l : length p ≡ length n.params = sym (box_length (number_ranges program.params) p (in_ranges program.params p v.context.ranges)) in
-      let k : length (loops_of n q.first) ≡ length a.iterators =
-      ap (λ s. length (loops_of n s)) f ∙ as_many_loops program p a has (earlier_is_in (trace program p) a b v.violates.earlier) in
+      let first_in = earlier_is_in (trace program p) a b v.violates.earlier in
+      let second_in = later_is_in (trace program p) a b v.violates.earlier in
+      let k : coordinates_of n q.first ≡ length a.iterators = ap (coordinates_of n) f ∙ as_many_loops program p a has first_in in
+      let m : length (loops_of n q.second) ≡ length b.iterators = ap (λ s. length (loops_of n s)) g ∙ as_many_loops program p b has second_in in
+      let first_of : statement_of n q.first ≡ a.statement = ap (statement_of n) f ∙ statement_is program p a has first_in in
+      let second_of : statement_of n q.second ≡ b.statement = ap (statement_of n) g ∙ statement_is program p b has second_in in
       let front : take (length n.params) (p ++ its) ≡ p = ap (λ m. take m (p ++ its)) (sym l) ∙ take-append_seam p its in
       let back : drop (length n.params) (p ++ its) ≡ its = ap (λ m. drop m (p ++ its)) (sym l) ∙ past p its in
       let one : take (length (loops_of n q.first)) (drop (length n.params) (p ++ its)) ≡ a.iterators =
       ap (take (length (loops_of n q.first))) back ∙ ap (λ m. take m its) k ∙ take-append_seam a.iterators b.iterators in
-      let two : drop (length (loops_of n q.first)) (drop (length n.params) (p ++ its)) ≡ b.iterators =
-      ap (drop (length (loops_of n q.first))) back ∙ ap (λ m. drop m its) k ∙ past a.iterators b.iterators in
-      λ i. spot_of (front i) (record { statement = f i; iterators = one i }) (record { statement = g i; iterators = two i })
+      let rest : drop (coordinates_of n q.first) (drop (length n.params) (p ++ its)) ≡ b.iterators =
+      ap (drop (coordinates_of n q.first)) back ∙ ap (λ m. drop m its) k ∙ past a.iterators b.iterators in
+      let two : take (length (loops_of n q.second)) (drop (coordinates_of n q.first) (drop (length n.params) (p ++ its))) ≡ b.iterators =
+      ap (take (length (loops_of n q.second))) rest ∙ take_all (length (loops_of n q.second)) b.iterators (omega (arith, m)) in
+      λ i. spot_of (front i) (record { statement = first_of i; iterators = one i }) (record { statement = second_of i; iterators = two i })
     where
       past : (xs ys : List ℤ) → drop (length xs) (xs ++ ys) ≡ ys
       past [] ys = refl

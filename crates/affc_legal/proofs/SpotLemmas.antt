@@ -1,15 +1,15 @@
 -- The order of spots, and the spots at the points of a question.
-use Rattle.std.proofs.Common.{◌≡◌, ◌+◌, ◌≤◌, ℤ, pos, ◌<ℤ◌, List, [], ◌∷◌, ◌++◌, length, take, drop, refl, sym, ap, subst, ◌∙◌, inl, inr, arith}
+use Rattle.std.proofs.Common.{◌≡◌, ◌+◌, ℤ, pos, ◌<ℤ◌, List, [], ◌∷◌, ◌++◌, length, refl, sym, ap, subst, ◌∙◌, inl, inr, arith}
 use Rattle.std.proofs.lemmas.Int.{ints}
-use Rattle.std.proofs.lemmas.List.{take-append-drop, length-take-le, length-drop}
 use Rattle.affc_system.specs.Order.{LexLe}
 use Rattle.affc_trace.proofs.EndedReads.{append_assoc}
 use Rattle.affc_trace.proofs.Runs.{length_append}
 use Rattle.affc_nest.specs.declared.nest.Nest.{Nest}
-use Rattle.affc_order.specs.Systems.{loops_of}
+use Rattle.affc_nest.specs.Parts.{statement_of}
+use Rattle.affc_order.specs.Systems.{coordinates_of}
 use Rattle.affc_legal.specs.Answered.{spot_at}
-use Rattle.affc_sched.specs.Laws.{parameters_at, first_at, second_at}
 use Rattle.affc_sched.specs.Questions.{Question}
+use Rattle.affc_sched.proofs.PointLemmas.{front, middle, end, front_long, middle_long, front_middle_end}
 
 -- ---- Lists in lexicographic order
 
@@ -50,20 +50,13 @@ lex_spots p q xs us ys vs s t l m h =
 -- ---- Points
 
 module _ (nest : Nest) (q : Question) where
-  -- a point by its parts
-  pub split_point : (x : List ℤ) → parameters_at nest q x ++ ((first_at nest q x).iterators ++ (second_at nest q x).iterators) ≡ x
-  split_point x = ap (λ ys. take (length nest.params) x ++ ys) (take-append-drop (length (loops_of nest q.first)) (drop (length nest.params) x)) ∙ take-append-drop (length nest.params) x
-
-  numbers_long : (x : List ℤ) → length nest.params + length (loops_of nest q.first) ≤ length x → length (parameters_at nest q x) ≡ length nest.params
-  numbers_long x h = length-take-le (length nest.params) x (omega (arith, h))
-
-  first_long : (x : List ℤ) → length nest.params + length (loops_of nest q.first) ≤ length x → length (first_at nest q x).iterators ≡ length (loops_of nest q.first)
-  first_long x h = length-take-le (length (loops_of nest q.first)) (drop (length nest.params) x) (let d = length-drop (length nest.params) x in omega (arith, h, d))
-
   -- the spots at points are in the points' order
-  pub points_spots : (x z : List ℤ) → length nest.params + length (loops_of nest q.first) ≤ length x → length z ≡ length x → LexLe x z → LexLe (spot_at nest q x) (spot_at nest q z)
+  pub points_spots : (x z : List ℤ) → length x ≡ (length nest.params + coordinates_of nest q.first) + coordinates_of nest q.second → length z ≡ length x → LexLe x z → LexLe (spot_at nest q x) (spot_at nest q z)
   points_spots x z h e o =
-      let g : length nest.params + length (loops_of nest q.first) ≤ length z = subst (λ n. length nest.params + length (loops_of nest q.first) ≤ n) (sym e) h in
-      lex_spots (parameters_at nest q x) (parameters_at nest q z) (first_at nest q x).iterators (first_at nest q z).iterators (second_at nest q x).iterators (second_at nest q z).iterators (pos q.first) (pos q.second)
-      (numbers_long x h ∙ sym (numbers_long z g)) (first_long x h ∙ sym (first_long z g))
-      (subst (λ w. LexLe w (parameters_at nest q z ++ ((first_at nest q z).iterators ++ (second_at nest q z).iterators))) (sym (split_point x)) (subst (LexLe x) (sym (split_point z)) o))
+      let m = length nest.params in
+      let k = coordinates_of nest q.first in
+      let l = coordinates_of nest q.second in
+      let g = e ∙ h in
+      lex_spots (front m k l x h) (front m k l z g) (middle m k l x h) (middle m k l z g) (end m k l x h) (end m k l z g) (pos (statement_of nest q.first)) (pos (statement_of nest q.second))
+      (front_long m k l x h ∙ sym (front_long m k l z g)) (middle_long m k l x h ∙ sym (middle_long m k l z g))
+      (subst (λ w. LexLe w (front m k l z g ++ (middle m k l z g ++ end m k l z g))) (sym (front_middle_end m k l x h)) (subst (LexLe x) (sym (front_middle_end m k l z g)) o))

@@ -11,6 +11,7 @@ use Rattle.affc_system.specs.Systems.{Rows, IsPoint}
 use Rattle.affc_trace.specs.Law.{IsIn}
 use Rattle.affc_nest.specs.declared.nest.Entry.{Entry}
 use Rattle.affc_nest.specs.declared.nest.Nest.{Nest}
+use Rattle.affc_nest.specs.Parts.{coordinates, statement_of}
 use Rattle.affc_order.specs.Systems.{loops_of}
 use Rattle.affc_sched.specs.Laws.{parameters_at, first_at, second_at}
 use Rattle.affc_sched.specs.Questions.{Question}
@@ -70,12 +71,18 @@ IsNearer (Some x) (Some y) nearer = ((nearer ≡ Some x) × LexLe x.key y.key) �
 
 -- ---- What is asked
 
--- the question of a system on two statements
+-- the question of a system on two parts
 abbrev pub question_on : (a b : Entry) → (ranges : List (ℤ × ℤ)) → Rows → Question
-question_on a b ranges system = record { first = a.statement; second = b.statement; system = system; ranges = ranges }
+question_on a b ranges system = record { first = a.part; second = b.part; system = system; ranges = ranges }
 
--- ranges of the parameters, of the iterators of this statement and of further ones, that may be searched
-pub record AreRanges (nest : Nest) (first : Entry) (ranges : List (ℤ × ℤ)) : Type 0 where
+-- what a nest says of a part's entry: its loops and its statement's number
+pub record IsFoundAs (nest : Nest) (e : Entry) : Type 0 where
+  pub loops : loops_of nest e.part ≡ e.loops
+  pub statement : statement_of nest e.part ≡ e.statement
+
+-- ranges of the parameters and of the coordinates of these parts, that may be searched
+pub record AreRanges (nest : Nest) (first second : Entry) (ranges : List (ℤ × ℤ)) : Type 0 where
   pub reach : All WithinReach ranges
-  pub loops : loops_of nest first.statement ≡ first.loops
-  pub room : length nest.params + length first.loops ≤ length ranges
+  pub first_found : IsFoundAs nest first
+  pub second_found : IsFoundAs nest second
+  pub each : length ranges ≡ (length nest.params + coordinates first) + coordinates second

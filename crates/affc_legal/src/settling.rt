@@ -18,7 +18,7 @@ use affc_system::{BoxOf, System};
 use affc_trace::schedule::Schedule;
 use std::alloc::{AllocError, Global};
 
-/// Two statements, and the ranges of the parameters, of the first's iterators and of the second's.
+/// Two parts, and the ranges of the parameters, of the first's coordinates and of the second's.
 #[derive(Drop)]
 struct Pair<'a> {
     nest: &'a Nest,
@@ -27,7 +27,7 @@ struct Pair<'a> {
     ranges: &'a BoxOf,
 }
 
-/// An access of a statement, and whether it is the statement's store.
+/// An access of a part, and whether it is its store.
 #[derive(Drop)]
 struct Place<'a> {
     entry: &'a Entry,
@@ -45,7 +45,7 @@ fn settle_one(
     budget: &mut Budget,
     out: &mut Vec<Proof>,
 ) -> Result<Option<Violation>, Stop>
-    requires ranges { AreRanges pair.now.nest.now pair.now.first.now pair.now.ranges.now }
+    requires ranges { AreRanges pair.now.nest.now pair.now.first.now pair.now.second.now pair.now.ranges.now }
     requires columns { length pair.now.ranges.now ≡ system.now.columns }
     ensures answered { IfOk result (AreAnswered pair.now.nest.now (question_on pair.now.first.now pair.now.second.now pair.now.ranges.now system.now ∷ []) out.old.items out.new.items) }
     ensures later { IsLater budget.old budget.new }
@@ -74,7 +74,7 @@ fn settle_systems(
     budget: &mut Budget,
     out: &mut Vec<Proof>,
 ) -> Result<Option<Violation>, Stop>
-    requires ranges { AreRanges pair.now.nest.now pair.now.first.now pair.now.ranges.now }
+    requires ranges { AreRanges pair.now.nest.now pair.now.first.now pair.now.second.now pair.now.ranges.now }
     requires columns { Each (λ s. length pair.now.ranges.now ≡ s.columns) systems.now }
     ensures answered { IfOk result (AreAnswered pair.now.nest.now (map (question_on pair.now.first.now pair.now.second.now pair.now.ranges.now) systems.now) out.old.items out.new.items) }
     ensures later { IsLater budget.old budget.new }
@@ -90,7 +90,7 @@ fn settle_systems(
     }
 }
 
-/// The ranges of the parameters, of the first's iterators and of the second's.
+/// The ranges of the parameters, of the first's coordinates and of the second's.
 #[tactic(auto, using(affc_sched::proofs::Lists::three_ranges))]
 fn pair_ranges(nest: &Nest, a: &Entry, b: &Entry) -> Result<BoxOf, AllocError>
     ensures { IfOk result (λ r. r ≡ nest.now.params ++ (a.now.ranges ++ b.now.ranges)) }
@@ -159,7 +159,7 @@ fn settle_touch(
     settle_pair(alloc, nest, schedule, from, to, budget, out)
 }
 
-/// Answers the questions of an access and these last ones of a living statement.
+/// Answers the questions of an access and these last ones of a living part.
 fn settle_accesses(
     alloc: Global,
     nest: &Nest,
@@ -192,8 +192,8 @@ fn settle_accesses(
     }
 }
 
-/// Answers the questions of an access and those of a statement.
-fn settle_statement(
+/// Answers the questions of an access and those of a part.
+fn settle_part(
     alloc: Global,
     nest: &Nest,
     schedule: &Schedule,
@@ -216,8 +216,8 @@ fn settle_statement(
     settle_accesses(alloc, nest, schedule, from, b, accesses, budget, out)
 }
 
-/// Answers the questions of an access and those of these statements.
-fn settle_statements(
+/// Answers the questions of an access and those of these parts.
+fn settle_parts(
     alloc: Global,
     nest: &Nest,
     schedule: &Schedule,
@@ -236,14 +236,14 @@ fn settle_statements(
     match entries {
         [] => Ok(None),
         [entry, rest @ ..] => {
-            let here = settle_statement(alloc, nest, schedule, from, entry, budget, out)?;
-            let others = settle_statements(alloc, nest, schedule, from, rest, budget, out)?;
+            let here = settle_part(alloc, nest, schedule, from, entry, budget, out)?;
+            let others = settle_parts(alloc, nest, schedule, from, rest, budget, out)?;
             Ok(nearer(here, others))
         }
     }
 }
 
-/// Answers the questions from these last accesses of a living statement.
+/// Answers the questions from these last accesses of a living part.
 fn settle_from_accesses(
     alloc: Global,
     nest: &Nest,
@@ -268,14 +268,14 @@ fn settle_from_accesses(
                 stores: rest.is_empty(),
             };
             let entries = nest.entries.as_slice();
-            let here = settle_statements(alloc, nest, schedule, &from, entries, budget, out)?;
+            let here = settle_parts(alloc, nest, schedule, &from, entries, budget, out)?;
             let others = settle_from_accesses(alloc, nest, schedule, a, rest, budget, out)?;
             Ok(nearer(here, others))
         }
     }
 }
 
-/// Answers the questions from a statement.
+/// Answers the questions from a part.
 fn settle_from(
     alloc: Global,
     nest: &Nest,
@@ -297,7 +297,7 @@ fn settle_from(
     settle_from_accesses(alloc, nest, schedule, a, accesses, budget, out)
 }
 
-/// Answers the questions from these statements.
+/// Answers the questions from these parts.
 pub(crate) fn settle_all(
     alloc: Global,
     nest: &Nest,

@@ -1,5 +1,6 @@
 //! Dependences that are turned round, as they are found, in the order of their keys.
 ghost use Rattle.std.specs.Prelude.{◌≡◌, ◌+◌, ◌≤◌, length, take, drop, IfOk};
+ghost use Rattle.affc_nest.specs.Parts.{coordinates};
 ghost use Rattle.affc_legal.specs.Answered.{IsNearer};
 ghost use Rattle.affc_legal.specs.Violations.{spot_of};
 
@@ -62,7 +63,7 @@ fn key_of(alloc: Global, p: &[i64], a: &Instance, b: &Instance) -> Result<Items<
     Ok(key)
 }
 
-/// The instances of two statements at a point over the parameters, the first's iterators and the second's.
+/// The instances of two parts at a point over the parameters, the first's coordinates and the second's.
 pub(crate) fn violation_at(
     alloc: Global,
     nest: &Nest,
@@ -70,19 +71,18 @@ pub(crate) fn violation_at(
     second: &Entry,
     point: &[i64],
 ) -> Result<Violation, AllocError>
-    requires { length nest.now.params + length first.now.loops ≤ length point.now }
+    requires { length point.now ≡ (length nest.now.params + coordinates first.now) + coordinates second.now }
     ensures key { IfOk result (λ v. v.key ≡ spot_of v.p v.a v.b) }
     ensures p { IfOk result (λ v. v.p ≡ take (length nest.now.params) point.now) }
     ensures a { IfOk result (λ v. v.a ≡ record { statement = first.now.statement; iterators = take (length first.now.loops) (drop (length nest.now.params) point.now) }) }
-    ensures b { IfOk result (λ v. v.b ≡ record { statement = second.now.statement; iterators = drop (length first.now.loops) (drop (length nest.now.params) point.now) }) }
+    ensures b { IfOk result (λ v. v.b ≡ record { statement = second.now.statement; iterators = take (length second.now.loops) (drop (coordinates first.now) (drop (length nest.now.params) point.now)) }) }
 {
     let params = nest.params.ranges().len();
-    let outer = first.loops.len();
-    let (numbers, iterators) = point.split_at(params);
-    let (front, back) = iterators.split_at(outer);
+    let (numbers, coordinates) = point.split_at(params);
+    let (_, others) = coordinates.split_at(first.coordinates());
     let p = Items::from_slice(alloc, numbers)?;
-    let a = instance_at(alloc, first.statement, front)?;
-    let b = instance_at(alloc, second.statement, back)?;
+    let a = instance_at(alloc, first.statement, &coordinates[..first.loops.len()])?;
+    let b = instance_at(alloc, second.statement, &others[..second.loops.len()])?;
     let key = key_of(alloc, p.as_slice(), &a, &b)?;
     Ok(Violation { key, p, a, b })
 }

@@ -33,7 +33,7 @@ use Rattle.affc_nest.specs.declared.nest.Nest.{Nest}
 use Rattle.affc_nest.specs.Laws.{HasNest}
 use Rattle.affc_domain.specs.Arrays.{declared_arrays}
 use Rattle.affc_nest.specs.Nests.{array_of, nest_of}
-use Rattle.affc_nest.specs.Parts.{statement_of}
+use Rattle.affc_nest.specs.Parts.{statement_or_none, statement_of}
 use Rattle.affc_nest.specs.Questions.{extents_or_none, extents_of_access}
 use Rattle.affc_nest.proofs.AccessLemmas.{plain_append}
 use Rattle.affc_nest.proofs.EntryLemmas.{entries_stand}
@@ -55,6 +55,7 @@ use Rattle.affc_sched.proofs.LegalLemmas.{entry_at, as_many_each}
 pub record StandsIn (nest : Nest) (e : Entry) : Type 0 where
   pub columns : e.domain.columns ≡ length nest.params + length e.loops
   pub loops : loops_of nest e.part ≡ e.loops
+  pub statement : statement_of nest e.part ≡ e.statement
   pub counted : e.part < length nest.entries
 
 stands_of : (program : Program) → HasNest program → (e : Entry) → IsIn e (nest_of program).entries → StandsIn (nest_of program) e
@@ -63,12 +64,21 @@ stands_of program has e i =
     record {
       columns = ((entries_stand program has).1 e.part e h).columns;
       loops = ap loops_or_none h;
+      statement = ap statement_or_none h;
       counted = slice_get_within (nest_of program).entries e.part e h;
     }
 
 pub stands_in : (nest : Nest) → IsNest nest → (e : Entry) → IsIn e nest.entries → StandsIn nest e
 stands_in nest n e i =
     subst (λ (x : Nest). StandsIn x e) (sym n.is) (stands_of n.program n.has e (subst (λ (x : Nest). IsIn e x.entries) n.is i))
+
+-- the order of two parts by what their entries say
+pub ordered_as : (nest : Nest) → IsNest nest → (columns : ℕ) (a b : Entry) → IsIn a nest.entries → IsIn b nest.entries → (fs gs : List Affine)
+    → source_order nest columns (record { part = a.part; iterators = fs }) (record { part = b.part; iterators = gs }) ≡ lex_systems columns (shared a.loops b.loops) fs gs [] (nat_lt a.statement b.statement)
+ordered_as nest n columns a b i j fs gs =
+    let first = stands_in nest n a i in
+    let second = stands_in nest n b j in
+    λ k. lex_systems columns (shared (first.loops k) (second.loops k)) fs gs [] (nat_lt (first.statement k) (second.statement k))
 
 pub columns_of_pair : (nest : Nest) → IsNest nest → (a b : Entry) → IsIn a nest.entries → IsIn b nest.entries → (length nest.params + length a.loops) + length b.loops ≡ pair_columns nest a.part b.part
 columns_of_pair nest n a b i j =
