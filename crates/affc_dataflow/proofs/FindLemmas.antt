@@ -59,7 +59,7 @@ few_of program has k e h =
     subst (λ n. n ≤ 16) (sym l) f
 
 pub few_accesses : (nest : Nest) → IsNamedNest nest → (e : Entry) → IsIn e nest.entries → length e.accesses ≤ 16
-few_accesses nest n e i = few_of n.program n.has e.statement e (entry_at n.program n.has e (subst (λ (z : Nest). IsIn e z.entries) n.is i))
+few_accesses nest n e i = few_of n.program n.has e.part e (entry_at n.program n.has e (subst (λ (z : Nest). IsIn e z.entries) n.is i))
 
 -- ---- Ranges of parameters and iterators
 
@@ -117,17 +117,17 @@ all_fuel k (r ∷ rs) ss n h l f = (
 
 -- the box of a load of a statement that can have instances
 module _ (nest : Nest) (h : IsNamedNest nest) (e : Entry) (i : IsIn e nest.entries) (alive : IsTrue e.alive) (few_params : length nest.params ≤ 4) (few_loops : length e.loops ≤ 6) where
-  its_entry : IsEntry h.program e.statement e
+  its_entry : IsEntry h.program e.part e
   its_entry = entry_at h.program h.has e (subst (λ (z : Nest). IsIn e z.entries) h.is i)
 
   params_short : (r : ℤ × ℤ) → IsIn r nest.params → IsShort 26 r
   params_short r j = plain_short (number_ranges h.program.params) h.has.plain.ranges r (subst (λ (z : Nest). IsIn r z.params) h.is j)
 
   loops_short : (r : ℤ × ℤ) → IsIn r e.ranges → IsShort 33 r
-  loops_short r j = near_short r ((ranges_hold_iterators h.program e.statement e h.has its_entry alive).near r j).1
+  loops_short r j = near_short r ((ranges_hold_iterators h.program e.part e h.has its_entry alive).near r j).1
 
   each_loop : length e.ranges ≡ length e.loops
-  each_loop = (ranges_hold_iterators h.program e.statement e h.has its_entry alive).each
+  each_loop = (ranges_hold_iterators h.program e.part e h.has its_entry alive).each
 
   pub box_width : (ranges : List (ℤ × ℤ)) → ranges ≡ nest.params ++ e.ranges → length ranges ≡ length nest.params + length e.loops
   box_width ranges r = ap length r ∙ length_append nest.params e.ranges ∙ ap (λ k. length nest.params + k) each_loop
@@ -155,7 +155,7 @@ module _ (nest : Nest) (h : IsNamedNest nest) (e : Entry) (i : IsIn e nest.entri
   box_tree x ranges tree r c = record {
     right = λ program p its is loads.
         let own : InBox (nest_of program).params p = in_ranges program.params p loads.context.ranges in
-        let loop : InBox e.ranges its = (ranges_hold_iterators program e.statement e loads.has loads.entry alive).hold p (record { statement = e.statement; iterators = its }) refl loads.context loads.runs in
+        let loop : InBox e.ranges its = (ranges_hold_iterators program e.part e loads.has loads.entry alive).hold p (record { statement = e.part; iterators = its }) refl loads.context loads.runs in
         c.right program p its is loads
         (subst (λ rs. InBox rs (p ++ its)) (sym (r ∙ ap (λ (n : Nest). n.params ++ e.ranges) is)) (box_append (nest_of program).params e.ranges p its own loop));
     within = c.within;
@@ -277,7 +277,7 @@ module _ (nest : Nest) (trees : List Tree) (h : AreTreesFrom nest nest.entries t
       loads_at : (s k : ℕ) (e : Entry) (x : Access) → slice_get nest.entries s ≡ Some e → slice_get e.accesses k ≡ Some x → (b : Instance) → b.statement ≡ s → IsIn b (trace program p) → Loads program p b.iterators e x
       loads_at s k e x at there b number runs =
           let at' : IsEntry program s e = subst (λ (n : Nest). slice_get n.entries s ≡ Some e) is at in
-          let own : e.statement ≡ s = ((entries_stand program has).1 s e at').number in
+          let own : e.part ≡ s = ((entries_stand program has).1 s e at').number in
           record {
             has = has;
             named = named;
@@ -295,9 +295,9 @@ module _ (nest : Nest) (trees : List Tree) (h : AreTreesFrom nest nest.entries t
           → slice_get (loads_of program p b) k ≡ Some x → IsSource program p b x (named_at tree (p ++ b.iterators))
       source_at s k e a tree at there t b x number runs load =
           let at' : IsEntry program s e = subst (λ (n : Nest). slice_get n.entries s ≡ Some e) is at in
-          let own : e.statement ≡ s = ((entries_stand program has).1 s e at').number in
-          let same : b ≡ record { statement = e.statement; iterators = b.iterators } = λ i. record { statement = (number ∙ sym own) i; iterators = b.iterators } in
-          let here : Instance = record { statement = e.statement; iterators = b.iterators } in
+          let own : e.part ≡ s = ((entries_stand program has).1 s e at').number in
+          let same : b ≡ record { statement = e.part; iterators = b.iterators } = λ i. record { statement = (number ∙ sym own) i; iterators = b.iterators } in
+          let here : Instance = record { statement = e.part; iterators = b.iterators } in
           let loads = loads_at s k e a at there b number runs in
           let l = parameters_are program p b.iterators e a loads in
           let st = reader_stands program p b.iterators e a loads in

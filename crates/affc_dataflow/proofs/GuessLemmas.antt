@@ -114,7 +114,7 @@ module _ (nest : Nest) (e : Entry) (x : Access) (number : ℕ) (h : IsLoad nest 
   its_rows : HaveColumns (length nest.params + length e.loops) e.domain.rows
   its_rows =
       subst (λ (n : Nest). HaveColumns (length n.params + length e.loops) e.domain.rows) (sym whole.is)
-      (domain_wide whole.program whole.has e.statement e (entry_at whole.program whole.has e (subst (λ (n : Nest). IsIn e n.entries) whole.is h.touched.there)) h.touched.alive)
+      (domain_wide whole.program whole.has e.part e (entry_at whole.program whole.has e (subst (λ (n : Nest). IsIn e n.entries) whole.is h.touched.there)) h.touched.alive)
 
   its_tests : HaveColumns ((length nest.params + length e.loops) + under.quotients) under.rows
   its_tests = second_wide all_columns (map (widened under.quotients) e.domain.rows) under.rows (subst (λ (r : Rows). HaveColumns r.columns r.rows) path_is wide)
@@ -129,10 +129,10 @@ module _ (nest : Nest) (e : Entry) (x : Access) (number : ℕ) (h : IsLoad nest 
   long_is l = l ∙ ap (λ (r : Rows). r.columns) path_is
 
   pub source_right : (w : Entry) (z : Access) → Writes nest x.array.0 w z → (forms : List Affine) → HaveColumns path.columns forms → length forms ≡ length w.loops → All (FitsForm narrow) forms
-      → NoneHasAPoint (all_named nest e x path ranges w z forms) → CoversOn nest e x path ranges 0 0 (Source w.statement forms)
+      → NoneHasAPoint (all_named nest e x path ranges w z forms) → CoversOn nest e x path ranges 0 0 (Source w.part forms)
   source_right w z writes forms width each fits none =
       let forms_wide : HaveColumns ((length nest.params + length e.loops) + under.quotients) forms = subst (λ (r : Rows). HaveColumns r.columns forms) path_is width in
-      let posed : Posed = record { statement = w.statement; iterators = forms } in
+      let posed : Posed = record { part = w.part; iterators = forms } in
       record {
         right = λ program p its qs is loads long inside met. record {
           source = leaf_right nest e x ranges under.quotients under.rows its_tests (Some posed) (λ a q. subst (λ (a : Posed). HaveColumns ((length nest.params + length e.loops) + under.quotients) a.iterators) (same_Some posed a q) forms_wide)
@@ -144,7 +144,7 @@ module _ (nest : Nest) (e : Entry) (x : Access) (number : ℕ) (h : IsLoad nest 
           shaped = width;
           stores = record {
             entry = w;
-            there = subst (λ (m : Nest). slice_get m.entries w.statement ≡ Some w) (sym whole.is) (entry_at whole.program whole.has w (subst (λ (m : Nest). IsIn w m.entries) whole.is writes.among));
+            there = subst (λ (m : Nest). slice_get m.entries w.part ≡ Some w) (sym whole.is) (entry_at whole.program whole.has w (subst (λ (m : Nest). IsIn w m.entries) whole.is writes.among));
             alive = writes.alive;
             store = z;
             is_store = writes.last;
@@ -385,7 +385,7 @@ module _ (nest : Nest) (e : Entry) (x : Access) (number : ℕ) (h : IsLoad nest 
         right = λ program p its q loads inside.
             let s = reader_stands program p its e x loads in
             let l = parameters_are program p its e x loads in
-            let m = (points_are_instances program p (record { statement = e.statement; iterators = its }) e loads.has s.at s.alive l).1 (loads.context, loads.runs) in
+            let m = (points_are_instances program p (record { statement = e.part; iterators = its }) e loads.has s.at s.alive l).1 (loads.context, loads.runs) in
             let none : (p ++ its) ++ [] ≡ p ++ its = append_nil (p ++ its) in
             let long : length ((p ++ its) ++ []) ≡ e.domain.columns =
             ap length none ∙ length_append p its ∙ ap (λ k. k + length its) (l ∙ ap (λ (n : Nest). length n.params) (sym q)) ∙ ap (λ k. length nest.params + k) s.long ∙ sym columns in

@@ -79,9 +79,9 @@ module _ (program : Program) (p : List ℤ) (has : HasNest program) (inside : Is
   iterators_near : (b : Instance) → IsIn b (trace program p) → All IsNear b.iterators
   iterators_near b runs =
       let r = stood program has p b inside runs in
-      let own : Instance = record { statement = r.0.statement; iterators = b.iterators } in
+      let own : Instance = record { statement = r.0.part; iterators = b.iterators } in
       let there : IsIn own (trace program p) = subst (λ i. IsIn i (trace program p)) (λ i. record { statement = sym r.1 i; iterators = b.iterators }) runs in
-      let ranges = ranges_hold_iterators program r.0.statement r.0 has r.2.at r.2.alive in
+      let ranges = ranges_hold_iterators program r.0.part r.0 has r.2.at r.2.alive in
       nearer b.iterators (near_inside r.0.ranges b.iterators (λ q j. (ranges.near q j).1) (ranges.hold p own refl inside there))
 
   source_near : (b : Instance) (x : Element) (source : Option Instance) → IsSource program p b x source → IfSome source (λ w. All IsNear w.iterators)

@@ -18,7 +18,7 @@ use Rattle.affc_nest.specs.declared.nest.Entry.{Entry}
 use Rattle.affc_nest.specs.declared.nest.Nest.{Nest}
 use Rattle.affc_nest.specs.Laws.{element_at}
 use Rattle.affc_nest.specs.Nests.{nest_of}
-use Rattle.affc_nest.proofs.EntryLemmas.{points_are_instances}
+use Rattle.affc_nest.proofs.EntryLemmas.{entries_stand, points_are_instances}
 use Rattle.affc_order.proofs.ColumnLemmas.{cons_is, no_columns, more_columns}
 use Rattle.affc_sched.proofs.LegalLemmas.{Stood, entry_at, events_are}
 use Rattle.affc_quast.specs.Limits.{narrow, FitsForm, IsTreeWithin}
@@ -28,7 +28,7 @@ use Rattle.affc_flow.specs.Laws.{Loads, IsSourceOf}
 use Rattle.affc_flow.specs.Questions.{is_temporary}
 use Rattle.affc_dataflow.specs.Searches.{IsRightAt, Covers, IsSlight, IsLoad}
 use Rattle.affc_latest.specs.Stores.{IsReadFrom, IsWriterAt}
-use Rattle.affc_dataflow.specs.Unwritten.{IsUnwritten}
+use Rattle.affc_dataflow.specs.Unwritten.{LoadsUnwritten, IsUnwritten}
 use Rattle.affc_latest.proofs.LastLemmas.{pinned_is}
 use Rattle.affc_flow.proofs.LoadLemmas.{load_there}
 use Rattle.affc_flow.proofs.PathLemmas.{parameters_are, reader_stands}
@@ -103,7 +103,7 @@ module _ (nest : Nest) (e : Entry) (x : Access) (number : ℕ) (h : IsLoad nest 
   nothing_covers point tree t none = subst (Covers nest e x (map pin point) 0) (sym t) (record {
     right = λ program qs js is loads inside.
         let s = reader_stands program qs js e x loads in
-        let m = (points_are_instances program qs (record { statement = e.statement; iterators = js }) e loads.has s.at s.alive (parameters_are program qs js e x loads)).1 (loads.context, loads.runs) in
+        let m = (points_are_instances program qs (record { statement = e.part; iterators = js }) e loads.has s.at s.alive (parameters_are program qs js e x loads)).1 (loads.context, loads.runs) in
         absurd (none (subst (IsPoint e.domain) (pinned_is point (qs ++ js) inside) m));
     within = record { shaped = tt; stores = tt; fits = tt; short = omega arith; few = omega arith };
   })
@@ -154,7 +154,7 @@ module _ (nest : Nest) (e : Entry) (x : Access) (number : ℕ) (h : IsLoad nest 
     pub is_unwritten : length its ≡ length e.loops → IsPoint e.domain (p ++ its) → IsReadFrom nest e x p its None → IsTrue (is_temporary nest x.array.0)
         → IsUnwritten nest number p (record { statement = e.statement; iterators = its })
     is_unwritten k m from temp = λ program is has named.
-        let b : Instance = record { statement = e.statement; iterators = its } in
+        let b : Instance = record { statement = e.part; iterators = its } in
         let i : IsIn e (nest_of program).entries = subst (λ (n : Nest). IsIn e n.entries) is h.touched.there in
         let at = entry_at program has e i in
         let l' : length p ≡ length (number_ranges program.params) = l ∙ ap (λ (n : Nest). length n.params) is in
@@ -162,6 +162,8 @@ module _ (nest : Nest) (e : Entry) (x : Access) (number : ℕ) (h : IsLoad nest 
         let s : Stood program p e its = record { among = i; at = at; alive = h.touched.alive; long = k } in
         let ev = events_are program has p l' e its s in
         let loads : Loads program p its e x = record { has = has; named = named; context = r.0; entry = at; made = h.touched.among; runs = r.1 } in
+        let own : e.statement ≡ e.part = ((entries_stand program has).1 e.part e at).statement in
+        subst (λ j. LoadsUnwritten program number p (record { statement = j; iterators = its })) (sym own)
         record {
           context = r.0;
           runs = r.1;

@@ -9,6 +9,7 @@ use Rattle.affc_trace.specs.Laws.{IsInContext}
 use Rattle.affc_nest.specs.declared.nest.Access.{Access}
 use Rattle.affc_nest.specs.declared.nest.Entry.{Entry}
 use Rattle.affc_nest.specs.declared.nest.Nest.{Nest}
+use Rattle.affc_nest.specs.Parts.{coordinates}
 use Rattle.affc_nest.specs.Laws.{HasNest, NamesArrays}
 use Rattle.affc_nest.specs.Nests.{nest_of}
 use Rattle.affc_quast.specs.Limits.{narrow, widest, Shaped, FitsTree, IsTreeWithin, AreTreesWithin}
@@ -30,9 +31,9 @@ pub record NameAllAt (program : Program) (p : List ℤ) (nest : Nest) (trees : L
 abbrev pub NameAll : Nest → List Tree → Type 0
 NameAll nest trees = (program : Program) (p : List ℤ) → nest ≡ nest_of program → HasNest program → NamesArrays program → IsInContext program p → NameAllAt program p nest trees
 
--- the trees of statements that can have no instances
+-- the trees of parts that can have no instances
 abbrev pub AreInputs : Nest → List Tree → Type 0
-AreInputs nest trees = (statement load : ℕ) (e : Entry) (tree : Tree) → slice_get nest.entries statement ≡ Some e → e.alive ≡ false → load < loads_in e → tree_of nest trees statement load ≡ Some tree → tree ≡ Input
+AreInputs nest trees = (part load : ℕ) (e : Entry) (tree : Tree) → slice_get nest.entries part ≡ Some e → e.alive ≡ false → load < loads_in e → tree_of nest trees part load ≡ Some tree → tree ≡ Input
 
 -- ---- Asked at a point
 
@@ -50,25 +51,25 @@ pub record MayBeAsked (tree : Tree) (point : List ℤ) : Type 0 where
 abbrev pub FoundMayBeAsked : Type 0
 FoundMayBeAsked = (program : Program) (p : List ℤ) (trees : List Tree) → HasNest program → NamesArrays program → IsInContext program p
     → NameAll (nest_of program) trees → AreTreesWithin narrow 302 12 (nest_of program) trees
-    → (statement load : ℕ) (e : Entry) (tree : Tree) (b : Instance) → slice_get (nest_of program).entries statement ≡ Some e → load < loads_in e
-    → tree_of (nest_of program) trees statement load ≡ Some tree → b.statement ≡ statement → IsIn b (trace program p) → MayBeAsked tree (p ++ b.iterators)
+    → (part load : ℕ) (e : Entry) (tree : Tree) (b : Instance) → slice_get (nest_of program).entries part ≡ Some e → load < loads_in e
+    → tree_of (nest_of program) trees part load ≡ Some tree → b.statement ≡ part → IsIn b (trace program p) → MayBeAsked tree (p ++ b.iterators)
 
 -- ---- One after the other
 
 -- the tree of a load
 pub record IsTreeFor (nest : Nest) (e : Entry) (x : Access) (tree : Tree) : Type 0 where
   pub right : (program : Program) (p iterators : List ℤ) → nest ≡ nest_of program → Loads program p iterators e x → IsRightAt program p iterators e x tree
-  pub within : IsTreeWithin narrow 302 12 nest x.array.0 (length nest.params + length e.loops) tree
+  pub within : IsTreeWithin narrow 302 12 nest x.array.0 (length nest.params + coordinates e) tree
   pub none : e.alive ≡ false → tree ≡ Input
 
--- the trees of a statement's accesses from some on; the last one, its store, has none
+-- the trees of a part's accesses from some on; the last one, its store, has none
 abbrev pub AreTreesOf : Nest → Entry → List Access → List Tree → Type 0
 AreTreesOf nest e [] trees = trees ≡ []
 AreTreesOf nest e (x ∷ []) trees = trees ≡ []
 AreTreesOf nest e (x ∷ y ∷ ys) [] = ⊥
 AreTreesOf nest e (x ∷ y ∷ ys) (t ∷ ts) = IsTreeFor nest e x t × AreTreesOf nest e (y ∷ ys) ts
 
--- the trees of statements from some on
+-- the trees of parts from some on
 abbrev pub AreTreesFrom : Nest → List Entry → List Tree → Type 0
 AreTreesFrom nest [] trees = trees ≡ []
 AreTreesFrom nest (e ∷ es) trees = (own : List Tree) × (others : List Tree) × (trees ≡ own ++ others) × AreTreesOf nest e e.accesses own × AreTreesFrom nest es others

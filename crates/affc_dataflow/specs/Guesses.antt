@@ -17,7 +17,7 @@ use Rattle.affc_quast.specs.Paths.{IsNear}
 use Rattle.affc_quast.specs.Trees.{Tree, named_at, quotients_at}
 use Rattle.affc_flow.specs.Laws.{Loads, IsSourceOf}
 
--- the domain of a statement, seen with so many quotients behind its columns, and the rows of tests and divisions
+-- the domain of a part, seen with so many quotients behind its columns, and the rows of tests and divisions
 pub record IsPath (e : Entry) (path : Rows) : Type 0 where
   pub quotients : ℕ
   pub rows : List Affine

@@ -6,6 +6,7 @@ use Rattle.affc_ast.specs.declared.tree.Program.{Program}
 use Rattle.affc_nest.specs.declared.nest.Access.{Access}
 use Rattle.affc_nest.specs.declared.nest.Entry.{Entry}
 use Rattle.affc_nest.specs.declared.nest.Nest.{Nest}
+use Rattle.affc_nest.specs.Parts.{coordinates}
 use Rattle.affc_nest.specs.Nests.{nest_of}
 use Rattle.affc_quast.specs.Limits.{narrow, IsTreeWithin}
 use Rattle.affc_quast.specs.Paths.{IsNear}
@@ -24,7 +25,7 @@ pub record IsRightAt (program : Program) (p iterators : List ℤ) (e : Entry) (x
 -- instance in the ranges
 pub record Covers (nest : Nest) (e : Entry) (x : Access) (ranges : List (ℤ × ℤ)) (left : ℕ) (tree : Tree) : Type 0 where
   pub right : (program : Program) (p iterators : List ℤ) → nest ≡ nest_of program → Loads program p iterators e x → InBox ranges (p ++ iterators) → IsRightAt program p iterators e x tree
-  pub within : IsTreeWithin narrow left 12 nest x.array.0 (length nest.params + length e.loops) tree
+  pub within : IsTreeWithin narrow left 12 nest x.array.0 (length nest.params + coordinates e) tree
 
 -- ---- Parts of a box
 
@@ -46,7 +47,7 @@ IsSlightRange r = IsSlight r.0 × IsSlight r.1
 
 -- ---- What is searched
 
--- a load of a statement that can have instances, by its number among the statement's loads
+-- a load of a part that can have instances, by its number among the part's loads
 pub record IsLoad (nest : Nest) (e : Entry) (x : Access) (number : ℕ) : Type 0 where
   pub nested : IsNamedNest nest
   pub touched : IsTouched nest e x

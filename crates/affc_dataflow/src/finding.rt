@@ -4,6 +4,7 @@ ghost use Rattle.std.specs.List.{All};
 ghost use Rattle.affc_system.specs.Boxes.{IsBox};
 ghost use Rattle.affc_split.specs.Budgets.{IsLater};
 ghost use Rattle.affc_trace.specs.Law.{IsIn};
+ghost use Rattle.affc_nest.specs.Parts.{coordinates};
 ghost use Rattle.affc_quast.specs.Limits.{narrow, AreTreesWithin};
 ghost use Rattle.affc_quast.specs.Seen.{seen, trees_of};
 ghost use Rattle.affc_sched.specs.Touched.{Each};
@@ -33,7 +34,7 @@ fn tree_in(
     budget: &mut Budget,
 ) -> Result<Quast, FlowStop>
     requires load { IsLoad load.now.nest.now load.now.reader.now load.now.access.now load.now.number }
-    requires width { length ranges.now ≡ length load.now.nest.now.params + length load.now.reader.now.loops }
+    requires width { length ranges.now ≡ length load.now.nest.now.params + coordinates load.now.reader.now }
     requires ordered { IsBox ranges.now }
     requires slight { All IsSlightRange ranges.now }
     requires fuel { Fuel 302 ranges.now }

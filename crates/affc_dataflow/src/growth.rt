@@ -95,7 +95,7 @@ pub(crate) fn fitted_candidate(
     let forms = fitted_forms(alloc, candidate.forms.as_slice(), site)?;
     let conditions = fitted_forms(alloc, candidate.conditions.as_slice(), site)?;
     Ok(Candidate {
-        statement: candidate.statement,
+        part: candidate.part,
         forms,
         conditions,
     })
@@ -183,7 +183,7 @@ pub(crate) fn candidates_again(
         growth.candidates.get(*first),
         growth.candidates.get(*second),
     ) {
-        (Some(one), Some(other)) if one.statement == other.statement => {
+        (Some(one), Some(other)) if one.part == other.part => {
             let mut turned = Items::new(alloc);
             turned.push(*second)?;
             turned.push(*first)?;

@@ -205,8 +205,8 @@ pub(crate) fn leaf_of(
     ensures later { IsLater budget.old budget.new }
     ensures stop { IfErr result (λ e. e ≡ Stop.Budget → budget.new.limit ≡ Some budget.new.spent) }
 {
-    let statement = candidate.statement as usize;
-    let Some(writer) = load.nest.entries.as_slice().get(statement) else {
+    let part = candidate.part as usize;
+    let Some(writer) = load.nest.entries.as_slice().get(part) else {
         return Ok(None);
     };
     let Some(store) = store_for(writer, load.access.array.0) else {

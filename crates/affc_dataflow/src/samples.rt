@@ -84,8 +84,8 @@ fn add_candidate(
 ) -> Result<(), Unasked>
     requires load { IsLoad load.now.nest.now load.now.reader.now load.now.access.now load.now.number }
 {
-    let statement = candidate.statement as usize;
-    let Some(writer) = load.nest.entries.as_slice().get(statement) else {
+    let part = candidate.part as usize;
+    let Some(writer) = load.nest.entries.as_slice().get(part) else {
         return Ok(());
     };
     let Some(store) = store_for(writer, load.access.array.0) else {
@@ -151,7 +151,7 @@ fn source_at(
     ensures stop { IfErr result (λ e. e ≡ Stop.Budget → budget.new.limit ≡ Some budget.new.spent) }
 {
     let params = load.nest.params.ranges().len();
-    if p.len() != params || iterators.len() != load.reader.loops.len() {
+    if p.len() != params || iterators.len() != load.reader.coordinates() {
         return Ok(None);
     }
     if !are_near(p) || !are_near(iterators) {
@@ -285,7 +285,7 @@ fn have_values(forms: &[Form], iterators: &[i64], values: &[i128]) -> bool {
 fn names(candidate: &Candidate, sample: &Sample) -> bool {
     let values = sample.values.as_slice();
     let iterators = sample.instance.iterators.as_slice();
-    candidate.statement == sample.instance.statement
+    candidate.part == sample.instance.statement
         && have_values(candidate.forms.as_slice(), iterators, values)
         && candidate
             .conditions
@@ -359,8 +359,8 @@ fn later_rows(
     let mut out = Items::new(alloc);
     let entries = load.nest.entries.as_slice();
     let (Some(a), Some(b)) = (
-        entries.get(first.statement as usize),
-        entries.get(second.statement as usize),
+        entries.get(first.part as usize),
+        entries.get(second.part as usize),
     ) else {
         return Ok(out);
     };

@@ -4,6 +4,7 @@ ghost use Rattle.std.specs.List.{All};
 ghost use Rattle.affc_system.specs.Boxes.{IsBox};
 ghost use Rattle.affc_system.specs.Systems.{IsPoint};
 ghost use Rattle.affc_split.specs.Budgets.{IsLater};
+ghost use Rattle.affc_nest.specs.Parts.{coordinates};
 ghost use Rattle.affc_nest.specs.Domains.{number_form};
 ghost use Rattle.affc_quast.specs.Seen.{seen};
 ghost use Rattle.affc_quast.specs.Trees.{Test, Source};
@@ -102,7 +103,7 @@ fn instance_leaf(
 ) -> Result<Quast, FlowStop>
     requires load { IsLoad load.now.nest.now load.now.reader.now load.now.access.now load.now.number }
     requires params { length p.now ≡ length load.now.nest.now.params }
-    requires loops { length iterators.now ≡ length load.now.reader.now.loops }
+    requires loops { length iterators.now ≡ coordinates load.now.reader.now }
     requires params_slight { All IsSlight p.now }
     requires loops_slight { All IsSlight iterators.now }
     requires runs { IsPoint load.now.reader.now.domain (p.now ++ iterators.now) }
@@ -142,7 +143,7 @@ pub(crate) fn leaf(
     budget: &mut Budget,
 ) -> Result<Quast, FlowStop>
     requires load { IsLoad load.now.nest.now load.now.reader.now load.now.access.now load.now.number }
-    requires width { length point.now ≡ length load.now.nest.now.params + length load.now.reader.now.loops }
+    requires width { length point.now ≡ length load.now.nest.now.params + coordinates load.now.reader.now }
     requires slight { All IsSlight point.now }
     ensures right { IfOk result (λ t. Covers load.now.nest.now load.now.reader.now load.now.access.now (map pin point.now) 0 (seen t)) }
     ensures unwritten { IfErr result (λ e. IfUnwritten e (IsUnwritten load.now.nest.now)) }
@@ -197,7 +198,7 @@ pub(crate) fn search(
     budget: &mut Budget,
 ) -> Result<Quast, FlowStop>
     requires load { IsLoad load.now.nest.now load.now.reader.now load.now.access.now load.now.number }
-    requires width { (length point.now + 1) + length rest.now ≡ length load.now.nest.now.params + length load.now.reader.now.loops }
+    requires width { (length point.now + 1) + length rest.now ≡ length load.now.nest.now.params + coordinates load.now.reader.now }
     requires ordered { low ≤ℤ high }
     requires rest_ordered { IsBox rest.now }
     requires point_slight { All IsSlight point.now }

@@ -158,7 +158,7 @@ pub(crate) fn source_leaf(
 {
     let columns = place.path.columns();
     let _rows = place.path.rows();
-    if chosen.forms.len() != chosen.writer.loops.len() {
+    if chosen.forms.len() != chosen.writer.coordinates() {
         return Ok(None);
     }
     if !have_columns(columns, chosen.forms) {

@@ -13,10 +13,10 @@ use affc_rows::Form;
 use sqlite_items::Items;
 use std::alloc::{AllocError, Global};
 
-/// An instance of a statement, by forms for its iterators.
+/// An instance of a part, by forms for its coordinates.
 #[derive(Drop)]
 pub struct Candidate {
-    pub statement: u32,
+    pub part: u32,
     pub forms: Items<Form>,
     /// The rows that say that it is an instance, that it stores what is read, and that it is earlier than the load.
     pub conditions: Items<Form>,
@@ -108,7 +108,7 @@ fn conditions(
 ) -> Result<Items<Form>, Unasked> {
     let (load, writer, columns) = (drafting.load, drafting.writer, drafting.columns);
     let params = count(load.nest.params.ranges().len())?;
-    let loops = count(load.reader.loops.len())?;
+    let loops = count(load.reader.coordinates())?;
     let own = column_forms(alloc, columns, params, loops)?;
     let images = images_of(alloc, load, columns, forms)?;
     let images = images.as_slice();
@@ -129,7 +129,7 @@ pub struct Guess {
     pub candidates: Vec<Candidate>,
 }
 
-/// An instance of a statement at a depth of the order, if it might be one.
+/// An instance of a part at a depth of the order, if it might be one.
 fn candidate_of(
     alloc: Global,
     drafting: &Drafting<'_>,
@@ -140,13 +140,13 @@ fn candidate_of(
         return Ok(None);
     }
     Ok(Some(Candidate {
-        statement: drafting.writer.statement,
+        part: drafting.writer.part,
         forms,
         conditions,
     }))
 }
 
-/// Adds an instance of a statement at a depth of the order, if it might be one.
+/// Adds an instance of a part at a depth of the order, if it might be one.
 pub(crate) fn add_candidate(
     alloc: Global,
     drafting: &Drafting<'_>,
@@ -162,7 +162,7 @@ pub(crate) fn add_candidate(
     }
 }
 
-/// Adds the instances of a statement at a depth of the order, as far as they fit.
+/// Adds the instances of a part at a depth of the order, as far as they fit.
 fn add_candidates(
     alloc: Global,
     drafting: &Drafting<'_>,
@@ -183,13 +183,13 @@ fn add_candidates(
     Ok(())
 }
 
-/// Whether an instance of a statement can be earlier than the load at this depth of the order.
+/// Whether an instance of a part can be earlier than the load at this depth of the order.
 fn has_depth(load: &Load<'_>, writer: &Entry, depth: usize) -> bool {
     let n = shared(writer.loops.as_slice(), load.reader.loops.as_slice());
     depth < n || (depth == n && writer.statement < load.reader.statement)
 }
 
-/// Adds the instances at a depth of the order, the last statements first.
+/// Adds the instances at a depth of the order, the last parts first.
 fn add_at_depth<'a>(
     alloc: Global,
     load: &'a Load<'a>,
@@ -232,7 +232,7 @@ pub fn drafts(alloc: Global, load: &Load<'_>) -> Result<Guess, AllocError> {
         Err(Unasked::Large) => return Ok(out),
         Err(Unasked::Memory) => return Err(AllocError),
     }
-    let most = load.reader.loops.len();
+    let most = load.reader.coordinates();
     for up in 0..most {
         add_at_depth(alloc, &*load, read.as_slice(), columns, most - up, &mut out)?;
     }

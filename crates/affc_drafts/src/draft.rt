@@ -19,20 +19,20 @@ use affc_rows::Form;
 use sqlite_items::Items;
 use std::alloc::{AllocError, Global};
 
-/// The most drafts of a statement at a depth of the order.
+/// The most drafts of a part at a depth of the order.
 const MOST_DRAFTS: usize = 8;
 
 /// The most choices that are looked at for them.
 const MOST_TRIES: u32 = 64;
 
-/// What is drafted: instances of a statement for a load, whose subscripts are given, over so many columns, at a depth of the
+/// What is drafted: instances of a part for a load, whose subscripts are given, over so many columns, at a depth of the
 /// order.
 #[derive(Drop)]
 pub(crate) struct Drafting<'a> {
     pub(crate) load: &'a Load<'a>,
     pub(crate) read: &'a [Form],
     pub(crate) writer: &'a Entry,
-    /// The rows of the statement's domain that tell where its instances are.
+    /// The rows of the part's domain that tell where its instances are.
     pub(crate) rows: &'a [Form],
     pub(crate) store: &'a Access,
     pub(crate) columns: u32,
@@ -310,7 +310,7 @@ fn add_all(
 pub(crate) fn arranged<'a>(alloc: Global, drafting: &'a Drafting<'a>) -> Result<Work<'a>, Unasked> {
     let own = drafting.columns;
     let params = count(drafting.load.nest.params.ranges().len())?;
-    let loops = count(drafting.writer.loops.len())?;
+    let loops = count(drafting.writer.coordinates())?;
     let all = own.saturating_add(loops);
     if all > 128 {
         return Err(Unasked::Large);
@@ -331,7 +331,7 @@ pub(crate) fn arranged<'a>(alloc: Global, drafting: &'a Drafting<'a>) -> Result<
     })
 }
 
-/// Drafts of the instance of a statement that a load reads, a form for each iterator. Divisions that they want are added.
+/// Drafts of the instance of a part that a load reads, a form for each coordinate. Divisions that they want are added.
 pub(crate) fn drafts_of(
     alloc: Global,
     drafting: &Drafting<'_>,

@@ -14,12 +14,12 @@ use crate::solved::{
 };
 use crate::strides::{ROOM, floored};
 use crate::telling::telling_rows;
-use affc_nest::Division;
 use affc_ast::tree::Instance;
 use affc_flow::asking::store_for;
 use affc_flow::listing::images_of;
 use affc_flow::load::Load;
 use affc_flow::questions::{Unasked, add_padded, at_images, count};
+use affc_nest::Division;
 use affc_order::order::shared;
 use affc_rows::Form;
 use sqlite_items::Items;
@@ -367,7 +367,7 @@ fn add_drafts(
     add_directed(alloc, work, sampled, work.columns.loops, divisions, out)
 }
 
-/// Drafts of the instance at a sample, a form for each iterator. Divisions that they want are added.
+/// Drafts of the instance at a sample, a form for each coordinate. Divisions that they want are added.
 fn drafts_at(
     alloc: Global,
     drafting: &Drafting<'_>,
@@ -442,7 +442,7 @@ fn shifted(
 
 /// Whether an instance stores what is read, wherever it is.
 fn stores_read(alloc: Global, drafting: &Drafting<'_>, forms: &[Form]) -> Result<bool, Unasked> {
-    if forms.len() != drafting.writer.loops.len() {
+    if forms.len() != drafting.writer.coordinates() {
         return Ok(false);
     }
     let images = images_of(alloc, drafting.load, drafting.columns, forms)?;

@@ -1,9 +1,9 @@
 //! Equations over the columns of a load and the iterators of a store behind them, solved. Nothing is promised of this.
 
 use crate::strides::{divided, quotient};
-use affc_nest::Division;
 use affc_flow::load::Load;
 use affc_flow::questions::{Unasked, count};
+use affc_nest::Division;
 use affc_order::columns::spread;
 use affc_rows::Form;
 use sqlite_items::Items;

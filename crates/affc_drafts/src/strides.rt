@@ -5,10 +5,10 @@
 ghost use Rattle.std.specs.Prelude.{◌≤ℤ◌, pos, IfOk, IfSome};
 
 use crate::solved::are_opposite;
-use affc_nest::Division;
 use affc_flow::asking::store_for;
 use affc_flow::load::Load;
 use affc_flow::questions::Unasked;
+use affc_nest::Division;
 use affc_rows::Form;
 use affc_rows::vocabulary::gcd;
 use smallvec::SmallVec;

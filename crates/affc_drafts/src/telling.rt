@@ -1,4 +1,4 @@
-//! The rows of a statement's domain that tell where its instances are. Nothing is promised of them.
+//! The rows of a part's domain that tell where its instances are. Nothing is promised of them.
 //!
 //! A domain begins with the ranges of the parameters and the context, in which each load is too. It has the ranges of the iterators:
 //! where a loop's bound says as much, or more, the end of its range tells nothing.
@@ -51,7 +51,7 @@ fn is_implied(
     Ok(false)
 }
 
-/// The rows of a statement's domain that tell something beside the context and those before them.
+/// The rows of a part's domain that tell something beside the context and those before them.
 pub(crate) fn telling_rows(
     alloc: Global,
     nest: &Nest,

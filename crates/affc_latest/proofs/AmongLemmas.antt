@@ -35,7 +35,7 @@ use Rattle.affc_latest.proofs.StoreLemmas.{stores_point}
 use Rattle.affc_flow.proofs.WriterLemmas.{stored_there}
 
 abbrev reader_of : Entry → List ℤ → Instance
-reader_of e its = record { statement = e.statement; iterators = its }
+reader_of e its = record { statement = e.part; iterators = its }
 
 -- ---- Systems of the order
 
@@ -79,13 +79,13 @@ none_among nest e x p its (v ∷ entries) l = absurd (omega (arith, l))
 
 -- a statement with a store before the load stores the array
 writes_of : (program : Program) (p its : List ℤ) (e : Entry) (x : Access) → Loads program p its e x → (v : Entry) → IsIn v (nest_of program).entries → (w : Instance)
-    → StoresBefore program p (record { statement = e.statement; iterators = its }) (element_at (p ++ its) x) v w → (y : Access) × Writes (nest_of program) x.array.0 v y
+    → StoresBefore program p (record { statement = e.part; iterators = its }) (element_at (p ++ its) x) v w → (y : Access) × Writes (nest_of program) x.array.0 v y
 writes_of program p its e x h v i w q =
     let r = stood program h.has p w h.context q.runs in
     let same : r.0 ≡ v = same_Some r.0 v (sym (subst (λ k. slice_get (nest_of program).entries k ≡ Some r.0) (r.1 ∙ q.statement) r.2.at) ∙ entry_at program h.has v i) in
     let t : Stood program p v w.iterators = subst (λ v. Stood program p v w.iterators) same r.2 in
     let s = stored_there program h.has p (parameters_are program p its e x h) v w.iterators t in
-    let is : w ≡ record { statement = v.statement; iterators = w.iterators } = λ i. record { statement = q.statement i; iterators = w.iterators } in
+    let is : w ≡ record { statement = v.part; iterators = w.iterators } = λ i. record { statement = q.statement i; iterators = w.iterators } in
     let element : element_at (p ++ w.iterators) s.access ≡ element_at (p ++ its) x = s.is ∙ sym (ap (store_of program p) is) ∙ sym q.stores in
     (s.access, record { among = i; alive = t.alive; last = s.last; of_array = ap (λ (z : Element). z.0) element })
 
@@ -119,21 +119,21 @@ pub other_writer : (nest : Nest) (array : ℕ) (v : Entry) (y : Access) → stor
 other_writer nest array v y e n z w = n (ap (λ (a : Access). a.array.0) (same_Some y z (sym e ∙ w.last)) ∙ w.of_array)
 
 -- all systems of the order are asked: those are all stores of the statement
-pub all_orders : (nest : Nest) (v e : Entry) (y x : Access) (p its : List ℤ) (orders : List Rows) (found : Option Instance) → Writes nest x.array.0 v y → orders ≡ source_systems nest v.statement e.statement
+pub all_orders : (nest : Nest) (v e : Entry) (y x : Access) (p its : List ℤ) (orders : List Rows) (found : Option Instance) → Writes nest x.array.0 v y → orders ≡ source_systems nest v.part e.part
     → IsLatestBy nest v e y x p its orders found → IsLatestAmong nest e x p its (v ∷ []) found
 all_orders nest v e y x p its orders found writes o l program is h =
     at_nest (subst (λ n. Writes n x.array.0 v y) is writes)
-    (subst (λ n. IsLatest (trace program p) (StoresBy n program p its v e y x (source_systems n v.statement e.statement)) found) is
+    (subst (λ n. IsLatest (trace program p) (StoresBy n program p its v e y x (source_systems n v.part e.part)) found) is
     (subst (λ os. IsLatest (trace program p) (StoresBy nest program p its v e y x os) found) o (l program is h)))
   where
-    to : (w : Writes (nest_of program) x.array.0 v y) → IsIn y v.accesses → (u : Instance) (o : Rows) → IsIn o (source_systems (nest_of program) v.statement e.statement) → IsStoreBy (nest_of program) program p its v e y x o u
+    to : (w : Writes (nest_of program) x.array.0 v y) → IsIn y v.accesses → (u : Instance) (o : Rows) → IsIn o (source_systems (nest_of program) v.part e.part) → IsStoreBy (nest_of program) program p its v e y x o u
         → StoresBefore program p (reader_of e its) (element_at (p ++ its) x) v u
     to w made u o i s =
         subst (StoresBefore program p (reader_of e its) (element_at (p ++ its) x) v) (λ i. record { statement = sym s.statement i; iterators = u.iterators })
         (is_stored program p its e x h v y w made o i u s)
 
     from : (w : Writes (nest_of program) x.array.0 v y) → IsIn y v.accesses → (u : Instance) (z : Entry) → IsIn z (v ∷ []) → StoresBefore program p (reader_of e its) (element_at (p ++ its) x) z u
-        → StoresBy (nest_of program) program p its v e y x (source_systems (nest_of program) v.statement e.statement) u
+        → StoresBy (nest_of program) program p its v e y x (source_systems (nest_of program) v.part e.part) u
     from w made u z (inl q) s =
         let s' : StoresBefore program p (reader_of e its) (element_at (p ++ its) x) v u = subst (λ a. StoresBefore program p (reader_of e its) (element_at (p ++ its) x) a u) q s in
         let f = stores_point program p its e x h v y w made u s' in
@@ -141,11 +141,11 @@ all_orders nest v e y x p its orders found writes o l program is h =
     from w made u z (inr b) s = absurd b
 
     at_nest : Writes (nest_of program) x.array.0 v y
-        → IsLatest (trace program p) (StoresBy (nest_of program) program p its v e y x (source_systems (nest_of program) v.statement e.statement)) found
+        → IsLatest (trace program p) (StoresBy (nest_of program) program p its v e y x (source_systems (nest_of program) v.part e.part)) found
         → IsLatest (trace program p) (StoredIn program p (reader_of e its) (element_at (p ++ its) x) (v ∷ [])) found
     at_nest w k =
         let made : IsIn y v.accesses = stands_in v.accesses (loads_in v) y w.last in
-        same_latest (trace program p) (StoresBy (nest_of program) program p its v e y x (source_systems (nest_of program) v.statement e.statement))
+        same_latest (trace program p) (StoresBy (nest_of program) program p its v e y x (source_systems (nest_of program) v.part e.part))
         (StoredIn program p (reader_of e its) (element_at (p ++ its) x) (v ∷ [])) (λ u s. (v, inl refl, to w made u s.0 s.1 s.2)) (λ u s. from w made u s.0 s.1 s.2) found k
 
 abbrev Stored : Program → (p its : List ℤ) → Entry → Access → List Entry → Instance → Type 0
@@ -173,7 +173,7 @@ parts_joined nest e x p its entries first others here there latest both a b l pr
 
 -- the latest store of any statement is the source
 pub among_all : (nest : Nest) (e : Entry) (x : Access) (p its : List ℤ) (entries : List Entry) (found : Option Instance) → entries ≡ nest.entries → IsLatestAmong nest e x p its entries found
-    → (program : Program) → nest ≡ nest_of program → Loads program p its e x → IsSource program p (record { statement = e.statement; iterators = its }) (element_at (p ++ its) x) found
+    → (program : Program) → nest ≡ nest_of program → Loads program p its e x → IsSource program p (record { statement = e.part; iterators = its }) (element_at (p ++ its) x) found
 among_all nest e x p its entries found all l program is h =
     latest_is_source program p (reader_of e its) (element_at (p ++ its) x) h.runs found
     (same_latest (trace program p) (StoredIn program p (reader_of e its) (element_at (p ++ its) x) (nest_of program).entries)

@@ -47,7 +47,7 @@ is_nest nest n = record { program = n.program; has = n.has; is = n.is }
 pub may_be_asked : (nest : Nest) → IsNamedNest nest → IsAsked nest schedule.Source
 may_be_asked nest n = record { scheduled = record { program = n.program; has = n.has; is = n.is; fits = tt; slight = refl }; named = n.named }
 
-pub counted_entry : (nest : Nest) → IsNamedNest nest → (e : Entry) → IsIn e nest.entries → e.statement < length nest.entries
+pub counted_entry : (nest : Nest) → IsNamedNest nest → (e : Entry) → IsIn e nest.entries → e.part < length nest.entries
 counted_entry nest n e i = (pairs.stands_in nest (is_nest nest n) e i).counted
 
 pub its_store_is : (nest : Nest) (array : ℕ) (v : Entry) (y : Access) → Writes nest array v y → IsIn y v.accesses
@@ -69,10 +69,10 @@ whole_store rows ps outer inner ys xs = record {
 
 pub store_made : (nest : Nest) (v e : Entry) (y x : Access) (ps : List (ℤ × ℤ)) (outer inner : ℕ) (ys xs : List Affine) (system system' : Rows)
     → ps ≡ nest.params → outer ≡ length v.loops → inner ≡ length e.loops → ys ≡ y.subs → xs ≡ x.subs
-    → (length nest.params + length v.loops) + length e.loops ≡ pair_columns nest v.statement e.statement
+    → (length nest.params + length v.loops) + length e.loops ≡ pair_columns nest v.part e.part
     → system ≡ record { columns = (length ps + outer) + inner; rows = map (spread (length ps) 0 inner) v.domain.rows }
     → system' ≡ with_rows system (equal_rows (map (spread (length ps) 0 inner) ys) (map (spread (length ps) outer 0) xs))
-    → system' ≡ record { columns = pair_columns nest v.statement e.statement; rows = store_rows nest v e y x }
+    → system' ≡ record { columns = pair_columns nest v.part e.part; rows = store_rows nest v e y x }
 store_made nest v e y x ps outer inner ys xs system system' p o i w u columns one two =
     two ∙ ap (λ (s : Rows). with_rows s (equal_rows (map (spread (length ps) 0 inner) ys) (map (spread (length ps) outer 0) xs))) one
     ∙ ap (λ rs. whole_store v.domain.rows rs outer inner ys xs) p
@@ -113,12 +113,12 @@ module _ (nest : Nest) (v e : Entry) (y x : Access) (p its : List ℤ) (pair : R
   n = is_nest nest h.reading.nested
 
   each : length v.ranges ≡ length v.loops
-  each = (ranges_hold_iterators n.program v.statement v n.has (entry_at n.program n.has v (subst (λ (z : Nest). IsIn v z.entries) n.is h.writes.among)) h.writes.alive).each
+  each = (ranges_hold_iterators n.program v.part v n.has (entry_at n.program n.has v (subst (λ (z : Nest). IsIn v z.entries) n.is h.writes.among)) h.writes.alive).each
 
-  pub order_fits : (order : Rows) → IsIn order (source_systems nest v.statement e.statement) → IsOrder pair.columns order
+  pub order_fits : (order : Rows) → IsIn order (source_systems nest v.part e.part) → IsOrder pair.columns order
   order_fits order i =
       subst (λ k. IsOrder k order) (sym (ap (λ (r : Rows). r.columns) h.rows))
-      (at_one (IsOrder (pair_columns nest v.statement e.statement)) (source_systems nest v.statement e.statement) (source_orders nest n v.statement e.statement (counted_entry nest h.reading.nested v h.writes.among)) order i)
+      (at_one (IsOrder (pair_columns nest v.part e.part)) (source_systems nest v.part e.part) (source_orders nest n v.part e.part (counted_entry nest h.reading.nested v h.writes.among)) order i)
 
   long : length ranges ≡ (length nest.params + length v.loops) + length e.loops
   long =
@@ -140,33 +140,33 @@ module _ (nest : Nest) (v e : Entry) (y x : Access) (p its : List ℤ) (pair : R
 
   pub ranges_reach : All WithinReach ranges
   ranges_reach =
-      let r = ranges_hold_iterators n.program v.statement v n.has (entry_at n.program n.has v (subst (λ (z : Nest). IsIn v z.entries) n.is h.writes.among)) h.writes.alive in
+      let r = ranges_hold_iterators n.program v.part v n.has (entry_at n.program n.has v (subst (λ (z : Nest). IsIn v z.entries) n.is h.writes.among)) h.writes.alive in
       subst (All WithinReach) (sym h.ranges_are)
       (All-append WithinReach (map pin p) (v.ranges ++ map pin its) (pins_reach p h.reading.params_near)
       (All-append WithinReach v.ranges (map pin its) (all_from WithinReach v.ranges (λ q i. near_range q (r.near q i).1)) (pins_reach its h.reading.loops_near)))
 
-  module _ (order : Rows) (system : Rows) (statement params loops : ℕ) (made : system ≡ with_rows pair order.rows) (s : statement ≡ v.statement) (q : params ≡ length nest.params) (r : loops ≡ length v.loops)
+  module _ (order : Rows) (system : Rows) (statement params loops : ℕ) (made : system ≡ with_rows pair order.rows) (s : statement ≡ v.part) (q : params ≡ length nest.params) (r : loops ≡ length v.loops)
       (found : Option Instance) (last : IsLastIn system ranges statement params loops found) where
-    last_there : IsLastIn (store_system nest v e y x order) (beside_box p v.ranges its) v.statement (length nest.params) (length v.loops) found
+    last_there : IsLastIn (store_system nest v e y x order) (beside_box p v.ranges its) v.part (length nest.params) (length v.loops) found
     last_there =
-        subst (λ k. IsLastIn (store_system nest v e y x order) (beside_box p v.ranges its) v.statement (length nest.params) k found) r
-        (subst (λ k. IsLastIn (store_system nest v e y x order) (beside_box p v.ranges its) v.statement k loops found) q
+        subst (λ k. IsLastIn (store_system nest v e y x order) (beside_box p v.ranges its) v.part (length nest.params) k found) r
+        (subst (λ k. IsLastIn (store_system nest v e y x order) (beside_box p v.ranges its) v.part k loops found) q
         (subst (λ k. IsLastIn (store_system nest v e y x order) (beside_box p v.ranges its) k params loops found) s
         (subst (λ rs. IsLastIn (store_system nest v e y x order) rs statement params loops found) h.ranges_are
         (subst (λ z. IsLastIn z ranges statement params loops found) (made ∙ ap (λ (z : Rows). with_rows z order.rows) h.rows) last))))
 
-    pub one_latest : IsIn order (source_systems nest v.statement e.statement) → IsLatestBy nest v e y x p its (order ∷ []) found
+    pub one_latest : IsIn order (source_systems nest v.part e.part) → IsLatestBy nest v e y x p its (order ∷ []) found
     one_latest i = one_by nest v e y x p its order found (λ program is loads.
         subst (λ z. IsLatest (trace program p) (IsStoreBy z program p its v e y x order) found) (sym is)
         (latest_by program p its e x loads v y (subst (λ z. Writes z x.array.0 v y) is h.writes) (its_store_is nest x.array.0 v y h.writes) order
-        (subst (λ z. IsIn order (source_systems z v.statement e.statement)) is i) found
-        (subst (λ (z : Nest). IsLastIn (store_system z v e y x order) (beside_box p v.ranges its) v.statement (length z.params) (length v.loops) found) is last_there)))
+        (subst (λ z. IsIn order (source_systems z v.part e.part)) is i) found
+        (subst (λ (z : Nest). IsLastIn (store_system z v e y x order) (beside_box p v.ranges its) v.part (length z.params) (length v.loops) found) is last_there)))
 
     pub one_writer : IfSome found (IsWriterAt nest x.array.0)
     one_writer =
         subst (λ z. IfSome found (IsWriterAt z x.array.0)) (sym n.is)
         (names_writer n.program n.has p (h.reading.params ∙ ap (λ (z : Nest). length z.params) n.is) its x.array.0 v y (subst (λ z. Writes z x.array.0 v y) n.is h.writes) (store_system nest v e y x order) found
-        (subst (λ (z : Nest). IsLastIn (store_system nest v e y x order) (beside_box p v.ranges its) v.statement (length z.params) (length v.loops) found) n.is last_there))
+        (subst (λ (z : Nest). IsLastIn (store_system nest v e y x order) (beside_box p v.ranges its) v.part (length z.params) (length v.loops) found) n.is last_there))
 
 -- ---- All systems of the order
 

@@ -118,28 +118,28 @@ near_inside (r ∷ rs) (x ∷ xs) h b =
 
 module _ (program : Program) (p its : List ℤ) (e : Entry) (x : Access) (h : Loads program p its e x) (v : Entry) (y : Access) (writes : Writes (nest_of program) x.array.0 v y) (made : IsIn y v.accesses) where
   -- a store lies in the ranges
-  store_inside : (ws : List ℤ) → StoresBefore program p (record { statement = e.statement; iterators = its }) (element_at (p ++ its) x) v (record { statement = v.statement; iterators = ws }) → InBox (beside_box p v.ranges its) (p ++ (ws ++ its))
+  store_inside : (ws : List ℤ) → StoresBefore program p (record { statement = e.part; iterators = its }) (element_at (p ++ its) x) v (record { statement = v.part; iterators = ws }) → InBox (beside_box p v.ranges its) (p ++ (ws ++ its))
   store_inside ws q =
       let r : InBox v.ranges ws =
-      (ranges_hold_iterators program v.statement v h.has (entry_at program h.has v writes.among) writes.alive).hold p (record { statement = v.statement; iterators = ws }) refl h.context q.runs in
+      (ranges_hold_iterators program v.part v h.has (entry_at program h.has v writes.among) writes.alive).hold p (record { statement = v.part; iterators = ws }) refl h.context q.runs in
       box_append (map pin p) (v.ranges ++ map pin its) p (ws ++ its) (in_pinned p) (box_append v.ranges (map pin its) ws its r (in_pinned its))
 
-  module _ (o : Rows) (i : IsIn o (source_systems (nest_of program) v.statement e.statement)) where
-    pub is_stored : (w : Instance) → IsStoreBy (nest_of program) program p its v e y x o w → StoresBefore program p (record { statement = e.statement; iterators = its }) (element_at (p ++ its) x) v (record { statement = v.statement; iterators = w.iterators })
+  module _ (o : Rows) (i : IsIn o (source_systems (nest_of program) v.part e.part)) where
+    pub is_stored : (w : Instance) → IsStoreBy (nest_of program) program p its v e y x o w → StoresBefore program p (record { statement = e.part; iterators = its }) (element_at (p ++ its) x) v (record { statement = v.part; iterators = w.iterators })
     is_stored w s = point_stores program p its e x h v y writes made o i w.iterators s.long s.point
 
-    pub latest_by : (found : Option Instance) → IsLastIn (store_system (nest_of program) v e y x o) (beside_box p v.ranges its) v.statement (length (number_ranges program.params)) (length v.loops) found
+    pub latest_by : (found : Option Instance) → IsLastIn (store_system (nest_of program) v e y x o) (beside_box p v.ranges its) v.part (length (number_ranges program.params)) (length v.loops) found
         → IsLatest (trace program p) (IsStoreBy (nest_of program) program p its v e y x o) found
     latest_by None none = λ w s. none (p ++ (w.iterators ++ its)) (store_inside w.iterators (is_stored w s)) s.point
     latest_by (Some u) g =
         let zs : List ℤ = g.0 in
         let ws : List ℤ = take (length v.loops) (drop (length (number_ranges program.params)) g.0) in
-        let each = (ranges_hold_iterators program v.statement v h.has (entry_at program h.has v writes.among) writes.alive).each in
+        let each = (ranges_hold_iterators program v.part v h.has (entry_at program h.has v writes.among) writes.alive).each in
         let t = between p v.ranges its zs (length (number_ranges program.params)) (length v.loops) (parameters_are program p its e x h) each g.1.inside in
         let long : length ws ≡ length v.loops = box_long v.ranges ws t.inside ∙ each in
         let meets : IsPoint (store_system (nest_of program) v e y x o) (p ++ (ws ++ its)) = subst (IsPoint (store_system (nest_of program) v e y x o)) t.whole g.1.meets in
         let here = point_stores program p its e x h v y writes made o i ws long meets in
-        let u' : Instance = record { statement = v.statement; iterators = ws } in
+        let u' : Instance = record { statement = v.part; iterators = ws } in
         subst (λ z. IsLatest (trace program p) (IsStoreBy (nest_of program) program p its v e y x o) (Some z)) (sym g.2) (
           record { statement = refl; long = long; runs = here.runs; point = meets },
           λ w s.
@@ -147,7 +147,7 @@ module _ (program : Program) (p its : List ℤ) (e : Entry) (x : Access) (h : Lo
               let lex : LexLe (p ++ (w.iterators ++ its)) (p ++ (ws ++ its)) =
               subst (LexLe (p ++ (w.iterators ++ its))) t.whole (g.1.greatest (p ++ (w.iterators ++ its)) (store_inside w.iterators there) s.point) in
               let l : LexLe w.iterators ws = lex_before w.iterators ws its (s.long ∙ sym long) (lex_behind p (w.iterators ++ its) (ws ++ its) lex) in
-              let w' : Instance = record { statement = v.statement; iterators = w.iterators } in
+              let w' : Instance = record { statement = v.part; iterators = w.iterators } in
               let is : w ≡ w' = λ i. record { statement = s.statement i; iterators = w.iterators } in
               subst (λ z. (z ≡ u') ⊎ Earlier (trace program p) z u') (sym is) (in_lex_order program p w' u' there.runs here.runs refl l),
         )
@@ -155,11 +155,11 @@ module _ (program : Program) (p its : List ℤ) (e : Entry) (x : Access) (h : Lo
 -- ---- What it names
 
 module _ (program : Program) (has : HasNest program) (p : List ℤ) (l : length p ≡ length (number_ranges program.params)) (its : List ℤ) (array : ℕ) (v : Entry) (y : Access) (writes : Writes (nest_of program) array v y) where
-  pub names_writer : (system : Rows) (found : Option Instance) → IsLastIn system (beside_box p v.ranges its) v.statement (length (number_ranges program.params)) (length v.loops) found → IfSome found (IsWriterAt (nest_of program) array)
+  pub names_writer : (system : Rows) (found : Option Instance) → IsLastIn system (beside_box p v.ranges its) v.part (length (number_ranges program.params)) (length v.loops) found → IfSome found (IsWriterAt (nest_of program) array)
   names_writer system None g = tt
   names_writer system (Some u) g =
       let at = entry_at program has v writes.among in
-      let r = ranges_hold_iterators program v.statement v has at writes.alive in
+      let r = ranges_hold_iterators program v.part v has at writes.alive in
       let ws : List ℤ = take (length v.loops) (drop (length (number_ranges program.params)) g.0) in
       let t = between p v.ranges its g.0 (length (number_ranges program.params)) (length v.loops) l r.each g.1.inside in
       subst (IsWriterAt (nest_of program) array) (sym g.2)

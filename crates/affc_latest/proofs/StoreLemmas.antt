@@ -37,7 +37,7 @@ module _ (program : Program) (p its : List ℤ) (e : Entry) (x : Access) (h : Lo
   n = nest_of program
 
   abbrev b : Instance
-  b = record { statement = e.statement; iterators = its }
+  b = record { statement = e.part; iterators = its }
 
   v_stands : (ws : List ℤ) → length ws ≡ length v.loops → Stood program p v ws
   v_stands ws long = record { among = writes.among; at = entry_at program h.has v writes.among; alive = writes.alive; long = long }
@@ -45,7 +45,7 @@ module _ (program : Program) (p its : List ℤ) (e : Entry) (x : Access) (h : Lo
   as_many : length y.subs ≡ length x.subs
   as_many = as_many_each program h.has h.named v e (entry_at program h.has v writes.among) h.entry y x made h.made writes.of_array
 
-  its_store : (ws : List ℤ) → Stood program p v ws → element_at (p ++ ws) y ≡ store_of program p (record { statement = v.statement; iterators = ws })
+  its_store : (ws : List ℤ) → Stood program p v ws → element_at (p ++ ws) y ≡ store_of program p (record { statement = v.part; iterators = ws })
   its_store ws t =
       let s = stored_there program h.has p (parameters_are program p its e x h) v ws t in
       ap (element_at (p ++ ws)) (sym (same_Some s.access y (sym s.last ∙ writes.last))) ∙ s.is
@@ -80,8 +80,8 @@ module _ (program : Program) (p its : List ℤ) (e : Entry) (x : Access) (h : Lo
       both_met zs own same (met_both zs own rest u.0).0 u.1
 
   -- a point is a store
-  pub point_stores : (o : Rows) → IsIn o (source_systems (nest_of program) v.statement e.statement) → (ws : List ℤ) → length ws ≡ length v.loops → IsPoint (store_system (nest_of program) v e y x o) (p ++ (ws ++ its))
-      → StoresBefore program p (record { statement = e.statement; iterators = its }) (element_at (p ++ its) x) v (record { statement = v.statement; iterators = ws })
+  pub point_stores : (o : Rows) → IsIn o (source_systems (nest_of program) v.part e.part) → (ws : List ℤ) → length ws ≡ length v.loops → IsPoint (store_system (nest_of program) v e y x o) (p ++ (ws ++ its))
+      → StoresBefore program p (record { statement = e.part; iterators = its }) (element_at (p ++ its) x) v (record { statement = v.part; iterators = ws })
   point_stores o i ws long m =
       let l = parameters_are program p its e x h in
       let s = reader_stands program p its e x h in
@@ -89,10 +89,10 @@ module _ (program : Program) (p its : List ℤ) (e : Entry) (x : Access) (h : Lo
       let zs : List ℤ = p ++ (ws ++ its) in
       let r = met_both zs (store_rows n v e y x) o.rows m.meets in
       let f = rows_say program h.has p ws its l v e t s y x made h.made as_many (with_reader ws t r.0) in
-      let w : Instance = record { statement = v.statement; iterators = ws } in
+      let w : Instance = record { statement = v.part; iterators = ws } in
       let say = systems_are_the_orders program schedule.Source p w b h.has tt l f.first_runs f.second_runs in
-      let columns : o.columns ≡ pair_columns n v.statement e.statement =
-      order_columns n schedule.Source (pair_columns n v.statement e.statement) (first_posed n v.statement e.statement) (second_posed n v.statement e.statement) o i in
+      let columns : o.columns ≡ pair_columns n v.part e.part =
+      order_columns n schedule.Source (pair_columns n v.part e.part) (first_posed n v.part e.part) (second_posed n v.part e.part) o i in
       record {
         statement = refl;
         runs = f.first_runs;
@@ -103,19 +103,19 @@ module _ (program : Program) (p its : List ℤ) (e : Entry) (x : Access) (h : Lo
   -- and each store is a point
   pub record Found (w : Instance) : Type 0 where
     pub order : Rows
-    pub there : IsIn order (source_systems (nest_of program) v.statement e.statement)
+    pub there : IsIn order (source_systems (nest_of program) v.part e.part)
     pub long : length w.iterators ≡ length v.loops
     pub point : IsPoint (store_system (nest_of program) v e y x order) (p ++ (w.iterators ++ its))
 
-  pub stores_point : (w : Instance) → StoresBefore program p (record { statement = e.statement; iterators = its }) (element_at (p ++ its) x) v w → Found w
+  pub stores_point : (w : Instance) → StoresBefore program p (record { statement = e.part; iterators = its }) (element_at (p ++ its) x) v w → Found w
   stores_point w q =
       let l = parameters_are program p its e x h in
       let s = reader_stands program p its e x h in
       let r = stood program h.has p w h.context q.runs in
       let same : r.0 ≡ v = same_Some r.0 v (sym (subst (λ k. slice_get (nest_of program).entries k ≡ Some r.0) (r.1 ∙ q.statement) r.2.at) ∙ entry_at program h.has v writes.among) in
       let t : Stood program p v w.iterators = subst (λ v. Stood program p v w.iterators) same r.2 in
-      let is : w ≡ record { statement = v.statement; iterators = w.iterators } = λ i. record { statement = q.statement i; iterators = w.iterators } in
-      let w' : Instance = record { statement = v.statement; iterators = w.iterators } in
+      let is : w ≡ record { statement = v.part; iterators = w.iterators } = λ i. record { statement = q.statement i; iterators = w.iterators } in
+      let w' : Instance = record { statement = v.part; iterators = w.iterators } in
       let zs : List ℤ = p ++ (w.iterators ++ its) in
       let runs : IsIn w' (trace program p) = subst (λ z. IsIn z (trace program p)) is q.runs in
       let element : element_at (p ++ its) x ≡ element_at (p ++ w.iterators) y = q.stores ∙ ap (store_of program p) is ∙ sym (its_store w.iterators t) in

@@ -21,7 +21,7 @@ use affc_system::{BoxOf, System};
 use sqlite_items::Items;
 use std::alloc::{AllocError, Global};
 
-/// A load at values of the parameters and of the iterators of its statement.
+/// A load at values of the parameters and of the coordinates of its part.
 #[derive(Drop)]
 pub struct Reading<'a> {
     pub nest: &'a Nest,
@@ -45,22 +45,22 @@ struct Beside<'a> {
     ranges: &'a BoxOf,
 }
 
-/// The instance of a statement whose iterators stand behind the parameters in a point.
+/// The instance of a part whose coordinates stand behind the parameters in a point.
 fn instance_in(
     alloc: Global,
-    statement: u32,
+    part: u32,
     params: usize,
-    loops: usize,
+    own: usize,
     point: &[i64],
 ) -> Result<Instance, AllocError>
-    requires { params + loops ≤ length point.now }
-    ensures { IfOk result (λ i. i ≡ instance_in statement params loops point.now) }
+    requires { params + own ≤ length point.now }
+    ensures { IfOk result (λ i. i ≡ instance_in part params own point.now) }
 {
-    let (_numbers, behind) = point.split_at(params);
-    let (own, _others) = behind.split_at(loops);
-    let iterators = Items::from_slice(alloc, own)?;
+    let (_params, behind) = point.split_at(params);
+    let (numbers, _others) = behind.split_at(own);
+    let iterators = Items::from_slice(alloc, numbers)?;
     Ok(Instance {
-        statement,
+        statement: part,
         iterators,
     })
 }
@@ -70,22 +70,22 @@ fn last_in(
     alloc: Global,
     system: &System,
     ranges: &BoxOf,
-    statement: u32,
+    part: u32,
     params: usize,
-    loops: usize,
+    own: usize,
     budget: &mut Budget,
 ) -> Result<Option<Instance>, Stop>
     requires columns { length ranges.now ≡ system.now.columns }
     requires reach { All WithinReach ranges.now }
-    requires room { params + loops ≤ length ranges.now }
-    ensures last { IfOk result (IsLastIn system.now ranges.now statement params loops) }
+    requires room { params + own ≤ length ranges.now }
+    ensures last { IfOk result (IsLastIn system.now ranges.now part params own) }
     ensures later { IsLater budget.old budget.new }
     ensures stop { IfErr result (λ e. e ≡ Stop.Budget → budget.new.limit ≡ Some budget.new.spent) }
 {
     match greatest_point(alloc, system, ranges, budget)? {
         None => Ok(None),
         Some(point) => {
-            let found = instance_in(alloc, statement, params, loops, point.as_slice())?;
+            let found = instance_in(alloc, part, params, own, point.as_slice())?;
             Ok(Some(found))
         }
     }
@@ -99,7 +99,7 @@ fn last_by_one(
     budget: &mut Budget,
 ) -> Result<Option<Instance>, Stop>
     requires beside { AreBeside beside.now.nest.now beside.now.writer.now beside.now.reader.now beside.now.store.now beside.now.load.now beside.now.p.now beside.now.iterators.now beside.now.pair.now beside.now.ranges.now }
-    requires order { IsIn order.now (source_systems beside.now.nest.now beside.now.writer.now.statement beside.now.reader.now.statement) }
+    requires order { IsIn order.now (source_systems beside.now.nest.now beside.now.writer.now.part beside.now.reader.now.part) }
     ensures latest { IfOk result (IsLatestBy beside.now.nest.now beside.now.writer.now beside.now.reader.now beside.now.store.now beside.now.load.now beside.now.p.now beside.now.iterators.now (order.now ∷ [])) }
     ensures writer { IfOk result (λ o. IfSome o (IsWriterAt beside.now.nest.now beside.now.load.now.array.0)) }
     ensures later { IsLater budget.old budget.new }
@@ -107,17 +107,9 @@ fn last_by_one(
 {
     let system = with_order(beside.pair, order)?;
     let params = beside.nest.params.ranges().len();
-    let loops = beside.writer.loops.len();
-    let statement = beside.writer.statement;
-    last_in(
-        alloc,
-        &system,
-        beside.ranges,
-        statement,
-        params,
-        loops,
-        budget,
-    )
+    let own = beside.writer.coordinates();
+    let part = beside.writer.part;
+    last_in(alloc, &system, beside.ranges, part, params, own, budget)
 }
 
 /// The latest store by any of these systems of the order.
@@ -128,7 +120,7 @@ fn last_by(
     budget: &mut Budget,
 ) -> Result<Option<Instance>, Stop>
     requires beside { AreBeside beside.now.nest.now beside.now.writer.now beside.now.reader.now beside.now.store.now beside.now.load.now beside.now.p.now beside.now.iterators.now beside.now.pair.now beside.now.ranges.now }
-    requires orders { Each (λ o. IsIn o (source_systems beside.now.nest.now beside.now.writer.now.statement beside.now.reader.now.statement)) orders.now }
+    requires orders { Each (λ o. IsIn o (source_systems beside.now.nest.now beside.now.writer.now.part beside.now.reader.now.part)) orders.now }
     ensures latest { IfOk result (IsLatestBy beside.now.nest.now beside.now.writer.now beside.now.reader.now beside.now.store.now beside.now.load.now beside.now.p.now beside.now.iterators.now orders.now) }
     ensures writer { IfOk result (λ o. IfSome o (IsWriterAt beside.now.nest.now beside.now.load.now.array.0)) }
     ensures later { IsLater budget.old budget.new }
@@ -145,7 +137,7 @@ fn last_by(
     }
 }
 
-/// The latest of a statement's stores of what is read.
+/// The latest of a part's stores of what is read.
 fn last_store(
     alloc: Global,
     reading: &Reading<'_>,
@@ -164,7 +156,7 @@ fn last_store(
     let (p, iterators) = (reading.p, reading.iterators);
     let pair = store_rows(alloc, nest, writer, reader, store, load)?;
     let ranges = beside_ranges(alloc, p, &writer.ranges, iterators)?;
-    let orders = source_before(alloc, nest, writer.statement, reader.statement)?;
+    let orders = source_before(alloc, nest, writer.part, reader.part)?;
     let beside = Beside {
         nest,
         writer,
@@ -179,7 +171,7 @@ fn last_store(
     last_by(alloc, &beside, orders.as_slice(), budget)
 }
 
-/// The latest instance of a statement that stores what is read.
+/// The latest instance of a part that stores what is read.
 fn last_of(
     alloc: Global,
     reading: &Reading<'_>,
@@ -208,7 +200,7 @@ fn last_of(
     last_store(alloc, reading, writer, store, budget)
 }
 
-/// The latest instance of these statements that stores what is read. The recursion is into halves.
+/// The latest instance of these parts that stores what is read. The recursion is into halves.
 fn last_among(
     alloc: Global,
     reading: &Reading<'_>,

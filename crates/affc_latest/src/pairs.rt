@@ -32,7 +32,7 @@ fn first_domain(
     Ok(system)
 }
 
-/// Over the parameters, the iterators of one statement and those of another: the first's domain, and that its store is of
+/// Over the parameters, the coordinates of one part and those of another: the first's domain, and that its store is of
 /// what the second's load reads.
 pub(crate) fn store_rows(
     alloc: Global,
@@ -49,12 +49,12 @@ pub(crate) fn store_rows(
     requires to { IsIn load.now reader.now.accesses }
     requires many { length store.now.subs ≡ length load.now.subs }
     requires few { length store.now.subs ≤ 4 }
-    ensures value { IfOk result (λ s. s ≡ record { columns = pair_columns nest.now writer.now.statement reader.now.statement; rows = store_rows nest.now writer.now reader.now store.now load.now }) }
+    ensures value { IfOk result (λ s. s ≡ record { columns = pair_columns nest.now writer.now.part reader.now.part; rows = store_rows nest.now writer.now reader.now store.now load.now }) }
     ensures few { IfOk result (λ s. length s.rows ≤ 900) }
 {
     let params = nest.params.ranges().len() as u32;
-    let outer = writer.loops.len() as u32;
-    let inner = reader.loops.len() as u32;
+    let outer = writer.coordinates() as u32;
+    let inner = reader.coordinates() as u32;
     let mut system = first_domain(alloc, &writer.domain, params, outer, inner)?;
     let (ys, xs) = (store.subs.as_slice(), load.subs.as_slice());
     add_equal(alloc, &mut system, ys, xs, params, outer, inner)?;

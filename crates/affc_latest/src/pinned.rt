@@ -5,7 +5,7 @@ ghost use Rattle.affc_latest.specs.Stores.{beside_box};
 use affc_system::BoxOf;
 use std::alloc::{AllocError, Global};
 
-/// The ranges of another statement's iterators between the values of the parameters and of the load's iterators.
+/// The ranges of another part's coordinates between the values of the parameters and of the load's coordinates.
 #[tactic(auto, using(affc_sched::proofs::Lists::three_ranges))]
 pub(crate) fn beside_ranges(
     alloc: Global,

@@ -14,7 +14,7 @@ returns-clause-right c =
     let r = c.args.place.now.ranges.now in
     let w = c.args.chosen.now.writer.now in
     let forms = c.args.chosen.now.forms.now in
-    subst (λ fs. CoversOn l.nest.now l.reader.now l.access.now p r 0 0 (Source w.statement fs)) (sym c.in_ok-forms.ensures)
+    subst (λ fs. CoversOn l.nest.now l.reader.now l.access.now p r 0 0 (Source w.part fs)) (sym c.in_ok-forms.ensures)
     (source_right l.nest.now l.reader.now l.access.now l.number c.requires.load p c.requires.path r
     (rows_wide p.columns p.rows (subst (λ rows. All (IsRow p.columns) rows) c.rows-rows.ensures.rows c.rows-rows.ensures.fit))
     w c.args.chosen.now.store.now c.requires.writes forms

@@ -38,7 +38,7 @@ last_by-requires-clause-beside c = record {
 
 pub last_by-requires-clause-orders : goal.last_by-requires-clause-orders
 last_by-requires-clause-orders c =
-    all_source c.args.reading.now.nest.now c.args.writer.now.statement c.args.reading.now.reader.now.statement c.as_slice.result.now (c.as_slice.ensures.value ∙ c.in_ok-orders.ensures)
+    all_source c.args.reading.now.nest.now c.args.writer.now.part c.args.reading.now.reader.now.part c.as_slice.result.now (c.as_slice.ensures.value ∙ c.in_ok-orders.ensures)
 
 pub returns-clause-latest : goal.returns-clause-latest
 returns-clause-latest c =
