@@ -31,7 +31,7 @@ use Rattle.affc_safe.specs.Safe.{IsSafe}
 use Rattle.affc_safe.proofs.FitsThere.{never_stuck_is_safe}
 use Rattle.affc_safe.proofs.PlainNear.{plain_has_no_locals, plain_never_overflows}
 use Rattle.affc_nest.proofs.AccessLemmas.{wholes_here, plain_append}
-use Rattle.affc_loops.proofs.Pieces.{numbers_are}
+use Rattle.affc_loops.proofs.Scheduled.{numbers_are}
 use Rattle.affc_basis.specs.declared.fold.Fold.{Fold}
 use Rattle.affc_basis.specs.Bases.{AreWithin}
 use Rattle.affc_basis.specs.FoldLists.{IsFoldIn, AreFoldsIn}
