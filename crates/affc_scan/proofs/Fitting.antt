@@ -138,19 +138,8 @@ module _ (source other : Program) (n : ℕ) (maps : List TimeMap) (h : HasLoops 
       let w : Within _ (get_or (time_ranges params (scheduled source maps)) i r) = ranges_within source n maps h.plain h.near h.scheduled (few source n maps h) (slight source n maps h) i r l in
       (omega (arith, w.0), omega (arith, w.1))
 
-  own_short : length (time_ranges params (scheduled source maps)) ≤ 12
-  own_short =
-      let most : n ≤ 12 = few source n maps h in
-      elim (some_or_none source n maps h) [
-        | inl e ↦ let z : length (time_ranges params (scheduled source maps)) ≡ 0 = ap (λ es. length (time_ranges params es)) e in omega arith
-        | inr e ↦ omega (arith, e)
-      ]
-
   pub ranges_small : All IsSmall (time_ranges params (scheduled other maps))
   ranges_small = subst (All IsSmall) (sym ranges_are) own_small
-
-  pub ranges_short : length (time_ranges params (scheduled other maps)) ≤ 12
-  ranges_short = subst (λ rs. length rs ≤ 12) (sym ranges_are) own_short
 
   own_ordered : IsBox (time_ranges params (scheduled source maps))
   own_ordered =

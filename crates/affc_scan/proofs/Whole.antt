@@ -1,5 +1,5 @@
 -- What is found by a walk is the program's.
-use Rattle.std.proofs.Common.{◌≡◌, ℕ, zero, suc, ◌+◌, ◌≤◌, ℤ, true, false, true≢false, List, [], ◌∷◌, ◌++◌, length, length-append, map, Some, None, refl, sym, ap, subst, ◌∙◌, inl, inr, arith}
+use Rattle.std.proofs.Common.{◌≡◌, ℕ, zero, suc, ◌+◌, ℤ, true, false, true≢false, List, [], ◌∷◌, ◌++◌, length, length-append, map, Some, None, refl, sym, ap, subst, ◌∙◌, inl, inr, arith}
 use Rattle.std.specs.Prelude.{slice_get, if◌then◌else◌}
 use Rattle.affc_ast.specs.declared.tree.Compare.{Compare}
 use Rattle.affc_ast.specs.declared.tree.Program.{Program}
@@ -125,9 +125,6 @@ module _ (program : Program) (nest : Nest) (n : ℕ) (maps : List TimeMap) (foun
 
   times_same : times ≡ time_ranges (number_ranges program.params) (scheduled program maps)
   times_same = ap (λ q. time_ranges q es) params_are ∙ ap (time_ranges (number_ranges program.params)) same
-
-  pub few_there : (first : ℕ) → first ≡ length nest.params → first ≤ 4
-  few_there first e = subst (λ k. k ≤ 4) (sym (e ∙ ap length own_params)) is.has_loops.plain.few_numbers
 
   pub printable_there : (first : ℕ) → first ≡ length nest.params → AllPrintable first es
   printable_there first e =
