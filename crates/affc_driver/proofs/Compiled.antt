@@ -18,7 +18,7 @@ use Rattle.affc_trace.proofs.Targets.{map_map}
 use Rattle.affc_plain.proofs.Programs.{reads_plain}
 use Rattle.affc_safe.proofs.SafeLaws.{safe_runs}
 use Rattle.affc_loops.specs.Laws.{HasLoops}
-use Rattle.affc_loops.specs.Loops.{Piece}
+use Rattle.affc_loops.specs.Loops.{Scheduled}
 use Rattle.affc_loopends.specs.declared.scanned.scanned.Scanned.{Scanned}
 use Rattle.affc_loopends.specs.scanned.Laws.{RunsTightly}
 use Rattle.affc_loopends.specs.scanned.Scanned.{Scans}

@@ -17,7 +17,7 @@ use Rattle.affc_trace.specs.Laws.{IsInContext}
 use Rattle.affc_domain.specs.Ranges.{first_wide}
 use Rattle.affc_split.specs.Budgets.{Account}
 use Rattle.affc_nest.specs.Laws.{NamesArrays}
-use Rattle.affc_loops.specs.Loops.{Piece, pieces}
+use Rattle.affc_loops.specs.Loops.{Scheduled, scheduled}
 use Rattle.affc_loopends.specs.declared.scanned.scanned.Scanned.{Scanned}
 use Rattle.affc_loopends.specs.scanned.Laws.{RunsTightly}
 use Rattle.affc_loopends.specs.scanned.Scanned.{Scans}
@@ -84,7 +84,7 @@ PrintedCompiles Answers = (text : List ℕ) (schedule : Option (List ℕ)) (prog
 -- point of its time set.
 abbrev pub TextsRunTightly : (Answers : List ℕ → ℕ → Type 0) → Type 0
 TextsRunTightly Answers = (text : List ℕ) (schedule : Option (List ℕ)) (budget : Account) (folded report : List ℕ) (r : FoldsTo Answers text schedule budget folded report)
-    → (length_of_time : ℕ) (maps : List TimeMap) (e : Piece) → r.plan.schedule ≡ Time length_of_time maps → pieces r.compiles.source maps ≡ e ∷ [] → r.scanned.loose.items ≡ []
+    → (length_of_time : ℕ) (maps : List TimeMap) (e : Scheduled) → r.plan.schedule ≡ Time length_of_time maps → scheduled r.compiles.source maps ≡ e ∷ [] → r.scanned.loose.items ≡ []
     → RunsTightly r.compiles.source (folded_program r.compiles.source r.folds) maps e r.compiles.target
 
 -- Without a limit on what is spent, or with one of at least the threshold, each temporary has a fold, no modulus is a bound alone, and no

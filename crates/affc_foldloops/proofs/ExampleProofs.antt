@@ -4,6 +4,7 @@ use Rattle.std.specs.Prelude.{slice_get, nat_eq}
 use Rattle.std.specs.Int.{int_rem_euclid}
 use Rattle.std.proofs.lemmas.Bool.{eqb-true}
 use Rattle.std.proofs.lemmas.Int.{ints}
+use Rattle.std.proofs.lemmas.List.Elements.{All-nil}
 use Rattle.std.proofs.lemmas.Option.{none-some, same_Some}
 use denote.Hole.Carrier.{hidden}
 use Rattle.affc_ast.specs.declared.tree.Ix.TheBlock.{shape-the_row-Ix-0, hidden-the_row-Ix-0}
@@ -27,12 +28,17 @@ use Rattle.affc_trace.specs.Laws.{IsInContext}
 use Rattle.affc_trace.proofs.ExampleProofs.{blur_has_its_maps}
 use Rattle.affc_trace.proofs.Found.{legal_has_no_violations}
 use Rattle.affc_domain.specs.Accesses.{Access, accesses_of}
+use Rattle.affc_domain.specs.Ranges.{number_ranges}
 use Rattle.affc_safe.specs.Overflow.{AreReadable}
 use Rattle.affc_safe.specs.Safe.{IsSafe, extents_hold, accesses_hold, loads_hold}
 use Rattle.affc_safe.proofs.OverflowProofs.{blur_is_plain}
 use Rattle.affc_safe.proofs.PlainNear.{plain_never_overflows}
 use Rattle.affc_safe.proofs.Reasons.{reasons_are_found}
 use Rattle.affc_safe.proofs.SafeLaws.{safe_runs}
+use Rattle.affc_loops.specs.Between.{HoldTimes}
+use Rattle.affc_loops.specs.Ends.{ends_of, AreSides, AreRowsOf, AreRowsOfEach}
+use Rattle.affc_loops.specs.Loops.{Scheduled, scheduled, time_ranges}
+use Rattle.affc_loops.proofs.RowLaws.{rows_hold_times}
 use Rattle.affc_basis.specs.declared.fold.Fold.{Fold}
 use Rattle.affc_basis.specs.Examples.{x0, number, onto, folds}
 use Rattle.affc_basis.specs.Folds.{Obeys, fold_of, folded_by, place}
@@ -40,10 +46,10 @@ use Rattle.affc_basis.specs.Slices.{along, InSlice}
 use Rattle.affc_basis.proofs.BlurContext.{in_context, by_context}
 use Rattle.affc_basis.proofs.MarkExamples.{three_is_enough}
 use Rattle.affc_basis.proofs.PremiseExamples.{lists_of_folds}
-use Rattle.affc_foldloops.specs.Examples.{lit, most, AllAreMarked, by_three, three, BlurFolds, BlurCompiles, BlurIsReplaced, OthersDontStand, TwoAreTooFew, OtherPlaces, by_far, FarIsntRead, SizesOfTemporaries, ExtentsOfTemporaries}
+use Rattle.affc_foldloops.specs.Examples.{lit, most, AllAreMarked, by_three, three, maps, without_rows, BlurFolds, BlurCompiles, BlurIsReplaced, OthersDontStand, TwoAreTooFew, OtherPlaces, by_far, FarIsntRead, SizesOfTemporaries, ExtentsOfTemporaries}
 use Rattle.affc_foldloops.specs.Placed.{Replaces, HasFoldedLoops}
 use Rattle.affc_foldloops.specs.Refolds.{AtEachAccess, IsAtPlace, IsReadAt, AreSized, extents_by, HaveFoldedExtents, FoldsBy}
-use Rattle.affc_foldloops.proofs.FoldedLaws.{refolded_loops_compile}
+use Rattle.affc_foldloops.proofs.FoldedLaws.{refolded_between_compile}
 use Rattle.affc_foldloops.proofs.Remainder.{remainder_is_read}
 use Rattle.affc_foldloops.proofs.ReplaceLemmas.{accesses_read, refolded_replaces}
 
@@ -197,8 +203,39 @@ blur_has_loops = record {
 pub blur_folds : BlurFolds
 blur_folds = (blur_has_loops, blur_folds_by)
 
+-- the ends of the ranges alone
+
+no_sides : (column : ℕ) (ranges : List (ℤ × ℤ)) → AreSides column ranges ([], [])
+no_sides column ranges = record { lower = All-nil _; upper = All-nil _; below = All-nil _; above = All-nil _ }
+
+no_row : (p : List ℤ) (ranges : List (ℤ × ℤ)) (e : Scheduled) → length ranges ≡ 1 → AreRowsOf blur maps ranges p e (([], []) ∷ [])
+no_row p ranges e one = record {
+  one_each = sym one;
+  are_sides = (no_sides (length p) (number_ranges blur.params ++ ranges), tt);
+  hold = λ a i q. (All-nil _, All-nil _, tt);
+}
+
+no_rows : (p : List ℤ) (ranges : List (ℤ × ℤ)) (es : List Scheduled) → length ranges ≡ 1 → length es ≡ 2 → AreRowsOfEach blur maps ranges p es without_rows
+no_rows p ranges [] one both = absurd (omega arith)
+no_rows p ranges (e ∷ []) one both = absurd (omega arith)
+no_rows p ranges (e ∷ f ∷ []) one both = (no_row p ranges e one, (no_row p ranges f one, tt))
+no_rows p ranges (e ∷ f ∷ g ∷ es) one both = absurd (omega arith)
+
+one_component : length (time_ranges (number_ranges blur.params) (scheduled blur maps)) ≡ 1
+unfolding shape-the_row-Ix-0 hidden-the_row-Ix-0 shape-the_row-Val-0 hidden-the_row-Val-0 shape-the_row-Stmt-0 hidden-the_row-Stmt-0 hidden
+one_component = refl
+
+two_statements : length (scheduled blur maps) ≡ 2
+unfolding shape-the_row-Ix-0 hidden-the_row-Ix-0 shape-the_row-Val-0 hidden-the_row-Val-0 shape-the_row-Stmt-0 hidden-the_row-Stmt-0 hidden
+two_statements = refl
+
+ends_hold : (p : List ℤ) → IsInContext blur p → HoldTimes blur maps (ends_of blur maps without_rows) p
+ends_hold p inside =
+    rows_hold_times blur 1 maps without_rows p (blur_has_loops.loops) inside.ranges
+    (no_rows p (time_ranges (number_ranges blur.params) (scheduled blur maps)) (scheduled blur maps) one_component two_statements)
+
 pub blur_compiles : BlurCompiles
-blur_compiles = refolded_loops_compile by_three (three ∷ []) blur together folds blur_has_loops blur_folds_by
+blur_compiles = refolded_between_compile by_three (three ∷ []) blur 1 maps (ends_of blur maps without_rows) folds blur_has_loops blur_folds_by ends_hold
 
 two_is_inside : IsInContext blur two
 unfolding shape-the_row-Ix-0 hidden-the_row-Ix-0 shape-the_row-Val-0 hidden-the_row-Val-0 shape-the_row-Stmt-0 hidden-the_row-Stmt-0 hidden

@@ -9,7 +9,7 @@ use Rattle.affc_ast.specs.Fits.{Fits, whole}
 use Rattle.affc_ast.specs.Meaning.{arrays_of}
 use Rattle.affc_ast.specs.Values.{is_within}
 use Rattle.affc_trace.specs.declared.schedule.Schedule.{Schedule}
-use Rattle.affc_trace.specs.declared.schedule.Schedule.TheVariants.{Time}
+use Rattle.affc_trace.specs.declared.schedule.Schedule.TheVariants.{Source, Time}
 use Rattle.affc_trace.specs.Dataflow.{LivePair}
 use Rattle.affc_trace.specs.Laws.{IsInContext}
 use Rattle.affc_domain.specs.Arrays.{declared_arrays, extents_at}
@@ -18,19 +18,17 @@ use Rattle.affc_safe.specs.Safe.{IsSafe}
 use Rattle.affc_safe.proofs.FitsThere.{never_stuck_is_safe}
 use Rattle.affc_safe.proofs.PlainNear.{plain_has_no_locals, plain_never_overflows}
 use Rattle.affc_loops.specs.Between.{program_between}
-use Rattle.affc_loops.specs.Loops.{target_program}
 use Rattle.affc_loops.specs.Laws.{HaveSameLoops}
-use Rattle.affc_loops.proofs.LoopLaws.{same_name, same_params, same_context}
 use Rattle.affc_domain.specs.Ranges.{number_ranges}
 use Rattle.affc_basis.specs.declared.fold.Fold.{Fold}
 use Rattle.affc_basis.specs.FoldLists.{IsFoldIn}
 use Rattle.affc_basis.specs.Folds.{place}
 use Rattle.affc_basis.specs.Laws.{HasDimensions, AreFoldsOf}
 use Rattle.affc_basis.proofs.FoldPlaces.{compiles_folded}
-use Rattle.affc_foldloops.specs.Laws.{FoldedLoopsCompile, FoldedBetweenCompile, RefoldedLoopsCompile}
+use Rattle.affc_foldloops.specs.Laws.{FoldedSourceCompiles, FoldedBetweenCompile, RefoldedBetweenCompile}
 use Rattle.affc_foldloops.specs.Placed.{HasFoldedLoops}
 use Rattle.affc_foldloops.specs.Refolds.{refolded}
-use Rattle.affc_foldloops.proofs.PlacedLaws.{loops_run_placed, between_run_placed}
+use Rattle.affc_foldloops.proofs.PlacedLaws.{source_runs_placed, between_run_placed}
 use Rattle.affc_foldloops.proofs.RefoldLemmas.{refolded_keeps_shape}
 use Rattle.affc_foldloops.proofs.ReplaceLemmas.{fold_in, behind_extents, refolded_replaces}
 
@@ -63,13 +61,12 @@ module _ (source : Program) (schedule : Schedule) (folds : List (ArrayId × Fold
     dimensions = λ array fold e p inside. dimensions source p array fold (safe_at p inside) (fold_in source folds has.folds_in array fold e);
   }
 
-pub folded_loops_compile : FoldedLoopsCompile
-folded_loops_compile other source schedule folds has r =
+pub folded_source_compiles : FoldedSourceCompiles
+folded_source_compiles other source folds has r =
     let same : HaveSameLoops source other = record { same_rounds = r.same_rounds; same_ranges = ap number_ranges r.params } in
-    compiles_folded (LivePair source schedule) (target_program other schedule) source schedule folds (plain_has_no_locals source (has.loops).plain)
-    (same_name other schedule ∙ r.name) (same_params other schedule ∙ r.params) (same_context other schedule ∙ r.context)
-    has.ends has.legal (folds_proper source schedule folds has) (λ p inside array x y live. live) has.obeys
-    (λ p store fits. loops_run_placed other source schedule (place folds p) p store has.loops same (Fits.ranges fits) (r.replaces p (record { ranges = Fits.ranges fits; context = Fits.context fits })))
+    compiles_folded (LivePair source Source) other source Source folds (plain_has_no_locals source (has.loops).plain)
+    r.name r.params r.context has.ends has.legal (folds_proper source Source folds has) (λ p inside array x y live. live) has.obeys
+    (λ p store fits. source_runs_placed other source (place folds p) p store same (Fits.ranges fits) (r.replaces p (record { ranges = Fits.ranges fits; context = Fits.context fits })))
 
 pub folded_between_compile : FoldedBetweenCompile
 folded_between_compile other source n maps ends folds has r times =
@@ -80,15 +77,16 @@ folded_between_compile other source n maps ends folds has r times =
     let inside : IsInContext source p = record { ranges = Fits.ranges fits; context = Fits.context fits } in
     between_run_placed other source n maps ends (place folds p) p store has.loops same (Fits.ranges fits) (times p inside) (r.replaces p inside))
 
-pub refolded_loops_compile : RefoldedLoopsCompile
-refolded_loops_compile at temps source schedule folds has by =
+pub refolded_between_compile : RefoldedBetweenCompile
+refolded_between_compile at temps source n maps ends folds has by times =
     let bare = plain_has_no_locals source (has.loops).plain in
-    folded_loops_compile (refolded at temps source) source schedule folds has (record {
+    folded_between_compile (refolded at temps source) source n maps ends folds has (record {
       name = refl;
       params = refl;
       context = refl;
       same_rounds = ((refolded_keeps_shape at temps source).same_loops).same_rounds;
       replaces = λ p inside.
           refolded_replaces at temps source folds p bare inside.ranges (plain_never_overflows source p (has.loops).plain (has.loops).near inside.ranges)
-          (safe_at source schedule folds has p inside) has.folds_in (by p inside);
+          (safe_at source (Time n maps) folds has p inside) has.folds_in (by p inside);
     })
+    times

@@ -1,10 +1,10 @@
--- The loops of a program that stands for a source run the source's target at the places.
+-- A program that stands for a source, and its loops, run the source's target at the places.
 use Rattle.std.proofs.Common.{◌≡◌, ℤ, List, [], ◌∷◌, map, refl, sym, ap, subst, ◌∙◌, ◌⊎◌, inl, inr}
 use Rattle.affc_ast.specs.declared.tree.Program.{Program}
 use Rattle.affc_ast.specs.Store.{Element}
 use Rattle.affc_ast.specs.Trace.{trace}
 use Rattle.affc_trace.specs.declared.schedule.Schedule.{Schedule}
-use Rattle.affc_trace.specs.declared.schedule.Schedule.TheVariants.{Time}
+use Rattle.affc_trace.specs.declared.schedule.Schedule.TheVariants.{Source, Time}
 use Rattle.affc_trace.specs.Effects.{effect}
 use Rattle.affc_trace.specs.Law.{Effect, IsIn, placed}
 use Rattle.affc_trace.specs.Orders.{IsReordered}
@@ -14,8 +14,9 @@ use Rattle.affc_trace.proofs.Members.{in_map}
 use Rattle.affc_safe.specs.Safe.{LiesWithin, KeepsWithin}
 use Rattle.affc_loops.proofs.Does.{own_places}
 use Rattle.affc_loops.proofs.BetweenLaws.{between_do_other, between_run_other}
-use Rattle.affc_loops.proofs.LoopLaws.{loops_do_other, loops_run_other}
-use Rattle.affc_foldloops.specs.Laws.{LoopsDoPlaced, LoopsRunPlaced, BetweenDoPlaced, BetweenRunPlaced}
+use Rattle.affc_loops.proofs.SameLoops.{within_same}
+use Rattle.affc_loops.proofs.SourceOrder.{runs_itself}
+use Rattle.affc_foldloops.specs.Laws.{SourceRunsPlaced, BetweenDoPlaced, BetweenRunPlaced}
 use Rattle.affc_foldloops.specs.Placed.{StandsFor, PlacesLieWithin}
 
 map_in_same : {A B : Type 0} (f g : A → B) (xs : List A) → ((x : A) → IsIn x xs → f x ≡ g x) → map f xs ≡ map g xs
@@ -31,10 +32,6 @@ target_at_places other source schedule place p stands =
     ∙ map_in_same (effect other p) (placed place (effect source p)) (target source schedule p)
     (λ b i. stands.same_effects b (IsReordered.no_other (target_is_reordered_law source schedule p) b i))
 
-pub loops_do_placed : LoopsDoPlaced
-loops_do_placed other source schedule place p has same within stands =
-    loops_do_other source other schedule p has same stands.bare within ∙ target_at_places other source schedule place p stands
-
 -- what is touched is at places
 keeps_within : (other source : Program) (place : Element → Element) (p : List ℤ) → StandsFor other source place p → PlacesLieWithin other source place p → KeepsWithin other p
 keeps_within other source place p stands within b x i t =
@@ -46,11 +43,15 @@ keeps_within other source place p stands within b x i t =
       | inr s ↦ subst (LiesWithin other p) (sym s) (within b (effect source p b).stores here (inr refl))
     ]
 
-pub loops_run_placed : LoopsRunPlaced
-loops_run_placed other source schedule place p store has same within r = record {
-  does = loops_do_placed other source schedule place p has same within r.stands;
-  only_unwritten = (loops_run_other source other schedule p store has same (r.stands).bare within r.small r.extents (keeps_within other source place p r.stands r.within)).only_unwritten;
-}
+-- ---- in the source's own order
+
+pub source_runs_placed : SourceRunsPlaced
+source_runs_placed other source place p store same within r =
+    let runs = runs_itself other p store (r.stands).bare (within_same source other same p within) r.small r.extents (keeps_within other source place p r.stands r.within) in
+    record {
+      does = runs.does ∙ target_at_places other source Source place p r.stands;
+      only_unwritten = runs.only_unwritten;
+    }
 
 -- ---- between ends
 

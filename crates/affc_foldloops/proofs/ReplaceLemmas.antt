@@ -31,7 +31,7 @@ use Rattle.affc_safe.specs.Safe.{LiesWithin, HasExtents, IsSafe}
 use Rattle.affc_safe.proofs.Accesses.{entry_in}
 use Rattle.affc_loops.proofs.Boxed.{box_length}
 use Rattle.affc_loops.proofs.MovedReads.{reads_not, reads_bin, reads_shift}
-use Rattle.affc_loops.proofs.Pieces.{numbers_are}
+use Rattle.affc_loops.proofs.Scheduled.{numbers_are}
 use Rattle.affc_domain.specs.Ranges.{number_ranges}
 use Rattle.affc_basis.specs.declared.fold.Fold.{Fold}
 use Rattle.affc_basis.specs.FoldLists.{IsFoldIn, AreFoldsIn}

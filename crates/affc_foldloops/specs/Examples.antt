@@ -11,9 +11,13 @@ use Rattle.affc_ast.specs.declared.tree.Stmt.{Stmt}
 use Rattle.affc_ast.specs.declared.tree.Stmt.TheVariants.{For, If, Assign, Block}
 use Rattle.affc_ast.specs.declared.tree.Val.TheVariants.{Load, Const, Cast, Not, Bin, Shift}
 use Rattle.affc_ast.specs.Compiles.{Compiles}
+use Rattle.affc_trace.specs.declared.schedule.Schedule.{Schedule}
+use Rattle.affc_trace.specs.declared.schedule.Schedule.TheVariants.{Source, Time}
+use Rattle.affc_trace.specs.declared.schedule.TimeMap.{TimeMap}
 use Rattle.affc_trace.specs.Examples.{blur, together, two}
 use Rattle.affc_trace.specs.Laws.{IsInContext, in_target_order}
-use Rattle.affc_loops.specs.Loops.{target_program}
+use Rattle.affc_loops.specs.Between.{program_between}
+use Rattle.affc_loops.specs.Ends.{Sides, ends_of}
 use Rattle.affc_basis.specs.Examples.{onto, folds, fold_at}
 use Rattle.affc_basis.specs.Folds.{place}
 use Rattle.affc_foldloops.specs.Placed.{StandsFor, PlacesLieWithin, Replaces, HasFoldedLoops}
@@ -67,9 +71,21 @@ folded_blur = refolded by_three (three ∷ []) blur
 abbrev pub BlurFolds : Type 0
 BlurFolds = HasFoldedLoops blur together folds × ((p : List ℤ) → IsInContext blur p → FoldsBy by_three (three ∷ []) blur folds p)
 
+-- the times of the two statements
+abbrev maps_of : Schedule → List TimeMap
+maps_of Source = []
+maps_of (Time length_of_time maps) = maps
+
+abbrev pub maps : List TimeMap
+maps = maps_of together
+
+-- no rows, so that the one component runs between the ends of its range alone
+abbrev pub without_rows : List (List Sides)
+without_rows = (([], []) ∷ []) ∷ (([], []) ∷ []) ∷ []
+
 -- and so the loops that run the two statements by turns, on three elements of t, compile it
 abbrev pub BlurCompiles : Type 0
-BlurCompiles = Compiles (target_program folded_blur together) blur (in_target_order together) (place folds)
+BlurCompiles = Compiles (program_between folded_blur maps (ends_of blur maps without_rows)) blur (in_target_order together) (place folds)
 
 abbrev pub BlurIsReplaced : Type 0
 BlurIsReplaced = Replaces folded_blur blur (place folds two) two

@@ -12,8 +12,7 @@ use Rattle.affc_ast.specs.Fits.{whole, within_ranges}
 use Rattle.affc_ast.specs.Store.{Element, Store}
 use Rattle.affc_ast.specs.Trace.{Assignment, trace}
 use Rattle.affc_ast.specs.Values.{is_within}
-use Rattle.affc_trace.specs.declared.schedule.Schedule.{Schedule}
-use Rattle.affc_trace.specs.declared.schedule.Schedule.TheVariants.{Time}
+use Rattle.affc_trace.specs.declared.schedule.Schedule.TheVariants.{Source, Time}
 use Rattle.affc_trace.specs.declared.schedule.TimeMap.{TimeMap}
 use Rattle.affc_trace.specs.Effects.{effect, effect_by, effects, has_no_locals}
 use Rattle.affc_trace.specs.Law.{IsIn, at_place, placed}
@@ -24,7 +23,6 @@ use Rattle.affc_safe.specs.Overflow.{IsReadable, keeps_near, NeverOverflows}
 use Rattle.affc_safe.specs.Safe.{IsSafe}
 use Rattle.affc_loops.specs.Between.{program_between, HoldTimes}
 use Rattle.affc_loops.specs.Laws.{HasLoops, HaveSameLoops}
-use Rattle.affc_loops.specs.Loops.{target_program}
 use Rattle.affc_basis.specs.declared.fold.Fold.{Fold}
 use Rattle.affc_basis.specs.FoldLists.{AreFoldsIn}
 use Rattle.affc_basis.specs.Folds.{folded, forms_of, place}
@@ -65,52 +63,50 @@ RefoldedReplaces = (at : Subscripts) (temps : List Decl) (source : Program) (fol
     → AreFoldsIn source folds → FoldsBy at temps source folds p
     → Replaces (refolded at temps source) source (place folds p) p
 
--- ---- Loops
+-- ---- The source's own order, in which the other program is run as it is
 
--- Read as whole numbers, the loops of a program that stands for the source run what the target's instances do, each once and
--- in order, with each element at its place.
-abbrev pub LoopsDoPlaced : Type 0
-LoopsDoPlaced = (other source : Program) (schedule : Schedule) (place : Element → Element) (p : List ℤ)
-    → HasLoops source schedule → HaveSameLoops source other → IsTrue (within_ranges source.params p) → StandsFor other source place p
-    → effects (target_program other schedule) p ≡ map (placed place (effect source p)) (target source schedule p)
+-- Where it replaces the source, its run from any store does what the source's instances do, in their order and with each element at its
+-- place, and is stuck, if at all, for want of a value.
+abbrev pub SourceRunsPlaced : Type 0
+SourceRunsPlaced = (other source : Program) (place : Element → Element) (p : List ℤ) (store : Store)
+    → HaveSameLoops source other → IsTrue (within_ranges source.params p) → Replaces other source place p
+    → RunsTarget other source Source place p store
 
--- Where it replaces the source, the loops run so from any store, and are stuck, if at all, for want of a value.
-abbrev pub LoopsRunPlaced : Type 0
-LoopsRunPlaced = (other source : Program) (schedule : Schedule) (place : Element → Element) (p : List ℤ) (store : Store)
-    → HasLoops source schedule → HaveSameLoops source other → IsTrue (within_ranges source.params p) → Replaces other source place p
-    → RunsTarget (target_program other schedule) source schedule place p store
-
--- Under a legal schedule, and with folds that obey, the loops of a program that replaces the source at the folds' places
--- compile the source.
-abbrev pub FoldedLoopsCompile : Type 0
-FoldedLoopsCompile = (other source : Program) (schedule : Schedule) (folds : List (ArrayId × Fold))
-    → HasFoldedLoops source schedule folds → ReplacesFolded other source folds
-    → Compiles (target_program other schedule) source (in_target_order schedule) (place folds)
-
--- So do the loops of the source with such subscripts and temporaries.
-abbrev pub RefoldedLoopsCompile : Type 0
-RefoldedLoopsCompile = (at : Subscripts) (temps : List Decl) (source : Program) (schedule : Schedule) (folds : List (ArrayId × Fold))
-    → HasFoldedLoops source schedule folds → ((p : List ℤ) → IsInContext source p → FoldsBy at temps source folds p)
-    → Compiles (target_program (refolded at temps source) schedule) source (in_target_order schedule) (place folds)
+-- With folds that obey, a program that replaces the source at the folds' places compiles the source.
+abbrev pub FoldedSourceCompiles : Type 0
+FoldedSourceCompiles = (other source : Program) (folds : List (ArrayId × Fold))
+    → HasFoldedLoops source Source folds → ReplacesFolded other source folds
+    → Compiles other source (in_target_order Source) (place folds)
 
 -- ---- Loops between any ends that hold the times
 
--- The same of them, for a schedule by times.
+-- Read as whole numbers, the loops of a program that stands for the source run what the target's instances do, each once and
+-- in order, with each element at its place.
 abbrev pub BetweenDoPlaced : Type 0
 BetweenDoPlaced = (other source : Program) (length_of_time : ℕ) (maps : List TimeMap) (ends : List (Ix × Ix)) (place : Element → Element) (p : List ℤ)
     → HasLoops source (Time length_of_time maps) → HaveSameLoops source other → IsTrue (within_ranges source.params p) → HoldTimes source maps ends p → StandsFor other source place p
     → effects (program_between other maps ends) p ≡ map (placed place (effect source p)) (target source (Time length_of_time maps) p)
 
+-- Where it replaces the source, the loops run so from any store, and are stuck, if at all, for want of a value.
 abbrev pub BetweenRunPlaced : Type 0
 BetweenRunPlaced = (other source : Program) (length_of_time : ℕ) (maps : List TimeMap) (ends : List (Ix × Ix)) (place : Element → Element) (p : List ℤ) (store : Store)
     → HasLoops source (Time length_of_time maps) → HaveSameLoops source other → IsTrue (within_ranges source.params p) → HoldTimes source maps ends p → Replaces other source place p
     → RunsTarget (program_between other maps ends) source (Time length_of_time maps) place p store
 
+-- Under a legal schedule, and with folds that obey, the loops of a program that replaces the source at the folds' places
+-- compile the source.
 abbrev pub FoldedBetweenCompile : Type 0
 FoldedBetweenCompile = (other source : Program) (length_of_time : ℕ) (maps : List TimeMap) (ends : List (Ix × Ix)) (folds : List (ArrayId × Fold))
     → HasFoldedLoops source (Time length_of_time maps) folds → ReplacesFolded other source folds
     → ((p : List ℤ) → IsInContext source p → HoldTimes source maps ends p)
     → Compiles (program_between other maps ends) source (in_target_order (Time length_of_time maps)) (place folds)
+
+-- So do the loops of the source with such subscripts and temporaries.
+abbrev pub RefoldedBetweenCompile : Type 0
+RefoldedBetweenCompile = (at : Subscripts) (temps : List Decl) (source : Program) (length_of_time : ℕ) (maps : List TimeMap) (ends : List (Ix × Ix)) (folds : List (ArrayId × Fold))
+    → HasFoldedLoops source (Time length_of_time maps) folds → ((p : List ℤ) → IsInContext source p → FoldsBy at temps source folds p)
+    → ((p : List ℤ) → IsInContext source p → HoldTimes source maps ends p)
+    → Compiles (program_between (refolded at temps source) maps ends) source (in_target_order (Time length_of_time maps)) (place folds)
 
 -- ---- Remainders
 

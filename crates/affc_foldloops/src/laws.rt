@@ -1,6 +1,6 @@
 //! What may be concluded of programs that stand for a source at places. Each law is the contract of a function that does
 //! nothing.
-ghost use Rattle.affc_foldloops.specs.Laws.{RefoldedKeepsShape, RefoldedEffect, RefoldedStands, RefoldedReplaces, LoopsDoPlaced, LoopsRunPlaced, FoldedLoopsCompile, RefoldedLoopsCompile, BetweenDoPlaced, BetweenRunPlaced, FoldedBetweenCompile, RemainderIsRead, PlaceLiesWithin};
+ghost use Rattle.affc_foldloops.specs.Laws.{RefoldedKeepsShape, RefoldedEffect, RefoldedStands, RefoldedReplaces, SourceRunsPlaced, FoldedSourceCompiles, BetweenDoPlaced, BetweenRunPlaced, FoldedBetweenCompile, RefoldedBetweenCompile, RemainderIsRead, PlaceLiesWithin};
 
 /// A program with other subscripts and temporaries has the instances and loops that it had.
 pub fn refolded_keeps_shape()
@@ -22,32 +22,22 @@ pub fn refolded_replaces()
     ensures law { RefoldedReplaces }
 {}
 
-/// The loops of a program that stands for the source do the target's instances at the places.
-pub fn loops_do_placed()
-    ensures law { LoopsDoPlaced }
+/// In the source's own order a program that replaces it does its instances at the places.
+pub fn source_runs_placed()
+    ensures law { SourceRunsPlaced }
 {}
 
-/// The loops of a program that replaces the source are stuck, if at all, for want of a value.
-pub fn loops_run_placed()
-    ensures law { LoopsRunPlaced }
+/// With folds that obey it compiles the source.
+pub fn folded_source_compiles()
+    ensures law { FoldedSourceCompiles }
 {}
 
-/// With folds that obey they compile the source.
-pub fn folded_loops_compile()
-    ensures law { FoldedLoopsCompile }
-{}
-
-/// So do those of the source with the subscripts and extents of the folds.
-pub fn refolded_loops_compile()
-    ensures law { RefoldedLoopsCompile }
-{}
-
-/// Between any ends that hold the times the loops do the target's instances at the places.
+/// Between any ends that hold the times the loops of a program that stands for the source do the target's instances at the places.
 pub fn between_do_placed()
     ensures law { BetweenDoPlaced }
 {}
 
-/// They are stuck, if at all, for want of a value.
+/// The loops of a program that replaces the source are stuck, if at all, for want of a value.
 pub fn between_run_placed()
     ensures law { BetweenRunPlaced }
 {}
@@ -55,6 +45,11 @@ pub fn between_run_placed()
 /// With folds that obey they compile the source.
 pub fn folded_between_compile()
     ensures law { FoldedBetweenCompile }
+{}
+
+/// So do those of the source with the subscripts and extents of the folds.
+pub fn refolded_between_compile()
+    ensures law { RefoldedBetweenCompile }
 {}
 
 /// A remainder is read, and is below its divisor.

@@ -14,7 +14,7 @@ use Rattle.affc_trace.specs.Target.{numbers_in}
 use Rattle.affc_domain.specs.Affine.{form_of}
 use Rattle.affc_domain.specs.Plain.{IsPlain, all_plain}
 use Rattle.affc_domain.proofs.Lists.{length_map}
-use Rattle.affc_loops.proofs.Pieces.{numbers_are}
+use Rattle.affc_loops.proofs.Scheduled.{numbers_are}
 use Rattle.affc_cprint.proofs.ReadBackValues.{Each}
 use Rattle.affc_basis.specs.declared.fold.Fold.{Fold}
 use Rattle.affc_basis.specs.FoldLists.{AreFoldsIn}

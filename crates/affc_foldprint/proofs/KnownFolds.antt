@@ -32,7 +32,7 @@ use Rattle.affc_domain.specs.Ranges.{number_ranges}
 use Rattle.affc_domain.proofs.Lists.{both_true}
 use Rattle.affc_grammar.specs.Grammar.{Name}
 use Rattle.affc_grammar.specs.Names.{is_time_name}
-use Rattle.affc_loops.proofs.Pieces.{numbers_are}
+use Rattle.affc_loops.proofs.Scheduled.{numbers_are}
 use Rattle.affc_cprint.specs.Forms.{is_none}
 use Rattle.affc_cprint.proofs.ReadBackValues.{Each}
 use Rattle.affc_wellnamed.specs.Known as known

@@ -26,7 +26,7 @@ use Rattle.affc_domain.specs.Plain.{IsPlain, all_plain, plain_value, plain_tests
 use Rattle.affc_domain.specs.Accesses.{accesses_of}
 use Rattle.affc_domain.specs.Ranges.{number_ranges}
 use Rattle.affc_domain.proofs.Lists.{both_true, length_map}
-use Rattle.affc_loops.proofs.Pieces.{numbers_are}
+use Rattle.affc_loops.proofs.Scheduled.{numbers_are}
 use Rattle.affc_cprint.specs.Forms.{form, form_step, compare_passes, value_step, value_passes, param_passes, decl_passes, stmt_step, stmt_passes, program_passes}
 use Rattle.affc_cprint.proofs.ReadBackValues.{Each}
 use Rattle.affc_wellnamed.specs.Plain.{is_plain}

@@ -11,7 +11,7 @@ use Rattle.affc_trace.specs.Target.{numbers_in}
 use Rattle.affc_domain.specs.Ranges.{number_ranges}
 use Rattle.affc_loops.specs.Ends.{BoundsBelow, BoundsAbove}
 use Rattle.affc_loops.specs.Laws.{HasLoops, HaveSameLoops}
-use Rattle.affc_loops.specs.Loops.{Piece, pieces}
+use Rattle.affc_loops.specs.Loops.{Scheduled, scheduled}
 use Rattle.affc_loopends.specs.declared.bounds.Bounds.{Bounds}
 use Rattle.affc_loopends.specs.declared.bounds.Bounds.TheVariants.{Between, Loose as Without}
 use Rattle.affc_loopends.specs.TimeRows.{system_of}
@@ -50,7 +50,7 @@ printable_from system column known (Between lower upper ∷ bs) b =
 printable_from system column known (Without why ∷ bs) b = (none_printable column, printable_from system (suc column) known bs b.1)
 
 module _ (source other : Program) (n : ℕ) (maps : List TimeMap) (has : HasLoops source (Time n maps)) (same : HaveSameLoops source other) where
-  each_printable : (ranges : List (ℤ × ℤ)) (es : List Piece) → ((e : Piece) → IsIn e es → IsIn e (pieces other maps)) → (bss : List (List Bounds))
+  each_printable : (ranges : List (ℤ × ℤ)) (es : List Scheduled) → ((e : Scheduled) → IsIn e es → IsIn e (scheduled other maps)) → (bss : List (List Bounds))
       → AreBoundsOfEach other ranges es bss → ArePrintableOfEach (numbers_in other.params) n es (all_sides bss)
   each_printable ranges [] sub [] b = tt
   each_printable ranges [] sub (bs ∷ bss) b = absurd b
@@ -61,5 +61,5 @@ module _ (source other : Program) (n : ℕ) (maps : List TimeMap) (has : HasLoop
     each_printable ranges es (λ f i. sub f (inr i)) bss b.1,
   )
 
-  pub rows_printable : (ranges : List (ℤ × ℤ)) (bss : List (List Bounds)) → AreBoundsOfEach other ranges (pieces other maps) bss → ArePrintableOfEach (numbers_in other.params) n (pieces other maps) (all_sides bss)
-  rows_printable ranges bss b = each_printable ranges (pieces other maps) (λ e i. i) bss b
+  pub rows_printable : (ranges : List (ℤ × ℤ)) (bss : List (List Bounds)) → AreBoundsOfEach other ranges (scheduled other maps) bss → ArePrintableOfEach (numbers_in other.params) n (scheduled other maps) (all_sides bss)
+  rows_printable ranges bss b = each_printable ranges (scheduled other maps) (λ e i. i) bss b

@@ -6,8 +6,8 @@ use Rattle.affc_trace.specs.declared.schedule.Schedule.TheVariants.{Source, Time
 use Rattle.affc_trace.specs.Laws.{in_target_order}
 use Rattle.affc_basis.specs.Folds.{place}
 use Rattle.affc_domain.specs.Ranges.{number_ranges}
-use Rattle.affc_loops.specs.Loops.{pieces, time_ranges}
-use Rattle.affc_foldloops.proofs.FoldedLaws.{folded_loops_compile, folded_between_compile}
+use Rattle.affc_loops.specs.Loops.{scheduled, time_ranges}
+use Rattle.affc_foldloops.proofs.FoldedLaws.{folded_source_compiles, folded_between_compile}
 use Rattle.affc_rewrite.specs.Rewrite.{folded_program}
 use Rattle.affc_rewrite.proofs.FoldsPrinted.{folded_program_replaces}
 use Rattle.affc_loopends.specs.scanned.Laws.{ScansRunBetween, TurnsExtend}
@@ -26,13 +26,13 @@ module _ (named : SpareWellNamed) (between : BetweenWellNamed) where
       let own : IsBetween other maps s = scans in
       subst WellNamed (sym own.is)
       (between source other n maps (all_sides own.bounds) has (folded_loops source folds) (folds_spare text source folds r off are limits)
-      (rows_printable source other n maps has (folded_loops source folds) (time_ranges (number_ranges other.params) (pieces other maps)) own.bounds own.are_bounds))
+      (rows_printable source other n maps has (folded_loops source folds) (time_ranges (number_ranges other.params) (scheduled other maps)) own.bounds own.are_bounds))
 
 module _ (runs : ScansRunBetween) where
   pub folds_compile : FoldsCompile
   folds_compile source Source folds s has limits scans =
       subst (λ q. Compiles q source (in_target_order Source) (place folds)) (sym scans.0)
-      (folded_loops_compile (folded_program source folds) source Source folds has (folded_program_replaces source Source folds has limits))
+      (folded_source_compiles (folded_program source folds) source folds has (folded_program_replaces source Source folds has limits))
   folds_compile source (Time n maps) folds s has limits scans =
       let other = folded_program source folds in
       let b = runs source other n maps s has.loops (folds_keep_times source folds) scans in

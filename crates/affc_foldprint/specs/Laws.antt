@@ -11,7 +11,7 @@ use Rattle.affc_trace.specs.Laws.{in_target_order}
 use Rattle.affc_nest.specs.declared.nest.Nest.{Nest}
 use Rattle.affc_nest.specs.Nests.{nest_of}
 use Rattle.affc_loops.specs.Laws.{HasLoops}
-use Rattle.affc_loops.specs.Loops.{Piece, pieces}
+use Rattle.affc_loops.specs.Loops.{Scheduled, scheduled}
 use Rattle.affc_loopends.specs.declared.scanned.scanned.Scanned.{Scanned}
 use Rattle.affc_loopends.specs.scanned.Laws.{HaveSameTimes, RunsTightly}
 use Rattle.affc_loopends.specs.scanned.Scanned.{Scans}
@@ -53,6 +53,6 @@ FoldsCompile = (source : Program) (schedule : Schedule) (folds : List (ArrayId �
 
 -- Where one statement alone can have instances and no component is loose, each turn extends to a point of its time set.
 abbrev pub FoldsRunTightly : Type 0
-FoldsRunTightly = (source : Program) (length_of_time : ℕ) (maps : List TimeMap) (folds : List (ArrayId × Fold)) (e : Piece) (s : Scanned)
-    → HasLoops source (Time length_of_time maps) → pieces source maps ≡ e ∷ []
+FoldsRunTightly = (source : Program) (length_of_time : ℕ) (maps : List TimeMap) (folds : List (ArrayId × Fold)) (e : Scheduled) (s : Scanned)
+    → HasLoops source (Time length_of_time maps) → scheduled source maps ≡ e ∷ []
     → Scans (folded_program source folds) (Time length_of_time maps) s → s.loose.items ≡ [] → RunsTightly source (folded_program source folds) maps e s.program

@@ -1,6 +1,6 @@
 -- What elimination says of a question.
 use Rattle.std.proofs.Common.{◌≡◌, ℕ, zero, suc, ◌+◌, ◌^◌, ◌<◌, ◌≤◌, List, [], ◌∷◌, ◌++◌, length, map, get_or, ℤ, pos, negsuc, ◌+ℤ◌, ◌-ℤ◌, ◌≤ℤ◌, neg_ℤ, refl, sym, ap, subst, ◌∙◌, inl, inr, arith}
-use Rattle.std.specs.Prelude.{◌↔◌, ◌⊎◌, unsigned_abs, remove, Some}
+use Rattle.std.specs.Prelude.{◌⊎◌, unsigned_abs, remove, Some}
 use Rattle.std.specs.List.{All, Contains}
 use Rattle.std.proofs.lemmas.List.Edits.{length-remove}
 use Rattle.std.proofs.lemmas.Int.{ints}
@@ -22,24 +22,6 @@ use Rattle.affc_loopends.specs.Sizes.{IsPrintable}
 use Rattle.affc_loopends.specs.Whys.{below_zero, question, AreOfOneEnd, IsQuestion, IsMade, IsWide}
 use Rattle.affc_loopends.proofs.Chosen.{again, removed, one_more, of_end_all}
 use Rattle.affc_loopends.proofs.Instances.{whole_value}
-
--- ---- Rows without columns
-
-no_terms : (cs : List ℤ) → dot cs [] ≡ pos 0
-no_terms [] = refl
-no_terms (c ∷ cs) = refl
-
-pub constant_met : (f : Affine) → (pos 0 ≤ℤ f.constant) ↔ Meets [] f
-constant_met f = (
-  (λ h. subst (λ z. pos 0 ≤ℤ z) (sym (same f)) h),
-  (λ h. subst (λ z. pos 0 ≤ℤ z) (same f) h),
-)
-  where
-    front : (z : ℤ) → pos 0 +ℤ z ≡ z
-    front z = omega (arith, ints)
-
-    same : (f : Affine) → value f [] ≡ f.constant
-    same f = ap (λ z. z +ℤ f.constant) (no_terms f.coefs) ∙ front f.constant
 
 -- ---- Negations
 

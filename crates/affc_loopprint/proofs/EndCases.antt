@@ -10,7 +10,7 @@ use Rattle.affc_ast.specs.declared.tree.Ix.{Ix}
 use Rattle.affc_ast.specs.declared.tree.Ix.TheVariants.{Min, Max, Floord, Ceild}
 use Rattle.affc_trace.specs.Law.{IsIn}
 use Rattle.affc_loops.specs.Ends.{rest_of, opposite, last_of, rounded_up, rounded_down, least_by, greatest_by, joined, joined_with, lower_end, upper_end, Sides, ends_from, both_ends, each_ends, all_ends, BoundsBelow, BoundsAbove}
-use Rattle.affc_loops.specs.Loops.{Piece, times_of}
+use Rattle.affc_loops.specs.Loops.{Scheduled, times_of}
 use Rattle.affc_loops.specs.Trees.{number, form_tree}
 use Rattle.affc_loops.proofs.EndLists.{both_long, from_long}
 use Rattle.affc_loops.proofs.FormReads.{neg_size}
@@ -88,15 +88,15 @@ EndsFrom P column (e ∷ es) = P column e.0 × P column e.1 × EndsFrom P (suc c
 -- ---- How many there are
 
 module _ (first components : ℕ) (params : List (ℤ × ℤ)) where
-  each_count : (es : List Piece) (rows : List (List Sides)) → ArePrintableOfEach first components es rows → length (each_ends first params es rows) ≡ length es
+  each_count : (es : List Scheduled) (rows : List (List Sides)) → ArePrintableOfEach first components es rows → length (each_ends first params es rows) ≡ length es
   each_count [] rows p = refl
   each_count (e ∷ es) [] p = absurd p
   each_count (e ∷ es) (ss ∷ rows) p = ap suc (each_count es rows p.2)
 
-  abbrev AllLong : List Piece → Type 0
-  AllLong es = (e : Piece) → IsIn e es → length (times_of params e) ≡ components
+  abbrev AllLong : List Scheduled → Type 0
+  AllLong es = (e : Scheduled) → IsIn e es → length (times_of params e) ≡ components
 
-  each_long : (es : List Piece) (rows : List (List Sides)) → ArePrintableOfEach first components es rows → AllLong es → All (λ ends. length ends ≡ components) (each_ends first params es rows)
+  each_long : (es : List Scheduled) (rows : List (List Sides)) → ArePrintableOfEach first components es rows → AllLong es → All (λ ends. length ends ≡ components) (each_ends first params es rows)
   each_long [] rows p l = All-nil (λ ends. length ends ≡ components)
   each_long (e ∷ es) [] p l = absurd p
   each_long (e ∷ es) (ss ∷ rows) p l =
@@ -104,8 +104,8 @@ module _ (first components : ℕ) (params : List (ℤ × ℤ)) where
       (from_long first first ss (times_of params e) (p.0 ∙ sym (l e (inl refl))) ∙ l e (inl refl)) (each_long es rows p.2 (λ f i. l f (inr i)))
 
   -- one for each component, where there are statements
-  pub ends_long : (es : List Piece) (rows : List (List Sides)) → ArePrintableOfEach first components es rows → AllLong es
-      → (e : Piece) → IsIn e es → length (all_ends (each_ends first params es rows)) ≡ components
+  pub ends_long : (es : List Scheduled) (rows : List (List Sides)) → ArePrintableOfEach first components es rows → AllLong es
+      → (e : Scheduled) → IsIn e es → length (all_ends (each_ends first params es rows)) ≡ components
   ends_long [] rows p l f i = absurd i
   ends_long (e ∷ es) [] p l f i = absurd p
   ends_long (e ∷ es) (ss ∷ rows) p l f i =
@@ -113,7 +113,7 @@ module _ (first components : ℕ) (params : List (ℤ × ℤ)) where
       joined_all both_ends (λ ends. length ends ≡ components) (λ as' bs k m. both_long as' bs (k ∙ sym m) ∙ k) own (each_ends first params es rows)
       (from_long first first ss (times_of params e) (p.0 ∙ sym (l e (inl refl))) ∙ l e (inl refl)) (each_long es rows p.2 (λ g j. l g (inr j)))
 
-  pub ends_low : (es : List Piece) (rows : List (List Sides)) → ArePrintableOfEach first components es rows → AllLong es → length (all_ends (each_ends first params es rows)) ≤ components
+  pub ends_low : (es : List Scheduled) (rows : List (List Sides)) → ArePrintableOfEach first components es rows → AllLong es → length (all_ends (each_ends first params es rows)) ≤ components
   ends_low [] rows p l = omega arith
   ends_low (e ∷ es) rows p l = let k = ends_long (e ∷ es) rows p l e (inl refl) in omega (arith, k)
 
@@ -189,8 +189,8 @@ module _ (first : ℕ) (F : ℕ → Ix → Type 0) (P : ℕ → ℕ → ℕ → 
   more_have m n d k column [] a b h = tt
   more_have m n d k column (e ∷ es) a b h = (c.more m n d k column e.0 a b h.0, c.more m n d k column e.1 a b h.1, more_have m n d k (suc column) es a b h.2)
 
-  each_have : (components : ℕ) (params : List (ℤ × ℤ)) (es : List Piece) (rows : List (List Sides)) → ArePrintableOfEach first components es rows
-      → ((e : Piece) → IsIn e es → All (Within (2 ^ 62)) (times_of params e)) → All (EndsFrom (P 9 8) first) (each_ends first params es rows)
+  each_have : (components : ℕ) (params : List (ℤ × ℤ)) (es : List Scheduled) (rows : List (List Sides)) → ArePrintableOfEach first components es rows
+      → ((e : Scheduled) → IsIn e es → All (Within (2 ^ 62)) (times_of params e)) → All (EndsFrom (P 9 8) first) (each_ends first params es rows)
   each_have n params [] rows p w = All-nil (EndsFrom (P 9 8) first)
   each_have n params (e ∷ es) [] p w = absurd p
   each_have n params (e ∷ es) (ss ∷ rows) p w =
@@ -198,8 +198,8 @@ module _ (first : ℕ) (F : ℕ → Ix → Type 0) (P : ℕ → ℕ → ℕ → 
       (from_has first ss (times_of params e) (omega arith) p.1 (w e (inl refl))) (each_have n params es rows p.2 (λ f i. w f (inr i)))
 
   -- at most 64 statements
-  pub all_have : (components : ℕ) (params : List (ℤ × ℤ)) (es : List Piece) (rows : List (List Sides)) → ArePrintableOfEach first components es rows → length es ≤ 64
-      → ((e : Piece) → IsIn e es → All (Within (2 ^ 62)) (times_of params e)) → EndsFrom (P 576 71) first (all_ends (each_ends first params es rows))
+  pub all_have : (components : ℕ) (params : List (ℤ × ℤ)) (es : List Scheduled) (rows : List (List Sides)) → ArePrintableOfEach first components es rows → length es ≤ 64
+      → ((e : Scheduled) → IsIn e es → All (Within (2 ^ 62)) (times_of params e)) → EndsFrom (P 576 71) first (all_ends (each_ends first params es rows))
   all_have n params [] rows p few w = tt
   all_have n params (e ∷ es) [] p few w = absurd p
   all_have n params (e ∷ es) (ss ∷ rows) p few w =

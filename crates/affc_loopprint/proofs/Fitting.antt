@@ -21,19 +21,19 @@ use Rattle.affc_domain.proofs.PlainLemmas.{rounds_are_plain, few_loops}
 use Rattle.affc_loops.specs.Between.{body_between}
 use Rattle.affc_loops.specs.Laws.{HasLoops, HaveSameLoops}
 use Rattle.affc_loops.specs.Limits.{IsSlight}
-use Rattle.affc_loops.specs.Loops.{Piece, boxes, pieces, times_of, loop_names}
+use Rattle.affc_loops.specs.Loops.{Scheduled, boxes, scheduled, times_of, loop_names}
 use Rattle.affc_loops.specs.Spans.{span}
 use Rattle.affc_loops.proofs.Boxed.{box_length}
 use Rattle.affc_loops.proofs.Boxes.{sits, near_box, params_ordered}
 use Rattle.affc_loops.proofs.Guards.{names_count}
-use Rattle.affc_loops.proofs.Pieces.{is_piece, shape_of, numbers_are}
+use Rattle.affc_loops.proofs.Scheduled.{is_scheduled_at, shape_of, numbers_are}
 use Rattle.affc_loops.proofs.SameLoops.{boxes_same, numbers_same}
 use Rattle.affc_loops.proofs.Sizes.{Within, map_within, near_within, params_within, time_most, box_within, slight_below, value_within}
 use Rattle.affc_loops.proofs.TimeRanges.{Spans, here_long, ordered_append}
-use Rattle.affc_loops.proofs.LoopLaws.{slight}
+use Rattle.affc_loops.proofs.BetweenLaws.{slight}
 
 -- the loops of a program between these ends, with these statements
-abbrev pub loops_program : Program → List (Ix × Ix) → List Piece → Program
+abbrev pub loops_program : Program → List (Ix × Ix) → List Scheduled → Program
 loops_program program ends es = record {
   name = program.name;
   params = program.params;
@@ -44,7 +44,7 @@ loops_program program ends es = record {
 }
 
 -- a statement of a program, with times of n components
-pub record Fitting (program : Program) (n : ℕ) (e : Piece) : Type 0 where
+pub record Fitting (program : Program) (n : ℕ) (e : Scheduled) : Type 0 where
   pub at : ℕ
   pub its_rounds : slice_get (rounds program) at ≡ Some e.around
   pub its_assignment : slice_get (assignments program) at ≡ Some e.assignment
@@ -62,9 +62,9 @@ pub record Fitting (program : Program) (n : ℕ) (e : Piece) : Type 0 where
 -- ---- What is given
 
 module _ (source other : Program) (n : ℕ) (maps : List TimeMap) (has : HasLoops source (Time n maps)) (same : HaveSameLoops source other) where
-  pub fitting : (e : Piece) → IsIn e (pieces other maps) → Fitting other n e
+  pub fitting : (e : Scheduled) → IsIn e (scheduled other maps) → Fitting other n e
   fitting e i =
-      let h = is_piece 0 (rounds other) (assignments other) maps (boxes other) e i in
+      let h = is_scheduled_at 0 (rounds other) (assignments other) maps (boxes other) e i in
       let here = ap (λ l. slice_get l h.at) (sym same.same_rounds) ∙ h.its_guards in
       let s = sits source h.at e.ranges (ap (λ l. slice_get l h.at) (sym (boxes_same source other same)) ∙ h.its_ranges) in
       let b = near_box (number_ranges source.params) s.around e.ranges s.is_box in
@@ -101,7 +101,7 @@ module _ (source other : Program) (n : ℕ) (maps : List TimeMap) (has : HasLoop
   ordered : IsBox known
   ordered = subst IsBox (sym same.same_ranges) (params_ordered (number_ranges source.params) (has.plain).ranges)
 
-  spans : (e : Piece) → IsIn e (pieces other maps) → Spans known n e
+  spans : (e : Scheduled) → IsIn e (scheduled other maps) → Spans known n e
   spans e i =
       let f = fitting e i in
       let a = length_append known e.ranges in
@@ -109,10 +109,10 @@ module _ (source other : Program) (n : ℕ) (maps : List TimeMap) (has : HasLoop
       let c = f.box in
       record { components = f.components; columns = subst (λ m. HaveColumns m e.times.forms) (omega (arith, a, b, c)) f.columns; ordered = f.ordered }
 
-  pub times_count : (e : Piece) → IsIn e (pieces other maps) → length (times_of known e) ≡ n
+  pub times_count : (e : Scheduled) → IsIn e (scheduled other maps) → length (times_of known e) ≡ n
   times_count e i = here_long known n ordered e (spans e i)
 
-  module _ (e : Piece) (i : IsIn e (pieces other maps)) where
+  module _ (e : Scheduled) (i : IsIn e (scheduled other maps)) where
     abbrev box : List (ℤ × ℤ)
     box = known ++ e.ranges
 

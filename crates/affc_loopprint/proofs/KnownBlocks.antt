@@ -18,7 +18,7 @@ use Rattle.affc_domain.specs.Rounds.{Round, Loop, Test, loops_in}
 use Rattle.affc_grammar.specs.Names.{is_time_name}
 use Rattle.affc_loops.specs.Between.{loops_between, body_between}
 use Rattle.affc_loops.specs.Limits.{IsSlight}
-use Rattle.affc_loops.specs.Loops.{Piece, loop_names, locals_of, box_tests, time_tests, if_any, loop_tests, guarded, moved_assign, block_of, time_name}
+use Rattle.affc_loops.specs.Loops.{Scheduled, loop_names, locals_of, box_tests, time_tests, if_any, loop_tests, guarded, moved_assign, block_of, time_name}
 use Rattle.affc_loops.specs.Trees.{name_at, form_tree}
 use Rattle.affc_loops.proofs.Guards.{names_count}
 use Rattle.affc_loops.proofs.Sizes.{Within}
@@ -141,7 +141,7 @@ pub record Inside (outer inner : Known) (more : ℕ) : Type 0 where
   pub stays : StaysFree outer inner
 
 -- the sizes of a statement's lists
-pub record Sized (first n : ℕ) (e : Piece) : Type 0 where
+pub record Sized (first n : ℕ) (e : Scheduled) : Type 0 where
   pub box : length e.ranges ≡ length (loop_names e.around)
   pub near : All (Within (2 ^ 31)) e.ranges
   pub components : length e.times.forms ≡ n
@@ -151,7 +151,7 @@ pub record Sized (first n : ℕ) (e : Piece) : Type 0 where
   pub slight : All IsSlight e.times.forms
   pub inverse_slight : All IsSlight e.times.inverse
 
-pub block_there : (first n : ℕ) (outer inner : Known) (e : Piece) → outer.numbers ≡ first → Inside outer inner n → Sized first n e → around_known outer e.around e.assignment ≡ true → HaveFreeNames e.around
+pub block_there : (first n : ℕ) (outer inner : Known) (e : Scheduled) → outer.numbers ≡ first → Inside outer inner n → Sized first n e → around_known outer e.around e.assignment ≡ true → HaveFreeNames e.around
     → stmt_known (block_of first n e) inner ≡ true
 block_there first n outer inner e count i s h free =
     let from = first + n in
@@ -207,14 +207,14 @@ loops_there known (e ∷ es) component column body calls few free m w inside =
       stays = λ v f h. i.stays v f (or_from _ _ (free_is_other component v f) h);
     })))) refl
 
-blocks_there : (first n : ℕ) (inner : Known) (es : List Piece) → ((e : Piece) → IsIn e es → stmt_known (block_of first n e) inner ≡ true) → stmts_known inner (map (block_of first n) es) ≡ true
+blocks_there : (first n : ℕ) (inner : Known) (es : List Scheduled) → ((e : Scheduled) → IsIn e es → stmt_known (block_of first n e) inner ≡ true) → stmts_known inner (map (block_of first n) es) ≡ true
 blocks_there first n inner [] h = refl
 blocks_there first n inner (e ∷ es) h = and_from _ _ (h e (inl refl)) (blocks_there first n inner es (λ f i. h f (inr i)))
 
 -- the body that is printed, where outside so much is known
-pub body_there : (first : ℕ) (outer known : Known) (ends : List (Ix × Ix)) (es : List Piece) → known.prelude ≡ true → known.numbers ≡ outer.numbers → known.arrays ≡ outer.arrays → StaysFree outer known → outer.numbers ≡ first
+pub body_there : (first : ℕ) (outer known : Known) (ends : List (Ix × Ix)) (es : List Scheduled) → known.prelude ≡ true → known.numbers ≡ outer.numbers → known.arrays ≡ outer.arrays → StaysFree outer known → outer.numbers ≡ first
     → length ends ≤ 12 → TimesFree known 0 → EndsFrom KnownAt first ends
-    → ((e : Piece) → IsIn e es → Sized first (length ends) e × (around_known outer e.around e.assignment ≡ true) × HaveFreeNames e.around)
+    → ((e : Scheduled) → IsIn e es → Sized first (length ends) e × (around_known outer e.around e.assignment ≡ true) × HaveFreeNames e.around)
     → stmts_known known (body_between first ends es) ≡ true
 body_there first outer known ends [] calls numbers arrays stays count few free w h = refl
 body_there first outer known ends (e ∷ es) calls numbers arrays stays count few free w h =

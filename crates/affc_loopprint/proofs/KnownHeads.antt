@@ -14,7 +14,7 @@ use Rattle.affc_ast.specs.declared.tree.Program.{Program}
 use Rattle.affc_trace.specs.Law.{IsIn}
 use Rattle.affc_trace.specs.Target.{numbers_in}
 use Rattle.affc_grammar.specs.Grammar.{Name}
-use Rattle.affc_loops.specs.Loops.{Piece, time_name}
+use Rattle.affc_loops.specs.Loops.{Scheduled, time_name}
 use Rattle.affc_cprint.proofs.Spelled.{off}
 use Rattle.affc_wellnamed.specs.Known.{Known, is_new, is_refused, param_name, is_number, number_count, known_behind, is_temp, param_known, params_known, temp_known, temps_known, is_function, context_known, body_known, program_known}
 use Rattle.affc_loopprint.specs.Spare.{HaveFreeNames}
@@ -100,10 +100,10 @@ temps_more prelude f qs before (d ∷ ds) h =
 
 -- ---- The program
 
-pub loops_known : (program : Program) (ends : List (Ix × Ix)) (es : List Piece) → program_known program ≡ true → length ends ≤ 12 → EndsFrom KnownAt (numbers_in program.params) ends
-    → ((e : Piece) → IsIn e es → Sized (numbers_in program.params) (length ends) e × (around_known (known_behind program.prelude program.name program.params program.temps) e.around e.assignment ≡ true) × HaveFreeNames e.around)
+pub loops_known : (program : Program) (ends : List (Ix × Ix)) (es : List Scheduled) → program_known program ≡ true → length ends ≤ 12 → EndsFrom KnownAt (numbers_in program.params) ends
+    → ((e : Scheduled) → IsIn e es → Sized (numbers_in program.params) (length ends) e × (around_known (known_behind program.prelude program.name program.params program.temps) e.around e.assignment ≡ true) × HaveFreeNames e.around)
     → program_known (loops_program program ends es) ≡ true
-loops_known program ends es h few w pieces =
+loops_known program ends es h few w each =
     let old = known_behind program.prelude program.name program.params program.temps in
     let new = known_behind true program.name program.params program.temps in
     let a = and_parts (is_function program.name) _ h in
@@ -120,4 +120,4 @@ loops_known program ends es h few w pieces =
     (and_from (temps_known true program.name program.params [] program.temps) (body_known (loops_program program ends es)) (temps_more program.prelude program.name program.params [] program.temps e.0)
     (body_there (numbers_in program.params) old new ends es refl refl refl (λ v f t. t) (numbers_are program.params) few
     (λ k l t. or_from _ _ (kept_apart k program.name free_name) (or_from _ _ (params_apart k program.prelude program.name [] program.params c.0) (temps_apart k program.prelude program.name program.params [] program.temps e.0)))
-    w pieces)))))
+    w each)))))

@@ -16,7 +16,7 @@ use Rattle.affc_trace.specs.Target.{numbers_in}
 use Rattle.affc_domain.specs.Rounds.{Round, Loop, Test, rounds}
 use Rattle.affc_loops.specs.Between.{loops_between, body_between}
 use Rattle.affc_loops.specs.Limits.{IsSlight}
-use Rattle.affc_loops.specs.Loops.{Piece, loop_names, locals_of, box_tests, time_tests, if_any, loop_tests, guarded, moved_assign, block_of, time_name}
+use Rattle.affc_loops.specs.Loops.{Scheduled, loop_names, locals_of, box_tests, time_tests, if_any, loop_tests, guarded, moved_assign, block_of, time_name}
 use Rattle.affc_loops.specs.Trees.{form_tree}
 use Rattle.affc_loops.proofs.Sizes.{Within}
 use Rattle.affc_cprint.proofs.Arms.{for_here, if_here, block_here}
@@ -119,13 +119,13 @@ guarded_plain first more from (Test conds ∷ rs) a h =
     any_plain (loop_tests first more from (Test conds)) (guarded first more from rs (moved_assign first more a ∷ [])) (tests_moved_plain first more conds ∙ p.0) (guarded_plain first more from rs a p.1)
 
 -- what is asked of a statement
-pub record Slight (e : Piece) : Type 0 where
+pub record Slight (e : Scheduled) : Type 0 where
   pub near : All (Within (2 ^ 31)) e.ranges
   pub slight : All IsSlight e.times.forms
   pub inverse_slight : All IsSlight e.times.inverse
   pub around : around_plain e.around e.assignment ≡ true
 
-block_plain : (first more : ℕ) (e : Piece) → Slight e → stmt_passes is_plain (block_of first more e) ≡ true
+block_plain : (first more : ℕ) (e : Scheduled) → Slight e → stmt_passes is_plain (block_of first more e) ≡ true
 block_plain first more e s =
     let from = first + more in
     let ls = locals_of first (loop_names e.around) e.times.inverse in
@@ -137,7 +137,7 @@ block_plain first more e s =
 
 -- ---- The program
 
-blocks_plain : (first more : ℕ) (es : List Piece) → ((e : Piece) → IsIn e es → Slight e) → all_plain (map (block_of first more) es) ≡ true
+blocks_plain : (first more : ℕ) (es : List Scheduled) → ((e : Scheduled) → IsIn e es → Slight e) → all_plain (map (block_of first more) es) ≡ true
 blocks_plain first more [] h = refl
 blocks_plain first more (e ∷ es) h = and_from _ _ (block_plain first more e (h e (inl refl))) (blocks_plain first more es (λ f i. h f (inr i)))
 
@@ -148,7 +148,7 @@ all_loops_plain (e ∷ es) component column body w h =
     (for_passes (time_name component) e.0 LessEqual e.1 (loops_between es (suc component) body)
     ∙ and_from _ _ w.0 (and_from _ _ w.1 (all_loops_plain es (suc component) (suc column) body w.2 h))) refl
 
-body_plain : (first : ℕ) (ends : List (Ix × Ix)) (es : List Piece) → EndsFrom PlainAt first ends → ((e : Piece) → IsIn e es → Slight e) → all_plain (body_between first ends es) ≡ true
+body_plain : (first : ℕ) (ends : List (Ix × Ix)) (es : List Scheduled) → EndsFrom PlainAt first ends → ((e : Scheduled) → IsIn e es → Slight e) → all_plain (body_between first ends es) ≡ true
 body_plain first ends [] w h = refl
 body_plain first ends (e ∷ es) w h = all_loops_plain ends 0 first _ w (blocks_plain first (length ends) (e ∷ es) h)
 
@@ -156,8 +156,8 @@ body_plain first ends (e ∷ es) w h = all_loops_plain ends 0 first _ w (blocks_
 pub body_passes : (program : Program) → program_passes is_plain program ≡ true → all_plain program.body ≡ true
 body_passes program h = (and_parts ((list_all (compare_passes is_plain) program.context && list_all (param_passes is_plain) program.params) && list_all (decl_passes is_plain) program.temps) (all_plain program.body) h).1
 
-pub loops_pass : (program : Program) (ends : List (Ix × Ix)) (es : List Piece) → program_passes is_plain program ≡ true → EndsFrom PlainAt (numbers_in program.params) ends → ((e : Piece) → IsIn e es → Slight e)
+pub loops_pass : (program : Program) (ends : List (Ix × Ix)) (es : List Scheduled) → program_passes is_plain program ≡ true → EndsFrom PlainAt (numbers_in program.params) ends → ((e : Scheduled) → IsIn e es → Slight e)
     → program_passes is_plain (loops_program program ends es) ≡ true
-loops_pass program ends es h w pieces =
+loops_pass program ends es h w each =
     let p = and_parts ((list_all (compare_passes is_plain) program.context && list_all (param_passes is_plain) program.params) && list_all (decl_passes is_plain) program.temps) (all_plain program.body) h in
-    and_from _ _ p.0 (body_plain (numbers_in program.params) ends es w pieces)
+    and_from _ _ p.0 (body_plain (numbers_in program.params) ends es w each)

@@ -17,7 +17,7 @@ use Rattle.affc_loopprint.proofs.reprint.Rows.{under_more, under_both, under_tok
 use Rattle.affc_loopprint.proofs.reprint.Values.{all_tokens, all_deep}
 use Rattle.affc_loopprint.proofs.reprint.Statements.{numbers_of, total, AtMost, most_both}
 use Rattle.affc_loops.specs.Trees.{name_at, number, form_tree}
-use Rattle.affc_loops.specs.Loops.{Piece, loop_names, locals_of, box_tests, time_tests, if_any, guarded, moved_assign, block_of}
+use Rattle.affc_loops.specs.Loops.{Scheduled, loop_names, locals_of, box_tests, time_tests, if_any, guarded, moved_assign, block_of}
 use Rattle.affc_loopprint.specs.Short.{IsShort}
 use Rattle.affc_loopprint.proofs.Fitting.{Fitting}
 use Rattle.affc_loopprint.proofs.ShapeForms.{Few, form_few, number_few}
@@ -90,21 +90,21 @@ inner = record { tokens = 160000; run = 32000; depth = 239; items = 38 }
 abbrev pub one_block : Numbers
 one_block = record { tokens = 161470; run = 32000; depth = 242; items = 40 }
 
-block_most : (first more : ℕ) (e : Piece) (ls : List Local) (body : List Stmt) (m n : Numbers) → AtMost (numbers_of (block_head true ls)) m → AtMost (total (printed body)) n
+block_most : (first more : ℕ) (e : Scheduled) (ls : List Local) (body : List Stmt) (m n : Numbers) → AtMost (numbers_of (block_head true ls)) m → AtMost (total (printed body)) n
     → AtMost (numbers_of (stmt_shape true (Block ls body))) (record { tokens = m.tokens + n.tokens + 1; run = max m.run n.run; depth = max m.depth n.depth + 1; items = m.items + n.items })
 block_most first more e ls body m n h k =
     subst (λ s. AtMost (numbers_of s) (record { tokens = m.tokens + n.tokens + 1; run = max m.run n.run; depth = max m.depth n.depth + 1; items = m.items + n.items })) (sym (block_here (stmt_step true) ls body))
     (closed_most (block_head true ls) m (printed body) n h k)
 
 module _ (other : Program) (n : ℕ) (short : IsShort other) (numbers : numbers_in other.params ≤ 4) (few : n ≤ 12) where
-  inner_most : (first more from : ℕ) (e : Piece) → Fitting other n e → AtMost (total (printed (guarded first more from e.around (moved_assign first more e.assignment ∷ [])))) inner
+  inner_most : (first more from : ℕ) (e : Scheduled) → Fitting other n e → AtMost (total (printed (guarded first more from e.around (moved_assign first more e.assignment ∷ [])))) inner
   inner_most first more from e f =
       let k = short.statements f.at e.around e.assignment f.its_rounds f.its_assignment first more from in
       most_then _ _ _ (most_behind empty (printed (guarded first more from e.around (moved_assign first more e.assignment ∷ []))))
       (behind_total empty (printed (guarded first more from e.around (moved_assign first more e.assignment ∷ []))) inner (omega arith) (omega arith) (record { tokens = k.tokens; run = k.run; depth = k.depth; items = k.items }))
 
-  pub piece_most : (first more : ℕ) (e : Piece) → Fitting other n e → AtMost (numbers_of (stmt_shape true (block_of first more e))) one_block
-  piece_most first more e f =
+  pub scheduled_most : (first more : ℕ) (e : Scheduled) → Fitting other n e → AtMost (numbers_of (stmt_shape true (block_of first more e))) one_block
+  scheduled_most first more e f =
       let from = first + more in
       let core = guarded first more from e.around (moved_assign first more e.assignment ∷ []) in
       let timed = if_any (time_tests first from first e.times.forms) core in

@@ -15,18 +15,18 @@ use Rattle.affc_wellnamed.proofs.ShapeStatements.{Numbers, joined, none}
 use Rattle.affc_loopprint.proofs.reprint.Statements.{numbers_of, total, AtMost, most_both}
 use Rattle.affc_loopprint.proofs.reprint.Rows.{under_more}
 use Rattle.affc_loops.specs.Between.{loops_between, body_between}
-use Rattle.affc_loops.specs.Loops.{Piece, block_of, time_name}
+use Rattle.affc_loops.specs.Loops.{Scheduled, block_of, time_name}
 use Rattle.affc_loopprint.specs.Short.{head_shape, IsShort}
 use Rattle.affc_loopprint.proofs.EndCases.{EndsFrom}
 use Rattle.affc_loopprint.proofs.Fitting.{Fitting, loops_program}
 use Rattle.affc_loopprint.proofs.ShapeEnds.{EndFew}
 use Rattle.affc_loopprint.proofs.ShapeForms.{Few}
 use Rattle.affc_loopprint.proofs.ShapeRooms.{printed, closed_most}
-use Rattle.affc_loopprint.proofs.ShapeBlocks.{line_most, one_block, piece_most}
+use Rattle.affc_loopprint.proofs.ShapeBlocks.{line_most, one_block, scheduled_most}
 
 -- ---- All blocks
 
-blocks_most : (first more : ℕ) (es : List Piece) → ((e : Piece) → IsIn e es → AtMost (numbers_of (stmt_shape true (block_of first more e))) one_block)
+blocks_most : (first more : ℕ) (es : List Scheduled) → ((e : Scheduled) → IsIn e es → AtMost (numbers_of (stmt_shape true (block_of first more e))) one_block)
     → AtMost (total (printed (map (block_of first more) es))) (record { tokens = 161470 * length es; run = 32000; depth = 242; items = 40 * length es })
 blocks_most first more [] h = record { tokens = omega arith; run = omega arith; depth = omega arith; items = omega arith }
 blocks_most first more (e ∷ es) h =
@@ -79,8 +79,8 @@ loops_most (e ∷ es) component column body n w l h =
 abbrev all_blocks : Numbers
 all_blocks = record { tokens = 11343304; run = 42049; depth = 254; items = 2572 }
 
-body_most : (first : ℕ) (ends : List (Ix × Ix)) (es : List Piece) → EndsFrom (EndFew 576 71) first ends → first ≤ 4
-    → ((e : Piece) → IsIn e es → AtMost (numbers_of (stmt_shape true (block_of first (length ends) e))) one_block)
+body_most : (first : ℕ) (ends : List (Ix × Ix)) (es : List Scheduled) → EndsFrom (EndFew 576 71) first ends → first ≤ 4
+    → ((e : Scheduled) → IsIn e es → AtMost (numbers_of (stmt_shape true (block_of first (length ends) e))) one_block)
     → length ends ≤ 12 → length es ≤ 64 → AtMost (total (printed (body_between first ends es))) all_blocks
 body_most first ends [] w numbers h few count = record { tokens = omega arith; run = omega arith; depth = omega arith; items = omega arith }
 body_most first ends (e ∷ es) w numbers h few count =
@@ -90,14 +90,14 @@ body_most first ends (e ∷ es) w numbers h few count =
 
 -- ---- The program
 
-pub loops_bounded : (other : Program) → IsShort other → (n : ℕ) (ends : List (Ix × Ix)) (es : List Piece) → numbers_in other.params ≤ 4 → n ≤ 12 → length es ≤ 64 → length ends ≤ 12
-    → EndsFrom (EndFew 576 71) (numbers_in other.params) ends → ((e : Piece) → IsIn e es → Fitting other n e)
+pub loops_bounded : (other : Program) → IsShort other → (n : ℕ) (ends : List (Ix × Ix)) (es : List Scheduled) → numbers_in other.params ≤ 4 → n ≤ 12 → length es ≤ 64 → length ends ≤ 12
+    → EndsFrom (EndFew 576 71) (numbers_in other.params) ends → ((e : Scheduled) → IsIn e es → Fitting other n e)
     → is_bounded (program_shape (loops_program other ends es)) ≡ true
 loops_bounded other short n ends es numbers few count long w fits =
     let before = head_shape other in
     let head = short.head in
     let body = body_between (numbers_in other.params) ends es in
-    let inside = body_most (numbers_in other.params) ends es w numbers (λ e i. piece_most other n short numbers few (numbers_in other.params) (length ends) e (fits e i)) long count in
+    let inside = body_most (numbers_in other.params) ends es w numbers (λ e i. scheduled_most other n short numbers few (numbers_in other.params) (length ends) e (fits e i)) long count in
     let f = closed_most before (record { tokens = 5300000; run = 32000; depth = 239; items = 256 }) (printed body) all_blocks
     (record { tokens = head.tokens; run = head.run; depth = head.depth; items = head.items }) inside in
     let function = closed (all_behind before (printed body)) in

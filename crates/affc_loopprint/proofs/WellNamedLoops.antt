@@ -15,9 +15,9 @@ use Rattle.affc_grammar.specs.Reads.{WellNamed}
 use Rattle.affc_loops.specs.Between.{program_between}
 use Rattle.affc_loops.specs.Ends.{Sides, ends_of}
 use Rattle.affc_loops.specs.Laws.{HasLoops, HaveSameLoops}
-use Rattle.affc_loops.specs.Loops.{Piece, boxes, pieces_from, pieces}
-use Rattle.affc_loops.proofs.LoopLaws.{few}
-use Rattle.affc_loops.proofs.Pieces.{numbers_are}
+use Rattle.affc_loops.specs.Loops.{Scheduled, boxes, scheduled_from, scheduled}
+use Rattle.affc_loops.proofs.BetweenLaws.{few}
+use Rattle.affc_loops.proofs.Scheduled.{numbers_are}
 use Rattle.affc_cprint.specs.Forms.{program_passes}
 use Rattle.affc_wellnamed.specs.Known.{program_known}
 use Rattle.affc_wellnamed.specs.Plain.{is_plain}
@@ -43,28 +43,28 @@ pub kept : (program : Program) → program_known program ≡ true → program_pa
 kept program a b c d = kept_is_well_named program (and_from (program_known program) _ a (and_from (program_passes is_plain program) _ b (and_from (program_fits program) _ c d)))
 
 -- at most as many statements as the program has
-few_pieces : (k : ℕ) (rss : List (List Round)) (as' : List Assignment) (ms : List TimeMap) (boxes : List (Option (List (ℤ × ℤ)))) → length (pieces_from k rss as' ms boxes) ≤ length rss
-few_pieces k [] as' ms boxes = omega arith
-few_pieces k (rs ∷ rss) [] ms boxes = omega arith
-few_pieces k (rs ∷ rss) (a ∷ as') [] boxes = omega arith
-few_pieces k (rs ∷ rss) (a ∷ as') (m ∷ ms) [] = omega arith
-few_pieces k (rs ∷ rss) (a ∷ as') (m ∷ ms) (Some box ∷ boxes) = let h = few_pieces (suc k) rss as' ms boxes in omega (arith, h)
-few_pieces k (rs ∷ rss) (a ∷ as') (m ∷ ms) (None ∷ boxes) = let h = few_pieces (suc k) rss as' ms boxes in omega (arith, h)
+few_scheduled : (k : ℕ) (rss : List (List Round)) (as' : List Assignment) (ms : List TimeMap) (boxes : List (Option (List (ℤ × ℤ)))) → length (scheduled_from k rss as' ms boxes) ≤ length rss
+few_scheduled k [] as' ms boxes = omega arith
+few_scheduled k (rs ∷ rss) [] ms boxes = omega arith
+few_scheduled k (rs ∷ rss) (a ∷ as') [] boxes = omega arith
+few_scheduled k (rs ∷ rss) (a ∷ as') (m ∷ ms) [] = omega arith
+few_scheduled k (rs ∷ rss) (a ∷ as') (m ∷ ms) (Some box ∷ boxes) = let h = few_scheduled (suc k) rss as' ms boxes in omega (arith, h)
+few_scheduled k (rs ∷ rss) (a ∷ as') (m ∷ ms) (None ∷ boxes) = let h = few_scheduled (suc k) rss as' ms boxes in omega (arith, h)
 
 module _ (source other : Program) (n : ℕ) (maps : List TimeMap) (rows : List (List Sides)) (has : HasLoops source (Time n maps)) (same : HaveSameLoops source other) (spare : IsSpare other)
-    (printable : ArePrintableOfEach (numbers_in other.params) n (pieces other maps) rows) where
+    (printable : ArePrintableOfEach (numbers_in other.params) n (scheduled other maps) rows) where
   abbrev first : ℕ
   first = numbers_in other.params
 
-  abbrev es : List Piece
-  es = pieces other maps
+  abbrev es : List Scheduled
+  es = scheduled other maps
 
   abbrev ends : List (Ix × Ix)
   ends = ends_of other maps rows
 
   statements : length es ≤ 64
   statements =
-      let a = few_pieces 0 (rounds other) (assignments other) maps (boxes other) in
+      let a = few_scheduled 0 (rounds other) (assignments other) maps (boxes other) in
       let b = ap length same.same_rounds in
       let c = rounds_of_each source in
       let d = has.plain.few_assignments in
@@ -77,7 +77,7 @@ module _ (source other : Program) (n : ℕ) (maps : List TimeMap) (rows : List (
       let c = has.plain.few_numbers in
       omega (arith, a, b, c)
 
-  long : (e : Piece) → IsIn e es → length ends ≡ n
+  long : (e : Scheduled) → IsIn e es → length ends ≡ n
   long e i = ends_long first n (number_ranges other.params) es rows printable (times_count source other n maps has same) e i
 
   low : length ends ≤ 12
@@ -90,10 +90,10 @@ module _ (source other : Program) (n : ℕ) (maps : List TimeMap) (rows : List (
   all_ends_have : (F : ℕ → Ix → Type 0) (P : ℕ → ℕ → ℕ → Ix → Type 0) → EndCases first F P → EndsFrom (P 576 71) first ends
   all_ends_have F P c = all_have first F P c n (number_ranges other.params) es rows printable statements (times_fit source other n maps has same)
 
-  abbrev Fit : Piece → Type 0
+  abbrev Fit : Scheduled → Type 0
   Fit e = Fitting other n e
 
-  sized : (e : Piece) → IsIn e es → Sized first (length ends) e
+  sized : (e : Scheduled) → IsIn e es → Sized first (length ends) e
   sized e i =
       let f : Fit e = fitting source other n maps has same e i in
       subst (λ m. Sized first m e) (sym (long e i)) (record {
@@ -107,7 +107,7 @@ module _ (source other : Program) (n : ℕ) (maps : List TimeMap) (rows : List (
         inverse_slight = f.inverse_slight;
       })
 
-  slight : (e : Piece) → IsIn e es → Slight e
+  slight : (e : Scheduled) → IsIn e es → Slight e
   slight e i =
       let f : Fit e = fitting source other n maps has same e i in
       record { near = f.near; slight = f.slight; inverse_slight = f.inverse_slight; around = all_around other (body_passes other spare.plain) f.at e.around e.assignment f.its_rounds f.its_assignment }

@@ -14,7 +14,7 @@ use Rattle.affc_trace.specs.Law.{IsIn}
 use Rattle.affc_trace.specs.Target.{numbers_in}
 use Rattle.affc_domain.specs.Rounds.{Round, Loop, Test, rounds}
 use Rattle.affc_loops.specs.Between.{loops_between, body_between}
-use Rattle.affc_loops.specs.Loops.{Piece, loop_names, locals_of, box_tests, time_tests, if_any, loop_tests, guarded, moved_assign, block_of, time_name}
+use Rattle.affc_loops.specs.Loops.{Scheduled, loop_names, locals_of, box_tests, time_tests, if_any, loop_tests, guarded, moved_assign, block_of, time_name}
 use Rattle.affc_grammar.specs.Limits.{wide_limits}
 use Rattle.affc_cprint.proofs.Arms.{for_here, if_here, block_here}
 use Rattle.affc_cprint.proofs.ReadBackValues.{Each}
@@ -105,7 +105,7 @@ guarded_light s l first more from (Test conds ∷ rs) body h = any_light s l (lo
 assign_light : (first more : ℕ) (a : Assignment) → is_crowded a ≡ false → IsLight 1 0 (work (moved_assign first more a))
 assign_light first more a h = record { few = omega arith; low = omega arith; free = ap (λ n. (one_work a.op n).crowded) (moved_value_loads first more a.value) ∙ h }
 
-block_light : (first more : ℕ) (e : Piece) → is_crowded e.assignment ≡ false → IsLight 1 0 (work (block_of first more e))
+block_light : (first more : ℕ) (e : Scheduled) → is_crowded e.assignment ≡ false → IsLight 1 0 (work (block_of first more e))
 block_light first more e h =
     let from = first + more in
     let ls = locals_of first (loop_names e.around) e.times.inverse in
@@ -117,7 +117,7 @@ block_light first more e h =
     (any_light 1 0 (time_tests first from first e.times.forms) (guarded first more from e.around alone)
     (guarded_light 1 0 first more from e.around alone (one_light 1 0 (work (moved_assign first more e.assignment)) (assign_light first more e.assignment h)))))
 
-blocks_light : (first more s : ℕ) (a : Work) (es : List Piece) → IsLight s 0 a → ((e : Piece) → IsIn e es → is_crowded e.assignment ≡ false) → IsLight (s + length es) 0 (stmts_behind a (map (block_of first more) es))
+blocks_light : (first more s : ℕ) (a : Work) (es : List Scheduled) → IsLight s 0 a → ((e : Scheduled) → IsIn e es → is_crowded e.assignment ≡ false) → IsLight (s + length es) 0 (stmts_behind a (map (block_of first more) es))
 blocks_light first more s a [] h k = record { few = (let f = h.few in omega (arith, f)); low = h.low; free = h.free }
 blocks_light first more s a (e ∷ es) h k =
     let r = blocks_light first more (s + 1) (both a (work (block_of first more e))) es (both_light s 1 0 a (work (block_of first more e)) h (block_light first more e (k e (inl refl)))) (λ f i. k f (inr i)) in
@@ -138,7 +138,7 @@ loops_light s (e ∷ es) component body h =
     (subst (IsLight s (suc (length es))) (sym (for_here stmt_step (time_name component) e.0 LessEqual e.1 inner))
     (looped_light s (length es) (stmts_behind no_work inner) (loops_light s es (suc component) body h)))
 
-body_light : (first : ℕ) (ends : List (Ix × Ix)) (es : List Piece) → ((e : Piece) → IsIn e es → is_crowded e.assignment ≡ false) → IsLight (length es) (length ends) (stmts_behind no_work (body_between first ends es))
+body_light : (first : ℕ) (ends : List (Ix × Ix)) (es : List Scheduled) → ((e : Scheduled) → IsIn e es → is_crowded e.assignment ≡ false) → IsLight (length es) (length ends) (stmts_behind no_work (body_between first ends es))
 body_light first ends [] k = record { few = omega arith; low = omega arith; free = refl }
 body_light first ends (e ∷ es) k =
     let r = blocks_light first (length ends) 0 no_work (e ∷ es) none_light k in
@@ -150,7 +150,7 @@ light_bounded s l w h a b =
     let f = h.few in let g = h.low in
     and_from _ _ (and_from _ _ (le-leb w.statements 64 (omega (arith, f, a))) (le-leb w.loops wide_limits.loops (omega (arith, g, b)))) (ap (λ c. if c then false else true) h.free)
 
-pub loops_fit : (program : Program) (ends : List (Ix × Ix)) (es : List Piece) → program_fits program ≡ true → length es ≤ 64 → length ends ≤ 12 → ((e : Piece) → IsIn e es → is_crowded e.assignment ≡ false)
+pub loops_fit : (program : Program) (ends : List (Ix × Ix)) (es : List Scheduled) → program_fits program ≡ true → length es ≤ 64 → length ends ≤ 12 → ((e : Scheduled) → IsIn e es → is_crowded e.assignment ≡ false)
     → program_fits (loops_program program ends es) ≡ true
 loops_fit program ends es h a b k =
     let p = and_parts (before_body program) _ h in

@@ -8,7 +8,7 @@ use Rattle.affc_trace.specs.Target.{numbers_in}
 use Rattle.affc_loops.specs.Between.{program_between}
 use Rattle.affc_loops.specs.Ends.{Sides, ends_of}
 use Rattle.affc_loops.specs.Laws.{HasLoops, HaveSameLoops}
-use Rattle.affc_loops.specs.Loops.{pieces}
+use Rattle.affc_loops.specs.Loops.{scheduled}
 use Rattle.affc_loopprint.specs.Rows.{ArePrintableOfEach}
 use Rattle.affc_loopprint.specs.Spare.{IsSpare}
 
@@ -24,4 +24,4 @@ SpareWellNamed = (program : Program) → IsSpare program → WellNamed program
 abbrev pub BetweenWellNamed : Type 0
 BetweenWellNamed = (source other : Program) (length_of_time : ℕ) (maps : List TimeMap) (rows : List (List Sides))
     → HasLoops source (Time length_of_time maps) → HaveSameLoops source other → IsSpare other
-    → ArePrintableOfEach (numbers_in other.params) length_of_time (pieces other maps) rows → WellNamed (program_between other maps (ends_of other maps rows))
+    → ArePrintableOfEach (numbers_in other.params) length_of_time (scheduled other maps) rows → WellNamed (program_between other maps (ends_of other maps rows))

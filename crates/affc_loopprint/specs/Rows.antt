@@ -3,7 +3,7 @@ use Rattle.std.specs.Prelude.{◌≡◌, ◌^◌, ◌≤◌, ℕ, suc, List, [],
 use Rattle.std.specs.List.{All}
 use Rattle.affc_rows.specs.Forms.{Affine}
 use Rattle.affc_loops.specs.Ends.{Sides, BoundsBelow, BoundsAbove}
-use Rattle.affc_loops.specs.Loops.{Piece}
+use Rattle.affc_loops.specs.Loops.{Scheduled}
 
 -- over the columns up to this one, with coefficients up to 2^40 in magnitude, and a constant up to 2^59
 pub record IsPrintable (column : ℕ) (row : Affine) : Type 0 where
@@ -26,7 +26,7 @@ ArePrintableFrom column [] = Unit {0}
 ArePrintableFrom column (s ∷ ss) = ArePrintable column s × ArePrintableFrom (suc column) ss
 
 -- for each statement those of each of so many components, which have the columns behind these first ones
-abbrev pub ArePrintableOfEach : (first components : ℕ) → List Piece → (rows : List (List Sides)) → Type 0
+abbrev pub ArePrintableOfEach : (first components : ℕ) → List Scheduled → (rows : List (List Sides)) → Type 0
 ArePrintableOfEach first components [] [] = Unit {0}
 ArePrintableOfEach first components [] (ss ∷ sss) = ⊥
 ArePrintableOfEach first components (e ∷ es) [] = ⊥

@@ -4,7 +4,6 @@ use Rattle.std.specs.Prelude.{slice_get, nat_le}
 use Rattle.std.specs.List.{All}
 use Rattle.std.proofs.lemmas.List.Elements.{All-nil}
 use Rattle.std.proofs.lemmas.Bool.{leb-true}
-use Rattle.affc_ast.specs.declared.tree.Instance.{Instance}
 use Rattle.affc_ast.specs.declared.tree.Ix.{Ix}
 use Rattle.affc_ast.specs.declared.tree.Program.{Program}
 use Rattle.affc_ast.specs.Fits.{within_ranges}
@@ -20,7 +19,7 @@ use Rattle.affc_trace.specs.Dataflow.{unshared}
 use Rattle.affc_trace.specs.Effects.{effect, effects}
 use Rattle.affc_trace.specs.Law.{IsIn, placed}
 use Rattle.affc_trace.specs.Laws.{RunsTarget}
-use Rattle.affc_trace.specs.Target.{target, in_order_of, time_by, time_cmp, time_of, numbers_in, loops_round, maps_within, IsScheduleOf}
+use Rattle.affc_trace.specs.Target.{target, in_order_of, time_cmp, numbers_in, loops_round, maps_within, IsScheduleOf}
 use Rattle.affc_trace.proofs.Depths.{depth}
 use Rattle.affc_trace.proofs.Ordered.{map_of}
 use Rattle.affc_trace.proofs.Composed.{compiles_source}
@@ -41,21 +40,20 @@ use Rattle.affc_safe.proofs.PlainNear.{plain_has_no_locals, plain_never_overflow
 use Rattle.affc_safe.proofs.SafeLaws.{all_read, wants_unwritten}
 use Rattle.affc_safe.proofs.Walk.{params_sit}
 use Rattle.affc_safe.proofs.Wants.{Wants, wants_ended, wants_reading}
-use Rattle.affc_loops.specs.Between.{body_between, program_between, number_ends, RunWithin, HoldTimes}
-use Rattle.affc_loops.specs.Laws.{HasLoops, HaveSameLoops, BetweenDoTarget, BetweenRunTarget, BetweenCompile}
+use Rattle.affc_loops.specs.Between.{body_between, program_between, RunWithin, HoldTimes}
+use Rattle.affc_loops.specs.Laws.{HasLoops, HaveSameLoops, BetweenDoTarget, BetweenRunTarget, BetweenCompile, RangesOfTimes}
 use Rattle.affc_loops.specs.Limits.{IsSmall}
-use Rattle.affc_loops.specs.Loops.{Piece, boxes, pieces, time_ranges}
-use Rattle.affc_loops.proofs.Boxed.{Encloses, Covers, Small, box_length}
+use Rattle.affc_loops.specs.Loops.{Scheduled, boxes, scheduled, time_ranges}
+use Rattle.affc_loops.proofs.Boxed.{Encloses, Small, box_length}
 use Rattle.affc_loops.proofs.Boxes.{sits, near_box, encloses, params_ordered}
 use Rattle.affc_loops.proofs.Does.{does}
 use Rattle.affc_loops.proofs.Guards.{see_outwards, plain_outwards}
 use Rattle.affc_loops.proofs.NestEffects.{done_by}
-use Rattle.affc_loops.proofs.NumberEnds.{ends_long, numbers_hold, numbers_run}
-use Rattle.affc_loops.proofs.Pieces.{has_piece, numbers_are}
+use Rattle.affc_loops.proofs.Scheduled.{has_scheduled, numbers_are}
 use Rattle.affc_loops.proofs.PlainAlong.{plain_along, kept_at}
 use Rattle.affc_loops.proofs.PrintedRuns.{run_all, body_wants}
-use Rattle.affc_loops.proofs.SameLoops.{boxes_same, numbers_same, within_same, schedule_same, pieces_none, times_same, encloses_same, small_same}
-use Rattle.affc_loops.proofs.Sizes.{spans, covers, is_small}
+use Rattle.affc_loops.proofs.SameLoops.{boxes_same, numbers_same, within_same, schedule_same, scheduled_none, times_same, encloses_same, small_same}
+use Rattle.affc_loops.proofs.Sizes.{spans, times_are, is_small}
 use Rattle.affc_loops.proofs.TimeRanges.{ranges_long}
 
 module _ (source : Program) (n : ℕ) (maps : List TimeMap) (h : HasLoops source (Time n maps)) where
@@ -65,13 +63,13 @@ module _ (source : Program) (n : ℕ) (maps : List TimeMap) (h : HasLoops source
   pub slight : IsTrue (maps_within maps)
   slight = (both_true (nat_le 1 n && nat_le n 12) (maps_within maps) h.limits).1
 
-  pub some_or_none : (pieces source maps ≡ []) ⊎ (length (time_ranges (number_ranges source.params) (pieces source maps)) ≡ n)
-  some_or_none = by (pieces source maps) refl
+  pub some_or_none : (scheduled source maps ≡ []) ⊎ (length (time_ranges (number_ranges source.params) (scheduled source maps)) ≡ n)
+  some_or_none = by (scheduled source maps) refl
     where
       params : List (ℤ × ℤ)
       params = number_ranges source.params
 
-      by : (es : List Piece) → pieces source maps ≡ es → (pieces source maps ≡ []) ⊎ (length (time_ranges params (pieces source maps)) ≡ n)
+      by : (es : List Scheduled) → scheduled source maps ≡ es → (scheduled source maps ≡ []) ⊎ (length (time_ranges params (scheduled source maps)) ≡ n)
       by [] e = inl e
       by (x ∷ es) e =
           inr (subst (λ fs. length (time_ranges params fs) ≡ n) (sym e)
@@ -82,20 +80,20 @@ module _ (source other : Program) (n : ℕ) (maps : List TimeMap) (h : HasLoops 
   abbrev params : List (ℤ × ℤ)
   params = number_ranges source.params
 
-  abbrev all : List Piece
-  all = pieces other maps
+  abbrev all : List Scheduled
+  all = scheduled other maps
 
   abbrev ranges : List (ℤ × ℤ)
   ranges = time_ranges (number_ranges other.params) all
 
   abbrev own_ranges : List (ℤ × ℤ)
-  own_ranges = time_ranges params (pieces source maps)
+  own_ranges = time_ranges params (scheduled source maps)
 
   ranges_are : ranges ≡ own_ranges
   ranges_are = times_same source other same maps
 
   none_or_long : (all ≡ []) ⊎ (length ranges ≡ n)
-  none_or_long = elim (some_or_none source n maps h) [ inl e ↦ inl (pieces_none source other same maps e) | inr l ↦ inr (ap length ranges_are ∙ l) ]
+  none_or_long = elim (some_or_none source n maps h) [ inl e ↦ inl (scheduled_none source other same maps e) | inr l ↦ inr (ap length ranges_are ∙ l) ]
 
   module _ (p : List ℤ) (within : IsTrue (within_ranges source.params p)) where
     pub box : InBox params p
@@ -116,16 +114,11 @@ module _ (source other : Program) (n : ℕ) (maps : List TimeMap) (h : HasLoops 
         let z : length params + 0 ≡ length p = omega arith in
         ap (λ m. see_outwards m rs) (sym z) ∙ plain_outwards (length params) 0 0 rs (rounds_are_plain source h.plain k rs (its_rounds k rs e))
 
-    pub scheduled : IsScheduleOf other (Time n maps)
-    scheduled = schedule_same source other same n maps h.scheduled
+    pub is_schedule : IsScheduleOf other (Time n maps)
+    is_schedule = schedule_same source other same n maps h.scheduled
 
     pub enclosed : Encloses other (boxes other) p
     enclosed = encloses_same source other same p (encloses source p h.plain h.near within)
-
-    covered : Covers maps (boxes other) ranges p
-    covered =
-        subst (λ bs. Covers maps bs ranges p) (sym (boxes_same source other same))
-        (subst (λ rs. Covers maps (boxes source) rs p) (sym ranges_are) (covers source n maps h.plain h.near h.scheduled (few source n maps h) (slight source n maps h) p box))
 
     sizes : length ranges ≡ n → Small other maps (boxes other) ranges p
     sizes l =
@@ -134,17 +127,17 @@ module _ (source other : Program) (n : ℕ) (maps : List TimeMap) (h : HasLoops 
         (small_same source other same maps (boxes source) own_ranges p
         (is_small source n maps h.plain h.near h.scheduled (few source n maps h) (slight source n maps h) (ap length (sym ranges_are) ∙ l) p box)))
 
-    -- without pieces there are no instances
+    -- where none is scheduled there are no instances
     none : all ≡ [] → trace other p ≡ []
     none e = no_members (trace other p) (λ a i.
         let t = (instances_turn other p a).0 i in
         let b = enclosed a i in
         let s = has_assignment other a.statement t.0 t.1 in
-        let m = map_of (numbers_in other.params) n (loops_round other) maps scheduled a.statement (length a.iterators) (depth other p a i) in
+        let m = map_of (numbers_in other.params) n (loops_round other) maps is_schedule a.statement (length a.iterators) (depth other p a i) in
         subst (IsIn (record { statement = 0 + a.statement; around = t.0; assignment = s.0; times = m.0; ranges = b.0 })) e
-        (has_piece 0 (rounds other) (assignments other) maps (boxes other) a.statement t.0 s.0 m.0 b.0 t.1 s.1 m.1 b.1))
+        (has_scheduled 0 (rounds other) (assignments other) maps (boxes other) a.statement t.0 s.0 m.0 b.0 t.1 s.1 m.1 b.1))
 
-    -- without pieces there are no ranges
+    -- where none is scheduled there are no ranges
     no_ranges : all ≡ [] → ranges ≡ []
     no_ranges e = ap (time_ranges (number_ranges other.params)) e
 
@@ -154,21 +147,6 @@ module _ (source other : Program) (n : ℕ) (maps : List TimeMap) (h : HasLoops 
       | inr l ↦ (sizes l).ranges_small
     ]
 
-    in_all_ranges : (a : Instance) → IsIn a (trace other p) → InBox ranges (time_of maps p a)
-    in_all_ranges a i =
-        let b = enclosed a i in
-        let m = map_of (numbers_in other.params) n (loops_round other) maps scheduled a.statement (length a.iterators) (depth other p a i) in
-        subst (InBox ranges) (sym (ap (λ o. time_by o (p ++ a.iterators)) m.1)) (covered a.statement b.0 m.0 b.1 m.1 a.iterators b.2)
-
-    -- ---- the ranges hold the times
-
-    pub ranges_hold_times : HoldTimes other maps (number_ends ranges) p
-    ranges_hold_times = record {
-      one_each = ends_long ranges;
-      run = numbers_run ranges p ranges_small;
-      hold = λ a i. numbers_hold ranges p (time_of maps p a) (in_all_ranges a i);
-    }
-
     module _ (ends : List (Ix × Ix)) (times : HoldTimes other maps ends p) where
       -- ---- what the loops do
 
@@ -177,7 +155,7 @@ module _ (source other : Program) (n : ℕ) (maps : List TimeMap) (h : HasLoops 
         | inl e ↦
             ap (λ es. done_by (body_between (numbers_in other.params) ends es) p) e
             ∙ sym (ap (λ is. map (placed (λ x. x) (effect other p)) (in_order_of (time_cmp maps p) is)) (none e))
-        | inr l ↦ does other n maps ends (boxes other) p scheduled numbers (times.one_each ∙ l) outwards enclosed times.hold
+        | inr l ↦ does other n maps ends (boxes other) p is_schedule numbers (times.one_each ∙ l) outwards enclosed times.hold
       ]
 
       -- ---- how they run
@@ -197,7 +175,7 @@ module _ (source other : Program) (n : ℕ) (maps : List TimeMap) (h : HasLoops 
             → Wants (run_all (body_between (numbers_in other.params) ends all) here scope u)
         statements_want (inl e) scope a b here u = subst (λ es. Wants (run_all (body_between (numbers_in other.params) ends es) here scope u)) (sym e) (wants_ended u)
         statements_want (inr l) scope a b here u =
-            body_wants other n maps ranges ends (boxes other) p scheduled numbers (times.one_each ∙ l) times.one_each outwards enclosed times.hold times.run
+            body_wants other n maps ranges ends (boxes other) p is_schedule numbers (times.one_each ∙ l) times.one_each outwards enclosed times.hold times.run
             (sizes l) (extents_at (declared_arrays other) p) along (kept_at other p safe keeps) scope a b here u
 
         pub wants : (store : Store) → Wants (meaning (program_between other maps ends) p store)
@@ -263,3 +241,6 @@ between_compile source n maps ends h times terminates legal =
     let e = terminates p store fits in
     let safe = ended_is_safe source p store e.0 plain fits e.1 in
     between_run_target source n maps ends p store h fits.ranges (times p (record { ranges = fits.ranges; context = fits.context })) safe.extents safe.within)
+
+pub ranges_of_times : RangesOfTimes
+ranges_of_times source n maps h = times_are source n maps h.plain h.near h.scheduled (few source n maps h) (slight source n maps h)

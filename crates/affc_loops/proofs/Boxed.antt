@@ -2,7 +2,7 @@
 use Rattle.std.proofs.Common.{◌≡◌, ℕ, ◌^◌, ◌<◌, ℤ, List, ◌++◌, length, Option, Some, sym}
 use Rattle.std.specs.Prelude.{slice_get}
 use Rattle.std.specs.List.{All}
-use Rattle.affc_rows.specs.Forms.{magnitude, values_of}
+use Rattle.affc_rows.specs.Forms.{magnitude}
 use Rattle.affc_system.specs.Boxes.{InBox}
 use Rattle.affc_ast.specs.declared.tree.Instance.{Instance}
 use Rattle.affc_ast.specs.declared.tree.Program.{Program}
@@ -18,12 +18,6 @@ use Rattle.affc_loops.specs.Loops.{loop_names}
 abbrev pub Encloses : Program → (boxes : List (Option (List (ℤ × ℤ)))) → (p : List ℤ) → Type 0
 Encloses program boxes p =
     (a : Instance) → IsIn a (trace program p) → (box : List (ℤ × ℤ)) × (slice_get boxes a.statement ≡ Some (Some box)) × InBox box a.iterators
-
--- At each point of a statement's box its time lies within the ranges of the components.
-abbrev pub Covers : List TimeMap → (boxes : List (Option (List (ℤ × ℤ)))) → (ranges : List (ℤ × ℤ)) → (p : List ℤ) → Type 0
-Covers maps boxes ranges p =
-    (k : ℕ) (box : List (ℤ × ℤ)) (m : TimeMap) → slice_get boxes k ≡ Some (Some box) → slice_get maps k ≡ Some m
-    → (xs : List ℤ) → InBox box xs → InBox ranges (values_of m.forms (p ++ xs))
 
 -- The ranges are small, and at each point of a box the terms of the times, and at each time those of the inverse, sum to less than 2^63.
 pub record Small (program : Program) (maps : List TimeMap) (boxes : List (Option (List (ℤ × ℤ)))) (ranges : List (ℤ × ℤ)) (p : List ℤ) : Type 0 where

@@ -26,14 +26,14 @@ use Rattle.affc_domain.specs.Rounds.{Round, rounds, turns}
 use Rattle.affc_domain.proofs.Lists.{both_true, true_both}
 use Rattle.affc_domain.proofs.PlainLemmas.{has_assignment}
 use Rattle.affc_domain.proofs.TurnLemmas.{instances_turn}
-use Rattle.affc_loops.specs.Loops.{Piece, pieces_from, loop_names, locals_of, box_tests, time_tests, guarded, if_any, moved_assign, block_of}
+use Rattle.affc_loops.specs.Loops.{Scheduled, scheduled_from, loop_names, locals_of, box_tests, time_tests, guarded, if_any, moved_assign, block_of}
 use Rattle.affc_loops.specs.Between.{LiesBetween, body_between}
 use Rattle.affc_loops.proofs.Boxed.{Encloses}
 use Rattle.affc_loops.proofs.Guarded.{guarded_does}
 use Rattle.affc_loops.proofs.Guards.{guard_tests, see_outwards}
 use Rattle.affc_loops.proofs.MovedTrees.{moved_effect}
 use Rattle.affc_loops.proofs.NestEffects.{done_by, one_if, one_block, loops_do}
-use Rattle.affc_loops.proofs.Pieces.{loops_are, shape_of, is_piece, has_piece, pieces_rise}
+use Rattle.affc_loops.proofs.Scheduled.{loops_are, shape_of, is_scheduled_at, has_scheduled, scheduled_rise}
 use Rattle.affc_loops.proofs.PointsOrder.{points, in_points, to_points, between_length, points_rise}
 use Rattle.affc_loops.proofs.ScannedOrder.{instance_at, let_through, Finds, scan_is_target}
 use Rattle.affc_loops.proofs.Tests.{locals_are, box_true, times_true, true_times, guards_hold}
@@ -68,17 +68,17 @@ values_length (f ∷ fs) q = ap suc (values_length fs q)
 -- ---- a block
 
 -- the iterators that belong to a time, and whether the tests let them run
-abbrev pub found : (p : List ℤ) → Piece → List ℤ → List ℤ
+abbrev pub found : (p : List ℤ) → Scheduled → List ℤ → List ℤ
 found p e t = values_of e.times.inverse (p ++ t)
 
-abbrev pub tests_pass : (p : List ℤ) → (more : ℕ) → Piece → List ℤ → Bool
+abbrev pub tests_pass : (p : List ℤ) → (more : ℕ) → Scheduled → List ℤ → Bool
 tests_pass p more e t =
     let from = length p + more in
     let names = p ++ (t ++ found p e t) in
     all_hold (box_tests from e.ranges) names && (all_hold (time_tests (length p) from (length p) e.times.forms) names && all_hold (guard_tests (length p) more from e.around) names)
 
 -- what a block takes
-pub record Fine (p : List ℤ) (more : ℕ) (e : Piece) : Type 0 where
+pub record Fine (p : List ℤ) (more : ℕ) (e : Scheduled) : Type 0 where
   pub names : length (loop_names e.around) ≡ length e.times.inverse
   pub wide : HaveColumns (length p + length e.times.inverse) e.times.forms
   pub inverse_wide : HaveColumns (length p + more) e.times.inverse
@@ -86,10 +86,10 @@ pub record Fine (p : List ℤ) (more : ℕ) (e : Piece) : Type 0 where
   pub outwards : see_outwards (length p) e.around ≡ true
 
 module _ (source : Program) (p : List ℤ) (more : ℕ) where
-  abbrev runs : Piece → List ℤ → Instance
-  runs = instance_at (λ (e : Piece). e.statement) (tests_pass p more) (found p)
+  abbrev runs : Scheduled → List ℤ → Instance
+  runs = instance_at (λ (e : Scheduled). e.statement) (tests_pass p more) (found p)
 
-  block_does : (e : Piece) (t : List ℤ) → Fine p more e → length t ≡ more → slice_get (assignments source) e.statement ≡ Some e.assignment
+  block_does : (e : Scheduled) (t : List ℤ) → Fine p more e → length t ≡ more → slice_get (assignments source) e.statement ≡ Some e.assignment
       → by_stmt effects_step (block_of (length p) more e) (p ++ t) ≡ map (effect source p) (if tests_pass p more e t then runs e t ∷ [] else [])
   block_does e t fine l a =
       let xs : List ℤ = found p e t in
@@ -114,33 +114,33 @@ module _ (source : Program) (p : List ℤ) (more : ℕ) where
       ∙ nested (all_hold (box_tests from e.ranges) names) (all_hold (time_tests (length p) from (length p) e.times.forms) names) (all_hold (guard_tests (length p) more from e.around) names) (effect source p (runs e t) ∷ [])
       ∙ map_if (effect source p) (tests_pass p more e t) (runs e t)
 
-  blocks_do : (es : List Piece) (t : List ℤ) → length t ≡ more → ((e : Piece) → IsIn e es → Fine p more e × (slice_get (assignments source) e.statement ≡ Some e.assignment))
-      → done_by (map (block_of (length p) more) es) (p ++ t) ≡ map (effect source p) (let_through (λ (e : Piece). e.statement) (tests_pass p more) (found p) es t)
+  blocks_do : (es : List Scheduled) (t : List ℤ) → length t ≡ more → ((e : Scheduled) → IsIn e es → Fine p more e × (slice_get (assignments source) e.statement ≡ Some e.assignment))
+      → done_by (map (block_of (length p) more) es) (p ++ t) ≡ map (effect source p) (let_through (λ (e : Scheduled). e.statement) (tests_pass p more) (found p) es t)
   blocks_do [] t l fine = refl
   blocks_do (e ∷ es) t l fine =
       let f = fine e (inl refl) in
       ap (λ m. m ++ done_by (map (block_of (length p) more) es) (p ++ t)) (block_does e t f.0 l f.1)
       ∙ ap (λ m. map (effect source p) (if tests_pass p more e t then runs e t ∷ [] else []) ++ m) (blocks_do es t l (λ g i. fine g (inr i)))
-      ∙ sym (map_append (effect source p) (if tests_pass p more e t then runs e t ∷ [] else []) (let_through (λ (e : Piece). e.statement) (tests_pass p more) (found p) es t))
+      ∙ sym (map_append (effect source p) (if tests_pass p more e t then runs e t ∷ [] else []) (let_through (λ (e : Scheduled). e.statement) (tests_pass p more) (found p) es t))
 
   -- ---- what the tests say
 
-  time_part : (e : Piece) (t xs : List ℤ) → length t ≡ more
+  times_tested : (e : Scheduled) (t xs : List ℤ) → length t ≡ more
       → all_hold (time_tests (length p) (length p + more) (length p) e.times.forms) (p ++ (t ++ xs)) ≡ all_hold (time_tests (length p) (length (p ++ t)) (length p) e.times.forms) (p ++ (t ++ xs))
-  time_part e t xs l =
+  times_tested e t xs l =
       let n : length p + more ≡ length (p ++ t) = ap (λ u. length p + u) (sym l) ∙ sym (length_append p t) in
       ap (λ u. all_hold (time_tests (length p) u (length p) e.times.forms) (p ++ (t ++ xs))) n
 
-  guard_part : (e : Piece) (t xs : List ℤ) → length t ≡ more → see_outwards (length p) e.around ≡ true → length (loop_names e.around) ≡ length xs
+  guards_tested : (e : Scheduled) (t xs : List ℤ) → length t ≡ more → see_outwards (length p) e.around ≡ true → length (loop_names e.around) ≡ length xs
       → all_hold (guard_tests (length p) more (length p + more) e.around) (p ++ (t ++ xs)) ≡ turns e.around p xs
-  guard_part e t xs l s n =
+  guards_tested e t xs l s n =
       let from : length p + more ≡ length (p ++ (t ++ [])) = ap (λ u. length p + u) (sym l) ∙ sym (length_append p t) ∙ ap (λ m. length (p ++ m)) (sym (append_nil t)) in
       ap (λ u. all_hold (guard_tests (length p) u (length p + more) e.around) (p ++ (t ++ xs))) (sym l)
       ∙ guards_hold p t e.around [] xs (length p + more) from (subst (λ m. see_outwards (length m) e.around ≡ true) (sym (append_nil p)) s) n
       ∙ ap (λ m. turns e.around m xs) (append_nil p)
 
-  box_part : (e : Piece) (t xs : List ℤ) → length t ≡ more → InBox e.ranges xs → all_hold (box_tests (length p + more) e.ranges) (p ++ (t ++ xs)) ≡ true
-  box_part e t xs l b =
+  box_tested : (e : Scheduled) (t xs : List ℤ) → length t ≡ more → InBox e.ranges xs → all_hold (box_tests (length p + more) e.ranges) (p ++ (t ++ xs)) ≡ true
+  box_tested e t xs l b =
       let from : length p + more ≡ length (p ++ t) = ap (λ u. length p + u) (sym l) ∙ sym (length_append p t) in
       ap (all_hold (box_tests (length p + more) e.ranges)) (sym (append_assoc p t xs)) ∙ box_true (p ++ t) xs e.ranges (length p + more) from b
 
@@ -166,8 +166,8 @@ module _ (source : Program) (n : ℕ) (maps : List TimeMap) (ends : List (Ix × 
   as_long : (t : List ℤ) → IsIn t times → length t ≡ more
   as_long t i = between_length ends p t (in_points ends p t i)
 
-  abbrev all : List Piece
-  all = pieces_from 0 (rounds source) (assignments source) maps boxes
+  abbrev all : List Scheduled
+  all = scheduled_from 0 (rounds source) (assignments source) maps boxes
 
   wide_of : (m : TimeMap) (loops : ℕ) → IsMapOf (numbers_in source.params) loops n m → HaveColumns (length p + length m.inverse) m.forms
   wide_of m loops shape =
@@ -184,15 +184,15 @@ module _ (source : Program) (n : ℕ) (maps : List TimeMap) (ends : List (Ix × 
       let e : columns_of m.forms - length m.inverse + length m.forms ≡ length p + more = omega arith in
       subst (λ u. HaveColumns u m.inverse) e m.inverse_shaped
 
-  -- a piece has the program's parts at its number
-  pub record Parts (e : Piece) : Type 0 where
+  -- it has what the program has at its number
+  pub record Parts (e : Scheduled) : Type 0 where
     pub its_guards : slice_get (rounds source) e.statement ≡ Some e.around
     pub its_assignment : slice_get (assignments source) e.statement ≡ Some e.assignment
     pub its_times : slice_get maps e.statement ≡ Some e.times
 
-  pub parts : (e : Piece) → IsIn e all → Parts e
+  pub parts : (e : Scheduled) → IsIn e all → Parts e
   parts e i =
-      let h = is_piece 0 (rounds source) (assignments source) maps boxes e i in
+      let h = is_scheduled_at 0 (rounds source) (assignments source) maps boxes e i in
       let k : e.statement ≡ h.at = (let q : e.statement ≡ 0 + h.at = h.number in omega arith) in
       record {
         its_guards = ap (slice_get (rounds source)) k ∙ h.its_guards;
@@ -200,7 +200,7 @@ module _ (source : Program) (n : ℕ) (maps : List TimeMap) (ends : List (Ix × 
         its_times = ap (slice_get maps) k ∙ h.its_times;
       }
 
-  pub fine : (e : Piece) → Parts e → Fine p more e
+  pub fine : (e : Scheduled) → Parts e → Fine p more e
   fine e h =
       let shape = shape_of source n maps schedule e.statement e.around e.times h.its_guards h.its_times in
       let f : length e.times.forms ≡ n = shape.components in
@@ -212,13 +212,13 @@ module _ (source : Program) (n : ℕ) (maps : List TimeMap) (ends : List (Ix × 
         outwards = outwards e.statement e.around h.its_guards;
       }
 
-  pub found_length : (e : Piece) (t : List ℤ) → Fine p more e → length (loop_names e.around) ≡ length (found p e t)
+  pub found_length : (e : Scheduled) (t : List ℤ) → Fine p more e → length (loop_names e.around) ≡ length (found p e t)
   found_length e t f = f.names ∙ sym (values_length e.times.inverse (p ++ t))
 
-  pub forms_wide : (e : Piece) (t : List ℤ) → Fine p more e → HaveColumns (length p + length (found p e t)) e.times.forms
+  pub forms_wide : (e : Scheduled) (t : List ℤ) → Fine p more e → HaveColumns (length p + length (found p e t)) e.times.forms
   forms_wide e t f = subst (λ u. HaveColumns (length p + u) e.times.forms) (sym (values_length e.times.inverse (p ++ t))) f.wide
 
-  sound : (e : Piece) (t : List ℤ) → IsIn e all → IsIn t times → tests_pass p more e t ≡ true
+  sound : (e : Scheduled) (t : List ℤ) → IsIn e all → IsIn t times → tests_pass p more e t ≡ true
       → IsIn (runs source p more e t) (trace source p) × (time_of maps p (runs source p more e t) ≡ t)
   sound e t i j pass =
       let h = parts e i in
@@ -230,12 +230,12 @@ module _ (source : Program) (n : ℕ) (maps : List TimeMap) (ends : List (Ix × 
       let b = both_true (all_hold (box_tests from e.ranges) names) (all_hold (time_tests (length p) from (length p) e.times.forms) names && all_hold (guard_tests (length p) more from e.around) names) pass in
       let c = both_true (all_hold (time_tests (length p) from (length p) e.times.forms) names) (all_hold (guard_tests (length p) more from e.around) names) b.1 in
       let time : values_of e.times.forms (p ++ xs) ≡ t =
-      true_times p t xs e.times.forms [] t (length p) (ap length (sym (append_nil p))) refl (forms_wide e t f) (f.components ∙ sym l) (sym (time_part source p more e t xs l) ∙ c.0) in
-      let run : turns e.around p xs ≡ true = sym (guard_part source p more e t xs l f.outwards (found_length e t f)) ∙ c.1 in
+      true_times p t xs e.times.forms [] t (length p) (ap length (sym (append_nil p))) refl (forms_wide e t f) (f.components ∙ sym l) (sym (times_tested source p more e t xs l) ∙ c.0) in
+      let run : turns e.around p xs ≡ true = sym (guards_tested source p more e t xs l f.outwards (found_length e t f)) ∙ c.1 in
       ((instances_turn source p (runs source p more e t)).1 (e.around, h.its_guards, run), ap (λ o. time_by o (p ++ xs)) h.its_times ∙ time)
 
   complete : (a : Instance) → IsIn a (trace source p)
-      → (e : Piece) × IsIn e all × (e.statement ≡ a.statement) × IsIn (time_of maps p a) times × (tests_pass p more e (time_of maps p a) ≡ true) × (found p e (time_of maps p a) ≡ a.iterators)
+      → (e : Scheduled) × IsIn e all × (e.statement ≡ a.statement) × IsIn (time_of maps p a) times × (tests_pass p more e (time_of maps p a) ≡ true) × (found p e (time_of maps p a) ≡ a.iterators)
   complete a i =
       let k : ℕ = a.statement in
       let t : List ℤ = time_of maps p a in
@@ -243,8 +243,8 @@ module _ (source : Program) (n : ℕ) (maps : List TimeMap) (ends : List (Ix × 
       let run = (instances_turn source p a).0 i in
       let a' = has_assignment source k run.0 run.1 in
       let m = map_of (numbers_in source.params) n (loops_round source) maps schedule k (length (loop_names run.0)) (loops_are source k run.0 run.1) in
-      let e : Piece = record { statement = 0 + k; around = run.0; assignment = a'.0; times = m.0; ranges = box.0 } in
-      let in_all : IsIn e all = has_piece 0 (rounds source) (assignments source) maps boxes k run.0 a'.0 m.0 box.0 run.1 a'.1 m.1 box.1 in
+      let e : Scheduled = record { statement = 0 + k; around = run.0; assignment = a'.0; times = m.0; ranges = box.0 } in
+      let in_all : IsIn e all = has_scheduled 0 (rounds source) (assignments source) maps boxes k run.0 a'.0 m.0 box.0 run.1 a'.1 m.1 box.1 in
       let f = fine e (parts e in_all) in
       let time : t ≡ values_of (m.0).forms (p ++ a.iterators) = ap (λ o. time_by o (p ++ a.iterators)) m.1 in
       let within : IsIn t times = to_points ends p t (hold a i) in
@@ -258,12 +258,12 @@ module _ (source : Program) (n : ℕ) (maps : List TimeMap) (ends : List (Ix × 
       let xs : List ℤ = found p e t in
       let names : List ℤ = p ++ (t ++ xs) in
       let from : ℕ = length p + more in
-      let boxes_hold = box_part source p more e t xs l (subst (InBox box.0) (sym back) box.2) in
+      let boxes_hold = box_tested source p more e t xs l (subst (InBox box.0) (sym back) box.2) in
       let times_hold : all_hold (time_tests (length p) from (length p) e.times.forms) names ≡ true =
-      time_part source p more e t xs l
+      times_tested source p more e t xs l
       ∙ times_true p t xs e.times.forms [] t (length p) (ap length (sym (append_nil p))) refl (forms_wide e t f) (ap (λ u. values_of (m.0).forms (p ++ u)) back ∙ sym time) in
       let guards_hold' : all_hold (guard_tests (length p) more from e.around) names ≡ true =
-      guard_part source p more e t xs l f.outwards (found_length e t f) ∙ ap (turns run.0 p) back ∙ run.2 in (
+      guards_tested source p more e t xs l f.outwards (found_length e t f) ∙ ap (turns run.0 p) back ∙ run.2 in (
         e,
         in_all,
         (let z : 0 + k ≡ k = omega arith in z),
@@ -273,10 +273,10 @@ module _ (source : Program) (n : ℕ) (maps : List TimeMap) (ends : List (Ix × 
         back,
       )
 
-  finds : Finds (λ (e : Piece). e.statement) (tests_pass p more) (found p) times all (trace source p) (time_of maps p)
+  finds : Finds (λ (e : Scheduled). e.statement) (tests_pass p more) (found p) times all (trace source p) (time_of maps p)
   finds = record { sound = sound; complete = complete }
 
-  body_does : (es : List Piece) → done_by (body_between (length p) ends es) p ≡ flat_map (λ t. done_by (map (block_of (length p) more) es) (p ++ t)) times
+  body_does : (es : List Scheduled) → done_by (body_between (length p) ends es) p ≡ flat_map (λ t. done_by (map (block_of (length p) more) es) (p ++ t)) times
   body_does [] = flat_none (λ t. done_by (map (block_of (length p) more) []) (p ++ t)) (λ t. refl) times
   body_does (e ∷ es) = loops_do ends 0 (map (block_of (length p) more) (e ∷ es)) p
 
@@ -285,9 +285,9 @@ module _ (source : Program) (n : ℕ) (maps : List TimeMap) (ends : List (Ix × 
   does =
       ap (λ q. done_by (body_between q ends all) p) (sym numbers)
       ∙ body_does all
-      ∙ flat_same_in (λ t. done_by (map (block_of (length p) more) all) (p ++ t)) (λ t. map (effect source p) (let_through (λ (e : Piece). e.statement) (tests_pass p more) (found p) all t)) times
+      ∙ flat_same_in (λ t. done_by (map (block_of (length p) more) all) (p ++ t)) (λ t. map (effect source p) (let_through (λ (e : Scheduled). e.statement) (tests_pass p more) (found p) all t)) times
       (λ t i. blocks_do source p more all t (as_long t i) (λ e j. let h = parts e j in (fine e h, h.its_assignment)))
-      ∙ map_flat (effect source p) (let_through (λ (e : Piece). e.statement) (tests_pass p more) (found p) all) times
-      ∙ ap (map (effect source p)) (scan_is_target source n maps p schedule numbers (λ (e : Piece). e.statement) (tests_pass p more) (found p) times all (points_rise ends p)
-      (pieces_rise 0 (rounds source) (assignments source) maps boxes) finds)
+      ∙ map_flat (effect source p) (let_through (λ (e : Scheduled). e.statement) (tests_pass p more) (found p) all) times
+      ∙ ap (map (effect source p)) (scan_is_target source n maps p schedule numbers (λ (e : Scheduled). e.statement) (tests_pass p more) (found p) times all (points_rise ends p)
+      (scheduled_rise 0 (rounds source) (assignments source) maps boxes) finds)
       ∙ ap (λ f. map f (target source (Time n maps) p)) (own_places source p)

@@ -5,21 +5,21 @@ use Rattle.affc_ast.specs.declared.tree.Ix.TheBlock.{shape-the_row-Ix-0, hidden-
 use Rattle.affc_ast.specs.declared.tree.Val.TheBlock.{shape-the_row-Val-0, hidden-the_row-Val-0}
 use Rattle.affc_ast.specs.declared.tree.Stmt.TheBlock.{shape-the_row-Stmt-0, hidden-the_row-Stmt-0}
 use Rattle.affc_loops.specs.EndExamples.{QuotientsOfRows, EndsOfCopy, CopiesBetweenEnds, EndsOfTriangle, StepsOfTriangle, EndsOfMore}
-use Rattle.affc_loops.specs.Examples.{FormsAsExpressions, CopiesBackwards, KeepsItself, LoopsOfThree, NothingToRun, TiesInOrder}
+use Rattle.affc_loops.specs.Examples.{FormsAsExpressions, TimesOfThree, LoopsOfThree, LoopsOfTwo, NothingToRun, TiesInOrder}
 
 pub forms_as_expressions : FormsAsExpressions
 forms_as_expressions = (refl, refl, refl, refl, refl, refl, refl, refl, refl)
 
-pub copies_backwards : CopiesBackwards
+pub times_of_three : TimesOfThree
 unfolding shape-the_row-Ix-0 hidden-the_row-Ix-0 shape-the_row-Val-0 hidden-the_row-Val-0 shape-the_row-Stmt-0 hidden-the_row-Stmt-0 hidden
-copies_backwards = refl
-
-pub keeps_itself : KeepsItself
-keeps_itself = refl
+times_of_three = refl
 
 pub loops_of_three : LoopsOfThree
 unfolding shape-the_row-Ix-0 hidden-the_row-Ix-0 shape-the_row-Val-0 hidden-the_row-Val-0 shape-the_row-Stmt-0 hidden-the_row-Stmt-0 hidden
 loops_of_three = refl
+
+pub loops_of_two : LoopsOfTwo
+loops_of_two = refl
 
 pub nothing_to_run : NothingToRun
 unfolding shape-the_row-Ix-0 hidden-the_row-Ix-0 shape-the_row-Val-0 hidden-the_row-Val-0 shape-the_row-Stmt-0 hidden-the_row-Stmt-0 hidden
@@ -46,7 +46,7 @@ ends_of_triangle = refl
 
 pub steps_of_triangle : StepsOfTriangle
 unfolding shape-the_row-Ix-0 hidden-the_row-Ix-0 shape-the_row-Val-0 hidden-the_row-Val-0 shape-the_row-Stmt-0 hidden-the_row-Stmt-0 hidden
-steps_of_triangle = (refl, refl)
+steps_of_triangle = refl
 
 pub ends_of_more : EndsOfMore
 ends_of_more = (refl, refl)

@@ -8,7 +8,7 @@ pub mod Guards
 pub mod Tests
 pub mod Guarded
 pub mod Boxed
-pub mod Pieces
+pub mod Scheduled
 pub mod Does
 pub mod FormReads
 pub mod MovedReads
@@ -23,8 +23,7 @@ pub mod EndTrees
 pub mod Joined
 pub mod RowEnds
 pub mod EndLists
-pub mod NumberEnds
 pub mod BetweenLaws
 pub mod RowLaws
-pub mod LoopLaws
+pub mod SourceOrder
 pub mod ExampleProofs

@@ -46,8 +46,8 @@ pub rises_flat_map : {A I : Type 0} (cmp : I → I → Ordering) (f : A → List
     → ((x : A) → IsIn x xs → Rises cmp (f x))
     → ((x y : A) (a b : I) → Earlier xs x y → IsIn a (f x) → IsIn b (f y) → cmp a b ≡ Less)
     → Rises cmp (flat_map f xs)
-rises_flat_map cmp f xs in_part parts a b e = elim (earlier_flat_map f xs a b e) [
-  | inl g ↦ in_part g.0 g.1 a b g.2
+rises_flat_map cmp f xs inside parts a b e = elim (earlier_flat_map f xs a b e) [
+  | inl g ↦ inside g.0 g.1 a b g.2
   | inr g ↦ parts g.0 g.1 a b g.2 g.3 g.4
 ]
 

@@ -36,7 +36,7 @@ use Rattle.affc_safe.proofs.PlainReads.{small_is_int64}
 use Rattle.affc_safe.proofs.Walk.{AllWithin, Wanting, assign_case, done_or_wants}
 use Rattle.affc_safe.proofs.Wants.{Wants, wants_ended, wants_then, wants_reading, wants_if, wants_turns, ReadableAll, conditions_read}
 use Rattle.affc_loops.specs.Limits.{IsSmall}
-use Rattle.affc_loops.specs.Loops.{Piece, pieces_from, loop_names, locals_of, box_tests, time_tests, guarded, if_any, moved_assign, block_of, time_name}
+use Rattle.affc_loops.specs.Loops.{Scheduled, scheduled_from, loop_names, locals_of, box_tests, time_tests, guarded, if_any, moved_assign, block_of, time_name}
 use Rattle.affc_loops.specs.Between.{LiesBetween, RunWithin, loops_between, body_between}
 use Rattle.affc_loops.specs.Trees.{name_at, moved, moved_compare, moved_value}
 use Rattle.affc_loops.proofs.Boxed.{Encloses, Small, box_length}
@@ -44,7 +44,7 @@ use Rattle.affc_loops.proofs.Does.{Fine, parts, fine, values_length}
 use Rattle.affc_loops.proofs.Guards.{guard_tests, see_outwards}
 use Rattle.affc_loops.proofs.MovedReads.{all_readable_move, value_moves}
 use Rattle.affc_loops.proofs.MovedTrees.{moved_are, moved_loads}
-use Rattle.affc_loops.proofs.Pieces.{is_piece}
+use Rattle.affc_loops.proofs.Scheduled.{is_scheduled_at}
 use Rattle.affc_loops.proofs.PointsOrder.{in_numbers}
 use Rattle.affc_loops.proofs.Tests.{all_append, guards_hold}
 use Rattle.affc_loops.proofs.TestReads.{Inner, locals_read, box_reads, true_box, times_read, guards_read}
@@ -59,7 +59,7 @@ if_wants : (conds : List Compare) (body : List Stmt) (scope : Scope) → Readabl
     → (all_hold conds scope.names ≡ true → (here : Position) (t : State) → Wants (run_all body here scope t)) → (here : Position) (t : State) → Wants (run_all (if_any conds body) here scope t)
 if_wants [] body scope r h here t = h refl here t
 if_wants (c ∷ cs) body scope r h here t =
-    subst (λ part. Wants (in_order (part ∷ []) here scope t)) (sym (if_here stmt_step (c ∷ cs) body))
+    subst (λ built. Wants (in_order (built ∷ []) here scope t)) (sym (if_here stmt_step (c ∷ cs) body))
     (wants_then _ _
     (wants_reading (conditions (c ∷ cs) (here.node + 1) scope.names) (all_hold (c ∷ cs) scope.names) t _ (conditions_read (c ∷ cs) scope.names (here.node + 1) r)
     (wants_if (all_hold (c ∷ cs) scope.names) _ t (λ e. h e _ t)))
@@ -93,7 +93,7 @@ block_wants : (locals : List Local) (body : List Stmt) (here : Position) (scope 
     → ((i : Scope) → i.names ≡ names → i.extents ≡ scope.extents → (here : Position) (t : State) → Wants (run_all body here i t)) → Wants ((denotation_of (Block locals body)).run here scope t)
 block_wants locals body here scope names t r h =
     let l = r (here.node + 1) in
-    subst (λ part. Wants (part.run here scope t)) (sym (block_here stmt_step locals body))
+    subst (λ built. Wants (built.run here scope t)) (sym (block_here stmt_step locals body))
     (wants_reading (with_locals locals (here.node + 1) scope) l.0 t _ l.1 (h l.0 (l.2).its_names (l.2).its_extents _ t))
 
 all_want : (body : List Stmt) (scope : Scope) → ((x : Stmt) → IsIn x body → (here : Position) (t : State) → Wants ((denotation_of x).run here scope t)) → (here : Position) (t : State) → Wants (run_all body here scope t)
@@ -122,7 +122,7 @@ loops_want (r ∷ rs) (d ∷ ds) component body names extents s w h scope n e he
     let inner : List Stmt = loops_between ds (suc component) body in
     let low : ℤ = whole d.0 names in
     let high : ℤ = whole d.1 names in
-    subst (λ part. Wants (in_order (part ∷ []) here scope u)) (sym (for_here stmt_step (time_name component) d.0 LessEqual d.1 inner))
+    subst (λ built. Wants (in_order (built ∷ []) here scope u)) (sym (for_here stmt_step (time_name component) d.0 LessEqual d.1 inner))
     (wants_then _ _
     (wants_reading (index_value d.0 (here.node + 1) scope.names) low u _ (ap (index_value d.0 (here.node + 1)) n ∙ w.0 (here.node + 1))
     (wants_reading (index_value d.1 (here.node + 1 + nodes_of_ix d.0) scope.names) high u _ (ap (index_value d.1 (here.node + 1 + nodes_of_ix d.0)) n ∙ w.1 _)
@@ -164,12 +164,12 @@ moved_wants p t rest a extents kept scope n x node store here =
     ∙ kept.store)
 
 -- what a block reads, where the source reads its bounds and conditions in the box, and its assignment where they let it run
-piece_wants : (p t : List ℤ) (e : Piece) (extents : List (List ℤ)) → Fine p (length t) e
+scheduled_wants : (p t : List ℤ) (e : Scheduled) (extents : List (List ℤ)) → Fine p (length t) e
     → ((xs : List ℤ) → InBox e.ranges xs → ReadAlong e.around p xs) → ((xs : List ℤ) → turns e.around p xs ≡ true → Kept e.assignment (p ++ xs) extents)
     → All IsSmall e.ranges → length e.ranges ≡ length (loop_names e.around)
     → ((xs : List ℤ) → InBox e.ranges xs → All (λ f. magnitude f (p ++ xs) < 2 ^ 63) e.times.forms) → All (λ g. magnitude g (p ++ t) < 2 ^ 63) e.times.inverse
     → (scope : Scope) → scope.names ≡ p ++ t → scope.extents ≡ extents → (here : Position) (u : State) → Wants ((denotation_of (block_of (length p) (length t) e)).run here scope u)
-piece_wants p t e extents fine along kept ranges_small one_each times_small inverse_small scope n x here u =
+scheduled_wants p t e extents fine along kept ranges_small one_each times_small inverse_small scope n x here u =
     let xs : List ℤ = values_of e.times.inverse (p ++ t) in
     let names : List ℤ = p ++ (t ++ xs) in
     let from : ℕ = length p + length t in
@@ -210,23 +210,23 @@ module _ (source : Program) (n : ℕ) (maps : List TimeMap) (ranges : List (ℤ 
     (along : (k : ℕ) (rs : List Round) (box : List (ℤ × ℤ)) → slice_get (rounds source) k ≡ Some rs → slice_get boxes k ≡ Some (Some box) → (xs : List ℤ) → InBox box xs → ReadAlong rs p xs)
     (kept : (k : ℕ) (rs : List Round) (a : Assignment) → slice_get (rounds source) k ≡ Some rs → slice_get (assignments source) k ≡ Some a → (xs : List ℤ) → turns rs p xs ≡ true → Kept a (p ++ xs) extents)
   where
-    abbrev all : List Piece
-    all = pieces_from 0 (rounds source) (assignments source) maps boxes
+    abbrev all : List Scheduled
+    all = scheduled_from 0 (rounds source) (assignments source) maps boxes
 
-    block_at : (e : Piece) → IsIn e all → (t : List ℤ) → InBox ranges t → (scope : Scope) → scope.names ≡ p ++ t → scope.extents ≡ extents → (here : Position) (u : State)
+    block_at : (e : Scheduled) → IsIn e all → (t : List ℤ) → InBox ranges t → (scope : Scope) → scope.names ≡ p ++ t → scope.extents ≡ extents → (here : Position) (u : State)
         → Wants ((denotation_of (block_of (length p) (length ends) e)).run here scope u)
     block_at e i t b scope m x here u =
         let l : length t ≡ length ends = box_length ranges t b ∙ sym as_many in
         let h = parts source n maps ends boxes p schedule numbers components outwards encloses hold e i in
         let f = fine source n maps ends boxes p schedule numbers components outwards encloses hold e h in
-        let k = is_piece 0 (rounds source) (assignments source) maps boxes e i in
+        let k = is_scheduled_at 0 (rounds source) (assignments source) maps boxes e i in
         let fine_here : Fine p (length t) e = subst (λ q. Fine p q e) (sym l) f in
         subst (λ q. Wants ((denotation_of (block_of (length p) q e)).run here scope u)) l
-        (piece_wants p t e extents fine_here (along k.at e.around e.ranges k.its_guards k.its_ranges) (kept e.statement e.around e.assignment h.its_guards h.its_assignment)
+        (scheduled_wants p t e extents fine_here (along k.at e.around e.ranges k.its_guards k.its_ranges) (kept e.statement e.around e.assignment h.its_guards h.its_assignment)
         (small.boxes_small k.at e.ranges k.its_ranges) (small.one_each k.at e.ranges e.around k.its_ranges k.its_guards)
         (small.times_small k.at e.ranges e.times k.its_ranges k.its_times) (small.inverse_small k.at e.ranges e.times k.its_ranges k.its_times t b) scope m x here u)
 
-    each_wants : (es : List Piece) → ((e : Piece) → IsIn e es → (t : List ℤ) → InBox ranges t → (scope : Scope) → scope.names ≡ p ++ t → scope.extents ≡ extents → (here : Position) (u : State)
+    each_wants : (es : List Scheduled) → ((e : Scheduled) → IsIn e es → (t : List ℤ) → InBox ranges t → (scope : Scope) → scope.names ≡ p ++ t → scope.extents ≡ extents → (here : Position) (u : State)
         → Wants ((denotation_of (block_of (length p) (length ends) e)).run here scope u))
         → (scope : Scope) → scope.names ≡ p → scope.extents ≡ extents → (here : Position) (u : State) → Wants (run_all (body_between (length p) ends es) here scope u)
     each_wants [] h scope m x here u = wants_ended u

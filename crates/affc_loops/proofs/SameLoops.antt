@@ -13,20 +13,20 @@ use Rattle.affc_domain.specs.Rounds.{Round, rounds}
 use Rattle.affc_domain.proofs.PlainLemmas.{rounds_of_each}
 use Rattle.affc_domain.proofs.TurnLemmas.{instances_turn}
 use Rattle.affc_loops.specs.Laws.{HaveSameLoops}
-use Rattle.affc_loops.specs.Loops.{Piece, box_in, boxes, pieces_from, pieces, times_of, time_ranges, loop_names}
+use Rattle.affc_loops.specs.Loops.{Scheduled, box_in, boxes, scheduled_from, scheduled, times_of, time_ranges, loop_names}
 use Rattle.affc_loops.specs.Spans.{hulls}
 use Rattle.affc_loops.proofs.Boxed.{Encloses, Small}
-use Rattle.affc_loops.proofs.Pieces.{loops_of_rounds, numbers_are}
+use Rattle.affc_loops.proofs.Scheduled.{loops_of_rounds, numbers_are}
 
 -- ---- The same times and ranges
 
-abbrev pub AreAlike : List Piece → List Piece → Type 0
+abbrev pub AreAlike : List Scheduled → List Scheduled → Type 0
 AreAlike [] [] = Unit {0}
 AreAlike [] (f ∷ fs) = ⊥
 AreAlike (e ∷ es) [] = ⊥
 AreAlike (e ∷ es) (f ∷ fs) = (e.times ≡ f.times) × (e.ranges ≡ f.ranges) × AreAlike es fs
 
-pub alike : (k : ℕ) (rss : List (List Round)) (as' bs : List Assignment) (ms : List TimeMap) (boxes : List (Option (List (ℤ × ℤ)))) → length as' ≡ length bs → AreAlike (pieces_from k rss as' ms boxes) (pieces_from k rss bs ms boxes)
+pub alike : (k : ℕ) (rss : List (List Round)) (as' bs : List Assignment) (ms : List TimeMap) (boxes : List (Option (List (ℤ × ℤ)))) → length as' ≡ length bs → AreAlike (scheduled_from k rss as' ms boxes) (scheduled_from k rss bs ms boxes)
 alike k [] as' bs ms boxes l = tt
 alike k (rs ∷ rss) [] [] ms boxes l = tt
 alike k (rs ∷ rss) [] (b ∷ bs) ms boxes l = absurd (omega (arith, l))
@@ -36,10 +36,10 @@ alike k (rs ∷ rss) (a ∷ as') (b ∷ bs) (m ∷ ms) [] l = tt
 alike k (rs ∷ rss) (a ∷ as') (b ∷ bs) (m ∷ ms) (Some box ∷ boxes) l = (refl, refl, alike (suc k) rss as' bs ms boxes (omega (arith, l)))
 alike k (rs ∷ rss) (a ∷ as') (b ∷ bs) (m ∷ ms) (None ∷ boxes) l = alike (suc k) rss as' bs ms boxes (omega (arith, l))
 
-pub alike_times : (params : List (ℤ × ℤ)) (e f : Piece) → e.times ≡ f.times → e.ranges ≡ f.ranges → times_of params e ≡ times_of params f
+pub alike_times : (params : List (ℤ × ℤ)) (e f : Scheduled) → e.times ≡ f.times → e.ranges ≡ f.ranges → times_of params e ≡ times_of params f
 alike_times params e f t r = ap (λ (m : TimeMap). times_of params (record e { times = m })) t ∙ ap (λ b. times_of params (record e { times = f.times; ranges = b })) r
 
-alike_ranges : (params : List (ℤ × ℤ)) (es fs : List Piece) → AreAlike es fs → time_ranges params es ≡ time_ranges params fs
+alike_ranges : (params : List (ℤ × ℤ)) (es fs : List Scheduled) → AreAlike es fs → time_ranges params es ≡ time_ranges params fs
 alike_ranges params [] [] h = refl
 alike_ranges params [] (f ∷ fs) h = absurd h
 alike_ranges params (e ∷ es) [] h = absurd h
@@ -49,12 +49,12 @@ alike_ranges params (e ∷ e' ∷ es) (f ∷ []) h = absurd h.2
 alike_ranges params (e ∷ e' ∷ es) (f ∷ f' ∷ fs) h =
     ap (λ l. hulls l (time_ranges params (e' ∷ es))) (alike_times params e f h.0 h.1) ∙ ap (hulls (times_of params f)) (alike_ranges params (e' ∷ es) (f' ∷ fs) h.2)
 
-none_alike : (es fs : List Piece) → AreAlike es fs → fs ≡ [] → es ≡ []
+none_alike : (es fs : List Scheduled) → AreAlike es fs → fs ≡ [] → es ≡ []
 none_alike [] fs h e = refl
 none_alike (e ∷ es) [] h q = absurd h
 none_alike (e ∷ es) (f ∷ fs) h q = absurd (no_entries f fs q)
   where
-    no_entries : (x : Piece) (xs : List Piece) → (x ∷ xs) ≡ [] → ⊥
+    no_entries : (x : Scheduled) (xs : List Scheduled) → (x ∷ xs) ≡ [] → ⊥
     no_entries x xs e = let l = ap length e in absurd (omega (arith, l))
 
 -- ---- The ranges of the parameters alone
@@ -93,20 +93,20 @@ module _ (source other : Program) (same : HaveSameLoops source other) where
   schedule_same n maps h =
       subst (λ m. AreMapsOf m n (loops_round other) maps) (sym numbers_same) (subst (λ ls. AreMapsOf (numbers_in source.params) n ls maps) (sym loops_same) h)
 
-  pub pieces_alike : (maps : List TimeMap) → AreAlike (pieces other maps) (pieces source maps)
-  pieces_alike maps =
+  pub scheduled_alike : (maps : List TimeMap) → AreAlike (scheduled other maps) (scheduled source maps)
+  scheduled_alike maps =
       let count = rounds_of_each source in
       let counted = rounds_of_each other in
       let both = ap length same.same_rounds in
-      subst (λ rss. AreAlike (pieces_from 0 rss (assignments other) maps (boxes other)) (pieces source maps)) (sym same.same_rounds)
-      (subst (λ bs. AreAlike (pieces_from 0 (rounds source) (assignments other) maps bs) (pieces source maps)) (sym boxes_same)
+      subst (λ rss. AreAlike (scheduled_from 0 rss (assignments other) maps (boxes other)) (scheduled source maps)) (sym same.same_rounds)
+      (subst (λ bs. AreAlike (scheduled_from 0 (rounds source) (assignments other) maps bs) (scheduled source maps)) (sym boxes_same)
       (alike 0 (rounds source) (assignments other) (assignments source) maps (boxes source) (omega (arith, count, counted, both))))
 
-  pub pieces_none : (maps : List TimeMap) → pieces source maps ≡ [] → pieces other maps ≡ []
-  pieces_none maps e = none_alike (pieces other maps) (pieces source maps) (pieces_alike maps) e
+  pub scheduled_none : (maps : List TimeMap) → scheduled source maps ≡ [] → scheduled other maps ≡ []
+  scheduled_none maps e = none_alike (scheduled other maps) (scheduled source maps) (scheduled_alike maps) e
 
-  pub times_same : (maps : List TimeMap) → time_ranges (number_ranges other.params) (pieces other maps) ≡ time_ranges (number_ranges source.params) (pieces source maps)
-  times_same maps = ap (λ r. time_ranges r (pieces other maps)) same.same_ranges ∙ alike_ranges (number_ranges source.params) _ _ (pieces_alike maps)
+  pub times_same : (maps : List TimeMap) → time_ranges (number_ranges other.params) (scheduled other maps) ≡ time_ranges (number_ranges source.params) (scheduled source maps)
+  times_same maps = ap (λ r. time_ranges r (scheduled other maps)) same.same_ranges ∙ alike_ranges (number_ranges source.params) _ _ (scheduled_alike maps)
 
   pub encloses_same : (p : List ℤ) → Encloses source (boxes source) p → Encloses other (boxes other) p
   encloses_same p h a i =

@@ -21,15 +21,15 @@ use Rattle.affc_domain.specs.Plain.{IsPlain, plain_range, plain_ranges}
 use Rattle.affc_domain.specs.Ranges.{is_near, first_wide, number_ranges}
 use Rattle.affc_domain.specs.Rounds.{rounds, loops_in}
 use Rattle.affc_domain.proofs.Lists.{both_true}
-use Rattle.affc_domain.proofs.PlainLemmas.{has_assignment, rounds_are_plain, few_loops}
+use Rattle.affc_domain.proofs.PlainLemmas.{rounds_are_plain, few_loops}
 use Rattle.affc_safe.specs.Overflow.{near_ranges}
 use Rattle.affc_loops.specs.Laws.{IsTime, AreTimeRanges}
 use Rattle.affc_loops.specs.Limits.{IsSlight}
-use Rattle.affc_loops.specs.Loops.{Piece, boxes, pieces, loop_names, time_ranges}
-use Rattle.affc_loops.proofs.Boxed.{Covers, Small, box_length}
+use Rattle.affc_loops.specs.Loops.{Scheduled, boxes, scheduled, loop_names, time_ranges}
+use Rattle.affc_loops.proofs.Boxed.{Small, box_length}
 use Rattle.affc_loops.proofs.Boxes.{Sits, sits, IsNearBox, near_box, params_ordered}
 use Rattle.affc_loops.proofs.Guards.{names_count}
-use Rattle.affc_loops.proofs.Pieces.{is_piece, has_piece, shape_of, numbers_are}
+use Rattle.affc_loops.proofs.Scheduled.{is_scheduled_at, shape_of, numbers_are}
 use Rattle.affc_loops.proofs.TimeRanges.{Spans, are_ranges}
 
 -- ---- Limits as facts
@@ -171,13 +171,13 @@ all_from P (y ∷ xs) h = All-cons P y xs (h zero y refl) (all_from P xs (λ j x
 
 -- ---- The sizes of a program's loops
 
-module _ (source : Program) (n : ℕ) (maps : List TimeMap) (plain : IsPlain source) (near : first_wide source ≡ None) (scheduled : IsScheduleOf source (Time n maps)) (few : n ≤ 12)
+module _ (source : Program) (n : ℕ) (maps : List TimeMap) (plain : IsPlain source) (near : first_wide source ≡ None) (schedule : IsScheduleOf source (Time n maps)) (few : n ≤ 12)
     (slight : IsTrue (maps_within maps)) where
   abbrev params : List (ℤ × ℤ)
   params = number_ranges source.params
 
-  abbrev all : List Piece
-  all = pieces source maps
+  abbrev all : List Scheduled
+  all = scheduled source maps
 
   abbrev ranges : List (ℤ × ℤ)
   ranges = time_ranges params all
@@ -193,12 +193,12 @@ module _ (source : Program) (n : ℕ) (maps : List TimeMap) (plain : IsPlain sou
       let f : 0 + loops_in s.around ≤ 6 = few_loops (length params) 0 0 s.around (omega arith) (rounds_are_plain source plain k s.around s.its_rounds) in
       omega arith
 
-  pub spans : (e : Piece) → IsIn e all → Spans params n e
+  pub spans : (e : Scheduled) → IsIn e all → Spans params n e
   spans e i =
-      let h = is_piece 0 (rounds source) (assignments source) maps (boxes source) e i in
+      let h = is_scheduled_at 0 (rounds source) (assignments source) maps (boxes source) e i in
       let s = sits source h.at e.ranges h.its_ranges in
       let b = near_at h.at e.ranges s in
-      let shape = shape_of source n maps scheduled h.at s.around e.times s.its_rounds h.its_times in
+      let shape = shape_of source n maps schedule h.at s.around e.times s.its_rounds h.its_times in
       let c : columns_of e.times.forms ≡ numbers_in source.params + length (loop_names s.around) = shape.columns in
       let l : length e.ranges ≡ loops_in s.around = b.long in
       let q : length (loop_names s.around) ≡ loops_in s.around = names_count s.around in
@@ -209,13 +209,6 @@ module _ (source : Program) (n : ℕ) (maps : List TimeMap) (plain : IsPlain sou
 
   pub times_are : AreTimeRanges params all ranges
   times_are = are_ranges params n (params_ordered params plain.ranges) all spans
-
-  pub covers : (p : List ℤ) → InBox params p → Covers maps (boxes source) ranges p
-  covers p b k box m e f xs c =
-      let s = sits source k box e in
-      let a = has_assignment source k s.around s.its_rounds in
-      let piece : Piece = record { statement = 0 + k; around = s.around; assignment = a.0; times = m; ranges = box } in
-      times_are.hold piece (has_piece 0 (rounds source) (assignments source) maps (boxes source) k s.around a.0 m box s.its_rounds a.1 f e) p xs b c
 
   point_within : (p xs : List ℤ) (k : ℕ) (box : List (ℤ × ℤ)) → Sits source k box → InBox params p → InBox box xs → AllWithin (2 ^ 31) (p ++ xs) × (length (p ++ xs) ≤ 10)
   point_within p xs k box s b c =
@@ -236,7 +229,7 @@ module _ (source : Program) (n : ℕ) (maps : List TimeMap) (plain : IsPlain sou
 
   time_small : (component : ℕ) (x : ℤ) → IsTime params all component x → unsigned_abs x ≤ time_most
   time_small component x v =
-      let h = is_piece 0 (rounds source) (assignments source) maps (boxes source) v.0 v.1 in
+      let h = is_scheduled_at 0 (rounds source) (assignments source) maps (boxes source) v.0 v.1 in
       let at = values_at (v.0).times.forms (v.2 ++ v.3) component x v.6 in
       let m : magnitude at.0 (v.2 ++ v.3) ≤ time_most =
       all_at (λ f. magnitude f (v.2 ++ v.3) ≤ time_most) (v.0).times.forms component at.0 (times_below h.at (v.0).ranges (v.0).times h.its_ranges h.its_times v.2 v.3 v.4 v.5) at.1 in

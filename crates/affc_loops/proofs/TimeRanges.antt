@@ -10,7 +10,7 @@ use Rattle.affc_system.specs.Boxes.{IsBox, IsRange, InBox, corner}
 use Rattle.affc_system.proofs.BoxLemmas.{corner_in_box, corner_is_corner, value_least, value_greatest}
 use Rattle.affc_trace.specs.Law.{IsIn}
 use Rattle.affc_loops.specs.Laws.{IsTime, AreTimeRanges}
-use Rattle.affc_loops.specs.Loops.{Piece, times_of, time_ranges}
+use Rattle.affc_loops.specs.Loops.{Scheduled, times_of, time_ranges}
 use Rattle.affc_loops.specs.Spans.{span, hull, hulls}
 
 -- ---- Boxes side by side
@@ -139,67 +139,67 @@ hull_ends (a ∷ rs) (b ∷ ss) zero r e =
 hull_ends (a ∷ rs) (b ∷ ss) (suc k) r e =
     let h = hull_ends rs ss k r e in record { one = h.one; other = h.other; its_one = h.its_one; its_other = h.its_other; least = h.least; greatest = h.greatest }
 
--- ---- The ranges of pieces
+-- ---- The ranges of scheduled statements
 
 map_long : (box : List (ℤ × ℤ)) (fs : List Affine) → length (map (span box) fs) ≡ length fs
 map_long box [] = refl
 map_long box (f ∷ fs) = ap suc (map_long box fs)
 
 -- what the ranges take of a statement
-pub record Spans (params : List (ℤ × ℤ)) (n : ℕ) (e : Piece) : Type 0 where
+pub record Spans (params : List (ℤ × ℤ)) (n : ℕ) (e : Scheduled) : Type 0 where
   pub components : length e.times.forms ≡ n
   pub columns : HaveColumns (length (params ++ e.ranges)) e.times.forms
   pub ordered : IsBox e.ranges
 
 module _ (params : List (ℤ × ℤ)) (n : ℕ) (params_ordered : IsBox params) where
-  abbrev AllSpan : List Piece → Type 0
-  AllSpan es = (e : Piece) → IsIn e es → Spans params n e
+  abbrev AllSpan : List Scheduled → Type 0
+  AllSpan es = (e : Scheduled) → IsIn e es → Spans params n e
 
-  pub here_long : (e : Piece) → Spans params n e → length (times_of params e) ≡ n
+  pub here_long : (e : Scheduled) → Spans params n e → length (times_of params e) ≡ n
   here_long e s = map_long (params ++ e.ranges) e.times.forms ∙ s.components
 
-  pub ranges_long : (e : Piece) (es : List Piece) → AllSpan (e ∷ es) → length (time_ranges params (e ∷ es)) ≡ n
+  pub ranges_long : (e : Scheduled) (es : List Scheduled) → AllSpan (e ∷ es) → length (time_ranges params (e ∷ es)) ≡ n
   ranges_long e [] s = here_long e (s e (inl refl))
   ranges_long e (f ∷ es) s =
       let a : length (times_of params e) ≡ n = here_long e (s e (inl refl)) in
       let b : length (time_ranges params (f ∷ es)) ≡ n = ranges_long f es (λ g i. s g (inr i)) in
       hulls_long (times_of params e) (time_ranges params (f ∷ es)) (a ∙ sym b) ∙ a
 
-  as_long : (e f : Piece) (es : List Piece) → AllSpan (e ∷ f ∷ es) → length (times_of params e) ≡ length (time_ranges params (f ∷ es))
+  as_long : (e f : Scheduled) (es : List Scheduled) → AllSpan (e ∷ f ∷ es) → length (times_of params e) ≡ length (time_ranges params (f ∷ es))
   as_long e f es s = here_long e (s e (inl refl)) ∙ sym (ranges_long f es (λ g i. s g (inr i)))
 
-  pub here_holds : (e : Piece) → Spans params n e → (p xs : List ℤ) → InBox params p → InBox e.ranges xs → InBox (times_of params e) (values_of e.times.forms (p ++ xs))
+  pub here_holds : (e : Scheduled) → Spans params n e → (p xs : List ℤ) → InBox params p → InBox e.ranges xs → InBox (times_of params e) (values_of e.times.forms (p ++ xs))
   here_holds e s p xs b c = spans_hold (params ++ e.ranges) e.times.forms (p ++ xs) s.columns (box_append params e.ranges p xs b c)
 
-  holds : (es : List Piece) → AllSpan es → (e : Piece) → IsIn e es → (p xs : List ℤ) → InBox params p → InBox e.ranges xs → InBox (time_ranges params es) (values_of e.times.forms (p ++ xs))
+  holds : (es : List Scheduled) → AllSpan es → (e : Scheduled) → IsIn e es → (p xs : List ℤ) → InBox params p → InBox e.ranges xs → InBox (time_ranges params es) (values_of e.times.forms (p ++ xs))
   holds [] s e i p xs b c = absurd i
-  holds (f ∷ []) s e (inl q) p xs b c = subst (λ (g : Piece). InBox (times_of params g) (values_of e.times.forms (p ++ xs))) q (here_holds e (s e (inl q)) p xs b c)
+  holds (f ∷ []) s e (inl q) p xs b c = subst (λ (g : Scheduled). InBox (times_of params g) (values_of e.times.forms (p ++ xs))) q (here_holds e (s e (inl q)) p xs b c)
   holds (f ∷ []) s e (inr i) p xs b c = absurd i
   holds (f ∷ g ∷ es) s e (inl q) p xs b c =
       first_in_hulls (times_of params f) (time_ranges params (g ∷ es)) _ (as_long f g es s)
-      (subst (λ (h : Piece). InBox (times_of params h) (values_of e.times.forms (p ++ xs))) q (here_holds e (s e (inl q)) p xs b c))
+      (subst (λ (h : Scheduled). InBox (times_of params h) (values_of e.times.forms (p ++ xs))) q (here_holds e (s e (inl q)) p xs b c))
   holds (f ∷ g ∷ es) s e (inr i) p xs b c =
       second_in_hulls (times_of params f) (time_ranges params (g ∷ es)) _ (as_long f g es s) (holds (g ∷ es) (λ h j. s h (inr j)) e i p xs b c)
 
-  at_time : (es : List Piece) (e : Piece) → IsIn e es → (component : ℕ) (x : ℤ) → AtPoint (params ++ e.ranges) e.times.forms component x → IsTime params es component x
+  at_time : (es : List Scheduled) (e : Scheduled) → IsIn e es → (component : ℕ) (x : ℤ) → AtPoint (params ++ e.ranges) e.times.forms component x → IsTime params es component x
   at_time es e i component x a =
       let h = box_parts params e.ranges a.point a.in_box in
       (e, i, h.first, h.second, h.in_first, h.in_second, ap (λ q. slice_get (values_of e.times.forms q) component) (sym h.is) ∙ a.is)
 
-  here_ends : (es : List Piece) (e : Piece) → IsIn e es → Spans params n e → (component : ℕ) (r : ℤ × ℤ) → slice_get (times_of params e) component ≡ Some r → IsTime params es component r.0 × IsTime params es component r.1
+  here_ends : (es : List Scheduled) (e : Scheduled) → IsIn e es → Spans params n e → (component : ℕ) (r : ℤ × ℤ) → slice_get (times_of params e) component ≡ Some r → IsTime params es component r.0 × IsTime params es component r.1
   here_ends es e i s component r q =
       let t = span_ends (params ++ e.ranges) e.times.forms s.columns (ordered_append params e.ranges params_ordered s.ordered) component r q in
       (at_time es e i component r.0 t.0, at_time es e i component r.1 t.1)
 
   -- a time of some of the statements
-  of_more : (f : Piece) (es : List Piece) (component : ℕ) (x : ℤ) → IsTime params es component x → IsTime params (f ∷ es) component x
+  of_more : (f : Scheduled) (es : List Scheduled) (component : ℕ) (x : ℤ) → IsTime params es component x → IsTime params (f ∷ es) component x
   of_more f es component x t = (t.0, inr t.1, t.2, t.3, t.4, t.5, t.6)
 
-  either_time : (es : List Piece) (component : ℕ) (x a b : ℤ) → (x ≡ a) ⊎ (x ≡ b) → IsTime params es component a → IsTime params es component b → IsTime params es component x
+  either_time : (es : List Scheduled) (component : ℕ) (x a b : ℤ) → (x ≡ a) ⊎ (x ≡ b) → IsTime params es component a → IsTime params es component b → IsTime params es component x
   either_time es component x a b (inl e) s t = subst (IsTime params es component) (sym e) s
   either_time es component x a b (inr e) s t = subst (IsTime params es component) (sym e) t
 
-  ends : (es : List Piece) → AllSpan es → (component : ℕ) (r : ℤ × ℤ) → slice_get (time_ranges params es) component ≡ Some r → IsTime params es component r.0 × IsTime params es component r.1
+  ends : (es : List Scheduled) → AllSpan es → (component : ℕ) (r : ℤ × ℤ) → slice_get (time_ranges params es) component ≡ Some r → IsTime params es component r.0 × IsTime params es component r.1
   ends [] s component r q = absurd (none-some r q)
   ends (e ∷ []) s component r q = here_ends (e ∷ []) e (inl refl) (s e (inl refl)) component r q
   ends (e ∷ f ∷ es) s component r q =
@@ -211,5 +211,5 @@ module _ (params : List (ℤ × ℤ)) (n : ℕ) (params_ordered : IsBox params) 
         either_time all component r.1 h.one.1 h.other.1 h.greatest a.1 (of_more e (f ∷ es) component h.other.1 b.1),
       )
 
-  pub are_ranges : (es : List Piece) → AllSpan es → AreTimeRanges params es (time_ranges params es)
+  pub are_ranges : (es : List Scheduled) → AllSpan es → AreTimeRanges params es (time_ranges params es)
   are_ranges es s = record { hold = λ e i p xs. holds es s e i p xs; least = λ c r q. (ends es s c r q).0; greatest = λ c r q. (ends es s c r q).1 }

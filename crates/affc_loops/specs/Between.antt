@@ -1,5 +1,7 @@
--- Loops between any ends: for each component of the time a low and a high end, as expressions over the parameters and the
--- components before. The blocks in them are those of loops over ranges, and test for the rest.
+-- The program that runs a source's instances in the order of times: loops between ends and, inside, the block of each statement that
+-- can have instances. For each component of the time there is a low and a high end, as expressions over the parameters and the
+-- components before. Loops that scan the points of a polyhedron are those of Ancourt and Irigoin (1991); these may go through more,
+-- and the blocks test for the rest.
 use Rattle.std.specs.Prelude.{◌≡◌, ℕ, suc, ℤ, ◌≤ℤ◌, true, List, [], ◌∷◌, ◌++◌, length, map}
 use Rattle.affc_ast.specs.declared.tree.Instance.{Instance}
 use Rattle.affc_ast.specs.declared.tree.Ix.{Ix}
@@ -14,8 +16,7 @@ use Rattle.affc_trace.specs.Law.{IsIn}
 use Rattle.affc_trace.specs.Target.{numbers_in, time_of}
 use Rattle.affc_domain.specs.Ranges.{number_ranges}
 use Rattle.affc_safe.specs.Overflow.{IsReadable}
-use Rattle.affc_loops.specs.Loops.{Piece, pieces, time_ranges, block_of, time_name}
-use Rattle.affc_loops.specs.Trees.{number}
+use Rattle.affc_loops.specs.Loops.{Scheduled, scheduled, time_ranges, block_of, time_name}
 
 -- ---- The program
 
@@ -25,7 +26,7 @@ loops_between [] component body = body
 loops_between (e ∷ es) component body = For (time_name component) e.0 LessEqual e.1 (loops_between es (suc component) body) ∷ []
 
 -- without statements there are no loops
-abbrev pub body_between : (first : ℕ) → (ends : List (Ix × Ix)) → List Piece → List Stmt
+abbrev pub body_between : (first : ℕ) → (ends : List (Ix × Ix)) → List Scheduled → List Stmt
 body_between first ends [] = []
 body_between first ends (e ∷ es) = loops_between ends 0 (map (block_of first (length ends)) (e ∷ es))
 
@@ -35,13 +36,9 @@ program_between program maps ends = record {
   params = program.params;
   context = program.context;
   temps = program.temps;
-  body = body_between (numbers_in program.params) ends (pieces program maps);
+  body = body_between (numbers_in program.params) ends (scheduled program maps);
   prelude = true;
 }
-
--- the ends of ranges
-abbrev pub number_ends : List (ℤ × ℤ) → List (Ix × Ix)
-number_ends = map (λ range. (number range.0, number range.1))
 
 -- ---- What is asked of ends
 
@@ -70,6 +67,6 @@ RunWithin (r ∷ rs) (e ∷ es) names =
 
 -- At p the loops run through the time of each instance, and through nothing outside the ranges of all times.
 pub record HoldTimes (program : Program) (maps : List TimeMap) (ends : List (Ix × Ix)) (p : List ℤ) : Type 0 where
-  pub one_each : length ends ≡ length (time_ranges (number_ranges program.params) (pieces program maps))
-  pub run : RunWithin (time_ranges (number_ranges program.params) (pieces program maps)) ends p
+  pub one_each : length ends ≡ length (time_ranges (number_ranges program.params) (scheduled program maps))
+  pub run : RunWithin (time_ranges (number_ranges program.params) (scheduled program maps)) ends p
   pub hold : (a : Instance) → IsIn a (trace program p) → LiesBetween ends p (time_of maps p a)

@@ -13,13 +13,11 @@ use Rattle.affc_ast.specs.declared.tree.Stmt.TheVariants.{For}
 use Rattle.affc_ast.specs.declared.tree.Val.TheVariants.{Load}
 use Rattle.affc_ast.specs.Meaning.{Outcome, Ended, Stuck, meaning}
 use Rattle.affc_ast.specs.Store.{Element}
-use Rattle.affc_trace.specs.declared.schedule.Schedule.TheVariants.{Time}
 use Rattle.affc_trace.specs.declared.schedule.TimeMap.{TimeMap}
 use Rattle.affc_trace.specs.Examples.{cell}
 use Rattle.affc_trace.specs.Inverses.{column, GivesColumn}
 use Rattle.affc_loops.specs.Between.{program_between}
 use Rattle.affc_loops.specs.Ends.{Sides, least_by, greatest_by, all_ends, ends_of}
-use Rattle.affc_loops.specs.Loops.{target_program}
 use Rattle.affc_loops.specs.Examples.{lit, name, assign, n, form, backwards, copy, holding}
 
 -- ---- Quotients, over N and t0, for t1
@@ -118,12 +116,9 @@ steps_of (Stuck cause steps) = None
 abbrev elements : (array : ℕ) → List (Element × ℕ)
 elements array = flat_map (λ x. map (λ y. ((array, x ∷ y ∷ []), 5)) (pos 0 ∷ pos 1 ∷ pos 2 ∷ [])) (pos 0 ∷ pos 1 ∷ pos 2 ∷ [])
 
--- Where N is 3, t0 takes 5 turns, t1 takes 6, and six assignments run; over the ranges of all times t0 takes 17 turns and t1 153.
+-- Where N is 3, t0 takes 5 turns, t1 takes 6, and six assignments run.
 abbrev pub StepsOfTriangle : Type 0
-StepsOfTriangle =
-    let store = elements 0 ++ elements 1 in
-    (steps_of (meaning (program_between triangle (diagonals ∷ []) (ends_of triangle (diagonals ∷ []) rows_of_triangle)) (pos 3 ∷ []) store) ≡ Some 17)
-    × (steps_of (meaning (target_program triangle (Time 2 (diagonals ∷ []))) (pos 3 ∷ []) store) ≡ Some 176)
+StepsOfTriangle = steps_of (meaning (program_between triangle (diagonals ∷ []) (ends_of triangle (diagonals ∷ []) rows_of_triangle)) (pos 3 ∷ []) (elements 0 ++ elements 1)) ≡ Some 17
 
 -- ---- Several statements
 

@@ -14,7 +14,7 @@ use Rattle.affc_trace.specs.declared.schedule.TimeMap.{TimeMap}
 use Rattle.affc_trace.specs.Law.{IsIn}
 use Rattle.affc_trace.specs.Target.{numbers_in, time_of}
 use Rattle.affc_domain.specs.Ranges.{number_ranges}
-use Rattle.affc_loops.specs.Loops.{Piece, pieces, times_of}
+use Rattle.affc_loops.specs.Loops.{Scheduled, scheduled, times_of}
 use Rattle.affc_loops.specs.Trees.{number, form_tree}
 pub use Rattle.affc_rows.specs.Vocabulary.{opposite}
 
@@ -77,7 +77,7 @@ both_ends (a ∷ as') (b ∷ bs) = (Min a.0 b.0, Max a.1 b.1) ∷ both_ends as' 
 both_ends _ _ = []
 
 -- of each statement, within the ranges of its own times
-abbrev pub each_ends : (first : ℕ) → (params : List (ℤ × ℤ)) → List Piece → (rows : List (List Sides)) → List (List (Ix × Ix))
+abbrev pub each_ends : (first : ℕ) → (params : List (ℤ × ℤ)) → List Scheduled → (rows : List (List Sides)) → List (List (Ix × Ix))
 each_ends first params (e ∷ es) (ss ∷ sss) = ends_from first first ss (times_of params e) ∷ each_ends first params es sss
 each_ends first params _ _ = []
 
@@ -87,7 +87,7 @@ all_ends (x ∷ xs) = joined both_ends x xs
 
 -- the ends of a program's loops, with the rows of each statement that can have instances
 abbrev pub ends_of : Program → List TimeMap → (rows : List (List Sides)) → List (Ix × Ix)
-ends_of program maps rows = all_ends (each_ends (numbers_in program.params) (number_ranges program.params) (pieces program maps) rows)
+ends_of program maps rows = all_ends (each_ends (numbers_in program.params) (number_ranges program.params) (scheduled program maps) rows)
 
 -- ---- What is asked of rows
 
@@ -125,13 +125,13 @@ MeetAlong [] before (x ∷ xs) = ⊥
 MeetAlong (s ∷ ss) before (x ∷ xs) = All (Meets (before ++ x ∷ [])) s.0 × All (Meets (before ++ x ∷ [])) s.1 × MeetAlong ss (before ++ x ∷ []) xs
 
 -- rows of a statement for each component, where these are the ranges of all times, which hold at the times of its instances at p
-pub record AreRowsOf (program : Program) (maps : List TimeMap) (ranges : List (ℤ × ℤ)) (p : List ℤ) (e : Piece) (rows : List Sides) : Type 0 where
+pub record AreRowsOf (program : Program) (maps : List TimeMap) (ranges : List (ℤ × ℤ)) (p : List ℤ) (e : Scheduled) (rows : List Sides) : Type 0 where
   pub one_each : length rows ≡ length ranges
   pub are_sides : AreSidesFrom (length p) (number_ranges program.params ++ ranges) rows
   pub hold : (a : Instance) → IsIn a (trace program p) → a.statement ≡ e.statement → HoldFrom (length p) rows (p ++ time_of maps p a)
 
 -- for each statement
-abbrev pub AreRowsOfEach : Program → List TimeMap → (ranges : List (ℤ × ℤ)) → (p : List ℤ) → List Piece → (rows : List (List Sides)) → Type 0
+abbrev pub AreRowsOfEach : Program → List TimeMap → (ranges : List (ℤ × ℤ)) → (p : List ℤ) → List Scheduled → (rows : List (List Sides)) → Type 0
 AreRowsOfEach program maps ranges p [] [] = Unit {0}
 AreRowsOfEach program maps ranges p [] (ss ∷ sss) = ⊥
 AreRowsOfEach program maps ranges p (e ∷ es) [] = ⊥

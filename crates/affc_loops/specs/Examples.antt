@@ -1,5 +1,5 @@
 -- The loops of small programs. Each was found by hand from the rules.
-use Rattle.std.specs.Prelude.{◌≡◌, ℕ, ℤ, true, false, pos, negsuc, codes, length, List, [], ◌∷◌, Some, None, refl}
+use Rattle.std.specs.Prelude.{◌≡◌, ℕ, ℤ, true, false, pos, negsuc, codes, decimal, length, List, [], ◌∷◌, ◌++◌, Some, None, refl}
 use Rattle.std.proofs.Common.{lit≤}
 use Rattle.std.proofs.lemmas.List.Elements.{All-nil, All-cons}
 use Rattle.std.proofs.lemmas.Option.{none-some}
@@ -19,11 +19,12 @@ use Rattle.affc_ast.specs.declared.tree.Val.{Val}
 use Rattle.affc_ast.specs.declared.tree.Val.TheVariants.{Load, Const, Cast}
 use Rattle.affc_ast.specs.Meaning.{Ended, meaning}
 use Rattle.affc_ast.specs.Store.{Store}
-use Rattle.affc_trace.specs.declared.schedule.Schedule.TheVariants.{Source, Time}
 use Rattle.affc_trace.specs.declared.schedule.TimeMap.{TimeMap}
 use Rattle.affc_trace.specs.Examples.{two_columns, undone, cell}
 use Rattle.affc_trace.specs.Inverses.{column}
-use Rattle.affc_loops.specs.Loops.{time_name, target_program}
+use Rattle.affc_domain.specs.Ranges.{number_ranges}
+use Rattle.affc_loops.specs.Between.{loops_between, program_between}
+use Rattle.affc_loops.specs.Loops.{scheduled, time_ranges, time_name}
 use Rattle.affc_loops.specs.Trees.{form_tree}
 
 abbrev pub lit : ℕ → Ix
@@ -103,16 +104,7 @@ copy = record {
 abbrev pub holding : (a b c : ℕ) → Store
 holding a b c = (cell 0 0, 7) ∷ (cell 0 1, 8) ∷ (cell 0 2, 9) ∷ (cell 1 0, a) ∷ (cell 1 1, b) ∷ (cell 1 2, c) ∷ []
 
--- i is from 0 to 3, and so the time from -3 to 0: where N is 3, four turns begin, and three assignments run, the last element first.
-abbrev pub CopiesBackwards : Type 0
-CopiesBackwards = meaning (target_program copy (Time 1 (backwards ∷ []))) (pos 3 ∷ []) (holding 0 0 0)
-    ≡ Ended (record { store = holding 7 8 9; written = (cell 1 2, 9) ∷ (cell 1 1, 8) ∷ (cell 1 0, 7) ∷ []; steps = 7 })
-
--- in its own order the program is itself
-abbrev pub KeepsItself : Type 0
-KeepsItself = target_program copy Source ≡ copy
-
--- ---- All parts of a block, and a statement that is never entered
+-- ---- A whole block, and a statement that is never entered
 
 -- for N from 2 to 9:
 --   for (i = 0; i < N; i++) if (i >= 1) A[i] = 7;
@@ -139,13 +131,16 @@ block word value boxed timed bounded body = Block (record { name = word; value =
 abbrev between : Ix → Ix → Ix → List Compare
 between low x high = test low LessEqual x ∷ test x LessEqual high ∷ []
 
--- S0 at (i - N + 1), from -8 to 7; S1 at (-k), never; S2 at (-j), from -8 to 0:
+-- S0 at (i - N + 1), from -8 to 7; S1 at (-k), never; S2 at (-j), from -8 to 0
+abbrev pub TimesOfThree : Type 0
+TimesOfThree = time_ranges (number_ranges three.params) (scheduled three (late ∷ backwards ∷ backwards ∷ [])) ≡ (negsuc 7, pos 7) ∷ []
+
 --   for (affc_t0 = -8; affc_t0 <= 7; affc_t0++) {
 --     { i = affc_t0 + N - 1; if (0 <= i && i <= 8) if (affc_t0 == i - N + 1) if (0 <= i && i < N) if (i >= 1) A[i] = 7; }
 --     { j = -affc_t0; if (0 <= j && j <= 8) if (affc_t0 == -j) if (0 <= j && j <= N - 1) A[j] += (uint64_t)j; }
 --   }
 abbrev pub LoopsOfThree : Type 0
-LoopsOfThree = target_program three (Time 1 (late ∷ backwards ∷ backwards ∷ [])) ≡ record three {
+LoopsOfThree = program_between three (late ∷ backwards ∷ backwards ∷ []) ((Neg (lit 8), lit 7) ∷ []) ≡ record three {
   body =
       For (time_name 0) (Neg (lit 8)) LessEqual (lit 7) (
       block (codes "i") (Sub (Add (name 1) n) (lit 1)) (between (lit 0) (name 2) (lit 8)) (test (name 1) Equal (Add (Sub (name 2) n) (lit 1)) ∷ [])
@@ -160,6 +155,13 @@ LoopsOfThree = target_program three (Time 1 (late ∷ backwards ∷ backwards �
   prelude = true;
 }
 
+-- ---- The loops of two components
+
+-- for (affc_t0 = 0; affc_t0 <= 1; affc_t0++) for (affc_t1 = 2; affc_t1 <= affc_t0; affc_t1++)
+abbrev pub LoopsOfTwo : Type 0
+LoopsOfTwo = loops_between ((lit 0, lit 1) ∷ (lit 2, name 0) ∷ []) 0 []
+    ≡ For (codes "affc_t" ++ decimal 0) (lit 0) LessEqual (lit 1) (For (codes "affc_t" ++ decimal 1) (lit 2) LessEqual (name 0) [] ∷ []) ∷ []
+
 -- ---- No statement
 
 -- for (k = 5; k < 5; k++) A[k] = 8;
@@ -167,7 +169,7 @@ abbrev idle : Program
 idle = record three { body = For (codes "k") (lit 5) Less (lit 5) (assign 0 (name 1 ∷ []) (Const 8) ∷ []) ∷ [] }
 
 abbrev pub NothingToRun : Type 0
-NothingToRun = target_program idle (Time 1 (backwards ∷ [])) ≡ record three { body = []; prelude = true }
+NothingToRun = program_between idle (backwards ∷ []) ((lit 0, lit 1) ∷ []) ≡ record three { body = []; prelude = true }
 
 -- ---- Ties
 
@@ -195,5 +197,5 @@ twice = record {
 
 -- At one time the statements run in the order of their numbers.
 abbrev pub TiesInOrder : Type 0
-TiesInOrder = meaning (target_program twice (Time 1 (at_once ∷ at_once ∷ []))) [] ((cell 0 0, 0) ∷ [])
+TiesInOrder = meaning (program_between twice (at_once ∷ at_once ∷ []) ((lit 4, lit 4) ∷ [])) [] ((cell 0 0, 0) ∷ [])
     ≡ Ended (record { store = (cell 0 0, 9) ∷ []; written = (cell 0 0, 7) ∷ (cell 0 0, 9) ∷ []; steps = 3 })

@@ -9,7 +9,7 @@ use Rattle.affc_ast.specs.Fits.{Fits, within_ranges}
 use Rattle.affc_ast.specs.Meaning.{State, Ended, meaning}
 use Rattle.affc_ast.specs.Store.{Store}
 use Rattle.affc_trace.specs.declared.schedule.Schedule.{Schedule}
-use Rattle.affc_trace.specs.declared.schedule.Schedule.TheVariants.{Time}
+use Rattle.affc_trace.specs.declared.schedule.Schedule.TheVariants.{Source, Time}
 use Rattle.affc_trace.specs.declared.schedule.TimeMap.{TimeMap}
 use Rattle.affc_trace.specs.Dataflow.{Legal}
 use Rattle.affc_trace.specs.Effects.{effect, effects}
@@ -20,9 +20,9 @@ use Rattle.affc_domain.specs.Plain.{IsPlain}
 use Rattle.affc_domain.specs.Ranges.{first_wide, number_ranges}
 use Rattle.affc_domain.specs.Rounds.{rounds}
 use Rattle.affc_safe.specs.Safe.{HasExtents, KeepsWithin}
-use Rattle.affc_loops.specs.Between.{program_between, number_ends, IsTurn, HoldTimes}
+use Rattle.affc_loops.specs.Between.{program_between, IsTurn, HoldTimes}
 use Rattle.affc_loops.specs.Ends.{Sides, ends_of, AreSidesFrom, MeetAlong, AreRowsOfEach}
-use Rattle.affc_loops.specs.Loops.{Piece, pieces, time_ranges, target_program}
+use Rattle.affc_loops.specs.Loops.{Scheduled, scheduled, time_ranges}
 
 -- A plain program no loop of which passes 2^31, and a schedule of it within its limits.
 pub record HasLoops (source : Program) (schedule : Schedule) : Type 0 where
@@ -36,39 +36,40 @@ pub record HaveSameLoops (source other : Program) : Type 0 where
   pub same_rounds : rounds other ≡ rounds source
   pub same_ranges : number_ranges other.params ≡ number_ranges source.params
 
--- Read as whole numbers, the loops and conditions run what the target's instances do, each once and in order.
-abbrev pub LoopsDoTarget : Type 0
-LoopsDoTarget = (source : Program) (schedule : Schedule) (p : List ℤ)
-    → HasLoops source schedule → IsTrue (within_ranges source.params p)
-    → effects (target_program source schedule) p ≡ map (placed (λ x. x) (effect source p)) (target source schedule p)
+-- ---- The source's own order, in which it is the program itself
 
--- Where the source's extents are at least 1 and its accesses lie within them, the program runs so from any store: no number in
--- it leaves `int64_t` and no access lies outside, so that it is stuck, if at all, for want of a value.
-abbrev pub LoopsRunTarget : Type 0
-LoopsRunTarget = (source : Program) (schedule : Schedule) (p : List ℤ) (store : Store)
-    → HasLoops source schedule → IsTrue (within_ranges source.params p) → HasExtents source p → KeepsWithin source p
-    → RunsTarget (target_program source schedule) source schedule (λ x. x) p store
+-- Where the source's extents are at least 1 and its accesses lie within them, it runs its target from any store: no number in it
+-- leaves `int64_t` and no access lies outside, so that it is stuck, if at all, for want of a value.
+abbrev pub SourceRunsTarget : Type 0
+SourceRunsTarget = (source : Program) (p : List ℤ) (store : Store)
+    → HasLoops source Source → IsTrue (within_ranges source.params p) → HasExtents source p → KeepsWithin source p
+    → RunsTarget source source Source (λ x. x) p store
 
--- Under a legal schedule the program compiles a source that ends for all data that fit.
-abbrev pub LoopsCompile : Type 0
-LoopsCompile = (source : Program) (schedule : Schedule)
-    → HasLoops source schedule
+-- A source that ends for all data that fit compiles itself.
+abbrev pub SourceCompiles : Type 0
+SourceCompiles = (source : Program)
+    → HasLoops source Source
     → ((p : List ℤ) (store : Store) → Fits source p store → (end : State) × (meaning source p store ≡ Ended end))
-    → ((p : List ℤ) → IsInContext source p → Legal source schedule p)
-    → Compiles (target_program source schedule) source (in_target_order schedule) (λ p x. x)
+    → ((p : List ℤ) → IsInContext source p → Legal source Source p)
+    → Compiles source source (in_target_order Source) (λ p x. x)
 
--- The same of loops between any ends that hold the times.
+-- ---- Loops between any ends that hold the times
+
+-- Read as whole numbers, the loops and conditions run what the target's instances do, each once and in order.
 abbrev pub BetweenDoTarget : Type 0
 BetweenDoTarget = (source : Program) (length_of_time : ℕ) (maps : List TimeMap) (ends : List (Ix × Ix)) (p : List ℤ)
     → HasLoops source (Time length_of_time maps) → IsTrue (within_ranges source.params p) → HoldTimes source maps ends p
     → effects (program_between source maps ends) p ≡ map (placed (λ x. x) (effect source p)) (target source (Time length_of_time maps) p)
 
+-- Where the source's extents are at least 1 and its accesses lie within them, the program runs so from any store, and is stuck, if
+-- at all, for want of a value.
 abbrev pub BetweenRunTarget : Type 0
 BetweenRunTarget = (source : Program) (length_of_time : ℕ) (maps : List TimeMap) (ends : List (Ix × Ix)) (p : List ℤ) (store : Store)
     → HasLoops source (Time length_of_time maps) → IsTrue (within_ranges source.params p) → HoldTimes source maps ends p
     → HasExtents source p → KeepsWithin source p
     → RunsTarget (program_between source maps ends) source (Time length_of_time maps) (λ x. x) p store
 
+-- Under a legal schedule the program compiles a source that ends for all data that fit.
 abbrev pub BetweenCompile : Type 0
 BetweenCompile = (source : Program) (length_of_time : ℕ) (maps : List TimeMap) (ends : List (Ix × Ix))
     → HasLoops source (Time length_of_time maps)
@@ -77,39 +78,33 @@ BetweenCompile = (source : Program) (length_of_time : ℕ) (maps : List TimeMap)
     → ((p : List ℤ) → IsInContext source p → Legal source (Time length_of_time maps) p)
     → Compiles (program_between source maps ends) source (in_target_order (Time length_of_time maps)) (λ p x. x)
 
--- The ranges of all times are such ends, and the loops between them are those above.
-abbrev pub RangesAreEnds : Type 0
-RangesAreEnds = (source : Program) (length_of_time : ℕ) (maps : List TimeMap)
-    → HasLoops source (Time length_of_time maps)
-    → let ends = number_ends (time_ranges (number_ranges source.params) (pieces source maps)) in
-    (target_program source (Time length_of_time maps) ≡ program_between source maps ends)
-    × ((p : List ℤ) → IsTrue (within_ranges source.params p) → HoldTimes source maps ends p)
-
--- So are ends by rows that hold at the times of all instances.
+-- Such are ends by rows that hold at the times of all instances.
 abbrev pub RowsHoldTimes : Type 0
 RowsHoldTimes = (source : Program) (length_of_time : ℕ) (maps : List TimeMap) (rows : List (List Sides)) (p : List ℤ)
     → HasLoops source (Time length_of_time maps) → IsTrue (within_ranges source.params p)
-    → AreRowsOfEach source maps (time_ranges (number_ranges source.params) (pieces source maps)) p (pieces source maps) rows
+    → AreRowsOfEach source maps (time_ranges (number_ranges source.params) (scheduled source maps)) p (scheduled source maps) rows
     → HoldTimes source maps (ends_of source maps rows) p
 
 -- Where one statement alone can have instances, its rows hold at each turn of the loops.
 abbrev pub TurnsMeetRows : Type 0
-TurnsMeetRows = (source : Program) (maps : List TimeMap) (e : Piece) (sides : List Sides) (ranges : List (ℤ × ℤ)) (p components : List ℤ)
-    → pieces source maps ≡ e ∷ [] → length p ≡ numbers_in source.params → AreSidesFrom (length p) ranges sides
+TurnsMeetRows = (source : Program) (maps : List TimeMap) (e : Scheduled) (sides : List Sides) (ranges : List (ℤ × ℤ)) (p components : List ℤ)
+    → scheduled source maps ≡ e ∷ [] → length p ≡ numbers_in source.params → AreSidesFrom (length p) ranges sides
     → IsTurn (ends_of source maps (sides ∷ [])) p components → MeetAlong sides p components
 
+-- ---- The ranges of times
+
 -- x is this component of the time of some statement at a point of its box
-abbrev pub IsTime : (params : List (ℤ × ℤ)) → List Piece → (component : ℕ) → (x : ℤ) → Type 0
+abbrev pub IsTime : (params : List (ℤ × ℤ)) → List Scheduled → (component : ℕ) → (x : ℤ) → Type 0
 IsTime params es component x =
-    (e : Piece) × IsIn e es × (p : List ℤ) × (xs : List ℤ) × InBox params p × InBox e.ranges xs × (slice_get (values_of e.times.forms (p ++ xs)) component ≡ Some x)
+    (e : Scheduled) × IsIn e es × (p : List ℤ) × (xs : List ℤ) × InBox params p × InBox e.ranges xs × (slice_get (values_of e.times.forms (p ++ xs)) component ≡ Some x)
 
 -- The ranges hold the times at all points of the boxes, and both ends of each are such times.
-pub record AreTimeRanges (params : List (ℤ × ℤ)) (es : List Piece) (ranges : List (ℤ × ℤ)) : Type 0 where
-  pub hold : (e : Piece) → IsIn e es → (p xs : List ℤ) → InBox params p → InBox e.ranges xs → InBox ranges (values_of e.times.forms (p ++ xs))
+pub record AreTimeRanges (params : List (ℤ × ℤ)) (es : List Scheduled) (ranges : List (ℤ × ℤ)) : Type 0 where
+  pub hold : (e : Scheduled) → IsIn e es → (p xs : List ℤ) → InBox params p → InBox e.ranges xs → InBox ranges (values_of e.times.forms (p ++ xs))
   pub least : (component : ℕ) (r : ℤ × ℤ) → slice_get ranges component ≡ Some r → IsTime params es component r.0
   pub greatest : (component : ℕ) (r : ℤ × ℤ) → slice_get ranges component ≡ Some r → IsTime params es component r.1
 
 abbrev pub RangesOfTimes : Type 0
 RangesOfTimes = (source : Program) (length_of_time : ℕ) (maps : List TimeMap)
     → HasLoops source (Time length_of_time maps)
-    → AreTimeRanges (number_ranges source.params) (pieces source maps) (time_ranges (number_ranges source.params) (pieces source maps))
+    → AreTimeRanges (number_ranges source.params) (scheduled source maps) (time_ranges (number_ranges source.params) (scheduled source maps))

@@ -1,19 +1,15 @@
--- The program that runs a source's instances in the order of a schedule: loops over the ranges of the time's components and,
--- inside, a block for each statement, which finds the instance that has this time and runs it if there is one. Loops that scan
--- the points of a polyhedron are those of Ancourt and Irigoin (1991); these scan a box, and the blocks test for the rest.
-use Rattle.std.specs.Prelude.{ℕ, suc, ◌+◌, ℤ, true, codes, decimal, List, [], ◌∷◌, ◌++◌, length, Option, Some, None, map}
+-- The statements of a program that can have instances, the ranges of their times, and the block of each in the loops of a
+-- schedule, which finds the instance that has this time and runs it if there is one.
+use Rattle.std.specs.Prelude.{ℕ, suc, ◌+◌, ℤ, codes, decimal, List, [], ◌∷◌, ◌++◌, Option, Some, None, map}
 use Rattle.affc_rows.specs.Forms.{Affine}
 use Rattle.affc_ast.specs.declared.tree.Compare.{Compare}
 use Rattle.affc_ast.specs.declared.tree.Local.{Local}
 use Rattle.affc_ast.specs.declared.tree.Program.{Program}
 use Rattle.affc_ast.specs.declared.tree.Rel.TheVariants.{LessEqual, Equal}
 use Rattle.affc_ast.specs.declared.tree.Stmt.{Stmt}
-use Rattle.affc_ast.specs.declared.tree.Stmt.TheVariants.{For, If, Assign, Block}
+use Rattle.affc_ast.specs.declared.tree.Stmt.TheVariants.{If, Assign, Block}
 use Rattle.affc_ast.specs.Trace.{Assignment, assignments}
-use Rattle.affc_trace.specs.declared.schedule.Schedule.{Schedule}
-use Rattle.affc_trace.specs.declared.schedule.Schedule.TheVariants.{Source, Time}
 use Rattle.affc_trace.specs.declared.schedule.TimeMap.{TimeMap}
-use Rattle.affc_trace.specs.Target.{numbers_in}
 use Rattle.affc_domain.specs.Ranges.{Ranges, Within, number_ranges, ranges_of}
 use Rattle.affc_domain.specs.Rounds.{Round, Loop, Test, rounds}
 use Rattle.affc_loops.specs.Spans.{span, hulls}
@@ -22,7 +18,7 @@ use Rattle.affc_loops.specs.Trees.{name_at, number, form_tree, moved, moved_comp
 -- ---- The statements that can have instances
 
 -- a statement: its number, what stands round it, what it does, its times, and the range of each iterator
-pub record Piece : Type 0 where
+pub record Scheduled : Type 0 where
   pub statement : ℕ
   pub around : List Round
   pub assignment : Assignment
@@ -38,22 +34,22 @@ abbrev pub boxes : Program → List (Option (List (ℤ × ℤ)))
 boxes program = map (λ rs. box_in (ranges_of (number_ranges program.params) rs)) (rounds program)
 
 -- from statement number k on; one without ranges can have no instance
-abbrev pub pieces_from : (k : ℕ) → List (List Round) → List Assignment → List TimeMap → List (Option (List (ℤ × ℤ))) → List Piece
-pieces_from k (rs ∷ rss) (a ∷ as') (m ∷ ms) (Some box ∷ bs) = record { statement = k; around = rs; assignment = a; times = m; ranges = box } ∷ pieces_from (suc k) rss as' ms bs
-pieces_from k (rs ∷ rss) (a ∷ as') (m ∷ ms) (None ∷ bs) = pieces_from (suc k) rss as' ms bs
-pieces_from k _ _ _ _ = []
+abbrev pub scheduled_from : (k : ℕ) → List (List Round) → List Assignment → List TimeMap → List (Option (List (ℤ × ℤ))) → List Scheduled
+scheduled_from k (rs ∷ rss) (a ∷ as') (m ∷ ms) (Some box ∷ bs) = record { statement = k; around = rs; assignment = a; times = m; ranges = box } ∷ scheduled_from (suc k) rss as' ms bs
+scheduled_from k (rs ∷ rss) (a ∷ as') (m ∷ ms) (None ∷ bs) = scheduled_from (suc k) rss as' ms bs
+scheduled_from k _ _ _ _ = []
 
-abbrev pub pieces : Program → List TimeMap → List Piece
-pieces program maps = pieces_from 0 (rounds program) (assignments program) maps (boxes program)
+abbrev pub scheduled : Program → List TimeMap → List Scheduled
+scheduled program maps = scheduled_from 0 (rounds program) (assignments program) maps (boxes program)
 
 -- ---- The ranges of times
 
 -- those of a statement, where the parameters have these ranges
-abbrev pub times_of : (params : List (ℤ × ℤ)) → Piece → List (ℤ × ℤ)
+abbrev pub times_of : (params : List (ℤ × ℤ)) → Scheduled → List (ℤ × ℤ)
 times_of params e = map (span (params ++ e.ranges)) e.times.forms
 
 -- for each component, from its least to its greatest value over all boxes
-abbrev pub time_ranges : (params : List (ℤ × ℤ)) → List Piece → List (ℤ × ℤ)
+abbrev pub time_ranges : (params : List (ℤ × ℤ)) → List Scheduled → List (ℤ × ℤ)
 time_ranges params [] = []
 time_ranges params (e ∷ []) = times_of params e
 time_ranges params (e ∷ f ∷ es) = hulls (times_of params e) (time_ranges params (f ∷ es))
@@ -104,7 +100,7 @@ abbrev pub moved_assign : (first more : ℕ) → Assignment → Stmt
 moved_assign first more a = Assign a.op a.array (map (moved first more) a.subs) (moved_value first more a.value)
 
 -- The iterators as locals; under the tests of their ranges, of their time, and of the source's loops and conditions, the assignment.
-abbrev pub block_of : (first more : ℕ) → Piece → Stmt
+abbrev pub block_of : (first more : ℕ) → Scheduled → Stmt
 block_of first more e =
     let from = first + more in
     Block (locals_of first (loop_names e.around) e.times.inverse)
@@ -113,31 +109,8 @@ block_of first more e =
     (guarded first more from e.around
     (moved_assign first more e.assignment ∷ []))))
 
--- ---- The loops
+-- ---- The loops' names
 
 -- affc_t0, affc_t1, ..
 abbrev pub time_name : ℕ → List ℕ
 time_name n = codes "affc_t" ++ decimal n
-
-abbrev pub loops : List (ℤ × ℤ) → (component : ℕ) → List Stmt → List Stmt
-loops [] component body = body
-loops (r ∷ rs) component body = For (time_name component) (number r.0) LessEqual (number r.1) (loops rs (suc component) body) ∷ []
-
--- without statements there are no loops
-abbrev pub body_of : (first : ℕ) → List (ℤ × ℤ) → List Piece → List Stmt
-body_of first ranges [] = []
-body_of first ranges (e ∷ es) = loops ranges 0 (map (block_of first (length ranges)) (e ∷ es))
-
--- The whole program. For the source's own order it is the source.
-abbrev pub target_program : Program → Schedule → Program
-target_program program Source = program
-target_program program (Time length_of_time maps) =
-    let es = pieces program maps in
-    record {
-      name = program.name;
-      params = program.params;
-      context = program.context;
-      temps = program.temps;
-      body = body_of (numbers_in program.params) (time_ranges (number_ranges program.params) es) es;
-      prelude = true;
-    }

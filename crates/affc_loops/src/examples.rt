@@ -1,18 +1,18 @@
 //! The loops of small programs, as laws: `specs/Examples.antt` says each, with values that were found by hand.
 ghost use Rattle.affc_loops.specs.EndExamples.{QuotientsOfRows, EndsOfCopy, CopiesBetweenEnds, EndsOfTriangle, StepsOfTriangle, EndsOfMore};
-ghost use Rattle.affc_loops.specs.Examples.{FormsAsExpressions, CopiesBackwards, KeepsItself, LoopsOfThree, NothingToRun, TiesInOrder};
+ghost use Rattle.affc_loops.specs.Examples.{FormsAsExpressions, TimesOfThree, LoopsOfThree, LoopsOfTwo, NothingToRun, TiesInOrder};
 
 /// Signs, coefficients and order of a form's terms.
 pub fn expressions()
     ensures forms_as_expressions { FormsAsExpressions }
 {}
 
-/// Whole programs: a loop that is run backwards, all parts of a block, a statement that is never entered, no statement
-/// at all, and two statements at one time.
+/// Programs: a whole block, a statement that is never entered, two loops, no statement at all, and two statements at one
+/// time.
 pub fn programs()
-    ensures copies_backwards { CopiesBackwards }
-    ensures keeps_itself { KeepsItself }
+    ensures times_of_three { TimesOfThree }
     ensures loops_of_three { LoopsOfThree }
+    ensures loops_of_two { LoopsOfTwo }
     ensures nothing_to_run { NothingToRun }
     ensures ties_in_order { TiesInOrder }
 {}

@@ -1,22 +1,17 @@
 //! What the loops of a schedule do. Each law is the contract of a function that does nothing.
-ghost use Rattle.affc_loops.specs.Laws.{LoopsDoTarget, LoopsRunTarget, LoopsCompile, BetweenDoTarget, BetweenRunTarget, BetweenCompile, RangesAreEnds, RowsHoldTimes, TurnsMeetRows, RangesOfTimes};
+ghost use Rattle.affc_loops.specs.Laws.{SourceRunsTarget, SourceCompiles, BetweenDoTarget, BetweenRunTarget, BetweenCompile, RowsHoldTimes, TurnsMeetRows, RangesOfTimes};
 
-/// The loops and conditions run the target's instances, each once and in order.
-pub fn loops_do_target()
-    ensures law { LoopsDoTarget }
+/// In its own order a source is stuck, if at all, for want of a value.
+pub fn source_runs_target()
+    ensures law { SourceRunsTarget }
 {}
 
-/// A run is stuck, if at all, for want of a value.
-pub fn loops_run_target()
-    ensures law { LoopsRunTarget }
+/// In its own order it compiles itself.
+pub fn source_compiles()
+    ensures law { SourceCompiles }
 {}
 
-/// Under a legal schedule the program compiles its source.
-pub fn loops_compile()
-    ensures law { LoopsCompile }
-{}
-
-/// The same of loops between any ends that hold the times.
+/// Loops between ends that hold the times run the target's instances, each once and in order.
 pub fn between_do_target()
     ensures law { BetweenDoTarget }
 {}
@@ -31,12 +26,7 @@ pub fn between_compile()
     ensures law { BetweenCompile }
 {}
 
-/// The ranges of all times are such ends.
-pub fn ranges_are_ends()
-    ensures law { RangesAreEnds }
-{}
-
-/// So are ends by rows that hold at the times of all instances.
+/// Ends by rows that hold at the times of all instances are such ends.
 pub fn rows_hold_times()
     ensures law { RowsHoldTimes }
 {}

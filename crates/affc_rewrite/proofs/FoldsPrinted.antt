@@ -31,7 +31,7 @@ use Rattle.affc_safe.specs.Safe.{IsSafe}
 use Rattle.affc_safe.proofs.FitsThere.{never_stuck_is_safe}
 use Rattle.affc_safe.proofs.PlainNear.{plain_has_no_locals, plain_never_overflows}
 use Rattle.affc_nest.proofs.AccessLemmas.{wholes_here, plain_append}
-use Rattle.affc_loops.proofs.Pieces.{numbers_are}
+use Rattle.affc_loops.proofs.Scheduled.{numbers_are}
 use Rattle.affc_basis.specs.declared.fold.Fold.{Fold}
 use Rattle.affc_basis.specs.Bases.{AreWithin}
 use Rattle.affc_basis.specs.FoldLists.{IsFoldIn, AreFoldsIn}
@@ -43,7 +43,7 @@ use Rattle.affc_foldloops.specs.Refolds.{refolded, FoldsBy}
 use Rattle.affc_foldloops.proofs.RefoldLemmas.{refolded_keeps_shape}
 use Rattle.affc_foldloops.proofs.ReplaceLemmas.{accesses_read, behind_extents, fold_in, refolded_replaces}
 use Rattle.affc_rewrite.specs.Laws.{PrintedFolds, FoldedProgramReplaces}
-use Rattle.affc_rewrite.specs.Rewrite.{components_from, subscripts_by, extent_forms, folded_subscripts, folded_temps, has_calls, folded_program, KeepLimits}
+use Rattle.affc_rewrite.specs.Rewrite.{components_from, subscripts_by, extent_forms, folded_subscripts, folded_temps, has_calls, KeepLimits}
 use Rattle.affc_rewrite.specs.Sizes.{AllSides, IsRow}
 use Rattle.affc_rewrite.proofs.Accesses.{access_touches, sides_of, extents_are, parameters_are, named}
 use Rattle.affc_rewrite.proofs.PlaceComponents.{components_are}

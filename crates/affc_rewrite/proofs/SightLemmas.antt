@@ -24,7 +24,7 @@ use Rattle.affc_domain.specs.Plain.{is_plain, all_plain, plain_value}
 use Rattle.affc_domain.proofs.FormLemmas.{form_width}
 use Rattle.affc_domain.proofs.Lists.{both_true, true_both}
 use Rattle.affc_loops.specs.Trees.{name_at, times, Term, and_more, sum_of, terms_from}
-use Rattle.affc_loops.proofs.Pieces.{numbers_are}
+use Rattle.affc_loops.proofs.Scheduled.{numbers_are}
 use Rattle.affc_basis.specs.declared.fold.Fold.{Fold}
 use Rattle.affc_basis.specs.FoldLists.{AreFoldsIn}
 use Rattle.affc_basis.specs.Folds.{forms_of, fold_of}

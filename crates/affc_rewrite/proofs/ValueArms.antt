@@ -1,18 +1,13 @@
 -- The parts of a plain value are plain, and a value with folded subscripts is made of its parts.
-use Rattle.std.proofs.Common.{◌≡◌, ℕ, Bool, true, List, sym, ap, ◌∙◌}
-use Rattle.affc_ast.specs.declared.tree.ArrayId.{ArrayId}
-use Rattle.affc_ast.specs.declared.tree.Ix.{Ix}
+use Rattle.std.proofs.Common.{◌≡◌, ℕ, Bool, true, sym, ap, ◌∙◌}
 use Rattle.affc_ast.specs.declared.tree.Op.{Op}
 use Rattle.affc_ast.specs.declared.tree.Val.{Val}
 use Rattle.affc_ast.specs.declared.tree.Val.TheVariants as v
 use Rattle.affc_ast.proofs.Steps.{not_here, bin_here, shift_here}
-use Rattle.affc_domain.specs.Plain.{all_plain, plain_value_step, plain_value}
+use Rattle.affc_domain.specs.Plain.{plain_value_step, plain_value}
 use Rattle.affc_domain.proofs.Lists.{both_true}
 
 module _ (n : ℕ) (e : Val) (h : plain_value e n ≡ true) where
-  pub load_plain : (array : ArrayId) (subs : List Ix) → e ≡ v.Load array subs → all_plain n subs ≡ true
-  load_plain array subs g = sym (ap (λ y. plain_value y n) g) ∙ h
-
   pub not_plain : (a : Val) → e ≡ v.Not a → plain_value a n ≡ true
   not_plain a g = sym (ap (λ y. plain_value y n) g ∙ ap (λ f. f n) (not_here plain_value_step a)) ∙ h
 

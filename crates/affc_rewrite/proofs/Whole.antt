@@ -17,7 +17,7 @@ use Rattle.affc_domain.proofs.Lists.{length_map}
 use Rattle.affc_nest.specs.declared.nest.ArrayInfo.{ArrayInfo}
 use Rattle.affc_nest.specs.declared.nest.Nest.{Nest}
 use Rattle.affc_nest.specs.Nests.{array_of, nest_of}
-use Rattle.affc_loops.proofs.Pieces.{numbers_are}
+use Rattle.affc_loops.proofs.Scheduled.{numbers_are}
 use Rattle.affc_basis.specs.declared.fold.Fold.{Fold}
 use Rattle.affc_basis.specs.Folds.{KeepsLimits}
 use Rattle.affc_foldloops.specs.Refolds.{Subscripts, refold_step, each_under}

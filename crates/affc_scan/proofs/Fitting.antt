@@ -21,17 +21,17 @@ use Rattle.affc_nest.proofs.QuestionLemmas.{stands_in}
 use Rattle.affc_nest.specs.Sides.{AreNear, IsSide, NearRanges}
 use Rattle.affc_loops.specs.Laws.{HasLoops, HaveSameLoops, AreTimeRanges}
 use Rattle.affc_loops.specs.Limits.{IsSlight, IsSmall}
-use Rattle.affc_loops.specs.Loops.{Piece, boxes, pieces, loop_names, time_ranges}
+use Rattle.affc_loops.specs.Loops.{Scheduled, boxes, scheduled, loop_names, time_ranges}
 use Rattle.affc_loops.proofs.Boxes.{sits, near_box, params_ordered}
 use Rattle.affc_loops.proofs.Guards.{names_count}
-use Rattle.affc_loops.proofs.LoopLaws.{few, slight, some_or_none}
-use Rattle.affc_loops.proofs.Pieces.{is_piece, shape_of, numbers_are}
-use Rattle.affc_loops.proofs.SameLoops.{boxes_same, pieces_none, times_same}
+use Rattle.affc_loops.proofs.BetweenLaws.{few, slight, some_or_none}
+use Rattle.affc_loops.proofs.Scheduled.{is_scheduled_at, shape_of, numbers_are}
+use Rattle.affc_loops.proofs.SameLoops.{boxes_same, scheduled_none, times_same}
 use Rattle.affc_loops.proofs.Sizes.{Within, map_within, near_within, params_within, ranges_within, spans, times_are}
 use Rattle.affc_loops.proofs.TimeRanges.{Spans}
 use Rattle.affc_scan.specs.Blocks.{IsPrintable}
 use Rattle.affc_scan.specs.InSight.{IsInSight}
-use Rattle.affc_scan.specs.Pieces.{HasSpans, AllPrintable, AllSpan}
+use Rattle.affc_scan.specs.Numbered.{HasSpans, AllPrintable, AllSpan}
 use Rattle.affc_scan.proofs.SightProofs.{rounds_sight}
 
 near_ranges_of : (most : ℕ) (rs : List (ℤ × ℤ)) → most ≤ 2 ^ 32 → All (Within most) rs → NearRanges rs
@@ -72,10 +72,10 @@ module _ (source other : Program) (n : ℕ) (maps : List TimeMap) (h : HasLoops 
   abbrev params : List (ℤ × ℤ)
   params = number_ranges source.params
 
-  pub fits_one : (e : Piece) → IsIn e (pieces other maps) → IsPrintable (length params) e × HasSpans params e
+  pub fits_one : (e : Scheduled) → IsIn e (scheduled other maps) → IsPrintable (length params) e × HasSpans params e
   fits_one e i =
       let few_params : length params ≤ 4 = (h.plain).few_numbers in
-      let k = is_piece 0 (rounds other) (assignments other) maps (boxes other) e i in
+      let k = is_scheduled_at 0 (rounds other) (assignments other) maps (boxes other) e i in
       let here = ap (λ l. slice_get l k.at) (sym same.same_rounds) ∙ k.its_guards in
       let s = sits source k.at e.ranges (ap (λ l. slice_get l k.at) (sym (boxes_same source other same)) ∙ k.its_ranges) in
       let b = near_box params s.around e.ranges s.is_box in
@@ -116,62 +116,51 @@ module _ (source other : Program) (n : ℕ) (maps : List TimeMap) (h : HasLoops 
         },
       )
 
-  all_printable_from : (es : List Piece) → ((e : Piece) → IsIn e es → IsIn e (pieces other maps)) → AllPrintable (length params) es
+  all_printable_from : (es : List Scheduled) → ((e : Scheduled) → IsIn e es → IsIn e (scheduled other maps)) → AllPrintable (length params) es
   all_printable_from [] i = tt
   all_printable_from (e ∷ es) i = ((fits_one e (i e (inl refl))).0, all_printable_from es (λ f j. i f (inr j)))
 
-  all_span_from : (es : List Piece) → ((e : Piece) → IsIn e es → IsIn e (pieces other maps)) → AllSpan params es
+  all_span_from : (es : List Scheduled) → ((e : Scheduled) → IsIn e es → IsIn e (scheduled other maps)) → AllSpan params es
   all_span_from [] i = tt
   all_span_from (e ∷ es) i = ((fits_one e (i e (inl refl))).1, all_span_from es (λ f j. i f (inr j)))
 
-  pub all_printable : AllPrintable (length params) (pieces other maps)
-  all_printable = all_printable_from (pieces other maps) (λ e i. i)
+  pub all_printable : AllPrintable (length params) (scheduled other maps)
+  all_printable = all_printable_from (scheduled other maps) (λ e i. i)
 
-  pub all_span : AllSpan params (pieces other maps)
-  all_span = all_span_from (pieces other maps) (λ e i. i)
+  pub all_span : AllSpan params (scheduled other maps)
+  all_span = all_span_from (scheduled other maps) (λ e i. i)
 
-  ranges_are : time_ranges params (pieces other maps) ≡ time_ranges params (pieces source maps)
-  ranges_are = ap (λ r. time_ranges r (pieces other maps)) (sym same.same_ranges) ∙ times_same source other same maps
+  ranges_are : time_ranges params (scheduled other maps) ≡ time_ranges params (scheduled source maps)
+  ranges_are = ap (λ r. time_ranges r (scheduled other maps)) (sym same.same_ranges) ∙ times_same source other same maps
 
-  own_small : All IsSmall (time_ranges params (pieces source maps))
+  own_small : All IsSmall (time_ranges params (scheduled source maps))
   own_small = λ i r l.
-      let w : Within _ (get_or (time_ranges params (pieces source maps)) i r) = ranges_within source n maps h.plain h.near h.scheduled (few source n maps h) (slight source n maps h) i r l in
+      let w : Within _ (get_or (time_ranges params (scheduled source maps)) i r) = ranges_within source n maps h.plain h.near h.scheduled (few source n maps h) (slight source n maps h) i r l in
       (omega (arith, w.0), omega (arith, w.1))
 
-  own_short : length (time_ranges params (pieces source maps)) ≤ 12
-  own_short =
-      let most : n ≤ 12 = few source n maps h in
-      elim (some_or_none source n maps h) [
-        | inl e ↦ let z : length (time_ranges params (pieces source maps)) ≡ 0 = ap (λ es. length (time_ranges params es)) e in omega arith
-        | inr e ↦ omega (arith, e)
-      ]
-
-  pub ranges_small : All IsSmall (time_ranges params (pieces other maps))
+  pub ranges_small : All IsSmall (time_ranges params (scheduled other maps))
   ranges_small = subst (All IsSmall) (sym ranges_are) own_small
 
-  pub ranges_short : length (time_ranges params (pieces other maps)) ≤ 12
-  ranges_short = subst (λ rs. length rs ≤ 12) (sym ranges_are) own_short
-
-  own_ordered : IsBox (time_ranges params (pieces source maps))
+  own_ordered : IsBox (time_ranges params (scheduled source maps))
   own_ordered =
       let short = few source n maps h in
       let within = slight source n maps h in
-      by (pieces source maps) refl (spans source n maps h.plain h.near h.scheduled short within) (times_are source n maps h.plain h.near h.scheduled short within)
+      by (scheduled source maps) refl (spans source n maps h.plain h.near h.scheduled short within) (times_are source n maps h.plain h.near h.scheduled short within)
     where
-      by : (es : List Piece) → pieces source maps ≡ es → ((e : Piece) → IsIn e (pieces source maps) → Spans params n e) → AreTimeRanges params (pieces source maps) (time_ranges params (pieces source maps))
-          → IsBox (time_ranges params (pieces source maps))
+      by : (es : List Scheduled) → scheduled source maps ≡ es → ((e : Scheduled) → IsIn e (scheduled source maps) → Spans params n e) → AreTimeRanges params (scheduled source maps) (time_ranges params (scheduled source maps))
+          → IsBox (time_ranges params (scheduled source maps))
       by [] q s t = subst IsBox (sym (ap (time_ranges params) q)) (All-nil IsRange)
       by (e ∷ es) q s t =
-          let i : IsIn e (pieces source maps) = subst (IsIn e) (sym q) (inl refl) in
-          box_ordered (time_ranges params (pieces source maps)) _
+          let i : IsIn e (scheduled source maps) = subst (IsIn e) (sym q) (inl refl) in
+          box_ordered (time_ranges params (scheduled source maps)) _
           (t.hold e i (map (λ r. r.0) params) (map (λ r. r.0) e.ranges) (low_point params (params_ordered params (h.plain).ranges)) (low_point e.ranges (s e i).ordered))
 
-  pub ranges_ordered : IsBox (time_ranges params (pieces other maps))
+  pub ranges_ordered : IsBox (time_ranges params (scheduled other maps))
   ranges_ordered = subst IsBox (sym ranges_are) own_ordered
 
-  pub ranges_long : (e : Piece) → IsIn e (pieces other maps) → length (time_ranges params (pieces other maps)) ≡ n
+  pub ranges_long : (e : Scheduled) → IsIn e (scheduled other maps) → length (time_ranges params (scheduled other maps)) ≡ n
   ranges_long e i =
       elim (some_or_none source n maps h) [
-        | inl none ↦ absurd (subst (IsIn e) (pieces_none source other same maps none) i)
+        | inl none ↦ absurd (subst (IsIn e) (scheduled_none source other same maps none) i)
         | inr long ↦ ap length ranges_are ∙ long
       ]

@@ -22,7 +22,7 @@ use Rattle.affc_loopends.specs.scanned.Scanned.{sides_of, loose_from, all_loose,
 use Rattle.affc_scan.specs.declared.gathered.Gathered.{Gathered}
 use Rattle.affc_scan.specs.EndRows.{IsEndRow, HaveEndRows}
 use Rattle.affc_scan.specs.Gathered.{IsProjectable, GathersOne, GathersMore, Gathers}
-use Rattle.affc_scan.specs.Pieces.{Numbered, piece_in}
+use Rattle.affc_scan.specs.Numbered.{Numbered, scheduled_in}
 
 -- ---- Projected rows can be printed
 
@@ -61,12 +61,12 @@ last_loose statement component all before b old mid new a e m n =
 -- ---- One statement
 
 pub own_long : (nest : Nest) (ranges : List (ℤ × ℤ)) (first : ℕ) (s : Numbered) (bounds : List Bounds) (ends : List (Ix × Ix)) → IsProjectable nest ranges s → length bounds ≡ length s.times.forms
-    → ends ≡ ends_from first first (map sides_of bounds) (times_of nest.params (piece_in s)) → length ranges ≡ length nest.params + length ends
+    → ends ≡ ends_from first first (map sides_of bounds) (times_of nest.params (scheduled_in s)) → length ranges ≡ length nest.params + length ends
 own_long nest ranges first s bounds ends p l e =
-    let times : length (times_of nest.params (piece_in s)) ≡ length s.times.forms = length-map s.times.forms (span (nest.params ++ s.entry.ranges)) in
+    let times : length (times_of nest.params (scheduled_in s)) ≡ length s.times.forms = length-map s.times.forms (span (nest.params ++ s.entry.ranges)) in
     let sides : length (map sides_of bounds) ≡ length bounds = length-map bounds sides_of in
-    let long : length ends ≡ length (times_of nest.params (piece_in s)) =
-    ap length e ∙ from_long first first (map sides_of bounds) (times_of nest.params (piece_in s)) (sides ∙ l ∙ sym times) in
+    let long : length ends ≡ length (times_of nest.params (scheduled_in s)) =
+    ap length e ∙ from_long first first (map sides_of bounds) (times_of nest.params (scheduled_in s)) (sides ∙ l ∙ sym times) in
     let c : length ranges ≡ length nest.params + length s.times.forms = p.columns in
     omega arith
 
@@ -81,9 +81,9 @@ module _ (nest : Nest) (ranges : List (ℤ × ℤ)) (first : ℕ) where
   one_more s ss made own both all o e l m = record {
     bounds = o.bounds ∷ m.bounds;
     are_bounds = (o.are_bounds, m.are_bounds);
-    ends = m.ends ∙ ap (λ z. joined both_ends z (each_ends first nest.params (map piece_in ss) (all_sides m.bounds))) (e ∙ ap (both_ends made.ends) o.ends);
-    loose = m.loose ∙ ap (λ z. z ++ all_loose (map piece_in ss) m.bounds) (l ∙ ap (λ z. made.loose.items ++ z) o.loose)
-        ∙ append_assoc made.loose.items (loose_from s.statement 0 o.bounds) (all_loose (map piece_in ss) m.bounds);
+    ends = m.ends ∙ ap (λ z. joined both_ends z (each_ends first nest.params (map scheduled_in ss) (all_sides m.bounds))) (e ∙ ap (both_ends made.ends) o.ends);
+    loose = m.loose ∙ ap (λ z. z ++ all_loose (map scheduled_in ss) m.bounds) (l ∙ ap (λ z. made.loose.items ++ z) o.loose)
+        ∙ append_assoc made.loose.items (loose_from s.statement 0 o.bounds) (all_loose (map scheduled_in ss) m.bounds);
   }
 
   pub none_at_all : (made : Gathered) → made.ends ≡ [] → made.loose.items ≡ [] → Gathers nest ranges first [] made
@@ -93,6 +93,6 @@ module _ (nest : Nest) (ranges : List (ℤ × ℤ)) (first : ℕ) where
   all_of s ss own all o m = record {
     bounds = o.bounds ∷ m.bounds;
     are_bounds = (o.are_bounds, m.are_bounds);
-    ends = m.ends ∙ ap (λ z. joined both_ends z (each_ends first nest.params (map piece_in ss) (all_sides m.bounds))) o.ends;
-    loose = m.loose ∙ ap (λ z. z ++ all_loose (map piece_in ss) m.bounds) o.loose;
+    ends = m.ends ∙ ap (λ z. joined both_ends z (each_ends first nest.params (map scheduled_in ss) (all_sides m.bounds))) o.ends;
+    loose = m.loose ∙ ap (λ z. z ++ all_loose (map scheduled_in ss) m.bounds) o.loose;
   }

@@ -5,7 +5,7 @@ pub mod BlockSteps
 pub mod EndSteps
 pub mod LoopSteps
 pub mod RangeSteps
-pub mod PartSteps
+pub mod AliveSteps
 pub mod ScanSteps
 pub mod Gathering
 pub mod SightProofs

@@ -19,13 +19,13 @@ use Rattle.affc_nest.proofs.QuestionLemmas.{stands_in}
 use Rattle.affc_loops.specs.Laws.{HasLoops}
 use Rattle.affc_loops.specs.Loops.{loop_names}
 use Rattle.affc_loops.proofs.Guards.{names_count}
-use Rattle.affc_loops.proofs.LoopLaws.{few, slight}
-use Rattle.affc_loops.proofs.Pieces.{numbers_are, shape_of}
+use Rattle.affc_loops.proofs.BetweenLaws.{few, slight}
+use Rattle.affc_loops.proofs.Scheduled.{numbers_are, shape_of}
 use Rattle.affc_loopends.specs.Sizes.{IsTimed}
 use Rattle.affc_loopends.specs.TimeRows.{time_system, system_of}
 use Rattle.affc_loopends.specs.TimeSets.{timed_in}
 use Rattle.affc_loopends.proofs.Statements.{entries_are_timed}
-use Rattle.affc_scan.specs.Pieces.{Numbered, numbered_from}
+use Rattle.affc_scan.specs.Numbered.{Numbered, numbered_from}
 
 -- ---- Which statement it is
 

@@ -1,5 +1,5 @@
 -- What is found by a walk is the program's.
-use Rattle.std.proofs.Common.{◌≡◌, ℕ, zero, suc, ◌+◌, ◌≤◌, ℤ, true, false, true≢false, List, [], ◌∷◌, ◌++◌, length, length-append, map, Some, None, refl, sym, ap, subst, ◌∙◌, inl, inr, arith}
+use Rattle.std.proofs.Common.{◌≡◌, ℕ, zero, suc, ◌+◌, ℤ, true, false, true≢false, List, [], ◌∷◌, ◌++◌, length, length-append, map, Some, None, refl, sym, ap, subst, ◌∙◌, inl, inr, arith}
 use Rattle.std.specs.Prelude.{slice_get, if◌then◌else◌}
 use Rattle.affc_ast.specs.declared.tree.Compare.{Compare}
 use Rattle.affc_ast.specs.declared.tree.Program.{Program}
@@ -25,9 +25,9 @@ use Rattle.affc_nest.proofs.QuestionLemmas.{place_of, there_is, below_length}
 use Rattle.affc_loops.specs.Between.{body_between, program_between}
 use Rattle.affc_loops.specs.Ends.{each_ends, all_ends, ends_of}
 use Rattle.affc_loops.specs.Laws.{HaveSameLoops}
-use Rattle.affc_loops.specs.Loops.{Piece, box_in, boxes, pieces_from, pieces, time_ranges}
+use Rattle.affc_loops.specs.Loops.{Scheduled, box_in, boxes, scheduled_from, scheduled, time_ranges}
 use Rattle.affc_loops.proofs.Boxes.{is_wide, none_wide}
-use Rattle.affc_loops.proofs.Pieces.{numbers_are}
+use Rattle.affc_loops.proofs.Scheduled.{numbers_are}
 use Rattle.affc_loops.proofs.SameLoops.{boxes_same}
 use Rattle.affc_loopends.specs.declared.bounds.Bounds.{Bounds}
 use Rattle.affc_loopends.specs.Sizes.{IsTimed}
@@ -36,15 +36,15 @@ use Rattle.affc_loopends.specs.TimeSets.{Timed, timed_in}
 use Rattle.affc_loopends.specs.Whys.{AreBoundsFrom}
 use Rattle.affc_loopends.specs.scanned.Scanned.{AreBounds, AreBoundsOfEach, all_loose, all_sides, IsBetween}
 use Rattle.affc_scan.specs.declared.gathered.Gathered.{Gathered}
-use Rattle.affc_scan.specs.declared.parts.Part.{Part}
+use Rattle.affc_scan.specs.declared.alive.Alive.{Alive}
 use Rattle.affc_scan.specs.Gathered.{IsProjectable, AllProjectable, AreBoundsOf, AreBoundsOfAll, Gathers}
 use Rattle.affc_scan.specs.Laws.{IsNestFor, OwnNest}
-use Rattle.affc_scan.specs.Parts.{numbered, piece}
-use Rattle.affc_scan.specs.Pieces.{box_of, Numbered, piece_in, numbered_from, HasSpans, AllPrintable, AllSpan}
+use Rattle.affc_scan.specs.Alive.{numbered, as_scheduled}
+use Rattle.affc_scan.specs.Numbered.{box_of, Numbered, scheduled_in, numbered_from, HasSpans, AllPrintable, AllSpan}
 use Rattle.affc_scan.proofs.SightProofs.{assignment_sight}
 use Rattle.affc_scan.proofs.Fitting.{fits_one, all_printable, all_span, ranges_ordered, ranges_long}
 use Rattle.affc_scan.proofs.Numbers.{IsNumbered, is_numbered, long, is_timed, its_system}
-use Rattle.affc_scan.proofs.PartSteps.{pieces_of, pieces_in}
+use Rattle.affc_scan.proofs.AliveSteps.{all_numbered, walk_scheduled}
 
 -- ---- Boxes
 
@@ -72,7 +72,7 @@ entries_boxes program h =
 nest_boxes : (source other : Program) (nest : Nest) → HasNest source → HaveSameLoops source other → nest ≡ nest_of source → map box_of nest.entries ≡ boxes other
 nest_boxes source other nest h same e = ap (λ (q : Nest). map box_of q.entries) e ∙ entries_boxes source h ∙ sym (boxes_same source other same)
 
--- ---- With other parts
+-- ---- With another body
 
 abbrev with_body : Program → List Stmt → Program
 with_body program body = record { name = program.name; params = program.params; context = program.context; temps = program.temps; body = body; prelude = true }
@@ -82,16 +82,16 @@ timed_by params context rs ranges m = record { params = params; context = contex
 
 -- ---- The whole
 
-module _ (program : Program) (nest : Nest) (n : ℕ) (maps : List TimeMap) (found : List Place) (ps : List Part) (is : IsNestFor program nest (Time n maps))
-    (walked : found ≡ places_of program) (parts : map numbered ps ≡ numbered_from 0 found nest.entries maps) where
+module _ (program : Program) (nest : Nest) (n : ℕ) (maps : List TimeMap) (found : List Place) (ps : List Alive) (is : IsNestFor program nest (Time n maps))
+    (walked : found ≡ places_of program) (statements : map numbered ps ≡ numbered_from 0 found nest.entries maps) where
   abbrev own : List (ℤ × ℤ)
   own = number_ranges is.source.params
 
   abbrev ss : List Numbered
   ss = map numbered ps
 
-  abbrev es : List Piece
-  es = map piece ps
+  abbrev es : List Scheduled
+  es = map as_scheduled ps
 
   abbrev times : List (ℤ × ℤ)
   times = time_ranges nest.params es
@@ -106,28 +106,25 @@ module _ (program : Program) (nest : Nest) (n : ℕ) (maps : List TimeMap) (foun
   params_are = own_params ∙ sym loops.same_ranges
 
   numbered_are : ss ≡ numbered_from 0 (places_of program) nest.entries maps
-  numbered_are = parts ∙ ap (λ q. numbered_from 0 q nest.entries maps) walked
+  numbered_are = statements ∙ ap (λ q. numbered_from 0 q nest.entries maps) walked
 
-  same_in : map piece_in ss ≡ pieces program maps
+  same_in : map scheduled_in ss ≡ scheduled program maps
   same_in =
       let boxed = nest_boxes is.source program nest (record { plain = is.has_loops.plain; near = is.has_loops.near }) loops is.its_nest in
-      ap (map piece_in) numbered_are
-      ∙ pieces_in 0 (places_of program) nest.entries maps
-      ∙ ap (λ rss. pieces_from 0 rss (all_assigned (places_of program)) maps (map box_of nest.entries)) (rounds_walked program)
-      ∙ ap (λ as'. pieces_from 0 (rounds program) as' maps (map box_of nest.entries)) (assignments_walked program)
-      ∙ ap (λ bs. pieces_from 0 (rounds program) (assignments program) maps bs) boxed
+      ap (map scheduled_in) numbered_are
+      ∙ walk_scheduled 0 (places_of program) nest.entries maps
+      ∙ ap (λ rss. scheduled_from 0 rss (all_assigned (places_of program)) maps (map box_of nest.entries)) (rounds_walked program)
+      ∙ ap (λ as'. scheduled_from 0 (rounds program) as' maps (map box_of nest.entries)) (assignments_walked program)
+      ∙ ap (λ bs. scheduled_from 0 (rounds program) (assignments program) maps bs) boxed
 
-  same : es ≡ pieces program maps
-  same = pieces_of ps ∙ same_in
+  same : es ≡ scheduled program maps
+  same = all_numbered ps ∙ same_in
 
-  times_own : times ≡ time_ranges own (pieces program maps)
+  times_own : times ≡ time_ranges own (scheduled program maps)
   times_own = ap (λ q. time_ranges q es) own_params ∙ ap (time_ranges own) same
 
-  times_same : times ≡ time_ranges (number_ranges program.params) (pieces program maps)
+  times_same : times ≡ time_ranges (number_ranges program.params) (scheduled program maps)
   times_same = ap (λ q. time_ranges q es) params_are ∙ ap (time_ranges (number_ranges program.params)) same
-
-  pub few_there : (first : ℕ) → first ≡ length nest.params → first ≤ 4
-  few_there first e = subst (λ k. k ≤ 4) (sym (e ∙ ap length own_params)) is.has_loops.plain.few_numbers
 
   pub printable_there : (first : ℕ) → first ≡ length nest.params → AllPrintable first es
   printable_there first e =
@@ -141,8 +138,8 @@ module _ (program : Program) (nest : Nest) (n : ℕ) (maps : List TimeMap) (foun
 
   -- ---- each statement
 
-  is_piece : (s : Numbered) → IsIn s ss → IsIn (piece_in s) (pieces program maps)
-  is_piece s i = subst (IsIn (piece_in s)) same_in (to_map piece_in ss s i)
+  in_scheduled : (s : Numbered) → IsIn s ss → IsIn (scheduled_in s) (scheduled program maps)
+  in_scheduled s i = subst (IsIn (scheduled_in s)) same_in (to_map scheduled_in ss s i)
 
   around : all_around (places_of program) ≡ rounds is.source
   around = rounds_walked program ∙ loops.same_rounds
@@ -154,11 +151,11 @@ module _ (program : Program) (nest : Nest) (n : ℕ) (maps : List TimeMap) (foun
   projects_one s i =
       let k = numbered_here s i in
       let components = long is.source n maps is.has_loops (places_of program) around s k in
-      let all = ap length times_own ∙ ranges_long is.source program n maps is.has_loops loops is.in_sight (piece_in s) (is_piece s i) in
+      let all = ap length times_own ∙ ranges_long is.source program n maps is.has_loops loops is.in_sight (scheduled_in s) (in_scheduled s i) in
       record {
         timed = subst (λ (q : Nest). IsTimed q s.entry s.times) (sym is.its_nest) (is_timed is.source n maps is.has_loops (places_of program) around s k);
         columns = length-append nest.params times ∙ ap (λ c. length nest.params + c) (all ∙ sym components);
-        spans = subst (λ q. HasSpans q (piece_in s)) (sym own_params) (fits_one is.source program n maps is.has_loops loops is.in_sight (piece_in s) (is_piece s i)).1;
+        spans = subst (λ q. HasSpans q (scheduled_in s)) (sym own_params) (fits_one is.source program n maps is.has_loops loops is.in_sight (scheduled_in s) (in_scheduled s i)).1;
       }
 
   projects_from : (ts : List Numbered) → ((s : Numbered) → IsIn s ts → IsIn s ss) → AllProjectable nest (nest.params ++ times) ts
@@ -171,7 +168,7 @@ module _ (program : Program) (nest : Nest) (n : ℕ) (maps : List TimeMap) (foun
   -- ---- and their bounds
 
   abbrev ranges : List (ℤ × ℤ)
-  ranges = time_ranges (number_ranges program.params) (pieces program maps)
+  ranges = time_ranges (number_ranges program.params) (scheduled program maps)
 
   timed_same : (s : Numbered) → timed_in is.source s.place.around s.entry.ranges s.times ≡ timed_in program s.place.around s.entry.ranges s.times
   timed_same s =
@@ -191,7 +188,7 @@ module _ (program : Program) (nest : Nest) (n : ℕ) (maps : List TimeMap) (foun
   columns_same : nest.params ++ times ≡ number_ranges program.params ++ ranges
   columns_same = ap (λ q. q ++ times) params_are ∙ ap (λ q. number_ranges program.params ++ q) times_same
 
-  bounds_one : (s : Numbered) (bs : List Bounds) → IsIn s ss → AreBoundsOf nest (nest.params ++ times) s bs → AreBounds program ranges (piece_in s) bs
+  bounds_one : (s : Numbered) (bs : List Bounds) → IsIn s ss → AreBoundsOf nest (nest.params ++ times) s bs → AreBounds program ranges (scheduled_in s) bs
   bounds_one s bs i b = record {
     one_each = b.one_each;
     projected =
@@ -201,7 +198,7 @@ module _ (program : Program) (nest : Nest) (n : ℕ) (maps : List TimeMap) (foun
   }
 
   bounds_from : (ts : List Numbered) (bss : List (List Bounds)) → ((s : Numbered) → IsIn s ts → IsIn s ss) → AreBoundsOfAll nest (nest.params ++ times) ts bss
-      → AreBoundsOfEach program ranges (map piece_in ts) bss
+      → AreBoundsOfEach program ranges (map scheduled_in ts) bss
   bounds_from [] [] f b = tt
   bounds_from [] (bs ∷ bss) f b = absurd b
   bounds_from (s ∷ ts) [] f b = absurd b
@@ -213,8 +210,8 @@ module _ (program : Program) (nest : Nest) (n : ℕ) (maps : List TimeMap) (foun
     ends_are : made.ends ≡ ends_of program maps (all_sides g.bounds)
     ends_are =
         g.ends
-        ∙ ap (λ k. all_ends (each_ends k nest.params (map piece_in ss) (all_sides g.bounds))) (counted ∙ first_column)
-        ∙ ap (λ q. all_ends (each_ends (numbers_in program.params) q (map piece_in ss) (all_sides g.bounds))) params_are
+        ∙ ap (λ k. all_ends (each_ends k nest.params (map scheduled_in ss) (all_sides g.bounds))) (counted ∙ first_column)
+        ∙ ap (λ q. all_ends (each_ends (numbers_in program.params) q (map scheduled_in ss) (all_sides g.bounds))) params_are
         ∙ ap (λ l. all_ends (each_ends (numbers_in program.params) (number_ranges program.params) l (all_sides g.bounds))) same_in
 
     body_is : (b : List Stmt) → b ≡ body_between first made.ends es → b ≡ (program_between program maps (ends_of program maps (all_sides g.bounds))).body

@@ -8,12 +8,12 @@ use Rattle.affc_trace.specs.declared.schedule.TimeMap.{TimeMap}
 use Rattle.affc_domain.specs.Rounds.{Round, loops_in}
 use Rattle.affc_nest.specs.Sites.{Place}
 use Rattle.affc_loops.specs.Limits.{IsSlight, IsSmall}
-use Rattle.affc_loops.specs.Loops.{Piece, box_tests, time_tests, if_any, guarded, moved_assign}
+use Rattle.affc_loops.specs.Loops.{Scheduled, box_tests, time_tests, if_any, guarded, moved_assign}
 use Rattle.affc_scan.specs.InSight.{rounds_in_sight, IsInSight}
 
 -- an assignment and what stands round it, with its times and the ranges of its iterators
-abbrev pub piece_of : (statement : ℕ) → Place → TimeMap → (ranges : List (ℤ × ℤ)) → Piece
-piece_of statement p m ranges = record { statement = statement; around = p.around; assignment = p.assignment; times = m; ranges = ranges }
+abbrev pub scheduled_of : (statement : ℕ) → Place → TimeMap → (ranges : List (ℤ × ℤ)) → Scheduled
+scheduled_of statement p m ranges = record { statement = statement; around = p.around; assignment = p.assignment; times = m; ranges = ranges }
 
 -- the assignment under all tests
 abbrev pub tested_body : (first more : ℕ) → List Round → Assignment → (ranges : List (ℤ × ℤ)) → (forms : List Affine) → List Stmt
@@ -25,7 +25,7 @@ abbrev pub HaveFew : (first : ℕ) → List Affine → Type 0
 HaveFew first fs = All (λ f. (first ≤ length f.coefs) × (length f.coefs ≤ 64)) fs
 
 -- sizes within which a block is made, where so many parameters are in sight
-pub record IsPrintable (first : ℕ) (e : Piece) : Type 0 where
+pub record IsPrintable (first : ℕ) (e : Scheduled) : Type 0 where
   pub around : rounds_in_sight e.around ≡ true
   pub few_loops : loops_in e.around ≤ 6
   pub assignment : IsInSight e.assignment

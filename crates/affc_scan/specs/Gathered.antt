@@ -9,13 +9,13 @@ use Rattle.affc_loopends.specs.TimeRows.{time_system}
 use Rattle.affc_loopends.specs.Whys.{AreBoundsFrom}
 use Rattle.affc_loopends.specs.scanned.Scanned.{sides_of, loose_from, all_loose, all_sides}
 use Rattle.affc_scan.specs.declared.gathered.Gathered.{Gathered}
-use Rattle.affc_scan.specs.Pieces.{Numbered, piece_in, HasSpans}
+use Rattle.affc_scan.specs.Numbered.{Numbered, scheduled_in, HasSpans}
 
 -- what is asked of a statement, where the parameters and then the components of all statements' times have these ranges
 pub record IsProjectable (nest : Nest) (ranges : List (ℤ × ℤ)) (s : Numbered) : Type 0 where
   pub timed : IsTimed nest s.entry s.times
   pub columns : length ranges ≡ length nest.params + length s.times.forms
-  pub spans : HasSpans nest.params (piece_in s)
+  pub spans : HasSpans nest.params (scheduled_in s)
 
 abbrev pub AllProjectable : Nest → (ranges : List (ℤ × ℤ)) → List Numbered → Type 0
 AllProjectable nest ranges [] = Unit {0}
@@ -36,19 +36,19 @@ AreBoundsOfAll nest ranges (s ∷ ss) (bs ∷ bss) = AreBoundsOf nest ranges s b
 pub record GathersOne (nest : Nest) (ranges : List (ℤ × ℤ)) (first : ℕ) (s : Numbered) (made : Gathered) : Type 0 where
   pub bounds : List Bounds
   pub are_bounds : AreBoundsOf nest ranges s bounds
-  pub ends : made.ends ≡ ends_from first first (map sides_of bounds) (times_of nest.params (piece_in s))
+  pub ends : made.ends ≡ ends_from first first (map sides_of bounds) (times_of nest.params (scheduled_in s))
   pub loose : made.loose.items ≡ loose_from s.statement 0 bounds
 
 -- of statements behind those before
 pub record GathersMore (nest : Nest) (ranges : List (ℤ × ℤ)) (first : ℕ) (ss : List Numbered) (before made : Gathered) : Type 0 where
   pub bounds : List (List Bounds)
   pub are_bounds : AreBoundsOfAll nest ranges ss bounds
-  pub ends : made.ends ≡ joined both_ends before.ends (each_ends first nest.params (map piece_in ss) (all_sides bounds))
-  pub loose : made.loose.items ≡ before.loose.items ++ all_loose (map piece_in ss) bounds
+  pub ends : made.ends ≡ joined both_ends before.ends (each_ends first nest.params (map scheduled_in ss) (all_sides bounds))
+  pub loose : made.loose.items ≡ before.loose.items ++ all_loose (map scheduled_in ss) bounds
 
 -- of all statements
 pub record Gathers (nest : Nest) (ranges : List (ℤ × ℤ)) (first : ℕ) (ss : List Numbered) (made : Gathered) : Type 0 where
   pub bounds : List (List Bounds)
   pub are_bounds : AreBoundsOfAll nest ranges ss bounds
-  pub ends : made.ends ≡ all_ends (each_ends first nest.params (map piece_in ss) (all_sides bounds))
-  pub loose : made.loose.items ≡ all_loose (map piece_in ss) bounds
+  pub ends : made.ends ≡ all_ends (each_ends first nest.params (map scheduled_in ss) (all_sides bounds))
+  pub loose : made.loose.items ≡ all_loose (map scheduled_in ss) bounds

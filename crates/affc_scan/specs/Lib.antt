@@ -1,8 +1,8 @@
 pub mod Operators
 pub mod InSight
 pub mod Blocks
-pub mod Pieces
-pub mod Parts
+pub mod Numbered
+pub mod Alive
 pub mod EndRows
 pub mod Gathered
 pub mod Laws

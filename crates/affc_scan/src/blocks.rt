@@ -6,12 +6,12 @@ ghost use Rattle.affc_loops.specs.Limits.{IsSlight, IsSmall};
 ghost use Rattle.affc_loops.specs.Loops.{loop_names, locals_of, if_any, loop_tests, guarded, moved_assign, block_of};
 ghost use Rattle.affc_nest.specs.Frames.{seen, all_seen};
 ghost use Rattle.affc_nest.specs.Sites.{place};
+ghost use Rattle.affc_scan.specs.Alive.{as_scheduled};
 ghost use Rattle.affc_scan.specs.Blocks.{tested_body, HaveFew, IsPrintable};
 ghost use Rattle.affc_scan.specs.InSight.{in_sight, round_in_sight, rounds_in_sight, IsInSight};
-ghost use Rattle.affc_scan.specs.Parts.{piece};
 
+use crate::alive::Alive;
 use crate::moved::{moved_all, moved_tests, moved_val};
-use crate::parts::Part;
 use crate::tests_of::{add_between, box_tests, time_tests};
 use crate::trees::moved_ix;
 use affc_ast::Items;
@@ -237,27 +237,27 @@ pub(crate) fn block(
     alloc: Global,
     first: u32,
     more: u32,
-    part: &Part<'_, '_>,
+    alive: &Alive<'_, '_>,
 ) -> Result<Stmt, AllocError>
     requires few { first + more ≤ 512 }
-    requires printable { IsPrintable first (piece part.now) }
-    ensures { IfOk result (λ s. s ≡ block_of first more (piece part.now)) }
+    requires printable { IsPrintable first (as_scheduled alive.now) }
+    ensures { IfOk result (λ s. s ≡ block_of first more (as_scheduled alive.now)) }
 {
     let locals = add_locals(
         alloc,
         first,
-        part.site.frames.as_slice(),
-        part.times.inverse.as_slice(),
+        alive.site.frames.as_slice(),
+        alive.times.inverse.as_slice(),
         Items::new(alloc),
     )?;
-    let ranges = part.entry.ranges.ranges();
+    let ranges = alive.entry.ranges.ranges();
     let body = tested(
         alloc,
         first,
         more,
-        part.site,
+        alive.site,
         ranges,
-        part.times.forms.as_slice(),
+        alive.times.forms.as_slice(),
     )?;
     Ok(Stmt::Block { locals, body })
 }

@@ -2,14 +2,14 @@
 ghost use Rattle.std.specs.Prelude.{◌≡◌, ◌≤◌, ◌+◌, ◌++◌, length, map, OnOk, IfOk};
 ghost use Rattle.affc_loops.specs.Ends as specs;
 ghost use Rattle.affc_loops.specs.Loops.{times_of};
+ghost use Rattle.affc_scan.specs.Alive.{numbered, as_scheduled};
 ghost use Rattle.affc_scan.specs.EndRows.{HaveEndRows};
 ghost use Rattle.affc_scan.specs.Gathered.{IsProjectable, AllProjectable, GathersOne, GathersMore, Gathers};
-ghost use Rattle.affc_scan.specs.Parts.{numbered, piece};
-ghost use Rattle.affc_scan.specs.Pieces.{HasSpans};
+ghost use Rattle.affc_scan.specs.Numbered.{HasSpans};
 ghost use Rattle.affc_loopends.specs.scanned.Scanned.{sides_of, loose_from};
 
+use crate::alive::Alive;
 use crate::ends::{both_ends, ends_from};
-use crate::parts::Part;
 use crate::times::times_of;
 use affc_ast::Items;
 use affc_ast::tree::Ix;
@@ -33,16 +33,16 @@ fn own_ends(
     alloc: Global,
     first: u32,
     params: &BoxOf,
-    part: &Part<'_, '_>,
+    alive: &Alive<'_, '_>,
     bounds: &[Bounds],
 ) -> Result<Items<(Ix, Ix)>, AllocError>
     requires few { first ≤ 4 }
     requires short { length bounds.now ≤ 12 }
     requires rows { HaveEndRows first bounds.now }
-    requires spans { HasSpans params.now (piece part.now) }
-    ensures { IfOk result (λ x. x ≡ specs.ends_from first first (map sides_of bounds.now) (times_of params.now (piece part.now))) }
+    requires spans { HasSpans params.now (as_scheduled alive.now) }
+    ensures { IfOk result (λ x. x ≡ specs.ends_from first first (map sides_of bounds.now) (times_of params.now (as_scheduled alive.now))) }
 {
-    let ranges = times_of(alloc, params, part)?;
+    let ranges = times_of(alloc, params, alive)?;
     ends_from(
         alloc,
         first,
@@ -83,18 +83,18 @@ fn gather_one(
     nest: &Nest,
     ranges: &BoxOf,
     first: u32,
-    part: &Part<'_, '_>,
+    alive: &Alive<'_, '_>,
 ) -> Result<Gathered, AllocError>
     requires first { first ≡ length nest.now.params }
     requires few { first ≤ 4 }
-    requires part { IsProjectable nest.now ranges.now (numbered part.now) }
-    ensures one { IfOk result (GathersOne nest.now ranges.now first (numbered part.now)) }
+    requires alive { IsProjectable nest.now ranges.now (numbered alive.now) }
+    ensures one { IfOk result (GathersOne nest.now ranges.now first (numbered alive.now)) }
     ensures long { IfOk result (λ made. length ranges.now ≡ length nest.now.params + length made.ends) }
 {
-    let bounds = statement_ends(alloc, nest, part.entry, part.times, ranges)?;
-    let ends = own_ends(alloc, first, &nest.params, part, bounds.as_slice())?;
+    let bounds = statement_ends(alloc, nest, alive.entry, alive.times, ranges)?;
+    let ends = own_ends(alloc, first, &nest.params, alive, bounds.as_slice())?;
     let mut loose = Vec::new(alloc);
-    add_loose(part.statement, Items::from_vec(bounds), &mut loose)?;
+    add_loose(alive.statement, Items::from_vec(bounds), &mut loose)?;
     Ok(Gathered { ends, loose })
 }
 
@@ -122,20 +122,20 @@ fn gather_more(
     nest: &Nest,
     ranges: &BoxOf,
     first: u32,
-    parts: &[Part<'_, '_>],
+    statements: &[Alive<'_, '_>],
     made: Gathered,
 ) -> Result<Gathered, AllocError>
     requires first { first ≡ length nest.now.params }
     requires few { first ≤ 4 }
-    requires parts { AllProjectable nest.now ranges.now (map numbered parts.now) }
+    requires statements { AllProjectable nest.now ranges.now (map numbered statements.now) }
     requires long { length ranges.now ≡ length nest.now.params + length made.ends }
-    ensures more { IfOk result (GathersMore nest.now ranges.now first (map numbered parts.now) made) }
+    ensures more { IfOk result (GathersMore nest.now ranges.now first (map numbered statements.now) made) }
     ensures long { IfOk result (λ all. length ranges.now ≡ length nest.now.params + length all.ends) }
 {
-    match parts {
+    match statements {
         [] => Ok(made),
-        [part, rest @ ..] => {
-            let own = gather_one(alloc, nest, ranges, first, part)?;
+        [alive, rest @ ..] => {
+            let own = gather_one(alloc, nest, ranges, first, alive)?;
             let both = gathered_together(alloc, made, own)?;
             gather_more(alloc, nest, ranges, first, rest, both)
         }
@@ -148,21 +148,21 @@ pub(crate) fn gather_all(
     nest: &Nest,
     ranges: &BoxOf,
     first: u32,
-    parts: &[Part<'_, '_>],
+    statements: &[Alive<'_, '_>],
 ) -> Result<Gathered, AllocError>
     requires first { first ≡ length nest.now.params }
     requires few { first ≤ 4 }
-    requires parts { AllProjectable nest.now ranges.now (map numbered parts.now) }
-    ensures all { IfOk result (Gathers nest.now ranges.now first (map numbered parts.now)) }
+    requires statements { AllProjectable nest.now ranges.now (map numbered statements.now) }
+    ensures all { IfOk result (Gathers nest.now ranges.now first (map numbered statements.now)) }
     ensures short { IfOk result (λ made. length made.ends ≤ 12) }
 {
-    match parts {
+    match statements {
         [] => Ok(Gathered {
             ends: Items::new(alloc),
             loose: Vec::new(alloc),
         }),
-        [part, rest @ ..] => {
-            let own = gather_one(alloc, nest, ranges, first, part)?;
+        [alive, rest @ ..] => {
+            let own = gather_one(alloc, nest, ranges, first, alive)?;
             gather_more(alloc, nest, ranges, first, rest, own)
         }
     }

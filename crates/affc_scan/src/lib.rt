@@ -1,6 +1,7 @@
 //! Loops that run a program's instances in the order of a schedule.
 #![tactic(auto)]
 
+mod alive;
 mod blocks;
 mod ends;
 mod gathered;
@@ -8,7 +9,6 @@ pub mod laws;
 mod loops;
 mod moved;
 mod operators;
-mod parts;
 mod ranges;
 mod target;
 mod tests_of;

@@ -4,16 +4,16 @@ ghost use Rattle.affc_system.specs.Boxes.{IsBox};
 ghost use Rattle.affc_trace.specs.declared.schedule.Schedule.TheVariants.{Time};
 ghost use Rattle.affc_loops.specs.Between.{body_between};
 ghost use Rattle.affc_loops.specs.Loops.{block_of, time_ranges as ranges_of};
+ghost use Rattle.affc_scan.specs.Alive.{numbered, as_scheduled};
 ghost use Rattle.affc_scan.specs.Gathered.{AllProjectable, Gathers};
 ghost use Rattle.affc_scan.specs.Laws.{IsNestFor};
-ghost use Rattle.affc_scan.specs.Parts.{numbered, piece};
-ghost use Rattle.affc_scan.specs.Pieces.{AllPrintable, AllSpan};
+ghost use Rattle.affc_scan.specs.Numbered.{AllPrintable, AllSpan};
 ghost use Rattle.affc_loopends.specs.scanned.Scanned.{IsBetween, Scans};
 
+use crate::alive::{Alive, all_alive};
 use crate::blocks::block;
 use crate::gathered::{Gathered, gather_all};
 use crate::loops::loops_between;
-use crate::parts::{Part, all_parts};
 use crate::times::{time_ranges, wider};
 use affc_ast::Items;
 use affc_ast::copies::all as copies;
@@ -29,18 +29,18 @@ fn add_blocks(
     alloc: Global,
     first: u32,
     more: u32,
-    parts: &[Part<'_, '_>],
+    statements: &[Alive<'_, '_>],
     made: Items<Stmt>,
 ) -> Result<Items<Stmt>, AllocError>
     requires few { first + more ≤ 512 }
-    requires printable { AllPrintable first (map piece parts.now) }
-    ensures { IfOk result (λ x. x ≡ made ++ map (block_of first more) (map piece parts.now)) }
+    requires printable { AllPrintable first (map as_scheduled statements.now) }
+    ensures { IfOk result (λ x. x ≡ made ++ map (block_of first more) (map as_scheduled statements.now)) }
 {
     let mut made = made;
-    match parts {
+    match statements {
         [] => Ok(made),
-        [part, rest @ ..] => {
-            made.push(block(alloc, first, more, part)?)?;
+        [alive, rest @ ..] => {
+            made.push(block(alloc, first, more, alive)?)?;
             add_blocks(alloc, first, more, rest, made)
         }
     }
@@ -51,19 +51,19 @@ fn body(
     alloc: Global,
     first: u32,
     ends: Items<(Ix, Ix)>,
-    parts: &[Part<'_, '_>],
+    statements: &[Alive<'_, '_>],
 ) -> Result<Items<Stmt>, AllocError>
     requires few { first ≤ 4 }
     requires short { length ends ≤ 12 }
-    requires printable { AllPrintable first (map piece parts.now) }
-    ensures { IfOk result (λ x. x ≡ body_between first ends (map piece parts.now)) }
+    requires printable { AllPrintable first (map as_scheduled statements.now) }
+    ensures { IfOk result (λ x. x ≡ body_between first ends (map as_scheduled statements.now)) }
 {
-    match parts {
+    match statements {
         [] => Ok(Items::new(alloc)),
         [_, ..] => {
             let more = ends.len() as u32;
             let none = Items::new(alloc);
-            let blocks = add_blocks(alloc, first, more, parts, none)?;
+            let blocks = add_blocks(alloc, first, more, statements, none)?;
             loops_between(alloc, ends, blocks)
         }
     }
@@ -92,20 +92,20 @@ fn projected(
     alloc: Global,
     nest: &Nest,
     first: u32,
-    parts: &[Part<'_, '_>],
+    statements: &[Alive<'_, '_>],
 ) -> Result<Gathered, AllocError>
     requires first { first ≡ length nest.now.params }
     requires few { first ≤ 4 }
-    requires spans { AllSpan nest.now.params (map piece parts.now) }
-    requires ordered { IsBox (ranges_of nest.now.params (map piece parts.now)) }
-    requires parts { AllProjectable nest.now (nest.now.params ++ ranges_of nest.now.params (map piece parts.now)) (map numbered parts.now) }
-    ensures all { IfOk result (Gathers nest.now (nest.now.params ++ ranges_of nest.now.params (map piece parts.now)) first (map numbered parts.now)) }
+    requires spans { AllSpan nest.now.params (map as_scheduled statements.now) }
+    requires ordered { IsBox (ranges_of nest.now.params (map as_scheduled statements.now)) }
+    requires statements { AllProjectable nest.now (nest.now.params ++ ranges_of nest.now.params (map as_scheduled statements.now)) (map numbered statements.now) }
+    ensures all { IfOk result (Gathers nest.now (nest.now.params ++ ranges_of nest.now.params (map as_scheduled statements.now)) first (map numbered statements.now)) }
     ensures short { IfOk result (λ made. length made.ends ≤ 12) }
 {
-    let times = time_ranges(alloc, &nest.params, parts)?;
+    let times = time_ranges(alloc, &nest.params, statements)?;
     let params = nest.params.clone()?;
     let ranges = wider(params, times.as_slice())?;
-    gather_all(alloc, nest, &ranges, first, parts)
+    gather_all(alloc, nest, &ranges, first, statements)
 }
 
 /// The program of these times, of which each has so many components.
@@ -121,11 +121,11 @@ fn scan_times(
 {
     let sites = all_sites(alloc, program)?;
     let entries = nest.entries.as_slice();
-    let found = all_parts(alloc, sites.as_slice(), entries, maps)?;
-    let parts = found.as_slice();
+    let found = all_alive(alloc, sites.as_slice(), entries, maps)?;
+    let statements = found.as_slice();
     let first = nest.params.ranges().len() as u32;
-    let Gathered { ends, loose } = projected(alloc, nest, first, parts)?;
-    let body = body(alloc, first, ends, parts)?;
+    let Gathered { ends, loose } = projected(alloc, nest, first, statements)?;
+    let body = body(alloc, first, ends, statements)?;
     let program = with_body(alloc, program, body)?;
     Ok(Scanned { program, loose })
 }

@@ -4,10 +4,10 @@ ghost use Rattle.std.specs.List.{All};
 ghost use Rattle.affc_system.specs.Boxes.{IsBox};
 ghost use Rattle.affc_loops.specs.Limits.{IsSmall};
 ghost use Rattle.affc_loops.specs.Loops as specs;
-ghost use Rattle.affc_scan.specs.Parts.{piece};
-ghost use Rattle.affc_scan.specs.Pieces.{HasSpans, AllSpan};
+ghost use Rattle.affc_scan.specs.Alive.{as_scheduled};
+ghost use Rattle.affc_scan.specs.Numbered.{HasSpans, AllSpan};
 
-use crate::parts::Part;
+use crate::alive::Alive;
 use crate::ranges::{add_hulls, add_spans};
 use affc_ast::Items;
 use affc_system::BoxOf;
@@ -33,30 +33,30 @@ pub(crate) fn wider(ranges: BoxOf, more: &[(i64, i64)]) -> Result<BoxOf, AllocEr
 pub(crate) fn times_of(
     alloc: Global,
     params: &BoxOf,
-    part: &Part<'_, '_>,
+    alive: &Alive<'_, '_>,
 ) -> Result<Items<(i64, i64)>, AllocError>
-    requires { HasSpans params.now (piece part.now) }
-    ensures value { IfOk result (λ x. x ≡ specs.times_of params.now (piece part.now)) }
+    requires { HasSpans params.now (as_scheduled alive.now) }
+    ensures value { IfOk result (λ x. x ≡ specs.times_of params.now (as_scheduled alive.now)) }
     ensures small { IfOk result (All IsSmall) }
 {
     let ranges = params.clone()?;
-    let ranges = wider(ranges, part.entry.ranges.ranges())?;
-    add_spans(&ranges, part.times.forms.as_slice(), Items::new(alloc))
+    let ranges = wider(ranges, alive.entry.ranges.ranges())?;
+    add_spans(&ranges, alive.times.forms.as_slice(), Items::new(alloc))
 }
 
 /// The ranges of all times.
 pub(crate) fn time_ranges(
     alloc: Global,
     params: &BoxOf,
-    parts: &[Part<'_, '_>],
+    statements: &[Alive<'_, '_>],
 ) -> Result<Items<(i64, i64)>, AllocError>
-    requires { AllSpan params.now (map piece parts.now) }
-    ensures { IfOk result (λ x. x ≡ specs.time_ranges params.now (map piece parts.now)) }
+    requires { AllSpan params.now (map as_scheduled statements.now) }
+    ensures { IfOk result (λ x. x ≡ specs.time_ranges params.now (map as_scheduled statements.now)) }
 {
-    match parts {
+    match statements {
         [] => Ok(Items::new(alloc)),
-        [part, rest @ ..] => {
-            let own = times_of(alloc, params, part)?;
+        [alive, rest @ ..] => {
+            let own = times_of(alloc, params, alive)?;
             match rest {
                 [] => Ok(own),
                 [_, ..] => {

@@ -14,9 +14,9 @@ use Rattle.affc_domain.specs.Rounds.{Round, rounds}
 use Rattle.affc_loops.specs.Between.{program_between}
 use Rattle.affc_loops.specs.Ends.{ends_of}
 use Rattle.affc_loops.specs.Laws.{HasLoops}
-use Rattle.affc_loops.specs.Loops.{Piece, boxes, pieces, pieces_from, time_ranges}
+use Rattle.affc_loops.specs.Loops.{Scheduled, boxes, scheduled, scheduled_from, time_ranges}
 use Rattle.affc_loops.proofs.BetweenLaws.{few}
-use Rattle.affc_loops.proofs.Pieces.{numbers_are}
+use Rattle.affc_loops.proofs.Scheduled.{numbers_are}
 use Rattle.affc_loopends.specs.declared.bounds.Bounds.{Bounds}
 use Rattle.affc_loopends.specs.declared.bounds.Bounds.TheVariants.{Between, Loose as Without}
 use Rattle.affc_loopends.specs.TimeRows.{system_of}
@@ -46,7 +46,7 @@ bounds_from system ranges w column (suc count) le =
     later : (j n k : ℕ) → j + suc n ≤ k → suc j + n ≤ k
     later j n k h = omega arith
 
-bounds_in : (program : Program) (ranges : List (ℤ × ℤ)) (e : Piece) → (bs : List Bounds) × AreBounds program ranges e bs
+bounds_in : (program : Program) (ranges : List (ℤ × ℤ)) (e : Scheduled) → (bs : List Bounds) × AreBounds program ranges e bs
 bounds_in program ranges e =
     let s = timed_in program e.around e.ranges e.times in
     let bs = bounds_from (system_of s) (number_ranges program.params ++ ranges) (system_wide s) (numbers_in program.params) (length e.times.forms)
@@ -58,7 +58,7 @@ bounds_in program ranges e =
 
 -- ---- All statements
 
-bounds_of_each : (program : Program) (ranges : List (ℤ × ℤ)) (es : List Piece) → (bss : List (List Bounds)) × AreBoundsOfEach program ranges es bss
+bounds_of_each : (program : Program) (ranges : List (ℤ × ℤ)) (es : List Scheduled) → (bss : List (List Bounds)) × AreBoundsOfEach program ranges es bss
 bounds_of_each program ranges [] = ([], tt)
 bounds_of_each program ranges (e ∷ es) =
     let b = bounds_in program ranges e in
@@ -75,7 +75,7 @@ few_from statement component (Without why ∷ bs) = both_more (length (loose_fro
 few_in_all : (l a b n m : ℕ) → l ≡ a + b → a ≤ n → n ≤ 12 → b ≤ m * 12 → l ≤ suc m * 12
 few_in_all l a b n m e h k g = omega arith
 
-few_loose : (program : Program) (ranges : List (ℤ × ℤ)) (es : List Piece) (bss : List (List Bounds)) → ((e : Piece) → IsIn e es → length e.times.forms ≤ 12) → AreBoundsOfEach program ranges es bss
+few_loose : (program : Program) (ranges : List (ℤ × ℤ)) (es : List Scheduled) (bss : List (List Bounds)) → ((e : Scheduled) → IsIn e es → length e.times.forms ≤ 12) → AreBoundsOfEach program ranges es bss
     → length (all_loose es bss) ≤ length es * 12
 few_loose program ranges [] [] small h = omega arith
 few_loose program ranges [] (bs ∷ bss) small h = absurd h
@@ -85,13 +85,13 @@ few_loose program ranges (e ∷ es) (bs ∷ bss) small h =
     (length-append (loose_from e.statement 0 bs) (all_loose es bss)) (few_from e.statement 0 bs) (subst (λ n. n ≤ 12) (sym (h.0).one_each) (small e (inl refl)))
     (few_loose program ranges es bss (λ f i. small f (inr i)) h.1)
 
-few_pieces : (k : ℕ) (rss : List (List Round)) (as' : List Assignment) (ms : List TimeMap) (bs : List (Option (List (ℤ × ℤ)))) → length (pieces_from k rss as' ms bs) ≤ length as'
-few_pieces k [] as' ms bs = omega arith
-few_pieces k (rs ∷ rss) [] ms bs = omega arith
-few_pieces k (rs ∷ rss) (a ∷ as') [] bs = omega arith
-few_pieces k (rs ∷ rss) (a ∷ as') (m ∷ ms) [] = omega arith
-few_pieces k (rs ∷ rss) (a ∷ as') (m ∷ ms) (Some box ∷ bs) = both_more (length (pieces_from (suc k) rss as' ms bs)) (length as') (few_pieces (suc k) rss as' ms bs)
-few_pieces k (rs ∷ rss) (a ∷ as') (m ∷ ms) (None ∷ bs) = one_more (length (pieces_from (suc k) rss as' ms bs)) (length as') (few_pieces (suc k) rss as' ms bs)
+few_scheduled : (k : ℕ) (rss : List (List Round)) (as' : List Assignment) (ms : List TimeMap) (bs : List (Option (List (ℤ × ℤ)))) → length (scheduled_from k rss as' ms bs) ≤ length as'
+few_scheduled k [] as' ms bs = omega arith
+few_scheduled k (rs ∷ rss) [] ms bs = omega arith
+few_scheduled k (rs ∷ rss) (a ∷ as') [] bs = omega arith
+few_scheduled k (rs ∷ rss) (a ∷ as') (m ∷ ms) [] = omega arith
+few_scheduled k (rs ∷ rss) (a ∷ as') (m ∷ ms) (Some box ∷ bs) = both_more (length (scheduled_from (suc k) rss as' ms bs)) (length as') (few_scheduled (suc k) rss as' ms bs)
+few_scheduled k (rs ∷ rss) (a ∷ as') (m ∷ ms) (None ∷ bs) = one_more (length (scheduled_from (suc k) rss as' ms bs)) (length as') (few_scheduled (suc k) rss as' ms bs)
 
 all_small : (l n m : ℕ) → l ≤ n * 12 → n ≤ m → m ≤ 64 → l < 2 ^ 63
 all_small l n m h k g = omega arith
@@ -99,17 +99,17 @@ all_small l n m h k g = omega arith
 -- ---- Programs
 
 module _ (program : Program) (n : ℕ) (maps : List TimeMap) (h : HasLoops program (Time n maps)) where
-  its_components : (e : Piece) → IsIn e (pieces program maps) → length e.times.forms ≤ 12
+  its_components : (e : Scheduled) → IsIn e (scheduled program maps) → length e.times.forms ≤ 12
   its_components e i = subst (λ k. k ≤ 12) (sym (is_own program n maps h e i).map_of.components) (few program n maps h)
 
   scanned : (s : Scanned) × Scans program (Time n maps) s
   scanned =
-      let es = pieces program maps in
+      let es = scheduled program maps in
       let ranges = time_ranges (number_ranges program.params) es in
       let b = bounds_of_each program ranges es in
       let loose = all_loose es b.0 in
       let small : length loose < 2 ^ 63 = all_small (length loose) (length es) (length (assignments program)) (few_loose program ranges es b.0 its_components b.1)
-      (few_pieces 0 (rounds program) (assignments program) maps (boxes program)) (h.plain).few_assignments in
+      (few_scheduled 0 (rounds program) (assignments program) maps (boxes program)) (h.plain).few_assignments in
       (record { program = program_between program maps (ends_of program maps (all_sides b.0)); loose = vec_of loose small }, record { bounds = b.0; are_bounds = b.1; is = refl; loose = refl })
 
 pub programs_scan : ProgramsScan

@@ -18,7 +18,7 @@ use Rattle.affc_domain.specs.Rounds.{Loop}
 use Rattle.affc_loops.specs.Between.{program_between}
 use Rattle.affc_loops.specs.Ends.{ends_of}
 use Rattle.affc_loops.specs.Examples.{lit, name, n, backwards}
-use Rattle.affc_loops.specs.Loops.{Piece, pieces, time_ranges}
+use Rattle.affc_loops.specs.Loops.{Scheduled, scheduled, time_ranges}
 use Rattle.affc_loopends.specs.declared.bounds.Bounds.TheVariants.{Between}
 use Rattle.affc_loopends.specs.Ends.{AreEnds}
 use Rattle.affc_loopends.specs.Examples as ends
@@ -39,8 +39,8 @@ has_loops = record {
   limits = refl;
 }
 
-abbrev pub its_piece : Piece
-its_piece = record {
+abbrev pub its_statement : Scheduled
+its_statement = record {
   statement = 0;
   around = Loop [] (lit 0) Less n ∷ [];
   assignment = record { op = None; array = record { 0 = 1 }; subs = name 1 ∷ []; value = Load (record { 0 = 0 }) (name 1 ∷ []) };
@@ -48,15 +48,15 @@ its_piece = record {
   ranges = (pos 0, pos 8) ∷ [];
 }
 
-abbrev its_pieces : List Piece
-its_pieces = pieces nine (backwards ∷ [])
+abbrev its_scheduled : List Scheduled
+its_scheduled = scheduled nine (backwards ∷ [])
 
 abbrev pub its_ranges : List (ℤ × ℤ)
 its_ranges = (negsuc 7, pos 0) ∷ []
 
-pub pieces_are : its_pieces ≡ its_piece ∷ []
+pub scheduled_are : its_scheduled ≡ its_statement ∷ []
 unfolding shape-the_row-Ix-0 hidden-the_row-Ix-0 shape-the_row-Val-0 hidden-the_row-Val-0 shape-the_row-Stmt-0 hidden-the_row-Stmt-0 hidden
-pieces_are = refl
+scheduled_are = refl
 
 -- ---- Its bounds
 
@@ -80,7 +80,7 @@ up_to_is_modest =
 
 -- the statement is that of affc_loopends' example
 bounds_are : (lower upper : Vec Affine) → AreEnds (system_of ends.reversed) 1 lower.items upper.items → All (IsModest known) lower.items → All (IsModest known) upper.items
-    → AreBoundsOfEach nine its_ranges (its_piece ∷ []) ((Between lower upper ∷ []) ∷ [])
+    → AreBoundsOfEach nine its_ranges (its_statement ∷ []) ((Between lower upper ∷ []) ∷ [])
 unfolding shape-the_row-Ix-0 hidden-the_row-Ix-0 hidden
 bounds_are lower upper e l u = (record { one_each = refl; projected = ((e, l, u), tt) }, tt)
 
@@ -101,7 +101,7 @@ scans lower upper none below above empty =
     let u = subst (All (IsModest known)) (sym above) up_to_is_modest in
     record {
       bounds = bounds;
-      are_bounds = subst (λ es. AreBoundsOfEach nine (time_ranges (number_ranges nine.params) es) es bounds) (sym pieces_are) (bounds_are lower upper e l u);
+      are_bounds = subst (λ es. AreBoundsOfEach nine (time_ranges (number_ranges nine.params) es) es bounds) (sym scheduled_are) (bounds_are lower upper e l u);
       is = ap (λ es. program_between nine (backwards ∷ []) es) (sym (ap (λ rs. ends_by rs upper.items) below ∙ ap (λ rs. ends_by (ends.from ∷ []) rs) above ∙ ends_are));
-      loose = empty ∙ ap (λ es. all_loose es bounds) (sym pieces_are);
+      loose = empty ∙ ap (λ es. all_loose es bounds) (sym scheduled_are);
     }

@@ -37,7 +37,7 @@ use Rattle.affc_loopends.proofs.Extended.{ends_hold, turns_extend}
 use Rattle.affc_loopends.specs.declared.scanned.scanned.Scanned.{Scanned}
 use Rattle.affc_loopends.specs.scanned.Examples.{nine, loop_between, NoRowIsLeftOut, NoRowsWhereLoose, ItsOwnOrder}
 use Rattle.affc_loopends.specs.scanned.Scanned.{sides_of, AreBoundsOfEach, IsBetween, all_loose, all_sides}
-use Rattle.affc_loopends.proofs.scanned.ExampleProofs.{its_piece, its_ranges, pieces_are}
+use Rattle.affc_loopends.proofs.scanned.ExampleProofs.{its_statement, its_ranges, scheduled_are}
 use Rattle.affc_loopends.proofs.scanned.Tight.{not_empty}
 
 -- ---- Without a row from below -5 would be a turn at N = 3
@@ -171,12 +171,12 @@ program_of bs = program_between nine (backwards ∷ []) (ends_of nine (backwards
 -- the one component of the one statement
 record OneOf (s : Scanned) : Type 0 where
   bound : Bounds
-  is_bound : AreBoundsOfEach nine its_ranges (its_piece ∷ []) ((bound ∷ []) ∷ [])
+  is_bound : AreBoundsOfEach nine its_ranges (its_statement ∷ []) ((bound ∷ []) ∷ [])
   is : s.program ≡ program_of (bound ∷ [])
-  loose : s.loose.items ≡ all_loose (its_piece ∷ []) ((bound ∷ []) ∷ [])
+  loose : s.loose.items ≡ all_loose (its_statement ∷ []) ((bound ∷ []) ∷ [])
 
-one_of : (s : Scanned) (bss : List (List Bounds)) → AreBoundsOfEach nine its_ranges (its_piece ∷ []) bss
-    → s.program ≡ program_between nine (backwards ∷ []) (ends_of nine (backwards ∷ []) (all_sides bss)) → s.loose.items ≡ all_loose (its_piece ∷ []) bss → OneOf s
+one_of : (s : Scanned) (bss : List (List Bounds)) → AreBoundsOfEach nine its_ranges (its_statement ∷ []) bss
+    → s.program ≡ program_between nine (backwards ∷ []) (ends_of nine (backwards ∷ []) (all_sides bss)) → s.loose.items ≡ all_loose (its_statement ∷ []) bss → OneOf s
 one_of s [] b e l = absurd b
 one_of s ([] ∷ []) b e l = let h : zero ≡ 1 = (b.0).one_each in absurd (omega arith)
 one_of s ((x ∷ []) ∷ []) b e l = record { bound = x; is_bound = b; is = e; loose = l }
@@ -185,17 +185,17 @@ one_of s (bs ∷ cs ∷ bss) b e l = absurd b.1
 
 alone : (s : Scanned) → IsBetween nine (backwards ∷ []) s → OneOf s
 alone s b =
-    one_of s b.bounds (subst (λ es. AreBoundsOfEach nine (time_ranges (number_ranges nine.params) es) es b.bounds) pieces_are b.are_bounds) b.is
-    (b.loose ∙ ap (λ es. all_loose es b.bounds) pieces_are)
+    one_of s b.bounds (subst (λ es. AreBoundsOfEach nine (time_ranges (number_ranges nine.params) es) es b.bounds) scheduled_are b.are_bounds) b.is
+    (b.loose ∙ ap (λ es. all_loose es b.bounds) scheduled_are)
 
-ends_at : (lower upper : Vec Affine) → AreBoundsOfEach nine its_ranges (its_piece ∷ []) ((Between lower upper ∷ []) ∷ []) → AreEnds (system_of ends.reversed) 1 lower.items upper.items
+ends_at : (lower upper : Vec Affine) → AreBoundsOfEach nine its_ranges (its_statement ∷ []) ((Between lower upper ∷ []) ∷ []) → AreEnds (system_of ends.reversed) 1 lower.items upper.items
 unfolding shape-the_row-Ix-0 hidden-the_row-Ix-0 hidden
 ends_at lower upper a = (((a.0).projected).0).0
 
 pub no_row_is_left_out : NoRowIsLeftOut
 no_row_is_left_out high none empty scans = by (alone (record { program = loop_between (Neg (lit 8)) high; loose = none }) scans)
   where
-    of : (b : Bounds) → AreBoundsOfEach nine its_ranges (its_piece ∷ []) ((b ∷ []) ∷ []) → loop_between (Neg (lit 8)) high ≡ program_of (b ∷ []) → all_loose (its_piece ∷ []) ((b ∷ []) ∷ []) ≡ [] → ⊥
+    of : (b : Bounds) → AreBoundsOfEach nine its_ranges (its_statement ∷ []) ((b ∷ []) ∷ []) → loop_between (Neg (lit 8)) high ≡ program_of (b ∷ []) → all_loose (its_statement ∷ []) ((b ∷ []) ∷ []) ≡ [] → ⊥
     of (Without why) a e l = not_empty (record { statement = 0; component = 0; why = why }) [] l
     of (Between lower upper) a e l =
         let none_below = no_rows lower.items (sym (low_by_rows lower.items upper.items) ∙ sym (ap low_of e) ∙ low_given (Neg (lit 8)) high) in
@@ -207,7 +207,7 @@ no_row_is_left_out high none empty scans = by (alone (record { program = loop_be
 pub no_rows_where_loose : NoRowsWhereLoose
 no_rows_where_loose a b high one named is scans = by (alone (record { program = loop_between (Max a b) high; loose = named }) scans)
   where
-    of : (x : Bounds) → loop_between (Max a b) high ≡ program_of (x ∷ []) → all_loose (its_piece ∷ []) ((x ∷ []) ∷ []) ≡ one ∷ [] → ⊥
+    of : (x : Bounds) → loop_between (Max a b) high ≡ program_of (x ∷ []) → all_loose (its_statement ∷ []) ((x ∷ []) ∷ []) ≡ one ∷ [] → ⊥
     of (Between lower upper) e l = not_empty one [] (sym l)
     of (Without why) e l = no_max (Max a b) (max_is a b) (sym (low_given (Max a b) high) ∙ ap low_of e ∙ low_by_rows [] [])
 

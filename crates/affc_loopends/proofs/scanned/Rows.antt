@@ -21,11 +21,11 @@ use Rattle.affc_domain.specs.Ranges.{Within, number_ranges, ranges_of}
 use Rattle.affc_domain.specs.Rounds.{rounds, loops_in}
 use Rattle.affc_loops.specs.Ends.{IsRow, BoundsBelow, BoundsAbove, AreSides, AreSidesFrom, HoldFrom, AreRowsOf, AreRowsOfEach, last_of}
 use Rattle.affc_loops.specs.Laws.{HasLoops}
-use Rattle.affc_loops.specs.Loops.{Piece, boxes, pieces, time_ranges}
+use Rattle.affc_loops.specs.Loops.{Scheduled, boxes, scheduled, time_ranges}
 use Rattle.affc_loops.proofs.BetweenLaws.{its_own, numbers, some_or_none}
 use Rattle.affc_loops.proofs.Boxes.{sits}
 use Rattle.affc_loops.proofs.Guards.{names_count}
-use Rattle.affc_loops.proofs.Pieces.{is_piece, shape_of, numbers_are}
+use Rattle.affc_loops.proofs.Scheduled.{is_scheduled_at, shape_of, numbers_are}
 use Rattle.affc_loopends.specs.declared.bounds.Bounds.{Bounds}
 use Rattle.affc_loopends.specs.declared.bounds.Bounds.TheVariants.{Between, Loose as Without}
 use Rattle.affc_loopends.specs.Ends.{IsProjectedRow}
@@ -93,22 +93,22 @@ module _ (source : Program) (n : ℕ) (maps : List TimeMap) (h : HasLoops source
   abbrev pub params : List (ℤ × ℤ)
   params = number_ranges source.params
 
-  abbrev pub all : List Piece
-  all = pieces source maps
+  abbrev pub all : List Scheduled
+  all = scheduled source maps
 
   abbrev pub ranges : List (ℤ × ℤ)
   ranges = time_ranges params all
 
   -- a statement with its loops, ranges and times
-  pub record IsOwn (e : Piece) : Type 0 where
+  pub record IsOwn (e : Scheduled) : Type 0 where
     pub rounds_at : slice_get (rounds source) e.statement ≡ Some e.around
     pub within : ranges_of params e.around ≡ Within e.ranges
     pub mapped : slice_get maps e.statement ≡ Some e.times
     pub map_of : IsMapOf (length params) (loops_in e.around) n e.times
 
-  pub is_own : (e : Piece) → IsIn e all → IsOwn e
+  pub is_own : (e : Scheduled) → IsIn e all → IsOwn e
   is_own e i =
-      let k = is_piece 0 (rounds source) (assignments source) maps (boxes source) e i in
+      let k = is_scheduled_at 0 (rounds source) (assignments source) maps (boxes source) e i in
       let q : e.statement ≡ 0 + k.at = k.number in
       let at : e.statement ≡ k.at = omega arith in
       let s = sits source k.at e.ranges k.its_ranges in
@@ -123,21 +123,21 @@ module _ (source : Program) (n : ℕ) (maps : List TimeMap) (h : HasLoops source
             (subst (λ l. IsMapOf (numbers_in source.params) l n e.times) (names_count e.around) shape);
       }
 
-  pub its_shape : (e : Piece) → IsIn e all → IsShaped (timed_in source e.around e.ranges e.times)
+  pub its_shape : (e : Scheduled) → IsIn e all → IsShaped (timed_in source e.around e.ranges e.times)
   its_shape e i = let own = is_own e i in program_is_shaped source e.around e.ranges e.times n own.map_of own.within
 
-  components_long : (e : Piece) → IsIn e all → length e.times.forms ≡ length ranges
+  components_long : (e : Scheduled) → IsIn e all → length e.times.forms ≡ length ranges
   components_long e i = elim (some_or_none source n maps h) [ inl q ↦ absurd (subst (IsIn e) q i) | inr l ↦ (is_own e i).map_of.components ∙ sym l ]
 
   module _ (p : List ℤ) (inside : IsInContext source p) where
     pub numbers_long : length p ≡ numbers_in source.params
     numbers_long = numbers source source n maps h (its_own source) p inside.ranges
 
-    pub bounds_at : (e : Piece) (bs : List Bounds) → AreBounds source ranges e bs → AreBoundsFrom (system_of (timed_in source e.around e.ranges e.times)) (length p) (params ++ ranges) bs
+    pub bounds_at : (e : Scheduled) (bs : List Bounds) → AreBounds source ranges e bs → AreBoundsFrom (system_of (timed_in source e.around e.ranges e.times)) (length p) (params ++ ranges) bs
     bounds_at e bs b = subst (λ k. AreBoundsFrom (system_of (timed_in source e.around e.ranges e.times)) k (params ++ ranges) bs) (sym numbers_long) b.projected
 
-    piece_rows : (e : Piece) → IsIn e all → (bs : List Bounds) → AreBounds source ranges e bs → AreRowsOf source maps ranges p e (map sides_of bs)
-    piece_rows e i bs b =
+    scheduled_rows : (e : Scheduled) → IsIn e all → (bs : List Bounds) → AreBounds source ranges e bs → AreRowsOf source maps ranges p e (map sides_of bs)
+    scheduled_rows e i bs b =
         let own = is_own e i in
         let s = timed_in source e.around e.ranges e.times in
         record {
@@ -150,8 +150,8 @@ module _ (source : Program) (n : ℕ) (maps : List TimeMap) (h : HasLoops source
               hold_from s (params ++ ranges) (p ++ time_of maps p a) (its_shape e i) point (length p) bs (bounds_at e bs b);
         }
 
-    pub each_rows : (es : List Piece) → ((e : Piece) → IsIn e es → IsIn e all) → (bss : List (List Bounds)) → AreBoundsOfEach source ranges es bss → AreRowsOfEach source maps ranges p es (all_sides bss)
+    pub each_rows : (es : List Scheduled) → ((e : Scheduled) → IsIn e es → IsIn e all) → (bss : List (List Bounds)) → AreBoundsOfEach source ranges es bss → AreRowsOfEach source maps ranges p es (all_sides bss)
     each_rows [] sub [] b = tt
     each_rows [] sub (bs ∷ bss) b = absurd b
     each_rows (e ∷ es) sub [] b = absurd b
-    each_rows (e ∷ es) sub (bs ∷ bss) b = (piece_rows e (sub e (inl refl)) bs b.0, each_rows es (λ f i. sub f (inr i)) bss b.1)
+    each_rows (e ∷ es) sub (bs ∷ bss) b = (scheduled_rows e (sub e (inl refl)) bs b.0, each_rows es (λ f i. sub f (inr i)) bss b.1)

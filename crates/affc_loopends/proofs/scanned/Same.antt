@@ -11,7 +11,7 @@ use Rattle.affc_domain.proofs.PlainLemmas.{rounds_of_each}
 use Rattle.affc_loops.specs.Between.{program_between}
 use Rattle.affc_loops.specs.Ends.{ends_of}
 use Rattle.affc_loops.specs.Laws.{HaveSameLoops}
-use Rattle.affc_loops.specs.Loops.{Piece, boxes, pieces_from, pieces, time_ranges}
+use Rattle.affc_loops.specs.Loops.{Scheduled, boxes, scheduled_from, scheduled, time_ranges}
 use Rattle.affc_loops.proofs.SameLoops.{boxes_same, numbers_same, times_same}
 use Rattle.affc_loopends.specs.declared.bounds.Bounds.{Bounds}
 use Rattle.affc_loopends.specs.TimeRows.{system_of}
@@ -23,19 +23,19 @@ use Rattle.affc_loopends.specs.scanned.Scanned.{AreBounds, AreBoundsOfEach, IsBe
 -- ---- The statements
 
 -- all but what they do
-pub record IsSame (e f : Piece) : Type 0 where
+pub record IsSame (e f : Scheduled) : Type 0 where
   pub statement : e.statement ≡ f.statement
   pub around : e.around ≡ f.around
   pub times : e.times ≡ f.times
   pub ranges : e.ranges ≡ f.ranges
 
-abbrev pub AreSame : List Piece → List Piece → Type 0
+abbrev pub AreSame : List Scheduled → List Scheduled → Type 0
 AreSame [] [] = Unit {0}
 AreSame [] (f ∷ fs) = ⊥
 AreSame (e ∷ es) [] = ⊥
 AreSame (e ∷ es) (f ∷ fs) = IsSame e f × AreSame es fs
 
-from_same : (k : ℕ) (rss : List (List Round)) (as' bs : List Assignment) (ms : List TimeMap) (boxes : List (Option (List (ℤ × ℤ)))) → length as' ≡ length bs → AreSame (pieces_from k rss as' ms boxes) (pieces_from k rss bs ms boxes)
+from_same : (k : ℕ) (rss : List (List Round)) (as' bs : List Assignment) (ms : List TimeMap) (boxes : List (Option (List (ℤ × ℤ)))) → length as' ≡ length bs → AreSame (scheduled_from k rss as' ms boxes) (scheduled_from k rss bs ms boxes)
 from_same k [] as' bs ms boxes l = tt
 from_same k (rs ∷ rss) [] [] ms boxes l = tt
 from_same k (rs ∷ rss) [] (b ∷ bs) ms boxes l = absurd (omega (arith, l))
@@ -46,16 +46,16 @@ from_same k (rs ∷ rss) (a ∷ as') (b ∷ bs) (m ∷ ms) (Some box ∷ boxes) 
     (record { statement = refl; around = refl; times = refl; ranges = refl }, from_same (suc k) rss as' bs ms boxes (omega (arith, l)))
 from_same k (rs ∷ rss) (a ∷ as') (b ∷ bs) (m ∷ ms) (None ∷ boxes) l = from_same (suc k) rss as' bs ms boxes (omega (arith, l))
 
-pub pieces_same : (source other : Program) → HaveSameLoops source other → (maps : List TimeMap) → AreSame (pieces source maps) (pieces other maps)
-pieces_same source other same maps =
+pub scheduled_same : (source other : Program) → HaveSameLoops source other → (maps : List TimeMap) → AreSame (scheduled source maps) (scheduled other maps)
+scheduled_same source other same maps =
     let count = rounds_of_each source in
     let counted = rounds_of_each other in
     let both = ap length same.same_rounds in
-    subst (λ rss. AreSame (pieces source maps) (pieces_from 0 rss (assignments other) maps (boxes other))) (sym same.same_rounds)
-    (subst (λ bs. AreSame (pieces source maps) (pieces_from 0 (rounds source) (assignments other) maps bs)) (sym (boxes_same source other same))
+    subst (λ rss. AreSame (scheduled source maps) (scheduled_from 0 rss (assignments other) maps (boxes other))) (sym same.same_rounds)
+    (subst (λ bs. AreSame (scheduled source maps) (scheduled_from 0 (rounds source) (assignments other) maps bs)) (sym (boxes_same source other same))
     (from_same 0 (rounds source) (assignments source) (assignments other) maps (boxes source) (omega (arith, count, counted, both))))
 
-pub loose_same : (es fs : List Piece) → AreSame es fs → (bss : List (List Bounds)) → all_loose es bss ≡ all_loose fs bss
+pub loose_same : (es fs : List Scheduled) → AreSame es fs → (bss : List (List Bounds)) → all_loose es bss ≡ all_loose fs bss
 loose_same [] [] h bss = refl
 loose_same [] (f ∷ fs) h bss = absurd h
 loose_same (e ∷ es) [] h bss = absurd h
@@ -75,7 +75,7 @@ pub its_times : (source : Program) → HaveSameTimes source source
 its_times source = record { same_loops = record { same_rounds = refl; same_ranges = refl }; same_context = refl }
 
 module _ (source other : Program) (same : HaveSameTimes source other) where
-  timed_same : (e f : Piece) → IsSame e f → timed_in source e.around e.ranges e.times ≡ timed_in other f.around f.ranges f.times
+  timed_same : (e f : Scheduled) → IsSame e f → timed_in source e.around e.ranges e.times ≡ timed_in other f.around f.ranges f.times
   timed_same e f h = λ i. record {
     params = sym (same.same_loops).same_ranges i;
     context = sym same.same_context i;
@@ -89,7 +89,7 @@ module _ (source other : Program) (same : HaveSameTimes source other) where
     known : number_ranges source.params ++ ranges ≡ number_ranges other.params ++ own
     known = ap (λ rs. number_ranges source.params ++ rs) are ∙ ap (λ ps. ps ++ own) (sym (same.same_loops).same_ranges)
 
-    one_same : (e f : Piece) → IsSame e f → (bs : List Bounds) → AreBounds source ranges e bs → AreBounds other own f bs
+    one_same : (e f : Scheduled) → IsSame e f → (bs : List Bounds) → AreBounds source ranges e bs → AreBounds other own f bs
     one_same e f h bs b =
         let q = system_of (timed_in other f.around f.ranges f.times) in
         record {
@@ -100,7 +100,7 @@ module _ (source other : Program) (same : HaveSameTimes source other) where
               (subst (λ (s : Timed). AreBoundsFrom (system_of s) (numbers_in source.params) (number_ranges source.params ++ ranges) bs) (timed_same e f h) b.projected));
         }
 
-    each_same : (es fs : List Piece) → AreSame es fs → (bss : List (List Bounds)) → AreBoundsOfEach source ranges es bss → AreBoundsOfEach other own fs bss
+    each_same : (es fs : List Scheduled) → AreSame es fs → (bss : List (List Bounds)) → AreBoundsOfEach source ranges es bss → AreBoundsOfEach other own fs bss
     each_same [] [] h [] b = tt
     each_same [] [] h (bs ∷ bss) b = absurd b
     each_same [] (f ∷ fs) h bss b = absurd h
@@ -108,11 +108,11 @@ module _ (source other : Program) (same : HaveSameTimes source other) where
     each_same (e ∷ es) (f ∷ fs) h [] b = absurd b
     each_same (e ∷ es) (f ∷ fs) h (bs ∷ bss) b = (one_same e f h.0 bs b.0, each_same es fs h.1 bss b.1)
 
-  pub bounds_same : (maps : List TimeMap) (bss : List (List Bounds)) → AreBoundsOfEach source (time_ranges (number_ranges source.params) (pieces source maps)) (pieces source maps) bss
-      → AreBoundsOfEach other (time_ranges (number_ranges other.params) (pieces other maps)) (pieces other maps) bss
+  pub bounds_same : (maps : List TimeMap) (bss : List (List Bounds)) → AreBoundsOfEach source (time_ranges (number_ranges source.params) (scheduled source maps)) (scheduled source maps) bss
+      → AreBoundsOfEach other (time_ranges (number_ranges other.params) (scheduled other maps)) (scheduled other maps) bss
   bounds_same maps bss b =
-      each_same (time_ranges (number_ranges source.params) (pieces source maps)) (time_ranges (number_ranges other.params) (pieces other maps)) (sym (times_same source other same.same_loops maps))
-      (pieces source maps) (pieces other maps) (pieces_same source other same.same_loops maps) bss b
+      each_same (time_ranges (number_ranges source.params) (scheduled source maps)) (time_ranges (number_ranges other.params) (scheduled other maps)) (sym (times_same source other same.same_loops maps))
+      (scheduled source maps) (scheduled other maps) (scheduled_same source other same.same_loops maps) bss b
 
 -- ---- What is scanned of one is scanned of the other
 
@@ -125,7 +125,7 @@ same_loops_scan source other (Time n maps) s h same scans =
         bounds = own.bounds;
         are_bounds = bounds_same source other same maps own.bounds own.are_bounds;
         is = refl;
-        loose = own.loose ∙ loose_same (pieces source maps) (pieces other maps) (pieces_same source other same.same_loops maps) own.bounds;
+        loose = own.loose ∙ loose_same (scheduled source maps) (scheduled other maps) (scheduled_same source other same.same_loops maps) own.bounds;
       },
       refl,
     )

@@ -8,8 +8,8 @@ use Rattle.affc_trace.specs.Laws.{IsInContext}
 use Rattle.affc_loops.specs.Between.{IsTurn}
 use Rattle.affc_loops.specs.Ends.{Sides, MeetAlong, ends_of}
 use Rattle.affc_loops.specs.Laws.{HasLoops}
-use Rattle.affc_loops.specs.Loops.{Piece, pieces}
-use Rattle.affc_loops.proofs.Pieces.{numbers_are}
+use Rattle.affc_loops.specs.Loops.{Scheduled, scheduled}
+use Rattle.affc_loops.proofs.Scheduled.{numbers_are}
 use Rattle.affc_loops.proofs.RowLaws.{turns_meet_rows, ends_same}
 use Rattle.affc_loopends.specs.declared.bounds.Bounds.{Bounds}
 use Rattle.affc_loopends.specs.declared.bounds.Bounds.TheVariants.{Between, Loose as Without}
@@ -23,7 +23,7 @@ use Rattle.affc_loopends.specs.declared.scanned.scanned.Loose.{Loose}
 use Rattle.affc_loopends.specs.scanned.Laws.{TurnsExtend}
 use Rattle.affc_loopends.specs.scanned.Scanned.{sides_of, loose_from, AreBoundsOfEach, IsBetween, all_loose, all_sides}
 use Rattle.affc_loopends.proofs.scanned.Rows.{params, ranges, sides_from, its_shape, numbers_long, bounds_at}
-use Rattle.affc_loopends.proofs.scanned.Same.{turned, pieces_same, loose_same, bounds_same}
+use Rattle.affc_loopends.proofs.scanned.Same.{turned, scheduled_same, loose_same, bounds_same}
 
 pub not_empty : (x : Loose) (xs : List Loose) → (x ∷ xs) ≡ [] → ⊥
 not_empty x xs e = let l = ap length e in absurd (omega (arith, l))
@@ -42,8 +42,8 @@ lie_between ss before [] m = tt
 lie_between [] before (x ∷ xs) m = absurd m
 lie_between (s ∷ ss) before (x ∷ xs) m = (m.0, m.1, lie_between ss (before ++ x ∷ []) xs m.2)
 
-module _ (source : Program) (n : ℕ) (maps : List TimeMap) (h : HasLoops source (Time n maps)) (e : Piece) (alone : pieces source maps ≡ e ∷ []) (p components : List ℤ) (inside : IsInContext source p) where
-  there : IsIn e (pieces source maps)
+module _ (source : Program) (n : ℕ) (maps : List TimeMap) (h : HasLoops source (Time n maps)) (e : Scheduled) (alone : scheduled source maps ≡ e ∷ []) (p components : List ℤ) (inside : IsInContext source p) where
+  there : IsIn e (scheduled source maps)
   there = subst (IsIn e) (sym alone) (inl refl)
 
   abbrev own_ranges : List (ℤ × ℤ)
@@ -73,7 +73,7 @@ turns_extend source other n maps e s h same alone scans none =
     let bounds = subst (λ es. AreBoundsOfEach source (ranges source n maps h) es given.bounds) alone own in
     let loose =
     ap (λ es. all_loose es given.bounds) (sym alone)
-    ∙ loose_same (pieces source maps) (pieces other maps) (pieces_same source other same.same_loops maps) given.bounds
+    ∙ loose_same (scheduled source maps) (scheduled other maps) (scheduled_same source other same.same_loops maps) given.bounds
     ∙ sym given.loose ∙ none in
     record {
       ends = ends_of other maps rows;

@@ -12,7 +12,7 @@ use Rattle.affc_trace.specs.declared.schedule.Schedule.TheVariants.{Source, Time
 use Rattle.affc_loops.specs.Between.{program_between}
 use Rattle.affc_loops.specs.Examples.{lit, n, backwards, copy}
 use Rattle.affc_loops.specs.Laws.{HasLoops}
-use Rattle.affc_loops.specs.Loops.{Piece}
+use Rattle.affc_loops.specs.Loops.{Scheduled}
 use Rattle.affc_loopends.specs.declared.bounds.Bounds.TheVariants.{Between, Loose as Without}
 use Rattle.affc_loopends.specs.declared.bounds.Why.{Why}
 use Rattle.affc_loopends.specs.Examples.{from, up_to}
@@ -66,6 +66,6 @@ RowsOfBounds = (lower upper : Vec Affine) (why : Why) → (sides_of (Between low
 
 -- the loose ones by the numbers of their statements, of which some may have no instances, and of their components
 abbrev pub LooseAreNumbered : Type 0
-LooseAreNumbered = (lower upper : Vec Affine) (why other : Why) (e f : Piece) → e.statement ≡ 1 → f.statement ≡ 4
+LooseAreNumbered = (lower upper : Vec Affine) (why other : Why) (e f : Scheduled) → e.statement ≡ 1 → f.statement ≡ 4
     → all_loose (e ∷ f ∷ []) ((Without why ∷ Between lower upper ∷ Without other ∷ []) ∷ (Between lower upper ∷ Without why ∷ []) ∷ [])
     ≡ record { statement = 1; component = 0; why = why } ∷ record { statement = 1; component = 2; why = other } ∷ record { statement = 4; component = 1; why = why } ∷ []

@@ -14,7 +14,7 @@ use Rattle.affc_trace.specs.Laws.{IsInContext, RunsTarget, in_target_order}
 use Rattle.affc_safe.specs.Safe.{HasExtents, KeepsWithin}
 use Rattle.affc_loops.specs.Between.{program_between, IsTurn, HoldTimes}
 use Rattle.affc_loops.specs.Laws.{HasLoops, HaveSameLoops}
-use Rattle.affc_loops.specs.Loops.{Piece, pieces}
+use Rattle.affc_loops.specs.Loops.{Scheduled, scheduled}
 use Rattle.affc_loopends.specs.TimeSets.{ExtendsToTimePoint, timed_in}
 use Rattle.affc_loopends.specs.declared.scanned.scanned.Scanned.{Scanned}
 use Rattle.affc_loopends.specs.scanned.Scanned.{Scans}
@@ -51,7 +51,7 @@ ScansCompile = (source : Program) (schedule : Schedule) (s : Scanned)
 
 -- The loops run between ends at whose every turn, at each p of the context at which the statement's time set has a point, the values of the
 -- parameters and of the components so far begin a point of the time set.
-pub record RunsTightly (source other : Program) (maps : List TimeMap) (e : Piece) (scanned : Program) : Type 0 where
+pub record RunsTightly (source other : Program) (maps : List TimeMap) (e : Scheduled) (scanned : Program) : Type 0 where
   pub ends : List (Ix × Ix)
   pub is : scanned ≡ program_between other maps ends
   pub extend : (p components : List ℤ) → IsInContext source p → ExtendsToTimePoint (timed_in source e.around e.ranges e.times) p
@@ -59,8 +59,8 @@ pub record RunsTightly (source other : Program) (maps : List TimeMap) (e : Piece
 
 -- Where one statement alone can have instances and no component is loose.
 abbrev pub TurnsExtend : Type 0
-TurnsExtend = (source other : Program) (length_of_time : ℕ) (maps : List TimeMap) (e : Piece) (s : Scanned)
-    → HasLoops source (Time length_of_time maps) → HaveSameTimes source other → pieces source maps ≡ e ∷ []
+TurnsExtend = (source other : Program) (length_of_time : ℕ) (maps : List TimeMap) (e : Scheduled) (s : Scanned)
+    → HasLoops source (Time length_of_time maps) → HaveSameTimes source other → scheduled source maps ≡ e ∷ []
     → Scans other (Time length_of_time maps) s → s.loose.items ≡ [] → RunsTightly source other maps e s.program
 
 -- What is scanned of a source is scanned, with other assignments in the loops, of each program with its loops, conditions and context: the same

@@ -9,7 +9,7 @@ use Rattle.affc_trace.specs.Target.{numbers_in}
 use Rattle.affc_domain.specs.Ranges.{number_ranges}
 use Rattle.affc_loops.specs.Between.{program_between}
 use Rattle.affc_loops.specs.Ends.{Sides, ends_of}
-use Rattle.affc_loops.specs.Loops.{Piece, pieces, time_ranges}
+use Rattle.affc_loops.specs.Loops.{Scheduled, scheduled, time_ranges}
 use Rattle.affc_loopends.specs.declared.bounds.Bounds.{Bounds}
 use Rattle.affc_loopends.specs.declared.bounds.Bounds.TheVariants.{Between, Loose as Without}
 use Rattle.affc_loopends.specs.TimeRows.{system_of}
@@ -33,19 +33,19 @@ loose_from statement component (Without why ∷ bs) = record { statement = state
 
 -- These are the bounds of each component of the statement's time, projected from its time set. The components of all statements' times have
 -- these ranges.
-pub record AreBounds (program : Program) (ranges : List (ℤ × ℤ)) (e : Piece) (bounds : List Bounds) : Type 0 where
+pub record AreBounds (program : Program) (ranges : List (ℤ × ℤ)) (e : Scheduled) (bounds : List Bounds) : Type 0 where
   pub one_each : length bounds ≡ length e.times.forms
   pub projected : AreBoundsFrom (system_of (timed_in program e.around e.ranges e.times)) (numbers_in program.params) (number_ranges program.params ++ ranges) bounds
 
 -- ---- All statements
 
-abbrev pub AreBoundsOfEach : Program → (ranges : List (ℤ × ℤ)) → List Piece → List (List Bounds) → Type 0
+abbrev pub AreBoundsOfEach : Program → (ranges : List (ℤ × ℤ)) → List Scheduled → List (List Bounds) → Type 0
 AreBoundsOfEach program ranges [] [] = Unit {0}
 AreBoundsOfEach program ranges [] (bs ∷ bss) = ⊥
 AreBoundsOfEach program ranges (e ∷ es) [] = ⊥
 AreBoundsOfEach program ranges (e ∷ es) (bs ∷ bss) = AreBounds program ranges e bs × AreBoundsOfEach program ranges es bss
 
-abbrev pub all_loose : List Piece → List (List Bounds) → List Loose
+abbrev pub all_loose : List Scheduled → List (List Bounds) → List Loose
 all_loose (e ∷ es) (bs ∷ bss) = loose_from e.statement zero bs ++ all_loose es bss
 all_loose _ _ = []
 
@@ -56,9 +56,9 @@ all_sides = map (map sides_of)
 -- The program runs between the ends of bounds of each statement's time, and these are the components that have none.
 pub record IsBetween (program : Program) (maps : List TimeMap) (s : Scanned) : Type 0 where
   pub bounds : List (List Bounds)
-  pub are_bounds : AreBoundsOfEach program (time_ranges (number_ranges program.params) (pieces program maps)) (pieces program maps) bounds
+  pub are_bounds : AreBoundsOfEach program (time_ranges (number_ranges program.params) (scheduled program maps)) (scheduled program maps) bounds
   pub is : s.program ≡ program_between program maps (ends_of program maps (all_sides bounds))
-  pub loose : s.loose.items ≡ all_loose (pieces program maps) bounds
+  pub loose : s.loose.items ≡ all_loose (scheduled program maps) bounds
 
 -- For the source's own order it is the program itself.
 abbrev pub Scans : Program → Schedule → Scanned → Type 0

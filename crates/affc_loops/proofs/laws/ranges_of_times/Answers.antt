@@ -1,4 +1,4 @@
-use Rattle.affc_loops.proofs.LoopLaws.{ranges_of_times}
+use Rattle.affc_loops.proofs.BetweenLaws.{ranges_of_times}
 use Rattle.affc_loops.proofs.laws.ranges_of_times.Goals as goal
 
 pub returns : goal.returns

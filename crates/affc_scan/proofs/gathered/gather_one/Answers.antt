@@ -5,7 +5,7 @@ use Rattle.affc_loops.specs.Loops.{times_of}
 use Rattle.affc_loopends.specs.declared.bounds.Bounds.{Bounds}
 use Rattle.affc_loopends.specs.scanned.Scanned.{sides_of}
 use Rattle.affc_scan.specs.EndRows.{HaveEndRows}
-use Rattle.affc_scan.specs.Parts.{numbered, piece}
+use Rattle.affc_scan.specs.Alive.{numbered, as_scheduled}
 use Rattle.affc_scan.proofs.Gathering.{bounds_rows, own_long}
 use Rattle.affc_scan.proofs.gathered.gather_one.Goals as goal
 
@@ -18,5 +18,5 @@ own_ends-requires-clause-rows c =
 pub returns-clause-long : goal.returns-clause-long
 returns-clause-long c =
     let nest : Nest = c.args.nest.now in
-    own_long nest c.args.ranges.now c.args.first (numbered c.args.part.now) c.in_ok-bounds.bounds.items c.in_ok-ends.ends c.requires.part c.in_ok-bounds.ensures.all
-    (c.in_ok-ends.ensures ∙ ap (λ bs. ends_from c.args.first c.args.first (map sides_of bs) (times_of nest.params (piece c.args.part.now))) c.as_slice.ensures.value)
+    own_long nest c.args.ranges.now c.args.first (numbered c.args.alive.now) c.in_ok-bounds.bounds.items c.in_ok-ends.ends c.requires.alive c.in_ok-bounds.ensures.all
+    (c.in_ok-ends.ensures ∙ ap (λ bs. ends_from c.args.first c.args.first (map sides_of bs) (times_of nest.params (as_scheduled c.args.alive.now))) c.as_slice.ensures.value)

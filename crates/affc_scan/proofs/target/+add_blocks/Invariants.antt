@@ -2,4 +2,4 @@ use Rattle.std.proofs.Common.{length}
 use Rattle.affc_scan.proofs.target.+add_blocks.Given as goal
 
 abbrev pub decreases-add_blocks : goal.decreases-add_blocks
-decreases-add_blocks l = length l.parts.now
+decreases-add_blocks l = length l.statements.now

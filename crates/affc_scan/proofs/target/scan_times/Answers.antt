@@ -4,9 +4,9 @@ use Rattle.affc_trace.specs.declared.schedule.TimeMap.{TimeMap}
 use Rattle.affc_nest.specs.declared.nest.Nest.{Nest}
 use Rattle.affc_nest.specs.Sites.{Place, places, places_of}
 use Rattle.affc_scan.specs.declared.gathered.Gathered.{Gathered}
-use Rattle.affc_scan.specs.declared.parts.Part.{Part}
-use Rattle.affc_scan.specs.Parts.{numbered}
-use Rattle.affc_scan.specs.Pieces.{numbered_from}
+use Rattle.affc_scan.specs.declared.alive.Alive.{Alive}
+use Rattle.affc_scan.specs.Alive.{numbered}
+use Rattle.affc_scan.specs.Numbered.{numbered_from}
 use Rattle.affc_scan.proofs.Whole.{printable_there, spans_there, ordered_there, projects_there, between_there}
 use Rattle.affc_scan.proofs.target.scan_times.Goals as goal
 
@@ -16,12 +16,12 @@ projected-requires-clause-spans c =
     let nest : Nest = c.args.nest.now in
     let maps : List TimeMap = c.args.maps.now in
     let found : List Place = places c.as_slice.result.now in
-    let ps : List Part = c.as_slice-parts.result.now in
+    let ps : List Alive = c.as_slice-statements.result.now in
     let walked : found ≡ places_of program = ap places c.as_slice.ensures.value ∙ c.in_ok-sites.ensures in
     let entries : c.as_slice-entries.result.now ≡ nest.entries = first_of (cc, search rules, search (rules, c.as_slice-entries.ensures), cc (c.as_slice-entries.ensures)) in
-    let parts : map numbered ps ≡ numbered_from 0 found nest.entries maps =
-    ap (map numbered) c.as_slice-parts.ensures.value ∙ c.in_ok-found.ensures ∙ ap (λ es. numbered_from 0 found es maps) entries in
-    spans_there program nest c.args.length maps found ps c.requires.nest walked parts
+    let statements : map numbered ps ≡ numbered_from 0 found nest.entries maps =
+    ap (map numbered) c.as_slice-statements.ensures.value ∙ c.in_ok-found.ensures ∙ ap (λ es. numbered_from 0 found es maps) entries in
+    spans_there program nest c.args.length maps found ps c.requires.nest walked statements
 
 pub projected-requires-clause-ordered : goal.projected-requires-clause-ordered
 projected-requires-clause-ordered c =
@@ -29,25 +29,25 @@ projected-requires-clause-ordered c =
     let nest : Nest = c.args.nest.now in
     let maps : List TimeMap = c.args.maps.now in
     let found : List Place = places c.as_slice.result.now in
-    let ps : List Part = c.as_slice-parts.result.now in
+    let ps : List Alive = c.as_slice-statements.result.now in
     let walked : found ≡ places_of program = ap places c.as_slice.ensures.value ∙ c.in_ok-sites.ensures in
     let entries : c.as_slice-entries.result.now ≡ nest.entries = first_of (cc, search rules, search (rules, c.as_slice-entries.ensures), cc (c.as_slice-entries.ensures)) in
-    let parts : map numbered ps ≡ numbered_from 0 found nest.entries maps =
-    ap (map numbered) c.as_slice-parts.ensures.value ∙ c.in_ok-found.ensures ∙ ap (λ es. numbered_from 0 found es maps) entries in
-    ordered_there program nest c.args.length maps found ps c.requires.nest walked parts
+    let statements : map numbered ps ≡ numbered_from 0 found nest.entries maps =
+    ap (map numbered) c.as_slice-statements.ensures.value ∙ c.in_ok-found.ensures ∙ ap (λ es. numbered_from 0 found es maps) entries in
+    ordered_there program nest c.args.length maps found ps c.requires.nest walked statements
 
-pub projected-requires-clause-parts : goal.projected-requires-clause-parts
-projected-requires-clause-parts c =
+pub projected-requires-clause-statements : goal.projected-requires-clause-statements
+projected-requires-clause-statements c =
     let program : Program = c.args.program.now in
     let nest : Nest = c.args.nest.now in
     let maps : List TimeMap = c.args.maps.now in
     let found : List Place = places c.as_slice.result.now in
-    let ps : List Part = c.as_slice-parts.result.now in
+    let ps : List Alive = c.as_slice-statements.result.now in
     let walked : found ≡ places_of program = ap places c.as_slice.ensures.value ∙ c.in_ok-sites.ensures in
     let entries : c.as_slice-entries.result.now ≡ nest.entries = first_of (cc, search rules, search (rules, c.as_slice-entries.ensures), cc (c.as_slice-entries.ensures)) in
-    let parts : map numbered ps ≡ numbered_from 0 found nest.entries maps =
-    ap (map numbered) c.as_slice-parts.ensures.value ∙ c.in_ok-found.ensures ∙ ap (λ es. numbered_from 0 found es maps) entries in
-    projects_there program nest c.args.length maps found ps c.requires.nest walked parts
+    let statements : map numbered ps ≡ numbered_from 0 found nest.entries maps =
+    ap (map numbered) c.as_slice-statements.ensures.value ∙ c.in_ok-found.ensures ∙ ap (λ es. numbered_from 0 found es maps) entries in
+    projects_there program nest c.args.length maps found ps c.requires.nest walked statements
 
 pub body-requires-clause-printable : goal.body-requires-clause-printable
 body-requires-clause-printable c =
@@ -55,13 +55,13 @@ body-requires-clause-printable c =
     let nest : Nest = c.args.nest.now in
     let maps : List TimeMap = c.args.maps.now in
     let found : List Place = places c.as_slice.result.now in
-    let ps : List Part = c.as_slice-parts.result.now in
+    let ps : List Alive = c.as_slice-statements.result.now in
     let walked : found ≡ places_of program = ap places c.as_slice.ensures.value ∙ c.in_ok-sites.ensures in
     let entries : c.as_slice-entries.result.now ≡ nest.entries = first_of (cc, search rules, search (rules, c.as_slice-entries.ensures), cc (c.as_slice-entries.ensures)) in
-    let parts : map numbered ps ≡ numbered_from 0 found nest.entries maps =
-    ap (map numbered) c.as_slice-parts.ensures.value ∙ c.in_ok-found.ensures ∙ ap (λ es. numbered_from 0 found es maps) entries in
+    let statements : map numbered ps ≡ numbered_from 0 found nest.entries maps =
+    ap (map numbered) c.as_slice-statements.ensures.value ∙ c.in_ok-found.ensures ∙ ap (λ es. numbered_from 0 found es maps) entries in
     let first : length c.ranges-2.result.now ≡ length nest.params = ap length c.ranges-2.ensures.ranges in
-    printable_there program nest c.args.length maps found ps c.requires.nest walked parts (length c.ranges-2.result.now) first
+    printable_there program nest c.args.length maps found ps c.requires.nest walked statements (length c.ranges-2.result.now) first
 
 pub returns : goal.returns
 returns c =
@@ -69,12 +69,12 @@ returns c =
     let nest : Nest = c.args.nest.now in
     let maps : List TimeMap = c.args.maps.now in
     let found : List Place = places c.as_slice.result.now in
-    let ps : List Part = c.as_slice-parts.result.now in
+    let ps : List Alive = c.as_slice-statements.result.now in
     let walked : found ≡ places_of program = ap places c.as_slice.ensures.value ∙ c.in_ok-sites.ensures in
     let entries : c.as_slice-entries.result.now ≡ nest.entries = first_of (cc, search rules, search (rules, c.as_slice-entries.ensures), cc (c.as_slice-entries.ensures)) in
-    let parts : map numbered ps ≡ numbered_from 0 found nest.entries maps =
-    ap (map numbered) c.as_slice-parts.ensures.value ∙ c.in_ok-found.ensures ∙ ap (λ es. numbered_from 0 found es maps) entries in
+    let statements : map numbered ps ≡ numbered_from 0 found nest.entries maps =
+    ap (map numbered) c.as_slice-statements.ensures.value ∙ c.in_ok-found.ensures ∙ ap (λ es. numbered_from 0 found es maps) entries in
     let first : length c.ranges-2.result.now ≡ length nest.params = ap length c.ranges-2.ensures.ranges in
     let made : Gathered = c.in_ok-ends.field-0 in
-    between_there program nest c.args.length maps found ps c.requires.nest walked parts (length c.ranges-2.result.now) made first c.in_ok-ends.ensures.all
+    between_there program nest c.args.length maps found ps c.requires.nest walked statements (length c.ranges-2.result.now) made first c.in_ok-ends.ensures.all
     c.in_ok-body.body c.in_ok-program.program c.in_ok-body.ensures c.in_ok-program.ensures

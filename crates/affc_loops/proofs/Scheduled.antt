@@ -22,7 +22,7 @@ use Rattle.affc_ast.specs.declared.tree.Param.TheVariants.{Number, Array}
 use Rattle.affc_trace.proofs.LastStores.{map_append}
 use Rattle.affc_domain.specs.Rounds.{Round, Loop, Test, rounds_step, rounds as all_rounds}
 use Rattle.affc_domain.proofs.Lists.{to_mapped}
-use Rattle.affc_loops.specs.Loops.{Piece, pieces_from, loop_names}
+use Rattle.affc_loops.specs.Loops.{Scheduled, scheduled_from, loop_names}
 use Rattle.affc_loops.proofs.Lists.{Rises}
 
 -- ---- as many loops as names
@@ -83,9 +83,9 @@ shape_of source n maps schedule k gs m e f =
     let r = map_of (numbers_in source.params) n (loops_round source) maps schedule k (length (loop_names gs)) (loops_are source k gs e) in
     subst (IsMapOf (numbers_in source.params) (length (loop_names gs)) n) (same_Some r.0 m (sym r.1 ∙ f)) r.2
 
--- ---- which pieces there are
+-- ---- which statements are scheduled
 
-pub record IsPiece (k : ℕ) (rss : List (List Round)) (as' : List Assignment) (ms : List TimeMap) (boxes : List (Option (List (ℤ × ℤ)))) (e : Piece) : Type 0 where
+pub record IsScheduledAt (k : ℕ) (rss : List (List Round)) (as' : List Assignment) (ms : List TimeMap) (boxes : List (Option (List (ℤ × ℤ)))) (e : Scheduled) : Type 0 where
   pub at : ℕ
   pub number : e.statement ≡ k + at
   pub its_guards : slice_get rss at ≡ Some e.around
@@ -93,8 +93,8 @@ pub record IsPiece (k : ℕ) (rss : List (List Round)) (as' : List Assignment) (
   pub its_times : slice_get ms at ≡ Some e.times
   pub its_ranges : slice_get boxes at ≡ Some (Some e.ranges)
 
-later : (k : ℕ) (gs : List Round) (rss : List (List Round)) (a : Assignment) (as' : List Assignment) (m : TimeMap) (ms : List TimeMap) (b : Option (List (ℤ × ℤ))) (boxes : List (Option (List (ℤ × ℤ)))) (e : Piece)
-    → IsPiece (suc k) rss as' ms boxes e → IsPiece k (gs ∷ rss) (a ∷ as') (m ∷ ms) (b ∷ boxes) e
+later : (k : ℕ) (gs : List Round) (rss : List (List Round)) (a : Assignment) (as' : List Assignment) (m : TimeMap) (ms : List TimeMap) (b : Option (List (ℤ × ℤ))) (boxes : List (Option (List (ℤ × ℤ)))) (e : Scheduled)
+    → IsScheduledAt (suc k) rss as' ms boxes e → IsScheduledAt k (gs ∷ rss) (a ∷ as') (m ∷ ms) (b ∷ boxes) e
 later k gs rss a as' m ms b boxes e h = record {
   at = suc h.at;
   number = (let q : e.statement ≡ suc k + h.at = h.number in omega arith);
@@ -104,60 +104,60 @@ later k gs rss a as' m ms b boxes e h = record {
   its_ranges = h.its_ranges;
 }
 
-pub is_piece : (k : ℕ) (rss : List (List Round)) (as' : List Assignment) (ms : List TimeMap) (boxes : List (Option (List (ℤ × ℤ)))) (e : Piece)
-    → IsIn e (pieces_from k rss as' ms boxes) → IsPiece k rss as' ms boxes e
-is_piece k [] as' ms boxes e i = absurd i
-is_piece k (gs ∷ rss) [] ms boxes e i = absurd i
-is_piece k (gs ∷ rss) (a ∷ as') [] boxes e i = absurd i
-is_piece k (gs ∷ rss) (a ∷ as') (m ∷ ms) [] e i = absurd i
-is_piece k (gs ∷ rss) (a ∷ as') (m ∷ ms) (Some rs ∷ boxes) e (inl q) = record {
+pub is_scheduled_at : (k : ℕ) (rss : List (List Round)) (as' : List Assignment) (ms : List TimeMap) (boxes : List (Option (List (ℤ × ℤ)))) (e : Scheduled)
+    → IsIn e (scheduled_from k rss as' ms boxes) → IsScheduledAt k rss as' ms boxes e
+is_scheduled_at k [] as' ms boxes e i = absurd i
+is_scheduled_at k (gs ∷ rss) [] ms boxes e i = absurd i
+is_scheduled_at k (gs ∷ rss) (a ∷ as') [] boxes e i = absurd i
+is_scheduled_at k (gs ∷ rss) (a ∷ as') (m ∷ ms) [] e i = absurd i
+is_scheduled_at k (gs ∷ rss) (a ∷ as') (m ∷ ms) (Some rs ∷ boxes) e (inl q) = record {
   at = 0;
-  number = (let n : k ≡ k + 0 = omega arith in ap (λ (p : Piece). p.statement) q ∙ n);
-  its_guards = ap (λ (p : Piece). Some p.around) (sym q);
-  its_assignment = ap (λ (p : Piece). Some p.assignment) (sym q);
-  its_times = ap (λ (p : Piece). Some p.times) (sym q);
-  its_ranges = ap (λ (p : Piece). Some (Some p.ranges)) (sym q);
+  number = (let n : k ≡ k + 0 = omega arith in ap (λ (p : Scheduled). p.statement) q ∙ n);
+  its_guards = ap (λ (p : Scheduled). Some p.around) (sym q);
+  its_assignment = ap (λ (p : Scheduled). Some p.assignment) (sym q);
+  its_times = ap (λ (p : Scheduled). Some p.times) (sym q);
+  its_ranges = ap (λ (p : Scheduled). Some (Some p.ranges)) (sym q);
 }
-is_piece k (gs ∷ rss) (a ∷ as') (m ∷ ms) (Some rs ∷ boxes) e (inr i) = later k gs rss a as' m ms (Some rs) boxes e (is_piece (suc k) rss as' ms boxes e i)
-is_piece k (gs ∷ rss) (a ∷ as') (m ∷ ms) (None ∷ boxes) e i = later k gs rss a as' m ms None boxes e (is_piece (suc k) rss as' ms boxes e i)
+is_scheduled_at k (gs ∷ rss) (a ∷ as') (m ∷ ms) (Some rs ∷ boxes) e (inr i) = later k gs rss a as' m ms (Some rs) boxes e (is_scheduled_at (suc k) rss as' ms boxes e i)
+is_scheduled_at k (gs ∷ rss) (a ∷ as') (m ∷ ms) (None ∷ boxes) e i = later k gs rss a as' m ms None boxes e (is_scheduled_at (suc k) rss as' ms boxes e i)
 
-pub has_piece : (k : ℕ) (rss : List (List Round)) (as' : List Assignment) (ms : List TimeMap) (boxes : List (Option (List (ℤ × ℤ)))) (n : ℕ) (gs : List Round) (a : Assignment) (m : TimeMap) (rs : List (ℤ × ℤ))
+pub has_scheduled : (k : ℕ) (rss : List (List Round)) (as' : List Assignment) (ms : List TimeMap) (boxes : List (Option (List (ℤ × ℤ)))) (n : ℕ) (gs : List Round) (a : Assignment) (m : TimeMap) (rs : List (ℤ × ℤ))
     → slice_get rss n ≡ Some gs → slice_get as' n ≡ Some a → slice_get ms n ≡ Some m → slice_get boxes n ≡ Some (Some rs)
-    → IsIn (record { statement = k + n; around = gs; assignment = a; times = m; ranges = rs }) (pieces_from k rss as' ms boxes)
-has_piece k [] as' ms boxes n gs a m rs e f g h = absurd (none-some gs e)
-has_piece k (gs' ∷ rss) [] ms boxes n gs a m rs e f g h = absurd (none-some a f)
-has_piece k (gs' ∷ rss) (a' ∷ as') [] boxes n gs a m rs e f g h = absurd (none-some m g)
-has_piece k (gs' ∷ rss) (a' ∷ as') (m' ∷ ms) [] n gs a m rs e f g h = absurd (none-some (Some rs) h)
-has_piece k (gs' ∷ rss) (a' ∷ as') (m' ∷ ms) (Some rs' ∷ boxes) zero gs a m rs e f g h =
+    → IsIn (record { statement = k + n; around = gs; assignment = a; times = m; ranges = rs }) (scheduled_from k rss as' ms boxes)
+has_scheduled k [] as' ms boxes n gs a m rs e f g h = absurd (none-some gs e)
+has_scheduled k (gs' ∷ rss) [] ms boxes n gs a m rs e f g h = absurd (none-some a f)
+has_scheduled k (gs' ∷ rss) (a' ∷ as') [] boxes n gs a m rs e f g h = absurd (none-some m g)
+has_scheduled k (gs' ∷ rss) (a' ∷ as') (m' ∷ ms) [] n gs a m rs e f g h = absurd (none-some (Some rs) h)
+has_scheduled k (gs' ∷ rss) (a' ∷ as') (m' ∷ ms) (Some rs' ∷ boxes) zero gs a m rs e f g h =
     let number : k + 0 ≡ k = omega arith in
     let es = same_Some gs' gs e in
     let fs = same_Some a' a f in
     let gs' = same_Some m' m g in
     let hs = same_Some rs' rs (same_Some (Some rs') (Some rs) h) in
     inl (λ i. record { statement = number i; around = sym es i; assignment = sym fs i; times = sym gs' i; ranges = sym hs i })
-has_piece k (gs' ∷ rss) (a' ∷ as') (m' ∷ ms) (None ∷ boxes) zero gs a m rs e f g h = absurd (none-some rs (same_Some None (Some rs) h))
-has_piece k (gs' ∷ rss) (a' ∷ as') (m' ∷ ms) (Some rs' ∷ boxes) (suc n) gs a m rs e f g h =
+has_scheduled k (gs' ∷ rss) (a' ∷ as') (m' ∷ ms) (None ∷ boxes) zero gs a m rs e f g h = absurd (none-some rs (same_Some None (Some rs) h))
+has_scheduled k (gs' ∷ rss) (a' ∷ as') (m' ∷ ms) (Some rs' ∷ boxes) (suc n) gs a m rs e f g h =
     let number : suc k + n ≡ k + suc n = omega arith in
-    inr (subst (λ j. IsIn (record { statement = j; around = gs; assignment = a; times = m; ranges = rs }) (pieces_from (suc k) rss as' ms boxes)) number
-    (has_piece (suc k) rss as' ms boxes n gs a m rs e f g h))
-has_piece k (gs' ∷ rss) (a' ∷ as') (m' ∷ ms) (None ∷ boxes) (suc n) gs a m rs e f g h =
+    inr (subst (λ j. IsIn (record { statement = j; around = gs; assignment = a; times = m; ranges = rs }) (scheduled_from (suc k) rss as' ms boxes)) number
+    (has_scheduled (suc k) rss as' ms boxes n gs a m rs e f g h))
+has_scheduled k (gs' ∷ rss) (a' ∷ as') (m' ∷ ms) (None ∷ boxes) (suc n) gs a m rs e f g h =
     let number : suc k + n ≡ k + suc n = omega arith in
-    subst (λ j. IsIn (record { statement = j; around = gs; assignment = a; times = m; ranges = rs }) (pieces_from (suc k) rss as' ms boxes)) number
-    (has_piece (suc k) rss as' ms boxes n gs a m rs e f g h)
+    subst (λ j. IsIn (record { statement = j; around = gs; assignment = a; times = m; ranges = rs }) (scheduled_from (suc k) rss as' ms boxes)) number
+    (has_scheduled (suc k) rss as' ms boxes n gs a m rs e f g h)
 
 less : (x y : ℕ) → x < y → nat_cmp x y ≡ Less
 less x y h = sym (nat_cmp_is x y Less h)
 
-pub pieces_rise : (k : ℕ) (rss : List (List Round)) (as' : List Assignment) (ms : List TimeMap) (boxes : List (Option (List (ℤ × ℤ))))
-    → Rises (λ (e f : Piece). nat_cmp e.statement f.statement) (pieces_from k rss as' ms boxes)
-pieces_rise k [] as' ms boxes a b e = absurd e
-pieces_rise k (gs ∷ rss) [] ms boxes a b e = absurd e
-pieces_rise k (gs ∷ rss) (c ∷ as') [] boxes a b e = absurd e
-pieces_rise k (gs ∷ rss) (c ∷ as') (m ∷ ms) [] a b e = absurd e
-pieces_rise k (gs ∷ rss) (c ∷ as') (m ∷ ms) (Some rs ∷ boxes) a b (inl e) =
-    let h = is_piece (suc k) rss as' ms boxes b e.1 in
-    let q : a.statement ≡ k = ap (λ (p : Piece). p.statement) e.0 in
+pub scheduled_rise : (k : ℕ) (rss : List (List Round)) (as' : List Assignment) (ms : List TimeMap) (boxes : List (Option (List (ℤ × ℤ))))
+    → Rises (λ (e f : Scheduled). nat_cmp e.statement f.statement) (scheduled_from k rss as' ms boxes)
+scheduled_rise k [] as' ms boxes a b e = absurd e
+scheduled_rise k (gs ∷ rss) [] ms boxes a b e = absurd e
+scheduled_rise k (gs ∷ rss) (c ∷ as') [] boxes a b e = absurd e
+scheduled_rise k (gs ∷ rss) (c ∷ as') (m ∷ ms) [] a b e = absurd e
+scheduled_rise k (gs ∷ rss) (c ∷ as') (m ∷ ms) (Some rs ∷ boxes) a b (inl e) =
+    let h = is_scheduled_at (suc k) rss as' ms boxes b e.1 in
+    let q : a.statement ≡ k = ap (λ (p : Scheduled). p.statement) e.0 in
     let r : b.statement ≡ suc k + h.at = h.number in
     less a.statement b.statement (omega arith)
-pieces_rise k (gs ∷ rss) (c ∷ as') (m ∷ ms) (Some rs ∷ boxes) a b (inr e) = pieces_rise (suc k) rss as' ms boxes a b e
-pieces_rise k (gs ∷ rss) (c ∷ as') (m ∷ ms) (None ∷ boxes) a b e = pieces_rise (suc k) rss as' ms boxes a b e
+scheduled_rise k (gs ∷ rss) (c ∷ as') (m ∷ ms) (Some rs ∷ boxes) a b (inr e) = scheduled_rise (suc k) rss as' ms boxes a b e
+scheduled_rise k (gs ∷ rss) (c ∷ as') (m ∷ ms) (None ∷ boxes) a b e = scheduled_rise (suc k) rss as' ms boxes a b e

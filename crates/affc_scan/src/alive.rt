@@ -1,8 +1,8 @@
 //! The statements that can have instances, with their times.
 ghost use Rattle.std.specs.Prelude.{◌≡◌, ◌++◌, map, OnOk, IfOk};
 ghost use Rattle.affc_nest.specs.Sites.{place, places};
-ghost use Rattle.affc_scan.specs.Pieces.{if_alive, numbered_from};
-ghost use Rattle.affc_scan.specs.Parts.{numbered};
+ghost use Rattle.affc_scan.specs.Numbered.{if_alive, numbered_from};
+ghost use Rattle.affc_scan.specs.Alive.{numbered};
 
 use affc_nest::{Entry, Site};
 use affc_trace::TimeMap;
@@ -10,7 +10,7 @@ use std::alloc::{AllocError, Global};
 
 /// A statement that can have instances.
 #[derive(Clone, Copy, Drop)]
-pub(crate) struct Part<'a, 's> {
+pub(crate) struct Alive<'a, 's> {
     /// Its number, in the order of the text from 0.
     pub statement: u32,
     pub site: &'a Site<'s>,
@@ -19,37 +19,37 @@ pub(crate) struct Part<'a, 's> {
 }
 
 /// Adds a statement if it can have instances.
-#[tactic(auto, using(crate::proofs::PartSteps::alive_part, crate::proofs::PartSteps::dead_part))]
-fn add_part<'a, 's>(
+#[tactic(auto, using(crate::proofs::AliveSteps::alive_added, crate::proofs::AliveSteps::dead_left))]
+fn add_if_alive<'a, 's>(
     statement: u32,
     site: &'a Site<'s>,
     entry: &'a Entry,
     times: &'a TimeMap,
-    out: &mut Vec<Part<'a, 's>>,
+    out: &mut Vec<Alive<'a, 's>>,
 ) -> Result<(), AllocError>
     ensures { OnOk result (map numbered out.new.items ≡ map numbered out.old.items ++ if_alive statement (place site.now) entry.now times.now) }
 {
     if !entry.alive {
         return Ok(());
     }
-    let part = Part {
+    let alive = Alive {
         statement,
         site,
         entry,
         times,
     };
-    out.push(part)?;
+    out.push(alive)?;
     Ok(())
 }
 
 /// Adds those of these statements that can have instances, of which the first has this number.
-#[tactic(auto, using(crate::proofs::PartSteps::no_site, crate::proofs::PartSteps::no_entry, crate::proofs::PartSteps::no_times))]
-fn add_parts<'a, 's>(
+#[tactic(auto, using(crate::proofs::AliveSteps::no_site, crate::proofs::AliveSteps::no_entry, crate::proofs::AliveSteps::no_times))]
+fn add_alive<'a, 's>(
     first: u32,
     sites: &'a [Site<'s>],
     entries: &'a [Entry],
     maps: &'a [TimeMap],
-    out: &mut Vec<Part<'a, 's>>,
+    out: &mut Vec<Alive<'a, 's>>,
 ) -> Result<(), AllocError>
     ensures { OnOk result (map numbered out.new.items ≡ map numbered out.old.items ++ numbered_from first (places sites.now) entries.now maps.now) }
 {
@@ -60,12 +60,12 @@ fn add_parts<'a, 's>(
             [entry, entries @ ..] => match maps {
                 [] => Ok(()),
                 [times, maps @ ..] => {
-                    add_part(first, site, entry, times, out)?;
+                    add_if_alive(first, site, entry, times, out)?;
                     // More statements than numbers don't fit into memory.
                     let Some(next) = first.checked_add(1) else {
                         return Err(AllocError);
                     };
-                    add_parts(next, sites, entries, maps, out)
+                    add_alive(next, sites, entries, maps, out)
                 }
             },
         },
@@ -73,15 +73,15 @@ fn add_parts<'a, 's>(
 }
 
 /// Those of these statements that can have instances.
-pub(crate) fn all_parts<'a, 's>(
+pub(crate) fn all_alive<'a, 's>(
     alloc: Global,
     sites: &'a [Site<'s>],
     entries: &'a [Entry],
     maps: &'a [TimeMap],
-) -> Result<Vec<Part<'a, 's>>, AllocError>
+) -> Result<Vec<Alive<'a, 's>>, AllocError>
     ensures { IfOk result (λ v. map numbered v.items ≡ numbered_from 0 (places sites.now) entries.now maps.now) }
 {
     let mut out = Vec::new(alloc);
-    add_parts(0, sites, entries, maps, &mut out)?;
+    add_alive(0, sites, entries, maps, &mut out)?;
     Ok(out)
 }
