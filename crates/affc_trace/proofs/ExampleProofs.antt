@@ -1,5 +1,5 @@
 -- Each example computes.
-use Rattle.std.proofs.Common.{◌≡◌, ℕ, [], ◌∷◌, refl, ap, inl, inr, arith, sym, subst}
+use Rattle.std.proofs.Common.{◌≡◌, ℕ, zero, suc, ◌<◌, ℤ, List, [], ◌∷◌, refl, ap, inl, inr, arith, lit≤, sym, subst}
 use denote.Hole.Carrier.{hidden}
 use Rattle.affc_ast.specs.declared.tree.Ix.TheBlock.{shape-the_row-Ix-0, hidden-the_row-Ix-0}
 use Rattle.affc_ast.specs.declared.tree.Val.TheBlock.{shape-the_row-Val-0, hidden-the_row-Val-0}
@@ -8,7 +8,7 @@ use Rattle.affc_ast.specs.declared.tree.Instance.{Instance}
 use Rattle.affc_ast.specs.Meaning.{Outcome, Ended, Stuck}
 use Rattle.affc_trace.specs.Law.{IsIn}
 use Rattle.affc_trace.specs.Laws.{IsUnwritten}
-use Rattle.affc_trace.specs.Examples.{S0, S1, BlurTakesTurns, BlurSources, BlurLivePairs, BlurIsLegal, BlurHasItsMaps, TwelveComponents, SlightForms, SlightMaps, LoadsDependOnNothing, FoldedBlurFollows, FoldedBlurDoes, NumberDecidesTies, TieIsIllegal, FirstComponentDecides, TiesStayAsTheyStood, OrdersKeepInstances, BackwardsIsIllegal, OwnStoreComesAfter, HandedInIsNoSource, LoopsAreCounted, LocalsAreSeen, ScalarHasOneElement, StuckForAValueRunsTarget, StuckOutOfBoundsDoesNot}
+use Rattle.affc_trace.specs.Examples.{S0, S1, BlurTakesTurns, BlurSources, BlurLivePairs, BlurIsLegal, BlurHasItsMaps, TwelveComponents, SlightForms, SlightMaps, LoadsDependOnNothing, FoldedBlurFollows, FoldedBlurDoes, InputIsNotShared, at_input, NumberDecidesTies, TieIsIllegal, FirstComponentDecides, TiesStayAsTheyStood, OrdersKeepInstances, BackwardsIsIllegal, OwnStoreComesAfter, HandedInIsNoSource, LoopsAreCounted, LocalsAreSeen, ScalarHasOneElement, StuckForAValueRunsTarget, StuckOutOfBoundsDoesNot}
 
 one_is_not_two : ◌≡◌ {A = ℕ} 1 2 → ⊥
 one_is_not_two e = omega arith
@@ -65,6 +65,18 @@ folded_blur_follows = record { source_end = _; source_ends = refl; target_end = 
 pub folded_blur_does : FoldedBlurDoes
 unfolding shape-the_row-Ix-0 hidden-the_row-Ix-0 shape-the_row-Val-0 hidden-the_row-Val-0 shape-the_row-Stmt-0 hidden-the_row-Stmt-0 hidden
 folded_blur_does = refl
+
+parameter_stays : (array : ℕ) (x : List ℤ) → array < 2 → at_input (array, x) ≡ (array, x)
+parameter_stays zero x h = refl
+parameter_stays (suc zero) x h = refl
+parameter_stays (suc (suc n)) x h = absurd (omega (arith, h))
+
+two_is_not_below : 2 < 2 → ⊥
+two_is_not_below h = omega (arith, h)
+
+pub input_is_not_shared : InputIsNotShared
+unfolding shape-the_row-Ix-0 hidden-the_row-Ix-0 shape-the_row-Val-0 hidden-the_row-Val-0 shape-the_row-Stmt-0 hidden-the_row-Stmt-0 hidden
+input_is_not_shared = (λ x. refl, λ x h. parameter_stays x.0 x.1 h, λ k. two_is_not_below (k.no_other 2 (lit≤ tt)))
 
 pub number_decides_ties : NumberDecidesTies
 unfolding shape-the_row-Ix-0 hidden-the_row-Ix-0 shape-the_row-Val-0 hidden-the_row-Val-0 shape-the_row-Stmt-0 hidden-the_row-Stmt-0 hidden

@@ -31,8 +31,8 @@ use Rattle.affc_trace.specs.Orders.{IsReordered}
 use Rattle.affc_trace.specs.Target.{target, loops_round, IsScheduleOf, all_slight, within_limits}
 use Rattle.affc_trace.specs.Effects.{effect, effects, has_no_locals}
 use Rattle.affc_trace.specs.Law.{placed}
-use Rattle.affc_trace.specs.Dataflow.{source, live_pairs, violations}
-use Rattle.affc_trace.specs.Laws.{RunsTarget, in_target_order}
+use Rattle.affc_trace.specs.Dataflow.{Buffers, source, live_pairs, violations}
+use Rattle.affc_trace.specs.Laws.{LeavesParameters, KeepsParameters, RunsTarget, in_target_order}
 
 -- ---- Times of a statement in one loop, in a program with one parameter
 
@@ -255,6 +255,17 @@ FoldedBlurFollows = Follows folded_blur blur (in_target_order together two) modu
 -- it does what the instances of the target do, at their places
 abbrev pub FoldedBlurDoes : Type 0
 FoldedBlurDoes = effects folded_blur two ≡ map (placed modulo_three (effect blur two)) (target blur together two)
+
+-- t[i] in the buffer of in, at in[i]
+abbrev pub into_input : Buffers
+into_input array = if nat_eq array 2 then 0 else array
+
+abbrev pub at_input : Element → Element
+at_input x = (into_input x.0, x.1)
+
+-- each element of a parameter stays itself and each place is in its array's buffer, but t would stand where `in` is handed in
+abbrev pub InputIsNotShared : Type 0
+InputIsNotShared = ((x : Element) → (at_input x).0 ≡ into_input x.0) × LeavesParameters blur at_input × (KeepsParameters into_input blur at_input → ⊥)
 
 -- ---- A tie that the trace's order doesn't decide: { t[0] = in[i]; out[i] = t[0]; } for i from 0 to N - 1
 

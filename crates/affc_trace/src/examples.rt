@@ -1,6 +1,6 @@
 //! What the definitions give at small programs, as laws: `specs/Examples.antt` says each, with values that were
 //! found by hand from the rules.
-ghost use Rattle.affc_trace.specs.Examples.{BlurTakesTurns, BlurSources, BlurLivePairs, BlurIsLegal, BlurHasItsMaps, TwelveComponents, SlightForms, SlightMaps, LoadsDependOnNothing, FoldedBlurFollows, FoldedBlurDoes, NumberDecidesTies, TieIsIllegal, FirstComponentDecides, TiesStayAsTheyStood, OrdersKeepInstances, BackwardsIsIllegal, OwnStoreComesAfter, HandedInIsNoSource, LoopsAreCounted, LocalsAreSeen, ScalarHasOneElement, StuckForAValueRunsTarget, StuckOutOfBoundsDoesNot};
+ghost use Rattle.affc_trace.specs.Examples.{BlurTakesTurns, BlurSources, BlurLivePairs, BlurIsLegal, BlurHasItsMaps, TwelveComponents, SlightForms, SlightMaps, LoadsDependOnNothing, FoldedBlurFollows, FoldedBlurDoes, InputIsNotShared, NumberDecidesTies, TieIsIllegal, FirstComponentDecides, TiesStayAsTheyStood, OrdersKeepInstances, BackwardsIsIllegal, OwnStoreComesAfter, HandedInIsNoSource, LoopsAreCounted, LocalsAreSeen, ScalarHasOneElement, StuckForAValueRunsTarget, StuckOutOfBoundsDoesNot};
 
 /// A blur of two statements, at the times i and i + 2, and folded onto three elements.
 pub fn blur()
@@ -12,6 +12,7 @@ pub fn blur()
     ensures loads_depend_on_nothing { LoadsDependOnNothing }
     ensures folded_follows { FoldedBlurFollows }
     ensures folded_does { FoldedBlurDoes }
+    ensures input_alone { InputIsNotShared }
 {}
 
 /// Orders that turn a dependence round, and one in which instances tie.
