@@ -33,7 +33,7 @@ abbrev pub info : Role → List Affine → ArrayInfo
 info role extents = record { role = role; extents = extents }
 
 abbrev pub entry_with : (statement : ℕ) → (accesses : List Access) → Entry
-entry_with n accesses = record { statement = n; alive = true; loops = []; domain = record { columns = 0; rows = [] }; ranges = []; accesses = accesses }
+entry_with n accesses = record { part = n; statement = n; alive = true; loops = []; domain = record { columns = 0; rows = [] }; ranges = []; accesses = accesses }
 
 abbrev pub small_nest : Nest
 small_nest = record {

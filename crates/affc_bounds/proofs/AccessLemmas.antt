@@ -132,7 +132,7 @@ module _ (program : Program) (has : HasNest program) (found : Found) where
   found_is_outside i =
       let r = in_entries (nest_of program) found (nest_of program).entries i in
       let e : Entry = r.1 in
-      let number : e.statement ≡ r.0 = ((entries_stand program has).1 r.0 e r.2).number in
+      let number : e.statement ≡ r.0 = ((entries_stand program has).1 r.0 e r.2).statement in
       let h : IsEntry program e.statement e = subst (λ k. IsEntry program k e) (sym number) r.2 in
       let f = found_in (nest_of program) e found r.3.1 in
       elim f.point [
@@ -167,7 +167,7 @@ module _ (program : Program) (has : HasNest program) (p : List ℤ) (here : Inst
   long = sym (box_length (number_ranges program.params) p (in_ranges program.params p inside.ranges))
 
   its_number : e.statement ≡ here.statement
-  its_number = ((entries_stand program has).1 here.statement e h).number
+  its_number = ((entries_stand program has).1 here.statement e h).statement
 
   -- a point of a question is found
   point_found : (question : Rows) → IsPoint question names → IsOutsideAt m e.statement number array (box_of (nest_of program) e) question here_found

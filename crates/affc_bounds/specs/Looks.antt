@@ -12,6 +12,7 @@ use Rattle.affc_nest.specs.declared.nest.Access.{Access}
 use Rattle.affc_nest.specs.declared.nest.ArrayInfo.{ArrayInfo}
 use Rattle.affc_nest.specs.declared.nest.Entry.{Entry}
 use Rattle.affc_nest.specs.declared.nest.Nest.{Nest}
+use Rattle.affc_nest.specs.Parts.{coordinates}
 use Rattle.affc_nest.specs.Asked.{IsNest, IsExtent, IsSubscript}
 use Rattle.affc_nest.specs.Questions.{extent_question, extents_of_access, low_question, high_question}
 use Rattle.affc_bounds.specs.Found.{Nowhere, Either, IsFirst}
@@ -77,7 +78,7 @@ box_of nest e = nest.params ++ e.ranges
 abbrev pub InDimension : Nest → Entry → (access : ℕ) → ArrayId → (sub extent : Affine) → Found → Type 0
 InDimension nest e access array sub extent =
     Either (IsOutsideAt (length nest.params) e.statement access array (box_of nest e) (low_question e.domain sub))
-    (IsOutsideAt (length nest.params) e.statement access array (box_of nest e) (high_question e.domain (length e.loops) sub extent))
+    (IsOutsideAt (length nest.params) e.statement access array (box_of nest e) (high_question e.domain (coordinates e) sub extent))
 
 abbrev pub InDimensions : Nest → Entry → (access : ℕ) → ArrayId → (subs extents : List Affine) → Found → Type 0
 InDimensions nest e access array (s ∷ ss) (x ∷ xs) = Either (InDimension nest e access array s x) (InDimensions nest e access array ss xs)

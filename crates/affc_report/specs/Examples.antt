@@ -64,7 +64,7 @@ abbrev access : ℕ → Access
 access array = record { array = record { 0 = array }; subs = [] }
 
 abbrev entry : (statement : ℕ) → List Access → Entry
-entry statement accesses = record { statement = statement; alive = true; loops = []; domain = record { columns = 0; rows = [] }; ranges = []; accesses = accesses }
+entry statement accesses = record { part = statement; statement = statement; alive = true; loops = []; domain = record { columns = 0; rows = [] }; ranges = []; accesses = accesses }
 
 -- t = in; and t = t + in;
 abbrev nest : Nest
