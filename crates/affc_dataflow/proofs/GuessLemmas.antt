@@ -149,7 +149,7 @@ module _ (nest : Nest) (e : Entry) (x : Access) (number : ℕ) (h : IsLoad nest 
             store = z;
             is_store = writes.last;
             of_array = writes.of_array;
-            loops = each;
+            each = each;
           };
           fits = fits;
           short = omega arith;

@@ -130,7 +130,7 @@ module _ (nest : Nest) (e : Entry) (x : Access) (number : ℕ) (h : IsLoad nest 
             store = writer.store;
             is_store = writer.is_store;
             of_array = writer.of_array;
-            loops = numbers_long columns w.iterators ∙ writer.long;
+            each = numbers_long columns w.iterators ∙ writer.long;
           };
           fits = numbers_fit columns w.iterators writer.near;
           short = omega arith;
