@@ -7,6 +7,7 @@ use Rattle.affc_ast.specs.Trace.{trace}
 use Rattle.affc_trace.specs.declared.schedule.Schedule.TheVariants.{Source}
 use Rattle.affc_trace.specs.Effects.{has_no_locals}
 use Rattle.affc_trace.specs.Laws.{RunsTarget}
+use Rattle.affc_trace.specs.Dataflow.{unshared}
 use Rattle.affc_trace.proofs.Composed.{compiles_source}
 use Rattle.affc_trace.proofs.TraceEffects.{trace_effects}
 use Rattle.affc_safe.specs.Overflow.{NeverOverflows}
@@ -32,9 +33,9 @@ source_runs_target source p store h within extents keeps =
 pub source_compiles : SourceCompiles
 source_compiles source h ends legal =
     let plain = plain_has_no_locals source h.plain in
-    compiles_source source source Source (λ p x. x) plain refl refl refl ends legal
+    compiles_source unshared source source Source (λ p x. x) plain refl refl refl ends legal
     (λ p here x y live. live.distinct)
-    (λ p here. record { same_array = λ x. refl; own = λ x l. refl })
+    (λ p here. record { in_buffer = λ x. refl; own = λ x l. refl; no_other = λ array h. h })
     (λ p store fits.
     let e = ends p store fits in
     let safe = ended_is_safe source p store e.0 plain fits e.1 in
