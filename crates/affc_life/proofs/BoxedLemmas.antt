@@ -44,8 +44,8 @@ each_reach [] h = All-nil WithinReach
 each_reach (r ∷ rs) h = All-cons WithinReach r rs (reaches r (close_range r (h r (inl refl)))) (each_reach rs (λ q i. h q (inr i)))
 
 module _ (program : Program) (has : HasNest program) (e : Entry) (e_in : IsIn e (nest_of program).entries) (alive : IsTrue e.alive) where
-  pub ranges_are : AreRanges program e.statement e
-  ranges_are = ranges_hold_iterators program e.statement e has (entry_at program has e e_in) alive
+  pub ranges_are : AreRanges program e.part e
+  ranges_are = ranges_hold_iterators program e.part e has (entry_at program has e e_in) alive
 
   pub entry_reach : All WithinReach e.ranges
   entry_reach = each_reach e.ranges (λ r i. (ranges_are.near r i).1)
@@ -82,7 +82,7 @@ clashes_are_boxed program trees schedule array c has shaped near asked =
           let one : InBox start (p ++ t.bs) = box_append params e.ranges p t.bs (in_ranges program.params p f.context.ranges) (re.hold p (instance_of e t.bs) refl f.context f.reader_runs) in
           let two : InBox path ((p ++ t.bs) ++ t.qs) =
           leaf_box k.tree (p ++ t.bs) t.qs start k.leaf (subst (λ n. Shaped n k.tree) long (shape program has trees schedule array shaped c k)) (subst (λ n. IsIn k.leaf (leaves_of n k.tree)) long k.leaf_in) one
-          (near p f.context e.statement k.number e k.tree (reader_at program has trees schedule array shaped c k) k.counts k.tree_there (instance_of e t.bs) refl f.reader_runs) t.q_long f.path in
+          (near p f.context e.part k.number e k.tree (reader_at program has trees schedule array shaped c k) k.counts k.tree_there (instance_of e t.bs) refl f.reader_runs) t.q_long f.path in
           let all : InBox (path ++ w.ranges) (((p ++ t.bs) ++ t.qs) ++ t.cs) = box_append path w.ranges ((p ++ t.bs) ++ t.qs) t.cs two (rw.hold p (instance_of w t.cs) refl f.context f.writer_runs) in
           let whole : point ≡ ((p ++ t.bs) ++ t.qs) ++ t.cs = t.is ∙ sym (append_assoc p t.bs (t.qs ++ t.cs)) ∙ sym (append_assoc (p ++ t.bs) t.qs t.cs) in
           subst (λ rs. InBox rs point) (sym are) (subst (InBox (path ++ w.ranges)) (sym whole) all);

@@ -72,7 +72,7 @@ module _ (program : Program) (has : HasNest program) (named : NamesArrays progra
   k = made (nest_of program) trees schedule array (clash_of s) asked
 
   shaped : AreShaped (nest_of program) trees
-  shaped statement load e tree at counts there = (found_trees_keep_limits (nest_of program) trees found statement load e tree at counts there).shaped
+  shaped part load e tree at counts there = (found_trees_keep_limits (nest_of program) trees found part load e tree at counts there).shaped
 
   -- an element of the array that an instance touches lies within
   touched : (p : List ℤ) → IsInContext program p → (i : Instance) → IsIn i (trace program p) → (x : List ℤ) → IsIn (array, x) (events program p i) → LiesWithin info.extents p x
@@ -86,7 +86,7 @@ module _ (program : Program) (has : HasNest program) (named : NamesArrays progra
   -- the dimensions of the array
   dimensions : (e : Entry) → IsIn e (nest_of program).entries → (x : Access) → IsIn x e.accesses → x.array.0 ≡ array → length x.subs ≡ length info.extents
   dimensions e i x j of_array =
-      as_many program e.statement e named (entry_at program has e i) x j ∙ ap (λ n. length (extents_or_none (slice_get (nest_of program).arrays n))) of_array ∙ ap (λ o. length (extents_or_none o)) declared
+      as_many program e.part e named (entry_at program has e i) x j ∙ ap (λ n. length (extents_or_none (slice_get (nest_of program).arrays n))) of_array ∙ ap (λ o. length (extents_or_none o)) declared
 
   parameters : length (number_ranges program.params) ≤ s.system.columns
   parameters =

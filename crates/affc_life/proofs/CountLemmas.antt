@@ -14,6 +14,7 @@ use Rattle.affc_trace.proofs.Runs.{length_append}
 use Rattle.affc_domain.specs.Loops.{shared}
 use Rattle.affc_domain.proofs.Lists.{both_true}
 use Rattle.affc_nest.specs.declared.nest.Nest.{Nest}
+use Rattle.affc_nest.specs.Parts.{statement_of}
 use Rattle.affc_nest.specs.Domains.{compare_rows}
 use Rattle.affc_order.specs.Posed.{Posed}
 use Rattle.affc_order.specs.Systems.{lex_systems, loops_of, time_forms, target_order}
@@ -67,7 +68,7 @@ lex_count columns (suc n) (f ∷ fs) (g ∷ gs) rows tie s (inr i) =
 -- at most 6 iterators, or 12 components
 pub order_count : (nest : Nest) (columns : ℕ) (schedule : Schedule) (a b : Posed) → IsTrue (within_limits schedule) → length a.iterators ≤ 6 → (s : Rows) → IsIn s (target_order nest schedule columns a b) → length s.rows ≤ 24
 order_count nest columns Source a b slight few s i =
-    few_more (length s.rows) (length a.iterators) few (lex_count columns (shared (loops_of nest a.statement) (loops_of nest b.statement)) a.iterators b.iterators [] (nat_lt a.statement b.statement) s i).1
+    few_more (length s.rows) (length a.iterators) few (lex_count columns (shared (loops_of nest a.part) (loops_of nest b.part)) a.iterators b.iterators [] (nat_lt (statement_of nest a.part) (statement_of nest b.part)) s i).1
   where
     few_more : (n k : ℕ) → k ≤ 6 → n ≤ 0 + 2 * k → n ≤ 24
     few_more n k h g = omega (arith, h, g)
@@ -75,7 +76,7 @@ order_count nest columns (Time components maps) a b slight few s i =
     let l = both_true (nat_le 1 components && nat_le components 12) (maps_within maps) slight in
     let k = both_true (nat_le 1 components) (nat_le components 12) l.0 in
     few_more (length s.rows) components (leb-true components 12 k.1)
-    (lex_count columns components (time_forms maps (length nest.params) columns a) (time_forms maps (length nest.params) columns b) [] (nat_lt a.statement b.statement) s i).0
+    (lex_count columns components (time_forms nest maps columns a) (time_forms nest maps columns b) [] (nat_lt (statement_of nest a.part) (statement_of nest b.part)) s i).0
   where
     few_more : (n k : ℕ) → k ≤ 12 → n ≤ 0 + 2 * k → n ≤ 24
     few_more n k h g = omega (arith, h, g)

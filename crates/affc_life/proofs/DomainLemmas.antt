@@ -1,4 +1,4 @@
--- The rows of a living statement's domain are differences of sides: what holds of each of these holds of each row.
+-- The rows of the domain of a part that can have instances are differences of sides: what holds of each of these holds of each row.
 use Rattle.std.proofs.Common.{ℕ, suc, ◌+◌, ◌^◌, ◌≤◌, ℤ, IsTrue, List, [], ◌∷◌, ◌++◌, length, sym, subst, arith}
 use Rattle.std.specs.Prelude.{unsigned_abs, ◌&&◌}
 use Rattle.std.specs.List.{All}
@@ -82,20 +82,20 @@ module _ (P : Affine → Type 0) (gap : (n : ℕ) (a b : Affine) (k : ℕ) → I
       let a = both_true (plain_tests names conds) (plain_at names rs) h in
       All-append P (test_rows names (loops_in rs) conds) (condition_rows names rs) (tested names (loops_in rs) conds a.0) (conditioned names rs a.1)
 
-  pub domain_rows_are : (program : Program) (has : HasNest program) (statement : ℕ) (e : Entry) → IsEntry program statement e → IsTrue e.alive → All P e.domain.rows
-  domain_rows_are program has statement e h alive =
-      let s = site_of program statement e h in
-      let w = ranges_there program statement e has s alive in
+  pub domain_rows_are : (program : Program) (has : HasNest program) (part : ℕ) (e : Entry) → IsEntry program part e → IsTrue e.alive → All P e.domain.rows
+  domain_rows_are program has part e h alive =
+      let s = site_of program part e h in
+      let w = ranges_there program part e has s alive in
       let ps = number_ranges program.params in
       let m = length ps in
       let n = loops_in s.its_rounds in
       let place : Place = record { around = s.its_rounds; loops = s.loops; assignment = s.assignment } in
-      let plain : IsTrue (plain_at m s.its_rounds) = (plain_place m place (assignments_are_plain program has.plain statement s.its_rounds s.assignment s.rounds_at s.assignment_at)).rounds in
-      subst (λ (d : Rows). All P d.rows) (sym (domain_is program statement e s w.0 w.1))
+      let plain : IsTrue (plain_at m s.its_rounds) = (plain_place m place (assignments_are_plain program has.plain part s.its_rounds s.assignment s.rounds_at s.assignment_at)).rounds in
+      subst (λ (d : Rows). All P d.rows) (sym (domain_is program part e s w.0 w.1))
       (All-append P (box_rows (m + n) 0 ps) (test_rows m n program.context ++ (loop_rows m w.0 s.its_rounds ++ condition_rows m s.its_rounds)) (boxed (m + n) 0 ps (near_numbers ps has.plain.ranges))
       (All-append P (test_rows m n program.context) (loop_rows m w.0 s.its_rounds ++ condition_rows m s.its_rounds) (tested m n program.context has.plain.context)
       (All-append P (loop_rows m w.0 s.its_rounds) (condition_rows m s.its_rounds) (looped m w.0 s.its_rounds (near_within ps w.0 s.its_rounds w.1) plain) (conditioned m s.its_rounds plain))))
 
 -- they keep the limits of a system's rows
-pub domain_fits : (program : Program) (has : HasNest program) (statement : ℕ) (e : Entry) → IsEntry program statement e → IsTrue e.alive → All FitsRow e.domain.rows
-domain_fits program has statement e h alive = domain_rows_are FitsRow gap_fits program has statement e h alive
+pub domain_fits : (program : Program) (has : HasNest program) (part : ℕ) (e : Entry) → IsEntry program part e → IsTrue e.alive → All FitsRow e.domain.rows
+domain_fits program has part e h alive = domain_rows_are FitsRow gap_fits program has part e h alive

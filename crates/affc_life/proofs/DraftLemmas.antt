@@ -36,6 +36,3 @@ later_long (x ∷ xs) h = ap suc (sym (all_taken (length (x ∷ xs) - 1) xs (ome
 
 pub later_all : {A : Type 0} (P : A → Type 0) (xs : List A) → All P xs → All P (take (length xs - 1) (drop 1 xs))
 later_all P xs h = All-take P (length xs - 1) (drop 1 xs) (All-drop P 1 xs h)
-
-pub added_twice : (xs ys zs : List Affine) → (xs ++ ys) ++ zs ≡ xs ++ (ys ++ zs)
-added_twice xs ys zs = append_assoc xs ys zs

@@ -13,6 +13,7 @@ use Rattle.affc_trace.specs.Law.{IsIn}
 use Rattle.affc_nest.specs.Asked.{IsNest}
 use Rattle.affc_nest.specs.declared.nest.Entry.{Entry}
 use Rattle.affc_nest.specs.declared.nest.Nest.{Nest}
+use Rattle.affc_nest.specs.Parts.{statement_of}
 use Rattle.affc_nest.specs.Domains.{gap_row}
 use Rattle.affc_nest.proofs.QuestionLemmas.{stands_in}
 use Rattle.affc_order.specs.Posed.{Posed}
@@ -42,14 +43,14 @@ module _ (nest : Nest) (n : IsNest nest) (trees : List Tree) (limits : KeepLimit
   abbrev pub columns : ℕ
   columns = clash_columns nest k.reader k.leaf k.of_leaf.writer
 
-  pub reader_there : slice_get nest.entries k.reader.statement ≡ Some k.reader
-  reader_there = subst (λ (x : Nest). slice_get x.entries k.reader.statement ≡ Some k.reader) (sym n.is) (entry_at n.program n.has k.reader (subst (λ (x : Nest). IsIn k.reader x.entries) n.is k.reader_in))
+  pub reader_there : slice_get nest.entries k.reader.part ≡ Some k.reader
+  reader_there = subst (λ (x : Nest). slice_get x.entries k.reader.part ≡ Some k.reader) (sym n.is) (entry_at n.program n.has k.reader (subst (λ (x : Nest). IsIn k.reader x.entries) n.is k.reader_in))
 
   pub seated : AreSeated nest k.reader k.leaf k.of_leaf.writer
   seated = record {
     nested = n;
     reads = record { there = k.reader_in; alive = k.alive };
-    path = path_of nest (length nest.params + length k.reader.loops) k.tree (limits k.reader.statement k.number k.reader k.tree reader_there k.counts k.tree_there) k.leaf k.leaf_in;
+    path = path_of nest (length nest.params + length k.reader.loops) k.tree (limits k.reader.part k.number k.reader k.tree reader_there k.counts k.tree_there) k.leaf k.leaf_in;
     writes = record { there = k.of_leaf.writer_in; alive = k.of_leaf.writer_alive };
   }
 
@@ -85,9 +86,9 @@ module _ (nest : Nest) (n : IsNest nest) (trees : List Tree) (limits : KeepLimit
   gap_wide : (f g : Affine) (j : ℕ) → Wide f → Wide g → j ≤ 1 → Wide (gap_row f g j)
   gap_wide f g j u v h = length-mixed (pos 1) g.coefs (negsuc 0) f.coefs (v ∙ sym u) ∙ v
 
-  compared_wide : (z : Schedule) (a : Posed) → HasForms nest columns a.statement a.iterators → Compared Wide nest columns z a
+  compared_wide : (z : Schedule) (a : Posed) → HasForms nest columns a.part a.iterators → Compared Wide nest columns z a
   compared_wide Source a h = all_of (IsLight columns) Wide (λ f l. l.width) a.iterators h.light
-  compared_wide (Time components maps) a h = at_width columns (columns_from columns 0 (length nest.params) ++ a.iterators) (forms_or_none (slice_get maps a.statement))
+  compared_wide (Time components maps) a h = at_width columns (columns_from columns 0 (length nest.params) ++ a.iterators) (forms_or_none (slice_get maps (statement_of nest a.part)))
 
   padded_wide : (rows : List Affine) → All (λ f. length f.coefs ≤ columns) rows → All Wide (map (padded columns) rows)
   padded_wide rows h = all_map (λ f. length f.coefs ≤ columns) Wide (padded columns) (λ f l. padded_width columns f l) rows h
@@ -103,7 +104,7 @@ module _ (nest : Nest) (n : IsNest nest) (trees : List Tree) (limits : KeepLimit
       let w : Entry = k.of_leaf.writer in
       let wide : HaveColumns (length nest.params + length w.loops) w.domain.rows =
       subst (λ (x : Nest). HaveColumns (length x.params + length w.loops) w.domain.rows) (sym n.is)
-      (domain_wide n.program n.has w.statement w (entry_at n.program n.has w (subst (λ (x : Nest). IsIn w x.entries) n.is k.of_leaf.writer_in)) k.of_leaf.writer_alive) in
+      (domain_wide n.program n.has w.part w (entry_at n.program n.has w (subst (λ (x : Nest). IsIn w x.entries) n.is k.of_leaf.writer_in)) k.of_leaf.writer_alive) in
       all_map (λ f. length f.coefs ≡ length nest.params + length w.loops) Wide (spread (length nest.params) (k.leaf.columns - length nest.params) 0)
       (λ f l. spread_width (length nest.params) (k.leaf.columns - length nest.params) (length w.loops) 0 f l ∙ none ((length nest.params + (k.leaf.columns - length nest.params)) + length w.loops) ∙ whole)
       (drop (context_count nest) w.domain.rows) (All-drop (λ f. length f.coefs ≡ length nest.params + length w.loops) (context_count nest) w.domain.rows wide)
@@ -116,7 +117,7 @@ module _ (nest : Nest) (n : IsNest nest) (trees : List Tree) (limits : KeepLimit
       let r : Entry = k.reader in
       let wide : HaveColumns (length nest.params + length r.loops) r.domain.rows =
       subst (λ (x : Nest). HaveColumns (length x.params + length r.loops) r.domain.rows) (sym n.is)
-      (domain_wide n.program n.has r.statement r (entry_at n.program n.has r (subst (λ (x : Nest). IsIn r x.entries) n.is k.reader_in)) k.alive) in
+      (domain_wide n.program n.has r.part r (entry_at n.program n.has r (subst (λ (x : Nest). IsIn r x.entries) n.is k.reader_in)) k.alive) in
       All-append (λ f. length f.coefs ≤ columns) r.domain.rows k.leaf.rows
       (all_of (λ f. length f.coefs ≡ length nest.params + length r.loops) (λ f. length f.coefs ≤ columns)
       (λ f l. through (length f.coefs) (length nest.params + length r.loops) k.leaf.columns columns l (path_first nest k.reader k.leaf k.of_leaf.writer seated) (leaf_first nest k.reader k.leaf k.of_leaf.writer seated)) r.domain.rows wide)

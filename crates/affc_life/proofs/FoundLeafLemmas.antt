@@ -132,7 +132,7 @@ leaf_small columns (Source s forms) h g l (inl e) =
       rows_few = omega arith;
       rows_fit = All-nil FitsRow;
       divisions_few = omega arith;
-      named = λ a q. subst (λ (b : Posed). All (FitsForm narrow) b.iterators) (same (record { statement = s; iterators = forms }) a q) g;
+      named = λ a q. subst (λ (b : Posed). All (FitsForm narrow) b.iterators) (same (record { part = s; iterators = forms }) a q) g;
     })
   where
     same : (a b : Posed) → Some a ≡ Some b → a ≡ b

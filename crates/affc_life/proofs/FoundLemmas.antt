@@ -8,14 +8,14 @@ use Rattle.affc_nest.specs.declared.nest.Nest.{Nest}
 use Rattle.affc_nest.proofs.QuestionLemmas.{there_is}
 use Rattle.affc_quast.specs.Limits.{FitsForm, FitsTree, NamesStores, narrow, widest}
 use Rattle.affc_quast.specs.Trees.{Tree, Test, Div, Source, Input, depth_of}
-use Rattle.affc_life.specs.Asked.{NamesStatements, KeepsLimits}
+use Rattle.affc_life.specs.Asked.{NamesParts, KeepsLimits}
 use Rattle.affc_life.specs.Laws.{FoundTreesKeepLimits}
 use Rattle.affc_life.proofs.LightLemmas.{all_of}
 
-names : (nest : Nest) (array : ℕ) (tree : Tree) → NamesStores nest array tree → NamesStatements nest tree
+names : (nest : Nest) (array : ℕ) (tree : Tree) → NamesStores nest array tree → NamesParts nest tree
 names nest array (Test f on off) h = (names nest array on h.0, names nest array off h.1)
 names nest array (Div f by rest) h = names nest array rest h
-names nest array (Source s forms) h = record { entry = h.entry; there = h.there; loops = h.loops }
+names nest array (Source s forms) h = record { entry = h.entry; there = h.there; each = h.each }
 names nest array Input h = tt
 
 form_fits : (f : Affine) → FitsForm narrow f → FitsForm widest f
@@ -37,9 +37,9 @@ tree_fits (Source s forms) h = all_of (FitsForm narrow) (FitsForm widest) form_f
 tree_fits Input h = tt
 
 pub found_trees_keep_limits : FoundTreesKeepLimits
-found_trees_keep_limits nest trees found statement load e tree at counts there =
+found_trees_keep_limits nest trees found part load e tree at counts there =
     let x = there_is e.accesses load (within load (length e.accesses) counts) in
-    let t = found.each statement load e x.0 at counts x.1 in
+    let t = found.each part load e x.0 at counts x.1 in
     let k : KeepsLimits nest (length nest.params + length e.loops) t.0 =
     record { shaped = t.2.shaped; named = names nest x.0.array.0 t.0 t.2.stores; fits = tree_fits t.0 t.2.fits; short = more (depth_of t.0) t.2.short } in
     subst (KeepsLimits nest (length nest.params + length e.loops)) (same_Some t.0 tree (sym t.1 ∙ there)) k

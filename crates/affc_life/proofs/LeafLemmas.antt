@@ -16,13 +16,13 @@ use Rattle.affc_quast.specs.Leaves.{Leaf, negated, behind, divided, leaves_of}
 use Rattle.affc_quast.specs.Limits.{Shaped, FitsForm, FitsTree, widest}
 use Rattle.affc_quast.specs.Trees.{Tree, Test, Div, Source, Input, depth_of, divisions_of}
 use Rattle.affc_quast.proofs.RangeLemmas.{leaves_are_over}
-use Rattle.affc_life.specs.Asked.{IsNamed, NamesStatements, KeepsLimits, IsLight, AreDivisions, IsPath}
+use Rattle.affc_life.specs.Asked.{IsNamed, NamesParts, KeepsLimits, IsLight, AreDivisions, IsPath}
 
 -- what a leaf has of its tree's limits
 record OfTree (nest : Nest) (columns : ℕ) (tree : Tree) (l : Leaf) : Type 0 where
   few : length l.divisions ≤ depth_of tree
   divisions : AreDivisions columns l.divisions
-  named : (a : Posed) → l.named ≡ Some a → IsNamed nest a.statement a.iterators × All (FitsForm widest) a.iterators
+  named : (a : Posed) → l.named ≡ Some a → IsNamed nest a.part a.iterators × All (FitsForm widest) a.iterators
 
 less_left : (n d e : ℕ) → n ≤ d → n ≤ suc (max d e)
 less_left n d e h = grind (arith, h)
@@ -30,7 +30,7 @@ less_left n d e h = grind (arith, h)
 less_right : (n d e : ℕ) → n ≤ e → n ≤ suc (max d e)
 less_right n d e h = grind (arith, h)
 
-of_tree : (nest : Nest) (columns : ℕ) (tree : Tree) → Shaped columns tree → NamesStatements nest tree → FitsTree widest tree → (l : Leaf) → IsIn l (leaves_of columns tree) → OfTree nest columns tree l
+of_tree : (nest : Nest) (columns : ℕ) (tree : Tree) → Shaped columns tree → NamesParts nest tree → FitsTree widest tree → (l : Leaf) → IsIn l (leaves_of columns tree) → OfTree nest columns tree l
 of_tree nest columns (Test f on off) h n g l i = elim (in_append _ _ l i) [
   | inl j ↦ (let r = in_map (behind (f ∷ [])) (leaves_of columns on) l j in let o = of_tree nest columns on h.1 n.0 g.1 r.0 r.1 in
       subst (OfTree nest columns (Test f on off)) (sym r.2) (record { few = less_left (length r.0.divisions) (depth_of on) (depth_of off) o.few; divisions = o.divisions; named = o.named }))
@@ -48,7 +48,7 @@ of_tree nest columns (Source s forms) h n g l (inl e) =
     subst (OfTree nest columns (Source s forms)) (sym e) (record {
       few = omega arith;
       divisions = tt;
-      named = λ a q. subst (λ (b : Posed). IsNamed nest b.statement b.iterators × All (FitsForm widest) b.iterators) (same (record { statement = s; iterators = forms }) a q) (n, g);
+      named = λ a q. subst (λ (b : Posed). IsNamed nest b.part b.iterators × All (FitsForm widest) b.iterators) (same (record { part = s; iterators = forms }) a q) (n, g);
     })
   where
     same : (a b : Posed) → Some a ≡ Some b → a ≡ b

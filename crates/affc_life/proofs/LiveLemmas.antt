@@ -70,11 +70,11 @@ module _ (program : Program) (has : HasNest program) (trees : List Tree) (schedu
   pub store_among : IsIn k.of_leaf.store k.of_leaf.writer.accesses
   store_among = stands_in k.of_leaf.writer.accesses (loads_in k.of_leaf.writer) k.of_leaf.store k.of_leaf.store_there
 
-  pub reader_at : IsEntry program k.reader.statement k.reader
+  pub reader_at : IsEntry program k.reader.part k.reader
   reader_at = entry_at program has k.reader k.reader_in
 
   pub shape : Shaped (length (number_ranges program.params) + length k.reader.loops) k.tree
-  shape = shaped k.reader.statement k.number k.reader k.tree reader_at k.counts k.tree_there
+  shape = shaped k.reader.part k.number k.reader k.tree reader_at k.counts k.tree_there
 
   pub record Cut (p point : List ℤ) : Type 0 where
     pub bs : List ℤ
@@ -157,7 +157,7 @@ module _ (program : Program) (has : HasNest program) (trees : List Tree) (schedu
 
     source_named : NameSources program p (nest_of program) trees → IsSource program p (instance_of k.reader t.bs) (element_at (p ++ t.bs) k.load) (Some named_instance)
     source_named names =
-        let a = names k.reader.statement k.number k.reader reader_at k.counts in
+        let a = names k.reader.part k.number k.reader reader_at k.counts in
         let same : a.0 ≡ k.tree = same_Some a.0 k.tree (sym a.1 ∙ k.tree_there) in
         subst (IsSource program p (instance_of k.reader t.bs) (element_at (p ++ t.bs) k.load)) (ap (λ (u : Tree). named_at u (p ++ t.bs)) same ∙ leads.1 ∙ ap (λ o. instance_at o ((p ++ t.bs) ++ t.qs)) k.of_leaf.names)
         (a.2 (instance_of k.reader t.bs) (element_at (p ++ t.bs) k.load) refl facts_at.reader_runs read)
@@ -203,9 +203,9 @@ module _ (program : Program) (has : HasNest program) (trees : List Tree) (schedu
 
 -- ---- A live pair's clash system
 
-named_is_some : (o : Option Posed) (xs : List ℤ) (w : Instance) → instance_at o xs ≡ Some w → (a : Posed) × (o ≡ Some a) × (record { statement = a.statement; iterators = values_of a.iterators xs } ≡ w)
+named_is_some : (o : Option Posed) (xs : List ℤ) (w : Instance) → instance_at o xs ≡ Some w → (a : Posed) × (o ≡ Some a) × (record { statement = a.part; iterators = values_of a.iterators xs } ≡ w)
 named_is_some None xs w e = absurd (cc)
-named_is_some (Some a) xs w e = (a, refl, same_Some (record { statement = a.statement; iterators = values_of a.iterators xs }) w e)
+named_is_some (Some a) xs w e = (a, refl, same_Some (record { statement = a.part; iterators = values_of a.iterators xs }) w e)
 
 -- a clash system, and a point of it with these elements
 pub record Clashing (program : Program) (trees : List Tree) (schedule : Schedule) (array : ℕ) (p x y : List ℤ) : Type 0 where
@@ -237,10 +237,10 @@ module _ (program : Program) (has : HasNest program) (arrays : NamesArrays progr
       let load : Access = a.1 in
       let b = store_there at' w.accesses (loads_of program p (instance_of w cs)) (store_of program p (instance_of w cs)) write_events in
       let store : Access = b.0 in
-      let tr = names e.statement number e s.at a.3 in
+      let tr = names e.part number e s.at a.3 in
       let tree : Tree = tr.0 in
       let long : m + length e.loops ≡ length (p ++ bs) = sym (length_append p bs ∙ ap (λ n. n + length bs) l ∙ ap (λ n. m + n) s.long) in
-      let shape : Shaped (m + length e.loops) tree = shaped e.statement number e tree s.at a.3 tr.1 in
+      let shape : Shaped (m + length e.loops) tree = shaped e.part number e tree s.at a.3 tr.1 in
       let shape' : Shaped (length (p ++ bs)) tree = subst (λ n. Shaped n tree) long shape in
       let reached = leaf_is_reached tree (p ++ bs) shape' in
       let leaf : Leaf = reached.0 in
@@ -307,7 +307,7 @@ module _ (program : Program) (has : HasNest program) (arrays : NamesArrays progr
         second = y_value program has p bs qs cs l e leaf w s t over at_leaf.width store store_in ∙ y_at;
       }
 
-  same_instance : (e : Entry) (i : Instance) → e.statement ≡ i.statement → instance_of e i.iterators ≡ i
+  same_instance : (e : Entry) (i : Instance) → e.part ≡ i.statement → instance_of e i.iterators ≡ i
   same_instance e i h = ap (λ s. record { statement = s; iterators = i.iterators }) h
 
   pub clashing : orders.StoredBetween (effect program p) same_element (trace program p) (target program schedule p) (array, x) (array, y) → x ≢ y → Clashing program trees schedule array p x y

@@ -93,7 +93,7 @@ module _ (nest : Nest) (trees : List Tree) (schedule : Schedule) (array : ℕ) w
     pub counts : number < loads_in reader
     pub loads : load.array.0 ≡ array
     pub tree : Tree
-    pub tree_there : tree_of nest trees reader.statement number ≡ Some tree
+    pub tree_there : tree_of nest trees reader.part number ≡ Some tree
     pub leaf : Leaf
     pub leaf_in : IsIn leaf (leaves_of (length nest.params + length reader.loops) tree)
     pub of_leaf : OfLeaf nest schedule array reader load leaf c
@@ -115,13 +115,13 @@ module _ (nest : Nest) (trees : List Tree) (schedule : Schedule) (array : ℕ) w
   made c i =
       let a = in_flat_map (clashes_of_entry nest schedule array trees) nest.entries c i in
       let e : Entry = a.0 in
-      let f = λ (x : ℕ × Access). if nat_eq x.1.array.0 array then clashes_of_tree nest schedule array e x.1 (tree_of nest trees e.statement x.0) else [] in
+      let f = λ (x : ℕ × Access). if nat_eq x.1.array.0 array then clashes_of_tree nest schedule array e x.1 (tree_of nest trees e.part x.0) else [] in
       let v = in_if e.alive (flat_map f (numbered_loads 0 e.accesses)) c a.2 in
       let x = in_flat_map f (numbered_loads 0 e.accesses) c v.1 in
       let n = load_at 0 e.accesses x.0 x.1 in
       let same : n.0 ≡ x.0.0 = zero_first x.0.0 n.0 n.1 in
-      let t = in_if (nat_eq x.0.1.array.0 array) (clashes_of_tree nest schedule array e x.0.1 (tree_of nest trees e.statement x.0.0)) c x.2 in
-      let o = of_tree e x.0.1 (tree_of nest trees e.statement x.0.0) c t.1 in
+      let t = in_if (nat_eq x.0.1.array.0 array) (clashes_of_tree nest schedule array e x.0.1 (tree_of nest trees e.part x.0.0)) c x.2 in
+      let o = of_tree e x.0.1 (tree_of nest trees e.part x.0.0) c t.1 in
       record {
         reader = e;
         reader_in = a.1;
@@ -144,15 +144,15 @@ module _ (nest : Nest) (trees : List Tree) (schedule : Schedule) (array : ℕ) w
   pub is_made : (c : Clash) → Made c → IsIn c (clashes nest trees schedule array)
   is_made c k =
       let e : Entry = k.reader in
-      let f = λ (x : ℕ × Access). if nat_eq x.1.array.0 array then clashes_of_tree nest schedule array e x.1 (tree_of nest trees e.statement x.0) else [] in
+      let f = λ (x : ℕ × Access). if nat_eq x.1.array.0 array then clashes_of_tree nest schedule array e x.1 (tree_of nest trees e.part x.0) else [] in
       let g = λ (leaf : Leaf). clashes_of_named nest schedule array e k.load leaf leaf.named in
-      let of_tree : IsIn c (clashes_of_tree nest schedule array e k.load (tree_of nest trees e.statement k.number)) =
+      let of_tree : IsIn c (clashes_of_tree nest schedule array e k.load (tree_of nest trees e.part k.number)) =
       subst (λ o. IsIn c (clashes_of_tree nest schedule array e k.load o)) (sym k.tree_there)
       (to_flat_map g (leaves_of (length nest.params + length e.loops) k.tree) k.leaf c k.leaf_in (leaf_of nest schedule array e k.load k.leaf c k.of_leaf)) in
       to_flat_map (clashes_of_entry nest schedule array trees) nest.entries e c k.reader_in
       (to_if e.alive (flat_map f (numbered_loads 0 e.accesses)) c k.alive
       (to_flat_map f (numbered_loads 0 e.accesses) (k.number, k.load) c (at_load 0 e.accesses k.number k.load k.number (zero_first k.number) k.load_there k.counts)
-      (to_if (nat_eq k.load.array.0 array) (clashes_of_tree nest schedule array e k.load (tree_of nest trees e.statement k.number)) c (eq-eqb k.load.array.0 array k.loads) of_tree)))
+      (to_if (nat_eq k.load.array.0 array) (clashes_of_tree nest schedule array e k.load (tree_of nest trees e.part k.number)) c (eq-eqb k.load.array.0 array k.loads) of_tree)))
     where
       zero_first : (k : ℕ) → k ≡ 0 + k
       zero_first k = omega arith

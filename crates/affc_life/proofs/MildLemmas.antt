@@ -178,14 +178,14 @@ images_mild columns images few fit fs all = all_map (IsSlight (length images)) I
 
 -- ---- What orders compare
 
-pub compared_mild : (nest : Nest) (schedule : Schedule) (q : IsScheduled nest schedule) (columns : ℕ) (a : Posed) → HasForms nest columns a.statement a.iterators → All (FitsForm narrow) a.iterators
+pub compared_mild : (nest : Nest) (schedule : Schedule) (q : IsScheduled nest schedule) (columns : ℕ) (a : Posed) → HasForms nest columns a.part a.iterators → All (FitsForm narrow) a.iterators
     → Compared IsMild nest columns schedule a
 compared_mild nest Source q columns a h fit = all_of (FitsForm narrow) IsMild narrow_mild a.iterators fit
 compared_mild nest (Time components maps) q columns a h fit =
-    let t = is_timed nest (Time components maps) q components maps refl columns a.statement a.iterators h in
+    let t = is_timed nest (Time components maps) q components maps refl columns a.part a.iterators h in
     let params : length nest.params ≤ 4 = nest_few nest (is_nest nest (Time components maps) q) in
     let images : List Affine = columns_from columns 0 (length nest.params) ++ a.iterators in
-    subst (All IsMild) (sym (times_are nest maps columns a.statement a.iterators h t.few params t.has))
-    (images_mild columns images (are_images nest maps columns a.statement a.iterators h t.few params t.has).few
+    subst (All IsMild) (sym (times_are nest maps columns a.part a.iterators h t.few params t.has))
+    (images_mild columns images (are_images nest maps columns a.part a.iterators h t.few params t.has).few
     (All-append (FitsForm narrow) (columns_from columns 0 (length nest.params)) a.iterators (columns_narrow columns 0 (length nest.params)) fit)
-    t.has.time_map.forms (are_slight_over nest maps columns a.statement a.iterators h t.few params t.has))
+    t.has.time_map.forms (are_slight_over nest maps columns a.part a.iterators h t.few params t.has))

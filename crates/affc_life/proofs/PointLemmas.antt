@@ -74,11 +74,11 @@ module _ (program : Program) (has : HasNest program) (p bs qs cs : List ℤ) (l 
   -- ---- The three instances
 
   abbrev named_instance : Posed → Instance
-  named_instance a = record { statement = a.statement; iterators = values_of a.iterators ((p ++ bs) ++ qs) }
+  named_instance a = record { statement = a.part; iterators = values_of a.iterators ((p ++ bs) ++ qs) }
 
   reader_is : IsPosed zs (reader_posed (nest_of program) reader leaf writer) (instance_of reader bs)
   reader_is = record {
-    statement = refl;
+    part = refl;
     iterators = segment_at zs p bs (qs ++ cs) (leaf.columns + length writer.loops) (length (number_ranges program.params)) (length reader.loops) refl zs_long (sym l) (sym s.long);
     columns = subst (λ k. HaveColumns k (columns_from (leaf.columns + length writer.loops) (length (number_ranges program.params)) (length reader.loops))) zs_long
         (from_width (leaf.columns + length writer.loops) (length (number_ranges program.params)) (length reader.loops));
@@ -86,7 +86,7 @@ module _ (program : Program) (has : HasNest program) (p bs qs cs : List ℤ) (l 
 
   writer_is : IsPosed zs (writer_posed (nest_of program) reader leaf writer) (instance_of writer cs)
   writer_is = record {
-    statement = refl;
+    part = refl;
     iterators = segment_at zs ((p ++ bs) ++ qs) cs [] (leaf.columns + length writer.loops) leaf.columns (length writer.loops) (by_leaf ∙ ap (λ ys. ((p ++ bs) ++ qs) ++ ys) (sym (append_nil cs))) zs_long (sym q_long) (sym t.long);
     columns = subst (λ k. HaveColumns k (columns_from (leaf.columns + length writer.loops) leaf.columns (length writer.loops))) zs_long
         (from_width (leaf.columns + length writer.loops) leaf.columns (length writer.loops));
@@ -97,7 +97,7 @@ module _ (program : Program) (has : HasNest program) (p bs qs cs : List ℤ) (l 
 
   named_is : (a : Posed) → leaf.named ≡ Some a → IsPosed zs (named_posed (nest_of program) reader leaf writer a) (named_instance a)
   named_is a names = record {
-    statement = refl;
+    part = refl;
     iterators = padded_values (leaf.columns + length writer.loops) a.iterators zs ∙ ap (values_of a.iterators) by_leaf
         ∙ short_values a.iterators ((p ++ bs) ++ qs) cs (subst (λ k. HaveColumns k a.iterators) (sym q_long) (over.named a names));
     columns = subst (λ k. HaveColumns k (map (padded (leaf.columns + length writer.loops)) a.iterators)) zs_long

@@ -1,22 +1,19 @@
 -- The ranges of quotients have their ends in order.
-use Rattle.std.proofs.Common.{◌≡◌, ℕ, zero, suc, ◌+◌, ◌^◌, ◌<◌, ◌≤◌, ℤ, pos, negsuc, neg_ℤ, ◌≤ℤ◌, Bool, true, false, if◌then◌else◌, List, [], ◌∷◌, ◌++◌, length, map, refl, sym, ap, subst, ◌∙◌, inl, inr, arith}
-use Rattle.std.specs.Prelude.{int_lt}
+use Rattle.std.proofs.Common.{◌≡◌, ℕ, suc, ◌+◌, ◌^◌, ◌≤◌, ℤ, pos, ◌≤ℤ◌, true, false, List, [], ◌∷◌, ◌++◌, length, map, refl, sym, ap, subst, ◌∙◌, inl, inr, arith}
 use Rattle.std.specs.List.{All}
-use Rattle.std.proofs.lemmas.Int.{ints}
 use Rattle.std.proofs.lemmas.List.Elements.{All-nil, All-cons, All-head, All-tail, All-append}
 use Rattle.affc_rows.specs.Forms.{Affine, value, magnitude}
-use Rattle.affc_system.specs.Boxes.{IsBox, IsCorner, corner}
+use Rattle.affc_system.specs.Boxes.{IsCorner, corner}
 use Rattle.affc_system.specs.Pairs.{WithinReach}
-use Rattle.affc_system.proofs.BoxLemmas.{corner_in_box, corner_is_corner, value_least}
 use Rattle.affc_ast.specs.Index.{floor_of}
 use Rattle.affc_trace.proofs.Runs.{length_append}
 use Rattle.affc_nest.specs.declared.divisions.Division.{Division}
-use Rattle.affc_nest.specs.Divisions.{held, quotient_range}
+use Rattle.affc_nest.specs.Divisions.{quotient_range}
 use Rattle.affc_quast.specs.Leaves.{path_ranges}
 use Rattle.affc_quast.specs.Paths.{IsNear}
 use Rattle.affc_quast.specs.SeenLeaves.{division_seen}
 use Rattle.affc_quast.proofs.NearLemmas.{has_value}
-use Rattle.affc_quast.proofs.RangeLemmas.{held_near, floor_grows}
+use Rattle.affc_nest.proofs.DivisionLemmas.{held_near}
 use Rattle.affc_life.specs.Asked.{IsLight, AreDivisions}
 
 pub range_near : (ranges : List (ℤ × ℤ)) (f : Affine) (by : ℤ) → WithinReach (quotient_range ranges f by)
@@ -51,13 +48,11 @@ corner_fits ranges f xs light near few at =
     fewer : (m n : ℕ) → m ≡ n → n ≤ 500 → m ≤ 528
     fewer m n e h = omega (arith, e, h)
 
-pub not_past : (ranges : List (ℤ × ℤ)) (f : Affine) → IsLight (length ranges) f → All WithinReach ranges → length ranges ≤ 500 → (x : List ℤ) × IsCorner ranges x × (2 ^ 126 < magnitude f x) → ⊥
-not_past ranges f light near few past = over (magnitude f past.0) (corner_fits ranges f past.0 light near few past.1) past.2
-  where
-    over : (n : ℕ) → n ≤ 2 ^ 126 → 2 ^ 126 < n → ⊥
-    over n h g = absurd (omega (arith, h, g))
-
 -- ---- What the code makes
+
+-- the first of the divisions
+pub first_light : (ranges : List (ℤ × ℤ)) (divisions rest : List Division) (d : Division) → divisions ≡ d ∷ rest → AreDivisions (length ranges) (map division_seen divisions) → IsLight (length ranges) d.form × (pos 1 ≤ℤ d.by)
+first_light ranges divisions rest d is h = let first = subst (λ ds. AreDivisions (length ranges) (map division_seen ds)) is h in (first.0, first.1)
 
 -- one division more
 module _ (ranges more : List (ℤ × ℤ)) (divisions rest : List Division) (d : Division) (is : divisions ≡ d ∷ rest) (r : ℤ × ℤ) (range : r ≡ quotient_range ranges d.form d.by) (grown : more ≡ ranges ++ r ∷ []) where

@@ -1,5 +1,5 @@
 -- What each row of a clash system keeps, where forms have Q and rows of their differences P.
-use Rattle.std.proofs.Common.{ℕ, zero, suc, ◌≤◌, Bool, true, false, if◌then◌else◌, List, [], ◌∷◌, ◌++◌, length, flat_map, sym, subst, inl, inr, arith}
+use Rattle.std.proofs.Common.{ℕ, zero, suc, ◌≤◌, Bool, true, false, if◌then◌else◌, List, [], ◌∷◌, ◌++◌, flat_map, sym, subst, inl, inr, arith}
 use Rattle.std.specs.List.{All}
 use Rattle.std.proofs.lemmas.List.Elements.{All-nil, All-cons, All-head, All-tail, All-append}
 use Rattle.affc_rows.specs.Forms.{Affine}
@@ -11,6 +11,7 @@ use Rattle.affc_trace.specs.declared.schedule.Schedule.TheVariants.{Source, Time
 use Rattle.affc_trace.specs.Law.{IsIn}
 use Rattle.affc_domain.specs.Loops.{shared}
 use Rattle.affc_nest.specs.declared.nest.Nest.{Nest}
+use Rattle.affc_nest.specs.Parts.{statement_of}
 use Rattle.affc_trace.proofs.Once.{in_flat_map}
 use Rattle.affc_nest.specs.Domains.{gap_row, compare_rows}
 use Rattle.affc_order.specs.Posed.{Posed}
@@ -66,11 +67,11 @@ module _ (P Q : Affine → Type 0) (gap : (f g : Affine) (k : ℕ) → Q f → Q
 -- the forms that an order compares
 abbrev pub Compared : (Q : Affine → Type 0) → Nest → (columns : ℕ) → Schedule → Posed → Type 0
 Compared Q nest columns Source a = All Q a.iterators
-Compared Q nest columns (Time components maps) a = All Q (time_forms maps (length nest.params) columns a)
+Compared Q nest columns (Time components maps) a = All Q (time_forms nest maps columns a)
 
 pub order_all : (P Q : Affine → Type 0) → ((f g : Affine) (k : ℕ) → Q f → Q g → k ≤ 1 → P (gap_row f g k)) → (nest : Nest) (columns : ℕ) (schedule : Schedule) (a b : Posed)
     → Compared Q nest columns schedule a → Compared Q nest columns schedule b → (s : Rows) → IsIn s (target_order nest schedule columns a b) → All P s.rows
 order_all P Q gap nest columns Source a b f g s i =
-    lex_all P Q gap columns (shared (loops_of nest a.statement) (loops_of nest b.statement)) a.iterators b.iterators (nat_lt a.statement b.statement) f g s i
+    lex_all P Q gap columns (shared (loops_of nest a.part) (loops_of nest b.part)) a.iterators b.iterators (nat_lt (statement_of nest a.part) (statement_of nest b.part)) f g s i
 order_all P Q gap nest columns (Time components maps) a b f g s i =
-    lex_all P Q gap columns components (time_forms maps (length nest.params) columns a) (time_forms maps (length nest.params) columns b) (nat_lt a.statement b.statement) f g s i
+    lex_all P Q gap columns components (time_forms nest maps columns a) (time_forms nest maps columns b) (nat_lt (statement_of nest a.part) (statement_of nest b.part)) f g s i

@@ -34,7 +34,7 @@ use Rattle.affc_life.proofs.BoxedLemmas.{all_reach, ranges_are, entry_reach}
 use Rattle.affc_life.proofs.WalkLemmas.{between_is}
 use Rattle.affc_life.proofs.LightLemmas.{all_of, sides_light, columns_light, all_padded, all_spread_light, light_narrow}
 
--- ---- A living statement of a nest
+-- ---- A part of a nest that can have instances
 
 module _ (nest : Nest) (n : IsNest nest) (e : Entry) (living : IsLiving nest e) where
   pub its_ranges : (length e.ranges ≡ length e.loops) × All WithinReach e.ranges
@@ -42,18 +42,18 @@ module _ (nest : Nest) (n : IsNest nest) (e : Entry) (living : IsLiving nest e) 
       let i = subst (λ (x : Nest). IsIn e x.entries) n.is living.there in
       ((ranges_are n.program n.has e i living.alive).each, entry_reach n.program n.has e i living.alive)
 
-  pub its_place : slice_get nest.entries e.statement ≡ Some e
-  its_place = subst (λ (x : Nest). slice_get x.entries e.statement ≡ Some e) (sym n.is) (entry_at n.program n.has e (subst (λ (x : Nest). IsIn e x.entries) n.is living.there))
+  pub its_place : slice_get nest.entries e.part ≡ Some e
+  its_place = subst (λ (x : Nest). slice_get x.entries e.part ≡ Some e) (sym n.is) (entry_at n.program n.has e (subst (λ (x : Nest). IsIn e x.entries) n.is living.there))
 
   -- by its own number it is an instance with this many iterators
-  pub its_name : (forms : List Affine) → length forms ≡ length e.loops → IsNamed nest e.statement forms
+  pub its_name : (forms : List Affine) → length forms ≡ length e.loops → IsNamed nest e.part forms
   its_name forms l = record {
     entry = e;
     there = its_place;
-    loops = l;
+    each = l;
   }
 
-  pub its_columns : (columns first : ℕ) → HasForms nest columns e.statement (columns_from columns first (length e.loops))
+  pub its_columns : (columns first : ℕ) → HasForms nest columns e.part (columns_from columns first (length e.loops))
   its_columns columns first =
       record { named = its_name (columns_from columns first (length e.loops)) (from_long columns first (length e.loops)); light = columns_light columns first (length e.loops) }
 
@@ -62,7 +62,7 @@ module _ (nest : Nest) (n : IsNest nest) (e : Entry) (living : IsLiving nest e) 
   own_wide own is =
       let wide : HaveColumns (length nest.params + length e.loops) e.domain.rows =
       subst (λ (x : Nest). HaveColumns (length x.params + length e.loops) e.domain.rows) (sym n.is)
-      (domain_wide n.program n.has e.statement e (entry_at n.program n.has e (subst (λ (x : Nest). IsIn e x.entries) n.is living.there)) living.alive) in
+      (domain_wide n.program n.has e.part e (entry_at n.program n.has e (subst (λ (x : Nest). IsIn e x.entries) n.is living.there)) living.alive) in
       subst (All (λ f. length nest.params ≤ length f.coefs)) (sym is)
       (All-drop (λ f. length nest.params ≤ length f.coefs) (context_count nest) e.domain.rows
       (all_of (λ f. length f.coefs ≡ length nest.params + length e.loops) (λ f. length nest.params ≤ length f.coefs) (λ f w. enough (length nest.params) (length e.loops) (length f.coefs) w) e.domain.rows wide))
@@ -167,15 +167,15 @@ module _ (nest : Nest) (reader : Entry) (leaf : Leaf) (writer : Entry) (s : AreS
 
   -- ---- The three instances
 
-  pub reader_forms : HasForms nest (clash_columns nest reader leaf writer) reader.statement (reader_posed nest reader leaf writer).iterators
+  pub reader_forms : HasForms nest (clash_columns nest reader leaf writer) reader.part (reader_posed nest reader leaf writer).iterators
   reader_forms = its_columns nest s.nested reader s.reads (clash_columns nest reader leaf writer) (length nest.params)
 
-  pub writer_forms : HasForms nest (clash_columns nest reader leaf writer) writer.statement (writer_posed nest reader leaf writer).iterators
+  pub writer_forms : HasForms nest (clash_columns nest reader leaf writer) writer.part (writer_posed nest reader leaf writer).iterators
   writer_forms = its_columns nest s.nested writer s.writes (clash_columns nest reader leaf writer) leaf.columns
 
   pub named_forms : (named : Posed) → HasForms nest leaf.columns named.part named.iterators → HasForms nest (clash_columns nest reader leaf writer) named.part (named_posed nest reader leaf writer named).iterators
   named_forms named h = record {
-    named = record { entry = h.named.entry; there = h.named.there; loops = length_map (padded (clash_columns nest reader leaf writer)) named.iterators ∙ h.named.loops };
+    named = record { entry = h.named.entry; there = h.named.there; each = length_map (padded (clash_columns nest reader leaf writer)) named.iterators ∙ h.named.each };
     light = all_padded leaf.columns (clash_columns nest reader leaf writer) named.iterators leaf_first h.light;
   }
 
@@ -239,13 +239,13 @@ module _ (nest : Nest) (reader : Entry) (leaf : Leaf) (writer : Entry) where
         e ∙ ap (λ j. columns_from columns j loops) p ∙ ap (columns_from columns (length nest.params)) l ∙ ap (λ k. columns_from k (length nest.params) (length reader.loops)) columns_are
 
     -- over these columns
-    pub has_forms : (statement : ℕ) (forms whole : List Affine) → forms ≡ whole → HasForms nest (clash_columns nest reader leaf writer) statement whole → HasForms nest columns statement forms
-    has_forms statement forms whole e h = subst (λ fs. HasForms nest columns statement fs) (sym e) (subst (λ k. HasForms nest k statement whole) (sym columns_are) h)
+    pub has_forms : (part : ℕ) (forms whole : List Affine) → forms ≡ whole → HasForms nest (clash_columns nest reader leaf writer) part whole → HasForms nest columns part forms
+    has_forms part forms whole e h = subst (λ fs. HasForms nest columns part fs) (sym e) (subst (λ k. HasForms nest k part whole) (sym columns_are) h)
 
     pub order_made : (schedule : Schedule) (a : Posed) (fs : List Affine) (b : Posed) (gs : List Affine) (out : List (List Affine)) → fs ≡ a.iterators → gs ≡ b.iterators
-        → out ≡ map rows_in (target_order nest schedule columns (posed a.statement fs) (posed b.statement gs)) → out ≡ map rows_in (target_order nest schedule (clash_columns nest reader leaf writer) a b)
+        → out ≡ map rows_in (target_order nest schedule columns (posed a.part fs) (posed b.part gs)) → out ≡ map rows_in (target_order nest schedule (clash_columns nest reader leaf writer) a b)
     order_made schedule a fs b gs out f g e =
-        e ∙ ap (λ xs. map rows_in (target_order nest schedule columns (posed a.statement xs) (posed b.statement gs))) f ∙ ap (λ ys. map rows_in (target_order nest schedule columns a (posed b.statement ys))) g
+        e ∙ ap (λ xs. map rows_in (target_order nest schedule columns (posed a.part xs) (posed b.part gs))) f ∙ ap (λ ys. map rows_in (target_order nest schedule columns a (posed b.part ys))) g
         ∙ ap (λ k. map rows_in (target_order nest schedule k a b)) columns_are
 
   -- ---- All of them

@@ -71,7 +71,7 @@ few_extents n (d ∷ ds) (suc k) h =
 pub few_subscripts : (program : Program) (has : HasNest program) → NamesArrays program → (e : Entry) → IsIn e (nest_of program).entries → (x : Access) → IsIn x e.accesses → length x.subs ≤ 4
 few_subscripts program has named e i x j =
     let n = length (number_ranges program.params) in
-    subst (λ k. k ≤ 4) (sym (as_many program e.statement e named (entry_at program has e i) x j))
+    subst (λ k. k ≤ 4) (sym (as_many program e.part e named (entry_at program has e i) x j))
     (few_extents n (declared_arrays program) x.array.0 (plain_append n (arrays_of program.params) program.temps has.plain.arrays has.plain.temps))
 
 -- ---- One clash system
@@ -105,7 +105,7 @@ module _ (program : Program) (has : HasNest program) (named : NamesArrays progra
   within : IsTreeWithin narrow 302 12 (nest_of program) k.load.array.0 (length nest.params + length k.reader.loops) k.tree
   within =
       let there = reader_there nest nested trees limits schedule array c k in
-      let t = found.each k.reader.statement k.number k.reader k.load there k.counts k.load_there in
+      let t = found.each k.reader.part k.number k.reader k.load there k.counts k.load_there in
       subst (IsTreeWithin narrow 302 12 nest k.load.array.0 (length nest.params + length k.reader.loops)) (same_Some t.0 k.tree (sym t.1 ∙ k.tree_there)) t.2
 
   small : IsSmall (depth_of k.tree) (divisions_of k.tree) k.leaf
@@ -142,16 +142,16 @@ module _ (program : Program) (has : HasNest program) (named : NamesArrays progra
       sum : (n p w a o d l v q : ℕ) → n ≡ p + w → p ≡ a → w ≡ o → a ≡ d + l → o ≡ v - q → d ≤ 134 → l ≤ 314 → v ≤ 134 → n ≤ 582
       sum n p w a o d l v q e f g h i j s t = omega (arith, e, f, g, h, i, j, s, t)
 
-  six_of : (a : Posed) → HasForms (nest_of program) (columns nest nested trees limits schedule array c k) a.statement a.iterators → length a.iterators ≤ 6
-  six_of a h = subst (λ n. n ≤ 6) (sym h.named.loops) (few_numbered nest h.named.entry nested (stands_in nest.entries a.statement h.named.entry h.named.there))
+  six_of : (a : Posed) → HasForms (nest_of program) (columns nest nested trees limits schedule array c k) a.part a.iterators → length a.iterators ≤ 6
+  six_of a h = subst (λ n. n ≤ 6) (sym h.named.each) (few_numbered nest h.named.entry nested (stands_in nest.entries a.part h.named.entry h.named.there))
 
   named_has_forms : HasForms (nest_of program) (columns nest nested trees limits schedule array c k) k.of_leaf.named.part (named_posed (nest_of program) k.reader k.leaf k.of_leaf.writer k.of_leaf.named).iterators
   named_has_forms = named_forms nest k.reader k.leaf k.of_leaf.writer seats k.of_leaf.named (named_has nest nested trees limits schedule array c k)
 
-  writer_has_forms : HasForms (nest_of program) (columns nest nested trees limits schedule array c k) k.of_leaf.writer.statement (writer_posed (nest_of program) k.reader k.leaf k.of_leaf.writer).iterators
+  writer_has_forms : HasForms (nest_of program) (columns nest nested trees limits schedule array c k) k.of_leaf.writer.part (writer_posed (nest_of program) k.reader k.leaf k.of_leaf.writer).iterators
   writer_has_forms = writer_forms nest k.reader k.leaf k.of_leaf.writer seats
 
-  reader_has_forms : HasForms (nest_of program) (columns nest nested trees limits schedule array c k) k.reader.statement (reader_posed (nest_of program) k.reader k.leaf k.of_leaf.writer).iterators
+  reader_has_forms : HasForms (nest_of program) (columns nest nested trees limits schedule array c k) k.reader.part (reader_posed (nest_of program) k.reader k.leaf k.of_leaf.writer).iterators
   reader_has_forms = reader_forms nest k.reader k.leaf k.of_leaf.writer seats
 
   pub rows_few : length c.system.rows ≤ 638
@@ -176,8 +176,8 @@ module _ (program : Program) (has : HasNest program) (named : NamesArrays progra
   front_fits : All FitsRow (front_rows (nest_of program) k.reader k.leaf k.of_leaf.writer)
   front_fits =
       let w : Entry = k.of_leaf.writer in
-      let reader_rows : All FitsRow k.reader.domain.rows = domain_fits program has k.reader.statement k.reader (entry_at program has k.reader k.reader_in) k.alive in
-      let writer_rows : All FitsRow w.domain.rows = domain_fits program has w.statement w (entry_at program has w k.of_leaf.writer_in) k.of_leaf.writer_alive in
+      let reader_rows : All FitsRow k.reader.domain.rows = domain_fits program has k.reader.part k.reader (entry_at program has k.reader k.reader_in) k.alive in
+      let writer_rows : All FitsRow w.domain.rows = domain_fits program has w.part w (entry_at program has w k.of_leaf.writer_in) k.of_leaf.writer_alive in
       All-append FitsRow (map (of_reader nest k.reader k.leaf w) (k.reader.domain.rows ++ k.leaf.rows)) (map (of_writer nest k.reader k.leaf w) (drop (context_count nest) w.domain.rows))
       (padded_fits (columns nest nested trees limits schedule array c k) (k.reader.domain.rows ++ k.leaf.rows) (All-append FitsRow k.reader.domain.rows k.leaf.rows reader_rows small.rows_fit))
       (all_map FitsRow FitsRow (of_writer nest k.reader k.leaf w) (spread_fits (length nest.params) (k.leaf.columns - length nest.params) 0) (drop (context_count nest) w.domain.rows) (All-drop FitsRow (context_count nest) w.domain.rows writer_rows))

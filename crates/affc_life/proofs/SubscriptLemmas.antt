@@ -81,7 +81,7 @@ are_subscripts nest n e i x j =
     ap (λ l. m + l) (sym (loops_are n.program k.0 e s)) ∙ ap (λ (y : Nest). length y.params + length e.loops) (sym n.is) in
     subst (λ l. All (IsSubscript l) x.subs) same all
 
--- at most 16 of a statement
+-- at most 16 of a part
 pub few_accesses : (nest : Nest) → IsNest nest → (e : Entry) → IsIn e nest.entries → length e.accesses ≤ 16
 few_accesses nest n e i =
     let k = place_of (nest_of n.program).entries e (subst (λ (y : Nest). IsIn e y.entries) n.is i) in

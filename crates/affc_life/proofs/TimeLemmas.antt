@@ -14,10 +14,11 @@ use Rattle.affc_trace.specs.Target.{are_slight, all_slight}
 use Rattle.affc_trace.proofs.Runs.{length_append}
 use Rattle.affc_domain.proofs.Lists.{both_true, length_map}
 use Rattle.affc_nest.specs.declared.nest.Nest.{Nest}
+use Rattle.affc_nest.specs.Parts.{statement_of}
 use Rattle.affc_order.specs.Asked.{IsScheduled}
 use Rattle.affc_order.specs.Placed.{HasMap}
 use Rattle.affc_order.specs.Posed.{form_at}
-use Rattle.affc_order.specs.Systems.{loops_or_none, loops_of, forms_or_none, time_forms}
+use Rattle.affc_order.specs.Systems.{loops_or_none, coordinates_of, forms_or_none, time_forms}
 use Rattle.affc_order.proofs.CodeLemmas.{few_loops, is_nest}
 use Rattle.affc_order.proofs.ColumnLemmas.{first_columns, later_columns, from_long}
 use Rattle.affc_order.proofs.DepthLemmas.{timed}
@@ -45,14 +46,14 @@ slight_forms n (f ∷ fs) w h =
 
 -- ---- Instances
 
--- the loops of a named statement
-pub named_loops : (nest : Nest) (columns statement : ℕ) (forms : List Affine) → HasForms nest columns statement forms → length forms ≡ length (loops_of nest statement)
-named_loops nest columns statement forms h = h.named.loops ∙ ap (λ o. length (loops_or_none o)) (sym h.named.there)
+-- the coordinates of a named part
+pub named_coordinates : (nest : Nest) (columns part : ℕ) (forms : List Affine) → HasForms nest columns part forms → length forms ≡ coordinates_of nest part
+named_coordinates nest columns part forms h = h.named.each ∙ ap (λ o. length (loops_or_none o)) (sym h.named.there)
 
-pub named_counts : (nest : Nest) (columns statement : ℕ) (forms : List Affine) → HasForms nest columns statement forms → statement < length nest.entries
-named_counts nest columns statement forms h = slice_get_within nest.entries statement h.named.entry h.named.there
+pub named_counts : (nest : Nest) (columns part : ℕ) (forms : List Affine) → HasForms nest columns part forms → part < length nest.entries
+named_counts nest columns part forms h = slice_get_within nest.entries part h.named.entry h.named.there
 
-module _ (nest : Nest) (maps : List TimeMap) (columns statement : ℕ) (forms : List Affine) (posed_by : HasForms nest columns statement forms) (few : length forms ≤ 6) (params_few : length nest.params ≤ 4) (has : HasMap nest maps statement) where
+module _ (nest : Nest) (maps : List TimeMap) (columns part : ℕ) (forms : List Affine) (posed_by : HasForms nest columns part forms) (few : length forms ≤ 6) (params_few : length nest.params ≤ 4) (has : HasMap nest maps part) where
   abbrev whole : List Affine
   whole = columns_from columns 0 (length nest.params) ++ forms
 
@@ -70,26 +71,23 @@ module _ (nest : Nest) (maps : List TimeMap) (columns statement : ℕ) (forms : 
 
   pub are_slight_over : All (IsSlight (length (columns_from columns 0 (length nest.params) ++ forms))) has.time_map.forms
   are_slight_over =
-      subst (λ n. All (IsSlight n) has.time_map.forms) (ap (λ n. length nest.params + n) (sym (named_loops nest columns statement forms posed_by)) ∙ sym whole_long)
-      (slight_forms (length nest.params + length (loops_of nest statement)) has.time_map.forms has.columns has.slight)
+      subst (λ n. All (IsSlight n) has.time_map.forms) (ap (λ n. length nest.params + n) (sym (named_coordinates nest columns part forms posed_by)) ∙ sym whole_long)
+      (slight_forms (length nest.params + coordinates_of nest part) has.time_map.forms has.columns has.slight)
 
-  pub its_map : (m : TimeMap) → m ≡ get_or maps statement m → m ≡ has.time_map
-  its_map m e = e ∙ get_or_from_slice_get maps statement has.time_map m has.there
+  pub its_map : (m : TimeMap) → m ≡ get_or maps (statement_of nest part) m → m ≡ has.time_map
+  its_map m e = e ∙ get_or_from_slice_get maps (statement_of nest part) has.time_map m has.there
 
-  pub map_there : statement < length maps
-  map_there = slice_get_within maps statement has.time_map has.there
-
-  pub times_are : time_forms maps (length nest.params) columns (posed statement forms) ≡ map (form_at columns (columns_from columns 0 (length nest.params) ++ forms)) has.time_map.forms
+  pub times_are : time_forms nest maps columns (posed part forms) ≡ map (form_at columns (columns_from columns 0 (length nest.params) ++ forms)) has.time_map.forms
   times_are = ap (λ o. map (form_at columns whole) (forms_or_none o)) has.there
 
-  pub times_wide : All (IsWide columns) (time_forms maps (length nest.params) columns (posed statement forms))
+  pub times_wide : All (IsWide columns) (time_forms nest maps columns (posed part forms))
   times_wide = subst (All (IsWide columns)) (sym times_are) (images_wide columns whole are_images has.time_map.forms are_slight_over)
 
-  pub times_long : length (time_forms maps (length nest.params) columns (posed statement forms)) ≡ length has.time_map.forms
+  pub times_long : length (time_forms nest maps columns (posed part forms)) ≡ length has.time_map.forms
   times_long = ap length times_are ∙ length_map (form_at columns whole) has.time_map.forms
 
   -- what the code has put at the columns
-  module _ (m : TimeMap) (is : m ≡ get_or maps statement m) (ps : List (ℤ × ℤ)) (ps_are : ps ≡ nest.params) (images start : List Affine) (start_is : start ≡ columns_from columns 0 (length ps)) (made : images ≡ start ++ forms) where
+  module _ (m : TimeMap) (is : m ≡ get_or maps (statement_of nest part) m) (ps : List (ℤ × ℤ)) (ps_are : ps ≡ nest.params) (images start : List Affine) (start_is : start ≡ columns_from columns 0 (length ps)) (made : images ≡ start ++ forms) where
     pub images_are : images ≡ columns_from columns 0 (length nest.params) ++ forms
     images_are = made ∙ ap (λ s. s ++ forms) (start_is ∙ ap (λ (rs : List (ℤ × ℤ)). columns_from columns 0 (length rs)) ps_are)
 
@@ -100,7 +98,7 @@ module _ (nest : Nest) (maps : List TimeMap) (columns statement : ℕ) (forms : 
     its_slight held own e d =
         subst (All (IsSlight (length held))) (sym (d ∙ ap (λ (x : TimeMap). x.forms) (its_map m is))) (subst (λ gs. All (IsSlight (length gs)) has.time_map.forms) (sym (e ∙ images_are)) are_slight_over)
 
-    pub times_made : (held own out none : List Affine) → held ≡ images → own ≡ m.forms → none ≡ [] → out ≡ none ++ map (form_at columns held) own → out ≡ time_forms maps (length nest.params) columns (posed statement forms)
+    pub times_made : (held own out none : List Affine) → held ≡ images → own ≡ m.forms → none ≡ [] → out ≡ none ++ map (form_at columns held) own → out ≡ time_forms nest maps columns (posed part forms)
     times_made held own out none e d n o =
         o ∙ ap (λ xs. xs ++ map (form_at columns held) own) n ∙ ap (λ gs. map (form_at columns gs) own) (e ∙ images_are)
         ∙ ap (map (form_at columns whole)) (d ∙ ap (λ (x : TimeMap). x.forms) (its_map m is)) ∙ sym times_are
@@ -108,9 +106,9 @@ module _ (nest : Nest) (maps : List TimeMap) (columns statement : ℕ) (forms : 
 -- ---- Schedules
 
 pub is_timed : (nest : Nest) (schedule : Schedule) (q : IsScheduled nest schedule) (components : ℕ) (maps : List TimeMap) → schedule ≡ Time components maps
-    → (columns statement : ℕ) (forms : List Affine) → HasForms nest columns statement forms → IsTimed nest components maps columns statement forms
-is_timed nest schedule q components maps is columns statement forms h =
-    let t = timed nest schedule q components maps is statement (named_counts nest columns statement forms h) in
-    let l : length forms ≡ length (loops_of nest statement) = named_loops nest columns statement forms h in
-    let f : length (loops_of nest statement) ≤ 6 = few_loops nest (is_nest nest schedule q) statement (named_counts nest columns statement forms h) in
+    → (columns part : ℕ) (forms : List Affine) → HasForms nest columns part forms → IsTimed nest components maps columns part forms
+is_timed nest schedule q components maps is columns part forms h =
+    let t = timed nest schedule q components maps is part (named_counts nest columns part forms h) in
+    let l : length forms ≡ coordinates_of nest part = named_coordinates nest columns part forms h in
+    let f : coordinates_of nest part ≤ 6 = few_loops nest (is_nest nest schedule q) part (named_counts nest columns part forms h) in
     record { posed = h; few = subst (λ n. n ≤ 6) (sym l) f; has = t.has; long = t.long }

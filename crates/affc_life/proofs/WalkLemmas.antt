@@ -103,31 +103,31 @@ later_tree (suc n) k (x ∷ xs) = later_tree n k xs ∙ ap (slice_get (x ∷ xs)
     one : (n k : ℕ) → suc (n + k) ≡ suc n + k
     one n k = omega arith
 
-module _ (nest : Nest) (trees own : List Tree) (reader : Entry) (is : own ≡ drop (loads_before nest.entries reader.statement) trees) where
-  same_tree : (load : ℕ) → slice_get own load ≡ tree_of nest trees reader.statement load
-  same_tree load = ap (λ ts. slice_get ts load) is ∙ later_tree (loads_before nest.entries reader.statement) load trees
+module _ (nest : Nest) (trees own : List Tree) (reader : Entry) (is : own ≡ drop (loads_before nest.entries reader.part) trees) where
+  same_tree : (load : ℕ) → slice_get own load ≡ tree_of nest trees reader.part load
+  same_tree load = ap (λ ts. slice_get ts load) is ∙ later_tree (loads_before nest.entries reader.part) load trees
 
   pub entry_made : (schedule : Schedule) (array : ℕ)
       → flat_map (clashes_of_load nest schedule array reader own) (numbered_loads 0 reader.accesses)
-      ≡ flat_map (λ load. if nat_eq load.1.array.0 array then clashes_of_tree nest schedule array reader load.1 (tree_of nest trees reader.statement load.0) else []) (numbered_loads 0 reader.accesses)
+      ≡ flat_map (λ load. if nat_eq load.1.array.0 array then clashes_of_tree nest schedule array reader load.1 (tree_of nest trees reader.part load.0) else []) (numbered_loads 0 reader.accesses)
   entry_made schedule array =
-      flat_same (clashes_of_load nest schedule array reader own) (λ (load : ℕ × Access). if nat_eq load.1.array.0 array then clashes_of_tree nest schedule array reader load.1 (tree_of nest trees reader.statement load.0) else [])
+      flat_same (clashes_of_load nest schedule array reader own) (λ (load : ℕ × Access). if nat_eq load.1.array.0 array then clashes_of_tree nest schedule array reader load.1 (tree_of nest trees reader.part load.0) else [])
       (λ load. ap (λ o. if nat_eq load.1.array.0 array then clashes_of_tree nest schedule array reader load.1 o else []) (same_tree load.0)) (numbered_loads 0 reader.accesses)
 
   pub reader_made : (schedule : Schedule) (array : ℕ) (accesses : List Access) (old new : List Clash) → reader.alive ≡ true → accesses ≡ reader.accesses
       → new ≡ old ++ flat_map (clashes_of_load nest schedule array reader own) (numbered_loads 0 accesses) → new ≡ old ++ clashes_of_entry nest schedule array trees reader
   reader_made schedule array accesses old new alive a e =
       let whole : List Clash =
-      flat_map (λ load. if nat_eq load.1.array.0 array then clashes_of_tree nest schedule array reader load.1 (tree_of nest trees reader.statement load.0) else []) (numbered_loads 0 reader.accesses) in
+      flat_map (λ load. if nat_eq load.1.array.0 array then clashes_of_tree nest schedule array reader load.1 (tree_of nest trees reader.part load.0) else []) (numbered_loads 0 reader.accesses) in
       e ∙ ap (λ xs. old ++ flat_map (clashes_of_load nest schedule array reader own) (numbered_loads 0 xs)) a ∙ ap (λ zs. old ++ zs) (entry_made schedule array) ∙ ap (λ t. old ++ (if t then whole else [])) (sym alive)
 
-  pub own_loads : KeepLimits nest trees → slice_get nest.entries reader.statement ≡ Some reader → AreLoads nest reader own
-  own_loads limits there load tree counts at = limits reader.statement load reader tree there counts (sym (same_tree load) ∙ at)
+  pub own_loads : KeepLimits nest trees → slice_get nest.entries reader.part ≡ Some reader → AreLoads nest reader own
+  own_loads limits there load tree counts at = limits reader.part load reader tree there counts (sym (same_tree load) ∙ at)
 
--- the trees behind those of a statement
-pub trees_behind : (e : Entry) (entries rest : List Entry) (trees others : List Tree) (result : List Tree) (statement before loads : ℕ) → entries ≡ e ∷ rest → statement ≡ suc before
-    → loads ≡ loads_in e → others ≡ drop loads trees → result ≡ drop (loads_before rest before) others → result ≡ drop (loads_before entries statement) trees
-trees_behind e entries rest trees others result statement before loads i s l o r =
+-- the trees behind those of a part
+pub trees_behind : (e : Entry) (entries rest : List Entry) (trees others : List Tree) (result : List Tree) (part before loads : ℕ) → entries ≡ e ∷ rest → part ≡ suc before
+    → loads ≡ loads_in e → others ≡ drop loads trees → result ≡ drop (loads_before rest before) others → result ≡ drop (loads_before entries part) trees
+trees_behind e entries rest trees others result part before loads i s l o r =
     r ∙ ap (drop (loads_before rest before)) o ∙ drop-drop (loads_before rest before) loads trees ∙ ap (λ n. drop (n + loads_before rest before) trees) l
     ∙ ap (λ es. drop (loads_before es (suc before)) trees) (sym i) ∙ ap (λ n. drop (loads_before entries n) trees) (sym s)
 

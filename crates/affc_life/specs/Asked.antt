@@ -6,6 +6,7 @@ use Rattle.affc_trace.specs.Law.{IsIn}
 use Rattle.affc_nest.specs.Asked.{IsNest}
 use Rattle.affc_nest.specs.declared.nest.Entry.{Entry}
 use Rattle.affc_nest.specs.declared.nest.Nest.{Nest}
+use Rattle.affc_nest.specs.Parts.{coordinates}
 use Rattle.affc_order.specs.Posed.{Posed}
 use Rattle.affc_quast.specs.Leaves.{Leaf}
 use Rattle.affc_quast.specs.Limits.{Shaped, FitsForm, FitsTree, widest}
@@ -14,30 +15,30 @@ use Rattle.affc_quast.specs.Trees.{Tree, Test, Div, Source, Input, depth_of}
 
 -- ---- Trees
 
--- the statement has an entry, and there is a form for each of its loops
-pub record IsNamed (nest : Nest) (statement : ℕ) (forms : List Affine) : Type 0 where
+-- the part has an entry, and there is a form for each of its coordinates
+pub record IsNamed (nest : Nest) (part : ℕ) (forms : List Affine) : Type 0 where
   pub entry : Entry
-  pub there : slice_get nest.entries statement ≡ Some entry
-  pub loops : length forms ≡ length entry.loops
+  pub there : slice_get nest.entries part ≡ Some entry
+  pub each : length forms ≡ coordinates entry
 
--- each instance that the tree names is of such a statement
-abbrev pub NamesStatements : Nest → Tree → Type 0
-NamesStatements nest (Test f on off) = NamesStatements nest on × NamesStatements nest off
-NamesStatements nest (Div f by rest) = NamesStatements nest rest
-NamesStatements nest (Source s forms) = IsNamed nest s forms
-NamesStatements nest Input = Unit {0}
+-- each instance that the tree names is of such a part
+abbrev pub NamesParts : Nest → Tree → Type 0
+NamesParts nest (Test f on off) = NamesParts nest on × NamesParts nest off
+NamesParts nest (Div f by rest) = NamesParts nest rest
+NamesParts nest (Source s forms) = IsNamed nest s forms
+NamesParts nest Input = Unit {0}
 
 -- a tree over so many columns within the widest limits, whose paths have at most 400 tests and divisions
 pub record KeepsLimits (nest : Nest) (columns : ℕ) (tree : Tree) : Type 0 where
   pub shaped : Shaped columns tree
-  pub named : NamesStatements nest tree
+  pub named : NamesParts nest tree
   pub fits : FitsTree widest tree
   pub short : depth_of tree ≤ 400
 
--- each tree of a load does, over the parameters and the iterators of its statement
+-- each tree of a load does, over the parameters and the coordinates of its part
 abbrev pub KeepLimits : Nest → List Tree → Type 0
-KeepLimits nest trees = (statement load : ℕ) (e : Entry) (tree : Tree) → slice_get nest.entries statement ≡ Some e → load < loads_in e → tree_of nest trees statement load ≡ Some tree
-    → KeepsLimits nest (length nest.params + length e.loops) tree
+KeepLimits nest trees = (part load : ℕ) (e : Entry) (tree : Tree) → slice_get nest.entries part ≡ Some e → load < loads_in e → tree_of nest trees part load ≡ Some tree
+    → KeepsLimits nest (length nest.params + coordinates e) tree
 
 -- ---- Forms
 
@@ -46,9 +47,9 @@ pub record IsLight (columns : ℕ) (form : Affine) : Type 0 where
   pub width : length form.coefs ≡ columns
   pub fits : FitsForm widest form
 
--- an instance of this statement by light forms
-pub record HasForms (nest : Nest) (columns statement : ℕ) (forms : List Affine) : Type 0 where
-  pub named : IsNamed nest statement forms
+-- an instance of this part by light forms
+pub record HasForms (nest : Nest) (columns part : ℕ) (forms : List Affine) : Type 0 where
+  pub named : IsNamed nest part forms
   pub light : All (IsLight columns) forms
 
 -- ---- Leaves
@@ -64,22 +65,22 @@ pub record IsPath (nest : Nest) (columns : ℕ) (leaf : Leaf) : Type 0 where
   pub few : length leaf.divisions ≤ 400
   pub rows : All (λ r. length r.coefs ≤ leaf.columns) leaf.rows
   pub divisions : AreDivisions columns leaf.divisions
-  pub named : (a : Posed) → leaf.named ≡ Some a → HasForms nest leaf.columns a.statement a.iterators
+  pub named : (a : Posed) → leaf.named ≡ Some a → HasForms nest leaf.columns a.part a.iterators
 
--- a living statement of a nest
+-- a part of a nest that can have instances
 pub record IsLiving (nest : Nest) (e : Entry) : Type 0 where
   pub there : IsIn e nest.entries
   pub alive : IsTrue e.alive
 
--- a leaf of a load of the first statement, and a store by the second
+-- a leaf of a load of the first part, and a store by the second
 pub record AreSeated (nest : Nest) (reader : Entry) (leaf : Leaf) (writer : Entry) : Type 0 where
   pub nested : IsNest nest
   pub reads : IsLiving nest reader
-  pub path : IsPath nest (length nest.params + length reader.loops) leaf
+  pub path : IsPath nest (length nest.params + coordinates reader) leaf
   pub writes : IsLiving nest writer
 
 -- ---- Loads
 
--- the trees of a statement's loads, those of later statements behind, keep the limits
+-- the trees of a part's loads, those of later parts behind, keep the limits
 abbrev pub AreLoads : Nest → Entry → List Tree → Type 0
-AreLoads nest e trees = (load : ℕ) (tree : Tree) → load < loads_in e → slice_get trees load ≡ Some tree → KeepsLimits nest (length nest.params + length e.loops) tree
+AreLoads nest e trees = (load : ℕ) (tree : Tree) → load < loads_in e → slice_get trees load ≡ Some tree → KeepsLimits nest (length nest.params + coordinates e) tree

@@ -12,6 +12,7 @@ use Rattle.affc_nest.specs.Domains.{compare_rows}
 use Rattle.affc_nest.specs.declared.nest.Access.{Access}
 use Rattle.affc_nest.specs.declared.nest.Entry.{Entry}
 use Rattle.affc_nest.specs.declared.nest.Nest.{Nest}
+use Rattle.affc_nest.specs.Parts.{coordinates}
 use Rattle.affc_order.specs.Posed.{Posed}
 use Rattle.affc_order.specs.Spread.{spread}
 use Rattle.affc_order.specs.Systems.{target_order}
@@ -20,7 +21,7 @@ use Rattle.affc_quast.specs.Leaves.{padded, Leaf, leaves_of, path_ranges}
 use Rattle.affc_quast.specs.Sources.{loads_in, tree_of}
 use Rattle.affc_quast.specs.Trees.{Tree}
 
--- A system over the columns of a leaf and then the iterators of a store, the ranges of these columns, and the subscripts of
+-- A system over the columns of a leaf and then the coordinates of a store, the ranges of these columns, and the subscripts of
 -- the element that is loaded and of the one that is stored.
 pub record Clash : Type 0 where
   pub system : Rows
@@ -44,11 +45,11 @@ apart_rows (f ∷ fs) (g ∷ gs) rows = (rows ++ compare_rows Less f g) ∷ (row
 abbrev pub between_rows : (rows : List Affine) → (first second : List Rows) → (fs gs : List Affine) → List (List Affine)
 between_rows rows first second fs gs = flat_map (λ o. flat_map (λ u. apart_rows fs gs (rows ++ (o.rows ++ u.rows))) second) first
 
--- ---- A load of one statement, a leaf of its tree, and a store by another
+-- ---- A load of one part, a leaf of its tree, and a store by another
 
 module _ (nest : Nest) (reader : Entry) (leaf : Leaf) (writer : Entry) where
   abbrev pub clash_columns : ℕ
-  clash_columns = leaf.columns + length writer.loops
+  clash_columns = leaf.columns + coordinates writer
 
   -- a form of the reader or of the leaf, and one of the writer
   abbrev pub of_reader : Affine → Affine
@@ -58,13 +59,13 @@ module _ (nest : Nest) (reader : Entry) (leaf : Leaf) (writer : Entry) where
   of_writer = spread (length nest.params) (leaf.columns - length nest.params) 0
 
   abbrev pub reader_posed : Posed
-  reader_posed = record { statement = reader.statement; iterators = columns_from clash_columns (length nest.params) (length reader.loops) }
+  reader_posed = record { part = reader.part; iterators = columns_from clash_columns (length nest.params) (coordinates reader) }
 
   abbrev pub named_posed : Posed → Posed
   named_posed a = record a { iterators = map of_reader a.iterators }
 
   abbrev pub writer_posed : Posed
-  writer_posed = record { statement = writer.statement; iterators = columns_from clash_columns leaf.columns (length writer.loops) }
+  writer_posed = record { part = writer.part; iterators = columns_from clash_columns leaf.columns (coordinates writer) }
 
   -- the reader's domain, the leaf, and the writer's domain; the rows of the parameters and of the context stand once
   abbrev pub front_rows : List Affine
@@ -114,14 +115,14 @@ module _ (nest : Nest) (schedule : Schedule) (array : ℕ) where
 
   abbrev pub clashes_of_tree : Entry → Access → Option Tree → List Clash
   clashes_of_tree reader load None = []
-  clashes_of_tree reader load (Some tree) = flat_map (λ leaf. clashes_of_named reader load leaf leaf.named) (leaves_of (length nest.params + length reader.loops) tree)
+  clashes_of_tree reader load (Some tree) = flat_map (λ leaf. clashes_of_named reader load leaf leaf.named) (leaves_of (length nest.params + coordinates reader) tree)
 
   abbrev pub clashes_of_entry : List Tree → Entry → List Clash
   clashes_of_entry trees reader =
       if reader.alive
-      then flat_map (λ load. if nat_eq load.1.array.0 array then clashes_of_tree reader load.1 (tree_of nest trees reader.statement load.0) else []) (numbered_loads 0 reader.accesses)
+      then flat_map (λ load. if nat_eq load.1.array.0 array then clashes_of_tree reader load.1 (tree_of nest trees reader.part load.0) else []) (numbered_loads 0 reader.accesses)
       else []
 
--- the clash systems of an array, where the loads have these trees, statements and loads in order
+-- the clash systems of an array, where the loads have these trees, parts and loads in order
 abbrev pub clashes : Nest → List Tree → Schedule → (array : ℕ) → List Clash
 clashes nest trees schedule array = flat_map (clashes_of_entry nest schedule array trees) nest.entries

@@ -19,8 +19,8 @@ pub record IsSlight (columns : ℕ) (form : Affine) : Type 0 where
   pub constant_fits : unsigned_abs form.constant ≤ 2 ^ 30
 
 -- an instance by light forms, whose time has so many components
-pub record IsTimed (nest : Nest) (components : ℕ) (maps : List TimeMap) (columns statement : ℕ) (forms : List Affine) : Type 0 where
-  pub posed : HasForms nest columns statement forms
+pub record IsTimed (nest : Nest) (components : ℕ) (maps : List TimeMap) (columns part : ℕ) (forms : List Affine) : Type 0 where
+  pub posed : HasForms nest columns part forms
   pub few : length forms ≤ 6
-  pub has : HasMap nest maps statement
+  pub has : HasMap nest maps part
   pub long : length has.time_map.forms ≡ components

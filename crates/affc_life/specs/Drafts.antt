@@ -44,9 +44,9 @@ pub record IsPaired (c : Clash) : Type 0 where
 abbrev pub rows_in : Rows → List Affine
 rows_in s = s.rows
 
--- an instance of a statement by these forms
-abbrev pub posed : (statement : ℕ) → (forms : List Affine) → Posed
-posed statement forms = record { statement = statement; iterators = forms }
+-- an instance of a part by these forms
+abbrev pub posed : (part : ℕ) → (forms : List Affine) → Posed
+posed part forms = record { part = part; iterators = forms }
 
 -- the schedule runs the store after the named instance, and before the load
 abbrev pub after_named : Nest → Schedule → (reader : Entry) → Leaf → (named : Posed) → (writer : Entry) → List Rows
@@ -57,7 +57,7 @@ abbrev pub before_load : Nest → Schedule → (reader : Entry) → Leaf → (wr
 before_load nest schedule reader leaf writer =
     target_order nest schedule (clash_columns nest reader leaf writer) (writer_posed nest reader leaf writer) (reader_posed nest reader leaf writer)
 
--- the clash systems of a leaf, and of a load with its number, where the loads of its statement have these trees
+-- the clash systems of a leaf, and of a load with its number, where the loads of its part have these trees
 abbrev pub clashes_of_leaf : Nest → Schedule → (array : ℕ) → (reader : Entry) → (load : Access) → Leaf → List Clash
 clashes_of_leaf nest schedule array reader load leaf = clashes_of_named nest schedule array reader load leaf leaf.named
 

@@ -89,6 +89,7 @@ next = access 0 (form (pos 0 ∷ pos 1 ∷ []) (pos 1) ∷ [])
 
 abbrev shifts : Entry
 shifts = record {
+  part = 0;
   statement = 0;
   alive = true;
   loops = 0 ∷ [];
@@ -166,7 +167,7 @@ abbrev constant_access : (array : ℕ) → (subscript : ℤ) → Access
 constant_access array subscript = access array (form [] subscript ∷ [])
 
 abbrev straight : (statement : ℕ) → List Access → Entry
-straight statement accesses = record { statement = statement; alive = true; loops = []; domain = over 0 []; ranges = []; accesses = accesses }
+straight statement accesses = record { part = statement; statement = statement; alive = true; loops = []; domain = over 0 []; ranges = []; accesses = accesses }
 
 abbrev in_turn : Nest
 in_turn = record {
@@ -210,7 +211,7 @@ DimensionsInTurn =
 abbrev pub LastOneIsNoLoad : Type 0
 LastOneIsNoLoad = numbered_loads 0 (here ∷ next ∷ here ∷ []) ≡ (0, here) ∷ (1, next) ∷ []
 
--- a statement without instances neither loads nor stores
+-- a part without instances neither loads nor stores
 abbrev never : Nest
 never = record nest { entries = record shifts { alive = false } ∷ [] }
 

@@ -18,6 +18,7 @@ use Rattle.affc_nest.specs.declared.nest.Entry.{Entry}
 use Rattle.affc_nest.specs.declared.nest.Nest.{Nest}
 use Rattle.affc_nest.specs.Laws.{HasNest, NamesArrays, StaysWithin}
 use Rattle.affc_nest.specs.Nests.{nest_of}
+use Rattle.affc_nest.specs.Parts.{coordinates}
 use Rattle.affc_quast.specs.Limits.{Shaped, AreTreesWithin, narrow}
 use Rattle.affc_quast.specs.Sources.{loads_in, tree_of, NameSources, HaveNearQuotients}
 use Rattle.affc_quast.specs.Trees.{Tree}
@@ -28,10 +29,10 @@ use Rattle.affc_life.specs.Sizes.{AnyLarge}
 
 -- ---- Trees
 
--- each tree of a load is over the columns of its statement, and its divisors are at least 1
+-- each tree of a load is over the columns of its part, and its divisors are at least 1
 abbrev pub AreShaped : Nest → List Tree → Type 0
-AreShaped nest trees = (statement load : ℕ) (e : Entry) (tree : Tree) → slice_get nest.entries statement ≡ Some e → load < loads_in e → tree_of nest trees statement load ≡ Some tree
-    → Shaped (length nest.params + length e.loops) tree
+AreShaped nest trees = (part load : ℕ) (e : Entry) (tree : Tree) → slice_get nest.entries part ≡ Some e → load < loads_in e → tree_of nest trees part load ≡ Some tree
+    → Shaped (length nest.params + coordinates e) tree
 
 -- ---- Pairs
 

@@ -4,7 +4,7 @@ ghost use Rattle.affc_ast.specs.declared.tree.Rel.TheVariants.{Less, Equal};
 ghost use Rattle.affc_nest.specs.Domains.{compare_rows};
 ghost use Rattle.affc_nest.specs.Wide.{IsWide};
 
-use affc_quast::rows::add_gap;
+use affc_nest::divisions::add_gap_row;
 use affc_rows::Form;
 use sqlite_items::Items;
 use std::alloc::{AllocError, Global};
@@ -21,11 +21,11 @@ pub(crate) fn add_less(
     requires second { IsWide columns b.now }
     ensures { OnOk result (out.new ≡ out.old ++ compare_rows Less a.now b.now) }
 {
-    add_gap(alloc, columns, a, b, 1, out)
+    add_gap_row(alloc, columns, a, b, 1, out)
 }
 
 /// Adds the rows that two forms are equal.
-#[tactic(auto, using(crate::proofs::DraftLemmas::added_twice))]
+#[tactic(auto, using(affc_nest::proofs::WideLemmas::added_twice))]
 pub(crate) fn add_equal(
     alloc: Global,
     columns: u32,
@@ -37,6 +37,6 @@ pub(crate) fn add_equal(
     requires second { IsWide columns b.now }
     ensures { OnOk result (out.new ≡ out.old ++ compare_rows Equal a.now b.now) }
 {
-    add_gap(alloc, columns, b, a, 0, out)?;
-    add_gap(alloc, columns, a, b, 0, out)
+    add_gap_row(alloc, columns, b, a, 0, out)?;
+    add_gap_row(alloc, columns, a, b, 0, out)
 }

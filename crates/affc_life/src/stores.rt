@@ -2,11 +2,10 @@
 ghost use Rattle.std.specs.Prelude.{◌≡◌, ◌+◌, ◌≤◌, ◌++◌, drop, length, map, flat_map, IsTrue, IfOk, OnOk};
 ghost use Rattle.std.specs.List.{All};
 ghost use Rattle.affc_trace.specs.Law.{IsIn};
-ghost use Rattle.affc_nest.specs.Asked.{IsNest};
+ghost use Rattle.affc_nest.specs.Parts.{coordinates};
 ghost use Rattle.affc_order.specs.Asked.{IsScheduled};
-ghost use Rattle.affc_sched.specs.Questions.{context_count};
 ghost use Rattle.affc_quast.specs.SeenLeaves.{leaf_seen};
-ghost use Rattle.affc_life.specs.Asked.{HasForms, IsLiving, AreSeated};
+ghost use Rattle.affc_life.specs.Asked.{HasForms, AreSeated};
 ghost use Rattle.affc_life.specs.Clashes.{of_reader, of_writer, front_rows, clashes_of_store};
 ghost use Rattle.affc_life.specs.Drafts.{drafted, posed, rows_in, after_named, before_load};
 
@@ -19,6 +18,7 @@ use affc_nest::{Access, Entry, Nest};
 use affc_order::columns::add_spread;
 use affc_quast::leaves::{Leaf, Named};
 use affc_rows::Form;
+use affc_sched::systems::own_rows;
 use affc_trace::schedule::Schedule;
 use sqlite_items::Items;
 use std::alloc::{AllocError, Global};
@@ -31,32 +31,21 @@ pub fn params_in(nest: &Nest) -> u32
     nest.params.ranges().len() as u32
 }
 
-/// The number of loops round a statement.
-pub fn loops_round(entry: &Entry) -> u32
-    requires { length entry.now.loops ≤ 6 }
-    ensures { result ≡ length entry.now.loops }
+/// How many coordinates an instance of a part has.
+pub fn coordinates(entry: &Entry) -> u32
+    requires { coordinates entry.now ≤ 6 }
+    ensures { result ≡ coordinates entry.now }
 {
-    entry.loops.len() as u32
+    entry.coordinates() as u32
 }
 
-/// The columns of a leaf and the iterators of a writer.
+/// The columns of a leaf and the coordinates of a writer.
 fn columns_in(leaf: &Leaf, writer: &Entry) -> u32
     requires leaf { leaf.now.columns ≤ 410 }
-    requires writer { length writer.now.loops ≤ 6 }
-    ensures { result ≡ leaf.now.columns + length writer.now.loops }
+    requires writer { coordinates writer.now ≤ 6 }
+    ensures { result ≡ leaf.now.columns + coordinates writer.now }
 {
-    leaf.columns + loops_round(writer)
-}
-
-/// The rows of a domain behind those of the parameters and of the context.
-fn own_rows<'a>(nest: &Nest, entry: &'a Entry) -> &'a [Form]
-    requires nest { IsNest nest.now }
-    requires living { IsLiving nest.now entry.now }
-    ensures { result.now ≡ drop (context_count nest.now) entry.now.domain.rows }
-{
-    let count = 2 * nest.params.ranges().len() + nest.context.rows().len();
-    let (_context, own) = entry.domain.rows().split_at(count);
-    own
+    leaf.columns + coordinates(writer)
 }
 
 /// The rows of the reader's domain, of the leaf, and of the writer's domain.
@@ -135,11 +124,11 @@ pub fn stored_after(
     requires named { HasForms nest.now leaf.now.columns named.now.part named.now.forms }
     ensures { IfOk result (λ v. v.items ≡ map rows_in (after_named nest.now schedule.now reader.now (leaf_seen leaf.now) (posed named.now.part named.now.forms) writer.now)) }
 {
-    let loops = loops_round(writer);
+    let own = coordinates(writer);
     let columns = columns_in(leaf, writer);
     let mut names = Vec::new(alloc);
     add_padded(alloc, columns, named.forms.as_slice(), &mut names)?;
-    let stores = columns_from(alloc, columns, leaf.columns, loops)?;
+    let stores = columns_from(alloc, columns, leaf.columns, own)?;
     target_order(
         alloc,
         nest,
@@ -147,7 +136,7 @@ pub fn stored_after(
         columns,
         named.part,
         names.as_slice(),
-        writer.statement,
+        writer.part,
         stores.as_slice(),
     )
 }
@@ -166,18 +155,18 @@ pub fn stored_before(
     ensures { IfOk result (λ v. v.items ≡ map rows_in (before_load nest.now schedule.now reader.now (leaf_seen leaf.now) writer.now)) }
 {
     let params = params_in(nest);
-    let loops = loops_round(writer);
+    let own = coordinates(writer);
     let columns = columns_in(leaf, writer);
-    let stores = columns_from(alloc, columns, leaf.columns, loops)?;
-    let loads = columns_from(alloc, columns, params, loops_round(reader))?;
+    let stores = columns_from(alloc, columns, leaf.columns, own)?;
+    let loads = columns_from(alloc, columns, params, coordinates(reader))?;
     target_order(
         alloc,
         nest,
         schedule,
         columns,
-        writer.statement,
+        writer.part,
         stores.as_slice(),
-        reader.statement,
+        reader.part,
         loads.as_slice(),
     )
 }

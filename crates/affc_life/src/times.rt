@@ -1,7 +1,7 @@
 //! Which of two instances the schedule runs first, as lists of rows of any size.
 ghost use Rattle.std.specs.Prelude.{◌≡◌, ◌+◌, ◌<◌, ◌≤◌, ◌++◌, [], nat_lt, length, map, IfOk, OnOk};
 ghost use Rattle.std.specs.List.{All};
-ghost use Rattle.affc_domain.specs.Loops.{shared};
+ghost use Rattle.affc_nest.specs.Parts.{statement_of};
 ghost use Rattle.affc_order.specs.Asked.{IsScheduled};
 ghost use Rattle.affc_order.specs.Placed.{HasMap};
 ghost use Rattle.affc_order.specs.Posed.{form_at};
@@ -14,38 +14,26 @@ use crate::columns::columns_from;
 use crate::orders::add_lex;
 use crate::systems::add_forms;
 use affc_nest::Nest;
+use affc_order::order::shared;
 use affc_rows::Form;
 use affc_trace::schedule::{Schedule, TimeMap};
 use sqlite_items::Items;
 use std::alloc::{AllocError, Global};
 
-/// How many numbers two lists have in common at their beginnings.
-fn shared(ls: &[u32], ms: &[u32]) -> usize
-    ensures value { result ≡ shared ls.now ms.now }
-    ensures first { result ≤ length ls.now }
-    ensures second { result ≤ length ms.now }
+/// The numbers of the loops round a part.
+fn loops(nest: &Nest, part: u32) -> &[u32]
+    requires { part < length nest.now.entries }
+    ensures { result.now ≡ loops_of nest.now part }
 {
-    match ls {
-        [] => 0,
-        [l, later_ls @ ..] => match ms {
-            [] => 0,
-            [m, later_ms @ ..] => {
-                if *l == *m {
-                    shared(later_ls, later_ms) + 1
-                } else {
-                    0
-                }
-            }
-        },
-    }
+    nest.entries.as_slice()[part as usize].loops.as_slice()
 }
 
-/// The numbers of the loops round a statement.
-fn loops(nest: &Nest, statement: u32) -> &[u32]
-    requires { statement < length nest.now.entries }
-    ensures { result.now ≡ loops_of nest.now statement }
+/// The number of a part's statement.
+pub fn statement(nest: &Nest, part: u32) -> u32
+    requires { part < length nest.now.entries }
+    ensures { result ≡ statement_of nest.now part }
 {
-    nest.entries.as_slice()[statement as usize].loops.as_slice()
+    nest.entries.as_slice()[part as usize].statement
 }
 
 /// The form with each of its columns replaced by its image, over so many columns.
@@ -84,19 +72,19 @@ fn time_forms(
     nest: &Nest,
     maps: &[TimeMap],
     columns: u32,
-    statement: u32,
+    part: u32,
     forms: &[Form],
 ) -> Result<Vec<Form>, AllocError>
     requires params { length nest.now.params ≤ 4 }
-    requires forms { HasForms nest.now columns statement forms.now }
+    requires forms { HasForms nest.now columns part forms.now }
     requires few { length forms.now ≤ 6 }
-    requires timed { HasMap nest.now maps.now statement }
-    ensures { IfOk result (λ v. v.items ≡ time_forms maps.now (length nest.now.params) columns (posed statement forms.now)) }
+    requires timed { HasMap nest.now maps.now part }
+    ensures { IfOk result (λ v. v.items ≡ time_forms nest.now maps.now columns (posed part forms.now)) }
 {
     let params = nest.params.ranges().len() as u32;
     let mut images = columns_from(alloc, columns, 0, params)?;
     add_forms(forms, &mut images)?;
-    let map = &maps[statement as usize];
+    let map = &maps[statement(nest, part) as usize];
     let mut times = Vec::new(alloc);
     add_images(
         alloc,
@@ -124,8 +112,9 @@ fn add_source_order(
     ensures { OnOk result (out.new.items ≡ out.old.items ++ map rows_in (source_order nest.now columns (posed a fs.now) (posed b gs.now))) }
 {
     let n = shared(loops(nest, a), loops(nest, b));
+    let tie = statement(nest, a) < statement(nest, b);
     let start = Items::new(alloc);
-    add_lex(alloc, columns, n, fs, gs, start.as_slice(), a < b, out)
+    add_lex(alloc, columns, n, fs, gs, start.as_slice(), tie, out)
 }
 
 /// Adds the rows of the order of times.
@@ -144,10 +133,11 @@ fn add_time_order(
     requires params { length nest.now.params ≤ 4 }
     requires first { IsTimed nest.now components maps.now columns a fs.now }
     requires second { IsTimed nest.now components maps.now columns b gs.now }
-    ensures { OnOk result (out.new.items ≡ out.old.items ++ map rows_in (lex_systems columns components (time_forms maps.now (length nest.now.params) columns (posed a fs.now)) (time_forms maps.now (length nest.now.params) columns (posed b gs.now)) [] (nat_lt a b))) }
+    ensures { OnOk result (out.new.items ≡ out.old.items ++ map rows_in (lex_systems columns components (time_forms nest.now maps.now columns (posed a fs.now)) (time_forms nest.now maps.now columns (posed b gs.now)) [] (nat_lt (statement_of nest.now a) (statement_of nest.now b)))) }
 {
     let xs = time_forms(alloc, nest, maps, columns, a, fs)?;
     let ys = time_forms(alloc, nest, maps, columns, b, gs)?;
+    let tie = statement(nest, a) < statement(nest, b);
     let start = Items::new(alloc);
     add_lex(
         alloc,
@@ -156,7 +146,7 @@ fn add_time_order(
         xs.as_slice(),
         ys.as_slice(),
         start.as_slice(),
-        a < b,
+        tie,
         out,
     )
 }

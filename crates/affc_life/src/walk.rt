@@ -2,6 +2,7 @@
 ghost use Rattle.std.specs.Prelude.{◌≡◌, ◌+◌, ◌++◌, ◌<◌, Some, drop, length, map, flat_map, slice_get, IfOk, IfErr, OnOk};
 ghost use Rattle.std.specs.List.{All};
 ghost use Rattle.affc_trace.specs.Law.{IsIn};
+ghost use Rattle.affc_nest.specs.Parts.{coordinates};
 ghost use Rattle.affc_order.specs.Asked.{IsScheduled};
 ghost use Rattle.affc_sched.specs.Touched.{Each};
 ghost use Rattle.affc_quast.specs.Leaves.{leaves_of};
@@ -18,7 +19,7 @@ use crate::clash::ClashProduct;
 use crate::draft::Draft;
 use crate::fault::ClashFault;
 use crate::products::products_of;
-use crate::stores::{add_store, loops_round, params_in};
+use crate::stores::{add_store, coordinates, params_in};
 use crate::systems::add_pairs;
 use affc_ast::tree::ArrayId;
 use affc_nest::{Access, Entry, Nest};
@@ -36,7 +37,7 @@ struct Clashing<'a> {
     array: ArrayId,
 }
 
-/// Adds the systems of a load, a leaf that names this instance, and a statement.
+/// Adds the systems of a load, a leaf that names this instance, and a part.
 fn add_writer(
     alloc: Global,
     asked: &Clashing<'_>,
@@ -50,7 +51,7 @@ fn add_writer(
     requires scheduled { IsScheduled asked.now.nest.now asked.now.schedule.now }
     requires reads { IsLiving asked.now.nest.now reader.now }
     requires load { IsIn load.now reader.now.accesses }
-    requires path { IsPath asked.now.nest.now (length asked.now.nest.now.params + length reader.now.loops) (leaf_seen leaf.now) }
+    requires path { IsPath asked.now.nest.now (length asked.now.nest.now.params + coordinates reader.now) (leaf_seen leaf.now) }
     requires named { HasForms asked.now.nest.now leaf.now.columns named.now.part named.now.forms }
     requires writer { IsIn writer.now asked.now.nest.now.entries }
     ensures { OnOk result (flat_map drafted out.new.items ≡ flat_map drafted out.old.items ++ clashes_with asked.now.nest.now asked.now.schedule.now asked.now.array.0 reader.now load.now (leaf_seen leaf.now) (posed named.now.part named.now.forms) writer.now) }
@@ -70,7 +71,7 @@ fn add_writer(
     )
 }
 
-/// Adds the systems of a load, a leaf that names this instance, and these statements.
+/// Adds the systems of a load, a leaf that names this instance, and these parts.
 fn add_writers(
     alloc: Global,
     asked: &Clashing<'_>,
@@ -84,7 +85,7 @@ fn add_writers(
     requires scheduled { IsScheduled asked.now.nest.now asked.now.schedule.now }
     requires reads { IsLiving asked.now.nest.now reader.now }
     requires load { IsIn load.now reader.now.accesses }
-    requires path { IsPath asked.now.nest.now (length asked.now.nest.now.params + length reader.now.loops) (leaf_seen leaf.now) }
+    requires path { IsPath asked.now.nest.now (length asked.now.nest.now.params + coordinates reader.now) (leaf_seen leaf.now) }
     requires named { HasForms asked.now.nest.now leaf.now.columns named.now.part named.now.forms }
     requires writers { Each (λ e. IsIn e asked.now.nest.now.entries) writers.now }
     ensures { OnOk result (flat_map drafted out.new.items ≡ flat_map drafted out.old.items ++ flat_map (clashes_with asked.now.nest.now asked.now.schedule.now asked.now.array.0 reader.now load.now (leaf_seen leaf.now) (posed named.now.part named.now.forms)) writers.now) }
@@ -110,7 +111,7 @@ fn add_leaf(
     requires scheduled { IsScheduled asked.now.nest.now asked.now.schedule.now }
     requires reads { IsLiving asked.now.nest.now reader.now }
     requires load { IsIn load.now reader.now.accesses }
-    requires path { IsPath asked.now.nest.now (length asked.now.nest.now.params + length reader.now.loops) (leaf_seen leaf.now) }
+    requires path { IsPath asked.now.nest.now (length asked.now.nest.now.params + coordinates reader.now) (leaf_seen leaf.now) }
     ensures { OnOk result (flat_map drafted out.new.items ≡ flat_map drafted out.old.items ++ clashes_of_leaf asked.now.nest.now asked.now.schedule.now asked.now.array.0 reader.now load.now (leaf_seen leaf.now)) }
 {
     match &leaf.named {
@@ -134,7 +135,7 @@ fn add_leaves(
     requires scheduled { IsScheduled asked.now.nest.now asked.now.schedule.now }
     requires reads { IsLiving asked.now.nest.now reader.now }
     requires load { IsIn load.now reader.now.accesses }
-    requires paths { Each (IsPath asked.now.nest.now (length asked.now.nest.now.params + length reader.now.loops)) (map leaf_seen leaves.now) }
+    requires paths { Each (IsPath asked.now.nest.now (length asked.now.nest.now.params + coordinates reader.now)) (map leaf_seen leaves.now) }
     ensures { OnOk result (flat_map drafted out.new.items ≡ flat_map drafted out.old.items ++ flat_map (clashes_of_leaf asked.now.nest.now asked.now.schedule.now asked.now.array.0 reader.now load.now) (map leaf_seen leaves.now)) }
 {
     match leaves {
@@ -160,10 +161,10 @@ fn add_tree(
     requires scheduled { IsScheduled asked.now.nest.now asked.now.schedule.now }
     requires reads { IsLiving asked.now.nest.now reader.now }
     requires load { IsIn load.now reader.now.accesses }
-    requires tree { KeepsLimits asked.now.nest.now (length asked.now.nest.now.params + length reader.now.loops) (seen tree.now) }
-    ensures { OnOk result (flat_map drafted out.new.items ≡ flat_map drafted out.old.items ++ flat_map (clashes_of_leaf asked.now.nest.now asked.now.schedule.now asked.now.array.0 reader.now load.now) (leaves_of (length asked.now.nest.now.params + length reader.now.loops) (seen tree.now))) }
+    requires tree { KeepsLimits asked.now.nest.now (length asked.now.nest.now.params + coordinates reader.now) (seen tree.now) }
+    ensures { OnOk result (flat_map drafted out.new.items ≡ flat_map drafted out.old.items ++ flat_map (clashes_of_leaf asked.now.nest.now asked.now.schedule.now asked.now.array.0 reader.now load.now) (leaves_of (length asked.now.nest.now.params + coordinates reader.now) (seen tree.now))) }
 {
-    let columns = params_in(asked.nest) + loops_round(reader);
+    let columns = params_in(asked.nest) + coordinates(reader);
     let leaves = leaves(alloc, columns, tree)?;
     add_leaves(alloc, asked, reader, load, leaves.as_slice(), out)
 }
@@ -222,14 +223,14 @@ fn add_loads(
     }
 }
 
-/// The trees of the loads of a statement and of those behind it.
-pub fn trees_from<'a>(entries: &[Entry], statement: u32, trees: &'a [Quast]) -> &'a [Quast]
-    ensures { map seen result.now ≡ drop (loads_before entries.now statement) (map seen trees.now) }
+/// The trees of the loads of a part and of those behind it.
+pub fn trees_from<'a>(entries: &[Entry], part: u32, trees: &'a [Quast]) -> &'a [Quast]
+    ensures { map seen result.now ≡ drop (loads_before entries.now part) (map seen trees.now) }
 {
     match entries {
         [] => trees,
         [entry, rest @ ..] => {
-            if statement == 0 {
+            if part == 0 {
                 return trees;
             }
             let loads = entry.accesses.len().saturating_sub(1);
@@ -237,12 +238,12 @@ pub fn trees_from<'a>(entries: &[Entry], statement: u32, trees: &'a [Quast]) -> 
                 return &[];
             }
             let (_own, others) = trees.split_at(loads);
-            trees_from(rest, statement - 1, others)
+            trees_from(rest, part - 1, others)
         }
     }
 }
 
-/// Adds the systems of a statement's loads.
+/// Adds the systems of a part's loads.
 fn add_reader(
     alloc: Global,
     asked: &Clashing<'_>,
@@ -258,12 +259,12 @@ fn add_reader(
     if !reader.alive {
         return Ok(());
     }
-    let own = trees_from(asked.nest.entries.as_slice(), reader.statement, trees);
+    let own = trees_from(asked.nest.entries.as_slice(), reader.part, trees);
     let accesses = reader.accesses.as_slice();
     add_loads(alloc, asked, reader, own, 0, accesses, out)
 }
 
-/// Adds the systems of the loads of these statements.
+/// Adds the systems of the loads of these parts.
 fn add_readers(
     alloc: Global,
     asked: &Clashing<'_>,
@@ -309,7 +310,7 @@ fn drafts_of(
     Ok(drafts)
 }
 
-/// The clash systems of an array: by loads, leaves of their trees, storing statements, the two orders, and the dimension in
+/// The clash systems of an array: by loads, leaves of their trees, storing parts, the two orders, and the dimension in
 /// which the elements differ.
 ///
 /// `x` is the element that is loaded and `y` the one that is stored between. The columns of a system are the parameters,
@@ -333,7 +334,7 @@ pub fn clashes(
     Ok(systems)
 }
 
-/// The clash systems of an array in product form, by loads, leaves of their trees and storing statements: those of `clashes`, in
+/// The clash systems of an array in product form, by loads, leaves of their trees and storing parts: those of `clashes`, in
 /// its order.
 pub fn clash_products(
     alloc: Global,

@@ -28,10 +28,10 @@ add_padded-requires-2 c =
 pub add_spread-requires : goal.add_spread-requires
 add_spread-requires c =
     subst (λ k. All (λ f. k ≤ length f.coefs) c.own_rows-own.result.now) (sym c.params_in-params.ensures)
-    (own_wide c.args.nest.now c.requires.nested c.args.writer.now c.requires.writes c.own_rows-own.result.now c.own_rows-own.ensures)
+    (own_wide c.args.nest.now c.requires.nested c.args.writer.now c.requires.writes c.own_rows-own.result.now c.own_rows-own.ensures.rows)
 
 pub returns : goal.returns
 returns c =
     front_made c.args.nest.now c.args.reader.now (leaf_seen c.args.leaf.now) c.args.writer.now c.columns_in-columns.result c.params_in-params.result (c.args.leaf.now.columns - c.params_in-params.result) c.rows.result.now c.as_slice.result.now c.own_rows-own.result.now
-    c.add_padded.new.out.items c.add_padded-2.new.out.items c.add_spread.new.out.items c.new-rows.result.items c.columns_in-columns.ensures c.params_in-params.ensures refl c.rows.ensures.rows c.as_slice.ensures c.own_rows-own.ensures
+    c.add_padded.new.out.items c.add_padded-2.new.out.items c.add_spread.new.out.items c.new-rows.result.items c.columns_in-columns.ensures c.params_in-params.ensures refl c.rows.ensures.rows c.as_slice.ensures c.own_rows-own.ensures.rows
     c.new-rows.ensures.items c.in_ok-add_padded.ensures c.in_ok-add_padded-2.ensures c.in_ok-add_spread.ensures

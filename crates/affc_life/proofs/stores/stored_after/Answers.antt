@@ -10,8 +10,8 @@ use Rattle.affc_life.proofs.stores.stored_after.Goals as goal
 few_more : (first n c l : ℕ) → first ≡ c → n ≡ l → c ≤ 410 → l ≤ 6 → first + n ≤ 1000
 few_more first n c l e f h g = omega (arith, e, f, h, g)
 
-pub loops_round-loops-requires : goal.loops_round-loops-requires
-loops_round-loops-requires c = writer_few c.args.nest.now c.args.reader.now (leaf_seen c.args.leaf.now) c.args.writer.now c.requires.seated
+pub coordinates-own-requires : goal.coordinates-own-requires
+coordinates-own-requires c = writer_few c.args.nest.now c.args.reader.now (leaf_seen c.args.leaf.now) c.args.writer.now c.requires.seated
 
 pub columns_in-columns-requires-clause-leaf : goal.columns_in-columns-requires-clause-leaf
 columns_in-columns-requires-clause-leaf c = leaf_few c.args.nest.now c.args.reader.now (leaf_seen c.args.leaf.now) c.args.writer.now c.requires.seated
@@ -26,7 +26,7 @@ add_padded-requires c =
     (named_narrow c.args.nest.now c.args.reader.now (leaf_seen c.args.leaf.now) c.args.writer.now c.requires.seated (posed c.args.named.now.part c.args.named.now.forms) c.requires.named))
 
 pub columns_from-requires : goal.columns_from-requires
-columns_from-requires c = few_more c.args.leaf.now.columns c.loops_round-loops.result c.args.leaf.now.columns (length c.args.writer.now.loops) (λ i. c.args.leaf.now.columns) c.loops_round-loops.ensures (leaf_few c.args.nest.now c.args.reader.now (leaf_seen c.args.leaf.now) c.args.writer.now c.requires.seated) (writer_few c.args.nest.now c.args.reader.now (leaf_seen c.args.leaf.now) c.args.writer.now c.requires.seated)
+columns_from-requires c = few_more c.args.leaf.now.columns c.coordinates-own.result c.args.leaf.now.columns (length c.args.writer.now.loops) (λ i. c.args.leaf.now.columns) c.coordinates-own.ensures (leaf_few c.args.nest.now c.args.reader.now (leaf_seen c.args.leaf.now) c.args.writer.now c.requires.seated) (writer_few c.args.nest.now c.args.reader.now (leaf_seen c.args.leaf.now) c.args.writer.now c.requires.seated)
 
 pub target_order-requires-clause-first : goal.target_order-requires-clause-first
 target_order-requires-clause-first c =
@@ -37,8 +37,8 @@ target_order-requires-clause-first c =
 
 pub target_order-requires-clause-second : goal.target_order-requires-clause-second
 target_order-requires-clause-second c =
-    has_forms c.args.nest.now c.args.reader.now (leaf_seen c.args.leaf.now) c.args.writer.now c.columns_in-columns.result c.columns_in-columns.ensures c.args.writer.now.statement c.as_slice-3.result.now _
-    (c.as_slice-3.ensures.value ∙ writes_are c.args.nest.now c.args.reader.now (leaf_seen c.args.leaf.now) c.args.writer.now c.columns_in-columns.result c.columns_in-columns.ensures c.loops_round-loops.result c.in_ok-stores.stores.items c.loops_round-loops.ensures c.in_ok-stores.ensures)
+    has_forms c.args.nest.now c.args.reader.now (leaf_seen c.args.leaf.now) c.args.writer.now c.columns_in-columns.result c.columns_in-columns.ensures c.args.writer.now.part c.as_slice-3.result.now _
+    (c.as_slice-3.ensures.value ∙ writes_are c.args.nest.now c.args.reader.now (leaf_seen c.args.leaf.now) c.args.writer.now c.columns_in-columns.result c.columns_in-columns.ensures c.coordinates-own.result c.in_ok-stores.stores.items c.coordinates-own.ensures c.in_ok-stores.ensures)
     (writer_forms c.args.nest.now c.args.reader.now (leaf_seen c.args.leaf.now) c.args.writer.now c.requires.seated)
 
 pub returns : goal.returns
@@ -48,6 +48,6 @@ returns c =
     (writer_posed c.args.nest.now c.args.reader.now (leaf_seen c.args.leaf.now) c.args.writer.now) c.as_slice-3.result.now v.items
     (c.as_slice-2.ensures.value ∙ loaded_made c.args.nest.now c.args.reader.now (leaf_seen c.args.leaf.now) c.args.writer.now c.columns_in-columns.result c.as_slice.result.now c.args.named.now.forms c.new-names.result.items c.add_padded.new.out.items c.columns_in-columns.ensures c.new-names.ensures.items c.as_slice.ensures
     c.in_ok-add_padded.ensures)
-    (c.as_slice-3.ensures.value ∙ writes_are c.args.nest.now c.args.reader.now (leaf_seen c.args.leaf.now) c.args.writer.now c.columns_in-columns.result c.columns_in-columns.ensures c.loops_round-loops.result c.in_ok-stores.stores.items c.loops_round-loops.ensures c.in_ok-stores.ensures)
+    (c.as_slice-3.ensures.value ∙ writes_are c.args.nest.now c.args.reader.now (leaf_seen c.args.leaf.now) c.args.writer.now c.columns_in-columns.result c.columns_in-columns.ensures c.coordinates-own.result c.in_ok-stores.stores.items c.coordinates-own.ensures c.in_ok-stores.ensures)
     e)
     c.target_order.ensures

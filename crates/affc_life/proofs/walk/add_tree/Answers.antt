@@ -23,23 +23,23 @@ sum_is a b m l e f = omega (arith, e, f)
 pub params_in-requires : goal.params_in-requires
 params_in-requires c = nest_few c.args.asked.now.nest.now (is_nest c.args.asked.now.nest.now c.args.asked.now.schedule.now c.requires.scheduled)
 
-pub loops_round-requires : goal.loops_round-requires
-loops_round-requires c = few_numbered c.args.asked.now.nest.now c.args.reader.now (is_nest c.args.asked.now.nest.now c.args.asked.now.schedule.now c.requires.scheduled) c.requires.reads.there
+pub coordinates-requires : goal.coordinates-requires
+coordinates-requires c = few_numbered c.args.asked.now.nest.now c.args.reader.now (is_nest c.args.asked.now.nest.now c.args.asked.now.schedule.now c.requires.scheduled) c.requires.reads.there
 
 pub overflow_add-columns : goal.overflow_add-columns
 overflow_add-columns c =
-    let h = sum_few c.params_in.result c.loops_round.result (length c.args.asked.now.nest.now.params) (length c.args.reader.now.loops) c.params_in.ensures c.loops_round.ensures (nest_few c.args.asked.now.nest.now (is_nest c.args.asked.now.nest.now c.args.asked.now.schedule.now c.requires.scheduled))
+    let h = sum_few c.params_in.result c.coordinates.result (length c.args.asked.now.nest.now.params) (length c.args.reader.now.loops) c.params_in.ensures c.coordinates.ensures (nest_few c.args.asked.now.nest.now (is_nest c.args.asked.now.nest.now c.args.asked.now.schedule.now c.requires.scheduled))
     (few_numbered c.args.asked.now.nest.now c.args.reader.now (is_nest c.args.asked.now.nest.now c.args.asked.now.schedule.now c.requires.scheduled) c.requires.reads.there) in
     few_fit _ (omega (arith, h))
 
 pub leaves-requires-clause-shaped : goal.leaves-requires-clause-shaped
 leaves-requires-clause-shaped c =
-    subst (λ k. Shaped k (seen c.args.tree.now)) (sym (sum_is c.params_in.result c.loops_round.result (length c.args.asked.now.nest.now.params) (length c.args.reader.now.loops) c.params_in.ensures c.loops_round.ensures)) c.requires.tree.shaped
+    subst (λ k. Shaped k (seen c.args.tree.now)) (sym (sum_is c.params_in.result c.coordinates.result (length c.args.asked.now.nest.now.params) (length c.args.reader.now.loops) c.params_in.ensures c.coordinates.ensures)) c.requires.tree.shaped
 
 pub leaves-requires-clause-room : goal.leaves-requires-clause-room
 leaves-requires-clause-room c =
-    let is = sum_is c.params_in.result c.loops_round.result (length c.args.asked.now.nest.now.params) (length c.args.reader.now.loops) c.params_in.ensures c.loops_round.ensures in
-    let h = sum_few c.params_in.result c.loops_round.result (length c.args.asked.now.nest.now.params) (length c.args.reader.now.loops) c.params_in.ensures c.loops_round.ensures (nest_few c.args.asked.now.nest.now (is_nest c.args.asked.now.nest.now c.args.asked.now.schedule.now c.requires.scheduled))
+    let is = sum_is c.params_in.result c.coordinates.result (length c.args.asked.now.nest.now.params) (length c.args.reader.now.loops) c.params_in.ensures c.coordinates.ensures in
+    let h = sum_few c.params_in.result c.coordinates.result (length c.args.asked.now.nest.now.params) (length c.args.reader.now.loops) c.params_in.ensures c.coordinates.ensures (nest_few c.args.asked.now.nest.now (is_nest c.args.asked.now.nest.now c.args.asked.now.schedule.now c.requires.scheduled))
     (few_numbered c.args.asked.now.nest.now c.args.reader.now (is_nest c.args.asked.now.nest.now c.args.asked.now.schedule.now c.requires.scheduled) c.requires.reads.there) in
     subst (λ k. k + divisions_of (seen c.args.tree.now) ≤ 1000) (sym is) (few_divisions c.args.asked.now.nest.now (length c.args.asked.now.nest.now.params + length c.args.reader.now.loops) (seen c.args.tree.now) c.requires.tree (subst (λ k. k ≤ 10) is h))
 
@@ -47,7 +47,7 @@ pub add_leaves-requires-clause-paths : goal.add_leaves-requires-clause-paths
 add_leaves-requires-clause-paths c =
     paths_of c.args.asked.now.nest.now (length c.args.asked.now.nest.now.params + length c.args.reader.now.loops) (seen c.args.tree.now) c.requires.tree (map leaf_seen c.as_slice.result.now)
     (ap (map leaf_seen) c.as_slice.ensures.value ∙ c.in_ok-leaves.ensures
-    ∙ ap (λ k. leaves_of k (seen c.args.tree.now)) (sum_is c.params_in.result c.loops_round.result (length c.args.asked.now.nest.now.params) (length c.args.reader.now.loops) c.params_in.ensures c.loops_round.ensures))
+    ∙ ap (λ k. leaves_of k (seen c.args.tree.now)) (sum_is c.params_in.result c.coordinates.result (length c.args.asked.now.nest.now.params) (length c.args.reader.now.loops) c.params_in.ensures c.coordinates.ensures))
 
 pub returns : goal.returns
 returns c =
@@ -55,5 +55,5 @@ returns c =
     (λ e. e
     ∙ ap (λ ls. flat_map drafted c.args.out.now.items ++ flat_map (clashes_of_leaf c.args.asked.now.nest.now c.args.asked.now.schedule.now c.args.asked.now.array.0 c.args.reader.now c.args.load.now) ls)
     (ap (map leaf_seen) c.as_slice.ensures.value ∙ c.in_ok-leaves.ensures
-    ∙ ap (λ k. leaves_of k (seen c.args.tree.now)) (sum_is c.params_in.result c.loops_round.result (length c.args.asked.now.nest.now.params) (length c.args.reader.now.loops) c.params_in.ensures c.loops_round.ensures)))
+    ∙ ap (λ k. leaves_of k (seen c.args.tree.now)) (sum_is c.params_in.result c.coordinates.result (length c.args.asked.now.nest.now.params) (length c.args.reader.now.loops) c.params_in.ensures c.coordinates.ensures)))
     c.add_leaves.ensures
