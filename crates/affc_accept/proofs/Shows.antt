@@ -1,5 +1,5 @@
 -- What a certificate that is accepted shows.
-use Rattle.std.proofs.Common.{◌≡◌, ℕ, ◌+◌, IsTrue, List, [], ◌∷◌, length, map, Some, refl, sym, ap, ap₂, subst, inl, inr, arith, ◌∙◌}
+use Rattle.std.proofs.Common.{◌≡◌, ℕ, ◌+◌, ℤ, IsTrue, List, [], ◌∷◌, length, map, Some, refl, sym, ap, ap₂, subst, inl, inr, arith, ◌∙◌}
 use Rattle.std.specs.Prelude.{slice_get}
 use Rattle.std.specs.List.{All, AllZip}
 use Rattle.std.proofs.lemmas.List.Elements.{All-nil, All-cons, All-head, All-tail}
@@ -94,10 +94,10 @@ moduli_kept columns systems (r ∷ rows) (m ∷ ms) h =
     All-cons (IsModulus columns) m.form (forms_of (moduli_of systems rows ms)) (All-head (λ (m : ModulusShown). IsModulus columns m.form) m ms h)
     (moduli_kept columns systems rows ms (All-tail (λ (m : ModulusShown). IsModulus columns m.form) m ms h))
 
-module _ (program : Program) (schedule : Schedule) (last : HasTemporariesLast program) (array : ArrayId) (fold : Fold)
+module _ (program : Program) (schedule : Schedule) (pairs : ℕ → List ℤ → List ℤ → List ℤ → Type 0) (last : HasTemporariesLast program) (array : ArrayId) (fold : Fold)
     (among : IsIn array.0 (map (λ (t : ℕ × ℕ). t.0) (temporaries_from 0 (nest_of program).arrays)))
-    (trees : List Tree) (f : FoldShown) (made : IsFoldMade f (array, fold)) (of : IsFoldOfArray program schedule trees f) (right : IsRightFold program schedule f) where
-  pub fold_for : IsFoldFor program schedule array.0 fold
+    (trees : List Tree) (f : FoldShown) (made : IsFoldMade f (array, fold)) (of : IsFoldOfArray program schedule trees f) (right : IsRightFold program pairs f) where
+  pub fold_for : IsFoldFor program pairs array.0 fold
   fold_for =
       let m = of_map (λ (t : ℕ × ℕ). t.0) (temporaries_from 0 (nest_of program).arrays) array.0 among in
       let h = temporary_in 0 (nest_of program).arrays m.0 m.1 in
@@ -119,8 +119,8 @@ module _ (program : Program) (schedule : Schedule) (last : HasTemporariesLast pr
         };
         limits = subst (λ n. All (IsModulus n) (forms_of fold.moduli)) (sym columns)
             (subst (λ bs. All (IsModulus (nest_of program).context.columns) bs) (sym forms) (moduli_kept (nest_of program).context.columns f.systems f.rows f.moduli of.moduli));
-        obeys = λ p inside. subst (λ n. Obeys (LivePair program schedule n p) fold p) (sym made.array) (right.obeys fold made.shown p inside);
-        marks = subst (λ n. HasTrueMarks (IsInContext program) (LivePair program schedule n) fold) (sym made.array) (right.marks fold made.shown);
+        obeys = λ p inside. subst (λ n. Obeys (pairs n p) fold p) (sym made.array) (right.obeys fold made.shown p inside);
+        marks = subst (λ n. HasTrueMarks (IsInContext program) (pairs n) fold) (sym made.array) (right.marks fold made.shown);
       }
 
 -- ---- The law
@@ -140,6 +140,6 @@ accepted_shows program plan text folds has named last fits a =
         arrays = arrays;
         each = λ array fold i.
             let z = zip_in IsFoldMade c.are.folds folds (array, fold) made i in
-            fold_for program plan.schedule last array fold (subst (IsIn array.0) arrays (to_map (λ (f : ArrayId × Fold). f.0.0) folds (array, fold) i)) (trees_of a.cert.flow) z.0 z.2 (read.arrays z.0 z.1) (shown.folds_right z.0 z.1);
+            fold_for program plan.schedule (LivePair program plan.schedule) last array fold (subst (IsIn array.0) arrays (to_map (λ (f : ArrayId × Fold). f.0.0) folds (array, fold) i)) (trees_of a.cert.flow) z.0 z.2 (read.arrays z.0 z.1) (shown.folds_right z.0 z.1);
       },
     )

@@ -1,9 +1,9 @@
 -- What a certificate that is accepted shows.
-use Rattle.std.specs.Prelude.{◌≡◌, ℕ, ◌≤◌, IsTrue, List, length, map}
+use Rattle.std.specs.Prelude.{◌≡◌, ℕ, ◌≤◌, ℤ, IsTrue, List, length, map}
 use Rattle.affc_ast.specs.declared.tree.ArrayId.{ArrayId}
 use Rattle.affc_ast.specs.declared.tree.Program.{Program}
 use Rattle.affc_ast.specs.Meaning.{arrays_of}
-use Rattle.affc_trace.specs.declared.schedule.Schedule.{Schedule}
+use Rattle.affc_trace.specs.Dataflow.{LivePair}
 use Rattle.affc_trace.specs.Law.{IsIn}
 use Rattle.affc_trace.specs.Target.{IsScheduleOf}
 use Rattle.affc_basis.specs.declared.fold.Fold.{Fold}
@@ -25,18 +25,18 @@ use Rattle.affc_accept.specs.Refusals.{AcceptRefuses}
 abbrev pub HasTemporariesLast : Program → Type 0
 HasTemporariesLast program = (array : ℕ) → IsTrue (is_temporary (nest_of program) array) → length (arrays_of program.params) ≤ array
 
--- The folds of the temporaries of at least one dimension, in order. Throughout the context each keeps apart what is live together
--- under the schedule, and what its marks say of its moduli is true.
-pub record AreRightFolds (program : Program) (schedule : Schedule) (folds : List (ArrayId × Fold)) : Type 0 where
+-- The folds of the temporaries of at least one dimension, in order. Throughout the context each keeps the elements of each pair of
+-- its array apart, and what its marks say of its moduli is true.
+pub record AreRightFolds (program : Program) (pairs : ℕ → List ℤ → List ℤ → List ℤ → Type 0) (folds : List (ArrayId × Fold)) : Type 0 where
   pub arrays : map (λ (f : ArrayId × Fold). f.0.0) folds ≡ map (λ (t : ℕ × ℕ). t.0) (temporaries_from 0 (nest_of program).arrays)
-  pub each : (array : ArrayId) (fold : Fold) → IsIn (array, fold) folds → IsFoldFor program schedule array.0 fold
+  pub each : (array : ArrayId) (fold : Fold) → IsIn (array, fold) folds → IsFoldFor program pairs array.0 fold
 
 -- A certificate that is accepted shows that the program's accesses are right, the schedule is legal and the folds are right.
 abbrev pub AcceptedShows : Type 0
 AcceptedShows = (program : Program) (plan : Plan) (text : List ℕ) (folds : List (ArrayId × Fold))
     → HasNest program → NamesArrays program → HasTemporariesLast program → IsScheduleOf program plan.schedule
     → (a : IsAccepted (nest_of program) plan text folds)
-    → IsShown program plan.schedule (trees_of a.cert.flow) a.is_checked.are.folds × AreRightFolds program plan.schedule folds
+    → IsShown program plan.schedule (trees_of a.cert.flow) a.is_checked.are.folds × AreRightFolds program (LivePair program plan.schedule) folds
 
 -- It is refused, if at all, for want of memory.
 abbrev pub AcceptedIsNotRefused : Type 0

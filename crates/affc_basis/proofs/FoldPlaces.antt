@@ -65,7 +65,7 @@ obeying_fold_separates pairs fold p differ obeys =
     )
 
 -- so it obeys for pairs that are among these
-obeys_for : (pairs fewer : List ℤ → List ℤ → Type 0) (fold : Fold) (p : List ℤ) → ((x y : List ℤ) → fewer x y → pairs x y) → Obeys pairs fold p → Obeys fewer fold p
+pub obeys_for : (pairs fewer : List ℤ → List ℤ → Type 0) (fold : Fold) (p : List ℤ) → ((x y : List ℤ) → fewer x y → pairs x y) → Obeys pairs fold p → Obeys fewer fold p
 obeys_for pairs fewer fold p among obeys k row b at at_b =
     let o = obeys k row b at at_b in
     (o.0, λ x y s. o.1 x y (record { pair = among x y s.pair; agrees = s.agrees }))

@@ -52,22 +52,22 @@ pub record IsFoldShown (f : FoldShown) (fold : Fold) : Type 0 where
   pub rows : fold.basis.rows ≡ f.rows
   pub moduli : fold.moduli ≡ moduli_of f.systems f.rows f.moduli
 
--- throughout the context its moduli exceed what their rows need, no two elements that are live together have one place, and its
+-- throughout the context its moduli exceed what their rows need, no two elements of a pair of its array have one place, and its
 -- marks are true
-pub record IsRightFold (program : Program) (schedule : Schedule) (f : FoldShown) : Type 0 where
-  pub obeys : (fold : Fold) → IsFoldShown f fold → (p : List ℤ) → IsInContext program p → Obeys (LivePair program schedule f.array p) fold p
-  pub admissible : (fold : Fold) → IsFoldShown f fold → (p : List ℤ) → IsInContext program p → IsAdmissible (LivePair program schedule f.array p) fold p
-  pub marks : (fold : Fold) → IsFoldShown f fold → HasTrueMarks (IsInContext program) (LivePair program schedule f.array) fold
+pub record IsRightFold (program : Program) (pairs : ℕ → List ℤ → List ℤ → List ℤ → Type 0) (f : FoldShown) : Type 0 where
+  pub obeys : (fold : Fold) → IsFoldShown f fold → (p : List ℤ) → IsInContext program p → Obeys (pairs f.array p) fold p
+  pub admissible : (fold : Fold) → IsFoldShown f fold → (p : List ℤ) → IsInContext program p → IsAdmissible (pairs f.array p) fold p
+  pub marks : (fold : Fold) → IsFoldShown f fold → HasTrueMarks (IsInContext program) (pairs f.array) fold
 
 -- Some p is in the context. Throughout it each access lies within its array, the trees name the sources of all loads, one for
--- each load of a temporary, and the schedule is legal; and all folds are right.
+-- each load of a temporary, and the schedule is legal; and all folds are right for what is live together.
 pub record IsShown (program : Program) (schedule : Schedule) (trees : List Tree) (folds : List FoldShown) : Type 0 where
   pub some : (p : List ℤ) × IsInContext program p
   pub stays : (p : List ℤ) → IsInContext program p → StaysWithin program p
   pub sources : (p : List ℤ) → IsInContext program p → NameSources program p (nest_of program) trees
   pub written : (p : List ℤ) → IsInContext program p → AreWritten program p (nest_of program) trees
   pub legal : (p : List ℤ) → IsInContext program p → Legal program schedule p
-  pub folds_right : (f : FoldShown) → IsIn f folds → IsRightFold program schedule f
+  pub folds_right : (f : FoldShown) → IsIn f folds → IsRightFold program (LivePair program schedule) f
 
 -- ---- The law
 

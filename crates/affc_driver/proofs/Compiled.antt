@@ -1,5 +1,5 @@
 -- What is printed of the loops of a legal schedule compiles the text that its program was read from.
-use Rattle.std.proofs.Common.{◌≡◌, ◌<◌, ℕ, false, IsTrue, List, [], length, map, Option, Some, None, refl, sym, subst, ap, ◌∙◌, arith}
+use Rattle.std.proofs.Common.{◌≡◌, ◌<◌, ℕ, ℤ, false, IsTrue, List, [], length, map, Option, Some, None, refl, sym, subst, ap, ◌∙◌, arith}
 use Rattle.std.proofs.lemmas.List.Elements.{All-nil}
 use Rattle.std.proofs.lemmas.Option.{slice_get_within, none-some}
 use Rattle.affc_ast.specs.declared.tree.ArrayId.{ArrayId}
@@ -10,7 +10,7 @@ use Rattle.affc_grammar.specs.Reads.{Reads}
 use Rattle.affc_cprint.specs.Layout.{printed_text}
 use Rattle.affc_cprint.proofs.Converse.{reads_back}
 use Rattle.affc_trace.specs.Effects.{effect}
-use Rattle.affc_trace.specs.declared.schedule.Schedule.{Schedule}
+use Rattle.affc_trace.specs.Dataflow.{LivePair}
 use Rattle.affc_trace.specs.Laws.{IsInContext}
 use Rattle.affc_trace.specs.Target.{IsScheduleOf, within_limits, numbers_in}
 use Rattle.affc_trace.proofs.Contents.{values_by_instance}
@@ -91,8 +91,8 @@ has_loops text schedule program plan reads bare within planned = record {
 
 -- ---- No folds
 
-pub nothing_folded : (Answers : List ℕ → ℕ → Type 0) (program : Program) (schedule : Schedule) (bases : List (ArrayId × Basis)) (budget : Account) → (IsLeftWhole program [] → IsSpent budget) → AreFoldsUnder Answers program schedule bases budget [] []
-nothing_folded Answers program schedule bases budget whole = record {
+pub nothing_folded : (Answers : List ℕ → ℕ → Type 0) (program : Program) (pairs : ℕ → List ℤ → List ℤ → List ℤ → Type 0) (bases : List (ArrayId × Basis)) (budget : Account) → (IsLeftWhole program [] → IsSpent budget) → AreFoldsUnder Answers program pairs bases budget [] []
+nothing_folded Answers program pairs bases budget whole = record {
   in_program = record { different = tt; each = λ array fold is. absurd is };
   limits = All-nil (λ (f : ArrayId × Fold). KeepsLimits (numbers_in program.params) f.1);
   obeys = λ p inside array fold e. absurd (none-some fold e);
@@ -106,7 +106,7 @@ nothing_folded Answers program schedule bases budget whole = record {
 
 pub has_folded : (Answers : List ℕ → ℕ → Type 0) (text : List ℕ) (schedule : Option (List ℕ)) (program : Program) (plan : Plan) (budget : Account) (folds : List (ArrayId × Fold)) (choices : List (ArrayId × Choice))
     → Reads text program → program.prelude ≡ false → StaysWithin program → WrittenThroughout program → HasPlan program schedule plan
-    → LegalThroughout program plan.schedule → AreFoldsUnder Answers program plan.schedule plan.folds budget folds choices → HasFoldedLoops program plan.schedule folds
+    → LegalThroughout program plan.schedule → AreFoldsUnder Answers program (LivePair program plan.schedule) plan.folds budget folds choices → HasFoldedLoops program plan.schedule folds
 has_folded Answers text schedule program plan budget folds choices reads bare within written planned legal are = record {
   loops = has_loops text schedule program plan reads bare within planned;
   ends = within_never_stuck text program reads bare within written;
@@ -172,5 +172,5 @@ none_whole program none whole =
     let empty : length program.temps ≡ 0 = ap length none in
     absurd (omega arith)
 
-pub no_folds : (Answers : List ℕ → ℕ → Type 0) (program : Program) (schedule : Schedule) (bases : List (ArrayId × Basis)) (budget : Account) → program.temps ≡ [] → AreFoldsUnder Answers program schedule bases budget [] []
-no_folds Answers program schedule bases budget none = nothing_folded Answers program schedule bases budget (λ whole. absurd (none_whole program none whole))
+pub no_folds : (Answers : List ℕ → ℕ → Type 0) (program : Program) (pairs : ℕ → List ℤ → List ℤ → List ℤ → Type 0) (bases : List (ArrayId × Basis)) (budget : Account) → program.temps ≡ [] → AreFoldsUnder Answers program pairs bases budget [] []
+no_folds Answers program pairs bases budget none = nothing_folded Answers program pairs bases budget (λ whole. absurd (none_whole program none whole))

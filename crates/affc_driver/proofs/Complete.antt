@@ -14,7 +14,7 @@ use Rattle.affc_parse.specs.declared.fault.ParseFault.{ParseFault}
 use Rattle.affc_parse.proofs.Refusals.{fault_is_memory}
 use Rattle.affc_cprint.specs.Layout.{printed_text}
 use Rattle.affc_ast.specs.Trace.{loads_of}
-use Rattle.affc_trace.specs.declared.schedule.Schedule.{Schedule as Order}
+use Rattle.affc_trace.specs.Dataflow.{LivePair}
 use Rattle.affc_trace.specs.Laws.{IsInContext}
 use Rattle.affc_trace.specs.Orders.{Earlier}
 use Rattle.affc_plain.proofs.NoLocals.{plain_has_no_locals}
@@ -106,7 +106,7 @@ module _ (times : FoldsKeepTimes) (scan : ProgramsScan) (same : SameLoopsScan) (
   is_folded text schedule f =
       let sound = sound_of text schedule f in
       let stays = stays_within text sound in
-      let none = nothing_folded Answers f.program f.plan.schedule f.plan.folds at_once (λ whole. record { most = 0; limit = refl; reached = omega arith }) in
+      let none = nothing_folded Answers f.program (LivePair f.program f.plan.schedule) f.plan.folds at_once (λ whole. record { most = 0; limit = refl; reached = omega arith }) in
       let has = has_loops text schedule f.program f.plan f.reads f.plain stays f.planned in
       let own = scan f.program f.plan.schedule has in
       let other = same f.program (folded_program f.program []) f.plan.schedule own.0 has (times f.program []) own.1 in (
@@ -128,10 +128,10 @@ unlimited budget none spent = absurd (none-some spent.most (sym none ∙ spent.l
 
 -- a price is missing only where no unit is left
 module _ (Answers : List ℕ → ℕ → Type 0) where
-  no_price : (program : Program) (schedule : Order) (bases : List (ArrayId × Basis)) (budget : Account) (array : ℕ) (fold : Fold) (choice : Choice) (given : Option Shape) (j : ℕ)
-      → IsTaken given Answers program schedule budget array fold choice → slice_get choice.prices j ≡ Some None → IsSpent budget
-  no_price program schedule bases budget array fold choice (Some shape) j taken at = absurd (none-some {A = Option Price} None (ap (λ ps. slice_get ps j) (sym taken.1) ∙ at))
-  no_price program schedule bases budget array fold choice None j taken at =
+  no_price : (program : Program) (pairs : ℕ → List ℤ → List ℤ → List ℤ → Type 0) (bases : List (ArrayId × Basis)) (budget : Account) (array : ℕ) (fold : Fold) (choice : Choice) (given : Option Shape) (j : ℕ)
+      → IsTaken given Answers program pairs budget array fold choice → slice_get choice.prices j ≡ Some None → IsSpent budget
+  no_price program pairs bases budget array fold choice (Some shape) j taken at = absurd (none-some {A = Option Price} None (ap (λ ps. slice_get ps j) (sym taken.1) ∙ at))
+  no_price program pairs bases budget array fold choice None j taken at =
       let s = beside choice.prices (listing (length fold.basis.rows)) j None (sym taken.prices.one_each) at in
       taken.prices.each j s.0 None s.1 at
 
@@ -145,16 +145,16 @@ module _ (Answers : List ℕ → ℕ → Type 0) where
             let c = r.are_folds.chosen array fold is in
             let same : c.choice ≡ choice = same_Some c.choice choice (sym c.found ∙ at) in
             unlimited h.account none
-            (no_price r.compiles.source r.plan.schedule r.plan.folds h.account array fold choice (given_for r.plan.folds array (length fold.basis.rows)) j
-            (subst (λ (d : Choice). IsTaken (given_for r.plan.folds array (length fold.basis.rows)) Answers r.compiles.source r.plan.schedule h.account array fold d) same c.is.taken) missing),
+            (no_price r.compiles.source (LivePair r.compiles.source r.plan.schedule) r.plan.folds h.account array fold choice (given_for r.plan.folds array (length fold.basis.rows)) j
+            (subst (λ (d : Choice). IsTaken (given_for r.plan.folds array (length fold.basis.rows)) Answers r.compiles.source (LivePair r.compiles.source r.plan.schedule) h.account array fold d) same c.is.taken) missing),
       )
 
   pub none_is_cheaper : NoneIsCheaper Answers
   none_is_cheaper text schedule budget folded report never r array fold choice is at given settled other cost like costs =
       let c = r.are_folds.chosen array fold is in
       let same : c.choice ≡ choice = same_Some c.choice choice (sym c.found ∙ at) in
-      none_costs_less Answers r.compiles.source r.plan.schedule r.plan.folds budget array fold choice (reads_plain text r.compiles.source r.compiles.source_reads r.plain) never
-      (subst (IsChoice Answers r.compiles.source r.plan.schedule r.plan.folds budget array fold) same c.is) given settled other cost like costs
+      none_costs_less Answers (LivePair r.compiles.source r.plan.schedule) r.compiles.source r.plan.folds budget array fold choice (reads_plain text r.compiles.source r.compiles.source_reads r.plain) never
+      (subst (IsChoice Answers r.compiles.source (LivePair r.compiles.source r.plan.schedule) r.plan.folds budget array fold) same c.is) given settled other cost like costs
 
 pub flows_are_sound : FlowsAreSound
 flows_are_sound text told f = record {

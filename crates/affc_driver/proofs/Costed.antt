@@ -7,6 +7,7 @@ use Rattle.affc_basis.specs.declared.fold.Fold.{Fold}
 use Rattle.affc_nest.specs.declared.nest.Nest.{Nest}
 use Rattle.affc_nest.specs.Nests.{nest_of}
 use Rattle.affc_schedtext.specs.declared.plan.Plan.{Plan}
+use Rattle.affc_trace.specs.Dataflow.{LivePair}
 use Rattle.affc_folds.proofs.ListLemmas.{folds_by}
 use Rattle.affc_certify.specs.Certified.{IsCertified}
 use Rattle.affc_driver.specs.Accounts.{FoldsWith, FoldsCertified, FoldsMade}
@@ -35,7 +36,7 @@ with_answers A B to source schedule left folded report h =
         written = f.written;
         planned = f.planned;
         legal = f.legal;
-        are_folds = folds_by A B to f.compiles.source f.plan.schedule f.plan.folds h.account f.folds f.choices f.are_folds;
+        are_folds = folds_by A B to f.compiles.source (LivePair f.compiles.source f.plan.schedule) f.plan.folds h.account f.folds f.choices f.are_folds;
         told = f.told;
       };
       counted = h.counted;

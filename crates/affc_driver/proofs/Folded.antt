@@ -5,6 +5,7 @@ use Rattle.affc_ast.specs.declared.tree.Program.{Program}
 use Rattle.affc_ast.specs.declared.tree.Instance.{Instance}
 use Rattle.affc_ast.specs.Store.{Element}
 use Rattle.affc_ast.specs.Trace.{loads_of, store_of, events}
+use Rattle.affc_trace.specs.Dataflow.{LivePair}
 use Rattle.affc_trace.specs.Effects.{effect}
 use Rattle.affc_trace.specs.Law.{IsIn}
 use Rattle.affc_trace.specs.Orders.{Touches}
@@ -57,12 +58,12 @@ pub decided_without : (Answers : List ℕ → ℕ → Type 0) (program : Program
 decided_without Answers program plan budget names within none legal = record {
   written = λ text reads bare. none_is_written program names within none;
   legal = legal;
-  are_folds = no_folds Answers program plan.schedule plan.folds budget none;
+  are_folds = no_folds Answers program (LivePair program plan.schedule) plan.folds budget none;
 }
 
 pub written_each : (program : Program) (trees : List Tree) → StaysWithin program → NameThroughout program trees → OfEachText program (λ text. WrittenThroughout program)
 written_each program trees within named text reads bare = named_is_written text program trees reads bare within named
 
 pub decided : (Answers : List ℕ → ℕ → Type 0) (program : Program) (plan : Plan) (budget : Account) (trees : List Tree) (folds : List (ArrayId × Fold)) (choices : List (ArrayId × Choice)) → StaysWithin program → NameThroughout program trees
-    → LegalThroughout program plan.schedule → AreFoldsUnder Answers program plan.schedule plan.folds budget folds choices → AreDecided Answers program plan budget folds choices
+    → LegalThroughout program plan.schedule → AreFoldsUnder Answers program (LivePair program plan.schedule) plan.folds budget folds choices → AreDecided Answers program plan budget folds choices
 decided Answers program plan budget trees folds choices within named legal are = record { written = written_each program trees within named; legal = legal; are_folds = are }

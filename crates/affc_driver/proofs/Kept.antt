@@ -1,10 +1,9 @@
 -- Folds of which some were left out where the budget ended.
-use Rattle.std.proofs.Common.{◌≡◌, ℕ, List, [], ◌∷◌, map, Some, sym, subst, ◌∙◌, ◌⊎◌, inl, inr}
+use Rattle.std.proofs.Common.{◌≡◌, ℕ, ℤ, List, [], ◌∷◌, map, Some, sym, subst, ◌∙◌, ◌⊎◌, inl, inr}
 use Rattle.std.specs.List.{All}
 use Rattle.std.proofs.lemmas.List.Elements.{All-nil, All-cons, All-head, All-tail}
 use Rattle.affc_ast.specs.declared.tree.ArrayId.{ArrayId}
 use Rattle.affc_ast.specs.declared.tree.Program.{Program}
-use Rattle.affc_trace.specs.declared.schedule.Schedule.{Schedule}
 use Rattle.affc_trace.specs.Law.{IsIn}
 use Rattle.affc_trace.specs.Orders.{AreDistinct}
 use Rattle.affc_trace.specs.Target.{numbers_in}
@@ -61,8 +60,8 @@ module _ (program : Program) (all kept : List (ArrayId × Fold)) (are : AreFolds
       (folds_are_found program all array fold are).1 (r.0, r.1, in_whole kept all part (r.0, fold) r.2)
 
 -- Folds of which some were left out stay folds.
-module _ (Answers : List ℕ → ℕ → Type 0) (program : Program) (schedule : Schedule) (bases : List (ArrayId × Basis)) (before after : Account) (later : IsLater before after) (all kept : List (ArrayId × Fold)) (choices : List (ArrayId × Choice))
-    (h : AreFoldsUnder Answers program schedule bases before all choices) (left : AreLeft after all kept) where
+module _ (Answers : List ℕ → ℕ → Type 0) (program : Program) (pairs : ℕ → List ℤ → List ℤ → List ℤ → Type 0) (bases : List (ArrayId × Basis)) (before after : Account) (later : IsLater before after) (all kept : List (ArrayId × Fold)) (choices : List (ArrayId × Choice))
+    (h : AreFoldsUnder Answers program pairs bases before all choices) (left : AreLeft after all kept) where
   had : (array : ℕ) (fold : Fold) → fold_of kept array ≡ Some fold → fold_of all array ≡ Some fold
   had = still_found program all kept h.in_program left.part
 
@@ -70,13 +69,13 @@ module _ (Answers : List ℕ → ℕ → Type 0) (program : Program) (schedule :
   one_missing (inl same) whole = stays_spent before after later (h.whole (subst (IsLeftWhole program) same whole))
   one_missing (inr spent) whole = spent
 
-  pub still_folds : AreFoldsUnder Answers program schedule bases after kept choices
+  pub still_folds : AreFoldsUnder Answers program pairs bases after kept choices
   still_folds = record {
     in_program = still_in program all kept h.in_program left.part;
     limits = all_kept (λ (f : ArrayId × Fold). KeepsLimits (numbers_in program.params) f.1) kept all left.part h.limits;
     obeys = λ p inside array fold at. h.obeys p inside array fold (had array fold at);
     marks = λ array fold at. h.marks array fold (had array fold at);
-    chosen = λ array fold at. has_later Answers program schedule bases before after later array fold choices choices (λ c e. e) (h.chosen array fold (had array fold at));
+    chosen = λ array fold at. has_later Answers program pairs bases before after later array fold choices choices (λ c e. e) (h.chosen array fold (had array fold at));
     bound = λ array fold at b. stays_spent before after later (h.bound array fold (had array fold at) b);
     whole = one_missing left.all;
   }

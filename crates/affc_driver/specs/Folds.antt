@@ -3,6 +3,7 @@ use Rattle.std.specs.Prelude.{◌≡◌, ℕ, false, List, Option}
 use Rattle.affc_ast.specs.Compiles.{CompilesText}
 use Rattle.affc_ast.specs.declared.tree.ArrayId.{ArrayId}
 use Rattle.affc_grammar.specs.Reads.{Reads, ReadsWide}
+use Rattle.affc_trace.specs.Dataflow.{LivePair}
 use Rattle.affc_trace.specs.Laws.{in_target_order}
 use Rattle.affc_split.specs.Budgets.{Account}
 use Rattle.affc_basis.specs.declared.fold.Fold.{Fold}
@@ -39,5 +40,5 @@ pub record FoldsTo (Answers : List ℕ → ℕ → Type 0) (source : List ℕ) (
   pub written : WrittenThroughout compiles.source
   pub planned : HasPlan compiles.source schedule plan
   pub legal : LegalThroughout compiles.source plan.schedule
-  pub are_folds : AreFoldsUnder Answers compiles.source plan.schedule plan.folds budget folds choices
+  pub are_folds : AreFoldsUnder Answers compiles.source (LivePair compiles.source plan.schedule) plan.folds budget folds choices
   pub told : report ≡ report_text compiles.source folds choices scanned.loose.items

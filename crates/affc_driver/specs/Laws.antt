@@ -12,6 +12,7 @@ use Rattle.affc_grammar.specs.Reads.{Reads}
 use Rattle.affc_cprint.specs.Layout.{printed_text}
 use Rattle.affc_trace.specs.declared.schedule.Schedule.TheVariants.{Time}
 use Rattle.affc_trace.specs.declared.schedule.TimeMap.{TimeMap}
+use Rattle.affc_trace.specs.Dataflow.{LivePair}
 use Rattle.affc_trace.specs.Effects.{has_no_locals}
 use Rattle.affc_trace.specs.Laws.{IsInContext}
 use Rattle.affc_domain.specs.Ranges.{first_wide}
@@ -77,7 +78,7 @@ NamedIsWritten = (text : List ℕ) (program : Program) (trees : List Tree)
 abbrev pub PrintedCompiles : (Answers : List ℕ → ℕ → Type 0) → Type 0
 PrintedCompiles Answers = (text : List ℕ) (schedule : Option (List ℕ)) (program : Program) (plan : Plan) (budget : Account) (folds : List (ArrayId × Fold)) (choices : List (ArrayId × Choice)) (s : Scanned)
     → Reads text program → program.prelude ≡ false → StaysWithin program → WrittenThroughout program
-    → HasPlan program schedule plan → LegalThroughout program plan.schedule → AreFoldsUnder Answers program plan.schedule plan.folds budget folds choices
+    → HasPlan program schedule plan → LegalThroughout program plan.schedule → AreFoldsUnder Answers program (LivePair program plan.schedule) plan.folds budget folds choices
     → Scans (folded_program program folds) plan.schedule s → FoldsTo Answers text schedule budget (printed_text s.program) (report_text program folds choices s.loose.items)
 
 -- Where one statement alone can have instances under a schedule by times, and no component is loose, each turn of the printed loops extends to a
@@ -103,7 +104,7 @@ NoneIsCheaper Answers = (text : List ℕ) (schedule : Option (List ℕ)) (budget
     → NeverFalls Answers → (r : FoldsTo Answers text schedule budget folded report)
     → (array : ℕ) (fold : Fold) (choice : Choice) → fold_of r.folds array ≡ Some fold → choice_of r.choices array ≡ Some choice
     → given_for r.plan.folds array (length fold.basis.rows) ≡ None → IsSettled fold choice
-    → (other : Fold) (cost : ℕ) → IsListedFold r.compiles.source r.plan.schedule array (length fold.basis.rows) other
+    → (other : Fold) (cost : ℕ) → IsListedFold r.compiles.source (LivePair r.compiles.source r.plan.schedule) array (length fold.basis.rows) other
     → IsStoredCost Answers (IsInContext r.compiles.source) other cost → choice.cost ≤ cost
 
 -- ---- What is refused

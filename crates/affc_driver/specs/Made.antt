@@ -2,6 +2,7 @@
 use Rattle.std.specs.Prelude.{◌≡◌, ℕ, List, option_map}
 use Rattle.affc_ast.specs.declared.tree.ArrayId.{ArrayId}
 use Rattle.affc_ast.specs.declared.tree.Program.{Program}
+use Rattle.affc_trace.specs.Dataflow.{LivePair}
 use Rattle.affc_split.specs.Budgets.{Account}
 use Rattle.affc_basis.specs.declared.fold.Fold.{Fold}
 use Rattle.affc_weigh.specs.declared.choice.Choice.{Choice}
@@ -25,7 +26,7 @@ use Rattle.affc_driver.specs.declared.wanted.Wanted.{Wanted}
 pub record AreDecided (Answers : List ℕ → ℕ → Type 0) (program : Program) (plan : Plan) (budget : Account) (folds : List (ArrayId × Fold)) (choices : List (ArrayId × Choice)) : Type 0 where
   pub written : OfEachText program (λ text. WrittenThroughout program)
   pub legal : LegalThroughout program plan.schedule
-  pub are_folds : AreFoldsUnder Answers program plan.schedule plan.folds budget folds choices
+  pub are_folds : AreFoldsUnder Answers program (LivePair program plan.schedule) plan.folds budget folds choices
 
 -- text and report of the program with these folds
 pub record IsMadeOf (program : Program) (plan : Plan) (folds : List (ArrayId × Fold)) (choices : List (ArrayId × Choice)) (text report : List ℕ) : Type 0 where

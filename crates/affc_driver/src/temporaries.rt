@@ -1,5 +1,6 @@
 //! The folds of a program's temporaries under the schedule of its plan, once its dataflow and the order are looked at.
 ghost use Rattle.std.specs.Prelude.{◌≡◌, IfOk, OnOk, IfErr, Some, option_map};
+ghost use Rattle.affc_trace.specs.Dataflow.{LivePair};
 ghost use Rattle.affc_split.specs.Budgets.{IsLater};
 ghost use Rattle.affc_quast.specs.Limits.{narrow, AreTreesWithin};
 ghost use Rattle.affc_quast.specs.Seen.{trees_of};
@@ -70,7 +71,7 @@ fn folds_of<F: Cost>(
     requires compiled { IsCompilation compiled.now.program.now compiled.now.nest.now compiled.now.plan.now }
     requires named { NameThroughout compiled.now.program.now (trees_of flow.now) }
     requires limits { AreTreesWithin narrow 302 12 compiled.now.nest.now (trees_of flow.now) }
-    ensures folds { IfOk result (λ folded. AreFoldsUnder (F.answers cost.now.cost) compiled.now.program.now compiled.now.plan.now.schedule compiled.now.plan.now.folds budget.new folded.folds folded.choices) }
+    ensures folds { IfOk result (λ folded. AreFoldsUnder (F.answers cost.now.cost) compiled.now.program.now (LivePair compiled.now.program.now compiled.now.plan.now.schedule) compiled.now.plan.now.folds budget.new folded.folds folded.choices) }
     ensures err { IfErr result (λ refusal. refusal ≡ Refusal.Memory) }
     ensures later { IsLater budget.old budget.new }
 {

@@ -5,7 +5,6 @@ use Rattle.std.proofs.lemmas.Bool.{eqb-true, eq-eqb}
 use Rattle.std.proofs.lemmas.Int.{ints}
 use Rattle.std.proofs.lemmas.Option.{none-some}
 use Rattle.affc_rows.specs.Forms.{Affine, value}
-use Rattle.affc_trace.specs.Dataflow.{LivePair}
 use Rattle.affc_trace.specs.Laws.{IsInContext}
 use Rattle.affc_trace.specs.Target.{numbers_in}
 use Rattle.affc_basis.specs.declared.fold.Fold.{Fold}
@@ -132,15 +131,15 @@ module _ (InContext : List ℤ → Type 0) (pairs : List ℤ → List ℤ → Li
 
 -- ---- The law
 
-pub none_costs_less : (Answers : List ℕ → ℕ → Type 0) → NoneCostsLess Answers
-none_costs_less Answers program schedule bases budget array fold choice plain never is none settled other more like costs =
+pub none_costs_less : (Answers : List ℕ → ℕ → Type 0) (pairs : ℕ → List ℤ → List ℤ → List ℤ → Type 0) → NoneCostsLess Answers pairs
+none_costs_less Answers pairs program bases budget array fold choice plain never is none settled other more like costs =
     by_price (its_price.0) its_price.1
   where
     dimensions : ℕ
     dimensions = length fold.basis.rows
 
-    cheapest : IsCheapest Answers program schedule budget array fold choice
-    cheapest = subst (λ o. IsTaken o Answers program schedule budget array fold choice) none is.taken
+    cheapest : IsCheapest Answers program pairs budget array fold choice
+    cheapest = subst (λ o. IsTaken o Answers program pairs budget array fold choice) none is.taken
 
     its_price : (price : Option Price) × (slice_get choice.prices like.number ≡ Some price)
     its_price = beside (listing dimensions) choice.prices like.number (shape_of other.basis) cheapest.prices.one_each like.listed
@@ -156,7 +155,7 @@ none_costs_less Answers program schedule bases budget array fold choice plain ne
     by_price None at = absurd (missing at)
     by_price (Some price) at =
         let needs = cheapest.prices.each like.number (shape_of other.basis) (Some price) like.listed at in
-        let no_less = costs_no_less (IsInContext program) (LivePair program schedule array) (numbers_in program.params) (near_context program plain) other like.limits like.obeys costs.values costs.are_greatest
+        let no_less = costs_no_less (IsInContext program) (pairs array) (numbers_in program.params) (near_context program plain) other like.limits like.obeys costs.values costs.are_greatest
         price.values needs.0 Answers never price.cost more needs.1 costs.answered in
         through choice.cost price.cost more (cheapest.lowest.least like.number price at) no_less
       where

@@ -135,18 +135,18 @@ module _ (m : Modulus) (fits : IsModulus 1 m.form) (enough : IsEnoughForTheBlur 
       (subst (λ (l : Modulus). IsTrueMark (IsInContext blur) (LivePair blur together 2) (x0 ∷ []) 0 x0 l) (same_Some m n at_n) shown)
   true_marks (suc k) row n at at_n = absurd (none-some row at)
 
-  module _ (great : IsGreatestValue (IsInContext blur) m.form 3) (budget : Account) (bound : HasBound (by m) → IsSpent budget) (told : Option Price) (is_price : IsPrice (Gives words_cost) blur together budget 2 (x0 ∷ []) told)
+  module _ (great : IsGreatestValue (IsInContext blur) m.form 3) (budget : Account) (bound : HasBound (by m) → IsSpent budget) (told : Option Price) (is_price : IsPrice (Gives words_cost) blur (LivePair blur together) budget 2 (x0 ∷ []) told)
       (lowest : IsLowest (by m) 0 3 (told ∷ [])) where
     abbrev choice : Choice
     choice = record { cost = 3; number = 0; prices = told ∷ [] }
 
-    price_at : (j : ℕ) (shape : Shape) (p : Option Price) → slice_get (listing 1) j ≡ Some shape → slice_get (told ∷ []) j ≡ Some p → IsPrice (Gives words_cost) blur together budget 2 shape.rows p
+    price_at : (j : ℕ) (shape : Shape) (p : Option Price) → slice_get (listing 1) j ≡ Some shape → slice_get (told ∷ []) j ≡ Some p → IsPrice (Gives words_cost) blur (LivePair blur together) budget 2 shape.rows p
     price_at zero shape p at at_p =
-        subst (λ (s : Shape). IsPrice (Gives words_cost) blur together budget 2 s.rows p) (same_Some (columns (column 1 0 ∷ [])) shape at)
-        (subst (IsPrice (Gives words_cost) blur together budget 2 (x0 ∷ [])) (same_Some told p at_p) is_price)
+        subst (λ (s : Shape). IsPrice (Gives words_cost) blur (LivePair blur together) budget 2 s.rows p) (same_Some (columns (column 1 0 ∷ [])) shape at)
+        (subst (IsPrice (Gives words_cost) blur (LivePair blur together) budget 2 (x0 ∷ [])) (same_Some told p at_p) is_price)
     price_at (suc j) shape p at at_p = absurd (none-some p at_p)
 
-    is_choice : IsChoice (Gives words_cost) blur together [] budget 2 (by m) choice
+    is_choice : IsChoice (Gives words_cost) blur (LivePair blur together) [] budget 2 (by m) choice
     is_choice = record {
       cost = record { values = 3 ∷ []; are_greatest = (great, tt); answered = refl };
       taken = record { listed = refl; prices = record { one_each = refl; each = price_at }; lowest = lowest };
@@ -164,8 +164,8 @@ module _ (m : Modulus) (fits : IsModulus 1 m.form) (enough : IsEnoughForTheBlur 
           subst (λ n. HasTrueMarks (IsInContext blur) (LivePair blur together n) fold) o.0 (subst (λ (g : Fold). HasTrueMarks (IsInContext blur) (LivePair blur together 2) g) o.1 true_marks);
       chosen = λ array fold at.
           let o = only (by m) fold array at in
-          subst (λ n. HasChoice (Gives words_cost) blur together [] budget (t_costs 3 told) n fold) o.0
-          (subst (λ (g : Fold). HasChoice (Gives words_cost) blur together [] budget (t_costs 3 told) 2 g) o.1 (record { choice = choice; found = refl; is = is_choice }));
+          subst (λ n. HasChoice (Gives words_cost) blur (LivePair blur together) [] budget (t_costs 3 told) n fold) o.0
+          (subst (λ (g : Fold). HasChoice (Gives words_cost) blur (LivePair blur together) [] budget (t_costs 3 told) 2 g) o.1 (record { choice = choice; found = refl; is = is_choice }));
       bound = λ array fold at b. bound (subst (λ (g : Fold). HasBound g) (sym (only (by m) fold array at).1) b);
       whole = λ left. absurd (never_whole (by m) left);
     }
@@ -242,12 +242,12 @@ no_price = record { least = λ j p at. absurd (never j p at); first = λ j p bel
 
 -- the one fold has the one choice
 its_choice : (budget : Account) (bases : List (ArrayId × Basis)) (m : Modulus) (cost : ℕ) (told : Option Price) → AreOfTheBlur bases budget (t_has (by m)) (t_costs cost told)
-    → IsChoice (Gives words_cost) blur together bases budget 2 (by m) (record { cost = cost; number = 0; prices = told ∷ [] })
+    → IsChoice (Gives words_cost) blur (LivePair blur together) bases budget 2 (by m) (record { cost = cost; number = 0; prices = told ∷ [] })
 its_choice budget bases m cost told h =
     let c = h.chosen 2 (by m) refl in
-    subst (IsChoice (Gives words_cost) blur together bases budget 2 (by m)) (sym (same_Some (record { cost = cost; number = 0; prices = told ∷ [] }) c.choice c.found)) c.is
+    subst (IsChoice (Gives words_cost) blur (LivePair blur together) bases budget 2 (by m)) (sym (same_Some (record { cost = cost; number = 0; prices = told ∷ [] }) c.choice c.found)) c.is
 
-cost_is : (budget : Account) (c : Choice) → IsChoice (Gives words_cost) blur together [] budget 2 (least 3) c → c.cost ≡ 3
+cost_is : (budget : Account) (c : Choice) → IsChoice (Gives words_cost) blur (LivePair blur together) [] budget 2 (least 3) c → c.cost ≡ 3
 cost_is budget c h = by_values h.cost.values h.cost.are_greatest h.cost.answered
   where
     by_values : (values : List ℕ) → AreGreatestValues (IsInContext blur) (number 3 ∷ []) values → c.cost ≡ words_cost values → c.cost ≡ 3

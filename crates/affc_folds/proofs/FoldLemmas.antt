@@ -33,7 +33,7 @@ use Rattle.affc_life.proofs.LightLemmas.{all_of}
 use Rattle.affc_life.proofs.LiveLemmas.{clashes_are_live_pairs}
 use Rattle.affc_life.proofs.SizeLemmas.{found_trees_are_never_large}
 use Rattle.affc_folds.specs.Folding.{IsAnalysed, HasTrueMarks, IsFoldFor}
-use Rattle.affc_folds.specs.Systems.{AreLive}
+use Rattle.affc_folds.specs.Systems.{HavePairs}
 use Rattle.affc_life.proofs.MarkLemmas.{exceeds_others, mark_of_others}
 use Rattle.affc_life.proofs.NestLemmas.{near_ranges, to_context, from_context, HasForms, has_forms, is_temporary, arrays_in}
 
@@ -116,30 +116,30 @@ module _ (program : Program) (nest : Nest) (trees : List Tree) (schedule : Sched
       live : (p : List ℤ) → IsInContext program p → (x y : List ℤ) → IsPairOf systems p x y ↔ LivePair program schedule array p x y
       live p inside x y = clashes_are_live_pairs program trees schedule array systems p x y a.has a.named a.fits shaped are_clashes inside (at_program.sources p inside)
 
-      pub live_systems : AreLive program schedule nest array info.extents systems
-      live_systems = record { conflicts = conflicts; pairs = live }
+      pub live_systems : HavePairs program (LivePair program schedule) nest array info.extents systems
+      live_systems = record { conflicts = conflicts; same = live }
 
     -- ---- The fold
 
-    module _ (systems : List PairSystem) (l : AreLive program schedule nest array info.extents systems) (fold : Fold) (rows : length fold.basis.rows ≡ length info.extents) (limits : All (IsModulus nest.context.columns) (forms_of fold.moduli)) where
+    module _ (pairs : ℕ → List ℤ → List ℤ → List ℤ → Type 0) (systems : List PairSystem) (l : HavePairs program pairs nest array info.extents systems) (fold : Fold) (rows : length fold.basis.rows ≡ length info.extents) (limits : All (IsModulus nest.context.columns) (forms_of fold.moduli)) where
       to_obey : ((p : List ℤ) → InContext nest.context nest.params p → Exceeds (IsPairOf systems p) p fold.basis.rows (forms_of fold.moduli)) → (p : List ℤ) → IsInContext program p
-          → Obeys (LivePair program schedule array p) fold p
+          → Obeys (pairs array p) fold p
       to_obey h p inside =
-          exceeds_others (IsPairOf systems p) (LivePair program schedule array p) (l.pairs p inside) p fold.basis.rows (forms_of fold.moduli)
+          exceeds_others (IsPairOf systems p) (pairs array p) (l.same p inside) p fold.basis.rows (forms_of fold.moduli)
           (h p (subst (λ (n : Nest). InContext n.context n.params p) (sym a.is) (to_context program a.has.plain p inside)))
 
-      true_marks : HasTrueMarks (InContext nest.context nest.params) (IsPairOf systems) fold → HasTrueMarks (IsInContext program) (LivePair program schedule array) fold
+      true_marks : HasTrueMarks (InContext nest.context nest.params) (IsPairOf systems) fold → HasTrueMarks (IsInContext program) (pairs array) fold
       true_marks h k row m at at_m =
-          mark_of_others (InContext nest.context nest.params) (IsInContext program) (IsPairOf systems) (LivePair program schedule array)
+          mark_of_others (InContext nest.context nest.params) (IsInContext program) (IsPairOf systems) (pairs array)
           (λ p i. from_context program a.has.plain p (subst (λ (n : Nest). InContext n.context n.params p) a.is i))
-          (λ p i. subst (λ (n : Nest). InContext n.context n.params p) (sym a.is) (to_context program a.has.plain p i)) l.pairs fold.basis.rows k row m.form m.mark (h k row m at at_m)
+          (λ p i. subst (λ (n : Nest). InContext n.context n.params p) (sym a.is) (to_context program a.has.plain p i)) l.same fold.basis.rows k row m.form m.mark (h k row m at at_m)
 
       limited : KeepsLimits (numbers_in program.params) fold
       limited = subst (λ n. All (IsModulus n) (forms_of fold.moduli)) (ap (λ (n : Nest). n.context.columns) a.is ∙ sym (numbers_are program.params)) limits
 
       pub fold_made : length (arrays_of program.params) ≤ array
           → ((p : List ℤ) → InContext nest.context nest.params p → Exceeds (IsPairOf systems p) p fold.basis.rows (forms_of fold.moduli))
-          → HasTrueMarks (InContext nest.context nest.params) (IsPairOf systems) fold → IsFoldFor program schedule array fold
+          → HasTrueMarks (InContext nest.context nest.params) (IsPairOf systems) fold → IsFoldFor program pairs array fold
       fold_made temporary obeys marks =
           let t = is_temporary program array info at_nest temporary in
           record {

@@ -9,10 +9,9 @@ use Rattle.affc_system.specs.Pairs.{IsBoxed}
 use Rattle.affc_system.specs.ElementPairs.{IsPairAt, IsPairOf}
 use Rattle.affc_system.specs.declared.pairs.PairSystem.{PairSystem}
 use Rattle.affc_ast.specs.declared.tree.Program.{Program}
-use Rattle.affc_trace.specs.declared.schedule.Schedule.{Schedule}
 use Rattle.affc_nest.specs.declared.nest.Nest.{Nest}
 use Rattle.affc_conflicts.specs.Conditions.{LiesWithin, IsConflict}
-use Rattle.affc_folds.specs.Systems.{AreLive, IsCopy, IsVoid, AreKept, Adds}
+use Rattle.affc_folds.specs.Systems.{HavePairs, IsCopy, IsVoid, AreKept, Adds}
 
 -- ---- One copy
 
@@ -95,7 +94,7 @@ pub both_added : (first second more old between new : List PairSystem) → more 
 both_added first second more old between new e f g systems h =
     subst (λ c. AreKept (systems ++ c) new) (sym e) (subst (λ ss. AreKept ss new) (append_assoc systems first second) (g (systems ++ first) (f systems h)))
 
--- ---- Live pairs
+-- ---- The pairs that are left
 
 pub all_boxed : (context : Rows) (ranges : List (ℤ × ℤ)) (extents : List Affine) (systems : List PairSystem) → All (IsConflict context ranges extents) systems → All (λ (s : PairSystem). IsBoxed s.system s.ranges) systems
 all_boxed context ranges extents systems h = All-weaker (IsConflict context ranges extents) (λ (s : PairSystem). IsBoxed s.system s.ranges) (λ s i. i.boxed) systems h
@@ -115,15 +114,15 @@ module _ (systems kept : List PairSystem) (h : AreKept systems kept) (boxed : Al
     | inr r ↦ record { system = r.0; there = r.1; either = elim i.either [ inl a ↦ inl (pair_in i.system r.0 r.2 p x y a) | inr b ↦ inr (pair_in i.system r.0 r.2 p y x b) ] }
   ]
 
-  are_live : (program : Program) (schedule : Schedule) (nest : Nest) (array : ℕ) (extents : List Affine) → AreLive program schedule nest array extents systems → AreLive program schedule nest array extents kept
-  are_live program schedule nest array extents l = record {
+  have_pairs : (program : Program) (pairs : ℕ → List ℤ → List ℤ → List ℤ → Type 0) (nest : Nest) (array : ℕ) (extents : List Affine) → HavePairs program pairs nest array extents systems → HavePairs program pairs nest array extents kept
+  have_pairs program pairs nest array extents l = record {
     conflicts = All-weaker (Contains kept) (IsConflict nest.context nest.params extents) (λ s i.
         let r = h.copies s i in
         conflict_in r.0 s r.2 nest.context nest.params extents (All-contains (IsConflict nest.context nest.params extents) systems r.0 l.conflicts r.1)) kept (All-contains_itself kept);
-    pairs = λ p inside x y. (λ i. (l.pairs p inside x y).0 (pairs_of p x y i), λ i. pairs_in p x y ((l.pairs p inside x y).1 i));
+    same = λ p inside x y. (λ i. (l.same p inside x y).0 (pairs_of p x y i), λ i. pairs_in p x y ((l.same p inside x y).1 i));
   }
 
-pub kept_live : (systems kept : List PairSystem) → AreKept systems kept → (program : Program) (schedule : Schedule) (nest : Nest) (array : ℕ) (extents : List Affine) → AreLive program schedule nest array extents systems
-    → AreLive program schedule nest array extents kept
-kept_live systems kept h program schedule nest array extents l =
-    are_live systems kept h (all_boxed nest.context nest.params extents systems l.conflicts) program schedule nest array extents l
+pub kept_pairs : (systems kept : List PairSystem) → AreKept systems kept → (program : Program) (pairs : ℕ → List ℤ → List ℤ → List ℤ → Type 0) (nest : Nest) (array : ℕ) (extents : List Affine) → HavePairs program pairs nest array extents systems
+    → HavePairs program pairs nest array extents kept
+kept_pairs systems kept h program pairs nest array extents l =
+    have_pairs systems kept h (all_boxed nest.context nest.params extents systems l.conflicts) program pairs nest array extents l

@@ -1,5 +1,5 @@
 -- Folds one after the other.
-use Rattle.std.proofs.Common.{◌≡◌, ℕ, suc, ◌+◌, ◌-◌, ◌<◌, ◌≤◌, Bool, true, false, if◌then◌else◌, List, [], ◌∷◌, ◌++◌, length, map, take, drop, Option, Some, None, refl, sym, ap, subst, ◌∙◌, ◌⊎◌, inl, inr, arith, true≢false}
+use Rattle.std.proofs.Common.{◌≡◌, ℕ, suc, ◌+◌, ◌-◌, ◌<◌, ◌≤◌, ℤ, Bool, true, false, if◌then◌else◌, List, [], ◌∷◌, ◌++◌, length, map, take, drop, Option, Some, None, refl, sym, ap, subst, ◌∙◌, ◌⊎◌, inl, inr, arith, true≢false}
 use Rattle.std.specs.Prelude.{nat_eq}
 use Rattle.std.specs.List.{All}
 use Rattle.std.proofs.Math.Numerals.{lt_of_le_of_ne}
@@ -11,7 +11,6 @@ use Rattle.affc_rows.specs.Forms.{Affine}
 use Rattle.affc_ast.specs.declared.tree.ArrayId.{ArrayId}
 use Rattle.affc_ast.specs.declared.tree.Program.{Program}
 use Rattle.affc_ast.specs.Meaning.{arrays_of}
-use Rattle.affc_trace.specs.declared.schedule.Schedule.{Schedule}
 use Rattle.affc_trace.specs.Law.{IsIn}
 use Rattle.affc_trace.specs.Orders.{AreDistinct}
 use Rattle.affc_trace.specs.Target.{numbers_in}
@@ -87,15 +86,15 @@ last_choice (x ∷ cs) new array e = by_test (nat_eq x.0.0 array) e (last_choice
     by_test true e more = absurd (none-some x.1 (sym e))
     by_test false e more = more e
 
-module _ (Answers : List ℕ → ℕ → Type 0) (program : Program) (schedule : Schedule) (bases : List (ArrayId × Basis)) where
+module _ (Answers : List ℕ → ℕ → Type 0) (program : Program) (pairs : ℕ → List ℤ → List ℤ → List ℤ → Type 0) (bases : List (ArrayId × Basis)) where
   -- ---- What is told of a fold stays true of what is left of the budget later
 
   module _ (before after : Account) (later : IsLater before after) (array : ℕ) (fold : Fold) where
-    price_later : (rows : List Affine) (price : Option Price) → IsPrice Answers program schedule before array rows price → IsPrice Answers program schedule after array rows price
+    price_later : (rows : List Affine) (price : Option Price) → IsPrice Answers program pairs before array rows price → IsPrice Answers program pairs after array rows price
     price_later rows None h = stays_spent before after later h
     price_later rows (Some price) h = h
 
-    taken_later : (given : Option Shape) (choice : Choice) → IsTaken given Answers program schedule before array fold choice → IsTaken given Answers program schedule after array fold choice
+    taken_later : (given : Option Shape) (choice : Choice) → IsTaken given Answers program pairs before array fold choice → IsTaken given Answers program pairs after array fold choice
     taken_later (Some shape) choice h = h
     taken_later None choice h = record {
       listed = h.listed;
@@ -103,16 +102,16 @@ module _ (Answers : List ℕ → ℕ → Type 0) (program : Program) (schedule :
       lowest = h.lowest;
     }
 
-    choice_later : (choice : Choice) → IsChoice Answers program schedule bases before array fold choice → IsChoice Answers program schedule bases after array fold choice
+    choice_later : (choice : Choice) → IsChoice Answers program pairs bases before array fold choice → IsChoice Answers program pairs bases after array fold choice
     choice_later choice h = record { cost = h.cost; taken = taken_later (given_for bases array (length fold.basis.rows)) choice h.taken }
 
     pub has_later : (choices choices' : List (ArrayId × Choice)) → ((c : Choice) → choice_of choices array ≡ Some c → choice_of choices' array ≡ Some c)
-        → HasChoice Answers program schedule bases before choices array fold → HasChoice Answers program schedule bases after choices' array fold
+        → HasChoice Answers program pairs bases before choices array fold → HasChoice Answers program pairs bases after choices' array fold
     has_later choices choices' stay h = record { choice = h.choice; found = stay h.choice h.found; is = choice_later h.choice h.is }
 
   -- ---- Steps
 
-  pub none_yet : (budget : Account) (n : ℕ) → n ≡ length (arrays_of program.params) → AreFoldsBelow Answers program schedule bases budget n [] []
+  pub none_yet : (budget : Account) (n : ℕ) → n ≡ length (arrays_of program.params) → AreFoldsBelow Answers program pairs bases budget n [] []
   none_yet budget n e = record {
     different = tt;
     below = λ array fold i. absurd i;
@@ -126,9 +125,9 @@ module _ (Answers : List ℕ → ℕ → Type 0) (program : Program) (schedule :
       none : (m k : ℕ) → m ≤ k → k < m → ⊥
       none m k h g = omega (arith, h, g)
 
-  module _ (before after : Account) (later : IsLater before after) (n : ℕ) (folds : List (ArrayId × Fold)) (choices : List (ArrayId × Choice)) (h : AreFoldsBelow Answers program schedule bases before n folds choices) where
+  module _ (before after : Account) (later : IsLater before after) (n : ℕ) (folds : List (ArrayId × Fold)) (choices : List (ArrayId × Choice)) (h : AreFoldsBelow Answers program pairs bases before n folds choices) where
     -- an array is left whole
-    pub one_whole : IsSpent after → AreFoldsBelow Answers program schedule bases after (n + 1) folds choices
+    pub one_whole : IsSpent after → AreFoldsBelow Answers program pairs bases after (n + 1) folds choices
     one_whole spent = record {
       different = h.different;
       below = λ array fold i. more array.0 (h.below array fold i);
@@ -147,9 +146,9 @@ module _ (Answers : List ℕ → ℕ → Type 0) (program : Program) (schedule :
 
     -- an array gets its fold
     pub one_more : (id : ArrayId) (fold : Fold) (choice : Choice) (folds' : List (ArrayId × Fold)) (choices' : List (ArrayId × Choice)) → id.0 ≡ n → folds' ≡ folds ++ (id, fold) ∷ [] → choices' ≡ choices ++ (id, choice) ∷ []
-        → IsFolded Answers program schedule bases after id.0 (fold, choice) → AreFoldsBelow Answers program schedule bases after (n + 1) folds' choices'
+        → IsFolded Answers program pairs bases after id.0 (fold, choice) → AreFoldsBelow Answers program pairs bases after (n + 1) folds' choices'
     one_more id fold choice folds' choices' number made chosen is =
-        subst (λ fs. AreFoldsBelow Answers program schedule bases after (n + 1) fs choices') (sym made) (subst (λ cs. AreFoldsBelow Answers program schedule bases after (n + 1) (folds ++ (id, fold) ∷ []) cs) (sym chosen) more)
+        subst (λ fs. AreFoldsBelow Answers program pairs bases after (n + 1) fs choices') (sym made) (subst (λ cs. AreFoldsBelow Answers program pairs bases after (n + 1) (folds ++ (id, fold) ∷ []) cs) (sym chosen) more)
       where
         last : (f : ArrayId × Fold) → f ≡ (id, fold) → f.0.0 < n + 1
         last f e = below_next f.0.0 (ap number_of e ∙ number)
@@ -190,18 +189,18 @@ module _ (Answers : List ℕ → ℕ → Type 0) (program : Program) (schedule :
             other true t = absurd (apart id.0 array number g (eqb-true id.0 array t))
             other false t = refl
 
-        more : AreFoldsBelow Answers program schedule bases after (n + 1) (folds ++ (id, fold) ∷ []) (choices ++ (id, choice) ∷ [])
+        more : AreFoldsBelow Answers program pairs bases after (n + 1) (folds ++ (id, fold) ∷ []) (choices ++ (id, choice) ∷ [])
         more = record {
           different = distinct_end folds (id, fold) h.different under_number;
           below = λ array f i. elim (in_end folds (id, fold) (array, f) i) [ inl j ↦ earlier array.0 (h.below array f j) | inr e ↦ last (array, f) e ];
-          each = λ array f i. elim (in_end folds (id, fold) (array, f) i) [ inl j ↦ h.each array f j | inr e ↦ subst (λ (g : ArrayId × Fold). IsFoldFor program schedule g.0.0 g.1) (sym e) is.is_fold ];
+          each = λ array f i. elim (in_end folds (id, fold) (array, f) i) [ inl j ↦ h.each array f j | inr e ↦ subst (λ (g : ArrayId × Fold). IsFoldFor program pairs g.0.0 g.1) (sym e) is.is_fold ];
           bound = λ array f i b. elim (in_end folds (id, fold) (array, f) i) [
             | inl j ↦ stays_spent before after later (h.bound array f j b)
             | inr e ↦ is.bound (subst (λ (g : ArrayId × Fold). HasBound g.1) e b)
           ];
           chosen = λ array f i. elim (in_end folds (id, fold) (array, f) i) [
             | inl j ↦ has_later before after later array.0 f choices (choices ++ (id, choice) ∷ []) (λ c at. choice_stays choices (id, choice) array.0 c at) (h.chosen array f j)
-            | inr e ↦ subst (λ (g : ArrayId × Fold). HasChoice Answers program schedule bases after (choices ++ (id, choice) ∷ []) g.0.0 g.1) (sym e) (record { choice = choice; found = its_choice; is = is.is_choice })
+            | inr e ↦ subst (λ (g : ArrayId × Fold). HasChoice Answers program pairs bases after (choices ++ (id, choice) ∷ []) g.0.0 g.1) (sym e) (record { choice = choice; found = its_choice; is = is.is_choice })
           ];
           not_yet = later_none;
           whole = λ array first under missing. let m = missing_before folds (id, fold) array missing in stays_spent before after later (h.whole array first (not_last array under m.1) m.0);
@@ -221,8 +220,8 @@ one_counted first next (x ∷ xs) h e = ap (λ rest. next + length rest) (take_a
 
 -- ---- The whole list
 
-module _ (Answers : List ℕ → ℕ → Type 0) (program : Program) (schedule : Schedule) (bases : List (ArrayId × Basis)) (budget : Account) (n : ℕ) (folds : List (ArrayId × Fold)) (choices : List (ArrayId × Choice))
-    (h : AreFoldsBelow Answers program schedule bases budget n folds choices) where
+module _ (Answers : List ℕ → ℕ → Type 0) (program : Program) (pairs : ℕ → List ℤ → List ℤ → List ℤ → Type 0) (bases : List (ArrayId × Basis)) (budget : Account) (n : ℕ) (folds : List (ArrayId × Fold)) (choices : List (ArrayId × Choice))
+    (h : AreFoldsBelow Answers program pairs bases budget n folds choices) where
   all_in : AreFoldsIn program folds
   all_in = record { different = h.different; each = λ array fold i. (h.each array fold i).in_program }
 
@@ -233,18 +232,18 @@ module _ (Answers : List ℕ → ℕ → Type 0) (program : Program) (schedule :
       each [] g = All-nil (λ (f : ArrayId × Fold). KeepsLimits (numbers_in program.params) f.1)
       each (f ∷ fs) g = All-cons (λ (f : ArrayId × Fold). KeepsLimits (numbers_in program.params) f.1) f fs (g f (inl refl)) (each fs (λ x i. g x (inr i)))
 
-  its_fold : (array : ℕ) (fold : Fold) → fold_of folds array ≡ Some fold → IsFoldFor program schedule array fold
+  its_fold : (array : ℕ) (fold : Fold) → fold_of folds array ≡ Some fold → IsFoldFor program pairs array fold
   its_fold array fold e =
       let r = (folds_are_found program folds array fold all_in).0 e in
-      subst (λ k. IsFoldFor program schedule k fold) r.1 (h.each r.0 fold r.2)
+      subst (λ k. IsFoldFor program pairs k fold) r.1 (h.each r.0 fold r.2)
 
   its_bound : (array : ℕ) (fold : Fold) → fold_of folds array ≡ Some fold → HasBound fold → IsSpent budget
   its_bound array fold e b = let r = (folds_are_found program folds array fold all_in).0 e in h.bound r.0 fold r.2 b
 
-  its_choice : (array : ℕ) (fold : Fold) → fold_of folds array ≡ Some fold → HasChoice Answers program schedule bases budget choices array fold
+  its_choice : (array : ℕ) (fold : Fold) → fold_of folds array ≡ Some fold → HasChoice Answers program pairs bases budget choices array fold
   its_choice array fold e =
       let r = (folds_are_found program folds array fold all_in).0 e in
-      subst (λ k. HasChoice Answers program schedule bases budget choices k fold) r.1 (h.chosen r.0 fold r.2)
+      subst (λ k. HasChoice Answers program pairs bases budget choices k fold) r.1 (h.chosen r.0 fold r.2)
 
   whole_spent : n ≡ length (arrays_of program.params) + length program.temps → IsLeftWhole program folds → IsSpent budget
   whole_spent e left =
@@ -258,7 +257,7 @@ module _ (Answers : List ℕ → ℕ → Type 0) (program : Program) (schedule :
       add_below : (a b c : ℕ) → b < c → a + b < a + c
       add_below a b c g = omega (arith, g)
 
-  pub all_made : n ≡ length (arrays_of program.params) + length program.temps → AreFoldsUnder Answers program schedule bases budget folds choices
+  pub all_made : n ≡ length (arrays_of program.params) + length program.temps → AreFoldsUnder Answers program pairs bases budget folds choices
   all_made e = record {
     in_program = all_in;
     limits = all_limited;
@@ -271,12 +270,12 @@ module _ (Answers : List ℕ → ℕ → Type 0) (program : Program) (schedule :
 
 -- ---- By another account of what is answered
 
-module _ (A B : List ℕ → ℕ → Type 0) (to : (moduli : List ℕ) (answer : ℕ) → A moduli answer → B moduli answer) (program : Program) (schedule : Schedule) (bases : List (ArrayId × Basis)) (budget : Account) where
-  price_by : (array : ℕ) (rows : List Affine) (price : Option Price) → IsPrice A program schedule budget array rows price → IsPrice B program schedule budget array rows price
+module _ (A B : List ℕ → ℕ → Type 0) (to : (moduli : List ℕ) (answer : ℕ) → A moduli answer → B moduli answer) (program : Program) (pairs : ℕ → List ℤ → List ℤ → List ℤ → Type 0) (bases : List (ArrayId × Basis)) (budget : Account) where
+  price_by : (array : ℕ) (rows : List Affine) (price : Option Price) → IsPrice A program pairs budget array rows price → IsPrice B program pairs budget array rows price
   price_by array rows None h = h
   price_by array rows (Some price) h = (h.0, to price.values price.cost h.1)
 
-  taken_by : (given : Option Shape) (array : ℕ) (fold : Fold) (choice : Choice) → IsTaken given A program schedule budget array fold choice → IsTaken given B program schedule budget array fold choice
+  taken_by : (given : Option Shape) (array : ℕ) (fold : Fold) (choice : Choice) → IsTaken given A program pairs budget array fold choice → IsTaken given B program pairs budget array fold choice
   taken_by (Some shape) array fold choice h = h
   taken_by None array fold choice h = record {
     listed = h.listed;
@@ -284,13 +283,13 @@ module _ (A B : List ℕ → ℕ → Type 0) (to : (moduli : List ℕ) (answer :
     lowest = h.lowest;
   }
 
-  choice_by : (array : ℕ) (fold : Fold) (choice : Choice) → IsChoice A program schedule bases budget array fold choice → IsChoice B program schedule bases budget array fold choice
+  choice_by : (array : ℕ) (fold : Fold) (choice : Choice) → IsChoice A program pairs bases budget array fold choice → IsChoice B program pairs bases budget array fold choice
   choice_by array fold choice h = record {
     cost = record { values = h.cost.values; are_greatest = h.cost.are_greatest; answered = to h.cost.values choice.cost h.cost.answered };
     taken = taken_by (given_for bases array (length fold.basis.rows)) array fold choice h.taken;
   }
 
-  pub folds_by : (folds : List (ArrayId × Fold)) (choices : List (ArrayId × Choice)) → AreFoldsUnder A program schedule bases budget folds choices → AreFoldsUnder B program schedule bases budget folds choices
+  pub folds_by : (folds : List (ArrayId × Fold)) (choices : List (ArrayId × Choice)) → AreFoldsUnder A program pairs bases budget folds choices → AreFoldsUnder B program pairs bases budget folds choices
   folds_by folds choices h = record {
     in_program = h.in_program;
     limits = h.limits;

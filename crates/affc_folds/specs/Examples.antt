@@ -1,6 +1,7 @@
 -- What the definitions give at small lists. Each value was found by hand from the rules.
 use Rattle.std.specs.Prelude.{◌≡◌, ℕ, ◌+◌, ◌^◌, pos, List, [], ◌∷◌, Option, Some, None, refl}
 use Rattle.affc_ast.specs.declared.tree.ArrayId.{ArrayId}
+use Rattle.affc_trace.specs.Dataflow.{LivePair}
 use Rattle.affc_trace.specs.Examples.{blur, together, two}
 use Rattle.affc_split.specs.Budgets.{Account}
 use Rattle.affc_basis.specs.declared.basis.Basis.{Basis}
@@ -79,7 +80,7 @@ LowestPrices =
     × IsLowest (onto 3) 2 4 prices
 
 abbrev pub AreOfTheBlur : List (ArrayId × Basis) → Account → List (ArrayId × Fold) → List (ArrayId × Choice) → Type 0
-AreOfTheBlur bases budget folds choices = AreFoldsUnder (Gives words_cost) blur together bases budget folds choices
+AreOfTheBlur bases budget folds choices = AreFoldsUnder (Gives words_cost) blur (LivePair blur together) bases budget folds choices
 
 abbrev pub t_has : Fold → List (ArrayId × Fold)
 t_has fold = fold_at 2 fold ∷ []

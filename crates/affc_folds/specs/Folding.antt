@@ -1,5 +1,6 @@
--- Folds of the temporaries of a program under a schedule.
-use Rattle.std.specs.Prelude.{◌≡◌, ℕ, ◌+◌, ◌<◌, ◌≤◌, ℤ, IsTrue, if◌then◌else◌, List, [], length, map, Option, Some, None, slice_get}
+-- Folds of the temporaries of a program, for the pairs of elements that are to be kept apart: those that are live together under a
+-- schedule, or others.
+use Rattle.std.specs.Prelude.{◌≡◌, ℕ, ◌+◌, ◌<◌, ◌≤◌, ℤ, IsTrue, List, [], length, map, Option, Some, None, slice_get}
 use Rattle.std.specs.List.{All}
 use Rattle.affc_rows.specs.Forms.{Affine}
 use Rattle.affc_ast.specs.declared.tree.ArrayId.{ArrayId}
@@ -7,7 +8,6 @@ use Rattle.affc_ast.specs.declared.tree.Decl.{Decl}
 use Rattle.affc_ast.specs.declared.tree.Program.{Program}
 use Rattle.affc_ast.specs.Meaning.{arrays_of}
 use Rattle.affc_trace.specs.declared.schedule.Schedule.{Schedule}
-use Rattle.affc_trace.specs.Dataflow.{LivePair}
 use Rattle.affc_trace.specs.Law.{IsIn}
 use Rattle.affc_trace.specs.Laws.{IsInContext}
 use Rattle.affc_trace.specs.Orders.{AreDistinct}
@@ -62,16 +62,16 @@ pub record HasBound (fold : Fold) : Type 0 where
 
 -- A basis with these rows comes to the needs of its rows, and to what the stored cost answers to these. Its price is missing only
 -- where no unit of the budget is left.
-abbrev pub IsPrice : (Answers : List ℕ → ℕ → Type 0) (program : Program) (schedule : Schedule) (budget : Account) (array : ℕ) (rows : List Affine) → Option Price → Type 0
-IsPrice Answers program schedule budget array rows None = IsSpent budget
-IsPrice Answers program schedule budget array rows (Some price) =
-    AreNeeds (IsInContext program) (LivePair program schedule array) rows price.values × Answers price.values price.cost
+abbrev pub IsPrice : (Answers : List ℕ → ℕ → Type 0) (program : Program) (pairs : ℕ → List ℤ → List ℤ → List ℤ → Type 0) (budget : Account) (array : ℕ) (rows : List Affine) → Option Price → Type 0
+IsPrice Answers program pairs budget array rows None = IsSpent budget
+IsPrice Answers program pairs budget array rows (Some price) =
+    AreNeeds (IsInContext program) (pairs array) rows price.values × Answers price.values price.cost
 
 -- Each of these bases comes to its price.
-pub record ArePrices (Answers : List ℕ → ℕ → Type 0) (program : Program) (schedule : Schedule) (budget : Account) (array : ℕ) (shapes : List Shape) (prices : List (Option Price)) : Type 0 where
+pub record ArePrices (Answers : List ℕ → ℕ → Type 0) (program : Program) (pairs : ℕ → List ℤ → List ℤ → List ℤ → Type 0) (budget : Account) (array : ℕ) (shapes : List Shape) (prices : List (Option Price)) : Type 0 where
   pub one_each : length prices ≡ length shapes
   pub each : (j : ℕ) (shape : Shape) (price : Option Price) → slice_get shapes j ≡ Some shape → slice_get prices j ≡ Some price
-      → IsPrice Answers program schedule budget array shape.rows price
+      → IsPrice Answers program pairs budget array shape.rows price
 
 -- None of these prices is below the cost, and none before the number-th is as low. The number-th is missing only where the
 -- fold, whose price it would be, has a bound alone.
@@ -81,37 +81,37 @@ pub record IsLowest (fold : Fold) (number cost : ℕ) (prices : List (Option Pri
   pub own : slice_get prices number ≡ Some None → HasBound fold
 
 -- The fold has the first of the listed bases that cost least.
-pub record IsCheapest (Answers : List ℕ → ℕ → Type 0) (program : Program) (schedule : Schedule) (budget : Account) (array : ℕ) (fold : Fold) (choice : Choice) : Type 0 where
+pub record IsCheapest (Answers : List ℕ → ℕ → Type 0) (program : Program) (pairs : ℕ → List ℤ → List ℤ → List ℤ → Type 0) (budget : Account) (array : ℕ) (fold : Fold) (choice : Choice) : Type 0 where
   pub listed : slice_get (listing (length fold.basis.rows)) choice.number ≡ Some (shape_of fold.basis)
-  pub prices : ArePrices Answers program schedule budget array (listing (length fold.basis.rows)) choice.prices
+  pub prices : ArePrices Answers program pairs budget array (listing (length fold.basis.rows)) choice.prices
   pub lowest : IsLowest fold choice.number choice.cost choice.prices
 
 -- the fold has the basis that is given, and there is no other; where none is given it has the cheapest
-abbrev pub IsTaken : (given : Option Shape) (Answers : List ℕ → ℕ → Type 0) (program : Program) (schedule : Schedule) (budget : Account) (array : ℕ) (fold : Fold) (choice : Choice) → Type 0
-IsTaken (Some shape) Answers program schedule budget array fold choice = (shape_of fold.basis ≡ shape) × (choice.prices ≡ [])
-IsTaken None Answers program schedule budget array fold choice = IsCheapest Answers program schedule budget array fold choice
+abbrev pub IsTaken : (given : Option Shape) (Answers : List ℕ → ℕ → Type 0) (program : Program) (pairs : ℕ → List ℤ → List ℤ → List ℤ → Type 0) (budget : Account) (array : ℕ) (fold : Fold) (choice : Choice) → Type 0
+IsTaken (Some shape) Answers program pairs budget array fold choice = (shape_of fold.basis ≡ shape) × (choice.prices ≡ [])
+IsTaken None Answers program pairs budget array fold choice = IsCheapest Answers program pairs budget array fold choice
 
 -- What is told of a fold: what the stored cost answers to the greatest values of its moduli, and why it has its basis.
-pub record IsChoice (Answers : List ℕ → ℕ → Type 0) (program : Program) (schedule : Schedule) (bases : List (ArrayId × Basis)) (budget : Account) (array : ℕ) (fold : Fold) (choice : Choice) : Type 0 where
+pub record IsChoice (Answers : List ℕ → ℕ → Type 0) (program : Program) (pairs : ℕ → List ℤ → List ℤ → List ℤ → Type 0) (bases : List (ArrayId × Basis)) (budget : Account) (array : ℕ) (fold : Fold) (choice : Choice) : Type 0 where
   pub cost : IsStoredCost Answers (IsInContext program) fold choice.cost
-  pub taken : IsTaken (given_for bases array (length fold.basis.rows)) Answers program schedule budget array fold choice
+  pub taken : IsTaken (given_for bases array (length fold.basis.rows)) Answers program pairs budget array fold choice
 
 -- among these choices
-pub record HasChoice (Answers : List ℕ → ℕ → Type 0) (program : Program) (schedule : Schedule) (bases : List (ArrayId × Basis)) (budget : Account) (choices : List (ArrayId × Choice)) (array : ℕ) (fold : Fold) : Type 0 where
+pub record HasChoice (Answers : List ℕ → ℕ → Type 0) (program : Program) (pairs : ℕ → List ℤ → List ℤ → List ℤ → Type 0) (bases : List (ArrayId × Basis)) (budget : Account) (choices : List (ArrayId × Choice)) (array : ℕ) (fold : Fold) : Type 0 where
   pub choice : Choice
   pub found : choice_of choices array ≡ Some choice
-  pub is : IsChoice Answers program schedule bases budget array fold choice
+  pub is : IsChoice Answers program pairs bases budget array fold choice
 
 -- ---- All folds
 
 -- Folds of the temporaries before array n, one for each, in their order, with a choice for each; one is missing only where no unit
 -- is left.
-pub record AreFoldsBelow (Answers : List ℕ → ℕ → Type 0) (program : Program) (schedule : Schedule) (bases : List (ArrayId × Basis)) (budget : Account) (n : ℕ) (folds : List (ArrayId × Fold)) (choices : List (ArrayId × Choice)) : Type 0 where
+pub record AreFoldsBelow (Answers : List ℕ → ℕ → Type 0) (program : Program) (pairs : ℕ → List ℤ → List ℤ → List ℤ → Type 0) (bases : List (ArrayId × Basis)) (budget : Account) (n : ℕ) (folds : List (ArrayId × Fold)) (choices : List (ArrayId × Choice)) : Type 0 where
   pub different : AreDistinct (map (λ (f : ArrayId × Fold). f.0.0) folds)
   pub below : (array : ArrayId) (fold : Fold) → IsIn (array, fold) folds → array.0 < n
-  pub each : (array : ArrayId) (fold : Fold) → IsIn (array, fold) folds → IsFoldFor program schedule array.0 fold
+  pub each : (array : ArrayId) (fold : Fold) → IsIn (array, fold) folds → IsFoldFor program pairs array.0 fold
   pub bound : (array : ArrayId) (fold : Fold) → IsIn (array, fold) folds → HasBound fold → IsSpent budget
-  pub chosen : (array : ArrayId) (fold : Fold) → IsIn (array, fold) folds → HasChoice Answers program schedule bases budget choices array.0 fold
+  pub chosen : (array : ArrayId) (fold : Fold) → IsIn (array, fold) folds → HasChoice Answers program pairs bases budget choices array.0 fold
   pub not_yet : (array : ℕ) → n ≤ array → choice_of choices array ≡ None
   pub whole : (array : ℕ) → length (arrays_of program.params) ≤ array → array < n → fold_of folds array ≡ None → IsSpent budget
 
@@ -122,15 +122,15 @@ pub record IsLeftWhole (program : Program) (folds : List (ArrayId × Fold)) : Ty
   pub stands : slice_get program.temps number ≡ Some decl
   pub unfolded : fold_of folds (length (arrays_of program.params) + number) ≡ None
 
--- Folds of a program's temporaries under a schedule, over the bases that are given or else the cheapest that are listed, with
--- moduli within the limits. Throughout the context each keeps apart what is live together, and what its marks say is true; of each
+-- Folds of a program's temporaries, over the bases that are given or else the cheapest that are listed, with moduli within the
+-- limits. Throughout the context each keeps the elements of each pair of its array apart, and what its marks say is true; of each
 -- is told what it costs, and what other bases would. A temporary without a fold, and a modulus that is marked as a bound alone,
 -- come only where no unit of the budget is left.
-pub record AreFoldsUnder (Answers : List ℕ → ℕ → Type 0) (program : Program) (schedule : Schedule) (bases : List (ArrayId × Basis)) (budget : Account) (folds : List (ArrayId × Fold)) (choices : List (ArrayId × Choice)) : Type 0 where
+pub record AreFoldsUnder (Answers : List ℕ → ℕ → Type 0) (program : Program) (pairs : ℕ → List ℤ → List ℤ → List ℤ → Type 0) (bases : List (ArrayId × Basis)) (budget : Account) (folds : List (ArrayId × Fold)) (choices : List (ArrayId × Choice)) : Type 0 where
   pub in_program : AreFoldsIn program folds
   pub limits : All (λ (f : ArrayId × Fold). KeepsLimits (numbers_in program.params) f.1) folds
-  pub obeys : (p : List ℤ) → IsInContext program p → (array : ℕ) (fold : Fold) → fold_of folds array ≡ Some fold → Obeys (LivePair program schedule array p) fold p
-  pub marks : (array : ℕ) (fold : Fold) → fold_of folds array ≡ Some fold → HasTrueMarks (IsInContext program) (LivePair program schedule array) fold
-  pub chosen : (array : ℕ) (fold : Fold) → fold_of folds array ≡ Some fold → HasChoice Answers program schedule bases budget choices array fold
+  pub obeys : (p : List ℤ) → IsInContext program p → (array : ℕ) (fold : Fold) → fold_of folds array ≡ Some fold → Obeys (pairs array p) fold p
+  pub marks : (array : ℕ) (fold : Fold) → fold_of folds array ≡ Some fold → HasTrueMarks (IsInContext program) (pairs array) fold
+  pub chosen : (array : ℕ) (fold : Fold) → fold_of folds array ≡ Some fold → HasChoice Answers program pairs bases budget choices array fold
   pub bound : (array : ℕ) (fold : Fold) → fold_of folds array ≡ Some fold → HasBound fold → IsSpent budget
   pub whole : IsLeftWhole program folds → IsSpent budget

@@ -2,8 +2,6 @@
 use Rattle.std.specs.Prelude.{◌≡◌, ◌≢◌, ℕ, ◌≤◌, ℤ, List, length, Some, None, slice_get}
 use Rattle.affc_ast.specs.declared.tree.ArrayId.{ArrayId}
 use Rattle.affc_ast.specs.declared.tree.Program.{Program}
-use Rattle.affc_trace.specs.declared.schedule.Schedule.{Schedule}
-use Rattle.affc_trace.specs.Dataflow.{LivePair}
 use Rattle.affc_trace.specs.Laws.{IsInContext}
 use Rattle.affc_trace.specs.Target.{numbers_in}
 use Rattle.affc_domain.specs.Plain.{IsPlain}
@@ -18,11 +16,11 @@ use Rattle.affc_weigh.specs.Laws.{IsStoredCost}
 use Rattle.affc_folds.specs.Folding.{given_for, HasBound, IsChoice}
 
 -- a fold for the array over a listed basis of so many dimensions: within the limits, and large enough throughout the context
-pub record IsListedFold (program : Program) (schedule : Schedule) (array dimensions : ℕ) (other : Fold) : Type 0 where
+pub record IsListedFold (program : Program) (pairs : ℕ → List ℤ → List ℤ → List ℤ → Type 0) (array dimensions : ℕ) (other : Fold) : Type 0 where
   pub number : ℕ
   pub listed : slice_get (listing dimensions) number ≡ Some (shape_of other.basis)
   pub limits : KeepsLimits (numbers_in program.params) other
-  pub obeys : (p : List ℤ) → IsInContext program p → Obeys (LivePair program schedule array p) other p
+  pub obeys : (p : List ℤ) → IsInContext program p → Obeys (pairs array p) other p
 
 -- all moduli of the fold are marked, and no price of another basis is missing
 pub record IsSettled (fold : Fold) (choice : Choice) : Type 0 where
@@ -30,9 +28,9 @@ pub record IsSettled (fold : Fold) (choice : Choice) : Type 0 where
   pub rivals : (j : ℕ) → j ≢ choice.number → slice_get choice.prices j ≢ Some None
 
 -- Where no basis is given for an array and its choice is settled, no large enough fold over a listed basis costs less.
-abbrev pub NoneCostsLess : (Answers : List ℕ → ℕ → Type 0) → Type 0
-NoneCostsLess Answers = (program : Program) (schedule : Schedule) (bases : List (ArrayId × Basis)) (budget : Account) (array : ℕ) (fold : Fold) (choice : Choice)
-    → IsPlain program → NeverFalls Answers → IsChoice Answers program schedule bases budget array fold choice
+abbrev pub NoneCostsLess : (Answers : List ℕ → ℕ → Type 0) (pairs : ℕ → List ℤ → List ℤ → List ℤ → Type 0) → Type 0
+NoneCostsLess Answers pairs = (program : Program) (bases : List (ArrayId × Basis)) (budget : Account) (array : ℕ) (fold : Fold) (choice : Choice)
+    → IsPlain program → NeverFalls Answers → IsChoice Answers program pairs bases budget array fold choice
     → given_for bases array (length fold.basis.rows) ≡ None → IsSettled fold choice
-    → (other : Fold) (cost : ℕ) → IsListedFold program schedule array (length fold.basis.rows) other
+    → (other : Fold) (cost : ℕ) → IsListedFold program pairs array (length fold.basis.rows) other
     → IsStoredCost Answers (IsInContext program) other cost → choice.cost ≤ cost

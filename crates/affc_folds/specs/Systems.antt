@@ -1,4 +1,4 @@
--- The live pairs of an array as systems.
+-- The pairs of an array as systems.
 use Rattle.std.specs.Prelude.{◌≡◌, ◌↔◌, ◌⊎◌, ◌+◌, ◌≤◌, ◌++◌, ℕ, ℤ, List, length, map}
 use Rattle.std.specs.List.{All, Contains}
 use Rattle.affc_rows.specs.Forms.{Affine}
@@ -9,18 +9,16 @@ use Rattle.affc_system.specs.ElementPairs.{IsPairOf}
 use Rattle.affc_system.specs.declared.pairs.PairSystem.{PairSystem}
 use Rattle.affc_split.specs.declared.maximum.region.Region.{Region}
 use Rattle.affc_ast.specs.declared.tree.Program.{Program}
-use Rattle.affc_trace.specs.declared.schedule.Schedule.{Schedule}
-use Rattle.affc_trace.specs.Dataflow.{LivePair}
 use Rattle.affc_trace.specs.Laws.{IsInContext}
 use Rattle.affc_nest.specs.declared.nest.Nest.{Nest}
 use Rattle.affc_conflicts.specs.Conditions.{IsConflict}
 use Rattle.affc_products.specs.Products.{choices, tallest}
 use Rattle.affc_life.specs.declared.clash.ClashProduct.{ClashProduct}
 
--- The pairs of these systems are the live pairs of the array, throughout the context.
-pub record AreLive (program : Program) (schedule : Schedule) (nest : Nest) (array : ℕ) (extents : List Affine) (systems : List PairSystem) : Type 0 where
+-- The pairs of these systems are those of the array, throughout the context.
+pub record HavePairs (program : Program) (pairs : ℕ → List ℤ → List ℤ → List ℤ → Type 0) (nest : Nest) (array : ℕ) (extents : List Affine) (systems : List PairSystem) : Type 0 where
   pub conflicts : All (IsConflict nest.context nest.params extents) systems
-  pub pairs : (p : List ℤ) → IsInContext program p → (x y : List ℤ) → IsPairOf systems p x y ↔ LivePair program schedule array p x y
+  pub same : (p : List ℤ) → IsInContext program p → (x y : List ℤ) → IsPairOf systems p x y ↔ pairs array p x y
 
 -- a copy of a system with its pairs
 pub record IsCopy (of system : PairSystem) : Type 0 where

@@ -1,6 +1,7 @@
 //! The folds of all temporaries.
 ghost use Rattle.std.specs.Prelude.{◌≡◌, ◌+◌, ◌≤◌, IfOk, IfErr, OnOk, Some, length, drop, slice_get};
 ghost use Rattle.affc_ast.specs.Meaning.{arrays_of};
+ghost use Rattle.affc_trace.specs.Dataflow.{LivePair};
 ghost use Rattle.affc_split.specs.Budgets.{IsLater};
 ghost use Rattle.affc_quast.specs.Seen.{trees_of};
 ghost use Rattle.affc_weigh.specs.Costs.{NeverFalls};
@@ -38,8 +39,8 @@ fn add_fold<F: Cost>(
     requires analysed { IsAnalysed asked.now.program.now asked.now.nest.now (trees_of asked.now.flow.now) asked.now.schedule.now }
     requires there { slice_get asked.now.nest.now.arrays array.0 ≡ Some info.now }
     requires temporary { length (arrays_of asked.now.program.now.params) ≤ array.0 }
-    requires below { AreFoldsBelow (F.answers cost.now.cost) asked.now.program.now asked.now.schedule.now asked.now.bases.now budget.old array.0 folded.old.folds folded.old.choices }
-    ensures more { OnOk result (AreFoldsBelow (F.answers cost.now.cost) asked.now.program.now asked.now.schedule.now asked.now.bases.now budget.new (array.0 + 1) folded.new.folds folded.new.choices) }
+    requires below { AreFoldsBelow (F.answers cost.now.cost) asked.now.program.now (LivePair asked.now.program.now asked.now.schedule.now) asked.now.bases.now budget.old array.0 folded.old.folds folded.old.choices }
+    ensures more { OnOk result (AreFoldsBelow (F.answers cost.now.cost) asked.now.program.now (LivePair asked.now.program.now asked.now.schedule.now) asked.now.bases.now budget.new (array.0 + 1) folded.new.folds folded.new.choices) }
     ensures later { IsLater budget.old budget.new }
     ensures stop { IfErr result (λ e. e ≡ Stop.Memory) }
 {
@@ -66,8 +67,8 @@ fn add_folds<F: Cost>(
     requires analysed { IsAnalysed asked.now.program.now asked.now.nest.now (trees_of asked.now.flow.now) asked.now.schedule.now }
     requires rest { arrays.now ≡ drop first asked.now.nest.now.arrays }
     requires temporaries { length (arrays_of asked.now.program.now.params) ≤ first }
-    requires below { AreFoldsBelow (F.answers cost.now.cost) asked.now.program.now asked.now.schedule.now asked.now.bases.now budget.old first folded.old.folds folded.old.choices }
-    ensures all { OnOk result (AreFoldsBelow (F.answers cost.now.cost) asked.now.program.now asked.now.schedule.now asked.now.bases.now budget.new (first + length arrays.now) folded.new.folds folded.new.choices) }
+    requires below { AreFoldsBelow (F.answers cost.now.cost) asked.now.program.now (LivePair asked.now.program.now asked.now.schedule.now) asked.now.bases.now budget.old first folded.old.folds folded.old.choices }
+    ensures all { OnOk result (AreFoldsBelow (F.answers cost.now.cost) asked.now.program.now (LivePair asked.now.program.now asked.now.schedule.now) asked.now.bases.now budget.new (first + length arrays.now) folded.new.folds folded.new.choices) }
     ensures later { IsLater budget.old budget.new }
     ensures stop { IfErr result (λ e. e ≡ Stop.Memory) }
 {
@@ -100,7 +101,7 @@ pub fn fold_all<F: Cost>(
     budget: &mut Budget,
 ) -> Result<Folded, Stop>
     requires analysed { IsAnalysed program.now nest.now (trees_of flow.now) schedule.now }
-    ensures folds { IfOk result (λ folded. AreFoldsUnder (F.answers cost.now.cost) program.now schedule.now bases.now budget.new folded.folds folded.choices) }
+    ensures folds { IfOk result (λ folded. AreFoldsUnder (F.answers cost.now.cost) program.now (LivePair program.now schedule.now) bases.now budget.new folded.folds folded.choices) }
     ensures later { IsLater budget.old budget.new }
     ensures stop { IfErr result (λ e. e ≡ Stop.Memory) }
 {

@@ -2,6 +2,7 @@
 ghost use Rattle.std.specs.Prelude.{◌≡◌, ◌+◌, ◌≤◌, List, [], ◌∷◌, ◌++◌, ℤ, IsTrue, IfOk, IfErr, OnOk, Some, length, map, flat_map, slice_get};
 ghost use Rattle.std.specs.List.{All};
 ghost use Rattle.affc_system.specs.Systems.{IsRow};
+ghost use Rattle.affc_trace.specs.Dataflow.{LivePair};
 ghost use Rattle.affc_split.specs.Budgets.{IsLater};
 ghost use Rattle.affc_split.specs.maximum.Regions.{InRegion};
 ghost use Rattle.affc_quast.specs.Seen.{trees_of};
@@ -9,7 +10,7 @@ ghost use Rattle.affc_products.specs.Products.{longest, tallest};
 ghost use Rattle.affc_life.specs.Clashes.{clash_of, clashes};
 ghost use Rattle.affc_life.specs.Products.{systems_in};
 ghost use Rattle.affc_folds.specs.Folding.{IsAnalysed, IsSpent};
-ghost use Rattle.affc_folds.specs.Systems.{AreLive, IsCopy, AreKept, Adds, IsOver, KeepsRoom, chosen_system, choices_behind};
+ghost use Rattle.affc_folds.specs.Systems.{HavePairs, IsCopy, AreKept, Adds, IsOver, KeepsRoom, chosen_system, choices_behind};
 
 use crate::asked::Compilation;
 use affc_ast::tree::ArrayId;
@@ -261,7 +262,7 @@ pub(crate) fn live_systems(
 ) -> Result<Vec<PairSystem>, Stop>
     requires analysed { IsAnalysed asked.now.program.now asked.now.nest.now (trees_of asked.now.flow.now) asked.now.schedule.now }
     requires there { slice_get asked.now.nest.now.arrays array.0 ≡ Some info.now }
-    ensures live { IfOk result (λ systems. AreLive asked.now.program.now asked.now.schedule.now asked.now.nest.now array.0 info.now.extents systems.items) }
+    ensures live { IfOk result (λ systems. HavePairs asked.now.program.now (LivePair asked.now.program.now asked.now.schedule.now) asked.now.nest.now array.0 info.now.extents systems.items) }
     ensures later { IsLater budget.old budget.new }
     ensures stop { IfErr result (λ e. e ≡ Stop.Budget → IsSpent budget.new) }
 {

@@ -4,6 +4,7 @@ ghost use Rattle.std.specs.List.{All};
 ghost use Rattle.affc_rows.specs.Forms.{Affine};
 ghost use Rattle.affc_system.specs.ElementPairs.{IsPairOf};
 ghost use Rattle.affc_ast.specs.Meaning.{arrays_of};
+ghost use Rattle.affc_trace.specs.Dataflow.{LivePair};
 ghost use Rattle.affc_split.specs.Budgets.{IsLater};
 ghost use Rattle.affc_basis.specs.declared.fold.Mark.TheVariants.{Bound};
 ghost use Rattle.affc_basis.specs.declared.fold.Modulus.{Modulus as OneModulus};
@@ -82,7 +83,7 @@ fn fold_along(
     requires temporary { IsTemporary temporary.now }
     requires rows { length basis.now.rows ≡ length temporary.now.info.now.extents }
     ensures shape { IfOk result (λ fold. shape_of fold.basis ≡ shape_of basis.now) }
-    ensures fold { IfOk result (λ fold. IsFoldFor temporary.now.asked.program.now temporary.now.asked.schedule.now temporary.now.array.0 fold) }
+    ensures fold { IfOk result (λ fold. IsFoldFor temporary.now.asked.program.now (LivePair temporary.now.asked.program.now temporary.now.asked.schedule.now) temporary.now.array.0 fold) }
     ensures bound { IfOk result (λ fold. HasBound fold → IsSpent budget.new) }
     ensures later { IsLater budget.old budget.new }
     ensures stop { IfErr result (λ e. e ≡ Stop.Memory) }
@@ -248,7 +249,7 @@ fn fold_cheapest<F: Cost>(
     requires temporary { length (arrays_of asked.now.program.now.params) ≤ array.0 }
     requires none_given { given_for asked.now.bases.now array.0 (length info.now.extents) ≡ None }
     ensures none { IfOk result (λ taken. IfNone taken (IsSpent budget.new)) }
-    ensures some { IfOk result (λ taken. IfSome taken (IsFolded (F.answers cost.now.cost) asked.now.program.now asked.now.schedule.now asked.now.bases.now budget.new array.0)) }
+    ensures some { IfOk result (λ taken. IfSome taken (IsFolded (F.answers cost.now.cost) asked.now.program.now (LivePair asked.now.program.now asked.now.schedule.now) asked.now.bases.now budget.new array.0)) }
     ensures later { IsLater budget.old budget.new }
     ensures stop { IfErr result (λ e. e ≡ Stop.Memory) }
 {
@@ -298,7 +299,7 @@ fn fold_given<F: Cost>(
     requires given { given_for asked.now.bases.now array.0 (length info.now.extents) ≡ Some (shape_of basis.now) }
     requires rows { length basis.now.rows ≡ length info.now.extents }
     ensures none { IfOk result (λ taken. IfNone taken (IsSpent budget.new)) }
-    ensures some { IfOk result (λ taken. IfSome taken (IsFolded (F.answers cost.now.cost) asked.now.program.now asked.now.schedule.now asked.now.bases.now budget.new array.0)) }
+    ensures some { IfOk result (λ taken. IfSome taken (IsFolded (F.answers cost.now.cost) asked.now.program.now (LivePair asked.now.program.now asked.now.schedule.now) asked.now.bases.now budget.new array.0)) }
     ensures later { IsLater budget.old budget.new }
     ensures stop { IfErr result (λ e. e ≡ Stop.Memory) }
 {
@@ -342,7 +343,7 @@ pub(crate) fn fold_array<F: Cost>(
     requires there { slice_get asked.now.nest.now.arrays array.0 ≡ Some info.now }
     requires temporary { length (arrays_of asked.now.program.now.params) ≤ array.0 }
     ensures none { IfOk result (λ taken. IfNone taken (IsSpent budget.new)) }
-    ensures some { IfOk result (λ taken. IfSome taken (IsFolded (F.answers cost.now.cost) asked.now.program.now asked.now.schedule.now asked.now.bases.now budget.new array.0)) }
+    ensures some { IfOk result (λ taken. IfSome taken (IsFolded (F.answers cost.now.cost) asked.now.program.now (LivePair asked.now.program.now asked.now.schedule.now) asked.now.bases.now budget.new array.0)) }
     ensures later { IsLater budget.old budget.new }
     ensures stop { IfErr result (λ e. e ≡ Stop.Memory) }
 {

@@ -3,8 +3,6 @@ use Rattle.std.specs.Prelude.{◌≡◌, ℕ, nat_eq, ℤ, ◌&&◌, if◌then�
 use Rattle.affc_rows.specs.Forms.{Affine}
 use Rattle.affc_ast.specs.declared.tree.ArrayId.{ArrayId}
 use Rattle.affc_ast.specs.declared.tree.Program.{Program}
-use Rattle.affc_trace.specs.declared.schedule.Schedule.{Schedule}
-use Rattle.affc_trace.specs.Dataflow.{LivePair}
 use Rattle.affc_trace.specs.Laws.{IsInContext}
 use Rattle.affc_trace.specs.Target.{numbers_in}
 use Rattle.affc_basis.specs.declared.basis.Basis.{Basis}
@@ -28,10 +26,10 @@ abbrev pub HasTrueMarks : (InContext : List ℤ → Type 0) (pairs : List ℤ �
 HasTrueMarks InContext pairs fold =
     (k : ℕ) (row : Affine) (m : Modulus) → slice_get fold.basis.rows k ≡ Some row → slice_get fold.moduli k ≡ Some m → IsTrueMark InContext pairs fold.basis.rows k row m
 
--- A fold of a temporary. Throughout the context it keeps apart what is live together under the schedule, and what its marks say
--- of its moduli is true.
-pub record IsFoldFor (program : Program) (schedule : Schedule) (array : ℕ) (fold : Fold) : Type 0 where
+-- A fold of a temporary. Throughout the context it keeps the elements of each pair of the array apart, and what its marks say of
+-- its moduli is true.
+pub record IsFoldFor (program : Program) (pairs : ℕ → List ℤ → List ℤ → List ℤ → Type 0) (array : ℕ) (fold : Fold) : Type 0 where
   pub in_program : IsFoldIn program array fold
   pub limits : KeepsLimits (numbers_in program.params) fold
-  pub obeys : (p : List ℤ) → IsInContext program p → Obeys (LivePair program schedule array p) fold p
-  pub marks : HasTrueMarks (IsInContext program) (LivePair program schedule array) fold
+  pub obeys : (p : List ℤ) → IsInContext program p → Obeys (pairs array p) fold p
+  pub marks : HasTrueMarks (IsInContext program) (pairs array) fold

@@ -4,6 +4,7 @@ use Rattle.affc_ast.specs.declared.tree.ArrayId.{ArrayId}
 use Rattle.affc_ast.specs.declared.tree.Program.{Program}
 use Rattle.affc_grammar.specs.Reads.{Reads}
 use Rattle.affc_cprint.proofs.Converse.{reads_back}
+use Rattle.affc_trace.specs.Dataflow.{LivePair}
 use Rattle.affc_trace.specs.Target.{IsScheduleOf, within_limits}
 use Rattle.affc_trace.specs.declared.schedule.Schedule.{Schedule}
 use Rattle.affc_domain.specs.Plain.{IsPlain}
@@ -66,7 +67,7 @@ decided program plan certificate shown folds has names own fits accepted all =
       within = stays_within program plan.schedule trees said s.0 has.near;
       written = written_throughout program plan.schedule trees said s.0 has names own;
       legal = s.0.legal;
-      fold_all = fold_all program plan.schedule own shown folds s.1 all;
+      fold_all = fold_all program (LivePair program plan.schedule) own shown folds s.1 all;
     }
 
 -- the same of a nest as the code holds it

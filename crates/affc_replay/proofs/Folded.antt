@@ -1,5 +1,5 @@
 -- The folds that a certificate shows, with empty ones, are folds of all temporaries.
-use Rattle.std.proofs.Common.{◌≡◌, ℕ, zero, suc, ◌+◌, ◌<◌, nat_eq, nat_lt, Bool, true, false, true≢false, ◌&&◌, IsTrue, if◌then◌else◌, List, [], ◌∷◌, ◌++◌, length, map, Some, refl, sym, ap, subst, ◌∙◌, inl, inr, arith, ◌⊎◌}
+use Rattle.std.proofs.Common.{◌≡◌, ℕ, zero, suc, ◌+◌, ◌<◌, nat_eq, nat_lt, ℤ, Bool, true, false, true≢false, ◌&&◌, IsTrue, if◌then◌else◌, List, [], ◌∷◌, ◌++◌, length, map, Some, refl, sym, ap, subst, ◌∙◌, inl, inr, arith, ◌⊎◌}
 use Rattle.std.specs.Prelude.{slice_get, option_map}
 use Rattle.std.proofs.lemmas.Bool.{and_parts, eqb-true, ltb-true, lt-ltb}
 use Rattle.std.proofs.lemmas.Option.{none-some, same_Some, slice_get-map}
@@ -7,8 +7,6 @@ use Rattle.affc_rows.specs.Forms.{Affine}
 use Rattle.affc_ast.specs.declared.tree.ArrayId.{ArrayId}
 use Rattle.affc_ast.specs.declared.tree.Program.{Program}
 use Rattle.affc_ast.specs.Meaning.{arrays_of}
-use Rattle.affc_trace.specs.declared.schedule.Schedule.{Schedule}
-use Rattle.affc_trace.specs.Dataflow.{LivePair}
 use Rattle.affc_trace.specs.Law.{IsIn}
 use Rattle.affc_trace.specs.Laws.{IsInContext}
 use Rattle.affc_trace.specs.Orders.{AreDistinct}
@@ -154,8 +152,8 @@ none_many : {A : Type 0} (xs : List A) → length xs ≡ 0 → xs ≡ []
 none_many [] e = refl
 none_many (x ∷ xs) e = absurd (omega (arith, e))
 
-module _ (program : Program) (schedule : Schedule) (own : HasOwnTemporaries program) where
-  empty_for : (array : ArrayId) (fold : Fold) → IsIn array.0 (scalars_from 0 (nest_of program).arrays) → fold.basis.rows ≡ [] → IsFoldFor program schedule array.0 fold
+module _ (program : Program) (pairs : ℕ → List ℤ → List ℤ → List ℤ → Type 0) (own : HasOwnTemporaries program) where
+  empty_for : (array : ArrayId) (fold : Fold) → IsIn array.0 (scalars_from 0 (nest_of program).arrays) → fold.basis.rows ≡ [] → IsFoldFor program pairs array.0 fold
   empty_for array fold i empty =
       let arrays = (nest_of program).arrays in
       let s = scalar_in 0 arrays array.0 i in
@@ -182,8 +180,8 @@ module _ (program : Program) (schedule : Schedule) (own : HasOwnTemporaries prog
 
   -- ---- All folds
 
-  module _ (shown folds : List (ArrayId × Fold)) (right : AreRightFolds program schedule shown) (all : AreAll (nest_of program) shown folds) where
-    of_both : (array : ArrayId) (fold : Fold) → IsIn (array, fold) folds → IsFoldFor program schedule array.0 fold
+  module _ (shown folds : List (ArrayId × Fold)) (right : AreRightFolds program pairs shown) (all : AreAll (nest_of program) shown folds) where
+    of_both : (array : ArrayId) (fold : Fold) → IsIn (array, fold) folds → IsFoldFor program pairs array.0 fold
     of_both array fold i = elim (in_append shown all.scalars (array, fold) (subst (IsIn (array, fold)) all.both i)) [
       | inl j ↦ right.each array fold j
       | inr j ↦ empty_for array fold (subst (IsIn array.0) all.are_scalars.of_arrays (to_map number_of all.scalars (array, fold) j)) (all_at (λ (f : ArrayId × Fold). f.1.basis.rows ≡ []) all.scalars (array, fold) all.are_scalars.empty j)
@@ -222,15 +220,15 @@ module _ (program : Program) (schedule : Schedule) (own : HasOwnTemporaries prog
         none : (n : ℕ) → 0 + n ≡ n
         none n = omega arith
 
-    pub fold_all : FoldAll program schedule folds
+    pub fold_all : FoldAll program pairs folds
     fold_all = record {
       in_program = in_program;
       limits = all_from (λ (f : ArrayId × Fold). KeepsLimits (numbers_in program.params) f.1) folds (λ f i. (of_both f.0 f.1 i).limits);
       obeys = λ p inside array fold e.
           let r = (folds_are_found program folds array fold in_program).0 e in
-          subst (λ n. Obeys (LivePair program schedule n p) fold p) r.1 ((of_both r.0 fold r.2).obeys p inside);
+          subst (λ n. Obeys (pairs n p) fold p) r.1 ((of_both r.0 fold r.2).obeys p inside);
       marks = λ array fold e.
           let r = (folds_are_found program folds array fold in_program).0 e in
-          subst (λ n. HasTrueMarks (IsInContext program) (LivePair program schedule n) fold) r.1 ((of_both r.0 fold r.2).marks);
+          subst (λ n. HasTrueMarks (IsInContext program) (pairs n) fold) r.1 ((of_both r.0 fold r.2).marks);
       all = none_whole;
     }

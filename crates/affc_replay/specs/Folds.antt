@@ -3,8 +3,6 @@ use Rattle.std.specs.Prelude.{◌≡◌, ℕ, ◌+◌, nat_eq, ℤ, ◌&&◌, if
 use Rattle.std.specs.List.{All}
 use Rattle.affc_ast.specs.declared.tree.ArrayId.{ArrayId}
 use Rattle.affc_ast.specs.declared.tree.Program.{Program}
-use Rattle.affc_trace.specs.declared.schedule.Schedule.{Schedule}
-use Rattle.affc_trace.specs.Dataflow.{LivePair}
 use Rattle.affc_trace.specs.Laws.{IsInContext}
 use Rattle.affc_basis.specs.declared.fold.Fold.{Fold}
 use Rattle.affc_basis.specs.FoldLists.{AreFoldsIn}
@@ -32,11 +30,11 @@ pub record AreAll (nest : Nest) (shown folds : List (ArrayId × Fold)) : Type 0 
   pub are_scalars : AreEmptyFolds (scalars_from 0 nest.arrays) scalars
   pub both : folds ≡ shown ++ scalars
 
--- A fold for each temporary of a program, with moduli within the limits. Throughout the context each keeps apart what is live
--- together under the schedule, and what its marks say of its moduli is true.
-pub record FoldAll (program : Program) (schedule : Schedule) (folds : List (ArrayId × Fold)) : Type 0 where
+-- A fold for each temporary of a program, with moduli within the limits. Throughout the context each keeps the elements of each pair
+-- of its array apart, and what its marks say of its moduli is true.
+pub record FoldAll (program : Program) (pairs : ℕ → List ℤ → List ℤ → List ℤ → Type 0) (folds : List (ArrayId × Fold)) : Type 0 where
   pub in_program : AreFoldsIn program folds
   pub limits : KeepLimits program folds
-  pub obeys : (p : List ℤ) → IsInContext program p → (array : ℕ) (fold : Fold) → fold_of folds array ≡ Some fold → Obeys (LivePair program schedule array p) fold p
-  pub marks : (array : ℕ) (fold : Fold) → fold_of folds array ≡ Some fold → HasTrueMarks (IsInContext program) (LivePair program schedule array) fold
+  pub obeys : (p : List ℤ) → IsInContext program p → (array : ℕ) (fold : Fold) → fold_of folds array ≡ Some fold → Obeys (pairs array p) fold p
+  pub marks : (array : ℕ) (fold : Fold) → fold_of folds array ≡ Some fold → HasTrueMarks (IsInContext program) (pairs array) fold
   pub all : ¬ (IsLeftWhole program folds)

@@ -4,6 +4,7 @@ use Rattle.affc_ast.specs.declared.tree.ArrayId.{ArrayId}
 use Rattle.affc_ast.specs.declared.tree.Decl.{Decl}
 use Rattle.affc_ast.specs.declared.tree.Program.{Program}
 use Rattle.affc_ast.specs.Meaning.{arrays_of}
+use Rattle.affc_trace.specs.Dataflow.{LivePair}
 use Rattle.affc_trace.specs.Target.{IsScheduleOf, within_limits}
 use Rattle.affc_domain.specs.Arrays.{declared_arrays}
 use Rattle.affc_domain.specs.Plain.{IsPlain}
@@ -45,7 +46,7 @@ pub record IsDecided (program : Program) (plan : Plan) (certificate : List ℕ) 
   pub within : StaysWithin program
   pub written : WrittenThroughout program
   pub legal : LegalThroughout program plan.schedule
-  pub fold_all : FoldAll program plan.schedule folds
+  pub fold_all : FoldAll program (LivePair program plan.schedule) folds
 
 -- text and report are made with such folds
 pub record IsReplayed (program : Program) (plan : Plan) (certificate text report : List ℕ) : Type 0 where

@@ -3,6 +3,7 @@ use Rattle.std.specs.Prelude.{◌≡◌, ℕ, false, List, [], Some}
 use Rattle.affc_ast.specs.Compiles.{CompilesText}
 use Rattle.affc_ast.specs.declared.tree.ArrayId.{ArrayId}
 use Rattle.affc_grammar.specs.Reads.{Reads, ReadsWide}
+use Rattle.affc_trace.specs.Dataflow.{LivePair}
 use Rattle.affc_trace.specs.Laws.{in_target_order}
 use Rattle.affc_basis.specs.declared.fold.Fold.{Fold}
 use Rattle.affc_basis.specs.Folds.{place}
@@ -40,5 +41,5 @@ pub record ReplaysTo (source schedule certificate text report : List ℕ) : Type
   pub legal : LegalThroughout compiles.source plan.schedule
   pub accepted : IsAccepted (nest_of compiles.source) plan certificate shown
   pub are_all : AreAll (nest_of compiles.source) shown folds
-  pub fold_all : FoldAll compiles.source plan.schedule folds
+  pub fold_all : FoldAll compiles.source (LivePair compiles.source plan.schedule) folds
   pub told : report ≡ report_text compiles.source folds [] scanned.loose.items

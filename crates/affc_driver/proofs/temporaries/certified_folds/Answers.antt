@@ -1,3 +1,4 @@
+use Rattle.affc_trace.specs.Dataflow.{LivePair}
 use Rattle.affc_quast.specs.Seen.{trees_of}
 use Rattle.affc_life.proofs.FoundLemmas.{found_trees_keep_limits}
 use Rattle.affc_driver.proofs.Folded.{decided}
@@ -15,7 +16,7 @@ pub returns-in-Ok-clause-decided : goal.returns-in-Ok-clause-decided
 returns-in-Ok-clause-decided g c =
     let A = g.F.Cost.answers c.args.cost.now.cost in
     let are =
-    still_folds A c.args.compiled.now.program.now c.args.compiled.now.plan.now.schedule c.args.compiled.now.plan.now.folds c.folds_of.new.budget c.certify.new.budget c.certify.ensures.later c.in_ok-folds.field-0.folds c.in-Ok.field-0.folds c.in_ok-folds.field-0.choices c.in_ok-folds.ensures.folds
+    still_folds A c.args.compiled.now.program.now (LivePair c.args.compiled.now.program.now c.args.compiled.now.plan.now.schedule) c.args.compiled.now.plan.now.folds c.folds_of.new.budget c.certify.new.budget c.certify.ensures.later c.in_ok-folds.field-0.folds c.in-Ok.field-0.folds c.in_ok-folds.field-0.choices c.in_ok-folds.ensures.folds
     c.in-Ok.ensures.left in
     decided A c.args.compiled.now.program.now c.args.compiled.now.plan.now c.certify.new.budget (trees_of c.in_ok-flow.flow) c.in-Ok.field-0.folds c.in_ok-folds.field-0.choices c.requires.compiled.within c.in_ok-flow.ensures.named c.in_ok-flow.ensures.legal are
 
