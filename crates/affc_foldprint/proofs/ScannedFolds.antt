@@ -1,5 +1,5 @@
 -- The loops of the folded program, as they are scanned, compile the source.
-use Rattle.std.proofs.Common.{sym, subst, refl}
+use Rattle.std.proofs.Common.{sym, subst}
 use Rattle.affc_ast.specs.Compiles.{Compiles}
 use Rattle.affc_grammar.specs.Reads.{WellNamed}
 use Rattle.affc_trace.specs.declared.schedule.Schedule.TheVariants.{Source, Time}
