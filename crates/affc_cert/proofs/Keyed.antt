@@ -1,5 +1,5 @@
 -- The object of a certificate: what stands under each key.
-use Rattle.affc_certvalue.proofs.Keyed.{Part, other_keys, with_keys, these}
+use Rattle.affc_certvalue.proofs.Keyed.{Field, other_keys, with_keys, these}
 use Rattle.affc_certvalue.proofs.Steps.{worse_fine}
 use Rattle.affc_certvalue.specs.Keys.{has_keys}
 use Rattle.affc_certvalue.specs.Verdicts.{worse, at_key, members}
@@ -13,7 +13,7 @@ use Rattle.std.proofs.Common.{◌≡◌, ℕ, List, [], ◌∷◌, length, true,
 abbrev pub names : List (List ℕ)
 names = codes "affc" ∷ codes "context" ∷ codes "flow" ∷ codes "folds" ∷ codes "proofs" ∷ []
 
-abbrev parts : (f g h i j : Data → Verdict) → List Part
+abbrev parts : (f g h i j : Data → Verdict) → List Field
 parts f g h i j = (codes "affc", f) ∷ (codes "context", g) ∷ (codes "flow", h) ∷ (codes "folds", i) ∷ (codes "proofs", j) ∷ []
 
 whole_at : (f g h i j : Data → Verdict) (ds : List Data) → length ds ≡ 5

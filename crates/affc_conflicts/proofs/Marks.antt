@@ -1,23 +1,22 @@
 -- What the rows of a mark show.
-use Rattle.std.proofs.Common.{◌≡◌, ◌⊎◌, inl, inr, ℕ, zero, suc, ◌+◌, ◌<◌, ◌≤◌, List, [], ◌∷◌, ◌++◌, length, take, ℤ, pos, negsuc, ◌+ℤ◌, ◌-ℤ◌, ◌*ℤ◌, ◌≤ℤ◌, ◌<ℤ◌, neg_ℤ, refl, sym, ap, subst, ◌∙◌, arith}
+use Rattle.std.proofs.Common.{◌≡◌, inl, inr, ℕ, zero, suc, ◌+◌, ◌<◌, ◌≤◌, List, [], ◌∷◌, ◌++◌, length, take, ℤ, pos, negsuc, ◌+ℤ◌, ◌-ℤ◌, ◌*ℤ◌, ◌≤ℤ◌, ◌<ℤ◌, neg_ℤ, refl, sym, ap, subst, ◌∙◌, arith}
 use Rattle.std.specs.Prelude.{unsigned_abs, slice_get, Some}
-use Rattle.std.specs.List.{All, Contains}
 use Rattle.std.proofs.lemmas.Int.{ints}
 use Rattle.std.proofs.lemmas.Option.{slice_get_within, same_Some}
 use Rattle.affc_rows.specs.Forms.{Affine, HaveColumns, dot, value, values_of, mixed_form}
 use Rattle.affc_rows.proofs.ValueLemmas.{value-mixed, length-mixed}
-use Rattle.affc_system.specs.Systems.{Rows, Meets, IsPoint, HasNoPoint}
+use Rattle.affc_system.specs.Systems.{Rows, IsPoint, HasNoPoint}
 use Rattle.affc_system.specs.ElementPairs.{IsPairOf}
 use Rattle.affc_system.specs.declared.pairs.PairSystem.{PairSystem}
 use Rattle.affc_system.proofs.SystemLemmas.{point_of_more_rows, point_of_fewer_rows}
 use Rattle.affc_ast.specs.declared.tree.Rel.TheVariants.{Less, Equal}
 use Rattle.affc_domain.proofs.FormLemmas.{number_value, number_width}
 use Rattle.affc_basis.specs.Slices.{minus, along, InSlice}
-use Rattle.affc_basis.specs.Folds.{IsEnough, IsLeastMark}
+use Rattle.affc_basis.specs.Folds.{IsLeastMark}
 use Rattle.affc_nest.specs.Domains.{gap_row, compare_rows, number_form}
 use Rattle.affc_nest.proofs.DomainLemmas.{Met, from_all, met_both, no_gap_down, rows_say, say_rows}
 use Rattle.affc_conflicts.specs.Conditions.{InContext}
-use Rattle.affc_conflicts.specs.Questions.{context_system, greater_question, distance, agree_rows, slice_system, over_columns, shown_system}
+use Rattle.affc_conflicts.specs.Questions.{context_system, greater_question, distance, agree_rows, slice_system, over_columns}
 use Rattle.affc_conflicts.specs.Laws.{IsOver, PairIsShown}
 use Rattle.affc_conflicts.proofs.Turned.{along-turned}
 use Rattle.affc_conflicts.proofs.Distances.{width_of_distance, value_of_distance, value_over_columns, width_over_columns}

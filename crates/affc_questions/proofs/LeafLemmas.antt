@@ -42,13 +42,13 @@ use Rattle.affc_questions.proofs.SizeLemmas.{sides_rows, lights_broad}
 pub scheduled : (nest : Nest) → IsNest nest → IsScheduled nest Source
 scheduled nest n = record { program = n.program; has = n.has; is = n.is; fits = tt; slight = refl }
 
--- ---- A living statement
+-- ---- A part that can have instances
 
 module _ (nest : Nest) (n : IsNest nest) (e : Entry) (l : IsLiving nest e) where
   pub domain_columns : HaveColumns (length nest.params + length e.loops) e.domain.rows
   domain_columns =
       subst (λ (x : Nest). HaveColumns (length x.params + length e.loops) e.domain.rows) (sym n.is)
-      (domain_wide n.program n.has e.statement e (entry_at n.program n.has e (subst (λ (x : Nest). IsIn e x.entries) n.is l.there)) l.alive)
+      (domain_wide n.program n.has e.part e (entry_at n.program n.has e (subst (λ (x : Nest). IsIn e x.entries) n.is l.there)) l.alive)
 
   pub domain_rows_fit : (rows : List Affine) → All (IsRow e.domain.columns) rows → All (IsRow (length nest.params + length e.loops)) rows
   domain_rows_fit rows fit = subst (λ k. All (IsRow k) rows) (stands_in nest n e l.there).columns fit
@@ -56,7 +56,7 @@ module _ (nest : Nest) (n : IsNest nest) (e : Entry) (l : IsLiving nest e) where
   pub subs_rows : (x : Access) → IsIn x e.accesses → All (IsRow (length nest.params + length e.loops)) x.subs
   subs_rows x i = sides_rows (length nest.params + length e.loops) x.subs (subs_sides nest n e l.there x i)
 
-  pub own_forms : (columns : ℕ) → HasForms nest columns e.statement (own_columns nest e columns)
+  pub own_forms : (columns : ℕ) → HasForms nest columns e.part (own_columns nest e columns)
   own_forms columns = its_columns nest n e l columns (length nest.params)
 
 pub all_in : (nest : Nest) (entries : List Entry) → entries ≡ nest.entries → All (λ e. IsIn e nest.entries) entries
@@ -96,9 +96,9 @@ module _ (nest : Nest) (reader : Entry) (load : Access) (leaf : Leaf) (is : IsLe
 
 -- ---- The instance that is named
 
-module _ (nest : Nest) (n : IsNest nest) (columns statement : ℕ) (forms : List Affine) (w : Entry) (z : Access) (writes : IsWriter nest w z) (named : IsInstanceOf nest columns (posed statement forms) w) where
+module _ (nest : Nest) (n : IsNest nest) (columns part : ℕ) (forms : List Affine) (w : Entry) (z : Access) (writes : IsWriter nest w z) (named : IsInstanceOf nest columns (posed part forms) w) where
   pub images_long : length (images nest columns forms) ≡ length nest.params + length w.loops
-  images_long = length_append (columns_from columns 0 (length nest.params)) forms ∙ ap (λ k. k + length forms) (from_long columns 0 (length nest.params)) ∙ ap (λ k. length nest.params + k) named.loops
+  images_long = length_append (columns_from columns 0 (length nest.params)) forms ∙ ap (λ k. k + length forms) (from_long columns 0 (length nest.params)) ∙ ap (λ k. length nest.params + k) named.each
 
   pub images_are : AreImages columns (images nest columns forms)
   images_are = record {
@@ -115,27 +115,27 @@ module _ (nest : Nest) (n : IsNest nest) (columns statement : ℕ) (forms : List
   pub subs_at_images : All (IsRow (length (images nest columns forms))) z.subs
   subs_at_images = subst (λ k. All (IsRow k) z.subs) (sym images_long) (subs_rows nest n w writes.writes z writes.stores)
 
--- ---- The statement that is found
+-- ---- The part that is found
 
 pub record IsFound (nest : Nest) (columns : ℕ) (a : Posed) (v : Writer) : Type 0 where
   pub writer : IsWriter nest v.0 v.1
   pub instance : IsInstanceOf nest columns a v.0
 
-pub found : (nest : Nest) (array columns : ℕ) (a : Posed) (v : Writer) → HasForms nest columns a.statement a.iterators → first_posed a (flat_map (writers_of array) nest.entries) ≡ Some v → IsFound nest columns a v
+pub found : (nest : Nest) (array columns : ℕ) (a : Posed) (v : Writer) → HasForms nest columns a.part a.iterators → first_posed a (flat_map (writers_of array) nest.entries) ≡ Some v → IsFound nest columns a v
 found nest array columns a v forms e =
     let f = first_is_in a (flat_map (writers_of array) nest.entries) v e in
     let s = stores_among array nest.entries v f.0 in
-    let b = both_true (nat_eq v.0.statement a.statement) (nat_eq (length a.iterators) (length v.0.loops)) f.1 in
+    let b = both_true (nat_eq v.0.part a.part) (nat_eq (length a.iterators) (length v.0.loops)) f.1 in
     let t : Stores s.0 v = s.2 in
     record {
       writer = record {
         writes = subst (IsLiving nest) (sym t.is) (record { there = s.1; alive = t.alive });
         stores = subst (λ (x : Entry). IsIn v.1 x.accesses) (sym t.is) t.among;
       };
-      instance = record { forms = forms; loops = eqb-true (length a.iterators) (length v.0.loops) b.1 };
+      instance = record { forms = forms; each = eqb-true (length a.iterators) (length v.0.loops) b.1 };
     }
 
--- ---- Beside an instance of another statement
+-- ---- Beside an instance of another part
 
 module _ (nest : Nest) (reader : Entry) (load : Access) (leaf : Leaf) (v : Entry) (y : Access) where
   module _ (is : IsLeafOf nest reader load leaf) (writes : IsWriter nest v y) where

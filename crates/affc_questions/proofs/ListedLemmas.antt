@@ -13,6 +13,7 @@ use Rattle.affc_nest.specs.Domains.{compare_rows}
 use Rattle.affc_nest.specs.declared.nest.Access.{Access}
 use Rattle.affc_nest.specs.declared.nest.Entry.{Entry}
 use Rattle.affc_nest.specs.declared.nest.Nest.{Nest}
+use Rattle.affc_nest.specs.Parts.{statement_of}
 use Rattle.affc_order.specs.Posed.{Posed, form_at}
 use Rattle.affc_order.specs.Systems.{source_order}
 use Rattle.affc_sched.specs.Questions.{equal_rows}
@@ -56,7 +57,7 @@ lists_made B old first new others ones twos lists i d e =
     e ∙ ap (λ s. s ++ others) (d ∙ ap (λ ls. old ++ map B ls) i ∙ ap (λ s. old ++ s) (map_append B ones twos))
     ∙ append_assoc old (map B ones ++ map B twos) others ∙ ap (λ s. old ++ s) (append_assoc (map B ones) (map B twos) others)
 
--- ---- The first statement that is named
+-- ---- The first part that is named
 
 pub first_append : (a : Posed) (xs ys : List Writer) → first_posed a xs ≡ None → first_posed a (xs ++ ys) ≡ first_posed a ys
 first_append a [] ys e = refl
@@ -82,7 +83,7 @@ first_is_in a (w ∷ ws) v e = chosen (poses a w.0) refl (λ q. first_is_in a ws
     chosen true q rest e = let s : w ≡ v = same_Some w v e in (inl (sym s), subst (λ (u : Writer). poses a u.0 ≡ true) s q)
     chosen false q rest e = let r = rest e in (inr r.0, r.1)
 
--- among statements in two parts
+-- among entries in two lists
 pub found_first : (a : Posed) (array : ℕ) (entries front back : List Entry) (v : Writer) → entries ≡ front ++ back → first_posed a (flat_map (writers_of array) front) ≡ Some v → first_posed a (flat_map (writers_of array) entries) ≡ Some v
 found_first a array entries front back v e h =
     ap (λ es. first_posed a (flat_map (writers_of array) es)) e ∙ (ap (first_posed a) (flat_append (writers_of array) front back) ∙ first_stays a (flat_map (writers_of array) front) (flat_map (writers_of array) back) v h)
@@ -102,7 +103,7 @@ in_list [] n x e = absurd (cc)
 in_list (y ∷ ys) zero x e = inl (sym (same_Some y x e))
 in_list (y ∷ ys) (suc n) x e = inr (in_list ys n x e)
 
--- a living statement and its store
+-- a part that can have instances and its store
 pub record Stores (e : Entry) (v : Writer) : Type 0 where
   pub is : v.0 ≡ e
   pub alive : IsTrue e.alive
@@ -190,12 +191,12 @@ module _ (nest : Nest) (reader : Entry) (load : Access) (ranges : List (ℤ × �
     late_same : systems_of (asks.not_earlier_questions nest reader load ranges leaf a w z) ≡ over_path reader leaf (late_lists nest reader leaf.columns a)
     late_same =
         let own : List Affine = own_columns nest reader leaf.columns in
-        let order : List Rows = source_order nest leaf.columns (posed reader.statement own) a in
-        map_append system_of (map (λ (o : Rows). asks.here nest reader load ranges leaf o.rows) order) (if nat_eq reader.statement a.statement then asks.here nest reader load ranges leaf (equal_rows own a.iterators) ∷ [] else [])
-        ∙ ap (λ zs. zs ++ systems_of (if nat_eq reader.statement a.statement then asks.here nest reader load ranges leaf (equal_rows own a.iterators) ∷ [] else []))
+        let order : List Rows = source_order nest leaf.columns (posed reader.part own) a in
+        map_append system_of (map (λ (o : Rows). asks.here nest reader load ranges leaf o.rows) order) (if nat_eq reader.statement (statement_of nest a.part) then asks.here nest reader load ranges leaf (equal_rows own a.iterators) ∷ [] else [])
+        ∙ ap (λ zs. zs ++ systems_of (if nat_eq reader.statement (statement_of nest a.part) then asks.here nest reader load ranges leaf (equal_rows own a.iterators) ∷ [] else []))
         (map_two system_of (λ (o : Rows). asks.here nest reader load ranges leaf o.rows) (behind leaf.columns (own_path reader leaf)) rows_in (λ o. refl) order)
-        ∙ ap (λ zs. over_path reader leaf (map rows_in order) ++ zs) (same (nat_eq reader.statement a.statement))
-        ∙ sym (map_append (behind leaf.columns (own_path reader leaf)) (map rows_in order) (if nat_eq reader.statement a.statement then equal_rows own a.iterators ∷ [] else []))
+        ∙ ap (λ zs. over_path reader leaf (map rows_in order) ++ zs) (same (nat_eq reader.statement (statement_of nest a.part)))
+        ∙ sym (map_append (behind leaf.columns (own_path reader leaf)) (map rows_in order) (if nat_eq reader.statement (statement_of nest a.part) then equal_rows own a.iterators ∷ [] else []))
       where
         same : (t : Bool) → systems_of (if t then asks.here nest reader load ranges leaf (equal_rows (own_columns nest reader leaf.columns) a.iterators) ∷ [] else [])
             ≡ over_path reader leaf (if t then equal_rows (own_columns nest reader leaf.columns) a.iterators ∷ [] else [])

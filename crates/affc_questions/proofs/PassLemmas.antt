@@ -20,6 +20,7 @@ use Rattle.affc_nest.specs.Asked.{IsNest}
 use Rattle.affc_nest.specs.declared.nest.Access.{Access}
 use Rattle.affc_nest.specs.declared.nest.Entry.{Entry}
 use Rattle.affc_nest.specs.declared.nest.Nest.{Nest}
+use Rattle.affc_nest.specs.Parts.{statement_of}
 use Rattle.affc_nest.specs.Domains.{gap_row, compare_rows}
 use Rattle.affc_nest.specs.Laws.{HasNest, NamesArrays}
 use Rattle.affc_nest.specs.Nests.{nest_of}
@@ -210,7 +211,7 @@ module _ (program : Program) (has : HasNest program) (named : NamesArrays progra
   path_fit k h =
       rows_padded k path
       (all_of (λ f. length f.coefs ≤ leaf.columns) (λ f. length f.coefs ≤ k) (λ f w. through (length f.coefs) w) path (All-append (λ f. length f.coefs ≤ leaf.columns) reader.domain.rows leaf.rows (own_narrow nest reader load leaf is) is.path.rows))
-      (All-append FitsRow reader.domain.rows leaf.rows (domain_fits program has reader.statement reader (entry_at program has reader is.reads.there) is.reads.alive) small.rows_fit)
+      (All-append FitsRow reader.domain.rows leaf.rows (domain_fits program has reader.part reader (entry_at program has reader is.reads.there) is.reads.alive) small.rows_fit)
     where
       through : (w : ℕ) → w ≤ leaf.columns → w ≤ k
       through w g = omega (arith, g, h)
@@ -235,7 +236,7 @@ module _ (program : Program) (has : HasNest program) (named : NamesArrays progra
   alone_within : IsWithin (behind leaf.columns (own_path reader leaf) [])
   alone_within = here_within [] (omega arith) (All-nil (IsRow leaf.columns))
 
-  -- ---- With an instance of a statement that stores the array
+  -- ---- With an instance of a part that stores the array
 
   module _ (v : Entry) (y : Access) (w : IsWriter nest v y) where
     abbrev wide : ℕ
@@ -266,7 +267,7 @@ module _ (program : Program) (has : HasNest program) (named : NamesArrays progra
     own_fit =
         rows_spread (length nest.params) (leaf.columns - length nest.params) (length v.loops) wide (drop (context_count nest) v.domain.rows) whole
         (All-drop (λ f. length f.coefs ≡ length nest.params + length v.loops) (context_count nest) v.domain.rows (domain_columns nest is.nested v w.writes))
-        (All-drop FitsRow (context_count nest) v.domain.rows (domain_fits program has v.statement v (entry_at program has v w.writes.there) w.writes.alive))
+        (All-drop FitsRow (context_count nest) v.domain.rows (domain_fits program has v.part v (entry_at program has v w.writes.there) w.writes.alive))
 
     own_few : length own ≤ 134
     own_few =
@@ -316,10 +317,10 @@ module _ (program : Program) (has : HasNest program) (named : NamesArrays progra
         sum k f r p q o e a b c g h i j = omega (arith, a, b, c, g, h, i, j)
 
     abbrev writer_at : Posed
-    writer_at = record { statement = v.statement; iterators = columns_from wide leaf.columns (length v.loops) }
+    writer_at = record { part = v.part; iterators = columns_from wide leaf.columns (length v.loops) }
 
     abbrev reader_at : Posed
-    reader_at = record { statement = reader.statement; iterators = columns_from wide (length nest.params) (length reader.loops) }
+    reader_at = record { part = reader.part; iterators = columns_from wide (length nest.params) (length reader.loops) }
 
     before_fit : (u : Rows) → IsIn u (source_order nest wide writer_at reader_at) → All (IsRow wide) u.rows
     before_fit u i = order_fit nest wide writer_at reader_at (columns_mild wide leaf.columns (length v.loops)) (columns_mild wide (length nest.params) (length reader.loops)) u i
@@ -339,7 +340,7 @@ module _ (program : Program) (has : HasNest program) (named : NamesArrays progra
         more m h = omega (arith, h)
 
     -- and later than an instance
-    module _ (a : Posed) (forms : HasForms nest leaf.columns a.statement a.iterators) (small_forms : All (FitsForm narrow) a.iterators) (six : length a.iterators ≤ 6) where
+    module _ (a : Posed) (forms : HasForms nest leaf.columns a.part a.iterators) (small_forms : All (FitsForm narrow) a.iterators) (six : length a.iterators ≤ 6) where
       abbrev named_at : Posed
       named_at = record a { iterators = map (padded wide) a.iterators }
 
@@ -363,9 +364,9 @@ module _ (program : Program) (has : HasNest program) (named : NamesArrays progra
 
   -- ---- The instance that is named
 
-  module _ (a : Posed) (forms : HasForms nest leaf.columns a.statement a.iterators) (small_forms : All (FitsForm narrow) a.iterators) where
+  module _ (a : Posed) (forms : HasForms nest leaf.columns a.part a.iterators) (small_forms : All (FitsForm narrow) a.iterators) where
     six : length a.iterators ≤ 6
-    six = subst (λ m. m ≤ 6) (sym forms.named.loops) (few_numbered nest forms.named.entry is.nested (stands_in nest.entries a.statement forms.named.entry forms.named.there))
+    six = subst (λ m. m ≤ 6) (sym forms.named.each) (few_numbered nest forms.named.entry is.nested (stands_in nest.entries a.part forms.named.entry forms.named.there))
 
     mild : All (IsMild leaf.columns) a.iterators
     mild = narrow_mild leaf.columns a.iterators forms.light small_forms
@@ -383,7 +384,7 @@ module _ (program : Program) (has : HasNest program) (named : NamesArrays progra
       outside_within : (q : Question) → IsIn q (outside_questions nest reader load ranges leaf a w z) → IsWithin q.system
       outside_within q i =
           let r = in_map (λ r. here nest reader load ranges leaf (negated (at_named r) ∷ [])) w.domain.rows q i in
-          let tight : IsTight r.0 = at_in IsTight w.domain.rows r.0 (domain_tight program has w.statement w (entry_at program has w writes.writes.there) writes.writes.alive) r.1 in
+          let tight : IsTight r.0 = at_in IsTight w.domain.rows r.0 (domain_tight program has w.part w (entry_at program has w writes.writes.there) writes.writes.alive) r.1 in
           subst (λ (p : Question). IsWithin p.system) (sym r.2)
           (one_row (negated (at_named r.0)) (negated_row leaf.columns (at_named r.0) (placed leaf.columns (length nest.params) a.iterators (params_few nest reader load leaf is) six small_forms long r.0 tight)))
 
@@ -405,17 +406,17 @@ module _ (program : Program) (has : HasNest program) (named : NamesArrays progra
           (all_padded_subscripts (m + length reader.loops) leaf.columns load.subs (path_first nest reader leaf reader (seated nest reader load leaf is reader is.reads)) (are_subscripts nest is.nested reader is.reads.there load is.loads)) q i
 
       abbrev own_at : Posed
-      own_at = record { statement = reader.statement; iterators = columns_from leaf.columns (length nest.params) (length reader.loops) }
+      own_at = record { part = reader.part; iterators = columns_from leaf.columns (length nest.params) (length reader.loops) }
 
       not_earlier_within : (q : Question) → IsIn q (not_earlier_questions nest reader load ranges leaf a w z) → IsWithin q.system
       not_earlier_within q i =
-          elim (in_append (map (λ (o : Rows). here nest reader load ranges leaf o.rows) (source_order nest leaf.columns own_at a)) (if nat_eq reader.statement a.statement then here nest reader load ranges leaf (equal_rows own_at.iterators a.iterators) ∷ [] else []) q i) [
+          elim (in_append (map (λ (o : Rows). here nest reader load ranges leaf o.rows) (source_order nest leaf.columns own_at a)) (if nat_eq reader.statement (statement_of nest a.part) then here nest reader load ranges leaf (equal_rows own_at.iterators a.iterators) ∷ [] else []) q i) [
             | inl j ↦ (let o = in_map (λ (o : Rows). here nest reader load ranges leaf o.rows) (source_order nest leaf.columns own_at a) q j in
                 subst (λ (p : Question). IsWithin p.system) (sym o.2)
                 (here_within o.0.rows
                 (more (length o.0.rows) (order_few nest leaf.columns own_at a (columns_mild leaf.columns (length nest.params) (length reader.loops)) mild o.0 o.1 (subst (λ m. m ≤ 6) (sym (from_long leaf.columns (length nest.params) (length reader.loops))) (loops_few nest reader load leaf is))))
                 (order_fit nest leaf.columns own_at a (columns_mild leaf.columns (length nest.params) (length reader.loops)) mild o.0 o.1)))
-            | inr j ↦ same (in_if (nat_eq reader.statement a.statement) (here nest reader load ranges leaf (equal_rows own_at.iterators a.iterators) ∷ []) q j).1
+            | inr j ↦ same (in_if (nat_eq reader.statement (statement_of nest a.part)) (here nest reader load ranges leaf (equal_rows own_at.iterators a.iterators) ∷ []) q j).1
           ]
         where
           more : (m : ℕ) → m ≤ 24 → m ≤ 24
@@ -477,20 +478,20 @@ module _ (program : Program) (has : HasNest program) (named : NamesArrays progra
 
 -- ---- The trees of all loads
 
--- a question of a statement's loads is one of some load
+-- a question of a part's loads is one of some load
 record OfLoad (nest : Nest) (trees : List Tree) (e : Entry) (first : ℕ) (xs : List Access) (q : Question) : Type 0 where
   number : ℕ
   load : Access
   there : slice_get xs number ≡ Some load
   counts : suc number < length xs
-  asked : IsIn q (questions_of_load nest e load (tree_of nest trees e.statement (first + number)))
+  asked : IsIn q (questions_of_load nest e load (tree_of nest trees e.part (first + number)))
 
 of_load : (nest : Nest) (trees : List Tree) (e : Entry) (first : ℕ) (xs : List Access) (q : Question) → IsIn q (questions_of_loads nest trees e first xs) → OfLoad nest trees e first xs q
 of_load nest trees e first [] q i = absurd i
 of_load nest trees e first (x ∷ []) q i = absurd i
 of_load nest trees e first (x ∷ y ∷ ys) q i =
-    elim (in_append (questions_of_load nest e x (tree_of nest trees e.statement first)) (questions_of_loads nest trees e (first + 1) (y ∷ ys)) q i) [
-      | inl j ↦ record { number = 0; load = x; there = refl; counts = two (length ys); asked = subst (λ m. IsIn q (questions_of_load nest e x (tree_of nest trees e.statement m))) (none first) j }
+    elim (in_append (questions_of_load nest e x (tree_of nest trees e.part first)) (questions_of_loads nest trees e (first + 1) (y ∷ ys)) q i) [
+      | inl j ↦ record { number = 0; load = x; there = refl; counts = two (length ys); asked = subst (λ m. IsIn q (questions_of_load nest e x (tree_of nest trees e.part m))) (none first) j }
       | inr j ↦ later (of_load nest trees e (first + 1) (y ∷ ys) q j)
     ]
   where
@@ -509,7 +510,7 @@ of_load nest trees e first (x ∷ y ∷ ys) q i =
       load = o.load;
       there = o.there;
       counts = one (suc o.number) (suc (length ys)) o.counts;
-      asked = subst (λ m. IsIn q (questions_of_load nest e o.load (tree_of nest trees e.statement m))) (moved first o.number) o.asked;
+      asked = subst (λ m. IsIn q (questions_of_load nest e o.load (tree_of nest trees e.part m))) (moved first o.number) o.asked;
     }
       where
         one : (a b : ℕ) → a < b → suc a < suc b
@@ -526,12 +527,12 @@ found_trees_pass_no_limit program trees q has named found i =
     let there = entry_at program has reader e.1 in
     let columns = length nest.params + length reader.loops in
     let counts : o.number < loads_in reader = below o.number (length reader.accesses) o.counts in
-    let tree = found.each reader.statement o.number reader o.load there counts o.there in
+    let tree = found.each reader.part o.number reader o.load there counts o.there in
     let asked : IsIn q (questions_of_load nest reader o.load (Some tree.0)) =
-    subst (λ s. IsIn q (questions_of_load nest reader o.load s)) tree.1 (subst (λ k. IsIn q (questions_of_load nest reader o.load (tree_of nest trees reader.statement k))) (none o.number) o.asked) in
+    subst (λ s. IsIn q (questions_of_load nest reader o.load s)) tree.1 (subst (λ k. IsIn q (questions_of_load nest reader o.load (tree_of nest trees reader.part k))) (none o.number) o.asked) in
     let l = in_flat_map (leaf_questions nest reader o.load (nest.params ++ reader.ranges)) (leaves_of columns tree.0) q asked in
     let limits : KeepLimits nest trees = found_trees_keep_limits nest trees found in
-    let path : IsPath nest columns l.0 = path_of nest columns tree.0 (limits reader.statement o.number reader tree.0 there counts tree.1) l.0 l.1 in
+    let path : IsPath nest columns l.0 = path_of nest columns tree.0 (limits reader.part o.number reader tree.0 there counts tree.1) l.0 l.1 in
     leaf_within program has named reader o.load (nest.params ++ reader.ranges) l.0
     (record { nested = nested; reads = record { there = e.1; alive = t.0 }; loads = stands_in reader.accesses o.number o.load o.there; path = path }) (depth_of tree.0) (divisions_of tree.0)
     (leaf_small columns tree.0 tree.2.shaped tree.2.fits l.0 l.1) tree.2.short tree.2.few q l.2

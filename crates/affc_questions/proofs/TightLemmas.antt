@@ -1,4 +1,4 @@
--- The rows of a living statement's domain are differences of small sides.
+-- The rows of the domain of a part that can have instances are differences of small sides.
 use Rattle.std.proofs.Common.{ℕ, ◌+◌, ◌^◌, ◌≤◌, ℤ, pos, negsuc, ◌+ℤ◌, ◌-ℤ◌, ◌*ℤ◌, IsTrue, List, [], ◌∷◌, arith}
 use Rattle.std.specs.Prelude.{unsigned_abs}
 use Rattle.std.specs.List.{All}
@@ -36,5 +36,5 @@ gap_tight n a b k s t h =
     most : (n : ℕ) → n ≤ 2 ^ 33 + 1 → n ≤ 2 ^ 34
     most n h = omega (arith, h)
 
-pub domain_tight : (program : Program) (has : HasNest program) (statement : ℕ) (e : Entry) → IsEntry program statement e → IsTrue e.alive → All IsTight e.domain.rows
-domain_tight program has statement e h alive = domain_rows_are IsTight gap_tight program has statement e h alive
+pub domain_tight : (program : Program) (has : HasNest program) (part : ℕ) (e : Entry) → IsEntry program part e → IsTrue e.alive → All IsTight e.domain.rows
+domain_tight program has part e h alive = domain_rows_are IsTight gap_tight program has part e h alive

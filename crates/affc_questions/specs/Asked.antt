@@ -11,6 +11,7 @@ use Rattle.affc_nest.specs.Asked.{IsNest}
 use Rattle.affc_nest.specs.declared.nest.Access.{Access}
 use Rattle.affc_nest.specs.declared.nest.Entry.{Entry}
 use Rattle.affc_nest.specs.declared.nest.Nest.{Nest}
+use Rattle.affc_nest.specs.Parts.{coordinates}
 use Rattle.affc_order.specs.Posed.{Posed}
 use Rattle.affc_quast.specs.Leaves.{Leaf}
 use Rattle.affc_quast.specs.SeenLeaves.{leaf_seen}
@@ -19,25 +20,25 @@ use Rattle.affc_life.specs.Asked.{HasForms, IsLiving, IsPath}
 
 -- ---- Leaves
 
--- a leaf of the tree of a load of a living statement
+-- a leaf of the tree of a load of a part that can have instances
 pub record IsLeafOf (nest : Nest) (reader : Entry) (load : Access) (leaf : Leaf) : Type 0 where
   pub nested : IsNest nest
   pub reads : IsLiving nest reader
   pub loads : IsIn load reader.accesses
-  pub path : IsPath nest (length nest.params + length reader.loops) leaf
+  pub path : IsPath nest (length nest.params + coordinates reader) leaf
 
 abbrev pub IsReading : Reading → Type 0
 IsReading r = IsLeafOf r.nest.now r.reader.now r.load.now (leaf_seen r.leaf.now)
 
--- an access of a living statement
+-- an access of a part that can have instances
 pub record IsWriter (nest : Nest) (v : Entry) (y : Access) : Type 0 where
   pub writes : IsLiving nest v
   pub stores : IsIn y v.accesses
 
--- an instance of a statement by light forms for its iterators
+-- an instance of a part by light forms for its coordinates
 pub record IsInstanceOf (nest : Nest) (columns : ℕ) (a : Posed) (w : Entry) : Type 0 where
-  pub forms : HasForms nest columns a.statement a.iterators
-  pub loops : length a.iterators ≡ length w.loops
+  pub forms : HasForms nest columns a.part a.iterators
+  pub each : length a.iterators ≡ coordinates w
 
 -- ---- Folds
 

@@ -8,6 +8,7 @@ use Rattle.affc_nest.specs.Domains.{compare_rows}
 use Rattle.affc_nest.specs.declared.nest.Access.{Access}
 use Rattle.affc_nest.specs.declared.nest.Entry.{Entry}
 use Rattle.affc_nest.specs.declared.nest.Nest.{Nest}
+use Rattle.affc_nest.specs.Parts.{coordinates, statement_of}
 use Rattle.affc_order.specs.Posed.{Posed, form_at}
 use Rattle.affc_order.specs.Systems.{source_order}
 use Rattle.affc_sched.specs.Questions.{equal_rows}
@@ -38,7 +39,7 @@ joined firsts seconds = flat_map (λ o. map (λ u. o ++ u) seconds) firsts
 
 -- ---- The instance that is named
 
--- the first statement of these that is named
+-- the first part of these that is named
 abbrev pub first_posed : Posed → List Writer → Option Writer
 first_posed a [] = None
 first_posed a (w ∷ ws) = if poses a w.0 then Some w else first_posed a ws
@@ -46,22 +47,22 @@ first_posed a (w ∷ ws) = if poses a w.0 then Some w else first_posed a ws
 abbrev pub negations : List Affine → List (List Affine)
 negations forms = map (λ f. negated f ∷ []) forms
 
--- the rows of the load's statement and those above the leaf
+-- the rows of the load's part and those above the leaf
 abbrev pub own_path : (reader : Entry) → Leaf → List Affine
 own_path reader leaf = map (padded leaf.columns) (reader.domain.rows ++ leaf.rows)
 
 abbrev pub over_path : (reader : Entry) → Leaf → List (List Affine) → List Rows
 over_path reader leaf lists = map (behind leaf.columns (own_path reader leaf)) lists
 
--- the iterators of the load's statement
+-- the coordinates of the load's part
 abbrev pub own_columns : Nest → (reader : Entry) → (columns : ℕ) → List Affine
-own_columns nest reader columns = columns_from columns (length nest.params) (length reader.loops)
+own_columns nest reader columns = columns_from columns (length nest.params) (coordinates reader)
 
--- the images of the columns of the statement that is named, by these forms for its iterators
+-- the images of the columns of the part that is named, by these forms for its coordinates
 abbrev pub images : Nest → (columns : ℕ) → List Affine → List Affine
 images nest columns forms = columns_from columns 0 (length nest.params) ++ forms
 
--- it lies outside its statement's domain, or writes another element than the load reads
+-- it lies outside its part's domain, or writes another element than the load reads
 abbrev pub astray_lists : Nest → (load : Access) → (columns : ℕ) → (forms : List Affine) → Entry → Access → List (List Affine)
 astray_lists nest load columns forms w z =
     negations (map (form_at columns (images nest columns forms)) w.domain.rows) ++ sides (map (form_at columns (images nest columns forms)) z.subs) (map (padded columns) load.subs)
@@ -69,11 +70,11 @@ astray_lists nest load columns forms w z =
 -- the load's instance is earlier, or the same
 abbrev pub late_lists : Nest → (reader : Entry) → (columns : ℕ) → Posed → List (List Affine)
 late_lists nest reader columns a =
-    map rows_in (source_order nest columns (posed reader.statement (own_columns nest reader columns)) a)
-    ++ (if nat_eq reader.statement a.statement then equal_rows (own_columns nest reader columns) a.iterators ∷ [] else [])
+    map rows_in (source_order nest columns (posed reader.part (own_columns nest reader columns)) a)
+    ++ (if nat_eq reader.statement (statement_of nest a.part) then equal_rows (own_columns nest reader columns) a.iterators ∷ [] else [])
 
 module _ (nest : Nest) (reader : Entry) (load : Access) (leaf : Leaf) where
-  -- ---- Statements that store the array
+  -- ---- Parts that store the array
 
   module _ (v : Entry) (y : Access) where
     abbrev pub over_beside : List (List Affine) → List Rows

@@ -1,7 +1,8 @@
-//! The questions of a leaf with instances of statements that store the array.
+//! The questions of a leaf with instances of parts that store the array.
 ghost use Rattle.std.specs.Prelude.{◌≡◌, ◌+◌, ◌≤◌, ◌++◌, ◌∷◌, [], length, flat_map, IfOk, OnOk};
 ghost use Rattle.std.specs.List.{All};
 ghost use Rattle.affc_trace.specs.Law.{IsIn};
+ghost use Rattle.affc_nest.specs.Parts.{coordinates};
 ghost use Rattle.affc_flow.specs.Questions.{beside_rows};
 ghost use Rattle.affc_quast.specs.SeenLeaves.{leaf_seen};
 ghost use Rattle.affc_life.specs.Asked.{HasForms};
@@ -15,7 +16,7 @@ use crate::reading::Reading;
 use crate::rows::add_equals;
 use crate::writer::Writer;
 use affc_flow::store_for;
-use affc_life::stores::{front_rows, loaded, loops_round, stored, stored_after, stored_before};
+use affc_life::stores::{coordinates, front_rows, loaded, stored, stored_after, stored_before};
 use affc_nest::Entry;
 use affc_products::Group;
 use affc_quast::leaves::{Leaf, Named};
@@ -24,16 +25,16 @@ use affc_trace::schedule::Schedule;
 use sqlite_items::Items;
 use std::alloc::{AllocError, Global};
 
-/// The columns of a leaf and the iterators of a statement.
+/// The columns of a leaf and the coordinates of a part.
 fn columns_beside(leaf: &Leaf, writer: &Entry) -> u32
     requires leaf { leaf.now.columns ≤ 410 }
-    requires writer { length writer.now.loops ≤ 6 }
-    ensures { result ≡ leaf.now.columns + length writer.now.loops }
+    requires writer { coordinates writer.now ≤ 6 }
+    ensures { result ≡ leaf.now.columns + coordinates writer.now }
 {
-    leaf.columns + loops_round(writer)
+    leaf.columns + coordinates(writer)
 }
 
-/// The path, the statement's domain, and equal subscripts.
+/// The path, the part's domain, and equal subscripts.
 fn beside_rows(
     alloc: Global,
     reading: &Reading<'_>,
@@ -60,7 +61,7 @@ fn beside_rows(
     Ok(rows)
 }
 
-/// Adds the questions whether an instance of the statement is earlier than the load.
+/// Adds the questions whether an instance of the part is earlier than the load.
 fn add_earlier(
     alloc: Global,
     reading: &Reading<'_>,
@@ -78,7 +79,7 @@ fn add_earlier(
     add_each(alloc, columns, front, before, out)
 }
 
-/// Adds the questions whether an instance of the statement is later than the one that is named and earlier than the load.
+/// Adds the questions whether an instance of the part is later than the one that is named and earlier than the load.
 fn add_between(
     alloc: Global,
     reading: &Reading<'_>,
@@ -100,7 +101,7 @@ fn add_between(
     add_joined(alloc, columns, front, after, before, out)
 }
 
-/// Adds those of a statement, if it stores the array.
+/// Adds those of a part, if it stores the array.
 fn add_earlier_of(
     alloc: Global,
     reading: &Reading<'_>,
@@ -139,7 +140,7 @@ pub(crate) fn add_all_earlier(
     }
 }
 
-/// Adds those of a statement, if it stores the array.
+/// Adds those of a part, if it stores the array.
 fn add_between_of(
     alloc: Global,
     reading: &Reading<'_>,

@@ -3,6 +3,7 @@ ghost use Rattle.std.specs.Prelude.{◌≡◌, ℤ, List, [], ◌∷◌, ◌+◌
 ghost use Rattle.std.specs.List.{All};
 ghost use Rattle.affc_trace.specs.Law.{IsIn};
 ghost use Rattle.affc_nest.specs.Asked.{IsNest};
+ghost use Rattle.affc_nest.specs.Parts.{coordinates};
 ghost use Rattle.affc_quast.specs.SeenLeaves.{leaf_seen};
 ghost use Rattle.affc_life.specs.Asked.{HasForms, IsLiving, IsPath};
 ghost use Rattle.affc_life.specs.Drafts.{posed};
@@ -24,20 +25,20 @@ use affc_quast::leaves::{Leaf, Named};
 use sqlite_items::Items;
 use std::alloc::{AllocError, Global};
 
-/// The statement, if it stores the array and is the one that is named.
+/// The part, if it stores the array and is the one that is named.
 fn named_here<'a>(entry: &'a Entry, array: u32, named: &Named) -> Option<Writer<'a>>
     ensures none { IfNone result (first_posed (posed named.now.part named.now.forms) (writers_of array entry.now) ≡ None) }
     ensures some { IfSome result (λ w. first_posed (posed named.now.part named.now.forms) (writers_of array entry.now) ≡ Some (w.entry.now, w.store.now)) }
 {
     let store = store_for(entry, array)?;
-    if entry.statement == named.part && named.forms.len() == entry.loops.len() {
+    if entry.part == named.part && named.forms.len() == entry.coordinates() {
         Some(Writer { entry, store })
     } else {
         None
     }
 }
 
-/// The first statement that stores the array and is the one that is named. The recursion is into halves.
+/// The first part that stores the array and is the one that is named. The recursion is into halves.
 fn named_among<'a>(entries: &'a [Entry], array: u32, named: &Named) -> Option<Writer<'a>>
     ensures none { IfNone result (first_posed (posed named.now.part named.now.forms) (flat_map (writers_of array) entries.now) ≡ None) }
     ensures some { IfSome result (λ w. first_posed (posed named.now.part named.now.forms) (flat_map (writers_of array) entries.now) ≡ Some (w.entry.now, w.store.now)) }
@@ -71,7 +72,7 @@ fn add_path(
     add_front(alloc, leaf.columns, Items::from_vec(path), out)
 }
 
-/// Adds the questions of a leaf that names an instance of this statement.
+/// Adds the questions of a leaf that names an instance of this part.
 fn add_named(
     alloc: Global,
     reading: &Reading<'_>,
@@ -134,7 +135,7 @@ pub fn leaf_questions(
     requires nested { IsNest nest.now }
     requires reads { IsLiving nest.now reader.now }
     requires load { IsIn load.now reader.now.accesses }
-    requires path { IsPath nest.now (length nest.now.params + length reader.now.loops) (leaf_seen leaf.now) }
+    requires path { IsPath nest.now (length nest.now.params + coordinates reader.now) (leaf_seen leaf.now) }
     ensures { IfOk result (λ v. (ranges : List (ℤ × ℤ)) → flat_map group_systems v.items ≡ systems_of (leaf_questions nest.now reader.now load.now ranges (leaf_seen leaf.now))) }
 {
     let reading = Reading {

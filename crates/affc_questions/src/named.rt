@@ -3,6 +3,7 @@ ghost use Rattle.std.specs.Prelude.{◌≡◌, ◌≤◌, ◌++◌, ◌∷◌, [
 ghost use Rattle.std.specs.List.{All};
 ghost use Rattle.affc_system.specs.Systems.{IsRow};
 ghost use Rattle.affc_nest.specs.Asked.{IsNest};
+ghost use Rattle.affc_nest.specs.Parts.{coordinates};
 ghost use Rattle.affc_order.specs.Posed.{form_at};
 ghost use Rattle.affc_quast.specs.Leaves.{padded};
 ghost use Rattle.affc_quast.specs.SeenLeaves.{leaf_seen};
@@ -19,9 +20,9 @@ use crate::reading::Reading;
 use crate::rows::add_equals;
 use crate::writer::Writer;
 use affc_life::columns::{add_padded, columns_from};
-use affc_life::stores::{loops_round, params_in};
+use affc_life::stores::{coordinates, params_in};
 use affc_life::systems::add_forms;
-use affc_life::times::target_order;
+use affc_life::times::{statement, target_order};
 use affc_nest::{Access, Entry, Nest};
 use affc_quast::leaves::{Leaf, Named};
 use affc_rows::Form;
@@ -29,7 +30,7 @@ use affc_trace::schedule::Schedule;
 use sqlite_items::Items;
 use std::alloc::{AllocError, Global};
 
-/// The rows of the load's statement and those above the leaf, over the leaf's columns.
+/// The rows of the load's part and those above the leaf, over the leaf's columns.
 pub(crate) fn own_path(alloc: Global, reader: &Entry, leaf: &Leaf) -> Result<Vec<Form>, AllocError>
     requires domain { All (λ f. length f.coefs ≤ leaf.now.columns) reader.now.domain.rows }
     requires tests { All (λ f. length f.coefs ≤ leaf.now.columns) leaf.now.rows }
@@ -42,7 +43,7 @@ pub(crate) fn own_path(alloc: Global, reader: &Entry, leaf: &Leaf) -> Result<Vec
     Ok(rows)
 }
 
-/// The iterators of the load's statement.
+/// The coordinates of the load's part.
 fn own_columns(
     alloc: Global,
     nest: &Nest,
@@ -50,15 +51,15 @@ fn own_columns(
     columns: u32,
 ) -> Result<Vec<Form>, AllocError>
     requires params { length nest.now.params ≤ 4 }
-    requires loops { length reader.now.loops ≤ 6 }
+    requires few { coordinates reader.now ≤ 6 }
     ensures { IfOk result (λ v. v.items ≡ own_columns nest.now reader.now columns) }
 {
     let params = params_in(nest);
-    let loops = loops_round(reader);
-    columns_from(alloc, columns, params, loops)
+    let own = coordinates(reader);
+    columns_from(alloc, columns, params, own)
 }
 
-/// The images of the columns of the statement that is named: the parameters, and the forms for its iterators.
+/// The images of the columns of the part that is named: the parameters, and the forms for its coordinates.
 fn images(alloc: Global, nest: &Nest, columns: u32, forms: &[Form]) -> Result<Vec<Form>, AllocError>
     requires { length nest.now.params ≤ 4 }
     ensures { IfOk result (λ v. v.items ≡ images nest.now columns forms.now) }
@@ -108,7 +109,7 @@ fn add_apart(
     add_sides(alloc, columns, made.as_slice(), wide.as_slice(), out)
 }
 
-/// The rows that the instance that is named lies outside its statement's domain, and that it writes another element than
+/// The rows that the instance that is named lies outside its part's domain, and that it writes another element than
 /// the load reads.
 pub(crate) fn astray_lists(
     alloc: Global,
@@ -175,8 +176,9 @@ pub(crate) fn late_lists(
     let own = own_columns(alloc, nest, reader, columns)?;
     let own = own.as_slice();
     let forms = named.forms.as_slice();
-    let (a, b) = (reader.statement, named.part);
+    let (a, b) = (reader.part, named.part);
     let mut lists = target_order(alloc, nest, &Schedule::Source, columns, a, own, b, forms)?;
-    add_same(alloc, columns, a, own, b, forms, &mut lists)?;
+    let (first, second) = (reader.statement, statement(nest, b));
+    add_same(alloc, columns, first, own, second, forms, &mut lists)?;
     Ok(lists)
 }

@@ -2,7 +2,7 @@
 use affc_nest::{Access, Entry, Nest};
 use affc_quast::leaves::Leaf;
 
-/// A load of a statement, and a leaf of its tree.
+/// A load of a part, and a leaf of its tree.
 #[derive(Clone, Copy, Drop)]
 pub(crate) struct Reading<'a> {
     pub nest: &'a Nest,

@@ -1,7 +1,7 @@
-//! Statements that store an array.
+//! Parts that store an array.
 use affc_nest::{Access, Entry};
 
-/// A statement and its store.
+/// A part and its store.
 #[derive(Clone, Copy, Drop)]
 pub(crate) struct Writer<'a> {
     pub entry: &'a Entry,

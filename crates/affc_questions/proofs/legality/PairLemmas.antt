@@ -30,22 +30,22 @@ none_behind f (x ∷ xs) = none_behind f xs
 
 module _ (nest : Nest) (schedule : Schedule) (a b : Entry) (x y : Access) where
   -- no order of the source, or none of the target
-  pub none_earlier : (earlier : List Rows) → earlier ≡ [] → earlier ≡ source_systems nest a.statement b.statement → pair_questions nest a b schedule x y ≡ []
+  pub none_earlier : (earlier : List Rows) → earlier ≡ [] → earlier ≡ source_systems nest a.part b.part → pair_questions nest a b schedule x y ≡ []
   none_earlier earlier e s =
-      ap (flat_map (λ o. map (question nest a b (pair_rows nest a b x y) o) (turned_systems nest a.statement b.statement schedule))) (sym s ∙ e)
+      ap (flat_map (λ o. map (question nest a b (pair_rows nest a b x y) o) (turned_systems nest a.part b.part schedule))) (sym s ∙ e)
 
-  pub none_later : (later : List Rows) → later ≡ [] → later ≡ turned_systems nest a.statement b.statement schedule → pair_questions nest a b schedule x y ≡ []
+  pub none_later : (later : List Rows) → later ≡ [] → later ≡ turned_systems nest a.part b.part schedule → pair_questions nest a b schedule x y ≡ []
   none_later later e s =
-      ap (λ us. flat_map (λ o. map (question nest a b (pair_rows nest a b x y) o) us) (source_systems nest a.statement b.statement)) (sym s ∙ e)
-      ∙ none_behind (question nest a b (pair_rows nest a b x y)) (source_systems nest a.statement b.statement)
+      ap (λ us. flat_map (λ o. map (question nest a b (pair_rows nest a b x y) o) us) (source_systems nest a.part b.part)) (sym s ∙ e)
+      ∙ none_behind (question nest a b (pair_rows nest a b x y)) (source_systems nest a.part b.part)
 
   -- a group of the orders behind the rows of both
-  pub pair_added : (pair : Rows) (earlier later : List Rows) (old new : List Group) → pair ≡ record { columns = pair_columns nest a.statement b.statement; rows = pair_rows nest a b x y }
-      → earlier ≡ source_systems nest a.statement b.statement → later ≡ turned_systems nest a.statement b.statement schedule
+  pub pair_added : (pair : Rows) (earlier later : List Rows) (old new : List Group) → pair ≡ record { columns = pair_columns nest a.part b.part; rows = pair_rows nest a b x y }
+      → earlier ≡ source_systems nest a.part b.part → later ≡ turned_systems nest a.part b.part schedule
       → flat_map group_systems new ≡ flat_map group_systems old ++ with_orders pair earlier later → All IsWithin (with_orders pair earlier later) → AreAdded old new (pair_questions nest a b schedule x y)
   pair_added pair earlier later old new p s t put within =
       let e : with_orders pair earlier later ≡ map (λ (q : Question). q.system) (pair_questions nest a b schedule x y) =
-      ap (λ us. with_orders pair earlier us) t ∙ ap (λ os. with_orders pair os (turned_systems nest a.statement b.statement schedule)) s ∙ systems_made nest schedule a b x y pair p in
+      ap (λ us. with_orders pair earlier us) t ∙ ap (λ os. with_orders pair os (turned_systems nest a.part b.part schedule)) s ∙ systems_made nest schedule a b x y pair p in
       record { put = put ∙ ap (λ ss. flat_map group_systems old ++ ss) e; within = subst (All IsWithin) e within }
 
 -- ---- None of all
@@ -60,11 +60,11 @@ none_of_all F h (y ∷ ys) = ap (λ qs. qs ++ flat_map F ys) (h y) ∙ none_of_a
 
 module _ (nest : Nest) (schedule : Schedule) (a : Entry) (x : Touch) (b : Entry) where
   -- no order of the source, or none of the target
-  pub all_none_earlier : (ys : List Touch) (earlier : List Rows) → earlier ≡ [] → earlier ≡ source_systems nest a.statement b.statement → flat_map (questions_of nest schedule a x b) ys ≡ []
+  pub all_none_earlier : (ys : List Touch) (earlier : List Rows) → earlier ≡ [] → earlier ≡ source_systems nest a.part b.part → flat_map (questions_of nest schedule a x b) ys ≡ []
   all_none_earlier ys earlier e s =
       none_of_all (questions_of nest schedule a x b) (λ y. if_none (may_depend x y) (pair_questions nest a b schedule x.0 y.0) (none_earlier nest schedule a b x.0 y.0 earlier e s)) ys
 
-  pub all_none_later : (ys : List Touch) (later : List Rows) → later ≡ [] → later ≡ turned_systems nest a.statement b.statement schedule → flat_map (questions_of nest schedule a x b) ys ≡ []
+  pub all_none_later : (ys : List Touch) (later : List Rows) → later ≡ [] → later ≡ turned_systems nest a.part b.part schedule → flat_map (questions_of nest schedule a x b) ys ≡ []
   all_none_later ys later e s =
       none_of_all (questions_of nest schedule a x b) (λ y. if_none (may_depend x y) (pair_questions nest a b schedule x.0 y.0) (none_later nest schedule a b x.0 y.0 later e s)) ys
 

@@ -19,7 +19,7 @@ use affc_system::System;
 use affc_trace::schedule::Schedule;
 use std::alloc::{AllocError, Global};
 
-/// An access of a statement, and whether it is the statement's store.
+/// An access of a part, and whether it is the part's store.
 #[derive(Drop)]
 struct Place<'a> {
     entry: &'a Entry,
@@ -27,7 +27,7 @@ struct Place<'a> {
     stores: bool,
 }
 
-/// The orders of two statements under a schedule: an instance of the first is earlier in the source, and one of the second in the
+/// The orders of two parts under a schedule: an instance of the first is earlier in the source, and one of the second in the
 /// target.
 #[derive(Drop)]
 struct Orders<'a> {
@@ -49,8 +49,8 @@ fn add_pair(
     requires from { IsTouched nest.now from.now.entry.now from.now.access.now }
     requires to { IsTouched nest.now to.now.entry.now to.now.access.now }
     requires one_array { from.now.access.now.array.0 ≡ to.now.access.now.array.0 }
-    requires earlier { orders.now.earlier.now ≡ source_systems nest.now from.now.entry.now.statement to.now.entry.now.statement }
-    requires later { orders.now.later.now ≡ turned_systems nest.now from.now.entry.now.statement to.now.entry.now.statement orders.now.schedule.now }
+    requires earlier { orders.now.earlier.now ≡ source_systems nest.now from.now.entry.now.part to.now.entry.now.part }
+    requires later { orders.now.later.now ≡ turned_systems nest.now from.now.entry.now.part to.now.entry.now.part orders.now.schedule.now }
     ensures { OnOk result (AreAdded out.old.items out.new.items (pair_questions nest.now from.now.entry.now to.now.entry.now orders.now.schedule.now from.now.access.now to.now.access.now)) }
 {
     let pair = pair_rows(alloc, nest, from.entry, to.entry, from.access, to.access)?;
@@ -65,7 +65,7 @@ fn may_depend(from: &Place<'_>, access: &Access, stores: bool) -> bool
     from.access.array.0 == access.array.0 && (from.stores || stores)
 }
 
-/// Whether one of these last accesses of a statement may depend on an access.
+/// Whether one of these last accesses of a part may depend on an access.
 fn may_any_depend(from: &Place<'_>, accesses: &[Access]) -> bool
     ensures { ¬ (IsTrue result) → NoneDepends (from.now.access.now, from.now.stores) (touches accesses.now) }
 {
@@ -89,8 +89,8 @@ fn add_touch(
     requires asked { IsAsked nest.now orders.now.schedule.now }
     requires from { IsTouched nest.now from.now.entry.now from.now.access.now }
     requires to { IsTouched nest.now to.now.entry.now to.now.access.now }
-    requires earlier { orders.now.earlier.now ≡ source_systems nest.now from.now.entry.now.statement to.now.entry.now.statement }
-    requires later { orders.now.later.now ≡ turned_systems nest.now from.now.entry.now.statement to.now.entry.now.statement orders.now.schedule.now }
+    requires earlier { orders.now.earlier.now ≡ source_systems nest.now from.now.entry.now.part to.now.entry.now.part }
+    requires later { orders.now.later.now ≡ turned_systems nest.now from.now.entry.now.part to.now.entry.now.part orders.now.schedule.now }
     ensures { OnOk result (AreAdded out.old.items out.new.items (questions_of nest.now orders.now.schedule.now from.now.entry.now (from.now.access.now, from.now.stores) to.now.entry.now (to.now.access.now, to.now.stores))) }
 {
     if !may_depend(from, to.access, to.stores) {
@@ -99,7 +99,7 @@ fn add_touch(
     add_pair(alloc, nest, from, to, orders, out)
 }
 
-/// Adds the questions on an access and these last ones of a living statement.
+/// Adds the questions on an access and these last ones of a part that can have instances.
 fn add_accesses(
     alloc: Global,
     nest: &Nest,
@@ -112,8 +112,8 @@ fn add_accesses(
     requires asked { IsAsked nest.now orders.now.schedule.now }
     requires from { IsTouched nest.now from.now.entry.now from.now.access.now }
     requires to { Each (IsTouched nest.now b.now) accesses.now }
-    requires earlier { orders.now.earlier.now ≡ source_systems nest.now from.now.entry.now.statement b.now.statement }
-    requires later { orders.now.later.now ≡ turned_systems nest.now from.now.entry.now.statement b.now.statement orders.now.schedule.now }
+    requires earlier { orders.now.earlier.now ≡ source_systems nest.now from.now.entry.now.part b.now.part }
+    requires later { orders.now.later.now ≡ turned_systems nest.now from.now.entry.now.part b.now.part orders.now.schedule.now }
     ensures { OnOk result (AreAdded out.old.items out.new.items (flat_map (questions_of nest.now orders.now.schedule.now from.now.entry.now (from.now.access.now, from.now.stores) b.now) (touches accesses.now))) }
 {
     match accesses {
@@ -130,7 +130,7 @@ fn add_accesses(
     }
 }
 
-/// Adds the questions on an access and those of a living statement. Their orders are made once.
+/// Adds the questions on an access and those of a part that can have instances. Their orders are made once.
 fn add_living(
     alloc: Global,
     nest: &Nest,
@@ -145,11 +145,11 @@ fn add_living(
     requires living { IsTrue b.now.alive }
     ensures { OnOk result (AreAdded out.old.items out.new.items (flat_map (questions_of nest.now schedule.now from.now.entry.now (from.now.access.now, from.now.stores) b.now) (touches b.now.accesses))) }
 {
-    let earlier = source_before(alloc, nest, from.entry.statement, b.statement)?;
+    let earlier = source_before(alloc, nest, from.entry.part, b.part)?;
     if earlier.is_empty() {
         return Ok(());
     }
-    let later = target_after(alloc, nest, schedule, from.entry.statement, b.statement)?;
+    let later = target_after(alloc, nest, schedule, from.entry.part, b.part)?;
     if later.is_empty() {
         return Ok(());
     }
@@ -162,8 +162,8 @@ fn add_living(
     add_accesses(alloc, nest, from, b, accesses, &orders, out)
 }
 
-/// Adds the questions on an access and those of a statement.
-fn add_statement(
+/// Adds the questions on an access and those of a part.
+fn add_part(
     alloc: Global,
     nest: &Nest,
     schedule: &Schedule,
@@ -185,8 +185,8 @@ fn add_statement(
     add_living(alloc, nest, schedule, from, b, out)
 }
 
-/// Adds the questions on an access and those of these statements.
-fn add_statements(
+/// Adds the questions on an access and those of these parts.
+fn add_parts(
     alloc: Global,
     nest: &Nest,
     schedule: &Schedule,
@@ -202,13 +202,13 @@ fn add_statements(
     match entries {
         [] => Ok(()),
         [entry, rest @ ..] => {
-            add_statement(alloc, nest, schedule, from, entry, out)?;
-            add_statements(alloc, nest, schedule, from, rest, out)
+            add_part(alloc, nest, schedule, from, entry, out)?;
+            add_parts(alloc, nest, schedule, from, rest, out)
         }
     }
 }
 
-/// Adds the questions from these last accesses of a living statement.
+/// Adds the questions from these last accesses of a part that can have instances.
 fn add_from_accesses(
     alloc: Global,
     nest: &Nest,
@@ -230,13 +230,13 @@ fn add_from_accesses(
                 stores: rest.is_empty(),
             };
             let entries = nest.entries.as_slice();
-            add_statements(alloc, nest, schedule, &from, entries, out)?;
+            add_parts(alloc, nest, schedule, &from, entries, out)?;
             add_from_accesses(alloc, nest, schedule, a, rest, out)
         }
     }
 }
 
-/// Adds the questions from a statement.
+/// Adds the questions from a part.
 fn add_from(
     alloc: Global,
     nest: &Nest,
@@ -255,7 +255,7 @@ fn add_from(
     add_from_accesses(alloc, nest, schedule, a, accesses, out)
 }
 
-/// Adds the questions from these statements.
+/// Adds the questions from these parts.
 fn add_all(
     alloc: Global,
     nest: &Nest,

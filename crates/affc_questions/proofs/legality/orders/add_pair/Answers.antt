@@ -19,7 +19,7 @@ add_product-requires-clause-earlier c =
     let a = c.args.from.now.entry.now in
     let b = c.args.to.now.entry.now in
     orders_at _ c.in_ok-pair.pair.columns _ c.args.orders.now.earlier.now (ap (λ (r : Rows). r.columns) c.in_ok-pair.ensures.value) c.requires.earlier
-    (source_orders c.args.nest.now n a.statement b.statement (stands_in c.args.nest.now n a c.requires.from.there).counted)
+    (source_orders c.args.nest.now n a.part b.part (stands_in c.args.nest.now n a c.requires.from.there).counted)
 
 pub add_product-requires-clause-later : goal.add_product-requires-clause-later
 add_product-requires-clause-later c =
@@ -27,7 +27,7 @@ add_product-requires-clause-later c =
     let a = c.args.from.now.entry.now in
     let b = c.args.to.now.entry.now in
     orders_at _ c.in_ok-pair.pair.columns _ c.args.orders.now.later.now (ap (λ (r : Rows). r.columns) c.in_ok-pair.ensures.value) c.requires.later
-    (turned_orders c.args.nest.now c.args.orders.now.schedule.now c.requires.asked.scheduled a.statement b.statement (stands_in c.args.nest.now n b c.requires.to.there).counted)
+    (turned_orders c.args.nest.now c.args.orders.now.schedule.now c.requires.asked.scheduled a.part b.part (stands_in c.args.nest.now n b c.requires.to.there).counted)
 
 pub returns : goal.returns
 returns c =

@@ -1,7 +1,7 @@
 use Rattle.std.proofs.Common.{◌≡◌, true, false, sym, true≢false}
 use Rattle.affc_questions.proofs.legality.AddedLemmas.{nothing_added}
 use Rattle.affc_questions.proofs.legality.PairLemmas.{none_to}
-use Rattle.affc_questions.proofs.legality.orders.add_statement.Goals as goal
+use Rattle.affc_questions.proofs.legality.orders.add_part.Goals as goal
 
 pub returns-then-not-may_any_depend : goal.returns-then-not-may_any_depend
 returns-then-not-may_any_depend c =
