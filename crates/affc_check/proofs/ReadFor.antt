@@ -15,7 +15,7 @@ use Rattle.affc_quast.specs.Limits.{Shaped}
 use Rattle.affc_quast.specs.Seen.{trees_of}
 use Rattle.affc_quast.specs.Sources.{loads_before}
 use Rattle.affc_quast.specs.Trees.{Tree, Test, Div, Source, Input}
-use Rattle.affc_life.specs.Asked.{NamesStatements, KeepsLimits}
+use Rattle.affc_life.specs.Asked.{NamesParts, KeepsLimits}
 use Rattle.affc_certvalue.specs.fold.Entries.{entry_of}
 use Rattle.affc_certvalue.specs.fold.Limits.{IsModulusWithin, IsMarkWithin, IsFoldWithin}
 use Rattle.affc_certvalue.specs.declared.fold.fold.CertFold.{CertFold}
@@ -63,19 +63,19 @@ store_of n (s ∷ ss) k e = by (n == s.statement) refl (store_of n ss k)
         let r = rest g in
         (r.0, inr r.1, r.2, r.3)
 
-names_statements : (nest : Nest) (stores : List Store) → ((s : Store) → IsIn s stores → IsStoreIn nest s) → (tree : Tree) → NamesStores stores tree → NamesStatements nest tree
-names_statements nest stores h (Test f on off) n = (names_statements nest stores h on n.0, names_statements nest stores h off n.1)
-names_statements nest stores h (Div f by rest) n = names_statements nest stores h rest n
-names_statements nest stores h (Source s forms) n =
+names_parts : (nest : Nest) (stores : List Store) → ((s : Store) → IsIn s stores → IsStoreIn nest s) → (tree : Tree) → NamesStores stores tree → NamesParts nest tree
+names_parts nest stores h (Test f on off) n = (names_parts nest stores h on n.0, names_parts nest stores h off n.1)
+names_parts nest stores h (Div f by rest) n = names_parts nest stores h rest n
+names_parts nest stores h (Source s forms) n =
     let r = store_of s stores (length forms) n.1 in
     let i = h r.0 r.1 in
-    record { entry = i.entry; there = subst (λ m. slice_get nest.entries m ≡ Some i.entry) r.2 i.there; loops = sym r.3 ∙ i.loops }
-names_statements nest stores h Input n = tt
+    record { entry = i.entry; there = subst (λ m. slice_get nest.entries m ≡ Some i.entry) r.2 i.there; each = sym r.3 ∙ i.loops }
+names_parts nest stores h Input n = tt
 
 keeps_limits : (nest : Nest) (e : Entry) (l : Load) (tree : Tree) → IsLoadIn nest e l → IsTreeWithin l tree → KeepsLimits nest (length nest.params + length e.loops) tree
 keeps_limits nest e l tree i w = record {
   shaped = subst (λ n. Shaped n tree) i.columns w.shaped;
-  named = names_statements nest l.stores i.stores tree w.named;
+  named = names_parts nest l.stores i.stores tree w.named;
   fits = w.fits;
   short = w.short;
 }

@@ -4,6 +4,7 @@ use Rattle.affc_trace.specs.Law.{IsIn}
 use Rattle.affc_nest.specs.declared.nest.ArrayInfo.{ArrayInfo}
 use Rattle.affc_nest.specs.declared.nest.Entry.{Entry}
 use Rattle.affc_nest.specs.declared.nest.Nest.{Nest}
+use Rattle.affc_nest.specs.Parts.{coordinates}
 use Rattle.affc_quast.specs.Sources.{loads_in, loads_before}
 use Rattle.affc_cert.specs.Certificates.{seen}
 use Rattle.affc_cert.specs.Within.{IsWithin}
@@ -14,15 +15,15 @@ use Rattle.affc_cert.specs.declared.tree.layout.Load.{Load}
 use Rattle.affc_cert.specs.declared.tree.layout.Store.{Store}
 use Rattle.affc_check.specs.list.Certs.{IsCertWithin}
 
--- a statement with so many loops
+-- a part with so many coordinates
 pub record IsStoreIn (nest : Nest) (s : Store) : Type 0 where
   pub entry : Entry
   pub there : slice_get nest.entries s.statement ≡ Some entry
-  pub loops : s.loops ≡ length entry.loops
+  pub loops : s.loops ≡ coordinates entry
 
--- a load of this statement, with statements of the nest
+-- a load of this part, with parts of the nest
 pub record IsLoadIn (nest : Nest) (e : Entry) (l : Load) : Type 0 where
-  pub columns : l.columns ≡ length nest.params + length e.loops
+  pub columns : l.columns ≡ length nest.params + coordinates e
   pub stores : (s : Store) → IsIn s l.stores → IsStoreIn nest s
 
 -- an array with so many dimensions
@@ -31,12 +32,12 @@ pub record IsTemporaryIn (nest : Nest) (t : Temporary) : Type 0 where
   pub declared : slice_get nest.arrays t.array ≡ Some info
   pub dimensions : t.dimensions ≡ length info.extents
 
--- the nest's parameters, its loads, statements and loads in order, and arrays of it
+-- the nest's parameters, its loads, parts and loads in order, and arrays of it
 pub record IsLayoutOf (nest : Nest) (layout : Layout) : Type 0 where
   pub parameters : layout.parameters ≡ nest.context.columns
   pub no_more : length layout.loads ≡ loads_before nest.entries (length nest.entries)
-  pub loads : (statement load : ℕ) (e : Entry) → slice_get nest.entries statement ≡ Some e → load < loads_in e
-      → (l : Load) × (slice_get layout.loads (loads_before nest.entries statement + load) ≡ Some l) × IsLoadIn nest e l
+  pub loads : (part load : ℕ) (e : Entry) → slice_get nest.entries part ≡ Some e → load < loads_in e
+      → (l : Load) × (slice_get layout.loads (loads_before nest.entries part + load) ≡ Some l) × IsLoadIn nest e l
   pub temporaries : (t : Temporary) → IsIn t layout.temporaries → IsTemporaryIn nest t
 
 -- A certificate that was read for the layout of a nest keeps the limits that are asked of it.

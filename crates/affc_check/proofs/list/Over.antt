@@ -40,7 +40,7 @@ module _ (program : Program) (has : HasNest program) (named : NamesArrays progra
   -- the dimensions of the array
   dimensions : (e : Entry) → IsIn e (nest_of program).entries → (x : Access) → IsIn x e.accesses → x.array.0 ≡ array → length x.subs ≡ length info.extents
   dimensions e i x j of_array =
-      as_many program e.statement e named (entry_at program has e i) x j ∙ ap (λ n. length (extents_or_none (slice_get (nest_of program).arrays n))) of_array ∙ ap (λ o. length (extents_or_none o)) declared
+      as_many program e.part e named (entry_at program has e i) x j ∙ ap (λ n. length (extents_or_none (slice_get (nest_of program).arrays n))) of_array ∙ ap (λ o. length (extents_or_none o)) declared
 
   is_over : (s : PairSystem) → IsIn (clash_of s) (clashes (nest_of program) trees schedule array) → IsOver (nest_of program).context.columns (length info.extents) s
   is_over s asked =

@@ -80,16 +80,16 @@ none_made loads k old first new m d e = e ∙ ap (λ s. s ++ replicate k []) d �
 
 -- ---- A statement
 
-module _ (nest : Nest) (trees own : List Tree) (reader : Entry) (is : own ≡ drop (loads_before nest.entries reader.statement) trees) where
-  its_tree : (load : ℕ) → slice_get own load ≡ tree_of nest trees reader.statement load
-  its_tree load = ap (λ ts. slice_get ts load) is ∙ later_tree (loads_before nest.entries reader.statement) load trees
+module _ (nest : Nest) (trees own : List Tree) (reader : Entry) (is : own ≡ drop (loads_before nest.entries reader.part) trees) where
+  its_tree : (load : ℕ) → slice_get own load ≡ tree_of nest trees reader.part load
+  its_tree load = ap (λ ts. slice_get ts load) is ∙ later_tree (loads_before nest.entries reader.part) load trees
 
   own_is : (n : ℕ) (xs : List Access) → own_items nest own reader n xs ≡ items_by_load nest trees reader n xs
   own_is n [] = refl
   own_is n (x ∷ []) = refl
   own_is n (x ∷ y ∷ ys) =
       ap (λ t. load_items nest reader x t ∷ own_items nest own reader (n + 1) (y ∷ ys)) (its_tree n)
-      ∙ ap (λ zs. load_items nest reader x (tree_of nest trees reader.statement n) ∷ zs) (own_is (n + 1) (y ∷ ys))
+      ∙ ap (λ zs. load_items nest reader x (tree_of nest trees reader.part n) ∷ zs) (own_is (n + 1) (y ∷ ys))
 
   -- of a living one
   pub living_entry : (accesses : List Access) → accesses ≡ reader.accesses → reader.alive ≡ true → own_items nest own reader 0 accesses ≡ items_by_entry nest trees reader
@@ -114,7 +114,7 @@ by_load_flat : (nest : Nest) (trees : List Tree) (reader : Entry) (n : ℕ) (xs 
 by_load_flat nest trees reader n [] = refl
 by_load_flat nest trees reader n (x ∷ []) = refl
 by_load_flat nest trees reader n (x ∷ y ∷ ys) =
-    let own = questions_of_load nest reader x (tree_of nest trees reader.statement n) in
+    let own = questions_of_load nest reader x (tree_of nest trees reader.part n) in
     ap (λ l. map flow_item own ++ l) (by_load_flat nest trees reader (n + 1) (y ∷ ys)) ∙ sym (map-append flow_item own (questions_of_loads nest trees reader (n + 1) (y ∷ ys)))
 
 empty_flat : (n : ℕ) → ◌≡◌ {A = List Item} (flat_map (λ z. z) (replicate n [])) []

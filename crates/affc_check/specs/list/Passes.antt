@@ -19,17 +19,17 @@ use Rattle.affc_check.specs.list.Limits.{AnyPasses, IsFirst, HoldsOfNone}
 
 -- ---- Trees
 
--- the items of the trees of a statement's loads from this number on, load by load
+-- the items of the trees of one entry's loads from this number on, load by load
 abbrev pub items_by_load : Nest → List Tree → Entry → (load : ℕ) → List Access → List (List Item)
 items_by_load nest trees reader load [] = []
 items_by_load nest trees reader load (x ∷ []) = []
 items_by_load nest trees reader load (x ∷ y ∷ ys) =
-    map (λ q. Question q.system) (questions_of_load nest reader x (tree_of nest trees reader.statement load)) ∷ items_by_load nest trees reader (load + 1) (y ∷ ys)
+    map (λ q. Question q.system) (questions_of_load nest reader x (tree_of nest trees reader.part load)) ∷ items_by_load nest trees reader (load + 1) (y ∷ ys)
 
 abbrev pub items_by_entry : Nest → List Tree → Entry → List (List Item)
 items_by_entry nest trees e = if e.alive then items_by_load nest trees e 0 e.accesses else replicate (loads_in e) []
 
--- the items of each tree; of a load of a statement that can have no instances, none
+-- the items of each tree; of a load in an entry that can have no instances, none
 abbrev pub items_by_tree : Nest → List Tree → List (List Item)
 items_by_tree nest trees = flat_map (items_by_entry nest trees) nest.entries
 

@@ -38,7 +38,7 @@ leaf_items nest reader load leaf = map flow_item (leaf_questions nest reader loa
 abbrev pub load_items : Nest → Entry → Access → Option Tree → List Item
 load_items nest reader load tree = map flow_item (questions_of_load nest reader load tree)
 
--- load by load, where the loads of the statement have these trees
+-- load by load, where the loads of the entry have these trees
 abbrev pub own_items : Nest → List Tree → Entry → (load : ℕ) → List Access → List (List Item)
 own_items nest own reader load [] = []
 own_items nest own reader load (x ∷ []) = []

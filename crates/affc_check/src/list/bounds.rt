@@ -2,6 +2,7 @@
 ghost use Rattle.std.specs.Prelude.{◌≡◌, ◌++◌, length, map, flat_map, slice_get, OnOk};
 ghost use Rattle.affc_trace.specs.Law.{IsIn};
 ghost use Rattle.affc_nest.specs.Asked.{IsNest, IsExtent, IsSubscript};
+ghost use Rattle.affc_nest.specs.Parts.{coordinates};
 ghost use Rattle.affc_nest.specs.Questions.{extent_question, extents_or_none, extents_of_access, questions_of, entry_questions, extent_questions, bound_questions};
 ghost use Rattle.affc_sched.specs.Touched.{Each};
 ghost use Rattle.affc_check.specs.list.Held.{listed_said};
@@ -68,7 +69,7 @@ pub(crate) fn add_extent_questions(
     add_arrays(alloc, nest, nest.arrays.as_slice(), out)
 }
 
-/// Adds the questions on an access of a statement, by the subscripts and extents of its dimensions.
+/// Adds the questions on an access of an entry, by the subscripts and extents of its dimensions.
 fn add_dimensions(
     alloc: Global,
     nest: &Nest,
@@ -81,7 +82,7 @@ fn add_dimensions(
     requires entry { IsIn entry.now nest.now.entries }
     requires subs { Each (IsSubscript entry.now) subs.now }
     requires extents { Each (IsExtent nest.now) extents.now }
-    ensures { OnOk result (flat_map listed_said out.new.items ≡ flat_map listed_said out.old.items ++ map Question (questions_of entry.now.domain (length entry.now.loops) subs.now extents.now)) }
+    ensures { OnOk result (flat_map listed_said out.new.items ≡ flat_map listed_said out.old.items ++ map Question (questions_of entry.now.domain (coordinates entry.now) subs.now extents.now)) }
 {
     match subs {
         [] => Ok(()),
@@ -109,7 +110,7 @@ fn extents_of<'a>(nest: &'a Nest, array: ArrayId) -> &'a [Form]
     }
 }
 
-/// Adds the questions on these accesses of a statement.
+/// Adds the questions on these accesses of an entry.
 fn add_accesses(
     alloc: Global,
     nest: &Nest,
@@ -120,7 +121,7 @@ fn add_accesses(
     requires nest { IsNest nest.now }
     requires entry { IsIn entry.now nest.now.entries }
     requires accesses { Each (λ x. IsIn x entry.now.accesses) accesses.now }
-    ensures { OnOk result (flat_map listed_said out.new.items ≡ flat_map listed_said out.old.items ++ map Question (flat_map (λ x. questions_of entry.now.domain (length entry.now.loops) x.subs (extents_of_access nest.now x)) accesses.now)) }
+    ensures { OnOk result (flat_map listed_said out.new.items ≡ flat_map listed_said out.old.items ++ map Question (flat_map (λ x. questions_of entry.now.domain (coordinates entry.now) x.subs (extents_of_access nest.now x)) accesses.now)) }
 {
     match accesses {
         [] => Ok(()),
@@ -133,7 +134,7 @@ fn add_accesses(
     }
 }
 
-/// Adds the questions on the accesses of a statement.
+/// Adds the questions on the accesses of an entry.
 fn add_entry(
     alloc: Global,
     nest: &Nest,
@@ -150,7 +151,7 @@ fn add_entry(
     add_accesses(alloc, nest, entry, entry.accesses.as_slice(), out)
 }
 
-/// Adds the questions on the accesses of these statements.
+/// Adds the questions on the accesses of these entries.
 fn add_entries(
     alloc: Global,
     nest: &Nest,

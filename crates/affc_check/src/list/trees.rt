@@ -2,6 +2,7 @@
 ghost use Rattle.std.specs.Prelude.{◌≡◌, ◌+◌, ◌-◌, ◌<◌, ◌≤◌, ◌++◌, [], drop, length, map, flat_map, slice_get, replicate, IsTrue, IfOk, OnOk};
 ghost use Rattle.affc_trace.specs.Law.{IsIn};
 ghost use Rattle.affc_nest.specs.Asked.{IsNest};
+ghost use Rattle.affc_nest.specs.Parts.{coordinates};
 ghost use Rattle.affc_sched.specs.Touched.{Each};
 ghost use Rattle.affc_quast.specs.Leaves.{leaves_of};
 ghost use Rattle.affc_quast.specs.Seen.{seen, trees_of};
@@ -12,7 +13,7 @@ ghost use Rattle.affc_check.specs.list.Groups.{part_items, AreTreeGroups};
 ghost use Rattle.affc_check.specs.list.Passes.{items_by_entry};
 ghost use Rattle.affc_check.specs.list.Walks.{leaf_items, load_items, own_items};
 
-use affc_life::stores::{loops_round, params_in};
+use affc_life::stores::{coordinates, params_in};
 use affc_life::walk::trees_from;
 use affc_nest::{Access, Entry, Nest};
 use affc_products::Group;
@@ -34,7 +35,7 @@ fn add_leaf(
     requires nested { IsNest nest.now }
     requires reads { IsLiving nest.now reader.now }
     requires load { IsIn load.now reader.now.accesses }
-    requires path { IsPath nest.now (length nest.now.params + length reader.now.loops) (leaf_seen leaf.now) }
+    requires path { IsPath nest.now (length nest.now.params + coordinates reader.now) (leaf_seen leaf.now) }
     ensures { OnOk result (part_items out.new.items ≡ part_items out.old.items ++ leaf_items nest.now reader.now load.now (leaf_seen leaf.now)) }
 {
     let mut groups = leaf_questions(alloc, nest, reader, load, leaf)?;
@@ -54,7 +55,7 @@ fn add_leaves(
     requires nested { IsNest nest.now }
     requires reads { IsLiving nest.now reader.now }
     requires load { IsIn load.now reader.now.accesses }
-    requires paths { Each (IsPath nest.now (length nest.now.params + length reader.now.loops)) (map leaf_seen leaves.now) }
+    requires paths { Each (IsPath nest.now (length nest.now.params + coordinates reader.now)) (map leaf_seen leaves.now) }
     ensures { OnOk result (part_items out.new.items ≡ part_items out.old.items ++ flat_map (leaf_items nest.now reader.now load.now) (map leaf_seen leaves.now)) }
 {
     match leaves {
@@ -68,14 +69,14 @@ fn add_leaves(
     }
 }
 
-/// How many columns the tree of a load of a statement is over.
+/// How many columns the tree of a load in an entry is over.
 fn columns_of(nest: &Nest, reader: &Entry) -> u32
     requires nested { IsNest nest.now }
     requires reads { IsIn reader.now nest.now.entries }
-    ensures value { result ≡ length nest.now.params + length reader.now.loops }
+    ensures value { result ≡ length nest.now.params + coordinates reader.now }
     ensures few { result ≤ 10 }
 {
-    params_in(nest) + loops_round(reader)
+    params_in(nest) + coordinates(reader)
 }
 
 /// Adds the questions of a load with this tree.
@@ -90,14 +91,14 @@ fn add_tree(
     requires nested { IsNest nest.now }
     requires reads { IsLiving nest.now reader.now }
     requires load { IsIn load.now reader.now.accesses }
-    requires tree { KeepsLimits nest.now (length nest.now.params + length reader.now.loops) (seen tree.now) }
-    ensures { OnOk result (part_items out.new.items ≡ part_items out.old.items ++ flat_map (leaf_items nest.now reader.now load.now) (leaves_of (length nest.now.params + length reader.now.loops) (seen tree.now))) }
+    requires tree { KeepsLimits nest.now (length nest.now.params + coordinates reader.now) (seen tree.now) }
+    ensures { OnOk result (part_items out.new.items ≡ part_items out.old.items ++ flat_map (leaf_items nest.now reader.now load.now) (leaves_of (length nest.now.params + coordinates reader.now) (seen tree.now))) }
 {
     let leaves = leaves(alloc, columns_of(nest, reader), tree)?;
     add_leaves(alloc, nest, reader, load, leaves.as_slice(), out)
 }
 
-/// The questions of the load with this number, where the statement's loads have these trees.
+/// The questions of the load with this number, where the entry's loads have these trees.
 fn part_of(
     alloc: Global,
     nest: &Nest,
@@ -163,7 +164,7 @@ fn add_none(alloc: Global, loads: usize, out: &mut Items<Items<Group>>) -> Resul
     add_none(alloc, loads - 1, out)
 }
 
-/// Adds the parts of a statement's loads.
+/// Adds the parts of an entry's loads.
 fn add_reader(
     alloc: Global,
     nest: &Nest,
@@ -180,11 +181,11 @@ fn add_reader(
     if !reader.alive {
         return add_none(alloc, reader.accesses.len().saturating_sub(1), out);
     }
-    let own = trees_from(nest.entries.as_slice(), reader.statement, trees);
+    let own = trees_from(nest.entries.as_slice(), reader.part, trees);
     add_loads(alloc, nest, reader, own, 0, accesses, out)
 }
 
-/// Adds the parts of the loads of these statements.
+/// Adds the parts of the loads of these entries.
 fn add_readers(
     alloc: Global,
     nest: &Nest,

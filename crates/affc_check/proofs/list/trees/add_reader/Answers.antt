@@ -22,7 +22,7 @@ add_loads-requires-clause-loads c =
     let own = map seen c.trees_from-own.result.now in
     let trees = map seen c.args.trees.now in
     let reader = c.args.reader.now in
-    let is = c.trees_from-own.ensures ∙ ap (λ es. drop (loads_before es reader.statement) trees) c.as_slice.ensures in
+    let is = c.trees_from-own.ensures ∙ ap (λ es. drop (loads_before es reader.part) trees) c.as_slice.ensures in
     own_loads c.args.nest.now trees own reader is c.requires.limits (its_place c.args.nest.now c.requires.nested reader (record { there = c.requires.reader; alive = c.if-not-reader.false }))
 
 pub returns : goal.returns
@@ -30,6 +30,6 @@ returns c =
     let own = map seen c.trees_from-own.result.now in
     let trees = map seen c.args.trees.now in
     let reader = c.args.reader.now in
-    let is = c.trees_from-own.ensures ∙ ap (λ es. drop (loads_before es reader.statement) trees) c.as_slice.ensures in
+    let is = c.trees_from-own.ensures ∙ ap (λ es. drop (loads_before es reader.part) trees) c.as_slice.ensures in
     on_ok_weaker c.add_loads.result
     (λ h. h ∙ ap (λ s. map part_items c.args.out.now ++ s) (living_entry c.args.nest.now trees own reader is c.as_slice-accesses.result.now c.as_slice-accesses.ensures c.if-not-reader.false)) c.add_loads.ensures

@@ -14,18 +14,18 @@ sum_is a b m l e f = omega (arith, e, f)
 pub params_in-requires : goal.params_in-requires
 params_in-requires c = nest_few c.args.nest.now c.requires.nested
 
-pub loops_round-requires : goal.loops_round-requires
-loops_round-requires c = few_numbered c.args.nest.now c.args.reader.now c.requires.nested c.requires.reads
+pub coordinates-requires : goal.coordinates-requires
+coordinates-requires c = few_numbered c.args.nest.now c.args.reader.now c.requires.nested c.requires.reads
 
 pub overflow_add-result : goal.overflow_add-result
 overflow_add-result c =
-    let h = sum_few c.params_in.result c.loops_round.result (length c.args.nest.now.params) (length c.args.reader.now.loops) c.params_in.ensures c.loops_round.ensures (nest_few c.args.nest.now c.requires.nested)
+    let h = sum_few c.params_in.result c.coordinates.result (length c.args.nest.now.params) (length c.args.reader.now.loops) c.params_in.ensures c.coordinates.ensures (nest_few c.args.nest.now c.requires.nested)
     (few_numbered c.args.nest.now c.args.reader.now c.requires.nested c.requires.reads) in
     few_fit _ (omega (arith, h))
 
 pub returns : goal.returns
 returns c = record {
-  value = sum_is c.params_in.result c.loops_round.result (length c.args.nest.now.params) (length c.args.reader.now.loops) c.params_in.ensures c.loops_round.ensures;
-  few = sum_few c.params_in.result c.loops_round.result (length c.args.nest.now.params) (length c.args.reader.now.loops) c.params_in.ensures c.loops_round.ensures (nest_few c.args.nest.now c.requires.nested)
+  value = sum_is c.params_in.result c.coordinates.result (length c.args.nest.now.params) (length c.args.reader.now.loops) c.params_in.ensures c.coordinates.ensures;
+  few = sum_few c.params_in.result c.coordinates.result (length c.args.nest.now.params) (length c.args.reader.now.loops) c.params_in.ensures c.coordinates.ensures (nest_few c.args.nest.now c.requires.nested)
       (few_numbered c.args.nest.now c.args.reader.now c.requires.nested c.requires.reads);
 }
