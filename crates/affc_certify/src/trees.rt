@@ -29,10 +29,7 @@ fn tree_copied(tree: &Quast, alloc: Global) -> Result<Quast, AllocError>
         }
         Quast::Source { part, forms } => {
             let forms = copied_forms(alloc, forms.as_slice())?;
-            Ok(Quast::Source {
-                part: *part,
-                forms,
-            })
+            Ok(Quast::Source { part: *part, forms })
         }
         Quast::Input => Ok(Quast::Input),
     }

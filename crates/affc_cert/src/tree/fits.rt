@@ -11,10 +11,7 @@ pub fn tree_fits(tree: &Quast) -> bool
     match tree {
         Quast::Test { form, yes, no } => form_fits(form) && tree_fits(yes) && tree_fits(no),
         Quast::Div { form, by: _, rest } => form_fits(form) && tree_fits(rest),
-        Quast::Source {
-            part: _,
-            forms,
-        } => forms_fit(forms.as_slice()),
+        Quast::Source { part: _, forms } => forms_fit(forms.as_slice()),
         Quast::Input => true,
     }
 }

@@ -86,9 +86,7 @@ fn add_nodes(alloc: Global, nodes: &mut Vec<Value>, tree: &Quast) -> Result<(), 
             add_div(alloc, nodes, form, *by)?;
             add_nodes(alloc, nodes, rest)
         }
-        Quast::Source { part, forms } => {
-            add_source(alloc, nodes, *part, forms.as_slice())
-        }
+        Quast::Source { part, forms } => { add_source(alloc, nodes, *part, forms.as_slice()) }
         Quast::Input => add_input(alloc, nodes),
     }
 }
