@@ -18,7 +18,7 @@ use Rattle.affc_cert.specs.declared.tree.layout.Store.{Store}
 use Rattle.affc_check.specs.Layouts.{IsLoadIn}
 use Rattle.affc_accept.specs.Layouts.{is_of, is_writer, stores_from, load_of, loads_among, loads_of, Dimensions, dimensions_of, temporaries_from, LayoutsAreOfNests}
 
--- ---- Statements that store an array
+-- ---- Parts that store an array
 
 abbrev one_if : Bool → Writer → List Writer
 one_if t w = if t then w ∷ [] else []
@@ -55,7 +55,7 @@ in_choice true x y (inl e) = (refl, e)
 in_choice true x y (inr i) = absurd i
 in_choice false x y i = absurd i
 
--- the statement of a store
+-- the part of a store
 record HasStore (first : ℕ) (es : List Entry) (s : Store) : Type 0 where
   number : ℕ
   entry : Entry

@@ -21,7 +21,7 @@ tree_exchanged first second (Div f by rest) = Div (form_exchanged first second f
 tree_exchanged first second (Source s forms) = Source s (map (form_exchanged first second) forms)
 tree_exchanged first second Input = Input
 
--- the iterators round a load's statement, where there are so many parameters
+-- the coordinates of a load's part, where there are so many parameters
 abbrev pub iterators_of : (parameters : ℕ) → Load → ℕ
 iterators_of parameters load = load.columns - parameters
 

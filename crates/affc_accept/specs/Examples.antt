@@ -46,7 +46,7 @@ small_nest = record {
 abbrev pub store_by : ℕ → Store
 store_by n = record { statement = n; loops = 0 }
 
--- The first statement alone is one that the load's tree may name.
+-- The first part alone is one that the load's tree may name.
 abbrev pub DeadStoresNothing : Type 0
 DeadStoresNothing = flat_map (loads_of small_nest) small_nest.entries ≡ record { columns = 0; stores = store_by 0 ∷ [] } ∷ []
 

@@ -4,6 +4,7 @@ use Rattle.affc_nest.specs.declared.nest.Access.{Access}
 use Rattle.affc_nest.specs.declared.nest.ArrayInfo.{ArrayInfo}
 use Rattle.affc_nest.specs.declared.nest.Entry.{Entry}
 use Rattle.affc_nest.specs.declared.nest.Nest.{Nest}
+use Rattle.affc_nest.specs.Parts.{coordinates}
 use Rattle.affc_flow.specs.Questions.{is_temp, store_of_entry}
 use Rattle.affc_cert.specs.declared.layout.Layout.{Layout}
 use Rattle.affc_certvalue.specs.declared.fold.layout.Temporary.{Temporary}
@@ -17,18 +18,18 @@ abbrev pub is_of : (array : ℕ) → Option Access → Bool
 is_of array None = false
 is_of array (Some x) = nat_eq x.array.0 array
 
--- whether a statement can have instances, and stores this array
+-- whether a part can have instances, and stores this array
 abbrev pub is_writer : (array : ℕ) → Entry → Bool
 is_writer array e = e.alive && is_of array (store_of_entry e)
 
--- such statements among these, which have the numbers from this one on
+-- such parts among these, which have the numbers from this one on
 abbrev pub stores_from : (array first : ℕ) → List Entry → List Store
 stores_from array first [] = []
-stores_from array first (e ∷ es) = (if is_writer array e then record { statement = first; loops = length e.loops } ∷ [] else []) ++ stores_from array (first + 1) es
+stores_from array first (e ∷ es) = (if is_writer array e then record { statement = first; loops = coordinates e } ∷ [] else []) ++ stores_from array (first + 1) es
 
--- a load of the statement
+-- a load of the part
 abbrev pub load_of : Nest → Entry → Access → Load
-load_of nest e x = record { columns = length nest.params + length e.loops; stores = stores_from x.array.0 0 nest.entries }
+load_of nest e x = record { columns = length nest.params + coordinates e; stores = stores_from x.array.0 0 nest.entries }
 
 -- the loads among its accesses, all but the last
 abbrev pub loads_among : Nest → Entry → List Access → List Load
@@ -55,7 +56,7 @@ temporaries_from first (a ∷ as') = (if is_temp a.role && nat_lt 0 (length a.ex
 
 -- ---- All of it
 
--- The loads of all statements in order; and the temporaries of at least one dimension, in order.
+-- The loads of all parts in order; and the temporaries of at least one dimension, in order.
 pub record IsLayout (nest : Nest) (layout : Layout) : Type 0 where
   pub parameters : layout.parameters ≡ nest.context.columns
   pub loads : layout.loads ≡ flat_map (loads_of nest) nest.entries

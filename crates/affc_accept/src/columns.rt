@@ -78,7 +78,7 @@ fn tree_exchanged(alloc: Global, tree: &Quast, first: u32, second: u32) -> Resul
     }
 }
 
-// How many iterators stand round a load's statement, where there are so many parameters.
+// How many coordinates a load's part has, where there are so many parameters.
 fn iterators_of(parameters: u32, load: &Load) -> u32
     ensures { result ≡ specs.iterators_of parameters load.now }
 {

@@ -1,5 +1,6 @@
 //! The layout of a nest: what the shape of its certificates depends on.
 ghost use Rattle.std.specs.Prelude.{◌≡◌, ◌++◌, ◌∷◌, [], ◌&&◌, nat_lt, if◌then◌else◌, length, map, flat_map, IfOk, OnOk};
+ghost use Rattle.affc_nest.specs.Parts.{coordinates};
 ghost use Rattle.affc_flow.specs.Questions.{is_temp};
 ghost use Rattle.affc_accept.specs.Layouts as specs;
 
@@ -22,7 +23,7 @@ fn narrow(n: usize) -> Result<u32, AllocError>
 
 // ---- Loads
 
-// Whether a statement can have instances, and stores this array.
+// Whether a part can have instances, and stores this array.
 #[tactic(auto, using(crate::proofs::Listed::is_a_writer, crate::proofs::Listed::is_no_writer))]
 fn is_writer(entry: &Entry, array: ArrayId) -> bool
     ensures { result ≡ specs.is_writer array.0 entry.now }
@@ -33,23 +34,26 @@ fn is_writer(entry: &Entry, array: ArrayId) -> bool
     }
 }
 
-// Adds the statement with this number, if it is such a one.
+// Adds the part with this number, if it is such a one.
 fn add_store(
-    statement: u32,
+    part: u32,
     entry: &Entry,
     array: ArrayId,
     out: &mut Items<Store>,
 ) -> Result<(), AllocError>
-    ensures { OnOk result (out.new ≡ out.old ++ (if specs.is_writer array.0 entry.now then record { statement = statement; loops = length entry.now.loops } ∷ [] else [])) }
+    ensures { OnOk result (out.new ≡ out.old ++ (if specs.is_writer array.0 entry.now then record { statement = part; loops = coordinates entry.now } ∷ [] else [])) }
 {
     if is_writer(entry, array) {
-        let loops = narrow(entry.loops.len())?;
-        out.push(Store { statement, loops })?;
+        let loops = narrow(entry.coordinates())?;
+        out.push(Store {
+            statement: part,
+            loops,
+        })?;
     }
     Ok(())
 }
 
-// Adds such statements among these, which have the numbers from this one on.
+// Adds such parts among these, which have the numbers from this one on.
 fn add_stores(
     first: u32,
     entries: &[Entry],
@@ -70,13 +74,13 @@ fn add_stores(
     }
 }
 
-// A load of a statement.
+// A load of a part.
 fn load(alloc: Global, nest: &Nest, entry: &Entry, access: &Access) -> Result<Load, AllocError>
     ensures { IfOk result (λ l. l ≡ specs.load_of nest.now entry.now access.now) }
 {
     let params = narrow(nest.params.ranges().len())?;
-    let loops = narrow(entry.loops.len())?;
-    let Some(columns) = params.checked_add(loops) else {
+    let own = narrow(entry.coordinates())?;
+    let Some(columns) = params.checked_add(own) else {
         return Err(AllocError);
     };
     let mut stores = Items::new(alloc);
@@ -84,7 +88,7 @@ fn load(alloc: Global, nest: &Nest, entry: &Entry, access: &Access) -> Result<Lo
     Ok(Load { columns, stores })
 }
 
-// Adds the loads of a statement among these accesses, all but the last.
+// Adds the loads of a part among these accesses, all but the last.
 fn add_loads_among(
     alloc: Global,
     nest: &Nest,
@@ -105,7 +109,7 @@ fn add_loads_among(
     }
 }
 
-// Adds the loads of these statements.
+// Adds the loads of these parts.
 fn add_loads(
     alloc: Global,
     nest: &Nest,
