@@ -38,8 +38,8 @@ use Rattle.affc_quast.specs.Leaves.{Leaf, negated}
 use Rattle.affc_quast.specs.Limits.{narrow, FitsForm, Shaped}
 use Rattle.affc_quast.specs.Paths.{IsNear}
 use Rattle.affc_quast.specs.Trees.{Tree, Test, Div, Source, Input, instance_at, named_at, quotients_at, depth_of, divisions_of}
-use Rattle.affc_quast.proofs.RangeLemmas.{floor_grows}
-use Rattle.affc_quast.proofs.LeafLemmas.{padded_value, short_value, says_negated, division_met, floor_is}
+use Rattle.affc_nest.proofs.DivisionLemmas.{floor_is, floor_grows, division_met}
+use Rattle.affc_quast.proofs.LeafLemmas.{padded_value, short_value, says_negated}
 use Rattle.affc_flow.specs.Asked.{writers_of, all_named, input_asked}
 use Rattle.affc_dataflow.specs.Guesses.{IsPath, CoversOn, divided_path, IsQuotientRange}
 use Rattle.affc_flow.specs.Laws.{Loads, IsSourceOf, NoneHasAPoint}

@@ -1,7 +1,7 @@
 //! The search for the tree of a load, part by part of the box of its parameters and iterators.
 ghost use Rattle.std.specs.Prelude.{◌≡◌, ◌+◌, ◌-◌, ◌≤◌, ◌≤ℤ◌, ◌++◌, ◌∷◌, [], pos, negsuc, map, replicate, length, IfOk, OnOk, IfErr, Some};
 ghost use Rattle.std.specs.List.{All};
-ghost use Rattle.affc_system.specs.Boxes.{IsBox};
+ghost use Rattle.affc_system.specs.Boxes.{IsBox, pin};
 ghost use Rattle.affc_system.specs.Systems.{IsPoint};
 ghost use Rattle.affc_split.specs.Budgets.{IsLater};
 ghost use Rattle.affc_nest.specs.Parts.{coordinates};
@@ -10,7 +10,6 @@ ghost use Rattle.affc_quast.specs.Seen.{seen};
 ghost use Rattle.affc_quast.specs.Trees.{Test, Source};
 ghost use Rattle.affc_flow.specs.Questions.{is_temporary};
 ghost use Rattle.affc_dataflow.specs.Searches.{Covers, part_box, Fuel, IsSlight, IsSlightRange, IsLoad};
-ghost use Rattle.affc_latest.specs.Stores.{pin};
 ghost use Rattle.affc_dataflow.specs.Unwritten.{IsUnwritten, IfUnwritten};
 
 use crate::grown::guessed;

@@ -19,6 +19,6 @@ returns-clause-right c =
     (rows_wide p.columns p.rows (subst (λ rows. All (IsRow p.columns) rows) c.rows-rows.ensures.rows c.rows-rows.ensures.fit))
     w c.args.chosen.now.store.now c.requires.writes forms
     (subst (λ n. HaveColumns n forms) c.columns-columns.ensures.value (c.have_columns.ensures c.if-not-have_columns.false))
-    (c.if-chosen-len.false ∙ c.len.ensures)
+    (c.if-chosen-coordinates.false ∙ c.coordinates.ensures)
     (c.keep_limits.ensures c.if-not-keep_limits.false)
     (c.in_ok-is_source.ensures.none c.if-not-branch.false))
