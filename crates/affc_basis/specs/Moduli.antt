@@ -2,6 +2,7 @@
 use Rattle.std.specs.Prelude.{◌≡◌, ℕ, ◌^◌, ◌≤◌, unsigned_abs, ℤ, pos, ◌*ℤ◌, ◌≤ℤ◌, ◌<ℤ◌, List, [], ◌∷◌, length, slice_get, Some}
 use Rattle.std.specs.Int.{int_rem_euclid}
 use Rattle.affc_rows.specs.Forms.{Affine, dot, value}
+use Rattle.affc_rows.specs.Sizes.{IsWithin}
 use Rattle.affc_basis.specs.Bases.{AreWithin}
 use Rattle.affc_basis.specs.Slices.{along, minus, InSlice}
 
@@ -45,7 +46,5 @@ pub record IsModulusAt (p : List ℤ) (b : Affine) : Type 0 where
   pub high : value b p ≤ℤ pos (2 ^ 60)
 
 -- a modulus over so many parameters, within its limits
-pub record IsModulus (parameters : ℕ) (b : Affine) : Type 0 where
-  pub width : length b.coefs ≡ parameters
-  pub coefs_fit : AreWithin (2 ^ 30) b.coefs
-  pub constant_fits : unsigned_abs b.constant ≤ 2 ^ 55
+abbrev pub IsModulus : (parameters : ℕ) → Affine → Type 0
+IsModulus parameters = IsWithin parameters (2 ^ 30) (2 ^ 55)

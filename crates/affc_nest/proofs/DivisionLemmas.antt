@@ -5,7 +5,7 @@ use Rattle.std.proofs.lemmas.Int.{ints}
 use Rattle.affc_rows.specs.Forms.{Affine, value, magnitude, dot}
 use Rattle.affc_rows.specs.Vocabulary.{widened}
 use Rattle.affc_rows.proofs.IntLemmas.{mul-add}
-use Rattle.affc_system.specs.Boxes.{IsBox, InBox, IsCorner, corner}
+use Rattle.affc_system.specs.Boxes.{IsBox, IsCorner, corner}
 use Rattle.affc_system.specs.Systems.{Met}
 use Rattle.affc_system.proofs.BoxLemmas.{grows, corner_in_box, corner_is_corner, value_least, value_greatest}
 use Rattle.affc_ast.specs.declared.tree.Rel.TheVariants.{Less, LessEqual}

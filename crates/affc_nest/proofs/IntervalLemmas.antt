@@ -1,16 +1,17 @@
 -- The ends of a form's values over a box, at its corners.
 use Rattle.std.proofs.Common.{◌≡◌, ℕ, suc, ◌+◌, ◌*◌, ◌^◌, ◌<◌, ◌≤◌, ℤ, ◌≤ℤ◌, true, false, List, [], ◌∷◌, length, refl, sym, ap, ◌∙◌, subst, arith, inl, inr}
-use Rattle.std.proofs.Common.{to_z, of_z, ◌*ℤ◌}
+use Rattle.std.proofs.Common.{to_z, of_z}
 use Rattle.std.proofs.Common.{IsTrue, ◌++◌, if◌then◌else◌}
 use Rattle.std.proofs.lemmas.Bool.{leb-true}
+use Rattle.std.proofs.lemmas.List.Elements.{All-nil, All-cons}
 use Rattle.std.specs.Prelude.{unsigned_abs, nat_abs, int_lt, not, ◌&&◌, FitsSigned}
 use Rattle.std.specs.Int.{w64, w128}
-use Rattle.std.proofs.Math.Nat.{mul-le-mul_left, mul-le-mul_right}
 use Rattle.std.proofs.lemmas.Int.{ints, to_z-of_z, fits_signed_from_abs}
 use Rattle.affc_rows.specs.Forms.{Affine, value, dot, dot_magnitude, magnitude}
 use Rattle.affc_rows.proofs.IntLemmas.{abs-add}
+use Rattle.affc_rows.proofs.SizeLemmas.{Below, dot_abs, dot_below}
 use Rattle.affc_system.specs.Boxes.{IsBox, InBox, IsCorner, corner}
-use Rattle.affc_system.proofs.BoxLemmas.{corner_in_box, corner_is_corner, product_within, value_least, value_greatest}
+use Rattle.affc_system.proofs.BoxLemmas.{corner_in_box, corner_is_corner, value_least, value_greatest}
 use Rattle.affc_ast.specs.declared.tree.Ix.{Ix}
 use Rattle.affc_ast.specs.declared.tree.Rel.{Rel}
 use Rattle.affc_trace.proofs.EndedReads.{append_assoc}
@@ -24,7 +25,7 @@ use Rattle.affc_nest.specs.declared.ranges.Fit.TheVariants.{Near, Missed, Far}
 use Rattle.affc_domain.specs.Plain.{is_plain}
 use Rattle.affc_nest.specs.Fits.{FitSays}
 use Rattle.affc_nest.specs.Frames.{plain_at}
-use Rattle.affc_nest.specs.Sides.{AreNear, IsSide, NearRanges}
+use Rattle.affc_nest.specs.Sides.{IsSide, NearRanges}
 
 antisymmetric : (x y : ℤ) → x ≤ℤ y → y ≤ℤ x → x ≡ y
 antisymmetric x y h g = omega (arith, ints)
@@ -41,47 +42,31 @@ greatest_is f rs z box l above at =
     antisymmetric z (value f (corner true f.coefs rs)) (subst (λ y. y ≤ℤ value f (corner true f.coefs rs)) at.2 (value_greatest f rs at.0 l at.1))
     (above (corner true f.coefs rs) (corner_in_box rs (corner true f.coefs rs) box (corner_is_corner true f.coefs rs l)))
 
-product_below : (a b : ℕ) → a ≤ 2 ^ 16 → b ≤ 2 ^ 32 → a * b ≤ 2 ^ 48
-product_below a b h k =
-    let p : a * b ≤ a * 2 ^ 32 = mul-le-mul_left a k in
-    let q : a * 2 ^ 32 ≤ 2 ^ 16 * 2 ^ 32 = mul-le-mul_right (2 ^ 32) h in
-    omega arith
+corner_below : (rs : List (ℤ × ℤ)) (xs : List ℤ) → NearRanges rs → IsCorner rs xs → Below (2 ^ 32) xs
+corner_below rs [] b h = All-nil (λ x. unsigned_abs x ≤ 2 ^ 32)
+corner_below [] (x ∷ xs) b h = absurd h
+corner_below (r ∷ rs) (x ∷ xs) b h =
+    All-cons (λ x. unsigned_abs x ≤ 2 ^ 32) x xs (elim h.0 [ inl e ↦ subst (λ y. unsigned_abs y ≤ 2 ^ 32) (sym e) b.0 | inr e ↦ subst (λ y. unsigned_abs y ≤ 2 ^ 32) (sym e) b.1 ]) (corner_below rs xs b.2 h.1)
 
-dot_below : (cs : List ℤ) (rs : List (ℤ × ℤ)) (xs : List ℤ) → AreNear cs → NearRanges rs → IsCorner rs xs → dot_magnitude cs xs ≤ length cs * 2 ^ 48
-dot_below [] rs xs a b h = omega arith
-dot_below (c ∷ cs) rs [] a b h = omega arith
-dot_below (c ∷ cs) [] (x ∷ xs) a b h = absurd h
-dot_below (c ∷ cs) (r ∷ rs) (x ∷ xs) a b h =
-    let i = dot_below cs rs xs a.1 b.2 h.1 in
-    let m : unsigned_abs x ≤ 2 ^ 32 = elim h.0 [ inl e ↦ subst (λ y. unsigned_abs y ≤ 2 ^ 32) (sym e) b.0 | inr e ↦ subst (λ y. unsigned_abs y ≤ 2 ^ 32) (sym e) b.1 ] in
-    let p = product_below (unsigned_abs c) (unsigned_abs x) a.0 m in
-    omega arith
+corner_dot : (cs : List ℤ) (rs : List (ℤ × ℤ)) (xs : List ℤ) → Below (2 ^ 16) cs → NearRanges rs → IsCorner rs xs → dot_magnitude cs xs ≤ length cs * (2 ^ 16 * 2 ^ 32)
+corner_dot cs rs xs a b h = dot_below (2 ^ 16) (2 ^ 32) cs xs a (corner_below rs xs b h)
 
 pub not_past : (f : Affine) (rs : List (ℤ × ℤ)) → IsSide (length rs) f → NearRanges rs → length rs ≤ 128 → (x : List ℤ) × IsCorner rs x × (2 ^ 126 < magnitude f x) → ⊥
 not_past f rs s near few past =
-    let d = dot_below f.coefs rs past.0 s.coefs_near near past.1 in
+    let d = corner_dot f.coefs rs past.0 s.coefs_fit near past.1 in
     let w : length f.coefs ≡ length rs = s.width in
-    let k = s.constant_near in
+    let k = s.constant_fits in
     let g : 2 ^ 126 < dot_magnitude f.coefs past.0 + unsigned_abs f.constant = past.2 in
     absurd (omega arith)
-
-dot_abs : (cs xs : List ℤ) → unsigned_abs (dot cs xs) ≤ dot_magnitude cs xs
-dot_abs [] xs = omega arith
-dot_abs (c ∷ cs) [] = omega arith
-dot_abs (c ∷ cs) (x ∷ xs) =
-    let a = abs-add (c *ℤ x) (dot cs xs) in
-    let b = product_within c x x (unsigned_abs x) refl (omega arith) in
-    let d = dot_abs cs xs in
-    omega arith
 
 -- at a corner of near ranges a side is far from the limits of i128
 pub corner_small : (f : Affine) (rs : List (ℤ × ℤ)) (xs : List ℤ) → IsSide (length rs) f → NearRanges rs → length rs ≤ 128 → IsCorner rs xs → unsigned_abs (value f xs) ≤ 2 ^ 60
 corner_small f rs xs s near few at =
     let a = abs-add (dot f.coefs xs) f.constant in
     let b = dot_abs f.coefs xs in
-    let d = dot_below f.coefs rs xs s.coefs_near near at in
+    let d = corner_dot f.coefs rs xs s.coefs_fit near at in
     let w : length f.coefs ≡ length rs = s.width in
-    let k = s.constant_near in
+    let k = s.constant_fits in
     omega arith
 
 pub fits_wide : (z v : ℤ) → z ≡ v → unsigned_abs v ≤ 2 ^ 62 → to_z w128 (of_z w128 z) ≡ v

@@ -1,7 +1,8 @@
 -- The extents and subscripts of a nest are sides, and its systems have room for one row more.
-use Rattle.std.proofs.Common.{◌≡◌, ℕ, zero, suc, ◌+◌, ◌*◌, ◌<◌, ◌≤◌, ℤ, pos, IsTrue, List, [], ◌∷◌, ◌++◌, length, map, replicate, Option, Some, None, refl, sym, ap, subst, ◌∙◌, inl, inr, arith}
+use Rattle.std.proofs.Common.{◌^◌, ◌≡◌, ℕ, suc, ◌+◌, ◌*◌, ◌<◌, ◌≤◌, ℤ, IsTrue, List, [], ◌∷◌, ◌++◌, length, map, Option, Some, None, refl, sym, ap, subst, ◌∙◌, inl, inr, arith}
 use Rattle.std.specs.Prelude.{nat_le, slice_get}
 use Rattle.std.proofs.lemmas.Option.{none-some}
+use Rattle.affc_rows.proofs.SizeLemmas.{widened_within}
 use Rattle.affc_rows.specs.Forms.{Affine}
 use Rattle.affc_ast.specs.declared.tree.Compare.{Compare}
 use Rattle.affc_ast.specs.declared.tree.Decl.{Decl}
@@ -28,14 +29,14 @@ use Rattle.affc_nest.specs.Domains.{box_rows, test_rows, loop_rows, condition_ro
 use Rattle.affc_nest.specs.Entries.{IsPlainPlace}
 use Rattle.affc_nest.specs.Nests.{array_of, access_form, domain_by, nest_of}
 use Rattle.affc_nest.specs.Questions.{extents_or_none, widened}
-use Rattle.affc_nest.specs.Sides.{AreNear, IsSide, NearRanges}
+use Rattle.affc_nest.specs.Sides.{IsSide, NearRanges}
 use Rattle.affc_nest.specs.Sites.{Place}
 use Rattle.affc_nest.specs.Touches.{AllPlain}
 use Rattle.affc_nest.proofs.AccessLemmas.{plain_append}
 use Rattle.affc_nest.proofs.EntryLemmas.{SiteOf, site_of, columns_are, loops_are}
 use Rattle.affc_nest.proofs.PlaceProofs.{near_numbers, plain_place}
 use Rattle.affc_nest.proofs.QuestionLemmas.{place_of, stands_in}
-use Rattle.affc_nest.proofs.RowLemmas.{plain_side, zeros_near, few_box, few_tests, few_loop_rows}
+use Rattle.affc_nest.proofs.RowLemmas.{plain_side, few_box, few_tests, few_loop_rows}
 
 -- ---- Sides
 
@@ -66,20 +67,8 @@ sub_in n [] x f h i j = absurd i
 sub_in n (y ∷ xs) x f h (inl is) j = form_in n y.1 f h.0 (subst (λ (z : Access). IsIn f z.subs) is j)
 sub_in n (y ∷ xs) x f h (inr i) j = sub_in n xs x f h.1 i j
 
-near_append : (cs ds : List ℤ) → AreNear cs → AreNear ds → AreNear (cs ++ ds)
-near_append [] ds h g = g
-near_append (c ∷ cs) ds h g = (h.0, near_append cs ds h.1 g)
-
-zeros_long : (k : ℕ) → length (replicate k (pos 0)) ≡ k
-zeros_long zero = refl
-zeros_long (suc k) = ap suc (zeros_long k)
-
 widened_side : (n k : ℕ) (f : Affine) → IsSide n f → IsSide (n + k) (widened k f)
-widened_side n k f s = record {
-  width = length_append f.coefs (replicate k (pos 0)) ∙ ap (λ m. m + length (replicate k (pos 0))) s.width ∙ ap (λ m. n + m) (zeros_long k);
-  coefs_near = near_append f.coefs (replicate k (pos 0)) s.coefs_near (zeros_near k);
-  constant_near = s.constant_near;
-}
+widened_side n k f s = widened_within n k (2 ^ 16) (2 ^ 32) f s
 
 -- ---- The context
 

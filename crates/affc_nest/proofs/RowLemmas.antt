@@ -1,15 +1,15 @@
 -- Differences of sides keep the limits of rows.
-use Rattle.std.proofs.Common.{◌≡◌, ℕ, zero, suc, ◌+◌, ◌*◌, ◌^◌, ◌<◌, ◌≤◌, ℤ, pos, negsuc, ◌+ℤ◌, ◌-ℤ◌, ◌*ℤ◌, neg_ℤ, IsTrue, List, [], ◌∷◌, ◌++◌, ◌-◌, length, take, drop, get_or, replicate, refl, sym, ap, ◌∙◌, subst, arith, inl, inr}
+use Rattle.std.proofs.Common.{◌≡◌, ℕ, suc, ◌+◌, ◌*◌, ◌^◌, ◌≤◌, ℤ, pos, negsuc, IsTrue, List, [], ◌∷◌, ◌++◌, ◌-◌, length, take, drop, get_or, refl, sym, ap, ◌∙◌, subst, arith}
 use Rattle.std.specs.Prelude.{unsigned_abs, nat_le, nat_abs}
 use Rattle.std.specs.List.{All}
 use Rattle.std.proofs.lemmas.Bool.{leb-true}
-use Rattle.std.proofs.lemmas.Int.{ints}
 use Rattle.std.proofs.lemmas.List.{take_all}
 use Rattle.std.proofs.lemmas.List.Elements.{All-nil, All-cons}
-use Rattle.affc_rows.specs.Forms.{Affine, mixed, mixed_form, TooWide, mixed_magnitudes, mixed_form_magnitudes, entry_magnitude}
-use Rattle.affc_rows.proofs.IntLemmas.{abs-add, one-mul}
-use Rattle.affc_rows.proofs.ValueLemmas.{length-mixed}
-use Rattle.affc_system.specs.Systems.{Rows, FitsRow}
+use Rattle.affc_rows.specs.Forms.{Affine, TooWide, mixed_form_magnitudes}
+use Rattle.affc_rows.proofs.SizeLemmas as within
+use Rattle.affc_rows.proofs.SizeLemmas.{number_within, column_within, difference_within, gap_within}
+use Rattle.affc_system.specs.Systems.{Rows, IsRow, FitsRow}
+use Rattle.affc_system.proofs.SystemLemmas.{row_of}
 use Rattle.affc_ast.specs.declared.tree.Compare.{Compare}
 use Rattle.affc_ast.specs.declared.tree.Ix.{Ix}
 use Rattle.affc_ast.specs.declared.tree.Rel.{Rel}
@@ -17,109 +17,54 @@ use Rattle.affc_ast.specs.declared.tree.Rel.TheVariants.{Less, LessEqual, Greate
 use Rattle.affc_trace.proofs.EndedReads.{append_assoc}
 use Rattle.affc_trace.proofs.LastStores.{append_nil}
 use Rattle.affc_trace.proofs.Runs.{length_append}
-use Rattle.affc_domain.specs.Affine.{form_of, unit_of, are_small, is_small}
+use Rattle.affc_domain.specs.Affine.{form_of, are_small, is_small}
 use Rattle.affc_domain.specs.Plain.{is_plain}
 use Rattle.affc_domain.specs.Rounds.{Round, Loop, Test, loops_in}
-use Rattle.affc_domain.proofs.FormLemmas.{form_width, unit_width, number_width}
+use Rattle.affc_domain.proofs.FormLemmas.{form_width}
 use Rattle.affc_domain.proofs.Lists.{both_true}
 use Rattle.affc_nest.specs.Domains.{gap_row, compare_rows, test_rows, column_form, number_form, range_rows, box_rows, bounds_of, loop_rows, condition_rows, domain_rows, with_rows}
 use Rattle.affc_nest.proofs.WidenLemmas.{plain_small}
-use Rattle.affc_nest.specs.Sides.{AreNear, IsSide}
+use Rattle.affc_nest.specs.Sides.{IsSide}
 
 -- ---- Which forms are sides
 
-near_small : (cs : List ℤ) → IsTrue (are_small cs) → AreNear cs
-near_small [] h = tt
+near_small : (cs : List ℤ) → IsTrue (are_small cs) → All (λ c. unsigned_abs c ≤ 2 ^ 16) cs
+near_small [] h = All-nil (λ c. unsigned_abs c ≤ 2 ^ 16)
 near_small (c ∷ cs) h =
     let a = both_true (nat_le (nat_abs c) 65536) (are_small cs) h in
-    let b : unsigned_abs c ≤ 65536 = leb-true (nat_abs c) 65536 a.0 in
-    (omega arith, near_small cs a.1)
+    All-cons (λ c. unsigned_abs c ≤ 2 ^ 16) c cs (leb-true (nat_abs c) 65536 a.0) (near_small cs a.1)
 
 pub small_side : (n : ℕ) (f : Affine) → IsTrue (is_small f) → length f.coefs ≡ n → IsSide n f
 small_side n f h w =
     let a = both_true (nat_le (nat_abs f.constant) 16777216) (are_small f.coefs) h in
     let b : unsigned_abs f.constant ≤ 16777216 = leb-true (nat_abs f.constant) 16777216 a.0 in
-    record { width = w; coefs_near = near_small f.coefs a.1; constant_near = omega arith }
+    record { width = w; coefs_fit = near_small f.coefs a.1; constant_fits = omega arith }
 
 pub plain_side : (n k : ℕ) (e : Ix) → IsTrue (is_plain n e) → IsSide (n + k) (form_of n k e)
 plain_side n k e h = small_side (n + k) (form_of n k e) (plain_small n k e h) (form_width n k e)
 
-pub zeros_near : (n : ℕ) → AreNear (replicate n (pos 0))
-zeros_near zero = tt
-zeros_near (suc n) = (omega arith, zeros_near n)
-
-unit_near : (n x : ℕ) → AreNear (unit_of n x)
-unit_near zero x = tt
-unit_near (suc n) zero = (omega arith, zeros_near n)
-unit_near (suc n) (suc x) = (omega arith, unit_near n x)
-
 pub column_side : (n j : ℕ) → IsSide n (column_form n j)
-column_side n j = record { width = unit_width n j; coefs_near = unit_near n j; constant_near = omega arith }
+column_side n j = column_within n (2 ^ 16) (2 ^ 32) j (omega arith)
 
 pub number_side : (n : ℕ) (z : ℤ) → unsigned_abs z ≤ 2 ^ 32 → IsSide n (number_form n z)
-number_side n z h = record { width = number_width n z; coefs_near = zeros_near n; constant_near = h }
+number_side n z h = number_within n (2 ^ 16) (2 ^ 32) z h
+
+pub side_row : (n : ℕ) (f : Affine) → IsSide n f → IsRow n f
+side_row n f s = row_of n (2 ^ 16) (2 ^ 32) f (omega arith) (omega arith) s
 
 -- ---- Their differences
 
-negated : (z : ℤ) → negsuc 0 *ℤ z ≡ neg_ℤ z
-negated z = omega (arith, ints)
-
-abs_neg : (z : ℤ) → unsigned_abs (neg_ℤ z) ≡ unsigned_abs z
-abs_neg (pos zero) = refl
-abs_neg (pos (suc n)) = refl
-abs_neg (negsuc n) = refl
-
-pub difference_abs : (x y : ℤ) → unsigned_abs ((pos 1 *ℤ x) +ℤ (negsuc 0 *ℤ y)) ≤ unsigned_abs x + unsigned_abs y
-difference_abs x y =
-    let a = abs-add (pos 1 *ℤ x) (negsuc 0 *ℤ y) in
-    let b : unsigned_abs (pos 1 *ℤ x) ≡ unsigned_abs x = ap unsigned_abs (one-mul x) in
-    let d : unsigned_abs (negsuc 0 *ℤ y) ≡ unsigned_abs y = ap unsigned_abs (negated y) ∙ abs_neg y in
-    omega arith
-
-differences_fit : (cs ds : List ℤ) → AreNear cs → AreNear ds → All (λ c. unsigned_abs c ≤ 2 ^ 40) (mixed (pos 1) cs (negsuc 0) ds)
-differences_fit [] ds h g = All-nil (λ c. unsigned_abs c ≤ 2 ^ 40)
-differences_fit (c ∷ cs) [] h g = All-nil (λ c. unsigned_abs c ≤ 2 ^ 40)
-differences_fit (c ∷ cs) (d ∷ ds) h g =
-    let a = difference_abs c d in
-    let u : unsigned_abs c ≤ 2 ^ 16 = h.0 in
-    let v : unsigned_abs d ≤ 2 ^ 16 = g.0 in
-    All-cons (λ c. unsigned_abs c ≤ 2 ^ 40) ((pos 1 *ℤ c) +ℤ (negsuc 0 *ℤ d)) (mixed (pos 1) cs (negsuc 0) ds) (omega arith) (differences_fit cs ds h.1 g.1)
-
-less_abs : (z : ℤ) (k m : ℕ) → unsigned_abs z ≤ m → k ≤ 1 → unsigned_abs (z -ℤ pos k) ≤ m + 1
-less_abs z k m h g = omega (arith, ints)
-
--- the constant of a difference, before k is taken
-pub constant_near : (n : ℕ) (a b : Affine) → IsSide n a → IsSide n b → unsigned_abs (mixed_form (pos 1) b (negsuc 0) a).constant ≤ 2 ^ 33
-constant_near n a b s t =
-    let d = difference_abs b.constant a.constant in
-    let u = s.constant_near in
-    let v = t.constant_near in
-    omega arith
+pub gap_is_row : (n : ℕ) (a b : Affine) (k : ℕ) → IsSide n a → IsSide n b → k ≤ 1 → IsRow n (gap_row a b k)
+gap_is_row n a b k s t h = row_of n (2 ^ 16 + 2 ^ 16) ((2 ^ 32 + 2 ^ 32) + 1) (gap_row a b k) (omega arith) (omega arith) (gap_within n (2 ^ 16) (2 ^ 32) k a b s t h)
 
 pub gap_fits : (n : ℕ) (a b : Affine) (k : ℕ) → IsSide n a → IsSide n b → k ≤ 1 → FitsRow (gap_row a b k)
-gap_fits n a b k s t h =
-    let m : unsigned_abs (mixed_form (pos 1) b (negsuc 0) a).constant ≤ 2 ^ 33 = constant_near n a b s t in
-    let l = less_abs (mixed_form (pos 1) b (negsuc 0) a).constant k (2 ^ 33) m h in
-    record { coefs_fit = differences_fit b.coefs a.coefs t.coefs_near s.coefs_near; constant_fits = omega arith }
+gap_fits n a b k s t h = (gap_is_row n a b k s t h).fits
 
 pub gap_width : (n : ℕ) (a b : Affine) (k : ℕ) → IsSide n a → IsSide n b → length (gap_row a b k).coefs ≡ n
-gap_width n a b k s t = length-mixed (pos 1) b.coefs (negsuc 0) a.coefs (t.width ∙ sym s.width) ∙ t.width
-
-entry_narrow : (c d : ℤ) → unsigned_abs c ≤ 2 ^ 32 → unsigned_abs d ≤ 2 ^ 32 → 2 ^ 126 < entry_magnitude (pos 1) c (negsuc 0) d → ⊥
-entry_narrow c d h g w = absurd (omega arith)
-
-entries_narrow : (cs ds : List ℤ) → AreNear cs → AreNear ds → TooWide (mixed_magnitudes (pos 1) cs (negsuc 0) ds) → ⊥
-entries_narrow [] ds h g w = w
-entries_narrow (c ∷ cs) [] h g w = w
-entries_narrow (c ∷ cs) (d ∷ ds) h g (inl w) =
-    let u : unsigned_abs c ≤ 2 ^ 16 = h.0 in
-    let v : unsigned_abs d ≤ 2 ^ 16 = g.0 in
-    entry_narrow c d (omega arith) (omega arith) w
-entries_narrow (c ∷ cs) (d ∷ ds) h g (inr w) = entries_narrow cs ds h.1 g.1 w
+gap_width n a b k s t = (difference_within n (2 ^ 16) (2 ^ 32) b a t s).width
 
 pub not_too_wide : (n : ℕ) (a b : Affine) → IsSide n a → IsSide n b → TooWide (mixed_form_magnitudes (pos 1) b (negsuc 0) a) → ⊥
-not_too_wide n a b s t (inl w) = entry_narrow b.constant a.constant t.constant_near s.constant_near w
-not_too_wide n a b s t (inr w) = entries_narrow b.coefs a.coefs t.coefs_near s.coefs_near w
+not_too_wide n a b s t w = within.not_too_wide n (2 ^ 16) (2 ^ 32) b a (omega arith) (omega arith) t s w
 
 -- ---- Rows one after the other
 

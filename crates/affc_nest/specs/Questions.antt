@@ -1,6 +1,6 @@
 -- Questions on extents and on accesses: systems that have no integer point exactly where each extent is at least 1 and each
 -- access lies within its array, throughout the context.
-use Rattle.std.specs.Prelude.{ℕ, pos, negsuc, if◌then◌else◌, List, [], ◌∷◌, ◌++◌, length, map, flat_map, Option, Some, None, slice_get}
+use Rattle.std.specs.Prelude.{ℕ, pos, negsuc, if◌then◌else◌, List, [], ◌∷◌, ◌++◌, map, flat_map, Option, Some, None, slice_get}
 use Rattle.affc_rows.specs.Forms.{Affine}
 use Rattle.affc_system.specs.Systems.{Rows}
 use Rattle.affc_nest.specs.Domains.{gap_row, number_form, box_rows}

@@ -4,9 +4,9 @@ ghost use Rattle.affc_rows.specs.Forms.{magnitude};
 ghost use Rattle.affc_system.specs.Boxes.{IsCorner};
 ghost use Rattle.affc_ast.specs.Index.{floor_of};
 ghost use Rattle.affc_nest.specs.Divisions.{multiple, division_rows, held, quotient_range};
-ghost use Rattle.affc_nest.specs.Domains.{gap_row};
 ghost use Rattle.affc_nest.specs.Wide.{IsWide};
 
+use crate::lists::add_gap_row;
 use affc_rows::Form;
 use affc_system::{BoxOf, interval};
 use smallvec::SmallVec;
@@ -21,24 +21,6 @@ pub struct Division {
 }
 
 // ---- Rows.
-
-/// Adds the row `b - a - k`.
-#[tactic(auto, using(crate::proofs::WideLemmas::not_too_wide))]
-pub fn add_gap_row(
-    alloc: Global,
-    columns: u32,
-    a: &Form,
-    b: &Form,
-    k: u32,
-    out: &mut Items<Form>,
-) -> Result<(), AllocError>
-    requires first { IsWide columns a.now }
-    requires second { IsWide columns b.now }
-    requires step { k ≤ 1 }
-    ensures { OnOk result (out.new ≡ out.old ++ gap_row a.now b.now k ∷ []) }
-{
-    out.push(Form::gap(alloc, a, b, k)?)
-}
 
 /// A form with so many zeros, this coefficient behind them, and this constant.
 fn last_column(alloc: Global, columns: u32, by: i64, constant: i64) -> Result<Form, AllocError>

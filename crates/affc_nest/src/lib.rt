@@ -11,6 +11,7 @@ mod extraction;
 pub mod forms;
 mod frames;
 pub mod laws;
+pub mod lists;
 pub mod nest;
 pub mod questions;
 mod ranges;

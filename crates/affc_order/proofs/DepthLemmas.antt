@@ -1,9 +1,8 @@
 -- How many loops stand round each assignment, as schedules and nests count them.
-use Rattle.std.proofs.Common.{◌≡◌, ℕ, zero, suc, ◌+◌, ◌<◌, ◌≤◌, IsTrue, List, [], ◌∷◌, ◌++◌, length, map, Some, refl, sym, ap, subst, ◌∙◌, arith}
+use Rattle.std.proofs.Common.{◌≡◌, ℕ, zero, suc, ◌+◌, ◌<◌, IsTrue, List, [], ◌∷◌, ◌++◌, length, map, Some, refl, sym, ap, subst, ◌∙◌, arith}
 use Rattle.std.specs.Prelude.{slice_get, ◌&&◌}
 use Rattle.std.proofs.lemmas.Option.{none-some, same_Some}
-use Rattle.std.specs.List.{All}
-use Rattle.affc_rows.specs.Forms.{Affine, HaveColumns}
+use Rattle.affc_rows.specs.Forms.{HaveColumns}
 use Rattle.affc_ast.specs.declared.tree.Program.{Program}
 use Rattle.affc_ast.specs.declared.tree.Stmt.{Stmt}
 use Rattle.affc_ast.specs.declared.tree.Stmt.TheVariants as s
@@ -21,15 +20,12 @@ use Rattle.affc_domain.proofs.Lists.{both_true, to_mapped}
 use Rattle.affc_nest.specs.declared.nest.Entry.{Entry}
 use Rattle.affc_nest.specs.declared.nest.Nest.{Nest}
 use Rattle.affc_nest.specs.Laws.{IsEntry}
-use Rattle.affc_nest.specs.Sides.{IsSide}
 use Rattle.affc_nest.proofs.EntryLemmas.{site_of, entries_stand}
 use Rattle.affc_nest.proofs.QuestionLemmas.{there_is}
 use Rattle.affc_order.specs.Asked.{IsScheduled}
-use Rattle.affc_order.specs.declared.order.Placed.{Placed}
 use Rattle.affc_nest.specs.Parts.{statement_or_none, statement_of}
-use Rattle.affc_order.specs.Placed.{posed, HasColumns, HasMap}
-use Rattle.affc_order.specs.Systems.{loops_or_none, loops_of, time_forms}
-use Rattle.affc_order.proofs.CodeLemmas.{time_long, time_sides}
+use Rattle.affc_order.specs.Placed.{IsTimed}
+use Rattle.affc_order.specs.Systems.{loops_or_none, loops_of}
 use Rattle.affc_order.proofs.TimeLemmas.{numbers_are}
 
 under_loop : (first depth : ℕ) (xss : List (List ℕ)) → map (λ ls. suc depth + length ls) xss ≡ map (λ ls. depth + length ls) (map (λ ls. first ∷ ls) xss)
@@ -79,13 +75,8 @@ slight_at (x ∷ ms) zero m w e =
     subst (λ (z : TimeMap). IsTrue (all_slight z.forms)) (same_Some x m e) (both_true (all_slight x.forms) (all_slight x.inverse) a.0).0
 slight_at (x ∷ ms) (suc k) m w e = slight_at ms k m (both_true (all_slight x.forms && all_slight x.inverse) (maps_within ms) w).1 e
 
--- what a schedule of a nest's program gives of each part's statement
-pub record Timed (nest : Nest) (components : ℕ) (maps : List TimeMap) (part : ℕ) : Type 0 where
-  pub has : HasMap nest maps part
-  pub long : length has.time_map.forms ≡ components
-
 pub timed : (nest : Nest) (schedule : Schedule) (q : IsScheduled nest schedule) (components : ℕ) (maps : List TimeMap) → schedule ≡ Time components maps
-    → (part : ℕ) → part < length nest.entries → Timed nest components maps part
+    → (part : ℕ) → part < length nest.entries → IsTimed nest components maps part
 timed nest schedule q components maps is part h =
     let program = q.program in
     let fits : IsScheduleOf program (Time components maps) = subst (IsScheduleOf program) is q.fits in
@@ -107,21 +98,3 @@ timed nest schedule q components maps is part h =
       };
       long = shape.components;
     }
-
--- ---- The forms of times
-
-module _ (nest : Nest) (schedule : Schedule) (q : IsScheduled nest schedule) (components : ℕ) (maps : List TimeMap) (is : schedule ≡ Time components maps) (columns : ℕ) (a : Placed) (placed : HasColumns nest columns a)
-    (held : List TimeMap) (same : held ≡ maps) where
-  pub has_map : HasMap nest held a.part
-  has_map = subst (λ ms. HasMap nest ms a.part) (sym same) (timed nest schedule q components maps is a.part placed.part).has
-
-  pub times_long : (forms : List Affine) → forms ≡ time_forms nest held columns (posed nest columns a) → components ≤ length forms
-  times_long forms e =
-      let t = timed nest schedule q components maps is a.part placed.part in
-      let long : length forms ≡ components = ap length e ∙ ap (λ ms. length (time_forms nest ms columns (posed nest columns a))) same ∙ time_long nest maps columns a placed t.has ∙ t.long in
-      omega (arith, long)
-
-  pub times_sides : (forms : List Affine) → forms ≡ time_forms nest held columns (posed nest columns a) → All (IsSide columns) forms
-  times_sides forms e =
-      let t = timed nest schedule q components maps is a.part placed.part in
-      subst (All (IsSide columns)) (sym (e ∙ ap (λ ms. time_forms nest ms columns (posed nest columns a)) same)) (time_sides nest maps columns a placed t.has)

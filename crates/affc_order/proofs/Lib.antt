@@ -6,3 +6,6 @@ pub mod SpreadLemmas
 pub mod DepthLemmas
 pub mod CodeLemmas
 pub mod ExampleProofs
+pub mod ImageLemmas
+pub mod PlacedLemmas
+pub mod ListLemmas

@@ -2,12 +2,12 @@
 use Rattle.std.proofs.Common.{◌≡◌, ℕ, zero, suc, ◌+◌, ◌≤◌, ℤ, pos, ◌+ℤ◌, ◌*ℤ◌, List, [], ◌∷◌, ◌++◌, length, take, drop, replicate, refl, sym, ap, subst, ◌∙◌, arith}
 use Rattle.std.proofs.lemmas.Int.{ints}
 use Rattle.affc_rows.specs.Forms.{Affine, value, dot, values_of, HaveColumns}
+use Rattle.affc_rows.proofs.SizeLemmas.{spread_width}
 use Rattle.affc_rows.proofs.ValueLemmas.{length-composed}
 use Rattle.affc_trace.specs.Inverses.{zeros, columns_from}
 use Rattle.affc_trace.proofs.EndedReads.{append_assoc}
 use Rattle.affc_trace.proofs.Recovers.{length-zeros}
 use Rattle.affc_trace.proofs.Runs.{length_append}
-use Rattle.affc_domain.proofs.FormLemmas.{number_width}
 use Rattle.affc_order.specs.Posed.{form_at}
 use Rattle.affc_order.specs.Spread.{spread}
 use Rattle.affc_order.proofs.ColumnLemmas.{append_columns, values_append, forms_append, at_value, from_width, from_long, segment_at}
@@ -44,27 +44,6 @@ pub spread_value : (p ks xs ns : List ℤ) (m k n : ℕ) (f : Affine) → m ≡ 
 spread_value p ks xs ns m k n f e g w =
     ap (λ i. value (spread i k n f) (p ++ (ks ++ (xs ++ ns)))) e ∙ ap (λ i. value (spread (length p) i n f) (p ++ (ks ++ (xs ++ ns)))) g
     ∙ ap (λ d. d +ℤ f.constant) (dot_spread p ks xs ns f.coefs n w)
-
-take_long : (m l : ℕ) (cs : List ℤ) → length cs ≡ m + l → length (take m cs) ≡ m
-take_long zero l cs e = refl
-take_long (suc m) l [] e = absurd (omega arith)
-take_long (suc m) l (c ∷ cs) e = ap suc (take_long m l cs (omega (arith, e)))
-
-drop_long : (m l : ℕ) (cs : List ℤ) → length cs ≡ m + l → length (drop m cs) ≡ l
-drop_long zero l cs e = omega (arith, e)
-drop_long (suc m) l [] e = absurd (omega arith)
-drop_long (suc m) l (c ∷ cs) e = drop_long m l cs (omega (arith, e))
-
-pub spread_width : (m k l n : ℕ) (f : Affine) → length f.coefs ≡ m + l → length (spread m k n f).coefs ≡ ((m + k) + l) + n
-spread_width m k l n f e =
-    let a = take_long m l f.coefs e in
-    let b = drop_long m l f.coefs e in
-    let c = length_append (take m f.coefs) (replicate k (pos 0) ++ (drop m f.coefs ++ replicate n (pos 0))) in
-    let d = length_append (replicate k (pos 0)) (drop m f.coefs ++ replicate n (pos 0)) in
-    let g = length_append (drop m f.coefs) (replicate n (pos 0)) in
-    let h : length (replicate k (pos 0)) ≡ k = number_width k (pos 0) in
-    let i : length (replicate n (pos 0)) ≡ n = number_width n (pos 0) in
-    omega (arith, a, b, c, d, g, h, i)
 
 -- ---- A form is known by its values
 

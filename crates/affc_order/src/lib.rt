@@ -4,8 +4,9 @@
 
 pub mod columns;
 pub mod examples;
+pub mod images;
 pub mod laws;
 pub mod lex;
 pub mod order;
 
-pub use order::{source_before, target_after, target_before};
+pub use order::{Placed, source_before, source_order, target_after, target_order};

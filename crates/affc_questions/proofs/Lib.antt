@@ -1,5 +1,4 @@
 pub mod BroadLemmas
-pub mod ImageLemmas
 pub mod SizeLemmas
 pub mod DistanceLemmas
 pub mod ListedLemmas

@@ -1,5 +1,5 @@
 -- What the words of forms give at small forms. Each value was found by hand.
-use Rattle.std.specs.Prelude.{◌≡◌, ◌-◌, ◌^◌, List, [], ◌∷◌, ℤ, pos, negsuc}
+use Rattle.std.specs.Prelude.{◌≡◌, ◌-◌, ◌^◌, [], ◌∷◌, pos, negsuc}
 use Rattle.affc_rows.specs.Forms.{Affine}
 use Rattle.affc_rows.specs.Vocabulary.{column_form, number_form, opposite, HasOpposite, AreOpposite, spread, widened, padded, gap_row, form_at}
 

@@ -2,14 +2,13 @@
 use Rattle.std.specs.Prelude.{◌≡◌, ℕ, ◌^◌, ◌≤◌, List, length, ℤ, unsigned_abs}
 use Rattle.std.specs.List.{All}
 use Rattle.affc_rows.specs.Forms.{Affine}
+use Rattle.affc_rows.specs.Sizes.{IsWithin}
 use Rattle.affc_system.specs.Systems.{Rows, IsPoint}
 use Rattle.affc_system.specs.Boxes.{InBox}
 
 -- a subscript: a form over so many columns, its coefficients within 65,536 and its constant within 16,777,216
-pub record IsSubscript (columns : ℕ) (form : Affine) : Type 0 where
-  pub width : length form.coefs ≡ columns
-  pub coefs_fit : All (λ c. unsigned_abs c ≤ 65536) form.coefs
-  pub constant_fits : unsigned_abs form.constant ≤ 16777216
+abbrev pub IsSubscript : (columns : ℕ) → Affine → Type 0
+IsSubscript columns = IsWithin columns 65536 16777216
 
 -- both ends of the range are within 2^60
 pub record WithinReach (range : ℤ × ℤ) : Type 0 where

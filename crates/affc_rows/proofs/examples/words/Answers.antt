@@ -1,5 +1,5 @@
 -- Which numbers have opposites, at the edge of 128 bits.
-use Rattle.std.proofs.Common.{arith, ℕ, zero, suc, ◌-◌, ◌^◌, ◌<◌, List, [], ◌∷◌, pos, negsuc, unsigned_abs}
+use Rattle.std.proofs.Common.{arith, zero, suc, ◌-◌, ◌^◌, ◌<◌, [], ◌∷◌, pos, negsuc, unsigned_abs}
 use Rattle.std.specs.List.{All}
 use Rattle.affc_rows.proofs.examples.words.Goals as goal
 
