@@ -2,7 +2,7 @@
 ghost use Rattle.std.specs.Prelude.{◌≡◌, IfOk};
 ghost use Rattle.affc_quast.specs.Seen.{seen, trees_of};
 
-use affc_quast::rows::copied as copied_forms;
+use affc_nest::lists::copied as copied_forms;
 use affc_quast::{Flow, Quast};
 use sqlite_items::Items;
 use std::alloc::{AllocError, Global};

@@ -21,7 +21,7 @@ use affc_basis::fold::{Fold, Mark, Modulus};
 use affc_certvalue::fold::fold::{CertFold, CertLeast, CertModulus};
 use affc_life::ClashProduct;
 use affc_nest::Nest;
-use affc_quast::rows::copied;
+use affc_nest::lists::copied;
 use affc_questions::is_behind;
 use affc_rows::Form;
 use affc_system::PairSystem;

@@ -11,10 +11,10 @@ use crate::solved::{
 use affc_flow::asking::column_forms;
 use affc_flow::load::Load;
 use affc_flow::questions::{Unasked, add_padded, at_images, count};
+use affc_nest::lists::add_copies;
 use affc_nest::{Access, Division, Entry};
 use affc_order::columns::spread;
 use affc_order::order::shared;
-use affc_quast::rows::add_copies;
 use affc_rows::Form;
 use sqlite_items::Items;
 use std::alloc::{AllocError, Global};

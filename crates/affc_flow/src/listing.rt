@@ -11,8 +11,8 @@ use crate::questions::{
     Place, Question, Unasked, add_apart, add_orders, add_outside, add_padded, add_question, count,
     push_equal, push_question,
 };
+use affc_nest::lists::add_copies;
 use affc_order::order::shared;
-use affc_quast::rows::add_copies;
 use affc_rows::Form;
 use sqlite_items::Items;
 use std::alloc::Global;

@@ -5,7 +5,7 @@ ghost use Rattle.affc_life.specs.Clashes.{apart_rows};
 ghost use Rattle.affc_nest.specs.Wide.{IsWide};
 
 use crate::rows::{add_equal, add_less};
-use affc_quast::rows::copied;
+use affc_nest::lists::copied;
 use affc_rows::Form;
 use sqlite_items::Items;
 use std::alloc::{AllocError, Global};

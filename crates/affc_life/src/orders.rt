@@ -7,7 +7,7 @@ ghost use Rattle.affc_life.specs.Drafts.{rows_in};
 ghost use Rattle.affc_nest.specs.Wide.{IsWide};
 
 use crate::rows::{add_equal, add_less};
-use affc_quast::rows::copied;
+use affc_nest::lists::copied;
 use affc_rows::Form;
 use sqlite_items::Items;
 use std::alloc::{AllocError, Global};

@@ -7,7 +7,7 @@ ghost use Rattle.affc_life.specs.Products.{systems_in, found_system};
 ghost use Rattle.affc_life.specs.Sought.{IsSought};
 
 use crate::clash::ClashProduct;
-use affc_quast::rows::{add_copies, copied};
+use affc_nest::lists::{add_copies, copied};
 use affc_rows::Form;
 use sqlite_items::Items;
 use std::alloc::{AllocError, Global};

@@ -9,3 +9,4 @@ pub mod ExampleProofs
 pub mod ImageLemmas
 pub mod PlacedLemmas
 pub mod ListLemmas
+pub mod RowLemmas

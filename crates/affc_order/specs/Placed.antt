@@ -25,6 +25,11 @@ pub record AreImages (columns : ℕ) (images : List Affine) : Type 0 where
   pub few : length images ≤ 10
   pub rows : All (IsRow columns) images
 
+-- a system's rows: few, over so many columns, within the limits of rows
+pub record IsOrder (columns : ℕ) (rows : List Affine) : Type 0 where
+  pub few : length rows ≤ 26
+  pub fit : All (IsRow columns) rows
+
 -- the time map of a part's statement: slight forms over the parameters and the iterators of its loops
 pub record HasMap (nest : Nest) (maps : List TimeMap) (part : ℕ) : Type 0 where
   pub time_map : TimeMap

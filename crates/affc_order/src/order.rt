@@ -1,12 +1,13 @@
 //! Which of two instances is earlier, as lists of rows: of instances by forms, and of two parts over the parameters, the
 //! coordinates of an instance of one and those of an instance of the other.
 ghost use Rattle.std.specs.Prelude.{nat_lt, [], ◌≡◌, ◌+◌, ◌<◌, ◌≤◌, length, map, IfOk};
+ghost use Rattle.std.specs.List.{All};
 ghost use Rattle.affc_trace.specs.Inverses.{columns_from};
 ghost use Rattle.affc_domain.specs.Loops.{shared};
 ghost use Rattle.affc_nest.specs.Asked.{IsNest};
 ghost use Rattle.affc_nest.specs.Parts.{statement_of};
 ghost use Rattle.affc_order.specs.Asked.{IsScheduled};
-ghost use Rattle.affc_order.specs.Placed.{posed, HasMap, IsPlaced, IsTimed};
+ghost use Rattle.affc_order.specs.Placed.{posed, HasMap, IsOrder, IsPlaced, IsTimed};
 ghost use Rattle.affc_order.specs.Systems.{loops_of, coordinates_of, lex_systems, rows_in, source_order, time_forms, target_order, pair_columns, source_systems, turned_systems};
 
 use crate::columns::columns_from;
@@ -230,7 +231,8 @@ pub fn source_before(
     requires nest { IsNest nest.now }
     requires first { first < length nest.now.entries }
     requires second { second < length nest.now.entries }
-    ensures { IfOk result (λ v. v.items ≡ map rows_in (source_systems nest.now first second)) }
+    ensures rows { IfOk result (λ v. v.items ≡ map rows_in (source_systems nest.now first second)) }
+    ensures fit { IfOk result (λ v. All (IsOrder (pair_columns nest.now first second)) v.items) }
 {
     let pair = pair_of(alloc, nest, first, second)?;
     let a = Placed {
@@ -256,7 +258,8 @@ pub fn target_after(
     requires asked { IsScheduled nest.now schedule.now }
     requires first { first < length nest.now.entries }
     requires second { second < length nest.now.entries }
-    ensures { IfOk result (λ v. v.items ≡ map rows_in (turned_systems nest.now first second schedule.now)) }
+    ensures rows { IfOk result (λ v. v.items ≡ map rows_in (turned_systems nest.now first second schedule.now)) }
+    ensures fit { IfOk result (λ v. All (IsOrder (pair_columns nest.now first second)) v.items) }
 {
     let pair = pair_of(alloc, nest, first, second)?;
     let a = Placed {

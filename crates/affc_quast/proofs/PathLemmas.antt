@@ -4,6 +4,7 @@ use Rattle.std.specs.Prelude.{unsigned_abs, max}
 use Rattle.std.specs.List.{All}
 use Rattle.std.proofs.lemmas.List.Elements.{All-nil, All-cons, All-head, All-tail}
 use Rattle.affc_rows.specs.Forms.{Affine}
+use Rattle.affc_rows.proofs.SizeLemmas.{within_raised}
 use Rattle.affc_trace.proofs.EndedReads.{append_assoc}
 use Rattle.affc_trace.proofs.LastStores.{map_append, append_nil}
 use Rattle.affc_nest.specs.Divisions.{division_rows}
@@ -14,19 +15,9 @@ use Rattle.affc_quast.specs.Trees.{Tree, Test, Div}
 use Rattle.affc_nest.specs.Wide.{IsWide}
 use Rattle.affc_quast.proofs.LeafLemmas.{negated_width}
 
-all_fit : (cs : List ℤ) → All (λ c. unsigned_abs c ≤ 2 ^ 24) cs → All (λ c. unsigned_abs c ≤ 2 ^ 64) cs
-all_fit [] h = All-nil (λ c. unsigned_abs c ≤ 2 ^ 64)
-all_fit (c ∷ cs) h = All-cons (λ c. unsigned_abs c ≤ 2 ^ 64) c cs (more (unsigned_abs c) (All-head (λ c. unsigned_abs c ≤ 2 ^ 24) c cs h)) (all_fit cs (All-tail (λ c. unsigned_abs c ≤ 2 ^ 24) c cs h))
-  where
-    more : (n : ℕ) → n ≤ 2 ^ 24 → n ≤ 2 ^ 64
-    more n h = omega (arith, h)
-
 -- a form of a tree is wide
 pub wide_of : (n : ℕ) (f : Affine) → length f.coefs ≡ n → FitsForm widest f → IsWide n f
-wide_of n f e h = record { width = e; coefs_fit = all_fit f.coefs h.coefs_fit; constant_fits = more (unsigned_abs f.constant) h.constant_fits }
-  where
-    more : (n : ℕ) → n ≤ 2 ^ 50 → n ≤ 2 ^ 64
-    more n h = omega (arith, h)
+wide_of n f e h = within_raised n (2 ^ 24) (2 ^ 110) (2 ^ 50) (2 ^ 110) f (omega arith) (omega arith) (record { width = e; coefs_fit = h.coefs_fit; constant_fits = h.constant_fits })
 
 under_behind : (rows xs : List Affine) (ds : List (Affine × ℤ)) (ls : List Leaf) → map (under rows ds) (map (behind xs) ls) ≡ map (under (rows ++ xs) ds) ls
 under_behind rows xs ds [] = λ i. []

@@ -9,9 +9,9 @@ ghost use Rattle.affc_quast.specs.Trees.{divisions_of};
 ghost use Rattle.affc_nest.specs.Wide.{IsWide};
 
 use crate::quast::Quast;
-use crate::rows::{copied, negated};
 use affc_nest::Division;
 use affc_nest::divisions::add_division;
+use affc_nest::lists::copied;
 use affc_rows::Form;
 use sqlite_items::Items;
 use std::alloc::{AllocError, Global};
@@ -188,4 +188,13 @@ pub fn leaves(alloc: Global, columns: u32, tree: &Quast) -> Result<Vec<Leaf>, Al
     let mut out = Vec::new(alloc);
     add_leaves(alloc, columns, tree, &[], &[], &mut out)?;
     Ok(out)
+}
+
+/// The row that says that a form is below 0.
+fn negated(alloc: Global, columns: u32, form: &Form) -> Result<Form, AllocError>
+    requires { IsWide columns form.now }
+    ensures { IfOk result (λ f. f ≡ negated form.now) }
+{
+    let zero = Form::number(alloc, columns, 0)?;
+    Form::gap(alloc, form, &zero, 1)
 }

@@ -5,6 +5,5 @@ pub mod examples;
 pub mod laws;
 pub mod leaves;
 pub mod quast;
-pub mod rows;
 
 pub use quast::{Flow, Quast};

@@ -14,7 +14,7 @@ ghost use Rattle.affc_questions.specs.Sizes.{IsBroad};
 use crate::long::Long;
 use crate::rows::{add_at_least, add_at_most, add_equal, add_gap};
 use affc_nest::Nest;
-use affc_quast::rows::add_copies;
+use affc_nest::lists::add_copies;
 use affc_rows::Form;
 use affc_system::system::value_at;
 use sqlite_items::Items;

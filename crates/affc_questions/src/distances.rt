@@ -14,7 +14,7 @@ ghost use Rattle.affc_questions.specs.Tails.{distance_tail, shown_tail};
 
 use crate::image::image_of;
 use crate::rows::{add_at_least, add_equal, add_gap, add_zero, minus};
-use affc_quast::rows::copied;
+use affc_nest::lists::copied;
 use affc_rows::Form;
 use affc_system::PairSystem;
 use affc_system::system::value_at;

@@ -25,7 +25,7 @@ use crate::list::stop::Stop;
 use affc_certvalue::fold::fold::CertLeast;
 use affc_life::{ClashProduct, Found, found_at};
 use affc_nest::Nest;
-use affc_quast::rows::{add_copies, copied};
+use affc_nest::lists::{add_copies, copied};
 use affc_questions::{Long, greater_question, is_behind, one_system, shown_rows, whole_context};
 use affc_rows::Form;
 use affc_system::PairSystem;

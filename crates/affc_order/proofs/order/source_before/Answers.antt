@@ -1,5 +1,6 @@
 use Rattle.std.proofs.Common.{◌∙◌}
 use Rattle.affc_order.proofs.PlacedLemmas.{first_placed, second_placed}
+use Rattle.affc_order.proofs.RowLemmas.{source_systems_fit}
 use Rattle.affc_order.proofs.order.source_before.Goals as goal
 
 pub source_order-requires-clause-first : goal.source_order-requires-clause-first
@@ -9,3 +10,6 @@ source_order-requires-clause-first c =
 pub source_order-requires-clause-second : goal.source_order-requires-clause-second
 source_order-requires-clause-second c =
     second_placed c.args.nest.now c.args.first c.args.second c.requires.second c.in_ok-pair.pair.columns c.in_ok-pair.ensures.columns c.as_slice-2.result.now (c.as_slice-2.ensures.value ∙ c.in_ok-pair.ensures.second)
+
+pub returns-clause-fit : goal.returns-clause-fit
+returns-clause-fit c = source_systems_fit c.args.nest.now c.requires.nest c.args.first c.args.second c.requires.first
