@@ -23,7 +23,7 @@ use Rattle.affc_nest.specs.Parts.{coordinates, statement_of}
 use Rattle.affc_nest.specs.Nests.{nest_of}
 use Rattle.affc_order.specs.Posed.{Posed, form_at}
 use Rattle.affc_order.specs.Spread.{spread}
-use Rattle.affc_order.specs.Systems.{lex_systems, loops_of}
+use Rattle.affc_order.specs.Systems.{lex_systems, loops_of, rows_in}
 use Rattle.affc_sched.specs.Questions.{context_count, equal_rows}
 use Rattle.affc_sched.proofs.LegalLemmas.{entry_at}
 use Rattle.affc_sched.proofs.PairLemmas.{stands_in, ordered_as}
@@ -34,6 +34,16 @@ use Rattle.affc_flow.specs.Questions as asks
 use Rattle.affc_flow.specs.Questions.{Writer, is_temporary, writers, poses}
 use Rattle.affc_flow.specs.Writers.{Writes}
 use Rattle.affc_flow.proofs.WriterLemmas.{from_writers, to_writers}
+
+-- ---- Orders as lists of rows
+
+pub of_rows : {A : Type 0} (F : List Affine → A) (ss : List Rows) → map F (map rows_in ss) ≡ map (λ u. F u.rows) ss
+of_rows F [] = refl
+of_rows F (s ∷ ss) = ap (λ xs. F s.rows ∷ xs) (of_rows F ss)
+
+pub of_both : {A : Type 0} (F : List Affine → List Affine → A) (bs ss : List Rows) → flat_map (λ o. map (F o) (map rows_in bs)) (map rows_in ss) ≡ flat_map (λ o. map (λ u. F o.rows u.rows) bs) ss
+of_both F bs [] = refl
+of_both F bs (s ∷ ss) = ap (λ xs. xs ++ flat_map (λ o. map (F o) (map rows_in bs)) (map rows_in ss)) (of_rows (F s.rows) bs) ∙ ap (λ xs. map (λ u. F s.rows u.rows) bs ++ xs) (of_both F bs ss)
 
 -- ---- Forms over more columns
 

@@ -1,11 +1,11 @@
 //! The questions of a leaf with an instance of another part.
 ghost use Rattle.std.specs.Prelude.{◌≡◌, ◌+◌, ◌-◌, ◌≤◌, ◌++◌, ◌∷◌, [], map, IsTrue, IfOk, OnOk, IfSome, IfNone};
 ghost use Rattle.std.specs.List.{All};
+ghost use Rattle.affc_system.specs.Systems.{IsRow};
 ghost use Rattle.affc_trace.specs.Law.{IsIn};
 ghost use Rattle.affc_trace.specs.Inverses.{columns_from};
 ghost use Rattle.affc_nest.specs.Asked.{IsNest};
-ghost use Rattle.affc_nest.specs.Sides.{AreNear, IsSide};
-ghost use Rattle.affc_order.specs.Systems.{lex_systems};
+ghost use Rattle.affc_order.specs.Systems.{lex_systems, rows_in};
 ghost use Rattle.affc_sched.specs.Touched.{Each};
 ghost use Rattle.affc_flow.specs.Asked.{asked, beside_system, before, after, earlier, between, writers_of, all_earlier, all_between};
 
@@ -17,50 +17,26 @@ use crate::questions::{
 use crate::ranges::joined_ranges;
 use affc_nest::{Access, Entry, Nest};
 use affc_order::columns::columns_from;
-use affc_order::lex::lex_systems;
+use affc_order::lex::add_lex;
 use affc_order::order::shared;
 use affc_rows::Form;
 use affc_sched::systems::own_rows;
 use affc_system::System;
+use affc_system::system::fits_row;
 use sqlite_items::Items;
 use std::alloc::Global;
 
 // ---- Orders.
 
-/// Whether each coefficient is within 2^16.
-fn are_near(coefs: &[i128]) -> bool
-    ensures { IsTrue result → AreNear coefs.now }
-{
-    match coefs {
-        [] => true,
-        [c, rest @ ..] => {
-            if c.unsigned_abs() <= 65536 {
-                are_near(rest)
-            } else {
-                false
-            }
-        }
-    }
-}
-
-/// Whether a form is a side of a comparison over so many columns.
-fn is_side(columns: u32, form: &Form) -> bool
-    ensures { IsTrue result → IsSide columns form.now }
-{
-    form.coefs.len() == columns as usize
-        && form.constant.unsigned_abs() <= 4294967296
-        && are_near(form.coefs.as_slice())
-}
-
-/// Whether each form is.
-fn are_sides(columns: u32, forms: &[Form]) -> bool
-    ensures { IsTrue result → All (IsSide columns) forms.now }
+/// Whether each form is a row over so many columns, within the limits of systems.
+fn are_rows(columns: u32, forms: &[Form]) -> bool
+    ensures { IsTrue result → All (IsRow columns) forms.now }
 {
     match forms {
         [] => true,
         [form, rest @ ..] => {
-            if is_side(columns, form) {
-                are_sides(columns, rest)
+            if form.coefs.len() == columns as usize && fits_row(form) {
+                are_rows(columns, rest)
             } else {
                 false
             }
@@ -68,7 +44,7 @@ fn are_sides(columns: u32, forms: &[Form]) -> bool
     }
 }
 
-/// The systems of an order, where the forms can be compared.
+/// The rows of an order, where the forms can be compared.
 pub fn lexed(
     alloc: Global,
     columns: u32,
@@ -76,19 +52,28 @@ pub fn lexed(
     fs: &[Form],
     gs: &[Form],
     tie: bool,
-) -> Result<Vec<System>, Unasked>
-    ensures { IfOk result (λ v. v.items ≡ lex_systems columns n fs.now gs.now [] tie) }
+) -> Result<Vec<Items<Form>>, Unasked>
+    ensures { IfOk result (λ v. v.items ≡ map rows_in (lex_systems columns n fs.now gs.now [] tie)) }
 {
-    if columns > 128 || n > 12 || n > fs.len() || n > gs.len() {
+    if !are_rows(columns, fs) {
         return Err(Unasked::Large);
     }
-    if !are_sides(columns, fs) {
+    if !are_rows(columns, gs) {
         return Err(Unasked::Large);
     }
-    if !are_sides(columns, gs) {
-        return Err(Unasked::Large);
-    }
-    Ok(lex_systems(alloc, columns, n, fs, gs, tie)?)
+    let start = Items::new(alloc);
+    let mut orders = Vec::new(alloc);
+    add_lex(
+        alloc,
+        columns,
+        n,
+        fs,
+        gs,
+        start.as_slice(),
+        tie,
+        &mut orders,
+    )?;
+    Ok(orders)
 }
 
 /// So many columns from one on.
@@ -162,14 +147,14 @@ fn beside(
     Ok(system)
 }
 
-/// The systems of its being earlier than the load.
+/// The rows of its being earlier than the load.
 fn before(
     alloc: Global,
     load: &Load<'_>,
     path: &System,
     writer: &Entry,
-) -> Result<Vec<System>, Unasked>
-    ensures { IfOk result (λ v. v.items ≡ before load.now.nest.now load.now.reader.now path.now writer.now) }
+) -> Result<Vec<Items<Form>>, Unasked>
+    ensures { IfOk result (λ v. v.items ≡ map rows_in (before load.now.nest.now load.now.reader.now path.now writer.now)) }
 {
     let params = count(load.nest.params.ranges().len())?;
     let outer = count(load.reader.coordinates())?;
@@ -190,15 +175,15 @@ pub struct Chosen<'a> {
     pub forms: &'a [Form],
 }
 
-/// The systems of its being later than the instance that is chosen.
+/// The rows of its being later than the instance that is chosen.
 fn after(
     alloc: Global,
     load: &Load<'_>,
     path: &System,
     chosen: &Chosen<'_>,
     writer: &Entry,
-) -> Result<Vec<System>, Unasked>
-    ensures { IfOk result (λ v. v.items ≡ after load.now.nest.now load.now.reader.now path.now writer.now chosen.now.writer.now chosen.now.forms.now) }
+) -> Result<Vec<Items<Form>>, Unasked>
+    ensures { IfOk result (λ v. v.items ≡ map rows_in (after load.now.nest.now load.now.reader.now path.now writer.now chosen.now.writer.now chosen.now.forms.now)) }
 {
     let params = count(load.nest.params.ranges().len())?;
     let inner = count(writer.coordinates())?;

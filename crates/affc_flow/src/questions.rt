@@ -328,37 +328,37 @@ fn add_gap(
     add_question(place, &[], &[row], out)
 }
 
-/// Adds the question of each of these systems behind these rows and the path.
+/// Adds the question of the rows of each of these behind the first and the path.
 pub fn add_orders(
     place: &Place<'_>,
     first: &[Form],
-    orders: &[System],
+    orders: &[Items<Form>],
     out: &mut Vec<Question>,
 ) -> Result<(), Unasked>
-    ensures { OnOk result (map asked out.new.items ≡ map asked out.old.items ++ map (λ u. on place.now.path.now place.now.ranges.now (first.now ++ u.rows)) orders.now) }
+    ensures { OnOk result (map asked out.new.items ≡ map asked out.old.items ++ map (λ u. on place.now.path.now place.now.ranges.now (first.now ++ u)) orders.now) }
 {
     match orders {
         [] => Ok(()),
         [order, rest @ ..] => {
-            add_question(place, first, order.rows(), out)?;
+            add_question(place, first, order.as_slice(), out)?;
             add_orders(place, first, rest, out)
         }
     }
 }
 
-/// Adds the question of each of these systems and each of those behind the path.
+/// Adds the question of the rows of each of these and of each of those behind the path.
 pub fn add_both(
     place: &Place<'_>,
-    after: &[System],
-    before: &[System],
+    after: &[Items<Form>],
+    before: &[Items<Form>],
     out: &mut Vec<Question>,
 ) -> Result<(), Unasked>
-    ensures { OnOk result (map asked out.new.items ≡ map asked out.old.items ++ flat_map (λ o. map (λ u. on place.now.path.now place.now.ranges.now (o.rows ++ u.rows)) before.now) after.now) }
+    ensures { OnOk result (map asked out.new.items ≡ map asked out.old.items ++ flat_map (λ o. map (λ u. on place.now.path.now place.now.ranges.now (o ++ u)) before.now) after.now) }
 {
     match after {
         [] => Ok(()),
         [order, rest @ ..] => {
-            add_orders(place, order.rows(), before, out)?;
+            add_orders(place, order.as_slice(), before, out)?;
             add_both(place, rest, before, out)
         }
     }

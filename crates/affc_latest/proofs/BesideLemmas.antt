@@ -22,14 +22,15 @@ use Rattle.affc_nest.specs.declared.nest.Nest.{Nest}
 use Rattle.affc_nest.proofs.EntryLemmas.{ranges_hold_iterators}
 use Rattle.affc_nest.proofs.QuestionLemmas.{stands_in}
 use Rattle.affc_order.specs.Spread.{spread}
-use Rattle.affc_order.specs.Systems.{pair_columns, source_systems}
+use Rattle.affc_order.specs.Placed.{IsOrder}
+use Rattle.affc_order.specs.Systems.{over, pair_columns, rows_in, source_systems}
+use Rattle.affc_order.proofs.RowLemmas.{source_again}
 use Rattle.affc_sched.specs.Touched.{Each}
 use Rattle.affc_sched.specs.Legality.{IsAsked}
 use Rattle.affc_sched.specs.Questions.{equal_rows}
-use Rattle.affc_sched.specs.Spreadable.{IsOrder}
 use Rattle.affc_sched.proofs.LegalLemmas.{entry_at}
 use Rattle.affc_sched.proofs.PairLemmas as pairs
-use Rattle.affc_sched.proofs.PairLemmas.{all_from, columns_of_pair, source_orders}
+use Rattle.affc_sched.proofs.PairLemmas.{all_from, columns_of_pair}
 use Rattle.affc_quast.specs.Paths.{IsNear}
 use Rattle.affc_quast.specs.Sources.{loads_in}
 use Rattle.affc_latest.specs.Latest.{IsLatest}
@@ -115,11 +116,6 @@ module _ (nest : Nest) (v e : Entry) (y x : Access) (p its : List ℤ) (pair : R
   each : length v.ranges ≡ length v.loops
   each = (ranges_hold_iterators n.program v.part v n.has (entry_at n.program n.has v (subst (λ (z : Nest). IsIn v z.entries) n.is h.writes.among)) h.writes.alive).each
 
-  pub order_fits : (order : Rows) → IsIn order (source_systems nest v.part e.part) → IsOrder pair.columns order
-  order_fits order i =
-      subst (λ k. IsOrder k order) (sym (ap (λ (r : Rows). r.columns) h.rows))
-      (at_one (IsOrder (pair_columns nest v.part e.part)) (source_systems nest v.part e.part) (source_orders nest n v.part e.part (counted_entry nest h.reading.nested v h.writes.among)) order i)
-
   long : length ranges ≡ (length nest.params + length v.loops) + length e.loops
   long =
       ap length h.ranges_are ∙ length_append (map pin p) (v.ranges ++ map pin its) ∙ ap (λ k. length (map pin p) + k) (length_append v.ranges (map pin its))
@@ -128,7 +124,7 @@ module _ (nest : Nest) (v e : Entry) (y x : Access) (p its : List ℤ) (pair : R
       sum : (a b c m k n : ℕ) → a ≡ m → b ≡ k → c ≡ n → a + (b + c) ≡ (m + k) + n
       sum a b c m k n e f g = omega (arith, e, f, g)
 
-  pub ranges_long : (order system : Rows) → system ≡ with_rows pair order.rows → length ranges ≡ system.columns
+  pub ranges_long : (order : List Affine) (system : Rows) → system ≡ with_rows pair order → length ranges ≡ system.columns
   ranges_long order system s =
       long ∙ columns_of_pair nest n v e h.writes.among h.reading.touched.there ∙ sym (ap (λ (r : Rows). r.columns) s ∙ ap (λ (r : Rows). r.columns) h.rows)
 
@@ -145,30 +141,44 @@ module _ (nest : Nest) (v e : Entry) (y x : Access) (p its : List ℤ) (pair : R
       (All-append WithinReach (map pin p) (v.ranges ++ map pin its) (pins_reach p h.reading.params_near)
       (All-append WithinReach v.ranges (map pin its) (all_from WithinReach v.ranges (λ q i. near_range q (r.near q i).1)) (pins_reach its h.reading.loops_near)))
 
-  module _ (order : Rows) (system : Rows) (statement params loops : ℕ) (made : system ≡ with_rows pair order.rows) (s : statement ≡ v.part) (q : params ≡ length nest.params) (r : loops ≡ length v.loops)
+  module _ (order : List Affine) (system : Rows) (statement params loops : ℕ) (made : system ≡ with_rows pair order) (s : statement ≡ v.part) (q : params ≡ length nest.params) (r : loops ≡ length v.loops)
       (found : Option Instance) (last : IsLastIn system ranges statement params loops found) where
-    last_there : IsLastIn (store_system nest v e y x order) (beside_box p v.ranges its) v.part (length nest.params) (length v.loops) found
+    last_there : IsLastIn (store_system nest v e y x (over pair.columns order)) (beside_box p v.ranges its) v.part (length nest.params) (length v.loops) found
     last_there =
-        subst (λ k. IsLastIn (store_system nest v e y x order) (beside_box p v.ranges its) v.part (length nest.params) k found) r
-        (subst (λ k. IsLastIn (store_system nest v e y x order) (beside_box p v.ranges its) v.part k loops found) q
-        (subst (λ k. IsLastIn (store_system nest v e y x order) (beside_box p v.ranges its) k params loops found) s
-        (subst (λ rs. IsLastIn (store_system nest v e y x order) rs statement params loops found) h.ranges_are
-        (subst (λ z. IsLastIn z ranges statement params loops found) (made ∙ ap (λ (z : Rows). with_rows z order.rows) h.rows) last))))
+        subst (λ k. IsLastIn (store_system nest v e y x (over pair.columns order)) (beside_box p v.ranges its) v.part (length nest.params) k found) r
+        (subst (λ k. IsLastIn (store_system nest v e y x (over pair.columns order)) (beside_box p v.ranges its) v.part k loops found) q
+        (subst (λ k. IsLastIn (store_system nest v e y x (over pair.columns order)) (beside_box p v.ranges its) k params loops found) s
+        (subst (λ rs. IsLastIn (store_system nest v e y x (over pair.columns order)) rs statement params loops found) h.ranges_are
+        (subst (λ z. IsLastIn z ranges statement params loops found) (made ∙ ap (λ (z : Rows). with_rows z order) h.rows) last))))
 
-    pub one_latest : IsIn order (source_systems nest v.part e.part) → IsLatestBy nest v e y x p its (order ∷ []) found
-    one_latest i = one_by nest v e y x p its order found (λ program is loads.
-        subst (λ z. IsLatest (trace program p) (IsStoreBy z program p its v e y x order) found) (sym is)
-        (latest_by program p its e x loads v y (subst (λ z. Writes z x.array.0 v y) is h.writes) (its_store_is nest x.array.0 v y h.writes) order
-        (subst (λ z. IsIn order (source_systems z v.part e.part)) is i) found
-        (subst (λ (z : Nest). IsLastIn (store_system z v e y x order) (beside_box p v.ranges its) v.part (length z.params) (length v.loops) found) is last_there)))
+    pub one_latest : IsIn (over pair.columns order) (source_systems nest v.part e.part) → IsLatestBy nest v e y x p its (over pair.columns order ∷ []) found
+    one_latest i = one_by nest v e y x p its (over pair.columns order) found (λ program is loads.
+        subst (λ z. IsLatest (trace program p) (IsStoreBy z program p its v e y x (over pair.columns order)) found) (sym is)
+        (latest_by program p its e x loads v y (subst (λ z. Writes z x.array.0 v y) is h.writes) (its_store_is nest x.array.0 v y h.writes) (over pair.columns order)
+        (subst (λ z. IsIn (over pair.columns order) (source_systems z v.part e.part)) is i) found
+        (subst (λ (z : Nest). IsLastIn (store_system z v e y x (over pair.columns order)) (beside_box p v.ranges its) v.part (length z.params) (length v.loops) found) is last_there)))
 
     pub one_writer : IfSome found (IsWriterAt nest x.array.0)
     one_writer =
         subst (λ z. IfSome found (IsWriterAt z x.array.0)) (sym n.is)
-        (names_writer n.program n.has p (h.reading.params ∙ ap (λ (z : Nest). length z.params) n.is) its x.array.0 v y (subst (λ z. Writes z x.array.0 v y) n.is h.writes) (store_system nest v e y x order) found
-        (subst (λ (z : Nest). IsLastIn (store_system nest v e y x order) (beside_box p v.ranges its) v.part (length z.params) (length v.loops) found) n.is last_there))
+        (names_writer n.program n.has p (h.reading.params ∙ ap (λ (z : Nest). length z.params) n.is) its x.array.0 v y (subst (λ z. Writes z x.array.0 v y) n.is h.writes) (store_system nest v e y x (over pair.columns order)) found
+        (subst (λ (z : Nest). IsLastIn (store_system nest v e y x (over pair.columns order)) (beside_box p v.ranges its) v.part (length z.params) (length v.loops) found) n.is last_there))
 
--- ---- All systems of the order
+-- ---- All orders
 
-pub all_source : (nest : Nest) (first second : ℕ) (orders : List Rows) → orders ≡ source_systems nest first second → Each (λ o. IsIn o (source_systems nest first second)) orders
-all_source nest first second orders e = subst (Each (λ o. IsIn o (source_systems nest first second))) (sym e) (each_one (λ o. IsIn o (source_systems nest first second)) (source_systems nest first second) (λ o i. i))
+pub orders_again : (nest : Nest) (v e : Entry) (y x : Access) (pair : Rows) (held made : List (List Affine)) → pair ≡ record { columns = pair_columns nest v.part e.part; rows = store_rows nest v e y x }
+    → held ≡ made → made ≡ map rows_in (source_systems nest v.part e.part) → map (over pair.columns) held ≡ source_systems nest v.part e.part
+orders_again nest v e y x pair held made p h e =
+    ap (λ (r : Rows). map (over r.columns) held) p ∙ ap (map (over (pair_columns nest v.part e.part))) h ∙ source_again nest v.part e.part made e
+
+pub orders_fit : (nest : Nest) (v e : Entry) (y x : Access) (pair : Rows) (held made : List (List Affine)) → pair ≡ record { columns = pair_columns nest v.part e.part; rows = store_rows nest v e y x }
+    → held ≡ made → All (IsOrder (pair_columns nest v.part e.part)) made → All (IsOrder pair.columns) held
+orders_fit nest v e y x pair held made p h fit = subst (All (IsOrder pair.columns)) (sym h) (subst (λ (r : Rows). All (IsOrder r.columns) made) (sym p) fit)
+
+pub all_over : {A B : Type 0} (F : A → B) (xs : List A) (ys : List B) → map F xs ≡ ys → Each (λ x. IsIn (F x) ys) xs
+all_over F xs ys e = subst (λ zs. Each (λ x. IsIn (F x) zs) xs) e (each_one (λ x. IsIn (F x) (map F xs)) xs (mapped_in xs))
+  where
+    mapped_in : (xs : List A) (x : A) → IsIn x xs → IsIn (F x) (map F xs)
+    mapped_in [] x i = absurd i
+    mapped_in (y ∷ ys) x (inl e) = inl (ap F e)
+    mapped_in (y ∷ ys) x (inr i) = inr (mapped_in ys x i)

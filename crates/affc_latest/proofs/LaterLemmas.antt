@@ -27,7 +27,27 @@ use Rattle.affc_latest.specs.Latest.{IsLatest}
 use Rattle.affc_latest.specs.Stores.{IsNumbered, IsWriterAt, IsLaterOf}
 use Rattle.affc_latest.proofs.LatestLemmas.{later_of_two, either_order, only_second}
 
--- ---- A point of one of some systems
+-- ---- A point of one of some orders
+
+pub none_met : (columns : ℕ) (orders : List (List Affine)) (point : List ℤ) → length orders ≡ 0 → (false ≡ true) ↔ IsPointOfOne (map (over columns) orders) point
+none_met columns [] point e = ((λ k. absurd (true≢false (sym k))), λ m. absurd m.there)
+none_met columns (o ∷ os) point e = absurd (omega (arith, e))
+
+pub one_met : (columns : ℕ) (orders rest : List (List Affine)) (order : List Affine) (system : Rows) (point : List ℤ) → orders ≡ order ∷ rest → system ≡ over columns order → IsPoint system point
+    → IsPointOfOne (map (over columns) orders) point
+one_met columns orders rest order system point e s m =
+    subst (λ os. IsPointOfOne (map (over columns) os) point) (sym e) (record { system = over columns order; there = inl refl; meets = subst (λ z. IsPoint z point) s m })
+
+pub others_met : (columns : ℕ) (orders rest : List (List Affine)) (order : List Affine) (system : Rows) (point : List ℤ) (t : Bool) → orders ≡ order ∷ rest → system ≡ over columns order → (IsPoint system point → ⊥)
+    → (IsTrue t ↔ IsPointOfOne (map (over columns) rest) point) → IsTrue t ↔ IsPointOfOne (map (over columns) orders) point
+others_met columns orders rest order system point t e s none h = subst (λ os. IsTrue t ↔ IsPointOfOne (map (over columns) os) point) (sym e) ((λ k. more (h.0 k)), λ m. h.1 (less m m.there))
+  where
+    more : IsPointOfOne (map (over columns) rest) point → IsPointOfOne (map (over columns) (order ∷ rest)) point
+    more m = record { system = m.system; there = inr m.there; meets = m.meets }
+
+    less : (m : IsPointOfOne (map (over columns) (order ∷ rest)) point) → IsIn m.system (map (over columns) (order ∷ rest)) → IsPointOfOne (map (over columns) rest) point
+    less m (inl q) = absurd (none (subst (λ z. IsPoint z point) (q ∙ sym s) m.meets))
+    less m (inr i) = record { system = m.system; there = i; meets = m.meets }
 
 -- ---- Two instances at the columns of their orders
 
@@ -53,18 +73,21 @@ pub either_writes : (nest : Nest) (array : ℕ) (first second later : Option Ins
 either_writes nest array first second later h g (inl e) = subst (λ o. IfSome o (IsWriterAt nest array)) (sym e) h
 either_writes nest array first second later h g (inr e) = subst (λ o. IfSome o (IsWriterAt nest array)) (sym e) g
 
-pub systems_wide : (nest : Nest) (p point : List ℤ) (u w : Instance) (systems : List Rows) → length p ≡ length nest.params → IsNumbered nest u → IsNumbered nest w
-    → systems ≡ source_systems nest u.statement w.statement → point ≡ p ++ (u.iterators ++ w.iterators) → Each (λ (s : Rows). length point ≡ s.columns) systems
-systems_wide nest p point u w systems l a b e f =
-    let long : length point ≡ pair_columns nest u.statement w.statement =
+pub point_long : (nest : Nest) (p point : List ℤ) (u w : Instance) → length p ≡ length nest.params → IsNumbered nest u → IsNumbered nest w → point ≡ p ++ (u.iterators ++ w.iterators)
+    → length point ≡ pair_columns nest u.statement w.statement
+point_long nest p point u w l a b f =
     ap length f ∙ length_append p (u.iterators ++ w.iterators) ∙ ap (λ k. length p + k) (length_append u.iterators w.iterators)
-    ∙ sum (length p) (length u.iterators) (length w.iterators) (length nest.params) (length (loops_of nest u.statement)) (length (loops_of nest w.statement)) l (its_loops nest u a) (its_loops nest w b) in
-    subst (Each (λ (s : Rows). length point ≡ s.columns)) (sym e)
-    (each_one (λ (s : Rows). length point ≡ s.columns) (source_systems nest u.statement w.statement) (λ s i.
-    long ∙ sym (order_columns nest schedule.Source (pair_columns nest u.statement w.statement) (first_posed nest u.statement w.statement) (second_posed nest u.statement w.statement) s i)))
+    ∙ sum (length p) (length u.iterators) (length w.iterators) (length nest.params) (length (loops_of nest u.statement)) (length (loops_of nest w.statement)) l (its_loops nest u a) (its_loops nest w b)
   where
     sum : (a b c m k n : ℕ) → a ≡ m → b ≡ k → c ≡ n → a + (b + c) ≡ (m + k) + n
     sum a b c m k n e f g = omega (arith, e, f, g)
+
+pub few_columns : (nest : Nest) → IsNest nest → (first second : ℕ) → first < length nest.entries → second < length nest.entries → pair_columns nest first second ≤ 128
+few_columns nest n first second h g =
+    let a = nest_few nest n in
+    let b = few_loops nest n first h in
+    let c = few_loops nest n second g in
+    omega arith
 
 -- ---- The later
 

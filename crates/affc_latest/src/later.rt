@@ -1,30 +1,41 @@
 //! The later of two instances.
-ghost use Rattle.std.specs.Prelude.{◌≡◌, ◌↔◌, ◌⊎◌, ◌++◌, length, IsTrue, IfOk, IfSome};
+ghost use Rattle.std.specs.Prelude.{◌≡◌, ◌↔◌, ◌⊎◌, ◌++◌, ◌≤◌, length, map, IsTrue, IfOk, IfSome};
+ghost use Rattle.std.specs.List.{All};
 ghost use Rattle.affc_nest.specs.Asked.{IsNest};
 ghost use Rattle.affc_order.specs.Laws.{IsPointOfOne};
-ghost use Rattle.affc_order.specs.Systems.{source_systems};
-ghost use Rattle.affc_sched.specs.Touched.{Each};
+ghost use Rattle.affc_order.specs.Placed.{IsOrder};
+ghost use Rattle.affc_order.specs.Systems.{over, source_systems};
 ghost use Rattle.affc_latest.specs.Stores.{IsNumbered, IsLaterOf};
 
+use crate::pairs::with_order;
 use affc_ast::tree::Instance;
 use affc_nest::Nest;
 use affc_order::source_before;
+use affc_rows::Form;
 use affc_system::System;
 use sqlite_items::Items;
 use std::alloc::{AllocError, Global};
 
-/// Whether the point is one of some system's.
-fn meets_one(systems: &[System], point: &[i64]) -> bool
-    requires { Each (λ s. length point.now ≡ s.columns) systems.now }
-    ensures { IsTrue result ↔ IsPointOfOne systems.now point.now }
+/// Whether the point meets the rows of one of these orders.
+fn meets_one(
+    alloc: Global,
+    columns: u32,
+    orders: &[Items<Form>],
+    point: &[i64],
+) -> Result<bool, AllocError>
+    requires few { columns ≤ 128 }
+    requires fit { All (IsOrder columns) orders.now }
+    requires long { length point.now ≡ columns }
+    ensures { IfOk result (λ t. IsTrue t ↔ IsPointOfOne (map (over columns) orders.now) point.now) }
 {
-    match systems {
-        [] => false,
-        [system, rest @ ..] => {
+    match orders {
+        [] => Ok(false),
+        [order, rest @ ..] => {
+            let system = with_order(&System::new(alloc, columns), order.as_slice())?;
             if system.holds_at(point) {
-                true
+                Ok(true)
             } else {
-                meets_one(rest, point)
+                meets_one(alloc, columns, rest, point)
             }
         }
     }
@@ -57,15 +68,15 @@ fn is_earlier(
     requires second { IsNumbered nest.now second.now }
     ensures { IfOk result (λ t. IsTrue t ↔ IsPointOfOne (source_systems nest.now first.now.statement second.now.statement) (p.now ++ (first.now.iterators ++ second.now.iterators))) }
 {
-    let systems = source_before(alloc, nest, first.statement, second.statement)?;
+    let orders = source_before(alloc, nest, first.statement, second.statement)?;
     let point = joined(
         alloc,
         p,
         first.iterators.as_slice(),
         second.iterators.as_slice(),
     )?;
-    let found = meets_one(systems.as_slice(), point.as_slice());
-    Ok(found)
+    let columns = point.len() as u32;
+    meets_one(alloc, columns, orders.as_slice(), point.as_slice())
 }
 
 /// The later of two instances, of which there may be none.

@@ -1,10 +1,11 @@
 //! The latest store before a load: its source.
-ghost use Rattle.std.specs.Prelude.{◌≡◌, ◌+◌, ◌≤◌, ◌∷◌, [], ℕ, Some, length, IfOk, IfErr, IfSome};
+ghost use Rattle.std.specs.Prelude.{◌≡◌, ◌+◌, ◌≤◌, ◌∷◌, [], ℕ, Some, length, map, IfOk, IfErr, IfSome};
 ghost use Rattle.std.specs.List.{All};
 ghost use Rattle.affc_system.specs.Pairs.{WithinReach};
 ghost use Rattle.affc_split.specs.Budgets.{IsLater};
 ghost use Rattle.affc_trace.specs.Law.{IsIn};
-ghost use Rattle.affc_order.specs.Systems.{source_systems};
+ghost use Rattle.affc_order.specs.Placed.{IsOrder};
+ghost use Rattle.affc_order.specs.Systems.{over, source_systems};
 ghost use Rattle.affc_sched.specs.Touched.{Each};
 ghost use Rattle.affc_flow.specs.Writers.{Writes};
 ghost use Rattle.affc_latest.specs.Stores.{IsReading, AreBeside, instance_in, IsLastIn, IsLatestBy, IsLatestAmong, IsWriterAt, IsReadFrom};
@@ -16,6 +17,7 @@ use crate::pinned::beside_ranges;
 use affc_ast::tree::Instance;
 use affc_nest::{Access, Entry, Nest};
 use affc_order::source_before;
+use affc_rows::Form;
 use affc_split::{Budget, Stop};
 use affc_system::{BoxOf, System};
 use sqlite_items::Items;
@@ -91,16 +93,17 @@ fn last_in(
     }
 }
 
-/// The latest store by one system of the order.
+/// The latest store by these rows of the order.
 fn last_by_one(
     alloc: Global,
     beside: &Beside<'_>,
-    order: &System,
+    order: &[Form],
     budget: &mut Budget,
 ) -> Result<Option<Instance>, Stop>
     requires beside { AreBeside beside.now.nest.now beside.now.writer.now beside.now.reader.now beside.now.store.now beside.now.load.now beside.now.p.now beside.now.iterators.now beside.now.pair.now beside.now.ranges.now }
-    requires order { IsIn order.now (source_systems beside.now.nest.now beside.now.writer.now.part beside.now.reader.now.part) }
-    ensures latest { IfOk result (IsLatestBy beside.now.nest.now beside.now.writer.now beside.now.reader.now beside.now.store.now beside.now.load.now beside.now.p.now beside.now.iterators.now (order.now ∷ [])) }
+    requires fit { IsOrder beside.now.pair.now.columns order.now }
+    requires order { IsIn (over beside.now.pair.now.columns order.now) (source_systems beside.now.nest.now beside.now.writer.now.part beside.now.reader.now.part) }
+    ensures latest { IfOk result (IsLatestBy beside.now.nest.now beside.now.writer.now beside.now.reader.now beside.now.store.now beside.now.load.now beside.now.p.now beside.now.iterators.now (over beside.now.pair.now.columns order.now ∷ [])) }
     ensures writer { IfOk result (λ o. IfSome o (IsWriterAt beside.now.nest.now beside.now.load.now.array.0)) }
     ensures later { IsLater budget.old budget.new }
     ensures stop { IfErr result (λ e. e ≡ Stop.Budget → budget.new.limit ≡ Some budget.new.spent) }
@@ -112,16 +115,17 @@ fn last_by_one(
     last_in(alloc, &system, beside.ranges, part, params, own, budget)
 }
 
-/// The latest store by any of these systems of the order.
+/// The latest store by the rows of any of these.
 fn last_by(
     alloc: Global,
     beside: &Beside<'_>,
-    orders: &[System],
+    orders: &[Items<Form>],
     budget: &mut Budget,
 ) -> Result<Option<Instance>, Stop>
     requires beside { AreBeside beside.now.nest.now beside.now.writer.now beside.now.reader.now beside.now.store.now beside.now.load.now beside.now.p.now beside.now.iterators.now beside.now.pair.now beside.now.ranges.now }
-    requires orders { Each (λ o. IsIn o (source_systems beside.now.nest.now beside.now.writer.now.part beside.now.reader.now.part)) orders.now }
-    ensures latest { IfOk result (IsLatestBy beside.now.nest.now beside.now.writer.now beside.now.reader.now beside.now.store.now beside.now.load.now beside.now.p.now beside.now.iterators.now orders.now) }
+    requires fit { All (IsOrder beside.now.pair.now.columns) orders.now }
+    requires orders { Each (λ o. IsIn (over beside.now.pair.now.columns o) (source_systems beside.now.nest.now beside.now.writer.now.part beside.now.reader.now.part)) orders.now }
+    ensures latest { IfOk result (IsLatestBy beside.now.nest.now beside.now.writer.now beside.now.reader.now beside.now.store.now beside.now.load.now beside.now.p.now beside.now.iterators.now (map (over beside.now.pair.now.columns) orders.now)) }
     ensures writer { IfOk result (λ o. IfSome o (IsWriterAt beside.now.nest.now beside.now.load.now.array.0)) }
     ensures later { IsLater budget.old budget.new }
     ensures stop { IfErr result (λ e. e ≡ Stop.Budget → budget.new.limit ≡ Some budget.new.spent) }
@@ -129,7 +133,7 @@ fn last_by(
     match orders {
         [] => Ok(None),
         [order, rest @ ..] => {
-            let here = last_by_one(alloc, beside, order, budget)?;
+            let here = last_by_one(alloc, beside, order.as_slice(), budget)?;
             let others = last_by(alloc, beside, rest, budget)?;
             let latest = later(alloc, beside.nest, beside.p, here, others)?;
             Ok(latest)

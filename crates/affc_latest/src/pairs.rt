@@ -5,11 +5,12 @@ ghost use Rattle.affc_nest.specs.Asked.{IsNest};
 ghost use Rattle.affc_nest.specs.Domains.{with_rows};
 ghost use Rattle.affc_order.specs.Spread.{spread};
 ghost use Rattle.affc_order.specs.Systems.{pair_columns};
-ghost use Rattle.affc_sched.specs.Spreadable.{IsOrder};
+ghost use Rattle.affc_order.specs.Placed.{IsOrder};
 ghost use Rattle.affc_latest.specs.Stores.{store_rows};
 
 use affc_nest::questions::add_rows;
 use affc_nest::{Access, Entry, Nest};
+use affc_rows::Form;
 use affc_sched::systems::{add_equal, add_spread_rows};
 use affc_system::System;
 use std::alloc::{AllocError, Global};
@@ -62,12 +63,12 @@ pub(crate) fn store_rows(
 }
 
 /// The rows and those of an order behind.
-pub(crate) fn with_order(pair: &System, order: &System) -> Result<System, AllocError>
+pub(crate) fn with_order(pair: &System, order: &[Form]) -> Result<System, AllocError>
     requires pair { length pair.now.rows ≤ 950 }
     requires order { IsOrder pair.now.columns order.now }
-    ensures { IfOk result (λ s. s ≡ with_rows pair.now order.now.rows) }
+    ensures { IfOk result (λ s. s ≡ with_rows pair.now order.now) }
 {
     let mut system = pair.clone()?;
-    add_rows(&mut system, order.rows())?;
+    add_rows(&mut system, order)?;
     Ok(system)
 }

@@ -28,7 +28,7 @@ use Rattle.affc_order.specs.Asked.{IsScheduled}
 use Rattle.affc_order.specs.Placed.{HasMap, IsOrder}
 use Rattle.affc_order.specs.Posed.{Posed, form_at}
 use Rattle.affc_order.specs.Spread.{spread}
-use Rattle.affc_order.specs.Systems.{coordinates_of, first_posed, forms_or_none, lex_systems, loops_of, pair_columns, rows_in, second_posed, source_order, source_systems, time_forms, turned_systems}
+use Rattle.affc_order.specs.Systems.{coordinates_of, first_posed, forms_or_none, lex_systems, loops_of, over, pair_columns, rows_in, second_posed, source_order, source_systems, target_order, time_forms, turned_systems}
 use Rattle.affc_order.proofs.CodeLemmas.{columns_sides, few_loops, is_nest}
 use Rattle.affc_order.proofs.DepthLemmas.{timed}
 use Rattle.affc_order.proofs.PlacedLemmas.{slight_forms}
@@ -55,7 +55,7 @@ lex_orders columns (suc n) (f ∷ fs) (g ∷ gs) rows tie h s t r =
     (record { few = one (length rows) n (length (rows ++ compare_rows Less f g)) (length_append rows (compare_rows Less f g)) h; fit = All-append (IsRow columns) rows (compare_rows Less f g) r (single f g 1 a b (omega arith)) })
     (lex_orders columns n fs gs (rows ++ compare_rows Equal f g) tie (two (length rows) n (length (rows ++ compare_rows Equal f g)) (length_append rows (compare_rows Equal f g)) h)
     (All-tail (IsSide columns) f fs s) (All-tail (IsSide columns) g gs t)
-    (All-append (IsRow columns) rows (compare_rows Equal f g) r (All-cons (IsRow columns) _ _ (gap_is_row columns g f 0 b a (omega arith)) (single f g 0 a b (omega arith)))))
+    (All-append (IsRow columns) rows (compare_rows Equal f g) r (All-cons (IsRow columns) (gap_row g f 0) (gap_row f g 0 ∷ []) (gap_is_row columns g f 0 b a (omega arith)) (single f g 0 a b (omega arith)))))
   where
     single : (f g : Affine) (k : ℕ) → IsSide columns f → IsSide columns g → k ≤ 1 → All (IsRow columns) (gap_row f g k ∷ [])
     single f g k a b h = All-cons (IsRow columns) (gap_row f g k) [] (gap_is_row columns f g k a b h) (All-nil (IsRow columns))
@@ -75,7 +75,25 @@ source_rows nest n columns a b h s t =
     bound : (k l : ℕ) → k ≤ l → l ≤ 6 → (0 + 2 * k) + 1 ≤ 26
     bound k l g f = omega (arith, g, f)
 
+-- ---- The rows of an order over its columns are its systems
+
+lex_again : (columns n : ℕ) (fs gs rows : List Affine) (tie : Bool) → map (over columns) (map rows_in (lex_systems columns n fs gs rows tie)) ≡ lex_systems columns n fs gs rows tie
+lex_again columns zero fs gs rows true = refl
+lex_again columns zero fs gs rows false = refl
+lex_again columns (suc n) [] gs rows tie = refl
+lex_again columns (suc n) (f ∷ fs) [] rows tie = refl
+lex_again columns (suc n) (f ∷ fs) (g ∷ gs) rows tie = ap (λ ss. over columns (rows ++ compare_rows Less f g) ∷ ss) (lex_again columns n fs gs (rows ++ compare_rows Equal f g) tie)
+
+pub source_again : (nest : Nest) (first second : ℕ) (made : List (List Affine)) → made ≡ map rows_in (source_systems nest first second) → map (over (pair_columns nest first second)) made ≡ source_systems nest first second
+source_again nest first second made e =
+    let columns = pair_columns nest first second in
+    ap (map (over columns)) e
+    ∙ lex_again columns (shared (loops_of nest first) (loops_of nest second)) (first_posed nest first second).iterators (second_posed nest first second).iterators [] (nat_lt (statement_of nest first) (statement_of nest second))
+
 -- ---- Times at columns
+
+whole : (m c l columns : ℕ) → m ≤ c → c + l ≤ columns → ((m + (c - m)) + l) + (columns - c - l) ≡ columns
+whole m c l columns h g = omega arith
 
 -- a form over the parameters and coordinates, put at the columns of the parameters and those from c on
 at_place : (m c l columns : ℕ) (f : Affine) → m ≤ c → c + l ≤ columns → length f.coefs ≡ m + l
@@ -87,9 +105,6 @@ at_place m c l columns f h g w =
   where
     place : (m c : ℕ) → m ≤ c → m + (c - m) ≡ c
     place m c h = omega arith
-
-whole : (m c l columns : ℕ) → m ≤ c → c + l ≤ columns → ((m + (c - m)) + l) + (columns - c - l) ≡ columns
-whole m c l columns h g = omega arith
 
 placed_slight : (m c l columns : ℕ) (fs : List Affine) → m ≤ c → c + l ≤ columns → All (IsWithin (m + l) 256 (2 ^ 30)) fs
     → All (IsWithin columns 256 (2 ^ 30)) (map (form_at columns (columns_from columns 0 m ++ columns_from columns c l)) fs)
@@ -106,23 +121,15 @@ times_sides : (nest : Nest) (maps : List TimeMap) (columns part c : ℕ) → Has
 times_sides nest maps columns part c has h g =
     let images = columns_from columns 0 (length nest.params) ++ columns_from columns c (coordinates_of nest part) in
     subst (All (IsSide columns)) (ap (λ o. map (form_at columns images) (forms_or_none o)) (sym has.there))
-    (all_raised columns 256 (2 ^ 16) (2 ^ 30) (2 ^ 32) (map (form_at columns images) has.time_map.forms) (omega arith) (omega arith)
+    (all_raised columns 256 (2 ^ 30) (2 ^ 16) (2 ^ 32) (map (form_at columns images) has.time_map.forms) (omega arith) (omega arith)
     (placed_slight (length nest.params) c (coordinates_of nest part) columns has.time_map.forms h g
     (slight_forms (length nest.params + coordinates_of nest part) has.time_map.forms has.columns has.slight)))
 
 -- ---- Two parts
 
-pub source_systems_fit : (nest : Nest) → IsNest nest → (first second : ℕ) → first < length nest.entries → (made : List (List Affine)) → made ≡ map rows_in (source_systems nest first second)
-    → All (IsOrder (pair_columns nest first second)) made
-source_systems_fit nest n first second h made e =
-    let columns = pair_columns nest first second in
-    subst (All (IsOrder columns)) (sym e)
-    (source_rows nest n columns (first_posed nest first second) (second_posed nest first second) h (columns_sides columns (length nest.params) (coordinates_of nest first))
-    (columns_sides columns (length nest.params + coordinates_of nest first) (coordinates_of nest second)))
-
-pub turned_systems_fit : (nest : Nest) (schedule : Schedule) → IsScheduled nest schedule → (first second : ℕ) → first < length nest.entries → second < length nest.entries → (made : List (List Affine))
-    → made ≡ map rows_in (turned_systems nest first second schedule) → All (IsOrder (pair_columns nest first second)) made
-turned_systems_fit nest schedule q first second h g made e = subst (All (IsOrder columns)) (sym e) (by_kind schedule refl q.slight)
+turned_rows : (nest : Nest) (schedule : Schedule) → IsScheduled nest schedule → (first second : ℕ) → first < length nest.entries → second < length nest.entries
+    → All (IsOrder (pair_columns nest first second)) (map rows_in (turned_systems nest first second schedule))
+turned_rows nest schedule q first second h g = by_kind schedule refl q.slight
   where
     columns : ℕ
     columns = pair_columns nest first second
@@ -152,3 +159,28 @@ turned_systems_fit nest schedule q first second h g made e = subst (All (IsOrder
         let own = times_sides nest maps columns first (length nest.params) (timed nest schedule q components maps is first h).has (omega arith) (room (length nest.params) (coordinates_of nest first) (coordinates_of nest second)) in
         let its = times_sides nest maps columns second (length nest.params + coordinates_of nest first) (timed nest schedule q components maps is second g).has (front (length nest.params) (coordinates_of nest first)) (omega arith) in
         lex_orders columns components (time_forms nest maps columns b) (time_forms nest maps columns a) [] (nat_lt (statement_of nest second) (statement_of nest first)) (long components few) its own (All-nil (IsRow columns))
+
+module _ (nest : Nest) (first second columns : ℕ) (fs gs : List Affine) (made : List (List Affine)) (c : columns ≡ pair_columns nest first second)
+    (f : fs ≡ columns_from (pair_columns nest first second) (length nest.params) (coordinates_of nest first))
+    (g : gs ≡ columns_from (pair_columns nest first second) (length nest.params + coordinates_of nest first) (coordinates_of nest second)) where
+  abbrev at : List Affine → Posed
+  at xs = record { part = first; iterators = xs }
+
+  abbrev beside : List Affine → Posed
+  beside xs = record { part = second; iterators = xs }
+
+  pub source_systems_fit : IsNest nest → first < length nest.entries → made ≡ map rows_in (source_order nest columns (at fs) (beside gs)) → All (IsOrder (pair_columns nest first second)) made
+  source_systems_fit n h e =
+      let k = pair_columns nest first second in
+      subst (All (IsOrder k)) (sym (e ∙ ap (λ m. map rows_in (source_order nest m (at fs) (beside gs))) c ∙ ap (λ xs. map rows_in (source_order nest k (at xs) (beside gs))) f
+      ∙ ap (λ xs. map rows_in (source_order nest k (first_posed nest first second) (beside xs))) g))
+      (source_rows nest n k (first_posed nest first second) (second_posed nest first second) h (columns_sides k (length nest.params) (coordinates_of nest first))
+      (columns_sides k (length nest.params + coordinates_of nest first) (coordinates_of nest second)))
+
+  pub turned_systems_fit : (schedule : Schedule) → IsScheduled nest schedule → first < length nest.entries → second < length nest.entries → made ≡ map rows_in (target_order nest schedule columns (beside gs) (at fs))
+      → All (IsOrder (pair_columns nest first second)) made
+  turned_systems_fit schedule q h l e =
+      let k = pair_columns nest first second in
+      subst (All (IsOrder k)) (sym (e ∙ ap (λ m. map rows_in (target_order nest schedule m (beside gs) (at fs))) c ∙ ap (λ xs. map rows_in (target_order nest schedule k (beside gs) (at xs))) f
+      ∙ ap (λ xs. map rows_in (target_order nest schedule k (beside xs) (first_posed nest first second))) g))
+      (turned_rows nest schedule q first second h l)

@@ -18,6 +18,10 @@ use Rattle.affc_order.specs.Posed.{Posed, form_at}
 abbrev pub rows_in : Rows → List Affine
 rows_in s = s.rows
 
+-- these rows over so many columns
+abbrev pub over : (columns : ℕ) → List Affine → Rows
+over columns rows = record { columns = columns; rows = rows }
+
 -- Behind these rows, so many pairs of forms are compared in turn: one system says that the first is less, and the others
 -- that the two are equal and what comes then. Where all are equal, this test decides.
 abbrev pub lex_systems : (columns n : ℕ) → (fs gs : List Affine) → (rows : List Affine) → (tie : Bool) → List Rows

@@ -1,12 +1,7 @@
 use Rattle.std.proofs.Common.{length, refl, ap}
 use Rattle.std.proofs.lemmas.Result.{IfOk-weaker}
-use Rattle.affc_latest.proofs.BesideLemmas.{order_fits, ranges_long, ranges_room, ranges_reach, one_latest, one_writer}
+use Rattle.affc_latest.proofs.BesideLemmas.{ranges_long, ranges_room, ranges_reach, one_latest, one_writer}
 use Rattle.affc_latest.proofs.latest.last_by_one.Goals as goal
-
-pub with_order-requires-clause-order : goal.with_order-requires-clause-order
-with_order-requires-clause-order c =
-    let b = c.args.beside.now in
-    order_fits b.nest.now b.writer.now b.reader.now b.store.now b.load.now b.p.now b.iterators.now b.pair.now b.ranges.now c.requires.beside c.args.order.now c.requires.order
 
 pub last_in-requires-clause-columns : goal.last_in-requires-clause-columns
 last_in-requires-clause-columns c =

@@ -1,7 +1,8 @@
-use Rattle.std.proofs.Common.{◌∙◌}
+use Rattle.std.proofs.Common.{map}
 use Rattle.std.proofs.lemmas.Result.{IfOk-weaker}
+use Rattle.affc_order.specs.Systems.{over, source_systems}
 use Rattle.affc_latest.proofs.AmongLemmas.{all_orders}
-use Rattle.affc_latest.proofs.BesideLemmas.{is_nest, counted_entry, its_store_is, as_many_dimensions, few_dimensions, all_source}
+use Rattle.affc_latest.proofs.BesideLemmas.{is_nest, counted_entry, its_store_is, as_many_dimensions, few_dimensions, all_over, orders_again, orders_fit}
 use Rattle.affc_latest.proofs.latest.last_store.Goals as goal
 
 pub store_rows-requires-clause-nest : goal.store_rows-requires-clause-nest
@@ -36,14 +37,21 @@ last_by-requires-clause-beside c = record {
   ranges_are = c.in_ok-ranges.ensures;
 }
 
+pub last_by-requires-clause-fit : goal.last_by-requires-clause-fit
+last_by-requires-clause-fit c =
+    let r = c.args.reading.now in
+    orders_fit r.nest.now c.args.writer.now r.reader.now c.args.store.now r.load.now c.in_ok-pair.pair c.as_slice.result.now _ c.in_ok-pair.ensures.value c.as_slice.ensures.value c.in_ok-orders.ensures.fit
+
 pub last_by-requires-clause-orders : goal.last_by-requires-clause-orders
 last_by-requires-clause-orders c =
-    all_source c.args.reading.now.nest.now c.args.writer.now.part c.args.reading.now.reader.now.part c.as_slice.result.now (c.as_slice.ensures.value ∙ c.in_ok-orders.ensures)
+    let r = c.args.reading.now in
+    all_over (over c.in_ok-pair.pair.columns) c.as_slice.result.now (source_systems r.nest.now c.args.writer.now.part r.reader.now.part)
+    (orders_again r.nest.now c.args.writer.now r.reader.now c.args.store.now r.load.now c.in_ok-pair.pair c.as_slice.result.now _ c.in_ok-pair.ensures.value c.as_slice.ensures.value c.in_ok-orders.ensures.rows)
 
 pub returns-clause-latest : goal.returns-clause-latest
 returns-clause-latest c =
     let r = c.args.reading.now in
     IfOk-weaker c.last_by.result _ _
-    (λ found latest. all_orders r.nest.now c.args.writer.now r.reader.now c.args.store.now r.load.now r.p.now r.iterators.now c.as_slice.result.now found c.requires.writes
-    (c.as_slice.ensures.value ∙ c.in_ok-orders.ensures) latest)
+    (λ found latest. all_orders r.nest.now c.args.writer.now r.reader.now c.args.store.now r.load.now r.p.now r.iterators.now (map (over c.in_ok-pair.pair.columns) c.as_slice.result.now) found c.requires.writes
+    (orders_again r.nest.now c.args.writer.now r.reader.now c.args.store.now r.load.now c.in_ok-pair.pair c.as_slice.result.now _ c.in_ok-pair.ensures.value c.as_slice.ensures.value c.in_ok-orders.ensures.rows) latest)
     c.last_by.ensures.latest

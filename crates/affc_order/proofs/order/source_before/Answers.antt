@@ -1,4 +1,5 @@
 use Rattle.std.proofs.Common.{◌∙◌}
+use Rattle.std.proofs.lemmas.Result.{IfOk-weaker}
 use Rattle.affc_order.proofs.PlacedLemmas.{first_placed, second_placed}
 use Rattle.affc_order.proofs.RowLemmas.{source_systems_fit}
 use Rattle.affc_order.proofs.order.source_before.Goals as goal
@@ -12,4 +13,8 @@ source_order-requires-clause-second c =
     second_placed c.args.nest.now c.args.first c.args.second c.requires.second c.in_ok-pair.pair.columns c.in_ok-pair.ensures.columns c.as_slice-2.result.now (c.as_slice-2.ensures.value ∙ c.in_ok-pair.ensures.second)
 
 pub returns-clause-fit : goal.returns-clause-fit
-returns-clause-fit c = source_systems_fit c.args.nest.now c.requires.nest c.args.first c.args.second c.requires.first
+returns-clause-fit c =
+    IfOk-weaker c.source_order.result _ _
+    (λ v e. source_systems_fit c.args.nest.now c.args.first c.args.second c.in_ok-pair.pair.columns c.as_slice.result.now c.as_slice-2.result.now v.items c.in_ok-pair.ensures.columns (c.as_slice.ensures.value ∙ c.in_ok-pair.ensures.first)
+    (c.as_slice-2.ensures.value ∙ c.in_ok-pair.ensures.second) c.requires.nest c.requires.first e)
+    c.source_order.ensures
