@@ -1,12 +1,10 @@
 -- The leaf of a tree at a point is that whose rows are met with the right quotients.
-use Rattle.std.proofs.Common.{◌≡◌, ℕ, zero, suc, ◌+◌, ◌-◌, ◌≤◌, ℤ, pos, negsuc, ◌+ℤ◌, ◌-ℤ◌, ◌*ℤ◌, ◌≤ℤ◌, Bool, true, false, if◌then◌else◌, List, [], ◌∷◌, ◌++◌, length, map, replicate, Some, None, refl, sym, ap, subst, ◌∙◌, inl, inr, arith}
+use Rattle.std.proofs.Common.{◌≡◌, ℕ, zero, suc, ◌+◌, ◌-◌, ◌≤◌, ℤ, pos, negsuc, ◌+ℤ◌, ◌*ℤ◌, ◌≤ℤ◌, Bool, true, false, if◌then◌else◌, List, [], ◌∷◌, ◌++◌, length, map, replicate, Some, None, refl, sym, ap, subst, ◌∙◌, inl, inr, arith}
 use Rattle.std.specs.Prelude.{int_le}
 use Rattle.std.proofs.lemmas.Int.{ints}
 use Rattle.affc_rows.specs.Forms.{Affine, value, dot, values_of, HaveColumns}
 use Rattle.affc_rows.proofs.ValueLemmas.{length-mixed}
-use Rattle.affc_rows.proofs.IntLemmas.{mul-add}
-use Rattle.affc_system.proofs.BoxLemmas.{grows}
-use Rattle.affc_ast.specs.declared.tree.Rel.TheVariants.{Less, LessEqual}
+use Rattle.affc_ast.specs.declared.tree.Rel.TheVariants.{Less}
 use Rattle.affc_ast.specs.Index.{floor_of}
 use Rattle.affc_trace.specs.Law.{IsIn}
 use Rattle.affc_trace.proofs.Once.{in_append}
@@ -14,7 +12,7 @@ use Rattle.affc_trace.proofs.Members.{to_first, to_second, in_map, to_map}
 use Rattle.affc_trace.proofs.Runs.{length_append}
 use Rattle.affc_trace.proofs.EndedReads.{append_assoc}
 use Rattle.affc_trace.proofs.LastStores.{append_nil}
-use Rattle.affc_nest.specs.Domains.{gap_row, number_form, compare_rows}
+use Rattle.affc_nest.specs.Domains.{gap_row, number_form}
 use Rattle.affc_nest.specs.Questions.{widened}
 use Rattle.affc_domain.proofs.FormLemmas.{number_value, number_width}
 use Rattle.affc_system.specs.Systems.{Met}

@@ -1,23 +1,19 @@
 -- Leaves at the end of a path.
-use Rattle.std.proofs.Common.{◌≡◌, ℕ, suc, ◌+◌, ◌^◌, ◌≤◌, ℤ, List, [], ◌∷◌, ◌++◌, length, map, sym, ap, ◌∙◌, arith}
-use Rattle.std.specs.Prelude.{unsigned_abs, max}
-use Rattle.std.specs.List.{All}
-use Rattle.std.proofs.lemmas.List.Elements.{All-nil, All-cons, All-head, All-tail}
+use Rattle.std.proofs.Common.{◌≡◌, ℕ, suc, ◌^◌, ℤ, List, [], ◌∷◌, ◌++◌, length, map, sym, ap, ◌∙◌, arith}
 use Rattle.affc_rows.specs.Forms.{Affine}
 use Rattle.affc_rows.proofs.SizeLemmas.{within_raised}
 use Rattle.affc_trace.proofs.EndedReads.{append_assoc}
-use Rattle.affc_trace.proofs.LastStores.{map_append, append_nil}
+use Rattle.affc_trace.proofs.LastStores.{map_append}
 use Rattle.affc_nest.specs.Divisions.{division_rows}
 use Rattle.affc_quast.specs.Leaves.{Leaf, negated, behind, divided, leaves_of}
 use Rattle.affc_quast.specs.Limits.{FitsForm, widest}
 use Rattle.affc_quast.specs.SeenLeaves.{under}
 use Rattle.affc_quast.specs.Trees.{Tree, Test, Div}
 use Rattle.affc_nest.specs.Wide.{IsWide}
-use Rattle.affc_quast.proofs.LeafLemmas.{negated_width}
 
 -- a form of a tree is wide
 pub wide_of : (n : ℕ) (f : Affine) → length f.coefs ≡ n → FitsForm widest f → IsWide n f
-wide_of n f e h = within_raised n (2 ^ 24) (2 ^ 110) (2 ^ 50) (2 ^ 110) f (omega arith) (omega arith) (record { width = e; coefs_fit = h.coefs_fit; constant_fits = h.constant_fits })
+wide_of n f e h = within_raised n (2 ^ 24) (2 ^ 50) (2 ^ 110) (2 ^ 110) f (omega arith) (omega arith) (record { width = e; coefs_fit = h.coefs_fit; constant_fits = h.constant_fits })
 
 under_behind : (rows xs : List Affine) (ds : List (Affine × ℤ)) (ls : List Leaf) → map (under rows ds) (map (behind xs) ls) ≡ map (under (rows ++ xs) ds) ls
 under_behind rows xs ds [] = λ i. []

@@ -5,7 +5,6 @@ use Rattle.affc_nest.specs.Divisions.{division_rows}
 use Rattle.affc_quast.specs.Leaves.{Leaf, leaves_of}
 use Rattle.affc_quast.specs.Seen.{seen}
 use Rattle.affc_quast.specs.SeenLeaves.{division_seen, leaf_seen, under}
-use Rattle.affc_quast.specs.Trees.{Tree}
 use Rattle.affc_quast.specs.declared.quast.Quast.{Quast}
 use Rattle.affc_quast.proofs.PathLemmas.{test_made, division_made}
 use Rattle.affc_quast.proofs.leaves.+add_leaves.Goals as goal

@@ -1,6 +1,4 @@
-use Rattle.std.proofs.Common.{◌≡◌, ℤ, [], List, rules, map, ap}
-use Rattle.affc_rows.specs.Forms.{Affine}
-use Rattle.affc_quast.specs.Leaves.{Leaf}
+use Rattle.std.proofs.Common.{[], map, ap}
 use Rattle.affc_quast.specs.Seen.{seen}
 use Rattle.affc_quast.specs.SeenLeaves.{leaf_seen}
 use Rattle.affc_quast.proofs.PathLemmas.{leaves_made}
