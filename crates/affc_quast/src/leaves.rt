@@ -191,7 +191,7 @@ pub fn leaves(alloc: Global, columns: u32, tree: &Quast) -> Result<Vec<Leaf>, Al
 }
 
 /// The row that says that a form is below 0.
-fn negated(alloc: Global, columns: u32, form: &Form) -> Result<Form, AllocError>
+pub fn negated(alloc: Global, columns: u32, form: &Form) -> Result<Form, AllocError>
     requires { IsWide columns form.now }
     ensures { IfOk result (λ f. f ≡ negated form.now) }
 {
