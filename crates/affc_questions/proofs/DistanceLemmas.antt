@@ -2,9 +2,13 @@
 use Rattle.std.proofs.Common.{◌≡◌, ℕ, suc, ◌+◌, ◌*◌, ◌^◌, ◌≤◌, ℤ, pos, negsuc, ◌+ℤ◌, List, [], ◌∷◌, ◌++◌, length, take, refl, sym, ap, subst, ◌∙◌, inl, inr, arith}
 use Rattle.std.specs.Prelude.{unsigned_abs}
 use Rattle.std.specs.List.{All}
-use Rattle.std.proofs.lemmas.List.Elements.{All-nil, All-cons, All-head, All-tail, All-append, All-take}
+use Rattle.std.proofs.lemmas.List.Elements.{All-nil, All-cons, All-head, All-tail, All-append, All-take, All-weaker}
 use Rattle.affc_rows.specs.Forms.{Affine, dot, constants_of, composed, mixed_form}
+use Rattle.affc_rows.specs.Sizes.{IsWithin}
 use Rattle.affc_rows.proofs.IntLemmas.{abs-add}
+use Rattle.affc_rows.proofs.SizeLemmas.{IsBelow, composed_below, constant_below}
+use Rattle.affc_rows.proofs.ValueLemmas.{length-composed}
+use Rattle.affc_system.proofs.SystemLemmas.{rows_of}
 use Rattle.affc_system.specs.Pairs.{IsSubscript}
 use Rattle.affc_system.specs.Systems.{Rows, IsRow}
 use Rattle.affc_system.specs.declared.pairs.PairSystem.{PairSystem}
@@ -16,36 +20,26 @@ use Rattle.affc_nest.specs.Domains.{gap_row, compare_rows, number_form, box_rows
 use Rattle.affc_nest.specs.Asked.{IsNest}
 use Rattle.affc_nest.specs.declared.nest.Nest.{Nest}
 use Rattle.affc_nest.proofs.QuestionProofs.{nest_near}
+use Rattle.affc_order.specs.Placed.{AreImages}
 use Rattle.affc_order.specs.Posed.{form_at}
-use Rattle.affc_life.specs.Asked.{IsLight}
-use Rattle.affc_life.specs.Composed.{AreImages}
-use Rattle.affc_life.proofs.LightLemmas.{all_of}
 use Rattle.affc_conflicts.specs.Questions.{differences, distance, agree_rows, over_columns}
 use Rattle.affc_questions.specs.Asked.{AreElements, IsAlong, IsModulusOver}
-use Rattle.affc_questions.specs.Sizes.{IsBroad, IsMild}
+use Rattle.affc_nest.specs.Wide.{IsWide}
+use Rattle.affc_questions.specs.Sizes.{IsMild}
 use Rattle.affc_questions.specs.Tails.{shown_tail}
-use Rattle.affc_questions.proofs.ImageLemmas.{IsBelow, composed_below, constant_below, composed_long}
-use Rattle.affc_questions.proofs.SizeLemmas.{subscripts_light, subscripts_below, constants_apart, number_mild, gap_row_fits, less_one_mild, mild_broad, mild_row, modulus_mild, box_fit}
+use Rattle.affc_questions.proofs.SizeLemmas.{subscripts_within, number_mild, gap_row_fits, less_one_mild, mild_wide, mild_row, modulus_mild, box_fit}
 
 abbrev pub plain : Affine → Affine
 plain row = record row { constant = pos 0 }
 
 -- ---- Differences of subscripts
 
-pub differences_light : (n : ℕ) (xs ys : List Affine) → All (IsSubscript n) xs → All (IsSubscript n) ys → All (IsLight n) (differences xs ys)
-differences_light n [] ys h g = All-nil (IsLight n)
-differences_light n (x ∷ xs) [] h g = All-nil (IsLight n)
-differences_light n (x ∷ xs) (y ∷ ys) h g =
-    All-cons (IsLight n) (mixed_form (pos 1) x (negsuc 0) y) (differences xs ys) (subscripts_light n x y (All-head (IsSubscript n) x xs h) (All-head (IsSubscript n) y ys g))
-    (differences_light n xs ys (All-tail (IsSubscript n) x xs h) (All-tail (IsSubscript n) y ys g))
-
-pub differences_below : (n : ℕ) (xs ys : List Affine) → All (IsSubscript n) xs → All (IsSubscript n) ys → All (IsBelow (2 ^ 25)) (differences xs ys)
-differences_below n [] ys h g = All-nil (IsBelow (2 ^ 25))
-differences_below n (x ∷ xs) [] h g = All-nil (IsBelow (2 ^ 25))
-differences_below n (x ∷ xs) (y ∷ ys) h g =
-    All-cons (IsBelow (2 ^ 25)) (mixed_form (pos 1) x (negsuc 0) y) (differences xs ys)
-    (record { coefs_fit = subscripts_below n x y (All-head (IsSubscript n) x xs h) (All-head (IsSubscript n) y ys g); constant_fits = constants_apart n x y (All-head (IsSubscript n) x xs h) (All-head (IsSubscript n) y ys g) })
-    (differences_below n xs ys (All-tail (IsSubscript n) x xs h) (All-tail (IsSubscript n) y ys g))
+pub differences_within : (n : ℕ) (xs ys : List Affine) → All (IsSubscript n) xs → All (IsSubscript n) ys → All (IsWithin n (2 ^ 25) (2 ^ 25)) (differences xs ys)
+differences_within n [] ys h g = All-nil (IsWithin n (2 ^ 25) (2 ^ 25))
+differences_within n (x ∷ xs) [] h g = All-nil (IsWithin n (2 ^ 25) (2 ^ 25))
+differences_within n (x ∷ xs) (y ∷ ys) h g =
+    All-cons (IsWithin n (2 ^ 25) (2 ^ 25)) (mixed_form (pos 1) x (negsuc 0) y) (differences xs ys) (subscripts_within n x y (All-head (IsSubscript n) x xs h) (All-head (IsSubscript n) y ys g))
+    (differences_within n xs ys (All-tail (IsSubscript n) x xs h) (All-tail (IsSubscript n) y ys g))
 
 pub differences_long : (xs ys : List Affine) → length ys ≡ length xs → length (differences xs ys) ≡ length xs
 differences_long [] ys e = refl
@@ -59,7 +53,7 @@ differences_long (x ∷ xs) (y ∷ ys) e = ap suc (differences_long xs ys (less 
 
 module _ (columns : ℕ) (row : Affine) (xs ys : List Affine) (a : AreElements columns row xs ys) where
   pub its_images : AreImages columns (differences xs ys)
-  its_images = record { few = less (length (differences xs ys)) (length xs) (differences_long xs ys a.each) a.few; light = differences_light columns xs ys a.first a.second }
+  its_images = record { few = less (length (differences xs ys)) (length xs) (differences_long xs ys a.each) a.few; rows = rows_of columns (2 ^ 25) (2 ^ 25) (differences xs ys) (omega arith) (omega arith) (differences_within columns xs ys a.first a.second) }
     where
       less : (d n : ℕ) → d ≡ n → n ≤ 4 → d ≤ 10
       less d n e h = omega (arith, e, h)
@@ -67,7 +61,7 @@ module _ (columns : ℕ) (row : Affine) (xs ys : List Affine) (a : AreElements c
   pub its_row : IsRow (length (differences xs ys)) (plain row)
   its_row = record {
     width = a.width ∙ sym (differences_long xs ys a.each);
-    fits = record { coefs_fit = all_of (λ c. unsigned_abs c ≤ 256) (λ c. unsigned_abs c ≤ 2 ^ 40) (λ c h. more (unsigned_abs c) h) row.coefs a.small; constant_fits = omega arith };
+    fits = record { coefs_fit = All-weaker (λ c. unsigned_abs c ≤ 256) (λ c. unsigned_abs c ≤ 2 ^ 40) (λ c h. more (unsigned_abs c) h) row.coefs a.small; constant_fits = omega arith };
   }
     where
       more : (n : ℕ) → n ≤ 256 → n ≤ 2 ^ 40
@@ -80,15 +74,20 @@ module _ (columns : ℕ) (row : Affine) (xs ys : List Affine) (a : AreElements c
       over [] ys s e h g = absurd (omega (arith, s))
       over (x ∷ xs) [] s e h g = absurd (omega (arith, e))
       over (x ∷ xs) (y ∷ ys) s e h g =
-          ap (λ n. form_at n (differences (x ∷ xs) (y ∷ ys)) (plain row)) (sym (subscripts_light columns x y (All-head (IsSubscript columns) x xs h) (All-head (IsSubscript columns) y ys g)).width)
+          ap (λ n. form_at n (differences (x ∷ xs) (y ∷ ys)) (plain row)) (sym (subscripts_within columns x y (All-head (IsSubscript columns) x xs h) (All-head (IsSubscript columns) y ys g)).width)
+
+  below : All (IsBelow (2 ^ 25)) (differences xs ys)
+  below =
+      All-weaker (IsWithin columns (2 ^ 25) (2 ^ 25)) (IsBelow (2 ^ 25)) (λ f w. record { coefs_fit = w.coefs_fit; constant_fits = w.constant_fits }) (differences xs ys)
+      (differences_within columns xs ys a.first a.second)
 
   pub distance_mild : IsMild columns (distance row xs ys)
   distance_mild = subst (IsMild columns) distance_is (record {
-    width = composed_long row.coefs (differences xs ys) 0 columns;
-    coefs_fit = all_of (λ c. unsigned_abs c ≤ length row.coefs * (256 * 2 ^ 25)) (λ c. unsigned_abs c ≤ 2 ^ 38) (λ c h. coef (unsigned_abs c) (length row.coefs) (length xs) a.width a.few h) (composed row.coefs (differences xs ys) 0 columns)
-        (composed_below 256 (2 ^ 25) row.coefs (differences xs ys) a.small (differences_below columns xs ys a.first a.second) 0 columns);
+    width = length-composed row.coefs (differences xs ys) 0 columns;
+    coefs_fit = All-weaker (λ c. unsigned_abs c ≤ length row.coefs * (256 * 2 ^ 25)) (λ c. unsigned_abs c ≤ 2 ^ 38) (λ c h. coef (unsigned_abs c) (length row.coefs) (length xs) a.width a.few h) (composed row.coefs (differences xs ys) 0 columns)
+        (composed_below 256 (2 ^ 25) row.coefs (differences xs ys) a.small below 0 columns);
     constant_fits = constant (unsigned_abs (dot row.coefs (constants_of (differences xs ys)) +ℤ pos 0)) (unsigned_abs (dot row.coefs (constants_of (differences xs ys)))) (length row.coefs) (length xs) (abs-add (dot row.coefs (constants_of (differences xs ys))) (pos 0))
-        (constant_below 256 (2 ^ 25) row.coefs (differences xs ys) a.small (differences_below columns xs ys a.first a.second)) a.width a.few;
+        (constant_below 256 (2 ^ 25) row.coefs (differences xs ys) a.small below) a.width a.few;
   })
     where
       coef : (c m n : ℕ) → m ≡ n → n ≤ 4 → c ≤ m * (256 * 2 ^ 25) → c ≤ 2 ^ 38
@@ -97,8 +96,8 @@ module _ (columns : ℕ) (row : Affine) (xs ys : List Affine) (a : AreElements c
       constant : (z d m n : ℕ) → z ≤ d + 0 → d ≤ m * (256 * 2 ^ 25) → m ≡ n → n ≤ 4 → z ≤ 2 ^ 58
       constant z d m n i g e h = omega (arith, i, g, e, h)
 
-  pub distance_broad : IsBroad columns (distance row xs ys)
-  distance_broad = mild_broad columns (distance row xs ys) distance_mild
+  pub distance_wide : IsWide columns (distance row xs ys)
+  distance_wide = mild_wide columns (distance row xs ys) distance_mild
 
   -- as the code makes it
   pub images_made : (now made none : List Affine) → now ≡ made → made ≡ none ++ differences xs ys → none ≡ [] → now ≡ differences xs ys

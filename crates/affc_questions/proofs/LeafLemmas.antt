@@ -1,11 +1,13 @@
 -- What holds of a leaf of a load: widths, images and instances.
-use Rattle.std.proofs.Common.{◌≡◌, ℕ, ◌+◌, ◌≤◌, List, length, map, flat_map, Some, refl, sym, ap, subst, ◌∙◌, arith}
+use Rattle.std.proofs.Common.{◌≡◌, ℕ, ◌+◌, ◌^◌, ◌≤◌, List, length, map, flat_map, Some, refl, sym, ap, subst, ◌∙◌, arith}
 use Rattle.std.specs.Prelude.{nat_eq}
 use Rattle.std.specs.List.{All}
 use Rattle.std.proofs.lemmas.Bool.{eqb-true}
-use Rattle.std.proofs.lemmas.List.Elements.{All-append}
+use Rattle.std.proofs.lemmas.List.Elements.{All-append, All-weaker}
 use Rattle.affc_rows.specs.Forms.{Affine, HaveColumns}
+use Rattle.affc_rows.proofs.SizeLemmas.{all_raised}
 use Rattle.affc_system.specs.Systems.{IsRow}
+use Rattle.affc_system.proofs.SystemLemmas.{rows_of}
 use Rattle.affc_trace.specs.Inverses.{columns_from}
 use Rattle.affc_trace.specs.Law.{IsIn}
 use Rattle.affc_trace.specs.declared.schedule.Schedule.TheVariants.{Source}
@@ -15,28 +17,28 @@ use Rattle.affc_nest.specs.Asked.{IsNest}
 use Rattle.affc_nest.specs.declared.nest.Access.{Access}
 use Rattle.affc_nest.specs.declared.nest.Entry.{Entry}
 use Rattle.affc_nest.specs.declared.nest.Nest.{Nest}
+use Rattle.affc_nest.specs.Sides.{IsSide}
 use Rattle.affc_nest.proofs.QuestionProofs.{nest_few, few_numbered}
 use Rattle.affc_order.specs.Asked.{IsScheduled}
+use Rattle.affc_order.specs.Placed.{AreImages, IsPlaced}
 use Rattle.affc_order.specs.Posed.{Posed}
 use Rattle.affc_order.proofs.ColumnLemmas.{from_long}
+use Rattle.affc_order.proofs.PlacedLemmas.{columns_rows}
 use Rattle.affc_sched.proofs.LegalLemmas.{entry_at}
 use Rattle.affc_sched.proofs.PairLemmas.{stands_in, subs_sides, all_from}
 use Rattle.affc_sched.proofs.WidthLemmas.{domain_wide}
 use Rattle.affc_quast.specs.Leaves.{Leaf, padded}
-use Rattle.affc_life.specs.Asked.{IsLight, HasForms, IsLiving, AreSeated}
+use Rattle.affc_life.specs.Asked.{IsLiving, AreSeated}
 use Rattle.affc_life.specs.Clashes.{of_reader, of_writer}
-use Rattle.affc_life.specs.Composed.{AreImages}
-use Rattle.affc_life.specs.Drafts.{posed}
-use Rattle.affc_life.proofs.LightLemmas.{all_of, sides_light, columns_light, all_padded, light_narrow}
-use Rattle.affc_life.proofs.SeatedLemmas.{leaf_few, path_first, its_columns, store_light}
-use Rattle.affc_life.proofs.SeatedLemmas.{load_light as seated_load}
+use Rattle.affc_life.proofs.LightLemmas.{all_padded}
+use Rattle.affc_life.proofs.SeatedLemmas.{leaf_few, path_first, its_columns, load_subscripts, store_subscripts}
+use Rattle.affc_life.proofs.SubscriptLemmas.{subscripts_wide}
 use Rattle.affc_flow.specs.Asked.{writers_of}
 use Rattle.affc_flow.specs.Questions.{Writer}
 use Rattle.affc_questions.specs.Asked.{IsLeafOf, IsWriter, IsInstanceOf}
-use Rattle.affc_questions.specs.Sizes.{IsBroad}
+use Rattle.affc_nest.specs.Wide.{IsWide}
 use Rattle.affc_questions.specs.Listed.{images, own_columns, first_posed}
 use Rattle.affc_questions.proofs.ListedLemmas.{Stores, first_is_in, stores_among}
-use Rattle.affc_questions.proofs.SizeLemmas.{sides_rows, lights_broad}
 
 -- the order of the text is a schedule of each program
 pub scheduled : (nest : Nest) → IsNest nest → IsScheduled nest Source
@@ -54,9 +56,9 @@ module _ (nest : Nest) (n : IsNest nest) (e : Entry) (l : IsLiving nest e) where
   domain_rows_fit rows fit = subst (λ k. All (IsRow k) rows) (stands_in nest n e l.there).columns fit
 
   pub subs_rows : (x : Access) → IsIn x e.accesses → All (IsRow (length nest.params + length e.loops)) x.subs
-  subs_rows x i = sides_rows (length nest.params + length e.loops) x.subs (subs_sides nest n e l.there x i)
+  subs_rows x i = rows_of (length nest.params + length e.loops) (2 ^ 16) (2 ^ 32) x.subs (omega arith) (omega arith) (subs_sides nest n e l.there x i)
 
-  pub own_forms : (columns : ℕ) → HasForms nest columns e.part (own_columns nest e columns)
+  pub own_forms : (columns : ℕ) → IsPlaced nest columns (record { part = e.part; iterators = own_columns nest e columns })
   own_forms columns = its_columns nest n e l columns (length nest.params)
 
 pub all_in : (nest : Nest) (entries : List Entry) → entries ≡ nest.entries → All (λ e. IsIn e nest.entries) entries
@@ -82,28 +84,36 @@ module _ (nest : Nest) (reader : Entry) (load : Access) (leaf : Leaf) (is : IsLe
 
   pub own_narrow : All (λ f. length f.coefs ≤ leaf.columns) reader.domain.rows
   own_narrow =
-      all_of (λ f. length f.coefs ≡ length nest.params + length reader.loops) (λ f. length f.coefs ≤ leaf.columns) (λ f w. less (length f.coefs) (length nest.params + length reader.loops) own_first w) reader.domain.rows
+      All-weaker (λ f. length f.coefs ≡ length nest.params + length reader.loops) (λ f. length f.coefs ≤ leaf.columns) (λ f w. less (length f.coefs) (length nest.params + length reader.loops) own_first w) reader.domain.rows
       (domain_columns nest is.nested reader is.reads)
     where
       less : (k m : ℕ) → m ≤ leaf.columns → k ≡ m → k ≤ leaf.columns
       less k m h e = omega (arith, h, e)
 
-  pub load_light : All (IsLight leaf.columns) (map (padded leaf.columns) load.subs)
-  load_light = all_padded (length nest.params + length reader.loops) leaf.columns load.subs own_first (sides_light (length nest.params + length reader.loops) load.subs (subs_sides nest is.nested reader is.reads.there load is.loads))
+  pub load_wide : All (IsWide leaf.columns) (map (padded leaf.columns) load.subs)
+  load_wide =
+      all_raised leaf.columns (2 ^ 16) (2 ^ 32) (2 ^ 110) (2 ^ 110) (map (padded leaf.columns) load.subs) (omega arith) (omega arith)
+      (all_padded (length nest.params + length reader.loops) leaf.columns (2 ^ 16) (2 ^ 32) load.subs own_first (subs_sides nest is.nested reader is.reads.there load is.loads))
 
   pub load_narrow : All (λ f. length f.coefs ≤ leaf.columns) load.subs
-  load_narrow = light_narrow (length nest.params + length reader.loops) leaf.columns load.subs own_first (sides_light (length nest.params + length reader.loops) load.subs (subs_sides nest is.nested reader is.reads.there load is.loads))
+  load_narrow = All-weaker (IsSide (length nest.params + length reader.loops)) (λ f. length f.coefs ≤ leaf.columns) (λ f w. less (length f.coefs) w.width) load.subs (subs_sides nest is.nested reader is.reads.there load is.loads)
+    where
+      at_most : (k m n : ℕ) → k ≡ m → m ≤ n → k ≤ n
+      at_most k m n e h = omega (arith, e, h)
+
+      less : (k : ℕ) → k ≡ length nest.params + length reader.loops → k ≤ leaf.columns
+      less k e = at_most k (length nest.params + length reader.loops) leaf.columns e own_first
 
 -- ---- The instance that is named
 
-module _ (nest : Nest) (n : IsNest nest) (columns part : ℕ) (forms : List Affine) (w : Entry) (z : Access) (writes : IsWriter nest w z) (named : IsInstanceOf nest columns (posed part forms) w) where
+module _ (nest : Nest) (n : IsNest nest) (columns part : ℕ) (forms : List Affine) (w : Entry) (z : Access) (writes : IsWriter nest w z) (named : IsInstanceOf nest columns (record { part = part; iterators = forms }) w) where
   pub images_long : length (images nest columns forms) ≡ length nest.params + length w.loops
   images_long = length_append (columns_from columns 0 (length nest.params)) forms ∙ ap (λ k. k + length forms) (from_long columns 0 (length nest.params)) ∙ ap (λ k. length nest.params + k) named.each
 
   pub images_are : AreImages columns (images nest columns forms)
   images_are = record {
     few = sum (length (images nest columns forms)) (length nest.params) (length w.loops) images_long (nest_few nest n) (few_numbered nest w n writes.writes.there);
-    light = All-append (IsLight columns) (columns_from columns 0 (length nest.params)) forms (columns_light columns 0 (length nest.params)) named.forms.light;
+    rows = All-append (IsRow columns) (columns_from columns 0 (length nest.params)) forms (columns_rows columns 0 (length nest.params)) named.forms.rows;
   }
     where
       sum : (k m l : ℕ) → k ≡ m + l → m ≤ 4 → l ≤ 6 → k ≤ 10
@@ -121,7 +131,7 @@ pub record IsFound (nest : Nest) (columns : ℕ) (a : Posed) (v : Writer) : Type
   pub writer : IsWriter nest v.0 v.1
   pub instance : IsInstanceOf nest columns a v.0
 
-pub found : (nest : Nest) (array columns : ℕ) (a : Posed) (v : Writer) → HasForms nest columns a.part a.iterators → first_posed a (flat_map (writers_of array) nest.entries) ≡ Some v → IsFound nest columns a v
+pub found : (nest : Nest) (array columns : ℕ) (a : Posed) (v : Writer) → IsPlaced nest columns a → first_posed a (flat_map (writers_of array) nest.entries) ≡ Some v → IsFound nest columns a v
 found nest array columns a v forms e =
     let f = first_is_in a (flat_map (writers_of array) nest.entries) v e in
     let s = stores_among array nest.entries v f.0 in
@@ -139,14 +149,14 @@ found nest array columns a v forms e =
 
 module _ (nest : Nest) (reader : Entry) (load : Access) (leaf : Leaf) (v : Entry) (y : Access) where
   module _ (is : IsLeafOf nest reader load leaf) (writes : IsWriter nest v y) where
-    pub read_broad : (columns : ℕ) (read : List Affine) → columns ≡ leaf.columns + length v.loops → read ≡ map (of_reader nest reader leaf v) load.subs → All (IsBroad columns) read
-    read_broad columns read c r =
-        subst (λ k. All (IsBroad k) read) (sym c)
-        (subst (All (IsBroad (leaf.columns + length v.loops))) (sym r)
-        (lights_broad (leaf.columns + length v.loops) (map (of_reader nest reader leaf v) load.subs) (seated_load nest reader leaf v (seated nest reader load leaf is v writes.writes) load is.loads)))
+    pub read_wide : (columns : ℕ) (read : List Affine) → columns ≡ leaf.columns + length v.loops → read ≡ map (of_reader nest reader leaf v) load.subs → All (IsWide columns) read
+    read_wide columns read c r =
+        subst (λ k. All (IsWide k) read) (sym c)
+        (subst (All (IsWide (leaf.columns + length v.loops))) (sym r)
+        (subscripts_wide (leaf.columns + length v.loops) (map (of_reader nest reader leaf v) load.subs) (load_subscripts nest reader leaf v (seated nest reader load leaf is v writes.writes) load is.loads)))
 
-    pub written_broad : (columns : ℕ) (written : List Affine) → columns ≡ leaf.columns + length v.loops → written ≡ map (of_writer nest reader leaf v) y.subs → All (IsBroad columns) written
-    written_broad columns written c w =
-        subst (λ k. All (IsBroad k) written) (sym c)
-        (subst (All (IsBroad (leaf.columns + length v.loops))) (sym w)
-        (lights_broad (leaf.columns + length v.loops) (map (of_writer nest reader leaf v) y.subs) (store_light nest reader leaf v (seated nest reader load leaf is v writes.writes) y writes.stores)))
+    pub written_wide : (columns : ℕ) (written : List Affine) → columns ≡ leaf.columns + length v.loops → written ≡ map (of_writer nest reader leaf v) y.subs → All (IsWide columns) written
+    written_wide columns written c w =
+        subst (λ k. All (IsWide k) written) (sym c)
+        (subst (All (IsWide (leaf.columns + length v.loops))) (sym w)
+        (subscripts_wide (leaf.columns + length v.loops) (map (of_writer nest reader leaf v) y.subs) (store_subscripts nest reader leaf v (seated nest reader load leaf is v writes.writes) y writes.stores)))

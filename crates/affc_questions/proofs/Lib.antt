@@ -1,4 +1,3 @@
-pub mod BroadLemmas
 pub mod SizeLemmas
 pub mod DistanceLemmas
 pub mod ListedLemmas

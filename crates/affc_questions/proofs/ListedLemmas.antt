@@ -15,10 +15,9 @@ use Rattle.affc_nest.specs.declared.nest.Entry.{Entry}
 use Rattle.affc_nest.specs.declared.nest.Nest.{Nest}
 use Rattle.affc_nest.specs.Parts.{statement_of}
 use Rattle.affc_order.specs.Posed.{Posed, form_at}
-use Rattle.affc_order.specs.Systems.{source_order}
+use Rattle.affc_order.specs.Systems.{source_order, rows_in}
 use Rattle.affc_sched.specs.Questions.{equal_rows}
 use Rattle.affc_quast.specs.Leaves.{Leaf, padded, negated}
-use Rattle.affc_life.specs.Drafts.{posed, rows_in}
 use Rattle.affc_flow.specs.Asked.{writers_of}
 use Rattle.affc_flow.specs.Questions as asks
 use Rattle.affc_flow.specs.Questions.{Question, Writer, poses, is_temporary, store_of_entry, writer_if, writers}
@@ -191,7 +190,7 @@ module _ (nest : Nest) (reader : Entry) (load : Access) (ranges : List (ℤ × �
     late_same : systems_of (asks.not_earlier_questions nest reader load ranges leaf a w z) ≡ over_path reader leaf (late_lists nest reader leaf.columns a)
     late_same =
         let own : List Affine = own_columns nest reader leaf.columns in
-        let order : List Rows = source_order nest leaf.columns (posed reader.part own) a in
+        let order : List Rows = source_order nest leaf.columns (record { part = reader.part; iterators = own }) a in
         map_append system_of (map (λ (o : Rows). asks.here nest reader load ranges leaf o.rows) order) (if nat_eq reader.statement (statement_of nest a.part) then asks.here nest reader load ranges leaf (equal_rows own a.iterators) ∷ [] else [])
         ∙ ap (λ zs. zs ++ systems_of (if nat_eq reader.statement (statement_of nest a.part) then asks.here nest reader load ranges leaf (equal_rows own a.iterators) ∷ [] else []))
         (map_two system_of (λ (o : Rows). asks.here nest reader load ranges leaf o.rows) (behind leaf.columns (own_path reader leaf)) rows_in (λ o. refl) order)

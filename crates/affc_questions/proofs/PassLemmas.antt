@@ -3,10 +3,13 @@ use Rattle.std.proofs.Common.{◌≡◌, ℕ, suc, ◌+◌, ◌-◌, ◌*◌, �
 use Rattle.std.specs.Prelude.{unsigned_abs, slice_get, nat_eq}
 use Rattle.std.specs.List.{All}
 use Rattle.std.proofs.lemmas.List.{length-drop}
-use Rattle.std.proofs.lemmas.List.Elements.{All-nil, All-cons, All-head, All-tail, All-append, All-drop}
+use Rattle.std.proofs.lemmas.List.Elements.{All-nil, All-cons, All-head, All-tail, All-append, All-drop, All-weaker}
 use Rattle.affc_rows.specs.Forms.{Affine}
+use Rattle.affc_rows.specs.Sizes as sizes
+use Rattle.affc_rows.proofs.SizeLemmas.{within_raised, all_raised, padded_within, spread_within}
 use Rattle.affc_system.specs.Pairs.{IsSubscript}
 use Rattle.affc_system.specs.Systems.{Rows, FitsRow, IsRow}
+use Rattle.affc_system.proofs.SystemLemmas.{row_of, row_within}
 use Rattle.affc_ast.specs.declared.tree.Program.{Program}
 use Rattle.affc_ast.specs.declared.tree.Rel.TheVariants.{Equal}
 use Rattle.affc_trace.specs.declared.schedule.Schedule.TheVariants.{Source}
@@ -24,35 +27,33 @@ use Rattle.affc_nest.specs.Parts.{statement_of}
 use Rattle.affc_nest.specs.Domains.{gap_row, compare_rows}
 use Rattle.affc_nest.specs.Laws.{HasNest, NamesArrays}
 use Rattle.affc_nest.specs.Nests.{nest_of}
-use Rattle.affc_nest.specs.Sides.{AreNear, IsSide}
+use Rattle.affc_nest.specs.Sides.{IsSide}
 use Rattle.affc_nest.proofs.QuestionLemmas.{stands_in}
 use Rattle.affc_nest.proofs.QuestionProofs.{domain_small, few_numbered}
+use Rattle.affc_order.specs.Placed.{IsPlaced}
 use Rattle.affc_order.specs.Posed.{Posed, form_at}
 use Rattle.affc_order.specs.Spread.{spread}
 use Rattle.affc_order.specs.Systems.{source_order}
-use Rattle.affc_order.proofs.CodeLemmas.{columns_sides}
+use Rattle.affc_order.proofs.CodeLemmas.{columns_sides, few_loops}
 use Rattle.affc_order.proofs.ColumnLemmas.{from_long}
-use Rattle.affc_order.proofs.SpreadLemmas.{spread_width}
 use Rattle.affc_sched.specs.Questions.{equal_rows, context_count}
 use Rattle.affc_sched.proofs.LegalLemmas.{entry_at}
-use Rattle.affc_sched.proofs.SystemLemmas.{spread_fits}
 use Rattle.affc_quast.specs.Leaves.{Leaf, padded, negated, leaves_of}
 use Rattle.affc_quast.specs.Limits.{FitsForm, narrow}
 use Rattle.affc_quast.specs.Sources.{loads_in, tree_of}
 use Rattle.affc_quast.specs.Trees.{Tree, depth_of, divisions_of}
 use Rattle.affc_quast.proofs.LeafLemmas.{padded_width}
-use Rattle.affc_life.specs.Asked.{IsLight, KeepLimits, HasForms, IsLiving, IsPath, AreSeated}
+use Rattle.affc_life.specs.Asked.{KeepLimits, IsLiving, IsPath, AreSeated}
 use Rattle.affc_life.proofs.CountLemmas.{order_count}
 use Rattle.affc_life.proofs.DomainLemmas.{domain_fits}
 use Rattle.affc_life.proofs.FoundLeafLemmas.{IsSmall, leaf_small}
 use Rattle.affc_life.proofs.FoundLemmas.{found_trees_keep_limits}
 use Rattle.affc_life.proofs.LeafLemmas.{path_of}
-use Rattle.affc_life.proofs.LightLemmas.{all_of, all_padded}
-use Rattle.affc_life.proofs.MildLemmas.{all_padded_narrow}
+use Rattle.affc_life.proofs.LightLemmas.{all_padded, all_spread}
 use Rattle.affc_life.proofs.RowLemmas.{order_all}
 use Rattle.affc_life.proofs.SeatedLemmas.{path_first, params_first, leaf_first}
 use Rattle.affc_life.proofs.SizeLemmas.{few_subscripts}
-use Rattle.affc_life.proofs.SubscriptLemmas.{are_subscripts, all_padded_subscripts, all_spread_subscripts}
+use Rattle.affc_life.proofs.SubscriptLemmas.{are_subscripts}
 use Rattle.affc_flow.specs.Questions.{Question, Writer, is_temporary, store_of_entry, writer_if, writers, poses, here, beside, beside_rows, before_load, after_named, earlier_questions, between_questions, outside_questions, apart_questions, not_earlier_questions, named_questions, questions_among, input_questions, questions_for, leaf_questions, questions_of_load, questions_of_loads}
 use Rattle.affc_questions.specs.Asked.{IsLeafOf, IsWriter}
 use Rattle.affc_questions.specs.Laws.{FoundTreesPassNoLimit}
@@ -60,10 +61,9 @@ use Rattle.affc_questions.specs.Listed.{behind, own_path}
 use Rattle.affc_products.specs.Parts.{IsWithin}
 use Rattle.affc_questions.specs.Sizes.{IsMild}
 use Rattle.affc_questions.proofs.DistanceLemmas.{equal_fit}
-use Rattle.affc_questions.proofs.ImageLemmas.{Below}
 use Rattle.affc_questions.proofs.LeafLemmas.{seated, params_few, loops_few, own_narrow, domain_columns}
-use Rattle.affc_questions.proofs.PosedLemmas.{IsPlaced, placed, all_placed, negated_row, less_row, greater_row}
-use Rattle.affc_questions.proofs.SizeLemmas.{raised, gap_row_fits, zeros_below}
+use Rattle.affc_questions.proofs.PosedLemmas.{IsSituated, placed, all_placed, negated_row, less_row, greater_row}
+use Rattle.affc_questions.proofs.SizeLemmas.{gap_row_fits}
 use Rattle.affc_questions.proofs.TightLemmas.{IsTight, domain_tight}
 
 -- ---- Lists
@@ -79,11 +79,11 @@ in_if false xs a i = absurd i
 
 -- ---- Rows over more columns
 
+within_of : (n : ℕ) (f : Affine) → length f.coefs ≡ n → FitsRow f → sizes.IsWithin n (2 ^ 40) (2 ^ 60) f
+within_of n f w h = row_within n f (record { width = w; fits = h })
+
 row_padded : (n : ℕ) (f : Affine) → length f.coefs ≤ n → FitsRow f → IsRow n (padded n f)
-row_padded n f w h = record {
-  width = padded_width n f w;
-  fits = record { coefs_fit = All-append (λ c. unsigned_abs c ≤ 2 ^ 40) f.coefs (replicate (n - length f.coefs) (pos 0)) h.coefs_fit (zeros_below (2 ^ 40) (n - length f.coefs)); constant_fits = h.constant_fits };
-}
+row_padded n f w h = row_of n (2 ^ 40) (2 ^ 60) (padded n f) (omega arith) (omega arith) (padded_within (length f.coefs) n (2 ^ 40) (2 ^ 60) f w (within_of (length f.coefs) f refl h))
 
 rows_padded : (n : ℕ) (fs : List Affine) → All (λ f. length f.coefs ≤ n) fs → All FitsRow fs → All (IsRow n) (map (padded n) fs)
 rows_padded n [] w h = All-nil (IsRow n)
@@ -94,7 +94,8 @@ rows_spread : (m k l n : ℕ) (fs : List Affine) → (m + k) + l ≡ n → All (
 rows_spread m k l n [] e w h = All-nil (IsRow n)
 rows_spread m k l n (f ∷ fs) e w h =
     All-cons (IsRow n) (spread m k 0 f) (map (spread m k 0) fs)
-    (record { width = spread_width m k l 0 f (All-head (λ f. length f.coefs ≡ m + l) f fs w) ∙ none ((m + k) + l) e; fits = spread_fits m k 0 f (All-head FitsRow f fs h) })
+    (row_of n (2 ^ 40) (2 ^ 60) (spread m k 0 f) (omega arith) (omega arith)
+    (spread_within m k l 0 n (2 ^ 40) (2 ^ 60) f (within_of (m + l) f (All-head (λ f. length f.coefs ≡ m + l) f fs w) (All-head FitsRow f fs h)) (none ((m + k) + l) e)))
     (rows_spread m k l n fs e (All-tail (λ f. length f.coefs ≡ m + l) f fs w) (All-tail FitsRow f fs h))
   where
     none : (x : ℕ) → x ≡ n → x + 0 ≡ n
@@ -102,43 +103,23 @@ rows_spread m k l n (f ∷ fs) e w h =
 
 -- ---- Mild forms
 
-side_mild : (n : ℕ) (f : Affine) → IsSide n f → IsMild n f
-side_mild n f s = record { width = s.width; coefs_fit = near f.coefs s.coefs_near; constant_fits = more (unsigned_abs f.constant) s.constant_near }
-  where
-    coef : (n : ℕ) → n ≤ 2 ^ 16 → n ≤ 2 ^ 38
-    coef n h = omega (arith, h)
-
-    near : (cs : List ℤ) → AreNear cs → Below (2 ^ 38) cs
-    near [] h = All-nil (λ c. unsigned_abs c ≤ 2 ^ 38)
-    near (c ∷ cs) h = All-cons (λ c. unsigned_abs c ≤ 2 ^ 38) c cs (coef (unsigned_abs c) h.0) (near cs h.1)
-
-    more : (n : ℕ) → n ≤ 2 ^ 32 → n ≤ 2 ^ 58
-    more n h = omega (arith, h)
-
 columns_mild : (n first count : ℕ) → All (IsMild n) (columns_from n first count)
-columns_mild n first count = all_of (IsSide n) (IsMild n) (side_mild n) (columns_from n first count) (columns_sides n first count)
+columns_mild n first count = all_raised n (2 ^ 16) (2 ^ 32) (2 ^ 38) (2 ^ 58) (columns_from n first count) (omega arith) (omega arith) (columns_sides n first count)
 
 subscript_mild : (n : ℕ) (f : Affine) → IsSubscript n f → IsMild n f
-subscript_mild n f s = record { width = s.width; coefs_fit = raised 65536 (2 ^ 38) (omega arith) f.coefs s.coefs_fit; constant_fits = more (unsigned_abs f.constant) s.constant_fits }
-  where
-    more : (n : ℕ) → n ≤ 16777216 → n ≤ 2 ^ 58
-    more n h = omega (arith, h)
+subscript_mild n f s = within_raised n 65536 16777216 (2 ^ 38) (2 ^ 58) f (omega arith) (omega arith) s
 
 subscript_tight : (n : ℕ) (f : Affine) → IsSubscript n f → IsTight f
-subscript_tight n f s = record { coefs_fit = raised 65536 (2 ^ 17) (omega arith) f.coefs s.coefs_fit; constant_fits = more (unsigned_abs f.constant) s.constant_fits }
-  where
-    more : (n : ℕ) → n ≤ 16777216 → n ≤ 2 ^ 34
-    more n h = omega (arith, h)
+subscript_tight n f s =
+    let w = within_raised n 65536 16777216 (2 ^ 17) (2 ^ 34) f (omega arith) (omega arith) s in
+    record { coefs_fit = w.coefs_fit; constant_fits = w.constant_fits }
 
-narrow_mild : (n : ℕ) (fs : List Affine) → All (IsLight n) fs → All (FitsForm narrow) fs → All (IsMild n) fs
+narrow_mild : (n : ℕ) (fs : List Affine) → All (IsRow n) fs → All (FitsForm narrow) fs → All (IsMild n) fs
 narrow_mild n [] w h = All-nil (IsMild n)
 narrow_mild n (f ∷ fs) w h =
     let fit = All-head (FitsForm narrow) f fs h in
-    All-cons (IsMild n) f fs (record { width = (All-head (IsLight n) f fs w).width; coefs_fit = raised (2 ^ 20) (2 ^ 38) (omega arith) f.coefs fit.coefs_fit; constant_fits = more (unsigned_abs f.constant) fit.constant_fits })
-    (narrow_mild n fs (All-tail (IsLight n) f fs w) (All-tail (FitsForm narrow) f fs h))
-  where
-    more : (n : ℕ) → n ≤ 2 ^ 40 → n ≤ 2 ^ 58
-    more n h = omega (arith, h)
+    All-cons (IsMild n) f fs (within_raised n (2 ^ 20) (2 ^ 40) (2 ^ 38) (2 ^ 58) f (omega arith) (omega arith) (record { width = (All-head (IsRow n) f fs w).width; coefs_fit = fit.coefs_fit; constant_fits = fit.constant_fits }))
+    (narrow_mild n fs (All-tail (IsRow n) f fs w) (All-tail (FitsForm narrow) f fs h))
 
 equals_fit : (n : ℕ) (fs gs : List Affine) → All (IsMild n) fs → All (IsMild n) gs → All (IsRow n) (equal_rows fs gs)
 equals_fit n [] gs h k = All-nil (IsRow n)
@@ -210,7 +191,7 @@ module _ (program : Program) (has : HasNest program) (named : NamesArrays progra
   path_fit : (k : ℕ) → leaf.columns ≤ k → All (IsRow k) (map (padded k) path)
   path_fit k h =
       rows_padded k path
-      (all_of (λ f. length f.coefs ≤ leaf.columns) (λ f. length f.coefs ≤ k) (λ f w. through (length f.coefs) w) path (All-append (λ f. length f.coefs ≤ leaf.columns) reader.domain.rows leaf.rows (own_narrow nest reader load leaf is) is.path.rows))
+      (All-weaker (λ f. length f.coefs ≤ leaf.columns) (λ f. length f.coefs ≤ k) (λ f w. through (length f.coefs) w) path (All-append (λ f. length f.coefs ≤ leaf.columns) reader.domain.rows leaf.rows (own_narrow nest reader load leaf is) is.path.rows))
       (All-append FitsRow reader.domain.rows leaf.rows (domain_fits program has reader.part reader (entry_at program has reader is.reads.there) is.reads.alive) small.rows_fit)
     where
       through : (w : ℕ) → w ≤ leaf.columns → w ≤ k
@@ -279,17 +260,17 @@ module _ (program : Program) (has : HasNest program) (named : NamesArrays progra
 
     read_subscripts : All (IsSubscript wide) read
     read_subscripts =
-        all_padded_subscripts (length nest.params + length reader.loops) wide load.subs
+        all_padded (length nest.params + length reader.loops) wide 65536 16777216 load.subs
         (through (length nest.params + length reader.loops) leaf.columns wide (path_first nest reader leaf v seats) (leaf_first nest reader leaf v seats)) (are_subscripts nest is.nested reader is.reads.there load is.loads)
       where
         through : (a b c : ℕ) → a ≤ b → b ≤ c → a ≤ c
         through a b c h g = omega (arith, h, g)
 
     written_subscripts : All (IsSubscript wide) written
-    written_subscripts = all_spread_subscripts (length nest.params) (leaf.columns - length nest.params) (length v.loops) wide y.subs whole (are_subscripts nest is.nested v w.writes.there y w.stores)
+    written_subscripts = all_spread (length nest.params) (leaf.columns - length nest.params) (length v.loops) wide 65536 16777216 y.subs whole (are_subscripts nest is.nested v w.writes.there y w.stores)
 
     equal_fits : All (IsRow wide) (equal_rows read written)
-    equal_fits = equals_fit wide read written (all_of (IsSubscript wide) (IsMild wide) (subscript_mild wide) read read_subscripts) (all_of (IsSubscript wide) (IsMild wide) (subscript_mild wide) written written_subscripts)
+    equal_fits = equals_fit wide read written (All-weaker (IsSubscript wide) (IsMild wide) (subscript_mild wide) read read_subscripts) (All-weaker (IsSubscript wide) (IsMild wide) (subscript_mild wide) written written_subscripts)
 
     equal_few : length (equal_rows read written) ≤ 8
     equal_few =
@@ -340,12 +321,12 @@ module _ (program : Program) (has : HasNest program) (named : NamesArrays progra
         more m h = omega (arith, h)
 
     -- and later than an instance
-    module _ (a : Posed) (forms : HasForms nest leaf.columns a.part a.iterators) (small_forms : All (FitsForm narrow) a.iterators) (six : length a.iterators ≤ 6) where
+    module _ (a : Posed) (forms : IsPlaced nest leaf.columns a) (small_forms : All (FitsForm narrow) a.iterators) (six : length a.iterators ≤ 6) where
       abbrev named_at : Posed
       named_at = record a { iterators = map (padded wide) a.iterators }
 
       named_mild : All (IsMild wide) (map (padded wide) a.iterators)
-      named_mild = narrow_mild wide (map (padded wide) a.iterators) (all_padded leaf.columns wide a.iterators (leaf_first nest reader leaf v seats) forms.light) (all_padded_narrow wide a.iterators small_forms)
+      named_mild = all_padded leaf.columns wide (2 ^ 38) (2 ^ 58) a.iterators (leaf_first nest reader leaf v seats) (narrow_mild leaf.columns a.iterators forms.rows small_forms)
 
       between_within : (q : Question) → IsIn q (between_questions nest reader load ranges leaf v y a) → IsWithin q.system
       between_within q i =
@@ -364,12 +345,12 @@ module _ (program : Program) (has : HasNest program) (named : NamesArrays progra
 
   -- ---- The instance that is named
 
-  module _ (a : Posed) (forms : HasForms nest leaf.columns a.part a.iterators) (small_forms : All (FitsForm narrow) a.iterators) where
+  module _ (a : Posed) (forms : IsPlaced nest leaf.columns a) (small_forms : All (FitsForm narrow) a.iterators) where
     six : length a.iterators ≤ 6
-    six = subst (λ m. m ≤ 6) (sym forms.named.each) (few_numbered nest forms.named.entry is.nested (stands_in nest.entries a.part forms.named.entry forms.named.there))
+    six = subst (λ m. m ≤ 6) (sym forms.each) (few_loops nest is.nested a.part forms.part)
 
     mild : All (IsMild leaf.columns) a.iterators
-    mild = narrow_mild leaf.columns a.iterators forms.light small_forms
+    mild = narrow_mild leaf.columns a.iterators forms.rows small_forms
 
     module _ (w : Entry) (z : Access) (writes : IsWriter nest w z) where
       abbrev at_named : Affine → Affine
@@ -388,22 +369,22 @@ module _ (program : Program) (has : HasNest program) (named : NamesArrays progra
           subst (λ (p : Question). IsWithin p.system) (sym r.2)
           (one_row (negated (at_named r.0)) (negated_row leaf.columns (at_named r.0) (placed leaf.columns (length nest.params) a.iterators (params_few nest reader load leaf is) six small_forms long r.0 tight)))
 
-      apart_within : (fs gs : List Affine) → All (IsPlaced leaf.columns) fs → All (IsSubscript leaf.columns) gs → (q : Question) → IsIn q (apart_questions nest reader load ranges leaf a w z fs gs) → IsWithin q.system
+      apart_within : (fs gs : List Affine) → All (IsSituated leaf.columns) fs → All (IsSubscript leaf.columns) gs → (q : Question) → IsIn q (apart_questions nest reader load ranges leaf a w z fs gs) → IsWithin q.system
       apart_within [] gs h k q i = absurd i
       apart_within (f ∷ fs) [] h k q i = absurd i
       apart_within (f ∷ fs) (g ∷ gs) h k q (inl e) =
-          subst (λ (p : Question). IsWithin p.system) (sym e) (one_row (gap_row g f 1) (greater_row leaf.columns f g (All-head (IsPlaced leaf.columns) f fs h) (All-head (IsSubscript leaf.columns) g gs k)))
+          subst (λ (p : Question). IsWithin p.system) (sym e) (one_row (gap_row g f 1) (greater_row leaf.columns f g (All-head (IsSituated leaf.columns) f fs h) (All-head (IsSubscript leaf.columns) g gs k)))
       apart_within (f ∷ fs) (g ∷ gs) h k q (inr (inl e)) =
-          subst (λ (p : Question). IsWithin p.system) (sym e) (one_row (gap_row f g 1) (less_row leaf.columns f g (All-head (IsPlaced leaf.columns) f fs h) (All-head (IsSubscript leaf.columns) g gs k)))
-      apart_within (f ∷ fs) (g ∷ gs) h k q (inr (inr i)) = apart_within fs gs (All-tail (IsPlaced leaf.columns) f fs h) (All-tail (IsSubscript leaf.columns) g gs k) q i
+          subst (λ (p : Question). IsWithin p.system) (sym e) (one_row (gap_row f g 1) (less_row leaf.columns f g (All-head (IsSituated leaf.columns) f fs h) (All-head (IsSubscript leaf.columns) g gs k)))
+      apart_within (f ∷ fs) (g ∷ gs) h k q (inr (inr i)) = apart_within fs gs (All-tail (IsSituated leaf.columns) f fs h) (All-tail (IsSubscript leaf.columns) g gs k) q i
 
       elsewhere_within : (q : Question) → IsIn q (apart_questions nest reader load ranges leaf a w z (map at_named z.subs) (map (padded leaf.columns) load.subs)) → IsWithin q.system
       elsewhere_within q i =
           let m = length nest.params in
           apart_within (map at_named z.subs) (map (padded leaf.columns) load.subs)
           (all_placed leaf.columns m a.iterators (params_few nest reader load leaf is) six small_forms long z.subs
-          (all_of (IsSubscript (m + length w.loops)) IsTight (subscript_tight (m + length w.loops)) z.subs (are_subscripts nest is.nested w writes.writes.there z writes.stores)))
-          (all_padded_subscripts (m + length reader.loops) leaf.columns load.subs (path_first nest reader leaf reader (seated nest reader load leaf is reader is.reads)) (are_subscripts nest is.nested reader is.reads.there load is.loads)) q i
+          (All-weaker (IsSubscript (m + length w.loops)) IsTight (subscript_tight (m + length w.loops)) z.subs (are_subscripts nest is.nested w writes.writes.there z writes.stores)))
+          (all_padded (m + length reader.loops) leaf.columns 65536 16777216 load.subs (path_first nest reader leaf reader (seated nest reader load leaf is reader is.reads)) (are_subscripts nest is.nested reader is.reads.there load is.loads)) q i
 
       abbrev own_at : Posed
       own_at = record { part = reader.part; iterators = columns_from leaf.columns (length nest.params) (length reader.loops) }

@@ -1,28 +1,29 @@
 -- Forms of a part at an instance by forms of trees that the search gives.
-use Rattle.std.proofs.Common.{◌≡◌, ℕ, zero, suc, ◌+◌, ◌*◌, ◌^◌, ◌≤◌, ℤ, pos, negsuc, ◌+ℤ◌, ◌-ℤ◌, ◌*ℤ◌, List, [], ◌∷◌, ◌++◌, length, map, get_or, refl, sym, ap, subst, ◌∙◌, arith}
+use Rattle.std.proofs.Common.{◌≡◌, ℕ, zero, suc, ◌+◌, ◌*◌, ◌^◌, ◌<◌, ◌≤◌, ℤ, pos, negsuc, ◌+ℤ◌, ◌-ℤ◌, ◌*ℤ◌, List, [], ◌∷◌, ◌++◌, length, map, get_or, refl, sym, ap, subst, ◌∙◌, arith}
 use Rattle.std.specs.Prelude.{unsigned_abs}
 use Rattle.std.specs.List.{All}
 use Rattle.std.proofs.lemmas.List.Elements.{All-nil, All-cons, All-head, All-tail}
+use Rattle.std.proofs.lemmas.Int.{ints}
 use Rattle.std.proofs.lemmas.Nat.{mul-le}
 use Rattle.std.proofs.Math.Nat.{suc-mul}
 use Rattle.affc_rows.specs.Forms.{Affine, dot, dot_magnitude, column_of, constants_of, composed, mixed}
+use Rattle.affc_rows.specs.Sizes.{IsWithin}
 use Rattle.affc_rows.proofs.IntLemmas.{abs-add}
+use Rattle.affc_rows.proofs.SizeLemmas.{Below, dot_abs, difference_abs, entry_below, number_within}
+use Rattle.affc_rows.proofs.ValueLemmas.{length-composed, length-mixed}
+use Rattle.affc_system.proofs.SystemLemmas.{row_of}
 use Rattle.affc_system.specs.Pairs.{IsSubscript}
 use Rattle.affc_system.specs.Systems.{IsRow}
 use Rattle.affc_trace.specs.Inverses.{columns_from}
 use Rattle.affc_domain.proofs.FormLemmas.{number_width}
 use Rattle.affc_nest.specs.Domains.{gap_row, number_form}
 use Rattle.affc_nest.specs.Sides.{IsSide}
-use Rattle.affc_nest.proofs.RowLemmas.{difference_abs}
 use Rattle.affc_order.specs.Posed.{form_at}
 use Rattle.affc_order.proofs.CodeLemmas.{columns_sides}
 use Rattle.affc_quast.specs.Leaves.{negated}
 use Rattle.affc_quast.specs.Limits.{FitsForm, narrow}
-use Rattle.affc_life.proofs.ComposeLemmas.{dot_abs}
 use Rattle.affc_life.proofs.LightLemmas.{all_map}
-use Rattle.affc_questions.proofs.ImageLemmas.{Below, entry_below, composed_long}
-use Rattle.affc_questions.proofs.SizeLemmas.{raised, differences_below, less_abs, mixed_width, zeros_below}
-use Rattle.affc_questions.proofs.TightLemmas.{IsTight, near}
+use Rattle.affc_questions.proofs.TightLemmas.{IsTight}
 
 -- ---- Sums of products in two parts
 
@@ -71,11 +72,11 @@ constants_long (g ∷ gs) = ap suc (constants_long gs)
 sides_column : (n j : ℕ) (gs : List Affine) → All (IsSide n) gs → Below (2 ^ 16) (column_of j gs)
 sides_column n j [] h = All-nil (λ d. unsigned_abs d ≤ 2 ^ 16)
 sides_column n j (g ∷ gs) h =
-    All-cons (λ d. unsigned_abs d ≤ 2 ^ 16) (get_or g.coefs j (pos 0)) (column_of j gs) (entry_below (2 ^ 16) g.coefs j (near g.coefs (All-head (IsSide n) g gs h).coefs_near)) (sides_column n j gs (All-tail (IsSide n) g gs h))
+    All-cons (λ d. unsigned_abs d ≤ 2 ^ 16) (get_or g.coefs j (pos 0)) (column_of j gs) (entry_below (2 ^ 16) g.coefs j (All-head (IsSide n) g gs h).coefs_fit) (sides_column n j gs (All-tail (IsSide n) g gs h))
 
 sides_constants : (n : ℕ) (gs : List Affine) → All (IsSide n) gs → Below (2 ^ 32) (constants_of gs)
 sides_constants n [] h = All-nil (λ d. unsigned_abs d ≤ 2 ^ 32)
-sides_constants n (g ∷ gs) h = All-cons (λ d. unsigned_abs d ≤ 2 ^ 32) g.constant (constants_of gs) (All-head (IsSide n) g gs h).constant_near (sides_constants n gs (All-tail (IsSide n) g gs h))
+sides_constants n (g ∷ gs) h = All-cons (λ d. unsigned_abs d ≤ 2 ^ 32) g.constant (constants_of gs) (All-head (IsSide n) g gs h).constant_fits (sides_constants n gs (All-tail (IsSide n) g gs h))
 
 narrow_column : (j : ℕ) (gs : List Affine) → All (FitsForm narrow) gs → Below (2 ^ 20) (column_of j gs)
 narrow_column j [] h = All-nil (λ d. unsigned_abs d ≤ 2 ^ 20)
@@ -89,10 +90,8 @@ narrow_constants (g ∷ gs) h = All-cons (λ d. unsigned_abs d ≤ 2 ^ 40) g.con
 -- ---- A form at the instance
 
 -- with entries that are somewhat smaller than those of a row may be
-pub record IsPlaced (columns : ℕ) (f : Affine) : Type 0 where
-  pub width : length f.coefs ≡ columns
-  pub coefs_fit : Below (2 ^ 39 + 2 ^ 38 + 2 ^ 37) f.coefs
-  pub constant_fits : unsigned_abs f.constant ≤ 2 ^ 59 + 2 ^ 58 + 2 ^ 57
+abbrev pub IsSituated : (columns : ℕ) → Affine → Type 0
+IsSituated columns = IsWithin columns (2 ^ 39 + 2 ^ 38 + 2 ^ 37) (2 ^ 59 + 2 ^ 58 + 2 ^ 57)
 
 module _ (columns params : ℕ) (forms : List Affine) (few : params ≤ 4) (few_forms : length forms ≤ 6) (fit : All (FitsForm narrow) forms) (long : length (columns_from columns 0 params) ≡ params) where
   abbrev images : List Affine
@@ -124,58 +123,47 @@ module _ (columns params : ℕ) (forms : List Affine) (few : params ≤ 4) (few_
   composed_placed cs h j zero = All-nil (λ c. unsigned_abs c ≤ 2 ^ 39 + 2 ^ 38 + 2 ^ 37)
   composed_placed cs h j (suc n) = All-cons (λ c. unsigned_abs c ≤ 2 ^ 39 + 2 ^ 38 + 2 ^ 37) (dot cs (column_of j images)) (composed cs images (suc j) n) (coef_at cs j h) (composed_placed cs h (suc j) n)
 
-  pub placed : (f : Affine) → IsTight f → IsPlaced columns (form_at columns images f)
-  placed f t = record { width = composed_long f.coefs images 0 columns; coefs_fit = composed_placed f.coefs t.coefs_fit 0 columns; constant_fits = constant_at f t.coefs_fit t.constant_fits }
+  pub placed : (f : Affine) → IsTight f → IsSituated columns (form_at columns images f)
+  placed f t = record { width = length-composed f.coefs images 0 columns; coefs_fit = composed_placed f.coefs t.coefs_fit 0 columns; constant_fits = constant_at f t.coefs_fit t.constant_fits }
 
-  pub all_placed : (fs : List Affine) → All IsTight fs → All (IsPlaced columns) (map (form_at columns images) fs)
-  all_placed fs all = all_map IsTight (IsPlaced columns) (form_at columns images) placed fs all
+  pub all_placed : (fs : List Affine) → All IsTight fs → All (IsSituated columns) (map (form_at columns images) fs)
+  all_placed fs all = all_map IsTight (IsSituated columns) (form_at columns images) placed fs all
 
 -- ---- Rows of them
 
--- the row that such a form is below 0
-pub negated_row : (n : ℕ) (f : Affine) → IsPlaced n f → IsRow n (negated f)
-negated_row n f p =
-    let z : Affine = number_form (length f.coefs) (pos 0) in
-    let d : ℤ = (pos 1 *ℤ pos 0) +ℤ (negsuc 0 *ℤ f.constant) in
-    record {
-      width = mixed_width n z f (number_width (length f.coefs) (pos 0) ∙ p.width) p.width;
-      fits = record {
-        coefs_fit = raised (0 + (2 ^ 39 + 2 ^ 38 + 2 ^ 37)) (2 ^ 40) (omega arith) (mixed (pos 1) z.coefs (negsuc 0) f.coefs) (differences_below 0 (2 ^ 39 + 2 ^ 38 + 2 ^ 37) z.coefs f.coefs (zeros_below 0 (length f.coefs)) p.coefs_fit);
-        constant_fits = most (unsigned_abs (d -ℤ pos 1)) (less_abs d 1 (2 ^ 59 + 2 ^ 58 + 2 ^ 57) (sum (unsigned_abs d) (unsigned_abs f.constant) (difference_abs (pos 0) f.constant) p.constant_fits) (omega arith));
-      };
-    }
+differences_below : (a b : ℕ) (cs ds : List ℤ) → Below a cs → Below b ds → Below (a + b) (mixed (pos 1) cs (negsuc 0) ds)
+differences_below a b [] ds h g = All-nil (λ c. unsigned_abs c ≤ a + b)
+differences_below a b (c ∷ cs) [] h g = All-nil (λ c. unsigned_abs c ≤ a + b)
+differences_below a b (c ∷ cs) (d ∷ ds) h g =
+    All-cons (λ c. unsigned_abs c ≤ a + b) ((pos 1 *ℤ c) +ℤ (negsuc 0 *ℤ d)) (mixed (pos 1) cs (negsuc 0) ds)
+    (sum (unsigned_abs ((pos 1 *ℤ c) +ℤ (negsuc 0 *ℤ d))) (unsigned_abs c) (unsigned_abs d) (difference_abs c d) (All-head (λ c. unsigned_abs c ≤ a) c cs h) (All-head (λ d. unsigned_abs d ≤ b) d ds g))
+    (differences_below a b cs ds (All-tail (λ c. unsigned_abs c ≤ a) c cs h) (All-tail (λ d. unsigned_abs d ≤ b) d ds g))
   where
-    sum : (s a : ℕ) → s ≤ 0 + a → a ≤ 2 ^ 59 + 2 ^ 58 + 2 ^ 57 → s ≤ 2 ^ 59 + 2 ^ 58 + 2 ^ 57
-    sum s a e h = omega (arith, e, h)
+    sum : (s x y : ℕ) → s ≤ x + y → x ≤ a → y ≤ b → s ≤ a + b
+    sum s x y e h g = omega (arith, e, h, g)
 
-    most : (n : ℕ) → n ≤ 2 ^ 59 + 2 ^ 58 + 2 ^ 57 + 1 → n ≤ 2 ^ 60
-    most n h = omega (arith, h)
+-- the row g - f - 1 of forms that together are within the limits of a row
+gap_of : (n a k b l : ℕ) (f g : Affine) → b + a ≤ 2 ^ 40 → l + k < 2 ^ 60 → IsWithin n a k f → IsWithin n b l g → IsRow n (gap_row f g 1)
+gap_of n a k b l f g few less s t =
+    row_of n (b + a) (2 ^ 60) (gap_row f g 1) few (omega arith) (record {
+      width = length-mixed (pos 1) g.coefs (negsuc 0) f.coefs (t.width ∙ sym s.width) ∙ t.width;
+      coefs_fit = differences_below b a g.coefs f.coefs t.coefs_fit s.coefs_fit;
+      constant_fits = last ((pos 1 *ℤ g.constant) +ℤ (negsuc 0 *ℤ f.constant)) (unsigned_abs g.constant) (unsigned_abs f.constant) (difference_abs g.constant f.constant) t.constant_fits s.constant_fits;
+    })
+  where
+    last : (z : ℤ) (x y : ℕ) → unsigned_abs z ≤ x + y → x ≤ l → y ≤ k → unsigned_abs (z -ℤ pos 1) ≤ 2 ^ 60
+    last z x y e h g = omega (arith, ints, e, h, g, less)
+
+-- the row that such a form is below 0
+pub negated_row : (n : ℕ) (f : Affine) → IsSituated n f → IsRow n (negated f)
+negated_row n f p =
+    gap_of n (2 ^ 39 + 2 ^ 38 + 2 ^ 37) (2 ^ 59 + 2 ^ 58 + 2 ^ 57) 0 0 f (number_form (length f.coefs) (pos 0)) (omega arith) (omega arith) p
+    (subst (λ k. IsWithin n 0 0 (number_form k (pos 0))) (sym p.width) (number_within n 0 0 (pos 0) (omega arith)))
 
 -- the difference of such a form and a subscript
-module _ (n : ℕ) (f g : Affine) (p : IsPlaced n f) (s : IsSubscript n g) where
-  coef_sum : 2 ^ 39 + 2 ^ 38 + 2 ^ 37 + 65536 ≤ 2 ^ 40
-  coef_sum = omega arith
-
-  most : (z : ℤ) (a b : ℕ) → unsigned_abs z ≤ a + b → a ≤ 2 ^ 59 + 2 ^ 58 + 2 ^ 57 → b ≤ 16777216 → unsigned_abs (z -ℤ pos 1) ≤ 2 ^ 60
-  most z a b e h k = let l = less_abs z 1 (a + b) e (omega arith) in omega (arith, l, h, k)
-
+module _ (n : ℕ) (f g : Affine) (p : IsSituated n f) (s : IsSubscript n g) where
   pub less_row : IsRow n (gap_row f g 1)
-  less_row = record {
-    width = mixed_width n g f s.width p.width;
-    fits = record {
-      coefs_fit = raised (65536 + (2 ^ 39 + 2 ^ 38 + 2 ^ 37)) (2 ^ 40) (omega arith) (mixed (pos 1) g.coefs (negsuc 0) f.coefs) (differences_below 65536 (2 ^ 39 + 2 ^ 38 + 2 ^ 37) g.coefs f.coefs s.coefs_fit p.coefs_fit);
-      constant_fits = most ((pos 1 *ℤ g.constant) +ℤ (negsuc 0 *ℤ f.constant)) (unsigned_abs f.constant) (unsigned_abs g.constant) (turned (unsigned_abs ((pos 1 *ℤ g.constant) +ℤ (negsuc 0 *ℤ f.constant))) (unsigned_abs g.constant) (unsigned_abs f.constant) (difference_abs g.constant f.constant)) p.constant_fits s.constant_fits;
-    };
-  }
-    where
-      turned : (z a b : ℕ) → z ≤ a + b → z ≤ b + a
-      turned z a b h = omega (arith, h)
+  less_row = gap_of n (2 ^ 39 + 2 ^ 38 + 2 ^ 37) (2 ^ 59 + 2 ^ 58 + 2 ^ 57) 65536 16777216 f g (omega arith) (omega arith) p s
 
   pub greater_row : IsRow n (gap_row g f 1)
-  greater_row = record {
-    width = mixed_width n f g p.width s.width;
-    fits = record {
-      coefs_fit = raised ((2 ^ 39 + 2 ^ 38 + 2 ^ 37) + 65536) (2 ^ 40) (omega arith) (mixed (pos 1) f.coefs (negsuc 0) g.coefs) (differences_below (2 ^ 39 + 2 ^ 38 + 2 ^ 37) 65536 f.coefs g.coefs p.coefs_fit s.coefs_fit);
-      constant_fits = most ((pos 1 *ℤ f.constant) +ℤ (negsuc 0 *ℤ g.constant)) (unsigned_abs f.constant) (unsigned_abs g.constant) (difference_abs f.constant g.constant) p.constant_fits s.constant_fits;
-    };
-  }
+  greater_row = gap_of n 65536 16777216 (2 ^ 39 + 2 ^ 38 + 2 ^ 37) (2 ^ 59 + 2 ^ 58 + 2 ^ 57) g f (omega arith) (omega arith) s p

@@ -9,7 +9,7 @@ use Rattle.affc_rows.proofs.IntLemmas.{mul-add}
 use Rattle.affc_nest.specs.Domains.{gap_row}
 use Rattle.affc_conflicts.specs.Questions.{differences, distance}
 use Rattle.affc_questions.specs.Asked.{AreElements}
-use Rattle.affc_questions.specs.Sizes.{IsBroad}
+use Rattle.affc_nest.specs.Wide.{IsWide}
 use Rattle.affc_questions.proofs.DistanceLemmas.{distance_is}
 
 -- numbers that sum to 0 in turn
@@ -94,6 +94,6 @@ entries_narrow (c ∷ cs) [] h g w = w
 entries_narrow (c ∷ cs) (d ∷ ds) h g (inl w) = entry_narrow c d (All-head (λ c. unsigned_abs c ≤ 2 ^ 110) c cs h) (All-head (λ c. unsigned_abs c ≤ 2 ^ 110) d ds g) w
 entries_narrow (c ∷ cs) (d ∷ ds) h g (inr w) = entries_narrow cs ds (All-tail (λ c. unsigned_abs c ≤ 2 ^ 110) c cs h) (All-tail (λ c. unsigned_abs c ≤ 2 ^ 110) d ds g) w
 
-pub turned_narrow : (n : ℕ) (a b : Affine) → IsBroad n a → IsBroad n b → TooWide (mixed_form_magnitudes (negsuc 0) a (negsuc 0) b) → ⊥
+pub turned_narrow : (n : ℕ) (a b : Affine) → IsWide n a → IsWide n b → TooWide (mixed_form_magnitudes (negsuc 0) a (negsuc 0) b) → ⊥
 turned_narrow n a b s t (inl w) = entry_narrow a.constant b.constant s.constant_fits t.constant_fits w
 turned_narrow n a b s t (inr w) = entries_narrow a.coefs b.coefs s.coefs_fit t.coefs_fit w

@@ -12,11 +12,12 @@ use Rattle.affc_nest.specs.declared.nest.Access.{Access}
 use Rattle.affc_nest.specs.declared.nest.Entry.{Entry}
 use Rattle.affc_nest.specs.declared.nest.Nest.{Nest}
 use Rattle.affc_nest.specs.Parts.{coordinates}
+use Rattle.affc_order.specs.Placed.{IsPlaced}
 use Rattle.affc_order.specs.Posed.{Posed}
 use Rattle.affc_quast.specs.Leaves.{Leaf}
 use Rattle.affc_quast.specs.SeenLeaves.{leaf_seen}
 use Rattle.affc_questions.specs.declared.reading.Reading.{Reading}
-use Rattle.affc_life.specs.Asked.{HasForms, IsLiving, IsPath}
+use Rattle.affc_life.specs.Asked.{IsLiving, IsPath}
 
 -- ---- Leaves
 
@@ -35,9 +36,9 @@ pub record IsWriter (nest : Nest) (v : Entry) (y : Access) : Type 0 where
   pub writes : IsLiving nest v
   pub stores : IsIn y v.accesses
 
--- an instance of a part by light forms for its coordinates
+-- an instance of a part by a form for each of its coordinates
 pub record IsInstanceOf (nest : Nest) (columns : ℕ) (a : Posed) (w : Entry) : Type 0 where
-  pub forms : HasForms nest columns a.part a.iterators
+  pub forms : IsPlaced nest columns a
   pub each : length a.iterators ≡ coordinates w
 
 -- ---- Folds

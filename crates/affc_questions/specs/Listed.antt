@@ -10,10 +10,9 @@ use Rattle.affc_nest.specs.declared.nest.Entry.{Entry}
 use Rattle.affc_nest.specs.declared.nest.Nest.{Nest}
 use Rattle.affc_nest.specs.Parts.{coordinates, statement_of}
 use Rattle.affc_order.specs.Posed.{Posed, form_at}
-use Rattle.affc_order.specs.Systems.{source_order}
+use Rattle.affc_order.specs.Systems.{rows_in, source_order}
 use Rattle.affc_sched.specs.Questions.{equal_rows}
 use Rattle.affc_quast.specs.Leaves.{Leaf, padded, negated}
-use Rattle.affc_life.specs.Drafts.{posed, rows_in}
 use Rattle.affc_flow.specs.Asked.{writers_of}
 use Rattle.affc_flow.specs.Questions.{Question, Writer, poses, is_temporary, beside_columns, beside_rows, before_load, after_named}
 
@@ -70,7 +69,7 @@ astray_lists nest load columns forms w z =
 -- the load's instance is earlier, or the same
 abbrev pub late_lists : Nest → (reader : Entry) → (columns : ℕ) → Posed → List (List Affine)
 late_lists nest reader columns a =
-    map rows_in (source_order nest columns (posed reader.part (own_columns nest reader columns)) a)
+    map rows_in (source_order nest columns (record { part = reader.part; iterators = own_columns nest reader columns }) a)
     ++ (if nat_eq reader.statement (statement_of nest a.part) then equal_rows (own_columns nest reader columns) a.iterators ∷ [] else [])
 
 module _ (nest : Nest) (reader : Entry) (load : Access) (leaf : Leaf) where

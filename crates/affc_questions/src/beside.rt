@@ -5,8 +5,8 @@ ghost use Rattle.affc_trace.specs.Law.{IsIn};
 ghost use Rattle.affc_nest.specs.Parts.{coordinates};
 ghost use Rattle.affc_flow.specs.Questions.{beside_rows};
 ghost use Rattle.affc_quast.specs.SeenLeaves.{leaf_seen};
-ghost use Rattle.affc_life.specs.Asked.{HasForms};
-ghost use Rattle.affc_life.specs.Drafts.{posed};
+ghost use Rattle.affc_order.specs.Placed.{IsPlaced};
+ghost use Rattle.affc_life.specs.Drafts.{instance_named};
 ghost use Rattle.affc_questions.specs.Asked.{IsReading, IsWriter};
 ghost use Rattle.affc_questions.specs.Listed.{earlier_systems, between_systems, all_earlier, all_between};
 ghost use Rattle.affc_products.specs.Groups.{group_systems};
@@ -88,9 +88,9 @@ fn add_between(
     out: &mut Vec<Group>,
 ) -> Result<(), AllocError>
     requires reading { IsReading reading.now }
-    requires named { HasForms reading.now.nest.now reading.now.leaf.now.columns named.now.part named.now.forms }
+    requires named { IsPlaced reading.now.nest.now reading.now.leaf.now.columns (instance_named named.now) }
     requires writer { IsWriter reading.now.nest.now writer.now.entry.now writer.now.store.now }
-    ensures { OnOk result (flat_map group_systems out.new.items ≡ flat_map group_systems out.old.items ++ between_systems reading.now.nest.now reading.now.reader.now reading.now.load.now (leaf_seen reading.now.leaf.now) writer.now.entry.now writer.now.store.now (posed named.now.part named.now.forms)) }
+    ensures { OnOk result (flat_map group_systems out.new.items ≡ flat_map group_systems out.old.items ++ between_systems reading.now.nest.now reading.now.reader.now reading.now.load.now (leaf_seen reading.now.leaf.now) writer.now.entry.now writer.now.store.now (instance_named named.now)) }
 {
     let (nest, reader, leaf) = (reading.nest, reading.reader, reading.leaf);
     let entry = writer.entry;
@@ -149,9 +149,9 @@ fn add_between_of(
     out: &mut Vec<Group>,
 ) -> Result<(), AllocError>
     requires reading { IsReading reading.now }
-    requires named { HasForms reading.now.nest.now reading.now.leaf.now.columns named.now.part named.now.forms }
+    requires named { IsPlaced reading.now.nest.now reading.now.leaf.now.columns (instance_named named.now) }
     requires entry { IsIn entry.now reading.now.nest.now.entries }
-    ensures { OnOk result (flat_map group_systems out.new.items ≡ flat_map group_systems out.old.items ++ all_between reading.now.nest.now reading.now.reader.now reading.now.load.now (leaf_seen reading.now.leaf.now) (posed named.now.part named.now.forms) (entry.now ∷ [])) }
+    ensures { OnOk result (flat_map group_systems out.new.items ≡ flat_map group_systems out.old.items ++ all_between reading.now.nest.now reading.now.reader.now reading.now.load.now (leaf_seen reading.now.leaf.now) (instance_named named.now) (entry.now ∷ [])) }
 {
     match store_for(entry, reading.load.array.0) {
         None => Ok(()),
@@ -169,9 +169,9 @@ pub(crate) fn add_all_between(
     out: &mut Vec<Group>,
 ) -> Result<(), AllocError>
     requires reading { IsReading reading.now }
-    requires named { HasForms reading.now.nest.now reading.now.leaf.now.columns named.now.part named.now.forms }
+    requires named { IsPlaced reading.now.nest.now reading.now.leaf.now.columns (instance_named named.now) }
     requires entries { All (λ e. IsIn e reading.now.nest.now.entries) entries.now }
-    ensures { OnOk result (flat_map group_systems out.new.items ≡ flat_map group_systems out.old.items ++ all_between reading.now.nest.now reading.now.reader.now reading.now.load.now (leaf_seen reading.now.leaf.now) (posed named.now.part named.now.forms) entries.now) }
+    ensures { OnOk result (flat_map group_systems out.new.items ≡ flat_map group_systems out.old.items ++ all_between reading.now.nest.now reading.now.reader.now reading.now.load.now (leaf_seen reading.now.leaf.now) (instance_named named.now) entries.now) }
 {
     match entries {
         [] => Ok(()),

@@ -9,12 +9,12 @@ ghost use Rattle.affc_conflicts.specs.Questions.{positive_question, greater_ques
 ghost use Rattle.affc_nest.specs.Asked.{IsNest};
 ghost use Rattle.affc_nest.specs.Domains.{range_rows, box_rows, compare_rows, number_form};
 ghost use Rattle.affc_nest.specs.Questions.{whole_context};
-ghost use Rattle.affc_questions.specs.Sizes.{IsBroad};
+ghost use Rattle.affc_nest.specs.Wide.{IsWide};
 
 use crate::long::Long;
-use crate::rows::{add_at_least, add_at_most, add_equal, add_gap};
+use crate::rows::{add_at_least, add_at_most};
 use affc_nest::Nest;
-use affc_nest::lists::add_copies;
+use affc_nest::lists::{add_copies, add_equal_rows, add_gap_row};
 use affc_rows::Form;
 use affc_system::system::value_at;
 use sqlite_items::Items;
@@ -86,7 +86,7 @@ pub fn whole_context(alloc: Global, nest: &Nest) -> Result<Long, AllocError>
 }
 
 /// The question whether a modulus is at most 0 somewhere in the context.
-#[tactic(auto, using(crate::proofs::SizeLemmas::modulus_broad))]
+#[tactic(auto, using(crate::proofs::SizeLemmas::modulus_wide))]
 pub fn positive_question(alloc: Global, nest: &Nest, modulus: &Form) -> Result<Long, AllocError>
     requires nest { IsNest nest.now }
     requires modulus { IsModulus nest.now.context.columns modulus.now }
@@ -95,7 +95,7 @@ pub fn positive_question(alloc: Global, nest: &Nest, modulus: &Form) -> Result<L
     let columns = nest.context.columns();
     let mut rows = context_rows(alloc, nest)?;
     let zero = Form::number(alloc, columns, 0)?;
-    add_gap(alloc, columns, modulus, &zero, 0, &mut rows)?;
+    add_gap_row(alloc, columns, modulus, &zero, 0, &mut rows)?;
     Ok(Long::new(columns, rows))
 }
 
@@ -123,7 +123,7 @@ fn value_form(alloc: Global, columns: u32, modulus: &Form, p: &[i64]) -> Result<
     requires modulus { IsModulus columns modulus.now }
     requires p { length p.now ≡ columns }
     ensures value { IfOk result (λ f. f ≡ number_form columns (value modulus.now p.now)) }
-    ensures broad { IfOk result (λ f. IsBroad columns f) }
+    ensures wide { IfOk result (λ f. IsWide columns f) }
 {
     words_are_near(p);
     let value = value_at(modulus, p);
@@ -131,7 +131,7 @@ fn value_form(alloc: Global, columns: u32, modulus: &Form, p: &[i64]) -> Result<
 }
 
 /// The question whether a modulus is greater somewhere in the context than at p.
-#[tactic(auto, using(crate::proofs::SizeLemmas::modulus_broad))]
+#[tactic(auto, using(crate::proofs::SizeLemmas::modulus_wide))]
 pub fn greater_question(
     alloc: Global,
     nest: &Nest,
@@ -146,12 +146,12 @@ pub fn greater_question(
     let columns = nest.context.columns();
     let mut rows = context_rows(alloc, nest)?;
     let value = value_form(alloc, columns, modulus, p)?;
-    add_gap(alloc, columns, &value, modulus, 1, &mut rows)?;
+    add_gap_row(alloc, columns, &value, modulus, 1, &mut rows)?;
     Ok(Long::new(columns, rows))
 }
 
 /// The system whose points are those at which a modulus is 1.
-#[tactic(auto, using(crate::proofs::SizeLemmas::modulus_broad))]
+#[tactic(auto, using(crate::proofs::SizeLemmas::modulus_wide))]
 pub fn one_system(alloc: Global, nest: &Nest, modulus: &Form) -> Result<Long, AllocError>
     requires nest { IsNest nest.now }
     requires modulus { IsModulus nest.now.context.columns modulus.now }
@@ -162,6 +162,6 @@ pub fn one_system(alloc: Global, nest: &Nest, modulus: &Form) -> Result<Long, Al
     let columns = nest.context.columns();
     let one = Form::number(alloc, columns, 1)?;
     let mut rows = Items::new(alloc);
-    add_equal(alloc, columns, modulus, &one, &mut rows)?;
+    add_equal_rows(alloc, columns, modulus, &one, &mut rows)?;
     Ok(Long::new(columns, rows))
 }

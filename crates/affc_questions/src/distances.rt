@@ -9,12 +9,12 @@ ghost use Rattle.affc_ast.specs.declared.tree.Rel.TheVariants.{Equal};
 ghost use Rattle.affc_nest.specs.Domains.{gap_row, compare_rows, number_form};
 ghost use Rattle.affc_conflicts.specs.Questions.{differences, distance, agree_rows, over_columns};
 ghost use Rattle.affc_questions.specs.Asked.{AreBasisRows, IsAlong, IsModulusOver, AreElements};
-ghost use Rattle.affc_questions.specs.Sizes.{IsBroad};
+ghost use Rattle.affc_nest.specs.Wide.{IsWide};
 ghost use Rattle.affc_questions.specs.Tails.{distance_tail, shown_tail};
 
-use crate::image::image_of;
-use crate::rows::{add_at_least, add_equal, add_gap, add_zero, minus};
-use affc_nest::lists::copied;
+use crate::rows::{add_at_least, add_zero, minus};
+use affc_nest::lists::{add_equal_rows, add_gap_row, copied};
+use affc_order::images::image_of;
 use affc_rows::Form;
 use affc_system::PairSystem;
 use affc_system::system::value_at;
@@ -22,7 +22,7 @@ use sqlite_items::Items;
 use std::alloc::{AllocError, Global};
 
 /// Adds the differences of subscripts in turn.
-#[tactic(auto, using(crate::proofs::SizeLemmas::subscript_broad))]
+#[tactic(auto, using(crate::proofs::SizeLemmas::subscript_wide))]
 fn add_differences(
     alloc: Global,
     columns: u32,
@@ -65,7 +65,7 @@ fn distance(
 ) -> Result<Form, AllocError>
     requires { AreElements columns row.now xs.now ys.now }
     ensures value { IfOk result (λ f. f ≡ distance row.now xs.now ys.now) }
-    ensures broad { IfOk result (λ f. IsBroad columns f) }
+    ensures wide { IfOk result (λ f. IsWide columns f) }
     ensures row { IfOk result (λ f. IsRow columns f) }
 {
     let mut images = Vec::new(alloc);
@@ -90,7 +90,7 @@ fn add_level(
 }
 
 /// Adds the rows that two elements lie apart along none of these rows.
-#[tactic(auto, using(crate::proofs::BroadLemmas::added_twice))]
+#[tactic(auto, using(affc_nest::proofs::WideLemmas::added_twice))]
 fn add_agree(
     alloc: Global,
     pair: &PairSystem,
@@ -122,7 +122,7 @@ fn first_rows(rows: &[Form], k: usize) -> &[Form]
 fn over_columns(alloc: Global, columns: u32, modulus: &Form) -> Result<Form, AllocError>
     requires { IsModulusOver columns modulus.now }
     ensures value { IfOk result (λ f. f ≡ over_columns columns modulus.now) }
-    ensures broad { IfOk result (λ f. IsBroad columns f) }
+    ensures wide { IfOk result (λ f. IsWide columns f) }
 {
     modulus.padded(alloc, columns)
 }
@@ -131,7 +131,7 @@ fn over_columns(alloc: Global, columns: u32, modulus: &Form) -> Result<Form, All
 fn less_one(alloc: Global, columns: u32, modulus: &Form) -> Result<Form, AllocError>
     requires { IsModulusOver columns modulus.now }
     ensures value { IfOk result (λ f. f ≡ mixed_form (pos 1) (over_columns columns modulus.now) (negsuc 0) (number_form columns (pos 1))) }
-    ensures broad { IfOk result (λ f. IsBroad columns f) }
+    ensures wide { IfOk result (λ f. IsWide columns f) }
 {
     let most = over_columns(alloc, columns, modulus)?;
     let one = Form::number(alloc, columns, 1)?;
@@ -141,8 +141,8 @@ fn less_one(alloc: Global, columns: u32, modulus: &Form) -> Result<Form, AllocEr
 /// The row `- apart - most`.
 #[tactic(auto, using(crate::proofs::TurnedLemmas::turned_narrow))]
 fn turned(alloc: Global, columns: u32, apart: &Form, most: &Form) -> Result<Form, AllocError>
-    requires first { IsBroad columns apart.now }
-    requires second { IsBroad columns most.now }
+    requires first { IsWide columns apart.now }
+    requires second { IsWide columns most.now }
     ensures { IfOk result (λ f. f ≡ mixed_form (negsuc 0) apart.now (negsuc 0) most.now) }
 {
     Form::mixture(alloc, -1, apart, -1, most)
@@ -157,12 +157,12 @@ fn add_both_ways(
     first: &mut Items<Form>,
     second: &mut Items<Form>,
 ) -> Result<(), AllocError>
-    requires apart { IsBroad columns apart.now }
-    requires most { IsBroad columns most.now }
+    requires apart { IsWide columns apart.now }
+    requires most { IsWide columns most.now }
     ensures first { OnOk result (first.new ≡ first.old ++ gap_row most.now apart.now 0 ∷ []) }
     ensures second { OnOk result (second.new ≡ second.old ++ mixed_form (negsuc 0) apart.now (negsuc 0) most.now ∷ []) }
 {
-    add_gap(alloc, columns, most, apart, 0, first)?;
+    add_gap_row(alloc, columns, most, apart, 0, first)?;
     second.push(turned(alloc, columns, apart, most)?)
 }
 
@@ -232,12 +232,12 @@ fn add_less_one(
     modulus: &Form,
     out: &mut Items<Form>,
 ) -> Result<(), AllocError>
-    requires form { IsBroad columns form.now }
+    requires form { IsWide columns form.now }
     requires modulus { IsModulusOver columns modulus.now }
     ensures { OnOk result (out.new ≡ out.old ++ compare_rows Equal form.now (mixed_form (pos 1) (over_columns columns modulus.now) (negsuc 0) (number_form columns (pos 1)))) }
 {
     let less = less_one(alloc, columns, modulus)?;
-    add_equal(alloc, columns, form, &less, out)
+    add_equal_rows(alloc, columns, form, &less, out)
 }
 
 /// Adds the rows that x lies behind y by the modulus less 1, and by at least 1.

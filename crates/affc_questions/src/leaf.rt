@@ -5,8 +5,9 @@ ghost use Rattle.affc_trace.specs.Law.{IsIn};
 ghost use Rattle.affc_nest.specs.Asked.{IsNest};
 ghost use Rattle.affc_nest.specs.Parts.{coordinates};
 ghost use Rattle.affc_quast.specs.SeenLeaves.{leaf_seen};
-ghost use Rattle.affc_life.specs.Asked.{HasForms, IsLiving, IsPath};
-ghost use Rattle.affc_life.specs.Drafts.{posed};
+ghost use Rattle.affc_life.specs.Asked.{IsLiving, IsPath};
+ghost use Rattle.affc_order.specs.Placed.{IsPlaced};
+ghost use Rattle.affc_life.specs.Drafts.{instance_named};
 ghost use Rattle.affc_flow.specs.Asked.{writers_of};
 ghost use Rattle.affc_flow.specs.Questions.{leaf_questions};
 ghost use Rattle.affc_questions.specs.Asked.{IsReading, IsWriter, IsInstanceOf};
@@ -27,8 +28,8 @@ use std::alloc::{AllocError, Global};
 
 /// The part, if it stores the array and is the one that is named.
 fn named_here<'a>(entry: &'a Entry, array: u32, named: &Named) -> Option<Writer<'a>>
-    ensures none { IfNone result (first_posed (posed named.now.part named.now.forms) (writers_of array entry.now) ≡ None) }
-    ensures some { IfSome result (λ w. first_posed (posed named.now.part named.now.forms) (writers_of array entry.now) ≡ Some (w.entry.now, w.store.now)) }
+    ensures none { IfNone result (first_posed (instance_named named.now) (writers_of array entry.now) ≡ None) }
+    ensures some { IfSome result (λ w. first_posed (instance_named named.now) (writers_of array entry.now) ≡ Some (w.entry.now, w.store.now)) }
 {
     let store = store_for(entry, array)?;
     if entry.part == named.part && named.forms.len() == entry.coordinates() {
@@ -40,8 +41,8 @@ fn named_here<'a>(entry: &'a Entry, array: u32, named: &Named) -> Option<Writer<
 
 /// The first part that stores the array and is the one that is named. The recursion is into halves.
 fn named_among<'a>(entries: &'a [Entry], array: u32, named: &Named) -> Option<Writer<'a>>
-    ensures none { IfNone result (first_posed (posed named.now.part named.now.forms) (flat_map (writers_of array) entries.now) ≡ None) }
-    ensures some { IfSome result (λ w. first_posed (posed named.now.part named.now.forms) (flat_map (writers_of array) entries.now) ≡ Some (w.entry.now, w.store.now)) }
+    ensures none { IfNone result (first_posed (instance_named named.now) (flat_map (writers_of array) entries.now) ≡ None) }
+    ensures some { IfSome result (λ w. first_posed (instance_named named.now) (flat_map (writers_of array) entries.now) ≡ Some (w.entry.now, w.store.now)) }
 {
     match entries {
         [] => None,
@@ -82,8 +83,8 @@ fn add_named(
 ) -> Result<(), AllocError>
     requires reading { IsReading reading.now }
     requires writer { IsWriter reading.now.nest.now writer.now.entry.now writer.now.store.now }
-    requires named { IsInstanceOf reading.now.nest.now reading.now.leaf.now.columns (posed named.now.part named.now.forms) writer.now.entry.now }
-    ensures { OnOk result (flat_map group_systems out.new.items ≡ flat_map group_systems out.old.items ++ named_systems reading.now.nest.now reading.now.reader.now reading.now.load.now (leaf_seen reading.now.leaf.now) (posed named.now.part named.now.forms) writer.now.entry.now writer.now.store.now) }
+    requires named { IsInstanceOf reading.now.nest.now reading.now.leaf.now.columns (instance_named named.now) writer.now.entry.now }
+    ensures { OnOk result (flat_map group_systems out.new.items ≡ flat_map group_systems out.old.items ++ named_systems reading.now.nest.now reading.now.reader.now reading.now.load.now (leaf_seen reading.now.leaf.now) (instance_named named.now) writer.now.entry.now writer.now.store.now) }
 {
     let (nest, reader, leaf) = (reading.nest, reading.reader, reading.leaf);
     let path = own_path(alloc, reader, leaf)?;
@@ -102,8 +103,8 @@ fn add_found(
     out: &mut Vec<Group>,
 ) -> Result<(), AllocError>
     requires reading { IsReading reading.now }
-    requires named { HasForms reading.now.nest.now reading.now.leaf.now.columns named.now.part named.now.forms }
-    ensures { OnOk result (flat_map group_systems out.new.items ≡ flat_map group_systems out.old.items ++ found_systems reading.now.nest.now reading.now.reader.now reading.now.load.now (leaf_seen reading.now.leaf.now) (posed named.now.part named.now.forms) (first_posed (posed named.now.part named.now.forms) (flat_map (writers_of reading.now.load.now.array.0) reading.now.nest.now.entries))) }
+    requires named { IsPlaced reading.now.nest.now reading.now.leaf.now.columns (instance_named named.now) }
+    ensures { OnOk result (flat_map group_systems out.new.items ≡ flat_map group_systems out.old.items ++ found_systems reading.now.nest.now reading.now.reader.now reading.now.load.now (leaf_seen reading.now.leaf.now) (instance_named named.now) (first_posed (instance_named named.now) (flat_map (writers_of reading.now.load.now.array.0) reading.now.nest.now.entries))) }
 {
     let entries = reading.nest.entries.as_slice();
     match named_among(entries, reading.load.array.0, named) {

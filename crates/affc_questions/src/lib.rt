@@ -4,7 +4,6 @@
 mod beside;
 pub mod context;
 pub mod distances;
-mod image;
 pub mod laws;
 pub mod leaf;
 pub mod legality;

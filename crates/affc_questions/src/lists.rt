@@ -5,10 +5,11 @@ ghost use Rattle.affc_nest.specs.Domains.{gap_row};
 ghost use Rattle.affc_quast.specs.Leaves.{negated};
 ghost use Rattle.affc_questions.specs.Listed.{behind, sides, joined};
 ghost use Rattle.affc_products.specs.Groups.{group_systems};
-ghost use Rattle.affc_questions.specs.Sizes.{IsBroad};
+ghost use Rattle.affc_nest.specs.Wide.{IsWide};
 
-use crate::rows::{add_gap, below_zero};
+use affc_nest::lists::add_gap_row;
 use affc_products::Group;
+use affc_quast::leaves::negated;
 use affc_rows::Form;
 use sqlite_items::Items;
 use std::alloc::{AllocError, Global};
@@ -28,17 +29,17 @@ pub(crate) fn add_below_zero(
     forms: &[Form],
     out: &mut Vec<Items<Form>>,
 ) -> Result<(), AllocError>
-    requires { All (IsBroad columns) forms.now }
+    requires { All (IsWide columns) forms.now }
     ensures { OnOk result (out.new.items ≡ out.old.items ++ map (λ f. negated f ∷ []) forms.now) }
 {
     match forms {
         [] => Ok(()),
         [form, rest @ ..] => {
-            let row = below_zero(alloc, columns, form)?;
+            let row = negated(alloc, columns, form)?;
             let mut rows = Items::new(alloc);
             rows.push(row)?;
             add_list(rows, out)?;
-            add_below_zero(alloc, columns, rest, out)
+            add_negated(alloc, columns, rest, out)
         }
     }
 }
@@ -51,12 +52,12 @@ fn add_less(
     b: &Form,
     out: &mut Vec<Items<Form>>,
 ) -> Result<(), AllocError>
-    requires first { IsBroad columns a.now }
-    requires second { IsBroad columns b.now }
+    requires first { IsWide columns a.now }
+    requires second { IsWide columns b.now }
     ensures { OnOk result (out.new.items ≡ out.old.items ++ (gap_row a.now b.now 1 ∷ []) ∷ []) }
 {
     let mut rows = Items::new(alloc);
-    add_gap(alloc, columns, a, b, 1, &mut rows)?;
+    add_gap_row(alloc, columns, a, b, 1, &mut rows)?;
     add_list(rows, out)
 }
 
@@ -68,8 +69,8 @@ pub(crate) fn add_sides(
     gs: &[Form],
     out: &mut Vec<Items<Form>>,
 ) -> Result<(), AllocError>
-    requires firsts { All (IsBroad columns) fs.now }
-    requires seconds { All (IsBroad columns) gs.now }
+    requires firsts { All (IsWide columns) fs.now }
+    requires seconds { All (IsWide columns) gs.now }
     ensures { OnOk result (out.new.items ≡ out.old.items ++ sides fs.now gs.now) }
 {
     match fs {

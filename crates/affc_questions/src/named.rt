@@ -7,26 +7,28 @@ ghost use Rattle.affc_nest.specs.Parts.{coordinates};
 ghost use Rattle.affc_order.specs.Posed.{form_at};
 ghost use Rattle.affc_quast.specs.Leaves.{padded};
 ghost use Rattle.affc_quast.specs.SeenLeaves.{leaf_seen};
-ghost use Rattle.affc_life.specs.Asked.{IsLight, IsLiving, HasForms};
-ghost use Rattle.affc_life.specs.Composed.{AreImages};
-ghost use Rattle.affc_life.specs.Drafts.{posed};
+ghost use Rattle.affc_life.specs.Asked.{IsLiving};
+ghost use Rattle.affc_nest.specs.Wide.{IsWide};
+ghost use Rattle.affc_order.specs.Placed.{AreImages, IsPlaced};
+ghost use Rattle.affc_life.specs.Drafts.{instance_named};
 ghost use Rattle.affc_sched.specs.Questions.{equal_rows};
 ghost use Rattle.affc_questions.specs.Asked.{IsReading, IsWriter, IsInstanceOf};
 ghost use Rattle.affc_questions.specs.Listed.{negations, sides, own_path, own_columns, images, astray_lists, late_lists};
 
-use crate::image::add_images;
 use crate::lists::{add_below_zero, add_list, add_sides};
 use crate::reading::Reading;
 use crate::rows::add_equals;
 use crate::writer::Writer;
-use affc_life::columns::{add_padded, columns_from};
+use affc_life::columns::add_padded;
 use affc_life::stores::{coordinates, params_in};
-use affc_life::systems::add_forms;
-use affc_life::times::{statement, target_order};
 use affc_nest::{Access, Entry, Nest};
+use affc_order::columns::columns_from;
+use affc_order::images::add_images;
+use affc_order::order::statement;
+use affc_order::{Placed, source_order};
 use affc_quast::leaves::{Leaf, Named};
 use affc_rows::Form;
-use affc_trace::schedule::Schedule;
+use affc_rows::vocabulary::add_copies;
 use sqlite_items::Items;
 use std::alloc::{AllocError, Global};
 
@@ -66,7 +68,7 @@ fn images(alloc: Global, nest: &Nest, columns: u32, forms: &[Form]) -> Result<Ve
 {
     let params = params_in(nest);
     let mut made = columns_from(alloc, columns, 0, params)?;
-    add_forms(forms, &mut made)?;
+    add_copies(forms, &mut made)?;
     Ok(made)
 }
 
@@ -99,7 +101,7 @@ fn add_apart(
     requires images { AreImages columns images.now }
     requires written { All (IsRow (length images.now)) written.now }
     requires narrow { All (λ f. length f.coefs ≤ columns) read.now }
-    requires light { All (IsLight columns) (map (padded columns) read.now) }
+    requires wide { All (IsWide columns) (map (padded columns) read.now) }
     ensures { OnOk result (out.new.items ≡ out.old.items ++ sides (map (form_at columns images.now) written.now) (map (padded columns) read.now)) }
 {
     let mut made = Vec::new(alloc);
@@ -119,7 +121,7 @@ pub(crate) fn astray_lists(
 ) -> Result<Vec<Items<Form>>, AllocError>
     requires reading { IsReading reading.now }
     requires writer { IsWriter reading.now.nest.now writer.now.entry.now writer.now.store.now }
-    requires named { IsInstanceOf reading.now.nest.now reading.now.leaf.now.columns (posed named.now.part named.now.forms) writer.now.entry.now }
+    requires named { IsInstanceOf reading.now.nest.now reading.now.leaf.now.columns (instance_named named.now) writer.now.entry.now }
     ensures { IfOk result (λ v. v.items ≡ astray_lists reading.now.nest.now reading.now.load.now reading.now.leaf.now.columns named.now.forms writer.now.entry.now writer.now.store.now) }
 {
     let columns = reading.leaf.columns;
@@ -148,8 +150,8 @@ fn add_same(
     gs: &[Form],
     out: &mut Vec<Items<Form>>,
 ) -> Result<(), AllocError>
-    requires firsts { All (IsLight columns) fs.now }
-    requires seconds { All (IsLight columns) gs.now }
+    requires firsts { All (IsWide columns) fs.now }
+    requires seconds { All (IsWide columns) gs.now }
     ensures { OnOk result (out.new.items ≡ out.old.items ++ (if nat_eq a b then equal_rows fs.now gs.now ∷ [] else [])) }
 {
     if a == b {
@@ -170,15 +172,20 @@ pub(crate) fn late_lists(
 ) -> Result<Vec<Items<Form>>, AllocError>
     requires nested { IsNest nest.now }
     requires reads { IsLiving nest.now reader.now }
-    requires named { HasForms nest.now columns named.now.part named.now.forms }
-    ensures { IfOk result (λ v. v.items ≡ late_lists nest.now reader.now columns (posed named.now.part named.now.forms)) }
+    requires named { IsPlaced nest.now columns (instance_named named.now) }
+    ensures { IfOk result (λ v. v.items ≡ late_lists nest.now reader.now columns (instance_named named.now)) }
 {
     let own = own_columns(alloc, nest, reader, columns)?;
-    let own = own.as_slice();
-    let forms = named.forms.as_slice();
-    let (a, b) = (reader.part, named.part);
-    let mut lists = target_order(alloc, nest, &Schedule::Source, columns, a, own, b, forms)?;
-    let (first, second) = (reader.statement, statement(nest, b));
-    add_same(alloc, columns, first, own, second, forms, &mut lists)?;
+    let a = Placed {
+        part: reader.part,
+        forms: own.as_slice(),
+    };
+    let b = Placed {
+        part: named.part,
+        forms: named.forms.as_slice(),
+    };
+    let mut lists = source_order(alloc, nest, columns, &a, &b)?;
+    let (first, second) = (reader.statement, statement(nest, b.part));
+    add_same(alloc, columns, first, a.forms, second, b.forms, &mut lists)?;
     Ok(lists)
 }

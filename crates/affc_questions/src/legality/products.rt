@@ -12,61 +12,24 @@ use affc_system::System;
 use sqlite_items::Items;
 use std::alloc::{AllocError, Global};
 
-/// The rows of an order.
-fn alternative(alloc: Global, order: &System) -> Result<Items<Form>, AllocError>
-    ensures value { IfOk result (λ r. r ≡ order.now.rows) }
-    ensures fit { OnOk result (FitsColumns order.now) }
-{
-    let rows = order.rows().to_vec(alloc)?;
-    Ok(Items::from_vec(rows))
-}
-
-/// Adds the rows of each of these orders.
-fn add_alternatives(
-    alloc: Global,
-    orders: &[System],
-    out: &mut Items<Items<Form>>,
-) -> Result<(), AllocError>
-    ensures put { OnOk result (out.new ≡ out.old ++ rows_of_each orders.now) }
-    ensures fit { OnOk result (All FitsColumns orders.now) }
-{
-    match orders {
-        [] => Ok(()),
-        [order, rest @ ..] => {
-            out.push(alternative(alloc, order)?)?;
-            add_alternatives(alloc, rest, out)
-        }
-    }
-}
-
-/// The rows of each of these orders.
-fn alternatives(alloc: Global, orders: &[System]) -> Result<Items<Items<Form>>, AllocError>
-    ensures value { IfOk result (λ f. f ≡ rows_of_each orders.now) }
-    ensures fit { OnOk result (All FitsColumns orders.now) }
-{
-    let mut factor = Items::new(alloc);
-    add_alternatives(alloc, orders, &mut factor)?;
-    Ok(factor)
-}
-
 /// Adds the group of the rows of two accesses, with the orders behind them as its factors.
 pub(crate) fn add_product(
     alloc: Global,
     pair: System,
-    earlier: &[System],
-    later: &[System],
+    earlier: Vec<Items<Form>>,
+    later: Vec<Items<Form>>,
     out: &mut Vec<Group>,
 ) -> Result<(), AllocError>
     requires pair { length pair.rows ≤ 900 }
-    requires earlier { All (IsOrder pair.columns) earlier.now }
-    requires later { All (IsOrder pair.columns) later.now }
-    ensures put { OnOk result (flat_map group_systems out.new.items ≡ flat_map group_systems out.old.items ++ with_orders pair earlier.now later.now) }
-    ensures within { OnOk result (All IsWithin (with_orders pair earlier.now later.now)) }
+    requires earlier { All (IsOrder pair.columns) earlier.items }
+    requires later { All (IsOrder pair.columns) later.items }
+    ensures put { OnOk result (flat_map group_systems out.new.items ≡ flat_map group_systems out.old.items ++ with_orders pair earlier.items later.items) }
+    ensures within { OnOk result (All IsWithin (with_orders pair earlier.items later.items)) }
 {
     let columns = pair.columns();
     let mut factors = Items::new(alloc);
-    factors.push(alternatives(alloc, earlier)?)?;
-    factors.push(alternatives(alloc, later)?)?;
+    factors.push(Items::from_vec(earlier))?;
+    factors.push(Items::from_vec(later))?;
     let front = Items::from_vec(pair.into_rows());
     out.push(Group {
         columns,

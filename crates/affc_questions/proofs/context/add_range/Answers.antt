@@ -1,16 +1,15 @@
 use Rattle.std.proofs.Common.{sym, subst, w64}
 use Rattle.std.proofs.lemmas.Int.{to_z-of_z}
 use Rattle.std.proofs.lemmas.Result.{on_ok_weaker}
-use Rattle.affc_questions.specs.Sizes.{IsBroad}
-use Rattle.affc_questions.proofs.BroadLemmas.{range_made}
-use Rattle.affc_questions.proofs.SizeLemmas.{column_broad}
+use Rattle.affc_nest.specs.Wide.{IsWide}
+use Rattle.affc_questions.proofs.SizeLemmas.{column_wide, range_made}
 use Rattle.affc_questions.proofs.context.add_range.Goals as goal
 
 pub add_at_least-requires : goal.add_at_least-requires
-add_at_least-requires c = subst (IsBroad c.args.columns) (sym c.in_ok-at.ensures.value) (column_broad c.args.columns c.args.j)
+add_at_least-requires c = subst (IsWide c.args.columns) (sym c.in_ok-at.ensures.value) (column_wide c.args.columns c.args.j)
 
 pub add_at_most-requires : goal.add_at_most-requires
-add_at_most-requires c = subst (IsBroad c.args.columns) (sym c.in_ok-at.ensures.value) (column_broad c.args.columns c.args.j)
+add_at_most-requires c = subst (IsWide c.args.columns) (sym c.in_ok-at.ensures.value) (column_wide c.args.columns c.args.j)
 
 pub returns : goal.returns
 returns c =

@@ -1,4 +1,4 @@
-use Rattle.affc_questions.proofs.SizeLemmas.{within_64}
+use Rattle.affc_nest.proofs.WideLemmas.{within_64}
 use Rattle.affc_questions.proofs.context.word_is_near.Goals as goal
 
 pub returns : goal.returns

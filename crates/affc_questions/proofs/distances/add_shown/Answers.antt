@@ -4,7 +4,7 @@ use Rattle.affc_rows.specs.Forms.{Affine, mixed_form}
 use Rattle.affc_ast.specs.declared.tree.Rel.TheVariants.{Equal}
 use Rattle.affc_nest.specs.Domains.{gap_row, compare_rows, number_form}
 use Rattle.affc_conflicts.specs.Questions.{over_columns}
-use Rattle.affc_questions.proofs.BroadLemmas.{added_twice}
+use Rattle.affc_nest.proofs.WideLemmas.{added_twice}
 use Rattle.affc_questions.proofs.distances.add_shown.Goals as goal
 
 pub returns : goal.returns

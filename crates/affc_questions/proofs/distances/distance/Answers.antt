@@ -4,8 +4,8 @@ use Rattle.affc_rows.specs.Forms.{Affine}
 use Rattle.affc_rows.specs.Vocabulary.{form_at}
 use Rattle.affc_conflicts.specs.Questions.{distance}
 use Rattle.affc_system.specs.Systems.{IsRow}
-use Rattle.affc_questions.specs.Sizes.{IsBroad}
-use Rattle.affc_questions.proofs.DistanceLemmas.{images_made, images_fit, row_fits, distance_made, distance_broad, distance_row}
+use Rattle.affc_nest.specs.Wide.{IsWide}
+use Rattle.affc_questions.proofs.DistanceLemmas.{images_made, images_fit, row_fits, distance_made, distance_wide, distance_row}
 use Rattle.affc_questions.proofs.distances.distance.Goals as goal
 
 pub image_of-requires-clause-images : goal.image_of-requires-clause-images
@@ -27,6 +27,6 @@ returns c =
     c.in_ok-row.ensures e in
     record {
       value = IfOk-weaker c.image_of.result _ _ is c.image_of.ensures;
-      broad = IfOk-weaker c.image_of.result _ (IsBroad c.args.columns) (λ f e. subst (IsBroad c.args.columns) (sym (is f e)) (distance_broad c.args.columns c.args.row.now c.args.xs.now c.args.ys.now c.requires)) c.image_of.ensures;
+      wide = IfOk-weaker c.image_of.result _ (IsWide c.args.columns) (λ f e. subst (IsWide c.args.columns) (sym (is f e)) (distance_wide c.args.columns c.args.row.now c.args.xs.now c.args.ys.now c.requires)) c.image_of.ensures;
       row = IfOk-weaker c.image_of.result _ (IsRow c.args.columns) (λ f e. subst (IsRow c.args.columns) (sym (is f e)) (distance_row c.args.columns c.args.row.now c.args.xs.now c.args.ys.now c.requires)) c.image_of.ensures;
     }

@@ -1,7 +1,7 @@
 use Rattle.std.proofs.Common.{◌++◌, map, flat_map, ap, ap₂, ◌∙◌}
 use Rattle.std.proofs.lemmas.Result.{on_ok_weaker}
 use Rattle.affc_quast.specs.SeenLeaves.{leaf_seen}
-use Rattle.affc_life.specs.Drafts.{posed}
+use Rattle.affc_life.specs.Drafts.{instance_named}
 use Rattle.affc_questions.specs.Listed.{behind, own_path, astray_lists, late_lists, all_between}
 use Rattle.affc_products.specs.Groups.{group_systems}
 use Rattle.affc_questions.proofs.ListedLemmas.{lists_made}
@@ -20,7 +20,7 @@ returns c =
     let reader = c.args.reading.now.reader.now in
     let load = c.args.reading.now.load.now in
     let leaf = leaf_seen c.args.reading.now.leaf.now in
-    let a = posed c.args.named.now.part c.args.named.now.forms in
+    let a = instance_named c.args.named.now in
     let old = flat_map group_systems c.args.out.now.items in
     let mid = flat_map group_systems c.add_each.new.out.items in
     let lists = c.append.new.self.items in

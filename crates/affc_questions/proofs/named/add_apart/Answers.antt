@@ -1,12 +1,12 @@
 use Rattle.std.proofs.Common.{◌++◌, map, sym, ap, subst, ◌∙◌}
 use Rattle.std.specs.List.{All}
 use Rattle.affc_order.specs.Posed.{form_at}
-use Rattle.affc_questions.specs.Sizes.{IsBroad}
-use Rattle.affc_questions.proofs.ImageLemmas.{images_broad}
+use Rattle.affc_nest.specs.Wide.{IsWide}
+use Rattle.affc_order.proofs.ImageLemmas.{images_wide}
 use Rattle.affc_questions.proofs.named.add_apart.Goals as goal
 
 pub add_sides-requires-clause-firsts : goal.add_sides-requires-clause-firsts
 add_sides-requires-clause-firsts c =
-    subst (All (IsBroad c.args.columns))
+    subst (All (IsWide c.args.columns))
     (sym (c.as_slice.ensures.value ∙ (c.in_ok-add_images.ensures ∙ ap (λ zs. zs ++ map (form_at c.args.columns c.args.images.now) c.args.written.now) c.new-made.ensures.items)))
-    (images_broad c.args.columns c.args.images.now c.requires.images c.args.written.now c.requires.written)
+    (images_wide c.args.columns c.args.images.now c.requires.images c.args.written.now c.requires.written)

@@ -5,10 +5,10 @@ use Rattle.affc_system.specs.Systems.{IsRow}
 use Rattle.affc_nest.specs.declared.nest.Nest.{Nest}
 use Rattle.affc_quast.specs.Leaves.{padded}
 use Rattle.affc_quast.specs.SeenLeaves.{leaf_seen}
-use Rattle.affc_life.specs.Asked.{IsLight}
-use Rattle.affc_life.specs.Composed.{AreImages}
+use Rattle.affc_nest.specs.Wide.{IsWide}
+use Rattle.affc_order.specs.Placed.{AreImages}
 use Rattle.affc_questions.specs.Listed.{images}
-use Rattle.affc_questions.proofs.LeafLemmas.{load_light, load_narrow, images_are, rows_at_images, subs_at_images}
+use Rattle.affc_questions.proofs.LeafLemmas.{load_wide, load_narrow, images_are, rows_at_images, subs_at_images}
 use Rattle.affc_questions.proofs.named.astray_lists.Goals as goal
 
 images_is : (nest : Nest) (columns : ℕ) (forms own made now : List Affine) → now ≡ made → made ≡ images nest columns own → own ≡ forms → now ≡ images nest columns forms
@@ -39,6 +39,6 @@ pub add_apart-requires-clause-narrow : goal.add_apart-requires-clause-narrow
 add_apart-requires-clause-narrow c =
     subst (All (λ f. length f.coefs ≤ c.args.reading.now.leaf.now.columns)) (sym c.as_slice-read.ensures) (load_narrow c.args.reading.now.nest.now c.args.reading.now.reader.now c.args.reading.now.load.now (leaf_seen c.args.reading.now.leaf.now) c.requires.reading)
 
-pub add_apart-requires-clause-light : goal.add_apart-requires-clause-light
-add_apart-requires-clause-light c =
-    subst (λ (fs : List Affine). All (IsLight c.args.reading.now.leaf.now.columns) (map (padded c.args.reading.now.leaf.now.columns) fs)) (sym c.as_slice-read.ensures) (load_light c.args.reading.now.nest.now c.args.reading.now.reader.now c.args.reading.now.load.now (leaf_seen c.args.reading.now.leaf.now) c.requires.reading)
+pub add_apart-requires-clause-wide : goal.add_apart-requires-clause-wide
+add_apart-requires-clause-wide c =
+    subst (λ (fs : List Affine). All (IsWide c.args.reading.now.leaf.now.columns) (map (padded c.args.reading.now.leaf.now.columns) fs)) (sym c.as_slice-read.ensures) (load_wide c.args.reading.now.nest.now c.args.reading.now.reader.now c.args.reading.now.load.now (leaf_seen c.args.reading.now.leaf.now) c.requires.reading)

@@ -6,5 +6,5 @@ use Rattle.affc_questions.proofs.rows.add_at_most.Goals as goal
 
 pub returns : goal.returns
 returns c =
-    on_ok_weaker c.add_gap.result
-    (λ e. e ∙ ap (λ f. c.args.out.now ++ gap_row c.args.form.now f 0 ∷ []) (c.in_ok-high.ensures.value ∙ ap (number_form c.args.columns) (to_z-of_z w64 c.args.high c.ranges.high))) c.add_gap.ensures
+    on_ok_weaker c.add_gap_row.result
+    (λ e. e ∙ ap (λ f. c.args.out.now ++ gap_row c.args.form.now f 0 ∷ []) (c.in_ok-high.ensures.value ∙ ap (number_form c.args.columns) (to_z-of_z w64 c.args.high c.ranges.high))) c.add_gap_row.ensures

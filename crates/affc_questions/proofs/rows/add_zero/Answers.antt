@@ -5,4 +5,4 @@ use Rattle.affc_nest.specs.Domains.{compare_rows}
 use Rattle.affc_questions.proofs.rows.add_zero.Goals as goal
 
 pub returns : goal.returns
-returns c = on_ok_weaker c.add_equal.result (λ e. e ∙ ap (λ f. c.args.out.now ++ compare_rows Equal c.args.form.now f) c.in_ok-zero.ensures.value) c.add_equal.ensures
+returns c = on_ok_weaker c.add_equal_rows.result (λ e. e ∙ ap (λ f. c.args.out.now ++ compare_rows Equal c.args.form.now f) c.in_ok-zero.ensures.value) c.add_equal_rows.ensures
