@@ -1,9 +1,9 @@
 -- What the questions decide.
-use Rattle.std.proofs.Common.{◌≡◌, ℕ, ◌+◌, ◌≤◌, ℤ, Bool, true, false, IsTrue, List, [], ◌∷◌, ◌++◌, length, map, take, drop, refl, sym, ap, subst, ◌∙◌, ◌⊎◌, inl, inr, arith}
+use Rattle.std.proofs.Common.{◌≡◌, ℕ, ◌+◌, ℤ, Bool, true, false, IsTrue, List, [], ◌∷◌, ◌++◌, length, map, take, drop, refl, sym, ap, subst, ◌∙◌, ◌⊎◌, inl, inr, arith}
 use Rattle.std.specs.Prelude.{slice_get, nat_eq, Some, ◌||◌}
 use Rattle.std.specs.List.{All}
 use Rattle.std.proofs.lemmas.Bool.{eq-eqb, eqb-true}
-use Rattle.std.proofs.lemmas.List.{take-append-drop, length-take-le}
+use Rattle.std.proofs.lemmas.List.{take-append-drop}
 use Rattle.std.proofs.lemmas.List.Elements.{All-append, All-drop}
 use Rattle.affc_rows.specs.Forms.{Affine, values_of, HaveColumns}
 use Rattle.affc_system.specs.Boxes.{InBox}
@@ -28,6 +28,7 @@ use Rattle.affc_trace.proofs.Once.{once}
 use Rattle.affc_trace.proofs.Runs.{length_append}
 use Rattle.affc_trace.proofs.Targets.{target_is_reordered}
 use Rattle.affc_domain.specs.Ranges.{number_ranges}
+use Rattle.affc_domain.proofs.Lists.{length_map}
 use Rattle.affc_domain.proofs.RangeLemmas.{box_length, in_ranges}
 use Rattle.affc_nest.specs.declared.nest.Access.{Access}
 use Rattle.affc_nest.specs.declared.nest.Entry.{Entry}
@@ -47,7 +48,7 @@ use Rattle.affc_order.proofs.OrderLemmas.{entry_of_instance, as_many_loops, pair
 use Rattle.affc_sched.specs.Laws.{parameters_at, first_at, second_at, PointsViolate, Answers, ViolationsArePoints, QuestionsDecide, PointsAreBoxed}
 use Rattle.affc_sched.specs.Questions.{Question, Touch, touches, may_depend, equal_rows, context_count, of_first, of_second, pair_domain, pair_rows, question}
 use Rattle.affc_sched.proofs.AskedLemmas.{Asked, asked, is_asked}
-use Rattle.affc_sched.proofs.PointLemmas.{front, middle, end, front_long, middle_long, end_long, front_middle_end, spread_met, met_spread, spread_values, all_spread, length_map, equal_values, values_equal}
+use Rattle.affc_sched.proofs.PointLemmas.{front, middle, end, front_long, middle_long, end_long, front_middle_end, spread_met, met_spread, spread_values, all_spread, equal_values, values_equal}
 use Rattle.affc_sched.proofs.TouchLemmas.{touch_in, touched, stored, touching, storing}
 use Rattle.affc_sched.proofs.WidthLemmas.{domain_wide, context_rows_met}
 
@@ -115,9 +116,6 @@ module _ (program : Program) (has : HasNest program) (p : List ℤ) (l : length 
 
   pub events_are : map (element_at (p ++ its)) e.accesses ≡ loads_of program p (instance_of e its) ++ store_of program p (instance_of e its) ∷ []
   events_are = accesses_are_events program p (instance_of e its) e has s.at point_long
-
-drop_have : (k n : ℕ) (fs : List Affine) → HaveColumns n fs → HaveColumns n (drop k fs)
-drop_have k n fs h = All-drop (λ g. length g.coefs ≡ n) k fs h
 
 module _ (program : Program) (has : HasNest program) (p bs cs : List ℤ) (l : length p ≡ length (number_ranges program.params)) (a b : Entry) (s : Stood program p a bs) (t : Stood program p b cs)
     (x y : Access) (x_in : IsIn x a.accesses) (y_in : IsIn y b.accesses) where
@@ -199,7 +197,7 @@ module _ (program : Program) (has : HasNest program) (p bs cs : List ℤ) (l : l
       let w = met_both zs (map (of_first n a b) a.domain.rows) (map (of_second n a b) (drop k b.domain.rows)) u.0 in
       let one = runs program has p l a bs s (met_spread p [] bs cs m' 0 (length b.loops) (sym l) refl a.domain.rows (rows_wide program has p l a bs s) w.0) in
       let rest : All (Meets (p ++ cs)) (drop k b.domain.rows) =
-      met_spread p bs cs [] m' (length a.loops) 0 (sym l) (sym s.long) (drop k b.domain.rows) (drop_have k (length p + length cs) b.domain.rows (rows_wide program has p l b cs t))
+      met_spread p bs cs [] m' (length a.loops) 0 (sym l) (sym s.long) (drop k b.domain.rows) (All-drop (λ g. length g.coefs ≡ length p + length cs) k b.domain.rows (rows_wide program has p l b cs t))
       (subst (λ qs. All (Meets qs) (map (of_second n a b) (drop k b.domain.rows))) whole w.1) in
       let long : length xs ≡ length ys = length_map (of_first n a b) x.subs ∙ d ∙ sym (length_map (of_second n a b) y.subs) in
       record {
@@ -217,7 +215,7 @@ module _ (program : Program) (has : HasNest program) (p bs cs : List ℤ) (l : l
       spread_met p [] bs cs m' 0 (length b.loops) (sym l) refl a.domain.rows (rows_wide program has p l a bs s) (rows_of program has p l a bs s f.context f.first_runs) in
       let two : All (Meets zs) (map (of_second n a b) (drop k b.domain.rows)) =
       subst (λ qs. All (Meets qs) (map (of_second n a b) (drop k b.domain.rows))) (sym whole)
-      (spread_met p bs cs [] m' (length a.loops) 0 (sym l) (sym s.long) (drop k b.domain.rows) (drop_have k (length p + length cs) b.domain.rows (rows_wide program has p l b cs t))
+      (spread_met p bs cs [] m' (length a.loops) 0 (sym l) (sym s.long) (drop k b.domain.rows) (All-drop (λ g. length g.coefs ≡ length p + length cs) k b.domain.rows (rows_wide program has p l b cs t))
       (All-drop (Meets (p ++ cs)) k b.domain.rows (rows_of program has p l b cs t f.context f.second_runs))) in
       both_met zs (pair_domain n a b) (equal_rows xs ys) (both_met zs (map (of_first n a b) a.domain.rows) (map (of_second n a b) (drop k b.domain.rows)) one two)
       (values_equal zs xs ys xs_wide ys_wide (xs_value ∙ f.equal ∙ sym ys_value))

@@ -1,9 +1,8 @@
 -- Lists by their fronts, and what holds of each of a list.
-use Rattle.std.proofs.Common.{◌≡◌, ℕ, ◌-◌, ◌≤◌, ℤ, Bool, true, false, IsTrue, List, [], ◌∷◌, ◌++◌, length, take, drop, get_or, refl, sym, ap, subst, ◌∙◌, inl, inr}
+use Rattle.std.proofs.Common.{◌≡◌, ◌-◌, ◌≤◌, Bool, true, false, IsTrue, List, [], ◌∷◌, length, take, drop, get_or, refl, sym, ap, subst, ◌∙◌, inl, inr}
 use Rattle.std.specs.Prelude.{nat_eq}
 use Rattle.std.proofs.lemmas.Bool.{eqb-true}
 use Rattle.affc_trace.specs.Law.{IsIn}
-use Rattle.affc_trace.proofs.EndedReads.{append_assoc}
 use Rattle.affc_nest.specs.declared.nest.Access.{Access}
 use Rattle.affc_nest.specs.declared.nest.Entry.{Entry}
 use Rattle.affc_nest.specs.declared.nest.Nest.{Nest}
@@ -29,15 +28,9 @@ is_empty_last (x ∷ xs) false h = refl
 
 -- ---- Each of a list
 
-pub three_ranges : (ps rs ss : List (ℤ × ℤ)) → (ps ++ rs) ++ ss ≡ ps ++ (rs ++ ss)
-three_ranges ps rs ss = append_assoc ps rs ss
-
 pub each_from : {A : Type 0} (P : A → Type 0) (xs : List A) → ((x : A) → IsIn x xs → P x) → Each P xs
 each_from P [] h = tt
 each_from P (x ∷ xs) h = (h x (inl refl), each_from P xs (λ y i. h y (inr i)))
-
-pub each_first : {A : Type 0} (P : A → Type 0) (xs rest : List A) (x : A) → xs ≡ x ∷ rest → Each P xs → P x
-each_first P xs rest x e h = (subst (Each P) e h).0
 
 -- ---- Entries and accesses
 

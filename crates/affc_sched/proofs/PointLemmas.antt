@@ -1,16 +1,17 @@
 -- A point of two instances: what spread rows and equal forms say there.
-use Rattle.std.proofs.Common.{◌≡◌, ℕ, suc, ◌+◌, ℤ, pos, ◌≤ℤ◌, List, [], ◌∷◌, ◌++◌, length, map, take, drop, refl, sym, ap, subst, ◌∙◌, arith}
+use Rattle.std.proofs.Common.{◌≡◌, ℕ, ◌+◌, ℤ, pos, ◌≤ℤ◌, List, [], ◌∷◌, ◌++◌, length, map, take, drop, refl, sym, ap, subst, ◌∙◌, arith}
 use Rattle.std.specs.List.{All}
 use Rattle.std.proofs.lemmas.List.{take-append-drop, length-take-le, length-drop, take_all}
 use Rattle.std.proofs.lemmas.List.Elements.{All-nil, All-cons, All-head, All-tail}
 use Rattle.affc_rows.specs.Forms.{Affine, value, values_of, HaveColumns}
+use Rattle.affc_rows.proofs.SizeLemmas.{spread_width}
 use Rattle.affc_system.specs.Systems.{Meets}
 use Rattle.affc_ast.specs.declared.tree.Rel.TheVariants.{Equal}
 use Rattle.affc_nest.specs.Domains.{compare_rows}
 use Rattle.affc_order.specs.Spread.{spread}
 use Rattle.affc_order.proofs.ColumnLemmas.{no_columns, more_columns, first_columns, later_columns, cons_is}
 use Rattle.affc_order.proofs.LexLemmas.{both_met, met_both, equal_met, met_equal}
-use Rattle.affc_order.proofs.SpreadLemmas.{spread_value, spread_width}
+use Rattle.affc_order.proofs.SpreadLemmas.{spread_value}
 use Rattle.affc_sched.specs.Questions.{equal_rows}
 
 -- ---- Spread forms
@@ -44,10 +45,6 @@ all_spread m k l n [] w = no_columns (((m + k) + l) + n)
 all_spread m k l n (f ∷ fs) w =
     more_columns (((m + k) + l) + n) (spread m k n f) (map (spread m k n) fs) (spread_width m k l n f (first_columns (m + l) f fs w)) (all_spread m k l n fs (later_columns (m + l) f fs w))
 
-pub length_map : (f : Affine → Affine) (fs : List Affine) → length (map f fs) ≡ length fs
-length_map f [] = refl
-length_map f (g ∷ fs) = ap suc (length_map f fs)
-
 -- ---- Equal forms
 
 module _ (zs : List ℤ) where
@@ -60,19 +57,13 @@ module _ (zs : List ℤ) where
       cons_is (value f zs) (value g zs) (values_of fs zs) (values_of gs zs) (met_equal zs f g (first_columns (length zs) f fs h) (first_columns (length zs) g gs k) b.0)
       (equal_values fs gs (later_columns (length zs) f fs h) (later_columns (length zs) g gs k) (omega (arith, e)) b.1)
 
-  heads : (x y : ℤ) (xs ys : List ℤ) → x ∷ xs ≡ y ∷ ys → x ≡ y
-  heads x y xs ys e = cc
-
-  tails : (x y : ℤ) (xs ys : List ℤ) → x ∷ xs ≡ y ∷ ys → xs ≡ ys
-  tails x y xs ys e = cc
-
   pub values_equal : (fs gs : List Affine) → HaveColumns (length zs) fs → HaveColumns (length zs) gs → values_of fs zs ≡ values_of gs zs → All (Meets zs) (equal_rows fs gs)
   values_equal [] gs h k e = All-nil (Meets zs)
   values_equal (f ∷ fs) [] h k e = All-nil (Meets zs)
   values_equal (f ∷ fs) (g ∷ gs) h k e =
       both_met zs (compare_rows Equal f g) (equal_rows fs gs)
-      (equal_met zs f g (first_columns (length zs) f fs h) (first_columns (length zs) g gs k) (heads (value f zs) (value g zs) (values_of fs zs) (values_of gs zs) e))
-      (values_equal fs gs (later_columns (length zs) f fs h) (later_columns (length zs) g gs k) (tails (value f zs) (value g zs) (values_of fs zs) (values_of gs zs) e))
+      (equal_met zs f g (first_columns (length zs) f fs h) (first_columns (length zs) g gs k) (cc))
+      (values_equal fs gs (later_columns (length zs) f fs h) (later_columns (length zs) g gs k) (cc))
 
 -- ---- The numbers of a point, by how many there are
 

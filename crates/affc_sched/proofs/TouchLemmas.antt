@@ -1,5 +1,6 @@
 -- Which element an access touches, and whether it stores it.
 use Rattle.std.proofs.Common.{◌≡◌, Bool, true, true≢false, List, [], ◌∷◌, ◌++◌, map, refl, sym, ap, subst, ◌∙◌, ◌⊎◌, inl, inr}
+use Rattle.std.proofs.lemmas.List.{same_from_push}
 use Rattle.affc_trace.specs.Law.{IsIn}
 use Rattle.affc_trace.proofs.LastStores.{map_append}
 use Rattle.affc_trace.proofs.Members.{in_map, to_map, to_first, to_second}
@@ -32,19 +33,6 @@ store_touch : (x : Access) (xs : List Access) → (y : Touch) × IsIn y (touches
 store_touch x [] = ((x, true), inl refl, refl)
 store_touch x (z ∷ xs) = let r = store_touch z xs in (r.0, inr r.1, r.2)
 
-last_or : {A : Type 0} → A → List A → A
-last_or d [] = d
-last_or d (x ∷ xs) = last_or x xs
-
-last_is : {A : Type 0} (d : A) (us : List A) (a : A) → last_or d (us ++ a ∷ []) ≡ a
-unfolding last_or
-last_is d [] a = refl
-last_is d (u ∷ us) a = last_is u us a
-
--- lists that are equal have equal last entries
-same_last : {A : Type 0} (us vs : List A) (a b : A) → us ++ a ∷ [] ≡ vs ++ b ∷ [] → a ≡ b
-same_last us vs a b e = sym (last_is a us a) ∙ ap (last_or a) e ∙ last_is a vs b
-
 not_empty : {X : Type 0} (xs : List X) (x : X) → [] ≡ xs ++ x ∷ [] → ⊥
 not_empty [] x e = cc
 not_empty (y ∷ xs) x e = cc
@@ -69,7 +57,7 @@ module _ {X : Type 0} (at : Access → X) (xs : List Access) (loads : List X) (s
   pub stored : (y : Touch) → IsIn y (touches xs) → y.1 ≡ true → at y.0 ≡ store
   stored y i s =
       let r = last_touch xs y i s in
-      same_last (map at r.0) loads (at y.0) store (sym (map_append at r.0 (y.0 ∷ [])) ∙ ap (map at) (sym r.1) ∙ are)
+      (same_from_push (map at r.0) loads (at y.0) store (sym (map_append at r.0 (y.0 ∷ [])) ∙ ap (map at) (sym r.1) ∙ are)).1
 
   -- each element that is loaded or stored is touched by an access
   pub touching : (x : X) → IsIn x loads ⊎ (x ≡ store) → (y : Touch) × IsIn y (touches xs) × (x ≡ at y.0)

@@ -1,6 +1,5 @@
 -- What the questions on a schedule decide.
 use Rattle.std.specs.Prelude.{◌≡◌, ◌↔◌, ℤ, List, ◌++◌, length, take, drop}
-use Rattle.std.specs.List.{All}
 use Rattle.affc_system.specs.Boxes.{InBox}
 use Rattle.affc_system.specs.Systems.{IsPoint, HasNoPoint}
 use Rattle.affc_ast.specs.declared.tree.Instance.{Instance}

@@ -6,21 +6,22 @@ ghost use Rattle.affc_trace.specs.Law.{IsIn};
 ghost use Rattle.affc_nest.specs.Asked.{IsNest};
 ghost use Rattle.affc_nest.specs.Domains.{with_rows};
 ghost use Rattle.affc_nest.specs.Sides.{IsSide};
+ghost use Rattle.affc_order.specs.Placed.{IsOrder};
 ghost use Rattle.affc_order.specs.Spread.{spread};
 ghost use Rattle.affc_order.specs.Systems.{pair_columns};
 ghost use Rattle.affc_sched.specs.Legality.{IsAsked};
 ghost use Rattle.affc_sched.specs.Questions.{equal_rows, context_count, pair_rows, pair_questions};
-ghost use Rattle.affc_sched.specs.Spreadable.{IsSpreadable, IsOrder};
+ghost use Rattle.affc_sched.specs.Spreadable.{IsSpreadable};
 
 use affc_ast::tree::Rel;
 use affc_nest::questions::add_rows;
 use affc_nest::rows::add_compare;
 use affc_nest::{Access, Entry, Nest};
-use affc_order::columns::spread;
 use affc_order::{source_before, target_after};
 use affc_rows::Form;
 use affc_system::System;
 use affc_trace::schedule::Schedule;
+use sqlite_items::Items;
 use std::alloc::{AllocError, Global};
 
 /// Adds rows, each with so many columns more between and behind.
@@ -32,18 +33,21 @@ pub fn add_spread_rows(
     between: u32,
     behind: u32,
 ) -> Result<(), AllocError>
-    requires fit { All (IsSpreadable params (between + behind) system.old.columns) rows.now }
-    requires room { length system.old.rows + length rows.now < 1024 }
+    requires fit { All (IsSpreadable params between behind system.old.columns) rows.now }
+    requires room { length system.old.rows + length rows.now ≤ 1024 }
     ensures { OnOk result (system.new ≡ with_rows system.old (map (spread params between behind) rows.now)) }
 {
-    for i in 0..rows.len() {
-        let made = spread(alloc, &rows[i], params, between, behind)?;
-        system.add(made)?;
+    match rows {
+        [] => Ok(()),
+        [row, rest @ ..] => {
+            system.add(row.spread(alloc, params, between, behind)?)?;
+            add_spread_rows(alloc, system, rest, params, between, behind)
+        }
     }
-    Ok(())
 }
 
 /// Adds the rows that forms of two statements are equal in turn.
+#[tactic(auto, using(crate::proofs::SystemLemmas::side_first, crate::proofs::SystemLemmas::side_second))]
 pub fn add_equal(
     alloc: Global,
     system: &mut System,
@@ -53,19 +57,24 @@ pub fn add_equal(
     outer: u32,
     inner: u32,
 ) -> Result<(), AllocError>
-    requires many { length fs.now ≡ length gs.now }
     requires firsts { All (IsSide (params + outer)) fs.now }
     requires seconds { All (IsSide (params + inner)) gs.now }
     requires columns { system.old.columns ≡ (params + outer) + inner }
-    requires room { length system.old.rows + 2 * length fs.now < 1024 }
+    requires room { length system.old.rows + 2 * length fs.now ≤ 1024 }
     ensures { OnOk result (system.new ≡ with_rows system.old (equal_rows (map (spread params 0 inner) fs.now) (map (spread params outer 0) gs.now))) }
 {
-    for i in 0..fs.len() {
-        let f = spread(alloc, &fs[i], params, 0, inner)?;
-        let g = spread(alloc, &gs[i], params, outer, 0)?;
-        add_compare(alloc, system, Rel::Equal, &f, &g)?;
+    match fs {
+        [] => Ok(()),
+        [f, later_fs @ ..] => match gs {
+            [] => Ok(()),
+            [g, later_gs @ ..] => {
+                let f = f.spread(alloc, params, 0, inner)?;
+                let g = g.spread(alloc, params, outer, 0)?;
+                add_compare(alloc, system, Rel::Equal, &f, &g)?;
+                add_equal(alloc, system, later_fs, later_gs, params, outer, inner)
+            }
+        },
     }
-    Ok(())
 }
 
 /// The rows of a domain behind those of the parameters and of the context.
@@ -109,21 +118,21 @@ fn both_domains(
 #[tactic(auto, using(crate::proofs::SystemLemmas::added_twice))]
 fn add_later(
     pair: &System,
-    earlier: &System,
-    later: &[System],
+    earlier: &[Form],
+    later: &[Items<Form>],
     out: &mut Vec<System>,
 ) -> Result<(), AllocError>
     requires pair { length pair.now.rows ≤ 900 }
     requires earlier { IsOrder pair.now.columns earlier.now }
     requires later { All (IsOrder pair.now.columns) later.now }
-    ensures { OnOk result (out.new.items ≡ out.old.items ++ map (λ u. with_rows pair.now (earlier.now.rows ++ u.rows)) later.now) }
+    ensures { OnOk result (out.new.items ≡ out.old.items ++ map (λ u. with_rows pair.now (earlier.now ++ u)) later.now) }
 {
     match later {
         [] => Ok(()),
         [order, rest @ ..] => {
             let mut system = pair.clone()?;
-            add_rows(&mut system, earlier.rows())?;
-            add_rows(&mut system, order.rows())?;
+            add_rows(&mut system, earlier)?;
+            add_rows(&mut system, order.as_slice())?;
             out.push(system)?;
             add_later(pair, earlier, rest, out)
         }
@@ -133,19 +142,19 @@ fn add_later(
 /// Adds the system with the rows of each of these and of each of those behind.
 fn add_orders(
     pair: &System,
-    earlier: &[System],
-    later: &[System],
+    earlier: &[Items<Form>],
+    later: &[Items<Form>],
     out: &mut Vec<System>,
 ) -> Result<(), AllocError>
     requires pair { length pair.now.rows ≤ 900 }
     requires earlier { All (IsOrder pair.now.columns) earlier.now }
     requires later { All (IsOrder pair.now.columns) later.now }
-    ensures { OnOk result (out.new.items ≡ out.old.items ++ flat_map (λ o. map (λ u. with_rows pair.now (o.rows ++ u.rows)) later.now) earlier.now) }
+    ensures { OnOk result (out.new.items ≡ out.old.items ++ flat_map (λ o. map (λ u. with_rows pair.now (o ++ u)) later.now) earlier.now) }
 {
     match earlier {
         [] => Ok(()),
         [order, rest @ ..] => {
-            add_later(pair, order, later, out)?;
+            add_later(pair, order.as_slice(), later, out)?;
             add_orders(pair, rest, later, out)
         }
     }
@@ -167,7 +176,6 @@ pub fn pair_rows(
     requires living { IsTrue b.now.alive }
     requires from { IsIn x.now a.now.accesses }
     requires to { IsIn y.now b.now.accesses }
-    requires many { length x.now.subs ≡ length y.now.subs }
     requires few { length x.now.subs ≤ 4 }
     ensures value { IfOk result (λ s. s ≡ record { columns = pair_columns nest.now a.now.part b.now.part; rows = pair_rows nest.now a.now b.now x.now y.now }) }
     ensures few { IfOk result (λ s. length s.rows ≤ 900) }
