@@ -28,7 +28,7 @@ use Rattle.affc_sched.specs.Questions.{context_count, equal_rows}
 use Rattle.affc_sched.proofs.LegalLemmas.{entry_at}
 use Rattle.affc_sched.proofs.PairLemmas.{stands_in, ordered_as}
 use Rattle.affc_quast.specs.Leaves.{Leaf, padded, negated}
-use Rattle.affc_flow.specs.Asked.{on, outside, apart, beside_system, before, after, earlier, between, reader_same, not_earlier, all_between, all_named, input_asked}
+use Rattle.affc_flow.specs.Asked.{on, outside, apart, beside_system, before, after, earlier, between, not_earlier, all_between, all_named, input_asked}
 use Rattle.affc_flow.specs.Laws.{NoneHasAPoint}
 use Rattle.affc_flow.specs.Questions as asks
 use Rattle.affc_flow.specs.Questions.{Writer, is_temporary, writers, poses}
@@ -44,6 +44,18 @@ of_rows F (s ∷ ss) = ap (λ xs. F s.rows ∷ xs) (of_rows F ss)
 pub of_both : {A : Type 0} (F : List Affine → List Affine → A) (bs ss : List Rows) → flat_map (λ o. map (F o) (map rows_in bs)) (map rows_in ss) ≡ flat_map (λ o. map (λ u. F o.rows u.rows) bs) ss
 of_both F bs [] = refl
 of_both F bs (s ∷ ss) = ap (λ xs. xs ++ flat_map (λ o. map (F o) (map rows_in bs)) (map rows_in ss)) (of_rows (F s.rows) bs) ∙ ap (λ xs. map (λ u. F s.rows u.rows) bs ++ xs) (of_both F bs ss)
+
+pub asked_of : (path there : Rows) (ranges box : List (ℤ × ℤ)) (ss : List Rows) (held made : List (List Affine)) (old new : List asks.Question) → path ≡ there → ranges ≡ box → held ≡ made → made ≡ map rows_in ss
+    → new ≡ old ++ map (λ u. on path ranges ([] ++ u)) held → new ≡ old ++ map (λ u. on there box u.rows) ss
+asked_of path there ranges box ss held made old new p r h m e =
+    e ∙ ap (λ us. old ++ map (λ u. on path ranges u) us) (h ∙ m) ∙ ap (λ qs. old ++ qs) (of_rows (on path ranges) ss) ∙ ap (λ q. old ++ map (λ u. on q ranges u.rows) ss) p ∙ ap (λ rs. old ++ map (λ u. on there rs u.rows) ss) r
+
+pub asked_both : (path there : Rows) (ranges box : List (ℤ × ℤ)) (bs ss : List Rows) (later behind sooner front : List (List Affine)) (old new : List asks.Question) → path ≡ there → ranges ≡ box → later ≡ behind → behind ≡ map rows_in ss → sooner ≡ front → front ≡ map rows_in bs
+    → new ≡ old ++ flat_map (λ o. map (λ u. on path ranges (o ++ u)) sooner) later → new ≡ old ++ flat_map (λ o. map (λ u. on there box (o.rows ++ u.rows)) bs) ss
+asked_both path there ranges box bs ss later behind sooner front old new p r l a d b e =
+    e ∙ ap (λ us. old ++ flat_map (λ o. map (λ u. on path ranges (o ++ u)) us) later) (d ∙ b) ∙ ap (λ os. old ++ flat_map (λ o. map (λ u. on path ranges (o ++ u)) (map rows_in bs)) os) (l ∙ a)
+    ∙ ap (λ qs. old ++ qs) (of_both (λ o u. on path ranges (o ++ u)) bs ss) ∙ ap (λ q. old ++ flat_map (λ o. map (λ u. on q ranges (o.rows ++ u.rows)) bs) ss) p
+    ∙ ap (λ rs. old ++ flat_map (λ o. map (λ u. on there rs (o.rows ++ u.rows)) bs) ss) r
 
 -- ---- Forms over more columns
 

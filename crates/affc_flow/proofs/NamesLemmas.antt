@@ -24,6 +24,7 @@ use Rattle.affc_trace.proofs.Members.{to_first, to_second, to_map, to_flat_map, 
 use Rattle.affc_trace.proofs.Runs.{length_append}
 use Rattle.affc_trace.proofs.Sources.{source_in_its_own_words}
 use Rattle.affc_domain.specs.Ranges.{number_ranges}
+use Rattle.affc_domain.proofs.Lists.{length_map}
 use Rattle.affc_nest.specs.declared.nest.Access.{Access}
 use Rattle.affc_nest.specs.declared.nest.Entry.{Entry}
 use Rattle.affc_nest.specs.declared.nest.Nest.{Nest}
@@ -41,7 +42,7 @@ use Rattle.affc_order.proofs.ColumnLemmas.{values_append, values_long, forms_app
 use Rattle.affc_order.proofs.LexLemmas.{both_met}
 use Rattle.affc_sched.specs.Questions.{equal_rows}
 use Rattle.affc_sched.proofs.LegalLemmas.{Stood, stood, box_append, entry_at, statement_at, rows_wide, subs_wide, runs, as_many_each}
-use Rattle.affc_sched.proofs.PointLemmas.{length_map, values_equal}
+use Rattle.affc_sched.proofs.PointLemmas.{values_equal}
 use Rattle.affc_quast.specs.Laws.{IsOver}
 use Rattle.affc_quast.specs.Leaves.{padded, negated, Leaf, leaves_of, path_ranges}
 use Rattle.affc_quast.specs.Limits.{Shaped}
