@@ -31,16 +31,6 @@ flat_one f (y ∷ xs) x = ap (λ ys. f y ++ ys) (flat_one f xs x) ∙ sym (appen
 
 -- ---- Choices
 
--- those of one factor
-pub one_factor : (us : List (List Affine)) → choices (us ∷ []) ≡ us
-one_factor [] = refl
-one_factor (u ∷ us) = ap (λ r. r ∷ choices (us ∷ [])) (append-nil u) ∙ ap (λ rs. u ∷ rs) (one_factor us)
-
--- a factor of one empty alternative behind the others adds nothing
-pub with_nothing : (factors : List (List (List Affine))) → choices (factors ++ ([] ∷ []) ∷ []) ≡ choices factors
-with_nothing [] = refl
-with_nothing (us ∷ factors) = ap (λ cs. flat_map (λ u. map (λ v. u ++ v) cs) us) (with_nothing factors)
-
 -- behind these rows those of an alternative and then of the others
 pub behind_both : (front u : List Affine) (cs : List (List Affine)) → map (λ c. front ++ c) (map (λ v. u ++ v) cs) ≡ map (λ c. (front ++ u) ++ c) cs
 behind_both front u cs = map_twice (λ c. front ++ c) (λ v. u ++ v) cs ∙ map_same (λ v. front ++ (u ++ v)) (λ v. (front ++ u) ++ v) (λ v. sym (append_assoc front u v)) cs

@@ -2,10 +2,12 @@
 use Rattle.std.proofs.Common.{◌≡◌, ℕ, ◌+◌, ◌-◌, ◌≤◌, pos, negsuc, List, [], ◌∷◌, ◌++◌, length, map, flat_map, drop, Some, refl, sym, ap, subst, ◌∙◌, inl, inr, arith}
 use Rattle.std.specs.Prelude.{slice_get}
 use Rattle.std.specs.List.{All}
-use Rattle.std.proofs.lemmas.List.Elements.{All-nil, All-cons, All-append, All-drop}
+use Rattle.std.proofs.lemmas.List.Elements.{All-nil, All-cons, All-append, All-drop, All-weaker}
 use Rattle.affc_rows.specs.Forms.{Affine, HaveColumns}
+use Rattle.affc_rows.proofs.SizeLemmas.{spread_width}
 use Rattle.affc_rows.proofs.ValueLemmas.{length-mixed}
 use Rattle.affc_system.specs.Pairs.{IsSubscript}
+use Rattle.affc_system.specs.Systems.{IsRow}
 use Rattle.affc_trace.specs.declared.schedule.Schedule.{Schedule}
 use Rattle.affc_trace.specs.declared.schedule.Schedule.TheVariants.{Source, Time}
 use Rattle.affc_trace.specs.Inverses.{columns_from}
@@ -16,28 +18,26 @@ use Rattle.affc_nest.specs.declared.nest.Nest.{Nest}
 use Rattle.affc_nest.specs.Parts.{statement_of}
 use Rattle.affc_nest.specs.Domains.{gap_row}
 use Rattle.affc_nest.proofs.QuestionLemmas.{stands_in}
+use Rattle.affc_order.specs.Placed.{IsPlaced}
 use Rattle.affc_order.specs.Posed.{Posed}
 use Rattle.affc_order.specs.Spread.{spread}
 use Rattle.affc_order.specs.Systems.{forms_or_none, target_order}
 use Rattle.affc_order.proofs.ColumnLemmas.{at_width}
-use Rattle.affc_order.proofs.SpreadLemmas.{spread_width}
 use Rattle.affc_sched.specs.Questions.{context_count}
 use Rattle.affc_sched.proofs.LegalLemmas.{entry_at}
-use Rattle.affc_sched.proofs.WidthLemmas.{domain_wide}
 use Rattle.affc_quast.specs.Leaves.{padded}
 use Rattle.affc_quast.specs.Sources.{loads_in}
 use Rattle.affc_quast.specs.Trees.{Tree}
 use Rattle.affc_quast.proofs.LeafLemmas.{padded_width}
 use Rattle.affc_life.specs.declared.draft.Draft.{Draft}
-use Rattle.affc_life.specs.Asked.{KeepLimits, IsLight, HasForms, AreSeated}
+use Rattle.affc_life.specs.Asked.{KeepLimits, AreSeated}
 use Rattle.affc_life.specs.Clashes.{Clash, clashes_of_entry, clash_columns, of_reader, of_writer, front_rows, reader_posed, named_posed, writer_posed, clashes}
 use Rattle.affc_life.specs.Drafts.{drafted, IsPaired}
 use Rattle.affc_life.proofs.LeafLemmas.{path_of}
-use Rattle.affc_life.proofs.LightLemmas.{all_of, all_map}
+use Rattle.affc_life.proofs.LightLemmas.{all_map}
 use Rattle.affc_life.proofs.MadeLemmas.{Made, made}
 use Rattle.affc_life.proofs.RowLemmas.{between_all, Compared, order_all}
-use Rattle.affc_life.proofs.SeatedLemmas.{leaf_first, path_first, params_first, leaf_narrow, reader_forms, writer_forms, named_forms}
-use Rattle.affc_life.proofs.SubscriptLemmas.{are_subscripts, all_padded_subscripts, all_spread_subscripts}
+use Rattle.affc_life.proofs.SeatedLemmas.{its_rows, reader_first, leaf_narrow, load_subscripts, store_subscripts, writer_whole, reader_forms, writer_forms, named_forms}
 
 module _ (nest : Nest) (n : IsNest nest) (trees : List Tree) (limits : KeepLimits nest trees) (schedule : Schedule) (array : ℕ) (c : Clash) (k : Made nest trees schedule array c) where
   abbrev pub columns : ℕ
@@ -54,14 +54,8 @@ module _ (nest : Nest) (n : IsNest nest) (trees : List Tree) (limits : KeepLimit
     writes = record { there = k.of_leaf.writer_in; alive = k.of_leaf.writer_alive };
   }
 
-  pub named_has : HasForms nest k.leaf.columns k.of_leaf.named.part k.of_leaf.named.iterators
+  pub named_has : IsPlaced nest k.leaf.columns k.of_leaf.named
   named_has = seated.path.named k.of_leaf.named k.of_leaf.names
-
-  pub load_among : IsIn k.load k.reader.accesses
-  load_among = stands_in k.reader.accesses k.number k.load k.load_there
-
-  pub store_among : IsIn k.of_leaf.store k.of_leaf.writer.accesses
-  store_among = stands_in k.of_leaf.writer.accesses (loads_in k.of_leaf.writer) k.of_leaf.store k.of_leaf.store_there
 
   -- what each row keeps
   pub rows_all : (P Q : Affine → Type 0) → ((f g : Affine) (j : ℕ) → Q f → Q g → j ≤ 1 → P (gap_row f g j)) → All P (front_rows nest k.reader k.leaf k.of_leaf.writer)
@@ -86,28 +80,19 @@ module _ (nest : Nest) (n : IsNest nest) (trees : List Tree) (limits : KeepLimit
   gap_wide : (f g : Affine) (j : ℕ) → Wide f → Wide g → j ≤ 1 → Wide (gap_row f g j)
   gap_wide f g j u v h = length-mixed (pos 1) g.coefs (negsuc 0) f.coefs (v ∙ sym u) ∙ v
 
-  compared_wide : (z : Schedule) (a : Posed) → HasForms nest columns a.part a.iterators → Compared Wide nest columns z a
-  compared_wide Source a h = all_of (IsLight columns) Wide (λ f l. l.width) a.iterators h.light
+  compared_wide : (z : Schedule) (a : Posed) → IsPlaced nest columns a → Compared Wide nest columns z a
+  compared_wide Source a h = All-weaker (IsRow columns) Wide (λ f r. r.width) a.iterators h.rows
   compared_wide (Time components maps) a h = at_width columns (columns_from columns 0 (length nest.params) ++ a.iterators) (forms_or_none (slice_get maps (statement_of nest a.part)))
 
   padded_wide : (rows : List Affine) → All (λ f. length f.coefs ≤ columns) rows → All Wide (map (padded columns) rows)
   padded_wide rows h = all_map (λ f. length f.coefs ≤ columns) Wide (padded columns) (λ f l. padded_width columns f l) rows h
 
-  whole : (length nest.params + (k.leaf.columns - length nest.params)) + length k.of_leaf.writer.loops ≡ columns
-  whole = sum (length nest.params) k.leaf.columns (length k.of_leaf.writer.loops) (params_first nest k.reader k.leaf k.of_leaf.writer seated)
-    where
-      sum : (m c l : ℕ) → m ≤ c → (m + (c - m)) + l ≡ c + l
-      sum m c l h = omega (arith, h)
-
   own_wide : All Wide (map (of_writer nest k.reader k.leaf k.of_leaf.writer) (drop (context_count nest) k.of_leaf.writer.domain.rows))
   own_wide =
       let w : Entry = k.of_leaf.writer in
-      let wide : HaveColumns (length nest.params + length w.loops) w.domain.rows =
-      subst (λ (x : Nest). HaveColumns (length x.params + length w.loops) w.domain.rows) (sym n.is)
-      (domain_wide n.program n.has w.part w (entry_at n.program n.has w (subst (λ (x : Nest). IsIn w x.entries) n.is k.of_leaf.writer_in)) k.of_leaf.writer_alive) in
       all_map (λ f. length f.coefs ≡ length nest.params + length w.loops) Wide (spread (length nest.params) (k.leaf.columns - length nest.params) 0)
-      (λ f l. spread_width (length nest.params) (k.leaf.columns - length nest.params) (length w.loops) 0 f l ∙ none ((length nest.params + (k.leaf.columns - length nest.params)) + length w.loops) ∙ whole)
-      (drop (context_count nest) w.domain.rows) (All-drop (λ f. length f.coefs ≡ length nest.params + length w.loops) (context_count nest) w.domain.rows wide)
+      (λ f l. spread_width (length nest.params) (k.leaf.columns - length nest.params) (length w.loops) 0 f l ∙ none ((length nest.params + (k.leaf.columns - length nest.params)) + length w.loops) ∙ writer_whole nest k.reader k.leaf w seated)
+      (drop (context_count nest) w.domain.rows) (All-drop (λ f. length f.coefs ≡ length nest.params + length w.loops) (context_count nest) w.domain.rows (its_rows nest n w seated.writes))
     where
       none : (x : ℕ) → x + 0 ≡ x
       none x = omega arith
@@ -115,16 +100,13 @@ module _ (nest : Nest) (n : IsNest nest) (trees : List Tree) (limits : KeepLimit
   path_wide : All (λ f. length f.coefs ≤ columns) (k.reader.domain.rows ++ k.leaf.rows)
   path_wide =
       let r : Entry = k.reader in
-      let wide : HaveColumns (length nest.params + length r.loops) r.domain.rows =
-      subst (λ (x : Nest). HaveColumns (length x.params + length r.loops) r.domain.rows) (sym n.is)
-      (domain_wide n.program n.has r.part r (entry_at n.program n.has r (subst (λ (x : Nest). IsIn r x.entries) n.is k.reader_in)) k.alive) in
       All-append (λ f. length f.coefs ≤ columns) r.domain.rows k.leaf.rows
-      (all_of (λ f. length f.coefs ≡ length nest.params + length r.loops) (λ f. length f.coefs ≤ columns)
-      (λ f l. through (length f.coefs) (length nest.params + length r.loops) k.leaf.columns columns l (path_first nest k.reader k.leaf k.of_leaf.writer seated) (leaf_first nest k.reader k.leaf k.of_leaf.writer seated)) r.domain.rows wide)
+      (All-weaker (λ f. length f.coefs ≡ length nest.params + length r.loops) (λ f. length f.coefs ≤ columns)
+      (λ f l. within (length f.coefs) (length nest.params + length r.loops) columns l (reader_first nest r k.leaf k.of_leaf.writer seated)) r.domain.rows (its_rows nest n r seated.reads))
       (leaf_narrow nest k.reader k.leaf k.of_leaf.writer seated)
     where
-      through : (a b c d : ℕ) → a ≡ b → b ≤ c → c ≤ d → a ≤ d
-      through a b c d e h g = omega (arith, e, h, g)
+      within : (a b c : ℕ) → a ≡ b → b ≤ c → a ≤ c
+      within a b c e h = omega (arith, e, h)
 
   front_wide : All Wide (front_rows nest k.reader k.leaf k.of_leaf.writer)
   front_wide =
@@ -132,18 +114,10 @@ module _ (nest : Nest) (n : IsNest nest) (trees : List Tree) (limits : KeepLimit
       (padded_wide (k.reader.domain.rows ++ k.leaf.rows) path_wide) own_wide
 
   pub x_subscripts : All (IsSubscript columns) (map (of_reader nest k.reader k.leaf k.of_leaf.writer) k.load.subs)
-  x_subscripts =
-      all_padded_subscripts (length nest.params + length k.reader.loops) columns k.load.subs
-      (through (length nest.params + length k.reader.loops) k.leaf.columns columns (path_first nest k.reader k.leaf k.of_leaf.writer seated) (leaf_first nest k.reader k.leaf k.of_leaf.writer seated))
-      (are_subscripts nest n k.reader k.reader_in k.load load_among)
-    where
-      through : (a b c : ℕ) → a ≤ b → b ≤ c → a ≤ c
-      through a b c h g = omega (arith, h, g)
+  x_subscripts = load_subscripts nest k.reader k.leaf k.of_leaf.writer seated k.load (stands_in k.reader.accesses k.number k.load k.load_there)
 
   pub y_subscripts : All (IsSubscript columns) (map (of_writer nest k.reader k.leaf k.of_leaf.writer) k.of_leaf.store.subs)
-  y_subscripts =
-      all_spread_subscripts (length nest.params) (k.leaf.columns - length nest.params) (length k.of_leaf.writer.loops) columns k.of_leaf.store.subs whole
-      (are_subscripts nest n k.of_leaf.writer k.of_leaf.writer_in k.of_leaf.store store_among)
+  y_subscripts = store_subscripts nest k.reader k.leaf k.of_leaf.writer seated k.of_leaf.store (stands_in k.of_leaf.writer.accesses (loads_in k.of_leaf.writer) k.of_leaf.store k.of_leaf.store_there)
 
   pub system_wide : HaveColumns c.system.columns c.system.rows
   system_wide =
@@ -152,8 +126,8 @@ module _ (nest : Nest) (n : IsNest nest) (trees : List Tree) (limits : KeepLimit
       (compared_wide schedule (named_posed nest k.reader k.leaf k.of_leaf.writer k.of_leaf.named) (named_forms nest k.reader k.leaf k.of_leaf.writer seated k.of_leaf.named named_has))
       (compared_wide schedule (writer_posed nest k.reader k.leaf k.of_leaf.writer) (writer_forms nest k.reader k.leaf k.of_leaf.writer seated))
       (compared_wide schedule (reader_posed nest k.reader k.leaf k.of_leaf.writer) (reader_forms nest k.reader k.leaf k.of_leaf.writer seated))
-      (all_of (IsSubscript columns) Wide (λ f s. s.width) (map (of_reader nest k.reader k.leaf k.of_leaf.writer) k.load.subs) x_subscripts)
-      (all_of (IsSubscript columns) Wide (λ f s. s.width) (map (of_writer nest k.reader k.leaf k.of_leaf.writer) k.of_leaf.store.subs) y_subscripts))
+      (All-weaker (IsSubscript columns) Wide (λ f s. s.width) (map (of_reader nest k.reader k.leaf k.of_leaf.writer) k.load.subs) x_subscripts)
+      (All-weaker (IsSubscript columns) Wide (λ f s. s.width) (map (of_writer nest k.reader k.leaf k.of_leaf.writer) k.of_leaf.store.subs) y_subscripts))
 
   pub system_first : All (IsSubscript c.system.columns) c.x
   system_first = subst (λ (d : Clash). All (IsSubscript d.system.columns) d.x) (sym k.of_leaf.is) x_subscripts

@@ -1,14 +1,17 @@
 -- The leaves of trees that the search gives: how many rows and divisions they have, and their entries.
-use Rattle.std.proofs.Common.{◌≡◌, ℕ, zero, suc, ◌+◌, ◌^◌, ◌≤◌, ℤ, pos, ◌≤ℤ◌, [], ◌∷◌, length, replicate, Some, sym, subst, inl, inr, arith}
+use Rattle.std.proofs.Common.{◌≡◌, ℕ, suc, ◌+◌, ◌^◌, ◌≤◌, ℤ, pos, ◌≤ℤ◌, [], ◌∷◌, length, replicate, Some, refl, sym, ap, subst, ◌∙◌, inl, inr, arith}
 use Rattle.std.specs.Prelude.{max, unsigned_abs}
 use Rattle.std.specs.List.{All}
 use Rattle.std.proofs.lemmas.Int.{ints}
 use Rattle.std.proofs.lemmas.List.Elements.{All-nil, All-cons, All-append}
 use Rattle.affc_rows.specs.Forms.{Affine}
+use Rattle.affc_rows.proofs.SizeLemmas.{number_within, widened_within}
 use Rattle.affc_system.specs.Systems.{FitsRow}
+use Rattle.affc_system.proofs.SystemLemmas.{row_of}
 use Rattle.affc_trace.specs.Law.{IsIn}
 use Rattle.affc_trace.proofs.Members.{in_map}
 use Rattle.affc_trace.proofs.Once.{in_append}
+use Rattle.affc_trace.proofs.Runs.{length_append}
 use Rattle.affc_nest.specs.Domains.{number_form, gap_row}
 use Rattle.affc_nest.specs.Questions.{widened}
 use Rattle.affc_order.specs.Posed.{Posed}
@@ -16,39 +19,34 @@ use Rattle.affc_nest.specs.Divisions.{multiple, division_rows}
 use Rattle.affc_quast.specs.Leaves.{Leaf, negated, behind, divided, leaves_of}
 use Rattle.affc_quast.specs.Limits.{Shaped, FitsForm, FitsTree, narrow}
 use Rattle.affc_quast.specs.Trees.{Tree, Test, Div, Source, Input, depth_of, divisions_of}
-use Rattle.affc_life.proofs.LightLemmas.{all_of}
+use Rattle.affc_life.proofs.LightLemmas.{form_within}
 use Rattle.affc_life.proofs.MildLemmas.{IsMild, gap_mild, narrow_mild}
 
 -- ---- Rows
 
 form_fits : (f : Affine) → FitsForm narrow f → FitsRow f
-form_fits f h = record { coefs_fit = all_of (λ c. unsigned_abs c ≤ 2 ^ 20) (λ c. unsigned_abs c ≤ 2 ^ 40) (λ c l. coef (unsigned_abs c) l) f.coefs h.coefs_fit; constant_fits = constant (unsigned_abs f.constant) h.constant_fits }
-  where
-    coef : (n : ℕ) → n ≤ 2 ^ 20 → n ≤ 2 ^ 40
-    coef n h = omega (arith, h)
+form_fits f h = (row_of (length f.coefs) (2 ^ 20) (2 ^ 40) f (omega arith) (omega arith) (form_within narrow (length f.coefs) f refl h)).fits
 
-    constant : (n : ℕ) → n ≤ 2 ^ 40 → n ≤ 2 ^ 60
-    constant n h = omega (arith, h)
+form_mild : (n : ℕ) (f : Affine) → length f.coefs ≡ n → FitsForm narrow f → IsMild n f
+form_mild n f w h = narrow_mild n f (form_within narrow n f w h)
 
-zeros_mild : (n : ℕ) → All (λ c. unsigned_abs c ≤ 2 ^ 39) (replicate n (pos 0))
-zeros_mild zero = All-nil (λ c. unsigned_abs c ≤ 2 ^ 39)
-zeros_mild (suc n) = All-cons (λ c. unsigned_abs c ≤ 2 ^ 39) (pos 0) (replicate n (pos 0)) (omega arith) (zeros_mild n)
-
-zero_mild : (n : ℕ) → IsMild (number_form n (pos 0))
-zero_mild n = record { coefs_fit = zeros_mild n; constant_fits = omega arith }
-
-widened_mild : (f : Affine) → IsMild f → IsMild (widened 1 f)
-widened_mild f h = record { coefs_fit = All-append (λ c. unsigned_abs c ≤ 2 ^ 39) f.coefs (replicate 1 (pos 0)) h.coefs_fit (zeros_mild 1); constant_fits = h.constant_fits }
+negated_fits : (f : Affine) → FitsForm narrow f → FitsRow (negated f)
+negated_fits f h =
+    let n = length f.coefs in
+    gap_mild n f (number_form n (pos 0)) 1 (form_mild n f refl h) (number_within n (2 ^ 39) (2 ^ 58) (pos 0) (omega arith)) (omega arith)
 
 -- a divisor
 near : (z : ℤ) → pos 1 ≤ℤ z → z ≤ℤ pos (2 ^ 20) → unsigned_abs z ≤ 2 ^ 20
 near z h g = omega (arith, ints, h, g)
 
-multiple_mild : (n : ℕ) (by constant : ℤ) → unsigned_abs by ≤ 2 ^ 20 → unsigned_abs constant ≤ 2 ^ 20 → IsMild (multiple n by constant)
-multiple_mild n by constant h g = record {
-  coefs_fit = All-append (λ c. unsigned_abs c ≤ 2 ^ 39) (replicate n (pos 0)) (by ∷ []) (zeros_mild n) (All-cons (λ c. unsigned_abs c ≤ 2 ^ 39) by [] (coef (unsigned_abs by) h) (All-nil (λ c. unsigned_abs c ≤ 2 ^ 39)));
-  constant_fits = most (unsigned_abs constant) g;
-}
+multiple_mild : (n : ℕ) (by constant : ℤ) → unsigned_abs by ≤ 2 ^ 20 → unsigned_abs constant ≤ 2 ^ 20 → IsMild (n + 1) (multiple n by constant)
+multiple_mild n by constant h g =
+    let z = number_within n (2 ^ 39) (2 ^ 58) (pos 0) (omega arith) in
+    record {
+      width = length_append (replicate n (pos 0)) (by ∷ []) ∙ ap (λ k. k + 1) z.width;
+      coefs_fit = All-append (λ c. unsigned_abs c ≤ 2 ^ 39) (replicate n (pos 0)) (by ∷ []) z.coefs_fit (All-cons (λ c. unsigned_abs c ≤ 2 ^ 39) by [] (coef (unsigned_abs by) h) (All-nil (λ c. unsigned_abs c ≤ 2 ^ 39)));
+      constant_fits = most (unsigned_abs constant) g;
+    }
   where
     coef : (n : ℕ) → n ≤ 2 ^ 20 → n ≤ 2 ^ 39
     coef n h = omega (arith, h)
@@ -56,11 +54,11 @@ multiple_mild n by constant h g = record {
     most : (n : ℕ) → n ≤ 2 ^ 20 → n ≤ 2 ^ 58
     most n h = omega (arith, h)
 
-division_fits : (n : ℕ) (f : Affine) (by : ℤ) → FitsForm narrow f → unsigned_abs by ≤ 2 ^ 20 → All FitsRow (division_rows n f by)
-division_fits n f by h g =
-    let m = widened_mild f (narrow_mild f h) in
-    All-cons FitsRow (gap_row (multiple n by (pos 0)) (widened 1 f) 0) (gap_row (widened 1 f) (multiple n by by) 1 ∷ []) (gap_mild (multiple n by (pos 0)) (widened 1 f) 0 (multiple_mild n by (pos 0) g (omega arith)) m (omega arith))
-    (All-cons FitsRow (gap_row (widened 1 f) (multiple n by by) 1) [] (gap_mild (widened 1 f) (multiple n by by) 1 m (multiple_mild n by by g g) (omega arith)) (All-nil FitsRow))
+division_fits : (n : ℕ) (f : Affine) (by : ℤ) → length f.coefs ≡ n → FitsForm narrow f → unsigned_abs by ≤ 2 ^ 20 → All FitsRow (division_rows n f by)
+division_fits n f by w h g =
+    let m = widened_within n 1 (2 ^ 39) (2 ^ 58) f (form_mild n f w h) in
+    All-cons FitsRow (gap_row (multiple n by (pos 0)) (widened 1 f) 0) (gap_row (widened 1 f) (multiple n by by) 1 ∷ []) (gap_mild (n + 1) (multiple n by (pos 0)) (widened 1 f) 0 (multiple_mild n by (pos 0) g (omega arith)) m (omega arith))
+    (All-cons FitsRow (gap_row (widened 1 f) (multiple n by by) 1) [] (gap_mild (n + 1) (widened 1 f) (multiple n by by) 1 m (multiple_mild n by by g g) (omega arith)) (All-nil FitsRow))
 
 -- ---- Leaves
 
@@ -86,10 +84,10 @@ behind_small d e n m row l fits h g s = record {
     through k i = omega (arith, g, i)
 
 -- behind a division
-divided_small : (d n columns : ℕ) (f : Affine) (by : ℤ) (l : Leaf) → FitsForm narrow f → unsigned_abs by ≤ 2 ^ 20 → IsSmall d n l → IsSmall (suc d) (suc n) (divided columns f by l)
-divided_small d n columns f by l fits h s = record {
+divided_small : (d n columns : ℕ) (f : Affine) (by : ℤ) (l : Leaf) → length f.coefs ≡ columns → FitsForm narrow f → unsigned_abs by ≤ 2 ^ 20 → IsSmall d n l → IsSmall (suc d) (suc n) (divided columns f by l)
+divided_small d n columns f by l width fits h s = record {
   rows_few = sum (length l.rows) s.rows_few;
-  rows_fit = All-append FitsRow (division_rows columns f by) l.rows (division_fits columns f by fits h) s.rows_fit;
+  rows_fit = All-append FitsRow (division_rows columns f by) l.rows (division_fits columns f by width fits h) s.rows_fit;
   divisions_few = one (length l.divisions) s.divisions_few;
   named = s.named;
 }
@@ -120,13 +118,13 @@ leaf_small columns (Test f on off) h g l i = elim (in_append _ _ l i) [
       (leaf_small columns on h.1 g.1 r.0 r.1)))
   | inr j ↦ (let r = in_map (behind (negated f ∷ [])) (leaves_of columns off) l j in
       subst (IsSmall (depth_of (Test f on off)) (divisions_of (Test f on off))) (sym r.2)
-      (behind_small (depth_of off) (depth_of (Test f on off)) (divisions_of off) (divisions_of (Test f on off)) (negated f) r.0 (gap_mild f (number_form (length f.coefs) (pos 0)) 1 (narrow_mild f g.0) (zero_mild (length f.coefs)) (omega arith))
+      (behind_small (depth_of off) (depth_of (Test f on off)) (divisions_of off) (divisions_of (Test f on off)) (negated f) r.0 (negated_fits f g.0)
       (second_deeper (depth_of on) (depth_of off)) (right (divisions_of on) (divisions_of off)) (leaf_small columns off h.2 g.2 r.0 r.1)))
 ]
 leaf_small columns (Div f by rest) h g l i =
     let r = in_map (divided columns f by) (leaves_of (suc columns) rest) l i in
     subst (IsSmall (suc (depth_of rest)) (suc (divisions_of rest))) (sym r.2)
-    (divided_small (depth_of rest) (divisions_of rest) columns f by r.0 g.0 (near by h.1 g.1) (leaf_small (suc columns) rest h.2 g.2 r.0 r.1))
+    (divided_small (depth_of rest) (divisions_of rest) columns f by r.0 h.0 g.0 (near by h.1 g.1) (leaf_small (suc columns) rest h.2 g.2 r.0 r.1))
 leaf_small columns (Source s forms) h g l (inl e) =
     subst (IsSmall 0 0) (sym e) (record {
       rows_few = omega arith;

@@ -1,16 +1,17 @@
 -- The trees that the search finds keep the limits.
-use Rattle.std.proofs.Common.{ℕ, ◌+◌, ◌-◌, ◌^◌, ◌≤◌, ◌<◌, ℤ, pos, ◌≤ℤ◌, length, sym, subst, ◌∙◌, arith}
-use Rattle.std.specs.Prelude.{unsigned_abs}
+use Rattle.std.proofs.Common.{ℕ, ◌+◌, ◌-◌, ◌^◌, ◌≤◌, ◌<◌, ℤ, pos, ◌≤ℤ◌, length, refl, sym, subst, ◌∙◌, arith}
 use Rattle.std.proofs.lemmas.Int.{ints}
+use Rattle.std.proofs.lemmas.List.Elements.{All-weaker}
 use Rattle.std.proofs.lemmas.Option.{same_Some}
 use Rattle.affc_rows.specs.Forms.{Affine}
+use Rattle.affc_rows.proofs.SizeLemmas.{within_raised}
 use Rattle.affc_nest.specs.declared.nest.Nest.{Nest}
 use Rattle.affc_nest.proofs.QuestionLemmas.{there_is}
 use Rattle.affc_quast.specs.Limits.{FitsForm, FitsTree, NamesStores, narrow, widest}
 use Rattle.affc_quast.specs.Trees.{Tree, Test, Div, Source, Input, depth_of}
 use Rattle.affc_life.specs.Asked.{NamesParts, KeepsLimits}
 use Rattle.affc_life.specs.Laws.{FoundTreesKeepLimits}
-use Rattle.affc_life.proofs.LightLemmas.{all_of}
+use Rattle.affc_life.proofs.LightLemmas.{form_within}
 
 names : (nest : Nest) (array : ℕ) (tree : Tree) → NamesStores nest array tree → NamesParts nest tree
 names nest array (Test f on off) h = (names nest array on h.0, names nest array off h.1)
@@ -19,13 +20,9 @@ names nest array (Source s forms) h = record { entry = h.entry; there = h.there;
 names nest array Input h = tt
 
 form_fits : (f : Affine) → FitsForm narrow f → FitsForm widest f
-form_fits f h = record { coefs_fit = all_of (λ c. unsigned_abs c ≤ 2 ^ 20) (λ c. unsigned_abs c ≤ 2 ^ 24) (λ c l. coef (unsigned_abs c) l) f.coefs h.coefs_fit; constant_fits = constant (unsigned_abs f.constant) h.constant_fits }
-  where
-    coef : (n : ℕ) → n ≤ 2 ^ 20 → n ≤ 2 ^ 24
-    coef n h = omega (arith, h)
-
-    constant : (n : ℕ) → n ≤ 2 ^ 40 → n ≤ 2 ^ 50
-    constant n h = omega (arith, h)
+form_fits f h =
+    let w = within_raised (length f.coefs) (2 ^ 20) (2 ^ 40) (2 ^ 24) (2 ^ 50) f (omega arith) (omega arith) (form_within narrow (length f.coefs) f refl h) in
+    record { coefs_fit = w.coefs_fit; constant_fits = w.constant_fits }
 
 tree_fits : (tree : Tree) → FitsTree narrow tree → FitsTree widest tree
 tree_fits (Test f on off) h = (form_fits f h.0, tree_fits on h.1, tree_fits off h.2)
@@ -33,7 +30,7 @@ tree_fits (Div f by rest) h = (form_fits f h.0, less by h.1, tree_fits rest h.2)
   where
     less : (z : ℤ) → z ≤ℤ pos (2 ^ 20) → z ≤ℤ pos (2 ^ 24)
     less z h = omega (arith, ints, h)
-tree_fits (Source s forms) h = all_of (FitsForm narrow) (FitsForm widest) form_fits forms h
+tree_fits (Source s forms) h = All-weaker (FitsForm narrow) (FitsForm widest) form_fits forms h
 tree_fits Input h = tt
 
 pub found_trees_keep_limits : FoundTreesKeepLimits

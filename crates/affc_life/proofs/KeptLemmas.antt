@@ -3,7 +3,6 @@ use Rattle.std.proofs.Common.{◌≡◌, ◌≢◌, ℕ, zero, suc, ◌<◌, ◌
 use Rattle.std.specs.Prelude.{◌↔◌}
 use Rattle.std.specs.List.{All}
 use Rattle.std.proofs.lemmas.List.Elements.{All-nil, All-cons, All-head, All-tail, recursion_from_All}
-use Rattle.std.proofs.lemmas.List.{map-append}
 use Rattle.affc_rows.specs.Forms.{Affine, HaveColumns}
 use Rattle.affc_system.specs.Pairs.{IsSubscript}
 use Rattle.affc_system.specs.Systems.{Rows, FitsRow, IsRow}
@@ -22,7 +21,8 @@ use Rattle.affc_life.specs.Drafts.{drafted, draft_by, IsPaired}
 use Rattle.affc_life.specs.Products.{systems_in}
 use Rattle.affc_life.specs.Sizes.{IsLarge, AnyLarge}
 use Rattle.affc_products.proofs.ChoiceLemmas.{Chosen, within_all, factors_all}
-use Rattle.affc_life.proofs.ChoiceLemmas.{with_nothing, map_twice, map_same, flat_one}
+use Rattle.affc_products.proofs.ProductLemmas.{choices_without_last}
+use Rattle.affc_life.proofs.ChoiceLemmas.{map_twice, map_same, flat_one}
 use Rattle.affc_life.proofs.LimitLemmas.{all_first, all_second, larger, none_in_parts}
 
 -- ---- Choices
@@ -60,11 +60,11 @@ either (suc n) (suc m) = elim (either n m) [ inl h ↦ inl (omega (arith, h)) | 
 -- ---- Limits
 
 -- rows over these columns that aren't within the limits
-rows_fit : (columns : ℕ) (rows : List Affine) → HaveColumns columns rows → All FitsRow rows → All (IsRow columns) rows
-rows_fit columns [] w f = All-nil (IsRow columns)
-rows_fit columns (r ∷ rows) w f =
+pub fitting_rows : (columns : ℕ) (rows : List Affine) → HaveColumns columns rows → All FitsRow rows → All (IsRow columns) rows
+fitting_rows columns [] w f = All-nil (IsRow columns)
+fitting_rows columns (r ∷ rows) w f =
     All-cons (IsRow columns) r rows (record { width = All-head (λ g. length g.coefs ≡ columns) r rows w; fits = All-head FitsRow r rows f })
-    (rows_fit columns rows (All-tail (λ g. length g.coefs ≡ columns) r rows w) (All-tail FitsRow r rows f))
+    (fitting_rows columns rows (All-tail (λ g. length g.coefs ≡ columns) r rows w) (All-tail FitsRow r rows f))
 
 row_fits : (columns : ℕ) (rows : List Affine) → All (IsRow columns) rows → All FitsRow rows
 row_fits columns [] h = All-nil FitsRow
@@ -75,7 +75,7 @@ not_within s w n = elim (either s.columns 128) [
   | inr h ↦ inl h
   | inl h ↦ elim (either (length s.rows) 1024) [
     | inr g ↦ inr (inl g)
-    | inl g ↦ inr (inr (λ all. n (record { columns = h; few = g; rows = rows_fit s.columns s.rows w all })))
+    | inl g ↦ inr (inr (λ all. n (record { columns = h; few = g; rows = fitting_rows s.columns s.rows w all })))
   ]
 ]
 
@@ -97,7 +97,7 @@ module _ (d : Draft) where
   -- the questions of its product
   questions_are : (tails : List (List Affine)) → tails ≡ [] ∷ [] → product d.columns d.front.items (d.factors ++ tails ∷ []) ≡ product d.columns d.front.items d.factors
   questions_are tails e =
-      ap (λ ts. product d.columns d.front.items (d.factors ++ ts ∷ [])) e ∙ ap (map (λ rows. record { columns = d.columns; rows = d.front.items ++ rows })) (with_nothing d.factors)
+      ap (λ ts. product d.columns d.front.items (d.factors ++ ts ∷ [])) e ∙ ap (map (λ rows. record { columns = d.columns; rows = d.front.items ++ rows })) (choices_without_last d.factors)
 
   pub all_kept : (tails : List (List Affine)) → tails ≡ [] ∷ [] → All IsWithin (product d.columns d.front.items (d.factors ++ tails ∷ [])) → All IsWithin (product d.columns d.front.items d.factors)
   all_kept tails e h = subst (All IsWithin) (questions_are tails e) h
@@ -169,12 +169,6 @@ alternatives_there ((u ∷ us) ∷ fs) n = (omega arith, alternatives_there fs (
 
 pub factors_fit : (columns : ℕ) (front : List Affine) (fs : List (List (List Affine))) → choices fs ≢ [] → All IsWithin (product columns front fs) → All (All (All (IsRow columns))) fs
 factors_fit columns front fs n h = factors_all columns fs (within_all columns front fs (alternatives_there fs n) (recursion_from_All IsWithin (product columns front fs) h)).factors_fit
-
--- one product more
-pub product_more : (old new : List ClashProduct) (p : ClashProduct) (systems : List Clash) → new ≡ old ++ p ∷ [] → map clash_of (systems_in p) ≡ systems
-    → map clash_of (flat_map systems_in new) ≡ map clash_of (flat_map systems_in old) ++ systems
-product_more old new p systems e h =
-    ap (λ ps. map clash_of (flat_map systems_in ps)) e ∙ ap (map clash_of) (flat_one systems_in old p) ∙ map-append clash_of (flat_map systems_in old) (systems_in p) ∙ ap (λ cs. map clash_of (flat_map systems_in old) ++ cs) h
 
 -- ---- Entries
 

@@ -1,22 +1,23 @@
 -- The leaves of a tree within the limits.
-use Rattle.std.proofs.Common.{◌≡◌, ℕ, suc, ◌+◌, ◌≤◌, List, [], ◌∷◌, length, Some, refl, sym, subst, inl, inr, arith}
+use Rattle.std.proofs.Common.{◌≡◌, ℕ, suc, ◌+◌, ◌^◌, ◌≤◌, List, [], ◌∷◌, length, Some, refl, sym, ap, subst, ◌∙◌, inl, inr, arith}
 use Rattle.std.specs.Prelude.{max}
 use Rattle.std.specs.List.{All}
-use Rattle.std.proofs.lemmas.List.Elements.{All-nil, All-cons, All-head, All-tail}
-use Rattle.affc_rows.specs.Forms.{Affine, HaveColumns}
+use Rattle.std.proofs.lemmas.Option.{slice_get_within}
+use Rattle.affc_system.proofs.SystemLemmas.{rows_of}
 use Rattle.affc_trace.specs.Law.{IsIn}
 use Rattle.affc_trace.proofs.Members.{in_map}
 use Rattle.affc_trace.proofs.Once.{in_append}
 use Rattle.affc_nest.specs.declared.nest.Nest.{Nest}
 use Rattle.affc_order.specs.Posed.{Posed}
-use Rattle.affc_order.proofs.ColumnLemmas.{first_columns, later_columns}
+use Rattle.affc_order.specs.Systems.{loops_or_none}
 use Rattle.affc_sched.specs.Touched.{Each}
 use Rattle.affc_quast.specs.Laws.{IsOver}
 use Rattle.affc_quast.specs.Leaves.{Leaf, negated, behind, divided, leaves_of}
 use Rattle.affc_quast.specs.Limits.{Shaped, FitsForm, FitsTree, widest}
 use Rattle.affc_quast.specs.Trees.{Tree, Test, Div, Source, Input, depth_of, divisions_of}
 use Rattle.affc_quast.proofs.RangeLemmas.{leaves_are_over}
-use Rattle.affc_life.specs.Asked.{IsNamed, NamesParts, KeepsLimits, IsLight, AreDivisions, IsPath}
+use Rattle.affc_life.specs.Asked.{IsNamed, NamesParts, KeepsLimits, AreDivisions, IsPath}
+use Rattle.affc_life.proofs.LightLemmas.{form_within, forms_within}
 
 -- what a leaf has of its tree's limits
 record OfTree (nest : Nest) (columns : ℕ) (tree : Tree) (l : Leaf) : Type 0 where
@@ -40,7 +41,7 @@ of_tree nest columns (Test f on off) h n g l i = elim (in_append _ _ l i) [
 of_tree nest columns (Div f by rest) h n g l i =
     let r = in_map (divided columns f by) (leaves_of (suc columns) rest) l i in
     let o = of_tree nest (suc columns) rest h.2 n g.2 r.0 r.1 in
-    subst (OfTree nest columns (Div f by rest)) (sym r.2) (record { few = one (length r.0.divisions) (depth_of rest) o.few; divisions = (record { width = h.0; fits = g.0 }, h.1, o.divisions); named = o.named })
+    subst (OfTree nest columns (Div f by rest)) (sym r.2) (record { few = one (length r.0.divisions) (depth_of rest) o.few; divisions = (form_within widest columns f h.0 g.0, h.1, o.divisions); named = o.named })
   where
     one : (a b : ℕ) → a ≤ b → suc a ≤ suc b
     one a b h = omega (arith, h)
@@ -57,11 +58,6 @@ of_tree nest columns (Source s forms) h n g l (inr i) = absurd i
 of_tree nest columns Input h n g l (inl e) = subst (OfTree nest columns Input) (sym e) (record { few = omega arith; divisions = tt; named = λ a q. absurd (cc) })
 of_tree nest columns Input h n g l (inr i) = absurd i
 
-lights : (n : ℕ) (fs : List Affine) → HaveColumns n fs → All (FitsForm widest) fs → All (IsLight n) fs
-lights n [] w g = All-nil (IsLight n)
-lights n (f ∷ fs) w g =
-    All-cons (IsLight n) f fs (record { width = first_columns n f fs w; fits = All-head (FitsForm widest) f fs g }) (lights n fs (later_columns n f fs w) (All-tail (FitsForm widest) f fs g))
-
 pub path_of : (nest : Nest) (columns : ℕ) (tree : Tree) → KeepsLimits nest columns tree → (l : Leaf) → IsIn l (leaves_of columns tree) → IsPath nest columns l
 path_of nest columns tree k l i =
     let o = of_tree nest columns tree k.shaped k.named k.fits l i in
@@ -71,7 +67,11 @@ path_of nest columns tree k l i =
       few = through (length l.divisions) (depth_of tree) o.few k.short;
       rows = v.rows;
       divisions = o.divisions;
-      named = λ a q. record { named = (o.named a q).0; light = lights l.columns a.iterators (v.named a q) (o.named a q).1 };
+      named = λ a q. let n = o.named a q in record {
+        part = slice_get_within nest.entries a.part n.0.entry n.0.there;
+        each = n.0.each ∙ ap (λ e. length (loops_or_none e)) (sym n.0.there);
+        rows = rows_of l.columns (2 ^ 24) (2 ^ 50) a.iterators (omega arith) (omega arith) (forms_within widest l.columns a.iterators (v.named a q) n.1);
+      };
     }
   where
     through : (a b : ℕ) → a ≤ b → b ≤ 400 → a ≤ 400

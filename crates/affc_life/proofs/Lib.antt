@@ -6,11 +6,8 @@ pub mod PointLemmas
 pub mod LiveLemmas
 pub mod BoxedLemmas
 pub mod ExampleProofs
-pub mod DraftLemmas
 pub mod LimitLemmas
 pub mod LightLemmas
-pub mod ComposeLemmas
-pub mod TimeLemmas
 pub mod QuotientLemmas
 pub mod SeatedLemmas
 pub mod LeafLemmas

@@ -1,5 +1,5 @@
 -- What the limits of a list's parts say of the list.
-use Rattle.std.proofs.Common.{◌≡◌, ℕ, zero, suc, ◌+◌, ◌-◌, ◌<◌, ◌≤◌, List, [], ◌∷◌, ◌++◌, length, take, drop, get_or, append_assoc, refl, sym, ap, subst, ◌∙◌, ◌⊎◌, inl, inr, arith}
+use Rattle.std.proofs.Common.{◌≡◌, ℕ, suc, ◌+◌, ◌<◌, ◌≤◌, List, [], ◌∷◌, ◌++◌, length, get_or, append_assoc, refl, sym, ap, subst, ◌∙◌, ◌⊎◌, inl, inr, arith}
 use Rattle.std.specs.List.{All}
 use Rattle.std.proofs.lemmas.List.{append-nil}
 use Rattle.std.proofs.lemmas.List.Elements.{All-nil, All-cons, All-head, All-tail}
@@ -13,12 +13,6 @@ use Rattle.affc_life.specs.Clashes.{Clash}
 use Rattle.affc_life.specs.Drafts.{chosen_rows, joined_rows, IsPaired}
 use Rattle.affc_life.specs.Sizes.{IsLarge, AnyLarge}
 
-take_all : {X : Type 0} (n : ℕ) (xs : List X) → n ≡ length xs → take n xs ≡ xs
-take_all zero [] e = refl
-take_all zero (x ∷ xs) e = absurd (omega (arith, e))
-take_all (suc n) [] e = absurd (omega (arith, e))
-take_all (suc n) (x ∷ xs) e = ap (λ ys. x ∷ ys) (take_all n xs (omega (arith, e)))
-
 -- what holds of each entry of a list holds of each of its parts
 pub all_first : {X : Type 0} (P : X → Type 0) (xs ys : List X) → All P (xs ++ ys) → All P xs
 all_first P [] ys h = All-nil P
@@ -27,11 +21,6 @@ all_first P (x ∷ xs) ys h = All-cons P x xs (All-head P x (xs ++ ys) h) (all_f
 pub all_second : {X : Type 0} (P : X → Type 0) (xs ys : List X) → All P (xs ++ ys) → All P ys
 all_second P [] ys h = h
 all_second P (x ∷ xs) ys h = all_second P xs ys (All-tail P x (xs ++ ys) h)
-
--- a list as its first entry and the others
-pub first_and_rest : {X : Type 0} (xs : List X) (x : X) → 1 ≤ length xs → x ≡ get_or xs 0 x → xs ≡ x ∷ take (length xs - 1) (drop 1 xs)
-first_and_rest [] x h e = absurd (omega arith)
-first_and_rest (y ∷ ys) x h e = ap (λ z. z ∷ ys) (sym e) ∙ ap (λ zs. x ∷ zs) (sym (take_all (length (y ∷ ys) - 1) ys (omega arith)))
 
 -- a list of one entry
 pub only_entry : {X : Type 0} (xs : List X) (x : X) → 1 ≤ length xs → length xs < 2 → x ≡ get_or xs 0 x → xs ≡ x ∷ []

@@ -30,7 +30,8 @@ use Rattle.affc_order.proofs.ColumnLemmas.{from_width, segment_at}
 use Rattle.affc_order.proofs.OrderLemmas.{order_columns, target_order_is_the_target}
 use Rattle.affc_sched.specs.Questions.{context_count}
 use Rattle.affc_sched.proofs.LegalLemmas.{Stood, instance_of, rows_wide, subs_wide, runs, rows_of, runs_behind}
-use Rattle.affc_sched.proofs.PointLemmas.{spread_met, met_spread, spread_values, all_spread, length_map}
+use Rattle.affc_domain.proofs.Lists.{length_map}
+use Rattle.affc_sched.proofs.PointLemmas.{spread_met, met_spread, spread_values, all_spread}
 use Rattle.affc_quast.specs.Leaves.{padded, Leaf}
 use Rattle.affc_quast.proofs.LeafLemmas.{Narrow, LeafOver, longer_met, met_longer, met_padded, padded_met}
 use Rattle.affc_life.specs.Clashes.{of_reader, of_writer, reader_posed, named_posed, writer_posed, front_rows, rows_of_clashes}

@@ -5,10 +5,11 @@ use Rattle.affc_rows.specs.Forms.{Affine}
 use Rattle.affc_ast.specs.declared.tree.Rel.TheVariants.{Less, Greater, Equal}
 use Rattle.affc_nest.specs.Domains.{compare_rows}
 use Rattle.affc_products.specs.Blocks.{choices}
+use Rattle.affc_products.proofs.ProductLemmas.{choices_of_one}
 use Rattle.affc_life.specs.declared.draft.Draft.{Draft}
 use Rattle.affc_life.specs.Clashes.{apart_rows}
 use Rattle.affc_life.specs.Drafts.{drafted, draft_by}
-use Rattle.affc_life.proofs.ChoiceLemmas.{flat_one, map_twice, flat_same, one_factor, first_factor}
+use Rattle.affc_life.proofs.ChoiceLemmas.{flat_one, map_twice, flat_same, first_factor}
 use Rattle.affc_life.proofs.SeatedLemmas.{clash_by}
 
 -- ---- Elements that differ
@@ -24,7 +25,7 @@ apart_behind (f ∷ fs) (g ∷ gs) front rows =
     ∙ ap (λ rs. (front ++ (rows ++ compare_rows Less f g)) ∷ ((front ++ (rows ++ compare_rows Greater f g)) ∷ rs)) (apart_behind fs gs front (rows ++ compare_rows Equal f g))
 
 all_apart : (fs gs front : List Affine) → apart_rows fs gs front ≡ map (λ c. front ++ c) (choices (apart_rows fs gs [] ∷ []))
-all_apart fs gs front = ap (apart_rows fs gs) (sym (append-nil front)) ∙ apart_behind fs gs front [] ∙ ap (map (λ c. front ++ c)) (sym (one_factor (apart_rows fs gs [])))
+all_apart fs gs front = ap (apart_rows fs gs) (sym (append-nil front)) ∙ apart_behind fs gs front [] ∙ ap (map (λ c. front ++ c)) (sym (choices_of_one (apart_rows fs gs [])))
 
 pub between_lists : (front fs gs : List Affine) (os us : List (List Affine))
     → flat_map (λ o. flat_map (λ u. apart_rows fs gs (front ++ (o ++ u))) us) os ≡ map (λ c. front ++ c) (choices (os ∷ us ∷ apart_rows fs gs [] ∷ []))

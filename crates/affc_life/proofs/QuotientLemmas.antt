@@ -43,7 +43,7 @@ corner_long (r ∷ rs) (x ∷ xs) c = ap suc (corner_long rs xs c.1)
 pub corner_fits : (ranges : List (ℤ × ℤ)) (f : Affine) (xs : List ℤ) → IsLight (length ranges) f → All WithinReach ranges → length ranges ≤ 500 → IsCorner ranges xs → magnitude f xs ≤ 2 ^ 126
 corner_fits ranges f xs light near few at =
     let long = corner_long ranges xs at in
-    (has_value f xs (light.width ∙ sym long) light.fits (corner_near ranges xs near at) (fewer (length xs) (length ranges) long few)).fits
+    (has_value f xs (light.width ∙ sym long) (record { coefs_fit = light.coefs_fit; constant_fits = light.constant_fits }) (corner_near ranges xs near at) (fewer (length xs) (length ranges) long few)).fits
   where
     fewer : (m n : ℕ) → m ≡ n → n ≤ 500 → m ≤ 528
     fewer m n e h = omega (arith, e, h)

@@ -1,11 +1,13 @@
 -- What holds of a reader, a leaf and a writer: widths, ranges, and the forms of the three instances.
-use Rattle.std.proofs.Common.{◌≡◌, ℕ, ◌+◌, ◌-◌, ◌≤◌, ℤ, List, [], ◌∷◌, ◌++◌, length, map, flat_map, drop, Some, refl, sym, ap, subst, ◌∙◌, arith}
+use Rattle.std.proofs.Common.{◌≡◌, ℕ, ◌+◌, ◌-◌, ◌^◌, ◌≤◌, ℤ, List, [], ◌∷◌, ◌++◌, length, map, flat_map, drop, Some, refl, sym, ap, subst, ◌∙◌, arith}
 use Rattle.std.specs.Prelude.{slice_get}
 use Rattle.std.specs.List.{All}
-use Rattle.std.proofs.lemmas.List.Elements.{All-append, All-drop}
+use Rattle.std.proofs.lemmas.List.Elements.{All-append, All-drop, All-weaker}
+use Rattle.std.proofs.lemmas.Option.{slice_get_within}
 use Rattle.affc_rows.specs.Forms.{Affine, HaveColumns}
-use Rattle.affc_system.specs.Pairs.{WithinReach}
+use Rattle.affc_system.specs.Pairs.{IsSubscript, WithinReach}
 use Rattle.affc_system.specs.Systems.{Rows, IsRow}
+use Rattle.affc_system.proofs.SystemLemmas.{rows_of, rows_within}
 use Rattle.affc_trace.specs.Inverses.{columns_from}
 use Rattle.affc_trace.specs.Law.{IsIn}
 use Rattle.affc_trace.proofs.LastStores.{map_append}
@@ -15,24 +17,37 @@ use Rattle.affc_nest.specs.Asked.{IsNest}
 use Rattle.affc_nest.specs.declared.nest.Access.{Access}
 use Rattle.affc_nest.specs.declared.nest.Entry.{Entry}
 use Rattle.affc_nest.specs.declared.nest.Nest.{Nest}
-use Rattle.affc_nest.specs.Sides.{IsSide}
 use Rattle.affc_nest.proofs.QuestionProofs.{nest_few, nest_near, few_numbered}
 use Rattle.affc_trace.specs.declared.schedule.Schedule.{Schedule}
+use Rattle.affc_order.specs.Placed.{IsPlaced}
 use Rattle.affc_order.specs.Posed.{Posed}
-use Rattle.affc_order.specs.Systems.{target_order}
+use Rattle.affc_order.specs.Systems.{loops_or_none, rows_in, target_order}
 use Rattle.affc_order.specs.Spread.{spread}
 use Rattle.affc_order.proofs.ColumnLemmas.{from_long}
+use Rattle.affc_order.proofs.PlacedLemmas.{columns_rows}
 use Rattle.affc_sched.specs.Questions.{context_count}
 use Rattle.affc_sched.proofs.LegalLemmas.{entry_at}
-use Rattle.affc_sched.proofs.PairLemmas.{stands_in, subs_sides}
+use Rattle.affc_sched.proofs.PairLemmas.{stands_in}
 use Rattle.affc_sched.proofs.WidthLemmas.{domain_wide}
 use Rattle.affc_quast.specs.Leaves.{padded, Leaf}
-use Rattle.affc_life.specs.Asked.{IsLight, IsNamed, HasForms, IsLiving, AreSeated}
-use Rattle.affc_life.specs.Drafts.{posed, rows_in, after_named, before_load}
+use Rattle.affc_life.specs.Asked.{IsLiving, AreSeated}
+use Rattle.affc_life.specs.Drafts.{after_named, before_load}
 use Rattle.affc_life.specs.Clashes.{Clash, apart_rows, clash_columns, of_reader, of_writer, front_rows, clash_ranges, reader_posed, named_posed, writer_posed, rows_of_clashes, clash, clashes_of_store}
 use Rattle.affc_life.proofs.BoxedLemmas.{all_reach, ranges_are, entry_reach}
 use Rattle.affc_life.proofs.WalkLemmas.{between_is}
-use Rattle.affc_life.proofs.LightLemmas.{all_of, sides_light, columns_light, all_padded, all_spread_light, light_narrow}
+use Rattle.affc_life.proofs.LightLemmas.{all_padded, all_spread}
+use Rattle.affc_life.proofs.SubscriptLemmas.{are_subscripts}
+
+-- ---- Sums
+
+enough : (m l c : ℕ) → c ≡ m + l → m ≤ c
+enough m l c e = omega (arith, e)
+
+through : (a b c : ℕ) → a ≤ b → b ≤ c → a ≤ c
+through a b c h g = omega (arith, h, g)
+
+within : (k m c : ℕ) → k ≡ m → m ≤ c → k ≤ c
+within k m c e h = omega (arith, e, h)
 
 -- ---- A part of a nest that can have instances
 
@@ -45,30 +60,26 @@ module _ (nest : Nest) (n : IsNest nest) (e : Entry) (living : IsLiving nest e) 
   pub its_place : slice_get nest.entries e.part ≡ Some e
   its_place = subst (λ (x : Nest). slice_get x.entries e.part ≡ Some e) (sym n.is) (entry_at n.program n.has e (subst (λ (x : Nest). IsIn e x.entries) n.is living.there))
 
-  -- by its own number it is an instance with this many iterators
-  pub its_name : (forms : List Affine) → length forms ≡ length e.loops → IsNamed nest e.part forms
-  its_name forms l = record {
-    entry = e;
-    there = its_place;
-    each = l;
+  -- by its own number and these columns it is an instance
+  pub its_columns : (columns first : ℕ) → IsPlaced nest columns (record { part = e.part; iterators = columns_from columns first (length e.loops) })
+  its_columns columns first = record {
+    part = slice_get_within nest.entries e.part e its_place;
+    each = from_long columns first (length e.loops) ∙ ap (λ o. length (loops_or_none o)) (sym its_place);
+    rows = columns_rows columns first (length e.loops);
   }
 
-  pub its_columns : (columns first : ℕ) → HasForms nest columns e.part (columns_from columns first (length e.loops))
-  its_columns columns first =
-      record { named = its_name (columns_from columns first (length e.loops)) (from_long columns first (length e.loops)); light = columns_light columns first (length e.loops) }
+  -- the rows of its domain
+  pub its_rows : HaveColumns (length nest.params + length e.loops) e.domain.rows
+  its_rows =
+      subst (λ (x : Nest). HaveColumns (length x.params + length e.loops) e.domain.rows) (sym n.is)
+      (domain_wide n.program n.has e.part e (entry_at n.program n.has e (subst (λ (x : Nest). IsIn e x.entries) n.is living.there)) living.alive)
 
-  -- rows of its domain have the columns of the parameters
+  -- they have the columns of the parameters
   pub own_wide : (own : List Affine) → own ≡ drop (context_count nest) e.domain.rows → All (λ f. length nest.params ≤ length f.coefs) own
   own_wide own is =
-      let wide : HaveColumns (length nest.params + length e.loops) e.domain.rows =
-      subst (λ (x : Nest). HaveColumns (length x.params + length e.loops) e.domain.rows) (sym n.is)
-      (domain_wide n.program n.has e.part e (entry_at n.program n.has e (subst (λ (x : Nest). IsIn e x.entries) n.is living.there)) living.alive) in
       subst (All (λ f. length nest.params ≤ length f.coefs)) (sym is)
       (All-drop (λ f. length nest.params ≤ length f.coefs) (context_count nest) e.domain.rows
-      (all_of (λ f. length f.coefs ≡ length nest.params + length e.loops) (λ f. length nest.params ≤ length f.coefs) (λ f w. enough (length nest.params) (length e.loops) (length f.coefs) w) e.domain.rows wide))
-    where
-      enough : (m l c : ℕ) → c ≡ m + l → m ≤ c
-      enough m l c e = omega (arith, e)
+      (All-weaker (λ f. length f.coefs ≡ length nest.params + length e.loops) (λ f. length nest.params ≤ length f.coefs) (λ f w. enough (length nest.params) (length e.loops) (length f.coefs) w) e.domain.rows its_rows))
 
 -- ---- Three together
 
@@ -88,12 +99,6 @@ module _ (nest : Nest) (reader : Entry) (leaf : Leaf) (writer : Entry) (s : AreS
       sum : (c m l d : ℕ) → c ≡ (m + l) + d → m ≤ 4 → l ≤ 6 → d ≤ 400 → c ≤ 410
       sum c m l d e h g i = omega (arith, e, h, g, i)
 
-  pub columns_few : clash_columns nest reader leaf writer ≤ 416
-  columns_few = sum leaf.columns (length writer.loops) leaf_few writer_few
-    where
-      sum : (c l : ℕ) → c ≤ 410 → l ≤ 6 → c + l ≤ 416
-      sum c l h g = omega (arith, h, g)
-
   pub path_first : length nest.params + length reader.loops ≤ leaf.columns
   path_first = first leaf.columns (length nest.params + length reader.loops) (length leaf.divisions) s.path.count
     where
@@ -112,75 +117,71 @@ module _ (nest : Nest) (reader : Entry) (leaf : Leaf) (writer : Entry) (s : AreS
       more : (c l : ℕ) → c ≤ c + l
       more c l = omega arith
 
-  reader_first : length nest.params + length reader.loops ≤ clash_columns nest reader leaf writer
+  pub reader_first : length nest.params + length reader.loops ≤ clash_columns nest reader leaf writer
   reader_first = through (length nest.params + length reader.loops) leaf.columns (clash_columns nest reader leaf writer) path_first leaf_first
-    where
-      through : (a b c : ℕ) → a ≤ b → b ≤ c → a ≤ c
-      through a b c h g = omega (arith, h, g)
 
   -- ---- Rows
 
   pub domain_narrow : (rows : List Affine) → All (IsRow reader.domain.columns) rows → All (λ f. length f.coefs ≤ clash_columns nest reader leaf writer) rows
   domain_narrow rows fit =
-      all_of (IsRow reader.domain.columns) (λ f. length f.coefs ≤ clash_columns nest reader leaf writer)
-      (λ f r. less (length f.coefs) (length nest.params + length reader.loops) (clash_columns nest reader leaf writer) (r.width ∙ (stands_in nest s.nested reader s.reads.there).columns) reader_first) rows fit
-    where
-      less : (k m c : ℕ) → k ≡ m → m ≤ c → k ≤ c
-      less k m c e h = omega (arith, e, h)
+      All-weaker (IsRow reader.domain.columns) (λ f. length f.coefs ≤ clash_columns nest reader leaf writer)
+      (λ f r. within (length f.coefs) (length nest.params + length reader.loops) (clash_columns nest reader leaf writer) (r.width ∙ (stands_in nest s.nested reader s.reads.there).columns) reader_first) rows fit
 
   pub leaf_narrow : All (λ f. length f.coefs ≤ clash_columns nest reader leaf writer) leaf.rows
   leaf_narrow =
-      all_of (λ f. length f.coefs ≤ leaf.columns) (λ f. length f.coefs ≤ clash_columns nest reader leaf writer) (λ f h. through (length f.coefs) leaf.columns (clash_columns nest reader leaf writer) h leaf_first) leaf.rows s.path.rows
-    where
-      through : (a b c : ℕ) → a ≤ b → b ≤ c → a ≤ c
-      through a b c h g = omega (arith, h, g)
+      All-weaker (λ f. length f.coefs ≤ leaf.columns) (λ f. length f.coefs ≤ clash_columns nest reader leaf writer) (λ f h. through (length f.coefs) leaf.columns (clash_columns nest reader leaf writer) h leaf_first) leaf.rows s.path.rows
 
   -- ---- Subscripts
 
-  pub load_light : (load : Access) → IsIn load reader.accesses → All (IsLight (clash_columns nest reader leaf writer)) (map (of_reader nest reader leaf writer) load.subs)
-  load_light load i =
-      all_padded (length nest.params + length reader.loops) (clash_columns nest reader leaf writer) load.subs reader_first
-      (sides_light (length nest.params + length reader.loops) load.subs (subs_sides nest s.nested reader s.reads.there load i))
+  load_over : (load : Access) → IsIn load reader.accesses → All (IsSubscript (length nest.params + length reader.loops)) load.subs
+  load_over load i = are_subscripts nest s.nested reader s.reads.there load i
+
+  pub load_subscripts : (load : Access) → IsIn load reader.accesses → All (IsSubscript (clash_columns nest reader leaf writer)) (map (of_reader nest reader leaf writer) load.subs)
+  load_subscripts load i = all_padded (length nest.params + length reader.loops) (clash_columns nest reader leaf writer) 65536 16777216 load.subs reader_first (load_over load i)
 
   pub load_narrow : (load : Access) → IsIn load reader.accesses → All (λ f. length f.coefs ≤ clash_columns nest reader leaf writer) load.subs
   load_narrow load i =
-      light_narrow (length nest.params + length reader.loops) (clash_columns nest reader leaf writer) load.subs reader_first
-      (sides_light (length nest.params + length reader.loops) load.subs (subs_sides nest s.nested reader s.reads.there load i))
+      All-weaker (IsSubscript (length nest.params + length reader.loops)) (λ f. length f.coefs ≤ clash_columns nest reader leaf writer)
+      (λ f w. within (length f.coefs) (length nest.params + length reader.loops) (clash_columns nest reader leaf writer) w.width reader_first) load.subs (load_over load i)
 
-  whole : (length nest.params + (leaf.columns - length nest.params)) + length writer.loops ≡ clash_columns nest reader leaf writer
-  whole = sum (length nest.params) leaf.columns (length writer.loops) params_first
+  pub writer_whole : (length nest.params + (leaf.columns - length nest.params)) + length writer.loops ≡ clash_columns nest reader leaf writer
+  writer_whole = sum (length nest.params) leaf.columns (length writer.loops) params_first
     where
       sum : (m c l : ℕ) → m ≤ c → (m + (c - m)) + l ≡ c + l
       sum m c l h = omega (arith, h)
 
-  pub store_light : (store : Access) → IsIn store writer.accesses → All (IsLight (clash_columns nest reader leaf writer)) (map (of_writer nest reader leaf writer) store.subs)
-  store_light store i =
-      all_spread_light (length nest.params) (leaf.columns - length nest.params) (length writer.loops) (clash_columns nest reader leaf writer) store.subs whole (subs_sides nest s.nested writer s.writes.there store i)
+  store_over : (store : Access) → IsIn store writer.accesses → All (IsSubscript (length nest.params + length writer.loops)) store.subs
+  store_over store i = are_subscripts nest s.nested writer s.writes.there store i
+
+  pub store_subscripts : (store : Access) → IsIn store writer.accesses → All (IsSubscript (clash_columns nest reader leaf writer)) (map (of_writer nest reader leaf writer) store.subs)
+  store_subscripts store i =
+      all_spread (length nest.params) (leaf.columns - length nest.params) (length writer.loops) (clash_columns nest reader leaf writer) 65536 16777216 store.subs writer_whole (store_over store i)
 
   pub store_wide_enough : (store : Access) → IsIn store writer.accesses → All (λ f. length nest.params ≤ length f.coefs) store.subs
   store_wide_enough store i =
-      all_of (IsSide (length nest.params + length writer.loops)) (λ f. length nest.params ≤ length f.coefs) (λ f d. enough (length nest.params) (length writer.loops) (length f.coefs) d.width) store.subs
-      (subs_sides nest s.nested writer s.writes.there store i)
-    where
-      enough : (m l c : ℕ) → c ≡ m + l → m ≤ c
-      enough m l c e = omega (arith, e)
+      All-weaker (IsSubscript (length nest.params + length writer.loops)) (λ f. length nest.params ≤ length f.coefs) (λ f w. enough (length nest.params) (length writer.loops) (length f.coefs) w.width) store.subs (store_over store i)
 
   -- ---- The three instances
 
-  pub reader_forms : HasForms nest (clash_columns nest reader leaf writer) reader.part (reader_posed nest reader leaf writer).iterators
+  pub reader_forms : IsPlaced nest (clash_columns nest reader leaf writer) (reader_posed nest reader leaf writer)
   reader_forms = its_columns nest s.nested reader s.reads (clash_columns nest reader leaf writer) (length nest.params)
 
-  pub writer_forms : HasForms nest (clash_columns nest reader leaf writer) writer.part (writer_posed nest reader leaf writer).iterators
+  pub writer_forms : IsPlaced nest (clash_columns nest reader leaf writer) (writer_posed nest reader leaf writer)
   writer_forms = its_columns nest s.nested writer s.writes (clash_columns nest reader leaf writer) leaf.columns
 
-  pub named_forms : (named : Posed) → HasForms nest leaf.columns named.part named.iterators → HasForms nest (clash_columns nest reader leaf writer) named.part (named_posed nest reader leaf writer named).iterators
-  named_forms named h = record {
-    named = record { entry = h.named.entry; there = h.named.there; each = length_map (padded (clash_columns nest reader leaf writer)) named.iterators ∙ h.named.each };
-    light = all_padded leaf.columns (clash_columns nest reader leaf writer) named.iterators leaf_first h.light;
-  }
+  pub named_forms : (named : Posed) → IsPlaced nest leaf.columns named → IsPlaced nest (clash_columns nest reader leaf writer) (named_posed nest reader leaf writer named)
+  named_forms named h =
+      let columns = clash_columns nest reader leaf writer in
+      record {
+        part = h.part;
+        each = length_map (padded columns) named.iterators ∙ h.each;
+        rows = rows_of columns (2 ^ 40) (2 ^ 60) (map (padded columns) named.iterators) (omega arith) (omega arith)
+            (all_padded leaf.columns columns (2 ^ 40) (2 ^ 60) named.iterators leaf_first (rows_within leaf.columns named.iterators h.rows));
+      }
 
-  pub named_narrow : (named : Posed) → HasForms nest leaf.columns named.part named.iterators → All (λ f. length f.coefs ≤ clash_columns nest reader leaf writer) named.iterators
-  named_narrow named h = light_narrow leaf.columns (clash_columns nest reader leaf writer) named.iterators leaf_first h.light
+  pub named_narrow : (named : Posed) → IsPlaced nest leaf.columns named → All (λ f. length f.coefs ≤ clash_columns nest reader leaf writer) named.iterators
+  named_narrow named h =
+      All-weaker (IsRow leaf.columns) (λ f. length f.coefs ≤ clash_columns nest reader leaf writer) (λ f r. within (length f.coefs) leaf.columns (clash_columns nest reader leaf writer) r.width leaf_first) named.iterators h.rows
 
   -- ---- Ranges
 
@@ -214,6 +215,10 @@ front_made nest reader leaf writer columns params between domain rows own first 
     ∙ ap (λ k. map P (reader.domain.rows ++ leaf.rows) ++ map (spread k (leaf.columns - k) 0) own) p
     ∙ ap (λ xs. map P (reader.domain.rows ++ leaf.rows) ++ map (of_writer nest reader leaf writer) xs) o
 
+-- an instance of a part by these forms
+abbrev by_forms : (part : ℕ) → (forms : List Affine) → Posed
+by_forms part forms = record { part = part; iterators = forms }
+
 -- a clash system of these parts
 abbrev pub clash_by : (columns : ℕ) → (ranges : List (ℤ × ℤ)) → (x y rows : List Affine) → Clash
 clash_by columns ranges x y rows = record { system = record { columns = columns; rows = rows }; ranges = ranges; x = x; y = y }
@@ -239,13 +244,13 @@ module _ (nest : Nest) (reader : Entry) (leaf : Leaf) (writer : Entry) where
         e ∙ ap (λ j. columns_from columns j loops) p ∙ ap (columns_from columns (length nest.params)) l ∙ ap (λ k. columns_from k (length nest.params) (length reader.loops)) columns_are
 
     -- over these columns
-    pub has_forms : (part : ℕ) (forms whole : List Affine) → forms ≡ whole → HasForms nest (clash_columns nest reader leaf writer) part whole → HasForms nest columns part forms
-    has_forms part forms whole e h = subst (λ fs. HasForms nest columns part fs) (sym e) (subst (λ k. HasForms nest k part whole) (sym columns_are) h)
+    pub placed_over : (part : ℕ) (forms whole : List Affine) → forms ≡ whole → IsPlaced nest (clash_columns nest reader leaf writer) (by_forms part whole) → IsPlaced nest columns (by_forms part forms)
+    placed_over part forms whole e h = subst (λ fs. IsPlaced nest columns (by_forms part fs)) (sym e) (subst (λ k. IsPlaced nest k (by_forms part whole)) (sym columns_are) h)
 
     pub order_made : (schedule : Schedule) (a : Posed) (fs : List Affine) (b : Posed) (gs : List Affine) (out : List (List Affine)) → fs ≡ a.iterators → gs ≡ b.iterators
-        → out ≡ map rows_in (target_order nest schedule columns (posed a.part fs) (posed b.part gs)) → out ≡ map rows_in (target_order nest schedule (clash_columns nest reader leaf writer) a b)
+        → out ≡ map rows_in (target_order nest schedule columns (by_forms a.part fs) (by_forms b.part gs)) → out ≡ map rows_in (target_order nest schedule (clash_columns nest reader leaf writer) a b)
     order_made schedule a fs b gs out f g e =
-        e ∙ ap (λ xs. map rows_in (target_order nest schedule columns (posed a.part xs) (posed b.part gs))) f ∙ ap (λ ys. map rows_in (target_order nest schedule columns a (posed b.part ys))) g
+        e ∙ ap (λ xs. map rows_in (target_order nest schedule columns (by_forms a.part xs) (by_forms b.part gs))) f ∙ ap (λ ys. map rows_in (target_order nest schedule columns a (by_forms b.part ys))) g
         ∙ ap (λ k. map rows_in (target_order nest schedule k a b)) columns_are
 
   -- ---- All of them

@@ -1,14 +1,15 @@
 -- The clash systems of trees that the search gives keep the limits of systems.
-use Rattle.std.proofs.Common.{◌≡◌, ℕ, zero, suc, ◌+◌, ◌-◌, ◌^◌, ◌<◌, ◌≤◌, pos, IsTrue, List, [], ◌∷◌, ◌++◌, length, map, drop, replicate, refl, sym, ap, subst, ◌∙◌, inl, inr, arith}
-use Rattle.std.specs.Prelude.{unsigned_abs, slice_get, nat_le, ◌&&◌}
+use Rattle.std.proofs.Common.{◌≡◌, ℕ, zero, suc, ◌+◌, ◌-◌, ◌^◌, ◌<◌, ◌≤◌, IsTrue, List, [], ◌∷◌, ◌++◌, length, map, drop, refl, sym, ap, subst, ◌∙◌, inl, inr, arith}
+use Rattle.std.specs.Prelude.{slice_get, nat_le, ◌&&◌}
 use Rattle.std.specs.List.{All}
 use Rattle.std.proofs.lemmas.Bool.{leb-true}
 use Rattle.std.proofs.lemmas.List.{length-drop}
-use Rattle.std.proofs.lemmas.List.Elements.{All-nil, All-cons, All-append, All-drop}
+use Rattle.std.proofs.lemmas.List.Elements.{All-append, All-drop, All-weaker}
 use Rattle.std.proofs.lemmas.Option.{same_Some}
 use Rattle.affc_rows.specs.Forms.{Affine}
-use Rattle.affc_system.specs.Pairs.{IsSubscript}
-use Rattle.affc_system.specs.Systems.{FitsRow}
+use Rattle.affc_rows.proofs.SizeLemmas.{widened_within, all_raised}
+use Rattle.affc_system.specs.Systems.{FitsRow, IsRow}
+use Rattle.affc_system.proofs.SystemLemmas.{rows_of, rows_within}
 use Rattle.affc_ast.specs.declared.tree.Decl.{Decl}
 use Rattle.affc_ast.specs.declared.tree.Program.{Program}
 use Rattle.affc_ast.specs.Meaning.{arrays_of}
@@ -29,29 +30,31 @@ use Rattle.affc_nest.specs.Nests.{array_of, nest_of}
 use Rattle.affc_nest.specs.Questions.{extents_or_none}
 use Rattle.affc_nest.proofs.AccessLemmas.{plain_append}
 use Rattle.affc_nest.proofs.QuestionLemmas.{as_many, stands_in}
-use Rattle.affc_nest.proofs.QuestionProofs.{domain_small, few_numbered}
+use Rattle.affc_nest.proofs.QuestionProofs.{domain_small}
 use Rattle.affc_order.specs.Asked.{IsScheduled}
+use Rattle.affc_order.specs.Placed.{IsPlaced}
 use Rattle.affc_order.specs.Posed.{Posed}
 use Rattle.affc_order.specs.Systems.{target_order}
+use Rattle.affc_order.proofs.CodeLemmas.{few_loops}
 use Rattle.affc_sched.specs.Questions.{context_count}
 use Rattle.affc_sched.proofs.LegalLemmas.{entry_at}
-use Rattle.affc_sched.proofs.SystemLemmas.{spread_fits}
 use Rattle.affc_quast.specs.Leaves.{padded}
 use Rattle.affc_quast.specs.Limits.{IsTreeWithin, narrow}
 use Rattle.affc_quast.specs.Trees.{Tree, depth_of, divisions_of}
-use Rattle.affc_life.specs.Asked.{KeepLimits, HasForms, AreSeated}
+use Rattle.affc_life.specs.Asked.{KeepLimits, AreSeated}
 use Rattle.affc_life.specs.Clashes.{Clash, of_reader, of_writer, front_rows, reader_posed, named_posed, writer_posed}
 use Rattle.affc_life.specs.Laws.{AreFound, FoundTreesAreNeverLarge}
 use Rattle.affc_life.specs.Sizes.{IsLarge}
 use Rattle.affc_life.proofs.CountLemmas.{order_count, between_count}
 use Rattle.affc_life.proofs.DomainLemmas.{domain_fits}
-use Rattle.affc_life.proofs.DraftedLemmas.{columns, reader_there, seated, named_has, load_among, rows_all, x_subscripts, y_subscripts}
+use Rattle.affc_life.proofs.DraftedLemmas.{columns, reader_there, seated, named_has, rows_all, x_subscripts, y_subscripts}
 use Rattle.affc_life.proofs.FoundLeafLemmas.{IsSmall, leaf_small}
 use Rattle.affc_life.proofs.FoundLemmas.{found_trees_keep_limits}
-use Rattle.affc_life.proofs.LightLemmas.{all_of, all_map}
+use Rattle.affc_life.proofs.KeptLemmas.{fitting_rows}
+use Rattle.affc_life.proofs.LightLemmas.{all_map, all_padded, all_spread, forms_within}
 use Rattle.affc_life.proofs.MadeLemmas.{Made, made}
-use Rattle.affc_life.proofs.MildLemmas.{IsMild, gap_mild, subscript_mild, columns_narrow, all_padded_narrow, compared_mild}
-use Rattle.affc_life.proofs.SeatedLemmas.{params_few, reader_few, writer_few, reader_forms, writer_forms, named_forms}
+use Rattle.affc_life.proofs.MildLemmas.{IsMild, IsNarrow, gap_mild, columns_narrow, compared_mild}
+use Rattle.affc_life.proofs.SeatedLemmas.{its_rows, params_few, reader_few, writer_few, leaf_first, writer_whole, reader_forms, writer_forms, named_forms}
 
 -- ---- Dimensions
 
@@ -76,13 +79,13 @@ few_subscripts program has named e i x j =
 
 -- ---- One clash system
 
-zeros_fit : (k : ℕ) → All (λ c. unsigned_abs c ≤ 2 ^ 40) (replicate k (pos 0))
-zeros_fit zero = All-nil (λ c. unsigned_abs c ≤ 2 ^ 40)
-zeros_fit (suc k) = All-cons (λ c. unsigned_abs c ≤ 2 ^ 40) (pos 0) (replicate k (pos 0)) (omega arith) (zeros_fit k)
-
 padded_fits : (n : ℕ) (rows : List Affine) → All FitsRow rows → All FitsRow (map (padded n) rows)
-padded_fits n rows all =
-    all_map FitsRow FitsRow (padded n) (λ f h. record { coefs_fit = All-append (λ c. unsigned_abs c ≤ 2 ^ 40) f.coefs (replicate (n - length f.coefs) (pos 0)) h.coefs_fit (zeros_fit (n - length f.coefs)); constant_fits = h.constant_fits }) rows all
+padded_fits n rows all = all_map FitsRow FitsRow (padded n) one rows all
+  where
+    one : (f : Affine) → FitsRow f → FitsRow (padded n f)
+    one f h =
+        let w = widened_within (length f.coefs) (n - length f.coefs) (2 ^ 40) (2 ^ 60) f (record { width = refl; coefs_fit = h.coefs_fit; constant_fits = h.constant_fits }) in
+        record { coefs_fit = w.coefs_fit; constant_fits = w.constant_fits }
 
 module _ (program : Program) (has : HasNest program) (named : NamesArrays program) (trees : List Tree) (found : AreFound (nest_of program) trees) (schedule : Schedule) (fits : IsScheduleOf program schedule) (slight : IsTrue (within_limits schedule))
     (array : ℕ) (c : Clash) (k : Made (nest_of program) trees schedule array c) where
@@ -142,17 +145,14 @@ module _ (program : Program) (has : HasNest program) (named : NamesArrays progra
       sum : (n p w a o d l v q : ℕ) → n ≡ p + w → p ≡ a → w ≡ o → a ≡ d + l → o ≡ v - q → d ≤ 134 → l ≤ 314 → v ≤ 134 → n ≤ 582
       sum n p w a o d l v q e f g h i j s t = omega (arith, e, f, g, h, i, j, s, t)
 
-  six_of : (a : Posed) → HasForms (nest_of program) (columns nest nested trees limits schedule array c k) a.part a.iterators → length a.iterators ≤ 6
-  six_of a h = subst (λ n. n ≤ 6) (sym h.named.each) (few_numbered nest h.named.entry nested (stands_in nest.entries a.part h.named.entry h.named.there))
+  six_of : (a : Posed) → IsPlaced (nest_of program) (columns nest nested trees limits schedule array c k) a → length a.iterators ≤ 6
+  six_of a h = subst (λ n. n ≤ 6) (sym h.each) (few_loops nest nested a.part h.part)
 
-  named_has_forms : HasForms (nest_of program) (columns nest nested trees limits schedule array c k) k.of_leaf.named.part (named_posed (nest_of program) k.reader k.leaf k.of_leaf.writer k.of_leaf.named).iterators
-  named_has_forms = named_forms nest k.reader k.leaf k.of_leaf.writer seats k.of_leaf.named (named_has nest nested trees limits schedule array c k)
+  named_placed : IsPlaced (nest_of program) (columns nest nested trees limits schedule array c k) (named_posed (nest_of program) k.reader k.leaf k.of_leaf.writer k.of_leaf.named)
+  named_placed = named_forms nest k.reader k.leaf k.of_leaf.writer seats k.of_leaf.named (named_has nest nested trees limits schedule array c k)
 
-  writer_has_forms : HasForms (nest_of program) (columns nest nested trees limits schedule array c k) k.of_leaf.writer.part (writer_posed (nest_of program) k.reader k.leaf k.of_leaf.writer).iterators
-  writer_has_forms = writer_forms nest k.reader k.leaf k.of_leaf.writer seats
-
-  reader_has_forms : HasForms (nest_of program) (columns nest nested trees limits schedule array c k) k.reader.part (reader_posed (nest_of program) k.reader k.leaf k.of_leaf.writer).iterators
-  reader_has_forms = reader_forms nest k.reader k.leaf k.of_leaf.writer seats
+  writer_placed : IsPlaced (nest_of program) (columns nest nested trees limits schedule array c k) (writer_posed (nest_of program) k.reader k.leaf k.of_leaf.writer)
+  writer_placed = writer_forms nest k.reader k.leaf k.of_leaf.writer seats
 
   pub rows_few : length c.system.rows ≤ 638
   rows_few =
@@ -163,8 +163,8 @@ module _ (program : Program) (has : HasNest program) (named : NamesArrays progra
       let xs : List Affine = map (of_reader nest k.reader k.leaf k.of_leaf.writer) k.load.subs in
       sum (length c.system.rows) (length k.of_leaf.rows) (length (front_rows nest k.reader k.leaf k.of_leaf.writer)) (ap (λ (d : Clash). length d.system.rows) k.of_leaf.is)
       (between_count (front_rows nest k.reader k.leaf k.of_leaf.writer) (target_order nest schedule n a w) (target_order nest schedule n w r) xs (map (of_writer nest k.reader k.leaf k.of_leaf.writer) k.of_leaf.store.subs)
-      (order_count nest n schedule a w slight (six_of a named_has_forms)) (order_count nest n schedule w r slight (six_of w writer_has_forms))
-      (subst (λ m. m ≤ 4) (sym (length_map (of_reader nest k.reader k.leaf k.of_leaf.writer) k.load.subs)) (few_subscripts program has named k.reader k.reader_in k.load (load_among nest nested trees limits schedule array c k)))
+      (order_count nest n schedule a w slight (six_of a named_placed)) (order_count nest n schedule w r slight (six_of w writer_placed))
+      (subst (λ m. m ≤ 4) (sym (length_map (of_reader nest k.reader k.leaf k.of_leaf.writer) k.load.subs)) (few_subscripts program has named k.reader k.reader_in k.load (stands_in k.reader.accesses k.number k.load k.load_there)))
       k.of_leaf.rows k.of_leaf.rows_in)
       front_few
     where
@@ -175,23 +175,37 @@ module _ (program : Program) (has : HasNest program) (named : NamesArrays progra
 
   front_fits : All FitsRow (front_rows (nest_of program) k.reader k.leaf k.of_leaf.writer)
   front_fits =
+      let n = columns nest nested trees limits schedule array c k in
       let w : Entry = k.of_leaf.writer in
+      let m = length nest.params in
+      let l = length w.loops in
+      let own : List Affine = drop (context_count nest) w.domain.rows in
       let reader_rows : All FitsRow k.reader.domain.rows = domain_fits program has k.reader.part k.reader (entry_at program has k.reader k.reader_in) k.alive in
       let writer_rows : All FitsRow w.domain.rows = domain_fits program has w.part w (entry_at program has w k.of_leaf.writer_in) k.of_leaf.writer_alive in
-      All-append FitsRow (map (of_reader nest k.reader k.leaf w) (k.reader.domain.rows ++ k.leaf.rows)) (map (of_writer nest k.reader k.leaf w) (drop (context_count nest) w.domain.rows))
-      (padded_fits (columns nest nested trees limits schedule array c k) (k.reader.domain.rows ++ k.leaf.rows) (All-append FitsRow k.reader.domain.rows k.leaf.rows reader_rows small.rows_fit))
-      (all_map FitsRow FitsRow (of_writer nest k.reader k.leaf w) (spread_fits (length nest.params) (k.leaf.columns - length nest.params) 0) (drop (context_count nest) w.domain.rows) (All-drop FitsRow (context_count nest) w.domain.rows writer_rows))
+      All-append FitsRow (map (of_reader nest k.reader k.leaf w) (k.reader.domain.rows ++ k.leaf.rows)) (map (of_writer nest k.reader k.leaf w) own)
+      (padded_fits n (k.reader.domain.rows ++ k.leaf.rows) (All-append FitsRow k.reader.domain.rows k.leaf.rows reader_rows small.rows_fit))
+      (All-weaker (IsRow n) FitsRow (λ f r. r.fits) (map (of_writer nest k.reader k.leaf w) own)
+      (rows_of n (2 ^ 40) (2 ^ 60) (map (of_writer nest k.reader k.leaf w) own) (omega arith) (omega arith)
+      (all_spread m (k.leaf.columns - m) l n (2 ^ 40) (2 ^ 60) own (writer_whole nest k.reader k.leaf w seats) (rows_within (m + l) own
+      (All-drop (IsRow (m + l)) (context_count nest) w.domain.rows (fitting_rows (m + l) w.domain.rows (its_rows nest nested w seats.writes) writer_rows))))))
+
+  named_narrow : All (IsNarrow (columns nest nested trees limits schedule array c k)) (named_posed (nest_of program) k.reader k.leaf k.of_leaf.writer k.of_leaf.named).iterators
+  named_narrow =
+      let fs : List Affine = k.of_leaf.named.iterators in
+      all_padded k.leaf.columns (columns nest nested trees limits schedule array c k) (2 ^ 20) (2 ^ 40) fs (leaf_first nest k.reader k.leaf k.of_leaf.writer seats)
+      (forms_within narrow k.leaf.columns fs (All-weaker (IsRow k.leaf.columns) (λ f. length f.coefs ≡ k.leaf.columns) (λ f r. r.width) fs (named_has nest nested trees limits schedule array c k).rows)
+      (small.named k.of_leaf.named k.of_leaf.names))
 
   pub rows_fit : All FitsRow c.system.rows
   rows_fit =
       let n = columns nest nested trees limits schedule array c k in
       let xs : List Affine = map (of_reader nest k.reader k.leaf k.of_leaf.writer) k.load.subs in
       let ys : List Affine = map (of_writer nest k.reader k.leaf k.of_leaf.writer) k.of_leaf.store.subs in
-      rows_all nest nested trees limits schedule array c k FitsRow IsMild gap_mild front_fits
-      (compared_mild nest schedule scheduled n (named_posed nest k.reader k.leaf k.of_leaf.writer k.of_leaf.named) named_has_forms (all_padded_narrow n k.of_leaf.named.iterators (small.named k.of_leaf.named k.of_leaf.names)))
-      (compared_mild nest schedule scheduled n (writer_posed nest k.reader k.leaf k.of_leaf.writer) writer_has_forms (columns_narrow n k.leaf.columns (length k.of_leaf.writer.loops)))
-      (compared_mild nest schedule scheduled n (reader_posed nest k.reader k.leaf k.of_leaf.writer) reader_has_forms (columns_narrow n (length nest.params) (length k.reader.loops)))
-      (all_of (IsSubscript n) IsMild (subscript_mild n) xs (x_subscripts nest nested trees limits schedule array c k)) (all_of (IsSubscript n) IsMild (subscript_mild n) ys (y_subscripts nest nested trees limits schedule array c k))
+      rows_all nest nested trees limits schedule array c k FitsRow (IsMild n) (gap_mild n) front_fits
+      (compared_mild nest schedule scheduled n (named_posed nest k.reader k.leaf k.of_leaf.writer k.of_leaf.named) named_placed named_narrow)
+      (compared_mild nest schedule scheduled n (writer_posed nest k.reader k.leaf k.of_leaf.writer) writer_placed (columns_narrow n k.leaf.columns (length k.of_leaf.writer.loops)))
+      (compared_mild nest schedule scheduled n (reader_posed nest k.reader k.leaf k.of_leaf.writer) (reader_forms nest k.reader k.leaf k.of_leaf.writer seats) (columns_narrow n (length nest.params) (length k.reader.loops)))
+      (all_raised n 65536 16777216 (2 ^ 39) (2 ^ 58) xs (omega arith) (omega arith) (x_subscripts nest nested trees limits schedule array c k)) (all_raised n 65536 16777216 (2 ^ 39) (2 ^ 58) ys (omega arith) (omega arith) (y_subscripts nest nested trees limits schedule array c k))
 
   not_large : IsLarge c.system → ⊥
   not_large (inl h) = few c.system.columns columns_few h

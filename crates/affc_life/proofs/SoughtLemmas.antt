@@ -23,10 +23,7 @@ abbrev pub steps : List (List (List Affine)) → ℕ
 steps [] = 0
 steps (alternatives ∷ factors) = suc (length alternatives + steps factors)
 
--- an entry of the first part, and one of the second
-pub in_first : {A : Type 0} (xs ys : List A) (number : ℕ) (x : A) → slice_get xs number ≡ Some x → slice_get (xs ++ ys) number ≡ Some x
-in_first xs ys number x e = slice_left xs ys number x e
-
+-- an entry of the second part
 pub in_second : {A : Type 0} (xs ys : List A) (number left : ℕ) → number ≡ length xs + left → slice_get (xs ++ ys) number ≡ slice_get ys left
 in_second xs ys number left e = ap (slice_get (xs ++ ys)) e ∙ slice_right xs ys left
 
@@ -37,7 +34,7 @@ pub with_first : (alternatives rest : List (List Affine)) (factors : List (List 
     → all ≡ first ++ rows → slice_get (choices factors) number ≡ Some rows → slice_get (choices (alternatives ∷ factors)) number ≡ Some all
 with_first alternatives rest factors first rows all number is a e =
     ap (λ us. slice_get (choices (us ∷ factors)) number) is
-    ∙ in_first (map (λ v. first ++ v) (choices factors)) (choices (rest ∷ factors)) number (first ++ rows) (to_mapped (λ v. first ++ v) (choices factors) number rows e)
+    ∙ slice_left (map (λ v. first ++ v) (choices factors)) (choices (rest ∷ factors)) number (first ++ rows) (to_mapped (λ v. first ++ v) (choices factors) number rows e)
     ∙ ap Some (sym a)
 
 -- ---- Products
@@ -57,7 +54,7 @@ module _ (products : List ClashProduct) (i : ℕ) (p : ClashProduct) (within : i
       → slice_get (flat_map systems_in (drop i products)) left ≡ Some (with_choice p rows)
   sought_here factors left rows f e =
       ap (λ ps. slice_get (flat_map systems_in ps) left) next
-      ∙ in_first (systems_in p) (flat_map systems_in (drop (i + 1) products)) left (with_choice p rows) (to_mapped (with_choice p) (choices p.factors) left rows (ap (λ fs. slice_get (choices fs) left) (sym f) ∙ e))
+      ∙ slice_left (systems_in p) (flat_map systems_in (drop (i + 1) products)) left (with_choice p rows) (to_mapped (with_choice p) (choices p.factors) left rows (ap (λ fs. slice_get (choices fs) left) (sym f) ∙ e))
 
   pub sought_later : (factors : List (List (List Affine))) (left further : ℕ) → factors ≡ p.factors → left ≡ length (choices factors) + further
       → slice_get (flat_map systems_in (drop i products)) left ≡ slice_get (flat_map systems_in (drop (i + 1) products)) further

@@ -1,16 +1,17 @@
 -- The subscripts of a nest's accesses keep the limits of a pair system's.
-use Rattle.std.proofs.Common.{◌≡◌, ℕ, zero, suc, ◌+◌, ◌≤◌, ℤ, pos, IsTrue, List, [], ◌∷◌, ◌++◌, length, map, take, drop, replicate, sym, ap, subst, ◌∙◌, inl, inr, arith}
-use Rattle.std.specs.Prelude.{unsigned_abs, nat_le, nat_abs}
+use Rattle.std.proofs.Common.{◌≡◌, ℕ, ◌+◌, ◌^◌, ◌≤◌, IsTrue, List, [], ◌∷◌, length, map, sym, ap, subst, ◌∙◌, inl, inr, arith}
+use Rattle.std.specs.Prelude.{nat_le}
 use Rattle.std.specs.List.{All}
 use Rattle.std.proofs.lemmas.Bool.{leb-true}
-use Rattle.std.proofs.lemmas.List.Elements.{All-nil, All-cons, All-append, All-take, All-drop}
+use Rattle.std.proofs.lemmas.List.Elements.{All-nil, All-cons}
 use Rattle.affc_rows.specs.Forms.{Affine}
+use Rattle.affc_rows.proofs.SizeLemmas.{all_raised}
 use Rattle.affc_system.specs.Pairs.{IsSubscript}
 use Rattle.affc_ast.specs.declared.tree.Ix.{Ix}
 use Rattle.affc_trace.specs.Law.{IsIn}
 use Rattle.affc_domain.specs.Accesses as said
 use Rattle.affc_domain.specs.Accesses.{accesses_of}
-use Rattle.affc_domain.specs.Affine.{are_small, is_small, form_of}
+use Rattle.affc_domain.specs.Affine.{is_small, form_of}
 use Rattle.affc_domain.specs.Plain.{is_plain, all_plain}
 use Rattle.affc_domain.specs.Ranges.{number_ranges}
 use Rattle.affc_domain.specs.Rounds.{loops_in}
@@ -24,31 +25,22 @@ use Rattle.affc_nest.specs.declared.nest.Nest.{Nest}
 use Rattle.affc_nest.specs.Nests.{access_form, nest_of}
 use Rattle.affc_nest.specs.Sites.{Place}
 use Rattle.affc_nest.specs.Touches.{AllPlain}
+use Rattle.affc_nest.specs.Wide.{IsWide}
 use Rattle.affc_nest.proofs.EntryLemmas.{site_of, loops_are}
 use Rattle.affc_nest.proofs.PlaceProofs.{plain_place}
 use Rattle.affc_nest.proofs.QuestionLemmas.{place_of}
+use Rattle.affc_nest.proofs.RowLemmas.{small_side}
 use Rattle.affc_nest.proofs.SmallLemmas.{constant_small}
 use Rattle.affc_nest.proofs.WidenLemmas.{plain_small}
-use Rattle.affc_order.specs.Spread.{spread}
-use Rattle.affc_order.proofs.SpreadLemmas.{spread_width}
-use Rattle.affc_quast.specs.Leaves.{padded}
-use Rattle.affc_quast.proofs.LeafLemmas.{padded_width}
-use Rattle.affc_life.proofs.LightLemmas.{all_map}
 
 -- ---- Small forms
-
-small_all : (cs : List ℤ) → IsTrue (are_small cs) → All (λ c. unsigned_abs c ≤ 65536) cs
-small_all [] h = All-nil (λ c. unsigned_abs c ≤ 65536)
-small_all (c ∷ cs) h =
-    let a = both_true (nat_le (nat_abs c) 65536) (are_small cs) h in
-    All-cons (λ c. unsigned_abs c ≤ 65536) c cs (leb-true (nat_abs c) 65536 a.0) (small_all cs a.1)
 
 plain_subscript : (n : ℕ) (e : Ix) → IsTrue (is_plain n e) → IsSubscript n (form_of n 0 e)
 plain_subscript n e h =
     let s : IsTrue (is_small (form_of n 0 e)) = plain_small n 0 e h in
     record {
       width = form_width n 0 e ∙ none n;
-      coefs_fit = small_all (form_of n 0 e).coefs (both_true (nat_le (nat_abs (form_of n 0 e).constant) 16777216) (are_small (form_of n 0 e).coefs) s).1;
+      coefs_fit = (small_side n (form_of n 0 e) s (form_width n 0 e ∙ none n)).coefs_fit;
       constant_fits = constant_small (form_of n 0 e) s;
     }
   where
@@ -90,37 +82,7 @@ few_accesses nest n e i =
     let few : length (accesses_of s.assignment) ≤ 16 = leb-true (length (accesses_of s.assignment)) 16 (both_true (nat_le (length (accesses_of s.assignment)) 16) _ plain).0 in
     subst (λ m. m ≤ 16) (sym (ap (λ (y : Entry). length y.accesses) s.is ∙ length_map (access_form (length (number_ranges n.program.params) + loops_in s.its_rounds)) (accesses_of s.assignment))) few
 
--- ---- More columns
+-- ---- Wide forms
 
-zeros_fit : (n : ℕ) → All (λ c. unsigned_abs c ≤ 65536) (replicate n (pos 0))
-zeros_fit zero = All-nil (λ c. unsigned_abs c ≤ 65536)
-zeros_fit (suc n) = All-cons (λ c. unsigned_abs c ≤ 65536) (pos 0) (replicate n (pos 0)) (omega arith) (zeros_fit n)
-
-padded_subscript : (m n : ℕ) (f : Affine) → m ≤ n → IsSubscript m f → IsSubscript n (padded n f)
-padded_subscript m n f h s = record {
-  width = padded_width n f (less (length f.coefs) s.width);
-  coefs_fit = All-append (λ c. unsigned_abs c ≤ 65536) f.coefs (replicate _ (pos 0)) s.coefs_fit (zeros_fit _);
-  constant_fits = s.constant_fits;
-}
-  where
-    less : (k : ℕ) → k ≡ m → k ≤ n
-    less k e = omega (arith, h, e)
-
-spread_subscript : (m k l n : ℕ) (f : Affine) → (m + k) + l ≡ n → IsSubscript (m + l) f → IsSubscript n (spread m k 0 f)
-spread_subscript m k l n f e s =
-    let P = λ (c : ℤ). unsigned_abs c ≤ 65536 in
-    record {
-      width = spread_width m k l 0 f s.width ∙ none ((m + k) + l) e;
-      coefs_fit = All-append P (take m f.coefs) (replicate k (pos 0) ++ (drop m f.coefs ++ replicate 0 (pos 0))) (All-take P m f.coefs s.coefs_fit)
-          (All-append P (replicate k (pos 0)) (drop m f.coefs ++ replicate 0 (pos 0)) (zeros_fit k) (All-append P (drop m f.coefs) (replicate 0 (pos 0)) (All-drop P m f.coefs s.coefs_fit) (zeros_fit 0)));
-      constant_fits = s.constant_fits;
-    }
-  where
-    none : (x : ℕ) → x ≡ n → x + 0 ≡ n
-    none x e = omega (arith, e)
-
-pub all_padded_subscripts : (m n : ℕ) (fs : List Affine) → m ≤ n → All (IsSubscript m) fs → All (IsSubscript n) (map (padded n) fs)
-all_padded_subscripts m n fs h all = all_map (IsSubscript m) (IsSubscript n) (padded n) (λ f s. padded_subscript m n f h s) fs all
-
-pub all_spread_subscripts : (m k l n : ℕ) (fs : List Affine) → (m + k) + l ≡ n → All (IsSubscript (m + l)) fs → All (IsSubscript n) (map (spread m k 0) fs)
-all_spread_subscripts m k l n fs e all = all_map (IsSubscript (m + l)) (IsSubscript n) (spread m k 0) (λ f s. spread_subscript m k l n f e s) fs all
+pub subscripts_wide : (n : ℕ) (fs : List Affine) → All (IsSubscript n) fs → All (IsWide n) fs
+subscripts_wide n fs all = all_raised n 65536 16777216 (2 ^ 110) (2 ^ 110) fs (omega arith) (omega arith) all

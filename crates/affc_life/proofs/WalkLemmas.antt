@@ -12,13 +12,15 @@ use Rattle.affc_domain.proofs.Lists.{to_mapped, length_map}
 use Rattle.affc_nest.specs.declared.nest.Access.{Access}
 use Rattle.affc_nest.specs.declared.nest.Entry.{Entry}
 use Rattle.affc_nest.specs.declared.nest.Nest.{Nest}
+use Rattle.affc_order.specs.Systems.{rows_in}
 use Rattle.affc_sched.specs.Touched.{Each}
 use Rattle.affc_quast.specs.Leaves.{leaves_of}
 use Rattle.affc_quast.specs.Sources.{loads_in, loads_before, tree_of}
 use Rattle.affc_quast.specs.Trees.{Tree}
 use Rattle.affc_life.specs.Asked.{KeepLimits, AreLoads}
 use Rattle.affc_life.specs.Clashes.{Clash, between_rows, apart_rows, numbered_loads, clashes_of_tree, clashes_of_entry}
-use Rattle.affc_life.specs.Drafts.{rows_in, clashes_of_leaf, clashes_of_load}
+use Rattle.affc_life.specs.Drafts.{clashes_of_leaf, clashes_of_load}
+use Rattle.affc_life.proofs.ChoiceLemmas.{flat_same}
 
 -- nothing more
 pub none_more : {A : Type 0} (xs more : List A) → more ≡ [] → xs ≡ xs ++ more
@@ -49,10 +51,6 @@ each_back P xs ys zs e h = back_of P xs ys (subst (Each P) e h)
 flat_mapped : {A B C : Type 0} (g : A → B) (F : B → List C) (xs : List A) → flat_map F (map g xs) ≡ flat_map (λ x. F (g x)) xs
 flat_mapped g F [] = refl
 flat_mapped g F (x ∷ xs) = ap (λ ys. F (g x) ++ ys) (flat_mapped g F xs)
-
-flat_same : {A B : Type 0} (f g : A → List B) → ((x : A) → f x ≡ g x) → (xs : List A) → flat_map f xs ≡ flat_map g xs
-flat_same f g h [] = refl
-flat_same f g h (x ∷ xs) = ap (λ ys. ys ++ flat_map f xs) (h x) ∙ ap (λ ys. g x ++ ys) (flat_same f g h xs)
 
 -- the rows of two orders are those of their systems
 pub between_is : (front : List Affine) (after before : List Rows) (xs ys : List Affine)
@@ -134,10 +132,6 @@ trees_behind e entries rest trees others result part before loads i s l o r =
 -- ---- One load
 
 module _ (nest : Nest) (schedule : Schedule) (array : ℕ) (reader : Entry) (trees : List Tree) (n : ℕ) (load : Access) where
-  -- of another array
-  pub other_load : nat_eq load.array.0 array ≡ false → clashes_of_load nest schedule array reader trees (n, load) ≡ []
-  other_load e = ap (λ t. if t then clashes_of_tree nest schedule array reader load (slice_get trees n) else []) e
-
   pub no_tree_load : slice_get trees n ≡ None → clashes_of_load nest schedule array reader trees (n, load) ≡ []
   no_tree_load e = ap (λ o. if nat_eq load.array.0 array then clashes_of_tree nest schedule array reader load o else []) e ∙ either (nat_eq load.array.0 array)
     where

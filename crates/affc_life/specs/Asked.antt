@@ -1,15 +1,17 @@
 -- What clash systems are asked of.
-use Rattle.std.specs.Prelude.{◌≡◌, ℕ, suc, ◌+◌, ◌<◌, ◌≤◌, ℤ, pos, ◌≤ℤ◌, IsTrue, List, [], ◌∷◌, length, Some, slice_get}
+use Rattle.std.specs.Prelude.{◌≡◌, ℕ, suc, ◌+◌, ◌^◌, ◌<◌, ◌≤◌, ℤ, pos, ◌≤ℤ◌, IsTrue, List, [], ◌∷◌, length, Some, slice_get}
 use Rattle.std.specs.List.{All}
 use Rattle.affc_rows.specs.Forms.{Affine}
+use Rattle.affc_rows.specs.Sizes.{IsWithin}
 use Rattle.affc_trace.specs.Law.{IsIn}
 use Rattle.affc_nest.specs.Asked.{IsNest}
 use Rattle.affc_nest.specs.declared.nest.Entry.{Entry}
 use Rattle.affc_nest.specs.declared.nest.Nest.{Nest}
 use Rattle.affc_nest.specs.Parts.{coordinates}
+use Rattle.affc_order.specs.Placed.{IsPlaced}
 use Rattle.affc_order.specs.Posed.{Posed}
 use Rattle.affc_quast.specs.Leaves.{Leaf}
-use Rattle.affc_quast.specs.Limits.{Shaped, FitsForm, FitsTree, widest}
+use Rattle.affc_quast.specs.Limits.{Shaped, FitsTree, widest}
 use Rattle.affc_quast.specs.Sources.{loads_in, tree_of}
 use Rattle.affc_quast.specs.Trees.{Tree, Test, Div, Source, Input, depth_of}
 
@@ -43,14 +45,8 @@ KeepLimits nest trees = (part load : ℕ) (e : Entry) (tree : Tree) → slice_ge
 -- ---- Forms
 
 -- a form over so many columns within the limits of a tree's
-pub record IsLight (columns : ℕ) (form : Affine) : Type 0 where
-  pub width : length form.coefs ≡ columns
-  pub fits : FitsForm widest form
-
--- an instance of this part by light forms
-pub record HasForms (nest : Nest) (columns part : ℕ) (forms : List Affine) : Type 0 where
-  pub named : IsNamed nest part forms
-  pub light : All (IsLight columns) forms
+abbrev pub IsLight : (columns : ℕ) → Affine → Type 0
+IsLight columns = IsWithin columns (2 ^ 24) (2 ^ 50)
 
 -- ---- Leaves
 
@@ -59,13 +55,13 @@ abbrev pub AreDivisions : (columns : ℕ) → List (Affine × ℤ) → Type 0
 AreDivisions columns [] = Unit {0}
 AreDivisions columns (d ∷ ds) = IsLight columns d.0 × (pos 1 ≤ℤ d.1) × AreDivisions (suc columns) ds
 
--- the instance that a leaf names is by light forms
+-- the instance that a leaf names is by a form for each coordinate of its part, within the limits of rows
 pub record IsPath (nest : Nest) (columns : ℕ) (leaf : Leaf) : Type 0 where
   pub count : leaf.columns ≡ columns + length leaf.divisions
   pub few : length leaf.divisions ≤ 400
   pub rows : All (λ r. length r.coefs ≤ leaf.columns) leaf.rows
   pub divisions : AreDivisions columns leaf.divisions
-  pub named : (a : Posed) → leaf.named ≡ Some a → HasForms nest leaf.columns a.part a.iterators
+  pub named : (a : Posed) → leaf.named ≡ Some a → IsPlaced nest leaf.columns a
 
 -- a part of a nest that can have instances
 pub record IsLiving (nest : Nest) (e : Entry) : Type 0 where

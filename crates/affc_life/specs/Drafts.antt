@@ -9,6 +9,7 @@ use Rattle.affc_nest.specs.declared.nest.Entry.{Entry}
 use Rattle.affc_nest.specs.declared.nest.Nest.{Nest}
 use Rattle.affc_order.specs.Posed.{Posed}
 use Rattle.affc_order.specs.Systems.{target_order}
+use Rattle.affc_quast.specs.declared.leaves.Named.{Named}
 use Rattle.affc_quast.specs.Leaves.{Leaf}
 use Rattle.affc_products.specs.Blocks.{choices}
 use Rattle.affc_life.specs.declared.draft.Draft.{Draft}
@@ -41,12 +42,9 @@ pub record IsPaired (c : Clash) : Type 0 where
   pub first : All (IsSubscript c.system.columns) c.x
   pub second : All (IsSubscript c.system.columns) c.y
 
-abbrev pub rows_in : Rows → List Affine
-rows_in s = s.rows
-
--- an instance of a part by these forms
-abbrev pub posed : (part : ℕ) → (forms : List Affine) → Posed
-posed part forms = record { part = part; iterators = forms }
+-- the instance that a leaf in code names
+abbrev pub instance_named : Named → Posed
+instance_named a = record { part = a.part; iterators = a.forms }
 
 -- the schedule runs the store after the named instance, and before the load
 abbrev pub after_named : Nest → Schedule → (reader : Entry) → Leaf → (named : Posed) → (writer : Entry) → List Rows

@@ -1,7 +1,6 @@
 //! Forms at the columns of a clash system.
-ghost use Rattle.std.specs.Prelude.{◌≡◌, ◌+◌, ◌≤◌, ◌++◌, length, map, IfOk, OnOk};
+ghost use Rattle.std.specs.Prelude.{◌≡◌, ◌≤◌, ◌++◌, length, map, OnOk};
 ghost use Rattle.std.specs.List.{All};
-ghost use Rattle.affc_trace.specs.Inverses.{columns_from};
 ghost use Rattle.affc_rows.specs.Vocabulary.{padded};
 
 use affc_rows::Form;
@@ -25,22 +24,4 @@ pub fn add_padded(
             add_padded(alloc, columns, rest, out)
         }
     }
-}
-
-/// So many columns from one on, each as a form.
-#[tactic(auto, using(affc_order::proofs::CodeLemmas::one_column_more))]
-pub fn columns_from(
-    alloc: Global,
-    columns: u32,
-    first: u32,
-    n: u32,
-) -> Result<Vec<Form>, AllocError>
-    requires { first + n ≤ 1000 }
-    ensures { IfOk result (λ v. v.items ≡ columns_from columns first n) }
-{
-    let mut made = Vec::new(alloc);
-    for i in 0..n {
-        made.push(Form::column(alloc, columns, first + i)?)?;
-    }
-    Ok(made)
 }

@@ -4,8 +4,7 @@ ghost use Rattle.std.specs.List.{All};
 ghost use Rattle.affc_life.specs.Clashes.{apart_rows};
 ghost use Rattle.affc_nest.specs.Wide.{IsWide};
 
-use crate::rows::{add_equal, add_less};
-use affc_nest::lists::copied;
+use affc_nest::lists::{add_equal_rows, add_gap_row, copied};
 use affc_rows::Form;
 use sqlite_items::Items;
 use std::alloc::{AllocError, Global};
@@ -29,13 +28,13 @@ fn add_apart(
             [] => Ok(()),
             [g, later_gs @ ..] => {
                 let mut less = copied(alloc, rows)?;
-                add_less(alloc, columns, f, g, &mut less)?;
+                add_gap_row(alloc, columns, f, g, 1, &mut less)?;
                 out.push(less)?;
                 let mut greater = copied(alloc, rows)?;
-                add_less(alloc, columns, g, f, &mut greater)?;
+                add_gap_row(alloc, columns, g, f, 1, &mut greater)?;
                 out.push(greater)?;
                 let mut equal = copied(alloc, rows)?;
-                add_equal(alloc, columns, f, g, &mut equal)?;
+                add_equal_rows(alloc, columns, f, g, &mut equal)?;
                 add_apart(alloc, columns, later_fs, later_gs, equal.as_slice(), out)
             }
         },

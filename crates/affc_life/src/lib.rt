@@ -8,14 +8,11 @@ mod drafts;
 pub mod examples;
 pub mod fault;
 pub mod laws;
-mod orders;
 pub mod product;
 mod products;
 mod ranges;
-mod rows;
 pub mod stores;
 pub mod systems;
-pub mod times;
 pub mod walk;
 
 pub use clash::ClashProduct;

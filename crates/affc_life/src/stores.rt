@@ -4,18 +4,20 @@ ghost use Rattle.std.specs.List.{All};
 ghost use Rattle.affc_trace.specs.Law.{IsIn};
 ghost use Rattle.affc_nest.specs.Parts.{coordinates};
 ghost use Rattle.affc_order.specs.Asked.{IsScheduled};
+ghost use Rattle.affc_order.specs.Placed.{IsPlaced};
+ghost use Rattle.affc_order.specs.Systems.{rows_in};
 ghost use Rattle.affc_quast.specs.SeenLeaves.{leaf_seen};
-ghost use Rattle.affc_life.specs.Asked.{HasForms, AreSeated};
+ghost use Rattle.affc_life.specs.Asked.{AreSeated};
 ghost use Rattle.affc_life.specs.Clashes.{of_reader, of_writer, front_rows, clashes_of_store};
-ghost use Rattle.affc_life.specs.Drafts.{drafted, posed, rows_in, after_named, before_load};
+ghost use Rattle.affc_life.specs.Drafts.{drafted, instance_named, after_named, before_load};
 
-use crate::columns::{add_padded, columns_from};
+use crate::columns::add_padded;
 use crate::draft::Draft;
 use crate::drafts::factors_between;
 use crate::ranges::clash_ranges;
-use crate::times::target_order;
 use affc_nest::{Access, Entry, Nest};
-use affc_order::columns::add_spread;
+use affc_order::columns::{add_spread, columns_from};
+use affc_order::{Placed, target_order};
 use affc_quast::leaves::{Leaf, Named};
 use affc_rows::Form;
 use affc_sched::systems::own_rows;
@@ -121,24 +123,23 @@ pub fn stored_after(
 ) -> Result<Vec<Items<Form>>, AllocError>
     requires asked { IsScheduled nest.now schedule.now }
     requires seated { AreSeated nest.now reader.now (leaf_seen leaf.now) writer.now }
-    requires named { HasForms nest.now leaf.now.columns named.now.part named.now.forms }
-    ensures { IfOk result (λ v. v.items ≡ map rows_in (after_named nest.now schedule.now reader.now (leaf_seen leaf.now) (posed named.now.part named.now.forms) writer.now)) }
+    requires named { IsPlaced nest.now leaf.now.columns (instance_named named.now) }
+    ensures { IfOk result (λ v. v.items ≡ map rows_in (after_named nest.now schedule.now reader.now (leaf_seen leaf.now) (instance_named named.now) writer.now)) }
 {
     let own = coordinates(writer);
     let columns = columns_in(leaf, writer);
     let mut names = Vec::new(alloc);
     add_padded(alloc, columns, named.forms.as_slice(), &mut names)?;
     let stores = columns_from(alloc, columns, leaf.columns, own)?;
-    target_order(
-        alloc,
-        nest,
-        schedule,
-        columns,
-        named.part,
-        names.as_slice(),
-        writer.part,
-        stores.as_slice(),
-    )
+    let first = Placed {
+        part: named.part,
+        forms: names.as_slice(),
+    };
+    let second = Placed {
+        part: writer.part,
+        forms: stores.as_slice(),
+    };
+    target_order(alloc, nest, schedule, columns, &first, &second)
 }
 
 /// The rows that say that the schedule runs the store before the load.
@@ -159,16 +160,15 @@ pub fn stored_before(
     let columns = columns_in(leaf, writer);
     let stores = columns_from(alloc, columns, leaf.columns, own)?;
     let loads = columns_from(alloc, columns, params, coordinates(reader))?;
-    target_order(
-        alloc,
-        nest,
-        schedule,
-        columns,
-        writer.part,
-        stores.as_slice(),
-        reader.part,
-        loads.as_slice(),
-    )
+    let first = Placed {
+        part: writer.part,
+        forms: stores.as_slice(),
+    };
+    let second = Placed {
+        part: reader.part,
+        forms: loads.as_slice(),
+    };
+    target_order(alloc, nest, schedule, columns, &first, &second)
 }
 
 /// Adds the systems of a load, a leaf that names this instance, and a store.
@@ -187,9 +187,9 @@ pub(crate) fn add_store(
     requires asked { IsScheduled nest.now schedule.now }
     requires seated { AreSeated nest.now reader.now (leaf_seen leaf.now) writer.now }
     requires load { IsIn load.now reader.now.accesses }
-    requires named { HasForms nest.now leaf.now.columns named.now.part named.now.forms }
+    requires named { IsPlaced nest.now leaf.now.columns (instance_named named.now) }
     requires store { IsIn store.now writer.now.accesses }
-    ensures { OnOk result (flat_map drafted out.new.items ≡ flat_map drafted out.old.items ++ clashes_of_store nest.now reader.now (leaf_seen leaf.now) writer.now schedule.now load.now (posed named.now.part named.now.forms) store.now) }
+    ensures { OnOk result (flat_map drafted out.new.items ≡ flat_map drafted out.old.items ++ clashes_of_store nest.now reader.now (leaf_seen leaf.now) writer.now schedule.now load.now (instance_named named.now) store.now) }
 {
     let x = loaded(alloc, nest, reader, load, leaf, writer)?;
     let y = stored(alloc, nest, reader, leaf, writer, store)?;

@@ -62,20 +62,6 @@ pub fn system_of(alloc: Global, columns: u32, rows: &[Form]) -> Result<System, C
     Ok(system)
 }
 
-/// Adds copies of forms.
-pub fn add_forms(forms: &[Form], out: &mut Vec<Form>) -> Result<(), AllocError>
-    ensures { OnOk result (out.new.items ≡ out.old.items ++ forms.now) }
-{
-    match forms {
-        [] => Ok(()),
-        [form, rest @ ..] => {
-            let copy = form.clone()?;
-            out.push(copy)?;
-            add_forms(rest, out)
-        }
-    }
-}
-
 /// The system of these four lists of rows, one behind the other, if they keep the limits.
 fn system_of_four(
     alloc: Global,

@@ -4,14 +4,15 @@ ghost use Rattle.std.specs.List.{All};
 ghost use Rattle.affc_trace.specs.Law.{IsIn};
 ghost use Rattle.affc_nest.specs.Parts.{coordinates};
 ghost use Rattle.affc_order.specs.Asked.{IsScheduled};
+ghost use Rattle.affc_order.specs.Placed.{IsPlaced};
 ghost use Rattle.affc_sched.specs.Touched.{Each};
 ghost use Rattle.affc_quast.specs.Leaves.{leaves_of};
 ghost use Rattle.affc_quast.specs.Seen.{seen, trees_of};
 ghost use Rattle.affc_quast.specs.SeenLeaves.{leaf_seen};
 ghost use Rattle.affc_quast.specs.Sources.{loads_in, loads_before};
-ghost use Rattle.affc_life.specs.Asked.{KeepLimits, KeepsLimits, HasForms, IsLiving, IsPath, AreLoads};
+ghost use Rattle.affc_life.specs.Asked.{KeepLimits, KeepsLimits, IsLiving, IsPath, AreLoads};
 ghost use Rattle.affc_life.specs.Clashes.{clash_of, clashes_with, clashes_of_entry, numbered_loads, clashes};
-ghost use Rattle.affc_life.specs.Drafts.{drafted, IsPaired, posed, clashes_of_leaf, clashes_of_load};
+ghost use Rattle.affc_life.specs.Drafts.{drafted, IsPaired, instance_named, clashes_of_leaf, clashes_of_load};
 ghost use Rattle.affc_life.specs.Products.{systems_in};
 ghost use Rattle.affc_life.specs.Sizes.{AnyLarge};
 
@@ -52,9 +53,9 @@ fn add_writer(
     requires reads { IsLiving asked.now.nest.now reader.now }
     requires load { IsIn load.now reader.now.accesses }
     requires path { IsPath asked.now.nest.now (length asked.now.nest.now.params + coordinates reader.now) (leaf_seen leaf.now) }
-    requires named { HasForms asked.now.nest.now leaf.now.columns named.now.part named.now.forms }
+    requires named { IsPlaced asked.now.nest.now leaf.now.columns (instance_named named.now) }
     requires writer { IsIn writer.now asked.now.nest.now.entries }
-    ensures { OnOk result (flat_map drafted out.new.items ≡ flat_map drafted out.old.items ++ clashes_with asked.now.nest.now asked.now.schedule.now asked.now.array.0 reader.now load.now (leaf_seen leaf.now) (posed named.now.part named.now.forms) writer.now) }
+    ensures { OnOk result (flat_map drafted out.new.items ≡ flat_map drafted out.old.items ++ clashes_with asked.now.nest.now asked.now.schedule.now asked.now.array.0 reader.now load.now (leaf_seen leaf.now) (instance_named named.now) writer.now) }
 {
     if !writer.alive {
         return Ok(());
@@ -86,9 +87,9 @@ fn add_writers(
     requires reads { IsLiving asked.now.nest.now reader.now }
     requires load { IsIn load.now reader.now.accesses }
     requires path { IsPath asked.now.nest.now (length asked.now.nest.now.params + coordinates reader.now) (leaf_seen leaf.now) }
-    requires named { HasForms asked.now.nest.now leaf.now.columns named.now.part named.now.forms }
+    requires named { IsPlaced asked.now.nest.now leaf.now.columns (instance_named named.now) }
     requires writers { Each (λ e. IsIn e asked.now.nest.now.entries) writers.now }
-    ensures { OnOk result (flat_map drafted out.new.items ≡ flat_map drafted out.old.items ++ flat_map (clashes_with asked.now.nest.now asked.now.schedule.now asked.now.array.0 reader.now load.now (leaf_seen leaf.now) (posed named.now.part named.now.forms)) writers.now) }
+    ensures { OnOk result (flat_map drafted out.new.items ≡ flat_map drafted out.old.items ++ flat_map (clashes_with asked.now.nest.now asked.now.schedule.now asked.now.array.0 reader.now load.now (leaf_seen leaf.now) (instance_named named.now)) writers.now) }
 {
     match writers {
         [] => Ok(()),

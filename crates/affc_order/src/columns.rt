@@ -16,7 +16,7 @@ pub fn columns_from(
     first: u32,
     n: u32,
 ) -> Result<Vec<Form>, AllocError>
-    requires { first + n ≤ 128 }
+    requires { first + n ≤ 1000 }
     ensures value { IfOk result (λ v. v.items ≡ columns_from columns first n) }
     ensures long { IfOk result (λ v. length v.items ≡ n) }
     ensures sides { IfOk result (λ v. All (IsSide columns) v.items) }

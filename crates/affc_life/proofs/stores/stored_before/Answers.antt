@@ -2,7 +2,7 @@ use Rattle.std.proofs.Common.{◌≡◌, ◌+◌, ◌≤◌, ℕ, length, arith,
 use Rattle.std.proofs.lemmas.Result.{IfOk-weaker}
 use Rattle.affc_quast.specs.SeenLeaves.{leaf_seen}
 use Rattle.affc_life.specs.Clashes.{reader_posed, writer_posed}
-use Rattle.affc_life.proofs.SeatedLemmas.{params_few, writer_few, reader_few, leaf_few, reader_forms, writer_forms, writes_are, reads_are, has_forms, order_made}
+use Rattle.affc_life.proofs.SeatedLemmas.{params_few, writer_few, reader_few, leaf_few, reader_forms, writer_forms, writes_are, reads_are, placed_over, order_made}
 use Rattle.affc_life.proofs.stores.stored_before.Goals as goal
 
 few_more : (first n c l : ℕ) → first ≡ c → n ≡ l → c ≤ 410 → l ≤ 6 → first + n ≤ 1000
@@ -35,21 +35,21 @@ columns_from-requires-2 c =
 
 pub target_order-requires-clause-first : goal.target_order-requires-clause-first
 target_order-requires-clause-first c =
-    has_forms c.args.nest.now c.args.reader.now (leaf_seen c.args.leaf.now) c.args.writer.now c.columns_in-columns.result c.columns_in-columns.ensures c.args.writer.now.part c.as_slice.result.now _
-    (c.as_slice.ensures.value ∙ writes_are c.args.nest.now c.args.reader.now (leaf_seen c.args.leaf.now) c.args.writer.now c.columns_in-columns.result c.columns_in-columns.ensures c.coordinates-own.result c.in_ok-stores.stores.items c.coordinates-own.ensures c.in_ok-stores.ensures)
+    placed_over c.args.nest.now c.args.reader.now (leaf_seen c.args.leaf.now) c.args.writer.now c.columns_in-columns.result c.columns_in-columns.ensures c.args.writer.now.part c.as_slice.result.now _
+    (c.as_slice.ensures.value ∙ writes_are c.args.nest.now c.args.reader.now (leaf_seen c.args.leaf.now) c.args.writer.now c.columns_in-columns.result c.columns_in-columns.ensures c.coordinates-own.result c.in_ok-stores.stores.items c.coordinates-own.ensures c.in_ok-stores.ensures.value)
     (writer_forms c.args.nest.now c.args.reader.now (leaf_seen c.args.leaf.now) c.args.writer.now c.requires.seated)
 
 pub target_order-requires-clause-second : goal.target_order-requires-clause-second
 target_order-requires-clause-second c =
-    has_forms c.args.nest.now c.args.reader.now (leaf_seen c.args.leaf.now) c.args.writer.now c.columns_in-columns.result c.columns_in-columns.ensures c.args.reader.now.part c.as_slice-2.result.now _
-    (c.as_slice-2.ensures.value ∙ reads_are c.args.nest.now c.args.reader.now (leaf_seen c.args.leaf.now) c.args.writer.now c.columns_in-columns.result c.columns_in-columns.ensures c.params_in-params.result c.coordinates.result c.in_ok-loads.loads.items c.params_in-params.ensures c.coordinates.ensures c.in_ok-loads.ensures)
+    placed_over c.args.nest.now c.args.reader.now (leaf_seen c.args.leaf.now) c.args.writer.now c.columns_in-columns.result c.columns_in-columns.ensures c.args.reader.now.part c.as_slice-2.result.now _
+    (c.as_slice-2.ensures.value ∙ reads_are c.args.nest.now c.args.reader.now (leaf_seen c.args.leaf.now) c.args.writer.now c.columns_in-columns.result c.columns_in-columns.ensures c.params_in-params.result c.coordinates.result c.in_ok-loads.loads.items c.params_in-params.ensures c.coordinates.ensures c.in_ok-loads.ensures.value)
     (reader_forms c.args.nest.now c.args.reader.now (leaf_seen c.args.leaf.now) c.args.writer.now c.requires.seated)
 
 pub returns : goal.returns
 returns c =
     IfOk-weaker c.target_order.result _ _
     (λ v e. order_made c.args.nest.now c.args.reader.now (leaf_seen c.args.leaf.now) c.args.writer.now c.columns_in-columns.result c.columns_in-columns.ensures c.args.schedule.now (writer_posed c.args.nest.now c.args.reader.now (leaf_seen c.args.leaf.now) c.args.writer.now) c.as_slice.result.now (reader_posed c.args.nest.now c.args.reader.now (leaf_seen c.args.leaf.now) c.args.writer.now) c.as_slice-2.result.now v.items
-    (c.as_slice.ensures.value ∙ writes_are c.args.nest.now c.args.reader.now (leaf_seen c.args.leaf.now) c.args.writer.now c.columns_in-columns.result c.columns_in-columns.ensures c.coordinates-own.result c.in_ok-stores.stores.items c.coordinates-own.ensures c.in_ok-stores.ensures)
-    (c.as_slice-2.ensures.value ∙ reads_are c.args.nest.now c.args.reader.now (leaf_seen c.args.leaf.now) c.args.writer.now c.columns_in-columns.result c.columns_in-columns.ensures c.params_in-params.result c.coordinates.result c.in_ok-loads.loads.items c.params_in-params.ensures c.coordinates.ensures c.in_ok-loads.ensures)
+    (c.as_slice.ensures.value ∙ writes_are c.args.nest.now c.args.reader.now (leaf_seen c.args.leaf.now) c.args.writer.now c.columns_in-columns.result c.columns_in-columns.ensures c.coordinates-own.result c.in_ok-stores.stores.items c.coordinates-own.ensures c.in_ok-stores.ensures.value)
+    (c.as_slice-2.ensures.value ∙ reads_are c.args.nest.now c.args.reader.now (leaf_seen c.args.leaf.now) c.args.writer.now c.columns_in-columns.result c.columns_in-columns.ensures c.params_in-params.result c.coordinates.result c.in_ok-loads.loads.items c.params_in-params.ensures c.coordinates.ensures c.in_ok-loads.ensures.value)
     e)
     c.target_order.ensures

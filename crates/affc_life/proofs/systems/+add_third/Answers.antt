@@ -4,7 +4,8 @@ use Rattle.std.proofs.lemmas.Result.{err_from_is_err_and, on_ok_weaker, IfErr-we
 use Rattle.affc_life.specs.Clashes.{clash_of}
 use Rattle.affc_life.specs.Drafts.{drafts_behind, IsPaired}
 use Rattle.affc_life.proofs.ChoiceLemmas.{in_alternatives}
-use Rattle.affc_life.proofs.LimitLemmas.{first_and_rest, one_large, one_fits, large_in_first, large_in_others, none_in_parts, paired_first, paired_others, both_added}
+use Rattle.affc_order.proofs.ListLemmas.{first_and_rest}
+use Rattle.affc_life.proofs.LimitLemmas.{one_large, one_fits, large_in_first, large_in_others, none_in_parts, paired_first, paired_others, both_added}
 use Rattle.affc_life.proofs.systems.+add_third.Goals as goal
 
 pub add_pair-requires : goal.add_pair-requires

@@ -3,7 +3,7 @@ use Rattle.std.proofs.lemmas.Result.{on_ok_weaker}
 use Rattle.affc_quast.specs.Seen.{seen}
 use Rattle.affc_life.specs.Clashes.{clashes_of_entry}
 use Rattle.affc_life.specs.Drafts.{drafted}
-use Rattle.affc_life.proofs.LimitLemmas.{first_and_rest}
+use Rattle.affc_order.proofs.ListLemmas.{first_and_rest}
 use Rattle.affc_life.proofs.WalkLemmas.{next_made}
 use Rattle.affc_life.proofs.walk.+add_readers.Goals as goal
 

@@ -13,6 +13,9 @@ two m n k o i h e l = omega (arith, h, e, l)
 three : (m n k o i : ℕ) → m ≤ 4 → n ≡ o → o ≤ 6 → k ≡ i → i ≤ 6 → (m + n) + k ≤ 128
 three m n k o i h e l f g = omega (arith, h, e, l, f, g)
 
+in_reach : (n : ℕ) → n ≤ 128 → n ≤ 1000
+in_reach n h = omega (arith, h)
+
 pub coordinates-outer-requires-clause-few : goal.coordinates-outer-requires-clause-few
 coordinates-outer-requires-clause-few c = let few = few_loops c.args.nest.now c.requires.nest c.args.first c.requires.first in omega (arith, few)
 
@@ -22,13 +25,13 @@ coordinates-inner-requires-clause-few c = let few = few_loops c.args.nest.now c.
 pub columns_from-requires : goal.columns_from-requires
 columns_from-requires c =
     let params : length c.ranges-2.result.now ≤ 4 = subst (λ rs. length rs ≤ 4) (sym c.ranges-2.ensures.ranges) (nest_few c.args.nest.now c.requires.nest) in
-    two (length c.ranges-2.result.now) c.coordinates-outer.result 0 (coordinates_of c.args.nest.now c.args.first) 0 params c.coordinates-outer.ensures (few_loops c.args.nest.now c.requires.nest c.args.first c.requires.first)
+    in_reach _ (two (length c.ranges-2.result.now) c.coordinates-outer.result 0 (coordinates_of c.args.nest.now c.args.first) 0 params c.coordinates-outer.ensures (few_loops c.args.nest.now c.requires.nest c.args.first c.requires.first))
 
 pub columns_from-requires-2 : goal.columns_from-requires-2
 columns_from-requires-2 c =
     let params : length c.ranges-2.result.now ≤ 4 = subst (λ rs. length rs ≤ 4) (sym c.ranges-2.ensures.ranges) (nest_few c.args.nest.now c.requires.nest) in
-    three (length c.ranges-2.result.now) c.coordinates-outer.result c.coordinates-inner.result (coordinates_of c.args.nest.now c.args.first) (coordinates_of c.args.nest.now c.args.second) params
-    c.coordinates-outer.ensures (few_loops c.args.nest.now c.requires.nest c.args.first c.requires.first) c.coordinates-inner.ensures (few_loops c.args.nest.now c.requires.nest c.args.second c.requires.second)
+    in_reach _ (three (length c.ranges-2.result.now) c.coordinates-outer.result c.coordinates-inner.result (coordinates_of c.args.nest.now c.args.first) (coordinates_of c.args.nest.now c.args.second) params
+    c.coordinates-outer.ensures (few_loops c.args.nest.now c.requires.nest c.args.first c.requires.first) c.coordinates-inner.ensures (few_loops c.args.nest.now c.requires.nest c.args.second c.requires.second))
 
 pub overflow_add-columns : goal.overflow_add-columns
 overflow_add-columns c =

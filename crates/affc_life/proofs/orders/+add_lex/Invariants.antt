@@ -1,4 +1,0 @@
-use Rattle.affc_life.proofs.orders.+add_lex.Given as goal
-
-abbrev pub decreases-add_lex : goal.decreases-add_lex
-decreases-add_lex l = l.n

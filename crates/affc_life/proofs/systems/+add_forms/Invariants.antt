@@ -1,5 +1,0 @@
-use Rattle.std.proofs.Common.{length}
-use Rattle.affc_life.proofs.systems.+add_forms.Given as goal
-
-abbrev pub decreases-add_forms : goal.decreases-add_forms
-decreases-add_forms l = length l.forms.now
