@@ -39,7 +39,7 @@ pub(crate) fn add_below_zero(
             let mut rows = Items::new(alloc);
             rows.push(row)?;
             add_list(rows, out)?;
-            add_negated(alloc, columns, rest, out)
+            add_below_zero(alloc, columns, rest, out)
         }
     }
 }

@@ -4,7 +4,7 @@ ghost use Rattle.std.specs.List.{All};
 ghost use Rattle.affc_products.specs.Groups.{group_systems};
 ghost use Rattle.affc_products.specs.Parts.{IsWithin};
 ghost use Rattle.affc_questions.specs.legality.Added.{AreAdded, NoneDepends};
-ghost use Rattle.affc_order.specs.Systems.{source_systems, turned_systems};
+ghost use Rattle.affc_order.specs.Systems.{rows_in, source_systems, turned_systems};
 ghost use Rattle.affc_sched.specs.Touched.{IsTouched, Each};
 ghost use Rattle.affc_sched.specs.Legality.{IsAsked};
 ghost use Rattle.affc_sched.specs.Questions.{touches, may_depend, pair_questions, questions_of, questions_to, questions_with, questions_from, legality_questions};
@@ -14,9 +14,10 @@ use crate::legality::products::add_product;
 use affc_nest::{Access, Entry, Nest};
 use affc_order::{source_before, target_after};
 use affc_products::Group;
+use affc_rows::Form;
 use affc_sched::pair_rows;
-use affc_system::System;
 use affc_trace::schedule::Schedule;
+use sqlite_items::Items;
 use std::alloc::{AllocError, Global};
 
 /// An access of a part, and whether it is the part's store.
@@ -32,8 +33,8 @@ struct Place<'a> {
 #[derive(Drop)]
 struct Orders<'a> {
     schedule: &'a Schedule,
-    earlier: &'a [System],
-    later: &'a [System],
+    earlier: &'a [Items<Form>],
+    later: &'a [Items<Form>],
 }
 
 /// Adds the questions on two accesses of one array.
@@ -49,8 +50,8 @@ fn add_pair(
     requires from { IsTouched nest.now from.now.entry.now from.now.access.now }
     requires to { IsTouched nest.now to.now.entry.now to.now.access.now }
     requires one_array { from.now.access.now.array.0 ≡ to.now.access.now.array.0 }
-    requires earlier { orders.now.earlier.now ≡ source_systems nest.now from.now.entry.now.part to.now.entry.now.part }
-    requires later { orders.now.later.now ≡ turned_systems nest.now from.now.entry.now.part to.now.entry.now.part orders.now.schedule.now }
+    requires earlier { orders.now.earlier.now ≡ map rows_in (source_systems nest.now from.now.entry.now.part to.now.entry.now.part) }
+    requires later { orders.now.later.now ≡ map rows_in (turned_systems nest.now from.now.entry.now.part to.now.entry.now.part orders.now.schedule.now) }
     ensures { OnOk result (AreAdded out.old.items out.new.items (pair_questions nest.now from.now.entry.now to.now.entry.now orders.now.schedule.now from.now.access.now to.now.access.now)) }
 {
     let pair = pair_rows(alloc, nest, from.entry, to.entry, from.access, to.access)?;
@@ -89,8 +90,8 @@ fn add_touch(
     requires asked { IsAsked nest.now orders.now.schedule.now }
     requires from { IsTouched nest.now from.now.entry.now from.now.access.now }
     requires to { IsTouched nest.now to.now.entry.now to.now.access.now }
-    requires earlier { orders.now.earlier.now ≡ source_systems nest.now from.now.entry.now.part to.now.entry.now.part }
-    requires later { orders.now.later.now ≡ turned_systems nest.now from.now.entry.now.part to.now.entry.now.part orders.now.schedule.now }
+    requires earlier { orders.now.earlier.now ≡ map rows_in (source_systems nest.now from.now.entry.now.part to.now.entry.now.part) }
+    requires later { orders.now.later.now ≡ map rows_in (turned_systems nest.now from.now.entry.now.part to.now.entry.now.part orders.now.schedule.now) }
     ensures { OnOk result (AreAdded out.old.items out.new.items (questions_of nest.now orders.now.schedule.now from.now.entry.now (from.now.access.now, from.now.stores) to.now.entry.now (to.now.access.now, to.now.stores))) }
 {
     if !may_depend(from, to.access, to.stores) {
@@ -112,8 +113,8 @@ fn add_accesses(
     requires asked { IsAsked nest.now orders.now.schedule.now }
     requires from { IsTouched nest.now from.now.entry.now from.now.access.now }
     requires to { Each (IsTouched nest.now b.now) accesses.now }
-    requires earlier { orders.now.earlier.now ≡ source_systems nest.now from.now.entry.now.part b.now.part }
-    requires later { orders.now.later.now ≡ turned_systems nest.now from.now.entry.now.part b.now.part orders.now.schedule.now }
+    requires earlier { orders.now.earlier.now ≡ map rows_in (source_systems nest.now from.now.entry.now.part b.now.part) }
+    requires later { orders.now.later.now ≡ map rows_in (turned_systems nest.now from.now.entry.now.part b.now.part orders.now.schedule.now) }
     ensures { OnOk result (AreAdded out.old.items out.new.items (flat_map (questions_of nest.now orders.now.schedule.now from.now.entry.now (from.now.access.now, from.now.stores) b.now) (touches accesses.now))) }
 {
     match accesses {

@@ -3,33 +3,60 @@ ghost use Rattle.std.specs.Prelude.{◌≡◌, ◌≤◌, ◌++◌, ◌∷◌, [
 ghost use Rattle.std.specs.List.{All};
 ghost use Rattle.affc_products.specs.Groups.{group_systems};
 ghost use Rattle.affc_products.specs.Parts.{IsWithin};
-ghost use Rattle.affc_sched.specs.Spreadable.{IsOrder};
-ghost use Rattle.affc_questions.specs.legality.Alternatives.{FitsColumns, rows_of_each, with_orders};
+ghost use Rattle.affc_order.specs.Placed.{IsOrder};
+ghost use Rattle.affc_questions.specs.legality.Alternatives.{with_orders};
 
+use affc_nest::lists::copied;
 use affc_products::Group;
 use affc_rows::Form;
 use affc_system::System;
 use sqlite_items::Items;
 use std::alloc::{AllocError, Global};
 
+/// Adds copies of the rows of each of these orders.
+fn add_alternatives(
+    alloc: Global,
+    orders: &[Items<Form>],
+    out: &mut Items<Items<Form>>,
+) -> Result<(), AllocError>
+    ensures { OnOk result (out.new ≡ out.old ++ orders.now) }
+{
+    match orders {
+        [] => Ok(()),
+        [order, rest @ ..] => {
+            out.push(copied(alloc, order.as_slice())?)?;
+            add_alternatives(alloc, rest, out)
+        }
+    }
+}
+
+/// Copies of the rows of each of these orders.
+fn alternatives(alloc: Global, orders: &[Items<Form>]) -> Result<Items<Items<Form>>, AllocError>
+    ensures { IfOk result (λ f. f ≡ orders.now) }
+{
+    let mut factor = Items::new(alloc);
+    add_alternatives(alloc, orders, &mut factor)?;
+    Ok(factor)
+}
+
 /// Adds the group of the rows of two accesses, with the orders behind them as its factors.
 pub(crate) fn add_product(
     alloc: Global,
     pair: System,
-    earlier: Vec<Items<Form>>,
-    later: Vec<Items<Form>>,
+    earlier: &[Items<Form>],
+    later: &[Items<Form>],
     out: &mut Vec<Group>,
 ) -> Result<(), AllocError>
     requires pair { length pair.rows ≤ 900 }
-    requires earlier { All (IsOrder pair.columns) earlier.items }
-    requires later { All (IsOrder pair.columns) later.items }
-    ensures put { OnOk result (flat_map group_systems out.new.items ≡ flat_map group_systems out.old.items ++ with_orders pair earlier.items later.items) }
-    ensures within { OnOk result (All IsWithin (with_orders pair earlier.items later.items)) }
+    requires earlier { All (IsOrder pair.columns) earlier.now }
+    requires later { All (IsOrder pair.columns) later.now }
+    ensures put { OnOk result (flat_map group_systems out.new.items ≡ flat_map group_systems out.old.items ++ with_orders pair earlier.now later.now) }
+    ensures within { OnOk result (All IsWithin (with_orders pair earlier.now later.now)) }
 {
     let columns = pair.columns();
     let mut factors = Items::new(alloc);
-    factors.push(Items::from_vec(earlier))?;
-    factors.push(Items::from_vec(later))?;
+    factors.push(alternatives(alloc, earlier)?)?;
+    factors.push(alternatives(alloc, later)?)?;
     let front = Items::from_vec(pair.into_rows());
     out.push(Group {
         columns,

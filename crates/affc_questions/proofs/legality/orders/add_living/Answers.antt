@@ -24,9 +24,9 @@ add_accesses-requires-clause-to c = all_touched c.args.nest.now c.args.b.now c.a
 pub returns-then-is_empty : goal.returns-then-is_empty
 returns-then-is_empty c =
     nothing_added c.args.out.now.items _
-    (all_none_earlier c.args.nest.now c.args.schedule.now c.args.from.now.entry.now (c.args.from.now.access.now, c.args.from.now.stores) c.args.b.now (touches c.args.b.now.accesses) c.in_ok-earlier.earlier.items (no_items c.in_ok-earlier.earlier c.is_empty.result c.is_empty.ensures c.if-is_empty.true) c.in_ok-earlier.ensures)
+    (all_none_earlier c.args.nest.now c.args.schedule.now c.args.from.now.entry.now (c.args.from.now.access.now, c.args.from.now.stores) c.args.b.now (touches c.args.b.now.accesses) c.in_ok-earlier.earlier.items (no_items c.in_ok-earlier.earlier c.is_empty.result c.is_empty.ensures c.if-is_empty.true) c.in_ok-earlier.ensures.rows)
 
 pub returns-then-is_empty-2 : goal.returns-then-is_empty-2
 returns-then-is_empty-2 c =
     nothing_added c.args.out.now.items _
-    (all_none_later c.args.nest.now c.args.schedule.now c.args.from.now.entry.now (c.args.from.now.access.now, c.args.from.now.stores) c.args.b.now (touches c.args.b.now.accesses) c.in_ok-later.later.items (no_items c.in_ok-later.later c.is_empty-2.result c.is_empty-2.ensures c.if-is_empty-2.true) c.in_ok-later.ensures)
+    (all_none_later c.args.nest.now c.args.schedule.now c.args.from.now.entry.now (c.args.from.now.access.now, c.args.from.now.stores) c.args.b.now (touches c.args.b.now.accesses) c.in_ok-later.later.items (no_items c.in_ok-later.later c.is_empty-2.result c.is_empty-2.ensures c.if-is_empty-2.true) c.in_ok-later.ensures.rows)
