@@ -54,9 +54,6 @@ counted_entry nest n e i = (pairs.stands_in nest (is_nest nest n) e i).counted
 pub its_store_is : (nest : Nest) (array : ℕ) (v : Entry) (y : Access) → Writes nest array v y → IsIn y v.accesses
 its_store_is nest array v y w = stands_in v.accesses (loads_in v) y w.last
 
-pub as_many_dimensions : (nest : Nest) → IsNamedNest nest → (v e : Entry) (y x : Access) → IsIn e nest.entries → IsIn x e.accesses → Writes nest x.array.0 v y → length y.subs ≡ length x.subs
-as_many_dimensions nest n v e y x i j w = pairs.as_many_subs nest schedule.Source (may_be_asked nest n) v e w.among i y x (its_store_is nest x.array.0 v y w) j w.of_array
-
 pub few_dimensions : (nest : Nest) → IsNamedNest nest → (v : Entry) (y : Access) (array : ℕ) → Writes nest array v y → length y.subs ≤ 4
 few_dimensions nest n v y array w = pairs.few_subs nest schedule.Source (may_be_asked nest n) v w.among y (its_store_is nest array v y w)
 
@@ -168,15 +165,15 @@ module _ (nest : Nest) (v e : Entry) (y x : Access) (p its : List ℤ) (pair : R
 
 pub orders_again : (nest : Nest) (v e : Entry) (y x : Access) (pair : Rows) (held made : List (List Affine)) → pair ≡ record { columns = pair_columns nest v.part e.part; rows = store_rows nest v e y x }
     → held ≡ made → made ≡ map rows_in (source_systems nest v.part e.part) → map (over pair.columns) held ≡ source_systems nest v.part e.part
-orders_again nest v e y x pair held made p h e =
-    ap (λ (r : Rows). map (over r.columns) held) p ∙ ap (map (over (pair_columns nest v.part e.part))) h ∙ source_again nest v.part e.part made e
+orders_again nest v e y x pair held made p h is =
+    ap (λ (r : Rows). map (over r.columns) held) p ∙ ap (map (over (pair_columns nest v.part e.part))) h ∙ source_again nest v.part e.part made is
 
 pub orders_fit : (nest : Nest) (v e : Entry) (y x : Access) (pair : Rows) (held made : List (List Affine)) → pair ≡ record { columns = pair_columns nest v.part e.part; rows = store_rows nest v e y x }
     → held ≡ made → All (IsOrder (pair_columns nest v.part e.part)) made → All (IsOrder pair.columns) held
 orders_fit nest v e y x pair held made p h fit = subst (All (IsOrder pair.columns)) (sym h) (subst (λ (r : Rows). All (IsOrder r.columns) made) (sym p) fit)
 
 pub all_over : {A B : Type 0} (F : A → B) (xs : List A) (ys : List B) → map F xs ≡ ys → Each (λ x. IsIn (F x) ys) xs
-all_over F xs ys e = subst (λ zs. Each (λ x. IsIn (F x) zs) xs) e (each_one (λ x. IsIn (F x) (map F xs)) xs (mapped_in xs))
+all_over {A = A} F xs ys e = subst (λ zs. Each (λ x. IsIn (F x) zs) xs) e (each_one (λ x. IsIn (F x) (map F xs)) xs (mapped_in xs))
   where
     mapped_in : (xs : List A) (x : A) → IsIn x xs → IsIn (F x) (map F xs)
     mapped_in [] x i = absurd i

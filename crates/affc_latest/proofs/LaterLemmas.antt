@@ -1,8 +1,9 @@
 -- The later of two instances, and the latest of more and more of them.
-use Rattle.std.proofs.Common.{◌≡◌, ℕ, ◌+◌, ℤ, Bool, true, false, true≢false, List, [], ◌∷◌, ◌++◌, length, Option, Some, None, refl, sym, ap, subst, ◌∙◌, ◌⊎◌, inl, inr, arith}
+use Rattle.std.proofs.Common.{◌≡◌, ℕ, ◌+◌, ◌≤◌, ℤ, IsTrue, Bool, true, false, true≢false, List, [], ◌∷◌, ◌++◌, length, map, Option, Some, None, refl, sym, ap, subst, ◌∙◌, ◌⊎◌, inl, inr, arith}
 use Rattle.std.specs.Prelude.{◌↔◌, IfSome, ◌<◌}
 use Rattle.std.proofs.lemmas.Option.{slice_get_within}
-use Rattle.affc_system.specs.Systems.{Rows}
+use Rattle.affc_rows.specs.Forms.{Affine}
+use Rattle.affc_system.specs.Systems.{Rows, IsPoint}
 use Rattle.affc_ast.specs.declared.tree.Instance.{Instance}
 use Rattle.affc_ast.specs.declared.tree.Program.{Program}
 use Rattle.affc_ast.specs.Trace.{trace}
@@ -16,12 +17,15 @@ use Rattle.affc_trace.proofs.Once.{once}
 use Rattle.affc_trace.proofs.Runs.{length_append}
 use Rattle.affc_trace.proofs.Targets.{same_instance_decides}
 use Rattle.affc_domain.specs.Ranges.{number_ranges}
+use Rattle.affc_nest.specs.Asked.{IsNest}
 use Rattle.affc_nest.specs.declared.nest.Nest.{Nest}
+use Rattle.affc_nest.proofs.QuestionProofs.{nest_few}
 use Rattle.affc_nest.specs.Laws.{HasNest}
 use Rattle.affc_nest.specs.Nests.{nest_of}
 use Rattle.affc_order.specs.Laws.{IsPointOfOne}
-use Rattle.affc_order.specs.Systems.{loops_or_none, loops_of, pair_columns, first_posed, second_posed, source_systems}
-use Rattle.affc_order.proofs.OrderLemmas.{order_columns, systems_are_the_orders}
+use Rattle.affc_order.specs.Systems.{loops_or_none, loops_of, over, pair_columns, source_systems}
+use Rattle.affc_order.proofs.CodeLemmas.{few_loops}
+use Rattle.affc_order.proofs.OrderLemmas.{systems_are_the_orders}
 use Rattle.affc_sched.specs.Touched.{Each}
 use Rattle.affc_latest.specs.Latest.{IsLatest}
 use Rattle.affc_latest.specs.Stores.{IsNumbered, IsWriterAt, IsLaterOf}

@@ -48,7 +48,6 @@ pub(crate) fn store_rows(
     requires second { IsIn reader.now nest.now.entries }
     requires from { IsIn store.now writer.now.accesses }
     requires to { IsIn load.now reader.now.accesses }
-    requires many { length store.now.subs ≡ length load.now.subs }
     requires few { length store.now.subs ≤ 4 }
     ensures value { IfOk result (λ s. s ≡ record { columns = pair_columns nest.now writer.now.part reader.now.part; rows = store_rows nest.now writer.now reader.now store.now load.now }) }
     ensures few { IfOk result (λ s. length s.rows ≤ 900) }

@@ -6,7 +6,7 @@ use affc_system::BoxOf;
 use std::alloc::{AllocError, Global};
 
 /// The ranges of another part's coordinates between the values of the parameters and of the load's coordinates.
-#[tactic(auto, using(affc_sched::proofs::Lists::three_ranges))]
+#[tactic(auto, using(affc_trace::proofs::EndedReads::append_assoc))]
 pub(crate) fn beside_ranges(
     alloc: Global,
     p: &[i64],

@@ -1,6 +1,6 @@
 -- Questions of trees that the search gives keep the limits of a system.
-use Rattle.std.proofs.Common.{◌≡◌, ℕ, suc, ◌+◌, ◌-◌, ◌*◌, ◌^◌, ◌<◌, ◌≤◌, ℤ, pos, Bool, true, false, IsTrue, if◌then◌else◌, List, [], ◌∷◌, ◌++◌, length, map, flat_map, drop, replicate, Option, Some, None, refl, sym, ap, subst, ◌∙◌, inl, inr, arith}
-use Rattle.std.specs.Prelude.{unsigned_abs, slice_get, nat_eq}
+use Rattle.std.proofs.Common.{◌≡◌, ℕ, suc, ◌+◌, ◌-◌, ◌*◌, ◌^◌, ◌<◌, ◌≤◌, ℤ, Bool, true, false, IsTrue, if◌then◌else◌, List, [], ◌∷◌, ◌++◌, length, map, flat_map, drop, Option, Some, None, refl, sym, ap, subst, inl, inr, arith}
+use Rattle.std.specs.Prelude.{slice_get, nat_eq}
 use Rattle.std.specs.List.{All}
 use Rattle.std.proofs.lemmas.List.{length-drop}
 use Rattle.std.proofs.lemmas.List.Elements.{All-nil, All-cons, All-head, All-tail, All-append, All-drop, All-weaker}
@@ -27,7 +27,6 @@ use Rattle.affc_nest.specs.Parts.{statement_of}
 use Rattle.affc_nest.specs.Domains.{gap_row, compare_rows}
 use Rattle.affc_nest.specs.Laws.{HasNest, NamesArrays}
 use Rattle.affc_nest.specs.Nests.{nest_of}
-use Rattle.affc_nest.specs.Sides.{IsSide}
 use Rattle.affc_nest.proofs.QuestionLemmas.{stands_in}
 use Rattle.affc_nest.proofs.QuestionProofs.{domain_small, few_numbered}
 use Rattle.affc_order.specs.Placed.{IsPlaced}
@@ -42,7 +41,6 @@ use Rattle.affc_quast.specs.Leaves.{Leaf, padded, negated, leaves_of}
 use Rattle.affc_quast.specs.Limits.{FitsForm, narrow}
 use Rattle.affc_quast.specs.Sources.{loads_in, tree_of}
 use Rattle.affc_quast.specs.Trees.{Tree, depth_of, divisions_of}
-use Rattle.affc_quast.proofs.LeafLemmas.{padded_width}
 use Rattle.affc_life.specs.Asked.{KeepLimits, IsLiving, IsPath, AreSeated}
 use Rattle.affc_life.proofs.CountLemmas.{order_count}
 use Rattle.affc_life.proofs.DomainLemmas.{domain_fits}

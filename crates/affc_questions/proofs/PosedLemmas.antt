@@ -15,7 +15,6 @@ use Rattle.affc_system.proofs.SystemLemmas.{row_of}
 use Rattle.affc_system.specs.Pairs.{IsSubscript}
 use Rattle.affc_system.specs.Systems.{IsRow}
 use Rattle.affc_trace.specs.Inverses.{columns_from}
-use Rattle.affc_domain.proofs.FormLemmas.{number_width}
 use Rattle.affc_nest.specs.Domains.{gap_row, number_form}
 use Rattle.affc_nest.specs.Sides.{IsSide}
 use Rattle.affc_order.specs.Posed.{form_at}

@@ -2,7 +2,7 @@ use Rattle.std.proofs.Common.{map}
 use Rattle.std.proofs.lemmas.Result.{IfOk-weaker}
 use Rattle.affc_order.specs.Systems.{over, source_systems}
 use Rattle.affc_latest.proofs.AmongLemmas.{all_orders}
-use Rattle.affc_latest.proofs.BesideLemmas.{is_nest, counted_entry, its_store_is, as_many_dimensions, few_dimensions, all_over, orders_again, orders_fit}
+use Rattle.affc_latest.proofs.BesideLemmas.{is_nest, counted_entry, its_store_is, few_dimensions, all_over, orders_again, orders_fit}
 use Rattle.affc_latest.proofs.latest.last_store.Goals as goal
 
 pub store_rows-requires-clause-nest : goal.store_rows-requires-clause-nest
@@ -10,11 +10,6 @@ store_rows-requires-clause-nest c = is_nest c.args.reading.now.nest.now c.requir
 
 pub store_rows-requires-clause-from : goal.store_rows-requires-clause-from
 store_rows-requires-clause-from c = its_store_is c.args.reading.now.nest.now c.args.reading.now.load.now.array.0 c.args.writer.now c.args.store.now c.requires.writes
-
-pub store_rows-requires-clause-many : goal.store_rows-requires-clause-many
-store_rows-requires-clause-many c =
-    let r = c.args.reading.now in
-    as_many_dimensions r.nest.now c.requires.reading.nested c.args.writer.now r.reader.now c.args.store.now r.load.now c.requires.reading.touched.there c.requires.reading.touched.among c.requires.writes
 
 pub store_rows-requires-clause-few : goal.store_rows-requires-clause-few
 store_rows-requires-clause-few c = few_dimensions c.args.reading.now.nest.now c.requires.reading.nested c.args.writer.now c.args.store.now c.args.reading.now.load.now.array.0 c.requires.writes
