@@ -60,12 +60,6 @@ mixed_scaled s f t g x d h l =
     spread : (w u v p q r1 r2 : ℤ) → w ≡ u +ℤ v → r1 ≡ u +ℤ p → r2 ≡ v +ℤ q → w +ℤ (p +ℤ q) ≡ r1 +ℤ r2
     spread w u v p q r1 r2 a b e = omega (arith, ints)
 
-minus : (d c : ℤ) → d *ℤ (c -ℤ pos 0) ≡ d *ℤ c
-minus d c = ap (λ z. d *ℤ z) (none c)
-  where
-    none : (c : ℤ) → c -ℤ pos 0 ≡ c
-    none c = omega (arith, ints)
-
 -- the value of b - a - k
 pub gap_scaled : (a b : Affine) (k : ℕ) (x : List ℤ) (d : ℤ) → length a.coefs ≡ length x → length b.coefs ≡ length x
     → scaled_value (gap_row a b k) x d ≡ (scaled_value b x d -ℤ scaled_value a x d) -ℤ (d *ℤ pos k)
