@@ -91,7 +91,7 @@ fn settle_systems(
 }
 
 /// The ranges of the parameters, of the first's coordinates and of the second's.
-#[tactic(auto, using(affc_sched::proofs::Lists::three_ranges))]
+#[tactic(auto, using(affc_trace::proofs::EndedReads::append_assoc))]
 fn pair_ranges(nest: &Nest, a: &Entry, b: &Entry) -> Result<BoxOf, AllocError>
     ensures { IfOk result (λ r. r ≡ nest.now.params ++ (a.now.ranges ++ b.now.ranges)) }
 {
