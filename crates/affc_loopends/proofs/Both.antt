@@ -2,9 +2,6 @@
 use Rattle.std.proofs.Common.{◌≡◌, ℕ, suc, ◌+◌, subst, sym, arith}
 use Rattle.std.specs.Prelude.{◌↔◌}
 
-pub itself : (P : Type 0) → P ↔ P
-itself P = ((λ p. p), (λ p. p))
-
 pub both : (P Q R S : Type 0) → P ↔ Q → R ↔ S → (P × R) ↔ (Q × S)
 both P Q R S h k = ((λ p. (h.0 p.0, k.0 p.1)), (λ q. (h.1 q.0, k.1 q.1)))
 

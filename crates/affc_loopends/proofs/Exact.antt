@@ -8,6 +8,7 @@ use Rattle.affc_rows.specs.Forms.{Affine, HaveColumns}
 use Rattle.affc_rows.specs.Vocabulary.{form_at}
 use Rattle.affc_rows.proofs.ValueLemmas.{length-composed}
 use Rattle.affc_farkas.specs.Rational.{scaled_value}
+use Rattle.affc_eliminate.proofs.project.Points.{itself}
 use Rattle.affc_ast.specs.declared.tree.Rel.TheVariants.{Equal}
 use Rattle.affc_trace.specs.Inverses.{column, columns_from}
 use Rattle.affc_domain.specs.Rounds.{loops_in}
@@ -15,10 +16,10 @@ use Rattle.affc_domain.proofs.FormLemmas.{unit_width}
 use Rattle.affc_nest.specs.Domains.{column_form, compare_rows, domain_rows}
 use Rattle.affc_nest.proofs.DomainLemmas.{at_seam, length_push}
 use Rattle.affc_order.proofs.CodeLemmas.{columns_are}
-use Rattle.affc_order.proofs.ColumnLemmas.{from_width, from_long}
+use Rattle.affc_order.proofs.ColumnLemmas.{cons_is, from_width, from_long}
 use Rattle.affc_loopends.specs.TimeSets.{Timed, IsShaped, IsTimePoint, parameters_at, components_at, iterators_at}
 use Rattle.affc_loopends.specs.TimeRows.{images, component_rows, system_of}
-use Rattle.affc_loopends.proofs.Both.{itself, both, at_equal}
+use Rattle.affc_loopends.proofs.Both.{both, at_equal}
 use Rattle.affc_loopends.proofs.Scaled.{Held, held_all, held_append, compare_held, column_scaled, images_scaled}
 use Rattle.affc_loopends.proofs.Turns.{domain_held}
 use Rattle.affc_loopends.proofs.Widths.{domain_wide}
@@ -59,9 +60,6 @@ rows_held c gs x d (r ∷ rs) w u l =
 heads : {A : Type 0} (x y : A) (xs ys : List A) → x ∷ xs ≡ y ∷ ys → (x ≡ y) × (xs ≡ ys)
 heads x y xs ys e = (cc, cc)
 
-joined : {A : Type 0} (x y : A) (xs ys : List A) → x ≡ y → xs ≡ ys → x ∷ xs ≡ y ∷ ys
-joined x y xs ys e f = cc
-
 components_held : (c : ℕ) (gs : List Affine) (x : List ℤ) (d : ℤ) (fs : List Affine) (front ts : List ℤ) (j : ℕ) → HaveColumns (length gs) fs → HaveColumns c gs → length x ≡ c → x ≡ front ++ ts → length front ≡ j → length ts ≡ length fs
     → Held x d (component_rows c j gs fs) ↔ (map (λ f. scaled_value f (map (λ g. scaled_value g x d) gs) d) fs ≡ ts)
 components_held c gs x d [] front [] j w u l is at e = ((λ h. refl), (λ h. tt))
@@ -76,7 +74,7 @@ components_held c gs x d (f ∷ fs) front (t ∷ ts) j w u l is at e =
     let here = compare_held x d Equal a b (unit_width c j ∙ sym l) (length-composed f.coefs gs 0 c ∙ sym l) t (scaled_value f ys d) column value in
     let later = components_held c gs x d fs (front ++ t ∷ []) ts (suc j) (All-tail (λ r. length r.coefs ≡ length gs) f fs w) u l (is ∙ sym (append_assoc front (t ∷ []) ts)) (length_push front t ∙ ap suc at) (omega arith) in
     let split = held_append x d (compare_rows Equal a b) (component_rows c (suc j) gs fs) in (
-      (λ h. let s = split.0 h in joined (scaled_value f ys d) t (map (λ q. scaled_value q ys d) fs) ts (sym (here.0 s.0)) (later.0 s.1)),
+      (λ h. let s = split.0 h in cons_is (scaled_value f ys d) t (map (λ q. scaled_value q ys d) fs) ts (sym (here.0 s.0)) (later.0 s.1)),
       (λ h. let s = heads (scaled_value f ys d) t (map (λ q. scaled_value q ys d) fs) ts h in split.1 (here.1 (sym s.0), later.1 s.1)),
     )
 

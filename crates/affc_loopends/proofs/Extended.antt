@@ -1,5 +1,5 @@
 -- Whole numbers between the ends extend to time points, at which the ends hold.
-use Rattle.std.proofs.Common.{◌≡◌, ℕ, suc, ◌+◌, List, [], ◌∷◌, ◌++◌, length, map, take, ℤ, pos, ◌≤ℤ◌, refl, sym, ap, subst, ◌∙◌, append_assoc, arith}
+use Rattle.std.proofs.Common.{◌≡◌, ℕ, suc, ◌+◌, List, [], ◌∷◌, ◌++◌, length, map, take, ℤ, pos, ◌≤ℤ◌, refl, sym, ap, subst, ◌∙◌, append_assoc, append-nil, arith}
 use Rattle.std.proofs.lemmas.List.{take-append-le, take_all}
 use Rattle.std.proofs.lemmas.List.Elements.{All-nil, All-cons, All-append, All-weaker}
 use Rattle.affc_rows.specs.Forms.{Affine, HaveColumns}
@@ -58,16 +58,8 @@ ends_hold s column lower upper x d shaped ends point =
 
 extends : (system : Rows) (ends : List (List Affine × List Affine)) (before ts : List ℤ) (column : ℕ) → length before ≡ column → AreEndsFrom system column ends
     → ExtendsWhole system.columns system.rows before → LieBetween ends before ts → ExtendsWhole system.columns system.rows (before ++ ts)
-extends system [] before [] column l a e b = subst (λ ys. ExtendsWhole system.columns system.rows ys) (sym (nothing before)) e
-  where
-    nothing : (xs : List ℤ) → xs ++ [] ≡ xs
-    nothing [] = refl
-    nothing (x ∷ xs) = ap (λ ys. x ∷ ys) (nothing xs)
-extends system (n ∷ ends) before [] column l a e b = subst (λ ys. ExtendsWhole system.columns system.rows ys) (sym (nothing before)) e
-  where
-    nothing : (xs : List ℤ) → xs ++ [] ≡ xs
-    nothing [] = refl
-    nothing (x ∷ xs) = ap (λ ys. x ∷ ys) (nothing xs)
+extends system [] before [] column l a e b = subst (λ ys. ExtendsWhole system.columns system.rows ys) (sym (append-nil before)) e
+extends system (n ∷ ends) before [] column l a e b = subst (λ ys. ExtendsWhole system.columns system.rows ys) (sym (append-nil before)) e
 extends system [] before (t ∷ ts) column l a e b = absurd b
 extends system (n ∷ ends) before (t ∷ ts) column l a e b =
     subst (λ ys. ExtendsWhole system.columns system.rows ys) (append_assoc before (t ∷ []) ts)
