@@ -1,7 +1,6 @@
 //! All questions, one after the other.
-ghost use Rattle.std.specs.Prelude.{◌≡◌, ◌++◌, [], ◌∷◌, Some, length, map, flat_map, IfOk, OnOk, IfErr};
+ghost use Rattle.std.specs.Prelude.{◌≡◌, ◌++◌, [], ◌∷◌, Some, length, map, flat_map, IfOk, IfErr};
 ghost use Rattle.std.specs.List.{All};
-ghost use Rattle.affc_system.specs.Boxes.{IsBox};
 ghost use Rattle.affc_split.specs.Budgets.{IsLater};
 ghost use Rattle.affc_trace.specs.Law.{IsIn};
 ghost use Rattle.affc_sched.specs.Touched.{IsTouched, Each};
