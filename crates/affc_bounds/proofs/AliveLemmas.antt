@@ -1,18 +1,17 @@
 -- The questions of a program's nest may be asked in the boxes of its parameters and iterators.
-use Rattle.std.proofs.Common.{◌≡◌, ℕ, ◌+◌, ◌^◌, ◌≤◌, ℤ, true, IsTrue, List, [], ◌∷◌, ◌++◌, length, refl, sym, ap, subst, ◌∙◌, inl, inr, arith}
-use Rattle.std.specs.Prelude.{◌&&◌, int_le, nat_le, nat_abs, unsigned_abs}
+use Rattle.std.proofs.Common.{◌≡◌, ℕ, ◌+◌, ◌^◌, ◌≤◌, ℤ, IsTrue, List, [], ◌∷◌, length, refl, sym, ap, subst, ◌∙◌, inl, inr, arith}
+use Rattle.std.specs.Prelude.{◌&&◌, nat_le, unsigned_abs}
 use Rattle.std.specs.List.{All}
 use Rattle.std.proofs.lemmas.Bool.{leb-true}
-use Rattle.std.proofs.lemmas.List.Elements.{All-nil, All-cons}
+use Rattle.std.proofs.lemmas.List.Elements.{All-nil, All-cons, All-append}
 use Rattle.affc_rows.specs.Forms.{Affine}
 use Rattle.affc_system.specs.Pairs.{WithinReach}
 use Rattle.affc_ast.specs.declared.tree.Program.{Program}
 use Rattle.affc_trace.specs.Law.{IsIn}
-use Rattle.affc_trace.proofs.Once.{in_append}
 use Rattle.affc_trace.proofs.Runs.{length_append}
 use Rattle.affc_domain.specs.Accesses.{accesses_of}
-use Rattle.affc_domain.specs.Plain.{plain_range, plain_ranges, all_plain, plain_value}
-use Rattle.affc_domain.specs.Ranges.{is_near, number_ranges}
+use Rattle.affc_domain.specs.Plain.{all_plain, plain_value}
+use Rattle.affc_domain.specs.Ranges.{number_ranges}
 use Rattle.affc_domain.specs.Rounds.{loops_in}
 use Rattle.affc_domain.proofs.Lists.{both_true, length_map}
 use Rattle.affc_domain.proofs.PlainLemmas.{assignments_are_plain}
@@ -22,36 +21,21 @@ use Rattle.affc_nest.specs.declared.nest.Entry.{Entry}
 use Rattle.affc_nest.specs.declared.nest.Nest.{Nest}
 use Rattle.affc_nest.specs.Laws.{HasNest, IsEntry}
 use Rattle.affc_nest.specs.Nests.{access_form, nest_of}
-use Rattle.affc_nest.proofs.EntryLemmas.{site_of, entries_stand, ranges_hold_iterators}
+use Rattle.affc_nest.specs.Sides.{NearRanges}
+use Rattle.affc_nest.proofs.EntryLemmas.{site_of, entries_stand, ranges_there, ranges_are_within, ranges_hold_iterators}
+use Rattle.affc_nest.proofs.PlaceProofs.{near_numbers, near_within}
 use Rattle.affc_nest.proofs.QuestionLemmas.{place_of}
-use Rattle.affc_nest.proofs.QuestionProofs.{nests_are_asked}
+use Rattle.affc_nest.proofs.QuestionProofs.{nest_near, nests_are_asked}
 use Rattle.affc_bounds.specs.Looks.{AreSubscripts, HaveSubscripts, IsAlive, AreAlive}
 
 -- ---- Reach
 
-all_reach : (rs : List (ℤ × ℤ)) → ((r : ℤ × ℤ) → IsIn r rs → WithinReach r) → All WithinReach rs
-all_reach [] f = All-nil WithinReach
-all_reach (r ∷ rs) f = All-cons WithinReach r rs (f r (inl refl)) (all_reach rs (λ q i. f q (inr i)))
-
-within : (z : ℤ) (n : ℕ) → nat_le (nat_abs z) n ≡ true → n ≤ 2 ^ 60 → unsigned_abs z ≤ 2 ^ 60
-within z n e h = let k : unsigned_abs z ≤ n = leb-true (nat_abs z) n e in omega (arith, k, h)
-
-near_reach : (r : ℤ × ℤ) → IsTrue (is_near r.0 && is_near r.1) → WithinReach r
-near_reach r h =
-    let b = both_true (is_near r.0) (is_near r.1) h in
-    record { low = within r.0 (2 ^ 31) b.0 (omega arith); high = within r.1 (2 ^ 31) b.1 (omega arith) }
-
-plain_reach : (rs : List (ℤ × ℤ)) → IsTrue (plain_ranges rs) → (r : ℤ × ℤ) → IsIn r rs → WithinReach r
-plain_reach [] h r i = absurd i
-plain_reach (q ∷ rs) h r (inl is) =
-    let a = both_true (plain_range q) (plain_ranges rs) h in
-    let b = both_true (int_le q.0 q.1) (nat_le (nat_abs q.0) (2 ^ 24) && nat_le (nat_abs q.1) (2 ^ 24)) a.0 in
-    let c = both_true (nat_le (nat_abs q.0) (2 ^ 24)) (nat_le (nat_abs q.1) (2 ^ 24)) b.1 in
-    subst WithinReach (sym is) (record { low = within q.0 (2 ^ 24) c.0 (omega arith); high = within q.1 (2 ^ 24) c.1 (omega arith) })
-plain_reach (q ∷ rs) h r (inr i) = plain_reach rs (both_true (plain_range q) (plain_ranges rs) h).1 r i
-
-either_reach : (rs ss : List (ℤ × ℤ)) → ((r : ℤ × ℤ) → IsIn r rs → WithinReach r) → ((r : ℤ × ℤ) → IsIn r ss → WithinReach r) → All WithinReach (rs ++ ss)
-either_reach rs ss f g = all_reach (rs ++ ss) (λ r i. elim (in_append rs ss r i) [ inl j ↦ f r j | inr j ↦ g r j ])
+near_reach : (rs : List (ℤ × ℤ)) → NearRanges rs → All WithinReach rs
+near_reach [] h = All-nil WithinReach
+near_reach (r ∷ rs) h = All-cons WithinReach r rs (record { low = more (unsigned_abs r.0) h.0; high = more (unsigned_abs r.1) h.1 }) (near_reach rs h.2)
+  where
+    more : (n : ℕ) → n ≤ 2 ^ 32 → n ≤ 2 ^ 60
+    more n h = omega (arith, h)
 
 -- ---- Subscripts
 
@@ -82,11 +66,15 @@ module _ (program : Program) (has : HasNest program) where
       let k = place_of (nest_of program).entries e i in
       let r = ranges_hold_iterators program k.0 e has k.1 alive in
       let s = (entries_stand program has).1 k.0 e k.1 in
+      let ps = number_ranges program.params in
+      let o = site_of program k.0 e k.1 in
+      let w = ranges_there program k.0 e has o alive in
+      let near : NearRanges e.ranges = subst NearRanges (sym (ranges_are_within program k.0 e o w.0 w.1)) (near_within ps w.0 o.its_rounds w.1) in
       record {
         nest_of = nests_are_asked program has;
         there = i;
-        columns = length_append (number_ranges program.params) e.ranges ∙ ap (λ n. length (number_ranges program.params) + n) r.each ∙ sym s.columns;
-        reach = either_reach (number_ranges program.params) e.ranges (plain_reach (number_ranges program.params) has.plain.ranges) (λ q j. near_reach q (r.near q j).1);
+        columns = length_append ps e.ranges ∙ ap (λ n. length ps + n) r.each ∙ sym s.columns;
+        reach = All-append WithinReach ps e.ranges (near_reach ps (near_numbers ps has.plain.ranges)) (near_reach e.ranges near);
         few = few_accesses k.0 e k.1;
         subs = some_accesses e e.accesses (λ x j. j);
       }
@@ -101,5 +89,4 @@ all_alive nest n = subst (λ (x : Nest). AreAlive x x.entries) (sym n.is) (some_
 -- ---- Parameters
 
 pub params_reach : (nest : Nest) → IsNest nest → All WithinReach nest.params
-params_reach nest n =
-    subst (λ (x : Nest). All WithinReach x.params) (sym n.is) (all_reach (number_ranges n.program.params) (plain_reach (number_ranges n.program.params) n.has.plain.ranges))
+params_reach nest n = near_reach nest.params (nest_near nest n)

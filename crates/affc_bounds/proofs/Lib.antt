@@ -1,5 +1,4 @@
 pub mod OrderLemmas
-pub mod BudgetLemmas
 pub mod ExtentLemmas
 pub mod AccessLemmas
 pub mod AliveLemmas

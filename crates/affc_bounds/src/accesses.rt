@@ -1,6 +1,5 @@
 //! Accesses outside their arrays.
-ghost use Rattle.std.specs.Prelude.{◌≡◌, ◌+◌, ◌≤◌, ◌++◌, length, slice_get, IsTrue, IfOk, IfErr, OnOk, Some};
-ghost use Rattle.affc_system.specs.Boxes.{IsBox};
+ghost use Rattle.std.specs.Prelude.{◌≡◌, ◌+◌, ◌≤◌, length, slice_get, IsTrue, IfOk, IfErr, Some};
 ghost use Rattle.affc_split.specs.Budgets.{IsLater};
 ghost use Rattle.affc_nest.specs.Asked.{IsExtent, IsSubscript};
 ghost use Rattle.affc_nest.specs.Questions.{extents_or_none};

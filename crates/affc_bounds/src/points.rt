@@ -1,5 +1,5 @@
 //! The least points of questions.
-ghost use Rattle.std.specs.Prelude.{◌≡◌, length, option_map, IfOk, IfErr, Some};
+ghost use Rattle.std.specs.Prelude.{◌≡◌, length, IfOk, IfErr, Some};
 ghost use Rattle.std.specs.List.{All};
 ghost use Rattle.affc_system.specs.Pairs.{WithinReach};
 ghost use Rattle.affc_split.specs.Budgets.{IsLater};

@@ -2,14 +2,10 @@
 use Rattle.std.proofs.Common.{◌≡◌, ℤ, List, [], ◌∷◌, length, sym, ap, subst, ◌∙◌, inl, inr}
 use Rattle.std.specs.List.{All}
 use Rattle.affc_farkas.specs.declared.proof.Proof.{Proof}
-use Rattle.affc_farkas.specs.Proofs.{ValidProof}
-use Rattle.affc_farkas.proofs.Sound.{sound_system}
-use Rattle.affc_leaf.specs.Boxed.{with_box}
-use Rattle.affc_leaf.proofs.Boxes.{box_rows_are_the_box}
-use Rattle.affc_leaf.proofs.Whole.{whole_placed}
+use Rattle.affc_leaf.proofs.Boxes.{none_in_box}
 use Rattle.affc_system.specs.Boxes.{InBox}
 use Rattle.affc_system.specs.Pairs.{WithinReach}
-use Rattle.affc_system.specs.Systems.{IsRow, IsPoint}
+use Rattle.affc_system.specs.Systems.{IsPoint}
 use Rattle.affc_ast.specs.declared.tree.Program.{Program}
 use Rattle.affc_trace.specs.declared.schedule.Schedule.{Schedule}
 use Rattle.affc_trace.specs.declared.schedule.Schedule.TheVariants.{Source, Time}
@@ -40,14 +36,10 @@ is_ranged program has (Time components maps) q i =
       reach = ranges_reach (nest_of program) n k.first k.second k.first_in k.second_in k.first_alive k.second_alive q.ranges are;
     }
 
-valid_none : (q : Question) (p : Proof) → IsRanged q → All (IsRow q.system.columns) q.system.rows → ValidProof (with_box q.system q.ranges) p → (x : List ℤ) → InBox q.ranges x → IsPoint q.system x → ⊥
-valid_none q p r fit valid x inside is =
-    sound_system (with_box q.system q.ranges) p (whole_placed q.system q.ranges r.long r.reach fit).fit valid x ((box_rows_are_the_box q.system q.ranges x r.long).1 (is, inside))
-
 none_at : (qs : List Question) (ps : List Proof) → AreSystems qs → AreProofs qs ps → (q : Question) → IsIn q qs → IsRanged q → (x : List ℤ) → InBox q.ranges x → IsPoint q.system x → ⊥
 none_at [] ps s h q i = absurd i
 none_at (r ∷ qs) [] s h q i = absurd h
-none_at (r ∷ qs) (p ∷ ps) s h q (inl e) = subst (λ (z : Question). IsRanged z → (x : List ℤ) → InBox z.ranges x → IsPoint z.system x → ⊥) (sym e) (λ g. valid_none r p g s.0 h.0)
+none_at (r ∷ qs) (p ∷ ps) s h q (inl e) = subst (λ (z : Question). IsRanged z → (x : List ℤ) → InBox z.ranges x → IsPoint z.system x → ⊥) (sym e) (λ g. none_in_box r.system r.ranges p g.long g.reach s.0 h.0)
 none_at (r ∷ qs) (p ∷ ps) s h q (inr i) = none_at qs ps s.1 h.1 q i
 
 pub proofs_show_legality : ProofsShowLegality

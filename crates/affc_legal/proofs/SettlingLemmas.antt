@@ -1,6 +1,6 @@
 -- What the code that answers all questions keeps.
 use Rattle.std.proofs.Common.{◌≡◌, ℤ, List, [], ◌∷◌, ◌++◌, length, map, take, drop, Option, refl, sym, ap, subst, ◌∙◌, inl, inr, arith}
-use Rattle.std.proofs.Math.Seq.{take-append_seam}
+use Rattle.std.proofs.Math.Seq.{take-append_seam, drop-append_seam}
 use Rattle.std.proofs.lemmas.List.{take_all}
 use Rattle.affc_farkas.specs.declared.proof.Proof.{Proof}
 use Rattle.affc_system.specs.Order.{LexLe}
@@ -120,18 +120,14 @@ module _ (program : Program) (schedule : Schedule) (has : HasNest program) (name
       let first_of : statement_of n q.first ≡ a.statement = ap (statement_of n) f ∙ statement_is program p a has first_in in
       let second_of : statement_of n q.second ≡ b.statement = ap (statement_of n) g ∙ statement_is program p b has second_in in
       let front : take (length n.params) (p ++ its) ≡ p = ap (λ m. take m (p ++ its)) (sym l) ∙ take-append_seam p its in
-      let back : drop (length n.params) (p ++ its) ≡ its = ap (λ m. drop m (p ++ its)) (sym l) ∙ past p its in
+      let back : drop (length n.params) (p ++ its) ≡ its = ap (λ m. drop m (p ++ its)) (sym l) ∙ drop-append_seam p its in
       let one : take (length (loops_of n q.first)) (drop (length n.params) (p ++ its)) ≡ a.iterators =
       ap (take (length (loops_of n q.first))) back ∙ ap (λ m. take m its) k ∙ take-append_seam a.iterators b.iterators in
       let rest : drop (coordinates_of n q.first) (drop (length n.params) (p ++ its)) ≡ b.iterators =
-      ap (drop (coordinates_of n q.first)) back ∙ ap (λ m. drop m its) k ∙ past a.iterators b.iterators in
+      ap (drop (coordinates_of n q.first)) back ∙ ap (λ m. drop m its) k ∙ drop-append_seam a.iterators b.iterators in
       let two : take (length (loops_of n q.second)) (drop (coordinates_of n q.first) (drop (length n.params) (p ++ its))) ≡ b.iterators =
       ap (take (length (loops_of n q.second))) rest ∙ take_all (length (loops_of n q.second)) b.iterators (omega (arith, m)) in
       λ i. spot_of (front i) (record { statement = first_of i; iterators = one i }) (record { statement = second_of i; iterators = two i })
-    where
-      past : (xs ys : List ℤ) → drop (length xs) (xs ++ ys) ≡ ys
-      past [] ys = refl
-      past (x ∷ xs) ys = past xs ys
 
   first_illegal : (found : Violation) → IsFirstOf (nest_of program) (legality_questions (nest_of program) schedule) found
       → (q : List ℤ) (c d : Instance) → IsViolation program schedule q c d → LexLe (spot_of found.p found.a found.b) (spot_of q c d)

@@ -1,5 +1,5 @@
 -- What the questions of a list have shown: proofs in order, or the first point of any of them.
-use Rattle.std.specs.Prelude.{◌≡◌, ◌+◌, ◌≤◌, ◌⊎◌, ℤ, List, [], ◌∷◌, ◌++◌, length, Option, Some, None}
+use Rattle.std.specs.Prelude.{◌≡◌, ◌+◌, ◌⊎◌, ℤ, List, [], ◌∷◌, ◌++◌, length, Option, Some, None}
 use Rattle.std.specs.List.{All}
 use Rattle.affc_farkas.specs.declared.proof.Proof.{Proof}
 use Rattle.affc_farkas.specs.Proofs.{ValidProof}

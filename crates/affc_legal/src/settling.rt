@@ -1,7 +1,6 @@
 //! All questions, one after the other.
-ghost use Rattle.std.specs.Prelude.{◌≡◌, ◌++◌, [], ◌∷◌, Some, length, map, flat_map, IfOk, OnOk, IfErr};
+ghost use Rattle.std.specs.Prelude.{◌≡◌, ◌++◌, [], ◌∷◌, Some, length, map, flat_map, IfOk, IfErr};
 ghost use Rattle.std.specs.List.{All};
-ghost use Rattle.affc_system.specs.Boxes.{IsBox};
 ghost use Rattle.affc_split.specs.Budgets.{IsLater};
 ghost use Rattle.affc_trace.specs.Law.{IsIn};
 ghost use Rattle.affc_sched.specs.Touched.{IsTouched, Each};
@@ -91,7 +90,7 @@ fn settle_systems(
 }
 
 /// The ranges of the parameters, of the first's coordinates and of the second's.
-#[tactic(auto, using(affc_sched::proofs::Lists::three_ranges))]
+#[tactic(auto, using(affc_trace::proofs::EndedReads::append_assoc))]
 fn pair_ranges(nest: &Nest, a: &Entry, b: &Entry) -> Result<BoxOf, AllocError>
     ensures { IfOk result (λ r. r ≡ nest.now.params ++ (a.now.ranges ++ b.now.ranges)) }
 {

@@ -1,5 +1,5 @@
 //! Dependences that are turned round, as they are found, in the order of their keys.
-ghost use Rattle.std.specs.Prelude.{◌≡◌, ◌+◌, ◌≤◌, length, take, drop, IfOk};
+ghost use Rattle.std.specs.Prelude.{◌≡◌, ◌+◌, length, take, drop, IfOk};
 ghost use Rattle.affc_nest.specs.Parts.{coordinates};
 ghost use Rattle.affc_legal.specs.Answered.{IsNearer};
 ghost use Rattle.affc_legal.specs.Violations.{spot_of};

@@ -1,5 +1,5 @@
 -- What elimination says of a question.
-use Rattle.std.proofs.Common.{◌≡◌, ℕ, zero, suc, ◌+◌, ◌^◌, ◌<◌, ◌≤◌, List, [], ◌∷◌, ◌++◌, length, map, get_or, ℤ, pos, negsuc, ◌+ℤ◌, ◌-ℤ◌, ◌≤ℤ◌, neg_ℤ, refl, sym, ap, subst, ◌∙◌, inl, inr, arith}
+use Rattle.std.proofs.Common.{◌≡◌, ℕ, suc, ◌+◌, ◌^◌, ◌<◌, ◌≤◌, List, [], ◌∷◌, ◌++◌, length, map, get_or, ℤ, pos, negsuc, ◌+ℤ◌, ◌-ℤ◌, ◌≤ℤ◌, neg_ℤ, refl, sym, ap, subst, ◌∙◌, inl, inr, arith}
 use Rattle.std.specs.Prelude.{◌⊎◌, unsigned_abs, remove, Some}
 use Rattle.std.specs.List.{All, Contains}
 use Rattle.std.proofs.lemmas.List.Edits.{length-remove}
@@ -16,6 +16,7 @@ use Rattle.affc_farkas.specs.Rational.{RationalPoint, scaled_value}
 use Rattle.affc_farkas.specs.declared.pair.Pair.{Pair}
 use Rattle.affc_eliminate.specs.project.Projections.{AreProjected, IsProjection, IsTooWide}
 use Rattle.affc_eliminate.specs.declared.project.projection.Projected.{Projected}
+use Rattle.affc_loops.proofs.FormReads.{neg_size}
 use Rattle.affc_loopends.specs.declared.bounds.Answer.TheVariants.{Implied}
 use Rattle.affc_loopends.specs.Steps.{IsAnswer}
 use Rattle.affc_loopends.specs.Sizes.{IsPrintable}
@@ -79,15 +80,10 @@ implied columns others row made projected h none whole l met = elim (either (val
 
 -- ---- Sizes
 
-negated_abs : (z : ℤ) → unsigned_abs (neg_ℤ z) ≡ unsigned_abs z
-negated_abs (pos zero) = refl
-negated_abs (pos (suc n)) = refl
-negated_abs (negsuc n) = refl
-
 negated_fits : (cs : List ℤ) → All (λ c. unsigned_abs c ≤ 2 ^ 40) cs → All (λ c. unsigned_abs c ≤ 2 ^ 40) (map neg_ℤ cs)
 negated_fits [] h = All-nil (λ c. unsigned_abs c ≤ 2 ^ 40)
 negated_fits (c ∷ cs) h =
-    All-cons (λ z. unsigned_abs z ≤ 2 ^ 40) (neg_ℤ c) (map neg_ℤ cs) (subst (λ n. n ≤ 2 ^ 40) (sym (negated_abs c)) (All-head (λ z. unsigned_abs z ≤ 2 ^ 40) c cs h)) (negated_fits cs (All-tail (λ z. unsigned_abs z ≤ 2 ^ 40) c cs h))
+    All-cons (λ z. unsigned_abs z ≤ 2 ^ 40) (neg_ℤ c) (map neg_ℤ cs) (subst (λ n. n ≤ 2 ^ 40) (sym (neg_size c)) (All-head (λ z. unsigned_abs z ≤ 2 ^ 40) c cs h)) (negated_fits cs (All-tail (λ z. unsigned_abs z ≤ 2 ^ 40) c cs h))
 
 less_one : (z : ℤ) → unsigned_abs z ≤ 2 ^ 59 → unsigned_abs (negsuc 0 -ℤ z) ≤ 2 ^ 60
 less_one (pos n) h = grind (arith, ints)
@@ -95,10 +91,10 @@ less_one (negsuc n) h = grind (arith, ints)
 
 -- the opposite of such a row is made, and 1 is taken from it
 pub printable_opposite : (columns : ℕ) (row : Affine) → IsPrintable columns row → HasOpposite row
-printable_opposite columns row p = within_opposite (2 ^ 40) (2 ^ 59) row (omega arith) (omega arith) p.coefs p.last
+printable_opposite columns row p = within_opposite (2 ^ 40) (2 ^ 59) row (omega arith) (omega arith) p.coefs_fit p.constant_fits
 
 pub opposite_small : (columns : ℕ) (row o : Affine) → IsPrintable columns row → o ≡ opposite row → unsigned_abs o.constant ≤ 2 ^ 126
-opposite_small columns row o p e = more (unsigned_abs o.constant) (unsigned_abs row.constant) (ap (λ (f : Affine). unsigned_abs f.constant) e ∙ negated_abs row.constant) p.last
+opposite_small columns row o p e = more (unsigned_abs o.constant) (unsigned_abs row.constant) (ap (λ (f : Affine). unsigned_abs f.constant) e ∙ neg_size row.constant) p.constant_fits
   where
     more : (n m : ℕ) → n ≡ m → m ≤ 2 ^ 59 → n ≤ 2 ^ 126
     more n m g h = omega (arith, g, h)
@@ -106,11 +102,8 @@ opposite_small columns row o p e = more (unsigned_abs o.constant) (unsigned_abs 
 pub below_row : (columns : ℕ) (row made : Affine) → IsPrintable columns row → made ≡ below_zero row → IsRow columns made
 below_row columns row made p e = subst (IsRow columns) (sym e) (record {
   width = length-map row.coefs neg_ℤ ∙ p.width;
-  fits = record { coefs_fit = negated_fits row.coefs p.coefs; constant_fits = less_one row.constant p.last };
+  fits = record { coefs_fit = negated_fits row.coefs p.coefs_fit; constant_fits = less_one row.constant p.constant_fits };
 })
-
-up : (n : ℕ) → n ≤ 2 ^ 59 → n ≤ 2 ^ 60
-up n h = omega arith
 
 -- ---- What the code is told
 

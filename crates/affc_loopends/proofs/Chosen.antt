@@ -173,8 +173,8 @@ kept_one_end system column columns rows i r copy kept lt e f h g =
 pub modest_printable : (columns : ℕ) (ranges : List (ℤ × ℤ)) (rows chosen : List Affine) → All (λ f. length f.coefs ≡ columns) rows → All (Contains rows) chosen → All (IsModest ranges) chosen → All (IsPrintable columns) chosen
 modest_printable columns ranges rows chosen w a m = λ i d lt. record {
   width = among_all (λ f. length f.coefs ≡ columns) rows chosen w a i d lt;
-  coefs = (m i d lt).coefs;
-  last = (m i d lt).constant;
+  coefs_fit = (m i d lt).coefs;
+  constant_fits = (m i d lt).constant;
 }
 
 pub chosen_one_end : (system : Rows) (lower : Bool) (column : ℕ) (rows chosen : List Affine) → All (IsProjectedRow system (suc column)) rows → AreOfEnd lower column rows chosen → AreOfOneEnd system column chosen

@@ -3,33 +3,28 @@ use Rattle.std.proofs.Common.{◌≡◌, ℕ, zero, suc, ◌+◌, ◌-◌, List,
 use Rattle.std.specs.Prelude.{◌↔◌}
 use Rattle.std.specs.List.{All}
 use Rattle.std.proofs.lemmas.List.{take-append-drop, map-append, length-map, length-take-le, length-drop}
-use Rattle.std.proofs.lemmas.List.Elements.{All-nil, All-cons, All-head, All-tail, All-append}
+use Rattle.std.proofs.lemmas.List.Elements.{All-head, All-tail, All-append}
 use Rattle.affc_rows.specs.Forms.{Affine, HaveColumns}
 use Rattle.affc_rows.specs.Vocabulary.{form_at}
 use Rattle.affc_rows.proofs.ValueLemmas.{length-composed}
 use Rattle.affc_farkas.specs.Rational.{scaled_value}
+use Rattle.affc_eliminate.proofs.project.Points.{itself}
 use Rattle.affc_ast.specs.declared.tree.Rel.TheVariants.{Equal}
+use Rattle.affc_trace.specs.Inverses.{column, columns_from}
 use Rattle.affc_domain.specs.Rounds.{loops_in}
 use Rattle.affc_domain.proofs.FormLemmas.{unit_width}
 use Rattle.affc_nest.specs.Domains.{column_form, compare_rows, domain_rows}
+use Rattle.affc_nest.proofs.DomainLemmas.{at_seam, length_push}
+use Rattle.affc_order.proofs.CodeLemmas.{columns_are}
+use Rattle.affc_order.proofs.ColumnLemmas.{cons_is, from_width, from_long}
 use Rattle.affc_loopends.specs.TimeSets.{Timed, IsShaped, IsTimePoint, parameters_at, components_at, iterators_at}
-use Rattle.affc_loopends.specs.TimeRows.{columns_from, images, component_rows, system_of}
-use Rattle.affc_loopends.proofs.Both.{itself, both, at_equal}
+use Rattle.affc_loopends.specs.TimeRows.{images, component_rows, system_of}
+use Rattle.affc_loopends.proofs.Both.{both, at_equal}
 use Rattle.affc_loopends.proofs.Scaled.{Held, held_all, held_append, compare_held, column_scaled, images_scaled}
 use Rattle.affc_loopends.proofs.Turns.{domain_held}
 use Rattle.affc_loopends.proofs.Widths.{domain_wide}
 
 -- ---- Images
-
-at_front : (front : List ℤ) (x : ℤ) (xs : List ℤ) → get_or (front ++ x ∷ xs) (length front) (pos 0) ≡ x
-at_front [] x xs = refl
-at_front (n ∷ front) x xs = at_front front x xs
-
-pushed : (front : List ℤ) (x : ℤ) → length (front ++ x ∷ []) ≡ suc (length front)
-pushed front x = length-append front (x ∷ []) ∙ one (length front)
-  where
-    one : (n : ℕ) → n + 1 ≡ suc n
-    one n = omega arith
 
 -- the columns themselves
 columns_scaled : (d : ℤ) (x front p rest : List ℤ) (c j m : ℕ) → x ≡ front ++ (p ++ rest) → length x ≡ c → length front ≡ j → length p ≡ m → map (λ g. scaled_value g x d) (columns_from c j m) ≡ p
@@ -37,25 +32,17 @@ columns_scaled d x front [] rest c j zero is l at e = refl
 columns_scaled d x front [] rest c j (suc m) is l at e = absurd (omega arith)
 columns_scaled d x front (y ∷ p) rest c j zero is l at e = absurd (omega arith)
 columns_scaled d x front (y ∷ p) rest c j (suc m) is l at e =
-    let here : scaled_value (column_form c j) x d ≡ y =
-    ap (λ k. scaled_value (column_form k j) x d) (sym l) ∙ column_scaled x d j ∙ ap (λ k. get_or x k (pos 0)) (sym at) ∙ ap (λ ys. get_or ys (length front) (pos 0)) is ∙ at_front front y (p ++ rest) in
+    let here : scaled_value (column c j) x d ≡ y =
+    ap (λ f. scaled_value f x d) (sym (columns_are c j)) ∙ ap (λ k. scaled_value (column_form k j) x d) (sym l) ∙ column_scaled x d j ∙ ap (λ k. get_or x k (pos 0)) (sym at) ∙ ap (λ ys. get_or ys (length front) (pos 0)) is ∙ at_seam front y (p ++ rest) in
     ap (λ z. z ∷ map (λ g. scaled_value g x d) (columns_from c (suc j) m)) here
-    ∙ ap (λ zs. y ∷ zs) (columns_scaled d x (front ++ y ∷ []) p rest c (suc j) m (is ∙ sym (append_assoc front (y ∷ []) (p ++ rest))) l (pushed front y ∙ ap suc at) (omega arith))
-
-columns_wide : (c j m : ℕ) → HaveColumns c (columns_from c j m)
-columns_wide c j zero = All-nil (λ g. length g.coefs ≡ c)
-columns_wide c j (suc m) = All-cons (λ g. length g.coefs ≡ c) (column_form c j) (columns_from c (suc j) m) (unit_width c j) (columns_wide c (suc j) m)
-
-columns_long : (c j m : ℕ) → length (columns_from c j m) ≡ m
-columns_long c j zero = refl
-columns_long c j (suc m) = ap suc (columns_long c (suc j) m)
+    ∙ ap (λ zs. y ∷ zs) (columns_scaled d x (front ++ y ∷ []) p rest c (suc j) m (is ∙ sym (append_assoc front (y ∷ []) (p ++ rest))) l (length_push front y ∙ ap suc at) (omega arith))
 
 pub images_long : (params components : ℕ) (inverse : List Affine) → length (images params components inverse) ≡ params + length inverse
-images_long params components inverse = length-append (columns_from (params + components) 0 params) inverse ∙ ap (λ k. k + length inverse) (columns_long (params + components) 0 params)
+images_long params components inverse = length-append (columns_from (params + components) 0 params) inverse ∙ ap (λ k. k + length inverse) (from_long (params + components) 0 params)
 
 pub images_wide : (params components : ℕ) (inverse : List Affine) → HaveColumns (params + components) inverse → HaveColumns (params + components) (images params components inverse)
 images_wide params components inverse w =
-    All-append (λ g. length g.coefs ≡ params + components) (columns_from (params + components) 0 params) inverse (columns_wide (params + components) 0 params) w
+    All-append (λ g. length g.coefs ≡ params + components) (columns_from (params + components) 0 params) inverse (from_width (params + components) 0 params) w
 
 -- ---- Rows with images
 
@@ -73,9 +60,6 @@ rows_held c gs x d (r ∷ rs) w u l =
 heads : {A : Type 0} (x y : A) (xs ys : List A) → x ∷ xs ≡ y ∷ ys → (x ≡ y) × (xs ≡ ys)
 heads x y xs ys e = (cc, cc)
 
-joined : {A : Type 0} (x y : A) (xs ys : List A) → x ≡ y → xs ≡ ys → x ∷ xs ≡ y ∷ ys
-joined x y xs ys e f = cc
-
 components_held : (c : ℕ) (gs : List Affine) (x : List ℤ) (d : ℤ) (fs : List Affine) (front ts : List ℤ) (j : ℕ) → HaveColumns (length gs) fs → HaveColumns c gs → length x ≡ c → x ≡ front ++ ts → length front ≡ j → length ts ≡ length fs
     → Held x d (component_rows c j gs fs) ↔ (map (λ f. scaled_value f (map (λ g. scaled_value g x d) gs) d) fs ≡ ts)
 components_held c gs x d [] front [] j w u l is at e = ((λ h. refl), (λ h. tt))
@@ -85,12 +69,12 @@ components_held c gs x d (f ∷ fs) front (t ∷ ts) j w u l is at e =
     let ys = map (λ g. scaled_value g x d) gs in
     let a = column_form c j in
     let b = form_at c gs f in
-    let column : scaled_value a x d ≡ t = ap (λ k. scaled_value (column_form k j) x d) (sym l) ∙ column_scaled x d j ∙ ap (λ k. get_or x k (pos 0)) (sym at) ∙ ap (λ zs. get_or zs (length front) (pos 0)) is ∙ at_front front t ts in
+    let column : scaled_value a x d ≡ t = ap (λ k. scaled_value (column_form k j) x d) (sym l) ∙ column_scaled x d j ∙ ap (λ k. get_or x k (pos 0)) (sym at) ∙ ap (λ zs. get_or zs (length front) (pos 0)) is ∙ at_seam front t ts in
     let value = images_scaled c gs f x d (sym (All-head (λ r. length r.coefs ≡ length gs) f fs w)) u l in
     let here = compare_held x d Equal a b (unit_width c j ∙ sym l) (length-composed f.coefs gs 0 c ∙ sym l) t (scaled_value f ys d) column value in
-    let later = components_held c gs x d fs (front ++ t ∷ []) ts (suc j) (All-tail (λ r. length r.coefs ≡ length gs) f fs w) u l (is ∙ sym (append_assoc front (t ∷ []) ts)) (pushed front t ∙ ap suc at) (omega arith) in
+    let later = components_held c gs x d fs (front ++ t ∷ []) ts (suc j) (All-tail (λ r. length r.coefs ≡ length gs) f fs w) u l (is ∙ sym (append_assoc front (t ∷ []) ts)) (length_push front t ∙ ap suc at) (omega arith) in
     let split = held_append x d (compare_rows Equal a b) (component_rows c (suc j) gs fs) in (
-      (λ h. let s = split.0 h in joined (scaled_value f ys d) t (map (λ q. scaled_value q ys d) fs) ts (sym (here.0 s.0)) (later.0 s.1)),
+      (λ h. let s = split.0 h in cons_is (scaled_value f ys d) t (map (λ q. scaled_value q ys d) fs) ts (sym (here.0 s.0)) (later.0 s.1)),
       (λ h. let s = heads (scaled_value f ys d) t (map (λ q. scaled_value q ys d) fs) ts h in split.1 (here.1 (sym s.0), later.1 s.1)),
     )
 

@@ -1,5 +1,5 @@
 -- Whole numbers between the ends extend to time points, at which the ends hold.
-use Rattle.std.proofs.Common.{◌≡◌, ℕ, suc, ◌+◌, List, [], ◌∷◌, ◌++◌, length, map, take, ℤ, pos, ◌≤ℤ◌, refl, sym, ap, subst, ◌∙◌, append_assoc, arith}
+use Rattle.std.proofs.Common.{◌≡◌, ℕ, suc, ◌+◌, List, [], ◌∷◌, ◌++◌, length, map, take, ℤ, pos, ◌≤ℤ◌, refl, sym, ap, subst, ◌∙◌, append_assoc, append-nil, arith}
 use Rattle.std.proofs.lemmas.List.{take-append-le, take_all}
 use Rattle.std.proofs.lemmas.List.Elements.{All-nil, All-cons, All-append, All-weaker}
 use Rattle.affc_rows.specs.Forms.{Affine, HaveColumns}
@@ -10,6 +10,8 @@ use Rattle.affc_eliminate.specs.project.Projections.{ExtendsWhole}
 use Rattle.affc_system.specs.Systems.{Rows, Meets}
 use Rattle.affc_domain.proofs.FormLemmas.{unit_width}
 use Rattle.affc_nest.specs.Domains.{gap_row, column_form, domain_rows}
+use Rattle.affc_nest.proofs.DomainLemmas.{length_push}
+use Rattle.affc_order.proofs.ColumnLemmas.{at_width}
 use Rattle.affc_loopends.specs.TimeSets.{Timed, IsShaped, IsTimePoint}
 use Rattle.affc_loopends.specs.TimeRows.{images, component_rows, system_of}
 use Rattle.affc_loopends.specs.Ends.{AreEndsFrom, LieBetween, IsProjectedRow}
@@ -17,17 +19,12 @@ use Rattle.affc_loopends.specs.Laws.{RowsAreExact, EndsHold, TurnsExtend, WholeP
 use Rattle.affc_loopends.proofs.Instances.{whole_value}
 use Rattle.affc_loopends.proofs.Exact.{exact}
 use Rattle.affc_loopends.proofs.Projected.{row_holds}
-use Rattle.affc_loopends.proofs.Turns.{pushed}
 use Rattle.affc_loopends.proofs.Widths.{Wide, gap_wide}
 
 pub rows_are_exact : RowsAreExact
 rows_are_exact s x d shaped width one = exact s x d shaped width one
 
 -- ---- Widths
-
-form_at_wide : (c : ℕ) (gs rows : List Affine) → HaveColumns c (map (form_at c gs) rows)
-form_at_wide c gs [] = All-nil (Wide c)
-form_at_wide c gs (r ∷ rs) = All-cons (Wide c) (form_at c gs r) (map (form_at c gs) rs) (length-composed r.coefs gs 0 c) (form_at_wide c gs rs)
 
 components_wide : (c j : ℕ) (gs fs : List Affine) → HaveColumns c (component_rows c j gs fs)
 components_wide c j gs [] = All-nil (Wide c)
@@ -45,7 +42,7 @@ system_wide s =
     let c = m + length s.times in
     let gs = images m (length s.times) s.inverse in
     All-append (Wide c) (map (form_at c gs) (domain_rows s.params s.context s.ranges s.around)) (component_rows c m gs s.times)
-    (form_at_wide c gs (domain_rows s.params s.context s.ranges s.around)) (components_wide c m gs s.times)
+    (at_width c gs (domain_rows s.params s.context s.ranges s.around)) (components_wide c m gs s.times)
 
 -- ---- Ends
 
@@ -61,20 +58,12 @@ ends_hold s column lower upper x d shaped ends point =
 
 extends : (system : Rows) (ends : List (List Affine × List Affine)) (before ts : List ℤ) (column : ℕ) → length before ≡ column → AreEndsFrom system column ends
     → ExtendsWhole system.columns system.rows before → LieBetween ends before ts → ExtendsWhole system.columns system.rows (before ++ ts)
-extends system [] before [] column l a e b = subst (λ ys. ExtendsWhole system.columns system.rows ys) (sym (nothing before)) e
-  where
-    nothing : (xs : List ℤ) → xs ++ [] ≡ xs
-    nothing [] = refl
-    nothing (x ∷ xs) = ap (λ ys. x ∷ ys) (nothing xs)
-extends system (n ∷ ends) before [] column l a e b = subst (λ ys. ExtendsWhole system.columns system.rows ys) (sym (nothing before)) e
-  where
-    nothing : (xs : List ℤ) → xs ++ [] ≡ xs
-    nothing [] = refl
-    nothing (x ∷ xs) = ap (λ ys. x ∷ ys) (nothing xs)
+extends system [] before [] column l a e b = subst (λ ys. ExtendsWhole system.columns system.rows ys) (sym (append-nil before)) e
+extends system (n ∷ ends) before [] column l a e b = subst (λ ys. ExtendsWhole system.columns system.rows ys) (sym (append-nil before)) e
 extends system [] before (t ∷ ts) column l a e b = absurd b
 extends system (n ∷ ends) before (t ∷ ts) column l a e b =
     subst (λ ys. ExtendsWhole system.columns system.rows ys) (append_assoc before (t ∷ []) ts)
-    (extends system ends (before ++ t ∷ []) ts (suc column) (pushed before t ∙ ap suc l) a.1 ((a.0).extend before t l e b.0 b.1) b.2)
+    (extends system ends (before ++ t ∷ []) ts (suc column) (length_push before t ∙ ap suc l) a.1 ((a.0).extend before t l e b.0 b.1) b.2)
 
 pub turns_extend : TurnsExtend
 turns_extend s ends p ts shaped l a e b =
@@ -98,7 +87,7 @@ module _ (s : Timed) (x : List ℤ) (shaped : IsShaped s) (point : IsTimePoint s
   lie_between ends before [] column is at l a = tt
   lie_between [] before (t ∷ ts) column is at l a = absurd (omega arith)
   lie_between (e ∷ ends) before (t ∷ ts) column is at l a =
-      let more : length (before ++ t ∷ []) ≡ suc column = pushed before t ∙ ap suc at in
+      let more : length (before ++ t ∷ []) ≡ suc column = length_push before t ∙ ap suc at in
       let all : x ≡ (before ++ t ∷ []) ++ ts = is ∙ sym (append_assoc before (t ∷ []) ts) in
       let first : take (suc column) x ≡ before ++ t ∷ [] =
       ap (take (suc column)) all ∙ take-append-le (suc column) (before ++ t ∷ []) ts (omega arith) ∙ take_all (suc column) (before ++ t ∷ []) (omega arith) in

@@ -1,10 +1,11 @@
 -- What the code is given.
-use Rattle.std.proofs.Common.{◌≡◌, ℕ, [], ◌∷◌, ◌++◌, map, length-append, zero, suc, ◌+◌, ◌-◌, ◌*◌, ◌≤◌, ◌<◌, List, length, IsTrue, ℤ, refl, sym, ap, subst, ◌∙◌, arith}
+use Rattle.std.proofs.Common.{◌≡◌, ℕ, ◌^◌, [], ◌∷◌, ◌++◌, map, zero, suc, ◌+◌, ◌-◌, ◌*◌, ◌≤◌, List, length, IsTrue, ℤ, refl, sym, ap, subst, ◌∙◌, arith}
 use Rattle.std.specs.List.{All}
 use Rattle.std.proofs.lemmas.List.{length-map}
-use Rattle.std.proofs.lemmas.List.Elements.{All-nil, All-cons, All-append, All-weaker, All-head, All-tail}
+use Rattle.std.proofs.lemmas.List.Elements.{All-nil, All-cons, All-append, All-head, All-tail}
 use Rattle.affc_rows.specs.Forms.{Affine, HaveColumns, columns_of}
 use Rattle.affc_rows.specs.Vocabulary.{form_at}
+use Rattle.affc_rows.proofs.SizeLemmas.{column_within, all_raised}
 use Rattle.affc_system.specs.Systems.{Rows, IsRow}
 use Rattle.affc_ast.specs.declared.tree.Program.{Program}
 use Rattle.affc_trace.specs.declared.schedule.TimeMap.{TimeMap}
@@ -12,6 +13,8 @@ use Rattle.affc_trace.specs.Law.{IsIn}
 use Rattle.affc_domain.specs.Ranges.{number_ranges}
 use Rattle.affc_domain.specs.Rounds.{loops_in}
 use Rattle.affc_domain.proofs.PlainLemmas.{assignments_are_plain}
+use Rattle.affc_system.proofs.SystemLemmas.{rows_of}
+use Rattle.affc_trace.specs.Inverses.{column, columns_from}
 use Rattle.affc_nest.specs.Asked.{IsNest}
 use Rattle.affc_nest.specs.declared.nest.Entry.{Entry}
 use Rattle.affc_nest.specs.declared.nest.Nest.{Nest}
@@ -23,12 +26,15 @@ use Rattle.affc_nest.proofs.EntryLemmas.{SiteOf, site_of, loops_are, ranges_ther
 use Rattle.affc_nest.proofs.PlaceProofs.{near_numbers, near_within, plain_place}
 use Rattle.affc_nest.proofs.QuestionLemmas.{place_of}
 use Rattle.affc_nest.proofs.QuestionProofs.{nest_few, few_numbered, domain_small}
-use Rattle.affc_loopends.specs.Images.{AreImages, AreComposable}
+use Rattle.affc_order.specs.Placed.{AreImages}
+use Rattle.affc_order.proofs.CodeLemmas.{columns_are}
+use Rattle.affc_order.proofs.PlacedLemmas.{slight_forms}
+use Rattle.affc_loopends.specs.Images.{AreComposable}
 use Rattle.affc_loopends.specs.Sizes.{IsTimed, IsSlight, IsNear}
-use Rattle.affc_loopends.specs.TimeRows.{columns_from, component_rows}
-use Rattle.affc_loopends.proofs.Composed.{column_slight_form, slight_composed, is_composed, composed_fits, gap_fits, gap_long}
+use Rattle.affc_loopends.specs.TimeRows.{component_rows}
+use Rattle.affc_loopends.proofs.Composed.{is_composed, composed_row, gap_is_row}
 use Rattle.affc_loopends.proofs.Exact.{images_long}
-use Rattle.affc_loopends.proofs.Near.{domain_near, forms_slight, slight_near}
+use Rattle.affc_loopends.proofs.Near.{domain_near}
 
 record OfProgram (program : Program) (e : Entry) : Type 0 where
   statement : ℕ
@@ -64,23 +70,23 @@ rows_near nest n e i alive =
 
 own_slight : (c j n : ℕ) → All (IsSlight c) (columns_from c j n)
 own_slight c j zero = All-nil (IsSlight c)
-own_slight c j (suc n) = All-cons (IsSlight c) (column_form c j) (columns_from c (suc j) n) (column_slight_form c j) (own_slight c (suc j) n)
+own_slight c j (suc n) = All-cons (IsSlight c) (column c j) (columns_from c (suc j) n) (subst (IsSlight c) (columns_are c j) (column_within c 256 (2 ^ 30) j (omega arith))) (own_slight c (suc j) n)
 
-images_rows : (c : ℕ) (gs : List Affine) → AreImages c gs → (rows : List Affine) → All (IsNear (length gs)) rows → All (IsRow c) (map (form_at c gs) rows)
-images_rows c gs are [] h = All-nil (IsRow c)
-images_rows c gs are (r ∷ rs) h =
-    let d = is_composed c gs are r (All-head (IsNear (length gs)) r rs h) in
-    All-cons (IsRow c) (form_at c gs r) (map (form_at c gs) rs) (record { width = d.width; fits = composed_fits c (form_at c gs r) d }) (images_rows c gs are rs (All-tail (IsNear (length gs)) r rs h))
+module _ (c : ℕ) (gs : List Affine) (few : length gs ≤ 10) (slight : All (IsSlight c) gs) where
+  images_rows : (rows : List Affine) → All (IsNear (length gs)) rows → All (IsRow c) (map (form_at c gs) rows)
+  images_rows [] h = All-nil (IsRow c)
+  images_rows (r ∷ rs) h =
+      All-cons (IsRow c) (form_at c gs r) (map (form_at c gs) rs) (composed_row c (form_at c gs r) (is_composed c gs few slight r (All-head (IsNear (length gs)) r rs h))) (images_rows rs (All-tail (IsNear (length gs)) r rs h))
 
-components_rows : (c j : ℕ) (gs : List Affine) → AreImages c gs → (fs : List Affine) → All (IsNear (length gs)) fs → All (IsRow c) (component_rows c j gs fs)
-components_rows c j gs are [] h = All-nil (IsRow c)
-components_rows c j gs are (f ∷ fs) h =
-    let a = column_form c j in
-    let b = form_at c gs f in
-    let p = slight_composed c a (column_slight_form c j) in
-    let q = is_composed c gs are f (All-head (IsNear (length gs)) f fs h) in
-    All-cons (IsRow c) (gap_row b a 0) (gap_row a b 0 ∷ component_rows c (suc j) gs fs) (record { width = gap_long c b a q p; fits = gap_fits c b a q p })
-    (All-cons (IsRow c) (gap_row a b 0) (component_rows c (suc j) gs fs) (record { width = gap_long c a b p q; fits = gap_fits c a b p q }) (components_rows c (suc j) gs are fs (All-tail (IsNear (length gs)) f fs h)))
+  components_rows : (j : ℕ) (fs : List Affine) → All (IsNear (length gs)) fs → All (IsRow c) (component_rows c j gs fs)
+  components_rows j [] h = All-nil (IsRow c)
+  components_rows j (f ∷ fs) h =
+      let a = column_form c j in
+      let b = form_at c gs f in
+      let p = column_within c (2 ^ 30) (2 ^ 52) j (omega arith) in
+      let q = is_composed c gs few slight f (All-head (IsNear (length gs)) f fs h) in
+      All-cons (IsRow c) (gap_row b a 0) (gap_row a b 0 ∷ component_rows c (suc j) gs fs) (gap_is_row c b a q p)
+      (All-cons (IsRow c) (gap_row a b 0) (component_rows c (suc j) gs fs) (gap_is_row c a b p q) (components_rows (suc j) fs (All-tail (IsNear (length gs)) f fs h)))
 
 components_count : (c j : ℕ) (gs fs : List Affine) → length (component_rows c j gs fs) ≡ 2 * length fs
 components_count c j gs [] = refl
@@ -91,15 +97,15 @@ composable nest e m t =
     let loops : length m.inverse ≡ length e.loops = t.map_of.iterators in
     let c = length nest.params + length e.loops in
     let width : c ≡ length nest.params + length m.inverse = ap (λ k. length nest.params + k) (sym loops) in
-    let forms = forms_slight c m.forms (subst (λ k. HaveColumns k m.forms) t.map_of.columns m.shaped) t.forms in
+    let forms = slight_forms c m.forms (subst (λ k. HaveColumns k m.forms) t.map_of.columns m.shaped) t.forms in
     record {
       few_params = nest_few nest t.is_nest;
       few_iterators = subst (λ k. k ≤ 6) (sym loops) (few_numbered nest e t.is_nest t.there);
       few_components = t.few;
       few_rows = domain_small nest e t.is_nest t.there;
-      slight = forms_slight (length nest.params + length m.forms) m.inverse (subst (λ k. HaveColumns k m.inverse) (same (columns_of m.forms) (length nest.params) (length e.loops) (length m.forms) (length m.inverse) t.map_of.columns loops) m.inverse_shaped) t.inverse;
+      slight = slight_forms (length nest.params + length m.forms) m.inverse (subst (λ k. HaveColumns k m.inverse) (same (columns_of m.forms) (length nest.params) (length e.loops) (length m.forms) (length m.inverse) t.map_of.columns loops) m.inverse_shaped) t.inverse;
       near_rows = subst (λ k. All (IsNear k) e.domain.rows) width (rows_near nest t.is_nest e t.there t.alive);
-      near_times = subst (λ k. All (IsNear k) m.forms) width (All-weaker (IsSlight c) (IsNear c) (slight_near c) m.forms forms);
+      near_times = subst (λ k. All (IsNear k) m.forms) width (all_raised c 256 (2 ^ 30) (2 ^ 17) (2 ^ 34) m.forms (omega arith) (omega arith) forms);
     }
   where
     same : (c m k n i : ℕ) → c ≡ m + k → i ≡ k → (c - i) + n ≡ m + n
@@ -109,53 +115,51 @@ module _ (params : ℕ) (domain times inverse : List Affine) (h : AreComposable 
   count : length gs ≡ params + length inverse
   count = ap length is ∙ images_long params (length times) inverse
 
-  pub made_images : AreImages (params + length times) gs
-  made_images = record {
-    few = few (length gs) params (length inverse) count h.few_params h.few_iterators;
-    slight = subst (All (IsSlight (params + length times))) (sym is)
-        (All-append (IsSlight (params + length times)) (columns_from (params + length times) 0 params) inverse (own_slight (params + length times) 0 params) h.slight);
-  }
+  few : length gs ≤ 10
+  few = sum (length gs) params (length inverse) count h.few_params h.few_iterators
     where
-      few : (n p i : ℕ) → n ≡ p + i → p ≤ 4 → i ≤ 6 → n ≤ 10
-      few n p i e g k = omega arith
+      sum : (n p i : ℕ) → n ≡ p + i → p ≤ 4 → i ≤ 6 → n ≤ 10
+      sum n p i e g k = omega (arith, e, g, k)
 
-  pub made_rows : All (IsNear (length gs)) domain
-  made_rows = subst (λ k. All (IsNear k) domain) (sym count) h.near_rows
-
-  pub made_times : All (IsNear (length gs)) times
-  made_times = subst (λ k. All (IsNear k) times) (sym count) h.near_times
-
-  pub made_system : (rows : List Affine) → rows ≡ map (form_at (params + length times) gs) domain ++ component_rows (params + length times) params gs times → All (IsRow (params + length times)) rows
-  made_system rows made =
+  slight : All (IsSlight (params + length times)) gs
+  slight =
       let c = params + length times in
-      subst (All (IsRow c)) (sym made) (All-append (IsRow c) (map (form_at c gs) domain) (component_rows c params gs times) (images_rows c gs made_images domain made_rows) (components_rows c params gs made_images times made_times))
+      subst (All (IsSlight c)) (sym is) (All-append (IsSlight c) (columns_from c 0 params) inverse (own_slight c 0 params) h.slight)
 
-  pub made_count : (rows : List Affine) → rows ≡ map (form_at (params + length times) gs) domain ++ component_rows (params + length times) params gs times → length rows < 1024
-  made_count rows made =
-      let c = params + length times in
-      let a = ap length made ∙ length-append (map (form_at c gs) domain) (component_rows c params gs times) in
-      let b = length-map domain (form_at c gs) in
-      let d = components_count c params gs times in
-      let f = h.few_rows in
-      let g = h.few_components in
-      omega arith
+  near_rows : All (IsNear (length gs)) domain
+  near_rows = subst (λ k. All (IsNear k) domain) (sym count) h.near_rows
+
+  near_times : All (IsNear (length gs)) times
+  near_times = subst (λ k. All (IsNear k) times) (sym count) h.near_times
+
+  pub made_images : AreImages (params + length times) gs
+  made_images = record { few = few; rows = rows_of (params + length times) 256 (2 ^ 30) gs (omega arith) (omega arith) slight }
+
+  pub made_rows : All (IsRow (length gs)) domain
+  made_rows = rows_of (length gs) (2 ^ 17) (2 ^ 34) domain (omega arith) (omega arith) near_rows
+
+  pub made_times : All (IsRow (length gs)) times
+  made_times = rows_of (length gs) (2 ^ 17) (2 ^ 34) times (omega arith) (omega arith) near_times
+
+  -- the rows of the domain and those of the components, as the code makes them
+  pub domain_fit : (start made rows : List Affine) → start ≡ [] → made ≡ start ++ map (form_at (params + length times) gs) domain → rows ≡ made → All (IsRow (params + length times)) rows × (length rows ≤ 134)
+  domain_fit start made rows s m r =
+      let e : rows ≡ map (form_at (params + length times) gs) domain = r ∙ m ∙ ap (λ z. z ++ map (form_at (params + length times) gs) domain) s in (
+        subst (All (IsRow (params + length times))) (sym e) (images_rows (params + length times) gs few slight domain near_rows),
+        subst (λ k. k ≤ 134) (sym (ap length e ∙ length-map domain (form_at (params + length times) gs))) h.few_rows,
+      )
+
+  pub times_fit : (start made rows : List Affine) → start ≡ [] → made ≡ start ++ component_rows (params + length times) params gs times → rows ≡ made → All (IsRow (params + length times)) rows × (length rows ≤ 24)
+  times_fit start made rows s m r =
+      let e : rows ≡ component_rows (params + length times) params gs times = r ∙ m ∙ ap (λ z. z ++ component_rows (params + length times) params gs times) s in (
+        subst (All (IsRow (params + length times))) (sym e) (components_rows (params + length times) gs few slight params times near_times),
+        twice (length rows) (length times) (ap length e ∙ components_count (params + length times) params gs times) h.few_components,
+      )
+    where
+      twice : (m n : ℕ) → m ≡ 2 * n → n ≤ 12 → m ≤ 24
+      twice m n e g = omega (arith, e, g)
 
 -- ---- What the code has made
-
-pub code_fit : (params : ℕ) (domain times inverse : List Affine) → AreComposable params domain times inverse → (items g1 g2 r0 r1 r2 r3 : List Affine) (s : Rows)
-    → items ≡ columns_from (params + length times) 0 params ++ inverse → g1 ≡ items → g2 ≡ items → r0 ≡ [] → r1 ≡ r0 ++ map (form_at (params + length times) g1) domain
-    → r2 ≡ r1 ++ component_rows (params + length times) params g2 times → r3 ≡ r2 → s ≡ record { columns = params + length times; rows = [] }
-    → All (IsRow s.columns) r3 × (length s.rows + length r3 ≤ 1024)
-code_fit params domain times inverse h items g1 g2 r0 r1 r2 r3 s is e1 e2 f0 f1 f2 f3 g =
-    let c = params + length times in
-    let made : r3 ≡ map (form_at c items) domain ++ component_rows c params items times =
-    f3 ∙ f2 ∙ ap (λ z. z ++ component_rows c params g2 times) (f1 ∙ ap (λ z. z ++ map (form_at c g1) domain) f0) ∙ ap (λ z. map (form_at c z) domain ++ component_rows c params g2 times) e1
-    ∙ ap (λ z. map (form_at c items) domain ++ component_rows c params z times) e2 in
-    let fits : length r3 < 1024 = made_count params domain times inverse h items is r3 made in
-    let start : 0 + length r3 ≤ 1024 = omega arith in (
-      subst (λ (q : Rows). All (IsRow q.columns) r3) (sym g) (made_system params domain times inverse h items is r3 made),
-      subst (λ (q : Rows). length q.rows + length r3 ≤ 1024) (sym g) start,
-    )
 
 pub code_composable : (nest : Nest) (e : Entry) (m : TimeMap) → IsTimed nest e m → (params : List (ℤ × ℤ)) (domain times inverse : List Affine) → params ≡ nest.params → domain ≡ e.domain.rows → times ≡ m.forms → inverse ≡ m.inverse
     → AreComposable (length params) domain times inverse

@@ -1,5 +1,5 @@
 -- Instances are, with their times, time points.
-use Rattle.std.proofs.Common.{◌≡◌, ℕ, suc, ◌+◌, ◌-◌, List, [], ◌∷◌, ◌++◌, length, map, take, drop, Some, ℤ, pos, ◌+ℤ◌, ◌≤ℤ◌, refl, sym, ap, subst, ◌∙◌, arith, length-append}
+use Rattle.std.proofs.Common.{◌≡◌, ℕ, ◌+◌, ◌-◌, List, [], ◌∷◌, ◌++◌, length, map, take, drop, Some, ℤ, pos, ◌+ℤ◌, ◌≤ℤ◌, refl, sym, ap, subst, ◌∙◌, arith, length-append}
 use Rattle.std.specs.Prelude.{slice_get}
 use Rattle.std.proofs.lemmas.Int.{ints}
 use Rattle.std.proofs.lemmas.List.{take-append-le, drop-append-le, take_all, drop_all}
@@ -7,8 +7,6 @@ use Rattle.affc_rows.specs.Forms.{Affine, dot, value, values_of, columns_of, Hav
 use Rattle.affc_rows.proofs.IntLemmas.{one-mul}
 use Rattle.affc_farkas.specs.Rational.{scaled_value}
 use Rattle.affc_ast.specs.declared.tree.Instance.{Instance}
-use Rattle.affc_ast.specs.declared.tree.Param.{Param}
-use Rattle.affc_ast.specs.declared.tree.Param.TheVariants.{Number, Array}
 use Rattle.affc_ast.specs.declared.tree.Program.{Program}
 use Rattle.affc_ast.specs.Trace.{trace}
 use Rattle.affc_trace.specs.declared.schedule.TimeMap.{TimeMap}
@@ -24,6 +22,8 @@ use Rattle.affc_nest.specs.Domains.{domain_rows}
 use Rattle.affc_nest.specs.Laws.{HasNest}
 use Rattle.affc_nest.proofs.DomainLemmas.{Met}
 use Rattle.affc_nest.proofs.PointLemmas.{instance_met, ranges_long}
+use Rattle.affc_order.proofs.ColumnLemmas.{values_long}
+use Rattle.affc_order.proofs.TimeLemmas.{numbers_are}
 use Rattle.affc_loopends.specs.TimeSets.{HoldAll, LieWithin, Turn, IsShaped, IsTimePoint, parameters_at, components_at, iterators_at, timed_in}
 use Rattle.affc_loopends.proofs.Scaled.{Held}
 use Rattle.affc_loopends.proofs.Turns.{domain_held}
@@ -43,11 +43,6 @@ whole_held x (r ∷ rs) m = (subst (λ z. pos 0 ≤ℤ z) (sym (whole_value r x)
 
 -- ---- Shapes
 
-numbers_are : (ps : List Param) → numbers_in ps ≡ length (number_ranges ps)
-numbers_are [] = refl
-numbers_are (Number name low high ∷ ps) = ap suc (numbers_are ps)
-numbers_are (Array decl ∷ ps) = numbers_are ps
-
 same_count : (c m k n i : ℕ) → c ≡ m + k → i ≡ k → (c - i) + n ≡ m + n
 same_count c m k n i e f = omega arith
 
@@ -61,10 +56,6 @@ program_is_shaped program rs ranges m components is within = record {
 }
 
 -- ---- Instances
-
-length_values : (fs : List Affine) (x : List ℤ) → length (values_of fs x) ≡ length fs
-length_values [] x = refl
-length_values (f ∷ fs) x = ap suc (length_values fs x)
 
 take_front : (p t : List ℤ) (n : ℕ) → length p ≡ n → take n (p ++ t) ≡ p
 take_front p t n e = take-append-le n p t (omega arith) ∙ take_all n p (omega arith)
@@ -91,7 +82,7 @@ module _ (program : Program) (components : ℕ) (maps : List TimeMap) (p : List 
       let later : components_at s x ≡ t = drop_front p t (length ps) pl in
       let iterators : iterators_at s x (pos 1) ≡ its = whole_values m.inverse x ∙ from_time program components maps p scheduled numbers b i m mapped in
       record {
-        width = length-append p t ∙ ap (λ k. k + length t) pl ∙ ap (λ zs. length ps + length zs) time ∙ ap (λ k. length ps + k) (length_values m.forms (p ++ its));
+        width = length-append p t ∙ ap (λ k. k + length t) pl ∙ ap (λ zs. length ps + length zs) time ∙ ap (λ k. length ps + k) (values_long m.forms (p ++ its));
         divisor = omega (arith, ints);
         parameters = subst (λ ys. LieWithin (pos 1) ps ys) (sym parameters) turn.0;
         context = subst (λ ys. HoldAll ys (pos 1) program.context) (sym parameters) turn.1;

@@ -1,45 +1,27 @@
 -- The rows of a domain and the forms of a schedule are near.
-use Rattle.std.proofs.Common.{◌≡◌, ℕ, suc, ◌+◌, ◌^◌, ◌≤◌, List, [], ◌∷◌, ◌++◌, length, get_or, true, IsTrue, ℤ, pos, negsuc, ◌+ℤ◌, ◌-ℤ◌, ◌*ℤ◌, refl, subst, arith}
-use Rattle.std.specs.Prelude.{unsigned_abs, ◌&&◌, nat_le, nat_abs}
+use Rattle.std.proofs.Common.{◌≡◌, ℕ, suc, ◌+◌, ◌^◌, ◌≤◌, List, [], ◌∷◌, ◌++◌, length, IsTrue, ℤ, subst, arith}
+use Rattle.std.specs.Prelude.{unsigned_abs, ◌&&◌}
 use Rattle.std.specs.List.{All}
-use Rattle.std.proofs.lemmas.Int.{ints}
 use Rattle.std.proofs.lemmas.List.Elements.{All-nil, All-cons, All-append}
-use Rattle.affc_rows.specs.Forms.{Affine, mixed, mixed_form, HaveColumns}
+use Rattle.affc_rows.specs.Forms.{Affine}
+use Rattle.affc_rows.proofs.SizeLemmas.{within_raised, gap_within}
 use Rattle.affc_ast.specs.declared.tree.Compare.{Compare}
 use Rattle.affc_ast.specs.declared.tree.Rel.{Rel}
 use Rattle.affc_ast.specs.declared.tree.Rel.TheVariants.{Less, LessEqual, Greater, GreaterEqual, Equal}
-use Rattle.affc_trace.specs.Target.{are_slight, all_slight}
 use Rattle.affc_domain.specs.Affine.{form_of}
 use Rattle.affc_domain.specs.Plain.{is_plain, plain_tests}
 use Rattle.affc_domain.specs.Rounds.{Round, Loop, Test, loops_in}
 use Rattle.affc_domain.proofs.Lists.{both_true}
 use Rattle.affc_nest.specs.Domains.{gap_row, compare_rows, test_rows, column_form, number_form, range_rows, box_rows, bounds_of, loop_rows, condition_rows, domain_rows}
 use Rattle.affc_nest.specs.Frames.{plain_at}
-use Rattle.affc_nest.specs.Sides.{AreNear, IsSide, NearRanges}
-use Rattle.affc_nest.proofs.RowLemmas.{plain_side, column_side, number_side, difference_abs, constant_near, gap_width}
-use Rattle.affc_loopends.specs.Sizes.{IsSlight, IsNear}
+use Rattle.affc_nest.specs.Sides.{IsSide, NearRanges}
+use Rattle.affc_nest.proofs.RowLemmas.{plain_side, column_side, number_side}
+use Rattle.affc_loopends.specs.Sizes.{IsNear}
 
 -- ---- Differences of sides
 
-difference_near : (cs ds : List ℤ) → AreNear cs → AreNear ds → All (λ c. unsigned_abs c ≤ 2 ^ 17) (mixed (pos 1) ds (negsuc 0) cs)
-difference_near cs [] h g = All-nil (λ c. unsigned_abs c ≤ 2 ^ 17)
-difference_near [] (d ∷ ds) h g = All-nil (λ c. unsigned_abs c ≤ 2 ^ 17)
-difference_near (c ∷ cs) (d ∷ ds) h g =
-    All-cons (λ z. unsigned_abs z ≤ 2 ^ 17) ((pos 1 *ℤ d) +ℤ (negsuc 0 *ℤ c)) (mixed (pos 1) ds (negsuc 0) cs) (twice (unsigned_abs ((pos 1 *ℤ d) +ℤ (negsuc 0 *ℤ c))) (unsigned_abs d) (unsigned_abs c) (difference_abs d c) g.0 h.0) (difference_near cs ds h.1 g.1)
-  where
-    twice : (w u v : ℕ) → w ≤ u + v → u ≤ 2 ^ 16 → v ≤ 2 ^ 16 → w ≤ 2 ^ 17
-    twice w u v h k l = omega arith
-
-less_near : (z : ℤ) (k : ℕ) → unsigned_abs z ≤ 2 ^ 33 → k ≤ 1 → unsigned_abs (z -ℤ pos k) ≤ 2 ^ 34
-less_near (pos n) k h l = grind (arith, ints)
-less_near (negsuc n) k h l = grind (arith, ints)
-
 gap_near : (n : ℕ) (a b : Affine) (k : ℕ) → IsSide n a → IsSide n b → k ≤ 1 → IsNear n (gap_row a b k)
-gap_near n a b k s t l = record {
-  width = gap_width n a b k s t;
-  coefs = difference_near a.coefs b.coefs s.coefs_near t.coefs_near;
-  last = less_near (mixed_form (pos 1) b (negsuc 0) a).constant k (constant_near n a b s t) l;
-}
+gap_near n a b k s t l = within_raised n (2 ^ 16 + 2 ^ 16) ((2 ^ 32 + 2 ^ 32) + 1) (2 ^ 17) (2 ^ 34) (gap_row a b k) (omega arith) (omega arith) (gap_within n (2 ^ 16) (2 ^ 32) k a b s t l)
 
 compare_near : (n : ℕ) (rel : Rel) (a b : Affine) → IsSide n a → IsSide n b → All (IsNear n) (compare_rows rel a b)
 compare_near n Less a b s t = All-cons (IsNear n) (gap_row a b 1) [] (gap_near n a b 1 s t (omega arith)) (All-nil (IsNear n))
@@ -106,39 +88,3 @@ domain_near params context ranges rs p r c a =
     All-append P (box_rows (m + n) 0 params) (test_rows m n context ++ (loop_rows m ranges rs ++ condition_rows m rs)) (box_near (m + n) 0 params p)
     (All-append P (test_rows m n context) (loop_rows m ranges rs ++ condition_rows m rs) (tests_near m n context c)
     (All-append P (loop_rows m ranges rs) (condition_rows m rs) (loops_near m ranges rs r a) (conditions_near m rs a)))
-
--- ---- Forms of a schedule
-
-at_most : (n k : ℕ) → nat_le n k ≡ true → n ≤ k
-at_most n k h = grind (arith, ints)
-
-same_abs : (z : ℤ) → nat_abs z ≡ unsigned_abs z
-same_abs (pos n) = refl
-same_abs (negsuc n) = refl
-
-coefs_slight : (cs : List ℤ) → IsTrue (are_slight cs) → All (λ c. unsigned_abs c ≤ 256) cs
-coefs_slight [] h = All-nil (λ c. unsigned_abs c ≤ 256)
-coefs_slight (c ∷ cs) h =
-    let l = both_true (nat_le (nat_abs c) 256) (are_slight cs) h in
-    All-cons (λ z. unsigned_abs z ≤ 256) c cs (subst (λ n. n ≤ 256) (same_abs c) (at_most (nat_abs c) 256 l.0)) (coefs_slight cs l.1)
-
-pub forms_slight : (columns : ℕ) (fs : List Affine) → HaveColumns columns fs → IsTrue (all_slight fs) → All (IsSlight columns) fs
-forms_slight columns [] w h = All-nil (IsSlight columns)
-forms_slight columns (f ∷ fs) w h =
-    let l = both_true (nat_le (nat_abs f.constant) (2 ^ 30) && are_slight f.coefs) (all_slight fs) h in
-    let k = both_true (nat_le (nat_abs f.constant) (2 ^ 30)) (are_slight f.coefs) l.0 in
-    All-cons (IsSlight columns) f fs
-    (record { width = w 0 f (omega arith); coefs = coefs_slight f.coefs k.1; last = subst (λ n. n ≤ 2 ^ 30) (same_abs f.constant) (at_most (nat_abs f.constant) (2 ^ 30) k.0) })
-    (forms_slight columns fs (λ i d lt. w (suc i) d (omega arith)) l.1)
-
-slight_coefs : (cs : List ℤ) → All (λ c. unsigned_abs c ≤ 256) cs → All (λ c. unsigned_abs c ≤ 2 ^ 17) cs
-slight_coefs cs h = λ i d lt. up (unsigned_abs (get_or cs i d)) (h i d lt)
-  where
-    up : (n : ℕ) → n ≤ 256 → n ≤ 2 ^ 17
-    up n h = omega arith
-
-pub slight_near : (columns : ℕ) (f : Affine) → IsSlight columns f → IsNear columns f
-slight_near columns f s = record { width = s.width; coefs = slight_coefs f.coefs s.coefs; last = up (unsigned_abs f.constant) s.last }
-  where
-    up : (n : ℕ) → n ≤ 2 ^ 30 → n ≤ 2 ^ 34
-    up n h = omega arith

@@ -10,6 +10,7 @@ use Rattle.affc_rows.proofs.IntLemmas.{one-mul, mul-nonneg}
 use Rattle.affc_rows.proofs.ValueLemmas.{length-mixed}
 use Rattle.affc_system.specs.Systems.{Rows}
 use Rattle.affc_farkas.specs.Multiples.{entry_of, zero_row}
+use Rattle.affc_farkas.proofs.Points.{scaled_value-mixed}
 use Rattle.affc_farkas.specs.Rational.{scaled_value}
 use Rattle.affc_farkas.specs.Eliminations.{combined}
 use Rattle.affc_farkas.proofs.Between.{swap, cancel}
@@ -17,7 +18,6 @@ use Rattle.affc_farkas.proofs.Entries.{entry_of-mixed, zeros-at}
 use Rattle.affc_eliminate.proofs.Values.{entry_inside, entry_last}
 use Rattle.affc_eliminate.proofs.project.Points.{first_value}
 use Rattle.affc_loopends.specs.Ends.{IsProjectedRow}
-use Rattle.affc_loopends.proofs.Scaled.{mixed_scaled}
 
 -- the sum of the multiples of rows, with a weight for each
 abbrev total : ℕ → List Affine → List ℕ → Affine
@@ -56,7 +56,7 @@ total_holds columns (r ∷ rs) (n ∷ ws) x d w l h =
     let later = All-tail (λ f. length f.coefs ≡ columns) r rs w in
     let t = total columns rs ws in
     sum_holds (pos n *ℤ scaled_value r x d) (pos 1 *ℤ scaled_value t x d) (scaled_value t x d) (scaled_value (total columns (r ∷ rs) (n ∷ ws)) x d)
-    (mixed_scaled (pos n) r (pos 1) t x d (u ∙ sym (total_wide columns rs ws later)) (u ∙ sym l)) (one-mul (scaled_value t x d))
+    (scaled_value-mixed (pos n) r (pos 1) t x d (u ∙ sym (total_wide columns rs ws later)) (u ∙ sym l)) (one-mul (scaled_value t x d))
     (mul-nonneg n (scaled_value r x d) (All-head (λ f. pos 0 ≤ℤ scaled_value f x d) r rs h))
     (total_holds columns rs ws x d later l (All-tail (λ f. pos 0 ≤ℤ scaled_value f x d) r rs h))
 

@@ -6,11 +6,13 @@ use Rattle.std.proofs.lemmas.Int.{ints}
 use Rattle.std.proofs.lemmas.List.{length-map}
 use Rattle.std.proofs.lemmas.List.Elements.{All-nil, All-cons}
 use lib.IntN.{*ℤ-zero}
-use Rattle.affc_rows.specs.Forms.{Affine, dot, value, mixed, mixed_form, HaveColumns, column_of, constants_of, values_of, composed}
+use Rattle.affc_rows.specs.Forms.{Affine, dot, value, mixed_form, HaveColumns, column_of, constants_of, values_of, composed}
 use Rattle.affc_rows.specs.Vocabulary.{form_at}
-use Rattle.affc_rows.proofs.IntLemmas.{mul-add, mul_assoc}
-use Rattle.affc_rows.proofs.ValueLemmas.{dot-mixed, value-composed}
+use Rattle.affc_rows.proofs.IntLemmas.{mul-add}
 use Rattle.affc_farkas.specs.Rational.{scaled_value}
+use Rattle.affc_farkas.proofs.Between.{swap}
+use Rattle.affc_farkas.proofs.Points.{scaled_value-mixed}
+use Rattle.affc_eliminate.proofs.Rooms.{mul-neg}
 use Rattle.affc_ast.specs.declared.tree.Ix.{Ix}
 use Rattle.affc_ast.specs.declared.tree.Rel.{Rel}
 use Rattle.affc_ast.specs.declared.tree.Rel.TheVariants.{Less, LessEqual, Greater, GreaterEqual, Equal}
@@ -18,6 +20,7 @@ use Rattle.affc_domain.specs.Affine.{form_of}
 use Rattle.affc_domain.proofs.FormLemmas.{form_width, column_value, number_value}
 use Rattle.affc_nest.specs.Domains.{gap_row, compare_rows, column_form, number_form}
 use Rattle.affc_nest.proofs.WidenLemmas.{widen_form}
+use Rattle.affc_order.proofs.ColumnLemmas.{at_value}
 use Rattle.affc_loopends.specs.TimeSets.{scaled_at, AreRelated}
 
 -- ---- Rows one after the other
@@ -43,48 +46,19 @@ held_append x d (r ∷ rs) more = let h = held_append x d rs more in (
 
 -- ---- Differences
 
-pub mixed_scaled : (s : ℤ) (f : Affine) (t : ℤ) (g : Affine) (x : List ℤ) (d : ℤ) → length f.coefs ≡ length g.coefs → length f.coefs ≡ length x
-    → scaled_value (mixed_form s f t g) x d ≡ (s *ℤ scaled_value f x d) +ℤ (t *ℤ scaled_value g x d)
-mixed_scaled s f t g x d h l =
-    ap (λ z. dot (mixed s f.coefs t g.coefs) x +ℤ z) (mul-add d (s *ℤ f.constant) (t *ℤ g.constant))
-    ∙ spread _ (s *ℤ dot f.coefs x) (t *ℤ dot g.coefs x) (d *ℤ (s *ℤ f.constant)) (d *ℤ (t *ℤ g.constant)) _ _ (dot-mixed s f.coefs t g.coefs x h l)
-    (mul-add s (dot f.coefs x) (d *ℤ f.constant) ∙ ap (λ z. (s *ℤ dot f.coefs x) +ℤ z) (swapped s d f.constant))
-    (mul-add t (dot g.coefs x) (d *ℤ g.constant) ∙ ap (λ z. (t *ℤ dot g.coefs x) +ℤ z) (swapped t d g.constant))
-  where
-    swapped : (a b y : ℤ) → a *ℤ (b *ℤ y) ≡ b *ℤ (a *ℤ y)
-    swapped a b y = sym (mul_assoc a b y) ∙ ap (λ z. z *ℤ y) (turned a b) ∙ mul_assoc b a y
-      where
-        turned : (a b : ℤ) → a *ℤ b ≡ b *ℤ a
-        turned a b = omega (arith, ints)
-
-    spread : (w u v p q r1 r2 : ℤ) → w ≡ u +ℤ v → r1 ≡ u +ℤ p → r2 ≡ v +ℤ q → w +ℤ (p +ℤ q) ≡ r1 +ℤ r2
-    spread w u v p q r1 r2 a b e = omega (arith, ints)
-
-minus : (d c : ℤ) → d *ℤ (c -ℤ pos 0) ≡ d *ℤ c
-minus d c = ap (λ z. d *ℤ z) (none c)
-  where
-    none : (c : ℤ) → c -ℤ pos 0 ≡ c
-    none c = omega (arith, ints)
-
 -- the value of b - a - k
 pub gap_scaled : (a b : Affine) (k : ℕ) (x : List ℤ) (d : ℤ) → length a.coefs ≡ length x → length b.coefs ≡ length x
     → scaled_value (gap_row a b k) x d ≡ (scaled_value b x d -ℤ scaled_value a x d) -ℤ (d *ℤ pos k)
 gap_scaled a b k x d h g =
     let m = mixed_form (pos 1) b (negsuc 0) a in
     let less : d *ℤ (m.constant -ℤ pos k) ≡ (d *ℤ m.constant) -ℤ (d *ℤ pos k) = split d m.constant (pos k) in
-    moved (dot m.coefs x) (d *ℤ (m.constant -ℤ pos k)) (d *ℤ m.constant) (scaled_value b x d) (scaled_value a x d) (d *ℤ pos k) less (mixed_scaled (pos 1) b (negsuc 0) a x d (g ∙ sym h) g)
+    moved (dot m.coefs x) (d *ℤ (m.constant -ℤ pos k)) (d *ℤ m.constant) (scaled_value b x d) (scaled_value a x d) (d *ℤ pos k) less (scaled_value-mixed (pos 1) b (negsuc 0) a x d (g ∙ sym h) g)
   where
-    negated : (d k : ℤ) → d *ℤ neg_ℤ k ≡ neg_ℤ (d *ℤ k)
-    negated d k = omega (arith, ints, mul-add d k (neg_ℤ k), ap (λ z. d *ℤ z) (none k), *ℤ-zero d)
-      where
-        none : (k : ℤ) → k +ℤ neg_ℤ k ≡ pos 0
-        none k = omega (arith, ints)
-
     as_sum : (c k : ℤ) → c -ℤ k ≡ c +ℤ neg_ℤ k
     as_sum c k = omega (arith, ints)
 
     split : (d c k : ℤ) → d *ℤ (c -ℤ k) ≡ (d *ℤ c) -ℤ (d *ℤ k)
-    split d c k = ap (λ z. d *ℤ z) (as_sum c k) ∙ mul-add d c (neg_ℤ k) ∙ ap (λ z. (d *ℤ c) +ℤ z) (negated d k) ∙ sym (as_sum (d *ℤ c) (d *ℤ k))
+    split d c k = ap (λ z. d *ℤ z) (as_sum c k) ∙ mul-add d c (neg_ℤ k) ∙ ap (λ z. (d *ℤ c) +ℤ z) (mul-neg d k) ∙ sym (as_sum (d *ℤ c) (d *ℤ k))
 
     moved : (u v w y z l : ℤ) → v ≡ w -ℤ l → u +ℤ w ≡ (pos 1 *ℤ y) +ℤ (negsuc 0 *ℤ z) → u +ℤ v ≡ (y -ℤ z) -ℤ l
     moved u v w y z l e f = omega (arith, ints)
@@ -173,44 +147,23 @@ constants_scaled : (d : ℤ) (cs : List ℤ) (gs : List Affine) → dot cs (cons
 constants_scaled d [] gs = sym (*ℤ-zero d)
 constants_scaled d (c ∷ cs) [] = sym (*ℤ-zero d)
 constants_scaled d (c ∷ cs) (g ∷ gs) =
-    ap (λ z. (c *ℤ (d *ℤ g.constant)) +ℤ z) (constants_scaled d cs gs) ∙ ap (λ z. z +ℤ (d *ℤ dot cs (constants_of gs))) (swapped c d g.constant) ∙ sym (mul-add d (c *ℤ g.constant) (dot cs (constants_of gs)))
-  where
-    turned : (a b : ℤ) → a *ℤ b ≡ b *ℤ a
-    turned a b = omega (arith, ints)
-
-    swapped : (a b y : ℤ) → a *ℤ (b *ℤ y) ≡ b *ℤ (a *ℤ y)
-    swapped a b y = sym (mul_assoc a b y) ∙ ap (λ z. z *ℤ y) (turned a b) ∙ mul_assoc b a y
+    ap (λ z. (c *ℤ (d *ℤ g.constant)) +ℤ z) (constants_scaled d cs gs) ∙ ap (λ z. z +ℤ (d *ℤ dot cs (constants_of gs))) (swap c d g.constant) ∙ sym (mul-add d (c *ℤ g.constant) (dot cs (constants_of gs)))
 
 values_scaled : (d : ℤ) (gs : List Affine) (x : List ℤ) → values_of (map (at_scale d) gs) x ≡ map (λ g. scaled_value g x d) gs
 values_scaled d [] x = refl
 values_scaled d (g ∷ gs) x = ap (λ zs. scaled_value g x d ∷ zs) (values_scaled d gs x)
 
-no_columns : (j n : ℕ) (x : List ℤ) → dot (composed [] [] j n) x ≡ pos 0
-no_columns j zero x = refl
-no_columns j (suc n) [] = refl
-no_columns j (suc n) (y ∷ x) = omega (arith, ints, no_columns (suc j) n x)
-
 -- the value of a form with its columns' images is its value at the images' values
 pub images_scaled : (n : ℕ) (gs : List Affine) (f : Affine) (x : List ℤ) (d : ℤ) → length gs ≡ length f.coefs → HaveColumns n gs → length x ≡ n
     → scaled_value (form_at n gs f) x d ≡ scaled_value f (map (λ g. scaled_value g x d) gs) d
-images_scaled n [] f x d h w l = none f.coefs h
-  where
-    none : (cs : List ℤ) → 0 ≡ length cs → dot (composed cs [] 0 n) x +ℤ (d *ℤ (dot cs [] +ℤ f.constant)) ≡ dot cs [] +ℤ (d *ℤ f.constant)
-    none [] e = omega (arith, ints, no_columns 0 n x, ap (λ z. d *ℤ z) (front f.constant))
-      where
-        front : (z : ℤ) → pos 0 +ℤ z ≡ z
-        front z = omega (arith, ints)
-    none (c ∷ cs) e = absurd (omega arith)
-images_scaled n (g ∷ gs) f x d h w l =
-    let hs = g ∷ gs in
-    let width : length g.coefs ≡ n = w 0 g (omega arith) in
-    let e = value-composed (at_scale d f) (map (at_scale d) hs) x (length-map hs (at_scale d) ∙ h) (subst (λ k. HaveColumns k (map (at_scale d) hs)) (sym l) (widths hs w)) (l ∙ sym width) in
-    ap (λ z. dot (composed f.coefs hs 0 n) x +ℤ z) (mul-add d (dot f.coefs (constants_of hs)) f.constant)
-    ∙ ap (λ z. dot (composed f.coefs hs 0 n) x +ℤ (z +ℤ (d *ℤ f.constant))) (sym (constants_scaled d f.coefs hs))
-    ∙ ap (λ cs. dot cs x +ℤ (dot f.coefs (constants_of (map (at_scale d) hs)) +ℤ (d *ℤ f.constant))) (sym (composed_same d f.coefs hs 0 n))
-    ∙ ap (λ k. dot (composed f.coefs (map (at_scale d) hs) 0 k) x +ℤ (dot f.coefs (constants_of (map (at_scale d) hs)) +ℤ (d *ℤ f.constant))) (sym width)
-    ∙ e
-    ∙ ap (λ ys. value (at_scale d f) ys) (values_scaled d hs x)
+images_scaled n gs f x d h w l =
+    let hs : List Affine = map (at_scale d) gs in
+    ap (λ z. dot (composed f.coefs gs 0 n) x +ℤ z) (mul-add d (dot f.coefs (constants_of gs)) f.constant)
+    ∙ ap (λ z. dot (composed f.coefs gs 0 n) x +ℤ (z +ℤ (d *ℤ f.constant))) (sym (constants_scaled d f.coefs gs))
+    ∙ ap (λ cs. dot cs x +ℤ (dot f.coefs (constants_of hs) +ℤ (d *ℤ f.constant))) (sym (composed_same d f.coefs gs 0 n))
+    ∙ ap (λ k. value (form_at k hs (at_scale d f)) x) (sym l)
+    ∙ at_value hs (at_scale d f) x (length-map gs (at_scale d) ∙ h) (subst (λ k. HaveColumns k hs) (sym l) (widths gs w))
+    ∙ ap (value (at_scale d f)) (values_scaled d gs x)
   where
     widths : (hs : List Affine) → HaveColumns n hs → HaveColumns n (map (at_scale d) hs)
     widths [] w = All-nil (λ g. length g.coefs ≡ n)

@@ -2,6 +2,7 @@
 use Rattle.std.proofs.Common.{◌≡◌, ℕ, suc, ◌+◌, List, [], ◌∷◌, ◌++◌, length, get_or, ℤ, pos, ◌*ℤ◌, ◌≤ℤ◌, refl, sym, ap, ◌∙◌, arith, length-append, append_assoc}
 use Rattle.std.specs.Prelude.{◌↔◌}
 use Rattle.affc_farkas.specs.Rational.{scaled_value}
+use Rattle.affc_eliminate.proofs.project.Points.{both_ways, itself}
 use Rattle.affc_ast.specs.declared.tree.Compare.{Compare}
 use Rattle.affc_ast.specs.declared.tree.Ix.{Ix}
 use Rattle.affc_ast.specs.declared.tree.Rel.{Rel}
@@ -9,21 +10,12 @@ use Rattle.affc_domain.specs.Affine.{form_of}
 use Rattle.affc_domain.specs.Rounds.{Round, Loop, Test, loops_in}
 use Rattle.affc_domain.proofs.FormLemmas.{form_width, unit_width, number_width}
 use Rattle.affc_nest.specs.Domains.{compare_rows, test_rows, column_form, number_form, range_rows, box_rows, bounds_of, loop_rows, condition_rows, domain_rows}
+use Rattle.affc_nest.proofs.DomainLemmas.{at_seam, length_push}
 use Rattle.affc_loopends.specs.TimeSets.{scaled_at, AreRelated, HoldAll, LieWithin, Turn}
-use Rattle.affc_loopends.proofs.Both.{after, itself, both}
+use Rattle.affc_loopends.proofs.Both.{both}
 use Rattle.affc_loopends.proofs.Scaled.{Held, held_append, at_most_held, compare_held, column_scaled, number_scaled, form_scaled}
 
--- ---- At a place in a list
-
-at_front : (names : List ℤ) (x : ℤ) (xs : List ℤ) → get_or (names ++ x ∷ xs) (length names) (pos 0) ≡ x
-at_front [] x xs = refl
-at_front (n ∷ names) x xs = at_front names x xs
-
-pub pushed : (names : List ℤ) (x : ℤ) → length (names ++ x ∷ []) ≡ suc (length names)
-pushed names x = length-append names (x ∷ []) ∙ one_more (length names)
-  where
-    one_more : (n : ℕ) → n + 1 ≡ suc n
-    one_more n = omega arith
+-- ---- Forms
 
 -- zs is names and then xs, which are so many
 module _ (d : ℤ) (names xs zs : List ℤ) (n m : ℕ) (is : zs ≡ names ++ xs) (front : length names ≡ n) (rest : length xs ≡ m) where
@@ -57,9 +49,9 @@ box_held d [] front [] its zs c j is at l e = itself (Unit {0})
 box_held d [] front (x ∷ p) its zs c j is at l e = absurd (omega arith)
 box_held d (r ∷ ranges) front [] its zs c j is at l e = absurd (omega arith)
 box_held d (r ∷ ranges) front (x ∷ p) its zs c j is at l e =
-    let place : get_or zs j (pos 0) ≡ x = ap (λ k. get_or zs k (pos 0)) (sym at) ∙ ap (λ ys. get_or ys (length front) (pos 0)) is ∙ at_front front x (p ++ its) in
+    let place : get_or zs j (pos 0) ≡ x = ap (λ k. get_or zs k (pos 0)) (sym at) ∙ ap (λ ys. get_or ys (length front) (pos 0)) is ∙ at_seam front x (p ++ its) in
     let here = range_held d zs c j r x l place in
-    let later = box_held d ranges (front ++ x ∷ []) p its zs c (suc j) (is ∙ sym (append_assoc front (x ∷ []) (p ++ its))) (pushed front x ∙ ap suc at) l (omega arith) in
+    let later = box_held d ranges (front ++ x ∷ []) p its zs c (suc j) (is ∙ sym (append_assoc front (x ∷ []) (p ++ its))) (length_push front x ∙ ap suc at) l (omega arith) in
     let split = held_append zs d (range_rows c j r) (box_rows c (suc j) ranges) in (
       (λ h. let s = split.0 h in let a = here.0 s.0 in (a.0, a.1, later.0 s.1)),
       (λ h. split.1 (here.1 (h.0, h.1), later.1 h.2)),
@@ -72,7 +64,7 @@ tests_held d names xs zs n m is front rest [] = itself (Unit {0})
 tests_held d names xs zs n m is front rest (c ∷ cs) =
     let a = form_of n m c.left in
     let b = form_of n m c.right in
-    after (Held zs d (compare_rows c.rel a b ++ test_rows n m cs)) (Held zs d (compare_rows c.rel a b) × Held zs d (test_rows n m cs)) (HoldAll names d (c ∷ cs))
+    both_ways (Held zs d (compare_rows c.rel a b ++ test_rows n m cs)) (Held zs d (compare_rows c.rel a b) × Held zs d (test_rows n m cs)) (HoldAll names d (c ∷ cs))
     (held_append zs d (compare_rows c.rel a b) (test_rows n m cs))
     (both (Held zs d (compare_rows c.rel a b)) (AreRelated d c.rel (scaled_at names d c.left) (scaled_at names d c.right)) (Held zs d (test_rows n m cs)) (HoldAll names d cs)
     (compare_held zs d c.rel a b (form_long d names xs zs n m is front rest c.left) (form_long d names xs zs n m is front rest c.right) (scaled_at names d c.left) (scaled_at names d c.right)
@@ -88,7 +80,7 @@ bounds_held d names x xs zs n m is front rest low rel high =
     let l = long d names (x ∷ xs) zs n m is front rest in
     let c = column_form (n + m) n in
     let u : length c.coefs ≡ length zs = unit_width (n + m) n ∙ sym l in
-    let place : get_or zs n (pos 0) ≡ x = ap (λ k. get_or zs k (pos 0)) (sym front) ∙ ap (λ ys. get_or ys (length names) (pos 0)) is ∙ at_front names x xs in
+    let place : get_or zs n (pos 0) ≡ x = ap (λ k. get_or zs k (pos 0)) (sym front) ∙ ap (λ ys. get_or ys (length names) (pos 0)) is ∙ at_seam names x xs in
     let column : scaled_value c zs d ≡ x = ap (λ k. scaled_value (column_form k n) zs d) (sym l) ∙ column_scaled zs d n ∙ place in
     let below = at_most_held zs d (form_of n m low) c (form_long d names (x ∷ xs) zs n m is front rest low) u (scaled_at names d low) x (form_at d names (x ∷ xs) zs n m is front rest low) column in
     let above = compare_held zs d rel c (form_of n m high) u (form_long d names (x ∷ xs) zs n m is front rest high) x (scaled_at names d high) column (form_at d names (x ∷ xs) zs n m is front rest high) in
@@ -104,10 +96,10 @@ turns_held d (Loop iter low rel high ∷ rs) (r ∷ boxes) names [] zs n is fron
 turns_held d (Loop iter low rel high ∷ rs) (r ∷ boxes) names (x ∷ xs) zs n is front l e =
     let m = suc (loops_in rs) in
     let wide = long d names (x ∷ xs) zs n m is front l in
-    let place : get_or zs n (pos 0) ≡ x = ap (λ k. get_or zs k (pos 0)) (sym front) ∙ ap (λ ys. get_or ys (length names) (pos 0)) is ∙ at_front names x xs in
+    let place : get_or zs n (pos 0) ≡ x = ap (λ k. get_or zs k (pos 0)) (sym front) ∙ ap (λ ys. get_or ys (length names) (pos 0)) is ∙ at_seam names x xs in
     let bounds = bounds_held d names x xs zs n m is front l low rel high in
     let range = range_held d zs (n + m) n r x wide place in
-    let later = turns_held d rs boxes (names ++ x ∷ []) xs zs (suc n) (is ∙ sym (append_assoc names (x ∷ []) xs)) (pushed names x ∙ ap suc front) (omega arith) (omega arith) in
+    let later = turns_held d rs boxes (names ++ x ∷ []) xs zs (suc n) (is ∙ sym (append_assoc names (x ∷ []) xs)) (length_push names x ∙ ap suc front) (omega arith) (omega arith) in
     let one = held_append zs d (bounds_of n low rel high m) (range_rows (n + m) n r ++ loop_rows (suc n) boxes rs) in
     let two = held_append zs d (range_rows (n + m) n r) (loop_rows (suc n) boxes rs) in (
       (λ h.

@@ -1,13 +1,8 @@
--- Forms that stand for columns, and what they are put into.
+-- Rows of a domain and forms of a schedule that make a system.
 use Rattle.std.specs.Prelude.{ℕ, ◌+◌, ◌≤◌, List, length}
 use Rattle.std.specs.List.{All}
 use Rattle.affc_rows.specs.Forms.{Affine}
 use Rattle.affc_loopends.specs.Sizes.{IsSlight, IsNear}
-
--- a few forms of a schedule over so many columns
-pub record AreImages (columns : ℕ) (images : List Affine) : Type 0 where
-  pub few : length images ≤ 10
-  pub slight : All (IsSlight columns) images
 
 -- the rows of a domain, the forms of its times and their inverse, few enough and small enough for a system
 pub record AreComposable (params : ℕ) (domain times inverse : List Affine) : Type 0 where

@@ -1,7 +1,8 @@
 -- Sizes of forms and rows.
-use Rattle.std.specs.Prelude.{◌≡◌, ◌⊎◌, ℕ, ◌+◌, ◌^◌, ◌<◌, ◌≤◌, List, length, slice_index_or, ℤ, pos, IsTrue, unsigned_abs}
+use Rattle.std.specs.Prelude.{◌⊎◌, ℕ, ◌+◌, ◌^◌, ◌<◌, ◌≤◌, List, length, slice_index_or, ℤ, pos, IsTrue, unsigned_abs}
 use Rattle.std.specs.List.{All}
 use Rattle.affc_rows.specs.Forms.{Affine}
+use Rattle.affc_rows.specs.Sizes.{IsWithin}
 use Rattle.affc_system.specs.Boxes.{box_magnitude}
 use Rattle.affc_trace.specs.declared.schedule.TimeMap.{TimeMap}
 use Rattle.affc_trace.specs.Law.{IsIn}
@@ -35,22 +36,14 @@ IsLarge ranges row =
 
 -- ---- Rows that are composed
 
--- a form over so many columns, its coefficients and its constant within these
-pub record IsWithin (columns coefficient constant : ℕ) (f : Affine) : Type 0 where
-  pub width : length f.coefs ≡ columns
-  pub coefs : All (λ c. unsigned_abs c ≤ coefficient) f.coefs
-  pub last : unsigned_abs f.constant ≤ constant
-
--- a form of a schedule; a row of a domain, or such a form; either with images
+-- a form of a schedule
 abbrev pub IsSlight : ℕ → Affine → Type 0
-IsSlight columns f = IsWithin columns 256 (2 ^ 30) f
+IsSlight columns = IsWithin columns 256 (2 ^ 30)
 
+-- a row of a domain, or a form of a schedule
 abbrev pub IsNear : ℕ → Affine → Type 0
-IsNear columns f = IsWithin columns (2 ^ 17) (2 ^ 34) f
-
-abbrev pub IsComposed : ℕ → Affine → Type 0
-IsComposed columns f = IsWithin columns (2 ^ 30) (2 ^ 52) f
+IsNear columns = IsWithin columns (2 ^ 17) (2 ^ 34)
 
 -- a row over so many columns whose negation keeps the limits of a system's rows
 abbrev pub IsPrintable : ℕ → Affine → Type 0
-IsPrintable columns f = IsWithin columns (2 ^ 40) (2 ^ 59) f
+IsPrintable columns = IsWithin columns (2 ^ 40) (2 ^ 59)

@@ -1,17 +1,13 @@
 -- The time set of a statement as a system over the parameters and then the components: the rows of the statement's domain with the
 -- iterators by the inverse, and then, for each component, that it equals the form of its time.
-use Rattle.std.specs.Prelude.{ℕ, zero, suc, ◌+◌, List, [], ◌∷◌, ◌++◌, length, map}
+use Rattle.std.specs.Prelude.{ℕ, suc, ◌+◌, List, [], ◌∷◌, ◌++◌, length, map}
 use Rattle.affc_rows.specs.Forms.{Affine}
 use Rattle.affc_rows.specs.Vocabulary.{column_form, form_at}
 use Rattle.affc_system.specs.Systems.{Rows}
 use Rattle.affc_ast.specs.declared.tree.Rel.TheVariants.{Equal}
+use Rattle.affc_trace.specs.Inverses.{columns_from}
 use Rattle.affc_nest.specs.Domains.{compare_rows, domain_rows}
 use Rattle.affc_loopends.specs.TimeSets.{Timed}
-
--- the forms of so many columns, from column j on
-abbrev pub columns_from : (columns j count : ℕ) → List Affine
-columns_from columns j zero = []
-columns_from columns j (suc count) = column_form columns j ∷ columns_from columns (suc j) count
 
 -- what stands for the parameters and the iterators: the parameters themselves, and the inverse
 abbrev pub images : (params components : ℕ) → (inverse : List Affine) → List Affine

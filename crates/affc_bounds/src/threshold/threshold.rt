@@ -2,7 +2,7 @@
 ghost use Rattle.std.specs.Prelude.{◌≡◌, ◌+◌, ◌*◌, ◌-ℤ◌, unsigned_abs, map, length};
 ghost use Rattle.affc_leaf.specs.Points.{points};
 ghost use Rattle.affc_weigh.specs.Costs.{stopped};
-ghost use Rattle.affc_bounds.specs.threshold.Thresholds.{greatest, cube, turns, components_of, accesses_of, dimensions_of, breadth, threshold};
+ghost use Rattle.affc_bounds.specs.threshold.Thresholds.{greatest, cube, turns, components_of, breadth, threshold};
 
 use affc_nest::nest::ArrayInfo;
 use affc_nest::{Entry, Nest};

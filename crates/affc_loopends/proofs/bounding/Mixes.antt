@@ -1,5 +1,5 @@
 -- The row that cancels a column between two rows exists.
-use Rattle.std.proofs.Common.{◌≡◌, ℕ, zero, suc, ◌*◌, ◌<◌, ◌≤◌, List, length, map, ℤ, pos, negsuc, ◌+ℤ◌, ◌*ℤ◌, ◌<ℤ◌, sym, ap, subst, ◌∙◌, arith}
+use Rattle.std.proofs.Common.{◌≡◌, ℕ, ◌*◌, ◌<◌, ◌≤◌, List, length, map, ℤ, pos, ◌+ℤ◌, ◌*ℤ◌, ◌<ℤ◌, sym, ap, subst, ◌∙◌, arith}
 use Rattle.std.specs.Prelude.{unsigned_abs}
 use Rattle.std.proofs.lemmas.Int.{ints}
 use Rattle.std.proofs.lemmas.List.{length-map}
@@ -10,6 +10,7 @@ use Rattle.affc_farkas.specs.Eliminations.{combined, mixed_weights, AreFactors, 
 use Rattle.affc_farkas.proofs.Weights.{some_mixed, some_weight, length-mixed_weights}
 use Rattle.affc_eliminate.specs.Laws.{IsCombination}
 use Rattle.affc_eliminate.proofs.Exactness.{factor_of_zero, combination_flat}
+use Rattle.affc_eliminate.proofs.Mixtures.{abs_up, abs_down}
 use Rattle.affc_loopends.proofs.bounding.Divisors.{factors, divided}
 use Rattle.affc_loopends.proofs.bounding.Sums.{sum_of, sum_wide, sum_entry, combined_mixed, combined_multiplied}
 use Rattle.affc_loopends.proofs.bounding.Numbers.{le_from_lt}
@@ -25,15 +26,6 @@ pub record HasMixture (columns : ℕ) (rows : List Affine) (column : ℕ) (f g :
   pub mixed : IsMixed columns rows column f g weights
   pub long : length weights ≡ length rows
 
-up_size : (z : ℤ) → pos 0 <ℤ z → 1 ≤ unsigned_abs z
-up_size (pos zero) h = absurd (omega (arith, ints))
-up_size (pos (suc n)) h = omega arith
-up_size (negsuc n) h = absurd (omega (arith, ints))
-
-down_size : (z : ℤ) → z <ℤ pos 0 → 1 ≤ unsigned_abs z
-down_size (pos n) h = absurd (omega (arith, ints))
-down_size (negsuc n) h = omega arith
-
 same_sum : (s t a b c d : ℤ) → a ≡ c → b ≡ d → (s *ℤ a) +ℤ (t *ℤ b) ≡ (s *ℤ c) +ℤ (t *ℤ d)
 same_sum s t a b c d e f = ap (λ z. (s *ℤ z) +ℤ (t *ℤ b)) e ∙ ap (λ z. (s *ℤ c) +ℤ (t *ℤ z)) f
 
@@ -42,7 +34,7 @@ pub mixture : (columns : ℕ) (rows : List Affine) (column : ℕ) (f g : List �
 mixture columns rows column f g le lf lg up down =
     let a = combined rows f column in
     let b = combined rows g column in
-    let h = factors (unsigned_abs a) (unsigned_abs b) (up_size a up) (down_size b down) in
+    let h = factors (unsigned_abs a) (unsigned_abs b) (abs_up a up) (abs_down b down) in
     let d = divided (mixed_weights h.s f h.t g) (some_mixed h.s f h.t g (lf ∙ sym lg) h.some (some_weight f (map (λ row. entry_of row column) rows) up)) in
     let w = d.0 in
     let ef = sum_entry columns rows f column le in

@@ -1,6 +1,6 @@
 use Rattle.std.proofs.Common.{◌-◌}
+use Rattle.affc_farkas.proofs.Lists.{on_value, on_fault}
 use Rattle.affc_loopends.specs.Steps.{AreEnough}
-use Rattle.affc_loopends.proofs.Both.{on_value, on_fault}
 use Rattle.affc_loopends.proofs.Chosen.{found_end, found_one_end, found_large, found_few, found_printable}
 use Rattle.affc_loopends.proofs.ends.enough_of.Goals as goal
 
