@@ -1,5 +1,5 @@
 -- The later of two instances, and the latest of more and more of them.
-use Rattle.std.proofs.Common.{◌≡◌, ℕ, ◌+◌, ◌≤◌, ℤ, IsTrue, Bool, true, false, true≢false, List, [], ◌∷◌, ◌++◌, length, map, Option, Some, None, refl, sym, ap, subst, ◌∙◌, ◌⊎◌, inl, inr, arith}
+use Rattle.std.proofs.Common.{◌≡◌, ℕ, ◌+◌, ◌≤◌, ℤ, IsTrue, Bool, true, false, true≢false, List, [], ◌∷◌, ◌++◌, length, map, Option, Some, None, refl, sym, ap, subst, ◌∙◌, ◌⊎◌, inl, inr, Fits, w32, rules, arith}
 use Rattle.std.specs.Prelude.{◌↔◌, IfSome, ◌<◌}
 use Rattle.std.proofs.lemmas.Option.{slice_get_within}
 use Rattle.affc_rows.specs.Forms.{Affine}
@@ -22,10 +22,13 @@ use Rattle.affc_nest.specs.declared.nest.Nest.{Nest}
 use Rattle.affc_nest.proofs.QuestionProofs.{nest_few}
 use Rattle.affc_nest.specs.Laws.{HasNest}
 use Rattle.affc_nest.specs.Nests.{nest_of}
+use Rattle.std.specs.List.{All}
 use Rattle.affc_order.specs.Laws.{IsPointOfOne}
-use Rattle.affc_order.specs.Systems.{loops_or_none, loops_of, over, pair_columns, source_systems}
+use Rattle.affc_order.specs.Placed.{IsOrder}
+use Rattle.affc_order.specs.Systems.{loops_or_none, loops_of, over, pair_columns, rows_in, source_systems}
 use Rattle.affc_order.proofs.CodeLemmas.{few_loops}
 use Rattle.affc_order.proofs.OrderLemmas.{systems_are_the_orders}
+use Rattle.affc_order.proofs.RowLemmas.{source_again}
 use Rattle.affc_sched.specs.Touched.{Each}
 use Rattle.affc_latest.specs.Latest.{IsLatest}
 use Rattle.affc_latest.specs.Stores.{IsNumbered, IsWriterAt, IsLaterOf}
@@ -86,12 +89,35 @@ point_long nest p point u w l a b f =
     sum : (a b c m k n : ℕ) → a ≡ m → b ≡ k → c ≡ n → a + (b + c) ≡ (m + k) + n
     sum a b c m k n e f g = omega (arith, e, f, g)
 
-pub few_columns : (nest : Nest) → IsNest nest → (first second : ℕ) → first < length nest.entries → second < length nest.entries → pair_columns nest first second ≤ 128
-few_columns nest n first second h g =
-    let a = nest_few nest n in
-    let b = few_loops nest n first h in
-    let c = few_loops nest n second g in
-    omega arith
+module _ (nest : Nest) (n : IsNest nest) (u w : Instance) (a : IsNumbered nest u) (b : IsNumbered nest w) (columns : ℕ) (e : columns ≡ pair_columns nest u.statement w.statement) where
+  few_columns : pair_columns nest u.statement w.statement ≤ 16
+  few_columns =
+      let p = nest_few nest n in
+      let f = few_loops nest n u.statement (counted nest u a) in
+      let g = few_loops nest n w.statement (counted nest w b) in
+      omega arith
+
+  pub columns_few : columns ≤ 128
+  columns_few = most columns (pair_columns nest u.statement w.statement) e few_columns
+    where
+      most : (k m : ℕ) → k ≡ m → m ≤ 16 → k ≤ 128
+      most k m e h = omega (arith, e, h)
+
+  pub cast_fits : Fits w32 columns
+  cast_fits = fits columns columns_few
+    where
+      fits : (k : ℕ) → k ≤ 128 → Fits w32 k
+      fits k h = first_of (omega (arith, h), search (rules, h), grind (arith, h))
+
+module _ (nest : Nest) (u w : Instance) (columns : ℕ) (held made : List (List Affine)) (h : held ≡ made) where
+  pub orders_at : All (IsOrder (pair_columns nest u.statement w.statement)) made → columns ≡ pair_columns nest u.statement w.statement → All (IsOrder columns) held
+  orders_at fit e = subst (λ k. All (IsOrder k) held) (sym e) (subst (All (IsOrder (pair_columns nest u.statement w.statement))) (sym h) fit)
+
+  pub says_earlier : (point point' : List ℤ) (t : Bool) → made ≡ map rows_in (source_systems nest u.statement w.statement) → point ≡ point' → columns ≡ pair_columns nest u.statement w.statement
+      → IsTrue t ↔ IsPointOfOne (map (over columns) held) point → IsTrue t ↔ IsPointOfOne (source_systems nest u.statement w.statement) point'
+  says_earlier point point' t is q e m =
+      subst (λ xs. IsTrue t ↔ IsPointOfOne (source_systems nest u.statement w.statement) xs) q
+      (subst (λ ss. IsTrue t ↔ IsPointOfOne ss point) (ap (λ k. map (over k) held) e ∙ ap (map (over (pair_columns nest u.statement w.statement))) h ∙ source_again nest u.statement w.statement made is) m)
 
 -- ---- The later
 
