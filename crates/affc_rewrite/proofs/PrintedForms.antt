@@ -8,12 +8,12 @@ use Rattle.std.proofs.lemmas.Option.{none-some, same_Some}
 use Rattle.std.proofs.Math.Nat.{mul-le-mul_left, mul-le-mul_right}
 use Rattle.affc_rows.specs.Forms.{Affine, dot, dot_magnitude, value, magnitude, HaveColumns, columns_of, column_of, constants_of, values_of, composed, composed_form}
 use Rattle.affc_rows.proofs.IntLemmas.{abs-add}
+use Rattle.affc_rows.proofs.SizeLemmas.{dot_abs, entry_below}
 use Rattle.affc_rows.proofs.FormLemmas.{length-column_of, length-constants_of}
 use Rattle.affc_rows.proofs.ValueLemmas.{length-composed, value-composed}
 use Rattle.affc_ast.specs.Fits.{whole}
 use Rattle.affc_trace.proofs.LastStores.{append_nil}
 use Rattle.affc_safe.specs.Overflow.{IsReadable}
-use Rattle.affc_nest.specs.Sides.{AreNear}
 use Rattle.affc_loops.proofs.FormReads.{form_reads}
 use Rattle.affc_loops.proofs.FormTrees.{form_is}
 use Rattle.affc_loops.proofs.Sizes.{many}
@@ -51,18 +51,9 @@ dot_below (a ∷ cs) (y ∷ xs) c x h k =
     let rest : dot_magnitude cs xs ≤ many (length xs) (c * x) = dot_below cs xs c x (λ i z m. h (suc i) z (omega arith)) (λ i z m. k (suc i) z (omega arith)) in
     omega arith
 
-value_below : (cs xs : List ℤ) → unsigned_abs (dot cs xs) ≤ dot_magnitude cs xs
-value_below [] xs = omega (arith, ints)
-value_below (c ∷ cs) [] = omega (arith, ints)
-value_below (c ∷ cs) (x ∷ xs) =
-    let a : unsigned_abs ((c *ℤ x) +ℤ dot cs xs) ≤ unsigned_abs (c *ℤ x) + unsigned_abs (dot cs xs) = abs-add (c *ℤ x) (dot cs xs) in
-    let p : unsigned_abs (c *ℤ x) ≡ unsigned_abs c * unsigned_abs x = unsigned_abs-mul c x in
-    let r : unsigned_abs (dot cs xs) ≤ dot_magnitude cs xs = value_below cs xs in
-    omega arith
-
 pub few_below : (cs xs : List ℤ) (c x n : ℕ) → AreWithin c cs → AreWithin x xs → length xs ≤ n → unsigned_abs (dot cs xs) ≤ many n (c * x)
 few_below cs xs c x n h k l =
-    let v : unsigned_abs (dot cs xs) ≤ dot_magnitude cs xs = value_below cs xs in
+    let v : unsigned_abs (dot cs xs) ≤ dot_magnitude cs xs = dot_abs cs xs in
     let d : dot_magnitude cs xs ≤ many (length xs) (c * x) = dot_below cs xs c x h k in
     let m : many (length xs) (c * x) ≤ many n (c * x) = many_more (length xs) n (c * x) l in
     omega arith
@@ -91,18 +82,13 @@ pub columns_known : (n : ℕ) (gs : List Affine) → AllSides n gs → 1 ≤ len
 columns_known n [] h l = absurd (omega arith)
 columns_known n (g ∷ gs) h l = (h.0).width
 
-near_at : (cs : List ℤ) (j : ℕ) → AreNear cs → unsigned_abs (get_or cs j (pos 0)) ≤ 2 ^ 16
-near_at [] j h = omega (arith, ints)
-near_at (c ∷ cs) zero h = h.0
-near_at (c ∷ cs) (suc j) h = near_at cs j h.1
-
 pub column_within : (n j : ℕ) (gs : List Affine) → AllSides n gs → AreWithin (2 ^ 16) (column_of j gs)
 column_within n j [] h = All-nil (λ c. unsigned_abs c ≤ 2 ^ 16)
-column_within n j (g ∷ gs) h = All-cons (λ c. unsigned_abs c ≤ 2 ^ 16) (get_or g.coefs j (pos 0)) (column_of j gs) (near_at g.coefs j (h.0).coefs_near) (column_within n j gs h.1)
+column_within n j (g ∷ gs) h = All-cons (λ c. unsigned_abs c ≤ 2 ^ 16) (get_or g.coefs j (pos 0)) (column_of j gs) (entry_below (2 ^ 16) g.coefs j (h.0).coefs_fit) (column_within n j gs h.1)
 
 pub constants_within : (n : ℕ) (gs : List Affine) → AllSides n gs → AreWithin (2 ^ 32) (constants_of gs)
 constants_within n [] h = All-nil (λ c. unsigned_abs c ≤ 2 ^ 32)
-constants_within n (g ∷ gs) h = All-cons (λ c. unsigned_abs c ≤ 2 ^ 32) g.constant (constants_of gs) (h.0).constant_near (constants_within n gs h.1)
+constants_within n (g ∷ gs) h = All-cons (λ c. unsigned_abs c ≤ 2 ^ 32) g.constant (constants_of gs) (h.0).constant_fits (constants_within n gs h.1)
 
 abbrev pub most_coef : ℕ
 most_coef = many 4 (256 * 2 ^ 16)

@@ -12,13 +12,14 @@ use Rattle.affc_ast.specs.Trace.{Assignment, assignments}
 use Rattle.affc_trace.specs.declared.schedule.TimeMap.{TimeMap}
 use Rattle.affc_trace.specs.declared.schedule.Schedule.TheVariants.{Time}
 use Rattle.affc_trace.specs.Law.{IsIn}
+use Rattle.affc_rows.proofs.SizeLemmas.{within_raised}
 use Rattle.affc_trace.specs.Target.{numbers_in}
 use Rattle.affc_trace.proofs.Runs.{length_append}
 use Rattle.affc_domain.specs.Ranges.{number_ranges}
 use Rattle.affc_domain.specs.Rounds.{rounds, loops_in}
 use Rattle.affc_domain.proofs.PlainLemmas.{rounds_are_plain, few_loops}
 use Rattle.affc_nest.proofs.QuestionLemmas.{stands_in}
-use Rattle.affc_nest.specs.Sides.{AreNear, IsSide, NearRanges}
+use Rattle.affc_nest.specs.Sides.{IsSide, NearRanges}
 use Rattle.affc_loops.specs.Laws.{HasLoops, HaveSameLoops, AreTimeRanges}
 use Rattle.affc_loops.specs.Limits.{IsSlight, IsSmall}
 use Rattle.affc_loops.specs.Loops.{Scheduled, boxes, scheduled, loop_names, time_ranges}
@@ -44,12 +45,8 @@ near_append : (rs ss : List (ℤ × ℤ)) → NearRanges rs → NearRanges ss �
 near_append [] ss h g = g
 near_append (r ∷ rs) ss h g = (h.0, h.1, near_append rs ss h.2 g)
 
-near_coefs : (cs : List ℤ) → All (λ c. unsigned_abs c ≤ 256) cs → AreNear cs
-near_coefs [] h = tt
-near_coefs (c ∷ cs) h = let w : unsigned_abs c ≤ 256 = h 0 c (omega arith) in (omega arith, near_coefs cs (λ i x k. h (suc i) x (omega arith)))
-
 side_of : (n : ℕ) (f : Affine) → length f.coefs ≡ n → IsSlight f → IsSide n f
-side_of n f l s = record { width = l; coefs_near = near_coefs f.coefs s.0; constant_near = let w : unsigned_abs f.constant ≤ 2 ^ 30 = s.1 in omega arith }
+side_of n f l s = within_raised n 256 (2 ^ 30) (2 ^ 16) (2 ^ 32) f (omega arith) (omega arith) (record { width = l; coefs_fit = s.0; constant_fits = s.1 })
 
 -- the low ends of a box are a point of it
 low_point : (rs : List (ℤ × ℤ)) → IsBox rs → InBox rs (map (λ r. r.0) rs)
