@@ -2,6 +2,7 @@
 use Rattle.std.proofs.Common.{◌≡◌, ℕ, ◌+◌, ◌-◌, ◌≤◌, ℤ, List, length, map, Some, refl, sym, ap, subst, ◌∙◌, arith}
 use Rattle.std.specs.Prelude.{◌↔◌, slice_get}
 use Rattle.std.specs.List.{All}
+use Rattle.std.proofs.lemmas.List.Elements.{All-weaker}
 use Rattle.affc_rows.specs.Forms.{Affine, HaveColumns}
 use Rattle.affc_system.specs.ElementPairs.{IsPairOf}
 use Rattle.affc_system.specs.Pairs.{IsSubscript}
@@ -29,7 +30,6 @@ use Rattle.affc_life.specs.Laws.{AreShaped}
 use Rattle.affc_life.specs.Sizes.{AnyLarge}
 use Rattle.affc_life.proofs.ConflictLemmas.{clashes_are_conflicts}
 use Rattle.affc_life.proofs.FoundLemmas.{found_trees_keep_limits}
-use Rattle.affc_life.proofs.LightLemmas.{all_of}
 use Rattle.affc_life.proofs.LiveLemmas.{clashes_are_live_pairs}
 use Rattle.affc_life.proofs.SizeLemmas.{found_trees_are_never_large}
 use Rattle.affc_folds.specs.Folding.{IsAnalysed, HasTrueMarks, IsFoldFor}
@@ -99,7 +99,7 @@ module _ (program : Program) (nest : Nest) (trees : List Tree) (schedule : Sched
     extents_are_forms = subst (λ (n : Nest). All (IsSubscript n.context.columns) info.extents) (sym a.is) its_forms.forms
 
     pub extent_widths : All (λ (e : Affine). length nest.params ≡ length e.coefs) info.extents
-    extent_widths = all_of (IsSubscript nest.context.columns) (λ (e : Affine). length nest.params ≡ length e.coefs) (λ e s. as_many_ranges ∙ sym s.width) info.extents extents_are_forms
+    extent_widths = All-weaker (IsSubscript nest.context.columns) (λ (e : Affine). length nest.params ≡ length e.coefs) (λ e s. as_many_ranges ∙ sym s.width) info.extents extents_are_forms
 
     module _ (systems : List PairSystem) (are : map clash_of systems ≡ clashes nest trees schedule array) where
       are_clashes : map clash_of systems ≡ clashes (nest_of program) trees schedule array
@@ -150,4 +150,4 @@ module _ (program : Program) (nest : Nest) (trees : List Tree) (schedule : Sched
           }
         where
           widths : (bs : List Affine) → All (IsModulus (numbers_in program.params)) bs → HaveColumns (numbers_in program.params) bs
-          widths bs h = all_of (IsModulus (numbers_in program.params)) (λ b. length b.coefs ≡ numbers_in program.params) (λ b i. i.width) bs h
+          widths bs h = All-weaker (IsModulus (numbers_in program.params)) (λ b. length b.coefs ≡ numbers_in program.params) (λ b i. i.width) bs h
