@@ -7,3 +7,4 @@ pub mod Put
 pub mod State
 pub mod Parts
 pub mod Taken
+pub mod Examples

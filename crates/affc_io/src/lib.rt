@@ -1,6 +1,7 @@
 //! What the compiler asks of the outside: a folder of named files, and sinks for bytes.
 #![tactic(auto)]
 
+pub mod examples;
 mod files;
 mod folder;
 mod memory;
