@@ -43,17 +43,6 @@ first_factor front us factors =
 
 -- ---- Drafts
 
--- those of the first alternative of a factor, and those of the others
-pub in_alternatives : (d : Draft) (rows : List Affine) (alternatives rest : List (List Affine)) (factors : List (List (List Affine))) (alternative : List Affine) → alternatives ≡ alternative ∷ rest
-    → drafts_behind d rows (alternatives ∷ factors) ≡ drafts_behind d (rows ++ alternative) factors ++ drafts_behind d rows (rest ∷ factors)
-in_alternatives d rows alternatives rest factors alternative e =
-    ap (λ us. drafts_behind d rows (us ∷ factors)) e
-    ∙ map-append (λ c. draft_by d (rows ++ c)) (map (λ v. alternative ++ v) (choices factors)) (choices (rest ∷ factors))
-    ∙ ap (λ cs. cs ++ drafts_behind d rows (rest ∷ factors)) (
-    map_twice (λ c. draft_by d (rows ++ c)) (λ v. alternative ++ v) (choices factors)
-    ∙ map_same (λ v. draft_by d (rows ++ (alternative ++ v))) (λ v. draft_by d ((rows ++ alternative) ++ v)) (λ v. ap (draft_by d) (sym (append_assoc rows alternative v))) (choices factors)
-    )
-
 -- the three factors of a draft
 pub of_three : (d : Draft) (factors : List (List (List Affine))) (firsts seconds thirds a b e : List (List Affine)) → factors ≡ d.factors → factors ≡ a ∷ b ∷ e ∷ [] → firsts ≡ a → seconds ≡ b → thirds ≡ e
     → drafts_behind d [] (firsts ∷ seconds ∷ thirds ∷ []) ≡ drafted d

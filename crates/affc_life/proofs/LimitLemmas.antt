@@ -103,9 +103,6 @@ module _ (columns : ℕ) (front first second third : List Affine) where
 pub both_added : {X : Type 0} (old first new all front others : List X) → all ≡ front ++ others → first ≡ old ++ front → new ≡ first ++ others → new ≡ old ++ all
 both_added old first new all front others is a b = b ∙ ap (λ xs. xs ++ others) a ∙ append_assoc old front others ∙ ap (λ xs. old ++ xs) (sym is)
 
-pub one_large : (c : Clash) → IsLarge c.system → AnyLarge (c ∷ [])
-one_large c h = record { clash = c; there = inl refl; large = h }
-
 pub one_fits : (c : Clash) → (IsLarge c.system → ⊥) → AnyLarge (c ∷ []) → ⊥
 one_fits c none any = elim any.there [ inl e ↦ none (subst (λ (x : Clash). IsLarge x.system) e any.large) | inr i ↦ absurd i ]
 
