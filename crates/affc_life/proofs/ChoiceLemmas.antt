@@ -1,10 +1,8 @@
--- Lists of choices, and the drafts with them.
+-- Lists of choices.
 use Rattle.std.proofs.Common.{◌≡◌, List, [], ◌∷◌, ◌++◌, map, flat_map, append_assoc, refl, sym, ap, ◌∙◌}
 use Rattle.std.proofs.lemmas.List.{map-append, append-nil}
 use Rattle.affc_rows.specs.Forms.{Affine}
 use Rattle.affc_products.specs.Blocks.{choices}
-use Rattle.affc_life.specs.declared.draft.Draft.{Draft}
-use Rattle.affc_life.specs.Drafts.{drafted, draft_by, drafts_behind}
 
 -- ---- Maps
 
@@ -40,12 +38,3 @@ pub first_factor : (front : List Affine) (us : List (List Affine)) (factors : Li
 first_factor front us factors =
     map_flat (λ c. front ++ c) (λ u. map (λ v. u ++ v) (choices factors)) us
     ∙ flat_same (λ u. map (λ c. front ++ c) (map (λ v. u ++ v) (choices factors))) (λ u. map (λ c. (front ++ u) ++ c) (choices factors)) (λ u. behind_both front u (choices factors)) us
-
--- ---- Drafts
-
--- the three factors of a draft
-pub of_three : (d : Draft) (factors : List (List (List Affine))) (firsts seconds thirds a b e : List (List Affine)) → factors ≡ d.factors → factors ≡ a ∷ b ∷ e ∷ [] → firsts ≡ a → seconds ≡ b → thirds ≡ e
-    → drafts_behind d [] (firsts ∷ seconds ∷ thirds ∷ []) ≡ drafted d
-of_three d factors firsts seconds thirds a b e f g i j k =
-    ap (λ us. drafts_behind d [] (us ∷ seconds ∷ thirds ∷ [])) i ∙ ap (λ us. drafts_behind d [] (a ∷ us ∷ thirds ∷ [])) j ∙ ap (λ us. drafts_behind d [] (a ∷ b ∷ us ∷ [])) k
-    ∙ ap (λ fs. drafts_behind d [] fs) (sym g ∙ f)

@@ -172,13 +172,6 @@ factors_fit columns front fs n h = factors_all columns fs (within_all columns fr
 
 -- ---- Entries
 
-pub three_entries : {A : Type 0} (xs : List A) (a b c : A) → length xs ≡ 3 → a ≡ get_or xs 0 a → b ≡ get_or xs 1 b → c ≡ get_or xs 2 c → xs ≡ a ∷ b ∷ c ∷ []
-three_entries [] a b c n i j k = absurd (omega (arith, n))
-three_entries (x ∷ []) a b c n i j k = absurd (omega (arith, n))
-three_entries (x ∷ y ∷ []) a b c n i j k = absurd (omega (arith, n))
-three_entries (x ∷ y ∷ z ∷ []) a b c n i j k = ap (λ u. u ∷ y ∷ z ∷ []) (sym i) ∙ ap (λ u. a ∷ u ∷ z ∷ []) (sym j) ∙ ap (λ u. a ∷ b ∷ u ∷ []) (sym k)
-three_entries (x ∷ y ∷ z ∷ w ∷ ws) a b c n i j k = absurd (omega (arith, n))
-
 entry_in : {A : Type 0} (xs : List A) (i : ℕ) (x : A) → i < length xs → x ≡ get_or xs i x → IsIn x xs
 entry_in [] i x h e = absurd (omega (arith, h))
 entry_in (y ∷ xs) zero x h e = inl e

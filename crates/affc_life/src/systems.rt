@@ -1,20 +1,15 @@
 //! Rows as a system, where they keep its limits.
-ghost use Rattle.std.specs.Prelude.{◌≡◌, ◌⊎◌, ◌++◌, ◌∷◌, [], ◌+◌, ◌<◌, length, map, flat_map, IfOk, IfErr, OnOk};
+ghost use Rattle.std.specs.Prelude.{◌≡◌, ◌⊎◌, ◌∷◌, [], ◌+◌, ◌<◌, length, IfOk, IfErr, OnOk};
 ghost use Rattle.std.specs.List.{All};
 ghost use Rattle.affc_rows.specs.Forms.{HaveColumns};
 ghost use Rattle.affc_system.specs.Systems.{FitsRow};
 ghost use Rattle.affc_nest.specs.Domains.{with_rows};
-ghost use Rattle.affc_life.specs.Clashes.{clash_of};
-ghost use Rattle.affc_life.specs.Drafts.{drafted, draft_by, drafts_behind, chosen_rows, joined_rows, IsPaired};
-ghost use Rattle.affc_life.specs.Sizes.{IsLarge, AnyLarge};
+ghost use Rattle.affc_life.specs.Sizes.{IsLarge};
 
-use crate::draft::Draft;
 use crate::fault::ClashFault;
 use affc_rows::Form;
-use affc_rows::vocabulary::copies;
-use affc_system::{PairSystem, RowFault, System};
-use sqlite_items::Items;
-use std::alloc::{AllocError, Global};
+use affc_system::{RowFault, System};
+use std::alloc::Global;
 
 /// Adds a row, if it keeps the limits.
 fn add_row(system: &mut System, row: Form) -> Result<(), ClashFault>
