@@ -26,7 +26,7 @@ use sqlite_items::Items;
 use std::alloc::{AllocError, Global};
 
 /// The clash systems of an array, in product form.
-#[tactic(auto, using(crate::proofs::FoldLemmas::scheduled, crate::proofs::FoldLemmas::never_large))]
+#[tactic(auto, using(crate::proofs::FoldLemmas::scheduled))]
 fn products_of(
     alloc: Global,
     asked: &Compilation<'_>,

@@ -18,10 +18,10 @@ use Rattle.affc_nest.specs.Parts.{statement_of}
 use Rattle.affc_nest.specs.Domains.{compare_rows}
 use Rattle.affc_order.specs.Posed.{Posed}
 use Rattle.affc_order.specs.Systems.{lex_systems, loops_of, time_forms, target_order}
-use Rattle.affc_life.specs.Clashes.{apart_rows, between_rows}
+use Rattle.affc_life.specs.Clashes.{apart_rows, differing, between_rows}
 
 -- two rows for each pair that is equal, and at most two for the last
-pub apart_count : (fs gs rows r : List Affine) → IsIn r (apart_rows fs gs rows) → length r ≤ length rows + 2 * length fs
+apart_count : (fs gs rows r : List Affine) → IsIn r (apart_rows fs gs rows) → length r ≤ length rows + 2 * length fs
 apart_count [] gs rows r i = absurd i
 apart_count (f ∷ fs) [] rows r i = absurd i
 apart_count (f ∷ fs) (g ∷ gs) rows r (inl e) = one (length r) (length rows) (length fs) (ap length e ∙ length_append rows (compare_rows Less f g))
@@ -37,6 +37,14 @@ apart_count (f ∷ fs) (g ∷ gs) rows r (inr (inr i)) =
   where
     two : (n l m k : ℕ) → l ≡ m + 2 → n ≤ l + 2 * k → n ≤ m + 2 * suc k
     two n l m k e h = omega (arith, e, h)
+
+differing_count : (differ : Bool) (fs gs rows r : List Affine) → IsIn r (differing differ fs gs rows) → length r ≤ length rows + 2 * length fs
+differing_count true fs gs rows r i = apart_count fs gs rows r i
+differing_count false fs gs rows r (inl e) = none (length r) (length rows) (length fs) (ap length e)
+  where
+    none : (n m k : ℕ) → n ≡ m → n ≤ m + 2 * k
+    none n m k e = omega (arith, e)
+differing_count false fs gs rows r (inr x) = absurd x
 
 -- by how many are compared, and by how many there are
 at_tie : (columns : ℕ) (rows : List Affine) (tie : Bool) (s : Rows) → IsIn s (if tie then record { columns = columns; rows = rows } ∷ [] else []) → length s.rows ≡ length rows
@@ -81,15 +89,15 @@ order_count nest columns (Time components maps) a b slight few s i =
     few_more : (n k : ℕ) → k ≤ 12 → n ≤ 0 + 2 * k → n ≤ 24
     few_more n k h g = omega (arith, h, g)
 
-pub between_count : (front : List Affine) (after before : List Rows) (xs ys : List Affine) → ((s : Rows) → IsIn s after → length s.rows ≤ 24) → ((s : Rows) → IsIn s before → length s.rows ≤ 24) → length xs ≤ 4
-    → (r : List Affine) → IsIn r (between_rows front after before xs ys) → length r ≤ length front + 56
-between_count front after before xs ys a b few r i =
-    let o = in_flat_map (λ (o : Rows). flat_map (λ (u : Rows). apart_rows xs ys (front ++ (o.rows ++ u.rows))) before) after r i in
+pub between_count : (differ : Bool) (front : List Affine) (after before : List Rows) (xs ys : List Affine) → ((s : Rows) → IsIn s after → length s.rows ≤ 24) → ((s : Rows) → IsIn s before → length s.rows ≤ 24) → length xs ≤ 4
+    → (r : List Affine) → IsIn r (between_rows differ front after before xs ys) → length r ≤ length front + 56
+between_count differ front after before xs ys a b few r i =
+    let o = in_flat_map (λ (o : Rows). flat_map (λ (u : Rows). differing differ xs ys (front ++ (o.rows ++ u.rows))) before) after r i in
     let one : Rows = o.0 in
-    let u = in_flat_map (λ (u : Rows). apart_rows xs ys (front ++ (one.rows ++ u.rows))) before r o.2 in
+    let u = in_flat_map (λ (u : Rows). differing differ xs ys (front ++ (one.rows ++ u.rows))) before r o.2 in
     let two : Rows = u.0 in
     sum (length r) (length (front ++ (one.rows ++ two.rows))) (length front) (length (one.rows ++ two.rows)) (length one.rows) (length two.rows) (length xs) (length_append front (one.rows ++ two.rows)) (length_append one.rows two.rows) (a one o.1) (b two u.1) few
-    (apart_count xs ys (front ++ (one.rows ++ two.rows)) r u.2)
+    (differing_count differ xs ys (front ++ (one.rows ++ two.rows)) r u.2)
   where
     sum : (r w f d o u x : ℕ) → w ≡ f + d → d ≡ o + u → o ≤ 24 → u ≤ 24 → x ≤ 4 → r ≤ w + 2 * x → r ≤ f + 56
     sum r w f d o u x e g h i j k = omega (arith, e, g, h, i, j, k)

@@ -1,5 +1,5 @@
 -- The pairs at the points of the clash systems are the live pairs.
-use Rattle.std.proofs.Common.{◌≡◌, ◌≢◌, ℕ, zero, suc, ◌+◌, ◌≤◌, ℤ, List, [], ◌∷◌, ◌++◌, length, map, take, Option, Some, None, refl, sym, ap, subst, ◌∙◌, inl, inr, arith}
+use Rattle.std.proofs.Common.{◌≡◌, ◌≢◌, ℕ, zero, suc, ◌+◌, ◌≤◌, ℤ, true, List, [], ◌∷◌, ◌++◌, length, map, take, Option, Some, None, refl, sym, ap, subst, ◌∙◌, inl, inr, arith}
 use Rattle.std.specs.Prelude.{slice_get}
 use Rattle.std.specs.List.{Contains}
 use Rattle.std.proofs.lemmas.List.{length-take-le}
@@ -44,9 +44,9 @@ use Rattle.affc_quast.specs.Limits.{Shaped}
 use Rattle.affc_quast.specs.Sources.{loads_in, NameSources}
 use Rattle.affc_quast.specs.Trees.{Tree, named_at, instance_at, quotients_at}
 use Rattle.affc_quast.proofs.LeafLemmas.{LeafOver, leaf_over, leaf_is_reached, leaf_is_named}
-use Rattle.affc_life.specs.Clashes.{Clash, clash_of, of_reader, of_writer, front_rows, clash, clashes}
+use Rattle.affc_life.specs.Clashes.{Clash, live_walk, clash_of, of_reader, of_writer, front_rows, clash, clashes}
 use Rattle.affc_life.specs.Laws.{AreShaped, AreClashes, ClashesAreLivePairs, PointsAreInContext, ElementsDiffer}
-use Rattle.affc_life.proofs.MadeLemmas.{Made, made, is_made}
+use Rattle.affc_life.proofs.MadeLemmas.{Made, made, in_walk}
 use Rattle.affc_life.proofs.ApartLemmas.{Between}
 use Rattle.affc_life.proofs.PointLemmas.{zs_long, x_value, y_value, Facts, front_says, first, second, parts, clash_says, says_clash}
 use Rattle.affc_life.proofs.ReadLemmas.{load_is, store_is, store_there, loaded}
@@ -109,12 +109,12 @@ module _ (program : Program) (has : HasNest program) (trees : List Tree) (schedu
       }
 
   module _ (p : List ℤ) (l : length p ≡ length (number_ranges program.params)) (point : List ℤ) (t : Cut p point) where
-    between : Between (p ++ (t.bs ++ (t.qs ++ t.cs))) (front_rows (nest_of program) k.reader k.leaf k.of_leaf.writer)
-        (first program has p t.bs t.qs t.cs l k.reader k.leaf k.of_leaf.writer t.reads t.writes t.over t.q_long schedule k.load load_among k.of_leaf.named k.of_leaf.names k.of_leaf.store store_among)
-        (second program has p t.bs t.qs t.cs l k.reader k.leaf k.of_leaf.writer t.reads t.writes t.over t.q_long schedule k.load load_among k.of_leaf.named k.of_leaf.names k.of_leaf.store store_among)
+    between : Between (p ++ (t.bs ++ (t.qs ++ t.cs))) true (front_rows (nest_of program) k.reader k.leaf k.of_leaf.writer)
+        (first program has p t.bs t.qs t.cs l k.reader k.leaf k.of_leaf.writer t.reads t.writes t.over t.q_long schedule array k.load load_among k.of_leaf.named k.of_leaf.names k.of_leaf.store store_among)
+        (second program has p t.bs t.qs t.cs l k.reader k.leaf k.of_leaf.writer t.reads t.writes t.over t.q_long schedule array k.load load_among k.of_leaf.named k.of_leaf.names k.of_leaf.store store_among)
         (map (of_reader (nest_of program) k.reader k.leaf k.of_leaf.writer) k.load.subs) (map (of_writer (nest_of program) k.reader k.leaf k.of_leaf.writer) k.of_leaf.store.subs)
     between =
-        parts program has p t.bs t.qs t.cs l k.reader k.leaf k.of_leaf.writer t.reads t.writes t.over t.q_long schedule k.load load_among k.of_leaf.named k.of_leaf.names k.of_leaf.store store_among k.of_leaf.rows k.of_leaf.rows_in t.met
+        parts program has p t.bs t.qs t.cs l k.reader k.leaf k.of_leaf.writer t.reads t.writes t.over t.q_long schedule array k.load load_among k.of_leaf.named k.of_leaf.names k.of_leaf.store store_among k.of_leaf.rows k.of_leaf.rows_in t.met
 
     -- the context, and the instances
     pub facts_at : Facts program has p t.bs t.qs t.cs l k.reader k.leaf k.of_leaf.writer t.reads t.writes t.over t.q_long
@@ -135,7 +135,7 @@ module _ (program : Program) (has : HasNest program) (trees : List Tree) (schedu
         ap (λ (c : Clash). values_of c.y point) k.of_leaf.is ∙ ap (values_of (map (of_writer (nest_of program) k.reader k.leaf k.of_leaf.writer) k.of_leaf.store.subs)) t.is ∙ y_at_zs
 
     pub differ : values_of c.x point ≢ values_of c.y point
-    differ q = between.apart (x_at_zs ∙ sym x_of_point ∙ q ∙ y_of_point ∙ sym y_at_zs)
+    differ q = between.apart refl (x_at_zs ∙ sym x_of_point ∙ q ∙ y_of_point ∙ sym y_at_zs)
 
     pub path_long : length (number_ranges program.params) + length k.reader.loops ≡ length (p ++ t.bs)
     path_long = sym (length_append p t.bs ∙ ap (λ n. n + length t.bs) l ∙ ap (λ n. length (number_ranges program.params) + n) t.reads.long)
@@ -188,7 +188,7 @@ module _ (program : Program) (has : HasNest program) (trees : List Tree) (schedu
         let source = source_named names in
         let last = ((source_in_its_own_words program p (instance_of e t.bs) (element_at (p ++ t.bs) k.load)).0 named_instance).0 source in
         let runs = earlier_is_in (trace program p) named_instance (instance_of e t.bs) last.earlier in
-        let said = clash_says program has p t.bs t.qs t.cs l e k.leaf w t.reads t.writes t.over t.q_long schedule k.load load_among k.of_leaf.named k.of_leaf.names k.of_leaf.store store_among fits k.of_leaf.rows k.of_leaf.rows_in t.met (λ f. runs) in
+        let said = clash_says program has p t.bs t.qs t.cs l e k.leaf w t.reads t.writes t.over t.q_long schedule array k.load load_among k.of_leaf.named k.of_leaf.names k.of_leaf.store store_among fits k.of_leaf.rows k.of_leaf.rows_in t.met (λ f. runs) in
         let write_events = events_are program has p l w t.cs t.writes in
         record {
           store = named_instance;
@@ -263,17 +263,17 @@ module _ (program : Program) (has : HasNest program) (arrays : NamesArrays progr
       let store_in = stands_in w.accesses (loads_in w) store b.1 in
       let many = as_many_each program has arrays e w s.at t.at load store load_in store_in (load_array ∙ sym store_array) in
       let runs : IsIn source (trace program p) = (target_is_reordered program schedule p (once program p)).no_other source (earlier_is_in (target program schedule p) source (instance_of w cs) after) in
-      let z = says_clash program has p bs qs cs l e leaf w s t over at_leaf.width schedule load load_in posed n.1 store store_in fits many (subst (λ i. IsIn i (trace program p)) (sym n.2) runs)
+      let z = says_clash program has p bs qs cs l e leaf w s t over at_leaf.width schedule array load load_in posed n.1 store store_in fits many (subst (λ i. IsIn i (trace program p)) (sym n.2) runs)
       (record {
         facts = record { context = inside; reader_runs = e_runs; writer_runs = w_runs; path = at_leaf.meets };
         after = subst (λ i. Earlier (target program schedule p) i (instance_of w cs)) (sym n.2) after;
         before = before;
         apart = λ q. apart (sym x_at ∙ q ∙ y_at);
       }) in
-      let c : Clash = clash nest e leaf w schedule load posed store z.0 in
+      let c : Clash = clash nest e leaf w (live_walk nest schedule array) load posed store z.0 in
       record {
         system = c;
-        asked = is_made nest trees schedule array c (record {
+        asked = in_walk nest trees (live_walk nest schedule array) c (record {
           reader = e;
           reader_in = s.among;
           alive = s.alive;

@@ -14,7 +14,7 @@ use Rattle.affc_order.specs.Posed.{Posed}
 use Rattle.affc_quast.specs.Leaves.{Leaf, leaves_of}
 use Rattle.affc_quast.specs.Sources.{loads_in, tree_of}
 use Rattle.affc_quast.specs.Trees.{Tree}
-use Rattle.affc_life.specs.Clashes.{Clash, rows_of_clashes, clash, clashes_of_store, numbered_loads, clashes_by, clashes_with, clashes_of_named, clashes_of_tree, clashes_of_entry, clashes}
+use Rattle.affc_life.specs.Clashes.{Clash, Walk, live_walk, rows_of_clashes, clash, clashes_of_store, numbered_loads, clashes_by, clashes_with, clashes_of_named, clashes_of_tree, clashes_of_entry, clashes_of, clashes}
 use Rattle.affc_life.proofs.ReadLemmas.{load_at, at_load}
 
 in_if : {A : Type 0} (t : Bool) (xs : List A) (a : A) → IsIn a (if t then xs else []) → IsTrue t × IsIn a xs
@@ -25,7 +25,7 @@ to_if : {A : Type 0} (t : Bool) (xs : List A) (a : A) → IsTrue t → IsIn a xs
 to_if true xs a t i = i
 to_if false xs a t i = absurd (cc)
 
-module _ (nest : Nest) (schedule : Schedule) (array : ℕ) (reader : Entry) (load : Access) where
+module _ (nest : Nest) (walk : Walk) (reader : Entry) (load : Access) where
   -- the store of a clash system of this load, and the instance that the leaf names
   pub record OfLeaf (leaf : Leaf) (c : Clash) : Type 0 where
     pub named : Posed
@@ -35,18 +35,18 @@ module _ (nest : Nest) (schedule : Schedule) (array : ℕ) (reader : Entry) (loa
     pub writer_alive : IsTrue writer.alive
     pub store : Access
     pub store_there : slice_get writer.accesses (loads_in writer) ≡ Some store
-    pub stores : store.array.0 ≡ array
+    pub stores : store.array.0 ≡ walk.stored
     pub rows : List Affine
-    pub rows_in : IsIn rows (rows_of_clashes nest reader leaf writer schedule load named store)
-    pub is : c ≡ clash nest reader leaf writer schedule load named store rows
+    pub rows_in : IsIn rows (rows_of_clashes nest reader leaf writer walk load named store)
+    pub is : c ≡ clash nest reader leaf writer walk load named store rows
 
   module _ (leaf : Leaf) (c : Clash) where
     of_writer : (a : Posed) → leaf.named ≡ Some a → (w : Entry) → IsIn w nest.entries → IsTrue w.alive → (o : Option Access) → slice_get w.accesses (loads_in w) ≡ o
-        → IsIn c (clashes_by nest schedule array reader load leaf a w o) → OfLeaf leaf c
+        → IsIn c (clashes_by nest walk reader load leaf a w o) → OfLeaf leaf c
     of_writer a q w w_in alive None e i = absurd i
     of_writer a q w w_in alive (Some s) e i =
-        let t = in_if (nat_eq s.array.0 array) (clashes_of_store nest reader leaf w schedule load a s) c i in
-        let m = in_map (clash nest reader leaf w schedule load a s) (rows_of_clashes nest reader leaf w schedule load a s) c t.1 in
+        let t = in_if (nat_eq s.array.0 walk.stored) (clashes_of_store nest reader leaf w walk load a s) c i in
+        let m = in_map (clash nest reader leaf w walk load a s) (rows_of_clashes nest reader leaf w walk load a s) c t.1 in
         record {
           named = a;
           names = q;
@@ -55,35 +55,35 @@ module _ (nest : Nest) (schedule : Schedule) (array : ℕ) (reader : Entry) (loa
           writer_alive = alive;
           store = s;
           store_there = e;
-          stores = eqb-true s.array.0 array t.0;
+          stores = eqb-true s.array.0 walk.stored t.0;
           rows = m.0;
           rows_in = m.1;
           is = m.2;
         }
 
-    pub of_leaf : (o : Option Posed) → leaf.named ≡ o → IsIn c (clashes_of_named nest schedule array reader load leaf o) → OfLeaf leaf c
+    pub of_leaf : (o : Option Posed) → leaf.named ≡ o → IsIn c (clashes_of_named nest walk reader load leaf o) → OfLeaf leaf c
     of_leaf None q i = absurd i
     of_leaf (Some a) q i =
-        let w = in_flat_map (clashes_with nest schedule array reader load leaf a) nest.entries c i in
-        let v = in_if w.0.alive (clashes_by nest schedule array reader load leaf a w.0 (slice_get w.0.accesses (loads_in w.0))) c w.2 in
+        let w = in_flat_map (clashes_with nest walk reader load leaf a) nest.entries c i in
+        let v = in_if w.0.alive (clashes_by nest walk reader load leaf a w.0 (slice_get w.0.accesses (loads_in w.0))) c w.2 in
         of_writer a q w.0 w.1 v.0 (slice_get w.0.accesses (loads_in w.0)) refl v.1
 
-    pub leaf_of : OfLeaf leaf c → IsIn c (clashes_of_named nest schedule array reader load leaf leaf.named)
+    pub leaf_of : OfLeaf leaf c → IsIn c (clashes_of_named nest walk reader load leaf leaf.named)
     leaf_of k =
         let w : Entry = k.writer in
-        let one : IsIn c (clashes_of_store nest reader leaf w schedule load k.named k.store) =
-        subst (λ z. IsIn z (clashes_of_store nest reader leaf w schedule load k.named k.store)) (sym k.is)
-        (to_map (clash nest reader leaf w schedule load k.named k.store) (rows_of_clashes nest reader leaf w schedule load k.named k.store) k.rows k.rows_in) in
-        let by : IsIn c (clashes_by nest schedule array reader load leaf k.named w (slice_get w.accesses (loads_in w))) =
-        subst (λ o. IsIn c (clashes_by nest schedule array reader load leaf k.named w o)) (sym k.store_there)
-        (to_if (nat_eq k.store.array.0 array) (clashes_of_store nest reader leaf w schedule load k.named k.store) c (eq-eqb k.store.array.0 array k.stores) one) in
-        let with_writer : IsIn c (clashes_with nest schedule array reader load leaf k.named w) =
-        to_if w.alive (clashes_by nest schedule array reader load leaf k.named w (slice_get w.accesses (loads_in w))) c k.writer_alive by in
-        subst (λ o. IsIn c (clashes_of_named nest schedule array reader load leaf o)) (sym k.names) (to_flat_map (clashes_with nest schedule array reader load leaf k.named) nest.entries w c k.writer_in with_writer)
+        let one : IsIn c (clashes_of_store nest reader leaf w walk load k.named k.store) =
+        subst (λ z. IsIn z (clashes_of_store nest reader leaf w walk load k.named k.store)) (sym k.is)
+        (to_map (clash nest reader leaf w walk load k.named k.store) (rows_of_clashes nest reader leaf w walk load k.named k.store) k.rows k.rows_in) in
+        let by : IsIn c (clashes_by nest walk reader load leaf k.named w (slice_get w.accesses (loads_in w))) =
+        subst (λ o. IsIn c (clashes_by nest walk reader load leaf k.named w o)) (sym k.store_there)
+        (to_if (nat_eq k.store.array.0 walk.stored) (clashes_of_store nest reader leaf w walk load k.named k.store) c (eq-eqb k.store.array.0 walk.stored k.stores) one) in
+        let with_writer : IsIn c (clashes_with nest walk reader load leaf k.named w) =
+        to_if w.alive (clashes_by nest walk reader load leaf k.named w (slice_get w.accesses (loads_in w))) c k.writer_alive by in
+        subst (λ o. IsIn c (clashes_of_named nest walk reader load leaf o)) (sym k.names) (to_flat_map (clashes_with nest walk reader load leaf k.named) nest.entries w c k.writer_in with_writer)
 
-module _ (nest : Nest) (trees : List Tree) (schedule : Schedule) (array : ℕ) where
+module _ (nest : Nest) (trees : List Tree) (walk : Walk) where
   -- the load, the leaf and the store of a clash system
-  pub record Made (c : Clash) : Type 0 where
+  pub record OfWalk (c : Clash) : Type 0 where
     pub reader : Entry
     pub reader_in : IsIn reader nest.entries
     pub alive : IsTrue reader.alive
@@ -91,36 +91,36 @@ module _ (nest : Nest) (trees : List Tree) (schedule : Schedule) (array : ℕ) w
     pub load : Access
     pub load_there : slice_get reader.accesses number ≡ Some load
     pub counts : number < loads_in reader
-    pub loads : load.array.0 ≡ array
+    pub loads : load.array.0 ≡ walk.loaded
     pub tree : Tree
     pub tree_there : tree_of nest trees reader.part number ≡ Some tree
     pub leaf : Leaf
     pub leaf_in : IsIn leaf (leaves_of (length nest.params + length reader.loops) tree)
-    pub of_leaf : OfLeaf nest schedule array reader load leaf c
+    pub of_leaf : OfLeaf nest walk reader load leaf c
 
   record OfTree (reader : Entry) (load : Access) (o : Option Tree) (c : Clash) : Type 0 where
     tree : Tree
     is_tree : o ≡ Some tree
     leaf : Leaf
     leaf_in : IsIn leaf (leaves_of (length nest.params + length reader.loops) tree)
-    of_leaf : OfLeaf nest schedule array reader load leaf c
+    of_leaf : OfLeaf nest walk reader load leaf c
 
-  of_tree : (reader : Entry) (load : Access) (o : Option Tree) (c : Clash) → IsIn c (clashes_of_tree nest schedule array reader load o) → OfTree reader load o c
+  of_tree : (reader : Entry) (load : Access) (o : Option Tree) (c : Clash) → IsIn c (clashes_of_tree nest walk reader load o) → OfTree reader load o c
   of_tree reader load None c i = absurd i
   of_tree reader load (Some t) c i =
-      let l = in_flat_map (λ (leaf : Leaf). clashes_of_named nest schedule array reader load leaf leaf.named) (leaves_of (length nest.params + length reader.loops) t) c i in
-      record { tree = t; is_tree = refl; leaf = l.0; leaf_in = l.1; of_leaf = of_leaf nest schedule array reader load l.0 c l.0.named refl l.2 }
+      let l = in_flat_map (λ (leaf : Leaf). clashes_of_named nest walk reader load leaf leaf.named) (leaves_of (length nest.params + length reader.loops) t) c i in
+      record { tree = t; is_tree = refl; leaf = l.0; leaf_in = l.1; of_leaf = of_leaf nest walk reader load l.0 c l.0.named refl l.2 }
 
-  pub made : (c : Clash) → IsIn c (clashes nest trees schedule array) → Made c
-  made c i =
-      let a = in_flat_map (clashes_of_entry nest schedule array trees) nest.entries c i in
+  pub of_walk : (c : Clash) → IsIn c (clashes_of nest trees walk) → OfWalk c
+  of_walk c i =
+      let a = in_flat_map (clashes_of_entry nest walk trees) nest.entries c i in
       let e : Entry = a.0 in
-      let f = λ (x : ℕ × Access). if nat_eq x.1.array.0 array then clashes_of_tree nest schedule array e x.1 (tree_of nest trees e.part x.0) else [] in
+      let f = λ (x : ℕ × Access). if nat_eq x.1.array.0 walk.loaded then clashes_of_tree nest walk e x.1 (tree_of nest trees e.part x.0) else [] in
       let v = in_if e.alive (flat_map f (numbered_loads 0 e.accesses)) c a.2 in
       let x = in_flat_map f (numbered_loads 0 e.accesses) c v.1 in
       let n = load_at 0 e.accesses x.0 x.1 in
       let same : n.0 ≡ x.0.0 = zero_first x.0.0 n.0 n.1 in
-      let t = in_if (nat_eq x.0.1.array.0 array) (clashes_of_tree nest schedule array e x.0.1 (tree_of nest trees e.part x.0.0)) c x.2 in
+      let t = in_if (nat_eq x.0.1.array.0 walk.loaded) (clashes_of_tree nest walk e x.0.1 (tree_of nest trees e.part x.0.0)) c x.2 in
       let o = of_tree e x.0.1 (tree_of nest trees e.part x.0.0) c t.1 in
       record {
         reader = e;
@@ -130,7 +130,7 @@ module _ (nest : Nest) (trees : List Tree) (schedule : Schedule) (array : ℕ) w
         load = x.0.1;
         load_there = subst (λ k. slice_get e.accesses k ≡ Some x.0.1) same n.2;
         counts = subst (λ k. k < length e.accesses - 1) same n.3;
-        loads = eqb-true x.0.1.array.0 array t.0;
+        loads = eqb-true x.0.1.array.0 walk.loaded t.0;
         tree = o.tree;
         tree_there = o.is_tree;
         leaf = o.leaf;
@@ -141,18 +141,26 @@ module _ (nest : Nest) (trees : List Tree) (schedule : Schedule) (array : ℕ) w
       zero_first : (n k : ℕ) → n ≡ 0 + k → k ≡ n
       zero_first n k e = omega (arith, e)
 
-  pub is_made : (c : Clash) → Made c → IsIn c (clashes nest trees schedule array)
-  is_made c k =
+  pub in_walk : (c : Clash) → OfWalk c → IsIn c (clashes_of nest trees walk)
+  in_walk c k =
       let e : Entry = k.reader in
-      let f = λ (x : ℕ × Access). if nat_eq x.1.array.0 array then clashes_of_tree nest schedule array e x.1 (tree_of nest trees e.part x.0) else [] in
-      let g = λ (leaf : Leaf). clashes_of_named nest schedule array e k.load leaf leaf.named in
-      let of_tree : IsIn c (clashes_of_tree nest schedule array e k.load (tree_of nest trees e.part k.number)) =
-      subst (λ o. IsIn c (clashes_of_tree nest schedule array e k.load o)) (sym k.tree_there)
-      (to_flat_map g (leaves_of (length nest.params + length e.loops) k.tree) k.leaf c k.leaf_in (leaf_of nest schedule array e k.load k.leaf c k.of_leaf)) in
-      to_flat_map (clashes_of_entry nest schedule array trees) nest.entries e c k.reader_in
+      let f = λ (x : ℕ × Access). if nat_eq x.1.array.0 walk.loaded then clashes_of_tree nest walk e x.1 (tree_of nest trees e.part x.0) else [] in
+      let g = λ (leaf : Leaf). clashes_of_named nest walk e k.load leaf leaf.named in
+      let of_tree : IsIn c (clashes_of_tree nest walk e k.load (tree_of nest trees e.part k.number)) =
+      subst (λ o. IsIn c (clashes_of_tree nest walk e k.load o)) (sym k.tree_there)
+      (to_flat_map g (leaves_of (length nest.params + length e.loops) k.tree) k.leaf c k.leaf_in (leaf_of nest walk e k.load k.leaf c k.of_leaf)) in
+      to_flat_map (clashes_of_entry nest walk trees) nest.entries e c k.reader_in
       (to_if e.alive (flat_map f (numbered_loads 0 e.accesses)) c k.alive
       (to_flat_map f (numbered_loads 0 e.accesses) (k.number, k.load) c (at_load 0 e.accesses k.number k.load k.number (zero_first k.number) k.load_there k.counts)
-      (to_if (nat_eq k.load.array.0 array) (clashes_of_tree nest schedule array e k.load (tree_of nest trees e.part k.number)) c (eq-eqb k.load.array.0 array k.loads) of_tree)))
+      (to_if (nat_eq k.load.array.0 walk.loaded) (clashes_of_tree nest walk e k.load (tree_of nest trees e.part k.number)) c (eq-eqb k.load.array.0 walk.loaded k.loads) of_tree)))
     where
       zero_first : (k : ℕ) → k ≡ 0 + k
       zero_first k = omega arith
+
+-- ---- Those of live pairs
+
+abbrev pub Made : (nest : Nest) (trees : List Tree) (schedule : Schedule) (array : ℕ) (c : Clash) → Type 0
+Made nest trees schedule array c = OfWalk nest trees (live_walk nest schedule array) c
+
+pub made : (nest : Nest) (trees : List Tree) (schedule : Schedule) (array : ℕ) (c : Clash) → IsIn c (clashes nest trees schedule array) → Made nest trees schedule array c
+made nest trees schedule array c i = of_walk nest trees (live_walk nest schedule array) c i

@@ -1,5 +1,5 @@
 -- A point of a clash system: what its rows say of the load, the store and the instance that the leaf names.
-use Rattle.std.proofs.Common.{◌≡◌, ◌≢◌, ℕ, ◌+◌, ◌-◌, ◌≤◌, ℤ, List, [], ◌++◌, length, map, drop, Some, refl, sym, ap, subst, ◌∙◌, arith}
+use Rattle.std.proofs.Common.{◌≡◌, ◌≢◌, ℕ, ◌+◌, ◌-◌, ◌≤◌, ℤ, true, List, [], ◌++◌, length, map, drop, Some, refl, sym, ap, subst, ◌∙◌, arith}
 use Rattle.std.specs.Prelude.{◌↔◌}
 use Rattle.std.specs.List.{All}
 use Rattle.std.proofs.lemmas.List.Elements.{All-drop}
@@ -34,7 +34,7 @@ use Rattle.affc_domain.proofs.Lists.{length_map}
 use Rattle.affc_sched.proofs.PointLemmas.{spread_met, met_spread, spread_values, all_spread}
 use Rattle.affc_quast.specs.Leaves.{padded, Leaf}
 use Rattle.affc_quast.proofs.LeafLemmas.{Narrow, LeafOver, longer_met, met_longer, met_padded, padded_met}
-use Rattle.affc_life.specs.Clashes.{of_reader, of_writer, reader_posed, named_posed, writer_posed, front_rows, rows_of_clashes}
+use Rattle.affc_life.specs.Clashes.{live_walk, of_reader, of_writer, reader_posed, named_posed, writer_posed, front_rows, rows_of_clashes}
 use Rattle.affc_life.proofs.ApartLemmas.{MeetsOne, Between, between_says, says_between}
 use Rattle.affc_life.proofs.SeatLemmas.{narrow_columns, padded_values, padded_columns, short_values}
 
@@ -200,7 +200,7 @@ module _ (program : Program) (has : HasNest program) (p bs qs cs : List ℤ) (l 
 
   -- ---- The orders
 
-  module _ (schedule : Schedule) (load : Access) (load_in : IsIn load reader.accesses) (named : Posed) (names : leaf.named ≡ Some named) (store : Access) (store_in : IsIn store writer.accesses) where
+  module _ (schedule : Schedule) (array : ℕ) (load : Access) (load_in : IsIn load reader.accesses) (named : Posed) (names : leaf.named ≡ Some named) (store : Access) (store_in : IsIn store writer.accesses) where
     abbrev pub first : List Rows
     first = target_order (nest_of program) schedule (leaf.columns + length writer.loops) (named_posed (nest_of program) reader leaf writer named) (writer_posed (nest_of program) reader leaf writer)
 
@@ -214,9 +214,9 @@ module _ (program : Program) (has : HasNest program) (p bs qs cs : List ℤ) (l 
     ys = map (of_writer (nest_of program) reader leaf writer) store.subs
 
     -- what a clash system says without the orders
-    pub parts : (rows : List Affine) → IsIn rows (rows_of_clashes (nest_of program) reader leaf writer schedule load named store) → Met zs rows
-        → Between zs (front_rows (nest_of program) reader leaf writer) first second xs ys
-    parts rows i h = between_says zs (front_rows (nest_of program) reader leaf writer) first second xs ys rows (x_wide load load_in) (y_wide store store_in) i h
+    pub parts : (rows : List Affine) → IsIn rows (rows_of_clashes (nest_of program) reader leaf writer (live_walk (nest_of program) schedule array) load named store) → Met zs rows
+        → Between zs true (front_rows (nest_of program) reader leaf writer) first second xs ys
+    parts rows i h = between_says zs true (front_rows (nest_of program) reader leaf writer) first second xs ys rows (x_wide load load_in) (y_wide store store_in) i h
 
     one_of : (a b : Posed) (system : Rows) → IsIn system (target_order (nest_of program) schedule (leaf.columns + length writer.loops) a b) → Met zs system.rows
         → IsPointOfOne (target_order (nest_of program) schedule (leaf.columns + length writer.loops) a b) zs
@@ -240,7 +240,7 @@ module _ (program : Program) (has : HasNest program) (p bs qs cs : List ℤ) (l 
         pub before : Earlier (target program schedule p) (instance_of writer cs) (instance_of reader bs)
         pub apart : values_of load.subs (p ++ bs) ≢ values_of store.subs (p ++ cs)
 
-      pub clash_says : (rows : List Affine) → IsIn rows (rows_of_clashes (nest_of program) reader leaf writer schedule load named store) → Met zs rows
+      pub clash_says : (rows : List Affine) → IsIn rows (rows_of_clashes (nest_of program) reader leaf writer (live_walk (nest_of program) schedule array) load named store) → Met zs rows
           → (Facts → IsIn (named_instance named) (trace program p)) → Said
       clash_says rows i h runs =
           let b = parts rows i h in
@@ -252,11 +252,11 @@ module _ (program : Program) (has : HasNest program) (p bs qs cs : List ℤ) (l 
             facts = f;
             after = (order a w (named_instance named) (instance_of writer cs) (runs f) f.writer_runs (named_is named names) writer_is).0 (one_of a w b.after b.after_in b.after_met);
             before = (order w r (instance_of writer cs) (instance_of reader bs) f.writer_runs f.reader_runs writer_is reader_is).0 (one_of w r b.before b.before_in b.before_met);
-            apart = λ q. b.apart (x_value load load_in ∙ q ∙ sym (y_value store store_in));
+            apart = λ q. b.apart refl (x_value load load_in ∙ q ∙ sym (y_value store store_in));
           }
 
       pub says_clash : length load.subs ≡ length store.subs → IsIn (named_instance named) (trace program p) → Said
-          → MeetsOne zs (rows_of_clashes (nest_of program) reader leaf writer schedule load named store)
+          → MeetsOne zs (rows_of_clashes (nest_of program) reader leaf writer (live_walk (nest_of program) schedule array) load named store)
       says_clash many named_runs d =
           let f = d.facts in
           let a = named_posed (nest_of program) reader leaf writer named in
@@ -265,7 +265,7 @@ module _ (program : Program) (has : HasNest program) (p bs qs cs : List ℤ) (l 
           let u = (order a w (named_instance named) (instance_of writer cs) named_runs f.writer_runs (named_is named names) writer_is).1 d.after in
           let v = (order w r (instance_of writer cs) (instance_of reader bs) f.writer_runs f.reader_runs writer_is reader_is).1 d.before in
           let long : length xs ≡ length ys = length_map (of_reader (nest_of program) reader leaf writer) load.subs ∙ many ∙ sym (length_map (of_writer (nest_of program) reader leaf writer) store.subs) in
-          says_between zs (front_rows (nest_of program) reader leaf writer) first second xs ys (x_wide load load_in) (y_wide store store_in) long
+          says_between zs true (front_rows (nest_of program) reader leaf writer) first second xs ys (x_wide load load_in) (y_wide store store_in) long
           (record {
             front = says_front f;
             after = u.system;
@@ -274,5 +274,5 @@ module _ (program : Program) (has : HasNest program) (p bs qs cs : List ℤ) (l 
             before = v.system;
             before_in = v.there;
             before_met = from_all zs v.system.rows v.meets.meets;
-            apart = λ q. d.apart (sym (x_value load load_in) ∙ q ∙ y_value store store_in);
+            apart = λ t q. d.apart (sym (x_value load load_in) ∙ q ∙ y_value store store_in);
           })

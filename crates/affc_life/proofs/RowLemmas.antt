@@ -16,7 +16,7 @@ use Rattle.affc_trace.proofs.Once.{in_flat_map}
 use Rattle.affc_nest.specs.Domains.{gap_row, compare_rows}
 use Rattle.affc_order.specs.Posed.{Posed}
 use Rattle.affc_order.specs.Systems.{lex_systems, loops_of, time_forms, target_order}
-use Rattle.affc_life.specs.Clashes.{apart_rows, between_rows}
+use Rattle.affc_life.specs.Clashes.{apart_rows, differing, between_rows}
 
 module _ (P Q : Affine → Type 0) (gap : (f g : Affine) (k : ℕ) → Q f → Q g → k ≤ 1 → P (gap_row f g k)) where
   less_all : (f g : Affine) → Q f → Q g → All P (compare_rows Less f g)
@@ -36,6 +36,11 @@ module _ (P Q : Affine → Type 0) (gap : (f g : Affine) (k : ℕ) → Q f → Q
   apart_all (f ∷ fs) (g ∷ gs) rows a b p r (inr (inr i)) =
       apart_all fs gs (rows ++ compare_rows Equal f g) (All-tail Q f fs a) (All-tail Q g gs b) (All-append P rows (compare_rows Equal f g) p (equal_all f g (All-head Q f fs a) (All-head Q g gs b))) r i
 
+  differing_all : (differ : Bool) (fs gs rows : List Affine) → All Q fs → All Q gs → All P rows → (r : List Affine) → IsIn r (differing differ fs gs rows) → All P r
+  differing_all true fs gs rows a b p r i = apart_all fs gs rows a b p r i
+  differing_all false fs gs rows a b p r (inl e) = subst (All P) (sym e) p
+  differing_all false fs gs rows a b p r (inr x) = absurd x
+
   lex_some : (columns n : ℕ) (fs gs rows : List Affine) (tie : Bool) → All Q fs → All Q gs → All P rows → (s : Rows) → IsIn s (lex_systems columns n fs gs rows tie) → All P s.rows
   lex_some columns zero fs gs rows tie a b p s i = at_tie tie i
     where
@@ -53,14 +58,14 @@ module _ (P Q : Affine → Type 0) (gap : (f g : Affine) (k : ℕ) → Q f → Q
   pub lex_all : (columns n : ℕ) (fs gs : List Affine) (tie : Bool) → All Q fs → All Q gs → (s : Rows) → IsIn s (lex_systems columns n fs gs [] tie) → All P s.rows
   lex_all columns n fs gs tie a b s i = lex_some columns n fs gs [] tie a b (All-nil P) s i
 
-  pub between_all : (front : List Affine) (after before : List Rows) (xs ys : List Affine) → All P front → ((s : Rows) → IsIn s after → All P s.rows) → ((s : Rows) → IsIn s before → All P s.rows)
-      → All Q xs → All Q ys → (r : List Affine) → IsIn r (between_rows front after before xs ys) → All P r
-  between_all front after before xs ys f a b x y r i =
-      let o = in_flat_map (λ (o : Rows). flat_map (λ (u : Rows). apart_rows xs ys (front ++ (o.rows ++ u.rows))) before) after r i in
+  pub between_all : (differ : Bool) (front : List Affine) (after before : List Rows) (xs ys : List Affine) → All P front → ((s : Rows) → IsIn s after → All P s.rows) → ((s : Rows) → IsIn s before → All P s.rows)
+      → All Q xs → All Q ys → (r : List Affine) → IsIn r (between_rows differ front after before xs ys) → All P r
+  between_all differ front after before xs ys f a b x y r i =
+      let o = in_flat_map (λ (o : Rows). flat_map (λ (u : Rows). differing differ xs ys (front ++ (o.rows ++ u.rows))) before) after r i in
       let one : Rows = o.0 in
-      let u = in_flat_map (λ (u : Rows). apart_rows xs ys (front ++ (one.rows ++ u.rows))) before r o.2 in
+      let u = in_flat_map (λ (u : Rows). differing differ xs ys (front ++ (one.rows ++ u.rows))) before r o.2 in
       let two : Rows = u.0 in
-      apart_all xs ys (front ++ (one.rows ++ two.rows)) x y (All-append P front (one.rows ++ two.rows) f (All-append P one.rows two.rows (a one o.1) (b two u.1))) r u.2
+      differing_all differ xs ys (front ++ (one.rows ++ two.rows)) x y (All-append P front (one.rows ++ two.rows) f (All-append P one.rows two.rows (a one o.1) (b two u.1))) r u.2
 
 -- ---- Orders
 

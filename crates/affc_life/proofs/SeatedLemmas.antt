@@ -31,8 +31,7 @@ use Rattle.affc_sched.proofs.PairLemmas.{stands_in}
 use Rattle.affc_sched.proofs.WidthLemmas.{domain_wide}
 use Rattle.affc_quast.specs.Leaves.{padded, Leaf}
 use Rattle.affc_life.specs.Asked.{IsLiving, AreSeated}
-use Rattle.affc_life.specs.Drafts.{after_named, before_load}
-use Rattle.affc_life.specs.Clashes.{Clash, apart_rows, clash_columns, of_reader, of_writer, front_rows, clash_ranges, reader_posed, named_posed, writer_posed, rows_of_clashes, clash, clashes_of_store}
+use Rattle.affc_life.specs.Clashes.{Clash, Walk, differing, clash_columns, of_reader, of_writer, front_rows, clash_ranges, reader_posed, named_posed, writer_posed, rows_of_clashes, clash, clashes_of_store}
 use Rattle.affc_life.proofs.BoxedLemmas.{all_reach, ranges_are, entry_reach}
 use Rattle.affc_life.proofs.WalkLemmas.{between_is}
 use Rattle.affc_life.proofs.LightLemmas.{all_padded, all_spread}
@@ -255,27 +254,27 @@ module _ (nest : Nest) (reader : Entry) (leaf : Leaf) (writer : Entry) where
 
   -- ---- All of them
 
-  pub store_made : (schedule : Schedule) (load : Access) (named : Posed) (store : Access) (columns : ℕ) (ranges : List (ℤ × ℤ)) (x y front : List Affine) (after before : List (List Affine)) (old new : List Clash)
+  pub store_made : (walk : Walk) (load : Access) (named : Posed) (store : Access) (columns : ℕ) (ranges : List (ℤ × ℤ)) (x y front : List Affine) (after before : List (List Affine)) (old new : List Clash)
       → columns ≡ clash_columns nest reader leaf writer → ranges ≡ clash_ranges nest reader leaf writer → x ≡ map (of_reader nest reader leaf writer) load.subs
-      → y ≡ map (of_writer nest reader leaf writer) store.subs → front ≡ front_rows nest reader leaf writer → after ≡ map rows_in (after_named nest schedule reader leaf named writer)
-      → before ≡ map rows_in (before_load nest schedule reader leaf writer)
-      → new ≡ old ++ map (clash_by columns ranges x y) (flat_map (λ o. flat_map (λ u. apart_rows x y (front ++ (o ++ u))) before) after)
-      → new ≡ old ++ clashes_of_store nest reader leaf writer schedule load named store
-  store_made schedule load named store columns ranges x y front after before old new c r i j f a b e =
+      → y ≡ map (of_writer nest reader leaf writer) store.subs → front ≡ front_rows nest reader leaf writer → after ≡ map rows_in (walk.after (clash_columns nest reader leaf writer) (named_posed nest reader leaf writer named) (writer_posed nest reader leaf writer))
+      → before ≡ map rows_in (walk.before (clash_columns nest reader leaf writer) (writer_posed nest reader leaf writer) (reader_posed nest reader leaf writer))
+      → new ≡ old ++ map (clash_by columns ranges x y) (flat_map (λ o. flat_map (λ u. differing walk.differ x y (front ++ (o ++ u))) before) after)
+      → new ≡ old ++ clashes_of_store nest reader leaf writer walk load named store
+  store_made walk load named store columns ranges x y front after before old new c r i j f a b e =
       let xs : List Affine = map (of_reader nest reader leaf writer) load.subs in
       let ys : List Affine = map (of_writer nest reader leaf writer) store.subs in
-      let first : List Rows = after_named nest schedule reader leaf named writer in
-      let second : List Rows = before_load nest schedule reader leaf writer in
-      let rows : flat_map (λ o. flat_map (λ u. apart_rows x y (front ++ (o ++ u))) before) after ≡ rows_of_clashes nest reader leaf writer schedule load named store =
-      ap (λ zs. flat_map (λ o. flat_map (λ u. apart_rows zs y (front ++ (o ++ u))) before) after) i ∙ ap (λ zs. flat_map (λ o. flat_map (λ u. apart_rows xs zs (front ++ (o ++ u))) before) after) j
-      ∙ ap (λ zs. flat_map (λ o. flat_map (λ u. apart_rows xs ys (zs ++ (o ++ u))) before) after) f ∙ ap (flat_map (λ o. flat_map (λ u. apart_rows xs ys (front_rows nest reader leaf writer ++ (o ++ u))) before)) a
-      ∙ ap (λ zs. flat_map (λ o. flat_map (λ u. apart_rows xs ys (front_rows nest reader leaf writer ++ (o ++ u))) zs) (map rows_in first)) b ∙ between_is (front_rows nest reader leaf writer) first second xs ys in
+      let first : List Rows = walk.after (clash_columns nest reader leaf writer) (named_posed nest reader leaf writer named) (writer_posed nest reader leaf writer) in
+      let second : List Rows = walk.before (clash_columns nest reader leaf writer) (writer_posed nest reader leaf writer) (reader_posed nest reader leaf writer) in
+      let rows : flat_map (λ o. flat_map (λ u. differing walk.differ x y (front ++ (o ++ u))) before) after ≡ rows_of_clashes nest reader leaf writer walk load named store =
+      ap (λ zs. flat_map (λ o. flat_map (λ u. differing walk.differ zs y (front ++ (o ++ u))) before) after) i ∙ ap (λ zs. flat_map (λ o. flat_map (λ u. differing walk.differ xs zs (front ++ (o ++ u))) before) after) j
+      ∙ ap (λ zs. flat_map (λ o. flat_map (λ u. differing walk.differ xs ys (zs ++ (o ++ u))) before) after) f ∙ ap (flat_map (λ o. flat_map (λ u. differing walk.differ xs ys (front_rows nest reader leaf writer ++ (o ++ u))) before)) a
+      ∙ ap (λ zs. flat_map (λ o. flat_map (λ u. differing walk.differ xs ys (front_rows nest reader leaf writer ++ (o ++ u))) zs) (map rows_in first)) b ∙ between_is walk.differ (front_rows nest reader leaf writer) first second xs ys in
       e ∙ ap (λ zs. old ++ map (clash_by columns ranges x y) zs) rows
-      ∙ ap (λ zs. old ++ zs) (drafts_are (rows_of_clashes nest reader leaf writer schedule load named store))
+      ∙ ap (λ zs. old ++ zs) (drafts_are (rows_of_clashes nest reader leaf writer walk load named store))
     where
-      one : (rows : List Affine) → clash_by columns ranges x y rows ≡ clash nest reader leaf writer schedule load named store rows
+      one : (rows : List Affine) → clash_by columns ranges x y rows ≡ clash nest reader leaf writer walk load named store rows
       one rows k = record { system = record { columns = c k; rows = rows }; ranges = r k; x = i k; y = j k }
 
-      drafts_are : (rs : List (List Affine)) → map (clash_by columns ranges x y) rs ≡ map (clash nest reader leaf writer schedule load named store) rs
+      drafts_are : (rs : List (List Affine)) → map (clash_by columns ranges x y) rs ≡ map (clash nest reader leaf writer walk load named store) rs
       drafts_are [] = refl
-      drafts_are (rows ∷ rs) = ap (λ z. z ∷ map (clash_by columns ranges x y) rs) (one rows) ∙ ap (λ zs. clash nest reader leaf writer schedule load named store rows ∷ zs) (drafts_are rs)
+      drafts_are (rows ∷ rs) = ap (λ z. z ∷ map (clash_by columns ranges x y) rs) (one rows) ∙ ap (λ zs. clash nest reader leaf writer walk load named store rows ∷ zs) (drafts_are rs)

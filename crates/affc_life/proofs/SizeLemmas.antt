@@ -1,5 +1,5 @@
 -- The clash systems of trees that the search gives keep the limits of systems.
-use Rattle.std.proofs.Common.{◌≡◌, ℕ, zero, suc, ◌+◌, ◌-◌, ◌^◌, ◌<◌, ◌≤◌, IsTrue, List, [], ◌∷◌, ◌++◌, length, map, drop, refl, sym, ap, subst, ◌∙◌, inl, inr, arith}
+use Rattle.std.proofs.Common.{◌≡◌, ℕ, zero, suc, ◌+◌, ◌-◌, ◌^◌, ◌<◌, ◌≤◌, true, IsTrue, List, [], ◌∷◌, ◌++◌, length, map, drop, refl, sym, ap, subst, ◌∙◌, inl, inr, arith}
 use Rattle.std.specs.Prelude.{slice_get, nat_le, ◌&&◌}
 use Rattle.std.specs.List.{All}
 use Rattle.std.proofs.lemmas.Bool.{leb-true}
@@ -42,7 +42,7 @@ use Rattle.affc_quast.specs.Leaves.{padded}
 use Rattle.affc_quast.specs.Limits.{IsTreeWithin, narrow}
 use Rattle.affc_quast.specs.Trees.{Tree, depth_of, divisions_of}
 use Rattle.affc_life.specs.Asked.{KeepLimits, AreSeated}
-use Rattle.affc_life.specs.Clashes.{Clash, of_reader, of_writer, front_rows, reader_posed, named_posed, writer_posed}
+use Rattle.affc_life.specs.Clashes.{Clash, Walk, live_walk, of_reader, of_writer, front_rows, reader_posed, named_posed, writer_posed}
 use Rattle.affc_life.specs.Laws.{AreFound, FoundTreesAreNeverLarge}
 use Rattle.affc_life.specs.Sizes.{IsLarge}
 use Rattle.affc_life.proofs.CountLemmas.{order_count, between_count}
@@ -54,6 +54,7 @@ use Rattle.affc_life.proofs.KeptLemmas.{fitting_rows}
 use Rattle.affc_life.proofs.LightLemmas.{all_map, all_padded, all_spread, forms_within}
 use Rattle.affc_life.proofs.MadeLemmas.{Made, made}
 use Rattle.affc_life.proofs.MildLemmas.{IsMild, IsNarrow, gap_mild, columns_narrow, compared_mild}
+use Rattle.affc_life.proofs.RowLemmas.{order_all}
 use Rattle.affc_life.proofs.SeatedLemmas.{its_rows, params_few, reader_few, writer_few, leaf_first, writer_whole, reader_forms, writer_forms, named_forms}
 
 -- ---- Dimensions
@@ -89,6 +90,9 @@ padded_fits n rows all = all_map FitsRow FitsRow (padded n) one rows all
 
 module _ (program : Program) (has : HasNest program) (named : NamesArrays program) (trees : List Tree) (found : AreFound (nest_of program) trees) (schedule : Schedule) (fits : IsScheduleOf program schedule) (slight : IsTrue (within_limits schedule))
     (array : ℕ) (c : Clash) (k : Made (nest_of program) trees schedule array c) where
+  abbrev walk : Walk
+  walk = live_walk (nest_of program) schedule array
+
   abbrev nest : Nest
   nest = nest_of program
 
@@ -102,12 +106,12 @@ module _ (program : Program) (has : HasNest program) (named : NamesArrays progra
   limits = found_trees_keep_limits (nest_of program) trees found
 
   pub seats : AreSeated (nest_of program) k.reader k.leaf k.of_leaf.writer
-  seats = seated nest nested trees limits schedule array c k
+  seats = seated nest nested trees limits walk c k
 
   -- its tree and its leaf
   within : IsTreeWithin narrow 302 12 (nest_of program) k.load.array.0 (length nest.params + length k.reader.loops) k.tree
   within =
-      let there = reader_there nest nested trees limits schedule array c k in
+      let there = reader_there nest nested trees limits walk c k in
       let t = found.each k.reader.part k.number k.reader k.load there k.counts k.load_there in
       subst (IsTreeWithin narrow 302 12 nest k.load.array.0 (length nest.params + length k.reader.loops)) (same_Some t.0 k.tree (sym t.1 ∙ k.tree_there)) t.2
 
@@ -145,24 +149,24 @@ module _ (program : Program) (has : HasNest program) (named : NamesArrays progra
       sum : (n p w a o d l v q : ℕ) → n ≡ p + w → p ≡ a → w ≡ o → a ≡ d + l → o ≡ v - q → d ≤ 134 → l ≤ 314 → v ≤ 134 → n ≤ 582
       sum n p w a o d l v q e f g h i j s t = omega (arith, e, f, g, h, i, j, s, t)
 
-  six_of : (a : Posed) → IsPlaced (nest_of program) (columns nest nested trees limits schedule array c k) a → length a.iterators ≤ 6
+  six_of : (a : Posed) → IsPlaced (nest_of program) (columns nest nested trees limits walk c k) a → length a.iterators ≤ 6
   six_of a h = subst (λ n. n ≤ 6) (sym h.each) (few_loops nest nested a.part h.part)
 
-  named_placed : IsPlaced (nest_of program) (columns nest nested trees limits schedule array c k) (named_posed (nest_of program) k.reader k.leaf k.of_leaf.writer k.of_leaf.named)
-  named_placed = named_forms nest k.reader k.leaf k.of_leaf.writer seats k.of_leaf.named (named_has nest nested trees limits schedule array c k)
+  named_placed : IsPlaced (nest_of program) (columns nest nested trees limits walk c k) (named_posed (nest_of program) k.reader k.leaf k.of_leaf.writer k.of_leaf.named)
+  named_placed = named_forms nest k.reader k.leaf k.of_leaf.writer seats k.of_leaf.named (named_has nest nested trees limits walk c k)
 
-  writer_placed : IsPlaced (nest_of program) (columns nest nested trees limits schedule array c k) (writer_posed (nest_of program) k.reader k.leaf k.of_leaf.writer)
+  writer_placed : IsPlaced (nest_of program) (columns nest nested trees limits walk c k) (writer_posed (nest_of program) k.reader k.leaf k.of_leaf.writer)
   writer_placed = writer_forms nest k.reader k.leaf k.of_leaf.writer seats
 
   pub rows_few : length c.system.rows ≤ 638
   rows_few =
-      let n = columns nest nested trees limits schedule array c k in
+      let n = columns nest nested trees limits walk c k in
       let a : Posed = named_posed nest k.reader k.leaf k.of_leaf.writer k.of_leaf.named in
       let w : Posed = writer_posed nest k.reader k.leaf k.of_leaf.writer in
       let r : Posed = reader_posed nest k.reader k.leaf k.of_leaf.writer in
       let xs : List Affine = map (of_reader nest k.reader k.leaf k.of_leaf.writer) k.load.subs in
       sum (length c.system.rows) (length k.of_leaf.rows) (length (front_rows nest k.reader k.leaf k.of_leaf.writer)) (ap (λ (d : Clash). length d.system.rows) k.of_leaf.is)
-      (between_count (front_rows nest k.reader k.leaf k.of_leaf.writer) (target_order nest schedule n a w) (target_order nest schedule n w r) xs (map (of_writer nest k.reader k.leaf k.of_leaf.writer) k.of_leaf.store.subs)
+      (between_count true (front_rows nest k.reader k.leaf k.of_leaf.writer) (target_order nest schedule n a w) (target_order nest schedule n w r) xs (map (of_writer nest k.reader k.leaf k.of_leaf.writer) k.of_leaf.store.subs)
       (order_count nest n schedule a w slight (six_of a named_placed)) (order_count nest n schedule w r slight (six_of w writer_placed))
       (subst (λ m. m ≤ 4) (sym (length_map (of_reader nest k.reader k.leaf k.of_leaf.writer) k.load.subs)) (few_subscripts program has named k.reader k.reader_in k.load (stands_in k.reader.accesses k.number k.load k.load_there)))
       k.of_leaf.rows k.of_leaf.rows_in)
@@ -175,7 +179,7 @@ module _ (program : Program) (has : HasNest program) (named : NamesArrays progra
 
   front_fits : All FitsRow (front_rows (nest_of program) k.reader k.leaf k.of_leaf.writer)
   front_fits =
-      let n = columns nest nested trees limits schedule array c k in
+      let n = columns nest nested trees limits walk c k in
       let w : Entry = k.of_leaf.writer in
       let m = length nest.params in
       let l = length w.loops in
@@ -189,23 +193,25 @@ module _ (program : Program) (has : HasNest program) (named : NamesArrays progra
       (all_spread m (k.leaf.columns - m) l n (2 ^ 40) (2 ^ 60) own (writer_whole nest k.reader k.leaf w seats) (rows_within (m + l) own
       (All-drop (IsRow (m + l)) (context_count nest) w.domain.rows (fitting_rows (m + l) w.domain.rows (its_rows nest nested w seats.writes) writer_rows))))))
 
-  named_narrow : All (IsNarrow (columns nest nested trees limits schedule array c k)) (named_posed (nest_of program) k.reader k.leaf k.of_leaf.writer k.of_leaf.named).iterators
+  named_narrow : All (IsNarrow (columns nest nested trees limits walk c k)) (named_posed (nest_of program) k.reader k.leaf k.of_leaf.writer k.of_leaf.named).iterators
   named_narrow =
       let fs : List Affine = k.of_leaf.named.iterators in
-      all_padded k.leaf.columns (columns nest nested trees limits schedule array c k) (2 ^ 20) (2 ^ 40) fs (leaf_first nest k.reader k.leaf k.of_leaf.writer seats)
-      (forms_within narrow k.leaf.columns fs (All-weaker (IsRow k.leaf.columns) (λ f. length f.coefs ≡ k.leaf.columns) (λ f r. r.width) fs (named_has nest nested trees limits schedule array c k).rows)
+      all_padded k.leaf.columns (columns nest nested trees limits walk c k) (2 ^ 20) (2 ^ 40) fs (leaf_first nest k.reader k.leaf k.of_leaf.writer seats)
+      (forms_within narrow k.leaf.columns fs (All-weaker (IsRow k.leaf.columns) (λ f. length f.coefs ≡ k.leaf.columns) (λ f r. r.width) fs (named_has nest nested trees limits walk c k).rows)
       (small.named k.of_leaf.named k.of_leaf.names))
 
   pub rows_fit : All FitsRow c.system.rows
   rows_fit =
-      let n = columns nest nested trees limits schedule array c k in
+      let n = columns nest nested trees limits walk c k in
       let xs : List Affine = map (of_reader nest k.reader k.leaf k.of_leaf.writer) k.load.subs in
       let ys : List Affine = map (of_writer nest k.reader k.leaf k.of_leaf.writer) k.of_leaf.store.subs in
-      rows_all nest nested trees limits schedule array c k FitsRow (IsMild n) (gap_mild n) front_fits
-      (compared_mild nest schedule scheduled n (named_posed nest k.reader k.leaf k.of_leaf.writer k.of_leaf.named) named_placed named_narrow)
-      (compared_mild nest schedule scheduled n (writer_posed nest k.reader k.leaf k.of_leaf.writer) writer_placed (columns_narrow n k.leaf.columns (length k.of_leaf.writer.loops)))
-      (compared_mild nest schedule scheduled n (reader_posed nest k.reader k.leaf k.of_leaf.writer) (reader_forms nest k.reader k.leaf k.of_leaf.writer seats) (columns_narrow n (length nest.params) (length k.reader.loops)))
-      (all_raised n 65536 16777216 (2 ^ 39) (2 ^ 58) xs (omega arith) (omega arith) (x_subscripts nest nested trees limits schedule array c k)) (all_raised n 65536 16777216 (2 ^ 39) (2 ^ 58) ys (omega arith) (omega arith) (y_subscripts nest nested trees limits schedule array c k))
+      let writes = compared_mild nest schedule scheduled n (writer_posed nest k.reader k.leaf k.of_leaf.writer) writer_placed (columns_narrow n k.leaf.columns (length k.of_leaf.writer.loops)) in
+      rows_all nest nested trees limits walk c k FitsRow (IsMild n) (gap_mild n) front_fits
+      (order_all FitsRow (IsMild n) (gap_mild n) nest n schedule (named_posed nest k.reader k.leaf k.of_leaf.writer k.of_leaf.named) (writer_posed nest k.reader k.leaf k.of_leaf.writer)
+      (compared_mild nest schedule scheduled n (named_posed nest k.reader k.leaf k.of_leaf.writer k.of_leaf.named) named_placed named_narrow) writes)
+      (order_all FitsRow (IsMild n) (gap_mild n) nest n schedule (writer_posed nest k.reader k.leaf k.of_leaf.writer) (reader_posed nest k.reader k.leaf k.of_leaf.writer) writes
+      (compared_mild nest schedule scheduled n (reader_posed nest k.reader k.leaf k.of_leaf.writer) (reader_forms nest k.reader k.leaf k.of_leaf.writer seats) (columns_narrow n (length nest.params) (length k.reader.loops))))
+      (all_raised n 65536 16777216 (2 ^ 39) (2 ^ 58) xs (omega arith) (omega arith) (x_subscripts nest nested trees limits walk c k)) (all_raised n 65536 16777216 (2 ^ 39) (2 ^ 58) ys (omega arith) (omega arith) (y_subscripts nest nested trees limits walk c k))
 
   not_large : IsLarge c.system → ⊥
   not_large (inl h) = few c.system.columns columns_few h

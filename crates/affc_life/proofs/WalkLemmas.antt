@@ -5,7 +5,6 @@ use Rattle.std.proofs.lemmas.List.{drop-drop, length-drop}
 use Rattle.std.proofs.lemmas.Option.{slice_get_read, slice_get_past}
 use Rattle.affc_rows.specs.Forms.{Affine}
 use Rattle.affc_system.specs.Systems.{Rows}
-use Rattle.affc_trace.specs.declared.schedule.Schedule.{Schedule}
 use Rattle.affc_trace.proofs.EndedReads.{append_assoc}
 use Rattle.affc_trace.proofs.LastStores.{append_nil}
 use Rattle.affc_domain.proofs.Lists.{to_mapped, length_map}
@@ -18,7 +17,7 @@ use Rattle.affc_quast.specs.Leaves.{leaves_of}
 use Rattle.affc_quast.specs.Sources.{loads_in, loads_before, tree_of}
 use Rattle.affc_quast.specs.Trees.{Tree}
 use Rattle.affc_life.specs.Asked.{KeepLimits, AreLoads}
-use Rattle.affc_life.specs.Clashes.{Clash, between_rows, apart_rows, numbered_loads, clashes_of_tree, clashes_of_entry}
+use Rattle.affc_life.specs.Clashes.{Clash, Walk, between_rows, differing, numbered_loads, clashes_of_tree, clashes_of_entry}
 use Rattle.affc_life.specs.Drafts.{clashes_of_leaf, clashes_of_load}
 use Rattle.affc_life.proofs.ChoiceLemmas.{flat_same}
 
@@ -53,12 +52,12 @@ flat_mapped g F [] = refl
 flat_mapped g F (x ∷ xs) = ap (λ ys. F (g x) ++ ys) (flat_mapped g F xs)
 
 -- the rows of two orders are those of their systems
-pub between_is : (front : List Affine) (after before : List Rows) (xs ys : List Affine)
-    → flat_map (λ o. flat_map (λ u. apart_rows xs ys (front ++ (o ++ u))) (map rows_in before)) (map rows_in after) ≡ between_rows front after before xs ys
-between_is front after before xs ys =
-    flat_mapped rows_in (λ o. flat_map (λ u. apart_rows xs ys (front ++ (o ++ u))) (map rows_in before)) after
-    ∙ flat_same (λ (o : Rows). flat_map (λ u. apart_rows xs ys (front ++ (o.rows ++ u))) (map rows_in before)) (λ (o : Rows). flat_map (λ (u : Rows). apart_rows xs ys (front ++ (o.rows ++ u.rows))) before)
-    (λ o. flat_mapped rows_in (λ u. apart_rows xs ys (front ++ (o.rows ++ u))) before) after
+pub between_is : (differ : Bool) (front : List Affine) (after before : List Rows) (xs ys : List Affine)
+    → flat_map (λ o. flat_map (λ u. differing differ xs ys (front ++ (o ++ u))) (map rows_in before)) (map rows_in after) ≡ between_rows differ front after before xs ys
+between_is differ front after before xs ys =
+    flat_mapped rows_in (λ o. flat_map (λ u. differing differ xs ys (front ++ (o ++ u))) (map rows_in before)) after
+    ∙ flat_same (λ (o : Rows). flat_map (λ u. differing differ xs ys (front ++ (o.rows ++ u))) (map rows_in before)) (λ (o : Rows). flat_map (λ (u : Rows). differing differ xs ys (front ++ (o.rows ++ u.rows))) before)
+    (λ o. flat_mapped rows_in (λ u. differing differ xs ys (front ++ (o.rows ++ u))) before) after
 
 -- ---- Loads
 
@@ -98,19 +97,19 @@ module _ (nest : Nest) (trees own : List Tree) (reader : Entry) (is : own ≡ dr
   same_tree : (load : ℕ) → slice_get own load ≡ tree_of nest trees reader.part load
   same_tree load = ap (λ ts. slice_get ts load) is ∙ later_tree (loads_before nest.entries reader.part) load trees
 
-  pub entry_made : (schedule : Schedule) (array : ℕ)
-      → flat_map (clashes_of_load nest schedule array reader own) (numbered_loads 0 reader.accesses)
-      ≡ flat_map (λ load. if nat_eq load.1.array.0 array then clashes_of_tree nest schedule array reader load.1 (tree_of nest trees reader.part load.0) else []) (numbered_loads 0 reader.accesses)
-  entry_made schedule array =
-      flat_same (clashes_of_load nest schedule array reader own) (λ (load : ℕ × Access). if nat_eq load.1.array.0 array then clashes_of_tree nest schedule array reader load.1 (tree_of nest trees reader.part load.0) else [])
-      (λ load. ap (λ o. if nat_eq load.1.array.0 array then clashes_of_tree nest schedule array reader load.1 o else []) (same_tree load.0)) (numbered_loads 0 reader.accesses)
+  pub entry_made : (walk : Walk)
+      → flat_map (clashes_of_load nest walk reader own) (numbered_loads 0 reader.accesses)
+      ≡ flat_map (λ load. if nat_eq load.1.array.0 walk.loaded then clashes_of_tree nest walk reader load.1 (tree_of nest trees reader.part load.0) else []) (numbered_loads 0 reader.accesses)
+  entry_made walk =
+      flat_same (clashes_of_load nest walk reader own) (λ (load : ℕ × Access). if nat_eq load.1.array.0 walk.loaded then clashes_of_tree nest walk reader load.1 (tree_of nest trees reader.part load.0) else [])
+      (λ load. ap (λ o. if nat_eq load.1.array.0 walk.loaded then clashes_of_tree nest walk reader load.1 o else []) (same_tree load.0)) (numbered_loads 0 reader.accesses)
 
-  pub reader_made : (schedule : Schedule) (array : ℕ) (accesses : List Access) (old new : List Clash) → reader.alive ≡ true → accesses ≡ reader.accesses
-      → new ≡ old ++ flat_map (clashes_of_load nest schedule array reader own) (numbered_loads 0 accesses) → new ≡ old ++ clashes_of_entry nest schedule array trees reader
-  reader_made schedule array accesses old new alive a e =
+  pub reader_made : (walk : Walk) (accesses : List Access) (old new : List Clash) → reader.alive ≡ true → accesses ≡ reader.accesses
+      → new ≡ old ++ flat_map (clashes_of_load nest walk reader own) (numbered_loads 0 accesses) → new ≡ old ++ clashes_of_entry nest walk trees reader
+  reader_made walk accesses old new alive a e =
       let whole : List Clash =
-      flat_map (λ load. if nat_eq load.1.array.0 array then clashes_of_tree nest schedule array reader load.1 (tree_of nest trees reader.part load.0) else []) (numbered_loads 0 reader.accesses) in
-      e ∙ ap (λ xs. old ++ flat_map (clashes_of_load nest schedule array reader own) (numbered_loads 0 xs)) a ∙ ap (λ zs. old ++ zs) (entry_made schedule array) ∙ ap (λ t. old ++ (if t then whole else [])) (sym alive)
+      flat_map (λ load. if nat_eq load.1.array.0 walk.loaded then clashes_of_tree nest walk reader load.1 (tree_of nest trees reader.part load.0) else []) (numbered_loads 0 reader.accesses) in
+      e ∙ ap (λ xs. old ++ flat_map (clashes_of_load nest walk reader own) (numbered_loads 0 xs)) a ∙ ap (λ zs. old ++ zs) (entry_made walk) ∙ ap (λ t. old ++ (if t then whole else [])) (sym alive)
 
   pub own_loads : KeepLimits nest trees → slice_get nest.entries reader.part ≡ Some reader → AreLoads nest reader own
   own_loads limits there load tree counts at = limits reader.part load reader tree there counts (sym (same_tree load) ∙ at)
@@ -124,18 +123,18 @@ trees_behind e entries rest trees others result part before loads i s l o r =
 
 -- ---- One load
 
-module _ (nest : Nest) (schedule : Schedule) (array : ℕ) (reader : Entry) (trees : List Tree) (n : ℕ) (load : Access) where
-  pub no_tree_load : slice_get trees n ≡ None → clashes_of_load nest schedule array reader trees (n, load) ≡ []
-  no_tree_load e = ap (λ o. if nat_eq load.array.0 array then clashes_of_tree nest schedule array reader load o else []) e ∙ either (nat_eq load.array.0 array)
+module _ (nest : Nest) (walk : Walk) (reader : Entry) (trees : List Tree) (n : ℕ) (load : Access) where
+  pub no_tree_load : slice_get trees n ≡ None → clashes_of_load nest walk reader trees (n, load) ≡ []
+  no_tree_load e = ap (λ o. if nat_eq load.array.0 walk.loaded then clashes_of_tree nest walk reader load o else []) e ∙ either (nat_eq load.array.0 walk.loaded)
     where
       either : (t : Bool) → ◌≡◌ {A = List Clash} (if t then [] else []) []
       either true = refl
       either false = refl
 
-  pub load_made : (tree : Tree) (old new : List Clash) → nat_eq load.array.0 array ≡ true → slice_get trees n ≡ Some tree
-      → new ≡ old ++ flat_map (clashes_of_leaf nest schedule array reader load) (leaves_of (length nest.params + length reader.loops) tree) → new ≡ old ++ clashes_of_load nest schedule array reader trees (n, load)
+  pub load_made : (tree : Tree) (old new : List Clash) → nat_eq load.array.0 walk.loaded ≡ true → slice_get trees n ≡ Some tree
+      → new ≡ old ++ flat_map (clashes_of_leaf nest walk reader load) (leaves_of (length nest.params + length reader.loops) tree) → new ≡ old ++ clashes_of_load nest walk reader trees (n, load)
   load_made tree old new t e m =
-      m ∙ ap (λ o. old ++ clashes_of_tree nest schedule array reader load o) (sym e) ∙ ap (λ b. old ++ (if b then clashes_of_tree nest schedule array reader load (slice_get trees n) else [])) (sym t)
+      m ∙ ap (λ o. old ++ clashes_of_tree nest walk reader load o) (sym e) ∙ ap (λ b. old ++ (if b then clashes_of_tree nest walk reader load (slice_get trees n) else [])) (sym t)
 
 -- its tree, as the code reads it
 pub tree_there : {A B : Type 0} (f : A → B) (xs : List A) (i : ℕ) (x : A) → i < length xs → x ≡ get_or xs i x → slice_get (map f xs) i ≡ Some (f x)

@@ -7,15 +7,17 @@ use Rattle.affc_system.specs.Systems.{Rows}
 use Rattle.affc_trace.specs.declared.schedule.Schedule.{Schedule}
 use Rattle.affc_nest.specs.declared.nest.Entry.{Entry}
 use Rattle.affc_nest.specs.declared.nest.Nest.{Nest}
+use Rattle.affc_order.specs.Asked.{IsScheduled}
 use Rattle.affc_order.specs.Posed.{Posed}
 use Rattle.affc_order.specs.Systems.{target_order}
 use Rattle.affc_quast.specs.declared.leaves.Named.{Named}
 use Rattle.affc_quast.specs.Leaves.{Leaf}
 use Rattle.affc_products.specs.Blocks.{choices}
 use Rattle.affc_life.specs.declared.draft.Draft.{Draft}
+use Rattle.affc_life.specs.declared.draft.Walking.{Walking}
 use Rattle.affc_nest.specs.declared.nest.Access.{Access}
 use Rattle.affc_quast.specs.Trees.{Tree}
-use Rattle.affc_life.specs.Clashes.{Clash, clash_columns, named_posed, writer_posed, reader_posed, clashes_of_named, clashes_of_tree}
+use Rattle.affc_life.specs.Clashes.{Clash, Walk, clash_columns, named_posed, writer_posed, reader_posed, clashes_of_named, clashes_of_tree}
 
 -- the clash system with these rows behind the front
 abbrev pub draft_by : Draft → (rows : List Affine) → Clash
@@ -44,9 +46,24 @@ abbrev pub before_load : Nest → Schedule → (reader : Entry) → Leaf → (wr
 before_load nest schedule reader leaf writer =
     target_order nest schedule (clash_columns nest reader leaf writer) (writer_posed nest reader leaf writer) (reader_posed nest reader leaf writer)
 
--- the clash systems of a leaf, and of a load with its number, where the loads of its part have these trees
-abbrev pub clashes_of_leaf : Nest → Schedule → (array : ℕ) → (reader : Entry) → (load : Access) → Leaf → List Clash
-clashes_of_leaf nest schedule array reader load leaf = clashes_of_named nest schedule array reader load leaf leaf.named
+-- both schedules are the nest's
+pub record AreScheduled (asked : Walking) : Type 0 where
+  pub after : IsScheduled asked.nest.now asked.after.now
+  pub before : IsScheduled asked.nest.now asked.before.now
 
-abbrev pub clashes_of_load : Nest → Schedule → (array : ℕ) → (reader : Entry) → List Tree → ℕ × Access → List Clash
-clashes_of_load nest schedule array reader trees x = if nat_eq x.1.array.0 array then clashes_of_tree nest schedule array reader x.1 (slice_get trees x.0) else []
+-- the walk that is asked for
+abbrev pub walk_of : Walking → Walk
+walk_of asked = record {
+  loaded = asked.loaded.0;
+  stored = asked.stored.0;
+  after = target_order asked.nest.now asked.after.now;
+  before = target_order asked.nest.now asked.before.now;
+  differ = asked.differ;
+}
+
+-- the clash systems of a leaf, and of a load with its number, where the loads of its part have these trees
+abbrev pub clashes_of_leaf : Nest → Walk → (reader : Entry) → (load : Access) → Leaf → List Clash
+clashes_of_leaf nest walk reader load leaf = clashes_of_named nest walk reader load leaf leaf.named
+
+abbrev pub clashes_of_load : Nest → Walk → (reader : Entry) → List Tree → ℕ × Access → List Clash
+clashes_of_load nest walk reader trees x = if nat_eq x.1.array.0 walk.loaded then clashes_of_tree nest walk reader x.1 (slice_get trees x.0) else []

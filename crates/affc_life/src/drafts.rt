@@ -1,7 +1,7 @@
 //! The factors of drafts: between two orders, two elements differ.
 ghost use Rattle.std.specs.Prelude.{◌≡◌, ◌++◌, ◌∷◌, [], IfOk, OnOk};
 ghost use Rattle.std.specs.List.{All};
-ghost use Rattle.affc_life.specs.Clashes.{apart_rows};
+ghost use Rattle.affc_life.specs.Clashes.{apart_rows, differing};
 ghost use Rattle.affc_nest.specs.Wide.{IsWide};
 
 use affc_nest::lists::{add_equal_rows, add_gap_row, copied};
@@ -41,22 +41,37 @@ fn add_apart(
     }
 }
 
-/// The three factors of a draft: these orders, these, and that two lists of forms differ.
-pub(crate) fn factors_between(
+/// The factor that says that two lists of forms differ, if they have to.
+pub(crate) fn apart_factor(
     alloc: Global,
     columns: u32,
-    after: Vec<Items<Form>>,
-    before: Vec<Items<Form>>,
+    differ: bool,
     fs: &[Form],
     gs: &[Form],
-) -> Result<Items<Items<Items<Form>>>, AllocError>
+) -> Result<Items<Items<Form>>, AllocError>
     requires firsts { All (IsWide columns) fs.now }
     requires seconds { All (IsWide columns) gs.now }
-    ensures { IfOk result (λ factors. factors ≡ after.items ∷ before.items ∷ apart_rows fs.now gs.now [] ∷ []) }
+    ensures { IfOk result (λ factor. factor ≡ differing differ fs.now gs.now []) }
 {
     let start = Items::new(alloc);
     let mut apart = Items::new(alloc);
-    add_apart(alloc, columns, fs, gs, start.as_slice(), &mut apart)?;
+    if differ {
+        add_apart(alloc, columns, fs, gs, start.as_slice(), &mut apart)?;
+    } else {
+        apart.push(start)?;
+    }
+    Ok(apart)
+}
+
+/// The three factors of a draft: these orders, these, and this one.
+pub(crate) fn factors_between(
+    alloc: Global,
+    after: Vec<Items<Form>>,
+    before: Vec<Items<Form>>,
+    apart: Items<Items<Form>>,
+) -> Result<Items<Items<Items<Form>>>, AllocError>
+    ensures { IfOk result (λ factors. factors ≡ after.items ∷ before.items ∷ apart ∷ []) }
+{
     let mut factors = Items::new(alloc);
     factors.push(Items::from_vec(after))?;
     factors.push(Items::from_vec(before))?;

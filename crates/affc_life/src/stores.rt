@@ -9,11 +9,11 @@ ghost use Rattle.affc_order.specs.Systems.{rows_in};
 ghost use Rattle.affc_quast.specs.SeenLeaves.{leaf_seen};
 ghost use Rattle.affc_life.specs.Asked.{AreSeated};
 ghost use Rattle.affc_life.specs.Clashes.{of_reader, of_writer, front_rows, clashes_of_store};
-ghost use Rattle.affc_life.specs.Drafts.{drafted, instance_named, after_named, before_load};
+ghost use Rattle.affc_life.specs.Drafts.{drafted, instance_named, after_named, before_load, AreScheduled, walk_of};
 
 use crate::columns::add_padded;
-use crate::draft::Draft;
-use crate::drafts::factors_between;
+use crate::draft::{Draft, Walking};
+use crate::drafts::{apart_factor, factors_between};
 use crate::ranges::clash_ranges;
 use affc_nest::{Access, Entry, Nest};
 use affc_order::columns::{add_spread, columns_from};
@@ -174,8 +174,7 @@ pub fn stored_before(
 /// Adds the systems of a load, a leaf that names this instance, and a store.
 pub(crate) fn add_store(
     alloc: Global,
-    nest: &Nest,
-    schedule: &Schedule,
+    asked: &Walking<'_>,
     reader: &Entry,
     load: &Access,
     leaf: &Leaf,
@@ -184,21 +183,23 @@ pub(crate) fn add_store(
     store: &Access,
     out: &mut Vec<Draft>,
 ) -> Result<(), AllocError>
-    requires asked { IsScheduled nest.now schedule.now }
-    requires seated { AreSeated nest.now reader.now (leaf_seen leaf.now) writer.now }
+    requires scheduled { AreScheduled asked.now }
+    requires seated { AreSeated asked.now.nest.now reader.now (leaf_seen leaf.now) writer.now }
     requires load { IsIn load.now reader.now.accesses }
-    requires named { IsPlaced nest.now leaf.now.columns (instance_named named.now) }
+    requires named { IsPlaced asked.now.nest.now leaf.now.columns (instance_named named.now) }
     requires store { IsIn store.now writer.now.accesses }
-    ensures { OnOk result (flat_map drafted out.new.items ≡ flat_map drafted out.old.items ++ clashes_of_store nest.now reader.now (leaf_seen leaf.now) writer.now schedule.now load.now (instance_named named.now) store.now) }
+    ensures { OnOk result (flat_map drafted out.new.items ≡ flat_map drafted out.old.items ++ clashes_of_store asked.now.nest.now reader.now (leaf_seen leaf.now) writer.now (walk_of asked.now) load.now (instance_named named.now) store.now) }
 {
+    let (nest, differ) = (asked.nest, asked.differ);
     let x = loaded(alloc, nest, reader, load, leaf, writer)?;
     let y = stored(alloc, nest, reader, leaf, writer, store)?;
     let ranges = clash_ranges(nest, reader, leaf, writer)?;
     let front = front_rows(alloc, nest, reader, leaf, writer)?;
-    let after = stored_after(alloc, nest, schedule, reader, leaf, named, writer)?;
-    let before = stored_before(alloc, nest, schedule, reader, leaf, writer)?;
+    let after = stored_after(alloc, nest, asked.after, reader, leaf, named, writer)?;
+    let before = stored_before(alloc, nest, asked.before, reader, leaf, writer)?;
     let columns = columns_in(leaf, writer);
-    let factors = factors_between(alloc, columns, after, before, x.as_slice(), y.as_slice())?;
+    let apart = apart_factor(alloc, columns, differ, x.as_slice(), y.as_slice())?;
+    let factors = factors_between(alloc, after, before, apart)?;
     out.push(Draft {
         columns,
         front,

@@ -11,13 +11,13 @@ ghost use Rattle.affc_quast.specs.Seen.{seen, trees_of};
 ghost use Rattle.affc_quast.specs.SeenLeaves.{leaf_seen};
 ghost use Rattle.affc_quast.specs.Sources.{loads_in, loads_before};
 ghost use Rattle.affc_life.specs.Asked.{KeepLimits, KeepsLimits, IsLiving, IsPath, AreLoads};
-ghost use Rattle.affc_life.specs.Clashes.{clash_of, clashes_with, clashes_of_entry, numbered_loads, clashes};
-ghost use Rattle.affc_life.specs.Drafts.{drafted, IsPaired, instance_named, clashes_of_leaf, clashes_of_load};
+ghost use Rattle.affc_life.specs.Clashes.{clash_of, clashes_with, clashes_of_entry, numbered_loads, clashes_of, clashes};
+ghost use Rattle.affc_life.specs.Drafts.{drafted, IsPaired, AreScheduled, walk_of, instance_named, clashes_of_leaf, clashes_of_load};
 ghost use Rattle.affc_life.specs.Products.{systems_in};
 ghost use Rattle.affc_life.specs.Sizes.{AnyLarge};
 
 use crate::clash::ClashProduct;
-use crate::draft::Draft;
+use crate::draft::{Draft, Walking};
 use crate::fault::ClashFault;
 use crate::products::products_of;
 use crate::stores::{add_store, coordinates, params_in};
@@ -29,18 +29,10 @@ use affc_system::PairSystem;
 use affc_trace::schedule::Schedule;
 use std::alloc::{AllocError, Global};
 
-/// What is asked: the clash systems of an array.
-#[derive(Clone, Copy, Drop)]
-struct Clashing<'a> {
-    nest: &'a Nest,
-    schedule: &'a Schedule,
-    array: ArrayId,
-}
-
 /// Adds the systems of a load, a leaf that names this instance, and a part.
 fn add_writer(
     alloc: Global,
-    asked: &Clashing<'_>,
+    asked: &Walking<'_>,
     reader: &Entry,
     load: &Access,
     leaf: &Leaf,
@@ -48,13 +40,13 @@ fn add_writer(
     writer: &Entry,
     out: &mut Vec<Draft>,
 ) -> Result<(), AllocError>
-    requires scheduled { IsScheduled asked.now.nest.now asked.now.schedule.now }
+    requires scheduled { AreScheduled asked.now }
     requires reads { IsLiving asked.now.nest.now reader.now }
     requires load { IsIn load.now reader.now.accesses }
     requires path { IsPath asked.now.nest.now (length asked.now.nest.now.params + coordinates reader.now) (leaf_seen leaf.now) }
     requires named { IsPlaced asked.now.nest.now leaf.now.columns (instance_named named.now) }
     requires writer { IsIn writer.now asked.now.nest.now.entries }
-    ensures { OnOk result (flat_map drafted out.new.items ≡ flat_map drafted out.old.items ++ clashes_with asked.now.nest.now asked.now.schedule.now asked.now.array.0 reader.now load.now (leaf_seen leaf.now) (instance_named named.now) writer.now) }
+    ensures { OnOk result (flat_map drafted out.new.items ≡ flat_map drafted out.old.items ++ clashes_with asked.now.nest.now (walk_of asked.now) reader.now load.now (leaf_seen leaf.now) (instance_named named.now) writer.now) }
 {
     if !writer.alive {
         return Ok(());
@@ -62,19 +54,16 @@ fn add_writer(
     let Some(store) = writer.accesses.as_slice().last() else {
         return Ok(());
     };
-    if store.array.0 != asked.array.0 {
+    if store.array.0 != asked.stored.0 {
         return Ok(());
     }
-    let (nest, schedule) = (asked.nest, asked.schedule);
-    add_store(
-        alloc, nest, schedule, reader, load, leaf, named, writer, store, out,
-    )
+    add_store(alloc, asked, reader, load, leaf, named, writer, store, out)
 }
 
 /// Adds the systems of a load, a leaf that names this instance, and these parts.
 fn add_writers(
     alloc: Global,
-    asked: &Clashing<'_>,
+    asked: &Walking<'_>,
     reader: &Entry,
     load: &Access,
     leaf: &Leaf,
@@ -82,13 +71,13 @@ fn add_writers(
     writers: &[Entry],
     out: &mut Vec<Draft>,
 ) -> Result<(), AllocError>
-    requires scheduled { IsScheduled asked.now.nest.now asked.now.schedule.now }
+    requires scheduled { AreScheduled asked.now }
     requires reads { IsLiving asked.now.nest.now reader.now }
     requires load { IsIn load.now reader.now.accesses }
     requires path { IsPath asked.now.nest.now (length asked.now.nest.now.params + coordinates reader.now) (leaf_seen leaf.now) }
     requires named { IsPlaced asked.now.nest.now leaf.now.columns (instance_named named.now) }
     requires writers { Each (λ e. IsIn e asked.now.nest.now.entries) writers.now }
-    ensures { OnOk result (flat_map drafted out.new.items ≡ flat_map drafted out.old.items ++ flat_map (clashes_with asked.now.nest.now asked.now.schedule.now asked.now.array.0 reader.now load.now (leaf_seen leaf.now) (instance_named named.now)) writers.now) }
+    ensures { OnOk result (flat_map drafted out.new.items ≡ flat_map drafted out.old.items ++ flat_map (clashes_with asked.now.nest.now (walk_of asked.now) reader.now load.now (leaf_seen leaf.now) (instance_named named.now)) writers.now) }
 {
     match writers {
         [] => Ok(()),
@@ -102,17 +91,17 @@ fn add_writers(
 /// Adds the systems of a load and a leaf.
 fn add_leaf(
     alloc: Global,
-    asked: &Clashing<'_>,
+    asked: &Walking<'_>,
     reader: &Entry,
     load: &Access,
     leaf: &Leaf,
     out: &mut Vec<Draft>,
 ) -> Result<(), AllocError>
-    requires scheduled { IsScheduled asked.now.nest.now asked.now.schedule.now }
+    requires scheduled { AreScheduled asked.now }
     requires reads { IsLiving asked.now.nest.now reader.now }
     requires load { IsIn load.now reader.now.accesses }
     requires path { IsPath asked.now.nest.now (length asked.now.nest.now.params + coordinates reader.now) (leaf_seen leaf.now) }
-    ensures { OnOk result (flat_map drafted out.new.items ≡ flat_map drafted out.old.items ++ clashes_of_leaf asked.now.nest.now asked.now.schedule.now asked.now.array.0 reader.now load.now (leaf_seen leaf.now)) }
+    ensures { OnOk result (flat_map drafted out.new.items ≡ flat_map drafted out.old.items ++ clashes_of_leaf asked.now.nest.now (walk_of asked.now) reader.now load.now (leaf_seen leaf.now)) }
 {
     match &leaf.named {
         None => Ok(()),
@@ -126,17 +115,17 @@ fn add_leaf(
 /// Adds the systems of a load and these leaves. The recursion is into halves, since there may be many.
 fn add_leaves(
     alloc: Global,
-    asked: &Clashing<'_>,
+    asked: &Walking<'_>,
     reader: &Entry,
     load: &Access,
     leaves: &[Leaf],
     out: &mut Vec<Draft>,
 ) -> Result<(), AllocError>
-    requires scheduled { IsScheduled asked.now.nest.now asked.now.schedule.now }
+    requires scheduled { AreScheduled asked.now }
     requires reads { IsLiving asked.now.nest.now reader.now }
     requires load { IsIn load.now reader.now.accesses }
     requires paths { Each (IsPath asked.now.nest.now (length asked.now.nest.now.params + coordinates reader.now)) (map leaf_seen leaves.now) }
-    ensures { OnOk result (flat_map drafted out.new.items ≡ flat_map drafted out.old.items ++ flat_map (clashes_of_leaf asked.now.nest.now asked.now.schedule.now asked.now.array.0 reader.now load.now) (map leaf_seen leaves.now)) }
+    ensures { OnOk result (flat_map drafted out.new.items ≡ flat_map drafted out.old.items ++ flat_map (clashes_of_leaf asked.now.nest.now (walk_of asked.now) reader.now load.now) (map leaf_seen leaves.now)) }
 {
     match leaves {
         [] => Ok(()),
@@ -152,17 +141,17 @@ fn add_leaves(
 /// Adds the systems of a load with this tree.
 fn add_tree(
     alloc: Global,
-    asked: &Clashing<'_>,
+    asked: &Walking<'_>,
     reader: &Entry,
     load: &Access,
     tree: &Quast,
     out: &mut Vec<Draft>,
 ) -> Result<(), AllocError>
-    requires scheduled { IsScheduled asked.now.nest.now asked.now.schedule.now }
+    requires scheduled { AreScheduled asked.now }
     requires reads { IsLiving asked.now.nest.now reader.now }
     requires load { IsIn load.now reader.now.accesses }
     requires tree { KeepsLimits asked.now.nest.now (length asked.now.nest.now.params + coordinates reader.now) (seen tree.now) }
-    ensures { OnOk result (flat_map drafted out.new.items ≡ flat_map drafted out.old.items ++ flat_map (clashes_of_leaf asked.now.nest.now asked.now.schedule.now asked.now.array.0 reader.now load.now) (leaves_of (length asked.now.nest.now.params + coordinates reader.now) (seen tree.now))) }
+    ensures { OnOk result (flat_map drafted out.new.items ≡ flat_map drafted out.old.items ++ flat_map (clashes_of_leaf asked.now.nest.now (walk_of asked.now) reader.now load.now) (leaves_of (length asked.now.nest.now.params + coordinates reader.now) (seen tree.now))) }
 {
     let columns = params_in(asked.nest) + coordinates(reader);
     let leaves = leaves(alloc, columns, tree)?;
@@ -172,21 +161,21 @@ fn add_tree(
 /// Adds the systems of a load with this number.
 fn add_load(
     alloc: Global,
-    asked: &Clashing<'_>,
+    asked: &Walking<'_>,
     reader: &Entry,
     trees: &[Quast],
     number: usize,
     load: &Access,
     out: &mut Vec<Draft>,
 ) -> Result<(), AllocError>
-    requires scheduled { IsScheduled asked.now.nest.now asked.now.schedule.now }
+    requires scheduled { AreScheduled asked.now }
     requires reads { IsLiving asked.now.nest.now reader.now }
     requires loads { AreLoads asked.now.nest.now reader.now (map seen trees.now) }
     requires load { slice_get reader.now.accesses number ≡ Some load.now }
     requires counts { number < loads_in reader.now }
-    ensures { OnOk result (flat_map drafted out.new.items ≡ flat_map drafted out.old.items ++ clashes_of_load asked.now.nest.now asked.now.schedule.now asked.now.array.0 reader.now (map seen trees.now) (number, load.now)) }
+    ensures { OnOk result (flat_map drafted out.new.items ≡ flat_map drafted out.old.items ++ clashes_of_load asked.now.nest.now (walk_of asked.now) reader.now (map seen trees.now) (number, load.now)) }
 {
-    if load.array.0 != asked.array.0 {
+    if load.array.0 != asked.loaded.0 {
         return Ok(());
     }
     match trees.get(number) {
@@ -198,18 +187,18 @@ fn add_load(
 /// Adds the systems of the loads from one on.
 fn add_loads(
     alloc: Global,
-    asked: &Clashing<'_>,
+    asked: &Walking<'_>,
     reader: &Entry,
     trees: &[Quast],
     number: usize,
     accesses: &[Access],
     out: &mut Vec<Draft>,
 ) -> Result<(), AllocError>
-    requires scheduled { IsScheduled asked.now.nest.now asked.now.schedule.now }
+    requires scheduled { AreScheduled asked.now }
     requires reads { IsLiving asked.now.nest.now reader.now }
     requires loads { AreLoads asked.now.nest.now reader.now (map seen trees.now) }
     requires rest { accesses.now ≡ drop number reader.now.accesses }
-    ensures { OnOk result (flat_map drafted out.new.items ≡ flat_map drafted out.old.items ++ flat_map (clashes_of_load asked.now.nest.now asked.now.schedule.now asked.now.array.0 reader.now (map seen trees.now)) (numbered_loads number accesses.now)) }
+    ensures { OnOk result (flat_map drafted out.new.items ≡ flat_map drafted out.old.items ++ flat_map (clashes_of_load asked.now.nest.now (walk_of asked.now) reader.now (map seen trees.now)) (numbered_loads number accesses.now)) }
 {
     match accesses {
         [] => Ok(()),
@@ -246,15 +235,15 @@ pub fn trees_from<'a>(entries: &[Entry], part: u32, trees: &'a [Quast]) -> &'a [
 /// Adds the systems of a part's loads.
 fn add_reader(
     alloc: Global,
-    asked: &Clashing<'_>,
+    asked: &Walking<'_>,
     trees: &[Quast],
     reader: &Entry,
     out: &mut Vec<Draft>,
 ) -> Result<(), AllocError>
-    requires scheduled { IsScheduled asked.now.nest.now asked.now.schedule.now }
+    requires scheduled { AreScheduled asked.now }
     requires limits { KeepLimits asked.now.nest.now (map seen trees.now) }
     requires reader { IsIn reader.now asked.now.nest.now.entries }
-    ensures { OnOk result (flat_map drafted out.new.items ≡ flat_map drafted out.old.items ++ clashes_of_entry asked.now.nest.now asked.now.schedule.now asked.now.array.0 (map seen trees.now) reader.now) }
+    ensures { OnOk result (flat_map drafted out.new.items ≡ flat_map drafted out.old.items ++ clashes_of_entry asked.now.nest.now (walk_of asked.now) (map seen trees.now) reader.now) }
 {
     if !reader.alive {
         return Ok(());
@@ -267,15 +256,15 @@ fn add_reader(
 /// Adds the systems of the loads of these parts.
 fn add_readers(
     alloc: Global,
-    asked: &Clashing<'_>,
+    asked: &Walking<'_>,
     trees: &[Quast],
     readers: &[Entry],
     out: &mut Vec<Draft>,
 ) -> Result<(), AllocError>
-    requires scheduled { IsScheduled asked.now.nest.now asked.now.schedule.now }
+    requires scheduled { AreScheduled asked.now }
     requires limits { KeepLimits asked.now.nest.now (map seen trees.now) }
     requires readers { Each (λ e. IsIn e asked.now.nest.now.entries) readers.now }
-    ensures { OnOk result (flat_map drafted out.new.items ≡ flat_map drafted out.old.items ++ flat_map (clashes_of_entry asked.now.nest.now asked.now.schedule.now asked.now.array.0 (map seen trees.now)) readers.now) }
+    ensures { OnOk result (flat_map drafted out.new.items ≡ flat_map drafted out.old.items ++ flat_map (clashes_of_entry asked.now.nest.now (walk_of asked.now) (map seen trees.now)) readers.now) }
 {
     match readers {
         [] => Ok(()),
@@ -286,8 +275,22 @@ fn add_readers(
     }
 }
 
+/// The clash systems of a walk, as drafts.
+fn drafts_of(alloc: Global, asked: &Walking<'_>, flow: &Flow) -> Result<Vec<Draft>, AllocError>
+    requires scheduled { AreScheduled asked.now }
+    requires trees { KeepLimits asked.now.nest.now (trees_of flow.now) }
+    ensures all { IfOk result (λ drafts. flat_map drafted drafts.items ≡ clashes_of asked.now.nest.now (trees_of flow.now) (walk_of asked.now)) }
+    ensures paired { IfOk result (λ drafts. All IsPaired (flat_map drafted drafts.items)) }
+{
+    let mut drafts = Vec::new(alloc);
+    let trees = flow.trees.as_slice();
+    let readers = asked.nest.entries.as_slice();
+    add_readers(alloc, asked, trees, readers, &mut drafts)?;
+    Ok(drafts)
+}
+
 /// The clash systems of an array, as drafts.
-fn drafts_of(
+fn live_drafts(
     alloc: Global,
     nest: &Nest,
     flow: &Flow,
@@ -299,15 +302,15 @@ fn drafts_of(
     ensures all { IfOk result (λ drafts. flat_map drafted drafts.items ≡ clashes nest.now (trees_of flow.now) schedule.now array.0) }
     ensures paired { IfOk result (λ drafts. All IsPaired (flat_map drafted drafts.items)) }
 {
-    let asked = Clashing {
+    let asked = Walking {
         nest,
-        schedule,
-        array,
+        loaded: array,
+        stored: array,
+        after: schedule,
+        before: schedule,
+        differ: true,
     };
-    let mut drafts = Vec::new(alloc);
-    let trees = flow.trees.as_slice();
-    add_readers(alloc, &asked, trees, nest.entries.as_slice(), &mut drafts)?;
-    Ok(drafts)
+    drafts_of(alloc, &asked, flow)
 }
 
 /// The clash systems of an array in product form: by loads, leaves of their trees, storing parts, the two orders, and the
@@ -328,6 +331,6 @@ pub fn clash_products(
     ensures fits { IfOk result (λ ps. ¬ (AnyLarge (clashes nest.now (trees_of flow.now) schedule.now array.0))) }
     ensures large { IfErr result (λ e. e ≡ ClashFault.Large → AnyLarge (clashes nest.now (trees_of flow.now) schedule.now array.0)) }
 {
-    let drafts = drafts_of(alloc, nest, flow, schedule, array)?;
+    let drafts = live_drafts(alloc, nest, flow, schedule, array)?;
     products_of(alloc, drafts)
 }

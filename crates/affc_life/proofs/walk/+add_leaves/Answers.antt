@@ -1,9 +1,20 @@
-use Rattle.std.proofs.Common.{◌+◌, length, map, ap, ◌∙◌, arith}
-use Rattle.std.proofs.lemmas.List.{map-append}
+use Rattle.std.proofs.Common.{◌+◌, ◌++◌, length, map, flat_map, ap, sym, ◌∙◌, arith}
+use Rattle.std.proofs.lemmas.List.{map-append, append-nil}
+use Rattle.std.proofs.lemmas.Result.{on_ok_weaker}
 use Rattle.affc_quast.specs.SeenLeaves.{leaf_seen}
 use Rattle.affc_life.specs.Asked.{IsPath}
+use Rattle.affc_life.specs.Drafts.{drafted, walk_of, clashes_of_leaf}
+use Rattle.affc_life.proofs.LimitLemmas.{only_entry}
 use Rattle.affc_life.proofs.WalkLemmas.{each_front, each_back}
 use Rattle.affc_life.proofs.walk.+add_leaves.Goals as goal
+
+pub returns-in-len1 : goal.returns-in-len1
+returns-in-len1 t c =
+    let only = only_entry c.args.leaves.now c.leaf-item.result c.in-len1.len_at_least c.in-len1.len_below c.leaf-item.is in
+    let made = clashes_of_leaf c.args.asked.now.nest.now (walk_of c.args.asked.now) c.args.reader.now c.args.load.now in
+    on_ok_weaker c.add_leaf.result
+    (λ e. e ∙ ap (λ cs. flat_map drafted c.args.out.now.items ++ cs) (sym (append-nil (made (leaf_seen c.leaf-item.result))) ∙ ap (λ ls. flat_map made (map leaf_seen ls)) (sym only)))
+    c.add_leaf.ensures
 
 pub add_leaves-requires : goal.add_leaves-requires
 add_leaves-requires t c =

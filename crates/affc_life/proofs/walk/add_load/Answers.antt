@@ -4,7 +4,7 @@ use Rattle.std.specs.Prelude.{nat_eq}
 use Rattle.std.proofs.lemmas.Bool.{eq-eqb}
 use Rattle.affc_nest.proofs.QuestionLemmas.{stands_in}
 use Rattle.affc_quast.specs.Seen.{seen}
-use Rattle.affc_life.specs.Drafts.{drafted}
+use Rattle.affc_life.specs.Drafts.{drafted, walk_of}
 use Rattle.affc_life.proofs.WalkLemmas.{none_more, no_tree_load, load_made, tree_there, tree_not_there}
 use Rattle.affc_life.proofs.walk.add_load.Goals as goal
 
@@ -19,14 +19,14 @@ add_tree-requires-clause-tree c =
 pub returns-in-None : goal.returns-in-None
 returns-in-None c =
     let a = c.args.asked.now in
-    none_more (flat_map drafted c.args.out.now.items) _ (no_tree_load a.nest.now a.schedule.now a.array.0 c.args.reader.now (map seen c.args.trees.now) c.args.number c.args.load.now (tree_not_there seen c.args.trees.now c.args.number c.in-None.ensures.lookup.3))
+    none_more (flat_map drafted c.args.out.now.items) _ (no_tree_load a.nest.now (walk_of a) c.args.reader.now (map seen c.args.trees.now) c.args.number c.args.load.now (tree_not_there seen c.args.trees.now c.args.number c.in-None.ensures.lookup.3))
 
 pub returns-in-Some : goal.returns-in-Some
 returns-in-Some c =
     let a = c.args.asked.now in
     let h = c.in-Some.ensures.lookup in
-    let same : nat_eq c.args.load.now.array.0 c.args.asked.now.array.0 ≡ true = search (rules, eq-eqb, c.if-load-asked.false) in
+    let same : nat_eq c.args.load.now.array.0 c.args.asked.now.loaded.0 ≡ true = search (rules, eq-eqb, c.if-load-asked.false) in
     on_ok_weaker c.add_tree.result
-    (load_made a.nest.now a.schedule.now a.array.0 c.args.reader.now (map seen c.args.trees.now) c.args.number c.args.load.now (seen c.in-Some.tree.now) (flat_map drafted c.args.out.now.items) (flat_map drafted c.add_tree.new.out.items) same
+    (load_made a.nest.now (walk_of a) c.args.reader.now (map seen c.args.trees.now) c.args.number c.args.load.now (seen c.in-Some.tree.now) (flat_map drafted c.args.out.now.items) (flat_map drafted c.add_tree.new.out.items) same
     (tree_there seen c.args.trees.now c.args.number c.in-Some.tree.now h.3.0 h.1))
     c.add_tree.ensures

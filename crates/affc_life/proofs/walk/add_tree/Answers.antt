@@ -7,7 +7,7 @@ use Rattle.affc_quast.specs.Limits.{Shaped}
 use Rattle.affc_quast.specs.Seen.{seen}
 use Rattle.affc_quast.specs.SeenLeaves.{leaf_seen}
 use Rattle.affc_quast.specs.Trees.{divisions_of}
-use Rattle.affc_life.specs.Drafts.{drafted, clashes_of_leaf}
+use Rattle.affc_life.specs.Drafts.{drafted, clashes_of_leaf, walk_of}
 use Rattle.affc_life.proofs.LeafLemmas.{paths_of, few_divisions}
 use Rattle.affc_life.proofs.walk.add_tree.Goals as goal
 
@@ -21,15 +21,15 @@ sum_is : (a b m l : ℕ) → a ≡ m → b ≡ l → a + b ≡ m + l
 sum_is a b m l e f = omega (arith, e, f)
 
 pub params_in-requires : goal.params_in-requires
-params_in-requires c = nest_few c.args.asked.now.nest.now (is_nest c.args.asked.now.nest.now c.args.asked.now.schedule.now c.requires.scheduled)
+params_in-requires c = nest_few c.args.asked.now.nest.now (is_nest c.args.asked.now.nest.now c.args.asked.now.after.now c.requires.scheduled.after)
 
 pub coordinates-requires : goal.coordinates-requires
-coordinates-requires c = few_numbered c.args.asked.now.nest.now c.args.reader.now (is_nest c.args.asked.now.nest.now c.args.asked.now.schedule.now c.requires.scheduled) c.requires.reads.there
+coordinates-requires c = few_numbered c.args.asked.now.nest.now c.args.reader.now (is_nest c.args.asked.now.nest.now c.args.asked.now.after.now c.requires.scheduled.after) c.requires.reads.there
 
 pub overflow_add-columns : goal.overflow_add-columns
 overflow_add-columns c =
-    let h = sum_few c.params_in.result c.coordinates.result (length c.args.asked.now.nest.now.params) (length c.args.reader.now.loops) c.params_in.ensures c.coordinates.ensures (nest_few c.args.asked.now.nest.now (is_nest c.args.asked.now.nest.now c.args.asked.now.schedule.now c.requires.scheduled))
-    (few_numbered c.args.asked.now.nest.now c.args.reader.now (is_nest c.args.asked.now.nest.now c.args.asked.now.schedule.now c.requires.scheduled) c.requires.reads.there) in
+    let h = sum_few c.params_in.result c.coordinates.result (length c.args.asked.now.nest.now.params) (length c.args.reader.now.loops) c.params_in.ensures c.coordinates.ensures (nest_few c.args.asked.now.nest.now (is_nest c.args.asked.now.nest.now c.args.asked.now.after.now c.requires.scheduled.after))
+    (few_numbered c.args.asked.now.nest.now c.args.reader.now (is_nest c.args.asked.now.nest.now c.args.asked.now.after.now c.requires.scheduled.after) c.requires.reads.there) in
     few_fit _ (omega (arith, h))
 
 pub leaves-requires-clause-shaped : goal.leaves-requires-clause-shaped
@@ -39,8 +39,8 @@ leaves-requires-clause-shaped c =
 pub leaves-requires-clause-room : goal.leaves-requires-clause-room
 leaves-requires-clause-room c =
     let is = sum_is c.params_in.result c.coordinates.result (length c.args.asked.now.nest.now.params) (length c.args.reader.now.loops) c.params_in.ensures c.coordinates.ensures in
-    let h = sum_few c.params_in.result c.coordinates.result (length c.args.asked.now.nest.now.params) (length c.args.reader.now.loops) c.params_in.ensures c.coordinates.ensures (nest_few c.args.asked.now.nest.now (is_nest c.args.asked.now.nest.now c.args.asked.now.schedule.now c.requires.scheduled))
-    (few_numbered c.args.asked.now.nest.now c.args.reader.now (is_nest c.args.asked.now.nest.now c.args.asked.now.schedule.now c.requires.scheduled) c.requires.reads.there) in
+    let h = sum_few c.params_in.result c.coordinates.result (length c.args.asked.now.nest.now.params) (length c.args.reader.now.loops) c.params_in.ensures c.coordinates.ensures (nest_few c.args.asked.now.nest.now (is_nest c.args.asked.now.nest.now c.args.asked.now.after.now c.requires.scheduled.after))
+    (few_numbered c.args.asked.now.nest.now c.args.reader.now (is_nest c.args.asked.now.nest.now c.args.asked.now.after.now c.requires.scheduled.after) c.requires.reads.there) in
     subst (λ k. k + divisions_of (seen c.args.tree.now) ≤ 1000) (sym is) (few_divisions c.args.asked.now.nest.now (length c.args.asked.now.nest.now.params + length c.args.reader.now.loops) (seen c.args.tree.now) c.requires.tree (subst (λ k. k ≤ 10) is h))
 
 pub add_leaves-requires-clause-paths : goal.add_leaves-requires-clause-paths
@@ -53,7 +53,7 @@ pub returns : goal.returns
 returns c =
     on_ok_weaker c.add_leaves.result
     (λ e. e
-    ∙ ap (λ ls. flat_map drafted c.args.out.now.items ++ flat_map (clashes_of_leaf c.args.asked.now.nest.now c.args.asked.now.schedule.now c.args.asked.now.array.0 c.args.reader.now c.args.load.now) ls)
+    ∙ ap (λ ls. flat_map drafted c.args.out.now.items ++ flat_map (clashes_of_leaf c.args.asked.now.nest.now (walk_of c.args.asked.now) c.args.reader.now c.args.load.now) ls)
     (ap (map leaf_seen) c.as_slice.ensures.value ∙ c.in_ok-leaves.ensures
     ∙ ap (λ k. leaves_of k (seen c.args.tree.now)) (sum_is c.params_in.result c.coordinates.result (length c.args.asked.now.nest.now.params) (length c.args.reader.now.loops) c.params_in.ensures c.coordinates.ensures)))
     c.add_leaves.ensures
