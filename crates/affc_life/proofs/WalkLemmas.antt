@@ -61,6 +61,13 @@ between_is differ front after before xs ys =
 
 -- ---- Loads
 
+pub loads_made : (F : ℕ × Access → List Clash) (accesses rest : List Access) (x : Access) (n m : ℕ) (old first new : List Clash) → accesses ≡ x ∷ rest → 1 ≤ length rest → m ≡ suc n
+    → first ≡ old ++ F (n, x) → new ≡ first ++ flat_map F (numbered_loads m rest) → new ≡ old ++ flat_map F (numbered_loads n accesses)
+loads_made F accesses [] x n m old first new i l k d e = absurd (omega (arith, l))
+loads_made F accesses (y ∷ ys) x n m old first new i l k d e =
+    e ∙ ap (λ j. first ++ flat_map F (numbered_loads j (y ∷ ys))) k ∙ ap (λ s. s ++ flat_map F (numbered_loads (suc n) (y ∷ ys))) d ∙ append_assoc old (F (n, x)) (flat_map F (numbered_loads (suc n) (y ∷ ys)))
+    ∙ ap (λ ys. old ++ flat_map F (numbered_loads n ys)) (sym i)
+
 -- the next load, and what is behind it
 pub load_there : (whole accesses rest : List Access) (x : Access) (n : ℕ) → accesses ≡ drop n whole → accesses ≡ x ∷ rest → slice_get whole n ≡ Some x
 load_there [] accesses rest x zero d i = absurd (not_empty (sym i ∙ d))
