@@ -17,30 +17,23 @@ use affc_system::{BoxOf, System};
 use affc_trace::schedule::Schedule;
 use std::alloc::{AllocError, Global};
 
-/// Two parts, and the ranges of the parameters, of the first's coordinates and of the second's.
-#[derive(Drop)]
-struct Ranged<'a> {
-    nest: &'a Nest,
-    first: &'a Entry,
-    second: &'a Entry,
-    ranges: &'a BoxOf,
-}
-
 /// Answers one question.
 fn settle_one(
     alloc: Global,
-    pair: &Ranged<'_>,
+    nest: &Nest,
+    pair: &Pair<'_>,
+    ranges: &BoxOf,
     system: &System,
     budget: &mut Budget,
     out: &mut Vec<Proof>,
 ) -> Result<Option<Violation>, Stop>
-    requires ranges { AreRanges pair.now.nest.now pair.now.first.now pair.now.second.now pair.now.ranges.now }
-    requires columns { length pair.now.ranges.now ≡ system.now.columns }
-    ensures answered { IfOk result (AreAnswered pair.now.nest.now (question_on pair.now.first.now pair.now.second.now pair.now.ranges.now system.now ∷ []) out.old.items out.new.items) }
+    requires ranges { AreRanges nest.now pair.now.from.entry.now pair.now.to.entry.now ranges.now }
+    requires columns { length ranges.now ≡ system.now.columns }
+    ensures answered { IfOk result (AreAnswered nest.now (question_on pair.now.from.entry.now pair.now.to.entry.now ranges.now system.now ∷ []) out.old.items out.new.items) }
     ensures later { IsLater budget.old budget.new }
     ensures stop { IfErr result (λ e. e ≡ Stop.Budget → budget.new.limit ≡ Some budget.new.spent) }
 {
-    match decide(alloc, system, pair.ranges, budget)? {
+    match decide(alloc, system, ranges, budget)? {
         Answer::Empty(proof) => {
             let Ok(()) = out.push(proof) else {
                 return Err(Stop::Memory);
@@ -48,7 +41,7 @@ fn settle_one(
             Ok(None)
         }
         Answer::Point(point) => {
-            let (nest, first, second) = (pair.nest, pair.first, pair.second);
+            let (first, second) = (pair.from.entry, pair.to.entry);
             let found = violation_at(alloc, nest, first, second, point.as_slice())?;
             Ok(Some(found))
         }
@@ -58,22 +51,24 @@ fn settle_one(
 /// Answers the questions of these systems.
 fn settle_systems(
     alloc: Global,
-    pair: &Ranged<'_>,
+    nest: &Nest,
+    pair: &Pair<'_>,
+    ranges: &BoxOf,
     systems: &[System],
     budget: &mut Budget,
     out: &mut Vec<Proof>,
 ) -> Result<Option<Violation>, Stop>
-    requires ranges { AreRanges pair.now.nest.now pair.now.first.now pair.now.second.now pair.now.ranges.now }
-    requires columns { Each (λ s. length pair.now.ranges.now ≡ s.columns) systems.now }
-    ensures answered { IfOk result (AreAnswered pair.now.nest.now (map (question_on pair.now.first.now pair.now.second.now pair.now.ranges.now) systems.now) out.old.items out.new.items) }
+    requires ranges { AreRanges nest.now pair.now.from.entry.now pair.now.to.entry.now ranges.now }
+    requires columns { Each (λ s. length ranges.now ≡ s.columns) systems.now }
+    ensures answered { IfOk result (AreAnswered nest.now (map (question_on pair.now.from.entry.now pair.now.to.entry.now ranges.now) systems.now) out.old.items out.new.items) }
     ensures later { IsLater budget.old budget.new }
     ensures stop { IfErr result (λ e. e ≡ Stop.Budget → budget.new.limit ≡ Some budget.new.spent) }
 {
     match systems {
         [] => Ok(None),
         [system, rest @ ..] => {
-            let here = settle_one(alloc, pair, system, budget, out)?;
-            let others = settle_systems(alloc, pair, rest, budget, out)?;
+            let here = settle_one(alloc, nest, pair, ranges, system, budget, out)?;
+            let others = settle_systems(alloc, nest, pair, ranges, rest, budget, out)?;
             Ok(nearer(here, others))
         }
     }
@@ -109,15 +104,8 @@ fn settle_pair(
         return Ok(None);
     };
     let systems = group.systems(alloc)?;
-    let (first, second) = (pair.from.entry, pair.to.entry);
-    let ranges = pair_ranges(nest, first, second)?;
-    let both = Ranged {
-        nest,
-        first,
-        second,
-        ranges: &ranges,
-    };
-    settle_systems(alloc, &both, systems.as_slice(), budget, out)
+    let ranges = pair_ranges(nest, pair.from.entry, pair.to.entry)?;
+    settle_systems(alloc, nest, pair, &ranges, systems.as_slice(), budget, out)
 }
 
 /// Answers all questions on a schedule.
