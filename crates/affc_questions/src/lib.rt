@@ -6,7 +6,6 @@ pub mod context;
 pub mod distances;
 pub mod laws;
 pub mod leaf;
-pub mod legality;
 mod lists;
 pub mod long;
 mod named;
