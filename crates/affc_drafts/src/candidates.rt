@@ -3,8 +3,7 @@
 use crate::draft::{Drafting, drafts_of};
 use crate::strides::room;
 use crate::telling::telling_rows;
-use affc_flow::asking::{column_forms, store_for};
-use affc_flow::listing::images_of;
+use affc_flow::asking::{column_forms, images_of, store_for};
 use affc_flow::load::Load;
 use affc_flow::questions::{Unasked, add_padded, at_images, count, gap};
 use affc_nest::{Division, Entry};

@@ -15,8 +15,7 @@ use crate::solved::{
 use crate::strides::{ROOM, floored};
 use crate::telling::telling_rows;
 use affc_ast::tree::Instance;
-use affc_flow::asking::store_for;
-use affc_flow::listing::images_of;
+use affc_flow::asking::{images_of, store_for};
 use affc_flow::load::Load;
 use affc_flow::questions::{Unasked, add_padded, at_images, count};
 use affc_nest::Division;

@@ -1,4 +1,4 @@
-//! Forms of columns and instances, and the store of a part.
+//! Forms of columns, and the store of a part.
 ghost use Rattle.std.specs.Prelude.{◌≡◌, ◌++◌, ◌∷◌, [], length, IsTrue, IfOk, IfSome, IfNone};
 ghost use Rattle.std.specs.List.{All};
 ghost use Rattle.affc_system.specs.Systems.{IsRow};
@@ -55,14 +55,6 @@ pub fn images_of(
     let mut images = Items::from_vec(own);
     add_copies(forms, &mut images)?;
     Ok(images)
-}
-
-/// An instance of a part, by forms for its coordinates.
-#[derive(Drop)]
-pub struct Chosen<'a> {
-    pub writer: &'a Entry,
-    pub store: &'a Access,
-    pub forms: &'a [Form],
 }
 
 /// The store of a part that can have instances, if it is one of this array.

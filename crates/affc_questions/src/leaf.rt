@@ -131,7 +131,7 @@ pub fn leaf_questions(
     load: &Access,
     leaf: &Leaf,
 ) -> Result<Vec<Ranged>, AllocError>
-    requires leaf { IsLeafOf nest.now reader.now load.now (leaf_seen leaf.now) }
+    requires { IsLeafOf nest.now reader.now load.now (leaf_seen leaf.now) }
     ensures { IfOk result (λ v. (ranges : List (ℤ × ℤ)) → flat_map (in_ranges (path_ranges ranges (leaf_seen leaf.now).divisions)) v.items ≡ leaf_questions nest.now reader.now load.now ranges (leaf_seen leaf.now)) }
 {
     let reading = Reading {
