@@ -31,7 +31,7 @@ use Rattle.affc_nest.specs.Nests.{access_form, nest_of}
 use Rattle.affc_nest.proofs.EntryLemmas.{site_of, entries_stand, ranges_hold_iterators}
 use Rattle.affc_nest.proofs.QuestionLemmas.{there_is, stands_in}
 use Rattle.affc_sched.proofs.LegalLemmas.{entry_at, box_append, events_are}
-use Rattle.affc_sched.proofs.PairLemmas.{all_from}
+use Rattle.affc_sched.proofs.Lists.{all_from}
 use Rattle.affc_quast.specs.Limits.{narrow, AreTreesWithin}
 use Rattle.affc_quast.specs.Paths.{IsNear}
 use Rattle.affc_quast.specs.Sources.{loads_in, loads_before}

@@ -30,7 +30,8 @@ use Rattle.affc_sched.specs.Legality.{IsAsked}
 use Rattle.affc_sched.specs.Questions.{equal_rows}
 use Rattle.affc_sched.proofs.LegalLemmas.{entry_at}
 use Rattle.affc_sched.proofs.PairLemmas as pairs
-use Rattle.affc_sched.proofs.PairLemmas.{all_from, columns_of_pair}
+use Rattle.affc_sched.proofs.Lists.{all_from}
+use Rattle.affc_sched.proofs.PairLemmas.{columns_of_pair}
 use Rattle.affc_quast.specs.Paths.{IsNear}
 use Rattle.affc_quast.specs.Sources.{loads_in}
 use Rattle.affc_latest.specs.Latest.{IsLatest}

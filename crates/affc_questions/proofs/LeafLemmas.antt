@@ -25,7 +25,8 @@ use Rattle.affc_order.specs.Posed.{Posed}
 use Rattle.affc_order.proofs.ColumnLemmas.{from_long}
 use Rattle.affc_order.proofs.PlacedLemmas.{columns_rows}
 use Rattle.affc_sched.proofs.LegalLemmas.{entry_at}
-use Rattle.affc_sched.proofs.PairLemmas.{stands_in, subs_sides, all_from}
+use Rattle.affc_sched.proofs.Lists.{all_from}
+use Rattle.affc_sched.proofs.PairLemmas.{stands_in, subs_sides}
 use Rattle.affc_sched.proofs.WidthLemmas.{domain_wide}
 use Rattle.affc_quast.specs.Leaves.{Leaf, padded}
 use Rattle.affc_life.specs.Asked.{IsLiving, AreSeated}
