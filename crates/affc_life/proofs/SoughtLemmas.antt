@@ -1,5 +1,5 @@
 -- Seeking an entry of lists one behind the other by its number.
-use Rattle.std.proofs.Common.{◌≡◌, ℕ, zero, suc, ◌+◌, ◌<◌, List, [], ◌∷◌, ◌++◌, length, map, flat_map, drop, get_or, Some, sym, ap, subst, ◌∙◌, arith}
+use Rattle.std.proofs.Common.{◌≡◌, ℕ, zero, suc, ◌+◌, ◌<◌, List, [], ◌∷◌, ◌++◌, length, flat_map, drop, get_or, Some, sym, ap, subst, ◌∙◌, arith}
 use Rattle.std.specs.Prelude.{slice_get}
 use Rattle.std.proofs.lemmas.List.{length-map}
 use Rattle.affc_trace.proofs.Runs.{slice_left, slice_right}
@@ -26,16 +26,6 @@ steps (alternatives ∷ factors) = suc (length alternatives + steps factors)
 -- an entry of the second part
 pub in_second : {A : Type 0} (xs ys : List A) (number left : ℕ) → number ≡ length xs + left → slice_get (xs ++ ys) number ≡ slice_get ys left
 in_second xs ys number left e = ap (slice_get (xs ++ ys)) e ∙ slice_right xs ys left
-
--- ---- Choices
-
--- a choice with the first alternative
-pub with_first : (alternatives rest : List (List Affine)) (factors : List (List (List Affine))) (first rows all : List Affine) (number : ℕ) → alternatives ≡ first ∷ rest
-    → all ≡ first ++ rows → slice_get (choices factors) number ≡ Some rows → slice_get (choices (alternatives ∷ factors)) number ≡ Some all
-with_first alternatives rest factors first rows all number is a e =
-    ap (λ us. slice_get (choices (us ∷ factors)) number) is
-    ∙ slice_left (map (λ v. first ++ v) (choices factors)) (choices (rest ∷ factors)) number (first ++ rows) (to_mapped (λ v. first ++ v) (choices factors) number rows e)
-    ∙ ap Some (sym a)
 
 -- ---- Products
 

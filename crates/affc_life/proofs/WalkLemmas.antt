@@ -2,6 +2,7 @@
 use Rattle.std.proofs.Common.{◌≡◌, ℕ, zero, suc, ◌+◌, ◌-◌, ◌<◌, ◌≤◌, Bool, true, false, if◌then◌else◌, List, [], ◌∷◌, ◌++◌, length, map, flat_map, drop, get_or, Some, None, refl, sym, ap, subst, ◌∙◌, arith}
 use Rattle.std.specs.Prelude.{nat_eq, slice_get}
 use Rattle.std.proofs.lemmas.List.{drop-drop, length-drop}
+use Rattle.std.proofs.lemmas.List.Folds.{flat_map-map}
 use Rattle.std.proofs.lemmas.Option.{slice_get_read, slice_get_past}
 use Rattle.affc_rows.specs.Forms.{Affine}
 use Rattle.affc_system.specs.Systems.{Rows}
@@ -47,17 +48,13 @@ each_back P xs ys zs e h = back_of P xs ys (subst (Each P) e h)
 
 -- ---- Orders
 
-flat_mapped : {A B C : Type 0} (g : A → B) (F : B → List C) (xs : List A) → flat_map F (map g xs) ≡ flat_map (λ x. F (g x)) xs
-flat_mapped g F [] = refl
-flat_mapped g F (x ∷ xs) = ap (λ ys. F (g x) ++ ys) (flat_mapped g F xs)
-
 -- the rows of two orders are those of their systems
 pub between_is : (differ : Bool) (front : List Affine) (after before : List Rows) (xs ys : List Affine)
     → flat_map (λ o. flat_map (λ u. differing differ xs ys (front ++ (o ++ u))) (map rows_in before)) (map rows_in after) ≡ between_rows differ front after before xs ys
 between_is differ front after before xs ys =
-    flat_mapped rows_in (λ o. flat_map (λ u. differing differ xs ys (front ++ (o ++ u))) (map rows_in before)) after
+    flat_map-map (λ o. flat_map (λ u. differing differ xs ys (front ++ (o ++ u))) (map rows_in before)) rows_in after
     ∙ flat_same (λ (o : Rows). flat_map (λ u. differing differ xs ys (front ++ (o.rows ++ u))) (map rows_in before)) (λ (o : Rows). flat_map (λ (u : Rows). differing differ xs ys (front ++ (o.rows ++ u.rows))) before)
-    (λ o. flat_mapped rows_in (λ u. differing differ xs ys (front ++ (o.rows ++ u))) before) after
+    (λ o. flat_map-map (λ u. differing differ xs ys (front ++ (o.rows ++ u))) rows_in before) after
 
 -- ---- Loads
 
