@@ -58,23 +58,20 @@ between_is differ front after before xs ys =
 
 -- ---- Loads
 
-pub loads_made : (F : ℕ × Access → List Clash) (accesses rest : List Access) (x : Access) (n m : ℕ) (old first new : List Clash) → accesses ≡ x ∷ rest → 1 ≤ length rest → m ≡ suc n
-    → first ≡ old ++ F (n, x) → new ≡ first ++ flat_map F (numbered_loads m rest) → new ≡ old ++ flat_map F (numbered_loads n accesses)
-loads_made F accesses [] x n m old first new i l k d e = absurd (omega (arith, l))
-loads_made F accesses (y ∷ ys) x n m old first new i l k d e =
-    e ∙ ap (λ j. first ++ flat_map F (numbered_loads j (y ∷ ys))) k ∙ ap (λ s. s ++ flat_map F (numbered_loads (suc n) (y ∷ ys))) d ∙ append_assoc old (F (n, x)) (flat_map F (numbered_loads (suc n) (y ∷ ys)))
+pub loads_made : (F : ℕ × Access → List Clash) (accesses rest : List Access) (x : Access) (n : ℕ) (old first new : List Clash) → accesses ≡ x ∷ rest → 1 ≤ length rest
+    → first ≡ old ++ F (n, x) → new ≡ first ++ flat_map F (numbered_loads (n + 1) rest) → new ≡ old ++ flat_map F (numbered_loads n accesses)
+loads_made F accesses [] x n old first new i l d e = absurd (omega (arith, l))
+loads_made F accesses (y ∷ ys) x n old first new i l d e =
+    e ∙ ap (λ j. first ++ flat_map F (numbered_loads j (y ∷ ys))) (one n) ∙ ap (λ s. s ++ flat_map F (numbered_loads (suc n) (y ∷ ys))) d ∙ append_assoc old (F (n, x)) (flat_map F (numbered_loads (suc n) (y ∷ ys)))
     ∙ ap (λ ys. old ++ flat_map F (numbered_loads n ys)) (sym i)
+  where
+    one : (n : ℕ) → n + 1 ≡ suc n
+    one n = omega arith
 
 -- the next load, and what is behind it
 pub load_there : (whole accesses rest : List Access) (x : Access) (n : ℕ) → accesses ≡ drop n whole → accesses ≡ x ∷ rest → slice_get whole n ≡ Some x
-load_there [] accesses rest x zero d i = absurd (not_empty (sym i ∙ d))
-  where
-    not_empty : x ∷ rest ≡ [] → ⊥
-    not_empty e = absurd (cc)
-load_there [] accesses rest x (suc n) d i = absurd (not_empty (sym i ∙ d))
-  where
-    not_empty : x ∷ rest ≡ [] → ⊥
-    not_empty e = absurd (cc)
+load_there [] accesses rest x zero d i = absurd (cc)
+load_there [] accesses rest x (suc n) d i = absurd (cc)
 load_there (y ∷ ys) accesses rest x zero d i = ap (λ zs. slice_get zs 0) (sym d ∙ i)
 load_there (y ∷ ys) accesses rest x (suc n) d i = load_there ys accesses rest x n d i
 
