@@ -4,7 +4,7 @@ use Rattle.std.proofs.lemmas.List.{map-append, append-nil}
 use Rattle.affc_rows.specs.Forms.{Affine}
 use Rattle.affc_products.specs.Blocks.{choices}
 use Rattle.affc_life.specs.declared.draft.Draft.{Draft}
-use Rattle.affc_life.specs.Drafts.{drafted, draft_by, drafts_behind}
+use Rattle.affc_life.specs.Drafts.{draft_by, drafts_behind}
 
 -- ---- Maps
 
@@ -53,10 +53,3 @@ in_alternatives d rows alternatives rest factors alternative e =
     map_twice (λ c. draft_by d (rows ++ c)) (λ v. alternative ++ v) (choices factors)
     ∙ map_same (λ v. draft_by d (rows ++ (alternative ++ v))) (λ v. draft_by d ((rows ++ alternative) ++ v)) (λ v. ap (draft_by d) (sym (append_assoc rows alternative v))) (choices factors)
     )
-
--- the three factors of a draft
-pub of_three : (d : Draft) (factors : List (List (List Affine))) (firsts seconds thirds a b e : List (List Affine)) → factors ≡ d.factors → factors ≡ a ∷ b ∷ e ∷ [] → firsts ≡ a → seconds ≡ b → thirds ≡ e
-    → drafts_behind d [] (firsts ∷ seconds ∷ thirds ∷ []) ≡ drafted d
-of_three d factors firsts seconds thirds a b e f g i j k =
-    ap (λ us. drafts_behind d [] (us ∷ seconds ∷ thirds ∷ [])) i ∙ ap (λ us. drafts_behind d [] (a ∷ us ∷ thirds ∷ [])) j ∙ ap (λ us. drafts_behind d [] (a ∷ b ∷ us ∷ [])) k
-    ∙ ap (λ fs. drafts_behind d [] fs) (sym g ∙ f)
